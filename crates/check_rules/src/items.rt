@@ -99,17 +99,23 @@ fn export_is_right(resolve: &Resolve, key: &WorldKey, item: &WorldItem) -> bool
 fn imports_are_right(resolve: &Resolve, number: usize, imports: &Map<WorldKey, WorldItem>) -> bool
     ensures { result ≡ list_all (λ e. import_stands resolve.now number e.0 e.1) imports.now.entries }
 {
-    imports
-        .iter()
-        .all(|(key, item)| import_is_right(resolve, number, key, item))
+    for (key, item) in imports.iter() {
+        if !import_is_right(resolve, number, key, item) {
+            return false;
+        }
+    }
+    true
 }
 
 fn exports_are_right(resolve: &Resolve, exports: &Map<WorldKey, WorldItem>) -> bool
     ensures { result ≡ list_all (λ e. export_stands resolve.now e.0 e.1) exports.now.entries }
 {
-    exports
-        .iter()
-        .all(|(key, item)| export_is_right(resolve, key, item))
+    for (key, item) in exports.iter() {
+        if !export_is_right(resolve, key, item) {
+            return false;
+        }
+    }
+    true
 }
 
 #[tactic(auto, unfolding(wit_model::specs::Valid::world_items))]

@@ -40,15 +40,23 @@ fn world_is_named(resolve: &Resolve, key: &String, id: WorldId) -> bool
 fn interfaces_are_named(resolve: &Resolve, ids: &Map<String, InterfaceId>) -> bool
     ensures { result ≡ list_all (λ e. passes (λ i. text_is i.name (text_of e.0)) (interface_at_lem resolve.now e.1.0)) ids.now.entries }
 {
-    ids.iter()
-        .all(|(key, id)| interface_is_named(resolve, key, *id))
+    for (key, id) in ids.iter() {
+        if !interface_is_named(resolve, key, *id) {
+            return false;
+        }
+    }
+    true
 }
 
 fn worlds_are_named(resolve: &Resolve, ids: &Map<String, WorldId>) -> bool
     ensures { result ≡ list_all (λ e. passes (λ w. text_eq (text_of w.name) (text_of e.0)) (world_at_lem resolve.now e.1.0)) ids.now.entries }
 {
-    ids.iter()
-        .all(|(key, id)| world_is_named(resolve, key, *id))
+    for (key, id) in ids.iter() {
+        if !world_is_named(resolve, key, *id) {
+            return false;
+        }
+    }
+    true
 }
 
 #[tactic(auto, unfolding(wit_model::specs::Valid::names_in_packages))]

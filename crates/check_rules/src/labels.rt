@@ -88,7 +88,12 @@ fn is_function_name(name: &String, functions: &Map<String, Function>) -> bool
 fn are_other_names(types: &Map<String, TypeId>, functions: &Map<String, Function>) -> bool
     ensures { result ≡ list_all (λ name. not (list_any (λ other. text_eq (text_of name) (text_of other)) (keys functions.now))) (keys types.now) }
 {
-    types.keys().all(|name| !is_function_name(name, functions))
+    for name in types.keys() {
+        if is_function_name(name, functions) {
+            return false;
+        }
+    }
+    true
 }
 
 #[tactic(auto, unfolding(wit_model::specs::Valid::labels))]

@@ -51,7 +51,12 @@ fn level_table(alloc: Global, resolve: &Resolve) -> Result<Vec<usize>, AllocErro
 fn are_shallow(table: &[usize], numbers: &[usize]) -> bool
     ensures { result ≡ list_all (λ n. nat_le (entry_of table.now n) 100) numbers.now }
 {
-    numbers.iter().all(|number| entry_at(table, *number) <= 100)
+    for number in numbers {
+        if entry_at(table, *number) > 100 {
+            return false;
+        }
+    }
+    true
 }
 
 fn type_keeps(

@@ -59,19 +59,23 @@ fn item_belongs(resolve: &Resolve, owner: usize, item: &WorldItem) -> bool
 fn types_belong(resolve: &Resolve, owner: usize, interface: &Interface) -> bool
     ensures { result ≡ list_all (λ id. is_named_of resolve.now (as_interface owner) id.0) (values interface.now.types) }
 {
-    interface
-        .types
-        .values()
-        .all(|id| belongs_to_interface(resolve, owner, id.0 as usize))
+    for id in interface.types.values() {
+        if !belongs_to_interface(resolve, owner, id.0 as usize) {
+            return false;
+        }
+    }
+    true
 }
 
 fn imports_belong(resolve: &Resolve, owner: usize, world: &World) -> bool
     ensures { result ≡ list_all (λ item. list_all (is_named_of resolve.now (as_world owner)) (option_to_list (item_type_lem item))) (values world.now.imports) }
 {
-    world
-        .imports
-        .values()
-        .all(|item| item_belongs(resolve, owner, item))
+    for item in world.imports.values() {
+        if !item_belongs(resolve, owner, item) {
+            return false;
+        }
+    }
+    true
 }
 
 fn interface_keeps(resolve: &Resolve, number: usize) -> bool

@@ -255,9 +255,12 @@ fn are_right(resolve: &Resolve, number: usize, entries: &Map<WorldKey, WorldItem
     ensures { result ≡ list_all (λ e. passes (λ f. is_name_key_lem (text_of f.name) e.0 && is_member resolve.now (as_world number) f) (item_function e.1))
         entries.now.entries }
 {
-    entries
-        .iter()
-        .all(|(key, item)| item_is_right(resolve, number, key, item))
+    for (key, item) in entries.iter() {
+        if !item_is_right(resolve, number, key, item) {
+            return false;
+        }
+    }
+    true
 }
 
 #[tactic(auto, unfolding(wit_model::specs::Valid::function_names))]

@@ -152,7 +152,12 @@ fn owner_is_in_range(resolve: &Resolve, owner: TypeOwner) -> bool
 fn ids_are_below(ids: &Map<String, TypeId>, limit: usize) -> bool
     ensures { result ≡ list_all (λ id. nat_lt id.0 limit) (values ids.now) }
 {
-    ids.values().all(|id| (id.0 as usize) < limit)
+    for id in ids.values() {
+        if id.0 as usize >= limit {
+            return false;
+        }
+    }
+    true
 }
 
 fn functions_are_in_range(resolve: &Resolve, functions: &Map<String, Function>) -> bool
@@ -164,13 +169,23 @@ fn functions_are_in_range(resolve: &Resolve, functions: &Map<String, Function>) 
 fn interfaces_are_below(ids: &Map<String, InterfaceId>, limit: usize) -> bool
     ensures { result ≡ list_all (λ id. nat_lt id.0 limit) (values ids.now) }
 {
-    ids.values().all(|id| (id.0 as usize) < limit)
+    for id in ids.values() {
+        if id.0 as usize >= limit {
+            return false;
+        }
+    }
+    true
 }
 
 fn worlds_are_below(ids: &Map<String, WorldId>, limit: usize) -> bool
     ensures { result ≡ list_all (λ id. nat_lt id.0 limit) (values ids.now) }
 {
-    ids.values().all(|id| (id.0 as usize) < limit)
+    for id in ids.values() {
+        if id.0 as usize >= limit {
+            return false;
+        }
+    }
+    true
 }
 
 fn item_is_in_range(resolve: &Resolve, item: &WorldItem) -> bool

@@ -203,10 +203,12 @@ fn uses_within(resolve: &Resolve, number: usize, limit: usize) -> bool
 fn uses_earlier(resolve: &Resolve, interface: &Interface, number: usize) -> bool
     ensures { result ≡ list_all (λ id. list_all (λ m. nat_le m number) (option_to_list (used_by resolve.now id.0))) (values interface.now.types) }
 {
-    interface
-        .types
-        .values()
-        .all(|id| uses_within(resolve, id.0 as usize, number))
+    for id in interface.types.values() {
+        if !uses_within(resolve, id.0 as usize, number) {
+            return false;
+        }
+    }
+    true
 }
 
 // Whether a type stays with its owner, is a named use or has no owner. What is met in its kind comes with it.

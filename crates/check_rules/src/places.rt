@@ -56,15 +56,23 @@ fn world_stands(resolve: &Resolve, number: usize, key: &String, id: WorldId) -> 
 fn interfaces_stand(resolve: &Resolve, number: usize, ids: &Map<String, InterfaceId>) -> bool
     ensures { result ≡ list_all (interface_belongs resolve.now number) ids.now.entries }
 {
-    ids.iter()
-        .all(|(key, id)| interface_stands(resolve, number, key, *id))
+    for (key, id) in ids.iter() {
+        if !interface_stands(resolve, number, key, *id) {
+            return false;
+        }
+    }
+    true
 }
 
 fn worlds_stand(resolve: &Resolve, number: usize, ids: &Map<String, WorldId>) -> bool
     ensures { result ≡ list_all (world_belongs resolve.now number) ids.now.entries }
 {
-    ids.iter()
-        .all(|(key, id)| world_stands(resolve, number, key, *id))
+    for (key, id) in ids.iter() {
+        if !world_stands(resolve, number, key, *id) {
+            return false;
+        }
+    }
+    true
 }
 
 fn is_world_name(name: &String, owner: &Package) -> bool
@@ -101,10 +109,12 @@ fn is_unshared(resolve: &Resolve, owner: &Package, key: &String, id: InterfaceId
 fn are_unshared(resolve: &Resolve, owner: &Package) -> bool
     ensures { result ≡ list_all (λ e. not (is_world_name_lem owner.now (text_of e.0)) || names_itself_lem resolve.now e) owner.now.interfaces.entries }
 {
-    owner
-        .interfaces
-        .iter()
-        .all(|(key, id)| is_unshared(resolve, owner, key, *id))
+    for (key, id) in owner.interfaces.iter() {
+        if !is_unshared(resolve, owner, key, *id) {
+            return false;
+        }
+    }
+    true
 }
 
 fn is_listed(number: usize, name: &String, owner: &Package) -> bool

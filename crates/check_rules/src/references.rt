@@ -13,7 +13,12 @@ use wit_model::{EntryList, Fault, Resolve};
 fn are_below(numbers: &[usize], limit: usize) -> bool
     ensures { result ≡ list_all (λ m. nat_lt m limit) numbers.now }
 {
-    numbers.iter().all(|number| *number < limit)
+    for number in numbers {
+        if *number >= limit {
+            return false;
+        }
+    }
+    true
 }
 
 fn refers_below(alloc: Global, resolve: &Resolve, number: usize) -> Result<bool, AllocError>

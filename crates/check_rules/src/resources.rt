@@ -47,7 +47,12 @@ fn resource_table(alloc: Global, resolve: &Resolve) -> Result<Vec<bool>, AllocEr
 fn are_unmarked(table: &[bool], numbers: &[usize]) -> bool
     ensures { result ≡ list_all (λ n. not (flags table.now n)) numbers.now }
 {
-    numbers.iter().all(|number| !flag_at(table, *number))
+    for number in numbers {
+        if flag_at(table, *number) {
+            return false;
+        }
+    }
+    true
 }
 
 fn handles_resource(table: &[bool], kind: &TypeDefKind) -> bool

@@ -14,7 +14,8 @@ loop-number-preserved c =
     let inside : n < length r.worlds.items = search rules in
     let at = slice_get_read r.worlds.items _ n x refl inside c.index.ensures in
     let passed : c.world_passes.result ≡ true = search rules in
-    one_more (λ k. entry_keeps world_items r lists.Worlds k ≡ Some true) n c.loop-number.invariant (entry_tested (world_items.world_ r) r.worlds.items n x at true (sym (c.world_passes.ensures) ∙ passed))
+    one_more (λ k. entry_keeps world_items r lists.Worlds k ≡ Some true) n c.loop-number.invariant
+    (entry_tested (world_items.world_ r) r.worlds.items n x at true (sym (c.world_passes.ensures) ∙ passed))
 
 pub returns-then-not-world_passes : goal.returns-then-not-world_passes
 returns-then-not-world_passes c =

@@ -14,7 +14,8 @@ loop-number-preserved c =
     let inside : n < length r.packages.items = search rules in
     let at = slice_get_read r.packages.items _ n x refl inside c.index.ensures in
     let passed : c.package_passes.result ≡ true = search rules in
-    one_more (λ k. entry_keeps names_in_packages r lists.Packages k ≡ Some true) n c.loop-number.invariant (entry_tested (names_in_packages.package_ r) r.packages.items n x at true (sym (c.package_passes.ensures n) ∙ passed))
+    one_more (λ k. entry_keeps names_in_packages r lists.Packages k ≡ Some true) n c.loop-number.invariant
+    (entry_tested (names_in_packages.package_ r) r.packages.items n x at true (sym (c.package_passes.ensures n) ∙ passed))
 
 pub returns-then-not-package_passes : goal.returns-then-not-package_passes
 returns-then-not-package_passes c =

@@ -15,7 +15,8 @@ loop-number-preserved c =
     let inside : n < length r.packages.items = search rules in
     let at = slice_get_read r.packages.items _ n x refl inside c.index.ensures in
     let passed : c.is_well_named.result ≡ true = search rules in
-    one_more (λ k. entry_keeps well_named r lists.Packages k ≡ Some true) n c.loop-number.invariant (entry_tested (well_named.package_ r) r.packages.items n x at true (sym (c.is_well_named.ensures) ∙ passed))
+    one_more (λ k. entry_keeps well_named r lists.Packages k ≡ Some true) n c.loop-number.invariant
+    (entry_tested (well_named.package_ r) r.packages.items n x at true (sym (c.is_well_named.ensures) ∙ passed))
 
 pub returns-then-not-is_well_named : goal.returns-then-not-is_well_named
 returns-then-not-is_well_named c =

@@ -14,7 +14,8 @@ loop-number-preserved c =
     let inside : n < length r.interfaces.items = search rules in
     let at = slice_get_read r.interfaces.items _ n x refl inside c.index.ensures in
     let passed : c.interface_passes.result ≡ true = search rules in
-    one_more (λ k. entry_keeps numbers_in_range r lists.Interfaces k ≡ Some true) n c.loop-number.invariant (entry_tested (numbers_in_range.interface_ r) r.interfaces.items n x at true (sym (c.interface_passes.ensures) ∙ passed))
+    one_more (λ k. entry_keeps numbers_in_range r lists.Interfaces k ≡ Some true) n c.loop-number.invariant
+    (entry_tested (numbers_in_range.interface_ r) r.interfaces.items n x at true (sym (c.interface_passes.ensures) ∙ passed))
 
 pub returns-then-not-interface_passes : goal.returns-then-not-interface_passes
 returns-then-not-interface_passes c =

@@ -14,7 +14,8 @@ loop-number-preserved c =
     let inside : n < length r.types.items = search rules in
     let at = slice_get_read r.types.items _ n x refl inside c.index.ensures in
     let passed : c.type_passes.result ≡ true = search rules in
-    one_more (λ k. entry_keeps numbers_in_range r lists.Types k ≡ Some true) n c.loop-number.invariant (entry_tested (numbers_in_range.type_ r) r.types.items n x at true (sym (c.type_passes.ensures) ∙ passed))
+    one_more (λ k. entry_keeps numbers_in_range r lists.Types k ≡ Some true) n c.loop-number.invariant
+    (entry_tested (numbers_in_range.type_ r) r.types.items n x at true (sym (c.type_passes.ensures) ∙ passed))
 
 pub returns-then-not-type_passes : goal.returns-then-not-type_passes
 returns-then-not-type_passes c =

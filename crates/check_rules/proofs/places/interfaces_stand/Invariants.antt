@@ -1,0 +1,9 @@
+use Rattle.std.proofs.Common.{◌≡◌}
+use Rattle.std.specs.List.{list_all}
+use Rattle.wit_model.specs.Rules.{interface_belongs}
+use Rattle.check_rules.proofs.places.interfaces_stand.Given as goal
+
+abbrev pub invariant-loop-key : goal.invariant-loop-key
+invariant-loop-key l =
+    list_all (interface_belongs l.resolve l.number) l.key-iterator
+    ≡ list_all (interface_belongs l.resolve l.number) l.ids.entries
