@@ -1,5 +1,3 @@
-use Rattle.std.proofs.Common.{Err, Result}
-use Rattle.wit_model.specs.declared.error.Error.{Error}
 use Rattle.wit_bind.specs.Merges.{IsMergeRefusal, IsPlanOf}
 use Rattle.wit_bind.proofs.AsItWas.{kept_itself}
 use Rattle.wit_bind.proofs.Growing.{on_err, plan_addable}
@@ -66,7 +64,6 @@ returns-in_err-added-clause-refusal c =
     let own = c.args.own.now in
     let other = c.args.other in
     let error = c.in_err-added.field-0.0 in
-    let refused : Result (Unit {0}) Error = Err error in
     err_is (IsMergeRefusal own other) c.from_residual-in_err-added.result error c.from_residual-in_err-added.ensures.1
     (refused-so own other c.requires.own c.requires.others c.in_ok-matches.ensures.united c.in_ok-matches.matches c.in_ok-matches.ensures.matched (IsMergeRefusal own other) tt (λ h. h)
-    refused c.in_err-added.ensures.refuses c.in_err-added.ensures.size)
+    error c.in_err-added.ensures.refuses c.in_err-added.ensures.size)
