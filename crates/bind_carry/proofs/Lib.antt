@@ -20,7 +20,7 @@ pub mod Addable
 pub mod Marking
 -- At most as many are copied as pass a test that each of these passes. Serves crates above.
 pub mod CountedCopies
--- How many are copied. Serves bound::bind_items, fates::copy_types, union::union_of; crates above.
+-- How many are copied. Serves bound::bind_items, fates::copy_types, union::planned, whole::move_interfaces; crates above.
 pub mod Counting
 -- Items that are copied where their keys are new join those that were there. Serves FirstInterfaces, SecondJoined, WorldsCopied; crates above.
 pub mod JoinedItems
@@ -28,7 +28,7 @@ pub mod JoinedItems
 pub mod FirstInterfaces
 -- Worlds that are carried by path have numbers of their own, and packages stand in packages of their names. Serves FirstCarried.
 pub mod FirstNumbers
--- A valid `Resolve` is in range. Serves union::union_of; crates above.
+-- A valid `Resolve` is in range. Serves union::planned, union::union_of; crates above.
 pub mod Ranges
 -- What is carried by path is carried as the laws on unions ask for it: interfaces, and how numbers rise. Serves laws::first_pass; crates above.
 pub mod FirstCarried
@@ -52,7 +52,7 @@ pub mod Gaining
 pub mod InsertedBehind
 -- Names that a package gains join those that it had. Serves NamesReady.
 pub mod JoinedNamed
--- Things that are copied one after the other, where their flags are set. Serves bound::inline_copies, packages::new_package_list, whole::copy_interfaces, whole::copy_worlds.
+-- Things that are copied one after the other, where their flags are set. Serves bound::inline_copies, packages::new_package_list, whole::copy_worlds.
 pub mod Keeping
 -- Keys that are put into a set one behind the other, under new numbers. Serves bound::keys_under.
 pub mod KeysCopied
@@ -62,7 +62,7 @@ pub mod Numbering
 pub mod PassedTypes
 -- What becomes of types in what the bound world gains, before those without a name have their fates. Serves bound::bind_types.
 pub mod SecondTypes
--- What is carried of a `Resolve` in range can be copied, and so can what the bound world gains. Serves bound::bind_items, union::union_of; crates above.
+-- What is carried of a `Resolve` in range can be copied, and so can what the bound world gains. Serves bound::bind_items, union::planned; crates above.
 pub mod Ready
 -- Which inline interfaces the bound world gains, and that something is gained with each. Serves KeysGained, SecondCarried, SecondInline, SecondInterfaces and 2 more; crates above.
 pub mod SecondMarks
@@ -72,7 +72,7 @@ pub mod WorldEntries
 pub mod KeysGained
 -- What a look-up of a label finds in a map: what stands under a label of its text. Serves SecondInline, SecondJoined, SecondMet.
 pub mod LabelsFound
--- With what the bound world gains, behind what is carried by path. Serves union::union_of.
+-- With what the bound world gains, behind what is carried by path. Serves union::planned.
 pub mod ManyCarried
 -- The pass over what the bound world gains begins as it should: what it copies is of the bound world, or of an inline interface that is gained. Serves SecondAgreed, SecondJoined, SecondKnown,
 -- SecondStands.
@@ -116,6 +116,8 @@ pub mod NamesReady
 pub mod PackagesStand
 -- What a union adds, once it is added, is merged. Serves merged::merged_unions; crates above.
 pub mod MergedUnion
+-- Things that are moved one after the other to the places that were made for them. Serves whole::move_interfaces.
+pub mod Moving
 -- Names that are copied into a map one behind the other, those that a test passes. Serves packages::interface_names, packages::world_names.
 pub mod NamesCopied
 -- The text that names a package names no other. Serves NamesMerged.
@@ -124,6 +126,8 @@ pub mod PackageTexts
 pub mod UnionApart
 -- The names in packages once all is added: own ones, each package's followed by what is new in it, and then those of new packages. Serves added_laws::added_names; crates above.
 pub mod NamesMerged
+-- What a union adds, once what is moved is in its places. Serves union::union_of.
+pub mod Planning
 -- Types that meet their fates one by one. Serves fates::copy_types.
 pub mod Settling
 -- No map of what was merged has a key twice: what is inserted keeps keys apart, and copies have the names of what they are of. Serves added_laws::added_distinct; crates above.

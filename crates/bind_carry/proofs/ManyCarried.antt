@@ -8,22 +8,21 @@ use Rattle.bind_match.specs.declared.matches.Matches.{Matches}
 use Rattle.bind_carry.specs.Fates.{numbers_by, AreCopied}
 use Rattle.bind_carry.specs.First.{first_fates}
 use Rattle.bind_carry.specs.Numbers.{copied_count}
-use Rattle.bind_carry.specs.Over.{IsCarriedOver}
+use Rattle.bind_carry.specs.Over.{IsPlacedOver}
 use Rattle.bind_carry.specs.TooLong.{copies_of, AreTooManyGained}
 use Rattle.bind_carry.specs.Which.{IsNumbered}
-use Rattle.bind_carry.specs.Whole.{IsInterfaceCarried}
 use Rattle.bind_carry.specs.declared.fate.Fate.{Fate}
 use Rattle.bind_carry.specs.declared.plan.Carried.{Carried}
-use Rattle.bind_carry.proofs.Counting.{carried_all, copied_long}
+use Rattle.bind_carry.proofs.Counting.{copied_long}
 use Rattle.bind_carry.proofs.Ready.{fates_long}
 
 module _ (own other : Resolve) (m : Matches) (c : Carried) (numbered : IsNumbered own other m c) (types : List ℕ) (defs : List TypeDef)
-    (copied : AreCopied (length own.types.items) types other.types.items (first_fates own other m.interfaces.items c) [] defs) (before : Added) (first : IsCarriedOver other c types defs before) where
+    (copied : AreCopied (length own.types.items) types other.types.items (first_fates own other m.interfaces.items c) [] defs) (before : Added) (first : IsPlacedOver other c types defs before) where
   abbrev fates : List Fate
   fates = first_fates own other m.interfaces.items c
 
   interfaces_before : length before.interfaces.items ≡ copied_count c.copied_interfaces.items
-  interfaces_before = carried_all (IsInterfaceCarried c types) c.copied_interfaces.items other.interfaces.items before.interfaces.items numbered.interface_count first.interfaces
+  interfaces_before = first.places
 
   types_before : length before.types.items ≡ copies_of fates
   types_before =

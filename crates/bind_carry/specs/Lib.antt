@@ -12,6 +12,8 @@ pub mod Marked
 pub mod CarriedParts
 pub mod ReadyItems
 pub mod Over
+pub mod Moved
+pub mod Planned
 pub mod BoundGains
 pub mod MatchedSame
 pub mod FirstPass

@@ -9,6 +9,7 @@ use Rattle.wit_model.specs.declared.model.TypeDef.{TypeDef}
 use Rattle.wit_model.specs.declared.model.World.{World}
 use Rattle.bind_add.specs.declared.added.Added.{Added}
 use Rattle.bind_copy.specs.Copies.{are_names_below, AreEntriesBelow, AreFunctionsBelow}
+use Rattle.bind_carry.specs.Numbers.{copied_count}
 use Rattle.bind_carry.specs.Listed.{are_interfaces_below, are_worlds_below, IsHomeBelow}
 use Rattle.bind_carry.specs.Packaged.{grown_packages, IsGained, IsPackageCarried}
 use Rattle.bind_carry.specs.Whole.{kept, IsInterfaceCarried, IsWorldCarried}
@@ -34,6 +35,16 @@ pub record IsCarriedOver (other : Resolve) (c : Carried) (types : List ℕ) (def
   pub packages : AllZip (IsPackageCarried c) (kept c.new_packages.items other.packages.items) a.packages.items
   pub names : AllZip (IsGained c) (grown_packages c.new_packages.items c.packages.items other.packages.items) a.names.items
   pub interfaces : AllZip (IsInterfaceCarried c types) (kept c.copied_interfaces.items other.interfaces.items) a.interfaces.items
+  pub worlds : AllZip (IsWorldCarried c types) (kept c.copied_worlds.items other.worlds.items) a.worlds.items
+  pub type_defs : a.types.items ≡ defs
+  pub no_imports : a.imports.entries ≡ []
+  pub no_exports : a.exports.entries ≡ []
+
+-- So it is, with a place for each interface that is carried, in the place of the interface.
+pub record IsPlacedOver (other : Resolve) (c : Carried) (types : List ℕ) (defs : List TypeDef) (a : Added) : Type 0 where
+  pub packages : AllZip (IsPackageCarried c) (kept c.new_packages.items other.packages.items) a.packages.items
+  pub names : AllZip (IsGained c) (grown_packages c.new_packages.items c.packages.items other.packages.items) a.names.items
+  pub places : length a.interfaces.items ≡ copied_count c.copied_interfaces.items
   pub worlds : AllZip (IsWorldCarried c types) (kept c.copied_worlds.items other.worlds.items) a.worlds.items
   pub type_defs : a.types.items ≡ defs
   pub no_imports : a.imports.entries ≡ []

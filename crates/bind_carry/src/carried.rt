@@ -8,7 +8,7 @@ ghost use Rattle.bind_carry.specs.Shown.{AreShownBelow};
 ghost use Rattle.bind_carry.specs.Which.{IsNumbered};
 ghost use Rattle.bind_carry.specs.First.{fate_named, fate_of, first_fates};
 ghost use Rattle.bind_carry.specs.Numbers.{IsMemoryOrSize};
-ghost use Rattle.bind_carry.specs.Over.{IsCarriedOver, IsCarriedReady};
+ghost use Rattle.bind_carry.specs.Over.{IsCarriedReady, IsPlacedOver};
 ghost use Rattle.wit_model.specs.declared.error.Error.TheVariants.{Size};
 ghost use Rattle.bind_carry.specs.Few.{AreFewNumbered};
 ghost use Rattle.bind_carry.specs.TooLong.{AreTooManyByPath};
@@ -23,7 +23,7 @@ use crate::owned::{interface_numbers, new_packages, package_numbers, world_numbe
 use crate::packages::{gained_names, new_package_list};
 use crate::plan::Carried;
 use crate::which::{copied_interfaces, copied_worlds};
-use crate::whole::{copy_interfaces, copy_worlds};
+use crate::whole::{copy_worlds, interface_places};
 use bind_add::Added;
 use bind_match::Matches;
 use std::alloc::{AllocError, Global};
@@ -154,7 +154,7 @@ pub(crate) fn settled_types(
     settle(alloc, &other.types, &fates, adds)
 }
 
-/// All that is carried, with nothing yet for the bound world.
+/// All that is carried, with empty places for the interfaces and nothing yet for the bound world.
 pub(crate) fn added(
     alloc: Global,
     other: &Resolve,
@@ -164,12 +164,12 @@ pub(crate) fn added(
 ) -> Result<Added, Error>
     requires whole { IsWhole carried.now }
     requires ready { IsCarriedReady other.now carried.now (length types.now) }
-    ensures added { IfOk result (IsCarriedOver other.now carried.now types.now type_defs.items) }
+    ensures added { IfOk result (IsPlacedOver other.now carried.now types.now type_defs.items) }
     ensures refuses { IfErr result IsMemory }
 {
     let packages = new_package_list(alloc, other, carried)?;
     let names = gained_names(alloc, other, carried)?;
-    let interfaces = copy_interfaces(alloc, other, carried, types)?;
+    let interfaces = interface_places(alloc, &carried.copied_interfaces)?;
     let worlds = copy_worlds(alloc, other, carried, types)?;
     Ok(Added {
         packages,

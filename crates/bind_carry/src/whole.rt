@@ -1,19 +1,21 @@
 //! Interfaces and worlds that are copied as a whole.
 
-ghost use Rattle.std.specs.Prelude.{◌≡◌, ◌<◌, ℕ, true, length, IfErr, IfOk, Some};
+ghost use Rattle.std.specs.Prelude.{◌≡◌, ◌+◌, ◌<◌, ◌≤◌, ℕ, true, false, length, slice_get, slice_set, IfErr, IfOk, Some};
 ghost use Rattle.std.specs.List.{AllZip};
 ghost use Rattle.wit_model.specs.declared.model.Interface.{Interface as InterfaceValue};
 ghost use Rattle.wit_model.specs.declared.model.World.{World as WorldValue};
-ghost use Rattle.wit_model.specs.Lookup.{interface_at, world_at};
+ghost use Rattle.wit_model.specs.Lookup.{world_at};
 ghost use Rattle.wit_model.specs.Refusals.{IsMemory};
-ghost use Rattle.bind_copy.specs.Copies.{are_names_below, AreEntriesBelow, AreFunctionsBelow};
+ghost use Rattle.bind_copy.specs.Copies.{AreEntriesBelow};
 ghost use Rattle.bind_carry.specs.Listed.{IsHomeBelow, IsWhole};
+ghost use Rattle.bind_carry.specs.Moved.{AreMoved, IsInterfaceBelow};
+ghost use Rattle.bind_carry.specs.Numbers.{copied_count};
 ghost use Rattle.bind_carry.specs.Whole.{home_under, kept, IsInterfaceCarried, IsWorldCarried};
 
 use crate::plan::Carried;
-use bind_copy::{Numbers, copy_docs, copy_interface, copy_items, copy_stability, copy_text};
-use std::alloc::Global;
-use wit_model::{Error, Interface, Map, PackageId, Resolve, World};
+use bind_copy::{Numbers, copy_docs, copy_items, copy_stability, copy_text, move_interface};
+use std::alloc::{AllocError, Global};
+use wit_model::{Docs, Error, Interface, Map, PackageId, Resolve, Stability, World};
 
 // The number of a package from now on.
 fn home(packages: &[u32], package: Option<PackageId>) -> Option<PackageId>
@@ -26,46 +28,84 @@ fn home(packages: &[u32], package: Option<PackageId>) -> Option<PackageId>
     }
 }
 
-fn copy_named(
-    alloc: Global,
-    carried: &Carried,
-    types: &[u32],
-    interface: &Interface,
-) -> Result<Interface, Error>
-    requires home_ { IsHomeBelow (length carried.now.packages.items) interface.now.«package» }
-    requires names { are_names_below (length types.now) interface.now.types.entries ≡ true }
-    requires functions { AreFunctionsBelow (length types.now) interface.now.functions.entries }
-    ensures copy { IfOk result (IsInterfaceCarried carried.now types.now interface.now) }
-    ensures refuses { IfErr result IsMemory }
-{
-    let home = home(&carried.packages, interface.package);
-    copy_interface(alloc, types, interface, home)
+// A place for an interface, with nothing in it yet.
+fn no_interface(alloc: Global) -> Interface {
+    Interface {
+        name: None,
+        types: Map::new(alloc),
+        functions: Map::new(alloc),
+        docs: Docs { contents: None },
+        stability: Stability::Unknown,
+        package: None,
+    }
 }
 
-/// The interfaces that are copied, in their order.
-pub(crate) fn copy_interfaces(
+/// A place for each interface that is carried.
+pub(crate) fn interface_places(
     alloc: Global,
-    other: &Resolve,
-    carried: &Carried,
-    types: &[u32],
-) -> Result<Vec<Interface>, Error>
-    requires whole { IsWhole carried.now }
-    requires count { length carried.now.interfaces.items ≡ length other.now.interfaces.items }
-    requires homes { (n : ℕ) (i : InterfaceValue) → interface_at other.now n ≡ Some i → IsHomeBelow (length carried.now.packages.items) i.«package» }
-    requires names { (n : ℕ) (i : InterfaceValue) → interface_at other.now n ≡ Some i → are_names_below (length types.now) i.types.entries ≡ true }
-    requires functions { (n : ℕ) (i : InterfaceValue) → interface_at other.now n ≡ Some i → AreFunctionsBelow (length types.now) i.functions.entries }
-    ensures interfaces { IfOk result (λ v. AllZip (IsInterfaceCarried carried.now types.now)
-        (kept carried.now.copied_interfaces.items other.now.interfaces.items) v.items) }
-    ensures refuses { IfErr result IsMemory }
+    carried: &[bool],
+) -> Result<Vec<Interface>, AllocError>
+    ensures { IfOk result (λ v. length v.items ≡ copied_count carried.now) }
 {
-    let mut interfaces = Vec::new(alloc);
-    for (number, interface) in other.interfaces.iter().enumerate() {
-        if carried.copied_interfaces[number] {
-            let copy = copy_named(alloc, carried, types, interface)?;
-            interfaces.push(copy)?;
+    let mut places = Vec::new(alloc);
+    for is_carried in carried {
+        if *is_carried {
+            places.push(no_interface(alloc))?;
         }
     }
-    Ok(interfaces)
+    Ok(places)
+}
+
+fn move_named(carried: &Carried, types: &[u32], interface: Interface) -> Interface
+    requires { IsInterfaceBelow (length carried.now.packages.items) (length types.now) interface }
+    ensures { IsInterfaceCarried carried.now types.now interface result }
+{
+    let home = home(&carried.packages, interface.package);
+    move_interface(types, interface, home)
+}
+
+// Moves an interface to a place if it is carried, and answers the place of the next one.
+fn move_one(
+    carried: &Carried,
+    types: &[u32],
+    is_carried: bool,
+    interface: Interface,
+    place: usize,
+    places: &mut [Interface],
+) -> usize
+    requires below { IsInterfaceBelow (length carried.now.packages.items) (length types.now) interface }
+    requires room { is_carried ≡ true → place < length places.old }
+    ensures moved { is_carried ≡ true → (i : InterfaceValue) × IsInterfaceCarried carried.now types.now interface i
+        × (places.new ≡ slice_set places.old place i) × (result ≡ place + 1) }
+    ensures left { is_carried ≡ false → (places.new ≡ places.old) × (result ≡ place) }
+{
+    if !is_carried {
+        return place;
+    }
+    places[place] = move_named(carried, types, interface);
+    place + 1
+}
+
+/// Moves the interfaces that are carried to their places, in their order.
+pub(crate) fn move_interfaces(
+    carried: &Carried,
+    types: &[u32],
+    interfaces: Vec<Interface>,
+    places: &mut [Interface],
+)
+    requires count { length carried.now.copied_interfaces.items ≡ length interfaces.items }
+    requires room { copied_count carried.now.copied_interfaces.items ≤ length places.old }
+    requires below { (n : ℕ) (i : InterfaceValue) → slice_get interfaces.items n ≡ Some i
+        → IsInterfaceBelow (length carried.now.packages.items) (length types.now) i }
+    ensures { AreMoved (IsInterfaceCarried carried.now types.now) (kept carried.now.copied_interfaces.items interfaces.items) places.old places.new }
+{
+    let mut number = 0usize;
+    let mut place = 0usize;
+    for interface in interfaces {
+        let is_carried = carried.copied_interfaces[number];
+        place = move_one(carried, types, is_carried, interface, place, places);
+        number += 1;
+    }
 }
 
 fn copy_world(

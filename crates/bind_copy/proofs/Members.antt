@@ -1,5 +1,5 @@
--- Functions that are copied into a map one behind the other.
-use Rattle.std.proofs.Common.{◌≡◌, refl, ap, subst, ◌∙◌, ℕ, true, List, [], ◌∷◌}
+-- Functions that are copied into a map one behind the other, and what holds of the members of those that are moved.
+use Rattle.std.proofs.Common.{◌≡◌, refl, ap, subst, ◌∙◌, ℕ, true, nat_lt, List, [], ◌∷◌}
 use Rattle.std.specs.List.{AllZip}
 use Rattle.std.specs.Prelude.{String}
 use Rattle.std.specs.String.{string_eq}
@@ -10,7 +10,11 @@ use Rattle.indexmap.specs.IndexMap.{insert_entry}
 use Rattle.wit_model.proofs.Distinct.{text_eq_flip}
 use Rattle.wit_model.specs.Text.{text_eq, text_of}
 use Rattle.wit_model.specs.declared.model.Function.{Function}
-use Rattle.bind_copy.specs.Copies.{CopiedSoFar, IsFunctionEntry, IsFunctionUnder}
+use Rattle.wit_model.specs.declared.model.Param.{Param}
+use Rattle.wit_model.specs.declared.model.TypeId.{TypeId}
+use Rattle.bind_union.specs.Views.{type_numbers}
+use Rattle.bind_copy.specs.Copies.{all_below, are_names_below, are_params_below, params_of, params_under, type_names, type_names_under, AreFunctionsBelow, CopiedSoFar, IsFunctionEntry, IsFunctionUnder, IsParamUnder, IsTypeEntry}
+use Rattle.base_lemmas.proofs.Bools.{right_of}
 use Rattle.bind_copy.proofs.Copied.{all_copied, one_copied}
 use Rattle.base_lemmas.proofs.Lists.{filter_all as all_pass}
 
@@ -34,3 +38,28 @@ module _ (types : List ℕ) where
   functions_all whole left done ended before apart =
       subst (λ l. AllZip (IsFunctionEntry types) l done) (all_pass whole)
       (all_copied string_eq string_eq (IsFunctionEntry types) (λ e. true) same_keys whole done (subst (λ l. CopiedSoFar (IsFunctionEntry types) (λ e. true) whole l done) ended (before apart)))
+
+-- ---- members that are moved
+
+module _ (types : List ℕ) where
+  pub params_are : (old new : List Param) → AllZip (IsParamUnder types) old new → params_of new ≡ params_under types old
+  params_are [] [] z = refl
+  params_are [] (y ∷ ys) z = absurd z
+  params_are (x ∷ xs) [] z = absurd z
+  params_are (x ∷ xs) (y ∷ ys) z = λ i. (z.0.0 i, z.0.1 i) ∷ params_are xs ys z.1 i
+
+  pub names_are : (old new : List (String Global × TypeId)) → AllZip (IsTypeEntry types) old new → type_names new ≡ type_names_under types old
+  names_are [] [] z = refl
+  names_are [] (y ∷ ys) z = absurd z
+  names_are (x ∷ xs) [] z = absurd z
+  names_are (x ∷ xs) (y ∷ ys) z = λ i. (z.0.0 i, z.0.1 i) ∷ names_are xs ys z.1 i
+
+module _ (count : ℕ) where
+  pub params_later : (p : Param) (ps : List Param) → are_params_below count (p ∷ ps) ≡ true → are_params_below count ps ≡ true
+  params_later p ps h = right_of (all_below count (type_numbers p.ty)) (are_params_below count ps) h
+
+  pub names_later : (e : String Global × TypeId) (es : List (String Global × TypeId)) → are_names_below count (e ∷ es) ≡ true → are_names_below count es ≡ true
+  names_later e es h = right_of (nat_lt e.1.0 count) (are_names_below count es) h
+
+  pub functions_later : (e : String Global × Function) (es : List (String Global × Function)) → AreFunctionsBelow count (e ∷ es) → AreFunctionsBelow count es
+  functions_later e es h = h.1

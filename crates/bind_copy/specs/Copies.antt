@@ -107,6 +107,10 @@ params_of params = map (λ p. (text_of p.name, p.ty)) params
 abbrev pub params_under : List ℕ → List Param → List (Text × ValueType)
 params_under numbers params = map (λ x. (x.0, renamed_type (number_under numbers) x.1)) (params_of params)
 
+-- a parameter whose type has its new number
+abbrev pub IsParamUnder : List ℕ → Param → Param → Type 0
+IsParamUnder numbers old new = (text_of new.name ≡ text_of old.name) × (new.ty ≡ renamed_type (number_under numbers) old.ty)
+
 -- every number is below so many
 abbrev pub all_below : ℕ → List ℕ → Bool
 all_below count numbers = list_all (λ n. nat_lt n count) numbers
@@ -159,12 +163,27 @@ type_names_under numbers es = map (λ e. (text_of e.0, number_under numbers e.1.
 abbrev pub are_names_below : ℕ → List (String Global × TypeId) → Bool
 are_names_below count es = list_all (λ e. nat_lt e.1.0 count) es
 
+-- a name with the type of its new number
+abbrev pub IsTypeEntry : List ℕ → String Global × TypeId → String Global × TypeId → Type 0
+IsTypeEntry numbers old new = (text_of new.0 ≡ text_of old.0) × (new.1.0 ≡ number_under numbers old.1.0)
+
 abbrev pub IsFunctionEntry : List ℕ → String Global × Function → String Global × Function → Type 0
 IsFunctionEntry numbers old new = (text_of new.0 ≡ text_of old.0) × IsFunctionUnder numbers old.1 new.1
 
 -- Of a list's entries, those in front of the rest that pass a test are copied.
 abbrev pub CopiedSoFar : {K V : Type 0} → (K × V → K × V → Type 0) → (K × V → Bool) → List (K × V) → List (K × V) → List (K × V) → Type 0
 CopiedSoFar {K} {V} R p whole rest done = (front : List (K × V)) × (front ++ rest ≡ whole) × AllZip R (filter p front) done
+
+-- Of a list's items so many have been given new values where they stand, and those that are left are as they were.
+pub record AreWrittenSoFar {X : Type 0} (R : X → X → Type 0) (Left : List X → Type 0) (old now : List X) (place : ℕ) : Type 0 where
+  pub front : List X
+  pub rest : List X
+  pub done : List X
+  pub were : old ≡ front ++ rest
+  pub are : now ≡ done ++ rest
+  pub each : AllZip R front done
+  pub count : length done ≡ place
+  pub left : Left rest
 
 -- An interface under new numbers, in a package. No name stands twice in what it is made of, as reading it shows.
 pub record IsInterfaceUnder (numbers : List ℕ) (home : Option PackageId) (old new : Interface) : Type 0 where

@@ -45,8 +45,3 @@ on_err p (Err e) = p
 pub so_ok : {X E : Type 0} (P : X → Type 0) (Q : Type 0) → ((x : X) → P x → Q) → (r : Result X E) → IfOk r P → OnOk r Q
 so_ok P Q f (Ok x) h = f x h
 so_ok P Q f (Err e) h = tt
-
--- what follows of both at `Ok`
-pub if_ok_both : {X E : Type 0} (P Q R : X → Type 0) → ((x : X) → P x → Q x → R x) → (r : Result X E) → IfOk r P → IfOk r Q → IfOk r R
-if_ok_both P Q R f (Ok x) p q = f x p q
-if_ok_both P Q R f (Err e) p q = tt

@@ -10,7 +10,7 @@ pub mod Bringing
 pub mod Notes
 -- What both passes copy has its own documentation, stability and external ids in what is merged. Serves Merging.
 pub mod Brought
--- Where nothing clashes, what is matched has one path and one sense. Serves bindgen::planned, laws::matches_have_paths.
+-- Where nothing clashes, what is matched has one path and one sense. Serves bindgen::merge_matched, laws::matches_have_paths.
 pub mod MatchedPaths
 -- Bindings that unite, by the entries and the numbers of their `Resolve`s. Serves laws::united_agree_by_numbers.
 pub mod NumbersAgree
@@ -30,7 +30,7 @@ pub mod Extending
 pub mod Putting
 -- The entries of functions, listed, are exactly those of functions. Serves encodings::from_unversioned, metadata::encodings.
 pub mod FunctionKeys
--- What is planned can be added, and what is added is behind what there was. Serves bindgen::grow, bindgen::merge, bindgen::merge_matched, bindgen::planned; crates above.
+-- What is planned can be added, and what is added is behind what there was. Serves bindgen::grow, bindgen::merge, bindgen::merge_matched; crates above.
 pub mod Growing
 -- Where nothing of the other is new, nothing comes. Serves Growth.
 pub mod NothingNew
@@ -50,9 +50,9 @@ pub mod Merging
 pub mod ValidKeys
 -- In a valid `Resolve` functions of a world that share a key shared their key without version. Serves encodings::from_unversioned, laws::one_old_key.
 mod OneKey
--- Where a union would make a list too long, so would what comes. Serves bindgen::planned.
+-- Where a union would make a list too long, so would what comes. Serves bindgen::merge_matched.
 pub mod Outgrown
--- Why bindings can't be united, or that they can, from what is compared by numbers. Serves bindgen::planned.
+-- Why bindings can't be united, or that they can, from what is compared by numbers. Serves bindgen::matched.
 pub mod Refusals
 -- Bindings of the code stand for bindings, and the empty root world for the one that every module begins with. Serves laws::bindgens_are_bindings, laws::roots_are_roots; crates above.
 pub mod RootBindings
@@ -64,7 +64,7 @@ mod Sides
 pub mod Telling
 -- Room for more changes no entry, so bindings are as they were. Serves bindgen::grow.
 pub mod Unchanged
--- Bindings of which nothing clashes by numbers unite. Serves bindgen::planned.
+-- Bindings of which nothing clashes by numbers unite. Serves bindgen::matched.
 pub mod Uniting
 -- The pieces of a version's canonical part are its text. Serves versions::after_at_version, versions::after_identifier, versions::push_at_version.
 mod VersionTexts

@@ -1,6 +1,5 @@
 -- Where a union would make a list too long, so would what comes.
 use Rattle.std.proofs.Common.{◌≡◌, inl, inr, refl, ap, ◌∙◌, arith, ℕ, ◌+◌, ◌<◌, ◌≤◌, [], length, Some}
-use Rattle.std.specs.Prelude.{Err, IfErr, Ok, Result}
 use Rattle.wit_model.specs.declared.error.Error.{Error}
 use Rattle.wit_model.specs.declared.error.Error.TheVariants as errors
 use Rattle.wit_model.specs.declared.model.World.{World}
@@ -76,19 +75,13 @@ module _ (own other : Bindgen) (o : IsBindgen own) (t : IsBindgen other) (can : 
   -- ---- the refusal of a union
 
   module _ (P : Error → Type 0) (memory : P errors.Memory) (size : AreTooMany own other → P errors.Size) where
-    refusal : (e : Error) → IsMemoryOrSize e
+    -- a union is refused for want of memory, or where there would be too much
+    pub refused-so : (e : Error) → IsMemoryOrSize e
         → (e ≡ errors.Size → (w v : World) → world_at own.resolve own.world.0 ≡ Some w → world_at other.resolve other.world.0 ≡ Some v
         → IsTooLong own.resolve other.resolve own.world.0 other.world.0 m w v) → P e
-    refusal errors.Memory h long = memory
-    refusal errors.Size h long =
+    refused-so errors.Memory h long = memory
+    refused-so errors.Size h long =
         let w = within_there own.resolve.worlds.items own.world.0 o.in_range in
         let v = within_there other.resolve.worlds.items other.world.0 t.in_range in
         size (too-many w.0 v.0 w.1 v.1 (long refl w.0 v.0 w.1 v.1))
-    refusal e h long = absurd h
-
-    -- a union is refused for want of memory, or where there would be too much
-    pub refused-so : {A : Type 0} (r : Result A Error) → IfErr r IsMemoryOrSize
-        → IfErr r (λ e. e ≡ errors.Size → (w v : World) → world_at own.resolve own.world.0 ≡ Some w → world_at other.resolve other.world.0 ≡ Some v
-        → IsTooLong own.resolve other.resolve own.world.0 other.world.0 m w v) → IfErr r P
-    refused-so (Ok a) h long = tt
-    refused-so (Err e) h long = refusal e h long
+    refused-so e h long = absurd h

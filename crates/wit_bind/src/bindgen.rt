@@ -5,6 +5,7 @@ ghost use Rattle.wit_model.specs.Lookup.{key_text};
 ghost use Rattle.wit_model.specs.Refusals.{IsMemory};
 ghost use Rattle.plan_meaning.specs.Built.{IsBare};
 ghost use Rattle.bind_add.specs.Growth.{IsAddable};
+ghost use Rattle.bind_clash.specs.Faults.{HaveNoClash, IsMatched};
 ghost use Rattle.bind_match.specs.Matching.{own_package_of};
 ghost use Rattle.bind_meaning.specs.Clash.{CanUnite};
 ghost use Rattle.bind_meaning.specs.Union.{union};
@@ -13,14 +14,14 @@ ghost use Rattle.wit_bind.specs.Brings.{BringsItsOwn};
 ghost use Rattle.wit_bind.specs.Extends.{Extends, IsKept, listed_names, merged_names};
 ghost use Rattle.wit_bind.specs.Merged.{ExportsGrowBy, IsMerge};
 ghost use Rattle.wit_bind.specs.Comes.{BringsNothing};
-ghost use Rattle.wit_bind.specs.Merges.{AddsNothing, GrowsWithin, IsGrownBy, IsMergeRefusal, IsPlanOf, export_keys};
+ghost use Rattle.wit_bind.specs.Merges.{AddsNothing, GrowsWithin, IsGrownBy, IsMergeRefusal, export_keys};
 ghost use Rattle.wit_bind.specs.Roots.{IsRoot, IsRootPackage, IsRootResolve, IsRootWorld};
 
 use crate::metadata::ModuleMetadata;
 use bind_add::{Added, add, reserve};
 use bind_carry::union_of;
 use bind_clash::refuse_clash;
-use bind_match::{matched_packages, matches_of};
+use bind_match::{Matches, matched_packages, matches_of};
 use indexmap::IndexSet;
 use std::alloc::Global;
 use wit_model::{
@@ -107,18 +108,19 @@ impl Bindgen {
         })
     }
 
-    // What the union with other bindings adds to the `Resolve`, and the keys of their exports in it; or why there is none.
-    fn planned(
+    // What stands on both sides under one name or path, where the two don't clash.
+    fn matched(
         &self,
         alloc: Global,
         other: &Bindgen,
         packages: Vec<Option<PackageId>>,
-    ) -> Result<(Added, IndexSet<WorldKey>), Error>
+    ) -> Result<Matches, Error>
         requires own { IsBindgen self.now }
         requires others { IsBindgen other.now }
         requires packages { packages.items ≡ map (own_package_of self.now.resolve.packages.items) other.now.resolve.packages.items }
-        ensures united { IfOk result (λ plan. CanUnite (binding_of self.now) (binding_of other.now)) }
-        ensures ok { IfOk result (λ plan. IsPlanOf self.now other.now plan.0 plan.1.keys) }
+        ensures matched { IfOk result (IsMatched self.now.resolve other.now.resolve) }
+        ensures none { IfOk result (λ m. HaveNoClash self.now.resolve other.now.resolve m self.now.world.0 other.now.world.0) }
+        ensures united { IfOk result (λ m. CanUnite (binding_of self.now) (binding_of other.now)) }
         ensures refusal { IfErr result (IsMergeRefusal self.now other.now) }
     {
         let matches = matches_of(alloc, &self.resolve, &other.resolve, packages)?;
@@ -131,14 +133,7 @@ impl Bindgen {
             &matches,
         )?;
         self.metadata.refuse_clash(alloc, &other.metadata)?;
-        union_of(
-            alloc,
-            &self.resolve,
-            self.world,
-            &other.resolve,
-            other.world,
-            &matches,
-        )
+        Ok(matches)
     }
 
     // Adds to the `Resolve`, and to the encodings, all or nothing. All room is made first, so nothing is refused once something has changed.
@@ -208,7 +203,15 @@ pub fn merge_matched(
     ensures refusal { IfErr result (IsMergeRefusal own.old other) }
     ensures kept { OnErr result (IsKept own.old own.new) }
 {
-    let (added, keys) = own.planned(alloc, &other, packages)?;
+    let matches = own.matched(alloc, &other, packages)?;
+    let (added, keys) = union_of(
+        alloc,
+        &own.resolve,
+        own.world,
+        other.resolve,
+        other.world,
+        &matches,
+    )?;
     own.grow(added, other.metadata)?;
     Ok(keys)
 }

@@ -1,161 +1,76 @@
-use Rattle.std.proofs.Common.{rules, arith, inl, inr, Some, ◌≡◌, ◌∙◌, ◌≤◌, [], ap, sym, subst, ℕ, List, length}
-use Rattle.std.specs.List.{slice_get}
-use Rattle.bind_carry.specs.Bound.{IsBoundOver}
-use Rattle.bind_carry.specs.BoundGains.{AreKeysUnder}
-use Rattle.bind_carry.specs.Fates.{AreCopied}
-use Rattle.bind_carry.specs.First.{first_fates}
-use Rattle.bind_carry.specs.Over.{IsCarriedOver}
-use Rattle.bind_carry.specs.Packaged.{IsPackageCarried}
-use Rattle.bind_carry.specs.Whole.{IsWorldCarried}
-use Rattle.bind_carry.specs.TooLong.{copies_of, AreTooManyGained, IsTooLong}
-use Rattle.wit_model.specs.Lookup.{world_at}
+use Rattle.std.proofs.Common.{◌≡◌, ◌≤◌, ◌+◌, ◌∙◌, refl, sym, ap, subst, ℕ, List, length}
+use Rattle.std.proofs.lemmas.List.{with_items_is}
 use Rattle.wit_model.specs.declared.error.Error.TheVariants.{Size}
-use Rattle.wit_model.specs.declared.model.World.{World}
-use Rattle.bind_carry.proofs.Counting.{carried_few}
-use Rattle.bind_carry.proofs.ManyCarried.{gained_by_count}
-use Rattle.bind_carry.proofs.Ranges.{is_in_range, shown_below}
-use Rattle.bind_carry.proofs.Ready.{carried_ready, interface_count, owners_below, world_keys_below}
-use Rattle.bind_carry.proofs.union.union_of.Goals as goal
+use Rattle.wit_model.specs.declared.model.Interface.{Interface}
+use Rattle.bind_carry.specs.Moved.{AreMoved}
+use Rattle.bind_carry.specs.Numbers.{copied_count}
+use Rattle.bind_carry.specs.OfBound.{IsTooLongWith}
+use Rattle.bind_carry.specs.Whole.{kept, IsInterfaceCarried}
+use Rattle.bind_carry.proofs.Planning.{as_long, interfaces_below, places_there, whole_union}
+use Rattle.bind_carry.proofs.Ranges.{is_in_range}
+use Rattle.base_lemmas.proofs.Lists.{within_there}
 use Rattle.base_lemmas.proofs.Options.{passed as err_so}
+use Rattle.bind_carry.proofs.union.union_of.Goals as goal
 
-pub number_carried-requires-clause-few_packages : goal.number_carried-requires-clause-few_packages
-number_carried-requires-clause-few_packages c = subst (λ (k : ℕ). k ≤ 4294967295) (sym c.requires.matches.packages) (is_in_range c.args.other.now c.requires.other).few_packages
+pub move_interfaces-requires-clause-count : goal.move_interfaces-requires-clause-count
+move_interfaces-requires-clause-count c =
+    let w = within_there c.args.own.now.worlds.items c.args.world.0 c.requires.world in
+    let v = within_there c.args.other.worlds.items c.args.other_world.0 c.requires.other_world in
+    (c.in_ok-carried.ensures.plan w.0 v.0 w.1 v.1).numbered.interface_count
 
-pub number_carried-requires-clause-few_interfaces : goal.number_carried-requires-clause-few_interfaces
-number_carried-requires-clause-few_interfaces c = (is_in_range c.args.other.now c.requires.other).few_interfaces
+pub move_interfaces-requires-clause-room : goal.move_interfaces-requires-clause-room
+move_interfaces-requires-clause-room c =
+    let p = c.in_ok-carried.field-0 in
+    let w = within_there c.args.own.now.worlds.items c.args.world.0 c.requires.world in
+    let v = within_there c.args.other.worlds.items c.args.other_world.0 c.requires.other_world in
+    subst (λ (l : List Interface). copied_count p.carried.copied_interfaces.items ≤ length l) (sym c.deref_mut.ensures.value)
+    (places_there c.args.own.now c.args.other c.args.world.0 c.args.other_world.0 c.args.matches.now w.0 v.0 p (c.in_ok-carried.ensures.plan w.0 v.0 w.1 v.1))
 
-pub number_carried-requires-clause-few_worlds : goal.number_carried-requires-clause-few_worlds
-number_carried-requires-clause-few_worlds c = (is_in_range c.args.other.now c.requires.other).few_worlds
-
-pub number_carried-requires-clause-imports : goal.number_carried-requires-clause-imports
-number_carried-requires-clause-imports c n w at = let other = c.args.other.now in
-    shown_below (length other.interfaces.items) (length other.types.items) w.imports.entries ((is_in_range other c.requires.other).imports n w at)
-
-pub number_carried-requires-clause-exports : goal.number_carried-requires-clause-exports
-number_carried-requires-clause-exports c n w at = let other = c.args.other.now in
-    shown_below (length other.interfaces.items) (length other.types.items) w.exports.entries ((is_in_range other c.requires.other).exports n w at)
-
-pub settled_types-requires-clause-owners : goal.settled_types-requires-clause-owners
-settled_types-requires-clause-owners c = owners_below c.args.own.now c.args.other.now c.args.matches.now c.in_ok-carried.carried (is_in_range c.args.other.now c.requires.other) c.requires.matches
-    c.in_ok-carried.ensures.numbered
-
-pub copy_types-requires-clause-falls : goal.copy_types-requires-clause-falls
-copy_types-requires-clause-falls c n def at = (is_in_range c.args.other.now c.requires.other).falls n def (ap (λ l. slice_get l n) (sym c.deref.ensures.value) ∙ at)
-
-pub added-requires-clause-ready : goal.added-requires-clause-ready
-added-requires-clause-ready c =
-    carried_ready c.args.own.now c.args.other.now c.args.matches.now c.in_ok-carried.carried (is_in_range c.args.other.now c.requires.other) c.requires.matches c.in_ok-carried.ensures.numbered
-    (length c.deref-3.result.now) (ap length c.deref-3.ensures.value ∙ (c.in_ok-types.ensures.count ∙ ap length c.deref.ensures.value))
-
-pub bind_items-requires : goal.bind_items-requires
-bind_items-requires c = record {
-  own_range = c.requires.world;
-  other_range = c.requires.other_world;
-  in_range = is_in_range c.args.other.now c.requires.other;
-  interface_count = interface_count c.args.own.now c.args.other.now c.args.matches.now c.in_ok-carried.carried (is_in_range c.args.other.now c.requires.other) c.requires.matches
-      c.in_ok-carried.ensures.numbered;
-  fate_count = ap length c.deref-4.ensures.value ∙ c.in_ok-fates.ensures.count;
-  type_count = ap length c.deref-5.ensures.value ∙ (c.in_ok-types.ensures.count ∙ ap length c.deref.ensures.value);
-}
-
-pub export_keys-requires-clause-keys : goal.export_keys-requires-clause-keys
-export_keys-requires-clause-keys c v at =
-    let range = is_in_range c.args.other.now c.requires.other in
-    let count = interface_count c.args.own.now c.args.other.now c.args.matches.now c.in_ok-carried.carried range c.requires.matches c.in_ok-carried.ensures.numbered in
-    world_keys_below c.args.other.now range c.args.other_world.0 v at (length c.deref-6.result.now) (ap length c.deref-6.ensures.value ∙ count)
+pub move_interfaces-requires-clause-below : goal.move_interfaces-requires-clause-below
+move_interfaces-requires-clause-below c =
+    let w = within_there c.args.own.now.worlds.items c.args.world.0 c.requires.world in
+    let v = within_there c.args.other.worlds.items c.args.other_world.0 c.requires.other_world in
+    interfaces_below c.args.own.now c.args.other c.args.world.0 c.args.other_world.0 c.args.matches.now w.0 v.0 c.in_ok-carried.field-0 (c.in_ok-carried.ensures.plan w.0 v.0 w.1 v.1)
+    (is_in_range c.args.other c.requires.other) c.requires.matches c.deref.result.now c.deref.ensures.value
 
 pub returns-clause-union : goal.returns-clause-union
 returns-clause-union c w v at_w at_v =
     let own = c.args.own.now in
-    let other = c.args.other.now in
-    let world = c.args.world.0 in
-    let other_world = c.args.other_world.0 in
-    let carried = c.in_ok-carried.carried in
-    let types = c.in_ok-types.types.items in
-    let defs = c.copy_types.new.added.items in
-    let before = c.in_ok-added.added in
-    let new = c.bind_items.new.added in
-    let many : c.len.result ≡ length own.types.items = search rules in
-    let none : c.new-defs.result.items ≡ [] = search rules in
-    record {
-      carried = carried;
-      numbered = c.in_ok-carried.ensures.numbered;
-      types = types;
-      defs = defs;
-      types_copied =
-          subst (λ l. AreCopied (length own.types.items) types other.types.items l [] defs) (c.deref-2.ensures.value ∙ c.in_ok-fates.ensures.fates)
-          (subst (λ l. AreCopied (length own.types.items) types other.types.items c.deref-2.result.now l defs) none
-          (subst (λ l. AreCopied (length own.types.items) types l c.deref-2.result.now c.new-defs.result.items defs) c.deref.ensures.value
-          (subst (λ (k : ℕ). AreCopied k types c.deref.result.now c.deref-2.result.now c.new-defs.result.items defs) many c.in_ok-types.ensures.copied)));
-      before = before;
-      first = subst (λ (l : List ℕ). IsCarriedOver other carried l defs before) c.deref-3.ensures.value c.in_ok-added.ensures.added;
-      second =
-          subst (λ (l : List ℕ). IsBoundOver own other world other_world w v carried (first_fates own other c.args.matches.now.interfaces.items carried) l before new) c.deref-5.ensures.value
-          (subst (λ l. IsBoundOver own other world other_world w v carried l c.deref-5.result.now before new) (c.deref-4.ensures.value ∙ c.in_ok-fates.ensures.fates)
-          (c.in_ok-bind_items.ensures.gained w v at_w at_v));
-      keys_are = subst (λ (l : List ℕ). AreKeysUnder l v.exports.entries c.in_ok-keys.keys.keys) c.deref-6.ensures.value (c.in_ok-keys.ensures.keys v at_v);
-    }
+    let other = c.args.other in
+    let p = c.in_ok-carried.field-0 in
+    let now = c.move_interfaces.new.places in
+    let plan = c.in_ok-carried.ensures.plan w v at_w at_v in
+    let xs = kept p.carried.copied_interfaces.items other.interfaces.items in
+    let are : AreMoved (IsInterfaceCarried p.carried p.types.items) xs p.added.interfaces.items now =
+    subst (λ (l : List Interface). AreMoved (IsInterfaceCarried p.carried p.types.items) xs l now) c.deref_mut.ensures.value
+    (subst (λ (l : List ℕ). AreMoved (IsInterfaceCarried p.carried l) xs c.deref_mut.result.now now) c.deref.ensures.value c.move_interfaces.ensures) in
+    whole_union own other c.args.world.0 c.args.other_world.0 c.args.matches.now w v p plan now are _ refl
+    (with_items_is p.added.interfaces now (as_long own other c.args.world.0 c.args.other_world.0 c.args.matches.now w v p plan now are ∙ sym p.added.interfaces.ok.0))
 
 pub returns-clause-few : goal.returns-clause-few
 returns-clause-few c =
     let own = c.args.own.now in
-    let other = c.args.other.now in
-    let carried = c.in_ok-carried.carried in
-    let types = c.deref-3.result.now in
-    let before = c.in_ok-added.added in
-    let first : IsCarriedOver other carried types c.copy_types.new.added.items before = c.in_ok-added.ensures.added in
-    let numbered = c.in_ok-carried.ensures.few in
-    let packages = carried_few (IsPackageCarried carried) carried.new_packages.items other.packages.items before.packages.items first.packages in
-    let worlds = carried_few (IsWorldCarried carried types) carried.copied_worlds.items other.worlds.items before.worlds.items first.worlds in
-    let few_packages = numbered.packages in
-    let few_worlds = numbered.worlds in
-    c.in_ok-bind_items.ensures.few (omega (arith, packages, few_packages)) (omega (arith, worlds, few_worlds))
+    let other = c.args.other in
+    let p = c.in_ok-carried.field-0 in
+    let now = c.move_interfaces.new.places in
+    let w = within_there own.worlds.items c.args.world.0 c.requires.world in
+    let v = within_there other.worlds.items c.args.other_world.0 c.requires.other_world in
+    let plan = c.in_ok-carried.ensures.plan w.0 v.0 w.1 v.1 in
+    let xs = kept p.carried.copied_interfaces.items other.interfaces.items in
+    let are : AreMoved (IsInterfaceCarried p.carried p.types.items) xs p.added.interfaces.items now =
+    subst (λ (l : List Interface). AreMoved (IsInterfaceCarried p.carried p.types.items) xs l now) c.deref_mut.ensures.value
+    (subst (λ (l : List ℕ). AreMoved (IsInterfaceCarried p.carried l) xs c.deref_mut.result.now now) c.deref.ensures.value c.move_interfaces.ensures) in
+    let long = as_long own other c.args.world.0 c.args.other_world.0 c.args.matches.now w.0 v.0 p plan now are in
+    let few = c.in_ok-carried.ensures.few in
+    record {
+      packages = few.packages;
+      interfaces =
+          subst (λ (k : ℕ). length own.interfaces.items + k ≤ 4294967295) (sym (ap length (with_items_is p.added.interfaces now (long ∙ sym p.added.interfaces.ok.0)) ∙ long)) few.interfaces;
+      worlds = few.worlds;
+      types = few.types;
+    }
 
-pub returns-in_err-types-clause-size : goal.returns-in_err-types-clause-size
-returns-in_err-types-clause-size c =
-    let own = c.args.own.now in
-    let other = c.args.other.now in
-    let world = c.args.world.0 in
-    let other_world = c.args.other_world.0 in
-    let m = c.args.matches.now in
-    let carried = c.in_ok-carried.carried in
-    let many : c.len.result ≡ length own.types.items = search rules in
-    let none : c.new-defs.result.items ≡ [] = search rules in
-    let empty : length c.new-defs.result.items ≡ 0 = ap length none in
-    let same : copies_of c.deref-2.result.now ≡ copies_of (first_fates own other m.interfaces.items carried) = ap copies_of (c.deref-2.ensures.value ∙ c.in_ok-fates.ensures.fates) in
-    err_so (λ e. e ≡ Size → (w v : World) → world_at own world ≡ Some w → world_at other other_world ≡ Some v → IsTooLong own other world other_world m w v)
-    c.from_residual-in_err-types.result c.in_err-types.field-0.0 c.from_residual-in_err-types.ensures.1
-    (λ is w v at_w at_v. let long = c.in_err-types.ensures.size is in inr (carried, c.in_ok-carried.ensures.numbered, inl (omega (arith, long, many, empty, same))))
-
-pub returns-in_err-bind_items-clause-size : goal.returns-in_err-bind_items-clause-size
-returns-in_err-bind_items-clause-size c =
-    let own = c.args.own.now in
-    let other = c.args.other.now in
-    let world = c.args.world.0 in
-    let other_world = c.args.other_world.0 in
-    let m = c.args.matches.now in
-    let carried = c.in_ok-carried.carried in
-    let fates = first_fates own other m.interfaces.items carried in
-    let types = c.in_ok-types.types.items in
-    let defs = c.copy_types.new.added.items in
-    let before = c.in_ok-added.added in
-    let many : c.len.result ≡ length own.types.items = search rules in
-    let none : c.new-defs.result.items ≡ [] = search rules in
-    let copied : AreCopied (length own.types.items) types other.types.items fates [] defs =
-    subst (λ l. AreCopied (length own.types.items) types other.types.items l [] defs) (c.deref-2.ensures.value ∙ c.in_ok-fates.ensures.fates)
-    (subst (λ l. AreCopied (length own.types.items) types other.types.items c.deref-2.result.now l defs) none
-    (subst (λ l. AreCopied (length own.types.items) types l c.deref-2.result.now c.new-defs.result.items defs) c.deref.ensures.value
-    (subst (λ (k : ℕ). AreCopied k types c.deref.result.now c.deref-2.result.now c.new-defs.result.items defs) many c.in_ok-types.ensures.copied)))
-    in
-    let first : IsCarriedOver other carried types defs before = subst (λ (l : List ℕ). IsCarriedOver other carried l defs before) c.deref-3.ensures.value c.in_ok-added.ensures.added in
-    err_so (λ e. e ≡ Size → (w v : World) → world_at own world ≡ Some w → world_at other other_world ≡ Some v → IsTooLong own other world other_world m w v)
-    c.from_residual-in_err-bind_items.result c.in_err-bind_items.field-0.0 c.from_residual-in_err-bind_items.ensures.1
-    (λ is w v at_w at_v. inr (
-      carried,
-      c.in_ok-carried.ensures.numbered,
-      inr (gained_by_count own other m carried c.in_ok-carried.ensures.numbered types defs copied before first world other_world w v
-          (subst (λ (l : List ℕ). AreTooManyGained own other world other_world w v carried fates l (length before.interfaces.items) (length before.types.items)) c.deref-5.ensures.value
-          (subst (λ l. AreTooManyGained own other world other_world w v carried l c.deref-5.result.now (length before.interfaces.items) (length before.types.items))
-          (c.deref-4.ensures.value ∙ c.in_ok-fates.ensures.fates)
-          (c.in_err-bind_items.ensures.size is w v at_w at_v)))),
-    ))
+pub returns-in_err-carried-clause-size : goal.returns-in_err-carried-clause-size
+returns-in_err-carried-clause-size c =
+    err_so (λ e. e ≡ Size → IsTooLongWith c.args.own.now c.args.other c.args.world.0 c.args.other_world.0 c.args.matches.now) c.from_residual.result c.in_err-carried.field-0.0
+    c.from_residual.ensures.1 c.in_err-carried.ensures.size

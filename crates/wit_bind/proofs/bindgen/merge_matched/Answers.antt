@@ -1,22 +1,43 @@
+use Rattle.wit_bind.specs.Merges.{IsMergeRefusal, IsPlanOf}
 use Rattle.wit_bind.proofs.AsItWas.{kept_itself}
 use Rattle.wit_bind.proofs.Growing.{on_err, plan_addable}
 use Rattle.wit_bind.proofs.Growth.{merged_grows, merged_nothing}
 use Rattle.wit_bind.proofs.Merging.{merged_answer, merged_bare, merged_brings, merged_are_the_union, merged_exports, merged_extend, merged_order}
+use Rattle.wit_bind.proofs.MatchedPaths.{all-matched}
+use Rattle.wit_bind.proofs.Outgrown.{refused-so}
+use Rattle.base_lemmas.proofs.Options.{passed as err_is}
 use Rattle.wit_bind.proofs.bindgen.merge_matched.Goals as goal
 
+pub union_of-requires-clause-matches : goal.union_of-requires-clause-matches
+union_of-requires-clause-matches c = all-matched c.args.own.now.resolve c.args.other.resolve c.in_ok-matches.matches c.in_ok-matches.ensures.matched
+
 pub grow-requires : goal.grow-requires
-grow-requires c = plan_addable c.args.own.now c.args.other c.requires.own c.requires.others c.in_ok-added.added c.in_ok-added.keys.keys c.in_ok-added.ensures.ok
+grow-requires c =
+    let plan : IsPlanOf c.args.own.now c.args.other c.in_ok-added.added c.in_ok-added.keys.keys = record {
+      matches = c.in_ok-matches.matches;
+      matched = c.in_ok-matches.ensures.matched;
+      none = c.in_ok-matches.ensures.none;
+      union = c.in_ok-added.ensures.union;
+      few = c.in_ok-added.ensures.few;
+    } in
+    plan_addable c.args.own.now c.args.other c.requires.own c.requires.others c.in_ok-added.added c.in_ok-added.keys.keys plan
 
 pub returns-clause-merged : goal.returns-clause-merged
 returns-clause-merged c =
     let own = c.args.own.now in
     let other = c.args.other in
     let new = c.grow.new.self in
-    let plan = c.in_ok-added.ensures.ok in
-    let unites = c.in_ok-added.ensures.united in
+    let unites = c.in_ok-matches.ensures.united in
     let grown = c.in_ok-grow.ensures.ok in
     let added = c.in_ok-added.added in
     let keys = c.in_ok-added.keys.keys in
+    let plan : IsPlanOf own other added keys = record {
+      matches = c.in_ok-matches.matches;
+      matched = c.in_ok-matches.ensures.matched;
+      none = c.in_ok-matches.ensures.none;
+      union = c.in_ok-added.ensures.union;
+      few = c.in_ok-added.ensures.few;
+    } in
     let all = merged_are_the_union own other new c.requires.own c.requires.others unites added keys plan grown in
     record {
       united = unites;
@@ -32,5 +53,17 @@ returns-clause-merged c =
       answer_is = merged_answer own other new c.requires.own c.requires.others unites added keys plan grown;
     }
 
+pub returns-in_err-matches-clause-kept : goal.returns-in_err-matches-clause-kept
+returns-in_err-matches-clause-kept c = on_err (kept_itself c.args.own.now) c.from_residual.result
+
 pub returns-in_err-added-clause-kept : goal.returns-in_err-added-clause-kept
-returns-in_err-added-clause-kept c = on_err (kept_itself c.args.own.now) c.from_residual.result
+returns-in_err-added-clause-kept c = on_err (kept_itself c.args.own.now) c.from_residual-in_err-added.result
+
+pub returns-in_err-added-clause-refusal : goal.returns-in_err-added-clause-refusal
+returns-in_err-added-clause-refusal c =
+    let own = c.args.own.now in
+    let other = c.args.other in
+    let error = c.in_err-added.field-0.0 in
+    err_is (IsMergeRefusal own other) c.from_residual-in_err-added.result error c.from_residual-in_err-added.ensures.1
+    (refused-so own other c.requires.own c.requires.others c.in_ok-matches.ensures.united c.in_ok-matches.matches c.in_ok-matches.ensures.matched (IsMergeRefusal own other) tt (λ h. h)
+    error c.in_err-added.ensures.refuses c.in_err-added.ensures.size)
