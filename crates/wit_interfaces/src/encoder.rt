@@ -280,9 +280,9 @@ impl<'a> InterfaceEncoder<'a> {
     ///
     /// Of each interface that it uses, an instance stands, since it has been imported. A type of another interface gets an alias in the component
     /// type when it is first met, which later calls use, too, and no other type does. No instance stands by this call alone. After a refusal the
-    /// encoder is as it was, but for such aliases that have been made. `Size` comes only where a type that is met from the interface, or a function of it, doesn't fit in
-    /// 32 bits by itself, where there are too many of them (two declarations for each type number that is met, each once, and two for each
-    /// function), or where the component type, after such aliases have been made, has no room for one more alias or instance type.
+    /// encoder is as it was, but for such aliases that have been made. `Size` comes only where a type that is met, or a function, doesn't fit in 32
+    /// bits by itself, or the declarations are more than 4,294,967,295 (`encode_types` counts them), or where the component type, after such
+    /// aliases have been made, has no room for one more alias or instance type.
     ///
     /// Takes as long as encoding the types and functions and sorting the functions, with a search in an ordered map for each.
     pub fn encode_instance(&mut self, interface: InterfaceId) -> Result<u32, Error>
