@@ -128,10 +128,10 @@ impl<'a> Senses<'a> {
 
     /// Whether a place of the first `Resolve` and a place of the second have the same sense. Something stands at both places.
     ///
-    /// Interfaces have the same sense where their types' names, declarations and external ids, and their functions' names,
-    /// signatures and external ids are the same; worlds, where the keys, items and external ids of their imports are, and those of
-    /// their exports; imports, where items and external ids are, whatever their keys. A named type stands for its place and its
-    /// name and isn't opened. Order, documentation and stability play no part. Places of different sorts never have the same sense.
+    /// Interfaces have the same sense where their types' names, declarations and external ids are the same, and their functions'
+    /// names, signatures and external ids. Worlds have it where the keys, items and external ids of imports are the same, and those
+    /// of exports, and imports where items and external ids are, whatever their keys. A named type stands for its place and name and
+    /// isn't opened. Order, documentation and stability play no part. Places of different sorts never have the same sense.
     ///
     /// Refuses `Memory` alone; then, too, the two stay as they were, and more may be compared.
     ///

@@ -234,9 +234,9 @@ pub(crate) fn compare(
 /// compared with every name opened, down to resources; external ids, documentation and stability play no part. The `Resolve` is
 /// valid, and the worlds are in range. The `Resolve` is given up, whatever is answered.
 ///
-/// Refuses, the first of these that holds: `OtherPackage` where the packages differ in namespace or name; `TwiceWithoutVersion`
-/// where two keys of one list are equal without version, prev's imports and exports first; `Missing` and `Differs`, of the first
-/// import of prev, and then the first export of new, that the other lacks or has otherwise, by `key` or `key/item`. And `Memory`.
+/// Refuses with the first of these that holds. `OtherPackage`: the packages differ in namespace or name. `TwiceWithoutVersion`: two
+/// keys of one list are equal without version, prev's imports and exports first. `Missing` or `Differs`, by `key` or `key/item`: the
+/// first import of prev, and then the first export of new, that the other lacks or has otherwise. Besides, `Memory`.
 ///
 /// Each pair of type numbers is compared once, and the look-ups are hashed. Interfaces and keys go by number: the path of an interface
 /// is made once, and the text of a key is hashed with each item and not with each type and function in it. So the time goes with the size

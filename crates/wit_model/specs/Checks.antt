@@ -88,8 +88,8 @@ names_fit = record {
   type_ = free;
 }
 
--- the second part of the rule on the order of types: a named type stands in its owner's list under its name, and under no other;
--- an unnamed type has no owner; an owner's list holds named types of that owner alone
+-- The second part of the rule on the order of types. A named type stands in its owner's list under its name, and under no other.
+-- An unnamed type has no owner, and an owner's list holds named types of that owner alone.
 unfoldable pub listings : Rule
 listings = record {
   package_ = free;
