@@ -63,9 +63,9 @@ IsHomeIn count owner.None = Unit {0}
 abbrev pub is_named_at : Resolve → ℕ → Bool
 is_named_at r n = option_map_or (λ i. is_some i.name) (interface_at r n) false
 
--- What becomes of a type of this owner in what the bound world gains, own types of the bound world aside. Types of the other's bound world, and of inline
--- interfaces that are gained, are copied; those of interfaces with a name stay what they were; no item of the bound world names types of other worlds, or of
--- their inline interfaces.
+-- What becomes of a type of this owner in what the bound world gains, own types of the bound world aside. Types of the other's bound world, and
+-- of inline interfaces that are gained, are copied. Those of interfaces with a name stay what they were. No item of the bound world names types
+-- of other worlds, or of their inline interfaces.
 abbrev pub second_in : Resolve → ℕ → ℕ → List Bool → List ℕ → TypeOwner → Fate → Fate
 second_in other world other_world copied interfaces (owner.Interface id) before =
     if flag_under copied id.0 then fate.Copied (owner.Interface (record { 0 = number_under interfaces id.0 })) else

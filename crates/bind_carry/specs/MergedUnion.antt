@@ -30,9 +30,9 @@ NoOwnInterfaceAtPath own other =
     (n : ℕ) (i : Interface) (k : ℕ) (x : World) (path : Text) → interface_at own n ≡ Some i → path_of_interface own i ≡ Some path → world_at other k ≡ Some x
     → is_root_world other x ≡ false → path_of_world other x ≡ Some path → ⊥
 
--- Where what is matched has one name, or one path and one sense, where the bound worlds don't clash, no path is of an interface and of a world, and no list
--- gets
--- too long, what a union adds, once it is added, is the other merged into the own one, all but its world `root:root/root`.
+-- What a union adds, once it is added, is the other merged into the own one, all but its world `root:root/root`. This is so where what is
+-- matched has one name, or one path and one sense, and the bound worlds don't clash. It also needs that no path is of an interface and of a
+-- world, and that no list gets too long.
 abbrev pub UnionsAreMerged : Type 0
 UnionsAreMerged = (own other merged : Resolve) (world other_world : ℕ) (m : Matches) (w v : World) (added : Added) (keys : List WorldKey)
     (u : IsUnionOf own other world other_world m w v added keys) → IsValid own → IsValid other →

@@ -16,8 +16,8 @@ pub fn added_distinct()
     ensures { UnionsHaveDistinctKeys }
 {}
 
-/// Where no export has the key of another, the other's exports are all added, under the keys that `union_of` answers, in their order; and once all is added
-/// they stand behind what was exported, and these keys have the labels and the paths that those of the other's exports have in the other.
+/// Where no export has the key of another, the other's exports are all added, under the keys that `union_of` answers, in their order. Once all
+/// is added, they stand behind what was exported. These keys have the labels and paths that those of the other's exports have in the other.
 pub fn added_keys()
     ensures exports { ExportsAreAdded }
     ensures behind { ExportsComeBehind }

@@ -16,9 +16,9 @@ pub fn first_pass()
     ensures worlds { FirstWorldsAreCopied }
 {}
 
-/// So is what the bound world gains, where the two bound worlds don't clash: it gains the items whose keys it hasn't, with copies of their inline interfaces and
-/// their types, and for each of the others an own one stands. Behind own ones there are no other types, interfaces and worlds than copies of the two passes.
-/// The whole is a merge, where packages stand as in one and no list is too long.
+/// So is what the bound world gains, where the two bound worlds don't clash. It gains the items whose keys it hasn't, with copies of their
+/// inline interfaces and their types. For each of the others an own one stands. Behind own ones there are no other types, interfaces and worlds
+/// than copies of the two passes. The whole is a merge, where packages stand as in one and no list is too long.
 pub fn second_pass()
     ensures copied { SecondIsCopied }
     ensures joined { SecondIsJoined }
@@ -26,8 +26,8 @@ pub fn second_pass()
     ensures merged { PassesAreMerged }
 {}
 
-/// What `union_of` answers can be added where packages are matched by name; and once it is added, it is carried by path so, where what is matched has one
-/// name, or one path and one sense, and the bound world has gained so, where the two bound worlds don't clash.
+/// What `union_of` answers can be added where packages are matched by name. Once it is added, it is carried by path so, where what is matched
+/// has one name, or one path and one sense. Where besides the two bound worlds don't clash, the bound world has gained so.
 pub fn of_unions()
     ensures first { UnionsHaveTheFirst }
     ensures second { UnionsHaveTheSecond }

@@ -9,8 +9,9 @@ use Rattle.wit_metadata.specs.Modules.{Carries, Framed, IsInFront, module_preamb
 use Rattle.bind_sections.specs.SectionBindings.{IsBoundBy}
 use Rattle.bind_sections.specs.Steps.{IsDataInFront}
 
--- With what the first sections of a module bind, these bindings are reached, and these bytes of it are left: behind the preamble those of a module that
--- carries no world; a section that carries none leaves them as they are; and what the data of one binds that carries a world is merged with them.
+-- With what the first sections of a module bind, these bindings are reached, and these bytes of it are left. Behind the preamble, the
+-- bindings are those of a module that carries no world. A section that carries none leaves them as they are. What the data of one
+-- binds that carries a world is merged with them.
 pub data IsReached (input : List ℕ) : Bindgen → List ℕ → Type 0 where
   begun : (b : Bindgen) (rest : List ℕ) → input ≡ module_preamble ++ rest → IsRoot b → IsReached input b rest
   passed : (b : Bindgen) (bytes rest : List ℕ) (f : Framed) → IsReached input b bytes → IsInFront bytes f rest → (Carries f → ⊥) → IsReached input b rest

@@ -132,14 +132,14 @@ pub(crate) fn bindings(alloc: Global, bytes: &[u8], count: &mut usize) -> Result
 /// begins with `component-type`, one after the other. The data of such a section binds the world that it means by itself, with the string encoding that it says
 /// for each function. Package 0 is `root:root`. The module that is answered has the other sections, in order, with their ids and contents.
 ///
-/// The first refusal in the order of the bytes ends the call: `NotAModule` where they don't begin as a core module; of a section's data, `Historical`
-/// where it begins with the byte 3, `NoReading` where it means no one world, at offset 0 with `Truncated` where it is empty, and else that of its encoding,
-/// which is missing or not known; `Clash` where what it binds clashes with what was bound before; `BadModule` at the offset where no section stands, or a custom one
-/// without a name. Beside these it refuses with `Memory`, and with `Size` only where a list of what the sections in front have bound would pass 4,294,967,295 with all that may
-/// come of the next one, as `Bindgen::merge` does.
+/// The first refusal in the order of the bytes ends the call. `NotAModule`: they don't begin as a core module. `Historical`: a section's data
+/// begins with the byte 3. `NoReading`: it means no one world, at offset 0 with `Truncated` where it is empty. Else it is refused for its
+/// encoding, which is missing or not known. `Clash`: what it binds clashes with what was bound before. `BadModule`: at the offset stands no
+/// section, or a custom one without a name. Beside these it refuses with `Memory`, and with `Size` only where a list of what the sections in
+/// front have bound would pass 4,294,967,295 with all that may come of the next one, as `Bindgen::merge` does.
 ///
-/// Takes time linear in the module, with hashed look-ups, and for each section that carries a world as long as it takes to decode the world and to merge it, whatever
-/// was bound before; memory for the bindings, the names of their packages, and the module.
+/// Takes time linear in the module, with hashed look-ups. Each section that carries a world adds the time to decode the world and to merge it,
+/// whatever was bound before. Takes memory for the bindings, the names of their packages, and the module.
 pub fn decode(alloc: Global, bytes: &[u8]) -> Result<(Option<Vec<u8>>, Bindgen), Error>
     ensures bound { IfOk result (λ x. IsBound bytes.now (binding_of x.1)) }
     ensures valid { IfOk result (λ x. IsBindgen x.1) }

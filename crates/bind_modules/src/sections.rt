@@ -9,14 +9,14 @@ use wit_bind::{Bindgen, ModuleMetadata};
 use wit_metadata::encoding_in;
 use wit_model::{Cause, Error};
 
-/// What the data of one section that carries a world binds to a module (wit-component README, "Custom Section Format"): the world that the data means
-/// by itself, and the string encoding that it says, for each function that the world imports or exports.
+/// What the data of one section that carries a world binds to a module (wit-component README, "Custom Section Format"). That is the world that
+/// the data means by itself, and the string encoding that it says, for each function that the world imports or exports.
 ///
 /// The `Resolve` is valid, without documentation, and holds the world, under the number 0, with what it shows, and nothing beyond that; it has no more
 /// types than there are bytes.
 ///
-/// Takes as long as `decode_world`. Refuses with `Historical` what begins with the byte 3; with `NoReading` what means no one world, at offset 0
-/// with `Truncated` where it is empty; what means one as `encoding_in` refuses it, whose encoding is missing or not known; and with `Memory`.
+/// Takes as long as `decode_world`. Refuses with `Memory`, and with `Historical` what begins with the byte 3. `NoReading`: the data means no one
+/// world, at offset 0 with `Truncated` where it is empty. What means one is refused as by `encoding_in` if its encoding is missing or not known.
 pub(crate) fn decode_section(alloc: Global, section: &[u8]) -> Result<Bindgen, Error>
     ensures binds { IfOk result (IsBoundBy section.now) }
     ensures refuses { IfErr result (RefusesSection section.now) }

@@ -42,8 +42,8 @@ abbrev pub TellsSection : List ℕ → Option ℕ → Type 0
 TellsSection input (Some number) = IsRefusedSection input number
 TellsSection input None = RefusesNoSection input
 
--- What a refusal says where so many sections that carry worlds have been bound: for want of memory or of size, nothing of sections; of what is no module, or
--- of bytes that begin no section, that no section is refused; and else that the next one is.
+-- What a refusal says where so many sections that carry worlds have been bound. For want of memory or of size, it says nothing of sections. Of
+-- what is no module, or of bytes that begin no section, it says that no section is refused. Else it says that the next one is.
 abbrev pub Blames : List ℕ → ℕ → Error → Type 0
 Blames input number errors.Memory = Unit {0}
 Blames input number errors.Size = Unit {0}

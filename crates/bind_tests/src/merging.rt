@@ -137,7 +137,7 @@ fn outcome(alloc: Global, own: &mut Bindgen, other: Bindgen) -> Result<String, E
     }
 }
 
-/// What is merged onto the empty root world, and then what is merged onto that, in which encoding; and what comes of it: the keys that are
+/// What is merged onto the empty root world, and then what is merged onto that, in which encoding. And what comes of it: the keys that are
 /// answered or the refusal, how many interfaces, worlds and types there are, the encodings, and the texts of the packages.
 struct Row {
     first: Option<Sample>,

@@ -8,7 +8,9 @@ ghost use Rattle.wit_model.specs.Valid.{IsValid};
 
 use crate::answer::Answer;
 use crate::encodings::{letters, put_letters};
+use bind_json::bindgen_listing;
 use std::alloc::Global;
+use wit_bind::Bindgen;
 use wit_component::laws::semver_check_counted;
 use wit_component::{
     Cause, Check, ComponentBuilder, ComponentType, Error, Fault, ModuleMetadata, OutputToString,
@@ -16,6 +18,7 @@ use wit_component::{
     decode_world, encode, encode_world, is_label, metadata, normalized, same_sense, semver_check,
 };
 use wit_encode::wrapped_world;
+use wit_json::{package_listing, world_listing};
 use wit_metadata::{encoding_in, stripped};
 
 // ---- conditions
@@ -368,4 +371,33 @@ pub fn get(
     let mut words = String::from_str(alloc, " =")?;
     put_letters(resolve, metadata, key, name, &mut words)?;
     Ok(Answer::Words(words))
+}
+
+// ---- JSON
+
+pub fn package_json(
+    alloc: Global,
+    resolve: &Resolve,
+    package: PackageId,
+) -> Result<Answer, Answer> {
+    Ok(Answer::Text(package_listing(alloc, resolve, package)?))
+}
+
+pub fn world_json(alloc: Global, resolve: &Resolve, world: WorldId) -> Result<Answer, Answer> {
+    Ok(Answer::Text(world_listing(alloc, resolve, world)?))
+}
+
+/// A world with encodings of its functions, as what a module binds.
+pub fn bound_json(
+    alloc: Global,
+    resolve: Resolve,
+    world: WorldId,
+    metadata: ModuleMetadata,
+) -> Result<Answer, Answer> {
+    let bound = Bindgen {
+        resolve,
+        world,
+        metadata,
+    };
+    Ok(Answer::Text(bindgen_listing(alloc, &bound)?))
 }

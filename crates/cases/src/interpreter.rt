@@ -283,6 +283,37 @@ impl Interpreter {
         }
     }
 
+    fn package_json(&self, alloc: Global, words: &mut Words<'_>) -> Result<Answer, Answer> {
+        let id = words.read();
+        words.end()?;
+        match &self.current {
+            Some(resolve) => calls::package_json(alloc, resolve, id),
+            None => Err(Answer::Unmet("resolve")),
+        }
+    }
+
+    fn world_json(&self, alloc: Global, words: &mut Words<'_>) -> Result<Answer, Answer> {
+        let id = words.read();
+        words.end()?;
+        match &self.current {
+            Some(resolve) => calls::world_json(alloc, resolve, id),
+            None => Err(Answer::Unmet("resolve")),
+        }
+    }
+
+    // Gives the `Resolve` and the encodings up.
+    fn bound_json(&mut self, alloc: Global, words: &mut Words<'_>) -> Result<Answer, Answer> {
+        let id = words.read();
+        words.end()?;
+        let Some(resolve) = self.current.take() else {
+            return Err(Answer::Unmet("resolve"));
+        };
+        match self.metadata.take() {
+            Some(metadata) => calls::bound_json(alloc, resolve, id, metadata),
+            None => Err(Answer::Unmet("module")),
+        }
+    }
+
     fn validity(&self, alloc: Global, word: &[u8]) -> Answer {
         let Some(resolve) = &self.current else {
             return Answer::Unmet("resolve");
@@ -328,6 +359,9 @@ impl Interpreter {
             b"label" => label(words),
             b"module" => self.module(alloc, words),
             b"get" => self.get(alloc, words),
+            b"json" => self.package_json(alloc, words),
+            b"json-world" => self.world_json(alloc, words),
+            b"json-bound" => self.bound_json(alloc, words),
             b"text"
             | b"world-text"
             | b"decode"

@@ -1,6 +1,6 @@
--- The raw forms of a component as far as they are followed, by four levels, none of which holds another of its kind: sections, the types
--- at the top, the declarations of a world or an interface, and those of an instance type. A wrapper of a world is told from the type of
--- an interface by its form (Component Model WIT.md, "Package Format"; Binary.md, "Type Definitions").
+-- The raw forms of a component as far as they are followed, by four levels, none of which holds another of its kind. The levels are
+-- sections, the types at the top, the declarations of a world or an interface, and those of an instance type. A wrapper of a world is
+-- told from the type of an interface by its form (Component Model WIT.md, "Package Format"; Binary.md, "Type Definitions").
 use Rattle.std.specs.Prelude.{◌≡◌, ◌↔◌, ◌<◌, ℕ, zero, suc, ◌^◌, Bool, true, false, IsTrue, ◌&&◌, ◌==◌, nat_eq, nat_lt, if◌then◌else◌, List, [], ◌∷◌, length, take, drop, map, Option, Some, None}
 use Rattle.std.specs.List.{starts_with}
 use Rattle.std.specs.Cmp.Lexicographic.{pointwise}

@@ -16,8 +16,8 @@ StandsBefore m many n j = (n < m) ⊎ ((n ≡ m) × (j < many))
 abbrev pub StandsBehind : ℕ → ℕ → ℕ → ℕ → Type 0
 StandsBehind m many n j = (m < n) ⊎ ((n ≡ m) × (many ≤ j))
 
--- The table had so many types when of the scope of this number so many instances and so many imports had been followed: the types that these show and import
--- are among them, and none that a later instance is the first to show, or that a later import names.
+-- The table had so many types when of the scope of this number so many instances and so many imports had been followed. The types that
+-- these show and import are among them. None of them is one that a later instance is the first to show, or that a later import names.
 pub record IsCut (t : Tables) (ws : List NumberedScope) (m instances imports c : ℕ) : Type 0 where
   pub views_before : (n j : ℕ) (i : NumberedInstance) → IsInstanceAt ws n j i → StandsBefore m instances n j → (y : NumberedType) → Contains i.view.types y
       → part_of y.slot < 14 + c

@@ -28,8 +28,9 @@ pub record HoldsFound (found : Option PackageMeaning) (r : Resolve) (n : ℕ) : 
   pub is : found ≡ Some meaning
   pub meant : (m : PackageMeaning) → Meant r n m ↔ (found ≡ Some m)
 
--- The bytes mean a package, and the `Resolve` is valid, without documentation and with no stability known; its package of this number means just what
--- they do, nothing stands there beyond that, each other package lists its interfaces in the order of their numbers, and there are no more types than bytes.
+-- The bytes mean a package, and the `Resolve` is valid, without documentation and with no stability known. Its package of this number means
+-- just what the bytes do, and nothing stands in the `Resolve` beyond that. Each other package lists its interfaces in the order of their
+-- numbers, and there are no more types than bytes.
 pub record IsDecoded (bytes : List ℕ) (r : Resolve) (n : ℕ) : Type 0 where
   pub valid : IsValid r
   pub bare : IsBare r

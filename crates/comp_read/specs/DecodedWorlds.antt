@@ -31,9 +31,9 @@ pub record HoldsWorldFound (found : Option WorldPackage) (r : Resolve) (n : ℕ)
   pub is : found ≡ Some meaning
   pub meant : (m : WorldPackage) → MeantWorld r 0 m ↔ (found ≡ Some m)
 
--- The bytes mean one world, and the `Resolve` is valid, without documentation and with no stability known; its world of this number, which is 0, means
--- just what they do, nothing stands there beyond that, each package lists its interfaces in the order of their numbers, and there are no more types than
--- bytes.
+-- The bytes mean one world, and the `Resolve` is valid, without documentation and with no stability known. Its world of this number, which
+-- is 0, means just what the bytes do, and nothing stands in the `Resolve` beyond that. Each package lists its interfaces in the order of
+-- their numbers, and there are no more types than bytes.
 pub record IsDecodedWorld (bytes : List ℕ) (r : Resolve) (n : ℕ) : Type 0 where
   pub first : n ≡ 0
   pub valid : IsValid r

@@ -179,8 +179,8 @@ NamesFollow parts members r =
     → (front back : List Entry) → entries_of x.1 ≡ front ++ back → (scope : Scope) → steps entry_step new_scope front ≡ Some scope
     → (a b : ℕ) → IsNamedBefore r (shown_until members m y.part scope) a → IsNamedBehind r (shown_until members m y.part scope) b → a < b
 
--- What the bytes export, the `Resolve` follows: its packages, interfaces, functions and worlds stand in that order, so do the types that are named, and all
--- types are numbered in the order in which the bytes declare them, with a name or without.
+-- What the bytes export, the `Resolve` follows: its packages, interfaces, functions and worlds stand in that order, and so do the types
+-- that are named. All types, with a name or without, are numbered in the order in which the bytes declare them.
 pub record FollowsBytes (bytes : List ℕ) (r : Resolve) : Type 0 where
   pub members : List Member
   pub exported : ExportParts bytes members

@@ -1,5 +1,5 @@
--- A world by itself that was followed and read: with the interfaces of its package that it shows it is a package, a plan can be made of that, and it
--- means what the input does (WIT.md, "Worlds"; Component Model WIT.md, "Package Format").
+-- A world by itself that was followed and read: with the interfaces of its package that it shows it is a package. A plan can be made of
+-- that, and the plan means what the input does (WIT.md, "Worlds"; Component Model WIT.md, "Package Format").
 use Rattle.std.specs.Prelude.{◌≡◌, true, List, [], ◌∷◌, map, Some}
 use Rattle.wit_model.specs.Meaning.{WorldPackage}
 use Rattle.comp_bytes.specs.Levels.{Piece}

@@ -38,18 +38,18 @@ fn error_of(refusal: Refusal, length: usize) -> Error
 
 /// The package that the bytes of a component mean (Component Model WIT.md, "Package Format"), and its number in the `Resolve`.
 ///
-/// The `Resolve` is valid, has no documentation and no known stability, and nothing beyond what the package means: its own interfaces and
-/// worlds in the order of the exports at the top, and of other packages the interfaces that are seen, in the order of their numbers, with the functions
-/// of the first view that shows some. Packages and interfaces are numbered in the order in which the bytes show them first, types of interfaces in
-/// that of these, all types with a name in that in which declarations name them first, all types in that in which declarations declare them, and worlds in
-/// that of the exports. An inline interface has its functions in the order of its one view.
-/// It has no more types than there are bytes.
+/// The `Resolve` is valid, has no documentation and no known stability, and nothing beyond what the package means. It has the package's own
+/// interfaces and worlds in the order of the exports at the top. Of other packages it has the interfaces that are seen, in the order of
+/// their numbers, with the functions of the first view that shows some. Packages and interfaces are numbered in the order in which the
+/// bytes show them first, types of interfaces in that of these, and worlds in that of the exports. All types with a name are numbered in
+/// the order in which declarations name them first, and all types in that in which declarations declare them. An inline interface has its
+/// functions in the order of its one view. It has no more types than there are bytes.
 ///
-/// Takes time linear in the bytes, expected, or n log n where types are used of an interface that shows more than a few, and memory linear in what is
-/// declared. Refuses with `NoReading` exactly where the bytes mean no package, at an offset that is at most their length: with the cause of
-/// `component_of` or `follow_parts`, and else, at the end of the bytes, `Disagree` where views of an interface differ, `TooDeep` where a type has
-/// more than 100 levels, or `NotWit`. Else refuses with `Memory`, for want of memory: what is numbered by 32 bits takes a byte at least, and `component_of`
-/// refuses 2^32 bytes.
+/// Takes time linear in the bytes, expected, or n log n where types are used of an interface that shows more than a few, and memory linear
+/// in what is declared. Refuses with `NoReading` exactly where the bytes mean no package, at an offset that is at most their length. The
+/// cause is that of `component_of` or `follow_parts`, if one refuses. Else, at the end of the bytes, it is `Disagree` where views of an
+/// interface differ, `TooDeep` where a type has more than 100 levels, or `NotWit`. Else refuses with `Memory`, for want of memory: what is
+/// numbered by 32 bits takes a byte at least, and `component_of` refuses 2^32 bytes.
 pub fn decode(alloc: Global, bytes: &[u8]) -> Result<(Resolve, PackageId), Error>
     ensures decoded { IfOk result (λ x. IsDecoded bytes.now x.0 x.1.0) }
     ensures order { IfOk result (λ x. FollowsBytes bytes.now x.0) }
@@ -68,11 +68,11 @@ pub fn decode(alloc: Global, bytes: &[u8]) -> Result<(Resolve, PackageId), Error
 /// imports and exports, each as the world shows it, and their packages. Those of its own package are the package's, in the order in which the world
 /// shows them first, and all packages and interfaces are numbered in that order. It has no more types than there are bytes.
 ///
-/// Takes time linear in the bytes, expected, or n log n where types are used of an interface that shows more than a few, and memory linear in what is
-/// declared. Refuses with `NoReading` exactly where the bytes mean no one world, at an offset that is at most their length: with the cause of
-/// `component_of` or `follow_parts`, and else, at the end of the bytes, `Disagree` where there is one world and views of an interface differ,
-/// `TooDeep` where a type has more than 100 levels, or `NotWit`, so where a package has another member beside the world, or where the world shows an
-/// interface under its own path. Else refuses with `Memory`, as `decode` does.
+/// Takes time linear in the bytes, expected, or n log n where types are used of an interface that shows more than a few, and memory linear in
+/// what is declared. Refuses with `NoReading` exactly where the bytes mean no one world, at an offset that is at most their length. The cause is
+/// that of `component_of` or `follow_parts`, if one refuses. Else, at the end of the bytes, it is `Disagree` where there is one world and views
+/// of an interface differ, `TooDeep` where a type has more than 100 levels, or `NotWit`. So it is `NotWit` where a package has another member
+/// beside the world, or where the world shows an interface under its own path. Else refuses with `Memory`, as `decode` does.
 pub fn decode_world(alloc: Global, bytes: &[u8]) -> Result<(Resolve, WorldId), Error>
     ensures decoded { IfOk result (λ x. IsDecodedWorld bytes.now x.0 x.1.0) }
     ensures order { IfOk result (λ x. FollowsBytes bytes.now x.0) }

@@ -31,8 +31,8 @@ pub fn read_members_stand()
     ensures { ReadMembersStand }
 {}
 
-/// Where the views of each interface agree and are what one may have, each type that is shown is a name of its place in the table, behind what it is
-/// declared as, and each name that is met is of the place itself or of an interface with a path.
+/// Where the views of each interface agree and are what one may have, each type that is shown is a name of its place in the table, behind
+/// what it is declared as. Then each name that is met is of the place itself or of an interface with a path.
 pub fn read_members_are_in()
     ensures { ReadMembersAreIn }
 {}

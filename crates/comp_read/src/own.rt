@@ -89,8 +89,8 @@ fn interfaces_among<'a>(
     Ok(members)
 }
 
-/// The interfaces of a world's own package that the world shows, each once, in the order in which it shows them first, as if it were exported at the
-/// top (Component Model WIT.md, "Package Format"): under its name, by the first view that the world gives, with no imports.
+/// The interfaces of a world's own package that the world shows, each once, in the order in which it shows them first (Component Model WIT.md,
+/// "Package Format"). Each stands as if it were exported at the top: under its name, by the first view that the world gives, with no imports.
 ///
 /// `homes` has for each place the package by its number, and the name of the interface, if the place has a path; `package_number` is that of the
 /// world's package. Takes time linear in the instances of the world, expected, and as much memory. Refuses for want of memory alone.

@@ -5,7 +5,7 @@ ghost use Rattle.encode_names.specs.NameLaws.{NamesAreRead};
 ghost use Rattle.encode_names.specs.Rebuilt.{ImportsAreKnown, TypesComeLast};
 ghost use Rattle.encode_names.specs.WorldSteps.{AliasesAreNames, EntriesAreRebuilt, FunctionsAreShown, InstancesStand, InterfacesAreShown, NothingIsShown, SlotsLeaveEntries, TypesAreFound, TypesAreShown, WorldsAreShown};
 
-/// The name of each import and each export of a valid world says which it is, with canonical names and without: that of an interface is
+/// The name of each import and each export of a valid world says which it is, with canonical names and without. That of an interface is
 /// read as the key of its instance, and that of a function or a type is its key.
 pub fn names_are_read()
     ensures { NamesAreRead }
@@ -38,7 +38,7 @@ pub fn imports_are_rebuilt()
 {}
 
 /// The instances of such a component type are those of the interfaces among its imports, and then of those among its exports. What shows an
-/// interface has each named type of it under its name, in the slot of that name; so an alias of one, by an instance of the interface, takes
+/// interface has each named type of it under its name, in the slot of that name. So an alias of one, by an instance of the interface, takes
 /// the slot of the type's name, and changes nothing that is shown.
 pub fn instances_stand()
     ensures stand { InstancesStand }

@@ -19,8 +19,8 @@ use Rattle.encode_types.specs.Maps.{HasKey, LacksKey, NamesGrow}
 use Rattle.encode_types.specs.Plan.{foreign_owner}
 use Rattle.encode_types.specs.Scope.{Scope, exported_name}
 
--- the slots of the value types that have been defined in a scope, those that have been exported under a name, and those of the types of
--- functions that have been defined, each in order; and which declarations have been exported, in order
+-- The slots of the value types that have been defined in a scope, those that have been exported under a name, and those of the types of
+-- functions that have been defined, each in order. Besides, which declarations have been exported, in order.
 pub record Definitions : Type 0 where
   pub types : List ℕ
   pub exported : List ℕ
@@ -130,9 +130,9 @@ pub record IsTarget (r : Resolve) (m : TypeEncodingMaps) (i : ℕ) : Type 0 wher
   pub alias : def.kind ≡ kind.Type_ (ty.Id target)
   pub index : Contains m.id_to_index.entries (target.0, i)
 
--- What has been defined is what the maps have learnt: a slot for each unnamed kind, which is that of the kind, and one for each named type of
--- the place that has a definition of its own, which is exported under that name, each once. What else has been exported is another name of
--- what is known.
+-- What has been defined is what the maps have learnt, each once. For each unnamed kind it is a slot, which is that of the kind. For each
+-- named type of the place that has a definition of its own it is a slot, which is exported under that name. What else has been exported is
+-- another name of what is known.
 pub record AddsSlots (r : Resolve) (scope : Scope) (m m' : TypeEncodingMaps) (d d' : Definitions) : Type 0 where
   pub added : Marked
   pub targets : Marked

@@ -148,9 +148,9 @@ targets_of (Declarations.instance inner rest) = targets_of rest
 abbrev pub value_slots : Declarations → List ℕ
 value_slots ds = slots_from is_value_type 0 ds
 
--- Which value types are defined where the slots stand for this, and what for: in a slot of its own each kind of unnamed types that the types
--- and functions meet, which is exported under no name; and in a slot of its own each type of the list that has a definition under its name, which
--- is exported once. There is no other.
+-- Which value types are defined where the slots stand for this, and what for. Each kind of unnamed types that the types and functions meet has a
+-- slot of its own, which is exported under no name. Each type of the list that has a definition under its name has a slot of its own, which is
+-- exported once. There is no other.
 pub record DefinesTypes (r : Resolve) (own : Option InterfaceId) (S : Pairs) (types : List TypeId) (functions : List Function)
     (declared : Declarations) : Type 0 where
   pub kinds : List TypeDefKind

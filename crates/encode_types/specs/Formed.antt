@@ -16,8 +16,8 @@ abbrev pub has_key : List Tree → Bool
 has_key [] = false
 has_key (t ∷ ts) = is_key t
 
--- Whether a form with its children is well-formed: records, variants, flags, enums and tuples aren't empty, a fixed length is at least 1, a map's key is
--- directly a primitive that serves as one, a handle is of a resource, and nothing else is.
+-- Whether a form with its children is well-formed. Records, variants, flags, enums and tuples aren't empty, and a fixed length is at least 1. A
+-- map's key is directly a primitive that serves as one. A handle is of a resource, and nothing else is.
 abbrev pub is_formed_node : Names → Form → List Tree → Bool
 is_formed_node resources (record_of labels) ts = is_filled labels && are_values resources ts
 is_formed_node resources (variant_of cases) ts = is_filled cases && are_values resources ts

@@ -5,10 +5,10 @@
 //! parts, is defined only where the maps lack it, and then it is in the maps. What a function is named after it defines at each call. The caches of
 //! a future and a stream without an element are filled by `encode_unit_future` and `encode_unit_stream` alone, also where a call is refused.
 //!
-//! `Error::Size` comes only from a call of the encoder, for what has no room in the encoder that is left: the definition, the name or the
-//! import of a type that is met from those asked for, or what the function is named after. By then the encoder holds what it held, and less
-//! than what these take and wasn't known: two for a type that is defined under its name, one for each kind of unnamed types, one for each other
-//! type, and one for what the function is named after. Every other refusal is `Error::Memory`.
+//! `Error::Size` comes only from a call of the encoder, for what has no room in the encoder that is left. That is the definition, the name or
+//! the import of a type that is met from those asked for, or what the function is named after. By then the encoder holds what it held, and less
+//! than what these take and wasn't known. They take two for a type that is defined under its name, one for each kind of unnamed types, one for
+//! each other type, and one for what the function is named after. Every other refusal is `Error::Memory`.
 
 ghost use Rattle.std.specs.Prelude.{◌≡◌, ◌∷◌, [], map, option_map, option_to_list, option_copied, length, ◌<◌, IfOk, OnOk, IfSome, Ok, Err, Some, None, is_some, is_none, true, IfErr};
 ghost use Rattle.std.specs.List.{AllZip};

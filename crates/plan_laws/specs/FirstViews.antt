@@ -21,8 +21,8 @@ pub record IsRisingView (t : Tables) (q : ℕ) (v : NumberedView) : Type 0 where
   pub shapes : AllZip (IsNumberOf t q) v.types numbers
   pub rise : are_rising numbers ≡ true
 
--- The views of what was followed: each obeys the rules on interfaces, an inline interface is viewed once, no place of a view is a world's own, and the
--- names of the first view of a place rise in the table.
+-- The views of what was followed: each obeys the rules on interfaces, and an inline interface is viewed once. No place of a view is a
+-- world's own. The names of the first view of a place rise in the table.
 pub record ViewsAreOrdered (t : Tables) (ms : List Member) : Type 0 where
   pub obey : (s : NumberedSight) → Contains (views_of_members (numbered_members ms)) s → rules.is_interface (place_at t s.place) (view_of t s.view) ≡ true
   pub inline : (i j : ℕ) (s u : NumberedSight) → slice_get (views_of_members (numbered_members ms)) i ≡ Some s

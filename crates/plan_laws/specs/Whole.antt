@@ -18,8 +18,8 @@ abbrev pub PartIsKnown : Tables → (ℕ → Fact) → NumberedPart → Type 0
 PartIsKnown t known (world w) = ScopeStands t known w
 PartIsKnown t known (interface p v imports) = Unit {0}
 
--- What was followed, of a package of this number: what is known of its types is true, each name is a resource wherever it is met, or nowhere, each
--- world and each inline interface has a place of its own, only a path has a home, and the rules of reading on packages hold.
+-- What was followed, of a package of this number: what is known of its types is true, and each name is a resource wherever it is met, or
+-- nowhere. Each world and each inline interface has a place of its own, and only a path has a home. The rules of reading on packages hold.
 pub record IsPackageInput (t : Tables) (h : Homes) (known : ℕ → Fact) (n : ℕ) (ms : List Member) (members : List reads.Member) : Type 0 where
   pub input : IsInput t h ms members
   pub alone : (q : ℕ) → path_at t q ≡ None → home_at h q ≡ None

@@ -31,9 +31,9 @@ pub record IsOfMember (ms : List Member) (c : ℕ) : Type 0 where
   pub among : Contains ms member
   pub is : member.package_number ≡ c
 
--- What was followed is whole: each package is that of a path, of a place or of what is exported, and the package itself is one of them; the labels of
--- what is exported differ; names came into the table in their order, those of the first views and of the imports of worlds; each place under a path is
--- met; and what the component type of an interface imports is reached.
+-- What was followed is whole. Each package is that of a path, of a place or of what is exported, and the package itself is one of them. The
+-- labels of what is exported differ. Names came into the table in their order, those of the first views and of the imports of worlds. Each
+-- place under a path is met, and what the component type of an interface imports is reached.
 pub record IsWholeInput (t : Tables) (h : Homes) (n : ℕ) (ms : List Member) : Type 0 where
   pub packages : ArePackages h.packages
   pub identity : PackageIdentity

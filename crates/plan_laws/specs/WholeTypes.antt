@@ -22,9 +22,8 @@ use Rattle.plan_laws.specs.Whole.{IsPackageInput}
 
 -- ---- what was followed, under the rules
 
--- What was followed obeys the rules: the views of each interface agree, each name is a resource wherever it is met, or nowhere, each world and each inline
--- interface has a place of its
--- own, and only a path has a home.
+-- What was followed obeys the rules: the views of each interface agree, and each name is a resource wherever it is met, or nowhere. Each
+-- world and each inline interface has a place of its own, and only a path has a home.
 pub record IsRuledInput (t : Tables) (h : Homes) (ms : List Member) (members : List reads.Member) : Type 0 where
   pub input : IsInput t h ms members
   pub alone : (q : ℕ) → path_at t q ≡ None → home_at h q ≡ None

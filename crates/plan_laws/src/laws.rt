@@ -47,8 +47,8 @@ pub fn whole_places_are_read()
     ensures { WholePlacesAreRead }
 {}
 
-/// Where all is shown alike and the functions of the plan are read, each unnamed type of it is a part of another or of a function, and each package
-/// but the main one has the home of a place (Component Model WIT.md, "Package Format").
+/// Where all is shown alike and the functions of the plan are read, each unnamed type of it is a part of another or of a function. Then
+/// each package but the main one has the home of a place (Component Model WIT.md, "Package Format").
 pub fn whole_is_kept_for_reasons()
     ensures { WholeIsKeptForReasons }
 {}
@@ -68,8 +68,8 @@ pub fn planned_types_are_whole()
     ensures { PlannedTypesAreWhole }
 {}
 
-/// Where the worlds of the plan show what worlds at the top do, each interface of another package is shown by a world, or imported by the component
-/// type of an interface, and only a world or the package itself shows functions (Component Model WIT.md, "Package Format").
+/// Where the worlds of the plan show what worlds at the top do, each interface of another package is shown by a world, or imported by the
+/// component type of an interface. Then only a world or the package itself shows functions (Component Model WIT.md, "Package Format").
 pub fn foreign_has_reasons()
     ensures { ForeignHasReasons }
 {}
@@ -85,14 +85,14 @@ pub fn whole_is_shown_alike()
     ensures { WholeIsShownAlike }
 {}
 
-/// The worlds of the plan show what worlds at the top do, each view shows the types by which its place is read, and what the component type of an
-/// interface imports is reached (WIT.md, "Worlds"; Component Model WIT.md, "Package Format").
+/// The worlds of the plan show what worlds at the top do, and each view shows the types by which its place is read. What the component type
+/// of an interface imports is reached (WIT.md, "Worlds"; Component Model WIT.md, "Package Format").
 pub fn whole_is_shown()
     ensures { WholeIsShown }
 {}
 
-/// A plan can be made of what was followed of a package, where what the component types of interfaces import shows no functions: parts stand before
-/// what they are parts of, and all that is shown is over the types that are used.
+/// A plan can be made of what was followed of a package, where what the component types of interfaces import shows no functions. Then parts
+/// stand before what they are parts of, and all that is shown is over the types that are used.
 pub fn whole_may_be_planned()
     ensures { WholeMayBePlanned }
 {}
@@ -102,8 +102,8 @@ pub fn planned_functions_are_read()
     ensures { PlannedFunctionsAreRead }
 {}
 
-/// Where the functions of the plan are read, so is each of its worlds, by what the member at the top shows: each item under its key, each function
-/// behind the types that it is over and the resource that it belongs to, and each type behind all that is imported before it (WIT.md, "Worlds").
+/// Where the functions of the plan are read, so is each of its worlds, by what the member at the top shows. Each item is under its key, each
+/// type behind all imported before it. Each function is behind the types that it is over and the resource that it belongs to (WIT.md, "Worlds").
 pub fn planned_worlds_are_read()
     ensures { PlannedWorldsAreRead }
 {}
@@ -113,20 +113,20 @@ pub fn planned_order_is_read()
     ensures { PlannedOrderIsRead }
 {}
 
-/// In what was followed of a package an inline interface is viewed once, no place of a view is a world's, and each world has a place of its own (WIT.md,
-/// "Worlds" and "Interfaces"): so views are in order, where the names of each first one rise in the table.
+/// In what was followed of a package an inline interface is viewed once, no place of a view is a world's, and each world has a place of its
+/// own (WIT.md, "Worlds" and "Interfaces"). So views are in order, where the names of each first one rise in the table.
 pub fn whole_stands_apart()
     ensures { WholeStandsApart }
 {}
 
-/// The plan of what was followed of a package is read as a package, whole, so that a `Resolve` that is built from it is valid and holds nothing
-/// without a reason; and it means what was followed (Component Model WIT.md, "Package Format").
+/// The plan of what was followed of a package is read as a package, whole, so that a `Resolve` that is built from it is valid and holds
+/// nothing without a reason. The plan means what was followed (Component Model WIT.md, "Package Format").
 pub fn plan_is_whole()
     ensures { PlanIsWhole }
 {}
 
-/// Where what was followed of one world, beside the interfaces of its package that it shows, is a package, the plan of that is the plan of one
-/// world, which shows each interface that has a name; and it means what the world does (WIT.md, "Worlds"; Component Model WIT.md, "Package Format").
+/// Let what was followed of one world, beside the interfaces of its package that it shows, be a package. Then its plan is that of one world,
+/// which shows each interface that has a name. The plan means what the world does (WIT.md, "Worlds"; Component Model WIT.md, "Package Format").
 pub fn world_plan_is_whole()
     ensures { WorldPlanIsWhole }
 {}

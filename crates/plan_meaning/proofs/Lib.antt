@@ -92,8 +92,7 @@ pub mod ReadPlans
 pub mod ReadWholes
 -- Lemmas on the numbers of forms. Serves crates above.
 pub mod ShapesLemmas
--- A worked example: the plan of two packages, with uses across them, a resource, an inline interface, a type of a world, an interface under a label, an external id, and an interface of the other
--- package that no world shows. Serves no function, only WholeBuilt.
+-- A worked example: the plan of two packages, with uses across them. Serves no function, only WholeBuilt.
 mod WholePlan
 -- The worked plan of two packages, built: valid, and of the plan's meaning. Serves no function.
 mod WholeBuilt

@@ -1,5 +1,5 @@
--- A worked example: the plan of two packages, with uses across them, a resource, an inline interface, a type of a world, an interface under
--- a label, an external id, and an interface of the other package that no world shows.
+-- A worked example: the plan of two packages, with uses across them. It has a resource, an inline interface, a type of a world, an
+-- interface under a label, an external id, and an interface of the other package that no world shows.
 use Rattle.std.proofs.Common.{◌≡◌, refl, sym, ap, ℕ, zero, suc, Bool, true, false, List, [], ◌∷◌, Option, Some, None, subst}
 use Rattle.std.specs.Prelude.{codes}
 use Rattle.std.specs.List.{list_any}

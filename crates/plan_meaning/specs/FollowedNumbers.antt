@@ -1,6 +1,6 @@
--- What holds of parts that were followed, in numbers: each type that is shown is a name of its place in the table, behind what it is declared
--- as, and each name that is met is of the place itself or of an interface with a path (Binary.md, "Index Spaces" and "Import and Export
--- Definitions").
+-- What holds of parts that were followed, in numbers. Each type that is shown is a name of its place in the table, behind what it is
+-- declared as. Each name that is met is of the place itself or of an interface with a path (Binary.md, "Index Spaces" and "Import and
+-- Export Definitions").
 use Rattle.std.specs.Prelude.{◌≡◌, ◌<◌, ◌≤◌, ◌⊎◌, ◌+◌, ℕ, List, [], ◌∷◌, length, Option, Some, None, slice_get}
 use Rattle.std.specs.List.{AllByRecursion, Contains}
 use Rattle.wit_model.specs.Text.{Text}

@@ -1,4 +1,4 @@
--- The functions of a plan whose types are those of shapes that are kept, where what was read obeys the rules: then each passes tests of its
+-- The functions of a plan whose types are those of shapes that are kept, where what was read obeys the rules. Then each passes tests of its
 -- numbers, its labels, its levels and its resource (WIT.md, "Functions"; Explainer.md, "Import and Export Definitions").
 use Rattle.std.specs.Prelude.{◌≡◌, ℕ, true, List, [], Option, Some, None, slice_get}
 use Rattle.wit_model.specs.declared.model.TypeOwner.{TypeOwner}

@@ -21,8 +21,9 @@ pub data Standing : Type 0 where
   in_place : ℕ → Standing
   in_several : Standing
 
--- What is known of a part beside its shape: its levels, but 102 where there are more, where its names stand, whether no form in it, or below
--- its own, is one that only a named type has, and whether its own labels are labels of which none stands twice.
+-- What is known of a part beside its shape: its levels, but 102 where there are more, and where its names stand. It is also known whether
+-- no form in it, or none below its own, is one that only a named type has. Whether its own labels are labels of which none stands twice is
+-- known too.
 pub record Fact : Type 0 where
   pub levels : ℕ
   pub names : Standing

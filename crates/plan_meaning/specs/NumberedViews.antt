@@ -1,5 +1,6 @@
--- What is shown of interfaces and of worlds, in numbers: a type is a number of a table of shapes, the type of a function a number of a table
--- of these, and a place the number of a path (Binary.md, "Type Definitions" and "Import and Export Definitions"; WIT.md, "Interfaces", "Worlds").
+-- What is shown of interfaces and of worlds, in numbers (Binary.md, "Type Definitions" and "Import and Export Definitions"; WIT.md,
+-- "Interfaces", "Worlds"). A type is a number of a table of shapes, the type of a function a number of a table of these, and a place the
+-- number of a path.
 use Rattle.std.specs.Prelude.{◌≡◌, ℕ, ◌<◌, ◌+◌, Bool, true, false, not, ◌&&◌, ◌||◌, ◌==◌, List, [], ◌∷◌, ◌++◌, length, map, Option, Some, None, option_map, unwrap_or, slice_get}
 use Rattle.std.specs.List.{AllByRecursion, Contains, list_all, find}
 use Rattle.std.specs.Option.{option_map_or}

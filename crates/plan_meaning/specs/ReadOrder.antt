@@ -1,5 +1,5 @@
--- What stands before what in a plan, as it is read: then each named type stands in its owner's list, interfaces use smaller ones alone, and an item
--- of a world stands behind what it uses (WIT.md, "Interfaces: use" and "Worlds"; Binary.md, "Import and Export Definitions").
+-- What stands before what in a plan, as it is read (WIT.md, "Interfaces: use" and "Worlds"; Binary.md, "Import and Export Definitions").
+-- Then each named type stands in its owner's list, interfaces use smaller ones alone, and an item of a world stands behind what it uses.
 use Rattle.std.specs.Prelude.{◌≡◌, ◌<◌, ℕ, ◌+◌, true, nat_le, List, [], Some, slice_get}
 use Rattle.std.specs.List.{AllZip, Contains, list_all}
 use Rattle.wit_model.specs.declared.model.TypeOwner.{TypeOwner}

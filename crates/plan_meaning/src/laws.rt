@@ -103,7 +103,7 @@ pub fn trees_are_kept()
     ensures { TreesAreKept }
 {}
 
-/// Types of a plan that are those of the shapes that are kept, where what was read obeys the rules, pass the tests on types alone: they
+/// Types of a plan that are those of the shapes that are kept, where what was read obeys the rules, pass the tests on types alone. They
 /// refer to smaller numbers, and have the labels, the shapes, the names and the levels that they may.
 pub fn kept_types_pass()
     ensures { KeptTypesPass }
@@ -130,8 +130,8 @@ pub fn read_interfaces_pass()
     ensures { ReadInterfacesPass }
 {}
 
-/// Where each package of a plan is that of a path, and each interface and each world stands where it was read, packages are apart and list what
-/// is theirs under names that differ, and interfaces and worlds stand in their places.
+/// Let each package of a plan be that of a path, and each interface and each world stand where it was read. Then packages are apart and
+/// list what is theirs under names that differ, and interfaces and worlds stand in their places.
 pub fn read_places_pass()
     ensures { ReadPlacesPass }
 {}
@@ -141,8 +141,8 @@ pub fn read_worlds_pass()
     ensures { ReadWorldsPass }
 {}
 
-/// Where each name was shown in its own place, and each interface uses what was seen before it, named types stand in their owners' lists,
-/// interfaces use smaller ones alone, and each item of a world stands behind what it uses.
+/// Let each name have been shown in its own place, and each interface use what was seen before it. Then named types stand in their
+/// owners' lists, interfaces use smaller ones alone, and each item of a world stands behind what it uses.
 pub fn read_order_passes()
     ensures { ReadOrderPasses }
 {}
@@ -176,14 +176,14 @@ pub fn plans_are_valid()
     ensures { BuiltIsValid }
 {}
 
-/// The main package of a `Resolve` that is built from the plan of a package means exactly what the plan means, and the one world of a
-/// `Resolve` that is built from the plan of a world what that plan means as a world.
+/// The main package of a `Resolve` that is built from the plan of a package means exactly what the plan means. The one world of a
+/// `Resolve` that is built from the plan of a world means exactly what that plan means as a world.
 pub fn plans_are_meant()
     ensures package_ { PackageIsMeant }
     ensures world { WorldIsMeant }
 {}
 
-/// Nothing stands in such a `Resolve` beyond what its package, or its world, means: each interface is reached, each world is one of the
+/// Nothing stands in such a `Resolve` beyond what its package, or its world, means. Each interface is reached, each world is one of the
 /// package, each type is named or a part, and each package but the main one has an interface.
 pub fn nothing_else()
     ensures package_ { PackageStandsAlone }

@@ -127,8 +127,8 @@ fn fits(plan: &Plan) -> bool
     longest <= 0xffff_ffff
 }
 
-/// The plan of all that is exported (Component Model WIT.md, "Package Format"): the types that are used, in the table's order; the interface of
-/// each place that is met, in the order in which they are met first; the worlds, in order; and the packages, by their numbers.
+/// The plan of all that is exported (Component Model WIT.md, "Package Format"). Types that are used stand in the table's order, and the
+/// interface of each place that is met in the order in which they are met first. Worlds stand in order, packages by their numbers.
 ///
 /// A named type is what it is shown as first, of the interface or the world of its place. An interface has the types of the first view of its
 /// place, and the functions of the first that shows some. `homes` has for each place the package by its number, and the name of the interface, if

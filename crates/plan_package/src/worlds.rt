@@ -257,8 +257,8 @@ fn all_worlds<'a>(
     Ok(all)
 }
 
-/// The worlds that are exported, in order, each of the main package under its label (Component Model WIT.md, "Worlds"): of its imports and
-/// exports in order, an interface has the number of its place among `places`, and a type the number that it gets.
+/// The worlds that are exported, in order, each of the main package under its label (Component Model WIT.md, "Worlds"). Of the imports and
+/// exports of each, in order, an interface has the number of its place among `places`, and a type the number that it gets.
 ///
 /// Takes time and memory linear in the imports and exports and in what the functions take, expected. Refuses for want of memory alone, also
 /// where there are more than 2^32 packages or places.

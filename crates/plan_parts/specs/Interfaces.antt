@@ -63,8 +63,8 @@ PlansFunctions t kept resources fs planned = AllZip (IsPlannedFunction (numbered
 
 -- ---- laws
 
--- The functions of an interface that obeys the rules become what they are in the plan, each of the kind that its name says, where the plan has a
--- type for each that is kept, and each resource that is shown is the type of its number.
+-- Let the plan have a type for each that is kept, and each resource that is shown be the type of its number. Then the functions of an
+-- interface that obeys the rules become what they are in the plan, each of the kind that its name says.
 abbrev pub FunctionsAreListed : Type 0
 FunctionsAreListed = (t : Tables) (known : ℕ → Fact) (kept : List ℕ) (p : Plan) → length p.types ≡ length kept → (o : TypeOwner) (q : ℕ) (v : NumberedView)
     → is_interface t known q v ≡ true

@@ -76,8 +76,8 @@ pub record ShowingIsMarked (t : Tables) (marks : ℕ → Bool) (s : NumberedShow
   pub is : name_at t s.part ≡ Some name
   pub marked : IsMarkedAs marks s.part s.declared
 
--- The marks tell which parts are resources: no primitive and no form is, a name is as it is shown, wherever that is, a handle is of one, and
--- nothing else has one as a part, nor does a function take or give one.
+-- The marks tell which parts are resources: no primitive and no form is, and a name is as it is shown, wherever that is. A handle is of a
+-- resource, and nothing else has one as a part, nor does a function take or give one.
 pub record MarksStand (t : Tables) (showings : List NumberedShowing) (signatures : List ℕ) : Type 0 where
   pub marks : ℕ → Bool
   pub primitives : (k : ℕ) → k < 14 → marks k ≡ false

@@ -31,8 +31,8 @@ pub fn marks_are_kept()
     ensures { MarksAreKept }
 {}
 
-/// Where the parts at the top are well-formed, and each name is a resource wherever it is met, or nowhere, marks tell which names are resources:
-/// those of a handle are, and nothing else is over one (Explainer.md, "Type Definitions"; WIT.md, "Interfaces: use").
+/// Where the parts at the top are well-formed, and each name is a resource wherever it is met, or nowhere, marks tell which names are
+/// resources. Those of a handle are, and nothing else is over one (Explainer.md, "Type Definitions"; WIT.md, "Interfaces: use").
 pub fn names_are_marked()
     ensures { NamesAreMarked }
 {}
@@ -42,9 +42,9 @@ pub fn firsts_are_found()
     ensures { FirstsAreFound }
 {}
 
-/// Where the parts at the top are well-formed, and the views of interfaces may be ones, all that they show obeys the rules: each type is a label of
-/// its place, behind what it is declared as, which may be declared there, and each function's type is one that may be there (WIT.md, "Types" and
-/// "Functions").
+/// Where the parts at the top are well-formed, and the views of interfaces may be ones, all that they show obeys the rules. Each type is a
+/// label of its place, behind what it is declared as, which may be declared there. Each function's type is one that may be there (WIT.md,
+/// "Types" and "Functions").
 pub fn shown_obeys()
     ensures { ShownObeysRules }
 {}

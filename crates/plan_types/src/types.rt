@@ -142,8 +142,8 @@ fn planned_type<'a>(
     }
 }
 
-/// The types of the plan for those of the table that are kept, in order: an unnamed one by its form, and a named one by what it is shown as
-/// first, under its name, and of the interface or the world of its place.
+/// The types of the plan for those of the table that are kept, in order. An unnamed one is planned by its form. A named one is planned by
+/// what it is shown as first, under its name, and of the interface or the world of its place.
 ///
 /// Takes time and memory linear in their parts and labels, expected. Refuses for want of memory alone, also where there are more than 2^32
 /// places.

@@ -48,8 +48,8 @@ fn places_of(
 }
 
 /// What the component type of an interface shows (Component Model WIT.md, "Package Format"): the interface that it exports, and the views
-/// that it imports, each of another place and each used by a later one or by the export; or none, if it is not the component type of an
-/// interface.
+/// that it imports. Each of these is of another place, and is used by a later one or by the export. Returns `None` if it is not the
+/// component type of an interface.
 ///
 /// Takes time linear in what is shown, expected, and as much memory as there are imports. Refuses for want of memory alone.
 pub fn interface_of<'a>(

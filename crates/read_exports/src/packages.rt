@@ -62,8 +62,8 @@ fn all_hold(first: bool, second: bool, third: bool, fourth: bool) -> bool
     first && second && third && fourth
 }
 
-/// Whether what is exported is a package (Component Model WIT.md, "Package Format"): all is of the package, the views of each interface agree,
-/// each is what an interface may show, and each interface of the package that is seen is exported itself.
+/// Whether what is exported is a package (Component Model WIT.md, "Package Format"). It is one where all is of the package, the views of
+/// each interface agree, each is what an interface may show, and each interface of the package that is seen is exported itself.
 ///
 /// `homes` has for each place the package by its number, and the name of the interface, if the place has a path. Takes time linear in what is
 /// shown, expected, and in the largest number of a place, and as much memory. Refuses for want of memory alone.

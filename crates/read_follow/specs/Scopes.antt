@@ -237,10 +237,10 @@ pub record IsCounted (w : World) (counts : List ℕ) (j : ℕ) (s : Seen) (c : �
   pub rising : (i b : ℕ) → slice_get counts i ≡ Some b → i < j → b ≤ c
   pub kind : IsCountedAs w counts j c s.shown
 
--- Slots and what is shown are over names of the scope's own place and of those with a path, what is imported stands for its name, and an instance has
--- the place of its key, under which it is imported or exported. Each name that came into the table behind these shapes, among the first so many, is
--- shown, each form is one that a definition may have, and imports came into it in their order. There were so many places before the scope, and no name
--- of its own.
+-- Slots and what is shown are over names of the scope's own place and of those with a path. What is imported stands for its name. An
+-- instance has the place of its key, under which it is imported or exported. Each name that came into the table behind these shapes, among
+-- the first so many, is shown, each form is one that a definition may have, and imports came into it in their order. There were so many
+-- places before the scope, and no name of its own.
 pub record IsPlacedAmong (base : List Shape) (count till : ℕ) (w : World) : Type 0 where
   pub grows : Grows base w.shapes
   pub within : till ≤ length w.shapes
@@ -306,8 +306,8 @@ pub record Numbers (old new : World) : Type 0 where
       → trees_since (meant_at place old) (meant_at place new) ≡ scoped_trees (world_trees place new) parts
   pub scoped : (base : List Shape) (places : ℕ) → IsPlacedWorld base places new → AreScopedIn new parts
 
--- The tables grow, by this many types at most if all that waits is counted, names stay in their places, new places with a path are met, in their order, and
--- the scope becomes what the step of the definition makes of it.
+-- The tables grow, by this many types at most if all that waits is counted, and names stay in their places. New places with a path are met,
+-- in their order. The scope becomes what the step of the definition makes of it.
 pub record Goes (few : ℕ) (step : MeantScope → Option MeantScope) (old new : World) : Type 0 where
   pub world : IsWorld new
   pub shapes_grow : Grows old.shapes new.shapes

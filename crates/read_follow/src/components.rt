@@ -276,13 +276,13 @@ fn are_settled(used: &IndexSet<usize>, slots: &[Slot<'_>]) -> bool
 /// What a component type shows, followed entry by entry.
 ///
 /// Types that it declares or shows are in the tables from now on, and the places of its own names and of those of its instances among the
-/// places; the tables of types grow by no more types than the body has bytes. Takes time linear in the bytes of the body, expected, or n log n
-/// where it has aliases of the types of an instance that shows more than a few; and memory linear in what is declared.
+/// places. The tables of types grow by no more types than the body has bytes. Takes time linear in the bytes of the body, expected, or n
+/// log n where it has aliases of the types of an instance that shows more than a few; and memory linear in what is declared.
 ///
-/// Refuses with `Absent` exactly where the definition shows nothing: `OutOfScope` where no slot or no instance has an index, `BadName` at
-/// a name of another form, or with an attribute, than its kind has, `NotWit` where an index stands for another kind of thing, where an
-/// instance type is used twice or not at all, and at an alias but of a type that an instance of an interface with a path shows; as
-/// `follow_instance` where an instance type shows nothing; else with `Memory`.
+/// Refuses with `Absent` exactly where the definition shows nothing. Among its causes are these. `OutOfScope`: no slot or no instance has an
+/// index. `BadName`: a name has another form than its kind has, or an attribute that its kind doesn't have. `NotWit`: an index stands for
+/// another kind of thing, an instance type is used twice or never, or an alias isn't of a type that an instance of an interface with a path
+/// shows. Where an instance type shows nothing, refuses as `follow_instance`. Else refuses with `Memory`.
 pub fn follow_component<'a>(
     alloc: Global,
     table: &mut Table<'a>,

@@ -441,8 +441,8 @@ fn form_key<'a>(
 
 /// What a definition stands for, its indexes followed. Takes time and memory linear in the definition.
 ///
-/// Refuses with `Absent` exactly where it stands for nothing: `OutOfScope` where no slot has an index, `NotWit` where an index stands for
-/// another kind of thing, where a part is missing that has to be there, a length is 0, or a type may not be the key of a map; else with `Memory`.
+/// Refuses with `Absent` exactly where it stands for nothing. `OutOfScope`: no slot has an index. `NotWit`: an index stands for another
+/// kind of thing, a part is missing that has to be there, a length is 0, or a type may not be the key of a map. Else refuses with `Memory`.
 pub fn definition_of<'a>(
     alloc: Global,
     slots: &[Slot<'a>],

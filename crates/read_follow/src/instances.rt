@@ -171,9 +171,9 @@ fn follow_body<'a>(
 /// The slots stand around it, and the marks say of each place whether it is that of an interface with a path. The tables grow by a type for
 /// each declaration at most. Takes time linear in the bytes of the body, and memory linear in what they declare.
 ///
-/// Refuses with `Absent` exactly where the definition shows nothing: `OutOfScope` where no slot has an index, `NotWit` where an index stands
-/// for another kind of thing, at an alias but of the name of an interface with a path in the scope around, and at an export that is no type
-/// or function or whose name has other attributes than an external id; else with `Memory`.
+/// Refuses with `Absent` exactly where the definition shows nothing. Among its causes are these. `OutOfScope`: no slot has an index.
+/// `NotWit`: an index stands for another kind of thing, or an alias isn't of a type of an interface with a path in the scope around.
+/// `NotWit` too: an export is no type or function, or its name has other attributes than an external id. Else refuses with `Memory`.
 pub fn follow_instance<'a>(
     alloc: Global,
     table: &mut Table<'a>,

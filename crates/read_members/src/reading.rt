@@ -138,9 +138,9 @@ fn read_one<'a>(
     }
 }
 
-/// The members that were followed, read as the rules on each alone have them (Component Model WIT.md, "Package Format"): a world under a path
-/// whose last name is its label, by what it shows, if a world may show that; and an interface whose name is its label, by what its component
-/// type shows, with the views that it imports.
+/// The members that were followed, read as the rules on each alone have them (Component Model WIT.md, "Package Format"). A world is read
+/// under a path whose last name is its label, by what it shows, if a world may show that. An interface whose name is its label is read by
+/// what its component type shows, with the views that it imports.
 ///
 /// `homes` has for each place the package by its number, and the name of the interface, if the place has a path; a world's package gets the
 /// next number, if it has none, and no other package gets one. Takes time linear in what is shown and in the paths of worlds, expected, and as

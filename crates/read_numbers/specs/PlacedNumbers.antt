@@ -1,5 +1,5 @@
--- Names in their places, in numbers: the places that what was followed is over, what stands for a name under which it is shown, and the order in
--- which names came into the table (Component Model Binary.md, "Index Spaces" and "Import and Export Definitions").
+-- Names in their places, in numbers (Component Model Binary.md, "Index Spaces" and "Import and Export Definitions"). These are the places
+-- that what was followed is over, what stands for a name under which it is shown, and the order in which names came into the table.
 use Rattle.std.specs.Prelude.{◌≡◌, ◌⊎◌, ◌<◌, ◌≤◌, ◌+◌, ℕ, true, List, length, map, slice_get, Option, Some, None}
 use Rattle.std.specs.List.{AllByRecursion, AllZip}
 use Rattle.wit_model.specs.Text.{Text}

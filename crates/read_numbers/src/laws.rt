@@ -34,9 +34,9 @@ pub fn met_parts_are_seen()
     ensures { MetPartsAreSeen }
 {}
 
-/// What is followed of an input is so in numbers: all that a scope shows is over its own place and places with a path, what is shown stands for its
-/// name, each name of the table is shown, in the order in which it came, instances are those that are imported and exported, each place with a path
-/// is that of one, and forms are as definitions have them.
+/// What is followed of an input is so in numbers. All that a scope shows is over its own place and places with a path, and what is shown
+/// stands for its name. Each name of the table is shown, in the order in which it came. Instances are those that are imported and exported,
+/// each place with a path is that of one, and forms are as definitions have them.
 pub fn places_are_kept()
     ensures { PlacesAreKept }
 {}

@@ -11,9 +11,10 @@ use Rattle.read_parts.specs.declared.following.Followed.{Followed}
 use Rattle.read_parts.specs.Followed.{scopes_in, scopes_of}
 use Rattle.read_parts.specs.Members.{member_meant, parts_weight, AreFormed, AreMembersPlaced, AreMembersStaged, AreNamesShown, ArePlacesInOrder, ArePlacesMet, AreNumberedTo, MembersStand}
 
--- The tables are well-formed, with forms as definitions have them, each path is read, names stand in their places and each is shown, each place with a
--- path is met, in their order, and the members stand in the tables for what the parts do, over no more types than the parts' entries make. So each did behind
--- each number of its entries. The types of the table are those that the parts declare, in their order, each over the names of its scope.
+-- The tables are well-formed, with forms as definitions have them, and each path is read. Names stand in their places and each is shown,
+-- and each place with a path is met, in their order. The members stand in the tables for what the parts do, over no more types than the
+-- parts' entries make. So each did behind each number of its entries. The types of the table are those that the parts declare, in their
+-- order, each over the names of its scope.
 pub record ArePartsFollowed (parts : List (Text × PartType)) (x : Followed) : Type 0 where
   pub tables : AreTables (length x.places) x.table x.functions
   pub functions_apart : AreApart x.functions

@@ -215,8 +215,8 @@ abbrev pub IsScopedBy : List Shape → List FunctionShape → List (Option Text)
 IsScopedBy shapes fs paths ms p =
     (m : Member) × (slice_get ms p.0.0 ≡ Some m) × IsScopedIn (world_of shapes fs paths (scope_of m.part)) p.0.1 p.1
 
--- The types of the table are those that the parts declare which aren't left, in the order in which they are declared, and those that are left are still
--- to come: each declares one that is there already, or the next one. Each is over the names of its scope.
+-- The types of the table are those that the parts declare which aren't left, in the order in which they are declared, and those that are
+-- left are still to come. Each declares one that is there already, or the next one. Each is over the names of its scope.
 pub record AreNumberedTo (raws left : List (Text × PartType)) (shapes : List Shape) (fs : List FunctionShape) (paths : List (Option Text))
     (ms : List Member) : Type 0 where
   pub parts : List (DeclaringScope × ℕ)

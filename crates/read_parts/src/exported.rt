@@ -83,10 +83,10 @@ fn distinct_parts_of<'a>(alloc: Global, tops: &Tops<'a>) -> Result<Vec<ExportedP
 
 /// The types at the top by the labels under which they are exported, in the order of the exports (Component Model WIT.md, "Package Format").
 ///
-/// Takes time linear in the numbers of sections, types and exports, and in the texts of the labels, expected, and as much memory as there are
-/// types and exports. Refuses with `Absent` exactly where not each type is exported once, each under a label of its own: `OutOfScope` where no
-/// type has the index of an export, `BadName` at a name that is no label, has an attribute, or is that of an earlier export, `NotWit` where a
-/// type is exported twice or not at all; else with `Memory`.
+/// Takes time linear in the numbers of sections, types and exports, and in the texts of the labels, expected, and as much memory as there
+/// are types and exports. Refuses with `Absent` exactly where not each type is exported once, each under a label of its own. `OutOfScope`:
+/// no type has the index of an export. `BadName`: a name is no label, has an attribute, or is that of an earlier export. `NotWit`: a type
+/// is exported twice or not at all. Else refuses with `Memory`.
 pub fn exported_parts<'a>(
     alloc: Global,
     pieces: &[Piece<'a>],

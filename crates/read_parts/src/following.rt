@@ -105,8 +105,8 @@ fn follow_all<'a>(alloc: Global, parts: &[ExportedPart<'a>]) -> Result<Followed<
     }
 }
 
-/// Follows all parts at the top of a component into one set of tables, in the order of their exports: of a world the path under which its wrapper
-/// exports it and what it shows, and of an interface what its component type shows (Component Model WIT.md, "Package Format").
+/// Follows all parts at the top of a component into one set of tables, in the order of their exports (Component Model WIT.md, "Package Format").
+/// Of a world it follows the path under which its wrapper exports it and what it shows, and of an interface what its component type shows.
 ///
 /// Takes time linear in the bytes of the input, expected, or n log n where types are used of an interface that shows more than a few, and memory
 /// linear in what is declared.

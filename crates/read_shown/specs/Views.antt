@@ -1,5 +1,5 @@
--- Views that are well-formed: each type is shown under its own name, as a resource or a type of values, and each name that is met was shown before,
--- in the view or outside of it (Binary.md, "Import and Export Definitions").
+-- Views that are well-formed. Each type is shown under its own name, as a resource or a type of values. Each name that is met was shown
+-- before, in the view or outside of it (Binary.md, "Import and Export Definitions").
 use Rattle.std.specs.Prelude.{◌≡◌, ◌<◌, ℕ, Bool, true, false, length, slice_get, Some}
 use Rattle.wit_model.specs.Text.{Text}
 use Rattle.wit_model.specs.Tree.{Place, Tree}

@@ -130,8 +130,8 @@ BringsEntries here other olds new news =
     (e : WorldKey × WorldItem) → Contains olds e → is_one_of here (key_text other e.0) ≡ false → (x : WorldKey × WorldItem) × Contains news x
     × (entry_notes new x ≡ entry_notes other e)
 
--- The type of this number is one of the other's, with or without a name: it stands for the same tree, declares the same, and the same is said of it, and of the
--- types without a name that it is made of.
+-- The type of this number is one of the other's, with or without a name. It stands for the same tree and declares the same. The same is said of
+-- it, and of the types without a name that it is made of.
 pub record IsTypeOf (other new : Resolve) (number : ℕ) (t : TypeDef) : Type 0 where
   pub source : ℕ
   pub def : TypeDef

@@ -143,8 +143,8 @@ OwnerIsShown own other (owner.Interface id) = (is_some (interface_path other.res
 OwnerIsShown own other (owner.World id) = id.0 ≡ other.world.0
 OwnerIsShown own other owner.None = ⊥
 
--- A type is gained with its inline interface, or as an import; and with all that is gained, a type without a name, if the owners of all that it is made of are
--- such as items of the bound world have.
+-- A type is gained with its inline interface, or as an import. With all that is gained comes a type without a name, if the owners of all that it
+-- is made of are such as items of the bound world have.
 abbrev pub TypeIsGained : Bindgen → Bindgen → ℕ → Type 0
 TypeIsGained own other n = IsOwnedBy other.resolve.types.items (OwnerIsGained own other) n
     ⊎ (TypeIsImport own other n ⊎ (SomethingIsGained own other × IsMadeUp other.resolve.types.items (OwnerIsShown own other) n))

@@ -1,4 +1,4 @@
--- The canonical part of a version, in the pieces in which it is written (Semantic Versioning 2.0.0, rules 2, 9 and 10).
+-- The canonical part of a version, in the pieces in which it is written (Semantic Versioning 2.0.0, sections 2, 9 and 10).
 use Rattle.std.specs.Prelude.{[], ◌∷◌, ◌++◌, decimal, length, nat_lt, if◌then◌else◌}
 use Rattle.semver.specs.declared.Version.{Version}
 use Rattle.semver.specs.Identifiers.{build_text, pre_text}

@@ -110,8 +110,8 @@ impl EncodingMap {
     }
 
     /// The encoding of a function, by the key under which it, or its interface, is imported or exported and by its name. None where the map has
-    /// none, or the key is of an interface without a path. Takes no memory, and one pass over the texts, expected, or over all keys of the map where
-    /// the function has no key, where its name has a slash, or where the label or the path before it has more than 256 bytes.
+    /// none, or the key is of an interface without a path. Takes no memory, and one pass over the texts, expected. It is one over all keys of
+    /// the map where the function has no key, where its name has a slash, or where the label or the path before it has more than 256 bytes.
     pub fn get(&self, resolve: &Resolve, key: &WorldKey, func: &str) -> Option<StringEncoding>
         ensures { result ≡ encoding_under self.now (function_key resolve.now key.now func.now) }
     {

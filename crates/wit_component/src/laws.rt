@@ -20,9 +20,9 @@ pub use wit_interfaces::laws::{definitions_leave_interfaces, interface_scope_is_
 pub use wit_model::laws::canonical_paths_join;
 pub use wit_print::laws::{interfaces_can_be_given, packages_read, worlds_can_be_given};
 
-/// Of bytes that mean exactly what a package of a `Resolve` does, as those that `encode` answers of a valid package with an interface or a
-/// world: what `decode` answers of them is valid, without documentation, and means that and nothing else; and it refuses them for want of
-/// memory alone.
+/// Bytes may mean exactly what a package of a `Resolve` does, as those do that `encode` answers of a valid package with an interface or
+/// a world. What `decode` answers of such bytes is valid, without documentation, and means that and nothing else. It refuses them for
+/// want of memory alone.
 pub fn decoding_gives_that_meaning()
     ensures decoded { DecodingGivesThatMeaning }
     ensures refused { MemoryAloneIsRefused }

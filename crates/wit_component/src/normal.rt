@@ -15,9 +15,9 @@ use wit_model::{Error, PackageId, Resolve};
 
 /// A package as others read it: encoded, and decoded to a `Resolve` of its own, with its number there.
 ///
-/// That `Resolve` is valid, its package means exactly what this one does, and it holds nothing beyond that: of other packages the interfaces that
-/// the package reaches, each with its functions where a world of the package shows it; no documentation and no known stability. Everything stands in the
-/// order of `decode`.
+/// That `Resolve` is valid, its package means exactly what this one does, and it holds nothing beyond that. Of other packages it holds only the
+/// interfaces that the package reaches, each with its functions where a world of the package shows it. It has no documentation and no known
+/// stability. Everything stands in the order of `decode`.
 ///
 /// Takes as long as `encode` and `decode`, and memory for the bytes. Refuses with `Memory`; with `Size` only where the package weighs more than
 /// 4,294,967,295; and with `NoReading` a package without interface and world alone, since no bytes mean it.

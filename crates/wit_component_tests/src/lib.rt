@@ -1,5 +1,5 @@
-//! Tests over the public names of `wit_component`, of what no line of a case shows: calls one after the other on one encoder or table, large
-//! packages, and the bytes of a package with each value in the place of each.
+//! Tests over the public names of `wit_component`, of what no line of a case shows. These are calls one after the other on one encoder or
+//! table, large packages, and the bytes of a package with each value in the place of each.
 #![tactic(auto)]
 
 #[cfg(test)]

@@ -35,8 +35,8 @@ pub mod Exporting
 pub mod Forming
 -- What a valid `Resolve` gives for encoding. Serves DefinedTypes, Encodable, Extents, MetKinds and 4 more.
 pub mod Validity
--- What is met from the types and functions of an owner is of the owner, or of an interface that it uses: where an instance of each of these stands, all of it can be encoded in the scope of the owner.
--- Serves laws::functions_encode, laws::names_encode, laws::table_scope_is_of_owner, laws::types_encode; crates above.
+-- All that is met from the types and functions of an owner can be encoded in its scope, where an instance of each interface that it uses stands. Serves laws::functions_encode, laws::names_encode,
+-- laws::table_scope_is_of_owner, laws::types_encode; crates above.
 pub mod OwnerScope
 -- What one declaration more leaves of the scope of a world's component type. Serves world::define_function_type, world::defined_type, world::export_resource, world::export_type; crates above.
 pub mod WorldScope

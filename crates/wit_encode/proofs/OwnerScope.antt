@@ -1,5 +1,5 @@
--- What is met from the types and functions of an owner is of the owner, or of an interface that it uses: where an instance of each of
--- these stands, all of it can be encoded in the scope of the owner.
+-- All that is met from the types and functions of an owner can be encoded in its scope, where an instance of each interface that it
+-- uses stands. It is of the owner, or of such an interface.
 use Rattle.std.proofs.Common.{◌≡◌, refl, sym, subst, ap, ◌∙◌, ℕ, ◌<◌, ◌⊎◌, inl, inr, Bool, true, false, not, cond, ◌&&◌, ◌==◌, eq-eqb, List, [], ◌∷◌, length, option_to_list, Option, Some, None, String, unwrap_or, is_some, arith}
 use Rattle.std.proofs.lemmas.Bool.{ltb-true, and_from as both, not-true, or_left as or-first, or_right as or-second}
 use Rattle.std.proofs.lemmas.List.Folds.{list_all-append}

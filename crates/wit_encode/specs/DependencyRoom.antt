@@ -31,8 +31,8 @@ HoldsImports r around interfaces = declaration_count around.declared ≤ length 
 abbrev pub TypesLackRoom : Resolve → InterfaceId → Interface → Type 0
 TypesLackRoom r i def = HasNoRoom r (Some i) (referred (values def.types) []) []
 
--- Why the types of an interface can't be imported: they have no room in an instance type, its path doesn't fit, or the component type, after
--- aliases have been made that they ask for, has no room for the instance type and the import.
+-- Why the types of an interface can't be imported. They have no room in an instance type, or the path of the interface doesn't fit. Or the
+-- component type, after aliases have been made that they ask for, has no room for the instance type and the import.
 pub data LacksImport (r : Resolve) (canonical : Bool) (around : Around) (i : InterfaceId) : Type 0 where
   its_types : (def : Interface) → interface_at r i.0 ≡ Some def → TypesLackRoom r i def → LacksImport r canonical around i
   its_path : fits_name (name_of_interface r canonical i.0) ≡ false → LacksImport r canonical around i

@@ -11,8 +11,8 @@ use Rattle.encode_types.specs.declared.maps.TypeEncodingMaps.{TypeEncodingMaps}
 use Rattle.encode_types.specs.Distinct.{Key, key_of, are_same, KnowsKey}
 use Rattle.encode_types.specs.Room.{Refusals, function_requests, FindsNoRoom}
 
--- A part of a type that is met from these, or one of these functions, has no room. What is held is less than what was held, what some type
--- numbers take that are met and were new, one for each key that was known or is that of a function, and wasn't known, and one for each function.
+-- A part of a type that is met from these, or one of these functions, has no room. What is held is less than a sum. It adds up what was held,
+-- what some type numbers take that are met and were new, one for each key of a function that wasn't known, and one for each function.
 pub record LacksFunctions (r : Resolve) (own : Option InterfaceId) (ts : List ValueType) (fs : List (Text × Function)) (m : TypeEncodingMaps) (before after : ℕ)
     (N : Refusals) : Type 0 where
   pub keys : List Key

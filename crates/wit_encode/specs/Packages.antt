@@ -80,8 +80,8 @@ AddsInterface r canonical e old new = (entries : List Listed) → HoldsInterface
 abbrev pub ListedWorld : Type 0
 ListedWorld = String Global × WorldId
 
--- the wrapper of world n of a package of this name and version: it defines a component type that shows the world, with names whole or canonical, each
--- definition once and no more bytes than the world weighs, and exports it under the world's path, whole
+-- The wrapper of world n of a package of this name and version. It defines a component type that shows the world, with names whole or canonical,
+-- each definition once and no more bytes than the world weighs. It exports that under the world's path, whole.
 pub record WrapsWorld (r : Resolve) (canonical : Bool) (p : PackageIdentity) (n : ℕ) (w : World) (declared : Declarations) : Type 0 where
   pub inner : Declarations
   pub is : declared ≡ wrapper (path_in p (text_of w.name)) inner

@@ -1,5 +1,5 @@
--- Where declarations stand: types before functions, the type of a function just before the first import or export of one that has it, and an
--- instance type just before the import or export of its instance (Component Model Binary.md, "Import and Export Definitions").
+-- Where declarations stand (Component Model Binary.md, "Import and Export Definitions"). Types stand before functions, and the type of a
+-- function just before the first import or export of one that has it. An instance type stands just before the import or export of its instance.
 use Rattle.std.specs.Prelude.{ℕ, ◌≡◌, ◌+◌, ◌++◌, nat_eq, Bool, true, false, not, ◌&&◌, ◌||◌, List, Option, Some, None}
 use Rattle.std.specs.List.{list_all}
 use Rattle.std.specs.Option.{option_map_or}

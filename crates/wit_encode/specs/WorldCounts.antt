@@ -59,12 +59,12 @@ pub record IsAskedBehind (r : Resolve) (es : List Entry) (n t : ℕ) : Type 0 wh
   pub place : length (interfaces_among before) ≡ n
   pub asked : IsAskedBy r entry t
 
--- The component type defines one function type for each key of these functions, in a slot of its own that stands for the key's signature, and
--- one value type for each unnamed kind that these types and functions meet and for each of the types that has a definition of its own, in slots
--- of their own, and no others. It has an instance type
--- for each interface, in order, which does the same for it. Aliases stand there of types that these types, functions and interfaces meet, no type
--- twice, each by the latest instance of its interface that stands before, and behind as many instances as stand before one of the imports and
--- exports that ask for it. The type of a function stands just before the first import or export that has it, and an instance type just before its own.
+-- The component type defines one function type for each key of these functions, in a slot of its own that stands for the key's signature. It
+-- defines one value type for each unnamed kind that these types and functions meet and for each of the types that has a definition of its own,
+-- in slots of their own. It defines no other function types and value types. It has an instance type for each interface, in order, which does
+-- the same for it. Aliases stand there of types that these types, functions and interfaces meet, no type twice. Each is by the latest instance
+-- of its interface that stands before, and behind as many instances as stand before one of the imports and exports that ask for it. The type
+-- of a function stands just before the first import or export that has it, and an instance type just before its own.
 pub record DefinesOnce (r : Resolve) (outer : Declarations) (es : List Entry) : Type 0 where
   pub keys : List Key
   pub function_types : count_declared is_function_type outer ≡ length keys

@@ -21,8 +21,9 @@ use Rattle.wit_encode.specs.WorldItems.{HasShown, IsNext, all_done, begun, entry
 use Rattle.wit_encode.specs.WorldRoom.{WorldLacksRoom, count_among}
 use Rattle.wit_encode.specs.Worlds.{WorldEncoder, brought_numbers, world_around}
 
--- There are at most two declarations for each type number that is known in the component type, one for each named type of a listed interface
--- that has an alias there, and two for each function and interface of these imports and exports. Only their interfaces are listed.
+-- There are at most two declarations for each type number that is known in the component type, and one for each named type of a
+-- listed interface that has an alias there. To these come at most two for each function and interface of these imports and
+-- exports. Only their interfaces are listed.
 pub record HoldsFew (r : Resolve) (e : WorldEncoder) (es : List Entry) : Type 0 where
   pub listed : (i : ℕ) → is_some (known_instance e.foreign.instances.entries i) ≡ true → Contains (interfaces_among es) i
   pub held : declaration_count e.outer ≤ 2 * length e.maps.id_to_index.entries + (length (brought_numbers r (world_around e)) + 2 * count_among es)

@@ -144,16 +144,16 @@ pub record BeginsWith (ns : List ℕ) (outer : Declarations) : Type 0 where
   pub more : List Direction
   pub are : directions_of outer ≡ map direction_at ns ++ more
 
--- What is kept of what a user has in mind: of a list behind zero what it tells of aliases, and behind any other number of imports and exports; and
--- that behind what had been declared stands only what takes a type index.
+-- What is kept of what a user has in mind. Of a list it is, behind zero, what it tells of aliases, and behind any other number, what it tells
+-- of imports and exports. Of what had been declared it is that behind it stands only what takes a type index.
 abbrev pub KeepsTold : Resolve → ℕ → Around → Told → Type 0
 KeepsTold r count around (Told.numbers []) = Unit {0}
 KeepsTold r count around (Told.numbers (zero ∷ ns)) = KeepsListed r count around ns
 KeepsTold r count around (Told.numbers (suc n ∷ ns)) = BeginsWith ns around.declared
 KeepsTold r count around (Told.declared ds) = GrowsBy ds around.declared
 
--- a component type with so many instances, and the maps of its scope; around, its instance types and what it imports and exports of instances; of
--- types of other interfaces stands what has an alias, each by the latest instance of its interface
+-- A component type with so many instances, and the maps of its scope. Around are its instance types and what it imports and exports of
+-- instances. Of types of other interfaces stands what has an alias, each by the latest instance of its interface.
 abbrev pub world_view : Resolve → WorldId → ℕ → Around → TypeEncodingMaps → View
 world_view r w count component maps = record {
   scope = world_scope r w count component;

@@ -91,13 +91,13 @@ fn import_dependencies<'a>(
     Ok(())
 }
 
-/// The component type of an interface (Component Model WIT.md, "Package Format"): it imports the types of each interface that the interface
-/// reaches, each behind those that it uses itself and as an instance by its path, and then exports the interface by its own path. With
+/// The component type of an interface (Component Model WIT.md, "Package Format"). It imports the types of each interface that the interface
+/// reaches, each behind those that it uses itself and as an instance by its path. Then it exports the interface by its own path. With
 /// canonical names each path has the canonical part of its version alone, and what completes it is an attribute. Then `CanonicalClash` is
 /// answered where two of the imports have one canonical path, with the first that repeats an earlier one.
 ///
-/// Nothing is defined beside instance types, and in each of them each unnamed kind that is met is defined once, as is each named type that has
-/// a definition of its own; in that of the interface itself there are as many types of functions as its functions have keys, and in the others
+/// Nothing is defined beside instance types. In each of them each unnamed kind that is met is defined once, as is each named type that has a
+/// definition of its own. In that of the interface itself there are as many types of functions as its functions have keys, and in the others
 /// none. Types stand there in order, and functions of resources by the order of their resource, and then the others. A type of another interface
 /// that one of them meets gets one alias, of the instance of its interface, and nothing else does.
 ///

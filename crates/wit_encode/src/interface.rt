@@ -614,9 +614,9 @@ impl<'a> InstanceEncoderOf<'a, TypeEncodingMaps<'a>> {
     /// Encodes the types of an interface as an instance type, without its functions, and answers its slot: what is imported of an interface
     /// whose types are used (WIT.md, "Package Format").
     ///
-    /// It asks for what `encode_instance` asks for, and leaves what that leaves. `Size` comes only where a type that is met from the types of
-    /// the interface doesn't fit in 32 bits by itself, where the declarations are more than 4,294,967,295 (counted as for `encode_instance`), or
-    /// where the component type, after aliases have been made that the types ask for, has no room for one more alias or instance type.
+    /// It asks for what `encode_instance` asks for, and leaves what that leaves. `Size` comes only for these reasons. A type met from the types
+    /// of the interface doesn't fit in 32 bits by itself. The declarations are more than 4,294,967,295 (counted as for `encode_instance`). The
+    /// component type, after aliases have been made that the types ask for, has no room for one more alias or instance type.
     ///
     /// Takes as long as encoding the types.
     pub(crate) fn encode_dependency(
@@ -651,10 +651,10 @@ impl<'a> InstanceEncoderOf<'a, TypeEncodingMaps<'a>> {
     /// Of each interface that it uses, an instance stands in the component type, and `foreign` has its number. An interface that uses no other
     /// asks for nothing. A type of another interface gets an alias in the component type when it is first met, which later calls use, too, and
     /// no other type does. No instance stands by this call alone. After a refusal the encoder is as it was, but for such aliases that have been
-    /// made. `Size` comes only where a type that is met from the interface, or a function of it, doesn't fit in 32 bits by itself, where the
-    /// declarations are more than 4,294,967,295, or where the component type, after such aliases have been made, has no room for one more alias
-    /// or instance type. The declarations are a definition and an export for each type that is met and is defined under its name, one for each
-    /// kind of unnamed types, one for each other type, and for the functions one for each key and an export each.
+    /// made. `Size` comes only where one of these three holds. A type that is met from the interface, or a function of it, doesn't fit in 32
+    /// bits by itself. The declarations are more than 4,294,967,295. The component type, after such aliases have been made, has no room for one
+    /// more alias or instance type. The declarations are a definition and an export for each type that is met and is defined under its name,
+    /// one for each kind of unnamed types, and one for each other type. For the functions, they are one for each key and an export each.
     ///
     /// Takes as long as encoding the types and functions and sorting the functions, with a search in an ordered map for each.
     pub(crate) fn encode_instance(

@@ -46,7 +46,7 @@ pub fn met_kinds_are_held()
     ensures { MetKindsAreHeld }
 {}
 
-/// An interface that has no room in an instance type weighs more than 4,294,967,295: so `encode_instance` answers `Size` only for such a
+/// An interface that has no room in an instance type weighs more than 4,294,967,295. So `encode_instance` answers `Size` only for such a
 /// one, or where the component type, after aliases have been made, has no room for one more alias or instance type.
 pub fn lacking_interfaces_are_heavy()
     ensures { LackingInterfacesAreHeavy }
@@ -59,7 +59,7 @@ pub fn lacking_worlds_are_heavy()
     ensures { LackingWorldsAreHeavy }
 {}
 
-/// What is written of a type, and what is written of a function, each with its export, takes no more bytes than it weighs: a definition takes no
+/// What is written of a type, and what is written of a function, each with its export, takes no more bytes than it weighs. A definition takes no
 /// more than its tree says, the type of a function no more than its signature, and an import or an export no more than its name. So do, in sum,
 /// the parts of an instance type, of the component type of an interface, and of that of a world, where each type number that is met is written
 /// once.

@@ -176,8 +176,8 @@ fn add_worlds(
 /// and `Size` only where the package weighs more than 4,294,967,295. A component type of an interface takes no more bytes than the interface
 /// weighs with what it reaches, and one of a world no more than the world weighs.
 ///
-/// In each component type, and in each instance type in one, as many types of functions are defined as the functions there have keys, and each
-/// unnamed kind that is met is defined once, as is each named type that has a definition of its own.
+/// In each component type, and in each instance type in one, as many types of functions are defined as the functions there have keys. Each
+/// unnamed kind that is met there is defined once, as is each named type that has a definition of its own.
 ///
 /// Takes as long as encoding the interfaces, each with what it reaches, and the worlds.
 pub fn encode_component(

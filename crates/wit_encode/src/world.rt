@@ -464,9 +464,9 @@ fn encode_entries(
 /// repeats an earlier one, imports before exports. Otherwise `Memory` and `Size` alone are refused, and `Size` only where the world weighs more
 /// than 4,294,967,295.
 ///
-/// In the component type as many types of functions are defined as the world's functions have keys, and each unnamed kind that its types and
-/// functions meet is defined once, as is each of its named types that has a definition of its own. In each instance type it is the same, and
-/// there the types of the interface stand in order, and its functions: those of resources by the order of their resource, then the others.
+/// In the component type as many types of functions are defined as the world's functions have keys. Each unnamed kind that the world's types and
+/// functions meet is defined there once, as is each of its named types that has a definition of its own. In each instance type it is the same,
+/// and there the types of the interface stand in order, and its functions: those of resources by the order of their resource, then the others.
 ///
 /// Takes as long as encoding its interfaces, types and functions, with a search in an ordered map for each. Its declarations take no more bytes
 /// than the world weighs.

@@ -212,12 +212,12 @@ impl<'a> InterfaceEncoder<'a> {
     /// Imports the types of an interface, without its functions, as an instance by its path: what other interfaces need that use its types
     /// (WIT.md, "Package Format"). From then on an instance of it stands. Of one that has been imported nothing is done.
     ///
-    /// Of each interface that it uses itself, an instance stands: so interfaces are imported in the order in which they use each other.
-    /// After a refusal the encoder can be used on: then nothing has been declared but aliases that its types ask for, and one instance type at
-    /// most that nothing uses.
-    /// `Size` comes only where a type that is met from the types of the interface doesn't fit in 32 bits by itself, where there are too many of
-    /// them, where its path doesn't fit, or where the component type, after such aliases have been made, has no room for the instance type
-    /// and its import.
+    /// Of each interface that it uses itself, an instance stands: so interfaces are imported in the order in which they use
+    /// each other. After a refusal the encoder can be used on: then nothing has been declared but aliases that its types ask
+    /// for, and one instance type at most that nothing uses. `Size` comes only where one of these holds. A type that is met
+    /// from the types of the interface doesn't fit in 32 bits by itself, or there are too many of them. The path of the
+    /// interface doesn't fit. The component type, after such aliases have been made, has no room for the instance type and its
+    /// import.
     ///
     /// Takes as long as encoding the types.
     pub fn import_interface(&mut self, interface: InterfaceId) -> Result<(), Error>
@@ -278,11 +278,11 @@ impl<'a> InterfaceEncoder<'a> {
     /// Encodes an interface as an instance type, and answers its slot: its types in order, then functions of resources by the order of
     /// their resource, then the others. The type of a function is defined just before its export, where its key is new.
     ///
-    /// Of each interface that it uses, an instance stands, since it has been imported. A type of another interface gets an alias in the component
-    /// type when it is first met, which later calls use, too, and no other type does. No instance stands by this call alone. After a refusal the
-    /// encoder is as it was, but for such aliases that have been made. `Size` comes only where a type that is met, or a function, doesn't fit in 32
-    /// bits by itself, or the declarations are more than 4,294,967,295 (`encode_types` counts them), or where the component type, after such
-    /// aliases have been made, has no room for one more alias or instance type.
+    /// Of each interface that it uses, an instance stands, since it has been imported. A type of another interface gets an alias in the
+    /// component type when it is first met, which later calls use, too, and no other type does. No instance stands by this call alone. After a
+    /// refusal the encoder is as it was, but for such aliases that have been made. `Size` comes only where one of these holds. A type that is
+    /// met, or a function, doesn't fit in 32 bits by itself. The declarations are more than 4,294,967,295 (`encode_types` counts them). The
+    /// component type, after such aliases have been made, has no room for one more alias or instance type.
     ///
     /// Takes as long as encoding the types and functions and sorting the functions, with a search in an ordered map for each.
     pub fn encode_instance(&mut self, interface: InterfaceId) -> Result<u32, Error>

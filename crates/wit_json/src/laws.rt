@@ -12,9 +12,9 @@ pub fn nothing_else_is_lost()
     ensures valid { ValidAreSmall }
 {}
 
-/// What a listing keeps of a valid `Resolve`: all but documentation and stability. The keys of its maps, which a listing leaves out, are told by what it says:
-/// the key of an interface, a world, a type or a function is its name, and an import or an export whose text is a path, which has a colon, has its interface as
-/// its key. So two valid `Resolve`s whose listings are the same text are the same by `bare`, and by the keys of their maps.
+/// What a listing keeps of a valid `Resolve`: all but documentation and stability. The keys of its maps, which a listing leaves out, are told by
+/// what it says. The key of an interface, a world, a type or a function is its name. An import or export whose text is a path, with a colon, has
+/// its interface as its key. So two valid `Resolve`s whose listings are the same text are the same by `bare`, and by their maps' keys.
 pub fn valid_listings_keep_keys()
     ensures keys { KeysAreTold }
     ensures texts { ValidTextsTell }

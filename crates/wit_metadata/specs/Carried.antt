@@ -54,7 +54,7 @@ abbrev pub encoding_part : StringEncoding → Part
 encoding_part e = Part.custom section_name (contents_of e)
 
 -- The bytes are those of a component with that section, and behind it the wrapper of world n, with names whole or canonical, exported under the
--- world's name, in the one spelling that is written, where each number is in its shortest form.
+-- world's name. They are in the one spelling that is written, where each number is in its shortest form.
 pub record CarriesWorld (r : Resolve) (canonical : Bool) (n : ℕ) (e : StringEncoding) (bytes : List ℕ) : Type 0 where
   pub world : World
   pub there : world_at r n ≡ Some world

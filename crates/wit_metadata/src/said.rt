@@ -78,9 +78,9 @@ fn encoding_from(contents: &[u8]) -> Result<StringEncoding, Error>
 /// The encoding in which strings pass, as a component says it that a module carries: in the last of its custom sections of the name
 /// `wit-component-encoding` (wit-component README, "Custom Section Format").
 ///
-/// Takes time linear in the bytes, and no memory. Of a component it refuses with `EncodingMissing` where it has no such section, with
-/// `EncodingUnknownFormat` where that is empty, with `BadStringEncoding` where it is 4 and a byte that stands for no encoding, and with
-/// `EncodingVersion` and the first byte where it is anything else but 4 and one byte. Of other bytes nothing is promised but an answer.
+/// Takes time linear in the bytes, and no memory. It refuses a component for one of these reasons. `EncodingMissing`: it has no such
+/// section. `EncodingUnknownFormat`: that is empty. `BadStringEncoding`: that is 4 and a byte that stands for no encoding.
+/// `EncodingVersion` with the first byte: that is anything else but 4 and one byte. Of other bytes nothing is promised but an answer.
 pub fn encoding_in(bytes: &[u8]) -> Result<StringEncoding, Error>
     ensures { AnswersSaid bytes.now result }
 {

@@ -8,9 +8,9 @@ pub const HOST_AND_GUEST: &[u8] = &[
     0x6f, 0x6f, 0x04, 0x00, 0x0b, 0x09, 0x01, 0x00, 0x03, 0x66, 0x6f, 0x6f, 0x03, 0x00, 0x00,
 ];
 
-/// Package `my:demo` with the interface `host` and the world `demo`, which imports it: a type with 38 bytes of contents from 10 on, its export
-/// from 50 on, a type with 58 bytes from 62 on, and from 122 on its export, whose index stands at 130. The first 60 bytes are the package of the
-/// interface alone.
+/// Package `my:demo` with the interface `host` and the world `demo`, which imports it. A type with 38 bytes of contents stands from 10 on, and
+/// its export from 50 on. A type with 58 bytes stands from 62 on, and from 122 on its export, whose index stands at 130. The first 60 bytes are
+/// the package of the interface alone.
 pub const INTERFACE_AND_WORLD: &[u8] = &[
     0x00, 0x61, 0x73, 0x6d, 0x0d, 0x00, 0x01, 0x00, 0x07, 0x26, 0x01, 0x41, 0x02, 0x01, 0x42, 0x02,
     0x01, 0x40, 0x00, 0x01, 0x00, 0x04, 0x00, 0x05, 0x68, 0x65, 0x6c, 0x6c, 0x6f, 0x01, 0x00, 0x04,

@@ -4,8 +4,9 @@ use Rattle.std.specs.declared.alloc.Global.{Global}
 use Rattle.std.specs.Cmp.Lexicographic.{pointwise}
 use Rattle.std.specs.Str.{is_utf8}
 
--- what is asked for: the demo's package as text or as digits, the text of a package, the text of what a module binds, a module without the sections that
--- carry worlds, or whether the world of the second name may take the place of the one of the first
+-- What is asked for. `demo_text` and `demo_hex`: the demo's package as text or as digits. `print`: the text of a package. `module_text`:
+-- the text of what a module binds. `strip`: a module without the sections that carry worlds. `compat`: whether the world of the second name
+-- may take the place of the one of the first.
 pub data Asked : Type 0 where
   demo_text : Asked
   demo_hex : Asked

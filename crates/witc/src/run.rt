@@ -20,8 +20,8 @@ use witc_texts::{COMPATIBLE, Compared, USAGE};
 /// it is refused or a write fails, `BAD_WORDS` where the words are no command or name a world that isn't there. All output goes to the
 /// writer, which is flushed at the end; after a write that failed nothing more is written.
 ///
-/// Faults are found in this order: words that are no command, before anything is read; a read that fails, of a command that reads; the
-/// refusal of the bytes; a world that isn't there, the first name before the second; the comparison. The demo's commands read nothing.
+/// Faults are found in this order: words that are no command, before anything is read; a read that fails, of a command that reads; the refusal
+/// of the bytes. Then come a world that isn't there, the first name before the second, and the comparison. The demo's commands read nothing.
 pub fn run<R: Read, W: Write>(
     alloc: Global,
     words: &[Vec<u8>],

@@ -23,8 +23,8 @@ use Rattle.witc_written.specs.Carried.{AttachesWorld, EmbedsWorld, HasNoWorld, R
 use Rattle.witc_ffi.specs.Outcomes.{IsNoLack, IsOutcome, IsRefusal}
 use Rattle.witc_ffi.specs.declared.outcome.Outcome.{Outcome}
 
--- A call is done, with bytes of which this is true; or refused with an error of which that is true, and the bytes are its message; or an argument is
--- bad, with this text and these numbers; or memory was wanting, and there are no bytes.
+-- A call is done, with bytes of which this is true. Or it is refused with an error of which that is true, and the bytes are its message. Or an
+-- argument is bad, with this text and these numbers. Or memory was wanting, and there are no bytes.
 pub data Answers (Done : List ℕ → Type 0) (Refused : Error → Type 0) (Bad : List ℕ → Why → Type 0) : ℕ → List ℕ → Why → Type 0 where
   done : (text : List ℕ) → Done text → Answers Done Refused Bad 0 text (plain_why 0)
   refused : (e : Error) → Refused e → IsNoLack e → Answers Done Refused Bad 1 (message_of e) (why_of e)

@@ -18,8 +18,9 @@ use Rattle.wit_component.specs.Weight.{world_package_weight}
 use Rattle.wit_component.specs.Packages.{HasNoClashAt, RefusesWorldAt}
 use Rattle.witc_texts.specs.Named.{NamesWorld}
 
--- The bytes mean a package with a world of this name, and the data mean that world by itself, say this encoding, and carry the two as they are encoded, in the
--- order in which the bytes show them, with canonical names or without. Where names are canonical, no two of one component type are equal.
+-- The bytes mean a package with a world of this name, and the data mean that world by itself and say this encoding. The data carry
+-- the two as they are encoded, in the order in which the bytes show them, with canonical names or without. Where names are
+-- canonical, no two of one component type are equal.
 pub record EmbedsWorld (bytes name : List ℕ) (e : StringEncoding) (canonical : Bool) (data_ : List ℕ) : Type 0 where
   pub resolve : Resolve
   pub number : ℕ
