@@ -44,7 +44,7 @@ fn test_package(resolve: &Resolve, package: PackageId) -> Result<(), Answer>
     }
 }
 
-fn test_world(resolve: &Resolve, world: WorldId) -> Result<(), Answer>
+pub fn test_world(resolve: &Resolve, world: WorldId) -> Result<(), Answer>
     ensures { OnOk result (world.0 < length resolve.now.worlds.items) }
 {
     if (world.0 as usize) < resolve.worlds.len() {
@@ -72,6 +72,14 @@ pub fn check(alloc: Global, resolve: &Resolve) -> Answer {
         Ok(()) => Answer::Yes,
         Err(fault) => Answer::Fault(fault),
     }
+}
+
+/// How many packages, interfaces, worlds and types there are.
+pub fn counts(alloc: Global, resolve: &Resolve) -> Result<Answer, Answer> {
+    let (packages, interfaces) = (resolve.packages.len(), resolve.interfaces.len());
+    let (worlds, types) = (resolve.worlds.len(), resolve.types.len());
+    let words = format!(in alloc; " {packages} {interfaces} {worlds} {types}")?;
+    Ok(Answer::Words(words))
 }
 
 /// Which rule is broken, where by what is open.
@@ -290,6 +298,14 @@ pub fn left_of_module(alloc: Global, bytes: &[u8]) -> Result<Answer, Answer> {
 /// The encoding that a component says.
 pub fn said(bytes: &[u8]) -> Result<Answer, Answer> {
     Ok(Answer::Encoding(encoding_in(bytes)?))
+}
+
+/// The number of the section that is refused.
+pub fn refused_section(alloc: Global, bytes: &[u8]) -> Result<Answer, Answer> {
+    match metadata::refused_section(alloc, bytes)? {
+        Some(number) => Ok(Answer::Count(number as u64)),
+        None => Ok(Answer::Nothing),
+    }
 }
 
 // ---- comparisons

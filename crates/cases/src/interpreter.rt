@@ -3,6 +3,7 @@
 ghost use Rattle.wit_model.specs.Valid.{IsValid};
 
 use crate::answer::{Answer, Reply};
+use crate::bindings::{binding, merge};
 use crate::calls;
 use crate::names::names;
 use case_words::{Bad, Words};
@@ -10,7 +11,9 @@ use std::alloc::Global;
 use std::io;
 use std::rt::Clock;
 use std::time::Instant;
-use wit_component::{ModuleMetadata, PackageId, Place, Resolve, StringEncoding, WorldId};
+use wit_component::{
+    Bindgen, ModuleMetadata, PackageId, Place, Resolve, StringEncoding, WorldId, metadata,
+};
 
 #[derive(Drop)]
 pub struct Interpreter {
@@ -19,6 +22,8 @@ pub struct Interpreter {
     other: Option<Resolve>,
     /// The encodings that were made last.
     metadata: Option<ModuleMetadata>,
+    /// What worlds are merged into.
+    bound: Option<Bindgen>,
     /// The bytes that were kept last.
     kept: Option<Vec<u8>>,
     is_brief: bool,
@@ -91,7 +96,7 @@ fn world_type(alloc: Global, resolve: &Resolve, words: &mut Words<'_>) -> Result
     }
 }
 
-fn metadata(alloc: Global, resolve: &Resolve, words: &mut Words<'_>) -> Result<Answer, Answer>
+fn section(alloc: Global, resolve: &Resolve, words: &mut Words<'_>) -> Result<Answer, Answer>
     requires { IsValid resolve.now }
 {
     let id = words.read();
@@ -130,7 +135,7 @@ fn on_valid(
     match word {
         b"encode" => encode(alloc, resolve, words),
         b"world" => world_type(alloc, resolve, words),
-        b"metadata" => metadata(alloc, resolve, words),
+        b"metadata" => section(alloc, resolve, words),
         b"print" => print(alloc, resolve, words),
         b"normal" => normal(alloc, resolve, words),
         b"names" => names(alloc, resolve),
@@ -213,6 +218,7 @@ fn on_bytes(alloc: Global, word: &[u8], bytes: &[u8]) -> Result<Answer, Answer> 
         b"bound" => calls::bound_text(alloc, bytes),
         b"stripped" => calls::left_of_module(alloc, bytes),
         b"said" => calls::said(bytes),
+        b"refused-section" => calls::refused_section(alloc, bytes),
         _ => Err(Answer::Bad),
     }
 }
@@ -223,6 +229,7 @@ impl Interpreter {
             current: None,
             other: None,
             metadata: None,
+            bound: None,
             kept: None,
             is_brief: false,
         }
@@ -314,6 +321,64 @@ impl Interpreter {
         }
     }
 
+    fn counts(&self, alloc: Global, words: &mut Words<'_>) -> Result<Answer, Answer> {
+        words.end()?;
+        match &self.current {
+            Some(resolve) => calls::counts(alloc, resolve),
+            None => Err(Answer::Unmet("resolve")),
+        }
+    }
+
+    // ---- bindings
+
+    // What a module without worlds binds.
+    fn bind(&mut self, alloc: Global, words: &mut Words<'_>) -> Result<Answer, Answer> {
+        words.end()?;
+        self.bound = Some(Bindgen::default(alloc)?);
+        Ok(Answer::Yes)
+    }
+
+    // What a module binds, or the whole text of the refusal.
+    fn bind_module(&mut self, alloc: Global, words: &mut Words<'_>) -> Result<Answer, Answer> {
+        let bytes = words.bytes();
+        words.end()?;
+        match metadata::decode(alloc, &bytes) {
+            Ok((_module, bound)) => {
+                self.bound = Some(bound);
+                Ok(Answer::Yes)
+            }
+            Err(error) => Ok(Answer::Text(format!(in alloc; "{error}")?)),
+        }
+    }
+
+    // Gives the `Resolve` up.
+    fn merge(&mut self, alloc: Global, words: &mut Words<'_>) -> Result<Answer, Answer> {
+        let id = words.read();
+        let encoding = string_encoding(words);
+        words.end()?;
+        let Some(resolve) = self.current.take() else {
+            return Err(Answer::Unmet("resolve"));
+        };
+        let other = binding(alloc, resolve, id, encoding)?;
+        let Some(own) = self.bound.take() else {
+            return Err(Answer::Unmet("bindings"));
+        };
+        let (bound, answer) = merge(alloc, own, other)?;
+        self.bound = Some(bound);
+        Ok(answer)
+    }
+
+    // Takes the bindings apart: the number of the bound world.
+    fn unbind(&mut self, words: &mut Words<'_>) -> Result<Answer, Answer> {
+        words.end()?;
+        let Some(bound) = self.bound.take() else {
+            return Err(Answer::Unmet("bindings"));
+        };
+        self.current = Some(bound.resolve);
+        self.metadata = Some(bound.metadata);
+        Ok(Answer::Count(u64::from(bound.world.0)))
+    }
+
     fn validity(&self, alloc: Global, word: &[u8]) -> Answer {
         let Some(resolve) = &self.current else {
             return Answer::Unmet("resolve");
@@ -359,6 +424,11 @@ impl Interpreter {
             b"label" => label(words),
             b"module" => self.module(alloc, words),
             b"get" => self.get(alloc, words),
+            b"counts" => self.counts(alloc, words),
+            b"bind" => self.bind(alloc, words),
+            b"bindings" => self.bind_module(alloc, words),
+            b"merge" => self.merge(alloc, words),
+            b"unbind" => self.unbind(words),
             b"json" => self.package_json(alloc, words),
             b"json-world" => self.world_json(alloc, words),
             b"json-bound" => self.bound_json(alloc, words),
@@ -369,7 +439,8 @@ impl Interpreter {
             | b"strip"
             | b"said"
             | b"bound"
-            | b"stripped" => self.with_bytes(alloc, word, words),
+            | b"stripped"
+            | b"refused-section" => self.with_bytes(alloc, word, words),
             _ => Err(Answer::Bad),
         }
     }

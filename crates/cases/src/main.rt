@@ -2,6 +2,7 @@
 #![tactic(auto)]
 
 mod answer;
+mod bindings;
 mod calls;
 mod encodings;
 mod interpreter;
