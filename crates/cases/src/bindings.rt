@@ -5,6 +5,7 @@ ghost use Rattle.wit_component.specs.Bindings.{IsBindgen};
 
 use crate::answer::Answer;
 use crate::calls::{test_valid, test_world};
+use crate::marks::Marks;
 use indexmap::IndexSet;
 use std::alloc::Global;
 use wit_component::{Bindgen, Error, ModuleMetadata, Resolve, StringEncoding, WorldId, WorldKey};
@@ -56,11 +57,19 @@ fn keys_as_text(
 }
 
 /// The bindings with others merged into them, or as they were where that is refused, and the keys of the other's exports.
-pub fn merge(alloc: Global, own: Bindgen, other: Bindgen) -> Result<(Bindgen, Answer), Answer>
+pub fn merge(
+    alloc: Global,
+    marks: Marks,
+    own: Bindgen,
+    other: Bindgen,
+) -> Result<(Bindgen, Answer), Answer>
     requires { IsBindgen other }
 {
     let mut own = checked(alloc, own)?;
-    match own.merge(alloc, other) {
+    marks.begin(alloc)?;
+    let merged = own.merge(alloc, other);
+    marks.end(alloc)?;
+    match merged {
         Ok(keys) => {
             let text = keys_as_text(alloc, &own.resolve, &keys)?;
             Ok((own, Answer::Text(text)))

@@ -7,15 +7,17 @@ ghost use Rattle.wit_model.specs.Rules.{in_list};
 ghost use Rattle.wit_model.specs.Valid.{IsValid};
 
 use crate::answer::Answer;
-use crate::encodings::{letters, put_letters};
+use crate::encodings::{UnversionedWords, letters, letters_of};
+use crate::marks::Marks;
 use bind_json::bindgen_listing;
-use std::alloc::Global;
+use std::alloc::{AllocError, Global};
 use wit_bind::Bindgen;
 use wit_component::laws::semver_check_counted;
 use wit_component::{
-    Cause, Check, ComponentBuilder, ComponentType, Error, Fault, ModuleMetadata, OutputToString,
-    PackageId, Place, Resolve, Steps, StringEncoding, WitPrinter, WorldId, WorldKey, decode,
-    decode_world, encode, encode_world, is_label, metadata, normalized, same_sense, semver_check,
+    Cause, Check, ComponentBuilder, ComponentType, EncodingMap, Error, Fault, Map, ModuleMetadata,
+    OutputToString, PackageId, Place, Resolve, Side, Steps, StringEncoding, WitPrinter, WorldId,
+    WorldKey, decode, decode_world, encode, encode_world, is_label, metadata, normalized,
+    same_sense, semver_check,
 };
 use wit_encode::wrapped_world;
 use wit_json::{package_listing, world_listing};
@@ -313,6 +315,7 @@ pub fn refused_section(alloc: Global, bytes: &[u8]) -> Result<Answer, Answer> {
 /// Whether two places have the same sense.
 pub fn sense(
     alloc: Global,
+    marks: Marks,
     resolve: &Resolve,
     at: Place,
     other: &Resolve,
@@ -323,7 +326,10 @@ pub fn sense(
 {
     test_place(resolve, &at)?;
     test_place(other, &place)?;
-    if same_sense(alloc, resolve, at, other, place)? {
+    marks.begin(alloc)?;
+    let same = same_sense(alloc, resolve, at, other, place);
+    marks.end(alloc)?;
+    if same? {
         Ok(Answer::Yes)
     } else {
         Ok(Answer::No)
@@ -379,14 +385,54 @@ pub fn module(
 /// What the maps of imports and of exports answer.
 pub fn get(
     alloc: Global,
+    marks: Marks,
     resolve: &Resolve,
     metadata: &ModuleMetadata,
     key: &WorldKey,
     name: &str,
 ) -> Result<Answer, Answer> {
-    let mut words = String::from_str(alloc, " =")?;
-    put_letters(resolve, metadata, key, name, &mut words)?;
-    Ok(Answer::Words(words))
+    marks.begin(alloc)?;
+    let [imported, exported] = letters_of(resolve, metadata, key, name);
+    marks.end(alloc)?;
+    Ok(Answer::Words(format!(in alloc; " ={imported}{exported}")?))
+}
+
+// The keys of a list as a map, the last of equal ones.
+fn map_of(
+    alloc: Global,
+    entries: Vec<UnversionedWords>,
+) -> Result<Map<String, StringEncoding>, AllocError> {
+    let mut map = Map::new(alloc);
+    for entry in entries {
+        map.insert(entry.key, entry.encoding)?;
+    }
+    Ok(map)
+}
+
+/// What is carried over for a world's imports or exports from keys without version, and nothing for its other side.
+pub fn carried_over(
+    alloc: Global,
+    marks: Marks,
+    resolve: &Resolve,
+    world: WorldId,
+    side: Side,
+    entries: Vec<UnversionedWords>,
+) -> Result<ModuleMetadata, Answer> {
+    test_world(resolve, world)?;
+    let unversioned = map_of(alloc, entries)?;
+    marks.begin(alloc)?;
+    let found = EncodingMap::from_unversioned(alloc, resolve, world, side, &unversioned);
+    marks.end(alloc)?;
+    Ok(match side {
+        Side::Imports => ModuleMetadata {
+            import_encodings: found?,
+            export_encodings: EncodingMap::new(alloc),
+        },
+        Side::Exports => ModuleMetadata {
+            import_encodings: EncodingMap::new(alloc),
+            export_encodings: found?,
+        },
+    })
 }
 
 // ---- JSON

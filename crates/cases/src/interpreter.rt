@@ -5,6 +5,9 @@ ghost use Rattle.wit_model.specs.Valid.{IsValid};
 use crate::answer::{Answer, Reply};
 use crate::bindings::{binding, merge};
 use crate::calls;
+use crate::encoder::value_type;
+use crate::encodings::{EncodingWord, UnversionedWords, letters};
+use crate::marks::Marks;
 use crate::names::names;
 use case_words::{Bad, Words};
 use std::alloc::Global;
@@ -12,7 +15,7 @@ use std::io;
 use std::rt::Clock;
 use std::time::Instant;
 use wit_component::{
-    Bindgen, ModuleMetadata, PackageId, Place, Resolve, StringEncoding, WorldId, metadata,
+    Bindgen, Error, ModuleMetadata, PackageId, Place, Resolve, Side, WorldId, metadata,
 };
 
 #[derive(Drop)]
@@ -24,6 +27,8 @@ pub struct Interpreter {
     metadata: Option<ModuleMetadata>,
     /// What worlds are merged into.
     bound: Option<Bindgen>,
+    /// Those of the call that the line asks for.
+    marks: Marks,
     /// The bytes that were kept last.
     kept: Option<Vec<u8>>,
     is_brief: bool,
@@ -31,15 +36,14 @@ pub struct Interpreter {
 
 // ---- parts of lines
 
-/// `8`, `6` or `c`.
-fn string_encoding(words: &mut Words<'_>) -> StringEncoding {
+/// `i` for imports, or `e` for exports.
+fn side(words: &mut Words<'_>) -> Side {
     match words.word() {
-        b"8" => StringEncoding::UTF8,
-        b"6" => StringEncoding::UTF16,
-        b"c" => StringEncoding::CompactUTF16,
+        b"i" => Side::Imports,
+        b"e" => Side::Exports,
         _ => {
             words.fail(Bad::Form);
-            StringEncoding::UTF8
+            Side::Imports
         }
     }
 }
@@ -100,10 +104,10 @@ fn section(alloc: Global, resolve: &Resolve, words: &mut Words<'_>) -> Result<An
     requires { IsValid resolve.now }
 {
     let id = words.read();
-    let encoding = string_encoding(words);
+    let word: EncodingWord = words.read();
     let canonical_names = words.flag();
     words.end()?;
-    calls::encode_metadata(alloc, resolve, id, encoding, canonical_names)
+    calls::encode_metadata(alloc, resolve, id, word.encoding, canonical_names)
 }
 
 fn print(alloc: Global, resolve: &Resolve, words: &mut Words<'_>) -> Result<Answer, Answer>
@@ -146,6 +150,7 @@ fn on_valid(
 fn timed_on_valid<R: Clock>(
     clock: &R,
     alloc: Global,
+    marks: Marks,
     resolve: &Resolve,
     word: &[u8],
     words: &mut Words<'_>,
@@ -153,7 +158,9 @@ fn timed_on_valid<R: Clock>(
     requires { IsValid resolve.now }
 {
     let start = Instant::now(clock)?;
+    marks.begin(alloc)?;
     let answer = either(on_valid(alloc, resolve, word, words));
+    marks.end(alloc)?;
     let spent = start.elapsed(clock)?;
     Ok(Reply { answer, spent })
 }
@@ -177,6 +184,7 @@ fn semver_of(
 fn timed_semver<R: Clock>(
     clock: &R,
     alloc: Global,
+    marks: Marks,
     resolve: Resolve,
     is_counted: bool,
     prev: WorldId,
@@ -185,13 +193,16 @@ fn timed_semver<R: Clock>(
     requires { IsValid resolve }
 {
     let start = Instant::now(clock)?;
+    marks.begin(alloc)?;
     let answer = either(semver_of(alloc, resolve, is_counted, prev, new));
+    marks.end(alloc)?;
     let spent = start.elapsed(clock)?;
     Ok(Reply { answer, spent })
 }
 
 fn sense_of(
     alloc: Global,
+    marks: Marks,
     resolve: &Resolve,
     at: Place,
     other: &Resolve,
@@ -199,7 +210,7 @@ fn sense_of(
 ) -> Result<Answer, Answer> {
     calls::test_valid(alloc, resolve)?;
     calls::test_valid(alloc, other)?;
-    calls::sense(alloc, resolve, at, other, place)
+    calls::sense(alloc, marks, resolve, at, other, place)
 }
 
 fn label(words: &mut Words<'_>) -> Result<Answer, Answer> {
@@ -230,6 +241,7 @@ impl Interpreter {
             other: None,
             metadata: None,
             bound: None,
+            marks: Marks { are_made: false },
             kept: None,
             is_brief: false,
         }
@@ -266,13 +278,13 @@ impl Interpreter {
 
     fn module(&mut self, alloc: Global, words: &mut Words<'_>) -> Result<Answer, Answer> {
         let id = words.read();
-        let encoding = string_encoding(words);
+        let word: EncodingWord = words.read();
         words.end()?;
         self.metadata = None;
         let Some(resolve) = &self.current else {
             return Err(Answer::Unmet("resolve"));
         };
-        let (metadata, answer) = calls::module(alloc, resolve, id, encoding)?;
+        let (metadata, answer) = calls::module(alloc, resolve, id, word.encoding)?;
         self.metadata = Some(metadata);
         Ok(answer)
     }
@@ -285,7 +297,7 @@ impl Interpreter {
             return Err(Answer::Unmet("resolve"));
         };
         match &self.metadata {
-            Some(metadata) => calls::get(alloc, resolve, metadata, &key, &name),
+            Some(metadata) => calls::get(alloc, self.marks, resolve, metadata, &key, &name),
             None => Err(Answer::Unmet("module")),
         }
     }
@@ -339,33 +351,75 @@ impl Interpreter {
     }
 
     // What a module binds, or the whole text of the refusal.
-    fn bind_module(&mut self, alloc: Global, words: &mut Words<'_>) -> Result<Answer, Answer> {
-        let bytes = words.bytes();
-        words.end()?;
-        match metadata::decode(alloc, &bytes) {
+    fn bind_bytes(&mut self, alloc: Global, bytes: &[u8]) -> Result<Answer, Answer> {
+        match metadata::decode(alloc, bytes) {
             Ok((_module, bound)) => {
                 self.bound = Some(bound);
                 Ok(Answer::Yes)
             }
+            Err(Error::Memory) => Err(Answer::Refused(Error::Memory)),
             Err(error) => Ok(Answer::Text(format!(in alloc; "{error}")?)),
         }
+    }
+
+    // The same of the bytes that follow, or of those that were kept where none do.
+    fn bind_module(&mut self, alloc: Global, words: &mut Words<'_>) -> Result<Answer, Answer> {
+        if !words.is_at_end() {
+            let bytes = words.bytes();
+            words.end()?;
+            return self.bind_bytes(alloc, &bytes);
+        }
+        let Some(kept) = self.kept.take() else {
+            return Err(Answer::Unmet("bytes"));
+        };
+        let answer = self.bind_bytes(alloc, &kept);
+        self.kept = Some(kept);
+        answer
     }
 
     // Gives the `Resolve` up.
     fn merge(&mut self, alloc: Global, words: &mut Words<'_>) -> Result<Answer, Answer> {
         let id = words.read();
-        let encoding = string_encoding(words);
+        let word: EncodingWord = words.read();
         words.end()?;
         let Some(resolve) = self.current.take() else {
             return Err(Answer::Unmet("resolve"));
         };
-        let other = binding(alloc, resolve, id, encoding)?;
+        let other = binding(alloc, resolve, id, word.encoding)?;
         let Some(own) = self.bound.take() else {
             return Err(Answer::Unmet("bindings"));
         };
-        let (bound, answer) = merge(alloc, own, other)?;
+        let (bound, answer) = merge(alloc, self.marks, own, other)?;
         self.bound = Some(bound);
         Ok(answer)
+    }
+
+    // What is carried over from keys without version, as the encodings that were made last.
+    fn carry_over(&mut self, alloc: Global, words: &mut Words<'_>) -> Result<Answer, Answer> {
+        let id: WorldId = words.read();
+        let side = side(words);
+        let entries: Vec<UnversionedWords> = words.list();
+        words.end()?;
+        let Some(resolve) = &self.current else {
+            return Err(Answer::Unmet("resolve"));
+        };
+        let found = calls::carried_over(alloc, self.marks, resolve, id, side, entries)?;
+        let Some(world) = resolve.worlds.get(id.0 as usize) else {
+            return Err(Answer::Unmet("range"));
+        };
+        let words = letters(alloc, resolve, world, &found)?;
+        self.metadata = Some(found);
+        Ok(Answer::Words(words))
+    }
+
+    fn value_type(&self, alloc: Global, words: &mut Words<'_>) -> Result<Answer, Answer> {
+        let id = words.read();
+        words.end()?;
+        let Some(resolve) = &self.current else {
+            return Err(Answer::Unmet("resolve"));
+        };
+        calls::test_valid(alloc, resolve)?;
+        value_type(alloc, self.marks, resolve, id)
     }
 
     // Takes the bindings apart: the number of the bound world.
@@ -423,11 +477,9 @@ impl Interpreter {
             b"check" | b"rule" | b"valid" => Ok(self.validity(alloc, word)),
             b"label" => label(words),
             b"module" => self.module(alloc, words),
-            b"get" => self.get(alloc, words),
             b"counts" => self.counts(alloc, words),
             b"bind" => self.bind(alloc, words),
             b"bindings" => self.bind_module(alloc, words),
-            b"merge" => self.merge(alloc, words),
             b"unbind" => self.unbind(words),
             b"json" => self.package_json(alloc, words),
             b"json-world" => self.world_json(alloc, words),
@@ -458,7 +510,7 @@ impl Interpreter {
             return Ok(Reply::at_once(Answer::Unmet("resolve")));
         };
         match calls::test_valid(alloc, resolve) {
-            Ok(()) => timed_on_valid(clock, alloc, resolve, word, words),
+            Ok(()) => timed_on_valid(clock, alloc, self.marks, resolve, word, words),
             Err(answer) => Ok(Reply::at_once(answer)),
         }
     }
@@ -480,7 +532,7 @@ impl Interpreter {
             return Ok(Reply::at_once(Answer::Unmet("resolve")));
         };
         match calls::test_valid(alloc, &resolve) {
-            Ok(()) => timed_semver(clock, alloc, resolve, is_counted, prev, new),
+            Ok(()) => timed_semver(clock, alloc, self.marks, resolve, is_counted, prev, new),
             Err(answer) => Ok(Reply::at_once(answer)),
         }
     }
@@ -494,8 +546,25 @@ impl Interpreter {
             return Err(Answer::Unmet("resolve"));
         };
         match &self.other {
-            Some(other) => sense_of(alloc, resolve, at, other, there),
-            None => sense_of(alloc, resolve, at, resolve, there),
+            Some(other) => sense_of(alloc, self.marks, resolve, at, other, there),
+            None => sense_of(alloc, self.marks, resolve, at, resolve, there),
+        }
+    }
+
+    // Calls between marks of their own, behind what they are made on.
+    fn between_marks(
+        &mut self,
+        alloc: Global,
+        word: &[u8],
+        words: &mut Words<'_>,
+    ) -> Result<Answer, Answer> {
+        match word {
+            b"sense" => self.sense(alloc, words),
+            b"merge" => self.merge(alloc, words),
+            b"get" => self.get(alloc, words),
+            b"unversioned" => self.carry_over(alloc, words),
+            b"valtype" => self.value_type(alloc, words),
+            _ => Err(Answer::Bad),
         }
     }
 
@@ -507,9 +576,19 @@ impl Interpreter {
         words: &mut Words<'_>,
     ) -> io::Result<Reply> {
         let start = Instant::now(clock)?;
+        self.marks.begin(alloc)?;
         let answer = either(self.without_check(alloc, word, words));
+        self.marks.end(alloc)?;
         let spent = start.elapsed(clock)?;
         Ok(Reply { answer, spent })
+    }
+
+    // The word of the call, behind the one that asks for marks.
+    fn call_word<'a>(&mut self, words: &mut Words<'a>) -> &'a [u8] {
+        let word = words.word();
+        let are_made = word == b"marked".as_slice();
+        self.marks = Marks { are_made };
+        if are_made { words.word() } else { word }
     }
 
     fn reply<R: Clock>(
@@ -518,12 +597,14 @@ impl Interpreter {
         alloc: Global,
         words: &mut Words<'_>,
     ) -> io::Result<Reply> {
-        let word = words.word();
+        let word = self.call_word(words);
         match word {
             b"encode" | b"world" | b"metadata" | b"print" | b"normal" | b"names" => {
                 self.on_current(clock, alloc, word, words)
             }
-            b"sense" => Ok(Reply::at_once(either(self.sense(alloc, words)))),
+            b"sense" | b"merge" | b"get" | b"unversioned" | b"valtype" => {
+                Ok(Reply::at_once(either(self.between_marks(alloc, word, words))))
+            }
             b"semver" => self.semver(clock, alloc, false, words),
             b"steps" => self.semver(clock, alloc, true, words),
             _ => self.other_call(clock, alloc, word, words),

@@ -4,8 +4,10 @@
 mod answer;
 mod bindings;
 mod calls;
+mod encoder;
 mod encodings;
 mod interpreter;
+mod marks;
 mod names;
 
 use interpreter::Interpreter;

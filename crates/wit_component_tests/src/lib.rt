@@ -3,8 +3,6 @@
 #![tactic(auto)]
 
 #[cfg(test)]
-mod binding;
-#[cfg(test)]
 mod changed_bytes;
 #[cfg(test)]
 mod errors;

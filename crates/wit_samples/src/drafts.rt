@@ -166,12 +166,6 @@ pub fn add_interface(alloc: Global, resolve: &mut Resolve, name: &str) -> Result
     list_interface(alloc, resolve, name, id)
 }
 
-/// An empty inline interface of the next number, of package 0, which no world shows yet.
-pub fn add_inline(alloc: Global, resolve: &mut Resolve) -> Result<(), AllocError> {
-    resolve.interfaces.push(interface(alloc, None)?)?;
-    Ok(())
-}
-
 /// An empty world of the next number in package 0.
 pub fn add_world(alloc: Global, resolve: &mut Resolve, name: &str) -> Result<(), AllocError> {
     let id = WorldId(next(resolve.worlds.len()));
@@ -354,15 +348,6 @@ fn exports(resolve: &mut Resolve) -> Option<&mut Map<WorldKey, WorldItem>> {
     Some(&mut world.exports)
 }
 
-/// An import of world 0, the last of its list.
-pub fn import_under(
-    resolve: &mut Resolve,
-    key: WorldKey,
-    item: WorldItem,
-) -> Result<(), AllocError> {
-    insert(imports(resolve), key, item)
-}
-
 /// An import of world 0 under a name.
 pub fn import(
     alloc: Global,
@@ -371,15 +356,6 @@ pub fn import(
     item: WorldItem,
 ) -> Result<(), AllocError> {
     insert_named(alloc, imports(resolve), name, item)
-}
-
-/// An export of world 0, the last of its list.
-pub fn export_under(
-    resolve: &mut Resolve,
-    key: WorldKey,
-    item: WorldItem,
-) -> Result<(), AllocError> {
-    insert(exports(resolve), key, item)
 }
 
 /// An export of world 0 under a name.

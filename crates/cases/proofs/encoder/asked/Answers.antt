@@ -1,7 +1,7 @@
 use Rattle.std.proofs.Common.{refl, sym, subst, [], ◌∷◌}
 use Rattle.encode_types.specs.Fits.{CanEncode}
 use Rattle.encode_types.specs.Scope.{Scope}
-use Rattle.refused_growths.proofs.encoder.asked.Goals as goal
+use Rattle.cases.proofs.encoder.asked.Goals as goal
 
 pub encode_valtype-requires : goal.encode_valtype-requires
 encode_valtype-requires c = λ _. ((refl, tt), (c.requires.encodable, c.requires.agree))

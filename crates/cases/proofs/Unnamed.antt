@@ -14,7 +14,7 @@ use Rattle.encode_types.specs.View.{Agrees}
 use Rattle.wit_encode.specs.OwnerScope.{IsScopeOf, NamesStand}
 use Rattle.wit_encode.proofs.OwnerScope.{names_encode, table_is_scope}
 use Rattle.wit_interfaces.specs.InterfaceEncoders.{InterfaceEncoder, interface_encoder_view}
-use Rattle.refused_growths.specs.Asked.{CanBeAsked}
+use Rattle.cases.specs.Asked.{CanBeAsked}
 use Rattle.base_lemmas.proofs.Elements.{all_get as at-index, last_of as one-contained}
 
 abbrev AreUnnamed : Resolve → Type 0
