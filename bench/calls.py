@@ -6,11 +6,12 @@ from programs import on_lines
 
 class Row:
     """One call on one shape. `make` gives for a size the lines that make ready and the line that calls; `checks` is how often the program `cases` tests
-    before the call that its value is valid, which is counted with the line and taken off; `is_spent` says that the call uses its value up."""
+    before the call that its value is valid, which is counted with the line and taken off. A call that uses its value up has in `refused` the line of one
+    that is refused at once: it tests and frees the same value, and is taken off in place of the tests."""
 
-    def __init__(self, call, shape, title, make, checks=0, is_spent=False, has_plain=True, inside=None):
+    def __init__(self, call, shape, title, make, checks=0, refused=None, has_plain=True, inside=None):
         self.call, self.shape, self.title, self.make = call, shape, title, make
-        self.checks, self.is_spent, self.has_plain = checks, is_spent, has_plain
+        self.checks, self.refused, self.has_plain = checks, refused, has_plain
         self.inside = inside
 
 
@@ -74,7 +75,7 @@ def rows(plain):
         make, title = shapes.PACKAGES[name]
         out.append(Row("same_sense", name, title, maker.on_two(make, "sense i 0 i 0"), checks=2))
     for name, (make, title) in shapes.COMPARED.items():
-        out.append(Row("semver_check", name, title, maker.on_value(make, "semver 0 1"), checks=1, is_spent=True))
+        out.append(Row("semver_check", name, title, maker.on_value(make, "semver 0 1"), refused="semver 0 2"))
     for name, (make, title) in shapes.MODULES.items():
         out.append(Row("metadata::decode", name, title, maker.on_module(make, "stripped")))
         out.append(Row("Bindgen::merge", name, title, maker.on_module(make, "stripped"), inside=MERGE))

@@ -78,6 +78,12 @@ class Bench:
             for line, a, b in zip(lines, own, plain):
                 if a != b or a.startswith(("unmet", "bad", "refused", "no-reading")):
                     raise RuntimeError(f"the answers to `{line[:40]}` differ, of {row.call} on {row.shape}: {a[:60]} and {b[:60]}")
+            if row.refused:
+                before, _ = row.make(SMALL)
+                for path in self.paths().values():
+                    answer = programs.on_lines(path, [*before, row.refused])[-1]
+                    if not answer.startswith("refused"):
+                        raise RuntimeError(f"`{row.refused}` isn't refused on {row.shape}: {answer[:60]}")
 
     # ---- one row
 
@@ -88,7 +94,7 @@ class Bench:
             for name, path in self.paths().items():
                 if name == "plain" and not row.has_plain:
                     continue
-                ms, peak, ready, answer = programs.timed(path, before, call, 1 if row.is_spent else 3)
+                ms, peak, ready, answer = programs.timed(path, before, call, 1 if row.refused else 3)
                 found.setdefault(name, []).append((ms, peak, ready, answer))
         for name, runs in found.items():
             figures = {"peak": max(r[1] for r in runs), "ready": max(r[2] for r in runs)}
@@ -106,8 +112,18 @@ class Bench:
             self.before[key] = programs.counted(self.tool, [path], given)
         return self.before[key]
 
+    def beside_count(self, row, name, before):
+        """The instructions of what a process does beside the call: it makes ready, tests, and frees what was read."""
+        path = self.paths()[name]
+        if row.refused:
+            return self.lines_count(path, [*before, row.refused])
+        ready = self.lines_count(path, before)
+        if name == "plain" or not row.checks:
+            return ready
+        return ready + row.checks * (self.lines_count(path, [*before, "check"]) - ready)
+
     def count_row(self, row, size, before, call, names=("cases", "plain")):
-        """The instructions of a call: a process that makes it, less one that only makes ready, less what the program tests before."""
+        """The instructions of a call: of a process that makes it, less what it does besides."""
         for name in names:
             if name == "plain" and not row.has_plain:
                 continue
@@ -116,10 +132,7 @@ class Bench:
                 given = "\n".join(["brief", *before, call, ""]).encode()
                 count = programs.counted_inside([path], given, row.inside[name])
             elif self.tool:
-                ready = self.lines_count(path, before)
-                count = self.lines_count(path, [*before, call]) - ready
-                if name == "cases" and row.checks:
-                    count -= row.checks * (self.lines_count(path, [*before, "check"]) - ready)
+                count = self.lines_count(path, [*before, call]) - self.beside_count(row, name, before)
             else:
                 continue
             if count is not None:

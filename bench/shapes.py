@@ -72,6 +72,12 @@ def alone(members):
     return made
 
 
+def and_another(packages, worlds):
+    """A world of another package besides, without imports and exports: a comparison with it is refused at once."""
+    packages.append(package("other", None, (), [("w", len(worlds))]))
+    worlds.append(world("w", len(packages) - 1, ()))
+
+
 def versions(members):
     """The interface of half the size in two versions of a package, and a world of each that imports it."""
     def made(n):
@@ -83,6 +89,7 @@ def versions(members):
             types += words
             worlds.append(world("w", k, [import_interface(k)]))
             packages.append(package("b", version, [("i", k)], [("w", k)]))
+        and_another(packages, worlds)
         return resolve(packages, interfaces, worlds, types)
     return made
 
@@ -171,7 +178,10 @@ def small_worlds(n):
 def two_worlds(n):
     imports = [item_function(*plain_function(k, True)) for k in range(1, n // 2, 2)]
     exports = [item_function(*plain_function(k, True)) for k in range(0, n // 2, 2)]
-    return many_worlds([world(f"w{k}", 0, imports, exports) for k in range(2)])
+    packages = [package("b", None, (), [("w0", 0), ("w1", 1)])]
+    worlds = [world(f"w{k}", 0, imports, exports) for k in range(2)]
+    and_another(packages, worlds)
+    return resolve(packages, (), worlds, ())
 
 
 # ---- modules: the two worlds whose sections a module carries, each as a `resolve` line and the number of its world

@@ -50,7 +50,7 @@ fn case_types(alloc: Global, cases: &[Case]) -> Result<Vec<Type>, AllocError>
 fn tuple_types(alloc: Global, types: &[Type]) -> Result<Vec<Type>, AllocError>
     ensures { IfOk result (λ v. v.items ≡ types.now) }
 {
-    types.iter().copied().collect(alloc)
+    types.to_vec(alloc)
 }
 
 fn handle_target(handle: Handle) -> Type
