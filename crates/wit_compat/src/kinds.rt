@@ -38,7 +38,11 @@ fn two_types(
 fn field_types(alloc: Global, fields: &[Field]) -> Result<Vec<Type>, AllocError>
     ensures { IfOk result (λ v. v.items ≡ map (λ f. f.ty) fields.now) }
 {
-    fields.iter().map(|field| field.ty).collect(alloc)
+    let mut types = Vec::with_capacity(alloc, fields.len())?;
+    for field in fields {
+        types.push(field.ty)?;
+    }
+    Ok(types)
 }
 
 fn case_types(alloc: Global, cases: &[Case]) -> Result<Vec<Type>, AllocError>
