@@ -37,6 +37,14 @@ impl<'a> Named for (&'a str, bool) {
     }
 }
 
+impl<'a> Named for (&'a str, usize) {
+    ghost name_of = { λ pair. pair.0.now };
+
+    fn name(&self) -> &str {
+        self.0
+    }
+}
+
 /// How many are compared with each other.
 const FEW: usize = 8;
 

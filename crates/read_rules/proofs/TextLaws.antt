@@ -1,10 +1,14 @@
 -- Tests of one text among several, and the names of parameters.
-use Rattle.std.proofs.Common.{◌≡◌, refl, sym, ap, ◌∙◌, ℕ, Bool, true, false, ◌&&◌, ◌||◌, List, [], ◌∷◌, map, Result, Ok, Err, IfOk}
+use Rattle.std.proofs.Common.{◌≡◌, refl, sym, ap, ◌∙◌, subst, ℕ, Bool, true, false, ◌&&◌, ◌||◌, List, [], ◌∷◌, map, Result, IfOk}
+use Rattle.std.proofs.lemmas.List.Folds.{list_all-map}
 use Rattle.std.specs.Borrow.{Bor}
-use Rattle.std.specs.List.{list_any}
+use Rattle.std.specs.List.{list_all, list_any}
+use Rattle.wit_model.specs.Names.{is_label}
 use Rattle.wit_model.specs.Text.{Text, text_eq}
-use Rattle.comp_meaning.specs.Rules.{are_labels}
-use Rattle.read_rules.specs.Tables.{now_of, param_of}
+use Rattle.comp_meaning.specs.Rules.{are_labels, distinct}
+use Rattle.distinct_names.proofs.NameLaws.{labels_good}
+use Rattle.read_rules.specs.Tables.{param_of}
+use Rattle.base_lemmas.proofs.Lists.{map_of_map}
 use Rattle.wit_model.proofs.TextLemmas.{text_same as same_text}
 
 -- ---- one text among several
@@ -43,11 +47,15 @@ any_none p none (x ∷ xs) = ap (λ b. b || list_any p xs) (none x) ∙ any_none
 
 -- ---- labels
 
-first_names : (ps : List (Bor (List ℕ) × ℕ)) → map now_of (map (λ x. x.0) ps) ≡ map (λ x. x.0) (map param_of ps)
-first_names [] = refl
-first_names (p ∷ ps) = ap (λ ts. p.0.now ∷ ts) (first_names ps)
+named : (ps : List (Bor (List ℕ) × ℕ)) → map (λ x. x.0) (map param_of ps) ≡ map (λ x. x.0.now) ps
+named ps = map_of_map (λ (x : Text × ℕ). x.0) param_of ps
 
-pub named_labels : {E : Type 0} (r : Result Bool E) (ps : List (Bor (List ℕ) × ℕ)) (names : List (Bor (List ℕ))) → names ≡ map (λ x. x.0) ps
-    → IfOk r (λ b. b ≡ are_labels (map now_of names)) → IfOk r (λ b. b ≡ are_labels (map (λ x. x.0) (map param_of ps)))
-named_labels (Ok b) ps names e h = h ∙ ap are_labels (ap (map now_of) e ∙ first_names ps)
-named_labels (Err x) ps names e h = tt
+module _ (ps : List (Bor (List ℕ) × ℕ)) where
+  pub named_labels : list_all (λ x. is_label x.0.now) ps ≡ true → {E : Type 0} (r : Result Bool E) → IfOk r (λ b. b ≡ distinct (map (λ x. x.0.now) ps))
+      → IfOk r (λ b. b ≡ are_labels (map (λ x. x.0) (map param_of ps)))
+  named_labels all r h =
+      subst (λ ts. IfOk r (λ b. b ≡ are_labels ts)) (sym (named ps)) (labels_good r (map (λ x. x.0.now) ps) (list_all-map is_label (λ x. x.0.now) ps ∙ all) h)
+
+  pub named_otherwise : list_all (λ x. is_label x.0.now) ps ≡ false → false ≡ are_labels (map (λ x. x.0) (map param_of ps))
+  named_otherwise some =
+      sym (ap are_labels (named ps) ∙ ap (λ b. b && distinct (map (λ x. x.0.now) ps)) (list_all-map is_label (λ x. x.0.now) ps ∙ some))

@@ -1,5 +1,5 @@
 -- Imports and exports of a world, one by one, and what stands earlier.
-use Rattle.std.proofs.Common.{◌≡◌, refl, sym, ap, ◌∙◌, ℕ, ◌+◌, ◌<◌, ◌≤◌, Bool, true, false, ◌&&◌, ◌||◌, ◌==◌, cond, List, [], ◌∷◌, ◌++◌, map, drop, take, length, get_or, Option, Some, None, is_some, option_to_list, Result, Ok, Err, IfOk}
+use Rattle.std.proofs.Common.{◌≡◌, refl, sym, ap, ◌∙◌, subst, ℕ, ◌+◌, ◌<◌, ◌≤◌, Bool, true, false, ◌&&◌, ◌||◌, ◌==◌, cond, List, [], ◌∷◌, ◌++◌, map, drop, take, length, get_or, Option, Some, None, is_some, option_to_list, Result, Ok, Err, IfOk}
 use Rattle.std.proofs.Math.ListN.{drop_of_length-le}
 use Rattle.std.proofs.lemmas.List.{append-nil, drop_more, map-append, take_more}
 use Rattle.std.proofs.lemmas.List.Folds.{list_all-append}
@@ -33,6 +33,7 @@ use Rattle.read_rules.proofs.InterfaceLaws.{same_function}
 use Rattle.read_rules.proofs.PlaceLaws.{same_before, stands_earlier}
 use Rattle.read_rules.proofs.ResourceLaws.{one_or_none}
 use Rattle.base_lemmas.proofs.Bools.{and-true as and_true, or_false, or_line}
+use Rattle.base_lemmas.proofs.Lists.{map_of_map}
 
 -- ---- resources that were seen
 
@@ -95,14 +96,8 @@ module _ (t : Tables) (home : ℕ) where
 
 -- ---- keys
 
-key_names : (xs : List Seen) → map now_of (map (λ s. s.key) xs) ≡ map (λ s. s.key) (map numbered_seen xs)
-key_names [] = refl
-key_names (x ∷ xs) = ap (λ ts. x.key.now ∷ ts) (key_names xs)
-
-pub keys_apart : {E : Type 0} (r : Result Bool E) (xs : List Seen) (keys : List (Bor (List ℕ))) → keys ≡ map (λ s. s.key) xs → IfOk r (λ b. b ≡ distinct (map now_of keys))
-    → IfOk r (λ b. b ≡ distinct (map (λ s. s.key) (map numbered_seen xs)))
-keys_apart (Ok b) xs keys e h = h ∙ ap distinct (ap (map now_of) e ∙ key_names xs)
-keys_apart (Err x) xs keys e h = tt
+pub keys_apart : {E : Type 0} (r : Result Bool E) (xs : List Seen) → IfOk r (λ b. b ≡ distinct (map (λ s. s.key.now) xs)) → IfOk r (λ b. b ≡ distinct (map (λ s. s.key) (map numbered_seen xs)))
+keys_apart r xs = subst (λ ts. IfOk r (λ b. b ≡ distinct ts)) (sym (map_of_map (λ s. s.key) numbered_seen xs))
 
 -- ---- what is used
 

@@ -138,16 +138,9 @@ pub fn are_exports(
     Ok(true)
 }
 
-fn keys_of<'a>(alloc: Global, items: &[Seen<'a>]) -> Result<Vec<&'a str>, AllocError>
-    ensures { IfOk result (λ keys. keys.items ≡ map (λ s. s.key) items.now) }
-{
-    items.iter().map(|item| item.key).collect(alloc)
-}
-
 /// Whether no key stands twice. Takes time linear in the keys, and as much memory as there are.
 pub(crate) fn have_one_key_each(alloc: Global, items: &[Seen<'_>]) -> Result<bool, AllocError>
     ensures { IfOk result (λ b. b ≡ distinct (map (λ s. s.key) (map numbered_seen items.now))) }
 {
-    let keys = keys_of(alloc, items)?;
-    are_distinct(alloc, &keys)
+    are_distinct(alloc, items)
 }

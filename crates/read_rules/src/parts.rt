@@ -14,7 +14,7 @@ ghost use Rattle.plan_meaning.specs.NumberedRules.{
   is_signature as is_signature_lem,
   stand_in_place,
 };
-ghost use Rattle.read_rules.specs.Tables.{known_in, now_of, numbered_fact, numbered_function_type, numbered_tables, param_of, standing};
+ghost use Rattle.read_rules.specs.Tables.{known_in, numbered_fact, numbered_function_type, numbered_tables, param_of, standing};
 
 use crate::tables::{Fact, FunctionType, Names, Tables, fact_at, shape_at};
 use distinct_names::are_distinct;
@@ -89,35 +89,19 @@ fn are_parameter_types(tables: &Tables<'_>, place: u32, params: &[(&str, usize)]
         .all(|param| is_parameter_type(place, fact_at(tables, param.1)))
 }
 
-fn are_all_labels(names: &[&str]) -> bool
-    ensures { result ≡ list_all (λ name. is_label_lem name.now) names.now }
+fn are_all_labels(params: &[(&str, usize)]) -> bool
+    ensures { result ≡ list_all (λ x. is_label_lem x.0.now) params.now }
 {
-    names.iter().all(|name| is_label(name))
-}
-
-fn are_labels(alloc: Global, names: &[&str]) -> Result<bool, AllocError>
-    ensures { IfOk result (λ b. b ≡ are_labels_lem (map now_of names.now)) }
-{
-    if !are_all_labels(names) {
-        return Ok(false);
-    }
-    are_distinct(alloc, names)
-}
-
-fn parameter_names<'a>(
-    alloc: Global,
-    params: &[(&'a str, usize)],
-) -> Result<Vec<&'a str>, AllocError>
-    ensures { IfOk result (λ names. names.items ≡ map (λ x. x.0) params.now) }
-{
-    params.iter().map(|param| param.0).collect(alloc)
+    params.iter().all(|param| is_label(param.0))
 }
 
 fn are_parameter_names(alloc: Global, params: &[(&str, usize)]) -> Result<bool, AllocError>
     ensures { IfOk result (λ b. b ≡ are_labels_lem (map (λ x. x.0) (map param_of params.now))) }
 {
-    let names = parameter_names(alloc, params)?;
-    are_labels(alloc, &names)
+    if !are_all_labels(params) {
+        return Ok(false);
+    }
+    are_distinct(alloc, params)
 }
 
 /// Whether a function whose names stand in the place may have this type (WIT.md, "Functions").

@@ -6,6 +6,7 @@ ghost use Rattle.read_rules.specs.Scopes.{numbered_key, numbered_shown};
 
 use crate::resources::is_resource;
 use crate::views::View;
+use distinct_names::Named;
 
 /// The key of an instance: the interface of a place, or a label with the place of its inline interface, or with that of the interface which it
 /// implements.
@@ -32,6 +33,14 @@ pub struct Seen<'a> {
     pub key: &'a str,
     pub shown: Shown<'a>,
     pub external_id: Option<&'a str>,
+}
+
+impl<'a> Named for Seen<'a> {
+    ghost name_of = { λ s. s.key.now };
+
+    fn name(&self) -> &str {
+        self.key
+    }
 }
 
 /// An instance, with the number of the place of its names.
