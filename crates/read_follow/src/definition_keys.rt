@@ -237,7 +237,7 @@ fn labels_key<'a>(alloc: Global, sort: u8, names: &[&'a str]) -> Result<Key<'a>,
     ensures shape { IfOk result (λ k. shape_of k ≡ record { sort = sort; number = 0; labels = marked false (map text_of names.now); parts = [] }) }
     ensures memory { IsOkUnless result refusals.Memory }
 {
-    let mut labels = Vec::new(alloc);
+    let mut labels = Vec::with_capacity(alloc, names.len())?;
     for name in names {
         labels.push((*name, false))?;
     }
@@ -278,7 +278,7 @@ fn value_parts(
         → RowsOf (value_type (slots_in T F slots.now)) value_labels value_trees values.now [] (map (part_tree T) ks.items)) }
     ensures absent { IfErr result (λ e. (T : List Tree) (F : List Signature) → Refuses e (each (value_type (slots_in T F slots.now)) values.now)) }
 {
-    let mut parts = Vec::new(alloc);
+    let mut parts = Vec::with_capacity(alloc, values.len())?;
     for v in values {
         match value_in(slots, *v) {
             Ok(part) => parts.push(part)?,
@@ -322,8 +322,8 @@ fn field_parts<'a>(
     ensures absent { IfErr result (λ e. (T : List Tree) (F : List Signature)
         → Refuses e (each (field_type (slots_in T F slots.now)) (map labeled fields.now))) }
 {
-    let mut labels = Vec::new(alloc);
-    let mut parts = Vec::new(alloc);
+    let mut labels = Vec::with_capacity(alloc, fields.len())?;
+    let mut parts = Vec::with_capacity(alloc, fields.len())?;
     for field in fields {
         match value_in(slots, field.1) {
             Ok(part) => {
@@ -368,7 +368,7 @@ fn case_parts<'a>(
         → RowsOf (case_type (slots_in T F slots.now)) case_labels case_trees (map labeled cases.now) (map label_of x.0.items) (map (part_tree T) x.1.items)) }
     ensures absent { IfErr result (λ e. (T : List Tree) (F : List Signature) → Refuses e (each (case_type (slots_in T F slots.now)) (map labeled cases.now))) }
 {
-    let mut labels = Vec::new(alloc);
+    let mut labels = Vec::with_capacity(alloc, cases.len())?;
     let mut parts = Vec::new(alloc);
     for case in cases {
         match given_in(slots, case.1) {
