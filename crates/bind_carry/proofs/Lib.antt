@@ -118,6 +118,8 @@ pub mod PackagesStand
 pub mod MergedUnion
 -- Things that are moved one after the other to the places that were made for them. Serves whole::move_interfaces.
 pub mod Moving
+-- Types that get numbers and places one after the other, and are moved there. Serves moved::move_types, moved::type_places, union::planned, union::union_of.
+pub mod MovedTypes
 -- Names that are copied into a map one behind the other, those that a test passes. Serves packages::interface_names, packages::world_names.
 pub mod NamesCopied
 -- The text that names a package names no other. Serves NamesMerged.
