@@ -40,4 +40,5 @@ MeetsPlace own (fate.Copied home) old new n = (n ≡ own + length old) × (lengt
 abbrev pub IsMovedBy : List ℕ → Fate → TypeDef → ℕ → List TypeDef → List TypeDef → ℕ → Type 0
 IsMovedBy numbers fate.Left def place old new next = (new ≡ old) × (next ≡ place)
 IsMovedBy numbers (fate.Stands k) def place old new next = (new ≡ old) × (next ≡ place)
-IsMovedBy numbers (fate.Copied home) def place old new next = (t : TypeDef) × IsTypeUnder numbers home def t × (new ≡ slice_set old place t) × (next ≡ place + 1)
+IsMovedBy numbers (fate.Copied home) def place old new next =
+    (t : TypeDef) × IsTypeUnder numbers home def t × (new ≡ slice_set old place t) × (next ≡ place + 1)
