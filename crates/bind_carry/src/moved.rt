@@ -69,13 +69,7 @@ pub(crate) fn type_places(
 }
 
 // Moves a type to a place by its fate, and answers the place of the next one.
-fn move_one(
-    types: &[u32],
-    fate: Fate,
-    def: TypeDef,
-    place: usize,
-    places: &mut [TypeDef],
-) -> usize
+fn move_one(types: &[u32], fate: Fate, def: TypeDef, place: usize, places: &mut [TypeDef]) -> usize
     requires below { all_below (length types.now) (view_numbers (kind_view def.kind)) ≡ true }
     requires room { copies fate ≡ true → place < length places.old }
     ensures { IsMovedBy types.now fate def place places.old places.new result }
@@ -91,12 +85,7 @@ fn move_one(
 }
 
 /// Moves the types that are carried as a whole to their places, in their order.
-pub(crate) fn move_types(
-    types: &[u32],
-    fates: &[Fate],
-    defs: Vec<TypeDef>,
-    places: &mut [TypeDef],
-)
+pub(crate) fn move_types(types: &[u32], fates: &[Fate], defs: Vec<TypeDef>, places: &mut [TypeDef])
     requires count { length fates.now ≡ length defs.items }
     requires room { copies_of fates.now ≤ length places.old }
     requires below { (n : ℕ) (def : TypeDefValue) → slice_get defs.items n ≡ Some def

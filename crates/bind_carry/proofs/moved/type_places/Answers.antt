@@ -1,7 +1,6 @@
-use Rattle.std.proofs.Common.{rules, ◌≡◌, ◌∷◌, ◌++◌, [], ◌<◌, ◌+◌, ◌∙◌, ap, drop, get_or, length, ℕ, List}
+use Rattle.std.proofs.Common.{rules, ◌≡◌, ◌∷◌, ◌++◌, ◌<◌, ◌+◌, ◌∙◌, ap, drop, get_or, length, ℕ, List}
 use Rattle.std.proofs.lemmas.List.{drop_more}
 use Rattle.bind_carry.specs.Fates.{numbers_by}
-use Rattle.bind_carry.specs.TooLong.{copies_of}
 use Rattle.bind_carry.specs.declared.fate.Fate.TheVariants as fate
 use Rattle.bind_carry.proofs.MovedTypes.{number_more, place_more}
 use Rattle.bind_carry.proofs.moved.type_places.Goals as goal

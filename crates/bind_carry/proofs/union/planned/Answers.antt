@@ -1,5 +1,4 @@
 use Rattle.std.proofs.Common.{rules, arith, inl, inr, Some, ◌≡◌, ◌∙◌, ◌+◌, ◌≤◌, [], ap, sym, subst, ℕ, List, length}
-use Rattle.std.specs.List.{slice_get}
 use Rattle.bind_carry.specs.Bound.{IsBoundOver}
 use Rattle.bind_carry.specs.BoundGains.{AreKeysUnder}
 use Rattle.bind_carry.specs.First.{first_fates}

@@ -22,8 +22,10 @@ loop-case-preserved c =
     item_written (IsCaseUnder numbers) (λ xs. are_cases_below (length numbers) xs ≡ true) (cases_later (length numbers)) c.args.cases.now now _ n x _ here
     (λ xs left. (
       ap (λ (p : Case). text_of p.name) (sym c.case-item.is),
-      (c.optional_image-case.ensures ∙ ap (λ (p : Case). option_map (renamed_type (number_under numbers)) p.ty) (sym c.case-item.is),
-      ap (λ (p : Case). optional_text p.docs.contents) (sym c.case-item.is)),
+      (
+        c.optional_image-case.ensures ∙ ap (λ (p : Case). option_map (renamed_type (number_under numbers)) p.ty) (sym c.case-item.is),
+        ap (λ (p : Case). optional_text p.docs.contents) (sym c.case-item.is),
+      ),
     ))
     refl c.loop-case.invariant
 

@@ -22,8 +22,10 @@ loop-field-preserved c =
     item_written (IsFieldUnder numbers) (λ xs. are_fields_below (length numbers) xs ≡ true) (fields_later (length numbers)) c.args.fields.now now _ n x _ here
     (λ xs left. (
       ap (λ (p : Field). text_of p.name) (sym c.field-item.is),
-      (c.image_of-field.ensures ∙ ap (λ (p : Field). renamed_type (number_under numbers) p.ty) (sym c.field-item.is),
-      ap (λ (p : Field). optional_text p.docs.contents) (sym c.field-item.is)),
+      (
+        c.image_of-field.ensures ∙ ap (λ (p : Field). renamed_type (number_under numbers) p.ty) (sym c.field-item.is),
+        ap (λ (p : Field). optional_text p.docs.contents) (sym c.field-item.is),
+      ),
     ))
     refl c.loop-field.invariant
 
