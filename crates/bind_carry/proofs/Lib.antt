@@ -1,4 +1,4 @@
--- Where copies of types stand, under the numbers that all types have. Serves bound::bind_entries, bound::copy_inline, bound::export_keys, bound::unify_types; crates above.
+-- Where copies of types stand, under the numbers that all types have. Serves bound::bind_entries, bound::copy_inline, bound::export_keys, bound::unify_types and 1 more; crates above.
 pub mod CopiesPlaced
 -- With its owner, all that a type or a function refers to is carried: by the rule on owners, from the smaller numbers on. Serves laws::parts.
 pub mod PartsCarried
@@ -20,7 +20,7 @@ pub mod Addable
 pub mod Marking
 -- At most as many are copied as pass a test that each of these passes. Serves crates above.
 pub mod CountedCopies
--- How many are copied. Serves bound::bind_items, fates::copy_types, union::planned, whole::move_interfaces; crates above.
+-- How many are copied. Serves bound::bind_items, fates::copy_types, moved::move_types, union::planned and 1 more; crates above.
 pub mod Counting
 -- Items that are copied where their keys are new join those that were there. Serves FirstInterfaces, SecondJoined, WorldsCopied; crates above.
 pub mod JoinedItems
@@ -58,7 +58,7 @@ pub mod Keeping
 pub mod KeysCopied
 -- Numbers that are given one after the other. Serves carried::number_carried.
 pub mod Numbering
--- Types that a pass copies: each stands under its new number, and all its parts are carried. Serves SecondAgreed, SecondInitial, SecondInterfaces, SecondJoined and 1 more.
+-- Types that a pass copies: each stands under its new number, and all its parts are carried. Serves Planning, SecondAgreed, SecondInitial, SecondInterfaces and 2 more.
 pub mod PassedTypes
 -- What becomes of types in what the bound world gains, before those without a name have their fates. Serves bound::bind_types.
 pub mod SecondTypes
@@ -116,8 +116,10 @@ pub mod NamesReady
 pub mod PackagesStand
 -- What a union adds, once it is added, is merged. Serves merged::merged_unions; crates above.
 pub mod MergedUnion
--- Things that are moved one after the other to the places that were made for them. Serves whole::move_interfaces.
+-- Things that are moved one after the other to the places that were made for them. Serves moved::move_types, whole::move_interfaces.
 pub mod Moving
+-- Types that get numbers and places one after the other, and are moved there. Serves moved::move_types, moved::type_places, union::planned, union::union_of.
+pub mod MovedTypes
 -- Names that are copied into a map one behind the other, those that a test passes. Serves packages::interface_names, packages::world_names.
 pub mod NamesCopied
 -- The text that names a package names no other. Serves NamesMerged.

@@ -1,25 +1,35 @@
 -- What a union adds, once what is moved is in its places.
-use Rattle.std.proofs.Common.{◌≡◌, refl, sym, ap, subst, ◌∙◌, ℕ, ◌≤◌, arith, List, [], ◌∷◌, ◌++◌, length, drop, slice_get, Some}
+use Rattle.std.proofs.Common.{◌≡◌, refl, sym, ap, subst, ◌∙◌, ℕ, ◌+◌, ◌≤◌, ◌<◌, true, arith, nat_lt, List, [], ◌∷◌, ◌++◌, length, drop, slice_get, Some}
 use Rattle.std.specs.List.{AllZip}
 use Rattle.std.specs.Vec.{with_items}
 use Rattle.std.proofs.lemmas.List.{with_items_is}
 use Rattle.wit_model.specs.declared.model.Interface.{Interface}
 use Rattle.wit_model.specs.declared.model.Resolve.{Resolve}
+use Rattle.wit_model.specs.declared.model.TypeDef.{TypeDef}
 use Rattle.wit_model.specs.declared.model.World.{World}
 use Rattle.bind_add.specs.declared.added.Added.{Added}
 use Rattle.bind_match.specs.declared.matches.Matches.{Matches}
+use Rattle.bind_copy.specs.Copies.{all_below}
+use Rattle.bind_union.specs.Views.{kind_view, view_numbers}
 use Rattle.bind_carry.specs.Bound.{bound_interfaces}
+use Rattle.bind_carry.specs.BoundGains.{bound_fates}
+use Rattle.bind_carry.specs.Fates.{copied_types, numbers_by, AreCopied, IsCopiedType}
 use Rattle.bind_carry.specs.First.{first_fates}
 use Rattle.bind_carry.specs.InRange.{IsInRange}
 use Rattle.bind_carry.specs.Moved.{AreMoved, IsInterfaceBelow}
 use Rattle.bind_carry.specs.Numbers.{copied_count}
 use Rattle.bind_carry.specs.Planned.{IsPlanned}
+use Rattle.bind_carry.specs.TooLong.{copies_of}
 use Rattle.bind_carry.specs.Union.{IsUnionOf}
 use Rattle.bind_carry.specs.Which.{AreMatchedAll}
 use Rattle.bind_carry.specs.Whole.{kept, IsInterfaceCarried}
 use Rattle.bind_carry.specs.declared.plan.Planned.{Planned}
-use Rattle.bind_carry.proofs.Counting.{carried_all, length_both}
-use Rattle.bind_carry.proofs.Ready.{carried_ready, fates_long, numbers_count}
+use Rattle.std.proofs.lemmas.Bool.{lt-ltb, ltb-true}
+use Rattle.base_lemmas.proofs.Elements.{all_weaker, zip_long}
+use Rattle.bind_carry.proofs.CopiesPlaced.{numbers_by_long}
+use Rattle.bind_carry.proofs.Counting.{carried_all, length_both, types_counted}
+use Rattle.bind_carry.proofs.PassedTypes.{type_within}
+use Rattle.bind_carry.proofs.Ready.{carried_ready, fates_long}
 
 -- what stands behind the front of a list
 behind_front : {X : Type 0} (xs ys : List X) (n : ℕ) → n ≡ length xs → drop n (xs ++ ys) ≡ ys
@@ -40,8 +50,29 @@ module _ (own other : Resolve) (world other_world : ℕ) (m : Matches) (w v : Wo
       omega (arith, places, all)
 
   types_count : length p.types.items ≡ length other.types.items
-  types_count =
-      numbers_count (length own.types.items) p.types.items other.types.items (first_fates own other m.interfaces.items p.carried) [] s.defs s.types_copied ∙ fates_long own other m p.carried
+  types_count = ap length s.types_are ∙ (numbers_by_long (length own.types.items) (first_fates own other m.interfaces.items p.carried) ∙ fates_long own other m p.carried)
+
+  -- each type has a fate
+  pub fates_there : length p.fates.items ≡ length other.types.items
+  fates_there = ap length s.fates_are ∙ fates_long own other m p.carried
+
+  -- and each that is copied has a place
+  pub type_places_there : copies_of p.fates.items ≤ length p.added.types.items
+  type_places_there =
+      let copied = ap copies_of s.fates_are in
+      let places = s.first.type_places in
+      let all = ap length s.second.types_copied.behind ∙ length_both s.before.types.items s.second.types_copied.more in
+      omega (arith, copied, places, all)
+
+  -- the types in front of it have new numbers
+  pub types_below : IsInRange other → (types : List ℕ) → types ≡ p.types.items → (n : ℕ) (def : TypeDef) → slice_get other.types.items n ≡ Some def
+      → all_below (length types) (view_numbers (kind_view def.kind)) ≡ true
+  types_below range types same n def at =
+      let count : length types ≡ length other.types.items = ap length same ∙ types_count in
+      let within : n < length other.types.items = type_within other.types.items n def at in
+      all_weaker (λ k. nat_lt k n) (λ k. nat_lt k (length types))
+      (λ k lower. let low = ltb-true k n lower in lt-ltb k (length types) (omega (arith, count, within, low)))
+      (view_numbers (kind_view def.kind)) (range.falls n def at)
 
   -- its package and its types have new numbers
   pub interfaces_below : IsInRange other → AreMatchedAll other m → (types : List ℕ) → types ≡ p.types.items → (n : ℕ) (i : Interface) → slice_get other.interfaces.items n ≡ Some i
@@ -53,7 +84,8 @@ module _ (own other : Resolve) (world other_world : ℕ) (m : Matches) (w v : Wo
 -- ---- once it is moved
 
 module _ (own other : Resolve) (world other_world : ℕ) (m : Matches) (w v : World) (p : Planned) (s : IsPlanned own other world other_world m w v p) (now : List Interface)
-    (are : AreMoved (IsInterfaceCarried p.carried p.types.items) (kept p.carried.copied_interfaces.items other.interfaces.items) p.added.interfaces.items now) where
+    (are : AreMoved (IsInterfaceCarried p.carried p.types.items) (kept p.carried.copied_interfaces.items other.interfaces.items) p.added.interfaces.items now) (defs : List TypeDef)
+    (types_are : AreMoved (IsCopiedType p.types.items) (copied_types other.types.items p.fates.items) p.added.types.items defs) where
   many : length are.moved ≡ length s.before.interfaces.items
   many = carried_all (IsInterfaceCarried p.carried p.types.items) p.carried.copied_interfaces.items other.interfaces.items are.moved s.numbered.interface_count are.each ∙ sym s.first.places
 
@@ -69,33 +101,82 @@ module _ (own other : Resolve) (world other_world : ℕ) (m : Matches) (w v : Wo
       let same = many in
       omega (arith, there, before, same)
 
+  -- ---- types
+
+  types_many : length types_are.moved ≡ length s.before.types.items
+  types_many =
+      sym (zip_long (IsCopiedType p.types.items) (copied_types other.types.items p.fates.items) types_are.moved types_are.each)
+      ∙ (types_counted other.types.items p.fates.items (ap length s.fates_are ∙ fates_long own other m p.carried) ∙ (ap copies_of s.fates_are ∙ sym s.first.type_places))
+
+  types_here : defs ≡ types_are.moved ++ s.second.types_copied.more
+  types_here = types_are.placed ∙ ap (λ l. types_are.moved ++ l) (ap (λ l. drop (length types_are.moved) l) s.second.types_copied.behind
+      ∙ behind_front s.before.types.items s.second.types_copied.more (length types_are.moved) types_many)
+
+  pub types_as_long : length defs ≡ length p.added.types.items
+  types_as_long =
+      let there = ap length types_here ∙ length_both types_are.moved s.second.types_copied.more in
+      let before = ap length s.second.types_copied.behind ∙ length_both s.before.types.items s.second.types_copied.more in
+      let same = types_many in
+      omega (arith, there, before, same)
+
+  -- ---- all
+
   -- all that is there before the bound world gains anything
   abbrev first : Added
-  first = record s.before { interfaces = with_items s.before.interfaces are.moved }
+  first = record s.before { interfaces = with_items s.before.interfaces are.moved; types = with_items s.before.types types_are.moved }
 
   first_items : first.interfaces.items ≡ are.moved
   first_items = with_items_is s.before.interfaces are.moved (many ∙ sym s.before.interfaces.ok.0)
 
+  first_types : first.types.items ≡ types_are.moved
+  first_types = with_items_is s.before.types types_are.moved (types_many ∙ sym s.before.types.ok.0)
+
   same_number : length first.interfaces.items ≡ length s.before.interfaces.items
   same_number = ap length first_items ∙ many
 
-  pub whole_union : (added : Added) → added ≡ record p.added { interfaces = added.interfaces } → added.interfaces.items ≡ now
+  same_type_number : length first.types.items ≡ length s.before.types.items
+  same_type_number = ap length first_types ∙ types_many
+
+  none_before : length own.types.items ≡ length own.types.items + 0
+  none_before = omega arith
+
+  types_whole : AreCopied (length own.types.items) p.types.items other.types.items (first_fates own other m.interfaces.items p.carried) [] types_are.moved
+  types_whole = record {
+    numbers_are = s.types_are ∙ ap (λ (k : ℕ). numbers_by k (first_fates own other m.interfaces.items p.carried)) none_before;
+    more = types_are.moved;
+    behind = refl;
+    copied = subst (λ l. AllZip (IsCopiedType p.types.items) (copied_types other.types.items l) types_are.moved) s.fates_are types_are.each;
+  }
+
+  gained_types : (new : List TypeDef) → new ≡ defs
+      → AreCopied (length own.types.items) s.second.types other.types.items
+      (bound_fates other world other_world w v s.second.copied s.second.interfaces (first_fates own other m.interfaces.items p.carried) p.types.items) first.types.items new
+  gained_types new items = record {
+    numbers_are = s.second.types_copied.numbers_are
+        ∙ ap (λ (k : ℕ). numbers_by (length own.types.items + k)
+        (bound_fates other world other_world w v s.second.copied s.second.interfaces (first_fates own other m.interfaces.items p.carried) p.types.items)) (sym same_type_number);
+    more = s.second.types_copied.more;
+    behind = items ∙ (types_here ∙ ap (λ l. l ++ s.second.types_copied.more) (sym first_types));
+    copied = s.second.types_copied.copied;
+  }
+
+  pub whole_union : (added : Added) → added ≡ record p.added { interfaces = added.interfaces; types = added.types } → added.interfaces.items ≡ now → added.types.items ≡ defs
       → IsUnionOf own other world other_world m w v added p.keys.keys
-  whole_union added same items =
+  whole_union added same items type_items =
       subst (λ a. IsUnionOf own other world other_world m w v a p.keys.keys) (sym same)
       (record {
         carried = p.carried;
         numbered = s.numbered;
         types = p.types.items;
-        defs = s.defs;
-        types_copied = s.types_copied;
+        defs = types_are.moved;
+        types_copied = types_whole;
         before = first;
         first = record {
           packages = s.first.packages;
           names = s.first.names;
           interfaces = subst (AllZip (IsInterfaceCarried p.carried p.types.items) (kept p.carried.copied_interfaces.items other.interfaces.items)) (sym first_items) are.each;
           worlds = s.first.worlds;
-          type_defs = s.first.type_defs;
+          type_defs = first_types;
           no_imports = s.first.no_imports;
           no_exports = s.first.no_exports;
         };
@@ -108,7 +189,7 @@ module _ (own other : Resolve) (world other_world : ℕ) (m : Matches) (w v : Wo
           packages = s.second.packages;
           names = s.second.names;
           worlds = s.second.worlds;
-          types_copied = s.second.types_copied;
+          types_copied = gained_types added.types.items type_items;
           inline_copied = record {
             more = s.second.inline_copied.more;
             behind = items ∙ (here ∙ ap (λ l. l ++ s.second.inline_copied.more) (sym first_items));

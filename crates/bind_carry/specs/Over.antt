@@ -40,12 +40,12 @@ pub record IsCarriedOver (other : Resolve) (c : Carried) (types : List ℕ) (def
   pub no_imports : a.imports.entries ≡ []
   pub no_exports : a.exports.entries ≡ []
 
--- So it is, with a place for each interface that is carried, in the place of the interface.
-pub record IsPlacedOver (other : Resolve) (c : Carried) (types : List ℕ) (defs : List TypeDef) (a : Added) : Type 0 where
+-- So it is, with a place for each interface that is carried, in the place of the interface, and so many places for types.
+pub record IsPlacedOver (other : Resolve) (c : Carried) (types : List ℕ) (type_count : ℕ) (a : Added) : Type 0 where
   pub packages : AllZip (IsPackageCarried c) (kept c.new_packages.items other.packages.items) a.packages.items
   pub names : AllZip (IsGained c) (grown_packages c.new_packages.items c.packages.items other.packages.items) a.names.items
   pub places : length a.interfaces.items ≡ copied_count c.copied_interfaces.items
   pub worlds : AllZip (IsWorldCarried c types) (kept c.copied_worlds.items other.worlds.items) a.worlds.items
-  pub type_defs : a.types.items ≡ defs
+  pub type_places : length a.types.items ≡ type_count
   pub no_imports : a.imports.entries ≡ []
   pub no_exports : a.exports.entries ≡ []

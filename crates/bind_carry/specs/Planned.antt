@@ -1,26 +1,26 @@
--- What a union adds, where the interfaces that are carried aren't in their places yet.
-use Rattle.std.specs.Prelude.{ℕ, List, [], length}
+-- What a union adds, where the interfaces and types that are carried aren't in their places yet.
+use Rattle.std.specs.Prelude.{◌≡◌, ℕ, length}
 use Rattle.wit_model.specs.declared.model.Resolve.{Resolve}
-use Rattle.wit_model.specs.declared.model.TypeDef.{TypeDef}
 use Rattle.wit_model.specs.declared.model.World.{World}
 use Rattle.bind_add.specs.declared.added.Added.{Added}
 use Rattle.bind_match.specs.declared.matches.Matches.{Matches}
 use Rattle.bind_carry.specs.Bound.{IsBoundOver}
 use Rattle.bind_carry.specs.BoundGains.{AreKeysUnder}
-use Rattle.bind_carry.specs.Fates.{AreCopied}
+use Rattle.bind_carry.specs.Fates.{numbers_by}
 use Rattle.bind_carry.specs.First.{first_fates}
 use Rattle.bind_carry.specs.OfBound.{OfWorlds}
 use Rattle.bind_carry.specs.Over.{IsPlacedOver}
+use Rattle.bind_carry.specs.TooLong.{copies_of}
 use Rattle.bind_carry.specs.Which.{IsNumbered}
 use Rattle.bind_carry.specs.declared.plan.Planned.{Planned}
 
--- All else is as a union adds it, behind so many places for interfaces.
+-- All else is as a union adds it, behind so many places for interfaces and types.
 pub record IsPlanned (own other : Resolve) (world other_world : ℕ) (m : Matches) (w v : World) (p : Planned) : Type 0 where
   pub numbered : IsNumbered own other m p.carried
-  pub defs : List TypeDef
-  pub types_copied : AreCopied (length own.types.items) p.types.items other.types.items (first_fates own other m.interfaces.items p.carried) [] defs
+  pub fates_are : p.fates.items ≡ first_fates own other m.interfaces.items p.carried
+  pub types_are : p.types.items ≡ numbers_by (length own.types.items) (first_fates own other m.interfaces.items p.carried)
   pub before : Added
-  pub first : IsPlacedOver other p.carried p.types.items defs before
+  pub first : IsPlacedOver other p.carried p.types.items (copies_of (first_fates own other m.interfaces.items p.carried)) before
   pub second : IsBoundOver own other world other_world w v p.carried (first_fates own other m.interfaces.items p.carried) p.types.items before p.added
   pub keys_are : AreKeysUnder p.carried.interfaces.items v.exports.entries p.keys.keys
 

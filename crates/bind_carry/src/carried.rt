@@ -154,17 +154,17 @@ pub(crate) fn settled_types(
     settle(alloc, &other.types, &fates, adds)
 }
 
-/// All that is carried, with empty places for the interfaces and nothing yet for the bound world.
+/// All that is carried, with empty places for the interfaces and types, and nothing yet for the bound world.
 pub(crate) fn added(
     alloc: Global,
     other: &Resolve,
     carried: &Carried,
     types: &[u32],
-    type_defs: Vec<TypeDef>,
+    type_places: Vec<TypeDef>,
 ) -> Result<Added, Error>
     requires whole { IsWhole carried.now }
     requires ready { IsCarriedReady other.now carried.now (length types.now) }
-    ensures added { IfOk result (IsPlacedOver other.now carried.now types.now type_defs.items) }
+    ensures added { IfOk result (IsPlacedOver other.now carried.now types.now (length type_places.items)) }
     ensures refuses { IfErr result IsMemory }
 {
     let packages = new_package_list(alloc, other, carried)?;
@@ -175,7 +175,7 @@ pub(crate) fn added(
         packages,
         interfaces,
         worlds,
-        types: type_defs,
+        types: type_places,
         names,
         imports: Map::new(alloc),
         exports: Map::new(alloc),

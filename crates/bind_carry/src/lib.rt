@@ -8,6 +8,7 @@ mod fate;
 mod fates;
 pub mod laws;
 pub mod merged;
+mod moved;
 mod numbers;
 mod owned;
 mod packages;

@@ -1,5 +1,5 @@
 -- Functions that are copied into a map one behind the other, and what holds of the members of those that are moved.
-use Rattle.std.proofs.Common.{◌≡◌, refl, ap, subst, ◌∙◌, ℕ, true, nat_lt, List, [], ◌∷◌}
+use Rattle.std.proofs.Common.{◌≡◌, refl, ap, subst, ◌∙◌, ℕ, true, nat_lt, List, [], ◌∷◌, map}
 use Rattle.std.specs.List.{AllZip}
 use Rattle.std.specs.Prelude.{String}
 use Rattle.std.specs.String.{string_eq}
@@ -9,11 +9,14 @@ use Rattle.std.specs.declared.alloc.Global.{Global}
 use Rattle.indexmap.specs.IndexMap.{insert_entry}
 use Rattle.wit_model.proofs.Distinct.{text_eq_flip}
 use Rattle.wit_model.specs.Text.{text_eq, text_of}
+use Rattle.wit_model.specs.declared.model.Case.{Case}
+use Rattle.wit_model.specs.declared.model.Field.{Field}
 use Rattle.wit_model.specs.declared.model.Function.{Function}
 use Rattle.wit_model.specs.declared.model.Param.{Param}
 use Rattle.wit_model.specs.declared.model.TypeId.{TypeId}
-use Rattle.bind_union.specs.Views.{type_numbers}
-use Rattle.bind_copy.specs.Copies.{all_below, are_names_below, are_params_below, params_of, params_under, type_names, type_names_under, AreFunctionsBelow, CopiedSoFar, IsFunctionEntry, IsFunctionUnder, IsParamUnder, IsTypeEntry}
+use Rattle.wit_model.specs.declared.model.«Type».{«Type» as ValueType}
+use Rattle.bind_union.specs.Views.{optional_numbers, renamed_type, type_numbers}
+use Rattle.bind_copy.specs.Copies.{all_below, are_cases_below, are_fields_below, are_names_below, are_params_below, are_parts_below, case_docs, cases_of, cases_under, field_docs, fields_of, fields_under, number_under, params_of, params_under, type_names, type_names_under, AreFunctionsBelow, CopiedSoFar, IsCaseUnder, IsFieldUnder, IsFunctionEntry, IsFunctionUnder, IsParamUnder, IsPartUnder, IsTypeEntry}
 use Rattle.base_lemmas.proofs.Bools.{right_of}
 use Rattle.bind_copy.proofs.Copied.{all_copied, one_copied}
 use Rattle.base_lemmas.proofs.Lists.{filter_all as all_pass}
@@ -54,7 +57,46 @@ module _ (types : List ℕ) where
   names_are (x ∷ xs) [] z = absurd z
   names_are (x ∷ xs) (y ∷ ys) z = λ i. (z.0.0 i, z.0.1 i) ∷ names_are xs ys z.1 i
 
+  pub fields_are : (old new : List Field) → AllZip (IsFieldUnder types) old new → fields_of new ≡ fields_under types old
+  fields_are [] [] z = refl
+  fields_are [] (y ∷ ys) z = absurd z
+  fields_are (x ∷ xs) [] z = absurd z
+  fields_are (x ∷ xs) (y ∷ ys) z = λ i. (z.0.0 i, z.0.1.0 i) ∷ fields_are xs ys z.1 i
+
+  pub field_docs_are : (old new : List Field) → AllZip (IsFieldUnder types) old new → field_docs new ≡ field_docs old
+  field_docs_are [] [] z = refl
+  field_docs_are [] (y ∷ ys) z = absurd z
+  field_docs_are (x ∷ xs) [] z = absurd z
+  field_docs_are (x ∷ xs) (y ∷ ys) z = λ i. z.0.1.1 i ∷ field_docs_are xs ys z.1 i
+
+  pub cases_are : (old new : List Case) → AllZip (IsCaseUnder types) old new → cases_of new ≡ cases_under types old
+  cases_are [] [] z = refl
+  cases_are [] (y ∷ ys) z = absurd z
+  cases_are (x ∷ xs) [] z = absurd z
+  cases_are (x ∷ xs) (y ∷ ys) z = λ i. (z.0.0 i, z.0.1.0 i) ∷ cases_are xs ys z.1 i
+
+  pub case_docs_are : (old new : List Case) → AllZip (IsCaseUnder types) old new → case_docs new ≡ case_docs old
+  case_docs_are [] [] z = refl
+  case_docs_are [] (y ∷ ys) z = absurd z
+  case_docs_are (x ∷ xs) [] z = absurd z
+  case_docs_are (x ∷ xs) (y ∷ ys) z = λ i. z.0.1.1 i ∷ case_docs_are xs ys z.1 i
+
+  pub parts_are : (old new : List ValueType) → AllZip (IsPartUnder types) old new → new ≡ map (renamed_type (number_under types)) old
+  parts_are [] [] z = refl
+  parts_are [] (y ∷ ys) z = absurd z
+  parts_are (x ∷ xs) [] z = absurd z
+  parts_are (x ∷ xs) (y ∷ ys) z = λ i. z.0 i ∷ parts_are xs ys z.1 i
+
 module _ (count : ℕ) where
+  pub fields_later : (f : Field) (fs : List Field) → are_fields_below count (f ∷ fs) ≡ true → are_fields_below count fs ≡ true
+  fields_later f fs h = right_of (all_below count (type_numbers f.ty)) (are_fields_below count fs) h
+
+  pub cases_later : (c : Case) (cs : List Case) → are_cases_below count (c ∷ cs) ≡ true → are_cases_below count cs ≡ true
+  cases_later c cs h = right_of (all_below count (optional_numbers c.ty)) (are_cases_below count cs) h
+
+  pub parts_later : (t : ValueType) (ts : List ValueType) → are_parts_below count (t ∷ ts) ≡ true → are_parts_below count ts ≡ true
+  parts_later t ts h = right_of (all_below count (type_numbers t)) (are_parts_below count ts) h
+
   pub params_later : (p : Param) (ps : List Param) → are_params_below count (p ∷ ps) ≡ true → are_params_below count ps ≡ true
   params_later p ps h = right_of (all_below count (type_numbers p.ty)) (are_params_below count ps) h
 

@@ -1,10 +1,9 @@
 -- What is copied under new numbers.
 use Rattle.std.specs.Prelude.{◌≡◌, ◌<◌, ◌++◌, ◌==◌, ℕ, Bool, true, false, not, nat_lt, List, [], ◌∷◌, length, map, Option, option_map, slice_get, unwrap_or}
-use Rattle.std.specs.List.{filter, list_all, list_any, flat_map, AllZip, IsDistinct}
+use Rattle.std.specs.List.{filter, list_all, list_any, AllZip, IsDistinct}
 use Rattle.std.specs.Map.{keys_of}
 use Rattle.std.specs.String.{string_eq}
 use Rattle.indexmap.specs.IndexMap.{IsUnique}
-use Rattle.std.specs.Option.{option_map_or}
 use Rattle.std.specs.Prelude.{String}
 use Rattle.std.specs.declared.alloc.Global.{Global}
 use Rattle.wit_model.specs.declared.model.Field.{Field}
@@ -29,7 +28,7 @@ use Rattle.wit_model.specs.declared.model.WorldItem.TheVariants as item
 use Rattle.wit_model.specs.declared.model.WorldKey.{WorldKey}
 use Rattle.wit_model.specs.declared.model.WorldKey.TheVariants as key
 use Rattle.bind_union.specs.Carried.{stability_view}
-use Rattle.bind_union.specs.Views.{kind_view, optional_numbers, renamed, renamed_type, type_numbers, view_numbers}
+use Rattle.bind_union.specs.Views.{kind_view, optional_numbers, renamed, renamed_type, type_numbers}
 
 -- the new number of a number
 abbrev pub number_under : List ℕ → ℕ → ℕ
@@ -136,6 +135,32 @@ pub record IsFunctionUnder (numbers : List ℕ) (old new : Function) : Type 0 wh
   pub external_id : optional_text new.external_id ≡ optional_text old.external_id
 
 -- ---- types
+
+-- all types that fields name are below so many
+abbrev pub are_fields_below : ℕ → List Field → Bool
+are_fields_below count fields = list_all (λ f. all_below count (type_numbers f.ty)) fields
+
+-- all types that cases name
+abbrev pub are_cases_below : ℕ → List Case → Bool
+are_cases_below count cases = list_all (λ c. all_below count (optional_numbers c.ty)) cases
+
+-- all types of a list
+abbrev pub are_parts_below : ℕ → List ValueType → Bool
+are_parts_below count types = list_all (λ t. all_below count (type_numbers t)) types
+
+-- a field whose type has its new number, with its documentation
+abbrev pub IsFieldUnder : List ℕ → Field → Field → Type 0
+IsFieldUnder numbers old new = (text_of new.name ≡ text_of old.name) × ((new.ty ≡ renamed_type (number_under numbers) old.ty)
+    × (optional_text new.docs.contents ≡ optional_text old.docs.contents))
+
+-- a case whose type has its new number, with its documentation
+abbrev pub IsCaseUnder : List ℕ → Case → Case → Type 0
+IsCaseUnder numbers old new = (text_of new.name ≡ text_of old.name) × ((new.ty ≡ option_map (renamed_type (number_under numbers)) old.ty)
+    × (optional_text new.docs.contents ≡ optional_text old.docs.contents))
+
+-- a type under its new number
+abbrev pub IsPartUnder : List ℕ → ValueType → ValueType → Type 0
+IsPartUnder numbers old new = new ≡ renamed_type (number_under numbers) old
 
 -- A type under new numbers, for an owner.
 pub record IsTypeUnder (numbers : List ℕ) (home : TypeOwner) (old new : TypeDef) : Type 0 where

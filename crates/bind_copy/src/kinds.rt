@@ -115,7 +115,7 @@ fn copy_types(alloc: Global, numbers: &[u32], types: &[Type]) -> Result<Vec<Type
     Ok(copy)
 }
 
-fn image_of_handle(numbers: &[u32], handle: &Handle) -> TypeDefKind
+pub(crate) fn image_of_handle(numbers: &[u32], handle: &Handle) -> TypeDefKind
     requires { list_all (λ n. nat_lt n (length numbers.now)) (view_numbers (kind_view (kinds.Handle handle.now))) ≡ true }
     ensures view { kind_view result ≡ renamed (number_under numbers.now) (kind_view (kinds.Handle handle.now)) }
     ensures docs { member_docs result ≡ [] }
@@ -162,7 +162,7 @@ fn copy_tuple(alloc: Global, numbers: &[u32], tuple: &Tuple) -> Result<TypeDefKi
     }))
 }
 
-fn image_of_result(numbers: &[u32], result_: &Result_) -> Result_
+pub(crate) fn image_of_result(numbers: &[u32], result_: &Result_) -> Result_
     requires { list_all (λ n. nat_lt n (length numbers.now)) (optional_numbers result_.now.ok ++ optional_numbers result_.now.err) ≡ true }
     ensures ok { result.ok ≡ option_map (renamed_type (number_under numbers.now)) result_.now.ok }
     ensures err { result.err ≡ option_map (renamed_type (number_under numbers.now)) result_.now.err }
@@ -173,7 +173,7 @@ fn image_of_result(numbers: &[u32], result_: &Result_) -> Result_
     }
 }
 
-fn image_of_map(numbers: &[u32], key: Type, value: Type) -> TypeDefKind
+pub(crate) fn image_of_map(numbers: &[u32], key: Type, value: Type) -> TypeDefKind
     requires { list_all (λ n. nat_lt n (length numbers.now)) (type_numbers key ++ type_numbers value) ≡ true }
     ensures view { kind_view result ≡ renamed (number_under numbers.now) (kind_view (kinds.Map key value)) }
     ensures docs { member_docs result ≡ [] }

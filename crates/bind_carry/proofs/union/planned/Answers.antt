@@ -1,8 +1,6 @@
-use Rattle.std.proofs.Common.{rules, arith, inl, inr, Some, ◌≡◌, ◌∙◌, ◌≤◌, [], ap, sym, subst, ℕ, List, length}
-use Rattle.std.specs.List.{slice_get}
+use Rattle.std.proofs.Common.{rules, arith, inl, inr, Some, ◌≡◌, ◌∙◌, ◌+◌, ◌≤◌, [], ap, sym, subst, ℕ, List, length}
 use Rattle.bind_carry.specs.Bound.{IsBoundOver}
 use Rattle.bind_carry.specs.BoundGains.{AreKeysUnder}
-use Rattle.bind_carry.specs.Fates.{AreCopied}
 use Rattle.bind_carry.specs.First.{first_fates}
 use Rattle.bind_carry.specs.Over.{IsPlacedOver}
 use Rattle.bind_carry.specs.Packaged.{IsPackageCarried}
@@ -12,7 +10,9 @@ use Rattle.wit_model.specs.Lookup.{world_at}
 use Rattle.wit_model.specs.declared.error.Error.TheVariants.{Size}
 use Rattle.wit_model.specs.declared.model.World.{World}
 use Rattle.bind_carry.proofs.Counting.{carried_few}
+use Rattle.bind_carry.proofs.CopiesPlaced.{numbers_by_long}
 use Rattle.bind_carry.proofs.ManyCarried.{gained_by_count}
+use Rattle.bind_carry.proofs.MovedTypes.{numbers_first, places_first}
 use Rattle.bind_carry.proofs.Ranges.{is_in_range, shown_below}
 use Rattle.bind_carry.proofs.Ready.{carried_ready, interface_count, owners_below, world_keys_below}
 use Rattle.bind_carry.proofs.union.planned.Goals as goal
@@ -39,13 +39,12 @@ pub settled_types-requires-clause-owners : goal.settled_types-requires-clause-ow
 settled_types-requires-clause-owners c = owners_below c.args.own.now c.args.other.now c.args.matches.now c.in_ok-carried.carried (is_in_range c.args.other.now c.requires.other) c.requires.matches
     c.in_ok-carried.ensures.numbered
 
-pub copy_types-requires-clause-falls : goal.copy_types-requires-clause-falls
-copy_types-requires-clause-falls c n def at = (is_in_range c.args.other.now c.requires.other).falls n def (ap (λ l. slice_get l n) (sym c.deref.ensures.value) ∙ at)
-
 pub added-requires-clause-ready : goal.added-requires-clause-ready
 added-requires-clause-ready c =
     carried_ready c.args.own.now c.args.other.now c.args.matches.now c.in_ok-carried.carried (is_in_range c.args.other.now c.requires.other) c.requires.matches c.in_ok-carried.ensures.numbered
-    (length c.deref-3.result.now) (ap length c.deref-3.ensures.value ∙ (c.in_ok-types.ensures.count ∙ ap length c.deref.ensures.value))
+    (length c.deref-2.result.now)
+    (ap length (c.deref-2.ensures.value ∙ c.in_ok-types.ensures.numbers)
+    ∙ (numbers_by_long (c.len.result + length c.new-defs.result.items) c.deref.result.now ∙ (ap length c.deref.ensures.value ∙ c.in_ok-fates.ensures.count)))
 
 pub bind_items-requires : goal.bind_items-requires
 bind_items-requires c = record {
@@ -54,15 +53,17 @@ bind_items-requires c = record {
   in_range = is_in_range c.args.other.now c.requires.other;
   interface_count = interface_count c.args.own.now c.args.other.now c.args.matches.now c.in_ok-carried.carried (is_in_range c.args.other.now c.requires.other) c.requires.matches
       c.in_ok-carried.ensures.numbered;
-  fate_count = ap length c.deref-4.ensures.value ∙ c.in_ok-fates.ensures.count;
-  type_count = ap length c.deref-5.ensures.value ∙ (c.in_ok-types.ensures.count ∙ ap length c.deref.ensures.value);
+  fate_count = ap length c.deref-3.ensures.value ∙ c.in_ok-fates.ensures.count;
+  type_count =
+      ap length (c.deref-4.ensures.value ∙ c.in_ok-types.ensures.numbers)
+      ∙ (numbers_by_long (c.len.result + length c.new-defs.result.items) c.deref.result.now ∙ (ap length c.deref.ensures.value ∙ c.in_ok-fates.ensures.count));
 }
 
 pub export_keys-requires-clause-keys : goal.export_keys-requires-clause-keys
 export_keys-requires-clause-keys c v at =
     let range = is_in_range c.args.other.now c.requires.other in
     let count = interface_count c.args.own.now c.args.other.now c.args.matches.now c.in_ok-carried.carried range c.requires.matches c.in_ok-carried.ensures.numbered in
-    world_keys_below c.args.other.now range c.args.other_world.0 v at (length c.deref-6.result.now) (ap length c.deref-6.ensures.value ∙ count)
+    world_keys_below c.args.other.now range c.args.other_world.0 v at (length c.deref-5.result.now) (ap length c.deref-5.ensures.value ∙ count)
 
 pub returns-clause-plan : goal.returns-clause-plan
 returns-clause-plan c w v at_w at_v =
@@ -71,27 +72,27 @@ returns-clause-plan c w v at_w at_v =
     let world = c.args.world.0 in
     let other_world = c.args.other_world.0 in
     let carried = c.in_ok-carried.carried in
+    let fates = first_fates own other c.args.matches.now.interfaces.items carried in
     let types = c.in_ok-types.types.items in
-    let defs = c.copy_types.new.added.items in
+    let places = c.type_places.new.places.items in
     let before = c.in_ok-added.added in
     let new = c.bind_items.new.added in
     let many : c.len.result ≡ length own.types.items = search rules in
     let none : c.new-defs.result.items ≡ [] = search rules in
+    let same : c.deref.result.now ≡ fates = c.deref.ensures.value ∙ c.in_ok-fates.ensures.fates in
     record {
       numbered = c.in_ok-carried.ensures.numbered;
-      defs = defs;
-      types_copied =
-          subst (λ l. AreCopied (length own.types.items) types other.types.items l [] defs) (c.deref-2.ensures.value ∙ c.in_ok-fates.ensures.fates)
-          (subst (λ l. AreCopied (length own.types.items) types other.types.items c.deref-2.result.now l defs) none
-          (subst (λ l. AreCopied (length own.types.items) types l c.deref-2.result.now c.new-defs.result.items defs) c.deref.ensures.value
-          (subst (λ (k : ℕ). AreCopied k types c.deref.result.now c.deref-2.result.now c.new-defs.result.items defs) many c.in_ok-types.ensures.copied)));
+      fates_are = c.in_ok-fates.ensures.fates;
+      types_are = numbers_first c.len.result (length own.types.items) c.new-defs.result.items c.deref.result.now fates types many none same c.in_ok-types.ensures.numbers;
       before = before;
-      first = subst (λ (l : List ℕ). IsPlacedOver other carried l defs before) c.deref-3.ensures.value c.in_ok-added.ensures.added;
+      first =
+          subst (λ (k : ℕ). IsPlacedOver other carried types k before) (places_first c.new-defs.result.items c.deref.result.now fates places none same c.in_ok-types.ensures.count)
+          (subst (λ (l : List ℕ). IsPlacedOver other carried l (length places) before) c.deref-2.ensures.value c.in_ok-added.ensures.added);
       second =
-          subst (λ (l : List ℕ). IsBoundOver own other world other_world w v carried (first_fates own other c.args.matches.now.interfaces.items carried) l before new) c.deref-5.ensures.value
-          (subst (λ l. IsBoundOver own other world other_world w v carried l c.deref-5.result.now before new) (c.deref-4.ensures.value ∙ c.in_ok-fates.ensures.fates)
+          subst (λ (l : List ℕ). IsBoundOver own other world other_world w v carried fates l before new) c.deref-4.ensures.value
+          (subst (λ l. IsBoundOver own other world other_world w v carried l c.deref-4.result.now before new) (c.deref-3.ensures.value ∙ c.in_ok-fates.ensures.fates)
           (c.in_ok-bind_items.ensures.gained w v at_w at_v));
-      keys_are = subst (λ (l : List ℕ). AreKeysUnder l v.exports.entries c.in_ok-keys.keys.keys) c.deref-6.ensures.value (c.in_ok-keys.ensures.keys v at_v);
+      keys_are = subst (λ (l : List ℕ). AreKeysUnder l v.exports.entries c.in_ok-keys.keys.keys) c.deref-5.ensures.value (c.in_ok-keys.ensures.keys v at_v);
     }
 
 pub returns-clause-few : goal.returns-clause-few
@@ -99,9 +100,9 @@ returns-clause-few c =
     let own = c.args.own.now in
     let other = c.args.other.now in
     let carried = c.in_ok-carried.carried in
-    let types = c.deref-3.result.now in
+    let types = c.deref-2.result.now in
     let before = c.in_ok-added.added in
-    let first : IsPlacedOver other carried types c.copy_types.new.added.items before = c.in_ok-added.ensures.added in
+    let first : IsPlacedOver other carried types (length c.type_places.new.places.items) before = c.in_ok-added.ensures.added in
     let numbered = c.in_ok-carried.ensures.few in
     let packages = carried_few (IsPackageCarried carried) carried.new_packages.items other.packages.items before.packages.items first.packages in
     let worlds = carried_few (IsWorldCarried carried types) carried.copied_worlds.items other.worlds.items before.worlds.items first.worlds in
@@ -120,7 +121,7 @@ returns-in_err-types-clause-size c =
     let many : c.len.result ≡ length own.types.items = search rules in
     let none : c.new-defs.result.items ≡ [] = search rules in
     let empty : length c.new-defs.result.items ≡ 0 = ap length none in
-    let same : copies_of c.deref-2.result.now ≡ copies_of (first_fates own other m.interfaces.items carried) = ap copies_of (c.deref-2.ensures.value ∙ c.in_ok-fates.ensures.fates) in
+    let same : copies_of c.deref.result.now ≡ copies_of (first_fates own other m.interfaces.items carried) = ap copies_of (c.deref.ensures.value ∙ c.in_ok-fates.ensures.fates) in
     err_so (λ e. e ≡ Size → (w v : World) → world_at own world ≡ Some w → world_at other other_world ≡ Some v → IsTooLong own other world other_world m w v)
     c.from_residual-in_err-types.result c.in_err-types.field-0.0 c.from_residual-in_err-types.ensures.1
     (λ is w v at_w at_v. let long = c.in_err-types.ensures.size is in inr (carried, c.in_ok-carried.ensures.numbered, inl (omega (arith, long, many, empty, same))))
@@ -135,25 +136,23 @@ returns-in_err-bind_items-clause-size c =
     let carried = c.in_ok-carried.carried in
     let fates = first_fates own other m.interfaces.items carried in
     let types = c.in_ok-types.types.items in
-    let defs = c.copy_types.new.added.items in
+    let places = c.type_places.new.places.items in
     let before = c.in_ok-added.added in
     let many : c.len.result ≡ length own.types.items = search rules in
     let none : c.new-defs.result.items ≡ [] = search rules in
-    let copied : AreCopied (length own.types.items) types other.types.items fates [] defs =
-    subst (λ l. AreCopied (length own.types.items) types other.types.items l [] defs) (c.deref-2.ensures.value ∙ c.in_ok-fates.ensures.fates)
-    (subst (λ l. AreCopied (length own.types.items) types other.types.items c.deref-2.result.now l defs) none
-    (subst (λ l. AreCopied (length own.types.items) types l c.deref-2.result.now c.new-defs.result.items defs) c.deref.ensures.value
-    (subst (λ (k : ℕ). AreCopied k types c.deref.result.now c.deref-2.result.now c.new-defs.result.items defs) many c.in_ok-types.ensures.copied)))
-    in
-    let first : IsPlacedOver other carried types defs before = subst (λ (l : List ℕ). IsPlacedOver other carried l defs before) c.deref-3.ensures.value c.in_ok-added.ensures.added in
+    let same : c.deref.result.now ≡ fates = c.deref.ensures.value ∙ c.in_ok-fates.ensures.fates in
+    let numbers = numbers_first c.len.result (length own.types.items) c.new-defs.result.items c.deref.result.now fates types many none same c.in_ok-types.ensures.numbers in
+    let first : IsPlacedOver other carried types (copies_of fates) before =
+    subst (λ (k : ℕ). IsPlacedOver other carried types k before) (places_first c.new-defs.result.items c.deref.result.now fates places none same c.in_ok-types.ensures.count)
+    (subst (λ (l : List ℕ). IsPlacedOver other carried l (length places) before) c.deref-2.ensures.value c.in_ok-added.ensures.added) in
     err_so (λ e. e ≡ Size → (w v : World) → world_at own world ≡ Some w → world_at other other_world ≡ Some v → IsTooLong own other world other_world m w v)
     c.from_residual-in_err-bind_items.result c.in_err-bind_items.field-0.0 c.from_residual-in_err-bind_items.ensures.1
     (λ is w v at_w at_v. inr (
       carried,
       c.in_ok-carried.ensures.numbered,
-      inr (gained_by_count own other m carried c.in_ok-carried.ensures.numbered types defs copied before first world other_world w v
-          (subst (λ (l : List ℕ). AreTooManyGained own other world other_world w v carried fates l (length before.interfaces.items) (length before.types.items)) c.deref-5.ensures.value
-          (subst (λ l. AreTooManyGained own other world other_world w v carried l c.deref-5.result.now (length before.interfaces.items) (length before.types.items))
-          (c.deref-4.ensures.value ∙ c.in_ok-fates.ensures.fates)
+      inr (gained_by_count own other m carried types numbers before first world other_world w v
+          (subst (λ (l : List ℕ). AreTooManyGained own other world other_world w v carried fates l (length before.interfaces.items) (length before.types.items)) c.deref-4.ensures.value
+          (subst (λ l. AreTooManyGained own other world other_world w v carried l c.deref-4.result.now (length before.interfaces.items) (length before.types.items))
+          (c.deref-3.ensures.value ∙ c.in_ok-fates.ensures.fates)
           (c.in_err-bind_items.ensures.size is w v at_w at_v)))),
     ))
