@@ -5,10 +5,11 @@ ghost use Rattle.wit_model.specs.Valid.{IsValid};
 use std::alloc::Global;
 use std::test::Fail;
 use wit_component::{
-    Check, ComponentValType, Error, InterfaceEncoder, PrimitiveValType, Resolve, Type,
-    encode_unit_future, encode_valtype,
+    ComponentValType, Error, InterfaceEncoder, PrimitiveValType, Resolve, Type, encode_unit_future,
+    encode_valtype,
 };
-use wit_samples::drafts::draft;
+use wit_samples::lines::EMPTY;
+use wit_samples::valid;
 
 // The slot of a future without an element.
 fn future_slot(alloc: Global, resolve: &Resolve) -> Result<u32, Error> {
@@ -26,8 +27,7 @@ fn number(alloc: Global, resolve: &Resolve) -> Result<ComponentValType, Error>
 
 #[test]
 fn its_first_call(rt: HostRuntime) -> Result<(), Fail> {
-    let resolve = draft(rt.alloc())?;
-    resolve.check(rt.alloc())?;
+    let resolve = valid(rt.alloc(), EMPTY)?;
     assert_eq!(rt; future_slot(rt.alloc(), &resolve)?, 0);
     let expected = ComponentValType::Primitive(PrimitiveValType::U32);
     assert!(rt; number(rt.alloc(), &resolve)? == expected);

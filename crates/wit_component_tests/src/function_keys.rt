@@ -3,21 +3,9 @@
 use std::alloc::Global;
 use std::hash::{DefaultHasher, Hash, Hasher};
 use std::test::Fail;
-use wit_component::{Error, Function, FunctionKind, ParamSignatures, Type, TypeId};
+use wit_component::{Function, ParamSignatures};
 use wit_encode::key_of;
-use wit_samples::drafts::{nullary, param};
-
-/// What makes the type of a function: its kind, its parameters and its result.
-type Signature = (FunctionKind, &'static [(&'static str, Type)], Option<Type>);
-
-fn function_of(alloc: Global, signature: Signature) -> Result<Function, Error> {
-    let (kind, params, answer) = signature;
-    let mut function = nullary(alloc, "f", kind, answer)?;
-    for (name, ty) in params {
-        function.params.push(param(alloc, *name, *ty)?)?;
-    }
-    Ok(function)
-}
+use wit_samples::read;
 
 fn hash_of<T: Hash>(value: &T) -> u64 {
     let mut hasher = DefaultHasher::new();
@@ -26,43 +14,29 @@ fn hash_of<T: Hash>(value: &T) -> u64 {
 }
 
 // Whether two functions have one key, and whether the hashes of their keys are one.
-fn compared(alloc: Global, left: Signature, right: Signature) -> Result<(bool, bool), Error> {
-    let (left, right) = (function_of(alloc, left)?, function_of(alloc, right)?);
+fn compared(alloc: Global, left: &str, right: &str) -> Result<(bool, bool), Fail> {
+    let (left, right): (Function, Function) = (read(alloc, left)?, read(alloc, right)?);
     let (one, two) = (key_of(&left), key_of(&right));
     Ok((one == two, hash_of(&one) == hash_of(&two)))
 }
 
-const FREE: FunctionKind = FunctionKind::Freestanding;
-
-// `func(x: u8)`
-const OF_BYTE: Signature = (FREE, &[("x", Type::U8)], None);
+// `f: func(x: u8)`
+const OF_BYTE: &str = r#""f" f 1 "x" u8 - - - -"#;
 
 // Keys tell names, types, results and asynchronous functions apart, and nothing else. Types are told apart by number.
 #[test]
 fn keys(rt: HostRuntime) -> Result<(), Fail> {
-    static CASES: [(Signature, Signature, bool); 8] = [
+    static CASES: [(&str, &str, bool); 8] = [
+        (OF_BYTE, r#""f" m 0 1 "x" u8 - - - -"#, true),
+        (OF_BYTE, r#""f" f 1 "y" u8 - - - -"#, false),
+        (OF_BYTE, r#""f" f 1 "x" s8 - - - -"#, false),
+        (OF_BYTE, r#""f" f 2 "x" u8 "y" u8 - - - -"#, false),
+        (OF_BYTE, r#""f" f 0 - - - -"#, false),
+        (OF_BYTE, r#""f" f 1 "x" u8 u8 - - -"#, false),
+        (OF_BYTE, r#""f" fa 1 "x" u8 - - - -"#, false),
         (
-            OF_BYTE,
-            (FunctionKind::Method(TypeId(0)), &[("x", Type::U8)], None),
-            true,
-        ),
-        (OF_BYTE, (FREE, &[("y", Type::U8)], None), false),
-        (OF_BYTE, (FREE, &[("x", Type::S8)], None), false),
-        (
-            OF_BYTE,
-            (FREE, &[("x", Type::U8), ("y", Type::U8)], None),
-            false,
-        ),
-        (OF_BYTE, (FREE, &[], None), false),
-        (OF_BYTE, (FREE, &[("x", Type::U8)], Some(Type::U8)), false),
-        (
-            OF_BYTE,
-            (FunctionKind::AsyncFreestanding, &[("x", Type::U8)], None),
-            false,
-        ),
-        (
-            (FREE, &[("x", Type::Id(TypeId(0)))], None),
-            (FREE, &[("x", Type::Id(TypeId(1)))], None),
+            r#""f" f 1 "x" 0 - - - -"#,
+            r#""f" f 1 "x" 1 - - - -"#,
             false,
         ),
     ];
@@ -74,7 +48,7 @@ fn keys(rt: HostRuntime) -> Result<(), Fail> {
 
 #[test]
 fn copies(rt: HostRuntime) -> Result<(), Fail> {
-    let function = function_of(rt.alloc(), OF_BYTE)?;
+    let function: Function = read(rt.alloc(), OF_BYTE)?;
     let key = key_of(&function);
     let copy = key.clone()?;
     assert!(rt; key == copy && hash_of(&key) == hash_of(&copy));

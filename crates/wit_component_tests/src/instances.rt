@@ -9,16 +9,11 @@ use std::alloc::Global;
 use std::process::Abort;
 use std::test::Fail;
 use wit_component::{
-    Check, ComponentBuilder, ComponentType, Error, FunctionKind, InterfaceEncoder, InterfaceId,
-    PackageId, Resolve, Type, TypeDefKind, encode_component,
+    ComponentBuilder, ComponentType, Error, InterfaceEncoder, InterfaceId, PackageId, Resolve,
+    encode_component,
 };
 use wit_encode::interface_type;
-use wit_samples::bytes::HOST_AND_GUEST;
-use wit_samples::drafts::{
-    add_interface, add_type, add_type_of, add_unnamed, draft, function, put_function, set_version,
-};
-use wit_samples::kinds::{alias_of, id};
-use wit_samples::samples::host_and_guest;
+use wit_samples::{bytes, lines, valid};
 
 fn assert_bytes(rt: &impl Abort, builder: ComponentBuilder, expected: &[u8]) -> Result<(), Fail> {
     let bytes = builder.finish()?;
@@ -40,24 +35,9 @@ fn assert_written(
 
 // ---- instance types
 
-// `f: func(x: TY) -> TY` of interface 0, under another name.
-fn add_over(alloc: Global, resolve: &mut Resolve, name: &str, ty: Type) -> Result<(), Error> {
-    let over = function(alloc, name, FunctionKind::Freestanding, ty, Some(ty))?;
-    put_function(alloc, resolve, 0, name, over)?;
-    Ok(())
-}
-
 // Interface 0 has two functions over equal unnamed lists of their own, interface 1 has `type t = u32`.
-fn two_interfaces(alloc: Global) -> Result<Resolve, Error> {
-    let mut resolve = draft(alloc)?;
-    add_unnamed(&mut resolve, TypeDefKind::List(Type::U8))?;
-    add_unnamed(&mut resolve, TypeDefKind::List(Type::U8))?;
-    add_over(alloc, &mut resolve, "f", id(0))?;
-    add_over(alloc, &mut resolve, "g", id(1))?;
-    add_interface(alloc, &mut resolve, "j")?;
-    add_type_of(alloc, &mut resolve, 1, "t", TypeDefKind::Type_(Type::U32))?;
-    Ok(resolve)
-}
+const TWO_INTERFACES: &str =
+    r#"1 "a" "b" - - 2 "i" 0 "j" 1 1 "w" 0 2 "i" - - 0 0 2 "f" "f" f 1 "x" 0 0 - - - "g" "g" f 1 "x" 1 1 - - - "j" - - 0 1 "t" 2 0 1 "w" - - 0 0 0 3 - - - - - list u8 - - - - - list u8 "t" i 1 - - - alias u32"#;
 
 // The slot of one interface more, behind the types of those that it uses.
 fn slot_of<'a>(encoder: &mut InterfaceEncoder<'a>, id: InterfaceId) -> Result<u32, Error>
@@ -80,8 +60,7 @@ fn one_after_the_other(rt: HostRuntime) -> Result<(), Fail> {
         0x01, 0x02, 0x01, 0x42, 0x02, 0x01, 0x79, 0x04, 0x00, 0x01, 0x74, 0x03, 0x00, 0x00,
     ];
     let alloc = rt.alloc();
-    let resolve = two_interfaces(alloc)?;
-    resolve.check(alloc)?;
+    let resolve = valid(alloc, TWO_INTERFACES)?;
     let mut encoder = InterfaceEncoder::new(alloc, &resolve);
     assert!(rt; resolve.interfaces.len() > 1);
     assert!(rt; slot_of(&mut encoder, InterfaceId(0))? == 0);
@@ -93,13 +72,12 @@ fn one_after_the_other(rt: HostRuntime) -> Result<(), Fail> {
 // ---- component types
 
 // `i` has `type t = u32`, and `j` uses it.
-fn used(alloc: Global) -> Result<Resolve, Error> {
-    let mut resolve = draft(alloc)?;
-    add_type(alloc, &mut resolve, "t", TypeDefKind::Type_(Type::U32))?;
-    add_interface(alloc, &mut resolve, "j")?;
-    add_type_of(alloc, &mut resolve, 1, "t", alias_of(0))?;
-    Ok(resolve)
-}
+const USED: &str =
+    r#"1 "a" "b" - - 2 "i" 0 "j" 1 1 "w" 0 2 "i" - - 0 1 "t" 0 0 "j" - - 0 1 "t" 1 0 1 "w" - - 0 0 0 2 "t" i 0 - - - alias u32 "t" i 1 - - - alias 0"#;
+
+// The same in version 1.2.3.
+const USED_IN_VERSION: &str =
+    r#"1 "a" "b" "1.2.3" - 2 "i" 0 "j" 1 1 "w" 0 2 "i" - - 0 1 "t" 0 0 "j" - - 0 1 "t" 1 0 1 "w" - - 0 0 0 2 "t" i 0 - - - alias u32 "t" i 1 - - - alias 0"#;
 
 // The types of the interface that is used are imported once, and the second call finds them.
 #[test]
@@ -111,8 +89,7 @@ fn behind_what_it_uses(rt: HostRuntime) -> Result<(), Fail> {
         0x03, 0x02, 0x01, 0x01, 0x04, 0x00, 0x01, 0x74, 0x03, 0x00, 0x00,
     ];
     let alloc = rt.alloc();
-    let resolve = used(alloc)?;
-    resolve.check(alloc)?;
+    let resolve = valid(alloc, USED)?;
     assert!(rt; resolve.interfaces.len() > 1);
     let mut encoder = InterfaceEncoder::new(alloc, &resolve);
     encoder.import_used(InterfaceId(1))?;
@@ -153,9 +130,7 @@ fn imported_by_canonical_paths(rt: HostRuntime) -> Result<(), Fail> {
         0x01, 0x01, 0x04, 0x2e, 0x32, 0x2e, 0x33, 0x05, 0x02,
     ];
     let alloc = rt.alloc();
-    let mut resolve = used(alloc)?;
-    set_version(&mut resolve, 0, 1, 2, 3);
-    resolve.check(alloc)?;
+    let resolve = valid(alloc, USED_IN_VERSION)?;
     let outer = imports_of(alloc, &resolve, InterfaceId(1))?;
     assert_written(&rt, alloc, &outer, &BYTES)
 }
@@ -181,8 +156,7 @@ fn an_interface_that_uses_another(rt: HostRuntime) -> Result<(), Fail> {
         0x3a, 0x62, 0x2f, 0x6a, 0x05, 0x02,
     ];
     let alloc = rt.alloc();
-    let resolve = used(alloc)?;
-    resolve.check(alloc)?;
+    let resolve = valid(alloc, USED)?;
     assert!(rt; resolve.interfaces.len() > 1);
     let outer = type_of(alloc, &resolve, InterfaceId(1))?;
     assert_written(&rt, alloc, &outer, &BYTES)
@@ -192,9 +166,8 @@ fn an_interface_that_uses_another(rt: HostRuntime) -> Result<(), Fail> {
 #[test]
 fn a_package(rt: HostRuntime) -> Result<(), Fail> {
     let alloc = rt.alloc();
-    let resolve = host_and_guest(alloc)?;
-    resolve.check(alloc)?;
+    let resolve = valid(alloc, lines::HOST_AND_GUEST)?;
     assert!(rt; resolve.packages.len() > 0);
     let builder = encode_component(alloc, &resolve, PackageId(0), false)?;
-    assert_bytes(&rt, builder, HOST_AND_GUEST)
+    assert_bytes(&rt, builder, bytes::HOST_AND_GUEST)
 }

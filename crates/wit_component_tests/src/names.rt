@@ -1,14 +1,14 @@
 //! Names that calls make of texts.
 
 use std::test::Fail;
-use wit_component::extern_name;
-use wit_samples::drafts::package;
+use wit_component::{PackageName, extern_name};
+use wit_samples::read;
 
 // The path of an interface in a package that stands by itself.
 #[test]
 fn a_path_in_a_package(rt: HostRuntime) -> Result<(), Fail> {
-    let found = package(rt.alloc(), "a", "b")?;
-    let path = found.name.interface_id(rt.alloc(), "c")?;
+    let name: PackageName = read(rt.alloc(), r#""a" "b" -"#)?;
+    let path = name.interface_id(rt.alloc(), "c")?;
     assert_eq!(rt; path.as_str(), "a:b/c");
     Ok(())
 }

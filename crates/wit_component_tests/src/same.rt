@@ -69,32 +69,20 @@ fn same_worlds(alloc: Global, left: &Resolve, right: &Resolve) -> Result<bool, E
     Ok(left.worlds.len() == right.worlds.len())
 }
 
-// Whether the text of a package is this.
-fn has_text(
+// Whether a package of each has the same text.
+fn same_texts(
     alloc: Global,
-    resolve: &Resolve,
+    left: &Resolve,
+    right: &Resolve,
     package: PackageId,
-    expected: &str,
+    other: PackageId,
 ) -> Result<bool, Error>
-    requires { IsValid resolve.now }
+    requires left { IsValid left.now }
+    requires right { IsValid right.now }
 {
-    let text = text_of(alloc, resolve, package)?;
-    Ok(text.as_str() == expected)
-}
-
-// Whether a package is the same when it is encoded and decoded, where this is its text.
-fn keeps(alloc: Global, resolve: &Resolve, package: PackageId, text: &str) -> Result<bool, Error>
-    requires valid { IsValid resolve.now }
-    requires in_range { «package».0 < length resolve.now.packages.items }
-{
-    let (again, number) = normalized(alloc, resolve, package)?;
-    if !has_text(alloc, &again, number, text)? {
-        return Ok(false);
-    }
-    if !same_interfaces(alloc, resolve, &again)? {
-        return Ok(false);
-    }
-    same_worlds(alloc, resolve, &again)
+    let text = text_of(alloc, left, package)?;
+    let again = text_of(alloc, right, other)?;
+    Ok(text.as_str() == again.as_str())
 }
 
 /// Whether a package is the same when it is encoded and decoded.
@@ -102,6 +90,12 @@ pub(super) fn is_kept(alloc: Global, resolve: &Resolve, package: PackageId) -> R
     requires valid { IsValid resolve.now }
     requires in_range { «package».0 < length resolve.now.packages.items }
 {
-    let text = text_of(alloc, resolve, package)?;
-    keeps(alloc, resolve, package, &text)
+    let (again, number) = normalized(alloc, resolve, package)?;
+    if !same_texts(alloc, resolve, &again, package, number)? {
+        return Ok(false);
+    }
+    if !same_interfaces(alloc, resolve, &again)? {
+        return Ok(false);
+    }
+    same_worlds(alloc, resolve, &again)
 }

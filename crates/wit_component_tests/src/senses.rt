@@ -5,8 +5,9 @@ ghost use Rattle.wit_component.specs.Valid.{IsValid};
 
 use std::alloc::Global;
 use std::test::Fail;
-use wit_component::{Check, Error, InterfaceId, Place, Resolve, Senses, WorldId};
-use wit_samples::samples::each_kind;
+use wit_component::{Error, InterfaceId, Place, Resolve, Senses, WorldId};
+use wit_samples::lines::EACH_KIND;
+use wit_samples::valid;
 
 // The same place once more.
 fn again(place: &Place) -> Place
@@ -64,8 +65,7 @@ fn one_after_the_other(rt: HostRuntime) -> Result<(), Fail> {
         ),
         (Place::World(WorldId(0)), Place::World(WorldId(0)), true),
     ];
-    let resolve = each_kind(rt.alloc())?;
-    resolve.check(rt.alloc())?;
+    let resolve = valid(rt.alloc(), EACH_KIND)?;
     for (at, other, expected) in &CASES {
         let found = same_twice(rt.alloc(), &resolve, at, other)?;
         assert!(rt; found == (*expected, *expected));

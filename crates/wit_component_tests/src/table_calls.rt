@@ -1,6 +1,6 @@
 //! Calls of the encoder's functions, one after the other on an encoder over one table, and the slots that they answer.
 
-ghost use Rattle.std.specs.Prelude.{◌≡◌, ◌<◌, true, false, length, map, option_to_list, is_some, Some, IfOk, IfSome};
+ghost use Rattle.std.specs.Prelude.{◌≡◌, ◌<◌, true, false, length, map, option_to_list, is_some, Some, IfSome};
 ghost use Rattle.std.specs.Option.{option_map_or};
 ghost use Rattle.std.specs.List.{list_all};
 ghost use Rattle.wit_model.specs.Valid.{IsValid};
@@ -14,15 +14,14 @@ ghost use Rattle.encode_flat.specs.Flat.{flat_view};
 use std::alloc::Global;
 use std::test::Fail;
 use wit_component::{
-    Check, ComponentValType, Error, Fault, FlatEncoder, Function, FunctionKind, InterfaceId, Param,
-    Resolve, Type, TypeDef, TypeDefKind, TypeId, TypeOwner, encode_enum, encode_flags,
-    encode_func_type, encode_future, encode_option, encode_optional_valtype, encode_params,
-    encode_record, encode_result, encode_stream, encode_tuple, encode_unit_future,
-    encode_unit_stream, encode_valtype, encode_variant, maybe_import_type,
+    ComponentValType, Error, FlatEncoder, Function, InterfaceId, Param, Resolve, Type, TypeDef,
+    TypeDefKind, TypeId, TypeOwner, encode_enum, encode_flags, encode_func_type, encode_future,
+    encode_option, encode_optional_valtype, encode_params, encode_record, encode_result,
+    encode_stream, encode_tuple, encode_unit_future, encode_unit_stream, encode_valtype,
+    encode_variant, maybe_import_type,
 };
-use wit_samples::drafts::{add_interface, add_type_of, draft, nullary, put_function};
-use wit_samples::kinds::{id, record_of};
-use wit_samples::samples::each_kind;
+use wit_samples::lines::EACH_KIND;
+use wit_samples::valid;
 
 /// The interface whose types are encoded.
 const OWN: InterfaceId = InterfaceId(1);
@@ -376,25 +375,16 @@ fn are_met(resolve: &Resolve, types: &[TypeDef]) -> bool
     types.iter().all(|def| is_met(resolve, def))
 }
 
-fn is_valid(alloc: Global, resolve: &Resolve) -> Result<bool, Error>
-    ensures { IfOk result (λ b. b ≡ true → IsValid resolve.now) }
+// A table for `OWN`, if all types may be met.
+fn table_of<'a>(alloc: Global, resolve: &'a Resolve) -> Option<FlatEncoder<'a>>
+    requires { IsValid resolve.now }
+    ensures table { IfSome result (λ table. IsTableOf resolve.now OWN (flat_view table)) }
+    ensures met { IfSome result (λ table. list_all (is_met_by resolve.now (TypeOwner.Interface OWN)) resolve.now.types.items ≡ true) }
 {
-    match resolve.check(alloc) {
-        Ok(()) => Ok(true),
-        Err(Fault::Memory) => Err(Error::Memory),
-        Err(Fault::Broken { .. }) => Ok(false),
+    if !are_met(resolve, &resolve.types) {
+        return None;
     }
-}
-
-// A table for `OWN`, if the packages are valid.
-fn table_of<'a>(alloc: Global, resolve: &'a Resolve) -> Result<Option<FlatEncoder<'a>>, Error>
-    ensures table { IfOk result (λ o. IfSome o (λ table. IsTableOf resolve.now OWN (flat_view table))) }
-    ensures met { IfOk result (λ o. IfSome o (λ table. list_all (is_met_by resolve.now (TypeOwner.Interface OWN)) resolve.now.types.items ≡ true)) }
-{
-    if !is_valid(alloc, resolve)? || !are_met(resolve, &resolve.types) {
-        return Ok(None);
-    }
-    Ok(Some(FlatEncoder::new(alloc, resolve, TypeOwner::Interface(OWN))))
+    Some(FlatEncoder::new(alloc, resolve, TypeOwner::Interface(OWN)))
 }
 
 // The first function of `OWN`.
@@ -409,18 +399,20 @@ fn right_on_a_table(
     alloc: Global,
     resolve: &Resolve,
     calls: &[Answered],
-) -> Result<(usize, u32), Error> {
+) -> Result<(usize, u32), Error>
+    requires { IsValid resolve.now }
+{
     let Some(function) = function_of(resolve) else {
         return Ok((0, 0));
     };
-    match table_of(alloc, resolve)? {
+    match table_of(alloc, resolve) {
         Some(mut table) => right_answers(alloc, &mut table, resolve, function, calls),
         None => Ok((0, 0)),
     }
 }
 
 // Futures and streams without an element have caches of their own, which the functions that are named after a kind don't look into.
-static UNITS: [Answered; 6] = [
+const UNITS: &[Answered] = &[
     (Call::UnitFuture, Some(0)),
     (Call::UnitFuture, Some(0)),
     (Call::Kind(13), Some(1)),
@@ -431,7 +423,7 @@ static UNITS: [Answered; 6] = [
 
 // The list is slot 0 and the record 1, which stands for its name, too. A function that is named after a kind defines it at each call. The tuple
 // needs the resource and what owns it. Equal functions share a type. A type of another interface is imported, once, and no other.
-static CALLS: [Answered; 18] = [
+const CALLS: &[Answered] = &[
     (Call::Valtype(Type::Bool), None),
     (Call::Valtype(Type::Id(TypeId(4))), Some(1)),
     (Call::Kind(4), Some(2)),
@@ -452,29 +444,12 @@ static CALLS: [Answered; 18] = [
     (Call::Import(3), None),
 ];
 
-#[test]
-fn one_after_the_other(rt: HostRuntime) -> Result<(), Fail> {
-    let resolve = each_kind(rt.alloc())?;
-    assert!(rt; right_on_a_table(rt.alloc(), &resolve, &UNITS)? == (6, 4));
-    assert!(rt; right_on_a_table(rt.alloc(), &resolve, &CALLS)? == (18, 14));
-    Ok(())
-}
-
 // Interface 1 with `type t = u32`, equal records `p` and `q` of two fields of `t`, and a function.
-fn two_equal_records(alloc: Global) -> Result<Resolve, Error> {
-    let mut resolve = draft(alloc)?;
-    add_interface(alloc, &mut resolve, "j")?;
-    add_type_of(alloc, &mut resolve, 1, "t", TypeDefKind::Type_(Type::U32))?;
-    let p = record_of(alloc, &["x", "y"], id(0))?;
-    add_type_of(alloc, &mut resolve, 1, "p", p)?;
-    let q = record_of(alloc, &["x", "y"], id(0))?;
-    add_type_of(alloc, &mut resolve, 1, "q", q)?;
-    let f = nullary(alloc, "f", FunctionKind::Freestanding, None)?;
-    put_function(alloc, &mut resolve, 1, "f", f)?;
-    Ok(resolve)
-}
+const TWO_EQUAL_RECORDS: &str =
+    r#"1 "a" "b" - - 2 "i" 0 "j" 1 1 "w" 0 2 "i" - - 0 0 0 "j" - - 0 3 "t" 0 "p" 1 "q" 2 1 "f" "f" f 0 - - - - 1 "w" - - 0 0 0 3 "t" i 1 - - - alias u32 "p" i 1 - - - record 2 "x" 0 - "y" 0 - "q" i 1 - - - record 2 "x" 0 - "y" 0 -"#;
 
-static RECORDS: [Answered; 4] = [
+// Equal records have slots of their own.
+const RECORDS: &[Answered] = &[
     (Call::Valtype(Type::Id(TypeId(0))), Some(0)),
     (Call::Valtype(Type::Id(TypeId(1))), Some(1)),
     (Call::Valtype(Type::Id(TypeId(2))), Some(2)),
@@ -482,8 +457,15 @@ static RECORDS: [Answered; 4] = [
 ];
 
 #[test]
-fn equal_records_have_slots_of_their_own(rt: HostRuntime) -> Result<(), Fail> {
-    let resolve = two_equal_records(rt.alloc())?;
-    assert!(rt; right_on_a_table(rt.alloc(), &resolve, &RECORDS)? == (4, 3));
+fn one_after_the_other(rt: HostRuntime) -> Result<(), Fail> {
+    static CASES: [(&str, &[Answered], (usize, u32)); 3] = [
+        (EACH_KIND, UNITS, (6, 4)),
+        (EACH_KIND, CALLS, (18, 14)),
+        (TWO_EQUAL_RECORDS, RECORDS, (4, 3)),
+    ];
+    for (line, calls, expected) in &CASES {
+        let resolve = valid(rt.alloc(), *line)?;
+        assert!(rt; right_on_a_table(rt.alloc(), &resolve, *calls)? == *expected);
+    }
     Ok(())
 }

@@ -2,13 +2,12 @@
 
 use print_calls::{Call, CallList};
 use print_output::{Output, TypeKind};
-use std::alloc::Global;
 use std::process::Abort;
 use std::test::Fail;
-use wit_check::Check;
-use wit_model::{Error, PackageId, Resolve};
+use wit_model::{Error, PackageId};
 use wit_print::WitPrinter;
-use wit_samples::samples::host_and_guest;
+use wit_samples::lines::HOST_AND_GUEST;
+use wit_samples::valid;
 
 // The world that imports `host` and exports `guest`, as text.
 const TEXT: &str =
@@ -25,14 +24,6 @@ fn is_end(call: Option<&Call>) -> bool {
     matches!(call, Some(Call::IndentEnd))
 }
 
-fn listed(rt: &impl Abort, alloc: Global, resolve: &Resolve) -> Result<CallList, Fail> {
-    resolve.check(alloc)?;
-    assert!(rt; resolve.packages.len() == 1);
-    let mut printer = WitPrinter::new(CallList::new(alloc));
-    printer.print(alloc, resolve, PackageId(0), &[])?;
-    Ok(printer.output)
-}
-
 fn assert_rendered(rt: &impl Abort, list: &CallList, expected: &str) -> Result<(), Fail> {
     let text = list.render()?;
     assert_eq!(rt; text.as_str(), expected);
@@ -41,11 +32,14 @@ fn assert_rendered(rt: &impl Abort, list: &CallList, expected: &str) -> Result<(
 
 #[test]
 fn listed_and_rendered(rt: HostRuntime) -> Result<(), Fail> {
-    let resolve = host_and_guest(rt.alloc())?;
-    let list = listed(&rt, rt.alloc(), &resolve)?;
-    assert!(rt; list.calls.len() == 29);
-    assert!(rt; is_word(list.calls.first(), "package") && is_end(list.calls.last()));
-    assert_rendered(&rt, &list, TEXT)
+    let resolve = valid(rt.alloc(), HOST_AND_GUEST)?;
+    assert!(rt; resolve.packages.len() == 1);
+    let mut printer = WitPrinter::new(CallList::new(rt.alloc()));
+    printer.print(rt.alloc(), &resolve, PackageId(0), &[])?;
+    let calls = &printer.output.calls;
+    assert!(rt; calls.len() == 29);
+    assert!(rt; is_word(calls.first(), "package") && is_end(calls.last()));
+    assert_rendered(&rt, &printer.output, TEXT)
 }
 
 fn some_calls(list: &mut CallList) -> Result<bool, Error> {

@@ -6,17 +6,13 @@ ghost use Rattle.wit_model.specs.Parts.{same_owner};
 ghost use Rattle.wit_model.specs.Valid.{IsValid};
 ghost use Rattle.wit_print.specs.UseGroups.{is_listed_type};
 
-use std::alloc::{AllocError, Global};
+use std::alloc::Global;
 use std::collections::HashMap;
 use std::process::Abort;
 use std::test::Fail;
-use wit_check::Check;
-use wit_model::{
-    Error, InterfaceId, Resolve, Type, TypeDef, TypeDefKind, TypeId, TypeOwner, is_label,
-};
+use wit_model::{Error, InterfaceId, Resolve, TypeDef, TypeId, TypeOwner, is_label};
 use wit_print::{Output, OutputToString, WitPrinter};
-use wit_samples::drafts::{add_interface, add_type, add_type_of, draft};
-use wit_samples::kinds::alias_of;
+use wit_samples::valid;
 
 /// Types under their names, one after the other.
 #[derive(Drop)]
@@ -106,50 +102,30 @@ fn print_given<O: Output>(
     printer: &mut WitPrinter<O>,
     resolve: &Resolve,
     types: &[(&str, TypeId)],
-) -> Result<(), Fail> {
-    resolve.check(alloc)?;
+) -> Result<(), Fail>
+    requires { IsValid resolve.now }
+{
     assert!(rt; are_listed(resolve, InterfaceId(1), types));
     print_listed(alloc, printer, resolve, InterfaceId(1), types)?;
     Ok(())
 }
 
-fn add_types(alloc: Global, resolve: &mut Resolve) -> Result<(), AllocError> {
-    add_interface(alloc, resolve, "k")?;
-    add_type(alloc, resolve, "t", TypeDefKind::Type_(Type::U8))?;
-    add_type_of(alloc, resolve, 1, "t", alias_of(0))?;
-    add_type_of(alloc, resolve, 1, "x", alias_of(1))?;
-    add_type_of(alloc, resolve, 1, "r", TypeDefKind::Resource)
-}
-
 // Interface `k` uses a type of `i`, and has a name for it and a resource.
-fn two_interfaces(alloc: Global) -> Result<Resolve, AllocError> {
-    let mut resolve = draft(alloc)?;
-    add_types(alloc, &mut resolve)?;
-    Ok(resolve)
-}
-
-fn print_twice<O: Output>(
-    rt: &impl Abort,
-    alloc: Global,
-    printer: &mut WitPrinter<O>,
-    resolve: &Resolve,
-) -> Result<(), Fail> {
-    print_given(
-        rt,
-        alloc,
-        printer,
-        resolve,
-        &[("x", TypeId(2)), ("t", TypeId(1))],
-    )?;
-    print_given(rt, alloc, printer, resolve, &[("r", TypeId(3))])
-}
+const TWO_INTERFACES: &str =
+    r#"1 "a" "b" - - 2 "i" 0 "k" 1 1 "w" 0 2 "i" - - 0 1 "t" 0 0 "k" - - 0 3 "t" 1 "x" 2 "r" 3 0 1 "w" - - 0 0 0 4 "t" i 0 - - - alias u8 "t" i 1 - - - alias 0 "x" i 1 - - - alias 1 "r" i 1 - - - resource"#;
 
 // The second call goes on in the block of the first.
 #[test]
 fn two_calls_of_one_printer(rt: HostRuntime) -> Result<(), Fail> {
-    let resolve = two_interfaces(rt.alloc())?;
+    static CALLS: [&[(&str, TypeId)]; 2] = [
+        &[("x", TypeId(2)), ("t", TypeId(1))],
+        &[("r", TypeId(3))],
+    ];
+    let resolve = valid(rt.alloc(), TWO_INTERFACES)?;
     let mut printer = WitPrinter::new(OutputToString::new(rt.alloc()));
-    print_twice(&rt, rt.alloc(), &mut printer, &resolve)?;
+    for types in &CALLS {
+        print_given(&rt, rt.alloc(), &mut printer, &resolve, *types)?;
+    }
     let text = String::from(printer.output);
     assert_eq!(rt; text.as_str(), "use i.{t};\n\ntype x = t;\n\nresource r;\n");
     Ok(())

@@ -8,8 +8,9 @@ use semver::Version;
 use std::alloc::Global;
 use std::process::Abort;
 use std::test::Fail;
-use wit_model::{Docs, Error, Map, Package, PackageName, is_label, is_version};
+use wit_model::{Error, Package, is_label, is_version};
 use wit_print::{Output, OutputToString, TypeKind, WitPrinter};
+use wit_samples::read;
 
 /// Whether there is a version, and it is one.
 fn has_version(version: &Option<Version>) -> bool
@@ -19,22 +20,6 @@ fn has_version(version: &Option<Version>) -> bool
         Some(version) => is_version(version),
         None => false,
     }
-}
-
-// Package `a:b@1.0.0-rc.1` with documentation.
-fn documented(alloc: Global) -> Result<Package, Fail> {
-    let contents = Some(String::from_str(alloc, "one\n\nthree")?);
-    let name = PackageName {
-        namespace: String::from_str(alloc, "a")?,
-        name: String::from_str(alloc, "b")?,
-        version: Some(Version::parse(alloc, "1.0.0-rc.1")?),
-    };
-    Ok(Package {
-        name,
-        docs: Docs { contents },
-        interfaces: Map::new(alloc),
-        worlds: Map::new(alloc),
-    })
 }
 
 fn outer_text(
@@ -56,21 +41,19 @@ fn assert_text(rt: &impl Abort, text: String, expected: &str) {
     assert_eq!(rt; text.as_str(), expected);
 }
 
-fn assert_outer(rt: &impl Abort, alloc: Global, package: &Package) -> Result<(), Fail> {
+// Package `a:b@1.0.0-rc.1` with documentation.
+#[test]
+fn documentation_and_name(rt: HostRuntime) -> Result<(), Fail> {
     static CASES: [(bool, &str); 2] = [
         (true, "/// one\n///\n/// three\npackage a:b@1.0.0-rc.1"),
         (false, "package a:b@1.0.0-rc.1"),
     ];
+    let package = read(rt.alloc(), r#""a" "b" "1.0.0-rc.1" "one\n\nthree" 0 0"#)?;
     for (emits_docs, expected) in &CASES {
-        assert_text(rt, outer_text(rt, alloc, package, *emits_docs)?, *expected);
+        let text = outer_text(&rt, rt.alloc(), &package, *emits_docs)?;
+        assert_text(&rt, text, *expected);
     }
     Ok(())
-}
-
-#[test]
-fn documentation_and_name(rt: HostRuntime) -> Result<(), Fail> {
-    let package = documented(rt.alloc())?;
-    assert_outer(&rt, rt.alloc(), &package)
 }
 
 // `indent_if_needed` answers that the line had just begun.

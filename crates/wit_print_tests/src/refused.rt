@@ -6,12 +6,11 @@ ghost use Rattle.wit_model.specs.Valid.{IsValid};
 use crate::packages::tower;
 use crate::recording::{Counting, Recording};
 use std::alloc::Global;
-use std::process::Abort;
 use std::test::Fail;
-use wit_check::Check;
 use wit_model::{Error, PackageId, Resolve, Type, TypeId};
 use wit_print::WitPrinter;
-use wit_samples::samples::host_and_guest;
+use wit_samples::lines::HOST_AND_GUEST;
+use wit_samples::valid;
 
 // What printing to an output of its own functions answers, where that takes so many calls, and the calls that it has kept.
 fn recorded(alloc: Global, resolve: &Resolve, room: usize) -> (Result<(), Error>, Vec<&'static str>)
@@ -42,73 +41,38 @@ fn is_whole(alloc: Global, resolve: &Resolve) -> bool
     is_whole && calls.first() == Some(&"keyword") && calls.last() == Some(&"indent_end")
 }
 
-fn assert_each_call(rt: &impl Abort, alloc: Global, resolve: &Resolve) -> Result<(), Fail> {
-    resolve.check(alloc)?;
-    assert!(rt; resolve.packages.len() > 0);
-    for room in 0..29usize {
-        assert!(rt; stops_at(alloc, resolve, room));
-    }
-    assert!(rt; is_whole(alloc, resolve));
-    Ok(())
-}
-
 // A world with an import and an export is printed by 29 calls.
 #[test]
 fn each_call(rt: HostRuntime) -> Result<(), Fail> {
-    let resolve = host_and_guest(rt.alloc())?;
-    assert_each_call(&rt, rt.alloc(), &resolve)
+    let resolve = valid(rt.alloc(), HOST_AND_GUEST)?;
+    assert!(rt; resolve.packages.len() > 0);
+    for room in 0..29usize {
+        assert!(rt; stops_at(rt.alloc(), &resolve, room));
+    }
+    assert!(rt; is_whole(rt.alloc(), &resolve));
+    Ok(())
 }
 
-// The same for an output of the five functions without a body, and how many calls it has counted.
-fn counted(alloc: Global, resolve: &Resolve, room: usize) -> (Result<(), Error>, usize)
+// The same for an output of the five functions without a body. Whether it is refused after so many calls, and 57 of them print all.
+fn counts(alloc: Global, resolve: &Resolve, room: usize) -> bool
     requires valid { IsValid resolve.now }
     requires in_range { 0 < length resolve.now.packages.items }
 {
     let mut printer = WitPrinter::new(Counting::new(room));
-    let answer = printer.print(alloc, resolve, PackageId(0), &[]);
-    (answer, printer.output.count)
-}
-
-// Whether it is refused, and so many calls were counted.
-fn stops_after(alloc: Global, resolve: &Resolve, room: usize) -> bool
-    requires valid { IsValid resolve.now }
-    requires in_range { 0 < length resolve.now.packages.items }
-{
-    let (answer, count) = counted(alloc, resolve, room);
-    answer == Err(Error::Memory) && count == room
-}
-
-// Whether 57 calls print all.
-fn counts_all(alloc: Global, resolve: &Resolve) -> bool
-    requires valid { IsValid resolve.now }
-    requires in_range { 0 < length resolve.now.packages.items }
-{
-    let (answer, count) = counted(alloc, resolve, 57);
-    answer == Ok(()) && count == 57
-}
-
-fn assert_each_count(rt: &impl Abort, alloc: Global, resolve: &Resolve) -> Result<(), Fail> {
-    resolve.check(alloc)?;
-    assert!(rt; resolve.packages.len() > 0);
-    for room in 0..57usize {
-        assert!(rt; stops_after(alloc, resolve, room));
-    }
-    assert!(rt; counts_all(alloc, resolve));
-    Ok(())
+    let is_answered = match printer.print(alloc, resolve, PackageId(0), &[]) {
+        Ok(()) => room == 57,
+        Err(error) => room < 57 && error == Error::Memory,
+    };
+    is_answered && printer.output.count == room
 }
 
 // The same world takes 57 calls of the five.
 #[test]
 fn each_call_of_the_five(rt: HostRuntime) -> Result<(), Fail> {
-    let resolve = host_and_guest(rt.alloc())?;
-    assert_each_count(&rt, rt.alloc(), &resolve)
-}
-
-fn assert_stops(rt: &impl Abort, alloc: Global, resolve: &Resolve) -> Result<(), Fail> {
-    resolve.check(alloc)?;
+    let resolve = valid(rt.alloc(), HOST_AND_GUEST)?;
     assert!(rt; resolve.packages.len() > 0);
-    for room in &[0usize, 1, 9, 150, 300] {
-        assert!(rt; stops_at(alloc, resolve, *room));
+    for room in 0..58usize {
+        assert!(rt; counts(rt.alloc(), &resolve, room));
     }
     Ok(())
 }
@@ -116,22 +80,12 @@ fn assert_stops(rt: &impl Abort, alloc: Global, resolve: &Resolve) -> Result<(),
 // A package whose text has 2^100 parts.
 #[test]
 fn a_tower_in_a_package(rt: HostRuntime) -> Result<(), Fail> {
-    let resolve = tower(rt.alloc())?;
-    assert_stops(&rt, rt.alloc(), &resolve)
-}
-
-// The same for the tower's last type where it is used.
-fn recorded_type(
-    alloc: Global,
-    resolve: &Resolve,
-    room: usize,
-) -> (Result<(), Error>, Vec<&'static str>)
-    requires valid { IsValid resolve.now }
-    requires in_range { 99 < length resolve.now.types.items }
-{
-    let mut printer = WitPrinter::new(Recording::new(alloc, room));
-    let answer = printer.print_type_name(alloc, resolve, &Type::Id(TypeId(99)));
-    (answer, printer.output.calls)
+    let resolve = valid(rt.alloc(), &tower(rt.alloc())?)?;
+    assert!(rt; resolve.packages.len() > 0);
+    for room in &[0usize, 1, 9, 150, 300] {
+        assert!(rt; stops_at(rt.alloc(), &resolve, *room));
+    }
+    Ok(())
 }
 
 // The first calls that print it: the start of each tuple, and then the parts of the innermost ones.
@@ -164,27 +118,23 @@ fn are_of_tower(calls: &[&'static str]) -> bool {
         .all(|(index, call)| *call == tower_call(index))
 }
 
-// Whether it is refused, and the calls that were made before are so many and the first ones.
+// The same for the tower's last type where it is used. The calls that were made are the first ones, up to the one that is refused.
 fn stops_in_tower(alloc: Global, resolve: &Resolve, room: usize) -> bool
     requires valid { IsValid resolve.now }
     requires in_range { 99 < length resolve.now.types.items }
 {
-    let (answer, calls) = recorded_type(alloc, resolve, room);
-    answer == Err(Error::Memory) && calls.len() == room && are_of_tower(&calls)
+    let mut printer = WitPrinter::new(Recording::new(alloc, room));
+    let answer = printer.print_type_name(alloc, resolve, &Type::Id(TypeId(99)));
+    let calls = &printer.output.calls;
+    answer == Err(Error::Memory) && calls.len() == room && are_of_tower(calls)
 }
 
-fn assert_type_stops(rt: &impl Abort, alloc: Global, resolve: &Resolve) -> Result<(), Fail> {
-    resolve.check(alloc)?;
-    assert!(rt; resolve.types.len() > 99);
-    for room in &[0usize, 1, 2, 117, 200, 201, 204, 209] {
-        assert!(rt; stops_in_tower(alloc, resolve, *room));
-    }
-    Ok(())
-}
-
-// The calls that are made are the first ones, up to the one that is refused.
 #[test]
 fn a_tower_where_it_is_used(rt: HostRuntime) -> Result<(), Fail> {
-    let resolve = tower(rt.alloc())?;
-    assert_type_stops(&rt, rt.alloc(), &resolve)
+    let resolve = valid(rt.alloc(), &tower(rt.alloc())?)?;
+    assert!(rt; resolve.types.len() > 99);
+    for room in &[0usize, 1, 2, 117, 200, 201, 204, 209] {
+        assert!(rt; stops_in_tower(rt.alloc(), &resolve, *room));
+    }
+    Ok(())
 }

@@ -1,61 +1,40 @@
 //! Calls that print a part of a package.
 
-use crate::packages::interface;
+ghost use Rattle.std.specs.Prelude.{◌<◌, length};
+ghost use Rattle.wit_model.specs.Valid.{IsValid};
+
+use crate::packages::INTERFACE;
 use std::alloc::Global;
 use std::process::Abort;
 use std::test::Fail;
-use wit_check::Check;
 use wit_model::{InterfaceId, PackageId, Resolve, Type, TypeId, is_label};
 use wit_print::{Output, OutputToString, WitPrinter};
-use wit_samples::samples::host_and_guest;
+use wit_samples::lines::HOST_AND_GUEST;
+use wit_samples::valid;
 
-fn assert_printed(
-    rt: &impl Abort,
-    printer: WitPrinter<OutputToString>,
-    expected: &str,
-) -> Result<(), Fail> {
+fn assert_printed(rt: &impl Abort, printer: WitPrinter<OutputToString>, expected: &str) {
     let text = String::from(printer.output);
     assert_eq!(rt; text.as_str(), expected);
-    Ok(())
-}
-
-fn assert_nested(rt: &impl Abort, alloc: Global, resolve: &Resolve) -> Result<(), Fail> {
-    resolve.check(alloc)?;
-    assert!(rt; resolve.packages.len() > 0);
-    let mut printer = WitPrinter::new(OutputToString::new(alloc));
-    printer.print_package(alloc, resolve, PackageId(0), false)?;
-    let expected =
-        "package a:b {\n  world foo {\n    import host: func();\n\n    export guest: func();\n  }\n}\n";
-    assert_printed(rt, printer, expected)
 }
 
 // A package that is nested in a file.
 #[test]
 fn a_nested_package(rt: HostRuntime) -> Result<(), Fail> {
-    let resolve = host_and_guest(rt.alloc())?;
-    assert_nested(&rt, rt.alloc(), &resolve)
-}
-
-fn assert_before(
-    rt: &impl Abort,
-    alloc: Global,
-    resolve: &Resolve,
-    emits_docs: bool,
-    expected: &str,
-) -> Result<(), Fail> {
-    resolve.check(alloc)?;
-    assert!(rt; resolve.interfaces.len() > 0);
-    let name = "type";
-    assert!(rt; is_label(name));
-    let mut printer = WitPrinter::new(OutputToString::new(alloc));
-    printer.emit_docs(emits_docs);
-    printer.print_interface_outer(alloc, resolve, InterfaceId(0), name)?;
-    assert_printed(rt, printer, expected)
+    let expected =
+        "package a:b {\n  world foo {\n    import host: func();\n\n    export guest: func();\n  }\n}\n";
+    let resolve = valid(rt.alloc(), HOST_AND_GUEST)?;
+    assert!(rt; resolve.packages.len() > 0);
+    let mut printer = WitPrinter::new(OutputToString::new(rt.alloc()));
+    printer.print_package(rt.alloc(), &resolve, PackageId(0), false)?;
+    assert_printed(&rt, printer, expected);
+    Ok(())
 }
 
 // What stands before the block of an interface, under another name than its own.
-#[test]
-fn before_an_interface(rt: HostRuntime) -> Result<(), Fail> {
+fn assert_before(rt: &impl Abort, alloc: Global, resolve: &Resolve) -> Result<(), Fail>
+    requires valid { IsValid resolve.now }
+    requires in_range { 0 < length resolve.now.interfaces.items }
+{
     static CASES: [(bool, &str); 2] = [
         (
             true,
@@ -63,72 +42,72 @@ fn before_an_interface(rt: HostRuntime) -> Result<(), Fail> {
         ),
         (false, "@unstable(feature = %async)\ninterface %type"),
     ];
-    let resolve = interface(rt.alloc())?;
+    let name = "type";
+    assert!(rt; is_label(name));
     for (emits_docs, expected) in &CASES {
-        assert_before(&rt, rt.alloc(), &resolve, *emits_docs, *expected)?;
+        let mut printer = WitPrinter::new(OutputToString::new(alloc));
+        printer.emit_docs(*emits_docs);
+        printer.print_interface_outer(alloc, resolve, InterfaceId(0), name)?;
+        assert_printed(rt, printer, *expected);
     }
     Ok(())
 }
 
-fn assert_within(rt: &impl Abort, alloc: Global, resolve: &Resolve) -> Result<(), Fail> {
-    resolve.check(alloc)?;
-    assert!(rt; resolve.interfaces.len() > 0);
+// What stands in it.
+fn assert_within(rt: &impl Abort, alloc: Global, resolve: &Resolve) -> Result<(), Fail>
+    requires valid { IsValid resolve.now }
+    requires in_range { 0 < length resolve.now.interfaces.items }
+{
     let mut printer = WitPrinter::new(OutputToString::new(alloc));
     printer.print_interface(alloc, resolve, InterfaceId(0))?;
     let expected = "resource r;\n\ntype %list = u8;\n\nf: func(x: %list);\n";
-    assert_printed(rt, printer, expected)
-}
-
-// What stands in it.
-#[test]
-fn within_an_interface(rt: HostRuntime) -> Result<(), Fail> {
-    let resolve = interface(rt.alloc())?;
-    assert_within(&rt, rt.alloc(), &resolve)
-}
-
-// Prints the type of this number.
-fn print_number(
-    rt: &impl Abort,
-    alloc: Global,
-    printer: &mut WitPrinter<OutputToString>,
-    resolve: &Resolve,
-    number: u32,
-) -> Result<(), Fail> {
-    resolve.check(alloc)?;
-    assert!(rt; (number as usize) < resolve.types.len());
-    printer.print_type_name(alloc, resolve, &Type::Id(TypeId(number)))?;
+    assert_printed(rt, printer, expected);
     Ok(())
 }
 
+// A type where it is used, behind the start of a block or not.
 fn assert_type(
     rt: &impl Abort,
     alloc: Global,
     resolve: &Resolve,
     number: u32,
+    begins_block: bool,
     expected: &str,
-) -> Result<(), Fail> {
+) -> Result<(), Fail>
+    requires { IsValid resolve.now }
+{
     let mut printer = WitPrinter::new(OutputToString::new(alloc));
-    print_number(rt, alloc, &mut printer, resolve, number)?;
-    assert_printed(rt, printer, expected)
+    if begins_block {
+        printer.output.indent_start()?;
+    }
+    assert!(rt; (number as usize) < resolve.types.len());
+    printer.print_type_name(alloc, resolve, &Type::Id(TypeId(number)))?;
+    assert_printed(rt, printer, expected);
+    Ok(())
 }
 
-// A type by its name, a handle without one by its resource, and a future by its word.
-#[test]
-fn types_where_they_are_used(rt: HostRuntime) -> Result<(), Fail> {
-    static CASES: [(u32, &str); 3] = [(1, "%list"), (2, "r"), (3, "future<u8>")];
-    let resolve = interface(rt.alloc())?;
-    for (number, expected) in &CASES {
-        assert_type(&rt, rt.alloc(), &resolve, *number, *expected)?;
+// A type by its name, a handle without one by its resource, and a future by its word. Behind the start of a block, a future's word stands without
+// indentation, and the type in it with it.
+fn assert_types(rt: &impl Abort, alloc: Global, resolve: &Resolve) -> Result<(), Fail>
+    requires { IsValid resolve.now }
+{
+    static CASES: [(u32, bool, &str); 4] = [
+        (1, false, "%list"),
+        (2, false, "r"),
+        (3, false, "future<u8>"),
+        (3, true, " {\nfuture<  u8>"),
+    ];
+    for (number, begins_block, expected) in &CASES {
+        assert_type(rt, alloc, resolve, *number, *begins_block, *expected)?;
     }
     Ok(())
 }
 
-// Behind the start of a block, a future's word stands without indentation, and the type in it with it.
 #[test]
-fn a_future_begins_a_line(rt: HostRuntime) -> Result<(), Fail> {
-    let resolve = interface(rt.alloc())?;
-    let mut printer = WitPrinter::new(OutputToString::new(rt.alloc()));
-    printer.output.indent_start()?;
-    print_number(&rt, rt.alloc(), &mut printer, &resolve, 3)?;
-    assert_printed(&rt, printer, " {\nfuture<  u8>")
+fn parts_of_an_interface(rt: HostRuntime) -> Result<(), Fail> {
+    let resolve = valid(rt.alloc(), INTERFACE)?;
+    assert!(rt; resolve.interfaces.len() > 0);
+    assert_before(&rt, rt.alloc(), &resolve)?;
+    assert_within(&rt, rt.alloc(), &resolve)?;
+    assert_types(&rt, rt.alloc(), &resolve)
 }

@@ -1,7 +1,8 @@
-//! Sample packages, what tests build packages from, and the bytes of some.
+//! Sample packages as lines of words, what reads such lines and makes long ones, and the bytes of some packages.
 #![tactic(auto)]
 
 pub mod bytes;
-pub mod drafts;
-pub mod kinds;
-pub mod samples;
+pub mod lines;
+mod reading;
+
+pub use reading::{read, repeated, valid};
