@@ -3,6 +3,7 @@
 ghost use Rattle.wit_model.specs.Valid.{IsValid};
 
 use crate::answer::{Answer, Reply};
+use crate::asked::{Asked, Marked, OnAny, OnBytes, OnValid, Setting, Validity, asked};
 use crate::bindings::{binding, merge};
 use crate::calls;
 use crate::encoder::value_type;
@@ -131,19 +132,18 @@ fn normal(alloc: Global, resolve: &Resolve, words: &mut Words<'_>) -> Result<Ans
 fn on_valid(
     alloc: Global,
     resolve: &Resolve,
-    word: &[u8],
+    call: OnValid,
     words: &mut Words<'_>,
 ) -> Result<Answer, Answer>
     requires { IsValid resolve.now }
 {
-    match word {
-        b"encode" => encode(alloc, resolve, words),
-        b"world" => world_type(alloc, resolve, words),
-        b"metadata" => section(alloc, resolve, words),
-        b"print" => print(alloc, resolve, words),
-        b"normal" => normal(alloc, resolve, words),
-        b"names" => names(alloc, resolve),
-        _ => Err(Answer::Bad),
+    match call {
+        OnValid::Encode => encode(alloc, resolve, words),
+        OnValid::World => world_type(alloc, resolve, words),
+        OnValid::Metadata => section(alloc, resolve, words),
+        OnValid::Print => print(alloc, resolve, words),
+        OnValid::Normal => normal(alloc, resolve, words),
+        OnValid::Names => names(alloc, resolve),
     }
 }
 
@@ -152,14 +152,14 @@ fn timed_on_valid<R: Clock>(
     alloc: Global,
     marks: Marks,
     resolve: &Resolve,
-    word: &[u8],
+    call: OnValid,
     words: &mut Words<'_>,
 ) -> io::Result<Reply>
     requires { IsValid resolve.now }
 {
     let start = Instant::now(clock)?;
     marks.begin(alloc)?;
-    let answer = either(on_valid(alloc, resolve, word, words));
+    let answer = either(on_valid(alloc, resolve, call, words));
     marks.end(alloc)?;
     let spent = start.elapsed(clock)?;
     Ok(Reply { answer, spent })
@@ -219,18 +219,17 @@ fn label(words: &mut Words<'_>) -> Result<Answer, Answer> {
     Ok(calls::label(&text))
 }
 
-fn on_bytes(alloc: Global, word: &[u8], bytes: &[u8]) -> Result<Answer, Answer> {
-    match word {
-        b"text" => calls::decoded_text(alloc, bytes),
-        b"world-text" => calls::decoded_world_text(alloc, bytes),
-        b"decode" => Ok(calls::decode_package(alloc, bytes, false)),
-        b"decode-at" => Ok(calls::decode_package(alloc, bytes, true)),
-        b"strip" => calls::strip(alloc, bytes),
-        b"bound" => calls::bound_text(alloc, bytes),
-        b"stripped" => calls::left_of_module(alloc, bytes),
-        b"said" => calls::said(bytes),
-        b"refused-section" => calls::refused_section(alloc, bytes),
-        _ => Err(Answer::Bad),
+fn on_bytes(alloc: Global, call: OnBytes, bytes: &[u8]) -> Result<Answer, Answer> {
+    match call {
+        OnBytes::Text => calls::decoded_text(alloc, bytes),
+        OnBytes::WorldText => calls::decoded_world_text(alloc, bytes),
+        OnBytes::Decode => Ok(calls::decode_package(alloc, bytes, false)),
+        OnBytes::DecodeAt => Ok(calls::decode_package(alloc, bytes, true)),
+        OnBytes::Strip => calls::strip(alloc, bytes),
+        OnBytes::Said => calls::said(bytes),
+        OnBytes::Bound => calls::bound_text(alloc, bytes),
+        OnBytes::Stripped => calls::left_of_module(alloc, bytes),
+        OnBytes::RefusedSection => calls::refused_section(alloc, bytes),
     }
 }
 
@@ -433,14 +432,14 @@ impl Interpreter {
         Ok(Answer::Count(u64::from(bound.world.0)))
     }
 
-    fn validity(&self, alloc: Global, word: &[u8]) -> Answer {
+    fn validity(&self, alloc: Global, call: Validity) -> Answer {
         let Some(resolve) = &self.current else {
             return Answer::Unmet("resolve");
         };
-        match word {
-            b"check" => calls::check(alloc, resolve),
-            b"rule" => calls::rule(alloc, resolve),
-            _ => calls::valid(alloc, resolve),
+        match call {
+            Validity::Check => calls::check(alloc, resolve),
+            Validity::Rule => calls::rule(alloc, resolve),
+            Validity::Valid => calls::valid(alloc, resolve),
         }
     }
 
@@ -448,51 +447,65 @@ impl Interpreter {
     fn with_bytes(
         &self,
         alloc: Global,
-        word: &[u8],
+        call: OnBytes,
         words: &mut Words<'_>,
     ) -> Result<Answer, Answer> {
         if !words.is_at_end() {
             let bytes = words.bytes();
             words.end()?;
-            return on_bytes(alloc, word, &bytes);
+            return on_bytes(alloc, call, &bytes);
         }
         match &self.kept {
-            Some(kept) => on_bytes(alloc, word, kept),
+            Some(kept) => on_bytes(alloc, call, kept),
             None => Err(Answer::Unmet("bytes")),
+        }
+    }
+
+    fn set(
+        &mut self,
+        alloc: Global,
+        setting: Setting,
+        words: &mut Words<'_>,
+    ) -> Result<Answer, Answer> {
+        match setting {
+            Setting::Resolve => self.read(words),
+            Setting::Other => self.read_other(words),
+            Setting::Bytes => self.keep(words),
+            Setting::Brief => Ok(self.set_brief(true)),
+            Setting::Full => Ok(self.set_brief(false)),
+            Setting::Bind => self.bind(alloc, words),
+            Setting::Bindings => self.bind_module(alloc, words),
+            Setting::Unbind => self.unbind(words),
+        }
+    }
+
+    fn on_any(
+        &mut self,
+        alloc: Global,
+        call: OnAny,
+        words: &mut Words<'_>,
+    ) -> Result<Answer, Answer> {
+        match call {
+            OnAny::Label => label(words),
+            OnAny::Module => self.module(alloc, words),
+            OnAny::Counts => self.counts(alloc, words),
+            OnAny::Json => self.package_json(alloc, words),
+            OnAny::JsonWorld => self.world_json(alloc, words),
+            OnAny::JsonBound => self.bound_json(alloc, words),
         }
     }
 
     fn without_check(
         &mut self,
         alloc: Global,
-        word: &[u8],
+        asked: Asked,
         words: &mut Words<'_>,
     ) -> Result<Answer, Answer> {
-        match word {
-            b"resolve" => self.read(words),
-            b"other" => self.read_other(words),
-            b"bytes" => self.keep(words),
-            b"brief" => Ok(self.set_brief(true)),
-            b"full" => Ok(self.set_brief(false)),
-            b"check" | b"rule" | b"valid" => Ok(self.validity(alloc, word)),
-            b"label" => label(words),
-            b"module" => self.module(alloc, words),
-            b"counts" => self.counts(alloc, words),
-            b"bind" => self.bind(alloc, words),
-            b"bindings" => self.bind_module(alloc, words),
-            b"unbind" => self.unbind(words),
-            b"json" => self.package_json(alloc, words),
-            b"json-world" => self.world_json(alloc, words),
-            b"json-bound" => self.bound_json(alloc, words),
-            b"text"
-            | b"world-text"
-            | b"decode"
-            | b"decode-at"
-            | b"strip"
-            | b"said"
-            | b"bound"
-            | b"stripped"
-            | b"refused-section" => self.with_bytes(alloc, word, words),
+        match asked {
+            Asked::Validity(call) => Ok(self.validity(alloc, call)),
+            Asked::OnBytes(call) => self.with_bytes(alloc, call, words),
+            Asked::Setting(setting) => self.set(alloc, setting, words),
+            Asked::OnAny(call) => self.on_any(alloc, call, words),
             _ => Err(Answer::Bad),
         }
     }
@@ -503,14 +516,14 @@ impl Interpreter {
         &self,
         clock: &R,
         alloc: Global,
-        word: &[u8],
+        call: OnValid,
         words: &mut Words<'_>,
     ) -> io::Result<Reply> {
         let Some(resolve) = &self.current else {
             return Ok(Reply::at_once(Answer::Unmet("resolve")));
         };
         match calls::test_valid(alloc, resolve) {
-            Ok(()) => timed_on_valid(clock, alloc, self.marks, resolve, word, words),
+            Ok(()) => timed_on_valid(clock, alloc, self.marks, resolve, call, words),
             Err(answer) => Ok(Reply::at_once(answer)),
         }
     }
@@ -555,16 +568,15 @@ impl Interpreter {
     fn between_marks(
         &mut self,
         alloc: Global,
-        word: &[u8],
+        call: Marked,
         words: &mut Words<'_>,
     ) -> Result<Answer, Answer> {
-        match word {
-            b"sense" => self.sense(alloc, words),
-            b"merge" => self.merge(alloc, words),
-            b"get" => self.get(alloc, words),
-            b"unversioned" => self.carry_over(alloc, words),
-            b"valtype" => self.value_type(alloc, words),
-            _ => Err(Answer::Bad),
+        match call {
+            Marked::Sense => self.sense(alloc, words),
+            Marked::Merge => self.merge(alloc, words),
+            Marked::Get => self.get(alloc, words),
+            Marked::Unversioned => self.carry_over(alloc, words),
+            Marked::ValueType => self.value_type(alloc, words),
         }
     }
 
@@ -572,12 +584,12 @@ impl Interpreter {
         &mut self,
         clock: &R,
         alloc: Global,
-        word: &[u8],
+        asked: Asked,
         words: &mut Words<'_>,
     ) -> io::Result<Reply> {
         let start = Instant::now(clock)?;
         self.marks.begin(alloc)?;
-        let answer = either(self.without_check(alloc, word, words));
+        let answer = either(self.without_check(alloc, asked, words));
         self.marks.end(alloc)?;
         let spent = start.elapsed(clock)?;
         Ok(Reply { answer, spent })
@@ -598,16 +610,14 @@ impl Interpreter {
         words: &mut Words<'_>,
     ) -> io::Result<Reply> {
         let word = self.call_word(words);
-        match word {
-            b"encode" | b"world" | b"metadata" | b"print" | b"normal" | b"names" => {
-                self.on_current(clock, alloc, word, words)
+        match asked(word) {
+            Some(Asked::OnValid(call)) => self.on_current(clock, alloc, call, words),
+            Some(Asked::Marked(call)) => {
+                Ok(Reply::at_once(either(self.between_marks(alloc, call, words))))
             }
-            b"sense" | b"merge" | b"get" | b"unversioned" | b"valtype" => {
-                Ok(Reply::at_once(either(self.between_marks(alloc, word, words))))
-            }
-            b"semver" => self.semver(clock, alloc, false, words),
-            b"steps" => self.semver(clock, alloc, true, words),
-            _ => self.other_call(clock, alloc, word, words),
+            Some(Asked::Semver { is_counted }) => self.semver(clock, alloc, is_counted, words),
+            Some(asked) => self.other_call(clock, alloc, asked, words),
+            None => Ok(Reply::at_once(Answer::Bad)),
         }
     }
 
