@@ -123,6 +123,6 @@ static WORDS: [(&[u8], Asked); 39] = [
 ];
 
 /// What a word asks for, if it is one of these.
-pub fn asked(word: &[u8]) -> Option<Asked> {
+pub fn asked_by(word: &[u8]) -> Option<Asked> {
     meaning_of(&WORDS, word)
 }

@@ -3,7 +3,7 @@
 ghost use Rattle.wit_model.specs.Valid.{IsValid};
 
 use crate::answer::{Answer, Reply};
-use crate::asked::{Asked, Marked, OnAny, OnBytes, OnValid, Setting, Validity, asked};
+use crate::asked::{Asked, Marked, OnAny, OnBytes, OnValid, Setting, Validity, asked_by};
 use crate::bindings::{binding, merge};
 use crate::calls;
 use crate::encoder::value_type;
@@ -610,7 +610,7 @@ impl Interpreter {
         words: &mut Words<'_>,
     ) -> io::Result<Reply> {
         let word = self.call_word(words);
-        match asked(word) {
+        match asked_by(word) {
             Some(Asked::OnValid(call)) => self.on_current(clock, alloc, call, words),
             Some(Asked::Marked(call)) => {
                 Ok(Reply::at_once(either(self.between_marks(alloc, call, words))))
