@@ -150,21 +150,8 @@ module _ (r s : Resolve) (f : Renumbering) (valid : KeepsRules r) (is : IsCarrie
 
   -- the numbers in a type
   pub type_tree_same : (t : ValueType) → list_all f.carries_type (option_to_list (number_of t)) ≡ true → type_tree s (renamed_type f.types t) ≡ type_tree r t
-  type_tree_same ty.Bool h = refl
-  type_tree_same ty.U8 h = refl
-  type_tree_same ty.U16 h = refl
-  type_tree_same ty.U32 h = refl
-  type_tree_same ty.U64 h = refl
-  type_tree_same ty.S8 h = refl
-  type_tree_same ty.S16 h = refl
-  type_tree_same ty.S32 h = refl
-  type_tree_same ty.S64 h = refl
-  type_tree_same ty.F32 h = refl
-  type_tree_same ty.F64 h = refl
-  type_tree_same ty.Char h = refl
-  type_tree_same ty.String h = refl
-  type_tree_same ty.ErrorContext h = refl
   type_tree_same (ty.Id id) h = tree_same id.0 (first_true _ _ h)
+  type_tree_same _ h = refl
 
   -- the numbers in a kind that is carried are carried
   pub kind_carried : (def image : TypeDef) → HasImageKind f.types f.carries_type def image → list_all f.carries_type (kind_numbers def.kind) ≡ true

@@ -46,21 +46,11 @@ use Rattle.wit_model.proofs.PartsLemmas.{owner_itself, owner_same as owner_equal
 
 pub resource_under : (f : Renumbering) (k : FunctionKind) → resource_of (call_under f k) ≡ option_map f.types (resource_of k)
 resource_under f call.Freestanding = refl
-resource_under f call.AsyncFreestanding = refl
-resource_under f (call.Method id) = refl
-resource_under f (call.AsyncMethod id) = refl
-resource_under f (call.Static id) = refl
-resource_under f (call.AsyncStatic id) = refl
-resource_under f (call.Constructor id) = refl
+resource_under f _ = refl
 
 pub freestanding_under : (f : Renumbering) (k : FunctionKind) → is_freestanding (call_under f k) ≡ is_freestanding k
 freestanding_under f call.Freestanding = refl
-freestanding_under f call.AsyncFreestanding = refl
-freestanding_under f (call.Method id) = refl
-freestanding_under f (call.AsyncMethod id) = refl
-freestanding_under f (call.Static id) = refl
-freestanding_under f (call.AsyncStatic id) = refl
-freestanding_under f (call.Constructor id) = refl
+freestanding_under f _ = refl
 
 -- ---- types in a result
 
@@ -71,21 +61,8 @@ ok_of_all p (kind.Result x) h = go x.ok (sym (list_all_filter_map p number_of (o
         → passes (λ t. list_all p (option_to_list (number_of t))) o ≡ true
     go None h = refl
     go (Some t) h = first_true _ _ h
-ok_of_all p (kind.Record x) h = refl
-ok_of_all p kind.Resource h = refl
 ok_of_all p (kind.Handle (handle.Own id)) h = refl
-ok_of_all p (kind.Handle (handle.Borrow id)) h = refl
-ok_of_all p (kind.Flags x) h = refl
-ok_of_all p (kind.Tuple x) h = refl
-ok_of_all p (kind.Variant x) h = refl
-ok_of_all p (kind.Enum x) h = refl
-ok_of_all p (kind.Option x) h = refl
-ok_of_all p (kind.List x) h = refl
-ok_of_all p (kind.Map x y) h = refl
-ok_of_all p (kind.FixedLengthList x y) h = refl
-ok_of_all p (kind.Future x) h = refl
-ok_of_all p (kind.Stream x) h = refl
-ok_of_all p (kind.Type_ x) h = refl
+ok_of_all p _ h = refl
 
 pub id_under : (g : ℕ → ℕ) (n : ℕ) (o : Option ℕ) → is_id n o ≡ true → is_id (g n) (option_map g o) ≡ true
 id_under g n None h = h

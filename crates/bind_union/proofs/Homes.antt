@@ -33,20 +33,7 @@ use Rattle.wit_model.proofs.PartsLemmas.{owner_itself, owner_same as owner_equal
 -- a kind is a resource, or an alias of one
 resource_kind : (test : ℕ → Bool) (k : TypeDefKind) → is_resource_kind test k ≡ (is_resource_itself k || option_map_or test (alias_target k) false)
 resource_kind test kind.Resource = refl
-resource_kind test (kind.Type_ t) = refl
-resource_kind test (kind.Record x) = refl
-resource_kind test (kind.Handle x) = refl
-resource_kind test (kind.Flags x) = refl
-resource_kind test (kind.Tuple x) = refl
-resource_kind test (kind.Variant x) = refl
-resource_kind test (kind.Enum x) = refl
-resource_kind test (kind.Option x) = refl
-resource_kind test (kind.Result x) = refl
-resource_kind test (kind.List x) = refl
-resource_kind test (kind.Map x y) = refl
-resource_kind test (kind.FixedLengthList x y) = refl
-resource_kind test (kind.Future x) = refl
-resource_kind test (kind.Stream x) = refl
+resource_kind test _ = refl
 
 -- what is asked of all numbers in a kind is asked of an alias's target
 pub alias_of_all : (p : ℕ → Bool) (k : TypeDefKind) → list_all p (kind_numbers k) ≡ true → passes p (alias_target k) ≡ true

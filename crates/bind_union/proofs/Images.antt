@@ -30,21 +30,9 @@ use Rattle.base_lemmas.proofs.Lists.{map_of_map as mapped_twice}
 -- a kind declares what its view does
 pub declared_by_view : (trees : List Tree) (k : TypeDefKind) → declared_view trees (kind_view k) ≡ declared_by trees k
 declared_by_view trees (kind.Record record_) = ap (λ fs. type_ (record_tree fs)) (mapped_twice _ _ record_.fields.items)
-declared_by_view trees kind.Resource = refl
 declared_by_view trees (kind.Handle (handle.Own id)) = refl
-declared_by_view trees (kind.Handle (handle.Borrow id)) = refl
-declared_by_view trees (kind.Flags flags) = refl
-declared_by_view trees (kind.Tuple tuple) = refl
 declared_by_view trees (kind.Variant variant) = ap (λ cs. type_ (variant_tree cs)) (mapped_twice _ _ variant.cases.items)
-declared_by_view trees (kind.Enum enum) = refl
-declared_by_view trees (kind.Option t) = refl
-declared_by_view trees (kind.Result result) = refl
-declared_by_view trees (kind.List t) = refl
-declared_by_view trees (kind.Map k v) = refl
-declared_by_view trees (kind.FixedLengthList t n) = refl
-declared_by_view trees (kind.Future t) = refl
-declared_by_view trees (kind.Stream t) = refl
-declared_by_view trees (kind.Type_ t) = refl
+declared_by_view trees _ = refl
 
 -- ---- under other numbers
 
@@ -80,21 +68,8 @@ module _ (f : ℕ → ℕ) (us trees : List Tree) where
   Same n = tree_at us (f n) ≡ tree_at trees n
 
   type_same : (t : ValueType) → Each Same (type_numbers t) → tree_of us (renamed_type f t) ≡ tree_of trees t
-  type_same ty.Bool h = refl
-  type_same ty.U8 h = refl
-  type_same ty.U16 h = refl
-  type_same ty.U32 h = refl
-  type_same ty.U64 h = refl
-  type_same ty.S8 h = refl
-  type_same ty.S16 h = refl
-  type_same ty.S32 h = refl
-  type_same ty.S64 h = refl
-  type_same ty.F32 h = refl
-  type_same ty.F64 h = refl
-  type_same ty.Char h = refl
-  type_same ty.String h = refl
-  type_same ty.ErrorContext h = refl
   type_same (ty.Id id) h = h.0
+  type_same _ h = refl
 
   option_same : (t : Option ValueType) → Each Same (optional_numbers t) → option_map (tree_of us) (option_map (renamed_type f) t) ≡ option_map (tree_of trees) t
   option_same None h = refl
@@ -116,10 +91,7 @@ module _ (f : ℕ → ℕ) (us trees : List Tree) where
   pub view_same : (v : KindView) → Each Same (view_numbers v) → declared_view us (renamed f v) ≡ declared_view trees v
   view_same (record_view fields) h = ap (λ xs. type_ (record_tree xs)) (fields_same fields h)
   view_same (variant_view cases) h = ap (λ xs. type_ (variant_tree xs)) (cases_same cases h)
-  view_same (flags_view names) h = refl
-  view_same (enum_view names) h = refl
   view_same (tuple_view ts) h = ap (λ xs. type_ (tuple_tree xs)) (types_same ts h)
-  view_same resource_view h = refl
   view_same (own_view n) h = ap (λ t. type_ (own_tree t)) h.0
   view_same (borrow_view n) h = ap (λ t. type_ (borrow_tree t)) h.0
   view_same (option_view t) h = ap (λ x. type_ (option_tree x)) (type_same t h)
@@ -130,25 +102,13 @@ module _ (f : ℕ → ℕ) (us trees : List Tree) where
   view_same (future_view t) h = ap (λ x. type_ (future_tree x)) (option_same t h)
   view_same (stream_view t) h = ap (λ x. type_ (stream_tree x)) (option_same t h)
   view_same (alias_view t) h = ap type_ (type_same t h)
+  view_same _ h = refl
 
 -- ---- the numbers of a view
 
 pub numbers_cons : (t : ValueType) (ts : List ValueType) → filter_map number_of (t ∷ ts) ≡ type_numbers t ++ filter_map number_of ts
 numbers_cons ty.Bool ts = refl
-numbers_cons ty.U8 ts = refl
-numbers_cons ty.U16 ts = refl
-numbers_cons ty.U32 ts = refl
-numbers_cons ty.U64 ts = refl
-numbers_cons ty.S8 ts = refl
-numbers_cons ty.S16 ts = refl
-numbers_cons ty.S32 ts = refl
-numbers_cons ty.S64 ts = refl
-numbers_cons ty.F32 ts = refl
-numbers_cons ty.F64 ts = refl
-numbers_cons ty.Char ts = refl
-numbers_cons ty.String ts = refl
-numbers_cons ty.ErrorContext ts = refl
-numbers_cons (ty.Id id) ts = refl
+numbers_cons _ ts = refl
 
 flat_numbers : (ts : List ValueType) → flat_map type_numbers ts ≡ filter_map number_of ts
 flat_numbers [] = refl
@@ -187,13 +147,9 @@ given_numbers (Some t) = one_number t
 -- the numbers in a kind are those in its view
 pub numbers_of_view : (k : TypeDefKind) → view_numbers (kind_view k) ≡ kind_numbers k
 numbers_of_view (kind.Record record_) = behind _ (map (λ f. f.ty) record_.fields.items) (field_numbers record_.fields.items)
-numbers_of_view kind.Resource = refl
 numbers_of_view (kind.Handle (handle.Own id)) = refl
-numbers_of_view (kind.Handle (handle.Borrow id)) = refl
-numbers_of_view (kind.Flags flags) = refl
 numbers_of_view (kind.Tuple tuple) = behind _ tuple.types.items (flat_numbers tuple.types.items)
 numbers_of_view (kind.Variant variant) = behind _ (filter_map (λ c. c.ty) variant.cases.items) (case_numbers variant.cases.items)
-numbers_of_view (kind.Enum enum) = refl
 numbers_of_view (kind.Option t) = behind _ (t ∷ []) (one_number t)
 numbers_of_view (kind.Result result) = behind _ (option_to_list result.ok ++ option_to_list result.err)
     ((λ i. given_numbers result.ok i ++ given_numbers result.err i) ∙ sym (filter_map-append number_of (option_to_list result.ok) (option_to_list result.err)))
@@ -220,6 +176,7 @@ numbers_of_view (kind.Type_ t) = alias_numbers t
     alias_numbers ty.String = refl
     alias_numbers ty.ErrorContext = refl
     alias_numbers (ty.Id id) = refl
+numbers_of_view _ = refl
 
 -- ---- trees
 

@@ -129,8 +129,7 @@ module _ (own other merged : Resolve) (bound other_bound : ℕ) (first second : 
 
   unowned : (f : Renumbering) (o : TypeOwner) → same_owner (owner_under f o) owner.None ≡ same_owner o owner.None
   unowned f (owner.World id) = refl
-  unowned f (owner.Interface id) = refl
-  unowned f owner.None = refl
+  unowned f _ = refl
 
   -- a copy is listed as it was, where worlds list it
   copy_listed : (c : Source merged) (n : ℕ) (copy : c.under.copies_type n ≡ true)

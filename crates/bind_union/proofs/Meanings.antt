@@ -49,12 +49,7 @@ use Rattle.base_lemmas.proofs.Numbers.{equal}
 
 async_under : (f : Renumbering) (k : FunctionKind) → is_async (call_under f k) ≡ is_async k
 async_under f call.Freestanding = refl
-async_under f call.AsyncFreestanding = refl
-async_under f (call.Method id) = refl
-async_under f (call.AsyncMethod id) = refl
-async_under f (call.Static id) = refl
-async_under f (call.AsyncStatic id) = refl
-async_under f (call.Constructor id) = refl
+async_under f _ = refl
 
 module _ (r s : Resolve) (f : Renumbering) (valid : KeepsRules r) (is : IsCarried r s f) (below_s : Keeps references s) where
   -- ---- types

@@ -93,63 +93,21 @@ alias_declares trees (kind.Stream t) n h = let wrong : ⊥ = cc in absurd wrong
 abbrev declares_name : Declaration → Bool
 declares_name (type_ (named p n)) = true
 declares_name (type_ (primitive p)) = false
-declares_name (type_ (node form ts)) = false
-declares_name resource = false
+declares_name _ = false
 
 -- what declares a name is an alias
 pub name_is_alias : (trees : List Tree) (k : TypeDefKind) (p : Place) (n : Text) → declared_by trees k ≡ type_ (named p n) → (t : ℕ) × (alias_target k ≡ Some t) × (tree_at trees t ≡ named p n)
 name_is_alias trees (kind.Type_ (ty.Id id)) p n h = (id.0, refl, ap tree_of_declaration h)
-name_is_alias trees (kind.Type_ ty.Bool) p n h = no_true (ap declares_name h)
-name_is_alias trees (kind.Type_ ty.U8) p n h = no_true (ap declares_name h)
-name_is_alias trees (kind.Type_ ty.U16) p n h = no_true (ap declares_name h)
-name_is_alias trees (kind.Type_ ty.U32) p n h = no_true (ap declares_name h)
-name_is_alias trees (kind.Type_ ty.U64) p n h = no_true (ap declares_name h)
-name_is_alias trees (kind.Type_ ty.S8) p n h = no_true (ap declares_name h)
-name_is_alias trees (kind.Type_ ty.S16) p n h = no_true (ap declares_name h)
-name_is_alias trees (kind.Type_ ty.S32) p n h = no_true (ap declares_name h)
-name_is_alias trees (kind.Type_ ty.S64) p n h = no_true (ap declares_name h)
-name_is_alias trees (kind.Type_ ty.F32) p n h = no_true (ap declares_name h)
-name_is_alias trees (kind.Type_ ty.F64) p n h = no_true (ap declares_name h)
-name_is_alias trees (kind.Type_ ty.Char) p n h = no_true (ap declares_name h)
-name_is_alias trees (kind.Type_ ty.String) p n h = no_true (ap declares_name h)
-name_is_alias trees (kind.Type_ ty.ErrorContext) p n h = no_true (ap declares_name h)
-name_is_alias trees (kind.Record x) p n h = no_true (ap declares_name h)
-name_is_alias trees kind.Resource p n h = no_true (ap declares_name h)
 name_is_alias trees (kind.Handle (handle.Own id)) p n h = no_true (ap declares_name h)
-name_is_alias trees (kind.Handle (handle.Borrow id)) p n h = no_true (ap declares_name h)
-name_is_alias trees (kind.Flags x) p n h = no_true (ap declares_name h)
-name_is_alias trees (kind.Tuple x) p n h = no_true (ap declares_name h)
-name_is_alias trees (kind.Variant x) p n h = no_true (ap declares_name h)
-name_is_alias trees (kind.Enum x) p n h = no_true (ap declares_name h)
-name_is_alias trees (kind.Option t) p n h = no_true (ap declares_name h)
-name_is_alias trees (kind.Result x) p n h = no_true (ap declares_name h)
-name_is_alias trees (kind.List t) p n h = no_true (ap declares_name h)
-name_is_alias trees (kind.Map k v) p n h = no_true (ap declares_name h)
-name_is_alias trees (kind.FixedLengthList t m) p n h = no_true (ap declares_name h)
-name_is_alias trees (kind.Future t) p n h = no_true (ap declares_name h)
-name_is_alias trees (kind.Stream t) p n h = no_true (ap declares_name h)
+name_is_alias trees _ p n h = no_true (ap declares_name h)
 
 abbrev pub declares_resource : Declaration → Bool
 declares_resource (type_ t) = false
 declares_resource resource = true
 
 pub resource_declares : (trees : List Tree) (k : TypeDefKind) → is_resource_itself k ≡ declares_resource (declared_by trees k)
-resource_declares trees (kind.Record x) = refl
-resource_declares trees kind.Resource = refl
 resource_declares trees (kind.Handle (handle.Own id)) = refl
-resource_declares trees (kind.Handle (handle.Borrow id)) = refl
-resource_declares trees (kind.Flags x) = refl
-resource_declares trees (kind.Tuple x) = refl
-resource_declares trees (kind.Variant x) = refl
-resource_declares trees (kind.Enum x) = refl
-resource_declares trees (kind.Option t) = refl
-resource_declares trees (kind.Result x) = refl
-resource_declares trees (kind.List t) = refl
-resource_declares trees (kind.Map k v) = refl
-resource_declares trees (kind.FixedLengthList t m) = refl
-resource_declares trees (kind.Future t) = refl
-resource_declares trees (kind.Stream t) = refl
-resource_declares trees (kind.Type_ t) = refl
+resource_declares trees _ = refl
 
 -- ---- places
 

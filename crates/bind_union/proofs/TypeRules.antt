@@ -179,8 +179,7 @@ module _ (r s : Resolve) (f : Renumbering) (valid : KeepsRules r) (is : IsCarrie
 
     unowned : (o : TypeOwner) → same_owner (owner_under f o) owner.None ≡ same_owner o owner.None
     unowned (owner.World id) = refl
-    unowned (owner.Interface id) = refl
-    unowned owner.None = refl
+    unowned _ = refl
 
     -- an owner that is not alone is none
     copied_alone : (o : TypeOwner) → copies_owner f o ≡ true → same_owner o owner.None ≡ false → homes.alone r s f valid is below_s o ≡ true

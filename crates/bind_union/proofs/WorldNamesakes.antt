@@ -164,28 +164,20 @@ module _ (r : Resolve) (v : IsValid r) (n : ℕ) (w : World) (at : world_at r n 
 -- ---- items of one sense
 
 abbrev pub is_declared : Item InterfaceSense → Bool
-is_declared (interface path) = false
-is_declared (inline i) = false
-is_declared (function s) = false
 is_declared (declares d) = true
+is_declared _ = false
 
 abbrev is_function : Item InterfaceSense → Bool
-is_function (interface path) = false
-is_function (inline i) = false
 is_function (function s) = true
-is_function (declares d) = false
+is_function _ = false
 
 abbrev declared_so : Item InterfaceSense → Option Declaration
-declared_so (interface path) = None
-declared_so (inline i) = None
-declared_so (function s) = None
 declared_so (declares d) = Some d
+declared_so _ = None
 
 abbrev pub path_so : Item InterfaceSense → Option Text
 path_so (interface path) = Some path
-path_so (inline i) = None
-path_so (function s) = None
-path_so (declares d) = None
+path_so _ = None
 
 pub not_declared : (r : Resolve) (n : ℕ) → is_declared (item_sense (interface_item r n)) ≡ false
 not_declared r n = go (interface_path r n)
