@@ -52,20 +52,14 @@ module _ (r s : Resolve) (f : Renumbering) (valid : KeepsRules r) (is : IsCarrie
   key_range : (k l : WorldKey) → KeyBecomes f k l → key_in_range s l ≡ true
   key_range (key.Name a) (key.Name b) z = refl
   key_range (key.Interface a) (key.Interface b) z = ap (in_list s.interfaces.items) z.0 ∙ interface_there a.0 z.1
-  key_range (key.Name a) (key.Interface b) z = absurd z
-  key_range (key.Interface a) (key.Name b) z = absurd z
+  key_range _ _ z = absurd z
 
   item_range : (i j : WorldItem) → ItemBecomes f i j → item_in_range s j ≡ true
   item_range (item.Interface a st docs ext) (item.Interface b st2 docs2 ext2) z = ap (in_list s.interfaces.items) z.0 ∙ interface_there a.0 z.1
   item_range (item.Function g) (item.Function h) z = function_range_passes r s f valid is below_s g h z
   item_range (item.Type_ a) (item.Type_ b) z = let t = is.types a.0 (is.copied_types a.0 z.1) in
       ap (in_list s.types.items) z.0 ∙ lt-ltb _ _ (slice_get_within s.types.items (f.types a.0) t.image t.at_image)
-  item_range (item.Interface a st docs ext) (item.Function h) z = absurd z
-  item_range (item.Interface a st docs ext) (item.Type_ h) z = absurd z
-  item_range (item.Function g) (item.Interface b st2 docs2 ext2) z = absurd z
-  item_range (item.Function g) (item.Type_ b) z = absurd z
-  item_range (item.Type_ a) (item.Interface b st2 docs2 ext2) z = absurd z
-  item_range (item.Type_ a) (item.Function h) z = absurd z
+  item_range _ _ z = absurd z
 
   pub entry_range : (a b : WorldKey × WorldItem) → EntryBecomes f a b → true ≡ true → (key_in_range s b.0 && item_in_range s b.1) ≡ true
   entry_range a b z h = both _ _ (key_range a.0 b.0 z.0) (item_range a.1 b.1 z.1)
@@ -76,25 +70,14 @@ module _ (r s : Resolve) (f : Renumbering) (valid : KeepsRules r) (is : IsCarrie
   key_label_passes (key.Name a) (key.Name b) (item.Interface c st docs ext) (item.Interface d st2 docs2 ext2) z y h = ap is_label z ∙ h
   key_label_passes (key.Name a) (key.Name b) (item.Function g) (item.Function k) z y h = (λ i. not ((ap is_freestanding y.kind ∙ freestanding_under f g.kind) i) || is_label (z i)) ∙ h
   key_label_passes (key.Name a) (key.Name b) (item.Type_ c) (item.Type_ d) z y h = ap is_label z ∙ h
-  key_label_passes (key.Name a) (key.Name b) (item.Interface c st docs ext) (item.Function k) z y h = absurd y
-  key_label_passes (key.Name a) (key.Name b) (item.Interface c st docs ext) (item.Type_ k) z y h = absurd y
-  key_label_passes (key.Name a) (key.Name b) (item.Function g) (item.Interface d st2 docs2 ext2) z y h = absurd y
-  key_label_passes (key.Name a) (key.Name b) (item.Function g) (item.Type_ d) z y h = absurd y
-  key_label_passes (key.Name a) (key.Name b) (item.Type_ c) (item.Interface d st2 docs2 ext2) z y h = absurd y
-  key_label_passes (key.Name a) (key.Name b) (item.Type_ c) (item.Function d) z y h = absurd y
-  key_label_passes (key.Name a) (key.Interface b) i j z y h = absurd z
-  key_label_passes (key.Interface a) (key.Name b) i j z y h = absurd z
+  key_label_passes (key.Name a) (key.Name b) _ _ z y h = absurd y
+  key_label_passes _ _ i j z y h = absurd z
 
   item_labels_pass : (i j : WorldItem) → ItemBecomes f i j → item_labels i ≡ true → item_labels j ≡ true
   item_labels_pass (item.Interface a st docs ext) (item.Interface b st2 docs2 ext2) z h = stability_alike st2 st z.2 ∙ h
   item_labels_pass (item.Function g) (item.Function k) z h = function_labels_pass r s f valid is below_s g k z h
   item_labels_pass (item.Type_ a) (item.Type_ b) z h = refl
-  item_labels_pass (item.Interface a st docs ext) (item.Function h) z e = absurd z
-  item_labels_pass (item.Interface a st docs ext) (item.Type_ h) z e = absurd z
-  item_labels_pass (item.Function g) (item.Interface b st2 docs2 ext2) z e = absurd z
-  item_labels_pass (item.Function g) (item.Type_ b) z e = absurd z
-  item_labels_pass (item.Type_ a) (item.Interface b st2 docs2 ext2) z e = absurd z
-  item_labels_pass (item.Type_ a) (item.Function h) z e = absurd z
+  item_labels_pass _ _ z e = absurd z
 
   pub entry_labels : (a b : WorldKey × WorldItem) → EntryBecomes f a b → (key_label a.0 a.1 && item_labels a.1) ≡ true → (key_label b.0 b.1 && item_labels b.1) ≡ true
   entry_labels a b z h = both _ _ (key_label_passes a.0 b.0 a.1 b.1 z.0 z.1 (first_true _ _ h)) (item_labels_pass a.1 b.1 z.1 (second_true (key_label a.0 a.1) _ h))
@@ -105,19 +88,13 @@ module _ (r s : Resolve) (f : Renumbering) (valid : KeepsRules r) (is : IsCarrie
   entry_function p q one (item.Function g) (item.Function h) z e = both _ _ (one g h z (first_true _ _ e)) refl
   entry_function p q one (item.Interface a st docs ext) (item.Interface b st2 docs2 ext2) z e = refl
   entry_function p q one (item.Type_ a) (item.Type_ b) z e = refl
-  entry_function p q one (item.Interface a st docs ext) (item.Function h) z e = absurd z
-  entry_function p q one (item.Interface a st docs ext) (item.Type_ h) z e = absurd z
-  entry_function p q one (item.Function g) (item.Interface b st2 docs2 ext2) z e = absurd z
-  entry_function p q one (item.Function g) (item.Type_ b) z e = absurd z
-  entry_function p q one (item.Type_ a) (item.Interface b st2 docs2 ext2) z e = absurd z
-  entry_function p q one (item.Type_ a) (item.Function h) z e = absurd z
+  entry_function p q one _ _ z e = absurd z
 
   -- function names
   name_key_passes : (s t : Text) → t ≡ s → (k l : WorldKey) → KeyBecomes f k l → is_name_key s k ≡ true → is_name_key t l ≡ true
   name_key_passes s t e (key.Name a) (key.Name b) z h = (λ i. text_eq (z i) (e i)) ∙ h
   name_key_passes s t e (key.Interface a) (key.Interface b) z h = no_true h
-  name_key_passes s t e (key.Name a) (key.Interface b) z h = absurd z
-  name_key_passes s t e (key.Interface a) (key.Name b) z h = absurd z
+  name_key_passes s t e _ _ z h = absurd z
 
   pub entry_member : (n : ℕ) → (a b : WorldKey × WorldItem) → EntryBecomes f a b → passes (λ g. is_name_key (text_of g.name) a.0 && is_member r (as_world n) g) (item_function a.1) ≡ true
       → passes (λ g. is_name_key (text_of g.name) b.0 && is_member s (as_world (f.worlds n)) g) (item_function b.1) ≡ true
@@ -126,12 +103,7 @@ module _ (r s : Resolve) (f : Renumbering) (valid : KeepsRules r) (is : IsCarrie
       (member_passes r s f valid is below_s g h z.1 (as_world n) (second_true (is_name_key (text_of g.name) k) _ e))
   entry_member n (k, item.Interface a st docs ext) (l, item.Interface b st2 docs2 ext2) z e = refl
   entry_member n (k, item.Type_ a) (l, item.Type_ b) z e = refl
-  entry_member n (k, item.Interface a st docs ext) (l, item.Function h) z e = absurd z.1
-  entry_member n (k, item.Interface a st docs ext) (l, item.Type_ h) z e = absurd z.1
-  entry_member n (k, item.Function g) (l, item.Interface b st2 docs2 ext2) z e = absurd z.1
-  entry_member n (k, item.Function g) (l, item.Type_ b) z e = absurd z.1
-  entry_member n (k, item.Type_ a) (l, item.Interface b st2 docs2 ext2) z e = absurd z.1
-  entry_member n (k, item.Type_ a) (l, item.Function h) z e = absurd z.1
+  entry_member n _ _ z e = absurd z.1
 
   -- world items
   interface_key_passes : (m k : ℕ) → k ≡ f.interfaces m → f.carries_interface m ≡ true → (i j : WorldItem) → ItemBecomes f i j → is_interface_key r m i ≡ true → is_interface_key s k j ≡ true
@@ -146,14 +118,8 @@ module _ (r s : Resolve) (f : Renumbering) (valid : KeepsRules r) (is : IsCarrie
       one : (i j : WorldItem) → ItemBecomes f i j → is_id m (item_interface i) ≡ true → is_id k (item_interface j) ≡ true
       one (item.Interface a st docs ext) (item.Interface b st2 docs2 ext2) z h =
           (λ x. z.0 x == e x) ∙ subst (λ (x : ℕ). (f.interfaces a.0 == f.interfaces x) ≡ true) (equal a.0 m h) (same-number (f.interfaces a.0))
-      one (item.Function g) (item.Function h2) z h = no_true h
-      one (item.Type_ a) (item.Type_ b) z h = no_true h
-      one (item.Interface a st docs ext) (item.Function h2) z e = absurd z
-      one (item.Interface a st docs ext) (item.Type_ h2) z e = absurd z
-      one (item.Function g) (item.Interface b st2 docs2 ext2) z e = absurd z
-      one (item.Function g) (item.Type_ b) z e = absurd z
-      one (item.Type_ a) (item.Interface b st2 docs2 ext2) z e = absurd z
-      one (item.Type_ a) (item.Function h2) z e = absurd z
+      one (item.Interface a st docs ext) _ z h = absurd z
+      one _ _ z h = no_true h
 
   own_type_passes : (n : ℕ) (a b : String Global) → text_of b ≡ text_of a → (m k : ℕ) → k ≡ f.types m → f.copies_type m ≡ true → is_own_type r n (key.Name a) m ≡ true
       → is_own_type s (f.worlds n) (key.Name b) k ≡ true
@@ -172,25 +138,13 @@ module _ (r s : Resolve) (f : Renumbering) (valid : KeepsRules r) (is : IsCarrie
   entry_import_stands n (key.Name a, item.Interface c st docs ext) (key.Name b, item.Interface d st2 docs2 ext2) z h = refl
   entry_import_stands n (key.Name a, item.Function g) (key.Name b, item.Function k) z h = refl
   entry_import_stands n (key.Name a, item.Type_ c) (key.Name b, item.Type_ d) z h = own_type_passes n a b z.0 c.0 d.0 z.1.0 z.1.1 h
-  entry_import_stands n (key.Name a, item.Interface c st docs ext) (key.Name b, item.Function k) z h = absurd z.1
-  entry_import_stands n (key.Name a, item.Interface c st docs ext) (key.Name b, item.Type_ k) z h = absurd z.1
-  entry_import_stands n (key.Name a, item.Function g) (key.Name b, item.Interface d st2 docs2 ext2) z h = absurd z.1
-  entry_import_stands n (key.Name a, item.Function g) (key.Name b, item.Type_ d) z h = absurd z.1
-  entry_import_stands n (key.Name a, item.Type_ c) (key.Name b, item.Interface d st2 docs2 ext2) z h = absurd z.1
-  entry_import_stands n (key.Name a, item.Type_ c) (key.Name b, item.Function d) z h = absurd z.1
-  entry_import_stands n (key.Name a, i) (key.Interface b, j) z h = absurd z.0
-  entry_import_stands n (key.Interface a, i) (key.Name b, j) z h = absurd z.0
+  entry_import_stands n (key.Name a, _) (key.Name b, _) z h = absurd z.1
+  entry_import_stands n _ _ z h = absurd z.0
 
   pub entry_export_stands : (a b : WorldKey × WorldItem) → EntryBecomes f a b → export_stands r a.0 a.1 ≡ true → export_stands s b.0 b.1 ≡ true
   entry_export_stands (key.Interface a, i) (key.Interface b, j) z h = interface_key_passes a.0 b.0 z.0.0 z.0.1 i j z.1 h
   entry_export_stands (key.Name a, item.Interface c st docs ext) (key.Name b, item.Interface d st2 docs2 ext2) z h = refl
   entry_export_stands (key.Name a, item.Function g) (key.Name b, item.Function k) z h = ap is_freestanding z.1.kind ∙ (freestanding_under f g.kind ∙ h)
   entry_export_stands (key.Name a, item.Type_ c) (key.Name b, item.Type_ d) z h = no_true h
-  entry_export_stands (key.Name a, item.Interface c st docs ext) (key.Name b, item.Function k) z h = absurd z.1
-  entry_export_stands (key.Name a, item.Interface c st docs ext) (key.Name b, item.Type_ k) z h = absurd z.1
-  entry_export_stands (key.Name a, item.Function g) (key.Name b, item.Interface d st2 docs2 ext2) z h = absurd z.1
-  entry_export_stands (key.Name a, item.Function g) (key.Name b, item.Type_ d) z h = absurd z.1
-  entry_export_stands (key.Name a, item.Type_ c) (key.Name b, item.Interface d st2 docs2 ext2) z h = absurd z.1
-  entry_export_stands (key.Name a, item.Type_ c) (key.Name b, item.Function d) z h = absurd z.1
-  entry_export_stands (key.Name a, i) (key.Interface b, j) z h = absurd z.0
-  entry_export_stands (key.Interface a, i) (key.Name b, j) z h = absurd z.0
+  entry_export_stands (key.Name a, _) (key.Name b, _) z h = absurd z.1
+  entry_export_stands _ _ z h = absurd z.0

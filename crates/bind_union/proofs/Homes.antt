@@ -147,13 +147,10 @@ module _ (r s : Resolve) (f : Renumbering) (valid : KeepsRules r) (is : IsCarrie
 
   pub owner_apart : (o p : TypeOwner) → carries_owner f p ≡ true → alone o ≡ true → same_owner (owner_under f p) (owner_under f o) ≡ true → same_owner p o ≡ true
   owner_apart (owner.World a) (owner.World b) c d h = subst (λ (k : ℕ). (b.0 == k) ≡ true) (is.worlds_apart b.0 a.0 c d (equal (f.worlds b.0) (f.worlds a.0) h)) (same-number b.0)
-  owner_apart (owner.World a) (owner.Interface b) c d h = no_true h
-  owner_apart (owner.World a) owner.None c d h = no_true h
-  owner_apart (owner.Interface a) (owner.World b) c d h = no_true h
   owner_apart (owner.Interface a) (owner.Interface b) c d h = subst (λ (k : ℕ). (b.0 == k) ≡ true)
       (apart f.interfaces f.carries_interface f.copies_interface is.interfaces_rise is.copied_interfaces b.0 a.0 c d (equal (f.interfaces b.0) (f.interfaces a.0) h)) (same-number b.0)
-  owner_apart (owner.Interface a) owner.None c d h = no_true h
   owner_apart owner.None p c d h = no_true d
+  owner_apart _ _ c d h = no_true h
 
   pub owner_back : (o : TypeOwner) (n : ℕ) → alone o ≡ true → f.carries_type n ≡ true → has_owner s (owner_under f o) (f.types n) ≡ true → has_owner r o n ≡ true
   owner_back o n d c h =

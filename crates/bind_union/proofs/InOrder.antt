@@ -21,9 +21,8 @@ use Rattle.wit_model.proofs.RulesLemmas.{after_of_map}
 pub zip_all : {A B : Type 0} (R : A → B → Type 0) (p : A → Bool) (q : B → Bool) → ((a : A) (b : B) → R a b → p a ≡ true → q b ≡ true) → (xs : List A) (ys : List B) → AllZip R xs ys
     → list_all p xs ≡ true → list_all q ys ≡ true
 zip_all R p q one [] [] z h = refl
-zip_all R p q one [] (y ∷ ys) z h = absurd z
-zip_all R p q one (x ∷ xs) [] z h = absurd z
 zip_all R p q one (x ∷ xs) (y ∷ ys) z h = both _ _ (one x y z.0 (first_true _ _ h)) (zip_all R p q one xs ys z.1 (second_true (p x) _ h))
+zip_all R p q one _ _ z h = absurd z
 
 -- what the relation makes equal is one list
 

@@ -88,9 +88,8 @@ option_itself (Some n) = same-number n
 
 option_equal : (p q : Option ℕ) → option_eq ◌==◌ p q ≡ true → p ≡ q
 option_equal None None h = refl
-option_equal None (Some q) h = no_true h
-option_equal (Some p) None h = no_true h
 option_equal (Some p) (Some q) h = ap Some (equal p q h)
+option_equal _ _ h = no_true h
 
 some_text : (o : Option (String Global)) → o ≡ None → optional_text o ≡ None
 some_text o e = ap optional_text e

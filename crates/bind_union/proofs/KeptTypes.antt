@@ -58,12 +58,7 @@ fresh_added f own k new n low _ _ (added old (l, j) olds news key z rest) = go o
     go (item.Type_ a) (item.Type_ b) z e = ap (λ c. c || has (filter_map item_type (items news)) n) (apart b.0 (subst (λ (x : ℕ). k ≤ x) (sym z.0) (new a.0 z.1)) (b.0 == n) refl) ∙ e
     go (item.Interface a st docs ext) (item.Interface b st2 docs2 ext2) z e = e
     go (item.Function g) (item.Function h) z e = e
-    go (item.Interface a st docs ext) (item.Function h) z e = absurd z
-    go (item.Interface a st docs ext) (item.Type_ h) z e = absurd z
-    go (item.Function g) (item.Interface b st2 docs2 ext2) z e = absurd z
-    go (item.Function g) (item.Type_ b) z e = absurd z
-    go (item.Type_ a) (item.Interface b st2 docs2 ext2) z e = absurd z
-    go (item.Type_ a) (item.Function h) z e = absurd z
+    go _ _ z e = absurd z
 
 -- and those that were there aren't copied
 fresh_there : (r : Resolve) (n : ℕ) → length r.types.items ≤ n → (es : List (WorldKey × WorldItem)) → entries_in_range r es ≡ true → has (filter_map item_type (items es)) n ≡ false

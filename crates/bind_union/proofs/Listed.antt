@@ -138,8 +138,7 @@ module _ (r s : Resolve) (f : Renumbering) (valid : KeepsRules r) (is : IsCarrie
   same_name_key : (k l : WorldKey) → KeyBecomes f k l → is_name_key name l ≡ is_name_key name k
   same_name_key (key.Name a) (key.Name b) z = ap (λ t. text_eq t name) z
   same_name_key (key.Interface a) (key.Interface b) z = refl
-  same_name_key (key.Name a) (key.Interface b) z = absurd z
-  same_name_key (key.Interface a) (key.Name b) z = absurd z
+  same_name_key _ _ z = absurd z
 
   type_image : (i j : WorldItem) → ItemBecomes f i j → is_id m (item_type i) ≡ true → is_id (f.types m) (item_type j) ≡ true
   type_image i j z e = type_becomes f i j z m e

@@ -71,23 +71,21 @@ flag bs n = unwrap_or (slice_get bs n) false
 
 -- a copy's number is the first or past it
 past_first : (first : ℕ) (bs : List Bool) (ns : List ℕ) → length ns ≡ length bs → (n : ℕ) → flag bs n ≡ true → first ≤ at (numbers_of first bs ns) n
-past_first first [] ns long n h = no_true h
 past_first first (b ∷ bs) [] long n h = absurd (omega (arith, long))
 past_first first (true ∷ bs) (x ∷ ns) long zero h = omega arith
 past_first first (true ∷ bs) (x ∷ ns) long (suc n) h = let r = past_first (first + 1) bs ns (omega (arith, long)) n h in omega (arith, r)
-past_first first (false ∷ bs) (x ∷ ns) long zero h = no_true h
 past_first first (false ∷ bs) (x ∷ ns) long (suc n) h = past_first first bs ns (omega (arith, long)) n h
+past_first first _ _ long _ h = no_true h
 
 -- copies rise
 copies_rise : (first : ℕ) (bs : List Bool) (ns : List ℕ) → length ns ≡ length bs → (m n : ℕ) → m < n → flag bs m ≡ true → flag bs n ≡ true
     → at (numbers_of first bs ns) m < at (numbers_of first bs ns) n
-copies_rise first [] ns long m n less h k = no_true h
 copies_rise first (b ∷ bs) [] long m n less h k = absurd (omega (arith, long))
 copies_rise first (b ∷ bs) (x ∷ ns) long m zero less h k = absurd (omega (arith, less))
 copies_rise first (true ∷ bs) (x ∷ ns) long zero (suc n) less h k = let r = past_first (first + 1) bs ns (omega (arith, long)) n k in omega (arith, r)
-copies_rise first (false ∷ bs) (x ∷ ns) long zero (suc n) less h k = no_true h
 copies_rise first (true ∷ bs) (x ∷ ns) long (suc m) (suc n) less h k = copies_rise (first + 1) bs ns (omega (arith, long)) m n (omega (arith, less)) h k
 copies_rise first (false ∷ bs) (x ∷ ns) long (suc m) (suc n) less h k = copies_rise first bs ns (omega (arith, long)) m n (omega (arith, less)) h k
+copies_rise first _ _ long _ _ less h k = no_true h
 
 pub numbers_rise : NumbersRise
 numbers_rise first copies others carries long low m n c d before = go (flag copies m) refl before

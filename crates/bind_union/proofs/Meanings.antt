@@ -157,8 +157,7 @@ module _ (r s : Resolve) (f : Renumbering) (valid : KeepsRules r) (is : IsCarrie
     pub key_means : (k l : WorldKey) → KeyBecomes f k l → key_text s l ≡ key_text r k
     key_means (key.Name a) (key.Name b) z = z
     key_means (key.Interface a) (key.Interface b) z = ap (λ o. unwrap_or o []) (ap (interface_path s) z.0 ∙ path_same r s f valid is below_s a.0 z.1)
-    key_means (key.Name a) (key.Interface b) z = absurd z
-    key_means (key.Interface a) (key.Name b) z = absurd z
+    key_means _ _ z = absurd z
 
     pub item_means : (i j : WorldItem) → ItemBecomes f i j → entry_meaning s j ≡ entry_meaning r i
     item_means (item.Interface a st docs ext) (item.Interface b st2 docs2 ext2) z = λ i. record { item = (ap (interface_item s) z.0 ∙ interface_item_means a.0 z.1) i; external_id = z.3 i }

@@ -60,46 +60,14 @@ use Rattle.wit_model.proofs.ValidLemmas.{type_passes}
 -- an alias declares its target's tree
 pub alias_declares : (trees : List Tree) (k : TypeDefKind) (t : ℕ) → alias_target k ≡ Some t → declared_by trees k ≡ type_ (tree_at trees t)
 alias_declares trees (kind.Type_ (ty.Id id)) t h = ap (λ n. type_ (tree_at trees n)) (same-some id.0 t h)
-alias_declares trees (kind.Type_ ty.Bool) t h = let wrong : ⊥ = cc in absurd wrong
-alias_declares trees (kind.Type_ ty.U8) t h = let wrong : ⊥ = cc in absurd wrong
-alias_declares trees (kind.Type_ ty.U16) t h = let wrong : ⊥ = cc in absurd wrong
-alias_declares trees (kind.Type_ ty.U32) t h = let wrong : ⊥ = cc in absurd wrong
-alias_declares trees (kind.Type_ ty.U64) t h = let wrong : ⊥ = cc in absurd wrong
-alias_declares trees (kind.Type_ ty.S8) t h = let wrong : ⊥ = cc in absurd wrong
-alias_declares trees (kind.Type_ ty.S16) t h = let wrong : ⊥ = cc in absurd wrong
-alias_declares trees (kind.Type_ ty.S32) t h = let wrong : ⊥ = cc in absurd wrong
-alias_declares trees (kind.Type_ ty.S64) t h = let wrong : ⊥ = cc in absurd wrong
-alias_declares trees (kind.Type_ ty.F32) t h = let wrong : ⊥ = cc in absurd wrong
-alias_declares trees (kind.Type_ ty.F64) t h = let wrong : ⊥ = cc in absurd wrong
-alias_declares trees (kind.Type_ ty.Char) t h = let wrong : ⊥ = cc in absurd wrong
-alias_declares trees (kind.Type_ ty.String) t h = let wrong : ⊥ = cc in absurd wrong
-alias_declares trees (kind.Type_ ty.ErrorContext) t h = let wrong : ⊥ = cc in absurd wrong
-alias_declares trees (kind.Record x) n h = let wrong : ⊥ = cc in absurd wrong
-alias_declares trees kind.Resource n h = let wrong : ⊥ = cc in absurd wrong
-alias_declares trees (kind.Handle (handle.Own id)) n h = let wrong : ⊥ = cc in absurd wrong
-alias_declares trees (kind.Handle (handle.Borrow id)) n h = let wrong : ⊥ = cc in absurd wrong
-alias_declares trees (kind.Flags x) n h = let wrong : ⊥ = cc in absurd wrong
-alias_declares trees (kind.Tuple x) n h = let wrong : ⊥ = cc in absurd wrong
-alias_declares trees (kind.Variant x) n h = let wrong : ⊥ = cc in absurd wrong
-alias_declares trees (kind.Enum x) n h = let wrong : ⊥ = cc in absurd wrong
-alias_declares trees (kind.Option t) n h = let wrong : ⊥ = cc in absurd wrong
-alias_declares trees (kind.Result x) n h = let wrong : ⊥ = cc in absurd wrong
-alias_declares trees (kind.List t) n h = let wrong : ⊥ = cc in absurd wrong
-alias_declares trees (kind.Map k v) n h = let wrong : ⊥ = cc in absurd wrong
-alias_declares trees (kind.FixedLengthList t m) n h = let wrong : ⊥ = cc in absurd wrong
-alias_declares trees (kind.Future t) n h = let wrong : ⊥ = cc in absurd wrong
-alias_declares trees (kind.Stream t) n h = let wrong : ⊥ = cc in absurd wrong
-
-abbrev declares_name : Declaration → Bool
-declares_name (type_ (named p n)) = true
-declares_name (type_ (primitive p)) = false
-declares_name _ = false
+alias_declares trees (kind.Handle (handle.Own id)) _ h = absurd cc
+alias_declares trees _ _ h = absurd cc
 
 -- what declares a name is an alias
 pub name_is_alias : (trees : List Tree) (k : TypeDefKind) (p : Place) (n : Text) → declared_by trees k ≡ type_ (named p n) → (t : ℕ) × (alias_target k ≡ Some t) × (tree_at trees t ≡ named p n)
 name_is_alias trees (kind.Type_ (ty.Id id)) p n h = (id.0, refl, ap tree_of_declaration h)
-name_is_alias trees (kind.Handle (handle.Own id)) p n h = no_true (ap declares_name h)
-name_is_alias trees _ p n h = no_true (ap declares_name h)
+name_is_alias trees (kind.Handle (handle.Own id)) p n h = absurd cc
+name_is_alias trees _ p n h = absurd cc
 
 abbrev pub declares_resource : Declaration → Bool
 declares_resource (type_ t) = false
@@ -312,9 +280,8 @@ module _ (r : Resolve) (v : IsValid r) where
 
       by_owner : (o : TypeOwner) → x.def.owner ≡ o → option_map_or (λ i. option_map_or (λ other. is_some other.name) (interface_at r i) false) (owner_interface o) false ≡ true → (a : ℕ)
           × (x.def.owner ≡ as_interface a) × (is_some (interface_path r a) ≡ true)
-      by_owner (owner.World id) k h = no_true h
-      by_owner owner.None k h = no_true h
       by_owner (owner.Interface id) k h = (id.0, k, named-path r v id.0 h)
+      by_owner _ k h = no_true h
 
       another : is_use r def ≡ true → (a : ℕ) × (x.def.owner ≡ as_interface a) × (is_some (interface_path r a) ≡ true)
       another h =
@@ -392,13 +359,12 @@ module _ (own other : Resolve) (interfaces types : ℕ → ℕ) (valid_own : IsV
 
   module _ (matched : AreMatched own other interfaces types) where
     pub place_back : (o : TypeOwner) (path : Text) → place_of own o ≡ of_interface path → (b : ℕ) × (o ≡ as_interface b) × (interface_path own b ≡ Some path)
-    place_back (owner.World id) path h = no_true (ap (λ p. is_here p) h)
-    place_back owner.None path h = no_true (ap (λ p. is_here p) h)
     place_back (owner.Interface id) path h = (id.0, refl, go (interface_path own id.0) h)
       where
         go : (o : Option Text) → place_of_path o ≡ of_interface path → o ≡ Some path
         go None h = no_true (ap (λ p. is_here p) h)
         go (Some x) h = ap (λ p. path_of p) h
+    place_back _ path h = no_true (ap (λ p. is_here p) h)
 
     pub the_path : (o : Option Text) → is_some o ≡ true → (path : Text) × (o ≡ Some path)
     the_path None h = no_true h

@@ -170,12 +170,7 @@ module _ (f : Renumbering) where
       go (item.Interface a st docs ext) (item.Interface b st2 docs2 ext2) z h more = head a.0 b.0 (item.Interface a st docs ext) refl z.0 z.1 (b.0 == t) refl h more
       go (item.Function g) (item.Function k) z h more = more h
       go (item.Type_ a) (item.Type_ b) z h more = more h
-      go (item.Interface a st docs ext) (item.Function k) z h more = absurd z
-      go (item.Interface a st docs ext) (item.Type_ k) z h more = absurd z
-      go (item.Function g) (item.Interface b st2 docs2 ext2) z h more = absurd z
-      go (item.Function g) (item.Type_ b) z h more = absurd z
-      go (item.Type_ a) (item.Interface b st2 docs2 ext2) z h more = absurd z
-      go (item.Type_ a) (item.Function k) z h more = absurd z
+      go _ _ z h more = absurd z
 
   module _ (rise : Rises f.interfaces f.carries_interface f.copies_interface) (copied : (n : ℕ) → f.copies_interface n ≡ true → f.carries_interface n ≡ true) (m : ℕ) (c : f.copies_interface m ≡ true) where
     same_shown : (i j : WorldItem) → ItemBecomes f i j → is_id (f.interfaces m) (item_interface j) ≡ is_id m (item_interface i)

@@ -248,5 +248,4 @@ module _ (r s : Resolve) (f : Renumbering) (valid : KeepsRules r) (is : IsCarrie
             ((λ i. list_all (has_owner s (t.home i)) (used_there i)) ∙ all_owned t.def.owner (used_by_type r t.def) used q))
         go false false true true p q u v h = or_right first_test (second_test || third_test)
             (or_right second_test third_test (both _ _ (named_alike t.image.name t.def.name t.name ∙ u) (use_passes p v)))
-        go false false true false p q u v h = no_true h
-        go false false false d p q u v h = no_true h
+        go false false _ _ p q u v h = no_true h

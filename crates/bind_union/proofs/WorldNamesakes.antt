@@ -73,9 +73,6 @@ module _ (r : Resolve) (v : IsValid r) (n : ℕ) (w : World) (at : world_at r n 
       rule = world-passes world_items r v.rules.world_items n w at
 
       go : (k : WorldKey) (i : WorldItem) → item_type i ≡ Some t → import_stands r n k i ≡ true → item_in_range r i ≡ true → IsWorldType k t
-      go k (item.Interface id st docs ext) e h low = let wrong : None ≡ Some t = e in absurd cc
-      go k (item.Function g) e h low = let wrong : None ≡ Some t = e in absurd cc
-      go (key.Interface id) (item.Type_ m) e h low = no_true h
       go (key.Name label) (item.Type_ m) e h low =
           let same : m.0 ≡ t = same-some m.0 t e in
           let d = found-in r.types.items m.0 low in
@@ -92,6 +89,8 @@ module _ (r : Resolve) (v : IsValid r) (n : ℕ) (w : World) (at : world_at r n 
             same_name = s.2;
             home = owner_equal d.0.owner (as_world n) (second_true (text_is d.0.name (text_of label)) _ ours);
           }
+      go (key.Interface id) (item.Type_ m) e h low = no_true h
+      go _ _ e h low = absurd cc
 
   -- a named type of the world stands in its imports
   pub record IsImported (s : Text) (t : ℕ) : Type 0 where
@@ -142,9 +141,8 @@ module _ (r : Resolve) (v : IsValid r) (n : ℕ) (w : World) (at : world_at r n 
 
       by_owner : (o : TypeOwner) → x.def.owner ≡ o → option_map_or (λ i. option_map_or (λ other. is_some other.name) (interface_at r i) false) (owner_interface o) false ≡ true → (a : ℕ)
           × (x.def.owner ≡ as_interface a) × (is_some (interface_path r a) ≡ true)
-      by_owner (owner.World id) k h = no_true h
-      by_owner owner.None k h = no_true h
       by_owner (owner.Interface id) k h = (id.0, k, named-path r v id.0 h)
+      by_owner _ k h = no_true h
 
       another : is_use r def ≡ true → (a : ℕ) × (x.def.owner ≡ as_interface a) × (is_some (interface_path r a) ≡ true)
       another h =
@@ -239,16 +237,14 @@ module _ (own other : Resolve) (f : Renumbering) (bound other_bound : ℕ) (vali
 
   own_type : (j i : WorldItem) → e.1 ≡ j → x.1 ≡ i → (t : ℕ) → item_type j ≡ Some t → (item_type i ≡ Some (f.types t))
   own_type (item.Type_ a) (item.Type_ b) p q t k = ap Some (sym (is.types x e held_x held_e keys b.0 t (ap item_type q) (ap item_type p ∙ k)))
-  own_type (item.Interface a st docs ext) i p q t k = let wrong : None ≡ Some t = k in absurd cc
-  own_type (item.Function g) i p q t k = let wrong : None ≡ Some t = k in absurd cc
   own_type (item.Type_ a) (item.Function h) p q t k = no_two is_function _ _ (sym (ap (λ y. item_sense (item_meaning own y)) q) ∙ (senses ∙ ap (λ y. item_sense (item_meaning other y)) p)) refl refl
   own_type (item.Type_ a) (item.Interface b st2 docs2 ext2) p q t k = no_two is_declared _ _
       (sym (sym (ap (λ y. item_sense (item_meaning own y)) q) ∙ (senses ∙ ap (λ y. item_sense (item_meaning other y)) p))) refl (not_declared own b.0)
+  own_type _ i p q t k = absurd cc
 
   declared_is : (r : Resolve) (i : WorldItem) (t : ℕ) → item_type i ≡ Some t → declared_so (item_sense (item_meaning r i)) ≡ Some (type_meaning_at r t).declaration
   declared_is r (item.Type_ a) t k = ap (λ n. Some (type_meaning_at r n).declaration) (same-some a.0 t k)
-  declared_is r (item.Interface a st docs ext) t k = let wrong : None ≡ Some t = k in absurd cc
-  declared_is r (item.Function g) t k = let wrong : None ≡ Some t = k in absurd cc
+  declared_is r _ t k = absurd cc
 
   module _ (t : ℕ) (is_type : item_type e.1 ≡ Some t) where
     old : IsWorldType other valid_other other_bound is.other_world is.other_at e.0 t

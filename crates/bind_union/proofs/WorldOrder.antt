@@ -116,47 +116,23 @@ module _ (f : Renumbering) where
   -- a copy has the new number
   pub interface_becomes : (i j : WorldItem) → ItemBecomes f i j → (m : ℕ) → is_id m (item_interface i) ≡ true → is_id (f.interfaces m) (item_interface j) ≡ true
   interface_becomes (item.Interface a st docs ext) (item.Interface b st2 docs2 ext2) z m h = same_id a.0 m b.0 f.interfaces z.0 h
-  interface_becomes (item.Function g) (item.Function k) z m h = no_true h
-  interface_becomes (item.Type_ a) (item.Type_ b) z m h = no_true h
-  interface_becomes (item.Interface a st docs ext) (item.Function k) z m h = absurd z
-  interface_becomes (item.Interface a st docs ext) (item.Type_ k) z m h = absurd z
-  interface_becomes (item.Function g) (item.Interface b st2 docs2 ext2) z m h = absurd z
-  interface_becomes (item.Function g) (item.Type_ b) z m h = absurd z
-  interface_becomes (item.Type_ a) (item.Interface b st2 docs2 ext2) z m h = absurd z
-  interface_becomes (item.Type_ a) (item.Function k) z m h = absurd z
+  interface_becomes (item.Interface a st docs ext) _ z m h = absurd z
+  interface_becomes _ _ z m h = no_true h
 
   pub type_becomes : (i j : WorldItem) → ItemBecomes f i j → (m : ℕ) → is_id m (item_type i) ≡ true → is_id (f.types m) (item_type j) ≡ true
   type_becomes (item.Type_ a) (item.Type_ b) z m h = same_id a.0 m b.0 f.types z.0 h
-  type_becomes (item.Function g) (item.Function k) z m h = no_true h
-  type_becomes (item.Interface a st docs ext) (item.Interface b st2 docs2 ext2) z m h = no_true h
-  type_becomes (item.Interface a st docs ext) (item.Function k) z m h = absurd z
-  type_becomes (item.Interface a st docs ext) (item.Type_ k) z m h = absurd z
-  type_becomes (item.Function g) (item.Interface b st2 docs2 ext2) z m h = absurd z
-  type_becomes (item.Function g) (item.Type_ b) z m h = absurd z
-  type_becomes (item.Type_ a) (item.Interface b st2 docs2 ext2) z m h = absurd z
-  type_becomes (item.Type_ a) (item.Function k) z m h = absurd z
+  type_becomes (item.Type_ a) _ z m h = absurd z
+  type_becomes _ _ z m h = no_true h
 
   pub interface_stands_for : (i j : WorldItem) → ItemStandsFor f i j → (m : ℕ) → is_id m (item_interface i) ≡ true → is_id (f.interfaces m) (item_interface j) ≡ true
   interface_stands_for (item.Interface a st docs ext) (item.Interface b st2 docs2 ext2) z m h = same_id a.0 m b.0 f.interfaces z h
-  interface_stands_for (item.Function g) (item.Function k) z m h = no_true h
-  interface_stands_for (item.Type_ a) (item.Type_ b) z m h = no_true h
-  interface_stands_for (item.Interface a st docs ext) (item.Function k) z m h = absurd z
-  interface_stands_for (item.Interface a st docs ext) (item.Type_ k) z m h = absurd z
-  interface_stands_for (item.Function g) (item.Interface b st2 docs2 ext2) z m h = absurd z
-  interface_stands_for (item.Function g) (item.Type_ b) z m h = absurd z
-  interface_stands_for (item.Type_ a) (item.Interface b st2 docs2 ext2) z m h = absurd z
-  interface_stands_for (item.Type_ a) (item.Function k) z m h = absurd z
+  interface_stands_for (item.Interface a st docs ext) _ z m h = absurd z
+  interface_stands_for _ _ z m h = no_true h
 
   pub type_stands_for : (i j : WorldItem) → ItemStandsFor f i j → (m : ℕ) → is_id m (item_type i) ≡ true → is_id (f.types m) (item_type j) ≡ true
   type_stands_for (item.Type_ a) (item.Type_ b) z m h = same_id a.0 m b.0 f.types z h
-  type_stands_for (item.Function g) (item.Function k) z m h = no_true h
-  type_stands_for (item.Interface a st docs ext) (item.Interface b st2 docs2 ext2) z m h = no_true h
-  type_stands_for (item.Interface a st docs ext) (item.Function k) z m h = absurd z
-  type_stands_for (item.Interface a st docs ext) (item.Type_ k) z m h = absurd z
-  type_stands_for (item.Function g) (item.Interface b st2 docs2 ext2) z m h = absurd z
-  type_stands_for (item.Function g) (item.Type_ b) z m h = absurd z
-  type_stands_for (item.Type_ a) (item.Interface b st2 docs2 ext2) z m h = absurd z
-  type_stands_for (item.Type_ a) (item.Function k) z m h = absurd z
+  type_stands_for (item.Type_ a) _ z m h = absurd z
+  type_stands_for _ _ z m h = no_true h
 
   covers_met : (olds news : List WorldItem) (own : List (WorldKey × WorldItem)) (old there : WorldKey × WorldItem) → Contains own there → ItemStandsFor f old.1 there.1 → Holds own news
       → Covers f olds news → Covers f (olds ++ old.1 ∷ []) news
@@ -240,12 +216,7 @@ module _ (r s : Resolve) (f : Renumbering) (valid : KeepsRules r) (is : IsCarrie
           → list_all (has (filter_map item_interface news)) (option_to_list (option_map f.interfaces o)) ≡ true
       target None e = refl
       target (Some m) e = both _ _ (covers.interfaces m (first_true _ _ e)) refl
-  item_stands olds news (k, item.Interface a st docs ext) (l, item.Function g) z covers h = absurd z.1
-  item_stands olds news (k, item.Interface a st docs ext) (l, item.Type_ g) z covers h = absurd z.1
-  item_stands olds news (k, item.Function g) (l, item.Interface b st2 docs2 ext2) z covers h = absurd z.1
-  item_stands olds news (k, item.Function g) (l, item.Type_ b) z covers h = absurd z.1
-  item_stands olds news (k, item.Type_ a) (l, item.Interface b st2 docs2 ext2) z covers h = absurd z.1
-  item_stands olds news (k, item.Type_ a) (l, item.Function g) z covers h = absurd z.1
+  item_stands olds news _ _ z covers h = absurd z.1
 
 -- ---- more before
 

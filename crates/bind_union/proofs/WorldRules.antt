@@ -273,12 +273,7 @@ module _ (r s : Resolve) (f : Renumbering) (valid : KeepsRules r) (is : IsCarrie
       (first_true _ _ h)) refl
   entry_named (k, item.Interface a st docs ext) (l, item.Interface b st2 docs2 ext2) z h = refl
   entry_named (k, item.Function g) (l, item.Function e) z h = refl
-  entry_named (k, item.Interface a st docs ext) (l, item.Function g) z h = absurd z.1
-  entry_named (k, item.Interface a st docs ext) (l, item.Type_ g) z h = absurd z.1
-  entry_named (k, item.Function g) (l, item.Interface b st2 docs2 ext2) z h = absurd z.1
-  entry_named (k, item.Function g) (l, item.Type_ b) z h = absurd z.1
-  entry_named (k, item.Type_ a) (l, item.Interface b st2 docs2 ext2) z h = absurd z.1
-  entry_named (k, item.Type_ a) (l, item.Function g) z h = absurd z.1
+  entry_named _ _ z h = absurd z.1
 
   by_items : (p : ℕ → Bool) (es : List (WorldKey × WorldItem)) → list_all p (filter_map item_type (items es)) ≡ list_all (λ (e : WorldKey × WorldItem). list_all p (option_to_list (item_type e.1))) es
   by_items p es = list_all_filter_map p item_type (items es) ∙ list_all-map (λ i. list_all p (option_to_list (item_type i))) (λ (e : WorldKey × WorldItem). e.1) es
@@ -323,12 +318,7 @@ module _ (r s : Resolve) (f : Renumbering) (valid : KeepsRules r) (is : IsCarrie
         ∙ used_there (filter_map item_type olds) (filter_map item_type news) covers.types (used_by_number r a.0) uses.1 h)
     item_in_order olds news (k, item.Interface a st docs ext) (l, item.Interface b st2 docs2 ext2) z covers h = refl
     item_in_order olds news (k, item.Function g) (l, item.Function e) z covers h = refl
-    item_in_order olds news (k, item.Interface a st docs ext) (l, item.Function g) z covers h = absurd z.1
-    item_in_order olds news (k, item.Interface a st docs ext) (l, item.Type_ g) z covers h = absurd z.1
-    item_in_order olds news (k, item.Function g) (l, item.Interface b st2 docs2 ext2) z covers h = absurd z.1
-    item_in_order olds news (k, item.Function g) (l, item.Type_ b) z covers h = absurd z.1
-    item_in_order olds news (k, item.Type_ a) (l, item.Interface b st2 docs2 ext2) z covers h = absurd z.1
-    item_in_order olds news (k, item.Type_ a) (l, item.Function g) z covers h = absurd z.1
+    item_in_order olds news _ _ z covers h = absurd z.1
 
     types_in_order : each_after in_order_there [] (filter_map item_type (items own_imports)) ≡ true → are_in_order s numbers ≡ true
     types_in_order own =
