@@ -27,7 +27,7 @@ use Rattle.wit_model.specs.Parts.{kind_numbers}
 use Rattle.wit_model.specs.Rules.{passes, in_list, package_number, interface_type_numbers, function_in_range, owner_in_range, key_in_range, item_in_range, entries_in_range}
 use Rattle.wit_model.specs.Valid.{KeepsRules, numbers_in_range, is_place}
 use Rattle.wit_model.proofs.OnePath.{found-in, interface-passes}
-use Rattle.bind_union.specs.Views.{KindView, record_view, variant_view, flags_view, enum_view, tuple_view, resource_view, own_view, borrow_view, option_view, result_view, list_view, map_view, fixed_list_view, future_view, stream_view, alias_view, kind_view, renamed_type, renamed}
+use Rattle.bind_union.specs.Views.{KindView, record_view, variant_view, tuple_view, option_view, result_view, list_view, map_view, fixed_list_view, future_view, stream_view, alias_view, kind_view, renamed_type, renamed}
 use Rattle.bind_union.specs.Images.{HasImageKind}
 use Rattle.bind_union.specs.Carried.{Renumbering, IsSameName, owner_under, carries_owner, copies_owner, call_under, IsFunctionCopy, IsFunctionEntry, IsType, IsInterface, IsCarried, KeyBecomes, ItemBecomes}
 use Rattle.bind_union.specs.Joined.{Joined, none, added}

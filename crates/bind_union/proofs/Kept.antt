@@ -19,11 +19,12 @@ use Rattle.std.proofs.lemmas.Bool.{lt-ltb, and_from as both}
 use Rattle.std.proofs.lemmas.Option.{slice_get_within}
 use Rattle.bind_union.specs.Carried.{Renumbering, EntryBecomes, IsFunctionCopy}
 use Rattle.bind_union.specs.Merged.{IsMerged}
+use Rattle.bind_union.proofs.Lists.{no_true}
 use Rattle.bind_union.proofs.TypeRules.{shape_passes, named_passes, handle_passes, depth_passes, label_passes, stay_passes, stability_alike}
 use Rattle.bind_union.proofs.InterfaceRules.{interface_labels_pass, interface_owners_pass, interface_handles_pass, interface_depths_pass, interface_members_pass}
 use Rattle.bind_union.proofs.FunctionRules.{function_stays_passes, function_handles_pass, function_depths_pass}
 use Rattle.bind_union.proofs.EntryRules.{added_pass, entry_function, entry_member, entry_import_stands, entry_export_stands}
-use Rattle.bind_union.proofs.WorldOrder.{items, walk, item_stands, holds_itself, covers_none, Holds}
+use Rattle.bind_union.proofs.WorldOrder.{items, number_in, walk, item_stands}
 use Rattle.bind_union.proofs.WorldRules.{by_entries, world_labels_pass, world_owners_pass, world_handles_pass, world_depths_pass, world_members_pass, world_items_pass, world_order_passes}
 use Rattle.bind_union.proofs.Itself.{itself, joined_itself, world_range}
 use Rattle.bind_union.proofs.Sources.{Source, own_source, below_there, each_type, each_interface, each_world, each_joined}
@@ -34,9 +35,6 @@ use Rattle.wit_model.proofs.ValidLemmas.{world_passes as world-passes}
 pub kept : (rule : Rule) (s : Resolve) → each_from (rule.package_ s) 0 s.packages.items ≡ true → each_from (rule.interface_ s) 0 s.interfaces.items ≡ true
     → each_from (rule.world_ s) 0 s.worlds.items ≡ true → each_from (rule.type_ s) 0 s.types.items ≡ true → Keeps rule s
 kept rule s ps is ws ts = both _ _ ps (both _ _ is (both _ _ ws ts))
-
-holds_nothing : (news : List WorldItem) → Holds [] news
-holds_nothing news = record { interfaces = λ x c m e. none-in x c; types = λ x c m e. none-in x c }
 
 module _ (own other merged : Resolve) (bound other_bound : ℕ) (first second : Renumbering) (left_out : ℕ → Bool) (valid_own : KeepsRules own) (valid_other : KeepsRules other) (is : IsMerged own other merged bound other_bound first second left_out) where
   abbrev pub below : Keeps references merged
@@ -222,9 +220,9 @@ module _ (own other merged : Resolve) (bound other_bound : ℕ) (first second : 
       sym (after_append t [] (items own_imports) (items own_exports)) ∙ world-passes order_of_items own valid_own.order_of_items bound is.own_bound is.bound_at in
       let step = item_stands own merged (itself own) valid_own ours.carried below bound bound_carried in
       let range = world_range own valid_own bound is.own_bound is.bound_at in
-      let imports = walk (itself own) [] t u step [] [] own_imports own_imports (joined_itself own valid_own own_imports range.0) (holds_itself []) (covers_none (itself own) [])
+      let imports = walk (itself own) [] t u step [] [] own_imports own_imports (joined_itself own valid_own own_imports range.0) (λ h. number_in h []) (λ h m e. no_true e)
       (first_true _ _ old) in
-      let exports = walk (itself own) [] t u step (items own_imports) (items own_imports) own_exports own_exports (joined_itself own valid_own own_exports range.1) (holds_nothing (items own_imports))
+      let exports = walk (itself own) [] t u step (items own_imports) (items own_imports) own_exports own_exports (joined_itself own valid_own own_exports range.1) (λ h x c m e. none-in x c)
       imports.1 (second_true (each_after t [] (items own_imports)) _ old) in
       after_append u [] (items own_imports) (items own_exports) ∙ both _ _ imports.0 exports.0
 

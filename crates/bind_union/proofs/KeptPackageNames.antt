@@ -14,7 +14,6 @@ use Rattle.wit_model.specs.Lookup.{package_at}
 use Rattle.wit_model.specs.Rules.{passes, each_from, same_version, same_package_name}
 use Rattle.wit_model.specs.Valid.{Keeps, KeepsRules, package_names}
 use Rattle.wit_model.proofs.Entries.{free_passes}
-use Rattle.wit_model.proofs.Distinct.{text_eq_flip}
 use Rattle.wit_model.proofs.OnePath.{package-passes}
 use Rattle.bind_union.specs.Carried.{Renumbering, IsSameName}
 use Rattle.bind_union.specs.Merged.{PackageStands, grown, brought, IsKeptPackage, IsPackageOf, IsMerged}
@@ -22,7 +21,7 @@ use Rattle.bind_union.proofs.TypeRules.{version_alike, are_parts}
 use Rattle.bind_union.proofs.Kept.{kept}
 use Rattle.base_lemmas.proofs.Bools.{left_of as first_true, right_of as second_true}
 use Rattle.base_lemmas.proofs.Numbers.{equal, same-number}
-use Rattle.wit_model.proofs.RulesLemmas.{each_at, each_by_number, version_flip}
+use Rattle.wit_model.proofs.RulesLemmas.{each_at, each_by_number}
 use Rattle.wit_model.proofs.RulesLemmas.{name_flip}
 
 -- ---- names by their texts

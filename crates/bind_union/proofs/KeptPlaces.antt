@@ -27,14 +27,15 @@ use Rattle.bind_union.specs.Carried.{Renumbering, IsInterface}
 use Rattle.bind_union.specs.Joined.{Joined, IsJoined}
 use Rattle.bind_union.specs.Merged.{interface_names, world_names, is_name, IsJoinedPackage, PackageStands, grown, brought, IsKeptPackage, IsPackageOf, IsCopyUnder, AreCopies, IsWorldCopy, IsMerged}
 use Rattle.bind_union.proofs.Lists.{no_true}
-use Rattle.bind_union.proofs.WorldOrder.{items, numbers_append}
+use Rattle.bind_union.proofs.WorldOrder.{items, numbers_append, interfaces_in}
+use Rattle.bind_union.proofs.Homes.{apart}
 use Rattle.bind_union.proofs.Itself.{get_begin, world_range}
 use Rattle.bind_union.proofs.Sources.{each_interface_of_three, each_world}
 use Rattle.bind_union.proofs.Kept.{kept}
 use Rattle.bind_union.proofs.KeptPackages.{is_interface_of, is_world_of, interfaces_stand, worlds_stand, all_stand, places_hold, found_option}
 use Rattle.bind_union.proofs.KeptNumbers.{interface_package, world_package}
 use Rattle.bind_union.proofs.PackageNames.{added_from, name_append, interfaces_by_name, worlds_by_name, world_name_listed, found_name, still_found, copy_found, found_behind}
-use Rattle.bind_union.proofs.Shown.{one_sums, one_of_sum, shown, times_are, shown_append, not_shown, past_not_shown, shown_from, same_times}
+use Rattle.bind_union.proofs.Shown.{one_sums, one_of_sum, shown, times_are, counted_append, none_counted, none_added, past_range, range_interfaces, same_times}
 use Rattle.base_lemmas.proofs.Bools.{left_of as first_true, right_of as second_true}
 use Rattle.base_lemmas.proofs.Elements.{all-contained, all_by_number as all_by_get, get-contains}
 use Rattle.base_lemmas.proofs.Numbers.{equal, same-number}
@@ -339,19 +340,20 @@ module _ (own other merged : Resolve) (bound other_bound : ℕ) (first second : 
   not_among : (f : Renumbering) → AreCopies own other merged f → (own_part olds news : List (WorldKey × WorldItem)) → Joined f own_part olds news → (t : ℕ) (v : Interface)
       → interface_at merged t ≡ Some v → v.name ≡ None
       → ((a : ℕ) → f.copies_interface a ≡ true → f.interfaces a ≡ t → ⊥) → shown t news ≡ 0
-  not_among f copies own_part olds news j t v e inline none_such = not_shown t news (go (has (filter_map item_interface (items news)) t) refl)
-    where
-      go : (b : Bool) → has (filter_map item_interface (items news)) t ≡ b → has (filter_map item_interface (items news)) t ≡ false
-      go false k = k
-      go true k =
-          let r = shown_from f own_part olds news j t k in
-          absurd (none_such r.0 (shown_copy f copies r.0 r.1 v (ap (interface_at merged) r.2 ∙ e) inline) r.2)
+  not_among f copies own_part olds news j t v e inline none_such = none_counted item_interface t (items news)
+      (none_added f (interfaces_in f) own_part olds news j t (λ a c to. none_such a (shown_copy f copies a c v (ap (interface_at merged) to ∙ e) inline) to))
+
+  -- a copy is shown as often as what it copies
+  same_copies : (f : Renumbering) → AreCopies own other merged f → (m : ℕ) → f.copies_interface m ≡ true → (before : List (WorldKey × WorldItem))
+      → has (filter_map item_interface (items before)) (f.interfaces m) ≡ false → (olds news : List (WorldKey × WorldItem)) → Joined f before olds news → shown (f.interfaces m) news ≡ shown m olds
+  same_copies f copies m copy before fresh = same_times f (interfaces_in f) m before fresh
+      (λ a c e. apart f.interfaces f.carries_interface f.copies_interface copies.carried.interfaces_rise copies.carried.copied_interfaces a m c copy e)
 
   joined_times : (f : Renumbering) (n : ℕ) (oi oe : List (WorldKey × WorldItem)) (j : IsJoined other merged f n oi oe) (t : ℕ)
       → times_shown t j.image ≡ (shown t oi + shown t j.new_imports) + (shown t oe + shown t j.new_exports)
   joined_times f n oi oe j t =
       times_are t j.image
-      ∙ (λ i. (ap (shown t) j.imports ∙ shown_append t oi j.new_imports) i + (ap (shown t) j.exports ∙ shown_append t oe j.new_exports) i)
+      ∙ (λ i. (ap (shown t) j.imports ∙ counted_append item_interface t oi j.new_imports) i + (ap (shown t) j.exports ∙ counted_append item_interface t oe j.new_exports) i)
 
   abbrev oi : List (WorldKey × WorldItem)
   oi = is.own_bound.imports.entries
@@ -385,8 +387,8 @@ module _ (own other merged : Resolve) (bound other_bound : ℕ) (first second : 
   past_times k w e t high =
       let range = world_range own valid_own k w e in
       let a = times_are t w in
-      let b = not_shown t w.imports.entries (past_not_shown own t high w.imports.entries range.0) in
-      let c = not_shown t w.exports.entries (past_not_shown own t high w.exports.entries range.1) in
+      let b = none_counted item_interface t (items w.imports.entries) (past_range own.interfaces.items _ t (range_interfaces own w.imports.entries range.0) high) in
+      let c = none_counted item_interface t (items w.exports.entries) (past_range own.interfaces.items _ t (range_interfaces own w.exports.entries range.1) high) in
       omega (arith, a, b, c)
 
   -- what is shown is among the items
@@ -400,8 +402,8 @@ module _ (own other merged : Resolve) (bound other_bound : ℕ) (first second : 
       go false e true d = or_right (has (filter_map item_interface (items w.imports.entries)) n) _ d
       go false e false d =
           let a = times_are n w in
-          let x = not_shown n w.imports.entries e in
-          let y = not_shown n w.exports.entries d in
+          let x = none_counted item_interface n (items w.imports.entries) e in
+          let y = none_counted item_interface n (items w.exports.entries) d in
           let wrong : ⊥ = omega (arith, a, x, y, one) in absurd wrong
 
   -- own ones
@@ -477,8 +479,8 @@ module _ (own other merged : Resolve) (bound other_bound : ℕ) (first second : 
       same : (k : ℕ) (v : IsJoined other merged first k [] []) → times_shown (first.interfaces m) v.image ≡ times_shown m v.old
       same k v =
           let whole = joined_times first k [] [] v (first.interfaces m) in
-          let a = same_times first is.first_copies.carried.interfaces_rise is.first_copies.carried.copied_interfaces m copy [] v.old.imports.entries v.new_imports refl v.joined_imports in
-          let b = same_times first is.first_copies.carried.interfaces_rise is.first_copies.carried.copied_interfaces m copy [] v.old.exports.entries v.new_exports refl v.joined_exports in
+          let a = same_copies first is.first_copies m copy [] refl v.old.imports.entries v.new_imports v.joined_imports in
+          let b = same_copies first is.first_copies m copy [] refl v.old.exports.entries v.new_exports v.joined_exports in
           let none : shown (first.interfaces m) [] ≡ 0 = refl in
           let all = times_are m v.old in
           omega (arith, whole, a, b, none, all)
@@ -531,15 +533,13 @@ module _ (own other merged : Resolve) (bound other_bound : ℕ) (first second : 
       one : times_shown (second.interfaces m) is.joined.image ≡ 1
       one =
           let range = world_range own valid_own bound is.own_bound is.bound_at in
-          let fresh_i = past_not_shown own (second.interfaces m) high oi range.0 in
-          let fresh_e = past_not_shown own (second.interfaces m) high oe range.1 in
+          let fresh_i = past_range own.interfaces.items _ (second.interfaces m) (range_interfaces own oi range.0) high in
+          let fresh_e = past_range own.interfaces.items _ (second.interfaces m) (range_interfaces own oe range.1) high in
           let whole = joined_times second other_bound oi oe is.joined (second.interfaces m) in
-          let a = same_times second is.second_copies.carried.interfaces_rise is.second_copies.carried.copied_interfaces m copy oi is.joined.old.imports.entries is.joined.new_imports fresh_i
-          is.joined.joined_imports in
-          let b = same_times second is.second_copies.carried.interfaces_rise is.second_copies.carried.copied_interfaces m copy oe is.joined.old.exports.entries is.joined.new_exports fresh_e
-          is.joined.joined_exports in
-          let c = not_shown (second.interfaces m) oi fresh_i in
-          let d = not_shown (second.interfaces m) oe fresh_e in
+          let a = same_copies second is.second_copies m copy oi fresh_i is.joined.old.imports.entries is.joined.new_imports is.joined.joined_imports in
+          let b = same_copies second is.second_copies m copy oe fresh_e is.joined.old.exports.entries is.joined.new_exports is.joined.joined_exports in
+          let c = none_counted item_interface (second.interfaces m) (items oi) fresh_i in
+          let d = none_counted item_interface (second.interfaces m) (items oe) fresh_e in
           let all = times_are m is.joined.old in
           let old : times_shown m is.joined.old ≡ 1 = ap (times_shown m) old_is ∙ x.3 in
           omega (arith, whole, a, b, c, d, all, old)

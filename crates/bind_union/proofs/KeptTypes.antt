@@ -1,5 +1,5 @@
 -- What was merged keeps the rule on the order of types.
-use Rattle.std.proofs.Common.{◌≡◌, inl, inr, refl, sym, ap, subst, ◌∙◌, ℕ, ◌<◌, ◌≤◌, arith, Bool, true, false, ◌&&◌, ◌||◌, ◌==◌, not, nat_lt, ltb-true, List, [], ◌∷◌, ◌++◌, length, Option, Some, None, filter_map}
+use Rattle.std.proofs.Common.{◌≡◌, inl, inr, refl, sym, ap, subst, ◌∙◌, ℕ, ◌<◌, ◌≤◌, arith, Bool, true, false, ◌&&◌, ◌||◌, ◌==◌, not, nat_lt, ltb-true, List, [], ◌++◌, length, Option, Some, None, filter_map}
 use Rattle.std.specs.Prelude.{String, count_by, option_and_then}
 use Rattle.std.specs.Map.{lookup}
 use Rattle.std.specs.declared.alloc.Global.{Global}
@@ -14,30 +14,30 @@ use Rattle.wit_model.specs.declared.model.TypeOwner.{TypeOwner}
 use Rattle.wit_model.specs.declared.model.TypeOwner.TheVariants as owner
 use Rattle.wit_model.specs.declared.model.WorldKey.{WorldKey}
 use Rattle.wit_model.specs.declared.model.WorldItem.{WorldItem}
-use Rattle.wit_model.specs.declared.model.WorldItem.TheVariants as item
 use Rattle.wit_model.specs.Text.{Text, text_of, optional_text}
 use Rattle.wit_model.specs.Lookup.{world_at, type_at}
 use Rattle.wit_model.specs.Parts.{kind_numbers, same_owner}
 use Rattle.wit_model.specs.Uses.{has}
-use Rattle.wit_model.specs.Rules.{passes, is_id, is_name_key, in_list, each_from, each_after, entries_in_range, key_in_range, item_in_range, item_type, world_type_numbers, is_named_of, is_listed, is_listed_in_interface, is_listed_in_world, used_by_number, are_in_order}
+use Rattle.wit_model.specs.Rules.{passes, is_id, is_name_key, in_list, each_from, each_after, entries_in_range, item_type, world_type_numbers, is_named_of, is_listed, is_listed_in_interface, is_listed_in_world, used_by_number, are_in_order}
 use Rattle.wit_model.specs.Valid.{Keeps, KeepsRules, as_world, order_of_types}
 use Rattle.wit_model.specs.Checks.{references}
 use Rattle.wit_model.proofs.Entries.{free_passes}
 use Rattle.std.proofs.lemmas.List.{map-append}
 use Rattle.wit_model.proofs.OnePath.{found-in}
-use Rattle.bind_union.specs.Carried.{Renumbering, owner_under, copies_owner, ItemBecomes, IsType}
-use Rattle.bind_union.specs.Joined.{Joined, none, met, added}
+use Rattle.bind_union.specs.Carried.{Renumbering, owner_under, copies_owner, IsType}
+use Rattle.bind_union.specs.Joined.{Joined}
 use Rattle.bind_union.specs.Merged.{IsMerged, IsCopyUnder}
 use Rattle.bind_union.proofs.Lists.{no_true}
 use Rattle.bind_union.proofs.InterfaceRules.{interface_order_passes, all_named_of, number_uses}
 use Rattle.bind_union.proofs.InOrder.{after_weaker}
-use Rattle.bind_union.proofs.WorldOrder.{items, numbers_append}
+use Rattle.bind_union.proofs.WorldOrder.{items, numbers_append, types_in}
+use Rattle.bind_union.proofs.Shown.{none_added, past_range, range_types}
 use Rattle.bind_union.proofs.WorldRules.{world_types_pass}
 use Rattle.bind_union.proofs.Listed.{listed_in_interface, listed_in_world, stays_listed}
 use Rattle.bind_union.proofs.Itself.{map_same, world_range}
 use Rattle.bind_union.proofs.Sources.{Source, own_source, first_source, second_source, copy_refers, each_interface, each_joined}
 use Rattle.bind_union.proofs.Kept.{kept, below}
-use Rattle.base_lemmas.proofs.Bools.{left_of as first_true, right_of as second_true}
+use Rattle.base_lemmas.proofs.Bools.{left_of as first_true, right_of as second_true, or_false}
 use Rattle.base_lemmas.proofs.Elements.{all_two}
 use Rattle.base_lemmas.proofs.Numbers.{equal}
 use Rattle.wit_model.proofs.RulesLemmas.{each_by_number}
@@ -46,45 +46,7 @@ use Rattle.wit_model.proofs.ValidLemmas.{type_passes, world_passes as world-pass
 -- numbers that are copied aren't those that were there
 fresh_added : (f : Renumbering) (own : List (WorldKey × WorldItem)) (k : ℕ) → ((m : ℕ) → f.copies_type m ≡ true → k ≤ f.types m) → (n : ℕ) → n < k → (olds news : List (WorldKey × WorldItem))
     → Joined f own olds news → has (filter_map item_type (items news)) n ≡ false
-fresh_added f own k new n low _ _ none = refl
-fresh_added f own k new n low _ _ (met old there olds news held key stands rest) = fresh_added f own k new n low olds news rest
-fresh_added f own k new n low _ _ (added old (l, j) olds news key z rest) = go old.1 j z.1 (fresh_added f own k new n low olds news rest)
-  where
-    apart : (b : ℕ) → k ≤ b → (c : Bool) → (b == n) ≡ c → (b == n) ≡ false
-    apart b high false e = e
-    apart b high true e = let same = equal b n e in absurd (omega (arith, high, low, same))
-
-    go : (i j : WorldItem) → ItemBecomes f i j → has (filter_map item_type (items news)) n ≡ false → has (filter_map item_type (j ∷ items news)) n ≡ false
-    go (item.Type_ a) (item.Type_ b) z e = ap (λ c. c || has (filter_map item_type (items news)) n) (apart b.0 (subst (λ (x : ℕ). k ≤ x) (sym z.0) (new a.0 z.1)) (b.0 == n) refl) ∙ e
-    go (item.Interface a st docs ext) (item.Interface b st2 docs2 ext2) z e = e
-    go (item.Function g) (item.Function h) z e = e
-    go _ _ z e = absurd z
-
--- and those that were there aren't copied
-fresh_there : (r : Resolve) (n : ℕ) → length r.types.items ≤ n → (es : List (WorldKey × WorldItem)) → entries_in_range r es ≡ true → has (filter_map item_type (items es)) n ≡ false
-fresh_there r n high [] h = refl
-fresh_there r n high ((k, i) ∷ es) h = go i (second_true (key_in_range r k) _ (first_true (key_in_range r k && item_in_range r i) (entries_in_range r es) h))
-    (fresh_there r n high es (second_true (key_in_range r k && item_in_range r i) (entries_in_range r es) h))
-  where
-    apart : (b : ℕ) → b < length r.types.items → (c : Bool) → (b == n) ≡ c → (b == n) ≡ false
-    apart b low false e = e
-    apart b low true e = let same = equal b n e in absurd (omega (arith, high, low, same))
-
-    go : (i : WorldItem) → item_in_range r i ≡ true → has (filter_map item_type (items es)) n ≡ false → has (filter_map item_type (i ∷ items es)) n ≡ false
-    go (item.Type_ b) z e = ap (λ c. c || has (filter_map item_type (items es)) n) (apart b.0 (ltb-true b.0 (length r.types.items) z) (b.0 == n) refl) ∙ e
-    go (item.Interface b st docs ext) z e = e
-    go (item.Function g) z e = e
-
-range_types : (r : Resolve) (es : List (WorldKey × WorldItem)) → entries_in_range r es ≡ true → list_all (in_list r.types.items) (filter_map item_type (items es)) ≡ true
-range_types r [] h = refl
-range_types r ((k, i) ∷ es) h = go i (second_true (key_in_range r k) _ (first_true (key_in_range r k && item_in_range r i) (entries_in_range r es) h))
-    (range_types r es (second_true (key_in_range r k && item_in_range r i) (entries_in_range r es) h))
-  where
-    go : (i : WorldItem) → item_in_range r i ≡ true → list_all (in_list r.types.items) (filter_map item_type (items es)) ≡ true
-        → list_all (in_list r.types.items) (filter_map item_type (i ∷ items es)) ≡ true
-    go (item.Type_ b) z e = both _ _ z e
-    go (item.Interface b st docs ext) z e = e
-    go (item.Function g) z e = e
+fresh_added f own k new n low olds news j = none_added f (types_in f) own olds news j n (λ a c e. let high = new a c in omega (arith, high, low, e))
 
 module _ (own other merged : Resolve) (bound other_bound : ℕ) (first second : Renumbering) (left_out : ℕ → Bool) (valid_own : KeepsRules own) (valid_other : KeepsRules other) (is : IsMerged own other merged bound other_bound first second left_out) where
   abbrev pub below_s : Keeps references merged
@@ -151,11 +113,10 @@ module _ (own other merged : Resolve) (bound other_bound : ℕ) (first second : 
       go : (x y : Option (String Global)) → optional_text y ≡ optional_text x → option_map_or (λ name. is_listed c.from n (text_of name) t.def.owner) x (same_owner t.def.owner owner.None) ≡ true
           → option_map_or (λ name. is_listed merged (c.under.types n) (text_of name) t.image.owner) y (same_owner t.image.owner owner.None) ≡ true
       go None None e h = ap (λ o. same_owner o owner.None) t.home ∙ (unowned c.under t.def.owner ∙ h)
-      go None (Some y) e h = let wrong : Some (text_of y) ≡ None = e in absurd cc
-      go (Some x) None e h = let wrong : None ≡ Some (text_of x) = e in absurd cc
       go (Some x) (Some y) e h =
           let same : text_of y ≡ text_of x = same-some (text_of y) (text_of x) e in
           (λ i. is_listed merged (c.under.types n) (same i) (t.home i)) ∙ by_owner t.def.owner (t.copied copy).home (text_of x) h
+      go _ _ e h = absurd cc
 
   -- ---- worlds
 
@@ -177,7 +138,7 @@ module _ (own other merged : Resolve) (bound other_bound : ℕ) (first second : 
           entries : is_listed_in_world n name is.own_bound ≡ true → is_listed_in_world n name is.joined.image ≡ true
           entries k = subst (λ (es : List (WorldKey × WorldItem)). (is_id n (option_and_then item_type (lookup (is_name_key name) es))
               && (count_by (λ m. m == n) (filter_map item_type (items es)) == 1)) ≡ true) (sym is.joined.imports)
-              (stays_listed own merged ours.under valid_own ours.carried below_s n low name n is.own_bound.imports.entries is.joined.new_imports
+              (stays_listed name n is.own_bound.imports.entries is.joined.new_imports
               (fresh_added second is.own_bound.imports.entries (length own.types.items) is.second_copies.new_types n (ltb-true n (length own.types.items) low) is.joined.old.imports.entries
               is.joined.new_imports is.joined.joined_imports) k)
 
@@ -195,7 +156,7 @@ module _ (own other merged : Resolve) (bound other_bound : ℕ) (first second : 
       subst (λ (k : ℕ). passes (is_listed_in_world (second.types n) name) (world_at merged (second.worlds k)) ≡ true) here
       (ap (passes (is_listed_in_world (second.types n) name)) is.joined.at_image
       ∙ listed_in_world other merged second valid_other is.second_copies.carried below_s n copy name other_bound is.own_bound.imports.entries is.own_bound.exports.entries is.joined
-      (fresh_there own (second.types n) (is.second_copies.new_types n copy) is.own_bound.imports.entries own_imports_range)
+      (past_range own.types.items _ (second.types n) (range_types own is.own_bound.imports.entries own_imports_range) (is.second_copies.new_types n copy))
       (sym (ap (passes (is_listed_in_world n name)) is.joined.found) ∙ subst (λ (k : ℕ). passes (is_listed_in_world n name) (world_at other k) ≡ true) (sym here) h))
 
   -- ---- the own part of the bound world
@@ -230,11 +191,7 @@ module _ (own other merged : Resolve) (bound other_bound : ℕ) (first second : 
           ∙ (ap (λ b. has (filter_map item_type (items is.own_bound.imports.entries)) m || b)
           (fresh_added second is.own_bound.imports.entries (length own.types.items) is.second_copies.new_types m (ltb-true m (length own.types.items) c) is.joined.old.imports.entries
           is.joined.new_imports is.joined.joined_imports)
-          ∙ or_none (has (filter_map item_type (items is.own_bound.imports.entries)) m)))
-        where
-          or_none : (b : Bool) → (b || false) ≡ b
-          or_none true = refl
-          or_none false = refl
+          ∙ or_false (has (filter_map item_type (items is.own_bound.imports.entries)) m)))
 
       one : (before : List ℕ) (k : ℕ) → in_list own.types.items k ≡ true
           → list_all (λ m. not (has (filter_map item_type (items is.own_bound.imports.entries)) m) || has before m) (used_by_number own k) ≡ true

@@ -20,7 +20,7 @@ use Rattle.wit_model.specs.Text.{text_of}
 use Rattle.wit_model.specs.Names.{is_label}
 use Rattle.wit_model.specs.Lookup.{type_at, world_at}
 use Rattle.wit_model.specs.Parts.{has_owner, same_owner, function_types, is_resource_type}
-use Rattle.wit_model.specs.Uses.{has, items_of, item_interface}
+use Rattle.wit_model.specs.Uses.{has, items_of}
 use Rattle.wit_model.specs.Rules.{passes, each_after, key_in_range, item_in_range, entries_in_range, key_label, item_labels, entries_labels, is_stability, is_name_key, item_type, world_type_numbers, is_named_of, is_listed, is_listed_in_world, used_by_number, are_in_order, function_stays, is_shallow, is_member, import_stands, export_stands, uses_stand_before}
 use Rattle.wit_model.specs.Valid.{Keeps, KeepsRules, as_world, item_function, functions_of_world, labels, order_of_types, owners, handles, depths, function_names, world_items, order_of_items}
 use Rattle.wit_model.specs.Checks.{references}
@@ -34,7 +34,7 @@ use Rattle.bind_union.proofs.Homes.{owner_back}
 use Rattle.bind_union.proofs.FunctionRules.{function_stays_passes, function_handles_pass, function_depths_pass}
 use Rattle.bind_union.proofs.InterfaceRules.{named_of_there, number_uses}
 use Rattle.bind_union.proofs.EntryRules.{added_pass, entry_range, entry_labels, entry_function, entry_member, entry_import_stands, entry_export_stands}
-use Rattle.bind_union.proofs.WorldOrder.{items, numbers_right, Covers, Holds, holds_itself, covers_none, covers_more, walk, item_stands, stands_still, numbers_left}
+use Rattle.bind_union.proofs.WorldOrder.{items, by_items, number_in, numbers_left, numbers_right, types_in, Covers, Holds, walk, item_stands, stands_still}
 use Rattle.base_lemmas.proofs.Bools.{left_of as first_true, right_of as second_true}
 use Rattle.base_lemmas.proofs.Elements.{all_two}
 use Rattle.wit_model.proofs.Chains.{all_has as passes_at}
@@ -229,24 +229,20 @@ module _ (r s : Resolve) (f : Renumbering) (valid : KeepsRules r) (is : IsCarrie
 
       first : (each_after (uses_stand_before s number) (items own_imports) (items j.new_imports) ≡ true) × Covers f (items j.old.imports.entries) (items own_imports ++ items j.new_imports)
       first = walk f own_imports (uses_stand_before r n) (uses_stand_before s number) (item_stands r s f valid is below_s n j.carries) [] (items own_imports) j.old.imports.entries j.new_imports
-          j.joined_imports (holds_itself own_imports) (covers_none f (items own_imports)) (first_true _ _ old)
+          j.joined_imports (λ h. number_in h own_imports) (λ h m e. no_true e) (first_true _ _ old)
 
       third : each_after (uses_stand_before s number) (items own_imports ++ items j.new_imports) (items own_exports) ≡ true
-      third = stands_still s number (items own_imports) (items own_imports ++ items j.new_imports) (numbers_left item_interface (items own_imports) (items j.new_imports))
-          (numbers_left item_type (items own_imports) (items j.new_imports)) (items own_exports)
+      third = stands_still s number (items own_imports) (items own_imports ++ items j.new_imports) (λ h. numbers_left h (items own_imports) (items j.new_imports)) (items own_exports)
           (second_true (each_after (uses_stand_before s number) [] (items own_imports)) (each_after (uses_stand_before s number) (items own_imports) (items own_exports)) own_both)
 
       holds : Holds own_exports ((items own_imports ++ items j.new_imports) ++ items own_exports)
-      holds = record {
-        interfaces = λ x c m e. numbers_right item_interface (items own_imports ++ items j.new_imports) (items own_exports) m ((holds_itself own_exports).interfaces x c m e);
-        types = λ x c m e. numbers_right item_type (items own_imports ++ items j.new_imports) (items own_exports) m ((holds_itself own_exports).types x c m e);
-      }
+      holds h x c m e = numbers_right h (items own_imports ++ items j.new_imports) (items own_exports) m (number_in h own_exports x c m e)
 
       last : (each_after (uses_stand_before s number) ((items own_imports ++ items j.new_imports) ++ items own_exports) (items j.new_exports) ≡ true)
           × Covers f (items j.old.imports.entries ++ items j.old.exports.entries) (((items own_imports ++ items j.new_imports) ++ items own_exports) ++ items j.new_exports)
       last = walk f own_exports (uses_stand_before r n) (uses_stand_before s number) (item_stands r s f valid is below_s n j.carries) (items j.old.imports.entries)
           ((items own_imports ++ items j.new_imports) ++ items own_exports) j.old.exports.entries j.new_exports j.joined_exports holds
-          (covers_more f (items j.old.imports.entries) (items own_imports ++ items j.new_imports) (items own_exports) first.1)
+          (λ h m e. numbers_left h.number (items own_imports ++ items j.new_imports) (items own_exports) (h.under m) (first.1 h m e))
           (second_true (each_after (uses_stand_before r n) [] (items j.old.imports.entries)) (each_after (uses_stand_before r n) (items j.old.imports.entries) (items j.old.exports.entries)) old)
 
   -- order of types
@@ -275,18 +271,15 @@ module _ (r s : Resolve) (f : Renumbering) (valid : KeepsRules r) (is : IsCarrie
   entry_named (k, item.Function g) (l, item.Function e) z h = refl
   entry_named _ _ z h = absurd z.1
 
-  by_items : (p : ℕ → Bool) (es : List (WorldKey × WorldItem)) → list_all p (filter_map item_type (items es)) ≡ list_all (λ (e : WorldKey × WorldItem). list_all p (option_to_list (item_type e.1))) es
-  by_items p es = list_all_filter_map p item_type (items es) ∙ list_all-map (λ i. list_all p (option_to_list (item_type i))) (λ (e : WorldKey × WorldItem). e.1) es
-
   all_named : list_all (is_named_of s (as_world number)) (filter_map item_type (items own_imports)) ≡ true → list_all (is_named_of s (as_world number)) numbers ≡ true
   all_named own =
       ap (list_all (is_named_of s (as_world number))) numbers_are
       ∙ (list_all-append (is_named_of s (as_world number)) (filter_map item_type (items own_imports)) (filter_map item_type (items j.new_imports))
       ∙ both _ _ own
-      (by_items (is_named_of s (as_world number)) j.new_imports
+      (by_items item_type (is_named_of s (as_world number)) j.new_imports
       ∙ added_pass f own_imports (λ e. list_all (is_named_of r (as_world n)) (option_to_list (item_type e.1))) (λ e. list_all (is_named_of s (as_world number)) (option_to_list (item_type e.1)))
       entry_named j.old.imports.entries j.new_imports j.joined_imports
-      (sym (by_items (is_named_of r (as_world n)) j.old.imports.entries) ∙ first_true _ _ old_types)))
+      (sym (by_items item_type (is_named_of r (as_world n)) j.old.imports.entries) ∙ first_true _ _ old_types)))
 
   named_owned : (m : ℕ) → f.carries_type m ≡ true → is_named_of s (as_world number) (f.types m) ≡ true → has_owner s (as_world number) (f.types m) ≡ true
   named_owned m c h =
@@ -315,7 +308,7 @@ module _ (r s : Resolve) (f : Renumbering) (valid : KeepsRules r) (is : IsCarrie
         let uses = number_uses r s f valid is below_s a.0 z.1.1 in
         ap (λ x. list_all (λ m. not (has numbers m) || has (filter_map item_type news) m) (used_by_number s x)) z.1.0
         ∙ (ap (list_all (λ m. not (has numbers m) || has (filter_map item_type news) m)) uses.0
-        ∙ used_there (filter_map item_type olds) (filter_map item_type news) covers.types (used_by_number r a.0) uses.1 h)
+        ∙ used_there (filter_map item_type olds) (filter_map item_type news) (covers (types_in f)) (used_by_number r a.0) uses.1 h)
     item_in_order olds news (k, item.Interface a st docs ext) (l, item.Interface b st2 docs2 ext2) z covers h = refl
     item_in_order olds news (k, item.Function g) (l, item.Function e) z covers h = refl
     item_in_order olds news _ _ z covers h = absurd z.1
@@ -328,7 +321,7 @@ module _ (r s : Resolve) (f : Renumbering) (valid : KeepsRules r) (is : IsCarrie
         (sym (after_given in_order_there item_type (items own_imports) (items j.new_imports))
         ∙ (walk f own_imports (λ ys x. passes (in_order_here (filter_map item_type ys)) (item_type x)) (λ ys x. passes (in_order_there (filter_map item_type ys)) (item_type x)) item_in_order []
         (items own_imports) j.old.imports.entries j.new_imports j.joined_imports
-        (holds_itself own_imports) (covers_none f (items own_imports)) (after_given in_order_here item_type [] (items j.old.imports.entries) ∙ second_true
+        (λ h. number_in h own_imports) (λ h m e. no_true e) (after_given in_order_here item_type [] (items j.old.imports.entries) ∙ second_true
         (list_all (is_named_of r (as_world n)) (world_type_numbers j.old)) _ old_types)).0))
       where
         after_lists : (xs ys : List ℕ) → each_after in_order_there [] (xs ++ ys) ≡ (each_after in_order_there [] xs && each_after in_order_there xs ys)
