@@ -33,12 +33,13 @@ use Rattle.bind_union.specs.Views.{kind_view, renamed_type}
 use Rattle.bind_union.specs.Images.{HasImageKind}
 use Rattle.bind_union.specs.Carried.{Renumbering, owner_under, call_under, IsType, IsFunctionCopy, IsCarried}
 use Rattle.bind_union.proofs.Lists.{no_true}
-use Rattle.bind_union.proofs.ViewTests.{view_ok, view_own, view_borrow, ok_by_view, ok_under, own_by_view, own_under, borrow_by_view, borrow_under, numbers_under, number_under, one_given}
+use Rattle.bind_union.proofs.ViewTests.{view_ok, ok_by_view, ok_under, own_kept, borrow_kept, numbers_under, number_under, one_given}
 use Rattle.bind_union.proofs.Carrying.{kind_carried, image_kind, used_same}
 use Rattle.bind_union.proofs.Homes.{alias_there, members_of_all}
 use Rattle.bind_union.proofs.TypeRules.{stability_alike, values_pass, no_resource_passes, shallow_passes, all_owned}
 use Rattle.base_lemmas.proofs.Bools.{left_of as first_true, right_of as second_true}
 use Rattle.base_lemmas.proofs.Elements.{all_two}
+use Rattle.base_lemmas.proofs.Options.{none_is}
 use Rattle.base_lemmas.proofs.Numbers.{equal, same-number}
 use Rattle.wit_model.proofs.PartsLemmas.{owner_itself, owner_same as owner_equal}
 
@@ -64,23 +65,15 @@ ok_of_all p (kind.Result x) h = go x.ok (sym (list_all_filter_map p number_of (o
 ok_of_all p (kind.Handle (handle.Own id)) h = refl
 ok_of_all p _ h = refl
 
-pub id_under : (g : ℕ → ℕ) (n : ℕ) (o : Option ℕ) → is_id n o ≡ true → is_id (g n) (option_map g o) ≡ true
-id_under g n None h = h
-id_under g n (Some m) h = subst (λ (k : ℕ). (g m == g k) ≡ true) (equal m n h) (same-number (g m))
-
-none_named : (o : Option (String Global)) → is_none o ≡ true → o ≡ None
-none_named None h = refl
-none_named (Some x) h = no_true h
-
 none_alike : (a b : Option (String Global)) → optional_text a ≡ optional_text b → b ≡ None → is_none a ≡ true
 none_alike None b e h = refl
-none_alike (Some x) b e h = let wrong : Some (text_of x) ≡ None = e ∙ ap optional_text h in absurd cc
+none_alike (Some x) b e h = let none = ap optional_text h in absurd cc
 
 module _ (r s : Resolve) (f : Renumbering) (valid : KeepsRules r) (is : IsCarried r s f) (below_s : Keeps references s) where
   -- an unnamed type is copied
   unnamed_kind : (n : ℕ) (t : IsType r s f n) → is_none t.def.name ≡ true → (is_none t.image.name ≡ true) × HasImageKind f.types f.carries_type t.def t.image
   unnamed_kind n t h =
-      let none = none_named t.def.name h in
+      let none = none_is t.def.name h in
       (none_alike t.image.name t.def.name t.name none, image_kind r s f valid is below_s t.def t.image none t.kind)
 
   type_is_there : (p q : TypeDef → Bool) → ((n : ℕ) (t : IsType r s f n) → p t.def ≡ true → q t.image ≡ true)
@@ -97,16 +90,12 @@ module _ (r s : Resolve) (f : Renumbering) (valid : KeepsRules r) (is : IsCarrie
   own_there : (m n : ℕ) (t : IsType r s f n) → is_own_of m t.def ≡ true → is_own_of (f.types m) t.image ≡ true
   own_there m n t h =
       let u = unnamed_kind n t (first_true _ _ h) in
-      both _ _ u.0 (own_by_view (f.types m) t.image.kind ∙ (ap (λ v. is_id (f.types m) (view_own v)) u.1.kinds
-      ∙ (ap (is_id (f.types m)) (own_under f.types (kind_view t.def.kind)) ∙ id_under f.types m (view_own (kind_view t.def.kind))
-      (sym (own_by_view m t.def.kind) ∙ second_true (is_none t.def.name) _ h))))
+      both _ _ u.0 (own_kept f.types t.def.kind t.image.kind u.1.kinds m (second_true (is_none t.def.name) _ h))
 
   borrow_there : (m n : ℕ) (t : IsType r s f n) → is_borrow_of m t.def ≡ true → is_borrow_of (f.types m) t.image ≡ true
   borrow_there m n t h =
       let u = unnamed_kind n t (first_true _ _ h) in
-      both _ _ u.0 (borrow_by_view (f.types m) t.image.kind ∙ (ap (λ v. is_id (f.types m) (view_borrow v)) u.1.kinds
-      ∙ (ap (is_id (f.types m)) (borrow_under f.types (kind_view t.def.kind)) ∙ id_under f.types m (view_borrow (kind_view t.def.kind))
-      (sym (borrow_by_view m t.def.kind) ∙ second_true (is_none t.def.name) _ h))))
+      both _ _ u.0 (borrow_kept f.types t.def.kind t.image.kind u.1.kinds m (second_true (is_none t.def.name) _ h))
 
   result_there : (m n : ℕ) (t : IsType r s f n) → is_result_of_own r m t.def ≡ true → is_result_of_own s (f.types m) t.image ≡ true
   result_there m n t h =

@@ -12,7 +12,7 @@ use Rattle.wit_model.specs.Text.{Text, text_of, text_eq}
 use Rattle.wit_model.specs.Rules.{is_id, is_world_name}
 use Rattle.bind_union.specs.Merged.{interface_names, world_names, is_name, JoinedNames, none, met, left, added}
 use Rattle.bind_union.proofs.Lists.{no_true}
-use Rattle.bind_union.proofs.FunctionRules.{id_under}
+use Rattle.bind_union.proofs.ViewTests.{id_under}
 use Rattle.bind_union.proofs.Listed.{under_text, lookup_append, lookup_first}
 use Rattle.base_lemmas.proofs.Bools.{left_of as first_true, right_of as second_true}
 use Rattle.base_lemmas.proofs.Elements.{any_of_map, contains-later}

@@ -16,7 +16,7 @@ use Rattle.std.proofs.lemmas.List.{map-append}
 use Rattle.bind_union.specs.Carried.{Renumbering}
 use Rattle.bind_union.specs.Joined.{ItemStandsFor, Joined, none, met, added}
 use Rattle.bind_union.proofs.Lists.{no_true}
-use Rattle.bind_union.proofs.FunctionRules.{id_under}
+use Rattle.bind_union.proofs.ViewTests.{id_under}
 use Rattle.bind_union.proofs.WorldOrder.{items, by_items, number_in, numbers_cons, becomes, id_stands, Numbered}
 use Rattle.base_lemmas.proofs.Bools.{both_ways, first_false, second_false, right_of as second_true}
 use Rattle.base_lemmas.proofs.Elements.{all_weaker}

@@ -1,5 +1,5 @@
 -- What the rules ask of a kind, by its view, and the same under other numbers.
-use Rattle.std.proofs.Common.{◌≡◌, refl, sym, ap, ◌∙◌, ℕ, Bool, true, false, ◌&&◌, List, [], ◌∷◌, ◌++◌, map, filter_map, nat_lt, option_map, Option, Some, None}
+use Rattle.std.proofs.Common.{◌≡◌, refl, sym, ap, ◌∙◌, ℕ, Bool, true, false, ◌&&◌, ◌==◌, subst, List, [], ◌∷◌, ◌++◌, map, filter_map, nat_lt, option_map, Option, Some, None}
 use Rattle.std.specs.Prelude.{option_to_list, nat_le}
 use Rattle.std.specs.List.{cons_option}
 use Rattle.std.specs.Option.{option_map_or}
@@ -19,18 +19,19 @@ use Rattle.std.proofs.lemmas.List.{map-append}
 use Rattle.bind_union.specs.Views.{KindView, record_view, variant_view, flags_view, enum_view, tuple_view, resource_view, own_view, borrow_view, option_view, result_view, list_view, map_view, fixed_list_view, future_view, stream_view, alias_view, kind_view, renamed_type, renamed}
 use Rattle.base_lemmas.proofs.Lists.{filter_of_map}
 use Rattle.wit_model.proofs.RulesLemmas.{items_of_map}
+use Rattle.base_lemmas.proofs.Numbers.{equal, same-number}
 
 -- ---- lists
-
-given_both : {X Y : Type 0} (f : X → Y) (o : Option Y) (p : Option X) (xs : List Y) (ys : List X) → o ≡ option_map f p → xs ≡ map f ys → cons_option o xs ≡ map f (cons_option p ys)
-given_both f o None xs ys e d = ap (λ q. cons_option q xs) e ∙ d
-given_both f o (Some x) xs ys e d = ap (λ q. cons_option q xs) e ∙ ap (λ zs. f x ∷ zs) d
 
 -- what is given of images are the images of what is given
 pub filter_both : {A B X Y : Type 0} (h : B → Option Y) (g : A → B) (k : A → Option X) (f : X → Y) → ((a : A) → h (g a) ≡ option_map f (k a)) → (xs : List A)
     → filter_map h (map g xs) ≡ map f (filter_map k xs)
 filter_both h g k f same [] = refl
-filter_both h g k f same (x ∷ xs) = given_both f (h (g x)) (k x) (filter_map h (map g xs)) (filter_map k xs) (same x) (filter_both h g k f same xs)
+filter_both h g k f same (x ∷ xs) = (λ i. cons_option (same x i) (filter_both h g k f same xs i)) ∙ given (k x)
+  where
+    given : (o : Option _) → cons_option (option_map f o) (map f (filter_map k xs)) ≡ map f (cons_option o (filter_map k xs))
+    given None = refl
+    given (Some y) = refl
 
 pub one_given : {X Y : Type 0} (g : X → Y) (o : Option X) → option_to_list (option_map g o) ≡ map g (option_to_list o)
 one_given g None = refl
@@ -53,162 +54,112 @@ numbers_under f ts = filter_both number_of (renamed_type f) number_of f (number_
 
 -- ---- kinds
 
-abbrev pub view_types : KindView → List ValueType
-view_types (record_view fields) = map (λ x. x.1) fields
-view_types (variant_view cases) = filter_map (λ x. x.1) cases
-view_types (tuple_view ts) = ts
-view_types (option_view t) = t ∷ []
-view_types (result_view ok err) = option_to_list ok ++ option_to_list err
-view_types (list_view t) = t ∷ []
-view_types (map_view k v) = k ∷ v ∷ []
-view_types (fixed_list_view t n) = t ∷ []
-view_types (future_view t) = option_to_list t
-view_types (stream_view t) = option_to_list t
-view_types _ = []
+-- what the rules ask of a kind
+pub record Facts : Type 0 where
+  pub types : List ValueType
+  pub handled : Option ℕ
+  pub alias : Option ℕ
+  pub labels : List Text
+  pub shape : Bool
+  pub named : Bool
+  pub resource : Bool
 
-pub types_by_view : (k : TypeDefKind) → member_types k ≡ view_types (kind_view k)
-types_by_view (kind.Record x) = sym (map-map (λ (y : Text × ValueType). y.1) (λ f. (text_of f.name, f.ty)) x.fields.items)
-types_by_view (kind.Handle (handle.Own id)) = refl
-types_by_view (kind.Variant x) = sym (filter_of_map (λ (y : Text × Option ValueType). y.1) (λ c. (text_of c.name, c.ty)) x.cases.items)
-types_by_view _ = refl
+abbrev facts_of : TypeDefKind → Facts
+facts_of k = record { types = member_types k; handled = handled k; alias = alias_target k; labels = kind_labels k; shape = has_shape k; named = is_named_kind k; resource = is_resource_itself k }
 
-pub types_under : (f : ℕ → ℕ) (v : KindView) → view_types (renamed f v) ≡ map (renamed_type f) (view_types v)
-types_under f (record_view fields) = map-map (λ (y : Text × ValueType). y.1) (λ x. (x.0, renamed_type f x.1)) fields ∙ sym (map-map (renamed_type f) (λ (x : Text × ValueType). x.1) fields)
-types_under f (variant_view cases) = filter_both (λ (y : Text × Option ValueType). y.1) (λ x. (x.0, option_map (renamed_type f) x.1)) (λ (x : Text × Option ValueType). x.1) (renamed_type f)
-    (λ x. refl) cases
-types_under f (result_view ok err) = two_given (renamed_type f) ok err
-types_under f (future_view t) = one_given (renamed_type f) t
-types_under f (stream_view t) = one_given (renamed_type f) t
-types_under f _ = refl
+abbrev plain : List ValueType → Facts
+plain ts = record { types = ts; handled = None; alias = None; labels = []; shape = true; named = false; resource = false }
 
-abbrev pub view_handled : KindView → Option ℕ
-view_handled (own_view n) = Some n
-view_handled (borrow_view n) = Some n
-view_handled _ = None
+abbrev facts : KindView → Facts
+facts (record_view fields) = record (plain (map (λ x. x.1) fields)) { labels = map (λ x. x.0) fields; shape = has_items fields; named = true }
+facts (variant_view cases) = record (plain (filter_map (λ x. x.1) cases)) { labels = map (λ x. x.0) cases; shape = has_items cases; named = true }
+facts (flags_view names) = record (plain []) { labels = names; shape = has_items names; named = true }
+facts (enum_view names) = record (plain []) { labels = names; shape = has_items names; named = true }
+facts (tuple_view ts) = record (plain ts) { shape = has_items ts }
+facts resource_view = record (plain []) { named = true; resource = true }
+facts (own_view n) = record (plain []) { handled = Some n }
+facts (borrow_view n) = record (plain []) { handled = Some n }
+facts (option_view t) = plain (t ∷ [])
+facts (result_view ok err) = plain (option_to_list ok ++ option_to_list err)
+facts (list_view t) = plain (t ∷ [])
+facts (map_view k v) = record (plain (k ∷ v ∷ [])) { shape = is_map_key k }
+facts (fixed_list_view t n) = record (plain (t ∷ [])) { shape = nat_le 1 n && nat_lt n 4294967296 }
+facts (future_view t) = plain (option_to_list t)
+facts (stream_view t) = plain (option_to_list t)
+facts (alias_view t) = record (plain []) { alias = number_of t; named = true }
 
-pub handled_by_view : (k : TypeDefKind) → handled k ≡ view_handled (kind_view k)
-handled_by_view (kind.Handle (handle.Own id)) = refl
-handled_by_view _ = refl
+facts_by_view : (k : TypeDefKind) → facts (kind_view k) ≡ facts_of k
+facts_by_view (kind.Record x) = λ i. record (facts_of (kind.Record x)) {
+  types = map-map (λ (y : Text × ValueType). y.1) (λ f. (text_of f.name, f.ty)) x.fields.items i;
+  labels = map-map (λ (y : Text × ValueType). y.0) (λ f. (text_of f.name, f.ty)) x.fields.items i;
+  shape = items_of_map {Y = Text × ValueType} (λ f. (text_of f.name, f.ty)) x.fields.items i;
+}
+facts_by_view (kind.Variant x) = λ i. record (facts_of (kind.Variant x)) {
+  types = filter_of_map (λ (y : Text × Option ValueType). y.1) (λ c. (text_of c.name, c.ty)) x.cases.items i;
+  labels = map-map (λ (y : Text × Option ValueType). y.0) (λ c. (text_of c.name, c.ty)) x.cases.items i;
+  shape = items_of_map {Y = Text × Option ValueType} (λ c. (text_of c.name, c.ty)) x.cases.items i;
+}
+facts_by_view (kind.Flags x) = λ i. record (facts_of (kind.Flags x)) { shape = items_of_map (λ f. text_of f.name) x.flags.items i }
+facts_by_view (kind.Enum x) = λ i. record (facts_of (kind.Enum x)) { shape = items_of_map (λ c. text_of c.name) x.cases.items i }
+facts_by_view (kind.Handle (handle.Own id)) = refl
+facts_by_view _ = refl
 
-pub handled_under : (f : ℕ → ℕ) (v : KindView) → view_handled (renamed f v) ≡ option_map f (view_handled v)
-handled_under f (record_view fields) = refl
-handled_under f _ = refl
+module _ (f : ℕ → ℕ) where
+  abbrev facts_under : Facts → Facts
+  facts_under x = record x { types = map (renamed_type f) x.types; handled = option_map f x.handled; alias = option_map f x.alias }
 
-abbrev pub view_alias : KindView → Option ℕ
-view_alias (alias_view t) = number_of t
-view_alias _ = None
+  facts_renamed : (v : KindView) → facts (renamed f v) ≡ facts_under (facts v)
+  facts_renamed (record_view fields) = λ i. record (facts_under (facts (record_view fields))) {
+    types = (map-map (λ (y : Text × ValueType). y.1) (λ x. (x.0, renamed_type f x.1)) fields ∙ sym (map-map (renamed_type f) (λ (x : Text × ValueType). x.1) fields)) i;
+    labels = map-map (λ (y : Text × ValueType). y.0) (λ x. (x.0, renamed_type f x.1)) fields i;
+    shape = items_of_map {Y = Text × ValueType} (λ x. (x.0, renamed_type f x.1)) fields i;
+  }
+  facts_renamed (variant_view cases) = λ i. record (facts_under (facts (variant_view cases))) {
+    types = filter_both (λ (y : Text × Option ValueType). y.1) (λ x. (x.0, option_map (renamed_type f) x.1)) (λ (x : Text × Option ValueType). x.1) (renamed_type f) (λ x. refl) cases i;
+    labels = map-map (λ (y : Text × Option ValueType). y.0) (λ x. (x.0, option_map (renamed_type f) x.1)) cases i;
+    shape = items_of_map {Y = Text × Option ValueType} (λ x. (x.0, option_map (renamed_type f) x.1)) cases i;
+  }
+  facts_renamed (tuple_view ts) = λ i. record (facts_under (facts (tuple_view ts))) { shape = items_of_map (renamed_type f) ts i }
+  facts_renamed (result_view ok err) = ap plain (two_given (renamed_type f) ok err)
+  facts_renamed (map_view k v) = λ i. record (facts_under (facts (map_view k v))) { shape = key_under f k i }
+  facts_renamed (future_view t) = ap plain (one_given (renamed_type f) t)
+  facts_renamed (stream_view t) = ap plain (one_given (renamed_type f) t)
+  facts_renamed (alias_view t) = λ i. record (facts (alias_view t)) { alias = number_under f t i }
+  facts_renamed _ = refl
 
-pub alias_by_view : (k : TypeDefKind) → alias_target k ≡ view_alias (kind_view k)
-alias_by_view (kind.Handle (handle.Own id)) = refl
-alias_by_view _ = refl
+-- ---- handles, and the first type of a result
 
-pub alias_under : (f : ℕ → ℕ) (v : KindView) → view_alias (renamed f v) ≡ option_map f (view_alias v)
-alias_under f (alias_view t) = number_under f t
-alias_under f _ = refl
-
-abbrev pub view_labels : KindView → List Text
-view_labels (record_view fields) = map (λ x. x.0) fields
-view_labels (variant_view cases) = map (λ x. x.0) cases
-view_labels (flags_view names) = names
-view_labels (enum_view names) = names
-view_labels _ = []
-
-pub labels_by_view : (k : TypeDefKind) → kind_labels k ≡ view_labels (kind_view k)
-labels_by_view (kind.Record x) = sym (map-map (λ (y : Text × ValueType). y.0) (λ f. (text_of f.name, f.ty)) x.fields.items)
-labels_by_view (kind.Handle (handle.Own id)) = refl
-labels_by_view (kind.Variant x) = sym (map-map (λ (y : Text × Option ValueType). y.0) (λ c. (text_of c.name, c.ty)) x.cases.items)
-labels_by_view _ = refl
-
-pub labels_under : (f : ℕ → ℕ) (v : KindView) → view_labels (renamed f v) ≡ view_labels v
-labels_under f (record_view fields) = map-map (λ (y : Text × ValueType). y.0) (λ x. (x.0, renamed_type f x.1)) fields
-labels_under f (variant_view cases) = map-map (λ (y : Text × Option ValueType). y.0) (λ x. (x.0, option_map (renamed_type f) x.1)) cases
-labels_under f _ = refl
-
-abbrev pub view_shape : KindView → Bool
-view_shape (record_view fields) = has_items fields
-view_shape (variant_view cases) = has_items cases
-view_shape (flags_view names) = has_items names
-view_shape (enum_view names) = has_items names
-view_shape (tuple_view ts) = has_items ts
-view_shape (map_view k v) = is_map_key k
-view_shape (fixed_list_view t n) = nat_le 1 n && nat_lt n 4294967296
-view_shape _ = true
-
-pub shape_by_view : (k : TypeDefKind) → has_shape k ≡ view_shape (kind_view k)
-shape_by_view (kind.Record x) = sym (items_of_map (λ f. (text_of f.name, f.ty)) x.fields.items)
-shape_by_view (kind.Handle (handle.Own id)) = refl
-shape_by_view (kind.Flags x) = sym (items_of_map (λ f. text_of f.name) x.flags.items)
-shape_by_view (kind.Variant x) = sym (items_of_map (λ c. (text_of c.name, c.ty)) x.cases.items)
-shape_by_view (kind.Enum x) = sym (items_of_map (λ c. text_of c.name) x.cases.items)
-shape_by_view _ = refl
-
-pub shape_under : (f : ℕ → ℕ) (v : KindView) → view_shape (renamed f v) ≡ view_shape v
-shape_under f (record_view fields) = items_of_map (λ x. (x.0, renamed_type f x.1)) fields
-shape_under f (variant_view cases) = items_of_map (λ x. (x.0, option_map (renamed_type f) x.1)) cases
-shape_under f (tuple_view ts) = items_of_map (renamed_type f) ts
-shape_under f (map_view k v) = key_under f k
-shape_under f _ = refl
-
-abbrev pub view_named : KindView → Bool
-view_named (record_view fields) = true
-view_named (variant_view cases) = true
-view_named (flags_view names) = true
-view_named (enum_view names) = true
-view_named resource_view = true
-view_named (alias_view t) = true
-view_named _ = false
-
-pub named_by_view : (k : TypeDefKind) → is_named_kind k ≡ view_named (kind_view k)
-named_by_view (kind.Handle (handle.Own id)) = refl
-named_by_view _ = refl
-
-pub named_under : (f : ℕ → ℕ) (v : KindView) → view_named (renamed f v) ≡ view_named v
-named_under f (record_view fields) = refl
-named_under f _ = refl
-
-abbrev pub view_resource : KindView → Bool
-view_resource resource_view = true
-view_resource _ = false
-
-pub resource_by_view : (k : TypeDefKind) → is_resource_itself k ≡ view_resource (kind_view k)
-resource_by_view (kind.Handle (handle.Own id)) = refl
-resource_by_view _ = refl
-
-pub resource_under : (f : ℕ → ℕ) (v : KindView) → view_resource (renamed f v) ≡ view_resource v
-resource_under f (record_view fields) = refl
-resource_under f _ = refl
-
-abbrev pub view_own : KindView → Option ℕ
+abbrev view_own : KindView → Option ℕ
 view_own (own_view n) = Some n
 view_own _ = None
 
-abbrev pub view_borrow : KindView → Option ℕ
+abbrev view_borrow : KindView → Option ℕ
 view_borrow (borrow_view n) = Some n
 view_borrow _ = None
-
-pub own_by_view : (n : ℕ) (k : TypeDefKind) → is_own_kind n k ≡ is_id n (view_own (kind_view k))
-own_by_view n (kind.Handle (handle.Own id)) = refl
-own_by_view n _ = refl
-
-pub borrow_by_view : (n : ℕ) (k : TypeDefKind) → is_borrow_kind n k ≡ is_id n (view_borrow (kind_view k))
-borrow_by_view n (kind.Handle (handle.Own id)) = refl
-borrow_by_view n _ = refl
-
-pub own_under : (f : ℕ → ℕ) (v : KindView) → view_own (renamed f v) ≡ option_map f (view_own v)
-own_under f (record_view fields) = refl
-own_under f _ = refl
-
-pub borrow_under : (f : ℕ → ℕ) (v : KindView) → view_borrow (renamed f v) ≡ option_map f (view_borrow v)
-borrow_under f (record_view fields) = refl
-borrow_under f _ = refl
 
 abbrev pub view_ok : KindView → Option ValueType
 view_ok (result_view ok err) = ok
 view_ok _ = None
 
+own_by_view : (n : ℕ) (k : TypeDefKind) → is_own_kind n k ≡ is_id n (view_own (kind_view k))
+own_by_view n (kind.Handle (handle.Own id)) = refl
+own_by_view n _ = refl
+
+borrow_by_view : (n : ℕ) (k : TypeDefKind) → is_borrow_kind n k ≡ is_id n (view_borrow (kind_view k))
+borrow_by_view n (kind.Handle (handle.Own id)) = refl
+borrow_by_view n _ = refl
+
 pub ok_by_view : (r : Resolve) (n : ℕ) (k : TypeDefKind) → has_own_ok r n k ≡ option_map_or (type_is r (is_own_of n)) (view_ok (kind_view k)) false
 ok_by_view r n (kind.Handle (handle.Own id)) = refl
 ok_by_view r n _ = refl
+
+own_under : (f : ℕ → ℕ) (v : KindView) → view_own (renamed f v) ≡ option_map f (view_own v)
+own_under f (record_view fields) = refl
+own_under f _ = refl
+
+borrow_under : (f : ℕ → ℕ) (v : KindView) → view_borrow (renamed f v) ≡ option_map f (view_borrow v)
+borrow_under f (record_view fields) = refl
+borrow_under f _ = refl
 
 pub ok_under : (f : ℕ → ℕ) (v : KindView) → view_ok (renamed f v) ≡ option_map (renamed_type f) (view_ok v)
 ok_under f (record_view fields) = refl
@@ -216,27 +167,44 @@ ok_under f _ = refl
 
 -- ---- a kind that is the same under other numbers
 
+pub id_under : (g : ℕ → ℕ) (n : ℕ) (o : Option ℕ) → is_id n o ≡ true → is_id (g n) (option_map g o) ≡ true
+id_under g n None h = h
+id_under g n (Some m) h = subst (λ (k : ℕ). (g m == g k) ≡ true) (equal m n h) (same-number (g m))
+
 module _ (f : ℕ → ℕ) (k l : TypeDefKind) (same : kind_view l ≡ renamed f (kind_view k)) where
+  facts_same : facts_of l ≡ facts_under f (facts_of k)
+  facts_same = sym (facts_by_view l) ∙ (ap facts same ∙ (facts_renamed f (kind_view k) ∙ ap (facts_under f) (facts_by_view k)))
+
   pub types_same : member_types l ≡ map (renamed_type f) (member_types k)
-  types_same = types_by_view l ∙ (ap view_types same ∙ (types_under f (kind_view k) ∙ ap (map (renamed_type f)) (sym (types_by_view k))))
+  types_same = ap (λ x. x.types) facts_same
 
   pub handled_same : handled l ≡ option_map f (handled k)
-  handled_same = handled_by_view l ∙ (ap view_handled same ∙ (handled_under f (kind_view k) ∙ ap (option_map f) (sym (handled_by_view k))))
+  handled_same = ap (λ x. x.handled) facts_same
 
   pub alias_same : alias_target l ≡ option_map f (alias_target k)
-  alias_same = alias_by_view l ∙ (ap view_alias same ∙ (alias_under f (kind_view k) ∙ ap (option_map f) (sym (alias_by_view k))))
+  alias_same = ap (λ x. x.alias) facts_same
 
   pub labels_same : kind_labels l ≡ kind_labels k
-  labels_same = labels_by_view l ∙ (ap view_labels same ∙ (labels_under f (kind_view k) ∙ sym (labels_by_view k)))
+  labels_same = ap (λ x. x.labels) facts_same
 
   pub shape_same : has_shape l ≡ has_shape k
-  shape_same = shape_by_view l ∙ (ap view_shape same ∙ (shape_under f (kind_view k) ∙ sym (shape_by_view k)))
+  shape_same = ap (λ x. x.shape) facts_same
 
   pub named_same : is_named_kind l ≡ is_named_kind k
-  named_same = named_by_view l ∙ (ap view_named same ∙ (named_under f (kind_view k) ∙ sym (named_by_view k)))
+  named_same = ap (λ x. x.named) facts_same
 
   pub resource_same : is_resource_itself l ≡ is_resource_itself k
-  resource_same = resource_by_view l ∙ (ap view_resource same ∙ (resource_under f (kind_view k) ∙ sym (resource_by_view k)))
+  resource_same = ap (λ x. x.resource) facts_same
+
+  handle_kept : (test : ℕ → TypeDefKind → Bool) (view : KindView → Option ℕ) → ((n : ℕ) (k : TypeDefKind) → test n k ≡ is_id n (view (kind_view k)))
+      → ((v : KindView) → view (renamed f v) ≡ option_map f (view v)) → (n : ℕ) → test n k ≡ true → test (f n) l ≡ true
+  handle_kept test view by under n h = by (f n) l ∙ (ap (λ v. is_id (f n) (view v)) same ∙ (ap (is_id (f n)) (under (kind_view k)) ∙ id_under f n (view (kind_view k)) (sym (by n k) ∙ h)))
+
+  pub own_kept : (n : ℕ) → is_own_kind n k ≡ true → is_own_kind (f n) l ≡ true
+  own_kept = handle_kept is_own_kind view_own own_by_view (own_under f)
+
+  pub borrow_kept : (n : ℕ) → is_borrow_kind n k ≡ true → is_borrow_kind (f n) l ≡ true
+  borrow_kept = handle_kept is_borrow_kind view_borrow borrow_by_view (borrow_under f)
 
   pub numbers_same : kind_numbers l ≡ map f (kind_numbers k)
   numbers_same =
