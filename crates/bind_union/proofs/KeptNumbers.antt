@@ -26,9 +26,9 @@ use Rattle.bind_union.proofs.InterfaceRules.{type_numbers, all_copies, copies_ca
 use Rattle.bind_union.proofs.EntryRules.{entry_range}
 use Rattle.bind_union.proofs.WorldRules.{world_range_passes, all_true}
 use Rattle.bind_union.proofs.Itself.{get_begin}
-use Rattle.bind_union.proofs.Sources.{Source, own_joined, each_world, each_interface_of_three}
+use Rattle.bind_union.proofs.Sources.{each_type_of_three, Source, own_joined, each_world, each_interface_of_three}
 use Rattle.bind_union.proofs.Kept.{kept, own_imports_pass, own_exports_pass}
-use Rattle.bind_union.proofs.KeptTypes.{ours, once, twice, below_s, each_of_three}
+use Rattle.bind_union.proofs.KeptTypes.{ours, once, twice, below_s}
 use Rattle.bind_union.proofs.KeptPackages.{all_stand, ranges_hold}
 use Rattle.base_lemmas.proofs.Bools.{left_of as first_true, right_of as second_true}
 use Rattle.base_lemmas.proofs.Elements.{all_two}
@@ -196,7 +196,7 @@ module _ (own other merged : Resolve) (bound other_bound : ℕ) (first second : 
       (entry_range our.from merged our.under our.valid our.carried below) (all_true is.own_bound.imports.entries))
       (own_exports_pass own other merged bound other_bound first second left_out valid_own valid_other is (λ e. true) (λ e. key_in_range merged e.0 && item_in_range merged e.1)
       (entry_range our.from merged our.under our.valid our.carried below) (all_true is.own_bound.exports.entries))))))
-      (each_of_three own other merged bound other_bound first second left_out valid_own valid_other is (numbers_in_range.type_ merged)
+      (each_type_of_three own other merged bound other_bound first second left_out valid_own valid_other is (numbers_in_range.type_ merged)
       (λ n copy. type_in_range our n copy own_worlds_there)
       (λ n copy. type_in_range the_first n copy first_worlds_there)
       (λ n copy. type_in_range the_second n copy second_worlds_there))

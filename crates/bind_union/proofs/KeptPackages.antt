@@ -28,7 +28,7 @@ use Rattle.bind_union.proofs.Itself.{get_begin}
 use Rattle.bind_union.proofs.Kept.{kept}
 use Rattle.bind_union.proofs.PackageNames.{names_pass}
 use Rattle.base_lemmas.proofs.Bools.{left_of as first_true, right_of as second_true}
-use Rattle.base_lemmas.proofs.Elements.{all_two}
+use Rattle.base_lemmas.proofs.Elements.{all_three, all_weaker, all_two}
 use Rattle.base_lemmas.proofs.Numbers.{equal}
 use Rattle.wit_model.proofs.RulesLemmas.{each_by_number}
 use Rattle.wit_model.proofs.TextLemmas.{named_too}
@@ -61,12 +61,6 @@ module _ (r : Resolve) (valid : KeepsRules r) (n : ℕ) (p : Package) (found : p
       (λ e. passes (λ w. text_eq (text_of w.name) (text_of e.0)) (world_at r e.1.0)) p.worlds.entries) ≡ true
   unfolding names_in_packages
   named = package-passes names_in_packages r valid.names_in_packages n p found
-
-  all_three : {A : Type 0} (p q s t : A → Bool) → ((x : A) → p x ≡ true → q x ≡ true → s x ≡ true → t x ≡ true) → (xs : List A) → list_all p xs ≡ true → list_all q xs ≡ true → list_all s xs ≡ true
-      → list_all t xs ≡ true
-  all_three p q s t one [] a b c = refl
-  all_three p q s t one (x ∷ xs) a b c = both _ _ (one x (first_true _ _ a) (first_true _ _ b) (first_true _ _ c))
-      (all_three p q s t one xs (second_true (p x) _ a) (second_true (q x) _ b) (second_true (s x) _ c))
 
   interface_of : (name : Option (String Global)) (t : Text) (b : Bool) → text_is name t ≡ true → passes (λ s. b && text_eq (text_of s) t) name ≡ true → (text_is name t && b) ≡ true
   interface_of None t b h k = no_true h
@@ -108,16 +102,12 @@ found_option test (Some x) h = (x, refl, h)
 module _ (r : Resolve) (n : ℕ) (p : Package) (stand : list_all (is_interface_of r n) (interface_names p) ≡ true) (worlds : list_all (is_world_of r n) (world_names p) ≡ true) where
   each_interface : (q : String Global × InterfaceId → Bool) → ((e : String Global × InterfaceId) → is_interface_of r n (text_of e.0, e.1.0) ≡ true → q e ≡ true)
       → list_all q p.interfaces.entries ≡ true
-  each_interface q one = all_two (λ e. is_interface_of r n (text_of e.0, e.1.0)) (λ e. is_interface_of r n (text_of e.0, e.1.0)) q (λ e a b. one e a) p.interfaces.entries own own
-    where
-      own : list_all (λ e. is_interface_of r n (text_of e.0, e.1.0)) p.interfaces.entries ≡ true
-      own = sym (list_all-map (is_interface_of r n) (λ e. (text_of e.0, e.1.0)) p.interfaces.entries) ∙ stand
+  each_interface q one = all_weaker (λ e. is_interface_of r n (text_of e.0, e.1.0)) q one p.interfaces.entries
+      (sym (list_all-map (is_interface_of r n) (λ e. (text_of e.0, e.1.0)) p.interfaces.entries) ∙ stand)
 
   each_world : (q : String Global × WorldId → Bool) → ((e : String Global × WorldId) → is_world_of r n (text_of e.0, e.1.0) ≡ true → q e ≡ true) → list_all q p.worlds.entries ≡ true
-  each_world q one = all_two (λ e. is_world_of r n (text_of e.0, e.1.0)) (λ e. is_world_of r n (text_of e.0, e.1.0)) q (λ e a b. one e a) p.worlds.entries own own
-    where
-      own : list_all (λ e. is_world_of r n (text_of e.0, e.1.0)) p.worlds.entries ≡ true
-      own = sym (list_all-map (is_world_of r n) (λ e. (text_of e.0, e.1.0)) p.worlds.entries) ∙ worlds
+  each_world q one = all_weaker (λ e. is_world_of r n (text_of e.0, e.1.0)) q one p.worlds.entries
+      (sym (list_all-map (is_world_of r n) (λ e. (text_of e.0, e.1.0)) p.worlds.entries) ∙ worlds)
 
   pub ranges_hold : (list_all (λ id. in_list r.interfaces.items id.0) (values p.interfaces) && list_all (λ id. in_list r.worlds.items id.0) (values p.worlds)) ≡ true
   ranges_hold =
@@ -198,9 +188,8 @@ module _ (own other merged : Resolve) (bound other_bound : ℕ) (first second : 
 
   own_stand : (n : ℕ) (p : Package) → package_at own n ≡ Some p → (list_all (is_interface_of merged n) (interface_names p) ≡ true) × (list_all (is_world_of merged n) (world_names p) ≡ true)
   own_stand n p e = (
-    all_two (is_interface_of own n) (is_interface_of own n) (is_interface_of merged n) (λ x a b. own_interface n x a) (interface_names p) (interfaces_stand own valid_own n p e)
-        (interfaces_stand own valid_own n p e),
-    all_two (is_world_of own n) (is_world_of own n) (is_world_of merged n) (λ x a b. own_world n x a) (world_names p) (worlds_stand own valid_own n p e) (worlds_stand own valid_own n p e),
+    all_weaker (is_interface_of own n) (is_interface_of merged n) (own_interface n) (interface_names p) (interfaces_stand own valid_own n p e),
+    all_weaker (is_world_of own n) (is_world_of merged n) (own_world n) (world_names p) (worlds_stand own valid_own n p e),
   )
 
   joined_stand : (n : ℕ) (p : Package) → package_at other n ≡ Some p → (own_interfaces own_worlds : List (Text × ℕ)) → (j : IsJoinedPackage merged first left_out n p own_interfaces own_worlds)

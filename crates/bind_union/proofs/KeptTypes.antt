@@ -35,7 +35,7 @@ use Rattle.bind_union.proofs.Shown.{none_added, past_range, range_types}
 use Rattle.bind_union.proofs.WorldRules.{world_types_pass}
 use Rattle.bind_union.proofs.Listed.{listed_in_interface, listed_in_world, stays_listed}
 use Rattle.bind_union.proofs.Itself.{map_same, world_range}
-use Rattle.bind_union.proofs.Sources.{Source, own_source, first_source, second_source, copy_refers, each_interface, each_joined}
+use Rattle.bind_union.proofs.Sources.{Source, own_source, first_source, second_source, copy_refers, type_image, each_type_of_three, each_interface, each_joined}
 use Rattle.bind_union.proofs.Kept.{kept, below}
 use Rattle.base_lemmas.proofs.Bools.{left_of as first_true, right_of as second_true, or_false}
 use Rattle.base_lemmas.proofs.Elements.{all_two}
@@ -61,29 +61,6 @@ module _ (own other merged : Resolve) (bound other_bound : ℕ) (first second : 
   abbrev pub twice : Source merged
   twice = second_source own other merged bound other_bound first second left_out valid_own valid_other is
 
-  -- ---- one by one
-
-  abbrev pub image_of : (c : Source merged) (n : ℕ) → c.under.copies_type n ≡ true → TypeDef
-  image_of c n copy = (c.carried.types n (c.carried.copied_types n copy)).image
-
-  by_source : (test : ℕ → TypeDef → Bool) (c : Source merged) (n : ℕ) (def : TypeDef) → type_at merged n ≡ Some def
-      → ((k : ℕ) (copy : c.under.copies_type k ≡ true) → test (c.under.types k) (image_of c k copy) ≡ true) → IsCopyUnder c.under.types c.under.copies_type n → test n def ≡ true
-  by_source test c n def e one copy =
-      let t = c.carried.types copy.0 (c.carried.copied_types copy.0 copy.1) in
-      let here : t.image ≡ def = same-some t.image def (sym t.at_image ∙ (ap (type_at merged) copy.2 ∙ e)) in
-      subst (λ (d : TypeDef). test n d ≡ true) here (subst (λ (k : ℕ). test k t.image ≡ true) copy.2 (one copy.0 copy.1))
-
-  pub each_of_three : (test : ℕ → TypeDef → Bool) → ((k : ℕ) (copy : ours.under.copies_type k ≡ true) → test (ours.under.types k) (image_of ours k copy) ≡ true)
-      → ((k : ℕ) (copy : first.copies_type k ≡ true) → test (first.types k) (image_of once k copy) ≡ true)
-      → ((k : ℕ) (copy : second.copies_type k ≡ true) → test (second.types k) (image_of twice k copy) ≡ true) → each_from test 0 merged.types.items ≡ true
-  each_of_three test a b c = each_by_number test merged.types.items (λ n def e. elim (low_or_high n (length own.types.items)) [
-    | inl low ↦ by_source test ours n def e a (n, lt-ltb n (length own.types.items) low, refl)
-    | inr high ↦ elim (is.type_from n high (slice_get_within merged.types.items n def e)) [
-      | inl copy ↦ by_source test once n def e b copy
-      | inr copy ↦ by_source test twice n def e c copy
-    ]
-  ])
-
   unowned : (f : Renumbering) (o : TypeOwner) → same_owner (owner_under f o) owner.None ≡ same_owner o owner.None
   unowned f (owner.World id) = refl
   unowned f _ = refl
@@ -92,7 +69,7 @@ module _ (own other merged : Resolve) (bound other_bound : ℕ) (first second : 
   copy_listed : (c : Source merged) (n : ℕ) (copy : c.under.copies_type n ≡ true)
       → ((w : ℕ) → c.under.carries_world w ≡ true → (name : Text) → passes (is_listed_in_world n name) (world_at c.from w) ≡ true
       → passes (is_listed_in_world (c.under.types n) name) (world_at merged (c.under.worlds w)) ≡ true)
-      → order_of_types.type_ merged (c.under.types n) (image_of c n copy) ≡ true
+      → order_of_types.type_ merged (c.under.types n) (type_image own other merged bound other_bound first second left_out valid_own valid_other is c n copy) ≡ true
   unfolding order_of_types
   copy_listed c n copy worlds = both _ _ (copy_refers merged c n copy) (go t.def.name t.image.name t.name (second_true (list_all (λ m. nat_lt m n) (kind_numbers t.def.kind)) _ old))
     where
@@ -214,7 +191,7 @@ module _ (own other merged : Resolve) (bound other_bound : ℕ) (first second : 
       (subst (λ (k : ℕ). order_of_types.world_ merged k is.joined.image ≡ true) is.bound_there
       (world_types_pass other merged second valid_other is.second_copies.carried below_s other_bound is.own_bound.imports.entries is.own_bound.exports.entries is.joined
       (subst (λ (k : ℕ). list_all (is_named_of merged (as_world k)) own_numbers ≡ true) (sym is.bound_there) own_named) own_order)))
-      (each_of_three (order_of_types.type_ merged)
+      (each_type_of_three own other merged bound other_bound first second left_out valid_own valid_other is (order_of_types.type_ merged)
       (λ n copy. copy_listed ours n copy (own_listed n copy))
       (λ n copy. copy_listed once n copy (first_listed n copy))
       (λ n copy. copy_listed twice n copy (second_listed n copy)))

@@ -59,24 +59,30 @@ module _ (own other merged : Resolve) (bound other_bound : ℕ) (first second : 
 
   -- ---- types
 
-  pub type_source : (n : ℕ) → n < length merged.types.items → (c : Source merged) × IsCopyUnder c.under.types c.under.copies_type n
-  type_source n h = elim (low_or_high n (length own.types.items)) [
-    | inl low ↦ (own_source, (n, lt-ltb n (length own.types.items) low, refl))
-    | inr high ↦ elim (is.type_from n high h) [
-      | inl copy ↦ (first_source, copy)
-      | inr copy ↦ (second_source, copy)
-    ]
-  ]
+  abbrev pub type_image : (c : Source merged) (n : ℕ) → c.under.copies_type n ≡ true → TypeDef
+  type_image c n copy = (c.carried.types n (c.carried.copied_types n copy)).image
 
-  pub each_type : (test : ℕ → TypeDef → Bool)
-      → ((c : Source merged) (n : ℕ) (copy : c.under.copies_type n ≡ true) → test (c.under.types n) (c.carried.types n (c.carried.copied_types n copy)).image ≡ true)
+  by_type : (test : ℕ → TypeDef → Bool) (c : Source merged) (n : ℕ) (def : TypeDef) → type_at merged n ≡ Some def
+      → ((k : ℕ) (copy : c.under.copies_type k ≡ true) → test (c.under.types k) (type_image c k copy) ≡ true) → IsCopyUnder c.under.types c.under.copies_type n → test n def ≡ true
+  by_type test c n def e one copy =
+      let t = c.carried.types copy.0 (c.carried.copied_types copy.0 copy.1) in
+      let here : t.image ≡ def = same-some t.image def (sym t.at_image ∙ (ap (type_at merged) copy.2 ∙ e)) in
+      (λ i. test (sym copy.2 i) (sym here i)) ∙ one copy.0 copy.1
+
+  pub each_type_of_three : (test : ℕ → TypeDef → Bool) → ((k : ℕ) (copy : own_source.under.copies_type k ≡ true) → test k (type_image own_source k copy) ≡ true)
+      → ((k : ℕ) (copy : first.copies_type k ≡ true) → test (first.types k) (type_image first_source k copy) ≡ true)
+      → ((k : ℕ) (copy : second.copies_type k ≡ true) → test (second.types k) (type_image second_source k copy) ≡ true) → each_from test 0 merged.types.items ≡ true
+  each_type_of_three test a b c = each_by_number test merged.types.items (λ n def e. elim (low_or_high n (length own.types.items)) [
+    | inl low ↦ by_type test own_source n def e a (n, lt-ltb n (length own.types.items) low, refl)
+    | inr high ↦ elim (is.type_from n high (slice_get_within merged.types.items n def e)) [
+      | inl copy ↦ by_type test first_source n def e b copy
+      | inr copy ↦ by_type test second_source n def e c copy
+    ]
+  ])
+
+  pub each_type : (test : ℕ → TypeDef → Bool) → ((c : Source merged) (n : ℕ) (copy : c.under.copies_type n ≡ true) → test (c.under.types n) (type_image c n copy) ≡ true)
       → each_from test 0 merged.types.items ≡ true
-  each_type test one = each_by_number test merged.types.items (λ n def e.
-      let source = type_source n (slice_get_within merged.types.items n def e) in
-      let c = source.0 in
-      let t = c.carried.types source.1.0 (c.carried.copied_types source.1.0 source.1.1) in
-      let here : t.image ≡ def = same-some t.image def (sym t.at_image ∙ (ap (type_at merged) source.1.2 ∙ e)) in
-      subst (λ (d : TypeDef). test n d ≡ true) here (subst (λ (k : ℕ). test k t.image ≡ true) source.1.2 (one c source.1.0 source.1.1)))
+  each_type test one = each_type_of_three test (one own_source) (one first_source) (one second_source)
 
   -- ---- all refer to smaller numbers
 
@@ -86,32 +92,24 @@ module _ (own other merged : Resolve) (bound other_bound : ℕ) (first second : 
 
   -- ---- interfaces
 
-  pub interface_source : (n : ℕ) → n < length merged.interfaces.items → (c : Source merged) × IsCopyUnder c.under.interfaces c.under.copies_interface n
-  interface_source n h = elim (low_or_high n (length own.interfaces.items)) [
-    | inl low ↦ (own_source, (n, lt-ltb n (length own.interfaces.items) low, refl))
-    | inr high ↦ elim (is.interface_from n high h) [
-      | inl copy ↦ (first_source, copy)
-      | inr copy ↦ (second_source, copy)
-    ]
-  ]
-
-  pub each_interface : (test : ℕ → Interface → Bool)
-      → ((c : Source merged) (n : ℕ) (copy : c.under.copies_interface n ≡ true) → test (c.under.interfaces n) (c.carried.interfaces n (c.carried.copied_interfaces n copy)).image ≡ true)
-      → each_from test 0 merged.interfaces.items ≡ true
-  each_interface test one = each_by_number test merged.interfaces.items (λ n i e.
-      let source = interface_source n (slice_get_within merged.interfaces.items n i e) in
-      let c = source.0 in
-      let t = c.carried.interfaces source.1.0 (c.carried.copied_interfaces source.1.0 source.1.1) in
-      let here : t.image ≡ i = same-some t.image i (sym t.at_image ∙ (ap (interface_at merged) source.1.2 ∙ e)) in
-      subst (λ (d : Interface). test n d ≡ true) here (subst (λ (k : ℕ). test k t.image ≡ true) source.1.2 (one c source.1.0 source.1.1)))
-
   by_interface : (test : ℕ → Interface → Bool) (c : Source merged) (n : ℕ) (i : Interface) → interface_at merged n ≡ Some i
       → ((k : ℕ) (copy : c.under.copies_interface k ≡ true) → test (c.under.interfaces k) (c.carried.interfaces k (c.carried.copied_interfaces k copy)).image ≡ true)
       → IsCopyUnder c.under.interfaces c.under.copies_interface n → test n i ≡ true
   by_interface test c n i e one copy =
       let t = c.carried.interfaces copy.0 (c.carried.copied_interfaces copy.0 copy.1) in
       let here : t.image ≡ i = same-some t.image i (sym t.at_image ∙ (ap (interface_at merged) copy.2 ∙ e)) in
-      subst (λ (d : Interface). test n d ≡ true) here (subst (λ (k : ℕ). test k t.image ≡ true) copy.2 (one copy.0 copy.1))
+      (λ i. test (sym copy.2 i) (sym here i)) ∙ one copy.0 copy.1
+
+  pub each_interface : (test : ℕ → Interface → Bool)
+      → ((c : Source merged) (n : ℕ) (copy : c.under.copies_interface n ≡ true) → test (c.under.interfaces n) (c.carried.interfaces n (c.carried.copied_interfaces n copy)).image ≡ true)
+      → each_from test 0 merged.interfaces.items ≡ true
+  each_interface test one = each_by_number test merged.interfaces.items (λ n i e. elim (low_or_high n (length own.interfaces.items)) [
+    | inl low ↦ by_interface test own_source n i e (one own_source) (n, lt-ltb n (length own.interfaces.items) low, refl)
+    | inr high ↦ elim (is.interface_from n high (slice_get_within merged.interfaces.items n i e)) [
+      | inl copy ↦ by_interface test first_source n i e (one first_source) copy
+      | inr copy ↦ by_interface test second_source n i e (one second_source) copy
+    ]
+  ])
 
   -- own ones, and those that are copied once and twice
   pub each_interface_of_three : (test : ℕ → Interface → Bool) → ((n : ℕ) (i : Interface) → interface_at own n ≡ Some i → test n i ≡ true)
@@ -161,16 +159,16 @@ module _ (own other merged : Resolve) (bound other_bound : ℕ) (first second : 
       own_one n w e true same x =
           let here : bound ≡ n = sym (equal n bound same) in
           let image : is.joined.image ≡ w = same-some is.joined.image w (sym is.joined.at_image ∙ (ap (world_at merged) (is.bound_there ∙ here) ∙ e)) in
-          subst (λ (d : World). test n d ≡ true) image (subst (λ (k : ℕ). test k is.joined.image ≡ true) here at_bound)
+          (λ i. test (sym here i) (sym image i)) ∙ at_bound
       own_one n w e false apart x =
           let image : x.0 ≡ w = same-some x.0 w (sym (is.worlds n x.0 x.1 apart) ∙ e) in
-          subst (λ (d : World). test n d ≡ true) image (ours n x.0 x.1 apart)
+          ap (test n) (sym image) ∙ ours n x.0 x.1 apart
 
       copy : (n : ℕ) (w : World) → world_at merged n ≡ Some w → IsCopyUnder first.worlds first.carries_world n → test n w ≡ true
       copy n w e c =
           let j = (is.first_worlds c.0 c.1).joined in
           let image : j.image ≡ w = same-some j.image w (sym j.at_image ∙ (ap (world_at merged) c.2 ∙ e)) in
-          subst (λ (d : World). test n d ≡ true) image (subst (λ (k : ℕ). test k j.image ≡ true) c.2 (copies c.0 c.1))
+          (λ i. test (sym c.2 i) (sym image i)) ∙ copies c.0 c.1
 
   -- a test that holds of each joined world
   pub each_joined : (test : ℕ → World → Bool) → ((c : Source merged) (n : ℕ) (j : IsJoined c.from merged c.under n [] []) → test (c.under.worlds n) j.image ≡ true) → test bound is.joined.image ≡ true

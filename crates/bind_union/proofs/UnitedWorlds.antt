@@ -28,7 +28,7 @@ use Rattle.bind_union.proofs.Kept.{below}
 use Rattle.bind_union.proofs.KeptPackages.{is_world_of, worlds_stand, found_option}
 use Rattle.bind_union.proofs.KeptNumbers.{world_package}
 use Rattle.bind_union.proofs.KeptPlaces.{world_case, own_world_low}
-use Rattle.bind_union.proofs.PackageNames.{worlds_by_name, found_name, copy_found}
+use Rattle.bind_union.proofs.PackageNames.{joined_name, worlds_by_name, found_name, copy_found}
 use Rattle.bind_union.proofs.Listed.{under_text}
 use Rattle.bind_union.proofs.Namesakes.{under_contains}
 use Rattle.bind_union.proofs.Meanings.{merged_means}
@@ -46,17 +46,6 @@ world_path r w = go w.«package»
     go : (p : Option PackageId) → option_and_then (λ p. path_in_package r p.0 (text_of w.name)) p ≡ option_and_then (λ n. path_in_package r n (text_of w.name)) (package_number p)
     go None = refl
     go (Some p) = refl
-
--- what stood under a name is met, left out or copied
-joined_world : (number : ℕ → ℕ) (copies left_out : ℕ → Bool) (own olds news : List (Text × ℕ)) → JoinedNames number copies left_out own olds news → (name : Text) (n : ℕ) → Contains olds (name, n)
-    → left_out n ≡ false → Contains own (name, number n) ⊎ (copies n ≡ true)
-joined_world number copies left_out own _ _ none name n c k = none-in (name, n) c
-joined_world number copies left_out own _ _ (left t old olds news l rest) name n (zero, d, e) k = no_true (sym k ∙ subst (λ (x : Text × ℕ). left_out x.1 ≡ true) e l)
-joined_world number copies left_out own _ _ (left t old olds news l rest) name n (suc i, d, e) k = joined_world number copies left_out own olds news rest name n (i, omega (arith, d), e) k
-joined_world number copies left_out own _ _ (met t old olds news held rest) name n (zero, l, e) k = inl (subst (λ (x : Text × ℕ). Contains own (x.0, number x.1)) e held)
-joined_world number copies left_out own _ _ (met t old olds news held rest) name n (suc i, l, e) k = joined_world number copies left_out own olds news rest name n (i, omega (arith, l), e) k
-joined_world number copies left_out own _ _ (added t old olds news c l new rest) name n (zero, d, e) k = inr (subst (λ (x : Text × ℕ). copies x.1 ≡ true) e c)
-joined_world number copies left_out own _ _ (added t old olds news c l new rest) name n (suc i, d, e) k = joined_world number copies left_out own olds news rest name n (i, omega (arith, d), e) k
 
 -- the numbers under the name of a world with a path
 listed_by_path : (r : Resolve) (v : IsValid r) (n : ℕ) (path : Text) (h : HasWorldPath r n path) → is_id n (under_text (text_of h.def.name) (world_names h.package_)) ≡ true
@@ -231,12 +220,11 @@ module _ (own other merged : Resolve) (bound other_bound : ℕ) (first second : 
             copied x.number c (ap (path_of_world other) old ∙ x.path_is) (ap (world_meaning other) old ∙ x.means)
 
         stands : PackageStands own merged first left_out h.home.0 h.package_ → ShowsWorld merged path meaning
-        stands (brought high j fresh) = by (joined_world first.worlds first.carries_world left_out [] (world_names h.package_) j.new_worlds j.joined_worlds (text_of h.def.name) x.number held kept)
-          where
-            by : Contains {X = Text × ℕ} [] (text_of h.def.name, first.worlds x.number) ⊎ (first.carries_world x.number ≡ true) → ShowsWorld merged path meaning
-            by (inl c) = none-in (text_of h.def.name, first.worlds x.number) c
-            by (inr c) = brings c
-        stands (grown o at j a b) = by (joined_world first.worlds first.carries_world left_out (world_names o) (world_names h.package_) j.new_worlds j.joined_worlds (text_of h.def.name)
+        stands (brought high j fresh) = elim (joined_name first.worlds first.carries_world left_out [] (world_names h.package_) j.new_worlds j.joined_worlds (text_of h.def.name) x.number held kept) [
+          | inl c ↦ none-in (text_of h.def.name, first.worlds x.number) c
+          | inr c ↦ brings c
+        ]
+        stands (grown o at j a b) = by (joined_name first.worlds first.carries_world left_out (world_names o) (world_names h.package_) j.new_worlds j.joined_worlds (text_of h.def.name)
             x.number held kept)
           where
             by : Contains (world_names o) (text_of h.def.name, first.worlds x.number) ⊎ (first.carries_world x.number ≡ true) → ShowsWorld merged path meaning
