@@ -35,7 +35,7 @@ use Rattle.bind_union.specs.Carried.{Renumbering, owner_under, call_under, IsTyp
 use Rattle.bind_union.proofs.Lists.{no_true}
 use Rattle.bind_union.proofs.ViewTests.{view_ok, ok_by_view, ok_under, own_kept, borrow_kept, numbers_under, number_under, one_given}
 use Rattle.bind_union.proofs.Carrying.{kind_carried, image_kind, used_same}
-use Rattle.bind_union.proofs.Homes.{alias_there, members_of_all}
+use Rattle.bind_union.proofs.Homes.{alias_there, all_given, members_of_all}
 use Rattle.bind_union.proofs.TypeRules.{stability_alike, values_pass, no_resource_passes, shallow_passes, all_owned}
 use Rattle.base_lemmas.proofs.Bools.{left_of as first_true, right_of as second_true}
 use Rattle.base_lemmas.proofs.Elements.{all_two}
@@ -56,12 +56,9 @@ freestanding_under f _ = refl
 -- ---- types in a result
 
 ok_of_all : (p : ℕ → Bool) (k : TypeDefKind) → list_all p (filter_map number_of (member_types k)) ≡ true → passes (λ t. list_all p (option_to_list (number_of t))) (view_ok (kind_view k)) ≡ true
-ok_of_all p (kind.Result x) h = go x.ok (sym (list_all_filter_map p number_of (option_to_list x.ok ++ option_to_list x.err)) ∙ h)
-  where
-    go : (o : Option ValueType) → list_all (λ t. list_all p (option_to_list (number_of t))) (option_to_list o ++ option_to_list x.err) ≡ true
-        → passes (λ t. list_all p (option_to_list (number_of t))) o ≡ true
-    go None h = refl
-    go (Some t) h = first_true _ _ h
+ok_of_all p (kind.Result x) h = sym (all_given (λ t. list_all p (option_to_list (number_of t))) x.ok) ∙ first_true _ _
+    (sym (list_all-append (λ t. list_all p (option_to_list (number_of t))) (option_to_list x.ok) (option_to_list x.err))
+    ∙ (sym (list_all_filter_map p number_of (option_to_list x.ok ++ option_to_list x.err)) ∙ h))
 ok_of_all p (kind.Handle (handle.Own id)) h = refl
 ok_of_all p _ h = refl
 
@@ -122,16 +119,12 @@ module _ (r s : Resolve) (f : Renumbering) (valid : KeepsRules r) (is : IsCarrie
       t : IsType r s f n
       t = is.types n c
 
-      wrong : None ≡ Some name → (x : Option Text) → x ≡ Some name
-      wrong e x = absurd cc
-
       go : (a b : Bool) → is_resource_itself t.def.kind ≡ a → same_owner t.def.owner o ≡ b → cond (a && b) (optional_text t.def.name) None ≡ Some name
           → cond (is_resource_itself t.image.kind && same_owner t.image.owner (owner_under f o)) (optional_text t.image.name) None ≡ Some name
-      go false b p q h = wrong h _
-      go true false p q h = wrong h _
       go true true p q h =
           (λ i. cond (((alias_there r s f valid is below_s n t).2 ∙ p) i && same_owner ((t.home ∙ ap (owner_under f) (owner_equal t.def.owner o q)) i) (owner_under f o)) (t.name i) None)
           ∙ (ap (λ b. cond b (optional_text t.def.name) None) (owner_itself (owner_under f o)) ∙ h)
+      go _ _ p q h = absurd cc
 
   module _ (g h : Function) (c : IsFunctionCopy f g h) where
     types_there : function_types h ≡ map (renamed_type f.types) (function_types g)
@@ -156,12 +149,8 @@ module _ (r s : Resolve) (f : Renumbering) (valid : KeepsRules r) (is : IsCarrie
     values = first_true _ _ (sym (list_all-append f.carries_type (filter_map number_of (function_types g)) (option_to_list (resource_of g.kind))) ∙ c.parts)
 
     pub resource_carried : passes f.carries_type (resource_of g.kind) ≡ true
-    resource_carried = go (resource_of g.kind) (second_true (list_all f.carries_type (filter_map number_of (function_types g))) _
-        (sym (list_all-append f.carries_type (filter_map number_of (function_types g)) (option_to_list (resource_of g.kind))) ∙ c.parts))
-      where
-        go : (o : Option ℕ) → list_all f.carries_type (option_to_list o) ≡ true → passes f.carries_type o ≡ true
-        go None h = refl
-        go (Some n) h = first_true _ _ h
+    resource_carried = sym (all_given f.carries_type (resource_of g.kind)) ∙ second_true (list_all f.carries_type (filter_map number_of (function_types g))) _
+        (sym (list_all-append f.carries_type (filter_map number_of (function_types g)) (option_to_list (resource_of g.kind))) ∙ c.parts)
 
     pub function_numbers_there : function_numbers h ≡ map f.types (function_numbers g)
     function_numbers_there =

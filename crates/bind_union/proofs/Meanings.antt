@@ -45,7 +45,7 @@ use Rattle.bind_union.proofs.Sources.{Source, own_source, own_joined}
 use Rattle.bind_union.proofs.Kept.{below}
 use Rattle.base_lemmas.proofs.Bools.{left_of as first_true, right_of as second_true}
 use Rattle.base_lemmas.proofs.Elements.{zip_map}
-use Rattle.base_lemmas.proofs.Numbers.{equal}
+use Rattle.base_lemmas.proofs.Numbers.{unequal, equal}
 
 async_under : (f : Renumbering) (k : FunctionKind) → is_async (call_under f k) ≡ is_async k
 async_under f call.Freestanding = refl
@@ -165,12 +165,7 @@ module _ (r s : Resolve) (f : Renumbering) (valid : KeepsRules r) (is : IsCarrie
     item_means (item.Type_ a) (item.Type_ b) z =
         let same : type_meaning_at s b.0 ≡ type_meaning_at r a.0 = ap (type_meaning_at s) z.0 ∙ type_means a.0 z.1 in
         λ i. record { item = Item.declares (same i).declaration; external_id = (same i).external_id }
-    item_means (item.Interface a st docs ext) (item.Function g) z = absurd z
-    item_means (item.Interface a st docs ext) (item.Type_ g) z = absurd z
-    item_means (item.Function g) (item.Interface b st2 docs2 ext2) z = absurd z
-    item_means (item.Function g) (item.Type_ b) z = absurd z
-    item_means (item.Type_ a) (item.Interface b st2 docs2 ext2) z = absurd z
-    item_means (item.Type_ a) (item.Function g) z = absurd z
+    item_means _ _ z = absurd z
 
     pub entries_mean : (xs ys : List (WorldKey × WorldItem)) → Joined f [] xs ys → entries_meaning s ys ≡ entries_meaning r xs
     entries_mean _ _ none = refl
@@ -213,12 +208,8 @@ merged_means own other merged bound other_bound first second left_out valid_own 
           (interface_means_at own merged (itself own) valid_own.rules carried below_s n low, path_same own merged (itself own) valid_own.rules carried below_s n low);
       worlds = λ n w e apart.
           world_means own merged (itself own) valid_own.rules carried below_s (λ m i h at without. h) (has_path own valid_own) n
-          (own_joined own other merged bound other_bound first second left_out valid_own.rules valid_other.rules is n w e (differs n apart (n == bound) refl));
+          (own_joined own other merged bound other_bound first second left_out valid_own.rules valid_other.rules is n w e (unequal n bound apart));
     }
-      where
-        differs : (n : ℕ) → (n ≡ bound → ⊥) → (b : Bool) → (n == bound) ≡ b → (n == bound) ≡ false
-        differs n apart false e = e
-        differs n apart true e = absurd (apart (equal n bound e))
 
     copies : CopiesMeanTheSame other merged first
     copies = record {
