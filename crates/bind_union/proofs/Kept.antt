@@ -25,7 +25,7 @@ use Rattle.bind_union.proofs.InterfaceRules.{interface_labels_pass, interface_ow
 use Rattle.bind_union.proofs.FunctionRules.{function_stays_passes, function_handles_pass, function_depths_pass}
 use Rattle.bind_union.proofs.EntryRules.{added_pass, entry_function, entry_member, entry_import_stands, entry_export_stands}
 use Rattle.bind_union.proofs.WorldOrder.{items, number_in, walk, item_stands}
-use Rattle.bind_union.proofs.WorldRules.{by_entries, world_labels_pass, world_owners_pass, world_handles_pass, world_depths_pass, world_members_pass, world_items_pass, world_order_passes}
+use Rattle.bind_union.proofs.WorldRules.{on_function, by_entries, world_labels_pass, world_owners_pass, world_handles_pass, world_depths_pass, world_members_pass, world_items_pass, world_order_passes}
 use Rattle.bind_union.proofs.Itself.{itself, joined_itself, world_range}
 use Rattle.bind_union.proofs.Sources.{Source, own_source, below_there, each_type, each_interface, each_world, each_joined}
 use Rattle.base_lemmas.proofs.Bools.{left_of as first_true, right_of as second_true}
@@ -65,13 +65,14 @@ module _ (own other merged : Resolve) (bound other_bound : ℕ) (first second : 
   abbrev pub own_exports : List (WorldKey × WorldItem)
   own_exports = is.own_bound.exports.entries
 
-  pub own_imports_pass : (p q : WorldKey × WorldItem → Bool) → ((a b : WorldKey × WorldItem) → EntryBecomes (itself own) a b → p a ≡ true → q b ≡ true) → list_all p own_imports ≡ true
-      → list_all q own_imports ≡ true
-  own_imports_pass p q one h = added_pass (itself own) [] p q one own_imports own_imports (joined_itself own valid_own own_imports (world_range own valid_own bound is.own_bound is.bound_at).0) h
-
-  pub own_exports_pass : (p q : WorldKey × WorldItem → Bool) → ((a b : WorldKey × WorldItem) → EntryBecomes (itself own) a b → p a ≡ true → q b ≡ true) → list_all p own_exports ≡ true
-      → list_all q own_exports ≡ true
-  own_exports_pass p q one h = added_pass (itself own) [] p q one own_exports own_exports (joined_itself own valid_own own_exports (world_range own valid_own bound is.own_bound is.bound_at).1) h
+  pub own_sides_pass : (p q p_export q_export : WorldKey × WorldItem → Bool) → ((a b : WorldKey × WorldItem) → EntryBecomes (itself own) a b → p a ≡ true → q b ≡ true)
+      → ((a b : WorldKey × WorldItem) → EntryBecomes (itself own) a b → p_export a ≡ true → q_export b ≡ true) → (list_all p own_imports && list_all p_export own_exports) ≡ true
+      → (list_all q own_imports ≡ true) × (list_all q_export own_exports ≡ true)
+  own_sides_pass p q p_export q_export one one_export h =
+      let range = world_range own valid_own bound is.own_bound is.bound_at in (
+        added_pass (itself own) [] p q one own_imports own_imports (joined_itself own valid_own own_imports range.0) (first_true _ _ h),
+        added_pass (itself own) [] p_export q_export one_export own_exports own_exports (joined_itself own valid_own own_exports range.1) (second_true (list_all p own_imports) _ h),
+      )
 
   -- at the number of the bound world
   at_bound : (test : ℕ → World → Bool) → test (second.worlds other_bound) is.joined.image ≡ true → test bound is.joined.image ≡ true
@@ -79,15 +80,10 @@ module _ (own other merged : Resolve) (bound other_bound : ℕ) (first second : 
 
   -- tests on the functions of the bound world
   own_functions : (p q : Function → Bool) → ((g h : Function) → IsFunctionCopy (itself own) g h → p g ≡ true → q h ≡ true) → list_all p (functions_of_world is.own_bound) ≡ true
-      → (list_all (λ (e : WorldKey × WorldItem). list_all q (option_to_list (item_function e.1))) own_imports ≡ true)
-      × (list_all (λ (e : WorldKey × WorldItem). list_all q (option_to_list (item_function e.1))) own_exports ≡ true)
+      → (list_all (on_function q) own_imports ≡ true) × (list_all (on_function q) own_exports ≡ true)
   own_functions p q one h =
-      let old = sym (by_entries p is.own_bound) ∙ h in
-      let each = λ (a b : WorldKey × WorldItem) (z : EntryBecomes (itself own) a b). entry_function ours.from merged ours.under ours.valid ours.carried below p q one a.1 b.1 z.1 in (
-        own_imports_pass (λ e. list_all p (option_to_list (item_function e.1))) (λ e. list_all q (option_to_list (item_function e.1))) each (first_true _ _ old),
-        own_exports_pass (λ e. list_all p (option_to_list (item_function e.1))) (λ e. list_all q (option_to_list (item_function e.1))) each
-            (second_true (list_all (λ (e : WorldKey × WorldItem). list_all p (option_to_list (item_function e.1))) own_imports) _ old),
-      )
+      let each = λ (a b : WorldKey × WorldItem) (z : EntryBecomes (itself own) a b). entry_function ours.from merged ours.under ours.valid ours.carried below p q one a.1 b.1 z.1 in
+      own_sides_pass (on_function p) (on_function q) (on_function p) (on_function q) each each (sym (by_entries p is.own_bound) ∙ h)
 
   -- ---- labels
 
@@ -124,8 +120,8 @@ module _ (own other merged : Resolve) (bound other_bound : ℕ) (first second : 
   owners_kept =
       let own_part = own_functions (function_stays own (as_world bound)) (function_stays merged (as_world bound))
       (λ g h c. function_stays_passes ours.from merged ours.under ours.valid ours.carried below g h c (as_world bound)) (world-passes owners own valid_own.owners bound is.own_bound is.bound_at) in
-      let at = λ (es : List (WorldKey × WorldItem)). λ (h : list_all (λ (e : WorldKey × WorldItem). list_all (function_stays merged (as_world bound)) (option_to_list (item_function e.1))) es ≡ true).
-      subst (λ (k : ℕ). list_all (λ (e : WorldKey × WorldItem). list_all (function_stays merged (as_world k)) (option_to_list (item_function e.1))) es ≡ true) (sym is.bound_there) h in
+      let at = λ (es : List (WorldKey × WorldItem)). λ (h : list_all (on_function (function_stays merged (as_world bound))) es ≡ true).
+      ap (λ k. list_all (on_function (function_stays merged (as_world k))) es) is.bound_there ∙ h in
       kept owners merged (free_passes merged 0 merged.packages.items)
       (each_interface own other merged bound other_bound first second left_out valid_own valid_other is (owners.interface_ merged)
       (λ c n copy. interface_owners_pass c.from merged c.under c.valid c.carried below n copy))
@@ -172,19 +168,17 @@ module _ (own other merged : Resolve) (bound other_bound : ℕ) (first second : 
   function_names_kept =
       let p = λ (e : WorldKey × WorldItem). passes (λ g. is_name_key (text_of g.name) e.0 && is_member own (as_world bound) g) (item_function e.1) in
       let q = λ (e : WorldKey × WorldItem). passes (λ g. is_name_key (text_of g.name) e.0 && is_member merged (as_world bound) g) (item_function e.1) in
-      let old : (list_all p own_imports && list_all p own_exports) ≡ true =
-      sym (list_all-append p own_imports own_exports) ∙ world-passes function_names own valid_own.function_names bound is.own_bound is.bound_at in
       let each = entry_member ours.from merged ours.under ours.valid ours.carried below bound in
-      let at = λ (es : List (WorldKey × WorldItem)). λ (h : list_all q es ≡ true). subst
-      (λ (k : ℕ). list_all (λ (e : WorldKey × WorldItem). passes (λ g. is_name_key (text_of g.name) e.0 && is_member merged (as_world k) g) (item_function e.1)) es ≡ true)
-      (sym is.bound_there) h in
+      let own_part = own_sides_pass p q p q each each (sym (list_all-append p own_imports own_exports) ∙ world-passes function_names own valid_own.function_names bound is.own_bound is.bound_at) in
+      let at = λ (es : List (WorldKey × WorldItem)). λ (h : list_all q es ≡ true).
+      ap (λ k. list_all (λ (e : WorldKey × WorldItem). passes (λ g. is_name_key (text_of g.name) e.0 && is_member merged (as_world k) g) (item_function e.1)) es) is.bound_there ∙ h in
       kept function_names merged (free_passes merged 0 merged.packages.items)
       (each_interface own other merged bound other_bound first second left_out valid_own valid_other is (function_names.interface_ merged)
       (λ c n copy. interface_members_pass c.from merged c.under c.valid c.carried below n copy))
       (each_joined own other merged bound other_bound first second left_out valid_own valid_other is (function_names.world_ merged)
       (λ c n j. world_members_pass c.from merged c.under c.valid c.carried below n [] [] j refl refl)
       (at_bound (function_names.world_ merged) (world_members_pass other merged second valid_other is.second_copies.carried below other_bound own_imports own_exports is.joined
-      (at own_imports (own_imports_pass p q each (first_true _ _ old))) (at own_exports (own_exports_pass p q each (second_true (list_all p own_imports) _ old))))))
+      (at own_imports own_part.0) (at own_exports own_part.1))))
       (free_passes merged 0 merged.types.items)
 
   -- ---- items
@@ -192,18 +186,14 @@ module _ (own other merged : Resolve) (bound other_bound : ℕ) (first second : 
   pub world_items_kept : Keeps world_items merged
   unfolding world_items
   world_items_kept =
-      let p = λ (e : WorldKey × WorldItem). import_stands own bound e.0 e.1 in
-      let q = λ (e : WorldKey × WorldItem). import_stands merged bound e.0 e.1 in
-      let old : (list_all p own_imports && list_all (λ (e : WorldKey × WorldItem). export_stands own e.0 e.1) own_exports) ≡ true =
-      world-passes world_items own valid_own.world_items bound is.own_bound is.bound_at in
+      let own_part = own_sides_pass (λ e. import_stands own bound e.0 e.1) (λ e. import_stands merged bound e.0 e.1) (λ e. export_stands own e.0 e.1) (λ e. export_stands merged e.0 e.1)
+      (entry_import_stands ours.from merged ours.under ours.valid ours.carried below bound) (entry_export_stands ours.from merged ours.under ours.valid ours.carried below)
+      (world-passes world_items own valid_own.world_items bound is.own_bound is.bound_at) in
       kept world_items merged (free_passes merged 0 merged.packages.items) (free_passes merged 0 merged.interfaces.items)
       (each_joined own other merged bound other_bound first second left_out valid_own valid_other is (world_items.world_ merged)
       (λ c n j. world_items_pass c.from merged c.under c.valid c.carried below n [] [] j refl refl)
       (at_bound (world_items.world_ merged) (world_items_pass other merged second valid_other is.second_copies.carried below other_bound own_imports own_exports is.joined
-      (subst (λ (k : ℕ). list_all (λ (e : WorldKey × WorldItem). import_stands merged k e.0 e.1) own_imports ≡ true) (sym is.bound_there)
-      (own_imports_pass p q (entry_import_stands ours.from merged ours.under ours.valid ours.carried below bound) (first_true _ _ old)))
-      (own_exports_pass (λ e. export_stands own e.0 e.1) (λ e. export_stands merged e.0 e.1) (entry_export_stands ours.from merged ours.under ours.valid ours.carried below)
-      (second_true (list_all p own_imports) _ old)))))
+      (ap (λ k. list_all (λ (e : WorldKey × WorldItem). import_stands merged k e.0 e.1) own_imports) is.bound_there ∙ own_part.0) own_part.1)))
       (free_passes merged 0 merged.types.items)
 
   -- ---- order of items

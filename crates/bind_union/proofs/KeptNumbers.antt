@@ -8,6 +8,8 @@ use Rattle.indexmap.specs.IndexMap.{values}
 use Rattle.wit_model.specs.declared.model.Resolve.{Resolve}
 use Rattle.wit_model.specs.declared.model.Interface.{Interface}
 use Rattle.wit_model.specs.declared.model.World.{World}
+use Rattle.wit_model.specs.declared.model.WorldKey.{WorldKey}
+use Rattle.wit_model.specs.declared.model.WorldItem.{WorldItem}
 use Rattle.wit_model.specs.declared.model.TypeId.{TypeId}
 use Rattle.wit_model.specs.declared.model.TypeOwner.{TypeOwner}
 use Rattle.wit_model.specs.declared.model.TypeOwner.TheVariants as owner
@@ -27,7 +29,7 @@ use Rattle.bind_union.proofs.EntryRules.{entry_range}
 use Rattle.bind_union.proofs.WorldRules.{world_range_passes, all_true}
 use Rattle.bind_union.proofs.Itself.{get_begin}
 use Rattle.bind_union.proofs.Sources.{each_type_of_three, Source, own_joined, each_world, each_interface_of_three}
-use Rattle.bind_union.proofs.Kept.{kept, own_imports_pass, own_exports_pass}
+use Rattle.bind_union.proofs.Kept.{kept, own_sides_pass}
 use Rattle.bind_union.proofs.KeptTypes.{ours, once, twice, below_s}
 use Rattle.bind_union.proofs.KeptPackages.{all_stand, ranges_hold}
 use Rattle.base_lemmas.proofs.Bools.{left_of as first_true, right_of as second_true}
@@ -155,6 +157,10 @@ module _ (own other merged : Resolve) (bound other_bound : ℕ) (first second : 
   pub numbers_in_range_kept : Keeps numbers_in_range merged
   unfolding numbers_in_range
   numbers_in_range_kept =
+      let in_range = λ (e : WorldKey × WorldItem). key_in_range merged e.0 && item_in_range merged e.1 in
+      let each = entry_range our.from merged our.under our.valid our.carried below in
+      let own_part = own_sides_pass own other merged bound other_bound first second left_out valid_own valid_other is (λ e. true) in_range (λ e. true) in_range each each
+      (both _ _ (all_true is.own_bound.imports.entries) (all_true is.own_bound.exports.entries)) in
       kept numbers_in_range merged
       (each_by_number (numbers_in_range.package_ merged) merged.packages.items (λ n q e.
       let h = all_stand own other merged bound other_bound first second left_out valid_own valid_other is n q e in
@@ -192,10 +198,7 @@ module _ (own other merged : Resolve) (bound other_bound : ℕ) (first second : 
       (both _ _ (ap (λ p. passes (in_list merged.packages.items) (package_number p)) is.bound_package ∙ own_package (package_number is.own_bound.«package»)
       (world_package own valid_own bound is.own_bound is.bound_at))
       (world_range_passes other merged second valid_other is.second_copies.carried below other_bound is.own_bound.imports.entries is.own_bound.exports.entries is.joined
-      (own_imports_pass own other merged bound other_bound first second left_out valid_own valid_other is (λ e. true) (λ e. key_in_range merged e.0 && item_in_range merged e.1)
-      (entry_range our.from merged our.under our.valid our.carried below) (all_true is.own_bound.imports.entries))
-      (own_exports_pass own other merged bound other_bound first second left_out valid_own valid_other is (λ e. true) (λ e. key_in_range merged e.0 && item_in_range merged e.1)
-      (entry_range our.from merged our.under our.valid our.carried below) (all_true is.own_bound.exports.entries))))))
+      own_part.0 own_part.1))))
       (each_type_of_three own other merged bound other_bound first second left_out valid_own valid_other is (numbers_in_range.type_ merged)
       (λ n copy. type_in_range our n copy own_worlds_there)
       (λ n copy. type_in_range the_first n copy first_worlds_there)
