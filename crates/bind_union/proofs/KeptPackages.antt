@@ -15,8 +15,8 @@ use Rattle.wit_model.specs.declared.model.WorldId.{WorldId}
 use Rattle.wit_model.specs.declared.model.World.{World}
 use Rattle.wit_model.specs.Text.{Text, text_of, text_eq}
 use Rattle.wit_model.specs.Lookup.{package_at, interface_at, world_at}
-use Rattle.wit_model.specs.Rules.{passes, in_list, is_id, text_is, package_number, interface_belongs, world_belongs, names_itself, is_world_name}
-use Rattle.wit_model.specs.Valid.{Keeps, KeepsRules, is_place, numbers_in_range, places, names_in_packages}
+use Rattle.wit_model.specs.Rules.{each_from, passes, in_list, is_id, text_is, package_number, interface_belongs, world_belongs, names_itself, is_world_name}
+use Rattle.wit_model.specs.Valid.{Rule, Keeps, KeepsRules, is_place, numbers_in_range, places, names_in_packages}
 use Rattle.wit_model.proofs.Entries.{free_passes}
 use Rattle.wit_model.proofs.OnePath.{found-in, package-passes}
 use Rattle.bind_union.specs.Carried.{Renumbering}
@@ -25,13 +25,16 @@ use Rattle.bind_union.proofs.Lists.{no_true}
 use Rattle.bind_union.proofs.EntryRules.{text_alike}
 use Rattle.bind_union.proofs.ViewTests.{id_under}
 use Rattle.bind_union.proofs.Itself.{get_begin}
-use Rattle.bind_union.proofs.Kept.{kept}
 use Rattle.bind_union.proofs.PackageNames.{names_pass}
 use Rattle.base_lemmas.proofs.Bools.{left_of as first_true, right_of as second_true}
 use Rattle.base_lemmas.proofs.Elements.{all_three, all_weaker, all_two}
 use Rattle.base_lemmas.proofs.Numbers.{equal}
 use Rattle.wit_model.proofs.RulesLemmas.{each_by_number}
 use Rattle.wit_model.proofs.TextLemmas.{named_too}
+
+pub kept : (rule : Rule) (s : Resolve) → each_from (rule.package_ s) 0 s.packages.items ≡ true → each_from (rule.interface_ s) 0 s.interfaces.items ≡ true
+    → each_from (rule.world_ s) 0 s.worlds.items ≡ true → each_from (rule.type_ s) 0 s.types.items ≡ true → Keeps rule s
+kept rule s ps is ws ts = both _ _ ps (both _ _ is (both _ _ ws ts))
 
 -- the interface is there, and has this name and this package
 abbrev pub is_interface_of : Resolve → ℕ → Text × ℕ → Bool

@@ -30,10 +30,8 @@ use Rattle.bind_union.proofs.Lists.{no_true}
 use Rattle.bind_union.proofs.WorldOrder.{items, numbers_append, interfaces_in}
 use Rattle.bind_union.proofs.Homes.{apart}
 use Rattle.bind_union.proofs.Itself.{get_begin, world_range}
-use Rattle.bind_union.proofs.Sources.{each_interface_of_three, each_world}
-use Rattle.bind_union.proofs.Kept.{kept}
-use Rattle.bind_union.proofs.KeptPackages.{is_interface_of, is_world_of, interfaces_stand, worlds_stand, all_stand, places_hold, found_option}
-use Rattle.bind_union.proofs.KeptNumbers.{interface_package, world_package}
+use Rattle.bind_union.proofs.Kept.{each_interface_of_three, each_world, interface_package, world_package}
+use Rattle.bind_union.proofs.KeptPackages.{kept, is_interface_of, is_world_of, interfaces_stand, worlds_stand, all_stand, places_hold, found_option}
 use Rattle.bind_union.proofs.PackageNames.{added_from, name_append, interfaces_by_name, worlds_by_name, world_name_listed, found_name, still_found, copy_found, found_behind}
 use Rattle.bind_union.proofs.Shown.{one_sums, one_of_sum, shown, times_are, counted_append, none_counted, none_added, past_range, range_interfaces, same_times}
 use Rattle.base_lemmas.proofs.Bools.{left_of as first_true, right_of as second_true, or_false}

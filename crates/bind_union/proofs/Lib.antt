@@ -22,8 +22,6 @@ mod InOrder
 pub mod UsedInterfaces
 -- What the rules ask of an interface holds of its copy. Serves Kept, KeptNumbers, KeptTypes, Listed and 2 more.
 mod InterfaceRules
--- Each type, interface and world of what was merged is a copy: of an own one, or of one of the other's, once or twice. Serves Kept, KeptNumbers, KeptPlaces, KeptTypes and 1 more.
-mod Sources
 -- What an item of a world uses stands before it where its copy stands, too. Serves Kept, KeptPlaces, KeptTypes, Listed and 2 more.
 mod WorldOrder
 -- What the rules ask of a world holds of one in which another's entries stand. Serves Kept, KeptNumbers, KeptTypes; crates above.
@@ -43,10 +41,6 @@ pub mod BoundMeanings
 pub mod PackageNames
 -- What stands in the packages of what was merged has its name and its package there. Serves KeptNumbers, KeptPlaces, United, UnitedWorlds and 1 more; crates above.
 pub mod KeptPackages
--- What was merged keeps the rule on the order of types. Serves KeptNumbers, Valid.
-mod KeptTypes
--- In what was merged every number is in range. Serves KeptPlaces, UnitedWorlds, Valid.
-mod KeptNumbers
 -- In what was merged no two packages have one name. Serves Valid.
 mod KeptPackageNames
 -- How often an interface is an item of a world in which another's entries stand. Serves KeptPlaces.

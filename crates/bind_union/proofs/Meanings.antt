@@ -41,8 +41,7 @@ use Rattle.bind_union.proofs.Lists.{no_true}
 use Rattle.bind_union.proofs.Images.{same_declarations}
 use Rattle.bind_union.proofs.Carrying.{references_of, refers_below, carried_types, type_tree_same, path_same}
 use Rattle.bind_union.proofs.Itself.{itself, carried_itself}
-use Rattle.bind_union.proofs.Sources.{Source, own_source, own_joined}
-use Rattle.bind_union.proofs.Kept.{below}
+use Rattle.bind_union.proofs.Kept.{Source, own_source, own_joined, below}
 use Rattle.base_lemmas.proofs.Bools.{left_of as first_true, right_of as second_true}
 use Rattle.base_lemmas.proofs.Elements.{zip_map}
 use Rattle.base_lemmas.proofs.Numbers.{unequal, equal}

@@ -24,9 +24,8 @@ use Rattle.bind_union.specs.Merged.{world_names, is_name, JoinedNames, none, met
 use Rattle.bind_union.specs.Meanings.{ShowsWorld, ShowsNoWorld, WorldsAreUnited}
 use Rattle.bind_union.proofs.Lists.{no_true}
 use Rattle.bind_union.proofs.Carrying.{path_by, same_path_by, same_identity}
-use Rattle.bind_union.proofs.Kept.{below}
+use Rattle.bind_union.proofs.Kept.{below, world_package}
 use Rattle.bind_union.proofs.KeptPackages.{is_world_of, worlds_stand, found_option}
-use Rattle.bind_union.proofs.KeptNumbers.{world_package}
 use Rattle.bind_union.proofs.KeptPlaces.{world_case, own_world_low}
 use Rattle.bind_union.proofs.PackageNames.{joined_name, worlds_by_name, found_name, copy_found}
 use Rattle.bind_union.proofs.Listed.{under_text}
