@@ -33,10 +33,8 @@ use Rattle.wit_model.specs.Text.{text_of, Text, optional_text}
 use Rattle.wit_model.specs.Names.{is_label}
 use Rattle.wit_model.proofs.Elements.{none-in}
 use Rattle.bind_union.proofs.Lists.{no_true}
-use Rattle.bind_union.proofs.TypeRules.{shape_passes, named_passes, handle_passes, depth_passes, label_passes, stay_passes, stability_alike}
-use Rattle.bind_union.proofs.InterfaceRules.{interface_labels_pass, interface_owners_pass, interface_handles_pass, interface_depths_pass, interface_members_pass, interface_order_passes, all_named_of, number_uses, type_numbers, all_copies, copies_carried, each_function}
-use Rattle.bind_union.proofs.FunctionRules.{function_stays_passes, function_handles_pass, function_depths_pass, function_range_passes}
-use Rattle.bind_union.proofs.EntryRules.{added_pass, entry_function, entry_member, entry_import_stands, entry_export_stands, entry_range}
+use Rattle.bind_union.proofs.CopyRules.{shape_passes, named_passes, handle_passes, depth_passes, label_passes, stay_passes, stability_alike, function_stays_passes, function_handles_pass, function_depths_pass, function_range_passes, added_pass, entry_function, entry_member, entry_import_stands, entry_export_stands, entry_range}
+use Rattle.bind_union.proofs.InterfaceRules.{interface_labels_pass, interface_owners_pass, interface_handles_pass, interface_depths_pass, interface_members_pass, interface_order_passes, all_named_of, number_uses, type_numbers, all_copies, copies_carried, each_function, after_weaker}
 use Rattle.bind_union.proofs.WorldOrder.{items, number_in, walk, item_stands, numbers_append, types_in}
 use Rattle.bind_union.proofs.WorldRules.{on_function, by_entries, world_labels_pass, world_owners_pass, world_handles_pass, world_depths_pass, world_members_pass, world_items_pass, world_order_passes, world_types_pass, world_range_passes, all_true}
 use Rattle.base_lemmas.proofs.Bools.{left_of as first_true, right_of as second_true, or_false}
@@ -50,7 +48,6 @@ use Rattle.wit_model.specs.declared.model.TypeOwner.{TypeOwner}
 use Rattle.wit_model.specs.declared.model.TypeOwner.TheVariants as owner
 use Rattle.wit_model.specs.Uses.{has}
 use Rattle.std.proofs.lemmas.List.{map-append}
-use Rattle.bind_union.proofs.InOrder.{after_weaker}
 use Rattle.bind_union.proofs.Shown.{none_added, past_range, range_types}
 use Rattle.bind_union.proofs.Listed.{listed_in_interface, listed_in_world, stays_listed}
 use Rattle.indexmap.specs.IndexMap.{values}

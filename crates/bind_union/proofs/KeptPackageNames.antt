@@ -17,12 +17,11 @@ use Rattle.wit_model.proofs.Entries.{free_passes}
 use Rattle.wit_model.proofs.OnePath.{package-passes}
 use Rattle.bind_union.specs.Carried.{Renumbering, IsSameName}
 use Rattle.bind_union.specs.Merged.{PackageStands, grown, brought, IsKeptPackage, IsPackageOf, IsMerged}
-use Rattle.bind_union.proofs.TypeRules.{version_alike, are_parts}
+use Rattle.bind_union.proofs.CopyRules.{version_alike, are_parts}
 use Rattle.bind_union.proofs.KeptPackages.{kept}
 use Rattle.base_lemmas.proofs.Bools.{left_of as first_true, right_of as second_true}
 use Rattle.base_lemmas.proofs.Numbers.{equal, same-number}
-use Rattle.wit_model.proofs.RulesLemmas.{each_at, each_by_number}
-use Rattle.wit_model.proofs.RulesLemmas.{name_flip}
+use Rattle.wit_model.proofs.RulesLemmas.{each_at, each_by_number, name_flip}
 
 -- ---- names by their texts
 

@@ -22,7 +22,7 @@ use Rattle.wit_model.proofs.OnePath.{found-in, package-passes}
 use Rattle.bind_union.specs.Carried.{Renumbering}
 use Rattle.bind_union.specs.Merged.{interface_names, world_names, IsJoinedPackage, PackageStands, grown, brought, IsKeptPackage, IsPackageOf, IsMerged}
 use Rattle.bind_union.proofs.Lists.{no_true}
-use Rattle.bind_union.proofs.EntryRules.{text_alike}
+use Rattle.bind_union.proofs.CopyRules.{text_alike}
 use Rattle.bind_union.proofs.ViewTests.{id_under}
 use Rattle.bind_union.proofs.Itself.{get_begin}
 use Rattle.bind_union.proofs.PackageNames.{names_pass}

@@ -10,18 +10,10 @@ pub mod ViewTests
 pub mod Carrying
 -- What is carried keeps its owner, and a resource stays one. Serves FunctionRules, InOrder, Listed, Namesakes and 6 more; crates above.
 pub mod Homes
--- What the rules ask of a type holds of its copy. Serves EntryRules, FunctionRules, InterfaceRules, Kept and 1 more.
-pub mod TypeRules
--- What the rules ask of a function holds of its copy. Serves EntryRules, InterfaceRules, Kept, KeptNumbers and 5 more.
-mod FunctionRules
--- What the rules ask of an entry of a world holds of its copy. Serves Kept, KeptNumbers, KeptPackages, WorldRules.
-mod EntryRules
--- Lists of numbers and of entries under new numbers. Serves InterfaceRules, KeptTypes, Listed.
-mod InOrder
--- What an interface uses, under its new number. Serves InterfaceRules, Listed, WorldOrder.
-pub mod UsedInterfaces
--- What the rules ask of an interface holds of its copy. Serves Kept, KeptNumbers, KeptTypes, Listed and 2 more.
-mod InterfaceRules
+-- What the rules ask of a type, of a function and of an entry of a world holds of its copy.
+pub mod CopyRules
+-- What an interface uses, and what the rules ask of it, holds of its copy, with its numbers in order.
+pub mod InterfaceRules
 -- What an item of a world uses stands before it where its copy stands, too. Serves Kept, KeptPlaces, KeptTypes, Listed and 2 more.
 mod WorldOrder
 -- What the rules ask of a world holds of one in which another's entries stand. Serves Kept, KeptNumbers, KeptTypes; crates above.

@@ -20,9 +20,8 @@ use Rattle.bind_union.specs.Carried.{Renumbering, KeyBecomes, IsInterface, IsCar
 use Rattle.bind_union.specs.Joined.{is_new, same_key, Joined, none, met, added, IsJoined}
 use Rattle.bind_union.proofs.Lists.{no_true}
 use Rattle.bind_union.proofs.Homes.{apart}
-use Rattle.bind_union.proofs.InOrder.{count_same}
+use Rattle.bind_union.proofs.InterfaceRules.{count_same, copies_carried, type_numbers}
 use Rattle.bind_union.proofs.InterfaceRules as interface_rules
-use Rattle.bind_union.proofs.InterfaceRules.{copies_carried, type_numbers}
 use Rattle.bind_union.proofs.ViewTests.{id_under}
 use Rattle.bind_union.proofs.WorldOrder.{items, types_in, becomes, id_stands}
 use Rattle.bind_union.proofs.Shown.{counted_append, counted_numbers, none_counted, met_is_other, same_times}

@@ -18,10 +18,9 @@ use Rattle.wit_model.proofs.Owners.{all_filter}
 use Rattle.bind_union.specs.Carried.{Renumbering, ItemBecomes, EntryBecomes, IsCarried}
 use Rattle.bind_union.specs.Joined.{ItemStandsFor, Joined, none, met, added}
 use Rattle.bind_union.proofs.Homes.{owner_back}
-use Rattle.bind_union.proofs.FunctionRules.{function_uses}
+use Rattle.bind_union.proofs.CopyRules.{function_uses}
 use Rattle.bind_union.proofs.ViewTests.{id_under}
-use Rattle.bind_union.proofs.UsedInterfaces.{deps_there, interface_used_there, given_contains}
-use Rattle.bind_union.proofs.InterfaceRules.{number_uses}
+use Rattle.bind_union.proofs.InterfaceRules.{deps_there, interface_used_there, given_contains, number_uses}
 use Rattle.base_lemmas.proofs.Bools.{left_of as first_true, right_of as second_true, or_false}
 use Rattle.base_lemmas.proofs.Elements.{all_two, all_weaker, contains-map}
 use Rattle.wit_model.proofs.Lists.{list_all_filter_map}
