@@ -1,5 +1,5 @@
 -- Each type, interface and world of what was merged is a copy, of an own one or of one of the other's, and so most rules are kept.
-use Rattle.std.proofs.Common.{◌≡◌, inl, inr, refl, sym, ap, subst, ◌∙◌, ℕ, ◌<◌, Bool, true, false, ◌==◌, nat_lt, ltb-true, [], length, Some, ◌&&◌, not, List, ◌++◌, option_to_list, ◌≤◌, arith, ◌||◌, Option, None, filter_map, map, option_map}
+use Rattle.std.proofs.Common.{◌≡◌, inl, inr, refl, sym, ap, subst, ◌∙◌, ℕ, ◌<◌, Bool, true, false, ◌==◌, nat_lt, ltb-true, [], length, Some, ◌&&◌, not, List, ◌++◌, ◌≤◌, arith, ◌||◌, Option, None, filter_map, map, option_map}
 use Rattle.std.specs.List.{list_all}
 use Rattle.std.proofs.lemmas.Bool.{lt-ltb, cases_lt as low_or_high, and_from as both}
 use Rattle.std.proofs.lemmas.Option.{slice_get_within, same_Some as same-some}
@@ -11,7 +11,7 @@ use Rattle.wit_model.specs.declared.model.TypeDef.{TypeDef}
 use Rattle.wit_model.specs.Lookup.{interface_at, world_at, type_at}
 use Rattle.wit_model.specs.Parts.{kind_numbers, function_types, is_resource_type, same_owner}
 use Rattle.wit_model.specs.Rules.{each_from, passes, each_after, is_stability, entries_labels, is_name_key, is_shallow, is_member, function_stays, import_stands, export_stands, uses_stand_before, is_id, in_list, entries_in_range, item_type, world_type_numbers, is_named_of, is_listed, is_listed_in_interface, is_listed_in_world, used_by_number, are_in_order, package_number, owner_in_range, function_in_range, interface_type_numbers, key_in_range, item_in_range}
-use Rattle.wit_model.specs.Valid.{Keeps, KeepsRules, Rule, as_world, item_function, functions_of_world, labels, owners, shapes, named_kinds, handles, depths, function_names, world_items, order_of_items, order_of_types, is_place, functions_of_interface, numbers_in_range}
+use Rattle.wit_model.specs.Valid.{Keeps, KeepsRules, as_world, item_function, functions_of_world, labels, owners, shapes, named_kinds, handles, depths, function_names, world_items, order_of_items, order_of_types, is_place, functions_of_interface, numbers_in_range}
 use Rattle.wit_model.specs.Checks.{references}
 use Rattle.wit_model.proofs.Checks.{below_at}
 use Rattle.wit_model.proofs.Entries.{types_keep, free_passes}
@@ -23,8 +23,8 @@ use Rattle.bind_union.proofs.Images.{numbers_of_view}
 use Rattle.bind_union.proofs.ViewTests.{numbers_same}
 use Rattle.bind_union.proofs.Carrying.{references_of}
 use Rattle.bind_union.proofs.Itself.{get_begin, itself, carried_itself, joined_itself, world_range, map_same}
-use Rattle.base_lemmas.proofs.Elements.{all_two}
-use Rattle.base_lemmas.proofs.Numbers.{equal}
+use Rattle.base_lemmas.proofs.Elements.{all_weaker, all_two}
+use Rattle.base_lemmas.proofs.Numbers.{unequal, equal}
 use Rattle.wit_model.proofs.RulesLemmas.{each_by_number}
 use Rattle.wit_model.specs.declared.model.Function.{Function}
 use Rattle.wit_model.specs.declared.model.WorldKey.{WorldKey}
@@ -35,7 +35,7 @@ use Rattle.wit_model.proofs.Elements.{none-in}
 use Rattle.bind_union.proofs.Lists.{no_true}
 use Rattle.bind_union.proofs.CopyRules.{shape_passes, named_passes, handle_passes, depth_passes, label_passes, stay_passes, stability_alike, function_stays_passes, function_handles_pass, function_depths_pass, function_range_passes, added_pass, entry_function, entry_member, entry_import_stands, entry_export_stands, entry_range}
 use Rattle.bind_union.proofs.InterfaceRules.{interface_labels_pass, interface_owners_pass, interface_handles_pass, interface_depths_pass, interface_members_pass, interface_order_passes, all_named_of, number_uses, type_numbers, all_copies, copies_carried, each_function, after_weaker}
-use Rattle.bind_union.proofs.WorldOrder.{items, number_in, walk, item_stands, numbers_append, types_in}
+use Rattle.bind_union.proofs.WorldOrder.{items, number_in, walk, item_stands, numbers_append, types_in, none_added, past_range, range_types}
 use Rattle.bind_union.proofs.WorldRules.{on_function, by_entries, world_labels_pass, world_owners_pass, world_handles_pass, world_depths_pass, world_members_pass, world_items_pass, world_order_passes, world_types_pass, world_range_passes, all_true}
 use Rattle.base_lemmas.proofs.Bools.{left_of as first_true, right_of as second_true, or_false}
 use Rattle.wit_model.proofs.Shown.{after_append}
@@ -48,7 +48,6 @@ use Rattle.wit_model.specs.declared.model.TypeOwner.{TypeOwner}
 use Rattle.wit_model.specs.declared.model.TypeOwner.TheVariants as owner
 use Rattle.wit_model.specs.Uses.{has}
 use Rattle.std.proofs.lemmas.List.{map-append}
-use Rattle.bind_union.proofs.Shown.{none_added, past_range, range_types}
 use Rattle.bind_union.proofs.Listed.{listed_in_interface, listed_in_world, stays_listed}
 use Rattle.indexmap.specs.IndexMap.{values}
 use Rattle.wit_model.specs.declared.model.TypeId.{TypeId}
@@ -80,11 +79,7 @@ fresh_added : (f : Renumbering) (own : List (WorldKey × WorldItem)) (k : ℕ) �
 fresh_added f own k new n low olds news j = none_added f (types_in f) own olds news j n (λ a c e. let high = new a c in omega (arith, high, low, e))
 
 place_below : (n k : ℕ) → n < k → k ≤ 4294967295 → is_place n ≡ true
-place_below n k low few = go (n == 4294967295) refl
-  where
-    go : (b : Bool) → (n == 4294967295) ≡ b → not b ≡ true
-    go false e = refl
-    go true e = let same = equal n 4294967295 e in absurd (omega (arith, low, few, same))
+place_below n k low few = ap not (unequal n 4294967295 (λ e. omega (arith, low, few, e)))
 
 unowned : (f : Renumbering) (o : TypeOwner) → same_owner (owner_under f o) owner.None ≡ same_owner o owner.None
 unowned f (owner.World id) = refl
@@ -549,8 +544,8 @@ module _ (own other merged : Resolve) (bound other_bound : ℕ) (first second : 
   types_in_range : (c : Source merged) (ns : List ℕ) → list_all c.under.carries_type ns ≡ true → list_all (in_list merged.types.items) (map c.under.types ns) ≡ true
   types_in_range c ns h =
       list_all-map (in_list merged.types.items) c.under.types ns
-      ∙ all_two c.under.carries_type c.under.carries_type (λ n. in_list merged.types.items (c.under.types n))
-      (λ n d e. let t = c.carried.types n d in lt-ltb _ _ (slice_get_within merged.types.items (c.under.types n) t.image t.at_image)) ns h h
+      ∙ all_weaker c.under.carries_type (λ n. in_list merged.types.items (c.under.types n))
+      (λ n d. let t = c.carried.types n d in lt-ltb _ _ (slice_get_within merged.types.items (c.under.types n) t.image t.at_image)) ns h
 
   interface_in_range : (c : Source merged) (n : ℕ) (copy : c.under.copies_interface n ≡ true)
       → passes (in_list merged.packages.items) (package_number (c.carried.interfaces n (c.carried.copied_interfaces n copy)).image.«package») ≡ true

@@ -27,16 +27,15 @@ use Rattle.bind_union.specs.Carried.{Renumbering, IsInterface}
 use Rattle.bind_union.specs.Joined.{Joined, IsJoined}
 use Rattle.bind_union.specs.Merged.{interface_names, world_names, is_name, IsJoinedPackage, PackageStands, grown, brought, IsKeptPackage, IsPackageOf, IsCopyUnder, AreCopies, IsWorldCopy, IsMerged}
 use Rattle.bind_union.proofs.Lists.{no_true}
-use Rattle.bind_union.proofs.WorldOrder.{items, numbers_append, interfaces_in}
+use Rattle.bind_union.proofs.WorldOrder.{items, numbers_append, interfaces_in, one_sums, one_of_sum, shown, times_are, counted_append, none_counted, none_added, past_range, range_interfaces, same_times}
 use Rattle.bind_union.proofs.Homes.{apart}
 use Rattle.bind_union.proofs.Itself.{get_begin, world_range}
 use Rattle.bind_union.proofs.Kept.{each_interface_of_three, each_world, interface_package, world_package}
 use Rattle.bind_union.proofs.KeptPackages.{kept, is_interface_of, is_world_of, interfaces_stand, worlds_stand, all_stand, places_hold, found_option}
 use Rattle.bind_union.proofs.PackageNames.{added_from, name_append, interfaces_by_name, worlds_by_name, world_name_listed, found_name, still_found, copy_found, found_behind}
-use Rattle.bind_union.proofs.Shown.{one_sums, one_of_sum, shown, times_are, counted_append, none_counted, none_added, past_range, range_interfaces, same_times}
 use Rattle.base_lemmas.proofs.Bools.{left_of as first_true, right_of as second_true, or_false}
 use Rattle.base_lemmas.proofs.Elements.{all-contained, all_by_number as all_by_get, get-contains}
-use Rattle.base_lemmas.proofs.Numbers.{equal, same-number}
+use Rattle.base_lemmas.proofs.Numbers.{differ, unequal, equal, same-number}
 use Rattle.wit_model.proofs.RulesLemmas.{each_by_number}
 use Rattle.wit_model.proofs.TextLemmas.{text_same as text-same}
 use Rattle.wit_model.proofs.ValidLemmas.{world_passes as world-passes}
@@ -314,23 +313,21 @@ module _ (own other merged : Resolve) (bound other_bound : ℕ) (first second : 
   -- ---- inline interfaces
 
   -- each world is an own one, the bound one or a copy
-  pub world_case : (k : ℕ) (y : World) → world_at merged k ≡ Some y
-      → ((world_at own k ≡ Some y) × ((k == bound) ≡ false)) ⊎ (((k ≡ bound) × (is.joined.image ≡ y))
+  abbrev pub WorldCase : ℕ → World → Type 0
+  WorldCase k y = ((world_at own k ≡ Some y) × ((k == bound) ≡ false)) ⊎ (((k ≡ bound) × (is.joined.image ≡ y))
       ⊎ ((m : ℕ) × (c : first.carries_world m ≡ true) × (first.worlds m ≡ k) × ((is.first_worlds m c).joined.image ≡ y)))
+
+  pub world_case : (k : ℕ) (y : World) → world_at merged k ≡ Some y → WorldCase k y
   world_case k y e = elim (low_or_high k (length own.worlds.items)) [
     | inl low ↦ own_one (k == bound) refl (found-in own.worlds.items k (lt-ltb k (length own.worlds.items) low))
     | inr high ↦ copied (is.world_from k high (slice_get_within merged.worlds.items k y e))
   ]
     where
-      own_one : (b : Bool) → (k == bound) ≡ b → (x : World) × (world_at own k ≡ Some x)
-          → ((world_at own k ≡ Some y) × ((k == bound) ≡ false)) ⊎ (((k ≡ bound) × (is.joined.image ≡ y))
-          ⊎ ((m : ℕ) × (c : first.carries_world m ≡ true) × (first.worlds m ≡ k) × ((is.first_worlds m c).joined.image ≡ y)))
+      own_one : (b : Bool) → (k == bound) ≡ b → (x : World) × (world_at own k ≡ Some x) → WorldCase k y
       own_one false apart x = inl (x.1 ∙ ap Some (same-some x.0 y (sym (is.worlds k x.0 x.1 apart) ∙ e)), apart)
       own_one true same x = let here = equal k bound same in inr (inl (here, same-some is.joined.image y (sym is.joined.at_image ∙ (ap (world_at merged) (is.bound_there ∙ sym here) ∙ e))))
 
-      copied : IsCopyUnder first.worlds first.carries_world k
-          → ((world_at own k ≡ Some y) × ((k == bound) ≡ false)) ⊎ (((k ≡ bound) × (is.joined.image ≡ y))
-          ⊎ ((m : ℕ) × (c : first.carries_world m ≡ true) × (first.worlds m ≡ k) × ((is.first_worlds m c).joined.image ≡ y)))
+      copied : IsCopyUnder first.worlds first.carries_world k → WorldCase k y
       copied c = let j = (is.first_worlds c.0 c.1).joined in inr (inr (c.0, c.1, c.2, same-some j.image y (sym j.at_image ∙ (ap (world_at merged) c.2 ∙ e))))
 
   -- an inline interface that is shown anew is a copy
@@ -383,8 +380,7 @@ module _ (own other merged : Resolve) (bound other_bound : ℕ) (first second : 
       let whole = joined_times first m [] [] j t in
       let a = not_among first is.first_copies [] j.old.imports.entries j.new_imports j.joined_imports t v e inline none_such in
       let b = not_among first is.first_copies [] j.old.exports.entries j.new_exports j.joined_exports t v e inline none_such in
-      let none : shown t [] ≡ 0 = refl in
-      omega (arith, whole, a, b, none)
+      omega (arith, whole, a, b)
 
   -- an own world shows no copy
   past_times : (k : ℕ) (w : World) → world_at own k ≡ Some w → (t : ℕ) → length own.interfaces.items ≤ t → times_shown t w ≡ 0
@@ -483,9 +479,8 @@ module _ (own other merged : Resolve) (bound other_bound : ℕ) (first second : 
           let whole = joined_times first k [] [] v (first.interfaces m) in
           let a = same_copies first is.first_copies m copy [] refl v.old.imports.entries v.new_imports v.joined_imports in
           let b = same_copies first is.first_copies m copy [] refl v.old.exports.entries v.new_exports v.joined_exports in
-          let none : shown (first.interfaces m) [] ≡ 0 = refl in
           let all = times_are m v.old in
-          omega (arith, whole, a, b, none, all)
+          omega (arith, whole, a, b, all)
 
       one : times_shown (first.interfaces m) j.image ≡ 1
       one = same x.0 j ∙ (ap (times_shown m) old_is ∙ x.3)
@@ -501,13 +496,9 @@ module _ (own other merged : Resolve) (bound other_bound : ℕ) (first second : 
               (first.interfaces m) high)
           | inr v ↦
               let u = (is.first_worlds v.0 v.1).joined in
-              ap (times_shown (first.interfaces m)) (sym v.3) ∙ (same v.0 u ∙ x.5 v.0 u.old u.found (differs v.0 v.2 (v.0 == x.0) refl))
+              ap (times_shown (first.interfaces m)) (sym v.3) ∙ (same v.0 u ∙ x.5 v.0 u.old u.found (unequal v.0 x.0 (λ e. differ k (first.worlds x.0) apart (sym v.2 ∙ ap first.worlds e))))
         ]
       ]
-        where
-          differs : (n : ℕ) → first.worlds n ≡ k → (b : Bool) → (n == x.0) ≡ b → (n == x.0) ≡ false
-          differs n to false e = e
-          differs n to true e = no_true (sym apart ∙ subst (λ (z : ℕ). (z == first.worlds x.0) ≡ true) (ap first.worlds (sym (equal n x.0 e)) ∙ to) (same-number (first.worlds x.0)))
 
   -- those that are copied twice
   second_inline_holds : (m : ℕ) (copy : second.copies_interface m ≡ true) (i : IsInterface other merged second m) → i.old.name ≡ None → inline_by other m (package_number i.old.«package») ≡ true

@@ -14,8 +14,6 @@ pub mod Homes
 pub mod CopyRules
 -- What an interface uses, and what the rules ask of it, holds of its copy, with its numbers in order.
 pub mod InterfaceRules
--- What an item of a world uses stands before it where its copy stands, too. Serves Kept, KeptPlaces, KeptTypes, Listed and 2 more.
-mod WorldOrder
 -- What the rules ask of a world holds of one in which another's entries stand. Serves Kept, KeptNumbers, KeptTypes; crates above.
 pub mod WorldRules
 -- What was merged keeps the rules on labels, owners, shapes, named kinds, handles, depths, functions' names, items and their order. Serves BoundMeanings, KeptNumbers, KeptPackageNames, KeptPackages
@@ -31,18 +29,14 @@ pub mod Namesakes
 pub mod BoundMeanings
 -- Names in packages that were joined. Serves KeptPackages, KeptPlaces, United, UnitedWorlds; crates above.
 pub mod PackageNames
--- What stands in the packages of what was merged has its name and its package there. Serves KeptNumbers, KeptPlaces, United, UnitedWorlds and 1 more; crates above.
+-- What stands in the packages of what was merged has its name and its package there, and no two packages have one name.
 pub mod KeptPackages
--- In what was merged no two packages have one name. Serves Valid.
-mod KeptPackageNames
--- How often an interface is an item of a world in which another's entries stand. Serves KeptPlaces.
-mod Shown
+-- What an item of a world uses stands before it where its copy stands, too, and an interface or a type is an item there as often.
+mod WorldOrder
 -- In what was merged interfaces and worlds stand in their packages, and each inline interface in one world. Serves UnitedWorlds, Valid.
 mod KeptPlaces
--- Matched interfaces and their types stand in what begins with own lists, and numbers given in order rise. Serves laws::for_code; crates above.
+-- Matched interfaces and their types stand in what begins with own lists, numbers given in order rise, and entries and names are joined one by one.
 pub mod MatchedStand
--- Entries and names that are joined one by one, from the front. Serves laws::for_code.
-mod Steps
 -- What is merged of two valid ones is valid. Serves laws::merged_is_valid; crates above.
 pub mod Valid
 -- The interfaces of what was merged, by path, are those of both. Serves laws::meanings; crates above.

@@ -23,8 +23,7 @@ use Rattle.bind_union.proofs.Homes.{apart}
 use Rattle.bind_union.proofs.InterfaceRules.{count_same, copies_carried, type_numbers}
 use Rattle.bind_union.proofs.InterfaceRules as interface_rules
 use Rattle.bind_union.proofs.ViewTests.{id_under}
-use Rattle.bind_union.proofs.WorldOrder.{items, types_in, becomes, id_stands}
-use Rattle.bind_union.proofs.Shown.{counted_append, counted_numbers, none_counted, met_is_other, same_times}
+use Rattle.bind_union.proofs.WorldOrder.{items, types_in, becomes, id_stands, counted_append, counted_numbers, none_counted, met_is_other, same_times}
 use Rattle.base_lemmas.proofs.Bools.{left_of as first_true, right_of as second_true}
 use Rattle.base_lemmas.proofs.Maps.{lookup_of_map}
 use Rattle.std.proofs.lemmas.Bool.{and_from as both}

@@ -1,5 +1,5 @@
 -- The interfaces of what was merged, by path, are those of both.
-use Rattle.std.proofs.Common.{◌≡◌, refl, ◌⊎◌, inl, inr, sym, ap, subst, ◌∙◌, ℕ, zero, suc, ◌≤◌, arith, Bool, true, false, List, [], length, Option, Some, None, option_map, option_and_then}
+use Rattle.std.proofs.Common.{◌≡◌, refl, ◌⊎◌, inl, inr, sym, ap, ◌∙◌, ℕ, ◌≤◌, arith, Bool, true, false, [], length, Option, Some, None, option_map, option_and_then}
 use Rattle.std.specs.Prelude.{String}
 use Rattle.std.specs.declared.alloc.Global.{Global}
 use Rattle.std.specs.List.{Contains}
@@ -18,7 +18,7 @@ use Rattle.wit_model.specs.Checks.{references}
 use Rattle.wit_model.proofs.Elements.{none-in}
 use Rattle.wit_model.proofs.OnePath.{HasPath, has-path, path-listed, path-once, found-in}
 use Rattle.bind_union.specs.Carried.{Renumbering}
-use Rattle.bind_union.specs.Merged.{interface_names, JoinedNames, none, met, left, added, PackageStands, grown, brought, IsCopyUnder, IsMerged}
+use Rattle.bind_union.specs.Merged.{interface_names, PackageStands, grown, brought, IsCopyUnder, IsMerged}
 use Rattle.bind_union.specs.Meanings.{OwnMeansTheSame, CopiesMeanTheSame, Shows, ShowsNone, InterfacesAreUnited}
 use Rattle.bind_union.proofs.Lists.{no_true}
 use Rattle.bind_union.proofs.Carrying.{path_parts, path_by, same_identity, path_same}

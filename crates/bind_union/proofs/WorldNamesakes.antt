@@ -1,5 +1,5 @@
 -- Imports of one key and one sense stand for each other.
-use Rattle.std.proofs.Common.{arith, ◌≡◌, ◌⊎◌, inl, inr, refl, sym, ap, ◌∙◌, ℕ, Bool, true, false, ◌&&◌, ◌||◌, ◌==◌, not, nat_lt, [], ◌∷◌, Option, Some, None, option_map, option_and_then, is_some}
+use Rattle.std.proofs.Common.{arith, ◌≡◌, ◌⊎◌, inl, inr, refl, sym, ap, ◌∙◌, ℕ, Bool, true, false, ◌&&◌, ◌==◌, nat_lt, Option, Some, None, option_map, option_and_then, is_some}
 use Rattle.std.specs.Prelude.{String, count_by}
 use Rattle.std.specs.declared.alloc.Global.{Global}
 use Rattle.std.specs.List.{list_all, Contains}
@@ -13,29 +13,24 @@ use Rattle.wit_model.specs.declared.model.WorldKey.TheVariants as key
 use Rattle.wit_model.specs.declared.model.WorldItem.{WorldItem}
 use Rattle.wit_model.specs.declared.model.WorldItem.TheVariants as item
 use Rattle.wit_model.specs.declared.model.TypeDef.{TypeDef}
-use Rattle.wit_model.specs.declared.model.TypeOwner.{TypeOwner}
 use Rattle.wit_model.specs.declared.model.TypeOwner.TheVariants as owner
 use Rattle.wit_model.specs.Text.{Text, text_of, optional_text}
-use Rattle.wit_model.specs.Lookup.{interface_at, world_at, type_at, interface_path, place_of, place_of_path, key_text}
-use Rattle.wit_model.specs.Tree.{Declaration, type_, named}
-use Rattle.wit_model.specs.Types.{tree_at, trees_of, declaration_of}
-use Rattle.wit_model.specs.Parts.{kind_numbers, same_owner, has_owner, met_by, met_of, used_by_type}
-use Rattle.wit_model.specs.Uses.{alias_target, owner_interface, item_interface}
+use Rattle.wit_model.specs.Lookup.{world_at, type_at, interface_path, place_of, place_of_path, key_text}
+use Rattle.wit_model.specs.Tree.{Declaration, named}
+use Rattle.wit_model.specs.Types.{trees_of, declaration_of}
+use Rattle.wit_model.specs.Parts.{kind_numbers, same_owner}
+use Rattle.wit_model.specs.Uses.{alias_target, item_interface}
 use Rattle.wit_model.specs.Meaning.{Item, interface, inline, function, declares, Entry, InterfaceSense, item_sense}
 use Rattle.wit_model.specs.Meant.{type_meaning, type_meaning_at, no_type, interface_item, interface_meaning_at, item_meaning}
-use Rattle.wit_model.specs.Rules.{passes, is_id, text_is, is_name_key, item_type, key_in_range, item_in_range, world_type_numbers, is_listed, is_listed_in_world, import_stands, export_stands, is_use}
-use Rattle.wit_model.specs.Valid.{IsValid, as_interface, as_world, order_of_types, owners, world_items}
-use Rattle.wit_model.proofs.Functions.{all_flat}
-use Rattle.wit_model.proofs.OnePath.{path-once, named-path, found-in}
-use Rattle.wit_model.proofs.Owners.{met_step, owned_stays}
+use Rattle.wit_model.specs.Rules.{passes, is_id, text_is, is_name_key, item_type, key_in_range, item_in_range, world_type_numbers, is_listed, is_listed_in_world, import_stands, export_stands}
+use Rattle.wit_model.specs.Valid.{IsValid, as_interface, as_world, order_of_types, world_items}
+use Rattle.wit_model.proofs.OnePath.{path-once, found-in}
 use Rattle.bind_union.specs.Carried.{Renumbering}
 use Rattle.bind_union.specs.Joined.{ItemStandsFor}
 use Rattle.bind_union.specs.Matching.{IsMatch, AreMatched, WorldsAgree, AreWorldNamesakes, MetImportsStand}
 use Rattle.bind_union.proofs.Lists.{no_true}
-use Rattle.bind_union.proofs.Carrying.{references_of}
-use Rattle.bind_union.proofs.Homes.{alias_of_all}
 use Rattle.bind_union.proofs.Itself.{world_range}
-use Rattle.bind_union.proofs.Namesakes.{alias_declares, name_is_alias, resource_declares, declares_resource, is_here, place_in, name_in, named_tree, target_named, IsTarget, same_by_path, target_owner, alias_alike}
+use Rattle.bind_union.proofs.Namesakes.{resource_declares, declares_resource, is_here, place_in, name_in, IsTarget, same_by_path, target_owner, alias_alike}
 use Rattle.base_lemmas.proofs.Bools.{left_of as first_true, right_of as second_true}
 use Rattle.base_lemmas.proofs.Elements.{all-contained, lookup_stands}
 use Rattle.std.proofs.lemmas.Option.{same_Some as same-some}

@@ -33,7 +33,7 @@ use Rattle.bind_union.proofs.Lists.{no_true}
 use Rattle.bind_union.proofs.Homes.{owner_back}
 use Rattle.bind_union.proofs.CopyRules.{function_stays_passes, function_handles_pass, function_depths_pass, added_pass, entry_range, entry_labels, entry_function, entry_member, entry_import_stands, entry_export_stands}
 use Rattle.bind_union.proofs.InterfaceRules.{named_of_there, number_uses}
-use Rattle.bind_union.proofs.WorldOrder.{items, by_items, number_in, numbers_left, numbers_right, types_in, Covers, Holds, walk, item_stands, stands_still}
+use Rattle.bind_union.proofs.WorldOrder.{items, by_items, number_in, numbers_left, numbers_right, types_in, Covers, walk, item_stands, stands_still}
 use Rattle.base_lemmas.proofs.Bools.{left_of as first_true, right_of as second_true}
 use Rattle.base_lemmas.proofs.Elements.{all_two}
 use Rattle.wit_model.proofs.Chains.{all_has as passes_at}
