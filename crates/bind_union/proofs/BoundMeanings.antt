@@ -75,7 +75,8 @@ module _ (r s : Resolve) (f : Renumbering) (valid : KeepsRules r) (is : IsCarrie
 
       not_there : is_added (key_text r old.0, entry_meaning r old.1) ≡ true
       not_there = subst (λ (t : Text). is_none (find text_cmp t meant) ≡ true) key
-          (ap is_none (find_is (key_text s new.0) meant) ∙ not_looked_up (key_text s new.0) meant (subst (λ (ts : List Text). AllByRecursion (λ k. text_eq k (key_text s new.0) ≡ false) ts) (sym meant_texts)
+          (ap is_none (find_is (key_text s new.0) meant) ∙ not_looked_up (key_text s new.0) meant
+          (subst (λ (ts : List Text). AllByRecursion (λ k. text_eq k (key_text s new.0) ≡ false) ts) (sym meant_texts)
           (h (key_text s new.0) (0, omega arith, refl))))
 
   pub joined_mean : (olds news whole : List (WorldKey × WorldItem)) → whole ≡ own ++ news → Joined f own olds news → HaveDistinctTexts s whole

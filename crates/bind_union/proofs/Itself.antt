@@ -143,12 +143,17 @@ module _ (r : Resolve) (valid : KeepsRules r) where
       added e e es es refl (key_itself e.0 (first_true _ _ here), item_itself e.1 (second_true (key_in_range r e.0) _ here))
       (joined_itself es (second_true (key_in_range r e.0 && item_in_range r e.1) (entries_in_range r es) h))
 
-  pub world_range : (n : ℕ) (w : World) → world_at r n ≡ Some w → (entries_in_range r w.imports.entries ≡ true) × (entries_in_range r w.exports.entries ≡ true)
+  world_numbers : (n : ℕ) (w : World) → world_at r n ≡ Some w
+      → (passes (in_list r.packages.items) (package_number w.«package») && (entries_in_range r w.imports.entries && entries_in_range r w.exports.entries)) ≡ true
   unfolding numbers_in_range
+  world_numbers n w e = second_true (is_place n) _ (world-passes numbers_in_range r valid.numbers_in_range n w e)
+
+  pub world_package : (n : ℕ) (w : World) → world_at r n ≡ Some w → passes (in_list r.packages.items) (package_number w.«package») ≡ true
+  world_package n w e = first_true _ _ (world_numbers n w e)
+
+  pub world_range : (n : ℕ) (w : World) → world_at r n ≡ Some w → (entries_in_range r w.imports.entries ≡ true) × (entries_in_range r w.exports.entries ≡ true)
   world_range n w e =
-      let old : (is_place n && (passes (in_list r.packages.items) (package_number w.«package») && (entries_in_range r w.imports.entries && entries_in_range r w.exports.entries))) ≡ true =
-      world-passes numbers_in_range r valid.numbers_in_range n w e in
-      let two = second_true (passes (in_list r.packages.items) (package_number w.«package»)) _ (second_true (is_place n) _ old) in
+      let two = second_true (passes (in_list r.packages.items) (package_number w.«package»)) _ (world_numbers n w e) in
       (first_true _ _ two, second_true (entries_in_range r w.imports.entries) _ two)
 
   module _ (s : Resolve) (types : BeginsWith r.types.items s.types.items) (interfaces : BeginsWith r.interfaces.items s.interfaces.items) (packages : (n : ℕ) (p : Package) → package_at r n ≡ Some p → (q : Package) × (package_at s n ≡ Some q) × IsSameName p.name q.name) where

@@ -15,14 +15,14 @@ use Rattle.wit_model.specs.Valid.{Keeps, KeepsRules, as_world, item_function, fu
 use Rattle.wit_model.specs.Checks.{references}
 use Rattle.wit_model.proofs.Checks.{below_at}
 use Rattle.wit_model.proofs.Entries.{types_keep, free_passes}
-use Rattle.wit_model.proofs.OnePath.{found-in, interface-passes}
+use Rattle.wit_model.proofs.OnePath.{found-in}
 use Rattle.bind_union.specs.Carried.{Renumbering, IsCarried, EntryBecomes, IsFunctionCopy, owner_under, copies_owner, IsType, carries_owner}
 use Rattle.bind_union.specs.Joined.{IsJoined, Joined}
 use Rattle.bind_union.specs.Merged.{IsCopyUnder, IsMerged}
 use Rattle.bind_union.proofs.Images.{numbers_of_view}
 use Rattle.bind_union.proofs.ViewTests.{numbers_same}
-use Rattle.bind_union.proofs.Carrying.{references_of}
-use Rattle.bind_union.proofs.Itself.{get_begin, itself, carried_itself, joined_itself, world_range, map_same}
+use Rattle.bind_union.proofs.Carrying.{interface_package, references_of}
+use Rattle.bind_union.proofs.Itself.{world_package, get_begin, itself, carried_itself, joined_itself, world_range, map_same}
 use Rattle.base_lemmas.proofs.Elements.{all_weaker, all_two}
 use Rattle.base_lemmas.proofs.Numbers.{unequal, equal}
 use Rattle.wit_model.proofs.RulesLemmas.{each_by_number}
@@ -256,7 +256,7 @@ module _ (own other merged : Resolve) (bound other_bound : ℕ) (first second : 
   own_functions : (p q : Function → Bool) → ((g h : Function) → IsFunctionCopy (itself own) g h → p g ≡ true → q h ≡ true) → list_all p (functions_of_world is.own_bound) ≡ true
       → (list_all (on_function q) own_imports ≡ true) × (list_all (on_function q) own_exports ≡ true)
   own_functions p q one h =
-      let each = λ (a b : WorldKey × WorldItem) (z : EntryBecomes (itself own) a b). entry_function own_source.from merged own_source.under own_source.valid own_source.carried below p q one a.1 b.1 z.1 in
+      let each = λ (a b : WorldKey × WorldItem) (z : EntryBecomes (itself own) a b). entry_function own merged (itself own) valid_own own_source.carried below p q one a.1 b.1 z.1 in
       own_sides_pass (on_function p) (on_function q) (on_function p) (on_function q) each each (sym (by_entries p is.own_bound) ∙ h)
 
   -- ---- labels
@@ -293,7 +293,7 @@ module _ (own other merged : Resolve) (bound other_bound : ℕ) (first second : 
   unfolding owners
   owners_kept =
       let own_part = own_functions (function_stays own (as_world bound)) (function_stays merged (as_world bound))
-      (λ g h c. function_stays_passes own_source.from merged own_source.under own_source.valid own_source.carried below g h c (as_world bound)) (world-passes owners own valid_own.owners bound is.own_bound is.bound_at) in
+      (λ g h c. function_stays_passes own merged (itself own) valid_own own_source.carried below g h c (as_world bound)) (world-passes owners own valid_own.owners bound is.own_bound is.bound_at) in
       let at = λ (es : List (WorldKey × WorldItem)). λ (h : list_all (on_function (function_stays merged (as_world bound))) es ≡ true).
       ap (λ k. list_all (on_function (function_stays merged (as_world k))) es) is.bound_there ∙ h in
       kept owners merged (free_passes merged 0 merged.packages.items)
@@ -311,7 +311,7 @@ module _ (own other merged : Resolve) (bound other_bound : ℕ) (first second : 
   unfolding handles
   handles_kept =
       let own_part = own_functions (λ g. list_all (λ t. not (is_resource_type own t)) (function_types g)) (λ g. list_all (λ t. not (is_resource_type merged t)) (function_types g))
-      (function_handles_pass own_source.from merged own_source.under own_source.valid own_source.carried below) (world-passes handles own valid_own.handles bound is.own_bound is.bound_at) in
+      (function_handles_pass own merged (itself own) valid_own own_source.carried below) (world-passes handles own valid_own.handles bound is.own_bound is.bound_at) in
       kept handles merged (free_passes merged 0 merged.packages.items)
       (each_interface (handles.interface_ merged)
       (λ c n copy. interface_handles_pass c.from merged c.under c.valid c.carried below n copy))
@@ -325,7 +325,7 @@ module _ (own other merged : Resolve) (bound other_bound : ℕ) (first second : 
   unfolding depths
   depths_kept =
       let own_part = own_functions (λ g. list_all (is_shallow own) (function_types g)) (λ g. list_all (is_shallow merged) (function_types g))
-      (function_depths_pass own_source.from merged own_source.under own_source.valid own_source.carried below) (world-passes depths own valid_own.depths bound is.own_bound is.bound_at) in
+      (function_depths_pass own merged (itself own) valid_own own_source.carried below) (world-passes depths own valid_own.depths bound is.own_bound is.bound_at) in
       kept depths merged (free_passes merged 0 merged.packages.items)
       (each_interface (depths.interface_ merged)
       (λ c n copy. interface_depths_pass c.from merged c.under c.valid c.carried below n copy))
@@ -342,7 +342,7 @@ module _ (own other merged : Resolve) (bound other_bound : ℕ) (first second : 
   function_names_kept =
       let p = λ (e : WorldKey × WorldItem). passes (λ g. is_name_key (text_of g.name) e.0 && is_member own (as_world bound) g) (item_function e.1) in
       let q = λ (e : WorldKey × WorldItem). passes (λ g. is_name_key (text_of g.name) e.0 && is_member merged (as_world bound) g) (item_function e.1) in
-      let each = entry_member own_source.from merged own_source.under own_source.valid own_source.carried below bound in
+      let each = entry_member own merged (itself own) valid_own own_source.carried below bound in
       let own_part = own_sides_pass p q p q each each (sym (list_all-append p own_imports own_exports) ∙ world-passes function_names own valid_own.function_names bound is.own_bound is.bound_at) in
       let at = λ (es : List (WorldKey × WorldItem)). λ (h : list_all q es ≡ true).
       ap (λ k. list_all (λ (e : WorldKey × WorldItem). passes (λ g. is_name_key (text_of g.name) e.0 && is_member merged (as_world k) g) (item_function e.1)) es) is.bound_there ∙ h in
@@ -361,7 +361,7 @@ module _ (own other merged : Resolve) (bound other_bound : ℕ) (first second : 
   unfolding world_items
   world_items_kept =
       let own_part = own_sides_pass (λ e. import_stands own bound e.0 e.1) (λ e. import_stands merged bound e.0 e.1) (λ e. export_stands own e.0 e.1) (λ e. export_stands merged e.0 e.1)
-      (entry_import_stands own_source.from merged own_source.under own_source.valid own_source.carried below bound) (entry_export_stands own_source.from merged own_source.under own_source.valid own_source.carried below)
+      (entry_import_stands own merged (itself own) valid_own own_source.carried below bound) (entry_export_stands own merged (itself own) valid_own own_source.carried below)
       (world-passes world_items own valid_own.world_items bound is.own_bound is.bound_at) in
       kept world_items merged (free_passes merged 0 merged.packages.items) (free_passes merged 0 merged.interfaces.items)
       (each_joined (world_items.world_ merged)
@@ -485,7 +485,7 @@ module _ (own other merged : Resolve) (bound other_bound : ℕ) (first second : 
   own_named : list_all (is_named_of merged (as_world bound)) own_numbers ≡ true
   own_named =
       sym (ap (list_all (is_named_of merged (as_world bound))) (map_same (λ n. n) (λ n. refl) own_numbers))
-      ∙ all_named_of own merged own_source.under valid_own own_source.carried below (as_world bound) own_numbers (range_types own is.own_bound.imports.entries own_imports_range) (first_true _ _ own_types)
+      ∙ all_named_of own merged (itself own) valid_own own_source.carried below (as_world bound) own_numbers (range_types own is.own_bound.imports.entries own_imports_range) (first_true _ _ own_types)
 
   all_there : world_type_numbers is.joined.image ≡ filter_map item_type (items is.own_bound.imports.entries ++ items is.joined.new_imports)
   all_there = ap (λ es. filter_map item_type (items es)) is.joined.imports ∙ ap (filter_map item_type)
@@ -511,7 +511,7 @@ module _ (own other merged : Resolve) (bound other_bound : ℕ) (first second : 
           → list_all (λ m. not (has (filter_map item_type (items is.own_bound.imports.entries)) m) || has before m) (used_by_number own k) ≡ true
           → list_all (λ m. not (has (world_type_numbers is.joined.image) m) || has before m) (used_by_number merged k) ≡ true
       one before k c h =
-          let uses = number_uses own merged own_source.under valid_own own_source.carried below k c in
+          let uses = number_uses own merged (itself own) valid_own own_source.carried below k c in
           ap (list_all (λ m. not (has (world_type_numbers is.joined.image) m) || has before m)) (uses.0 ∙ map_same (λ n. n) (λ n. refl) (used_by_number own k))
           ∙ all_two (in_list own.types.items) (λ m. not (has (filter_map item_type (items is.own_bound.imports.entries)) m) || has before m)
           (λ m. not (has (world_type_numbers is.joined.image) m) || has before m) (λ m d e. ap (λ b. not b || has before m) (same_has m d) ∙ e) (used_by_number own k) uses.1 h
@@ -564,15 +564,6 @@ module _ (own other merged : Resolve) (bound other_bound : ℕ) (first second : 
       (each_function c.from merged c.under c.valid c.carried below n copy (λ g. true) (function_in_range merged)
       (λ a b z h. function_range_passes c.from merged c.under c.valid c.carried below a.1 b.1 z.1) (all_true (functions_of_interface i.old)))))
 
-  -- what the rule on numbers in range says of an interface's package
-  pub interface_package : (r : Resolve) → KeepsRules r → (n : ℕ) (i : Interface) → interface_at r n ≡ Some i → passes (in_list r.packages.items) (package_number i.«package») ≡ true
-  unfolding numbers_in_range
-  interface_package r valid n i e =
-      let old : (is_place n && (passes (in_list r.packages.items) (package_number i.«package»)
-      && (list_all (λ id. in_list r.types.items id.0) (values i.types) && list_all (function_in_range r) (values i.functions)))) ≡ true =
-      interface-passes numbers_in_range r valid.numbers_in_range n i e in
-      first_true _ _ (second_true (is_place n) _ old)
-
   kinds_in_range : (c : Source merged) (n : ℕ) (copy : c.under.copies_type n ≡ true)
       → list_all (in_list merged.types.items) (kind_numbers (c.carried.types n (c.carried.copied_types n copy)).image.kind) ≡ true
   kinds_in_range c n copy =
@@ -615,14 +606,6 @@ module _ (own other merged : Resolve) (bound other_bound : ℕ) (first second : 
   own_package : (p : Option ℕ) → passes (in_list own.packages.items) p ≡ true → passes (in_list merged.packages.items) p ≡ true
   own_package p h = ap (passes (in_list merged.packages.items)) (sym (same_option p)) ∙ package_in_range own_source p h
 
-  -- what the rule on numbers in range says of a world's package
-  pub world_package : (r : Resolve) → KeepsRules r → (n : ℕ) (w : World) → world_at r n ≡ Some w → passes (in_list r.packages.items) (package_number w.«package») ≡ true
-  unfolding numbers_in_range
-  world_package r valid n w e =
-      let old : (is_place n && (passes (in_list r.packages.items) (package_number w.«package») && (entries_in_range r w.imports.entries && entries_in_range r w.exports.entries))) ≡ true =
-      world-passes numbers_in_range r valid.numbers_in_range n w e in
-      first_true _ _ (second_true (is_place n) _ old)
-
   world_number : (n : ℕ) (w : World) → world_at merged n ≡ Some w → is_place n ≡ true
   world_number n w e = place_below n (length merged.worlds.items) (slice_get_within merged.worlds.items n w e) is.few_worlds
 
@@ -631,7 +614,7 @@ module _ (own other merged : Resolve) (bound other_bound : ℕ) (first second : 
   unfolding numbers_in_range
   numbers_in_range_kept =
       let in_range = λ (e : WorldKey × WorldItem). key_in_range merged e.0 && item_in_range merged e.1 in
-      let each = entry_range own_source.from merged own_source.under own_source.valid own_source.carried below in
+      let each = entry_range own merged (itself own) valid_own own_source.carried below in
       let own_part = own_sides_pass (λ e. true) in_range (λ e. true) in_range each each
       (both _ _ (all_true is.own_bound.imports.entries) (all_true is.own_bound.exports.entries)) in
       kept numbers_in_range merged
@@ -659,7 +642,7 @@ module _ (own other merged : Resolve) (bound other_bound : ℕ) (first second : 
       (λ n w e apart.
       both _ _ (world_number n w (is.worlds n w e apart))
       (both _ _ (own_package (package_number w.«package») (world_package own valid_own n w e))
-      (world_range_passes own_source.from merged own_source.under own_source.valid own_source.carried below n [] [] (own_joined n w e apart)
+      (world_range_passes own merged (itself own) valid_own own_source.carried below n [] [] (own_joined n w e apart)
       refl refl)))
       (λ n c.
       let w = is.first_worlds n c in

@@ -29,8 +29,9 @@ use Rattle.bind_union.specs.Merged.{interface_names, world_names, is_name, IsJoi
 use Rattle.bind_union.proofs.Lists.{no_true}
 use Rattle.bind_union.proofs.WorldOrder.{items, numbers_append, interfaces_in, one_sums, one_of_sum, shown, times_are, counted_append, none_counted, none_added, past_range, range_interfaces, same_times}
 use Rattle.bind_union.proofs.Homes.{apart}
-use Rattle.bind_union.proofs.Itself.{get_begin, world_range}
-use Rattle.bind_union.proofs.Kept.{each_interface_of_three, each_world, interface_package, world_package}
+use Rattle.bind_union.proofs.Itself.{world_package, get_begin, world_range}
+use Rattle.bind_union.proofs.Kept.{each_interface_of_three, each_world}
+use Rattle.bind_union.proofs.Carrying.{interface_package}
 use Rattle.bind_union.proofs.KeptPackages.{kept, is_interface_of, is_world_of, interfaces_stand, worlds_stand, all_stand, places_hold, found_option}
 use Rattle.bind_union.proofs.PackageNames.{added_from, name_append, interfaces_by_name, worlds_by_name, world_name_listed, found_name, still_found, copy_found, found_behind}
 use Rattle.base_lemmas.proofs.Bools.{left_of as first_true, right_of as second_true, or_false}
@@ -70,13 +71,15 @@ interface_place r n i = λ j. some_number i.«package» j && by_name i.name j
     by_name (Some x) = refl
 
 -- a named one is kept where it is listed, and an inline one where it is shown once
-place_kept : (r s : Resolve) (m n : ℕ) (name : Option Text) (p q : Option ℕ) → (is_some p ≡ true → is_some q ≡ true) → ((t : Text) → name ≡ Some t → listed_by r m t p ≡ true → listed_by s n t q ≡ true)
+place_kept : (r s : Resolve) (m n : ℕ) (name : Option Text) (p q : Option ℕ) → (is_some p ≡ true → is_some q ≡ true)
+    → ((t : Text) → name ≡ Some t → listed_by r m t p ≡ true → listed_by s n t q ≡ true)
     → (name ≡ None → inline_by r m p ≡ true → inline_by s n q ≡ true) → place_by r m name p ≡ true → place_by s n name q ≡ true
 place_kept r s m n None p q some listed inline h = both _ _ (some (first_true _ _ h)) (inline refl (second_true (is_some p) _ h))
 place_kept r s m n (Some t) p q some listed inline h = both _ _ (some (first_true _ _ h)) (listed t refl (second_true (is_some p) _ h))
 
 -- by the names in a package
-listed_in : (r : Resolve) (n : ℕ) (t : Text) (k : ℕ) (p : Package) → package_at r k ≡ Some p → listed_by r n t (Some k) ≡ (is_id n (under_text t (interface_names p)) && not (is_name t (world_names p)))
+listed_in : (r : Resolve) (n : ℕ) (t : Text) (k : ℕ) (p : Package) → package_at r k ≡ Some p
+    → listed_by r n t (Some k) ≡ (is_id n (under_text t (interface_names p)) && not (is_name t (world_names p)))
 listed_in r n t k p e = ap (λ o. option_map_or (λ x. interface_is_listed n t x && not (is_world_name x t)) o true) e ∙ (λ i. is_id n (interfaces_by_name p t i) && not (world_name_listed p t i))
 
 abbrev pub world_by : Resolve → ℕ → Text → Option ℕ → Bool
@@ -120,7 +123,8 @@ inline_holds s t p k w at one same others =
 
 -- the world that shows an inline interface, and that no other does
 abbrev ShownOnce : Resolve → ℕ → Option ℕ → Type 0
-ShownOnce r n p = (k : ℕ) × (w : World) × (world_at r k ≡ Some w) × (times_shown n w ≡ 1) × (package_number w.«package» ≡ p) × ((m : ℕ) (y : World) → world_at r m ≡ Some y → (m == k) ≡ false → times_shown n y ≡ 0)
+ShownOnce r n p = (k : ℕ) × (w : World) × (world_at r k ≡ Some w) × (times_shown n w ≡ 1) × (package_number w.«package» ≡ p)
+    × ((m : ℕ) (y : World) → world_at r m ≡ Some y → (m == k) ≡ false → times_shown n y ≡ 0)
 
 inline_found : (r : Resolve) (n : ℕ) (p : Option ℕ) → inline_by r n p ≡ true → ShownOnce r n p
 inline_found r n p h =
@@ -285,14 +289,8 @@ module _ (own other merged : Resolve) (bound other_bound : ℕ) (first second : 
   copy_world_at m d t None c h = h
   copy_world_at m d t (Some k) c h = let q = found-in other.packages.items k c in copy_world_listed m d t k q.0 q.1 h
 
-  abbrev package_of_interface : (r : Resolve) → KeepsRules r → (n : ℕ) (i : Interface) → interface_at r n ≡ Some i → passes (in_list r.packages.items) (package_number i.«package») ≡ true
-  package_of_interface = interface_package own other merged bound other_bound first second left_out valid_own valid_other is
-
-  abbrev package_of_world : (r : Resolve) → KeepsRules r → (n : ℕ) (w : World) → world_at r n ≡ Some w → passes (in_list r.packages.items) (package_number w.«package») ≡ true
-  package_of_world = world_package own other merged bound other_bound first second left_out valid_own valid_other is
-
   own_world_place : (n : ℕ) (w : World) → world_at own n ≡ Some w → world_by merged n (text_of w.name) (package_number w.«package») ≡ true
-  own_world_place n w e = own_world_at n (text_of w.name) (package_number w.«package») (package_of_world own valid_own n w e)
+  own_world_place n w e = own_world_at n (text_of w.name) (package_number w.«package») (world_package own valid_own n w e)
       (sym (world_place own n w) ∙ world-passes places own valid_own.places n w e)
 
   copy_world_place : (m : ℕ) (c : first.carries_world m ≡ true) → places.world_ merged (first.worlds m) (is.first_worlds m c).joined.image ≡ true
@@ -301,7 +299,7 @@ module _ (own other merged : Resolve) (bound other_bound : ℕ) (first second : 
       let j = w.joined in
       world_place merged (first.worlds m) j.image
       ∙ ((λ i. world_by merged (first.worlds m) (w.name i) (w.in_package i))
-      ∙ copy_world_at m c (text_of j.old.name) (package_number j.old.«package») (package_of_world other valid_other m j.old j.found)
+      ∙ copy_world_at m c (text_of j.old.name) (package_number j.old.«package») (world_package other valid_other m j.old j.found)
       (sym (world_place other m j.old) ∙ world-passes places other valid_other.places m j.old j.found))
 
   bound_place : places.world_ merged bound is.joined.image ≡ true
@@ -554,7 +552,7 @@ module _ (own other merged : Resolve) (bound other_bound : ℕ) (first second : 
   own_place n i e =
       interface_place merged n i
       ∙ place_kept own merged n n (optional_text i.name) (package_number i.«package») (package_number i.«package») (λ h. h)
-      (λ t x. own_listed_at n t (package_number i.«package») (package_of_interface own valid_own n i e)) (λ none. own_inline n i e (no_text i.name none))
+      (λ t x. own_listed_at n t (package_number i.«package») (interface_package own valid_own n i e)) (λ none. own_inline n i e (no_text i.name none))
       (sym (interface_place own n i) ∙ interface-passes places own valid_own.places n i e)
 
   some_mapped : (g : ℕ → ℕ) (p : Option ℕ) → is_some p ≡ true → is_some (option_map g p) ≡ true
@@ -570,7 +568,7 @@ module _ (own other merged : Resolve) (bound other_bound : ℕ) (first second : 
       interface_place merged (first.interfaces m) i.image
       ∙ ((λ j. place_by merged (first.interfaces m) (i.name j) (is.first_packages m c j))
       ∙ place_kept other merged m (first.interfaces m) (optional_text i.old.name) p (option_map first.packages p) (some_mapped first.packages p)
-      (λ t x. copy_listed_at m copy t p (package_of_interface other valid_other m i.old i.found)) (λ none. first_inline m copy i (no_text i.old.name none))
+      (λ t x. copy_listed_at m copy t p (interface_package other valid_other m i.old i.found)) (λ none. first_inline m copy i (no_text i.old.name none))
       (sym (interface_place other m i.old) ∙ interface-passes places other valid_other.places m i.old i.found))
 
   second_place : (m : ℕ) (copy : second.copies_interface m ≡ true)

@@ -136,7 +136,8 @@ module _ (r s : Resolve) (f : Renumbering) (valid : KeepsRules r) (is : IsCarrie
           → is_id m (option_and_then item_type (cond b (Some old.1) (lookup (is_name_key name) olds))) ≡ true
           → (is_id (f.types m) (option_and_then item_type (cond (is_name_key name new.0) (Some new.1) (lookup (is_name_key name) news))) ≡ true) × (list_any (is_name_key name) (keys_of own) ≡ false)
       go again true k e = (
-        ap (λ b. is_id (f.types m) (option_and_then item_type (cond b (Some new.1) (lookup (is_name_key name) news)))) (same_name_key old.0 new.0 z.0 ∙ k) ∙ id_stands f (types_in f) old.1 new.1 (becomes f old.1 new.1 z.1) m e,
+        ap (λ b. is_id (f.types m) (option_and_then item_type (cond b (Some new.1) (lookup (is_name_key name) news)))) (same_name_key old.0 new.0 z.0 ∙ k)
+            ∙ id_stands f (types_in f) old.1 new.1 (becomes f old.1 new.1 z.1) m e,
         name_key_new f name old.0 k own fresh_key,
       )
       go again false k e =

@@ -24,7 +24,8 @@ use Rattle.bind_union.specs.Merged.{world_names, is_name, PackageStands, grown, 
 use Rattle.bind_union.specs.Meanings.{ShowsWorld, ShowsNoWorld, WorldsAreUnited}
 use Rattle.bind_union.proofs.Lists.{no_true}
 use Rattle.bind_union.proofs.Carrying.{path_by, same_path_by, same_identity}
-use Rattle.bind_union.proofs.Kept.{below, world_package}
+use Rattle.bind_union.proofs.Kept.{below}
+use Rattle.bind_union.proofs.Itself.{world_package}
 use Rattle.bind_union.proofs.KeptPackages.{is_world_of, worlds_stand, found_option}
 use Rattle.bind_union.proofs.KeptPlaces.{world_case, own_world_low}
 use Rattle.bind_union.proofs.PackageNames.{joined_name, worlds_by_name, found_name, copy_found}
@@ -68,8 +69,7 @@ module _ (own other merged : Resolve) (bound other_bound : ℕ) (first second : 
   own_path : (n : ℕ) (w : World) → world_at own n ≡ Some w → path_of_world merged w ≡ path_of_world own w
   own_path n w e =
       world_path merged w
-      ∙ (own_path_by (text_of w.name) (package_number w.«package») (world_package own other merged bound other_bound first second left_out valid_own.rules valid_other.rules is own
-      valid_own.rules n w e)
+      ∙ (own_path_by (text_of w.name) (package_number w.«package») (world_package own valid_own.rules n w e)
       ∙ sym (world_path own w))
 
   bound_path : path_of_world merged is.joined.image ≡ path_of_world own is.own_bound
@@ -82,7 +82,7 @@ module _ (own other merged : Resolve) (bound other_bound : ℕ) (first second : 
   copy_path m c =
       let w = is.first_worlds m c in
       let j = w.joined in
-      let range = world_package own other merged bound other_bound first second left_out valid_own.rules valid_other.rules is other valid_other.rules m j.old j.found in
+      let range = world_package other valid_other.rules m j.old j.found in
       world_path merged j.image
       ∙ ((λ i. path_by merged (Some (w.name i)) (w.in_package i))
       ∙ (same_path_by other merged first valid_other.rules is.first_copies.carried below_s (Some (text_of j.old.name)) (package_number j.old.«package»)

@@ -155,7 +155,8 @@ module _ (f : Renumbering) where
       let more = walk own t u one (olds ++ old.1 ∷ []) news xs ys rest holds (covers_met olds news own old there c i holds covers) (second_true (t olds old.1) _ h) in
       (more.0, subst (λ (zs : List WorldItem). Covers f zs (news ++ items ys)) (append_assoc olds (old.1 ∷ []) (items xs)) more.1)
   walk own t u one olds news _ _ (added old new xs ys n z rest) holds covers h =
-      let more = walk own t u one (olds ++ old.1 ∷ []) (news ++ new.1 ∷ []) xs ys rest (λ h x c m e. numbers_left h news (new.1 ∷ []) m (holds h x c m e)) (covers_added olds news old.1 new.1 z.1 covers)
+      let more = walk own t u one (olds ++ old.1 ∷ []) (news ++ new.1 ∷ []) xs ys rest
+      (λ h x c m e. numbers_left h news (new.1 ∷ []) m (holds h x c m e)) (covers_added olds news old.1 new.1 z.1 covers)
       (second_true (t olds old.1) _ h) in (
         both _ _ (one olds news old new z covers (first_true _ _ h)) more.0,
         subst (λ (zs : List WorldItem). Covers f zs (news ++ (new.1 ∷ items ys))) (append_assoc olds (old.1 ∷ []) (items xs))
@@ -348,7 +349,8 @@ module _ (f : Renumbering) (s : Numbered f) where
       go true e k more = one (s.number old.1) (s.marked old.1 new.1 z.1) (sym (ap (is_id t) (s.stands old.1 new.1 (becomes f old.1 new.1 z.1))) ∙ e)
       go false e k more = more k
 
-  pub none_added : (own olds news : List (WorldKey × WorldItem)) → Joined f own olds news → (t : ℕ) → ((a : ℕ) → s.marks a ≡ true → s.under a ≡ t → ⊥) → has (filter_map s.number (items news)) t ≡ false
+  pub none_added : (own olds news : List (WorldKey × WorldItem)) → Joined f own olds news → (t : ℕ)
+      → ((a : ℕ) → s.marks a ≡ true → s.under a ≡ t → ⊥) → has (filter_map s.number (items news)) t ≡ false
   none_added own olds news j t none_such = false_from_ne_true _ (λ h. let r = shown_from own olds news j t h in none_such r.0 r.1 r.2)
 
   module _ (m : ℕ) (own : List (WorldKey × WorldItem)) (fresh : has (filter_map s.number (items own)) (s.under m) ≡ false) where
