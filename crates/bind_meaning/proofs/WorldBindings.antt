@@ -1,5 +1,5 @@
 -- A world of a valid `Resolve`, bound, is a binding.
-use Rattle.std.proofs.Common.{◌≡◌, refl, sym, ap, subst, ◌∙◌, ℕ, Bool, true, false, not, ◌&&◌, ◌||◌, ◌==◌, List, [], ◌∷◌, map, length, Option, Some, None, option_map, option_and_then, unwrap_or, String, Contains}
+use Rattle.std.proofs.Common.{◌≡◌, refl, sym, ap, subst, ◌∙◌, ℕ, true, false, not, ◌&&◌, ◌||◌, ◌==◌, List, [], ◌∷◌, map, length, Option, Some, option_map, option_and_then, unwrap_or, String, Contains}
 use Rattle.std.specs.Prelude.{is_some, option_to_list}
 use Rattle.std.specs.List.{AllByRecursion, IsDistinct, list_all, list_any}
 use Rattle.std.specs.Map.{keys_of}
@@ -7,7 +7,7 @@ use Rattle.std.specs.Option.{option_map_or}
 use Rattle.std.specs.declared.alloc.Global.{Global}
 use Rattle.std.specs.Cmp.Lexicographic.{nat_list_cmp_total}
 use Rattle.std.specs.FinMap.{from_entries, get, get-from_entries}
-use Rattle.std.proofs.lemmas.Bool.{lt-ltb}
+use Rattle.std.proofs.lemmas.Bool.{false_from_ne_true, lt-ltb}
 use Rattle.std.proofs.lemmas.List.Elements.{Contains-append_left, Contains-append_right}
 use Rattle.wit_model.specs.declared.model.Interface.{Interface}
 use Rattle.wit_model.specs.declared.model.Package.{Package}
@@ -129,9 +129,7 @@ module _ (r : Resolve) where
         by : (o : Option InterfaceMeaning) (p : Option WorldMeaning) → get (from_entries {R = text_cmp} (interfaces_by_path r)) path ≡ o → get (from_entries {R = text_cmp} (worlds_by_path r)) path ≡ p
             → Stand o p → ⊥
         by (Some x) (Some y) e f s = let i = interface-under path x e in let w = world-under path y f in path-apart r v i.number w.number path i.under w.under
-        by (Some x) None e f s = s
-        by None (Some y) e f s = s
-        by None None e f s = s
+        by _ _ e f s = absurd s
 
 -- ---- the texts of keys
 
@@ -142,11 +140,7 @@ module _ (r : Resolve) (v : IsValid r) where
   IsKey (key.Interface id) = is_some (interface_path r id.0) ≡ true
 
   unlike : (s t : Text) → (s ≡ t → ⊥) → text_eq s t ≡ false
-  unlike s t never = go (text_eq s t) refl
-    where
-      go : (b : Bool) → text_eq s t ≡ b → b ≡ false
-      go true e = absurd (never (text-same s t e))
-      go false e = refl
+  unlike s t never = false_from_ne_true _ (λ e. never (text-same s t e))
 
   name-apart : (name : String Global) (m : ℕ) (path : Text) → Lacks 58 (text_of name) → interface_path r m ≡ Some path → text_of name ≡ path → ⊥
   name-apart name m path lacks is same =

@@ -48,7 +48,7 @@ has-world-path r n path e =
 -- a name that leads to a world is a world's
 found-name : (t : Text) (es : List (String Global × WorldId)) (n : ℕ) → is_id n (option_map (λ id. id.0) (lookup (λ k. text_eq t (text_of k)) es)) ≡ true
     → list_any (λ other. text_eq t (text_of other)) (keys_of es) ≡ true
-found-name t [] n h = let no : ⊥ = cc in absurd no
+found-name t [] n h = absurd cc
 found-name t (e ∷ es) n h = by (text_eq t (text_of e.0)) h (found-name t es n)
   where
     by : (b : Bool) → is_id n (option_map (λ id. id.0) (cond b (Some e.1) (lookup (λ k. text_eq t (text_of k)) es))) ≡ true
