@@ -16,22 +16,14 @@ use Rattle.bind_meaning.proofs.InterfaceExamples as interfaces
 use Rattle.bind_meaning.proofs.InterfaceExamples.{key_shown, showing, test_path, test_shown, under_its_path}
 use Rattle.bind_meaning.proofs.ListLaws.{got, united_by_lists}
 use Rattle.bind_meaning.proofs.Orders.{pairwise_folds}
-use Rattle.bind_meaning.proofs.WorldLists.{binding_listed}
+use Rattle.bind_meaning.proofs.WorldLists.{binding_listed, world_lists}
 
 -- world w { import test:test/test; } of package c:d
 abbrev other : WorldPackage
 other = showing (record { namespace = codes "c"; name = codes "d"; version = None }) (codes "w") (under_its_path test_path ∷ []) [] test_path functions.unit_function
 
 abbrev other_lists : Listed
-other_lists = record {
-  packages = codes "c:d" ∷ codes "test:test" ∷ [];
-  interfaces = test_shown;
-  worlds = (codes "c:d/w", other.world) ∷ [];
-  path = codes "c:d/w";
-  bound = other.world;
-  imported_encodings = (codes "test:test/test/f", encodings.UTF8) ∷ [];
-  exported_encodings = [];
-}
+other_lists = world_lists other test_shown (codes "test:test/test/f" ∷ []) [] encodings.UTF8
 
 other_listed : binding_of_world other encodings.UTF8 ≡ binding_from other_lists
 unfolding cut
