@@ -85,7 +85,8 @@ module _ (r : Resolve) (v : IsValid r) where
   world-once m n path e f =
       let a = has-world-path r m path e in
       let b = has-world-path r n path f in
-      let one = one_home a.home.0 b.home.0 a.package_ b.package_ a.stands b.stands (text_of a.def.name) (text_of b.def.name) (world-label m path a) (world-label n path b) (sym a.spelled ∙ b.spelled) in
+      let one = one_home a.home.0 b.home.0 a.package_ b.package_ a.stands b.stands (text_of a.def.name) (text_of b.def.name)
+      (world-label m path a) (world-label n path b) (sym a.spelled ∙ b.spelled) in
       one-number m n (option_map (λ id. id.0) (get_by_text a.package_.worlds (text_of a.def.name))) (world-listed m path a)
       ((λ i. world_is_listed n (one.1 i) (sym one.0 i)) ∙ world-listed n path b)
 
