@@ -129,9 +129,8 @@ module _ (c : ℕ) (apart : IsApart c) where
     resource-label o n name h = go (type_at r n) refl h
       where
         given : (b : Bool) (t : Option (String Global)) → passes (λ s. is_label (text_of s)) t ≡ true → cond b (optional_text t) None ≡ Some name → is_label name ≡ true
-        given true None w e = absurd cc
         given true (Some s) w e = ap is_label (sym (same-some (text_of s) name e)) ∙ w
-        given false t w e = absurd cc
+        given _ _ w e = absurd cc
 
         go : (d : Option TypeDef) → type_at r n ≡ d → option_and_then (λ def. cond (is_resource_itself def.kind && same_owner def.owner o) (optional_text def.name) None) d ≡ Some name
             → is_label name ≡ true

@@ -10,9 +10,7 @@ pub mod UnionLaws
 pub mod Orders
 -- Lists with the same members give the same by sense. Serves laws::any_order; crates above.
 pub mod EachOrder
--- Which faults bindings by lists have, for worked examples. Serves no function, only Examples, InterfaceExamples.
-pub mod Faults
--- The binding of a world by lists, for worked examples. Serves no function, only Examples, InterfaceExamples, OrderExamples.
+-- The binding of a world by lists, and which faults bindings by lists have, for worked examples.
 pub mod WorldLists
 -- Worked examples: worlds of functions, merged onto the empty root world, and what clashes with them. Serves no function, only InterfaceExamples, OrderExamples.
 pub mod Examples
