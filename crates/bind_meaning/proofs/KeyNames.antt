@@ -45,7 +45,7 @@ pub lacks-both : (c : ℕ) (a b : Text) → Lacks c a → Lacks c b → Lacks c 
 lacks-both c a b h k = list_all-append (is_other c) a b ∙ and_from _ _ h k
 
 itself-not : (c : ℕ) → is_other c c ≡ true → ⊥
-itself-not c h = let same = eq-eqb c c refl in let z : ⊥ = cc in z
+itself-not c h = let same = eq-eqb c c refl in cc
 
 -- a text that goes on with the byte doesn't lack it
 pub goes-on : (c : ℕ) (a b : Text) → Lacks c (a ++ (c ∷ b)) → ⊥
@@ -99,7 +99,7 @@ module _ (c : ℕ) (apart : IsApart c) where
   marked_lacks mark name f plain label h = go (after_prefix (mark ++ (name ++ (46 ∷ []))) (text_of f.name)) refl h
     where
       go : (o : Option Text) → after_prefix (mark ++ (name ++ (46 ∷ []))) (text_of f.name) ≡ o → option_map_or is_label o false ≡ true → Lacks c (text_of f.name)
-      go None e g = absurd (let z : ⊥ = cc in z)
+      go None e g = absurd cc
       go (Some rest) e g =
           let whole = after-front (mark ++ (name ++ (46 ∷ []))) (text_of f.name) rest e in
           subst (Lacks c) (sym whole)
@@ -129,13 +129,12 @@ module _ (c : ℕ) (apart : IsApart c) where
     resource-label o n name h = go (type_at r n) refl h
       where
         given : (b : Bool) (t : Option (String Global)) → passes (λ s. is_label (text_of s)) t ≡ true → cond b (optional_text t) None ≡ Some name → is_label name ≡ true
-        given true None w e = absurd (let z : ⊥ = cc in z)
         given true (Some s) w e = ap is_label (sym (same-some (text_of s) name e)) ∙ w
-        given false t w e = absurd (let z : ⊥ = cc in z)
+        given _ _ w e = absurd cc
 
         go : (d : Option TypeDef) → type_at r n ≡ d → option_and_then (λ def. cond (is_resource_itself def.kind && same_owner def.owner o) (optional_text def.name) None) d ≡ Some name
             → is_label name ≡ true
-        go None at e = absurd (let z : ⊥ = cc in z)
+        go None at e = absurd cc
         go (Some def) at e = given (is_resource_itself def.kind && same_owner def.owner o) def.name (type-label n def at) e
 
     -- the name of a function lacks the byte
@@ -144,7 +143,7 @@ module _ (c : ℕ) (apart : IsApart c) where
       where
         named : (k : FunctionKind) (n : ℕ) → (t : Option Text) → resource_name r o n ≡ t → (not (is_freestanding k) || is_label (text_of f.name)) ≡ true
             → option_map_or (λ name. is_member_of r n name f k) t false ≡ true → Lacks c (text_of f.name)
-        named k n None at own h = absurd (let z : ⊥ = cc in z)
+        named k n None at own h = absurd cc
         named k n (Some name) at own h = member_lacks r n name f k (resource-label o n name at) own h
 
         go : (k : FunctionKind) → f.kind ≡ k → (not (is_freestanding k) || is_label (text_of f.name)) ≡ true

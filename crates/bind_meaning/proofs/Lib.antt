@@ -1,4 +1,4 @@
--- Texts as keys: maps united, a key taken out, lists in which no key stands twice. Serves ClashLaws, EachOrder, ListLaws, Listed and 4 more; crates above.
+-- Texts as keys: maps united, a key taken out, lists in which no key stands twice. Serves ClashLaws, EachOrder, InterfaceExamples, ListLaws and 5 more; crates above.
 pub mod Maps
 -- One clash at most is named, and none of bindings that are united. Serves laws::clashes; crates above.
 pub mod ClashLaws
@@ -10,9 +10,7 @@ pub mod UnionLaws
 pub mod Orders
 -- Lists with the same members give the same by sense. Serves laws::any_order; crates above.
 pub mod EachOrder
--- Which faults bindings by lists have, for worked examples. Serves no function, only Examples, InterfaceExamples.
-pub mod Faults
--- The binding of a world by lists, for worked examples. Serves no function, only Examples, InterfaceExamples, OrderExamples.
+-- The binding of a world by lists, and which faults bindings by lists have, for worked examples. Serves no function, only Examples, InterfaceExamples, OrderExamples.
 pub mod WorldLists
 -- Worked examples: worlds of functions, merged onto the empty root world, and what clashes with them. Serves no function, only InterfaceExamples, OrderExamples.
 pub mod Examples

@@ -16,22 +16,14 @@ use Rattle.bind_meaning.proofs.InterfaceExamples as interfaces
 use Rattle.bind_meaning.proofs.InterfaceExamples.{key_shown, showing, test_path, test_shown, under_its_path}
 use Rattle.bind_meaning.proofs.ListLaws.{got, united_by_lists}
 use Rattle.bind_meaning.proofs.Orders.{pairwise_folds}
-use Rattle.bind_meaning.proofs.WorldLists.{binding_listed}
+use Rattle.bind_meaning.proofs.WorldLists.{binding_listed, world_lists}
 
 -- world w { import test:test/test; } of package c:d
 abbrev other : WorldPackage
 other = showing (record { namespace = codes "c"; name = codes "d"; version = None }) (codes "w") (under_its_path test_path ∷ []) [] test_path functions.unit_function
 
 abbrev other_lists : Listed
-other_lists = record {
-  packages = codes "c:d" ∷ codes "test:test" ∷ [];
-  interfaces = test_shown;
-  worlds = (codes "c:d/w", other.world) ∷ [];
-  path = codes "c:d/w";
-  bound = other.world;
-  imported_encodings = (codes "test:test/test/f", encodings.UTF8) ∷ [];
-  exported_encodings = [];
-}
+other_lists = world_lists other test_shown (codes "test:test/test/f" ∷ []) [] encodings.UTF8
 
 other_listed : binding_of_world other encodings.UTF8 ≡ binding_from other_lists
 unfolding cut
@@ -43,166 +35,18 @@ other_listed = binding_listed other test_shown (codes "test:test/test/f" ∷ [])
 abbrev four : List Binding
 four = binding_from functions.root_lists ∷ binding_from interfaces.foo_lists ∷ binding_from functions.foo_lists ∷ binding_from other_lists ∷ []
 
-root_unites : (b : Listed) → ListsAgree functions.root_lists b → CanUnite (binding_from functions.root_lists) (binding_from b)
-root_unites b agree = united_by_lists functions.root_lists b agree
+unites : (a b : Listed) → ListsAgree a b → ListsAgree b a → CanUnite (binding_from a) (binding_from b) × CanUnite (binding_from b) (binding_from a)
+unites a b there back = (united_by_lists a b there, united_by_lists b a back)
 
 four_pairwise : ArePairwise four
 four_pairwise = (
   (
-    (
-      root_unites interfaces.foo_lists (record {
-        interfaces = tt;
-        no_world = tt;
-        no_interface = (λ s. s, tt);
-        worlds = (tt, tt);
-        imports = tt;
-        exports = tt;
-        imported_encodings = tt;
-        exported_encodings = tt;
-      }),
-      united_by_lists interfaces.foo_lists functions.root_lists (record {
-        interfaces = (tt, tt);
-        no_world = (λ s. s, tt);
-        no_interface = (λ s. s, tt);
-        worlds = (tt, tt);
-        imports = (tt, tt);
-        exports =
-            tt;
-        imported_encodings = (tt, tt);
-        exported_encodings = tt;
-      }),
-    ),
-    (
-      (
-        root_unites functions.foo_lists (record {
-          interfaces = tt;
-          no_world = tt;
-          no_interface = (λ s. s, tt);
-          worlds = (tt, tt);
-          imports = tt;
-          exports = tt;
-          imported_encodings = tt;
-          exported_encodings = tt;
-        }),
-        united_by_lists functions.foo_lists functions.root_lists (record {
-          interfaces = tt;
-          no_world = tt;
-          no_interface = (λ s. s, tt);
-          worlds = (tt, tt);
-          imports = (tt, tt);
-          exports = (λ s. s, tt);
-          imported_encodings = (tt, tt);
-          exported_encodings = (tt, tt);
-        }),
-      ),
-      (
-        (
-          root_unites other_lists (record {
-            interfaces = tt;
-            no_world = tt;
-            no_interface = (λ s. s, tt);
-            worlds = (tt, tt);
-            imports = tt;
-            exports = tt;
-            imported_encodings = tt;
-            exported_encodings = tt;
-          }),
-          united_by_lists other_lists functions.root_lists (record {
-            interfaces = (tt, tt);
-            no_world = (λ s. s, tt);
-            no_interface = (λ s. s, tt);
-            worlds = (tt, tt);
-            imports = (tt, tt);
-            exports = tt;
-            imported_encodings = (tt, tt);
-            exported_encodings = tt;
-          }),
-        ),
-        tt,
-      ),
-    ),
+    unites functions.root_lists interfaces.foo_lists (assumption) (assumption),
+    (unites functions.root_lists functions.foo_lists (assumption) (assumption), (unites functions.root_lists other_lists (assumption) (assumption), tt)),
   ),
   (
-    (
-      (
-        united_by_lists interfaces.foo_lists functions.foo_lists (record {
-          interfaces = (tt, tt);
-          no_world = (λ s. s, tt);
-          no_interface = (λ s. s, tt);
-          worlds = (tt, tt);
-          imports = (tt, tt);
-          exports =
-              tt;
-          imported_encodings = (tt, tt);
-          exported_encodings = tt;
-        }),
-        united_by_lists functions.foo_lists interfaces.foo_lists (record {
-          interfaces = tt;
-          no_world = tt;
-          no_interface = (λ s. s, tt);
-          worlds = (tt, tt);
-          imports = (tt, tt);
-          exports = (λ s. s, tt);
-          imported_encodings = (tt, tt);
-          exported_encodings = (tt, tt);
-        }),
-      ),
-      (
-        (
-          united_by_lists interfaces.foo_lists other_lists (record {
-            interfaces = (refl, tt);
-            no_world = (λ s. s, tt);
-            no_interface = (λ s. s, tt);
-            worlds = (tt, tt);
-            imports = (refl, tt);
-            exports =
-                tt;
-            imported_encodings = (refl, tt);
-            exported_encodings = tt;
-          }),
-          united_by_lists other_lists interfaces.foo_lists (record {
-            interfaces = (refl, tt);
-            no_world = (λ s. s, tt);
-            no_interface = (λ s. s, tt);
-            worlds = (tt, tt);
-            imports = (refl, tt);
-            exports =
-                tt;
-            imported_encodings = (refl, tt);
-            exported_encodings = tt;
-          }),
-        ),
-        tt,
-      ),
-    ),
-    (
-      (
-        (
-          united_by_lists functions.foo_lists other_lists (record {
-            interfaces = tt;
-            no_world = tt;
-            no_interface = (λ s. s, tt);
-            worlds = (tt, tt);
-            imports = (tt, tt);
-            exports = (λ s. s, tt);
-            imported_encodings = (tt, tt);
-            exported_encodings = (tt, tt);
-          }),
-          united_by_lists other_lists functions.foo_lists (record {
-            interfaces = (tt, tt);
-            no_world = (λ s. s, tt);
-            no_interface = (λ s. s, tt);
-            worlds = (tt, tt);
-            imports = (tt, tt);
-            exports = tt;
-            imported_encodings = (tt, tt);
-            exported_encodings = tt;
-          }),
-        ),
-        tt,
-      ),
-      (tt, tt),
-    ),
+    (unites interfaces.foo_lists functions.foo_lists (assumption) (assumption), (unites interfaces.foo_lists other_lists (assumption) (assumption), tt)),
+    ((unites functions.foo_lists other_lists (assumption) (assumption), tt), (tt, tt)),
   ),
 )
 

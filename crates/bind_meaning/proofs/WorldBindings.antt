@@ -1,13 +1,13 @@
 -- A world of a valid `Resolve`, bound, is a binding.
-use Rattle.std.proofs.Common.{◌≡◌, refl, sym, ap, subst, ◌∙◌, ℕ, Bool, true, false, not, ◌&&◌, ◌||◌, ◌==◌, List, [], ◌∷◌, map, length, Option, Some, None, option_map, option_and_then, unwrap_or, String, Contains}
+use Rattle.std.proofs.Common.{slice_get, filter_map, ◌≡◌, refl, sym, ap, subst, ◌∙◌, ℕ, true, false, not, ◌&&◌, ◌||◌, ◌==◌, List, [], ◌∷◌, map, length, Option, Some, option_map, option_and_then, unwrap_or, String, Contains}
 use Rattle.std.specs.Prelude.{is_some, option_to_list}
 use Rattle.std.specs.List.{AllByRecursion, IsDistinct, list_all, list_any}
 use Rattle.std.specs.Map.{keys_of}
 use Rattle.std.specs.Option.{option_map_or}
 use Rattle.std.specs.declared.alloc.Global.{Global}
 use Rattle.std.specs.Cmp.Lexicographic.{nat_list_cmp_total}
-use Rattle.std.specs.FinMap.{from_entries, get, get-from_entries}
-use Rattle.std.proofs.lemmas.Bool.{lt-ltb}
+use Rattle.std.specs.FinMap.{find, from_entries, get, get-from_entries}
+use Rattle.std.proofs.lemmas.Bool.{false_from_ne_true, lt-ltb}
 use Rattle.std.proofs.lemmas.List.Elements.{Contains-append_left, Contains-append_right}
 use Rattle.wit_model.specs.declared.model.Interface.{Interface}
 use Rattle.wit_model.specs.declared.model.Package.{Package}
@@ -43,13 +43,22 @@ use Rattle.wit_model.proofs.ValidLemmas.{world_passes as world-passes}
 
 -- ---- what stands under a path
 
+module _ {A X : Type 0} (path_of : A → Option Text) (meaning : A → X) (items : List A) (path : Text) where
+  abbrev by_path : A → Option (Text × X)
+  by_path a = option_map (λ p. (p, meaning a)) (path_of a)
+
+  under-path : (x : X) → Contains (filter_map by_path items) (path, x) → (n : ℕ) × (a : A) × (slice_get items n ≡ Some a) × (path_of a ≡ Some path) × (meaning a ≡ x)
+  under-path x c =
+      let a = from-given by_path items (path, x) c in
+      let n = contains-get items a.0 a.1.0 in
+      let p = mapped (λ (t : Text). (t, meaning a.0)) (path_of a.0) (path, x) a.1.1 in
+      (n.0, a.0, n.1, p.1 ∙ ap Some (ap (λ (e : Text × X). e.0) p.2), ap (λ (e : Text × X). e.1) p.2)
+
+  path-found : (n : ℕ) (a : A) → slice_get items n ≡ Some a → path_of a ≡ Some path → (x : X) × (find text_cmp path (filter_map by_path items) ≡ Some x)
+  path-found n a at is = contains-find (filter_map by_path items) path (meaning a) (contains-filter_map by_path items a (path, meaning a) (get-contains items n a at)
+      (subst (λ (o : Option (Text × X)). Contains (option_to_list o) (path, meaning a)) (sym (ap (option_map (λ (t : Text). (t, meaning a))) is)) (contains-one (path, meaning a))))
+
 module _ (r : Resolve) where
-  abbrev named_interface : Interface → Option (Text × InterfaceMeaning)
-  named_interface i = option_map (λ path. (path, interface_meaning r i)) (path_of_interface r i)
-
-  abbrev named_world : World → Option (Text × WorldMeaning)
-  named_world w = option_map (λ path. (path, world_meaning r w)) (path_of_world r w)
-
   -- an interface of this path, which means this
   pub record IsInterfaceUnder (path : Text) (x : InterfaceMeaning) : Type 0 where
     pub number : ℕ
@@ -63,22 +72,18 @@ module _ (r : Resolve) where
 
   interface-listed : (path : Text) (x : InterfaceMeaning) → Contains (interfaces_by_path r) (path, x) → IsInterfaceUnder path x
   interface-listed path x c =
-      let i = from-given named_interface r.interfaces.items (path, x) c in
-      let n = contains-get r.interfaces.items i.0 i.1.0 in
-      let p = mapped (λ (t : Text). (t, interface_meaning r i.0)) (path_of_interface r i.0) (path, x) i.1.1 in record {
-        number = n.0;
-        under = ap (option_and_then (path_of_interface r)) n.1 ∙ (p.1 ∙ ap Some (ap (λ (e : Text × InterfaceMeaning). e.0) p.2));
-        means = ap (λ (o : Option Interface). option_map_or (interface_meaning r) o no_interface) n.1 ∙ ap (λ (e : Text × InterfaceMeaning). e.1) p.2;
+      let i = under-path (path_of_interface r) (interface_meaning r) r.interfaces.items path x c in record {
+        number = i.0;
+        under = ap (option_and_then (path_of_interface r)) i.2 ∙ i.3;
+        means = ap (λ (o : Option Interface). option_map_or (interface_meaning r) o no_interface) i.2 ∙ i.4;
       }
 
   world-listed : (path : Text) (x : WorldMeaning) → Contains (worlds_by_path r) (path, x) → IsWorldUnder path x
   world-listed path x c =
-      let w = from-given named_world r.worlds.items (path, x) c in
-      let n = contains-get r.worlds.items w.0 w.1.0 in
-      let p = mapped (λ (t : Text). (t, world_meaning r w.0)) (path_of_world r w.0) (path, x) w.1.1 in record {
-        number = n.0;
-        under = ap (option_and_then (path_of_world r)) n.1 ∙ (p.1 ∙ ap Some (ap (λ (e : Text × WorldMeaning). e.0) p.2));
-        means = ap (λ (o : Option World). option_map_or (world_meaning r) o no_world) n.1 ∙ ap (λ (e : Text × WorldMeaning). e.1) p.2;
+      let w = under-path (path_of_world r) (world_meaning r) r.worlds.items path x c in record {
+        number = w.0;
+        under = ap (option_and_then (path_of_world r)) w.2 ∙ w.3;
+        means = ap (λ (o : Option World). option_map_or (world_meaning r) o no_world) w.2 ∙ w.4;
       }
 
   -- what a binding has under a path stands there
@@ -93,20 +98,14 @@ module _ (r : Resolve) where
     pub interface-found : (n : ℕ) (path : Text) → interface_path r n ≡ Some path → get (from_entries {R = text_cmp} (interfaces_by_path r)) path ≡ Some (interface_meaning_at r n)
     interface-found n path is =
         let i = given (path_of_interface r) (interface_at r n) path is in
-        let named : named_interface i.0 ≡ Some (path, interface_meaning r i.0) = ap (option_map (λ (t : Text). (t, interface_meaning r i.0))) i.2 in
-        let entry = contains-filter_map named_interface r.interfaces.items i.0 (path, interface_meaning r i.0) (get-contains r.interfaces.items n i.0 i.1)
-        (subst (λ (o : Option (Text × InterfaceMeaning)). Contains (option_to_list o) (path, interface_meaning r i.0)) (sym named) (contains-one (path, interface_meaning r i.0))) in
-        let found = contains-find (interfaces_by_path r) path (interface_meaning r i.0) entry in
+        let found = path-found (path_of_interface r) (interface_meaning r) r.interfaces.items path n i.0 i.1 i.2 in
         let x = interface-listed path found.0 (find-contains (interfaces_by_path r) path found.0 found.1) in
         get-from_entries nat_list_cmp_total (interfaces_by_path r) path ∙ (found.1 ∙ ap Some (sym x.means ∙ ap (interface_meaning_at r) (path-once r v x.number n path x.under is)))
 
     pub world-found : (n : ℕ) (path : Text) → path_at r n ≡ Some path → get (from_entries {R = text_cmp} (worlds_by_path r)) path ≡ Some (world_meaning_at r n)
     world-found n path is =
         let w = given (path_of_world r) (world_at r n) path is in
-        let named : named_world w.0 ≡ Some (path, world_meaning r w.0) = ap (option_map (λ (t : Text). (t, world_meaning r w.0))) w.2 in
-        let entry = contains-filter_map named_world r.worlds.items w.0 (path, world_meaning r w.0) (get-contains r.worlds.items n w.0 w.1)
-        (subst (λ (o : Option (Text × WorldMeaning)). Contains (option_to_list o) (path, world_meaning r w.0)) (sym named) (contains-one (path, world_meaning r w.0))) in
-        let found = contains-find (worlds_by_path r) path (world_meaning r w.0) entry in
+        let found = path-found (path_of_world r) (world_meaning r) r.worlds.items path n w.0 w.1 w.2 in
         let x = world-listed path found.0 (find-contains (worlds_by_path r) path found.0 found.1) in
         get-from_entries nat_list_cmp_total (worlds_by_path r) path ∙ (found.1 ∙ ap Some (sym x.means ∙ ap (world_meaning_at r) (world-once r v x.number n path x.under is)))
 
@@ -129,9 +128,7 @@ module _ (r : Resolve) where
         by : (o : Option InterfaceMeaning) (p : Option WorldMeaning) → get (from_entries {R = text_cmp} (interfaces_by_path r)) path ≡ o → get (from_entries {R = text_cmp} (worlds_by_path r)) path ≡ p
             → Stand o p → ⊥
         by (Some x) (Some y) e f s = let i = interface-under path x e in let w = world-under path y f in path-apart r v i.number w.number path i.under w.under
-        by (Some x) None e f s = s
-        by None (Some y) e f s = s
-        by None None e f s = s
+        by _ _ e f s = absurd s
 
 -- ---- the texts of keys
 
@@ -142,11 +139,7 @@ module _ (r : Resolve) (v : IsValid r) where
   IsKey (key.Interface id) = is_some (interface_path r id.0) ≡ true
 
   unlike : (s t : Text) → (s ≡ t → ⊥) → text_eq s t ≡ false
-  unlike s t never = go (text_eq s t) refl
-    where
-      go : (b : Bool) → text_eq s t ≡ b → b ≡ false
-      go true e = absurd (never (text-same s t e))
-      go false e = refl
+  unlike s t never = false_from_ne_true _ (λ e. never (text-same s t e))
 
   name-apart : (name : String Global) (m : ℕ) (path : Text) → Lacks 58 (text_of name) → interface_path r m ≡ Some path → text_of name ≡ path → ⊥
   name-apart name m path lacks is same =

@@ -1,5 +1,5 @@
 -- A world is known by its path: in valid packages no two have the same, and none has that of an interface.
-use Rattle.std.proofs.Common.{◌≡◌, refl, sym, ap, subst, ◌∙◌, ℕ, Bool, true, false, not, ◌&&◌, ◌||◌, cond, List, [], ◌∷◌, Option, Some, option_map, option_and_then, String}
+use Rattle.std.proofs.Common.{◌≡◌, refl, sym, ap, ◌∙◌, ℕ, Bool, true, false, not, ◌&&◌, ◌||◌, cond, List, [], ◌∷◌, Option, Some, option_map, option_and_then, String}
 use Rattle.std.specs.Prelude.{is_some}
 use Rattle.std.specs.List.{list_any}
 use Rattle.std.specs.Option.{option_map_or}
@@ -48,7 +48,7 @@ has-world-path r n path e =
 -- a name that leads to a world is a world's
 found-name : (t : Text) (es : List (String Global × WorldId)) (n : ℕ) → is_id n (option_map (λ id. id.0) (lookup (λ k. text_eq t (text_of k)) es)) ≡ true
     → list_any (λ other. text_eq t (text_of other)) (keys_of es) ≡ true
-found-name t [] n h = let no : ⊥ = cc in absurd no
+found-name t [] n h = absurd cc
 found-name t (e ∷ es) n h = by (text_eq t (text_of e.0)) h (found-name t es n)
   where
     by : (b : Bool) → is_id n (option_map (λ id. id.0) (cond b (Some e.1) (lookup (λ k. text_eq t (text_of k)) es))) ≡ true
@@ -70,19 +70,25 @@ module _ (r : Resolve) (v : IsValid r) where
       let home : option_and_then (package_at r) (package_number h.def.package) ≡ Some h.package_ = ap (λ p. option_and_then (package_at r) (package_number p)) h.in_package ∙ h.stands in
       given-test (world_is_listed n (text_of h.def.name)) (option_and_then (package_at r) (package_number h.def.package)) true h.package_ home rule
 
+  -- what has one path has one package and one name
+  one_home : (k l : ℕ) (p q : Package) → package_at r k ≡ Some p → package_at r l ≡ Some q → (s t : Text) → is_label s ≡ true → is_label t ≡ true
+      → path_in (identity_of p.name) s ≡ path_in (identity_of q.name) t → (q ≡ p) × (s ≡ t)
+  one_home k l p q e f s t a b same =
+      let first = package-name r v k p e in
+      let second = package-name r v l q f in
+      let parts = one_path (identity_of p.name) (identity_of q.name) s t first.identity a second.identity b same in
+      let homes : l ≡ k = package-once r v k l p q e f ((same_name p.name q.name first.version second.version).1 parts.0) in
+      (some-same q p (sym f ∙ (ap (package_at r) homes ∙ e)), parts.1)
+
   -- worlds of the same path are one
   pub world-once : (m n : ℕ) (path : Text) → path_at r m ≡ Some path → path_at r n ≡ Some path → m ≡ n
   world-once m n path e f =
       let a = has-world-path r m path e in
       let b = has-world-path r n path f in
-      let p = package-name r v a.home.0 a.package_ a.stands in
-      let q = package-name r v b.home.0 b.package_ b.stands in
-      let parts = one_path (identity_of a.package_.name) (identity_of b.package_.name) (text_of a.def.name) (text_of b.def.name) p.identity (world-label m path a) q.identity (world-label n path b)
-      (sym a.spelled ∙ b.spelled) in
-      let homes : b.home.0 ≡ a.home.0 = package-once r v a.home.0 b.home.0 a.package_ b.package_ a.stands b.stands ((same_name a.package_.name b.package_.name p.version q.version).1 parts.0) in
-      let one : b.package_ ≡ a.package_ = some-same b.package_ a.package_ (sym b.stands ∙ ap (package_at r) homes ∙ a.stands) in
+      let one = one_home a.home.0 b.home.0 a.package_ b.package_ a.stands b.stands (text_of a.def.name) (text_of b.def.name)
+      (world-label m path a) (world-label n path b) (sym a.spelled ∙ b.spelled) in
       one-number m n (option_map (λ id. id.0) (get_by_text a.package_.worlds (text_of a.def.name))) (world-listed m path a)
-      (subst (λ (x : Package). world_is_listed n (text_of a.def.name) x ≡ true) one (subst (λ (t : Text). world_is_listed n t b.package_ ≡ true) (sym parts.1) (world-listed n path b)))
+      ((λ i. world_is_listed n (one.1 i) (sym one.0 i)) ∙ world-listed n path b)
 
   -- an interface's name is no world's
   unworldly : (n : ℕ) (path : Text) (h : HasPath r n path) → not (is_world_name h.package_ (text_of h.name)) ≡ true
@@ -100,12 +106,6 @@ module _ (r : Resolve) (v : IsValid r) where
   path-apart m n path e f =
       let a = has-path r m path e in
       let b = has-world-path r n path f in
-      let p = package-name r v a.home.0 a.package_ a.stands in
-      let q = package-name r v b.home.0 b.package_ b.stands in
-      let parts = one_path (identity_of a.package_.name) (identity_of b.package_.name) (text_of a.name) (text_of b.def.name) p.identity (path-label r v m path a) q.identity (world-label n path b)
-      (sym a.spelled ∙ b.spelled) in
-      let homes : b.home.0 ≡ a.home.0 = package-once r v a.home.0 b.home.0 a.package_ b.package_ a.stands b.stands ((same_name a.package_.name b.package_.name p.version q.version).1 parts.0) in
-      let one : b.package_ ≡ a.package_ = some-same b.package_ a.package_ (sym b.stands ∙ ap (package_at r) homes ∙ a.stands) in
-      let listed : world_is_listed n (text_of a.name) a.package_ ≡ true
-      = subst (λ (x : Package). world_is_listed n (text_of a.name) x ≡ true) one (subst (λ (t : Text). world_is_listed n t b.package_ ≡ true) (sym parts.1) (world-listed n path b)) in
+      let one = one_home a.home.0 b.home.0 a.package_ b.package_ a.stands b.stands (text_of a.name) (text_of b.def.name) (path-label r v m path a) (world-label n path b) (sym a.spelled ∙ b.spelled) in
+      let listed : world_is_listed n (text_of a.name) a.package_ ≡ true = (λ i. world_is_listed n (one.1 i) (sym one.0 i)) ∙ world-listed n path b in
       not-both (is_world_name a.package_ (text_of a.name)) (unworldly m path a) (found-name (text_of a.name) a.package_.worlds.entries n listed)

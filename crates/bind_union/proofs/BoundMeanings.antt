@@ -1,5 +1,5 @@
 -- The bound world means what it meant, followed by what is new in the other's bound world.
-use Rattle.std.proofs.Common.{◌≡◌, refl, sym, ap, subst, ◌∙◌, ℕ, arith, Bool, true, false, cond, List, [], ◌∷◌, ◌++◌, map, filter, Option, Some, None, is_none, is_some}
+use Rattle.std.proofs.Common.{◌≡◌, refl, sym, ap, subst, ◌∙◌, ℕ, arith, Bool, true, false, cond, List, [], ◌∷◌, ◌++◌, map, filter, Some, None, is_none, is_some}
 use Rattle.std.specs.List.{Contains, AllByRecursion, IsDistinct}
 use Rattle.std.specs.FinMap.{find}
 use Rattle.wit_model.specs.declared.model.Resolve.{Resolve}
@@ -42,12 +42,6 @@ not_looked_up : {X : Type 0} (q : Text) (es : List (Text × X)) → AllByRecursi
 not_looked_up q [] h = refl
 not_looked_up {X = X} q (e ∷ es) h = ap (λ b. is_none (cond b (Some e.1) (entry_under {X = X} q es))) (text_eq_flip q e.0 ∙ h.0) ∙ not_looked_up q es h.1
 
-not_found : {X : Type 0} (es : List (Text × X)) (q : Text) → AllByRecursion (λ k. text_eq k q ≡ false) (map (λ (e : Text × X). e.0) es) → is_none (find text_cmp q es) ≡ true
-not_found es q h = ap is_none (find_is q es) ∙ not_looked_up q es h
-
-found_none : {X : Type 0} (o : Option X) (x : X) → o ≡ Some x → is_none o ≡ false
-found_none o x e = ap is_none e
-
 module _ (r s : Resolve) (f : Renumbering) (valid : KeepsRules r) (is : IsCarried r s f) (below_s : Keeps references s)
     (inline_copied : (m : ℕ) (i : Interface) → f.carries_interface m ≡ true → interface_at r m ≡ Some i → i.name ≡ None → f.copies_interface m ≡ true)
     (pathless : (m : ℕ) (i : Interface) → interface_at r m ≡ Some i → is_some i.name ≡ true → interface_path r m ≡ None → ⊥)
@@ -71,7 +65,7 @@ module _ (r s : Resolve) (f : Renumbering) (valid : KeepsRules r) (is : IsCarrie
           (contains-map (λ (e : WorldKey × WorldItem). (key_text s e.0, entry_meaning s e.1)) own there c))
 
       found : is_added (key_text r old.0, entry_meaning r old.1) ≡ false
-      found = let y = there_some meant (key_text r old.0) (entry_meaning s there.1) at in found_none (find text_cmp (key_text r old.0) meant) y.0 y.1
+      found = let y = there_some meant (key_text r old.0) (entry_meaning s there.1) at in ap is_none y.1
   news_mean _ _ (added old new olds news n z rest) h =
       (λ i. (key i, item_means r s f valid is below_s inline_copied pathless old.1 new.1 z.1 i) ∷ news_mean olds news rest (λ q c. h q (contains-later (key_text s new.0) (texts s news) q c)) i)
       ∙ sym (ap (λ b. cond b ((key_text r old.0, entry_meaning r old.1) ∷ filter is_added (entries_meaning r olds)) (filter is_added (entries_meaning r olds))) not_there)
@@ -81,7 +75,8 @@ module _ (r s : Resolve) (f : Renumbering) (valid : KeepsRules r) (is : IsCarrie
 
       not_there : is_added (key_text r old.0, entry_meaning r old.1) ≡ true
       not_there = subst (λ (t : Text). is_none (find text_cmp t meant) ≡ true) key
-          (not_found meant (key_text s new.0) (subst (λ (ts : List Text). AllByRecursion (λ k. text_eq k (key_text s new.0) ≡ false) ts) (sym meant_texts)
+          (ap is_none (find_is (key_text s new.0) meant) ∙ not_looked_up (key_text s new.0) meant
+          (subst (λ (ts : List Text). AllByRecursion (λ k. text_eq k (key_text s new.0) ≡ false) ts) (sym meant_texts)
           (h (key_text s new.0) (0, omega arith, refl))))
 
   pub joined_mean : (olds news whole : List (WorldKey × WorldItem)) → whole ≡ own ++ news → Joined f own olds news → HaveDistinctTexts s whole

@@ -25,7 +25,7 @@ use Rattle.wit_model.specs.Types.{number_of, number_tree, type_tree}
 use Rattle.wit_model.specs.Parts.{kind_numbers, met_by, met_of, used_by_type}
 use Rattle.wit_model.specs.Uses.{has}
 use Rattle.wit_model.specs.Rules.{passes, in_list, package_number}
-use Rattle.wit_model.specs.Valid.{Keeps, KeepsRules, numbers_in_range}
+use Rattle.wit_model.specs.Valid.{is_place, Keeps, KeepsRules, numbers_in_range}
 use Rattle.wit_model.specs.Checks.{references}
 use Rattle.wit_model.proofs.Entries.{each_from_all, lists_pass, types_keep}
 use Rattle.wit_model.proofs.TreeTable.{kept_numbers}
@@ -56,12 +56,9 @@ pub refers_below : (r : Resolve) → Keeps references r → RefersBelow r
 refers_below r h n def is = below_at r h n def is
 
 -- the package of an interface is there
-package_there : (r : Resolve) → KeepsRules r → (n : ℕ) (i : Interface) → interface_at r n ≡ Some i → (p : ℕ) → package_number i.«package» ≡ Some p → (q : Package) × (package_at r p ≡ Some q)
+pub interface_package : (r : Resolve) → KeepsRules r → (n : ℕ) (i : Interface) → interface_at r n ≡ Some i → passes (in_list r.packages.items) (package_number i.«package») ≡ true
 unfolding numbers_in_range
-package_there r v n i is p e =
-    let passed : numbers_in_range.interface_ r n i ≡ true = each_at (numbers_in_range.interface_ r) r.interfaces.items n i (lists_pass numbers_in_range r v.numbers_in_range).1 is in
-    let range : passes (in_list r.packages.items) (package_number i.«package») ≡ true = first_true _ _ (second_true _ _ passed) in
-    found-in r.packages.items p (ap (passes (in_list r.packages.items)) (sym e) ∙ range)
+interface_package r v n i is = first_true _ _ (second_true (is_place n) _ (each_at (numbers_in_range.interface_ r) r.interfaces.items n i (lists_pass numbers_in_range r v.numbers_in_range).1 is))
 
 -- ---- paths
 
@@ -117,7 +114,8 @@ module _ (r s : Resolve) (f : Renumbering) (valid : KeepsRules r) (is : IsCarrie
       go i None e = ap (λ x. path_by s (optional_text x) (package_number i.image.«package»)) e ∙ sym (ap (λ x. path_by r (optional_text x) (package_number i.old.«package»)) e)
       go i (Some x) e =
           ap (path_by s (optional_text i.old.name)) (i.in_package (ap is_some e))
-          ∙ same_path_by (optional_text i.old.name) (package_number i.old.«package») (package_there r valid n i.old i.found)
+          ∙ same_path_by (optional_text i.old.name) (package_number i.old.«package»)
+          (λ p e. found-in r.packages.items p (ap (passes (in_list r.packages.items)) (sym e) ∙ interface_package r valid n i.old i.found))
 
   pub place_same : (o : TypeOwner) → carries_owner f o ≡ true → place_of s (owner_under f o) ≡ place_of r o
   place_same (owner.World id) c = refl
@@ -150,21 +148,8 @@ module _ (r s : Resolve) (f : Renumbering) (valid : KeepsRules r) (is : IsCarrie
 
   -- the numbers in a type
   pub type_tree_same : (t : ValueType) → list_all f.carries_type (option_to_list (number_of t)) ≡ true → type_tree s (renamed_type f.types t) ≡ type_tree r t
-  type_tree_same ty.Bool h = refl
-  type_tree_same ty.U8 h = refl
-  type_tree_same ty.U16 h = refl
-  type_tree_same ty.U32 h = refl
-  type_tree_same ty.U64 h = refl
-  type_tree_same ty.S8 h = refl
-  type_tree_same ty.S16 h = refl
-  type_tree_same ty.S32 h = refl
-  type_tree_same ty.S64 h = refl
-  type_tree_same ty.F32 h = refl
-  type_tree_same ty.F64 h = refl
-  type_tree_same ty.Char h = refl
-  type_tree_same ty.String h = refl
-  type_tree_same ty.ErrorContext h = refl
   type_tree_same (ty.Id id) h = tree_same id.0 (first_true _ _ h)
+  type_tree_same _ h = refl
 
   -- the numbers in a kind that is carried are carried
   pub kind_carried : (def image : TypeDef) → HasImageKind f.types f.carries_type def image → list_all f.carries_type (kind_numbers def.kind) ≡ true

@@ -1,5 +1,5 @@
 -- What is carried keeps its owner, and a resource stays one.
-use Rattle.std.proofs.Common.{◌≡◌, ◌⊎◌, inl, inr, refl, sym, ap, subst, ◌∙◌, ℕ, zero, suc, ◌<◌, arith, Bool, true, false, ◌||◌, ◌==◌, nat_lt, ltb-true, ◌++◌, Option, Some, None, option_map, option_to_list, filter_map}
+use Rattle.std.proofs.Common.{◌&&◌, ◌≡◌, ◌⊎◌, inl, inr, refl, sym, ap, subst, ◌∙◌, ℕ, zero, suc, ◌<◌, arith, Bool, true, false, ◌||◌, ◌==◌, nat_lt, ltb-true, ◌++◌, Option, Some, None, option_map, option_to_list, filter_map}
 use Rattle.std.specs.List.{list_all}
 use Rattle.std.specs.Option.{option_map_or}
 use Rattle.std.proofs.lemmas.List.Folds.{list_all-append}
@@ -24,7 +24,7 @@ use Rattle.bind_union.specs.Carried.{Renumbering, Rises, owner_under, carries_ow
 use Rattle.bind_union.proofs.Lists.{no_true}
 use Rattle.bind_union.proofs.ViewTests.{alias_same, resource_same, number_under}
 use Rattle.bind_union.proofs.Carrying.{references_of, kind_carried}
-use Rattle.base_lemmas.proofs.Bools.{left_of as first_true, right_of as second_true}
+use Rattle.base_lemmas.proofs.Bools.{left_of as first_true, right_of as second_true, and-true}
 use Rattle.base_lemmas.proofs.Numbers.{equal, same-number}
 use Rattle.wit_model.proofs.PartsLemmas.{owner_itself, owner_same as owner_equal}
 
@@ -33,42 +33,28 @@ use Rattle.wit_model.proofs.PartsLemmas.{owner_itself, owner_same as owner_equal
 -- a kind is a resource, or an alias of one
 resource_kind : (test : ℕ → Bool) (k : TypeDefKind) → is_resource_kind test k ≡ (is_resource_itself k || option_map_or test (alias_target k) false)
 resource_kind test kind.Resource = refl
-resource_kind test (kind.Type_ t) = refl
-resource_kind test (kind.Record x) = refl
-resource_kind test (kind.Handle x) = refl
-resource_kind test (kind.Flags x) = refl
-resource_kind test (kind.Tuple x) = refl
-resource_kind test (kind.Variant x) = refl
-resource_kind test (kind.Enum x) = refl
-resource_kind test (kind.Option x) = refl
-resource_kind test (kind.Result x) = refl
-resource_kind test (kind.List x) = refl
-resource_kind test (kind.Map x y) = refl
-resource_kind test (kind.FixedLengthList x y) = refl
-resource_kind test (kind.Future x) = refl
-resource_kind test (kind.Stream x) = refl
+resource_kind test _ = refl
 
--- what is asked of all numbers in a kind is asked of an alias's target
-pub alias_of_all : (p : ℕ → Bool) (k : TypeDefKind) → list_all p (kind_numbers k) ≡ true → passes p (alias_target k) ≡ true
-alias_of_all p k h = go (alias_target k) (second_true (list_all p (option_to_list (handled k))) _
-    (sym (list_all-append p (option_to_list (handled k)) (option_to_list (alias_target k))) ∙ second_true (list_all p (filter_map number_of (member_types k))) _
-    (sym (list_all-append p (filter_map number_of (member_types k)) (option_to_list (handled k) ++ option_to_list (alias_target k))) ∙ h)))
-  where
-    go : (o : Option ℕ) → list_all p (option_to_list o) ≡ true → passes p o ≡ true
-    go None h = refl
-    go (Some n) h = first_true _ _ h
+pub all_given : {X : Type 0} (p : X → Bool) (o : Option X) → list_all p (option_to_list o) ≡ passes p o
+all_given p None = refl
+all_given p (Some x) = and-true (p x)
 
-pub handled_of_all : (p : ℕ → Bool) (k : TypeDefKind) → list_all p (kind_numbers k) ≡ true → passes p (handled k) ≡ true
-handled_of_all p k h = go (handled k) (first_true (list_all p (option_to_list (handled k))) _
-    (sym (list_all-append p (option_to_list (handled k)) (option_to_list (alias_target k))) ∙ second_true (list_all p (filter_map number_of (member_types k))) _
-    (sym (list_all-append p (filter_map number_of (member_types k)) (option_to_list (handled k) ++ option_to_list (alias_target k))) ∙ h)))
-  where
-    go : (o : Option ℕ) → list_all p (option_to_list o) ≡ true → passes p o ≡ true
-    go None h = refl
-    go (Some n) h = first_true _ _ h
+-- what is asked of all numbers in a kind is asked of those in its members, of what it handles, and of an alias's target
+parts_of_all : (p : ℕ → Bool) (k : TypeDefKind) → list_all p (kind_numbers k)
+    ≡ (list_all p (filter_map number_of (member_types k)) && (passes p (handled k) && passes p (alias_target k)))
+parts_of_all p k =
+    list_all-append p (filter_map number_of (member_types k)) (option_to_list (handled k) ++ option_to_list (alias_target k))
+    ∙ ap (λ b. list_all p (filter_map number_of (member_types k)) && b) (list_all-append p (option_to_list (handled k)) (option_to_list (alias_target k))
+    ∙ (λ i. all_given p (handled k) i && all_given p (alias_target k) i))
 
 pub members_of_all : (p : ℕ → Bool) (k : TypeDefKind) → list_all p (kind_numbers k) ≡ true → list_all p (filter_map number_of (member_types k)) ≡ true
-members_of_all p k h = first_true _ _ (sym (list_all-append p (filter_map number_of (member_types k)) (option_to_list (handled k) ++ option_to_list (alias_target k))) ∙ h)
+members_of_all p k h = first_true _ _ (sym (parts_of_all p k) ∙ h)
+
+pub handled_of_all : (p : ℕ → Bool) (k : TypeDefKind) → list_all p (kind_numbers k) ≡ true → passes p (handled k) ≡ true
+handled_of_all p k h = first_true _ _ (second_true (list_all p (filter_map number_of (member_types k))) _ (sym (parts_of_all p k) ∙ h))
+
+pub alias_of_all : (p : ℕ → Bool) (k : TypeDefKind) → list_all p (kind_numbers k) ≡ true → passes p (alias_target k) ≡ true
+alias_of_all p k h = second_true (passes p (handled k)) _ (second_true (list_all p (filter_map number_of (member_types k))) _ (sym (parts_of_all p k) ∙ h))
 
 -- ---- owners
 
@@ -160,13 +146,10 @@ module _ (r s : Resolve) (f : Renumbering) (valid : KeepsRules r) (is : IsCarrie
 
   pub owner_apart : (o p : TypeOwner) → carries_owner f p ≡ true → alone o ≡ true → same_owner (owner_under f p) (owner_under f o) ≡ true → same_owner p o ≡ true
   owner_apart (owner.World a) (owner.World b) c d h = subst (λ (k : ℕ). (b.0 == k) ≡ true) (is.worlds_apart b.0 a.0 c d (equal (f.worlds b.0) (f.worlds a.0) h)) (same-number b.0)
-  owner_apart (owner.World a) (owner.Interface b) c d h = no_true h
-  owner_apart (owner.World a) owner.None c d h = no_true h
-  owner_apart (owner.Interface a) (owner.World b) c d h = no_true h
   owner_apart (owner.Interface a) (owner.Interface b) c d h = subst (λ (k : ℕ). (b.0 == k) ≡ true)
       (apart f.interfaces f.carries_interface f.copies_interface is.interfaces_rise is.copied_interfaces b.0 a.0 c d (equal (f.interfaces b.0) (f.interfaces a.0) h)) (same-number b.0)
-  owner_apart (owner.Interface a) owner.None c d h = no_true h
   owner_apart owner.None p c d h = no_true d
+  owner_apart _ _ c d h = no_true h
 
   pub owner_back : (o : TypeOwner) (n : ℕ) → alone o ≡ true → f.carries_type n ≡ true → has_owner s (owner_under f o) (f.types n) ≡ true → has_owner r o n ≡ true
   owner_back o n d c h =

@@ -20,7 +20,7 @@ use Rattle.wit_model.specs.Tree.{Tree, Place, named, type_, record_tree, variant
 use Rattle.wit_model.specs.Types.{no_tree, number_of, tree_at, tree_of, declared_by, tree_of_definition, tree_of_declaration, trees_of, number_tree, declaration_of}
 use Rattle.wit_model.specs.Parts.{kind_numbers}
 use Rattle.wit_model.proofs.TreeTable.{trees_at}
-use Rattle.bind_union.specs.Views.{KindView, record_view, variant_view, flags_view, enum_view, tuple_view, resource_view, own_view, borrow_view, option_view, result_view, list_view, map_view, fixed_list_view, future_view, stream_view, alias_view, kind_view, renamed_type, renamed, declared_view, type_numbers, optional_numbers, view_numbers}
+use Rattle.bind_union.specs.Views.{KindView, record_view, variant_view, tuple_view, own_view, borrow_view, option_view, result_view, list_view, map_view, fixed_list_view, future_view, stream_view, alias_view, kind_view, renamed_type, renamed, declared_view, type_numbers, optional_numbers, view_numbers}
 use Rattle.bind_union.specs.Images.{HasImageKind, IsCarriedType, AreCarried, RefersBelow, SameTrees, SameDeclarations}
 use Rattle.base_lemmas.proofs.Bools.{left_of as first_true, right_of as second_true}
 use Rattle.base_lemmas.proofs.Lists.{map_of_map as mapped_twice}
@@ -30,21 +30,9 @@ use Rattle.base_lemmas.proofs.Lists.{map_of_map as mapped_twice}
 -- a kind declares what its view does
 pub declared_by_view : (trees : List Tree) (k : TypeDefKind) → declared_view trees (kind_view k) ≡ declared_by trees k
 declared_by_view trees (kind.Record record_) = ap (λ fs. type_ (record_tree fs)) (mapped_twice _ _ record_.fields.items)
-declared_by_view trees kind.Resource = refl
 declared_by_view trees (kind.Handle (handle.Own id)) = refl
-declared_by_view trees (kind.Handle (handle.Borrow id)) = refl
-declared_by_view trees (kind.Flags flags) = refl
-declared_by_view trees (kind.Tuple tuple) = refl
 declared_by_view trees (kind.Variant variant) = ap (λ cs. type_ (variant_tree cs)) (mapped_twice _ _ variant.cases.items)
-declared_by_view trees (kind.Enum enum) = refl
-declared_by_view trees (kind.Option t) = refl
-declared_by_view trees (kind.Result result) = refl
-declared_by_view trees (kind.List t) = refl
-declared_by_view trees (kind.Map k v) = refl
-declared_by_view trees (kind.FixedLengthList t n) = refl
-declared_by_view trees (kind.Future t) = refl
-declared_by_view trees (kind.Stream t) = refl
-declared_by_view trees (kind.Type_ t) = refl
+declared_by_view trees _ = refl
 
 -- ---- under other numbers
 
@@ -80,46 +68,26 @@ module _ (f : ℕ → ℕ) (us trees : List Tree) where
   Same n = tree_at us (f n) ≡ tree_at trees n
 
   type_same : (t : ValueType) → Each Same (type_numbers t) → tree_of us (renamed_type f t) ≡ tree_of trees t
-  type_same ty.Bool h = refl
-  type_same ty.U8 h = refl
-  type_same ty.U16 h = refl
-  type_same ty.U32 h = refl
-  type_same ty.U64 h = refl
-  type_same ty.S8 h = refl
-  type_same ty.S16 h = refl
-  type_same ty.S32 h = refl
-  type_same ty.S64 h = refl
-  type_same ty.F32 h = refl
-  type_same ty.F64 h = refl
-  type_same ty.Char h = refl
-  type_same ty.String h = refl
-  type_same ty.ErrorContext h = refl
   type_same (ty.Id id) h = h.0
+  type_same _ h = refl
 
   option_same : (t : Option ValueType) → Each Same (optional_numbers t) → option_map (tree_of us) (option_map (renamed_type f) t) ≡ option_map (tree_of trees) t
   option_same None h = refl
   option_same (Some t) h = ap Some (type_same t h)
 
-  types_same : (ts : List ValueType) → Each Same (flat_map type_numbers ts) → map (tree_of us) (map (renamed_type f) ts) ≡ map (tree_of trees) ts
-  types_same [] h = refl
-  types_same (t ∷ ts) h = let parts = each_split Same (type_numbers t) (flat_map type_numbers ts) h in λ i. type_same t parts.0 i ∷ types_same ts parts.1 i
-
-  fields_same : (xs : List (Text × ValueType)) → Each Same (flat_map (λ x. type_numbers x.1) xs) → map (field_tree us) (map (renamed_field f) xs) ≡ map (field_tree trees) xs
-  fields_same [] h = refl
-  fields_same (x ∷ xs) h = let parts = each_split Same (type_numbers x.1) (flat_map (λ y. type_numbers y.1) xs) h in λ i. (x.0, type_same x.1 parts.0 i) ∷ fields_same xs parts.1 i
-
-  cases_same : (xs : List (Text × Option ValueType)) → Each Same (flat_map (λ x. optional_numbers x.1) xs) →
-      map (case_tree us) (map (renamed_case f) xs) ≡ map (case_tree trees) xs
-  cases_same [] h = refl
-  cases_same (x ∷ xs) h = let parts = each_split Same (optional_numbers x.1) (flat_map (λ y. optional_numbers y.1) xs) h in λ i. (x.0, option_same x.1 parts.0 i) ∷ cases_same xs parts.1 i
+  -- what is made of each
+  each_made : {X Y : Type 0} (numbers : X → List ℕ) (old new : X → Y) → ((x : X) → Each Same (numbers x) → new x ≡ old x) → (xs : List X) → Each Same (flat_map numbers xs) → map new xs ≡ map old xs
+  each_made numbers old new one [] h = refl
+  each_made numbers old new one (x ∷ xs) h =
+      let parts = each_split Same (numbers x) (flat_map numbers xs) h in λ i. one x parts.0 i ∷ each_made numbers old new one xs parts.1 i
 
   pub view_same : (v : KindView) → Each Same (view_numbers v) → declared_view us (renamed f v) ≡ declared_view trees v
-  view_same (record_view fields) h = ap (λ xs. type_ (record_tree xs)) (fields_same fields h)
-  view_same (variant_view cases) h = ap (λ xs. type_ (variant_tree xs)) (cases_same cases h)
-  view_same (flags_view names) h = refl
-  view_same (enum_view names) h = refl
-  view_same (tuple_view ts) h = ap (λ xs. type_ (tuple_tree xs)) (types_same ts h)
-  view_same resource_view h = refl
+  view_same (record_view fields) h = ap (λ xs. type_ (record_tree xs)) (mapped_twice (field_tree us) (renamed_field f) fields
+      ∙ each_made (λ x. type_numbers x.1) (field_tree trees) (λ x. field_tree us (renamed_field f x)) (λ x k. ap {B = Text × Tree} (λ t. (x.0, t)) (type_same x.1 k)) fields h)
+  view_same (variant_view cases) h = ap (λ xs. type_ (variant_tree xs)) (mapped_twice (case_tree us) (renamed_case f) cases
+      ∙ each_made (λ x. optional_numbers x.1) (case_tree trees) (λ x. case_tree us (renamed_case f x)) (λ x k. ap {B = Text × Option Tree} (λ t. (x.0, t)) (option_same x.1 k)) cases h)
+  view_same (tuple_view ts) h = ap (λ xs. type_ (tuple_tree xs)) (mapped_twice (tree_of us) (renamed_type f) ts
+      ∙ each_made type_numbers (tree_of trees) (λ t. tree_of us (renamed_type f t)) type_same ts h)
   view_same (own_view n) h = ap (λ t. type_ (own_tree t)) h.0
   view_same (borrow_view n) h = ap (λ t. type_ (borrow_tree t)) h.0
   view_same (option_view t) h = ap (λ x. type_ (option_tree x)) (type_same t h)
@@ -130,25 +98,13 @@ module _ (f : ℕ → ℕ) (us trees : List Tree) where
   view_same (future_view t) h = ap (λ x. type_ (future_tree x)) (option_same t h)
   view_same (stream_view t) h = ap (λ x. type_ (stream_tree x)) (option_same t h)
   view_same (alias_view t) h = ap type_ (type_same t h)
+  view_same _ h = refl
 
 -- ---- the numbers of a view
 
 pub numbers_cons : (t : ValueType) (ts : List ValueType) → filter_map number_of (t ∷ ts) ≡ type_numbers t ++ filter_map number_of ts
 numbers_cons ty.Bool ts = refl
-numbers_cons ty.U8 ts = refl
-numbers_cons ty.U16 ts = refl
-numbers_cons ty.U32 ts = refl
-numbers_cons ty.U64 ts = refl
-numbers_cons ty.S8 ts = refl
-numbers_cons ty.S16 ts = refl
-numbers_cons ty.S32 ts = refl
-numbers_cons ty.S64 ts = refl
-numbers_cons ty.F32 ts = refl
-numbers_cons ty.F64 ts = refl
-numbers_cons ty.Char ts = refl
-numbers_cons ty.String ts = refl
-numbers_cons ty.ErrorContext ts = refl
-numbers_cons (ty.Id id) ts = refl
+numbers_cons _ ts = refl
 
 flat_numbers : (ts : List ValueType) → flat_map type_numbers ts ≡ filter_map number_of ts
 flat_numbers [] = refl
@@ -160,19 +116,15 @@ field_numbers (f ∷ fs) = ap (λ ns. type_numbers f.ty ++ ns) (field_numbers fs
 
 case_numbers : (cs : List Case) → flat_map (λ x. optional_numbers x.1) (map {B = Text × Option ValueType} (λ c. (text_of c.name, c.ty)) cs) ≡ filter_map number_of (filter_map (λ c. c.ty) cs)
 case_numbers [] = refl
-case_numbers (c ∷ cs) = elim (c.ty) as (λ t. c.ty ≡ t → optional_numbers c.ty ++ flat_map (λ x. optional_numbers x.1) (map {B = Text × Option ValueType} (λ x. (text_of x.name, x.ty)) cs) ≡ filter_map
-    number_of (filter_map (λ x. x.ty) (c ∷ cs))) [
-      | None ↦ λ e. ap (λ o. optional_numbers o ++ flat_map (λ x. optional_numbers x.1) (map {B = Text × Option ValueType} (λ x. (text_of x.name, x.ty)) cs)) e
-          ∙ (case_numbers cs ∙ ap (filter_map number_of) (sym (without e)))
-      | Some t ↦ λ e. ap (λ o. optional_numbers o ++ flat_map (λ x. optional_numbers x.1) (map {B = Text × Option ValueType} (λ x. (text_of x.name, x.ty)) cs)) e
-          ∙ (ap (λ ns. type_numbers t ++ ns) (case_numbers cs) ∙ (sym (numbers_cons t (filter_map (λ x. x.ty) cs)) ∙ ap (filter_map number_of) (sym (given t e))))
-    ] refl
+case_numbers (c ∷ cs) = go c.ty (case_numbers cs)
   where
-    without : c.ty ≡ None → filter_map (λ x. x.ty) (c ∷ cs) ≡ filter_map (λ x. x.ty) cs
-    without e = filter_map_none (λ x. x.ty) c cs e
+    later : List ℕ
+    later = flat_map (λ x. optional_numbers x.1) (map {B = Text × Option ValueType} (λ x. (text_of x.name, x.ty)) cs)
 
-    given : (t : ValueType) → c.ty ≡ Some t → filter_map (λ x. x.ty) (c ∷ cs) ≡ t ∷ filter_map (λ x. x.ty) cs
-    given t e = filter_map_some (λ x. x.ty) c t cs e
+    go : (o : Option ValueType) → later ≡ filter_map number_of (filter_map (λ x. x.ty) cs)
+        → optional_numbers o ++ later ≡ filter_map number_of (cons_option o (filter_map (λ x. x.ty) cs))
+    go None rest = rest
+    go (Some t) rest = ap (λ ns. type_numbers t ++ ns) rest ∙ sym (numbers_cons t (filter_map (λ x. x.ty) cs))
 
 behind : (xs : List ℕ) (ts : List ValueType) → xs ≡ filter_map number_of ts → xs ≡ filter_map number_of ts ++ ([] ++ [])
 behind xs ts e = e ∙ sym (append-nil (filter_map number_of ts))
@@ -184,16 +136,16 @@ pub given_numbers : (t : Option ValueType) → optional_numbers t ≡ filter_map
 given_numbers None = refl
 given_numbers (Some t) = one_number t
 
+alias_numbers : (t : ValueType) → type_numbers t ≡ option_to_list (number_of t)
+alias_numbers ty.Bool = refl
+alias_numbers _ = refl
+
 -- the numbers in a kind are those in its view
 pub numbers_of_view : (k : TypeDefKind) → view_numbers (kind_view k) ≡ kind_numbers k
 numbers_of_view (kind.Record record_) = behind _ (map (λ f. f.ty) record_.fields.items) (field_numbers record_.fields.items)
-numbers_of_view kind.Resource = refl
 numbers_of_view (kind.Handle (handle.Own id)) = refl
-numbers_of_view (kind.Handle (handle.Borrow id)) = refl
-numbers_of_view (kind.Flags flags) = refl
 numbers_of_view (kind.Tuple tuple) = behind _ tuple.types.items (flat_numbers tuple.types.items)
 numbers_of_view (kind.Variant variant) = behind _ (filter_map (λ c. c.ty) variant.cases.items) (case_numbers variant.cases.items)
-numbers_of_view (kind.Enum enum) = refl
 numbers_of_view (kind.Option t) = behind _ (t ∷ []) (one_number t)
 numbers_of_view (kind.Result result) = behind _ (option_to_list result.ok ++ option_to_list result.err)
     ((λ i. given_numbers result.ok i ++ given_numbers result.err i) ∙ sym (filter_map-append number_of (option_to_list result.ok) (option_to_list result.err)))
@@ -203,23 +155,7 @@ numbers_of_view (kind.FixedLengthList t n) = behind _ (t ∷ []) (one_number t)
 numbers_of_view (kind.Future t) = behind _ (option_to_list t) (given_numbers t)
 numbers_of_view (kind.Stream t) = behind _ (option_to_list t) (given_numbers t)
 numbers_of_view (kind.Type_ t) = alias_numbers t
-  where
-    alias_numbers : (t : ValueType) → type_numbers t ≡ option_to_list (number_of t)
-    alias_numbers ty.Bool = refl
-    alias_numbers ty.U8 = refl
-    alias_numbers ty.U16 = refl
-    alias_numbers ty.U32 = refl
-    alias_numbers ty.U64 = refl
-    alias_numbers ty.S8 = refl
-    alias_numbers ty.S16 = refl
-    alias_numbers ty.S32 = refl
-    alias_numbers ty.S64 = refl
-    alias_numbers ty.F32 = refl
-    alias_numbers ty.F64 = refl
-    alias_numbers ty.Char = refl
-    alias_numbers ty.String = refl
-    alias_numbers ty.ErrorContext = refl
-    alias_numbers (ty.Id id) = refl
+numbers_of_view _ = refl
 
 -- ---- trees
 
@@ -230,11 +166,12 @@ by_name place (Some name) tree = named place name
 
 tree_by_name : (r : Resolve) (trees : List Tree) (def : TypeDef)
     → tree_of_definition r trees def ≡ by_name (place_of r def.owner) (optional_text def.name) (tree_of_declaration (declared_by trees def.kind))
-tree_by_name r trees def = elim (def.name) as (λ o. option_map_or (λ name. named (place_of r def.owner) (text_of name)) o (tree_of_declaration (declared_by trees def.kind)) ≡ by_name
-    (place_of r def.owner) (optional_text o) (tree_of_declaration (declared_by trees def.kind))) [
-      | None ↦ refl
-      | Some name ↦ refl
-    ]
+tree_by_name r trees def = go def.name
+  where
+    go : (o : Option (String Global)) → option_map_or (λ name. named (place_of r def.owner) (text_of name)) o (tree_of_declaration (declared_by trees def.kind))
+        ≡ by_name (place_of r def.owner) (optional_text o) (tree_of_declaration (declared_by trees def.kind))
+    go None = refl
+    go (Some name) = refl
 
 module _ (r s : Resolve) (f : ℕ → ℕ) (carried : ℕ → Bool) (below_r : RefersBelow r) (below_s : RefersBelow s) (are : AreCarried r s f carried) where
   same_at : (n : ℕ) → Type 0

@@ -1,37 +1,198 @@
--- What the rules ask of an interface holds of its copy.
-use Rattle.std.proofs.Common.{◌≡◌, inl, sym, ap, ◌∙◌, ℕ, Bool, true, ◌&&◌, not, nat_lt, ltb-true, List, [], map, is_some}
-use Rattle.std.specs.Prelude.{String}
-use Rattle.std.specs.declared.alloc.Global.{Global}
-use Rattle.std.specs.List.{list_all, list_any}
+-- What an interface uses, and what the rules ask of it, holds of its copy, with its numbers in order.
+use Rattle.std.proofs.Common.{◌≡◌, refl, sym, ap, subst, ◌∙◌, ℕ, Bool, true, false, not, ◌==◌, List, [], map, Option, Some, None, option_map, option_and_then, option_to_list, slice_get, ◌+◌, ◌||◌, cond, ◌∷◌, ◌++◌, inl, ◌&&◌, nat_lt, ltb-true, is_some}
+use Rattle.std.specs.List.{list_all, Contains, AllZip, list_any}
 use Rattle.std.specs.Option.{option_map_or}
-use Rattle.std.proofs.lemmas.Bool.{lt-ltb, and_from as both}
-use Rattle.std.proofs.lemmas.List.Folds.{list_all-map}
-use Rattle.indexmap.specs.IndexMap.{keys, values}
+use Rattle.indexmap.specs.IndexMap.{values, keys}
 use Rattle.wit_model.specs.declared.model.Resolve.{Resolve}
 use Rattle.wit_model.specs.declared.model.Interface.{Interface}
 use Rattle.wit_model.specs.declared.model.TypeId.{TypeId}
 use Rattle.wit_model.specs.declared.model.TypeOwner.{TypeOwner}
+use Rattle.wit_model.specs.declared.model.TypeOwner.TheVariants as owner
+use Rattle.wit_model.specs.Lookup.{interface_at, type_at}
+use Rattle.wit_model.specs.Uses.{has, once, alias_target, owner_interface, used_interface, interface_used_by, interfaces_used_by, direct_deps}
+use Rattle.wit_model.specs.Rules.{passes, interface_type_numbers, each_after, is_stability, function_labels, is_named_of, used_by_number, are_in_order, function_stays, is_shallow, is_member}
+use Rattle.wit_model.specs.Valid.{Keeps, KeepsRules, as_interface, functions_of_interface, labels, order_of_types, owners, handles, depths, function_names}
+use Rattle.wit_model.specs.Checks.{references}
+use Rattle.wit_model.proofs.Elements.{has-contains, contains-has, contains-filter_map}
+use Rattle.wit_model.proofs.Chains.{has_once, all_has as passes_at}
+use Rattle.bind_meaning.proofs.Listed.{from-map}
+use Rattle.bind_union.specs.Carried.{Renumbering, owner_under, carries_owner, IsType, IsInterface, IsCarried, Rises, IsFunctionEntry, IsInterfaceCopy}
+use Rattle.bind_union.proofs.Lists.{no_true}
+use Rattle.wit_model.proofs.UsesLemmas.{has_filter, filter_has, all_from_has}
+use Rattle.bind_union.proofs.Homes.{alias_there, apart}
+use Rattle.base_lemmas.proofs.Elements.{contains-map, contains-one, filter_map_from, get-contains, all_two, any_of_map as list_any_mapped, zip_map}
+use Rattle.base_lemmas.proofs.Numbers.{equal, same-number}
+use Rattle.std.proofs.lemmas.Option.{same_Some as same-some}
+use Rattle.std.specs.Prelude.{count_by, String}
+use Rattle.std.proofs.lemmas.Bool.{or_right, and_from as both, lt-ltb}
+use Rattle.std.proofs.lemmas.List.Sums.{sum_by-cons}
+use Rattle.base_lemmas.proofs.Bools.{left_of as first_true, right_of as second_true}
+use Rattle.wit_model.proofs.RulesLemmas.{after_of_map}
+use Rattle.std.specs.declared.alloc.Global.{Global}
+use Rattle.std.proofs.lemmas.List.Folds.{list_all-map}
 use Rattle.wit_model.specs.declared.model.Function.{Function}
 use Rattle.wit_model.specs.Text.{Text, text_of, text_eq}
 use Rattle.wit_model.specs.Names.{is_label}
 use Rattle.wit_model.specs.Parts.{function_types, is_resource_type, same_owner, used_by_type}
-use Rattle.wit_model.specs.Uses.{direct_deps}
-use Rattle.wit_model.specs.Rules.{passes, is_stability, function_labels, interface_type_numbers, is_named_of, used_by_number, are_in_order, function_stays, is_shallow, is_member}
-use Rattle.wit_model.specs.Valid.{Keeps, KeepsRules, as_interface, functions_of_interface, labels, order_of_types, owners, handles, depths, function_names}
-use Rattle.wit_model.specs.Checks.{references}
 use Rattle.std.proofs.lemmas.Simd.{map-map}
 use Rattle.wit_model.proofs.OnePath.{interface-passes}
-use Rattle.bind_union.specs.Carried.{Renumbering, owner_under, IsFunctionEntry, IsInterface, IsInterfaceCopy, IsCarried}
-use Rattle.bind_union.proofs.TypeRules.{label_alike, stability_alike, used, used_there}
-use Rattle.bind_union.proofs.FunctionRules.{function_labels_pass, function_stays_passes, function_handles_pass, function_depths_pass, member_passes}
-use Rattle.bind_union.proofs.UsedInterfaces.{deps_there}
-use Rattle.bind_union.proofs.InOrder.{zip_all, order_there}
-use Rattle.base_lemmas.proofs.Bools.{left_of as first_true, right_of as second_true}
-use Rattle.base_lemmas.proofs.Elements.{all_two, any_of_map as list_any_mapped, zip_map}
+use Rattle.bind_union.proofs.CopyRules.{label_alike, stability_alike, used, used_there, function_labels_pass, function_stays_passes, function_handles_pass, function_depths_pass, member_passes}
 use Rattle.wit_model.proofs.PartsLemmas.{owner_itself, owner_same as owner_equal}
 use Rattle.wit_model.proofs.TextLemmas.{some_alike as named_alike}
 
+-- what each number of a list passes, all pass
+
+pub given_contains : {X : Type 0} (o : Option X) (x : X) → o ≡ Some x → Contains (option_to_list o) x
+given_contains o x e = subst (λ (p : Option _). Contains (option_to_list p) x) (sym e) (contains-one x)
+
+-- what passes on the one side passes on the other
+pub zip_all : {A B : Type 0} (R : A → B → Type 0) (p : A → Bool) (q : B → Bool) → ((a : A) (b : B) → R a b → p a ≡ true → q b ≡ true) → (xs : List A) (ys : List B) → AllZip R xs ys
+    → list_all p xs ≡ true → list_all q ys ≡ true
+zip_all R p q one [] [] z h = refl
+zip_all R p q one (x ∷ xs) (y ∷ ys) z h = both _ _ (one x y z.0 (first_true _ _ h)) (zip_all R p q one xs ys z.1 (second_true (p x) _ h))
+zip_all R p q one _ _ z h = absurd z
+
+-- what the relation makes equal is one list
+
+pub has_map : (f : ℕ → ℕ) (ns : List ℕ) (n : ℕ) → has ns n ≡ true → has (map f ns) (f n) ≡ true
+has_map f ns n h = contains-has (map f ns) (f n) (contains-map f ns n (has-contains ns n h))
+
+module _ (f : ℕ → ℕ) (carries copies : ℕ → Bool) (rise : Rises f carries copies) (copied : (n : ℕ) → copies n ≡ true → carries n ≡ true) where
+  -- a new number stands in a list of copies where the old one does
+  pub has_back : (ns : List ℕ) → list_all copies ns ≡ true → (n : ℕ) → carries n ≡ true → has (map f ns) (f n) ≡ true → has ns n ≡ true
+  has_back ns all n c h =
+      let from = from-map f ns (f n) (has-contains (map f ns) (f n) h) in
+      let here = contains-has ns from.0 from.1.0 in
+      let same : n ≡ from.0 = apart f carries copies rise copied n from.0 c (passes_at copies ns from.0 all here) (sym from.1.1) in
+      subst (λ (m : ℕ). has ns m ≡ true) (sym same) here
+
+  -- and as often
+  pub count_same : (ns : List ℕ) → list_all carries ns ≡ true → (n : ℕ) → copies n ≡ true → count_by (λ m. m == f n) (map f ns) ≡ count_by (λ m. m == n) ns
+  count_same [] all n c = refl
+  count_same (m ∷ ns) all n c =
+      sum_by-cons (λ k. cond (k == f n) 1 0) (f m) (map f ns)
+      ∙ ((λ i. cond (test (m == n) refl (f m == f n) refl i) 1 0 + count_same ns (second_true _ _ all) n c i)
+      ∙ sym (sum_by-cons (λ k. cond (k == n) 1 0) m ns))
+    where
+      test : (a : Bool) → (m == n) ≡ a → (b : Bool) → (f m == f n) ≡ b → (f m == f n) ≡ (m == n)
+      test true p b q = subst (λ (k : ℕ). (f m == f k) ≡ (m == k)) (equal m n p) (same-number (f m) ∙ sym (same-number m))
+      test false p false q = q ∙ sym p
+      test false p true q = no_true (sym p ∙ (subst (λ (k : ℕ). (m == k) ≡ true) (apart f carries copies rise copied m n (first_true _ _ all) c (equal (f m) (f n) q)) (same-number m)))
+
+  -- ---- lists in order
+
+  pub after_weaker : {A : Type 0} (p : A → Bool) (t u : List A → A → Bool) → ((before : List A) (x : A) → p x ≡ true → t before x ≡ true → u before x ≡ true) → (before xs : List A)
+      → list_all p xs ≡ true → each_after t before xs ≡ true → each_after u before xs ≡ true
+  after_weaker p t u one before [] all h = refl
+  after_weaker p t u one before (x ∷ xs) all h = both _ _ (one before x (first_true _ _ all) (first_true _ _ h))
+      (after_weaker p t u one (before ++ x ∷ []) xs (second_true (p x) _ all) (second_true (t before x) _ h))
+
+  -- each stands after those of the list that it uses
+  abbrev pub after_uses : (ℕ → List ℕ) → List ℕ → List ℕ → ℕ → Bool
+  after_uses uses ns before n = list_all (λ m. not (has ns m) || has before m) (uses n)
+
+  use_there : (ns before : List ℕ) → list_all copies ns ≡ true → (used : List ℕ) → list_all carries used ≡ true → list_all (λ m. not (has ns m) || has before m) used ≡ true
+      → list_all (λ m. not (has (map f ns) m) || has (map f before) m) (map f used) ≡ true
+  use_there ns before all [] c h = refl
+  use_there ns before all (m ∷ used) c h = both _ _ (one (has ns m) refl (has (map f ns) (f m)) refl (first_true _ _ h))
+      (use_there ns before all used (second_true _ _ c) (second_true (not (has ns m) || has before m) _ h))
+    where
+      one : (a : Bool) → has ns m ≡ a → (b : Bool) → has (map f ns) (f m) ≡ b → (not (has ns m) || has before m) ≡ true → (not (has (map f ns) (f m)) || has (map f before) (f m)) ≡ true
+      one a p false q g = ap (λ b. not b || has (map f before) (f m)) q
+      one true p true q g = or_right (not (has (map f ns) (f m))) (has (map f before) (f m)) (has_map f before m (sym (ap (λ b. not b || has before m) p) ∙ g))
+      one false p true q g = no_true (sym p ∙ has_back ns all m (first_true _ _ c) q)
+
+  pub order_there : (uses uses_there : ℕ → List ℕ) (ns : List ℕ) → list_all copies ns ≡ true
+      → ((n : ℕ) → copies n ≡ true → (uses_there (f n) ≡ map f (uses n)) × (list_all carries (uses n) ≡ true))
+      → each_after (after_uses uses ns) [] ns ≡ true → each_after (after_uses uses_there (map f ns)) [] (map f ns) ≡ true
+  order_there uses uses_there ns all each h =
+      after_of_map (after_uses uses_there (map f ns)) f [] ns
+      ∙ after_weaker copies (after_uses uses ns) (λ before n. after_uses uses_there (map f ns) (map f before) (f n))
+      (λ before n c g. ap (list_all (λ m. not (has (map f ns) m) || has (map f before) m)) (each n c).0 ∙ use_there ns before all (uses n) (each n c).1 g) [] ns all h
+
 module _ (r s : Resolve) (f : Renumbering) (valid : KeepsRules r) (is : IsCarried r s f) (below_s : Keeps references s) where
+  interface_of_owner : (o : TypeOwner) → carries_owner f o ≡ true → (owner_interface (owner_under f o) ≡ option_map f.interfaces (owner_interface o))
+      × (passes f.carries_interface (owner_interface o) ≡ true)
+  interface_of_owner (owner.World id) c = (refl, refl)
+  interface_of_owner (owner.Interface id) c = (refl, c)
+  interface_of_owner owner.None c = (refl, refl)
+
+  -- the interface that a type is an alias out of
+  pub interface_used_there : (n : ℕ) → f.carries_type n ≡ true → (interface_used_by s (f.types n) ≡ option_map f.interfaces (interface_used_by r n))
+      × (passes f.carries_interface (interface_used_by r n) ≡ true)
+  interface_used_there n c =
+      let a = alias_there r s f valid is below_s n t in
+      let u = target (alias_target t.def.kind) a.1 in
+      let old : interface_used_by r n ≡ option_and_then (λ m. option_and_then (λ d. owner_interface d.owner) (type_at r m)) (alias_target t.def.kind) =
+      ap (option_and_then (used_interface r)) t.found in (
+        ap (option_and_then (used_interface s)) t.at_image ∙ (ap (option_and_then (λ m. option_and_then (λ d. owner_interface d.owner) (type_at s m))) a.0
+            ∙ (u.0 ∙ sym (ap (option_map f.interfaces) old))),
+        ap (passes f.carries_interface) old ∙ u.1,
+      )
+    where
+      t : IsType r s f n
+      t = is.types n c
+
+      target : (o : Option ℕ) → passes f.carries_type o ≡ true
+          → (option_and_then (λ m. option_and_then (λ d. owner_interface d.owner) (type_at s m)) (option_map f.types o) ≡ option_map f.interfaces
+          (option_and_then (λ m. option_and_then (λ d. owner_interface d.owner) (type_at r m)) o))
+          × (passes f.carries_interface (option_and_then (λ m. option_and_then (λ d. owner_interface d.owner) (type_at r m)) o) ≡ true)
+      target None d = (refl, refl)
+      target (Some m) d =
+          let u = is.types m d in
+          let w = interface_of_owner u.def.owner u.carries_home in
+          let old : option_and_then (λ d. owner_interface d.owner) (type_at r m) ≡ owner_interface u.def.owner = ap (option_and_then (λ d. owner_interface d.owner)) u.found in (
+            ap (option_and_then (λ d. owner_interface d.owner)) u.at_image ∙ (ap owner_interface u.home ∙ (w.0 ∙ sym (ap (option_map f.interfaces) old))),
+            ap (passes f.carries_interface) old ∙ w.1,
+          )
+
+  -- ---- all that an interface uses
+
+  -- a type of the interface that uses another puts that among what it uses
+  dep_of : (n : ℕ) (i : Interface) → interface_at r n ≡ Some i → (k m : ℕ) → has (interface_type_numbers i) k ≡ true → interface_used_by r k ≡ Some m → (m == n) ≡ false
+      → has (direct_deps r n) m ≡ true
+  dep_of n i found k m listed used other =
+      let id = from-map (λ (id : TypeId). id.0) (values i.types) k (has-contains (interface_type_numbers i) k listed) in
+      let here : Contains (interfaces_used_by r i) m = contains-filter_map (λ (id : TypeId). interface_used_by r id.0) (values i.types) id.0 m id.1.0
+      (given_contains (interface_used_by r id.0.0) m (ap (interface_used_by r) id.1.1 ∙ used)) in
+      let all : has (once (option_map_or (interfaces_used_by r) (interface_at r n) [])) m ≡ true =
+      has_once m (option_map_or (interfaces_used_by r) (interface_at r n) [])
+      ∙ (ap (λ o. has (option_map_or (interfaces_used_by r) o []) m) found ∙ contains-has (interfaces_used_by r i) m here) in
+      has_filter (λ x. not (x == n)) (once (option_map_or (interfaces_used_by r) (interface_at r n) [])) m all (ap not other)
+
+  -- what is used under the new number are new numbers of what is used
+  pub deps_there : (n : ℕ) → f.carries_interface n ≡ true → (p q : ℕ → Bool) → ((m : ℕ) → f.carries_interface m ≡ true → q m ≡ true → p (f.interfaces m) ≡ true) → list_all q (direct_deps r n) ≡ true
+      → list_all p (direct_deps s (f.interfaces n)) ≡ true
+  deps_there n c p q one h = all_from_has p (direct_deps s (f.interfaces n)) each
+    where
+      i : IsInterface r s f n
+      i = is.interfaces n c
+
+      other : (m k : ℕ) → (b : Bool) → (m == n) ≡ b → f.interfaces m ≡ k → not (k == f.interfaces n) ≡ true → (m == n) ≡ false
+      other m k false e same h = e
+      other m k true e same h = no_true (sym (ap not (ap (λ (x : ℕ). f.interfaces x == f.interfaces n) (equal m n e) ∙ same-number (f.interfaces n)))
+          ∙ (ap (λ (x : ℕ). not (x == f.interfaces n)) same ∙ h))
+
+      used : (k m : ℕ) (o : Option ℕ) → interface_used_by r k ≡ o → has (interface_type_numbers i.old) k ≡ true → passes f.carries_interface o ≡ true → option_map f.interfaces o ≡ Some m
+          → not (m == f.interfaces n) ≡ true → p m ≡ true
+      used k m None e listed d same apart = absurd (let wrong : ⊥ = cc in wrong)
+      used k m (Some j) e listed d same apart =
+          let to : f.interfaces j ≡ m = same-some (f.interfaces j) m same in
+          subst (λ (x : ℕ). p x ≡ true) to (one j d (passes_at q (direct_deps r n) j h (dep_of n i.old i.found k j listed e (other j m (j == n) refl to apart))))
+
+      each : (m : ℕ) → has (direct_deps s (f.interfaces n)) m ≡ true → p m ≡ true
+      each m listed =
+          let two = filter_has (λ x. not (x == f.interfaces n)) (once (option_map_or (interfaces_used_by s) (interface_at s (f.interfaces n)) [])) m listed in
+          let among : has (interfaces_used_by s i.image) m ≡ true = sym (ap (λ o. has (option_map_or (interfaces_used_by s) o []) m) i.at_image)
+          ∙ (sym (has_once m (option_map_or (interfaces_used_by s) (interface_at s (f.interfaces n)) [])) ∙ two.0) in
+          let from = filter_map_from (λ (id : TypeId). interface_used_by s id.0) (values i.image.types) m (has-contains (interfaces_used_by s i.image) m among) in
+          let back = i.types from.1.0 (contains-has (interface_type_numbers i.image) from.1.0 (in_map (values i.image.types) from.0 from.1 from.2)) in
+          let image = interface_used_there back.0 back.2 in
+          used back.0 m (interface_used_by r back.0) refl back.1 image.1 (sym image.0 ∙ (ap (interface_used_by s) back.3 ∙ from.3)) two.1
+        where
+          in_map : (ids : List TypeId) (k : ℕ) (id : TypeId) → slice_get ids k ≡ Some id → Contains (map (λ (x : TypeId). x.0) ids) id.0
+          in_map ids k id e = contains-map (λ (x : TypeId). x.0) ids id (get-contains ids k id e)
+
   -- a named type of an owner is one of the new owner
   pub named_of_there : (o : TypeOwner) (n : ℕ) → f.carries_type n ≡ true → is_named_of r o n ≡ true → is_named_of s (owner_under f o) (f.types n) ≡ true
   named_of_there o n c h =
@@ -146,7 +307,7 @@ module _ (r s : Resolve) (f : Renumbering) (valid : KeepsRules r) (is : IsCarrie
         both _ _
         (each_function (function_stays r (as_interface n)) (function_stays s (as_interface (f.interfaces n))) (λ a b z. function_stays_passes r s f valid is below_s a.1 b.1 z.1 (as_interface n))
         (first_true _ _ old))
-        (deps_there r s f valid is below_s n (is.copied_interfaces n copy) (λ m. nat_lt m (f.interfaces n)) (λ m. nat_lt m n)
+        (deps_there n (is.copied_interfaces n copy) (λ m. nat_lt m (f.interfaces n)) (λ m. nat_lt m n)
         (λ m d h. lt-ltb (f.interfaces m) (f.interfaces n) (is.interfaces_rise m n d copy (inl (ltb-true m n h))))
         (second_true (list_all (function_stays r (as_interface n)) (functions_of_interface i.old)) _ old))
 

@@ -27,7 +27,7 @@ use Rattle.wit_model.specs.Parts.{kind_numbers}
 use Rattle.wit_model.specs.Rules.{passes, in_list, package_number, interface_type_numbers, function_in_range, owner_in_range, key_in_range, item_in_range, entries_in_range}
 use Rattle.wit_model.specs.Valid.{KeepsRules, numbers_in_range, is_place}
 use Rattle.wit_model.proofs.OnePath.{found-in, interface-passes}
-use Rattle.bind_union.specs.Views.{KindView, record_view, variant_view, flags_view, enum_view, tuple_view, resource_view, own_view, borrow_view, option_view, result_view, list_view, map_view, fixed_list_view, future_view, stream_view, alias_view, kind_view, renamed_type, renamed}
+use Rattle.bind_union.specs.Views.{KindView, record_view, variant_view, tuple_view, option_view, result_view, list_view, map_view, fixed_list_view, future_view, stream_view, alias_view, kind_view, renamed_type, renamed}
 use Rattle.bind_union.specs.Images.{HasImageKind}
 use Rattle.bind_union.specs.Carried.{Renumbering, IsSameName, owner_under, carries_owner, copies_owner, call_under, IsFunctionCopy, IsFunctionEntry, IsType, IsInterface, IsCarried, KeyBecomes, ItemBecomes}
 use Rattle.bind_union.specs.Joined.{Joined, none, added}
@@ -58,20 +58,7 @@ same n = n
 
 pub same_type : (t : ValueType) → renamed_type same t ≡ t
 same_type ty.Bool = refl
-same_type ty.U8 = refl
-same_type ty.U16 = refl
-same_type ty.U32 = refl
-same_type ty.U64 = refl
-same_type ty.S8 = refl
-same_type ty.S16 = refl
-same_type ty.S32 = refl
-same_type ty.S64 = refl
-same_type ty.F32 = refl
-same_type ty.F64 = refl
-same_type ty.Char = refl
-same_type ty.String = refl
-same_type ty.ErrorContext = refl
-same_type (ty.Id id) = refl
+same_type _ = refl
 
 same_option : (o : Option ValueType) → option_map (renamed_type same) o ≡ o
 same_option None = refl
@@ -84,12 +71,7 @@ map_same g h (x ∷ xs) = λ i. h x i ∷ map_same g h xs i
 same_view : (v : KindView) → renamed same v ≡ v
 same_view (record_view fields) = ap record_view (map_same (λ x. (x.0, renamed_type same x.1)) (λ x. ap {B = Text × ValueType} (λ t. (x.0, t)) (same_type x.1)) fields)
 same_view (variant_view cases) = ap variant_view (map_same (λ x. (x.0, option_map (renamed_type same) x.1)) (λ x. ap {B = Text × Option ValueType} (λ t. (x.0, t)) (same_option x.1)) cases)
-same_view (flags_view names) = refl
-same_view (enum_view names) = refl
 same_view (tuple_view ts) = ap tuple_view (map_same (renamed_type same) same_type ts)
-same_view resource_view = refl
-same_view (own_view n) = refl
-same_view (borrow_view n) = refl
 same_view (option_view t) = ap option_view (same_type t)
 same_view (result_view ok err) = λ i. result_view (same_option ok i) (same_option err i)
 same_view (list_view t) = ap list_view (same_type t)
@@ -98,6 +80,7 @@ same_view (fixed_list_view t n) = ap (λ x. fixed_list_view x n) (same_type t)
 same_view (future_view t) = ap future_view (same_option t)
 same_view (stream_view t) = ap stream_view (same_option t)
 same_view (alias_view t) = ap alias_view (same_type t)
+same_view _ = refl
 
 pub get_begin : {X : Type 0} (xs ys : List X) → BeginsWith xs ys → (n : ℕ) (x : X) → slice_get xs n ≡ Some x → slice_get ys n ≡ Some x
 get_begin xs ys b n x e = ap (λ zs. slice_get zs n) b.1 ∙ go xs n e
@@ -117,17 +100,11 @@ module _ (r : Resolve) (valid : KeepsRules r) where
 
   same_owner : (o : TypeOwner) → o ≡ owner_under f o
   same_owner (owner.World id) = refl
-  same_owner (owner.Interface id) = refl
-  same_owner owner.None = refl
+  same_owner _ = refl
 
   same_call : (k : FunctionKind) → k ≡ call_under f k
   same_call call.Freestanding = refl
-  same_call call.AsyncFreestanding = refl
-  same_call (call.Method id) = refl
-  same_call (call.AsyncMethod id) = refl
-  same_call (call.Static id) = refl
-  same_call (call.AsyncStatic id) = refl
-  same_call (call.Constructor id) = refl
+  same_call _ = refl
 
   pub function_itself : (g : Function) → function_in_range r g ≡ true → IsFunctionCopy f g g
   function_itself g range = record {
@@ -166,12 +143,17 @@ module _ (r : Resolve) (valid : KeepsRules r) where
       added e e es es refl (key_itself e.0 (first_true _ _ here), item_itself e.1 (second_true (key_in_range r e.0) _ here))
       (joined_itself es (second_true (key_in_range r e.0 && item_in_range r e.1) (entries_in_range r es) h))
 
-  pub world_range : (n : ℕ) (w : World) → world_at r n ≡ Some w → (entries_in_range r w.imports.entries ≡ true) × (entries_in_range r w.exports.entries ≡ true)
+  world_numbers : (n : ℕ) (w : World) → world_at r n ≡ Some w
+      → (passes (in_list r.packages.items) (package_number w.«package») && (entries_in_range r w.imports.entries && entries_in_range r w.exports.entries)) ≡ true
   unfolding numbers_in_range
+  world_numbers n w e = second_true (is_place n) _ (world-passes numbers_in_range r valid.numbers_in_range n w e)
+
+  pub world_package : (n : ℕ) (w : World) → world_at r n ≡ Some w → passes (in_list r.packages.items) (package_number w.«package») ≡ true
+  world_package n w e = first_true _ _ (world_numbers n w e)
+
+  pub world_range : (n : ℕ) (w : World) → world_at r n ≡ Some w → (entries_in_range r w.imports.entries ≡ true) × (entries_in_range r w.exports.entries ≡ true)
   world_range n w e =
-      let old : (is_place n && (passes (in_list r.packages.items) (package_number w.«package») && (entries_in_range r w.imports.entries && entries_in_range r w.exports.entries))) ≡ true =
-      world-passes numbers_in_range r valid.numbers_in_range n w e in
-      let two = second_true (passes (in_list r.packages.items) (package_number w.«package»)) _ (second_true (is_place n) _ old) in
+      let two = second_true (passes (in_list r.packages.items) (package_number w.«package»)) _ (world_numbers n w e) in
       (first_true _ _ two, second_true (entries_in_range r w.imports.entries) _ two)
 
   module _ (s : Resolve) (types : BeginsWith r.types.items s.types.items) (interfaces : BeginsWith r.interfaces.items s.interfaces.items) (packages : (n : ℕ) (p : Package) → package_at r n ≡ Some p → (q : Package) × (package_at s n ≡ Some q) × IsSameName p.name q.name) where

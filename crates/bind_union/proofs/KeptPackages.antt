@@ -1,10 +1,10 @@
--- What stands in the packages of what was merged has its name and its package there.
-use Rattle.std.proofs.Common.{◌≡◌, ◌⊎◌, inl, inr, refl, sym, ap, ◌∙◌, ℕ, Bool, true, false, ◌&&◌, ◌||◌, ◌==◌, not, List, [], ◌∷◌, Option, Some, None, is_some}
+-- What stands in the packages of what was merged has its name and its package there, and no two packages have one name.
+use Rattle.std.proofs.Common.{◌≡◌, ◌⊎◌, inl, inr, refl, sym, ap, ◌∙◌, ℕ, Bool, true, false, ◌&&◌, ◌||◌, ◌==◌, not, List, [], Option, Some, None, subst, option_map}
 use Rattle.std.specs.Prelude.{String}
 use Rattle.std.specs.declared.alloc.Global.{Global}
 use Rattle.std.specs.List.{list_all}
-use Rattle.std.specs.Option.{option_map_or}
-use Rattle.std.proofs.lemmas.Bool.{lt-ltb, or_right, and_from as both}
+use Rattle.std.specs.Option.{option_map_or, option_eq}
+use Rattle.std.proofs.lemmas.Bool.{lt-ltb, or_right, and_from as both, or_left}
 use Rattle.std.proofs.lemmas.Option.{slice_get_within, same_Some as same-some}
 use Rattle.std.proofs.lemmas.List.Folds.{list_all-append, list_all-map}
 use Rattle.indexmap.specs.IndexMap.{values}
@@ -15,23 +15,30 @@ use Rattle.wit_model.specs.declared.model.WorldId.{WorldId}
 use Rattle.wit_model.specs.declared.model.World.{World}
 use Rattle.wit_model.specs.Text.{Text, text_of, text_eq}
 use Rattle.wit_model.specs.Lookup.{package_at, interface_at, world_at}
-use Rattle.wit_model.specs.Rules.{passes, in_list, is_id, text_is, package_number, interface_belongs, world_belongs, names_itself, is_world_name}
-use Rattle.wit_model.specs.Valid.{Keeps, KeepsRules, is_place, numbers_in_range, places, names_in_packages}
+use Rattle.wit_model.specs.Rules.{each_from, passes, in_list, is_id, text_is, package_number, interface_belongs, world_belongs, names_itself, is_world_name, same_version, same_package_name}
+use Rattle.wit_model.specs.Valid.{Rule, Keeps, KeepsRules, is_place, numbers_in_range, places, names_in_packages, package_names}
 use Rattle.wit_model.proofs.Entries.{free_passes}
 use Rattle.wit_model.proofs.OnePath.{found-in, package-passes}
-use Rattle.bind_union.specs.Carried.{Renumbering}
+use Rattle.bind_union.specs.Carried.{Renumbering, IsSameName}
 use Rattle.bind_union.specs.Merged.{interface_names, world_names, IsJoinedPackage, PackageStands, grown, brought, IsKeptPackage, IsPackageOf, IsMerged}
 use Rattle.bind_union.proofs.Lists.{no_true}
-use Rattle.bind_union.proofs.EntryRules.{text_alike}
-use Rattle.bind_union.proofs.FunctionRules.{id_under}
+use Rattle.bind_union.proofs.CopyRules.{text_alike, version_alike, are_parts}
+use Rattle.bind_union.proofs.ViewTests.{id_under}
 use Rattle.bind_union.proofs.Itself.{get_begin}
-use Rattle.bind_union.proofs.Kept.{kept}
 use Rattle.bind_union.proofs.PackageNames.{names_pass}
 use Rattle.base_lemmas.proofs.Bools.{left_of as first_true, right_of as second_true}
-use Rattle.base_lemmas.proofs.Elements.{all_two}
-use Rattle.base_lemmas.proofs.Numbers.{equal}
-use Rattle.wit_model.proofs.RulesLemmas.{each_by_number}
+use Rattle.base_lemmas.proofs.Elements.{all_three, all_weaker, all_two}
+use Rattle.base_lemmas.proofs.Numbers.{equal, same-number}
+use Rattle.wit_model.proofs.RulesLemmas.{each_by_number, each_at, name_flip}
 use Rattle.wit_model.proofs.TextLemmas.{named_too}
+use Rattle.semver.specs.declared.Version.{Version}
+use Rattle.semver.specs.Identifiers.{parts_of}
+use Rattle.wit_model.specs.declared.model.PackageName.{PackageName}
+use Rattle.wit_model.specs.Names.{is_label, is_version}
+
+pub kept : (rule : Rule) (s : Resolve) → each_from (rule.package_ s) 0 s.packages.items ≡ true → each_from (rule.interface_ s) 0 s.interfaces.items ≡ true
+    → each_from (rule.world_ s) 0 s.worlds.items ≡ true → each_from (rule.type_ s) 0 s.types.items ≡ true → Keeps rule s
+kept rule s ps is ws ts = both _ _ ps (both _ _ is (both _ _ ws ts))
 
 -- the interface is there, and has this name and this package
 abbrev pub is_interface_of : Resolve → ℕ → Text × ℕ → Bool
@@ -61,12 +68,6 @@ module _ (r : Resolve) (valid : KeepsRules r) (n : ℕ) (p : Package) (found : p
       (λ e. passes (λ w. text_eq (text_of w.name) (text_of e.0)) (world_at r e.1.0)) p.worlds.entries) ≡ true
   unfolding names_in_packages
   named = package-passes names_in_packages r valid.names_in_packages n p found
-
-  all_three : {A : Type 0} (p q s t : A → Bool) → ((x : A) → p x ≡ true → q x ≡ true → s x ≡ true → t x ≡ true) → (xs : List A) → list_all p xs ≡ true → list_all q xs ≡ true → list_all s xs ≡ true
-      → list_all t xs ≡ true
-  all_three p q s t one [] a b c = refl
-  all_three p q s t one (x ∷ xs) a b c = both _ _ (one x (first_true _ _ a) (first_true _ _ b) (first_true _ _ c))
-      (all_three p q s t one xs (second_true (p x) _ a) (second_true (q x) _ b) (second_true (s x) _ c))
 
   interface_of : (name : Option (String Global)) (t : Text) (b : Bool) → text_is name t ≡ true → passes (λ s. b && text_eq (text_of s) t) name ≡ true → (text_is name t && b) ≡ true
   interface_of None t b h k = no_true h
@@ -108,16 +109,12 @@ found_option test (Some x) h = (x, refl, h)
 module _ (r : Resolve) (n : ℕ) (p : Package) (stand : list_all (is_interface_of r n) (interface_names p) ≡ true) (worlds : list_all (is_world_of r n) (world_names p) ≡ true) where
   each_interface : (q : String Global × InterfaceId → Bool) → ((e : String Global × InterfaceId) → is_interface_of r n (text_of e.0, e.1.0) ≡ true → q e ≡ true)
       → list_all q p.interfaces.entries ≡ true
-  each_interface q one = all_two (λ e. is_interface_of r n (text_of e.0, e.1.0)) (λ e. is_interface_of r n (text_of e.0, e.1.0)) q (λ e a b. one e a) p.interfaces.entries own own
-    where
-      own : list_all (λ e. is_interface_of r n (text_of e.0, e.1.0)) p.interfaces.entries ≡ true
-      own = sym (list_all-map (is_interface_of r n) (λ e. (text_of e.0, e.1.0)) p.interfaces.entries) ∙ stand
+  each_interface q one = all_weaker (λ e. is_interface_of r n (text_of e.0, e.1.0)) q one p.interfaces.entries
+      (sym (list_all-map (is_interface_of r n) (λ e. (text_of e.0, e.1.0)) p.interfaces.entries) ∙ stand)
 
   each_world : (q : String Global × WorldId → Bool) → ((e : String Global × WorldId) → is_world_of r n (text_of e.0, e.1.0) ≡ true → q e ≡ true) → list_all q p.worlds.entries ≡ true
-  each_world q one = all_two (λ e. is_world_of r n (text_of e.0, e.1.0)) (λ e. is_world_of r n (text_of e.0, e.1.0)) q (λ e a b. one e a) p.worlds.entries own own
-    where
-      own : list_all (λ e. is_world_of r n (text_of e.0, e.1.0)) p.worlds.entries ≡ true
-      own = sym (list_all-map (is_world_of r n) (λ e. (text_of e.0, e.1.0)) p.worlds.entries) ∙ worlds
+  each_world q one = all_weaker (λ e. is_world_of r n (text_of e.0, e.1.0)) q one p.worlds.entries
+      (sym (list_all-map (is_world_of r n) (λ e. (text_of e.0, e.1.0)) p.worlds.entries) ∙ worlds)
 
   pub ranges_hold : (list_all (λ id. in_list r.interfaces.items id.0) (values p.interfaces) && list_all (λ id. in_list r.worlds.items id.0) (values p.worlds)) ≡ true
   ranges_hold =
@@ -156,6 +153,34 @@ module _ (r : Resolve) (n : ℕ) (p : Package) (stand : list_all (is_interface_o
       (ap (λ o. option_map_or (λ i. text_is i.name (text_of e.0)) o false) i.1 ∙ first_true _ _ i.2))))
 
 -- ---- in what was merged
+
+-- ---- names by their texts
+
+abbrev same_parts : ℕ × ℕ × ℕ × List ℕ × List ℕ → ℕ × ℕ × ℕ × List ℕ × List ℕ → Bool
+same_parts a b = a.0 == b.0 && (a.1 == b.1 && (a.2 == b.2 && (text_eq a.3 b.3 && text_eq a.4 b.4)))
+
+versions_by_parts : (a b : Option Version) → option_eq same_version a b ≡ option_eq same_parts (option_map parts_of a) (option_map parts_of b)
+versions_by_parts None None = refl
+versions_by_parts None (Some b) = refl
+versions_by_parts (Some a) None = refl
+versions_by_parts (Some a) (Some b) = refl
+
+same_name : (a b c d : PackageName) → IsSameName a b → IsSameName c d → same_package_name b d ≡ same_package_name a c
+same_name a b c d x y = λ i. text_eq (x.namespace i) (y.namespace i) && (text_eq (x.name i) (y.name i)
+    && (versions_by_parts b.version d.version ∙ ((λ j. option_eq same_parts (x.version j) (y.version j)) ∙ sym (versions_by_parts a.version c.version))) i)
+
+abbrev is_package_name : PackageName → Bool
+is_package_name p = is_label (text_of p.namespace) && (is_label (text_of p.name) && passes is_version p.version)
+
+name_passes : (a b : PackageName) → IsSameName a b → is_package_name b ≡ is_package_name a
+name_passes a b x = λ i. is_label (x.namespace i) && (is_label (x.name i) && (version_alike b.version ∙ (ap (passes are_parts) x.version ∙ sym (version_alike a.version))) i)
+
+-- ---- where a name is from
+
+data NameFrom (own other : Resolve) (f : Renumbering) (n : ℕ) (q : PackageName) : Type 0 where
+  ours : (p : Package) → package_at own n ≡ Some p → IsSameName p.name q → NameFrom own other f n q
+  theirs : (k : ℕ) (p : Package) → package_at other k ≡ Some p → f.packages k ≡ n → ((m : ℕ) (o : Package) → package_at own m ≡ Some o → same_package_name o.name p.name ≡ false) → IsSameName p.name q
+      → NameFrom own other f n q
 
 module _ (own other merged : Resolve) (bound other_bound : ℕ) (first second : Renumbering) (left_out : ℕ → Bool) (valid_own : KeepsRules own) (valid_other : KeepsRules other) (is : IsMerged own other merged bound other_bound first second left_out) where
   own_interface : (n : ℕ) (e : Text × ℕ) → is_interface_of own n e ≡ true → is_interface_of merged n e ≡ true
@@ -198,9 +223,8 @@ module _ (own other merged : Resolve) (bound other_bound : ℕ) (first second : 
 
   own_stand : (n : ℕ) (p : Package) → package_at own n ≡ Some p → (list_all (is_interface_of merged n) (interface_names p) ≡ true) × (list_all (is_world_of merged n) (world_names p) ≡ true)
   own_stand n p e = (
-    all_two (is_interface_of own n) (is_interface_of own n) (is_interface_of merged n) (λ x a b. own_interface n x a) (interface_names p) (interfaces_stand own valid_own n p e)
-        (interfaces_stand own valid_own n p e),
-    all_two (is_world_of own n) (is_world_of own n) (is_world_of merged n) (λ x a b. own_world n x a) (world_names p) (worlds_stand own valid_own n p e) (worlds_stand own valid_own n p e),
+    all_weaker (is_interface_of own n) (is_interface_of merged n) (own_interface n) (interface_names p) (interfaces_stand own valid_own n p e),
+    all_weaker (is_world_of own n) (is_world_of merged n) (own_world n) (world_names p) (worlds_stand own valid_own n p e),
   )
 
   joined_stand : (n : ℕ) (p : Package) → package_at other n ≡ Some p → (own_interfaces own_worlds : List (Text × ℕ)) → (j : IsJoinedPackage merged first left_out n p own_interfaces own_worlds)
@@ -242,4 +266,55 @@ module _ (own other merged : Resolve) (bound other_bound : ℕ) (first second : 
   unfolding names_in_packages
   names_in_packages_kept =
       kept names_in_packages merged (each_by_number (names_in_packages.package_ merged) merged.packages.items (λ n q e. let h = all_stand n q e in names_hold merged n q h.0 h.1))
+      (free_passes merged 0 merged.interfaces.items) (free_passes merged 0 merged.worlds.items) (free_passes merged 0 merged.types.items)
+
+  own_name : (n : ℕ) (p q : Package) → package_at own n ≡ Some p → package_at merged n ≡ Some q → IsSameName p.name q.name
+  own_name n p q e at = let x = is.packages n p e in subst (λ (y : Package). IsSameName p.name y.name) (same-some x.0 q (sym x.1 ∙ at)) x.2
+
+  name_from : (n : ℕ) (q : Package) → package_at merged n ≡ Some q → NameFrom own other first n q.name
+  name_from n q e = go (is.package_from n (slice_get_within merged.packages.items n q e))
+    where
+      stands : (k : IsPackageOf other first n) → PackageStands own merged first left_out k.number k.old → NameFrom own other first n q.name
+      stands k (grown p at j a b) = let there : package_at own n ≡ Some p = ap (package_at own) (sym k.here) ∙ at in ours p there (own_name n p q there e)
+      stands k (brought high j fresh) =
+          let x = is.first_copies.carried.packages k.number k.old k.found in
+          theirs k.number k.old k.found k.here fresh (subst (λ (y : Package). IsSameName k.old.name y.name) (same-some x.image q (sym x.at_image ∙ (ap (package_at merged) k.here ∙ e))) x.name)
+
+      go : IsKeptPackage own merged n ⊎ IsPackageOf other first n → NameFrom own other first n q.name
+      go (inl k) = ours k.old k.found (own_name n k.old q k.found e)
+      go (inr k) = stands k (is.packages_stand k.number k.old k.found)
+
+  abbrev package_rule : Resolve → ℕ → Package → Bool
+  package_rule r n p = is_package_name p.name && each_from (λ m other. (m == n) || not (same_package_name p.name other.name)) 0 r.packages.items
+
+  passed : (r : Resolve) → KeepsRules r → (n : ℕ) (p : Package) → package_at r n ≡ Some p → package_rule r n p ≡ true
+  unfolding package_names
+  passed r valid n p e = package-passes package_names r valid.package_names n p e
+
+  apart_in : (r : Resolve) → KeepsRules r → (n m : ℕ) (p q : Package) → package_at r n ≡ Some p → package_at r m ≡ Some q → ((m == n) || not (same_package_name p.name q.name)) ≡ true
+  apart_in r valid n m p q e d = each_at (λ k other. (k == n) || not (same_package_name p.name other.name)) r.packages.items m q (second_true (is_package_name p.name) _ (passed r valid n p e)) d
+
+  named_well : (n : ℕ) (q : PackageName) → NameFrom own other first n q → is_package_name q ≡ true
+  named_well n q (ours p e same) = name_passes p.name q same ∙ first_true _ _ (passed own valid_own n p e)
+  named_well n q (theirs k p e here fresh same) = name_passes p.name q same ∙ first_true _ _ (passed other valid_other k p e)
+
+  two_apart : (n m : ℕ) (q o : PackageName) → NameFrom own other first n q → NameFrom own other first m o → ((m == n) || not (same_package_name q o)) ≡ true
+  two_apart n m q o (ours p e x) (ours u d y) = ap (λ b. (m == n) || not b) (same_name p.name q u.name o x y) ∙ apart_in own valid_own n m p u e d
+  two_apart n m q o (ours p e x) (theirs k u d here fresh y) = or_right (m == n) (not (same_package_name q o)) (ap not (same_name p.name q u.name o x y ∙ fresh n p e))
+  two_apart n m q o (theirs k p e here fresh x) (ours u d y) = or_right (m == n) (not (same_package_name q o)) (ap not (same_name p.name q u.name o x y ∙ (name_flip p.name u.name ∙ fresh m u d)))
+  two_apart n m q o (theirs k p e here fresh x) (theirs l u d there new y) = go (l == k) refl (apart_in other valid_other k l p u e d)
+    where
+      go : (b : Bool) → (l == k) ≡ b → (b || not (same_package_name p.name u.name)) ≡ true → ((m == n) || not (same_package_name q o)) ≡ true
+      go true same h = or_left (m == n) (not (same_package_name q o)) (subst (λ (z : ℕ). (m == z) ≡ true) (sym there ∙ (ap first.packages (equal l k same) ∙ here)) (same-number m))
+      go false same h = or_right (m == n) (not (same_package_name q o)) (ap not (same_name p.name q u.name o x y) ∙ h)
+
+  -- package names
+  pub package_names_kept : Keeps package_names merged
+  unfolding package_names
+  package_names_kept =
+      kept package_names merged
+      (each_by_number (package_rule merged) merged.packages.items (λ n q e.
+      let from = name_from n q e in
+      both _ _ (named_well n q.name from) (each_by_number (λ m other. (m == n) || not (same_package_name q.name other.name)) merged.packages.items
+      (λ m o d. two_apart n m q.name o.name from (name_from m o d)))))
       (free_passes merged 0 merged.interfaces.items) (free_passes merged 0 merged.worlds.items) (free_passes merged 0 merged.types.items)

@@ -4,7 +4,7 @@ use Rattle.std.specs.Prelude.{String, sum_by}
 use Rattle.std.specs.declared.alloc.Global.{Global}
 use Rattle.std.specs.List.{list_all, Contains}
 use Rattle.std.specs.Option.{option_map_or, option_eq}
-use Rattle.std.proofs.lemmas.Bool.{lt-ltb, or_left, or_right, and_from as both, cases_lt as low_or_high}
+use Rattle.std.proofs.lemmas.Bool.{false_from_ne_true, not-true, lt-ltb, or_left, or_right, and_from as both, cases_lt as low_or_high}
 use Rattle.std.proofs.lemmas.Option.{slice_get_within, same_Some as same-some}
 use Rattle.wit_model.specs.declared.model.Resolve.{Resolve}
 use Rattle.wit_model.specs.declared.model.Package.{Package}
@@ -27,17 +27,16 @@ use Rattle.bind_union.specs.Carried.{Renumbering, IsInterface}
 use Rattle.bind_union.specs.Joined.{Joined, IsJoined}
 use Rattle.bind_union.specs.Merged.{interface_names, world_names, is_name, IsJoinedPackage, PackageStands, grown, brought, IsKeptPackage, IsPackageOf, IsCopyUnder, AreCopies, IsWorldCopy, IsMerged}
 use Rattle.bind_union.proofs.Lists.{no_true}
-use Rattle.bind_union.proofs.WorldOrder.{items, numbers_append}
-use Rattle.bind_union.proofs.Itself.{get_begin, world_range}
-use Rattle.bind_union.proofs.Sources.{each_interface_of_three, each_world}
-use Rattle.bind_union.proofs.Kept.{kept}
-use Rattle.bind_union.proofs.KeptPackages.{is_interface_of, is_world_of, interfaces_stand, worlds_stand, all_stand, places_hold, found_option}
-use Rattle.bind_union.proofs.KeptNumbers.{interface_package, world_package}
+use Rattle.bind_union.proofs.WorldOrder.{items, numbers_append, interfaces_in, one_sums, one_of_sum, shown, times_are, counted_append, none_counted, none_added, past_range, range_interfaces, same_times}
+use Rattle.bind_union.proofs.Homes.{apart}
+use Rattle.bind_union.proofs.Itself.{world_package, get_begin, world_range}
+use Rattle.bind_union.proofs.Kept.{each_interface_of_three, each_world}
+use Rattle.bind_union.proofs.Carrying.{interface_package}
+use Rattle.bind_union.proofs.KeptPackages.{kept, is_interface_of, is_world_of, interfaces_stand, worlds_stand, all_stand, places_hold, found_option}
 use Rattle.bind_union.proofs.PackageNames.{added_from, name_append, interfaces_by_name, worlds_by_name, world_name_listed, found_name, still_found, copy_found, found_behind}
-use Rattle.bind_union.proofs.Shown.{one_sums, one_of_sum, shown, times_are, shown_append, not_shown, past_not_shown, shown_from, same_times}
-use Rattle.base_lemmas.proofs.Bools.{left_of as first_true, right_of as second_true}
+use Rattle.base_lemmas.proofs.Bools.{left_of as first_true, right_of as second_true, or_false}
 use Rattle.base_lemmas.proofs.Elements.{all-contained, all_by_number as all_by_get, get-contains}
-use Rattle.base_lemmas.proofs.Numbers.{equal, same-number}
+use Rattle.base_lemmas.proofs.Numbers.{differ, unequal, equal, same-number}
 use Rattle.wit_model.proofs.RulesLemmas.{each_by_number}
 use Rattle.wit_model.proofs.TextLemmas.{text_same as text-same}
 use Rattle.wit_model.proofs.ValidLemmas.{world_passes as world-passes}
@@ -57,30 +56,41 @@ inline_by r n p = (sum_by (times_shown n) r.worlds.items == 1) && list_all (λ w
 abbrev place_by : Resolve → ℕ → Option Text → Option ℕ → Bool
 place_by r n name p = is_some p && option_map_or (λ t. listed_by r n t p) name (inline_by r n p)
 
+some_number : (p : Option PackageId) → is_some p ≡ is_some (package_number p)
+some_number None = refl
+some_number (Some p) = refl
+
 interface_place : (r : Resolve) (n : ℕ) (i : Interface) → places.interface_ r n i ≡ place_by r n (optional_text i.name) (package_number i.«package»)
 unfolding places
-interface_place r n i = λ j. some i.«package» j && by_name i.name j
+interface_place r n i = λ j. some_number i.«package» j && by_name i.name j
   where
-    some : (p : Option PackageId) → is_some p ≡ is_some (package_number p)
-    some None = refl
-    some (Some p) = refl
-
     by_name : (name : Option (String Global))
         → option_map_or (λ x. listed_by r n (text_of x) (package_number i.«package»)) name (inline_by r n (package_number i.«package»)) ≡ option_map_or
         (λ t. listed_by r n t (package_number i.«package»)) (optional_text name) (inline_by r n (package_number i.«package»))
     by_name None = refl
     by_name (Some x) = refl
 
+-- a named one is kept where it is listed, and an inline one where it is shown once
+place_kept : (r s : Resolve) (m n : ℕ) (name : Option Text) (p q : Option ℕ) → (is_some p ≡ true → is_some q ≡ true)
+    → ((t : Text) → name ≡ Some t → listed_by r m t p ≡ true → listed_by s n t q ≡ true)
+    → (name ≡ None → inline_by r m p ≡ true → inline_by s n q ≡ true) → place_by r m name p ≡ true → place_by s n name q ≡ true
+place_kept r s m n None p q some listed inline h = both _ _ (some (first_true _ _ h)) (inline refl (second_true (is_some p) _ h))
+place_kept r s m n (Some t) p q some listed inline h = both _ _ (some (first_true _ _ h)) (listed t refl (second_true (is_some p) _ h))
+
+-- by the names in a package
+listed_in : (r : Resolve) (n : ℕ) (t : Text) (k : ℕ) (p : Package) → package_at r k ≡ Some p
+    → listed_by r n t (Some k) ≡ (is_id n (under_text t (interface_names p)) && not (is_name t (world_names p)))
+listed_in r n t k p e = ap (λ o. option_map_or (λ x. interface_is_listed n t x && not (is_world_name x t)) o true) e ∙ (λ i. is_id n (interfaces_by_name p t i) && not (world_name_listed p t i))
+
 abbrev pub world_by : Resolve → ℕ → Text → Option ℕ → Bool
 world_by r n t p = is_some p && option_map_or (world_is_listed n t) (option_and_then (package_at r) p) true
 
+world_in : (r : Resolve) (n : ℕ) (t : Text) (k : ℕ) (p : Package) → package_at r k ≡ Some p → world_by r n t (Some k) ≡ is_id n (under_text t (world_names p))
+world_in r n t k p e = ap (λ o. option_map_or (world_is_listed n t) o true) e ∙ ap (is_id n) (worlds_by_name p t)
+
 pub world_place : (r : Resolve) (n : ℕ) (w : World) → places.world_ r n w ≡ world_by r n (text_of w.name) (package_number w.«package»)
 unfolding places
-world_place r n w = λ j. some w.«package» j && option_map_or (world_is_listed n (text_of w.name)) (option_and_then (package_at r) (package_number w.«package»)) true
-  where
-    some : (p : Option PackageId) → is_some p ≡ is_some (package_number p)
-    some None = refl
-    some (Some p) = refl
+world_place r n w = λ j. some_number w.«package» j && option_map_or (world_is_listed n (text_of w.name)) (option_and_then (package_at r) (package_number w.«package»)) true
 
 option_itself : (p : Option ℕ) → option_eq ◌==◌ p p ≡ true
 option_itself None = refl
@@ -88,16 +98,15 @@ option_itself (Some n) = same-number n
 
 option_equal : (p q : Option ℕ) → option_eq ◌==◌ p q ≡ true → p ≡ q
 option_equal None None h = refl
-option_equal None (Some q) h = no_true h
-option_equal (Some p) None h = no_true h
 option_equal (Some p) (Some q) h = ap Some (equal p q h)
+option_equal _ _ h = no_true h
 
 some_text : (o : Option (String Global)) → o ≡ None → optional_text o ≡ None
 some_text o e = ap optional_text e
 
 no_text : (o : Option (String Global)) → optional_text o ≡ None → o ≡ None
 no_text None e = refl
-no_text (Some x) e = let wrong : Some (text_of x) ≡ None = e in absurd cc
+no_text (Some x) e = absurd cc
 
 -- where it is shown once, and nowhere else, in a world of its package, the rule is kept
 inline_holds : (s : Resolve) (t : ℕ) (p : Option ℕ) (k : ℕ) (w : World) → world_at s k ≡ Some w → times_shown t w ≡ 1 → package_number w.«package» ≡ p
@@ -113,16 +122,16 @@ inline_holds s t p k w at one same others =
         or_right (times_shown t y == 0) _ (ap (λ q. option_eq ◌==◌ q p) (ap (λ x. package_number x.«package») (sym w_is) ∙ same) ∙ option_itself p)
 
 -- the world that shows an inline interface, and that no other does
-inline_found : (r : Resolve) (n : ℕ) (p : Option ℕ) → inline_by r n p ≡ true → (k : ℕ) × (w : World) × (world_at r k ≡ Some w) × (times_shown n w ≡ 1) × (package_number w.«package» ≡ p)
+abbrev ShownOnce : Resolve → ℕ → Option ℕ → Type 0
+ShownOnce r n p = (k : ℕ) × (w : World) × (world_at r k ≡ Some w) × (times_shown n w ≡ 1) × (package_number w.«package» ≡ p)
     × ((m : ℕ) (y : World) → world_at r m ≡ Some y → (m == k) ≡ false → times_shown n y ≡ 0)
+
+inline_found : (r : Resolve) (n : ℕ) (p : Option ℕ) → inline_by r n p ≡ true → ShownOnce r n p
 inline_found r n p h =
     let one = one_of_sum (times_shown n) r.worlds.items (equal (sum_by (times_shown n) r.worlds.items) 1 (first_true _ _ h)) in
     let all = second_true (sum_by (times_shown n) r.worlds.items == 1) _ h in
     let here = all-contained (λ w. (times_shown n w == 0) || option_eq ◌==◌ (package_number w.«package») p) r.worlds.items one.1 all (get-contains r.worlds.items one.0 one.1 one.2) in
     (one.0, one.1, one.2, one.3, option_equal (package_number one.1.«package») p (sym (ap (λ k. (k == 0) || option_eq ◌==◌ (package_number one.1.«package») p) one.3) ∙ here), one.4)
-
-abbrev pub under : Text → List (Text × ℕ) → Option ℕ
-under t es = under_text t es
 
 pub listed_name : (t : Text) (n : ℕ) (es : List (Text × ℕ)) → Contains es (t, n) → is_name t es ≡ true
 listed_name t n [] c = none-in (t, n) c
@@ -149,7 +158,9 @@ module _ (own other merged : Resolve) (bound other_bound : ℕ) (first second : 
         interfaces = ap interface_names (sym image) ∙ (j.interfaces ∙ ap (λ y. interface_names y ++ j.new_interfaces) same);
         more_worlds = j.new_worlds;
         worlds = ap world_names (sym image) ∙ (j.worlds ∙ ap (λ y. world_names y ++ j.new_worlds) same);
-        apart = λ name h. none_new name h (is_name name j.new_worlds) refl;
+        apart = λ name h. false_from_ne_true _ (λ k.
+            let a = added_from first.worlds first.carries_world left_out (world_names o) (world_names x.old) j.new_worlds j.joined_worlds name k in
+            no_true (sym (apart_names a.0 a.1 a.2 a.3) ∙ ((λ z. is_name (sym (text-same name a.0 a.4) z) (interface_names (same z))) ∙ h)));
       }
         where
           same : o ≡ p
@@ -157,12 +168,6 @@ module _ (own other merged : Resolve) (bound other_bound : ℕ) (first second : 
 
           image : j.image ≡ q
           image = same-some j.image q (sym j.at_image ∙ (ap (package_at merged) x.here ∙ at))
-
-          none_new : (name : Text) → is_name name (interface_names p) ≡ true → (b : Bool) → is_name name j.new_worlds ≡ b → is_name name j.new_worlds ≡ false
-          none_new name h false k = k
-          none_new name h true k =
-              let a = added_from first.worlds first.carries_world left_out (world_names o) (world_names x.old) j.new_worlds j.joined_worlds name k in
-              no_true (sym (apart_names a.0 a.1 a.2 a.3) ∙ (ap (λ t. is_name t (interface_names o)) (sym (text-same name a.0 a.4)) ∙ (ap (λ y. is_name name (interface_names y)) same ∙ h)))
 
       stands : (x : IsPackageOf other first k) → PackageStands own merged first left_out x.number x.old → IsGrown p q
       stands x (grown o d j a b) = by_joined o (ap (package_at own) (sym x.here) ∙ d) x j b
@@ -187,26 +192,20 @@ module _ (own other merged : Resolve) (bound other_bound : ℕ) (first second : 
   own_listed n t k p e h =
       let q = is.packages k p e in
       let g = grown_package k p q.0 e q.1 in
-      let old : (interface_is_listed n t p && not (is_world_name p t)) ≡ true = sym (ap (λ o. option_map_or (λ x. interface_is_listed n t x && not (is_world_name x t)) o true) e) ∙ h in
-      let found = sym (ap (is_id n) (interfaces_by_name p t)) ∙ first_true _ _ old in
-      ap (λ o. option_map_or (λ x. interface_is_listed n t x && not (is_world_name x t)) o true) q.1
-      ∙ both _ _
-      (ap (is_id n) (interfaces_by_name q.0 t ∙ ap (under t) g.interfaces) ∙ still_found t n (interface_names p) g.more_interfaces found)
-      (ap not (world_name_listed q.0 t ∙ (ap (is_name t) g.worlds ∙ (name_append t (world_names p) g.more_worlds ∙ ap (λ b. is_name t (world_names p) || b)
-      (g.apart t (found_name t n (interface_names p) found)))))
-      ∙ (ap not (or_none (is_name t (world_names p)) ∙ sym (world_name_listed p t)) ∙ second_true (interface_is_listed n t p) _ old))
-    where
-      or_none : (b : Bool) → (b || false) ≡ b
-      or_none true = refl
-      or_none false = refl
+      let old = sym (listed_in own n t k p e) ∙ h in
+      let found = first_true _ _ old in
+      listed_in merged n t k q.0 q.1
+      ∙ both _ _ (ap (λ es. is_id n (under_text t es)) g.interfaces ∙ still_found t n (interface_names p) g.more_interfaces found)
+      (ap not (ap (is_name t) g.worlds ∙ (name_append t (world_names p) g.more_worlds
+      ∙ (ap (λ b. is_name t (world_names p) || b) (g.apart t (found_name t n (interface_names p) found)) ∙ or_false (is_name t (world_names p)))))
+      ∙ second_true (is_id n (under_text t (interface_names p))) _ old)
 
   own_world_listed : (n : ℕ) (t : Text) (k : ℕ) (p : Package) → package_at own k ≡ Some p → world_by own n t (Some k) ≡ true → world_by merged n t (Some k) ≡ true
   own_world_listed n t k p e h =
       let q = is.packages k p e in
       let g = grown_package k p q.0 e q.1 in
-      let old : world_is_listed n t p ≡ true = sym (ap (λ o. option_map_or (world_is_listed n t) o true) e) ∙ h in
-      ap (λ o. option_map_or (world_is_listed n t) o true) q.1
-      ∙ (ap (is_id n) (worlds_by_name q.0 t ∙ ap (under t) g.worlds) ∙ still_found t n (world_names p) g.more_worlds (sym (ap (is_id n) (worlds_by_name p t)) ∙ old))
+      world_in merged n t k q.0 q.1
+      ∙ (ap (λ es. is_id n (under_text t es)) g.worlds ∙ still_found t n (world_names p) g.more_worlds (sym (world_in own n t k p e) ∙ h))
 
   -- ---- copied ones
 
@@ -225,34 +224,25 @@ module _ (own other merged : Resolve) (bound other_bound : ℕ) (first second : 
       → listed_by merged (first.interfaces m) t (Some (first.packages k)) ≡ true
   copy_listed m copy t k p e h = stands (is.packages_stand k p e)
     where
-      old : (interface_is_listed m t p && not (is_world_name p t)) ≡ true
-      old = sym (ap (λ o. option_map_or (λ x. interface_is_listed m t x && not (is_world_name x t)) o true) e) ∙ h
+      old : (is_id m (under_text t (interface_names p)) && not (is_name t (world_names p))) ≡ true
+      old = sym (listed_in other m t k p e) ∙ h
 
-      found : is_id m (under t (interface_names p)) ≡ true
-      found = sym (ap (is_id m) (interfaces_by_name p t)) ∙ first_true _ _ old
+      found : is_id m (under_text t (interface_names p)) ≡ true
+      found = first_true _ _ old
 
       no_world : is_name t (world_names p) ≡ false
-      no_world = go (is_name t (world_names p)) (sym (ap not (world_name_listed p t)) ∙ second_true (interface_is_listed m t p) _ old)
-        where
-          go : (b : Bool) → not b ≡ true → b ≡ false
-          go true k = no_true k
-          go false k = refl
+      no_world = not-true _ (second_true (is_id m (under_text t (interface_names p))) _ old)
 
       by : (own_interfaces own_worlds : List (Text × ℕ)) → ((x : Text) → Contains own_interfaces (x, first.interfaces m) → ⊥) → is_name t own_worlds ≡ false
           → IsJoinedPackage merged first left_out k p own_interfaces own_worlds → listed_by merged (first.interfaces m) t (Some (first.packages k)) ≡ true
       by own_interfaces own_worlds fresh apart j =
           let there = copy_found first.interfaces first.copies_interface (λ x. false) own_interfaces (interface_names p) j.new_interfaces j.joined_interfaces t m fresh refl found in
-          ap (λ o. option_map_or (λ x. interface_is_listed (first.interfaces m) t x && not (is_world_name x t)) o true) j.at_image
-          ∙ both _ _
-          (ap (is_id (first.interfaces m)) (interfaces_by_name j.image t ∙ ap (under t) j.interfaces) ∙ found_behind t (first.interfaces m) own_interfaces j.new_interfaces there.0 there.1)
-          (ap not (world_name_listed j.image t ∙ (ap (is_name t) j.worlds ∙ (name_append t own_worlds j.new_worlds
-          ∙ ((λ i. apart i || is_name t j.new_worlds) ∙ none_new (is_name t j.new_worlds) refl)))))
-        where
-          none_new : (b : Bool) → is_name t j.new_worlds ≡ b → is_name t j.new_worlds ≡ false
-          none_new false e = e
-          none_new true e =
-              let a = added_from first.worlds first.carries_world left_out own_worlds (world_names p) j.new_worlds j.joined_worlds t e in
-              no_true (sym no_world ∙ (ap (λ x. is_name x (world_names p)) (text-same t a.0 a.4) ∙ listed_name a.0 a.1 (world_names p) a.2))
+          let none_new : is_name t j.new_worlds ≡ false = false_from_ne_true _ (λ z.
+          let a = added_from first.worlds first.carries_world left_out own_worlds (world_names p) j.new_worlds j.joined_worlds t z in
+          no_true (sym no_world ∙ (ap (λ x. is_name x (world_names p)) (text-same t a.0 a.4) ∙ listed_name a.0 a.1 (world_names p) a.2))) in
+          listed_in merged (first.interfaces m) t (first.packages k) j.image j.at_image
+          ∙ both _ _ (ap (λ es. is_id (first.interfaces m) (under_text t es)) j.interfaces ∙ found_behind t (first.interfaces m) own_interfaces j.new_interfaces there.0 there.1)
+          (ap not (ap (is_name t) j.worlds ∙ (name_append t own_worlds j.new_worlds ∙ (λ i. apart i || none_new i))))
 
       stands : PackageStands own merged first left_out k p → listed_by merged (first.interfaces m) t (Some (first.packages k)) ≡ true
       stands (grown o d j a b) = by (interface_names o) (world_names o) (λ x c. let low = own_interface_low (first.packages k) o d x (first.interfaces m) c in let high =
@@ -263,15 +253,15 @@ module _ (own other merged : Resolve) (bound other_bound : ℕ) (first second : 
       → world_by merged (first.worlds m) t (Some (first.packages k)) ≡ true
   copy_world_listed m c t k p e h = stands (is.packages_stand k p e)
     where
-      found : is_id m (under t (world_names p)) ≡ true
-      found = sym (ap (is_id m) (worlds_by_name p t)) ∙ (sym (ap (λ o. option_map_or (world_is_listed m t) o true) e) ∙ h)
+      found : is_id m (under_text t (world_names p)) ≡ true
+      found = sym (world_in other m t k p e) ∙ h
 
       by : (own_interfaces own_worlds : List (Text × ℕ)) → ((x : Text) → Contains own_worlds (x, first.worlds m) → ⊥) → IsJoinedPackage merged first left_out k p own_interfaces own_worlds
           → world_by merged (first.worlds m) t (Some (first.packages k)) ≡ true
       by own_interfaces own_worlds fresh j =
           let there = copy_found first.worlds first.carries_world left_out own_worlds (world_names p) j.new_worlds j.joined_worlds t m fresh (is.not_left_out m c) found in
-          ap (λ o. option_map_or (world_is_listed (first.worlds m) t) o true) j.at_image
-          ∙ (ap (is_id (first.worlds m)) (worlds_by_name j.image t ∙ ap (under t) j.worlds) ∙ found_behind t (first.worlds m) own_worlds j.new_worlds there.0 there.1)
+          world_in merged (first.worlds m) t (first.packages k) j.image j.at_image
+          ∙ (ap (λ es. is_id (first.worlds m) (under_text t es)) j.worlds ∙ found_behind t (first.worlds m) own_worlds j.new_worlds there.0 there.1)
 
       stands : PackageStands own merged first left_out k p → world_by merged (first.worlds m) t (Some (first.packages k)) ≡ true
       stands (grown o d j a b) = by (interface_names o) (world_names o) (λ x y. let low = own_world_low (first.packages k) o d x (first.worlds m) y in let high = is.new_worlds m c in
@@ -280,26 +270,37 @@ module _ (own other merged : Resolve) (bound other_bound : ℕ) (first second : 
 
   -- ---- worlds
 
-  the_package : (r : Resolve) (p : Option ℕ) → passes (in_list r.packages.items) p ≡ true → is_some p ≡ true → (k : ℕ) × (p ≡ Some k) × (q : Package) × (package_at r k ≡ Some q)
-  the_package r None h s = no_true s
-  the_package r (Some k) h s = let q = found-in r.packages.items k h in (k, refl, q.0, q.1)
+  -- where the package is in range
+  own_listed_at : (n : ℕ) (t : Text) (p : Option ℕ) → passes (in_list own.packages.items) p ≡ true → listed_by own n t p ≡ true → listed_by merged n t p ≡ true
+  own_listed_at n t None c h = refl
+  own_listed_at n t (Some k) c h = let q = found-in own.packages.items k c in own_listed n t k q.0 q.1 h
+
+  copy_listed_at : (m : ℕ) → first.copies_interface m ≡ true → (t : Text) (p : Option ℕ) → passes (in_list other.packages.items) p ≡ true → listed_by other m t p ≡ true
+      → listed_by merged (first.interfaces m) t (option_map first.packages p) ≡ true
+  copy_listed_at m copy t None c h = refl
+  copy_listed_at m copy t (Some k) c h = let q = found-in other.packages.items k c in copy_listed m copy t k q.0 q.1 h
+
+  own_world_at : (n : ℕ) (t : Text) (p : Option ℕ) → passes (in_list own.packages.items) p ≡ true → world_by own n t p ≡ true → world_by merged n t p ≡ true
+  own_world_at n t None c h = h
+  own_world_at n t (Some k) c h = let q = found-in own.packages.items k c in own_world_listed n t k q.0 q.1 h
+
+  copy_world_at : (m : ℕ) → first.carries_world m ≡ true → (t : Text) (p : Option ℕ) → passes (in_list other.packages.items) p ≡ true → world_by other m t p ≡ true
+      → world_by merged (first.worlds m) t (option_map first.packages p) ≡ true
+  copy_world_at m d t None c h = h
+  copy_world_at m d t (Some k) c h = let q = found-in other.packages.items k c in copy_world_listed m d t k q.0 q.1 h
 
   own_world_place : (n : ℕ) (w : World) → world_at own n ≡ Some w → world_by merged n (text_of w.name) (package_number w.«package») ≡ true
-  own_world_place n w e =
-      let old : world_by own n (text_of w.name) (package_number w.«package») ≡ true = sym (world_place own n w) ∙ world-passes places own valid_own.places n w e in
-      let k = the_package own (package_number w.«package») (world_package own other merged bound other_bound first second left_out valid_own valid_other is own valid_own n w e) (first_true _ _ old) in
-      ap (world_by merged n (text_of w.name)) k.1 ∙ own_world_listed n (text_of w.name) k.0 k.2 k.3 (sym (ap (world_by own n (text_of w.name)) k.1) ∙ old)
+  own_world_place n w e = own_world_at n (text_of w.name) (package_number w.«package») (world_package own valid_own n w e)
+      (sym (world_place own n w) ∙ world-passes places own valid_own.places n w e)
 
   copy_world_place : (m : ℕ) (c : first.carries_world m ≡ true) → places.world_ merged (first.worlds m) (is.first_worlds m c).joined.image ≡ true
   copy_world_place m c =
       let w = is.first_worlds m c in
       let j = w.joined in
-      let old : world_by other m (text_of j.old.name) (package_number j.old.«package») ≡ true = sym (world_place other m j.old) ∙ world-passes places other valid_other.places m j.old j.found in
-      let k = the_package other (package_number j.old.«package») (world_package own other merged bound other_bound first second left_out valid_own valid_other is other valid_other m j.old j.found)
-      (first_true _ _ old) in
       world_place merged (first.worlds m) j.image
-      ∙ ((λ i. world_by merged (first.worlds m) (w.name i) ((w.in_package ∙ ap (option_map first.packages) k.1) i))
-      ∙ copy_world_listed m c (text_of j.old.name) k.0 k.2 k.3 (sym (ap (world_by other m (text_of j.old.name)) k.1) ∙ old))
+      ∙ ((λ i. world_by merged (first.worlds m) (w.name i) (w.in_package i))
+      ∙ copy_world_at m c (text_of j.old.name) (package_number j.old.«package») (world_package other valid_other m j.old j.found)
+      (sym (world_place other m j.old) ∙ world-passes places other valid_other.places m j.old j.found))
 
   bound_place : places.world_ merged bound is.joined.image ≡ true
   bound_place =
@@ -310,23 +311,21 @@ module _ (own other merged : Resolve) (bound other_bound : ℕ) (first second : 
   -- ---- inline interfaces
 
   -- each world is an own one, the bound one or a copy
-  pub world_case : (k : ℕ) (y : World) → world_at merged k ≡ Some y
-      → ((world_at own k ≡ Some y) × ((k == bound) ≡ false)) ⊎ (((k ≡ bound) × (is.joined.image ≡ y))
+  abbrev pub WorldCase : ℕ → World → Type 0
+  WorldCase k y = ((world_at own k ≡ Some y) × ((k == bound) ≡ false)) ⊎ (((k ≡ bound) × (is.joined.image ≡ y))
       ⊎ ((m : ℕ) × (c : first.carries_world m ≡ true) × (first.worlds m ≡ k) × ((is.first_worlds m c).joined.image ≡ y)))
+
+  pub world_case : (k : ℕ) (y : World) → world_at merged k ≡ Some y → WorldCase k y
   world_case k y e = elim (low_or_high k (length own.worlds.items)) [
     | inl low ↦ own_one (k == bound) refl (found-in own.worlds.items k (lt-ltb k (length own.worlds.items) low))
     | inr high ↦ copied (is.world_from k high (slice_get_within merged.worlds.items k y e))
   ]
     where
-      own_one : (b : Bool) → (k == bound) ≡ b → (x : World) × (world_at own k ≡ Some x)
-          → ((world_at own k ≡ Some y) × ((k == bound) ≡ false)) ⊎ (((k ≡ bound) × (is.joined.image ≡ y))
-          ⊎ ((m : ℕ) × (c : first.carries_world m ≡ true) × (first.worlds m ≡ k) × ((is.first_worlds m c).joined.image ≡ y)))
+      own_one : (b : Bool) → (k == bound) ≡ b → (x : World) × (world_at own k ≡ Some x) → WorldCase k y
       own_one false apart x = inl (x.1 ∙ ap Some (same-some x.0 y (sym (is.worlds k x.0 x.1 apart) ∙ e)), apart)
       own_one true same x = let here = equal k bound same in inr (inl (here, same-some is.joined.image y (sym is.joined.at_image ∙ (ap (world_at merged) (is.bound_there ∙ sym here) ∙ e))))
 
-      copied : IsCopyUnder first.worlds first.carries_world k
-          → ((world_at own k ≡ Some y) × ((k == bound) ≡ false)) ⊎ (((k ≡ bound) × (is.joined.image ≡ y))
-          ⊎ ((m : ℕ) × (c : first.carries_world m ≡ true) × (first.worlds m ≡ k) × ((is.first_worlds m c).joined.image ≡ y)))
+      copied : IsCopyUnder first.worlds first.carries_world k → WorldCase k y
       copied c = let j = (is.first_worlds c.0 c.1).joined in inr (inr (c.0, c.1, c.2, same-some j.image y (sym j.at_image ∙ (ap (world_at merged) c.2 ∙ e))))
 
   -- an inline interface that is shown anew is a copy
@@ -340,19 +339,20 @@ module _ (own other merged : Resolve) (bound other_bound : ℕ) (first second : 
   not_among : (f : Renumbering) → AreCopies own other merged f → (own_part olds news : List (WorldKey × WorldItem)) → Joined f own_part olds news → (t : ℕ) (v : Interface)
       → interface_at merged t ≡ Some v → v.name ≡ None
       → ((a : ℕ) → f.copies_interface a ≡ true → f.interfaces a ≡ t → ⊥) → shown t news ≡ 0
-  not_among f copies own_part olds news j t v e inline none_such = not_shown t news (go (has (filter_map item_interface (items news)) t) refl)
-    where
-      go : (b : Bool) → has (filter_map item_interface (items news)) t ≡ b → has (filter_map item_interface (items news)) t ≡ false
-      go false k = k
-      go true k =
-          let r = shown_from f own_part olds news j t k in
-          absurd (none_such r.0 (shown_copy f copies r.0 r.1 v (ap (interface_at merged) r.2 ∙ e) inline) r.2)
+  not_among f copies own_part olds news j t v e inline none_such = none_counted item_interface t (items news)
+      (none_added f (interfaces_in f) own_part olds news j t (λ a c to. none_such a (shown_copy f copies a c v (ap (interface_at merged) to ∙ e) inline) to))
+
+  -- a copy is shown as often as what it copies
+  same_copies : (f : Renumbering) → AreCopies own other merged f → (m : ℕ) → f.copies_interface m ≡ true → (before : List (WorldKey × WorldItem))
+      → has (filter_map item_interface (items before)) (f.interfaces m) ≡ false → (olds news : List (WorldKey × WorldItem)) → Joined f before olds news → shown (f.interfaces m) news ≡ shown m olds
+  same_copies f copies m copy before fresh = same_times f (interfaces_in f) m before fresh
+      (λ a c e. apart f.interfaces f.carries_interface f.copies_interface copies.carried.interfaces_rise copies.carried.copied_interfaces a m c copy e)
 
   joined_times : (f : Renumbering) (n : ℕ) (oi oe : List (WorldKey × WorldItem)) (j : IsJoined other merged f n oi oe) (t : ℕ)
       → times_shown t j.image ≡ (shown t oi + shown t j.new_imports) + (shown t oe + shown t j.new_exports)
   joined_times f n oi oe j t =
       times_are t j.image
-      ∙ (λ i. (ap (shown t) j.imports ∙ shown_append t oi j.new_imports) i + (ap (shown t) j.exports ∙ shown_append t oe j.new_exports) i)
+      ∙ (λ i. (ap (shown t) j.imports ∙ counted_append item_interface t oi j.new_imports) i + (ap (shown t) j.exports ∙ counted_append item_interface t oe j.new_exports) i)
 
   abbrev oi : List (WorldKey × WorldItem)
   oi = is.own_bound.imports.entries
@@ -378,16 +378,15 @@ module _ (own other merged : Resolve) (bound other_bound : ℕ) (first second : 
       let whole = joined_times first m [] [] j t in
       let a = not_among first is.first_copies [] j.old.imports.entries j.new_imports j.joined_imports t v e inline none_such in
       let b = not_among first is.first_copies [] j.old.exports.entries j.new_exports j.joined_exports t v e inline none_such in
-      let none : shown t [] ≡ 0 = refl in
-      omega (arith, whole, a, b, none)
+      omega (arith, whole, a, b)
 
   -- an own world shows no copy
   past_times : (k : ℕ) (w : World) → world_at own k ≡ Some w → (t : ℕ) → length own.interfaces.items ≤ t → times_shown t w ≡ 0
   past_times k w e t high =
       let range = world_range own valid_own k w e in
       let a = times_are t w in
-      let b = not_shown t w.imports.entries (past_not_shown own t high w.imports.entries range.0) in
-      let c = not_shown t w.exports.entries (past_not_shown own t high w.exports.entries range.1) in
+      let b = none_counted item_interface t (items w.imports.entries) (past_range own.interfaces.items _ t (range_interfaces own w.imports.entries range.0) high) in
+      let c = none_counted item_interface t (items w.exports.entries) (past_range own.interfaces.items _ t (range_interfaces own w.exports.entries range.1) high) in
       omega (arith, a, b, c)
 
   -- what is shown is among the items
@@ -401,16 +400,15 @@ module _ (own other merged : Resolve) (bound other_bound : ℕ) (first second : 
       go false e true d = or_right (has (filter_map item_interface (items w.imports.entries)) n) _ d
       go false e false d =
           let a = times_are n w in
-          let x = not_shown n w.imports.entries e in
-          let y = not_shown n w.exports.entries d in
+          let x = none_counted item_interface n (items w.imports.entries) e in
+          let y = none_counted item_interface n (items w.exports.entries) d in
           let wrong : ⊥ = omega (arith, a, x, y, one) in absurd wrong
 
   -- own ones
   own_inline : (n : ℕ) (i : Interface) → interface_at own n ≡ Some i → i.name ≡ None → inline_by own n (package_number i.«package») ≡ true → inline_by merged n (package_number i.«package») ≡ true
   own_inline n i e inline h = go (x.0 == bound) refl
     where
-      x : (k : ℕ) × (w : World) × (world_at own k ≡ Some w) × (times_shown n w ≡ 1) × (package_number w.«package» ≡ package_number i.«package»)
-          × ((m : ℕ) (y : World) → world_at own m ≡ Some y → (m == k) ≡ false → times_shown n y ≡ 0)
+      x : ShownOnce own n (package_number i.«package»)
       x = inline_found own n (package_number i.«package») h
 
       there_at : interface_at merged n ≡ Some i
@@ -453,8 +451,7 @@ module _ (own other merged : Resolve) (bound other_bound : ℕ) (first second : 
       inline_holds merged (first.interfaces m) (option_map first.packages (package_number i.old.«package»)) (first.worlds x.0) j.image j.at_image one
       (w.in_package ∙ ap (option_map first.packages) (ap (λ y. package_number y.«package») old_is ∙ x.4)) others
     where
-      x : (k : ℕ) × (w : World) × (world_at other k ≡ Some w) × (times_shown m w ≡ 1) × (package_number w.«package» ≡ package_number i.old.«package»)
-          × ((n : ℕ) (y : World) → world_at other n ≡ Some y → (n == k) ≡ false → times_shown m y ≡ 0)
+      x : ShownOnce other m (package_number i.old.«package»)
       x = inline_found other m (package_number i.old.«package») h
 
       c : first.carries_world x.0 ≡ true
@@ -478,11 +475,10 @@ module _ (own other merged : Resolve) (bound other_bound : ℕ) (first second : 
       same : (k : ℕ) (v : IsJoined other merged first k [] []) → times_shown (first.interfaces m) v.image ≡ times_shown m v.old
       same k v =
           let whole = joined_times first k [] [] v (first.interfaces m) in
-          let a = same_times first is.first_copies.carried.interfaces_rise is.first_copies.carried.copied_interfaces m copy [] v.old.imports.entries v.new_imports refl v.joined_imports in
-          let b = same_times first is.first_copies.carried.interfaces_rise is.first_copies.carried.copied_interfaces m copy [] v.old.exports.entries v.new_exports refl v.joined_exports in
-          let none : shown (first.interfaces m) [] ≡ 0 = refl in
+          let a = same_copies first is.first_copies m copy [] refl v.old.imports.entries v.new_imports v.joined_imports in
+          let b = same_copies first is.first_copies m copy [] refl v.old.exports.entries v.new_exports v.joined_exports in
           let all = times_are m v.old in
-          omega (arith, whole, a, b, none, all)
+          omega (arith, whole, a, b, all)
 
       one : times_shown (first.interfaces m) j.image ≡ 1
       one = same x.0 j ∙ (ap (times_shown m) old_is ∙ x.3)
@@ -498,13 +494,9 @@ module _ (own other merged : Resolve) (bound other_bound : ℕ) (first second : 
               (first.interfaces m) high)
           | inr v ↦
               let u = (is.first_worlds v.0 v.1).joined in
-              ap (times_shown (first.interfaces m)) (sym v.3) ∙ (same v.0 u ∙ x.5 v.0 u.old u.found (differs v.0 v.2 (v.0 == x.0) refl))
+              ap (times_shown (first.interfaces m)) (sym v.3) ∙ (same v.0 u ∙ x.5 v.0 u.old u.found (unequal v.0 x.0 (λ e. differ k (first.worlds x.0) apart (sym v.2 ∙ ap first.worlds e))))
         ]
       ]
-        where
-          differs : (n : ℕ) → first.worlds n ≡ k → (b : Bool) → (n == x.0) ≡ b → (n == x.0) ≡ false
-          differs n to false e = e
-          differs n to true e = no_true (sym apart ∙ subst (λ (z : ℕ). (z == first.worlds x.0) ≡ true) (ap first.worlds (sym (equal n x.0 e)) ∙ to) (same-number (first.worlds x.0)))
 
   -- those that are copied twice
   second_inline_holds : (m : ℕ) (copy : second.copies_interface m ≡ true) (i : IsInterface other merged second m) → i.old.name ≡ None → inline_by other m (package_number i.old.«package») ≡ true
@@ -513,8 +505,7 @@ module _ (own other merged : Resolve) (bound other_bound : ℕ) (first second : 
       inline_holds merged (second.interfaces m) (package_number is.own_bound.«package») bound is.joined.image (ap (world_at merged) (sym is.bound_there) ∙ is.joined.at_image) one
       (ap package_number is.bound_package) others
     where
-      x : (k : ℕ) × (w : World) × (world_at other k ≡ Some w) × (times_shown m w ≡ 1) × (package_number w.«package» ≡ package_number i.old.«package»)
-          × ((n : ℕ) (y : World) → world_at other n ≡ Some y → (n == k) ≡ false → times_shown m y ≡ 0)
+      x : ShownOnce other m (package_number i.old.«package»)
       x = inline_found other m (package_number i.old.«package») h
 
       here : x.0 ≡ other_bound
@@ -532,15 +523,13 @@ module _ (own other merged : Resolve) (bound other_bound : ℕ) (first second : 
       one : times_shown (second.interfaces m) is.joined.image ≡ 1
       one =
           let range = world_range own valid_own bound is.own_bound is.bound_at in
-          let fresh_i = past_not_shown own (second.interfaces m) high oi range.0 in
-          let fresh_e = past_not_shown own (second.interfaces m) high oe range.1 in
+          let fresh_i = past_range own.interfaces.items _ (second.interfaces m) (range_interfaces own oi range.0) high in
+          let fresh_e = past_range own.interfaces.items _ (second.interfaces m) (range_interfaces own oe range.1) high in
           let whole = joined_times second other_bound oi oe is.joined (second.interfaces m) in
-          let a = same_times second is.second_copies.carried.interfaces_rise is.second_copies.carried.copied_interfaces m copy oi is.joined.old.imports.entries is.joined.new_imports fresh_i
-          is.joined.joined_imports in
-          let b = same_times second is.second_copies.carried.interfaces_rise is.second_copies.carried.copied_interfaces m copy oe is.joined.old.exports.entries is.joined.new_exports fresh_e
-          is.joined.joined_exports in
-          let c = not_shown (second.interfaces m) oi fresh_i in
-          let d = not_shown (second.interfaces m) oe fresh_e in
+          let a = same_copies second is.second_copies m copy oi fresh_i is.joined.old.imports.entries is.joined.new_imports is.joined.joined_imports in
+          let b = same_copies second is.second_copies m copy oe fresh_e is.joined.old.exports.entries is.joined.new_exports is.joined.joined_exports in
+          let c = none_counted item_interface (second.interfaces m) (items oi) fresh_i in
+          let d = none_counted item_interface (second.interfaces m) (items oe) fresh_e in
           let all = times_are m is.joined.old in
           let old : times_shown m is.joined.old ≡ 1 = ap (times_shown m) old_is ∙ x.3 in
           omega (arith, whole, a, b, c, d, all, old)
@@ -560,23 +549,11 @@ module _ (own other merged : Resolve) (bound other_bound : ℕ) (first second : 
   -- ---- interfaces
 
   own_place : (n : ℕ) (i : Interface) → interface_at own n ≡ Some i → places.interface_ merged n i ≡ true
-  own_place n i e = interface_place merged n i ∙ go i.name refl (sym (interface_place own n i) ∙ interface-passes places own valid_own.places n i e)
-    where
-      go : (name : Option (String Global)) → i.name ≡ name → place_by own n (optional_text i.name) (package_number i.«package») ≡ true
-          → place_by merged n (optional_text i.name) (package_number i.«package») ≡ true
-      go None is_none h =
-          let old : (is_some (package_number i.«package») && inline_by own n (package_number i.«package»)) ≡ true =
-          sym (ap (λ x. place_by own n (optional_text x) (package_number i.«package»)) is_none) ∙ h in
-          ap (λ x. place_by merged n (optional_text x) (package_number i.«package»)) is_none
-          ∙ both _ _ (first_true _ _ old) (own_inline n i e is_none (second_true (is_some (package_number i.«package»)) _ old))
-      go (Some s) is_named h =
-          let old : (is_some (package_number i.«package») && listed_by own n (text_of s) (package_number i.«package»)) ≡ true =
-          sym (ap (λ x. place_by own n (optional_text x) (package_number i.«package»)) is_named) ∙ h in
-          let k = the_package own (package_number i.«package») (interface_package own other merged bound other_bound first second left_out valid_own valid_other is own valid_own n i e)
-          (first_true _ _ old) in
-          ap (λ x. place_by merged n (optional_text x) (package_number i.«package»)) is_named
-          ∙ both _ _ (first_true _ _ old) (ap (listed_by merged n (text_of s)) k.1 ∙ own_listed n (text_of s) k.0 k.2 k.3
-          (sym (ap (listed_by own n (text_of s)) k.1) ∙ second_true (is_some (package_number i.«package»)) _ old))
+  own_place n i e =
+      interface_place merged n i
+      ∙ place_kept own merged n n (optional_text i.name) (package_number i.«package») (package_number i.«package») (λ h. h)
+      (λ t x. own_listed_at n t (package_number i.«package») (interface_package own valid_own n i e)) (λ none. own_inline n i e (no_text i.name none))
+      (sym (interface_place own n i) ∙ interface-passes places own valid_own.places n i e)
 
   some_mapped : (g : ℕ → ℕ) (p : Option ℕ) → is_some p ≡ true → is_some (option_map g p) ≡ true
   some_mapped g None h = h
@@ -585,29 +562,14 @@ module _ (own other merged : Resolve) (bound other_bound : ℕ) (first second : 
   first_place : (m : ℕ) (copy : first.copies_interface m ≡ true)
       → places.interface_ merged (first.interfaces m) (is.first_copies.carried.interfaces m (is.first_copies.carried.copied_interfaces m copy)).image ≡ true
   first_place m copy =
+      let c = is.first_copies.carried.copied_interfaces m copy in
+      let i = is.first_copies.carried.interfaces m c in
+      let p = package_number i.old.«package» in
       interface_place merged (first.interfaces m) i.image
-      ∙ ((λ j. place_by merged (first.interfaces m) (i.name j) (is.first_packages m (is.first_copies.carried.copied_interfaces m copy) j))
-      ∙ go i.old.name refl (sym (interface_place other m i.old) ∙ interface-passes places other valid_other.places m i.old i.found))
-    where
-      i : IsInterface other merged first m
-      i = is.first_copies.carried.interfaces m (is.first_copies.carried.copied_interfaces m copy)
-
-      go : (name : Option (String Global)) → i.old.name ≡ name → place_by other m (optional_text i.old.name) (package_number i.old.«package») ≡ true
-          → place_by merged (first.interfaces m) (optional_text i.old.name) (option_map first.packages (package_number i.old.«package»)) ≡ true
-      go None is_none h =
-          let old : (is_some (package_number i.old.«package») && inline_by other m (package_number i.old.«package»)) ≡ true =
-          sym (ap (λ x. place_by other m (optional_text x) (package_number i.old.«package»)) is_none) ∙ h in
-          ap (λ x. place_by merged (first.interfaces m) (optional_text x) (option_map first.packages (package_number i.old.«package»))) is_none
-          ∙ both _ _ (some_mapped first.packages (package_number i.old.«package») (first_true _ _ old)) (first_inline m copy i is_none (second_true (is_some (package_number i.old.«package»)) _ old))
-      go (Some s) is_named h =
-          let old : (is_some (package_number i.old.«package») && listed_by other m (text_of s) (package_number i.old.«package»)) ≡ true =
-          sym (ap (λ x. place_by other m (optional_text x) (package_number i.old.«package»)) is_named) ∙ h in
-          let k = the_package other (package_number i.old.«package») (interface_package own other merged bound other_bound first second left_out valid_own valid_other is other valid_other m i.old
-          i.found) (first_true _ _ old) in
-          ap (λ x. place_by merged (first.interfaces m) (optional_text x) (option_map first.packages (package_number i.old.«package»))) is_named
-          ∙ both _ _ (some_mapped first.packages (package_number i.old.«package») (first_true _ _ old))
-          (ap (λ p. listed_by merged (first.interfaces m) (text_of s) (option_map first.packages p)) k.1
-          ∙ copy_listed m copy (text_of s) k.0 k.2 k.3 (sym (ap (listed_by other m (text_of s)) k.1) ∙ second_true (is_some (package_number i.old.«package»)) _ old))
+      ∙ ((λ j. place_by merged (first.interfaces m) (i.name j) (is.first_packages m c j))
+      ∙ place_kept other merged m (first.interfaces m) (optional_text i.old.name) p (option_map first.packages p) (some_mapped first.packages p)
+      (λ t x. copy_listed_at m copy t p (interface_package other valid_other m i.old i.found)) (λ none. first_inline m copy i (no_text i.old.name none))
+      (sym (interface_place other m i.old) ∙ interface-passes places other valid_other.places m i.old i.found))
 
   second_place : (m : ℕ) (copy : second.copies_interface m ≡ true)
       → places.interface_ merged (second.interfaces m) (is.second_copies.carried.interfaces m (is.second_copies.carried.copied_interfaces m copy)).image ≡ true
@@ -615,17 +577,12 @@ module _ (own other merged : Resolve) (bound other_bound : ℕ) (first second : 
       let c = is.second_copies.carried.copied_interfaces m copy in
       let i = is.second_copies.carried.interfaces m c in
       let inline = is.second_inline m i.old copy i.found in
-      let old : (is_some (package_number i.old.«package») && inline_by other m (package_number i.old.«package»)) ≡ true =
-      sym (ap (λ x. place_by other m (optional_text x) (package_number i.old.«package»)) inline)
-      ∙ (sym (interface_place other m i.old) ∙ interface-passes places other valid_other.places m i.old i.found) in
-      let has_package : is_some (package_number is.own_bound.«package») ≡ true = first_true _ _ (own_world_place bound is.own_bound is.bound_at) in
+      let none : optional_text i.old.name ≡ None = some_text i.old.name inline in
       interface_place merged (second.interfaces m) i.image
-      ∙ ((λ j. place_by merged (second.interfaces m) ((i.name ∙ some_text i.old.name inline) j) (is.second_package m c copy j))
-      ∙ needs has_package (second_inline_holds m copy i inline (second_true (is_some (package_number i.old.«package»)) _ old)))
-    where
-      needs : is_some (package_number is.own_bound.«package») ≡ true → inline_by merged (second.interfaces m) (package_number is.own_bound.«package») ≡ true
-          → place_by merged (second.interfaces m) None (package_number is.own_bound.«package») ≡ true
-      needs a b = both _ _ a b
+      ∙ ((λ j. place_by merged (second.interfaces m) (i.name j) (is.second_package m c copy j))
+      ∙ place_kept other merged m (second.interfaces m) (optional_text i.old.name) (package_number i.old.«package») (package_number is.own_bound.«package»)
+      (λ h. first_true _ _ (own_world_place bound is.own_bound is.bound_at)) (λ t named h. absurd cc) (λ x. second_inline_holds m copy i inline)
+      (sym (interface_place other m i.old) ∙ interface-passes places other valid_other.places m i.old i.found))
 
   -- places
   pub places_kept : Keeps places merged

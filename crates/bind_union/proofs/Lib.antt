@@ -1,62 +1,41 @@
 -- Types under other numbers stand for the same trees. Serves laws::renumbered; crates above.
 pub mod Images
--- Lists and options that are made entry by entry of others. Serves Carrying, EntryRules, FunctionRules, Homes and 18 more; crates above.
+-- Lists and options that are made entry by entry of others. Serves Carrying, CopyRules, Homes, InterfaceRules and 14 more; crates above.
 pub mod Lists
--- What was there is carried into what grows, under its own numbers. Serves BoundMeanings, Kept, KeptNumbers, KeptPackages and 6 more; crates above.
+-- What was there is carried into what grows, under its own numbers. Serves BoundMeanings, Kept, KeptPackages, KeptPlaces and 4 more; crates above.
 pub mod Itself
--- What the rules ask of a kind, by its view, and the same under other numbers. Serves Carrying, FunctionRules, Homes, KeptNumbers and 2 more; crates above.
+-- What the rules ask of a kind, by its view, and the same under other numbers. Serves Carrying, CopyRules, Homes, Kept and 4 more; crates above.
 pub mod ViewTests
--- What is carried into another `Resolve` stands in the same places, for the same trees, and meets the same named types. Serves FunctionRules, Homes, Meanings, Namesakes and 5 more; crates above.
+-- What is carried into another `Resolve` stands in the same places, for the same trees, and meets the same named types. Serves CopyRules, Homes, Kept, KeptPlaces and 4 more; crates above.
 pub mod Carrying
--- What is carried keeps its owner, and a resource stays one. Serves FunctionRules, InOrder, Listed, Namesakes and 6 more; crates above.
+-- What is carried keeps its owner, and a resource stays one. Serves CopyRules, InterfaceRules, KeptPlaces, Listed and 3 more; crates above.
 pub mod Homes
--- What the rules ask of a type holds of its copy. Serves EntryRules, FunctionRules, InterfaceRules, Kept and 1 more.
-pub mod TypeRules
--- What the rules ask of a function holds of its copy. Serves EntryRules, InterfaceRules, Kept, KeptNumbers and 5 more.
-mod FunctionRules
--- What the rules ask of an entry of a world holds of its copy. Serves Kept, KeptNumbers, KeptPackages, WorldRules.
-mod EntryRules
--- Lists of numbers and of entries under new numbers. Serves InterfaceRules, KeptTypes, Listed.
-mod InOrder
--- What an interface uses, under its new number. Serves InterfaceRules, Listed, WorldOrder.
-pub mod UsedInterfaces
--- What the rules ask of an interface holds of its copy. Serves Kept, KeptNumbers, KeptTypes, Listed and 2 more.
-mod InterfaceRules
--- Each type, interface and world of what was merged is a copy: of an own one, or of one of the other's, once or twice. Serves Kept, KeptNumbers, KeptPlaces, KeptTypes and 1 more.
-mod Sources
--- What an item of a world uses stands before it where its copy stands, too. Serves Kept, KeptPlaces, KeptTypes, Listed and 2 more.
+-- What the rules ask of a type, of a function and of an entry of a world holds of its copy. Serves InterfaceRules, Kept, KeptPackages, WorldOrder and 1 more.
+pub mod CopyRules
+-- What an interface uses, and what the rules ask of it, holds of its copy, with its numbers in order. Serves Kept, Listed, WorldOrder, WorldRules.
+pub mod InterfaceRules
+-- What an item of a world uses stands before it where its copy stands, too, and an interface or a type is an item there as often. Serves Kept, KeptPlaces, Listed, WorldRules.
 mod WorldOrder
--- What the rules ask of a world holds of one in which another's entries stand. Serves Kept, KeptNumbers, KeptTypes; crates above.
+-- A copied type stands in its new owner's list under its name, once. Serves Kept, KeptPlaces, Namesakes, PackageNames and 2 more; crates above.
+pub mod Listed
+-- Names in packages that were joined. Serves KeptPackages, KeptPlaces, United, UnitedWorlds; crates above.
+pub mod PackageNames
+-- What stands in the packages of what was merged has its name and its package there, and no two packages have one name. Serves Kept, KeptPlaces, United, UnitedWorlds and 1 more; crates above.
+pub mod KeptPackages
+-- What the rules ask of a world holds of one in which another's entries stand. Serves Kept; crates above.
 pub mod WorldRules
--- What was merged keeps the rules on labels, owners, shapes, named kinds, handles, depths, functions' names, items and their order. Serves BoundMeanings, KeptNumbers, KeptPackageNames, KeptPackages
--- and 6 more.
+-- Each type, interface and world of what was merged is a copy, of an own one or of one of the other's, and so most rules are kept. Serves BoundMeanings, KeptPlaces, Meanings, United and 2 more.
 mod Kept
 -- What is carried means what it meant. Serves laws::meanings.
 mod Meanings
--- A copied type stands in its new owner's list under its name, once. Serves KeptPlaces, KeptTypes, Namesakes, PackageNames and 2 more; crates above.
-pub mod Listed
 -- Types of interfaces of one path and one sense stand for each other. Serves laws::matched; crates above.
 pub mod Namesakes
 -- The bound world means what it meant, followed by what is new in the other's bound world. Serves laws::meanings; crates above.
 pub mod BoundMeanings
--- Names in packages that were joined. Serves KeptPackages, KeptPlaces, United, UnitedWorlds; crates above.
-pub mod PackageNames
--- What stands in the packages of what was merged has its name and its package there. Serves KeptNumbers, KeptPlaces, United, UnitedWorlds and 1 more; crates above.
-pub mod KeptPackages
--- What was merged keeps the rule on the order of types. Serves KeptNumbers, Valid.
-mod KeptTypes
--- In what was merged every number is in range. Serves KeptPlaces, UnitedWorlds, Valid.
-mod KeptNumbers
--- In what was merged no two packages have one name. Serves Valid.
-mod KeptPackageNames
--- How often an interface is an item of a world in which another's entries stand. Serves KeptPlaces.
-mod Shown
 -- In what was merged interfaces and worlds stand in their packages, and each inline interface in one world. Serves UnitedWorlds, Valid.
 mod KeptPlaces
--- Matched interfaces and their types stand in what begins with own lists, and numbers given in order rise. Serves laws::for_code; crates above.
+-- Matched interfaces and their types stand in what begins with own lists, numbers given in order rise, and entries and names are joined one by one. Serves laws::for_code; crates above.
 pub mod MatchedStand
--- Entries and names that are joined one by one, from the front. Serves laws::for_code.
-mod Steps
 -- What is merged of two valid ones is valid. Serves laws::merged_is_valid; crates above.
 pub mod Valid
 -- The interfaces of what was merged, by path, are those of both. Serves laws::meanings; crates above.

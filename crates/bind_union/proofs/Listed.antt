@@ -1,41 +1,31 @@
 -- A copied type stands in its new owner's list under its name, once.
-use Rattle.std.proofs.Common.{◌≡◌, refl, sym, ap, subst, ◌∙◌, ℕ, ◌+◌, arith, Bool, true, false, ◌&&◌, ◌||◌, cond, not, ◌==◌, List, [], ◌∷◌, ◌++◌, map, Option, Some, None, option_map, option_and_then, filter_map}
+use Rattle.std.proofs.Common.{◌≡◌, refl, sym, ap, ◌∙◌, ℕ, arith, Bool, true, false, ◌&&◌, ◌||◌, cond, not, ◌==◌, List, [], ◌∷◌, ◌++◌, map, Option, Some, None, option_map, option_and_then, filter_map}
 use Rattle.std.specs.Prelude.{count_by, bytes_eq}
-use Rattle.std.specs.List.{list_any, Contains, cons_option}
-use Rattle.std.specs.Option.{option_map_or}
+use Rattle.std.specs.List.{list_any}
 use Rattle.std.specs.Map.{lookup, keys_of}
 use Rattle.std.specs.HashMap.{get_by, get_by_text}
-use Rattle.std.proofs.lemmas.List.Sums.{sum_by-cons, sum_by-append}
-use Rattle.std.proofs.lemmas.List.Elements.{filter_map-append}
 use Rattle.wit_model.specs.declared.model.Resolve.{Resolve}
 use Rattle.wit_model.specs.declared.model.Interface.{Interface}
 use Rattle.wit_model.specs.declared.model.TypeId.{TypeId}
 use Rattle.wit_model.specs.declared.model.WorldKey.{WorldKey}
 use Rattle.wit_model.specs.declared.model.WorldKey.TheVariants as key
 use Rattle.wit_model.specs.declared.model.WorldItem.{WorldItem}
-use Rattle.wit_model.specs.declared.model.WorldItem.TheVariants as item
 use Rattle.wit_model.specs.Text.{Text, text_of, text_eq}
 use Rattle.wit_model.specs.Uses.{has}
 use Rattle.wit_model.specs.Rules.{is_id, is_name_key, item_type, interface_type_numbers, is_listed_in_interface, is_listed_in_world}
 use Rattle.wit_model.specs.Valid.{Keeps, KeepsRules}
 use Rattle.wit_model.specs.Checks.{references}
-use Rattle.wit_model.proofs.Elements.{contains-has, contains-filter_map}
 use Rattle.wit_model.proofs.Distinct.{text_eq_flip}
-use Rattle.std.proofs.lemmas.List.{map-append}
-use Rattle.bind_union.specs.Carried.{Renumbering, KeyBecomes, ItemBecomes, IsInterface, IsCarried}
-use Rattle.bind_union.specs.Joined.{is_new, same_key, ItemStandsFor, Joined, none, met, added, IsJoined}
+use Rattle.bind_union.specs.Carried.{Renumbering, KeyBecomes, IsInterface, IsCarried}
+use Rattle.bind_union.specs.Joined.{is_new, same_key, Joined, none, met, added, IsJoined}
 use Rattle.bind_union.proofs.Lists.{no_true}
 use Rattle.bind_union.proofs.Homes.{apart}
-use Rattle.bind_union.proofs.InOrder.{count_same}
+use Rattle.bind_union.proofs.InterfaceRules.{count_same, copies_carried, type_numbers}
 use Rattle.bind_union.proofs.InterfaceRules as interface_rules
-use Rattle.bind_union.proofs.InterfaceRules.{copies_carried, type_numbers}
-use Rattle.bind_union.proofs.FunctionRules.{id_under}
-use Rattle.bind_union.proofs.UsedInterfaces.{given_contains}
-use Rattle.bind_union.proofs.WorldOrder.{items, type_becomes, type_stands_for}
+use Rattle.bind_union.proofs.ViewTests.{id_under}
+use Rattle.bind_union.proofs.WorldOrder.{items, types_in, becomes, id_stands, counted_append, counted_numbers, none_counted, met_is_other, same_times}
 use Rattle.base_lemmas.proofs.Bools.{left_of as first_true, right_of as second_true}
-use Rattle.base_lemmas.proofs.Elements.{contains-map}
 use Rattle.base_lemmas.proofs.Maps.{lookup_of_map}
-use Rattle.base_lemmas.proofs.Numbers.{equal, same-number}
 use Rattle.std.proofs.lemmas.Bool.{and_from as both}
 use Rattle.wit_model.proofs.TextLemmas.{text_same as text-same}
 
@@ -89,7 +79,7 @@ lookup_append test (x ∷ xs) ys h = go (lookup_append test xs ys) (test x.0) h
     go rest false h = rest h
 
 pub lookup_first : {K X : Type 0} (test : K → Bool) (xs ys : List (K × X)) (v : X) → lookup test xs ≡ Some v → lookup test (xs ++ ys) ≡ Some v
-lookup_first test [] ys v h = let wrong : ⊥ = cc in absurd wrong
+lookup_first test [] ys v h = absurd cc
 lookup_first test (x ∷ xs) ys v h = go (lookup_first test xs ys v) (test x.0) h
   where
     go : (lookup test xs ≡ Some v → lookup test (xs ++ ys) ≡ Some v) → (b : Bool) → cond b (Some x.1) (lookup test xs) ≡ Some v → cond b (Some x.1) (lookup test (xs ++ ys)) ≡ Some v
@@ -122,27 +112,10 @@ module _ (r s : Resolve) (f : Renumbering) (valid : KeepsRules r) (is : IsCarrie
   abbrev IsFresh : List (WorldKey × WorldItem) → Type 0
   IsFresh own = has (filter_map item_type (items own)) (f.types m) ≡ false
 
-  met_is_other : (own : List (WorldKey × WorldItem)) → IsFresh own → (i : WorldItem) (there : WorldKey × WorldItem) → Contains own there → ItemStandsFor f i there.1 → is_id m (item_type i) ≡ false
-  met_is_other own fresh i there held stands = go (is_id m (item_type i)) refl
-    where
-      some : (o : Option ℕ) → is_id (f.types m) o ≡ true → o ≡ Some (f.types m)
-      some None e = no_true e
-      some (Some n) e = ap Some (equal n (f.types m) e)
-
-      go : (b : Bool) → is_id m (item_type i) ≡ b → is_id m (item_type i) ≡ false
-      go false e = e
-      go true e = no_true (sym fresh ∙ contains-has (filter_map item_type (items own)) (f.types m)
-          (contains-filter_map item_type (items own) there.1 (f.types m) (contains-map (λ (y : WorldKey × WorldItem). y.1) own there held)
-          (given_contains (item_type there.1) (f.types m) (some (item_type there.1) (type_stands_for f i there.1 stands m e)))))
-
   same_name_key : (k l : WorldKey) → KeyBecomes f k l → is_name_key name l ≡ is_name_key name k
   same_name_key (key.Name a) (key.Name b) z = ap (λ t. text_eq t name) z
   same_name_key (key.Interface a) (key.Interface b) z = refl
-  same_name_key (key.Name a) (key.Interface b) z = absurd z
-  same_name_key (key.Interface a) (key.Name b) z = absurd z
-
-  type_image : (i j : WorldItem) → ItemBecomes f i j → is_id m (item_type i) ≡ true → is_id (f.types m) (item_type j) ≡ true
-  type_image i j z e = type_becomes f i j z m e
+  same_name_key _ _ z = absurd z
 
   -- it is found among what is added, under a new key
   found_added : (own : List (WorldKey × WorldItem)) → IsFresh own → (olds news : List (WorldKey × WorldItem)) → Joined f own olds news
@@ -154,7 +127,7 @@ module _ (r s : Resolve) (f : Renumbering) (valid : KeepsRules r) (is : IsCarrie
       go : (is_id m (option_and_then item_type (lookup (is_name_key name) olds)) ≡ true → (is_id (f.types m) (option_and_then item_type (lookup (is_name_key name) news)) ≡ true)
           × (list_any (is_name_key name) (keys_of own) ≡ false)) → (b : Bool) → is_id m (option_and_then item_type (cond b (Some old.1) (lookup (is_name_key name) olds))) ≡ true
           → (is_id (f.types m) (option_and_then item_type (lookup (is_name_key name) news)) ≡ true) × (list_any (is_name_key name) (keys_of own) ≡ false)
-      go more true e = no_true (sym (met_is_other own fresh old.1 there held stands) ∙ e)
+      go more true e = no_true (sym (met_is_other f (types_in f) m own fresh old.1 there held stands) ∙ e)
       go more false e = more e
   found_added own fresh _ _ (added old new olds news fresh_key z rest) h = go (found_added own fresh olds news rest) (is_name_key name old.0) refl h
     where
@@ -163,90 +136,46 @@ module _ (r s : Resolve) (f : Renumbering) (valid : KeepsRules r) (is : IsCarrie
           → is_id m (option_and_then item_type (cond b (Some old.1) (lookup (is_name_key name) olds))) ≡ true
           → (is_id (f.types m) (option_and_then item_type (cond (is_name_key name new.0) (Some new.1) (lookup (is_name_key name) news))) ≡ true) × (list_any (is_name_key name) (keys_of own) ≡ false)
       go again true k e = (
-        ap (λ b. is_id (f.types m) (option_and_then item_type (cond b (Some new.1) (lookup (is_name_key name) news)))) (same_name_key old.0 new.0 z.0 ∙ k) ∙ type_image old.1 new.1 z.1 e,
+        ap (λ b. is_id (f.types m) (option_and_then item_type (cond b (Some new.1) (lookup (is_name_key name) news)))) (same_name_key old.0 new.0 z.0 ∙ k)
+            ∙ id_stands f (types_in f) old.1 new.1 (becomes f old.1 new.1 z.1) m e,
         name_key_new f name old.0 k own fresh_key,
       )
       go again false k e =
           let more = again e in
           (ap (λ b. is_id (f.types m) (option_and_then item_type (cond b (Some new.1) (lookup (is_name_key name) news)))) (same_name_key old.0 new.0 z.0 ∙ k) ∙ more.0, more.1)
 
-  -- and as often as it stood
-  count_given : (p : ℕ → Bool) (o : Option ℕ) (ns : List ℕ) → count_by p (cons_option o ns) ≡ cond (option_map_or p o false) 1 0 + count_by p ns
-  count_given p None ns = omega arith
-  count_given p (Some n) ns = sum_by-cons (λ k. cond (p k) 1 0) n ns
-
-  same_count : (i j : WorldItem) → ItemBecomes f i j → is_id (f.types m) (item_type j) ≡ is_id m (item_type i)
-  same_count i j z = go (is_id m (item_type i)) refl (is_id (f.types m) (item_type j)) refl
-    where
-      back : (i j : WorldItem) → ItemBecomes f i j → is_id (f.types m) (item_type j) ≡ true → is_id m (item_type i) ≡ true
-      back (item.Type_ a) (item.Type_ b) z e =
-          let same : f.types a.0 ≡ f.types m = sym z.0 ∙ equal b.0 (f.types m) e in
-          subst (λ (x : ℕ). (a.0 == x) ≡ true) (apart f.types f.carries_type f.copies_type is.types_rise is.copied_types a.0 m (is.copied_types a.0 z.1) c same) (same-number a.0)
-      back (item.Interface a st docs ext) (item.Interface b st2 docs2 ext2) z e = e
-      back (item.Function g) (item.Function h) z e = e
-      back (item.Interface a st docs ext) (item.Function g) z e = absurd z
-      back (item.Interface a st docs ext) (item.Type_ g) z e = absurd z
-      back (item.Function g) (item.Interface b st2 docs2 ext2) z e = absurd z
-      back (item.Function g) (item.Type_ b) z e = absurd z
-      back (item.Type_ a) (item.Interface b st2 docs2 ext2) z e = absurd z
-      back (item.Type_ a) (item.Function g) z e = absurd z
-
-      go : (a : Bool) → is_id m (item_type i) ≡ a → (b : Bool) → is_id (f.types m) (item_type j) ≡ b → is_id (f.types m) (item_type j) ≡ is_id m (item_type i)
-      go true p b q = type_image i j z p ∙ sym p
-      go false p false q = q ∙ sym p
-      go false p true q = no_true (sym p ∙ back i j z q)
-
-  count_added : (own : List (WorldKey × WorldItem)) → IsFresh own → (olds news : List (WorldKey × WorldItem)) → Joined f own olds news
-      → count_by (λ k. k == f.types m) (filter_map item_type (items news)) ≡ count_by (λ k. k == m) (filter_map item_type (items olds))
-  count_added own fresh _ _ none = refl
-  count_added own fresh _ _ (met old there olds news held k stands rest) =
-      count_added own fresh olds news rest
-      ∙ sym (count_given (λ k. k == m) (item_type old.1) (filter_map item_type (items olds))
-      ∙ (ap (λ b. cond b 1 0 + count_by (λ k. k == m) (filter_map item_type (items olds))) (met_is_other own fresh old.1 there held stands) ∙ omega arith))
-  count_added own fresh _ _ (added old new olds news fresh_key z rest) =
-      count_given (λ k. k == f.types m) (item_type new.1) (filter_map item_type (items news))
-      ∙ ((λ i. cond (same_count old.1 new.1 z.1 i) 1 0 + count_added own fresh olds news rest i)
-      ∙ sym (count_given (λ k. k == m) (item_type old.1) (filter_map item_type (items olds))))
-
-  not_there : (n : ℕ) (ns : List ℕ) → has ns n ≡ false → count_by (λ k. k == n) ns ≡ 0
-  not_there n [] h = refl
-  not_there n (k ∷ ns) h = sum_by-cons (λ x. cond (x == n) 1 0) k ns ∙ go (k == n) h (not_there n ns)
-    where
-      go : (b : Bool) → (b || has ns n) ≡ false → (has ns n ≡ false → count_by (λ x. x == n) ns ≡ 0) → cond b 1 0 + count_by (λ x. x == n) ns ≡ 0
-      go true e rest = no_true (sym e)
-      go false e rest = omega (arith, rest e)
-
-  none_more : (n : ℕ) → 0 + n ≡ n
-  none_more n = omega arith
-
   pub listed_in_world : (n : ℕ) (own_imports own_exports : List (WorldKey × WorldItem)) (j : IsJoined r s f n own_imports own_exports) → IsFresh own_imports → is_listed_in_world m name j.old ≡ true
       → is_listed_in_world (f.types m) name j.image ≡ true
   listed_in_world n own_imports own_exports j fresh h =
       let found = found_added own_imports fresh j.old.imports.entries j.new_imports j.joined_imports (first_true _ _ h) in
+      let there = counted_numbers item_type (f.types m) (items (own_imports ++ j.new_imports)) in
+      let parts = counted_append item_type (f.types m) own_imports j.new_imports in
+      let own_part = none_counted item_type (f.types m) (items own_imports) fresh in
+      let new_part = same_times f (types_in f) m own_imports fresh
+      (λ a p e. apart f.types f.carries_type f.copies_type is.types_rise is.copied_types a m (is.copied_types a p) c e) j.old.imports.entries j.new_imports j.joined_imports in
+      let here = counted_numbers item_type m (items j.old.imports.entries) in
+      let count : count_by (λ k. k == f.types m) (filter_map item_type (items (own_imports ++ j.new_imports))) ≡ count_by (λ k. k == m) (filter_map item_type (items j.old.imports.entries)) =
+      omega (arith, there, parts, own_part, new_part, here) in
       both _ _
       (ap (λ es. is_id (f.types m) (option_and_then item_type (lookup (is_name_key name) es))) j.imports
       ∙ (ap (λ o. is_id (f.types m) (option_and_then item_type o)) (lookup_append (is_name_key name) own_imports j.new_imports found.1) ∙ found.0))
       (ap (λ es. count_by (λ k. k == f.types m) (filter_map item_type (items es)) == 1) j.imports
-      ∙ (ap (λ xs. count_by (λ k. k == f.types m) (filter_map item_type xs) == 1) (map-append (λ (e : WorldKey × WorldItem). e.1) own_imports j.new_imports)
-      ∙ (ap (λ ns. count_by (λ k. k == f.types m) ns == 1) (filter_map-append item_type (items own_imports) (items j.new_imports))
-      ∙ (ap (λ k. k == 1) (sum_by-append (λ k. cond (k == f.types m) 1 0) (filter_map item_type (items own_imports)) (filter_map item_type (items j.new_imports))
-      ∙ ((λ i. not_there (f.types m) (filter_map item_type (items own_imports)) fresh i + count_added own_imports fresh j.old.imports.entries j.new_imports j.joined_imports i) ∙ none_more
-      (count_by (λ k. k == m) (filter_map item_type (items j.old.imports.entries)))))
-      ∙ second_true (is_id m (option_and_then item_type (get_by (is_name_key name) j.old.imports))) _ h))))
+      ∙ (ap (λ k. k == 1) count ∙ second_true (is_id m (option_and_then item_type (get_by (is_name_key name) j.old.imports))) _ h))
 
-  -- what a world listed stays listed where nothing of its number is added
-  pub stays_listed : (n : ℕ) (own more : List (WorldKey × WorldItem)) → has (filter_map item_type (items more)) n ≡ false
-      → (is_id n (option_and_then item_type (lookup (is_name_key name) own)) && (count_by (λ k. k == n) (filter_map item_type (items own)) == 1)) ≡ true
-      → (is_id n (option_and_then item_type (lookup (is_name_key name) (own ++ more))) && (count_by (λ k. k == n) (filter_map item_type (items (own ++ more))) == 1)) ≡ true
-  stays_listed n own more fresh h =
-      both _ _ (go (lookup (is_name_key name) own) refl (first_true _ _ h))
-      (ap (λ xs. count_by (λ k. k == n) (filter_map item_type xs) == 1) (map-append (λ (e : WorldKey × WorldItem). e.1) own more)
-      ∙ (ap (λ ns. count_by (λ k. k == n) ns == 1) (filter_map-append item_type (items own) (items more))
-      ∙ (ap (λ k. k == 1) (sum_by-append (λ k. cond (k == n) 1 0) (filter_map item_type (items own)) (filter_map item_type (items more))
-      ∙ (ap (λ k. count_by (λ x. x == n) (filter_map item_type (items own)) + k) (not_there n (filter_map item_type (items more)) fresh) ∙ omega arith))
-      ∙ second_true (is_id n (option_and_then item_type (lookup (is_name_key name) own))) _ h)))
-    where
-      go : (o : Option WorldItem) → lookup (is_name_key name) own ≡ o → is_id n (option_and_then item_type o) ≡ true
-          → is_id n (option_and_then item_type (lookup (is_name_key name) (own ++ more))) ≡ true
-      go None e k = no_true k
-      go (Some v) e k = ap (λ o. is_id n (option_and_then item_type o)) (lookup_first (is_name_key name) own more v e) ∙ k
+-- what a world listed stays listed where nothing of its number is added
+pub stays_listed : (name : Text) (n : ℕ) (own more : List (WorldKey × WorldItem)) → has (filter_map item_type (items more)) n ≡ false
+    → (is_id n (option_and_then item_type (lookup (is_name_key name) own)) && (count_by (λ k. k == n) (filter_map item_type (items own)) == 1)) ≡ true
+    → (is_id n (option_and_then item_type (lookup (is_name_key name) (own ++ more))) && (count_by (λ k. k == n) (filter_map item_type (items (own ++ more))) == 1)) ≡ true
+stays_listed name n own more fresh h =
+    let all = counted_numbers item_type n (items (own ++ more)) in
+    let parts = counted_append item_type n own more in
+    let new_part = none_counted item_type n (items more) fresh in
+    let here = counted_numbers item_type n (items own) in
+    let count : count_by (λ k. k == n) (filter_map item_type (items (own ++ more))) ≡ count_by (λ k. k == n) (filter_map item_type (items own)) = omega (arith, all, parts, new_part, here) in
+    both _ _ (go (lookup (is_name_key name) own) refl (first_true _ _ h))
+    (ap (λ k. k == 1) count ∙ second_true (is_id n (option_and_then item_type (lookup (is_name_key name) own))) _ h)
+  where
+    go : (o : Option WorldItem) → lookup (is_name_key name) own ≡ o → is_id n (option_and_then item_type o) ≡ true
+        → is_id n (option_and_then item_type (lookup (is_name_key name) (own ++ more))) ≡ true
+    go None e k = no_true k
+    go (Some v) e k = ap (λ o. is_id n (option_and_then item_type o)) (lookup_first (is_name_key name) own more v e) ∙ k

@@ -1,7 +1,5 @@
 -- Lists and options that are made entry by entry of others.
-use Rattle.std.proofs.Common.{◌≡◌, refl, sym, ap, ◌∙◌, ℕ, Bool, true, false, ◌||◌, ◌==◌, cond, List, [], ◌∷◌, filter}
-use Rattle.std.proofs.lemmas.Bool.{eqb-true, or_right}
-use Rattle.wit_model.specs.Uses.{has}
+use Rattle.std.proofs.Common.{◌≡◌, true, false}
 
 -- ---- lists
 

@@ -1,5 +1,5 @@
 -- What is carried means what it meant.
-use Rattle.std.proofs.Common.{◌≡◌, ◌⊎◌, inl, inr, refl, sym, ap, ◌∙◌, ℕ, Bool, true, false, ◌==◌, List, [], ◌∷◌, map, Option, Some, None, option_map, option_to_list, is_some, unwrap_or, filter_map, length}
+use Rattle.std.proofs.Common.{◌≡◌, ◌⊎◌, inl, inr, refl, sym, ap, ◌∙◌, ℕ, true, false, List, [], ◌∷◌, map, Option, Some, None, option_map, option_to_list, is_some, unwrap_or, filter_map, length}
 use Rattle.std.specs.Prelude.{String}
 use Rattle.std.specs.declared.alloc.Global.{Global}
 use Rattle.std.specs.List.{list_all}
@@ -41,20 +41,14 @@ use Rattle.bind_union.proofs.Lists.{no_true}
 use Rattle.bind_union.proofs.Images.{same_declarations}
 use Rattle.bind_union.proofs.Carrying.{references_of, refers_below, carried_types, type_tree_same, path_same}
 use Rattle.bind_union.proofs.Itself.{itself, carried_itself}
-use Rattle.bind_union.proofs.Sources.{Source, own_source, own_joined}
-use Rattle.bind_union.proofs.Kept.{below}
+use Rattle.bind_union.proofs.Kept.{Source, own_source, own_joined, below}
 use Rattle.base_lemmas.proofs.Bools.{left_of as first_true, right_of as second_true}
 use Rattle.base_lemmas.proofs.Elements.{zip_map}
-use Rattle.base_lemmas.proofs.Numbers.{equal}
+use Rattle.base_lemmas.proofs.Numbers.{unequal}
 
 async_under : (f : Renumbering) (k : FunctionKind) → is_async (call_under f k) ≡ is_async k
 async_under f call.Freestanding = refl
-async_under f call.AsyncFreestanding = refl
-async_under f (call.Method id) = refl
-async_under f (call.AsyncMethod id) = refl
-async_under f (call.Static id) = refl
-async_under f (call.AsyncStatic id) = refl
-async_under f (call.Constructor id) = refl
+async_under f _ = refl
 
 module _ (r s : Resolve) (f : Renumbering) (valid : KeepsRules r) (is : IsCarried r s f) (below_s : Keeps references s) where
   -- ---- types
@@ -162,8 +156,7 @@ module _ (r s : Resolve) (f : Renumbering) (valid : KeepsRules r) (is : IsCarrie
     pub key_means : (k l : WorldKey) → KeyBecomes f k l → key_text s l ≡ key_text r k
     key_means (key.Name a) (key.Name b) z = z
     key_means (key.Interface a) (key.Interface b) z = ap (λ o. unwrap_or o []) (ap (interface_path s) z.0 ∙ path_same r s f valid is below_s a.0 z.1)
-    key_means (key.Name a) (key.Interface b) z = absurd z
-    key_means (key.Interface a) (key.Name b) z = absurd z
+    key_means _ _ z = absurd z
 
     pub item_means : (i j : WorldItem) → ItemBecomes f i j → entry_meaning s j ≡ entry_meaning r i
     item_means (item.Interface a st docs ext) (item.Interface b st2 docs2 ext2) z = λ i. record { item = (ap (interface_item s) z.0 ∙ interface_item_means a.0 z.1) i; external_id = z.3 i }
@@ -171,12 +164,7 @@ module _ (r s : Resolve) (f : Renumbering) (valid : KeepsRules r) (is : IsCarrie
     item_means (item.Type_ a) (item.Type_ b) z =
         let same : type_meaning_at s b.0 ≡ type_meaning_at r a.0 = ap (type_meaning_at s) z.0 ∙ type_means a.0 z.1 in
         λ i. record { item = Item.declares (same i).declaration; external_id = (same i).external_id }
-    item_means (item.Interface a st docs ext) (item.Function g) z = absurd z
-    item_means (item.Interface a st docs ext) (item.Type_ g) z = absurd z
-    item_means (item.Function g) (item.Interface b st2 docs2 ext2) z = absurd z
-    item_means (item.Function g) (item.Type_ b) z = absurd z
-    item_means (item.Type_ a) (item.Interface b st2 docs2 ext2) z = absurd z
-    item_means (item.Type_ a) (item.Function g) z = absurd z
+    item_means _ _ z = absurd z
 
     pub entries_mean : (xs ys : List (WorldKey × WorldItem)) → Joined f [] xs ys → entries_meaning s ys ≡ entries_meaning r xs
     entries_mean _ _ none = refl
@@ -219,12 +207,8 @@ merged_means own other merged bound other_bound first second left_out valid_own 
           (interface_means_at own merged (itself own) valid_own.rules carried below_s n low, path_same own merged (itself own) valid_own.rules carried below_s n low);
       worlds = λ n w e apart.
           world_means own merged (itself own) valid_own.rules carried below_s (λ m i h at without. h) (has_path own valid_own) n
-          (own_joined own other merged bound other_bound first second left_out valid_own.rules valid_other.rules is n w e (differs n apart (n == bound) refl));
+          (own_joined own other merged bound other_bound first second left_out valid_own.rules valid_other.rules is n w e (unequal n bound apart));
     }
-      where
-        differs : (n : ℕ) → (n ≡ bound → ⊥) → (b : Bool) → (n == bound) ≡ b → (n == bound) ≡ false
-        differs n apart false e = e
-        differs n apart true e = absurd (apart (equal n bound e))
 
     copies : CopiesMeanTheSame other merged first
     copies = record {

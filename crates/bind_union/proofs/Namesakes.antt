@@ -60,96 +60,22 @@ use Rattle.wit_model.proofs.ValidLemmas.{type_passes}
 -- an alias declares its target's tree
 pub alias_declares : (trees : List Tree) (k : TypeDefKind) (t : ℕ) → alias_target k ≡ Some t → declared_by trees k ≡ type_ (tree_at trees t)
 alias_declares trees (kind.Type_ (ty.Id id)) t h = ap (λ n. type_ (tree_at trees n)) (same-some id.0 t h)
-alias_declares trees (kind.Type_ ty.Bool) t h = let wrong : ⊥ = cc in absurd wrong
-alias_declares trees (kind.Type_ ty.U8) t h = let wrong : ⊥ = cc in absurd wrong
-alias_declares trees (kind.Type_ ty.U16) t h = let wrong : ⊥ = cc in absurd wrong
-alias_declares trees (kind.Type_ ty.U32) t h = let wrong : ⊥ = cc in absurd wrong
-alias_declares trees (kind.Type_ ty.U64) t h = let wrong : ⊥ = cc in absurd wrong
-alias_declares trees (kind.Type_ ty.S8) t h = let wrong : ⊥ = cc in absurd wrong
-alias_declares trees (kind.Type_ ty.S16) t h = let wrong : ⊥ = cc in absurd wrong
-alias_declares trees (kind.Type_ ty.S32) t h = let wrong : ⊥ = cc in absurd wrong
-alias_declares trees (kind.Type_ ty.S64) t h = let wrong : ⊥ = cc in absurd wrong
-alias_declares trees (kind.Type_ ty.F32) t h = let wrong : ⊥ = cc in absurd wrong
-alias_declares trees (kind.Type_ ty.F64) t h = let wrong : ⊥ = cc in absurd wrong
-alias_declares trees (kind.Type_ ty.Char) t h = let wrong : ⊥ = cc in absurd wrong
-alias_declares trees (kind.Type_ ty.String) t h = let wrong : ⊥ = cc in absurd wrong
-alias_declares trees (kind.Type_ ty.ErrorContext) t h = let wrong : ⊥ = cc in absurd wrong
-alias_declares trees (kind.Record x) n h = let wrong : ⊥ = cc in absurd wrong
-alias_declares trees kind.Resource n h = let wrong : ⊥ = cc in absurd wrong
-alias_declares trees (kind.Handle (handle.Own id)) n h = let wrong : ⊥ = cc in absurd wrong
-alias_declares trees (kind.Handle (handle.Borrow id)) n h = let wrong : ⊥ = cc in absurd wrong
-alias_declares trees (kind.Flags x) n h = let wrong : ⊥ = cc in absurd wrong
-alias_declares trees (kind.Tuple x) n h = let wrong : ⊥ = cc in absurd wrong
-alias_declares trees (kind.Variant x) n h = let wrong : ⊥ = cc in absurd wrong
-alias_declares trees (kind.Enum x) n h = let wrong : ⊥ = cc in absurd wrong
-alias_declares trees (kind.Option t) n h = let wrong : ⊥ = cc in absurd wrong
-alias_declares trees (kind.Result x) n h = let wrong : ⊥ = cc in absurd wrong
-alias_declares trees (kind.List t) n h = let wrong : ⊥ = cc in absurd wrong
-alias_declares trees (kind.Map k v) n h = let wrong : ⊥ = cc in absurd wrong
-alias_declares trees (kind.FixedLengthList t m) n h = let wrong : ⊥ = cc in absurd wrong
-alias_declares trees (kind.Future t) n h = let wrong : ⊥ = cc in absurd wrong
-alias_declares trees (kind.Stream t) n h = let wrong : ⊥ = cc in absurd wrong
-
-abbrev declares_name : Declaration → Bool
-declares_name (type_ (named p n)) = true
-declares_name (type_ (primitive p)) = false
-declares_name (type_ (node form ts)) = false
-declares_name resource = false
+alias_declares trees (kind.Handle (handle.Own id)) _ h = absurd cc
+alias_declares trees _ _ h = absurd cc
 
 -- what declares a name is an alias
 pub name_is_alias : (trees : List Tree) (k : TypeDefKind) (p : Place) (n : Text) → declared_by trees k ≡ type_ (named p n) → (t : ℕ) × (alias_target k ≡ Some t) × (tree_at trees t ≡ named p n)
 name_is_alias trees (kind.Type_ (ty.Id id)) p n h = (id.0, refl, ap tree_of_declaration h)
-name_is_alias trees (kind.Type_ ty.Bool) p n h = no_true (ap declares_name h)
-name_is_alias trees (kind.Type_ ty.U8) p n h = no_true (ap declares_name h)
-name_is_alias trees (kind.Type_ ty.U16) p n h = no_true (ap declares_name h)
-name_is_alias trees (kind.Type_ ty.U32) p n h = no_true (ap declares_name h)
-name_is_alias trees (kind.Type_ ty.U64) p n h = no_true (ap declares_name h)
-name_is_alias trees (kind.Type_ ty.S8) p n h = no_true (ap declares_name h)
-name_is_alias trees (kind.Type_ ty.S16) p n h = no_true (ap declares_name h)
-name_is_alias trees (kind.Type_ ty.S32) p n h = no_true (ap declares_name h)
-name_is_alias trees (kind.Type_ ty.S64) p n h = no_true (ap declares_name h)
-name_is_alias trees (kind.Type_ ty.F32) p n h = no_true (ap declares_name h)
-name_is_alias trees (kind.Type_ ty.F64) p n h = no_true (ap declares_name h)
-name_is_alias trees (kind.Type_ ty.Char) p n h = no_true (ap declares_name h)
-name_is_alias trees (kind.Type_ ty.String) p n h = no_true (ap declares_name h)
-name_is_alias trees (kind.Type_ ty.ErrorContext) p n h = no_true (ap declares_name h)
-name_is_alias trees (kind.Record x) p n h = no_true (ap declares_name h)
-name_is_alias trees kind.Resource p n h = no_true (ap declares_name h)
-name_is_alias trees (kind.Handle (handle.Own id)) p n h = no_true (ap declares_name h)
-name_is_alias trees (kind.Handle (handle.Borrow id)) p n h = no_true (ap declares_name h)
-name_is_alias trees (kind.Flags x) p n h = no_true (ap declares_name h)
-name_is_alias trees (kind.Tuple x) p n h = no_true (ap declares_name h)
-name_is_alias trees (kind.Variant x) p n h = no_true (ap declares_name h)
-name_is_alias trees (kind.Enum x) p n h = no_true (ap declares_name h)
-name_is_alias trees (kind.Option t) p n h = no_true (ap declares_name h)
-name_is_alias trees (kind.Result x) p n h = no_true (ap declares_name h)
-name_is_alias trees (kind.List t) p n h = no_true (ap declares_name h)
-name_is_alias trees (kind.Map k v) p n h = no_true (ap declares_name h)
-name_is_alias trees (kind.FixedLengthList t m) p n h = no_true (ap declares_name h)
-name_is_alias trees (kind.Future t) p n h = no_true (ap declares_name h)
-name_is_alias trees (kind.Stream t) p n h = no_true (ap declares_name h)
+name_is_alias trees (kind.Handle (handle.Own id)) p n h = absurd cc
+name_is_alias trees _ p n h = absurd cc
 
 abbrev pub declares_resource : Declaration → Bool
 declares_resource (type_ t) = false
 declares_resource resource = true
 
 pub resource_declares : (trees : List Tree) (k : TypeDefKind) → is_resource_itself k ≡ declares_resource (declared_by trees k)
-resource_declares trees (kind.Record x) = refl
-resource_declares trees kind.Resource = refl
 resource_declares trees (kind.Handle (handle.Own id)) = refl
-resource_declares trees (kind.Handle (handle.Borrow id)) = refl
-resource_declares trees (kind.Flags x) = refl
-resource_declares trees (kind.Tuple x) = refl
-resource_declares trees (kind.Variant x) = refl
-resource_declares trees (kind.Enum x) = refl
-resource_declares trees (kind.Option t) = refl
-resource_declares trees (kind.Result x) = refl
-resource_declares trees (kind.List t) = refl
-resource_declares trees (kind.Map k v) = refl
-resource_declares trees (kind.FixedLengthList t m) = refl
-resource_declares trees (kind.Future t) = refl
-resource_declares trees (kind.Stream t) = refl
-resource_declares trees (kind.Type_ t) = refl
+resource_declares trees _ = refl
 
 -- ---- places
 
@@ -333,45 +259,45 @@ module _ (r : Resolve) (v : IsValid r) where
       by None k = no_true (sym (ap is_some k) ∙ has_name)
       by (Some s) k = record { def = d.0; found = d.1; name = s; named_ = k }
 
-  -- what a type of an interface with a path is another name of belongs to an interface with a path
-  pub target_home : (t : ℕ) (def : TypeDef) → type_at r t ≡ Some def → (n : ℕ) → def.owner ≡ as_interface n → is_some (interface_path r n) ≡ true → (u : ℕ) → alias_target def.kind ≡ Some u
-      → (x : IsTarget u) → (a : ℕ) × (x.def.owner ≡ as_interface a) × (is_some (interface_path r a) ≡ true)
+  -- what a type with an owner is another name of has the same owner, or belongs to an interface with a path
+  pub target_owner : (t : ℕ) (def : TypeDef) → type_at r t ≡ Some def → same_owner def.owner owner.None ≡ false → (u : ℕ) → alias_target def.kind ≡ Some u
+      → (x : IsTarget u) → (x.def.owner ≡ def.owner) ⊎ ((a : ℕ) × (x.def.owner ≡ as_interface a) × (is_some (interface_path r a) ≡ true))
   unfolding owners
-  target_home t def e n home path u alias x = go (list_all (has_owner r def.owner) (used_by_type r def)) refl
-      (owned_stays r def (type_passes owners r v.rules.owners t def e) (ap (λ o. same_owner o owner.None) home))
+  target_owner t def e owned u alias x = go (list_all (has_owner r def.owner) (used_by_type r def)) refl (owned_stays r def (type_passes owners r v.rules.owners t def e) owned)
     where
+      in_another : TypeDef → Bool
+      in_another target = not (same_owner target.owner def.owner) && option_map_or (λ i. option_map_or (λ other. is_some other.name) (interface_at r i) false) (owner_interface target.owner) false
+
       met : met_by (met_of r) u ≡ u ∷ []
       met = met_step r (references_of r v.rules) u x.def x.found ∙ ap (λ o. option_map_or (λ name. u ∷ []) o (used_by_type r x.def)) x.named_
 
-      own_one : list_all (has_owner r def.owner) (used_by_type r def) ≡ true → x.def.owner ≡ as_interface n
+      own_one : list_all (has_owner r def.owner) (used_by_type r def) ≡ true → x.def.owner ≡ def.owner
       own_one h =
           let all : list_all (λ m. list_all (has_owner r def.owner) (met_by (met_of r) m)) (kind_numbers def.kind) ≡ true =
           sym (all_flat (has_owner r def.owner) (met_by (met_of r)) (kind_numbers def.kind)) ∙ h in
           let one : list_all (has_owner r def.owner) (met_by (met_of r) u) ≡ true =
           sym (ap (passes (λ m. list_all (has_owner r def.owner) (met_by (met_of r) m))) alias) ∙ alias_of_all (λ m. list_all (has_owner r def.owner) (met_by (met_of r) m)) def.kind all in
           let here_ : has_owner r def.owner u ≡ true = first_true (has_owner r def.owner u) true (sym (ap (list_all (has_owner r def.owner)) met) ∙ one) in
-          owner_equal x.def.owner def.owner (sym (ap (λ o. option_map_or (λ y. same_owner y.owner def.owner) o false) x.found) ∙ here_) ∙ home
+          owner_equal x.def.owner def.owner (sym (ap (λ o. option_map_or (λ y. same_owner y.owner def.owner) o false) x.found) ∙ here_)
 
       by_owner : (o : TypeOwner) → x.def.owner ≡ o → option_map_or (λ i. option_map_or (λ other. is_some other.name) (interface_at r i) false) (owner_interface o) false ≡ true → (a : ℕ)
           × (x.def.owner ≡ as_interface a) × (is_some (interface_path r a) ≡ true)
-      by_owner (owner.World id) k h = no_true h
-      by_owner owner.None k h = no_true h
       by_owner (owner.Interface id) k h = (id.0, k, named-path r v id.0 h)
+      by_owner _ k h = no_true h
 
-      another : is_use r def ≡ true → (a : ℕ) × (x.def.owner ≡ as_interface a) × (is_some (interface_path r a) ≡ true)
-      another h =
-          let one : option_map_or (λ target. not (same_owner target.owner def.owner) && option_map_or (λ i. option_map_or (λ other. is_some other.name) (interface_at r i) false)
-          (owner_interface target.owner) false) (type_at r u) false ≡ true =
-          sym (ap (λ o. option_map_or (λ m. option_map_or (λ target. not (same_owner target.owner def.owner) && option_map_or
-          (λ i. option_map_or (λ other. is_some other.name) (interface_at r i) false) (owner_interface target.owner) false) (type_at r m) false) o false) alias) ∙ h in
-          by_owner x.def.owner refl (second_true (not (same_owner x.def.owner def.owner)) _
-          (sym (ap (λ o. option_map_or (λ target. not (same_owner target.owner def.owner) && option_map_or (λ i. option_map_or (λ other. is_some other.name) (interface_at r i) false)
-          (owner_interface target.owner) false) o false) x.found) ∙ one))
+      go : (b : Bool) → list_all (has_owner r def.owner) (used_by_type r def) ≡ b → (b || is_use r def) ≡ true → (x.def.owner ≡ def.owner) ⊎ ((a : ℕ) × (x.def.owner ≡ as_interface a)
+          × (is_some (interface_path r a) ≡ true))
+      go true k h = inl (own_one k)
+      go false k h = inr (by_owner x.def.owner refl (second_true (not (same_owner x.def.owner def.owner)) _
+          (sym (ap (λ o. option_map_or in_another o false) x.found) ∙ (sym (ap (λ o. option_map_or (λ m. option_map_or in_another (type_at r m) false) o false) alias) ∙ h))))
 
-      go : (b : Bool) → list_all (has_owner r def.owner) (used_by_type r def) ≡ b → (list_all (has_owner r def.owner) (used_by_type r def) || is_use r def) ≡ true → (a : ℕ)
-          × (x.def.owner ≡ as_interface a) × (is_some (interface_path r a) ≡ true)
-      go true k h = (n, own_one k, path)
-      go false k h = another (sym (ap (λ b. b || is_use r def) k) ∙ h)
+  -- what a type of an interface with a path is another name of belongs to an interface with a path
+  pub target_home : (t : ℕ) (def : TypeDef) → type_at r t ≡ Some def → (n : ℕ) → def.owner ≡ as_interface n → is_some (interface_path r n) ≡ true → (u : ℕ) → alias_target def.kind ≡ Some u
+      → (x : IsTarget u) → (a : ℕ) × (x.def.owner ≡ as_interface a) × (is_some (interface_path r a) ≡ true)
+  target_home t def e n home path u alias x = elim (target_owner t def e (ap (λ o. same_owner o owner.None) home) u alias x) [
+    | inl same ↦ (n, same ∙ home, path)
+    | inr other ↦ other
+  ]
 
 -- ---- maps of equal senses
 
@@ -430,17 +356,37 @@ module _ (own other : Resolve) (interfaces types : ℕ → ℕ) (valid_own : IsV
           let image = listed_type own valid_own (interfaces n) is.image is.at_image name.0 (types t) (is.by_name name.0 t c) in
           (t, ap (λ ns. has ns t) (numbers_are is.old) ∙ number_listed (type_names is.old) name.0 t c, same-some (types t) m (sym image.under ∙ there_.under))
 
+  -- where two types declare the same, the own type that the own one names stands for the target of the other
+  pub alias_alike : (m n : ℕ) (def image : TypeDef) → type_at other n ≡ Some def → type_at own m ≡ Some image → declaration_of own image ≡ declaration_of other def
+      → ((u k : ℕ) (a : IsTarget other valid_other u) (b : IsTarget own valid_own k) → alias_target def.kind ≡ Some u → alias_target image.kind ≡ Some k
+      → named (place_of own b.def.owner) (text_of b.name) ≡ named (place_of other a.def.owner) (text_of a.name) → types u ≡ k)
+      → (o : Option ℕ) → alias_target def.kind ≡ o → alias_target image.kind ≡ option_map types o
+  alias_alike m n def image found at same targets None e = none_there (alias_target image.kind) refl
+    where
+      none_there : (o : Option ℕ) → alias_target image.kind ≡ o → alias_target image.kind ≡ None
+      none_there None k = k
+      none_there (Some u) k =
+          let x = target_named own valid_own m image at u k in
+          let tree = alias_declares (trees_of own) image.kind u k ∙ ap type_ (named_tree own valid_own u x.def x.found x.name x.named_) in
+          let back = name_is_alias (trees_of other) def.kind (place_of own x.def.owner) (text_of x.name) (sym same ∙ tree) in
+          let wrong : None ≡ Some back.0 = sym e ∙ back.1 in absurd cc
+  alias_alike m n def image found at same targets (Some u) e =
+      let a = target_named other valid_other n def found u e in
+      let tree = alias_declares (trees_of other) def.kind u e ∙ ap type_ (named_tree other valid_other u a.def a.found a.name a.named_) in
+      let back = name_is_alias (trees_of own) image.kind (place_of other a.def.owner) (text_of a.name) (same ∙ tree) in
+      let b = target_named own valid_own m image at back.0 back.1 in
+      back.1 ∙ ap Some (sym (targets u back.0 a b e back.1 (sym (named_tree own valid_own back.0 b.def b.found b.name b.named_) ∙ back.2)))
+
   -- ---- namesakes
 
   module _ (matched : AreMatched own other interfaces types) where
     pub place_back : (o : TypeOwner) (path : Text) → place_of own o ≡ of_interface path → (b : ℕ) × (o ≡ as_interface b) × (interface_path own b ≡ Some path)
-    place_back (owner.World id) path h = no_true (ap (λ p. is_here p) h)
-    place_back owner.None path h = no_true (ap (λ p. is_here p) h)
     place_back (owner.Interface id) path h = (id.0, refl, go (interface_path own id.0) h)
       where
         go : (o : Option Text) → place_of_path o ≡ of_interface path → o ≡ Some path
         go None h = no_true (ap (λ p. is_here p) h)
         go (Some x) h = ap (λ p. path_of p) h
+    place_back _ path h = no_true (ap (λ p. is_here p) h)
 
     pub the_path : (o : Option Text) → is_some o ≡ true → (path : Text) × (o ≡ Some path)
     the_path None h = no_true h
@@ -474,27 +420,10 @@ module _ (own other : Resolve) (interfaces types : ℕ → ℕ) (valid_own : IsV
             let target = home_listed own valid_own v y.def y.found y.name y.named_ b.0 b.1 m.image (ap (interface_at own) (sym here_) ∙ m.at_image) in
             same-some (types u) v (sym image_.under ∙ (ap (λ s. under_text s (type_names m.image)) (sym names) ∙ target.0))
 
-    -- the own type that an own alias names is the one that stands for the other's target
     same_target : (n : ℕ) (is : IsMatch own other interfaces types n) (t : ℕ) (def image : TypeDef) → type_at other t ≡ Some def → type_at own (types t) ≡ Some image → def.owner ≡ as_interface n
         → declaration_of own image ≡ declaration_of other def → (o : Option ℕ) → alias_target def.kind ≡ o → alias_target image.kind ≡ option_map types o
-    same_target n is t def image found at home same None e = none_there (alias_target image.kind) refl
-      where
-        none_there : (o : Option ℕ) → alias_target image.kind ≡ o → alias_target image.kind ≡ None
-        none_there None k = k
-        none_there (Some u) k =
-            let x = target_named own valid_own (types t) image at u k in
-            let tree = alias_declares (trees_of own) image.kind u k ∙ ap type_ (named_tree own valid_own u x.def x.found x.name x.named_) in
-            let back = name_is_alias (trees_of other) def.kind (place_of own x.def.owner) (text_of x.name) (sym same ∙ tree) in
-            let wrong : None ≡ Some back.0 = sym e ∙ back.1 in absurd cc
-    same_target n is t def image found at home same (Some u) e =
-        let x = target_named other valid_other t def found u e in
-        let tree = alias_declares (trees_of other) def.kind u e ∙ ap type_ (named_tree other valid_other u x.def x.found x.name x.named_) in
-        let image_alias = name_is_alias (trees_of own) image.kind (place_of other x.def.owner) (text_of x.name) (same ∙ tree) in
-        let y = target_named own valid_own (types t) image at image_alias.0 image_alias.1 in
-        let trees : named (place_of own y.def.owner) (text_of y.name) ≡ named (place_of other x.def.owner) (text_of x.name) =
-        sym (named_tree own valid_own image_alias.0 y.def y.found y.name y.named_) ∙ image_alias.2 in
-        let from = target_home other valid_other t def found n home is.has_path u e x in
-        image_alias.1 ∙ ap Some (sym (same_by_path u image_alias.0 from.0 x from.1 from.2 y trees (matched from.0 from.2)))
+    same_target n is t def image found at home same = alias_alike (types t) t def image found at same
+        (λ u v a b k l trees. let from = target_home other valid_other t def found n home is.has_path u k a in same_by_path u v from.0 a from.1 from.2 b trees (matched from.0 from.2))
 
     namesakes : (n : ℕ) (is : IsMatch own other interfaces types n) (t : ℕ) → has (interface_type_numbers is.old) t ≡ true → AreNamesakes own other interfaces types n t
     namesakes n is t h =

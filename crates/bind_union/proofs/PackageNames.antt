@@ -1,10 +1,12 @@
 -- Names in packages that were joined.
-use Rattle.std.proofs.Common.{◌≡◌, refl, sym, ap, subst, ◌∙◌, ℕ, Bool, true, false, ◌||◌, cond, List, [], ◌∷◌, ◌++◌, arith, Option, Some, None, option_map}
+use Rattle.std.proofs.Common.{◌≡◌, ◌⊎◌, inl, inr, refl, sym, ap, subst, ◌∙◌, ℕ, zero, suc, Bool, true, false, ◌||◌, cond, List, [], ◌∷◌, ◌++◌, arith, Option, Some, None, option_map}
 use Rattle.std.specs.Prelude.{bytes_eq}
 use Rattle.std.specs.List.{list_all, list_any, Contains}
 use Rattle.std.specs.Map.{keys_of}
 use Rattle.std.specs.HashMap.{get_by_text}
 use Rattle.std.proofs.lemmas.Bool.{or_left, or_right, and_from as both}
+use Rattle.std.proofs.lemmas.List.Folds.{list_any-append}
+use Rattle.wit_model.proofs.Elements.{none-in}
 use Rattle.wit_model.specs.declared.model.Package.{Package}
 use Rattle.wit_model.specs.declared.model.InterfaceId.{InterfaceId}
 use Rattle.wit_model.specs.declared.model.WorldId.{WorldId}
@@ -12,7 +14,7 @@ use Rattle.wit_model.specs.Text.{Text, text_of, text_eq}
 use Rattle.wit_model.specs.Rules.{is_id, is_world_name}
 use Rattle.bind_union.specs.Merged.{interface_names, world_names, is_name, JoinedNames, none, met, left, added}
 use Rattle.bind_union.proofs.Lists.{no_true}
-use Rattle.bind_union.proofs.FunctionRules.{id_under}
+use Rattle.bind_union.proofs.ViewTests.{id_under}
 use Rattle.bind_union.proofs.Listed.{under_text, lookup_append, lookup_first}
 use Rattle.base_lemmas.proofs.Bools.{left_of as first_true, right_of as second_true}
 use Rattle.base_lemmas.proofs.Elements.{any_of_map, contains-later}
@@ -45,13 +47,19 @@ added_from number copies left_out own _ _ (added name old olds news c l n rest) 
     go more true e h = (name, old, (0, omega arith, refl), l, e)
     go more false e h = let r = more h in (r.0, r.1, contains-later (name, old) olds (r.0, r.1) r.2, r.3, r.4)
 
+-- what stood under a name is met, left out or copied
+pub joined_name : (number : ℕ → ℕ) (copies left_out : ℕ → Bool) (own olds news : List (Text × ℕ)) → JoinedNames number copies left_out own olds news → (name : Text) (n : ℕ) → Contains olds (name, n)
+    → left_out n ≡ false → Contains own (name, number n) ⊎ (copies n ≡ true)
+joined_name number copies left_out own _ _ none name n c k = none-in (name, n) c
+joined_name number copies left_out own _ _ (left t old olds news l rest) name n (zero, d, e) k = no_true (sym k ∙ subst (λ (x : Text × ℕ). left_out x.1 ≡ true) e l)
+joined_name number copies left_out own _ _ (met t old olds news held rest) name n (zero, l, e) k = inl (subst (λ (x : Text × ℕ). Contains own (x.0, number x.1)) e held)
+joined_name number copies left_out own _ _ (added t old olds news c l new rest) name n (zero, d, e) k = inr (subst (λ (x : Text × ℕ). copies x.1 ≡ true) e c)
+joined_name number copies left_out own _ _ (left t old olds news l rest) name n (suc i, d, e) k = joined_name number copies left_out own olds news rest name n (i, omega (arith, d), e) k
+joined_name number copies left_out own _ _ (met t old olds news held rest) name n (suc i, d, e) k = joined_name number copies left_out own olds news rest name n (i, omega (arith, d), e) k
+joined_name number copies left_out own _ _ (added t old olds news c l new rest) name n (suc i, d, e) k = joined_name number copies left_out own olds news rest name n (i, omega (arith, d), e) k
+
 pub name_append : (t : Text) (xs ys : List (Text × ℕ)) → is_name t (xs ++ ys) ≡ (is_name t xs || is_name t ys)
-name_append t [] ys = refl
-name_append t (x ∷ xs) ys = ap (λ b. text_eq t x.0 || b) (name_append t xs ys) ∙ three (text_eq t x.0) (is_name t xs) (is_name t ys)
-  where
-    three : (a b c : Bool) → (a || (b || c)) ≡ ((a || b) || c)
-    three true b c = refl
-    three false b c = refl
+name_append t xs ys = list_any-append (λ (e : Text × ℕ). text_eq t e.0) xs ys
 
 -- ---- as lists of texts and numbers
 
@@ -84,29 +92,20 @@ still_found name n own more h = go (under_text name own) refl h
     go (Some v) e k = ap (is_id n) (lookup_first (λ t. bytes_eq name t) own more v e) ∙ k
 
 no_key : (t : Text) (own : List (Text × ℕ)) → is_name t own ≡ false → list_any (λ k. bytes_eq t k) (keys_of own) ≡ false
-no_key t [] h = refl
-no_key t (e ∷ own) h = go (text_eq t e.0) h (no_key t own)
-  where
-    go : (b : Bool) → (b || is_name t own) ≡ false → (is_name t own ≡ false → list_any (λ k. bytes_eq t k) (keys_of own) ≡ false) → (b || list_any (λ k. bytes_eq t k) (keys_of own)) ≡ false
-    go true h rest = no_true (sym h)
-    go false h rest = rest h
+no_key t own h = any_of_map (λ k. bytes_eq t k) (λ (e : Text × ℕ). e.0) own ∙ h
+
+this_or_later : {P : Type 0} (n : ℕ) (b : Bool) (old : ℕ) (later : Option ℕ) → is_id n (cond b (Some old) later) ≡ true → (old ≡ n → P) → (is_id n later ≡ true → P) → P
+this_or_later n true old later h here more = here (equal old n h)
+this_or_later n false old later h here more = more h
 
 -- a copy is found under its name
 pub copy_found : (number : ℕ → ℕ) (copies left_out : ℕ → Bool) (own olds news : List (Text × ℕ)) → JoinedNames number copies left_out own olds news → (name : Text) (n : ℕ)
     → ((t : Text) → Contains own (t, number n) → ⊥) → left_out n ≡ false → is_id n (under_text name olds) ≡ true → (is_id (number n) (under_text name news) ≡ true) × (is_name name own ≡ false)
 copy_found number copies left_out own _ _ none name n fresh kept h = no_true h
-copy_found number copies left_out own _ _ (met t old olds news c rest) name n fresh kept h = go (copy_found number copies left_out own olds news rest name n fresh kept) (bytes_eq name t) h
-  where
-    go : (is_id n (under_text name olds) ≡ true → (is_id (number n) (under_text name news) ≡ true) × (is_name name own ≡ false)) → (b : Bool)
-        → is_id n (cond b (Some old) (under_text name olds)) ≡ true → (is_id (number n) (under_text name news) ≡ true) × (is_name name own ≡ false)
-    go more true k = absurd (fresh t (subst (λ (x : ℕ). Contains own (t, number x)) (equal old n k) c))
-    go more false k = more k
-copy_found number copies left_out own _ _ (left t old olds news c rest) name n fresh kept h = go (copy_found number copies left_out own olds news rest name n fresh kept) (bytes_eq name t) h
-  where
-    go : (is_id n (under_text name olds) ≡ true → (is_id (number n) (under_text name news) ≡ true) × (is_name name own ≡ false)) → (b : Bool)
-        → is_id n (cond b (Some old) (under_text name olds)) ≡ true → (is_id (number n) (under_text name news) ≡ true) × (is_name name own ≡ false)
-    go more true k = no_true (sym kept ∙ subst (λ (x : ℕ). left_out x ≡ true) (equal old n k) c)
-    go more false k = more k
+copy_found number copies left_out own _ _ (met t old olds news c rest) name n fresh kept h = this_or_later n (bytes_eq name t) old (under_text name olds) h
+    (λ k. absurd (fresh t (subst (λ (x : ℕ). Contains own (t, number x)) k c))) (copy_found number copies left_out own olds news rest name n fresh kept)
+copy_found number copies left_out own _ _ (left t old olds news c rest) name n fresh kept h = this_or_later n (bytes_eq name t) old (under_text name olds) h
+    (λ k. no_true (sym kept ∙ subst (λ (x : ℕ). left_out x ≡ true) k c)) (copy_found number copies left_out own olds news rest name n fresh kept)
 copy_found number copies left_out own _ _ (added t old olds news c l new rest) name n fresh kept h =
     go (copy_found number copies left_out own olds news rest name n fresh kept) (bytes_eq name t) refl h
   where

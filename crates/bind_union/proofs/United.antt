@@ -1,5 +1,5 @@
 -- The interfaces of what was merged, by path, are those of both.
-use Rattle.std.proofs.Common.{◌≡◌, ◌⊎◌, inl, inr, sym, ap, subst, ◌∙◌, ℕ, zero, suc, ◌≤◌, arith, Bool, true, false, List, [], length, Option, Some, None, option_map, option_and_then}
+use Rattle.std.proofs.Common.{◌≡◌, refl, ◌⊎◌, inl, inr, sym, ap, ◌∙◌, ℕ, ◌≤◌, arith, Bool, true, false, [], length, Option, Some, None, option_map, option_and_then}
 use Rattle.std.specs.Prelude.{String}
 use Rattle.std.specs.declared.alloc.Global.{Global}
 use Rattle.std.specs.List.{Contains}
@@ -18,13 +18,13 @@ use Rattle.wit_model.specs.Checks.{references}
 use Rattle.wit_model.proofs.Elements.{none-in}
 use Rattle.wit_model.proofs.OnePath.{HasPath, has-path, path-listed, path-once, found-in}
 use Rattle.bind_union.specs.Carried.{Renumbering}
-use Rattle.bind_union.specs.Merged.{interface_names, JoinedNames, none, met, left, added, PackageStands, grown, brought, IsCopyUnder, IsMerged}
+use Rattle.bind_union.specs.Merged.{interface_names, PackageStands, grown, brought, IsCopyUnder, IsMerged}
 use Rattle.bind_union.specs.Meanings.{OwnMeansTheSame, CopiesMeanTheSame, Shows, ShowsNone, InterfacesAreUnited}
 use Rattle.bind_union.proofs.Lists.{no_true}
 use Rattle.bind_union.proofs.Carrying.{path_parts, path_by, same_identity, path_same}
 use Rattle.bind_union.proofs.Kept.{below}
 use Rattle.bind_union.proofs.KeptPackages.{is_interface_of, interfaces_stand, found_option}
-use Rattle.bind_union.proofs.PackageNames.{interfaces_by_name}
+use Rattle.bind_union.proofs.PackageNames.{joined_name, interfaces_by_name}
 use Rattle.bind_union.proofs.Listed.{under_text}
 use Rattle.bind_union.proofs.Namesakes.{under_contains}
 use Rattle.bind_union.proofs.Meanings.{merged_means}
@@ -37,16 +37,6 @@ use Rattle.wit_model.proofs.TextLemmas.{text_same as text-same}
 pub some_name : (o : Option (String Global)) (t : Text) → text_is o t ≡ true → optional_text o ≡ Some t
 some_name None t h = no_true h
 some_name (Some s) t h = ap Some (text-same (text_of s) t h)
-
--- what stood under a name is met or copied
-joined_either : (number : ℕ → ℕ) (copies : ℕ → Bool) (own olds news : List (Text × ℕ)) → JoinedNames number copies (λ n. false) own olds news → (name : Text) (n : ℕ) → Contains olds (name, n)
-    → Contains own (name, number n) ⊎ (copies n ≡ true)
-joined_either number copies own _ _ none name n c = none-in (name, n) c
-joined_either number copies own _ _ (left t old olds news l rest) name n c = no_true l
-joined_either number copies own _ _ (met t old olds news held rest) name n (zero, l, e) = inl (subst (λ (x : Text × ℕ). Contains own (x.0, number x.1)) e held)
-joined_either number copies own _ _ (met t old olds news held rest) name n (suc k, l, e) = joined_either number copies own olds news rest name n (k, omega (arith, l), e)
-joined_either number copies own _ _ (added t old olds news c l new rest) name n (zero, d, e) = inr (subst (λ (x : Text × ℕ). copies x.1 ≡ true) e c)
-joined_either number copies own _ _ (added t old olds news c l new rest) name n (suc k, d, e) = joined_either number copies own olds news rest name n (k, omega (arith, d), e)
 
 -- an interface without a name has no path
 no_name_no_path : (r : Resolve) (n : ℕ) (i : Interface) → interface_at r n ≡ Some i → i.name ≡ None → interface_path r n ≡ None
@@ -121,13 +111,13 @@ module _ (own other merged : Resolve) (bound other_bound : ℕ) (first second : 
         brings copy = let m = copied n copy in (first.interfaces n, m.1 ∙ e, m.0 ∙ d)
 
         stands : PackageStands own merged first left_out h.home.0 h.package_ → Shows merged path meaning
-        stands (brought high j fresh) = by (joined_either first.interfaces first.copies_interface [] (interface_names h.package_) j.new_interfaces j.joined_interfaces (text_of h.name) n held)
-          where
-            by : Contains {X = Text × ℕ} [] (text_of h.name, first.interfaces n) ⊎ (first.copies_interface n ≡ true) → Shows merged path meaning
-            by (inl c) = none-in (text_of h.name, first.interfaces n) c
-            by (inr c) = brings c
-        stands (grown o at j a b) = by (joined_either first.interfaces first.copies_interface (interface_names o) (interface_names h.package_) j.new_interfaces j.joined_interfaces
-            (text_of h.name) n held)
+        stands (brought high j fresh) =
+            elim (joined_name first.interfaces first.copies_interface (λ n. false) [] (interface_names h.package_) j.new_interfaces j.joined_interfaces (text_of h.name) n held refl) [
+              | inl c ↦ none-in (text_of h.name, first.interfaces n) c
+              | inr c ↦ brings c
+            ]
+        stands (grown o at j a b) = by (joined_name first.interfaces first.copies_interface (λ n. false) (interface_names o) (interface_names h.package_) j.new_interfaces
+            j.joined_interfaces (text_of h.name) n held refl)
           where
             by : Contains (interface_names o) (text_of h.name, first.interfaces n) ⊎ (first.copies_interface n ≡ true) → Shows merged path meaning
             by (inr c) = brings c

@@ -1,5 +1,5 @@
 -- The worlds of what was merged, by path, are those of both, but for the bound one.
-use Rattle.std.proofs.Common.{◌≡◌, ◌⊎◌, inl, inr, refl, sym, ap, subst, ◌∙◌, ℕ, zero, suc, arith, Bool, true, false, ◌==◌, List, [], Option, Some, None, option_map, option_and_then}
+use Rattle.std.proofs.Common.{◌≡◌, ◌⊎◌, inl, inr, refl, sym, ap, subst, ◌∙◌, ℕ, arith, Bool, true, false, ◌==◌, [], Option, Some, None, option_map, option_and_then}
 use Rattle.std.specs.Option.{option_map_or}
 use Rattle.std.specs.List.{Contains}
 use Rattle.wit_model.specs.declared.model.Resolve.{Resolve}
@@ -20,15 +20,15 @@ use Rattle.wit_model.proofs.Elements.{none-in}
 use Rattle.wit_model.proofs.OnePath.{package-name, package-once, found-in}
 use Rattle.bind_meaning.proofs.WorldPaths.{HasWorldPath, has-world-path, world-label, world-listed}
 use Rattle.bind_union.specs.Carried.{Renumbering}
-use Rattle.bind_union.specs.Merged.{world_names, is_name, JoinedNames, none, met, left, added, PackageStands, grown, brought, IsMerged}
+use Rattle.bind_union.specs.Merged.{world_names, is_name, PackageStands, grown, brought, IsMerged}
 use Rattle.bind_union.specs.Meanings.{ShowsWorld, ShowsNoWorld, WorldsAreUnited}
 use Rattle.bind_union.proofs.Lists.{no_true}
 use Rattle.bind_union.proofs.Carrying.{path_by, same_path_by, same_identity}
 use Rattle.bind_union.proofs.Kept.{below}
+use Rattle.bind_union.proofs.Itself.{world_package}
 use Rattle.bind_union.proofs.KeptPackages.{is_world_of, worlds_stand, found_option}
-use Rattle.bind_union.proofs.KeptNumbers.{world_package}
 use Rattle.bind_union.proofs.KeptPlaces.{world_case, own_world_low}
-use Rattle.bind_union.proofs.PackageNames.{worlds_by_name, found_name, copy_found}
+use Rattle.bind_union.proofs.PackageNames.{joined_name, worlds_by_name, found_name, copy_found}
 use Rattle.bind_union.proofs.Listed.{under_text}
 use Rattle.bind_union.proofs.Namesakes.{under_contains}
 use Rattle.bind_union.proofs.Meanings.{merged_means}
@@ -46,17 +46,6 @@ world_path r w = go w.«package»
     go : (p : Option PackageId) → option_and_then (λ p. path_in_package r p.0 (text_of w.name)) p ≡ option_and_then (λ n. path_in_package r n (text_of w.name)) (package_number p)
     go None = refl
     go (Some p) = refl
-
--- what stood under a name is met, left out or copied
-joined_world : (number : ℕ → ℕ) (copies left_out : ℕ → Bool) (own olds news : List (Text × ℕ)) → JoinedNames number copies left_out own olds news → (name : Text) (n : ℕ) → Contains olds (name, n)
-    → left_out n ≡ false → Contains own (name, number n) ⊎ (copies n ≡ true)
-joined_world number copies left_out own _ _ none name n c k = none-in (name, n) c
-joined_world number copies left_out own _ _ (left t old olds news l rest) name n (zero, d, e) k = no_true (sym k ∙ subst (λ (x : Text × ℕ). left_out x.1 ≡ true) e l)
-joined_world number copies left_out own _ _ (left t old olds news l rest) name n (suc i, d, e) k = joined_world number copies left_out own olds news rest name n (i, omega (arith, d), e) k
-joined_world number copies left_out own _ _ (met t old olds news held rest) name n (zero, l, e) k = inl (subst (λ (x : Text × ℕ). Contains own (x.0, number x.1)) e held)
-joined_world number copies left_out own _ _ (met t old olds news held rest) name n (suc i, l, e) k = joined_world number copies left_out own olds news rest name n (i, omega (arith, l), e) k
-joined_world number copies left_out own _ _ (added t old olds news c l new rest) name n (zero, d, e) k = inr (subst (λ (x : Text × ℕ). copies x.1 ≡ true) e c)
-joined_world number copies left_out own _ _ (added t old olds news c l new rest) name n (suc i, d, e) k = joined_world number copies left_out own olds news rest name n (i, omega (arith, d), e) k
 
 -- the numbers under the name of a world with a path
 listed_by_path : (r : Resolve) (v : IsValid r) (n : ℕ) (path : Text) (h : HasWorldPath r n path) → is_id n (under_text (text_of h.def.name) (world_names h.package_)) ≡ true
@@ -80,8 +69,7 @@ module _ (own other merged : Resolve) (bound other_bound : ℕ) (first second : 
   own_path : (n : ℕ) (w : World) → world_at own n ≡ Some w → path_of_world merged w ≡ path_of_world own w
   own_path n w e =
       world_path merged w
-      ∙ (own_path_by (text_of w.name) (package_number w.«package») (world_package own other merged bound other_bound first second left_out valid_own.rules valid_other.rules is own
-      valid_own.rules n w e)
+      ∙ (own_path_by (text_of w.name) (package_number w.«package») (world_package own valid_own.rules n w e)
       ∙ sym (world_path own w))
 
   bound_path : path_of_world merged is.joined.image ≡ path_of_world own is.own_bound
@@ -94,7 +82,7 @@ module _ (own other merged : Resolve) (bound other_bound : ℕ) (first second : 
   copy_path m c =
       let w = is.first_worlds m c in
       let j = w.joined in
-      let range = world_package own other merged bound other_bound first second left_out valid_own.rules valid_other.rules is other valid_other.rules m j.old j.found in
+      let range = world_package other valid_other.rules m j.old j.found in
       world_path merged j.image
       ∙ ((λ i. path_by merged (Some (w.name i)) (w.in_package i))
       ∙ (same_path_by other merged first valid_other.rules is.first_copies.carried below_s (Some (text_of j.old.name)) (package_number j.old.«package»)
@@ -231,12 +219,11 @@ module _ (own other merged : Resolve) (bound other_bound : ℕ) (first second : 
             copied x.number c (ap (path_of_world other) old ∙ x.path_is) (ap (world_meaning other) old ∙ x.means)
 
         stands : PackageStands own merged first left_out h.home.0 h.package_ → ShowsWorld merged path meaning
-        stands (brought high j fresh) = by (joined_world first.worlds first.carries_world left_out [] (world_names h.package_) j.new_worlds j.joined_worlds (text_of h.def.name) x.number held kept)
-          where
-            by : Contains {X = Text × ℕ} [] (text_of h.def.name, first.worlds x.number) ⊎ (first.carries_world x.number ≡ true) → ShowsWorld merged path meaning
-            by (inl c) = none-in (text_of h.def.name, first.worlds x.number) c
-            by (inr c) = brings c
-        stands (grown o at j a b) = by (joined_world first.worlds first.carries_world left_out (world_names o) (world_names h.package_) j.new_worlds j.joined_worlds (text_of h.def.name)
+        stands (brought high j fresh) = elim (joined_name first.worlds first.carries_world left_out [] (world_names h.package_) j.new_worlds j.joined_worlds (text_of h.def.name) x.number held kept) [
+          | inl c ↦ none-in (text_of h.def.name, first.worlds x.number) c
+          | inr c ↦ brings c
+        ]
+        stands (grown o at j a b) = by (joined_name first.worlds first.carries_world left_out (world_names o) (world_names h.package_) j.new_worlds j.joined_worlds (text_of h.def.name)
             x.number held kept)
           where
             by : Contains (world_names o) (text_of h.def.name, first.worlds x.number) ⊎ (first.carries_world x.number ≡ true) → ShowsWorld merged path meaning

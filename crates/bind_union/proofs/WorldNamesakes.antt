@@ -1,5 +1,5 @@
 -- Imports of one key and one sense stand for each other.
-use Rattle.std.proofs.Common.{◌≡◌, ◌⊎◌, inl, inr, refl, sym, ap, ◌∙◌, ℕ, Bool, true, false, ◌&&◌, ◌||◌, ◌==◌, not, nat_lt, [], ◌∷◌, Option, Some, None, option_map, option_and_then, is_some}
+use Rattle.std.proofs.Common.{arith, ◌≡◌, ◌⊎◌, inl, inr, refl, sym, ap, ◌∙◌, ℕ, Bool, true, false, ◌&&◌, ◌==◌, nat_lt, Option, Some, None, option_map, option_and_then, is_some}
 use Rattle.std.specs.Prelude.{String, count_by}
 use Rattle.std.specs.declared.alloc.Global.{Global}
 use Rattle.std.specs.List.{list_all, Contains}
@@ -13,29 +13,24 @@ use Rattle.wit_model.specs.declared.model.WorldKey.TheVariants as key
 use Rattle.wit_model.specs.declared.model.WorldItem.{WorldItem}
 use Rattle.wit_model.specs.declared.model.WorldItem.TheVariants as item
 use Rattle.wit_model.specs.declared.model.TypeDef.{TypeDef}
-use Rattle.wit_model.specs.declared.model.TypeOwner.{TypeOwner}
 use Rattle.wit_model.specs.declared.model.TypeOwner.TheVariants as owner
 use Rattle.wit_model.specs.Text.{Text, text_of, optional_text}
-use Rattle.wit_model.specs.Lookup.{interface_at, world_at, type_at, interface_path, place_of, place_of_path, key_text}
-use Rattle.wit_model.specs.Tree.{Declaration, type_, named}
-use Rattle.wit_model.specs.Types.{tree_at, trees_of, declaration_of}
-use Rattle.wit_model.specs.Parts.{kind_numbers, same_owner, has_owner, met_by, met_of, used_by_type}
-use Rattle.wit_model.specs.Uses.{alias_target, owner_interface, item_interface}
+use Rattle.wit_model.specs.Lookup.{world_at, type_at, interface_path, place_of, place_of_path, key_text}
+use Rattle.wit_model.specs.Tree.{Declaration, named}
+use Rattle.wit_model.specs.Types.{trees_of, declaration_of}
+use Rattle.wit_model.specs.Parts.{kind_numbers, same_owner}
+use Rattle.wit_model.specs.Uses.{alias_target, item_interface}
 use Rattle.wit_model.specs.Meaning.{Item, interface, inline, function, declares, Entry, InterfaceSense, item_sense}
 use Rattle.wit_model.specs.Meant.{type_meaning, type_meaning_at, no_type, interface_item, interface_meaning_at, item_meaning}
-use Rattle.wit_model.specs.Rules.{passes, is_id, text_is, is_name_key, item_type, key_in_range, item_in_range, world_type_numbers, is_listed, is_listed_in_world, import_stands, export_stands, is_use}
-use Rattle.wit_model.specs.Valid.{IsValid, as_interface, as_world, order_of_types, owners, world_items}
-use Rattle.wit_model.proofs.Functions.{all_flat}
-use Rattle.wit_model.proofs.OnePath.{path-once, named-path, found-in}
-use Rattle.wit_model.proofs.Owners.{met_step, owned_stays}
+use Rattle.wit_model.specs.Rules.{passes, is_id, text_is, is_name_key, item_type, key_in_range, item_in_range, world_type_numbers, is_listed, is_listed_in_world, import_stands, export_stands}
+use Rattle.wit_model.specs.Valid.{IsValid, as_interface, as_world, order_of_types, world_items}
+use Rattle.wit_model.proofs.OnePath.{path-once, found-in}
 use Rattle.bind_union.specs.Carried.{Renumbering}
 use Rattle.bind_union.specs.Joined.{ItemStandsFor}
 use Rattle.bind_union.specs.Matching.{IsMatch, AreMatched, WorldsAgree, AreWorldNamesakes, MetImportsStand}
 use Rattle.bind_union.proofs.Lists.{no_true}
-use Rattle.bind_union.proofs.Carrying.{references_of}
-use Rattle.bind_union.proofs.Homes.{alias_of_all}
 use Rattle.bind_union.proofs.Itself.{world_range}
-use Rattle.bind_union.proofs.Namesakes.{alias_declares, name_is_alias, resource_declares, declares_resource, is_here, place_in, name_in, named_tree, target_named, IsTarget, same_by_path}
+use Rattle.bind_union.proofs.Namesakes.{resource_declares, declares_resource, is_here, place_in, name_in, IsTarget, same_by_path, target_owner, alias_alike}
 use Rattle.base_lemmas.proofs.Bools.{left_of as first_true, right_of as second_true}
 use Rattle.base_lemmas.proofs.Elements.{all-contained, lookup_stands}
 use Rattle.std.proofs.lemmas.Option.{same_Some as same-some}
@@ -73,9 +68,6 @@ module _ (r : Resolve) (v : IsValid r) (n : ℕ) (w : World) (at : world_at r n 
       rule = world-passes world_items r v.rules.world_items n w at
 
       go : (k : WorldKey) (i : WorldItem) → item_type i ≡ Some t → import_stands r n k i ≡ true → item_in_range r i ≡ true → IsWorldType k t
-      go k (item.Interface id st docs ext) e h low = let wrong : None ≡ Some t = e in absurd cc
-      go k (item.Function g) e h low = let wrong : None ≡ Some t = e in absurd cc
-      go (key.Interface id) (item.Type_ m) e h low = no_true h
       go (key.Name label) (item.Type_ m) e h low =
           let same : m.0 ≡ t = same-some m.0 t e in
           let d = found-in r.types.items m.0 low in
@@ -92,6 +84,8 @@ module _ (r : Resolve) (v : IsValid r) (n : ℕ) (w : World) (at : world_at r n 
             same_name = s.2;
             home = owner_equal d.0.owner (as_world n) (second_true (text_is d.0.name (text_of label)) _ ours);
           }
+      go (key.Interface id) (item.Type_ m) e h low = no_true h
+      go _ _ e h low = absurd cc
 
   -- a named type of the world stands in its imports
   pub record IsImported (s : Text) (t : ℕ) : Type 0 where
@@ -124,96 +118,63 @@ module _ (r : Resolve) (v : IsValid r) (n : ℕ) (w : World) (at : world_at r n 
   -- what a type of the world is another name of is the world's, or that of an interface with a path
   pub target_home : (t : ℕ) (def : TypeDef) → type_at r t ≡ Some def → def.owner ≡ as_world n → (u : ℕ) → alias_target def.kind ≡ Some u → (x : IsTarget r v u) → (x.def.owner ≡ as_world n)
       ⊎ ((a : ℕ) × (x.def.owner ≡ as_interface a) × (is_some (interface_path r a) ≡ true))
-  unfolding owners
-  target_home t def e home u alias x = go (list_all (has_owner r def.owner) (used_by_type r def)) refl
-      (owned_stays r def (type_passes owners r v.rules.owners t def e) (ap (λ o. same_owner o owner.None) home))
-    where
-      met_ : met_by (met_of r) u ≡ u ∷ []
-      met_ = met_step r (references_of r v.rules) u x.def x.found ∙ ap (λ o. option_map_or (λ name. u ∷ []) o (used_by_type r x.def)) x.named_
-
-      own_one : list_all (has_owner r def.owner) (used_by_type r def) ≡ true → x.def.owner ≡ as_world n
-      own_one h =
-          let all : list_all (λ m. list_all (has_owner r def.owner) (met_by (met_of r) m)) (kind_numbers def.kind) ≡ true =
-          sym (all_flat (has_owner r def.owner) (met_by (met_of r)) (kind_numbers def.kind)) ∙ h in
-          let one : list_all (has_owner r def.owner) (met_by (met_of r) u) ≡ true =
-          sym (ap (passes (λ m. list_all (has_owner r def.owner) (met_by (met_of r) m))) alias) ∙ alias_of_all (λ m. list_all (has_owner r def.owner) (met_by (met_of r) m)) def.kind all in
-          let here_ : has_owner r def.owner u ≡ true = first_true (has_owner r def.owner u) true (sym (ap (list_all (has_owner r def.owner)) met_) ∙ one) in
-          owner_equal x.def.owner def.owner (sym (ap (λ o. option_map_or (λ y. same_owner y.owner def.owner) o false) x.found) ∙ here_) ∙ home
-
-      by_owner : (o : TypeOwner) → x.def.owner ≡ o → option_map_or (λ i. option_map_or (λ other. is_some other.name) (interface_at r i) false) (owner_interface o) false ≡ true → (a : ℕ)
-          × (x.def.owner ≡ as_interface a) × (is_some (interface_path r a) ≡ true)
-      by_owner (owner.World id) k h = no_true h
-      by_owner owner.None k h = no_true h
-      by_owner (owner.Interface id) k h = (id.0, k, named-path r v id.0 h)
-
-      another : is_use r def ≡ true → (a : ℕ) × (x.def.owner ≡ as_interface a) × (is_some (interface_path r a) ≡ true)
-      another h =
-          let one : option_map_or (λ target. not (same_owner target.owner def.owner) && option_map_or (λ i. option_map_or (λ other. is_some other.name) (interface_at r i) false)
-          (owner_interface target.owner) false) (type_at r u) false ≡ true =
-          sym (ap (λ o. option_map_or (λ m. option_map_or (λ target. not (same_owner target.owner def.owner) && option_map_or
-          (λ i. option_map_or (λ other. is_some other.name) (interface_at r i) false) (owner_interface target.owner) false) (type_at r m) false) o false) alias) ∙ h in
-          by_owner x.def.owner refl (second_true (not (same_owner x.def.owner def.owner)) _
-          (sym (ap (λ o. option_map_or (λ target. not (same_owner target.owner def.owner) && option_map_or (λ i. option_map_or (λ other. is_some other.name) (interface_at r i) false)
-          (owner_interface target.owner) false) o false) x.found) ∙ one))
-
-      go : (b : Bool) → list_all (has_owner r def.owner) (used_by_type r def) ≡ b → (list_all (has_owner r def.owner) (used_by_type r def) || is_use r def) ≡ true → (x.def.owner ≡ as_world n)
-          ⊎ ((a : ℕ) × (x.def.owner ≡ as_interface a) × (is_some (interface_path r a) ≡ true))
-      go true k h = inl (own_one k)
-      go false k h = inr (another (sym (ap (λ b. b || is_use r def) k) ∙ h))
+  target_home t def e home u alias x = elim (target_owner r v t def e (ap (λ o. same_owner o owner.None) home) u alias x) [
+    | inl same ↦ inl (same ∙ home)
+    | inr other ↦ inr other
+  ]
 
 -- ---- items of one sense
 
 abbrev pub is_declared : Item InterfaceSense → Bool
-is_declared (interface path) = false
-is_declared (inline i) = false
-is_declared (function s) = false
 is_declared (declares d) = true
+is_declared _ = false
 
-abbrev is_function : Item InterfaceSense → Bool
-is_function (interface path) = false
-is_function (inline i) = false
-is_function (function s) = true
-is_function (declares d) = false
+abbrev sort : Item InterfaceSense → ℕ
+sort (declares d) = 1
+sort (function s) = 2
+sort _ = 0
+
+abbrev sort_of_item : WorldItem → ℕ
+sort_of_item (item.Type_ t) = 1
+sort_of_item (item.Function g) = 2
+sort_of_item _ = 0
 
 abbrev declared_so : Item InterfaceSense → Option Declaration
-declared_so (interface path) = None
-declared_so (inline i) = None
-declared_so (function s) = None
 declared_so (declares d) = Some d
+declared_so _ = None
 
 abbrev pub path_so : Item InterfaceSense → Option Text
 path_so (interface path) = Some path
-path_so (inline i) = None
-path_so (function s) = None
-path_so (declares d) = None
+path_so _ = None
+
+-- what holds of a path and of an inline interface
+by_path : {X : Type 0} (test : Item InterfaceSense → X) (found : Option Text → X) (r : Resolve) (n : ℕ) → ((path : Text) → test (interface path) ≡ found (Some path))
+    → test (item_sense (inline (interface_meaning_at r n))) ≡ found None → test (item_sense (interface_item r n)) ≡ found (interface_path r n)
+by_path test found r n some none = go (interface_path r n)
+  where
+    go : (o : Option Text) → test (item_sense (option_map_or interface o (inline (interface_meaning_at r n)))) ≡ found o
+    go None = none
+    go (Some p) = some p
 
 pub not_declared : (r : Resolve) (n : ℕ) → is_declared (item_sense (interface_item r n)) ≡ false
-not_declared r n = go (interface_path r n)
-  where
-    go : (o : Option Text) → is_declared (item_sense (option_map_or interface o (inline (interface_meaning_at r n)))) ≡ false
-    go None = refl
-    go (Some p) = refl
-
-not_function : (r : Resolve) (n : ℕ) → is_function (item_sense (interface_item r n)) ≡ false
-not_function r n = go (interface_path r n)
-  where
-    go : (o : Option Text) → is_function (item_sense (option_map_or interface o (inline (interface_meaning_at r n)))) ≡ false
-    go None = refl
-    go (Some p) = refl
+not_declared r n = by_path is_declared (λ o. false) r n (λ p. refl) refl
 
 pub path_is : (r : Resolve) (n : ℕ) → path_so (item_sense (interface_item r n)) ≡ interface_path r n
-path_is r n = go (interface_path r n)
-  where
-    go : (o : Option Text) → path_so (item_sense (option_map_or interface o (inline (interface_meaning_at r n)))) ≡ o
-    go None = refl
-    go (Some p) = refl
+path_is r n = by_path path_so (λ o. o) r n (λ p. refl) refl
+
+sort_is : (r : Resolve) (i : WorldItem) → sort (item_sense (item_meaning r i)) ≡ sort_of_item i
+sort_is r (item.Interface a st docs ext) = by_path sort (λ o. 0) r a.0 (λ p. refl) refl
+sort_is r _ = refl
 
 module _ (own other : Resolve) (f : Renumbering) (bound other_bound : ℕ) (valid_own : IsValid own) (valid_other : IsValid other) (matched : AreMatched own other f.interfaces f.types) (is : WorldsAgree own other f bound other_bound) (x e : WorldKey × WorldItem) (held_x : Contains is.own_world.imports.entries x) (held_e : Contains is.other_world.imports.entries e) (keys : key_text own x.0 ≡ key_text other e.0) where
   senses : item_sense (item_meaning own x.1) ≡ item_sense (item_meaning other e.1)
   senses = ap (λ (s : Entry InterfaceSense). s.item) (is.senses x e held_x held_e keys)
 
-  no_two : {P : Type 0} (test : Item InterfaceSense → Bool) (a b : Item InterfaceSense) → a ≡ b → test a ≡ true → test b ≡ false → P
-  no_two test a b same t u = no_true (sym u ∙ (sym (ap test same) ∙ t))
+  senses_at : (j i : WorldItem) → e.1 ≡ j → x.1 ≡ i → item_sense (item_meaning own i) ≡ item_sense (item_meaning other j)
+  senses_at j i p q = sym (ap (λ y. item_sense (item_meaning own y)) q) ∙ (senses ∙ ap (λ y. item_sense (item_meaning other y)) p)
+
+  same_sort : (j i : WorldItem) → e.1 ≡ j → x.1 ≡ i → sort_of_item i ≡ sort_of_item j
+  same_sort j i p q = sym (sort_is own i) ∙ (ap sort (senses_at j i p q) ∙ sort_is other j)
 
   -- ---- items
 
@@ -223,7 +184,7 @@ module _ (own other : Resolve) (f : Renumbering) (bound other_bound : ℕ) (vali
   stands (item.Interface a st docs ext) (item.Interface b st2 docs2 ext2) p q = by (interface_path other a.0) refl
     where
       paths : interface_path own b.0 ≡ interface_path other a.0
-      paths = sym (path_is own b.0) ∙ (ap path_so (sym (ap (λ y. item_sense (item_meaning own y)) q) ∙ (senses ∙ ap (λ y. item_sense (item_meaning other y)) p)) ∙ path_is other a.0)
+      paths = sym (path_is own b.0) ∙ (ap path_so (senses_at _ _ p q) ∙ path_is other a.0)
 
       by : (o : Option Text) → interface_path other a.0 ≡ o → b.0 ≡ f.interfaces a.0
       by None k = sym (is.inline x e held_x held_e keys b.0 a.0 (ap item_interface q) (ap item_interface p) k)
@@ -232,31 +193,18 @@ module _ (own other : Resolve) (f : Renumbering) (bound other_bound : ℕ) (vali
           to : IsMatch own other f.interfaces f.types a.0 ⊎ ((m : ℕ) → interface_path own m ≡ interface_path other a.0 → ⊥) → b.0 ≡ f.interfaces a.0
           to (inl m) = path-once own valid_own b.0 (f.interfaces a.0) path (paths ∙ k) (m.path ∙ k)
           to (inr none_such) = absurd (none_such b.0 paths)
-  stands (item.Function g) (item.Type_ b) p q = no_two is_declared _ _ (sym (ap (λ y. item_sense (item_meaning own y)) q) ∙ (senses ∙ ap (λ y. item_sense (item_meaning other y)) p)) refl refl
-  stands (item.Type_ a) (item.Function h) p q = no_two is_function _ _ (sym (ap (λ y. item_sense (item_meaning own y)) q) ∙ (senses ∙ ap (λ y. item_sense (item_meaning other y)) p)) refl refl
-  stands (item.Function g) (item.Interface b st2 docs2 ext2) p q = no_two is_function _ _
-      (sym (sym (ap (λ y. item_sense (item_meaning own y)) q) ∙ (senses ∙ ap (λ y. item_sense (item_meaning other y)) p))) refl (not_function own b.0)
-  stands (item.Type_ a) (item.Interface b st2 docs2 ext2) p q = no_two is_declared _ _
-      (sym (sym (ap (λ y. item_sense (item_meaning own y)) q) ∙ (senses ∙ ap (λ y. item_sense (item_meaning other y)) p))) refl (not_declared own b.0)
-  stands (item.Interface a st docs ext) (item.Function h) p q = no_two is_function _ _ (sym (ap (λ y. item_sense (item_meaning own y)) q) ∙ (senses ∙ ap (λ y. item_sense (item_meaning other y)) p))
-      refl (not_function other a.0)
-  stands (item.Interface a st docs ext) (item.Type_ b) p q = no_two is_declared _ _ (sym (ap (λ y. item_sense (item_meaning own y)) q) ∙ (senses ∙ ap (λ y. item_sense (item_meaning other y)) p)) refl
-      (not_declared other a.0)
+  stands j i p q = let same = same_sort j i p q in absurd (omega (arith, same))
 
   -- ---- types
 
   own_type : (j i : WorldItem) → e.1 ≡ j → x.1 ≡ i → (t : ℕ) → item_type j ≡ Some t → (item_type i ≡ Some (f.types t))
   own_type (item.Type_ a) (item.Type_ b) p q t k = ap Some (sym (is.types x e held_x held_e keys b.0 t (ap item_type q) (ap item_type p ∙ k)))
-  own_type (item.Interface a st docs ext) i p q t k = let wrong : None ≡ Some t = k in absurd cc
-  own_type (item.Function g) i p q t k = let wrong : None ≡ Some t = k in absurd cc
-  own_type (item.Type_ a) (item.Function h) p q t k = no_two is_function _ _ (sym (ap (λ y. item_sense (item_meaning own y)) q) ∙ (senses ∙ ap (λ y. item_sense (item_meaning other y)) p)) refl refl
-  own_type (item.Type_ a) (item.Interface b st2 docs2 ext2) p q t k = no_two is_declared _ _
-      (sym (sym (ap (λ y. item_sense (item_meaning own y)) q) ∙ (senses ∙ ap (λ y. item_sense (item_meaning other y)) p))) refl (not_declared own b.0)
+  own_type (item.Type_ a) i p q t k = let same = same_sort (item.Type_ a) i p q in absurd (omega (arith, same))
+  own_type _ i p q t k = absurd cc
 
   declared_is : (r : Resolve) (i : WorldItem) (t : ℕ) → item_type i ≡ Some t → declared_so (item_sense (item_meaning r i)) ≡ Some (type_meaning_at r t).declaration
   declared_is r (item.Type_ a) t k = ap (λ n. Some (type_meaning_at r n).declaration) (same-some a.0 t k)
-  declared_is r (item.Interface a st docs ext) t k = let wrong : None ≡ Some t = k in absurd cc
-  declared_is r (item.Function g) t k = let wrong : None ≡ Some t = k in absurd cc
+  declared_is r _ t k = absurd cc
 
   module _ (t : ℕ) (is_type : item_type e.1 ≡ Some t) where
     old : IsWorldType other valid_other other_bound is.other_world is.other_at e.0 t
@@ -290,35 +238,14 @@ module _ (own other : Resolve) (f : Renumbering) (bound other_bound : ℕ) (vali
         path_place (Some p) h = refl
 
     alias_same : (o : Option ℕ) → alias_target old.def.kind ≡ o → alias_target new.def.kind ≡ option_map f.types o
-    alias_same None k = none_there (alias_target new.def.kind) refl
+    alias_same = alias_alike own other f.interfaces f.types valid_own valid_other (f.types t) t old.def new.def old.found new.found same_declarations targets
       where
-        none_there : (o : Option ℕ) → alias_target new.def.kind ≡ o → alias_target new.def.kind ≡ None
-        none_there None l = l
-        none_there (Some u) l =
-            let y = target_named own valid_own (f.types t) new.def new.found u l in
-            let tree = alias_declares (trees_of own) new.def.kind u l ∙ ap type_ (named_tree own valid_own u y.def y.found y.name y.named_) in
-            let back = name_is_alias (trees_of other) old.def.kind (place_of own y.def.owner) (text_of y.name) (sym same_declarations ∙ tree) in
-            let wrong : None ≡ Some back.0 = sym k ∙ back.1 in absurd cc
-    alias_same (Some u) k = image_alias.1 ∙ ap Some (sym (by (target_home other valid_other other_bound is.other_world is.other_at t old.def old.found old.home u k a)))
-      where
-        a : IsTarget other valid_other u
-        a = target_named other valid_other t old.def old.found u k
-
-        tree : declaration_of other old.def ≡ type_ (named (place_of other a.def.owner) (text_of a.name))
-        tree = alias_declares (trees_of other) old.def.kind u k ∙ ap type_ (named_tree other valid_other u a.def a.found a.name a.named_)
-
-        image_alias : (v : ℕ) × (alias_target new.def.kind ≡ Some v) × (tree_at (trees_of own) v ≡ named (place_of other a.def.owner) (text_of a.name))
-        image_alias = name_is_alias (trees_of own) new.def.kind (place_of other a.def.owner) (text_of a.name) (same_declarations ∙ tree)
-
-        b : IsTarget own valid_own image_alias.0
-        b = target_named own valid_own (f.types t) new.def new.found image_alias.0 image_alias.1
-
-        trees : named (place_of own b.def.owner) (text_of b.name) ≡ named (place_of other a.def.owner) (text_of a.name)
-        trees = sym (named_tree own valid_own image_alias.0 b.def b.found b.name b.named_) ∙ image_alias.2
-
-        by : (a.def.owner ≡ as_world other_bound) ⊎ ((c : ℕ) × (a.def.owner ≡ as_interface c) × (is_some (interface_path other c) ≡ true)) → f.types u ≡ image_alias.0
-        by (inl home) = same_in_world u image_alias.0 a b home trees (target_home own valid_own bound is.own_world is.own_at (f.types t) new.def new.found new.home image_alias.0 image_alias.1 b)
-        by (inr c) = same_by_path own other f.interfaces f.types valid_own valid_other matched u image_alias.0 c.0 a c.1 c.2 b trees (matched c.0 c.2)
+        targets : (u v : ℕ) (a : IsTarget other valid_other u) (b : IsTarget own valid_own v) → alias_target old.def.kind ≡ Some u → alias_target new.def.kind ≡ Some v
+            → named (place_of own b.def.owner) (text_of b.name) ≡ named (place_of other a.def.owner) (text_of a.name) → f.types u ≡ v
+        targets u v a b k l trees = elim (target_home other valid_other other_bound is.other_world is.other_at t old.def old.found old.home u k a) [
+          | inl home ↦ same_in_world u v a b home trees (target_home own valid_own bound is.own_world is.own_at (f.types t) new.def new.found new.home v l b)
+          | inr c ↦ same_by_path own other f.interfaces f.types valid_own valid_other matched u v c.0 a c.1 c.2 b trees (matched c.0 c.2)
+        ]
 
     key_names : (k l : WorldKey) (a b : String Global) → k ≡ key.Name a → l ≡ key.Name b → key_text own k ≡ key_text other l → text_of a ≡ text_of b
     key_names k l a b p q h = sym (ap (key_text own) p) ∙ (h ∙ ap (key_text other) q)

@@ -20,21 +20,20 @@ use Rattle.wit_model.specs.Text.{text_of}
 use Rattle.wit_model.specs.Names.{is_label}
 use Rattle.wit_model.specs.Lookup.{type_at, world_at}
 use Rattle.wit_model.specs.Parts.{has_owner, same_owner, function_types, is_resource_type}
-use Rattle.wit_model.specs.Uses.{has, items_of, item_interface}
+use Rattle.wit_model.specs.Uses.{has, items_of}
 use Rattle.wit_model.specs.Rules.{passes, each_after, key_in_range, item_in_range, entries_in_range, key_label, item_labels, entries_labels, is_stability, is_name_key, item_type, world_type_numbers, is_named_of, is_listed, is_listed_in_world, used_by_number, are_in_order, function_stays, is_shallow, is_member, import_stands, export_stands, uses_stand_before}
 use Rattle.wit_model.specs.Valid.{Keeps, KeepsRules, as_world, item_function, functions_of_world, labels, order_of_types, owners, handles, depths, function_names, world_items, order_of_items}
 use Rattle.wit_model.specs.Checks.{references}
 use Rattle.wit_model.proofs.Lists.{list_all_filter_map}
 use Rattle.wit_model.proofs.InOrder.{found_stands}
 use Rattle.std.proofs.lemmas.List.{map-append}
-use Rattle.bind_union.specs.Carried.{Renumbering, EntryBecomes, IsCarried}
+use Rattle.bind_union.specs.Carried.{Renumbering, IsFunctionCopy, EntryBecomes, IsCarried}
 use Rattle.bind_union.specs.Joined.{IsJoined}
 use Rattle.bind_union.proofs.Lists.{no_true}
 use Rattle.bind_union.proofs.Homes.{owner_back}
-use Rattle.bind_union.proofs.FunctionRules.{function_stays_passes, function_handles_pass, function_depths_pass}
+use Rattle.bind_union.proofs.CopyRules.{function_stays_passes, function_handles_pass, function_depths_pass, added_pass, entry_range, entry_labels, entry_function, entry_member, entry_import_stands, entry_export_stands}
 use Rattle.bind_union.proofs.InterfaceRules.{named_of_there, number_uses}
-use Rattle.bind_union.proofs.EntryRules.{added_pass, entry_range, entry_labels, entry_function, entry_member, entry_import_stands, entry_export_stands}
-use Rattle.bind_union.proofs.WorldOrder.{items, numbers_right, Covers, Holds, holds_itself, covers_none, covers_more, walk, item_stands, stands_still, numbers_left}
+use Rattle.bind_union.proofs.WorldOrder.{items, by_items, number_in, numbers_left, numbers_right, types_in, Covers, walk, item_stands, stands_still}
 use Rattle.base_lemmas.proofs.Bools.{left_of as first_true, right_of as second_true}
 use Rattle.base_lemmas.proofs.Elements.{all_two}
 use Rattle.wit_model.proofs.Chains.{all_has as passes_at}
@@ -45,6 +44,10 @@ use Rattle.wit_model.proofs.ValidLemmas.{type_passes, world_passes as world-pass
 pub all_true : {A : Type 0} (xs : List A) → list_all (λ x. true) xs ≡ true
 all_true [] = refl
 all_true (x ∷ xs) = all_true xs
+
+-- a test on the function of an entry, where it is one
+abbrev pub on_function : (Function → Bool) → WorldKey × WorldItem → Bool
+on_function p e = list_all p (option_to_list (item_function e.1))
 
 -- what is asked of each function of a world, by its entries
 pub by_entries : (p : Function → Bool) (w : World)
@@ -91,36 +94,30 @@ module _ (r s : Resolve) (f : Renumbering) (valid : KeepsRules r) (is : IsCarrie
   abbrev number : ℕ
   number = f.worlds n
 
-  -- a test on entries
-  imports_pass : (p q : WorldKey × WorldItem → Bool) → ((a b : WorldKey × WorldItem) → EntryBecomes f a b → p a ≡ true → q b ≡ true) → list_all q own_imports ≡ true
-      → list_all p j.old.imports.entries ≡ true → list_all q j.image.imports.entries ≡ true
-  imports_pass p q one own h = ap (list_all q) j.imports ∙ (list_all-append q own_imports j.new_imports ∙ both _ _ own
-      (added_pass f own_imports p q one j.old.imports.entries j.new_imports j.joined_imports h))
+  -- tests on imports and on exports
+  sides_pass : (p q p_export q_export : WorldKey × WorldItem → Bool) → ((a b : WorldKey × WorldItem) → EntryBecomes f a b → p a ≡ true → q b ≡ true)
+      → ((a b : WorldKey × WorldItem) → EntryBecomes f a b → p_export a ≡ true → q_export b ≡ true) → list_all q own_imports ≡ true → list_all q_export own_exports ≡ true
+      → (list_all p j.old.imports.entries && list_all p_export j.old.exports.entries) ≡ true → (list_all q j.image.imports.entries && list_all q_export j.image.exports.entries) ≡ true
+  sides_pass p q p_export q_export one one_export oi oe h =
+      both _ _
+      (ap (list_all q) j.imports ∙ (list_all-append q own_imports j.new_imports
+      ∙ both _ _ oi (added_pass f own_imports p q one j.old.imports.entries j.new_imports j.joined_imports (first_true _ _ h))))
+      (ap (list_all q_export) j.exports ∙ (list_all-append q_export own_exports j.new_exports
+      ∙ both _ _ oe (added_pass f own_exports p_export q_export one_export j.old.exports.entries j.new_exports j.joined_exports (second_true (list_all p j.old.imports.entries) _ h))))
 
-  exports_pass : (p q : WorldKey × WorldItem → Bool) → ((a b : WorldKey × WorldItem) → EntryBecomes f a b → p a ≡ true → q b ≡ true) → list_all q own_exports ≡ true
-      → list_all p j.old.exports.entries ≡ true → list_all q j.image.exports.entries ≡ true
-  exports_pass p q one own h = ap (list_all q) j.exports ∙ (list_all-append q own_exports j.new_exports ∙ both _ _ own
-      (added_pass f own_exports p q one j.old.exports.entries j.new_exports j.joined_exports h))
-
-  functions_pass : (p q : Function → Bool)
-      → ((a b : WorldKey × WorldItem) → EntryBecomes f a b → list_all p (option_to_list (item_function a.1)) ≡ true → list_all q (option_to_list (item_function b.1)) ≡ true)
-      → list_all (λ (e : WorldKey × WorldItem). list_all q (option_to_list (item_function e.1))) own_imports ≡ true
-      → list_all (λ (e : WorldKey × WorldItem). list_all q (option_to_list (item_function e.1))) own_exports ≡ true
-      → list_all p (functions_of_world j.old) ≡ true → list_all q (functions_of_world j.image) ≡ true
+  functions_pass : (p q : Function → Bool) → ((g h : Function) → IsFunctionCopy f g h → p g ≡ true → q h ≡ true) → list_all (on_function q) own_imports ≡ true
+      → list_all (on_function q) own_exports ≡ true → list_all p (functions_of_world j.old) ≡ true → list_all q (functions_of_world j.image) ≡ true
   functions_pass p q one oi oe h =
-      let old = sym (by_entries p j.old) ∙ h in
-      by_entries q j.image
-      ∙ both _ _ (imports_pass (λ e. list_all p (option_to_list (item_function e.1))) (λ e. list_all q (option_to_list (item_function e.1))) one oi (first_true _ _ old))
-      (exports_pass (λ e. list_all p (option_to_list (item_function e.1))) (λ e. list_all q (option_to_list (item_function e.1))) one oe
-      (second_true (list_all (λ (e : WorldKey × WorldItem). list_all p (option_to_list (item_function e.1))) j.old.imports.entries) _ old))
+      let each = λ (a b : WorldKey × WorldItem) (z : EntryBecomes f a b). entry_function r s f valid is below_s p q one a.1 b.1 z.1 in
+      by_entries q j.image ∙ sides_pass (on_function p) (on_function q) (on_function p) (on_function q) each each oi oe (sym (by_entries p j.old) ∙ h)
 
   -- numbers in range
   pub world_range_passes : entries_in_range s own_imports ≡ true → entries_in_range s own_exports ≡ true
       → (entries_in_range s j.image.imports.entries && entries_in_range s j.image.exports.entries) ≡ true
   world_range_passes oi oe =
-      both _ _
-      (imports_pass (λ e. true) (λ e. key_in_range s e.0 && item_in_range s e.1) (entry_range r s f valid is below_s) oi (all_true j.old.imports.entries))
-      (exports_pass (λ e. true) (λ e. key_in_range s e.0 && item_in_range s e.1) (entry_range r s f valid is below_s) oe (all_true j.old.exports.entries))
+      let in_range = λ (e : WorldKey × WorldItem). key_in_range s e.0 && item_in_range s e.1 in
+      sides_pass (λ e. true) in_range (λ e. true) in_range (entry_range r s f valid is below_s) (entry_range r s f valid is below_s) oi oe
+      (both _ _ (all_true j.old.imports.entries) (all_true j.old.exports.entries))
 
   -- labels
   pub world_labels_pass : entries_labels own_imports ≡ true → entries_labels own_exports ≡ true → (entries_labels j.image.imports.entries && entries_labels j.image.exports.entries) ≡ true
@@ -128,44 +125,30 @@ module _ (r s : Resolve) (f : Renumbering) (valid : KeepsRules r) (is : IsCarrie
   world_labels_pass oi oe =
       let old : (is_label (text_of j.old.name) && (is_stability j.old.stability && (entries_labels j.old.imports.entries && entries_labels j.old.exports.entries))) ≡ true =
       world-passes labels r valid.labels n j.old j.found in
-      let entries = second_true (is_stability j.old.stability) _ (second_true (is_label (text_of j.old.name)) _ old) in
-      both _ _
-      (imports_pass (λ e. key_label e.0 e.1 && item_labels e.1) (λ e. key_label e.0 e.1 && item_labels e.1) (entry_labels r s f valid is below_s) oi (first_true _ _ entries))
-      (exports_pass (λ e. key_label e.0 e.1 && item_labels e.1) (λ e. key_label e.0 e.1 && item_labels e.1) (entry_labels r s f valid is below_s) oe
-      (second_true (entries_labels j.old.imports.entries) _ entries))
+      let labelled = λ (e : WorldKey × WorldItem). key_label e.0 e.1 && item_labels e.1 in
+      sides_pass labelled labelled labelled labelled (entry_labels r s f valid is below_s) (entry_labels r s f valid is below_s) oi oe
+      (second_true (is_stability j.old.stability) _ (second_true (is_label (text_of j.old.name)) _ old))
 
   -- owners
-  pub world_owners_pass : list_all (λ (e : WorldKey × WorldItem). list_all (function_stays s (as_world number)) (option_to_list (item_function e.1))) own_imports ≡ true
-      → list_all (λ (e : WorldKey × WorldItem). list_all (function_stays s (as_world number)) (option_to_list (item_function e.1))) own_exports ≡ true → owners.world_ s number j.image ≡ true
+  pub world_owners_pass : list_all (on_function (function_stays s (as_world number))) own_imports ≡ true → list_all (on_function (function_stays s (as_world number))) own_exports ≡ true
+      → owners.world_ s number j.image ≡ true
   unfolding owners
-  world_owners_pass oi oe =
-      functions_pass (function_stays r (as_world n)) (function_stays s (as_world number))
-      (λ a b z. entry_function r s f valid is below_s (function_stays r (as_world n)) (function_stays s (as_world number)) (λ g h c. function_stays_passes r s f valid is below_s g h c (as_world n))
-      a.1 b.1 z.1) oi oe
+  world_owners_pass oi oe = functions_pass (function_stays r (as_world n)) (function_stays s (as_world number)) (λ g h c. function_stays_passes r s f valid is below_s g h c (as_world n)) oi oe
       (world-passes owners r valid.owners n j.old j.found)
 
   -- handles
-  pub world_handles_pass : list_all (λ (e : WorldKey × WorldItem). list_all (λ g. list_all (λ t. not (is_resource_type s t)) (function_types g)) (option_to_list (item_function e.1)))
-      own_imports ≡ true
-      → list_all (λ (e : WorldKey × WorldItem). list_all (λ g. list_all (λ t. not (is_resource_type s t)) (function_types g)) (option_to_list (item_function e.1))) own_exports ≡ true
-      → handles.world_ s number j.image ≡ true
+  pub world_handles_pass : list_all (on_function (λ g. list_all (λ t. not (is_resource_type s t)) (function_types g))) own_imports ≡ true
+      → list_all (on_function (λ g. list_all (λ t. not (is_resource_type s t)) (function_types g))) own_exports ≡ true → handles.world_ s number j.image ≡ true
   unfolding handles
-  world_handles_pass oi oe =
-      functions_pass (λ g. list_all (λ t. not (is_resource_type r t)) (function_types g)) (λ g. list_all (λ t. not (is_resource_type s t)) (function_types g))
-      (λ a b z. entry_function r s f valid is below_s (λ g. list_all (λ t. not (is_resource_type r t)) (function_types g)) (λ g. list_all (λ t. not (is_resource_type s t)) (function_types g))
-      (function_handles_pass r s f valid is below_s) a.1 b.1 z.1) oi oe
-      (world-passes handles r valid.handles n j.old j.found)
+  world_handles_pass oi oe = functions_pass (λ g. list_all (λ t. not (is_resource_type r t)) (function_types g)) (λ g. list_all (λ t. not (is_resource_type s t)) (function_types g))
+      (function_handles_pass r s f valid is below_s) oi oe (world-passes handles r valid.handles n j.old j.found)
 
   -- depths
-  pub world_depths_pass : list_all (λ (e : WorldKey × WorldItem). list_all (λ g. list_all (is_shallow s) (function_types g)) (option_to_list (item_function e.1))) own_imports ≡ true
-      → list_all (λ (e : WorldKey × WorldItem). list_all (λ g. list_all (is_shallow s) (function_types g)) (option_to_list (item_function e.1))) own_exports ≡ true
-      → depths.world_ s number j.image ≡ true
+  pub world_depths_pass : list_all (on_function (λ g. list_all (is_shallow s) (function_types g))) own_imports ≡ true
+      → list_all (on_function (λ g. list_all (is_shallow s) (function_types g))) own_exports ≡ true → depths.world_ s number j.image ≡ true
   unfolding depths
-  world_depths_pass oi oe =
-      functions_pass (λ g. list_all (is_shallow r) (function_types g)) (λ g. list_all (is_shallow s) (function_types g))
-      (λ a b z. entry_function r s f valid is below_s (λ g. list_all (is_shallow r) (function_types g)) (λ g. list_all (is_shallow s) (function_types g)) (function_depths_pass r s f valid is below_s)
-      a.1 b.1 z.1) oi oe
-      (world-passes depths r valid.depths n j.old j.found)
+  world_depths_pass oi oe = functions_pass (λ g. list_all (is_shallow r) (function_types g)) (λ g. list_all (is_shallow s) (function_types g))
+      (function_depths_pass r s f valid is below_s) oi oe (world-passes depths r valid.depths n j.old j.found)
 
   -- function names
   pub world_members_pass : list_all (λ (e : WorldKey × WorldItem). passes (λ g. is_name_key (text_of g.name) e.0 && is_member s (as_world number) g) (item_function e.1)) own_imports ≡ true
@@ -175,79 +158,41 @@ module _ (r s : Resolve) (f : Renumbering) (valid : KeepsRules r) (is : IsCarrie
   world_members_pass oi oe =
       let p = λ (e : WorldKey × WorldItem). passes (λ g. is_name_key (text_of g.name) e.0 && is_member r (as_world n) g) (item_function e.1) in
       let q = λ (e : WorldKey × WorldItem). passes (λ g. is_name_key (text_of g.name) e.0 && is_member s (as_world number) g) (item_function e.1) in
-      let old : (list_all p j.old.imports.entries && list_all p j.old.exports.entries) ≡ true =
-      sym (list_all-append p j.old.imports.entries j.old.exports.entries) ∙ world-passes function_names r valid.function_names n j.old j.found in
       list_all-append q j.image.imports.entries j.image.exports.entries
-      ∙ both _ _ (imports_pass p q (entry_member r s f valid is below_s n) oi (first_true _ _ old))
-      (exports_pass p q (entry_member r s f valid is below_s n) oe (second_true (list_all p j.old.imports.entries) _ old))
+      ∙ sides_pass p q p q (entry_member r s f valid is below_s n) (entry_member r s f valid is below_s n) oi oe
+      (sym (list_all-append p j.old.imports.entries j.old.exports.entries) ∙ world-passes function_names r valid.function_names n j.old j.found)
 
   -- world items
   pub world_items_pass : list_all (λ (e : WorldKey × WorldItem). import_stands s number e.0 e.1) own_imports ≡ true
       → list_all (λ (e : WorldKey × WorldItem). export_stands s e.0 e.1) own_exports ≡ true → world_items.world_ s number j.image ≡ true
   unfolding world_items
-  world_items_pass oi oe =
-      let old : (list_all (λ (e : WorldKey × WorldItem). import_stands r n e.0 e.1) j.old.imports.entries && list_all (λ (e : WorldKey × WorldItem). export_stands r e.0 e.1) j.old.exports.entries)
-      ≡ true = world-passes world_items r valid.world_items n j.old j.found in
-      both _ _
-      (imports_pass (λ e. import_stands r n e.0 e.1) (λ e. import_stands s number e.0 e.1) (entry_import_stands r s f valid is below_s n) oi (first_true _ _ old))
-      (exports_pass (λ e. export_stands r e.0 e.1) (λ e. export_stands s e.0 e.1) (entry_export_stands r s f valid is below_s) oe
-      (second_true (list_all (λ (e : WorldKey × WorldItem). import_stands r n e.0 e.1) j.old.imports.entries) _ old))
+  world_items_pass oi oe = sides_pass (λ e. import_stands r n e.0 e.1) (λ e. import_stands s number e.0 e.1) (λ e. export_stands r e.0 e.1) (λ e. export_stands s e.0 e.1)
+      (entry_import_stands r s f valid is below_s n) (entry_export_stands r s f valid is below_s) oi oe (world-passes world_items r valid.world_items n j.old j.found)
 
   -- order of items
   pub world_order_passes : each_after (uses_stand_before s number) [] (items own_imports ++ items own_exports) ≡ true → order_of_items.world_ s number j.image ≡ true
   unfolding order_of_items
-  world_order_passes own = ap (each_after t []) whole ∙ (after_append t [] (oi ++ ni) (oe ++ ne) ∙ both _ _ (after_append t [] oi ni ∙ both _ _ own_first first.0)
+  world_order_passes own =
+      let t = uses_stand_before s number in
+      let u = uses_stand_before r n in
+      let oi = items own_imports in
+      let oe = items own_exports in
+      let ni = items j.new_imports in
+      let ne = items j.new_exports in
+      let xi = items j.old.imports.entries in
+      let xe = items j.old.exports.entries in
+      let own_both : (each_after t [] oi && each_after t oi oe) ≡ true = sym (after_append t [] oi oe) ∙ own in
+      let old : (each_after u [] xi && each_after u xi xe) ≡ true = sym (after_append u [] xi xe) ∙ world-passes order_of_items r valid.order_of_items n j.old j.found in
+      let step = item_stands r s f valid is below_s n j.carries in
+      let first = walk f own_imports u t step [] oi j.old.imports.entries j.new_imports j.joined_imports (λ h. number_in h own_imports) (λ h m e. no_true e) (first_true _ _ old) in
+      let third = stands_still s number oi (oi ++ ni) (λ h. numbers_left h oi ni) oe (second_true (each_after t [] oi) _ own_both) in
+      let last = walk f own_exports u t step xi ((oi ++ ni) ++ oe) j.old.exports.entries j.new_exports j.joined_exports
+      (λ h x c m e. numbers_right h (oi ++ ni) oe m (number_in h own_exports x c m e)) (λ h m e. numbers_left h.number (oi ++ ni) oe (h.under m) (first.1 h m e))
+      (second_true (each_after u [] xi) _ old) in
+      ap (each_after t []) (λ i. (ap items j.imports ∙ map-append (λ (e : WorldKey × WorldItem). e.1) own_imports j.new_imports) i
+      ++ (ap items j.exports ∙ map-append (λ (e : WorldKey × WorldItem). e.1) own_exports j.new_exports) i)
+      ∙ (after_append t [] (oi ++ ni) (oe ++ ne) ∙ both _ _ (after_append t [] oi ni ∙ both _ _ (first_true _ _ own_both) first.0)
       (after_append t (oi ++ ni) oe ne ∙ both _ _ third last.0))
-    where
-      t : List WorldItem → WorldItem → Bool
-      t = uses_stand_before s number
-
-      oi : List WorldItem
-      oi = items own_imports
-
-      oe : List WorldItem
-      oe = items own_exports
-
-      ni : List WorldItem
-      ni = items j.new_imports
-
-      ne : List WorldItem
-      ne = items j.new_exports
-
-      whole : items_of j.image ≡ (oi ++ ni) ++ (oe ++ ne)
-      whole = λ i. (ap items j.imports ∙ map-append (λ (e : WorldKey × WorldItem). e.1) own_imports j.new_imports) i
-          ++ (ap items j.exports ∙ map-append (λ (e : WorldKey × WorldItem). e.1) own_exports j.new_exports) i
-
-      own_both : (each_after (uses_stand_before s number) [] (items own_imports) && each_after (uses_stand_before s number) (items own_imports) (items own_exports)) ≡ true
-      own_both = sym (after_append (uses_stand_before s number) [] (items own_imports) (items own_exports)) ∙ own
-
-      own_first : each_after (uses_stand_before s number) [] (items own_imports) ≡ true
-      own_first = first_true _ _ own_both
-
-      old : (each_after (uses_stand_before r n) [] (items j.old.imports.entries) && each_after (uses_stand_before r n) (items j.old.imports.entries) (items j.old.exports.entries)) ≡ true
-      old = sym (after_append (uses_stand_before r n) [] (items j.old.imports.entries) (items j.old.exports.entries)) ∙ world-passes order_of_items r valid.order_of_items n j.old j.found
-
-      first : (each_after (uses_stand_before s number) (items own_imports) (items j.new_imports) ≡ true) × Covers f (items j.old.imports.entries) (items own_imports ++ items j.new_imports)
-      first = walk f own_imports (uses_stand_before r n) (uses_stand_before s number) (item_stands r s f valid is below_s n j.carries) [] (items own_imports) j.old.imports.entries j.new_imports
-          j.joined_imports (holds_itself own_imports) (covers_none f (items own_imports)) (first_true _ _ old)
-
-      third : each_after (uses_stand_before s number) (items own_imports ++ items j.new_imports) (items own_exports) ≡ true
-      third = stands_still s number (items own_imports) (items own_imports ++ items j.new_imports) (numbers_left item_interface (items own_imports) (items j.new_imports))
-          (numbers_left item_type (items own_imports) (items j.new_imports)) (items own_exports)
-          (second_true (each_after (uses_stand_before s number) [] (items own_imports)) (each_after (uses_stand_before s number) (items own_imports) (items own_exports)) own_both)
-
-      holds : Holds own_exports ((items own_imports ++ items j.new_imports) ++ items own_exports)
-      holds = record {
-        interfaces = λ x c m e. numbers_right item_interface (items own_imports ++ items j.new_imports) (items own_exports) m ((holds_itself own_exports).interfaces x c m e);
-        types = λ x c m e. numbers_right item_type (items own_imports ++ items j.new_imports) (items own_exports) m ((holds_itself own_exports).types x c m e);
-      }
-
-      last : (each_after (uses_stand_before s number) ((items own_imports ++ items j.new_imports) ++ items own_exports) (items j.new_exports) ≡ true)
-          × Covers f (items j.old.imports.entries ++ items j.old.exports.entries) (((items own_imports ++ items j.new_imports) ++ items own_exports) ++ items j.new_exports)
-      last = walk f own_exports (uses_stand_before r n) (uses_stand_before s number) (item_stands r s f valid is below_s n j.carries) (items j.old.imports.entries)
-          ((items own_imports ++ items j.new_imports) ++ items own_exports) j.old.exports.entries j.new_exports j.joined_exports holds
-          (covers_more f (items j.old.imports.entries) (items own_imports ++ items j.new_imports) (items own_exports) first.1)
-          (second_true (each_after (uses_stand_before r n) [] (items j.old.imports.entries)) (each_after (uses_stand_before r n) (items j.old.imports.entries) (items j.old.exports.entries)) old)
 
   -- order of types
   abbrev pub numbers : List ℕ
@@ -273,25 +218,17 @@ module _ (r s : Resolve) (f : Renumbering) (valid : KeepsRules r) (is : IsCarrie
       (first_true _ _ h)) refl
   entry_named (k, item.Interface a st docs ext) (l, item.Interface b st2 docs2 ext2) z h = refl
   entry_named (k, item.Function g) (l, item.Function e) z h = refl
-  entry_named (k, item.Interface a st docs ext) (l, item.Function g) z h = absurd z.1
-  entry_named (k, item.Interface a st docs ext) (l, item.Type_ g) z h = absurd z.1
-  entry_named (k, item.Function g) (l, item.Interface b st2 docs2 ext2) z h = absurd z.1
-  entry_named (k, item.Function g) (l, item.Type_ b) z h = absurd z.1
-  entry_named (k, item.Type_ a) (l, item.Interface b st2 docs2 ext2) z h = absurd z.1
-  entry_named (k, item.Type_ a) (l, item.Function g) z h = absurd z.1
-
-  by_items : (p : ℕ → Bool) (es : List (WorldKey × WorldItem)) → list_all p (filter_map item_type (items es)) ≡ list_all (λ (e : WorldKey × WorldItem). list_all p (option_to_list (item_type e.1))) es
-  by_items p es = list_all_filter_map p item_type (items es) ∙ list_all-map (λ i. list_all p (option_to_list (item_type i))) (λ (e : WorldKey × WorldItem). e.1) es
+  entry_named _ _ z h = absurd z.1
 
   all_named : list_all (is_named_of s (as_world number)) (filter_map item_type (items own_imports)) ≡ true → list_all (is_named_of s (as_world number)) numbers ≡ true
   all_named own =
       ap (list_all (is_named_of s (as_world number))) numbers_are
       ∙ (list_all-append (is_named_of s (as_world number)) (filter_map item_type (items own_imports)) (filter_map item_type (items j.new_imports))
       ∙ both _ _ own
-      (by_items (is_named_of s (as_world number)) j.new_imports
+      (by_items item_type (is_named_of s (as_world number)) j.new_imports
       ∙ added_pass f own_imports (λ e. list_all (is_named_of r (as_world n)) (option_to_list (item_type e.1))) (λ e. list_all (is_named_of s (as_world number)) (option_to_list (item_type e.1)))
       entry_named j.old.imports.entries j.new_imports j.joined_imports
-      (sym (by_items (is_named_of r (as_world n)) j.old.imports.entries) ∙ first_true _ _ old_types)))
+      (sym (by_items item_type (is_named_of r (as_world n)) j.old.imports.entries) ∙ first_true _ _ old_types)))
 
   named_owned : (m : ℕ) → f.carries_type m ≡ true → is_named_of s (as_world number) (f.types m) ≡ true → has_owner s (as_world number) (f.types m) ≡ true
   named_owned m c h =
@@ -320,15 +257,10 @@ module _ (r s : Resolve) (f : Renumbering) (valid : KeepsRules r) (is : IsCarrie
         let uses = number_uses r s f valid is below_s a.0 z.1.1 in
         ap (λ x. list_all (λ m. not (has numbers m) || has (filter_map item_type news) m) (used_by_number s x)) z.1.0
         ∙ (ap (list_all (λ m. not (has numbers m) || has (filter_map item_type news) m)) uses.0
-        ∙ used_there (filter_map item_type olds) (filter_map item_type news) covers.types (used_by_number r a.0) uses.1 h)
+        ∙ used_there (filter_map item_type olds) (filter_map item_type news) (covers (types_in f)) (used_by_number r a.0) uses.1 h)
     item_in_order olds news (k, item.Interface a st docs ext) (l, item.Interface b st2 docs2 ext2) z covers h = refl
     item_in_order olds news (k, item.Function g) (l, item.Function e) z covers h = refl
-    item_in_order olds news (k, item.Interface a st docs ext) (l, item.Function g) z covers h = absurd z.1
-    item_in_order olds news (k, item.Interface a st docs ext) (l, item.Type_ g) z covers h = absurd z.1
-    item_in_order olds news (k, item.Function g) (l, item.Interface b st2 docs2 ext2) z covers h = absurd z.1
-    item_in_order olds news (k, item.Function g) (l, item.Type_ b) z covers h = absurd z.1
-    item_in_order olds news (k, item.Type_ a) (l, item.Interface b st2 docs2 ext2) z covers h = absurd z.1
-    item_in_order olds news (k, item.Type_ a) (l, item.Function g) z covers h = absurd z.1
+    item_in_order olds news _ _ z covers h = absurd z.1
 
     types_in_order : each_after in_order_there [] (filter_map item_type (items own_imports)) ≡ true → are_in_order s numbers ≡ true
     types_in_order own =
@@ -338,7 +270,7 @@ module _ (r s : Resolve) (f : Renumbering) (valid : KeepsRules r) (is : IsCarrie
         (sym (after_given in_order_there item_type (items own_imports) (items j.new_imports))
         ∙ (walk f own_imports (λ ys x. passes (in_order_here (filter_map item_type ys)) (item_type x)) (λ ys x. passes (in_order_there (filter_map item_type ys)) (item_type x)) item_in_order []
         (items own_imports) j.old.imports.entries j.new_imports j.joined_imports
-        (holds_itself own_imports) (covers_none f (items own_imports)) (after_given in_order_here item_type [] (items j.old.imports.entries) ∙ second_true
+        (λ h. number_in h own_imports) (λ h m e. no_true e) (after_given in_order_here item_type [] (items j.old.imports.entries) ∙ second_true
         (list_all (is_named_of r (as_world n)) (world_type_numbers j.old)) _ old_types)).0))
       where
         after_lists : (xs ys : List ℕ) → each_after in_order_there [] (xs ++ ys) ≡ (each_after in_order_there [] xs && each_after in_order_there xs ys)

@@ -1,0 +1,625 @@
+-- What the rules ask of a type, of a function and of an entry of a world holds of its copy.
+use Rattle.std.proofs.Common.{◌≡◌, inl, refl, sym, ap, ◌∙◌, ℕ, Bool, true, false, ◌&&◌, ◌||◌, not, nat_lt, nat_le, ltb-true, List, map, Option, Some, None, option_map, option_to_list, is_some, filter_map, subst, cond, ◌==◌, [], ◌∷◌, ◌++◌, option_and_then, is_none, slice_get}
+use Rattle.std.specs.Prelude.{String, ◌^◌, codes, if◌then◌else◌}
+use Rattle.std.specs.declared.alloc.Global.{Global}
+use Rattle.std.specs.List.{list_all, flat_map}
+use Rattle.std.specs.Option.{option_map_or}
+use Rattle.std.proofs.lemmas.Bool.{or_left, or_right, lt-ltb, and_from as both}
+use Rattle.std.proofs.lemmas.List.Folds.{list_all-map, list_all-append}
+use Rattle.semver.specs.declared.Version.{Version}
+use Rattle.semver.specs.Identifiers.{parts_of}
+use Rattle.semver.specs.Grammar.{is_pre_release, is_build}
+use Rattle.wit_model.specs.declared.model.Resolve.{Resolve}
+use Rattle.wit_model.specs.declared.model.TypeOwner.{TypeOwner}
+use Rattle.wit_model.specs.declared.model.TypeOwner.TheVariants as owner
+use Rattle.wit_model.specs.declared.model.Stability.{Stability}
+use Rattle.wit_model.specs.declared.model.Stability.TheVariants as stability
+use Rattle.wit_model.specs.declared.model.«Type».{«Type» as ValueType}
+use Rattle.wit_model.specs.Text.{text_of, optional_text, Text, text_eq}
+use Rattle.wit_model.specs.Names.{is_label, is_version, constructor_name, method_name, static_name}
+use Rattle.wit_model.specs.Lookup.{type_at, interface_at, resource_of}
+use Rattle.wit_model.specs.Tree.{levels}
+use Rattle.wit_model.specs.Types.{number_of}
+use Rattle.wit_model.specs.Parts.{kind_numbers, member_types, handled, met_by, met_of, is_resource, is_resource_type, same_owner, has_owner, used_by_type, function_types, function_numbers, used_by_values, used_by_function}
+use Rattle.wit_model.specs.Uses.{alias_target, owner_interface, item_interface}
+use Rattle.wit_model.specs.Rules.{passes, is_stability, are_member_labels, is_named_kind, is_named_number, is_shallow, is_use, in_list, is_id, is_freestanding, function_labels, function_stays, function_in_range, is_resource_itself, resource_name, is_own_of, is_borrow_of, type_is, is_result_of_own, constructs, takes_self, after_prefix, is_member_name, is_member_of, is_member, text_is, key_in_range, item_in_range, key_label, item_labels, is_name_key, is_interface_key, is_own_type, import_stands, export_stands}
+use Rattle.wit_model.specs.Valid.{Keeps, KeepsRules, labels, owners, shapes, named_kinds, handles, depths, as_world, item_function}
+use Rattle.wit_model.specs.Checks.{references}
+use Rattle.wit_model.proofs.Lists.{list_all_filter_map}
+use Rattle.wit_model.proofs.Checks.{below_at}
+use Rattle.bind_union.specs.Views.{renamed_type, kind_view}
+use Rattle.bind_union.specs.Carried.{Renumbering, StabilityView, unknown, stable, unstable, stability_view, owner_under, carries_owner, copies_owner, IsType, IsTypeCopy, IsCarried, call_under, IsFunctionCopy, KeyBecomes, ItemBecomes, EntryBecomes, IsInterface}
+use Rattle.bind_union.proofs.Lists.{no_true}
+use Rattle.bind_union.proofs.ViewTests.{types_same, handled_same, alias_same, labels_same, shape_same, named_same, numbers_same, view_ok, ok_by_view, ok_under, own_kept, borrow_kept, numbers_under, number_under, one_given}
+use Rattle.bind_union.proofs.Carrying.{references_of, kind_carried, type_tree_same, used_same, image_kind}
+use Rattle.bind_union.proofs.Homes as homes
+use Rattle.bind_union.proofs.Homes.{alias_of_all, handled_of_all, members_of_all, resource_same_at, resource_type_same, owner_stays, owner_apart, alias_there, all_given}
+use Rattle.base_lemmas.proofs.Bools.{left_of as first_true, right_of as second_true}
+use Rattle.base_lemmas.proofs.Elements.{all_two}
+use Rattle.wit_model.proofs.TextLemmas.{some_alike as named_alike}
+use Rattle.wit_model.proofs.ValidLemmas.{type_passes}
+use Rattle.std.proofs.lemmas.Option.{slice_get_within, slice_get-map}
+use Rattle.wit_model.specs.declared.model.TypeDef.{TypeDef}
+use Rattle.wit_model.specs.declared.model.TypeDefKind.{TypeDefKind}
+use Rattle.wit_model.specs.declared.model.TypeDefKind.TheVariants as kind
+use Rattle.wit_model.specs.declared.model.Function.{Function}
+use Rattle.wit_model.specs.declared.model.FunctionKind.{FunctionKind}
+use Rattle.wit_model.specs.declared.model.FunctionKind.TheVariants as call
+use Rattle.wit_model.specs.declared.model.Param.{Param}
+use Rattle.wit_model.specs.declared.model.Handle.TheVariants as handle
+use Rattle.std.proofs.lemmas.Simd.{map-map}
+use Rattle.std.proofs.lemmas.List.{map-append}
+use Rattle.bind_union.specs.Images.{HasImageKind}
+use Rattle.base_lemmas.proofs.Options.{none_is}
+use Rattle.base_lemmas.proofs.Numbers.{equal, same-number}
+use Rattle.wit_model.proofs.PartsLemmas.{owner_itself, owner_same as owner_equal}
+use Rattle.wit_model.specs.declared.model.WorldKey.{WorldKey}
+use Rattle.wit_model.specs.declared.model.WorldKey.TheVariants as key
+use Rattle.wit_model.specs.declared.model.WorldItem.{WorldItem}
+use Rattle.wit_model.specs.declared.model.WorldItem.TheVariants as item
+use Rattle.bind_union.specs.Joined.{Joined, none, met, added}
+
+-- ---- texts
+
+pub label_alike : (a b : Option (String Global)) → optional_text a ≡ optional_text b → passes (λ name. is_label (text_of name)) a ≡ passes (λ name. is_label (text_of name)) b
+label_alike a b e = by_text a ∙ (ap (passes is_label) e ∙ sym (by_text b))
+  where
+    by_text : (o : Option (String Global)) → passes (λ name. is_label (text_of name)) o ≡ passes is_label (optional_text o)
+    by_text None = refl
+    by_text (Some x) = refl
+
+abbrev pub are_parts : ℕ × ℕ × ℕ × List ℕ × List ℕ → Bool
+are_parts p = nat_lt p.0 (2 ^ 64) && (nat_lt p.1 (2 ^ 64) && (nat_lt p.2 (2 ^ 64) && (is_pre_release p.3 && is_build p.4)))
+
+pub version_alike : (v : Option Version) → passes is_version v ≡ passes are_parts (option_map parts_of v)
+version_alike None = refl
+version_alike (Some v) = refl
+
+abbrev is_stable_view : StabilityView → Bool
+is_stable_view unknown = true
+is_stable_view (stable since deprecated) = are_parts since && passes are_parts deprecated
+is_stable_view (unstable feature deprecated) = is_label feature && passes are_parts deprecated
+
+stability_by_view : (s : Stability) → is_stability s ≡ is_stable_view (stability_view s)
+stability_by_view stability.Unknown = refl
+stability_by_view (stability.Stable since deprecated) = ap (λ b. is_version since && b) (version_alike deprecated)
+stability_by_view (stability.Unstable feature deprecated) = ap (λ b. is_label (text_of feature) && b) (version_alike deprecated)
+
+pub stability_alike : (a b : Stability) → stability_view a ≡ stability_view b → is_stability a ≡ is_stability b
+stability_alike a b e = stability_by_view a ∙ (ap is_stable_view e ∙ sym (stability_by_view b))
+
+-- ---- the rules of the other
+
+-- ---- kinds of functions
+
+pub resource_under : (f : Renumbering) (k : FunctionKind) → resource_of (call_under f k) ≡ option_map f.types (resource_of k)
+resource_under f call.Freestanding = refl
+resource_under f _ = refl
+
+pub freestanding_under : (f : Renumbering) (k : FunctionKind) → is_freestanding (call_under f k) ≡ is_freestanding k
+freestanding_under f call.Freestanding = refl
+freestanding_under f _ = refl
+
+-- ---- types in a result
+
+ok_of_all : (p : ℕ → Bool) (k : TypeDefKind) → list_all p (filter_map number_of (member_types k)) ≡ true → passes (λ t. list_all p (option_to_list (number_of t))) (view_ok (kind_view k)) ≡ true
+ok_of_all p (kind.Result x) h = sym (all_given (λ t. list_all p (option_to_list (number_of t))) x.ok) ∙ first_true _ _
+    (sym (list_all-append (λ t. list_all p (option_to_list (number_of t))) (option_to_list x.ok) (option_to_list x.err))
+    ∙ (sym (list_all_filter_map p number_of (option_to_list x.ok ++ option_to_list x.err)) ∙ h))
+ok_of_all p (kind.Handle (handle.Own id)) h = refl
+ok_of_all p _ h = refl
+
+none_alike : (a b : Option (String Global)) → optional_text a ≡ optional_text b → b ≡ None → is_none a ≡ true
+none_alike None b e h = refl
+none_alike (Some x) b e h = let none = ap optional_text h in absurd cc
+
+-- what each entry passes, what is added passes
+pub added_pass : (f : Renumbering) (own : List (WorldKey × WorldItem)) (p q : WorldKey × WorldItem → Bool) → ((a b : WorldKey × WorldItem) → EntryBecomes f a b → p a ≡ true → q b ≡ true)
+    → (olds news : List (WorldKey × WorldItem)) → Joined f own olds news → list_all p olds ≡ true → list_all q news ≡ true
+added_pass f own p q one _ _ none h = refl
+added_pass f own p q one _ _ (met old there olds news c k i rest) h = added_pass f own p q one olds news rest (second_true (p old) _ h)
+added_pass f own p q one _ _ (added old new olds news n z rest) h = both _ _ (one old new z (first_true _ _ h)) (added_pass f own p q one olds news rest (second_true (p old) _ h))
+
+pub text_alike : (a b : Option (String Global)) (t : Text) → optional_text a ≡ optional_text b → text_is a t ≡ text_is b t
+text_alike a b t e = by_text a ∙ (ap (λ o. option_map_or (λ x. text_eq x t) o false) e ∙ sym (by_text b))
+  where
+    by_text : (o : Option (String Global)) → text_is o t ≡ option_map_or (λ x. text_eq x t) (optional_text o) false
+    by_text None = refl
+    by_text (Some x) = refl
+
+module _ (r s : Resolve) (f : Renumbering) (valid : KeepsRules r) (is : IsCarried r s f) (below_s : Keeps references s) where
+  -- what is asked of each type of a value
+  pub values_pass : (p q : ValueType → Bool) → ((t : ValueType) → list_all f.carries_type (option_to_list (number_of t)) ≡ true → p t ≡ true → q (renamed_type f.types t) ≡ true)
+      → (ts : List ValueType) → list_all f.carries_type (filter_map number_of ts) ≡ true → list_all p ts ≡ true → list_all q (map (renamed_type f.types) ts) ≡ true
+  values_pass p q one ts c h =
+      list_all-map q (renamed_type f.types) ts
+      ∙ all_two (λ t. list_all f.carries_type (option_to_list (number_of t))) p (λ t. q (renamed_type f.types t)) one ts (sym (list_all_filter_map f.carries_type number_of ts) ∙ c) h
+
+  pub no_resource_passes : (t : ValueType) → list_all f.carries_type (option_to_list (number_of t)) ≡ true → not (is_resource_type r t) ≡ true
+      → not (is_resource_type s (renamed_type f.types t)) ≡ true
+  no_resource_passes t c h = ap not (resource_type_same r s f valid is below_s t c) ∙ h
+
+  pub shallow_passes : (t : ValueType) → list_all f.carries_type (option_to_list (number_of t)) ≡ true → is_shallow r t ≡ true → is_shallow s (renamed_type f.types t) ≡ true
+  shallow_passes t c h = ap (λ tree. nat_le (levels tree) 100) (type_tree_same r s f valid is below_s t c) ∙ h
+
+  named_number : (m : ℕ) → f.carries_type m ≡ true → is_named_number r m ≡ true → is_named_number s (f.types m) ≡ true
+  named_number m c h =
+      let t = is.types m c in
+      ap (passes (λ def. is_some def.name)) t.at_image
+      ∙ (named_alike t.image.name t.def.name t.name
+      ∙ (sym (ap (passes (λ def. is_some def.name)) t.found) ∙ h))
+
+  pub all_owned : (o : TypeOwner) (ns : List ℕ) → list_all f.carries_type ns ≡ true → list_all (has_owner r o) ns ≡ true → list_all (has_owner s (owner_under f o)) (map f.types ns) ≡ true
+  all_owned o ns c h =
+      list_all-map (has_owner s (owner_under f o)) f.types ns
+      ∙ all_two f.carries_type (has_owner r o) (λ n. has_owner s (owner_under f o) (f.types n)) (λ n c h. owner_stays r s f valid is below_s o n c h) ns c h
+
+  module _ (n : ℕ) (copy : f.copies_type n ≡ true) where
+    abbrev t : IsType r s f n
+    t = is.types n (is.copied_types n copy)
+
+    abbrev k : IsTypeCopy f t.def t.image
+    k = t.copied copy
+
+    parts : list_all f.carries_type (kind_numbers t.def.kind) ≡ true
+    parts = kind_carried r s f valid is below_s t.def t.image k.kind
+
+    values : list_all f.carries_type (filter_map number_of (member_types t.def.kind)) ≡ true
+    values = members_of_all f.carries_type t.def.kind parts
+
+    -- shapes
+    pub shape_passes : shapes.type_ s (f.types n) t.image ≡ true
+    unfolding shapes
+    shape_passes = shape_same f.types t.def.kind t.image.kind k.kind.kinds ∙ type_passes shapes r valid.shapes n t.def t.found
+
+    -- named kinds
+    pub named_passes : named_kinds.type_ s (f.types n) t.image ≡ true
+    unfolding named_kinds
+    named_passes =
+        let old : ((not (is_named_kind t.def.kind) || is_some t.def.name) && passes (is_named_number r) (alias_target t.def.kind)) ≡ true =
+        type_passes named_kinds r valid.named_kinds n t.def t.found in
+        both _ _
+        ((λ i. not (named_same f.types t.def.kind t.image.kind k.kind.kinds i) || named_alike t.image.name t.def.name t.name i) ∙ first_true _ _ old)
+        (ap (passes (is_named_number s)) (alias_same f.types t.def.kind t.image.kind k.kind.kinds)
+        ∙ target (alias_target t.def.kind) (alias_of_all f.carries_type t.def.kind parts) (second_true (not (is_named_kind t.def.kind) || is_some t.def.name) _ old))
+      where
+        target : (o : Option ℕ) → passes f.carries_type o ≡ true → passes (is_named_number r) o ≡ true → passes (is_named_number s) (option_map f.types o) ≡ true
+        target None c h = refl
+        target (Some m) c h = named_number m c h
+
+    -- handles
+    pub handle_passes : handles.type_ s (f.types n) t.image ≡ true
+    unfolding handles
+    handle_passes =
+        let old : (list_all (λ x. not (is_resource_type r x)) (member_types t.def.kind) && passes (is_resource r) (handled t.def.kind)) ≡ true = type_passes handles r valid.handles n t.def t.found in
+        both _ _
+        (ap (list_all (λ x. not (is_resource_type s x))) (types_same f.types t.def.kind t.image.kind k.kind.kinds)
+        ∙ values_pass (λ x. not (is_resource_type r x)) (λ x. not (is_resource_type s x)) no_resource_passes (member_types t.def.kind) values (first_true _ _ old))
+        (ap (passes (is_resource s)) (handled_same f.types t.def.kind t.image.kind k.kind.kinds)
+        ∙ target (handled t.def.kind) (handled_of_all f.carries_type t.def.kind parts) (second_true (list_all (λ x. not (is_resource_type r x)) (member_types t.def.kind)) _ old))
+      where
+        target : (o : Option ℕ) → passes f.carries_type o ≡ true → passes (is_resource r) o ≡ true → passes (is_resource s) (option_map f.types o) ≡ true
+        target None c h = refl
+        target (Some m) c h = resource_same_at r s f valid is below_s m c ∙ h
+
+    -- depths
+    pub depth_passes : depths.type_ s (f.types n) t.image ≡ true
+    unfolding depths
+    depth_passes =
+        ap (list_all (is_shallow s)) (types_same f.types t.def.kind t.image.kind k.kind.kinds)
+        ∙ values_pass (is_shallow r) (is_shallow s) shallow_passes (member_types t.def.kind) values (type_passes depths r valid.depths n t.def t.found)
+
+    -- labels
+    pub label_passes : labels.type_ s (f.types n) t.image ≡ true
+    unfolding labels
+    label_passes =
+        (λ i. label_alike t.image.name t.def.name t.name i && (stability_alike t.image.stability t.def.stability k.stability i && are_member_labels
+        (labels_same f.types t.def.kind t.image.kind k.kind.kinds i)))
+        ∙ type_passes labels r valid.labels n t.def t.found
+
+    -- the first part of the rule on order of types
+    pub copy_refers_below : references.type_ s (f.types n) t.image ≡ true
+    unfolding references
+    copy_refers_below =
+        ap (list_all (λ m. nat_lt m (f.types n))) (numbers_same f.types t.def.kind t.image.kind k.kind.kinds)
+        ∙ (list_all-map (λ m. nat_lt m (f.types n)) f.types (kind_numbers t.def.kind)
+        ∙ all_two f.carries_type (λ m. nat_lt m n) (λ m. nat_lt (f.types m) (f.types n)) (λ m c h. lt-ltb (f.types m) (f.types n) (is.types_rise m n c copy (inl (ltb-true m n h))))
+        (kind_numbers t.def.kind) parts
+        (below_at r (references_of r valid) n t.def t.found))
+
+    -- owners
+    pub used : list_all f.carries_type (used_by_type r t.def) ≡ true
+    used = (used_same r s f valid is below_s (kind_numbers t.def.kind) parts).1
+
+    pub used_there : used_by_type s t.image ≡ map f.types (used_by_type r t.def)
+    used_there = ap (flat_map (met_by (met_of s))) (numbers_same f.types t.def.kind t.image.kind k.kind.kinds) ∙ (used_same r s f valid is below_s (kind_numbers t.def.kind) parts).0
+
+    unowned : (o : TypeOwner) → same_owner (owner_under f o) owner.None ≡ same_owner o owner.None
+    unowned (owner.World id) = refl
+    unowned _ = refl
+
+    -- an owner that is not alone is none
+    copied_alone : (o : TypeOwner) → copies_owner f o ≡ true → same_owner o owner.None ≡ false → homes.alone r s f valid is below_s o ≡ true
+    copied_alone (owner.World id) c h = c
+    copied_alone (owner.Interface id) c h = c
+    copied_alone owner.None c h = no_true (sym h)
+
+    abbrev is_named_interface : Resolve → Option ℕ → Bool
+    is_named_interface r o = option_map_or (λ i. option_map_or (λ other. is_some other.name) (interface_at r i) false) o false
+
+    named_interface : (o : TypeOwner) → carries_owner f o ≡ true → is_named_interface r (owner_interface o) ≡ true → is_named_interface s (owner_interface (owner_under f o)) ≡ true
+    named_interface (owner.World id) c h = h
+    named_interface owner.None c h = h
+    named_interface (owner.Interface id) c h =
+        let i = is.interfaces id.0 c in
+        ap (λ x. option_map_or (λ other. is_some other.name) x false) i.at_image
+        ∙ (named_alike i.image.name i.old.name i.name
+        ∙ (sym (ap (λ x. option_map_or (λ other. is_some other.name) x false) i.found) ∙ h))
+
+    negated : (a b : Bool) → (a ≡ true → b ≡ true) → not b ≡ true → not a ≡ true
+    negated true b h e = no_true (sym (ap not (h refl)) ∙ e)
+    negated false b h e = refl
+
+    use_passes : same_owner t.def.owner owner.None ≡ false → is_use r t.def ≡ true → is_use s t.image ≡ true
+    use_passes owned h =
+        ap (λ o. option_map_or (λ m. option_map_or (λ target. not (same_owner target.owner t.image.owner) && is_named_interface s (owner_interface target.owner)) (type_at s m) false) o false)
+        (alias_same f.types t.def.kind t.image.kind k.kind.kinds)
+        ∙ target (alias_target t.def.kind) (alias_of_all f.carries_type t.def.kind parts) h
+      where
+        target : (o : Option ℕ) → passes f.carries_type o ≡ true
+            → option_map_or (λ m. option_map_or (λ target. not (same_owner target.owner t.def.owner) && is_named_interface r (owner_interface target.owner)) (type_at r m) false) o false ≡ true
+            → option_map_or (λ m. option_map_or (λ target. not (same_owner target.owner t.image.owner) && is_named_interface s (owner_interface target.owner)) (type_at s m) false)
+            (option_map f.types o) false ≡ true
+        target None c h = h
+        target (Some m) c h =
+            let u = is.types m c in
+            let old : (not (same_owner u.def.owner t.def.owner) && is_named_interface r (owner_interface u.def.owner)) ≡ true =
+            sym (ap (λ x. option_map_or (λ target. not (same_owner target.owner t.def.owner) && is_named_interface r (owner_interface target.owner)) x false) u.found) ∙ h in
+            ap (λ x. option_map_or (λ target. not (same_owner target.owner t.image.owner) && is_named_interface s (owner_interface target.owner)) x false) u.at_image
+            ∙ both _ _
+            ((λ i. not (same_owner (u.home i) (t.home i)))
+            ∙ negated (same_owner (owner_under f u.def.owner) (owner_under f t.def.owner)) (same_owner u.def.owner t.def.owner)
+            (owner_apart r s f valid is below_s t.def.owner u.def.owner u.carries_home (copied_alone t.def.owner k.home owned))
+            (first_true _ _ old))
+            (ap (λ x. is_named_interface s (owner_interface x)) u.home ∙ named_interface u.def.owner u.carries_home (second_true (not (same_owner u.def.owner t.def.owner)) _ old))
+
+    abbrev first_test : Bool
+    first_test = same_owner t.image.owner owner.None
+
+    abbrev second_test : Bool
+    second_test = list_all (has_owner s t.image.owner) (used_by_type s t.image)
+
+    abbrev third_test : Bool
+    third_test = is_some t.image.name && is_use s t.image
+
+    pub stay_passes : owners.type_ s (f.types n) t.image ≡ true
+    unfolding owners
+    stay_passes = go (same_owner t.def.owner owner.None) (list_all (has_owner r t.def.owner) (used_by_type r t.def)) (is_some t.def.name) (is_use r t.def) refl refl refl refl
+        (type_passes owners r valid.owners n t.def t.found)
+      where
+        go : (a b c d : Bool) → same_owner t.def.owner owner.None ≡ a → list_all (has_owner r t.def.owner) (used_by_type r t.def) ≡ b → is_some t.def.name ≡ c → is_use r t.def ≡ d
+            → (a || (b || (c && d))) ≡ true → (first_test || (second_test || third_test)) ≡ true
+        go true b c d p q u v h = or_left first_test (second_test || third_test) (ap (λ o. same_owner o owner.None) t.home ∙ (unowned t.def.owner ∙ p))
+        go false true c d p q u v h =
+            or_right first_test (second_test || third_test) (or_left second_test third_test
+            ((λ i. list_all (has_owner s (t.home i)) (used_there i)) ∙ all_owned t.def.owner (used_by_type r t.def) used q))
+        go false false true true p q u v h = or_right first_test (second_test || third_test)
+            (or_right second_test third_test (both _ _ (named_alike t.image.name t.def.name t.name ∙ u) (use_passes p v)))
+        go false false _ _ p q u v h = no_true h
+
+  -- an unnamed type is copied
+  unnamed_kind : (n : ℕ) (t : IsType r s f n) → is_none t.def.name ≡ true → (is_none t.image.name ≡ true) × HasImageKind f.types f.carries_type t.def t.image
+  unnamed_kind n t h =
+      let none = none_is t.def.name h in
+      (none_alike t.image.name t.def.name t.name none, image_kind r s f valid is below_s t.def t.image none t.kind)
+
+  type_is_there : (p q : TypeDef → Bool) → ((n : ℕ) (t : IsType r s f n) → p t.def ≡ true → q t.image ≡ true)
+      → (x : ValueType) → list_all f.carries_type (option_to_list (number_of x)) ≡ true → type_is r p x ≡ true → type_is s q (renamed_type f.types x) ≡ true
+  type_is_there p q one x c h = ap (λ o. option_map_or (λ n. option_map_or q (type_at s n) false) o false) (number_under f.types x) ∙ go (number_of x) c h
+    where
+      go : (o : Option ℕ) → list_all f.carries_type (option_to_list o) ≡ true → option_map_or (λ n. option_map_or p (type_at r n) false) o false ≡ true
+          → option_map_or (λ n. option_map_or q (type_at s n) false) (option_map f.types o) false ≡ true
+      go None c h = h
+      go (Some n) c h =
+          let t = is.types n (first_true _ _ c) in
+          ap (λ d. option_map_or q d false) t.at_image ∙ one n t (sym (ap (λ d. option_map_or p d false) t.found) ∙ h)
+
+  own_there : (m n : ℕ) (t : IsType r s f n) → is_own_of m t.def ≡ true → is_own_of (f.types m) t.image ≡ true
+  own_there m n t h =
+      let u = unnamed_kind n t (first_true _ _ h) in
+      both _ _ u.0 (own_kept f.types t.def.kind t.image.kind u.1.kinds m (second_true (is_none t.def.name) _ h))
+
+  borrow_there : (m n : ℕ) (t : IsType r s f n) → is_borrow_of m t.def ≡ true → is_borrow_of (f.types m) t.image ≡ true
+  borrow_there m n t h =
+      let u = unnamed_kind n t (first_true _ _ h) in
+      both _ _ u.0 (borrow_kept f.types t.def.kind t.image.kind u.1.kinds m (second_true (is_none t.def.name) _ h))
+
+  result_there : (m n : ℕ) (t : IsType r s f n) → is_result_of_own r m t.def ≡ true → is_result_of_own s (f.types m) t.image ≡ true
+  result_there m n t h =
+      let u = unnamed_kind n t (first_true _ _ h) in
+      both _ _ u.0
+      (ok_by_view s (f.types m) t.image.kind
+      ∙ (ap (λ v. option_map_or (type_is s (is_own_of (f.types m))) (view_ok v) false) u.1.kinds
+      ∙ (ap (λ o. option_map_or (type_is s (is_own_of (f.types m))) o false) (ok_under f.types (kind_view t.def.kind))
+      ∙ go (view_ok (kind_view t.def.kind)) (ok_of_all f.carries_type t.def.kind (members_of_all f.carries_type t.def.kind (kind_carried r s f valid is below_s t.def t.image u.1)))
+      (sym (ok_by_view r m t.def.kind) ∙ second_true (is_none t.def.name) _ h))))
+    where
+      go : (o : Option ValueType) → passes (λ t. list_all f.carries_type (option_to_list (number_of t))) o ≡ true → option_map_or (type_is r (is_own_of m)) o false ≡ true
+          → option_map_or (type_is s (is_own_of (f.types m))) (option_map (renamed_type f.types) o) false ≡ true
+      go None c h = h
+      go (Some x) c h = type_is_there (is_own_of m) (is_own_of (f.types m)) (own_there m) x c h
+
+  -- the name of a resource
+  pub resource_named : (o : TypeOwner) (n : ℕ) → f.carries_type n ≡ true → (name : Text) → resource_name r o n ≡ Some name → resource_name s (owner_under f o) (f.types n) ≡ Some name
+  resource_named o n c name h =
+      ap (option_and_then (λ def. if is_resource_itself def.kind && same_owner def.owner (owner_under f o) then optional_text def.name else None)) t.at_image
+      ∙ go (is_resource_itself t.def.kind) (same_owner t.def.owner o) refl refl
+      (sym (ap (option_and_then (λ def. if is_resource_itself def.kind && same_owner def.owner o then optional_text def.name else None)) t.found) ∙ h)
+    where
+      t : IsType r s f n
+      t = is.types n c
+
+      go : (a b : Bool) → is_resource_itself t.def.kind ≡ a → same_owner t.def.owner o ≡ b → cond (a && b) (optional_text t.def.name) None ≡ Some name
+          → cond (is_resource_itself t.image.kind && same_owner t.image.owner (owner_under f o)) (optional_text t.image.name) None ≡ Some name
+      go true true p q h =
+          (λ i. cond (((alias_there r s f valid is below_s n t).2 ∙ p) i && same_owner ((t.home ∙ ap (owner_under f) (owner_equal t.def.owner o q)) i) (owner_under f o)) (t.name i) None)
+          ∙ (ap (λ b. cond b (optional_text t.def.name) None) (owner_itself (owner_under f o)) ∙ h)
+      go _ _ p q h = absurd cc
+
+  module _ (g h : Function) (c : IsFunctionCopy f g h) where
+    types_there : function_types h ≡ map (renamed_type f.types) (function_types g)
+    types_there =
+        (λ i. params i ++ (ap option_to_list c.result ∙ one_given (renamed_type f.types) g.result) i)
+        ∙ sym (map-append (renamed_type f.types) (map (λ p. p.ty) g.params.items) (option_to_list g.result))
+      where
+        params : map (λ p. p.ty) h.params.items ≡ map (renamed_type f.types) (map (λ p. p.ty) g.params.items)
+        params =
+            sym (map-map (λ (x : Text × ValueType). x.1) (λ p. (text_of p.name, p.ty)) h.params.items)
+            ∙ (ap (map (λ (x : Text × ValueType). x.1)) c.params
+            ∙ (map-map (λ (x : Text × ValueType). x.1) (λ p. (text_of p.name, renamed_type f.types p.ty)) g.params.items
+            ∙ sym (map-map (renamed_type f.types) (λ p. p.ty) g.params.items)))
+
+    names_there : map (λ p. text_of p.name) h.params.items ≡ map (λ p. text_of p.name) g.params.items
+    names_there =
+        sym (map-map (λ (x : Text × ValueType). x.0) (λ p. (text_of p.name, p.ty)) h.params.items)
+        ∙ (ap (map (λ (x : Text × ValueType). x.0)) c.params
+        ∙ map-map (λ (x : Text × ValueType). x.0) (λ p. (text_of p.name, renamed_type f.types p.ty)) g.params.items)
+
+    values_carried : list_all f.carries_type (filter_map number_of (function_types g)) ≡ true
+    values_carried = first_true _ _ (sym (list_all-append f.carries_type (filter_map number_of (function_types g)) (option_to_list (resource_of g.kind))) ∙ c.parts)
+
+    pub resource_carried : passes f.carries_type (resource_of g.kind) ≡ true
+    resource_carried = sym (all_given f.carries_type (resource_of g.kind)) ∙ second_true (list_all f.carries_type (filter_map number_of (function_types g))) _
+        (sym (list_all-append f.carries_type (filter_map number_of (function_types g)) (option_to_list (resource_of g.kind))) ∙ c.parts)
+
+    pub function_numbers_there : function_numbers h ≡ map f.types (function_numbers g)
+    function_numbers_there =
+        (λ i. (ap (filter_map number_of) types_there ∙ numbers_under f.types (function_types g)) i
+        ++ (ap (λ k. option_to_list (resource_of k)) c.kind ∙ (ap option_to_list (resource_under f g.kind) ∙ one_given f.types (resource_of g.kind))) i)
+        ∙ sym (map-append f.types (filter_map number_of (function_types g)) (option_to_list (resource_of g.kind)))
+
+    -- numbers in range
+    pub function_range_passes : function_in_range s h ≡ true
+    function_range_passes =
+        ap (list_all (in_list s.types.items)) function_numbers_there
+        ∙ (list_all-map (in_list s.types.items) f.types (function_numbers g)
+        ∙ all_two f.carries_type f.carries_type (λ n. in_list s.types.items (f.types n)) (λ n d e. let t = is.types n d in lt-ltb _ _ (slice_get_within s.types.items (f.types n) t.image t.at_image))
+        (function_numbers g) c.parts c.parts)
+
+    -- labels
+    pub function_labels_pass : function_labels g ≡ true → function_labels h ≡ true
+    function_labels_pass old =
+        (λ i. (not ((ap is_freestanding c.kind ∙ freestanding_under f g.kind) i) || is_label (c.name i))
+        && (are_member_labels (names_there i) && stability_alike h.stability g.stability c.stability i)) ∙ old
+
+    -- owners
+    pub function_stays_passes : (o : TypeOwner) → function_stays r o g ≡ true → function_stays s (owner_under f o) h ≡ true
+    function_stays_passes o old =
+        let used = used_same r s f valid is below_s (filter_map number_of (function_types g)) values_carried in
+        ap (list_all (has_owner s (owner_under f o))) (ap (flat_map (met_by (met_of s))) (ap (filter_map number_of) types_there ∙ numbers_under f.types (function_types g)) ∙ used.0)
+        ∙ all_owned o (used_by_values r g) used.1 old
+
+    -- all that it uses
+    pub function_uses : (used_by_function s h ≡ map f.types (used_by_function r g)) × (list_all f.carries_type (used_by_function r g) ≡ true)
+    function_uses =
+        let used = used_same r s f valid is below_s (function_numbers g) c.parts in
+        (ap (flat_map (met_by (met_of s))) function_numbers_there ∙ used.0, used.1)
+
+    -- handles
+    pub function_handles_pass : list_all (λ t. not (is_resource_type r t)) (function_types g) ≡ true → list_all (λ t. not (is_resource_type s t)) (function_types h) ≡ true
+    function_handles_pass old =
+        ap (list_all (λ t. not (is_resource_type s t))) types_there
+        ∙ values_pass (λ t. not (is_resource_type r t)) (λ t. not (is_resource_type s t)) (no_resource_passes) (function_types g) values_carried old
+
+    -- depths
+    pub function_depths_pass : list_all (is_shallow r) (function_types g) ≡ true → list_all (is_shallow s) (function_types h) ≡ true
+    function_depths_pass old =
+        ap (list_all (is_shallow s)) types_there
+        ∙ values_pass (is_shallow r) (is_shallow s) (shallow_passes) (function_types g) values_carried old
+
+    -- function names
+    constructs_there : (n : ℕ) → constructs r n g ≡ true → constructs s (f.types n) h ≡ true
+    constructs_there n old = ap (λ o. option_map_or (λ t. type_is s (is_own_of (f.types n)) t || type_is s (is_result_of_own s (f.types n)) t) o false) c.result ∙ go g.result given old
+      where
+        given : list_all f.carries_type (filter_map number_of (option_to_list g.result)) ≡ true
+        given =
+            list_all_filter_map f.carries_type number_of (option_to_list g.result)
+            ∙ second_true (list_all (λ t. list_all f.carries_type (option_to_list (number_of t))) (map (λ p. p.ty) g.params.items)) _
+            (sym (list_all-append (λ t. list_all f.carries_type (option_to_list (number_of t))) (map (λ p. p.ty) g.params.items) (option_to_list g.result))
+            ∙ (sym (list_all_filter_map f.carries_type number_of (function_types g)) ∙ values_carried))
+
+        either : (x : ValueType) → list_all f.carries_type (option_to_list (number_of x)) ≡ true → (a b : Bool) → type_is r (is_own_of n) x ≡ a → type_is r (is_result_of_own r n) x ≡ b
+            → (a || b) ≡ true
+            → (type_is s (is_own_of (f.types n)) (renamed_type f.types x) || type_is s (is_result_of_own s (f.types n)) (renamed_type f.types x)) ≡ true
+        either x d true b p q e = or_left _ _ (type_is_there (is_own_of n) (is_own_of (f.types n)) (own_there n) x d p)
+        either x d false true p q e = or_right (type_is s (is_own_of (f.types n)) (renamed_type f.types x)) _
+            (type_is_there (is_result_of_own r n) (is_result_of_own s (f.types n)) (result_there n) x d q)
+        either x d false false p q e = no_true e
+
+        go : (o : Option ValueType) → list_all f.carries_type (filter_map number_of (option_to_list o)) ≡ true
+            → option_map_or (λ t. type_is r (is_own_of n) t || type_is r (is_result_of_own r n) t) o false ≡ true
+            → option_map_or (λ t. type_is s (is_own_of (f.types n)) t || type_is s (is_result_of_own s (f.types n)) t) (option_map (renamed_type f.types) o) false ≡ true
+        go None d e = e
+        go (Some x) d e = either x (first_true _ _ (sym (list_all_filter_map f.carries_type number_of (x ∷ [])) ∙ d)) (type_is r (is_own_of n) x) (type_is r (is_result_of_own r n) x) refl refl e
+
+    self_there : (n : ℕ) → takes_self r n g ≡ true → takes_self s (f.types n) h ≡ true
+    self_there n old =
+        by_view s h (is_borrow_of (f.types n))
+        ∙ (ap (λ (ps : List (Text × ValueType)). self_view s (is_borrow_of (f.types n)) (slice_get ps 0)) c.params
+        ∙ (ap (self_view s (is_borrow_of (f.types n))) (slice_get-map (λ p. (text_of p.name, renamed_type f.types p.ty)) g.params.items 0)
+        ∙ go g.params.items (first_true _ _ (sym (list_all-append (λ t. list_all f.carries_type (option_to_list (number_of t))) (map (λ p. p.ty) g.params.items) (option_to_list g.result))
+        ∙ (sym (list_all_filter_map f.carries_type number_of (function_types g)) ∙ values_carried))) old))
+      where
+        self_view : Resolve → (TypeDef → Bool) → Option (Text × ValueType) → Bool
+        self_view x test o = option_map_or (λ p. text_eq p.0 (codes "self") && type_is x test p.1) o false
+
+        by_view : (x : Resolve) (k : Function) (test : TypeDef → Bool)
+            → option_map_or (λ p. text_eq (text_of p.name) (codes "self") && type_is x test p.ty) (slice_get k.params.items 0) false ≡ self_view x test
+            (slice_get (map {B = Text × ValueType} (λ p. (text_of p.name, p.ty)) k.params.items) 0)
+        by_view x k test = step k.params.items
+          where
+            step : (ps : List Param)
+                → option_map_or (λ p. text_eq (text_of p.name) (codes "self") && type_is x test p.ty) (slice_get ps 0) false ≡ self_view x test
+                (slice_get (map {B = Text × ValueType} (λ p. (text_of p.name, p.ty)) ps) 0)
+            step [] = refl
+            step (p ∷ ps) = refl
+
+        go : (ps : List Param) → list_all (λ t. list_all f.carries_type (option_to_list (number_of t))) (map (λ p. p.ty) ps) ≡ true
+            → option_map_or (λ p. text_eq (text_of p.name) (codes "self") && type_is r (is_borrow_of n) p.ty) (slice_get ps 0) false ≡ true
+            → self_view s (is_borrow_of (f.types n)) (option_map (λ p. (text_of p.name, renamed_type f.types p.ty)) (slice_get ps 0)) ≡ true
+        go [] d e = e
+        go (p ∷ ps) d e = both _ _ (first_true _ _ e) (type_is_there (is_borrow_of n) (is_borrow_of (f.types n)) (borrow_there n) p.ty (first_true _ _ d)
+            (second_true (text_eq (text_of p.name) (codes "self")) _ e))
+
+    pub member_passes : (o : TypeOwner) → is_member r o g ≡ true → is_member s (owner_under f o) h ≡ true
+    member_passes o old =
+        ap (passes (λ n. option_map_or (λ name. is_member_of s n name h h.kind) (resource_name s (owner_under f o) n) false)) (ap resource_of c.kind ∙ resource_under f g.kind)
+        ∙ go (resource_of g.kind) resource_carried old
+      where
+        of : (n : ℕ) (name : Text) (k : FunctionKind) → is_member_of r n name g k ≡ true → is_member_of s (f.types n) name h (call_under f k) ≡ true
+        of n name call.Freestanding e = refl
+        of n name call.AsyncFreestanding e = refl
+        of n name (call.Method id) e = both _ _ (ap (λ t. option_map_or is_label (after_prefix (method_name name []) t) false) c.name ∙ first_true _ _ e)
+            (self_there n (second_true (is_member_name (method_name name []) g) _ e))
+        of n name (call.AsyncMethod id) e = both _ _ (ap (λ t. option_map_or is_label (after_prefix (method_name name []) t) false) c.name ∙ first_true _ _ e)
+            (self_there n (second_true (is_member_name (method_name name []) g) _ e))
+        of n name (call.Static id) e = ap (λ t. option_map_or is_label (after_prefix (static_name name []) t) false) c.name ∙ e
+        of n name (call.AsyncStatic id) e = ap (λ t. option_map_or is_label (after_prefix (static_name name []) t) false) c.name ∙ e
+        of n name (call.Constructor id) e = both _ _ (ap (λ t. text_eq t (constructor_name name)) c.name ∙ first_true _ _ e)
+            (constructs_there n (second_true (text_eq (text_of g.name) (constructor_name name)) _ e))
+
+        named : (n : ℕ) → f.carries_type n ≡ true → (x : Option Text) → resource_name r o n ≡ x → option_map_or (λ name. is_member_of r n name g g.kind) x false ≡ true
+            → option_map_or (λ name. is_member_of s (f.types n) name h h.kind) (resource_name s (owner_under f o) (f.types n)) false ≡ true
+        named n d None e old = no_true old
+        named n d (Some name) e old =
+            ap (λ x. option_map_or (λ name. is_member_of s (f.types n) name h h.kind) x false) (resource_named o n d name e)
+            ∙ (ap (is_member_of s (f.types n) name h) c.kind ∙ of n name g.kind old)
+
+        go : (x : Option ℕ) → passes f.carries_type x ≡ true → passes (λ n. option_map_or (λ name. is_member_of r n name g g.kind) (resource_name r o n) false) x ≡ true
+            → passes (λ n. option_map_or (λ name. is_member_of s n name h h.kind) (resource_name s (owner_under f o) n) false) (option_map f.types x) ≡ true
+        go None d e = refl
+        go (Some n) d e = named n d (resource_name r o n) refl e
+
+  interface_there : (n : ℕ) → f.carries_interface n ≡ true → in_list s.interfaces.items (f.interfaces n) ≡ true
+  interface_there n c = let i = is.interfaces n c in lt-ltb _ _ (slice_get_within s.interfaces.items (f.interfaces n) i.image i.at_image)
+
+  -- numbers in range
+  key_range : (k l : WorldKey) → KeyBecomes f k l → key_in_range s l ≡ true
+  key_range (key.Name a) (key.Name b) z = refl
+  key_range (key.Interface a) (key.Interface b) z = ap (in_list s.interfaces.items) z.0 ∙ interface_there a.0 z.1
+  key_range _ _ z = absurd z
+
+  item_range : (i j : WorldItem) → ItemBecomes f i j → item_in_range s j ≡ true
+  item_range (item.Interface a st docs ext) (item.Interface b st2 docs2 ext2) z = ap (in_list s.interfaces.items) z.0 ∙ interface_there a.0 z.1
+  item_range (item.Function g) (item.Function h) z = function_range_passes g h z
+  item_range (item.Type_ a) (item.Type_ b) z = let t = is.types a.0 (is.copied_types a.0 z.1) in
+      ap (in_list s.types.items) z.0 ∙ lt-ltb _ _ (slice_get_within s.types.items (f.types a.0) t.image t.at_image)
+  item_range _ _ z = absurd z
+
+  pub entry_range : (a b : WorldKey × WorldItem) → EntryBecomes f a b → true ≡ true → (key_in_range s b.0 && item_in_range s b.1) ≡ true
+  entry_range a b z h = both _ _ (key_range a.0 b.0 z.0) (item_range a.1 b.1 z.1)
+
+  -- labels
+  key_label_passes : (k l : WorldKey) (i j : WorldItem) → KeyBecomes f k l → ItemBecomes f i j → key_label k i ≡ true → key_label l j ≡ true
+  key_label_passes (key.Interface a) (key.Interface b) i j z y h = refl
+  key_label_passes (key.Name a) (key.Name b) (item.Interface c st docs ext) (item.Interface d st2 docs2 ext2) z y h = ap is_label z ∙ h
+  key_label_passes (key.Name a) (key.Name b) (item.Function g) (item.Function k) z y h = (λ i. not ((ap is_freestanding y.kind ∙ freestanding_under f g.kind) i) || is_label (z i)) ∙ h
+  key_label_passes (key.Name a) (key.Name b) (item.Type_ c) (item.Type_ d) z y h = ap is_label z ∙ h
+  key_label_passes (key.Name a) (key.Name b) _ _ z y h = absurd y
+  key_label_passes _ _ i j z y h = absurd z
+
+  item_labels_pass : (i j : WorldItem) → ItemBecomes f i j → item_labels i ≡ true → item_labels j ≡ true
+  item_labels_pass (item.Interface a st docs ext) (item.Interface b st2 docs2 ext2) z h = stability_alike st2 st z.2 ∙ h
+  item_labels_pass (item.Function g) (item.Function k) z h = function_labels_pass g k z h
+  item_labels_pass (item.Type_ a) (item.Type_ b) z h = refl
+  item_labels_pass _ _ z e = absurd z
+
+  pub entry_labels : (a b : WorldKey × WorldItem) → EntryBecomes f a b → (key_label a.0 a.1 && item_labels a.1) ≡ true → (key_label b.0 b.1 && item_labels b.1) ≡ true
+  entry_labels a b z h = both _ _ (key_label_passes a.0 b.0 a.1 b.1 z.0 z.1 (first_true _ _ h)) (item_labels_pass a.1 b.1 z.1 (second_true (key_label a.0 a.1) _ h))
+
+  -- what is asked of a function
+  pub entry_function : (p q : Function → Bool) → ((g h : Function) → IsFunctionCopy f g h → p g ≡ true → q h ≡ true) → (i j : WorldItem) → ItemBecomes f i j
+      → list_all p (option_to_list (item_function i)) ≡ true → list_all q (option_to_list (item_function j)) ≡ true
+  entry_function p q one (item.Function g) (item.Function h) z e = both _ _ (one g h z (first_true _ _ e)) refl
+  entry_function p q one (item.Interface a st docs ext) (item.Interface b st2 docs2 ext2) z e = refl
+  entry_function p q one (item.Type_ a) (item.Type_ b) z e = refl
+  entry_function p q one _ _ z e = absurd z
+
+  -- function names
+  name_key_passes : (s t : Text) → t ≡ s → (k l : WorldKey) → KeyBecomes f k l → is_name_key s k ≡ true → is_name_key t l ≡ true
+  name_key_passes s t e (key.Name a) (key.Name b) z h = (λ i. text_eq (z i) (e i)) ∙ h
+  name_key_passes s t e (key.Interface a) (key.Interface b) z h = no_true h
+  name_key_passes s t e _ _ z h = absurd z
+
+  pub entry_member : (n : ℕ) → (a b : WorldKey × WorldItem) → EntryBecomes f a b → passes (λ g. is_name_key (text_of g.name) a.0 && is_member r (as_world n) g) (item_function a.1) ≡ true
+      → passes (λ g. is_name_key (text_of g.name) b.0 && is_member s (as_world (f.worlds n)) g) (item_function b.1) ≡ true
+  entry_member n (k, item.Function g) (l, item.Function h) z e =
+      both _ _ (name_key_passes (text_of g.name) (text_of h.name) z.1.name k l z.0 (first_true _ _ e))
+      (member_passes g h z.1 (as_world n) (second_true (is_name_key (text_of g.name) k) _ e))
+  entry_member n (k, item.Interface a st docs ext) (l, item.Interface b st2 docs2 ext2) z e = refl
+  entry_member n (k, item.Type_ a) (l, item.Type_ b) z e = refl
+  entry_member n _ _ z e = absurd z.1
+
+  -- world items
+  interface_key_passes : (m k : ℕ) → k ≡ f.interfaces m → f.carries_interface m ≡ true → (i j : WorldItem) → ItemBecomes f i j → is_interface_key r m i ≡ true → is_interface_key s k j ≡ true
+  interface_key_passes m k e c i j z h = both _ _ (one i j z (first_true _ _ h))
+      (ap (λ x. passes (λ other. is_some other.name) (interface_at s x)) e
+      ∙ (ap (passes (λ other. is_some other.name)) v.at_image ∙ (named_alike v.image.name v.old.name v.name
+      ∙ (sym (ap (passes (λ other. is_some other.name)) v.found) ∙ second_true (is_id m (item_interface i)) _ h))))
+    where
+      v : IsInterface r s f m
+      v = is.interfaces m c
+
+      one : (i j : WorldItem) → ItemBecomes f i j → is_id m (item_interface i) ≡ true → is_id k (item_interface j) ≡ true
+      one (item.Interface a st docs ext) (item.Interface b st2 docs2 ext2) z h =
+          (λ x. z.0 x == e x) ∙ subst (λ (x : ℕ). (f.interfaces a.0 == f.interfaces x) ≡ true) (equal a.0 m h) (same-number (f.interfaces a.0))
+      one (item.Interface a st docs ext) _ z h = absurd z
+      one _ _ z h = no_true h
+
+  own_type_passes : (n : ℕ) (a b : String Global) → text_of b ≡ text_of a → (m k : ℕ) → k ≡ f.types m → f.copies_type m ≡ true → is_own_type r n (key.Name a) m ≡ true
+      → is_own_type s (f.worlds n) (key.Name b) k ≡ true
+  own_type_passes n a b same m k e c h =
+      let t = is.types m (is.copied_types m c) in
+      let old : (text_is t.def.name (text_of a) && same_owner t.def.owner (as_world n)) ≡ true =
+      sym (ap (passes (λ def. text_is def.name (text_of a) && same_owner def.owner (as_world n))) t.found) ∙ h in
+      ap (λ x. passes (λ def. text_is def.name (text_of b) && same_owner def.owner (as_world (f.worlds n))) (type_at s x)) e
+      ∙ (ap (passes (λ def. text_is def.name (text_of b) && same_owner def.owner (as_world (f.worlds n)))) t.at_image
+      ∙ both _ _ (ap (text_is t.image.name) same ∙ (text_alike t.image.name t.def.name (text_of a) t.name ∙ first_true _ _ old))
+      (ap (λ x. same_owner x (as_world (f.worlds n))) (t.home ∙ ap (owner_under f) (owner_equal t.def.owner (as_world n) (second_true (text_is t.def.name (text_of a)) _ old))) ∙ owner_itself
+      (as_world (f.worlds n))))
+
+  pub entry_import_stands : (n : ℕ) → (a b : WorldKey × WorldItem) → EntryBecomes f a b → import_stands r n a.0 a.1 ≡ true → import_stands s (f.worlds n) b.0 b.1 ≡ true
+  entry_import_stands n (key.Interface a, i) (key.Interface b, j) z h = interface_key_passes a.0 b.0 z.0.0 z.0.1 i j z.1 h
+  entry_import_stands n (key.Name a, item.Interface c st docs ext) (key.Name b, item.Interface d st2 docs2 ext2) z h = refl
+  entry_import_stands n (key.Name a, item.Function g) (key.Name b, item.Function k) z h = refl
+  entry_import_stands n (key.Name a, item.Type_ c) (key.Name b, item.Type_ d) z h = own_type_passes n a b z.0 c.0 d.0 z.1.0 z.1.1 h
+  entry_import_stands n (key.Name a, _) (key.Name b, _) z h = absurd z.1
+  entry_import_stands n _ _ z h = absurd z.0
+
+  pub entry_export_stands : (a b : WorldKey × WorldItem) → EntryBecomes f a b → export_stands r a.0 a.1 ≡ true → export_stands s b.0 b.1 ≡ true
+  entry_export_stands (key.Interface a, i) (key.Interface b, j) z h = interface_key_passes a.0 b.0 z.0.0 z.0.1 i j z.1 h
+  entry_export_stands (key.Name a, item.Interface c st docs ext) (key.Name b, item.Interface d st2 docs2 ext2) z h = refl
+  entry_export_stands (key.Name a, item.Function g) (key.Name b, item.Function k) z h = ap is_freestanding z.1.kind ∙ (freestanding_under f g.kind ∙ h)
+  entry_export_stands (key.Name a, item.Type_ c) (key.Name b, item.Type_ d) z h = no_true h
+  entry_export_stands (key.Name a, _) (key.Name b, _) z h = absurd z.1
+  entry_export_stands _ _ z h = absurd z.0
