@@ -33,7 +33,7 @@ use Rattle.plan_laws.specs.ShownRules.{ViewObeys}
 use Rattle.plan_laws.specs.Whole.{IsPackageInput}
 use Rattle.plan_laws.specs.WorldItems.{WorldsAreApart}
 use Rattle.plan_laws.proofs.Inside.{flat_cases}
-use Rattle.plan_laws.proofs.Origins.{view_among}
+use Rattle.plan_laws.proofs.Sources.{view_among}
 use Rattle.plan_laws.proofs.PlaceNumbers.{IsOnce, from_joined}
 use Rattle.plan_laws.proofs.Planned.{home_alone}
 use Rattle.plan_laws.proofs.ShownFrom.{IsWorldOf, world_of}

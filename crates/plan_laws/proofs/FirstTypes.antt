@@ -28,9 +28,8 @@ use Rattle.plan_laws.specs.Owners.{homes_in}
 use Rattle.plan_laws.specs.ShownNames.{IsInput, PartDeclaresNames, DeclaresName}
 use Rattle.plan_laws.proofs.FirstViews.{first_is, one_told, sight_there}
 use Rattle.plan_laws.proofs.Inside.{flat_cases}
-use Rattle.plan_laws.proofs.Origins as origins
-use Rattle.plan_laws.proofs.Origins.{origin, view_among}
-use Rattle.plan_laws.proofs.PartNames.{views_are_good}
+use Rattle.plan_laws.proofs.Sources as origins
+use Rattle.plan_laws.proofs.Sources.{member_view_in, origin, view_among}
 use Rattle.plan_laws.proofs.Planned.{home_met}
 use Rattle.plan_laws.proofs.Showings.{slot_is}
 use Rattle.base_lemmas.proofs.Elements.{all_at}
@@ -43,10 +42,7 @@ module _ (t : Tables) (h : Homes) (ms : List Member) (members : List reads.Membe
 
   -- each view is good
   pub view_good : (s : NumberedSight) → Contains views s → IsViewIn t s.place s.view
-  view_good s c =
-      let from = flat_cases (λ (m : NumberedMember). views_of_part m.part) (numbered_members ms) s c in
-      all_at (λ (x : NumberedSight). IsViewIn t x.place x.view) (views_of_part from.0.part)
-      (views_are_good t input.tables h input.homes from.0.part (all_at (λ (m : NumberedMember). IsPartIn t m.part) (numbered_members ms) input.numbers from.0 from.1)) s from.2
+  view_good s c = member_view_in t ms input.numbers s c
 
   -- all views of a place tell the same
   pub views_told : (s u : NumberedSight) → Contains views s → Contains views u → s.place ≡ u.place → map told s.view.types ≡ map told u.view.types

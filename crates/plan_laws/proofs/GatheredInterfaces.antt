@@ -41,7 +41,7 @@ use Rattle.plan_laws.proofs.FirstViews.{first_is}
 use Rattle.plan_laws.proofs.GatheredSights.{IsGatheredFrom, IsGatheredOne, gathered, gathered_from, left_out}
 use Rattle.plan_laws.proofs.Inside.{flat_cases}
 use Rattle.plan_laws.proofs.ListedFunctions.{functions_listed, seen_same}
-use Rattle.plan_laws.proofs.Origins.{view_among}
+use Rattle.plan_laws.proofs.Sources.{view_among}
 use Rattle.plan_laws.proofs.PlaceNumbers.{one_owner, owner_numbered, place_number}
 use Rattle.plan_laws.proofs.Planned.{first_there, interface_there, view_met}
 use Rattle.plan_laws.proofs.ShownWhole.{sight_viewed}

@@ -1,5 +1,7 @@
 -- Which types stand inside a part: what is used is inside a part that is used to begin with. Serves Apart, FirstTypes, FirstViews, GatheredInterfaces and 25 more; crates above.
 pub mod Inside
+-- Where what is shown stands: a type in a view or as an import of a world, and a function in a whole view or in a world.
+pub mod Sources
 -- A name that stands inside a part is one of those that are met in its tree. Serves PartNames, ViewNames.
 pub mod MetNames
 -- A name that is met in a view was shown in its own place. Serves Owned, PartNames, ShownNames, Viewed and 1 more.
@@ -10,8 +12,6 @@ pub mod PartNames
 pub mod ShownNames
 -- Each type that is shown is a name of the table, behind what it is declared as. Serves FirstDeclared, FirstTypes, InterfaceFunctions, Origins and 11 more; crates above.
 pub mod Showings
--- Where what is shown of a type stands: in a view, or as an import of a world. Serves Apart, FirstTypes, GatheredInterfaces, GatheredWorlds and 2 more.
-pub mod Origins
 -- Places by their numbers, and the owner of each. Serves Apart, FirstPlaces, GatheredInterfaces, Owned and 15 more; crates above.
 pub mod PlaceNumbers
 -- What is known of a plan that was made of what was followed: where names are shown, and the interface of each place. Serves Apart, FirstTypes, GatheredInterfaces, ListedFunctions and 15 more; crates

@@ -32,7 +32,7 @@ use Rattle.plan_laws.specs.WholeTypes.{IsRuledInput}
 use Rattle.plan_laws.proofs.FirstDeclared.{shown_alike}
 use Rattle.plan_laws.proofs.Inside.{flat_cases}
 use Rattle.plan_laws.proofs.OwnPlaces.{Owned, a_view, a_world, frames, one_owned}
-use Rattle.plan_laws.proofs.PartNames.{views_are_good}
+use Rattle.plan_laws.proofs.Sources.{member_view_in}
 use Rattle.plan_laws.proofs.SameFunctions.{IsOnce, function_shared}
 use Rattle.plan_laws.proofs.ShownFrom.{IsFrom, of_import, of_view, shown_from, view_frame, world_of}
 use Rattle.plan_laws.proofs.Showings.{slot_is}
@@ -82,10 +82,7 @@ module _ (t : Tables) (h : Homes) (known : ℕ → Fact) (n : ℕ) (ms : List Me
 
   -- what is shown is of its place
   pub view_good : (s : NumberedSight) → Contains views s → IsViewIn t s.place s.view
-  view_good s c =
-      let from = flat_cases (λ (m : NumberedMember). views_of_part m.part) numbered s c in
-      all_at (λ (x : NumberedSight). IsViewIn t x.place x.view) (views_of_part from.0.part)
-      (views_are_good t given.input.tables h given.input.homes from.0.part (all_at (λ (m : NumberedMember). IsPartIn t m.part) numbered given.input.numbers from.0 from.1)) s from.2
+  view_good s c = member_view_in t ms given.input.numbers s c
 
   -- the names of a view's types differ
   pub types_once : (s : NumberedSight) → Contains views s → distinct (map (λ (x : NumberedType). x.name) s.view.types) ≡ true

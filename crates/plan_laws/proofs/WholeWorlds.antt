@@ -57,7 +57,6 @@ use Rattle.plan_laws.specs.WorldItems.{KeysAreApart, WorldIsPlanned, WorldsAreAp
 use Rattle.plan_laws.proofs.FollowedItems.{items, items_at, items_behind, items_listed, items_seen, parts_back, seen_resource, types_behind}
 use Rattle.plan_laws.proofs.PlaceNumbers.{one_owner}
 use Rattle.plan_laws.proofs.ShownFrom.{IsWorldOf, world_of}
-use Rattle.plan_laws.proofs.ShownRules.{no_types}
 use Rattle.plan_laws.proofs.Showings.{all_given}
 use Rattle.plan_laws.proofs.WholeTypes.{packages_are_ruled}
 use Rattle.plan_laws.proofs.WorldItems.{planned_worlds_stand, world_member}
@@ -256,9 +255,6 @@ module _ (t : Tables) (h : Homes) (known : ℕ → Fact) (n : ℕ) (ms : List Me
             let one : last.number ≡ type_.0 = given.input.tables.shapes.apart last.number type_.0 (named_shape scope.home s.key.now) last.shape type_.2 in
             read.a_type d i (ap numbered_shown shows) is (record { number = type_.0; stands = type_.1; shape = type_.2; becomes = type_.3; last = last.last ∙ ap (λ k. k + 1) one })
 
-    none_exported : AllByRecursion (λ (c : Seen). scopes.is_type (shown_of t (numbered_shown c.shown)) ≡ false) w.1.exports.now
-    none_exported = no_types t given.input.tables w.1 world.scope world.shows world.good world.declares world.stands
-
     export_item : (j : ℕ) (s : Seen) → slice_get w.1.exports.now j ≡ Some s → (e : PlannedKey × PlannedItem) → Contains (items_of x) e.1 → Plans s e
         → Item (record { seen = numbered_seen s; entry = e; count = length t.shapes })
     export_item j s at_s e e_in plans = by plans
@@ -283,8 +279,7 @@ module _ (t : Tables) (h : Homes) (known : ℕ → Fact) (n : ℕ) (ms : List Me
             (parts_weaker (IsMetFrom t scope.home) (λ k. k < 14 + length t.shapes) (λ k met. met.range) (function_at t f) called.parts)
             (λ r after k shape. slice_get_within t.shapes k (named_shape scope.home r) shape)
         by (a_type part d i shows is part_is) =
-            no_true (sym (all_at (λ (c : Seen). scopes.is_type (shown_of t (numbered_shown c.shown)) ≡ false) w.1.exports.now none_exported s in_it) ∙ ap
-            (λ y. scopes.is_type (shown_of t (numbered_shown y))) shows)
+            no_true (sym (all_at (λ (c : Seen). is_type_seen (numbered_shown c.shown) ≡ false) w.1.exports.now world.none s in_it) ∙ ap (λ y. is_type_seen (numbered_shown y)) shows)
 
     -- ---- the world
 
@@ -335,12 +330,7 @@ module _ (t : Tables) (h : Homes) (known : ℕ → Fact) (n : ℕ) (ms : List Me
     no_type = all_by_number (λ (s : NumberedSeen). not (is_type_seen s.shown)) scope.exports (λ j y e.
         let c = unmapped_get numbered_seen w.1.exports.now j y e in
         subst (λ (s : NumberedSeen). not (is_type_seen s.shown) ≡ true) c.2
-        (by c.0.shown (all_at (λ (s : Seen). scopes.is_type (shown_of t (numbered_shown s.shown)) ≡ false) w.1.exports.now none_exported c.0 (get-contains w.1.exports.now j c.0 c.1))))
-      where
-        by : (y : Shown) → scopes.is_type (shown_of t (numbered_shown y)) ≡ false → not (is_type_seen (numbered_shown y)) ≡ true
-        by (shown.Instance k v) e = refl
-        by (shown.Function f) e = refl
-        by (shown.Declares part d) e = no_true (sym e)
+        (ap not (all_at (λ (s : Seen). is_type_seen (numbered_shown s.shown) ≡ false) w.1.exports.now world.none c.0 (get-contains w.1.exports.now j c.0 c.1))))
 
     world_read : (y : IsReadWorld t kept p b (views_read ms) m x) × IsReadAs ms m y.scope
     world_read =

@@ -11,7 +11,7 @@ use Rattle.wit_model.specs.Uses.{has}
 use Rattle.wit_model.specs.Valid.{as_interface, as_world}
 use Rattle.wit_model.proofs.Elements.{contains-flat, contains-get, has-contains, none-in}
 use Rattle.comp_meaning.specs.Reads as reads
-use Rattle.plan_meaning.specs.FollowedNumbers.{IsOneOf, IsPartIn, IsShownIn}
+use Rattle.plan_meaning.specs.FollowedNumbers.{IsNameOf, IsPartIn, IsShownIn}
 use Rattle.plan_meaning.specs.GatheredPlan.{DeclaresKind, TypeBecomes}
 use Rattle.plan_meaning.specs.NumberedMembers.{Homes, NumberedMember, home_at, sights_of_members}
 use Rattle.plan_meaning.specs.NumberedViews.{NumberedSight, Tables, agree_in_numbers, same_shown}
@@ -47,12 +47,12 @@ use Rattle.plan_laws.specs.WorldItems.{InstancesAreRead, KeysAreApart, PlannedWo
 use Rattle.plan_laws.proofs.FirstTypes.{view_good, views_told}
 use Rattle.plan_laws.proofs.FirstViews.{first_is, told_types}
 use Rattle.plan_laws.proofs.Inside.{flat_cases}
-use Rattle.plan_laws.proofs.Origins as origins
-use Rattle.plan_laws.proofs.Origins.{origin, view_among}
+use Rattle.plan_laws.proofs.Sources as origins
+use Rattle.plan_laws.proofs.Sources.{origin, seen_sight, sight_of, view_among, world_in}
 use Rattle.plan_laws.proofs.Owned.{planned_name}
 use Rattle.plan_laws.proofs.PlaceNumbers.{IsOnce, number_given}
 use Rattle.plan_laws.proofs.Planned.{first_there, interface_there, place_seen}
-use Rattle.plan_laws.proofs.Showings.{slot_is}
+use Rattle.plan_laws.proofs.Showings.{import_named, slot_is}
 use Rattle.base_lemmas.proofs.Elements.{all_at, contains-map, contains-one, get-contains, last_of as one-contained}
 use Rattle.base_lemmas.proofs.Lists.{front_at as at_front, get_back as unmapped_get, mapped_get, middle_get, within_there as slice_there}
 use Rattle.std.proofs.lemmas.Slice.Zip.{AllZip-long as zip_length}
@@ -165,38 +165,18 @@ module _ (t : Tables) (h : Homes) (ms : List Member) (members : List reads.Membe
     member = world_member ms w (get-contains (worlds_in ms) m w at)
 
     good : IsPartIn t (numbered_part (parts.World w.1))
-    good = subst (λ a. IsPartIn t (numbered_part a)) member.2 (all_at (λ (x : NumberedMember). IsPartIn t x.part) (numbered_members ms) input.numbers (numbered_member member.0)
-        (contains-map numbered_member ms member.0 member.1))
-
-    named : AllByRecursion (DeclaresName t w.1.home) w.1.imports.now
-    named = subst (PartDeclaresNames t) member.2 (all_at (λ (x : Member). PartDeclaresNames t x.part) ms input.declared member.0 member.1)
+    good = (world_in t h ms members input member.0 member.1 w.1 member.2).good
 
     -- ---- instances
-
-    one_of : (s : Seen) → Contains w.1.imports.now s ⊎ Contains w.1.exports.now s → IsOneOf t (map numbered_instance w.1.instances.now) (numbered_shown s.shown)
-    one_of s (inl c) = all_at (λ (x : NumberedSeen). IsOneOf t (map numbered_instance w.1.instances.now) x.shown) (map numbered_seen w.1.imports.now) good.imported (numbered_seen s)
-        (contains-map numbered_seen w.1.imports.now s c)
-    one_of s (inr c) = all_at (λ (x : NumberedSeen). IsOneOf t (map numbered_instance w.1.instances.now) x.shown) (map numbered_seen w.1.exports.now) good.exported (numbered_seen s)
-        (contains-map numbered_seen w.1.exports.now s c)
-
-    view_there : (s : Seen) → Contains w.1.imports.now s ⊎ Contains w.1.exports.now s → (key : InstanceKey) (v : View) → s.shown ≡ shown.Instance key v
-        → Contains views (record { place = place_of_key (numbered_key key); view = numbered_view v; whole = true })
-    view_there s c key v e =
-        let sight : NumberedSight = record { place = place_of_key (numbered_key key); view = numbered_view v; whole = true } in
-        let one = subst (λ x. IsOneOf t (map numbered_instance w.1.instances.now) (numbered_shown x)) e (one_of s c) in
-        let here : Contains (views_of_part (numbered_part (parts.World w.1))) sight =
-        contains-map whole_view (map numbered_instance w.1.instances.now) (record { place = place_of_key (numbered_key key); view = numbered_view v }) one in
-        view_among ms member.0 member.1 sight (subst (λ a. Contains (views_of_part (numbered_part a)) sight) (sym member.2) here)
 
     instances_read : InstancesAreRead t ms planned.kept p b m w.1
     instances_read s c key v e u number =
         let q = place_of_key (numbered_key key) in
-        let sight : NumberedSight = record { place = q; view = numbered_view v; whole = true } in
         let there = number_there places q u number in
         let found = interface_there t h ms members input n p planned u q there in
         let first = first_there t h ms members input n p planned u q there in
         let is = first_is q views first.0 first.1 in
-        let same = views_told t h ms members input agreed ordered first.0 sight is.0 (view_there s c key v e) is.1 in
+        let same = views_told t h ms members input agreed ordered first.0 (sight_of key v) is.0 (seen_sight t ms member.0 member.1 w.1 member.2 good s c key v e) is.1 in
         record {
           owned = ap (λ (o : ℕ → TypeOwner). o q) beside_owners ∙ ap (λ o. option_map_or as_interface o (option_map_or as_world (number_in homes q) (as_interface (length places + q)))) number;
           interface = found.0;
@@ -239,11 +219,9 @@ module _ (t : Tables) (h : Homes) (ms : List Member) (members : List reads.Membe
               let here = name_same u.place w.1.home z.name s.key.now is.number k is.name.named shape equal in
               absurd (ordered.apart u among (subst (Contains homes) (sym here.0) (get-contains homes m w.1.home home_there)))
           by x x_there (origins.of_world v world other other_there kk dd declares same) number =
-              let all : AllByRecursion (DeclaresName t v.home) v.imports.now = subst (PartDeclaresNames t) world (all_at (λ (g : Member). PartDeclaresNames t g.part) ms input.declared x x_there) in
-              let name = subst (λ g. DeclaresName t v.home (record { key = other.key; shown = g; external_id = other.external_id })) declares
-              (all_at (DeclaresName t v.home) v.imports.now all other other_there) in
+              let name = import_named t input.tables h ms members input x x_there v world other other_there kk dd declares in
               let equal : name.0 ≡ k = (let a = ap (λ (g : NumberedShowing). g.part) same in let u = name.1 in omega (arith, a, number, u)) in
-              let here = name_same v.home w.1.home other.key.now s.key.now name.0 k name.2 shape equal in
+              let here = name_same v.home w.1.home other.key.now s.key.now name.0 k name.2.named shape equal in
               let one = same_world x x_there v world here.0 in
               let at_s = contains-get w.1.imports.now s c in
               let at_other = contains-get w.1.imports.now other (subst (λ (g : Scope). Contains g.imports.now other) one other_there) in
@@ -256,8 +234,8 @@ module _ (t : Tables) (h : Homes) (ms : List Member) (members : List reads.Membe
       types_read : TypesAreRead t ms planned.kept p b w.1
       types_read s c part d e j is = by is
         where
-          name : (k : ℕ) × (part ≡ 14 + k) × (slice_get t.shapes k ≡ Some (named_shape w.1.home s.key.now))
-          name = subst (λ g. DeclaresName t w.1.home (record { key = s.key; shown = g; external_id = s.external_id })) e (all_at (DeclaresName t w.1.home) w.1.imports.now named s c)
+          name : (k : ℕ) × (part ≡ 14 + k) × IsNameOf t w.1.home s.key.now d k
+          name = import_named t input.tables h ms members input member.0 member.1 w.1 member.2 s c part d e
 
           by : IsPart planned.kept part (14 + j) → (k : ℕ) × (slice_get planned.kept j ≡ Some k) × (slice_get t.shapes k ≡ Some (named_shape w.1.home s.key.now))
               × TypeBecomes t planned.kept p d (given_text s.external_id) j
@@ -270,11 +248,11 @@ module _ (t : Tables) (h : Homes) (ms : List Member) (members : List reads.Membe
               let many = zip_length (PlansType t planned.kept (shown_first ms) (owners_in ms)) planned.kept p.types planned.types in
               let low = slice_get_within planned.kept j name.0 kept_there in
               let type_ = slice_there p.types j (omega (arith, many, low)) in
-              let is_named = planned_name t h ms members input n p planned j name.0 type_.0 w.1.home s.key.now type_.1 kept_there name.2 in
-              let tells = import_first s c part d e name.0 name.2 is_named.showing is_named.first in (
+              let is_named = planned_name t h ms members input n p planned j name.0 type_.0 w.1.home s.key.now type_.1 kept_there name.2.named in
+              let tells = import_first s c part d e name.0 name.2.named is_named.showing is_named.first in (
                 name.0,
                 kept_there,
-                name.2,
+                name.2.named,
                 record {
                   type_ = type_.0;
                   stands = type_.1;
