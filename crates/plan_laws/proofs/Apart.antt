@@ -38,11 +38,11 @@ use Rattle.plan_laws.proofs.PlaceNumbers.{IsOnce, from_joined}
 use Rattle.plan_laws.proofs.Planned.{home_alone}
 use Rattle.plan_laws.proofs.ShownFrom.{IsWorldOf, world_of}
 use Rattle.plan_laws.proofs.WholePlacesInstances.{as_many, one_of}
-use Rattle.plan_laws.proofs.WholePlacesLists.{no_longer}
+use Rattle.plan_laws.proofs.OwnPlaces.{different, no_longer}
 use Rattle.plan_laws.proofs.WholeTypes.{packages_are_ruled}
-use Rattle.plan_laws.proofs.WorldItems.{world_member}
+use Rattle.plan_laws.proofs.WorldItems.{homes_of_worlds, world_member}
 use Rattle.base_lemmas.proofs.Elements.{all_at, contains-later, contains-map, get-contains, last_of as one-contained, map_from as from_map}
-use Rattle.base_lemmas.proofs.Lists.{append_of_map, front_at as at_front, map_of_map, mapped_get}
+use Rattle.base_lemmas.proofs.Lists.{append_of_map, front_at as at_front, map_of_map, mapped_get, identity}
 use Rattle.plan_package.proofs.PlacedLaws.{part_placed as places_of_views}
 
 -- ---- as many numbers as others, of which none stands twice
@@ -82,7 +82,8 @@ as_many_once xs ys once there many i j q at_i at_j = by (i == j) refl
     by : (b : Bool) → (i == j) ≡ b → i ≡ j
     by true e = eqb-true i j e
     by false e =
-        let low = no_longer xs (removed ys j) once (λ x h. contains-has (removed ys j) x (kept e x (there x h))) in
+        let apart = different (λ x. x) xs (subst (λ zs. are_once zs ≡ true) (sym (identity xs)) once) in
+        let low = no_longer xs (removed ys j) apart (λ x c. kept e x (there x (contains-has xs x c))) in
         let less = removed_many ys j q at_j in
         absurd (omega (arith, low, less, many))
 
@@ -280,21 +281,12 @@ module _ (t : Tables) (h : Homes) (known : ℕ → Fact) (n : ℕ) (ms : List Me
           (contains-map (λ (x : NumberedSight). x.place) (views_of_members (numbered_members ms)) s c) none)
           (filtered_there (has_no_path t) (homes ms) s.place among none)
 
-  homes_are : (xs : List Member) → homes xs ≡ map (λ (w : Text × Scope). w.1.home) (worlds_in xs)
-  homes_are [] = refl
-  homes_are (m ∷ xs) = by m.part (homes_are xs)
-    where
-      by : (a : Part) → homes xs ≡ map (λ (w : Text × Scope). w.1.home) (worlds_in xs)
-          → home_of_part (numbered_part a) ++ homes xs ≡ map (λ (w : Text × Scope). w.1.home) (world_in_part m.label.now a ++ worlds_in xs)
-      by (parts.World w) rest = ap (λ hs. w.home ∷ hs) rest
-      by (parts.Interface p v imports) rest = rest
-
   worlds_apart : WorldsAreApart ms
   worlds_apart i j w v at_i at_j same =
       let home = λ (x : Text × Scope). x.1.home in
       let m = world_member ms w (get-contains (worlds_in ms) i w at_i) in
       unfiltered_once (has_no_path t) (homes ms) (second_once (own (viewed ms)) (own (homes ms)) all_once) i j w.1.home
-      (ap (λ hs. slice_get hs i) (homes_are ms) ∙ mapped_get home (worlds_in ms) i w at_i) (ap (λ hs. slice_get hs j) (homes_are ms) ∙ (mapped_get home (worlds_in ms) j v at_j ∙ ap Some (sym same)))
+      (ap (λ hs. slice_get hs i) (homes_of_worlds ms) ∙ mapped_get home (worlds_in ms) i w at_i) (ap (λ hs. slice_get hs j) (homes_of_worlds ms) ∙ (mapped_get home (worlds_in ms) j v at_j ∙ ap Some (sym same)))
       (ap is_none (world_is m.0 m.1 w.1 m.2).good.home)
 
 pub whole_stands_apart : WholeStandsApart

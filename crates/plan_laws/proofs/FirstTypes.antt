@@ -27,12 +27,12 @@ use Rattle.plan_laws.specs.FirstViews.{ViewsAreOrdered, told}
 use Rattle.plan_laws.specs.Owners.{homes_in}
 use Rattle.plan_laws.specs.ShownNames.{IsInput, PartDeclaresNames, DeclaresName}
 use Rattle.plan_laws.proofs.FirstViews.{first_is, one_told, sight_there}
-use Rattle.plan_laws.proofs.Inside.{flat_cases}
+use Rattle.plan_laws.proofs.Inside.{flat_cases, name_same, slot_is}
 use Rattle.plan_laws.proofs.Sources as origins
-use Rattle.plan_laws.proofs.Sources.{member_view_in, origin, view_among}
+use Rattle.plan_laws.proofs.Sources.{member_view_in, one_under, origin, view_among}
+use Rattle.plan_laws.proofs.Showings.{import_named}
 use Rattle.plan_laws.proofs.Planned.{home_met}
-use Rattle.plan_laws.proofs.Showings.{slot_is}
-use Rattle.base_lemmas.proofs.Elements.{all_at}
+use Rattle.base_lemmas.proofs.Elements.{all_at, contains-map, map_from as from_map}
 use Rattle.base_lemmas.proofs.Lists.{get_back as unmapped_get, map_of_map, mapped_get}
 use Rattle.std.proofs.lemmas.Option.{same_Some as same-some}
 
@@ -78,35 +78,21 @@ module _ (t : Tables) (h : Homes) (ms : List Member) (members : List reads.Membe
         → slot_part z.slot ≡ 14 + is.number → told z ≡ told x
     told_by_view x among is s c z there part =
         let other = number_is s c z there in
-        let one : other.number ≡ is.number = (let a = slot_is t input.tables z.slot other.number other.slot in omega (arith, a, part)) in
-        let shape : named_shape s.place z.name ≡ named_shape first.place x.name =
-        same-some (named_shape s.place z.name) (named_shape first.place x.name) (sym other.name.named ∙ (ap (slice_get t.shapes) one ∙ is.name.named)) in
-        let place : s.place ≡ first.place = ap (λ (y : Shape). y.number) shape in
-        let name : z.name ≡ x.name = ap (λ (y : Shape). unlabel y.labels) shape in
-        let same = views_told s first c first_among place in
-        let at = contains-get s.view.types z there in
-        let found = unmapped_get told first.view.types at.0 (told z) (subst (λ zs. slice_get zs at.0 ≡ Some (told z)) same (mapped_get told s.view.types at.0 z at.1)) in
-        let here = contains-get first.view.types x among in
-        let text : found.0.name ≡ x.name = ap (λ (y : Text × (Option ℕ × Option Text)). y.0) found.2 ∙ name in
-        let index : at.0 ≡ here.0 =
-        one_place (map (λ (y : NumberedType). y.name) first.view.types) (names_differ first first_among) at.0 here.0 x.name
-        (mapped_get (λ (y : NumberedType). y.name) first.view.types at.0 found.0 found.1 ∙ ap Some text) (mapped_get (λ (y : NumberedType). y.name) first.view.types here.0 x here.1) in
-        sym found.2 ∙ ap told (same-some found.0 x (sym found.1 ∙ (ap (slice_get first.view.types) index ∙ here.1)))
-      where
-        unlabel : List (Text × Bool) → Text
-        unlabel [] = []
-        unlabel (l ∷ ls) = l.0
+        let one : other.number ≡ is.number = (let a = slot_is t z.slot other.number other.slot in omega (arith, a, part)) in
+        let here = name_same t.shapes s.place first.place z.name x.name other.number is.number other.name.named is.name.named one in
+        let same = views_told s first c first_among here.0 in
+        let found = from_map told first.view.types (told z) (subst (λ zs. Contains zs (told z)) same (contains-map told s.view.types z there)) in
+        let text = ap (λ (y : Text × (Option ℕ × Option Text)). y.0) found.2 ∙ here.1 in
+        sym found.2 ∙ ap told (one_under (λ (y : NumberedType). y.name) first.view.types (names_differ first first_among) found.0 x found.1 among text)
 
     -- no world imports it
     not_imported : (x : NumberedType) (is : IsShownIn t first.place x) → (m : Member) → Contains ms m → (w : Scope) → m.part ≡ parts.World w → (c : Seen) → Contains w.imports.now c
         → (part : ℕ) (d : Option ℕ) → c.shown ≡ shown.Declares part d → part ≡ 14 + is.number → ⊥
     not_imported x is m among w world c there part d declares same =
-        let all : AllByRecursion (DeclaresName t w.home) w.imports.now = subst (PartDeclaresNames t) world (all_at (λ (y : Member). PartDeclaresNames t y.part) ms input.declared m among) in
-        let named = subst (λ z. DeclaresName t w.home (record { key = c.key; shown = z; external_id = c.external_id })) declares (all_at (DeclaresName t w.home) w.imports.now all c there) in
+        let named = import_named t input.tables h ms members input m among w world c there part d declares in
         let one : named.0 ≡ is.number = (let a = named.1 in omega (arith, a, same)) in
-        let shape : named_shape w.home c.key.now ≡ named_shape first.place x.name =
-        same-some (named_shape w.home c.key.now) (named_shape first.place x.name) (sym named.2 ∙ (ap (slice_get t.shapes) one ∙ is.name.named)) in
-        ordered.apart first first_among (subst (Contains (homes_in ms)) (ap (λ (y : Shape). y.number) shape) (home_met ms m among w world))
+        let here = name_same t.shapes w.home first.place c.key.now x.name named.0 is.number named.2.named is.name.named one in
+        ordered.apart first first_among (subst (Contains (homes_in ms)) here.0 (home_met ms m among w world))
 
     -- a type of the first view is shown first as it shows it
     pub first_told : (x : NumberedType) → Contains first.view.types x → (is : IsShownIn t first.place x) → (y : NumberedShowing) → shown_first ms is.number ≡ Some y → (y.declared ≡ x.declared)

@@ -71,37 +71,21 @@ forms_count t h ms members input = forms_hold t input.tables HasCount (form_coun
 
 -- ---- forms by their numbers
 
-low_sort : (form : Form) → 1 ≤ (form_code form).sort
-low_sort (Form.record_of names) = omega arith
-low_sort (Form.variant_of cases) = omega arith
-low_sort Form.list_of = omega arith
-low_sort (Form.fixed_list_of l) = omega arith
-low_sort Form.option_of = omega arith
-low_sort Form.own_of = omega arith
-low_sort Form.borrow_of = omega arith
-low_sort Form.map_of = omega arith
-low_sort Form.tuple_of = omega arith
-low_sort (Form.flags_of names) = omega arith
-low_sort (Form.enum_of names) = omega arith
-low_sort (Form.result_of ok err) = omega arith
-low_sort (Form.future_of some) = omega arith
-low_sort (Form.stream_of some) = omega arith
-
-high_sort : (form : Form) → (form_code form).sort ≤ 14
-high_sort (Form.record_of names) = omega arith
-high_sort (Form.variant_of cases) = omega arith
-high_sort Form.list_of = omega arith
-high_sort (Form.fixed_list_of l) = omega arith
-high_sort Form.option_of = omega arith
-high_sort Form.own_of = omega arith
-high_sort Form.borrow_of = omega arith
-high_sort Form.map_of = omega arith
-high_sort Form.tuple_of = omega arith
-high_sort (Form.flags_of names) = omega arith
-high_sort (Form.enum_of names) = omega arith
-high_sort (Form.result_of ok err) = omega arith
-high_sort (Form.future_of some) = omega arith
-high_sort (Form.stream_of some) = omega arith
+sorts : (form : Form) → (1 ≤ (form_code form).sort) × ((form_code form).sort ≤ 14)
+sorts (Form.record_of names) = omega arith
+sorts (Form.variant_of cases) = omega arith
+sorts Form.list_of = omega arith
+sorts (Form.fixed_list_of l) = omega arith
+sorts Form.option_of = omega arith
+sorts Form.own_of = omega arith
+sorts Form.borrow_of = omega arith
+sorts Form.map_of = omega arith
+sorts Form.tuple_of = omega arith
+sorts (Form.flags_of names) = omega arith
+sorts (Form.enum_of names) = omega arith
+sorts (Form.result_of ok err) = omega arith
+sorts (Form.future_of some) = omega arith
+sorts (Form.stream_of some) = omega arith
 
 -- ---- a form over what is kept
 
@@ -125,8 +109,8 @@ module _ (t : Tables) (h : Homes) (ms : List Member) (members : List reads.Membe
           let is : shape_form s ≡ form = ap shape_form e ∙ form_back form in
           let own : s.parts ≡ ks = ap (λ (x : Shape). x.parts) e in
           record {
-            low = subst (λ (x : Shape). 1 ≤ x.sort) (sym e) (low_sort form);
-            high = subst (λ (x : Shape). x.sort ≤ 14) (sym e) (high_sort form);
+            low = subst (λ (x : Shape). 1 ≤ x.sort) (sym e) (sorts form).0;
+            high = subst (λ (x : Shape). x.sort ≤ 14) (sym e) (sorts form).1;
             count = (λ i. has_count (is i) (length (own i))) ∙ counts.holds n form ks (itself (14 + n) n refl) there;
             parts = parts;
             handle = λ handles. subst (AllByRecursion (λ k. 14 ≤ k)) (sym own) (high_parts ks ((marked.holds n form ks (itself (14 + n) n refl) there).handle (ap is_handle_form (sym is) ∙ handles)));

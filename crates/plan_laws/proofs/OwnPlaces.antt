@@ -1,5 +1,5 @@
 -- Each place without a path is of one world, or of one inline interface with one view.
-use Rattle.std.proofs.Common.{◌≡◌, refl, sym, ap, subst, ◌∙◌, ℕ, zero, suc, ◌+◌, ◌⊎◌, inl, inr, arith, Bool, true, false, not, filter, if◌then◌else◌, List, [], ◌∷◌, ◌++◌, length, length-append, map, Option, None, is_none}
+use Rattle.std.proofs.Common.{◌≡◌, refl, sym, ap, subst, ◌∙◌, ℕ, zero, suc, ◌+◌, ◌⊎◌, inl, inr, arith, Bool, true, false, not, filter, if◌then◌else◌, List, [], ◌∷◌, ◌++◌, length, length-append, map, Option, None, is_none, ◌≤◌}
 use Rattle.std.specs.List.{AllByRecursion, Contains, flat_map}
 use Rattle.std.proofs.lemmas.Bool.{not-true, and_from as both}
 use Rattle.std.proofs.lemmas.List.Elements.{Contains-append_cases, Contains-append_left, filter-append}
@@ -88,18 +88,30 @@ without {A = A} (z ∷ xs) x (suc i, low, e) =
     by less y (zero, y_low, same) = inr (zero, omega arith, same)
     by less y (suc j, y_low, same) = later less y (less.cases y (j, omega (arith, y_low), same))
 
+still : {A : Type 0} (c : A) (cs is : List A) → (Contains cs c → ⊥) → ((y : A) → Contains (c ∷ cs) y → Contains is y) → (less : Without is c) (y : A) → Contains cs y → Contains less.rest y
+still {A = A} c cs is apart among less y d = by (less.cases y (among y (contains-later c cs y d)))
+  where
+    by : (y ≡ c) ⊎ Contains less.rest y → Contains less.rest y
+    by (inl same) = absurd (apart (subst (Contains cs) same d))
+    by (inr rest) = rest
+
+-- others among which they all are aren't fewer
+pub no_longer : {A : Type 0} (cs is : List A) → AreDifferent cs → ((c : A) → Contains cs c → Contains is c) → length cs ≤ length is
+no_longer [] is apart among = omega arith
+no_longer (c ∷ cs) is apart among =
+    let less = without is c (among c (zero, omega arith, refl)) in
+    let fewer = no_longer cs less.rest apart.1 (still c cs is apart.0 among less) in
+    let many = less.many in
+    omega (arith, fewer, many)
+
 pub all_taken : {A : Type 0} (cs is : List A) → AreDifferent cs → ((c : A) → Contains cs c → Contains is c) → length is ≡ length cs → (x : A) → Contains is x → Contains cs x
 all_taken [] is apart among many x (i, low, e) = absurd (omega (arith, low, many))
 all_taken {A = A} (c ∷ cs) is apart among many x there = by (λ rest each as_many there. all_taken cs rest apart.1 each as_many x there) (without is c (among c (zero, omega arith, refl)))
   where
-    still : (less : Without is c) (y : A) → Contains cs y → (y ≡ c) ⊎ Contains less.rest y → Contains less.rest y
-    still less y d (inl same) = absurd (apart.0 (subst (Contains cs) same d))
-    still less y d (inr rest) = rest
-
     which : ((rest : List A) → ((y : A) → Contains cs y → Contains rest y) → length rest ≡ length cs → Contains rest x → Contains cs x) → (less : Without is c) → (x ≡ c) ⊎ Contains less.rest x
         → Contains (c ∷ cs) x
     which more less (inl same) = (zero, omega arith, sym same)
-    which more less (inr rest) = contains-later c cs x (more less.rest (λ y d. still less y d (less.cases y (among y (contains-later c cs y d)))) (let a = less.many in omega (arith, a, many)) rest)
+    which more less (inr rest) = contains-later c cs x (more less.rest (still c cs is apart.0 among less) (let a = less.many in omega (arith, a, many)) rest)
 
     by : ((rest : List A) → ((y : A) → Contains cs y → Contains rest y) → length rest ≡ length cs → Contains rest x → Contains cs x) → Without is c → Contains (c ∷ cs) x
     by more less = which more less (less.cases x there)
@@ -250,7 +262,7 @@ once_inside test f (y ∷ xs) once x (zero, low, e) = subst (λ z. are_once (fil
 once_inside test f (y ∷ xs) once x (suc i, low, e) = once_inside test f xs
     (once_last (filter test (f y)) (filter test (flat_map f xs)) (ap are_once (sym (filter-append test (f y) (flat_map f xs))) ∙ once)) x (i, omega (arith, low), e)
 
-different : {A : Type 0} (f : A → ℕ) (xs : List A) → are_once (map f xs) ≡ true → AreDifferent xs
+pub different : {A : Type 0} (f : A → ℕ) (xs : List A) → are_once (map f xs) ≡ true → AreDifferent xs
 different f [] once = tt
 different f (x ∷ xs) once = ((λ c. not_among (f x) (map f xs) once (contains-map f xs x c)), different f xs (once_behind (f x) (map f xs) once))
 
@@ -294,40 +306,41 @@ module _ (t : Tables) (w : NumberedScope) (good : IsScopeIn t w) where
       by key id (function n) seen there among = none-in i among
       by key id (declares d) seen there among = none-in i among
 
-  abbrev all_inline : List NumberedInstance
+  abbrev pub all_inline : List NumberedInstance
   all_inline = inlines t w.imports ++ inlines t w.exports
 
-  -- an instance without a path is an inline interface that is imported or exported
-  pub inline_seen : (scope : follow.Scope) → Shows t w scope → InstancesAreSeen scope → are_once (filter (has_no_path t) (places_of_part (world w))) ≡ true → (i : NumberedInstance)
-      → Contains w.instances i → path_at t i.place ≡ None → Contains all_inline i
-  inline_seen scope shows seen apart i c none =
-      all_taken all_inline (filter (no_path t) w.instances) (different (λ (x : NumberedInstance). x.place) all_inline once) kept many i (in_filter (no_path t) w.instances i c (ap is_none none))
-    where
-      places_are : map (λ (x : NumberedInstance). x.place) all_inline ≡ filter (has_no_path t) (places_of_seen w.imports ++ places_of_seen w.exports)
-      places_are =
-          append_of_map (λ (x : NumberedInstance). x.place) (inlines t w.imports) (inlines t w.exports)
-          ∙ ((λ j. inline_places w.imports good.imports j ++ inline_places w.exports good.exports j) ∙ sym (filter-append (has_no_path t) (places_of_seen w.imports) (places_of_seen w.exports)))
+  abbrev pub place_of_instance : NumberedInstance → ℕ
+  place_of_instance i = i.place
 
-      once : are_once (map (λ (x : NumberedInstance). x.place) all_inline) ≡ true
-      once = ap are_once places_are ∙ once_last (filter (has_no_path t) (w.home ∷ [])) (filter (has_no_path t) (places_of_seen w.imports ++ places_of_seen w.exports))
-          (ap are_once (sym (filter-append (has_no_path t) (w.home ∷ []) (places_of_seen w.imports ++ places_of_seen w.exports))) ∙ apart)
+  pub places_are : map place_of_instance all_inline ≡ filter (has_no_path t) (places_of_seen w.imports ++ places_of_seen w.exports)
+  places_are =
+      append_of_map place_of_instance (inlines t w.imports) (inlines t w.exports)
+      ∙ ((λ j. inline_places w.imports good.imports j ++ inline_places w.exports good.exports j) ∙ sym (filter-append (has_no_path t) (places_of_seen w.imports) (places_of_seen w.exports)))
 
-      kept : (x : NumberedInstance) → Contains all_inline x → Contains (filter (no_path t) w.instances) x
-      kept x there = by (Contains-append_cases (inlines t w.imports) (inlines t w.exports) x there)
-        where
-          by : Contains (inlines t w.imports) x ⊎ Contains (inlines t w.exports) x → Contains (filter (no_path t) w.instances) x
-          by (inl among) = inline_kept w.imports good.imports good.imported x among
-          by (inr among) = inline_kept w.exports good.exports good.exported x among
+  module _ (scope : follow.Scope) (shows : Shows t w scope) (seen : InstancesAreSeen scope) where
+    pub inline_many : length (filter (no_path t) w.instances) ≡ length all_inline
+    inline_many =
+        let a : nones t (map (instance_of t) w.instances) ≡ length (filter (no_path t) w.instances) = kept_nones t w.instances in
+        let b : nones t scope.instances ≡ nones t (map (instance_of t) w.instances) = ap (nones t) shows.instances in
+        let c : nones t (map (λ (y : Direction × Instance). y.1) seen.seen) ≡ nones t scope.instances = ap (nones t) seen.all in
+        let d = both_ways t seen.seen in
+        let e : nones t (going import_ seen.seen) ≡ length (inlines t w.imports) = ap (nones t) (seen.imported ∙ ap instances_in shows.imports) ∙ seen_nones t w.imports in
+        let f : nones t (going export_ seen.seen) ≡ length (inlines t w.exports) = ap (nones t) (seen.exported ∙ ap instances_in shows.exports) ∙ seen_nones t w.exports in
+        let g : length all_inline ≡ length (inlines t w.imports) + length (inlines t w.exports) = length-append (inlines t w.imports) (inlines t w.exports) in
+        omega (arith, a, b, c, d, e, f, g)
 
-      many : length (filter (no_path t) w.instances) ≡ length all_inline
-      many =
-          let a : nones t (map (instance_of t) w.instances) ≡ length (filter (no_path t) w.instances) = kept_nones t w.instances in
-          let b : nones t scope.instances ≡ nones t (map (instance_of t) w.instances) = ap (nones t) shows.instances in
-          let c : nones t (map (λ (y : Direction × Instance). y.1) seen.seen) ≡ nones t scope.instances = ap (nones t) seen.all in
-          let d = both_ways t seen.seen in
-          let e : nones t (going import_ seen.seen) ≡ nones t (instances_in scope.imports) = ap (nones t) seen.imported in
-          let f : nones t (going export_ seen.seen) ≡ nones t (instances_in scope.exports) = ap (nones t) seen.exported in
-          let g : nones t (instances_in scope.imports) ≡ length (inlines t w.imports) = ap (λ ss. nones t (instances_in ss)) shows.imports ∙ seen_nones t w.imports in
-          let k : nones t (instances_in scope.exports) ≡ length (inlines t w.exports) = ap (λ ss. nones t (instances_in ss)) shows.exports ∙ seen_nones t w.exports in
-          let l : length all_inline ≡ length (inlines t w.imports) + length (inlines t w.exports) = length-append (inlines t w.imports) (inlines t w.exports) in
-          omega (arith, a, b, c, d, e, f, g, k, l)
+    -- an instance without a path is an inline interface that is imported or exported
+    pub inline_seen : are_once (filter (has_no_path t) (places_of_part (world w))) ≡ true → (i : NumberedInstance) → Contains w.instances i → path_at t i.place ≡ None → Contains all_inline i
+    inline_seen apart i c none =
+        all_taken all_inline (filter (no_path t) w.instances) (different place_of_instance all_inline once) kept inline_many i (in_filter (no_path t) w.instances i c (ap is_none none))
+      where
+        once : are_once (map place_of_instance all_inline) ≡ true
+        once = ap are_once places_are ∙ once_last (filter (has_no_path t) (w.home ∷ [])) (filter (has_no_path t) (places_of_seen w.imports ++ places_of_seen w.exports))
+            (ap are_once (sym (filter-append (has_no_path t) (w.home ∷ []) (places_of_seen w.imports ++ places_of_seen w.exports))) ∙ apart)
+
+        kept : (x : NumberedInstance) → Contains all_inline x → Contains (filter (no_path t) w.instances) x
+        kept x there = by (Contains-append_cases (inlines t w.imports) (inlines t w.exports) x there)
+          where
+            by : Contains (inlines t w.imports) x ⊎ Contains (inlines t w.exports) x → Contains (filter (no_path t) w.instances) x
+            by (inl among) = inline_kept w.imports good.imports good.imported x among
+            by (inr among) = inline_kept w.exports good.exports good.exported x among

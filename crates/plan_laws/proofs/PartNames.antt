@@ -41,7 +41,7 @@ use Rattle.plan_types.specs.Showings.{NumberedShowing, showing_of, showings_of_i
 use Rattle.plan_types.specs.Used.{declared_parts, function_parts, showing_parts}
 use Rattle.plan_package.specs.Views.{types_alone, views_of_members, views_of_part, whole_view}
 use Rattle.plan_laws.specs.ShownNames.{DeclaresName, ImportsNumber, ShowsNumber}
-use Rattle.plan_laws.proofs.Inside.{IsIn, flat_cases, name_alone, name_in}
+use Rattle.plan_laws.proofs.Inside.{IsIn, flat_cases, name_alone, name_in, name_same}
 use Rattle.plan_laws.proofs.Sources.{Side, all_of, at_mapped, imported_showing, side_good, view_in}
 use Rattle.plan_laws.proofs.MetNames.{in_declared, in_signature}
 use Rattle.plan_laws.proofs.ViewNames.{declared_inside, function_shows, instance_tree, outside_shows, part_of_function, part_shows}
@@ -154,9 +154,8 @@ module _ (t : Tables) (tables : AreTables t) (h : Homes) (stand : HomesStand t h
 
       number_here : (m : ℕ) (key : Text) (d : Option ℕ) (k : ℕ) → IsNameOf t w.home key d m → k ≡ 14 + m → IsIn t.shapes k n → (m ≡ n) × (q ≡ w.home)
       number_here m key d k is part found =
-          let one : n ≡ m = name_alone t.shapes tables.shapes k n m w.home key part is.named found in
-          let shape : named_shape w.home key ≡ named_shape q name = same-some (named_shape w.home key) (named_shape q name) (sym is.named ∙ (ap (slice_get t.shapes) (sym one) ∙ at)) in
-          (sym one, sym (ap (λ (s : Shape). s.number) shape))
+          let one : m ≡ n = sym (name_alone t.shapes tables.shapes k n m w.home key part is.named found) in
+          (one, sym (name_same t.shapes w.home q key name m n is.named at one).0)
 
       imports_it : (c : Seen) → Contains w.imports.now c → (d : Option ℕ) (m part : ℕ) → c.shown ≡ shown.Declares part d → part ≡ 14 + m → IsNameOf t w.home c.key.now d m → m ≡ n → q ≡ w.home → Goal
       imports_it c among d m part e is named one home =

@@ -18,7 +18,7 @@ use Rattle.read_exports.specs.declared.members.Member.{Member}
 use Rattle.read_exports.specs.declared.members.Part.TheVariants as parts
 use Rattle.plan_types.specs.Showings.{NumberedShowing, showings_of_members, showings_of_part, signatures_of_members, signatures_of_part}
 use Rattle.plan_laws.specs.ShownNames.{DeclaresName, IsInput, PartDeclaresNames}
-use Rattle.plan_laws.proofs.Inside.{flat_cases}
+use Rattle.plan_laws.proofs.Inside.{flat_cases, slot_is}
 use Rattle.plan_laws.proofs.ShownNames.{beside}
 use Rattle.plan_laws.proofs.Sources as sources
 use Rattle.plan_laws.proofs.Sources.{origin, part_at, side_good, view_in}
@@ -33,10 +33,6 @@ module _ (t : Tables) (tables : AreTables t) where
     pub number : ℕ
     pub part : y.part ≡ 14 + number
     pub is : IsNameOf t place name y.declared number
-
-  pub slot_is : (slot : NumberedSlot) (m : ℕ) → IsSlotOf t slot m → slot_part slot ≡ 14 + m
-  slot_is (value k) m is = is
-  slot_is (resource k) m is = is
 
   module _ (h : Homes) (ms : List Member) (members : List reads.Member) (input : IsInput t h ms members) where
     -- an import of a world declares its name
@@ -55,7 +51,7 @@ module _ (t : Tables) (tables : AreTables t) where
         by : (m : Member) → Contains ms m → sources.IsShownIn m.part y → IsNamed y
         by m m_in (sources.in_view s there x among same) =
             let is = all_at (IsShownIn t s.place) s.view.types (view_in t m.part (part_at t ms input.numbers m m_in) s there).types x among in
-            subst IsNamed same (record { place = s.place; name = x.name; number = is.number; part = slot_is x.slot is.number is.slot; is = is.name })
+            subst IsNamed same (record { place = s.place; name = x.name; number = is.number; part = slot_is t x.slot is.number is.slot; is = is.name })
         by m m_in (sources.of_world w is s there part d e same) =
             let named = import_named m m_in w is s there part d e in
             subst IsNamed same (record { place = w.home; name = s.key.now; number = named.0; part = named.1; is = named.2 })

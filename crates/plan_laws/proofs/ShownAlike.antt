@@ -30,14 +30,14 @@ use Rattle.plan_laws.specs.ShownRules.{ViewObeys}
 use Rattle.plan_laws.specs.Whole.{IsPackageInput}
 use Rattle.plan_laws.specs.WholeTypes.{IsRuledInput}
 use Rattle.plan_laws.proofs.FirstDeclared.{shown_alike}
-use Rattle.plan_laws.proofs.Inside.{flat_cases}
+use Rattle.plan_laws.proofs.Inside.{flat_cases, name_same, slot_is}
 use Rattle.plan_laws.proofs.OwnPlaces.{Owned, a_view, a_world, frames, one_owned}
 use Rattle.plan_laws.proofs.Sources.{member_view_in}
 use Rattle.plan_laws.proofs.SameFunctions.{IsOnce, function_shared}
+use Rattle.plan_laws.proofs.Showings.{import_named}
 use Rattle.plan_laws.proofs.ShownFrom.{IsFrom, of_import, of_view, shown_from, view_frame, world_of}
-use Rattle.plan_laws.proofs.Showings.{slot_is}
-use Rattle.plan_laws.proofs.ViewsAgree.{sight_there}
-use Rattle.plan_laws.proofs.WholeTypes.{packages_are_ruled}
+use Rattle.plan_laws.proofs.FirstViews.{sight_there}
+use Rattle.plan_laws.proofs.WholeTypes.{packages_are_ruled, tests_hold}
 use Rattle.plan_laws.proofs.WorldKeys.{declared_in, keys_apart, one_key, one_world}
 use Rattle.comp_meaning.proofs.AgreementLaws.{distinct_behind}
 use Rattle.base_lemmas.proofs.Bools.{right_of as second_true}
@@ -64,13 +64,6 @@ module _ (t : Tables) (h : Homes) (known : ℕ → Fact) (n : ℕ) (ms : List Me
 
   -- ---- the views that are shown
 
-  interfaces : are_interfaces t known sights ≡ true
-  interfaces =
-      second_true (agree_in_numbers sights) (are_interfaces t known sights)
-      (second_true (list_all (stands_at_top h n numbered) sights) (agree_in_numbers sights && are_interfaces t known sights)
-      (second_true (list_all (λ (m : NumberedMember). n == m.package_) numbered) (list_all (stands_at_top h n numbered) sights && (agree_in_numbers sights && are_interfaces t known sights))
-      given.obeys))
-
   functions_once : (s : NumberedSight) → Contains sights s → IsOnce s
   functions_once s c =
       let v = s.view in
@@ -78,7 +71,7 @@ module _ (t : Tables) (h : Homes) (known : ℕ → Fact) (n : ℕ) (ms : List Me
       (second_true (list_all (is_type t known s.place) v.types && list_all (λ (f : Text × NumberedFunction). is_function t known s.place (resources_of v.types) f.0 (function_at t f.1.signature))
       v.functions)
       (distinct (map (λ (x : NumberedType). x.name) v.types ++ map (λ (f : Text × NumberedFunction). f.0) v.functions))
-      (all-contained (λ (x : NumberedSight). is_interface t known x.place x.view) sights s interfaces c))
+      (all-contained (λ (x : NumberedSight). is_interface t known x.place x.view) sights s (tests_hold t h known n ms members given).3 c))
 
   -- what is shown is of its place
   pub view_good : (s : NumberedSight) → Contains views s → IsViewIn t s.place s.view
@@ -96,8 +89,8 @@ module _ (t : Tables) (h : Homes) (known : ℕ → Fact) (n : ℕ) (ms : List Me
     where
       by : (o : Option Text) → path_at t s.place ≡ o → Contains s.view.functions f
       by (Some path) e =
-          function_shared sights ruled.agree functions_once r s (sight_there t h ms members given.input given.placed.apart r c path (ap (path_at t) same ∙ e))
-          (sight_there t h ms members given.input given.placed.apart s d path e)
+          function_shared sights ruled.agree functions_once r s (sight_there t numbered r c (path, ap (path_at t) same ∙ e))
+          (sight_there t numbered s d (path, e))
           same r_whole s_whole f there
       by None e =
           let r_frame = subst (λ q. Contains (frames numbered) (q, a_view r.view)) same (view_frame t h ms members given.input given.placed.apart r c (ap (path_at t) same ∙ e)) in
@@ -117,7 +110,7 @@ module _ (t : Tables) (h : Homes) (known : ℕ → Fact) (n : ℕ) (ms : List Me
       → z.declared ≡ y.declared
   by_view s in_views good x in_types y z same declared part z_shown =
       let is = all_at (IsShownIn t s.place) s.view.types good.types x in_types in
-      let own = slot_is t given.input.tables x.slot is.number is.slot in
+      let own = slot_is t x.slot is.number is.slot in
       shown_alike t h ms members given.input given.placed.apart ruled.agree s in_views (types_once s in_views) x in_types is.number is.name.named z z_shown (omega (arith, own, part, same)) ∙ declared
 
   -- imports of worlds that are of one name are one
@@ -125,22 +118,16 @@ module _ (t : Tables) (h : Homes) (known : ℕ → Fact) (n : ℕ) (ms : List Me
       → (k : Member) → Contains ms k → (v : Scope) → k.part ≡ parts.World v → (b : Seen) → Contains v.imports.now b → (other : ℕ) (e : Option ℕ) → b.shown ≡ shown.Declares other e
       → part ≡ other → d ≡ e
   by_imports m c w is_w a a_in part d a_shows k g v is_v b b_in other e b_shows same =
-      let first = world_of t h ms members given.input given.placed.apart m c w is_w in
-      let second = world_of t h ms members given.input given.placed.apart k g v is_v in
-      let a_name = subst (λ (x : Shown). DeclaresName t w.home (record { key = a.key; shown = x; external_id = a.external_id })) a_shows
-      (all_at (DeclaresName t w.home) w.imports.now first.declares a a_in) in
-      let b_name = subst (λ (x : Shown). DeclaresName t v.home (record { key = b.key; shown = x; external_id = b.external_id })) b_shows
-      (all_at (DeclaresName t v.home) v.imports.now second.declares b b_in) in
+      let a_name = import_named t given.input.tables h ms members given.input m c w is_w a a_in part d a_shows in
+      let b_name = import_named t given.input.tables h ms members given.input k g v is_v b b_in other e b_shows in
       let one : a_name.0 ≡ b_name.0 = (let p = a_name.1 in let q = b_name.1 in omega (arith, p, q, same)) in
-      let shape : named_shape w.home a.key.now ≡ named_shape v.home b.key.now =
-      same-some (named_shape w.home a.key.now) (named_shape v.home b.key.now) (sym a_name.2 ∙ (ap (slice_get t.shapes) one ∙ b_name.2)) in
-      let scope = one_world t h ms members given.input given.placed.apart m k c g w v is_w is_v (ap (λ (x : Shape). x.number) shape) in
+      let name = name_same t.shapes w.home v.home a.key.now b.key.now a_name.0 b_name.0 a_name.2.named b_name.2.named one in
+      let scope = one_world t h ms members given.input given.placed.apart m k c g w v is_w is_v name.0 in
       let here : Contains (map numbered_seen v.imports.now) (numbered_seen a) =
       subst (λ (x : NumberedScope). Contains x.imports (numbered_seen a)) scope (contains-map numbered_seen w.imports.now a a_in) in
-      let seen =
-      one_key (map numbered_seen v.imports.now) (keys_apart t h ms members given.input given.placed.apart v second) (numbered_seen a) (numbered_seen b) here
-      (contains-map numbered_seen v.imports.now b b_in)
-      (ap (λ (x : Shape). first_label x.labels) shape) in
+      let second = world_of t h ms members given.input given.placed.apart k g v is_v in
+      let seen = one_key (map numbered_seen v.imports.now) (keys_apart t h ms members given.input given.placed.apart v second) (numbered_seen a) (numbered_seen b) here
+      (contains-map numbered_seen v.imports.now b b_in) name.1 in
       let shown_same : worlds.declares d ≡ worlds.declares e = sym (ap numbered_shown a_shows) ∙ (ap (λ (x : NumberedSeen). x.shown) seen ∙ ap numbered_shown b_shows) in
       ap (declared_in e) shown_same
 

@@ -44,10 +44,10 @@ use Rattle.plan_type_laws.proofs.Walks.{all_unmapped}
 use Rattle.plan_type_laws.specs.UsedParts.{SignatureObeys}
 use Rattle.plan_laws.specs.ShownNames.{DeclaresName, IsInput, PartDeclaresNames}
 use Rattle.plan_laws.specs.ShownRules.{PartObeys, RulesAreObeyed, ShownObeysRules, TypeObeys, ViewObeys}
-use Rattle.plan_laws.proofs.Inside.{flat_cases}
+use Rattle.plan_laws.proofs.Inside.{flat_cases, slot_is}
 use Rattle.plan_laws.proofs.Sources as sources
 use Rattle.plan_laws.proofs.Sources.{IsWorldIn, Side, among_mapped, imported_showing, mapped_cases, member_there, origin, part_at, side_good, signed, view_in, world_in}
-use Rattle.plan_laws.proofs.Showings.{import_named, slot_is}
+use Rattle.plan_laws.proofs.Showings.{import_named}
 pub use Rattle.plan_laws.proofs.Sources.{all_of}
 use Rattle.base_lemmas.proofs.Bools.{left_of as first_true, right_of as second_true}
 use Rattle.base_lemmas.proofs.Elements.{all-contained, all_at, contains-later, contains-map, contains-one, get-contains, last_of as one-contained, map_from as from_map}
@@ -157,7 +157,7 @@ module _ (t : Tables) (tables : AreTables t) where
           place = s.place;
           name = x.name;
           number = is.number;
-          part = slot_is t tables x.slot is.number is.slot;
+          part = slot_is t x.slot is.number is.slot;
           is = is.name;
           label = first_true (is_label x.name) (rules.is_declared (place_at t s.place) (declaration_of t x.declared)) both;
           obeys = second_true (is_label x.name) (rules.is_declared (place_at t s.place) (declaration_of t x.declared)) both;
@@ -173,11 +173,6 @@ module _ (t : Tables) (tables : AreTables t) where
         }
 
   -- ---- a world
-
-  key_place : (k : NumberedKey) → KeyStands t k → place_of (interface_of (key_of t k)) ≡ place_at t (place_of_key k)
-  key_place (path p) stands = ap (λ o. place_of (Some (unwrap_or o []))) stands.1 ∙ sym (ap place_of stands.1)
-  key_place (label l p) none = sym (ap place_of none)
-  key_place (implementing l p) stands = ap (λ o. place_of (Some (unwrap_or o []))) stands.1 ∙ sym (ap place_of stands.1)
 
   module _ (h : Homes) (ms : List Member) (members : List reads.Member) (input : IsInput t h ms members) (w : Scope) (of : IsWorldIn t h ms members input w) where
     abbrev home_here : place_at t w.home ≡ Place.here

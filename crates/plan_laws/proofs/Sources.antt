@@ -1,5 +1,5 @@
 -- Where what is shown stands: a type in a view or as an import of a world, and a function in a whole view or in a world.
-use Rattle.std.proofs.Common.{◌≡◌, refl, sym, ap, subst, ◌∙◌, ℕ, suc, ◌⊎◌, inl, inr, true, false, List, [], ◌∷◌, ◌++◌, map, Option, Some, slice_get}
+use Rattle.std.proofs.Common.{◌≡◌, refl, sym, ap, subst, ◌∙◌, ℕ, suc, ◌⊎◌, inl, inr, true, false, List, [], ◌∷◌, ◌++◌, map, Option, Some, None, slice_get}
 use Rattle.std.specs.Borrow.{Bor}
 use Rattle.std.specs.List.{AllByRecursion, AllZip, Contains, flat_map}
 use Rattle.std.proofs.lemmas.List.Elements.{Contains-append_cases, Contains-append_left, Contains-append_right}
@@ -7,11 +7,14 @@ use Rattle.wit_model.specs.Text.{Text}
 use Rattle.wit_model.proofs.Elements.{contains-flat, contains-get, none-in}
 use Rattle.comp_meaning.specs.Follow as follow
 use Rattle.comp_meaning.specs.Reads as reads
+use Rattle.comp_meaning.specs.Rules.{distinct}
+use Rattle.read_shown.proofs.Lists.{one_place}
+use Rattle.std.proofs.lemmas.Option.{same_Some as same-some}
 use Rattle.read_shown.specs.Parts.{PartStands, WorldStands}
 use Rattle.read_shown.specs.Scopes as scopes
 use Rattle.plan_meaning.specs.FollowedNumbers.{AreMembersIn, IsOneOf, IsPartIn, IsScopeIn, IsSeenIn, IsViewIn}
 use Rattle.plan_meaning.specs.NumberedMembers.{Homes, IsMember, NumberedMember, ShowsPart}
-use Rattle.plan_meaning.specs.NumberedViews.{NumberedFunction, NumberedSight, NumberedType, NumberedView, Tables}
+use Rattle.plan_meaning.specs.NumberedViews.{AllOf, NumberedFunction, NumberedSight, NumberedType, NumberedView, Tables}
 use Rattle.plan_meaning.specs.NumberedWorlds.{HasPath, NumberedInstance, NumberedSeen, Shows, place_of_key, seen_of, shown_of}
 use Rattle.plan_meaning.specs.ReadWorlds.{is_type_seen}
 use Rattle.read_rules.specs.declared.reached.ImportedView.{ImportedView}
@@ -56,6 +59,18 @@ mapped_cases f g xs y c =
 
 pub among_mapped : {A B C : Type 0} (f : B → List C) (g : A → B) (xs : List A) (x : A) (y : C) → Contains xs x → Contains (f (g x)) y → Contains (flat_map f (map g xs)) y
 among_mapped f g xs x y c there = contains-flat f (map g xs) (g x) y (contains-map g xs x c) there
+
+-- what stands under a text, where none stands twice
+pub one_under : {A : Type 0} (key : A → Text) (xs : List A) → distinct (map key xs) ≡ true → (a b : A) → Contains xs a → Contains xs b → key a ≡ key b → a ≡ b
+one_under key xs apart a b c d e =
+    let i = contains-get xs a c in
+    let j = contains-get xs b d in
+    let same = one_place (map key xs) apart i.0 j.0 (key b) (mapped_get key xs i.0 a i.1 ∙ ap Some e) (mapped_get key xs j.0 b j.1) in
+    same-some a b (sym i.1 ∙ (ap (slice_get xs) same ∙ j.1))
+
+pub if_given : (P Q : ℕ → Type 0) → ((k : ℕ) → P k → Q k) → (d : Option ℕ) → AllOf P d → AllOf Q d
+if_given P Q one None given = tt
+if_given P Q one (Some k) given = one k given
 
 -- what stands beside an element
 pub partner : {A B : Type 0} (P : A → B → Type 0) (xs : List A) (ys : List B) → AllZip P xs ys → (x : A) → Contains xs x → (y : B) × Contains ys y × P x y

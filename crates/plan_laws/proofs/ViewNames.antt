@@ -12,7 +12,7 @@ use Rattle.read_shown.specs.Scopes.{IsShownBefore}
 use Rattle.read_shown.specs.Trees.{DeclarationStands}
 use Rattle.read_shown.specs.Views.{IsMetInView, ShowsName, ViewStands, inside as met_inside, outside as met_outside}
 use Rattle.plan_meaning.specs.FollowedNumbers.{IsCalledIn, IsMetFrom, IsNameOf, IsShownIn, IsSlotOf, IsViewIn}
-use Rattle.plan_meaning.specs.NumberedRules.{is_form}
+use Rattle.plan_meaning.specs.NumberedRules.{is_form, shape_at}
 use Rattle.plan_meaning.specs.NumberedViews.{AllOf, AreTables, FunctionShape, IsPart, NumberedFunction, NumberedSight, NumberedSlot, NumberedType, PartsOf, Tables, declaration_of, function_at, path_at, place_at, resource, shown_function, shown_type, value, view_of}
 use Rattle.plan_meaning.specs.NumberedWorlds.{HasPath}
 use Rattle.plan_meaning.specs.Plan.{part_number}
@@ -20,8 +20,9 @@ use Rattle.plan_meaning.specs.Shapes.{Shape, named_shape}
 use Rattle.plan_meaning.proofs.ShapeLaws.{split_part}
 use Rattle.plan_parts.specs.Interfaces.{slot_part}
 use Rattle.plan_types.specs.Used.{declared_parts, form_parts, signature_parts}
+use Rattle.plan_type_laws.proofs.ShownForms.{numbered_shape}
 use Rattle.plan_laws.specs.ShownNames.{ShowsNumber}
-use Rattle.plan_laws.proofs.Inside.{IsIn, inside, name_alone, name_in}
+use Rattle.plan_laws.proofs.Inside.{IsIn, inside, name_alone, name_in, name_same, slot_is}
 use Rattle.plan_laws.proofs.MetNames.{in_declared, in_signature}
 use Rattle.base_lemmas.proofs.Elements.{all_at, get-contains, last_of as one-contained}
 use Rattle.base_lemmas.proofs.Lists.{get_back as unmapped_get, mapped_get}
@@ -52,25 +53,12 @@ pub declared_inside : (t : Tables) (n : ℕ) (d : Option ℕ) (k : ℕ) → Cont
 declared_inside t n None k c found = none-in k c
 declared_inside t n (Some j) k c found = by (is_form t j) c
   where
-    at_number : (o : Option Shape) → (m : ℕ) → j ≡ 14 + m → slice_get t.shapes m ≡ o → Contains (option_map_or (λ (s : Shape). s.parts) o []) k → (i : ℕ) × (Some j ≡ Some i) × IsIn t.shapes i n
-    at_number None m is there among = none-in k among
-    at_number (Some s) m is there among = (j, refl, inside j m k n s is there among found)
-
-    no_number : j < 14 → form_parts t j ≡ []
-    no_number low = ap (λ b. option_map_or (λ (s : Shape). s.parts) (option_and_then (slice_get t.shapes) (if b then None else Some (j - 14))) []) (lt-ltb j 14 low)
-
-    behind : (m : ℕ) → j ≡ 14 + m → form_parts t j ≡ option_map_or (λ (s : Shape). s.parts) (slice_get t.shapes m) []
-    behind m is =
-        ap (λ i. option_map_or (λ (s : Shape). s.parts) (option_and_then (slice_get t.shapes) (part_number i)) []) is
-        ∙ (ap (λ b. option_map_or (λ (s : Shape). s.parts) (option_and_then (slice_get t.shapes) (if b then None else Some ((14 + m) - 14))) []) (le-ltb (14 + m) 14 (omega arith))
-        ∙ ap (λ i. option_map_or (λ (s : Shape). s.parts) (slice_get t.shapes i) []) (omega arith))
-
-    split : (j < 14) ⊎ ((m : ℕ) × (j ≡ 14 + m)) → Contains (form_parts t j) k → (i : ℕ) × (Some j ≡ Some i) × IsIn t.shapes i n
-    split (inl low) among = none-in k (subst (λ ks. Contains ks k) (no_number low) among)
-    split (inr (m, is)) among = at_number (slice_get t.shapes m) m is refl (subst (λ ks. Contains ks k) (behind m is) among)
+    formed : (o : Option Shape) → shape_at t j ≡ o → Contains (option_map_or (λ (s : Shape). s.parts) o []) k → (i : ℕ) × (Some j ≡ Some i) × IsIn t.shapes i n
+    formed None e among = none-in k among
+    formed (Some s) e among = let at = numbered_shape t j s e in (j, refl, inside j at.0 k n s at.1 at.2 among found)
 
     by : (b : Bool) → Contains (if b then form_parts t j else j ∷ []) k → (i : ℕ) × (Some j ≡ Some i) × IsIn t.shapes i n
-    by true among = split (split_part j) among
+    by true among = formed (shape_at t j) refl among
     by false among = (j, refl, subst (λ i. IsIn t.shapes i n) (sym (one-contained j k among)) found)
 
 -- ---- places
@@ -155,14 +143,9 @@ module _ (t : Tables) (tables : AreTables t) where
         pub part_shows : (x : NumberedType) → Contains s.view.types x → (j : ℕ) → Contains (slot_part x.slot ∷ declared_parts t x.declared) j → IsIn t.shapes j n → ShowsNumber t views q n
         part_shows x c j (zero, low, e) found =
             let is = all_at (IsShownIn t s.place) s.view.types (good_view s among).types x c in
-            let part : j ≡ 14 + is.number = sym e ∙ slot_is x.slot is.number is.slot in
+            let part : j ≡ 14 + is.number = sym e ∙ slot_is t x.slot is.number is.slot in
             let one : n ≡ is.number = name_alone t.shapes tables.shapes j n is.number s.place x.name part is.name.named found in
-            let shape : named_shape s.place x.name ≡ named_shape q name = same-some (named_shape s.place x.name) (named_shape q name) (sym is.name.named ∙ (ap (slice_get t.shapes) (sym one) ∙ at)) in
-            type_shows s among x c is (sym one) (ap (λ (y : Shape). y.number) shape)
-          where
-            slot_is : (slot : NumberedSlot) (m : ℕ) → IsSlotOf t slot m → slot_part slot ≡ 14 + m
-            slot_is (value k) m is = is
-            slot_is (resource k) m is = is
+            type_shows s among x c is (sym one) (name_same t.shapes s.place q x.name name is.number n is.name.named at (sym one)).0
         part_shows x c j (suc i, low, e) found =
             let there = contains-get s.view.types x c in
             let inner = declared_inside t n x.declared j (i, omega (arith, low), e) found in

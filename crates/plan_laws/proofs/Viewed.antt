@@ -36,6 +36,7 @@ use Rattle.plan_package.specs.PlanWhole.{PlansWhole, owners_in, places_in, shown
 use Rattle.plan_package.specs.Views.{views_of_members, views_of_part}
 use Rattle.plan_package.specs.WholeInterfaces.{ListsNumber, PlansInterface, PlansPlace}
 use Rattle.plan_type_laws.specs.MembersStand.{all_instances}
+use Rattle.plan_laws.proofs.Inside.{slot_is}
 use Rattle.plan_laws.specs.FirstViews.{IsRisingView, ViewsAreOrdered}
 use Rattle.plan_laws.specs.Owners.{owners_of}
 use Rattle.plan_laws.specs.ShownNames.{IsInput}
@@ -46,8 +47,8 @@ use Rattle.plan_laws.proofs.FirstViews.{first_is}
 use Rattle.plan_laws.proofs.Owned.{planned_name}
 use Rattle.plan_laws.proofs.PartNames.{trees_of_all}
 use Rattle.plan_laws.proofs.PlaceNumbers.{all_joined, number_given, owner_numbered, place_number}
-use Rattle.plan_laws.proofs.Planned.{first_there}
-use Rattle.plan_laws.proofs.Showings.{slot_is}
+use Rattle.plan_laws.proofs.Planned.{first_there, kept_number}
+use Rattle.plan_laws.proofs.Sources.{if_given}
 use Rattle.plan_laws.proofs.ViewNames.{instance_tree}
 use Rattle.plan_laws.proofs.ViewRules.{seen_obeys}
 use Rattle.base_lemmas.proofs.Elements.{all_at, contains-map, get-contains, map_from as from_map, zip-kept as zip-weaker, zip_at_right as zip_get}
@@ -106,20 +107,11 @@ module _ (t : Tables) (h : Homes) (ms : List Member) (members : List reads.Membe
     -- the new number of a type
     type_listed : (x : NumberedType) → Contains first.view.types x → (e : Text × ℕ) → ListsNumber planned.kept x e → (is : IsShownIn t first.place x) → (slice_get planned.kept e.1 ≡ Some is.number)
         × (e.1 < length p.types)
-    type_listed x c e lists is = by lists.1
-      where
-        part : slot_part x.slot ≡ 14 + is.number
-        part = slot_is t input.tables x.slot is.number is.slot
-
-        by : NewPart planned.kept (slot_part x.slot) (14 + e.1) → (slice_get planned.kept e.1 ≡ Some is.number) × (e.1 < length p.types)
-        by (a_primitive low same) = absurd (omega (arith, low, part))
-        by (a_shape k j from stands to) =
-            let same : k ≡ is.number = omega (arith, from, part) in
-            let here : e.1 ≡ j = omega (arith, to) in
-            let kept_there : slice_get planned.kept e.1 ≡ Some is.number = ap (slice_get planned.kept) here ∙ (stands ∙ ap Some same) in
-            let many = zip_length (PlansType t planned.kept (shown_first ms) (owners_in ms)) planned.kept p.types planned.types in
-            let low = slice_get_within planned.kept e.1 is.number kept_there in
-            (kept_there, omega (arith, many, low))
+    type_listed x c e lists is =
+        let kept_there = kept_number planned.kept (slot_part x.slot) is.number e.1 (slot_is t x.slot is.number is.slot) lists.1 in
+        let many = zip_length (PlansType t planned.kept (shown_first ms) (owners_in ms)) planned.kept p.types planned.types in
+        let low = slice_get_within planned.kept e.1 is.number kept_there in
+        (kept_there, omega (arith, many, low))
 
     shown_is : (x : NumberedType) → Contains first.view.types x → IsShownIn t first.place x
     shown_is x c = all_at (IsShownIn t first.place) first.view.types (view_good t h ms members input agreed ordered first among).types x c
@@ -182,12 +174,8 @@ module _ (t : Tables) (h : Homes) (ms : List Member) (members : List reads.Membe
     -- ---- what it uses
 
     declares_parts : DeclaresParts t first.view
-    declares_parts = recursion_weaker (IsShownIn t first.place) (λ (x : NumberedType). AllOf (IsPart t) x.declared) (λ x is. ranges x.declared is.name.met) first.view.types
-        (view_good t h ms members input agreed ordered first among).types
-      where
-        ranges : (d : Option ℕ) → AllOf (IsMetFrom t first.place) d → AllOf (IsPart t) d
-        ranges None met = tt
-        ranges (Some k) met = met.range
+    declares_parts = recursion_weaker (IsShownIn t first.place) (λ (x : NumberedType). AllOf (IsPart t) x.declared)
+        (λ x is. if_given (IsMetFrom t first.place) (IsPart t) (λ k met. met.range) x.declared is.name.met) first.view.types (view_good t h ms members input agreed ordered first among).types
 
     module _ (r : ℕ) (used : Contains (used_by_view t first.view) r) where
       r_path : HasPath t r

@@ -58,14 +58,13 @@ use Rattle.plan_laws.specs.Whole.{IsPackageInput}
 use Rattle.plan_laws.specs.WholeCondition.{ImportsAreBare, PartIsBare, WholeMayBePlanned}
 use Rattle.plan_laws.specs.WholeTypes.{IsRuledInput}
 use Rattle.plan_laws.proofs.FormCounts.{HasCount, form_over, forms_count}
-use Rattle.plan_laws.proofs.Inside.{flat_cases, within}
+use Rattle.plan_laws.proofs.Inside.{flat_cases, within, slot_is}
 use Rattle.plan_laws.proofs.InstanceSeen.{seen_showing, seen_signature, shown_so}
 use Rattle.plan_laws.proofs.Sources.{Side, at_mapped, interface_views, mapped_cases, own_sight, seen_sight, sight_of, view_among, world_in}
 use Rattle.plan_laws.proofs.Planned.{found_there, view_met}
 use Rattle.plan_laws.proofs.ShownAlike.{functions_alike, view_good}
 use Rattle.plan_laws.proofs.ShownNames.{names_are_shown}
 use Rattle.plan_laws.proofs.ShownRules.{all_of}
-use Rattle.plan_laws.proofs.Showings.{slot_is}
 use Rattle.plan_laws.proofs.ViewsAgree.{told, views_tell}
 use Rattle.plan_laws.proofs.WholeReasons.{there_marked}
 use Rattle.plan_laws.proofs.WholeTypes.{packages_are_ruled}
@@ -143,8 +142,8 @@ module _ (t : Tables) (h : Homes) (known : ℕ → Fact) (n : ℕ) (ms : List Me
       let b = all_at (IsShownIn t u.place) u.view.types (view_good t h known n ms members given u so.among).types z from.1 in
       let name : z.name ≡ x.name = ap (λ (e : Text × Option ℕ). e.0) from.2 in
       let one : b.number ≡ a.number = given.input.tables.shapes.apart b.number a.number (named_shape s.place x.name) (b.name.named ∙ (λ i. Some (named_shape (so.place i) (name i)))) a.name.named in
-      let a_part = slot_is t given.input.tables x.slot a.number a.slot in
-      let b_part = slot_is t given.input.tables z.slot b.number b.slot in
+      let a_part = slot_is t x.slot a.number a.slot in
+      let b_part = slot_is t z.slot b.number b.slot in
       (showing_of z, so.types z from.1, omega (arith, one, a_part, b_part))
 
   -- the parts of a type stand before it
@@ -269,7 +268,7 @@ module _ (t : Tables) (h : Homes) (known : ℕ → Fact) (n : ℕ) (ms : List Me
         by : (x : Member) → Contains ms x → IsShownByPart t x.part q m → (y : NumberedShowing) × Contains showings y × (y.part ≡ 14 + m)
         by x c (by_view shows) =
             let y = type_shown shows.sight (view_among ms x c shows.sight shows.among) shows.type_ shows.there in
-            (y.0, y.1, y.2 ∙ slot_is t given.input.tables shows.type_.slot m shows.slot)
+            (y.0, y.1, y.2 ∙ slot_is t shows.type_.slot m shows.slot)
         by x c (by_import w is home imports) =
             let y : NumberedShowing = record { part = 14 + m; declared = imports.declared; external_id = given_text imports.seen.external_id } in (
               y,

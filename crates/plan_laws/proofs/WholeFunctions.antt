@@ -12,7 +12,7 @@ use Rattle.comp_meaning.specs.Follow as follow
 use Rattle.comp_meaning.specs.Follow.{place_of}
 use Rattle.comp_meaning.specs.Reads as reads
 use Rattle.comp_meaning.specs.Rules as rules
-use Rattle.plan_meaning.specs.FollowedNumbers.{IsCalledIn, IsSeenIn, IsShownIn}
+use Rattle.plan_meaning.specs.FollowedNumbers.{IsCalledIn, IsNameOf, IsSeenIn, IsShownIn}
 use Rattle.plan_meaning.specs.GatheredPlan.{FunctionBecomes}
 use Rattle.plan_meaning.specs.KeptFunctions.{IsResource}
 use Rattle.plan_meaning.specs.NumberedMembers.{Homes, NumberedMember, home_at}
@@ -44,10 +44,11 @@ use Rattle.plan_laws.specs.ShownNames.{DeclaresName, IsInput}
 use Rattle.plan_laws.specs.ShownRules.{PartObeys}
 use Rattle.plan_laws.specs.WholeFunctions.{WorldFunctionsAreRead, beside_tables}
 use Rattle.plan_laws.specs.WholeTypes.{IsRuledInput, TypesAreWhole}
-use Rattle.plan_laws.proofs.Inside.{flat_cases}
+use Rattle.plan_laws.proofs.Inside.{flat_cases, name_same, slot_is}
 use Rattle.plan_laws.proofs.OwnPlaces.{Owned, a_view, a_world, frames, one_owned}
 use Rattle.plan_laws.proofs.ReadFunction.{function_becomes, read_function, resource_at, told}
-use Rattle.plan_laws.proofs.Showings.{slot_is}
+use Rattle.plan_laws.proofs.Planned.{kept_number}
+use Rattle.plan_laws.proofs.Showings.{import_named}
 use Rattle.plan_laws.proofs.ShownFrom.{IsFrom, IsWorldOf, home_frame, of_import, of_view, shown_from, view_frame, world_of}
 use Rattle.plan_laws.proofs.WorldKeys.{declared_in, is_world_owned, keys_apart, one_key, one_world}
 use Rattle.base_lemmas.proofs.Bools.{left_of as first_true, right_of as second_true}
@@ -120,14 +121,6 @@ import_items all earlier (s ∷ ss) ok before behind =
     either z (inl c) = before z c
     either z (inr c) = behind z (subst (Contains (s ∷ ss)) (one-contained s z c) (zero, omega arith, refl))
 
--- a part that is kept has its number
-pub kept_number : (kept : List ℕ) (k n j : ℕ) → k ≡ 14 + n → IsPart kept k (14 + j) → slice_get kept j ≡ Some n
-kept_number kept k n j is (a_primitive low e) = absurd (omega (arith, is, low))
-kept_number kept k n j is (a_shape m i at stands e) =
-    let number : m ≡ n = omega (arith, is, at) in
-    let place : i ≡ j = omega (arith, e) in
-    ap (slice_get kept) (sym place) ∙ (stands ∙ ap Some number)
-
 pub nothing_declared : (d : Option ℕ) → is_no_part d ≡ true → d ≡ None
 nothing_declared None h = refl
 nothing_declared (Some k) h = absurd cc
@@ -153,24 +146,19 @@ module _ (t : Tables) (h : Homes) (ms : List Member) (members : List reads.Membe
     is = world_of t h ms members input ruled.placed.apart m c w is_world
 
     -- the name of an import in the table
-    import_number : (s : Seen) → Contains w.imports.now s → (part : ℕ) (d : Option ℕ) → s.shown ≡ shown.Declares part d → (n : ℕ) × (part ≡ 14 + n)
-        × (slice_get t.shapes n ≡ Some (named_shape w.home s.key.now))
-    import_number s among part d e = subst (λ (x : Shown). DeclaresName t w.home (record { key = s.key; shown = x; external_id = s.external_id })) e
-        (all_at (DeclaresName t w.home) w.imports.now is.declares s among)
+    import_number : (s : Seen) → Contains w.imports.now s → (part : ℕ) (d : Option ℕ) → s.shown ≡ shown.Declares part d → (n : ℕ) × (part ≡ 14 + n) × IsNameOf t w.home s.key.now d n
+    import_number = import_named t input.tables h ms members input m c w is_world
 
     -- a type that it imports is first shown so
     first_import : (s : Seen) → Contains w.imports.now s → (part : ℕ) (d : Option ℕ) → s.shown ≡ shown.Declares part d → (n : ℕ) → part ≡ 14 + n → (y : NumberedShowing) → shown_first ms n ≡ Some y
         → y.declared ≡ d
     first_import s among part d e n number y first = let from = first_from n y first in by from.0 from.1
       where
-        there : slice_get t.shapes n ≡ Some (named_shape w.home s.key.now)
-        there = let at = import_number s among part d e in let one : at.0 ≡ n = (let a = at.1 in omega (arith, a, number)) in
-            subst (λ k. slice_get t.shapes k ≡ Some (named_shape w.home s.key.now)) one at.2
-
-        same_name : (q : ℕ) (name : Text) → slice_get t.shapes n ≡ Some (named_shape q name) → (q ≡ w.home) × (name ≡ s.key.now)
-        same_name q name at =
-            let shape = same-some (named_shape q name) (named_shape w.home s.key.now) (sym at ∙ there) in
-            (ap (λ (x : Shape). x.number) shape, ap (λ (x : Shape). first_label x.labels) shape)
+        same_name : (q : ℕ) (name : Text) (k : ℕ) → slice_get t.shapes k ≡ Some (named_shape q name) → k ≡ n → (q ≡ w.home) × (name ≡ s.key.now)
+        same_name q name k at one =
+            let own = import_number s among part d e in
+            let same : k ≡ own.0 = (let a = own.1 in omega (arith, a, number, one)) in
+            name_same t.shapes q w.home name s.key.now k own.0 at own.2.named same
 
         home_none : path_at t w.home ≡ None
         home_none = is.good.home
@@ -178,20 +166,18 @@ module _ (t : Tables) (h : Homes) (ms : List Member) (members : List reads.Membe
         by : From y → y.part ≡ 14 + n → y.declared ≡ d
         by (of_view sight in_views good x in_types shows) at =
             let stands = all_at (IsShownIn t sight.place) sight.view.types good.types x in_types in
-            let own = slot_is t input.tables x.slot stands.number stands.slot in
+            let own = slot_is t x.slot stands.number stands.slot in
             let part_is : slot_part x.slot ≡ y.part = ap (λ (z : NumberedShowing). z.part) shows in
             let one : stands.number ≡ n = omega (arith, own, part_is, at) in
-            let same = same_name sight.place x.name (sym (ap (slice_get t.shapes) one) ∙ stands.name.named) in
+            let same = same_name sight.place x.name stands.number stands.name.named one in
             let view_there = view_frame t h ms members input ruled.placed.apart sight in_views (ap (path_at t) same.0 ∙ home_none) in
             let owned = one_owned t numbered ruled.placed.apart w.home home_none (a_view sight.view) (a_world (numbered_scope w))
             (subst (λ q. Contains {X = ℕ × Owned} (frames numbered) (q, a_view sight.view)) same.0 view_there) (home_frame t h ms members input ruled.placed.apart m c w is_world) in
             let wrong : false ≡ true = ap is_world_owned owned in absurd cc
         by (of_import m2 c2 w2 is2 s2 among2 e2) at =
-            let other = world_of t h ms members input ruled.placed.apart m2 c2 w2 is2 in
-            let named = subst (λ (x : Shown). DeclaresName t w2.home (record { key = s2.key; shown = x; external_id = s2.external_id })) e2
-            (all_at (DeclaresName t w2.home) w2.imports.now other.declares s2 among2) in
+            let named = import_named t input.tables h ms members input m2 c2 w2 is2 s2 among2 y.part y.declared e2 in
             let one : named.0 ≡ n = (let a = named.1 in omega (arith, a, at)) in
-            let same = same_name w2.home s2.key.now (sym (ap (slice_get t.shapes) one) ∙ named.2) in
+            let same = same_name w2.home s2.key.now named.0 named.2.named one in
             let scopes_same = one_world t h ms members input ruled.placed.apart m2 m c2 c w2 w is2 is_world same.0 in
             let here : Contains (map numbered_seen w.imports.now) (numbered_seen s2) =
             subst (λ (x : NumberedScope). Contains x.imports (numbered_seen s2)) scopes_same (contains-map numbered_seen w2.imports.now s2 among2) in
@@ -223,7 +209,7 @@ module _ (t : Tables) (h : Homes) (ms : List Member) (members : List reads.Membe
           let stands = kept_number planned.kept (slot_part at.1.slot) number.0 id.0 (seen.3 ∙ number.1) at.5 in
           let none : seen.1 ≡ None = sym seen.4 ∙ nothing_declared at.1.declared at.3 in
           let name : from.0.key.now ≡ r = sym seen.5 ∙ at.4 in
-          resource_at t h ms members input main p planned (told t w.home) w.home id.0 number.0 r stands (number.2 ∙ ap (λ (x : Text). Some (named_shape w.home x)) name)
+          resource_at t h ms members input main p planned (told t w.home) w.home id.0 number.0 r stands (number.2.named ∙ ap (λ (x : Text). Some (named_shape w.home x)) name)
           (λ y first. first_import from.0 from.1 seen.0 seen.1 seen.2 number.0 number.1 y first ∙ none)
 
       -- each resource among the imports is found

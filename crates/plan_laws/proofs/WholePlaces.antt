@@ -40,12 +40,14 @@ use Rattle.plan_laws.specs.Owners.{homes_in, owners_of}
 use Rattle.plan_laws.specs.Whole.{IsPackageInput}
 use Rattle.plan_laws.specs.WholePlaces.{LabelsStand}
 use Rattle.plan_laws.proofs.PlaceNumbers.{owner_numbered, owners_apart, place_number}
-use Rattle.plan_laws.proofs.Planned.{first_there, interface_there, named_there}
+use Rattle.plan_laws.proofs.Planned.{first_there, interface_there, named_there, path_given}
 use Rattle.plan_laws.proofs.Showings.{all_given}
 use Rattle.plan_laws.proofs.WholePlacesInstances.{own_shown}
 use Rattle.plan_laws.proofs.WholePlacesItems as items
-use Rattle.plan_laws.proofs.WholePlacesLabels.{interface_among, interface_of, interfaces_differ, no_world, world_among, world_of, worlds_differ}
-use Rattle.plan_laws.proofs.WholePlacesTop.{IsOwnInstance, at_top, interface_home, main_identity, own_instance, world_followed}
+use Rattle.plan_laws.proofs.WholePlacesLabels.{interface_among, interface_of, interfaces_differ, no_world, world_among, worlds_differ}
+use Rattle.plan_laws.proofs.WorldItems.{world_member}
+use Rattle.plan_laws.proofs.WholePlacesTop.{IsOwnInstance, at_top, interface_home, main_identity, own_instance}
+use Rattle.plan_laws.proofs.Sources.{world_in as world_of}
 use Rattle.base_lemmas.proofs.Bools.{left_of as first_true, right_of as second_true}
 use Rattle.base_lemmas.proofs.Elements.{all_at, all_by_number, contains-map, get-contains, zip_at, zip_at_right as zip_get}
 use Rattle.base_lemmas.proofs.Lists.{within_there as there_at}
@@ -102,13 +104,6 @@ module _ (t : Tables) (h : Homes) (known : ℕ → Fact) (n : ℕ) (ms : List Me
 
   -- ---- places
 
-  path_given : (q : ℕ) (x : ℕ × Text) → home_at h q ≡ Some x → HasPath t q
-  path_given q x home = by (path_at t q) refl
-    where
-      by : (o : Option Text) → path_at t q ≡ o → HasPath t q
-      by (Some path) e = (path, e)
-      by None e = no_true (ap is_some (sym (given.alone q e) ∙ home))
-
   named_as : (m q : ℕ) (i : PlannedInterface) → interface_in p m ≡ Some i → slice_get places m ≡ Some q → Place q i → i.name ≡ option_map (λ (x : ℕ × Text). x.1) (home_at h q)
   named_as m q i e at is = let first = first_there t h ms members given.input n p planned m q at in (is first.0 first.1).name
 
@@ -144,7 +139,7 @@ module _ (t : Tables) (h : Homes) (known : ℕ → Fact) (n : ℕ) (ms : List Me
       let there = interface_there t h ms members given.input n p planned e.1 is.place is.there in
       record {
         place = is.place;
-        path = path_given is.place (c, e.0) is.home;
+        path = path_given t h given.alone is.place (c, e.0) is.home;
         home = is.home;
         owned = owner_numbered ms is.place e.1 (place_number ms e.1 is.place is.there);
         interface = there.0;
@@ -242,18 +237,12 @@ module _ (t : Tables) (h : Homes) (known : ℕ → Fact) (n : ℕ) (ms : List Me
     there : world_in p number ≡ Some world
     item : Contains (filter_map item_interface (items_of world)) m
 
-  once_behind : (b : Bool) (x : ℕ) (xs : List ℕ) → are_once (cond b (x ∷ xs) xs) ≡ true → are_once xs ≡ true
-  once_behind true x xs e = second_true (not (has xs x)) (are_once xs) e
-  once_behind false x xs e = e
-
   shown_inline : (q : ℕ) → path_at t q ≡ None → (own : IsOwnInstance t h known n ms members given q) → Contains (shown_of own.world) q
   shown_inline q none own =
-      let followed = world_followed t h known n ms members given own.member own.among own.world own.is in
+      let of = world_of t h ms members given.input own.member own.among own.world own.is in
       let once = once_within (has_no_path t) (λ (x : NumberedMember). places_of_part x.part) (numbered_members ms) given.placed.apart (numbered_member own.member)
       (contains-map numbered_member ms own.member own.among) in
-      own_shown t (numbered_scope own.world) followed.scope followed.numbers followed.shows followed.stands.seen
-      (once_behind (has_no_path t own.world.home) own.world.home (filter (has_no_path t) (shown_of own.world))
-      (subst (λ a. are_once (filter (has_no_path t) (places_of_part (numbered_part a))) ≡ true) own.is once)) q none own.instance
+      own_shown t (numbered_scope own.world) of.scope of.good of.shows of.stands.seen (subst (λ a. are_once (filter (has_no_path t) (places_of_part (numbered_part a))) ≡ true) own.is once) q none own.instance
 
   item_of : (m q : ℕ) → slice_get places m ≡ Some q → (label : Text) (w : Scope) → Contains (shown_of w) q → (j : ℕ) → slice_get (worlds_in ms) j ≡ Some (label, w) → IsItem m
   item_of m q at label w shown j here = by (zip_at (PlansWorld t planned.kept places n) (worlds_in ms) p.worlds planned.worlds j (label, w) here)
@@ -296,8 +285,8 @@ module _ (t : Tables) (h : Homes) (known : ℕ → Fact) (n : ℕ) (ms : List Me
   worlds_read : (m : ℕ) (w : PlannedWorld) → world_in p m ≡ Some w → IsPlacedWorld t h p owners m w
   worlds_read m w e =
       let from = zip_get (PlansWorld t planned.kept places n) (worlds_in ms) p.worlds planned.worlds m w e in
-      let member = world_of ms from.0 (get-contains (worlds_in ms) m from.0 from.1) in
-      let identity = main_identity t h known n ms members given member.member member.among in
+      let member = world_member ms from.0 (get-contains (worlds_in ms) m from.0 from.1) in
+      let identity = main_identity t h known n ms members given member.0 member.1 in
       let there = package_there n identity.0 identity.1 in
       record {
         number = n;
@@ -305,7 +294,7 @@ module _ (t : Tables) (h : Homes) (known : ℕ → Fact) (n : ℕ) (ms : List Me
         home = from.2.package_;
         there = there.1;
         listed = by from.0 from.1 from.2.name there.0 (planned.packages.each n there.0 there.1);
-        label = ap is_label (from.2.name ∙ sym member.label) ∙ all_at (λ (x : Member). is_label x.label.now ≡ true) ms labels.labels member.member member.among;
+        label = ap is_label (from.2.name ∙ sym member.3) ∙ all_at (λ (x : Member). is_label x.label.now ≡ true) ms labels.labels member.0 member.1;
       }
     where
       by : (x : Text × Scope) → slice_get (worlds_in ms) m ≡ Some x → w.name ≡ x.0 → (k : PlannedPackage) → PlansPackage h.packages n places ms (entries_from (home_at h) n 0 places) n k

@@ -24,7 +24,7 @@ use Rattle.read_rules.specs.declared.scopes.Seen.{Seen}
 use Rattle.read_rules.specs.Scopes.{numbered_key, numbered_seen, numbered_shown}
 use Rattle.plan_types.specs.PlannedTypes.{number_in}
 use Rattle.plan_package.specs.WholeWorlds.{PlansItem, PlansWorld, a_function, a_type, an_instance, world_in_part, worlds_in}
-use Rattle.base_lemmas.proofs.Bools.{left_of as first_true, right_of as second_true}
+use Rattle.base_lemmas.proofs.Bools.{left_of as first_true, right_of as second_true, or_true}
 use Rattle.base_lemmas.proofs.Elements.{zip-append as zip_both}
 use Rattle.std.proofs.lemmas.Option.{same_Some as same-some}
 use Rattle.plan_package.proofs.ReadPackageLaws.{number_at as number_there}
@@ -89,16 +89,8 @@ module _ (places : List ℕ) where
   listed_has : (qs ns : List ℕ) → AreListed qs ns → (m : ℕ) → has ns m ≡ true → (q : ℕ) × (has qs q ≡ true) × IsNumbered q m
   listed_has qs ns none m e = no_true e
   listed_has qs ns (left_out q a b rest) m e = let found = listed_has a b rest m e in (found.0, ap (λ c. (q == found.0) || c) found.1 ∙ or_true (q == found.0), found.2)
-    where
-      or_true : (b : Bool) → (b || true) ≡ true
-      or_true true = refl
-      or_true false = refl
   listed_has qs ns (listed q k a b is rest) m e = by (k == m) refl (listed_has a b rest m)
     where
-      or_true : (b : Bool) → (b || true) ≡ true
-      or_true true = refl
-      or_true false = refl
-
       by : (c : Bool) → (k == m) ≡ c → (has b m ≡ true → (r : ℕ) × (has a r ≡ true) × IsNumbered r m) → (r : ℕ) × (has (q ∷ a) r ≡ true) × IsNumbered r m
       by true f later = (q, ap (λ c. c || has a q) (eq-eqb q q refl), is ∙ ap Some (eqb-true k m f))
       by false f later = let found = later (sym (ap (λ c. c || has b m) f) ∙ e) in (found.0, ap (λ c. (q == found.0) || c) found.1 ∙ or_true (q == found.0), found.2)

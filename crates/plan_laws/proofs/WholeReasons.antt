@@ -40,7 +40,7 @@ use Rattle.plan_laws.specs.WholeReasons.{AreShownAlike, HavePlaces}
 use Rattle.plan_laws.proofs.Inside.{flat_cases}
 use Rattle.plan_laws.proofs.Owned.{planned_name}
 use Rattle.plan_laws.proofs.PlaceNumbers.{number_given}
-use Rattle.plan_laws.proofs.Planned.{interface_there}
+use Rattle.plan_laws.proofs.Planned.{interface_there, path_given}
 use Rattle.plan_laws.proofs.Showings.{IsNamed, showings_named}
 use Rattle.plan_laws.proofs.WholeReasonsFunctions.{by_function}
 use Rattle.base_lemmas.proofs.Elements.{last_of as one-contained, zip_at, zip_at_right as zip_get}
@@ -207,7 +207,7 @@ module _ (t : Tables) (h : Homes) (known : ℕ → Fact) (n : ℕ) (ms : List Me
     with_place : (c : ℕ) → HasPlace h.homes c → HasHomes t h kept p b c
     with_place c is =
         let home : home_at h is.place ≡ Some (c, is.name) = ap (λ o. unwrap_or o None) is.home in
-        let path = path_given is.place (c, is.name) home in
+        let path = path_given t h given.alone is.place (c, is.name) home in
         let number = number_given (places_in ms) is.place (have.met is.place path) in
         let there = interface_there t h ms members given.input n p planned number.0 is.place (number_there (places_in ms) is.place number.0 number.1) in
         record {
@@ -221,13 +221,6 @@ module _ (t : Tables) (h : Homes) (known : ℕ → Fact) (n : ℕ) (ms : List Me
           interface = there.0;
           there = there.1;
         }
-      where
-        path_given : (q : ℕ) (x : ℕ × Text) → home_at h q ≡ Some x → HasPath t q
-        path_given q x home = by (path_at t q) refl
-          where
-            by : (o : Option Text) → path_at t q ≡ o → HasPath t q
-            by (Some path) e = (path, e)
-            by None e = no_true (ap is_some (sym (given.alone q e) ∙ home))
 
     packages_kept : (c : ℕ) (k : PlannedPackage) → package_in p c ≡ Some k → (c ≡ p.main) ⊎ HasHomes t h kept p b c
     packages_kept c k there = by (have.packages c (let low = slice_get_within p.packages c k there in let as_many = planned.packages.many in omega (arith, low, as_many)))

@@ -86,7 +86,7 @@ module _ (t : Tables) (h : Homes) (known : ℕ → Fact) (n : ℕ) (ms : List Me
     abbrev scope : NumberedScope
     scope = numbered_scope w.1
 
-    member : (y : Member) × Contains ms y × (y.part ≡ parts.World w.1)
+    member : (y : Member) × Contains ms y × (y.part ≡ parts.World w.1) × (y.label.now ≡ w.0)
     member = world_member ms w (get-contains (worlds_in ms) m w at)
 
     world : IsWorldOf t h ms members given.input given.placed.apart w.1

@@ -19,6 +19,7 @@ use Rattle.read_rules.specs.Scopes.{numbered_scope, numbered_seen}
 use Rattle.plan_type_laws.specs.ShownMarks.{own_places}
 use Rattle.plan_laws.specs.ShownNames.{IsInput}
 use Rattle.plan_laws.proofs.OwnPlaces.{Owned, a_view, a_world, frames, one_owned}
+use Rattle.plan_laws.proofs.Sources.{one_under}
 use Rattle.plan_laws.proofs.ShownFrom.{IsWorldOf, home_frame, world_of}
 use Rattle.base_lemmas.proofs.Bools.{third_of}
 use Rattle.base_lemmas.proofs.Lists.{map_of_map, mapped_get}
@@ -26,12 +27,7 @@ use Rattle.std.proofs.lemmas.Option.{same_Some as same-some}
 
 -- the import of a key is one
 pub one_key : (ss : List NumberedSeen) → distinct (map (λ (s : NumberedSeen). s.key) ss) ≡ true → (a b : NumberedSeen) → Contains ss a → Contains ss b → a.key ≡ b.key → a ≡ b
-one_key ss apart a b c d e =
-    let i = contains-get ss a c in
-    let j = contains-get ss b d in
-    let same : i.0 ≡ j.0 = one_place (map (λ (s : NumberedSeen). s.key) ss) apart i.0 j.0 b.key (mapped_get (λ (s : NumberedSeen). s.key) ss i.0 a i.1 ∙ ap Some e)
-    (mapped_get (λ (s : NumberedSeen). s.key) ss j.0 b j.1) in
-    same-some a b (sym i.1 ∙ (ap (slice_get ss) same ∙ j.1))
+one_key = one_under (λ (s : NumberedSeen). s.key)
 
 abbrev pub declared_in : Option ℕ → NumberedShown → Option ℕ
 declared_in default (worlds.declares d) = d
