@@ -24,7 +24,7 @@ use Rattle.plan_laws.specs.ShownNames.{DeclaresName, IsInput}
 use Rattle.plan_laws.proofs.OwnPlaces.{Owned, a_view, a_world, frames, one_owned}
 use Rattle.plan_laws.proofs.Showings.{import_named}
 use Rattle.plan_laws.proofs.Sources.{one_under}
-use Rattle.plan_laws.proofs.WorldKeys.{is_world_owned}
+use Rattle.plan_laws.proofs.WorldKeys.{is_world_owned, view_apart}
 use Rattle.plan_laws.proofs.ShownFrom.{IsFrom, home_frame, of_import, of_view, shown_from, view_frame, world_of}
 use Rattle.plan_laws.proofs.ViewsAgree.{told, views_tell}
 use Rattle.base_lemmas.proofs.Elements.{all_at, contains-map, map_from as from_map}
@@ -56,7 +56,4 @@ module _ (t : Tables) (h : Homes) (ms : List Member) (members : List reads.Membe
           let named = import_named t input.tables h ms members input m c w is_world seen among y.part y.declared e in
           let one : named.0 ≡ n = (let a = named.1 in omega (arith, a, part)) in
           let same = same_name w.home seen.key.now named.0 named.2.named one in
-          let none : path_at t s.place ≡ None = ap (path_at t) (sym same.0) ∙ (world_of t h ms members input apart m c w is_world).good.home in
-          let owned = one_owned t (numbered_members ms) apart s.place none (a_view s.view) (a_world (numbered_scope w)) (view_frame t h ms members input apart s in_views none)
-          (subst (λ q. Contains {X = ℕ × Owned} (frames (numbered_members ms)) (q, a_world (numbered_scope w))) same.0 (home_frame t h ms members input apart m c w is_world)) in
-          let wrong : false ≡ true = ap is_world_owned owned in absurd cc
+          absurd (view_apart t h ms members input apart s in_views m c w is_world (sym same.0))

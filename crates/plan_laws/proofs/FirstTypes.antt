@@ -26,7 +26,7 @@ use Rattle.plan_type_laws.proofs.FirstFound.{firsts_found}
 use Rattle.plan_laws.specs.FirstViews.{ViewsAreOrdered, told}
 use Rattle.plan_laws.specs.Owners.{homes_in}
 use Rattle.plan_laws.specs.ShownNames.{IsInput, PartDeclaresNames, DeclaresName}
-use Rattle.plan_laws.proofs.FirstViews.{first_is, one_told, sight_there}
+use Rattle.plan_laws.proofs.FirstViews.{first_is, one_told, sight_there, view_names}
 use Rattle.plan_laws.proofs.Inside.{flat_cases, name_same, slot_is}
 use Rattle.plan_laws.proofs.Sources as origins
 use Rattle.plan_laws.proofs.Sources.{member_view_in, one_under, origin, view_among}
@@ -39,10 +39,6 @@ use Rattle.std.proofs.lemmas.Option.{same_Some as same-some}
 module _ (t : Tables) (h : Homes) (ms : List Member) (members : List reads.Member) (input : IsInput t h ms members) (agreed : agree_in_numbers (sights_of_members t (numbered_members ms)) ≡ true) (ordered : ViewsAreOrdered t ms) where
   abbrev pub views : List NumberedSight
   views = views_of_members (numbered_members ms)
-
-  -- each view is good
-  pub view_good : (s : NumberedSight) → Contains views s → IsViewIn t s.place s.view
-  view_good s c = member_view_in t ms input.numbers s c
 
   -- all views of a place tell the same
   pub views_told : (s u : NumberedSight) → Contains views s → Contains views u → s.place ≡ u.place → map told s.view.types ≡ map told u.view.types
@@ -58,13 +54,9 @@ module _ (t : Tables) (h : Homes) (ms : List Member) (members : List reads.Membe
           let one : here.0 ≡ there.0 = ordered.inline here.0 there.0 s u here.1 there.1 e same in
           ap (λ (x : NumberedSight). map told x.view.types) (same-some s u (sym here.1 ∙ (ap (slice_get views) one ∙ there.1)))
 
-  -- the names of the types of a view differ
-  names_differ : (s : NumberedSight) → Contains views s → distinct (map (λ (x : NumberedType). x.name) s.view.types) ≡ true
-  names_differ s c = sym (ap distinct (map_of_map (λ (x : ShownType). x.name) (shown_type t) s.view.types)) ∙ agreement.names_differ (place_at t s.place) (view_of t s.view) (ordered.obey s c)
-
   -- a type of the view under the number
   number_is : (s : NumberedSight) → Contains views s → (x : NumberedType) → Contains s.view.types x → IsShownIn t s.place x
-  number_is s c x among = all_at (IsShownIn t s.place) s.view.types (view_good s c).types x among
+  number_is s c x among = all_at (IsShownIn t s.place) s.view.types (member_view_in t ms input.numbers s c).types x among
 
   module _ (q : ℕ) (first : NumberedSight) (is_first : first_at q views ≡ Some first) where
     first_among : Contains views first
@@ -83,7 +75,7 @@ module _ (t : Tables) (h : Homes) (ms : List Member) (members : List reads.Membe
         let same = views_told s first c first_among here.0 in
         let found = from_map told first.view.types (told z) (subst (λ zs. Contains zs (told z)) same (contains-map told s.view.types z there)) in
         let text = ap (λ (y : Text × (Option ℕ × Option Text)). y.0) found.2 ∙ here.1 in
-        sym found.2 ∙ ap told (one_under (λ (y : NumberedType). y.name) first.view.types (names_differ first first_among) found.0 x found.1 among text)
+        sym found.2 ∙ ap told (one_under (λ (y : NumberedType). y.name) first.view.types (view_names t first (ordered.obey first first_among)) found.0 x found.1 among text)
 
     -- no world imports it
     not_imported : (x : NumberedType) (is : IsShownIn t first.place x) → (m : Member) → Contains ms m → (w : Scope) → m.part ≡ parts.World w → (c : Seen) → Contains w.imports.now c

@@ -1,4 +1,9 @@
 -- All views of one place tell the same of types.
+use Rattle.read_shown.proofs.Agreement as agreement
+use Rattle.plan_laws.specs.ShownRules.{ViewObeys}
+use Rattle.comp_meaning.specs.Follow.{ShownType}
+use Rattle.comp_meaning.specs.Rules.{distinct}
+use Rattle.base_lemmas.proofs.Lists.{map_of_map}
 use Rattle.std.proofs.Common.{◌≡◌, refl, sym, ap, subst, ◌∙◌, ℕ, zero, suc, arith, Bool, true, false, not, ◌&&◌, ◌||◌, ◌==◌, cond, List, [], ◌∷◌, map, Option, Some, None}
 use Rattle.std.specs.List.{Contains, find, flat_map, list_all}
 use Rattle.std.specs.Option.{option_map_or}
@@ -9,7 +14,7 @@ use Rattle.wit_model.specs.Text.{Text, text_eq}
 use Rattle.wit_model.proofs.Elements.{contains-flat, none-in}
 use Rattle.comp_meaning.specs.Same.{same_option}
 use Rattle.plan_meaning.specs.NumberedMembers.{NumberedMember, NumberedPart, interface, sights_of_members, sights_of_part, world}
-use Rattle.plan_meaning.specs.NumberedViews.{NumberedSight, NumberedType, Tables, agree, agree_in_numbers, first_at, same_functions, same_id, same_number, same_shown}
+use Rattle.plan_meaning.specs.NumberedViews.{NumberedSight, NumberedType, Tables, agree, agree_in_numbers, first_at, same_functions, same_id, same_number, same_shown, place_at, shown_type, view_of}
 use Rattle.plan_meaning.specs.NumberedWorlds.{HasPath, NumberedInstance, sights_of_instance}
 use Rattle.plan_package.specs.Views.{views_of_part, whole_view}
 use Rattle.plan_laws.specs.FirstViews.{told}
@@ -101,6 +106,10 @@ module _ (t : Tables) where
   sight_there ms s c path =
       let from = flat_cases (λ (m : NumberedMember). views_of_part m.part) ms s c in
       contains-flat (λ (m : NumberedMember). sights_of_part t m.part) ms from.0 s from.1 (part_sight from.0.part s from.2 path)
+
+-- the names of the types of a view that obeys the rules differ
+pub view_names : (t : Tables) (s : NumberedSight) → ViewObeys t s → distinct (map (λ (x : NumberedType). x.name) s.view.types) ≡ true
+view_names t s obeys = sym (ap distinct (map_of_map (λ (x : ShownType). x.name) (shown_type t) s.view.types)) ∙ agreement.names_differ (place_at t s.place) (view_of t s.view) obeys
 
 -- the first view of a place is of it
 pub first_is : (q : ℕ) (all : List NumberedSight) (s : NumberedSight) → first_at q all ≡ Some s → Contains all s × (s.place ≡ q)

@@ -100,7 +100,7 @@ module _ (t : Tables) (tables : AreTables t) (h : Homes) (stand : HomesStand t h
 
   module _ (n q : ℕ) (name : Text) (at : slice_get t.shapes n ≡ Some (named_shape q name)) (views : List NumberedSight) (instances : List Instance)
       (trees : instances ≡ map (instance_tree t tables) views)
-      (all_good : AllByRecursion (λ (s : NumberedSight). IsViewIn t s.place s.view) views)
+      (all_good : (s : NumberedSight) → Contains views s → IsViewIn t s.place s.view)
       (stands : (k : ℕ) (s : NumberedSight) → slice_get views k ≡ Some s → ViewStands (IsShownBefore instances k) (place_at t s.place) (view_of t s.view)) where
     -- what a view shows
     pub view_showing : (s : NumberedSight) → Contains views s → (x : NumberedType) → Contains s.view.types x → (k : ℕ) → Contains (showing_parts t (showing_of x)) k → IsIn t.shapes k n
@@ -203,7 +203,7 @@ module _ (t : Tables) (tables : AreTables t) (h : Homes) (stand : HomesStand t h
       no_path path here = let wrong : Place.of_interface path.0 ≡ Place.here = sym (ap place_of path.1) ∙ here in cc
 
       met_shows : (count : ℕ) (b : Bool) → (q ≡ w.home) ⊎ HasPath t q → IsMetInScope scope.instances scope.imports count (place_at t q) name b → Goal
-      met_shows count b own (scopes.by_instance before) = inl (within_all (outside_shows t tables own_views (all_of (λ (s : NumberedSight). IsViewIn t s.place s.view) own_views (view_in t (parts.World w) good)) n q name at scope.instances own_trees
+      met_shows count b own (scopes.by_instance before) = inl (within_all (outside_shows t tables own_views (view_in t (parts.World w) good) n q name at scope.instances own_trees
           (length scope.instances) b before))
       met_shows count b (inl home) (scopes.by_import here declared) = let found = imported declared in import_shows found.0 found.1 found.2 home
       met_shows count b (inr path) (scopes.by_import here declared) = absurd (no_path path here)

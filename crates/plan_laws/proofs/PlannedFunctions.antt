@@ -46,11 +46,10 @@ use Rattle.plan_laws.specs.WholeFunctions.{PlannedFunctionsAreRead, beside_table
 use Rattle.plan_laws.specs.WholeReasons.{AreShownAlike}
 use Rattle.plan_laws.specs.WholeTypes.{IsRuledInput, TypesAreWhole}
 use Rattle.plan_laws.specs.WorldItems.{WorldsAreApart}
-use Rattle.plan_laws.proofs.FirstTypes.{view_good}
-use Rattle.plan_laws.proofs.FirstViews.{first_is}
+use Rattle.plan_laws.proofs.FirstViews.{first_is, view_names}
 use Rattle.plan_laws.proofs.Inside.{flat_cases}
 use Rattle.plan_laws.proofs.InstanceSeen.{shown_so}
-use Rattle.plan_laws.proofs.Sources.{partner_back}
+use Rattle.plan_laws.proofs.Sources.{partner_back, member_view_in}
 use Rattle.plan_laws.proofs.InterfaceFunctions.{view_function}
 use Rattle.plan_laws.proofs.PlaceNumbers.{owner_numbered, place_number}
 use Rattle.plan_laws.proofs.Planned.{first_there}
@@ -109,11 +108,6 @@ module _ (t : Tables) (h : Homes) (ms : List Member) (members : List reads.Membe
 
   -- ---- interfaces
 
-  names_differ : (s : NumberedSight) → Contains views s → distinct (map (λ (x : NumberedType). x.name) s.view.types) ≡ true
-  names_differ s c =
-      sym (ap distinct (map_of_map (λ (x : ShownType). x.name) (shown_type t) s.view.types))
-      ∙ agreement.names_differ (place_at t s.place) (view_of t s.view) (all_at (ViewObeys t) views ruled.rules.views s c)
-
   module _ (q n : ℕ) (owned : owners_of ms q ≡ as_interface n) (first : NumberedSight) (first_in : Contains views first) (place : first.place ≡ q) (i : PlannedInterface)
       (made : PlansInterface t planned.kept main (home_at h q) first.view (functions_seen q views) i) where
     owner : owners_of ms first.place ≡ as_interface n
@@ -124,9 +118,9 @@ module _ (t : Tables) (h : Homes) (ms : List Member) (members : List reads.Membe
         let f = partner_back (IsPlannedFunction t planned.kept made.find) (functions_seen q views) i.functions made.functions e e_in in
         let of = function_of q views f.0 f.1 in
         subst (λ o. IsReadFunction t planned.kept p beside o e.1) owner
-        (view_function t h ms members ruled main p planned first first_in (view_good t h ms members ruled.input ruled.agree ordered first first_in) (names_differ first first_in) made.find
+        (view_function t h ms members ruled main p planned first first_in (member_view_in t ms ruled.input.numbers first first_in) (view_names t first (all_at (ViewObeys t) views ruled.rules.views first first_in)) made.find
         made.resources beside of.sight of.among (of.place ∙ sym place)
-        (view_good t h ms members ruled.input ruled.agree ordered of.sight of.among) (all_at (ViewObeys t) views ruled.rules.views of.sight of.among) refl f.0 of.there
+        (member_view_in t ms ruled.input.numbers of.sight of.among) (all_at (ViewObeys t) views ruled.rules.views of.sight of.among) refl f.0 of.there
         (values_of of.sight of.among of.whole f.0 of.there) e f.2)
 
     interface_read : AllByRecursion (IsReadFunction t planned.kept p beside (as_interface n)) (functions_of i)

@@ -36,9 +36,9 @@ use Rattle.plan_laws.proofs.Sources.{member_view_in}
 use Rattle.plan_laws.proofs.SameFunctions.{IsOnce, function_shared}
 use Rattle.plan_laws.proofs.Showings.{import_named}
 use Rattle.plan_laws.proofs.ShownFrom.{IsFrom, of_import, of_view, shown_from, view_frame, world_of}
-use Rattle.plan_laws.proofs.FirstViews.{sight_there}
+use Rattle.plan_laws.proofs.FirstViews.{sight_there, view_names}
 use Rattle.plan_laws.proofs.WholeTypes.{packages_are_ruled, tests_hold}
-use Rattle.plan_laws.proofs.WorldKeys.{declared_in, keys_apart, one_key, one_world}
+use Rattle.plan_laws.proofs.WorldKeys.{declared_in, keys_apart, one_key, one_world, by_imports}
 use Rattle.comp_meaning.proofs.AgreementLaws.{distinct_behind}
 use Rattle.base_lemmas.proofs.Bools.{right_of as second_true}
 use Rattle.base_lemmas.proofs.Elements.{all-contained, all_at, contains-map}
@@ -73,16 +73,6 @@ module _ (t : Tables) (h : Homes) (known : ℕ → Fact) (n : ℕ) (ms : List Me
       (distinct (map (λ (x : NumberedType). x.name) v.types ++ map (λ (f : Text × NumberedFunction). f.0) v.functions))
       (all-contained (λ (x : NumberedSight). is_interface t known x.place x.view) sights s (tests_hold t h known n ms members given).3 c))
 
-  -- what is shown is of its place
-  pub view_good : (s : NumberedSight) → Contains views s → IsViewIn t s.place s.view
-  view_good s c = member_view_in t ms given.input.numbers s c
-
-  -- the names of a view's types differ
-  pub types_once : (s : NumberedSight) → Contains views s → distinct (map (λ (x : NumberedType). x.name) s.view.types) ≡ true
-  types_once s c =
-      sym (ap distinct (map_of_map (λ (x : ShownType). x.name) (shown_type t) s.view.types))
-      ∙ agreement.names_differ (place_at t s.place) (view_of t s.view) (all_at (ViewObeys t) views ruled.rules.views s c)
-
   pub functions_alike : (r s : NumberedSight) → Contains views r → Contains views s → r.place ≡ s.place → r.whole ≡ true → s.whole ≡ true → (f : Text × NumberedFunction) → Contains r.view.functions f
       → Contains s.view.functions f
   functions_alike r s c d same r_whole s_whole f there = by (path_at t s.place) refl
@@ -111,25 +101,7 @@ module _ (t : Tables) (h : Homes) (known : ℕ → Fact) (n : ℕ) (ms : List Me
   by_view s in_views good x in_types y z same declared part z_shown =
       let is = all_at (IsShownIn t s.place) s.view.types good.types x in_types in
       let own = slot_is t x.slot is.number is.slot in
-      shown_alike t h ms members given.input given.placed.apart ruled.agree s in_views (types_once s in_views) x in_types is.number is.name.named z z_shown (omega (arith, own, part, same)) ∙ declared
-
-  -- imports of worlds that are of one name are one
-  by_imports : (m : Member) → Contains ms m → (w : Scope) → m.part ≡ parts.World w → (a : Seen) → Contains w.imports.now a → (part : ℕ) (d : Option ℕ) → a.shown ≡ shown.Declares part d
-      → (k : Member) → Contains ms k → (v : Scope) → k.part ≡ parts.World v → (b : Seen) → Contains v.imports.now b → (other : ℕ) (e : Option ℕ) → b.shown ≡ shown.Declares other e
-      → part ≡ other → d ≡ e
-  by_imports m c w is_w a a_in part d a_shows k g v is_v b b_in other e b_shows same =
-      let a_name = import_named t given.input.tables h ms members given.input m c w is_w a a_in part d a_shows in
-      let b_name = import_named t given.input.tables h ms members given.input k g v is_v b b_in other e b_shows in
-      let one : a_name.0 ≡ b_name.0 = (let p = a_name.1 in let q = b_name.1 in omega (arith, p, q, same)) in
-      let name = name_same t.shapes w.home v.home a.key.now b.key.now a_name.0 b_name.0 a_name.2.named b_name.2.named one in
-      let scope = one_world t h ms members given.input given.placed.apart m k c g w v is_w is_v name.0 in
-      let here : Contains (map numbered_seen v.imports.now) (numbered_seen a) =
-      subst (λ (x : NumberedScope). Contains x.imports (numbered_seen a)) scope (contains-map numbered_seen w.imports.now a a_in) in
-      let second = world_of t h ms members given.input given.placed.apart k g v is_v in
-      let seen = one_key (map numbered_seen v.imports.now) (keys_apart t h ms members given.input given.placed.apart v second) (numbered_seen a) (numbered_seen b) here
-      (contains-map numbered_seen v.imports.now b b_in) name.1 in
-      let shown_same : worlds.declares d ≡ worlds.declares e = sym (ap numbered_shown a_shows) ∙ (ap (λ (x : NumberedSeen). x.shown) seen ∙ ap numbered_shown b_shows) in
-      ap (declared_in e) shown_same
+      shown_alike t h ms members given.input given.placed.apart ruled.agree s in_views (view_names t s (all_at (ViewObeys t) views ruled.rules.views s in_views)) x in_types is.number is.name.named z z_shown (omega (arith, own, part, same)) ∙ declared
 
   pub types_alike : (y z : NumberedShowing) → Contains (showings_of_members ms) y → Contains (showings_of_members ms) z → y.part ≡ z.part → y.declared ≡ z.declared
   types_alike y z c d same = by (shown_from t h ms members given.input given.placed.apart y c) (shown_from t h ms members given.input given.placed.apart z d)
@@ -140,7 +112,7 @@ module _ (t : Tables) (h : Homes) (known : ℕ → Fact) (n : ℕ) (ms : List Me
       by (of_import m m_in w is_w a a_in a_shows) (of_view s in_views good x in_types shows) =
           by_view s in_views good x in_types z y (sym same) (ap (λ (v : NumberedShowing). v.declared) shows) (ap (λ (v : NumberedShowing). v.part) shows) c
       by (of_import m m_in w is_w a a_in a_shows) (of_import k k_in v is_v b b_in b_shows) =
-          by_imports m m_in w is_w a a_in y.part y.declared a_shows k k_in v is_v b b_in z.part z.declared b_shows same
+          by_imports t h ms members given.input given.placed.apart m m_in w is_w a a_in y.part y.declared a_shows k k_in v is_v b b_in z.part z.declared b_shows same
 
 pub whole_is_shown_alike : WholeIsShownAlike
 whole_is_shown_alike t h known n ms members given = record {

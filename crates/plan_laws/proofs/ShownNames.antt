@@ -58,8 +58,8 @@ module _ (t : Tables) (h : Homes) (ms : List Member) (members : List reads.Membe
   trees : instances ≡ map (instance_tree t input.tables) views
   trees = trees_of_all t input.tables h input.homes numbered members input.shown input.numbers
 
-  all_good : AllByRecursion (λ (s : NumberedSight). IsViewIn t s.place s.view) views
-  all_good = all_of (λ (s : NumberedSight). IsViewIn t s.place s.view) views (member_view_in t ms input.numbers)
+  all_good : (s : NumberedSight) → Contains views s → IsViewIn t s.place s.view
+  all_good = member_view_in t ms input.numbers
 
   stands : (k : ℕ) (s : NumberedSight) → slice_get views k ≡ Some s → ViewStands (IsShownBefore instances k) (place_at t s.place) (view_of t s.view)
   stands k s there =

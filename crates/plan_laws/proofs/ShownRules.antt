@@ -1,12 +1,13 @@
 -- What is shown obeys the rules of reading.
+use Rattle.std.proofs.lemmas.Slice.Eq.{bytes_eq-Decides}
 use Rattle.std.proofs.Common.{◌≡◌, refl, sym, ap, subst, ◌∙◌, ℕ, zero, suc, ◌+◌, ◌⊎◌, inl, inr, arith, Bool, true, false, ◌&&◌, ◌||◌, List, [], ◌∷◌, ◌++◌, map, Option, Some, unwrap_or}
 use Rattle.std.specs.Borrow.{Bor}
 use Rattle.std.specs.List.{AllByRecursion, Contains, flat_map, list_all, list_any}
 use Rattle.std.proofs.lemmas.List.Elements.{Contains-append_cases, Contains-append_left, Contains-append_right}
 use Rattle.wit_model.specs.Names.{is_label}
 use Rattle.wit_model.specs.Meaning.{FunctionMeaning, Signature}
-use Rattle.wit_model.specs.Text.{Text}
-use Rattle.wit_model.specs.Tree.{Place}
+use Rattle.wit_model.specs.Text.{Text, text_eq}
+use Rattle.wit_model.specs.Tree.{Place, Declaration}
 use Rattle.wit_model.proofs.Elements.{contains-flat, none-in}
 use Rattle.comp_meaning.specs.Follow as follow
 use Rattle.comp_meaning.specs.Follow.{Direction, Instance, export_, import_, interface_of, place_of}
@@ -55,33 +56,77 @@ use Rattle.plan_type_laws.proofs.PartPlaces.{parts_weaker}
 
 -- ---- what a world imports and exports, as trees
 
--- it may stand behind some resources
-pub record IsItem (key : Text) (x : follow.Shown) : Type 0 where
+-- ---- resources among imports
+
+pub record IsResourceIn (ss : List follow.Seen) (r : Text) : Type 0 where
+  pub seen : follow.Seen
+  pub among : Contains ss seen
+  pub shown : seen.shown ≡ follow.Shown.declares Declaration.resource
+  pub named : r ≡ seen.key
+
+resource_in : (r : Text) (ss : List follow.Seen) → list_any (text_eq r) (rules.resources_seen ss) ≡ true → IsResourceIn ss r
+resource_in r [] any = let wrong : false ≡ true = any in absurd cc
+resource_in r (s ∷ ss) any = by s.shown refl any (λ more. later (resource_in r ss more))
+  where
+    later : IsResourceIn ss r → IsResourceIn (s ∷ ss) r
+    later is = record { seen = is.seen; among = contains-later s ss is.seen is.among; shown = is.shown; named = is.named }
+
+    which : (b : Bool) → text_eq r s.key ≡ b → s.shown ≡ follow.Shown.declares Declaration.resource → (b || list_any (text_eq r) (rules.resources_seen ss)) ≡ true
+        → (list_any (text_eq r) (rules.resources_seen ss) ≡ true → IsResourceIn (s ∷ ss) r) → IsResourceIn (s ∷ ss) r
+    which true e is any more = record { seen = s; among = (zero, omega arith, refl); shown = is; named = (bytes_eq-Decides r s.key).0 e }
+    which false e is any more = more any
+
+    by : (k : follow.Shown) → s.shown ≡ k → list_any (text_eq r) (rules.resources_seen (record { key = s.key; shown = k; external_id = s.external_id } ∷ ss)) ≡ true
+        → (list_any (text_eq r) (rules.resources_seen ss) ≡ true → IsResourceIn (s ∷ ss) r) → IsResourceIn (s ∷ ss) r
+    by (follow.Shown.instance key view) e any more = more any
+    by (follow.Shown.function f) e any more = more any
+    by (follow.Shown.declares Declaration.resource) e any more = which (text_eq r s.key) refl e any more
+    by (follow.Shown.declares (Declaration.type_ tree)) e any more = more any
+
+-- An import or an export that may stand behind resources among these.
+pub record IsItemAmong (ss : List follow.Seen) (key : Text) (x : follow.Shown) : Type 0 where
   pub resources : List Text
   pub is : rules.is_item resources key x ≡ true
+  pub from : (r : Text) → list_any (text_eq r) resources ≡ true → IsResourceIn ss r
 
-abbrev pub SeenIsItem : follow.Seen → Type 0
-SeenIsItem s = IsItem s.key s.shown
+abbrev pub SeenIsItem : List follow.Seen → follow.Seen → Type 0
+SeenIsItem all s = IsItemAmong all s.key s.shown
 
-pub imports_are_items : (earlier ss : List follow.Seen) → rules.are_imports earlier ss ≡ true → AllByRecursion SeenIsItem ss
-imports_are_items earlier [] h = tt
-imports_are_items earlier (s ∷ ss) h =
+wider : (xs ys : List follow.Seen) (r : Text) → ((s : follow.Seen) → Contains xs s → Contains ys s) → IsResourceIn xs r → IsResourceIn ys r
+wider xs ys r into is = record { seen = is.seen; among = into is.seen is.among; shown = is.shown; named = is.named }
+
+pub import_items : (all earlier ss : List follow.Seen) → rules.are_imports earlier ss ≡ true → ((s : follow.Seen) → Contains earlier s → Contains all s)
+    → ((s : follow.Seen) → Contains ss s → Contains all s)
+    → AllByRecursion (SeenIsItem all) ss
+import_items all earlier [] ok before behind = tt
+import_items all earlier (s ∷ ss) ok before behind =
     let first : rules.is_item (rules.resources_seen earlier) s.key s.shown ≡ true =
-    first_true (rules.is_item (rules.resources_seen earlier) s.key s.shown) (rules.are_imports (earlier ++ s ∷ []) ss) h in (
-      record { resources = rules.resources_seen earlier; is = first },
-      imports_are_items (earlier ++ s ∷ []) ss
-          (second_true (rules.is_item (rules.resources_seen earlier) s.key s.shown) (rules.are_imports (earlier ++ s ∷ []) ss) h),
+    first_true (rules.is_item (rules.resources_seen earlier) s.key s.shown) (rules.are_imports (earlier ++ s ∷ []) ss) ok in
+    let rest : rules.are_imports (earlier ++ s ∷ []) ss ≡ true = second_true (rules.is_item (rules.resources_seen earlier) s.key s.shown) (rules.are_imports (earlier ++ s ∷ []) ss) ok in (
+      record { resources = rules.resources_seen earlier; is = first; from = λ r any. wider earlier all r before (resource_in r earlier any) },
+      import_items all (earlier ++ s ∷ []) ss rest (λ z c. either z (Contains-append_cases earlier (s ∷ []) z c)) (λ z c. behind z (contains-later s ss z c)),
     )
+  where
+    either : (z : follow.Seen) → Contains earlier z ⊎ Contains (s ∷ []) z → Contains all z
+    either z (inl c) = before z c
+    either z (inr c) = behind z (subst (Contains (s ∷ ss)) (one-contained s z c) (zero, omega arith, refl))
 
-pub exports_are_items : (ss : List follow.Seen) → list_all (λ (s : follow.Seen). rules.is_item [] s.key s.shown) ss ≡ true → AllByRecursion SeenIsItem ss
-exports_are_items ss h = all_of SeenIsItem ss (λ s c. record { resources = []; is = all-contained (λ (x : follow.Seen). rules.is_item [] x.key x.shown) ss s h c })
+pub all_imports_are : (ss : List follow.Seen) → rules.are_imports [] ss ≡ true → AllByRecursion (SeenIsItem ss) ss
+all_imports_are ss ok = import_items ss [] ss ok (λ x none. none-in x none) (λ x there. there)
+
+pub exports_are_items : (all ss : List follow.Seen) → list_all (λ (s : follow.Seen). rules.is_item [] s.key s.shown) ss ≡ true → AllByRecursion (SeenIsItem all) ss
+exports_are_items all ss h = all_of (SeenIsItem all) ss (λ s c. record {
+  resources = [];
+  is = all-contained (λ (x : follow.Seen). rules.is_item [] x.key x.shown) ss s h c;
+  from = λ r any. let wrong : false ≡ true = any in absurd cc;
+})
 
 -- the view of the instance is what an interface may have
 abbrev pub InstanceObeys : Instance → Type 0
 InstanceObeys x = rules.is_interface (place_of x.interface) x.view ≡ true
 
-instance_obeys : (ss : List follow.Seen) → AllByRecursion SeenIsItem ss → (x : Instance) → Contains (instances_in ss) x → InstanceObeys x
-instance_obeys ss items x c = let from = flat_cases (λ (s : follow.Seen). shown_instances.instance_of s.shown) ss x c in let item = all_at SeenIsItem ss items from.0 from.1 in
+instance_obeys : (all ss : List follow.Seen) → AllByRecursion (SeenIsItem all) ss → (x : Instance) → Contains (instances_in ss) x → InstanceObeys x
+instance_obeys all ss items x c = let from = flat_cases (λ (s : follow.Seen). shown_instances.instance_of s.shown) ss x c in let item = all_at (SeenIsItem all) ss items from.0 from.1 in
     by from.0.shown item.resources from.0.key item.is from.2
   where
     by : (k : follow.Shown) (resources : List Text) (key : Text) → rules.is_item resources key k ≡ true → Contains (shown_instances.instance_of k) x → InstanceObeys x
@@ -122,8 +167,8 @@ pub instances_obey : (scope : follow.Scope) → WorldStands scope → (x : Insta
 instances_obey scope stands x c = by (one_way stands.seen.seen x (subst (λ xs. Contains xs x) (sym stands.seen.all) c))
   where
     by : Contains (going import_ stands.seen.seen) x ⊎ Contains (going export_ stands.seen.seen) x → InstanceObeys x
-    by (inl among) = instance_obeys scope.imports (imports_are_items [] scope.imports (world_obeys scope stands.obeys).imports) x (subst (λ xs. Contains xs x) stands.seen.imported among)
-    by (inr among) = instance_obeys scope.exports (exports_are_items scope.exports (world_obeys scope stands.obeys).exports) x (subst (λ xs. Contains xs x) stands.seen.exported among)
+    by (inl among) = instance_obeys scope.imports scope.imports (all_imports_are scope.imports (world_obeys scope stands.obeys).imports) x (subst (λ xs. Contains xs x) stands.seen.imported among)
+    by (inr among) = instance_obeys [] scope.exports (exports_are_items [] scope.exports (world_obeys scope stands.obeys).exports) x (subst (λ xs. Contains xs x) stands.seen.exported among)
 
 module _ (t : Tables) (tables : AreTables t) where
   -- ---- views
@@ -178,24 +223,25 @@ module _ (t : Tables) (tables : AreTables t) where
     abbrev home_here : place_at t w.home ≡ Place.here
     home_here = ap place_of of.good.home
 
-    abbrev ItemObeys : Seen → Type 0
-    ItemObeys c = IsItem c.key.now (shown_of t (numbered_shown c.shown))
-
-    unnumbered : (P : follow.Seen → Type 0) (cs : List Seen) (ss : List follow.Seen) → ss ≡ map (seen_of t) (map numbered_seen cs) → AllByRecursion P ss
-        → AllByRecursion (λ (c : Seen). P (seen_of t (numbered_seen c))) cs
-    unnumbered P cs ss is all = all_unmapped (λ (s : NumberedSeen). P (seen_of t s)) numbered_seen cs (all_unmapped P (seen_of t) (map numbered_seen cs) (subst (AllByRecursion P) is all))
-
-    imports_obey : AllByRecursion ItemObeys w.imports.now
-    imports_obey = unnumbered SeenIsItem w.imports.now of.scope.imports of.shows.imports (imports_are_items [] of.scope.imports (world_obeys of.scope of.stands.obeys).imports)
-
-    exports_obey : AllByRecursion ItemObeys w.exports.now
-    exports_obey = unnumbered SeenIsItem w.exports.now of.scope.exports of.shows.exports (exports_are_items of.scope.exports (world_obeys of.scope of.stands.obeys).exports)
-
     world_part_obeys : PartObeys t (parts.World w)
     world_part_obeys = (
       subst (λ ss. rules.are_imports [] ss ≡ true) of.shows.imports (world_obeys of.scope of.stands.obeys).imports,
       subst (λ ss. list_all (λ (s : follow.Seen). rules.is_item [] s.key s.shown) ss ≡ true) of.shows.exports (world_obeys of.scope of.stands.obeys).exports,
     )
+
+    abbrev pub all_imports : List follow.Seen
+    all_imports = map (seen_of t) (map numbered_seen w.imports.now)
+
+    -- what it imports or exports is an item among what it imports
+    abbrev pub ItemObeys : Seen → Type 0
+    ItemObeys s = IsItemAmong all_imports s.key.now (shown_of t (numbered_shown s.shown))
+
+    unnumbered : (cs : List Seen) → AllByRecursion (SeenIsItem all_imports) (map (seen_of t) (map numbered_seen cs)) → AllByRecursion ItemObeys cs
+    unnumbered cs all = all_unmapped (λ (s : NumberedSeen). SeenIsItem all_imports (seen_of t s)) numbered_seen cs (all_unmapped (SeenIsItem all_imports) (seen_of t) (map numbered_seen cs) all)
+
+    pub item_obeys : (s : Seen) → Side w s → ItemObeys s
+    item_obeys s (inl c) = all_at ItemObeys w.imports.now (unnumbered w.imports.now (all_imports_are all_imports world_part_obeys.0)) s c
+    item_obeys s (inr c) = all_at ItemObeys w.exports.now (unnumbered w.exports.now (exports_are_items all_imports (map (seen_of t) (map numbered_seen w.exports.now)) world_part_obeys.1)) s c
 
     world_views : (s : NumberedSight) → Contains (views_of_part (numbered_part (parts.World w))) s → ViewObeys t s
     world_views s c =
@@ -208,7 +254,7 @@ module _ (t : Tables) (tables : AreTables t) where
     import_type : (s : Seen) → Contains w.imports.now s → (part : ℕ) (d : Option ℕ) → s.shown ≡ shown.Declares part d → (n : ℕ) × (part ≡ 14 + n) × IsNameOf t w.home s.key.now d n
         → TypeObeys t (imported_showing part d (given_text s.external_id))
     import_type s c part d e named =
-        let item : IsItem s.key.now (follow.Shown.declares (declaration_of t d)) = subst (λ (x : Shown). IsItem s.key.now (shown_of t (numbered_shown x))) e (all_at ItemObeys w.imports.now imports_obey s c) in
+        let item = subst (λ (x : Shown). IsItemAmong all_imports s.key.now (shown_of t (numbered_shown x))) e (item_obeys s (inl c)) in
         let declared = rules.is_declared Place.here (declaration_of t d) in
         record {
           place = w.home;
@@ -222,16 +268,12 @@ module _ (t : Tables) (tables : AreTables t) where
 
     world_signature : (s : Seen) → Side w s → (f : ℕ) → s.shown ≡ shown.Function f → SignatureObeys t f
     world_signature s side f e =
-        let item = subst (λ (x : Shown). IsItem s.key.now (shown_of t (numbered_shown x))) e (by side) in
+        let item = subst (λ (x : Shown). IsItemAmong all_imports s.key.now (shown_of t (numbered_shown x))) e (item_obeys s side) in
         record {
           place = Place.here;
           range = parts_weaker (IsMetFrom t w.home) (IsPart t) (λ i m. m.range) (function_at t f) (side_good w t of.good s side (shown.Function f) e).parts;
           obeys = signature_of Place.here item.resources s.key.now (signature_at t f) item.is;
         }
-      where
-        by : Side w s → ItemObeys s
-        by (inl c) = all_at ItemObeys w.imports.now imports_obey s c
-        by (inr c) = all_at ItemObeys w.exports.now exports_obey s c
 
   -- ---- all that is exported
 

@@ -82,10 +82,7 @@ module _ (t : Tables) (tables : AreTables t) where
   pub same_place : (a q : ℕ) → HasPath t q → place_at t a ≡ place_at t q → a ≡ q
   same_place a q path e = tables.paths a q path.0 (sym (path_back (path_at t a)) ∙ (ap text_of_place e ∙ (path_back (path_at t q) ∙ path.1))) path.1
 
-  module _ (views : List NumberedSight) (good : AllByRecursion (λ (s : NumberedSight). IsViewIn t s.place s.view) views) (n q : ℕ) (name : Text) (at : slice_get t.shapes n ≡ Some (named_shape q name)) where
-    good_view : (s : NumberedSight) → Contains views s → IsViewIn t s.place s.view
-    good_view s c = all_at (λ (x : NumberedSight). IsViewIn t x.place x.view) views good s c
-
+  module _ (views : List NumberedSight) (good : (s : NumberedSight) → Contains views s → IsViewIn t s.place s.view) (n q : ℕ) (name : Text) (at : slice_get t.shapes n ≡ Some (named_shape q name)) where
     -- ---- views that show the name
 
     -- a type that is shown under the name, or under its number
@@ -104,7 +101,7 @@ module _ (t : Tables) (tables : AreTables t) where
     view_shows s c same count place b shows =
         let from = unmapped_get (shown_type t) s.view.types shows.number shows.shown shows.at in
         let there = get-contains s.view.types shows.number from.0 from.1 in
-        let is = all_at (IsShownIn t s.place) s.view.types (good_view s c).types from.0 there in
+        let is = all_at (IsShownIn t s.place) s.view.types (good s c).types from.0 there in
         let text : from.0.name ≡ name = ap (λ (y : ShownType). y.name) from.2 ∙ shows.named in
         let one : is.number ≡ n = tables.shapes.apart is.number n (named_shape q name) (is.name.named ∙ (ap (λ p. Some (named_shape p from.0.name)) same ∙ ap (λ x. Some (named_shape q x)) text)) at in
         type_shows s c from.0 there is one same
@@ -131,7 +128,7 @@ module _ (t : Tables) (tables : AreTables t) where
         -- what a type is declared as
         declared_shows : (i : ℕ) (x : NumberedType) → slice_get s.view.types i ≡ Some x → (k : ℕ) → x.declared ≡ Some k → IsIn t.shapes k n → ShowsNumber t views q n
         declared_shows i x e j some found =
-            let is = all_at (IsShownIn t s.place) s.view.types (good_view s among).types x (get-contains s.view.types i x e) in
+            let is = all_at (IsShownIn t s.place) s.view.types (good s among).types x (get-contains s.view.types i x e) in
             let met : IsMetFrom t s.place j = subst (AllOf (IsMetFrom t s.place)) some is.name.met in
             let type_ = stands.types i (shown_type t x) (mapped_get (shown_type t) s.view.types i x e) in
             let declared = subst (λ d. DeclarationStands (IsMetInView (IsShownBefore instances k) (place_at t s.place) (view_of t s.view) i) (declaration_of t d) type_.is_resource) some
@@ -142,7 +139,7 @@ module _ (t : Tables) (tables : AreTables t) where
         -- a part of a type that is shown
         pub part_shows : (x : NumberedType) → Contains s.view.types x → (j : ℕ) → Contains (slot_part x.slot ∷ declared_parts t x.declared) j → IsIn t.shapes j n → ShowsNumber t views q n
         part_shows x c j (zero, low, e) found =
-            let is = all_at (IsShownIn t s.place) s.view.types (good_view s among).types x c in
+            let is = all_at (IsShownIn t s.place) s.view.types (good s among).types x c in
             let part : j ≡ 14 + is.number = sym e ∙ slot_is t x.slot is.number is.slot in
             let one : n ≡ is.number = name_alone t.shapes tables.shapes j n is.number s.place x.name part is.name.named found in
             type_shows s among x c is (sym one) (name_same t.shapes s.place q x.name name is.number n is.name.named at (sym one)).0
@@ -156,7 +153,7 @@ module _ (t : Tables) (tables : AreTables t) where
             → ShowsNumber t views q n
         function_shows f c j part found =
             let there = contains-get s.view.functions f c in
-            let called = all_at (λ (g : Text × NumberedFunction). IsCalledIn t s.place g.1.signature) s.view.functions (good_view s among).functions f c in
+            let called = all_at (λ (g : Text × NumberedFunction). IsCalledIn t s.place g.1.signature) s.view.functions (good s among).functions f c in
             let met : IsMetFrom t s.place j = part_of_function (IsMetFrom t s.place) (function_at t f.1.signature) called.parts j part in
             let Met = IsMetInView (IsShownBefore instances k) (place_at t s.place) (view_of t s.view) (length (view_of t s.view).types) in
             let signature = stands.functions there.0 (shown_function t f) (mapped_get (shown_function t) s.view.functions there.0 f there.1) in

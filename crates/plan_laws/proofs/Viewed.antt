@@ -42,13 +42,13 @@ use Rattle.plan_laws.specs.Owners.{owners_of}
 use Rattle.plan_laws.specs.ShownNames.{IsInput}
 use Rattle.plan_laws.specs.ViewedInterfaces.{PlannedInterfacesAreViewed, views_read}
 use Rattle.plan_laws.proofs.FirstPlaces.{first_split, number_before}
-use Rattle.plan_laws.proofs.FirstTypes.{first_told, view_good, views_told}
+use Rattle.plan_laws.proofs.FirstTypes.{first_told, views_told}
 use Rattle.plan_laws.proofs.FirstViews.{first_is}
 use Rattle.plan_laws.proofs.Owned.{planned_name}
 use Rattle.plan_laws.proofs.PartNames.{trees_of_all}
 use Rattle.plan_laws.proofs.PlaceNumbers.{all_joined, number_given, owner_numbered, place_number}
 use Rattle.plan_laws.proofs.Planned.{first_there, kept_number}
-use Rattle.plan_laws.proofs.Sources.{if_given}
+use Rattle.plan_laws.proofs.Sources.{if_given, member_view_in}
 use Rattle.plan_laws.proofs.ViewNames.{instance_tree}
 use Rattle.plan_laws.proofs.ViewRules.{seen_obeys}
 use Rattle.base_lemmas.proofs.Elements.{all_at, contains-map, get-contains, map_from as from_map, zip-kept as zip-weaker, zip_at_right as zip_get}
@@ -114,7 +114,7 @@ module _ (t : Tables) (h : Homes) (ms : List Member) (members : List reads.Membe
         (kept_there, omega (arith, many, low))
 
     shown_is : (x : NumberedType) → Contains first.view.types x → IsShownIn t first.place x
-    shown_is x c = all_at (IsShownIn t first.place) first.view.types (view_good t h ms members input agreed ordered first among).types x c
+    shown_is x c = all_at (IsShownIn t first.place) first.view.types (member_view_in t ms input.numbers first among).types x c
 
     kept_as : (x : NumberedType) → Contains first.view.types x → (k : ℕ) (e : Text × ℕ) → IsNumberOf t q x k → ListsNumber planned.kept x e → IsKeptAs planned.kept p k e
     kept_as x c k e number lists =
@@ -175,7 +175,7 @@ module _ (t : Tables) (h : Homes) (ms : List Member) (members : List reads.Membe
 
     declares_parts : DeclaresParts t first.view
     declares_parts = recursion_weaker (IsShownIn t first.place) (λ (x : NumberedType). AllOf (IsPart t) x.declared)
-        (λ x is. if_given (IsMetFrom t first.place) (IsPart t) (λ k met. met.range) x.declared is.name.met) first.view.types (view_good t h ms members input agreed ordered first among).types
+        (λ x is. if_given (IsMetFrom t first.place) (IsPart t) (λ k met. met.range) x.declared is.name.met) first.view.types (member_view_in t ms input.numbers first among).types
 
     module _ (r : ℕ) (used : Contains (used_by_view t first.view) r) where
       r_path : HasPath t r

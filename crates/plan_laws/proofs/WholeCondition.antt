@@ -60,9 +60,9 @@ use Rattle.plan_laws.specs.WholeTypes.{IsRuledInput}
 use Rattle.plan_laws.proofs.FormCounts.{HasCount, form_over, forms_count}
 use Rattle.plan_laws.proofs.Inside.{flat_cases, within, slot_is}
 use Rattle.plan_laws.proofs.InstanceSeen.{seen_showing, seen_signature, shown_so}
-use Rattle.plan_laws.proofs.Sources.{Side, at_mapped, interface_views, mapped_cases, own_sight, seen_sight, sight_of, view_among, world_in}
+use Rattle.plan_laws.proofs.Sources.{Side, at_mapped, interface_views, mapped_cases, own_sight, seen_sight, sight_of, view_among, world_in, member_view_in}
 use Rattle.plan_laws.proofs.Planned.{found_there, view_met}
-use Rattle.plan_laws.proofs.ShownAlike.{functions_alike, view_good}
+use Rattle.plan_laws.proofs.ShownAlike.{functions_alike}
 use Rattle.plan_laws.proofs.ShownNames.{names_are_shown}
 use Rattle.plan_laws.proofs.ShownRules.{all_of}
 use Rattle.plan_laws.proofs.ViewsAgree.{told, views_tell}
@@ -138,8 +138,8 @@ module _ (t : Tables) (h : Homes) (known : ℕ → Fact) (n : ℕ) (ms : List Me
       let tells = views_tell t h ms members given.input given.placed.apart ruled.agree s u c so.among (sym so.place) in
       let from = from_map told u.view.types (told x) (subst (λ (es : List (Text × Option ℕ)). Contains es (told x)) tells (contains-map told s.view.types x there)) in
       let z = from.0 in
-      let a = all_at (IsShownIn t s.place) s.view.types (view_good t h known n ms members given s c).types x there in
-      let b = all_at (IsShownIn t u.place) u.view.types (view_good t h known n ms members given u so.among).types z from.1 in
+      let a = all_at (IsShownIn t s.place) s.view.types (member_view_in t ms given.input.numbers s c).types x there in
+      let b = all_at (IsShownIn t u.place) u.view.types (member_view_in t ms given.input.numbers u so.among).types z from.1 in
       let name : z.name ≡ x.name = ap (λ (e : Text × Option ℕ). e.0) from.2 in
       let one : b.number ≡ a.number = given.input.tables.shapes.apart b.number a.number (named_shape s.place x.name) (b.name.named ∙ (λ i. Some (named_shape (so.place i) (name i)))) a.name.named in
       let a_part = slot_is t x.slot a.number a.slot in

@@ -1,4 +1,5 @@
 -- The packages, the interfaces and the worlds of a plan that was made of what was followed.
+use Rattle.plan_package.specs.ReadPackages.{AreExported, world_labels}
 use Rattle.std.proofs.Common.{◌≡◌, refl, sym, ap, subst, ◌∙◌, ℕ, arith, Bool, true, false, not, ◌||◌, ◌==◌, cond, List, [], ◌∷◌, ◌++◌, filter, filter_map, map, Option, Some, None, option_map, slice_get}
 use Rattle.std.specs.Prelude.{is_none, is_some}
 use Rattle.std.specs.List.{AllByRecursion, AllZip, Contains, list_any}
@@ -47,45 +48,35 @@ use Rattle.plan_laws.proofs.WholePlacesItems as items
 use Rattle.plan_laws.proofs.WholePlacesLabels.{interface_among, interface_of, interfaces_differ, no_world, world_among, worlds_differ}
 use Rattle.plan_laws.proofs.WorldItems.{world_member}
 use Rattle.plan_laws.proofs.WholePlacesTop.{IsOwnInstance, at_top, interface_home, main_identity, own_instance}
-use Rattle.plan_laws.proofs.Sources.{world_in as world_of}
-use Rattle.base_lemmas.proofs.Bools.{left_of as first_true, right_of as second_true}
-use Rattle.base_lemmas.proofs.Elements.{all_at, all_by_number, contains-map, get-contains, zip_at, zip_at_right as zip_get}
+use Rattle.plan_laws.proofs.Sources.{world_in as world_of, all_of}
+use Rattle.base_lemmas.proofs.Bools.{left_of as first_true, right_of as second_true, first_false, second_false}
+use Rattle.base_lemmas.proofs.Elements.{all_at, all_by_number, contains-map, get-contains, zip_at, zip_at_right as zip_get, all_pass}
 use Rattle.base_lemmas.proofs.Lists.{within_there as there_at}
 use Rattle.plan_laws.proofs.OwnPlaces.{once_inside as once_within}
-use Rattle.plan_package.proofs.ReadPackageLaws.{number_at as number_there}
+use Rattle.plan_package.proofs.ReadPackageLaws.{number_at as number_there, packages_are_read}
 
 -- the places of what a world imports and exports
 abbrev shown_of : Scope → List ℕ
 shown_of w = places_of_seen (map numbered_seen w.imports.now) ++ places_of_seen (map numbered_seen w.exports.now)
 
--- interfaces whose names differ have numbers that do, where a number tells the name
-once_named : (places : List ℕ) (home : ℕ → Option (ℕ × Text)) (n : ℕ) (xs es : List (Text × ℕ)) → AllZip (ListsPlace places) xs es → AllByRecursion (λ (x : Text × ℕ). home x.1 ≡ Some (n, x.0)) xs
-    → distinct (names_of xs) ≡ true → are_once (numbers_of es) ≡ true
-once_named places home n [] [] all homes differ = refl
-once_named places home n [] (e ∷ es) all homes differ = absurd all
-once_named places home n (x ∷ xs) [] all homes differ = absurd all
-once_named places home n (x ∷ xs) (e ∷ es) all homes differ =
-    both (not (has (numbers_of es) e.1)) (are_once (numbers_of es)) (ap not
-    (absent xs es all.1 homes.1 (not_true (list_any (text_eq x.0) (names_of xs)) (first_true (not (list_any (text_eq x.0) (names_of xs))) (distinct (names_of xs)) differ))))
-    (once_named places home n xs es all.1 homes.1 (second_true (not (list_any (text_eq x.0) (names_of xs))) (distinct (names_of xs)) differ))
+-- interfaces whose names differ have places that do, where a place tells the name
+once_named : (home : ℕ → Option (ℕ × Text)) (n : ℕ) (xs : List (Text × ℕ)) → AllByRecursion (λ (x : Text × ℕ). home x.1 ≡ Some (n, x.0)) xs → distinct (names_of xs) ≡ true
+    → are_once (map (λ (x : Text × ℕ). x.1) xs) ≡ true
+once_named home n [] homes differ = refl
+once_named home n (x ∷ xs) homes differ =
+    both (not (has (map (λ (y : Text × ℕ). y.1) xs) x.1)) (are_once (map (λ (y : Text × ℕ). y.1) xs)) (ap not
+    (absent xs homes.1 (not_true (list_any (text_eq x.0) (names_of xs)) (first_true (not (list_any (text_eq x.0) (names_of xs))) (distinct (names_of xs)) differ))))
+    (once_named home n xs homes.1 (second_true (not (list_any (text_eq x.0) (names_of xs))) (distinct (names_of xs)) differ))
   where
-    absent : (ys fs : List (Text × ℕ)) → AllZip (ListsPlace places) ys fs → AllByRecursion (λ (y : Text × ℕ). home y.1 ≡ Some (n, y.0)) ys → list_any (text_eq x.0) (names_of ys) ≡ false
-        → has (numbers_of fs) e.1 ≡ false
-    absent [] [] a k none = refl
-    absent [] (f ∷ fs) a k none = absurd a
-    absent (y ∷ ys) [] a k none = absurd a
-    absent (y ∷ ys) (f ∷ fs) a k none = by (f.1 == e.1) refl (text_eq x.0 y.0) refl none (absent ys fs a.1 k.1)
+    absent : (ys : List (Text × ℕ)) → AllByRecursion (λ (y : Text × ℕ). home y.1 ≡ Some (n, y.0)) ys → list_any (text_eq x.0) (names_of ys) ≡ false → has (map (λ (y : Text × ℕ). y.1) ys) x.1 ≡ false
+    absent [] k none = refl
+    absent (y ∷ ys) k none = by (y.1 == x.1) refl (absent ys k.1 (second_false (text_eq x.0 y.0) (list_any (text_eq x.0) (names_of ys)) none))
       where
-        by : (b : Bool) → (f.1 == e.1) ≡ b → (c : Bool) → text_eq x.0 y.0 ≡ c → (c || list_any (text_eq x.0) (names_of ys)) ≡ false
-            → (list_any (text_eq x.0) (names_of ys) ≡ false → has (numbers_of fs) e.1 ≡ false)
-            → (b || has (numbers_of fs) e.1) ≡ false
-        by b same true other never_true later = no_true (sym never_true)
-        by false same false other none_there later = later none_there
-        by true same false other none_there later =
-            let number : f.1 ≡ e.1 = eqb-true f.1 e.1 same in
-            let place : x.1 ≡ y.1 = same-some x.1 y.1 (sym (number_there places x.1 e.1 all.0.1) ∙ (ap (slice_get places) (sym number) ∙ number_there places y.1 f.1 a.0.1)) in
-            let name : x.0 ≡ y.0 = ap (λ (z : ℕ × Text). z.1) (same-some (n, x.0) (n, y.0) (sym homes.0 ∙ (ap home place ∙ k.0))) in
-            never (text_eq x.0 y.0) ((bytes_eq-Decides x.0 y.0).1 name) other
+        by : (b : Bool) → (y.1 == x.1) ≡ b → has (map (λ (z : Text × ℕ). z.1) ys) x.1 ≡ false → (b || has (map (λ (z : Text × ℕ). z.1) ys) x.1) ≡ false
+        by false same rest = rest
+        by true same rest =
+            let name : x.0 ≡ y.0 = ap (λ (z : ℕ × Text). z.1) (same-some (n, x.0) (n, y.0) (sym homes.0 ∙ (ap home (sym (eqb-true y.1 x.1 same)) ∙ k.0))) in
+            never (text_eq x.0 y.0) ((bytes_eq-Decides x.0 y.0).1 name) (first_false (text_eq x.0 y.0) (list_any (text_eq x.0) (names_of ys)) none)
 
 module _ (t : Tables) (h : Homes) (known : ℕ → Fact) (n : ℕ) (ms : List Member) (members : List reads.Member) (given : IsPackageInput t h known n ms members) (stand : ArePackages h.packages)
     (labels : LabelsStand ms) (p : Plan)
@@ -115,86 +106,23 @@ module _ (t : Tables) (h : Homes) (known : ℕ → Fact) (n : ℕ) (ms : List Me
   package_there : (c : ℕ) (identity : PackageIdentity) → slice_get h.packages c ≡ Some identity → (k : PlannedPackage) × (package_in p c ≡ Some k)
   package_there c identity e = let low = slice_get_within h.packages c identity e in let many = planned.packages.many in there_at p.packages c (omega (arith, low, many))
 
-  -- what the main package lists
-  main_interface : (x e : Text × ℕ) → Contains (interfaces_in ms) x → ListsPlace places x e → IsListedInterface t h p owners n e
-  main_interface x e c is =
-      let m = interface_of ms x c in
-      let home = interface_home t h known n ms members given m.member m.among x.1 m.view m.imports m.is in
-      let there = interface_there t h ms members given.input n p planned e.1 x.1 (number_there places x.1 e.1 is.1) in
-      record { place = x.1; path = home.0; home = home.1 ∙ ap (λ l. Some (n, l)) (m.label ∙ sym is.0); owned = owner_numbered ms x.1 e.1 is.1; interface = there.0; there = there.1 }
-
-  main_world : (e : Text × ℕ) → IsWorldAt (worlds_in ms) e → IsListedWorld t h p owners n e
-  main_world e is =
-      let there = zip_at (PlansWorld t planned.kept places n) (worlds_in ms) p.worlds planned.worlds e.1 is.world is.there in
-      record { world = there.0; there = there.1; named = there.2.name ∙ sym is.name; home = there.2.package_ }
-
   home_of : (x : Text × ℕ) → Contains (interfaces_in ms) x → home_at h x.1 ≡ Some (n, x.0)
   home_of x c =
       let m = interface_of ms x c in
       (interface_home t h known n ms members given m.member m.among x.1 m.view m.imports m.is).1 ∙ ap (λ l. Some (n, l)) m.label
 
-  -- what another package lists
-  other_interface : (c : ℕ) (e : Text × ℕ) → IsHomeAt (home_at h) c places e → IsListedInterface t h p owners c e
-  other_interface c e is =
-      let there = interface_there t h ms members given.input n p planned e.1 is.place is.there in
+  exported : AreExported h n ms
+  exported =
+      let homes_are = all_of (λ (x : Text × ℕ). home_at h x.1 ≡ Some (n, x.0)) (interfaces_in ms) home_of in
       record {
-        place = is.place;
-        path = path_given t h given.alone is.place (c, e.0) is.home;
-        home = is.home;
-        owned = owner_numbered ms is.place e.1 (place_number ms e.1 is.place is.there);
-        interface = there.0;
-        there = there.1;
-      }
-
-  main_package : (identity : PackageIdentity) (k : PlannedPackage) → slice_get h.packages n ≡ Some identity → IsMainPackage identity places ms k → IsReadPackage t h p owners n k
-  main_package identity k there is =
-      let read = stand.read n identity there in
-      let listed = worlds_are_listed (worlds_in ms) in
-      let names : names_of k.worlds ≡ names_of (worlds_in ms) = ap names_of is.worlds ∙ listed.names in
-      record {
-        identity = there ∙ ap Some (sym is.is);
-        path = read.path;
-        name = read.name;
-        reads = read.reads ∙ ap (λ i. Some (i, read.name)) (sym is.is);
-        interfaces = all_given (IsListedInterface t h p owners n) k.interfaces (λ j e at.
-            let from = zip_get (ListsPlace places) (interfaces_in ms) k.interfaces is.interfaces j e at in
-            main_interface from.0 e (get-contains (interfaces_in ms) j from.0 from.1) from.2);
-        once = once_named places (home_at h) n (interfaces_in ms) k.interfaces is.interfaces
-            (all_given (λ (x : Text × ℕ). home_at h x.1 ≡ Some (n, x.0)) (interfaces_in ms) (λ j x at. home_of x (get-contains (interfaces_in ms) j x at))) (interfaces_differ ms labels.apart);
-        worlds = subst (AllByRecursion (IsListedWorld t h p owners n)) (sym is.worlds)
-            (all_given (IsListedWorld t h p owners n) (numbered_labels 0 (worlds_in ms))
-            (λ j e at. main_world e (all_at (IsWorldAt (worlds_in ms)) (numbered_labels 0 (worlds_in ms)) listed.among e (get-contains (numbered_labels 0 (worlds_in ms)) j e at))));
-        labels = ap distinct names ∙ worlds_differ ms labels.apart;
-        apart = all_by_number (λ (e : Text × ℕ). not (list_any (text_eq e.0) (names_of k.worlds))) k.interfaces (λ j e at.
-            let from = zip_get (ListsPlace places) (interfaces_in ms) k.interfaces is.interfaces j e at in
-            (λ i. not (list_any (text_eq (from.2.0 i)) (names i))) ∙ ap not (no_world ms labels.apart from.0 (get-contains (interfaces_in ms) j from.0 from.1)));
-      }
-
-  other_package : (c : ℕ) (identity : PackageIdentity) (k : PlannedPackage) → slice_get h.packages c ≡ Some identity → IsForeignPackage identity (entries_from (home_at h) c 0 places) k
-      → IsReadPackage t h p owners c k
-  other_package c identity k there is =
-      let read = stand.read c identity there in
-      let es = entries_from (home_at h) c 0 places in
-      let listed = homes_are_listed (home_at h) c places in
-      record {
-        identity = there ∙ ap Some (sym is.is);
-        path = read.path;
-        name = read.name;
-        reads = read.reads ∙ ap (λ i. Some (i, read.name)) (sym is.is);
-        interfaces = subst (AllByRecursion (IsListedInterface t h p owners c)) (sym is.interfaces)
-            (all_given (IsListedInterface t h p owners c) es (λ j e at. other_interface c e (all_at (IsHomeAt (home_at h) c places) es listed.among e (get-contains es j e at))));
-        once = ap (λ xs. are_once (numbers_of xs)) is.interfaces ∙ listed.once;
-        worlds = subst (AllByRecursion (IsListedWorld t h p owners c)) (sym is.worlds) tt;
-        labels = ap (λ xs. distinct (names_of xs)) is.worlds;
-        apart = all_by_number (λ (e : Text × ℕ). not (list_any (text_eq e.0) (names_of k.worlds))) k.interfaces (λ j e at. ap (λ xs. not (list_any (text_eq e.0) (names_of xs))) is.worlds);
+        homes = homes_are;
+        once = once_named (home_at h) n (interfaces_in ms) homes_are (interfaces_differ ms labels.apart);
+        labels = worlds_differ ms labels.apart;
+        apart = all_pass (λ (x : Text × ℕ). not (list_any (text_eq x.0) (world_labels ms))) (interfaces_in ms) (λ x c. ap not (no_world ms labels.apart x c));
       }
 
   packages_read : (c : ℕ) (k : PlannedPackage) → package_in p c ≡ Some k → IsReadPackage t h p owners c k
-  packages_read c k e = by (planned.packages.each c k e)
-    where
-      by : PlansPackage h.packages n places ms (entries_from (home_at h) c 0 places) c k → IsReadPackage t h p owners c k
-      by (the_main identity same there is) = subst (λ x. IsReadPackage t h p owners x k) (sym same) (main_package identity k (ap (slice_get h.packages) (sym same) ∙ there) is)
-      by (another identity other there is) = other_package c identity k there is
+  packages_read = packages_are_read t h stand (path_given t h given.alone) n ms exported owners (λ m q at. owner_numbered ms q m (place_number ms m q at)) p planned
 
   -- ---- interfaces
 

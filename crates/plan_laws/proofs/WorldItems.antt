@@ -44,11 +44,11 @@ use Rattle.plan_laws.specs.FirstViews.{ViewsAreOrdered}
 use Rattle.plan_laws.specs.Owners.{homes_in, owners_of}
 use Rattle.plan_laws.specs.ShownNames.{DeclaresName, IsInput, PartDeclaresNames}
 use Rattle.plan_laws.specs.WorldItems.{InstancesAreRead, KeysAreApart, PlannedWorldsStand, TypesAreRead, WorldsAreApart}
-use Rattle.plan_laws.proofs.FirstTypes.{view_good, views_told}
+use Rattle.plan_laws.proofs.FirstTypes.{views_told}
 use Rattle.plan_laws.proofs.FirstViews.{first_is, told_types}
 use Rattle.plan_laws.proofs.Inside.{flat_cases, name_same, slot_is}
 use Rattle.plan_laws.proofs.Sources as origins
-use Rattle.plan_laws.proofs.Sources.{origin, seen_sight, sight_of, view_among, world_in}
+use Rattle.plan_laws.proofs.Sources.{origin, seen_sight, sight_of, view_among, world_in, member_view_in}
 use Rattle.plan_laws.proofs.Owned.{planned_name}
 use Rattle.plan_laws.proofs.PlaceNumbers.{IsOnce, number_given}
 use Rattle.plan_laws.proofs.Planned.{first_there, interface_there, kept_number, place_seen}
@@ -206,7 +206,7 @@ module _ (t : Tables) (h : Homes) (ms : List Member) (members : List reads.Membe
           by : (x : Member) → Contains ms x → origins.IsShownIn x.part y → y.part ≡ 14 + k → (y.declared ≡ d) × (y.external_id ≡ given_text s.external_id)
           by x x_there (origins.in_view u u_there z z_there same) number =
               let among = view_among ms x x_there u u_there in
-              let is = all_at (IsShownIn t u.place) u.view.types (view_good t h ms members input agreed ordered u among).types z z_there in
+              let is = all_at (IsShownIn t u.place) u.view.types (member_view_in t ms input.numbers u among).types z z_there in
               let slot = slot_is t z.slot is.number is.slot in
               let equal : is.number ≡ k = (let a = ap (λ (g : NumberedShowing). g.part) same in omega (arith, a, number, slot)) in
               let here = name_same t.shapes u.place w.1.home z.name s.key.now is.number k is.name.named shape equal in

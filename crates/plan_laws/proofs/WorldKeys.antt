@@ -1,5 +1,11 @@
 -- The imports of a world stand under keys that differ, and a world has a place of its own.
-use Rattle.std.proofs.Common.{◌≡◌, sym, ap, subst, ◌∙◌, ℕ, Bool, true, false, List, [], ◌++◌, map, Option, Some, slice_get}
+use Rattle.read_rules.specs.declared.scopes.Shown.TheVariants as shown
+use Rattle.base_lemmas.proofs.Elements.{contains-map}
+use Rattle.read_rules.specs.declared.scopes.Seen.{Seen}
+use Rattle.plan_package.specs.Views.{views_of_members}
+use Rattle.plan_laws.proofs.Showings.{import_named}
+use Rattle.plan_laws.proofs.Inside.{name_same}
+use Rattle.std.proofs.Common.{◌≡◌, sym, ap, subst, ◌∙◌, ℕ, Bool, true, false, List, [], ◌++◌, map, Option, Some, slice_get, ◌+◌, arith}
 use Rattle.std.specs.List.{Contains, list_all}
 use Rattle.wit_model.proofs.Elements.{contains-get}
 use Rattle.comp_meaning.specs.Follow as follow
@@ -8,19 +14,19 @@ use Rattle.comp_meaning.specs.Rules as rules
 use Rattle.comp_meaning.specs.Rules.{distinct}
 use Rattle.read_shown.proofs.Lists.{one_place}
 use Rattle.plan_meaning.specs.NumberedMembers.{Homes}
-use Rattle.plan_meaning.specs.NumberedViews.{Tables}
+use Rattle.plan_meaning.specs.NumberedViews.{Tables, NumberedSight, path_at}
 use Rattle.plan_meaning.specs.NumberedWorlds as worlds
 use Rattle.plan_meaning.specs.NumberedWorlds.{NumberedScope, NumberedSeen, NumberedShown, are_once, seen_of}
 use Rattle.read_exports.specs.Members.{numbered_members}
 use Rattle.read_exports.specs.declared.members.Member.{Member}
 use Rattle.read_exports.specs.declared.members.Part.TheVariants as parts
 use Rattle.read_rules.specs.declared.scopes.Scope.{Scope}
-use Rattle.read_rules.specs.Scopes.{numbered_scope, numbered_seen}
+use Rattle.read_rules.specs.Scopes.{numbered_scope, numbered_seen, numbered_shown}
 use Rattle.plan_type_laws.specs.ShownMarks.{own_places}
 use Rattle.plan_laws.specs.ShownNames.{IsInput}
 use Rattle.plan_laws.proofs.OwnPlaces.{Owned, a_view, a_world, frames, one_owned}
 use Rattle.plan_laws.proofs.Sources.{one_under}
-use Rattle.plan_laws.proofs.ShownFrom.{IsWorldOf, home_frame, world_of}
+use Rattle.plan_laws.proofs.ShownFrom.{IsWorldOf, home_frame, world_of, view_frame}
 use Rattle.base_lemmas.proofs.Bools.{third_of}
 use Rattle.base_lemmas.proofs.Lists.{map_of_map, mapped_get}
 use Rattle.std.proofs.lemmas.Option.{same_Some as same-some}
@@ -60,3 +66,29 @@ module _ (t : Tables) (h : Homes) (ms : List Member) (members : List reads.Membe
       (subst (λ q. Contains {X = ℕ × Owned} (frames (numbered_members ms)) (q, a_world (numbered_scope w))) same (home_frame t h ms members input apart m c w is_w))
       (home_frame t h ms members input apart n d v is_v) in
       ap (world_owned scope) owned
+
+  -- no view is of the place of a world
+  pub view_apart : (s : NumberedSight) → Contains (views_of_members (numbered_members ms)) s → (m : Member) → Contains ms m → (w : Scope) → m.part ≡ parts.World w → s.place ≡ w.home → ⊥
+  view_apart s in_views m c w is same =
+      let none = (world_of t h ms members input apart m c w is).good.home in
+      let there = subst (λ q. Contains {X = ℕ × Owned} (frames (numbered_members ms)) (q, a_view s.view)) same (view_frame t h ms members input apart s in_views (ap (path_at t) same ∙ none)) in
+      let owned = one_owned t (numbered_members ms) apart w.home none (a_view s.view) (a_world (numbered_scope w)) there (home_frame t h ms members input apart m c w is) in
+      let wrong : false ≡ true = ap is_world_owned owned in cc
+
+  -- imports of worlds that are of one name are one
+  pub by_imports : (m : Member) → Contains ms m → (w : Scope) → m.part ≡ parts.World w → (a : Seen) → Contains w.imports.now a → (part : ℕ) (d : Option ℕ) → a.shown ≡ shown.Declares part d
+      → (k : Member) → Contains ms k → (v : Scope) → k.part ≡ parts.World v → (b : Seen) → Contains v.imports.now b → (other : ℕ) (e : Option ℕ) → b.shown ≡ shown.Declares other e
+      → part ≡ other → d ≡ e
+  by_imports m c w is_w a a_in part d a_shows k g v is_v b b_in other e b_shows same =
+      let a_name = import_named t input.tables h ms members input m c w is_w a a_in part d a_shows in
+      let b_name = import_named t input.tables h ms members input k g v is_v b b_in other e b_shows in
+      let one : a_name.0 ≡ b_name.0 = (let p = a_name.1 in let q = b_name.1 in omega (arith, p, q, same)) in
+      let name = name_same t.shapes w.home v.home a.key.now b.key.now a_name.0 b_name.0 a_name.2.named b_name.2.named one in
+      let scope = one_world m k c g w v is_w is_v name.0 in
+      let here : Contains (map numbered_seen v.imports.now) (numbered_seen a) =
+      subst (λ (x : NumberedScope). Contains x.imports (numbered_seen a)) scope (contains-map numbered_seen w.imports.now a a_in) in
+      let second = world_of t h ms members input apart k g v is_v in
+      let seen = one_key (map numbered_seen v.imports.now) (keys_apart v second) (numbered_seen a) (numbered_seen b) here
+      (contains-map numbered_seen v.imports.now b b_in) name.1 in
+      let shown_same : worlds.declares d ≡ worlds.declares e = sym (ap numbered_shown a_shows) ∙ (ap (λ (x : NumberedSeen). x.shown) seen ∙ ap numbered_shown b_shows) in
+      ap (declared_in e) shown_same
