@@ -25,7 +25,7 @@ use Rattle.read_rules.specs.Scopes.{numbered_scope}
 use Rattle.plan_types.specs.Orders as orders
 use Rattle.plan_types.specs.Orders.{home_of_part}
 use Rattle.plan_package.specs.Views.{views_of_members, views_of_part, whole_view}
-use Rattle.plan_package.specs.WholeWorlds.{world_in_part, worlds_in}
+use Rattle.plan_package.specs.WholeWorlds.{worlds_in}
 use Rattle.plan_type_laws.specs.ShownMarks.{has_no_path, own_places, places_of_part, places_of_seen}
 use Rattle.plan_laws.specs.Apart.{WholeStandsApart}
 use Rattle.plan_laws.specs.Owners.{homes_in}

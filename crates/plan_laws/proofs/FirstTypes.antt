@@ -1,17 +1,12 @@
 -- The types of the first view of a place are shown first as it shows them.
-use Rattle.std.proofs.Common.{◌≡◌, refl, sym, ap, subst, ◌∙◌, ℕ, ◌+◌, arith, Bool, true, List, [], ◌∷◌, map, Option, Some, None, slice_get}
-use Rattle.std.specs.List.{AllByRecursion, Contains}
+use Rattle.std.proofs.Common.{◌≡◌, refl, sym, ap, subst, ◌∙◌, ℕ, ◌+◌, arith, true, List, map, Option, Some, None, slice_get}
+use Rattle.std.specs.List.{Contains}
 use Rattle.wit_model.specs.Text.{Text}
 use Rattle.wit_model.proofs.Elements.{contains-get}
 use Rattle.comp_meaning.specs.Reads as reads
-use Rattle.comp_meaning.specs.Rules.{distinct}
-use Rattle.comp_meaning.specs.Follow.{ShownType}
-use Rattle.read_shown.proofs.Agreement as agreement
-use Rattle.read_shown.proofs.Lists.{one_place}
-use Rattle.plan_meaning.specs.FollowedNumbers.{IsPartIn, IsShownIn, IsViewIn}
-use Rattle.plan_meaning.specs.NumberedMembers.{Homes, NumberedMember, sights_of_members}
-use Rattle.plan_meaning.specs.NumberedViews.{NumberedSight, NumberedType, Tables, agree_in_numbers, first_at, path_at, place_at, shown_type, view_of}
-use Rattle.plan_meaning.specs.Shapes.{Shape, named_shape}
+use Rattle.plan_meaning.specs.FollowedNumbers.{IsShownIn}
+use Rattle.plan_meaning.specs.NumberedMembers.{Homes, sights_of_members}
+use Rattle.plan_meaning.specs.NumberedViews.{NumberedSight, NumberedType, Tables, agree_in_numbers, first_at, path_at}
 use Rattle.read_exports.specs.Members.{numbered_members}
 use Rattle.read_exports.specs.declared.members.Member.{Member}
 use Rattle.read_exports.specs.declared.members.Part.TheVariants as parts
@@ -21,19 +16,18 @@ use Rattle.read_rules.specs.declared.scopes.Shown.TheVariants as shown
 use Rattle.plan_parts.specs.Interfaces.{slot_part}
 use Rattle.plan_types.specs.Showings.{NumberedShowing, showing_of, showings_of_members}
 use Rattle.plan_package.specs.PlanWhole.{shown_first}
-use Rattle.plan_package.specs.Views.{views_of_members, views_of_part}
+use Rattle.plan_package.specs.Views.{views_of_members}
 use Rattle.plan_type_laws.proofs.FirstFound.{firsts_found}
 use Rattle.plan_laws.specs.FirstViews.{ViewsAreOrdered, told}
 use Rattle.plan_laws.specs.Owners.{homes_in}
-use Rattle.plan_laws.specs.ShownNames.{IsInput, PartDeclaresNames, DeclaresName}
+use Rattle.plan_laws.specs.ShownNames.{IsInput}
 use Rattle.plan_laws.proofs.FirstViews.{first_is, one_told, sight_there, view_names}
-use Rattle.plan_laws.proofs.Inside.{flat_cases, name_same, slot_is}
+use Rattle.plan_laws.proofs.Inside.{name_same, slot_is}
 use Rattle.plan_laws.proofs.Sources as origins
 use Rattle.plan_laws.proofs.Sources.{member_view_in, one_under, origin, view_among}
 use Rattle.plan_laws.proofs.Showings.{import_named}
 use Rattle.plan_laws.proofs.Planned.{home_met}
 use Rattle.base_lemmas.proofs.Elements.{all_at, contains-map, map_from as from_map}
-use Rattle.base_lemmas.proofs.Lists.{get_back as unmapped_get, map_of_map, mapped_get}
 use Rattle.std.proofs.lemmas.Option.{same_Some as same-some}
 
 module _ (t : Tables) (h : Homes) (ms : List Member) (members : List reads.Member) (input : IsInput t h ms members) (agreed : agree_in_numbers (sights_of_members t (numbered_members ms)) ≡ true) (ordered : ViewsAreOrdered t ms) where

@@ -1,12 +1,10 @@
 -- The worlds of a plan become what worlds at the top show.
-use Rattle.std.proofs.Common.{◌≡◌, refl, sym, ap, subst, ◌∙◌, ℕ, suc, ◌+◌, ◌⊎◌, inl, inr, arith, true, false, List, [], ◌∷◌, ◌++◌, map, Option, Some, None, slice_get, unwrap_or}
+use Rattle.std.proofs.Common.{◌≡◌, refl, sym, ap, subst, ◌∙◌, ℕ, suc, ◌+◌, inl, inr, arith, true, false, List, [], ◌∷◌, ◌++◌, map, Option, Some, None, slice_get, unwrap_or}
 use Rattle.std.specs.List.{AllZip, Contains, flat_map}
 use Rattle.wit_model.specs.Text.{Text}
 use Rattle.wit_model.specs.declared.model.TypeId.{TypeId}
 use Rattle.comp_meaning.specs.Reads as reads
-use Rattle.read_shown.specs.Scopes as scopes
 use Rattle.read_shown.proofs.Lists.{one_place}
-use Rattle.plan_meaning.specs.FollowedNumbers.{IsOneOf, IsSeenIn}
 use Rattle.plan_meaning.specs.GatheredPlan.{InterfaceAt, SeenBecomes, WorldAt, WorldBecomes, WorldsListed, functions_seen, worlds_listed}
 use Rattle.plan_meaning.specs.NumberedMembers.{Homes, home_at}
 use Rattle.plan_meaning.specs.NumberedRules.{Fact}
@@ -30,12 +28,12 @@ use Rattle.read_rules.specs.declared.scopes.Seen.{Seen}
 use Rattle.read_rules.specs.declared.scopes.Shown.{Shown}
 use Rattle.read_rules.specs.declared.scopes.Shown.TheVariants as shown
 use Rattle.read_rules.specs.declared.views.View.{View}
-use Rattle.read_rules.specs.Scopes.{numbered_instance, numbered_key, numbered_scope, numbered_seen, numbered_shown}
+use Rattle.read_rules.specs.Scopes.{numbered_key, numbered_scope, numbered_seen, numbered_shown}
 use Rattle.read_rules.specs.Tables.{given_text}
 use Rattle.read_rules.specs.Views.{numbered_view}
 use Rattle.plan_types.specs.PlannedTypes.{number_in}
 use Rattle.plan_package.specs.PlanWhole.{PlansWhole, places_in}
-use Rattle.plan_package.specs.Views.{views_of_members, views_of_part, whole_view}
+use Rattle.plan_package.specs.Views.{views_of_members}
 use Rattle.plan_package.specs.WholePackages.{numbered_labels}
 use Rattle.plan_package.specs.WholeWorlds.{PlansItem, PlansWorld, a_function, a_type, an_instance, planned_key, types_seen, world_in_part, worlds_in}
 use Rattle.plan_laws.specs.FirstViews.{ViewsAreOrdered}
@@ -56,7 +54,7 @@ use Rattle.plan_laws.proofs.WholeReasonsFunctions.{first_whole}
 use Rattle.plan_laws.proofs.WholeTypes.{packages_are_ruled}
 use Rattle.plan_laws.proofs.WorldItems.{planned_worlds_stand, world_member}
 use Rattle.plan_laws.proofs.WorldKeys.{keys_apart}
-use Rattle.base_lemmas.proofs.Elements.{all_at, contains-later, contains-map, get-contains, zip_at}
+use Rattle.base_lemmas.proofs.Elements.{all_at, contains-later, get-contains, zip_at}
 use Rattle.base_lemmas.proofs.Lists.{mapped_get}
 
 zip_mapped : {A B C : Type 0} (P : A → B → Type 0) (Q : C → B → Type 0) (f : A → C) (xs : List A) → ((x : A) → Contains xs x → (y : B) → P x y → Q (f x) y) → (ys : List B) → AllZip P xs ys

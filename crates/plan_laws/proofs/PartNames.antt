@@ -1,12 +1,10 @@
 -- A name that is used by what a part shows is shown by a view in its own place, or imported by the world.
-use Rattle.std.proofs.Common.{◌≡◌, refl, sym, ap, subst, ◌∙◌, ℕ, zero, suc, ◌+◌, ◌⊎◌, inl, inr, arith, Bool, true, false, List, [], ◌∷◌, ◌++◌, length, map, Option, Some, slice_get}
-use Rattle.std.specs.Borrow.{Bor}
-use Rattle.std.specs.List.{AllByRecursion, AllZip, Contains, flat_map}
-use Rattle.std.proofs.lemmas.List.Elements.{Contains-append_cases, Contains-append_left, Contains-append_right}
+use Rattle.std.proofs.Common.{◌≡◌, refl, sym, ap, subst, ◌∙◌, ℕ, zero, suc, ◌+◌, ◌⊎◌, inl, inr, arith, Bool, true, List, [], ◌∷◌, ◌++◌, length, map, Option, Some, slice_get}
+use Rattle.std.specs.List.{AllByRecursion, AllZip, Contains}
 use Rattle.wit_model.specs.Text.{Text}
 use Rattle.wit_model.specs.Names.{path_in}
 use Rattle.wit_model.specs.Tree.{Declaration, Place}
-use Rattle.wit_model.proofs.Elements.{contains-get, none-in}
+use Rattle.wit_model.proofs.Elements.{contains-get}
 use Rattle.wit_model.proofs.NameLaws.{read_path_is_spelled}
 use Rattle.comp_meaning.specs.Follow as follow
 use Rattle.comp_meaning.specs.Follow.{Instance, place_of}
@@ -17,35 +15,30 @@ use Rattle.read_shown.specs.Scopes as scopes
 use Rattle.read_shown.specs.Scopes.{IsDeclared, IsImported, IsMetInScope, IsShownBefore, ScopeStands, a_resource, a_value, name_of_instance, own_name}
 use Rattle.read_shown.specs.Trees.{SignatureStands}
 use Rattle.read_shown.specs.Views.{ViewStands}
-use Rattle.plan_meaning.specs.FollowedNumbers.{IsCalledIn, IsMetFrom, IsNameOf, IsOneOf, IsPartIn, IsScopeIn, IsSeenIn, IsViewIn}
+use Rattle.plan_meaning.specs.FollowedNumbers.{IsCalledIn, IsMetFrom, IsNameOf, IsPartIn, IsScopeIn, IsSeenIn, IsViewIn}
 use Rattle.plan_meaning.specs.NumberedMembers.{Homes, HomesStand, IsMember, NumberedMember, NumberedPart, ShowsInterface, ShowsPart, interface, world}
 use Rattle.plan_meaning.specs.NumberedViews.{AllOf, AreTables, IsPart, NumberedFunction, NumberedSight, NumberedType, NumberedView, Tables, function_at, path_at, path_text, place_at, signature_at, view_of}
-use Rattle.plan_meaning.specs.NumberedWorlds.{HasPath, NumberedInstance, NumberedSeen, Shows, place_of_key, seen_of, shown_of}
-use Rattle.plan_meaning.specs.Shapes.{Shape, named_shape}
+use Rattle.plan_meaning.specs.NumberedWorlds.{HasPath, Shows, seen_of, shown_of}
+use Rattle.plan_meaning.specs.Shapes.{named_shape}
 use Rattle.plan_meaning.proofs.NumberedWorlds.{path_is}
-use Rattle.read_rules.specs.declared.scopes.InstanceKey.{InstanceKey}
 use Rattle.read_rules.specs.declared.scopes.Scope.{Scope}
 use Rattle.read_rules.specs.declared.scopes.Seen.{Seen}
 use Rattle.read_rules.specs.declared.scopes.Shown.{Shown}
 use Rattle.read_rules.specs.declared.scopes.Shown.TheVariants as shown
-use Rattle.read_rules.specs.declared.reached.ImportedView.{ImportedView}
-use Rattle.read_rules.specs.declared.views.View.{View}
-use Rattle.read_rules.specs.Reached.{numbered_import}
-use Rattle.read_rules.specs.Scopes.{numbered_instance, numbered_key, numbered_scope, numbered_seen, numbered_shown}
+use Rattle.read_rules.specs.Scopes.{numbered_instance, numbered_scope, numbered_seen, numbered_shown}
 use Rattle.read_rules.specs.Tables.{given_text}
-use Rattle.read_rules.specs.Views.{numbered_view}
 use Rattle.read_exports.specs.Members.{numbered_part}
 use Rattle.read_exports.specs.declared.members.Part.TheVariants as parts
 use Rattle.plan_type_laws.specs.MembersStand.{all_instances}
-use Rattle.plan_types.specs.Showings.{NumberedShowing, showing_of, showings_of_import, showings_of_part, showings_of_seen, showings_of_shown, showings_of_view, signatures_of_part, signatures_of_seen, signatures_of_shown, signatures_of_view}
+use Rattle.plan_types.specs.Showings.{NumberedShowing, showing_of}
 use Rattle.plan_types.specs.Used.{declared_parts, function_parts, showing_parts}
 use Rattle.plan_package.specs.Views.{types_alone, views_of_members, views_of_part, whole_view}
 use Rattle.plan_laws.specs.ShownNames.{DeclaresName, ImportsNumber, ShowsNumber}
-use Rattle.plan_laws.proofs.Inside.{IsIn, flat_cases, name_alone, name_in, name_same}
-use Rattle.plan_laws.proofs.Sources.{Side, all_of, at_mapped, imported_showing, side_good, view_in}
+use Rattle.plan_laws.proofs.Inside.{IsIn, name_alone, name_in, name_same}
+use Rattle.plan_laws.proofs.Sources.{Side, at_mapped, imported_showing, side_good, view_in}
 use Rattle.plan_laws.proofs.MetNames.{in_declared, in_signature}
 use Rattle.plan_laws.proofs.ViewNames.{declared_inside, function_shows, instance_tree, outside_shows, part_of_function, part_shows}
-use Rattle.base_lemmas.proofs.Elements.{all_at, all_both, contains-map, contains-one, get-contains, last_of as one-contained, map_from as from_map}
+use Rattle.base_lemmas.proofs.Elements.{all_at, get-contains}
 use Rattle.base_lemmas.proofs.Lists.{append_of_map, get_back as unmapped_get, map_of_map, mapped_get}
 use Rattle.std.proofs.lemmas.Option.{same_Some as same-some}
 use Rattle.plan_type_laws.proofs.PartPlaces.{parts_weaker}

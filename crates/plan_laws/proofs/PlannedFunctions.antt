@@ -1,42 +1,24 @@
 -- All functions of a whole plan are those that were read, each in its own place.
-use Rattle.std.proofs.Common.{◌≡◌, refl, sym, ap, subst, ◌∙◌, ℕ, ◌⊎◌, inl, inr, Bool, true, false, ◌==◌, ◌&&◌, cond, List, [], ◌∷◌, map, Some, None}
-use Rattle.std.specs.List.{AllByRecursion, Contains, flat_map}
+use Rattle.std.proofs.Common.{◌≡◌, refl, sym, ap, subst, ◌∙◌, ℕ, Bool, true, false, ◌==◌, ◌&&◌, cond, List, [], ◌∷◌, Some}
+use Rattle.std.specs.List.{AllByRecursion, Contains}
 use Rattle.std.proofs.lemmas.Bool.{eqb-true}
-use Rattle.std.proofs.lemmas.List.Elements.{Contains-append_cases, Contains-append_left, Contains-append_right}
 use Rattle.wit_model.specs.Text.{Text}
 use Rattle.wit_model.specs.Valid.{as_interface, as_world}
-use Rattle.wit_model.proofs.Elements.{contains-flat, contains-get, none-in}
-use Rattle.comp_meaning.specs.Follow.{ShownType}
+use Rattle.wit_model.proofs.Elements.{none-in}
 use Rattle.comp_meaning.specs.Reads as reads
-use Rattle.comp_meaning.specs.Rules.{distinct}
-use Rattle.read_shown.proofs.Agreement as agreement
-use Rattle.plan_meaning.specs.FollowedNumbers.{IsOneOf}
 use Rattle.plan_meaning.specs.GatheredPlan.{functions_seen}
 use Rattle.plan_meaning.specs.NumberedMembers.{Homes, NumberedMember, home_at}
 use Rattle.plan_meaning.specs.NumberedRules.{Fact}
-use Rattle.plan_meaning.specs.NumberedViews.{NumberedFunction, NumberedSight, NumberedType, PartsOf, Tables, function_at, place_at, shown_type, view_of}
-use Rattle.plan_meaning.specs.NumberedWorlds.{NumberedSeen, place_of_key}
+use Rattle.plan_meaning.specs.NumberedViews.{NumberedFunction, NumberedSight, PartsOf, Tables, function_at}
 use Rattle.plan_meaning.specs.Plan.{Plan, PlannedFunction, PlannedInterface, PlannedWorld, interface_in, world_in}
 use Rattle.plan_meaning.specs.PlanRules.{functions_of, world_functions}
 use Rattle.plan_meaning.specs.ReadFunctions.{Beside, IsReadFunction}
-use Rattle.plan_meaning.specs.ReadWholes.{place_shown}
 use Rattle.plan_parts.specs.Interfaces.{IsPlannedFunction}
-use Rattle.read_exports.specs.Members.{numbered_member, numbered_members, numbered_part}
+use Rattle.read_exports.specs.Members.{numbered_members}
 use Rattle.read_exports.specs.declared.members.Member.{Member}
-use Rattle.read_exports.specs.declared.members.Part.{Part}
-use Rattle.read_exports.specs.declared.members.Part.TheVariants as parts
-use Rattle.read_rules.specs.Reached.{numbered_import}
-use Rattle.read_rules.specs.Scopes.{numbered_instance, numbered_key, numbered_scope, numbered_seen, numbered_shown}
-use Rattle.read_rules.specs.Views.{numbered_view}
-use Rattle.read_rules.specs.declared.scopes.InstanceKey.{InstanceKey}
-use Rattle.read_rules.specs.declared.scopes.Scope.{Scope}
-use Rattle.read_rules.specs.declared.scopes.Seen.{Seen}
-use Rattle.read_rules.specs.declared.scopes.Shown.{Shown}
-use Rattle.read_rules.specs.declared.scopes.Shown.TheVariants as shown
-use Rattle.plan_types.specs.Showings.{signatures_of_members, signatures_of_part, signatures_of_seen, signatures_of_shown}
-use Rattle.read_rules.specs.declared.views.View.{View}
+use Rattle.plan_types.specs.Showings.{signatures_of_members}
 use Rattle.plan_package.specs.PlanWhole.{PlansWhole, places_in}
-use Rattle.plan_package.specs.Views.{types_alone, views_of_members, views_of_part, whole_view}
+use Rattle.plan_package.specs.Views.{views_of_members}
 use Rattle.plan_package.specs.WholeInterfaces.{PlansInterface, PlansPlace}
 use Rattle.plan_package.specs.WholeWorlds.{PlansWorld, worlds_in}
 use Rattle.plan_laws.specs.FirstViews.{ViewsAreOrdered}
@@ -47,19 +29,15 @@ use Rattle.plan_laws.specs.WholeReasons.{AreShownAlike}
 use Rattle.plan_laws.specs.WholeTypes.{IsRuledInput, TypesAreWhole}
 use Rattle.plan_laws.specs.WorldItems.{WorldsAreApart}
 use Rattle.plan_laws.proofs.FirstViews.{first_is, view_names}
-use Rattle.plan_laws.proofs.Inside.{flat_cases}
 use Rattle.plan_laws.proofs.InstanceSeen.{shown_so}
 use Rattle.plan_laws.proofs.Sources.{partner_back, member_view_in}
 use Rattle.plan_laws.proofs.InterfaceFunctions.{view_function}
 use Rattle.plan_laws.proofs.PlaceNumbers.{owner_numbered, place_number}
 use Rattle.plan_laws.proofs.Planned.{first_there}
-use Rattle.plan_laws.proofs.ShownFrom.{IsWorldOf, world_of}
 use Rattle.plan_laws.proofs.ShownRules.{all_of}
 use Rattle.plan_laws.proofs.WholeFunctions.{world_functions_are_read}
 use Rattle.plan_laws.proofs.WorldItems.{planned_worlds_stand}
-use Rattle.base_lemmas.proofs.Elements.{all_at, contains-later, contains-map, get-contains, last_of as one-contained, map_from as from_map, zip_at_right as zip_get}
-use Rattle.base_lemmas.proofs.Lists.{map_of_map}
-use Rattle.std.proofs.lemmas.Option.{same_Some as same-some}
+use Rattle.base_lemmas.proofs.Elements.{all_at, contains-later, get-contains, map_from as from_map, zip_at_right as zip_get}
 
 -- ---- where a function of a place is shown
 

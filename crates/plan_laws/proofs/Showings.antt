@@ -3,23 +3,20 @@ use Rattle.std.proofs.Common.{◌≡◌, subst, ℕ, ◌+◌, inl, List, Option}
 use Rattle.std.specs.List.{Contains}
 use Rattle.wit_model.specs.Text.{Text}
 use Rattle.comp_meaning.specs.Reads as reads
-use Rattle.plan_meaning.specs.FollowedNumbers.{IsNameOf, IsPartIn, IsShownIn, IsSlotOf}
-use Rattle.plan_meaning.specs.NumberedMembers.{Homes, IsMember}
-use Rattle.plan_meaning.specs.NumberedViews.{AreTables, NumberedSlot, Tables, resource, value}
+use Rattle.plan_meaning.specs.FollowedNumbers.{IsNameOf, IsPartIn, IsShownIn}
+use Rattle.plan_meaning.specs.NumberedMembers.{Homes}
+use Rattle.plan_meaning.specs.NumberedViews.{AreTables, Tables}
 use Rattle.plan_meaning.specs.Shapes.{named_shape}
-use Rattle.plan_parts.specs.Interfaces.{slot_part}
-use Rattle.read_shown.specs.Parts.{PartStands}
 use Rattle.read_rules.specs.declared.scopes.Scope.{Scope}
 use Rattle.read_rules.specs.declared.scopes.Seen.{Seen}
 use Rattle.read_rules.specs.declared.scopes.Shown.{Shown}
 use Rattle.read_rules.specs.declared.scopes.Shown.TheVariants as shown
-use Rattle.read_exports.specs.Members.{numbered_member, numbered_part}
+use Rattle.read_exports.specs.Members.{numbered_part}
 use Rattle.read_exports.specs.declared.members.Member.{Member}
 use Rattle.read_exports.specs.declared.members.Part.TheVariants as parts
-use Rattle.plan_types.specs.Showings.{NumberedShowing, showings_of_members, showings_of_part, signatures_of_members, signatures_of_part}
+use Rattle.plan_types.specs.Showings.{NumberedShowing, showings_of_members}
 use Rattle.plan_laws.specs.ShownNames.{DeclaresName, IsInput, PartDeclaresNames}
-use Rattle.plan_laws.proofs.Inside.{flat_cases, slot_is}
-use Rattle.plan_laws.proofs.ShownNames.{beside}
+use Rattle.plan_laws.proofs.Inside.{slot_is}
 use Rattle.plan_laws.proofs.Sources as sources
 use Rattle.plan_laws.proofs.Sources.{origin, part_at, side_good, view_in}
 use Rattle.base_lemmas.proofs.Elements.{all_at}

@@ -1,49 +1,33 @@
 -- A type is declared as one and the same wherever it is shown, and views of a place that show functions show the same ones.
-use Rattle.std.proofs.Common.{◌≡◌, refl, sym, ap, subst, ◌∙◌, ℕ, arith, true, ◌&&◌, ◌==◌, List, ◌++◌, map, Option, Some, None, slice_get}
+use Rattle.std.proofs.Common.{◌≡◌, refl, sym, ap, subst, ◌∙◌, ℕ, arith, true, ◌&&◌, List, ◌++◌, map, Option, Some, None}
 use Rattle.std.specs.List.{Contains, list_all}
 use Rattle.wit_model.specs.Text.{Text}
-use Rattle.comp_meaning.specs.Follow.{ShownType}
 use Rattle.comp_meaning.specs.Reads as reads
 use Rattle.comp_meaning.specs.Rules.{distinct}
-use Rattle.read_shown.proofs.Agreement as agreement
-use Rattle.plan_meaning.specs.FollowedNumbers.{IsPartIn, IsShownIn, IsViewIn}
-use Rattle.plan_meaning.specs.NumberedMembers.{Homes, NumberedMember, are_interfaces, sights_of_members, stands_at_top}
+use Rattle.plan_meaning.specs.FollowedNumbers.{IsShownIn, IsViewIn}
+use Rattle.plan_meaning.specs.NumberedMembers.{Homes, NumberedMember, sights_of_members}
 use Rattle.plan_meaning.specs.NumberedRules.{Fact, is_function, is_interface, is_type, resources_of}
-use Rattle.plan_meaning.specs.NumberedViews.{NumberedFunction, NumberedSight, NumberedType, NumberedView, Tables, agree_in_numbers, function_at, path_at, place_at, shown_type, view_of}
-use Rattle.plan_meaning.specs.NumberedWorlds as worlds
-use Rattle.plan_meaning.specs.NumberedWorlds.{NumberedScope, NumberedSeen}
-use Rattle.plan_meaning.specs.Shapes.{Shape, first_label, named_shape}
+use Rattle.plan_meaning.specs.NumberedViews.{NumberedFunction, NumberedSight, NumberedType, NumberedView, Tables, function_at, path_at}
 use Rattle.plan_parts.specs.Interfaces.{slot_part}
 use Rattle.read_exports.specs.Members.{numbered_members}
 use Rattle.read_exports.specs.declared.members.Member.{Member}
-use Rattle.read_exports.specs.declared.members.Part.TheVariants as parts
-use Rattle.read_rules.specs.declared.scopes.Scope.{Scope}
-use Rattle.read_rules.specs.declared.scopes.Seen.{Seen}
-use Rattle.read_rules.specs.declared.scopes.Shown.{Shown}
-use Rattle.read_rules.specs.declared.scopes.Shown.TheVariants as shown
-use Rattle.read_rules.specs.Scopes.{numbered_seen, numbered_shown}
 use Rattle.plan_types.specs.Showings.{NumberedShowing, showings_of_members}
-use Rattle.plan_package.specs.Views.{views_of_members, views_of_part}
+use Rattle.plan_package.specs.Views.{views_of_members}
 use Rattle.plan_laws.specs.ShownAlike.{WholeIsShownAlike}
-use Rattle.plan_laws.specs.ShownNames.{DeclaresName}
 use Rattle.plan_laws.specs.ShownRules.{ViewObeys}
 use Rattle.plan_laws.specs.Whole.{IsPackageInput}
 use Rattle.plan_laws.specs.WholeTypes.{IsRuledInput}
 use Rattle.plan_laws.proofs.FirstDeclared.{shown_alike}
-use Rattle.plan_laws.proofs.Inside.{flat_cases, name_same, slot_is}
+use Rattle.plan_laws.proofs.Inside.{slot_is}
 use Rattle.plan_laws.proofs.OwnPlaces.{Owned, a_view, a_world, frames, one_owned}
-use Rattle.plan_laws.proofs.Sources.{member_view_in}
 use Rattle.plan_laws.proofs.SameFunctions.{IsOnce, function_shared}
-use Rattle.plan_laws.proofs.Showings.{import_named}
-use Rattle.plan_laws.proofs.ShownFrom.{IsFrom, of_import, of_view, shown_from, view_frame, world_of}
+use Rattle.plan_laws.proofs.ShownFrom.{IsFrom, of_import, of_view, shown_from, view_frame}
 use Rattle.plan_laws.proofs.FirstViews.{sight_there, view_names}
 use Rattle.plan_laws.proofs.WholeTypes.{packages_are_ruled, tests_hold}
-use Rattle.plan_laws.proofs.WorldKeys.{declared_in, keys_apart, one_key, one_world, by_imports}
+use Rattle.plan_laws.proofs.WorldKeys.{by_imports}
 use Rattle.comp_meaning.proofs.AgreementLaws.{distinct_behind}
 use Rattle.base_lemmas.proofs.Bools.{right_of as second_true}
-use Rattle.base_lemmas.proofs.Elements.{all-contained, all_at, contains-map}
-use Rattle.base_lemmas.proofs.Lists.{map_of_map}
-use Rattle.std.proofs.lemmas.Option.{same_Some as same-some}
+use Rattle.base_lemmas.proofs.Elements.{all-contained, all_at}
 
 abbrev pub view_owned : NumberedView → Owned → NumberedView
 view_owned default (a_view v) = v

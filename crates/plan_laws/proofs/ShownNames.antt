@@ -1,42 +1,34 @@
 -- Each name that the types of a plan use is shown in its own place.
-use Rattle.std.proofs.Common.{◌≡◌, refl, sym, subst, ℕ, zero, suc, ◌⊎◌, inl, inr, arith, List, [], ◌∷◌, map, Some, slice_get}
-use Rattle.std.specs.List.{AllByRecursion, AllZip, Contains, flat_map}
+use Rattle.std.proofs.Common.{◌≡◌, sym, subst, ℕ, ◌⊎◌, inl, inr, List, map, Some, slice_get}
+use Rattle.std.specs.List.{Contains, flat_map}
 use Rattle.std.proofs.lemmas.List.Elements.{Contains-append_cases}
 use Rattle.wit_model.specs.Text.{Text}
-use Rattle.wit_model.proofs.Elements.{contains-flat, none-in}
-use Rattle.comp_meaning.specs.Follow as follow
 use Rattle.comp_meaning.specs.Follow.{Instance}
 use Rattle.comp_meaning.specs.Reads as reads
 use Rattle.comp_meaning.specs.Reads.{Part as MeantPart}
-use Rattle.read_shown.specs.Parts.{PartStands}
-use Rattle.read_shown.specs.Scopes.{IsShownBefore, ScopeStands}
+use Rattle.read_shown.specs.Scopes.{IsShownBefore}
 use Rattle.read_shown.specs.Views.{ViewStands}
-use Rattle.plan_meaning.specs.FollowedNumbers.{IsPartIn, IsScopeIn, IsViewIn}
-use Rattle.plan_meaning.specs.NumberedMembers.{Homes, IsMember, NumberedMember, ShowsPart}
-use Rattle.plan_meaning.specs.NumberedViews.{NumberedFunction, NumberedSight, Tables, place_at, view_of}
-use Rattle.plan_meaning.specs.NumberedWorlds.{Shows}
+use Rattle.plan_meaning.specs.FollowedNumbers.{IsViewIn}
+use Rattle.plan_meaning.specs.NumberedMembers.{Homes, NumberedMember}
+use Rattle.plan_meaning.specs.NumberedViews.{NumberedSight, Tables, place_at, view_of}
 use Rattle.plan_meaning.specs.Shapes.{named_shape}
 use Rattle.read_rules.specs.declared.scopes.Scope.{Scope}
-use Rattle.read_rules.specs.Scopes.{numbered_scope}
 use Rattle.read_exports.specs.Members.{numbered_member, numbered_members, numbered_part}
 use Rattle.read_exports.specs.declared.members.Member.{Member}
 use Rattle.read_exports.specs.declared.members.Part.{Part}
 use Rattle.read_exports.specs.declared.members.Part.TheVariants as parts
 use Rattle.plan_type_laws.specs.MembersStand.{all_instances}
-use Rattle.plan_type_laws.proofs.Walks.{all_flat}
-use Rattle.plan_types.specs.Showings.{NumberedShowing, showings_of_members, showings_of_part, signatures_of_members, signatures_of_part}
+use Rattle.plan_types.specs.Showings.{NumberedShowing, showings_of_members, signatures_of_members}
 use Rattle.plan_types.specs.Used.{function_parts, showing_parts, used_parts}
 use Rattle.plan_package.specs.Views.{views_of_members, views_of_part}
-use Rattle.plan_laws.specs.ShownNames.{DeclaresName, ImportsNumber, IsInput, IsShownByPart, PartDeclaresNames, ShowsNumber, UsedNamesAreShown, by_import, by_view}
+use Rattle.plan_laws.specs.ShownNames.{ImportsNumber, IsInput, IsShownByPart, ShowsNumber, UsedNamesAreShown, by_import, by_view}
 use Rattle.plan_laws.proofs.Inside.{IsIn, flat_cases, used_inside}
 use Rattle.plan_laws.proofs.PartNames.{import_showing, trees_of_all, view_showing, view_signature, world_signature}
 use Rattle.plan_laws.proofs.Sources as sources
 use Rattle.plan_laws.proofs.Sources.{IsSignedIn, IsWorldIn, all_of, mapped_cases, member_view_in, origin, signed, view_among, world_in}
 pub use Rattle.plan_laws.proofs.Sources.{beside}
 use Rattle.plan_laws.proofs.ViewNames.{instance_tree}
-use Rattle.base_lemmas.proofs.Elements.{all_at, contains-map, map_from as from_map}
 use Rattle.base_lemmas.proofs.Lists.{mapped_get}
-use Rattle.std.proofs.ByRecursion.{All-weaker as recursion_weaker}
 
 module _ (t : Tables) (h : Homes) (ms : List Member) (members : List reads.Member) (input : IsInput t h ms members) (n q : ℕ) (name : Text) (at : slice_get t.shapes n ≡ Some (named_shape q name)) where
   -- what uses a part of the tables in a part

@@ -1,5 +1,5 @@
 -- The worlds of a plan show what worlds at the top do, and each view shows the types by which its place is read.
-use Rattle.std.proofs.Common.{◌≡◌, refl, sym, ap, subst, ◌∙◌, ℕ, ◌⊎◌, inl, inr, ◌==◌, true, List, [], ◌∷◌, ◌++◌, map, Option, Some, None, slice_get}
+use Rattle.std.proofs.Common.{◌≡◌, refl, sym, ap, subst, ◌∙◌, ℕ, inl, inr, ◌==◌, true, List, [], ◌∷◌, ◌++◌, map, Option, Some, None}
 use Rattle.std.specs.List.{AllByRecursion, AllZip, Contains}
 use Rattle.std.specs.Option.{option_map_or}
 use Rattle.std.specs.Cmp.Lexicographic.{pointwise}
@@ -47,8 +47,7 @@ use Rattle.plan_laws.proofs.Planned.{found_there}
 use Rattle.plan_laws.proofs.ShownFrom.{world_of}
 use Rattle.plan_laws.proofs.WholePlacesLabels.{world_among}
 use Rattle.plan_laws.proofs.WholeTypes.{packages_are_ruled}
-use Rattle.base_lemmas.proofs.Elements.{all_at, contains-map, get-contains, last_of as one-contained, zip_at, map_from as from_map}
-use Rattle.base_lemmas.proofs.Lists.{get_back as unmapped_get}
+use Rattle.base_lemmas.proofs.Elements.{all_at, contains-map, last_of as one-contained, zip_at, map_from as from_map}
 use Rattle.base_lemmas.proofs.Numbers.{same-number}
 use Rattle.std.proofs.lemmas.Option.{same_Some as same-some}
 

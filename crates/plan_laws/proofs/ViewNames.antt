@@ -1,8 +1,7 @@
 -- A name that is met in a view was shown in its own place.
-use Rattle.std.proofs.Common.{◌≡◌, refl, sym, ap, subst, ◌∙◌, ℕ, suc, zero, ◌+◌, ◌-◌, ◌<◌, ◌⊎◌, inl, inr, arith, Bool, true, false, if◌then◌else◌, List, [], ◌∷◌, length, map, Option, Some, None, option_and_then, option_to_list, slice_get}
+use Rattle.std.proofs.Common.{◌≡◌, refl, sym, ap, subst, ◌∙◌, ℕ, suc, zero, ◌+◌, ◌⊎◌, inl, inr, arith, Bool, true, false, if◌then◌else◌, List, [], ◌∷◌, length, map, Option, Some, None, option_to_list, slice_get}
 use Rattle.std.specs.List.{AllByRecursion, Contains}
 use Rattle.std.specs.Option.{option_map_or}
-use Rattle.std.proofs.lemmas.Bool.{le-ltb, lt-ltb}
 use Rattle.std.proofs.lemmas.List.Elements.{Contains-append_cases}
 use Rattle.wit_model.specs.Text.{Text}
 use Rattle.wit_model.specs.Tree.{Place}
@@ -13,11 +12,9 @@ use Rattle.read_shown.specs.Trees.{DeclarationStands}
 use Rattle.read_shown.specs.Views.{IsMetInView, ShowsName, ViewStands, inside as met_inside, outside as met_outside}
 use Rattle.plan_meaning.specs.FollowedNumbers.{IsCalledIn, IsMetFrom, IsNameOf, IsShownIn, IsSlotOf, IsViewIn}
 use Rattle.plan_meaning.specs.NumberedRules.{is_form, shape_at}
-use Rattle.plan_meaning.specs.NumberedViews.{AllOf, AreTables, FunctionShape, IsPart, NumberedFunction, NumberedSight, NumberedSlot, NumberedType, PartsOf, Tables, declaration_of, function_at, path_at, place_at, resource, shown_function, shown_type, value, view_of}
+use Rattle.plan_meaning.specs.NumberedViews.{AllOf, AreTables, FunctionShape, IsPart, NumberedFunction, NumberedSight, NumberedType, PartsOf, Tables, declaration_of, function_at, path_at, place_at, shown_function, shown_type, view_of}
 use Rattle.plan_meaning.specs.NumberedWorlds.{HasPath}
-use Rattle.plan_meaning.specs.Plan.{part_number}
 use Rattle.plan_meaning.specs.Shapes.{Shape, named_shape}
-use Rattle.plan_meaning.proofs.ShapeLaws.{split_part}
 use Rattle.plan_parts.specs.Interfaces.{slot_part}
 use Rattle.plan_types.specs.Used.{declared_parts, form_parts, signature_parts}
 use Rattle.plan_type_laws.proofs.ShownForms.{numbered_shape}
@@ -26,7 +23,6 @@ use Rattle.plan_laws.proofs.Inside.{IsIn, inside, name_alone, name_in, name_same
 use Rattle.plan_laws.proofs.MetNames.{in_declared, in_signature}
 use Rattle.base_lemmas.proofs.Elements.{all_at, get-contains, last_of as one-contained}
 use Rattle.base_lemmas.proofs.Lists.{get_back as unmapped_get, mapped_get}
-use Rattle.std.proofs.lemmas.Option.{same_Some as same-some}
 use Rattle.plan_type_laws.proofs.PartPlaces.{parts_weaker}
 
 -- ---- parts

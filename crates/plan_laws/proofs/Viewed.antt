@@ -1,5 +1,5 @@
 -- Each interface of the plan is read by the first view of its place.
-use Rattle.std.proofs.Common.{◌≡◌, refl, sym, ap, subst, ◌∙◌, ℕ, suc, ◌+◌, ◌<◌, ◌⊎◌, inl, inr, arith, true, List, [], ◌∷◌, ◌++◌, length, map, Option, Some, None, option_map, slice_get}
+use Rattle.std.proofs.Common.{◌≡◌, refl, sym, ap, subst, ◌∙◌, ℕ, suc, ◌<◌, ◌⊎◌, inl, inr, arith, true, List, [], ◌∷◌, ◌++◌, length, map, Option, Some, None, option_map, slice_get}
 use Rattle.std.specs.List.{AllZip, Contains, flat_map}
 use Rattle.std.specs.Option.{option_map_or}
 use Rattle.std.proofs.lemmas.List.Elements.{Contains-append_left}
@@ -24,7 +24,6 @@ use Rattle.plan_meaning.specs.Plan.{Plan, PlannedInterface, interface_in}
 use Rattle.plan_meaning.specs.ReadFunctions.{Beside}
 use Rattle.plan_meaning.specs.ReadInterfaces.{HasName, IsKeptAs, IsNamed, IsNumberOf, IsReadInterface}
 use Rattle.plan_meaning.specs.ReadOrder.{InterfacesAreViewed, IsUsedPlace, IsViewedInterface, itself, smaller}
-use Rattle.plan_meaning.specs.Renumbering.{IsPart as NewPart, a_primitive, a_shape}
 use Rattle.plan_meaning.specs.Shapes.{named_shape}
 use Rattle.plan_meaning.proofs.NumberedWorlds.{path_is, view_paths, view_uses}
 use Rattle.plan_parts.specs.Interfaces.{IsPlannedFunction, slot_part}

@@ -1,30 +1,21 @@
 -- Views of one place show the same types.
 use Rattle.base_lemmas.proofs.Lists.{map_of_map}
-use Rattle.std.proofs.Common.{◌≡◌, refl, sym, ap, subst, ◌∙◌, ℕ, zero, suc, arith, Bool, true, false, not, ◌&&◌, ◌||◌, ◌==◌, List, [], ◌∷◌, map, Option, Some, None}
-use Rattle.std.specs.List.{Contains, list_all}
-use Rattle.std.specs.Cmp.Lexicographic.{pointwise}
-use Rattle.std.specs.Option.{option_map_or}
-use Rattle.std.proofs.lemmas.Bool.{eq-eqb}
-use Rattle.std.proofs.lemmas.Slice.Eq.{bytes_eq-Decides}
-use Rattle.wit_model.specs.Text.{Text, text_eq}
-use Rattle.wit_model.proofs.Elements.{contains-flat, none-in}
+use Rattle.std.proofs.Common.{◌≡◌, refl, sym, ap, subst, ◌∙◌, ℕ, true, List, map, Option, Some, None}
+use Rattle.std.specs.List.{Contains}
+use Rattle.wit_model.specs.Text.{Text}
 use Rattle.comp_meaning.specs.Reads as reads
-use Rattle.plan_meaning.specs.NumberedMembers.{Homes, NumberedMember, NumberedPart, interface, sights_of_members, sights_of_part, world}
-use Rattle.plan_meaning.specs.NumberedViews.{NumberedSight, NumberedType, NumberedView, Tables, agree, agree_in_numbers, path_at, same_id, same_number, same_shown, same_types, same_whole}
-use Rattle.plan_meaning.specs.NumberedWorlds.{are_once, sights_of_instance}
+use Rattle.plan_meaning.specs.NumberedMembers.{Homes, NumberedMember, sights_of_members}
+use Rattle.plan_meaning.specs.NumberedViews.{NumberedSight, NumberedType, NumberedView, Tables, agree_in_numbers, path_at}
+use Rattle.plan_meaning.specs.NumberedWorlds.{are_once}
 use Rattle.read_exports.specs.Members.{numbered_members}
 use Rattle.read_exports.specs.declared.members.Member.{Member}
-use Rattle.plan_package.specs.Views.{views_of_members, views_of_part, whole_view}
+use Rattle.plan_package.specs.Views.{views_of_members}
 use Rattle.plan_type_laws.specs.ShownMarks.{own_places}
 use Rattle.plan_laws.specs.ShownNames.{IsInput}
 use Rattle.plan_laws.proofs.FirstViews.{one_told, sight_there}
 use Rattle.plan_laws.specs.FirstViews.{told as told_all}
-use Rattle.plan_laws.proofs.Inside.{flat_cases}
 use Rattle.plan_laws.proofs.OwnPlaces.{Frame, Owned, a_view, a_world, frames, one_owned}
 use Rattle.plan_laws.proofs.ShownFrom.{view_frame}
-use Rattle.base_lemmas.proofs.Bools.{left_of as first_true, right_of as second_true}
-use Rattle.base_lemmas.proofs.Elements.{all-contained, contains-one, map_from as from_map}
-use Rattle.plan_meaning.proofs.ReadOrder.{same_declared}
 
 -- the name of a type that is shown, and what it is declared as
 abbrev pub told : NumberedType → Text × Option ℕ

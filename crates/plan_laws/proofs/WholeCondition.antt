@@ -1,22 +1,21 @@
 -- A plan can be made of what was followed: all that is shown is over types that are used.
 use Rattle.std.proofs.Common.{◌≡◌, refl, sym, ap, subst, ◌∙◌, ℕ, ◌+◌, ◌-◌, ◌<◌, ◌≤◌, ◌⊎◌, inl, inr, arith, Bool, true, false, ◌==◌, nat_lt, cond, List, [], ◌∷◌, length, map, option_to_list, Option, Some, None, slice_get}
-use Rattle.std.specs.Prelude.{is_some, not}
+use Rattle.std.specs.Prelude.{not}
 use Rattle.std.specs.List.{AllByRecursion, Contains, flat_map}
 use Rattle.std.specs.Option.{option_map_or}
 use Rattle.std.proofs.lemmas.Bool.{eq-eqb, ltb-false, ltb-true}
-use Rattle.std.proofs.lemmas.List.Elements.{Contains-append_cases, Contains-append_left, Contains-append_right}
-use Rattle.std.proofs.lemmas.Option.{slice_get_within, same_Some as same-some}
+use Rattle.std.proofs.lemmas.List.Elements.{Contains-append_left, Contains-append_right}
+use Rattle.std.proofs.lemmas.Option.{slice_get_within}
 use Rattle.wit_model.specs.Text.{Text}
 use Rattle.wit_model.proofs.Elements.{contains-flat, contains-get, contains-has}
 use Rattle.comp_meaning.specs.Reads as reads
-use Rattle.plan_meaning.specs.FollowedNumbers.{IsMetFrom, IsOneOf, IsScopeIn, IsShownIn}
+use Rattle.plan_meaning.specs.FollowedNumbers.{IsMetFrom, IsScopeIn, IsShownIn}
 use Rattle.plan_meaning.specs.KeptResources.{FormIsMarked}
 use Rattle.plan_meaning.specs.NumberedMembers.{Homes, NumberedMember}
 use Rattle.plan_meaning.specs.NumberedRules.{Fact, is_form, name_at, name_in, shape_at}
-use Rattle.plan_meaning.specs.NumberedViews.{AllOf, FunctionShape, IsPart, NumberedFunction, NumberedSight, NumberedType, NumberedView, PartsOf, Tables, function_at}
-use Rattle.plan_meaning.specs.NumberedWorlds.{NumberedInstance, NumberedSeen, place_of_key}
+use Rattle.plan_meaning.specs.NumberedViews.{AllOf, FunctionShape, IsPart, NumberedSight, NumberedType, NumberedView, PartsOf, Tables, function_at}
+use Rattle.plan_meaning.specs.NumberedWorlds.{place_of_key}
 use Rattle.plan_meaning.specs.Renumbering.{a_primitive, a_shape}
-use Rattle.plan_meaning.specs.ReadWholes.{place_shown}
 use Rattle.plan_meaning.specs.Shapes as shapes
 use Rattle.plan_meaning.specs.Shapes.{IsShape, Shape, named_shape}
 use Rattle.plan_meaning.proofs.Lists.{no_true}
@@ -34,11 +33,10 @@ use Rattle.read_rules.specs.declared.scopes.Seen.{Seen}
 use Rattle.read_rules.specs.declared.scopes.Shown.{Shown}
 use Rattle.read_rules.specs.declared.scopes.Shown.TheVariants as shown
 use Rattle.read_rules.specs.Reached.{numbered_import}
-use Rattle.read_rules.specs.Scopes.{numbered_instance, numbered_key, numbered_scope, numbered_seen, numbered_shown}
+use Rattle.read_rules.specs.Scopes.{numbered_instance, numbered_key, numbered_scope}
 use Rattle.read_rules.specs.Tables.{given_text}
-use Rattle.read_rules.specs.Views.{numbered_view}
 use Rattle.plan_types.specs.PlannedTypes.{MayBePlanned, a_form, a_name}
-use Rattle.plan_types.specs.Showings.{NumberedShowing, showing_of, showings_of_import, showings_of_members, showings_of_part, showings_of_seen, showings_of_shown, showings_of_view, signatures_of_members, signatures_of_part, signatures_of_seen, signatures_of_shown}
+use Rattle.plan_types.specs.Showings.{NumberedShowing, showing_of, showings_of_members, showings_of_shown, signatures_of_members, signatures_of_shown}
 use Rattle.plan_types.specs.Used.{declared_parts, form_parts, function_parts, showing_parts, signature_parts, used_parts}
 use Rattle.plan_package.specs.PlanWhole.{AreKeptFor, IsKeptWhole, MayBeWhole, places_in, shown_first}
 use Rattle.plan_package.specs.Views.{types_alone, views_of_members, views_of_part, whole_view}
@@ -69,7 +67,7 @@ use Rattle.plan_laws.proofs.ViewsAgree.{told, views_tell}
 use Rattle.plan_laws.proofs.WholeReasons.{there_marked}
 use Rattle.plan_laws.proofs.WholeTypes.{packages_are_ruled}
 use Rattle.plan_laws.proofs.WorldItems.{world_member}
-use Rattle.base_lemmas.proofs.Elements.{all_at, contains-map, contains-one, last_of as one-contained, map_from as from_map}
+use Rattle.base_lemmas.proofs.Elements.{all_at, contains-map, contains-one, map_from as from_map}
 use Rattle.base_lemmas.proofs.Lists.{get_back as unmapped_get, mapped_get, within_there as slice_there}
 use Rattle.std.proofs.ByRecursion.{All-weaker as recursion_weaker}
 use Rattle.plan_laws.proofs.ViewNames.{part_of_function as part_of}

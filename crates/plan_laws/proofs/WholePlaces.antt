@@ -1,8 +1,8 @@
 -- The packages, the interfaces and the worlds of a plan that was made of what was followed.
 use Rattle.plan_package.specs.ReadPackages.{AreExported, world_labels}
-use Rattle.std.proofs.Common.{◌≡◌, refl, sym, ap, subst, ◌∙◌, ℕ, arith, Bool, true, false, not, ◌||◌, ◌==◌, cond, List, [], ◌∷◌, ◌++◌, filter, filter_map, map, Option, Some, None, option_map, slice_get}
+use Rattle.std.proofs.Common.{◌≡◌, refl, sym, ap, subst, ◌∙◌, ℕ, arith, Bool, true, false, not, ◌||◌, ◌==◌, List, [], ◌∷◌, ◌++◌, filter, filter_map, map, Option, Some, None, option_map, slice_get}
 use Rattle.std.specs.Prelude.{is_none, is_some}
-use Rattle.std.specs.List.{AllByRecursion, AllZip, Contains, list_any}
+use Rattle.std.specs.List.{AllByRecursion, Contains, list_any}
 use Rattle.std.specs.Option.{option_map_or}
 use Rattle.std.proofs.lemmas.Bool.{eqb-true, and_from as both, not-true as not_true}
 use Rattle.std.proofs.lemmas.Option.{slice_get_within, same_Some as same-some}
@@ -19,9 +19,9 @@ use Rattle.plan_meaning.specs.NumberedMembers.{Homes, NumberedMember, home_at}
 use Rattle.plan_meaning.specs.NumberedRules.{Fact}
 use Rattle.plan_meaning.specs.NumberedViews.{Tables, path_at}
 use Rattle.plan_meaning.specs.NumberedWorlds.{HasPath, are_once}
-use Rattle.plan_meaning.specs.Plan.{Plan, PlannedInterface, PlannedPackage, PlannedWorld, interface_in, item_interface, items_of, numbers_of, package_in, world_in}
+use Rattle.plan_meaning.specs.Plan.{Plan, PlannedInterface, PlannedPackage, PlannedWorld, interface_in, item_interface, items_of, package_in, world_in}
 use Rattle.plan_meaning.specs.PlanRules.{has_name, names_of}
-use Rattle.plan_meaning.specs.ReadPlaces.{IsListedInterface, IsListedWorld, IsPlacedInterface, IsPlacedWorld, IsReadPackage, PlacesAreRead, inline, under_path}
+use Rattle.plan_meaning.specs.ReadPlaces.{IsPlacedInterface, IsPlacedWorld, IsReadPackage, PlacesAreRead, inline, under_path}
 use Rattle.plan_meaning.proofs.Lists.{no_true}
 use Rattle.plan_meaning.proofs.ReadLists.{never}
 use Rattle.plan_type_laws.specs.ShownMarks.{has_no_path, places_of_part, places_of_seen}
@@ -30,11 +30,10 @@ use Rattle.read_exports.specs.declared.members.Member.{Member}
 use Rattle.read_rules.specs.declared.scopes.Scope.{Scope}
 use Rattle.read_rules.specs.Scopes.{numbered_scope, numbered_seen}
 use Rattle.plan_types.specs.PlannedTypes.{number_in}
-use Rattle.plan_package.specs.Listed.{IsHomeAt, IsWorldAt}
 use Rattle.plan_package.specs.PlanWhole.{PlansWhole, places_in}
 use Rattle.plan_package.specs.Views.{views_of_members}
 use Rattle.plan_package.specs.WholeInterfaces.{PlansPlace}
-use Rattle.plan_package.specs.WholePackages.{IsForeignPackage, IsMainPackage, ListsPlace, PlansPackage, another, entries_from, interfaces_in, numbered_labels, the_main}
+use Rattle.plan_package.specs.WholePackages.{IsMainPackage, ListsPlace, PlansPackage, another, entries_from, interfaces_in, numbered_labels, the_main}
 use Rattle.plan_package.specs.WholeWorlds.{PlansWorld, worlds_in}
 use Rattle.plan_package.proofs.ListedLaws.{homes_are_listed, worlds_are_listed}
 use Rattle.plan_laws.specs.Owners.{homes_in, owners_of}
@@ -42,7 +41,6 @@ use Rattle.plan_laws.specs.Whole.{IsPackageInput}
 use Rattle.plan_laws.specs.WholePlaces.{LabelsStand}
 use Rattle.plan_laws.proofs.PlaceNumbers.{owner_numbered, owners_apart, place_number}
 use Rattle.plan_laws.proofs.Planned.{first_there, interface_there, named_there, path_given}
-use Rattle.plan_laws.proofs.Showings.{all_given}
 use Rattle.plan_laws.proofs.WholePlacesInstances.{own_shown}
 use Rattle.plan_laws.proofs.WholePlacesItems as items
 use Rattle.plan_laws.proofs.WholePlacesLabels.{interface_among, interface_of, interfaces_differ, no_world, world_among, worlds_differ}
@@ -50,7 +48,7 @@ use Rattle.plan_laws.proofs.WorldItems.{world_member}
 use Rattle.plan_laws.proofs.WholePlacesTop.{IsOwnInstance, at_top, interface_home, main_identity, own_instance}
 use Rattle.plan_laws.proofs.Sources.{world_in as world_of, all_of}
 use Rattle.base_lemmas.proofs.Bools.{left_of as first_true, right_of as second_true, first_false, second_false}
-use Rattle.base_lemmas.proofs.Elements.{all_at, all_by_number, contains-map, get-contains, zip_at, zip_at_right as zip_get, all_pass}
+use Rattle.base_lemmas.proofs.Elements.{all_at, contains-map, get-contains, zip_at, zip_at_right as zip_get, all_pass}
 use Rattle.base_lemmas.proofs.Lists.{within_there as there_at}
 use Rattle.plan_laws.proofs.OwnPlaces.{once_inside as once_within}
 use Rattle.plan_package.proofs.ReadPackageLaws.{number_at as number_there, packages_are_read}

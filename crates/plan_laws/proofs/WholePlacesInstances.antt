@@ -2,19 +2,15 @@
 use Rattle.plan_meaning.specs.NumberedMembers.{world}
 use Rattle.base_lemmas.proofs.Lists.{length_of_map}
 use Rattle.plan_laws.proofs.OwnPlaces.{all_inline, inline_many, inline_seen, no_path, places_are}
-use Rattle.std.proofs.Common.{◌≡◌, refl, sym, ap, subst, ◌∙◌, ℕ, ◌+◌, ◌⊎◌, inl, inr, arith, Bool, true, false, cond, List, [], ◌∷◌, ◌++◌, filter, length, map, None, suc}
-use Rattle.std.specs.Prelude.{is_none}
+use Rattle.std.proofs.Common.{◌≡◌, refl, sym, ap, subst, ◌∙◌, ℕ, ◌⊎◌, inl, inr, Bool, true, false, cond, List, [], ◌∷◌, ◌++◌, filter, length, map, None, suc}
 use Rattle.std.specs.List.{AllByRecursion, Contains}
-use Rattle.std.proofs.Math.ListN.{length-append}
-use Rattle.std.proofs.lemmas.List.Elements.{Contains-append_cases, filter-append}
-use Rattle.wit_model.proofs.Elements.{contains-has, has-contains, none-in}
-use Rattle.comp_meaning.specs.Follow.{Direction, Instance, Scope, export_, import_, interface_of}
-use Rattle.read_shown.specs.Instances.{InstancesAreSeen, going, instances_in}
-use Rattle.read_shown.specs.Instances as tree
-use Rattle.plan_meaning.specs.FollowedNumbers.{IsOneOf, IsScopeIn, IsSeenIn}
+use Rattle.std.proofs.lemmas.List.Elements.{Contains-append_cases}
+use Rattle.wit_model.proofs.Elements.{none-in}
+use Rattle.comp_meaning.specs.Follow.{Scope}
+use Rattle.read_shown.specs.Instances.{InstancesAreSeen}
+use Rattle.plan_meaning.specs.FollowedNumbers.{IsOneOf, IsScopeIn}
 use Rattle.plan_meaning.specs.NumberedViews.{Tables, path_at}
-use Rattle.plan_meaning.specs.NumberedWorlds.{KeyStands, NumberedInstance, NumberedKey, NumberedScope, NumberedSeen, NumberedShown, Shows, are_once, declares, function, implementing, instance, instance_of, key_of, label, path, place_of_key, seen_of, shown_of}
-use Rattle.wit_model.proofs.UsesLemmas.{filter_has, has_filter}
+use Rattle.plan_meaning.specs.NumberedWorlds.{NumberedInstance, NumberedScope, NumberedSeen, NumberedShown, Shows, are_once, declares, function, instance, place_of_key}
 use Rattle.plan_type_laws.specs.ShownMarks.{has_no_path, places_of_seen, places_of_shown, places_of_part}
 use Rattle.plan_laws.proofs.Inside.{flat_cases}
 use Rattle.base_lemmas.proofs.Elements.{all_at, contains-map, last_of as one-contained, filter_kept, map_from as from_map}

@@ -1,12 +1,11 @@
 -- What is exported at the top, by labels of which none stands twice.
-use Rattle.std.proofs.Common.{◌≡◌, refl, sym, ap, subst, ◌∙◌, ℕ, Bool, true, false, List, [], ◌∷◌, ◌++◌, map, Some, slice_get}
+use Rattle.std.proofs.Common.{◌≡◌, refl, sym, ap, subst, ◌∙◌, ℕ, Bool, true, false, List, [], ◌∷◌, ◌++◌, map}
 use Rattle.std.specs.Borrow.{Bor}
 use Rattle.std.specs.List.{Contains, list_any}
 use Rattle.std.proofs.lemmas.Slice.Eq.{bytes_eq-Decides}
 use Rattle.wit_model.specs.Text.{Text, text_eq}
-use Rattle.wit_model.proofs.Elements.{contains-flat, contains-get, none-in}
+use Rattle.wit_model.proofs.Elements.{contains-flat, none-in}
 use Rattle.comp_meaning.specs.Rules.{distinct}
-use Rattle.read_shown.proofs.Lists.{one_place}
 use Rattle.plan_meaning.specs.PlanRules.{names_of}
 use Rattle.plan_meaning.proofs.Lists.{any_get}
 use Rattle.read_rules.specs.declared.reached.ImportedView.{ImportedView}
@@ -22,8 +21,7 @@ use Rattle.plan_laws.proofs.WorldItems.{world_member}
 use Rattle.plan_laws.proofs.Inside.{flat_cases}
 use Rattle.plan_laws.proofs.WholePlacesLists.{AreSome, left_out, none, some_differ, taken}
 use Rattle.base_lemmas.proofs.Elements.{contains-one, get-contains, last_of as one-contained}
-use Rattle.base_lemmas.proofs.Lists.{get_back, mapped_get}
-use Rattle.std.proofs.lemmas.Option.{same_Some as same-some}
+use Rattle.base_lemmas.proofs.Lists.{get_back}
 
 abbrev pub labels_of : List Member → List Text
 labels_of ms = map (λ (m : Member). m.label.now) ms

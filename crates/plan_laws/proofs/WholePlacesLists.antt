@@ -1,14 +1,9 @@
 -- Texts and numbers of which none stands twice.
-use Rattle.std.proofs.Common.{◌≡◌, refl, sym, ap, subst, ◌∙◌, ℕ, ◌<◌, ◌≤◌, arith, Bool, true, false, not, ◌||◌, ◌==◌, cond, List, [], ◌∷◌, ◌++◌, filter, length}
+use Rattle.std.proofs.Common.{◌≡◌, ap, true, false, not, ◌||◌, List, [], ◌∷◌}
 use Rattle.std.specs.List.{list_any}
-use Rattle.std.proofs.lemmas.Bool.{eq-eqb, eqb-true, and_from as both, not-true as not_true}
+use Rattle.std.proofs.lemmas.Bool.{and_from as both, not-true as not_true}
 use Rattle.wit_model.specs.Text.{Text, text_eq}
-use Rattle.wit_model.specs.Uses.{has}
 use Rattle.comp_meaning.specs.Rules.{distinct}
-use Rattle.plan_meaning.specs.NumberedWorlds.{are_once}
-use Rattle.plan_meaning.proofs.Lists.{no_true}
-use Rattle.wit_model.proofs.UsesLemmas.{has_filter}
-use Rattle.plan_meaning.proofs.ReadLists.{never}
 use Rattle.base_lemmas.proofs.Bools.{first_false, left_of as first_true, right_of as second_true, second_false as later_false}
 
 -- ---- texts

@@ -11,7 +11,7 @@ use Rattle.read_homes.specs.Homes.{HasPlace}
 use Rattle.plan_meaning.specs.GatheredPlan.{FunctionListed, functions_seen}
 use Rattle.plan_meaning.specs.NumberedMembers.{Homes, home_at, sights_of_members}
 use Rattle.plan_meaning.specs.NumberedRules.{Fact}
-use Rattle.plan_meaning.specs.NumberedViews.{NumberedSight, Tables, path_at}
+use Rattle.plan_meaning.specs.NumberedViews.{NumberedSight, Tables}
 use Rattle.plan_meaning.specs.NumberedWorlds.{HasPath}
 use Rattle.plan_meaning.specs.Plan.{Plan, PlannedInterface, PlannedPackage, PlannedWorld, interface_in, package_in, world_in}
 use Rattle.plan_meaning.specs.PlanRules.{is_foreign}

@@ -15,8 +15,7 @@ use Rattle.read_homes.specs.Homes.{HasPlace}
 use Rattle.plan_meaning.specs.GatheredPlan.{DeclaresKind, a_form, a_name, a_resource}
 use Rattle.plan_meaning.specs.NumberedMembers.{Homes, home_at}
 use Rattle.plan_meaning.specs.NumberedRules.{Fact, is_form, name_in, shape_at}
-use Rattle.plan_meaning.specs.NumberedViews.{Tables, path_at}
-use Rattle.plan_meaning.specs.NumberedWorlds.{HasPath}
+use Rattle.plan_meaning.specs.NumberedViews.{Tables}
 use Rattle.plan_meaning.specs.Plan.{Plan, PlannedPackage, PlannedType, package_in}
 use Rattle.plan_meaning.specs.ReadFunctions.{Beside, FunctionsAreRead}
 use Rattle.plan_meaning.specs.ReadWholes.{HasHomes, IsKeptForReasons, IsPartOfKept, of_type}

@@ -1,13 +1,11 @@
 -- Each interface of another package is shown by a world, or imported by the component type of an interface.
-use Rattle.std.proofs.Common.{◌≡◌, refl, sym, ap, subst, ◌∙◌, ℕ, ◌⊎◌, inl, inr, true, false, ◌==◌, List, [], ◌∷◌, ◌++◌, map, Option, Some, None, slice_get}
+use Rattle.std.proofs.Common.{◌≡◌, refl, sym, ap, subst, ◌∙◌, ℕ, ◌⊎◌, inl, inr, true, false, ◌==◌, List, [], ◌∷◌, map, Option, Some, None}
 use Rattle.std.specs.Borrow.{Bor}
 use Rattle.std.specs.List.{Contains}
 use Rattle.std.specs.Option.{option_map_or}
 use Rattle.std.proofs.lemmas.Bool.{eq-eqb}
-use Rattle.std.proofs.lemmas.List.Elements.{Contains-append_cases, Contains-append_left, Contains-append_right}
 use Rattle.wit_model.specs.Text.{Text}
 use Rattle.wit_model.specs.declared.model.TypeOwner.{TypeOwner}
-use Rattle.wit_model.specs.Parts.{same_owner}
 use Rattle.wit_model.specs.Valid.{as_interface}
 use Rattle.wit_model.proofs.Elements.{contains-flat, none-in}
 use Rattle.comp_meaning.specs.Reads as reads
@@ -33,18 +31,16 @@ use Rattle.read_rules.specs.declared.views.View.{View}
 use Rattle.plan_package.specs.PlanWhole.{PlansWhole, places_in}
 use Rattle.plan_package.specs.Views.{types_alone, views_of_members, views_of_part, whole_view}
 use Rattle.plan_package.specs.WholeInterfaces.{PlansPlace}
-use Rattle.plan_laws.specs.Owners.{homes_in, owners_of}
+use Rattle.plan_laws.specs.Owners.{owners_of}
 use Rattle.plan_laws.specs.Whole.{IsPackageInput}
 use Rattle.plan_laws.specs.WholeReasonsForeign.{HasForeignReasons, IsShownWhole, PartIsReached}
 use Rattle.plan_laws.proofs.Sources.{all_of, at_mapped, import_there, interface_views, mapped_cases, own_sight, own_there}
 use Rattle.plan_laws.proofs.Inside.{flat_cases}
-use Rattle.plan_laws.proofs.PlaceNumbers.{number_given, owner_numbered, owners_apart, place_number, one_owner}
+use Rattle.plan_laws.proofs.PlaceNumbers.{number_given, owner_numbered, place_number, one_owner}
 use Rattle.plan_laws.proofs.Planned.{interface_there, view_met}
-use Rattle.plan_laws.proofs.Showings.{all_given}
 use Rattle.plan_laws.proofs.WholePlacesTop.{interface_home, sight_of_place}
-use Rattle.base_lemmas.proofs.Elements.{all_at, contains-map, contains-one, get-contains, last_of as one-contained, map_from as from_map, zip_at_right as zip_get}
+use Rattle.base_lemmas.proofs.Elements.{contains-map, get-contains, last_of as one-contained, map_from as from_map, zip_at_right as zip_get}
 use Rattle.plan_package.proofs.ReadPackageLaws.{number_at as number_there}
-use Rattle.wit_model.proofs.PartsLemmas.{owner_itself}
 
 module _ (t : Tables) (h : Homes) (known : ℕ → Fact) (n : ℕ) (ms : List Member) (members : List reads.Member) (given : IsPackageInput t h known n ms members) (p : Plan)
     (planned : PlansWhole t h.packages (home_at h) n ms p) (b : Beside) (owned : b.owners ≡ owners_of ms) (views : ℕ → NumberedView) (read : IsReadPlan t h planned.kept p b views)

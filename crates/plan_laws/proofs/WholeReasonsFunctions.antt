@@ -1,19 +1,17 @@
 -- A part of a function that is shown is one of a function of the plan.
-use Rattle.std.proofs.Common.{◌≡◌, refl, sym, ap, subst, ◌∙◌, ℕ, zero, suc, ◌⊎◌, inl, inr, arith, Bool, true, false, ◌==◌, ◌&&◌, cond, List, [], ◌∷◌, ◌++◌, map, option_to_list, Option, Some, None}
-use Rattle.std.specs.List.{AllZip, Contains, flat_map}
+use Rattle.std.proofs.Common.{◌≡◌, refl, sym, ap, subst, ◌∙◌, ℕ, zero, suc, ◌⊎◌, inl, inr, arith, Bool, true, false, ◌==◌, ◌&&◌, cond, List, [], ◌∷◌, map, option_to_list, Option, Some, None}
+use Rattle.std.specs.List.{AllZip, Contains}
 use Rattle.std.proofs.lemmas.Bool.{eqb-true}
 use Rattle.std.proofs.lemmas.List.Elements.{Contains-append_cases, Contains-append_left, Contains-append_right}
 use Rattle.wit_model.specs.declared.model.TypeId.{TypeId}
 use Rattle.wit_model.specs.Text.{Text}
 use Rattle.wit_model.specs.Valid.{as_interface, as_world}
-use Rattle.wit_model.proofs.Elements.{contains-filter_map, contains-flat, contains-get, none-in}
+use Rattle.wit_model.proofs.Elements.{contains-filter_map, contains-get, none-in}
 use Rattle.comp_meaning.specs.Reads as reads
-use Rattle.plan_meaning.specs.FollowedNumbers.{IsOneOf, IsPartIn, IsScopeIn}
 use Rattle.plan_meaning.specs.GatheredPlan.{BecomesIfGiven, FunctionBecomes, ParamBecomes, functions_seen}
 use Rattle.plan_meaning.specs.NumberedMembers.{Homes, NumberedMember, home_at}
 use Rattle.plan_meaning.specs.NumberedRules.{Fact}
 use Rattle.plan_meaning.specs.NumberedViews.{FunctionShape, NumberedFunction, NumberedSight, Tables, function_at}
-use Rattle.plan_meaning.specs.NumberedWorlds.{NumberedSeen, place_of_key}
 use Rattle.plan_meaning.specs.Plan.{Plan, PlannedFunction, PlannedInterface, PlannedItem, PlannedKey, PlannedWorld, interface_in, item_function, items_of, world_in}
 use Rattle.plan_meaning.specs.PlanRules.{functions_of, world_functions}
 use Rattle.plan_meaning.specs.ReadFunctions.{Beside, FunctionsAreRead, IsReadFunction}
@@ -21,22 +19,17 @@ use Rattle.plan_meaning.specs.ReadWholes.{IsPartOfFunction, IsPartOfKept, a_para
 use Rattle.plan_parts.specs.Functions.{KeptIfGiven, KeptParam, TakesAndGives}
 use Rattle.plan_parts.specs.Interfaces.{IsPlannedFunction}
 use Rattle.plan_type_laws.proofs.KeptKinds.{one_old}
-use Rattle.read_exports.specs.Members.{numbered_member, numbered_members, numbered_part}
+use Rattle.read_exports.specs.Members.{numbered_members}
 use Rattle.read_exports.specs.declared.members.Member.{Member}
-use Rattle.read_exports.specs.declared.members.Part.{Part}
 use Rattle.read_exports.specs.declared.members.Part.TheVariants as parts
-use Rattle.read_rules.specs.Reached.{numbered_import}
-use Rattle.read_rules.specs.Scopes.{numbered_key, numbered_scope, numbered_seen, numbered_shown}
-use Rattle.read_rules.specs.declared.reached.ImportedView.{ImportedView}
-use Rattle.read_rules.specs.Views.{numbered_view}
 use Rattle.read_rules.specs.declared.scopes.Scope.{Scope}
 use Rattle.read_rules.specs.declared.scopes.Seen.{Seen}
 use Rattle.read_rules.specs.declared.scopes.Shown.{Shown}
 use Rattle.read_rules.specs.declared.scopes.Shown.TheVariants as shown
-use Rattle.plan_types.specs.Showings.{signatures_of_members, signatures_of_part, signatures_of_seen, signatures_of_shown}
+use Rattle.plan_types.specs.Showings.{signatures_of_members}
 use Rattle.plan_types.specs.Used.{function_parts, signature_parts}
 use Rattle.plan_package.specs.PlanWhole.{PlansWhole, places_in}
-use Rattle.plan_package.specs.Views.{types_alone, views_of_members, views_of_part, whole_view}
+use Rattle.plan_package.specs.Views.{views_of_members, views_of_part}
 use Rattle.plan_package.specs.WholeInterfaces.{PlansInterface}
 use Rattle.plan_package.specs.WholeWorlds.{PlansItem, PlansWorld, a_function, a_type, an_instance, worlds_in}
 use Rattle.plan_laws.specs.Whole.{IsPackageInput}

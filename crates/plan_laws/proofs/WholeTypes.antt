@@ -18,7 +18,6 @@ use Rattle.plan_meaning.specs.FollowedNumbers.{IsMetFrom}
 use Rattle.plan_meaning.specs.NumberedMembers.{Homes, NumberedMember, are_interfaces, home_at, sights_of_members, stands_at_top}
 use Rattle.plan_meaning.specs.NumberedViews.{AllOf, IsPart, Tables, agree_in_numbers, declaration_of, path_at, place_at}
 use Rattle.plan_meaning.specs.Plan.{Plan, PlannedInterface, PlannedPackage, package_in, path_of_planned, place_in}
-use Rattle.plan_meaning.specs.Shapes.{Shape, first_label, named_shape}
 use Rattle.read_exports.specs.Members.{numbered_members}
 use Rattle.read_exports.specs.declared.members.Member.{Member}
 use Rattle.plan_types.specs.PlannedTypes.{number_in}
@@ -46,7 +45,6 @@ use Rattle.plan_laws.proofs.ShownNames.{names_are_shown}
 use Rattle.plan_laws.proofs.Inside.{name_same}
 use Rattle.plan_laws.proofs.Sources.{if_given}
 use Rattle.plan_laws.proofs.ShownRules.{all_of, rules_obeyed}
-use Rattle.base_lemmas.proofs.Bools.{left_of as first_true, right_of as second_true}
 use Rattle.base_lemmas.proofs.Elements.{all_at}
 use Rattle.base_lemmas.proofs.Lists.{within_there as slice_there}
 use Rattle.plan_package.proofs.ReadPackageLaws.{number_at as number_there}

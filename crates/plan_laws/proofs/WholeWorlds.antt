@@ -1,6 +1,7 @@
 -- The worlds of a whole plan are those that were read.
+use Rattle.plan_laws.proofs.Sources.{Side, side_good, side_is}
 use Rattle.std.proofs.Common.{◌≡◌, refl, sym, ap, subst, ◌∙◌, ℕ, ◌+◌, ◌<◌, ◌⊎◌, inl, inr, arith, Bool, true, false, not, ◌&&◌, List, [], ◌++◌, length, map, option_to_list, Option, Some, None, slice_get}
-use Rattle.std.specs.List.{AllByRecursion, Contains, list_all}
+use Rattle.std.specs.List.{AllByRecursion, Contains, list_all, AllZip}
 use Rattle.std.proofs.Math.ListN.{length-map}
 use Rattle.std.proofs.lemmas.List.Elements.{Contains-append_left, Contains-append_right}
 use Rattle.std.proofs.lemmas.Option.{slice_get_within, same_Some as same-some}
@@ -12,7 +13,6 @@ use Rattle.wit_model.specs.Valid.{as_world}
 use Rattle.wit_model.proofs.Elements.{contains-filter_map}
 use Rattle.comp_meaning.specs.Reads as reads
 use Rattle.comp_meaning.specs.Rules.{distinct}
-use Rattle.read_shown.specs.Scopes as scopes
 use Rattle.read_shown.proofs.Lists.{one_place}
 use Rattle.plan_meaning.specs.FollowedNumbers.{IsCalledIn, IsMetFrom, IsSeenIn}
 use Rattle.plan_meaning.specs.KeptFunctions.{IsKindOf, IsResource, a_constructor, a_method, a_static, an_async_method, an_async_static, of_none}
@@ -42,7 +42,6 @@ use Rattle.read_rules.specs.declared.scopes.InstanceKey.{InstanceKey}
 use Rattle.read_rules.specs.declared.scopes.InstanceKey.TheVariants as keys
 use Rattle.read_rules.specs.declared.scopes.Scope.{Scope}
 use Rattle.read_rules.specs.declared.scopes.Seen.{Seen}
-use Rattle.read_rules.specs.declared.scopes.Shown.{Shown}
 use Rattle.read_rules.specs.declared.scopes.Shown.TheVariants as shown
 use Rattle.read_rules.specs.declared.views.View.{View}
 use Rattle.plan_package.specs.PlanWhole.{PlansWhole, places_in}
@@ -64,6 +63,9 @@ use Rattle.base_lemmas.proofs.Elements.{all_at, all_by_number, contains-map, con
 use Rattle.base_lemmas.proofs.Lists.{get_back as unmapped_get, mapped_get, within_there as slice_there}
 use Rattle.std.proofs.lemmas.Slice.Zip.{AllZip-long as zip_length}
 use Rattle.plan_type_laws.proofs.PartPlaces.{parts_weaker}
+
+abbrev value : PlannedKey × PlannedItem → PlannedItem
+value e = e.1
 
 -- the first and the third of five tests
 first_and_third : (a b c d e : Bool) → (a && b && c && d && e) ≡ true → (a ≡ true) × (c ≡ true)
@@ -186,12 +188,11 @@ module _ (t : Tables) (h : Homes) (known : ℕ → Fact) (n : ℕ) (ms : List Me
 
     -- ---- instances
 
-    instance_item : (s : Seen) → Contains w.1.imports.now s ⊎ Contains w.1.exports.now s → IsSeenIn t scope.home (numbered_seen s) → IsUnderKey t s.key.now (numbered_shown s.shown)
-        → (key : InstanceKey) (v : View) → s.shown ≡ shown.Instance key v
-        → (e : PlannedKey × PlannedItem) → PlansInstance (places_in ms) (numbered_key key) (given_text s.external_id) e → (c : ℕ) → Item (record { seen = numbered_seen s; entry = e; count = c })
-    instance_item s side seen under key v shows e plans c =
-        by key shows plans (subst (λ y. IsSeenIn t scope.home (record { key = s.key.now; shown = numbered_shown y; external_id = given_text s.external_id })) shows seen).0
-        (subst (λ y. IsUnderKey t s.key.now (numbered_shown y)) shows under)
+    instance_item : (s : Seen) → Side w.1 s → (key : InstanceKey) (v : View) → s.shown ≡ shown.Instance key v → (e : PlannedKey × PlannedItem)
+        → PlansInstance (places_in ms) (numbered_key key) (given_text s.external_id) e → (c : ℕ) → Item (record { seen = numbered_seen s; entry = e; count = c })
+    instance_item s side key v shows e plans c =
+        by key shows plans (side_good w.1 t world.good s side (shown.Instance key v) shows).0
+        (subst (λ y. IsUnderKey t s.key.now (numbered_shown y)) shows (side_is w.1 (λ (y : NumberedSeen). IsUnderKey t y.key y.shown) was.imports was.exports s side))
         (stands.instances s side key v shows plans.number plans.found)
       where
         by : (k : InstanceKey) → s.shown ≡ shown.Instance k v → (made : PlansInstance (places_in ms) (numbered_key k) (given_text s.external_id) e) → KeyStands t (numbered_key k)
@@ -229,23 +230,14 @@ module _ (t : Tables) (h : Homes) (known : ℕ → Fact) (n : ℕ) (ms : List Me
         in_it : Contains w.1.imports.now s
         in_it = get-contains w.1.imports.now j s at_s
 
-        in_scope : Contains scope.imports (numbered_seen s)
-        in_scope = contains-map numbered_seen w.1.imports.now s in_it
-
         at_scope : slice_get scope.imports j ≡ Some (numbered_seen s)
         at_scope = mapped_get numbered_seen w.1.imports.now j s at_s
-
-        seen : IsSeenIn t scope.home (numbered_seen s)
-        seen = all_at (IsSeenIn t scope.home) scope.imports world.good.imports (numbered_seen s) in_scope
-
-        under : IsUnderKey t s.key.now (numbered_shown s.shown)
-        under = all_at (λ (y : NumberedSeen). IsUnderKey t y.key y.shown) scope.imports was.imports (numbered_seen s) in_scope
 
         counted : IsCounted t scope.home was.counted.counts j c s.key.now (numbered_shown s.shown)
         counted = was.counted.counted j c (numbered_seen s) at_scope at_c
 
         by : Plans s e → Item (record { seen = numbered_seen s; entry = e; count = c })
-        by (an_instance key v shows instance_plans) = instance_item s (inl in_it) seen under key v shows e instance_plans c
+        by (an_instance key v shows instance_plans) = instance_item s (inl in_it) key v shows e instance_plans c
         by (a_function f shows key function_plans) =
             function_item s f shows e e_in key function_plans c (subst (IsCounted t scope.home was.counted.counts j c s.key.now) (ap numbered_shown shows) counted)
             (imported_below j c (numbered_seen s) f at_scope at_c (ap numbered_shown shows))
@@ -262,19 +254,10 @@ module _ (t : Tables) (h : Homes) (known : ℕ → Fact) (n : ℕ) (ms : List Me
         in_it : Contains w.1.exports.now s
         in_it = get-contains w.1.exports.now j s at_s
 
-        in_scope : Contains scope.exports (numbered_seen s)
-        in_scope = contains-map numbered_seen w.1.exports.now s in_it
-
-        seen : IsSeenIn t scope.home (numbered_seen s)
-        seen = all_at (IsSeenIn t scope.home) scope.exports world.good.exports (numbered_seen s) in_scope
-
-        under : IsUnderKey t s.key.now (numbered_shown s.shown)
-        under = all_at (λ (y : NumberedSeen). IsUnderKey t y.key y.shown) scope.exports was.exports (numbered_seen s) in_scope
-
         by : Plans s e → Item (record { seen = numbered_seen s; entry = e; count = length t.shapes })
-        by (an_instance key v shows instance_plans) = instance_item s (inr in_it) seen under key v shows e instance_plans (length t.shapes)
+        by (an_instance key v shows instance_plans) = instance_item s (inr in_it) key v shows e instance_plans (length t.shapes)
         by (a_function f shows key function_plans) =
-            let called : IsCalledIn t scope.home f = subst (λ y. IsSeenIn t scope.home (record { key = s.key.now; shown = numbered_shown y; external_id = given_text s.external_id })) shows seen in
+            let called : IsCalledIn t scope.home f = side_good w.1 t world.good s (inr in_it) (shown.Function f) shows in
             function_item s f shows e e_in key function_plans (length t.shapes)
             (parts_weaker (IsMetFrom t scope.home) (λ k. k < 14 + length t.shapes) (λ k met. met.range) (function_at t f) called.parts)
             (λ r after k shape. slice_get_within t.shapes k (named_shape scope.home r) shape)
@@ -292,25 +275,27 @@ module _ (t : Tables) (h : Homes) (known : ℕ → Fact) (n : ℕ) (ms : List Me
     abbrev exported : List ReadItem
     exported = items scope.exports x.exports counts
 
+    -- each item of a list, whose items are read as they were followed
+    items_read : (cs : List Seen) (es : List (PlannedKey × PlannedItem)) (counts_of : List ℕ) → AllZip Plans cs es → ((e : PlannedKey × PlannedItem) → Contains es e → Contains (items_of x) e.1)
+        → ((j : ℕ) (s : Seen) → slice_get cs j ≡ Some s → (e : PlannedKey × PlannedItem) → Contains (items_of x) e.1 → Plans s e → (c : ℕ) → slice_get counts_of j ≡ Some c
+        → Item (record { seen = numbered_seen s; entry = e; count = c }))
+        → AllByRecursion Item (items (map numbered_seen cs) es counts_of)
+    items_read cs es counts_of zip in_world each = all_given Item (items (map numbered_seen cs) es counts_of) (λ j y e.
+        let is = items_at (map numbered_seen cs) es counts_of j y e in
+        let from = zip_get Plans cs es zip j y.entry is.1 in
+        let seen : numbered_seen from.0 ≡ y.seen = same-some (numbered_seen from.0) y.seen (sym (mapped_get numbered_seen cs j from.0 from.1) ∙ is.0) in
+        subst (λ (z : NumberedSeen). Item (record { seen = z; entry = y.entry; count = y.count })) seen
+        (each j from.0 from.1 y.entry (in_world y.entry (get-contains es j y.entry is.1)) from.2 y.count is.2))
+
     imports_read : AllByRecursion Item imported
-    imports_read = all_given Item imported (λ j y e.
-        let is = items_at scope.imports x.imports was.counted.counts j y e in
-        let from = zip_get Plans w.1.imports.now x.imports made.imports j y.entry is.1 in
-        let seen : numbered_seen from.0 ≡ y.seen = same-some (numbered_seen from.0) y.seen (sym (mapped_get numbered_seen w.1.imports.now j from.0 from.1) ∙ is.0) in
-        let among = Contains-append_left (map (λ (z : PlannedKey × PlannedItem). z.1) x.imports) (map (λ (z : PlannedKey × PlannedItem). z.1) x.exports) y.entry.1
-        (contains-map (λ (z : PlannedKey × PlannedItem). z.1) x.imports y.entry (get-contains x.imports j y.entry is.1)) in
-        subst (λ (z : NumberedSeen). Item (record { seen = z; entry = y.entry; count = y.count })) seen (import_item j from.0 from.1 y.entry among from.2 y.count is.2))
+    imports_read = items_read w.1.imports.now x.imports was.counted.counts made.imports
+        (λ e c. Contains-append_left (map value x.imports) (map value x.exports) e.1 (contains-map value x.imports e c)) import_item
 
     exports_read : AllByRecursion Item exported
-    exports_read = all_given Item exported (λ j y e.
-        let is = items_at scope.exports x.exports counts j y e in
-        let from = zip_get Plans w.1.exports.now x.exports made.exports j y.entry is.1 in
-        let seen : numbered_seen from.0 ≡ y.seen = same-some (numbered_seen from.0) y.seen (sym (mapped_get numbered_seen w.1.exports.now j from.0 from.1) ∙ is.0) in
-        let among = Contains-append_right (map (λ (z : PlannedKey × PlannedItem). z.1) x.imports) (map (λ (z : PlannedKey × PlannedItem). z.1) x.exports) y.entry.1
-        (contains-map (λ (z : PlannedKey × PlannedItem). z.1) x.exports y.entry (get-contains x.exports j y.entry is.1)) in
-        let count = unmapped_get (λ (s : NumberedSeen). length t.shapes) scope.exports j y.count is.2 in
-        subst (λ (c : ℕ). Item (record { seen = y.seen; entry = y.entry; count = c })) count.2
-        (subst (λ (z : NumberedSeen). Item (record { seen = z; entry = y.entry; count = length t.shapes })) seen (export_item j from.0 from.1 y.entry among from.2)))
+    exports_read = items_read w.1.exports.now x.exports counts made.exports
+        (λ e c. Contains-append_right (map value x.imports) (map value x.exports) e.1 (contains-map value x.exports e c))
+        (λ j s at e e_in plans c at_c. let count = unmapped_get (λ (s : NumberedSeen). length t.shapes) scope.exports j c at_c in
+        subst (λ (k : ℕ). Item (record { seen = numbered_seen s; entry = e; count = k })) count.2 (export_item j s at e e_in plans))
 
     follows : types_follow imported ≡ true
     follows = types_behind imported (λ i j a y at_a at_y low typed.

@@ -5,14 +5,12 @@ use Rattle.read_rules.specs.declared.scopes.Seen.{Seen}
 use Rattle.plan_package.specs.Views.{views_of_members}
 use Rattle.plan_laws.proofs.Showings.{import_named}
 use Rattle.plan_laws.proofs.Inside.{name_same}
-use Rattle.std.proofs.Common.{◌≡◌, sym, ap, subst, ◌∙◌, ℕ, Bool, true, false, List, [], ◌++◌, map, Option, Some, slice_get, ◌+◌, arith}
+use Rattle.std.proofs.Common.{◌≡◌, sym, ap, subst, ◌∙◌, ℕ, Bool, true, false, List, [], ◌++◌, map, Option, arith}
 use Rattle.std.specs.List.{Contains, list_all}
-use Rattle.wit_model.proofs.Elements.{contains-get}
 use Rattle.comp_meaning.specs.Follow as follow
 use Rattle.comp_meaning.specs.Reads as reads
 use Rattle.comp_meaning.specs.Rules as rules
 use Rattle.comp_meaning.specs.Rules.{distinct}
-use Rattle.read_shown.proofs.Lists.{one_place}
 use Rattle.plan_meaning.specs.NumberedMembers.{Homes}
 use Rattle.plan_meaning.specs.NumberedViews.{Tables, NumberedSight, path_at}
 use Rattle.plan_meaning.specs.NumberedWorlds as worlds
@@ -28,8 +26,7 @@ use Rattle.plan_laws.proofs.OwnPlaces.{Owned, a_view, a_world, frames, one_owned
 use Rattle.plan_laws.proofs.Sources.{one_under}
 use Rattle.plan_laws.proofs.ShownFrom.{IsWorldOf, home_frame, world_of, view_frame}
 use Rattle.base_lemmas.proofs.Bools.{third_of}
-use Rattle.base_lemmas.proofs.Lists.{map_of_map, mapped_get}
-use Rattle.std.proofs.lemmas.Option.{same_Some as same-some}
+use Rattle.base_lemmas.proofs.Lists.{map_of_map}
 
 -- the import of a key is one
 pub one_key : (ss : List NumberedSeen) → distinct (map (λ (s : NumberedSeen). s.key) ss) ≡ true → (a b : NumberedSeen) → Contains ss a → Contains ss b → a.key ≡ b.key → a ≡ b
