@@ -30,8 +30,7 @@ use Rattle.wit_model.proofs.TextLemmas.{text_same}
 pub option_same : {A : Type 0} (eq : A → A → Bool) → ((a b : A) → eq a b ≡ true → a ≡ b) → (a b : Option A) → same_option eq a b ≡ true → a ≡ b
 option_same eq decides None None h = refl
 option_same eq decides (Some a) (Some b) h = ap Some (decides a b h)
-option_same eq decides None (Some b) h = let wrong : false ≡ true = h in absurd cc
-option_same eq decides (Some a) None h = let wrong : false ≡ true = h in absurd cc
+option_same eq decides _ _ h = let wrong : false ≡ true = h in absurd cc
 
 pub same_of_option : {A : Type 0} (eq : A → A → Bool) → ((a : A) → eq a a ≡ true) → (a : Option A) → same_option eq a a ≡ true
 same_of_option eq itself None = refl

@@ -73,19 +73,7 @@ forms_count t h ms members input = forms_hold t input.tables HasCount (form_coun
 
 sorts : (form : Form) → (1 ≤ (form_code form).sort) × ((form_code form).sort ≤ 14)
 sorts (Form.record_of names) = omega arith
-sorts (Form.variant_of cases) = omega arith
-sorts Form.list_of = omega arith
-sorts (Form.fixed_list_of l) = omega arith
-sorts Form.option_of = omega arith
-sorts Form.own_of = omega arith
-sorts Form.borrow_of = omega arith
-sorts Form.map_of = omega arith
-sorts Form.tuple_of = omega arith
-sorts (Form.flags_of names) = omega arith
-sorts (Form.enum_of names) = omega arith
-sorts (Form.result_of ok err) = omega arith
-sorts (Form.future_of some) = omega arith
-sorts (Form.stream_of some) = omega arith
+sorts _ = omega arith
 
 -- ---- a form over what is kept
 

@@ -60,9 +60,8 @@ use Rattle.base_lemmas.proofs.Lists.{mapped_get}
 zip_mapped : {A B C : Type 0} (P : A → B → Type 0) (Q : C → B → Type 0) (f : A → C) (xs : List A) → ((x : A) → Contains xs x → (y : B) → P x y → Q (f x) y) → (ys : List B) → AllZip P xs ys
     → AllZip Q (map f xs) ys
 zip_mapped P Q f [] each [] zip = tt
-zip_mapped P Q f [] each (y ∷ ys) zip = absurd zip
-zip_mapped P Q f (x ∷ xs) each [] zip = absurd zip
 zip_mapped P Q f (x ∷ xs) each (y ∷ ys) zip = (each x (0, omega arith, refl) y zip.0, zip_mapped P Q f xs (λ z c. each z (contains-later x xs z c)) ys zip.1)
+zip_mapped _ _ f _ each _ zip = absurd zip
 
 module _ (t : Tables) (h : Homes) (known : ℕ → Fact) (n : ℕ) (ms : List Member) (members : List reads.Member) (given : IsPackageInput t h known n ms members) (ordered : ViewsAreOrdered t ms)
     (apart : WorldsAreApart ms) (under : WorldsAreFollowed t ms) (p : Plan) (planned : PlansWhole t h.packages (home_at h) n ms p)

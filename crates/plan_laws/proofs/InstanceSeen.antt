@@ -70,11 +70,8 @@ module _ (t : Tables) (h : Homes) (ms : List Member) (members : List reads.Membe
   inline_place ss i c = let from = flat_cases (λ (s : NumberedSeen). inline_of t s.shown) ss i c in (from.0, from.1, by from.0.shown from.2)
     where
       by : (x : NumberedShown) → Contains (inline_of t x) i → place_shown x ≡ Some i.place
-      by (worlds.instance (worlds.path p) v) among = none-in i among
       by (worlds.instance (worlds.label l p) v) among = ap (λ (j : NumberedInstance). Some j.place) (one-contained (record { place = p; view = v }) i among)
-      by (worlds.instance (worlds.implementing l p) v) among = none-in i among
-      by (worlds.function n) among = none-in i among
-      by (worlds.declares d) among = none-in i among
+      by _ among = none-in i among
 
   -- an import or an export that is an instance of the place
   pub record IsSeen (i : NumberedInstance) : Type 0 where
@@ -140,8 +137,6 @@ module _ (t : Tables) (h : Homes) (ms : List Member) (members : List reads.Membe
         world = world_of t h ms members input apart m c w is
 
         by : (s : Seen) → Side w s → (x : Shown) → s.shown ≡ x → place_shown (numbered_shown x) ≡ Some i.place → IsShownSo (whole_view i)
-        by s side (shown.Function f) e at = let wrong : None ≡ Some i.place = at in absurd cc
-        by s side (shown.Declares q d) e at = let wrong : None ≡ Some i.place = at in absurd cc
         by s side (shown.Instance key v) e at = record {
           other = sight_of key v;
           among = seen_sight t ms m c w is world.good s side key v e;
@@ -152,6 +147,7 @@ module _ (t : Tables) (h : Homes) (ms : List Member) (members : List reads.Membe
           functions = λ f g there. seen_signature s side g.1.signature (subst (λ k. Contains (signatures_of_shown k) g.1.signature) (sym e)
               (contains-map (λ (y : Text × NumberedFunction). y.1.signature) (numbered_view v).functions g there));
         }
+        by s side _ e at = let wrong : None ≡ Some i.place = at in absurd cc
 
   pub shown_so : (s : NumberedSight) → Contains (views_of_members (numbered_members ms)) s → IsShownSo s
   shown_so s c = let m = mapped_cases (λ (x : NumberedMember). views_of_part x.part) numbered_member ms s c in by m.0 m.1 m.0.part refl m.2

@@ -42,8 +42,7 @@ module _ (t : Tables) (tables : AreTables t) (Met : Place → Text → Bool → 
 
   two_stand : (a b : Tree) (ts : Trees) → HandleStands Met (Trees.child a (Trees.child b ts)) → ⊥
   two_stand (Tree.primitive p) b ts stands = stands
-  two_stand (Tree.named place x) b ts stands = stands
-  two_stand (Tree.node f us) b ts stands = stands
+  two_stand _ b ts stands = stands
 
   in_handle : (ks : List ℕ) → AllByRecursion (λ k. IsPart t k) ks → HandleStands Met (children (map (tree_at t) ks)) → (j : ℕ) → Contains ks j → IsIn t.shapes j n → IsMet
   in_handle [] ranges stands j c found = none-in j c

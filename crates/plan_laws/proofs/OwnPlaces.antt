@@ -128,8 +128,7 @@ Frame = ℕ × Owned
 
 abbrev pub frames_of_shown : NumberedShown → List Frame
 frames_of_shown (instance key v) = (place_of_key key, a_view v) ∷ []
-frames_of_shown (function n) = []
-frames_of_shown (declares d) = []
+frames_of_shown _ = []
 
 abbrev pub frames_of_seen : List NumberedSeen → List Frame
 frames_of_seen ss = flat_map (λ (s : NumberedSeen). frames_of_shown s.shown) ss
@@ -146,8 +145,7 @@ place_of_frame f = f.0
 
 shown_places : (x : NumberedShown) → map place_of_frame (frames_of_shown x) ≡ places_of_shown x
 shown_places (instance key v) = refl
-shown_places (function n) = refl
-shown_places (declares d) = refl
+shown_places _ = refl
 
 seen_places : (ss : List NumberedSeen) → map place_of_frame (frames_of_seen ss) ≡ places_of_seen ss
 seen_places [] = refl
@@ -179,11 +177,8 @@ module _ (t : Tables) where
 
   -- the inline interfaces among imports and exports
   abbrev pub inline_of : NumberedShown → List NumberedInstance
-  inline_of (instance (path p) v) = []
   inline_of (instance (label l p) v) = record { place = p; view = v } ∷ []
-  inline_of (instance (implementing l p) v) = []
-  inline_of (function n) = []
-  inline_of (declares d) = []
+  inline_of _ = []
 
   abbrev pub inlines : List NumberedSeen → List NumberedInstance
   inlines ss = flat_map (λ (s : NumberedSeen). inline_of s.shown) ss
@@ -214,11 +209,8 @@ module _ (t : Tables) where
     where
       by : (x : NumberedShown) → nones (instances_in (map (seen_of t) ss)) ≡ length (inlines ss)
           → nones (shown_instances.instance_of (shown_of t x) ++ instances_in (map (seen_of t) ss)) ≡ length (inline_of x ++ inlines ss)
-      by (instance (path p) v) rest = rest
       by (instance (label l p) v) rest = ap suc rest
-      by (instance (implementing l p) v) rest = rest
-      by (function n) rest = rest
-      by (declares d) rest = rest
+      by _ rest = rest
 
   pub kept_nones : (is : List NumberedInstance) → nones (map (instance_of t) is) ≡ length (filter no_path is)
   kept_nones [] = refl
@@ -286,8 +278,7 @@ module _ (t : Tables) (w : NumberedScope) (good : IsScopeIn t w) where
       by key id (instance (label l p) v) seen rest = ap (λ ps. p ∷ ps) rest ∙ ap (λ o. if is_none o then p ∷ filter (has_no_path t) (places_of_seen ss) else filter (has_no_path t) (places_of_seen ss))
           (sym seen.0)
       by key id (instance (implementing l p) v) seen rest = dropped p seen.0 (inlines t ss) rest
-      by key id (function n) seen rest = rest
-      by key id (declares d) seen rest = rest
+      by key id _ seen rest = rest
 
   -- each of them is an instance
   inline_kept : (ss : List NumberedSeen) → AllByRecursion Keyed ss → AllByRecursion (λ (s : NumberedSeen). IsOneOf t w.instances s.shown) ss → (i : NumberedInstance) → Contains (inlines t ss) i

@@ -172,9 +172,8 @@ module _ (t : Tables) (tables : AreTables t) (h : Homes) (stand : HomesStand t h
       imported {count = count} (name_of_instance path other by before) = (count, _, by)
 
       declares_only : (x : Shown) (d : Declaration) → shown_of t (numbered_shown x) ≡ follow.Shown.declares d → (part : ℕ) × (o : Option ℕ) × (x ≡ shown.Declares part o)
-      declares_only (shown.Instance key v) d e = let wrong : ⊥ = cc in absurd wrong
-      declares_only (shown.Function f) d e = let wrong : ⊥ = cc in absurd wrong
       declares_only (shown.Declares part o) d e = (part, o, refl)
+      declares_only _ d e = let wrong : ⊥ = cc in absurd wrong
 
       named_here : (m : ℕ) (key : Text) → slice_get t.shapes m ≡ Some (named_shape w.home key) → key ≡ name → q ≡ w.home → slice_get t.shapes m ≡ Some (named_shape q name)
       named_here m key there same home = there ∙ (ap (λ x. Some (named_shape w.home x)) same ∙ ap (λ x. Some (named_shape x name)) (sym home))

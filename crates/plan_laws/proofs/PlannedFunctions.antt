@@ -59,8 +59,7 @@ function_of q (s ∷ seen) f c = by (s.place == q) refl s.whole refl c (λ later
     by : (a : Bool) → (s.place == q) ≡ a → (b : Bool) → s.whole ≡ b → Contains (cond (a && b) s.view.functions (functions_seen q seen)) f → (Contains (functions_seen q seen) f → IsFunctionOf q seen f)
         → IsFunctionOf q (s ∷ seen) f
     by true same true whole here later = record { sight = s; among = get-contains (s ∷ seen) 0 s refl; place = eqb-true s.place q same; whole = whole; there = here }
-    by true same false whole more later = further (later more)
-    by false other b whole more later = further (later more)
+    by _ _ _ whole more later = further (later more)
 
 module _ (t : Tables) (h : Homes) (ms : List Member) (members : List reads.Member) (ruled : IsRuledInput t h ms members) (alike : AreShownAlike ms) (ordered : ViewsAreOrdered t ms)
     (worlds_apart : WorldsAreApart ms)

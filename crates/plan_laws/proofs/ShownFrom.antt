@@ -80,12 +80,9 @@ module _ (t : Tables) (h : Homes) (ms : List Member) (members : List reads.Membe
       contains-flat (λ (s : NumberedSeen). frames_of_shown s.shown) ss from.0 (i.place, a_view i.view) from.1 (by from.0.shown from.2)
     where
       by : (x : NumberedShown) → Contains (inline_of t x) i → Contains (frames_of_shown x) (i.place, a_view i.view)
-      by (worlds.instance (worlds.path p) v) among = none-in i among
       by (worlds.instance (worlds.label l p) v) among = subst (λ (j : NumberedInstance). Contains {X = Frame} ((p, a_view v) ∷ []) (j.place, a_view j.view))
           (one-contained (record { place = p; view = v }) i among) (zero, omega arith, refl)
-      by (worlds.instance (worlds.implementing l p) v) among = none-in i among
-      by (worlds.function n) among = none-in i among
-      by (worlds.declares d) among = none-in i among
+      by _ among = none-in i among
 
   -- a view without a path is that of its own place
   pub view_frame : (s : NumberedSight) → Contains views s → path_at t s.place ≡ None → Contains (frames numbered) (s.place, a_view s.view)

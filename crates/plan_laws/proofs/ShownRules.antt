@@ -71,10 +71,8 @@ resource_in r (s ∷ ss) any = by s.shown refl any (λ more. later (resource_in 
 
     by : (k : follow.Shown) → s.shown ≡ k → list_any (text_eq r) (rules.resources_seen (record { key = s.key; shown = k; external_id = s.external_id } ∷ ss)) ≡ true
         → (list_any (text_eq r) (rules.resources_seen ss) ≡ true → IsResourceIn (s ∷ ss) r) → IsResourceIn (s ∷ ss) r
-    by (follow.Shown.instance key view) e any more = more any
-    by (follow.Shown.function f) e any more = more any
     by (follow.Shown.declares Declaration.resource) e any more = which (text_eq r s.key) refl e any more
-    by (follow.Shown.declares (Declaration.type_ tree)) e any more = more any
+    by _ e any more = more any
 
 -- An import or an export that may stand behind resources among these.
 pub record IsItemAmong (ss : List follow.Seen) (key : Text) (x : follow.Shown) : Type 0 where
@@ -124,8 +122,7 @@ instance_obeys all ss items x c = let from = flat_cases (λ (s : follow.Seen). s
   where
     by : (k : follow.Shown) (resources : List Text) (key : Text) → rules.is_item resources key k ≡ true → Contains (shown_instances.instance_of k) x → InstanceObeys x
     by (follow.Shown.instance key view) resources name is among = subst InstanceObeys (one-contained (record { interface = interface_of key; view = view }) x among) is
-    by (follow.Shown.function f) resources name is among = none-in x among
-    by (follow.Shown.declares d) resources name is among = none-in x among
+    by _ resources name is among = none-in x among
 
 -- the type of a function that a place may have
 pub signature_of : (place : Place) (resources : List Text) (name : Text) (f : Signature) → rules.is_function place resources name f ≡ true → rules.is_signature place f ≡ true
@@ -141,8 +138,7 @@ one_way ((export_, y) ∷ seen) x (suc i, low, e) = elim (one_way seen x (i, ome
 
 two_of : (a b c d e : Bool) → (a && b && c && d && e) ≡ true → (a ≡ true) × (b ≡ true)
 two_of true true c d e h = (refl, refl)
-two_of true false c d e h = absurd cc
-two_of false b c d e h = absurd cc
+two_of _ _ c d e h = absurd cc
 
 pub record WorldObeys (scope : follow.Scope) : Type 0 where
   pub imports : rules.are_imports [] scope.imports ≡ true

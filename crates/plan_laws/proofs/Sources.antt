@@ -195,9 +195,8 @@ module _ (t : Tables) (h : Homes) where
   exports_no_type (parts.World w) (reads.Part.world scope) m shows stands = all_given (λ (s : Seen). is_type_seen (numbered_shown s.shown) ≡ false) w.exports.now one
     where
       same_type : (x : Shown) → scopes.is_type (shown_of t (numbered_shown x)) ≡ false → is_type_seen (numbered_shown x) ≡ false
-      same_type (shown.Instance k v) none = refl
-      same_type (shown.Function f) none = refl
       same_type (shown.Declares part d) none = none
+      same_type _ _ = refl
 
       one : (n : ℕ) (s : Seen) → slice_get w.exports.now n ≡ Some s → is_type_seen (numbered_shown s.shown) ≡ false
       one n s there =

@@ -53,8 +53,7 @@ module _ (t : Tables) (place : Place) where
 
   third : (a b c : Bool) → (a && b && c) ≡ true → (a ≡ true) × (b ≡ true) × (c ≡ true)
   third true true c h = (refl, refl, h)
-  third true false c h = let wrong : false ≡ true = h in absurd cc
-  third false b c h = let wrong : false ≡ true = h in absurd cc
+  third _ _ c h = let wrong : false ≡ true = h in absurd cc
 
   three : (a b c : Bool) → a ≡ true → b ≡ true → c ≡ true → (a && b && c) ≡ true
   three true true c h k l = l

@@ -61,20 +61,18 @@ use Rattle.plan_package.proofs.ReadPackageLaws.{number_at as number_there}
 zip_beside : {A B C : Type 0} (P : A → B → Type 0) (Q : A → C → Type 0) (R : B → C → Type 0) (xs : List A) → ((x : A) → Contains xs x → (b : B) (c : C) → P x b → Q x c → R b c)
     → (bs : List B) (cs : List C) → AllZip P xs bs → AllZip Q xs cs → AllZip R bs cs
 zip_beside P Q R [] each [] [] p q = tt
-zip_beside P Q R [] each [] (c ∷ cs) p q = absurd q
 zip_beside P Q R [] each (b ∷ bs) cs p q = absurd p
 zip_beside P Q R (x ∷ xs) each [] cs p q = absurd p
-zip_beside P Q R (x ∷ xs) each (b ∷ bs) [] p q = absurd q
 zip_beside P Q R (x ∷ xs) each (b ∷ bs) (c ∷ cs) p q = (
   each x (0, omega arith, refl) b c p.0 q.0,
   zip_beside P Q R xs (λ y at. each y (suc at.0, (let low = at.1 in omega (arith, low)), at.2)) bs cs p.1 q.1,
 )
+zip_beside _ _ _ _ each _ _ p q = absurd q
 
 pub zip_within : {A B : Type 0} (P Q : A → B → Type 0) (xs : List A) → ((x : A) → Contains xs x → (b : B) → P x b → Q x b) → (bs : List B) → AllZip P xs bs → AllZip Q xs bs
 zip_within P Q [] each [] p = tt
-zip_within P Q [] each (b ∷ bs) p = absurd p
-zip_within P Q (x ∷ xs) each [] p = absurd p
 zip_within P Q (x ∷ xs) each (b ∷ bs) p = (each x (0, omega arith, refl) b p.0, zip_within P Q xs (λ y at. each y (suc at.0, (let low = at.1 in omega (arith, low)), at.2)) bs p.1)
+zip_within _ _ _ each _ p = absurd p
 
 module _ (t : Tables) (h : Homes) (ms : List Member) (members : List reads.Member) (input : IsInput t h ms members) (alone : (q : ℕ) → path_at t q ≡ None → home_at h q ≡ None)
     (agreed : agree_in_numbers (sights_of_members t (numbered_members ms)) ≡ true) (ordered : ViewsAreOrdered t ms)

@@ -40,8 +40,6 @@ module _ (places : List ℕ) where
     side : (find : Text → Option TypeId) (ss : List Seen) (es : List (PlannedKey × PlannedItem)) → AllZip (PlansItem t kept places find) ss es
         → AllZip IsNumbered (places_of_seen (map numbered_seen ss)) (filter_map item_interface (map (λ (e : PlannedKey × PlannedItem). e.1) es))
     side find [] [] all = tt
-    side find [] (e ∷ es) all = absurd all
-    side find (s ∷ ss) [] all = absurd all
     side find (s ∷ ss) (e ∷ es) all = by all.0 (side find ss es all.1)
       where
         by : PlansItem t kept places find s e → AllZip IsNumbered (places_of_seen (map numbered_seen ss)) (filter_map item_interface (map (λ (x : PlannedKey × PlannedItem). x.1) es))
@@ -63,6 +61,7 @@ module _ (places : List ℕ) where
             (cons_option (item_interface e.1) (filter_map item_interface (map (λ (x : PlannedKey × PlannedItem). x.1) es)))) (sym is)
             (subst (λ i. AllZip IsNumbered (places_of_seen (map numbered_seen ss)) (cons_option (item_interface i) (filter_map item_interface (map (λ (x : PlannedKey × PlannedItem). x.1) es))))
             (sym (ap (λ (x : PlannedKey × PlannedItem). x.1) entry)) rest)
+    side find _ _ all = absurd all
 
     pub items_numbered : (main : ℕ) (w : Text × Scope) (x : PlannedWorld) → PlansWorld t kept places main w x
         → AllZip IsNumbered (places_of_seen (map numbered_seen w.1.imports.now) ++ places_of_seen (map numbered_seen w.1.exports.now)) (filter_map item_interface (items_of x))
@@ -113,8 +112,6 @@ module _ (places : List ℕ) where
   module _ (f g : ℕ → Bool) (tell : (q m : ℕ) → IsNumbered q m → f q ≡ g m) where
     passing : (qs ns : List ℕ) → AllZip IsNumbered qs ns → AreListed (filter f qs) (filter g ns)
     passing [] [] all = none
-    passing [] (m ∷ ns) all = absurd all
-    passing (q ∷ qs) [] all = absurd all
     passing (q ∷ qs) (m ∷ ns) all = by (f q) (g m) (tell q m all.0) (passing qs ns all.1)
       where
         by : (b c : Bool) → b ≡ c → AreListed (filter f qs) (filter g ns) → AreListed (cond b (q ∷ filter f qs) (filter f qs)) (cond c (m ∷ filter g ns) (filter g ns))
@@ -122,6 +119,7 @@ module _ (places : List ℕ) where
         by false false e rest = rest
         by true false e rest = no_true (sym e)
         by false true e rest = no_true e
+    passing _ _ all = absurd all
 
   -- ---- all worlds
 

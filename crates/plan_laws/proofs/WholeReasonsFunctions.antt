@@ -174,8 +174,7 @@ module _ (t : Tables) (h : Homes) (known : ℕ → Fact) (n : ℕ) (ms : List Me
           where
             number : Shown → ℕ
             number (shown.Function z) = z
-            number (shown.Instance key v) = k
-            number (shown.Declares d q) = k
+            number _ = k
 
         of_item : (j : ℕ) (x : PlannedWorld) → world_in p j ≡ Some x → (find : Text → Option TypeId) (e : PlannedKey × PlannedItem) → Contains (items_of x) e.1
             → PlansItem t kept (places_in ms) find s e → Kept old

@@ -183,10 +183,7 @@ tests_hold t h known n ms members is =
   where
     four : (a b c d : Bool) → (a && (b && (c && d))) ≡ true → (a ≡ true) × (b ≡ true) × (c ≡ true) × (d ≡ true)
     four true true true true h = (refl, refl, refl, refl)
-    four true true true false h = absurd cc
-    four true true false d h = absurd cc
-    four true false c d h = absurd cc
-    four false b c d h = absurd cc
+    four _ _ _ _ h = absurd cc
 
 pub packages_are_ruled : PackagesAreRuled
 packages_are_ruled t h known n ms members is = let tests = tests_hold t h known n ms members is in record {

@@ -70,9 +70,7 @@ value e = e.1
 -- the first and the third of five tests
 first_and_third : (a b c d e : Bool) → (a && b && c && d && e) ≡ true → (a ≡ true) × (c ≡ true)
 first_and_third true true true d e h = (refl, refl)
-first_and_third true true false d e h = absurd cc
-first_and_third true false c d e h = absurd cc
-first_and_third false b c d e h = absurd cc
+first_and_third _ _ _ d e h = absurd cc
 
 module _ (t : Tables) (h : Homes) (known : ℕ → Fact) (n : ℕ) (ms : List Member) (members : List reads.Member) (given : IsPackageInput t h known n ms members) (ordered : ViewsAreOrdered t ms)
     (worlds_apart : WorldsAreApart ms) (followed : WorldsAreFollowed t ms)
@@ -307,9 +305,8 @@ module _ (t : Tables) (h : Homes) (known : ℕ → Fact) (n : ℕ) (ms : List Me
         last.behind i a.count is_a.2 low)
       where
         type_there : (y : NumberedShown) → is_type_seen y ≡ true → (d : Option ℕ) × (y ≡ worlds.declares d)
-        type_there (worlds.instance k v) e = no_true e
-        type_there (worlds.function f) e = no_true e
         type_there (worlds.declares d) e = (d, refl)
+        type_there _ e = no_true e
 
     no_type : list_all (λ (s : NumberedSeen). not (is_type_seen s.shown)) scope.exports ≡ true
     no_type = all_by_number (λ (s : NumberedSeen). not (is_type_seen s.shown)) scope.exports (λ j y e.

@@ -57,8 +57,7 @@ use Rattle.plan_package.proofs.ReadPackageLaws.{number_at as number_there}
 
 declared_of : Shown → Option ℕ
 declared_of (shown.Declares g o) = o
-declared_of (shown.Function g) = None
-declared_of (shown.Instance g v) = None
+declared_of _ = None
 
 same_declared : (k l : ℕ) (a c : Option ℕ) → shown.Declares k a ≡ shown.Declares l c → a ≡ c
 unfolding declared_of

@@ -34,8 +34,7 @@ one_key = one_under (λ (s : NumberedSeen). s.key)
 
 abbrev pub declared_in : Option ℕ → NumberedShown → Option ℕ
 declared_in default (worlds.declares d) = d
-declared_in default (worlds.function n) = default
-declared_in default (worlds.instance key v) = default
+declared_in default _ = default
 
 abbrev pub is_world_owned : Owned → Bool
 is_world_owned (a_world w) = true

@@ -82,18 +82,12 @@ module _ (t : Tables) (tables : AreTables t) (fit : LengthsFit t) where
   form_obeys : (form : Form) (parts : List ℕ) (n : ℕ) → slice_get t.shapes n ≡ Some (node_shape form parts) → is_formed form (map (tree_at t) parts) ≡ true → is_form form parts ≡ true
   form_obeys (Form.record_of names) parts n at h = filled names (length (map (tree_at t) parts) == length names) h
   form_obeys (Form.variant_of cases) parts n at h = filled cases (length (map (tree_at t) parts) == count_true (map (λ (c : Text × Bool). c.1) cases)) h
-  form_obeys Form.list_of parts n at h = refl
   form_obeys (Form.fixed_list_of l) parts n at h = both (nat_le 1 l) (nat_lt l 4294967296) (first_true (nat_le 1 l) (length (map (tree_at t) parts) == 1) h) (lt-ltb l 4294967296 (fit n l parts at))
-  form_obeys Form.option_of parts n at h = refl
-  form_obeys Form.own_of parts n at h = refl
-  form_obeys Form.borrow_of parts n at h = refl
   form_obeys Form.map_of parts n at h = key_first parts (form_range t tables n Form.map_of parts at) h
   form_obeys Form.tuple_of parts n at h = tuple_filled parts h
   form_obeys (Form.flags_of names) parts n at h = filled names (length (map (tree_at t) parts) == 0) h
   form_obeys (Form.enum_of names) parts n at h = filled names (length (map (tree_at t) parts) == 0) h
-  form_obeys (Form.result_of ok err) parts n at h = refl
-  form_obeys (Form.future_of some) parts n at h = refl
-  form_obeys (Form.stream_of some) parts n at h = refl
+  form_obeys _ parts n at h = refl
 
 -- What holds of each form with its parts holds of each form that is shown.
 module _ (t : Tables) (tables : AreTables t) (Obeys : Form → List ℕ → Type 0) (form_obeys : (form : Form) (parts : List ℕ) (n : ℕ) → slice_get t.shapes n ≡ Some (node_shape form parts) → is_formed form (map (tree_at t) parts) ≡ true → Obeys form parts) where
@@ -219,13 +213,12 @@ module _ (t : Tables) (tables : AreTables t) (Obeys : Form → List ℕ → Type
       → ((x : Instance) → Contains (all_instances members) x → StandsAmong all x)
       → AllByRecursion (λ (x : reads.Member). PartStands x.part) members
       → AllByRecursion (λ (m : Member). AreHeld (showings_of_part m.part) (signatures_of_part m.part)) ms
-  members_obey h all [] [] zip each stand = tt
-  members_obey h all [] (x ∷ members) zip each stand = tt
   members_obey h all (m ∷ ms) [] zip each stand = absurd zip
   members_obey h all (m ∷ ms) (x ∷ members) zip each stand = (
     part_obeys_all h all m x.label x.package_ m.part x.part zip.0.part (λ y c. each y (Contains-append_left (instances_of x) (all_instances members) y c)) stand.0,
     members_obey h all ms members zip.1 (λ y c. each y (Contains-append_right (instances_of x) (all_instances members) y c)) stand.1,
   )
+  members_obey h all _ _ zip each stand = tt
 
   pub forms_hold : (h : Homes) (ms : List Member) (members : List reads.Member) → AllZip (IsMember t h) (numbered_members ms) members → MembersStand members
       → FormsHold t Obeys (showings_of_members ms) (signatures_of_members ms)

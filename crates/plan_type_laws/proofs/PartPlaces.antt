@@ -41,9 +41,8 @@ module _ (t : Tables) where
 
   -- no type is exported
   no_name : (home : ℕ) (key : Text) (s : NumberShown) → scopes.is_type (shown_of t (numbered_shown s)) ≡ false → NamesShown t home key s
-  no_name home key (shown.Instance k v) none = tt
-  no_name home key (shown.Function n) none = tt
   no_name home key (shown.Declares part d) none = let wrong : true ≡ false = none in absurd cc
+  no_name home key _ _ = tt
 
   pub no_names : (home : ℕ) (ss : List NumberSeen) → AllAt (λ n (s : Seen). scopes.is_type s.shown ≡ false) (map (seen_of t) (map numbered_seen ss)) → AllByRecursion (NamesSeen t home) ss
   no_names home ss none =

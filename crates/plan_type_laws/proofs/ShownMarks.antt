@@ -94,8 +94,7 @@ module _ (test : ℕ → Bool) where
 module _ (t : Tables) (kinds : Text → Text → Bool) where
   abbrev frames_of_shown : (home : ℕ) (own : Text → Bool) (key : Text) (s : NumberShown) → ShownKinds t kinds home own key s → List Frame
   frames_of_shown home own key (shown.Instance k v) is = (place_of_key (numbered_key k), is.own) ∷ []
-  frames_of_shown home own key (shown.Function n) is = []
-  frames_of_shown home own key (shown.Declares part d) is = []
+  frames_of_shown home own key _ is = []
 
   abbrev frames_of_seen : (home : ℕ) (own : Text → Bool) (ss : List Seen) → AllByRecursion (SeenKinds t kinds home own) ss → List Frame
   frames_of_seen home own [] all = []
@@ -112,8 +111,7 @@ module _ (t : Tables) (kinds : Text → Text → Bool) where
   places_shown : (home : ℕ) (own : Text → Bool) (key : Text) (s : NumberShown) (is : ShownKinds t kinds home own key s)
       → map (λ (f : Frame). f.0) (frames_of_shown home own key s is) ≡ places_of_shown (numbered_shown s)
   places_shown home own key (shown.Instance k v) is = refl
-  places_shown home own key (shown.Function n) is = refl
-  places_shown home own key (shown.Declares part d) is = refl
+  places_shown home own key _ is = refl
 
   places_seen : (home : ℕ) (own : Text → Bool) (ss : List Seen) (all : AllByRecursion (SeenKinds t kinds home own) ss)
       → map (λ (f : Frame). f.0) (frames_of_seen home own ss all) ≡ places_of_seen (map numbered_seen ss)

@@ -31,19 +31,7 @@ use Rattle.std.proofs.lemmas.Bool.{and_from as both}
 
 same_handle : (form : Form) → is_handle_form form ≡ is_handle form
 same_handle (Form.record_of names) = refl
-same_handle (Form.variant_of cases) = refl
-same_handle Form.list_of = refl
-same_handle (Form.fixed_list_of n) = refl
-same_handle Form.option_of = refl
-same_handle Form.own_of = refl
-same_handle Form.borrow_of = refl
-same_handle Form.map_of = refl
-same_handle Form.tuple_of = refl
-same_handle (Form.flags_of names) = refl
-same_handle (Form.enum_of names) = refl
-same_handle (Form.result_of ok err) = refl
-same_handle (Form.future_of some) = refl
-same_handle (Form.stream_of some) = refl
+same_handle _ = refl
 
 module _ (t : Tables) (tables : AreTables t) (kinds : Text → Text → Bool) (own_at : ℕ → Text → Bool) where
   -- whether the name of a place is a resource
