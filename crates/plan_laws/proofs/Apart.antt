@@ -38,7 +38,7 @@ use Rattle.plan_laws.proofs.PlaceNumbers.{IsOnce, from_joined}
 use Rattle.plan_laws.proofs.Planned.{home_alone}
 use Rattle.plan_laws.proofs.ShownFrom.{IsWorldOf, world_of}
 use Rattle.plan_laws.proofs.WholePlacesInstances.{as_many, one_of}
-use Rattle.plan_laws.proofs.OwnPlaces.{different, no_longer}
+use Rattle.plan_laws.proofs.OwnPlaces.{different, no_longer, filtered_there, unfiltered_once}
 use Rattle.plan_laws.proofs.WholeTypes.{packages_are_ruled}
 use Rattle.plan_laws.proofs.WorldItems.{homes_of_worlds, world_member}
 use Rattle.base_lemmas.proofs.Elements.{all_at, contains-later, contains-map, get-contains, last_of as one-contained, map_from as from_map}
@@ -117,33 +117,6 @@ both_apart xs ys once q c d =
     omega (arith, same, low, high)
 
 module _ (test : ℕ → Bool) where
-  filtered_there : (ps : List ℕ) (q : ℕ) → Contains ps q → test q ≡ true → Contains (filter test ps) q
-  filtered_there ps q c passes = has-contains (filter test ps) q (has_filter test ps q (contains-has ps q c) passes)
-
-  -- what passes stands once, where it does among those that pass
-  unfiltered_once : (ps : List ℕ) → IsOnce (filter test ps) → (i j q : ℕ) → slice_get ps i ≡ Some q → slice_get ps j ≡ Some q → test q ≡ true → i ≡ j
-  unfiltered_once [] once i j q at_i at_j passes = let wrong : None ≡ Some q = at_i in absurd cc
-  unfiltered_once (p ∷ ps) once i j q at_i at_j passes = by (test p) refl once i j at_i at_j (λ rest k l at_k at_l. unfiltered_once ps rest k l q at_k at_l passes)
-    where
-      twice : IsOnce (p ∷ filter test ps) → p ≡ q → (k : ℕ) → slice_get ps k ≡ Some q → ⊥
-      twice one same k at =
-          let there = contains-get (filter test ps) q (filtered_there ps q (get-contains ps k q at) passes) in
-          let wrong : 0 ≡ suc there.0 = one 0 (suc there.0) q (ap Some same) there.1 in
-          omega (arith, wrong)
-
-      behind : IsOnce (p ∷ filter test ps) → IsOnce (filter test ps)
-      behind one k l r at_k at_l = let same = one (suc k) (suc l) r at_k at_l in omega (arith, same)
-
-      by : (b : Bool) → test p ≡ b → IsOnce (cond b (p ∷ filter test ps) (filter test ps)) → (i j : ℕ) → slice_get (p ∷ ps) i ≡ Some q → slice_get (p ∷ ps) j ≡ Some q
-          → (IsOnce (filter test ps) → (k l : ℕ) → slice_get ps k ≡ Some q → slice_get ps l ≡ Some q → k ≡ l) → i ≡ j
-      by b e one zero zero at_i at_j later = refl
-      by true e one zero (suc j) at_i at_j later = absurd (twice one (same-some p q at_i) j at_j)
-      by true e one (suc i) zero at_i at_j later = absurd (twice one (same-some p q at_j) i at_i)
-      by true e one (suc i) (suc j) at_i at_j later = ap suc (later (behind one) i j at_i at_j)
-      by false e one zero (suc j) at_i at_j later = no_true (sym e ∙ (ap test (same-some p q at_i) ∙ passes))
-      by false e one (suc i) zero at_i at_j later = no_true (sym e ∙ (ap test (same-some p q at_j) ∙ passes))
-      by false e one (suc i) (suc j) at_i at_j later = ap suc (later one i j at_i at_j)
-
   none_pass : (ps : List ℕ) → ((p : ℕ) → Contains ps p → test p ≡ false) → filter test ps ≡ []
   none_pass [] none = refl
   none_pass (p ∷ ps) none = ap (λ b. cond b (p ∷ filter test ps) (filter test ps)) (none p (0, omega arith, refl)) ∙ none_pass ps (λ q c. none q (contains-later p ps q c))

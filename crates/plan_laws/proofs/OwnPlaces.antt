@@ -1,10 +1,14 @@
 -- Each place without a path is of one world, or of one inline interface with one view.
-use Rattle.std.proofs.Common.{◌≡◌, refl, sym, ap, subst, ◌∙◌, ℕ, zero, suc, ◌+◌, ◌⊎◌, inl, inr, arith, Bool, true, false, not, filter, if◌then◌else◌, List, [], ◌∷◌, ◌++◌, length, length-append, map, Option, None, is_none, ◌≤◌}
+use Rattle.plan_meaning.proofs.Lists.{no_true}
+use Rattle.std.proofs.lemmas.Option.{same_Some as same-some}
+use Rattle.wit_model.proofs.UsesLemmas.{has_filter}
+use Rattle.plan_laws.proofs.PlaceNumbers.{IsOnce}
+use Rattle.std.proofs.Common.{◌≡◌, refl, sym, ap, subst, ◌∙◌, ℕ, zero, suc, ◌+◌, ◌⊎◌, inl, inr, arith, Bool, true, false, not, filter, if◌then◌else◌, List, [], ◌∷◌, ◌++◌, length, length-append, map, Option, None, is_none, ◌≤◌, Some, slice_get, cond}
 use Rattle.std.specs.List.{AllByRecursion, Contains, flat_map}
 use Rattle.std.proofs.lemmas.Bool.{not-true, and_from as both}
 use Rattle.std.proofs.lemmas.List.Elements.{Contains-append_cases, Contains-append_left, filter-append}
 use Rattle.wit_model.specs.Uses.{has}
-use Rattle.wit_model.proofs.Elements.{contains-has, has-contains, none-in}
+use Rattle.wit_model.proofs.Elements.{contains-has, has-contains, none-in, contains-get}
 use Rattle.comp_meaning.specs.Follow as follow
 use Rattle.comp_meaning.specs.Follow.{Direction, Instance, export_, import_}
 use Rattle.read_shown.specs.Instances as shown_instances
@@ -17,45 +21,59 @@ use Rattle.plan_meaning.specs.NumberedWorlds.{HasPath, NumberedInstance, Numbere
 use Rattle.plan_type_laws.specs.ShownMarks.{has_no_path, own_places, places_of_part, places_of_seen, places_of_shown}
 use Rattle.plan_laws.proofs.Inside.{flat_cases}
 use Rattle.base_lemmas.proofs.Bools.{left_of as first_true, right_of as second_true}
-use Rattle.base_lemmas.proofs.Elements.{all_at, contains-later, contains-map, filter_keeps as in_filter, last_of as one-contained}
-use Rattle.base_lemmas.proofs.Lists.{append_of_map}
+use Rattle.base_lemmas.proofs.Elements.{all_at, contains-later, contains-map, filter_keeps as in_filter, last_of as one-contained, get-contains}
+use Rattle.base_lemmas.proofs.Lists.{append_of_map, mapped_get}
 
 -- ---- what stands at a number that stands once
 
-module _ {X : Type 0} (test : ℕ → Bool) where
-  abbrev numbers : List (ℕ × X) → List ℕ
-  numbers fs = filter test (map (λ (f : ℕ × X). f.0) fs)
+once_behind : (n : ℕ) (ns : List ℕ) → are_once (n ∷ ns) ≡ true → are_once ns ≡ true
+once_behind n ns once = second_true (not (has ns n)) (are_once ns) once
 
-  number_among : (fs : List (ℕ × X)) (f : ℕ × X) → Contains fs f → test f.0 ≡ true → Contains (numbers fs) f.0
-  number_among [] f c h = none-in f c
-  number_among (g ∷ fs) f c h = by (test g.0) refl c (λ later. number_among fs f later h)
+not_among : (n : ℕ) (ns : List ℕ) → are_once (n ∷ ns) ≡ true → Contains ns n → ⊥
+not_among n ns once c = let wrong : false ≡ true = sym (not-true (has ns n) (first_true (not (has ns n)) (are_once ns) once)) ∙ contains-has ns n c in cc
+
+once_places : (ns : List ℕ) → are_once ns ≡ true → IsOnce ns
+once_places [] once i j q at_i at_j = let wrong : None ≡ Some q = at_i in absurd cc
+once_places (n ∷ ns) once zero zero q at_i at_j = refl
+once_places (n ∷ ns) once zero (suc j) q at_i at_j = absurd (not_among n ns once (subst (Contains ns) (sym (same-some n q at_i)) (get-contains ns j q at_j)))
+once_places (n ∷ ns) once (suc i) zero q at_i at_j = absurd (not_among n ns once (subst (Contains ns) (sym (same-some n q at_j)) (get-contains ns i q at_i)))
+once_places (n ∷ ns) once (suc i) (suc j) q at_i at_j = ap suc (once_places ns (once_behind n ns once) i j q at_i at_j)
+
+module _ (test : ℕ → Bool) where
+  pub filtered_there : (ps : List ℕ) (q : ℕ) → Contains ps q → test q ≡ true → Contains (filter test ps) q
+  filtered_there ps q c passes = has-contains (filter test ps) q (has_filter test ps q (contains-has ps q c) passes)
+
+  -- what passes stands once, where it does among those that pass
+  pub unfiltered_once : (ps : List ℕ) → IsOnce (filter test ps) → (i j q : ℕ) → slice_get ps i ≡ Some q → slice_get ps j ≡ Some q → test q ≡ true → i ≡ j
+  unfiltered_once [] once i j q at_i at_j passes = let wrong : None ≡ Some q = at_i in absurd cc
+  unfiltered_once (p ∷ ps) once i j q at_i at_j passes = by (test p) refl once i j at_i at_j (λ rest k l at_k at_l. unfiltered_once ps rest k l q at_k at_l passes)
     where
-      by : (b : Bool) → test g.0 ≡ b → Contains (g ∷ fs) f → (Contains fs f → Contains (numbers fs) f.0) → Contains (if b then g.0 ∷ numbers fs else numbers fs) f.0
-      by true e (zero, low, same) later = (zero, omega arith, ap (λ (x : ℕ × X). x.0) same)
-      by true e (suc i, low, same) later = contains-later g.0 (numbers fs) f.0 (later (i, omega (arith, low), same))
-      by false e (zero, low, same) later = let wrong : false ≡ true = sym e ∙ (ap (λ (x : ℕ × X). test x.0) same ∙ h) in absurd cc
-      by false e (suc i, low, same) later = later (i, omega (arith, low), same)
+      twice : IsOnce (p ∷ filter test ps) → p ≡ q → (k : ℕ) → slice_get ps k ≡ Some q → ⊥
+      twice one same k at =
+          let there = contains-get (filter test ps) q (filtered_there ps q (get-contains ps k q at) passes) in
+          let wrong : 0 ≡ suc there.0 = one 0 (suc there.0) q (ap Some same) there.1 in
+          omega (arith, wrong)
 
-  pub one_there : (fs : List (ℕ × X)) → are_once (numbers fs) ≡ true → (f g : ℕ × X) → Contains fs f → Contains fs g → f.0 ≡ g.0 → test f.0 ≡ true → f ≡ g
-  one_there [] once f g c d e h = none-in f c
-  one_there (k ∷ fs) once f g c d e h = by (test k.0) refl once (λ apart i j. one_there fs apart f g i j e h) c d
-    where
-      not_later : (x : ℕ × X) → are_once (k.0 ∷ numbers fs) ≡ true → Contains fs x → test x.0 ≡ true → k.0 ≡ x.0 → ⊥
-      not_later x apart later tested same =
-          let none = not-true (has (numbers fs) k.0) (first_true (not (has (numbers fs) k.0)) (are_once (numbers fs)) apart) in
-          let there = contains-has (numbers fs) x.0 (number_among fs x later tested) in
-          let wrong : false ≡ true = sym none ∙ (ap (has (numbers fs)) same ∙ there) in cc
+      behind : IsOnce (p ∷ filter test ps) → IsOnce (filter test ps)
+      behind one k l r at_k at_l = let same = one (suc k) (suc l) r at_k at_l in omega (arith, same)
 
-      by : (b : Bool) → test k.0 ≡ b → are_once (if b then k.0 ∷ numbers fs else numbers fs) ≡ true → (are_once (numbers fs) ≡ true → Contains fs f → Contains fs g → f ≡ g) → Contains (k ∷ fs) f
-          → Contains (k ∷ fs) g → f ≡ g
-      by true t apart more (zero, i_low, i_same) (zero, j_low, j_same) = sym i_same ∙ j_same
-      by true t apart more (zero, i_low, i_same) (suc j, j_low, j_same) = absurd (not_later g apart (j, omega (arith, j_low), j_same) (ap test (sym e) ∙ h) (ap (λ (x : ℕ × X). x.0) i_same ∙ e))
-      by true t apart more (suc i, i_low, i_same) (zero, j_low, j_same) = absurd (not_later f apart (i, omega (arith, i_low), i_same) h (ap (λ (x : ℕ × X). x.0) j_same ∙ sym e))
-      by true t apart more (suc i, i_low, i_same) (suc j, j_low, j_same) =
-          more (second_true (not (has (numbers fs) k.0)) (are_once (numbers fs)) apart) (i, omega (arith, i_low), i_same) (j, omega (arith, j_low), j_same)
-      by false t apart more (zero, i_low, i_same) d_in = let wrong : false ≡ true = sym t ∙ (ap (λ (x : ℕ × X). test x.0) i_same ∙ h) in absurd cc
-      by false t apart more (suc i, i_low, i_same) (zero, j_low, j_same) = let wrong : false ≡ true = sym t ∙ (ap (λ (x : ℕ × X). test x.0) j_same ∙ (ap test (sym e) ∙ h)) in absurd cc
-      by false t apart more (suc i, i_low, i_same) (suc j, j_low, j_same) = more apart (i, omega (arith, i_low), i_same) (j, omega (arith, j_low), j_same)
+      by : (b : Bool) → test p ≡ b → IsOnce (cond b (p ∷ filter test ps) (filter test ps)) → (i j : ℕ) → slice_get (p ∷ ps) i ≡ Some q → slice_get (p ∷ ps) j ≡ Some q
+          → (IsOnce (filter test ps) → (k l : ℕ) → slice_get ps k ≡ Some q → slice_get ps l ≡ Some q → k ≡ l) → i ≡ j
+      by b e one zero zero at_i at_j later = refl
+      by true e one zero (suc j) at_i at_j later = absurd (twice one (same-some p q at_i) j at_j)
+      by true e one (suc i) zero at_i at_j later = absurd (twice one (same-some p q at_j) i at_i)
+      by true e one (suc i) (suc j) at_i at_j later = ap suc (later (behind one) i j at_i at_j)
+      by false e one zero (suc j) at_i at_j later = no_true (sym e ∙ (ap test (same-some p q at_i) ∙ passes))
+      by false e one (suc i) zero at_i at_j later = no_true (sym e ∙ (ap test (same-some p q at_j) ∙ passes))
+      by false e one (suc i) (suc j) at_i at_j later = ap suc (later one i j at_i at_j)
+
+  pub one_there : {X : Type 0} (fs : List (ℕ × X)) → are_once (filter test (map (λ (f : ℕ × X). f.0) fs)) ≡ true → (f g : ℕ × X) → Contains fs f → Contains fs g → f.0 ≡ g.0 → test f.0 ≡ true → f ≡ g
+  one_there {X = X} fs once f g c d e h =
+      let number = λ (f : ℕ × X). f.0 in
+      let i = contains-get fs f c in
+      let j = contains-get fs g d in
+      let same = unfiltered_once (map number fs) (once_places (filter test (map number fs)) once) i.0 j.0 f.0 (mapped_get number fs i.0 f i.1) (mapped_get number fs j.0 g j.1 ∙ ap Some (sym e)) h in
+      same-some f g (sym i.1 ∙ (ap (slice_get fs) same ∙ j.1))
 
 -- ---- as many, all of which are among others
 
@@ -224,15 +242,9 @@ module _ (t : Tables) where
 
 -- ---- numbers that stand once, in a part of a list
 
-once_behind : (n : ℕ) (ns : List ℕ) → are_once (n ∷ ns) ≡ true → are_once ns ≡ true
-once_behind n ns once = second_true (not (has ns n)) (are_once ns) once
-
 once_last : (xs ys : List ℕ) → are_once (xs ++ ys) ≡ true → are_once ys ≡ true
 once_last [] ys once = once
 once_last (x ∷ xs) ys once = once_last xs ys (once_behind x (xs ++ ys) once)
-
-not_among : (n : ℕ) (ns : List ℕ) → are_once (n ∷ ns) ≡ true → Contains ns n → ⊥
-not_among n ns once c = let wrong : false ≡ true = sym (not-true (has ns n) (first_true (not (has ns n)) (are_once ns) once)) ∙ contains-has ns n c in cc
 
 -- no number of the list is the first
 none_is : (n : ℕ) (ns : List ℕ) → (Contains ns n → ⊥) → has ns n ≡ false

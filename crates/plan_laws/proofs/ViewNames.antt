@@ -5,7 +5,7 @@ use Rattle.std.specs.Option.{option_map_or}
 use Rattle.std.proofs.lemmas.List.Elements.{Contains-append_cases}
 use Rattle.wit_model.specs.Text.{Text}
 use Rattle.wit_model.specs.Tree.{Place}
-use Rattle.wit_model.proofs.Elements.{contains-get, none-in}
+use Rattle.wit_model.proofs.Elements.{contains-get, none-in, contains-has}
 use Rattle.comp_meaning.specs.Follow.{Instance, ShownType, place_of}
 use Rattle.read_shown.specs.Scopes.{IsShownBefore}
 use Rattle.read_shown.specs.Trees.{DeclarationStands}
@@ -17,7 +17,7 @@ use Rattle.plan_meaning.specs.NumberedWorlds.{HasPath}
 use Rattle.plan_meaning.specs.Shapes.{Shape, named_shape}
 use Rattle.plan_parts.specs.Interfaces.{slot_part}
 use Rattle.plan_types.specs.Used.{declared_parts, form_parts, signature_parts}
-use Rattle.plan_type_laws.proofs.ShownForms.{numbered_shape}
+use Rattle.plan_type_laws.proofs.ShownForms.{numbered_shape, function_part}
 use Rattle.plan_laws.specs.ShownNames.{ShowsNumber}
 use Rattle.plan_laws.proofs.Inside.{IsIn, inside, name_alone, name_in, name_same, slot_is}
 use Rattle.plan_laws.proofs.MetNames.{in_declared, in_signature}
@@ -29,20 +29,7 @@ use Rattle.plan_type_laws.proofs.PartPlaces.{parts_weaker}
 
 -- the parts of a function
 pub part_of_function : (P : ℕ → Type 0) (f : FunctionShape) → PartsOf P f → (k : ℕ) → Contains (signature_parts f) k → P k
-part_of_function P f all k c = by (Contains-append_cases (map (λ (x : Text × ℕ). x.1) f.params) (option_to_list f.result) k c)
-  where
-    params : (ps : List (Text × ℕ)) → AllByRecursion (λ (p : Text × ℕ). P p.1) ps → Contains (map (λ (x : Text × ℕ). x.1) ps) k → P k
-    params [] every among = none-in k among
-    params (p ∷ ps) every (zero, low, e) = subst P e every.0
-    params (p ∷ ps) every (suc i, low, e) = params ps every.1 (i, omega (arith, low), e)
-
-    given : (r : Option ℕ) → AllOf P r → Contains (option_to_list r) k → P k
-    given None every among = none-in k among
-    given (Some j) every among = subst P (one-contained j k among) every
-
-    by : Contains (map (λ (x : Text × ℕ). x.1) f.params) k ⊎ Contains (option_to_list f.result) k → P k
-    by (inl among) = params f.params all.0 among
-    by (inr among) = given f.result all.1 among
+part_of_function P f all k c = function_part P f all k (contains-has (signature_parts f) k c)
 
 -- what is declared where one of its parts is used
 pub declared_inside : (t : Tables) (n : ℕ) (d : Option ℕ) (k : ℕ) → Contains (declared_parts t d) k → IsIn t.shapes k n → (j : ℕ) × (d ≡ Some j) × IsIn t.shapes j n

@@ -1,4 +1,5 @@
 -- Unnamed types stand in a plan as parts of others or of functions, and packages for the places whose homes they are.
+use Rattle.plan_type_laws.proofs.UsedParts.{has_form}
 use Rattle.std.proofs.Common.{◌≡◌, refl, sym, ap, subst, ◌∙◌, ℕ, zero, suc, ◌+◌, ◌⊎◌, inl, inr, arith, Bool, true, false, not, ◌==◌, cond, List, [], ◌∷◌, ◌++◌, length, map, Option, Some, None, slice_get}
 use Rattle.std.specs.Prelude.{is_some, unwrap_or}
 use Rattle.std.specs.List.{Contains, flat_map}
@@ -51,14 +52,6 @@ pub there_marked : (marks : List Bool) (n : ℕ) → is_marked marks n ≡ true 
 there_marked [] n e = no_true e
 there_marked (b ∷ marks) zero e = ap Some e
 there_marked (b ∷ marks) (suc n) e = there_marked marks n e
-
--- what has no name is a form
-is_form_at : (t : Tables) (k n : ℕ) (s : Shape) → k ≡ 14 + n → slice_get t.shapes n ≡ Some s → name_in s ≡ None → is_form t k ≡ true
-is_form_at t k n s is at none = ap (λ o. option_map_or (λ (x : Shape). not (x.sort == 0)) o false) (shape_there t k n s is at) ∙ by (s.sort == 0) refl
-  where
-    by : (b : Bool) → (s.sort == 0) ≡ b → not b ≡ true
-    by false e = refl
-    by true e = no_true (ap is_some (sym none ∙ ap (λ (b : Bool). cond b (Some (s.number, shapes.first_label s.labels)) None) e))
 
 module _ (t : Tables) (h : Homes) (known : ℕ → Fact) (n : ℕ) (ms : List Member) (members : List reads.Member) (given : IsPackageInput t h known n ms members) (alike : AreShownAlike ms) (p : Plan)
     (planned : PlansWhole t h.packages (home_at h) n ms p) (b : Beside) (read : FunctionsAreRead t planned.kept p b) where
@@ -149,7 +142,7 @@ module _ (t : Tables) (h : Homes) (known : ℕ → Fact) (n : ℕ) (ms : List Me
           front = Contains-append_left
 
       declared_as : (o : ℕ) → y.declared ≡ Some o → (f : Bool) → is_form t o ≡ f → Contains (cond f (form_parts t o) (o ∷ [])) (14 + k) → Kept (14 + k)
-      declared_as o d false e there = no_true (sym e ∙ (ap (is_form t) (one-contained o (14 + k) there) ∙ is_form_at t (14 + k) k s refl at none))
+      declared_as o d false e there = no_true (sym e ∙ (ap (is_form t) (one-contained o (14 + k) there) ∙ has_form t given.input.tables k s at none (14 + k) refl))
       declared_as o d true e there =
           let type_ = used_type is.number root in
           let name = planned_name t h ms members given.input n p planned type_.number is.number type_.type_ is.place is.name type_.there type_.stands is.is.named in

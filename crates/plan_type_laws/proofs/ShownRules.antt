@@ -1,4 +1,5 @@
 -- What is shown of what was read obeys the rules.
+use Rattle.plan_type_laws.proofs.Walks.{Held, two_held}
 use Rattle.std.proofs.Common.{◌≡◌, sym, ap, subst, ◌∙◌, ℕ, ◌+◌, ◌<◌, arith, Bool, true, false, ◌&&◌, ◌||◌, List, [], ◌∷◌, ◌++◌, map, Option, Some, None, slice_get}
 use Rattle.std.proofs.lemmas.List.Folds.{list_all-append}
 use Rattle.std.proofs.lemmas.Option.{slice_get_within, same_Some as same-some}
@@ -46,10 +47,7 @@ use Rattle.std.proofs.ByRecursion.{All-weaker as recursion_weaker}
 
 module _ (t : Tables) (tables : AreTables t) where
   abbrev Hold : List NumberedShowing → List ℕ → Type 0
-  Hold showings signatures = AllByRecursion (ShowingIsName t) showings × AllByRecursion (SignatureObeys t) signatures
-
-  two_hold : (xs ys : List NumberedShowing) (ms ns : List ℕ) → Hold xs ms → Hold ys ns → Hold (xs ++ ys) (ms ++ ns)
-  two_hold xs ys ms ns a b = (all_both (ShowingIsName t) xs ys a.0 b.0, all_both (SignatureObeys t) ms ns a.1 b.1)
+  Hold = Held (ShowingIsName t) (SignatureObeys t)
 
   -- ---- functions
 
@@ -148,7 +146,7 @@ module _ (t : Tables) (tables : AreTables t) where
         let x = seen_of t (numbered_seen s) in
         let one = rules.is_item (rules.resources_seen earlier) x.key x.shown in
         let rest = rules.are_imports (earlier ++ x ∷ []) (map (seen_of t) (map numbered_seen ss)) in
-        two_hold (showings_of_seen s) (flat_map showings_of_seen ss) (signatures_of_seen s) (flat_map signatures_of_seen ss)
+        two_held (ShowingIsName t) (SignatureObeys t) (showings_of_seen s) (flat_map showings_of_seen ss) (signatures_of_seen s) (flat_map signatures_of_seen ss)
         (item_obeys (rules.resources_seen earlier) s.key.now s.shown (given_text s.external_id) within.0 named.0 (first_true one rest h))
         (imports_obey (earlier ++ x ∷ []) ss within.1 named.1 (second_true one rest h))
 
@@ -159,7 +157,7 @@ module _ (t : Tables) (tables : AreTables t) where
         let test = λ (s : Seen). rules.is_item [] s.key s.shown in
         let one = test (seen_of t (numbered_seen s)) in
         let rest = list_all test (map (seen_of t) (map numbered_seen ss)) in
-        two_hold (showings_of_seen s) (flat_map showings_of_seen ss) (signatures_of_seen s) (flat_map signatures_of_seen ss)
+        two_held (ShowingIsName t) (SignatureObeys t) (showings_of_seen s) (flat_map showings_of_seen ss) (signatures_of_seen s) (flat_map signatures_of_seen ss)
         (item_obeys [] s.key.now s.shown (given_text s.external_id) within.0 named.0 (first_true one rest h)) (exports_obey ss within.1 named.1 (second_true one rest h))
 
   world_obeys : (w : NumberScope) (scope : Scope) → Shows t (numbered_scope w) scope → scopes.ScopeStands scope → rules.is_world scope ≡ true → IsScopeIn t (numbered_scope w)
@@ -175,7 +173,7 @@ module _ (t : Tables) (tables : AreTables t) where
       let three = first_true (imports && exports && in_keys) out_keys four in
       let two = first_true (imports && exports) in_keys three in
       let exported = no_names t w.home w.exports.now (subst (AllAt (λ n (s : Seen). scopes.is_type s.shown ≡ false)) is.exports stands.no_types) in
-      two_hold (flat_map showings_of_seen w.imports.now) (flat_map showings_of_seen w.exports.now) (flat_map signatures_of_seen w.imports.now) (flat_map signatures_of_seen w.exports.now)
+      two_held (ShowingIsName t) (SignatureObeys t) (flat_map showings_of_seen w.imports.now) (flat_map showings_of_seen w.exports.now) (flat_map signatures_of_seen w.imports.now) (flat_map signatures_of_seen w.exports.now)
       (imports_obey w.home within.home [] w.imports.now within.imports names (ap (rules.are_imports []) (sym is.imports) ∙ first_true imports exports two))
       (exports_obey w.home within.home w.exports.now within.exports exported (ap (list_all (λ (s : Seen). rules.is_item [] s.key s.shown)) (sym is.exports) ∙ second_true imports exports two))
 
@@ -229,7 +227,7 @@ module _ (t : Tables) (tables : AreTables t) where
       let first = list_all may_be (reads.sights x) in
       let rest = list_all may_be (flat_map reads.sights members) in
       let split : (first && rest) ≡ true = sym (list_all-append may_be (reads.sights x) (flat_map reads.sights members)) ∙ may in
-      two_hold (showings_of_part m.part) (showings_of_members ms) (signatures_of_part m.part) (signatures_of_members ms)
+      two_held (ShowingIsName t) (SignatureObeys t) (showings_of_part m.part) (showings_of_members ms) (signatures_of_part m.part) (signatures_of_members ms)
       (part_obeys h stand m x.package_ zip.0.package_ x.label zip.0.label m.part x.part zip.0.part stands.0 (first_true first rest split) within.0 names.0)
       (members_obey h stand ms members zip.1 stands.1 (second_true first rest split) within.1 names.1)
 

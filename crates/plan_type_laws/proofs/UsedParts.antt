@@ -1,4 +1,5 @@
 -- Types that are used, where what is shown obeys the rules.
+use Rattle.plan_meaning.proofs.NumberedRules.{shape_there, no_shape}
 use Rattle.std.proofs.Common.{◌≡◌, refl, sym, ap, subst, ◌∙◌, ℕ, ◌+◌, ◌-◌, ◌<◌, ◌≤◌, arith, Bool, true, false, not, ◌&&◌, ◌||◌, ◌==◌, nat_le, if◌then◌else◌, List, [], ◌∷◌, map, Option, Some, None, option_and_then, option_map, option_to_list, slice_get}
 use Rattle.std.proofs.lemmas.Bool.{eqb-true, le-leb, leb-true, lt-ltb}
 use Rattle.std.proofs.lemmas.Option.{slice_get_within, same_Some as same-some}
@@ -22,11 +23,8 @@ use Rattle.plan_meaning.proofs.Words.{behind as part_number_of}
 
 -- ---- numbers and shapes
 
-shape_here : (t : Tables) (n : ℕ) (s : Shape) → slice_get t.shapes n ≡ Some s → shape_at t (14 + n) ≡ Some s
-shape_here t n s at = ap (option_and_then (slice_get t.shapes)) (part_number_of n) ∙ at
-
 low_form : (t : Tables) (k : ℕ) → k < 14 → is_form t k ≡ false
-low_form t k small = ap (λ b. option_map_or (λ (s : Shape). not (s.sort == 0)) (option_and_then (slice_get t.shapes) (if b then None else Some (k - 14))) false) (lt-ltb k 14 small)
+low_form t k small = ap (λ o. option_map_or (λ (s : Shape). not (s.sort == 0)) o false) (no_shape t k small)
 
 -- ---- trees
 
@@ -77,11 +75,11 @@ module _ (t : Tables) (tables : AreTables t) where
         sym no_name ∙ ap (λ b. if b then Some (s.number, first_label s.labels) else None) e in absurd cc
     sort_named false e = refl
 
-    has_form : (k : ℕ) → k ≡ 14 + n → is_form t k ≡ true
-    has_form k e = ap (is_form t) e ∙ (ap (λ o. option_map_or (λ (s : Shape). not (s.sort == 0)) o false) (shape_here t n s at) ∙ sort_named (s.sort == 0) refl)
+    pub has_form : (k : ℕ) → k ≡ 14 + n → is_form t k ≡ true
+    has_form k e = ap (is_form t) e ∙ (ap (λ o. option_map_or (λ (s : Shape). not (s.sort == 0)) o false) (shape_there t (14 + n) n s refl at) ∙ sort_named (s.sort == 0) refl)
 
     has_no_name : (k : ℕ) → k ≡ 14 + n → name_at t k ≡ None
-    has_no_name k e = ap (name_at t) e ∙ (ap (option_and_then name_in) (shape_here t n s at) ∙ no_name)
+    has_no_name k e = ap (name_at t) e ∙ (ap (option_and_then name_in) (shape_there t (14 + n) n s refl at) ∙ no_name)
 
     -- what is declared
     form_fine : (place : Place) (k : ℕ) → IsPart t k → rules.is_declared place (declaration_of t (Some k)) ≡ true → is_form t k ≡ true → has (form_parts t k) (14 + n) ≡ true → IsFinePart t (14 + n)
@@ -89,7 +87,7 @@ module _ (t : Tables) (tables : AreTables t) where
       where
         by : PartView (place_at t) t.shapes tables.shapes k (part_tree (shape_trees (place_at t) t.shapes) k) → IsFinePart t (14 + n)
         by (is_primitive q small stands number) = let wrong : false ≡ true = sym (low_form t k small) ∙ form in absurd cc
-        by (is_name m q x is at stands) = let wrong : false ≡ true = sym (ap (is_form t) is ∙ ap (λ o. option_map_or (λ (s : Shape). not (s.sort == 0)) o false) (shape_here t m (named_shape q x) at))
+        by (is_name m q x is at stands) = let wrong : false ≡ true = sym (ap (is_form t) is ∙ ap (λ o. option_map_or (λ (s : Shape). not (s.sort == 0)) o false) (shape_there t (14 + m) m (named_shape q x) refl at))
             ∙ form in absurd cc
         by (is_node m f ks is at stands parts) =
             let rule : (are_labels (form_labels f) && are_parts place (children (map (tree_at t) ks)) && nat_le (deepest (children (map (tree_at t) ks))) most_levels) ≡ true =
@@ -99,7 +97,7 @@ module _ (t : Tables) (tables : AreTables t) where
             (first_true (are_labels (form_labels f) && are_parts place (children (map (tree_at t) ks))) (nat_le (deepest (children (map (tree_at t) ks))) most_levels) rule))
             (leb-true (deepest (children (map (tree_at t) ks))) most_levels (second_true (are_labels (form_labels f) && are_parts place (children (map (tree_at t) ks)))
             (nat_le (deepest (children (map (tree_at t) ks))) most_levels) rule))
-            (14 + n) (sym (ap (λ l. has l (14 + n)) (ap (form_parts t) is ∙ ap (λ o. option_map_or (λ (s : Shape). s.parts) o []) (shape_here t m (node_shape f ks) at))) ∙ there)
+            (14 + n) (sym (ap (λ l. has l (14 + n)) (ap (form_parts t) is ∙ ap (λ o. option_map_or (λ (s : Shape). s.parts) o []) (shape_there t (14 + m) m (node_shape f ks) refl at))) ∙ there)
 
     declared_fine : (place : Place) (d : Option ℕ) → AllOf (IsPart t) d → rules.is_declared place (declaration_of t d) ≡ true → has (declared_parts t d) (14 + n) ≡ true → IsFinePart t (14 + n)
     declared_fine place None range obeys there = let wrong : false ≡ true = there in absurd cc
