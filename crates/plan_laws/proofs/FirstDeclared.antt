@@ -1,4 +1,5 @@
 -- A type that a view shows is first shown as the view declares it.
+use Rattle.plan_type_laws.proofs.PartPlaces.{slot_number}
 use Rattle.std.proofs.Common.{◌≡◌, sym, ap, subst, ◌∙◌, ℕ, ◌+◌, arith, true, List, map, Option, Some, slice_get}
 use Rattle.std.specs.List.{Contains}
 use Rattle.wit_model.specs.Text.{Text}
@@ -15,7 +16,7 @@ use Rattle.read_exports.specs.declared.members.Member.{Member}
 use Rattle.plan_types.specs.Showings.{NumberedShowing, showings_of_members}
 use Rattle.plan_package.specs.Views.{views_of_members}
 use Rattle.plan_type_laws.specs.ShownMarks.{own_places}
-use Rattle.plan_laws.proofs.Inside.{name_same, slot_is}
+use Rattle.plan_laws.proofs.Inside.{name_same}
 use Rattle.plan_laws.specs.ShownNames.{IsInput}
 use Rattle.plan_laws.proofs.Showings.{import_named}
 use Rattle.plan_laws.proofs.Sources.{one_under}
@@ -37,7 +38,7 @@ module _ (t : Tables) (h : Homes) (ms : List Member) (members : List reads.Membe
       by : IsFrom t h ms members input apart y → y.declared ≡ x.declared
       by (of_view other in_it good z in_other shows) =
           let stands = all_at (IsShownIn t other.place) other.view.types good.types z in_other in
-          let own = slot_is t z.slot stands.number stands.slot in
+          let own = slot_number t z.slot stands.number stands.slot in
           let part_is : slot_part z.slot ≡ y.part = ap (λ (v : NumberedShowing). v.part) shows in
           let one : stands.number ≡ n = omega (arith, own, part_is, part) in
           let same = same_name other.place z.name stands.number stands.name.named one in

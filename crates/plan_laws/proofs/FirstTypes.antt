@@ -1,4 +1,5 @@
 -- The types of the first view of a place are shown first as it shows them.
+use Rattle.plan_type_laws.proofs.PartPlaces.{slot_number}
 use Rattle.std.proofs.Common.{◌≡◌, refl, sym, ap, subst, ◌∙◌, ℕ, ◌+◌, arith, true, List, map, Option, Some, None, slice_get}
 use Rattle.std.specs.List.{Contains}
 use Rattle.wit_model.specs.Text.{Text}
@@ -22,7 +23,7 @@ use Rattle.plan_laws.specs.FirstViews.{ViewsAreOrdered, told}
 use Rattle.plan_laws.specs.Owners.{homes_in}
 use Rattle.plan_laws.specs.ShownNames.{IsInput}
 use Rattle.plan_laws.proofs.FirstViews.{first_is, one_told, sight_there, view_names}
-use Rattle.plan_laws.proofs.Inside.{name_same, slot_is}
+use Rattle.plan_laws.proofs.Inside.{name_same}
 use Rattle.plan_laws.proofs.Sources as origins
 use Rattle.plan_laws.proofs.Sources.{member_view_in, one_under, origin, view_among}
 use Rattle.plan_laws.proofs.Showings.{import_named}
@@ -64,7 +65,7 @@ module _ (t : Tables) (h : Homes) (ms : List Member) (members : List reads.Membe
         → slot_part z.slot ≡ 14 + is.number → told z ≡ told x
     told_by_view x among is s c z there part =
         let other = number_is s c z there in
-        let one : other.number ≡ is.number = (let a = slot_is t z.slot other.number other.slot in omega (arith, a, part)) in
+        let one : other.number ≡ is.number = (let a = slot_number t z.slot other.number other.slot in omega (arith, a, part)) in
         let here = name_same t.shapes s.place first.place z.name x.name other.number is.number other.name.named is.name.named one in
         let same = views_told s first c first_among here.0 in
         let found = from_map told first.view.types (told z) (subst (λ zs. Contains zs (told z)) same (contains-map told s.view.types z there)) in

@@ -55,21 +55,19 @@ told_shown x y e =
 
 pub types_told : (xs ys : List NumberedType) → pointwise same_shown xs ys ≡ true → map told xs ≡ map told ys
 types_told [] [] h = refl
-types_told [] (y ∷ ys) h = let wrong : false ≡ true = h in absurd cc
-types_told (x ∷ xs) [] h = let wrong : false ≡ true = h in absurd cc
 types_told (x ∷ xs) (y ∷ ys) h =
     let one = shown_told x y (first_true (same_shown x y) (pointwise same_shown xs ys) h) in
     let rest = types_told xs ys (second_true (same_shown x y) (pointwise same_shown xs ys) h) in
     λ i. one i ∷ rest i
+types_told _ _ h = let wrong : false ≡ true = h in absurd cc
 
 pub told_types : (xs ys : List NumberedType) → map told xs ≡ map told ys → pointwise same_shown xs ys ≡ true
 told_types [] [] e = refl
-told_types [] (y ∷ ys) e = let wrong : ⊥ = cc in absurd wrong
-told_types (x ∷ xs) [] e = let wrong : ⊥ = cc in absurd wrong
 told_types (x ∷ xs) (y ∷ ys) e =
     let one : told x ≡ told y = cc in
     let rest : map told xs ≡ map told ys = cc in
     both (same_shown x y) (pointwise same_shown xs ys) (told_shown x y one) (told_types xs ys rest)
+told_types _ _ e = let wrong : ⊥ = cc in absurd wrong
 
 -- ---- views that agree
 

@@ -97,13 +97,11 @@ items_listed _ _ cs a b = absurd (omega (arith, a))
 pub items_at : (ss : List NumberedSeen) (es : List (PlannedKey × PlannedItem)) (cs : List ℕ) (j : ℕ) (x : ReadItem) → slice_get (items ss es cs) j ≡ Some x → (slice_get ss j ≡ Some x.seen)
     × (slice_get es j ≡ Some x.entry) × (slice_get cs j ≡ Some x.count)
 unfolding items
-items_at [] es cs j x at = let wrong : None ≡ Some x = at in absurd cc
-items_at (s ∷ ss) [] cs j x at = let wrong : None ≡ Some x = at in absurd cc
-items_at (s ∷ ss) (e ∷ es) [] j x at = let wrong : None ≡ Some x = at in absurd cc
 items_at (s ∷ ss) (e ∷ es) (c ∷ cs) zero x at =
     let same = same-some (record { seen = s; entry = e; count = c }) x at in
     (ap (λ (y : ReadItem). Some y.seen) same, ap (λ (y : ReadItem). Some y.entry) same, ap (λ (y : ReadItem). Some y.count) same)
 items_at (s ∷ ss) (e ∷ es) (c ∷ cs) (suc j) x at = items_at ss es cs j x at
+items_at _ _ _ j x at = let wrong : None ≡ Some x = at in absurd cc
 
 -- each type is behind all that is followed before, where its count is greater
 pub types_behind : (xs : List ReadItem) → ((i j : ℕ) (x y : ReadItem) → slice_get xs i ≡ Some x → slice_get xs j ≡ Some y → i < j → is_type_seen y.seen.shown ≡ true → x.count < y.count)

@@ -48,23 +48,16 @@ module _ (t : Tables) where
   form_counts (Form.variant_of cases) parts n at h =
       ap (λ k. length parts == k) (sym (given_many cases)) ∙ same parts (count_true (map (λ (c : Text × Bool). c.1) cases))
       (second_true (is_filled cases) (many parts == count_true (map (λ (c : Text × Bool). c.1) cases)) h)
-  form_counts Form.list_of parts n at h = same parts 1 h
   form_counts (Form.fixed_list_of l) parts n at h = same parts 1 (second_true (nat_le 1 l) (many parts == 1) h)
-  form_counts Form.option_of parts n at h = same parts 1 h
-  form_counts Form.own_of parts n at h = same parts 1 h
-  form_counts Form.borrow_of parts n at h = same parts 1 h
   form_counts Form.map_of parts n at h = same parts 2 (second_true (begins_with_key (map (tree_at t) parts)) (many parts == 2) h)
   form_counts Form.tuple_of parts n at h = refl
   form_counts (Form.flags_of names) parts n at h = same parts 0 (second_true (is_filled names) (many parts == 0) h)
   form_counts (Form.enum_of names) parts n at h = same parts 0 (second_true (is_filled names) (many parts == 0) h)
   form_counts (Form.result_of true true) parts n at h = same parts 2 h
-  form_counts (Form.result_of true false) parts n at h = same parts 1 h
-  form_counts (Form.result_of false true) parts n at h = same parts 1 h
   form_counts (Form.result_of false false) parts n at h = same parts 0 h
-  form_counts (Form.future_of true) parts n at h = same parts 1 h
   form_counts (Form.future_of false) parts n at h = same parts 0 h
-  form_counts (Form.stream_of true) parts n at h = same parts 1 h
   form_counts (Form.stream_of false) parts n at h = same parts 0 h
+  form_counts _ parts n at h = same parts 1 h
 
 pub forms_count : (t : Tables) (h : Homes) (ms : List Member) (members : List reads.Member) → IsInput t h ms members → FormsHold t HasCount (showings_of_members ms) (signatures_of_members ms)
 forms_count t h ms members input = forms_hold t input.tables HasCount (form_counts t) h ms members input.shown input.stand

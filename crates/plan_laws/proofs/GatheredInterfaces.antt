@@ -56,13 +56,12 @@ use Rattle.plan_package.proofs.ReadPackageLaws.{number_at as number_there}
 told_listed : (t : Tables) (kept : List ℕ) (p : Plan) (xs ys : List NumberedType) (es : List (Text × ℕ)) → map told xs ≡ map told ys → AllZip (TypeListed t kept p) xs es
     → AllZip (TypeListed t kept p) ys es
 told_listed t kept p [] [] es e zip = zip
-told_listed t kept p [] (y ∷ ys) es e zip = let wrong : ⊥ = cc in absurd wrong
-told_listed t kept p (x ∷ xs) [] es e zip = let wrong : ⊥ = cc in absurd wrong
 told_listed t kept p (x ∷ xs) (y ∷ ys) [] e zip = absurd zip
 told_listed t kept p (x ∷ xs) (y ∷ ys) (z ∷ zs) e zip =
     let one : told x ≡ told y = cc in
     let rest : map told xs ≡ map told ys = cc in
     (subst (λ (a : Text × (Option ℕ × Option Text)). (z.0 ≡ a.0) × TypeBecomes t kept p a.1.0 a.1.1 z.1) one zip.0, told_listed t kept p xs ys zs rest zip.1)
+told_listed t kept p _ _ es e zip = let wrong : ⊥ = cc in absurd wrong
 
 module _ (t : Tables) (h : Homes) (known : ℕ → Fact) (n : ℕ) (ms : List Member) (members : List reads.Member) (given : IsPackageInput t h known n ms members) (ordered : ViewsAreOrdered t ms)
     (p : Plan) (planned : PlansWhole t h.packages (home_at h) n ms p)

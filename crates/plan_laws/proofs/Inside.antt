@@ -50,11 +50,6 @@ name_same shapes a q x z i k there at same =
     let one : named_shape a x ≡ named_shape q z = same-some (named_shape a x) (named_shape q z) (sym there ∙ (ap (slice_get shapes) same ∙ at)) in
     (ap (λ (s : Shape). s.number) one, ap (λ (s : Shape). first_label s.labels) one)
 
--- the part of a slot
-pub slot_is : (t : Tables) (slot : NumberedSlot) (m : ℕ) → IsSlotOf t slot m → slot_part slot ≡ 14 + m
-slot_is t (value k) m is = is
-slot_is t (resource k) m is = is
-
 -- ---- what is used
 
 -- an element of one of the lists

@@ -62,8 +62,7 @@ module _ (t : Tables) (tables : AreTables t) where
       by key id (worlds.instance k v) is there =
           ap Some (key_place k is.0 i.place path.0 path.1 (ap (λ (y : Instance). y.interface)
           (one-contained (record { interface = interface_of (key_of t k); view = _ }) (instance_of t i) there) ∙ path.1))
-      by key id (worlds.function n) is there = none-in (instance_of t i) there
-      by key id (worlds.declares d) is there = none-in (instance_of t i) there
+      by key id _ is there = none-in (instance_of t i) there
 
 module _ (t : Tables) (h : Homes) (ms : List Member) (members : List reads.Member) (input : IsInput t h ms members) (apart : are_once (own_places t (numbered_members ms)) ≡ true) (w : Scope) (is : IsWorldOf t h ms members input apart w) where
   inline_place : (ss : List NumberedSeen) (i : NumberedInstance) → Contains (inlines t ss) i → (s : NumberedSeen) × Contains ss s × (place_shown s.shown ≡ Some i.place)

@@ -301,13 +301,10 @@ module _ (t : Tables) (w : NumberedScope) (good : IsScopeIn t w) where
     where
       by : (key : Text) (id : Option Text) (x : NumberedShown) → Keyed (record { key = key; shown = x; external_id = id }) → IsOneOf t w.instances x → Contains (inline_of t x) i
           → Contains (filter (no_path t) w.instances) i
-      by key id (instance (path p) v) seen there among = none-in i among
       by key id (instance (label l p) v) seen there among =
           subst (Contains (filter (no_path t) w.instances)) (one-contained (record { place = p; view = v }) i among)
           (in_filter (no_path t) w.instances (record { place = p; view = v }) there (ap is_none seen.0))
-      by key id (instance (implementing l p) v) seen there among = none-in i among
-      by key id (function n) seen there among = none-in i among
-      by key id (declares d) seen there among = none-in i among
+      by key id _ seen there among = none-in i among
 
   abbrev pub all_inline : List NumberedInstance
   all_inline = inlines t w.imports ++ inlines t w.exports

@@ -75,19 +75,17 @@ module _ (t : Tables) (tables : AreTables t) (h : Homes) (stand : HomesStand t h
       let path = ap Some (own_path m x member p v imports view views is) ∙ path_given p is.path in
       (λ i. front i ++ record { interface = path i; view = is.shown i } ∷ [])
       ∙ sym (append_of_map (instance_tree t tables) (map types_alone imports) (record { place = p; view = v; whole = true } ∷ []))
-  trees_of_part m x member (world w) (MeantPart.interface view views) is good = absurd is
-  trees_of_part m x member (interface p v imports) (MeantPart.world scope) is good = absurd is
+  trees_of_part m x member _ _ is good = absurd is
 
   -- the instances of all parts
   pub trees_of_all : (ms : List NumberedMember) (members : List reads.Member) → AllZip (IsMember t h) ms members → AllByRecursion (λ (m : NumberedMember). IsPartIn t m.part) ms
       → all_instances members ≡ map (instance_tree t tables) (views_of_members ms)
   trees_of_all [] [] zip good = refl
-  trees_of_all [] (x ∷ members) zip good = absurd zip
-  trees_of_all (m ∷ ms) [] zip good = absurd zip
   trees_of_all (m ∷ ms) (x ∷ members) zip good =
       let first = trees_of_part m x zip.0 m.part x.part zip.0.part good.0 in
       let rest = trees_of_all ms members zip.1 good.1 in
       (λ i. first i ++ rest i) ∙ sym (append_of_map (instance_tree t tables) (views_of_part m.part) (views_of_members ms))
+  trees_of_all _ _ zip good = absurd zip
 
   -- ---- some views
 

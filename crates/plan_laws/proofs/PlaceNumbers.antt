@@ -151,16 +151,13 @@ module _ (places homes : List ℕ) where
   apart_by a c (Some m) ea ha fa (Some k) ec hc fc h =
       let one : m ≡ k = eqb-true m k h in
       same-some a c (sym (number_there places a m ea) ∙ (ap (slice_get places) one ∙ number_there places c k ec))
-  apart_by a c (Some m) ea ha fa None ec (Some k) fc h = no_true h
   apart_by a c (Some m) ea ha fa None ec None fc h = let one = eqb-true m (length places + c) h in let low = within a m ea in absurd (omega (arith, one, low))
-  apart_by a c None ea (Some m) fa (Some k) ec hc fc h = no_true h
   apart_by a c None ea (Some m) fa None ec (Some k) fc h =
       let one : m ≡ k = eqb-true m k h in
       same-some a c (sym (number_there homes a m fa) ∙ (ap (slice_get homes) one ∙ number_there homes c k fc))
-  apart_by a c None ea (Some m) fa None ec None fc h = no_true h
   apart_by a c None ea None fa (Some k) ec hc fc h = let one = eqb-true (length places + a) k h in let low = within c k ec in absurd (omega (arith, one, low))
-  apart_by a c None ea None fa None ec (Some k) fc h = no_true h
   apart_by a c None ea None fa None ec None fc h = let one = eqb-true (length places + a) (length places + c) h in omega (arith, one)
+  apart_by a c _ ea _ fa _ ec _ fc h = no_true h
 
   -- each place has an owner of its own
   pub owners_apart : (a c : ℕ) → same_owner (owner_of places homes a) (owner_of places homes c) ≡ true → a ≡ c

@@ -1,4 +1,5 @@
 -- Each type that is shown is a name of the table, behind what it is declared as.
+use Rattle.plan_type_laws.proofs.PartPlaces.{slot_number}
 use Rattle.std.proofs.Common.{◌≡◌, subst, ℕ, ◌+◌, inl, List, Option}
 use Rattle.std.specs.List.{Contains}
 use Rattle.wit_model.specs.Text.{Text}
@@ -16,7 +17,6 @@ use Rattle.read_exports.specs.declared.members.Member.{Member}
 use Rattle.read_exports.specs.declared.members.Part.TheVariants as parts
 use Rattle.plan_types.specs.Showings.{NumberedShowing, showings_of_members}
 use Rattle.plan_laws.specs.ShownNames.{DeclaresName, IsInput, PartDeclaresNames}
-use Rattle.plan_laws.proofs.Inside.{slot_is}
 use Rattle.plan_laws.proofs.Sources as sources
 use Rattle.plan_laws.proofs.Sources.{origin, part_at, side_good, view_in}
 use Rattle.base_lemmas.proofs.Elements.{all_at}
@@ -48,7 +48,7 @@ module _ (t : Tables) (tables : AreTables t) where
         by : (m : Member) → Contains ms m → sources.IsShownIn m.part y → IsNamed y
         by m m_in (sources.in_view s there x among same) =
             let is = all_at (IsShownIn t s.place) s.view.types (view_in t m.part (part_at t ms input.numbers m m_in) s there).types x among in
-            subst IsNamed same (record { place = s.place; name = x.name; number = is.number; part = slot_is t x.slot is.number is.slot; is = is.name })
+            subst IsNamed same (record { place = s.place; name = x.name; number = is.number; part = slot_number t x.slot is.number is.slot; is = is.name })
         by m m_in (sources.of_world w is s there part d e same) =
             let named = import_named m m_in w is s there part d e in
             subst IsNamed same (record { place = w.home; name = s.key.now; number = named.0; part = named.1; is = named.2 })

@@ -1,4 +1,5 @@
 -- A type is declared as one and the same wherever it is shown, and views of a place that show functions show the same ones.
+use Rattle.plan_type_laws.proofs.PartPlaces.{slot_number}
 use Rattle.std.proofs.Common.{◌≡◌, refl, sym, ap, subst, ◌∙◌, ℕ, arith, true, ◌&&◌, List, ◌++◌, map, Option, Some, None}
 use Rattle.std.specs.List.{Contains, list_all}
 use Rattle.wit_model.specs.Text.{Text}
@@ -18,7 +19,6 @@ use Rattle.plan_laws.specs.ShownRules.{ViewObeys}
 use Rattle.plan_laws.specs.Whole.{IsPackageInput}
 use Rattle.plan_laws.specs.WholeTypes.{IsRuledInput}
 use Rattle.plan_laws.proofs.FirstDeclared.{shown_alike}
-use Rattle.plan_laws.proofs.Inside.{slot_is}
 use Rattle.plan_laws.proofs.OwnPlaces.{Owned, a_view, a_world, frames, one_owned}
 use Rattle.plan_laws.proofs.SameFunctions.{IsOnce, function_shared}
 use Rattle.plan_laws.proofs.ShownFrom.{IsFrom, of_import, of_view, shown_from, view_frame}
@@ -84,7 +84,7 @@ module _ (t : Tables) (h : Homes) (known : ℕ → Fact) (n : ℕ) (ms : List Me
       → z.declared ≡ y.declared
   by_view s in_views good x in_types y z same declared part z_shown =
       let is = all_at (IsShownIn t s.place) s.view.types good.types x in_types in
-      let own = slot_is t x.slot is.number is.slot in
+      let own = slot_number t x.slot is.number is.slot in
       shown_alike t h ms members given.input given.placed.apart ruled.agree s in_views (view_names t s (all_at (ViewObeys t) views ruled.rules.views s in_views)) x in_types is.number is.name.named z z_shown (omega (arith, own, part, same)) ∙ declared
 
   pub types_alike : (y z : NumberedShowing) → Contains (showings_of_members ms) y → Contains (showings_of_members ms) z → y.part ≡ z.part → y.declared ≡ z.declared

@@ -38,14 +38,14 @@ use Rattle.plan_type_laws.proofs.Walks.{all_unmapped}
 use Rattle.plan_type_laws.specs.UsedParts.{SignatureObeys}
 use Rattle.plan_laws.specs.ShownNames.{IsInput}
 use Rattle.plan_laws.specs.ShownRules.{PartObeys, RulesAreObeyed, ShownObeysRules, TypeObeys, ViewObeys}
-use Rattle.plan_laws.proofs.Inside.{flat_cases, slot_is}
+use Rattle.plan_laws.proofs.Inside.{flat_cases}
 use Rattle.plan_laws.proofs.Sources as sources
 use Rattle.plan_laws.proofs.Sources.{IsWorldIn, Side, among_mapped, imported_showing, mapped_cases, member_there, origin, part_at, side_good, signed, view_in, world_in}
 use Rattle.plan_laws.proofs.Showings.{import_named}
 pub use Rattle.plan_laws.proofs.Sources.{all_of}
 use Rattle.base_lemmas.proofs.Bools.{left_of as first_true, right_of as second_true}
 use Rattle.base_lemmas.proofs.Elements.{all-contained, all_at, contains-later, contains-map, last_of as one-contained, map_from as from_map}
-use Rattle.plan_type_laws.proofs.PartPlaces.{parts_weaker}
+use Rattle.plan_type_laws.proofs.PartPlaces.{parts_weaker, slot_number}
 
 -- ---- what a world imports and exports, as trees
 
@@ -191,7 +191,7 @@ module _ (t : Tables) (tables : AreTables t) where
           place = s.place;
           name = x.name;
           number = is.number;
-          part = slot_is t x.slot is.number is.slot;
+          part = slot_number t x.slot is.number is.slot;
           is = is.name;
           label = first_true (is_label x.name) (rules.is_declared (place_at t s.place) (declaration_of t x.declared)) both;
           obeys = second_true (is_label x.name) (rules.is_declared (place_at t s.place) (declaration_of t x.declared)) both;

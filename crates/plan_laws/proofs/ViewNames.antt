@@ -19,11 +19,11 @@ use Rattle.plan_parts.specs.Interfaces.{slot_part}
 use Rattle.plan_types.specs.Used.{declared_parts, form_parts, signature_parts}
 use Rattle.plan_type_laws.proofs.ShownForms.{numbered_shape, function_part}
 use Rattle.plan_laws.specs.ShownNames.{ShowsNumber}
-use Rattle.plan_laws.proofs.Inside.{IsIn, inside, name_alone, name_in, name_same, slot_is}
+use Rattle.plan_laws.proofs.Inside.{IsIn, inside, name_alone, name_in, name_same}
 use Rattle.plan_laws.proofs.MetNames.{in_declared, in_signature}
 use Rattle.base_lemmas.proofs.Elements.{all_at, get-contains, last_of as one-contained}
 use Rattle.base_lemmas.proofs.Lists.{get_back as unmapped_get, mapped_get}
-use Rattle.plan_type_laws.proofs.PartPlaces.{parts_weaker}
+use Rattle.plan_type_laws.proofs.PartPlaces.{parts_weaker, slot_number}
 
 -- ---- parts
 
@@ -123,7 +123,7 @@ module _ (t : Tables) (tables : AreTables t) where
         pub part_shows : (x : NumberedType) → Contains s.view.types x → (j : ℕ) → Contains (slot_part x.slot ∷ declared_parts t x.declared) j → IsIn t.shapes j n → ShowsNumber t views q n
         part_shows x c j (zero, low, e) found =
             let is = all_at (IsShownIn t s.place) s.view.types (good s among).types x c in
-            let part : j ≡ 14 + is.number = sym e ∙ slot_is t x.slot is.number is.slot in
+            let part : j ≡ 14 + is.number = sym e ∙ slot_number t x.slot is.number is.slot in
             let one : n ≡ is.number = name_alone t.shapes tables.shapes j n is.number s.place x.name part is.name.named found in
             type_shows s among x c is (sym one) (name_same t.shapes s.place q x.name name is.number n is.name.named at (sym one)).0
         part_shows x c j (suc i, low, e) found =

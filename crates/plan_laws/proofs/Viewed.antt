@@ -1,4 +1,5 @@
 -- Each interface of the plan is read by the first view of its place.
+use Rattle.plan_type_laws.proofs.PartPlaces.{slot_number}
 use Rattle.std.proofs.Common.{◌≡◌, refl, sym, ap, subst, ◌∙◌, ℕ, suc, ◌<◌, ◌⊎◌, inl, inr, arith, true, List, [], ◌∷◌, ◌++◌, length, map, Option, Some, None, option_map, slice_get}
 use Rattle.std.specs.List.{AllZip, Contains, flat_map}
 use Rattle.std.specs.Option.{option_map_or}
@@ -35,7 +36,6 @@ use Rattle.plan_package.specs.PlanWhole.{PlansWhole, owners_in, places_in, shown
 use Rattle.plan_package.specs.Views.{views_of_members, views_of_part}
 use Rattle.plan_package.specs.WholeInterfaces.{ListsNumber, PlansInterface, PlansPlace}
 use Rattle.plan_type_laws.specs.MembersStand.{all_instances}
-use Rattle.plan_laws.proofs.Inside.{slot_is}
 use Rattle.plan_laws.specs.FirstViews.{IsRisingView, ViewsAreOrdered}
 use Rattle.plan_laws.specs.Owners.{owners_of}
 use Rattle.plan_laws.specs.ShownNames.{IsInput}
@@ -105,7 +105,7 @@ module _ (t : Tables) (h : Homes) (ms : List Member) (members : List reads.Membe
     type_listed : (x : NumberedType) → Contains first.view.types x → (e : Text × ℕ) → ListsNumber planned.kept x e → (is : IsShownIn t first.place x) → (slice_get planned.kept e.1 ≡ Some is.number)
         × (e.1 < length p.types)
     type_listed x c e lists is =
-        let kept_there = kept_number planned.kept (slot_part x.slot) is.number e.1 (slot_is t x.slot is.number is.slot) lists.1 in
+        let kept_there = kept_number planned.kept (slot_part x.slot) is.number e.1 (slot_number t x.slot is.number is.slot) lists.1 in
         let many = zip_length (PlansType t planned.kept (shown_first ms) (owners_in ms)) planned.kept p.types planned.types in
         let low = slice_get_within planned.kept e.1 is.number kept_there in
         (kept_there, omega (arith, many, low))

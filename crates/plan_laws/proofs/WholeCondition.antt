@@ -1,4 +1,5 @@
 -- A plan can be made of what was followed: all that is shown is over types that are used.
+use Rattle.plan_type_laws.proofs.PartPlaces.{slot_number}
 use Rattle.std.proofs.Common.{◌≡◌, refl, sym, ap, subst, ◌∙◌, ℕ, ◌+◌, ◌-◌, ◌<◌, ◌≤◌, ◌⊎◌, inl, inr, arith, Bool, true, false, ◌==◌, nat_lt, cond, List, [], ◌∷◌, length, map, option_to_list, Option, Some, None, slice_get}
 use Rattle.std.specs.Prelude.{not}
 use Rattle.std.specs.List.{AllByRecursion, Contains, flat_map}
@@ -56,7 +57,7 @@ use Rattle.plan_laws.specs.Whole.{IsPackageInput}
 use Rattle.plan_laws.specs.WholeCondition.{ImportsAreBare, PartIsBare, WholeMayBePlanned}
 use Rattle.plan_laws.specs.WholeTypes.{IsRuledInput}
 use Rattle.plan_laws.proofs.FormCounts.{HasCount, form_over, forms_count}
-use Rattle.plan_laws.proofs.Inside.{flat_cases, within, slot_is}
+use Rattle.plan_laws.proofs.Inside.{flat_cases, within}
 use Rattle.plan_laws.proofs.InstanceSeen.{seen_showing, seen_signature, shown_so}
 use Rattle.plan_laws.proofs.Sources.{Side, at_mapped, interface_views, mapped_cases, own_sight, seen_sight, sight_of, view_among, world_in, member_view_in}
 use Rattle.plan_laws.proofs.Planned.{found_there, view_met}
@@ -140,8 +141,8 @@ module _ (t : Tables) (h : Homes) (known : ℕ → Fact) (n : ℕ) (ms : List Me
       let b = all_at (IsShownIn t u.place) u.view.types (member_view_in t ms given.input.numbers u so.among).types z from.1 in
       let name : z.name ≡ x.name = ap (λ (e : Text × Option ℕ). e.0) from.2 in
       let one : b.number ≡ a.number = given.input.tables.shapes.apart b.number a.number (named_shape s.place x.name) (b.name.named ∙ (λ i. Some (named_shape (so.place i) (name i)))) a.name.named in
-      let a_part = slot_is t x.slot a.number a.slot in
-      let b_part = slot_is t z.slot b.number b.slot in
+      let a_part = slot_number t x.slot a.number a.slot in
+      let b_part = slot_number t z.slot b.number b.slot in
       (showing_of z, so.types z from.1, omega (arith, one, a_part, b_part))
 
   -- the parts of a type stand before it
@@ -266,7 +267,7 @@ module _ (t : Tables) (h : Homes) (known : ℕ → Fact) (n : ℕ) (ms : List Me
         by : (x : Member) → Contains ms x → IsShownByPart t x.part q m → (y : NumberedShowing) × Contains showings y × (y.part ≡ 14 + m)
         by x c (by_view shows) =
             let y = type_shown shows.sight (view_among ms x c shows.sight shows.among) shows.type_ shows.there in
-            (y.0, y.1, y.2 ∙ slot_is t shows.type_.slot m shows.slot)
+            (y.0, y.1, y.2 ∙ slot_number t shows.type_.slot m shows.slot)
         by x c (by_import w is home imports) =
             let y : NumberedShowing = record { part = 14 + m; declared = imports.declared; external_id = given_text imports.seen.external_id } in (
               y,
@@ -356,11 +357,10 @@ module _ (t : Tables) (h : Homes) (known : ℕ → Fact) (n : ℕ) (ms : List Me
     where
       by : (m : Member) → Contains ms m → m.part ≡ parts.World w.1 → (s : Seen) → Side w.1 s → (x : Shown) → s.shown ≡ x
           → ShownIsPlaced (places_in ms) s.shown
-      by m m_in is s side (shown.Function f) e = subst (ShownIsPlaced (places_in ms)) (sym e) tt
-      by m m_in is s side (shown.Declares q d) e = subst (ShownIsPlaced (places_in ms)) (sym e) tt
       by m m_in is s side (shown.Instance key v) e =
           let from = flat_cases (λ (x : NumberedMember). views_of_part x.part) numbered (sight_of key v) (seen_sight t ms m m_in w.1 is (world_good m m_in w.1 is) s side key v e) in
           subst (ShownIsPlaced (places_in ms)) (sym e) (contains-has (places_in ms) (place_of_key (numbered_key key)) (view_met ms from.0 from.1 (sight_of key v) from.2))
+      by m m_in is s side _ e = subst (ShownIsPlaced (places_in ms)) (sym e) tt
 
   parts_fall : (m : ℕ) (ks : List ℕ) → slice_get (map (λ (s : Shape). s.parts) t.shapes) m ≡ Some ks → AllByRecursion (λ k. k < 14 + m) ks
   parts_fall m ks at = let shape = unmapped_get (λ (s : Shape). s.parts) t.shapes m ks at in subst (AllByRecursion (λ k. k < 14 + m)) shape.2 (shape_parts m shape.0 shape.1)

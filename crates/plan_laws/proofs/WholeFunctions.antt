@@ -1,4 +1,5 @@
 -- The functions of a whole plan are those that were read.
+use Rattle.plan_type_laws.proofs.PartPlaces.{slot_number}
 use Rattle.plan_laws.proofs.Sources.{Side, partner_back, side_good, side_shows, world_in}
 use Rattle.plan_laws.proofs.ShownRules.{IsItemAmong, IsResourceIn, item_obeys}
 use Rattle.std.proofs.Common.{◌≡◌, refl, sym, ap, subst, ◌∙◌, ℕ, zero, ◌+◌, ◌⊎◌, inl, inr, arith, Bool, true, false, filter_map, List, [], ◌∷◌, map, Option, Some, None, slice_get}
@@ -42,7 +43,7 @@ use Rattle.plan_laws.specs.Owners.{owners_of}
 use Rattle.plan_laws.specs.ShownNames.{IsInput}
 use Rattle.plan_laws.specs.WholeFunctions.{WorldFunctionsAreRead, beside_tables}
 use Rattle.plan_laws.specs.WholeTypes.{IsRuledInput, TypesAreWhole}
-use Rattle.plan_laws.proofs.Inside.{flat_cases, name_same, slot_is}
+use Rattle.plan_laws.proofs.Inside.{flat_cases, name_same}
 use Rattle.plan_laws.proofs.ReadFunction.{function_becomes, read_function, resource_at, told}
 use Rattle.plan_laws.proofs.Planned.{kept_number}
 use Rattle.plan_laws.proofs.Showings.{import_named}
@@ -110,7 +111,7 @@ module _ (t : Tables) (h : Homes) (ms : List Member) (members : List reads.Membe
         by : From y → y.part ≡ 14 + n → y.declared ≡ d
         by (of_view sight in_views good x in_types shows) at =
             let stands = all_at (IsShownIn t sight.place) sight.view.types good.types x in_types in
-            let own = slot_is t x.slot stands.number stands.slot in
+            let own = slot_number t x.slot stands.number stands.slot in
             let part_is : slot_part x.slot ≡ y.part = ap (λ (z : NumberedShowing). z.part) shows in
             let one : stands.number ≡ n = omega (arith, own, part_is, at) in
             let same = same_name sight.place x.name stands.number stands.name.named one in
@@ -126,11 +127,10 @@ module _ (t : Tables) (h : Homes) (ms : List Member) (members : List reads.Membe
         where
           by : (k : Shown) (id : Option Text) → Contains (types_shown s.key.now id k) x → (part : ℕ) × (d : Option ℕ) × (k ≡ shown.Declares part d) × (slot_part x.slot ≡ part) × (x.declared ≡ d)
               × (x.name ≡ s.key.now)
-          by (shown.Instance key v) id there = none-in x there
-          by (shown.Function f) id there = none-in x there
           by (shown.Declares part d) id there =
               let same = one-contained (record { name = s.key.now; declared = d; external_id = id; slot = value part }) x there in
               (part, d, refl, ap (λ (z : NumberedType). slot_part z.slot) (sym same), ap (λ (z : NumberedType). z.declared) (sym same), ap (λ (z : NumberedType). z.name) (sym same))
+          by _ id there = none-in x there
 
       resource_is : (r : Text) (id : TypeId) → find r ≡ Some id → IsResource t (told t w.home) planned.kept p (owners_of ms w.home) w.home r id.0
       resource_is r id found =
@@ -154,15 +154,13 @@ module _ (t : Tables) (h : Homes) (ms : List Member) (members : List reads.Membe
         where
           by : (s : Seen) → Contains w.imports.now s → (x : Shown) → s.shown ≡ x → shown_of t (numbered_shown x) ≡ follow.Shown.declares Declaration.resource → s.key.now ≡ r → (id : TypeId)
               × (find r ≡ Some id)
-          by s in_it (shown.Instance key v) e is name = let wrong : ⊥ = cc in absurd wrong
-          by s in_it (shown.Function f) e is name = let wrong : ⊥ = cc in absurd wrong
-          by s in_it (shown.Declares part (Some k)) e is name = let wrong : ⊥ = cc in absurd wrong
           by s in_it (shown.Declares part None) e is name =
               let x : NumberedType = record { name = s.key.now; declared = None; external_id = given_text s.external_id; slot = value part } in
               let here : Contains (types_seen s) x = subst (λ k. Contains (types_shown s.key.now (given_text s.external_id) k) x) (sym e) (contains-one x) in
               let at = contains-get (flat_map types_seen w.imports.now) x (contains-flat types_seen w.imports.now s x in_it here) in
               let found = have.found at.0 x at.1 refl in
               (found.0, sym (ap find name) ∙ found.1)
+          by s in_it _ e is name = let wrong : ⊥ = cc in absurd wrong
 
       -- ---- a function
 

@@ -37,8 +37,7 @@ module _ (t : Tables) where
       by (instance k v) is there =
           subst (Contains (map (λ (i : NumberedInstance). i.place) instances)) (one-contained (place_of_key k) q there)
           (contains-map (λ (i : NumberedInstance). i.place) instances (record { place = place_of_key k; view = v }) is)
-      by (function n) is there = none-in q there
-      by (declares d) is there = none-in q there
+      by _ is there = none-in q there
 
   module _ (w : NumberedScope) (scope : Scope) (is : IsScopeIn t w) (shows : Shows t w scope) (seen : InstancesAreSeen scope) where
     abbrev pub shown_places : List ℕ

@@ -1,4 +1,8 @@
 -- The interfaces that worlds import and export, by the numbers of their places: no inline one is an item twice.
+use Rattle.plan_meaning.specs.Plan as plan
+use Rattle.read_rules.specs.Tables.{given_text}
+use Rattle.read_rules.specs.declared.scopes.Shown.{Shown}
+use Rattle.read_rules.specs.declared.scopes.Shown.TheVariants as shown
 use Rattle.std.proofs.Common.{◌≡◌, refl, sym, ap, subst, ◌∙◌, ℕ, ◌||◌, ◌==◌, Bool, true, false, not, cond, List, [], ◌∷◌, ◌++◌, filter, filter_map, map, Option, Some}
 use Rattle.std.specs.List.{AllZip, cons_option, flat_map}
 use Rattle.std.proofs.lemmas.Bool.{eq-eqb, eqb-true, and_from as both, not-true as not_true}
@@ -36,38 +40,36 @@ module _ (places : List ℕ) where
 
   -- ---- the items of a world
 
+  -- the places of what is shown and of the rest have the numbers of the item and of the rest
+  abbrev AreNumbered : List ℕ → List ℕ → Shown → PlannedItem → Type 0
+  AreNumbered ps ns a i = AllZip IsNumbered (places_of_shown (numbered_shown a) ++ ps) (cons_option (item_interface i) ns)
+
+  abbrev item_of : PlannedKey × PlannedItem → PlannedItem
+  item_of e = e.1
+
   module _ (t : Tables) (kept : List ℕ) where
     side : (find : Text → Option TypeId) (ss : List Seen) (es : List (PlannedKey × PlannedItem)) → AllZip (PlansItem t kept places find) ss es
-        → AllZip IsNumbered (places_of_seen (map numbered_seen ss)) (filter_map item_interface (map (λ (e : PlannedKey × PlannedItem). e.1) es))
+        → AllZip IsNumbered (places_of_seen (map numbered_seen ss)) (filter_map item_interface (map item_of es))
     side find [] [] all = tt
     side find (s ∷ ss) (e ∷ es) all = by all.0 (side find ss es all.1)
       where
-        by : PlansItem t kept places find s e → AllZip IsNumbered (places_of_seen (map numbered_seen ss)) (filter_map item_interface (map (λ (x : PlannedKey × PlannedItem). x.1) es))
-            → AllZip IsNumbered (places_of_shown (numbered_shown s.shown) ++ places_of_seen (map numbered_seen ss))
-            (cons_option (item_interface e.1) (filter_map item_interface (map (λ (x : PlannedKey × PlannedItem). x.1) es)))
-        by (an_instance key v is found) rest =
-            subst (λ a. AllZip IsNumbered (places_of_shown (numbered_shown a) ++ places_of_seen (map numbered_seen ss))
-            (cons_option (item_interface e.1) (filter_map item_interface (map (λ (x : PlannedKey × PlannedItem). x.1) es)))) (sym is)
-            (subst (λ i. AllZip IsNumbered (place_of_key (numbered_key key) ∷ places_of_seen (map numbered_seen ss))
-            (cons_option (item_interface i) (filter_map item_interface (map (λ (x : PlannedKey × PlannedItem). x.1) es))))
-            (sym (ap (λ (x : PlannedKey × PlannedItem). x.1) found.is)) (found.found, rest))
-        by (a_function n is key f) rest =
-            subst (λ a. AllZip IsNumbered (places_of_shown (numbered_shown a) ++ places_of_seen (map numbered_seen ss))
-            (cons_option (item_interface e.1) (filter_map item_interface (map (λ (x : PlannedKey × PlannedItem). x.1) es)))) (sym is)
-            (subst (λ i. AllZip IsNumbered (places_of_seen (map numbered_seen ss)) (cons_option (item_interface i) (filter_map item_interface (map (λ (x : PlannedKey × PlannedItem). x.1) es))))
-            (sym f.is) rest)
-        by (a_type part d n is entry part_is) rest =
-            subst (λ a. AllZip IsNumbered (places_of_shown (numbered_shown a) ++ places_of_seen (map numbered_seen ss))
-            (cons_option (item_interface e.1) (filter_map item_interface (map (λ (x : PlannedKey × PlannedItem). x.1) es)))) (sym is)
-            (subst (λ i. AllZip IsNumbered (places_of_seen (map numbered_seen ss)) (cons_option (item_interface i) (filter_map item_interface (map (λ (x : PlannedKey × PlannedItem). x.1) es))))
-            (sym (ap (λ (x : PlannedKey × PlannedItem). x.1) entry)) rest)
+        is_numbered : (a : Shown) (i : PlannedItem) → s.shown ≡ a → e.1 ≡ i → AreNumbered (places_of_seen (map numbered_seen ss)) (filter_map item_interface (map item_of es)) a i
+            → AreNumbered (places_of_seen (map numbered_seen ss)) (filter_map item_interface (map item_of es)) s.shown e.1
+        is_numbered a i is same all = subst (λ x. AreNumbered (places_of_seen (map numbered_seen ss)) (filter_map item_interface (map item_of es)) x e.1) (sym is)
+            (subst (AreNumbered (places_of_seen (map numbered_seen ss)) (filter_map item_interface (map item_of es)) a) (sym same) all)
+
+        by : PlansItem t kept places find s e → AllZip IsNumbered (places_of_seen (map numbered_seen ss)) (filter_map item_interface (map item_of es))
+            → AreNumbered (places_of_seen (map numbered_seen ss)) (filter_map item_interface (map item_of es)) s.shown e.1
+        by (an_instance key v is found) rest = is_numbered (shown.Instance key v) (plan.interface found.number (given_text s.external_id)) is (ap item_of found.is) (found.found, rest)
+        by (a_function n is key f) rest = is_numbered (shown.Function n) (plan.function f.function) is f.is rest
+        by (a_type part d n is entry part_is) rest = is_numbered (shown.Declares part d) (plan.declares n) is (ap item_of entry) rest
     side find _ _ all = absurd all
 
     pub items_numbered : (main : ℕ) (w : Text × Scope) (x : PlannedWorld) → PlansWorld t kept places main w x
         → AllZip IsNumbered (places_of_seen (map numbered_seen w.1.imports.now) ++ places_of_seen (map numbered_seen w.1.exports.now)) (filter_map item_interface (items_of x))
     items_numbered main w x is =
-        let imports = map (λ (e : PlannedKey × PlannedItem). e.1) x.imports in
-        let exports = map (λ (e : PlannedKey × PlannedItem). e.1) x.exports in
+        let imports = map item_of x.imports in
+        let exports = map item_of x.exports in
         subst (AllZip IsNumbered (places_of_seen (map numbered_seen w.1.imports.now) ++ places_of_seen (map numbered_seen w.1.exports.now))) (sym (filter_map-append item_interface imports exports))
         (zip_both IsNumbered (places_of_seen (map numbered_seen w.1.imports.now)) (filter_map item_interface imports) (places_of_seen (map numbered_seen w.1.exports.now))
         (filter_map item_interface exports)

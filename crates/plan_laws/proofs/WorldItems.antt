@@ -1,4 +1,5 @@
 -- What the worlds of a plan import and export, beside functions, is as it was followed.
+use Rattle.plan_type_laws.proofs.PartPlaces.{slot_number}
 use Rattle.std.proofs.Common.{◌≡◌, refl, sym, ap, subst, ◌∙◌, ℕ, ◌+◌, arith, Bool, true, false, cond, List, [], ◌∷◌, ◌++◌, length, map, Option, Some, None, slice_get}
 use Rattle.std.specs.Cmp.Lexicographic.{pointwise}
 use Rattle.std.specs.List.{Contains, flat_map}
@@ -43,7 +44,7 @@ use Rattle.plan_laws.specs.ShownNames.{IsInput}
 use Rattle.plan_laws.specs.WorldItems.{InstancesAreRead, KeysAreApart, PlannedWorldsStand, TypesAreRead, WorldsAreApart}
 use Rattle.plan_laws.proofs.FirstTypes.{views_told}
 use Rattle.plan_laws.proofs.FirstViews.{first_is, told_types}
-use Rattle.plan_laws.proofs.Inside.{flat_cases, name_same, slot_is}
+use Rattle.plan_laws.proofs.Inside.{flat_cases, name_same}
 use Rattle.plan_laws.proofs.Sources as origins
 use Rattle.plan_laws.proofs.Sources.{origin, seen_sight, sight_of, view_among, world_in, member_view_in}
 use Rattle.plan_laws.proofs.Owned.{planned_name}
@@ -203,7 +204,7 @@ module _ (t : Tables) (h : Homes) (ms : List Member) (members : List reads.Membe
           by x x_there (origins.in_view u u_there z z_there same) number =
               let among = view_among ms x x_there u u_there in
               let is = all_at (IsShownIn t u.place) u.view.types (member_view_in t ms input.numbers u among).types z z_there in
-              let slot = slot_is t z.slot is.number is.slot in
+              let slot = slot_number t z.slot is.number is.slot in
               let equal : is.number ≡ k = (let a = ap (λ (g : NumberedShowing). g.part) same in omega (arith, a, number, slot)) in
               let here = name_same t.shapes u.place w.1.home z.name s.key.now is.number k is.name.named shape equal in
               absurd (ordered.apart u among (subst (Contains homes) (sym here.0) (get-contains homes m w.1.home home_there)))

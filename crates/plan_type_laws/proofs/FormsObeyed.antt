@@ -201,8 +201,7 @@ module _ (t : Tables) (tables : AreTables t) (Obeys : Form → List ℕ → Type
               (view_types (IsShownBefore all own.0) (place_of last.interface) (numbered_view v) own_view),
           view_functions (IsShownBefore all own.0) (place_of last.interface) (numbered_view v) own_view,
         )
-    part_obeys_all (parts.World w) (reads.Part.interface view views) is each_stands stands = absurd is
-    part_obeys_all (parts.Interface p v imports) (reads.Part.world scope) is each_stands stands = absurd is
+    part_obeys_all _ _ is each_stands stands = absurd is
 
   members_obey : (h : Homes) (all : List Instance) (ms : List Member) (members : List reads.Member) → AllZip (IsMember t h) (numbered_members ms) members
       → ((x : Instance) → Contains (all_instances members) x → StandsAmong all x)

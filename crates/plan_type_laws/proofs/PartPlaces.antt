@@ -1,5 +1,7 @@
 -- The places of what is shown, in trees and in numbers.
-use Rattle.std.proofs.Common.{◌≡◌, sym, ap, subst, ◌∙◌, ℕ, true, false, List, [], map, Option, Some, None, slice_get, unwrap_or}
+use Rattle.plan_parts.specs.Interfaces.{slot_part}
+use Rattle.plan_meaning.specs.FollowedNumbers.{IsSlotOf}
+use Rattle.std.proofs.Common.{◌≡◌, sym, ap, subst, ◌∙◌, ℕ, true, false, List, [], map, Option, Some, None, slice_get, unwrap_or, ◌+◌}
 use Rattle.std.specs.List.{AllByRecursion}
 use Rattle.wit_model.specs.Names.{PackageIdentity, path_in}
 use Rattle.wit_model.specs.Text.{Text}
@@ -8,7 +10,7 @@ use Rattle.comp_meaning.specs.Follow.{Seen, interface_of, place_of}
 use Rattle.read_shown.specs.Scopes as scopes
 use Rattle.read_shown.specs.Trees.{AllAt}
 use Rattle.plan_meaning.specs.NumberedMembers.{Homes, HomesStand, home_at}
-use Rattle.plan_meaning.specs.NumberedViews.{AllOf, FunctionShape, PartsOf, Tables, path_text, place_at}
+use Rattle.plan_meaning.specs.NumberedViews.{AllOf, FunctionShape, PartsOf, Tables, path_text, place_at, NumberedSlot, resource, value}
 use Rattle.plan_meaning.specs.NumberedWorlds.{HasPath, KeyStands, NumberedKey, implementing, key_of, label, path, place_of_key, seen_of, shown_of}
 use Rattle.read_rules.specs.declared.scopes.Seen.{Seen as NumberSeen}
 use Rattle.read_rules.specs.declared.scopes.Shown.{Shown as NumberShown}
@@ -28,6 +30,11 @@ parts_weaker P Q one f all = (recursion_weaker (λ (x : Text × ℕ). P x.1) (λ
     by : (r : Option ℕ) → AllOf P r → AllOf Q r
     by None given = tt
     by (Some k) given = one k given
+
+-- the part of a slot
+pub slot_number : (t : Tables) (s : NumberedSlot) (n : ℕ) → IsSlotOf t s n → slot_part s ≡ 14 + n
+slot_number t (value k) n e = e
+slot_number t (resource k) n e = e
 
 module _ (t : Tables) where
   pub path_place : (p : ℕ) → HasPath t p → place_of (Some (path_text t p)) ≡ place_at t p

@@ -37,7 +37,7 @@ use Rattle.read_exports.specs.declared.members.Part.TheVariants as parts
 use Rattle.read_exports.specs.Members.{numbered_member, numbered_members, numbered_part}
 use Rattle.plan_types.specs.Showings.{NumberedShowing, showing_of, showings_of_import, showings_of_members, showings_of_part, showings_of_seen, showings_of_shown, showings_of_view, signatures_of_members, signatures_of_part, signatures_of_seen, signatures_of_shown, signatures_of_view}
 use Rattle.plan_type_laws.proofs.InnerForms.{name_there}
-use Rattle.plan_type_laws.proofs.PartPlaces.{exported_place, key_place, no_names, parts_weaker, path_place}
+use Rattle.plan_type_laws.proofs.PartPlaces.{exported_place, key_place, no_names, parts_weaker, path_place, slot_number}
 use Rattle.plan_type_laws.specs.ShownMarks.{NamesSeen, NamesShown, PartNames}
 use Rattle.plan_type_laws.specs.ShownRules.{NamesObeyRules, ShowingIsName, ShownObeysRules}
 use Rattle.plan_type_laws.specs.UsedParts.{ShowingObeys, SignatureObeys}
@@ -74,16 +74,12 @@ module _ (t : Tables) (tables : AreTables t) where
 
   -- ---- types
 
-  slot_number : (s : NumberedSlot) (n : ℕ) → IsSlotOf t s n → slot_part s ≡ 14 + n
-  slot_number (value k) n e = e
-  slot_number (resource k) n e = e
-
   type_obeys : (p : ℕ) (x : NumberedType) → IsShownIn t p x → (is_label x.name && rules.is_declared (place_at t p) (declaration_of t x.declared)) ≡ true → ShowingIsName t (showing_of x)
   type_obeys p x is h = record {
     number = is.number;
     home = p;
     name = x.name;
-    part = slot_number x.slot is.number is.slot;
+    part = slot_number t x.slot is.number is.slot;
     there = is.name.named;
     behind = is.name.behind;
     label = first_true (is_label x.name) (rules.is_declared (place_at t p) (declaration_of t x.declared)) h;
@@ -213,15 +209,12 @@ module _ (t : Tables) (tables : AreTables t) where
               (views_obey imports.now within.1 (ap (λ vs. list_all may_be (map imported vs)) (sym is.imported) ∙ first_true front (list_all may_be (own ∷ [])) split)) shown.0,
           shown.1,
         )
-    part_obeys (parts.World w) (reads.Part.interface view views) is stands may within names = absurd is
-    part_obeys (parts.Interface p v imports) (reads.Part.world scope) is stands may within names = absurd is
+    part_obeys _ _ is stands may within names = absurd is
 
   members_obey : (h : Homes) → HomesStand t h → (ms : List Member) (members : List reads.Member) → AllZip (IsMember t h) (numbered_members ms) members
       → AllByRecursion (λ (x : reads.Member). PartStands x.part) members
       → list_all may_be (flat_map reads.sights members) ≡ true → AreMembersIn t (numbered_members ms) → AllByRecursion (λ (m : Member). PartNames t m.part) ms
       → Hold (showings_of_members ms) (signatures_of_members ms)
-  members_obey h stand [] [] zip stands may within names = (tt, tt)
-  members_obey h stand [] (x ∷ members) zip stands may within names = (tt, tt)
   members_obey h stand (m ∷ ms) [] zip stands may within names = absurd zip
   members_obey h stand (m ∷ ms) (x ∷ members) zip stands may within names =
       let first = list_all may_be (reads.sights x) in
@@ -230,6 +223,7 @@ module _ (t : Tables) (tables : AreTables t) where
       two_held (ShowingIsName t) (SignatureObeys t) (showings_of_part m.part) (showings_of_members ms) (signatures_of_part m.part) (signatures_of_members ms)
       (part_obeys h stand m x.package_ zip.0.package_ x.label zip.0.label m.part x.part zip.0.part stands.0 (first_true first rest split) within.0 names.0)
       (members_obey h stand ms members zip.1 stands.1 (second_true first rest split) within.1 names.1)
+  members_obey h stand _ _ zip stands may within names = (tt, tt)
 
   -- ---- what follows for each name
 

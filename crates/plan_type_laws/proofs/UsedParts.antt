@@ -33,16 +33,13 @@ module _ (t : Tables) (tables : AreTables t) where
   among_parts : (place : Place) (ks : List ℕ) → are_parts place (children (map (tree_at t) ks)) ≡ true → deepest (children (map (tree_at t) ks)) ≤ most_levels → (k : ℕ) → has ks k ≡ true
       → IsFinePart t k
   among_parts place [] h deep k there = let wrong : false ≡ true = there in absurd cc
-  among_parts place (j ∷ ks) h deep k there =
-      by (j == k) refl there (among_parts place ks (second_true (rules.is_part place (tree_at t j)) (are_parts place (children (map (tree_at t) ks))) h) (omega (arith, deep)) k)
-    where
-      by : (b : Bool) → (j == k) ≡ b → (b || has ks k) ≡ true → (has ks k ≡ true → IsFinePart t k) → IsFinePart t k
-      by true e there later = subst (IsFinePart t) (eqb-true j k e) (record {
+  among_parts place (j ∷ ks) h deep k there = in_both (j ∷ []) ks k
+      (λ here. subst (IsFinePart t) (one_there j k here) (record {
         place = place;
         part = first_true (rules.is_part place (tree_at t j)) (are_parts place (children (map (tree_at t) ks))) h;
         shallow = le-leb (levels (tree_at t j)) most_levels (omega (arith, deep));
-      })
-      by false e there later = later there
+      }))
+      (among_parts place ks (second_true (rules.is_part place (tree_at t j)) (are_parts place (children (map (tree_at t) ks))) h) (omega (arith, deep)) k) there
 
   -- the form of a number
   node_of : (n : ℕ) (s : Shape) → slice_get t.shapes n ≡ Some s → name_in s ≡ None → (f : Form) × (tree_at t (14 + n) ≡ Tree.node f (children (map (tree_at t) s.parts)))
@@ -110,11 +107,9 @@ module _ (t : Tables) (tables : AreTables t) where
             let wrong : false ≡ true = sym form ∙ has_form k same in absurd cc
 
     showing_fine : (x : NumberedShowing) → ShowingObeys t x → has (showing_parts t x) (14 + n) ≡ true → IsFinePart t (14 + n)
-    showing_fine x obeys there = by (x.part == 14 + n) refl there
-      where
-        by : (b : Bool) → (x.part == 14 + n) ≡ b → (b || has (declared_parts t x.declared) (14 + n)) ≡ true → IsFinePart t (14 + n)
-        by true e there = let wrong : None ≡ Some obeys.name = sym (has_no_name x.part (eqb-true x.part (14 + n) e)) ∙ obeys.is in absurd cc
-        by false e there = declared_fine obeys.place x.declared obeys.range obeys.obeys there
+    showing_fine x obeys there = in_both (x.part ∷ []) (declared_parts t x.declared) (14 + n)
+        (λ here. let wrong : None ≡ Some obeys.name = sym (has_no_name x.part (one_there x.part (14 + n) here)) ∙ obeys.is in absurd cc)
+        (declared_fine obeys.place x.declared obeys.range obeys.obeys) there
 
     showings_fine : (xs : List NumberedShowing) → AllByRecursion (ShowingObeys t) xs → has (flat_map (showing_parts t) xs) (14 + n) ≡ true → IsFinePart t (14 + n)
     showings_fine xs all there = in_flat (showing_parts t) (ShowingObeys t) (14 + n) showing_fine xs all there
@@ -131,14 +126,10 @@ module _ (t : Tables) (tables : AreTables t) where
         → has (map (λ (x : Text × ℕ). x.1) xs) (14 + n) ≡ true → IsFinePart t (14 + n)
     params_fine place [] h there = let wrong : false ≡ true = there in absurd cc
     params_fine place (x ∷ xs) h there =
-        by (x.1 == 14 + n) refl there (params_fine place xs (second_true (rules.is_parameter_type place (tree_at t x.1))
-        (list_all (λ (x : Text × Tree). rules.is_parameter_type place x.1) (map (λ (p : Text × ℕ). (p.0, tree_at t p.1)) xs)) h))
-      where
-        by : (b : Bool) → (x.1 == 14 + n) ≡ b → (b || has (map (λ (x : Text × ℕ). x.1) xs) (14 + n)) ≡ true → (has (map (λ (x : Text × ℕ). x.1) xs) (14 + n) ≡ true → IsFinePart t (14 + n))
-            → IsFinePart t (14 + n)
-        by true e there later = parameter_fine place x.1 (first_true (rules.is_parameter_type place (tree_at t x.1))
-            (list_all (λ (x : Text × Tree). rules.is_parameter_type place x.1) (map (λ (p : Text × ℕ). (p.0, tree_at t p.1)) xs)) h) (eqb-true x.1 (14 + n) e)
-        by false e there later = later there
+        let rest = list_all (λ (x : Text × Tree). rules.is_parameter_type place x.1) (map (λ (p : Text × ℕ). (p.0, tree_at t p.1)) xs) in
+        in_both (x.1 ∷ []) (map (λ (y : Text × ℕ). y.1) xs) (14 + n)
+        (λ here. parameter_fine place x.1 (first_true (rules.is_parameter_type place (tree_at t x.1)) rest h) (one_there x.1 (14 + n) here))
+        (params_fine place xs (second_true (rules.is_parameter_type place (tree_at t x.1)) rest h)) there
 
     result_fine : (place : Place) (r : Option ℕ) → rules.is_result_type place (option_map (tree_at t) r) ≡ true → has (option_to_list r) (14 + n) ≡ true → IsFinePart t (14 + n)
     result_fine place None h there = let wrong : false ≡ true = there in absurd cc

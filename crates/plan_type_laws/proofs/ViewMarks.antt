@@ -1,4 +1,5 @@
 -- The marks of names by their kinds: what is shown in one place is marked as it is shown.
+use Rattle.plan_type_laws.proofs.PartPlaces.{slot_number}
 use Rattle.std.proofs.Common.{◌≡◌, ◌⊎◌, inl, inr, refl, sym, ap, subst, ◌∙◌, ℕ, ◌+◌, ◌<◌, arith, Bool, true, false, not, List, [], ◌∷◌, map, Option, Some, None, option_and_then, slice_get}
 use Rattle.std.specs.List.{AllByRecursion, Contains, list_all}
 use Rattle.std.specs.Option.{option_map_or}
@@ -204,11 +205,7 @@ module _ (t : Tables) (tables : AreTables t) (kinds : Text → Text → Bool) (o
         (record { name = (p, name); is = is; marked = declared.tells s.part (mark_of_name s.part p name is ∙ sym (has name)) }, declared.inner)
 
     type_marked : (x : NumberedType) → IsShownIn t p x → DeclarationStands Kind (declaration_of t x.declared) (kind_at kinds own (place_at t p) x.name) → Shown (showing_of x)
-    type_marked x is stands = showing_marked (showing_of x) x.name (name_there t (slot_part x.slot) is.number p x.name (by x.slot is.slot) is.name.named) is.name.met stands
-      where
-        by : (s : NumberedSlot) → IsSlotOf t s is.number → slot_part s ≡ 14 + is.number
-        by (value k) e = e
-        by (resource k) e = e
+    type_marked x is stands = showing_marked (showing_of x) x.name (name_there t (slot_part x.slot) is.number p x.name (slot_number t x.slot is.number is.slot) is.name.named) is.name.met stands
 
     pub name_marked : (key : Text) (part : ℕ) (d : Option ℕ) (external_id : Option Text) → NameKinds t kinds p own key part d → Shown (record { part = part; declared = d; external_id = external_id })
     name_marked key part d external_id names = showing_marked (record { part = part; declared = d; external_id = external_id }) key names.is names.met names.kind
