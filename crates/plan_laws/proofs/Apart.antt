@@ -14,7 +14,7 @@ use Rattle.plan_meaning.specs.NumberedRules.{Fact}
 use Rattle.plan_meaning.specs.NumberedViews.{NumberedSight, NumberedView, Tables, path_at}
 use Rattle.plan_meaning.specs.NumberedWorlds.{HasPath, NumberedInstance, are_once}
 use Rattle.plan_meaning.proofs.Lists.{no_true}
-use Rattle.wit_model.proofs.UsesLemmas.{filter_has, has_filter}
+use Rattle.wit_model.proofs.UsesLemmas.{filter_has}
 use Rattle.read_exports.specs.Members.{numbered_member, numbered_members, numbered_part}
 use Rattle.read_exports.specs.declared.members.Member.{Member}
 use Rattle.read_exports.specs.declared.members.Part.{Part}
@@ -259,7 +259,8 @@ module _ (t : Tables) (h : Homes) (known : ℕ → Fact) (n : ℕ) (ms : List Me
       let home = λ (x : Text × Scope). x.1.home in
       let m = world_member ms w (get-contains (worlds_in ms) i w at_i) in
       unfiltered_once (has_no_path t) (homes ms) (second_once (own (viewed ms)) (own (homes ms)) all_once) i j w.1.home
-      (ap (λ hs. slice_get hs i) (homes_of_worlds ms) ∙ mapped_get home (worlds_in ms) i w at_i) (ap (λ hs. slice_get hs j) (homes_of_worlds ms) ∙ (mapped_get home (worlds_in ms) j v at_j ∙ ap Some (sym same)))
+      (ap (λ hs. slice_get hs i) (homes_of_worlds ms) ∙ mapped_get home (worlds_in ms) i w at_i)
+      (ap (λ hs. slice_get hs j) (homes_of_worlds ms) ∙ (mapped_get home (worlds_in ms) j v at_j ∙ ap Some (sym same)))
       (ap is_none (world_is m.0 m.1 w.1 m.2).good.home)
 
 pub whole_stands_apart : WholeStandsApart

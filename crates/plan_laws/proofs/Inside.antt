@@ -1,6 +1,4 @@
 -- Which types stand inside a part: what is used is inside a part that is used to begin with.
-use Rattle.plan_parts.specs.Interfaces.{slot_part}
-use Rattle.plan_meaning.specs.FollowedNumbers.{IsSlotOf}
 use Rattle.std.proofs.Common.{◌≡◌, refl, sym, ap, subst, ◌∙◌, ℕ, zero, suc, ◌+◌, ◌<◌, ◌⊎◌, inl, inr, arith, Bool, true, false, List, [], ◌∷◌, length, map, Some, slice_get}
 use Rattle.std.specs.List.{Contains, flat_map}
 use Rattle.std.proofs.lemmas.List.Elements.{Contains-append_cases}

@@ -126,7 +126,8 @@ module _ (t : Tables) (h : Homes) (known : ℕ → Fact) (n : ℕ) (ms : List Me
               → FunctionBecomes t planned.kept p (function_at t f.1.signature) f.1.external_id e.1
           becomes f c e made =
               let of = function_of_view q views f c in
-              view_becomes t h ms members ruled n p planned first first_in (member_view_in t ms given.input.numbers first first_in) (view_names t first (all_at (ViewObeys t) views ruled.rules.views first first_in)) plans.find
+              view_becomes t h ms members ruled n p planned first first_in (member_view_in t ms given.input.numbers first first_in)
+              (view_names t first (all_at (ViewObeys t) views ruled.rules.views first first_in)) plans.find
               plans.resources b of.sight of.among
               (of.place ∙ sym (first_is q views first is_first).1) (member_view_in t ms given.input.numbers of.sight of.among) (all_at (ViewObeys t) views ruled.rules.views of.sight of.among)
               (ap (λ (o : ℕ → TypeOwner). o first.place) owned) f of.there e made

@@ -17,7 +17,7 @@ use Rattle.wit_model.specs.Text.{Text}
 use Rattle.plan_meaning.specs.FollowedNumbers.{IsOneOf, IsScopeIn, IsSeenIn}
 use Rattle.plan_meaning.specs.NumberedMembers.{NumberedMember, NumberedPart, interface, world}
 use Rattle.plan_meaning.specs.NumberedViews.{NumberedView, Tables, path_at}
-use Rattle.plan_meaning.specs.NumberedWorlds.{HasPath, NumberedInstance, NumberedScope, NumberedSeen, NumberedShown, Shows, are_once, declares, function, implementing, instance, instance_of, label, path, place_of_key, seen_of, shown_of}
+use Rattle.plan_meaning.specs.NumberedWorlds.{HasPath, NumberedInstance, NumberedScope, NumberedSeen, NumberedShown, Shows, are_once, implementing, instance, instance_of, label, path, place_of_key, seen_of, shown_of}
 use Rattle.plan_type_laws.specs.ShownMarks.{has_no_path, own_places, places_of_part, places_of_seen, places_of_shown}
 use Rattle.plan_laws.proofs.Inside.{flat_cases}
 use Rattle.base_lemmas.proofs.Bools.{left_of as first_true, right_of as second_true}

@@ -96,9 +96,11 @@ module _ (t : Tables) (tables : AreTables t) (h : Homes) (stand : HomesStand t h
     -- what a view shows
     pub view_showing : (s : NumberedSight) → Contains views s → (x : NumberedType) → Contains s.view.types x → (k : ℕ) → Contains (showing_parts t (showing_of x)) k → IsIn t.shapes k n
         → ShowsNumber t views q n
-    view_showing s c x among k used found = let there = contains-get views s c in part_shows t tables views all_good n q name at instances trees s there.0 there.1 (stands there.0 s there.1) x among k used found
+    view_showing s c x among k used found = let there = contains-get views s c in
+        part_shows t tables views all_good n q name at instances trees s there.0 there.1 (stands there.0 s there.1) x among k used found
 
-    pub view_signature : (s : NumberedSight) → Contains views s → (g : Text × NumberedFunction) → Contains s.view.functions g → (k : ℕ) → Contains (function_parts t g.1.signature) k → IsIn t.shapes k n
+    pub view_signature : (s : NumberedSight) → Contains views s → (g : Text × NumberedFunction) → Contains s.view.functions g → (k : ℕ) → Contains (function_parts t g.1.signature) k
+        → IsIn t.shapes k n
         → ShowsNumber t views q n
     view_signature s c g among k used found =
         let there = contains-get views s c in
@@ -106,7 +108,8 @@ module _ (t : Tables) (tables : AreTables t) (h : Homes) (stand : HomesStand t h
 
     -- ---- a world
 
-    module _ (w : Scope) (within : (s : NumberedSight) → Contains (views_of_part (numbered_part (parts.World w))) s → Contains views s) (scope : follow.Scope) (shows : Shows t (numbered_scope w) scope)
+    module _ (w : Scope) (within : (s : NumberedSight) → Contains (views_of_part (numbered_part (parts.World w))) s → Contains views s) (scope : follow.Scope)
+        (shows : Shows t (numbered_scope w) scope)
         (good : IsScopeIn t (numbered_scope w)) (declares : AllByRecursion (DeclaresName t w.home) w.imports.now) (scope_stands : ScopeStands scope) where
       -- a view shows the type, or the world imports it
       abbrev Goal : Type 0

@@ -95,7 +95,8 @@ module _ (t : Tables) (h : Homes) (ms : List Member) (members : List reads.Membe
         let f = partner_back (IsPlannedFunction t planned.kept made.find) (functions_seen q views) i.functions made.functions e e_in in
         let of = function_of q views f.0 f.1 in
         subst (λ o. IsReadFunction t planned.kept p beside o e.1) owner
-        (view_function t h ms members ruled main p planned first first_in (member_view_in t ms ruled.input.numbers first first_in) (view_names t first (all_at (ViewObeys t) views ruled.rules.views first first_in)) made.find
+        (view_function t h ms members ruled main p planned first first_in (member_view_in t ms ruled.input.numbers first first_in)
+        (view_names t first (all_at (ViewObeys t) views ruled.rules.views first first_in)) made.find
         made.resources beside of.sight of.among (of.place ∙ sym place)
         (member_view_in t ms ruled.input.numbers of.sight of.among) (all_at (ViewObeys t) views ruled.rules.views of.sight of.among) refl f.0 of.there
         (values_of of.sight of.among of.whole f.0 of.there) e f.2)

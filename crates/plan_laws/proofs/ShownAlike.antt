@@ -85,7 +85,8 @@ module _ (t : Tables) (h : Homes) (known : ℕ → Fact) (n : ℕ) (ms : List Me
   by_view s in_views good x in_types y z same declared part z_shown =
       let is = all_at (IsShownIn t s.place) s.view.types good.types x in_types in
       let own = slot_number t x.slot is.number is.slot in
-      shown_alike t h ms members given.input given.placed.apart ruled.agree s in_views (view_names t s (all_at (ViewObeys t) views ruled.rules.views s in_views)) x in_types is.number is.name.named z z_shown (omega (arith, own, part, same)) ∙ declared
+      shown_alike t h ms members given.input given.placed.apart ruled.agree s in_views
+      (view_names t s (all_at (ViewObeys t) views ruled.rules.views s in_views)) x in_types is.number is.name.named z z_shown (omega (arith, own, part, same)) ∙ declared
 
   pub types_alike : (y z : NumberedShowing) → Contains (showings_of_members ms) y → Contains (showings_of_members ms) z → y.part ≡ z.part → y.declared ≡ z.declared
   types_alike y z c d same = by (shown_from t h ms members given.input given.placed.apart y c) (shown_from t h ms members given.input given.placed.apart z d)

@@ -30,7 +30,8 @@ pub use Rattle.plan_laws.proofs.Sources.{beside}
 use Rattle.plan_laws.proofs.ViewNames.{instance_tree}
 use Rattle.base_lemmas.proofs.Lists.{mapped_get}
 
-module _ (t : Tables) (h : Homes) (ms : List Member) (members : List reads.Member) (input : IsInput t h ms members) (n q : ℕ) (name : Text) (at : slice_get t.shapes n ≡ Some (named_shape q name)) where
+module _ (t : Tables) (h : Homes) (ms : List Member) (members : List reads.Member) (input : IsInput t h ms members) (n q : ℕ) (name : Text)
+    (at : slice_get t.shapes n ≡ Some (named_shape q name)) where
   -- what uses a part of the tables in a part
   data Uses (part : Part) (k : ℕ) : Type 0 where
     by_showing : (y : NumberedShowing) → sources.IsShownIn part y → Contains (showing_parts t y) k → Uses part k
@@ -89,7 +90,8 @@ module _ (t : Tables) (h : Homes) (ms : List Member) (members : List reads.Membe
       world_within s among = within s (subst (λ a. Contains (views_of_part (numbered_part a)) s) (sym is) among)
 
     member_shows : Uses m.part k → IsShown
-    member_shows (by_showing y (sources.in_view s there x among same) used) = view_shown (view_showing t input.tables h input.homes n q name at views instances trees all_good stands s (within s there) x
+    member_shows (by_showing y (sources.in_view s there x among same) used) = view_shown
+        (view_showing t input.tables h input.homes n q name at views instances trees all_good stands s (within s there) x
         among k (subst (λ (z : NumberedShowing). Contains (showing_parts t z) k) (sym same) used) found)
     member_shows (by_signature f (sources.by_whole s there whole g among same) used) = view_shown (view_signature t input.tables h input.homes n q name at views instances trees all_good stands s
         (within s there) g among k (subst (λ z. Contains (function_parts t z) k) (sym same) used) found)

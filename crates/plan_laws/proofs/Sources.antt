@@ -159,7 +159,8 @@ pub view_among : (ms : List Member) (m : Member) → Contains ms m → (s : Numb
 view_among ms m c s among = among_mapped (λ (x : NumberedMember). views_of_part x.part) numbered_member ms m s c among
 
 -- the view of an instance is one of all
-pub seen_sight : (t : Tables) (ms : List Member) (m : Member) → Contains ms m → (w : Scope) → m.part ≡ parts.World w → IsScopeIn t (numbered_scope w) → (s : Seen) → Side w s → (key : InstanceKey) (v : View)
+pub seen_sight : (t : Tables) (ms : List Member) (m : Member) → Contains ms m → (w : Scope) → m.part ≡ parts.World w → IsScopeIn t (numbered_scope w) → (s : Seen) → Side w s
+    → (key : InstanceKey) (v : View)
     → s.shown ≡ shown.Instance key v → Contains (views_of_members (numbered_members ms)) (sight_of key v)
 seen_sight t ms m c w is good s side key v e =
     view_among ms m c (sight_of key v) (subst (λ a. Contains (views_of_part (numbered_part a)) (sight_of key v)) (sym is) (side_view w t good s side key v e))
@@ -227,7 +228,8 @@ module _ (t : Tables) where
   view_origin : (a : Part) (s : NumberedSight) → Contains (views_of_part (numbered_part a)) s → (y : NumberedShowing) → Contains (showings_of_view s.view) y → IsShownIn a y
   view_origin a s c y among = let from = from_map showing_of s.view.types y among in in_view s c from.0 from.1 from.2
 
-  view_signed : (a : Part) (s : NumberedSight) → Contains (views_of_part (numbered_part a)) s → s.whole ≡ true → (f : ℕ) → Contains (map (λ (g : Text × NumberedFunction). g.1.signature) s.view.functions) f
+  view_signed : (a : Part) (s : NumberedSight) → Contains (views_of_part (numbered_part a)) s → s.whole ≡ true → (f : ℕ)
+      → Contains (map (λ (g : Text × NumberedFunction). g.1.signature) s.view.functions) f
       → IsSignedIn a f
   view_signed a s c whole f among = let from = from_map (λ (g : Text × NumberedFunction). g.1.signature) s.view.functions f among in by_whole s c whole from.0 from.1 from.2
 

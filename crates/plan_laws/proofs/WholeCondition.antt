@@ -271,7 +271,8 @@ module _ (t : Tables) (h : Homes) (known : ℕ → Fact) (n : ℕ) (ms : List Me
         by x c (by_import w is home imports) =
             let y : NumberedShowing = record { part = 14 + m; declared = imports.declared; external_id = given_text imports.seen.external_id } in (
               y,
-              seen_showing t h ms members given.input given.placed.apart x c w is imports.seen (inl imports.among) y (subst (λ k. Contains (showings_of_shown k (given_text imports.seen.external_id)) y) (sym imports.shown)
+              seen_showing t h ms members given.input given.placed.apart x c w is imports.seen (inl imports.among) y
+                  (subst (λ k. Contains (showings_of_shown k (given_text imports.seen.external_id)) y) (sym imports.shown)
                   (contains-one y)),
               refl,
             )
@@ -332,7 +333,8 @@ module _ (t : Tables) (h : Homes) (known : ℕ → Fact) (n : ℕ) (ms : List Me
         by : (m : Member) → Contains ms m → m.part ≡ parts.World w.1 → (s : Seen) → Side w.1 s → (x : Shown) → s.shown ≡ x → ShownIsKept t kept s.shown
         by m m_in is s side (shown.Instance key v) e = subst (ShownIsKept t kept) (sym e) tt
         by m m_in is s side (shown.Function f) e =
-            subst (ShownIsKept t kept) (sym e) (signature_kept f (seen_signature t h ms members given.input given.placed.apart m m_in w.1 is s side f (subst (λ k. Contains (signatures_of_shown k) f) (sym e) (contains-one f))))
+            subst (ShownIsKept t kept) (sym e)
+            (signature_kept f (seen_signature t h ms members given.input given.placed.apart m m_in w.1 is s side f (subst (λ k. Contains (signatures_of_shown k) f) (sym e) (contains-one f))))
         by m m_in is s side (shown.Declares q d) e =
             let y : NumberedShowing = record { part = q; declared = d; external_id = given_text s.external_id } in
             subst (ShownIsKept t kept) (sym e) (showing_kept y (seen_showing t h ms members given.input given.placed.apart m m_in w.1 is s side y

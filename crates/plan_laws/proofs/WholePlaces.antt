@@ -168,7 +168,8 @@ module _ (t : Tables) (h : Homes) (known : ℕ → Fact) (n : ℕ) (ms : List Me
       let of = world_of t h ms members given.input own.member own.among own.world own.is in
       let once = once_within (has_no_path t) (λ (x : NumberedMember). places_of_part x.part) (numbered_members ms) given.placed.apart (numbered_member own.member)
       (contains-map numbered_member ms own.member own.among) in
-      own_shown t (numbered_scope own.world) of.scope of.good of.shows of.stands.seen (subst (λ a. are_once (filter (has_no_path t) (places_of_part (numbered_part a))) ≡ true) own.is once) q none own.instance
+      own_shown t (numbered_scope own.world) of.scope of.good of.shows of.stands.seen
+      (subst (λ a. are_once (filter (has_no_path t) (places_of_part (numbered_part a))) ≡ true) own.is once) q none own.instance
 
   item_of : (m q : ℕ) → slice_get places m ≡ Some q → (label : Text) (w : Scope) → Contains (shown_of w) q → (j : ℕ) → slice_get (worlds_in ms) j ≡ Some (label, w) → IsItem m
   item_of m q at label w shown j here = by (zip_at (PlansWorld t planned.kept places n) (worlds_in ms) p.worlds planned.worlds j (label, w) here)

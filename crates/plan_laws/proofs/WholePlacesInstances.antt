@@ -10,7 +10,7 @@ use Rattle.comp_meaning.specs.Follow.{Scope}
 use Rattle.read_shown.specs.Instances.{InstancesAreSeen}
 use Rattle.plan_meaning.specs.FollowedNumbers.{IsOneOf, IsScopeIn}
 use Rattle.plan_meaning.specs.NumberedViews.{Tables, path_at}
-use Rattle.plan_meaning.specs.NumberedWorlds.{NumberedInstance, NumberedScope, NumberedSeen, NumberedShown, Shows, are_once, declares, function, instance, place_of_key}
+use Rattle.plan_meaning.specs.NumberedWorlds.{NumberedInstance, NumberedScope, NumberedSeen, NumberedShown, Shows, are_once, instance, place_of_key}
 use Rattle.plan_type_laws.specs.ShownMarks.{has_no_path, places_of_seen, places_of_shown, places_of_part}
 use Rattle.plan_laws.proofs.Inside.{flat_cases}
 use Rattle.base_lemmas.proofs.Elements.{all_at, contains-map, last_of as one-contained, filter_kept, map_from as from_map}

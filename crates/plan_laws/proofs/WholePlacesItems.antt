@@ -12,7 +12,7 @@ use Rattle.wit_model.specs.Text.{Text}
 use Rattle.wit_model.specs.Uses.{has}
 use Rattle.plan_meaning.specs.NumberedMembers.{NumberedMember}
 use Rattle.plan_meaning.specs.NumberedViews.{Tables}
-use Rattle.plan_meaning.specs.NumberedWorlds.{are_once, place_of_key}
+use Rattle.plan_meaning.specs.NumberedWorlds.{are_once}
 use Rattle.plan_meaning.specs.Plan.{Plan, PlannedItem, PlannedKey, PlannedWorld, item_interface, items_of}
 use Rattle.plan_meaning.specs.PlanRules.{has_name}
 use Rattle.plan_meaning.specs.ReadPlaces.{inline_shown}
@@ -25,7 +25,7 @@ use Rattle.read_exports.specs.declared.members.Part.{Part}
 use Rattle.read_exports.specs.declared.members.Part.TheVariants as parts
 use Rattle.read_rules.specs.declared.scopes.Scope.{Scope}
 use Rattle.read_rules.specs.declared.scopes.Seen.{Seen}
-use Rattle.read_rules.specs.Scopes.{numbered_key, numbered_seen, numbered_shown}
+use Rattle.read_rules.specs.Scopes.{numbered_seen, numbered_shown}
 use Rattle.plan_types.specs.PlannedTypes.{number_in}
 use Rattle.plan_package.specs.WholeWorlds.{PlansItem, PlansWorld, a_function, a_type, an_instance, world_in_part, worlds_in}
 use Rattle.base_lemmas.proofs.Bools.{left_of as first_true, right_of as second_true, or_true}

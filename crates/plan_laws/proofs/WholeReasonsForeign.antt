@@ -130,7 +130,8 @@ module _ (t : Tables) (h : Homes) (known : ℕ → Fact) (n : ℕ) (ms : List Me
       view s among = view_in m c s (subst (λ a. Contains (views_of_part (numbered_part a)) s) (sym is) among) (subst (λ a. Contains (sights_of_part t (numbered_part a)) s) (sym is) among)
 
       import_ : (x : ℕ × NumberedView) → Contains (map numbered_import imports.now) x → IsViewOf t h planned.kept p b views read x
-      import_ x among = let i = from_map numbered_import imports.now x among in subst (IsViewOf t h planned.kept p b views read) i.2 (view (types_alone (numbered_import i.0)) (import_there q v imports i.0 i.1))
+      import_ x among = let i = from_map numbered_import imports.now x among in
+          subst (IsViewOf t h planned.kept p b views read) i.2 (view (types_alone (numbered_import i.0)) (import_there q v imports i.0 i.1))
 
   reasons : (q k : ℕ) (i : PlannedInterface) → HasPath t q → b.owners q ≡ as_interface k → interface_in p k ≡ Some i → is_of_package h p.main q ≡ false → IsSeenFor t h planned.kept p b views read q
   reasons q k i path is there foreign =

@@ -1,7 +1,7 @@
 -- The types of a whole plan are those that were read.
 use Rattle.plan_laws.specs.Whole.{IsPackageInput}
 use Rattle.plan_meaning.specs.NumberedRules.{Fact}
-use Rattle.std.proofs.Common.{◌≡◌, refl, sym, ap, subst, ◌∙◌, ℕ, ◌+◌, ◌<◌, ◌⊎◌, inl, inr, arith, true, ◌&&◌, ◌==◌, List, length, Option, Some, None, option_map, slice_get, Bool, false}
+use Rattle.std.proofs.Common.{◌≡◌, refl, sym, ap, subst, ◌∙◌, ℕ, ◌+◌, ◌<◌, ◌⊎◌, inl, inr, arith, true, ◌&&◌, ◌==◌, List, length, Option, Some, None, option_map, slice_get, Bool}
 use Rattle.std.specs.Prelude.{option_and_then}
 use Rattle.std.specs.List.{Contains, list_all}
 use Rattle.std.specs.Option.{option_map_or}

@@ -159,7 +159,8 @@ module _ (t : Tables) (tables : AreTables t) (kinds : Text → Text → Bool) (o
     seen_held [] is all = (tt, tt)
     seen_held (s ∷ ss) is all =
         let split = all_split Owned (frames_of_shown t kinds home own s.key.now s.shown is.0) (frames_of_seen t kinds home own ss is.1) all in
-        two_held (Shown t tables kinds own_at) (Called t tables kinds own_at) (showings_of_seen s) (flat_map showings_of_seen ss) (signatures_of_seen s) (flat_map signatures_of_seen ss) (shown_held s.key.now s.shown (given_text s.external_id) is.0 split.0)
+        two_held (Shown t tables kinds own_at) (Called t tables kinds own_at) (showings_of_seen s) (flat_map showings_of_seen ss) (signatures_of_seen s) (flat_map signatures_of_seen ss)
+        (shown_held s.key.now s.shown (given_text s.external_id) is.0 split.0)
         (seen_held ss is.1 split.1)
 
   imports_held : (is : List ImportedView) → AllByRecursion (λ (i : ImportedView). HasPath t i.place × ViewKinds t kinds i.place (numbered_view i.view)) is
@@ -173,7 +174,8 @@ module _ (t : Tables) (tables : AreTables t) (kinds : Text → Text → Bool) (o
   part_held (parts.World w) is all =
       let split = all_split Owned (frames_of_seen t kinds w.home is.own w.imports.now is.imports) (frames_of_seen t kinds w.home is.own w.exports.now is.exports) all.1 in
       let has_own = owned w.home is.own all.0 in
-      two_held (Shown t tables kinds own_at) (Called t tables kinds own_at) (flat_map showings_of_seen w.imports.now) (flat_map showings_of_seen w.exports.now) (flat_map signatures_of_seen w.imports.now) (flat_map signatures_of_seen w.exports.now)
+      two_held (Shown t tables kinds own_at) (Called t tables kinds own_at) (flat_map showings_of_seen w.imports.now) (flat_map showings_of_seen w.exports.now)
+      (flat_map signatures_of_seen w.imports.now) (flat_map signatures_of_seen w.exports.now)
       (seen_held w.home is.own has_own w.imports.now is.imports split.0) (seen_held w.home is.own has_own w.exports.now is.exports split.1)
   part_held (parts.Interface p v imports) is all =
       let view = view_marked t tables kinds own_at p (numbered_view v) is.view (own_by_path t tables kinds own_at p is.view.own is.home) in
@@ -184,7 +186,8 @@ module _ (t : Tables) (tables : AreTables t) (kinds : Text → Text → Bool) (o
   members_held [] is all = (tt, tt)
   members_held (m ∷ ms) is all =
       let split = all_split Owned (frames_of_part t kinds m.part is.0) (frames t kinds ms is.1) all in
-      two_held (Shown t tables kinds own_at) (Called t tables kinds own_at) (showings_of_part m.part) (showings_of_members ms) (signatures_of_part m.part) (signatures_of_members ms) (part_held m.part is.0 split.0) (members_held ms is.1 split.1)
+      two_held (Shown t tables kinds own_at) (Called t tables kinds own_at) (showings_of_part m.part) (showings_of_members ms) (signatures_of_part m.part) (signatures_of_members ms)
+      (part_held m.part is.0 split.0) (members_held ms is.1 split.1)
 
 -- ---- marks
 

@@ -169,7 +169,8 @@ module _ (t : Tables) (tables : AreTables t) where
       let three = first_true (imports && exports && in_keys) out_keys four in
       let two = first_true (imports && exports) in_keys three in
       let exported = no_names t w.home w.exports.now (subst (AllAt (λ n (s : Seen). scopes.is_type s.shown ≡ false)) is.exports stands.no_types) in
-      two_held (ShowingIsName t) (SignatureObeys t) (flat_map showings_of_seen w.imports.now) (flat_map showings_of_seen w.exports.now) (flat_map signatures_of_seen w.imports.now) (flat_map signatures_of_seen w.exports.now)
+      two_held (ShowingIsName t) (SignatureObeys t) (flat_map showings_of_seen w.imports.now) (flat_map showings_of_seen w.exports.now) (flat_map signatures_of_seen w.imports.now)
+      (flat_map signatures_of_seen w.exports.now)
       (imports_obey w.home within.home [] w.imports.now within.imports names (ap (rules.are_imports []) (sym is.imports) ∙ first_true imports exports two))
       (exports_obey w.home within.home w.exports.now within.exports exported (ap (list_all (λ (s : Seen). rules.is_item [] s.key s.shown)) (sym is.exports) ∙ second_true imports exports two))
 
@@ -192,7 +193,8 @@ module _ (t : Tables) (tables : AreTables t) where
       (view_obeys i.place (numbered_view i.view) within.0.1 (Place.of_interface (path_text t i.place)) (path_place t i.place within.0.0) (first_true one rest h)).0
       (views_obey is within.1 (second_true one rest h))
 
-  module _ (h : Homes) (stand : HomesStand t h) (m : Member) (identity : PackageIdentity) (there : slice_get h.packages m.package_number ≡ Some identity) (name : Text) (under : name ≡ m.label.now) where
+  module _ (h : Homes) (stand : HomesStand t h) (m : Member) (identity : PackageIdentity) (there : slice_get h.packages m.package_number ≡ Some identity) (name : Text)
+      (under : name ≡ m.label.now) where
     part_obeys : (part : Part) (y : reads.Part) → ShowsPart t h (numbered_member m) (numbered_part part) y → PartStands y
         → list_all may_be (reads.sights (record { label = name; package_ = identity; part = y })) ≡ true → IsPartIn t (numbered_part part) → PartNames t part
         → Hold (showings_of_part part) (signatures_of_part part)

@@ -84,7 +84,8 @@ module _ (t : Tables) (tables : AreTables t) where
       where
         by : PartView (place_at t) t.shapes tables.shapes k (part_tree (shape_trees (place_at t) t.shapes) k) → IsFinePart t (14 + n)
         by (is_primitive q small stands number) = let wrong : false ≡ true = sym (low_form t k small) ∙ form in absurd cc
-        by (is_name m q x is at stands) = let wrong : false ≡ true = sym (ap (is_form t) is ∙ ap (λ o. option_map_or (λ (s : Shape). not (s.sort == 0)) o false) (shape_there t (14 + m) m (named_shape q x) refl at))
+        by (is_name m q x is at stands) = let wrong : false ≡ true = sym
+            (ap (is_form t) is ∙ ap (λ o. option_map_or (λ (s : Shape). not (s.sort == 0)) o false) (shape_there t (14 + m) m (named_shape q x) refl at))
             ∙ form in absurd cc
         by (is_node m f ks is at stands parts) =
             let rule : (are_labels (form_labels f) && are_parts place (children (map (tree_at t) ks)) && nat_le (deepest (children (map (tree_at t) ks))) most_levels) ≡ true =
