@@ -5,7 +5,7 @@ use Rattle.wit_model.proofs.UsesLemmas.{has_filter}
 use Rattle.plan_laws.proofs.PlaceNumbers.{IsOnce}
 use Rattle.std.proofs.Common.{◌≡◌, refl, sym, ap, subst, ◌∙◌, ℕ, zero, suc, ◌+◌, ◌⊎◌, inl, inr, arith, Bool, true, false, not, filter, if◌then◌else◌, List, [], ◌∷◌, ◌++◌, length, length-append, map, Option, None, is_none, ◌≤◌, Some, slice_get, cond}
 use Rattle.std.specs.List.{AllByRecursion, Contains, flat_map}
-use Rattle.std.proofs.lemmas.Bool.{not-true, and_from as both}
+use Rattle.std.proofs.lemmas.Bool.{not-true, and_from as both, false_from_ne_true}
 use Rattle.std.proofs.lemmas.List.Elements.{Contains-append_cases, Contains-append_left, filter-append}
 use Rattle.wit_model.specs.Uses.{has}
 use Rattle.wit_model.proofs.Elements.{contains-has, has-contains, none-in, contains-get}
@@ -107,11 +107,7 @@ without {A = A} (z ∷ xs) x (suc i, low, e) =
     by less y (suc j, y_low, same) = later less y (less.cases y (j, omega (arith, y_low), same))
 
 still : {A : Type 0} (c : A) (cs is : List A) → (Contains cs c → ⊥) → ((y : A) → Contains (c ∷ cs) y → Contains is y) → (less : Without is c) (y : A) → Contains cs y → Contains less.rest y
-still {A = A} c cs is apart among less y d = by (less.cases y (among y (contains-later c cs y d)))
-  where
-    by : (y ≡ c) ⊎ Contains less.rest y → Contains less.rest y
-    by (inl same) = absurd (apart (subst (Contains cs) same d))
-    by (inr rest) = rest
+still {A = A} c cs is apart among less y d = elim (less.cases y (among y (contains-later c cs y d))) [ inl same ↦ absurd (apart (subst (Contains cs) same d)) | inr rest ↦ rest ]
 
 -- others among which they all are aren't fewer
 pub no_longer : {A : Type 0} (cs is : List A) → AreDifferent cs → ((c : A) → Contains cs c → Contains is c) → length cs ≤ length is
@@ -246,18 +242,10 @@ once_last : (xs ys : List ℕ) → are_once (xs ++ ys) ≡ true → are_once ys 
 once_last [] ys once = once
 once_last (x ∷ xs) ys once = once_last xs ys (once_behind x (xs ++ ys) once)
 
--- no number of the list is the first
-none_is : (n : ℕ) (ns : List ℕ) → (Contains ns n → ⊥) → has ns n ≡ false
-none_is n ns none = by (has ns n) refl
-  where
-    by : (b : Bool) → has ns n ≡ b → has ns n ≡ false
-    by true e = absurd (none (has-contains ns n e))
-    by false e = e
-
 pub once_first : (xs ys : List ℕ) → are_once (xs ++ ys) ≡ true → are_once xs ≡ true
 once_first [] ys once = refl
 once_first (x ∷ xs) ys once =
-    both (not (has xs x)) (are_once xs) (ap not (none_is x xs (λ c. not_among x (xs ++ ys) once (Contains-append_left xs ys x c)))) (once_first xs ys (once_behind x (xs ++ ys) once))
+    both (not (has xs x)) (are_once xs) (ap not (false_from_ne_true (has xs x) (λ h. let c = has-contains xs x h in not_among x (xs ++ ys) once (Contains-append_left xs ys x c)))) (once_first xs ys (once_behind x (xs ++ ys) once))
 
 pub once_inside : {A : Type 0} (test : ℕ → Bool) (f : A → List ℕ) (xs : List A) → are_once (filter test (flat_map f xs)) ≡ true → (x : A) → Contains xs x → are_once (filter test (f x)) ≡ true
 once_inside test f [] once x c = none-in x c

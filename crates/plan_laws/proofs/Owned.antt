@@ -135,11 +135,7 @@ module _ (t : Tables) (h : Homes) (ms : List Member) (members : List reads.Membe
   declared_is n q name x is d kind = kinds_tell t input.tables planned.kept p is.showing.declared d x.kind is.kind kind
 
   pub seen_from : (q k : ℕ) → IsMetFrom t q k → IsSeenFrom t q k
-  seen_from q k met r has same = by (met.names r has)
-    where
-      by : (r ≡ q) ⊎ HasPath t r → r ≡ q
-      by (inl one) = one
-      by (inr path) = sym (same_place t input.tables q r path (sym same))
+  seen_from q k met r has same = elim (met.names r has) [ inl one ↦ one | inr path ↦ sym (same_place t input.tables q r path (sym same)) ]
 
   pub are_owned : AreOwned t planned.kept p (owners_of ms)
   are_owned = record {

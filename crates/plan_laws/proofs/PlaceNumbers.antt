@@ -74,11 +74,7 @@ module _ (met : List ℕ) (p : ℕ) where
 
   from_by : (b : Bool) → (x : ℕ) → Contains (cond b met (met ++ p ∷ [])) x → Contains met x ⊎ (p ≡ x)
   from_by true x c = inl c
-  from_by false x c = by (Contains-append_cases met (p ∷ []) x c)
-    where
-      by : Contains met x ⊎ Contains (p ∷ []) x → Contains met x ⊎ (p ≡ x)
-      by (inl among) = inl among
-      by (inr last) = inr (one-contained p x last)
+  from_by false x c = elim (Contains-append_cases met (p ∷ []) x c) [ inl among ↦ inl among | inr last ↦ inr (one-contained p x last) ]
 
   joined_from : (x : ℕ) → Contains (joined met p) x → Contains met x ⊎ (p ≡ x)
   joined_from x c = from_by (has met p) x c

@@ -1,4 +1,5 @@
 -- What is exported at the top, by labels of which none stands twice.
+use Rattle.std.proofs.lemmas.Bool.{false_from_ne_true}
 use Rattle.std.proofs.Common.{◌≡◌, refl, sym, ap, subst, ◌∙◌, ℕ, Bool, true, false, List, [], ◌∷◌, ◌++◌, map}
 use Rattle.std.specs.Borrow.{Bor}
 use Rattle.std.specs.List.{Contains, list_any}
@@ -86,18 +87,11 @@ module _ (ms : List Member) (differ : distinct (labels_of ms) ≡ true) where
 
   -- no world has the label of an interface
   pub no_world : (x : Text × ℕ) → Contains (interfaces_in ms) x → list_any (text_eq x.0) (names_of (worlds_in ms)) ≡ false
-  no_world x c = by (list_any (text_eq x.0) (names_of (worlds_in ms))) refl
-    where
-      by : (b : Bool) → list_any (text_eq x.0) (names_of (worlds_in ms)) ≡ b → b ≡ false
-      by false e = refl
-      by true e =
-          let found = any_get (text_eq x.0) (names_of (worlds_in ms)) e in
-          let back = get_back (λ (w : Text × Scope). w.0) (worlds_in ms) found.0 found.1 found.2 in
-          let there = interface_of ms x c in
-          let world = world_member ms back.0 (get-contains (worlds_in ms) found.0 back.0 back.1) in
-          let label : x.0 ≡ back.0.0 = (bytes_eq-Decides x.0 found.1).0 found.3 ∙ sym back.2 in
-          let one : there.member ≡ world.0 = one_under (λ (m : Member). m.label.now) ms differ there.member world.0 there.among world.1 (there.label ∙ (label ∙ sym world.3)) in
-          other (sym there.is ∙ (ap (λ (m : Member). m.part) one ∙ world.2))
-        where
-          other : {q : ℕ} {v : View} {i : Bor (List ImportedView)} {w : Scope} → parts.Interface q v i ≡ parts.World w → true ≡ false
-          other e = absurd cc
+  no_world x c = false_from_ne_true (list_any (text_eq x.0) (names_of (worlds_in ms))) (λ e.
+      let found = any_get (text_eq x.0) (names_of (worlds_in ms)) e in
+      let back = get_back (λ (w : Text × Scope). w.0) (worlds_in ms) found.0 found.1 found.2 in
+      let there = interface_of ms x c in
+      let world = world_member ms back.0 (get-contains (worlds_in ms) found.0 back.0 back.1) in
+      let label : x.0 ≡ back.0.0 = (bytes_eq-Decides x.0 found.1).0 found.3 ∙ sym back.2 in
+      let one : there.member ≡ world.0 = one_under (λ (m : Member). m.label.now) ms differ there.member world.0 there.among world.1 (there.label ∙ (label ∙ sym world.3)) in
+      let wrong : parts.Interface x.1 there.view there.imports ≡ parts.World back.0.1 = sym there.is ∙ (ap (λ (m : Member). m.part) one ∙ world.2) in cc)

@@ -1,4 +1,5 @@
 -- What the worlds of a plan import and export, beside functions, is as it was followed.
+use Rattle.std.proofs.lemmas.Bool.{false_from_ne_true}
 use Rattle.plan_type_laws.proofs.PartPlaces.{slot_number}
 use Rattle.std.proofs.Common.{◌≡◌, refl, sym, ap, subst, ◌∙◌, ℕ, ◌+◌, arith, Bool, true, false, cond, List, [], ◌∷◌, ◌++◌, length, map, Option, Some, None, slice_get}
 use Rattle.std.specs.Cmp.Lexicographic.{pointwise}
@@ -67,15 +68,11 @@ same_declared k l a c e = ap declared_of e
 -- ---- places that are all new
 
 once_front : (p : ℕ) (met ps : List ℕ) → IsOnce (met ++ p ∷ ps) → has met p ≡ false
-once_front p met ps once = by (has met p) refl
-  where
-    by : (b : Bool) → has met p ≡ b → b ≡ false
-    by false e = refl
-    by true e =
-        let there = contains-get met p (has-contains met p e) in
-        let low = slice_get_within met there.0 p there.1 in
-        let same : there.0 ≡ length met = once there.0 (length met) p (at_front met (p ∷ ps) there.0 p there.1) (middle_get met p ps) in
-        absurd (omega (arith, low, same))
+once_front p met ps once = false_from_ne_true (has met p) (λ e.
+    let there = contains-get met p (has-contains met p e) in
+    let low = slice_get_within met there.0 p there.1 in
+    let same : there.0 ≡ length met = once there.0 (length met) p (at_front met (p ∷ ps) there.0 p there.1) (middle_get met p ps) in
+    omega (arith, low, same))
 
 all_new : (met ps : List ℕ) → IsOnce (met ++ ps) → joined_all met ps ≡ met ++ ps
 all_new met [] once = sym (append-nil met)
