@@ -33,7 +33,7 @@ use Rattle.plan_laws.specs.ShownRules.{ViewObeys}
 use Rattle.plan_laws.specs.Whole.{IsPackageInput}
 use Rattle.plan_laws.specs.WorldItems.{WorldsAreApart}
 use Rattle.plan_laws.proofs.Inside.{flat_cases}
-use Rattle.plan_laws.proofs.Sources.{view_among}
+use Rattle.plan_laws.proofs.Sources.{view_among, among_mapped, mapped_cases, part_at}
 use Rattle.plan_laws.proofs.PlaceNumbers.{IsOnce, from_joined}
 use Rattle.plan_laws.proofs.Planned.{home_alone}
 use Rattle.plan_laws.proofs.ShownFrom.{IsWorldOf, world_of}
@@ -167,8 +167,7 @@ module _ (t : Tables) (h : Homes) (known : ℕ → Fact) (n : ℕ) (ms : List Me
       omega (arith, many)
     where
       good : IsPartIn t (numbered_part (parts.Interface q v imports))
-      good = subst (λ a. IsPartIn t (numbered_part a)) is (all_at (λ (x : NumberedMember). IsPartIn t x.part) (numbered_members ms) given.input.numbers (numbered_member m)
-          (contains-map numbered_member ms m c))
+      good = subst (λ a. IsPartIn t (numbered_part a)) is (part_at t ms given.input.numbers m c)
 
       with_path : (p : ℕ) → HasPath t p → has_no_path t p ≡ false
       with_path p path = ap is_none path.1
@@ -200,16 +199,12 @@ module _ (t : Tables) (h : Homes) (known : ℕ → Fact) (n : ℕ) (ms : List Me
 
   -- each place of its own is that of a view, or of a world
   place_there : (x : ℕ) → Contains (flat_map (λ (m : NumberedMember). places_of_part m.part) (numbered_members ms)) x → Contains (viewed ms) x ⊎ Contains (homes ms) x
-  place_there x c =
-      let from = flat_cases (λ (m : NumberedMember). places_of_part m.part) (numbered_members ms) x c in
-      let m = from_map numbered_member ms from.0 from.1 in
-      by m.0 m.1 m.0.part refl (subst (λ (y : NumberedMember). Contains (places_of_part y.part) x) (sym m.2) from.2)
+  place_there x c = let m = mapped_cases (λ (m : NumberedMember). places_of_part m.part) numbered_member ms x c in by m.0 m.1 m.0.part refl m.2
     where
       by : (m : Member) → Contains ms m → (a : Part) → m.part ≡ a → Contains (places_of_part (numbered_part a)) x → Contains (viewed ms) x ⊎ Contains (homes ms) x
       by m m_in (parts.Interface q v imports) is there = none-in x there
       by m m_in (parts.World w) is (zero, low, same) =
-          inr (contains-flat (λ (y : NumberedMember). home_of_part y.part) (numbered_members ms) (numbered_member m) x (contains-map numbered_member ms m m_in)
-          (subst (λ a. Contains (home_of_part (numbered_part a)) x) (sym is) (0, omega arith, same)))
+          inr (among_mapped (λ (y : NumberedMember). home_of_part y.part) numbered_member ms m x m_in (subst (λ a. Contains (home_of_part (numbered_part a)) x) (sym is) (0, omega arith, same)))
       by m m_in (parts.World w) is (suc i, low, same) =
           let followed = world_is m m_in w is in
           let there = one_of t (numbered_scope w) followed.scope followed.good followed.shows followed.stands.seen x (i, omega (arith, low), same) in

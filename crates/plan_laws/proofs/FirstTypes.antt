@@ -57,9 +57,6 @@ module _ (t : Tables) (h : Homes) (ms : List Member) (members : List reads.Membe
     first_among : Contains views first
     first_among = (first_is q views first is_first).0
 
-    first_place : first.place ≡ q
-    first_place = (first_is q views first is_first).1
-
     -- what another view shows under the number is told by the first
     told_by_view : (x : NumberedType) → Contains first.view.types x → (is : IsShownIn t first.place x) → (s : NumberedSight) → Contains views s → (z : NumberedType) → Contains s.view.types z
         → slot_part z.slot ≡ 14 + is.number → told z ≡ told x

@@ -41,7 +41,7 @@ use Rattle.plan_laws.proofs.FirstViews.{first_is}
 use Rattle.plan_laws.proofs.GatheredSights.{IsGatheredFrom, IsGatheredOne, gathered, gathered_from, left_out}
 use Rattle.plan_laws.proofs.Inside.{flat_cases}
 use Rattle.plan_laws.proofs.ListedFunctions.{functions_listed, seen_same}
-use Rattle.plan_laws.proofs.Sources.{view_among}
+use Rattle.plan_laws.proofs.Sources.{view_among, own_sight, own_there, part_at}
 use Rattle.plan_laws.proofs.PlaceNumbers.{one_owner, owner_numbered, place_number}
 use Rattle.plan_laws.proofs.Planned.{first_there, interface_there, view_met}
 use Rattle.plan_laws.proofs.ShownWhole.{sight_viewed}
@@ -128,12 +128,10 @@ module _ (t : Tables) (h : Homes) (known : ℕ → Fact) (n : ℕ) (ms : List Me
       by (parts.World w) is es zip more = more es zip
       by (parts.Interface q v imports) is [] zip more = absurd zip
       by (parts.Interface q v imports) is (e ∷ es) zip more =
-          let s : NumberedSight = record { place = q; view = numbered_view v; whole = true } in
-          let last : Contains (views_of_part (numbered_part (parts.Interface q v imports))) s = Contains-append_right (map types_alone (map numbered_import imports.now)) (s ∷ []) s (contains-one s) in
-          let viewed : Contains views s = view_among ms m (among m (0, omega arith, refl)) s (subst (λ a. Contains (views_of_part (numbered_part a)) s) (sym is) last) in
-          let path : HasPath t q = (subst (λ a. IsPartIn t (numbered_part a)) is
-          (all_at (λ (x : NumberedMember). IsPartIn t x.part) (numbered_members ms) given.input.numbers (numbered_member m)
-          (contains-map numbered_member ms m (among m (0, omega arith, refl))))).0.0 in (
+          let here = among m (0, omega arith, refl) in
+          let s = own_sight q v imports in
+          let viewed : Contains views s = view_among ms m here s (subst (λ a. Contains (views_of_part (numbered_part a)) s) (sym is) (own_there q v imports)) in
+          let path : HasPath t q = (subst (λ a. IsPartIn t (numbered_part a)) is (part_at t ms given.input.numbers m here)).0.0 in (
             record {
               name = zip.0.0;
               there = subst (λ fs. InterfaceAt t planned.kept p (numbered_view v) fs e.1) (seen_same t q path (numbered_members ms)) (interface_at s viewed e.1 zip.0.1);

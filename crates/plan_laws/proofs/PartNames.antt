@@ -1,4 +1,7 @@
 -- A name that is used by what a part shows is shown by a view in its own place, or imported by the world.
+use Rattle.read_rules.specs.Reached.{numbered_import}
+use Rattle.read_exports.specs.declared.members.Part.{Part}
+use Rattle.read_exports.specs.declared.members.Member.{Member}
 use Rattle.std.proofs.Common.{◌≡◌, refl, sym, ap, subst, ◌∙◌, ℕ, zero, suc, ◌+◌, ◌⊎◌, inl, inr, arith, Bool, true, List, [], ◌∷◌, ◌++◌, length, map, Option, Some, slice_get}
 use Rattle.std.specs.List.{AllByRecursion, AllZip, Contains}
 use Rattle.wit_model.specs.Text.{Text}
@@ -15,7 +18,7 @@ use Rattle.read_shown.specs.Scopes as scopes
 use Rattle.read_shown.specs.Scopes.{IsDeclared, IsImported, IsMetInScope, IsShownBefore, ScopeStands, a_resource, a_value, name_of_instance, own_name}
 use Rattle.read_shown.specs.Trees.{SignatureStands}
 use Rattle.read_shown.specs.Views.{ViewStands}
-use Rattle.plan_meaning.specs.FollowedNumbers.{IsCalledIn, IsMetFrom, IsNameOf, IsPartIn, IsScopeIn, IsSeenIn, IsViewIn}
+use Rattle.plan_meaning.specs.FollowedNumbers.{IsCalledIn, IsMetFrom, IsNameOf, IsPartIn, IsScopeIn, IsSeenIn, IsViewIn, AreMembersIn}
 use Rattle.plan_meaning.specs.NumberedMembers.{Homes, HomesStand, IsMember, NumberedMember, NumberedPart, ShowsInterface, ShowsPart, interface, world}
 use Rattle.plan_meaning.specs.NumberedViews.{AllOf, AreTables, IsPart, NumberedFunction, NumberedSight, NumberedType, NumberedView, Tables, function_at, path_at, path_text, place_at, signature_at, view_of}
 use Rattle.plan_meaning.specs.NumberedWorlds.{HasPath, Shows, seen_of, shown_of}
@@ -27,7 +30,7 @@ use Rattle.read_rules.specs.declared.scopes.Shown.{Shown}
 use Rattle.read_rules.specs.declared.scopes.Shown.TheVariants as shown
 use Rattle.read_rules.specs.Scopes.{numbered_instance, numbered_scope, numbered_seen, numbered_shown}
 use Rattle.read_rules.specs.Tables.{given_text}
-use Rattle.read_exports.specs.Members.{numbered_part}
+use Rattle.read_exports.specs.Members.{numbered_part, numbered_member, numbered_members}
 use Rattle.read_exports.specs.declared.members.Part.TheVariants as parts
 use Rattle.plan_type_laws.specs.MembersStand.{all_instances}
 use Rattle.plan_types.specs.Showings.{NumberedShowing, showing_of}
@@ -35,27 +38,17 @@ use Rattle.plan_types.specs.Used.{declared_parts, function_parts, showing_parts}
 use Rattle.plan_package.specs.Views.{types_alone, views_of_members, views_of_part, whole_view}
 use Rattle.plan_laws.specs.ShownNames.{DeclaresName, ImportsNumber, ShowsNumber}
 use Rattle.plan_laws.proofs.Inside.{IsIn, name_alone, name_in, name_same}
-use Rattle.plan_laws.proofs.Sources.{Side, at_mapped, imported_showing, side_good, view_in}
+use Rattle.plan_laws.proofs.Sources.{Side, at_mapped, imported_showing, side_good, view_in, import_sights, own_sight}
 use Rattle.plan_laws.proofs.MetNames.{in_declared, in_signature}
-use Rattle.plan_laws.proofs.ViewNames.{declared_inside, function_shows, instance_tree, outside_shows, part_of_function, part_shows}
+use Rattle.plan_laws.proofs.ViewNames.{declared_inside, function_shows, instance_tree, outside_shows, part_of_function, part_shows, path_back, text_of_place}
 use Rattle.base_lemmas.proofs.Elements.{all_at, get-contains}
 use Rattle.base_lemmas.proofs.Lists.{append_of_map, get_back as unmapped_get, map_of_map, mapped_get}
 use Rattle.std.proofs.lemmas.Option.{same_Some as same-some}
-use Rattle.plan_type_laws.proofs.PartPlaces.{parts_weaker}
+use Rattle.plan_type_laws.proofs.PartPlaces.{parts_weaker, exported_place}
 
 -- ---- the instances of a part, as trees
 
 module _ (t : Tables) (tables : AreTables t) (h : Homes) (stand : HomesStand t h) where
-  -- the path of an interface at the top
-  own_path : (m : NumberedMember) (x : reads.Member) → IsMember t h m x → (p : ℕ) (v : NumberedView) (imports : List (ℕ × NumberedView)) (view : follow.View) (views : List (Text × follow.View))
-      → ShowsInterface t h m p v imports view views → path_in x.package_ x.label ≡ path_text t p
-  own_path m x member p v imports view views is =
-      let home = stand.homes p is.path.0 is.path.1 in
-      let pair : ◌≡◌ {A = ℕ × Text} (home.package_, home.name) (m.package_, m.label) = same-some (home.package_, home.name) (m.package_, m.label) (sym home.home ∙ is.home) in
-      let identity : home.identity ≡ x.package_ = same-some home.identity x.package_ (sym home.stands ∙ (ap (λ (y : ℕ × Text). slice_get h.packages y.0) pair ∙ member.package_)) in
-      let name : home.name ≡ x.label = ap (λ (y : ℕ × Text). y.1) pair ∙ sym member.label in
-      sym (path_is t p is.path ∙ ((read_path_is_spelled is.path.0 home.identity home.name home.reads).spelled ∙ (λ i. path_in (identity i) (name i))))
-
   path_given : (p : ℕ) → HasPath t p → Some (path_text t p) ≡ path_at t p
   path_given p path = ap Some (path_is t p path) ∙ sym path.1
 
@@ -67,24 +60,25 @@ module _ (t : Tables) (tables : AreTables t) (h : Homes) (stand : HomesStand t h
       let rest = imports_same imports all.1 in
       λ j. record { interface = front j; view = view_of t i.1 } ∷ rest j
 
-  pub trees_of_part : (m : NumberedMember) (x : reads.Member) → IsMember t h m x → (a : NumberedPart) (b : MeantPart) → ShowsPart t h m a b → IsPartIn t a
-      → instances_of (record { label = x.label; package_ = x.package_; part = b }) ≡ map (instance_tree t tables) (views_of_part a)
-  trees_of_part m x member (world w) (MeantPart.world scope) is good = is.instances ∙ sym (map_of_map (instance_tree t tables) whole_view w.instances)
-  trees_of_part m x member (interface p v imports) (MeantPart.interface view views) is good =
-      let front = ap (map named_instance) is.imported ∙ imports_same imports good.1 in
-      let path = ap Some (own_path m x member p v imports view views is) ∙ path_given p is.path in
+  pub trees_of_part : (m : Member) (x : reads.Member) → IsMember t h (numbered_member m) x → (a : Part) (b : MeantPart) → ShowsPart t h (numbered_member m) (numbered_part a) b
+      → IsPartIn t (numbered_part a) → instances_of (record { label = x.label; package_ = x.package_; part = b }) ≡ map (instance_tree t tables) (views_of_part (numbered_part a))
+  trees_of_part m x member (parts.World w) (MeantPart.world scope) is good = is.instances ∙ sym (map_of_map (instance_tree t tables) whole_view (map numbered_instance w.instances.now))
+  trees_of_part m x member (parts.Interface p v imports) (MeantPart.interface view views) is good =
+      let front = ap (map named_instance) is.imported ∙ imports_same (map numbered_import imports.now) good.1 in
+      let place = exported_place t h stand m x.package_ member.package_ x.label member.label p is.path is.home in
+      let path : Some (path_in x.package_ x.label) ≡ path_at t p = ap text_of_place place ∙ path_back (path_at t p) in
       (λ i. front i ++ record { interface = path i; view = is.shown i } ∷ [])
-      ∙ sym (append_of_map (instance_tree t tables) (map types_alone imports) (record { place = p; view = v; whole = true } ∷ []))
+      ∙ sym (append_of_map (instance_tree t tables) (import_sights p v imports) (own_sight p v imports ∷ []))
   trees_of_part m x member _ _ is good = absurd is
 
   -- the instances of all parts
-  pub trees_of_all : (ms : List NumberedMember) (members : List reads.Member) → AllZip (IsMember t h) ms members → AllByRecursion (λ (m : NumberedMember). IsPartIn t m.part) ms
-      → all_instances members ≡ map (instance_tree t tables) (views_of_members ms)
+  pub trees_of_all : (ms : List Member) (members : List reads.Member) → AllZip (IsMember t h) (numbered_members ms) members → AreMembersIn t (numbered_members ms)
+      → all_instances members ≡ map (instance_tree t tables) (views_of_members (numbered_members ms))
   trees_of_all [] [] zip good = refl
   trees_of_all (m ∷ ms) (x ∷ members) zip good =
       let first = trees_of_part m x zip.0 m.part x.part zip.0.part good.0 in
       let rest = trees_of_all ms members zip.1 good.1 in
-      (λ i. first i ++ rest i) ∙ sym (append_of_map (instance_tree t tables) (views_of_part m.part) (views_of_members ms))
+      (λ i. first i ++ rest i) ∙ sym (append_of_map (instance_tree t tables) (views_of_part (numbered_part m.part)) (views_of_members (numbered_members ms)))
   trees_of_all _ _ zip good = absurd zip
 
   -- ---- some views

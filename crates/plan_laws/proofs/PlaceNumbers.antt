@@ -35,16 +35,6 @@ module _ (ps : List ℕ) (q : ℕ) where
   abbrev first : ℕ
   first = position_or_len (λ x. q == x) ps
 
-  number_by : (b : Bool) → nat_lt first (length ps) ≡ b → (m : ℕ) → cond b (Some first) None ≡ Some m → slice_get ps m ≡ Some q
-  number_by true low m e =
-      let here : first ≡ m = same-some first m e in
-      let within : first < length ps = ltb-true first (length ps) low in
-      let there : q ≡ get_or ps first q = eqb-true q (get_or ps first q) (passes_at_first (λ x. q == x) ps q within) in
-      subst (λ i. slice_get ps i ≡ Some q) here (slice_get-get_or ps first q within ∙ ap Some (sym there))
-  number_by false high m e = let wrong : None ≡ Some m = e in absurd cc
-
-  -- a place stands under its number
-
   given_by : (b : Bool) → nat_lt first (length ps) ≡ b → Contains ps q → (m : ℕ) × (cond b (Some first) None ≡ Some m)
   given_by true low c = (first, refl)
   given_by false high (k, low, e) =

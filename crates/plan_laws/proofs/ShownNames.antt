@@ -49,7 +49,7 @@ module _ (t : Tables) (h : Homes) (ms : List Member) (members : List reads.Membe
   instances = all_instances members
 
   trees : instances ≡ map (instance_tree t input.tables) views
-  trees = trees_of_all t input.tables h input.homes numbered members input.shown input.numbers
+  trees = trees_of_all t input.tables h input.homes ms members input.shown input.numbers
 
   all_good : (s : NumberedSight) → Contains views s → IsViewIn t s.place s.view
   all_good = member_view_in t ms input.numbers

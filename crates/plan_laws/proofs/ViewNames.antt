@@ -45,11 +45,11 @@ declared_inside t n (Some j) k c found = by (is_form t j) c
 
 -- ---- places
 
-abbrev text_of_place : Place → Option Text
+abbrev pub text_of_place : Place → Option Text
 text_of_place Place.here = None
 text_of_place (Place.of_interface path) = Some path
 
-path_back : (o : Option Text) → text_of_place (place_of o) ≡ o
+pub path_back : (o : Option Text) → text_of_place (place_of o) ≡ o
 path_back None = refl
 path_back (Some path) = refl
 

@@ -207,7 +207,7 @@ module _ (t : Tables) (h : Homes) (ms : List Member) (members : List reads.Membe
       uses =
           let split = first_split q views first is_first in
           let front = split.split.front in
-          let trees = trees_of_all t input.tables h input.homes (numbered_members ms) members input.shown input.numbers in
+          let trees = trees_of_all t input.tables h input.homes ms members input.shown input.numbers in
           let here : slice_get views (length front) ≡ Some first = ap (λ xs. slice_get xs (length front)) split.split.is ∙ middle_get front first split.split.back in
           let stands = input.stand.views (length front) (instance_tree t input.tables first)
           (subst (λ xs. slice_get xs (length front) ≡ Some (instance_tree t input.tables first)) (sym trees) (mapped_get (instance_tree t input.tables) views (length front) first here)) in

@@ -74,9 +74,6 @@ module _ (t : Tables) (h : Homes) (ms : List Member) (members : List reads.Membe
   abbrev input : IsInput t h ms members
   input = ruled.input
 
-  abbrev numbered : List NumberedMember
-  numbered = numbered_members ms
-
   abbrev From : NumberedShowing → Type 0
   From = IsFrom t h ms members input ruled.placed.apart
 

@@ -11,9 +11,6 @@ use Rattle.plan_meaning.specs.Renumbering.{IsPart, a_primitive, a_shape}
 use Rattle.plan_meaning.specs.Shapes.{node_shape}
 use Rattle.std.proofs.lemmas.Option.{same_Some as same-some}
 
-no_some : {A B : Type 0} (x : A) → None ≡ Some x → B
-no_some x e = let wrong : ⊥ = cc in absurd wrong
-
 -- ---- numbers
 
 same_kept : (kept : List ℕ) (i j m n : ℕ) → slice_get kept i ≡ Some m → slice_get kept j ≡ Some n → i ≡ j → m ≡ n
