@@ -6,7 +6,7 @@ use Rattle.std.proofs.lemmas.List.Elements.{Contains-append_cases, Contains-appe
 use Rattle.std.proofs.lemmas.Option.{slice_get_within, same_Some as same-some}
 use Rattle.wit_model.specs.Text.{Text}
 use Rattle.wit_model.specs.Uses.{has}
-use Rattle.wit_model.proofs.Elements.{contains-flat, contains-get, contains-has, has-contains, none-in}
+use Rattle.wit_model.proofs.Elements.{contains-get, contains-has, has-contains, none-in}
 use Rattle.comp_meaning.specs.Reads as reads
 use Rattle.plan_meaning.specs.FollowedNumbers.{IsPartIn, IsViewIn}
 use Rattle.plan_meaning.specs.NumberedMembers.{Homes, NumberedMember}
@@ -32,7 +32,6 @@ use Rattle.plan_laws.specs.Owners.{homes_in}
 use Rattle.plan_laws.specs.ShownRules.{ViewObeys}
 use Rattle.plan_laws.specs.Whole.{IsPackageInput}
 use Rattle.plan_laws.specs.WorldItems.{WorldsAreApart}
-use Rattle.plan_laws.proofs.Inside.{flat_cases}
 use Rattle.plan_laws.proofs.Sources.{view_among, among_mapped, mapped_cases, part_at}
 use Rattle.plan_laws.proofs.PlaceNumbers.{IsOnce, from_joined}
 use Rattle.plan_laws.proofs.Planned.{home_alone}

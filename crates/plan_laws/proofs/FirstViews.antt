@@ -1,11 +1,12 @@
 -- All views of one place tell the same of types.
+use Rattle.plan_type_laws.proofs.FirstFound.{first_found}
 use Rattle.read_shown.proofs.Agreement as agreement
 use Rattle.plan_laws.specs.ShownRules.{ViewObeys}
 use Rattle.comp_meaning.specs.Follow.{ShownType}
 use Rattle.comp_meaning.specs.Rules.{distinct}
 use Rattle.base_lemmas.proofs.Lists.{map_of_map}
-use Rattle.std.proofs.Common.{◌≡◌, refl, sym, ap, subst, ◌∙◌, ℕ, zero, suc, arith, Bool, true, false, not, ◌&&◌, ◌||◌, ◌==◌, cond, List, [], ◌∷◌, map, Option, Some, None}
-use Rattle.std.specs.List.{Contains, find, flat_map, list_all}
+use Rattle.std.proofs.Common.{◌≡◌, refl, sym, ap, subst, ◌∙◌, ℕ, zero, suc, arith, Bool, true, false, not, ◌&&◌, ◌||◌, ◌==◌, List, [], ◌∷◌, map, Option, Some, None}
+use Rattle.std.specs.List.{Contains, flat_map, list_all}
 use Rattle.std.specs.Option.{option_map_or}
 use Rattle.std.specs.Cmp.Lexicographic.{pointwise}
 use Rattle.std.proofs.lemmas.Bool.{eq-eqb, eqb-true, and_from as both}
@@ -22,7 +23,6 @@ use Rattle.plan_laws.proofs.Inside.{flat_cases}
 use Rattle.base_lemmas.proofs.Bools.{left_of as first_true, right_of as second_true}
 use Rattle.base_lemmas.proofs.Elements.{all-contained, contains-one, map_from as from_map}
 use Rattle.base_lemmas.proofs.Numbers.{same-number}
-use Rattle.std.proofs.lemmas.Option.{same_Some as same-some}
 use Rattle.wit_model.proofs.TextLemmas.{text_same}
 
 -- ---- what is told of a type
@@ -110,13 +110,4 @@ view_names t s obeys = sym (ap distinct (map_of_map (λ (x : ShownType). x.name)
 
 -- the first view of a place is of it
 pub first_is : (q : ℕ) (all : List NumberedSight) (s : NumberedSight) → first_at q all ≡ Some s → Contains all s × (s.place ≡ q)
-first_is q [] s e = let wrong : None ≡ Some s = e in absurd cc
-first_is q (x ∷ xs) s e = by (q == x.place) refl e (first_is q xs s)
-  where
-    later : Contains xs s → Contains (x ∷ xs) s
-    later (i, low, same) = (suc i, omega (arith, low), same)
-
-    by : (b : Bool) → (q == x.place) ≡ b → cond b (Some x) (find (λ (y : NumberedSight). q == y.place) xs) ≡ Some s → (first_at q xs ≡ Some s → Contains xs s × (s.place ≡ q)) → Contains (x ∷ xs) s
-        × (s.place ≡ q)
-    by true here e deeper = let same : x ≡ s = same-some x s e in ((0, omega arith, same), ap (λ (y : NumberedSight). y.place) (sym same) ∙ sym (eqb-true q x.place here))
-    by false none e deeper = let found = deeper e in (later found.0, found.1)
+first_is q all s e = let found = first_found (λ (y : NumberedSight). q == y.place) all s e in (found.0, sym (eqb-true q s.place found.1))

@@ -3,7 +3,6 @@ use Rattle.std.proofs.Common.{◌≡◌, refl, sym, ap, subst, ◌∙◌, ℕ, a
 use Rattle.std.specs.Prelude.{option_and_then}
 use Rattle.std.specs.List.{AllZip, Contains}
 use Rattle.std.specs.Option.{option_map_or}
-use Rattle.std.proofs.lemmas.List.Elements.{Contains-append_right}
 use Rattle.wit_model.specs.Rules.{is_id}
 use Rattle.wit_model.specs.Text.{Text}
 use Rattle.wit_model.specs.Valid.{as_interface}
@@ -20,15 +19,14 @@ use Rattle.plan_meaning.specs.ReadFunctions.{Beside}
 use Rattle.plan_meaning.proofs.Lists.{no_true}
 use Rattle.plan_meaning.proofs.NumberedMembers.{only_sights}
 use Rattle.plan_meaning.proofs.NumberedWorlds.{path_is}
-use Rattle.read_exports.specs.Members.{numbered_member, numbered_members, numbered_part}
+use Rattle.read_exports.specs.Members.{numbered_members, numbered_part}
 use Rattle.read_exports.specs.declared.members.Member.{Member}
 use Rattle.read_exports.specs.declared.members.Part.{Part}
 use Rattle.read_exports.specs.declared.members.Part.TheVariants as parts
-use Rattle.read_rules.specs.Reached.{numbered_import}
 use Rattle.read_rules.specs.Views.{numbered_view}
 use Rattle.plan_types.specs.PlannedTypes.{number_in}
 use Rattle.plan_package.specs.PlanWhole.{PlansWhole, places_in}
-use Rattle.plan_package.specs.Views.{types_alone, views_of_members, views_of_part}
+use Rattle.plan_package.specs.Views.{views_of_members, views_of_part}
 use Rattle.plan_package.specs.WholeInterfaces.{PlansPlace}
 use Rattle.plan_package.specs.WholePackages.{ListsPlace, interface_in_part, interfaces_in}
 use Rattle.plan_laws.specs.FirstViews.{ViewsAreOrdered, told}
@@ -48,7 +46,7 @@ use Rattle.plan_laws.proofs.ShownWhole.{sight_viewed}
 use Rattle.plan_laws.proofs.Viewed.{planned_interfaces_are_viewed}
 use Rattle.plan_laws.proofs.WholePlacesTop.{sight_of_place}
 use Rattle.plan_laws.proofs.WholeTypes.{packages_are_ruled, path_planned}
-use Rattle.base_lemmas.proofs.Elements.{all_at, contains-later, contains-map, contains-one, get-contains, zip_each}
+use Rattle.base_lemmas.proofs.Elements.{all_at, contains-later, get-contains, zip_each}
 use Rattle.std.proofs.lemmas.Option.{same_Some as same-some}
 use Rattle.plan_package.proofs.ReadPackageLaws.{number_at as number_there}
 

@@ -2,13 +2,12 @@
 use Rattle.read_rules.specs.Reached.{numbered_import}
 use Rattle.read_exports.specs.declared.members.Part.{Part}
 use Rattle.read_exports.specs.declared.members.Member.{Member}
-use Rattle.std.proofs.Common.{◌≡◌, refl, sym, ap, subst, ◌∙◌, ℕ, zero, suc, ◌+◌, ◌⊎◌, inl, inr, arith, Bool, true, List, [], ◌∷◌, ◌++◌, length, map, Option, Some, slice_get}
+use Rattle.std.proofs.Common.{◌≡◌, refl, sym, ap, subst, ◌∙◌, ℕ, zero, suc, ◌+◌, ◌⊎◌, inl, inr, arith, Bool, List, [], ◌∷◌, ◌++◌, length, map, Option, Some, slice_get}
 use Rattle.std.specs.List.{AllByRecursion, AllZip, Contains}
 use Rattle.wit_model.specs.Text.{Text}
 use Rattle.wit_model.specs.Names.{path_in}
 use Rattle.wit_model.specs.Tree.{Declaration, Place}
 use Rattle.wit_model.proofs.Elements.{contains-get}
-use Rattle.wit_model.proofs.NameLaws.{read_path_is_spelled}
 use Rattle.comp_meaning.specs.Follow as follow
 use Rattle.comp_meaning.specs.Follow.{Instance, place_of}
 use Rattle.comp_meaning.specs.Reads as reads
@@ -19,7 +18,7 @@ use Rattle.read_shown.specs.Scopes.{IsDeclared, IsImported, IsMetInScope, IsShow
 use Rattle.read_shown.specs.Trees.{SignatureStands}
 use Rattle.read_shown.specs.Views.{ViewStands}
 use Rattle.plan_meaning.specs.FollowedNumbers.{IsCalledIn, IsMetFrom, IsNameOf, IsPartIn, IsScopeIn, IsSeenIn, IsViewIn, AreMembersIn}
-use Rattle.plan_meaning.specs.NumberedMembers.{Homes, HomesStand, IsMember, NumberedMember, NumberedPart, ShowsInterface, ShowsPart, interface, world}
+use Rattle.plan_meaning.specs.NumberedMembers.{Homes, HomesStand, IsMember, ShowsPart}
 use Rattle.plan_meaning.specs.NumberedViews.{AllOf, AreTables, IsPart, NumberedFunction, NumberedSight, NumberedType, NumberedView, Tables, function_at, path_at, path_text, place_at, signature_at, view_of}
 use Rattle.plan_meaning.specs.NumberedWorlds.{HasPath, Shows, seen_of, shown_of}
 use Rattle.plan_meaning.specs.Shapes.{named_shape}
@@ -43,7 +42,6 @@ use Rattle.plan_laws.proofs.MetNames.{in_declared, in_signature}
 use Rattle.plan_laws.proofs.ViewNames.{declared_inside, function_shows, instance_tree, outside_shows, part_of_function, part_shows, path_back, text_of_place}
 use Rattle.base_lemmas.proofs.Elements.{all_at, get-contains}
 use Rattle.base_lemmas.proofs.Lists.{append_of_map, get_back as unmapped_get, map_of_map, mapped_get}
-use Rattle.std.proofs.lemmas.Option.{same_Some as same-some}
 use Rattle.plan_type_laws.proofs.PartPlaces.{parts_weaker, exported_place}
 
 -- ---- the instances of a part, as trees

@@ -1,10 +1,9 @@
 -- All functions of a whole plan are those that were read, each in its own place.
-use Rattle.std.proofs.Common.{◌≡◌, refl, sym, ap, subst, ◌∙◌, ℕ, Bool, true, false, ◌==◌, ◌&&◌, cond, List, [], ◌∷◌, Some}
+use Rattle.plan_laws.proofs.ListedFunctions.{function_of_view}
+use Rattle.std.proofs.Common.{◌≡◌, refl, sym, ap, subst, ◌∙◌, ℕ, true, false, List, Some}
 use Rattle.std.specs.List.{AllByRecursion, Contains}
-use Rattle.std.proofs.lemmas.Bool.{eqb-true}
 use Rattle.wit_model.specs.Text.{Text}
 use Rattle.wit_model.specs.Valid.{as_interface, as_world}
-use Rattle.wit_model.proofs.Elements.{none-in}
 use Rattle.comp_meaning.specs.Reads as reads
 use Rattle.plan_meaning.specs.GatheredPlan.{functions_seen}
 use Rattle.plan_meaning.specs.NumberedMembers.{Homes, NumberedMember, home_at}
@@ -37,29 +36,7 @@ use Rattle.plan_laws.proofs.Planned.{first_there}
 use Rattle.plan_laws.proofs.ShownRules.{all_of}
 use Rattle.plan_laws.proofs.WholeFunctions.{world_functions_are_read}
 use Rattle.plan_laws.proofs.WorldItems.{planned_worlds_stand}
-use Rattle.base_lemmas.proofs.Elements.{all_at, contains-later, get-contains, map_from as from_map, zip_at_right as zip_get}
-
--- ---- where a function of a place is shown
-
--- by a view of the place that shows functions
-record IsFunctionOf (q : ℕ) (seen : List NumberedSight) (f : Text × NumberedFunction) : Type 0 where
-  sight : NumberedSight
-  among : Contains seen sight
-  place : sight.place ≡ q
-  whole : sight.whole ≡ true
-  there : Contains sight.view.functions f
-
-function_of : (q : ℕ) (seen : List NumberedSight) (f : Text × NumberedFunction) → Contains (functions_seen q seen) f → IsFunctionOf q seen f
-function_of q [] f c = none-in f c
-function_of q (s ∷ seen) f c = by (s.place == q) refl s.whole refl c (λ later. function_of q seen f later)
-  where
-    further : IsFunctionOf q seen f → IsFunctionOf q (s ∷ seen) f
-    further is = record { sight = is.sight; among = contains-later s seen is.sight is.among; place = is.place; whole = is.whole; there = is.there }
-
-    by : (a : Bool) → (s.place == q) ≡ a → (b : Bool) → s.whole ≡ b → Contains (cond (a && b) s.view.functions (functions_seen q seen)) f → (Contains (functions_seen q seen) f → IsFunctionOf q seen f)
-        → IsFunctionOf q (s ∷ seen) f
-    by true same true whole here later = record { sight = s; among = get-contains (s ∷ seen) 0 s refl; place = eqb-true s.place q same; whole = whole; there = here }
-    by _ _ _ whole more later = further (later more)
+use Rattle.base_lemmas.proofs.Elements.{all_at, get-contains, map_from as from_map, zip_at_right as zip_get}
 
 module _ (t : Tables) (h : Homes) (ms : List Member) (members : List reads.Member) (ruled : IsRuledInput t h ms members) (alike : AreShownAlike ms) (ordered : ViewsAreOrdered t ms)
     (worlds_apart : WorldsAreApart ms)
@@ -93,7 +70,7 @@ module _ (t : Tables) (h : Homes) (ms : List Member) (members : List reads.Membe
     entry_read : (e : Text × PlannedFunction) → Contains i.functions e → IsReadFunction t planned.kept p beside (as_interface n) e.1
     entry_read e e_in =
         let f = partner_back (IsPlannedFunction t planned.kept made.find) (functions_seen q views) i.functions made.functions e e_in in
-        let of = function_of q views f.0 f.1 in
+        let of = function_of_view q views f.0 f.1 in
         subst (λ o. IsReadFunction t planned.kept p beside o e.1) owner
         (view_function t h ms members ruled main p planned first first_in (member_view_in t ms ruled.input.numbers first first_in)
         (view_names t first (all_at (ViewObeys t) views ruled.rules.views first first_in)) made.find

@@ -17,7 +17,7 @@ use Rattle.comp_meaning.specs.Rules as rules
 use Rattle.plan_meaning.specs.FollowedNumbers.{IsCalledIn, IsNameOf, IsShownIn}
 use Rattle.plan_meaning.specs.GatheredPlan.{FunctionBecomes}
 use Rattle.plan_meaning.specs.KeptFunctions.{IsResource}
-use Rattle.plan_meaning.specs.NumberedMembers.{Homes, NumberedMember, home_at}
+use Rattle.plan_meaning.specs.NumberedMembers.{Homes, home_at}
 use Rattle.plan_meaning.specs.NumberedRules.{Fact, is_no_part}
 use Rattle.plan_meaning.specs.NumberedViews.{NumberedType, PartsOf, Tables, value, function_at, place_at, signature_at}
 use Rattle.plan_meaning.specs.NumberedWorlds.{seen_of, shown_of}
@@ -26,7 +26,6 @@ use Rattle.plan_meaning.specs.PlanRules.{world_functions}
 use Rattle.plan_meaning.specs.ReadFunctions.{Beside, IsReadFunction}
 use Rattle.plan_meaning.specs.Shapes.{named_shape}
 use Rattle.plan_parts.specs.Interfaces.{AreResources, IsPlannedFunction, slot_part}
-use Rattle.read_exports.specs.Members.{numbered_members}
 use Rattle.read_exports.specs.declared.members.Member.{Member}
 use Rattle.read_exports.specs.declared.members.Part.TheVariants as parts
 use Rattle.read_rules.specs.declared.scopes.Scope.{Scope}
