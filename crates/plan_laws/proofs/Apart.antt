@@ -32,10 +32,9 @@ use Rattle.plan_laws.specs.Owners.{homes_in}
 use Rattle.plan_laws.specs.ShownRules.{ViewObeys}
 use Rattle.plan_laws.specs.Whole.{IsPackageInput}
 use Rattle.plan_laws.specs.WorldItems.{WorldsAreApart}
-use Rattle.plan_laws.proofs.Sources.{view_among, among_mapped, mapped_cases, part_at}
+use Rattle.plan_laws.proofs.Sources.{view_among, among_mapped, mapped_cases, part_at, IsWorldIn, world_in}
 use Rattle.plan_laws.proofs.PlaceNumbers.{IsOnce, from_joined}
 use Rattle.plan_laws.proofs.Planned.{home_alone}
-use Rattle.plan_laws.proofs.ShownFrom.{IsWorldOf, world_of}
 use Rattle.plan_laws.proofs.WholePlacesInstances.{as_many, one_of}
 use Rattle.plan_laws.proofs.OwnPlaces.{different, no_longer, filtered_there, unfiltered_once}
 use Rattle.plan_laws.proofs.WholeTypes.{packages_are_ruled}
@@ -132,8 +131,8 @@ module _ (t : Tables) (h : Homes) (known : ℕ → Fact) (n : ℕ) (ms : List Me
   abbrev homes : List Member → List ℕ
   homes xs = flat_map (λ (m : NumberedMember). home_of_part m.part) (numbered_members xs)
 
-  world_is : (m : Member) → Contains ms m → (w : Scope) → m.part ≡ parts.World w → IsWorldOf t h ms members given.input given.placed.apart w
-  world_is m c w is = world_of t h ms members given.input given.placed.apart m c w is
+  world_is : (m : Member) → Contains ms m → (w : Scope) → m.part ≡ parts.World w → IsWorldIn t h ms members given.input w
+  world_is m c w is = world_in t h ms members given.input m c w is
 
   -- as many views and worlds of a member have no path as it has places of its own
   part_many : (m : Member) → Contains ms m → (a : Part) → m.part ≡ a
@@ -141,7 +140,7 @@ module _ (t : Tables) (h : Homes) (known : ℕ → Fact) (n : ℕ) (ms : List Me
   part_many m c (parts.World w) is = by (places_of_seen (numbered_scope w).imports ++ places_of_seen (numbered_scope w).exports) refl
       (as_many t (numbered_scope w) followed.scope followed.good followed.shows followed.stands.seen)
     where
-      followed : IsWorldOf t h ms members given.input given.placed.apart w
+      followed : IsWorldIn t h ms members given.input w
       followed = world_is m c w is
 
       home : has_no_path t w.home ≡ true

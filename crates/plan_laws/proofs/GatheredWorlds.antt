@@ -44,10 +44,10 @@ use Rattle.plan_laws.specs.WholeWorlds.{IsUnderKey, WorldIsFollowed, WorldsAreFo
 use Rattle.plan_laws.specs.WorldItems.{KeysAreApart, TypesAreRead, WorldsAreApart}
 use Rattle.plan_laws.proofs.GatheredInterfaces.{interface_at, path_same}
 use Rattle.plan_laws.proofs.OwnPlaces.{a_view, frames, one_owned}
-use Rattle.plan_laws.proofs.Sources.{Side, seen_sight, side_good, side_is, sight_of}
+use Rattle.plan_laws.proofs.Sources.{Side, seen_sight, side_good, side_is, sight_of, IsWorldIn, world_in}
 use Rattle.plan_meaning.specs.ReadWorlds.{is_type_seen}
 use Rattle.plan_laws.proofs.ShownAlike.{view_owned}
-use Rattle.plan_laws.proofs.ShownFrom.{IsWorldOf, view_frame, world_of}
+use Rattle.plan_laws.proofs.ShownFrom.{view_frame}
 use Rattle.plan_laws.proofs.WholeFunctions.{seen_becomes}
 use Rattle.plan_laws.proofs.WholePlacesLabels.{world_among}
 use Rattle.plan_laws.proofs.WholeReasonsFunctions.{first_whole}
@@ -78,8 +78,8 @@ module _ (t : Tables) (h : Homes) (known : ℕ → Fact) (n : ℕ) (ms : List Me
   -- ---- a world
 
   module _ (m : Member) (c : Contains ms m) (w : Scope) (is : m.part ≡ parts.World w) (find : Text → Option TypeId) where
-    of : IsWorldOf t h ms members given.input given.placed.apart w
-    of = world_of t h ms members given.input given.placed.apart m c w is
+    of : IsWorldIn t h ms members given.input w
+    of = world_in t h ms members given.input m c w is
 
     keys_there : WorldIsFollowed t (numbered_scope w)
     keys_there = all_at (λ (x : Text × Scope). WorldIsFollowed t (numbered_scope x.1)) (worlds_in ms) under (m.label.now, w) (world_among ms m c w is)
@@ -156,7 +156,7 @@ module _ (t : Tables) (h : Homes) (known : ℕ → Fact) (n : ℕ) (ms : List Me
   -- ---- all worlds
 
   -- the keys of its imports differ
-  keys_differ : (w : Scope) → IsWorldOf t h ms members given.input given.placed.apart w → KeysAreApart w
+  keys_differ : (w : Scope) → IsWorldIn t h ms members given.input w → KeysAreApart w
   keys_differ w is i j a c at_a at_c same =
       let key = λ (s : NumberedSeen). s.key in
       one_place (map key (map numbered_seen w.imports.now)) (keys_apart t h ms members given.input given.placed.apart w is) i j c.key.now
@@ -168,7 +168,7 @@ module _ (t : Tables) (h : Homes) (known : ℕ → Fact) (n : ℕ) (ms : List Me
       let x = zip_at (PlansWorld t planned.kept (places_in ms) n) (worlds_in ms) p.worlds planned.worlds j w at in
       let m = world_member ms w (get-contains (worlds_in ms) j w at) in
       let stands = planned_worlds_stand t h ms members given.input ruled.agree ordered apart n p planned b refl j w at in
-      let types = stands.types (keys_differ w.1 (world_of t h ms members given.input given.placed.apart m.0 m.1 w.1 m.2)) in
+      let types = stands.types (keys_differ w.1 (world_in t h ms members given.input m.0 m.1 w.1 m.2)) in
       record { world = x.0; stands = x.1; becomes = world_becomes m.0 m.1 w.1 m.2 x.2.find x.2.resources types x.0 x.2.imports x.2.exports }
 
   abbrev entry : Text × Scope → Text × NumberedScope

@@ -1,5 +1,6 @@
 -- Each instance of a world has the place of one that it imports or exports.
-use Rattle.std.proofs.Common.{◌≡◌, refl, sym, ap, subst, ◌∙◌, ℕ, ◌⊎◌, inl, inr, true, false, List, map, Option, Some, None}
+use Rattle.plan_laws.proofs.ShownFrom.{own_once}
+use Rattle.std.proofs.Common.{◌≡◌, refl, sym, ap, subst, ◌∙◌, ℕ, ◌⊎◌, inl, inr, true, false, List, map, Option, Some, None, filter}
 use Rattle.std.specs.List.{AllByRecursion, Contains, flat_map}
 use Rattle.std.proofs.lemmas.List.Elements.{Contains-append_cases, Contains-append_left, Contains-append_right}
 use Rattle.wit_model.specs.Text.{Text}
@@ -10,7 +11,7 @@ use Rattle.comp_meaning.specs.Reads as reads
 use Rattle.read_shown.specs.Instances as tree
 use Rattle.read_shown.specs.Instances.{going, instances_in}
 use Rattle.plan_meaning.specs.FollowedNumbers.{IsSeenIn}
-use Rattle.plan_meaning.specs.NumberedMembers.{Homes, NumberedMember}
+use Rattle.plan_meaning.specs.NumberedMembers.{Homes, NumberedMember, world}
 use Rattle.plan_meaning.specs.NumberedViews.{AreTables, NumberedFunction, NumberedSight, NumberedType, Tables, path_at}
 use Rattle.plan_meaning.specs.NumberedWorlds as worlds
 use Rattle.plan_meaning.specs.NumberedWorlds.{HasPath, KeyStands, NumberedInstance, NumberedKey, NumberedSeen, NumberedShown, are_once, instance_of, key_of, place_of_key, seen_of, shown_of}
@@ -32,12 +33,11 @@ use Rattle.read_rules.specs.Views.{numbered_view}
 use Rattle.plan_types.specs.Showings.{NumberedShowing, showing_of, showings_of_import, showings_of_members, showings_of_part, showings_of_seen, showings_of_shown, showings_of_view, signatures_of_members, signatures_of_part, signatures_of_seen, signatures_of_shown}
 use Rattle.plan_package.specs.Views.{types_alone, views_of_members, views_of_part, whole_view}
 use Rattle.std.proofs.lemmas.Option.{same_Some as same-some}
-use Rattle.plan_laws.proofs.Sources.{Side, interface_views, mapped_cases, own_sight, seen_sight, side_shows, sight_of}
-use Rattle.plan_type_laws.specs.ShownMarks.{own_places}
+use Rattle.plan_laws.proofs.Sources.{Side, interface_views, mapped_cases, own_sight, seen_sight, side_shows, sight_of, IsWorldIn, world_in}
+use Rattle.plan_type_laws.specs.ShownMarks.{own_places, has_no_path, places_of_part}
 use Rattle.plan_laws.specs.ShownNames.{IsInput}
 use Rattle.plan_laws.proofs.Inside.{flat_cases}
 use Rattle.plan_laws.proofs.OwnPlaces.{inline_of, inline_seen, inlines}
-use Rattle.plan_laws.proofs.ShownFrom.{IsWorldOf, world_of}
 use Rattle.base_lemmas.proofs.Elements.{all_at, contains-map, last_of as one-contained, map_from as from_map}
 use Rattle.plan_laws.proofs.ShownRules.{one_way as either_way}
 
@@ -64,7 +64,8 @@ module _ (t : Tables) (tables : AreTables t) where
           (one-contained (record { interface = interface_of (key_of t k); view = _ }) (instance_of t i) there) ∙ path.1))
       by key id _ is there = none-in (instance_of t i) there
 
-module _ (t : Tables) (h : Homes) (ms : List Member) (members : List reads.Member) (input : IsInput t h ms members) (apart : are_once (own_places t (numbered_members ms)) ≡ true) (w : Scope) (is : IsWorldOf t h ms members input apart w) where
+module _ (t : Tables) (h : Homes) (ms : List Member) (members : List reads.Member) (input : IsInput t h ms members) (w : Scope) (is : IsWorldIn t h ms members input w)
+    (once : are_once (filter (has_no_path t) (places_of_part (world (numbered_scope w)))) ≡ true) where
   inline_place : (ss : List NumberedSeen) (i : NumberedInstance) → Contains (inlines t ss) i → (s : NumberedSeen) × Contains ss s × (place_shown s.shown ≡ Some i.place)
   inline_place ss i c = let from = flat_cases (λ (s : NumberedSeen). inline_of t s.shown) ss i c in (from.0, from.1, by from.0.shown from.2)
     where
@@ -105,7 +106,7 @@ module _ (t : Tables) (h : Homes) (ms : List Member) (members : List reads.Membe
           (subst (λ xs. Contains xs (instance_of t i)) (sym (is.stands.seen.all ∙ is.shows.instances)) (contains-map (instance_of t) (numbered_scope w).instances i c)))
       by None e =
           without (Contains-append_cases (inlines t (map numbered_seen w.imports.now)) (inlines t (map numbered_seen w.exports.now)) i
-          (inline_seen t (numbered_scope w) is.good is.scope is.shows is.stands.seen is.once i c e))
+          (inline_seen t (numbered_scope w) is.good is.scope is.shows is.stands.seen once i c e))
 
 -- ---- what is shown of a place
 
@@ -130,15 +131,15 @@ module _ (t : Tables) (h : Homes) (ms : List Member) (members : List reads.Membe
         contains-flat (λ (x : Member). signatures_of_part x.part) ms m k c (subst (λ a. Contains (signatures_of_part a) k) (sym is) (side_shows w signatures_of_seen s k side there))
 
     instance_shown : (i : NumberedInstance) → Contains (map numbered_instance w.instances.now) i → IsShownSo (whole_view i)
-    instance_shown i among = let seen = instance_seen t h ms members input apart w world i among in by seen.seen seen.among seen.seen.shown refl seen.place
+    instance_shown i among = let seen = instance_seen t h ms members input w of (own_once t h ms members input apart m c w is) i among in by seen.seen seen.among seen.seen.shown refl seen.place
       where
-        world : IsWorldOf t h ms members input apart w
-        world = world_of t h ms members input apart m c w is
+        of : IsWorldIn t h ms members input w
+        of = world_in t h ms members input m c w is
 
         by : (s : Seen) → Side w s → (x : Shown) → s.shown ≡ x → place_shown (numbered_shown x) ≡ Some i.place → IsShownSo (whole_view i)
         by s side (shown.Instance key v) e at = record {
           other = sight_of key v;
-          among = seen_sight t ms m c w is world.good s side key v e;
+          among = seen_sight t ms m c w is of.good s side key v e;
           place = same-some (place_of_key (numbered_key key)) i.place at;
           whole = λ f. refl;
           types = λ x there. seen_showing s side (showing_of x) (subst (λ k. Contains (showings_of_shown k (given_text s.external_id)) (showing_of x)) (sym e)

@@ -245,7 +245,8 @@ once_last (x ∷ xs) ys once = once_last xs ys (once_behind x (xs ++ ys) once)
 pub once_first : (xs ys : List ℕ) → are_once (xs ++ ys) ≡ true → are_once xs ≡ true
 once_first [] ys once = refl
 once_first (x ∷ xs) ys once =
-    both (not (has xs x)) (are_once xs) (ap not (false_from_ne_true (has xs x) (λ h. let c = has-contains xs x h in not_among x (xs ++ ys) once (Contains-append_left xs ys x c)))) (once_first xs ys (once_behind x (xs ++ ys) once))
+    both (not (has xs x)) (are_once xs) (ap not (false_from_ne_true (has xs x) (λ h. let c = has-contains xs x h in not_among x (xs ++ ys) once (Contains-append_left xs ys x c))))
+    (once_first xs ys (once_behind x (xs ++ ys) once))
 
 pub once_inside : {A : Type 0} (test : ℕ → Bool) (f : A → List ℕ) (xs : List A) → are_once (filter test (flat_map f xs)) ≡ true → (x : A) → Contains xs x → are_once (filter test (f x)) ≡ true
 once_inside test f [] once x c = none-in x c

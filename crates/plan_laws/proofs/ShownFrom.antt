@@ -1,12 +1,10 @@
 -- Where each type that is shown comes from: a view, or an import of a world.
-use Rattle.std.proofs.Common.{◌≡◌, refl, sym, ap, subst, ◌∙◌, ℕ, zero, ◌⊎◌, inl, inr, arith, true, false, filter, List, [], ◌∷◌, ◌++◌, map, Some, None}
-use Rattle.std.specs.List.{AllByRecursion, Contains}
+use Rattle.std.proofs.Common.{◌≡◌, refl, sym, ap, subst, ◌∙◌, ℕ, zero, ◌⊎◌, inl, inr, arith, true, filter, List, [], ◌∷◌, ◌++◌, map, Some, None}
+use Rattle.std.specs.List.{Contains}
 use Rattle.std.proofs.lemmas.List.Elements.{Contains-append_cases, Contains-append_left, Contains-append_right}
 use Rattle.wit_model.proofs.Elements.{contains-flat, none-in}
-use Rattle.comp_meaning.specs.Follow as follow
 use Rattle.comp_meaning.specs.Reads as reads
-use Rattle.read_shown.specs.Parts.{WorldStands}
-use Rattle.plan_meaning.specs.FollowedNumbers.{IsPartIn, IsScopeIn, IsViewIn}
+use Rattle.plan_meaning.specs.FollowedNumbers.{IsPartIn, IsViewIn}
 use Rattle.plan_meaning.specs.NumberedMembers.{Homes, NumberedMember, world}
 use Rattle.plan_meaning.specs.NumberedViews.{NumberedSight, NumberedType, NumberedView, Tables, path_at}
 use Rattle.plan_meaning.specs.NumberedWorlds as worlds
@@ -19,16 +17,15 @@ use Rattle.read_rules.specs.declared.scopes.Scope.{Scope}
 use Rattle.read_rules.specs.declared.scopes.Seen.{Seen}
 use Rattle.read_rules.specs.declared.scopes.Shown.TheVariants as shown
 use Rattle.read_rules.specs.Reached.{numbered_import}
-use Rattle.read_rules.specs.Scopes.{numbered_instance, numbered_scope, numbered_seen, numbered_shown}
+use Rattle.read_rules.specs.Scopes.{numbered_instance, numbered_scope, numbered_seen}
 use Rattle.plan_types.specs.Showings.{NumberedShowing, showing_of, showings_of_members}
 use Rattle.plan_package.specs.Views.{types_alone, views_of_members, views_of_part, whole_view}
 use Rattle.plan_type_laws.specs.ShownMarks.{has_no_path, own_places, places_of_part}
-use Rattle.plan_laws.specs.ShownNames.{DeclaresName, IsInput}
+use Rattle.plan_laws.specs.ShownNames.{IsInput}
 use Rattle.plan_laws.proofs.Inside.{flat_cases}
-use Rattle.plan_meaning.specs.ReadWorlds.{is_type_seen}
 use Rattle.read_rules.specs.declared.reached.ImportedView.{ImportedView}
 use Rattle.plan_laws.proofs.Sources as sources
-use Rattle.plan_laws.proofs.Sources.{among_mapped, at_mapped, interface_views, mapped_cases, origin, own_sight, part_at, view_among, view_in, world_in}
+use Rattle.plan_laws.proofs.Sources.{among_mapped, at_mapped, interface_views, mapped_cases, origin, own_sight, part_at, view_among, view_in, world_in, IsWorldIn}
 use Rattle.plan_laws.proofs.OwnPlaces.{Frame, a_view, a_world, frames, frames_of_part, frames_of_seen, frames_of_shown, inline_of, inline_seen, inlines, once_inside}
 use Rattle.base_lemmas.proofs.Elements.{contains-later, contains-map, last_of as one-contained, map_from as from_map}
 
@@ -39,31 +36,10 @@ module _ (t : Tables) (h : Homes) (ms : List Member) (members : List reads.Membe
   abbrev views : List NumberedSight
   views = views_of_members numbered
 
-  -- ---- one member
-
-  -- a world that is exported, and what it stands for
-  pub record IsWorldOf (w : Scope) : Type 0 where
-    pub scope : follow.Scope
-    pub shows : Shows t (numbered_scope w) scope
-    pub stands : WorldStands scope
-    pub good : IsScopeIn t (numbered_scope w)
-    pub declares : AllByRecursion (DeclaresName t w.home) w.imports.now
-    pub none : AllByRecursion (λ (s : Seen). is_type_seen (numbered_shown s.shown) ≡ false) w.exports.now
-    pub once : are_once (filter (has_no_path t) (places_of_part (world (numbered_scope w)))) ≡ true
-
-  pub world_of : (m : Member) → Contains ms m → (w : Scope) → m.part ≡ parts.World w → IsWorldOf w
-  world_of m c w is =
-      let of = world_in t h ms members input m c w is in
-      record {
-        scope = of.scope;
-        shows = of.shows;
-        stands = of.stands;
-        good = of.good;
-        declares = of.declares;
-        none = of.none;
-        once = subst (λ a. are_once (filter (has_no_path t) (places_of_part (numbered_part a))) ≡ true) is
-            (once_inside (has_no_path t) (λ (x : NumberedMember). places_of_part x.part) numbered apart (numbered_member m) (contains-map numbered_member ms m c));
-      }
+  -- the places of a world stand once
+  pub own_once : (m : Member) → Contains ms m → (w : Scope) → m.part ≡ parts.World w → are_once (filter (has_no_path t) (places_of_part (world (numbered_scope w)))) ≡ true
+  own_once m c w is = subst (λ a. are_once (filter (has_no_path t) (places_of_part (numbered_part a))) ≡ true) is
+      (once_inside (has_no_path t) (λ (x : NumberedMember). places_of_part x.part) numbered apart (numbered_member m) (contains-map numbered_member ms m c))
 
   -- ---- frames
 
@@ -88,18 +64,19 @@ module _ (t : Tables) (h : Homes) (ms : List Member) (members : List reads.Membe
   pub view_frame : (s : NumberedSight) → Contains views s → path_at t s.place ≡ None → Contains (frames numbered) (s.place, a_view s.view)
   view_frame s c none =
       let m = mapped_cases (λ (x : NumberedMember). views_of_part x.part) numbered_member ms s c in
-      member_frame m.0 m.1 (s.place, a_view s.view) (by m.0.part (λ w is. world_of m.0 m.1 w is) (part_at t ms input.numbers m.0 m.1) m.2)
+      member_frame m.0 m.1 (s.place, a_view s.view) (by m.0.part (λ w is. (world_in t h ms members input m.0 m.1 w is, own_once m.0 m.1 w is)) (part_at t ms input.numbers m.0 m.1) m.2)
     where
       outside : (p : ℕ) → HasPath t p → p ≡ s.place → ⊥
       outside p path e = let wrong : None ≡ Some path.0 = sym none ∙ (ap (path_at t) (sym e) ∙ path.1) in cc
 
-      by : (a : Part) → ((w : Scope) → a ≡ parts.World w → IsWorldOf w) → IsPartIn t (numbered_part a) → Contains (views_of_part (numbered_part a)) s
+      by : (a : Part) → ((w : Scope) → a ≡ parts.World w → IsWorldIn t h ms members input w × (are_once (filter (has_no_path t) (places_of_part (world (numbered_scope w)))) ≡ true))
+          → IsPartIn t (numbered_part a) → Contains (views_of_part (numbered_part a)) s
           → Contains (frames_of_part (numbered_part a)) (s.place, a_view s.view)
       by (parts.World w) of good among =
-          let is = of w refl in
+          let is = (of w refl).0 in
           let from = from_map whole_view (map numbered_instance w.instances.now) s among in
           let same : from.0.place ≡ s.place = ap (λ (x : NumberedSight). x.place) from.2 in
-          let seen = inline_seen t (numbered_scope w) is.good is.scope is.shows is.stands.seen is.once from.0 from.1 (ap (path_at t) same ∙ none) in
+          let seen = inline_seen t (numbered_scope w) is.good is.scope is.shows is.stands.seen (of w refl).1 from.0 from.1 (ap (path_at t) same ∙ none) in
           subst (λ (x : NumberedSight). Contains (frames_of_part (world (numbered_scope w))) (x.place, a_view x.view)) from.2
           (contains-later (w.home, a_world (numbered_scope w)) (frames_of_seen (map numbered_seen w.imports.now) ++ frames_of_seen (map numbered_seen w.exports.now)) (from.0.place, a_view from.0.view)
           (either (map numbered_seen w.imports.now) (map numbered_seen w.exports.now) from.0

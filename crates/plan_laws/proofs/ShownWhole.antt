@@ -1,4 +1,5 @@
 -- The worlds of a plan show what worlds at the top do, and each view shows the types by which its place is read.
+use Rattle.plan_laws.proofs.ShownFrom.{own_once}
 use Rattle.std.proofs.Common.{◌≡◌, refl, sym, ap, subst, ◌∙◌, ℕ, inl, inr, ◌==◌, true, List, [], ◌∷◌, ◌++◌, map, Option, Some, None}
 use Rattle.std.specs.List.{AllByRecursion, AllZip, Contains}
 use Rattle.std.specs.Option.{option_map_or}
@@ -37,14 +38,13 @@ use Rattle.plan_laws.specs.ShownWhole.{WholeIsShown}
 use Rattle.plan_laws.specs.ViewedInterfaces.{views_read}
 use Rattle.plan_laws.specs.Whole.{IsPackageInput}
 use Rattle.plan_laws.specs.WholeTypes.{IsRuledInput}
-use Rattle.plan_laws.proofs.Sources.{Side, partner}
+use Rattle.plan_laws.proofs.Sources.{Side, partner, world_in as world_of}
 use Rattle.plan_laws.proofs.FirstTypes.{views_told}
 use Rattle.plan_laws.proofs.FirstViews.{first_is, told_types}
 use Rattle.plan_laws.proofs.Inside.{flat_cases}
 use Rattle.plan_laws.proofs.InstanceSeen.{instance_seen}
 use Rattle.plan_laws.proofs.PlaceNumbers.{one_owner, owner_numbered}
 use Rattle.plan_laws.proofs.Planned.{found_there}
-use Rattle.plan_laws.proofs.ShownFrom.{world_of}
 use Rattle.plan_laws.proofs.WholePlacesLabels.{world_among}
 use Rattle.plan_laws.proofs.WholeTypes.{packages_are_ruled}
 use Rattle.base_lemmas.proofs.Elements.{all_at, contains-map, last_of as one-contained, zip_at, map_from as from_map}
@@ -150,7 +150,8 @@ module _ (t : Tables) (h : Homes) (known : ℕ → Fact) (n : ℕ) (ms : List Me
   worlds_show m c w is i among =
       let j = contains-get (worlds_in ms) (m.label.now, w) (world_among ms m c w is) in
       let x = zip_at (PlansWorld t planned.kept (places_in ms) n) (worlds_in ms) p.worlds planned.worlds j.0 (m.label.now, w) j.1 in
-      let seen = instance_seen t h ms members given.input given.placed.apart w (world_of t h ms members given.input given.placed.apart m c w is) i among in
+      let seen = instance_seen t h ms members given.input w (world_of t h ms members given.input m c w is)
+      (own_once t h ms members given.input given.placed.apart m c w is) i among in
       by j.0 x.0 x.1 x.2 (read.order.worlds j.0 x.0 x.1) refl seen.seen seen.among seen.place
     where
       by : (j : ℕ) (x : PlannedWorld) (there : world_in p j ≡ Some x) → PlansWorld t planned.kept (places_in ms) n (m.label.now, w) x → (r : Read j x) → read.order.worlds j x there ≡ r

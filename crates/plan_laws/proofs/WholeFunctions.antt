@@ -1,6 +1,6 @@
 -- The functions of a whole plan are those that were read.
 use Rattle.plan_type_laws.proofs.PartPlaces.{slot_number}
-use Rattle.plan_laws.proofs.Sources.{Side, partner_back, side_good, side_shows, world_in}
+use Rattle.plan_laws.proofs.Sources.{Side, partner_back, side_good, side_shows, world_in, IsWorldIn}
 use Rattle.plan_laws.proofs.ShownRules.{IsItemAmong, IsResourceIn, item_obeys}
 use Rattle.std.proofs.Common.{◌≡◌, refl, sym, ap, subst, ◌∙◌, ℕ, zero, ◌+◌, ◌⊎◌, inl, inr, arith, Bool, true, false, filter_map, List, [], ◌∷◌, map, Option, Some, None, slice_get}
 use Rattle.std.specs.List.{AllByRecursion, AllZip, Contains, cons_option, flat_map}
@@ -46,7 +46,7 @@ use Rattle.plan_laws.proofs.Inside.{flat_cases, name_same}
 use Rattle.plan_laws.proofs.ReadFunction.{function_becomes, read_function, resource_at, told}
 use Rattle.plan_laws.proofs.Planned.{kept_number}
 use Rattle.plan_laws.proofs.Showings.{import_named}
-use Rattle.plan_laws.proofs.ShownFrom.{IsFrom, IsWorldOf, of_import, of_view, shown_from, world_of}
+use Rattle.plan_laws.proofs.ShownFrom.{IsFrom, of_import, of_view, shown_from}
 use Rattle.plan_laws.proofs.WorldKeys.{by_imports, view_apart}
 use Rattle.base_lemmas.proofs.Elements.{all_at, contains-later, contains-one, get-contains, last_of as one-contained, map_from as from_map}
 use Rattle.std.proofs.lemmas.Option.{same_Some as same-some}
@@ -83,8 +83,8 @@ module _ (t : Tables) (h : Homes) (ms : List Member) (members : List reads.Membe
   -- ---- a world
 
   module _ (m : Member) (c : Contains ms m) (w : Scope) (is_world : m.part ≡ parts.World w) where
-    abbrev is : IsWorldOf t h ms members input ruled.placed.apart w
-    is = world_of t h ms members input ruled.placed.apart m c w is_world
+    abbrev is : IsWorldIn t h ms members input w
+    is = world_in t h ms members input m c w is_world
 
     abbrev all_seen : List follow.Seen
     all_seen = map (seen_of t) (map numbered_seen w.imports.now)

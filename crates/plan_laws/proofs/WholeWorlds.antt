@@ -1,5 +1,5 @@
 -- The worlds of a whole plan are those that were read.
-use Rattle.plan_laws.proofs.Sources.{Side, side_good, side_is}
+use Rattle.plan_laws.proofs.Sources.{Side, side_good, side_is, IsWorldIn, world_in as world_of}
 use Rattle.std.proofs.Common.{◌≡◌, refl, sym, ap, subst, ◌∙◌, ℕ, ◌+◌, ◌<◌, inl, inr, arith, Bool, true, false, not, ◌&&◌, List, [], ◌++◌, length, map, option_to_list, Option, Some, None, slice_get}
 use Rattle.std.specs.List.{AllByRecursion, Contains, list_all, AllZip}
 use Rattle.std.proofs.Math.ListN.{length-map}
@@ -55,7 +55,6 @@ use Rattle.plan_laws.specs.WholeWorlds.{IsCounted, IsLastType, IsReadAs, IsUnder
 use Rattle.plan_laws.specs.WorldItems.{KeysAreApart, WorldIsPlanned, WorldsAreApart}
 use Rattle.plan_laws.proofs.FollowedItems.{items, items_at, items_behind, items_listed, items_seen, parts_back, seen_resource, types_behind}
 use Rattle.plan_laws.proofs.PlaceNumbers.{one_owner}
-use Rattle.plan_laws.proofs.ShownFrom.{IsWorldOf, world_of}
 use Rattle.plan_laws.proofs.Showings.{all_given}
 use Rattle.plan_laws.proofs.WholeTypes.{packages_are_ruled}
 use Rattle.plan_laws.proofs.WorldItems.{planned_worlds_stand, world_member}
@@ -89,8 +88,8 @@ module _ (t : Tables) (h : Homes) (known : ℕ → Fact) (n : ℕ) (ms : List Me
     member : (y : Member) × Contains ms y × (y.part ≡ parts.World w.1) × (y.label.now ≡ w.0)
     member = world_member ms w (get-contains (worlds_in ms) m w at)
 
-    world : IsWorldOf t h ms members given.input given.placed.apart w.1
-    world = world_of t h ms members given.input given.placed.apart member.0 member.1 w.1 member.2
+    world : IsWorldIn t h ms members given.input w.1
+    world = world_of t h ms members given.input member.0 member.1 w.1 member.2
 
     stands : WorldIsPlanned t ms kept p b m w.1
     stands = planned_worlds_stand t h ms members given.input ruled.agree ordered worlds_apart n p planned b beside_owners m w at

@@ -23,8 +23,8 @@ use Rattle.read_rules.specs.Scopes.{numbered_scope, numbered_seen, numbered_show
 use Rattle.plan_type_laws.specs.ShownMarks.{own_places}
 use Rattle.plan_laws.specs.ShownNames.{IsInput}
 use Rattle.plan_laws.proofs.OwnPlaces.{Owned, a_view, a_world, frames, one_owned}
-use Rattle.plan_laws.proofs.Sources.{one_under}
-use Rattle.plan_laws.proofs.ShownFrom.{IsWorldOf, home_frame, world_of, view_frame}
+use Rattle.plan_laws.proofs.Sources.{one_under, IsWorldIn, world_in}
+use Rattle.plan_laws.proofs.ShownFrom.{home_frame, view_frame}
 use Rattle.base_lemmas.proofs.Bools.{third_of}
 use Rattle.base_lemmas.proofs.Lists.{map_of_map}
 
@@ -45,7 +45,7 @@ world_owned default (a_world w) = w
 world_owned default (a_view v) = default
 
 module _ (t : Tables) (h : Homes) (ms : List Member) (members : List reads.Member) (input : IsInput t h ms members) (apart : are_once (own_places t (numbered_members ms)) ≡ true) where
-  pub keys_apart : (w : Scope) → IsWorldOf t h ms members input apart w → distinct (map (λ (s : NumberedSeen). s.key) (map numbered_seen w.imports.now)) ≡ true
+  pub keys_apart : (w : Scope) → IsWorldIn t h ms members input w → distinct (map (λ (s : NumberedSeen). s.key) (map numbered_seen w.imports.now)) ≡ true
   keys_apart w is =
       let scope = is.scope in
       let tree = third_of (rules.are_imports [] scope.imports) (list_all (λ (s : follow.Seen). rules.is_item [] s.key s.shown) scope.exports)
@@ -58,7 +58,7 @@ module _ (t : Tables) (h : Homes) (ms : List Member) (members : List reads.Membe
   one_world m n c d w v is_w is_v same =
       let scope = numbered_scope v in
       let owned : a_world (numbered_scope w) ≡ a_world scope =
-      one_owned t (numbered_members ms) apart v.home (world_of t h ms members input apart n d v is_v).good.home (a_world (numbered_scope w)) (a_world scope)
+      one_owned t (numbered_members ms) apart v.home (world_in t h ms members input n d v is_v).good.home (a_world (numbered_scope w)) (a_world scope)
       (subst (λ q. Contains {X = ℕ × Owned} (frames (numbered_members ms)) (q, a_world (numbered_scope w))) same (home_frame t h ms members input apart m c w is_w))
       (home_frame t h ms members input apart n d v is_v) in
       ap (world_owned scope) owned
@@ -66,7 +66,7 @@ module _ (t : Tables) (h : Homes) (ms : List Member) (members : List reads.Membe
   -- no view is of the place of a world
   pub view_apart : (s : NumberedSight) → Contains (views_of_members (numbered_members ms)) s → (m : Member) → Contains ms m → (w : Scope) → m.part ≡ parts.World w → s.place ≡ w.home → ⊥
   view_apart s in_views m c w is same =
-      let none = (world_of t h ms members input apart m c w is).good.home in
+      let none = (world_in t h ms members input m c w is).good.home in
       let there = subst (λ q. Contains {X = ℕ × Owned} (frames (numbered_members ms)) (q, a_view s.view)) same (view_frame t h ms members input apart s in_views (ap (path_at t) same ∙ none)) in
       let owned = one_owned t (numbered_members ms) apart w.home none (a_view s.view) (a_world (numbered_scope w)) there (home_frame t h ms members input apart m c w is) in
       let wrong : false ≡ true = ap is_world_owned owned in cc
@@ -83,7 +83,7 @@ module _ (t : Tables) (h : Homes) (ms : List Member) (members : List reads.Membe
       let scope = one_world m k c g w v is_w is_v name.0 in
       let here : Contains (map numbered_seen v.imports.now) (numbered_seen a) =
       subst (λ (x : NumberedScope). Contains x.imports (numbered_seen a)) scope (contains-map numbered_seen w.imports.now a a_in) in
-      let second = world_of t h ms members input apart k g v is_v in
+      let second = world_in t h ms members input k g v is_v in
       let seen = one_key (map numbered_seen v.imports.now) (keys_apart v second) (numbered_seen a) (numbered_seen b) here
       (contains-map numbered_seen v.imports.now b b_in) name.1 in
       let shown_same : worlds.declares d ≡ worlds.declares e = sym (ap numbered_shown a_shows) ∙ (ap (λ (x : NumberedSeen). x.shown) seen ∙ ap numbered_shown b_shows) in
