@@ -4,7 +4,6 @@ use Rattle.std.specs.List.{AllZip, Contains, flat_map}
 use Rattle.wit_model.specs.Text.{Text}
 use Rattle.wit_model.specs.declared.model.TypeId.{TypeId}
 use Rattle.comp_meaning.specs.Reads as reads
-use Rattle.read_shown.proofs.Lists.{one_place}
 use Rattle.plan_meaning.specs.GatheredPlan.{InterfaceAt, SeenBecomes, WorldAt, WorldBecomes, WorldsListed, functions_seen, worlds_listed}
 use Rattle.plan_meaning.specs.NumberedMembers.{Homes, home_at}
 use Rattle.plan_meaning.specs.NumberedRules.{Fact}
@@ -41,7 +40,7 @@ use Rattle.plan_laws.specs.Whole.{IsPackageInput}
 use Rattle.plan_laws.specs.WholeFunctions.{beside_tables}
 use Rattle.plan_laws.specs.WholeTypes.{IsRuledInput, TypesAreWhole}
 use Rattle.plan_laws.specs.WholeWorlds.{IsUnderKey, WorldIsFollowed, WorldsAreFollowed}
-use Rattle.plan_laws.specs.WorldItems.{KeysAreApart, TypesAreRead, WorldsAreApart}
+use Rattle.plan_laws.specs.WorldItems.{TypesAreRead, WorldsAreApart}
 use Rattle.plan_laws.proofs.GatheredInterfaces.{interface_at, path_same}
 use Rattle.plan_laws.proofs.OwnPlaces.{a_view, frames, one_owned}
 use Rattle.plan_laws.proofs.Sources.{Side, seen_sight, side_good, side_is, sight_of, IsWorldIn, world_in}
@@ -53,9 +52,8 @@ use Rattle.plan_laws.proofs.WholePlacesLabels.{world_among}
 use Rattle.plan_laws.proofs.WholeReasonsFunctions.{first_whole}
 use Rattle.plan_laws.proofs.WholeTypes.{packages_are_ruled}
 use Rattle.plan_laws.proofs.WorldItems.{planned_worlds_stand, world_member}
-use Rattle.plan_laws.proofs.WorldKeys.{keys_apart}
+use Rattle.plan_laws.proofs.WorldKeys.{keys_differ}
 use Rattle.base_lemmas.proofs.Elements.{all_at, contains-later, get-contains, zip_at}
-use Rattle.base_lemmas.proofs.Lists.{mapped_get}
 
 zip_mapped : {A B C : Type 0} (P : A → B → Type 0) (Q : C → B → Type 0) (f : A → C) (xs : List A) → ((x : A) → Contains xs x → (y : B) → P x y → Q (f x) y) → (ys : List B) → AllZip P xs ys
     → AllZip Q (map f xs) ys
@@ -155,20 +153,12 @@ module _ (t : Tables) (h : Homes) (known : ℕ → Fact) (n : ℕ) (ms : List Me
 
   -- ---- all worlds
 
-  -- the keys of its imports differ
-  keys_differ : (w : Scope) → IsWorldIn t h ms members given.input w → KeysAreApart w
-  keys_differ w is i j a c at_a at_c same =
-      let key = λ (s : NumberedSeen). s.key in
-      one_place (map key (map numbered_seen w.imports.now)) (keys_apart t h ms members given.input given.placed.apart w is) i j c.key.now
-      (mapped_get key (map numbered_seen w.imports.now) i (numbered_seen a) (mapped_get numbered_seen w.imports.now i a at_a) ∙ ap Some same)
-      (mapped_get key (map numbered_seen w.imports.now) j (numbered_seen c) (mapped_get numbered_seen w.imports.now j c at_c))
-
   pub world_at : (j : ℕ) (w : Text × Scope) → slice_get (worlds_in ms) j ≡ Some w → WorldAt t planned.kept p (numbered_scope w.1) j
   world_at j w at =
       let x = zip_at (PlansWorld t planned.kept (places_in ms) n) (worlds_in ms) p.worlds planned.worlds j w at in
       let m = world_member ms w (get-contains (worlds_in ms) j w at) in
       let stands = planned_worlds_stand t h ms members given.input ruled.agree ordered apart n p planned b refl j w at in
-      let types = stands.types (keys_differ w.1 (world_in t h ms members given.input m.0 m.1 w.1 m.2)) in
+      let types = stands.types (keys_differ t h ms members given.input given.placed.apart w.1 (world_in t h ms members given.input m.0 m.1 w.1 m.2)) in
       record { world = x.0; stands = x.1; becomes = world_becomes m.0 m.1 w.1 m.2 x.2.find x.2.resources types x.0 x.2.imports x.2.exports }
 
   abbrev entry : Text × Scope → Text × NumberedScope

@@ -1,4 +1,4 @@
--- Which types stand inside a part: what is used is inside a part that is used to begin with. Serves Apart, FirstDeclared, FirstTypes, FirstViews and 24 more; crates above.
+-- Which types stand inside a part: what is used is inside a part that is used to begin with. Serves FirstDeclared, FirstTypes, FirstViews, GatheredInterfaces and 23 more; crates above.
 pub mod Inside
 -- Places by their numbers, and the owner of each. Serves Apart, FirstPlaces, GatheredInterfaces, OwnPlaces and 16 more; crates above.
 pub mod PlaceNumbers
@@ -17,8 +17,6 @@ pub mod ShownNames
 -- What is known of a plan that was made of what was followed: where names are shown, and the interface of each place. Serves Apart, FirstTypes, GatheredInterfaces, InterfaceFunctions and 17 more;
 -- crates above.
 pub mod Planned
--- Where each type that is shown comes from: a view, or an import of a world. Serves Apart, FirstDeclared, GatheredWorlds, InstanceSeen and 6 more.
-pub mod ShownFrom
 -- Each instance of a world whose place has no path is one that is imported or exported. Serves Apart, WholePlaces.
 pub mod WholePlacesInstances
 -- Each type that is shown is a name of the table, behind what it is declared as. Serves FirstDeclared, FirstTypes, Owned, ShownRules and 5 more; crates above.
@@ -37,9 +35,11 @@ pub mod Owned
 pub mod WorldItems
 -- Each place without a path is that of one view, or of one world. Serves laws::whole_stands_apart.
 pub mod Apart
+-- Where each type that is shown comes from: a view, or an import of a world. Serves FirstDeclared, GatheredWorlds, InstanceSeen, ShownAlike and 4 more.
+pub mod ShownFrom
 -- Views of one place show the same types. Serves FirstDeclared, InterfaceFunctions, WholeCondition.
 pub mod ViewsAgree
--- The imports of a world stand under keys that differ, and a world has a place of its own. Serves FirstDeclared, GatheredWorlds, ShownAlike, WholeFunctions.
+-- The imports of a world stand under keys that differ, and a world has a place of its own. Serves FirstDeclared, GatheredWorlds, ShownAlike, WholeFunctions and 1 more.
 pub mod WorldKeys
 -- A type that a view shows is first shown as the view declares it. Serves InterfaceFunctions, ShownAlike.
 pub mod FirstDeclared
@@ -61,12 +61,10 @@ pub mod InterfaceFunctions
 pub mod ViewRules
 -- Each interface of the plan is read by the first view of its place. Serves laws::planned_interfaces_are_viewed.
 pub mod Viewed
--- The functions of an interface of the plan are those of the first view of its place that shows some. Serves GatheredInterfaces, WholePlan; crates above.
+-- The functions of an interface of the plan are those of the first view of its place that shows some. Serves GatheredInterfaces, PlannedFunctions, WholePlan; crates above.
 pub mod ListedFunctions
 -- Each instance of a world has the place of one that it imports or exports. Serves PlannedFunctions, ShownWhole, WholeCondition.
 pub mod InstanceSeen
--- Texts and numbers of which none stands twice. Serves WholePlacesLabels.
-pub mod WholePlacesLists
 -- What is exported at the top, by labels of which none stands twice. Serves GatheredWorlds, ShownWhole, WholeOrder, WholePlaces and 1 more.
 pub mod WholePlacesLabels
 -- The worlds of a plan show what worlds at the top do, and each view shows the types by which its place is read. Serves laws::whole_is_shown.

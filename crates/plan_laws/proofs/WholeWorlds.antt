@@ -1,4 +1,5 @@
 -- The worlds of a whole plan are those that were read.
+use Rattle.plan_laws.proofs.WorldKeys.{keys_differ}
 use Rattle.plan_laws.proofs.Sources.{Side, side_good, side_is, IsWorldIn, world_in as world_of}
 use Rattle.std.proofs.Common.{◌≡◌, refl, sym, ap, subst, ◌∙◌, ℕ, ◌+◌, ◌<◌, inl, inr, arith, Bool, true, false, not, ◌&&◌, List, [], ◌++◌, length, map, option_to_list, Option, Some, None, slice_get}
 use Rattle.std.specs.List.{AllByRecursion, Contains, list_all, AllZip}
@@ -13,7 +14,6 @@ use Rattle.wit_model.specs.Valid.{as_world}
 use Rattle.wit_model.proofs.Elements.{contains-filter_map}
 use Rattle.comp_meaning.specs.Reads as reads
 use Rattle.comp_meaning.specs.Rules.{distinct}
-use Rattle.read_shown.proofs.Lists.{one_place}
 use Rattle.plan_meaning.specs.FollowedNumbers.{IsCalledIn, IsMetFrom}
 use Rattle.plan_meaning.specs.KeptFunctions.{IsKindOf, IsResource, a_constructor, a_method, a_static, an_async_method, an_async_static, of_none}
 use Rattle.plan_meaning.specs.NumberedMembers.{Homes, NumberedMember, home_at}
@@ -66,10 +66,9 @@ use Rattle.plan_type_laws.proofs.PartPlaces.{parts_weaker}
 abbrev value : PlannedKey × PlannedItem → PlannedItem
 value e = e.1
 
--- the first and the third of five tests
-first_and_third : (a b c d e : Bool) → (a && b && c && d && e) ≡ true → (a ≡ true) × (c ≡ true)
-first_and_third true true true d e h = (refl, refl)
-first_and_third _ _ _ d e h = absurd cc
+first_of : (a b c d e : Bool) → (a && b && c && d && e) ≡ true → a ≡ true
+first_of true b c d e h = refl
+first_of false b c d e h = absurd cc
 
 module _ (t : Tables) (h : Homes) (known : ℕ → Fact) (n : ℕ) (ms : List Member) (members : List reads.Member) (given : IsPackageInput t h known n ms members) (ordered : ViewsAreOrdered t ms)
     (worlds_apart : WorldsAreApart ms) (followed : WorldsAreFollowed t ms)
@@ -104,17 +103,13 @@ module _ (t : Tables) (h : Homes) (known : ℕ → Fact) (n : ℕ) (ms : List Me
     obeys : is_world t known scope ≡ true
     obeys = sym (worlds_in_numbers t given.input.tables known scope world.scope is_known world.shows) ∙ world.stands.obeys
 
-    rules_hold : (are_imports t known scope.home [] scope.imports ≡ true) × (distinct (map (λ (s : NumberedSeen). s.key) scope.imports) ≡ true)
-    rules_hold =
-        first_and_third (are_imports t known scope.home [] scope.imports) (list_all (λ (s : NumberedSeen). is_item t known scope.home [] s.key s.shown) scope.exports)
+    imports_stand : are_imports t known scope.home [] scope.imports ≡ true
+    imports_stand = first_of (are_imports t known scope.home [] scope.imports) (list_all (λ (s : NumberedSeen). is_item t known scope.home [] s.key s.shown) scope.exports)
         (distinct (map (λ (s : NumberedSeen). s.key) scope.imports))
         (distinct (map (λ (s : NumberedSeen). s.key) scope.exports)) (stand_earlier t [] (scope.imports ++ scope.exports)) obeys
 
     keys_apart : KeysAreApart w.1
-    keys_apart i j a c at_a at_c same =
-        let key : (k : ℕ) (s : Seen) → slice_get w.1.imports.now k ≡ Some s → slice_get (map (λ (y : NumberedSeen). y.key) scope.imports) k ≡ Some s.key.now =
-        λ k s e. mapped_get (λ (y : NumberedSeen). y.key) scope.imports k (numbered_seen s) (mapped_get numbered_seen w.1.imports.now k s e) in
-        one_place (map (λ (y : NumberedSeen). y.key) scope.imports) rules_hold.1 i j c.key.now (key i a at_a ∙ ap Some same) (key j c at_c)
+    keys_apart = keys_differ t h ms members given.input given.placed.apart w.1 world
 
     -- ---- functions
 
@@ -167,7 +162,7 @@ module _ (t : Tables) (h : Homes) (known : ℕ → Fact) (n : ℕ) (ms : List Me
     -- a resource that a function is named after is imported before it
     imported_below : (j c : ℕ) (s : NumberedSeen) (f : ℕ) → slice_get scope.imports j ≡ Some s → slice_get was.counted.counts j ≡ Some c → s.shown ≡ worlds.function f → ResourceBelow s.key c
     imported_below j c s f at_s at_c shows r after k shape =
-        let behind = items_behind t known scope.home scope.imports [] scope.imports refl rules_hold.0 j s at_s in
+        let behind = items_behind t known scope.home scope.imports [] scope.imports refl imports_stand j s at_s in
         let rule : is_function t known scope.home (resources_seen behind.before) s.key (function_at t f) ≡ true =
         subst (λ y. is_item t known scope.home (resources_seen behind.before) s.key y ≡ true) shows behind.is in
         let res = seen_resource behind.before r (resource_among t known scope.home s.key (function_at t f) (resources_seen behind.before) rule r after) in

@@ -1,11 +1,13 @@
 -- The imports of a world stand under keys that differ, and a world has a place of its own.
+use Rattle.read_shown.proofs.Lists.{one_place}
+use Rattle.plan_laws.specs.WorldItems.{KeysAreApart}
 use Rattle.read_rules.specs.declared.scopes.Shown.TheVariants as shown
 use Rattle.base_lemmas.proofs.Elements.{contains-map}
 use Rattle.read_rules.specs.declared.scopes.Seen.{Seen}
 use Rattle.plan_package.specs.Views.{views_of_members}
 use Rattle.plan_laws.proofs.Showings.{import_named}
 use Rattle.plan_laws.proofs.Inside.{name_same}
-use Rattle.std.proofs.Common.{◌≡◌, sym, ap, subst, ◌∙◌, ℕ, Bool, true, false, List, [], ◌++◌, map, Option, arith}
+use Rattle.std.proofs.Common.{◌≡◌, sym, ap, subst, ◌∙◌, ℕ, Bool, true, false, List, [], ◌++◌, map, Option, arith, Some}
 use Rattle.std.specs.List.{Contains, list_all}
 use Rattle.comp_meaning.specs.Follow as follow
 use Rattle.comp_meaning.specs.Reads as reads
@@ -26,7 +28,7 @@ use Rattle.plan_laws.proofs.OwnPlaces.{Owned, a_view, a_world, frames, one_owned
 use Rattle.plan_laws.proofs.Sources.{one_under, IsWorldIn, world_in}
 use Rattle.plan_laws.proofs.ShownFrom.{home_frame, view_frame}
 use Rattle.base_lemmas.proofs.Bools.{third_of}
-use Rattle.base_lemmas.proofs.Lists.{map_of_map}
+use Rattle.base_lemmas.proofs.Lists.{map_of_map, mapped_get}
 
 -- the import of a key is one
 pub one_key : (ss : List NumberedSeen) → distinct (map (λ (s : NumberedSeen). s.key) ss) ≡ true → (a b : NumberedSeen) → Contains ss a → Contains ss b → a.key ≡ b.key → a ≡ b
@@ -52,6 +54,14 @@ module _ (t : Tables) (h : Homes) (ms : List Member) (members : List reads.Membe
       (distinct (map (λ (s : follow.Seen). s.key) scope.imports)) (distinct (map (λ (s : follow.Seen). s.key) scope.exports))
       (rules.stand_earlier [] (scope.imports ++ scope.exports)) is.stands.obeys in
       ap distinct (sym (ap (map (λ (s : follow.Seen). s.key)) is.shows.imports ∙ map_of_map (λ (s : follow.Seen). s.key) (seen_of t) (map numbered_seen w.imports.now))) ∙ tree
+
+  -- the keys of its imports differ
+  pub keys_differ : (w : Scope) → IsWorldIn t h ms members input w → KeysAreApart w
+  keys_differ w is i j a c at_a at_c same =
+      let key = λ (s : NumberedSeen). s.key in
+      one_place (map key (map numbered_seen w.imports.now)) (keys_apart w is) i j c.key.now
+      (mapped_get key (map numbered_seen w.imports.now) i (numbered_seen a) (mapped_get numbered_seen w.imports.now i a at_a) ∙ ap Some same)
+      (mapped_get key (map numbered_seen w.imports.now) j (numbered_seen c) (mapped_get numbered_seen w.imports.now j c at_c))
 
   -- worlds of one place show the same
   pub one_world : (m n : Member) → Contains ms m → Contains ms n → (w v : Scope) → m.part ≡ parts.World w → n.part ≡ parts.World v → w.home ≡ v.home → numbered_scope w ≡ numbered_scope v
