@@ -6,7 +6,7 @@ use Rattle.std.proofs.lemmas.List.Elements.{Contains-append_cases, Contains-appe
 use Rattle.std.proofs.lemmas.Option.{slice_get_within, same_Some as same-some}
 use Rattle.wit_model.specs.Text.{Text}
 use Rattle.wit_model.specs.Uses.{has}
-use Rattle.wit_model.proofs.Elements.{contains-flat, contains-get, contains-has, has-contains, none-in}
+use Rattle.wit_model.proofs.Elements.{contains-get, contains-has, has-contains, none-in}
 use Rattle.comp_meaning.specs.Reads as reads
 use Rattle.plan_meaning.specs.FollowedNumbers.{IsPartIn, IsViewIn}
 use Rattle.plan_meaning.specs.NumberedMembers.{Homes, NumberedMember}
@@ -14,7 +14,7 @@ use Rattle.plan_meaning.specs.NumberedRules.{Fact}
 use Rattle.plan_meaning.specs.NumberedViews.{NumberedSight, NumberedView, Tables, path_at}
 use Rattle.plan_meaning.specs.NumberedWorlds.{HasPath, NumberedInstance, are_once}
 use Rattle.plan_meaning.proofs.Lists.{no_true}
-use Rattle.wit_model.proofs.UsesLemmas.{filter_has, has_filter}
+use Rattle.wit_model.proofs.UsesLemmas.{filter_has}
 use Rattle.read_exports.specs.Members.{numbered_member, numbered_members, numbered_part}
 use Rattle.read_exports.specs.declared.members.Member.{Member}
 use Rattle.read_exports.specs.declared.members.Part.{Part}
@@ -25,24 +25,22 @@ use Rattle.read_rules.specs.Scopes.{numbered_scope}
 use Rattle.plan_types.specs.Orders as orders
 use Rattle.plan_types.specs.Orders.{home_of_part}
 use Rattle.plan_package.specs.Views.{views_of_members, views_of_part, whole_view}
-use Rattle.plan_package.specs.WholeWorlds.{world_in_part, worlds_in}
+use Rattle.plan_package.specs.WholeWorlds.{worlds_in}
 use Rattle.plan_type_laws.specs.ShownMarks.{has_no_path, own_places, places_of_part, places_of_seen}
 use Rattle.plan_laws.specs.Apart.{WholeStandsApart}
 use Rattle.plan_laws.specs.Owners.{homes_in}
 use Rattle.plan_laws.specs.ShownRules.{ViewObeys}
 use Rattle.plan_laws.specs.Whole.{IsPackageInput}
 use Rattle.plan_laws.specs.WorldItems.{WorldsAreApart}
-use Rattle.plan_laws.proofs.Inside.{flat_cases}
-use Rattle.plan_laws.proofs.Origins.{view_among}
+use Rattle.plan_laws.proofs.Sources.{view_among, among_mapped, mapped_cases, part_at, IsWorldIn, world_in}
 use Rattle.plan_laws.proofs.PlaceNumbers.{IsOnce, from_joined}
 use Rattle.plan_laws.proofs.Planned.{home_alone}
-use Rattle.plan_laws.proofs.ShownFrom.{IsWorldOf, world_of}
 use Rattle.plan_laws.proofs.WholePlacesInstances.{as_many, one_of}
-use Rattle.plan_laws.proofs.WholePlacesLists.{no_longer}
+use Rattle.plan_laws.proofs.OwnPlaces.{different, no_longer, filtered_there, unfiltered_once}
 use Rattle.plan_laws.proofs.WholeTypes.{packages_are_ruled}
-use Rattle.plan_laws.proofs.WorldItems.{world_member}
+use Rattle.plan_laws.proofs.WorldItems.{homes_of_worlds, world_member}
 use Rattle.base_lemmas.proofs.Elements.{all_at, contains-later, contains-map, get-contains, last_of as one-contained, map_from as from_map}
-use Rattle.base_lemmas.proofs.Lists.{append_of_map, front_at as at_front, map_of_map, mapped_get}
+use Rattle.base_lemmas.proofs.Lists.{append_of_map, front_at as at_front, map_of_map, mapped_get, identity}
 use Rattle.plan_package.proofs.PlacedLaws.{part_placed as places_of_views}
 
 -- ---- as many numbers as others, of which none stands twice
@@ -82,7 +80,8 @@ as_many_once xs ys once there many i j q at_i at_j = by (i == j) refl
     by : (b : Bool) → (i == j) ≡ b → i ≡ j
     by true e = eqb-true i j e
     by false e =
-        let low = no_longer xs (removed ys j) once (λ x h. contains-has (removed ys j) x (kept e x (there x h))) in
+        let apart = different (λ x. x) xs (subst (λ zs. are_once zs ≡ true) (sym (identity xs)) once) in
+        let low = no_longer xs (removed ys j) apart (λ x c. kept e x (there x (contains-has xs x c))) in
         let less = removed_many ys j q at_j in
         absurd (omega (arith, low, less, many))
 
@@ -116,33 +115,6 @@ both_apart xs ys once q c d =
     omega (arith, same, low, high)
 
 module _ (test : ℕ → Bool) where
-  filtered_there : (ps : List ℕ) (q : ℕ) → Contains ps q → test q ≡ true → Contains (filter test ps) q
-  filtered_there ps q c passes = has-contains (filter test ps) q (has_filter test ps q (contains-has ps q c) passes)
-
-  -- what passes stands once, where it does among those that pass
-  unfiltered_once : (ps : List ℕ) → IsOnce (filter test ps) → (i j q : ℕ) → slice_get ps i ≡ Some q → slice_get ps j ≡ Some q → test q ≡ true → i ≡ j
-  unfiltered_once [] once i j q at_i at_j passes = let wrong : None ≡ Some q = at_i in absurd cc
-  unfiltered_once (p ∷ ps) once i j q at_i at_j passes = by (test p) refl once i j at_i at_j (λ rest k l at_k at_l. unfiltered_once ps rest k l q at_k at_l passes)
-    where
-      twice : IsOnce (p ∷ filter test ps) → p ≡ q → (k : ℕ) → slice_get ps k ≡ Some q → ⊥
-      twice one same k at =
-          let there = contains-get (filter test ps) q (filtered_there ps q (get-contains ps k q at) passes) in
-          let wrong : 0 ≡ suc there.0 = one 0 (suc there.0) q (ap Some same) there.1 in
-          omega (arith, wrong)
-
-      behind : IsOnce (p ∷ filter test ps) → IsOnce (filter test ps)
-      behind one k l r at_k at_l = let same = one (suc k) (suc l) r at_k at_l in omega (arith, same)
-
-      by : (b : Bool) → test p ≡ b → IsOnce (cond b (p ∷ filter test ps) (filter test ps)) → (i j : ℕ) → slice_get (p ∷ ps) i ≡ Some q → slice_get (p ∷ ps) j ≡ Some q
-          → (IsOnce (filter test ps) → (k l : ℕ) → slice_get ps k ≡ Some q → slice_get ps l ≡ Some q → k ≡ l) → i ≡ j
-      by b e one zero zero at_i at_j later = refl
-      by true e one zero (suc j) at_i at_j later = absurd (twice one (same-some p q at_i) j at_j)
-      by true e one (suc i) zero at_i at_j later = absurd (twice one (same-some p q at_j) i at_i)
-      by true e one (suc i) (suc j) at_i at_j later = ap suc (later (behind one) i j at_i at_j)
-      by false e one zero (suc j) at_i at_j later = no_true (sym e ∙ (ap test (same-some p q at_i) ∙ passes))
-      by false e one (suc i) zero at_i at_j later = no_true (sym e ∙ (ap test (same-some p q at_j) ∙ passes))
-      by false e one (suc i) (suc j) at_i at_j later = ap suc (later one i j at_i at_j)
-
   none_pass : (ps : List ℕ) → ((p : ℕ) → Contains ps p → test p ≡ false) → filter test ps ≡ []
   none_pass [] none = refl
   none_pass (p ∷ ps) none = ap (λ b. cond b (p ∷ filter test ps) (filter test ps)) (none p (0, omega arith, refl)) ∙ none_pass ps (λ q c. none q (contains-later p ps q c))
@@ -159,8 +131,8 @@ module _ (t : Tables) (h : Homes) (known : ℕ → Fact) (n : ℕ) (ms : List Me
   abbrev homes : List Member → List ℕ
   homes xs = flat_map (λ (m : NumberedMember). home_of_part m.part) (numbered_members xs)
 
-  world_is : (m : Member) → Contains ms m → (w : Scope) → m.part ≡ parts.World w → IsWorldOf t h ms members given.input given.placed.apart w
-  world_is m c w is = world_of t h ms members given.input given.placed.apart m c w is
+  world_is : (m : Member) → Contains ms m → (w : Scope) → m.part ≡ parts.World w → IsWorldIn t h ms members given.input w
+  world_is m c w is = world_in t h ms members given.input m c w is
 
   -- as many views and worlds of a member have no path as it has places of its own
   part_many : (m : Member) → Contains ms m → (a : Part) → m.part ≡ a
@@ -168,7 +140,7 @@ module _ (t : Tables) (h : Homes) (known : ℕ → Fact) (n : ℕ) (ms : List Me
   part_many m c (parts.World w) is = by (places_of_seen (numbered_scope w).imports ++ places_of_seen (numbered_scope w).exports) refl
       (as_many t (numbered_scope w) followed.scope followed.good followed.shows followed.stands.seen)
     where
-      followed : IsWorldOf t h ms members given.input given.placed.apart w
+      followed : IsWorldIn t h ms members given.input w
       followed = world_is m c w is
 
       home : has_no_path t w.home ≡ true
@@ -193,8 +165,7 @@ module _ (t : Tables) (h : Homes) (known : ℕ → Fact) (n : ℕ) (ms : List Me
       omega (arith, many)
     where
       good : IsPartIn t (numbered_part (parts.Interface q v imports))
-      good = subst (λ a. IsPartIn t (numbered_part a)) is (all_at (λ (x : NumberedMember). IsPartIn t x.part) (numbered_members ms) given.input.numbers (numbered_member m)
-          (contains-map numbered_member ms m c))
+      good = subst (λ a. IsPartIn t (numbered_part a)) is (part_at t ms given.input.numbers m c)
 
       with_path : (p : ℕ) → HasPath t p → has_no_path t p ≡ false
       with_path p path = ap is_none path.1
@@ -226,16 +197,12 @@ module _ (t : Tables) (h : Homes) (known : ℕ → Fact) (n : ℕ) (ms : List Me
 
   -- each place of its own is that of a view, or of a world
   place_there : (x : ℕ) → Contains (flat_map (λ (m : NumberedMember). places_of_part m.part) (numbered_members ms)) x → Contains (viewed ms) x ⊎ Contains (homes ms) x
-  place_there x c =
-      let from = flat_cases (λ (m : NumberedMember). places_of_part m.part) (numbered_members ms) x c in
-      let m = from_map numbered_member ms from.0 from.1 in
-      by m.0 m.1 m.0.part refl (subst (λ (y : NumberedMember). Contains (places_of_part y.part) x) (sym m.2) from.2)
+  place_there x c = let m = mapped_cases (λ (m : NumberedMember). places_of_part m.part) numbered_member ms x c in by m.0 m.1 m.0.part refl m.2
     where
       by : (m : Member) → Contains ms m → (a : Part) → m.part ≡ a → Contains (places_of_part (numbered_part a)) x → Contains (viewed ms) x ⊎ Contains (homes ms) x
       by m m_in (parts.Interface q v imports) is there = none-in x there
       by m m_in (parts.World w) is (zero, low, same) =
-          inr (contains-flat (λ (y : NumberedMember). home_of_part y.part) (numbered_members ms) (numbered_member m) x (contains-map numbered_member ms m m_in)
-          (subst (λ a. Contains (home_of_part (numbered_part a)) x) (sym is) (0, omega arith, same)))
+          inr (among_mapped (λ (y : NumberedMember). home_of_part y.part) numbered_member ms m x m_in (subst (λ a. Contains (home_of_part (numbered_part a)) x) (sym is) (0, omega arith, same)))
       by m m_in (parts.World w) is (suc i, low, same) =
           let followed = world_is m m_in w is in
           let there = one_of t (numbered_scope w) followed.scope followed.good followed.shows followed.stands.seen x (i, omega (arith, low), same) in
@@ -280,21 +247,13 @@ module _ (t : Tables) (h : Homes) (known : ℕ → Fact) (n : ℕ) (ms : List Me
           (contains-map (λ (x : NumberedSight). x.place) (views_of_members (numbered_members ms)) s c) none)
           (filtered_there (has_no_path t) (homes ms) s.place among none)
 
-  homes_are : (xs : List Member) → homes xs ≡ map (λ (w : Text × Scope). w.1.home) (worlds_in xs)
-  homes_are [] = refl
-  homes_are (m ∷ xs) = by m.part (homes_are xs)
-    where
-      by : (a : Part) → homes xs ≡ map (λ (w : Text × Scope). w.1.home) (worlds_in xs)
-          → home_of_part (numbered_part a) ++ homes xs ≡ map (λ (w : Text × Scope). w.1.home) (world_in_part m.label.now a ++ worlds_in xs)
-      by (parts.World w) rest = ap (λ hs. w.home ∷ hs) rest
-      by (parts.Interface p v imports) rest = rest
-
   worlds_apart : WorldsAreApart ms
   worlds_apart i j w v at_i at_j same =
       let home = λ (x : Text × Scope). x.1.home in
       let m = world_member ms w (get-contains (worlds_in ms) i w at_i) in
       unfiltered_once (has_no_path t) (homes ms) (second_once (own (viewed ms)) (own (homes ms)) all_once) i j w.1.home
-      (ap (λ hs. slice_get hs i) (homes_are ms) ∙ mapped_get home (worlds_in ms) i w at_i) (ap (λ hs. slice_get hs j) (homes_are ms) ∙ (mapped_get home (worlds_in ms) j v at_j ∙ ap Some (sym same)))
+      (ap (λ hs. slice_get hs i) (homes_of_worlds ms) ∙ mapped_get home (worlds_in ms) i w at_i)
+      (ap (λ hs. slice_get hs j) (homes_of_worlds ms) ∙ (mapped_get home (worlds_in ms) j v at_j ∙ ap Some (sym same)))
       (ap is_none (world_is m.0 m.1 w.1 m.2).good.home)
 
 pub whole_stands_apart : WholeStandsApart

@@ -1,44 +1,29 @@
 -- A type that a view shows is first shown as the view declares it.
-use Rattle.std.proofs.Common.{◌≡◌, sym, ap, subst, ◌∙◌, ℕ, ◌+◌, arith, Bool, true, false, List, map, Option, Some, None, slice_get}
+use Rattle.plan_type_laws.proofs.PartPlaces.{slot_number}
+use Rattle.std.proofs.Common.{◌≡◌, sym, ap, subst, ◌∙◌, ℕ, ◌+◌, arith, true, List, map, Option, Some, slice_get}
 use Rattle.std.specs.List.{Contains}
 use Rattle.wit_model.specs.Text.{Text}
-use Rattle.wit_model.proofs.Elements.{contains-get}
 use Rattle.comp_meaning.specs.Reads as reads
 use Rattle.comp_meaning.specs.Rules.{distinct}
-use Rattle.read_shown.proofs.Lists.{one_place}
 use Rattle.plan_meaning.specs.FollowedNumbers.{IsShownIn}
 use Rattle.plan_meaning.specs.NumberedMembers.{Homes, sights_of_members}
-use Rattle.plan_meaning.specs.NumberedViews.{NumberedSight, NumberedType, Tables, agree_in_numbers, path_at}
+use Rattle.plan_meaning.specs.NumberedViews.{NumberedSight, NumberedType, Tables, agree_in_numbers}
 use Rattle.plan_meaning.specs.NumberedWorlds.{are_once}
-use Rattle.plan_meaning.specs.Shapes.{Shape, first_label, named_shape}
+use Rattle.plan_meaning.specs.Shapes.{named_shape}
 use Rattle.plan_parts.specs.Interfaces.{slot_part}
 use Rattle.read_exports.specs.Members.{numbered_members}
 use Rattle.read_exports.specs.declared.members.Member.{Member}
-use Rattle.read_rules.specs.declared.scopes.Shown.{Shown}
-use Rattle.read_rules.specs.Scopes.{numbered_scope}
 use Rattle.plan_types.specs.Showings.{NumberedShowing, showings_of_members}
 use Rattle.plan_package.specs.Views.{views_of_members}
 use Rattle.plan_type_laws.specs.ShownMarks.{own_places}
-use Rattle.plan_laws.specs.ShownNames.{DeclaresName, IsInput}
-use Rattle.plan_laws.proofs.OwnPlaces.{Owned, a_view, a_world, frames, one_owned}
-use Rattle.plan_laws.proofs.ShownFrom.{IsFrom, home_frame, of_import, of_view, shown_from, view_frame, world_of}
-use Rattle.plan_laws.proofs.Showings.{slot_is}
+use Rattle.plan_laws.proofs.Inside.{name_same}
+use Rattle.plan_laws.specs.ShownNames.{IsInput}
+use Rattle.plan_laws.proofs.Showings.{import_named}
+use Rattle.plan_laws.proofs.Sources.{one_under}
+use Rattle.plan_laws.proofs.WorldKeys.{view_apart}
+use Rattle.plan_laws.proofs.ShownFrom.{IsFrom, of_import, of_view, shown_from}
 use Rattle.plan_laws.proofs.ViewsAgree.{told, views_tell}
 use Rattle.base_lemmas.proofs.Elements.{all_at, contains-map, map_from as from_map}
-use Rattle.base_lemmas.proofs.Lists.{mapped_get}
-use Rattle.std.proofs.lemmas.Option.{same_Some as same-some}
-
-abbrev is_world_owned : Owned → Bool
-is_world_owned (a_world w) = true
-is_world_owned (a_view v) = false
-
-one_type : (xs : List NumberedType) → distinct (map (λ (x : NumberedType). x.name) xs) ≡ true → (a b : NumberedType) → Contains xs a → Contains xs b → a.name ≡ b.name → a ≡ b
-one_type xs apart a b c d e =
-    let i = contains-get xs a c in
-    let j = contains-get xs b d in
-    let same : i.0 ≡ j.0 = one_place (map (λ (x : NumberedType). x.name) xs) apart i.0 j.0 b.name (mapped_get (λ (x : NumberedType). x.name) xs i.0 a i.1 ∙ ap Some e)
-    (mapped_get (λ (x : NumberedType). x.name) xs j.0 b j.1) in
-    same-some a b (sym i.1 ∙ (ap (slice_get xs) same ∙ j.1))
 
 module _ (t : Tables) (h : Homes) (ms : List Member) (members : List reads.Member) (input : IsInput t h ms members) (apart : are_once (own_places t (numbered_members ms)) ≡ true) (agrees : agree_in_numbers (sights_of_members t (numbered_members ms)) ≡ true) where
   -- each showing of the number declares what the view does, whose names differ
@@ -47,29 +32,22 @@ module _ (t : Tables) (h : Homes) (ms : List Member) (members : List reads.Membe
       → (n : ℕ) → slice_get t.shapes n ≡ Some (named_shape s.place x.name) → (y : NumberedShowing) → Contains (showings_of_members ms) y → y.part ≡ 14 + n → y.declared ≡ x.declared
   shown_alike s in_views names x in_types n at y shown part = by (shown_from t h ms members input apart y shown)
     where
-      same_name : (q : ℕ) (name : Text) → slice_get t.shapes n ≡ Some (named_shape q name) → (q ≡ s.place) × (name ≡ x.name)
-      same_name q name there =
-          let shape = same-some (named_shape q name) (named_shape s.place x.name) (sym there ∙ at) in
-          (ap (λ (z : Shape). z.number) shape, ap (λ (z : Shape). first_label z.labels) shape)
+      same_name : (q : ℕ) (name : Text) (k : ℕ) → slice_get t.shapes k ≡ Some (named_shape q name) → k ≡ n → (q ≡ s.place) × (name ≡ x.name)
+      same_name q name k there one = name_same t.shapes q s.place name x.name k n there at one
 
       by : IsFrom t h ms members input apart y → y.declared ≡ x.declared
       by (of_view other in_it good z in_other shows) =
           let stands = all_at (IsShownIn t other.place) other.view.types good.types z in_other in
-          let own = slot_is t input.tables z.slot stands.number stands.slot in
+          let own = slot_number t z.slot stands.number stands.slot in
           let part_is : slot_part z.slot ≡ y.part = ap (λ (v : NumberedShowing). v.part) shows in
           let one : stands.number ≡ n = omega (arith, own, part_is, part) in
-          let same = same_name other.place z.name (sym (ap (slice_get t.shapes) one) ∙ stands.name.named) in
+          let same = same_name other.place z.name stands.number stands.name.named one in
           let tells = views_tell t h ms members input apart agrees other s in_it in_views same.0 in
           let from = from_map told s.view.types (told z) (subst (λ (es : List (Text × Option ℕ)). Contains es (told z)) tells (contains-map told other.view.types z in_other)) in
-          let is = one_type s.view.types names from.0 x from.1 in_types (ap (λ (e : Text × Option ℕ). e.0) from.2 ∙ same.1) in
+          let is = one_under (λ (v : NumberedType). v.name) s.view.types names from.0 x from.1 in_types (ap (λ (e : Text × Option ℕ). e.0) from.2 ∙ same.1) in
           sym (ap (λ (v : NumberedShowing). v.declared) shows) ∙ (sym (ap (λ (e : Text × Option ℕ). e.1) from.2) ∙ ap (λ (v : NumberedType). v.declared) is)
       by (of_import m c w is_world seen among e) =
-          let other = world_of t h ms members input apart m c w is_world in
-          let named = subst (λ (k : Shown). DeclaresName t w.home (record { key = seen.key; shown = k; external_id = seen.external_id })) e
-          (all_at (DeclaresName t w.home) w.imports.now other.declares seen among) in
+          let named = import_named t input.tables h ms members input m c w is_world seen among y.part y.declared e in
           let one : named.0 ≡ n = (let a = named.1 in omega (arith, a, part)) in
-          let same = same_name w.home seen.key.now (sym (ap (slice_get t.shapes) one) ∙ named.2) in
-          let none : path_at t s.place ≡ None = ap (path_at t) (sym same.0) ∙ other.good.home in
-          let owned = one_owned t (numbered_members ms) apart s.place none (a_view s.view) (a_world (numbered_scope w)) (view_frame t h ms members input apart s in_views none)
-          (subst (λ q. Contains {X = ℕ × Owned} (frames (numbered_members ms)) (q, a_world (numbered_scope w))) same.0 (home_frame t h ms members input apart m c w is_world)) in
-          let wrong : false ≡ true = ap is_world_owned owned in absurd cc
+          let same = same_name w.home seen.key.now named.0 named.2.named one in
+          absurd (view_apart t h ms members input apart s in_views m c w is_world (sym same.0))

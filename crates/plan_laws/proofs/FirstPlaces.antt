@@ -1,7 +1,7 @@
 -- What stands before the first view of a place has a smaller number.
 use Rattle.std.proofs.Common.{◌≡◌, refl, sym, ap, ◌∙◌, ℕ, zero, suc, ◌<◌, ◌⊎◌, inl, inr, arith, Bool, true, false, ◌==◌, cond, List, [], ◌∷◌, ◌++◌, length, Some, None, slice_get}
 use Rattle.std.specs.List.{Contains, find}
-use Rattle.std.proofs.lemmas.Bool.{eq-eqb, eqb-true}
+use Rattle.std.proofs.lemmas.Bool.{eq-eqb, eqb-true, false_from_ne_true}
 use Rattle.std.proofs.lemmas.List.{append-nil, append_assoc}
 use Rattle.std.proofs.lemmas.Option.{slice_get_within, same_Some as same-some}
 use Rattle.wit_model.specs.Uses.{has}
@@ -72,15 +72,11 @@ module _ (front back : List ℕ) (q : ℕ) (new : Contains front q → ⊥) wher
   before = joined_all [] front
 
   not_before : has before q ≡ false
-  not_before = by (has before q) refl
+  not_before = false_from_ne_true (has before q) (λ e. absent (from_joined [] front q (has-contains before q e)))
     where
-      by : (b : Bool) → has before q ≡ b → b ≡ false
-      by false e = refl
-      by true e = absurd (absent (from_joined [] front q (has-contains before q e)))
-        where
-          absent : Contains [] q ⊎ Contains front q → ⊥
-          absent (inl none) = none-in q none
-          absent (inr among) = new among
+      absent : Contains [] q ⊎ Contains front q → ⊥
+      absent (inl none) = none-in q none
+      absent (inr among) = new among
 
   all_is : (more : List ℕ) × (all ≡ before ++ q ∷ more)
   all_is =

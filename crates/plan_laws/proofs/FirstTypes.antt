@@ -1,17 +1,13 @@
 -- The types of the first view of a place are shown first as it shows them.
-use Rattle.std.proofs.Common.{◌≡◌, refl, sym, ap, subst, ◌∙◌, ℕ, ◌+◌, arith, Bool, true, List, [], ◌∷◌, map, Option, Some, None, slice_get}
-use Rattle.std.specs.List.{AllByRecursion, Contains}
+use Rattle.plan_type_laws.proofs.PartPlaces.{slot_number}
+use Rattle.std.proofs.Common.{◌≡◌, refl, sym, ap, subst, ◌∙◌, ℕ, ◌+◌, arith, true, List, map, Option, Some, None, slice_get}
+use Rattle.std.specs.List.{Contains}
 use Rattle.wit_model.specs.Text.{Text}
 use Rattle.wit_model.proofs.Elements.{contains-get}
 use Rattle.comp_meaning.specs.Reads as reads
-use Rattle.comp_meaning.specs.Rules.{distinct}
-use Rattle.comp_meaning.specs.Follow.{ShownType}
-use Rattle.read_shown.proofs.Agreement as agreement
-use Rattle.read_shown.proofs.Lists.{one_place}
-use Rattle.plan_meaning.specs.FollowedNumbers.{IsPartIn, IsShownIn, IsViewIn}
-use Rattle.plan_meaning.specs.NumberedMembers.{Homes, NumberedMember, sights_of_members}
-use Rattle.plan_meaning.specs.NumberedViews.{NumberedSight, NumberedType, Tables, agree_in_numbers, first_at, path_at, place_at, shown_type, view_of}
-use Rattle.plan_meaning.specs.Shapes.{Shape, named_shape}
+use Rattle.plan_meaning.specs.FollowedNumbers.{IsShownIn}
+use Rattle.plan_meaning.specs.NumberedMembers.{Homes, sights_of_members}
+use Rattle.plan_meaning.specs.NumberedViews.{NumberedSight, NumberedType, Tables, agree_in_numbers, first_at, path_at}
 use Rattle.read_exports.specs.Members.{numbered_members}
 use Rattle.read_exports.specs.declared.members.Member.{Member}
 use Rattle.read_exports.specs.declared.members.Part.TheVariants as parts
@@ -21,32 +17,23 @@ use Rattle.read_rules.specs.declared.scopes.Shown.TheVariants as shown
 use Rattle.plan_parts.specs.Interfaces.{slot_part}
 use Rattle.plan_types.specs.Showings.{NumberedShowing, showing_of, showings_of_members}
 use Rattle.plan_package.specs.PlanWhole.{shown_first}
-use Rattle.plan_package.specs.Views.{views_of_members, views_of_part}
+use Rattle.plan_package.specs.Views.{views_of_members}
 use Rattle.plan_type_laws.proofs.FirstFound.{firsts_found}
 use Rattle.plan_laws.specs.FirstViews.{ViewsAreOrdered, told}
 use Rattle.plan_laws.specs.Owners.{homes_in}
-use Rattle.plan_laws.specs.ShownNames.{IsInput, PartDeclaresNames, DeclaresName}
-use Rattle.plan_laws.proofs.FirstViews.{first_is, one_told, sight_there}
-use Rattle.plan_laws.proofs.Inside.{flat_cases}
-use Rattle.plan_laws.proofs.Origins as origins
-use Rattle.plan_laws.proofs.Origins.{origin, view_among}
-use Rattle.plan_laws.proofs.PartNames.{views_are_good}
+use Rattle.plan_laws.specs.ShownNames.{IsInput}
+use Rattle.plan_laws.proofs.FirstViews.{first_is, one_told, sight_there, view_names}
+use Rattle.plan_laws.proofs.Inside.{name_same}
+use Rattle.plan_laws.proofs.Sources as origins
+use Rattle.plan_laws.proofs.Sources.{member_view_in, one_under, origin, view_among}
+use Rattle.plan_laws.proofs.Showings.{import_named}
 use Rattle.plan_laws.proofs.Planned.{home_met}
-use Rattle.plan_laws.proofs.Showings.{slot_is}
-use Rattle.base_lemmas.proofs.Elements.{all_at}
-use Rattle.base_lemmas.proofs.Lists.{get_back as unmapped_get, map_of_map, mapped_get}
+use Rattle.base_lemmas.proofs.Elements.{all_at, contains-map, map_from as from_map}
 use Rattle.std.proofs.lemmas.Option.{same_Some as same-some}
 
 module _ (t : Tables) (h : Homes) (ms : List Member) (members : List reads.Member) (input : IsInput t h ms members) (agreed : agree_in_numbers (sights_of_members t (numbered_members ms)) ≡ true) (ordered : ViewsAreOrdered t ms) where
   abbrev pub views : List NumberedSight
   views = views_of_members (numbered_members ms)
-
-  -- each view is good
-  pub view_good : (s : NumberedSight) → Contains views s → IsViewIn t s.place s.view
-  view_good s c =
-      let from = flat_cases (λ (m : NumberedMember). views_of_part m.part) (numbered_members ms) s c in
-      all_at (λ (x : NumberedSight). IsViewIn t x.place x.view) (views_of_part from.0.part)
-      (views_are_good t input.tables h input.homes from.0.part (all_at (λ (m : NumberedMember). IsPartIn t m.part) (numbered_members ms) input.numbers from.0 from.1)) s from.2
 
   -- all views of a place tell the same
   pub views_told : (s u : NumberedSight) → Contains views s → Contains views u → s.place ≡ u.place → map told s.view.types ≡ map told u.view.types
@@ -62,55 +49,34 @@ module _ (t : Tables) (h : Homes) (ms : List Member) (members : List reads.Membe
           let one : here.0 ≡ there.0 = ordered.inline here.0 there.0 s u here.1 there.1 e same in
           ap (λ (x : NumberedSight). map told x.view.types) (same-some s u (sym here.1 ∙ (ap (slice_get views) one ∙ there.1)))
 
-  -- the names of the types of a view differ
-  names_differ : (s : NumberedSight) → Contains views s → distinct (map (λ (x : NumberedType). x.name) s.view.types) ≡ true
-  names_differ s c = sym (ap distinct (map_of_map (λ (x : ShownType). x.name) (shown_type t) s.view.types)) ∙ agreement.names_differ (place_at t s.place) (view_of t s.view) (ordered.obey s c)
-
   -- a type of the view under the number
   number_is : (s : NumberedSight) → Contains views s → (x : NumberedType) → Contains s.view.types x → IsShownIn t s.place x
-  number_is s c x among = all_at (IsShownIn t s.place) s.view.types (view_good s c).types x among
+  number_is s c x among = all_at (IsShownIn t s.place) s.view.types (member_view_in t ms input.numbers s c).types x among
 
   module _ (q : ℕ) (first : NumberedSight) (is_first : first_at q views ≡ Some first) where
     first_among : Contains views first
     first_among = (first_is q views first is_first).0
-
-    first_place : first.place ≡ q
-    first_place = (first_is q views first is_first).1
 
     -- what another view shows under the number is told by the first
     told_by_view : (x : NumberedType) → Contains first.view.types x → (is : IsShownIn t first.place x) → (s : NumberedSight) → Contains views s → (z : NumberedType) → Contains s.view.types z
         → slot_part z.slot ≡ 14 + is.number → told z ≡ told x
     told_by_view x among is s c z there part =
         let other = number_is s c z there in
-        let one : other.number ≡ is.number = (let a = slot_is t input.tables z.slot other.number other.slot in omega (arith, a, part)) in
-        let shape : named_shape s.place z.name ≡ named_shape first.place x.name =
-        same-some (named_shape s.place z.name) (named_shape first.place x.name) (sym other.name.named ∙ (ap (slice_get t.shapes) one ∙ is.name.named)) in
-        let place : s.place ≡ first.place = ap (λ (y : Shape). y.number) shape in
-        let name : z.name ≡ x.name = ap (λ (y : Shape). unlabel y.labels) shape in
-        let same = views_told s first c first_among place in
-        let at = contains-get s.view.types z there in
-        let found = unmapped_get told first.view.types at.0 (told z) (subst (λ zs. slice_get zs at.0 ≡ Some (told z)) same (mapped_get told s.view.types at.0 z at.1)) in
-        let here = contains-get first.view.types x among in
-        let text : found.0.name ≡ x.name = ap (λ (y : Text × (Option ℕ × Option Text)). y.0) found.2 ∙ name in
-        let index : at.0 ≡ here.0 =
-        one_place (map (λ (y : NumberedType). y.name) first.view.types) (names_differ first first_among) at.0 here.0 x.name
-        (mapped_get (λ (y : NumberedType). y.name) first.view.types at.0 found.0 found.1 ∙ ap Some text) (mapped_get (λ (y : NumberedType). y.name) first.view.types here.0 x here.1) in
-        sym found.2 ∙ ap told (same-some found.0 x (sym found.1 ∙ (ap (slice_get first.view.types) index ∙ here.1)))
-      where
-        unlabel : List (Text × Bool) → Text
-        unlabel [] = []
-        unlabel (l ∷ ls) = l.0
+        let one : other.number ≡ is.number = (let a = slot_number t z.slot other.number other.slot in omega (arith, a, part)) in
+        let here = name_same t.shapes s.place first.place z.name x.name other.number is.number other.name.named is.name.named one in
+        let same = views_told s first c first_among here.0 in
+        let found = from_map told first.view.types (told z) (subst (λ zs. Contains zs (told z)) same (contains-map told s.view.types z there)) in
+        let text = ap (λ (y : Text × (Option ℕ × Option Text)). y.0) found.2 ∙ here.1 in
+        sym found.2 ∙ ap told (one_under (λ (y : NumberedType). y.name) first.view.types (view_names t first (ordered.obey first first_among)) found.0 x found.1 among text)
 
     -- no world imports it
     not_imported : (x : NumberedType) (is : IsShownIn t first.place x) → (m : Member) → Contains ms m → (w : Scope) → m.part ≡ parts.World w → (c : Seen) → Contains w.imports.now c
         → (part : ℕ) (d : Option ℕ) → c.shown ≡ shown.Declares part d → part ≡ 14 + is.number → ⊥
     not_imported x is m among w world c there part d declares same =
-        let all : AllByRecursion (DeclaresName t w.home) w.imports.now = subst (PartDeclaresNames t) world (all_at (λ (y : Member). PartDeclaresNames t y.part) ms input.declared m among) in
-        let named = subst (λ z. DeclaresName t w.home (record { key = c.key; shown = z; external_id = c.external_id })) declares (all_at (DeclaresName t w.home) w.imports.now all c there) in
+        let named = import_named t input.tables h ms members input m among w world c there part d declares in
         let one : named.0 ≡ is.number = (let a = named.1 in omega (arith, a, same)) in
-        let shape : named_shape w.home c.key.now ≡ named_shape first.place x.name =
-        same-some (named_shape w.home c.key.now) (named_shape first.place x.name) (sym named.2 ∙ (ap (slice_get t.shapes) one ∙ is.name.named)) in
-        ordered.apart first first_among (subst (Contains (homes_in ms)) (ap (λ (y : Shape). y.number) shape) (home_met ms m among w world))
+        let here = name_same t.shapes w.home first.place c.key.now x.name named.0 is.number named.2.named is.name.named one in
+        ordered.apart first first_among (subst (Contains (homes_in ms)) here.0 (home_met ms m among w world))
 
     -- a type of the first view is shown first as it shows it
     pub first_told : (x : NumberedType) → Contains first.view.types x → (is : IsShownIn t first.place x) → (y : NumberedShowing) → shown_first ms is.number ≡ Some y → (y.declared ≡ x.declared)

@@ -1,6 +1,12 @@
 -- All views of one place tell the same of types.
-use Rattle.std.proofs.Common.{◌≡◌, refl, sym, ap, subst, ◌∙◌, ℕ, zero, suc, arith, Bool, true, false, not, ◌&&◌, ◌||◌, ◌==◌, cond, List, [], ◌∷◌, map, Option, Some, None}
-use Rattle.std.specs.List.{Contains, find, flat_map, list_all}
+use Rattle.plan_type_laws.proofs.FirstFound.{first_found}
+use Rattle.read_shown.proofs.Agreement as agreement
+use Rattle.plan_laws.specs.ShownRules.{ViewObeys}
+use Rattle.comp_meaning.specs.Follow.{ShownType}
+use Rattle.comp_meaning.specs.Rules.{distinct}
+use Rattle.base_lemmas.proofs.Lists.{map_of_map}
+use Rattle.std.proofs.Common.{◌≡◌, refl, sym, ap, subst, ◌∙◌, ℕ, zero, suc, arith, Bool, true, false, not, ◌&&◌, ◌||◌, ◌==◌, List, [], ◌∷◌, map, Option, Some, None}
+use Rattle.std.specs.List.{Contains, flat_map, list_all}
 use Rattle.std.specs.Option.{option_map_or}
 use Rattle.std.specs.Cmp.Lexicographic.{pointwise}
 use Rattle.std.proofs.lemmas.Bool.{eq-eqb, eqb-true, and_from as both}
@@ -9,7 +15,7 @@ use Rattle.wit_model.specs.Text.{Text, text_eq}
 use Rattle.wit_model.proofs.Elements.{contains-flat, none-in}
 use Rattle.comp_meaning.specs.Same.{same_option}
 use Rattle.plan_meaning.specs.NumberedMembers.{NumberedMember, NumberedPart, interface, sights_of_members, sights_of_part, world}
-use Rattle.plan_meaning.specs.NumberedViews.{NumberedSight, NumberedType, Tables, agree, agree_in_numbers, first_at, same_functions, same_id, same_number, same_shown}
+use Rattle.plan_meaning.specs.NumberedViews.{NumberedSight, NumberedType, Tables, agree, agree_in_numbers, first_at, same_functions, same_id, same_number, same_shown, place_at, shown_type, view_of}
 use Rattle.plan_meaning.specs.NumberedWorlds.{HasPath, NumberedInstance, sights_of_instance}
 use Rattle.plan_package.specs.Views.{views_of_part, whole_view}
 use Rattle.plan_laws.specs.FirstViews.{told}
@@ -17,7 +23,6 @@ use Rattle.plan_laws.proofs.Inside.{flat_cases}
 use Rattle.base_lemmas.proofs.Bools.{left_of as first_true, right_of as second_true}
 use Rattle.base_lemmas.proofs.Elements.{all-contained, contains-one, map_from as from_map}
 use Rattle.base_lemmas.proofs.Numbers.{same-number}
-use Rattle.std.proofs.lemmas.Option.{same_Some as same-some}
 use Rattle.wit_model.proofs.TextLemmas.{text_same}
 
 -- ---- what is told of a type
@@ -25,8 +30,7 @@ use Rattle.wit_model.proofs.TextLemmas.{text_same}
 pub option_same : {A : Type 0} (eq : A → A → Bool) → ((a b : A) → eq a b ≡ true → a ≡ b) → (a b : Option A) → same_option eq a b ≡ true → a ≡ b
 option_same eq decides None None h = refl
 option_same eq decides (Some a) (Some b) h = ap Some (decides a b h)
-option_same eq decides None (Some b) h = let wrong : false ≡ true = h in absurd cc
-option_same eq decides (Some a) None h = let wrong : false ≡ true = h in absurd cc
+option_same eq decides _ _ h = let wrong : false ≡ true = h in absurd cc
 
 pub same_of_option : {A : Type 0} (eq : A → A → Bool) → ((a : A) → eq a a ≡ true) → (a : Option A) → same_option eq a a ≡ true
 same_of_option eq itself None = refl
@@ -51,21 +55,19 @@ told_shown x y e =
 
 pub types_told : (xs ys : List NumberedType) → pointwise same_shown xs ys ≡ true → map told xs ≡ map told ys
 types_told [] [] h = refl
-types_told [] (y ∷ ys) h = let wrong : false ≡ true = h in absurd cc
-types_told (x ∷ xs) [] h = let wrong : false ≡ true = h in absurd cc
 types_told (x ∷ xs) (y ∷ ys) h =
     let one = shown_told x y (first_true (same_shown x y) (pointwise same_shown xs ys) h) in
     let rest = types_told xs ys (second_true (same_shown x y) (pointwise same_shown xs ys) h) in
     λ i. one i ∷ rest i
+types_told _ _ h = let wrong : false ≡ true = h in absurd cc
 
 pub told_types : (xs ys : List NumberedType) → map told xs ≡ map told ys → pointwise same_shown xs ys ≡ true
 told_types [] [] e = refl
-told_types [] (y ∷ ys) e = let wrong : ⊥ = cc in absurd wrong
-told_types (x ∷ xs) [] e = let wrong : ⊥ = cc in absurd wrong
 told_types (x ∷ xs) (y ∷ ys) e =
     let one : told x ≡ told y = cc in
     let rest : map told xs ≡ map told ys = cc in
     both (same_shown x y) (pointwise same_shown xs ys) (told_shown x y one) (told_types xs ys rest)
+told_types _ _ e = let wrong : ⊥ = cc in absurd wrong
 
 -- ---- views that agree
 
@@ -102,15 +104,10 @@ module _ (t : Tables) where
       let from = flat_cases (λ (m : NumberedMember). views_of_part m.part) ms s c in
       contains-flat (λ (m : NumberedMember). sights_of_part t m.part) ms from.0 s from.1 (part_sight from.0.part s from.2 path)
 
+-- the names of the types of a view that obeys the rules differ
+pub view_names : (t : Tables) (s : NumberedSight) → ViewObeys t s → distinct (map (λ (x : NumberedType). x.name) s.view.types) ≡ true
+view_names t s obeys = sym (ap distinct (map_of_map (λ (x : ShownType). x.name) (shown_type t) s.view.types)) ∙ agreement.names_differ (place_at t s.place) (view_of t s.view) obeys
+
 -- the first view of a place is of it
 pub first_is : (q : ℕ) (all : List NumberedSight) (s : NumberedSight) → first_at q all ≡ Some s → Contains all s × (s.place ≡ q)
-first_is q [] s e = let wrong : None ≡ Some s = e in absurd cc
-first_is q (x ∷ xs) s e = by (q == x.place) refl e (first_is q xs s)
-  where
-    later : Contains xs s → Contains (x ∷ xs) s
-    later (i, low, same) = (suc i, omega (arith, low), same)
-
-    by : (b : Bool) → (q == x.place) ≡ b → cond b (Some x) (find (λ (y : NumberedSight). q == y.place) xs) ≡ Some s → (first_at q xs ≡ Some s → Contains xs s × (s.place ≡ q)) → Contains (x ∷ xs) s
-        × (s.place ≡ q)
-    by true here e deeper = let same : x ≡ s = same-some x s e in ((0, omega arith, same), ap (λ (y : NumberedSight). y.place) (sym same) ∙ sym (eqb-true q x.place here))
-    by false none e deeper = let found = deeper e in (later found.0, found.1)
+first_is q all s e = let found = first_found (λ (y : NumberedSight). q == y.place) all s e in (found.0, sym (eqb-true q s.place found.1))

@@ -31,9 +31,8 @@ pub record IsSeenResource (ss : List NumberedSeen) (r : Text) : Type 0 where
   pub shown : seen.shown ≡ worlds.declares declared
 
 declares_it : (x : NumberedShown) → is_resource_seen x ≡ true → (d : Option ℕ) × (x ≡ worlds.declares d)
-declares_it (worlds.instance k v) h = no_true h
-declares_it (worlds.function n) h = no_true h
 declares_it (worlds.declares d) h = (d, refl)
+declares_it _ h = no_true h
 
 pub seen_resource : (ss : List NumberedSeen) (r : Text) → list_any (text_eq r) (resources_seen ss) ≡ true → IsSeenResource ss r
 seen_resource [] r any = no_true any
@@ -78,10 +77,8 @@ module _ (t : Tables) (known : ℕ → Fact) (home : ℕ) where
 
 -- what is seen, the items that it becomes and the counts, place by place
 pub items : List NumberedSeen → List (PlannedKey × PlannedItem) → List ℕ → List ReadItem
-items [] es cs = []
-items (s ∷ ss) [] cs = []
-items (s ∷ ss) (e ∷ es) [] = []
 items (s ∷ ss) (e ∷ es) (c ∷ cs) = record { seen = s; entry = e; count = c } ∷ items ss es cs
+items _ _ _ = []
 
 pub items_seen : (ss : List NumberedSeen) (es : List (PlannedKey × PlannedItem)) (cs : List ℕ) → length es ≡ length ss → length cs ≡ length ss → map (λ (x : ReadItem). x.seen) (items ss es cs) ≡ ss
 unfolding items
@@ -93,21 +90,18 @@ items_seen (s ∷ ss) (e ∷ es) (c ∷ cs) a b = ap (λ xs. s ∷ xs) (items_se
 pub items_listed : (ss : List NumberedSeen) (es : List (PlannedKey × PlannedItem)) (cs : List ℕ) → length es ≡ length ss → length cs ≡ length ss → map (λ (x : ReadItem). x.entry) (items ss es cs) ≡ es
 unfolding items
 items_listed [] [] cs a b = refl
-items_listed [] (e ∷ es) cs a b = absurd (omega (arith, a))
-items_listed (s ∷ ss) [] cs a b = absurd (omega (arith, a))
 items_listed (s ∷ ss) (e ∷ es) [] a b = absurd (omega (arith, b))
 items_listed (s ∷ ss) (e ∷ es) (c ∷ cs) a b = ap (λ xs. e ∷ xs) (items_listed ss es cs (omega (arith, a)) (omega (arith, b)))
+items_listed _ _ cs a b = absurd (omega (arith, a))
 
 pub items_at : (ss : List NumberedSeen) (es : List (PlannedKey × PlannedItem)) (cs : List ℕ) (j : ℕ) (x : ReadItem) → slice_get (items ss es cs) j ≡ Some x → (slice_get ss j ≡ Some x.seen)
     × (slice_get es j ≡ Some x.entry) × (slice_get cs j ≡ Some x.count)
 unfolding items
-items_at [] es cs j x at = let wrong : None ≡ Some x = at in absurd cc
-items_at (s ∷ ss) [] cs j x at = let wrong : None ≡ Some x = at in absurd cc
-items_at (s ∷ ss) (e ∷ es) [] j x at = let wrong : None ≡ Some x = at in absurd cc
 items_at (s ∷ ss) (e ∷ es) (c ∷ cs) zero x at =
     let same = same-some (record { seen = s; entry = e; count = c }) x at in
     (ap (λ (y : ReadItem). Some y.seen) same, ap (λ (y : ReadItem). Some y.entry) same, ap (λ (y : ReadItem). Some y.count) same)
 items_at (s ∷ ss) (e ∷ es) (c ∷ cs) (suc j) x at = items_at ss es cs j x at
+items_at _ _ _ j x at = let wrong : None ≡ Some x = at in absurd cc
 
 -- each type is behind all that is followed before, where its count is greater
 pub types_behind : (xs : List ReadItem) → ((i j : ℕ) (x y : ReadItem) → slice_get xs i ≡ Some x → slice_get xs j ≡ Some y → i < j → is_type_seen y.seen.shown ≡ true → x.count < y.count)
@@ -128,12 +122,11 @@ types_behind (x ∷ xs) more =
 module _ (t : Tables) (kept : List ℕ) (p : Plan) (P : ℕ → Type 0) where
   params_back : (fs ss gs : List (Text × ℕ)) → AllZip (KeptParam kept) fs gs → AllZip (ParamBecomes t kept p) ss gs → AllByRecursion (λ (x : Text × ℕ). P x.1) fs
       → AllByRecursion (λ (x : Text × ℕ). P x.1) ss
-  params_back [] [] gs a b all = tt
   params_back [] (s ∷ ss) [] a b all = absurd b
   params_back [] (s ∷ ss) (g ∷ gs) a b all = absurd a
-  params_back (f ∷ fs) [] gs a b all = tt
   params_back (f ∷ fs) (s ∷ ss) [] a b all = absurd a
   params_back (f ∷ fs) (s ∷ ss) (g ∷ gs) a b all = (subst P (one_old kept f.1 s.1 g.1 a.0.1 b.0.1.part) all.0, params_back fs ss gs a.1 b.1 all.1)
+  params_back _ _ gs a b all = tt
 
   result_back : (f s g : Option ℕ) → KeptIfGiven kept f g → BecomesIfGiven t kept p s g → AllOf P f → AllOf P s
   result_back f None g a b all = tt

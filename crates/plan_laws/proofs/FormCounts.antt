@@ -48,60 +48,25 @@ module _ (t : Tables) where
   form_counts (Form.variant_of cases) parts n at h =
       ap (λ k. length parts == k) (sym (given_many cases)) ∙ same parts (count_true (map (λ (c : Text × Bool). c.1) cases))
       (second_true (is_filled cases) (many parts == count_true (map (λ (c : Text × Bool). c.1) cases)) h)
-  form_counts Form.list_of parts n at h = same parts 1 h
   form_counts (Form.fixed_list_of l) parts n at h = same parts 1 (second_true (nat_le 1 l) (many parts == 1) h)
-  form_counts Form.option_of parts n at h = same parts 1 h
-  form_counts Form.own_of parts n at h = same parts 1 h
-  form_counts Form.borrow_of parts n at h = same parts 1 h
   form_counts Form.map_of parts n at h = same parts 2 (second_true (begins_with_key (map (tree_at t) parts)) (many parts == 2) h)
   form_counts Form.tuple_of parts n at h = refl
   form_counts (Form.flags_of names) parts n at h = same parts 0 (second_true (is_filled names) (many parts == 0) h)
   form_counts (Form.enum_of names) parts n at h = same parts 0 (second_true (is_filled names) (many parts == 0) h)
   form_counts (Form.result_of true true) parts n at h = same parts 2 h
-  form_counts (Form.result_of true false) parts n at h = same parts 1 h
-  form_counts (Form.result_of false true) parts n at h = same parts 1 h
   form_counts (Form.result_of false false) parts n at h = same parts 0 h
-  form_counts (Form.future_of true) parts n at h = same parts 1 h
   form_counts (Form.future_of false) parts n at h = same parts 0 h
-  form_counts (Form.stream_of true) parts n at h = same parts 1 h
   form_counts (Form.stream_of false) parts n at h = same parts 0 h
+  form_counts _ parts n at h = same parts 1 h
 
 pub forms_count : (t : Tables) (h : Homes) (ms : List Member) (members : List reads.Member) → IsInput t h ms members → FormsHold t HasCount (showings_of_members ms) (signatures_of_members ms)
 forms_count t h ms members input = forms_hold t input.tables HasCount (form_counts t) h ms members input.shown input.stand
 
 -- ---- forms by their numbers
 
-low_sort : (form : Form) → 1 ≤ (form_code form).sort
-low_sort (Form.record_of names) = omega arith
-low_sort (Form.variant_of cases) = omega arith
-low_sort Form.list_of = omega arith
-low_sort (Form.fixed_list_of l) = omega arith
-low_sort Form.option_of = omega arith
-low_sort Form.own_of = omega arith
-low_sort Form.borrow_of = omega arith
-low_sort Form.map_of = omega arith
-low_sort Form.tuple_of = omega arith
-low_sort (Form.flags_of names) = omega arith
-low_sort (Form.enum_of names) = omega arith
-low_sort (Form.result_of ok err) = omega arith
-low_sort (Form.future_of some) = omega arith
-low_sort (Form.stream_of some) = omega arith
-
-high_sort : (form : Form) → (form_code form).sort ≤ 14
-high_sort (Form.record_of names) = omega arith
-high_sort (Form.variant_of cases) = omega arith
-high_sort Form.list_of = omega arith
-high_sort (Form.fixed_list_of l) = omega arith
-high_sort Form.option_of = omega arith
-high_sort Form.own_of = omega arith
-high_sort Form.borrow_of = omega arith
-high_sort Form.map_of = omega arith
-high_sort Form.tuple_of = omega arith
-high_sort (Form.flags_of names) = omega arith
-high_sort (Form.enum_of names) = omega arith
-high_sort (Form.result_of ok err) = omega arith
-high_sort (Form.future_of some) = omega arith
-high_sort (Form.stream_of some) = omega arith
+sorts : (form : Form) → (1 ≤ (form_code form).sort) × ((form_code form).sort ≤ 14)
+sorts (Form.record_of names) = omega arith
+sorts _ = omega arith
 
 -- ---- a form over what is kept
 
@@ -125,8 +90,8 @@ module _ (t : Tables) (h : Homes) (ms : List Member) (members : List reads.Membe
           let is : shape_form s ≡ form = ap shape_form e ∙ form_back form in
           let own : s.parts ≡ ks = ap (λ (x : Shape). x.parts) e in
           record {
-            low = subst (λ (x : Shape). 1 ≤ x.sort) (sym e) (low_sort form);
-            high = subst (λ (x : Shape). x.sort ≤ 14) (sym e) (high_sort form);
+            low = subst (λ (x : Shape). 1 ≤ x.sort) (sym e) (sorts form).0;
+            high = subst (λ (x : Shape). x.sort ≤ 14) (sym e) (sorts form).1;
             count = (λ i. has_count (is i) (length (own i))) ∙ counts.holds n form ks (itself (14 + n) n refl) there;
             parts = parts;
             handle = λ handles. subst (AllByRecursion (λ k. 14 ≤ k)) (sym own) (high_parts ks ((marked.holds n form ks (itself (14 + n) n refl) there).handle (ap is_handle_form (sym is) ∙ handles)));

@@ -3,7 +3,6 @@ use Rattle.std.proofs.Common.{◌≡◌, refl, sym, ap, subst, ◌∙◌, ℕ, a
 use Rattle.std.specs.Prelude.{option_and_then}
 use Rattle.std.specs.List.{AllZip, Contains}
 use Rattle.std.specs.Option.{option_map_or}
-use Rattle.std.proofs.lemmas.List.Elements.{Contains-append_right}
 use Rattle.wit_model.specs.Rules.{is_id}
 use Rattle.wit_model.specs.Text.{Text}
 use Rattle.wit_model.specs.Valid.{as_interface}
@@ -20,15 +19,14 @@ use Rattle.plan_meaning.specs.ReadFunctions.{Beside}
 use Rattle.plan_meaning.proofs.Lists.{no_true}
 use Rattle.plan_meaning.proofs.NumberedMembers.{only_sights}
 use Rattle.plan_meaning.proofs.NumberedWorlds.{path_is}
-use Rattle.read_exports.specs.Members.{numbered_member, numbered_members, numbered_part}
+use Rattle.read_exports.specs.Members.{numbered_members, numbered_part}
 use Rattle.read_exports.specs.declared.members.Member.{Member}
 use Rattle.read_exports.specs.declared.members.Part.{Part}
 use Rattle.read_exports.specs.declared.members.Part.TheVariants as parts
-use Rattle.read_rules.specs.Reached.{numbered_import}
 use Rattle.read_rules.specs.Views.{numbered_view}
 use Rattle.plan_types.specs.PlannedTypes.{number_in}
 use Rattle.plan_package.specs.PlanWhole.{PlansWhole, places_in}
-use Rattle.plan_package.specs.Views.{types_alone, views_of_members, views_of_part}
+use Rattle.plan_package.specs.Views.{views_of_members, views_of_part}
 use Rattle.plan_package.specs.WholeInterfaces.{PlansPlace}
 use Rattle.plan_package.specs.WholePackages.{ListsPlace, interface_in_part, interfaces_in}
 use Rattle.plan_laws.specs.FirstViews.{ViewsAreOrdered, told}
@@ -41,14 +39,14 @@ use Rattle.plan_laws.proofs.FirstViews.{first_is}
 use Rattle.plan_laws.proofs.GatheredSights.{IsGatheredFrom, IsGatheredOne, gathered, gathered_from, left_out}
 use Rattle.plan_laws.proofs.Inside.{flat_cases}
 use Rattle.plan_laws.proofs.ListedFunctions.{functions_listed, seen_same}
-use Rattle.plan_laws.proofs.Origins.{view_among}
+use Rattle.plan_laws.proofs.Sources.{view_among, own_sight, own_there, part_at}
 use Rattle.plan_laws.proofs.PlaceNumbers.{one_owner, owner_numbered, place_number}
 use Rattle.plan_laws.proofs.Planned.{first_there, interface_there, view_met}
 use Rattle.plan_laws.proofs.ShownWhole.{sight_viewed}
 use Rattle.plan_laws.proofs.Viewed.{planned_interfaces_are_viewed}
 use Rattle.plan_laws.proofs.WholePlacesTop.{sight_of_place}
 use Rattle.plan_laws.proofs.WholeTypes.{packages_are_ruled, path_planned}
-use Rattle.base_lemmas.proofs.Elements.{all_at, contains-later, contains-map, contains-one, get-contains, zip_each}
+use Rattle.base_lemmas.proofs.Elements.{all_at, contains-later, get-contains, zip_each}
 use Rattle.std.proofs.lemmas.Option.{same_Some as same-some}
 use Rattle.plan_package.proofs.ReadPackageLaws.{number_at as number_there}
 
@@ -56,13 +54,12 @@ use Rattle.plan_package.proofs.ReadPackageLaws.{number_at as number_there}
 told_listed : (t : Tables) (kept : List ℕ) (p : Plan) (xs ys : List NumberedType) (es : List (Text × ℕ)) → map told xs ≡ map told ys → AllZip (TypeListed t kept p) xs es
     → AllZip (TypeListed t kept p) ys es
 told_listed t kept p [] [] es e zip = zip
-told_listed t kept p [] (y ∷ ys) es e zip = let wrong : ⊥ = cc in absurd wrong
-told_listed t kept p (x ∷ xs) [] es e zip = let wrong : ⊥ = cc in absurd wrong
 told_listed t kept p (x ∷ xs) (y ∷ ys) [] e zip = absurd zip
 told_listed t kept p (x ∷ xs) (y ∷ ys) (z ∷ zs) e zip =
     let one : told x ≡ told y = cc in
     let rest : map told xs ≡ map told ys = cc in
     (subst (λ (a : Text × (Option ℕ × Option Text)). (z.0 ≡ a.0) × TypeBecomes t kept p a.1.0 a.1.1 z.1) one zip.0, told_listed t kept p xs ys zs rest zip.1)
+told_listed t kept p _ _ es e zip = let wrong : ⊥ = cc in absurd wrong
 
 module _ (t : Tables) (h : Homes) (known : ℕ → Fact) (n : ℕ) (ms : List Member) (members : List reads.Member) (given : IsPackageInput t h known n ms members) (ordered : ViewsAreOrdered t ms)
     (p : Plan) (planned : PlansWhole t h.packages (home_at h) n ms p)
@@ -129,12 +126,10 @@ module _ (t : Tables) (h : Homes) (known : ℕ → Fact) (n : ℕ) (ms : List Me
       by (parts.World w) is es zip more = more es zip
       by (parts.Interface q v imports) is [] zip more = absurd zip
       by (parts.Interface q v imports) is (e ∷ es) zip more =
-          let s : NumberedSight = record { place = q; view = numbered_view v; whole = true } in
-          let last : Contains (views_of_part (numbered_part (parts.Interface q v imports))) s = Contains-append_right (map types_alone (map numbered_import imports.now)) (s ∷ []) s (contains-one s) in
-          let viewed : Contains views s = view_among ms m (among m (0, omega arith, refl)) s (subst (λ a. Contains (views_of_part (numbered_part a)) s) (sym is) last) in
-          let path : HasPath t q = (subst (λ a. IsPartIn t (numbered_part a)) is
-          (all_at (λ (x : NumberedMember). IsPartIn t x.part) (numbered_members ms) given.input.numbers (numbered_member m)
-          (contains-map numbered_member ms m (among m (0, omega arith, refl))))).0.0 in (
+          let here = among m (0, omega arith, refl) in
+          let s = own_sight q v imports in
+          let viewed : Contains views s = view_among ms m here s (subst (λ a. Contains (views_of_part (numbered_part a)) s) (sym is) (own_there q v imports)) in
+          let path : HasPath t q = (subst (λ a. IsPartIn t (numbered_part a)) is (part_at t ms given.input.numbers m here)).0.0 in (
             record {
               name = zip.0.0;
               there = subst (λ fs. InterfaceAt t planned.kept p (numbered_view v) fs e.1) (seen_same t q path (numbered_members ms)) (interface_at s viewed e.1 zip.0.1);

@@ -23,8 +23,6 @@ module _ (t : Tables) (kept : List ℕ) (p : Plan) (seen : List NumberedSight) (
 
   gather : (qs : List ℕ) (is : List PlannedInterface) → AllZip IsGatheredOne qs is → AreGathered qs is
   gather [] [] zip = record { chosen = []; zip = tt; among = λ s c. none-in s c; each = λ q c. none-in q c }
-  gather [] (i ∷ is) zip = absurd zip
-  gather (q ∷ qs) [] zip = absurd zip
   gather (q ∷ qs) (i ∷ is) zip = by zip.0 (gather qs is zip.1)
     where
       by : IsGatheredOne q i → AreGathered qs is → AreGathered (q ∷ qs) (i ∷ is)
@@ -52,6 +50,7 @@ module _ (t : Tables) (kept : List ℕ) (p : Plan) (seen : List NumberedSight) (
           each : (r : ℕ) → Contains (q ∷ qs) r → wanted r ≡ true → HasPath t r → (d : NumberedSight) × Contains (s ∷ rest.chosen) d × (d.place ≡ r)
           each r (zero, low, same) allowed path = (s, (0, omega arith, refl), place ∙ same)
           each r (suc j, low, same) allowed path = let later = rest.each r (j, omega (arith, low), same) allowed path in (later.0, contains-later s rest.chosen later.0 later.1, later.2)
+  gather _ _ zip = absurd zip
 
   -- All interfaces that are picked are gathered, each from one view of its place.
   pub record IsGatheredFrom (is : List PlannedInterface) : Type 0 where

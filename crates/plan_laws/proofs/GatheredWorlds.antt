@@ -1,12 +1,9 @@
 -- The worlds of a plan become what worlds at the top show.
-use Rattle.std.proofs.Common.{◌≡◌, refl, sym, ap, subst, ◌∙◌, ℕ, suc, ◌+◌, ◌⊎◌, inl, inr, arith, true, false, List, [], ◌∷◌, ◌++◌, map, Option, Some, None, slice_get, unwrap_or}
+use Rattle.std.proofs.Common.{◌≡◌, refl, sym, ap, subst, ◌∙◌, ℕ, suc, ◌+◌, inl, inr, arith, true, false, List, [], ◌∷◌, ◌++◌, map, Option, Some, None, slice_get, unwrap_or}
 use Rattle.std.specs.List.{AllZip, Contains, flat_map}
 use Rattle.wit_model.specs.Text.{Text}
 use Rattle.wit_model.specs.declared.model.TypeId.{TypeId}
 use Rattle.comp_meaning.specs.Reads as reads
-use Rattle.read_shown.specs.Scopes as scopes
-use Rattle.read_shown.proofs.Lists.{one_place}
-use Rattle.plan_meaning.specs.FollowedNumbers.{IsOneOf, IsSeenIn}
 use Rattle.plan_meaning.specs.GatheredPlan.{InterfaceAt, SeenBecomes, WorldAt, WorldBecomes, WorldsListed, functions_seen, worlds_listed}
 use Rattle.plan_meaning.specs.NumberedMembers.{Homes, home_at}
 use Rattle.plan_meaning.specs.NumberedRules.{Fact}
@@ -30,12 +27,12 @@ use Rattle.read_rules.specs.declared.scopes.Seen.{Seen}
 use Rattle.read_rules.specs.declared.scopes.Shown.{Shown}
 use Rattle.read_rules.specs.declared.scopes.Shown.TheVariants as shown
 use Rattle.read_rules.specs.declared.views.View.{View}
-use Rattle.read_rules.specs.Scopes.{numbered_instance, numbered_key, numbered_scope, numbered_seen, numbered_shown}
+use Rattle.read_rules.specs.Scopes.{numbered_key, numbered_scope, numbered_seen, numbered_shown}
 use Rattle.read_rules.specs.Tables.{given_text}
 use Rattle.read_rules.specs.Views.{numbered_view}
 use Rattle.plan_types.specs.PlannedTypes.{number_in}
 use Rattle.plan_package.specs.PlanWhole.{PlansWhole, places_in}
-use Rattle.plan_package.specs.Views.{views_of_members, views_of_part, whole_view}
+use Rattle.plan_package.specs.Views.{views_of_members}
 use Rattle.plan_package.specs.WholePackages.{numbered_labels}
 use Rattle.plan_package.specs.WholeWorlds.{PlansItem, PlansWorld, a_function, a_type, an_instance, planned_key, types_seen, world_in_part, worlds_in}
 use Rattle.plan_laws.specs.FirstViews.{ViewsAreOrdered}
@@ -43,28 +40,26 @@ use Rattle.plan_laws.specs.Whole.{IsPackageInput}
 use Rattle.plan_laws.specs.WholeFunctions.{beside_tables}
 use Rattle.plan_laws.specs.WholeTypes.{IsRuledInput, TypesAreWhole}
 use Rattle.plan_laws.specs.WholeWorlds.{IsUnderKey, WorldIsFollowed, WorldsAreFollowed}
-use Rattle.plan_laws.specs.WorldItems.{KeysAreApart, TypesAreRead, WorldsAreApart}
+use Rattle.plan_laws.specs.WorldItems.{TypesAreRead, WorldsAreApart}
 use Rattle.plan_laws.proofs.GatheredInterfaces.{interface_at, path_same}
 use Rattle.plan_laws.proofs.OwnPlaces.{a_view, frames, one_owned}
-use Rattle.plan_laws.proofs.Origins.{view_among}
+use Rattle.plan_laws.proofs.Sources.{Side, seen_sight, side_good, side_is, sight_of, IsWorldIn, world_in}
+use Rattle.plan_meaning.specs.ReadWorlds.{is_type_seen}
 use Rattle.plan_laws.proofs.ShownAlike.{view_owned}
-use Rattle.plan_laws.proofs.ShownRules.{no_types}
-use Rattle.plan_laws.proofs.ShownFrom.{IsWorldOf, view_frame, world_of}
+use Rattle.plan_laws.proofs.ShownFrom.{view_frame}
 use Rattle.plan_laws.proofs.WholeFunctions.{seen_becomes}
 use Rattle.plan_laws.proofs.WholePlacesLabels.{world_among}
 use Rattle.plan_laws.proofs.WholeReasonsFunctions.{first_whole}
 use Rattle.plan_laws.proofs.WholeTypes.{packages_are_ruled}
 use Rattle.plan_laws.proofs.WorldItems.{planned_worlds_stand, world_member}
-use Rattle.plan_laws.proofs.WorldKeys.{keys_apart}
-use Rattle.base_lemmas.proofs.Elements.{all_at, contains-later, contains-map, get-contains, zip_at}
-use Rattle.base_lemmas.proofs.Lists.{mapped_get}
+use Rattle.plan_laws.proofs.WorldKeys.{keys_differ}
+use Rattle.base_lemmas.proofs.Elements.{all_at, contains-later, get-contains, zip_at}
 
 zip_mapped : {A B C : Type 0} (P : A → B → Type 0) (Q : C → B → Type 0) (f : A → C) (xs : List A) → ((x : A) → Contains xs x → (y : B) → P x y → Q (f x) y) → (ys : List B) → AllZip P xs ys
     → AllZip Q (map f xs) ys
 zip_mapped P Q f [] each [] zip = tt
-zip_mapped P Q f [] each (y ∷ ys) zip = absurd zip
-zip_mapped P Q f (x ∷ xs) each [] zip = absurd zip
 zip_mapped P Q f (x ∷ xs) each (y ∷ ys) zip = (each x (0, omega arith, refl) y zip.0, zip_mapped P Q f xs (λ z c. each z (contains-later x xs z c)) ys zip.1)
+zip_mapped _ _ f _ each _ zip = absurd zip
 
 module _ (t : Tables) (h : Homes) (known : ℕ → Fact) (n : ℕ) (ms : List Member) (members : List reads.Member) (given : IsPackageInput t h known n ms members) (ordered : ViewsAreOrdered t ms)
     (apart : WorldsAreApart ms) (under : WorldsAreFollowed t ms) (p : Plan) (planned : PlansWhole t h.packages (home_at h) n ms p)
@@ -81,27 +76,11 @@ module _ (t : Tables) (h : Homes) (known : ℕ → Fact) (n : ℕ) (ms : List Me
   -- ---- a world
 
   module _ (m : Member) (c : Contains ms m) (w : Scope) (is : m.part ≡ parts.World w) (find : Text → Option TypeId) where
-    of : IsWorldOf t h ms members given.input given.placed.apart w
-    of = world_of t h ms members given.input given.placed.apart m c w is
-
-    seen_in : (s : Seen) → Contains w.imports.now s ⊎ Contains w.exports.now s → IsSeenIn t w.home (numbered_seen s)
-    seen_in s (inl among) = all_at (IsSeenIn t w.home) (map numbered_seen w.imports.now) of.good.imports (numbered_seen s) (contains-map numbered_seen w.imports.now s among)
-    seen_in s (inr among) = all_at (IsSeenIn t w.home) (map numbered_seen w.exports.now) of.good.exports (numbered_seen s) (contains-map numbered_seen w.exports.now s among)
-
-    one_of : (s : Seen) → Contains w.imports.now s ⊎ Contains w.exports.now s → IsOneOf t (map numbered_instance w.instances.now) (numbered_shown s.shown)
-    one_of s (inl among) = all_at (λ (x : NumberedSeen). IsOneOf t (map numbered_instance w.instances.now) x.shown) (map numbered_seen w.imports.now) of.good.imported (numbered_seen s)
-        (contains-map numbered_seen w.imports.now s among)
-    one_of s (inr among) = all_at (λ (x : NumberedSeen). IsOneOf t (map numbered_instance w.instances.now) x.shown) (map numbered_seen w.exports.now) of.good.exported (numbered_seen s)
-        (contains-map numbered_seen w.exports.now s among)
+    of : IsWorldIn t h ms members given.input w
+    of = world_in t h ms members given.input m c w is
 
     keys_there : WorldIsFollowed t (numbered_scope w)
     keys_there = all_at (λ (x : Text × Scope). WorldIsFollowed t (numbered_scope x.1)) (worlds_in ms) under (m.label.now, w) (world_among ms m c w is)
-
-    key_there : (s : Seen) → Contains w.imports.now s ⊎ Contains w.exports.now s → IsUnderKey t s.key.now (numbered_shown s.shown)
-    key_there s (inl among) = all_at (λ (x : NumberedSeen). IsUnderKey t x.key x.shown) (map numbered_seen w.imports.now) keys_there.imports (numbered_seen s)
-        (contains-map numbered_seen w.imports.now s among)
-    key_there s (inr among) = all_at (λ (x : NumberedSeen). IsUnderKey t x.key x.shown) (map numbered_seen w.exports.now) keys_there.exports (numbered_seen s)
-        (contains-map numbered_seen w.exports.now s among)
 
     -- ---- instances
 
@@ -118,48 +97,35 @@ module _ (t : Tables) (h : Homes) (known : ℕ → Fact) (n : ℕ) (ms : List Me
         let one = one_owned t (numbered_members ms) given.placed.apart q none (a_view first.sight.view) (a_view (numbered_view v)) first_frame own_frame in
         first.functions ∙ ap (λ x. (view_owned (numbered_view v) x).functions) one
 
-    instance_view : (q : ℕ) (v : View) → Contains (map numbered_instance w.instances.now) (record { place = q; view = numbered_view v }) → Contains views (view_at q v)
-    instance_view q v among =
-        view_among ms m c (view_at q v) (subst (λ a. Contains (views_of_part (numbered_part a)) (view_at q v)) (sym is)
-        (contains-map whole_view (map numbered_instance w.instances.now) (record { place = q; view = numbered_view v }) among))
-
-    instance_becomes : (s : Seen) → Contains w.imports.now s ⊎ Contains w.exports.now s → (key : InstanceKey) (v : View) → s.shown ≡ shown.Instance key v → (number : ℕ)
+    instance_becomes : (s : Seen) → Side w s → (key : InstanceKey) (v : View) → s.shown ≡ shown.Instance key v → (number : ℕ)
         → number_in (places_in ms) (place_of_key (numbered_key key)) ≡ Some number
         → SeenBecomes t planned.kept p (numbered_seen s) (planned_key (numbered_key key) number, plan.interface number (given_text s.external_id))
     instance_becomes s side key v shows number found =
         subst (λ (x : Shown). SeenBecomes t planned.kept p (record { key = s.key.now; shown = numbered_shown x; external_id = given_text s.external_id })
         (planned_key (numbered_key key) number, plan.interface number (given_text s.external_id))) (sym shows)
-        (by key found (subst (λ (x : Shown). IsSeenIn t w.home (record { key = s.key.now; shown = numbered_shown x; external_id = given_text s.external_id })) shows (seen_in s side)).0
-        (subst (λ (x : Shown). IsUnderKey t s.key.now (numbered_shown x)) shows (key_there s side))
-        (subst (λ (x : Shown). IsOneOf t (map numbered_instance w.instances.now) (numbered_shown x)) shows (one_of s side)))
+        (by key found (side_good w t of.good s side (shown.Instance key v) shows).0
+        (subst (λ (x : Shown). IsUnderKey t s.key.now (numbered_shown x)) shows (side_is w (λ (x : NumberedSeen). IsUnderKey t x.key x.shown) keys_there.imports keys_there.exports s side))
+        (seen_sight t ms m c w is of.good s side key v shows))
       where
         path_there : (q : ℕ) → number_in (places_in ms) q ≡ Some number → HasPath t q → plan.path_at p number ≡ Some (path_text t q)
         path_there q at path = path_same t h known n ms members given ordered p planned b refl q number at ∙ (path.1 ∙ ap Some (sym (path_is t q path)))
 
         by : (k : InstanceKey) → number_in (places_in ms) (place_of_key (numbered_key k)) ≡ Some number → KeyStands t (numbered_key k)
             → IsUnderKey t s.key.now (worlds.instance (numbered_key k) (numbered_view v))
-            → Contains (map numbered_instance w.instances.now) (record { place = place_of_key (numbered_key k); view = numbered_view v })
+            → Contains views (sight_of k v)
             → SeenBecomes t planned.kept p (record { key = s.key.now; shown = worlds.instance (numbered_key k) (numbered_view v); external_id = given_text s.external_id })
             (planned_key (numbered_key k) number, plan.interface number (given_text s.external_id))
-        by (keys.Path q) at stands text among = (ap (λ o. unwrap_or o []) (path_there q at stands) ∙ sym text, (refl, path_there q at stands))
-        by (keys.Implementing l q) at stands text among = (sym text.0, (refl, path_there q at stands))
-        by (keys.Label l q) at stands text among =
-            let viewed = instance_view q v among in (
-              sym text.0,
-              (
-                refl,
-                (
-                  path_same t h known n ms members given ordered p planned b refl q number at ∙ stands,
-                  subst (λ fs. InterfaceAt t planned.kept p (numbered_view v) fs number) (inline_functions q v viewed stands)
-                      (interface_at t h known n ms members given ordered p planned b refl (view_at q v) viewed number at),
-                ),
-              ),
-            )
+        by (keys.Path q) at stands text viewed = (ap (λ o. unwrap_or o []) (path_there q at stands) ∙ sym text, (refl, path_there q at stands))
+        by (keys.Implementing l q) at stands text viewed = (sym text.0, (refl, path_there q at stands))
+        by (keys.Label l q) at stands text viewed =
+            let path = path_same t h known n ms members given ordered p planned b refl q number at ∙ stands in
+            let there = interface_at t h known n ms members given ordered p planned b refl (view_at q v) viewed number at in
+            (sym text.0, (refl, (path, subst (λ fs. InterfaceAt t planned.kept p (numbered_view v) fs number) (inline_functions q v viewed stands) there)))
 
     -- ---- items
 
     module _ (have : AreResources planned.kept (flat_map types_seen w.imports.now) find) (types : TypesAreRead t ms planned.kept p b w) where
-      item_becomes : (s : Seen) → Contains w.imports.now s ⊎ Contains w.exports.now s → (e : PlannedKey × PlannedItem) → PlansItem t planned.kept (places_in ms) find s e
+      item_becomes : (s : Seen) → Side w s → (e : PlannedKey × PlannedItem) → PlansItem t planned.kept (places_in ms) find s e
           → SeenBecomes t planned.kept p (numbered_seen s) e
       item_becomes s side e (an_instance key v shows made) = subst (SeenBecomes t planned.kept p (numbered_seen s)) (sym made.is) (instance_becomes s side key v shows made.number made.found)
       item_becomes s side e (a_function f shows key made) =
@@ -174,9 +140,7 @@ module _ (t : Tables) (h : Homes) (known : ℕ → Fact) (n : ℕ) (ms : List Me
           (subst (λ (x : Shown). SeenBecomes t planned.kept p (record { key = s.key.now; shown = numbered_shown x; external_id = given_text s.external_id }) (plan.label s.key.now, plan.declares k))
           (sym shows) (refl, read.3))
       item_becomes s (inr among) e (a_type part d k shows entry is_part) =
-          let none = all_at (λ (z : Seen). scopes.is_type (shown_of t (numbered_shown z.shown)) ≡ false) w.exports.now
-          (no_types t given.input.tables w of.scope of.shows of.good of.declares of.stands) s among in
-          no_true (sym none ∙ ap (λ z. scopes.is_type (shown_of t (numbered_shown z))) shows)
+          no_true (sym (all_at (λ (z : Seen). is_type_seen (numbered_shown z.shown) ≡ false) w.exports.now of.none s among) ∙ ap (λ z. is_type_seen (numbered_shown z)) shows)
 
       pub world_becomes : (x : PlannedWorld) → AllZip (PlansItem t planned.kept (places_in ms) find) w.imports.now x.imports
           → AllZip (PlansItem t planned.kept (places_in ms) find) w.exports.now x.exports → WorldBecomes t planned.kept p (numbered_scope w) x
@@ -189,20 +153,12 @@ module _ (t : Tables) (h : Homes) (known : ℕ → Fact) (n : ℕ) (ms : List Me
 
   -- ---- all worlds
 
-  -- the keys of its imports differ
-  keys_differ : (w : Scope) → IsWorldOf t h ms members given.input given.placed.apart w → KeysAreApart w
-  keys_differ w is i j a c at_a at_c same =
-      let key = λ (s : NumberedSeen). s.key in
-      one_place (map key (map numbered_seen w.imports.now)) (keys_apart t h ms members given.input given.placed.apart w is) i j c.key.now
-      (mapped_get key (map numbered_seen w.imports.now) i (numbered_seen a) (mapped_get numbered_seen w.imports.now i a at_a) ∙ ap Some same)
-      (mapped_get key (map numbered_seen w.imports.now) j (numbered_seen c) (mapped_get numbered_seen w.imports.now j c at_c))
-
   pub world_at : (j : ℕ) (w : Text × Scope) → slice_get (worlds_in ms) j ≡ Some w → WorldAt t planned.kept p (numbered_scope w.1) j
   world_at j w at =
       let x = zip_at (PlansWorld t planned.kept (places_in ms) n) (worlds_in ms) p.worlds planned.worlds j w at in
       let m = world_member ms w (get-contains (worlds_in ms) j w at) in
       let stands = planned_worlds_stand t h ms members given.input ruled.agree ordered apart n p planned b refl j w at in
-      let types = stands.types (keys_differ w.1 (world_of t h ms members given.input given.placed.apart m.0 m.1 w.1 m.2)) in
+      let types = stands.types (keys_differ t h ms members given.input given.placed.apart w.1 (world_in t h ms members given.input m.0 m.1 w.1 m.2)) in
       record { world = x.0; stands = x.1; becomes = world_becomes m.0 m.1 w.1 m.2 x.2.find x.2.resources types x.0 x.2.imports x.2.exports }
 
   abbrev entry : Text × Scope → Text × NumberedScope

@@ -4,9 +4,9 @@ use Rattle.std.specs.List.{Contains, flat_map}
 use Rattle.std.proofs.lemmas.List.Elements.{Contains-append_cases}
 use Rattle.wit_model.specs.Text.{Text}
 use Rattle.wit_model.proofs.Elements.{has-contains, none-in}
-use Rattle.plan_meaning.specs.NumberedViews.{HasNameIn, Tables}
+use Rattle.plan_meaning.specs.NumberedViews.{HasNameIn, Tables, NumberedSlot, resource, value}
 use Rattle.plan_meaning.specs.NumberedViews as views
-use Rattle.plan_meaning.specs.Shapes.{IsShape, IsTable, Shape, a_name, a_node, named_shape}
+use Rattle.plan_meaning.specs.Shapes.{IsShape, IsTable, Shape, a_name, a_node, named_shape, first_label}
 use Rattle.plan_parts.specs.Marks.{is_marked, IsUsed, marked, part}
 use Rattle.plan_types.specs.Used.{AreUsed}
 use Rattle.base_lemmas.proofs.Lists.{get_back as unmapped_get}
@@ -41,6 +41,12 @@ module _ (shapes : List Shape) (table : IsTable shapes) where
   name_alone k n m q name is at (inside a i j b s same here there more) =
       let one : i ≡ m = omega (arith, is, same) in
       absurd (no_parts i s j q name (same-some s (named_shape q name) (sym here ∙ (ap (slice_get shapes) one ∙ at))) there)
+
+-- a shape is of one name
+pub name_same : (shapes : List Shape) (a q : ℕ) (x z : Text) (i k : ℕ) → slice_get shapes i ≡ Some (named_shape a x) → slice_get shapes k ≡ Some (named_shape q z) → i ≡ k → (a ≡ q) × (x ≡ z)
+name_same shapes a q x z i k there at same =
+    let one : named_shape a x ≡ named_shape q z = same-some (named_shape a x) (named_shape q z) (sym there ∙ (ap (slice_get shapes) same ∙ at)) in
+    (ap (λ (s : Shape). s.number) one, ap (λ (s : Shape). first_label s.labels) one)
 
 -- ---- what is used
 

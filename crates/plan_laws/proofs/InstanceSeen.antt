@@ -1,31 +1,43 @@
 -- Each instance of a world has the place of one that it imports or exports.
-use Rattle.std.proofs.Common.{◌≡◌, refl, sym, ap, subst, ◌∙◌, ℕ, ◌⊎◌, inl, inr, true, List, [], map, Option, Some, None}
-use Rattle.std.specs.List.{AllByRecursion, Contains}
-use Rattle.std.proofs.lemmas.List.Elements.{Contains-append_cases}
+use Rattle.plan_laws.proofs.ShownFrom.{own_once}
+use Rattle.std.proofs.Common.{◌≡◌, refl, sym, ap, subst, ◌∙◌, ℕ, ◌⊎◌, inl, inr, true, false, List, map, Option, Some, None, filter}
+use Rattle.std.specs.List.{AllByRecursion, Contains, flat_map}
+use Rattle.std.proofs.lemmas.List.Elements.{Contains-append_cases, Contains-append_left, Contains-append_right}
 use Rattle.wit_model.specs.Text.{Text}
-use Rattle.wit_model.proofs.Elements.{none-in}
+use Rattle.wit_model.proofs.Elements.{contains-flat, none-in}
 use Rattle.comp_meaning.specs.Follow as follow
 use Rattle.comp_meaning.specs.Follow.{Instance, export_, import_, interface_of}
 use Rattle.comp_meaning.specs.Reads as reads
 use Rattle.read_shown.specs.Instances as tree
 use Rattle.read_shown.specs.Instances.{going, instances_in}
 use Rattle.plan_meaning.specs.FollowedNumbers.{IsSeenIn}
-use Rattle.plan_meaning.specs.NumberedMembers.{Homes}
-use Rattle.plan_meaning.specs.NumberedViews.{AreTables, Tables, path_at}
+use Rattle.plan_meaning.specs.NumberedMembers.{Homes, NumberedMember, world}
+use Rattle.plan_meaning.specs.NumberedViews.{AreTables, NumberedFunction, NumberedSight, NumberedType, Tables, path_at}
 use Rattle.plan_meaning.specs.NumberedWorlds as worlds
 use Rattle.plan_meaning.specs.NumberedWorlds.{HasPath, KeyStands, NumberedInstance, NumberedKey, NumberedSeen, NumberedShown, are_once, instance_of, key_of, place_of_key, seen_of, shown_of}
 use Rattle.plan_meaning.specs.ReadWholes.{place_shown}
 use Rattle.plan_meaning.proofs.NumberedWorlds.{path_is}
-use Rattle.read_exports.specs.Members.{numbered_members}
+use Rattle.read_exports.specs.Members.{numbered_member, numbered_members, numbered_part}
 use Rattle.read_exports.specs.declared.members.Member.{Member}
+use Rattle.read_exports.specs.declared.members.Part.{Part}
+use Rattle.read_exports.specs.declared.members.Part.TheVariants as parts
+use Rattle.read_rules.specs.declared.reached.ImportedView.{ImportedView}
 use Rattle.read_rules.specs.declared.scopes.Scope.{Scope}
 use Rattle.read_rules.specs.declared.scopes.Seen.{Seen}
-use Rattle.read_rules.specs.Scopes.{numbered_scope, numbered_seen, numbered_shown}
-use Rattle.plan_type_laws.specs.ShownMarks.{own_places}
+use Rattle.read_rules.specs.declared.scopes.Shown.{Shown}
+use Rattle.read_rules.specs.declared.scopes.Shown.TheVariants as shown
+use Rattle.read_rules.specs.Reached.{numbered_import}
+use Rattle.read_rules.specs.Scopes.{numbered_instance, numbered_key, numbered_scope, numbered_seen, numbered_shown}
+use Rattle.read_rules.specs.Tables.{given_text}
+use Rattle.read_rules.specs.Views.{numbered_view}
+use Rattle.plan_types.specs.Showings.{NumberedShowing, showing_of, showings_of_import, showings_of_members, showings_of_part, showings_of_seen, showings_of_shown, showings_of_view, signatures_of_members, signatures_of_part, signatures_of_seen, signatures_of_shown}
+use Rattle.plan_package.specs.Views.{types_alone, views_of_members, views_of_part, whole_view}
+use Rattle.std.proofs.lemmas.Option.{same_Some as same-some}
+use Rattle.plan_laws.proofs.Sources.{Side, interface_views, mapped_cases, own_sight, seen_sight, side_shows, sight_of, IsWorldIn, world_in}
+use Rattle.plan_type_laws.specs.ShownMarks.{own_places, has_no_path, places_of_part}
 use Rattle.plan_laws.specs.ShownNames.{IsInput}
 use Rattle.plan_laws.proofs.Inside.{flat_cases}
 use Rattle.plan_laws.proofs.OwnPlaces.{inline_of, inline_seen, inlines}
-use Rattle.plan_laws.proofs.ShownFrom.{IsWorldOf}
 use Rattle.base_lemmas.proofs.Elements.{all_at, contains-map, last_of as one-contained, map_from as from_map}
 use Rattle.plan_laws.proofs.ShownRules.{one_way as either_way}
 
@@ -50,19 +62,16 @@ module _ (t : Tables) (tables : AreTables t) where
       by key id (worlds.instance k v) is there =
           ap Some (key_place k is.0 i.place path.0 path.1 (ap (λ (y : Instance). y.interface)
           (one-contained (record { interface = interface_of (key_of t k); view = _ }) (instance_of t i) there) ∙ path.1))
-      by key id (worlds.function n) is there = none-in (instance_of t i) there
-      by key id (worlds.declares d) is there = none-in (instance_of t i) there
+      by key id _ is there = none-in (instance_of t i) there
 
-module _ (t : Tables) (h : Homes) (ms : List Member) (members : List reads.Member) (input : IsInput t h ms members) (apart : are_once (own_places t (numbered_members ms)) ≡ true) (w : Scope) (is : IsWorldOf t h ms members input apart w) where
+module _ (t : Tables) (h : Homes) (ms : List Member) (members : List reads.Member) (input : IsInput t h ms members) (w : Scope) (is : IsWorldIn t h ms members input w)
+    (once : are_once (filter (has_no_path t) (places_of_part (world (numbered_scope w)))) ≡ true) where
   inline_place : (ss : List NumberedSeen) (i : NumberedInstance) → Contains (inlines t ss) i → (s : NumberedSeen) × Contains ss s × (place_shown s.shown ≡ Some i.place)
   inline_place ss i c = let from = flat_cases (λ (s : NumberedSeen). inline_of t s.shown) ss i c in (from.0, from.1, by from.0.shown from.2)
     where
       by : (x : NumberedShown) → Contains (inline_of t x) i → place_shown x ≡ Some i.place
-      by (worlds.instance (worlds.path p) v) among = none-in i among
       by (worlds.instance (worlds.label l p) v) among = ap (λ (j : NumberedInstance). Some j.place) (one-contained (record { place = p; view = v }) i among)
-      by (worlds.instance (worlds.implementing l p) v) among = none-in i among
-      by (worlds.function n) among = none-in i among
-      by (worlds.declares d) among = none-in i among
+      by _ among = none-in i among
 
   -- an import or an export that is an instance of the place
   pub record IsSeen (i : NumberedInstance) : Type 0 where
@@ -97,4 +106,79 @@ module _ (t : Tables) (h : Homes) (ms : List Member) (members : List reads.Membe
           (subst (λ xs. Contains xs (instance_of t i)) (sym (is.stands.seen.all ∙ is.shows.instances)) (contains-map (instance_of t) (numbered_scope w).instances i c)))
       by None e =
           without (Contains-append_cases (inlines t (map numbered_seen w.imports.now)) (inlines t (map numbered_seen w.exports.now)) i
-          (inline_seen t (numbered_scope w) is.good is.scope is.shows is.stands.seen is.once i c e))
+          (inline_seen t (numbered_scope w) is.good is.scope is.shows is.stands.seen once i c e))
+
+-- ---- what is shown of a place
+
+module _ (t : Tables) (h : Homes) (ms : List Member) (members : List reads.Member) (input : IsInput t h ms members) (apart : are_once (own_places t (numbered_members ms)) ≡ true) where
+  -- A view of the same place, whose types and functions are among all that is shown.
+  pub record IsShownSo (s : NumberedSight) : Type 0 where
+    pub other : NumberedSight
+    pub among : Contains (views_of_members (numbered_members ms)) other
+    pub place : other.place ≡ s.place
+    pub whole : s.whole ≡ true → other.whole ≡ true
+    pub types : (x : NumberedType) → Contains other.view.types x → Contains (showings_of_members ms) (showing_of x)
+    pub functions : s.whole ≡ true → (f : Text × NumberedFunction) → Contains other.view.functions f → Contains (signatures_of_members ms) f.1.signature
+
+  -- what a world imports or exports is shown
+  module _ (m : Member) (c : Contains ms m) (w : Scope) (is : m.part ≡ parts.World w) where
+    pub seen_showing : (s : Seen) → Side w s → (y : NumberedShowing) → Contains (showings_of_seen s) y → Contains (showings_of_members ms) y
+    seen_showing s side y there =
+        contains-flat (λ (x : Member). showings_of_part x.part) ms m y c (subst (λ a. Contains (showings_of_part a) y) (sym is) (side_shows w showings_of_seen s y side there))
+
+    pub seen_signature : (s : Seen) → Side w s → (k : ℕ) → Contains (signatures_of_seen s) k → Contains (signatures_of_members ms) k
+    seen_signature s side k there =
+        contains-flat (λ (x : Member). signatures_of_part x.part) ms m k c (subst (λ a. Contains (signatures_of_part a) k) (sym is) (side_shows w signatures_of_seen s k side there))
+
+    instance_shown : (i : NumberedInstance) → Contains (map numbered_instance w.instances.now) i → IsShownSo (whole_view i)
+    instance_shown i among = let seen = instance_seen t h ms members input w of (own_once t h ms members input apart m c w is) i among in by seen.seen seen.among seen.seen.shown refl seen.place
+      where
+        of : IsWorldIn t h ms members input w
+        of = world_in t h ms members input m c w is
+
+        by : (s : Seen) → Side w s → (x : Shown) → s.shown ≡ x → place_shown (numbered_shown x) ≡ Some i.place → IsShownSo (whole_view i)
+        by s side (shown.Instance key v) e at = record {
+          other = sight_of key v;
+          among = seen_sight t ms m c w is of.good s side key v e;
+          place = same-some (place_of_key (numbered_key key)) i.place at;
+          whole = λ f. refl;
+          types = λ x there. seen_showing s side (showing_of x) (subst (λ k. Contains (showings_of_shown k (given_text s.external_id)) (showing_of x)) (sym e)
+              (contains-map showing_of (numbered_view v).types x there));
+          functions = λ f g there. seen_signature s side g.1.signature (subst (λ k. Contains (signatures_of_shown k) g.1.signature) (sym e)
+              (contains-map (λ (y : Text × NumberedFunction). y.1.signature) (numbered_view v).functions g there));
+        }
+        by s side _ e at = let wrong : None ≡ Some i.place = at in absurd cc
+
+  pub shown_so : (s : NumberedSight) → Contains (views_of_members (numbered_members ms)) s → IsShownSo s
+  shown_so s c = let m = mapped_cases (λ (x : NumberedMember). views_of_part x.part) numbered_member ms s c in by m.0 m.1 m.0.part refl m.2
+    where
+      by : (m : Member) → Contains ms m → (a : Part) → m.part ≡ a → Contains (views_of_part (numbered_part a)) s → IsShownSo s
+      by m m_in (parts.World w) is there =
+          let i = from_map whole_view (map numbered_instance w.instances.now) s there in
+          subst IsShownSo i.2 (instance_shown m m_in w is i.0 i.1)
+      by m m_in (parts.Interface q v imports) is there = side (interface_views q v imports s there)
+        where
+          in_part : (y : NumberedShowing) → Contains (showings_of_part (parts.Interface q v imports)) y → Contains (showings_of_members ms) y
+          in_part y among = contains-flat (λ (x : Member). showings_of_part x.part) ms m y m_in (subst (λ a. Contains (showings_of_part a) y) (sym is) among)
+
+          side : ((i : ImportedView) × Contains imports.now i × (types_alone (numbered_import i) ≡ s)) ⊎ (own_sight q v imports ≡ s) → IsShownSo s
+          side (inl i) = subst IsShownSo i.2 (record {
+            other = types_alone (numbered_import i.0);
+            among = subst (Contains (views_of_members (numbered_members ms))) (sym i.2) c;
+            place = refl;
+            whole = λ f. f;
+            types = λ x x_in. in_part (showing_of x)
+                (Contains-append_left (flat_map showings_of_import imports.now) (showings_of_view (numbered_view v)) (showing_of x)
+                (contains-flat showings_of_import imports.now i.0 (showing_of x) i.1 (contains-map showing_of (numbered_view i.0.view).types x x_in)));
+            functions = λ f. let wrong : false ≡ true = f in absurd cc;
+          })
+          side (inr own) = subst IsShownSo own (record {
+            other = own_sight q v imports;
+            among = subst (Contains (views_of_members (numbered_members ms))) (sym own) c;
+            place = refl;
+            whole = λ f. f;
+            types = λ x x_in. in_part (showing_of x) (Contains-append_right (flat_map showings_of_import imports.now) (showings_of_view (numbered_view v)) (showing_of x)
+                (contains-map showing_of (numbered_view v).types x x_in));
+            functions = λ f g g_in. contains-flat (λ (x : Member). signatures_of_part x.part) ms m g.1.signature m_in (subst (λ a. Contains (signatures_of_part a) g.1.signature) (sym is)
+                (contains-map (λ (y : Text × NumberedFunction). y.1.signature) (numbered_view v).functions g g_in));
+          })

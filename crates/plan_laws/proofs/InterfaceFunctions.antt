@@ -1,4 +1,5 @@
 -- A function that a view shows is one that was read, where its values are.
+use Rattle.plan_type_laws.proofs.PartPlaces.{slot_number}
 use Rattle.std.proofs.Common.{◌≡◌, refl, sym, ap, subst, ◌∙◌, ℕ, zero, arith, Bool, true, false, ◌||◌, List, [], ◌∷◌, cond, map, Option, Some, None}
 use Rattle.std.specs.List.{Contains, list_any}
 use Rattle.std.proofs.lemmas.Slice.Eq.{bytes_eq-Decides}
@@ -30,9 +31,9 @@ use Rattle.plan_laws.specs.ShownRules.{ViewObeys}
 use Rattle.plan_laws.proofs.FirstDeclared.{shown_alike}
 use Rattle.plan_laws.proofs.ReadFunction.{function_becomes, read_function, resource_at, told as told_of}
 use Rattle.plan_laws.proofs.ShownRules.{function_obeys}
-use Rattle.plan_laws.proofs.Showings.{slot_is}
 use Rattle.plan_laws.proofs.ViewsAgree.{told, views_tell}
-use Rattle.plan_laws.proofs.WholeFunctions.{kept_number, nothing_declared}
+use Rattle.plan_laws.proofs.WholeFunctions.{nothing_declared}
+use Rattle.plan_laws.proofs.Planned.{kept_number}
 use Rattle.base_lemmas.proofs.Elements.{all_at, contains-later, contains-map, get-contains, map_from as from_map}
 
 -- a name of a resource is that of a type which is declared as one
@@ -62,7 +63,7 @@ module _ (t : Tables) (h : Homes) (ms : List Member) (members : List reads.Membe
       let at = have.among r id found in
       let in_types = get-contains first.view.types at.0 at.1 at.2 in
       let is = all_at (IsShownIn t first.place) first.view.types good.types at.1 in_types in
-      let stands = kept_number planned.kept (slot_part at.1.slot) is.number id.0 (slot_is t ruled.input.tables at.1.slot is.number is.slot) at.5 in
+      let stands = kept_number planned.kept (slot_part at.1.slot) is.number id.0 (slot_number t at.1.slot is.number is.slot) at.5 in
       resource_at t h ms members ruled.input main p planned (told_of t first.place) first.place id.0 is.number r stands (is.name.named ∙ ap (λ (x : Text). Some (named_shape first.place x)) at.4)
       (λ y shown. let is_first = (firsts_found (showings_of_members ms)).0 is.number y shown in
       shown_alike t h ms members ruled.input ruled.placed.apart ruled.agree first first_in names at.1 in_types is.number is.name.named y is_first.0 is_first.1 ∙ nothing_declared at.1.declared at.3)

@@ -1,37 +1,33 @@
--- Which types stand inside a part: what is used is inside a part that is used to begin with. Serves Apart, FirstTypes, FirstViews, GatheredInterfaces and 25 more; crates above.
+-- Which types stand inside a part: what is used is inside a part that is used to begin with. Serves FirstDeclared, FirstTypes, FirstViews, GatheredInterfaces and 23 more; crates above.
 pub mod Inside
+-- Places by their numbers, and the owner of each. Serves Apart, FirstPlaces, GatheredInterfaces, OwnPlaces and 16 more; crates above.
+pub mod PlaceNumbers
+-- Each place without a path is of one world, or of one inline interface with one view. Serves Apart, GatheredWorlds, InstanceSeen, ShownAlike and 5 more; crates above.
+pub mod OwnPlaces
 -- A name that stands inside a part is one of those that are met in its tree. Serves PartNames, ViewNames.
 pub mod MetNames
+-- Where what is shown stands: a type in a view or as an import of a world, and a function in a whole view or in a world. Serves Apart, FirstDeclared, FirstTypes, GatheredInterfaces and 23 more.
+pub mod Sources
 -- A name that is met in a view was shown in its own place. Serves Owned, PartNames, ShownNames, Viewed and 1 more.
 pub mod ViewNames
--- A name that is used by what a part shows is shown by a view in its own place, or imported by the world. Serves FirstTypes, ShownAlike, ShownNames, Viewed.
+-- A name that is used by what a part shows is shown by a view in its own place, or imported by the world. Serves ShownNames, Viewed.
 pub mod PartNames
 -- Each name that the types of a plan use is shown in its own place. Serves laws::used_names_are_shown; crates above.
 pub mod ShownNames
--- Each type that is shown is a name of the table, behind what it is declared as. Serves FirstDeclared, FirstTypes, InterfaceFunctions, Origins and 11 more; crates above.
-pub mod Showings
--- Where what is shown of a type stands: in a view, or as an import of a world. Serves Apart, FirstTypes, GatheredInterfaces, GatheredWorlds and 2 more.
-pub mod Origins
--- Places by their numbers, and the owner of each. Serves Apart, FirstPlaces, GatheredInterfaces, Owned and 15 more; crates above.
-pub mod PlaceNumbers
--- What is known of a plan that was made of what was followed: where names are shown, and the interface of each place. Serves Apart, FirstTypes, GatheredInterfaces, ListedFunctions and 15 more; crates
--- above.
+-- What is known of a plan that was made of what was followed: where names are shown, and the interface of each place. Serves Apart, FirstTypes, GatheredInterfaces, InterfaceFunctions and 17 more;
+-- crates above.
 pub mod Planned
--- Each place without a path is of one world, or of one inline interface with one view. Serves FirstDeclared, GatheredWorlds, InstanceSeen, ShownAlike and 5 more; crates above.
-pub mod OwnPlaces
--- What is shown obeys the rules of reading. Serves laws::shown_obeys_rules; crates above.
-pub mod ShownRules
--- Where each type that is shown comes from: a view, or an import of a world. Serves Apart, FirstDeclared, GatheredWorlds, InstanceSeen and 8 more.
-pub mod ShownFrom
--- Texts and numbers of which none stands twice. Serves Apart, WholePlacesInstances, WholePlacesLabels.
-pub mod WholePlacesLists
 -- Each instance of a world whose place has no path is one that is imported or exported. Serves Apart, WholePlaces.
 pub mod WholePlacesInstances
+-- Each type that is shown is a name of the table, behind what it is declared as. Serves FirstDeclared, FirstTypes, Owned, ShownRules and 5 more; crates above.
+pub mod Showings
+-- What is shown obeys the rules of reading. Serves laws::shown_obeys_rules; crates above.
+pub mod ShownRules
 -- The types of a whole plan are those that were read. Serves laws::packages_are_ruled, laws::planned_types_are_whole; crates above.
 pub mod WholeTypes
--- All views of one place tell the same of types. Serves FirstTypes, GatheredInterfaces, ListedFunctions, OneWorld and 6 more; crates above.
+-- All views of one place tell the same of types. Serves FirstTypes, GatheredInterfaces, ListedFunctions, OneWorld and 9 more; crates above.
 pub mod FirstViews
--- The types of the first view of a place are shown first as it shows them. Serves GatheredInterfaces, PlannedFunctions, ShownWhole, Viewed and 2 more.
+-- The types of the first view of a place are shown first as it shows them. Serves GatheredInterfaces, ShownWhole, Viewed, WholeOrder and 1 more.
 pub mod FirstTypes
 -- Types that are planned are their owners', and are seen from there. Serves laws::planned_types_are_owned.
 pub mod Owned
@@ -39,8 +35,12 @@ pub mod Owned
 pub mod WorldItems
 -- Each place without a path is that of one view, or of one world. Serves laws::whole_stands_apart.
 pub mod Apart
--- Views of one place show the same types. Serves FirstDeclared, InterfaceFunctions, ShownAlike, WholeCondition.
+-- Where each type that is shown comes from: a view, or an import of a world. Serves FirstDeclared, GatheredWorlds, InstanceSeen, ShownAlike and 4 more.
+pub mod ShownFrom
+-- Views of one place show the same types. Serves FirstDeclared, InterfaceFunctions, WholeCondition.
 pub mod ViewsAgree
+-- The imports of a world stand under keys that differ, and a world has a place of its own. Serves FirstDeclared, GatheredWorlds, ShownAlike, WholeFunctions and 1 more.
+pub mod WorldKeys
 -- A type that a view shows is first shown as the view declares it. Serves InterfaceFunctions, ShownAlike.
 pub mod FirstDeclared
 -- What stands before the first view of a place has a smaller number. Serves Viewed; crates above.
@@ -53,21 +53,15 @@ pub mod FormCounts
 pub mod GatheredSights
 -- A function of a plan is one that was read, where its resources are types of the plan. Serves InterfaceFunctions, WholeFunctions.
 pub mod ReadFunction
--- The imports of a world stand under keys that differ, and a world has a place of its own. Serves GatheredWorlds, ShownAlike, WholeFunctions.
-pub mod WorldKeys
 -- The functions of a whole plan are those that were read. Serves laws::world_functions_are_read.
 pub mod WholeFunctions
 -- A function that a view shows is one that was read, where its values are. Serves ListedFunctions, PlannedFunctions.
 pub mod InterfaceFunctions
--- Views of one place that show functions show the same ones. Serves ShownAlike.
-pub mod SameFunctions
--- A type is declared as one and the same wherever it is shown, and views of a place that show functions show the same ones. Serves laws::whole_is_shown_alike.
-pub mod ShownAlike
 -- What a place is read by obeys the rules on interfaces. Serves Viewed.
 pub mod ViewRules
 -- Each interface of the plan is read by the first view of its place. Serves laws::planned_interfaces_are_viewed.
 pub mod Viewed
--- The functions of an interface of the plan are those of the first view of its place that shows some. Serves GatheredInterfaces, WholePlan; crates above.
+-- The functions of an interface of the plan are those of the first view of its place that shows some. Serves GatheredInterfaces, PlannedFunctions, WholePlan; crates above.
 pub mod ListedFunctions
 -- Each instance of a world has the place of one that it imports or exports. Serves PlannedFunctions, ShownWhole, WholeCondition.
 pub mod InstanceSeen
@@ -79,6 +73,10 @@ pub mod ShownWhole
 pub mod WholePlacesTop
 -- The interfaces of a plan become what each view of their places tells, with the functions of the first that shows some. Serves GatheredWorlds, WholeMeaning, WorldMeaning.
 pub mod GatheredInterfaces
+-- Views of one place that show functions show the same ones. Serves ShownAlike.
+pub mod SameFunctions
+-- A type is declared as one and the same wherever it is shown, and views of a place that show functions show the same ones. Serves laws::whole_is_shown_alike.
+pub mod ShownAlike
 -- A part of a function that is shown is one of a function of the plan. Serves GatheredWorlds, WholeReasons.
 pub mod WholeReasonsFunctions
 -- The worlds of a plan become what worlds at the top show. Serves WholeMeaning, WorldMeaning.

@@ -1,4 +1,5 @@
 -- The functions of an interface of the plan are those of the first view of its place that shows some.
+use Rattle.plan_laws.proofs.Sources.{member_view_in}
 use Rattle.std.proofs.Common.{◌≡◌, refl, sym, ap, subst, ◌∙◌, ℕ, arith, Bool, true, false, ◌==◌, ◌&&◌, cond, List, [], ◌∷◌, ◌++◌, map, Option, Some, None, slice_get}
 use Rattle.std.specs.List.{AllZip, Contains, flat_map}
 use Rattle.std.specs.Option.{option_map_or}
@@ -24,10 +25,9 @@ use Rattle.plan_laws.specs.Owners.{owners_of}
 use Rattle.plan_laws.specs.ShownRules.{ViewObeys}
 use Rattle.plan_laws.specs.Whole.{IsPackageInput}
 use Rattle.plan_laws.specs.WholeTypes.{IsRuledInput}
-use Rattle.plan_laws.proofs.FirstViews.{first_is}
+use Rattle.plan_laws.proofs.FirstViews.{first_is, view_names}
 use Rattle.plan_laws.proofs.InterfaceFunctions.{view_becomes}
 use Rattle.plan_laws.proofs.Planned.{first_there, interface_there}
-use Rattle.plan_laws.proofs.ShownAlike.{types_once, view_good}
 use Rattle.plan_laws.proofs.Viewed.{zip_within}
 use Rattle.plan_laws.proofs.WholeTypes.{packages_are_ruled}
 use Rattle.base_lemmas.proofs.Bools.{left_of as first_true, right_of as second_true}
@@ -126,7 +126,8 @@ module _ (t : Tables) (h : Homes) (known : ℕ → Fact) (n : ℕ) (ms : List Me
               → FunctionBecomes t planned.kept p (function_at t f.1.signature) f.1.external_id e.1
           becomes f c e made =
               let of = function_of_view q views f c in
-              view_becomes t h ms members ruled n p planned first first_in (view_good t h known n ms members given first first_in) (types_once t h known n ms members given first first_in) plans.find
+              view_becomes t h ms members ruled n p planned first first_in (member_view_in t ms given.input.numbers first first_in)
+              (view_names t first (all_at (ViewObeys t) views ruled.rules.views first first_in)) plans.find
               plans.resources b of.sight of.among
-              (of.place ∙ sym (first_is q views first is_first).1) (view_good t h known n ms members given of.sight of.among) (all_at (ViewObeys t) views ruled.rules.views of.sight of.among)
+              (of.place ∙ sym (first_is q views first is_first).1) (member_view_in t ms given.input.numbers of.sight of.among) (all_at (ViewObeys t) views ruled.rules.views of.sight of.among)
               (ap (λ (o : ℕ → TypeOwner). o first.place) owned) f of.there e made

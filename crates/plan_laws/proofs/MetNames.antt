@@ -11,7 +11,7 @@ use Rattle.plan_meaning.specs.NumberedViews.{AllOf, AreTables, FunctionShape, Is
 use Rattle.plan_meaning.specs.Shapes.{Shape, named_shape, node_shape}
 use Rattle.plan_meaning.proofs.ShapeLaws.{PartView, is_name, is_node, is_primitive, viewed}
 use Rattle.plan_types.specs.Used.{signature_parts}
-use Rattle.plan_laws.proofs.Inside.{IsIn, inside, itself, name_alone}
+use Rattle.plan_laws.proofs.Inside.{IsIn, inside, itself, name_alone, name_same}
 use Rattle.base_lemmas.proofs.Elements.{last_of as one-contained}
 use Rattle.std.proofs.lemmas.Option.{same_Some as same-some}
 use Rattle.plan_meaning.proofs.ShapesLemmas.{no_sort}
@@ -31,14 +31,8 @@ module _ (t : Tables) (tables : AreTables t) (Met : Place → Text → Bool → 
   met_here : (k m r : ℕ) (x : Text) (b : Bool) → k ≡ 14 + m → slice_get t.shapes m ≡ Some (named_shape r x) → IsIn t.shapes k n → Met (place_at t r) x b → IsMet
   met_here k m r x b is there found met =
       let one : n ≡ m = name_alone t.shapes tables.shapes k n m r x is there found in
-      let shape : named_shape r x ≡ named_shape q name = same-some (named_shape r x) (named_shape q name) (sym there ∙ (ap (slice_get t.shapes) (sym one) ∙ at)) in
-      let place : r ≡ q = ap (λ (s : Shape). s.number) shape in
-      let text : x ≡ name = ap (λ (s : Shape). unlabel s.labels) shape in
-      (b, subst (λ (y : Text). Met (place_at t q) y b) text (subst (λ (p : ℕ). Met (place_at t p) x b) place met))
-    where
-      unlabel : List (Text × Bool) → Text
-      unlabel [] = []
-      unlabel (l ∷ ls) = l.0
+      let same = name_same t.shapes r q x name m n there at (sym one) in
+      (b, subst (λ (y : Text). Met (place_at t q) y b) same.1 (subst (λ (p : ℕ). Met (place_at t p) x b) same.0 met))
 
   -- the one part of a handle
   handle_view : (k : ℕ) → View k → HandleStands Met (Trees.child (tree_at t k) Trees.no_children) → IsIn t.shapes k n → IsMet
@@ -48,8 +42,7 @@ module _ (t : Tables) (tables : AreTables t) (Met : Place → Text → Bool → 
 
   two_stand : (a b : Tree) (ts : Trees) → HandleStands Met (Trees.child a (Trees.child b ts)) → ⊥
   two_stand (Tree.primitive p) b ts stands = stands
-  two_stand (Tree.named place x) b ts stands = stands
-  two_stand (Tree.node f us) b ts stands = stands
+  two_stand _ b ts stands = stands
 
   in_handle : (ks : List ℕ) → AllByRecursion (λ k. IsPart t k) ks → HandleStands Met (children (map (tree_at t) ks)) → (j : ℕ) → Contains ks j → IsIn t.shapes j n → IsMet
   in_handle [] ranges stands j c found = none-in j c

@@ -1,10 +1,14 @@
 -- Each place without a path is of one world, or of one inline interface with one view.
-use Rattle.std.proofs.Common.{◌≡◌, refl, sym, ap, subst, ◌∙◌, ℕ, zero, suc, ◌+◌, ◌⊎◌, inl, inr, arith, Bool, true, false, not, filter, if◌then◌else◌, List, [], ◌∷◌, ◌++◌, length, length-append, map, Option, None, is_none}
+use Rattle.plan_meaning.proofs.Lists.{no_true}
+use Rattle.std.proofs.lemmas.Option.{same_Some as same-some}
+use Rattle.wit_model.proofs.UsesLemmas.{has_filter}
+use Rattle.plan_laws.proofs.PlaceNumbers.{IsOnce}
+use Rattle.std.proofs.Common.{◌≡◌, refl, sym, ap, subst, ◌∙◌, ℕ, zero, suc, ◌+◌, ◌⊎◌, inl, inr, arith, Bool, true, false, not, filter, if◌then◌else◌, List, [], ◌∷◌, ◌++◌, length, length-append, map, Option, None, is_none, ◌≤◌, Some, slice_get, cond}
 use Rattle.std.specs.List.{AllByRecursion, Contains, flat_map}
-use Rattle.std.proofs.lemmas.Bool.{not-true, and_from as both}
+use Rattle.std.proofs.lemmas.Bool.{not-true, and_from as both, false_from_ne_true}
 use Rattle.std.proofs.lemmas.List.Elements.{Contains-append_cases, Contains-append_left, filter-append}
 use Rattle.wit_model.specs.Uses.{has}
-use Rattle.wit_model.proofs.Elements.{contains-has, has-contains, none-in}
+use Rattle.wit_model.proofs.Elements.{contains-has, has-contains, none-in, contains-get}
 use Rattle.comp_meaning.specs.Follow as follow
 use Rattle.comp_meaning.specs.Follow.{Direction, Instance, export_, import_}
 use Rattle.read_shown.specs.Instances as shown_instances
@@ -13,49 +17,63 @@ use Rattle.wit_model.specs.Text.{Text}
 use Rattle.plan_meaning.specs.FollowedNumbers.{IsOneOf, IsScopeIn, IsSeenIn}
 use Rattle.plan_meaning.specs.NumberedMembers.{NumberedMember, NumberedPart, interface, world}
 use Rattle.plan_meaning.specs.NumberedViews.{NumberedView, Tables, path_at}
-use Rattle.plan_meaning.specs.NumberedWorlds.{HasPath, NumberedInstance, NumberedScope, NumberedSeen, NumberedShown, Shows, are_once, declares, function, implementing, instance, instance_of, label, path, place_of_key, seen_of, shown_of}
+use Rattle.plan_meaning.specs.NumberedWorlds.{HasPath, NumberedInstance, NumberedScope, NumberedSeen, NumberedShown, Shows, are_once, implementing, instance, instance_of, label, path, place_of_key, seen_of, shown_of}
 use Rattle.plan_type_laws.specs.ShownMarks.{has_no_path, own_places, places_of_part, places_of_seen, places_of_shown}
 use Rattle.plan_laws.proofs.Inside.{flat_cases}
 use Rattle.base_lemmas.proofs.Bools.{left_of as first_true, right_of as second_true}
-use Rattle.base_lemmas.proofs.Elements.{all_at, contains-later, contains-map, filter_keeps as in_filter, last_of as one-contained}
-use Rattle.base_lemmas.proofs.Lists.{append_of_map}
+use Rattle.base_lemmas.proofs.Elements.{all_at, contains-later, contains-map, filter_keeps as in_filter, last_of as one-contained, get-contains}
+use Rattle.base_lemmas.proofs.Lists.{append_of_map, mapped_get}
 
 -- ---- what stands at a number that stands once
 
-module _ {X : Type 0} (test : ℕ → Bool) where
-  abbrev numbers : List (ℕ × X) → List ℕ
-  numbers fs = filter test (map (λ (f : ℕ × X). f.0) fs)
+once_behind : (n : ℕ) (ns : List ℕ) → are_once (n ∷ ns) ≡ true → are_once ns ≡ true
+once_behind n ns once = second_true (not (has ns n)) (are_once ns) once
 
-  number_among : (fs : List (ℕ × X)) (f : ℕ × X) → Contains fs f → test f.0 ≡ true → Contains (numbers fs) f.0
-  number_among [] f c h = none-in f c
-  number_among (g ∷ fs) f c h = by (test g.0) refl c (λ later. number_among fs f later h)
+not_among : (n : ℕ) (ns : List ℕ) → are_once (n ∷ ns) ≡ true → Contains ns n → ⊥
+not_among n ns once c = let wrong : false ≡ true = sym (not-true (has ns n) (first_true (not (has ns n)) (are_once ns) once)) ∙ contains-has ns n c in cc
+
+once_places : (ns : List ℕ) → are_once ns ≡ true → IsOnce ns
+once_places [] once i j q at_i at_j = let wrong : None ≡ Some q = at_i in absurd cc
+once_places (n ∷ ns) once zero zero q at_i at_j = refl
+once_places (n ∷ ns) once zero (suc j) q at_i at_j = absurd (not_among n ns once (subst (Contains ns) (sym (same-some n q at_i)) (get-contains ns j q at_j)))
+once_places (n ∷ ns) once (suc i) zero q at_i at_j = absurd (not_among n ns once (subst (Contains ns) (sym (same-some n q at_j)) (get-contains ns i q at_i)))
+once_places (n ∷ ns) once (suc i) (suc j) q at_i at_j = ap suc (once_places ns (once_behind n ns once) i j q at_i at_j)
+
+module _ (test : ℕ → Bool) where
+  pub filtered_there : (ps : List ℕ) (q : ℕ) → Contains ps q → test q ≡ true → Contains (filter test ps) q
+  filtered_there ps q c passes = has-contains (filter test ps) q (has_filter test ps q (contains-has ps q c) passes)
+
+  -- what passes stands once, where it does among those that pass
+  pub unfiltered_once : (ps : List ℕ) → IsOnce (filter test ps) → (i j q : ℕ) → slice_get ps i ≡ Some q → slice_get ps j ≡ Some q → test q ≡ true → i ≡ j
+  unfiltered_once [] once i j q at_i at_j passes = let wrong : None ≡ Some q = at_i in absurd cc
+  unfiltered_once (p ∷ ps) once i j q at_i at_j passes = by (test p) refl once i j at_i at_j (λ rest k l at_k at_l. unfiltered_once ps rest k l q at_k at_l passes)
     where
-      by : (b : Bool) → test g.0 ≡ b → Contains (g ∷ fs) f → (Contains fs f → Contains (numbers fs) f.0) → Contains (if b then g.0 ∷ numbers fs else numbers fs) f.0
-      by true e (zero, low, same) later = (zero, omega arith, ap (λ (x : ℕ × X). x.0) same)
-      by true e (suc i, low, same) later = contains-later g.0 (numbers fs) f.0 (later (i, omega (arith, low), same))
-      by false e (zero, low, same) later = let wrong : false ≡ true = sym e ∙ (ap (λ (x : ℕ × X). test x.0) same ∙ h) in absurd cc
-      by false e (suc i, low, same) later = later (i, omega (arith, low), same)
+      twice : IsOnce (p ∷ filter test ps) → p ≡ q → (k : ℕ) → slice_get ps k ≡ Some q → ⊥
+      twice one same k at =
+          let there = contains-get (filter test ps) q (filtered_there ps q (get-contains ps k q at) passes) in
+          let wrong : 0 ≡ suc there.0 = one 0 (suc there.0) q (ap Some same) there.1 in
+          omega (arith, wrong)
 
-  pub one_there : (fs : List (ℕ × X)) → are_once (numbers fs) ≡ true → (f g : ℕ × X) → Contains fs f → Contains fs g → f.0 ≡ g.0 → test f.0 ≡ true → f ≡ g
-  one_there [] once f g c d e h = none-in f c
-  one_there (k ∷ fs) once f g c d e h = by (test k.0) refl once (λ apart i j. one_there fs apart f g i j e h) c d
-    where
-      not_later : (x : ℕ × X) → are_once (k.0 ∷ numbers fs) ≡ true → Contains fs x → test x.0 ≡ true → k.0 ≡ x.0 → ⊥
-      not_later x apart later tested same =
-          let none = not-true (has (numbers fs) k.0) (first_true (not (has (numbers fs) k.0)) (are_once (numbers fs)) apart) in
-          let there = contains-has (numbers fs) x.0 (number_among fs x later tested) in
-          let wrong : false ≡ true = sym none ∙ (ap (has (numbers fs)) same ∙ there) in cc
+      behind : IsOnce (p ∷ filter test ps) → IsOnce (filter test ps)
+      behind one k l r at_k at_l = let same = one (suc k) (suc l) r at_k at_l in omega (arith, same)
 
-      by : (b : Bool) → test k.0 ≡ b → are_once (if b then k.0 ∷ numbers fs else numbers fs) ≡ true → (are_once (numbers fs) ≡ true → Contains fs f → Contains fs g → f ≡ g) → Contains (k ∷ fs) f
-          → Contains (k ∷ fs) g → f ≡ g
-      by true t apart more (zero, i_low, i_same) (zero, j_low, j_same) = sym i_same ∙ j_same
-      by true t apart more (zero, i_low, i_same) (suc j, j_low, j_same) = absurd (not_later g apart (j, omega (arith, j_low), j_same) (ap test (sym e) ∙ h) (ap (λ (x : ℕ × X). x.0) i_same ∙ e))
-      by true t apart more (suc i, i_low, i_same) (zero, j_low, j_same) = absurd (not_later f apart (i, omega (arith, i_low), i_same) h (ap (λ (x : ℕ × X). x.0) j_same ∙ sym e))
-      by true t apart more (suc i, i_low, i_same) (suc j, j_low, j_same) =
-          more (second_true (not (has (numbers fs) k.0)) (are_once (numbers fs)) apart) (i, omega (arith, i_low), i_same) (j, omega (arith, j_low), j_same)
-      by false t apart more (zero, i_low, i_same) d_in = let wrong : false ≡ true = sym t ∙ (ap (λ (x : ℕ × X). test x.0) i_same ∙ h) in absurd cc
-      by false t apart more (suc i, i_low, i_same) (zero, j_low, j_same) = let wrong : false ≡ true = sym t ∙ (ap (λ (x : ℕ × X). test x.0) j_same ∙ (ap test (sym e) ∙ h)) in absurd cc
-      by false t apart more (suc i, i_low, i_same) (suc j, j_low, j_same) = more apart (i, omega (arith, i_low), i_same) (j, omega (arith, j_low), j_same)
+      by : (b : Bool) → test p ≡ b → IsOnce (cond b (p ∷ filter test ps) (filter test ps)) → (i j : ℕ) → slice_get (p ∷ ps) i ≡ Some q → slice_get (p ∷ ps) j ≡ Some q
+          → (IsOnce (filter test ps) → (k l : ℕ) → slice_get ps k ≡ Some q → slice_get ps l ≡ Some q → k ≡ l) → i ≡ j
+      by b e one zero zero at_i at_j later = refl
+      by true e one zero (suc j) at_i at_j later = absurd (twice one (same-some p q at_i) j at_j)
+      by true e one (suc i) zero at_i at_j later = absurd (twice one (same-some p q at_j) i at_i)
+      by true e one (suc i) (suc j) at_i at_j later = ap suc (later (behind one) i j at_i at_j)
+      by false e one zero (suc j) at_i at_j later = no_true (sym e ∙ (ap test (same-some p q at_i) ∙ passes))
+      by false e one (suc i) zero at_i at_j later = no_true (sym e ∙ (ap test (same-some p q at_j) ∙ passes))
+      by false e one (suc i) (suc j) at_i at_j later = ap suc (later one i j at_i at_j)
+
+  pub one_there : {X : Type 0} (fs : List (ℕ × X)) → are_once (filter test (map (λ (f : ℕ × X). f.0) fs)) ≡ true → (f g : ℕ × X) → Contains fs f → Contains fs g → f.0 ≡ g.0 → test f.0 ≡ true → f ≡ g
+  one_there {X = X} fs once f g c d e h =
+      let number = λ (f : ℕ × X). f.0 in
+      let i = contains-get fs f c in
+      let j = contains-get fs g d in
+      let same = unfiltered_once (map number fs) (once_places (filter test (map number fs)) once) i.0 j.0 f.0 (mapped_get number fs i.0 f i.1) (mapped_get number fs j.0 g j.1 ∙ ap Some (sym e)) h in
+      same-some f g (sym i.1 ∙ (ap (slice_get fs) same ∙ j.1))
 
 -- ---- as many, all of which are among others
 
@@ -88,18 +106,26 @@ without {A = A} (z ∷ xs) x (suc i, low, e) =
     by less y (zero, y_low, same) = inr (zero, omega arith, same)
     by less y (suc j, y_low, same) = later less y (less.cases y (j, omega (arith, y_low), same))
 
+still : {A : Type 0} (c : A) (cs is : List A) → (Contains cs c → ⊥) → ((y : A) → Contains (c ∷ cs) y → Contains is y) → (less : Without is c) (y : A) → Contains cs y → Contains less.rest y
+still {A = A} c cs is apart among less y d = elim (less.cases y (among y (contains-later c cs y d))) [ inl same ↦ absurd (apart (subst (Contains cs) same d)) | inr rest ↦ rest ]
+
+-- others among which they all are aren't fewer
+pub no_longer : {A : Type 0} (cs is : List A) → AreDifferent cs → ((c : A) → Contains cs c → Contains is c) → length cs ≤ length is
+no_longer [] is apart among = omega arith
+no_longer (c ∷ cs) is apart among =
+    let less = without is c (among c (zero, omega arith, refl)) in
+    let fewer = no_longer cs less.rest apart.1 (still c cs is apart.0 among less) in
+    let many = less.many in
+    omega (arith, fewer, many)
+
 pub all_taken : {A : Type 0} (cs is : List A) → AreDifferent cs → ((c : A) → Contains cs c → Contains is c) → length is ≡ length cs → (x : A) → Contains is x → Contains cs x
 all_taken [] is apart among many x (i, low, e) = absurd (omega (arith, low, many))
 all_taken {A = A} (c ∷ cs) is apart among many x there = by (λ rest each as_many there. all_taken cs rest apart.1 each as_many x there) (without is c (among c (zero, omega arith, refl)))
   where
-    still : (less : Without is c) (y : A) → Contains cs y → (y ≡ c) ⊎ Contains less.rest y → Contains less.rest y
-    still less y d (inl same) = absurd (apart.0 (subst (Contains cs) same d))
-    still less y d (inr rest) = rest
-
     which : ((rest : List A) → ((y : A) → Contains cs y → Contains rest y) → length rest ≡ length cs → Contains rest x → Contains cs x) → (less : Without is c) → (x ≡ c) ⊎ Contains less.rest x
         → Contains (c ∷ cs) x
     which more less (inl same) = (zero, omega arith, sym same)
-    which more less (inr rest) = contains-later c cs x (more less.rest (λ y d. still less y d (less.cases y (among y (contains-later c cs y d)))) (let a = less.many in omega (arith, a, many)) rest)
+    which more less (inr rest) = contains-later c cs x (more less.rest (still c cs is apart.0 among less) (let a = less.many in omega (arith, a, many)) rest)
 
     by : ((rest : List A) → ((y : A) → Contains cs y → Contains rest y) → length rest ≡ length cs → Contains rest x → Contains cs x) → Without is c → Contains (c ∷ cs) x
     by more less = which more less (less.cases x there)
@@ -116,8 +142,7 @@ Frame = ℕ × Owned
 
 abbrev pub frames_of_shown : NumberedShown → List Frame
 frames_of_shown (instance key v) = (place_of_key key, a_view v) ∷ []
-frames_of_shown (function n) = []
-frames_of_shown (declares d) = []
+frames_of_shown _ = []
 
 abbrev pub frames_of_seen : List NumberedSeen → List Frame
 frames_of_seen ss = flat_map (λ (s : NumberedSeen). frames_of_shown s.shown) ss
@@ -134,8 +159,7 @@ place_of_frame f = f.0
 
 shown_places : (x : NumberedShown) → map place_of_frame (frames_of_shown x) ≡ places_of_shown x
 shown_places (instance key v) = refl
-shown_places (function n) = refl
-shown_places (declares d) = refl
+shown_places _ = refl
 
 seen_places : (ss : List NumberedSeen) → map place_of_frame (frames_of_seen ss) ≡ places_of_seen ss
 seen_places [] = refl
@@ -167,11 +191,8 @@ module _ (t : Tables) where
 
   -- the inline interfaces among imports and exports
   abbrev pub inline_of : NumberedShown → List NumberedInstance
-  inline_of (instance (path p) v) = []
   inline_of (instance (label l p) v) = record { place = p; view = v } ∷ []
-  inline_of (instance (implementing l p) v) = []
-  inline_of (function n) = []
-  inline_of (declares d) = []
+  inline_of _ = []
 
   abbrev pub inlines : List NumberedSeen → List NumberedInstance
   inlines ss = flat_map (λ (s : NumberedSeen). inline_of s.shown) ss
@@ -202,11 +223,8 @@ module _ (t : Tables) where
     where
       by : (x : NumberedShown) → nones (instances_in (map (seen_of t) ss)) ≡ length (inlines ss)
           → nones (shown_instances.instance_of (shown_of t x) ++ instances_in (map (seen_of t) ss)) ≡ length (inline_of x ++ inlines ss)
-      by (instance (path p) v) rest = rest
       by (instance (label l p) v) rest = ap suc rest
-      by (instance (implementing l p) v) rest = rest
-      by (function n) rest = rest
-      by (declares d) rest = rest
+      by _ rest = rest
 
   pub kept_nones : (is : List NumberedInstance) → nones (map (instance_of t) is) ≡ length (filter no_path is)
   kept_nones [] = refl
@@ -220,28 +238,15 @@ module _ (t : Tables) where
 
 -- ---- numbers that stand once, in a part of a list
 
-once_behind : (n : ℕ) (ns : List ℕ) → are_once (n ∷ ns) ≡ true → are_once ns ≡ true
-once_behind n ns once = second_true (not (has ns n)) (are_once ns) once
-
 once_last : (xs ys : List ℕ) → are_once (xs ++ ys) ≡ true → are_once ys ≡ true
 once_last [] ys once = once
 once_last (x ∷ xs) ys once = once_last xs ys (once_behind x (xs ++ ys) once)
 
-not_among : (n : ℕ) (ns : List ℕ) → are_once (n ∷ ns) ≡ true → Contains ns n → ⊥
-not_among n ns once c = let wrong : false ≡ true = sym (not-true (has ns n) (first_true (not (has ns n)) (are_once ns) once)) ∙ contains-has ns n c in cc
-
--- no number of the list is the first
-none_is : (n : ℕ) (ns : List ℕ) → (Contains ns n → ⊥) → has ns n ≡ false
-none_is n ns none = by (has ns n) refl
-  where
-    by : (b : Bool) → has ns n ≡ b → has ns n ≡ false
-    by true e = absurd (none (has-contains ns n e))
-    by false e = e
-
 pub once_first : (xs ys : List ℕ) → are_once (xs ++ ys) ≡ true → are_once xs ≡ true
 once_first [] ys once = refl
 once_first (x ∷ xs) ys once =
-    both (not (has xs x)) (are_once xs) (ap not (none_is x xs (λ c. not_among x (xs ++ ys) once (Contains-append_left xs ys x c)))) (once_first xs ys (once_behind x (xs ++ ys) once))
+    both (not (has xs x)) (are_once xs) (ap not (false_from_ne_true (has xs x) (λ h. let c = has-contains xs x h in not_among x (xs ++ ys) once (Contains-append_left xs ys x c))))
+    (once_first xs ys (once_behind x (xs ++ ys) once))
 
 pub once_inside : {A : Type 0} (test : ℕ → Bool) (f : A → List ℕ) (xs : List A) → are_once (filter test (flat_map f xs)) ≡ true → (x : A) → Contains xs x → are_once (filter test (f x)) ≡ true
 once_inside test f [] once x c = none-in x c
@@ -250,7 +255,7 @@ once_inside test f (y ∷ xs) once x (zero, low, e) = subst (λ z. are_once (fil
 once_inside test f (y ∷ xs) once x (suc i, low, e) = once_inside test f xs
     (once_last (filter test (f y)) (filter test (flat_map f xs)) (ap are_once (sym (filter-append test (f y) (flat_map f xs))) ∙ once)) x (i, omega (arith, low), e)
 
-different : {A : Type 0} (f : A → ℕ) (xs : List A) → are_once (map f xs) ≡ true → AreDifferent xs
+pub different : {A : Type 0} (f : A → ℕ) (xs : List A) → are_once (map f xs) ≡ true → AreDifferent xs
 different f [] once = tt
 different f (x ∷ xs) once = ((λ c. not_among (f x) (map f xs) once (contains-map f xs x c)), different f xs (once_behind (f x) (map f xs) once))
 
@@ -274,8 +279,7 @@ module _ (t : Tables) (w : NumberedScope) (good : IsScopeIn t w) where
       by key id (instance (label l p) v) seen rest = ap (λ ps. p ∷ ps) rest ∙ ap (λ o. if is_none o then p ∷ filter (has_no_path t) (places_of_seen ss) else filter (has_no_path t) (places_of_seen ss))
           (sym seen.0)
       by key id (instance (implementing l p) v) seen rest = dropped p seen.0 (inlines t ss) rest
-      by key id (function n) seen rest = rest
-      by key id (declares d) seen rest = rest
+      by key id _ seen rest = rest
 
   -- each of them is an instance
   inline_kept : (ss : List NumberedSeen) → AllByRecursion Keyed ss → AllByRecursion (λ (s : NumberedSeen). IsOneOf t w.instances s.shown) ss → (i : NumberedInstance) → Contains (inlines t ss) i
@@ -286,48 +290,46 @@ module _ (t : Tables) (w : NumberedScope) (good : IsScopeIn t w) where
     where
       by : (key : Text) (id : Option Text) (x : NumberedShown) → Keyed (record { key = key; shown = x; external_id = id }) → IsOneOf t w.instances x → Contains (inline_of t x) i
           → Contains (filter (no_path t) w.instances) i
-      by key id (instance (path p) v) seen there among = none-in i among
       by key id (instance (label l p) v) seen there among =
           subst (Contains (filter (no_path t) w.instances)) (one-contained (record { place = p; view = v }) i among)
           (in_filter (no_path t) w.instances (record { place = p; view = v }) there (ap is_none seen.0))
-      by key id (instance (implementing l p) v) seen there among = none-in i among
-      by key id (function n) seen there among = none-in i among
-      by key id (declares d) seen there among = none-in i among
+      by key id _ seen there among = none-in i among
 
-  abbrev all_inline : List NumberedInstance
+  abbrev pub all_inline : List NumberedInstance
   all_inline = inlines t w.imports ++ inlines t w.exports
 
-  -- an instance without a path is an inline interface that is imported or exported
-  pub inline_seen : (scope : follow.Scope) → Shows t w scope → InstancesAreSeen scope → are_once (filter (has_no_path t) (places_of_part (world w))) ≡ true → (i : NumberedInstance)
-      → Contains w.instances i → path_at t i.place ≡ None → Contains all_inline i
-  inline_seen scope shows seen apart i c none =
-      all_taken all_inline (filter (no_path t) w.instances) (different (λ (x : NumberedInstance). x.place) all_inline once) kept many i (in_filter (no_path t) w.instances i c (ap is_none none))
-    where
-      places_are : map (λ (x : NumberedInstance). x.place) all_inline ≡ filter (has_no_path t) (places_of_seen w.imports ++ places_of_seen w.exports)
-      places_are =
-          append_of_map (λ (x : NumberedInstance). x.place) (inlines t w.imports) (inlines t w.exports)
-          ∙ ((λ j. inline_places w.imports good.imports j ++ inline_places w.exports good.exports j) ∙ sym (filter-append (has_no_path t) (places_of_seen w.imports) (places_of_seen w.exports)))
+  abbrev pub place_of_instance : NumberedInstance → ℕ
+  place_of_instance i = i.place
 
-      once : are_once (map (λ (x : NumberedInstance). x.place) all_inline) ≡ true
-      once = ap are_once places_are ∙ once_last (filter (has_no_path t) (w.home ∷ [])) (filter (has_no_path t) (places_of_seen w.imports ++ places_of_seen w.exports))
-          (ap are_once (sym (filter-append (has_no_path t) (w.home ∷ []) (places_of_seen w.imports ++ places_of_seen w.exports))) ∙ apart)
+  pub places_are : map place_of_instance all_inline ≡ filter (has_no_path t) (places_of_seen w.imports ++ places_of_seen w.exports)
+  places_are =
+      append_of_map place_of_instance (inlines t w.imports) (inlines t w.exports)
+      ∙ ((λ j. inline_places w.imports good.imports j ++ inline_places w.exports good.exports j) ∙ sym (filter-append (has_no_path t) (places_of_seen w.imports) (places_of_seen w.exports)))
 
-      kept : (x : NumberedInstance) → Contains all_inline x → Contains (filter (no_path t) w.instances) x
-      kept x there = by (Contains-append_cases (inlines t w.imports) (inlines t w.exports) x there)
-        where
-          by : Contains (inlines t w.imports) x ⊎ Contains (inlines t w.exports) x → Contains (filter (no_path t) w.instances) x
-          by (inl among) = inline_kept w.imports good.imports good.imported x among
-          by (inr among) = inline_kept w.exports good.exports good.exported x among
+  module _ (scope : follow.Scope) (shows : Shows t w scope) (seen : InstancesAreSeen scope) where
+    pub inline_many : length (filter (no_path t) w.instances) ≡ length all_inline
+    inline_many =
+        let a : nones t (map (instance_of t) w.instances) ≡ length (filter (no_path t) w.instances) = kept_nones t w.instances in
+        let b : nones t scope.instances ≡ nones t (map (instance_of t) w.instances) = ap (nones t) shows.instances in
+        let c : nones t (map (λ (y : Direction × Instance). y.1) seen.seen) ≡ nones t scope.instances = ap (nones t) seen.all in
+        let d = both_ways t seen.seen in
+        let e : nones t (going import_ seen.seen) ≡ length (inlines t w.imports) = ap (nones t) (seen.imported ∙ ap instances_in shows.imports) ∙ seen_nones t w.imports in
+        let f : nones t (going export_ seen.seen) ≡ length (inlines t w.exports) = ap (nones t) (seen.exported ∙ ap instances_in shows.exports) ∙ seen_nones t w.exports in
+        let g : length all_inline ≡ length (inlines t w.imports) + length (inlines t w.exports) = length-append (inlines t w.imports) (inlines t w.exports) in
+        omega (arith, a, b, c, d, e, f, g)
 
-      many : length (filter (no_path t) w.instances) ≡ length all_inline
-      many =
-          let a : nones t (map (instance_of t) w.instances) ≡ length (filter (no_path t) w.instances) = kept_nones t w.instances in
-          let b : nones t scope.instances ≡ nones t (map (instance_of t) w.instances) = ap (nones t) shows.instances in
-          let c : nones t (map (λ (y : Direction × Instance). y.1) seen.seen) ≡ nones t scope.instances = ap (nones t) seen.all in
-          let d = both_ways t seen.seen in
-          let e : nones t (going import_ seen.seen) ≡ nones t (instances_in scope.imports) = ap (nones t) seen.imported in
-          let f : nones t (going export_ seen.seen) ≡ nones t (instances_in scope.exports) = ap (nones t) seen.exported in
-          let g : nones t (instances_in scope.imports) ≡ length (inlines t w.imports) = ap (λ ss. nones t (instances_in ss)) shows.imports ∙ seen_nones t w.imports in
-          let k : nones t (instances_in scope.exports) ≡ length (inlines t w.exports) = ap (λ ss. nones t (instances_in ss)) shows.exports ∙ seen_nones t w.exports in
-          let l : length all_inline ≡ length (inlines t w.imports) + length (inlines t w.exports) = length-append (inlines t w.imports) (inlines t w.exports) in
-          omega (arith, a, b, c, d, e, f, g, k, l)
+    -- an instance without a path is an inline interface that is imported or exported
+    pub inline_seen : are_once (filter (has_no_path t) (places_of_part (world w))) ≡ true → (i : NumberedInstance) → Contains w.instances i → path_at t i.place ≡ None → Contains all_inline i
+    inline_seen apart i c none =
+        all_taken all_inline (filter (no_path t) w.instances) (different place_of_instance all_inline once) kept inline_many i (in_filter (no_path t) w.instances i c (ap is_none none))
+      where
+        once : are_once (map place_of_instance all_inline) ≡ true
+        once = ap are_once places_are ∙ once_last (filter (has_no_path t) (w.home ∷ [])) (filter (has_no_path t) (places_of_seen w.imports ++ places_of_seen w.exports))
+            (ap are_once (sym (filter-append (has_no_path t) (w.home ∷ []) (places_of_seen w.imports ++ places_of_seen w.exports))) ∙ apart)
+
+        kept : (x : NumberedInstance) → Contains all_inline x → Contains (filter (no_path t) w.instances) x
+        kept x there = by (Contains-append_cases (inlines t w.imports) (inlines t w.exports) x there)
+          where
+            by : Contains (inlines t w.imports) x ⊎ Contains (inlines t w.exports) x → Contains (filter (no_path t) w.instances) x
+            by (inl among) = inline_kept w.imports good.imports good.imported x among
+            by (inr among) = inline_kept w.exports good.exports good.exported x among

@@ -29,6 +29,8 @@ use Rattle.plan_type_laws.proofs.KeptKinds.{kinds_tell}
 use Rattle.plan_package.specs.PlanWhole.{PlansWhole, places_in, shown_first}
 use Rattle.plan_laws.specs.Owners.{PlannedTypesAreOwned, homes_in, owners_of}
 use Rattle.plan_laws.specs.ShownNames.{IsInput}
+use Rattle.plan_laws.proofs.Inside.{name_same}
+use Rattle.plan_laws.proofs.Sources.{if_given}
 use Rattle.plan_laws.proofs.PlaceNumbers.{number_given, owner_met, owners_apart}
 use Rattle.plan_laws.proofs.Planned.{home_alone, name_met, named_there}
 use Rattle.plan_laws.proofs.Showings.{showings_named}
@@ -97,8 +99,7 @@ module _ (t : Tables) (h : Homes) (ms : List Member) (members : List reads.Membe
       let found = (firsts_found (showings_of_members ms)).0 n y first in
       let is = showings_named t input.tables h ms members input y found.0 in
       let one : is.number ≡ n = (let a = is.part in let b = found.1 in omega (arith, a, b)) in
-      let shape : named_shape is.place is.name ≡ named_shape q name = same-some (named_shape is.place is.name) (named_shape q name) (sym is.is.named ∙ (ap (slice_get t.shapes) one ∙ at)) in
-      let place : is.place ≡ q = ap (λ (s : Shape). s.number) shape in
+      let place = (name_same t.shapes is.place q is.name name is.number n is.is.named at one).0 in
       record {
         named = at;
         behind = subst (λ k. AllOf (λ m. m < 14 + k) y.declared) one is.is.behind;
@@ -134,15 +135,7 @@ module _ (t : Tables) (h : Homes) (ms : List Member) (members : List reads.Membe
   declared_is n q name x is d kind = kinds_tell t input.tables planned.kept p is.showing.declared d x.kind is.kind kind
 
   pub seen_from : (q k : ℕ) → IsMetFrom t q k → IsSeenFrom t q k
-  seen_from q k met r has same = by (met.names r has)
-    where
-      by : (r ≡ q) ⊎ HasPath t r → r ≡ q
-      by (inl one) = one
-      by (inr path) = sym (same_place t input.tables q r path (sym same))
-
-  all_seen : (q : ℕ) (d : Option ℕ) → AllOf (IsMetFrom t q) d → AllOf (IsSeenFrom t q) d
-  all_seen q None met = tt
-  all_seen q (Some k) met = seen_from q k met
+  seen_from q k met r has same = elim (met.names r has) [ inl one ↦ one | inr path ↦ sym (same_place t input.tables q r path (sym same)) ]
 
   pub are_owned : AreOwned t planned.kept p (owners_of ms)
   are_owned = record {
@@ -151,7 +144,7 @@ module _ (t : Tables) (h : Homes) (ms : List Member) (members : List reads.Membe
     owned = λ j n x q name e stands at. (planned_name j n x q name e stands at).owned ∙ owner_met places homes q (name_met t h ms members input main p planned j n q name stands at);
     seen = λ j n x q name d e stands at kind.
         let is = planned_name j n x q name e stands at in
-        subst (AllOf (IsSeenFrom t q)) (declared_is n q name x is d kind) (all_seen q is.showing.declared is.is.met);
+        subst (AllOf (IsSeenFrom t q)) (declared_is n q name x is d kind) (if_given (IsMetFrom t q) (IsSeenFrom t q) (seen_from q) is.showing.declared is.is.met);
     used = λ j n x q name m r other e stands at kind there.
         let is = planned_name j n x q name e stands at in
         let met : IsMetFrom t q (14 + m) = subst (AllOf (IsMetFrom t q)) (declared_is n q name x is (Some (14 + m)) kind) is.is.met in

@@ -2,10 +2,10 @@
 use Rattle.std.proofs.Common.{◌≡◌, refl, sym, ap, subst, ◌∙◌, ℕ, zero, suc, ◌+◌, ◌<◌, ◌≤◌, ◌⊎◌, inl, inr, arith, Bool, true, false, ◌==◌, nat_lt, cond, List, [], ◌∷◌, ◌++◌, length, Option, Some, None, slice_get, get_or}
 use Rattle.std.specs.List.{Contains, flat_map, position_or_len}
 use Rattle.std.specs.Option.{option_map_or}
-use Rattle.std.proofs.lemmas.Bool.{eqb-true, ltb-false, ltb-true}
+use Rattle.std.proofs.lemmas.Bool.{eqb-true, ltb-false}
 use Rattle.std.proofs.lemmas.List.Elements.{Contains-append_cases, Contains-append_left, Contains-append_right}
-use Rattle.std.proofs.lemmas.List.Sums.{fails_before_first, passes_at_first}
-use Rattle.std.proofs.lemmas.Option.{slice_get-get_or, slice_get_within, same_Some as same-some}
+use Rattle.std.proofs.lemmas.List.Sums.{fails_before_first}
+use Rattle.std.proofs.lemmas.Option.{slice_get_within, same_Some as same-some}
 use Rattle.wit_model.specs.declared.model.TypeOwner.{TypeOwner}
 use Rattle.wit_model.specs.declared.model.TypeOwner.TheVariants as owner
 use Rattle.wit_model.specs.Parts.{same_owner}
@@ -34,16 +34,6 @@ no_true e = absurd cc
 module _ (ps : List ℕ) (q : ℕ) where
   abbrev first : ℕ
   first = position_or_len (λ x. q == x) ps
-
-  number_by : (b : Bool) → nat_lt first (length ps) ≡ b → (m : ℕ) → cond b (Some first) None ≡ Some m → slice_get ps m ≡ Some q
-  number_by true low m e =
-      let here : first ≡ m = same-some first m e in
-      let within : first < length ps = ltb-true first (length ps) low in
-      let there : q ≡ get_or ps first q = eqb-true q (get_or ps first q) (passes_at_first (λ x. q == x) ps q within) in
-      subst (λ i. slice_get ps i ≡ Some q) here (slice_get-get_or ps first q within ∙ ap Some (sym there))
-  number_by false high m e = let wrong : None ≡ Some m = e in absurd cc
-
-  -- a place stands under its number
 
   given_by : (b : Bool) → nat_lt first (length ps) ≡ b → Contains ps q → (m : ℕ) × (cond b (Some first) None ≡ Some m)
   given_by true low c = (first, refl)
@@ -74,11 +64,7 @@ module _ (met : List ℕ) (p : ℕ) where
 
   from_by : (b : Bool) → (x : ℕ) → Contains (cond b met (met ++ p ∷ [])) x → Contains met x ⊎ (p ≡ x)
   from_by true x c = inl c
-  from_by false x c = by (Contains-append_cases met (p ∷ []) x c)
-    where
-      by : Contains met x ⊎ Contains (p ∷ []) x → Contains met x ⊎ (p ≡ x)
-      by (inl among) = inl among
-      by (inr last) = inr (one-contained p x last)
+  from_by false x c = elim (Contains-append_cases met (p ∷ []) x c) [ inl among ↦ inl among | inr last ↦ inr (one-contained p x last) ]
 
   joined_from : (x : ℕ) → Contains (joined met p) x → Contains met x ⊎ (p ≡ x)
   joined_from x c = from_by (has met p) x c
@@ -151,16 +137,13 @@ module _ (places homes : List ℕ) where
   apart_by a c (Some m) ea ha fa (Some k) ec hc fc h =
       let one : m ≡ k = eqb-true m k h in
       same-some a c (sym (number_there places a m ea) ∙ (ap (slice_get places) one ∙ number_there places c k ec))
-  apart_by a c (Some m) ea ha fa None ec (Some k) fc h = no_true h
   apart_by a c (Some m) ea ha fa None ec None fc h = let one = eqb-true m (length places + c) h in let low = within a m ea in absurd (omega (arith, one, low))
-  apart_by a c None ea (Some m) fa (Some k) ec hc fc h = no_true h
   apart_by a c None ea (Some m) fa None ec (Some k) fc h =
       let one : m ≡ k = eqb-true m k h in
       same-some a c (sym (number_there homes a m fa) ∙ (ap (slice_get homes) one ∙ number_there homes c k fc))
-  apart_by a c None ea (Some m) fa None ec None fc h = no_true h
   apart_by a c None ea None fa (Some k) ec hc fc h = let one = eqb-true (length places + a) k h in let low = within c k ec in absurd (omega (arith, one, low))
-  apart_by a c None ea None fa None ec (Some k) fc h = no_true h
   apart_by a c None ea None fa None ec None fc h = let one = eqb-true (length places + a) (length places + c) h in omega (arith, one)
+  apart_by a c _ ea _ fa _ ec _ fc h = no_true h
 
   -- each place has an owner of its own
   pub owners_apart : (a c : ℕ) → same_owner (owner_of places homes a) (owner_of places homes c) ≡ true → a ≡ c

@@ -1,5 +1,6 @@
 -- What is known of a plan that was made of what was followed: where names are shown, and the interface of each place.
-use Rattle.std.proofs.Common.{◌≡◌, refl, sym, ap, subst, ◌∙◌, ℕ, zero, suc, ◌⊎◌, inl, inr, arith, Bool, true, false, ◌==◌, cond, List, [], ◌∷◌, Some, None, option_map, is_some, slice_get}
+use Rattle.plan_meaning.specs.Renumbering.{IsPart, a_primitive, a_shape}
+use Rattle.std.proofs.Common.{◌≡◌, refl, sym, ap, subst, ◌∙◌, ℕ, zero, suc, ◌⊎◌, inl, inr, arith, Bool, true, false, ◌==◌, cond, List, [], ◌∷◌, Some, None, option_map, is_some, slice_get, ◌+◌, Option}
 use Rattle.std.specs.List.{Contains, find, flat_map}
 use Rattle.std.specs.Option.{option_map_or}
 use Rattle.wit_model.specs.Text.{Text}
@@ -40,6 +41,22 @@ found_there {A = A} test (z ∷ xs) x c h = by (test z) refl (λ later. found_th
     by true e later among = (z, ap (λ v. cond v (Some z) (find test xs)) e)
     by false e later (zero, low, same) = let wrong : false ≡ true = sym e ∙ (ap test same ∙ h) in absurd cc
     by false e later (suc i, low, same) = let found = later (i, omega (arith, low), same) in (found.0, ap (λ v. cond v (Some z) (find test xs)) e ∙ found.1)
+
+-- a part that is kept has its number
+pub kept_number : (kept : List ℕ) (k n j : ℕ) → k ≡ 14 + n → IsPart kept k (14 + j) → slice_get kept j ≡ Some n
+kept_number kept k n j is (a_primitive low e) = absurd (omega (arith, is, low))
+kept_number kept k n j is (a_shape m i at stands e) =
+    let number : m ≡ n = omega (arith, is, at) in
+    let place : i ≡ j = omega (arith, e) in
+    ap (slice_get kept) (sym place) ∙ (stands ∙ ap Some number)
+
+-- what has a home has a path
+pub path_given : (t : Tables) (h : Homes) → ((q : ℕ) → path_at t q ≡ None → home_at h q ≡ None) → (q : ℕ) (x : ℕ × Text) → home_at h q ≡ Some x → HasPath t q
+path_given t h alone q x home = by (path_at t q) refl
+  where
+    by : (o : Option Text) → path_at t q ≡ o → HasPath t q
+    by (Some path) e = (path, e)
+    by None e = let wrong : None ≡ Some x = sym (alone q e) ∙ home in absurd cc
 
 -- ---- places of views
 

@@ -43,14 +43,12 @@ use Rattle.plan_type_laws.proofs.PartPlaces.{parts_weaker}
 
 module _ (t : Tables) (q : ℕ) where
   abbrev labels_good : Tree → Bool
-  labels_good (Tree.primitive p) = true
-  labels_good (Tree.named place name) = true
   labels_good (Tree.node form ts) = are_labels (form_labels form)
+  labels_good _ = true
 
   abbrev parts_good : Tree → Bool
-  parts_good (Tree.primitive p) = true
-  parts_good (Tree.named place name) = true
   parts_good (Tree.node form ts) = are_parts (place_at t q) ts
+  parts_good _ = true
 
   abbrev pub told : ℕ → Fact
   told k = record {

@@ -1,49 +1,33 @@
 -- A type is declared as one and the same wherever it is shown, and views of a place that show functions show the same ones.
-use Rattle.std.proofs.Common.{◌≡◌, refl, sym, ap, subst, ◌∙◌, ℕ, arith, true, ◌&&◌, ◌==◌, List, ◌++◌, map, Option, Some, None, slice_get}
+use Rattle.plan_type_laws.proofs.PartPlaces.{slot_number}
+use Rattle.std.proofs.Common.{◌≡◌, refl, sym, ap, subst, ◌∙◌, ℕ, arith, true, ◌&&◌, List, ◌++◌, map, Option, Some, None}
 use Rattle.std.specs.List.{Contains, list_all}
 use Rattle.wit_model.specs.Text.{Text}
-use Rattle.comp_meaning.specs.Follow.{ShownType}
 use Rattle.comp_meaning.specs.Reads as reads
 use Rattle.comp_meaning.specs.Rules.{distinct}
-use Rattle.read_shown.proofs.Agreement as agreement
-use Rattle.plan_meaning.specs.FollowedNumbers.{IsPartIn, IsShownIn, IsViewIn}
-use Rattle.plan_meaning.specs.NumberedMembers.{Homes, NumberedMember, are_interfaces, sights_of_members, stands_at_top}
+use Rattle.plan_meaning.specs.FollowedNumbers.{IsShownIn, IsViewIn}
+use Rattle.plan_meaning.specs.NumberedMembers.{Homes, NumberedMember, sights_of_members}
 use Rattle.plan_meaning.specs.NumberedRules.{Fact, is_function, is_interface, is_type, resources_of}
-use Rattle.plan_meaning.specs.NumberedViews.{NumberedFunction, NumberedSight, NumberedType, NumberedView, Tables, agree_in_numbers, function_at, path_at, place_at, shown_type, view_of}
-use Rattle.plan_meaning.specs.NumberedWorlds as worlds
-use Rattle.plan_meaning.specs.NumberedWorlds.{NumberedScope, NumberedSeen}
-use Rattle.plan_meaning.specs.Shapes.{Shape, first_label, named_shape}
+use Rattle.plan_meaning.specs.NumberedViews.{NumberedFunction, NumberedSight, NumberedType, NumberedView, Tables, function_at, path_at}
 use Rattle.plan_parts.specs.Interfaces.{slot_part}
 use Rattle.read_exports.specs.Members.{numbered_members}
 use Rattle.read_exports.specs.declared.members.Member.{Member}
-use Rattle.read_exports.specs.declared.members.Part.TheVariants as parts
-use Rattle.read_rules.specs.declared.scopes.Scope.{Scope}
-use Rattle.read_rules.specs.declared.scopes.Seen.{Seen}
-use Rattle.read_rules.specs.declared.scopes.Shown.{Shown}
-use Rattle.read_rules.specs.declared.scopes.Shown.TheVariants as shown
-use Rattle.read_rules.specs.Scopes.{numbered_seen, numbered_shown}
 use Rattle.plan_types.specs.Showings.{NumberedShowing, showings_of_members}
-use Rattle.plan_package.specs.Views.{views_of_members, views_of_part}
+use Rattle.plan_package.specs.Views.{views_of_members}
 use Rattle.plan_laws.specs.ShownAlike.{WholeIsShownAlike}
-use Rattle.plan_laws.specs.ShownNames.{DeclaresName}
 use Rattle.plan_laws.specs.ShownRules.{ViewObeys}
 use Rattle.plan_laws.specs.Whole.{IsPackageInput}
 use Rattle.plan_laws.specs.WholeTypes.{IsRuledInput}
 use Rattle.plan_laws.proofs.FirstDeclared.{shown_alike}
-use Rattle.plan_laws.proofs.Inside.{flat_cases}
 use Rattle.plan_laws.proofs.OwnPlaces.{Owned, a_view, a_world, frames, one_owned}
-use Rattle.plan_laws.proofs.PartNames.{views_are_good}
 use Rattle.plan_laws.proofs.SameFunctions.{IsOnce, function_shared}
-use Rattle.plan_laws.proofs.ShownFrom.{IsFrom, of_import, of_view, shown_from, view_frame, world_of}
-use Rattle.plan_laws.proofs.Showings.{slot_is}
-use Rattle.plan_laws.proofs.ViewsAgree.{sight_there}
-use Rattle.plan_laws.proofs.WholeTypes.{packages_are_ruled}
-use Rattle.plan_laws.proofs.WorldKeys.{declared_in, keys_apart, one_key, one_world}
+use Rattle.plan_laws.proofs.ShownFrom.{IsFrom, of_import, of_view, shown_from, view_frame}
+use Rattle.plan_laws.proofs.FirstViews.{sight_there, view_names}
+use Rattle.plan_laws.proofs.WholeTypes.{packages_are_ruled, tests_hold}
+use Rattle.plan_laws.proofs.WorldKeys.{by_imports}
 use Rattle.comp_meaning.proofs.AgreementLaws.{distinct_behind}
 use Rattle.base_lemmas.proofs.Bools.{right_of as second_true}
-use Rattle.base_lemmas.proofs.Elements.{all-contained, all_at, contains-map}
-use Rattle.base_lemmas.proofs.Lists.{map_of_map}
-use Rattle.std.proofs.lemmas.Option.{same_Some as same-some}
+use Rattle.base_lemmas.proofs.Elements.{all-contained, all_at}
 
 abbrev pub view_owned : NumberedView → Owned → NumberedView
 view_owned default (a_view v) = v
@@ -64,13 +48,6 @@ module _ (t : Tables) (h : Homes) (known : ℕ → Fact) (n : ℕ) (ms : List Me
 
   -- ---- the views that are shown
 
-  interfaces : are_interfaces t known sights ≡ true
-  interfaces =
-      second_true (agree_in_numbers sights) (are_interfaces t known sights)
-      (second_true (list_all (stands_at_top h n numbered) sights) (agree_in_numbers sights && are_interfaces t known sights)
-      (second_true (list_all (λ (m : NumberedMember). n == m.package_) numbered) (list_all (stands_at_top h n numbered) sights && (agree_in_numbers sights && are_interfaces t known sights))
-      given.obeys))
-
   functions_once : (s : NumberedSight) → Contains sights s → IsOnce s
   functions_once s c =
       let v = s.view in
@@ -78,20 +55,7 @@ module _ (t : Tables) (h : Homes) (known : ℕ → Fact) (n : ℕ) (ms : List Me
       (second_true (list_all (is_type t known s.place) v.types && list_all (λ (f : Text × NumberedFunction). is_function t known s.place (resources_of v.types) f.0 (function_at t f.1.signature))
       v.functions)
       (distinct (map (λ (x : NumberedType). x.name) v.types ++ map (λ (f : Text × NumberedFunction). f.0) v.functions))
-      (all-contained (λ (x : NumberedSight). is_interface t known x.place x.view) sights s interfaces c))
-
-  -- what is shown is of its place
-  pub view_good : (s : NumberedSight) → Contains views s → IsViewIn t s.place s.view
-  view_good s c =
-      let from = flat_cases (λ (m : NumberedMember). views_of_part m.part) numbered s c in
-      all_at (λ (x : NumberedSight). IsViewIn t x.place x.view) (views_of_part from.0.part)
-      (views_are_good t given.input.tables h given.input.homes from.0.part (all_at (λ (m : NumberedMember). IsPartIn t m.part) numbered given.input.numbers from.0 from.1)) s from.2
-
-  -- the names of a view's types differ
-  pub types_once : (s : NumberedSight) → Contains views s → distinct (map (λ (x : NumberedType). x.name) s.view.types) ≡ true
-  types_once s c =
-      sym (ap distinct (map_of_map (λ (x : ShownType). x.name) (shown_type t) s.view.types))
-      ∙ agreement.names_differ (place_at t s.place) (view_of t s.view) (all_at (ViewObeys t) views ruled.rules.views s c)
+      (all-contained (λ (x : NumberedSight). is_interface t known x.place x.view) sights s (tests_hold t h known n ms members given).3 c))
 
   pub functions_alike : (r s : NumberedSight) → Contains views r → Contains views s → r.place ≡ s.place → r.whole ≡ true → s.whole ≡ true → (f : Text × NumberedFunction) → Contains r.view.functions f
       → Contains s.view.functions f
@@ -99,8 +63,8 @@ module _ (t : Tables) (h : Homes) (known : ℕ → Fact) (n : ℕ) (ms : List Me
     where
       by : (o : Option Text) → path_at t s.place ≡ o → Contains s.view.functions f
       by (Some path) e =
-          function_shared sights ruled.agree functions_once r s (sight_there t h ms members given.input given.placed.apart r c path (ap (path_at t) same ∙ e))
-          (sight_there t h ms members given.input given.placed.apart s d path e)
+          function_shared sights ruled.agree functions_once r s (sight_there t numbered r c (path, ap (path_at t) same ∙ e))
+          (sight_there t numbered s d (path, e))
           same r_whole s_whole f there
       by None e =
           let r_frame = subst (λ q. Contains (frames numbered) (q, a_view r.view)) same (view_frame t h ms members given.input given.placed.apart r c (ap (path_at t) same ∙ e)) in
@@ -120,32 +84,9 @@ module _ (t : Tables) (h : Homes) (known : ℕ → Fact) (n : ℕ) (ms : List Me
       → z.declared ≡ y.declared
   by_view s in_views good x in_types y z same declared part z_shown =
       let is = all_at (IsShownIn t s.place) s.view.types good.types x in_types in
-      let own = slot_is t given.input.tables x.slot is.number is.slot in
-      shown_alike t h ms members given.input given.placed.apart ruled.agree s in_views (types_once s in_views) x in_types is.number is.name.named z z_shown (omega (arith, own, part, same)) ∙ declared
-
-  -- imports of worlds that are of one name are one
-  by_imports : (m : Member) → Contains ms m → (w : Scope) → m.part ≡ parts.World w → (a : Seen) → Contains w.imports.now a → (part : ℕ) (d : Option ℕ) → a.shown ≡ shown.Declares part d
-      → (k : Member) → Contains ms k → (v : Scope) → k.part ≡ parts.World v → (b : Seen) → Contains v.imports.now b → (other : ℕ) (e : Option ℕ) → b.shown ≡ shown.Declares other e
-      → part ≡ other → d ≡ e
-  by_imports m c w is_w a a_in part d a_shows k g v is_v b b_in other e b_shows same =
-      let first = world_of t h ms members given.input given.placed.apart m c w is_w in
-      let second = world_of t h ms members given.input given.placed.apart k g v is_v in
-      let a_name = subst (λ (x : Shown). DeclaresName t w.home (record { key = a.key; shown = x; external_id = a.external_id })) a_shows
-      (all_at (DeclaresName t w.home) w.imports.now first.declares a a_in) in
-      let b_name = subst (λ (x : Shown). DeclaresName t v.home (record { key = b.key; shown = x; external_id = b.external_id })) b_shows
-      (all_at (DeclaresName t v.home) v.imports.now second.declares b b_in) in
-      let one : a_name.0 ≡ b_name.0 = (let p = a_name.1 in let q = b_name.1 in omega (arith, p, q, same)) in
-      let shape : named_shape w.home a.key.now ≡ named_shape v.home b.key.now =
-      same-some (named_shape w.home a.key.now) (named_shape v.home b.key.now) (sym a_name.2 ∙ (ap (slice_get t.shapes) one ∙ b_name.2)) in
-      let scope = one_world t h ms members given.input given.placed.apart m k c g w v is_w is_v (ap (λ (x : Shape). x.number) shape) in
-      let here : Contains (map numbered_seen v.imports.now) (numbered_seen a) =
-      subst (λ (x : NumberedScope). Contains x.imports (numbered_seen a)) scope (contains-map numbered_seen w.imports.now a a_in) in
-      let seen =
-      one_key (map numbered_seen v.imports.now) (keys_apart t h ms members given.input given.placed.apart v second) (numbered_seen a) (numbered_seen b) here
-      (contains-map numbered_seen v.imports.now b b_in)
-      (ap (λ (x : Shape). first_label x.labels) shape) in
-      let shown_same : worlds.declares d ≡ worlds.declares e = sym (ap numbered_shown a_shows) ∙ (ap (λ (x : NumberedSeen). x.shown) seen ∙ ap numbered_shown b_shows) in
-      ap (declared_in e) shown_same
+      let own = slot_number t x.slot is.number is.slot in
+      shown_alike t h ms members given.input given.placed.apart ruled.agree s in_views
+      (view_names t s (all_at (ViewObeys t) views ruled.rules.views s in_views)) x in_types is.number is.name.named z z_shown (omega (arith, own, part, same)) ∙ declared
 
   pub types_alike : (y z : NumberedShowing) → Contains (showings_of_members ms) y → Contains (showings_of_members ms) z → y.part ≡ z.part → y.declared ≡ z.declared
   types_alike y z c d same = by (shown_from t h ms members given.input given.placed.apart y c) (shown_from t h ms members given.input given.placed.apart z d)
@@ -156,7 +97,7 @@ module _ (t : Tables) (h : Homes) (known : ℕ → Fact) (n : ℕ) (ms : List Me
       by (of_import m m_in w is_w a a_in a_shows) (of_view s in_views good x in_types shows) =
           by_view s in_views good x in_types z y (sym same) (ap (λ (v : NumberedShowing). v.declared) shows) (ap (λ (v : NumberedShowing). v.part) shows) c
       by (of_import m m_in w is_w a a_in a_shows) (of_import k k_in v is_v b b_in b_shows) =
-          by_imports m m_in w is_w a a_in y.part y.declared a_shows k k_in v is_v b b_in z.part z.declared b_shows same
+          by_imports t h ms members given.input given.placed.apart m m_in w is_w a a_in y.part y.declared a_shows k k_in v is_v b b_in z.part z.declared b_shows same
 
 pub whole_is_shown_alike : WholeIsShownAlike
 whole_is_shown_alike t h known n ms members given = record {

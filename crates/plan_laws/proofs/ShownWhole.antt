@@ -1,5 +1,6 @@
 -- The worlds of a plan show what worlds at the top do, and each view shows the types by which its place is read.
-use Rattle.std.proofs.Common.{◌≡◌, refl, sym, ap, subst, ◌∙◌, ℕ, ◌⊎◌, inl, inr, ◌==◌, true, List, [], ◌∷◌, ◌++◌, map, Option, Some, None, slice_get}
+use Rattle.plan_laws.proofs.ShownFrom.{own_once}
+use Rattle.std.proofs.Common.{◌≡◌, refl, sym, ap, subst, ◌∙◌, ℕ, inl, inr, ◌==◌, true, List, [], ◌∷◌, ◌++◌, map, Option, Some, None}
 use Rattle.std.specs.List.{AllByRecursion, AllZip, Contains}
 use Rattle.std.specs.Option.{option_map_or}
 use Rattle.std.specs.Cmp.Lexicographic.{pointwise}
@@ -37,17 +38,16 @@ use Rattle.plan_laws.specs.ShownWhole.{WholeIsShown}
 use Rattle.plan_laws.specs.ViewedInterfaces.{views_read}
 use Rattle.plan_laws.specs.Whole.{IsPackageInput}
 use Rattle.plan_laws.specs.WholeTypes.{IsRuledInput}
+use Rattle.plan_laws.proofs.Sources.{Side, partner, world_in as world_of}
 use Rattle.plan_laws.proofs.FirstTypes.{views_told}
 use Rattle.plan_laws.proofs.FirstViews.{first_is, told_types}
 use Rattle.plan_laws.proofs.Inside.{flat_cases}
 use Rattle.plan_laws.proofs.InstanceSeen.{instance_seen}
 use Rattle.plan_laws.proofs.PlaceNumbers.{one_owner, owner_numbered}
 use Rattle.plan_laws.proofs.Planned.{found_there}
-use Rattle.plan_laws.proofs.ShownFrom.{world_of}
 use Rattle.plan_laws.proofs.WholePlacesLabels.{world_among}
 use Rattle.plan_laws.proofs.WholeTypes.{packages_are_ruled}
-use Rattle.base_lemmas.proofs.Elements.{all_at, contains-map, get-contains, last_of as one-contained, zip_at}
-use Rattle.base_lemmas.proofs.Lists.{get_back as unmapped_get}
+use Rattle.base_lemmas.proofs.Elements.{all_at, contains-map, last_of as one-contained, zip_at, map_from as from_map}
 use Rattle.base_lemmas.proofs.Numbers.{same-number}
 use Rattle.std.proofs.lemmas.Option.{same_Some as same-some}
 
@@ -138,33 +138,30 @@ module _ (t : Tables) (h : Homes) (known : ℕ → Fact) (n : ℕ) (ms : List Me
       → AllByRecursion (IsReadItem t planned.kept p b (views_read ms) o home) xs → (q : ℕ) (s : Seen) → Contains ss s → place_shown (numbered_shown s.shown) ≡ Some q → (x : ReadItem) × Contains xs x
       × (place_shown x.seen.shown ≡ Some q)
   listed_shows find o home ss es zip xs listed all q s c at =
-      let j = contains-get ss s c in
-      let e = zip_at (PlansItem t planned.kept (places_in ms) find) ss es zip j.0 s j.1 in
+      let e = partner (PlansItem t planned.kept (places_in ms) find) ss es zip s c in
       let becomes = planned_as find s e.0 q e.2 at in
-      let item = unmapped_get (λ (x : ReadItem). x.entry) xs j.0 e.0 (ap (λ ys. slice_get ys j.0) listed ∙ e.1) in
-      let among = get-contains xs j.0 item.0 item.1 in (
-        item.0,
-        among,
-        item_shows o home item.0 (all_at (IsReadItem t planned.kept p b (views_read ms) o home) xs all item.0 among) q becomes.number becomes.own
-            (ap (λ (x : PlannedKey × PlannedItem). item_interface x.1) item.2 ∙ becomes.is),
-      )
+      let item = from_map (λ (x : ReadItem). x.entry) xs e.0 (subst (λ ys. Contains ys e.0) (sym listed) e.1) in
+      let shows = item_shows o home item.0 (all_at (IsReadItem t planned.kept p b (views_read ms) o home) xs all item.0 item.1) q becomes.number becomes.own
+      (ap (λ (x : PlannedKey × PlannedItem). item_interface x.1) item.2 ∙ becomes.is) in
+      (item.0, item.1, shows)
 
   pub worlds_show : (m : Member) → Contains ms m → (w : Scope) → m.part ≡ parts.World w → (i : NumberedInstance) → Contains (numbered_scope w).instances i
       → IsShownByWorld t h planned.kept p b (views_read ms) read i.place
   worlds_show m c w is i among =
       let j = contains-get (worlds_in ms) (m.label.now, w) (world_among ms m c w is) in
       let x = zip_at (PlansWorld t planned.kept (places_in ms) n) (worlds_in ms) p.worlds planned.worlds j.0 (m.label.now, w) j.1 in
-      let seen = instance_seen t h ms members given.input given.placed.apart w (world_of t h ms members given.input given.placed.apart m c w is) i among in
+      let seen = instance_seen t h ms members given.input w (world_of t h ms members given.input m c w is)
+      (own_once t h ms members given.input given.placed.apart m c w is) i among in
       by j.0 x.0 x.1 x.2 (read.order.worlds j.0 x.0 x.1) refl seen.seen seen.among seen.place
     where
       by : (j : ℕ) (x : PlannedWorld) (there : world_in p j ≡ Some x) → PlansWorld t planned.kept (places_in ms) n (m.label.now, w) x → (r : Read j x) → read.order.worlds j x there ≡ r
-          → (s : Seen) → Contains w.imports.now s ⊎ Contains w.exports.now s → place_shown (numbered_shown s.shown) ≡ Some i.place → IsShownByWorld t h planned.kept p b (views_read ms) read i.place
+          → (s : Seen) → Side w s → place_shown (numbered_shown s.shown) ≡ Some i.place → IsShownByWorld t h planned.kept p b (views_read ms) read i.place
       by j x there plans r same s side place = which side
         where
           shown_by : (y : ReadItem) → Contains (r.imports ++ r.exports) y → place_shown y.seen.shown ≡ Some i.place → IsShownByWorld t h planned.kept p b (views_read ms) read i.place
           shown_by y listed shows = record { number = j; world = x; there = there; item = y; listed = subst (λ (z : Read j x). Contains (z.imports ++ z.exports) y) (sym same) listed; shows = shows }
 
-          which : Contains w.imports.now s ⊎ Contains w.exports.now s → IsShownByWorld t h planned.kept p b (views_read ms) read i.place
+          which : Side w s → IsShownByWorld t h planned.kept p b (views_read ms) read i.place
           which (inl imported) =
               let y = listed_shows plans.find (as_world j) r.scope.home w.imports.now x.imports plans.imports r.imports r.imports_listed r.imports_read i.place s imported place in
               shown_by y.0 (Contains-append_left r.imports r.exports y.0 y.1) y.2

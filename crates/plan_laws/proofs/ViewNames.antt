@@ -1,85 +1,55 @@
 -- A name that is met in a view was shown in its own place.
-use Rattle.std.proofs.Common.{◌≡◌, refl, sym, ap, subst, ◌∙◌, ℕ, suc, zero, ◌+◌, ◌-◌, ◌<◌, ◌⊎◌, inl, inr, arith, Bool, true, false, if◌then◌else◌, List, [], ◌∷◌, length, map, Option, Some, None, option_and_then, option_to_list, slice_get}
-use Rattle.std.specs.List.{AllByRecursion, Contains}
+use Rattle.std.proofs.Common.{◌≡◌, refl, sym, ap, subst, ◌∙◌, ℕ, suc, zero, ◌+◌, ◌⊎◌, inl, inr, arith, Bool, true, false, if◌then◌else◌, List, [], ◌∷◌, length, map, Option, Some, None, slice_get}
+use Rattle.std.specs.List.{Contains}
 use Rattle.std.specs.Option.{option_map_or}
-use Rattle.std.proofs.lemmas.Bool.{le-ltb, lt-ltb}
-use Rattle.std.proofs.lemmas.List.Elements.{Contains-append_cases}
 use Rattle.wit_model.specs.Text.{Text}
 use Rattle.wit_model.specs.Tree.{Place}
-use Rattle.wit_model.proofs.Elements.{contains-get, none-in}
+use Rattle.wit_model.proofs.Elements.{contains-get, none-in, contains-has}
 use Rattle.comp_meaning.specs.Follow.{Instance, ShownType, place_of}
 use Rattle.read_shown.specs.Scopes.{IsShownBefore}
 use Rattle.read_shown.specs.Trees.{DeclarationStands}
 use Rattle.read_shown.specs.Views.{IsMetInView, ShowsName, ViewStands, inside as met_inside, outside as met_outside}
 use Rattle.plan_meaning.specs.FollowedNumbers.{IsCalledIn, IsMetFrom, IsNameOf, IsShownIn, IsSlotOf, IsViewIn}
-use Rattle.plan_meaning.specs.NumberedRules.{is_form}
-use Rattle.plan_meaning.specs.NumberedViews.{AllOf, AreTables, FunctionShape, IsPart, NumberedFunction, NumberedSight, NumberedSlot, NumberedType, PartsOf, Tables, declaration_of, function_at, path_at, place_at, resource, shown_function, shown_type, value, view_of}
+use Rattle.plan_meaning.specs.NumberedRules.{is_form, shape_at}
+use Rattle.plan_meaning.specs.NumberedViews.{AllOf, AreTables, FunctionShape, IsPart, NumberedFunction, NumberedSight, NumberedType, PartsOf, Tables, declaration_of, function_at, path_at, place_at, shown_function, shown_type, view_of}
 use Rattle.plan_meaning.specs.NumberedWorlds.{HasPath}
-use Rattle.plan_meaning.specs.Plan.{part_number}
 use Rattle.plan_meaning.specs.Shapes.{Shape, named_shape}
-use Rattle.plan_meaning.proofs.ShapeLaws.{split_part}
 use Rattle.plan_parts.specs.Interfaces.{slot_part}
 use Rattle.plan_types.specs.Used.{declared_parts, form_parts, signature_parts}
+use Rattle.plan_type_laws.proofs.ShownForms.{numbered_shape, function_part}
 use Rattle.plan_laws.specs.ShownNames.{ShowsNumber}
-use Rattle.plan_laws.proofs.Inside.{IsIn, inside, name_alone, name_in}
+use Rattle.plan_laws.proofs.Inside.{IsIn, inside, name_alone, name_in, name_same}
 use Rattle.plan_laws.proofs.MetNames.{in_declared, in_signature}
 use Rattle.base_lemmas.proofs.Elements.{all_at, get-contains, last_of as one-contained}
 use Rattle.base_lemmas.proofs.Lists.{get_back as unmapped_get, mapped_get}
-use Rattle.std.proofs.lemmas.Option.{same_Some as same-some}
-use Rattle.plan_type_laws.proofs.PartPlaces.{parts_weaker}
+use Rattle.plan_type_laws.proofs.PartPlaces.{parts_weaker, slot_number}
 
 -- ---- parts
 
 -- the parts of a function
 pub part_of_function : (P : ℕ → Type 0) (f : FunctionShape) → PartsOf P f → (k : ℕ) → Contains (signature_parts f) k → P k
-part_of_function P f all k c = by (Contains-append_cases (map (λ (x : Text × ℕ). x.1) f.params) (option_to_list f.result) k c)
-  where
-    params : (ps : List (Text × ℕ)) → AllByRecursion (λ (p : Text × ℕ). P p.1) ps → Contains (map (λ (x : Text × ℕ). x.1) ps) k → P k
-    params [] every among = none-in k among
-    params (p ∷ ps) every (zero, low, e) = subst P e every.0
-    params (p ∷ ps) every (suc i, low, e) = params ps every.1 (i, omega (arith, low), e)
-
-    given : (r : Option ℕ) → AllOf P r → Contains (option_to_list r) k → P k
-    given None every among = none-in k among
-    given (Some j) every among = subst P (one-contained j k among) every
-
-    by : Contains (map (λ (x : Text × ℕ). x.1) f.params) k ⊎ Contains (option_to_list f.result) k → P k
-    by (inl among) = params f.params all.0 among
-    by (inr among) = given f.result all.1 among
+part_of_function P f all k c = function_part P f all k (contains-has (signature_parts f) k c)
 
 -- what is declared where one of its parts is used
 pub declared_inside : (t : Tables) (n : ℕ) (d : Option ℕ) (k : ℕ) → Contains (declared_parts t d) k → IsIn t.shapes k n → (j : ℕ) × (d ≡ Some j) × IsIn t.shapes j n
 declared_inside t n None k c found = none-in k c
 declared_inside t n (Some j) k c found = by (is_form t j) c
   where
-    at_number : (o : Option Shape) → (m : ℕ) → j ≡ 14 + m → slice_get t.shapes m ≡ o → Contains (option_map_or (λ (s : Shape). s.parts) o []) k → (i : ℕ) × (Some j ≡ Some i) × IsIn t.shapes i n
-    at_number None m is there among = none-in k among
-    at_number (Some s) m is there among = (j, refl, inside j m k n s is there among found)
-
-    no_number : j < 14 → form_parts t j ≡ []
-    no_number low = ap (λ b. option_map_or (λ (s : Shape). s.parts) (option_and_then (slice_get t.shapes) (if b then None else Some (j - 14))) []) (lt-ltb j 14 low)
-
-    behind : (m : ℕ) → j ≡ 14 + m → form_parts t j ≡ option_map_or (λ (s : Shape). s.parts) (slice_get t.shapes m) []
-    behind m is =
-        ap (λ i. option_map_or (λ (s : Shape). s.parts) (option_and_then (slice_get t.shapes) (part_number i)) []) is
-        ∙ (ap (λ b. option_map_or (λ (s : Shape). s.parts) (option_and_then (slice_get t.shapes) (if b then None else Some ((14 + m) - 14))) []) (le-ltb (14 + m) 14 (omega arith))
-        ∙ ap (λ i. option_map_or (λ (s : Shape). s.parts) (slice_get t.shapes i) []) (omega arith))
-
-    split : (j < 14) ⊎ ((m : ℕ) × (j ≡ 14 + m)) → Contains (form_parts t j) k → (i : ℕ) × (Some j ≡ Some i) × IsIn t.shapes i n
-    split (inl low) among = none-in k (subst (λ ks. Contains ks k) (no_number low) among)
-    split (inr (m, is)) among = at_number (slice_get t.shapes m) m is refl (subst (λ ks. Contains ks k) (behind m is) among)
+    formed : (o : Option Shape) → shape_at t j ≡ o → Contains (option_map_or (λ (s : Shape). s.parts) o []) k → (i : ℕ) × (Some j ≡ Some i) × IsIn t.shapes i n
+    formed None e among = none-in k among
+    formed (Some s) e among = let at = numbered_shape t j s e in (j, refl, inside j at.0 k n s at.1 at.2 among found)
 
     by : (b : Bool) → Contains (if b then form_parts t j else j ∷ []) k → (i : ℕ) × (Some j ≡ Some i) × IsIn t.shapes i n
-    by true among = split (split_part j) among
+    by true among = formed (shape_at t j) refl among
     by false among = (j, refl, subst (λ i. IsIn t.shapes i n) (sym (one-contained j k among)) found)
 
 -- ---- places
 
-abbrev text_of_place : Place → Option Text
+abbrev pub text_of_place : Place → Option Text
 text_of_place Place.here = None
 text_of_place (Place.of_interface path) = Some path
 
-path_back : (o : Option Text) → text_of_place (place_of o) ≡ o
+pub path_back : (o : Option Text) → text_of_place (place_of o) ≡ o
 path_back None = refl
 path_back (Some path) = refl
 
@@ -94,10 +64,7 @@ module _ (t : Tables) (tables : AreTables t) where
   pub same_place : (a q : ℕ) → HasPath t q → place_at t a ≡ place_at t q → a ≡ q
   same_place a q path e = tables.paths a q path.0 (sym (path_back (path_at t a)) ∙ (ap text_of_place e ∙ (path_back (path_at t q) ∙ path.1))) path.1
 
-  module _ (views : List NumberedSight) (good : AllByRecursion (λ (s : NumberedSight). IsViewIn t s.place s.view) views) (n q : ℕ) (name : Text) (at : slice_get t.shapes n ≡ Some (named_shape q name)) where
-    good_view : (s : NumberedSight) → Contains views s → IsViewIn t s.place s.view
-    good_view s c = all_at (λ (x : NumberedSight). IsViewIn t x.place x.view) views good s c
-
+  module _ (views : List NumberedSight) (good : (s : NumberedSight) → Contains views s → IsViewIn t s.place s.view) (n q : ℕ) (name : Text) (at : slice_get t.shapes n ≡ Some (named_shape q name)) where
     -- ---- views that show the name
 
     -- a type that is shown under the name, or under its number
@@ -116,7 +83,7 @@ module _ (t : Tables) (tables : AreTables t) where
     view_shows s c same count place b shows =
         let from = unmapped_get (shown_type t) s.view.types shows.number shows.shown shows.at in
         let there = get-contains s.view.types shows.number from.0 from.1 in
-        let is = all_at (IsShownIn t s.place) s.view.types (good_view s c).types from.0 there in
+        let is = all_at (IsShownIn t s.place) s.view.types (good s c).types from.0 there in
         let text : from.0.name ≡ name = ap (λ (y : ShownType). y.name) from.2 ∙ shows.named in
         let one : is.number ≡ n = tables.shapes.apart is.number n (named_shape q name) (is.name.named ∙ (ap (λ p. Some (named_shape p from.0.name)) same ∙ ap (λ x. Some (named_shape q x)) text)) at in
         type_shows s c from.0 there is one same
@@ -143,7 +110,7 @@ module _ (t : Tables) (tables : AreTables t) where
         -- what a type is declared as
         declared_shows : (i : ℕ) (x : NumberedType) → slice_get s.view.types i ≡ Some x → (k : ℕ) → x.declared ≡ Some k → IsIn t.shapes k n → ShowsNumber t views q n
         declared_shows i x e j some found =
-            let is = all_at (IsShownIn t s.place) s.view.types (good_view s among).types x (get-contains s.view.types i x e) in
+            let is = all_at (IsShownIn t s.place) s.view.types (good s among).types x (get-contains s.view.types i x e) in
             let met : IsMetFrom t s.place j = subst (AllOf (IsMetFrom t s.place)) some is.name.met in
             let type_ = stands.types i (shown_type t x) (mapped_get (shown_type t) s.view.types i x e) in
             let declared = subst (λ d. DeclarationStands (IsMetInView (IsShownBefore instances k) (place_at t s.place) (view_of t s.view) i) (declaration_of t d) type_.is_resource) some
@@ -154,15 +121,10 @@ module _ (t : Tables) (tables : AreTables t) where
         -- a part of a type that is shown
         pub part_shows : (x : NumberedType) → Contains s.view.types x → (j : ℕ) → Contains (slot_part x.slot ∷ declared_parts t x.declared) j → IsIn t.shapes j n → ShowsNumber t views q n
         part_shows x c j (zero, low, e) found =
-            let is = all_at (IsShownIn t s.place) s.view.types (good_view s among).types x c in
-            let part : j ≡ 14 + is.number = sym e ∙ slot_is x.slot is.number is.slot in
+            let is = all_at (IsShownIn t s.place) s.view.types (good s among).types x c in
+            let part : j ≡ 14 + is.number = sym e ∙ slot_number t x.slot is.number is.slot in
             let one : n ≡ is.number = name_alone t.shapes tables.shapes j n is.number s.place x.name part is.name.named found in
-            let shape : named_shape s.place x.name ≡ named_shape q name = same-some (named_shape s.place x.name) (named_shape q name) (sym is.name.named ∙ (ap (slice_get t.shapes) (sym one) ∙ at)) in
-            type_shows s among x c is (sym one) (ap (λ (y : Shape). y.number) shape)
-          where
-            slot_is : (slot : NumberedSlot) (m : ℕ) → IsSlotOf t slot m → slot_part slot ≡ 14 + m
-            slot_is (value k) m is = is
-            slot_is (resource k) m is = is
+            type_shows s among x c is (sym one) (name_same t.shapes s.place q x.name name is.number n is.name.named at (sym one)).0
         part_shows x c j (suc i, low, e) found =
             let there = contains-get s.view.types x c in
             let inner = declared_inside t n x.declared j (i, omega (arith, low), e) found in
@@ -173,7 +135,7 @@ module _ (t : Tables) (tables : AreTables t) where
             → ShowsNumber t views q n
         function_shows f c j part found =
             let there = contains-get s.view.functions f c in
-            let called = all_at (λ (g : Text × NumberedFunction). IsCalledIn t s.place g.1.signature) s.view.functions (good_view s among).functions f c in
+            let called = all_at (λ (g : Text × NumberedFunction). IsCalledIn t s.place g.1.signature) s.view.functions (good s among).functions f c in
             let met : IsMetFrom t s.place j = part_of_function (IsMetFrom t s.place) (function_at t f.1.signature) called.parts j part in
             let Met = IsMetInView (IsShownBefore instances k) (place_at t s.place) (view_of t s.view) (length (view_of t s.view).types) in
             let signature = stands.functions there.0 (shown_function t f) (mapped_get (shown_function t) s.view.functions there.0 f there.1) in

@@ -21,8 +21,6 @@ use Rattle.base_lemmas.proofs.Bools.{left_of as first_true}
 module _ (t : Tables) (place : Place) where
   same_resources : (xs ys : List NumberedType) → map told xs ≡ map told ys → resources_of (map (shown_type t) xs) ≡ resources_of (map (shown_type t) ys)
   same_resources [] [] e = refl
-  same_resources [] (y ∷ ys) e = let wrong : ⊥ = cc in absurd wrong
-  same_resources (x ∷ xs) [] e = let wrong : ⊥ = cc in absurd wrong
   same_resources (x ∷ xs) (y ∷ ys) e =
       let one : told x ≡ told y = cc in
       let rest : map told xs ≡ map told ys = cc in
@@ -30,17 +28,17 @@ module _ (t : Tables) (place : Place) where
       let declared : x.declared ≡ y.declared = ap (λ (z : Text × (Option ℕ × Option Text)). z.1.0) one in
       let name : x.name ≡ y.name = ap (λ (z : Text × (Option ℕ × Option Text)). z.0) one in
       λ i. if is_resource (declaration_of t (declared i)) then name i ∷ later i else later i
+  same_resources _ _ e = let wrong : ⊥ = cc in absurd wrong
 
   same_names : (xs ys : List NumberedType) → map told xs ≡ map told ys → map (λ (x : ShownType). x.name) (map (shown_type t) xs) ≡ map (λ (x : ShownType). x.name) (map (shown_type t) ys)
   same_names [] [] e = refl
-  same_names [] (y ∷ ys) e = let wrong : ⊥ = cc in absurd wrong
-  same_names (x ∷ xs) [] e = let wrong : ⊥ = cc in absurd wrong
   same_names (x ∷ xs) (y ∷ ys) e =
       let one : told x ≡ told y = cc in
       let rest : map told xs ≡ map told ys = cc in
       let later = same_names xs ys rest in
       let name : x.name ≡ y.name = ap (λ (z : Text × (Option ℕ × Option Text)). z.0) one in
       λ i. name i ∷ later i
+  same_names _ _ e = let wrong : ⊥ = cc in absurd wrong
 
   abbrev types_pass : List ShownType → Bool
   types_pass ts = list_all (λ (x : ShownType). is_label x.name && is_declared place x.meaning.declaration) ts
@@ -53,8 +51,7 @@ module _ (t : Tables) (place : Place) where
 
   third : (a b c : Bool) → (a && b && c) ≡ true → (a ≡ true) × (b ≡ true) × (c ≡ true)
   third true true c h = (refl, refl, h)
-  third true false c h = let wrong : false ≡ true = h in absurd cc
-  third false b c h = let wrong : false ≡ true = h in absurd cc
+  third _ _ c h = let wrong : false ≡ true = h in absurd cc
 
   three : (a b c : Bool) → a ≡ true → b ≡ true → c ≡ true → (a && b && c) ≡ true
   three true true c h k l = l

@@ -1,5 +1,6 @@
 -- Each interface of the plan is read by the first view of its place.
-use Rattle.std.proofs.Common.{◌≡◌, refl, sym, ap, subst, ◌∙◌, ℕ, suc, ◌+◌, ◌<◌, ◌⊎◌, inl, inr, arith, true, List, [], ◌∷◌, ◌++◌, length, map, Option, Some, None, option_map, slice_get}
+use Rattle.plan_type_laws.proofs.PartPlaces.{slot_number}
+use Rattle.std.proofs.Common.{◌≡◌, refl, sym, ap, subst, ◌∙◌, ℕ, suc, ◌<◌, ◌⊎◌, inl, inr, arith, true, List, [], ◌∷◌, ◌++◌, length, map, Option, Some, None, option_map, slice_get}
 use Rattle.std.specs.List.{AllZip, Contains, flat_map}
 use Rattle.std.specs.Option.{option_map_or}
 use Rattle.std.proofs.lemmas.List.Elements.{Contains-append_left}
@@ -24,7 +25,6 @@ use Rattle.plan_meaning.specs.Plan.{Plan, PlannedInterface, interface_in}
 use Rattle.plan_meaning.specs.ReadFunctions.{Beside}
 use Rattle.plan_meaning.specs.ReadInterfaces.{HasName, IsKeptAs, IsNamed, IsNumberOf, IsReadInterface}
 use Rattle.plan_meaning.specs.ReadOrder.{InterfacesAreViewed, IsUsedPlace, IsViewedInterface, itself, smaller}
-use Rattle.plan_meaning.specs.Renumbering.{IsPart as NewPart, a_primitive, a_shape}
 use Rattle.plan_meaning.specs.Shapes.{named_shape}
 use Rattle.plan_meaning.proofs.NumberedWorlds.{path_is, view_paths, view_uses}
 use Rattle.plan_parts.specs.Interfaces.{IsPlannedFunction, slot_part}
@@ -41,13 +41,13 @@ use Rattle.plan_laws.specs.Owners.{owners_of}
 use Rattle.plan_laws.specs.ShownNames.{IsInput}
 use Rattle.plan_laws.specs.ViewedInterfaces.{PlannedInterfacesAreViewed, views_read}
 use Rattle.plan_laws.proofs.FirstPlaces.{first_split, number_before}
-use Rattle.plan_laws.proofs.FirstTypes.{first_told, view_good, views_told}
+use Rattle.plan_laws.proofs.FirstTypes.{first_told, views_told}
 use Rattle.plan_laws.proofs.FirstViews.{first_is}
 use Rattle.plan_laws.proofs.Owned.{planned_name}
 use Rattle.plan_laws.proofs.PartNames.{trees_of_all}
 use Rattle.plan_laws.proofs.PlaceNumbers.{all_joined, number_given, owner_numbered, place_number}
-use Rattle.plan_laws.proofs.Planned.{first_there}
-use Rattle.plan_laws.proofs.Showings.{slot_is}
+use Rattle.plan_laws.proofs.Planned.{first_there, kept_number}
+use Rattle.plan_laws.proofs.Sources.{if_given, member_view_in}
 use Rattle.plan_laws.proofs.ViewNames.{instance_tree}
 use Rattle.plan_laws.proofs.ViewRules.{seen_obeys}
 use Rattle.base_lemmas.proofs.Elements.{all_at, contains-map, get-contains, map_from as from_map, zip-kept as zip-weaker, zip_at_right as zip_get}
@@ -61,20 +61,18 @@ use Rattle.plan_package.proofs.ReadPackageLaws.{number_at as number_there}
 zip_beside : {A B C : Type 0} (P : A → B → Type 0) (Q : A → C → Type 0) (R : B → C → Type 0) (xs : List A) → ((x : A) → Contains xs x → (b : B) (c : C) → P x b → Q x c → R b c)
     → (bs : List B) (cs : List C) → AllZip P xs bs → AllZip Q xs cs → AllZip R bs cs
 zip_beside P Q R [] each [] [] p q = tt
-zip_beside P Q R [] each [] (c ∷ cs) p q = absurd q
 zip_beside P Q R [] each (b ∷ bs) cs p q = absurd p
 zip_beside P Q R (x ∷ xs) each [] cs p q = absurd p
-zip_beside P Q R (x ∷ xs) each (b ∷ bs) [] p q = absurd q
 zip_beside P Q R (x ∷ xs) each (b ∷ bs) (c ∷ cs) p q = (
   each x (0, omega arith, refl) b c p.0 q.0,
   zip_beside P Q R xs (λ y at. each y (suc at.0, (let low = at.1 in omega (arith, low)), at.2)) bs cs p.1 q.1,
 )
+zip_beside _ _ _ _ each _ _ p q = absurd q
 
 pub zip_within : {A B : Type 0} (P Q : A → B → Type 0) (xs : List A) → ((x : A) → Contains xs x → (b : B) → P x b → Q x b) → (bs : List B) → AllZip P xs bs → AllZip Q xs bs
 zip_within P Q [] each [] p = tt
-zip_within P Q [] each (b ∷ bs) p = absurd p
-zip_within P Q (x ∷ xs) each [] p = absurd p
 zip_within P Q (x ∷ xs) each (b ∷ bs) p = (each x (0, omega arith, refl) b p.0, zip_within P Q xs (λ y at. each y (suc at.0, (let low = at.1 in omega (arith, low)), at.2)) bs p.1)
+zip_within _ _ _ each _ p = absurd p
 
 module _ (t : Tables) (h : Homes) (ms : List Member) (members : List reads.Member) (input : IsInput t h ms members) (alone : (q : ℕ) → path_at t q ≡ None → home_at h q ≡ None)
     (agreed : agree_in_numbers (sights_of_members t (numbered_members ms)) ≡ true) (ordered : ViewsAreOrdered t ms)
@@ -106,23 +104,14 @@ module _ (t : Tables) (h : Homes) (ms : List Member) (members : List reads.Membe
     -- the new number of a type
     type_listed : (x : NumberedType) → Contains first.view.types x → (e : Text × ℕ) → ListsNumber planned.kept x e → (is : IsShownIn t first.place x) → (slice_get planned.kept e.1 ≡ Some is.number)
         × (e.1 < length p.types)
-    type_listed x c e lists is = by lists.1
-      where
-        part : slot_part x.slot ≡ 14 + is.number
-        part = slot_is t input.tables x.slot is.number is.slot
-
-        by : NewPart planned.kept (slot_part x.slot) (14 + e.1) → (slice_get planned.kept e.1 ≡ Some is.number) × (e.1 < length p.types)
-        by (a_primitive low same) = absurd (omega (arith, low, part))
-        by (a_shape k j from stands to) =
-            let same : k ≡ is.number = omega (arith, from, part) in
-            let here : e.1 ≡ j = omega (arith, to) in
-            let kept_there : slice_get planned.kept e.1 ≡ Some is.number = ap (slice_get planned.kept) here ∙ (stands ∙ ap Some same) in
-            let many = zip_length (PlansType t planned.kept (shown_first ms) (owners_in ms)) planned.kept p.types planned.types in
-            let low = slice_get_within planned.kept e.1 is.number kept_there in
-            (kept_there, omega (arith, many, low))
+    type_listed x c e lists is =
+        let kept_there = kept_number planned.kept (slot_part x.slot) is.number e.1 (slot_number t x.slot is.number is.slot) lists.1 in
+        let many = zip_length (PlansType t planned.kept (shown_first ms) (owners_in ms)) planned.kept p.types planned.types in
+        let low = slice_get_within planned.kept e.1 is.number kept_there in
+        (kept_there, omega (arith, many, low))
 
     shown_is : (x : NumberedType) → Contains first.view.types x → IsShownIn t first.place x
-    shown_is x c = all_at (IsShownIn t first.place) first.view.types (view_good t h ms members input agreed ordered first among).types x c
+    shown_is x c = all_at (IsShownIn t first.place) first.view.types (member_view_in t ms input.numbers first among).types x c
 
     kept_as : (x : NumberedType) → Contains first.view.types x → (k : ℕ) (e : Text × ℕ) → IsNumberOf t q x k → ListsNumber planned.kept x e → IsKeptAs planned.kept p k e
     kept_as x c k e number lists =
@@ -182,12 +171,8 @@ module _ (t : Tables) (h : Homes) (ms : List Member) (members : List reads.Membe
     -- ---- what it uses
 
     declares_parts : DeclaresParts t first.view
-    declares_parts = recursion_weaker (IsShownIn t first.place) (λ (x : NumberedType). AllOf (IsPart t) x.declared) (λ x is. ranges x.declared is.name.met) first.view.types
-        (view_good t h ms members input agreed ordered first among).types
-      where
-        ranges : (d : Option ℕ) → AllOf (IsMetFrom t first.place) d → AllOf (IsPart t) d
-        ranges None met = tt
-        ranges (Some k) met = met.range
+    declares_parts = recursion_weaker (IsShownIn t first.place) (λ (x : NumberedType). AllOf (IsPart t) x.declared)
+        (λ x is. if_given (IsMetFrom t first.place) (IsPart t) (λ k met. met.range) x.declared is.name.met) first.view.types (member_view_in t ms input.numbers first among).types
 
     module _ (r : ℕ) (used : Contains (used_by_view t first.view) r) where
       r_path : HasPath t r
@@ -222,7 +207,7 @@ module _ (t : Tables) (h : Homes) (ms : List Member) (members : List reads.Membe
       uses =
           let split = first_split q views first is_first in
           let front = split.split.front in
-          let trees = trees_of_all t input.tables h input.homes (numbered_members ms) members input.shown input.numbers in
+          let trees = trees_of_all t input.tables h input.homes ms members input.shown input.numbers in
           let here : slice_get views (length front) ≡ Some first = ap (λ xs. slice_get xs (length front)) split.split.is ∙ middle_get front first split.split.back in
           let stands = input.stand.views (length front) (instance_tree t input.tables first)
           (subst (λ xs. slice_get xs (length front) ≡ Some (instance_tree t input.tables first)) (sym trees) (mapped_get (instance_tree t input.tables) views (length front) first here)) in

@@ -1,22 +1,22 @@
 -- A plan can be made of what was followed: all that is shown is over types that are used.
+use Rattle.plan_type_laws.proofs.PartPlaces.{slot_number}
 use Rattle.std.proofs.Common.{◌≡◌, refl, sym, ap, subst, ◌∙◌, ℕ, ◌+◌, ◌-◌, ◌<◌, ◌≤◌, ◌⊎◌, inl, inr, arith, Bool, true, false, ◌==◌, nat_lt, cond, List, [], ◌∷◌, length, map, option_to_list, Option, Some, None, slice_get}
-use Rattle.std.specs.Prelude.{is_some, not}
+use Rattle.std.specs.Prelude.{not}
 use Rattle.std.specs.List.{AllByRecursion, Contains, flat_map}
 use Rattle.std.specs.Option.{option_map_or}
 use Rattle.std.proofs.lemmas.Bool.{eq-eqb, ltb-false, ltb-true}
-use Rattle.std.proofs.lemmas.List.Elements.{Contains-append_cases, Contains-append_left, Contains-append_right}
-use Rattle.std.proofs.lemmas.Option.{slice_get_within, same_Some as same-some}
+use Rattle.std.proofs.lemmas.List.Elements.{Contains-append_left, Contains-append_right}
+use Rattle.std.proofs.lemmas.Option.{slice_get_within}
 use Rattle.wit_model.specs.Text.{Text}
 use Rattle.wit_model.proofs.Elements.{contains-flat, contains-get, contains-has}
 use Rattle.comp_meaning.specs.Reads as reads
-use Rattle.plan_meaning.specs.FollowedNumbers.{IsMetFrom, IsOneOf, IsScopeIn, IsShownIn}
+use Rattle.plan_meaning.specs.FollowedNumbers.{IsMetFrom, IsScopeIn, IsShownIn}
 use Rattle.plan_meaning.specs.KeptResources.{FormIsMarked}
 use Rattle.plan_meaning.specs.NumberedMembers.{Homes, NumberedMember}
 use Rattle.plan_meaning.specs.NumberedRules.{Fact, is_form, name_at, name_in, shape_at}
-use Rattle.plan_meaning.specs.NumberedViews.{AllOf, FunctionShape, IsPart, NumberedFunction, NumberedSight, NumberedType, NumberedView, PartsOf, Tables, function_at}
-use Rattle.plan_meaning.specs.NumberedWorlds.{NumberedInstance, NumberedSeen, place_of_key}
+use Rattle.plan_meaning.specs.NumberedViews.{AllOf, FunctionShape, IsPart, NumberedSight, NumberedType, NumberedView, PartsOf, Tables, function_at}
+use Rattle.plan_meaning.specs.NumberedWorlds.{place_of_key}
 use Rattle.plan_meaning.specs.Renumbering.{a_primitive, a_shape}
-use Rattle.plan_meaning.specs.ReadWholes.{place_shown}
 use Rattle.plan_meaning.specs.Shapes as shapes
 use Rattle.plan_meaning.specs.Shapes.{IsShape, Shape, named_shape}
 use Rattle.plan_meaning.proofs.Lists.{no_true}
@@ -34,11 +34,10 @@ use Rattle.read_rules.specs.declared.scopes.Seen.{Seen}
 use Rattle.read_rules.specs.declared.scopes.Shown.{Shown}
 use Rattle.read_rules.specs.declared.scopes.Shown.TheVariants as shown
 use Rattle.read_rules.specs.Reached.{numbered_import}
-use Rattle.read_rules.specs.Scopes.{numbered_instance, numbered_key, numbered_scope, numbered_seen, numbered_shown}
+use Rattle.read_rules.specs.Scopes.{numbered_instance, numbered_key, numbered_scope}
 use Rattle.read_rules.specs.Tables.{given_text}
-use Rattle.read_rules.specs.Views.{numbered_view}
 use Rattle.plan_types.specs.PlannedTypes.{MayBePlanned, a_form, a_name}
-use Rattle.plan_types.specs.Showings.{NumberedShowing, showing_of, showings_of_import, showings_of_members, showings_of_part, showings_of_seen, showings_of_shown, showings_of_view, signatures_of_members, signatures_of_part, signatures_of_seen, signatures_of_shown}
+use Rattle.plan_types.specs.Showings.{NumberedShowing, showing_of, showings_of_members, showings_of_shown, signatures_of_members, signatures_of_shown}
 use Rattle.plan_types.specs.Used.{declared_parts, form_parts, function_parts, showing_parts, signature_parts, used_parts}
 use Rattle.plan_package.specs.PlanWhole.{AreKeptFor, IsKeptWhole, MayBeWhole, places_in, shown_first}
 use Rattle.plan_package.specs.Views.{types_alone, views_of_members, views_of_part, whole_view}
@@ -59,19 +58,17 @@ use Rattle.plan_laws.specs.WholeCondition.{ImportsAreBare, PartIsBare, WholeMayB
 use Rattle.plan_laws.specs.WholeTypes.{IsRuledInput}
 use Rattle.plan_laws.proofs.FormCounts.{HasCount, form_over, forms_count}
 use Rattle.plan_laws.proofs.Inside.{flat_cases, within}
-use Rattle.plan_laws.proofs.InstanceSeen.{instance_seen}
-use Rattle.plan_laws.proofs.Origins.{view_among}
+use Rattle.plan_laws.proofs.InstanceSeen.{seen_showing, seen_signature, shown_so}
+use Rattle.plan_laws.proofs.Sources.{Side, at_mapped, interface_views, mapped_cases, own_sight, seen_sight, sight_of, view_among, world_in, member_view_in}
 use Rattle.plan_laws.proofs.Planned.{found_there, view_met}
-use Rattle.plan_laws.proofs.ShownAlike.{functions_alike, view_good}
-use Rattle.plan_laws.proofs.ShownFrom.{world_of}
+use Rattle.plan_laws.proofs.ShownAlike.{functions_alike}
 use Rattle.plan_laws.proofs.ShownNames.{names_are_shown}
 use Rattle.plan_laws.proofs.ShownRules.{all_of}
-use Rattle.plan_laws.proofs.Showings.{slot_is}
 use Rattle.plan_laws.proofs.ViewsAgree.{told, views_tell}
 use Rattle.plan_laws.proofs.WholeReasons.{there_marked}
 use Rattle.plan_laws.proofs.WholeTypes.{packages_are_ruled}
 use Rattle.plan_laws.proofs.WorldItems.{world_member}
-use Rattle.base_lemmas.proofs.Elements.{all_at, contains-map, contains-one, last_of as one-contained, map_from as from_map}
+use Rattle.base_lemmas.proofs.Elements.{all_at, contains-map, contains-one, map_from as from_map}
 use Rattle.base_lemmas.proofs.Lists.{get_back as unmapped_get, mapped_get, within_there as slice_there}
 use Rattle.std.proofs.ByRecursion.{All-weaker as recursion_weaker}
 use Rattle.plan_laws.proofs.ViewNames.{part_of_function as part_of}
@@ -114,149 +111,38 @@ module _ (t : Tables) (h : Homes) (known : ℕ → Fact) (n : ℕ) (ms : List Me
 
   -- ---- views by which a place is shown
 
-  -- A view of the same place, whose types and functions are among all that is shown.
-  pub record IsShownSo (s : NumberedSight) : Type 0 where
-    pub other : NumberedSight
-    pub among : Contains views other
-    pub place : other.place ≡ s.place
-    pub whole : s.whole ≡ true → other.whole ≡ true
-    pub types : (x : NumberedType) → Contains other.view.types x → Contains showings (showing_of x)
-    pub functions : s.whole ≡ true → (f : Text × NumberedFunction) → Contains other.view.functions f → Contains signatures f.1.signature
-    pub none : s.whole ≡ false → s.view.functions ≡ []
+  world_good : (m : Member) → Contains ms m → (w : Scope) → m.part ≡ parts.World w → IsScopeIn t (numbered_scope w)
+  world_good m c w is = (world_in t h ms members given.input m c w is).good
 
-  member_showing : (m : Member) → Contains ms m → (y : NumberedShowing) → Contains (showings_of_part m.part) y → Contains showings y
-  member_showing m c y among = contains-flat (λ (x : Member). showings_of_part x.part) ms m y c among
-
-  member_signature : (m : Member) → Contains ms m → (k : ℕ) → Contains (signatures_of_part m.part) k → Contains signatures k
-  member_signature m c k among = contains-flat (λ (x : Member). signatures_of_part x.part) ms m k c among
-
-  -- what a world imports or exports is shown
-  module _ (m : Member) (c : Contains ms m) (w : Scope) (is : m.part ≡ parts.World w) where
-    seen_showing : (s : Seen) → Contains w.imports.now s ⊎ Contains w.exports.now s → (y : NumberedShowing) → Contains (showings_of_seen s) y → Contains showings y
-    seen_showing s (inl among) y there =
-        member_showing m c y (subst (λ a. Contains (showings_of_part a) y) (sym is)
-        (Contains-append_left (flat_map showings_of_seen w.imports.now) (flat_map showings_of_seen w.exports.now) y (contains-flat showings_of_seen w.imports.now s y among there)))
-    seen_showing s (inr among) y there =
-        member_showing m c y (subst (λ a. Contains (showings_of_part a) y) (sym is)
-        (Contains-append_right (flat_map showings_of_seen w.imports.now) (flat_map showings_of_seen w.exports.now) y (contains-flat showings_of_seen w.exports.now s y among there)))
-
-    seen_signature : (s : Seen) → Contains w.imports.now s ⊎ Contains w.exports.now s → (k : ℕ) → Contains (signatures_of_seen s) k → Contains signatures k
-    seen_signature s (inl among) k there =
-        member_signature m c k (subst (λ a. Contains (signatures_of_part a) k) (sym is)
-        (Contains-append_left (flat_map signatures_of_seen w.imports.now) (flat_map signatures_of_seen w.exports.now) k (contains-flat signatures_of_seen w.imports.now s k among there)))
-    seen_signature s (inr among) k there =
-        member_signature m c k (subst (λ a. Contains (signatures_of_part a) k) (sym is)
-        (Contains-append_right (flat_map signatures_of_seen w.imports.now) (flat_map signatures_of_seen w.exports.now) k (contains-flat signatures_of_seen w.exports.now s k among there)))
-
-    scope_good : IsScopeIn t (numbered_scope w)
-    scope_good = (world_of t h ms members given.input given.placed.apart m c w is).good
-
-    one_of : (s : Seen) → Contains w.imports.now s ⊎ Contains w.exports.now s → IsOneOf t (map numbered_instance w.instances.now) (numbered_shown s.shown)
-    one_of s (inl among) = all_at (λ (x : NumberedSeen). IsOneOf t (map numbered_instance w.instances.now) x.shown) (map numbered_seen w.imports.now) scope_good.imported (numbered_seen s)
-        (contains-map numbered_seen w.imports.now s among)
-    one_of s (inr among) = all_at (λ (x : NumberedSeen). IsOneOf t (map numbered_instance w.instances.now) x.shown) (map numbered_seen w.exports.now) scope_good.exported (numbered_seen s)
-        (contains-map numbered_seen w.exports.now s among)
-
-    instance_view : (i : NumberedInstance) → Contains (map numbered_instance w.instances.now) i → Contains views (whole_view i)
-    instance_view i among = view_among ms m c (whole_view i) (subst (λ a. Contains (views_of_part (numbered_part a)) (whole_view i)) (sym is)
-        (contains-map whole_view (map numbered_instance w.instances.now) i among))
-
-    instance_shown : (i : NumberedInstance) → Contains (map numbered_instance w.instances.now) i → IsShownSo (whole_view i)
-    instance_shown i among =
-        let seen = instance_seen t h ms members given.input given.placed.apart w (world_of t h ms members given.input given.placed.apart m c w is) i among in
-        by seen.seen seen.among seen.seen.shown refl seen.place
-      where
-        by : (s : Seen) → Contains w.imports.now s ⊎ Contains w.exports.now s → (x : Shown) → s.shown ≡ x → place_shown (numbered_shown x) ≡ Some i.place → IsShownSo (whole_view i)
-        by s side (shown.Function f) e at = no_true (ap is_some at)
-        by s side (shown.Declares q d) e at = no_true (ap is_some at)
-        by s side (shown.Instance key v) e at =
-            let j : NumberedInstance = record { place = place_of_key (numbered_key key); view = numbered_view v } in
-            record {
-              other = whole_view j;
-              among = instance_view j (subst (λ x. IsOneOf t (map numbered_instance w.instances.now) (numbered_shown x)) e (one_of s side));
-              place = same-some (place_of_key (numbered_key key)) i.place at;
-              whole = λ f. refl;
-              types = λ x there. seen_showing s side (showing_of x) (subst (λ k. Contains (showings_of_shown k (given_text s.external_id)) (showing_of x)) (sym e)
-                  (contains-map showing_of (numbered_view v).types x there));
-              functions = λ f g there. seen_signature s side g.1.signature (subst (λ k. Contains (signatures_of_shown k) g.1.signature) (sym e)
-                  (contains-map (λ (y : Text × NumberedFunction). y.1.signature) (numbered_view v).functions g there));
-              none = λ f. no_true (sym f);
-            }
-
-  shown_so : (s : NumberedSight) → Contains views s → IsShownSo s
-  shown_so s c =
-      let from = flat_cases (λ (m : NumberedMember). views_of_part m.part) numbered s c in
-      let m = from_map numbered_member ms from.0 from.1 in
-      by m.0 m.1 m.0.part refl (subst (λ (x : NumberedMember). Contains (views_of_part x.part) s) (sym m.2) from.2)
+  -- what shows types alone shows no functions
+  alone : (s : NumberedSight) → Contains views s → s.whole ≡ false → s.view.functions ≡ []
+  alone s c not_whole = let m = mapped_cases (λ (x : NumberedMember). views_of_part x.part) numbered_member ms s c in
+      by m.0.part (at_mapped (λ (x : NumberedMember). PartIsBare x.part) numbered_member ms bare m.0 m.1) m.2
     where
-      by : (m : Member) → Contains ms m → (a : Part) → m.part ≡ a → Contains (views_of_part (numbered_part a)) s → IsShownSo s
-      by m m_in (parts.World w) is there =
+      by : (a : Part) → PartIsBare (numbered_part a) → Contains (views_of_part (numbered_part a)) s → s.view.functions ≡ []
+      by (parts.World w) all there =
           let i = from_map whole_view (map numbered_instance w.instances.now) s there in
-          subst IsShownSo i.2 (instance_shown m m_in w is i.0 i.1)
-      by m m_in (parts.Interface q v imports) is there = side (Contains-append_cases (map types_alone (map numbered_import imports.now))
-          (record { place = q; view = numbered_view v; whole = true } ∷ []) s there)
+          no_true (sym not_whole ∙ ap (λ (x : NumberedSight). x.whole) (sym i.2))
+      by (parts.Interface q v imports) all there = side (interface_views q v imports s there)
         where
-          own : NumberedSight
-          own = record { place = q; view = numbered_view v; whole = true }
-
-          in_part : (y : NumberedShowing) → Contains (showings_of_part (parts.Interface q v imports)) y → Contains showings y
-          in_part y among = member_showing m m_in y (subst (λ a. Contains (showings_of_part a) y) (sym is) among)
-
-          bare_import : (i : ImportedView) → Contains imports.now i → (numbered_view i.view).functions ≡ []
-          bare_import i among =
-              let all : PartIsBare (numbered_part (parts.Interface q v imports)) =
-              subst (λ a. PartIsBare (numbered_part a)) is (all_at (λ (x : NumberedMember). PartIsBare x.part) numbered bare (numbered_member m) (contains-map numbered_member ms m m_in)) in
-              all_at (λ (x : ℕ × NumberedView). x.1.functions ≡ []) (map numbered_import imports.now) all (numbered_import i) (contains-map numbered_import imports.now i among)
-
-          import_shown : (i : ImportedView) → Contains imports.now i → s ≡ types_alone (numbered_import i) → IsShownSo (types_alone (numbered_import i))
-          import_shown i among e = record {
-            other = types_alone (numbered_import i);
-            among = subst (Contains views) e c;
-            place = refl;
-            whole = λ f. f;
-            types = λ x x_in. in_part (showing_of x)
-                (Contains-append_left (flat_map showings_of_import imports.now) (showings_of_view (numbered_view v)) (showing_of x)
-                (contains-flat showings_of_import imports.now i (showing_of x) among (contains-map showing_of (numbered_view i.view).types x x_in)));
-            functions = λ f. no_true f;
-            none = λ f. bare_import i among;
-          }
-
-          own_shown : s ≡ own → IsShownSo own
-          own_shown e = record {
-            other = own;
-            among = subst (Contains views) e c;
-            place = refl;
-            whole = λ f. f;
-            types = λ x x_in. in_part (showing_of x) (Contains-append_right (flat_map showings_of_import imports.now) (showings_of_view (numbered_view v)) (showing_of x)
-                (contains-map showing_of (numbered_view v).types x x_in));
-            functions = λ f g g_in.
-                member_signature m m_in g.1.signature (subst (λ a. Contains (signatures_of_part a) g.1.signature) (sym is)
-                (contains-map (λ (y : Text × NumberedFunction). y.1.signature) (numbered_view v).functions g g_in));
-            none = λ f. no_true (sym f);
-          }
-
-          side : Contains (map types_alone (map numbered_import imports.now)) s ⊎ Contains (own ∷ []) s → IsShownSo s
-          side (inl import_) =
-              let outer = from_map types_alone (map numbered_import imports.now) s import_ in
-              let i = from_map numbered_import imports.now outer.0 outer.1 in
-              let e : types_alone (numbered_import i.0) ≡ s = ap types_alone i.2 ∙ outer.2 in
-              subst IsShownSo e (import_shown i.0 i.1 (sym e))
-          side (inr last) = let e = one-contained own s last in subst IsShownSo e (own_shown (sym e))
+          side : ((i : ImportedView) × Contains imports.now i × (types_alone (numbered_import i) ≡ s)) ⊎ (own_sight q v imports ≡ s) → s.view.functions ≡ []
+          side (inl i) = ap (λ (x : NumberedSight). x.view.functions) (sym i.2) ∙ at_mapped (λ (x : ℕ × NumberedView). x.1.functions ≡ []) numbered_import imports.now all i.0 i.1
+          side (inr own) = no_true (sym not_whole ∙ ap (λ (x : NumberedSight). x.whole) (sym own))
 
   -- a type of a view is shown
   type_shown : (s : NumberedSight) → Contains views s → (x : NumberedType) → Contains s.view.types x → (y : NumberedShowing) × Contains showings y × (y.part ≡ slot_part x.slot)
   type_shown s c x there =
-      let so = shown_so s c in
+      let so = shown_so t h ms members given.input given.placed.apart s c in
       let u = so.other in
       let tells = views_tell t h ms members given.input given.placed.apart ruled.agree s u c so.among (sym so.place) in
       let from = from_map told u.view.types (told x) (subst (λ (es : List (Text × Option ℕ)). Contains es (told x)) tells (contains-map told s.view.types x there)) in
       let z = from.0 in
-      let a = all_at (IsShownIn t s.place) s.view.types (view_good t h known n ms members given s c).types x there in
-      let b = all_at (IsShownIn t u.place) u.view.types (view_good t h known n ms members given u so.among).types z from.1 in
+      let a = all_at (IsShownIn t s.place) s.view.types (member_view_in t ms given.input.numbers s c).types x there in
+      let b = all_at (IsShownIn t u.place) u.view.types (member_view_in t ms given.input.numbers u so.among).types z from.1 in
       let name : z.name ≡ x.name = ap (λ (e : Text × Option ℕ). e.0) from.2 in
       let one : b.number ≡ a.number = given.input.tables.shapes.apart b.number a.number (named_shape s.place x.name) (b.name.named ∙ (λ i. Some (named_shape (so.place i) (name i)))) a.name.named in
-      let a_part = slot_is t given.input.tables x.slot a.number a.slot in
-      let b_part = slot_is t given.input.tables z.slot b.number b.slot in
+      let a_part = slot_number t x.slot a.number a.slot in
+      let b_part = slot_number t z.slot b.number b.slot in
       (showing_of z, so.types z from.1, omega (arith, one, a_part, b_part))
 
   -- the parts of a type stand before it
@@ -381,11 +267,12 @@ module _ (t : Tables) (h : Homes) (known : ℕ → Fact) (n : ℕ) (ms : List Me
         by : (x : Member) → Contains ms x → IsShownByPart t x.part q m → (y : NumberedShowing) × Contains showings y × (y.part ≡ 14 + m)
         by x c (by_view shows) =
             let y = type_shown shows.sight (view_among ms x c shows.sight shows.among) shows.type_ shows.there in
-            (y.0, y.1, y.2 ∙ slot_is t given.input.tables shows.type_.slot m shows.slot)
+            (y.0, y.1, y.2 ∙ slot_number t shows.type_.slot m shows.slot)
         by x c (by_import w is home imports) =
             let y : NumberedShowing = record { part = 14 + m; declared = imports.declared; external_id = given_text imports.seen.external_id } in (
               y,
-              seen_showing x c w is imports.seen (inl imports.among) y (subst (λ k. Contains (showings_of_shown k (given_text imports.seen.external_id)) y) (sym imports.shown)
+              seen_showing t h ms members given.input given.placed.apart x c w is imports.seen (inl imports.among) y
+                  (subst (λ k. Contains (showings_of_shown k (given_text imports.seen.external_id)) y) (sym imports.shown)
                   (contains-one y)),
               refl,
             )
@@ -430,10 +317,10 @@ module _ (t : Tables) (h : Homes) (known : ℕ → Fact) (n : ℕ) (ms : List Me
       where
         by : (b : Bool) → s.whole ≡ b → AllByRecursion (IsFunctionOver t kept) s.view.functions
         by true e =
-            let so = shown_so s c in
+            let so = shown_so t h ms members given.input given.placed.apart s c in
             all_of (IsFunctionOver t kept) s.view.functions
             (λ f there. signature_kept f.1.signature (so.functions e f (functions_alike t h known n ms members given s so.other c so.among (sym so.place) e (so.whole e) f there)))
-        by false e = subst (AllByRecursion (IsFunctionOver t kept)) (sym ((shown_so s c).none e)) tt
+        by false e = subst (AllByRecursion (IsFunctionOver t kept)) (sym (alone s c e)) tt
 
     world_kept : (w : Text × Scope) → Contains (worlds_in ms) w → WorldIsKept t kept w.1
     world_kept w c =
@@ -443,13 +330,14 @@ module _ (t : Tables) (h : Homes) (known : ℕ → Fact) (n : ℕ) (ms : List Me
           exports = all_of (SeenIsKept t kept) w.1.exports.now (λ s among. by m.0 m.1 m.2 s (inr among) s.shown refl);
         }
       where
-        by : (m : Member) → Contains ms m → m.part ≡ parts.World w.1 → (s : Seen) → Contains w.1.imports.now s ⊎ Contains w.1.exports.now s → (x : Shown) → s.shown ≡ x → ShownIsKept t kept s.shown
+        by : (m : Member) → Contains ms m → m.part ≡ parts.World w.1 → (s : Seen) → Side w.1 s → (x : Shown) → s.shown ≡ x → ShownIsKept t kept s.shown
         by m m_in is s side (shown.Instance key v) e = subst (ShownIsKept t kept) (sym e) tt
         by m m_in is s side (shown.Function f) e =
-            subst (ShownIsKept t kept) (sym e) (signature_kept f (seen_signature m m_in w.1 is s side f (subst (λ k. Contains (signatures_of_shown k) f) (sym e) (contains-one f))))
+            subst (ShownIsKept t kept) (sym e)
+            (signature_kept f (seen_signature t h ms members given.input given.placed.apart m m_in w.1 is s side f (subst (λ k. Contains (signatures_of_shown k) f) (sym e) (contains-one f))))
         by m m_in is s side (shown.Declares q d) e =
             let y : NumberedShowing = record { part = q; declared = d; external_id = given_text s.external_id } in
-            subst (ShownIsKept t kept) (sym e) (showing_kept y (seen_showing m m_in w.1 is s side y
+            subst (ShownIsKept t kept) (sym e) (showing_kept y (seen_showing t h ms members given.input given.placed.apart m m_in w.1 is s side y
             (subst (λ k. Contains (showings_of_shown k (given_text s.external_id)) y) (sym e) (contains-one y))))
 
     kept_whole : IsKeptWhole t ms kept
@@ -469,16 +357,12 @@ module _ (t : Tables) (h : Homes) (known : ℕ → Fact) (n : ℕ) (ms : List Me
         exports = all_of (SeenIsPlaced (places_in ms)) w.1.exports.now (λ s among. by m.0 m.1 m.2 s (inr among) s.shown refl);
       }
     where
-      by : (m : Member) → Contains ms m → m.part ≡ parts.World w.1 → (s : Seen) → Contains w.1.imports.now s ⊎ Contains w.1.exports.now s → (x : Shown) → s.shown ≡ x
+      by : (m : Member) → Contains ms m → m.part ≡ parts.World w.1 → (s : Seen) → Side w.1 s → (x : Shown) → s.shown ≡ x
           → ShownIsPlaced (places_in ms) s.shown
-      by m m_in is s side (shown.Function f) e = subst (ShownIsPlaced (places_in ms)) (sym e) tt
-      by m m_in is s side (shown.Declares q d) e = subst (ShownIsPlaced (places_in ms)) (sym e) tt
       by m m_in is s side (shown.Instance key v) e =
-          let i : NumberedInstance = record { place = place_of_key (numbered_key key); view = numbered_view v } in
-          let one = subst (λ x. IsOneOf t (map numbered_instance w.1.instances.now) (numbered_shown x)) e (one_of m m_in w.1 is s side) in
-          let viewed : Contains (views_of_part (numbered_part m.part)) (whole_view i) =
-          subst (λ a. Contains (views_of_part (numbered_part a)) (whole_view i)) (sym is) (contains-map whole_view (map numbered_instance w.1.instances.now) i one) in
-          subst (ShownIsPlaced (places_in ms)) (sym e) (contains-has (places_in ms) i.place (view_met ms (numbered_member m) (contains-map numbered_member ms m m_in) (whole_view i) viewed))
+          let from = flat_cases (λ (x : NumberedMember). views_of_part x.part) numbered (sight_of key v) (seen_sight t ms m m_in w.1 is (world_good m m_in w.1 is) s side key v e) in
+          subst (ShownIsPlaced (places_in ms)) (sym e) (contains-has (places_in ms) (place_of_key (numbered_key key)) (view_met ms from.0 from.1 (sight_of key v) from.2))
+      by m m_in is s side _ e = subst (ShownIsPlaced (places_in ms)) (sym e) tt
 
   parts_fall : (m : ℕ) (ks : List ℕ) → slice_get (map (λ (s : Shape). s.parts) t.shapes) m ≡ Some ks → AllByRecursion (λ k. k < 14 + m) ks
   parts_fall m ks at = let shape = unmapped_get (λ (s : Shape). s.parts) t.shapes m ks at in subst (AllByRecursion (λ k. k < 14 + m)) shape.2 (shape_parts m shape.0 shape.1)

@@ -1,10 +1,12 @@
 -- The functions of a whole plan are those that were read.
-use Rattle.std.proofs.Common.{◌≡◌, refl, sym, ap, subst, ◌∙◌, ℕ, zero, ◌+◌, ◌⊎◌, inl, inr, arith, Bool, true, false, ◌||◌, filter_map, List, [], ◌∷◌, ◌++◌, map, Option, Some, None, slice_get}
-use Rattle.std.specs.List.{AllByRecursion, AllZip, Contains, cons_option, flat_map, list_any}
-use Rattle.std.proofs.lemmas.List.Elements.{Contains-append_cases, Contains-append_left, Contains-append_right}
-use Rattle.std.proofs.lemmas.Slice.Eq.{bytes_eq-Decides}
+use Rattle.plan_type_laws.proofs.PartPlaces.{slot_number}
+use Rattle.plan_laws.proofs.Sources.{Side, partner_back, side_good, side_shows, world_in, IsWorldIn}
+use Rattle.plan_laws.proofs.ShownRules.{IsItemAmong, IsResourceIn, item_obeys}
+use Rattle.std.proofs.Common.{◌≡◌, refl, sym, ap, subst, ◌∙◌, ℕ, zero, ◌+◌, ◌⊎◌, inl, inr, arith, Bool, true, false, filter_map, List, [], ◌∷◌, map, Option, Some, None, slice_get}
+use Rattle.std.specs.List.{AllByRecursion, AllZip, Contains, cons_option, flat_map}
+use Rattle.std.proofs.lemmas.List.Elements.{Contains-append_cases}
 use Rattle.wit_model.specs.declared.model.TypeId.{TypeId}
-use Rattle.wit_model.specs.Text.{Text, text_eq}
+use Rattle.wit_model.specs.Text.{Text}
 use Rattle.wit_model.proofs.Elements.{contains-flat, contains-get, none-in}
 use Rattle.wit_model.specs.declared.model.TypeOwner.{TypeOwner}
 use Rattle.wit_model.specs.Tree.{Declaration}
@@ -12,46 +14,41 @@ use Rattle.comp_meaning.specs.Follow as follow
 use Rattle.comp_meaning.specs.Follow.{place_of}
 use Rattle.comp_meaning.specs.Reads as reads
 use Rattle.comp_meaning.specs.Rules as rules
-use Rattle.plan_meaning.specs.FollowedNumbers.{IsCalledIn, IsSeenIn, IsShownIn}
+use Rattle.plan_meaning.specs.FollowedNumbers.{IsCalledIn, IsNameOf, IsShownIn}
 use Rattle.plan_meaning.specs.GatheredPlan.{FunctionBecomes}
 use Rattle.plan_meaning.specs.KeptFunctions.{IsResource}
-use Rattle.plan_meaning.specs.NumberedMembers.{Homes, NumberedMember, home_at}
+use Rattle.plan_meaning.specs.NumberedMembers.{Homes, home_at}
 use Rattle.plan_meaning.specs.NumberedRules.{Fact, is_no_part}
-use Rattle.plan_meaning.specs.NumberedViews.{NumberedType, PartsOf, Tables, value, function_at, path_at, place_at, signature_at}
-use Rattle.plan_meaning.specs.NumberedWorlds as worlds
-use Rattle.plan_meaning.specs.NumberedWorlds.{NumberedScope, NumberedSeen, seen_of, shown_of}
+use Rattle.plan_meaning.specs.NumberedViews.{NumberedType, PartsOf, Tables, value, function_at, place_at, signature_at}
+use Rattle.plan_meaning.specs.NumberedWorlds.{seen_of, shown_of}
 use Rattle.plan_meaning.specs.Plan.{Plan, PlannedFunction, PlannedItem, PlannedKey, PlannedWorld, item_function, items_of}
 use Rattle.plan_meaning.specs.PlanRules.{world_functions}
 use Rattle.plan_meaning.specs.ReadFunctions.{Beside, IsReadFunction}
-use Rattle.plan_meaning.specs.Renumbering.{IsPart, a_primitive, a_shape}
-use Rattle.plan_meaning.specs.Shapes.{Shape, first_label, named_shape}
+use Rattle.plan_meaning.specs.Shapes.{named_shape}
 use Rattle.plan_parts.specs.Interfaces.{AreResources, IsPlannedFunction, slot_part}
-use Rattle.read_exports.specs.Members.{numbered_members}
 use Rattle.read_exports.specs.declared.members.Member.{Member}
 use Rattle.read_exports.specs.declared.members.Part.TheVariants as parts
 use Rattle.read_rules.specs.declared.scopes.Scope.{Scope}
 use Rattle.read_rules.specs.declared.scopes.Seen.{Seen}
 use Rattle.read_rules.specs.declared.scopes.Shown.{Shown}
 use Rattle.read_rules.specs.declared.scopes.Shown.TheVariants as shown
-use Rattle.read_rules.specs.Scopes.{numbered_scope, numbered_seen, numbered_shown}
+use Rattle.read_rules.specs.Scopes.{numbered_seen, numbered_shown}
 use Rattle.read_rules.specs.Tables.{given_text}
 use Rattle.plan_types.specs.Showings.{NumberedShowing, showings_of_members, signatures_of_members, signatures_of_part, signatures_of_seen, signatures_of_shown}
 use Rattle.plan_package.specs.PlanWhole.{PlansWhole, places_in, shown_first}
 use Rattle.plan_package.specs.WholeWorlds.{PlansItem, a_function, a_type, an_instance, types_seen, types_shown}
 use Rattle.plan_type_laws.proofs.FirstFound.{firsts_found}
 use Rattle.plan_laws.specs.Owners.{owners_of}
-use Rattle.plan_laws.specs.ShownNames.{DeclaresName, IsInput}
-use Rattle.plan_laws.specs.ShownRules.{PartObeys}
+use Rattle.plan_laws.specs.ShownNames.{IsInput}
 use Rattle.plan_laws.specs.WholeFunctions.{WorldFunctionsAreRead, beside_tables}
 use Rattle.plan_laws.specs.WholeTypes.{IsRuledInput, TypesAreWhole}
-use Rattle.plan_laws.proofs.Inside.{flat_cases}
-use Rattle.plan_laws.proofs.OwnPlaces.{Owned, a_view, a_world, frames, one_owned}
+use Rattle.plan_laws.proofs.Inside.{flat_cases, name_same}
 use Rattle.plan_laws.proofs.ReadFunction.{function_becomes, read_function, resource_at, told}
-use Rattle.plan_laws.proofs.Showings.{slot_is}
-use Rattle.plan_laws.proofs.ShownFrom.{IsFrom, IsWorldOf, home_frame, of_import, of_view, shown_from, view_frame, world_of}
-use Rattle.plan_laws.proofs.WorldKeys.{declared_in, is_world_owned, keys_apart, one_key, one_world}
-use Rattle.base_lemmas.proofs.Bools.{left_of as first_true, right_of as second_true}
-use Rattle.base_lemmas.proofs.Elements.{all-contained, all_at, contains-later, contains-map, contains-one, get-contains, last_of as one-contained, map_from as from_map, zip_at_right as zip_get}
+use Rattle.plan_laws.proofs.Planned.{kept_number}
+use Rattle.plan_laws.proofs.Showings.{import_named}
+use Rattle.plan_laws.proofs.ShownFrom.{IsFrom, of_import, of_view, shown_from}
+use Rattle.plan_laws.proofs.WorldKeys.{by_imports, view_apart}
+use Rattle.base_lemmas.proofs.Elements.{all_at, contains-later, contains-one, get-contains, last_of as one-contained, map_from as from_map}
 use Rattle.std.proofs.lemmas.Option.{same_Some as same-some}
 use Rattle.plan_laws.proofs.WorldItems.{world_member as world_there}
 
@@ -68,66 +65,6 @@ all_filtered {X = X} {Y = Y} P f (x ∷ xs) each = by (f x) refl (all_filtered P
     by None e rest = subst (AllByRecursion P) (ap (λ o. cons_option o (filter_map f xs)) (sym e)) rest
     by (Some y) e rest = subst (AllByRecursion P) (ap (λ o. cons_option o (filter_map f xs)) (sym e)) (each x (zero, omega arith, refl) y e, rest)
 
--- ---- resources among imports
-
-pub record IsResourceIn (ss : List follow.Seen) (r : Text) : Type 0 where
-  pub seen : follow.Seen
-  pub among : Contains ss seen
-  pub shown : seen.shown ≡ follow.Shown.declares Declaration.resource
-  pub named : r ≡ seen.key
-
-resource_in : (r : Text) (ss : List follow.Seen) → list_any (text_eq r) (rules.resources_seen ss) ≡ true → IsResourceIn ss r
-resource_in r [] any = let wrong : false ≡ true = any in absurd cc
-resource_in r (s ∷ ss) any = by s.shown refl any (λ more. later (resource_in r ss more))
-  where
-    later : IsResourceIn ss r → IsResourceIn (s ∷ ss) r
-    later is = record { seen = is.seen; among = contains-later s ss is.seen is.among; shown = is.shown; named = is.named }
-
-    which : (b : Bool) → text_eq r s.key ≡ b → s.shown ≡ follow.Shown.declares Declaration.resource → (b || list_any (text_eq r) (rules.resources_seen ss)) ≡ true
-        → (list_any (text_eq r) (rules.resources_seen ss) ≡ true → IsResourceIn (s ∷ ss) r) → IsResourceIn (s ∷ ss) r
-    which true e is any more = record { seen = s; among = (zero, omega arith, refl); shown = is; named = (bytes_eq-Decides r s.key).0 e }
-    which false e is any more = more any
-
-    by : (k : follow.Shown) → s.shown ≡ k → list_any (text_eq r) (rules.resources_seen (record { key = s.key; shown = k; external_id = s.external_id } ∷ ss)) ≡ true
-        → (list_any (text_eq r) (rules.resources_seen ss) ≡ true → IsResourceIn (s ∷ ss) r) → IsResourceIn (s ∷ ss) r
-    by (follow.Shown.instance key view) e any more = more any
-    by (follow.Shown.function f) e any more = more any
-    by (follow.Shown.declares Declaration.resource) e any more = which (text_eq r s.key) refl e any more
-    by (follow.Shown.declares (Declaration.type_ tree)) e any more = more any
-
--- An import or an export that may stand behind resources among these.
-pub record IsItemAmong (ss : List follow.Seen) (key : Text) (x : follow.Shown) : Type 0 where
-  pub resources : List Text
-  pub is : rules.is_item resources key x ≡ true
-  pub from : (r : Text) → list_any (text_eq r) resources ≡ true → IsResourceIn ss r
-
-wider : (xs ys : List follow.Seen) (r : Text) → ((s : follow.Seen) → Contains xs s → Contains ys s) → IsResourceIn xs r → IsResourceIn ys r
-wider xs ys r into is = record { seen = is.seen; among = into is.seen is.among; shown = is.shown; named = is.named }
-
-import_items : (all earlier ss : List follow.Seen) → rules.are_imports earlier ss ≡ true → ((s : follow.Seen) → Contains earlier s → Contains all s)
-    → ((s : follow.Seen) → Contains ss s → Contains all s)
-    → AllByRecursion (λ (s : follow.Seen). IsItemAmong all s.key s.shown) ss
-import_items all earlier [] ok before behind = tt
-import_items all earlier (s ∷ ss) ok before behind =
-    let first : rules.is_item (rules.resources_seen earlier) s.key s.shown ≡ true =
-    first_true (rules.is_item (rules.resources_seen earlier) s.key s.shown) (rules.are_imports (earlier ++ s ∷ []) ss) ok in
-    let rest : rules.are_imports (earlier ++ s ∷ []) ss ≡ true = second_true (rules.is_item (rules.resources_seen earlier) s.key s.shown) (rules.are_imports (earlier ++ s ∷ []) ss) ok in (
-      record { resources = rules.resources_seen earlier; is = first; from = λ r any. wider earlier all r before (resource_in r earlier any) },
-      import_items all (earlier ++ s ∷ []) ss rest (λ z c. either z (Contains-append_cases earlier (s ∷ []) z c)) (λ z c. behind z (contains-later s ss z c)),
-    )
-  where
-    either : (z : follow.Seen) → Contains earlier z ⊎ Contains (s ∷ []) z → Contains all z
-    either z (inl c) = before z c
-    either z (inr c) = behind z (subst (Contains (s ∷ ss)) (one-contained s z c) (zero, omega arith, refl))
-
--- a part that is kept has its number
-pub kept_number : (kept : List ℕ) (k n j : ℕ) → k ≡ 14 + n → IsPart kept k (14 + j) → slice_get kept j ≡ Some n
-kept_number kept k n j is (a_primitive low e) = absurd (omega (arith, is, low))
-kept_number kept k n j is (a_shape m i at stands e) =
-    let number : m ≡ n = omega (arith, is, at) in
-    let place : i ≡ j = omega (arith, e) in
-    ap (slice_get kept) (sym place) ∙ (stands ∙ ap Some number)
-
 pub nothing_declared : (d : Option ℕ) → is_no_part d ≡ true → d ≡ None
 nothing_declared None h = refl
 nothing_declared (Some k) h = absurd cc
@@ -135,9 +72,6 @@ nothing_declared (Some k) h = absurd cc
 module _ (t : Tables) (h : Homes) (ms : List Member) (members : List reads.Member) (ruled : IsRuledInput t h ms members) (main : ℕ) (p : Plan) (planned : PlansWhole t h.packages (home_at h) main ms p) (whole : TypesAreWhole t planned.kept ms p) (known : ℕ → Fact) where
   abbrev input : IsInput t h ms members
   input = ruled.input
-
-  abbrev numbered : List NumberedMember
-  numbered = numbered_members ms
 
   abbrev From : NumberedShowing → Type 0
   From = IsFrom t h ms members input ruled.placed.apart
@@ -149,56 +83,37 @@ module _ (t : Tables) (h : Homes) (ms : List Member) (members : List reads.Membe
   -- ---- a world
 
   module _ (m : Member) (c : Contains ms m) (w : Scope) (is_world : m.part ≡ parts.World w) where
-    abbrev is : IsWorldOf t h ms members input ruled.placed.apart w
-    is = world_of t h ms members input ruled.placed.apart m c w is_world
+    abbrev is : IsWorldIn t h ms members input w
+    is = world_in t h ms members input m c w is_world
+
+    abbrev all_seen : List follow.Seen
+    all_seen = map (seen_of t) (map numbered_seen w.imports.now)
 
     -- the name of an import in the table
-    import_number : (s : Seen) → Contains w.imports.now s → (part : ℕ) (d : Option ℕ) → s.shown ≡ shown.Declares part d → (n : ℕ) × (part ≡ 14 + n)
-        × (slice_get t.shapes n ≡ Some (named_shape w.home s.key.now))
-    import_number s among part d e = subst (λ (x : Shown). DeclaresName t w.home (record { key = s.key; shown = x; external_id = s.external_id })) e
-        (all_at (DeclaresName t w.home) w.imports.now is.declares s among)
+    import_number : (s : Seen) → Contains w.imports.now s → (part : ℕ) (d : Option ℕ) → s.shown ≡ shown.Declares part d → (n : ℕ) × (part ≡ 14 + n) × IsNameOf t w.home s.key.now d n
+    import_number = import_named t input.tables h ms members input m c w is_world
 
     -- a type that it imports is first shown so
     first_import : (s : Seen) → Contains w.imports.now s → (part : ℕ) (d : Option ℕ) → s.shown ≡ shown.Declares part d → (n : ℕ) → part ≡ 14 + n → (y : NumberedShowing) → shown_first ms n ≡ Some y
         → y.declared ≡ d
     first_import s among part d e n number y first = let from = first_from n y first in by from.0 from.1
       where
-        there : slice_get t.shapes n ≡ Some (named_shape w.home s.key.now)
-        there = let at = import_number s among part d e in let one : at.0 ≡ n = (let a = at.1 in omega (arith, a, number)) in
-            subst (λ k. slice_get t.shapes k ≡ Some (named_shape w.home s.key.now)) one at.2
-
-        same_name : (q : ℕ) (name : Text) → slice_get t.shapes n ≡ Some (named_shape q name) → (q ≡ w.home) × (name ≡ s.key.now)
-        same_name q name at =
-            let shape = same-some (named_shape q name) (named_shape w.home s.key.now) (sym at ∙ there) in
-            (ap (λ (x : Shape). x.number) shape, ap (λ (x : Shape). first_label x.labels) shape)
-
-        home_none : path_at t w.home ≡ None
-        home_none = is.good.home
+        same_name : (q : ℕ) (name : Text) (k : ℕ) → slice_get t.shapes k ≡ Some (named_shape q name) → k ≡ n → (q ≡ w.home) × (name ≡ s.key.now)
+        same_name q name k at one =
+            let own = import_number s among part d e in
+            let same : k ≡ own.0 = (let a = own.1 in omega (arith, a, number, one)) in
+            name_same t.shapes q w.home name s.key.now k own.0 at own.2.named same
 
         by : From y → y.part ≡ 14 + n → y.declared ≡ d
         by (of_view sight in_views good x in_types shows) at =
             let stands = all_at (IsShownIn t sight.place) sight.view.types good.types x in_types in
-            let own = slot_is t input.tables x.slot stands.number stands.slot in
+            let own = slot_number t x.slot stands.number stands.slot in
             let part_is : slot_part x.slot ≡ y.part = ap (λ (z : NumberedShowing). z.part) shows in
             let one : stands.number ≡ n = omega (arith, own, part_is, at) in
-            let same = same_name sight.place x.name (sym (ap (slice_get t.shapes) one) ∙ stands.name.named) in
-            let view_there = view_frame t h ms members input ruled.placed.apart sight in_views (ap (path_at t) same.0 ∙ home_none) in
-            let owned = one_owned t numbered ruled.placed.apart w.home home_none (a_view sight.view) (a_world (numbered_scope w))
-            (subst (λ q. Contains {X = ℕ × Owned} (frames numbered) (q, a_view sight.view)) same.0 view_there) (home_frame t h ms members input ruled.placed.apart m c w is_world) in
-            let wrong : false ≡ true = ap is_world_owned owned in absurd cc
+            let same = same_name sight.place x.name stands.number stands.name.named one in
+            absurd (view_apart t h ms members input ruled.placed.apart sight in_views m c w is_world same.0)
         by (of_import m2 c2 w2 is2 s2 among2 e2) at =
-            let other = world_of t h ms members input ruled.placed.apart m2 c2 w2 is2 in
-            let named = subst (λ (x : Shown). DeclaresName t w2.home (record { key = s2.key; shown = x; external_id = s2.external_id })) e2
-            (all_at (DeclaresName t w2.home) w2.imports.now other.declares s2 among2) in
-            let one : named.0 ≡ n = (let a = named.1 in omega (arith, a, at)) in
-            let same = same_name w2.home s2.key.now (sym (ap (slice_get t.shapes) one) ∙ named.2) in
-            let scopes_same = one_world t h ms members input ruled.placed.apart m2 m c2 c w2 w is2 is_world same.0 in
-            let here : Contains (map numbered_seen w.imports.now) (numbered_seen s2) =
-            subst (λ (x : NumberedScope). Contains x.imports (numbered_seen s2)) scopes_same (contains-map numbered_seen w2.imports.now s2 among2) in
-            let one_seen = one_key (map numbered_seen w.imports.now) (keys_apart t h ms members input ruled.placed.apart w is) (numbered_seen s2) (numbered_seen s) here
-            (contains-map numbered_seen w.imports.now s among) same.1 in
-            let shown_same : worlds.declares y.declared ≡ worlds.declares d = sym (ap numbered_shown e2) ∙ (ap (λ (x : NumberedSeen). x.shown) one_seen ∙ ap numbered_shown e) in
-            ap (declared_in d) shown_same
+            by_imports t h ms members input ruled.placed.apart m2 c2 w2 is2 s2 among2 y.part y.declared e2 m c w is_world s among part d e (at ∙ sym number)
 
     -- the resources that it imports are types of the plan
     module _ (b : Beside) (owned : b.owners ≡ owners_of ms) (find : Text → Option TypeId) (have : AreResources planned.kept (flat_map types_seen w.imports.now) find) where
@@ -208,11 +123,10 @@ module _ (t : Tables) (h : Homes) (ms : List Member) (members : List reads.Membe
         where
           by : (k : Shown) (id : Option Text) → Contains (types_shown s.key.now id k) x → (part : ℕ) × (d : Option ℕ) × (k ≡ shown.Declares part d) × (slot_part x.slot ≡ part) × (x.declared ≡ d)
               × (x.name ≡ s.key.now)
-          by (shown.Instance key v) id there = none-in x there
-          by (shown.Function f) id there = none-in x there
           by (shown.Declares part d) id there =
               let same = one-contained (record { name = s.key.now; declared = d; external_id = id; slot = value part }) x there in
               (part, d, refl, ap (λ (z : NumberedType). slot_part z.slot) (sym same), ap (λ (z : NumberedType). z.declared) (sym same), ap (λ (z : NumberedType). z.name) (sym same))
+          by _ id there = none-in x there
 
       resource_is : (r : Text) (id : TypeId) → find r ≡ Some id → IsResource t (told t w.home) planned.kept p (owners_of ms w.home) w.home r id.0
       resource_is r id found =
@@ -223,11 +137,11 @@ module _ (t : Tables) (h : Homes) (ms : List Member) (members : List reads.Membe
           let stands = kept_number planned.kept (slot_part at.1.slot) number.0 id.0 (seen.3 ∙ number.1) at.5 in
           let none : seen.1 ≡ None = sym seen.4 ∙ nothing_declared at.1.declared at.3 in
           let name : from.0.key.now ≡ r = sym seen.5 ∙ at.4 in
-          resource_at t h ms members input main p planned (told t w.home) w.home id.0 number.0 r stands (number.2 ∙ ap (λ (x : Text). Some (named_shape w.home x)) name)
+          resource_at t h ms members input main p planned (told t w.home) w.home id.0 number.0 r stands (number.2.named ∙ ap (λ (x : Text). Some (named_shape w.home x)) name)
           (λ y first. first_import from.0 from.1 seen.0 seen.1 seen.2 number.0 number.1 y first ∙ none)
 
       -- each resource among the imports is found
-      resource_found : (r : Text) → IsResourceIn (map (seen_of t) (map numbered_seen w.imports.now)) r → (id : TypeId) × (find r ≡ Some id)
+      resource_found : (r : Text) → IsResourceIn all_seen r → (id : TypeId) × (find r ≡ Some id)
       resource_found r among =
           let outer = from_map (seen_of t) (map numbered_seen w.imports.now) among.seen among.among in
           let from = from_map numbered_seen w.imports.now outer.0 outer.1 in
@@ -236,20 +150,18 @@ module _ (t : Tables) (h : Homes) (ms : List Member) (members : List reads.Membe
         where
           by : (s : Seen) → Contains w.imports.now s → (x : Shown) → s.shown ≡ x → shown_of t (numbered_shown x) ≡ follow.Shown.declares Declaration.resource → s.key.now ≡ r → (id : TypeId)
               × (find r ≡ Some id)
-          by s in_it (shown.Instance key v) e is name = let wrong : ⊥ = cc in absurd wrong
-          by s in_it (shown.Function f) e is name = let wrong : ⊥ = cc in absurd wrong
-          by s in_it (shown.Declares part (Some k)) e is name = let wrong : ⊥ = cc in absurd wrong
           by s in_it (shown.Declares part None) e is name =
               let x : NumberedType = record { name = s.key.now; declared = None; external_id = given_text s.external_id; slot = value part } in
               let here : Contains (types_seen s) x = subst (λ k. Contains (types_shown s.key.now (given_text s.external_id) k) x) (sym e) (contains-one x) in
               let at = contains-get (flat_map types_seen w.imports.now) x (contains-flat types_seen w.imports.now s x in_it here) in
               let found = have.found at.0 x at.1 refl in
               (found.0, sym (ap find name) ∙ found.1)
+          by s in_it _ e is name = let wrong : ⊥ = cc in absurd wrong
 
       -- ---- a function
 
       module _ (s : Seen) (f : ℕ) (g : PlannedFunction) (called : IsCalledIn t w.home f)
-          (item : IsItemAmong (map (seen_of t) (map numbered_seen w.imports.now)) s.key.now (follow.Shown.function (signature_at t f)))
+          (item : IsItemAmong all_seen s.key.now (follow.Shown.function (signature_at t f)))
           (made : IsPlannedFunction t planned.kept find (s.key.now, record { signature = f; external_id = given_text s.external_id }) (s.key.now, g)) where
         resource_own : (r : Text) (id : TypeId) → find r ≡ Some id → IsResource t (told t w.home) planned.kept p (b.owners w.home) w.home r id.0
         resource_own r id found = subst (λ (os : ℕ → TypeOwner). IsResource t (told t w.home) planned.kept p (os w.home) w.home r id.0) (sym owned) (resource_is r id found)
@@ -267,47 +179,16 @@ module _ (t : Tables) (h : Homes) (ms : List Member) (members : List reads.Membe
             function_becomes t h ms members input main p planned b w.home find item.resources (λ r any. resource_found r (item.from r any)) resource_own
             (s.key.now, record { signature = f; external_id = given_text s.external_id }) (s.key.now, g) made called.parts rule
 
-      -- what it imports or exports
-      abbrev all_imports : List follow.Seen
-      all_imports = map (seen_of t) (map numbered_seen w.imports.now)
-
-      abbrev SeenItem : Seen → Type 0
-      SeenItem s = IsItemAmong all_imports s.key.now (shown_of t (numbered_shown s.shown))
-
-      part_obeys : PartObeys t (parts.World w)
-      part_obeys = subst (PartObeys t) is_world (all_at (λ (x : Member). PartObeys t x.part) ms ruled.rules.worlds m c)
-
-      import_item : (s : Seen) → Contains w.imports.now s → SeenItem s
-      import_item s among =
-          all_at (λ (x : follow.Seen). IsItemAmong all_imports x.key x.shown) all_imports (import_items all_imports [] all_imports part_obeys.0 (λ x none. none-in x none) (λ x there. there))
-          (seen_of t (numbered_seen s))
-          (contains-map (seen_of t) (map numbered_seen w.imports.now) (numbered_seen s) (contains-map numbered_seen w.imports.now s among))
-
-      export_item : (s : Seen) → Contains w.exports.now s → SeenItem s
-      export_item s among = record {
-        resources = [];
-        is = all-contained (λ (x : follow.Seen). rules.is_item [] x.key x.shown) (map (seen_of t) (map numbered_seen w.exports.now)) (seen_of t (numbered_seen s)) part_obeys.1
-            (contains-map (seen_of t) (map numbered_seen w.exports.now) (numbered_seen s) (contains-map numbered_seen w.exports.now s among));
-        from = λ r any. let wrong : false ≡ true = any in absurd cc;
-      }
+      -- a function that it imports or exports may stand behind its resources
+      may_stand : (s : Seen) → Side w s → (f : ℕ) → s.shown ≡ shown.Function f → IsItemAmong all_seen s.key.now (follow.Shown.function (signature_at t f))
+      may_stand s side f e = subst (λ (x : Shown). IsItemAmong all_seen s.key.now (shown_of t (numbered_shown x))) e
+          (item_obeys t input.tables h ms members input w (world_in t h ms members input m c w is_world) s side)
 
       -- what a function that it imports or exports becomes
-      pub seen_becomes : (s : Seen) → Contains w.imports.now s ⊎ Contains w.exports.now s → (f : ℕ) → s.shown ≡ shown.Function f → (g : PlannedFunction)
+      pub seen_becomes : (s : Seen) → Side w s → (f : ℕ) → s.shown ≡ shown.Function f → (g : PlannedFunction)
           → IsPlannedFunction t planned.kept find (s.key.now, record { signature = f; external_id = given_text s.external_id }) (s.key.now, g)
           → FunctionBecomes t planned.kept p (function_at t f) (given_text s.external_id) g
-      seen_becomes s side f shows g made = by side
-        where
-          called : IsSeenIn t w.home (numbered_seen s) → IsCalledIn t w.home f
-          called seen = subst (λ (x : Shown). IsSeenIn t w.home (record { key = s.key.now; shown = numbered_shown x; external_id = given_text s.external_id })) shows seen
-
-          may : SeenItem s → IsItemAmong all_imports s.key.now (follow.Shown.function (signature_at t f))
-          may item = subst (λ (x : Shown). IsItemAmong all_imports s.key.now (shown_of t (numbered_shown x))) shows item
-
-          by : Contains w.imports.now s ⊎ Contains w.exports.now s → FunctionBecomes t planned.kept p (function_at t f) (given_text s.external_id) g
-          by (inl among) = function_made s f g (called (all_at (IsSeenIn t w.home) (map numbered_seen w.imports.now) is.good.imports (numbered_seen s)
-              (contains-map numbered_seen w.imports.now s among))) (may (import_item s among)) made
-          by (inr among) = function_made s f g (called (all_at (IsSeenIn t w.home) (map numbered_seen w.exports.now) is.good.exports (numbered_seen s)
-              (contains-map numbered_seen w.exports.now s among))) (may (export_item s among)) made
+      seen_becomes s side f shows g made = function_made s f g (side_good w t is.good s side (shown.Function f) shows) (may_stand s side f shows) made
 
       module _ (marks_are : b.marks ≡ whole.marks.marks) where
         values_of : (f : ℕ) → Contains (signatures_of_part (parts.World w)) f → PartsOf (λ k. b.marks k ≡ false) (function_at t f)
@@ -320,28 +201,16 @@ module _ (t : Tables) (h : Homes) (ms : List Member) (members : List reads.Membe
         ItemRead e = (g : PlannedFunction) → item_function e.1 ≡ Some g → IsReadFunction t planned.kept p b (b.owners w.home) g
 
         -- the item of an import or an export
-        item_read : (s : Seen) → IsSeenIn t w.home (numbered_seen s) → SeenItem s → ((f : ℕ) → Contains (signatures_of_seen s) f → PartsOf (λ k. b.marks k ≡ false) (function_at t f))
-            → (e : PlannedKey × PlannedItem) → PlansItem t planned.kept (places_in ms) find s e → ItemRead e
-        item_read s seen item values e (an_instance key v shown_is made) g function = let wrong : None ≡ Some g =
+        item_read : (s : Seen) → Side w s → (e : PlannedKey × PlannedItem) → PlansItem t planned.kept (places_in ms) find s e → ItemRead e
+        item_read s side e (an_instance key v shown_is made) g function = let wrong : None ≡ Some g =
             sym (ap (λ (x : PlannedKey × PlannedItem). item_function x.1) made.is) ∙ function in absurd cc
-        item_read s seen item values e (a_type part d n shown_is made kept) g function = let wrong : None ≡ Some g =
+        item_read s side e (a_type part d n shown_is made kept) g function = let wrong : None ≡ Some g =
             sym (ap (λ (x : PlannedKey × PlannedItem). item_function x.1) made) ∙ function in absurd cc
-        item_read s seen item values e (a_function n shown_is key_is made) g function =
+        item_read s side e (a_function n shown_is key_is made) g function =
             let same : made.function ≡ g = same-some made.function g (sym (ap item_function made.is) ∙ function) in
-            let called = subst (λ (x : Shown). IsSeenIn t w.home (record { key = s.key.now; shown = numbered_shown x; external_id = given_text s.external_id })) shown_is seen in
-            let may = subst (λ (x : Shown). IsItemAmong all_imports s.key.now (shown_of t (numbered_shown x))) shown_is item in
             let there : Contains (signatures_of_seen s) n = subst (λ (x : Shown). Contains (signatures_of_shown x) n) (sym shown_is) (contains-one n) in
-            subst (IsReadFunction t planned.kept p b (b.owners w.home)) same (function_read s n made.function called may made.planned (values n there))
-
-        items_read : (cs : List Seen) → AllByRecursion (IsSeenIn t w.home) (map numbered_seen cs) → ((s : Seen) → Contains cs s → SeenItem s)
-            → ((f : ℕ) → Contains (flat_map signatures_of_seen cs) f → PartsOf (λ k. b.marks k ≡ false) (function_at t f))
-            → (es : List (PlannedKey × PlannedItem)) → AllZip (PlansItem t planned.kept (places_in ms) find) cs es → (e : PlannedKey × PlannedItem) → Contains es e → ItemRead e
-        items_read cs seen items values es made e among =
-            let at = contains-get es e among in
-            let from = zip_get (PlansItem t planned.kept (places_in ms) find) cs es made at.0 e at.1 in
-            let there = get-contains cs at.0 from.0 from.1 in
-            item_read from.0 (all_at (IsSeenIn t w.home) (map numbered_seen cs) seen (numbered_seen from.0) (contains-map numbered_seen cs from.0 there)) (items from.0 there)
-            (λ f in_it. values f (contains-flat signatures_of_seen cs from.0 f there in_it)) e from.2
+            subst (IsReadFunction t planned.kept p b (b.owners w.home)) same (function_read s n made.function (side_good w t is.good s side (shown.Function n) shown_is)
+            (may_stand s side n shown_is) made.planned (values_of n (side_shows w signatures_of_seen s n side there)))
 
         pub world_read : (x : PlannedWorld) → AllZip (PlansItem t planned.kept (places_in ms) find) w.imports.now x.imports
             → AllZip (PlansItem t planned.kept (places_in ms) find) w.exports.now x.exports
@@ -349,18 +218,16 @@ module _ (t : Tables) (h : Homes) (ms : List Member) (members : List reads.Membe
         world_read x imports exports = all_filtered (IsReadFunction t planned.kept p b (b.owners w.home)) item_function (items_of x)
             (λ i among g e. by i g e (Contains-append_cases (map second x.imports) (map second x.exports) i among))
           where
-            of_list : (es : List (PlannedKey × PlannedItem)) → ((e : PlannedKey × PlannedItem) → Contains es e → ItemRead e) → (i : PlannedItem) (g : PlannedFunction) → item_function i ≡ Some g
-                → Contains (map second es) i → IsReadFunction t planned.kept p b (b.owners w.home) g
-            of_list es each i g e there = let from = from_map second es i there in each from.0 from.1 g (ap item_function from.2 ∙ e)
-
             by : (i : PlannedItem) (g : PlannedFunction) → item_function i ≡ Some g → Contains (map second x.imports) i ⊎ Contains (map second x.exports) i
                 → IsReadFunction t planned.kept p b (b.owners w.home) g
             by i g e (inl there) =
-                of_list x.imports (items_read w.imports.now is.good.imports import_item
-                (λ f among. values_of f (Contains-append_left (flat_map signatures_of_seen w.imports.now) (flat_map signatures_of_seen w.exports.now) f among)) x.imports imports) i g e there
+                let entry = from_map second x.imports i there in
+                let from = partner_back (PlansItem t planned.kept (places_in ms) find) w.imports.now x.imports imports entry.0 entry.1 in
+                item_read from.0 (inl from.1) entry.0 from.2 g (ap item_function entry.2 ∙ e)
             by i g e (inr there) =
-                of_list x.exports (items_read w.exports.now is.good.exports export_item
-                (λ f among. values_of f (Contains-append_right (flat_map signatures_of_seen w.imports.now) (flat_map signatures_of_seen w.exports.now) f among)) x.exports exports) i g e there
+                let entry = from_map second x.exports i there in
+                let from = partner_back (PlansItem t planned.kept (places_in ms) find) w.exports.now x.exports exports entry.0 entry.1 in
+                item_read from.0 (inr from.1) entry.0 from.2 g (ap item_function entry.2 ∙ e)
 
 -- a world that is exported
 

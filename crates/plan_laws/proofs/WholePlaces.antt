@@ -1,7 +1,8 @@
 -- The packages, the interfaces and the worlds of a plan that was made of what was followed.
-use Rattle.std.proofs.Common.{◌≡◌, refl, sym, ap, subst, ◌∙◌, ℕ, arith, Bool, true, false, not, ◌||◌, ◌==◌, cond, List, [], ◌∷◌, ◌++◌, filter, filter_map, map, Option, Some, None, option_map, slice_get}
+use Rattle.plan_package.specs.ReadPackages.{AreExported, world_labels}
+use Rattle.std.proofs.Common.{◌≡◌, refl, sym, ap, subst, ◌∙◌, ℕ, arith, Bool, true, false, not, ◌||◌, ◌==◌, List, [], ◌∷◌, ◌++◌, filter, filter_map, map, Option, Some, None, option_map, slice_get}
 use Rattle.std.specs.Prelude.{is_none, is_some}
-use Rattle.std.specs.List.{AllByRecursion, AllZip, Contains, list_any}
+use Rattle.std.specs.List.{AllByRecursion, Contains, list_any}
 use Rattle.std.specs.Option.{option_map_or}
 use Rattle.std.proofs.lemmas.Bool.{eqb-true, and_from as both, not-true as not_true}
 use Rattle.std.proofs.lemmas.Option.{slice_get_within, same_Some as same-some}
@@ -18,9 +19,9 @@ use Rattle.plan_meaning.specs.NumberedMembers.{Homes, NumberedMember, home_at}
 use Rattle.plan_meaning.specs.NumberedRules.{Fact}
 use Rattle.plan_meaning.specs.NumberedViews.{Tables, path_at}
 use Rattle.plan_meaning.specs.NumberedWorlds.{HasPath, are_once}
-use Rattle.plan_meaning.specs.Plan.{Plan, PlannedInterface, PlannedPackage, PlannedWorld, interface_in, item_interface, items_of, numbers_of, package_in, world_in}
+use Rattle.plan_meaning.specs.Plan.{Plan, PlannedInterface, PlannedPackage, PlannedWorld, interface_in, item_interface, items_of, package_in, world_in}
 use Rattle.plan_meaning.specs.PlanRules.{has_name, names_of}
-use Rattle.plan_meaning.specs.ReadPlaces.{IsListedInterface, IsListedWorld, IsPlacedInterface, IsPlacedWorld, IsReadPackage, PlacesAreRead, inline, under_path}
+use Rattle.plan_meaning.specs.ReadPlaces.{IsPlacedInterface, IsPlacedWorld, IsReadPackage, PlacesAreRead, inline, under_path}
 use Rattle.plan_meaning.proofs.Lists.{no_true}
 use Rattle.plan_meaning.proofs.ReadLists.{never}
 use Rattle.plan_type_laws.specs.ShownMarks.{has_no_path, places_of_part, places_of_seen}
@@ -29,61 +30,51 @@ use Rattle.read_exports.specs.declared.members.Member.{Member}
 use Rattle.read_rules.specs.declared.scopes.Scope.{Scope}
 use Rattle.read_rules.specs.Scopes.{numbered_scope, numbered_seen}
 use Rattle.plan_types.specs.PlannedTypes.{number_in}
-use Rattle.plan_package.specs.Listed.{IsHomeAt, IsWorldAt}
 use Rattle.plan_package.specs.PlanWhole.{PlansWhole, places_in}
 use Rattle.plan_package.specs.Views.{views_of_members}
 use Rattle.plan_package.specs.WholeInterfaces.{PlansPlace}
-use Rattle.plan_package.specs.WholePackages.{IsForeignPackage, IsMainPackage, ListsPlace, PlansPackage, another, entries_from, interfaces_in, numbered_labels, the_main}
+use Rattle.plan_package.specs.WholePackages.{IsMainPackage, ListsPlace, PlansPackage, another, entries_from, interfaces_in, numbered_labels, the_main}
 use Rattle.plan_package.specs.WholeWorlds.{PlansWorld, worlds_in}
 use Rattle.plan_package.proofs.ListedLaws.{homes_are_listed, worlds_are_listed}
 use Rattle.plan_laws.specs.Owners.{homes_in, owners_of}
 use Rattle.plan_laws.specs.Whole.{IsPackageInput}
 use Rattle.plan_laws.specs.WholePlaces.{LabelsStand}
 use Rattle.plan_laws.proofs.PlaceNumbers.{owner_numbered, owners_apart, place_number}
-use Rattle.plan_laws.proofs.Planned.{first_there, interface_there, named_there}
-use Rattle.plan_laws.proofs.Showings.{all_given}
+use Rattle.plan_laws.proofs.Planned.{first_there, interface_there, named_there, path_given}
 use Rattle.plan_laws.proofs.WholePlacesInstances.{own_shown}
 use Rattle.plan_laws.proofs.WholePlacesItems as items
-use Rattle.plan_laws.proofs.WholePlacesLabels.{interface_among, interface_of, interfaces_differ, no_world, world_among, world_of, worlds_differ}
-use Rattle.plan_laws.proofs.WholePlacesTop.{IsOwnInstance, at_top, interface_home, main_identity, own_instance, world_followed}
-use Rattle.base_lemmas.proofs.Bools.{left_of as first_true, right_of as second_true}
-use Rattle.base_lemmas.proofs.Elements.{all_at, all_by_number, contains-map, get-contains, zip_at, zip_at_right as zip_get}
+use Rattle.plan_laws.proofs.WholePlacesLabels.{interface_among, interface_of, interfaces_differ, no_world, world_among, worlds_differ}
+use Rattle.plan_laws.proofs.WorldItems.{world_member}
+use Rattle.plan_laws.proofs.WholePlacesTop.{IsOwnInstance, at_top, interface_home, main_identity, own_instance}
+use Rattle.plan_laws.proofs.Sources.{world_in as world_of, all_of}
+use Rattle.base_lemmas.proofs.Bools.{left_of as first_true, right_of as second_true, first_false, second_false}
+use Rattle.base_lemmas.proofs.Elements.{all_at, contains-map, get-contains, zip_at, zip_at_right as zip_get, all_pass}
 use Rattle.base_lemmas.proofs.Lists.{within_there as there_at}
 use Rattle.plan_laws.proofs.OwnPlaces.{once_inside as once_within}
-use Rattle.plan_package.proofs.ReadPackageLaws.{number_at as number_there}
+use Rattle.plan_package.proofs.ReadPackageLaws.{number_at as number_there, packages_are_read}
 
 -- the places of what a world imports and exports
 abbrev shown_of : Scope → List ℕ
 shown_of w = places_of_seen (map numbered_seen w.imports.now) ++ places_of_seen (map numbered_seen w.exports.now)
 
--- interfaces whose names differ have numbers that do, where a number tells the name
-once_named : (places : List ℕ) (home : ℕ → Option (ℕ × Text)) (n : ℕ) (xs es : List (Text × ℕ)) → AllZip (ListsPlace places) xs es → AllByRecursion (λ (x : Text × ℕ). home x.1 ≡ Some (n, x.0)) xs
-    → distinct (names_of xs) ≡ true → are_once (numbers_of es) ≡ true
-once_named places home n [] [] all homes differ = refl
-once_named places home n [] (e ∷ es) all homes differ = absurd all
-once_named places home n (x ∷ xs) [] all homes differ = absurd all
-once_named places home n (x ∷ xs) (e ∷ es) all homes differ =
-    both (not (has (numbers_of es) e.1)) (are_once (numbers_of es)) (ap not
-    (absent xs es all.1 homes.1 (not_true (list_any (text_eq x.0) (names_of xs)) (first_true (not (list_any (text_eq x.0) (names_of xs))) (distinct (names_of xs)) differ))))
-    (once_named places home n xs es all.1 homes.1 (second_true (not (list_any (text_eq x.0) (names_of xs))) (distinct (names_of xs)) differ))
+-- interfaces whose names differ have places that do, where a place tells the name
+once_named : (home : ℕ → Option (ℕ × Text)) (n : ℕ) (xs : List (Text × ℕ)) → AllByRecursion (λ (x : Text × ℕ). home x.1 ≡ Some (n, x.0)) xs → distinct (names_of xs) ≡ true
+    → are_once (map (λ (x : Text × ℕ). x.1) xs) ≡ true
+once_named home n [] homes differ = refl
+once_named home n (x ∷ xs) homes differ =
+    both (not (has (map (λ (y : Text × ℕ). y.1) xs) x.1)) (are_once (map (λ (y : Text × ℕ). y.1) xs)) (ap not
+    (absent xs homes.1 (not_true (list_any (text_eq x.0) (names_of xs)) (first_true (not (list_any (text_eq x.0) (names_of xs))) (distinct (names_of xs)) differ))))
+    (once_named home n xs homes.1 (second_true (not (list_any (text_eq x.0) (names_of xs))) (distinct (names_of xs)) differ))
   where
-    absent : (ys fs : List (Text × ℕ)) → AllZip (ListsPlace places) ys fs → AllByRecursion (λ (y : Text × ℕ). home y.1 ≡ Some (n, y.0)) ys → list_any (text_eq x.0) (names_of ys) ≡ false
-        → has (numbers_of fs) e.1 ≡ false
-    absent [] [] a k none = refl
-    absent [] (f ∷ fs) a k none = absurd a
-    absent (y ∷ ys) [] a k none = absurd a
-    absent (y ∷ ys) (f ∷ fs) a k none = by (f.1 == e.1) refl (text_eq x.0 y.0) refl none (absent ys fs a.1 k.1)
+    absent : (ys : List (Text × ℕ)) → AllByRecursion (λ (y : Text × ℕ). home y.1 ≡ Some (n, y.0)) ys → list_any (text_eq x.0) (names_of ys) ≡ false → has (map (λ (y : Text × ℕ). y.1) ys) x.1 ≡ false
+    absent [] k none = refl
+    absent (y ∷ ys) k none = by (y.1 == x.1) refl (absent ys k.1 (second_false (text_eq x.0 y.0) (list_any (text_eq x.0) (names_of ys)) none))
       where
-        by : (b : Bool) → (f.1 == e.1) ≡ b → (c : Bool) → text_eq x.0 y.0 ≡ c → (c || list_any (text_eq x.0) (names_of ys)) ≡ false
-            → (list_any (text_eq x.0) (names_of ys) ≡ false → has (numbers_of fs) e.1 ≡ false)
-            → (b || has (numbers_of fs) e.1) ≡ false
-        by b same true other never_true later = no_true (sym never_true)
-        by false same false other none_there later = later none_there
-        by true same false other none_there later =
-            let number : f.1 ≡ e.1 = eqb-true f.1 e.1 same in
-            let place : x.1 ≡ y.1 = same-some x.1 y.1 (sym (number_there places x.1 e.1 all.0.1) ∙ (ap (slice_get places) (sym number) ∙ number_there places y.1 f.1 a.0.1)) in
-            let name : x.0 ≡ y.0 = ap (λ (z : ℕ × Text). z.1) (same-some (n, x.0) (n, y.0) (sym homes.0 ∙ (ap home place ∙ k.0))) in
-            never (text_eq x.0 y.0) ((bytes_eq-Decides x.0 y.0).1 name) other
+        by : (b : Bool) → (y.1 == x.1) ≡ b → has (map (λ (z : Text × ℕ). z.1) ys) x.1 ≡ false → (b || has (map (λ (z : Text × ℕ). z.1) ys) x.1) ≡ false
+        by false same rest = rest
+        by true same rest =
+            let name : x.0 ≡ y.0 = ap (λ (z : ℕ × Text). z.1) (same-some (n, x.0) (n, y.0) (sym homes.0 ∙ (ap home (sym (eqb-true y.1 x.1 same)) ∙ k.0))) in
+            never (text_eq x.0 y.0) ((bytes_eq-Decides x.0 y.0).1 name) (first_false (text_eq x.0 y.0) (list_any (text_eq x.0) (names_of ys)) none)
 
 module _ (t : Tables) (h : Homes) (known : ℕ → Fact) (n : ℕ) (ms : List Member) (members : List reads.Member) (given : IsPackageInput t h known n ms members) (stand : ArePackages h.packages)
     (labels : LabelsStand ms) (p : Plan)
@@ -102,13 +93,6 @@ module _ (t : Tables) (h : Homes) (known : ℕ → Fact) (n : ℕ) (ms : List Me
 
   -- ---- places
 
-  path_given : (q : ℕ) (x : ℕ × Text) → home_at h q ≡ Some x → HasPath t q
-  path_given q x home = by (path_at t q) refl
-    where
-      by : (o : Option Text) → path_at t q ≡ o → HasPath t q
-      by (Some path) e = (path, e)
-      by None e = no_true (ap is_some (sym (given.alone q e) ∙ home))
-
   named_as : (m q : ℕ) (i : PlannedInterface) → interface_in p m ≡ Some i → slice_get places m ≡ Some q → Place q i → i.name ≡ option_map (λ (x : ℕ × Text). x.1) (home_at h q)
   named_as m q i e at is = let first = first_there t h ms members given.input n p planned m q at in (is first.0 first.1).name
 
@@ -120,86 +104,23 @@ module _ (t : Tables) (h : Homes) (known : ℕ → Fact) (n : ℕ) (ms : List Me
   package_there : (c : ℕ) (identity : PackageIdentity) → slice_get h.packages c ≡ Some identity → (k : PlannedPackage) × (package_in p c ≡ Some k)
   package_there c identity e = let low = slice_get_within h.packages c identity e in let many = planned.packages.many in there_at p.packages c (omega (arith, low, many))
 
-  -- what the main package lists
-  main_interface : (x e : Text × ℕ) → Contains (interfaces_in ms) x → ListsPlace places x e → IsListedInterface t h p owners n e
-  main_interface x e c is =
-      let m = interface_of ms x c in
-      let home = interface_home t h known n ms members given m.member m.among x.1 m.view m.imports m.is in
-      let there = interface_there t h ms members given.input n p planned e.1 x.1 (number_there places x.1 e.1 is.1) in
-      record { place = x.1; path = home.0; home = home.1 ∙ ap (λ l. Some (n, l)) (m.label ∙ sym is.0); owned = owner_numbered ms x.1 e.1 is.1; interface = there.0; there = there.1 }
-
-  main_world : (e : Text × ℕ) → IsWorldAt (worlds_in ms) e → IsListedWorld t h p owners n e
-  main_world e is =
-      let there = zip_at (PlansWorld t planned.kept places n) (worlds_in ms) p.worlds planned.worlds e.1 is.world is.there in
-      record { world = there.0; there = there.1; named = there.2.name ∙ sym is.name; home = there.2.package_ }
-
   home_of : (x : Text × ℕ) → Contains (interfaces_in ms) x → home_at h x.1 ≡ Some (n, x.0)
   home_of x c =
       let m = interface_of ms x c in
       (interface_home t h known n ms members given m.member m.among x.1 m.view m.imports m.is).1 ∙ ap (λ l. Some (n, l)) m.label
 
-  -- what another package lists
-  other_interface : (c : ℕ) (e : Text × ℕ) → IsHomeAt (home_at h) c places e → IsListedInterface t h p owners c e
-  other_interface c e is =
-      let there = interface_there t h ms members given.input n p planned e.1 is.place is.there in
+  exported : AreExported h n ms
+  exported =
+      let homes_are = all_of (λ (x : Text × ℕ). home_at h x.1 ≡ Some (n, x.0)) (interfaces_in ms) home_of in
       record {
-        place = is.place;
-        path = path_given is.place (c, e.0) is.home;
-        home = is.home;
-        owned = owner_numbered ms is.place e.1 (place_number ms e.1 is.place is.there);
-        interface = there.0;
-        there = there.1;
-      }
-
-  main_package : (identity : PackageIdentity) (k : PlannedPackage) → slice_get h.packages n ≡ Some identity → IsMainPackage identity places ms k → IsReadPackage t h p owners n k
-  main_package identity k there is =
-      let read = stand.read n identity there in
-      let listed = worlds_are_listed (worlds_in ms) in
-      let names : names_of k.worlds ≡ names_of (worlds_in ms) = ap names_of is.worlds ∙ listed.names in
-      record {
-        identity = there ∙ ap Some (sym is.is);
-        path = read.path;
-        name = read.name;
-        reads = read.reads ∙ ap (λ i. Some (i, read.name)) (sym is.is);
-        interfaces = all_given (IsListedInterface t h p owners n) k.interfaces (λ j e at.
-            let from = zip_get (ListsPlace places) (interfaces_in ms) k.interfaces is.interfaces j e at in
-            main_interface from.0 e (get-contains (interfaces_in ms) j from.0 from.1) from.2);
-        once = once_named places (home_at h) n (interfaces_in ms) k.interfaces is.interfaces
-            (all_given (λ (x : Text × ℕ). home_at h x.1 ≡ Some (n, x.0)) (interfaces_in ms) (λ j x at. home_of x (get-contains (interfaces_in ms) j x at))) (interfaces_differ ms labels.apart);
-        worlds = subst (AllByRecursion (IsListedWorld t h p owners n)) (sym is.worlds)
-            (all_given (IsListedWorld t h p owners n) (numbered_labels 0 (worlds_in ms))
-            (λ j e at. main_world e (all_at (IsWorldAt (worlds_in ms)) (numbered_labels 0 (worlds_in ms)) listed.among e (get-contains (numbered_labels 0 (worlds_in ms)) j e at))));
-        labels = ap distinct names ∙ worlds_differ ms labels.apart;
-        apart = all_by_number (λ (e : Text × ℕ). not (list_any (text_eq e.0) (names_of k.worlds))) k.interfaces (λ j e at.
-            let from = zip_get (ListsPlace places) (interfaces_in ms) k.interfaces is.interfaces j e at in
-            (λ i. not (list_any (text_eq (from.2.0 i)) (names i))) ∙ ap not (no_world ms labels.apart from.0 (get-contains (interfaces_in ms) j from.0 from.1)));
-      }
-
-  other_package : (c : ℕ) (identity : PackageIdentity) (k : PlannedPackage) → slice_get h.packages c ≡ Some identity → IsForeignPackage identity (entries_from (home_at h) c 0 places) k
-      → IsReadPackage t h p owners c k
-  other_package c identity k there is =
-      let read = stand.read c identity there in
-      let es = entries_from (home_at h) c 0 places in
-      let listed = homes_are_listed (home_at h) c places in
-      record {
-        identity = there ∙ ap Some (sym is.is);
-        path = read.path;
-        name = read.name;
-        reads = read.reads ∙ ap (λ i. Some (i, read.name)) (sym is.is);
-        interfaces = subst (AllByRecursion (IsListedInterface t h p owners c)) (sym is.interfaces)
-            (all_given (IsListedInterface t h p owners c) es (λ j e at. other_interface c e (all_at (IsHomeAt (home_at h) c places) es listed.among e (get-contains es j e at))));
-        once = ap (λ xs. are_once (numbers_of xs)) is.interfaces ∙ listed.once;
-        worlds = subst (AllByRecursion (IsListedWorld t h p owners c)) (sym is.worlds) tt;
-        labels = ap (λ xs. distinct (names_of xs)) is.worlds;
-        apart = all_by_number (λ (e : Text × ℕ). not (list_any (text_eq e.0) (names_of k.worlds))) k.interfaces (λ j e at. ap (λ xs. not (list_any (text_eq e.0) (names_of xs))) is.worlds);
+        homes = homes_are;
+        once = once_named (home_at h) n (interfaces_in ms) homes_are (interfaces_differ ms labels.apart);
+        labels = worlds_differ ms labels.apart;
+        apart = all_pass (λ (x : Text × ℕ). not (list_any (text_eq x.0) (world_labels ms))) (interfaces_in ms) (λ x c. ap not (no_world ms labels.apart x c));
       }
 
   packages_read : (c : ℕ) (k : PlannedPackage) → package_in p c ≡ Some k → IsReadPackage t h p owners c k
-  packages_read c k e = by (planned.packages.each c k e)
-    where
-      by : PlansPackage h.packages n places ms (entries_from (home_at h) c 0 places) c k → IsReadPackage t h p owners c k
-      by (the_main identity same there is) = subst (λ x. IsReadPackage t h p owners x k) (sym same) (main_package identity k (ap (slice_get h.packages) (sym same) ∙ there) is)
-      by (another identity other there is) = other_package c identity k there is
+  packages_read = packages_are_read t h stand (path_given t h given.alone) n ms exported owners (λ m q at. owner_numbered ms q m (place_number ms m q at)) p planned
 
   -- ---- interfaces
 
@@ -242,18 +163,13 @@ module _ (t : Tables) (h : Homes) (known : ℕ → Fact) (n : ℕ) (ms : List Me
     there : world_in p number ≡ Some world
     item : Contains (filter_map item_interface (items_of world)) m
 
-  once_behind : (b : Bool) (x : ℕ) (xs : List ℕ) → are_once (cond b (x ∷ xs) xs) ≡ true → are_once xs ≡ true
-  once_behind true x xs e = second_true (not (has xs x)) (are_once xs) e
-  once_behind false x xs e = e
-
   shown_inline : (q : ℕ) → path_at t q ≡ None → (own : IsOwnInstance t h known n ms members given q) → Contains (shown_of own.world) q
   shown_inline q none own =
-      let followed = world_followed t h known n ms members given own.member own.among own.world own.is in
+      let of = world_of t h ms members given.input own.member own.among own.world own.is in
       let once = once_within (has_no_path t) (λ (x : NumberedMember). places_of_part x.part) (numbered_members ms) given.placed.apart (numbered_member own.member)
       (contains-map numbered_member ms own.member own.among) in
-      own_shown t (numbered_scope own.world) followed.scope followed.numbers followed.shows followed.stands.seen
-      (once_behind (has_no_path t own.world.home) own.world.home (filter (has_no_path t) (shown_of own.world))
-      (subst (λ a. are_once (filter (has_no_path t) (places_of_part (numbered_part a))) ≡ true) own.is once)) q none own.instance
+      own_shown t (numbered_scope own.world) of.scope of.good of.shows of.stands.seen
+      (subst (λ a. are_once (filter (has_no_path t) (places_of_part (numbered_part a))) ≡ true) own.is once) q none own.instance
 
   item_of : (m q : ℕ) → slice_get places m ≡ Some q → (label : Text) (w : Scope) → Contains (shown_of w) q → (j : ℕ) → slice_get (worlds_in ms) j ≡ Some (label, w) → IsItem m
   item_of m q at label w shown j here = by (zip_at (PlansWorld t planned.kept places n) (worlds_in ms) p.worlds planned.worlds j (label, w) here)
@@ -296,8 +212,8 @@ module _ (t : Tables) (h : Homes) (known : ℕ → Fact) (n : ℕ) (ms : List Me
   worlds_read : (m : ℕ) (w : PlannedWorld) → world_in p m ≡ Some w → IsPlacedWorld t h p owners m w
   worlds_read m w e =
       let from = zip_get (PlansWorld t planned.kept places n) (worlds_in ms) p.worlds planned.worlds m w e in
-      let member = world_of ms from.0 (get-contains (worlds_in ms) m from.0 from.1) in
-      let identity = main_identity t h known n ms members given member.member member.among in
+      let member = world_member ms from.0 (get-contains (worlds_in ms) m from.0 from.1) in
+      let identity = main_identity t h known n ms members given member.0 member.1 in
       let there = package_there n identity.0 identity.1 in
       record {
         number = n;
@@ -305,7 +221,7 @@ module _ (t : Tables) (h : Homes) (known : ℕ → Fact) (n : ℕ) (ms : List Me
         home = from.2.package_;
         there = there.1;
         listed = by from.0 from.1 from.2.name there.0 (planned.packages.each n there.0 there.1);
-        label = ap is_label (from.2.name ∙ sym member.label) ∙ all_at (λ (x : Member). is_label x.label.now ≡ true) ms labels.labels member.member member.among;
+        label = ap is_label (from.2.name ∙ sym member.3) ∙ all_at (λ (x : Member). is_label x.label.now ≡ true) ms labels.labels member.0 member.1;
       }
     where
       by : (x : Text × Scope) → slice_get (worlds_in ms) m ≡ Some x → w.name ≡ x.0 → (k : PlannedPackage) → PlansPackage h.packages n places ms (entries_from (home_at h) n 0 places) n k

@@ -1,4 +1,8 @@
 -- The interfaces that worlds import and export, by the numbers of their places: no inline one is an item twice.
+use Rattle.plan_meaning.specs.Plan as plan
+use Rattle.read_rules.specs.Tables.{given_text}
+use Rattle.read_rules.specs.declared.scopes.Shown.{Shown}
+use Rattle.read_rules.specs.declared.scopes.Shown.TheVariants as shown
 use Rattle.std.proofs.Common.{◌≡◌, refl, sym, ap, subst, ◌∙◌, ℕ, ◌||◌, ◌==◌, Bool, true, false, not, cond, List, [], ◌∷◌, ◌++◌, filter, filter_map, map, Option, Some}
 use Rattle.std.specs.List.{AllZip, cons_option, flat_map}
 use Rattle.std.proofs.lemmas.Bool.{eq-eqb, eqb-true, and_from as both, not-true as not_true}
@@ -8,7 +12,7 @@ use Rattle.wit_model.specs.Text.{Text}
 use Rattle.wit_model.specs.Uses.{has}
 use Rattle.plan_meaning.specs.NumberedMembers.{NumberedMember}
 use Rattle.plan_meaning.specs.NumberedViews.{Tables}
-use Rattle.plan_meaning.specs.NumberedWorlds.{are_once, place_of_key}
+use Rattle.plan_meaning.specs.NumberedWorlds.{are_once}
 use Rattle.plan_meaning.specs.Plan.{Plan, PlannedItem, PlannedKey, PlannedWorld, item_interface, items_of}
 use Rattle.plan_meaning.specs.PlanRules.{has_name}
 use Rattle.plan_meaning.specs.ReadPlaces.{inline_shown}
@@ -21,10 +25,10 @@ use Rattle.read_exports.specs.declared.members.Part.{Part}
 use Rattle.read_exports.specs.declared.members.Part.TheVariants as parts
 use Rattle.read_rules.specs.declared.scopes.Scope.{Scope}
 use Rattle.read_rules.specs.declared.scopes.Seen.{Seen}
-use Rattle.read_rules.specs.Scopes.{numbered_key, numbered_seen, numbered_shown}
+use Rattle.read_rules.specs.Scopes.{numbered_seen, numbered_shown}
 use Rattle.plan_types.specs.PlannedTypes.{number_in}
 use Rattle.plan_package.specs.WholeWorlds.{PlansItem, PlansWorld, a_function, a_type, an_instance, world_in_part, worlds_in}
-use Rattle.base_lemmas.proofs.Bools.{left_of as first_true, right_of as second_true}
+use Rattle.base_lemmas.proofs.Bools.{left_of as first_true, right_of as second_true, or_true}
 use Rattle.base_lemmas.proofs.Elements.{zip-append as zip_both}
 use Rattle.std.proofs.lemmas.Option.{same_Some as same-some}
 use Rattle.plan_package.proofs.ReadPackageLaws.{number_at as number_there}
@@ -36,39 +40,36 @@ module _ (places : List ℕ) where
 
   -- ---- the items of a world
 
+  -- the places of what is shown and of the rest have the numbers of the item and of the rest
+  abbrev AreNumbered : List ℕ → List ℕ → Shown → PlannedItem → Type 0
+  AreNumbered ps ns a i = AllZip IsNumbered (places_of_shown (numbered_shown a) ++ ps) (cons_option (item_interface i) ns)
+
+  abbrev item_of : PlannedKey × PlannedItem → PlannedItem
+  item_of e = e.1
+
   module _ (t : Tables) (kept : List ℕ) where
     side : (find : Text → Option TypeId) (ss : List Seen) (es : List (PlannedKey × PlannedItem)) → AllZip (PlansItem t kept places find) ss es
-        → AllZip IsNumbered (places_of_seen (map numbered_seen ss)) (filter_map item_interface (map (λ (e : PlannedKey × PlannedItem). e.1) es))
+        → AllZip IsNumbered (places_of_seen (map numbered_seen ss)) (filter_map item_interface (map item_of es))
     side find [] [] all = tt
-    side find [] (e ∷ es) all = absurd all
-    side find (s ∷ ss) [] all = absurd all
     side find (s ∷ ss) (e ∷ es) all = by all.0 (side find ss es all.1)
       where
-        by : PlansItem t kept places find s e → AllZip IsNumbered (places_of_seen (map numbered_seen ss)) (filter_map item_interface (map (λ (x : PlannedKey × PlannedItem). x.1) es))
-            → AllZip IsNumbered (places_of_shown (numbered_shown s.shown) ++ places_of_seen (map numbered_seen ss))
-            (cons_option (item_interface e.1) (filter_map item_interface (map (λ (x : PlannedKey × PlannedItem). x.1) es)))
-        by (an_instance key v is found) rest =
-            subst (λ a. AllZip IsNumbered (places_of_shown (numbered_shown a) ++ places_of_seen (map numbered_seen ss))
-            (cons_option (item_interface e.1) (filter_map item_interface (map (λ (x : PlannedKey × PlannedItem). x.1) es)))) (sym is)
-            (subst (λ i. AllZip IsNumbered (place_of_key (numbered_key key) ∷ places_of_seen (map numbered_seen ss))
-            (cons_option (item_interface i) (filter_map item_interface (map (λ (x : PlannedKey × PlannedItem). x.1) es))))
-            (sym (ap (λ (x : PlannedKey × PlannedItem). x.1) found.is)) (found.found, rest))
-        by (a_function n is key f) rest =
-            subst (λ a. AllZip IsNumbered (places_of_shown (numbered_shown a) ++ places_of_seen (map numbered_seen ss))
-            (cons_option (item_interface e.1) (filter_map item_interface (map (λ (x : PlannedKey × PlannedItem). x.1) es)))) (sym is)
-            (subst (λ i. AllZip IsNumbered (places_of_seen (map numbered_seen ss)) (cons_option (item_interface i) (filter_map item_interface (map (λ (x : PlannedKey × PlannedItem). x.1) es))))
-            (sym f.is) rest)
-        by (a_type part d n is entry part_is) rest =
-            subst (λ a. AllZip IsNumbered (places_of_shown (numbered_shown a) ++ places_of_seen (map numbered_seen ss))
-            (cons_option (item_interface e.1) (filter_map item_interface (map (λ (x : PlannedKey × PlannedItem). x.1) es)))) (sym is)
-            (subst (λ i. AllZip IsNumbered (places_of_seen (map numbered_seen ss)) (cons_option (item_interface i) (filter_map item_interface (map (λ (x : PlannedKey × PlannedItem). x.1) es))))
-            (sym (ap (λ (x : PlannedKey × PlannedItem). x.1) entry)) rest)
+        is_numbered : (a : Shown) (i : PlannedItem) → s.shown ≡ a → e.1 ≡ i → AreNumbered (places_of_seen (map numbered_seen ss)) (filter_map item_interface (map item_of es)) a i
+            → AreNumbered (places_of_seen (map numbered_seen ss)) (filter_map item_interface (map item_of es)) s.shown e.1
+        is_numbered a i is same all = subst (λ x. AreNumbered (places_of_seen (map numbered_seen ss)) (filter_map item_interface (map item_of es)) x e.1) (sym is)
+            (subst (AreNumbered (places_of_seen (map numbered_seen ss)) (filter_map item_interface (map item_of es)) a) (sym same) all)
+
+        by : PlansItem t kept places find s e → AllZip IsNumbered (places_of_seen (map numbered_seen ss)) (filter_map item_interface (map item_of es))
+            → AreNumbered (places_of_seen (map numbered_seen ss)) (filter_map item_interface (map item_of es)) s.shown e.1
+        by (an_instance key v is found) rest = is_numbered (shown.Instance key v) (plan.interface found.number (given_text s.external_id)) is (ap item_of found.is) (found.found, rest)
+        by (a_function n is key f) rest = is_numbered (shown.Function n) (plan.function f.function) is f.is rest
+        by (a_type part d n is entry part_is) rest = is_numbered (shown.Declares part d) (plan.declares n) is (ap item_of entry) rest
+    side find _ _ all = absurd all
 
     pub items_numbered : (main : ℕ) (w : Text × Scope) (x : PlannedWorld) → PlansWorld t kept places main w x
         → AllZip IsNumbered (places_of_seen (map numbered_seen w.1.imports.now) ++ places_of_seen (map numbered_seen w.1.exports.now)) (filter_map item_interface (items_of x))
     items_numbered main w x is =
-        let imports = map (λ (e : PlannedKey × PlannedItem). e.1) x.imports in
-        let exports = map (λ (e : PlannedKey × PlannedItem). e.1) x.exports in
+        let imports = map item_of x.imports in
+        let exports = map item_of x.exports in
         subst (AllZip IsNumbered (places_of_seen (map numbered_seen w.1.imports.now) ++ places_of_seen (map numbered_seen w.1.exports.now))) (sym (filter_map-append item_interface imports exports))
         (zip_both IsNumbered (places_of_seen (map numbered_seen w.1.imports.now)) (filter_map item_interface imports) (places_of_seen (map numbered_seen w.1.exports.now))
         (filter_map item_interface exports)
@@ -89,16 +90,8 @@ module _ (places : List ℕ) where
   listed_has : (qs ns : List ℕ) → AreListed qs ns → (m : ℕ) → has ns m ≡ true → (q : ℕ) × (has qs q ≡ true) × IsNumbered q m
   listed_has qs ns none m e = no_true e
   listed_has qs ns (left_out q a b rest) m e = let found = listed_has a b rest m e in (found.0, ap (λ c. (q == found.0) || c) found.1 ∙ or_true (q == found.0), found.2)
-    where
-      or_true : (b : Bool) → (b || true) ≡ true
-      or_true true = refl
-      or_true false = refl
   listed_has qs ns (listed q k a b is rest) m e = by (k == m) refl (listed_has a b rest m)
     where
-      or_true : (b : Bool) → (b || true) ≡ true
-      or_true true = refl
-      or_true false = refl
-
       by : (c : Bool) → (k == m) ≡ c → (has b m ≡ true → (r : ℕ) × (has a r ≡ true) × IsNumbered r m) → (r : ℕ) × (has (q ∷ a) r ≡ true) × IsNumbered r m
       by true f later = (q, ap (λ c. c || has a q) (eq-eqb q q refl), is ∙ ap Some (eqb-true k m f))
       by false f later = let found = later (sym (ap (λ c. c || has b m) f) ∙ e) in (found.0, ap (λ c. (q == found.0) || c) found.1 ∙ or_true (q == found.0), found.2)
@@ -121,8 +114,6 @@ module _ (places : List ℕ) where
   module _ (f g : ℕ → Bool) (tell : (q m : ℕ) → IsNumbered q m → f q ≡ g m) where
     passing : (qs ns : List ℕ) → AllZip IsNumbered qs ns → AreListed (filter f qs) (filter g ns)
     passing [] [] all = none
-    passing [] (m ∷ ns) all = absurd all
-    passing (q ∷ qs) [] all = absurd all
     passing (q ∷ qs) (m ∷ ns) all = by (f q) (g m) (tell q m all.0) (passing qs ns all.1)
       where
         by : (b c : Bool) → b ≡ c → AreListed (filter f qs) (filter g ns) → AreListed (cond b (q ∷ filter f qs) (filter f qs)) (cond c (m ∷ filter g ns) (filter g ns))
@@ -130,6 +121,7 @@ module _ (places : List ℕ) where
         by false false e rest = rest
         by true false e rest = no_true (sym e)
         by false true e rest = no_true e
+    passing _ _ all = absurd all
 
   -- ---- all worlds
 

@@ -1,12 +1,13 @@
 -- What is exported at the top, by labels of which none stands twice.
-use Rattle.std.proofs.Common.{◌≡◌, refl, sym, ap, subst, ◌∙◌, ℕ, Bool, true, false, List, [], ◌∷◌, ◌++◌, map, Some, slice_get}
+use Rattle.base_lemmas.proofs.Bools.{first_false, left_of as first_true, right_of as second_true, second_false as later_false}
+use Rattle.std.proofs.lemmas.Bool.{false_from_ne_true, and_from as both, not-true as not_true}
+use Rattle.std.proofs.Common.{◌≡◌, refl, sym, ap, subst, ◌∙◌, ℕ, true, false, List, [], ◌∷◌, ◌++◌, map, not, ◌||◌}
 use Rattle.std.specs.Borrow.{Bor}
 use Rattle.std.specs.List.{Contains, list_any}
 use Rattle.std.proofs.lemmas.Slice.Eq.{bytes_eq-Decides}
 use Rattle.wit_model.specs.Text.{Text, text_eq}
-use Rattle.wit_model.proofs.Elements.{contains-flat, contains-get, none-in}
+use Rattle.wit_model.proofs.Elements.{contains-flat, none-in}
 use Rattle.comp_meaning.specs.Rules.{distinct}
-use Rattle.read_shown.proofs.Lists.{one_place}
 use Rattle.plan_meaning.specs.PlanRules.{names_of}
 use Rattle.plan_meaning.proofs.Lists.{any_get}
 use Rattle.read_rules.specs.declared.reached.ImportedView.{ImportedView}
@@ -17,11 +18,35 @@ use Rattle.read_exports.specs.declared.members.Part.{Part}
 use Rattle.read_exports.specs.declared.members.Part.TheVariants as parts
 use Rattle.plan_package.specs.WholePackages.{interface_in_part, interfaces_in}
 use Rattle.plan_package.specs.WholeWorlds.{world_in_part, worlds_in}
+use Rattle.plan_laws.proofs.Sources.{one_under}
+use Rattle.plan_laws.proofs.WorldItems.{world_member}
 use Rattle.plan_laws.proofs.Inside.{flat_cases}
-use Rattle.plan_laws.proofs.WholePlacesLists.{AreSome, left_out, none, some_differ, taken}
 use Rattle.base_lemmas.proofs.Elements.{contains-one, get-contains, last_of as one-contained}
-use Rattle.base_lemmas.proofs.Lists.{get_back, mapped_get}
-use Rattle.std.proofs.lemmas.Option.{same_Some as same-some}
+use Rattle.base_lemmas.proofs.Lists.{get_back}
+
+-- ---- texts of which none stands twice
+
+-- the first texts are some of the others, in order
+pub data AreSome : List Text → List Text → Type 0 where
+  none : AreSome [] []
+  left_out : (x : Text) (xs ys : List Text) → AreSome xs ys → AreSome xs (x ∷ ys)
+  taken : (x : Text) (xs ys : List Text) → AreSome xs ys → AreSome (x ∷ xs) (x ∷ ys)
+
+pub not_some : (x : Text) (xs ys : List Text) → AreSome xs ys → list_any (text_eq x) ys ≡ false → list_any (text_eq x) xs ≡ false
+not_some x xs ys none e = e
+not_some x xs ys (left_out y a b more) e = not_some x a b more (later_false (text_eq x y) (list_any (text_eq x) b) e)
+not_some x xs ys (taken y a b more) e =
+    (λ i. first_false (text_eq x y) (list_any (text_eq x) b) e i || not_some x a b more (later_false (text_eq x y) (list_any (text_eq x) b) e) i)
+
+pub some_differ : (xs ys : List Text) → AreSome xs ys → distinct ys ≡ true → distinct xs ≡ true
+some_differ xs ys none e = e
+some_differ xs ys (left_out y a b more) e = some_differ a b more (second_true (not (list_any (text_eq y) b)) (distinct b) e)
+some_differ xs ys (taken y a b more) e =
+    both (not (list_any (text_eq y) a)) (distinct a)
+    (ap not (not_some y a b more (not_true (list_any (text_eq y) b) (first_true (not (list_any (text_eq y) b)) (distinct b) e))))
+    (some_differ a b more (second_true (not (list_any (text_eq y) b)) (distinct b) e))
+
+-- ---- labels
 
 abbrev pub labels_of : List Member → List Text
 labels_of ms = map (λ (m : Member). m.label.now) ms
@@ -55,12 +80,6 @@ pub record IsInterfaceOf (ms : List Member) (x : Text × ℕ) : Type 0 where
   pub imports : Bor (List ImportedView)
   pub is : member.part ≡ parts.Interface x.1 view imports
 
-pub record IsWorldOf (ms : List Member) (x : Text × Scope) : Type 0 where
-  pub member : Member
-  pub among : Contains ms member
-  pub label : member.label.now ≡ x.0
-  pub is : member.part ≡ parts.World x.1
-
 pub interface_of : (ms : List Member) (x : Text × ℕ) → Contains (interfaces_in ms) x → IsInterfaceOf ms x
 interface_of ms x c =
     let from = flat_cases (λ (m : Member). interface_in_part m.label.now m.part) ms x c in
@@ -71,17 +90,6 @@ interface_of ms x c =
     by m among (parts.Interface q v imports) is there =
         let same : (m.label.now, q) ≡ x = one-contained (m.label.now, q) x there in
         record { member = m; among = among; label = ap (λ (y : Text × ℕ). y.0) same; view = v; imports = imports; is = is ∙ ap (λ (y : Text × ℕ). parts.Interface y.1 v imports) same }
-
-pub world_of : (ms : List Member) (x : Text × Scope) → Contains (worlds_in ms) x → IsWorldOf ms x
-world_of ms x c =
-    let from = flat_cases (λ (m : Member). world_in_part m.label.now m.part) ms x c in
-    by from.0 from.1 from.0.part refl from.2
-  where
-    by : (m : Member) → Contains ms m → (a : Part) → m.part ≡ a → Contains (world_in_part m.label.now a) x → IsWorldOf ms x
-    by m among (parts.Interface q v imports) is there = none-in x there
-    by m among (parts.World w) is there =
-        let same : (m.label.now, w) ≡ x = one-contained (m.label.now, w) x there in
-        record { member = m; among = among; label = ap (λ (y : Text × Scope). y.0) same; is = is ∙ ap (λ (y : Text × Scope). parts.World y.1) same }
 
 pub interface_among : (ms : List Member) (m : Member) → Contains ms m → (q : ℕ) (v : View) (imports : Bor (List ImportedView)) → m.part ≡ parts.Interface q v imports
     → Contains (interfaces_in ms) (m.label.now, q)
@@ -95,16 +103,6 @@ world_among ms m c w is =
     (subst (λ a. Contains (world_in_part m.label.now a) (m.label.now, w)) (sym is) (contains-one (m.label.now, w)))
 
 module _ (ms : List Member) (differ : distinct (labels_of ms) ≡ true) where
-  -- one member has a label
-  one_member : (a b : Member) → Contains ms a → Contains ms b → a.label.now ≡ b.label.now → a ≡ b
-  one_member a b c d same =
-      let i = contains-get ms a c in
-      let j = contains-get ms b d in
-      let first = mapped_get (λ (m : Member). m.label.now) ms i.0 a i.1 in
-      let second = mapped_get (λ (m : Member). m.label.now) ms j.0 b j.1 in
-      let one : i.0 ≡ j.0 = one_place (labels_of ms) differ i.0 j.0 a.label.now first (second ∙ ap Some (sym same)) in
-      same-some a b (sym i.1 ∙ (ap (slice_get ms) one ∙ j.1))
-
   pub interfaces_differ : distinct (names_of (interfaces_in ms)) ≡ true
   interfaces_differ = some_differ (names_of (interfaces_in ms)) (labels_of ms) (interface_labels ms) differ
 
@@ -113,18 +111,11 @@ module _ (ms : List Member) (differ : distinct (labels_of ms) ≡ true) where
 
   -- no world has the label of an interface
   pub no_world : (x : Text × ℕ) → Contains (interfaces_in ms) x → list_any (text_eq x.0) (names_of (worlds_in ms)) ≡ false
-  no_world x c = by (list_any (text_eq x.0) (names_of (worlds_in ms))) refl
-    where
-      by : (b : Bool) → list_any (text_eq x.0) (names_of (worlds_in ms)) ≡ b → b ≡ false
-      by false e = refl
-      by true e =
-          let found = any_get (text_eq x.0) (names_of (worlds_in ms)) e in
-          let back = get_back (λ (w : Text × Scope). w.0) (worlds_in ms) found.0 found.1 found.2 in
-          let there = interface_of ms x c in
-          let world = world_of ms back.0 (get-contains (worlds_in ms) found.0 back.0 back.1) in
-          let label : x.0 ≡ back.0.0 = (bytes_eq-Decides x.0 found.1).0 found.3 ∙ sym back.2 in
-          let one : there.member ≡ world.member = one_member there.member world.member there.among world.among (there.label ∙ (label ∙ sym world.label)) in
-          other (sym there.is ∙ (ap (λ (m : Member). m.part) one ∙ world.is))
-        where
-          other : {q : ℕ} {v : View} {i : Bor (List ImportedView)} {w : Scope} → parts.Interface q v i ≡ parts.World w → true ≡ false
-          other e = absurd cc
+  no_world x c = false_from_ne_true (list_any (text_eq x.0) (names_of (worlds_in ms))) (λ e.
+      let found = any_get (text_eq x.0) (names_of (worlds_in ms)) e in
+      let back = get_back (λ (w : Text × Scope). w.0) (worlds_in ms) found.0 found.1 found.2 in
+      let there = interface_of ms x c in
+      let world = world_member ms back.0 (get-contains (worlds_in ms) found.0 back.0 back.1) in
+      let label : x.0 ≡ back.0.0 = (bytes_eq-Decides x.0 found.1).0 found.3 ∙ sym back.2 in
+      let one : there.member ≡ world.0 = one_under (λ (m : Member). m.label.now) ms differ there.member world.0 there.among world.1 (there.label ∙ (label ∙ sym world.3)) in
+      let wrong : parts.Interface x.1 there.view there.imports ≡ parts.World back.0.1 = sym there.is ∙ (ap (λ (m : Member). m.part) one ∙ world.2) in cc)

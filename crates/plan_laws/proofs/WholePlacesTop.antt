@@ -1,21 +1,19 @@
 -- What is exported at the top of a package: its interfaces, by the homes of their places.
-use Rattle.std.proofs.Common.{◌≡◌, refl, sym, ap, subst, ◌∙◌, ℕ, ◌⊎◌, inl, inr, true, false, not, ◌&&◌, ◌||◌, ◌==◌, List, [], ◌∷◌, map, Some, None, slice_get}
+use Rattle.std.proofs.Common.{◌≡◌, refl, sym, ap, subst, ◌∙◌, ℕ, ◌⊎◌, inl, inr, true, false, not, ◌||◌, ◌==◌, List, [], ◌∷◌, map, Some, None, slice_get}
 use Rattle.std.specs.Borrow.{Bor}
-use Rattle.std.specs.List.{Contains, flat_map, list_all, list_any}
+use Rattle.std.specs.List.{Contains, flat_map, list_any}
 use Rattle.std.specs.Option.{option_map_or}
 use Rattle.std.proofs.lemmas.Bool.{eq-eqb, eqb-true}
 use Rattle.std.proofs.lemmas.List.Elements.{Contains-append_cases}
 use Rattle.wit_model.specs.Names.{PackageIdentity}
 use Rattle.wit_model.specs.Text.{Text}
-use Rattle.wit_model.proofs.Elements.{contains-flat, none-in}
+use Rattle.wit_model.proofs.Elements.{none-in}
 use Rattle.comp_meaning.specs.Reads as reads
-use Rattle.comp_meaning.specs.Follow.{Scope as MeantScope}
-use Rattle.read_shown.specs.Parts.{PartStands, WorldStands}
-use Rattle.plan_meaning.specs.FollowedNumbers.{IsPartIn, IsScopeIn, IsViewIn}
-use Rattle.plan_meaning.specs.NumberedMembers.{Homes, IsMember, NumberedMember, NumberedPart, ShowsPart, are_interfaces, home_at, interface, is_interface_of, is_of_package, sights_of_members, sights_of_part, stands_at_top, world}
+use Rattle.plan_meaning.specs.FollowedNumbers.{IsPartIn, IsViewIn}
+use Rattle.plan_meaning.specs.NumberedMembers.{Homes, NumberedMember, ShowsPart, home_at, is_interface_of, is_of_package, sights_of_members, stands_at_top}
 use Rattle.plan_meaning.specs.NumberedRules.{Fact}
-use Rattle.plan_meaning.specs.NumberedViews.{NumberedSight, NumberedView, Tables, agree_in_numbers, path_at}
-use Rattle.plan_meaning.specs.NumberedWorlds.{HasPath, NumberedInstance, Shows, sights_of_instance}
+use Rattle.plan_meaning.specs.NumberedViews.{NumberedSight, NumberedView, Tables, path_at}
+use Rattle.plan_meaning.specs.NumberedWorlds.{HasPath, NumberedInstance}
 use Rattle.plan_meaning.proofs.Lists.{any_get, no_true}
 use Rattle.read_exports.specs.Members.{numbered_member, numbered_members, numbered_part}
 use Rattle.read_exports.specs.declared.members.Member.{Member}
@@ -28,36 +26,22 @@ use Rattle.read_rules.specs.Reached.{numbered_import}
 use Rattle.read_rules.specs.Scopes.{numbered_scope}
 use Rattle.plan_types.specs.Orders as orders
 use Rattle.plan_package.specs.PlanWhole.{places_in}
-use Rattle.plan_package.specs.Views.{views_of_part, whole_view}
 use Rattle.plan_laws.specs.Whole.{IsPackageInput}
-use Rattle.plan_laws.proofs.Inside.{flat_cases}
+use Rattle.plan_laws.proofs.FirstViews.{sight_there}
+use Rattle.plan_laws.proofs.WholeTypes.{tests_hold}
+use Rattle.plan_laws.proofs.Sources.{mapped_cases, member_there, part_at}
 use Rattle.plan_laws.proofs.PlaceNumbers.{from_joined}
 use Rattle.plan_laws.proofs.Planned.{place_seen}
-use Rattle.plan_laws.proofs.ShownNames.{beside}
-use Rattle.base_lemmas.proofs.Bools.{left_of as first_true, right_of as second_true}
-use Rattle.base_lemmas.proofs.Elements.{all-contained, all_at, contains-map, contains-one, get-contains, last_of as one-contained, map_from as from_map}
+use Rattle.base_lemmas.proofs.Elements.{all-contained, all_at, contains-map, get-contains, last_of as one-contained, map_from as from_map}
 use Rattle.base_lemmas.proofs.Lists.{get_back}
 
 -- ---- views of places that have a path
 
 module _ (t : Tables) where
-  seen_in_part : (a : NumberedPart) (s : NumberedSight) → Contains (views_of_part a) s → HasPath t s.place → Contains (sights_of_part t a) s
-  seen_in_part (interface p v imports) s c path = c
-  seen_in_part (world w) s c path =
-      let from = from_map whole_view w.instances s c in
-      let i = from.0 in
-      let given : path_at t i.place ≡ Some path.0 = ap (λ (x : NumberedSight). path_at t x.place) from.2 ∙ path.1 in
-      contains-flat (sights_of_instance t) w.instances i s from.1
-      (subst (λ o. Contains (option_map_or (λ (x : Text). whole_view i ∷ []) o []) s) (sym given) (subst (Contains (whole_view i ∷ [])) from.2 (contains-one (whole_view i))))
-
   pub sight_of_place : (ms : List Member) (q : ℕ) → Contains (places_in ms) q → HasPath t q → (s : NumberedSight) × Contains (sights_of_members t (numbered_members ms)) s × (s.place ≡ q)
   sight_of_place ms q c path =
       let seen = place_seen ms q c in
-      let from = flat_cases (λ (m : NumberedMember). views_of_part m.part) (numbered_members ms) seen.0 seen.1 in (
-        seen.0,
-        contains-flat (λ (m : NumberedMember). sights_of_part t m.part) (numbered_members ms) from.0 seen.0 from.1 (seen_in_part from.0.part seen.0 from.2 (path.0, ap (path_at t) seen.2 ∙ path.1)),
-        seen.2,
-      )
+      (seen.0, sight_there t (numbered_members ms) seen.0 seen.1 (path.0, ap (path_at t) seen.2 ∙ path.1), seen.2)
 
 module _ (t : Tables) (h : Homes) (known : ℕ → Fact) (n : ℕ) (ms : List Member) (members : List reads.Member) (given : IsPackageInput t h known n ms members) where
   abbrev sights : List NumberedSight
@@ -66,50 +50,25 @@ module _ (t : Tables) (h : Homes) (known : ℕ → Fact) (n : ℕ) (ms : List Me
   -- ---- members
 
   pub one_package : (m : Member) → Contains ms m → m.package_number ≡ n
-  one_package m c =
-      let all = first_true (list_all (λ (x : NumberedMember). n == x.package_) (numbered_members ms))
-      (list_all (stands_at_top h n (numbered_members ms)) sights && (agree_in_numbers sights && are_interfaces t known sights)) given.obeys in
-      sym (eqb-true n m.package_number (all-contained (λ (x : NumberedMember). n == x.package_) (numbered_members ms) (numbered_member m) all (contains-map numbered_member ms m c)))
+  one_package m c = sym (eqb-true n m.package_number (all-contained (λ (x : NumberedMember). n == x.package_) (numbered_members ms) (numbered_member m)
+      (tests_hold t h known n ms members given).0 (contains-map numbered_member ms m c)))
 
   -- the package has an identity
   pub main_identity : (m : Member) → Contains ms m → (identity : PackageIdentity) × (slice_get h.packages n ≡ Some identity)
   main_identity m c =
-      let there = beside (IsMember t h) numbered_member ms members given.input.shown m c in
+      let there = member_there t h ms members given.input m c in
       (there.0.package_, ap (slice_get h.packages) (sym (one_package m c)) ∙ there.2.package_)
 
   -- an interface is under its path, whose home is the package under the label
   pub interface_home : (m : Member) → Contains ms m → (q : ℕ) (v : View) (imports : Bor (List ImportedView)) → m.part ≡ parts.Interface q v imports → HasPath t q
       × (home_at h q ≡ Some (n, m.label.now))
   interface_home m c q v imports is =
-      let there = beside (IsMember t h) numbered_member ms members given.input.shown m c in
+      let there = member_there t h ms members given.input m c in
       by there.0.part (subst (λ a. ShowsPart t h (numbered_member m) (numbered_part a) there.0.part) is there.2.part)
     where
       by : (b : reads.Part) → ShowsPart t h (numbered_member m) (numbered_part (parts.Interface q v imports)) b → HasPath t q × (home_at h q ≡ Some (n, m.label.now))
       by (reads.Part.world scope) shows = absurd shows
       by (reads.Part.interface view views) shows = (shows.path, shows.home ∙ ap (λ k. Some (k, m.label.now)) (one_package m c))
-
-  -- what a world shows, as it was followed
-  pub record IsFollowed (w : Scope) : Type 0 where
-    pub scope : MeantScope
-    pub shows : Shows t (numbered_scope w) scope
-    pub stands : WorldStands scope
-    pub numbers : IsScopeIn t (numbered_scope w)
-
-  pub world_followed : (m : Member) → Contains ms m → (w : Scope) → m.part ≡ parts.World w → IsFollowed w
-  world_followed m c w is =
-      let there = beside (IsMember t h) numbered_member ms members given.input.shown m c in
-      let stand : PartStands there.0.part = all_at (λ (x : reads.Member). PartStands x.part) members given.input.stand.parts there.0 there.1 in
-      by there.0.part (subst (λ a. ShowsPart t h (numbered_member m) (numbered_part a) there.0.part) is there.2.part) stand
-    where
-      by : (b : reads.Part) → ShowsPart t h (numbered_member m) (numbered_part (parts.World w)) b → PartStands b → IsFollowed w
-      by (reads.Part.interface view views) shows stands = absurd shows
-      by (reads.Part.world scope) shows stands = record {
-        scope = scope;
-        shows = shows;
-        stands = stands;
-        numbers = subst (λ a. IsPartIn t (numbered_part a)) is (all_at (λ (x : NumberedMember). IsPartIn t x.part) (numbered_members ms) given.input.numbers (numbered_member m)
-            (contains-map numbered_member ms m c));
-      }
 
   -- ---- the package's own
 
@@ -124,10 +83,7 @@ module _ (t : Tables) (h : Homes) (known : ℕ → Fact) (n : ℕ) (ms : List Me
   pub at_top : (q : ℕ) (name : Text) → Contains (places_in ms) q → HasPath t q → home_at h q ≡ Some (n, name) → IsAtTop q
   at_top q name c path home =
       let seen = sight_of_place t ms q c path in
-      let rest = second_true (list_all (λ (x : NumberedMember). n == x.package_) (numbered_members ms))
-      (list_all (stands_at_top h n (numbered_members ms)) sights && (agree_in_numbers sights && are_interfaces t known sights)) given.obeys in
-      let all = first_true (list_all (stands_at_top h n (numbered_members ms)) sights) (agree_in_numbers sights && are_interfaces t known sights) rest in
-      let stands : stands_at_top h n (numbered_members ms) seen.0 ≡ true = all-contained (stands_at_top h n (numbered_members ms)) sights seen.0 all seen.1 in
+      let stands : stands_at_top h n (numbered_members ms) seen.0 ≡ true = all-contained (stands_at_top h n (numbered_members ms)) sights seen.0 (tests_hold t h known n ms members given).1 seen.1 in
       let own : is_of_package h n q ≡ true = ap (λ o. option_map_or (λ (x : ℕ × Text). x.0 == n) o false) home ∙ eq-eqb n n refl in
       let any : list_any (λ (m : NumberedMember). is_interface_of q m.part) (numbered_members ms) ≡ true =
       ap (λ b. not b || list_any (λ (m : NumberedMember). is_interface_of q m.part) (numbered_members ms)) (sym own)
@@ -173,8 +129,5 @@ module _ (t : Tables) (h : Homes) (known : ℕ → Fact) (n : ℕ) (ms : List Me
       by : Contains [] q ⊎ Contains (flat_map (λ (x : NumberedMember). orders.places_of_part x.part) (numbered_members ms)) q → IsOwnInstance q
       by (inl no_place) = none-in q no_place
       by (inr among) =
-          let from = flat_cases (λ (x : NumberedMember). orders.places_of_part x.part) (numbered_members ms) q among in
-          let member = from_map numbered_member ms from.0 from.1 in
-          let good : IsPartIn t from.0.part = all_at (λ (x : NumberedMember). IsPartIn t x.part) (numbered_members ms) given.input.numbers from.0 from.1 in
-          of_part member.0 member.1 member.0.part refl
-          (subst (λ (x : NumberedMember). IsPartIn t x.part) (sym member.2) good) (subst (λ (x : NumberedMember). Contains (orders.places_of_part x.part) q) (sym member.2) from.2)
+          let m = mapped_cases (λ (x : NumberedMember). orders.places_of_part x.part) numbered_member ms q among in
+          of_part m.0 m.1 m.0.part refl (part_at t ms given.input.numbers m.0 m.1) m.2

@@ -11,7 +11,7 @@ use Rattle.read_homes.specs.Homes.{HasPlace}
 use Rattle.plan_meaning.specs.GatheredPlan.{FunctionListed, functions_seen}
 use Rattle.plan_meaning.specs.NumberedMembers.{Homes, home_at, sights_of_members}
 use Rattle.plan_meaning.specs.NumberedRules.{Fact}
-use Rattle.plan_meaning.specs.NumberedViews.{NumberedSight, Tables, path_at}
+use Rattle.plan_meaning.specs.NumberedViews.{NumberedSight, Tables}
 use Rattle.plan_meaning.specs.NumberedWorlds.{HasPath}
 use Rattle.plan_meaning.specs.Plan.{Plan, PlannedInterface, PlannedPackage, PlannedWorld, interface_in, package_in, world_in}
 use Rattle.plan_meaning.specs.PlanRules.{is_foreign}
@@ -38,7 +38,7 @@ use Rattle.plan_laws.proofs.Apart.{whole_stands_apart}
 use Rattle.plan_laws.proofs.ListedFunctions.{functions_listed, seen_same}
 use Rattle.plan_laws.proofs.Owned.{planned_types_are_owned}
 use Rattle.plan_laws.proofs.PlaceNumbers.{one_owner, owner_numbered, place_number}
-use Rattle.plan_laws.proofs.Planned.{first_there}
+use Rattle.plan_laws.proofs.Planned.{first_there, path_given}
 use Rattle.plan_laws.proofs.PlannedFunctions.{planned_functions_are_read}
 use Rattle.plan_laws.proofs.ShownAlike.{whole_is_shown_alike}
 use Rattle.plan_laws.proofs.ShownWhole.{whole_is_shown}
@@ -51,14 +51,6 @@ use Rattle.plan_laws.proofs.WholeTypes.{packages_are_ruled}
 use Rattle.base_lemmas.proofs.Bools.{left_of as first_true}
 use Rattle.base_lemmas.proofs.Elements.{zip_at_right as zip_get}
 use Rattle.base_lemmas.proofs.Lists.{within_there as slice_there}
-
--- a place that has a home has a path
-home_path : (t : Tables) (h : Homes) → ((q : ℕ) → path_at t q ≡ None → home_at h q ≡ None) → (q : ℕ) → is_some (home_at h q) ≡ true → HasPath t q
-home_path t h alone q home = by (path_at t q) refl
-  where
-    by : (o : Option Text) → path_at t q ≡ o → HasPath t q
-    by (Some path) e = (path, e)
-    by None e = no_true (ap is_some (sym (alone q e)) ∙ home)
 
 module _ (t : Tables) (h : Homes) (known : ℕ → Fact) (n : ℕ) (ms : List Member) (members : List reads.Member) (given : IsPackageInput t h known n ms members) (input : IsWholeInput t h n ms) where
   have_places : HavePlaces t h n ms
@@ -102,11 +94,11 @@ module _ (t : Tables) (h : Homes) (known : ℕ → Fact) (n : ℕ) (ms : List Me
     foreign_path k q i there at plans foreign =
         let first = first_there t h ms members given.input n p planned k q at in
         let named : is_some i.name ≡ true = first_true (is_some i.name) (not (is_id p.main i.package_)) foreign in
-        home_path t h given.alone q (some_home (home_at h q) (ap is_some (sym (plans first.0 first.1).name) ∙ named))
+        by (home_at h q) refl (ap is_some (sym (plans first.0 first.1).name) ∙ named)
       where
-        some_home : (o : Option (ℕ × Text)) → is_some (option_map (λ (x : ℕ × Text). x.1) o) ≡ true → is_some o ≡ true
-        some_home None e = no_true e
-        some_home (Some x) e = refl
+        by : (o : Option (ℕ × Text)) → home_at h q ≡ o → is_some (option_map (λ (x : ℕ × Text). x.1) o) ≡ true → HasPath t q
+        by None home e = no_true e
+        by (Some x) home e = path_given t h given.alone q x home
 
     foreign_functions : (k q : ℕ) (i : PlannedInterface) → interface_in p k ≡ Some i → b.owners q ≡ as_interface k → is_foreign p i ≡ true
         → AllZip (FunctionListed t planned.kept p) (functions_seen q sights) i.functions

@@ -1,5 +1,6 @@
 -- Unnamed types stand in a plan as parts of others or of functions, and packages for the places whose homes they are.
-use Rattle.std.proofs.Common.{◌≡◌, refl, sym, ap, subst, ◌∙◌, ℕ, zero, suc, ◌+◌, ◌⊎◌, inl, inr, arith, Bool, true, false, not, ◌==◌, cond, List, [], ◌∷◌, ◌++◌, length, map, Option, Some, None, slice_get}
+use Rattle.plan_type_laws.proofs.UsedParts.{has_form}
+use Rattle.std.proofs.Common.{◌≡◌, refl, sym, ap, subst, ◌∙◌, ℕ, zero, suc, ◌+◌, ◌⊎◌, inl, inr, arith, Bool, true, false, cond, List, [], ◌∷◌, ◌++◌, length, map, Option, Some, None, slice_get}
 use Rattle.std.specs.Prelude.{is_some, unwrap_or}
 use Rattle.std.specs.List.{Contains, flat_map}
 use Rattle.std.specs.Option.{option_map_or}
@@ -15,8 +16,7 @@ use Rattle.read_homes.specs.Homes.{HasPlace}
 use Rattle.plan_meaning.specs.GatheredPlan.{DeclaresKind, a_form, a_name, a_resource}
 use Rattle.plan_meaning.specs.NumberedMembers.{Homes, home_at}
 use Rattle.plan_meaning.specs.NumberedRules.{Fact, is_form, name_in, shape_at}
-use Rattle.plan_meaning.specs.NumberedViews.{Tables, path_at}
-use Rattle.plan_meaning.specs.NumberedWorlds.{HasPath}
+use Rattle.plan_meaning.specs.NumberedViews.{Tables}
 use Rattle.plan_meaning.specs.Plan.{Plan, PlannedPackage, PlannedType, package_in}
 use Rattle.plan_meaning.specs.ReadFunctions.{Beside, FunctionsAreRead}
 use Rattle.plan_meaning.specs.ReadWholes.{HasHomes, IsKeptForReasons, IsPartOfKept, of_type}
@@ -40,7 +40,7 @@ use Rattle.plan_laws.specs.WholeReasons.{AreShownAlike, HavePlaces}
 use Rattle.plan_laws.proofs.Inside.{flat_cases}
 use Rattle.plan_laws.proofs.Owned.{planned_name}
 use Rattle.plan_laws.proofs.PlaceNumbers.{number_given}
-use Rattle.plan_laws.proofs.Planned.{interface_there}
+use Rattle.plan_laws.proofs.Planned.{interface_there, path_given}
 use Rattle.plan_laws.proofs.Showings.{IsNamed, showings_named}
 use Rattle.plan_laws.proofs.WholeReasonsFunctions.{by_function}
 use Rattle.base_lemmas.proofs.Elements.{last_of as one-contained, zip_at, zip_at_right as zip_get}
@@ -52,14 +52,6 @@ pub there_marked : (marks : List Bool) (n : ℕ) → is_marked marks n ≡ true 
 there_marked [] n e = no_true e
 there_marked (b ∷ marks) zero e = ap Some e
 there_marked (b ∷ marks) (suc n) e = there_marked marks n e
-
--- what has no name is a form
-is_form_at : (t : Tables) (k n : ℕ) (s : Shape) → k ≡ 14 + n → slice_get t.shapes n ≡ Some s → name_in s ≡ None → is_form t k ≡ true
-is_form_at t k n s is at none = ap (λ o. option_map_or (λ (x : Shape). not (x.sort == 0)) o false) (shape_there t k n s is at) ∙ by (s.sort == 0) refl
-  where
-    by : (b : Bool) → (s.sort == 0) ≡ b → not b ≡ true
-    by false e = refl
-    by true e = no_true (ap is_some (sym none ∙ ap (λ (b : Bool). cond b (Some (s.number, shapes.first_label s.labels)) None) e))
 
 module _ (t : Tables) (h : Homes) (known : ℕ → Fact) (n : ℕ) (ms : List Member) (members : List reads.Member) (given : IsPackageInput t h known n ms members) (alike : AreShownAlike ms) (p : Plan)
     (planned : PlansWhole t h.packages (home_at h) n ms p) (b : Beside) (read : FunctionsAreRead t planned.kept p b) where
@@ -150,7 +142,7 @@ module _ (t : Tables) (h : Homes) (known : ℕ → Fact) (n : ℕ) (ms : List Me
           front = Contains-append_left
 
       declared_as : (o : ℕ) → y.declared ≡ Some o → (f : Bool) → is_form t o ≡ f → Contains (cond f (form_parts t o) (o ∷ [])) (14 + k) → Kept (14 + k)
-      declared_as o d false e there = no_true (sym e ∙ (ap (is_form t) (one-contained o (14 + k) there) ∙ is_form_at t (14 + k) k s refl at none))
+      declared_as o d false e there = no_true (sym e ∙ (ap (is_form t) (one-contained o (14 + k) there) ∙ has_form t given.input.tables k s at none (14 + k) refl))
       declared_as o d true e there =
           let type_ = used_type is.number root in
           let name = planned_name t h ms members given.input n p planned type_.number is.number type_.type_ is.place is.name type_.there type_.stands is.is.named in
@@ -207,7 +199,7 @@ module _ (t : Tables) (h : Homes) (known : ℕ → Fact) (n : ℕ) (ms : List Me
     with_place : (c : ℕ) → HasPlace h.homes c → HasHomes t h kept p b c
     with_place c is =
         let home : home_at h is.place ≡ Some (c, is.name) = ap (λ o. unwrap_or o None) is.home in
-        let path = path_given is.place (c, is.name) home in
+        let path = path_given t h given.alone is.place (c, is.name) home in
         let number = number_given (places_in ms) is.place (have.met is.place path) in
         let there = interface_there t h ms members given.input n p planned number.0 is.place (number_there (places_in ms) is.place number.0 number.1) in
         record {
@@ -221,13 +213,6 @@ module _ (t : Tables) (h : Homes) (known : ℕ → Fact) (n : ℕ) (ms : List Me
           interface = there.0;
           there = there.1;
         }
-      where
-        path_given : (q : ℕ) (x : ℕ × Text) → home_at h q ≡ Some x → HasPath t q
-        path_given q x home = by (path_at t q) refl
-          where
-            by : (o : Option Text) → path_at t q ≡ o → HasPath t q
-            by (Some path) e = (path, e)
-            by None e = no_true (ap is_some (sym (given.alone q e) ∙ home))
 
     packages_kept : (c : ℕ) (k : PlannedPackage) → package_in p c ≡ Some k → (c ≡ p.main) ⊎ HasHomes t h kept p b c
     packages_kept c k there = by (have.packages c (let low = slice_get_within p.packages c k there in let as_many = planned.packages.many in omega (arith, low, as_many)))

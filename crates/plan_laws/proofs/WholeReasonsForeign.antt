@@ -1,13 +1,11 @@
 -- Each interface of another package is shown by a world, or imported by the component type of an interface.
-use Rattle.std.proofs.Common.{◌≡◌, refl, sym, ap, subst, ◌∙◌, ℕ, ◌⊎◌, inl, inr, true, false, ◌==◌, List, [], ◌∷◌, ◌++◌, map, Option, Some, None, slice_get}
+use Rattle.std.proofs.Common.{◌≡◌, refl, sym, ap, subst, ◌∙◌, ℕ, ◌⊎◌, inl, inr, true, false, ◌==◌, List, [], ◌∷◌, map, Option, Some, None}
 use Rattle.std.specs.Borrow.{Bor}
 use Rattle.std.specs.List.{Contains}
 use Rattle.std.specs.Option.{option_map_or}
 use Rattle.std.proofs.lemmas.Bool.{eq-eqb}
-use Rattle.std.proofs.lemmas.List.Elements.{Contains-append_cases, Contains-append_left, Contains-append_right}
 use Rattle.wit_model.specs.Text.{Text}
 use Rattle.wit_model.specs.declared.model.TypeOwner.{TypeOwner}
-use Rattle.wit_model.specs.Parts.{same_owner}
 use Rattle.wit_model.specs.Valid.{as_interface}
 use Rattle.wit_model.proofs.Elements.{contains-flat, none-in}
 use Rattle.comp_meaning.specs.Reads as reads
@@ -33,17 +31,16 @@ use Rattle.read_rules.specs.declared.views.View.{View}
 use Rattle.plan_package.specs.PlanWhole.{PlansWhole, places_in}
 use Rattle.plan_package.specs.Views.{types_alone, views_of_members, views_of_part, whole_view}
 use Rattle.plan_package.specs.WholeInterfaces.{PlansPlace}
-use Rattle.plan_laws.specs.Owners.{homes_in, owners_of}
+use Rattle.plan_laws.specs.Owners.{owners_of}
 use Rattle.plan_laws.specs.Whole.{IsPackageInput}
 use Rattle.plan_laws.specs.WholeReasonsForeign.{HasForeignReasons, IsShownWhole, PartIsReached}
+use Rattle.plan_laws.proofs.Sources.{all_of, at_mapped, import_there, interface_views, mapped_cases, own_sight, own_there}
 use Rattle.plan_laws.proofs.Inside.{flat_cases}
-use Rattle.plan_laws.proofs.PlaceNumbers.{number_given, owner_numbered, owners_apart, place_number}
+use Rattle.plan_laws.proofs.PlaceNumbers.{number_given, owner_numbered, place_number, one_owner}
 use Rattle.plan_laws.proofs.Planned.{interface_there, view_met}
-use Rattle.plan_laws.proofs.Showings.{all_given}
 use Rattle.plan_laws.proofs.WholePlacesTop.{interface_home, sight_of_place}
-use Rattle.base_lemmas.proofs.Elements.{all_at, contains-map, contains-one, get-contains, last_of as one-contained, map_from as from_map, zip_at_right as zip_get}
+use Rattle.base_lemmas.proofs.Elements.{contains-map, get-contains, last_of as one-contained, map_from as from_map, zip_at_right as zip_get}
 use Rattle.plan_package.proofs.ReadPackageLaws.{number_at as number_there}
-use Rattle.wit_model.proofs.PartsLemmas.{owner_itself}
 
 module _ (t : Tables) (h : Homes) (known : ℕ → Fact) (n : ℕ) (ms : List Member) (members : List reads.Member) (given : IsPackageInput t h known n ms members) (p : Plan)
     (planned : PlansWhole t h.packages (home_at h) n ms p) (b : Beside) (owned : b.owners ≡ owners_of ms) (views : ℕ → NumberedView) (read : IsReadPlan t h planned.kept p b views)
@@ -75,26 +72,20 @@ module _ (t : Tables) (h : Homes) (known : ℕ → Fact) (n : ℕ) (ms : List Me
       by (Some path) e one = a_world (subst Shown (ap (λ (x : NumberedSight). x.place) (one-contained (whole_view i) s one)) (is_shown.worlds m c w is i among (path, e)))
 
   from_sight : (s : NumberedSight) → Contains sights s → IsFrom s
-  from_sight s c =
-      let from = flat_cases (λ (x : NumberedMember). sights_of_part t x.part) (numbered_members ms) s c in
-      let m = from_map numbered_member ms from.0 from.1 in
-      by m.0 m.1 m.0.part refl (subst (λ (x : NumberedMember). Contains (sights_of_part t x.part) s) (sym m.2) from.2)
+  from_sight s c = let m = mapped_cases (λ (x : NumberedMember). sights_of_part t x.part) numbered_member ms s c in by m.0 m.1 m.0.part refl m.2
     where
       by : (m : Member) → Contains ms m → (a : Part) → m.part ≡ a → Contains (sights_of_part t (numbered_part a)) s → IsFrom s
       by m among (parts.World w) is there =
           let i = flat_cases (sights_of_instance t) (numbered_scope w).instances s there in
           from_instance m among w is i.0 i.1 s i.2
-      by m among (parts.Interface q v imports) is there = side (record { place = q; view = numbered_view v; whole = true }) refl
-          (Contains-append_cases (map types_alone (map numbered_import imports.now)) (record { place = q; view = numbered_view v; whole = true } ∷ []) s there)
+      by m among (parts.Interface q v imports) is there = side (interface_views q v imports s there)
         where
-          side : (own : NumberedSight) → own.place ≡ q → Contains (map types_alone (map numbered_import imports.now)) s ⊎ Contains (own ∷ []) s → IsFrom s
-          side own place (inl import_) =
-              let i = from_map types_alone (map numbered_import imports.now) s import_ in
+          side : ((i : ImportedView) × Contains imports.now i × (types_alone (numbered_import i) ≡ s)) ⊎ (own_sight q v imports ≡ s) → IsFrom s
+          side (inl i) =
               an_import m among q v imports is (ap (λ (x : NumberedSight). x.whole) (sym i.2))
               (subst (Contains (map (λ (x : ℕ × NumberedView). x.0) (map numbered_import imports.now))) (ap (λ (x : NumberedSight). x.place) i.2)
-              (contains-map (λ (x : ℕ × NumberedView). x.0) (map numbered_import imports.now) i.0 i.1))
-          side own place (inr last) = the_own (ap (λ (x : NumberedSight). is_of_package h n x.place) (sym (one-contained own s last))
-              ∙ (ap (λ (x : ℕ). is_of_package h n x) place ∙ own_package m among q v imports is))
+              (contains-map (λ (x : ℕ × NumberedView). x.0) (map numbered_import imports.now) (numbered_import i.0) (contains-map numbered_import imports.now i.0 i.1)))
+          side (inr own) = the_own (ap (λ (x : NumberedSight). is_of_package h n x.place) (sym own) ∙ own_package m among q v imports is)
 
   whole : (s : NumberedSight) → Contains sights s → s.whole ≡ true → Shown s.place ⊎ (is_of_package h p.main s.place ≡ true)
   whole s c functions = by (from_sight s c)
@@ -110,9 +101,7 @@ module _ (t : Tables) (h : Homes) (known : ℕ → Fact) (n : ℕ) (ms : List Me
   place_met : (q k : ℕ) (i : PlannedInterface) → b.owners q ≡ as_interface k → interface_in p k ≡ Some i → Contains (places_in ms) q
   place_met q k i is there =
       let from = zip_get (PlansPlace t planned.kept n (home_at h) (views_of_members (numbered_members ms))) (places_in ms) p.interfaces planned.interfaces k i there in
-      let own : owners_of ms q ≡ as_interface k = ap (λ (f : ℕ → TypeOwner). f q) (sym owned) ∙ is in
-      let other : owners_of ms from.0 ≡ as_interface k = owner_numbered ms from.0 k (place_number ms k from.0 from.1) in
-      let same : q ≡ from.0 = owners_apart (places_in ms) (homes_in ms) q from.0 (ap (same_owner (owners_of ms q)) (other ∙ sym own) ∙ owner_itself (owners_of ms q)) in
+      let same : q ≡ from.0 = one_owner ms b owned q from.0 (as_interface k) is (ap (λ (f : ℕ → TypeOwner). f from.0) owned ∙ owner_numbered ms from.0 k (place_number ms k from.0 from.1)) in
       subst (Contains (places_in ms)) (sym same) (get-contains (places_in ms) k from.0 from.1)
 
   -- a view that the component type of an interface shows
@@ -133,24 +122,16 @@ module _ (t : Tables) (h : Homes) (known : ℕ → Fact) (n : ℕ) (ms : List Me
   by_import : (m : Member) → Contains ms m → (q : ℕ) (v : View) (imports : Bor (List ImportedView)) → m.part ≡ parts.Interface q v imports → (r : ℕ)
       → Contains (map (λ (i : ℕ × NumberedView). i.0) (map numbered_import imports.now)) r → IsSeenFor t h planned.kept p b views read r
   by_import m c q v imports is r there =
-      let reached = subst (λ a. PartIsReached t (numbered_part a)) is (all_at (λ (x : NumberedMember). PartIsReached t x.part) (numbered_members ms) is_shown.reached (numbered_member m)
-      (contains-map numbered_member ms m c)) in
+      let reached = subst (λ a. PartIsReached t (numbered_part a)) is (at_mapped (λ (x : NumberedMember). PartIsReached t x.part) numbered_member ms is_shown.reached m c) in
       in_member (q, numbered_view v) (map numbered_import imports.now) reached.0 reached.1
-      (own_view, all_given (IsViewOf t h planned.kept p b views read) (map numbered_import imports.now) import_) there
+      (view (own_sight q v imports) (own_there q v imports), all_of (IsViewOf t h planned.kept p b views read) (map numbered_import imports.now) import_) there
     where
-      view : (s : NumberedSight) → Contains (map types_alone (map numbered_import imports.now) ++ record { place = q; view = numbered_view v; whole = true } ∷ []) s
-          → IsViewOf t h planned.kept p b views read (s.place, s.view)
+      view : (s : NumberedSight) → Contains (views_of_part (numbered_part (parts.Interface q v imports))) s → IsViewOf t h planned.kept p b views read (s.place, s.view)
       view s among = view_in m c s (subst (λ a. Contains (views_of_part (numbered_part a)) s) (sym is) among) (subst (λ a. Contains (sights_of_part t (numbered_part a)) s) (sym is) among)
 
-      own_view : IsViewOf t h planned.kept p b views read (q, numbered_view v)
-      own_view =
-          let own : NumberedSight = record { place = q; view = numbered_view v; whole = true } in
-          view own (Contains-append_right (map types_alone (map numbered_import imports.now)) (own ∷ []) own (contains-one own))
-
-      import_ : (j : ℕ) (x : ℕ × NumberedView) → slice_get (map numbered_import imports.now) j ≡ Some x → IsViewOf t h planned.kept p b views read x
-      import_ j x at =
-          let among = contains-map types_alone (map numbered_import imports.now) x (get-contains (map numbered_import imports.now) j x at) in
-          view (types_alone x) (Contains-append_left (map types_alone (map numbered_import imports.now)) (record { place = q; view = numbered_view v; whole = true } ∷ []) (types_alone x) among)
+      import_ : (x : ℕ × NumberedView) → Contains (map numbered_import imports.now) x → IsViewOf t h planned.kept p b views read x
+      import_ x among = let i = from_map numbered_import imports.now x among in
+          subst (IsViewOf t h planned.kept p b views read) i.2 (view (types_alone (numbered_import i.0)) (import_there q v imports i.0 i.1))
 
   reasons : (q k : ℕ) (i : PlannedInterface) → HasPath t q → b.owners q ≡ as_interface k → interface_in p k ≡ Some i → is_of_package h p.main q ≡ false → IsSeenFor t h planned.kept p b views read q
   reasons q k i path is there foreign =

@@ -1,19 +1,17 @@
 -- A part of a function that is shown is one of a function of the plan.
-use Rattle.std.proofs.Common.{◌≡◌, refl, sym, ap, subst, ◌∙◌, ℕ, zero, suc, ◌⊎◌, inl, inr, arith, Bool, true, false, ◌==◌, ◌&&◌, cond, List, [], ◌∷◌, ◌++◌, map, option_to_list, Option, Some, None}
-use Rattle.std.specs.List.{AllZip, Contains, flat_map}
+use Rattle.std.proofs.Common.{◌≡◌, refl, sym, ap, subst, ◌∙◌, ℕ, zero, suc, ◌⊎◌, inl, inr, arith, Bool, true, false, ◌==◌, ◌&&◌, cond, List, [], ◌∷◌, map, option_to_list, Option, Some, None}
+use Rattle.std.specs.List.{AllZip, Contains}
 use Rattle.std.proofs.lemmas.Bool.{eqb-true}
 use Rattle.std.proofs.lemmas.List.Elements.{Contains-append_cases, Contains-append_left, Contains-append_right}
 use Rattle.wit_model.specs.declared.model.TypeId.{TypeId}
 use Rattle.wit_model.specs.Text.{Text}
 use Rattle.wit_model.specs.Valid.{as_interface, as_world}
-use Rattle.wit_model.proofs.Elements.{contains-filter_map, contains-flat, contains-get, none-in}
+use Rattle.wit_model.proofs.Elements.{contains-filter_map, contains-get, none-in}
 use Rattle.comp_meaning.specs.Reads as reads
-use Rattle.plan_meaning.specs.FollowedNumbers.{IsOneOf, IsPartIn, IsScopeIn}
 use Rattle.plan_meaning.specs.GatheredPlan.{BecomesIfGiven, FunctionBecomes, ParamBecomes, functions_seen}
 use Rattle.plan_meaning.specs.NumberedMembers.{Homes, NumberedMember, home_at}
 use Rattle.plan_meaning.specs.NumberedRules.{Fact}
 use Rattle.plan_meaning.specs.NumberedViews.{FunctionShape, NumberedFunction, NumberedSight, Tables, function_at}
-use Rattle.plan_meaning.specs.NumberedWorlds.{NumberedSeen, place_of_key}
 use Rattle.plan_meaning.specs.Plan.{Plan, PlannedFunction, PlannedInterface, PlannedItem, PlannedKey, PlannedWorld, interface_in, item_function, items_of, world_in}
 use Rattle.plan_meaning.specs.PlanRules.{functions_of, world_functions}
 use Rattle.plan_meaning.specs.ReadFunctions.{Beside, FunctionsAreRead, IsReadFunction}
@@ -21,27 +19,24 @@ use Rattle.plan_meaning.specs.ReadWholes.{IsPartOfFunction, IsPartOfKept, a_para
 use Rattle.plan_parts.specs.Functions.{KeptIfGiven, KeptParam, TakesAndGives}
 use Rattle.plan_parts.specs.Interfaces.{IsPlannedFunction}
 use Rattle.plan_type_laws.proofs.KeptKinds.{one_old}
-use Rattle.read_exports.specs.Members.{numbered_member, numbered_members, numbered_part}
+use Rattle.read_exports.specs.Members.{numbered_members}
 use Rattle.read_exports.specs.declared.members.Member.{Member}
-use Rattle.read_exports.specs.declared.members.Part.{Part}
 use Rattle.read_exports.specs.declared.members.Part.TheVariants as parts
-use Rattle.read_rules.specs.Reached.{numbered_import}
-use Rattle.read_rules.specs.Scopes.{numbered_key, numbered_scope, numbered_seen, numbered_shown}
-use Rattle.read_rules.specs.declared.reached.ImportedView.{ImportedView}
-use Rattle.read_rules.specs.Views.{numbered_view}
 use Rattle.read_rules.specs.declared.scopes.Scope.{Scope}
 use Rattle.read_rules.specs.declared.scopes.Seen.{Seen}
 use Rattle.read_rules.specs.declared.scopes.Shown.{Shown}
 use Rattle.read_rules.specs.declared.scopes.Shown.TheVariants as shown
-use Rattle.plan_types.specs.Showings.{signatures_of_members, signatures_of_part, signatures_of_seen, signatures_of_shown}
+use Rattle.plan_types.specs.Showings.{signatures_of_members}
 use Rattle.plan_types.specs.Used.{function_parts, signature_parts}
 use Rattle.plan_package.specs.PlanWhole.{PlansWhole, places_in}
-use Rattle.plan_package.specs.Views.{types_alone, views_of_members, views_of_part, whole_view}
+use Rattle.plan_package.specs.Views.{views_of_members, views_of_part}
 use Rattle.plan_package.specs.WholeInterfaces.{PlansInterface}
 use Rattle.plan_package.specs.WholeWorlds.{PlansItem, PlansWorld, a_function, a_type, an_instance, worlds_in}
 use Rattle.plan_laws.specs.Whole.{IsPackageInput}
 use Rattle.plan_laws.specs.WholeReasons.{AreShownAlike}
 use Rattle.plan_laws.proofs.Inside.{flat_cases}
+use Rattle.plan_laws.proofs.Sources as sources
+use Rattle.plan_laws.proofs.Sources.{partner, signed, view_among}
 use Rattle.plan_laws.proofs.PlaceNumbers.{number_given}
 use Rattle.plan_laws.proofs.Planned.{first_there, interface_there, view_met}
 use Rattle.plan_laws.proofs.WholePlacesLabels.{world_among}
@@ -72,6 +67,9 @@ module _ (t : Tables) (kept : List ℕ) (p : Plan) where
           let same : z.0.1 ≡ old = one_old kept z.0.1 x.0.1 y.0.1 z.2.1.part y.2.1 ∙ x.2 in
           a_parameter z.0.0 (subst (λ (n : ℕ). Contains shape.params (z.0.0, n)) same (get-contains shape.params j.0 z.0 z.1))
       by (inr last) = given f.result g.result shape.result refl takes.result becomes.result last
+
+abbrev planned_item : PlannedKey × PlannedItem → PlannedItem
+planned_item e = e.1
 
 -- the functions of a place are those of a whole view of it
 pub record IsFirstWhole (q : ℕ) (seen : List NumberedSight) : Type 0 where
@@ -156,9 +154,8 @@ module _ (t : Tables) (h : Homes) (known : ℕ → Fact) (n : ℕ) (ms : List Me
         with_function m i at find zip first =
             let g = alike.functions s first.sight c first.among (sym first.place) whole first.whole f there in
             let among : Contains (functions_seen s.place views) g.0 = subst (λ fs. Contains fs g.0) (sym first.functions) g.1 in
-            let j = contains-get (functions_seen s.place views) g.0 among in
-            let e = zip_at (IsPlannedFunction t kept find) (functions_seen s.place views) i.functions zip j.0 g.0 j.1 in
-            of_planned find m i g.0 at e.0 (get-contains i.functions j.0 e.0 e.1) e.2 (subst (λ k. Contains (function_parts t k) old) (sym g.2) part)
+            let e = partner (IsPlannedFunction t kept find) (functions_seen s.place views) i.functions zip g.0 among in
+            of_planned find m i g.0 at e.0 e.1 e.2 (subst (λ k. Contains (function_parts t k) old) (sym g.2) part)
 
         with_view : (m : ℕ) (i : PlannedInterface) → interface_in p m ≡ Some i → (r : NumberedSight) → PlansInterface t kept n (home_at h s.place) r.view (functions_seen s.place views) i → Kept old
         with_view m i at r is = with_function m i at is.find is.functions (first_whole s.place views s c refl whole)
@@ -177,8 +174,7 @@ module _ (t : Tables) (h : Homes) (known : ℕ → Fact) (n : ℕ) (ms : List Me
           where
             number : Shown → ℕ
             number (shown.Function z) = z
-            number (shown.Instance key v) = k
-            number (shown.Declares d q) = k
+            number _ = k
 
         of_item : (j : ℕ) (x : PlannedWorld) → world_in p j ≡ Some x → (find : Text → Option TypeId) (e : PlannedKey × PlannedItem) → Contains (items_of x) e.1
             → PlansItem t kept (places_in ms) find s e → Kept old
@@ -195,65 +191,17 @@ module _ (t : Tables) (h : Homes) (known : ℕ → Fact) (n : ℕ) (ms : List Me
 
         in_world : (j : ℕ) (x : PlannedWorld) → world_in p j ≡ Some x → PlansWorld t kept (places_in ms) n (m.label.now, w) x → Contains w.imports.now s ⊎ Contains w.exports.now s → Kept old
         in_world j x at is (inl among) =
-            let i = contains-get w.imports.now s among in
-            let e = zip_at (PlansItem t kept (places_in ms) is.find) w.imports.now x.imports is.imports i.0 s i.1 in
-            of_item j x at is.find e.0
-            (Contains-append_left (map (λ (y : PlannedKey × PlannedItem). y.1) x.imports) (map (λ (y : PlannedKey × PlannedItem). y.1) x.exports) e.0.1
-            (contains-map (λ (y : PlannedKey × PlannedItem). y.1) x.imports e.0 (get-contains x.imports i.0 e.0 e.1))) e.2
+            let e = partner (PlansItem t kept (places_in ms) is.find) w.imports.now x.imports is.imports s among in
+            of_item j x at is.find e.0 (Contains-append_left (map planned_item x.imports) (map planned_item x.exports) e.0.1 (contains-map planned_item x.imports e.0 e.1)) e.2
         in_world j x at is (inr among) =
-            let i = contains-get w.exports.now s among in
-            let e = zip_at (PlansItem t kept (places_in ms) is.find) w.exports.now x.exports is.exports i.0 s i.1 in
-            of_item j x at is.find e.0
-            (Contains-append_right (map (λ (y : PlannedKey × PlannedItem). y.1) x.imports) (map (λ (y : PlannedKey × PlannedItem). y.1) x.exports) e.0.1
-            (contains-map (λ (y : PlannedKey × PlannedItem). y.1) x.exports e.0 (get-contains x.exports i.0 e.0 e.1))) e.2
+            let e = partner (PlansItem t kept (places_in ms) is.find) w.exports.now x.exports is.exports s among in
+            of_item j x at is.find e.0 (Contains-append_right (map planned_item x.imports) (map planned_item x.exports) e.0.1 (contains-map planned_item x.exports e.0 e.1)) e.2
 
     -- ---- all functions
 
-    by_seen : (m : Member) → Contains ms m → (w : Scope) → m.part ≡ parts.World w → IsScopeIn t (numbered_scope w) → (s : Seen) → Contains w.imports.now s ⊎ Contains w.exports.now s
-        → (k : ℕ) → Contains (signatures_of_seen s) k → Contains (function_parts t k) old → Kept old
-    by_seen m c w is good s side k calls part = by s.shown refl calls
-      where
-        one_of : Contains w.imports.now s ⊎ Contains w.exports.now s → IsOneOf t (numbered_scope w).instances (numbered_shown s.shown)
-        one_of (inl among) = all_at (λ (x : NumberedSeen). IsOneOf t (numbered_scope w).instances x.shown) (map numbered_seen w.imports.now) good.imported (numbered_seen s)
-            (contains-map numbered_seen w.imports.now s among)
-        one_of (inr among) = all_at (λ (x : NumberedSeen). IsOneOf t (numbered_scope w).instances x.shown) (map numbered_seen w.exports.now) good.exported (numbered_seen s)
-            (contains-map numbered_seen w.exports.now s among)
-
-        by : (x : Shown) → s.shown ≡ x → Contains (signatures_of_shown x) k → Kept old
-        by (shown.Declares d q) shows there = none-in k there
-        by (shown.Function f) shows there = by_world m c w is s side k (shows ∙ ap shown.Function (one-contained f k there)) part
-        by (shown.Instance key v) shows there =
-            let f = from_map (λ (x : Text × NumberedFunction). x.1.signature) (numbered_view v).functions k there in
-            let instance : Contains (numbered_scope w).instances (record { place = place_of_key (numbered_key key); view = numbered_view v }) =
-            subst (λ x. IsOneOf t (numbered_scope w).instances (numbered_shown x)) shows (one_of side) in
-            let sight = whole_view (record { place = place_of_key (numbered_key key); view = numbered_view v }) in
-            let viewed : Contains (views_of_part (numbered_part m.part)) sight =
-            subst (λ a. Contains (views_of_part (numbered_part a)) sight) (sym is)
-            (contains-map whole_view (numbered_scope w).instances (record { place = place_of_key (numbered_key key); view = numbered_view v }) instance) in
-            by_view sight (contains-flat (λ (x : NumberedMember). views_of_part x.part) numbered (numbered_member m) sight (contains-map numbered_member ms m c) viewed) refl f.0 f.1
-            (subst (λ z. Contains (function_parts t z) old) (sym f.2) part)
-
     pub by_function : (k : ℕ) → Contains (signatures_of_members ms) k → Contains (function_parts t k) old → Kept old
-    by_function k calls part =
-        let from = flat_cases (λ (m : Member). signatures_of_part m.part) ms k calls in
-        by from.0 from.1 from.0.part refl (all_at (λ (x : NumberedMember). IsPartIn t x.part) numbered given.input.numbers (numbered_member from.0)
-        (contains-map numbered_member ms from.0 from.1)) from.2
+    by_function k calls part = let from = signed t h ms members given.input k calls in by from.0 from.1 from.2
       where
-        by : (m : Member) → Contains ms m → (a : Part) → m.part ≡ a → IsPartIn t (numbered_part m.part) → Contains (signatures_of_part a) k → Kept old
-        by m c (parts.Interface q v imports) is good there =
-            let f = from_map (λ (x : Text × NumberedFunction). x.1.signature) (numbered_view v).functions k there in
-            let sight : NumberedSight = record { place = q; view = numbered_view v; whole = true } in
-            let viewed : Contains (views_of_part (numbered_part m.part)) sight =
-            subst (λ a. Contains (views_of_part (numbered_part a)) sight) (sym is) (last imports.now sight) in
-            by_view sight (contains-flat (λ (x : NumberedMember). views_of_part x.part) numbered (numbered_member m) sight (contains-map numbered_member ms m c) viewed) refl f.0 f.1
-            (subst (λ z. Contains (function_parts t z) old) (sym f.2) part)
-          where
-            last : (is : List ImportedView) (s : NumberedSight) → Contains (map types_alone (map numbered_import is) ++ s ∷ []) s
-            last is s = Contains-append_right (map types_alone (map numbered_import is)) (s ∷ []) s (contains-one s)
-        by m c (parts.World w) is good there =
-            let scope : IsScopeIn t (numbered_scope w) = subst (λ a. IsPartIn t (numbered_part a)) is good in
-            side scope (Contains-append_cases (flat_map signatures_of_seen w.imports.now) (flat_map signatures_of_seen w.exports.now) k there)
-          where
-            side : IsScopeIn t (numbered_scope w) → Contains (flat_map signatures_of_seen w.imports.now) k ⊎ Contains (flat_map signatures_of_seen w.exports.now) k → Kept old
-            side scope (inl among) = let s = flat_cases signatures_of_seen w.imports.now k among in by_seen m c w is scope s.0 (inl s.1) k s.2 part
-            side scope (inr among) = let s = flat_cases signatures_of_seen w.exports.now k among in by_seen m c w is scope s.0 (inr s.1) k s.2 part
+        by : (m : Member) → Contains ms m → sources.IsSignedIn m.part k → Kept old
+        by m c (sources.by_whole s there whole g among same) = by_view s (view_among ms m c s there) whole g among (subst (λ z. Contains (function_parts t z) old) (sym same) part)
+        by m c (sources.by_world w is s side shows) = by_world m c w is s side k shows part

@@ -1,5 +1,7 @@
 -- The types of a whole plan are those that were read.
-use Rattle.std.proofs.Common.{◌≡◌, refl, sym, ap, subst, ◌∙◌, ℕ, ◌+◌, ◌<◌, ◌⊎◌, inl, inr, arith, true, ◌&&◌, ◌==◌, List, length, Option, Some, None, option_map, slice_get}
+use Rattle.plan_laws.specs.Whole.{IsPackageInput}
+use Rattle.plan_meaning.specs.NumberedRules.{Fact}
+use Rattle.std.proofs.Common.{◌≡◌, refl, sym, ap, subst, ◌∙◌, ℕ, ◌+◌, ◌<◌, ◌⊎◌, inl, inr, arith, true, ◌&&◌, ◌==◌, List, length, Option, Some, None, option_map, slice_get, Bool}
 use Rattle.std.specs.Prelude.{option_and_then}
 use Rattle.std.specs.List.{Contains, list_all}
 use Rattle.std.specs.Option.{option_map_or}
@@ -16,7 +18,6 @@ use Rattle.plan_meaning.specs.FollowedNumbers.{IsMetFrom}
 use Rattle.plan_meaning.specs.NumberedMembers.{Homes, NumberedMember, are_interfaces, home_at, sights_of_members, stands_at_top}
 use Rattle.plan_meaning.specs.NumberedViews.{AllOf, IsPart, Tables, agree_in_numbers, declaration_of, path_at, place_at}
 use Rattle.plan_meaning.specs.Plan.{Plan, PlannedInterface, PlannedPackage, package_in, path_of_planned, place_in}
-use Rattle.plan_meaning.specs.Shapes.{Shape, first_label, named_shape}
 use Rattle.read_exports.specs.Members.{numbered_members}
 use Rattle.read_exports.specs.declared.members.Member.{Member}
 use Rattle.plan_types.specs.PlannedTypes.{number_in}
@@ -41,8 +42,9 @@ use Rattle.plan_laws.specs.WholeTypes.{IsRuledInput, PackagesAreRuled, PlannedTy
 use Rattle.plan_laws.proofs.PlaceNumbers.{number_given, owner_met}
 use Rattle.plan_laws.proofs.Planned.{first_there, home_alone, interface_there, shown_met}
 use Rattle.plan_laws.proofs.ShownNames.{names_are_shown}
+use Rattle.plan_laws.proofs.Inside.{name_same}
+use Rattle.plan_laws.proofs.Sources.{if_given}
 use Rattle.plan_laws.proofs.ShownRules.{all_of, rules_obeyed}
-use Rattle.base_lemmas.proofs.Bools.{left_of as first_true, right_of as second_true}
 use Rattle.base_lemmas.proofs.Elements.{all_at}
 use Rattle.base_lemmas.proofs.Lists.{within_there as slice_there}
 use Rattle.plan_package.proofs.ReadPackageLaws.{number_at as number_there}
@@ -55,13 +57,9 @@ module _ (t : Tables) where
     place = place_at t obeys.place;
     name = (obeys.place, obeys.name);
     is = name_there t y.part obeys.number obeys.place obeys.name obeys.part obeys.is.named;
-    range = ranges y.declared obeys.is.met;
+    range = if_given (IsMetFrom t obeys.place) (IsPart t) (λ k met. met.range) y.declared obeys.is.met;
     obeys = obeys.obeys;
   }
-    where
-      ranges : (d : Option ℕ) → AllOf (IsMetFrom t obeys.place) d → AllOf (IsPart t) d
-      ranges None met = tt
-      ranges (Some k) met = met.range
 
 module _ (t : Tables) (h : Homes) (ms : List Member) (members : List reads.Member) (ruled : IsRuledInput t h ms members) (main : ℕ) (p : Plan) (planned : PlansWhole t h.packages (home_at h) main ms p) where
   abbrev places : List ℕ
@@ -131,15 +129,13 @@ module _ (t : Tables) (h : Homes) (ms : List Member) (members : List reads.Membe
       let found = (firsts_found (showings_of_members ms)).0 n y first in
       let obeys = all_at (TypeObeys t) (showings_of_members ms) ruled.rules.types y found.0 in
       let one : obeys.number ≡ n = (let a = obeys.part in let b = found.1 in omega (arith, a, b)) in
-      let shape : named_shape obeys.place obeys.name ≡ named_shape q name =
-      same-some (named_shape obeys.place obeys.name) (named_shape q name) (sym obeys.is.named ∙ (ap (slice_get t.shapes) one ∙ at)) in
-      let place : obeys.place ≡ q = ap (λ (s : Shape). s.number) shape in
+      let name_is = name_same t.shapes obeys.place q obeys.name name obeys.number n obeys.is.named at one in
       let shown = names_are_shown t h ms members ruled.input planned.kept_for.marks planned.kept_for.used n q name mark at in
       let met = shown_met ms t shown.0 shown.1 q n shown.2 in
       record {
-        label = subst (λ (x : Text). is_label x ≡ true) (ap (λ (s : Shape). first_label s.labels) shape) obeys.label;
+        label = subst (λ (x : Text). is_label x ≡ true) name_is.1 obeys.label;
         behind = subst (λ k. AllOf (λ m. m < 14 + k) y.declared) one obeys.is.behind;
-        obeys = subst (λ r. rules.is_declared (place_at t r) (declaration_of t y.declared) ≡ true) place obeys.obeys;
+        obeys = subst (λ r. rules.is_declared (place_at t r) (declaration_of t y.declared) ≡ true) name_is.0 obeys.obeys;
         home = ap (place_in p) (owner_met places homes q met) ∙ places_stand q met;
       }
 
@@ -177,22 +173,25 @@ planned_types_are_whole t h ms members ruled main p planned = types_whole t h ms
 
 -- ---- packages
 
+-- the four tests of what was followed
+pub tests_hold : (t : Tables) (h : Homes) (known : ℕ → Fact) (n : ℕ) (ms : List Member) (members : List reads.Member) → IsPackageInput t h known n ms members
+    → (list_all (λ (m : NumberedMember). n == m.package_) (numbered_members ms) ≡ true) × (list_all (stands_at_top h n (numbered_members ms)) (sights_of_members t (numbered_members ms)) ≡ true)
+    × (agree_in_numbers (sights_of_members t (numbered_members ms)) ≡ true) × (are_interfaces t known (sights_of_members t (numbered_members ms)) ≡ true)
+tests_hold t h known n ms members is =
+    four (list_all (λ (m : NumberedMember). n == m.package_) (numbered_members ms)) (list_all (stands_at_top h n (numbered_members ms)) (sights_of_members t (numbered_members ms)))
+    (agree_in_numbers (sights_of_members t (numbered_members ms))) (are_interfaces t known (sights_of_members t (numbered_members ms))) is.obeys
+  where
+    four : (a b c d : Bool) → (a && (b && (c && d))) ≡ true → (a ≡ true) × (b ≡ true) × (c ≡ true) × (d ≡ true)
+    four true true true true h = (refl, refl, refl, refl)
+    four _ _ _ _ h = absurd cc
+
 pub packages_are_ruled : PackagesAreRuled
-packages_are_ruled t h known n ms members is = record {
+packages_are_ruled t h known n ms members is = let tests = tests_hold t h known n ms members is in record {
   input = is.input;
   alone = is.alone;
   kinds = is.kinds;
   placed = is.placed;
   lengths = is.lengths;
-  rules = rules_obeyed t is.input.tables h ms members is.input known is.sights
-      (second_true (agree_in_numbers (sights_of_members t (numbered_members ms))) (are_interfaces t known (sights_of_members t (numbered_members ms))) both_hold);
-  agree = first_true (agree_in_numbers (sights_of_members t (numbered_members ms))) (are_interfaces t known (sights_of_members t (numbered_members ms))) both_hold;
+  rules = rules_obeyed t is.input.tables h ms members is.input known is.sights tests.3;
+  agree = tests.2;
 }
-  where
-    both_hold : (agree_in_numbers (sights_of_members t (numbered_members ms)) && are_interfaces t known (sights_of_members t (numbered_members ms))) ≡ true
-    both_hold =
-        second_true (list_all (stands_at_top h n (numbered_members ms)) (sights_of_members t (numbered_members ms)))
-        (agree_in_numbers (sights_of_members t (numbered_members ms)) && are_interfaces t known (sights_of_members t (numbered_members ms)))
-        (second_true (list_all (λ (m : NumberedMember). n == m.package_) (numbered_members ms))
-        (list_all (stands_at_top h n (numbered_members ms)) (sights_of_members t (numbered_members ms))
-        && (agree_in_numbers (sights_of_members t (numbered_members ms)) && are_interfaces t known (sights_of_members t (numbered_members ms)))) is.obeys)

@@ -1,6 +1,8 @@
 -- The worlds of a whole plan are those that were read.
-use Rattle.std.proofs.Common.{◌≡◌, refl, sym, ap, subst, ◌∙◌, ℕ, ◌+◌, ◌<◌, ◌⊎◌, inl, inr, arith, Bool, true, false, not, ◌&&◌, List, [], ◌++◌, length, map, option_to_list, Option, Some, None, slice_get}
-use Rattle.std.specs.List.{AllByRecursion, Contains, list_all}
+use Rattle.plan_laws.proofs.WorldKeys.{keys_differ}
+use Rattle.plan_laws.proofs.Sources.{Side, side_good, side_is, IsWorldIn, world_in as world_of}
+use Rattle.std.proofs.Common.{◌≡◌, refl, sym, ap, subst, ◌∙◌, ℕ, ◌+◌, ◌<◌, inl, inr, arith, Bool, true, false, not, ◌&&◌, List, [], ◌++◌, length, map, option_to_list, Option, Some, None, slice_get}
+use Rattle.std.specs.List.{AllByRecursion, Contains, list_all, AllZip}
 use Rattle.std.proofs.Math.ListN.{length-map}
 use Rattle.std.proofs.lemmas.List.Elements.{Contains-append_left, Contains-append_right}
 use Rattle.std.proofs.lemmas.Option.{slice_get_within, same_Some as same-some}
@@ -12,9 +14,7 @@ use Rattle.wit_model.specs.Valid.{as_world}
 use Rattle.wit_model.proofs.Elements.{contains-filter_map}
 use Rattle.comp_meaning.specs.Reads as reads
 use Rattle.comp_meaning.specs.Rules.{distinct}
-use Rattle.read_shown.specs.Scopes as scopes
-use Rattle.read_shown.proofs.Lists.{one_place}
-use Rattle.plan_meaning.specs.FollowedNumbers.{IsCalledIn, IsMetFrom, IsSeenIn}
+use Rattle.plan_meaning.specs.FollowedNumbers.{IsCalledIn, IsMetFrom}
 use Rattle.plan_meaning.specs.KeptFunctions.{IsKindOf, IsResource, a_constructor, a_method, a_static, an_async_method, an_async_static, of_none}
 use Rattle.plan_meaning.specs.NumberedMembers.{Homes, NumberedMember, home_at}
 use Rattle.plan_meaning.specs.NumberedRules.{Fact, is_function}
@@ -42,7 +42,6 @@ use Rattle.read_rules.specs.declared.scopes.InstanceKey.{InstanceKey}
 use Rattle.read_rules.specs.declared.scopes.InstanceKey.TheVariants as keys
 use Rattle.read_rules.specs.declared.scopes.Scope.{Scope}
 use Rattle.read_rules.specs.declared.scopes.Seen.{Seen}
-use Rattle.read_rules.specs.declared.scopes.Shown.{Shown}
 use Rattle.read_rules.specs.declared.scopes.Shown.TheVariants as shown
 use Rattle.read_rules.specs.declared.views.View.{View}
 use Rattle.plan_package.specs.PlanWhole.{PlansWhole, places_in}
@@ -56,8 +55,6 @@ use Rattle.plan_laws.specs.WholeWorlds.{IsCounted, IsLastType, IsReadAs, IsUnder
 use Rattle.plan_laws.specs.WorldItems.{KeysAreApart, WorldIsPlanned, WorldsAreApart}
 use Rattle.plan_laws.proofs.FollowedItems.{items, items_at, items_behind, items_listed, items_seen, parts_back, seen_resource, types_behind}
 use Rattle.plan_laws.proofs.PlaceNumbers.{one_owner}
-use Rattle.plan_laws.proofs.ShownFrom.{IsWorldOf, world_of}
-use Rattle.plan_laws.proofs.ShownRules.{no_types}
 use Rattle.plan_laws.proofs.Showings.{all_given}
 use Rattle.plan_laws.proofs.WholeTypes.{packages_are_ruled}
 use Rattle.plan_laws.proofs.WorldItems.{planned_worlds_stand, world_member}
@@ -66,12 +63,12 @@ use Rattle.base_lemmas.proofs.Lists.{get_back as unmapped_get, mapped_get, withi
 use Rattle.std.proofs.lemmas.Slice.Zip.{AllZip-long as zip_length}
 use Rattle.plan_type_laws.proofs.PartPlaces.{parts_weaker}
 
--- the first and the third of five tests
-first_and_third : (a b c d e : Bool) → (a && b && c && d && e) ≡ true → (a ≡ true) × (c ≡ true)
-first_and_third true true true d e h = (refl, refl)
-first_and_third true true false d e h = absurd cc
-first_and_third true false c d e h = absurd cc
-first_and_third false b c d e h = absurd cc
+abbrev value : PlannedKey × PlannedItem → PlannedItem
+value e = e.1
+
+first_of : (a b c d e : Bool) → (a && b && c && d && e) ≡ true → a ≡ true
+first_of true b c d e h = refl
+first_of false b c d e h = absurd cc
 
 module _ (t : Tables) (h : Homes) (known : ℕ → Fact) (n : ℕ) (ms : List Member) (members : List reads.Member) (given : IsPackageInput t h known n ms members) (ordered : ViewsAreOrdered t ms)
     (worlds_apart : WorldsAreApart ms) (followed : WorldsAreFollowed t ms)
@@ -87,11 +84,11 @@ module _ (t : Tables) (h : Homes) (known : ℕ → Fact) (n : ℕ) (ms : List Me
     abbrev scope : NumberedScope
     scope = numbered_scope w.1
 
-    member : (y : Member) × Contains ms y × (y.part ≡ parts.World w.1)
+    member : (y : Member) × Contains ms y × (y.part ≡ parts.World w.1) × (y.label.now ≡ w.0)
     member = world_member ms w (get-contains (worlds_in ms) m w at)
 
-    world : IsWorldOf t h ms members given.input given.placed.apart w.1
-    world = world_of t h ms members given.input given.placed.apart member.0 member.1 w.1 member.2
+    world : IsWorldIn t h ms members given.input w.1
+    world = world_of t h ms members given.input member.0 member.1 w.1 member.2
 
     stands : WorldIsPlanned t ms kept p b m w.1
     stands = planned_worlds_stand t h ms members given.input ruled.agree ordered worlds_apart n p planned b beside_owners m w at
@@ -106,17 +103,13 @@ module _ (t : Tables) (h : Homes) (known : ℕ → Fact) (n : ℕ) (ms : List Me
     obeys : is_world t known scope ≡ true
     obeys = sym (worlds_in_numbers t given.input.tables known scope world.scope is_known world.shows) ∙ world.stands.obeys
 
-    rules_hold : (are_imports t known scope.home [] scope.imports ≡ true) × (distinct (map (λ (s : NumberedSeen). s.key) scope.imports) ≡ true)
-    rules_hold =
-        first_and_third (are_imports t known scope.home [] scope.imports) (list_all (λ (s : NumberedSeen). is_item t known scope.home [] s.key s.shown) scope.exports)
+    imports_stand : are_imports t known scope.home [] scope.imports ≡ true
+    imports_stand = first_of (are_imports t known scope.home [] scope.imports) (list_all (λ (s : NumberedSeen). is_item t known scope.home [] s.key s.shown) scope.exports)
         (distinct (map (λ (s : NumberedSeen). s.key) scope.imports))
         (distinct (map (λ (s : NumberedSeen). s.key) scope.exports)) (stand_earlier t [] (scope.imports ++ scope.exports)) obeys
 
     keys_apart : KeysAreApart w.1
-    keys_apart i j a c at_a at_c same =
-        let key : (k : ℕ) (s : Seen) → slice_get w.1.imports.now k ≡ Some s → slice_get (map (λ (y : NumberedSeen). y.key) scope.imports) k ≡ Some s.key.now =
-        λ k s e. mapped_get (λ (y : NumberedSeen). y.key) scope.imports k (numbered_seen s) (mapped_get numbered_seen w.1.imports.now k s e) in
-        one_place (map (λ (y : NumberedSeen). y.key) scope.imports) rules_hold.1 i j c.key.now (key i a at_a ∙ ap Some same) (key j c at_c)
+    keys_apart = keys_differ t h ms members given.input given.placed.apart w.1 world
 
     -- ---- functions
 
@@ -169,7 +162,7 @@ module _ (t : Tables) (h : Homes) (known : ℕ → Fact) (n : ℕ) (ms : List Me
     -- a resource that a function is named after is imported before it
     imported_below : (j c : ℕ) (s : NumberedSeen) (f : ℕ) → slice_get scope.imports j ≡ Some s → slice_get was.counted.counts j ≡ Some c → s.shown ≡ worlds.function f → ResourceBelow s.key c
     imported_below j c s f at_s at_c shows r after k shape =
-        let behind = items_behind t known scope.home scope.imports [] scope.imports refl rules_hold.0 j s at_s in
+        let behind = items_behind t known scope.home scope.imports [] scope.imports refl imports_stand j s at_s in
         let rule : is_function t known scope.home (resources_seen behind.before) s.key (function_at t f) ≡ true =
         subst (λ y. is_item t known scope.home (resources_seen behind.before) s.key y ≡ true) shows behind.is in
         let res = seen_resource behind.before r (resource_among t known scope.home s.key (function_at t f) (resources_seen behind.before) rule r after) in
@@ -187,12 +180,11 @@ module _ (t : Tables) (h : Homes) (known : ℕ → Fact) (n : ℕ) (ms : List Me
 
     -- ---- instances
 
-    instance_item : (s : Seen) → Contains w.1.imports.now s ⊎ Contains w.1.exports.now s → IsSeenIn t scope.home (numbered_seen s) → IsUnderKey t s.key.now (numbered_shown s.shown)
-        → (key : InstanceKey) (v : View) → s.shown ≡ shown.Instance key v
-        → (e : PlannedKey × PlannedItem) → PlansInstance (places_in ms) (numbered_key key) (given_text s.external_id) e → (c : ℕ) → Item (record { seen = numbered_seen s; entry = e; count = c })
-    instance_item s side seen under key v shows e plans c =
-        by key shows plans (subst (λ y. IsSeenIn t scope.home (record { key = s.key.now; shown = numbered_shown y; external_id = given_text s.external_id })) shows seen).0
-        (subst (λ y. IsUnderKey t s.key.now (numbered_shown y)) shows under)
+    instance_item : (s : Seen) → Side w.1 s → (key : InstanceKey) (v : View) → s.shown ≡ shown.Instance key v → (e : PlannedKey × PlannedItem)
+        → PlansInstance (places_in ms) (numbered_key key) (given_text s.external_id) e → (c : ℕ) → Item (record { seen = numbered_seen s; entry = e; count = c })
+    instance_item s side key v shows e plans c =
+        by key shows plans (side_good w.1 t world.good s side (shown.Instance key v) shows).0
+        (subst (λ y. IsUnderKey t s.key.now (numbered_shown y)) shows (side_is w.1 (λ (y : NumberedSeen). IsUnderKey t y.key y.shown) was.imports was.exports s side))
         (stands.instances s side key v shows plans.number plans.found)
       where
         by : (k : InstanceKey) → s.shown ≡ shown.Instance k v → (made : PlansInstance (places_in ms) (numbered_key k) (given_text s.external_id) e) → KeyStands t (numbered_key k)
@@ -230,23 +222,14 @@ module _ (t : Tables) (h : Homes) (known : ℕ → Fact) (n : ℕ) (ms : List Me
         in_it : Contains w.1.imports.now s
         in_it = get-contains w.1.imports.now j s at_s
 
-        in_scope : Contains scope.imports (numbered_seen s)
-        in_scope = contains-map numbered_seen w.1.imports.now s in_it
-
         at_scope : slice_get scope.imports j ≡ Some (numbered_seen s)
         at_scope = mapped_get numbered_seen w.1.imports.now j s at_s
-
-        seen : IsSeenIn t scope.home (numbered_seen s)
-        seen = all_at (IsSeenIn t scope.home) scope.imports world.good.imports (numbered_seen s) in_scope
-
-        under : IsUnderKey t s.key.now (numbered_shown s.shown)
-        under = all_at (λ (y : NumberedSeen). IsUnderKey t y.key y.shown) scope.imports was.imports (numbered_seen s) in_scope
 
         counted : IsCounted t scope.home was.counted.counts j c s.key.now (numbered_shown s.shown)
         counted = was.counted.counted j c (numbered_seen s) at_scope at_c
 
         by : Plans s e → Item (record { seen = numbered_seen s; entry = e; count = c })
-        by (an_instance key v shows instance_plans) = instance_item s (inl in_it) seen under key v shows e instance_plans c
+        by (an_instance key v shows instance_plans) = instance_item s (inl in_it) key v shows e instance_plans c
         by (a_function f shows key function_plans) =
             function_item s f shows e e_in key function_plans c (subst (IsCounted t scope.home was.counted.counts j c s.key.now) (ap numbered_shown shows) counted)
             (imported_below j c (numbered_seen s) f at_scope at_c (ap numbered_shown shows))
@@ -256,9 +239,6 @@ module _ (t : Tables) (h : Homes) (known : ℕ → Fact) (n : ℕ) (ms : List Me
             let one : last.number ≡ type_.0 = given.input.tables.shapes.apart last.number type_.0 (named_shape scope.home s.key.now) last.shape type_.2 in
             read.a_type d i (ap numbered_shown shows) is (record { number = type_.0; stands = type_.1; shape = type_.2; becomes = type_.3; last = last.last ∙ ap (λ k. k + 1) one })
 
-    none_exported : AllByRecursion (λ (c : Seen). scopes.is_type (shown_of t (numbered_shown c.shown)) ≡ false) w.1.exports.now
-    none_exported = no_types t given.input.tables w.1 world.scope world.shows world.good world.declares world.stands
-
     export_item : (j : ℕ) (s : Seen) → slice_get w.1.exports.now j ≡ Some s → (e : PlannedKey × PlannedItem) → Contains (items_of x) e.1 → Plans s e
         → Item (record { seen = numbered_seen s; entry = e; count = length t.shapes })
     export_item j s at_s e e_in plans = by plans
@@ -266,25 +246,15 @@ module _ (t : Tables) (h : Homes) (known : ℕ → Fact) (n : ℕ) (ms : List Me
         in_it : Contains w.1.exports.now s
         in_it = get-contains w.1.exports.now j s at_s
 
-        in_scope : Contains scope.exports (numbered_seen s)
-        in_scope = contains-map numbered_seen w.1.exports.now s in_it
-
-        seen : IsSeenIn t scope.home (numbered_seen s)
-        seen = all_at (IsSeenIn t scope.home) scope.exports world.good.exports (numbered_seen s) in_scope
-
-        under : IsUnderKey t s.key.now (numbered_shown s.shown)
-        under = all_at (λ (y : NumberedSeen). IsUnderKey t y.key y.shown) scope.exports was.exports (numbered_seen s) in_scope
-
         by : Plans s e → Item (record { seen = numbered_seen s; entry = e; count = length t.shapes })
-        by (an_instance key v shows instance_plans) = instance_item s (inr in_it) seen under key v shows e instance_plans (length t.shapes)
+        by (an_instance key v shows instance_plans) = instance_item s (inr in_it) key v shows e instance_plans (length t.shapes)
         by (a_function f shows key function_plans) =
-            let called : IsCalledIn t scope.home f = subst (λ y. IsSeenIn t scope.home (record { key = s.key.now; shown = numbered_shown y; external_id = given_text s.external_id })) shows seen in
+            let called : IsCalledIn t scope.home f = side_good w.1 t world.good s (inr in_it) (shown.Function f) shows in
             function_item s f shows e e_in key function_plans (length t.shapes)
             (parts_weaker (IsMetFrom t scope.home) (λ k. k < 14 + length t.shapes) (λ k met. met.range) (function_at t f) called.parts)
             (λ r after k shape. slice_get_within t.shapes k (named_shape scope.home r) shape)
         by (a_type part d i shows is part_is) =
-            no_true (sym (all_at (λ (c : Seen). scopes.is_type (shown_of t (numbered_shown c.shown)) ≡ false) w.1.exports.now none_exported s in_it) ∙ ap
-            (λ y. scopes.is_type (shown_of t (numbered_shown y))) shows)
+            no_true (sym (all_at (λ (c : Seen). is_type_seen (numbered_shown c.shown) ≡ false) w.1.exports.now world.none s in_it) ∙ ap (λ y. is_type_seen (numbered_shown y)) shows)
 
     -- ---- the world
 
@@ -297,25 +267,27 @@ module _ (t : Tables) (h : Homes) (known : ℕ → Fact) (n : ℕ) (ms : List Me
     abbrev exported : List ReadItem
     exported = items scope.exports x.exports counts
 
+    -- each item of a list, whose items are read as they were followed
+    items_read : (cs : List Seen) (es : List (PlannedKey × PlannedItem)) (counts_of : List ℕ) → AllZip Plans cs es → ((e : PlannedKey × PlannedItem) → Contains es e → Contains (items_of x) e.1)
+        → ((j : ℕ) (s : Seen) → slice_get cs j ≡ Some s → (e : PlannedKey × PlannedItem) → Contains (items_of x) e.1 → Plans s e → (c : ℕ) → slice_get counts_of j ≡ Some c
+        → Item (record { seen = numbered_seen s; entry = e; count = c }))
+        → AllByRecursion Item (items (map numbered_seen cs) es counts_of)
+    items_read cs es counts_of zip in_world each = all_given Item (items (map numbered_seen cs) es counts_of) (λ j y e.
+        let is = items_at (map numbered_seen cs) es counts_of j y e in
+        let from = zip_get Plans cs es zip j y.entry is.1 in
+        let seen : numbered_seen from.0 ≡ y.seen = same-some (numbered_seen from.0) y.seen (sym (mapped_get numbered_seen cs j from.0 from.1) ∙ is.0) in
+        subst (λ (z : NumberedSeen). Item (record { seen = z; entry = y.entry; count = y.count })) seen
+        (each j from.0 from.1 y.entry (in_world y.entry (get-contains es j y.entry is.1)) from.2 y.count is.2))
+
     imports_read : AllByRecursion Item imported
-    imports_read = all_given Item imported (λ j y e.
-        let is = items_at scope.imports x.imports was.counted.counts j y e in
-        let from = zip_get Plans w.1.imports.now x.imports made.imports j y.entry is.1 in
-        let seen : numbered_seen from.0 ≡ y.seen = same-some (numbered_seen from.0) y.seen (sym (mapped_get numbered_seen w.1.imports.now j from.0 from.1) ∙ is.0) in
-        let among = Contains-append_left (map (λ (z : PlannedKey × PlannedItem). z.1) x.imports) (map (λ (z : PlannedKey × PlannedItem). z.1) x.exports) y.entry.1
-        (contains-map (λ (z : PlannedKey × PlannedItem). z.1) x.imports y.entry (get-contains x.imports j y.entry is.1)) in
-        subst (λ (z : NumberedSeen). Item (record { seen = z; entry = y.entry; count = y.count })) seen (import_item j from.0 from.1 y.entry among from.2 y.count is.2))
+    imports_read = items_read w.1.imports.now x.imports was.counted.counts made.imports
+        (λ e c. Contains-append_left (map value x.imports) (map value x.exports) e.1 (contains-map value x.imports e c)) import_item
 
     exports_read : AllByRecursion Item exported
-    exports_read = all_given Item exported (λ j y e.
-        let is = items_at scope.exports x.exports counts j y e in
-        let from = zip_get Plans w.1.exports.now x.exports made.exports j y.entry is.1 in
-        let seen : numbered_seen from.0 ≡ y.seen = same-some (numbered_seen from.0) y.seen (sym (mapped_get numbered_seen w.1.exports.now j from.0 from.1) ∙ is.0) in
-        let among = Contains-append_right (map (λ (z : PlannedKey × PlannedItem). z.1) x.imports) (map (λ (z : PlannedKey × PlannedItem). z.1) x.exports) y.entry.1
-        (contains-map (λ (z : PlannedKey × PlannedItem). z.1) x.exports y.entry (get-contains x.exports j y.entry is.1)) in
-        let count = unmapped_get (λ (s : NumberedSeen). length t.shapes) scope.exports j y.count is.2 in
-        subst (λ (c : ℕ). Item (record { seen = y.seen; entry = y.entry; count = c })) count.2
-        (subst (λ (z : NumberedSeen). Item (record { seen = z; entry = y.entry; count = length t.shapes })) seen (export_item j from.0 from.1 y.entry among from.2)))
+    exports_read = items_read w.1.exports.now x.exports counts made.exports
+        (λ e c. Contains-append_right (map value x.imports) (map value x.exports) e.1 (contains-map value x.exports e c))
+        (λ j s at e e_in plans c at_c. let count = unmapped_get (λ (s : NumberedSeen). length t.shapes) scope.exports j c at_c in
+        subst (λ (k : ℕ). Item (record { seen = numbered_seen s; entry = e; count = k })) count.2 (export_item j s at e e_in plans))
 
     follows : types_follow imported ≡ true
     follows = types_behind imported (λ i j a y at_a at_y low typed.
@@ -327,20 +299,14 @@ module _ (t : Tables) (h : Homes) (known : ℕ → Fact) (n : ℕ) (ms : List Me
         last.behind i a.count is_a.2 low)
       where
         type_there : (y : NumberedShown) → is_type_seen y ≡ true → (d : Option ℕ) × (y ≡ worlds.declares d)
-        type_there (worlds.instance k v) e = no_true e
-        type_there (worlds.function f) e = no_true e
         type_there (worlds.declares d) e = (d, refl)
+        type_there _ e = no_true e
 
     no_type : list_all (λ (s : NumberedSeen). not (is_type_seen s.shown)) scope.exports ≡ true
     no_type = all_by_number (λ (s : NumberedSeen). not (is_type_seen s.shown)) scope.exports (λ j y e.
         let c = unmapped_get numbered_seen w.1.exports.now j y e in
         subst (λ (s : NumberedSeen). not (is_type_seen s.shown) ≡ true) c.2
-        (by c.0.shown (all_at (λ (s : Seen). scopes.is_type (shown_of t (numbered_shown s.shown)) ≡ false) w.1.exports.now none_exported c.0 (get-contains w.1.exports.now j c.0 c.1))))
-      where
-        by : (y : Shown) → scopes.is_type (shown_of t (numbered_shown y)) ≡ false → not (is_type_seen (numbered_shown y)) ≡ true
-        by (shown.Instance k v) e = refl
-        by (shown.Function f) e = refl
-        by (shown.Declares part d) e = no_true (sym e)
+        (ap not (all_at (λ (s : Seen). is_type_seen (numbered_shown s.shown) ≡ false) w.1.exports.now world.none c.0 (get-contains w.1.exports.now j c.0 c.1))))
 
     world_read : (y : IsReadWorld t kept p b (views_read ms) m x) × IsReadAs ms m y.scope
     world_read =

@@ -1,7 +1,9 @@
 -- What the worlds of a plan import and export, beside functions, is as it was followed.
-use Rattle.std.proofs.Common.{◌≡◌, refl, sym, ap, subst, ◌∙◌, ℕ, ◌+◌, ◌⊎◌, inl, inr, arith, Bool, true, false, cond, List, [], ◌∷◌, ◌++◌, length, map, Option, Some, None, slice_get}
+use Rattle.std.proofs.lemmas.Bool.{false_from_ne_true}
+use Rattle.plan_type_laws.proofs.PartPlaces.{slot_number}
+use Rattle.std.proofs.Common.{◌≡◌, refl, sym, ap, subst, ◌∙◌, ℕ, ◌+◌, arith, true, false, cond, List, [], ◌∷◌, ◌++◌, length, map, Option, Some, None, slice_get}
 use Rattle.std.specs.Cmp.Lexicographic.{pointwise}
-use Rattle.std.specs.List.{AllByRecursion, Contains, flat_map}
+use Rattle.std.specs.List.{Contains, flat_map}
 use Rattle.std.specs.Option.{option_map_or}
 use Rattle.std.proofs.lemmas.List.{append-nil, append_assoc}
 use Rattle.std.proofs.lemmas.Option.{slice_get_within, same_Some as same-some}
@@ -11,57 +13,53 @@ use Rattle.wit_model.specs.Uses.{has}
 use Rattle.wit_model.specs.Valid.{as_interface, as_world}
 use Rattle.wit_model.proofs.Elements.{contains-flat, contains-get, has-contains, none-in}
 use Rattle.comp_meaning.specs.Reads as reads
-use Rattle.plan_meaning.specs.FollowedNumbers.{IsOneOf, IsPartIn, IsShownIn}
-use Rattle.plan_meaning.specs.GatheredPlan.{DeclaresKind, TypeBecomes}
+use Rattle.plan_meaning.specs.FollowedNumbers.{IsPartIn, IsShownIn}
+use Rattle.plan_meaning.specs.GatheredPlan.{DeclaresKind}
 use Rattle.plan_meaning.specs.NumberedMembers.{Homes, NumberedMember, home_at, sights_of_members}
 use Rattle.plan_meaning.specs.NumberedViews.{NumberedSight, Tables, agree_in_numbers, same_shown}
-use Rattle.plan_meaning.specs.NumberedWorlds.{NumberedSeen, place_of_key}
+use Rattle.plan_meaning.specs.NumberedWorlds.{place_of_key}
 use Rattle.plan_meaning.specs.Plan.{Plan}
 use Rattle.plan_meaning.specs.ReadFunctions.{Beside}
-use Rattle.plan_meaning.specs.Renumbering.{IsPart, a_primitive, a_shape}
-use Rattle.plan_meaning.specs.Shapes.{Shape, first_label, named_shape}
-use Rattle.read_exports.specs.Members.{numbered_member, numbered_members, numbered_part}
+use Rattle.plan_meaning.specs.Shapes.{named_shape}
+use Rattle.read_exports.specs.Members.{numbered_members, numbered_part}
 use Rattle.read_exports.specs.declared.members.Member.{Member}
 use Rattle.read_exports.specs.declared.members.Part.{Part}
 use Rattle.read_exports.specs.declared.members.Part.TheVariants as parts
-use Rattle.read_rules.specs.Scopes.{numbered_instance, numbered_key, numbered_seen, numbered_shown}
+use Rattle.read_rules.specs.Scopes.{numbered_key}
 use Rattle.read_rules.specs.Tables.{given_text}
 use Rattle.read_rules.specs.Views.{numbered_view}
-use Rattle.read_rules.specs.declared.scopes.InstanceKey.{InstanceKey}
 use Rattle.read_rules.specs.declared.scopes.Scope.{Scope}
 use Rattle.read_rules.specs.declared.scopes.Seen.{Seen}
 use Rattle.read_rules.specs.declared.scopes.Shown.{Shown}
 use Rattle.read_rules.specs.declared.scopes.Shown.TheVariants as shown
-use Rattle.read_rules.specs.declared.views.View.{View}
 use Rattle.plan_types.specs.Orders.{home_of_part, joined_all}
 use Rattle.plan_types.specs.PlannedTypes.{PlansType, number_in}
 use Rattle.plan_types.specs.Showings.{NumberedShowing, showings_of_members}
 use Rattle.plan_package.specs.PlanWhole.{PlansWhole, owners_in, places_in, shown_first}
-use Rattle.plan_package.specs.Views.{views_of_members, views_of_part, whole_view}
+use Rattle.plan_package.specs.Views.{views_of_members}
 use Rattle.plan_package.specs.WholeWorlds.{world_in_part, worlds_in}
 use Rattle.plan_type_laws.proofs.FirstFound.{firsts_found}
 use Rattle.plan_laws.specs.FirstViews.{ViewsAreOrdered}
 use Rattle.plan_laws.specs.Owners.{homes_in, owners_of}
-use Rattle.plan_laws.specs.ShownNames.{DeclaresName, IsInput, PartDeclaresNames}
+use Rattle.plan_laws.specs.ShownNames.{IsInput}
 use Rattle.plan_laws.specs.WorldItems.{InstancesAreRead, KeysAreApart, PlannedWorldsStand, TypesAreRead, WorldsAreApart}
-use Rattle.plan_laws.proofs.FirstTypes.{view_good, views_told}
+use Rattle.plan_laws.proofs.FirstTypes.{views_told}
 use Rattle.plan_laws.proofs.FirstViews.{first_is, told_types}
-use Rattle.plan_laws.proofs.Inside.{flat_cases}
-use Rattle.plan_laws.proofs.Origins as origins
-use Rattle.plan_laws.proofs.Origins.{origin, view_among}
+use Rattle.plan_laws.proofs.Inside.{flat_cases, name_same}
+use Rattle.plan_laws.proofs.Sources as origins
+use Rattle.plan_laws.proofs.Sources.{origin, seen_sight, sight_of, view_among, world_in, member_view_in}
 use Rattle.plan_laws.proofs.Owned.{planned_name}
 use Rattle.plan_laws.proofs.PlaceNumbers.{IsOnce, number_given}
-use Rattle.plan_laws.proofs.Planned.{first_there, interface_there, place_seen}
-use Rattle.plan_laws.proofs.Showings.{slot_is}
-use Rattle.base_lemmas.proofs.Elements.{all_at, contains-map, contains-one, get-contains, last_of as one-contained}
+use Rattle.plan_laws.proofs.Planned.{first_there, interface_there, kept_number, place_seen}
+use Rattle.plan_laws.proofs.Showings.{import_named}
+use Rattle.base_lemmas.proofs.Elements.{all_at, contains-one, get-contains, last_of as one-contained}
 use Rattle.base_lemmas.proofs.Lists.{front_at as at_front, get_back as unmapped_get, mapped_get, middle_get, within_there as slice_there}
 use Rattle.std.proofs.lemmas.Slice.Zip.{AllZip-long as zip_length}
 use Rattle.plan_package.proofs.ReadPackageLaws.{number_at as number_there}
 
 declared_of : Shown → Option ℕ
 declared_of (shown.Declares g o) = o
-declared_of (shown.Function g) = None
-declared_of (shown.Instance g v) = None
+declared_of _ = None
 
 same_declared : (k l : ℕ) (a c : Option ℕ) → shown.Declares k a ≡ shown.Declares l c → a ≡ c
 unfolding declared_of
@@ -70,15 +68,11 @@ same_declared k l a c e = ap declared_of e
 -- ---- places that are all new
 
 once_front : (p : ℕ) (met ps : List ℕ) → IsOnce (met ++ p ∷ ps) → has met p ≡ false
-once_front p met ps once = by (has met p) refl
-  where
-    by : (b : Bool) → has met p ≡ b → b ≡ false
-    by false e = refl
-    by true e =
-        let there = contains-get met p (has-contains met p e) in
-        let low = slice_get_within met there.0 p there.1 in
-        let same : there.0 ≡ length met = once there.0 (length met) p (at_front met (p ∷ ps) there.0 p there.1) (middle_get met p ps) in
-        absurd (omega (arith, low, same))
+once_front p met ps once = false_from_ne_true (has met p) (λ e.
+    let there = contains-get met p (has-contains met p e) in
+    let low = slice_get_within met there.0 p there.1 in
+    let same : there.0 ≡ length met = once there.0 (length met) p (at_front met (p ∷ ps) there.0 p there.1) (middle_get met p ps) in
+    omega (arith, low, same))
 
 all_new : (met ps : List ℕ) → IsOnce (met ++ ps) → joined_all met ps ≡ met ++ ps
 all_new met [] once = sym (append-nil met)
@@ -86,11 +80,10 @@ all_new met (p ∷ ps) once =
     let same : (met ++ p ∷ []) ++ ps ≡ met ++ p ∷ ps = append_assoc met (p ∷ []) ps in
     ap (λ b. joined_all (cond b met (met ++ p ∷ [])) ps) (once_front p met ps once) ∙ (all_new (met ++ p ∷ []) ps (subst IsOnce (sym same) once) ∙ same)
 
-home_of_world : Text × Scope → ℕ
+abbrev pub home_of_world : Text × Scope → ℕ
 home_of_world w = w.1.home
 
-homes_of_worlds : (ms : List Member) → flat_map (λ (m : NumberedMember). home_of_part m.part) (numbered_members ms) ≡ map home_of_world (worlds_in ms)
-unfolding home_of_world
+pub homes_of_worlds : (ms : List Member) → flat_map (λ (m : NumberedMember). home_of_part m.part) (numbered_members ms) ≡ map home_of_world (worlds_in ms)
 homes_of_worlds [] = refl
 homes_of_worlds (m ∷ ms) = by m.part (homes_of_worlds ms)
   where
@@ -100,13 +93,14 @@ homes_of_worlds (m ∷ ms) = by m.part (homes_of_worlds ms)
     by (parts.Interface p v imports) rest = rest
 
 -- the member that a world is of
-pub world_member : (ms : List Member) (w : Text × Scope) → Contains (worlds_in ms) w → (m : Member) × Contains ms m × (m.part ≡ parts.World w.1)
+pub world_member : (ms : List Member) (w : Text × Scope) → Contains (worlds_in ms) w → (m : Member) × Contains ms m × (m.part ≡ parts.World w.1) × (m.label.now ≡ w.0)
 world_member ms w c =
     let from = flat_cases (λ (m : Member). world_in_part m.label.now m.part) ms w c in
-    (from.0, from.1, of_part from.0.label.now from.0.part from.2)
+    let is = of_part from.0.label.now from.0.part from.2 in
+    (from.0, from.1, is.0, is.1)
   where
-    of_part : (l : Text) (a : Part) → Contains (world_in_part l a) w → a ≡ parts.World w.1
-    of_part l (parts.World x) among = ap parts.World (ap (λ (y : Text × Scope). y.1) (one-contained (l, x) w among))
+    of_part : (l : Text) (a : Part) → Contains (world_in_part l a) w → (a ≡ parts.World w.1) × (l ≡ w.0)
+    of_part l (parts.World x) among = let same = one-contained (l, x) w among in (ap (λ (y : Text × Scope). parts.World y.1) same, ap (λ (y : Text × Scope). y.0) same)
     of_part l (parts.Interface p v imports) among = none-in w among
 
 module _ (t : Tables) (h : Homes) (ms : List Member) (members : List reads.Member) (input : IsInput t h ms members) (agreed : agree_in_numbers (sights_of_members t (numbered_members ms)) ≡ true)
@@ -124,7 +118,6 @@ module _ (t : Tables) (h : Homes) (ms : List Member) (members : List reads.Membe
   -- ---- owners
 
   worlds_once : IsOnce (map home_of_world (worlds_in ms))
-  unfolding home_of_world
   worlds_once i j q at_i at_j =
       let w = unmapped_get home_of_world (worlds_in ms) i q at_i in
       let v = unmapped_get home_of_world (worlds_in ms) j q at_j in
@@ -144,7 +137,6 @@ module _ (t : Tables) (h : Homes) (ms : List Member) (members : List reads.Membe
 
   module _ (m : ℕ) (w : Text × Scope) (at : slice_get (worlds_in ms) m ≡ Some w) where
     home_there : slice_get homes m ≡ Some w.1.home
-    unfolding home_of_world
     home_there = ap (λ hs. slice_get hs m) homes_are ∙ mapped_get home_of_world (worlds_in ms) m w at
 
     home_number : number_in homes w.1.home ≡ Some m
@@ -161,42 +153,22 @@ module _ (t : Tables) (h : Homes) (ms : List Member) (members : List reads.Membe
 
     -- ---- the member
 
-    member : (x : Member) × Contains ms x × (x.part ≡ parts.World w.1)
+    member : (x : Member) × Contains ms x × (x.part ≡ parts.World w.1) × (x.label.now ≡ w.0)
     member = world_member ms w (get-contains (worlds_in ms) m w at)
 
     good : IsPartIn t (numbered_part (parts.World w.1))
-    good = subst (λ a. IsPartIn t (numbered_part a)) member.2 (all_at (λ (x : NumberedMember). IsPartIn t x.part) (numbered_members ms) input.numbers (numbered_member member.0)
-        (contains-map numbered_member ms member.0 member.1))
-
-    named : AllByRecursion (DeclaresName t w.1.home) w.1.imports.now
-    named = subst (PartDeclaresNames t) member.2 (all_at (λ (x : Member). PartDeclaresNames t x.part) ms input.declared member.0 member.1)
+    good = (world_in t h ms members input member.0 member.1 w.1 member.2).good
 
     -- ---- instances
-
-    one_of : (s : Seen) → Contains w.1.imports.now s ⊎ Contains w.1.exports.now s → IsOneOf t (map numbered_instance w.1.instances.now) (numbered_shown s.shown)
-    one_of s (inl c) = all_at (λ (x : NumberedSeen). IsOneOf t (map numbered_instance w.1.instances.now) x.shown) (map numbered_seen w.1.imports.now) good.imported (numbered_seen s)
-        (contains-map numbered_seen w.1.imports.now s c)
-    one_of s (inr c) = all_at (λ (x : NumberedSeen). IsOneOf t (map numbered_instance w.1.instances.now) x.shown) (map numbered_seen w.1.exports.now) good.exported (numbered_seen s)
-        (contains-map numbered_seen w.1.exports.now s c)
-
-    view_there : (s : Seen) → Contains w.1.imports.now s ⊎ Contains w.1.exports.now s → (key : InstanceKey) (v : View) → s.shown ≡ shown.Instance key v
-        → Contains views (record { place = place_of_key (numbered_key key); view = numbered_view v; whole = true })
-    view_there s c key v e =
-        let sight : NumberedSight = record { place = place_of_key (numbered_key key); view = numbered_view v; whole = true } in
-        let one = subst (λ x. IsOneOf t (map numbered_instance w.1.instances.now) (numbered_shown x)) e (one_of s c) in
-        let here : Contains (views_of_part (numbered_part (parts.World w.1))) sight =
-        contains-map whole_view (map numbered_instance w.1.instances.now) (record { place = place_of_key (numbered_key key); view = numbered_view v }) one in
-        view_among ms member.0 member.1 sight (subst (λ a. Contains (views_of_part (numbered_part a)) sight) (sym member.2) here)
 
     instances_read : InstancesAreRead t ms planned.kept p b m w.1
     instances_read s c key v e u number =
         let q = place_of_key (numbered_key key) in
-        let sight : NumberedSight = record { place = q; view = numbered_view v; whole = true } in
         let there = number_there places q u number in
         let found = interface_there t h ms members input n p planned u q there in
         let first = first_there t h ms members input n p planned u q there in
         let is = first_is q views first.0 first.1 in
-        let same = views_told t h ms members input agreed ordered first.0 sight is.0 (view_there s c key v e) is.1 in
+        let same = views_told t h ms members input agreed ordered first.0 (sight_of key v) is.0 (seen_sight t ms member.0 member.1 w.1 member.2 good s c key v e) is.1 in
         record {
           owned = ap (λ (o : ℕ → TypeOwner). o q) beside_owners ∙ ap (λ o. option_map_or as_interface o (option_map_or as_world (number_in homes q) (as_interface (length places + q)))) number;
           interface = found.0;
@@ -215,11 +187,6 @@ module _ (t : Tables) (h : Homes) (ms : List Member) (members : List reads.Membe
         let one : there.0 ≡ m = worlds_apart there.0 m (x.label.now, v) w there.1 at home in
         ap (λ (y : Text × Scope). y.1) (same-some (x.label.now, v) w (sym there.1 ∙ (ap (slice_get (worlds_in ms)) one ∙ at)))
 
-    name_same : (a q : ℕ) (x z : Text) (i k : ℕ) → slice_get t.shapes i ≡ Some (named_shape a x) → slice_get t.shapes k ≡ Some (named_shape q z) → i ≡ k → (a ≡ q) × (x ≡ z)
-    name_same a q x z i k there shape same =
-        let one : named_shape a x ≡ named_shape q z = same-some (named_shape a x) (named_shape q z) (sym there ∙ (ap (slice_get t.shapes) same ∙ shape)) in
-        (ap (λ (g : Shape). g.number) one, ap (λ (g : Shape). first_label g.labels) one)
-
     module _ (keys : KeysAreApart w.1) where
       -- what is shown of the type first is this import
       import_first : (s : Seen) → Contains w.1.imports.now s → (part : ℕ) (d : Option ℕ) → s.shown ≡ shown.Declares part d → (k : ℕ) → slice_get t.shapes k ≡ Some (named_shape w.1.home s.key.now)
@@ -233,17 +200,15 @@ module _ (t : Tables) (h : Homes) (ms : List Member) (members : List reads.Membe
           by : (x : Member) → Contains ms x → origins.IsShownIn x.part y → y.part ≡ 14 + k → (y.declared ≡ d) × (y.external_id ≡ given_text s.external_id)
           by x x_there (origins.in_view u u_there z z_there same) number =
               let among = view_among ms x x_there u u_there in
-              let is = all_at (IsShownIn t u.place) u.view.types (view_good t h ms members input agreed ordered u among).types z z_there in
-              let slot = slot_is t input.tables z.slot is.number is.slot in
+              let is = all_at (IsShownIn t u.place) u.view.types (member_view_in t ms input.numbers u among).types z z_there in
+              let slot = slot_number t z.slot is.number is.slot in
               let equal : is.number ≡ k = (let a = ap (λ (g : NumberedShowing). g.part) same in omega (arith, a, number, slot)) in
-              let here = name_same u.place w.1.home z.name s.key.now is.number k is.name.named shape equal in
+              let here = name_same t.shapes u.place w.1.home z.name s.key.now is.number k is.name.named shape equal in
               absurd (ordered.apart u among (subst (Contains homes) (sym here.0) (get-contains homes m w.1.home home_there)))
           by x x_there (origins.of_world v world other other_there kk dd declares same) number =
-              let all : AllByRecursion (DeclaresName t v.home) v.imports.now = subst (PartDeclaresNames t) world (all_at (λ (g : Member). PartDeclaresNames t g.part) ms input.declared x x_there) in
-              let name = subst (λ g. DeclaresName t v.home (record { key = other.key; shown = g; external_id = other.external_id })) declares
-              (all_at (DeclaresName t v.home) v.imports.now all other other_there) in
+              let name = import_named t input.tables h ms members input x x_there v world other other_there kk dd declares in
               let equal : name.0 ≡ k = (let a = ap (λ (g : NumberedShowing). g.part) same in let u = name.1 in omega (arith, a, number, u)) in
-              let here = name_same v.home w.1.home other.key.now s.key.now name.0 k name.2 shape equal in
+              let here = name_same t.shapes v.home w.1.home other.key.now s.key.now name.0 k name.2.named shape equal in
               let one = same_world x x_there v world here.0 in
               let at_s = contains-get w.1.imports.now s c in
               let at_other = contains-get w.1.imports.now other (subst (λ (g : Scope). Contains g.imports.now other) one other_there) in
@@ -254,34 +219,24 @@ module _ (t : Tables) (h : Homes) (ms : List Member) (members : List reads.Membe
               (ap (λ (g : NumberedShowing). g.declared) (sym same) ∙ declared, ap (λ (g : NumberedShowing). g.external_id) (sym same) ∙ ap (λ (g : Seen). given_text g.external_id) equal_seen)
 
       types_read : TypesAreRead t ms planned.kept p b w.1
-      types_read s c part d e j is = by is
-        where
-          name : (k : ℕ) × (part ≡ 14 + k) × (slice_get t.shapes k ≡ Some (named_shape w.1.home s.key.now))
-          name = subst (λ g. DeclaresName t w.1.home (record { key = s.key; shown = g; external_id = s.external_id })) e (all_at (DeclaresName t w.1.home) w.1.imports.now named s c)
-
-          by : IsPart planned.kept part (14 + j) → (k : ℕ) × (slice_get planned.kept j ≡ Some k) × (slice_get t.shapes k ≡ Some (named_shape w.1.home s.key.now))
-              × TypeBecomes t planned.kept p d (given_text s.external_id) j
-          by (a_primitive low same) = let part_is = name.1 in absurd (omega (arith, low, part_is))
-          by (a_shape k i from stands to) =
-              let part_is = name.1 in
-              let same : k ≡ name.0 = omega (arith, from, part_is) in
-              let here : j ≡ i = omega (arith, to) in
-              let kept_there : slice_get planned.kept j ≡ Some name.0 = ap (slice_get planned.kept) here ∙ (stands ∙ ap Some same) in
-              let many = zip_length (PlansType t planned.kept (shown_first ms) (owners_in ms)) planned.kept p.types planned.types in
-              let low = slice_get_within planned.kept j name.0 kept_there in
-              let type_ = slice_there p.types j (omega (arith, many, low)) in
-              let is_named = planned_name t h ms members input n p planned j name.0 type_.0 w.1.home s.key.now type_.1 kept_there name.2 in
-              let tells = import_first s c part d e name.0 name.2 is_named.showing is_named.first in (
-                name.0,
-                kept_there,
-                name.2,
-                record {
-                  type_ = type_.0;
-                  stands = type_.1;
-                  kind = subst (λ o. DeclaresKind t planned.kept p o type_.0.kind) tells.0 is_named.kind;
-                  same_id = is_named.same_id ∙ tells.1;
-                },
-              )
+      types_read s c part d e j is =
+          let name = import_named t input.tables h ms members input member.0 member.1 w.1 member.2 s c part d e in
+          let kept_there = kept_number planned.kept part name.0 j name.1 is in
+          let many = zip_length (PlansType t planned.kept (shown_first ms) (owners_in ms)) planned.kept p.types planned.types in
+          let low = slice_get_within planned.kept j name.0 kept_there in
+          let type_ = slice_there p.types j (omega (arith, many, low)) in
+          let is_named = planned_name t h ms members input n p planned j name.0 type_.0 w.1.home s.key.now type_.1 kept_there name.2.named in
+          let tells = import_first s c part d e name.0 name.2.named is_named.showing is_named.first in (
+            name.0,
+            kept_there,
+            name.2.named,
+            record {
+              type_ = type_.0;
+              stands = type_.1;
+              kind = subst (λ o. DeclaresKind t planned.kept p o type_.0.kind) tells.0 is_named.kind;
+              same_id = is_named.same_id ∙ tells.1;
+            },
+          )
 
 pub planned_worlds_stand : PlannedWorldsStand
 planned_worlds_stand t h ms members input agreed ordered apart n p planned b owners m w at = record {

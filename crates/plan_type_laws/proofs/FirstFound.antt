@@ -11,7 +11,7 @@ use Rattle.plan_type_laws.specs.ShownForms.{FindsShown, FirstsAreFound}
 use Rattle.base_lemmas.proofs.Elements.{contains-later, get-contains}
 use Rattle.std.proofs.lemmas.Option.{same_Some as same-some}
 
-first_found : {A : Type 0} (test : A → Bool) (xs : List A) (x : A) → find test xs ≡ Some x → Contains xs x × (test x ≡ true)
+pub first_found : {A : Type 0} (test : A → Bool) (xs : List A) (x : A) → find test xs ≡ Some x → Contains xs x × (test x ≡ true)
 first_found test [] x e = let wrong : None ≡ Some x = e in absurd cc
 first_found test (y ∷ xs) x e = by (test y) refl e (first_found test xs x)
   where

@@ -40,7 +40,7 @@ use Rattle.read_exports.specs.declared.members.Part.TheVariants as parts
 use Rattle.read_exports.specs.Members.{numbered_member, numbered_members, numbered_part}
 use Rattle.plan_types.specs.Showings.{NumberedShowing, showing_of, showings_of_import, showings_of_members, showings_of_part, showings_of_seen, showings_of_shown, showings_of_view, signatures_of_members, signatures_of_part, signatures_of_seen, signatures_of_shown, signatures_of_view}
 use Rattle.plan_type_laws.proofs.InnerForms.{form_range, inner_stands, signature_parts_hold, view_part}
-use Rattle.plan_type_laws.proofs.Walks.{all_any, all_flat, at_each}
+use Rattle.plan_type_laws.proofs.Walks.{all_any, all_flat, at_each, Held, all_held, two_held}
 use Rattle.plan_type_laws.specs.FormsObeyed.{FormsAreObeyed, LengthsFit}
 use Rattle.plan_type_laws.specs.MembersStand.{MembersStand, all_instances}
 use Rattle.plan_type_laws.specs.ShownForms.{EachForm, FormsHold}
@@ -82,18 +82,12 @@ module _ (t : Tables) (tables : AreTables t) (fit : LengthsFit t) where
   form_obeys : (form : Form) (parts : List ℕ) (n : ℕ) → slice_get t.shapes n ≡ Some (node_shape form parts) → is_formed form (map (tree_at t) parts) ≡ true → is_form form parts ≡ true
   form_obeys (Form.record_of names) parts n at h = filled names (length (map (tree_at t) parts) == length names) h
   form_obeys (Form.variant_of cases) parts n at h = filled cases (length (map (tree_at t) parts) == count_true (map (λ (c : Text × Bool). c.1) cases)) h
-  form_obeys Form.list_of parts n at h = refl
   form_obeys (Form.fixed_list_of l) parts n at h = both (nat_le 1 l) (nat_lt l 4294967296) (first_true (nat_le 1 l) (length (map (tree_at t) parts) == 1) h) (lt-ltb l 4294967296 (fit n l parts at))
-  form_obeys Form.option_of parts n at h = refl
-  form_obeys Form.own_of parts n at h = refl
-  form_obeys Form.borrow_of parts n at h = refl
   form_obeys Form.map_of parts n at h = key_first parts (form_range t tables n Form.map_of parts at) h
   form_obeys Form.tuple_of parts n at h = tuple_filled parts h
   form_obeys (Form.flags_of names) parts n at h = filled names (length (map (tree_at t) parts) == 0) h
   form_obeys (Form.enum_of names) parts n at h = filled names (length (map (tree_at t) parts) == 0) h
-  form_obeys (Form.result_of ok err) parts n at h = refl
-  form_obeys (Form.future_of some) parts n at h = refl
-  form_obeys (Form.stream_of some) parts n at h = refl
+  form_obeys _ parts n at h = refl
 
 -- What holds of each form with its parts holds of each form that is shown.
 module _ (t : Tables) (tables : AreTables t) (Obeys : Form → List ℕ → Type 0) (form_obeys : (form : Form) (parts : List ℕ) (n : ℕ) → slice_get t.shapes n ≡ Some (node_shape form parts) → is_formed form (map (tree_at t) parts) ≡ true → Obeys form parts) where
@@ -148,7 +142,7 @@ module _ (t : Tables) (tables : AreTables t) (Obeys : Form → List ℕ → Type
   -- ---- worlds
 
   abbrev AreHeld : List NumberedShowing → List ℕ → Type 0
-  AreHeld showings signatures = AllByRecursion ShowingStands showings × AllByRecursion FunctionStands signatures
+  AreHeld = Held ShowingStands FunctionStands
 
   module _ (scope : Scope) (stands : scopes.ScopeStands scope) where
     seen_obeys : (n : ℕ) (s : NumberShown) (external_id : Option Text) → ShownStands scope.instances scope.imports n (shown_of t (numbered_shown s))
@@ -169,12 +163,8 @@ module _ (t : Tables) (tables : AreTables t) (Obeys : Form → List ℕ → Type
         at_each (λ (s : NumberSeen). seen_of t (numbered_seen s)) (λ n (s : Seen). ShownStands scope.instances scope.imports (count n) s.shown) (λ s. Unit {0})
         (λ (s : NumberSeen). AreHeld (showings_of_seen s) (signatures_of_seen s)) ss
         (λ n s any is. seen_obeys (count n) s.shown (given_text s.external_id) is) (all_any ss)
-        (subst (AllAt (λ n (s : Seen). ShownStands scope.instances scope.imports (count n) s.shown)) (map_of_map (seen_of t) numbered_seen ss) all) in (
-          all_flat ShowingStands showings_of_seen ss (recursion_weaker (λ (s : NumberSeen). AreHeld (showings_of_seen s) (signatures_of_seen s))
-              (λ (s : NumberSeen). AllByRecursion ShowingStands (showings_of_seen s)) (λ s h. h.0) ss each),
-          all_flat FunctionStands signatures_of_seen ss (recursion_weaker (λ (s : NumberSeen). AreHeld (showings_of_seen s) (signatures_of_seen s))
-              (λ (s : NumberSeen). AllByRecursion FunctionStands (signatures_of_seen s)) (λ s h. h.1) ss each),
-        )
+        (subst (AllAt (λ n (s : Seen). ShownStands scope.instances scope.imports (count n) s.shown)) (map_of_map (seen_of t) numbered_seen ss) all) in
+        all_held ShowingStands FunctionStands showings_of_seen signatures_of_seen ss each
 
   -- ---- members
 
@@ -190,10 +180,9 @@ module _ (t : Tables) (tables : AreTables t) (Obeys : Form → List ℕ → Type
         let holds = stands.stands in
         let imports = all_seen scope holds (λ n. n) w.imports.now (subst (AllAt (λ n (s : Seen). ShownStands scope.instances scope.imports n s.shown)) is.imports holds.imports) in
         let exports = all_seen scope holds (λ n. length scope.imports) w.exports.now
-        (subst (AllAt (λ n (s : Seen). ShownStands scope.instances scope.imports (length scope.imports) s.shown)) is.exports holds.exports) in (
-          all_both ShowingStands (flat_map showings_of_seen w.imports.now) (flat_map showings_of_seen w.exports.now) imports.0 exports.0,
-          all_both FunctionStands (flat_map signatures_of_seen w.imports.now) (flat_map signatures_of_seen w.exports.now) imports.1 exports.1,
-        )
+        (subst (AllAt (λ n (s : Seen). ShownStands scope.instances scope.imports (length scope.imports) s.shown)) is.exports holds.exports) in
+        two_held ShowingStands FunctionStands (flat_map showings_of_seen w.imports.now) (flat_map showings_of_seen w.exports.now) (flat_map signatures_of_seen w.imports.now)
+        (flat_map signatures_of_seen w.exports.now) imports exports
     part_obeys_all (parts.Interface p v imports) (reads.Part.interface view views) is each_stands stands =
         let front = map named_instance views in
         let last : Instance = named_instance (path_in identity label, view) in
@@ -212,34 +201,26 @@ module _ (t : Tables) (tables : AreTables t) (Obeys : Form → List ℕ → Type
               (view_types (IsShownBefore all own.0) (place_of last.interface) (numbered_view v) own_view),
           view_functions (IsShownBefore all own.0) (place_of last.interface) (numbered_view v) own_view,
         )
-    part_obeys_all (parts.World w) (reads.Part.interface view views) is each_stands stands = absurd is
-    part_obeys_all (parts.Interface p v imports) (reads.Part.world scope) is each_stands stands = absurd is
+    part_obeys_all _ _ is each_stands stands = absurd is
 
   members_obey : (h : Homes) (all : List Instance) (ms : List Member) (members : List reads.Member) → AllZip (IsMember t h) (numbered_members ms) members
       → ((x : Instance) → Contains (all_instances members) x → StandsAmong all x)
       → AllByRecursion (λ (x : reads.Member). PartStands x.part) members
       → AllByRecursion (λ (m : Member). AreHeld (showings_of_part m.part) (signatures_of_part m.part)) ms
-  members_obey h all [] [] zip each stand = tt
-  members_obey h all [] (x ∷ members) zip each stand = tt
   members_obey h all (m ∷ ms) [] zip each stand = absurd zip
   members_obey h all (m ∷ ms) (x ∷ members) zip each stand = (
     part_obeys_all h all m x.label x.package_ m.part x.part zip.0.part (λ y c. each y (Contains-append_left (instances_of x) (all_instances members) y c)) stand.0,
     members_obey h all ms members zip.1 (λ y c. each y (Contains-append_right (instances_of x) (all_instances members) y c)) stand.1,
   )
+  members_obey h all _ _ zip each stand = tt
 
   pub forms_hold : (h : Homes) (ms : List Member) (members : List reads.Member) → AllZip (IsMember t h) (numbered_members ms) members → MembersStand members
       → FormsHold t Obeys (showings_of_members ms) (signatures_of_members ms)
   forms_hold h ms members zip stand =
       let all = all_instances members in
       let each = members_obey h all ms members zip (λ x c. let at = contains-get all x c in (at.0, stand.views at.0 x at.1)) stand.parts in
-      record {
-        declared = all_flat ShowingStands (λ (m : Member). showings_of_part m.part) ms
-            (recursion_weaker (λ (m : Member). AreHeld (showings_of_part m.part) (signatures_of_part m.part)) (λ (m : Member). AllByRecursion ShowingStands (showings_of_part m.part))
-            (λ m held. held.0) ms each);
-        called = all_flat FunctionStands (λ (m : Member). signatures_of_part m.part) ms
-            (recursion_weaker (λ (m : Member). AreHeld (showings_of_part m.part) (signatures_of_part m.part)) (λ (m : Member). AllByRecursion FunctionStands (signatures_of_part m.part))
-            (λ m held. held.1) ms each);
-      }
+      let held = all_held ShowingStands FunctionStands (λ (m : Member). showings_of_part m.part) (λ (m : Member). signatures_of_part m.part) ms each in
+      record { declared = held.0; called = held.1 }
 
 pub forms_obeyed : FormsAreObeyed
 forms_obeyed t tables fit h ms members zip stand = forms_hold t tables (λ form parts. is_form form parts ≡ true) (form_obeys t tables fit) h ms members zip stand

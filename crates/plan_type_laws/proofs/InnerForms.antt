@@ -79,15 +79,13 @@ module _ (t : Tables) (tables : AreTables t) where
     handle_held (k ∷ []) h = by (tree_at t k) refl h
       where
         by : (x : Tree) → tree_at t k ≡ x → HandleStands Met (Trees.child x Trees.no_children) → IsHeld (k ∷ [])
-        by (Tree.primitive p) e h = absurd h
         by (Tree.named place name) e h = record { part = k; alone = refl; place = place; name = name; is = e; met = h }
-        by (Tree.node f ts) e h = absurd h
+        by _ e h = absurd h
     handle_held (k ∷ j ∷ parts) h = by (tree_at t k) h
       where
         by : (x : Tree) → HandleStands Met (Trees.child x (Trees.child (tree_at t j) (children (map (tree_at t) parts)))) → IsHeld (k ∷ j ∷ parts)
         by (Tree.primitive p) h = absurd h
-        by (Tree.named place name) h = absurd h
-        by (Tree.node f ts) h = absurd h
+        by _ h = absurd h
 
     -- an inner form of a well-formed tree is well-formed
     pub inner_stands : (k n : ℕ) (form : Form) (parts : List ℕ) → TreeStands Met (tree_at t k) → HasNumberIn t k n → slice_get t.shapes n ≡ Some (node_shape form parts)

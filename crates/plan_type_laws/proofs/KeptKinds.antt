@@ -11,9 +11,6 @@ use Rattle.plan_meaning.specs.Renumbering.{IsPart, a_primitive, a_shape}
 use Rattle.plan_meaning.specs.Shapes.{node_shape}
 use Rattle.std.proofs.lemmas.Option.{same_Some as same-some}
 
-no_some : {A B : Type 0} (x : A) → None ≡ Some x → B
-no_some x e = let wrong : ⊥ = cc in absurd wrong
-
 -- ---- numbers
 
 same_kept : (kept : List ℕ) (i j m n : ℕ) → slice_get kept i ≡ Some m → slice_get kept j ≡ Some n → i ≡ j → m ≡ n
@@ -31,14 +28,13 @@ one_old kept a b new (a_shape n i an i_at i_to) (a_shape m j bm j_at j_to) =
 module _ (t : Tables) (tables : AreTables t) (kept : List ℕ) (p : Plan) where
   same_olds : (ks ls news : List ℕ) → AllZip (Becomes t kept p) ks news → AllZip (Becomes t kept p) ls news → ks ≡ ls
   same_olds [] [] news x y = refl
-  same_olds [] (l ∷ ls) [] x y = absurd y
   same_olds [] (l ∷ ls) (n ∷ news) x y = absurd x
   same_olds (k ∷ ks) ls [] x y = absurd x
-  same_olds (k ∷ ks) [] (n ∷ news) x y = absurd y
   same_olds (k ∷ ks) (l ∷ ls) (n ∷ news) x y =
       let first : k ≡ l = one_old kept k l n x.0.part y.0.part in
       let rest : ks ≡ ls = same_olds ks ls news x.1 y.1 in
       λ i. first i ∷ rest i
+  same_olds _ _ _ x y = absurd y
 
   same_form : (a b m n : ℕ) (f g : Form) (olds others news mores : List ℕ) → a ≡ 14 + m → b ≡ 14 + n → slice_get t.shapes m ≡ Some (node_shape f olds)
       → slice_get t.shapes n ≡ Some (node_shape g others)

@@ -2,7 +2,7 @@
 pub mod FirstFound
 -- The forms in a part of the tables, and the trees that they stand for. Serves FormsObeyed, PartKinds, ShownRules, ViewMarks; crates above.
 pub mod InnerForms
--- Walks along what is shown: what holds of each item of a list, by the list that it stands for. Serves FormsObeyed, PartKinds, PartPlaces, ShownMarks; crates above.
+-- Walks along what is shown: what holds of each item of a list, by the list that it stands for. Serves FormsObeyed, PartKinds, PartPlaces, ShownForms and 2 more; crates above.
 pub mod Walks
 -- Forms of what was followed are as definitions have them. Serves laws::forms_are_obeyed; crates above.
 pub mod FormsObeyed
@@ -16,11 +16,11 @@ pub mod ShownForms
 pub mod KeptMarks
 -- Parts that are well-formed each alone are so together. Serves laws::members_stand_together; crates above.
 pub mod MembersStand
--- The places of what is shown, in trees and in numbers. Serves PartKinds, ShownMarks, ShownRules; crates above.
+-- The places of what is shown, in trees and in numbers. Serves PartKinds, ShownMarks, ShownRules, ViewMarks; crates above.
 pub mod PartPlaces
 -- The kinds of the names that are shown, in numbers. Serves ShownMarks, ViewMarks.
 pub mod PartKinds
--- Types that are used, where what is shown obeys the rules. Serves laws::used_parts_are_fine.
+-- Types that are used, where what is shown obeys the rules. Serves laws::used_parts_are_fine; crates above.
 pub mod UsedParts
 -- The types of a plan that were made of those that are used. Serves laws::planned_types_are_kept; crates above.
 pub mod PlanTypes

@@ -154,16 +154,14 @@ module _ (t : Tables) (kinds : Text → Text → Bool) where
               (λ n i both is. (both.0, view_kinds all n (Some (path_text t i.place)) i.place (path_place t i.place both.0) (numbered_view i.view) both.1 is))
               (all_unmapped (λ (i : ℕ × NumberedView). HasPath t i.0 × IsViewIn t i.0 i.1) numbered_import imports.now within.1) before;
         }
-    part_kinds (parts.World w) (reads.Part.interface view views) is stands has within names = absurd is
-    part_kinds (parts.Interface p v imports) (reads.Part.world scope) is stands has within names = absurd is
+    part_kinds _ _ is stands has within names = absurd is
 
   pub member_kinds : (h : Homes) → HomesStand t h → (ms : List Member) (members : List reads.Member) → AllZip (IsMember t h) (numbered_members ms) members
       → AllByRecursion (λ (x : reads.Member). PartStands x.part) members → AllByRecursion (MemberHasKinds kinds) members
       → AreMembersIn t (numbered_members ms) → AllByRecursion (λ (m : Member). PartNames t m.part) ms → AllByRecursion (λ (m : Member). PartKinds m.part) ms
-  member_kinds h stand [] [] zip stands has within names = tt
-  member_kinds h stand [] (x ∷ members) zip stands has within names = tt
   member_kinds h stand (m ∷ ms) [] zip stands has within names = absurd zip
   member_kinds h stand (m ∷ ms) (x ∷ members) zip stands has within names = (
     part_kinds h stand m x.package_ zip.0.package_ x.label zip.0.label m.part x.part zip.0.part stands.0 has.0 within.0 names.0,
     member_kinds h stand ms members zip.1 stands.1 has.1 within.1 names.1,
   )
+  member_kinds h stand _ _ zip stands has within names = tt

@@ -1,5 +1,7 @@
 -- The places of what is shown, in trees and in numbers.
-use Rattle.std.proofs.Common.{◌≡◌, sym, ap, subst, ◌∙◌, ℕ, true, false, List, [], map, Option, Some, None, slice_get, unwrap_or}
+use Rattle.plan_parts.specs.Interfaces.{slot_part}
+use Rattle.plan_meaning.specs.FollowedNumbers.{IsSlotOf}
+use Rattle.std.proofs.Common.{◌≡◌, sym, ap, subst, ◌∙◌, ℕ, true, false, List, [], map, Option, Some, None, slice_get, unwrap_or, ◌+◌}
 use Rattle.std.specs.List.{AllByRecursion}
 use Rattle.wit_model.specs.Names.{PackageIdentity, path_in}
 use Rattle.wit_model.specs.Text.{Text}
@@ -8,7 +10,7 @@ use Rattle.comp_meaning.specs.Follow.{Seen, interface_of, place_of}
 use Rattle.read_shown.specs.Scopes as scopes
 use Rattle.read_shown.specs.Trees.{AllAt}
 use Rattle.plan_meaning.specs.NumberedMembers.{Homes, HomesStand, home_at}
-use Rattle.plan_meaning.specs.NumberedViews.{AllOf, FunctionShape, PartsOf, Tables, path_text, place_at}
+use Rattle.plan_meaning.specs.NumberedViews.{AllOf, FunctionShape, PartsOf, Tables, path_text, place_at, NumberedSlot, resource, value}
 use Rattle.plan_meaning.specs.NumberedWorlds.{HasPath, KeyStands, NumberedKey, implementing, key_of, label, path, place_of_key, seen_of, shown_of}
 use Rattle.read_rules.specs.declared.scopes.Seen.{Seen as NumberSeen}
 use Rattle.read_rules.specs.declared.scopes.Shown.{Shown as NumberShown}
@@ -29,6 +31,11 @@ parts_weaker P Q one f all = (recursion_weaker (λ (x : Text × ℕ). P x.1) (λ
     by None given = tt
     by (Some k) given = one k given
 
+-- the part of a slot
+pub slot_number : (t : Tables) (s : NumberedSlot) (n : ℕ) → IsSlotOf t s n → slot_part s ≡ 14 + n
+slot_number t (value k) n e = e
+slot_number t (resource k) n e = e
+
 module _ (t : Tables) where
   pub path_place : (p : ℕ) → HasPath t p → place_of (Some (path_text t p)) ≡ place_at t p
   path_place p x = ap (λ o. place_of (Some (unwrap_or o []))) x.1 ∙ sym (ap place_of x.1)
@@ -41,9 +48,8 @@ module _ (t : Tables) where
 
   -- no type is exported
   no_name : (home : ℕ) (key : Text) (s : NumberShown) → scopes.is_type (shown_of t (numbered_shown s)) ≡ false → NamesShown t home key s
-  no_name home key (shown.Instance k v) none = tt
-  no_name home key (shown.Function n) none = tt
   no_name home key (shown.Declares part d) none = let wrong : true ≡ false = none in absurd cc
+  no_name home key _ _ = tt
 
   pub no_names : (home : ℕ) (ss : List NumberSeen) → AllAt (λ n (s : Seen). scopes.is_type s.shown ≡ false) (map (seen_of t) (map numbered_seen ss)) → AllByRecursion (NamesSeen t home) ss
   no_names home ss none =

@@ -1,4 +1,5 @@
 -- What holds of each form that is shown holds of each form of the plan.
+use Rattle.plan_type_laws.proofs.Walks.{all_two}
 use Rattle.std.proofs.Common.{◌≡◌, refl, sym, ap, subst, ◌∙◌, ℕ, zero, suc, ◌+◌, ◌-◌, arith, Bool, true, false, not, ◌==◌, if◌then◌else◌, List, [], ◌∷◌, map, length, Option, Some, None, option_and_then, option_to_list, slice_get}
 use Rattle.std.proofs.lemmas.Bool.{ltb-false}
 use Rattle.std.specs.Prelude.{nat_lt}
@@ -93,18 +94,13 @@ module _ (t : Tables) (tables : AreTables t) (P : Form → List ℕ → Type 0) 
       (hold : FormsHold t P showings signatures)
       (marks : List Bool) (used : AreUsed t (used_parts t showings signatures) marks) where
     shown_form : (n : ℕ) (s : Shape) → slice_get t.shapes n ≡ Some s → name_in s ≡ None → has (flat_map (showing_parts t) showings) (14 + n) ≡ true → EachForm t P (14 + n)
-    shown_form n s at no_name there = by showings are_names hold.declared there
+    shown_form n s at no_name there = in_flat (showing_parts t) (λ x. ((y : ℕ × Text) × (name_at t x.part ≡ Some y)) × AllOf (EachForm t P) x.declared) (14 + n) one showings
+        (all_two (λ x. (y : ℕ × Text) × (name_at t x.part ≡ Some y)) (λ x. AllOf (EachForm t P) x.declared) showings are_names hold.declared) there
       where
-        one : (x : NumberedShowing) → (y : ℕ × Text) × (name_at t x.part ≡ Some y) → AllOf (EachForm t P) x.declared → has (showing_parts t x) (14 + n) ≡ true → EachForm t P (14 + n)
-        one x is all there = in_both (x.part ∷ []) (declared_parts t x.declared) (14 + n) (λ h.
+        one : (x : NumberedShowing) → ((y : ℕ × Text) × (name_at t x.part ≡ Some y)) × AllOf (EachForm t P) x.declared → has (showing_parts t x) (14 + n) ≡ true → EachForm t P (14 + n)
+        one x (is, all) there = in_both (x.part ∷ []) (declared_parts t x.declared) (14 + n) (λ h.
             let wrong : None ≡ Some is.0 = sym (ap (name_at t) (one_there x.part (14 + n) h) ∙ (ap (option_and_then name_in) (shape_there t (14 + n) n s refl at) ∙ no_name)) ∙ is.1 in absurd cc)
             (declared_form x.declared all (14 + n)) there
-
-        by : (xs : List NumberedShowing) → AllByRecursion (λ (s : NumberedShowing). (x : ℕ × Text) × (name_at t s.part ≡ Some x)) xs
-            → AllByRecursion (λ (s : NumberedShowing). AllOf (EachForm t P) s.declared) xs
-            → has (flat_map (showing_parts t) xs) (14 + n) ≡ true → EachForm t P (14 + n)
-        by [] ns all there = let wrong : false ≡ true = there in absurd cc
-        by (x ∷ xs) ns all there = in_both (showing_parts t x) (flat_map (showing_parts t) xs) (14 + n) (one x ns.0 all.0) (by xs ns.1 all.1) there
 
     called_form : (n : ℕ) (s : Shape) → slice_get t.shapes n ≡ Some s → name_in s ≡ None → has (flat_map (function_parts t) signatures) (14 + n) ≡ true → EachForm t P (14 + n)
     called_form n s at no_name there =

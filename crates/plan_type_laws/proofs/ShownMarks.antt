@@ -23,7 +23,7 @@ use Rattle.plan_types.specs.Showings.{NumberedShowing, showings_of_import, showi
 use Rattle.plan_type_laws.proofs.PartKinds.{PartKinds, SeenKinds, ShownKinds, ViewKinds, member_kinds}
 use Rattle.plan_type_laws.proofs.PartPlaces.{parts_weaker}
 use Rattle.plan_type_laws.proofs.ViewMarks.{AreShown, Called, HasOwn, IsValue, Shown, call_marked, mark_of_form, mark_of_primitive, marks, name_marked, own_by_path, own_by_place, view_marked}
-use Rattle.plan_type_laws.proofs.Walks.{all_split, all_two}
+use Rattle.plan_type_laws.proofs.Walks.{all_split, all_two, two_held}
 use Rattle.plan_type_laws.specs.ShownForms.{EachForm}
 use Rattle.plan_type_laws.specs.ShownMarks.{NamesAreMarked, ShowingIsMarked, has_no_path, places_of_part, places_of_seen, places_of_shown}
 use Rattle.base_lemmas.proofs.Bools.{first_false, left_of as first_true, right_of as second_true, second_false}
@@ -94,8 +94,7 @@ module _ (test : ℕ → Bool) where
 module _ (t : Tables) (kinds : Text → Text → Bool) where
   abbrev frames_of_shown : (home : ℕ) (own : Text → Bool) (key : Text) (s : NumberShown) → ShownKinds t kinds home own key s → List Frame
   frames_of_shown home own key (shown.Instance k v) is = (place_of_key (numbered_key k), is.own) ∷ []
-  frames_of_shown home own key (shown.Function n) is = []
-  frames_of_shown home own key (shown.Declares part d) is = []
+  frames_of_shown home own key _ is = []
 
   abbrev frames_of_seen : (home : ℕ) (own : Text → Bool) (ss : List Seen) → AllByRecursion (SeenKinds t kinds home own) ss → List Frame
   frames_of_seen home own [] all = []
@@ -112,8 +111,7 @@ module _ (t : Tables) (kinds : Text → Text → Bool) where
   places_shown : (home : ℕ) (own : Text → Bool) (key : Text) (s : NumberShown) (is : ShownKinds t kinds home own key s)
       → map (λ (f : Frame). f.0) (frames_of_shown home own key s is) ≡ places_of_shown (numbered_shown s)
   places_shown home own key (shown.Instance k v) is = refl
-  places_shown home own key (shown.Function n) is = refl
-  places_shown home own key (shown.Declares part d) is = refl
+  places_shown home own key _ is = refl
 
   places_seen : (home : ℕ) (own : Text → Bool) (ss : List Seen) (all : AllByRecursion (SeenKinds t kinds home own) ss)
       → map (λ (f : Frame). f.0) (frames_of_seen home own ss all) ≡ places_of_seen (map numbered_seen ss)
@@ -149,9 +147,6 @@ module _ (t : Tables) (tables : AreTables t) (kinds : Text → Text → Bool) (o
   abbrev Holds : List NumberedShowing → List ℕ → Type 0
   Holds showings signatures = AreShown t tables kinds own_at showings signatures
 
-  two_held : (xs ys : List NumberedShowing) (ms ns : List ℕ) → Holds xs ms → Holds ys ns → Holds (xs ++ ys) (ms ++ ns)
-  two_held xs ys ms ns a b = (all_both (Shown t tables kinds own_at) xs ys a.0 b.0, all_both (Called t tables kinds own_at) ms ns a.1 b.1)
-
   module _ (home : ℕ) (own : Text → Bool) (has_own : HasOwn t tables kinds own_at home own) where
     shown_held : (key : Text) (s : NumberShown) (external_id : Option Text) (is : ShownKinds t kinds home own key s) → AllByRecursion Owned (frames_of_shown t kinds home own key s is)
         → Holds (showings_of_shown s external_id) (signatures_of_shown s)
@@ -164,7 +159,8 @@ module _ (t : Tables) (tables : AreTables t) (kinds : Text → Text → Bool) (o
     seen_held [] is all = (tt, tt)
     seen_held (s ∷ ss) is all =
         let split = all_split Owned (frames_of_shown t kinds home own s.key.now s.shown is.0) (frames_of_seen t kinds home own ss is.1) all in
-        two_held (showings_of_seen s) (flat_map showings_of_seen ss) (signatures_of_seen s) (flat_map signatures_of_seen ss) (shown_held s.key.now s.shown (given_text s.external_id) is.0 split.0)
+        two_held (Shown t tables kinds own_at) (Called t tables kinds own_at) (showings_of_seen s) (flat_map showings_of_seen ss) (signatures_of_seen s) (flat_map signatures_of_seen ss)
+        (shown_held s.key.now s.shown (given_text s.external_id) is.0 split.0)
         (seen_held ss is.1 split.1)
 
   imports_held : (is : List ImportedView) → AllByRecursion (λ (i : ImportedView). HasPath t i.place × ViewKinds t kinds i.place (numbered_view i.view)) is
@@ -178,7 +174,8 @@ module _ (t : Tables) (tables : AreTables t) (kinds : Text → Text → Bool) (o
   part_held (parts.World w) is all =
       let split = all_split Owned (frames_of_seen t kinds w.home is.own w.imports.now is.imports) (frames_of_seen t kinds w.home is.own w.exports.now is.exports) all.1 in
       let has_own = owned w.home is.own all.0 in
-      two_held (flat_map showings_of_seen w.imports.now) (flat_map showings_of_seen w.exports.now) (flat_map signatures_of_seen w.imports.now) (flat_map signatures_of_seen w.exports.now)
+      two_held (Shown t tables kinds own_at) (Called t tables kinds own_at) (flat_map showings_of_seen w.imports.now) (flat_map showings_of_seen w.exports.now)
+      (flat_map signatures_of_seen w.imports.now) (flat_map signatures_of_seen w.exports.now)
       (seen_held w.home is.own has_own w.imports.now is.imports split.0) (seen_held w.home is.own has_own w.exports.now is.exports split.1)
   part_held (parts.Interface p v imports) is all =
       let view = view_marked t tables kinds own_at p (numbered_view v) is.view (own_by_path t tables kinds own_at p is.view.own is.home) in
@@ -189,7 +186,8 @@ module _ (t : Tables) (tables : AreTables t) (kinds : Text → Text → Bool) (o
   members_held [] is all = (tt, tt)
   members_held (m ∷ ms) is all =
       let split = all_split Owned (frames_of_part t kinds m.part is.0) (frames t kinds ms is.1) all in
-      two_held (showings_of_part m.part) (showings_of_members ms) (signatures_of_part m.part) (signatures_of_members ms) (part_held m.part is.0 split.0) (members_held ms is.1 split.1)
+      two_held (Shown t tables kinds own_at) (Called t tables kinds own_at) (showings_of_part m.part) (showings_of_members ms) (signatures_of_part m.part) (signatures_of_members ms)
+      (part_held m.part is.0 split.0) (members_held ms is.1 split.1)
 
 -- ---- marks
 

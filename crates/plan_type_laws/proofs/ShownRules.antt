@@ -1,4 +1,5 @@
 -- What is shown of what was read obeys the rules.
+use Rattle.plan_type_laws.proofs.Walks.{Held, two_held}
 use Rattle.std.proofs.Common.{◌≡◌, sym, ap, subst, ◌∙◌, ℕ, ◌+◌, ◌<◌, arith, Bool, true, false, ◌&&◌, ◌||◌, List, [], ◌∷◌, ◌++◌, map, Option, Some, None, slice_get}
 use Rattle.std.proofs.lemmas.List.Folds.{list_all-append}
 use Rattle.std.proofs.lemmas.Option.{slice_get_within, same_Some as same-some}
@@ -36,7 +37,7 @@ use Rattle.read_exports.specs.declared.members.Part.TheVariants as parts
 use Rattle.read_exports.specs.Members.{numbered_member, numbered_members, numbered_part}
 use Rattle.plan_types.specs.Showings.{NumberedShowing, showing_of, showings_of_import, showings_of_members, showings_of_part, showings_of_seen, showings_of_shown, showings_of_view, signatures_of_members, signatures_of_part, signatures_of_seen, signatures_of_shown, signatures_of_view}
 use Rattle.plan_type_laws.proofs.InnerForms.{name_there}
-use Rattle.plan_type_laws.proofs.PartPlaces.{exported_place, key_place, no_names, parts_weaker, path_place}
+use Rattle.plan_type_laws.proofs.PartPlaces.{exported_place, key_place, no_names, parts_weaker, path_place, slot_number}
 use Rattle.plan_type_laws.specs.ShownMarks.{NamesSeen, NamesShown, PartNames}
 use Rattle.plan_type_laws.specs.ShownRules.{NamesObeyRules, ShowingIsName, ShownObeysRules}
 use Rattle.plan_type_laws.specs.UsedParts.{ShowingObeys, SignatureObeys}
@@ -46,10 +47,7 @@ use Rattle.std.proofs.ByRecursion.{All-weaker as recursion_weaker}
 
 module _ (t : Tables) (tables : AreTables t) where
   abbrev Hold : List NumberedShowing → List ℕ → Type 0
-  Hold showings signatures = AllByRecursion (ShowingIsName t) showings × AllByRecursion (SignatureObeys t) signatures
-
-  two_hold : (xs ys : List NumberedShowing) (ms ns : List ℕ) → Hold xs ms → Hold ys ns → Hold (xs ++ ys) (ms ++ ns)
-  two_hold xs ys ms ns a b = (all_both (ShowingIsName t) xs ys a.0 b.0, all_both (SignatureObeys t) ms ns a.1 b.1)
+  Hold = Held (ShowingIsName t) (SignatureObeys t)
 
   -- ---- functions
 
@@ -76,16 +74,12 @@ module _ (t : Tables) (tables : AreTables t) where
 
   -- ---- types
 
-  slot_number : (s : NumberedSlot) (n : ℕ) → IsSlotOf t s n → slot_part s ≡ 14 + n
-  slot_number (value k) n e = e
-  slot_number (resource k) n e = e
-
   type_obeys : (p : ℕ) (x : NumberedType) → IsShownIn t p x → (is_label x.name && rules.is_declared (place_at t p) (declaration_of t x.declared)) ≡ true → ShowingIsName t (showing_of x)
   type_obeys p x is h = record {
     number = is.number;
     home = p;
     name = x.name;
-    part = slot_number x.slot is.number is.slot;
+    part = slot_number t x.slot is.number is.slot;
     there = is.name.named;
     behind = is.name.behind;
     label = first_true (is_label x.name) (rules.is_declared (place_at t p) (declaration_of t x.declared)) h;
@@ -148,7 +142,7 @@ module _ (t : Tables) (tables : AreTables t) where
         let x = seen_of t (numbered_seen s) in
         let one = rules.is_item (rules.resources_seen earlier) x.key x.shown in
         let rest = rules.are_imports (earlier ++ x ∷ []) (map (seen_of t) (map numbered_seen ss)) in
-        two_hold (showings_of_seen s) (flat_map showings_of_seen ss) (signatures_of_seen s) (flat_map signatures_of_seen ss)
+        two_held (ShowingIsName t) (SignatureObeys t) (showings_of_seen s) (flat_map showings_of_seen ss) (signatures_of_seen s) (flat_map signatures_of_seen ss)
         (item_obeys (rules.resources_seen earlier) s.key.now s.shown (given_text s.external_id) within.0 named.0 (first_true one rest h))
         (imports_obey (earlier ++ x ∷ []) ss within.1 named.1 (second_true one rest h))
 
@@ -159,7 +153,7 @@ module _ (t : Tables) (tables : AreTables t) where
         let test = λ (s : Seen). rules.is_item [] s.key s.shown in
         let one = test (seen_of t (numbered_seen s)) in
         let rest = list_all test (map (seen_of t) (map numbered_seen ss)) in
-        two_hold (showings_of_seen s) (flat_map showings_of_seen ss) (signatures_of_seen s) (flat_map signatures_of_seen ss)
+        two_held (ShowingIsName t) (SignatureObeys t) (showings_of_seen s) (flat_map showings_of_seen ss) (signatures_of_seen s) (flat_map signatures_of_seen ss)
         (item_obeys [] s.key.now s.shown (given_text s.external_id) within.0 named.0 (first_true one rest h)) (exports_obey ss within.1 named.1 (second_true one rest h))
 
   world_obeys : (w : NumberScope) (scope : Scope) → Shows t (numbered_scope w) scope → scopes.ScopeStands scope → rules.is_world scope ≡ true → IsScopeIn t (numbered_scope w)
@@ -175,7 +169,8 @@ module _ (t : Tables) (tables : AreTables t) where
       let three = first_true (imports && exports && in_keys) out_keys four in
       let two = first_true (imports && exports) in_keys three in
       let exported = no_names t w.home w.exports.now (subst (AllAt (λ n (s : Seen). scopes.is_type s.shown ≡ false)) is.exports stands.no_types) in
-      two_hold (flat_map showings_of_seen w.imports.now) (flat_map showings_of_seen w.exports.now) (flat_map signatures_of_seen w.imports.now) (flat_map signatures_of_seen w.exports.now)
+      two_held (ShowingIsName t) (SignatureObeys t) (flat_map showings_of_seen w.imports.now) (flat_map showings_of_seen w.exports.now) (flat_map signatures_of_seen w.imports.now)
+      (flat_map signatures_of_seen w.exports.now)
       (imports_obey w.home within.home [] w.imports.now within.imports names (ap (rules.are_imports []) (sym is.imports) ∙ first_true imports exports two))
       (exports_obey w.home within.home w.exports.now within.exports exported (ap (list_all (λ (s : Seen). rules.is_item [] s.key s.shown)) (sym is.exports) ∙ second_true imports exports two))
 
@@ -198,7 +193,8 @@ module _ (t : Tables) (tables : AreTables t) where
       (view_obeys i.place (numbered_view i.view) within.0.1 (Place.of_interface (path_text t i.place)) (path_place t i.place within.0.0) (first_true one rest h)).0
       (views_obey is within.1 (second_true one rest h))
 
-  module _ (h : Homes) (stand : HomesStand t h) (m : Member) (identity : PackageIdentity) (there : slice_get h.packages m.package_number ≡ Some identity) (name : Text) (under : name ≡ m.label.now) where
+  module _ (h : Homes) (stand : HomesStand t h) (m : Member) (identity : PackageIdentity) (there : slice_get h.packages m.package_number ≡ Some identity) (name : Text)
+      (under : name ≡ m.label.now) where
     part_obeys : (part : Part) (y : reads.Part) → ShowsPart t h (numbered_member m) (numbered_part part) y → PartStands y
         → list_all may_be (reads.sights (record { label = name; package_ = identity; part = y })) ≡ true → IsPartIn t (numbered_part part) → PartNames t part
         → Hold (showings_of_part part) (signatures_of_part part)
@@ -215,23 +211,21 @@ module _ (t : Tables) (tables : AreTables t) where
               (views_obey imports.now within.1 (ap (λ vs. list_all may_be (map imported vs)) (sym is.imported) ∙ first_true front (list_all may_be (own ∷ [])) split)) shown.0,
           shown.1,
         )
-    part_obeys (parts.World w) (reads.Part.interface view views) is stands may within names = absurd is
-    part_obeys (parts.Interface p v imports) (reads.Part.world scope) is stands may within names = absurd is
+    part_obeys _ _ is stands may within names = absurd is
 
   members_obey : (h : Homes) → HomesStand t h → (ms : List Member) (members : List reads.Member) → AllZip (IsMember t h) (numbered_members ms) members
       → AllByRecursion (λ (x : reads.Member). PartStands x.part) members
       → list_all may_be (flat_map reads.sights members) ≡ true → AreMembersIn t (numbered_members ms) → AllByRecursion (λ (m : Member). PartNames t m.part) ms
       → Hold (showings_of_members ms) (signatures_of_members ms)
-  members_obey h stand [] [] zip stands may within names = (tt, tt)
-  members_obey h stand [] (x ∷ members) zip stands may within names = (tt, tt)
   members_obey h stand (m ∷ ms) [] zip stands may within names = absurd zip
   members_obey h stand (m ∷ ms) (x ∷ members) zip stands may within names =
       let first = list_all may_be (reads.sights x) in
       let rest = list_all may_be (flat_map reads.sights members) in
       let split : (first && rest) ≡ true = sym (list_all-append may_be (reads.sights x) (flat_map reads.sights members)) ∙ may in
-      two_hold (showings_of_part m.part) (showings_of_members ms) (signatures_of_part m.part) (signatures_of_members ms)
+      two_held (ShowingIsName t) (SignatureObeys t) (showings_of_part m.part) (showings_of_members ms) (signatures_of_part m.part) (signatures_of_members ms)
       (part_obeys h stand m x.package_ zip.0.package_ x.label zip.0.label m.part x.part zip.0.part stands.0 (first_true first rest split) within.0 names.0)
       (members_obey h stand ms members zip.1 stands.1 (second_true first rest split) within.1 names.1)
+  members_obey h stand _ _ zip stands may within names = (tt, tt)
 
   -- ---- what follows for each name
 

@@ -1,4 +1,5 @@
 -- Types that are used, where what is shown obeys the rules.
+use Rattle.plan_meaning.proofs.NumberedRules.{shape_there, no_shape}
 use Rattle.std.proofs.Common.{◌≡◌, refl, sym, ap, subst, ◌∙◌, ℕ, ◌+◌, ◌-◌, ◌<◌, ◌≤◌, arith, Bool, true, false, not, ◌&&◌, ◌||◌, ◌==◌, nat_le, if◌then◌else◌, List, [], ◌∷◌, map, Option, Some, None, option_and_then, option_map, option_to_list, slice_get}
 use Rattle.std.proofs.lemmas.Bool.{eqb-true, le-leb, leb-true, lt-ltb}
 use Rattle.std.proofs.lemmas.Option.{slice_get_within, same_Some as same-some}
@@ -22,11 +23,8 @@ use Rattle.plan_meaning.proofs.Words.{behind as part_number_of}
 
 -- ---- numbers and shapes
 
-shape_here : (t : Tables) (n : ℕ) (s : Shape) → slice_get t.shapes n ≡ Some s → shape_at t (14 + n) ≡ Some s
-shape_here t n s at = ap (option_and_then (slice_get t.shapes)) (part_number_of n) ∙ at
-
 low_form : (t : Tables) (k : ℕ) → k < 14 → is_form t k ≡ false
-low_form t k small = ap (λ b. option_map_or (λ (s : Shape). not (s.sort == 0)) (option_and_then (slice_get t.shapes) (if b then None else Some (k - 14))) false) (lt-ltb k 14 small)
+low_form t k small = ap (λ o. option_map_or (λ (s : Shape). not (s.sort == 0)) o false) (no_shape t k small)
 
 -- ---- trees
 
@@ -35,16 +33,13 @@ module _ (t : Tables) (tables : AreTables t) where
   among_parts : (place : Place) (ks : List ℕ) → are_parts place (children (map (tree_at t) ks)) ≡ true → deepest (children (map (tree_at t) ks)) ≤ most_levels → (k : ℕ) → has ks k ≡ true
       → IsFinePart t k
   among_parts place [] h deep k there = let wrong : false ≡ true = there in absurd cc
-  among_parts place (j ∷ ks) h deep k there =
-      by (j == k) refl there (among_parts place ks (second_true (rules.is_part place (tree_at t j)) (are_parts place (children (map (tree_at t) ks))) h) (omega (arith, deep)) k)
-    where
-      by : (b : Bool) → (j == k) ≡ b → (b || has ks k) ≡ true → (has ks k ≡ true → IsFinePart t k) → IsFinePart t k
-      by true e there later = subst (IsFinePart t) (eqb-true j k e) (record {
+  among_parts place (j ∷ ks) h deep k there = in_both (j ∷ []) ks k
+      (λ here. subst (IsFinePart t) (one_there j k here) (record {
         place = place;
         part = first_true (rules.is_part place (tree_at t j)) (are_parts place (children (map (tree_at t) ks))) h;
         shallow = le-leb (levels (tree_at t j)) most_levels (omega (arith, deep));
-      })
-      by false e there later = later there
+      }))
+      (among_parts place ks (second_true (rules.is_part place (tree_at t j)) (are_parts place (children (map (tree_at t) ks))) h) (omega (arith, deep)) k) there
 
   -- the form of a number
   node_of : (n : ℕ) (s : Shape) → slice_get t.shapes n ≡ Some s → name_in s ≡ None → (f : Form) × (tree_at t (14 + n) ≡ Tree.node f (children (map (tree_at t) s.parts)))
@@ -77,11 +72,11 @@ module _ (t : Tables) (tables : AreTables t) where
         sym no_name ∙ ap (λ b. if b then Some (s.number, first_label s.labels) else None) e in absurd cc
     sort_named false e = refl
 
-    has_form : (k : ℕ) → k ≡ 14 + n → is_form t k ≡ true
-    has_form k e = ap (is_form t) e ∙ (ap (λ o. option_map_or (λ (s : Shape). not (s.sort == 0)) o false) (shape_here t n s at) ∙ sort_named (s.sort == 0) refl)
+    pub has_form : (k : ℕ) → k ≡ 14 + n → is_form t k ≡ true
+    has_form k e = ap (is_form t) e ∙ (ap (λ o. option_map_or (λ (s : Shape). not (s.sort == 0)) o false) (shape_there t (14 + n) n s refl at) ∙ sort_named (s.sort == 0) refl)
 
     has_no_name : (k : ℕ) → k ≡ 14 + n → name_at t k ≡ None
-    has_no_name k e = ap (name_at t) e ∙ (ap (option_and_then name_in) (shape_here t n s at) ∙ no_name)
+    has_no_name k e = ap (name_at t) e ∙ (ap (option_and_then name_in) (shape_there t (14 + n) n s refl at) ∙ no_name)
 
     -- what is declared
     form_fine : (place : Place) (k : ℕ) → IsPart t k → rules.is_declared place (declaration_of t (Some k)) ≡ true → is_form t k ≡ true → has (form_parts t k) (14 + n) ≡ true → IsFinePart t (14 + n)
@@ -89,7 +84,8 @@ module _ (t : Tables) (tables : AreTables t) where
       where
         by : PartView (place_at t) t.shapes tables.shapes k (part_tree (shape_trees (place_at t) t.shapes) k) → IsFinePart t (14 + n)
         by (is_primitive q small stands number) = let wrong : false ≡ true = sym (low_form t k small) ∙ form in absurd cc
-        by (is_name m q x is at stands) = let wrong : false ≡ true = sym (ap (is_form t) is ∙ ap (λ o. option_map_or (λ (s : Shape). not (s.sort == 0)) o false) (shape_here t m (named_shape q x) at))
+        by (is_name m q x is at stands) = let wrong : false ≡ true = sym
+            (ap (is_form t) is ∙ ap (λ o. option_map_or (λ (s : Shape). not (s.sort == 0)) o false) (shape_there t (14 + m) m (named_shape q x) refl at))
             ∙ form in absurd cc
         by (is_node m f ks is at stands parts) =
             let rule : (are_labels (form_labels f) && are_parts place (children (map (tree_at t) ks)) && nat_le (deepest (children (map (tree_at t) ks))) most_levels) ≡ true =
@@ -99,7 +95,7 @@ module _ (t : Tables) (tables : AreTables t) where
             (first_true (are_labels (form_labels f) && are_parts place (children (map (tree_at t) ks))) (nat_le (deepest (children (map (tree_at t) ks))) most_levels) rule))
             (leb-true (deepest (children (map (tree_at t) ks))) most_levels (second_true (are_labels (form_labels f) && are_parts place (children (map (tree_at t) ks)))
             (nat_le (deepest (children (map (tree_at t) ks))) most_levels) rule))
-            (14 + n) (sym (ap (λ l. has l (14 + n)) (ap (form_parts t) is ∙ ap (λ o. option_map_or (λ (s : Shape). s.parts) o []) (shape_here t m (node_shape f ks) at))) ∙ there)
+            (14 + n) (sym (ap (λ l. has l (14 + n)) (ap (form_parts t) is ∙ ap (λ o. option_map_or (λ (s : Shape). s.parts) o []) (shape_there t (14 + m) m (node_shape f ks) refl at))) ∙ there)
 
     declared_fine : (place : Place) (d : Option ℕ) → AllOf (IsPart t) d → rules.is_declared place (declaration_of t d) ≡ true → has (declared_parts t d) (14 + n) ≡ true → IsFinePart t (14 + n)
     declared_fine place None range obeys there = let wrong : false ≡ true = there in absurd cc
@@ -112,11 +108,9 @@ module _ (t : Tables) (tables : AreTables t) where
             let wrong : false ≡ true = sym form ∙ has_form k same in absurd cc
 
     showing_fine : (x : NumberedShowing) → ShowingObeys t x → has (showing_parts t x) (14 + n) ≡ true → IsFinePart t (14 + n)
-    showing_fine x obeys there = by (x.part == 14 + n) refl there
-      where
-        by : (b : Bool) → (x.part == 14 + n) ≡ b → (b || has (declared_parts t x.declared) (14 + n)) ≡ true → IsFinePart t (14 + n)
-        by true e there = let wrong : None ≡ Some obeys.name = sym (has_no_name x.part (eqb-true x.part (14 + n) e)) ∙ obeys.is in absurd cc
-        by false e there = declared_fine obeys.place x.declared obeys.range obeys.obeys there
+    showing_fine x obeys there = in_both (x.part ∷ []) (declared_parts t x.declared) (14 + n)
+        (λ here. let wrong : None ≡ Some obeys.name = sym (has_no_name x.part (one_there x.part (14 + n) here)) ∙ obeys.is in absurd cc)
+        (declared_fine obeys.place x.declared obeys.range obeys.obeys) there
 
     showings_fine : (xs : List NumberedShowing) → AllByRecursion (ShowingObeys t) xs → has (flat_map (showing_parts t) xs) (14 + n) ≡ true → IsFinePart t (14 + n)
     showings_fine xs all there = in_flat (showing_parts t) (ShowingObeys t) (14 + n) showing_fine xs all there
@@ -133,14 +127,10 @@ module _ (t : Tables) (tables : AreTables t) where
         → has (map (λ (x : Text × ℕ). x.1) xs) (14 + n) ≡ true → IsFinePart t (14 + n)
     params_fine place [] h there = let wrong : false ≡ true = there in absurd cc
     params_fine place (x ∷ xs) h there =
-        by (x.1 == 14 + n) refl there (params_fine place xs (second_true (rules.is_parameter_type place (tree_at t x.1))
-        (list_all (λ (x : Text × Tree). rules.is_parameter_type place x.1) (map (λ (p : Text × ℕ). (p.0, tree_at t p.1)) xs)) h))
-      where
-        by : (b : Bool) → (x.1 == 14 + n) ≡ b → (b || has (map (λ (x : Text × ℕ). x.1) xs) (14 + n)) ≡ true → (has (map (λ (x : Text × ℕ). x.1) xs) (14 + n) ≡ true → IsFinePart t (14 + n))
-            → IsFinePart t (14 + n)
-        by true e there later = parameter_fine place x.1 (first_true (rules.is_parameter_type place (tree_at t x.1))
-            (list_all (λ (x : Text × Tree). rules.is_parameter_type place x.1) (map (λ (p : Text × ℕ). (p.0, tree_at t p.1)) xs)) h) (eqb-true x.1 (14 + n) e)
-        by false e there later = later there
+        let rest = list_all (λ (x : Text × Tree). rules.is_parameter_type place x.1) (map (λ (p : Text × ℕ). (p.0, tree_at t p.1)) xs) in
+        in_both (x.1 ∷ []) (map (λ (y : Text × ℕ). y.1) xs) (14 + n)
+        (λ here. parameter_fine place x.1 (first_true (rules.is_parameter_type place (tree_at t x.1)) rest h) (one_there x.1 (14 + n) here))
+        (params_fine place xs (second_true (rules.is_parameter_type place (tree_at t x.1)) rest h)) there
 
     result_fine : (place : Place) (r : Option ℕ) → rules.is_result_type place (option_map (tree_at t) r) ≡ true → has (option_to_list r) (14 + n) ≡ true → IsFinePart t (14 + n)
     result_fine place None h there = let wrong : false ≡ true = there in absurd cc

@@ -36,19 +36,7 @@ in_flat f P k one (x ∷ xs) all there = in_both (f x) (flat_map f xs) k (one x 
 
 pub unnamed_node : (f : Form) (ks : List ℕ) → name_in (node_shape f ks) ≡ None
 unnamed_node (Form.record_of names) ks = refl
-unnamed_node (Form.variant_of cases) ks = refl
-unnamed_node Form.list_of ks = refl
-unnamed_node (Form.fixed_list_of n) ks = refl
-unnamed_node Form.option_of ks = refl
-unnamed_node Form.own_of ks = refl
-unnamed_node Form.borrow_of ks = refl
-unnamed_node Form.map_of ks = refl
-unnamed_node Form.tuple_of ks = refl
-unnamed_node (Form.flags_of names) ks = refl
-unnamed_node (Form.enum_of names) ks = refl
-unnamed_node (Form.result_of ok err) ks = refl
-unnamed_node (Form.future_of some) ks = refl
-unnamed_node (Form.stream_of some) ks = refl
+unnamed_node _ ks = refl
 
 -- a shape without a name is that of a form
 pub form_there : (n : ℕ) (s : Shape) → name_in s ≡ None → IsShape n s → (form : Form) × (parts : List ℕ) × (s ≡ node_shape form parts)

@@ -1,4 +1,5 @@
 -- The marks of names by their kinds: what is shown in one place is marked as it is shown.
+use Rattle.plan_type_laws.proofs.PartPlaces.{slot_number}
 use Rattle.std.proofs.Common.{◌≡◌, ◌⊎◌, inl, inr, refl, sym, ap, subst, ◌∙◌, ℕ, ◌+◌, ◌<◌, arith, Bool, true, false, not, List, [], ◌∷◌, map, Option, Some, None, option_and_then, slice_get}
 use Rattle.std.specs.List.{AllByRecursion, Contains, list_all}
 use Rattle.std.specs.Option.{option_map_or}
@@ -31,19 +32,7 @@ use Rattle.std.proofs.lemmas.Bool.{and_from as both}
 
 same_handle : (form : Form) → is_handle_form form ≡ is_handle form
 same_handle (Form.record_of names) = refl
-same_handle (Form.variant_of cases) = refl
-same_handle Form.list_of = refl
-same_handle (Form.fixed_list_of n) = refl
-same_handle Form.option_of = refl
-same_handle Form.own_of = refl
-same_handle Form.borrow_of = refl
-same_handle Form.map_of = refl
-same_handle Form.tuple_of = refl
-same_handle (Form.flags_of names) = refl
-same_handle (Form.enum_of names) = refl
-same_handle (Form.result_of ok err) = refl
-same_handle (Form.future_of some) = refl
-same_handle (Form.stream_of some) = refl
+same_handle _ = refl
 
 module _ (t : Tables) (tables : AreTables t) (kinds : Text → Text → Bool) (own_at : ℕ → Text → Bool) where
   -- whether the name of a place is a resource
@@ -216,11 +205,7 @@ module _ (t : Tables) (tables : AreTables t) (kinds : Text → Text → Bool) (o
         (record { name = (p, name); is = is; marked = declared.tells s.part (mark_of_name s.part p name is ∙ sym (has name)) }, declared.inner)
 
     type_marked : (x : NumberedType) → IsShownIn t p x → DeclarationStands Kind (declaration_of t x.declared) (kind_at kinds own (place_at t p) x.name) → Shown (showing_of x)
-    type_marked x is stands = showing_marked (showing_of x) x.name (name_there t (slot_part x.slot) is.number p x.name (by x.slot is.slot) is.name.named) is.name.met stands
-      where
-        by : (s : NumberedSlot) → IsSlotOf t s is.number → slot_part s ≡ 14 + is.number
-        by (value k) e = e
-        by (resource k) e = e
+    type_marked x is stands = showing_marked (showing_of x) x.name (name_there t (slot_part x.slot) is.number p x.name (slot_number t x.slot is.number is.slot) is.name.named) is.name.met stands
 
     pub name_marked : (key : Text) (part : ℕ) (d : Option ℕ) (external_id : Option Text) → NameKinds t kinds p own key part d → Shown (record { part = part; declared = d; external_id = external_id })
     name_marked key part d external_id names = showing_marked (record { part = part; declared = d; external_id = external_id }) key names.is names.met names.kind

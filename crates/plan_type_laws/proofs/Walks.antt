@@ -1,4 +1,5 @@
 -- Walks along what is shown: what holds of each item of a list, by the list that it stands for.
+use Rattle.plan_types.specs.Showings.{NumberedShowing}
 use Rattle.std.proofs.Common.{refl, ℕ, zero, suc, List, [], ◌∷◌, ◌++◌, map}
 use Rattle.std.specs.List.{AllByRecursion, flat_map}
 use Rattle.read_shown.specs.Trees.{AllAt}
@@ -29,3 +30,16 @@ all_two P Q (x ∷ xs) ps qs = ((ps.0, qs.0), all_two P Q xs ps.1 qs.1)
 pub all_split : {A : Type 0} (P : A → Type 0) (xs ys : List A) → AllByRecursion P (xs ++ ys) → AllByRecursion P xs × AllByRecursion P ys
 all_split P [] ys all = (tt, all)
 all_split P (x ∷ xs) ys all = let rest = all_split P xs ys all.1 in ((all.0, rest.0), rest.1)
+
+-- ---- what holds of types and of functions
+
+module _ (P : NumberedShowing → Type 0) (Q : ℕ → Type 0) where
+  abbrev pub Held : List NumberedShowing → List ℕ → Type 0
+  Held showings signatures = AllByRecursion P showings × AllByRecursion Q signatures
+
+  pub two_held : (xs ys : List NumberedShowing) (ms ns : List ℕ) → Held xs ms → Held ys ns → Held (xs ++ ys) (ms ++ ns)
+  two_held xs ys ms ns a b = (all_both P xs ys a.0 b.0, all_both Q ms ns a.1 b.1)
+
+  pub all_held : {A : Type 0} (f : A → List NumberedShowing) (g : A → List ℕ) (xs : List A) → AllByRecursion (λ x. Held (f x) (g x)) xs → Held (flat_map f xs) (flat_map g xs)
+  all_held f g [] all = (tt, tt)
+  all_held f g (x ∷ xs) all = two_held (f x) (flat_map f xs) (g x) (flat_map g xs) all.0 (all_held f g xs all.1)

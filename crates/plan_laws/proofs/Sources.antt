@@ -1,0 +1,305 @@
+-- Where what is shown stands: a type in a view or as an import of a world, and a function in a whole view or in a world.
+use Rattle.std.proofs.Common.{◌≡◌, refl, sym, ap, subst, ◌∙◌, ℕ, suc, ◌⊎◌, inl, inr, true, false, List, [], ◌∷◌, ◌++◌, map, Option, Some, None, slice_get}
+use Rattle.std.specs.Borrow.{Bor}
+use Rattle.std.specs.List.{AllByRecursion, AllZip, Contains, flat_map}
+use Rattle.std.proofs.lemmas.List.Elements.{Contains-append_cases, Contains-append_left, Contains-append_right}
+use Rattle.wit_model.specs.Text.{Text}
+use Rattle.wit_model.proofs.Elements.{contains-flat, contains-get, none-in}
+use Rattle.comp_meaning.specs.Follow as follow
+use Rattle.comp_meaning.specs.Reads as reads
+use Rattle.comp_meaning.specs.Rules.{distinct}
+use Rattle.read_shown.proofs.Lists.{one_place}
+use Rattle.std.proofs.lemmas.Option.{same_Some as same-some}
+use Rattle.read_shown.specs.Parts.{PartStands, WorldStands}
+use Rattle.read_shown.specs.Scopes as scopes
+use Rattle.plan_meaning.specs.FollowedNumbers.{AreMembersIn, IsOneOf, IsPartIn, IsScopeIn, IsSeenIn, IsViewIn}
+use Rattle.plan_meaning.specs.NumberedMembers.{Homes, IsMember, NumberedMember, ShowsPart}
+use Rattle.plan_meaning.specs.NumberedViews.{AllOf, NumberedFunction, NumberedSight, NumberedType, NumberedView, Tables}
+use Rattle.plan_meaning.specs.NumberedWorlds.{HasPath, NumberedInstance, NumberedSeen, Shows, place_of_key, seen_of, shown_of}
+use Rattle.plan_meaning.specs.ReadWorlds.{is_type_seen}
+use Rattle.read_rules.specs.declared.reached.ImportedView.{ImportedView}
+use Rattle.read_rules.specs.declared.scopes.InstanceKey.{InstanceKey}
+use Rattle.read_rules.specs.declared.scopes.Scope.{Scope}
+use Rattle.read_rules.specs.declared.scopes.Seen.{Seen}
+use Rattle.read_rules.specs.declared.scopes.Shown.{Shown}
+use Rattle.read_rules.specs.declared.scopes.Shown.TheVariants as shown
+use Rattle.read_rules.specs.declared.views.View.{View}
+use Rattle.read_rules.specs.Reached.{numbered_import}
+use Rattle.read_rules.specs.Scopes.{numbered_instance, numbered_key, numbered_scope, numbered_seen, numbered_shown}
+use Rattle.read_rules.specs.Tables.{given_text}
+use Rattle.read_rules.specs.Views.{numbered_view}
+use Rattle.read_exports.specs.Members.{numbered_member, numbered_members, numbered_part}
+use Rattle.read_exports.specs.declared.members.Member.{Member}
+use Rattle.read_exports.specs.declared.members.Part.{Part}
+use Rattle.read_exports.specs.declared.members.Part.TheVariants as parts
+use Rattle.plan_types.specs.Showings.{NumberedShowing, showing_of, showings_of_import, showings_of_members, showings_of_part, showings_of_seen, showings_of_shown, showings_of_view, signatures_of_members, signatures_of_part, signatures_of_seen, signatures_of_shown}
+use Rattle.plan_package.specs.Views.{types_alone, views_of_members, views_of_part, whole_view}
+use Rattle.plan_laws.specs.ShownNames.{DeclaresName, IsInput, PartDeclaresNames}
+use Rattle.plan_laws.proofs.Inside.{flat_cases}
+use Rattle.base_lemmas.proofs.Elements.{all_at, contains-map, contains-one, get-contains, last_of as one-contained, map_from as from_map, zip_at, zip_at_right}
+use Rattle.base_lemmas.proofs.Lists.{mapped_get}
+
+-- ---- lists
+
+pub all_given : {A : Type 0} (P : A → Type 0) (xs : List A) → ((n : ℕ) (x : A) → slice_get xs n ≡ Some x → P x) → AllByRecursion P xs
+all_given P [] each = tt
+all_given P (x ∷ xs) each = (each 0 x refl, all_given P xs (λ n y e. each (suc n) y e))
+
+pub all_of : {A : Type 0} (P : A → Type 0) (xs : List A) → ((x : A) → Contains xs x → P x) → AllByRecursion P xs
+all_of P xs each = all_given P xs (λ n x e. each x (get-contains xs n x e))
+
+pub at_mapped : {A B : Type 0} (P : B → Type 0) (g : A → B) (xs : List A) → AllByRecursion P (map g xs) → (x : A) → Contains xs x → P (g x)
+at_mapped P g xs all x c = all_at P (map g xs) all (g x) (contains-map g xs x c)
+
+pub mapped_cases : {A B C : Type 0} (f : B → List C) (g : A → B) (xs : List A) (y : C) → Contains (flat_map f (map g xs)) y → (x : A) × Contains xs x × Contains (f (g x)) y
+mapped_cases f g xs y c =
+    let from = flat_cases f (map g xs) y c in
+    let one = from_map g xs from.0 from.1 in
+    (one.0, one.1, subst (λ z. Contains (f z) y) (sym one.2) from.2)
+
+pub among_mapped : {A B C : Type 0} (f : B → List C) (g : A → B) (xs : List A) (x : A) (y : C) → Contains xs x → Contains (f (g x)) y → Contains (flat_map f (map g xs)) y
+among_mapped f g xs x y c there = contains-flat f (map g xs) (g x) y (contains-map g xs x c) there
+
+-- what stands under a text, where none stands twice
+pub one_under : {A : Type 0} (key : A → Text) (xs : List A) → distinct (map key xs) ≡ true → (a b : A) → Contains xs a → Contains xs b → key a ≡ key b → a ≡ b
+one_under key xs apart a b c d e =
+    let i = contains-get xs a c in
+    let j = contains-get xs b d in
+    let same = one_place (map key xs) apart i.0 j.0 (key b) (mapped_get key xs i.0 a i.1 ∙ ap Some e) (mapped_get key xs j.0 b j.1) in
+    same-some a b (sym i.1 ∙ (ap (slice_get xs) same ∙ j.1))
+
+pub if_given : (P Q : ℕ → Type 0) → ((k : ℕ) → P k → Q k) → (d : Option ℕ) → AllOf P d → AllOf Q d
+if_given P Q one None given = tt
+if_given P Q one (Some k) given = one k given
+
+-- what stands beside an element
+pub partner : {A B : Type 0} (P : A → B → Type 0) (xs : List A) (ys : List B) → AllZip P xs ys → (x : A) → Contains xs x → (y : B) × Contains ys y × P x y
+partner P xs ys all x c =
+    let at = contains-get xs x c in
+    let y = zip_at P xs ys all at.0 x at.1 in
+    (y.0, get-contains ys at.0 y.0 y.1, y.2)
+
+pub partner_back : {A B : Type 0} (P : A → B → Type 0) (xs : List A) (ys : List B) → AllZip P xs ys → (y : B) → Contains ys y → (x : A) × Contains xs x × P x y
+partner_back P xs ys all y c =
+    let at = contains-get ys y c in
+    let x = zip_at_right P xs ys all at.0 y at.1 in
+    (x.0, get-contains xs at.0 x.0 x.1, x.2)
+
+pub beside : {A B C : Type 0} (R : B → C → Type 0) (f : A → B) (xs : List A) (ys : List C) → AllZip R (map f xs) ys → (x : A) → Contains xs x → (y : C) × Contains ys y × R (f x) y
+beside R f xs ys all x c = partner R (map f xs) ys all (f x) (contains-map f xs x c)
+
+-- ---- what a world imports and exports
+
+abbrev pub Side : Scope → Seen → Type 0
+Side w s = Contains w.imports.now s ⊎ Contains w.exports.now s
+
+abbrev pub sight_of : InstanceKey → View → NumberedSight
+sight_of key v = record { place = place_of_key (numbered_key key); view = numbered_view v; whole = true }
+
+module _ (w : Scope) where
+  pub side_shows : {A : Type 0} (f : Seen → List A) (s : Seen) (y : A) → Side w s → Contains (f s) y → Contains (flat_map f w.imports.now ++ flat_map f w.exports.now) y
+  side_shows f s y (inl c) there = Contains-append_left (flat_map f w.imports.now) (flat_map f w.exports.now) y (contains-flat f w.imports.now s y c there)
+  side_shows f s y (inr c) there = Contains-append_right (flat_map f w.imports.now) (flat_map f w.exports.now) y (contains-flat f w.exports.now s y c there)
+
+  pub side_of : {A : Type 0} (f : Seen → List A) (y : A) → Contains (flat_map f w.imports.now ++ flat_map f w.exports.now) y → (s : Seen) × Side w s × Contains (f s) y
+  side_of f y c = by (Contains-append_cases (flat_map f w.imports.now) (flat_map f w.exports.now) y c)
+    where
+      by : Contains (flat_map f w.imports.now) y ⊎ Contains (flat_map f w.exports.now) y → (s : Seen) × Side w s × Contains (f s) y
+      by (inl there) = let from = flat_cases f w.imports.now y there in (from.0, inl from.1, from.2)
+      by (inr there) = let from = flat_cases f w.exports.now y there in (from.0, inr from.1, from.2)
+
+  -- what holds of all holds of one
+  pub side_is : (P : NumberedSeen → Type 0) → AllByRecursion P (map numbered_seen w.imports.now) → AllByRecursion P (map numbered_seen w.exports.now) → (s : Seen) → Side w s → P (numbered_seen s)
+  side_is P imports exports s (inl c) = at_mapped P numbered_seen w.imports.now imports s c
+  side_is P imports exports s (inr c) = at_mapped P numbered_seen w.exports.now exports s c
+
+  module _ (t : Tables) (good : IsScopeIn t (numbered_scope w)) (s : Seen) (side : Side w s) where
+    pub side_good : (x : Shown) → s.shown ≡ x → IsSeenIn t w.home (record { key = s.key.now; shown = numbered_shown x; external_id = given_text s.external_id })
+    side_good x e = subst (λ z. IsSeenIn t w.home (record { key = s.key.now; shown = numbered_shown z; external_id = given_text s.external_id })) e
+        (side_is (IsSeenIn t w.home) good.imports good.exports s side)
+
+    pub side_one : (x : Shown) → s.shown ≡ x → IsOneOf t (map numbered_instance w.instances.now) (numbered_shown x)
+    side_one x e = subst (λ z. IsOneOf t (map numbered_instance w.instances.now) (numbered_shown z)) e
+        (side_is (λ (z : NumberedSeen). IsOneOf t (map numbered_instance w.instances.now) z.shown) good.imported good.exported s side)
+
+    pub side_view : (key : InstanceKey) (v : View) → s.shown ≡ shown.Instance key v → Contains (views_of_part (numbered_part (parts.World w))) (sight_of key v)
+    side_view key v e = contains-map whole_view (map numbered_instance w.instances.now) (record { place = place_of_key (numbered_key key); view = numbered_view v }) (side_one (shown.Instance key v) e)
+
+-- ---- the views of an interface
+
+module _ (p : ℕ) (v : View) (imports : Bor (List ImportedView)) where
+  abbrev pub own_sight : NumberedSight
+  own_sight = record { place = p; view = numbered_view v; whole = true }
+
+  abbrev pub import_sights : List NumberedSight
+  import_sights = map types_alone (map numbered_import imports.now)
+
+  pub own_there : Contains (views_of_part (numbered_part (parts.Interface p v imports))) own_sight
+  own_there = Contains-append_right import_sights (own_sight ∷ []) own_sight (contains-one own_sight)
+
+  pub import_there : (i : ImportedView) → Contains imports.now i → Contains (views_of_part (numbered_part (parts.Interface p v imports))) (types_alone (numbered_import i))
+  import_there i c = Contains-append_left import_sights (own_sight ∷ []) (types_alone (numbered_import i))
+      (contains-map types_alone (map numbered_import imports.now) (numbered_import i) (contains-map numbered_import imports.now i c))
+
+  pub interface_views : (s : NumberedSight) → Contains (views_of_part (numbered_part (parts.Interface p v imports))) s
+      → ((i : ImportedView) × Contains imports.now i × (types_alone (numbered_import i) ≡ s)) ⊎ (own_sight ≡ s)
+  interface_views s c = by (Contains-append_cases import_sights (own_sight ∷ []) s c)
+    where
+      by : Contains import_sights s ⊎ Contains (own_sight ∷ []) s → ((i : ImportedView) × Contains imports.now i × (types_alone (numbered_import i) ≡ s)) ⊎ (own_sight ≡ s)
+      by (inl there) =
+          let outer = from_map types_alone (map numbered_import imports.now) s there in
+          let i = from_map numbered_import imports.now outer.0 outer.1 in
+          inl (i.0, i.1, ap types_alone i.2 ∙ outer.2)
+      by (inr own) = inr (one-contained own_sight s own)
+
+-- ---- views of a part, and of all
+
+-- a view of a part is one of all
+pub view_among : (ms : List Member) (m : Member) → Contains ms m → (s : NumberedSight) → Contains (views_of_part (numbered_part m.part)) s → Contains (views_of_members (numbered_members ms)) s
+view_among ms m c s among = among_mapped (λ (x : NumberedMember). views_of_part x.part) numbered_member ms m s c among
+
+-- the view of an instance is one of all
+pub seen_sight : (t : Tables) (ms : List Member) (m : Member) → Contains ms m → (w : Scope) → m.part ≡ parts.World w → IsScopeIn t (numbered_scope w) → (s : Seen) → Side w s
+    → (key : InstanceKey) (v : View)
+    → s.shown ≡ shown.Instance key v → Contains (views_of_members (numbered_members ms)) (sight_of key v)
+seen_sight t ms m c w is good s side key v e =
+    view_among ms m c (sight_of key v) (subst (λ a. Contains (views_of_part (numbered_part a)) (sight_of key v)) (sym is) (side_view w t good s side key v e))
+
+module _ (t : Tables) where
+  pub part_at : (ms : List Member) → AreMembersIn t (numbered_members ms) → (m : Member) → Contains ms m → IsPartIn t (numbered_part m.part)
+  part_at ms good m c = at_mapped (λ (x : NumberedMember). IsPartIn t x.part) numbered_member ms good m c
+
+  pub view_in : (a : Part) → IsPartIn t (numbered_part a) → (s : NumberedSight) → Contains (views_of_part (numbered_part a)) s → IsViewIn t s.place s.view
+  view_in (parts.World w) good s c =
+      let i = from_map whole_view (map numbered_instance w.instances.now) s c in
+      subst (λ (x : NumberedSight). IsViewIn t x.place x.view) i.2 (all_at (λ (x : NumberedInstance). IsViewIn t x.place x.view) (map numbered_instance w.instances.now) good.instances i.0 i.1)
+  view_in (parts.Interface p v imports) good s c = by (interface_views p v imports s c)
+    where
+      by : ((i : ImportedView) × Contains imports.now i × (types_alone (numbered_import i) ≡ s)) ⊎ (own_sight p v imports ≡ s) → IsViewIn t s.place s.view
+      by (inl i) = subst (λ (x : NumberedSight). IsViewIn t x.place x.view) i.2
+          (at_mapped (λ (x : ℕ × NumberedView). HasPath t x.0 × IsViewIn t x.0 x.1) numbered_import imports.now good.1 i.0 i.1).1
+      by (inr own) = subst (λ (x : NumberedSight). IsViewIn t x.place x.view) own good.0.1
+
+  pub member_view_in : (ms : List Member) → AreMembersIn t (numbered_members ms) → (s : NumberedSight) → Contains (views_of_members (numbered_members ms)) s → IsViewIn t s.place s.view
+  member_view_in ms good s c =
+      let m = mapped_cases (λ (x : NumberedMember). views_of_part x.part) numbered_member ms s c in
+      view_in m.0.part (part_at ms good m.0 m.1) s m.2
+
+-- ---- no world exports a type
+
+abbrev pub ExportsNoType : Part → Type 0
+ExportsNoType (parts.World w) = AllByRecursion (λ (s : Seen). is_type_seen (numbered_shown s.shown) ≡ false) w.exports.now
+ExportsNoType (parts.Interface p v imports) = Unit {0}
+
+module _ (t : Tables) (h : Homes) where
+  pub exports_no_type : (a : Part) (b : reads.Part) (m : NumberedMember) → ShowsPart t h m (numbered_part a) b → PartStands b → ExportsNoType a
+  exports_no_type (parts.World w) (reads.Part.world scope) m shows stands = all_given (λ (s : Seen). is_type_seen (numbered_shown s.shown) ≡ false) w.exports.now one
+    where
+      same_type : (x : Shown) → scopes.is_type (shown_of t (numbered_shown x)) ≡ false → is_type_seen (numbered_shown x) ≡ false
+      same_type (shown.Declares part d) none = none
+      same_type _ _ = refl
+
+      one : (n : ℕ) (s : Seen) → slice_get w.exports.now n ≡ Some s → is_type_seen (numbered_shown s.shown) ≡ false
+      one n s there =
+          same_type s.shown
+          (stands.stands.no_types n (seen_of t (numbered_seen s)) (subst (λ ss. slice_get ss n ≡ Some (seen_of t (numbered_seen s))) (sym shows.exports)
+          (mapped_get (seen_of t) (map numbered_seen w.exports.now) n (numbered_seen s) (mapped_get numbered_seen w.exports.now n s there))))
+  exports_no_type (parts.Interface p v imports) b m shows stands = tt
+  exports_no_type (parts.World w) (reads.Part.interface view views) m shows stands = absurd shows
+
+-- ---- where it stands
+
+-- what an import of a type shows
+abbrev pub imported_showing : ℕ → Option ℕ → Option Text → NumberedShowing
+imported_showing part d id = record { part = part; declared = d; external_id = id }
+
+-- a part shows this: one of its views does, or an import of the world
+pub data IsShownIn (a : Part) (y : NumberedShowing) : Type 0 where
+  in_view : (s : NumberedSight) → Contains (views_of_part (numbered_part a)) s → (x : NumberedType) → Contains s.view.types x → showing_of x ≡ y → IsShownIn a y
+  of_world : (w : Scope) → a ≡ parts.World w → (c : Seen) → Contains w.imports.now c → (part : ℕ) (d : Option ℕ) → c.shown ≡ shown.Declares part d
+      → imported_showing part d (given_text c.external_id) ≡ y → IsShownIn a y
+
+-- a part shows a function of this type: a whole view of it does, or the world imports or exports it
+pub data IsSignedIn (a : Part) (f : ℕ) : Type 0 where
+  by_whole : (s : NumberedSight) → Contains (views_of_part (numbered_part a)) s → s.whole ≡ true → (g : Text × NumberedFunction) → Contains s.view.functions g → g.1.signature ≡ f → IsSignedIn a f
+  by_world : (w : Scope) → a ≡ parts.World w → (c : Seen) → Side w c → c.shown ≡ shown.Function f → IsSignedIn a f
+
+module _ (t : Tables) where
+  view_origin : (a : Part) (s : NumberedSight) → Contains (views_of_part (numbered_part a)) s → (y : NumberedShowing) → Contains (showings_of_view s.view) y → IsShownIn a y
+  view_origin a s c y among = let from = from_map showing_of s.view.types y among in in_view s c from.0 from.1 from.2
+
+  view_signed : (a : Part) (s : NumberedSight) → Contains (views_of_part (numbered_part a)) s → s.whole ≡ true → (f : ℕ)
+      → Contains (map (λ (g : Text × NumberedFunction). g.1.signature) s.view.functions) f
+      → IsSignedIn a f
+  view_signed a s c whole f among = let from = from_map (λ (g : Text × NumberedFunction). g.1.signature) s.view.functions f among in by_whole s c whole from.0 from.1 from.2
+
+  pub part_origin : (a : Part) → IsPartIn t (numbered_part a) → ExportsNoType a → (y : NumberedShowing) → Contains (showings_of_part a) y → IsShownIn a y
+  part_origin (parts.World w) good none y c = let from = side_of w showings_of_seen y c in by from.0 from.1 from.0.shown refl from.2
+    where
+      by : (s : Seen) → Side w s → (x : Shown) → s.shown ≡ x → Contains (showings_of_shown x (given_text s.external_id)) y → IsShownIn (parts.World w) y
+      by s side (shown.Instance k v) e among = view_origin (parts.World w) (sight_of k v) (side_view w t good s side k v e) y among
+      by s side (shown.Function f) e among = none-in y among
+      by s (inl there) (shown.Declares part d) e among = of_world w refl s there part d e (one-contained (imported_showing part d (given_text s.external_id)) y among)
+      by s (inr there) (shown.Declares part d) e among =
+          let wrong : true ≡ false = ap (λ x. is_type_seen (numbered_shown x)) (sym e) ∙ all_at (λ (x : Seen). is_type_seen (numbered_shown x.shown) ≡ false) w.exports.now none s there in
+          absurd cc
+  part_origin (parts.Interface p v imports) good none y c = by (Contains-append_cases (flat_map showings_of_import imports.now) (showings_of_view (numbered_view v)) y c)
+    where
+      by : Contains (flat_map showings_of_import imports.now) y ⊎ Contains (showings_of_view (numbered_view v)) y → IsShownIn (parts.Interface p v imports) y
+      by (inl among) = let i = flat_cases showings_of_import imports.now y among in
+          view_origin (parts.Interface p v imports) (types_alone (numbered_import i.0)) (import_there p v imports i.0 i.1) y i.2
+      by (inr among) = view_origin (parts.Interface p v imports) (own_sight p v imports) (own_there p v imports) y among
+
+  pub part_signed : (a : Part) → IsPartIn t (numbered_part a) → (f : ℕ) → Contains (signatures_of_part a) f → IsSignedIn a f
+  part_signed (parts.World w) good f c = let from = side_of w signatures_of_seen f c in by from.0 from.1 from.0.shown refl from.2
+    where
+      by : (s : Seen) → Side w s → (x : Shown) → s.shown ≡ x → Contains (signatures_of_shown x) f → IsSignedIn (parts.World w) f
+      by s side (shown.Instance k v) e among = view_signed (parts.World w) (sight_of k v) (side_view w t good s side k v e) refl f among
+      by s side (shown.Function g) e among = by_world w refl s side (e ∙ ap shown.Function (one-contained g f among))
+      by s side (shown.Declares part d) e among = none-in f among
+  part_signed (parts.Interface p v imports) good f c = view_signed (parts.Interface p v imports) (own_sight p v imports) (own_there p v imports) refl f c
+
+-- ---- all members
+
+module _ (t : Tables) (h : Homes) (ms : List Member) (members : List reads.Member) (input : IsInput t h ms members) where
+  -- a member, as it was followed
+  pub member_there : (m : Member) → Contains ms m → (y : reads.Member) × Contains members y × IsMember t h (numbered_member m) y × PartStands y.part
+  member_there m c =
+      let there = beside (IsMember t h) numbered_member ms members input.shown m c in
+      (there.0, there.1, there.2, all_at (λ (x : reads.Member). PartStands x.part) members input.stand.parts there.0 there.1)
+
+  -- each type that is shown is shown by a part
+  pub origin : (y : NumberedShowing) → Contains (showings_of_members ms) y → (m : Member) × Contains ms m × IsShownIn m.part y
+  origin y c =
+      let m = flat_cases (λ (m : Member). showings_of_part m.part) ms y c in
+      let there = member_there m.0 m.1 in
+      (m.0, m.1, part_origin t m.0.part (part_at t ms input.numbers m.0 m.1) (exports_no_type t h m.0.part there.0.part (numbered_member m.0) there.2.part there.3) y m.2)
+
+  -- and so is each function's type
+  pub signed : (f : ℕ) → Contains (signatures_of_members ms) f → (m : Member) × Contains ms m × IsSignedIn m.part f
+  signed f c = let m = flat_cases (λ (m : Member). signatures_of_part m.part) ms f c in (m.0, m.1, part_signed t m.0.part (part_at t ms input.numbers m.0 m.1) f m.2)
+
+  -- a world that is exported, and what it stands for
+  pub record IsWorldIn (w : Scope) : Type 0 where
+    pub scope : follow.Scope
+    pub shows : Shows t (numbered_scope w) scope
+    pub stands : WorldStands scope
+    pub good : IsScopeIn t (numbered_scope w)
+    pub declares : AllByRecursion (DeclaresName t w.home) w.imports.now
+    pub none : AllByRecursion (λ (s : Seen). is_type_seen (numbered_shown s.shown) ≡ false) w.exports.now
+
+  pub world_in : (m : Member) → Contains ms m → (w : Scope) → m.part ≡ parts.World w → IsWorldIn w
+  world_in m c w is =
+      let there = member_there m c in
+      by there.0.part (subst (λ a. ShowsPart t h (numbered_member m) (numbered_part a) there.0.part) is there.2.part) there.3
+    where
+      by : (b : reads.Part) → ShowsPart t h (numbered_member m) (numbered_part (parts.World w)) b → PartStands b → IsWorldIn w
+      by (reads.Part.world scope) shows stands = record {
+        scope = scope;
+        shows = shows;
+        stands = stands;
+        good = subst (λ a. IsPartIn t (numbered_part a)) is (part_at t ms input.numbers m c);
+        declares = subst (PartDeclaresNames t) is (all_at (λ (x : Member). PartDeclaresNames t x.part) ms input.declared m c);
+        none = exports_no_type t h (parts.World w) (reads.Part.world scope) (numbered_member m) shows stands;
+      }
+      by (reads.Part.interface view others) shows stands = absurd shows
