@@ -1,12 +1,15 @@
 -- What a reader from an offset answers at the front is what the function that reads the form finds there.
-use Rattle.std.proofs.Common.{◌≡◌, refl, sym, ap, ◌∙◌, subst, ℕ, ◌-◌, arith, List, length, take, drop, Option, Some, None}
+use Rattle.std.proofs.Common.{◌≡◌, refl, sym, ap, ◌∙◌, subst, ℕ, ◌-◌, ◌<◌, arith, List, [], ◌∷◌, length, take, drop, Option, Some, None}
 use Rattle.std.specs.Prelude.{slice_range}
 use Rattle.std.proofs.lemmas.List.{take-append-drop}
 use Rattle.wit_model.specs.declared.error.Error.{Error}
 use Rattle.wit_model.specs.declared.error.Error.TheVariants as errors
 use Rattle.comp_bytes.specs.Answer.{Refuses as RefusesAt}
 use Rattle.comp_bytes.specs.Form.{Spellings}
-use Rattle.comp_bytes.specs.Reading.{Reader}
+use Rattle.comp_bytes.specs.Number.{IsU32}
+use Rattle.comp_bytes.specs.Reading.{Reader, type_index_at, u32_at}
+use Rattle.comp_bytes.proofs.FormLaws.{type_index_law}
+use Rattle.comp_bytes.proofs.NumberLaws.{u32_law}
 use Rattle.comp_bytes.specs.Laws.{IsReadBy}
 use Rattle.std.proofs.lemmas.List.{take_at}
 use Rattle.read_follow.specs.Found.{Refuses, refusal_from, IsNoReading}
@@ -36,3 +39,14 @@ module _ {A : Type 0} {form : A → Spellings} {reader : Reader A} (law : IsRead
   pub refused_at : (bytes : List ℕ) (left : ℕ) (e : Error) → RefusesAt e bytes ((y : A) (end : ℕ) → form y (slice_range bytes 0 end) → ⊥) → Refuses (refusal_from e left) (reader bytes)
   refused_at bytes left (errors.NoReading cause offset) r = none_when bytes (reader bytes) refl r.1
   refused_at bytes left _ r = absurd r
+
+-- ---- numbers of one byte
+
+small : (b : ℕ) → b < 128 → IsU32 b (b ∷ [])
+small b below = record { spelled = (below, refl); short = omega arith; fits = omega (arith, below) }
+
+pub number_front : (bytes rest : List ℕ) (b : ℕ) → bytes ≡ b ∷ rest → b < 128 → u32_at bytes ≡ Some (b, rest)
+number_front bytes rest b is below = ap u32_at is ∙ u32_law.again b (b ∷ []) rest (small b below)
+
+pub index_front : (bytes rest : List ℕ) (b : ℕ) → bytes ≡ b ∷ rest → b < 64 → type_index_at bytes ≡ Some (b, rest)
+index_front bytes rest b is below = ap type_index_at is ∙ type_index_law.again b (b ∷ []) rest (record { number = small b (omega (arith, below)); positive = below })

@@ -12,6 +12,11 @@ use wit_model::Cause;
 pub(crate) fn u32_of(bytes: &[u8]) -> Result<(u32, &[u8]), Refusal>
     ensures { Finds (λ n. n) result (u32_at bytes.now) }
 {
+    if let Some((first, rest)) = bytes.split_first() {
+        if *first < 0x80 {
+            return Ok((u32::from(*first), rest));
+        }
+    }
     match read_u32(bytes, 0) {
         Ok((number, end)) => Ok((number, bytes.split_at(end).1)),
         Err(error) => Err(refusal_of(error, bytes.len())),
@@ -22,6 +27,11 @@ pub(crate) fn u32_of(bytes: &[u8]) -> Result<(u32, &[u8]), Refusal>
 pub(crate) fn index_of(bytes: &[u8]) -> Result<(u32, &[u8]), Refusal>
     ensures { Finds (λ n. n) result (type_index_at bytes.now) }
 {
+    if let Some((first, rest)) = bytes.split_first() {
+        if *first < 0x40 {
+            return Ok((u32::from(*first), rest));
+        }
+    }
     match read_index(bytes, 0) {
         Ok((number, end)) => Ok((number, bytes.split_at(end).1)),
         Err(error) => Err(refusal_of(error, bytes.len())),
