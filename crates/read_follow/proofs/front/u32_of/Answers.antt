@@ -1,5 +1,5 @@
 use Rattle.comp_bytes.proofs.NumberLaws.{u32_law}
-use Rattle.read_follow.proofs.FrontReaders.{because_of_bytes, found_at, refused_at}
+use Rattle.read_follow.proofs.FrontReaders.{because_of_bytes, found_at, number_front, refused_at}
 use Rattle.std.proofs.Common.{◌∙◌, ap, sym, Some}
 use Rattle.read_follow.proofs.front.u32_of.Goals as goal
 
@@ -11,3 +11,6 @@ returns-in-Err c = rw c.refusal_of.ensures (refused_at u32_law c.args.bytes.now 
 
 pub refusal_of-requires : goal.refusal_of-requires
 refusal_of-requires c = because_of_bytes c.in-Err.error _ _ c.in-Err.ensures
+
+pub returns-then-first-lt128 : goal.returns-then-first-lt128
+returns-then-first-lt128 c = number_front c.args.bytes.now c.in-Some.rest.now c.in-Some.first.now c.in-Some.ensures.cases.0 c.if-first-lt128.true
