@@ -37,8 +37,7 @@ module _ (r : Resolve) (m : ℕ) (is : IsPlan (plan_of r m)) where
 
   as_formed : (k : PlannedKind) → planned.parts_are_shallow (plan_of r m) k ≡ formed_pass (planned.is_shallow (plan_of r m)) k
   as_formed resource = refl
-  as_formed (alias k) = refl
-  as_formed (formed form ks) = refl
+  as_formed _ = refl
 
   kind_passes : (k : TypeDefKind) → planned.parts_are_shallow (plan_of r m) (planned_kind k) ≡ true → list_all (rules.is_shallow r) (member_types k) ≡ true
   kind_passes k h = members_pass (planned.is_shallow (plan_of r m)) (rules.is_shallow r) shallow k (sym (as_formed (planned_kind k)) ∙ h)

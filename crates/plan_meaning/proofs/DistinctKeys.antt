@@ -62,9 +62,8 @@ both_distinct f g es fs h = (
 
 same_key_is : (a b : WorldKey) → same_key (planned_key a) (planned_key b) ≡ key_eq a b
 same_key_is (key.Name a) (key.Name b) = refl
-same_key_is (key.Name a) (key.Interface b) = refl
 same_key_is (key.Interface a) (key.Name b) = refl
-same_key_is (key.Interface a) (key.Interface b) = refl
+same_key_is _ _ = refl
 
 other_keys : (k : WorldKey) (es : List (WorldKey × WorldItem)) → not (list_any (λ other. same_key (planned_key k) other.0) (planned_entries es)) ≡ true
     → AllByRecursion (λ y. key_eq k y ≡ false) (keys_of es)

@@ -36,7 +36,7 @@ use Rattle.plan_meaning.specs.Plan.{PlannedType, PlannedFunction, type_in}
 use Rattle.plan_meaning.specs.PlanRules as planned
 use Rattle.plan_meaning.specs.PlanRules.{IsPlan}
 use Rattle.plan_meaning.specs.Built.{part_of, given_parts, planned_kind, planned_type, planned_function, planned_interface, planned_world, planned_key, planned_item}
-use Rattle.plan_meaning.proofs.Lists.{then_of_map, or_of_map, same_then, same_or, all_built, each_built, each_from_built, each_two, no_true}
+use Rattle.plan_meaning.proofs.Lists.{then_there, or_there, or_of_map, same_or, all_built, each_built, each_from_built, each_two, no_true}
 use Rattle.plan_meaning.proofs.Words.{plan_of, behind, number_part}
 use Rattle.plan_meaning.proofs.FunctionRules.{interfaces_pass, worlds_pass, entries_pass}
 use Rattle.base_lemmas.proofs.Bools.{left_of as first_true, right_of as second_true}
@@ -50,57 +50,16 @@ unnamed (Some s) = refl
 
 own_is : (n : ℕ) (k : TypeDefKind) → planned.is_own_kind n (planned_kind k) ≡ rules.is_own_kind n k
 own_is n (kind.Handle (handle.Own id)) = ap (is_id n) (behind id.0)
-own_is n (kind.Handle (handle.Borrow id)) = refl
-own_is n kind.Resource = refl
-own_is n (kind.Record x) = refl
-own_is n (kind.Flags x) = refl
-own_is n (kind.Tuple x) = refl
-own_is n (kind.Variant x) = refl
-own_is n (kind.Enum x) = refl
-own_is n (kind.Option t) = refl
-own_is n (kind.Result x) = refl
-own_is n (kind.List t) = refl
-own_is n (kind.Map k v) = refl
-own_is n (kind.FixedLengthList t l) = refl
-own_is n (kind.Future t) = refl
-own_is n (kind.Stream t) = refl
-own_is n (kind.Type_ t) = refl
+own_is n _ = refl
 
 borrow_is : (n : ℕ) (k : TypeDefKind) → planned.is_borrow_kind n (planned_kind k) ≡ rules.is_borrow_kind n k
 borrow_is n (kind.Handle (handle.Borrow id)) = ap (is_id n) (behind id.0)
-borrow_is n (kind.Handle (handle.Own id)) = refl
-borrow_is n kind.Resource = refl
-borrow_is n (kind.Record x) = refl
-borrow_is n (kind.Flags x) = refl
-borrow_is n (kind.Tuple x) = refl
-borrow_is n (kind.Variant x) = refl
-borrow_is n (kind.Enum x) = refl
-borrow_is n (kind.Option t) = refl
-borrow_is n (kind.Result x) = refl
-borrow_is n (kind.List t) = refl
-borrow_is n (kind.Map k v) = refl
-borrow_is n (kind.FixedLengthList t l) = refl
-borrow_is n (kind.Future t) = refl
-borrow_is n (kind.Stream t) = refl
-borrow_is n (kind.Type_ t) = refl
+borrow_is n _ = refl
 
 resource_itself : (k : TypeDefKind) → planned.is_resource_kind (planned_kind k) ≡ rules.is_resource_itself k
 resource_itself kind.Resource = refl
 resource_itself (kind.Handle (handle.Own id)) = refl
-resource_itself (kind.Handle (handle.Borrow id)) = refl
-resource_itself (kind.Record x) = refl
-resource_itself (kind.Flags x) = refl
-resource_itself (kind.Tuple x) = refl
-resource_itself (kind.Variant x) = refl
-resource_itself (kind.Enum x) = refl
-resource_itself (kind.Option t) = refl
-resource_itself (kind.Result x) = refl
-resource_itself (kind.List t) = refl
-resource_itself (kind.Map k v) = refl
-resource_itself (kind.FixedLengthList t l) = refl
-resource_itself (kind.Future t) = refl
-resource_itself (kind.Stream t) = refl
-resource_itself (kind.Type_ t) = refl
+resource_itself _ = refl
 
 own_of_is : (n : ℕ) (def : TypeDef) → planned.is_own_of n (planned_type def) ≡ rules.is_own_of n def
 own_of_is n def = λ i. unnamed def.name i && own_is n def.kind i
@@ -111,14 +70,10 @@ borrow_of_is n def = λ i. unnamed def.name i && borrow_is n def.kind i
 module _ (r : Resolve) (m : ℕ) where
   -- a test of the type that a part is
   module _ (test : PlannedType → Bool) (rule : TypeDef → Bool) (same : (def : TypeDef) → test (planned_type def) ≡ rule def) where
-    type_there : (n : ℕ) → option_map_or test (type_in (plan_of r m) n) false ≡ option_map_or rule (type_at r n) false
-    type_there n = ap (λ o. option_map_or test o false) (get_of_map planned_type r.types.items n)
-        ∙ (or_of_map test planned_type false (type_at r n) ∙ same_or (λ def. test (planned_type def)) rule false same (type_at r n))
-
     part_is : (t : ValueType) → planned.part_is (plan_of r m) test (part_of t) ≡ rules.type_is r rule t
     part_is t =
         ap (λ o. option_map_or (λ n. option_map_or test (type_in (plan_of r m) n) false) o false) (number_part t)
-        ∙ same_or (λ n. option_map_or test (type_in (plan_of r m) n) false) (λ n. option_map_or rule (type_at r n) false) false type_there (number_of t)
+        ∙ same_or (λ n. option_map_or test (type_in (plan_of r m) n) false) (λ n. option_map_or rule (type_at r n) false) false (or_there test planned_type rule false same r.types.items) (number_of t)
 
   own_ok : (n : ℕ) (ok err : Option ValueType)
       → planned.has_own_ok (plan_of r m) n (plan.formed (Form.result_of (is_some ok) (is_some err)) (given_parts (ok ∷ err ∷ []))) ≡ option_map_or (rules.type_is r (rules.is_own_of n)) ok false
@@ -128,20 +83,7 @@ module _ (r : Resolve) (m : ℕ) where
   has_own_ok_is : (n : ℕ) (k : TypeDefKind) → planned.has_own_ok (plan_of r m) n (planned_kind k) ≡ rules.has_own_ok r n k
   has_own_ok_is n (kind.Result result) = own_ok n result.ok result.err
   has_own_ok_is n (kind.Handle (handle.Own id)) = refl
-  has_own_ok_is n (kind.Handle (handle.Borrow id)) = refl
-  has_own_ok_is n kind.Resource = refl
-  has_own_ok_is n (kind.Record x) = refl
-  has_own_ok_is n (kind.Flags x) = refl
-  has_own_ok_is n (kind.Tuple x) = refl
-  has_own_ok_is n (kind.Variant x) = refl
-  has_own_ok_is n (kind.Enum x) = refl
-  has_own_ok_is n (kind.Option t) = refl
-  has_own_ok_is n (kind.List t) = refl
-  has_own_ok_is n (kind.Map k v) = refl
-  has_own_ok_is n (kind.FixedLengthList t l) = refl
-  has_own_ok_is n (kind.Future t) = refl
-  has_own_ok_is n (kind.Stream t) = refl
-  has_own_ok_is n (kind.Type_ t) = refl
+  has_own_ok_is n _ = refl
 
   result_of_own_is : (n : ℕ) (def : TypeDef) → planned.is_result_of_own (plan_of r m) n (planned_type def) ≡ rules.is_result_of_own r n def
   result_of_own_is n def = λ i. unnamed def.name i && has_own_ok_is n def.kind i
@@ -155,34 +97,20 @@ module _ (r : Resolve) (m : ℕ) where
 
   takes_self_is : (n : ℕ) (f : Function) → planned.takes_self (plan_of r m) n (planned_function f) ≡ rules.takes_self r n f
   takes_self_is n f =
-      ap (λ o. option_map_or (λ (x : Text × ℕ). text_eq x.0 (codes "self") && planned.part_is (plan_of r m) (planned.is_borrow_of n) x.1) o false)
-      (get_of_map (λ (x : Param). (text_of x.name, part_of x.ty)) f.params.items 0)
-      ∙ (or_of_map (λ (x : Text × ℕ). text_eq x.0 (codes "self") && planned.part_is (plan_of r m) (planned.is_borrow_of n) x.1) (λ (x : Param). (text_of x.name, part_of x.ty)) false
-      (slice_get f.params.items 0)
-      ∙ same_or (λ (x : Param). text_eq (text_of x.name) (codes "self") && planned.part_is (plan_of r m) (planned.is_borrow_of n) (part_of x.ty))
+      or_there (λ (x : Text × ℕ). text_eq x.0 (codes "self") && planned.part_is (plan_of r m) (planned.is_borrow_of n) x.1) (λ (x : Param). (text_of x.name, part_of x.ty))
       (λ p. text_eq (text_of p.name) (codes "self") && rules.type_is r (rules.is_borrow_of n) p.ty) false
-      (λ x. ap (λ b. text_eq (text_of x.name) (codes "self") && b) (part_is (planned.is_borrow_of n) (rules.is_borrow_of n) (borrow_of_is n) x.ty)) (slice_get f.params.items 0))
+      (λ x. ap (λ b. text_eq (text_of x.name) (codes "self") && b) (part_is (planned.is_borrow_of n) (rules.is_borrow_of n) (borrow_of_is n) x.ty)) f.params.items 0
 
   member_of_is : (n : ℕ) (name : Text) (f : Function) (k : FunctionKind) → planned.is_member_of (plan_of r m) n name (planned_function f) k ≡ rules.is_member_of r n name f k
   member_of_is n name f (call.Constructor id) = ap (λ b. text_eq (text_of f.name) (constructor_name name) && b) (constructs_is n f)
   member_of_is n name f (call.Method id) = ap (λ b. rules.is_member_name (method_name name []) f && b) (takes_self_is n f)
   member_of_is n name f (call.AsyncMethod id) = ap (λ b. rules.is_member_name (method_name name []) f && b) (takes_self_is n f)
-  member_of_is n name f (call.Static id) = refl
-  member_of_is n name f (call.AsyncStatic id) = refl
-  member_of_is n name f call.Freestanding = refl
-  member_of_is n name f call.AsyncFreestanding = refl
-
-  resource_by : (o : TypeOwner) (def : TypeDef)
-      → (if planned.is_resource_kind (planned_kind def.kind) && same_owner def.owner o then optional_text def.name else None)
-      ≡ (if rules.is_resource_itself def.kind && same_owner def.owner o then optional_text def.name else None)
-  resource_by o def = ap (λ b. if b && same_owner def.owner o then optional_text def.name else None) (resource_itself def.kind)
+  member_of_is n name f _ = refl
 
   resource_name_is : (o : TypeOwner) (n : ℕ) → planned.resource_name (plan_of r m) o n ≡ rules.resource_name r o n
-  resource_name_is o n =
-      ap (option_and_then (λ t. if planned.is_resource_kind t.kind && same_owner t.owner o then t.name else None)) (get_of_map planned_type r.types.items n)
-      ∙ (then_of_map (λ t. if planned.is_resource_kind t.kind && same_owner t.owner o then t.name else None) planned_type (type_at r n)
-      ∙ same_then (λ def. if planned.is_resource_kind (planned_kind def.kind) && same_owner def.owner o then optional_text def.name else None)
-      (λ def. if rules.is_resource_itself def.kind && same_owner def.owner o then optional_text def.name else None) (resource_by o) (type_at r n))
+  resource_name_is o = then_there (λ t. if planned.is_resource_kind t.kind && same_owner t.owner o then t.name else None) planned_type
+      (λ def. if rules.is_resource_itself def.kind && same_owner def.owner o then optional_text def.name else None)
+      (λ def. ap (λ b. if b && same_owner def.owner o then optional_text def.name else None) (resource_itself def.kind)) r.types.items
 
   pub member_is : (o : TypeOwner) (f : Function) → planned.is_member (plan_of r m) o (planned_function f) ≡ rules.is_member r o f
   member_is o f = ap (λ test. passes test (resource_of f.kind)) (λ i n. at n i)
@@ -201,20 +129,14 @@ module _ (r : Resolve) (m : ℕ) where
 
   import_key : (n : ℕ) (k : WorldKey) (x : WorldItem) → planned.import_stands (plan_of r m) n (planned_key k, planned_item x) ≡ true
       → passes (λ f. is_name_key (text_of f.name) k) (item_function x) ≡ true
-  import_key n (key.Interface id) (item.Interface other stability docs external_id) h = refl
   import_key n (key.Interface id) (item.Function f) h = no_true h
-  import_key n (key.Interface id) (item.Type_ other) h = refl
-  import_key n (key.Name name) (item.Interface id stability docs external_id) h = refl
   import_key n (key.Name name) (item.Function f) h = first_true (text_eq (text_of name) (text_of f.name)) _ h
-  import_key n (key.Name name) (item.Type_ id) h = refl
+  import_key n _ _ h = refl
 
   export_key : (k : WorldKey) (x : WorldItem) → planned.export_stands (plan_of r m) (planned_key k, planned_item x) ≡ true → passes (λ f. is_name_key (text_of f.name) k) (item_function x) ≡ true
-  export_key (key.Interface id) (item.Interface other stability docs external_id) h = refl
   export_key (key.Interface id) (item.Function f) h = no_true h
-  export_key (key.Interface id) (item.Type_ other) h = refl
-  export_key (key.Name name) (item.Interface id stability docs external_id) h = refl
   export_key (key.Name name) (item.Function f) h = first_true (text_eq (text_of name) (text_of f.name)) _ (first_true (planned.is_function_key (text_of name) (planned_function f)) _ h)
-  export_key (key.Name name) (item.Type_ id) h = refl
+  export_key _ _ h = refl
 
   passes_both : (p q : Function → Bool) (o : Option Function) → passes p o ≡ true → passes q o ≡ true → passes (λ f. p f && q f) o ≡ true
   passes_both p q None h k = refl

@@ -44,8 +44,7 @@ items_are w = (λ i. values_are w.imports.entries i ++ values_are w.exports.entr
 
 picked : (x : WorldItem) (fs : List Function) → cons_option (plan.item_function (planned_item x)) (map planned_function fs) ≡ map planned_function (cons_option (item_function x) fs)
 picked (item.Interface id stability docs external_id) fs = refl
-picked (item.Function f) fs = refl
-picked (item.Type_ id) fs = refl
+picked _ fs = refl
 
 pub item_functions_are : (xs : List WorldItem) → filter_map plan.item_function (map planned_item xs) ≡ map planned_function (filter_map item_function xs)
 item_functions_are [] = refl
@@ -71,9 +70,8 @@ module _ (r : Resolve) (m : ℕ) (test : TypeOwner → PlannedFunction → Bool)
 
 -- each part of a form passes
 abbrev pub formed_pass : (ℕ → Bool) → PlannedKind → Bool
-formed_pass p resource = true
-formed_pass p (alias k) = true
 formed_pass p (formed form ks) = list_all p ks
+formed_pass p _ = true
 
 module _ (p : ℕ → Bool) (q : ValueType → Bool) (weaker : (t : ValueType) → p (part_of t) ≡ true → q t ≡ true) where
   pub parts_pass : (ts : List ValueType) → list_all p (map part_of ts) ≡ true → list_all q ts ≡ true
@@ -91,12 +89,8 @@ module _ (p : ℕ → Bool) (q : ValueType → Bool) (weaker : (t : ValueType) �
 
   pub members_pass : (k : TypeDefKind) → formed_pass p (planned_kind k) ≡ true → list_all q (member_types k) ≡ true
   members_pass (kind.Record record_) h = parts_pass (map (λ f. f.ty) record_.fields.items) (ap (list_all p) (map_of_map part_of (λ f. f.ty) record_.fields.items) ∙ h)
-  members_pass kind.Resource h = refl
-  members_pass (kind.Handle x) h = refl
-  members_pass (kind.Flags flags) h = refl
   members_pass (kind.Tuple tuple) h = parts_pass tuple.types.items h
   members_pass (kind.Variant variant) h = parts_pass (filter_map (λ c. c.ty) variant.cases.items) (ap (list_all p) (sym (given_all (λ c. c.ty) variant.cases.items)) ∙ h)
-  members_pass (kind.Enum enum) h = refl
   members_pass (kind.Option t) h = parts_pass (t ∷ []) h
   members_pass (kind.Result result) h = result_pass result.ok result.err h
   members_pass (kind.List t) h = parts_pass (t ∷ []) h
@@ -104,7 +98,7 @@ module _ (p : ℕ → Bool) (q : ValueType → Bool) (weaker : (t : ValueType) �
   members_pass (kind.FixedLengthList t n) h = parts_pass (t ∷ []) h
   members_pass (kind.Future t) h = option_pass t h
   members_pass (kind.Stream t) h = option_pass t h
-  members_pass (kind.Type_ t) h = refl
+  members_pass _ h = refl
 
 -- ---- the functions among the entries of a world
 

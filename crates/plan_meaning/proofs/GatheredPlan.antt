@@ -33,7 +33,8 @@ use Rattle.plan_meaning.proofs.NumberedWorlds.{path_number, sights_in_numbers}
 use Rattle.plan_meaning.proofs.Renumbering.{trees_are_kept}
 use Rattle.plan_meaning.proofs.ShapeLaws.{node_tree, part_behind, tree_at_number}
 use Rattle.base_lemmas.proofs.Bools.{left_of as first_true, right_of as second_true}
-use Rattle.base_lemmas.proofs.Elements.{all_at, contains-later, contains-map, contains-one, filter_keeps, filter_kept, map_from}
+use Rattle.base_lemmas.proofs.Elements.{all_at, contains-later, contains-map, contains-one, filter_keeps, filter_kept, map_from, zip_map}
+use Rattle.base_lemmas.proofs.Lists.{map_of_map}
 
 -- ---- lists
 
@@ -52,10 +53,7 @@ module _ (t : Tables) (tables : AreTables t) (kept : List ℕ) (p : Plan) (keeps
   part_kept old new b = trees_are_kept (place_at t) t.shapes kept p tables.shapes keeps.types keeps.fall old new b.part b.range
 
   pub parts_kept : (olds news : List ℕ) → AllZip (Becomes t kept p) olds news → map (part_tree (trees_in p)) news ≡ map (tree_at t) olds
-  parts_kept [] [] z = refl
-  parts_kept [] (new ∷ news) z = absurd z
-  parts_kept (old ∷ olds) [] z = absurd z
-  parts_kept (old ∷ olds) (new ∷ news) z = λ i. part_kept old new z.0 i ∷ parts_kept olds news z.1 i
+  parts_kept = zip_map (Becomes t kept p) (tree_at t) (part_tree (trees_in p)) part_kept
 
   pub form_tree : (old n : ℕ) (form : Form) (olds : List ℕ) → old ≡ 14 + n → slice_get t.shapes n ≡ Some (node_shape form olds) → tree_at t old ≡ Tree.node form (children (map (tree_at t) olds))
   form_tree old n form olds is there =
@@ -77,10 +75,9 @@ module _ (t : Tables) (tables : AreTables t) (kept : List ℕ) (p : Plan) (keeps
   type_entry e = (e.0, type_meaning_in p e.1)
 
   types_kept : (xs : List NumberedType) (es : List (Text × ℕ)) → AllZip (TypeListed t kept p) xs es → map type_entry es ≡ map named_meaning (map (shown_type t) xs)
-  types_kept [] [] z = refl
-  types_kept [] (e ∷ es) z = absurd z
-  types_kept (x ∷ xs) [] z = absurd z
-  types_kept (x ∷ xs) (e ∷ es) z = λ i. (z.0.0 i, type_kept x.declared x.external_id e.1 z.0.1 i) ∷ types_kept xs es z.1 i
+  types_kept xs es z =
+      zip_map (TypeListed t kept p) (λ x. named_meaning (shown_type t x)) type_entry (λ x e h i. (h.0 i, type_kept x.declared x.external_id e.1 h.1 i)) xs es z
+      ∙ sym (map_of_map named_meaning (shown_type t) xs)
 
   -- ---- functions and interfaces
 
@@ -88,16 +85,12 @@ module _ (t : Tables) (tables : AreTables t) (kept : List ℕ) (p : Plan) (keeps
   over trees x = (x.0, trees x.1)
 
   params_kept : (xs ys : List (Text × ℕ)) → AllZip (ParamBecomes t kept p) xs ys → map (over (part_tree (trees_in p))) ys ≡ map (over (tree_at t)) xs
-  params_kept [] [] z = refl
-  params_kept [] (y ∷ ys) z = absurd z
-  params_kept (x ∷ xs) [] z = absurd z
-  params_kept (x ∷ xs) (y ∷ ys) z = λ i. (z.0.0 i, part_kept x.1 y.1 z.0.1 i) ∷ params_kept xs ys z.1 i
+  params_kept = zip_map (ParamBecomes t kept p) (over (tree_at t)) (over (part_tree (trees_in p))) (λ x y h i. (h.0 i, part_kept x.1 y.1 h.1 i))
 
   result_kept : (a b : Option ℕ) → BecomesIfGiven t kept p a b → option_map (part_tree (trees_in p)) b ≡ option_map (tree_at t) a
   result_kept None None h = refl
   result_kept (Some a) (Some b) h = ap Some (part_kept a b h)
-  result_kept None (Some b) h = absurd h
-  result_kept (Some a) None h = absurd h
+  result_kept _ _ h = absurd h
 
   signature_kept : (f : FunctionShape) (id : Option Text) (g : PlannedFunction) → FunctionBecomes t kept p f id g → planned.signature_of p g ≡ signature_over (tree_at t) f
   signature_kept f id g b = λ i. record { is_async = b.waits i; params = params_kept f.params g.params b.params i; result = result_kept f.result g.result b.result i }
@@ -110,10 +103,8 @@ module _ (t : Tables) (tables : AreTables t) (kept : List ℕ) (p : Plan) (keeps
   function_entry e = (e.0, function_meaning p e.1)
 
   functions_kept : (fs : List (Text × NumberedFunction)) (es : List (Text × PlannedFunction)) → AllZip (FunctionListed t kept p) fs es → map function_entry es ≡ map (shown_function t) fs
-  functions_kept [] [] z = refl
-  functions_kept [] (e ∷ es) z = absurd z
-  functions_kept (f ∷ fs) [] z = absurd z
-  functions_kept (f ∷ fs) (e ∷ es) z = λ i. (z.0.0 i, function_kept (function_at t f.1.signature) f.1.external_id e.1 z.0.1 i) ∷ functions_kept fs es z.1 i
+  functions_kept = zip_map (FunctionListed t kept p) (shown_function t) function_entry
+      (λ f e h i. (h.0 i, function_kept (function_at t f.1.signature) f.1.external_id e.1 h.1 i))
 
   interface_kept : (v : NumberedView) (fs : List (Text × NumberedFunction)) (x : PlannedInterface) → InterfaceBecomes t kept p v fs x
       → planned.interface_meaning p x ≡ reads.interface_meaning (view_of t v) (map (shown_function t) fs)
@@ -132,30 +123,19 @@ module _ (t : Tables) (tables : AreTables t) (kept : List ℕ) (p : Plan) (keeps
       ap (λ o. option_map_or Item.interface o (Item.inline (interface_meaning_in p n))) h.1.0 ∙ ap Item.inline (interface_there v v.functions n h.1.1)
   item_kept (function m) id (plan.function g) h = ap Item.function (signature_kept (function_at t m) id g h)
   item_kept (declares d) id (plan.declares n) h = ap (λ (x : TypeMeaning). Item.declares x.declaration) (type_kept d id n h)
-  item_kept (instance key v) id (plan.function g) h = absurd h
-  item_kept (instance key v) id (plan.declares n) h = absurd h
-  item_kept (function m) id (plan.interface n other) h = absurd h
-  item_kept (function m) id (plan.declares n) h = absurd h
-  item_kept (declares d) id (plan.interface n other) h = absurd h
-  item_kept (declares d) id (plan.function g) h = absurd h
+  item_kept _ id _ h = absurd h
 
   id_kept : (s : NumberedShown) (id : Option Text) (x : PlannedItem) → ItemBecomes t kept p s id x → planned.item_external_id p x ≡ id
   id_kept (instance key v) id (plan.interface n other) h = h.0
   id_kept (function m) id (plan.function g) h = h.same_id
   id_kept (declares d) id (plan.declares n) h = ap (λ (x : TypeMeaning). x.external_id) (type_kept d id n h)
-  id_kept (instance key v) id (plan.function g) h = absurd h
-  id_kept (instance key v) id (plan.declares n) h = absurd h
-  id_kept (function m) id (plan.interface n other) h = absurd h
-  id_kept (function m) id (plan.declares n) h = absurd h
-  id_kept (declares d) id (plan.interface n other) h = absurd h
-  id_kept (declares d) id (plan.function g) h = absurd h
+  id_kept _ id _ h = absurd h
 
   entries_kept : (ss : List NumberedSeen) (es : List (PlannedKey × PlannedItem)) → AllZip (SeenBecomes t kept p) ss es → planned.entries_meaning p es ≡ map reads.entry (map (seen_of t) ss)
   entries_kept [] [] z = refl
-  entries_kept [] (e ∷ es) z = absurd z
-  entries_kept (s ∷ ss) [] z = absurd z
   entries_kept (s ∷ ss) (e ∷ es) z =
       λ i. (z.0.0 i, record { item = item_kept s.shown s.external_id e.1 z.0.1 i; external_id = id_kept s.shown s.external_id e.1 z.0.1 i }) ∷ entries_kept ss es z.1 i
+  entries_kept _ _ z = absurd z
 
   world_kept : (w : NumberedScope) (x : PlannedWorld) → WorldBecomes t kept p w x → (scope : Scope) → Shows t w scope → planned.world_meaning p x ≡ reads.world_meaning scope
   world_kept w x b scope shows =
@@ -176,9 +156,8 @@ module _ (t : Tables) (tables : AreTables t) (kept : List ℕ) (p : Plan) (keeps
       by : (a b : Bool) → a ≡ b → reads.functions_of (path_text t q) (map (sight_of t) seen) ≡ map (shown_function t) (functions_seen q seen)
           → cond a (map (shown_function t) s.view.functions) (reads.functions_of (path_text t q) (map (sight_of t) seen)) ≡ map (shown_function t) (cond b s.view.functions (functions_seen q seen))
       by true true e more = refl
-      by true false e more = absurd cc
-      by false true e more = absurd cc
       by false false e more = more
+      by _ _ e more = absurd cc
 
   -- the interface of a view that shows functions
   whole_kept : (seen : List NumberedSight) → AllByRecursion (IsSight t) seen → reads.all_agree (map (sight_of t) seen) ≡ true → reads.are_interfaces (map (sight_of t) seen) ≡ true
@@ -205,8 +184,6 @@ module _ (t : Tables) (tables : AreTables t) (kept : List ℕ) (p : Plan) (keeps
           → (es : List (Text × ℕ)) → AllZip (InterfacesListed t kept p seen) (interfaces_listed ms) es → map interface_entry es ≡ flat_map reads.interfaces_of members
       interfaces_kept [] among [] z [] listed = refl
       interfaces_kept [] among [] z (e ∷ es) listed = absurd listed
-      interfaces_kept [] among (x ∷ members) z es listed = absurd z
-      interfaces_kept (m ∷ ms) among [] z es listed = absurd z
       interfaces_kept (m ∷ ms) among (x ∷ members) z es listed =
           by m.part x.part z.0.part (λ s c. among m (0, omega arith, refl) s c) es listed (interfaces_kept ms (λ r c. among r (contains-later m ms r c)) members z.1)
         where
@@ -222,15 +199,13 @@ module _ (t : Tables) (tables : AreTables t) (kept : List ℕ) (p : Plan) (keeps
               let one : interface_meaning_in p e.1 ≡ reads.interface_meaning view view.functions =
               whole_kept seen sights agrees obey s there refl e.1 listed.0.there ∙ ap (λ (y : View). reads.interface_meaning y y.functions) (sym is.shown) in
               λ i. ((listed.0.name ∙ sym z.0.label) i, one i) ∷ more es listed.1 i
-          by (world w) (Part.interface view views) is own es listed more = absurd is
-          by (interface q v imports) (Part.world scope) is own es listed more = absurd is
+          by _ _ is own es listed more = absurd is
+      interfaces_kept _ among _ z es listed = absurd z
 
     worlds_kept : (ms : List NumberedMember) (members : List Member) → AllZip (IsMember t h) ms members → (es : List (Text × ℕ)) → AllZip (WorldsListed t kept p) (worlds_listed ms) es
         → map world_entry es ≡ flat_map reads.worlds_of members
     worlds_kept [] [] z [] listed = refl
     worlds_kept [] [] z (e ∷ es) listed = absurd listed
-    worlds_kept [] (x ∷ members) z es listed = absurd z
-    worlds_kept (m ∷ ms) [] z es listed = absurd z
     worlds_kept (m ∷ ms) (x ∷ members) z es listed = by m.part x.part z.0.part es listed (worlds_kept ms members z.1)
       where
         by : (a : NumberedPart) (b : Part) → ShowsPart t h m a b → (es : List (Text × ℕ))
@@ -244,8 +219,8 @@ module _ (t : Tables) (tables : AreTables t) (kept : List ℕ) (p : Plan) (keeps
             let one : world_meaning_in p e.1 ≡ reads.world_meaning scope = ap (λ o. option_map_or (planned.world_meaning p) o no_world) there.stands ∙ world_kept w there.world
             there.becomes scope is in
             λ i. ((listed.0.name ∙ sym z.0.label) i, one i) ∷ more es listed.1 i
-        by (world w) (Part.interface view views) is es listed more = absurd is
-        by (interface q v imports) (Part.world scope) is es listed more = absurd is
+        by _ _ is es listed more = absurd is
+    worlds_kept _ _ z es listed = absurd z
 
   -- an interface of the plan, under its path
   abbrev entry_of : Text × PlannedInterface → Text × InterfaceMeaning
@@ -264,10 +239,9 @@ module _ (t : Tables) (tables : AreTables t) (kept : List ℕ) (p : Plan) (keeps
     chosen_kept : (chosen : List NumberedSight) → ((s : NumberedSight) → Contains chosen s → Contains seen s) → (xs : List (Text × PlannedInterface)) → AllZip (SightBecomes t kept p seen) chosen xs
         → map entry_of xs ≡ map (seen_meaning seen_all) (map (sight_of t) chosen)
     chosen_kept [] among [] z = refl
-    chosen_kept [] among (x ∷ xs) z = absurd z
-    chosen_kept (s ∷ chosen) among [] z = absurd z
     chosen_kept (s ∷ chosen) among (x ∷ xs) z =
         λ i. sight_kept s (all_at (IsSight t) seen all s (among s (0, omega arith, refl))) x z.0 i ∷ chosen_kept chosen (λ r c. among r (contains-later s chosen r c)) xs z.1 i
+    chosen_kept _ among _ z = absurd z
 
     module _ (test : NumberedSight → Bool) (shown : List Sight) (agree : reads.all_agree seen_all ≡ true)
         (into : (s : Sight) → Contains shown s → (x : NumberedSight) × Contains seen x × (test x ≡ true) × (sight_of t x ≡ s))

@@ -18,8 +18,8 @@ use Rattle.wit_model.specs.Rules.{after_prefix, are_member_labels, in_list, is_f
 use Rattle.wit_model.proofs.VersionLaws.{same_text}
 use Rattle.comp_meaning.specs.Rules as rules
 use Rattle.comp_meaning.specs.Rules.{are_labels, is_label_behind, most_levels}
-use Rattle.plan_meaning.specs.Shapes.{Shape, first_label, form_code, named_shape, node_shape, IsShape, a_name, a_node}
-use Rattle.plan_meaning.specs.Plan.{Plan, PlannedType, PlannedFunction, formed, function_parts, part_number, type_in}
+use Rattle.plan_meaning.specs.Shapes.{Shape, first_label, form_code, named_shape, node_shape, IsShape, a_name, a_node, part_tree}
+use Rattle.plan_meaning.specs.Plan.{Plan, PlannedType, PlannedFunction, formed, function_parts, part_number, type_in, trees_in}
 use Rattle.plan_meaning.specs.PlanRules as plan
 use Rattle.plan_meaning.specs.PlanRules.{is_borrow_of, is_member, is_member_of, is_member_name, is_own_of, is_result_of_own, is_shallow, names_of, part_is, resource_name, takes_self}
 use Rattle.plan_meaning.specs.Renumbering.{IsPart, a_primitive, a_shape}
@@ -28,7 +28,8 @@ use Rattle.plan_meaning.specs.NumberedRules.{Fact, shape_at, name_in, only_of, h
 use Rattle.plan_meaning.specs.GatheredPlan.{Becomes, BecomesIfGiven, ParamBecomes}
 use Rattle.plan_meaning.specs.KeptTypes.{IsKeptType, unnamed, declared, TypesAreKept}
 use Rattle.plan_meaning.specs.KeptFunctions.{IsResource, IsKindOf, of_none, a_constructor, a_method, an_async_method, a_static, an_async_static, IsKeptFunction, FunctionPasses, KeptFunctionsPass}
-use Rattle.plan_meaning.proofs.GatheredPlan.{part_kept}
+use Rattle.plan_meaning.proofs.KeptParts.{shape_parts, signature_parts, function_zip, numbers_pass}
+use Rattle.plan_meaning.proofs.GatheredPlan.{part_kept, parts_kept}
 use Rattle.plan_meaning.proofs.KeptTypes.{keeps, member_labels}
 use Rattle.plan_meaning.proofs.Lists.{no_true}
 use Rattle.plan_meaning.proofs.NumberedRules.{no_name, no_shape, shape_there}
@@ -38,6 +39,8 @@ use Rattle.base_lemmas.proofs.Bools.{left_of as first_true, right_of as second_t
 use Rattle.base_lemmas.proofs.Lists.{map_of_map, within_there as slice_there}
 use Rattle.wit_model.proofs.PartsLemmas.{owner_itself}
 use Rattle.wit_model.proofs.TextLemmas.{text_same}
+use Rattle.base_lemmas.proofs.Elements.{all_weaker, joined_well, zip_map}
+use Rattle.std.proofs.lemmas.List.Folds.{list_all-map}
 
 -- ---- names
 
@@ -63,31 +66,18 @@ borrow_form _ h = no_true h
 
 -- what is the one number
 only_is : (ks : List ℕ) (k : ℕ) → only_of ks ≡ Some k → ks ≡ k ∷ []
-only_is [] k h = absurd cc
 only_is (l ∷ []) k h = ap (λ x. x ∷ []) (same-some l k h)
-only_is (l ∷ m ∷ ks) k h = absurd cc
+only_is _ k h = absurd cc
 
 -- a result that gives something where it succeeds
 result_form : (form : Form) (olds : List ℕ) (i : ℕ) → ok_in (node_shape form olds) ≡ Some i → (err : Bool) × (rest : List ℕ) × (form ≡ Form.result_of true err) × (olds ≡ i ∷ rest)
 result_form (Form.result_of true true) (k ∷ ks) i h = (true, ks, refl, ap (λ x. x ∷ ks) (same-some k i h))
 result_form (Form.result_of true false) (k ∷ ks) i h = (false, ks, refl, ap (λ x. x ∷ ks) (same-some k i h))
-result_form (Form.result_of true true) [] i h = absurd cc
-result_form (Form.result_of true false) [] i h = absurd cc
 result_form (Form.result_of false true) olds i h = absurd cc
-result_form (Form.result_of false false) olds i h = absurd cc
-result_form _ olds i h = absurd cc
+result_form _ _ i h = absurd cc
 
 module _ (t : Tables) (tables : AreTables t) (known : ℕ → Fact) (kept : List ℕ) (p : Plan) (are : TypesAreKept t kept p) where
   -- ---- parts
-
-  range_of : (n : ℕ) → n < 14 + length p.types → (ms : List ℕ) → list_all (in_list p.types) ms ≡ true → list_all (in_list p.types) (cons_option (part_number n) ms) ≡ true
-  range_of n h ms more = elim (split_part n) [
-    | inl low ↦ ap (λ b. list_all (in_list p.types) (cons_option (cond b None (Some (n - 14))) ms)) (lt-ltb n 14 low) ∙ more
-    | inr j ↦
-        ap (λ k. list_all (in_list p.types) (cons_option (part_number k) ms)) j.1
-        ∙ (ap (λ x. list_all (in_list p.types) (cons_option x ms)) (behind j.0) ∙ both (in_list p.types j.0) (list_all (in_list p.types) ms)
-        (lt-ltb j.0 (length p.types) (let is = j.1 in omega (arith, h, is))) more)
-  ]
 
   abbrev Becoming : ℕ → ℕ → Type 0
   Becoming = Becomes t kept p
@@ -105,56 +95,15 @@ module _ (t : Tables) (tables : AreTables t) (known : ℕ → Fact) (kept : List
       let number : is.0 ≡ m = same-some is.0 m (sym is.1 ∙ stands) in
       (found.0, found.1, subst (λ k. IsKeptType t kept p k found.0) number is.2)
 
-  params_in_range : (xs ys : List (Text × ℕ)) → AllZip (ParamBecomes t kept p) xs ys → (zs : List ℕ) → list_all (in_list p.types) (filter_map part_number zs) ≡ true
-      → list_all (in_list p.types) (filter_map part_number (map (λ (y : Text × ℕ). y.1) ys ++ zs)) ≡ true
-  params_in_range [] [] z zs more = more
-  params_in_range [] (y ∷ ys) z zs more = absurd z
-  params_in_range (x ∷ xs) [] z zs more = absurd z
-  params_in_range (x ∷ xs) (y ∷ ys) z zs more = range_of y.1 z.0.1.range (filter_map part_number (map (λ (u : Text × ℕ). u.1) ys ++ zs)) (params_in_range xs ys z.1 zs more)
-
-  result_in_range : (a b : Option ℕ) → BecomesIfGiven t kept p a b → list_all (in_list p.types) (filter_map part_number (option_to_list b)) ≡ true
-  result_in_range None None h = refl
-  result_in_range (Some a) (Some b) h = range_of b h.range [] refl
-  result_in_range None (Some b) h = absurd h
-  result_in_range (Some a) None h = absurd h
-
-  all_in_both : (xs ys : List ℕ) → list_all (in_list p.types) xs ≡ true → list_all (in_list p.types) ys ≡ true → list_all (in_list p.types) (xs ++ ys) ≡ true
-  all_in_both [] ys h k = k
-  all_in_both (x ∷ xs) ys h k =
-      both (in_list p.types x) (list_all (in_list p.types) (xs ++ ys)) (first_true (in_list p.types x) (list_all (in_list p.types) xs) h)
-      (all_in_both xs ys (second_true (in_list p.types x) (list_all (in_list p.types) xs) h) k)
-
   -- ---- levels
 
-  shallow_part : (place : Place) (old new : ℕ) → Becoming old new → rules.is_parameter_type place (tree_at t old) ≡ true → is_shallow p new ≡ true
-  shallow_part place old new b h =
-      ap (λ x. nat_le (levels x) most_levels) (part_kept t tables kept p (keeps t tables kept p are) old new b) ∙ second_true (rules.is_part place (tree_at t old))
-      (nat_le (levels (tree_at t old)) most_levels) h
-
-  params_shallow : (place : Place) (xs ys : List (Text × ℕ)) → AllZip (ParamBecomes t kept p) xs ys
-      → list_all (λ (x : Text × Tree). rules.is_parameter_type place x.1) (map (λ (x : Text × ℕ). (x.0, tree_at t x.1)) xs) ≡ true
-      → (zs : List ℕ) → list_all (is_shallow p) zs ≡ true → list_all (is_shallow p) (map (λ (y : Text × ℕ). y.1) ys ++ zs) ≡ true
-  params_shallow place [] [] z h zs more = more
-  params_shallow place [] (y ∷ ys) z h zs more = absurd z
-  params_shallow place (x ∷ xs) [] z h zs more = absurd z
-  params_shallow place (x ∷ xs) (y ∷ ys) z h zs more =
-      let first = first_true (rules.is_parameter_type place (tree_at t x.1)) (list_all (λ (u : Text × Tree). rules.is_parameter_type place u.1) (map (λ (u : Text × ℕ). (u.0, tree_at t u.1)) xs)) h in
-      let rest = second_true (rules.is_parameter_type place (tree_at t x.1)) (list_all (λ (u : Text × Tree). rules.is_parameter_type place u.1) (map (λ (u : Text × ℕ). (u.0, tree_at t u.1)) xs)) h in
-      both (is_shallow p y.1) (list_all (is_shallow p) (map (λ (u : Text × ℕ). u.1) ys ++ zs)) (shallow_part place x.1 y.1 z.0.1 first) (params_shallow place xs ys z.1 rest zs more)
-
-  result_shallow : (place : Place) (a b : Option ℕ) → BecomesIfGiven t kept p a b → rules.is_result_type place (option_map (tree_at t) a) ≡ true → list_all (is_shallow p) (option_to_list b) ≡ true
-  result_shallow place None None b h = refl
-  result_shallow place (Some a) (Some c) b h = both (is_shallow p c) true (shallow_part place a c b h) refl
-  result_shallow place None (Some c) b h = absurd b
-  result_shallow place (Some a) None b h = absurd b
-
-  -- ---- labels
-
-  names_kept : (xs ys : List (Text × ℕ)) → AllZip (ParamBecomes t kept p) xs ys → map (λ (y : Text × ℕ). y.0) ys ≡ map (λ (x : Text × ℕ). x.0) xs
-  names_kept [] [] z = refl
-  names_kept [] (y ∷ ys) z = absurd z
-  names_kept (x ∷ xs) [] z = absurd z
-  names_kept (x ∷ xs) (y ∷ ys) z = λ i. z.0.0 i ∷ names_kept xs ys z.1 i
+  parts_shallow : (place : Place) (olds news : List ℕ) → AllZip Becoming olds news → list_all (λ k. rules.is_parameter_type place (tree_at t k)) olds ≡ true → list_all (is_shallow p) news ≡ true
+  parts_shallow place olds news z h =
+      sym (list_all-map (λ x. nat_le (levels x) most_levels) (part_tree (trees_in p)) news)
+      ∙ (ap (list_all (λ x. nat_le (levels x) most_levels)) (parts_kept t tables kept p (keeps t tables kept p are) olds news z)
+      ∙ (list_all-map (λ x. nat_le (levels x) most_levels) (tree_at t) olds
+      ∙ all_weaker (λ k. rules.is_parameter_type place (tree_at t k)) (λ k. nat_le (levels (tree_at t k)) most_levels)
+      (λ k e. second_true (rules.is_part place (tree_at t k)) (nat_le (levels (tree_at t k)) most_levels) e) olds h))
 
   module _ (o : TypeOwner) (q : ℕ) where
     -- ---- resources
@@ -219,8 +168,7 @@ module _ (t : Tables) (tables : AreTables t) (known : ℕ → Fact) (kept : List
             by : (b : Bool) → ((form_code form).sort == sort) ≡ b → (found : Option ℕ) → only_of olds ≡ found → option_map_or (is_name t known q name) (cond b found None) false ≡ true
                 → (k : ℕ) × (form ≡ handle) × (olds ≡ k ∷ []) × (is_name t known q name k ≡ true)
             by true e (Some k) f h = (k, by_sort form e, only_is olds k f, h)
-            by true e None f h = no_true h
-            by false e found f h = no_true h
+            by _ e _ f h = no_true h
 
         -- the type of a handle of the resource
         record IsHandleType (x : PlannedType) : Type 0 where
@@ -346,34 +294,22 @@ module _ (t : Tables) (tables : AreTables t) (known : ℕ → Fact) (kept : List
       name_is_label (a_static id r e there named) = ap (λ k. not (is_freestanding k) || is_label g.name) e
       name_is_label (an_async_static id r e there named) = ap (λ k. not (is_freestanding k) || is_label g.name) e
 
-      abbrev trees_of : List (Text × Tree)
-      trees_of = map (λ (x : Text × ℕ). (x.0, tree_at t x.1)) f.params
-
-      abbrev good_labels : Bool
-      good_labels = are_labels (map (λ (x : Text × Tree). x.0) trees_of)
-
-      abbrev good_params : Bool
-      good_params = list_all (λ (x : Text × Tree). rules.is_parameter_type is.place x.1) trees_of
-
-      params_obey : (good_labels && good_params) ≡ true
-      params_obey = first_true (good_labels && good_params) (rules.is_result_type is.place (option_map (tree_at t) f.result)) is.obeys
-
-      result_obeys : rules.is_result_type is.place (option_map (tree_at t) f.result) ≡ true
-      result_obeys = second_true (good_labels && good_params) (rules.is_result_type is.place (option_map (tree_at t) f.result)) is.obeys
-
       labels_obey : are_member_labels (names_of g.params) ≡ true
       labels_obey =
-          member_labels (names_of g.params)
-          (ap are_labels (names_kept f.params g.params is.becomes.params ∙ sym (map_of_map (λ (x : Text × Tree). x.0) (λ (x : Text × ℕ). (x.0, tree_at t x.1)) f.params)) ∙ first_true good_labels
-          good_params params_obey)
+          let trees = map (λ (x : Text × ℕ). (x.0, tree_at t x.1)) f.params in
+          let labels = are_labels (map (λ (x : Text × Tree). x.0) trees) in
+          let params = list_all (λ (x : Text × Tree). rules.is_parameter_type is.place x.1) trees in
+          let names = zip_map (ParamBecomes t kept p) (λ (x : Text × ℕ). x.0) (λ (y : Text × ℕ). y.0) (λ x y h. h.0) f.params g.params is.becomes.params in
+          member_labels (names_of g.params) (ap are_labels (names ∙ sym (map_of_map (λ (x : Text × Tree). x.0) (λ (x : Text × ℕ). (x.0, tree_at t x.1)) f.params))
+          ∙ first_true labels params (first_true (labels && params) (rules.is_result_type is.place (option_map (tree_at t) f.result)) is.obeys))
 
       function_passes : FunctionPasses p o g
       function_passes = record {
-        in_range = all_in_both (filter_map part_number (function_parts g)) (option_to_list (resource_of g.kind))
-            (params_in_range f.params g.params is.becomes.params (option_to_list g.result) (result_in_range f.result g.result is.becomes.result)) (resource_number is.kind);
+        in_range = joined_well (in_list p.types) (filter_map part_number (function_parts g)) (option_to_list (resource_of g.kind))
+            (numbers_pass t kept p (shape_parts f) (function_parts g) (function_zip t kept p f id g is.becomes) (in_list p.types) (λ old c j m from at low. lt-ltb j (length p.types) low))
+            (resource_number is.kind);
         labels = both (not (is_freestanding g.kind) || is_label g.name) (are_member_labels (names_of g.params)) (name_is_label is.kind) labels_obey;
-        shallow = params_shallow is.place f.params g.params is.becomes.params (second_true good_labels good_params params_obey) (option_to_list g.result)
-            (result_shallow is.place f.result g.result is.becomes.result result_obeys);
+        shallow = parts_shallow is.place (shape_parts f) (function_parts g) (function_zip t kept p f id g is.becomes) (signature_parts t is.place f is.obeys);
         belongs = belongs is.kind;
       }
 

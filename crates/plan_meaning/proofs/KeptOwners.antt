@@ -17,7 +17,7 @@ use Rattle.comp_meaning.specs.Rules as rules
 use Rattle.comp_meaning.specs.Rules.{are_labels, are_parts, form_labels, is_named_form, most_levels}
 use Rattle.comp_meaning.proofs.SameLaws.{places_decide}
 use Rattle.plan_meaning.specs.Shapes.{Shape, node_shape, named_shape, shape_trees}
-use Rattle.plan_meaning.specs.Plan.{Plan, PlannedType, PlannedFunction, kind_numbers, part_number, alias_number, met_at, met_in, has_owner, type_in}
+use Rattle.plan_meaning.specs.Plan.{Plan, PlannedType, PlannedFunction, kind_numbers, part_number, alias_number, met_at, met_in, has_owner, type_in, function_parts}
 use Rattle.plan_meaning.specs.Plan as plan
 use Rattle.plan_meaning.specs.PlanRules.{function_stays, has_name, is_use, type_stays}
 use Rattle.plan_meaning.specs.Renumbering.{IsPart, a_primitive, a_shape}
@@ -27,6 +27,7 @@ use Rattle.plan_meaning.specs.GatheredPlan as gathered
 use Rattle.plan_meaning.specs.GatheredPlan.{Becomes, BecomesIfGiven, DeclaresKind, a_resource, a_form, FunctionBecomes, ParamBecomes}
 use Rattle.plan_meaning.specs.KeptTypes.{IsKeptType, unnamed, declared, TypesAreKept}
 use Rattle.plan_meaning.specs.KeptOwners.{IsNamedInterface, AreOwned, OwnersStand, KeptOwnersStand, of_name}
+use Rattle.plan_meaning.proofs.KeptParts.{shape_parts, all_parts, signature_parts, function_zip, numbers_pass}
 use Rattle.plan_meaning.proofs.GatheredPlan.{form_tree}
 use Rattle.plan_meaning.proofs.KeptTypes.{form_obeys, keeps, parts_before}
 use Rattle.plan_meaning.proofs.Lists.{no_true}
@@ -34,7 +35,7 @@ use Rattle.plan_meaning.proofs.NumberedRules.{no_name, shape_there}
 use Rattle.plan_meaning.proofs.ShapeLaws.{name_tree, part_behind, tree_at_number}
 use Rattle.plan_meaning.proofs.Words.{behind}
 use Rattle.base_lemmas.proofs.Bools.{left_of as first_true, right_of as second_true}
-use Rattle.base_lemmas.proofs.Elements.{all_at, all_by_number, contains-later, get-contains}
+use Rattle.base_lemmas.proofs.Elements.{all_at, all_by_number, contains-later, get-contains, all-contained, flat_all}
 use Rattle.base_lemmas.proofs.Lists.{slice_take, within_there as slice_there}
 use Rattle.std.proofs.lemmas.Option.{same_Some as same-some}
 use Rattle.wit_model.proofs.Owners.{numbered_at as numbered_there}
@@ -84,14 +85,6 @@ module _ (t : Tables) (tables : AreTables t) (kept : List ℕ) (p : Plan) (are :
     met_number table new i to own ms more =
         ap (λ o. list_all (has_owner p (owners q)) (flat_map (met_by table) (cons_option o ms))) (ap part_number to ∙ behind i) ∙ own_both (met_by table i) (flat_map (met_by table) ms) own more
 
-    parts_met : (table : List (List ℕ)) (olds news : List ℕ) → ((old new : ℕ) → Contains olds old → Becomes t kept p old new → IsMetAs table new) → AllZip (Becomes t kept p) olds news
-        → IsOwn (flat_map (met_by table) (filter_map part_number news))
-    parts_met table [] [] each z = refl
-    parts_met table [] (new ∷ news) each z = absurd z
-    parts_met table (old ∷ olds) [] each z = absurd z
-    parts_met table (old ∷ olds) (new ∷ news) each z =
-        each old new (get-contains (old ∷ olds) 0 old refl) z.0 (filter_map part_number news) (parts_met table olds news (λ a b c. each a b (contains-later old olds a c)) z.1)
-
     part_of_form : (place : Place) (ks : List ℕ) → are_parts place (children (map (tree_at t) ks)) ≡ true → (k : ℕ) → Contains ks k → rules.is_part place (tree_at t k) ≡ true
     part_of_form place [] h k (i, low, e) = absurd (omega (arith, low))
     part_of_form place (l ∷ ks) h k (zero, low, e) = ap (λ m. rules.is_part place (tree_at t m)) (sym e) ∙ first_true (rules.is_part place (tree_at t l))
@@ -111,18 +104,11 @@ module _ (t : Tables) (tables : AreTables t) (kept : List ℕ) (p : Plan) (are :
     form_met : (table : List (List ℕ)) (n : ℕ) (form : Form) (olds news : List ℕ) → slice_get t.shapes n ≡ Some (node_shape form olds) → AllZip (Becomes t kept p) olds news
         → are_parts (place_at t q) (children (map (tree_at t) olds)) ≡ true → ((old : ℕ) → Contains olds old → IsSeenFrom t q old)
         → ((i m : ℕ) → slice_get kept i ≡ Some m → m < n → i < length p.types → IsPartHere (14 + m) → IsOwn (met_by table i)) → IsOwn (flat_map (met_by table) (filter_map part_number news))
-    form_met table n form olds news there z parts seen lookup = parts_met table olds news one z
-      where
-        one : (old new : ℕ) → Contains olds old → Becomes t kept p old new → IsMetAs table new
-        one old new c b = by b.part
-          where
-            by : IsPart kept old new → IsMetAs table new
-            by (a_primitive small same) = met_low table new (omega (arith, small, same))
-            by (a_shape m i from at to) =
-                let low_old : old < 14 + n = all_at (λ k. k < 14 + n) olds (parts_before t tables kept p are n form olds there) old c in
-                let range = b.range in
-                met_number table new i to
-                (lookup i m at (omega (arith, from, low_old)) (omega (arith, range, to)) (subst IsPartHere from (record { part = part_of_form (place_at t q) olds parts old c; seen = seen old c })))
+    form_met table n form olds news there z parts seen lookup =
+        flat_all (has_owner p (owners q)) (met_by table) (filter_map part_number news)
+        ∙ numbers_pass t kept p olds news z (λ i. list_all (has_owner p (owners q)) (met_by table i)) (λ old c i m from at range.
+        let low_old : old < 14 + n = all_at (λ k. k < 14 + n) olds (parts_before t tables kept p are n form olds there) old c in
+        lookup i m at (omega (arith, from, low_old)) range (subst IsPartHere from (record { part = part_of_form (place_at t q) olds parts old c; seen = seen old c })))
 
     type_met : (j n : ℕ) → Smaller j → (x : PlannedType) → slice_get p.types j ≡ Some x → slice_get kept j ≡ Some n → IsKeptType t kept p n x → IsPartHere (14 + n)
         → IsOwn (met_at (take j all_met) (j, x))
@@ -152,44 +138,17 @@ module _ (t : Tables) (tables : AreTables t) (kept : List ℕ) (p : Plan) (are :
         ap (list_all (has_owner p (owners q))) (met_there p j found.0 found.1)
         ∙ type_met j n (λ i m less range at here_m. all_own fuel i m (omega (arith, less, h)) range at here_m) found.0 found.1 stands (subst (λ k. IsKeptType t kept p k found.0) number from.2) here
 
-    part_met : (old new : ℕ) → IsPartHere old → Becomes t kept p old new → IsMetAs all_met new
-    part_met old new here b = by b.part
-      where
-        by : IsPart kept old new → IsMetAs all_met new
-        by (a_primitive small same) = met_low all_met new (omega (arith, small, same))
-        by (a_shape m i from at to) = let range = b.range in met_number all_met new i to (all_own (suc i) i m (omega arith) (omega (arith, range, to)) at (subst IsPartHere from here))
-
     -- ---- functions
-
-    params_met : (xs ys : List (Text × ℕ)) → AllZip (ParamBecomes t kept p) xs ys → AllByRecursion (λ (x : Text × ℕ). IsSeenFrom t q x.1) xs
-        → list_all (λ (x : Text × Tree). rules.is_parameter_type (place_at t q) x.1) (map (λ (x : Text × ℕ). (x.0, tree_at t x.1)) xs) ≡ true
-        → (zs : List ℕ) → IsOwn (flat_map (met_by all_met) (filter_map part_number zs)) → IsOwn (flat_map (met_by all_met) (filter_map part_number (map (λ (y : Text × ℕ). y.1) ys ++ zs)))
-    params_met [] [] z seen h zs more = more
-    params_met [] (y ∷ ys) z seen h zs more = absurd z
-    params_met (x ∷ xs) [] z seen h zs more = absurd z
-    params_met (x ∷ xs) (y ∷ ys) z seen h zs more =
-        let rest_test = list_all (λ (u : Text × Tree). rules.is_parameter_type (place_at t q) u.1) (map (λ (u : Text × ℕ). (u.0, tree_at t u.1)) xs) in
-        let one = first_true (rules.is_parameter_type (place_at t q) (tree_at t x.1)) rest_test h in
-        part_met x.1 y.1 (record { part = first_true (rules.is_part (place_at t q) (tree_at t x.1)) _ one; seen = seen.0 }) z.0.1 (filter_map part_number (map (λ (u : Text × ℕ). u.1) ys ++ zs))
-        (params_met xs ys z.1 seen.1 (second_true (rules.is_parameter_type (place_at t q) (tree_at t x.1)) rest_test h) zs more)
-
-    result_met : (a b : Option ℕ) → BecomesIfGiven t kept p a b → AllOf (IsSeenFrom t q) a → rules.is_result_type (place_at t q) (option_map (tree_at t) a) ≡ true
-        → IsOwn (flat_map (met_by all_met) (filter_map part_number (option_to_list b)))
-    result_met None None b seen h = refl
-    result_met (Some a) (Some c) b seen h = part_met a c (record { part = first_true (rules.is_part (place_at t q) (tree_at t a)) _ h; seen = seen }) b [] refl
-    result_met None (Some c) b seen h = absurd b
-    result_met (Some a) None b seen h = absurd b
 
     function_own : (f : FunctionShape) (id : Option Text) (g : PlannedFunction) → FunctionBecomes t kept p f id g → PartsOf (IsSeenFrom t q) f
         → rules.is_signature (place_at t q) (signature_over (tree_at t) f) ≡ true
         → function_stays p (owners q) g ≡ true
     function_own f id g b seen h =
-        let trees = map (λ (x : Text × ℕ). (x.0, tree_at t x.1)) f.params in
-        let front = are_labels (map (λ (x : Text × Tree). x.0) trees) in
-        let params = list_all (λ (x : Text × Tree). rules.is_parameter_type (place_at t q) x.1) trees in
-        let result = rules.is_result_type (place_at t q) (option_map (tree_at t) f.result) in
-        params_met f.params g.params b.params seen.0 (second_true front params (first_true (front && params) result h)) (option_to_list g.result)
-        (result_met f.result g.result b.result seen.1 (second_true (front && params) result h))
+        flat_all (has_owner p (owners q)) (met_by all_met) (filter_map part_number (function_parts g))
+        ∙ numbers_pass t kept p (shape_parts f) (function_parts g) (function_zip t kept p f id g b) (λ i. list_all (has_owner p (owners q)) (met_by all_met i)) (λ old c i m from at range.
+        let one = all-contained (λ k. rules.is_parameter_type (place_at t q) (tree_at t k)) (shape_parts f) old (signature_parts t (place_at t q) f h) c in
+        all_own (suc i) i m (omega arith) range at (subst IsPartHere from
+        (record { part = first_true (rules.is_part (place_at t q) (tree_at t old)) _ one; seen = all_at (IsSeenFrom t q) (shape_parts f) (all_parts (IsSeenFrom t q) f seen) old c })))
 
   -- ---- types
 

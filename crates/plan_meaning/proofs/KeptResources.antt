@@ -6,7 +6,7 @@ use Rattle.std.proofs.lemmas.Bool.{lt-ltb, and_from as both}
 use Rattle.wit_model.specs.Text.{Text}
 use Rattle.wit_model.specs.Tree.{Form}
 use Rattle.wit_model.proofs.Tables.{grow_at}
-use Rattle.plan_meaning.specs.Plan.{Plan, PlannedKind, resource, alias, formed, PlannedType, part_number, marked_at, resource_marks, is_resource}
+use Rattle.plan_meaning.specs.Plan.{Plan, PlannedKind, resource, alias, formed, PlannedType, part_number, marked_at, resource_marks, is_resource, function_parts}
 use Rattle.plan_meaning.specs.PlanRules.{handles_resources, is_handle_form}
 use Rattle.plan_meaning.specs.Renumbering.{IsPart, a_primitive, a_shape}
 use Rattle.plan_meaning.specs.Shapes.{named_shape}
@@ -15,10 +15,11 @@ use Rattle.plan_meaning.specs.GatheredPlan as gathered
 use Rattle.plan_meaning.specs.GatheredPlan.{Becomes, BecomesIfGiven, DeclaresKind, a_resource, a_form, ParamBecomes}
 use Rattle.plan_meaning.specs.KeptTypes.{alone, IsKeptType, unnamed, declared, TypesAreKept}
 use Rattle.plan_meaning.specs.KeptResources.{MarkedBy, FormIsMarked, AreMarked, ResourcesStand, KeptResourcesStand}
+use Rattle.plan_meaning.proofs.KeptParts.{shape_parts, all_parts, function_zip, numbers_pass}
 use Rattle.plan_meaning.proofs.KeptTypes.{form_of_name}
 use Rattle.plan_meaning.proofs.Words.{behind}
 use Rattle.base_lemmas.proofs.Bools.{left_of as first_true, right_of as second_true}
-use Rattle.base_lemmas.proofs.Elements.{all_by_number}
+use Rattle.base_lemmas.proofs.Elements.{all_by_number, all-contained, all_pass, all_at}
 use Rattle.base_lemmas.proofs.Lists.{slice_take, within_there as slice_there}
 use Rattle.std.proofs.lemmas.Option.{same_Some as same-some}
 
@@ -79,26 +80,10 @@ module _ (t : Tables) (tables : AreTables t) (kept : List ℕ) (p : Plan) (are :
 
   -- ---- parts
 
-  module _ (test : Bool → Bool) where
-    part_tested : (old new : ℕ) → Becomes t kept p old new → test (marks old) ≡ true → (ms : List ℕ) → list_all (λ m. test (is_resource p m)) ms ≡ true
-        → list_all (λ m. test (is_resource p m)) (cons_option (part_number new) ms) ≡ true
-    part_tested old new b h ms more = by b.part
-      where
-        by : IsPart kept old new → list_all (λ m. test (is_resource p m)) (cons_option (part_number new) ms) ≡ true
-        by (a_primitive small same_part) = ap (λ c. list_all (λ m. test (is_resource p m)) (cons_option (cond c None (Some (new - 14))) ms)) (lt-ltb new 14 (omega (arith, small, same_part))) ∙ more
-        by (a_shape m i from there to) =
-            let range = b.range in
-            let is : is_resource p i ≡ marks old = marks_are (suc i) i m (omega arith) (omega (arith, range, to)) there ∙ ap marks (sym from) in
-            ap (λ o. list_all (λ k. test (is_resource p k)) (cons_option o ms)) (ap part_number to ∙ behind i) ∙ both (test (is_resource p i)) (list_all (λ k. test (is_resource p k)) ms)
-            (ap test is ∙ h) more
-
-    parts_tested : (olds news : List ℕ) → AllZip (Becomes t kept p) olds news → list_all (λ k. test (marks k)) olds ≡ true → list_all (λ m. test (is_resource p m)) (filter_map part_number news) ≡ true
-    parts_tested [] [] z h = refl
-    parts_tested [] (new ∷ news) z h = absurd z
-    parts_tested (old ∷ olds) [] z h = absurd z
-    parts_tested (old ∷ olds) (new ∷ news) z h =
-        part_tested old new z.0 (first_true (test (marks old)) (list_all (λ k. test (marks k)) olds) h) (filter_map part_number news)
-        (parts_tested olds news z.1 (second_true (test (marks old)) (list_all (λ k. test (marks k)) olds) h))
+  parts_tested : (test : Bool → Bool) (olds news : List ℕ) → AllZip (Becomes t kept p) olds news → list_all (λ k. test (marks k)) olds ≡ true
+      → list_all (λ m. test (is_resource p m)) (filter_map part_number news) ≡ true
+  parts_tested test olds news z h = numbers_pass t kept p olds news z (λ m. test (is_resource p m)) (λ old c i m from at range.
+      ap test (marks_are (suc i) i m (omega arith) range at ∙ ap marks (sym from)) ∙ all-contained (λ k. test (marks k)) olds old h c)
 
   form_handles : (form : Form) (olds news : List ℕ) → AllZip (Becomes t kept p) olds news → FormIsMarked marks form olds → handles_resources p (formed form news) ≡ true
   form_handles form olds news z is = by (is_handle_form form) refl
@@ -125,26 +110,11 @@ module _ (t : Tables) (tables : AreTables t) (kept : List ℕ) (p : Plan) (are :
     type_handles (unnamed place form olds news there z name owner kind part low) = ap (handles_resources p) kind ∙ form_handles form olds news z (marked.forms n form olds (alone j x e stands) there).1
     type_handles (declared q name d there named home kind before good obeys) = kind_handles q name there d kind
 
-  -- ---- functions
-
-  params_values : (xs ys : List (Text × ℕ)) → AllZip (ParamBecomes t kept p) xs ys → AllByRecursion (λ (x : Text × ℕ). marks x.1 ≡ false) xs → (zs : List ℕ)
-      → list_all (λ m. not (is_resource p m)) (filter_map part_number zs) ≡ true
-      → list_all (λ m. not (is_resource p m)) (filter_map part_number (map (λ (y : Text × ℕ). y.1) ys ++ zs)) ≡ true
-  params_values [] [] z h zs more = more
-  params_values [] (y ∷ ys) z h zs more = absurd z
-  params_values (x ∷ xs) [] z h zs more = absurd z
-  params_values (x ∷ xs) (y ∷ ys) z h zs more = part_tested not x.1 y.1 z.0.1 (ap not h.0) (filter_map part_number (map (λ (u : Text × ℕ). u.1) ys ++ zs)) (params_values xs ys z.1 h.1 zs more)
-
-  result_values : (a b : Option ℕ) → BecomesIfGiven t kept p a b → AllOf (λ k. marks k ≡ false) a → list_all (λ m. not (is_resource p m)) (filter_map part_number (option_to_list b)) ≡ true
-  result_values None None h v = refl
-  result_values (Some a) (Some b) h v = part_tested not a b h (ap not v) [] refl
-  result_values None (Some b) h v = absurd h
-  result_values (Some a) None h v = absurd h
-
   stand : ResourcesStand t kept p marks
   stand = record {
     handles = all_by_number (λ x. handles_resources p x.kind) p.types (λ j x e. let is = are.each j x e in type_handles j is.0 x e is.1 is.2);
-    functions = λ f id g b v. params_values f.params g.params b.params v.0 (option_to_list g.result) (result_values f.result g.result b.result v.1);
+    functions = λ f id g b v. parts_tested not (shape_parts f) (function_parts g) (function_zip t kept p f id g b)
+        (all_pass (λ k. not (marks k)) (shape_parts f) (λ k c. ap not (all_at (λ k. marks k ≡ false) (shape_parts f) (all_parts (λ k. marks k ≡ false) f v) k c)));
   }
 
 pub kept_resources_stand : KeptResourcesStand

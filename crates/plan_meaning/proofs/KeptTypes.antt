@@ -21,12 +21,13 @@ use Rattle.plan_meaning.specs.NumberedRules as numbered
 use Rattle.plan_meaning.specs.GatheredPlan as gathered
 use Rattle.plan_meaning.specs.GatheredPlan.{Becomes, DeclaresKind, a_resource, a_form, Keeps}
 use Rattle.plan_meaning.specs.KeptTypes.{IsKeptForm, alone, of_name, IsKeptType, unnamed, declared, TypesAreKept, TypesPass, KeptTypesPass}
+use Rattle.plan_meaning.proofs.KeptParts.{numbers_pass}
 use Rattle.plan_meaning.proofs.Lists.{no_true}
 use Rattle.plan_meaning.proofs.GatheredPlan.{parts_kept, form_tree}
 use Rattle.plan_meaning.proofs.NumberedRules.{no_name, shape_there}
 use Rattle.plan_meaning.proofs.Words.{behind}
 use Rattle.base_lemmas.proofs.Bools.{left_of as first_true, right_of as second_true}
-use Rattle.base_lemmas.proofs.Elements.{all_by_number, zip-kept as zip-weaker}
+use Rattle.base_lemmas.proofs.Elements.{all_by_number, zip-kept as zip-weaker, all_at}
 use Rattle.base_lemmas.proofs.Lists.{within_there as slice_there}
 use Rattle.std.proofs.lemmas.Option.{same_Some as same-some, slice_get_past as slice_past}
 use Rattle.comp_meaning.proofs.RulesLemmas.{distinct_same}
@@ -100,24 +101,15 @@ module _ (t : Tables) (tables : AreTables t) (kept : List ℕ) (p : Plan) (are :
   wider m n (k ∷ ks) h all = (let low = all.0 in omega (arith, low, h), wider m n ks h all.1)
 
   module _ (j n : ℕ) (stands : slice_get kept j ≡ Some n) where
-    part_falls : (old new : ℕ) → IsPart kept old new → old < 14 + n → (ms : List ℕ) → list_all (λ m. nat_lt m j) ms ≡ true → list_all (λ m. nat_lt m j) (cons_option (part_number new) ms) ≡ true
-    part_falls old new (a_primitive low same) h ms more =
-        ap (λ b. list_all (λ m. nat_lt m j) (cons_option (cond b None (Some (new - 14))) ms)) (lt-ltb new 14 (omega (arith, low, same))) ∙ more
-    part_falls old new (a_shape m i is there to) h ms more =
-        let low : i < j = are.rise i j m n there stands (omega (arith, is, h)) in
-        ap (λ o. list_all (λ k. nat_lt k j) (cons_option o ms)) (ap part_number to ∙ behind i) ∙ both (nat_lt i j) (list_all (λ k. nat_lt k j) ms) (lt-ltb i j low) more
-
     parts_fall : (olds news : List ℕ) → AllZip (Becomes t kept p) olds news → AllByRecursion (λ k. k < 14 + n) olds → list_all (λ m. nat_lt m j) (filter_map part_number news) ≡ true
-    parts_fall [] [] z low = refl
-    parts_fall [] (new ∷ news) z low = absurd z
-    parts_fall (old ∷ olds) [] z low = absurd z
-    parts_fall (old ∷ olds) (new ∷ news) z low = part_falls old new z.0.part low.0 (filter_map part_number news) (parts_fall olds news z.1 low.1)
+    parts_fall olds news z low = numbers_pass t kept p olds news z (λ m. nat_lt m j) (λ old c i m from at range.
+        let below = all_at (λ k. k < 14 + n) olds low old c in let less : i < j = are.rise i j m n at stands (omega (arith, below, from)) in lt-ltb i j less)
 
     kind_falls : (d : Option ℕ) (kind : PlannedKind) → AllOf (λ k. k < 14 + n) d → DeclaresKind t kept p d kind → list_all (λ m. nat_lt m j) (kind_numbers kind) ≡ true
     kind_falls d kind low (a_resource e k) = ap (λ x. list_all (λ m. nat_lt m j) (kind_numbers x)) k
     kind_falls d kind low (gathered.a_name old new e no_form b k) =
         let before : old < 14 + n = subst (AllOf (λ x. x < 14 + n)) e low in
-        ap (λ x. list_all (λ m. nat_lt m j) (kind_numbers x)) k ∙ part_falls old new b.part before [] refl
+        ap (λ x. list_all (λ m. nat_lt m j) (kind_numbers x)) k ∙ parts_fall (old ∷ []) (new ∷ []) (b, tt) (before, tt)
     kind_falls d kind low (a_form old m form olds news e is there z k) =
         let before : old < 14 + n = subst (AllOf (λ x. x < 14 + n)) e low in
         ap (λ x. list_all (λ i. nat_lt i j) (kind_numbers x)) k ∙ parts_fall olds news z (wider m n olds (omega (arith, before, is)) (parts_before m form olds there))

@@ -30,59 +30,25 @@ use Rattle.std.proofs.lemmas.Bool.{and_from as both}
 use Rattle.wit_model.proofs.RulesLemmas.{items_of_map}
 
 key_is : (t : ValueType) → is_key_part (part_of t) ≡ rules.is_map_key t
-key_is ty.Bool = refl
-key_is ty.U8 = refl
-key_is ty.U16 = refl
-key_is ty.U32 = refl
-key_is ty.U64 = refl
-key_is ty.S8 = refl
-key_is ty.S16 = refl
-key_is ty.S32 = refl
-key_is ty.S64 = refl
-key_is ty.F32 = refl
-key_is ty.F64 = refl
-key_is ty.Char = refl
-key_is ty.String = refl
-key_is ty.ErrorContext = refl
 key_is (ty.Id id) =
     let past : 14 ≤ 14 + id.0 = omega arith in
     ap (λ o. option_map_or is_key_primitive o false) (slice_get_past primitives (14 + id.0) past)
+key_is _ = refl
 
 shape_is : (k : TypeDefKind) → planned.has_shape (planned_kind k) ≡ rules.has_shape k
 shape_is (kind.Record record_) = items_of_map (λ f. text_of f.name) record_.fields.items
-shape_is kind.Resource = refl
 shape_is (kind.Handle (handle.Own id)) = refl
-shape_is (kind.Handle (handle.Borrow id)) = refl
 shape_is (kind.Flags flags) = items_of_map (λ f. text_of f.name) flags.flags.items
 shape_is (kind.Tuple tuple) = items_of_map part_of tuple.types.items
 shape_is (kind.Variant variant) = items_of_map (λ c. (text_of c.name, is_some c.ty)) variant.cases.items
 shape_is (kind.Enum enum) = items_of_map (λ c. text_of c.name) enum.cases.items
-shape_is (kind.Option t) = refl
-shape_is (kind.Result result) = refl
-shape_is (kind.List t) = refl
 shape_is (kind.Map k v) = key_is k
-shape_is (kind.FixedLengthList t n) = refl
-shape_is (kind.Future t) = refl
-shape_is (kind.Stream t) = refl
-shape_is (kind.Type_ t) = refl
+shape_is _ = refl
 
 named_is : (k : TypeDefKind) → planned.is_named_kind (planned_kind k) ≡ rules.is_named_kind k
 named_is (kind.Record record_) = refl
-named_is kind.Resource = refl
 named_is (kind.Handle (handle.Own id)) = refl
-named_is (kind.Handle (handle.Borrow id)) = refl
-named_is (kind.Flags flags) = refl
-named_is (kind.Tuple tuple) = refl
-named_is (kind.Variant variant) = refl
-named_is (kind.Enum enum) = refl
-named_is (kind.Option t) = refl
-named_is (kind.Result result) = refl
-named_is (kind.List t) = refl
-named_is (kind.Map k v) = refl
-named_is (kind.FixedLengthList t n) = refl
-named_is (kind.Future t) = refl
-named_is (kind.Stream t) = refl
-named_is (kind.Type_ t) = refl
+named_is _ = refl
 
 pub has_text : (o : Option (String Global)) → is_some (optional_text o) ≡ is_some o
 has_text None = refl

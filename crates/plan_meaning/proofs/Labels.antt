@@ -43,8 +43,7 @@ use Rattle.std.proofs.lemmas.Bool.{and_from as both}
 
 unknown_is : (s : Stability) → is_unknown s ≡ true → is_stability s ≡ true
 unknown_is stability.Unknown h = refl
-unknown_is (stability.Stable since deprecated) h = no_true h
-unknown_is (stability.Unstable feature deprecated) h = no_true h
+unknown_is _ h = no_true h
 
 bare_stability : (d : Docs) (s : Stability) → is_bare d s ≡ true → is_stability s ≡ true
 bare_stability d s h = unknown_is s (second_true (is_undocumented d) (is_unknown s) h)
@@ -56,22 +55,9 @@ name_is None = refl
 name_is (Some s) = refl
 
 kind_labels_are : (k : TypeDefKind) → planned.kind_labels (planned_kind k) ≡ rules.kind_labels k
-kind_labels_are (kind.Record x) = refl
-kind_labels_are kind.Resource = refl
 kind_labels_are (kind.Handle (handle.Own id)) = refl
-kind_labels_are (kind.Handle (handle.Borrow id)) = refl
-kind_labels_are (kind.Flags x) = refl
-kind_labels_are (kind.Tuple x) = refl
 kind_labels_are (kind.Variant x) = map_of_map (λ (c : Text × Bool). c.0) _ x.cases.items
-kind_labels_are (kind.Enum x) = refl
-kind_labels_are (kind.Option t) = refl
-kind_labels_are (kind.Result x) = refl
-kind_labels_are (kind.List t) = refl
-kind_labels_are (kind.Map k v) = refl
-kind_labels_are (kind.FixedLengthList t n) = refl
-kind_labels_are (kind.Future t) = refl
-kind_labels_are (kind.Stream t) = refl
-kind_labels_are (kind.Type_ t) = refl
+kind_labels_are _ = refl
 
 type_passes : (def : TypeDef) → planned.type_labels (planned_type def) ≡ true → is_bare_type def ≡ true
     → (passes (λ name. is_label (text_of name)) def.name && (is_stability def.stability && are_member_labels (rules.kind_labels def.kind))) ≡ true
@@ -130,9 +116,8 @@ module _ (r : Resolve) (m : ℕ) (is : IsPlan (plan_of r m)) (bare : IsBare r) w
 
   import_key : (n : ℕ) (k : WorldKey) (x : WorldItem) → planned.import_stands (plan_of r m) n (planned_key k, planned_item x) ≡ true → key_label k x ≡ true
   import_key n (key.Interface id) x h = refl
-  import_key n (key.Name name) (item.Interface id stability docs external_id) h = first_true (is_label (text_of name)) _ h
   import_key n (key.Name name) (item.Function f) h = second_true (text_eq (text_of name) (text_of f.name)) _ h
-  import_key n (key.Name name) (item.Type_ id) h = first_true (is_label (text_of name)) _ h
+  import_key n (key.Name name) _ h = first_true (is_label (text_of name)) _ h
 
   export_key : (k : WorldKey) (x : WorldItem) → planned.export_stands (plan_of r m) (planned_key k, planned_item x) ≡ true → key_label k x ≡ true
   export_key (key.Interface id) x h = refl

@@ -26,6 +26,8 @@ pub mod NumberedWorlds
 pub mod NumberedMembers
 -- The types of a plan stand for the trees of the shapes that they are made of. Serves laws::trees_are_kept; crates above.
 pub mod Renumbering
+-- What holds of the parts of a list, of the numbers that they become; the parts of a function in one list. Serves KeptFunctions, KeptOwners, KeptResources, KeptTypes and 2 more.
+pub mod KeptParts
 -- A plan that is gathered from views in numbers means what they mean. Serves laws::gathered_plans_are_meant; crates above.
 pub mod GatheredPlan
 -- Types of a plan that are those of kept shapes pass the tests on types. Serves laws::kept_types_pass; crates above.

@@ -26,6 +26,7 @@ use Rattle.plan_meaning.specs.Built.{planned_interface, planned_world, planned_p
 use Rattle.plan_meaning.proofs.Lists.{each_of_map, all_built, each_built, no_true}
 use Rattle.plan_meaning.proofs.Words.{plan_of}
 use Rattle.base_lemmas.proofs.Bools.{left_of as first_true, right_of as second_true}
+use Rattle.base_lemmas.proofs.Elements.{all_get}
 use Rattle.std.proofs.lemmas.Bool.{and_from as both}
 
 -- ---- a name that stands there
@@ -54,36 +55,27 @@ pub passes_weaker : {A : Type 0} (p q : A → Bool) → ((x : A) → p x ≡ tru
 passes_weaker p q weaker None h = refl
 passes_weaker p q weaker (Some x) h = weaker x h
 
-package_is : (n : ℕ) (o : Option PackageId) → is_id n (option_map (λ id. id.0) o) ≡ is_id n (package_number o)
-package_is n o = refl
+-- what is asked of an entry of a list that is made of another
+asked : {A B : Type 0} (g : A → B) (test : B → Bool) (p q : A → Bool) → ((x : A) → test (g x) ≡ true → p x ≡ true) → ((x : A) → test (g x) ≡ true → q x ≡ true) → (xs : List A) (n : ℕ)
+    → option_map_or test (slice_get (map g xs) n) false ≡ true → (in_list xs n ≡ true) × (passes p (slice_get xs n) ≡ true) × (passes q (slice_get xs n) ≡ true)
+asked g test p q one two xs n h =
+    let found = sym (ap (λ o. option_map_or test o false) (get_of_map g xs n)) ∙ h in
+    let kept = there g test (slice_get xs n) found in
+    (in_range xs n (some_there g test (slice_get xs n) found), passes_weaker (λ x. test (g x)) p one (slice_get xs n) kept, passes_weaker (λ x. test (g x)) q two (slice_get xs n) kept)
 
 module _ (r : Resolve) (m : ℕ) (is : IsPlan (plan_of r m)) where
-  -- an interface that a package lists
-  interface_there : (n : ℕ) (e : String Global × InterfaceId) → lists_interface (plan_of r m) n (text_of e.0, e.1.0) ≡ true
-      → option_map_or (λ i. bears (text_of e.0) i.name && is_id n i.package_) (option_map planned_interface (interface_at r e.1.0)) false ≡ true
-  interface_there n e h = sym (ap (λ o. option_map_or (λ i. bears (text_of e.0) i.name && is_id n i.package_) o false) (get_of_map planned_interface r.interfaces.items e.1.0)) ∙ h
-
+  -- an interface that a package lists, and a world
   pub interface_listed : (n : ℕ) (e : String Global × InterfaceId) → lists_interface (plan_of r m) n (text_of e.0, e.1.0) ≡ true
       → (in_list r.interfaces.items e.1.0 ≡ true) × (passes (λ i. text_is i.name (text_of e.0)) (interface_at r e.1.0) ≡ true)
       × (passes (λ i. is_id n (package_number i.package)) (interface_at r e.1.0) ≡ true)
-  interface_listed n e h =
-      let found = interface_there n e h in
-      let kept = there planned_interface (λ i. bears (text_of e.0) i.name && is_id n i.package_) (interface_at r e.1.0) found in (
-        in_range r.interfaces.items e.1.0 (some_there planned_interface (λ i. bears (text_of e.0) i.name && is_id n i.package_) (interface_at r e.1.0) found),
-        passes_weaker _ (λ i. text_is i.name (text_of e.0)) (λ i k. sym (bears_is i.name (text_of e.0)) ∙ first_true _ _ k) (interface_at r e.1.0) kept,
-        passes_weaker _ (λ i. is_id n (package_number i.package)) (λ i k. second_true (bears (text_of e.0) (optional_text i.name)) _ k) (interface_at r e.1.0) kept,
-      )
+  interface_listed n e = asked planned_interface (λ i. bears (text_of e.0) i.name && is_id n i.package_) (λ i. text_is i.name (text_of e.0)) (λ i. is_id n (package_number i.package))
+      (λ i k. sym (bears_is i.name (text_of e.0)) ∙ first_true _ _ k) (λ i k. second_true (bears (text_of e.0) (optional_text i.name)) _ k) r.interfaces.items e.1.0
 
   pub world_listed : (n : ℕ) (e : String Global × WorldId) → lists_world (plan_of r m) n (text_of e.0, e.1.0) ≡ true
       → (in_list r.worlds.items e.1.0 ≡ true) × (passes (λ w. text_eq (text_of w.name) (text_of e.0)) (world_at r e.1.0) ≡ true)
       × (passes (λ w. is_id n (package_number w.package)) (world_at r e.1.0) ≡ true)
-  world_listed n e h =
-      let found = sym (ap (λ o. option_map_or (λ w. text_eq w.name (text_of e.0) && is_id n w.package_) o false) (get_of_map planned_world r.worlds.items e.1.0)) ∙ h in
-      let kept = there planned_world (λ w. text_eq w.name (text_of e.0) && is_id n w.package_) (world_at r e.1.0) found in (
-        in_range r.worlds.items e.1.0 (some_there planned_world (λ w. text_eq w.name (text_of e.0) && is_id n w.package_) (world_at r e.1.0) found),
-        passes_weaker _ (λ w. text_eq (text_of w.name) (text_of e.0)) (λ w k. first_true _ _ k) (world_at r e.1.0) kept,
-        passes_weaker _ (λ w. is_id n (package_number w.package)) (λ w k. second_true (text_eq (text_of w.name) (text_of e.0)) _ k) (world_at r e.1.0) kept,
-      )
+  world_listed n e = asked planned_world (λ w. text_eq w.name (text_of e.0) && is_id n w.package_) (λ w. text_eq (text_of w.name) (text_of e.0)) (λ w. is_id n (package_number w.package))
+      (λ w k. first_true _ _ k) (λ w k. second_true (text_eq (text_of w.name) (text_of e.0)) _ k) r.worlds.items e.1.0
 
   -- what holds of all that a package lists
   module _ (q : ℕ → String Global × InterfaceId → Bool) (s : ℕ → String Global × WorldId → Bool)
@@ -109,12 +101,7 @@ module _ (r : Resolve) (m : ℕ) (is : IsPlan (plan_of r m)) where
 
   module _ (versions : list_all (λ k. passes is_version k.name.version) r.packages.items ≡ true) where
     version_at : (n : ℕ) (p : Package) → package_at r n ≡ Some p → passes is_version p.name.version ≡ true
-    version_at n p e = at r.packages.items n versions e
-      where
-        at : (xs : List Package) (n : ℕ) → list_all (λ k. passes is_version k.name.version) xs ≡ true → slice_get xs n ≡ Some p → passes is_version p.name.version ≡ true
-        at [] n h e = absurd (let wrong : ⊥ = cc in wrong)
-        at (x ∷ xs) zero h e = let same : x ≡ p = ap (λ o. unwrap_or o x) e in ap (λ k. passes is_version k.name.version) (sym same) ∙ first_true _ _ h
-        at (x ∷ xs) (suc n) h e = at xs n (second_true (passes is_version x.name.version) _ h) e
+    version_at n p e = all_get (λ k. passes is_version k.name.version) r.packages.items n p versions e
 
     apart : (a b : PackageName) → passes is_version a.version ≡ true → passes is_version b.version ≡ true → not (same_identity (identity_of a) (identity_of b)) ≡ true
         → not (same_package_name a b) ≡ true
@@ -152,11 +139,6 @@ module _ (r : Resolve) (m : ℕ) (is : IsPlan (plan_of r m)) where
         subst (λ k. ((is_label (text_of p.name.namespace) && (is_label (text_of p.name.name) && passes is_version p.name.version)) && each_from
         (λ j other. (j == k) || not (same_package_name p.name other.name)) 0 r.packages.items) ≡ true) here
         (named n p e
-        (identity_at r.packages.items n (sym (list_all-map (λ k. is_identity k.identity) planned_package r.packages.items) ∙ is.identities) p e)
+        (all_get (λ k. is_identity (identity_of k.name)) r.packages.items n p (sym (list_all-map (λ k. is_identity k.identity) planned_package r.packages.items) ∙ is.identities) e)
         (let at : 0 + n ≡ n = omega arith in subst (λ k. is_alone (plan_of r m) k (planned_package p) ≡ true) at
         (each_from_at (λ k x. is_alone (plan_of r m) k (planned_package x)) 0 r.packages.items n p (sym (each_of_map (is_alone (plan_of r m)) planned_package 0 r.packages.items) ∙ is.alone) e)))))
-      where
-        identity_at : (xs : List Package) (n : ℕ) → list_all (λ k. is_identity (identity_of k.name)) xs ≡ true → (p : Package) → slice_get xs n ≡ Some p → is_identity (identity_of p.name) ≡ true
-        identity_at [] n h p e = absurd (let wrong : ⊥ = cc in wrong)
-        identity_at (x ∷ xs) zero h p e = let same : x ≡ p = ap (λ o. unwrap_or o x) e in ap (λ k. is_identity (identity_of k.name)) (sym same) ∙ first_true _ _ h
-        identity_at (x ∷ xs) (suc n) h p e = identity_at xs n (second_true (is_identity (identity_of x.name)) _ h) p e

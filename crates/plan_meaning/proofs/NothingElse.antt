@@ -88,9 +88,8 @@ module _ (r : Resolve) (m : ℕ) where
     one_world = go r.worlds.items is.alone there
       where
         go : (xs : List World) → map planned_world xs ≡ is.world ∷ [] → slice_get xs 0 ≡ Some w → xs ≡ w ∷ []
-        go [] e h = absurd (let wrong : ⊥ = cc in wrong)
         go (x ∷ []) e h = ap (λ o. unwrap_or o x ∷ []) h
-        go (x ∷ y ∷ xs) e h = absurd (let wrong : ⊥ = cc in wrong)
+        go _ e h = absurd (let wrong : ⊥ = cc in wrong)
 
     item_by : (n : ℕ) (i : Interface) → interface_at r n ≡ Some i → (name : Option (String Global)) → i.name ≡ name → (test : Text → Bool) (rest : Bool) →
         option_map_or test (optional_text name) (rest && ((sum_by (planned.times_shown n) (map planned_world r.worlds.items) == 1)

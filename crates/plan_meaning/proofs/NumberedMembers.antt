@@ -106,15 +106,13 @@ module _ (t : Tables) (tables : AreTables t) (h : Homes) (stand : HomesStand t h
       ∙ sym (map_of_map (sight_of t) (λ (i : ℕ × NumberedView). record { place = i.0; view = i.1; whole = false }) imports)) in
       (λ i. front i ++ record { path = exported_path m x package_ under p v imports view views is i; view = is.shown i; whole = true } ∷ [])
       ∙ sym (append_of_map (sight_of t) (map (λ (i : ℕ × NumberedView). record { place = i.0; view = i.1; whole = false }) imports) (record { place = p; view = v; whole = true } ∷ []))
-  part_sights m x package_ under (world w) (Part.interface view views) is = absurd is
-  part_sights m x package_ under (interface p v imports) (Part.world scope) is = absurd is
+  part_sights m x package_ under _ _ is = absurd is
 
   pub all_sights : (ms : List NumberedMember) (members : List Member) → AllZip (IsMember t h) ms members → flat_map reads.sights members ≡ map (sight_of t) (sights_of_members t ms)
   all_sights [] [] z = refl
-  all_sights [] (x ∷ members) z = absurd z
-  all_sights (m ∷ ms) [] z = absurd z
   all_sights (m ∷ ms) (x ∷ members) z =
       (λ i. part_sights m x z.0.package_ z.0.label m.part x.part z.0.part i ++ all_sights ms members z.1 i) ∙ sym (append_of_map (sight_of t) (sights_of_part t m.part) (sights_of_members t ms))
+  all_sights _ _ z = absurd z
 
   -- ---- the rules
 
@@ -135,9 +133,8 @@ module _ (t : Tables) (tables : AreTables t) (h : Homes) (stand : HomesStand t h
       packages_same : (ms : List NumberedMember) (members : List Member) → AllZip (IsMember t h) ms members
           → list_all (λ x. same_identity identity x.package_) members ≡ list_all (λ m. n == m.package_) ms
       packages_same [] [] z = refl
-      packages_same [] (x ∷ members) z = absurd z
-      packages_same (m ∷ ms) [] z = absurd z
       packages_same (m ∷ ms) (x ∷ members) z = λ i. package_number n identity there m.package_ x.package_ z.0.package_ i && packages_same ms members z.1 i
+      packages_same _ _ z = absurd z
 
       -- one member is the interface of a place that is seen
       part_is : (s : NumberedSight) → HasPath t s.place → (m : NumberedMember) (x : Member) → slice_get h.packages m.package_ ≡ Some x.package_ → x.label ≡ m.label
@@ -147,19 +144,17 @@ module _ (t : Tables) (tables : AreTables t) (h : Homes) (stand : HomesStand t h
       part_is s at m x package_ under same (interface p v imports) (Part.interface view views) is =
           ap (text_eq (path_text t s.place)) (ap (λ k. path_in k x.label) ((identities_decide identity x.package_).0 same) ∙ exported_path m x package_ under p v imports view views is)
           ∙ (path_number t tables s.place p at is.path ∙ flip n identity there p s.place)
-      part_is s at m x package_ under same (world w) (Part.interface view views) is = absurd is
-      part_is s at m x package_ under same (interface p v imports) (Part.world scope) is = absurd is
+      part_is s at m x package_ under same _ _ is = absurd is
 
       one_is : (s : NumberedSight) → HasPath t s.place → (ms : List NumberedMember) (members : List Member) → AllZip (IsMember t h) ms members
           → list_all (λ x. same_identity identity x.package_) members ≡ true
           → list_any (λ x. is_interface_part x.part && text_eq (path_text t s.place) (path_in identity x.label)) members ≡ list_any (λ m. is_interface_of s.place m.part) ms
       one_is s at [] [] z same = refl
-      one_is s at [] (x ∷ members) z same = absurd z
-      one_is s at (m ∷ ms) [] z same = absurd z
       one_is s at (m ∷ ms) (x ∷ members) z same =
           let first = first_true (same_identity identity x.package_) (list_all (λ y. same_identity identity y.package_) members) same in
           let more = second_true (same_identity identity x.package_) (list_all (λ y. same_identity identity y.package_) members) same in
           λ i. part_is s at m x z.0.package_ z.0.label first m.part x.part z.0.part i || one_is s at ms members z.1 more i
+      one_is s at _ _ z same = absurd z
 
       top_same : (ms : List NumberedMember) (members : List Member) → AllZip (IsMember t h) ms members → list_all (λ x. same_identity identity x.package_) members ≡ true
           → (seen : List NumberedSight) → AllByRecursion (IsKnownSight t known) seen → list_all (reads.stands_at_top identity members) (map (sight_of t) seen) ≡ list_all (stands_at_top h n ms) seen
@@ -203,10 +198,7 @@ import_same t s = by s.shown
     by (instance (path p) v) =
         ap (λ b. provided (is_none s.external_id && not b) (shown_view t (p, v))) (filled_same (shown_function t) v.functions) ∙ provided_map (shown_view t)
         (is_none s.external_id && not (is_filled v.functions)) (p, v)
-    by (instance (label l p) v) = refl
-    by (instance (implementing l p) v) = refl
-    by (function n) = refl
-    by (declares d) = refl
+    by _ = refl
 
 imports_same : (t : Tables) (ss : List NumberedSeen) → each reads.imported_view (map (seen_of t) ss) ≡ option_map (map (shown_view t)) (each imported_view ss)
 imports_same t [] = refl
@@ -223,18 +215,14 @@ pub imports_in_numbers : ImportsInNumbers
 imports_in_numbers t w scope shows = ap (each reads.imported_view) shows.imports ∙ imports_same t w.imports
 
 export_same : (t : Tables) (ss : List NumberedSeen) → reads.exported_view (map (seen_of t) ss) ≡ option_map (shown_view t) (exported_view ss)
-export_same t [] = refl
-export_same t (s ∷ r ∷ ss) = refl
 export_same t (s ∷ []) = by s.shown
   where
     by : (x : NumberedShown)
         → reads.exported_view (record { key = s.key; shown = shown_of t x; external_id = s.external_id } ∷ []) ≡ option_map (shown_view t)
         (exported_view (record { key = s.key; shown = x; external_id = s.external_id } ∷ []))
     by (instance (path p) v) = provided_map (shown_view t) (is_none s.external_id) (p, v)
-    by (instance (label l p) v) = refl
-    by (instance (implementing l p) v) = refl
-    by (function n) = refl
-    by (declares d) = refl
+    by _ = refl
+export_same t _ = refl
 
 pub export_in_numbers : ExportInNumbers
 export_in_numbers t w scope shows = ap reads.exported_view shows.exports ∙ export_same t w.exports

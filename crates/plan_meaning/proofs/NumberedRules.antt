@@ -6,7 +6,7 @@ use Rattle.std.specs.Option.{option_map_or}
 use Rattle.std.proofs.lemmas.Bool.{eqb-true, eq-eqb, lt-ltb, le-leb, leb-true}
 use Rattle.wit_model.specs.Text.{Text, text_eq}
 use Rattle.wit_model.specs.Names.{is_label, constructor_name, method_name, static_name}
-use Rattle.wit_model.specs.Tree.{Place, Form, Tree, Trees, Declaration, children, deepest, levels}
+use Rattle.wit_model.specs.Tree.{Place, Form, Tree, Trees, Declaration, children, deepest, levels, Primitive}
 use Rattle.wit_model.specs.Meaning.{FunctionMeaning}
 use Rattle.comp_meaning.specs.Follow.{ShownType}
 use Rattle.comp_meaning.specs.Same.{same_place, same_tree, same_trees, same_form}
@@ -19,7 +19,7 @@ use Rattle.plan_meaning.specs.NumberedRules.{Fact, most_counted, shape_at, name_
 use Rattle.plan_meaning.proofs.ShapeLaws.{PartView, is_primitive, is_name as is_named, is_node, viewed}
 use Rattle.plan_meaning.proofs.Words.{behind}
 use Rattle.base_lemmas.proofs.Bools.{and-true as and_true, both_ways as either_way, no-and as and_false}
-use Rattle.base_lemmas.proofs.Elements.{get-contains}
+use Rattle.base_lemmas.proofs.Elements.{get-contains, all_at}
 use Rattle.base_lemmas.proofs.Lists.{map_of_map}
 
 -- ---- tests
@@ -58,6 +58,20 @@ no_shape t k small = ap (λ b. option_and_then (slice_get t.shapes) (cond b None
 pub shape_there : (t : Tables) (k n : ℕ) (s : Shape) → k ≡ 14 + n → slice_get t.shapes n ≡ Some s → shape_at t k ≡ Some s
 shape_there t k n s is e = ap (shape_at t) is ∙ (ap (option_and_then (slice_get t.shapes)) (behind n) ∙ e)
 
+-- what is said of the tree of a part, by what stands at its number
+module _ (t : Tables) (table : IsTable t.shapes) {X : Type 0} (said : Tree → X) (by : Option Shape → X) (k : ℕ) where
+  pub by_shape : IsPart t k → ((q : Primitive) → tree_at t k ≡ Tree.primitive q → said (Tree.primitive q) ≡ by None)
+      → ((n q : ℕ) (name : Text) → k ≡ 14 + n → slice_get t.shapes n ≡ Some (named_shape q name) → tree_at t k ≡ Tree.named (place_at t q) name
+      → said (Tree.named (place_at t q) name) ≡ by (Some (named_shape q name)))
+      → ((n : ℕ) (form : Form) (ks : List ℕ) → k ≡ 14 + n → slice_get t.shapes n ≡ Some (node_shape form ks) → tree_at t k ≡ Tree.node form (children (map (tree_at t) ks))
+      → AllByRecursion (IsPart t) ks → said (Tree.node form (children (map (tree_at t) ks))) ≡ by (Some (node_shape form ks))) → said (tree_at t k) ≡ by (shape_at t k)
+  by_shape part primitive named node = go (viewed (place_at t) t.shapes table k part)
+    where
+      go : PartView (place_at t) t.shapes table k (tree_at t k) → said (tree_at t k) ≡ by (shape_at t k)
+      go (is_primitive q small e number) = ap said e ∙ (primitive q e ∙ sym (ap by (no_shape t k small)))
+      go (is_named n q name is there e) = ap said e ∙ (named n q name is there e ∙ sym (ap by (shape_there t k n (named_shape q name) is there)))
+      go (is_node n form ks is there e ranges) = ap said e ∙ (node n form ks is there e ranges ∙ sym (ap by (shape_there t k n (node_shape form ks) is there)))
+
 resources_same : (t : Tables) (xs : List NumberedType) → rules.resources_of (map (shown_type t) xs) ≡ resources_of xs
 resources_same t [] = refl
 resources_same t (x ∷ xs) = by x.declared (resources_same t xs)
@@ -87,21 +101,12 @@ module _ (t : Tables) (table : IsTable t.shapes) (known : ℕ → Fact) (p : ℕ
       ap (λ n. nat_le n (most_levels + 1)) (h.tells.levels ∙ ap (λ x. min most_counted (levels x)) e) ∙ one_level_more (deepest ts) in
       λ i. sym (h.tells.labels form ts e) i && sym (h.tells.parts form ts e) i && sym most i
 
-  declared_view : (k : ℕ) → Known k → PartView (place_at t) t.shapes table k (tree_at t k) → rules.is_declared here (declaration_of t (Some k)) ≡ is_declared t known p (Some k)
-  declared_view k h (is_primitive q small e number) =
-      ap (λ x. rules.is_declared here (Declaration.type_ x)) e ∙ sym (ap (λ o. not (option_map_or (λ s. not (s.sort == 0)) o false) || is_declared_form p (known k)) (no_shape t k small))
-  declared_view k h (is_named n q name is there e) =
-      ap (λ x. rules.is_declared here (Declaration.type_ x)) e
-      ∙ sym (ap (λ o. not (option_map_or (λ s. not (s.sort == 0)) o false) || is_declared_form p (known k)) (shape_there t k n (named_shape q name) is there))
-  declared_view k h (is_node n form ks is there e ranges) =
-      ap (λ x. rules.is_declared here (Declaration.type_ x)) e
-      ∙ (form_same form (children (map (tree_at t) ks)) k h e
-      ∙ sym (ap (λ o. not (option_map_or (λ s. not (s.sort == 0)) o false) || is_declared_form p (known k)) (shape_there t k n (node_shape form ks) is there)
-      ∙ ap (λ b. not (not b) || is_declared_form p (known k)) (no_name form)))
-
   pub declared_same : (d : Option ℕ) → AllOf Known d → rules.is_declared here (declaration_of t d) ≡ is_declared t known p d
   declared_same None h = refl
-  declared_same (Some k) h = declared_view k h (viewed (place_at t) t.shapes table k h.part)
+  declared_same (Some k) h =
+      by_shape t table (λ x. rules.is_declared here (Declaration.type_ x)) (λ o. not (option_map_or (λ s. not (s.sort == 0)) o false) || is_declared_form p (known k)) k h.part (λ q e. refl)
+      (λ n q name is there e. refl)
+      (λ n form ks is there e ranges. form_same form (children (map (tree_at t) ks)) k h e ∙ sym (ap (λ b. not (not b) || is_declared_form p (known k)) (no_name form)))
 
   -- ---- signatures
 
@@ -127,20 +132,12 @@ module _ (t : Tables) (table : IsTable t.shapes) (known : ℕ → Fact) (p : ℕ
     place_number q one = either_way (same_place (place_at t q) here) (q == p) (λ h. eq-eqb q p (one ((places_decide (place_at t q) here).0 h)))
         (λ h. (places_decide (place_at t q) here).1 (ap (place_at t) (eqb-true q p h)))
 
-    name_view : (k : ℕ) → IsSeenFrom t p k → PartView (place_at t) t.shapes table k (tree_at t k) → same_tree (tree_at t k) itself_named ≡ is_name t known p resource k
-    name_view k seen (is_primitive q small e number) =
-        ap (λ x. same_tree x itself_named) e ∙ sym (ap (λ o. option_map_or (λ (x : ℕ × Text). x.0 == p && text_eq x.1 resource) (option_and_then name_in o) false) (no_shape t k small))
-    name_view k seen (is_named n q name is there e) =
-        ap (λ x. same_tree x itself_named) e
-        ∙ (ap (λ b. b && text_eq name resource) (place_number q (seen q (itself k n q name is there)))
-        ∙ sym (ap (λ o. option_map_or (λ (x : ℕ × Text). x.0 == p && text_eq x.1 resource) (option_and_then name_in o) false) (shape_there t k n (named_shape q name) is there)))
-    name_view k seen (is_node n form ks is there e ranges) =
-        ap (λ x. same_tree x itself_named) e
-        ∙ sym (ap (λ o. option_map_or (λ (x : ℕ × Text). x.0 == p && text_eq x.1 resource) (option_and_then name_in o) false) (shape_there t k n (node_shape form ks) is there)
-        ∙ ap (λ b. option_map_or (λ (x : ℕ × Text). x.0 == p && text_eq x.1 resource) (cond b (Some ((form_code form).number, first_label (form_code form).labels)) None) false) (no_name form))
-
     name_same : (k : ℕ) → IsPart t k → IsSeenFrom t p k → same_tree (tree_at t k) itself_named ≡ is_name t known p resource k
-    name_same k part seen = name_view k seen (viewed (place_at t) t.shapes table k part)
+    name_same k part seen =
+        by_shape t table (λ x. same_tree x itself_named) (λ o. option_map_or (λ (x : ℕ × Text). x.0 == p && text_eq x.1 resource) (option_and_then name_in o) false) k part (λ q e. refl)
+        (λ n q name is there e. ap (λ b. b && text_eq name resource) (place_number q (seen q (itself k n q name is there))))
+        (λ n form ks is there e ranges. sym (ap (λ b. option_map_or (λ (x : ℕ × Text). x.0 == p && text_eq x.1 resource)
+        (cond b (Some ((form_code form).number, first_label (form_code form).labels)) None) false) (no_name form)))
 
     only_same : (ks : List ℕ) → AllByRecursion (IsPart t) ks → ((m : ℕ) → Contains ks m → IsSeenFrom t p m)
         → same_trees (children (map (tree_at t) ks)) (Trees.child itself_named Trees.no_children) ≡ option_map_or (is_name t known p resource) (only_of ks) false
@@ -155,25 +152,15 @@ module _ (t : Tables) (table : IsTable t.shapes) (known : ℕ → Fact) (p : ℕ
       handle_cases : (a b : Bool) (x : Bool) (o : Option ℕ) → a ≡ b → x ≡ option_map_or (is_name t known p resource) o false
           → (a && x) ≡ option_map_or (is_name t known p resource) (cond b o None) false
       handle_cases true true x o e h = h
-      handle_cases true false x o e h = absurd cc
-      handle_cases false true x o e h = absurd cc
       handle_cases false false x o e h = refl
-
-      handle_view : (k : ℕ) → IsSeenFrom t p k → PartView (place_at t) t.shapes table k (tree_at t k) → same_tree (tree_at t k) handle_tree ≡ is_handle t known p sort resource k
-      handle_view k seen (is_primitive q small e number) =
-          ap (λ x. same_tree x handle_tree) e ∙ sym (ap (λ o. option_map_or (is_name t known p resource) (option_and_then (held_in sort) o) false) (no_shape t k small))
-      handle_view k seen (is_named n q name is there e) =
-          ap (λ x. same_tree x handle_tree) e
-          ∙ sym (ap (λ o. option_map_or (is_name t known p resource) (option_and_then (held_in sort) o) false) (shape_there t k n (named_shape q name) is there)
-          ∙ ap (λ b. option_map_or (is_name t known p resource) (cond b None None) false) not_name)
-      handle_view k seen (is_node n form ks is there e ranges) =
-          ap (λ x. same_tree x handle_tree) e
-          ∙ (handle_cases (same_form form handle) ((form_code form).sort == sort) (same_trees (children (map (tree_at t) ks)) (Trees.child itself_named Trees.no_children)) (only_of ks) (by_sort form)
-          (only_same ks ranges (λ m c q h. seen q (inside k n m q form ks is there c h)))
-          ∙ sym (ap (λ o. option_map_or (is_name t known p resource) (option_and_then (held_in sort) o) false) (shape_there t k n (node_shape form ks) is there)))
+      handle_cases _ _ x o e h = absurd cc
 
       handle_same : (k : ℕ) → IsPart t k → IsSeenFrom t p k → same_tree (tree_at t k) handle_tree ≡ is_handle t known p sort resource k
-      handle_same k part seen = handle_view k seen (viewed (place_at t) t.shapes table k part)
+      handle_same k part seen =
+          by_shape t table (λ x. same_tree x handle_tree) (λ o. option_map_or (is_name t known p resource) (option_and_then (held_in sort) o) false) k part (λ q e. refl)
+          (λ n q name is there e. sym (ap (λ b. option_map_or (is_name t known p resource) (cond b None None) false) not_name))
+          (λ n form ks is there e ranges. handle_cases (same_form form handle) ((form_code form).sort == sort)
+          (same_trees (children (map (tree_at t) ks)) (Trees.child itself_named Trees.no_children)) (only_of ks) (by_sort form) (only_same ks ranges (λ m c q h. seen q (inside k n m q form ks is there c h))))
 
     own_same : (k : ℕ) → IsPart t k → IsSeenFrom t p k → same_tree (tree_at t k) (own_name here resource) ≡ is_handle t known p own_sort resource k
     own_same k part seen = handle_same Form.own_of own_sort own_by_sort refl k part seen
@@ -191,39 +178,21 @@ module _ (t : Tables) (table : IsTable t.shapes) (known : ℕ → Fact) (p : ℕ
     ok_same : (form : Form) (ks : List ℕ) (whole : Bool) → ((m : ℕ) → Contains ks m → same_tree (tree_at t m) (own_name here resource) ≡ is_handle t known p own_sort resource m)
         → same_tree (Tree.node form (children (map (tree_at t) ks))) (own_name here resource) ≡ whole
         → rules.constructs (own_name here resource) (Some (Tree.node form (children (map (tree_at t) ks)))) ≡ option_map_or (is_handle t known p own_sort resource) (ok_in (node_shape form ks)) whole
-    ok_same (Form.result_of true true) [] whole each e = e
-    ok_same (Form.result_of true false) [] whole each e = e
     ok_same (Form.result_of true true) (m ∷ ks) whole each e = each m (get-contains (m ∷ ks) 0 m refl)
     ok_same (Form.result_of true false) (m ∷ ks) whole each e = each m (get-contains (m ∷ ks) 0 m refl)
-    ok_same (Form.result_of false true) ks whole each e = e
     ok_same (Form.result_of false false) ks whole each e = e
     ok_same _ ks whole each e = e
 
-    in_range : (ks : List ℕ) → AllByRecursion (IsPart t) ks → (m : ℕ) → Contains ks m → IsPart t m
-    in_range [] all m (i, low, e) = absurd (omega (arith, low))
-    in_range (k ∷ ks) all m (zero, low, e) = subst (IsPart t) e all.0
-    in_range (k ∷ ks) all m (suc i, low, e) = in_range ks all.1 m (i, omega (arith, low), e)
-
-    constructs_view : (k : ℕ) → Known k → PartView (place_at t) t.shapes table k (tree_at t k) → rules.constructs (own_name here resource) (Some (tree_at t k)) ≡ constructs t known p resource (Some k)
-    constructs_view k h (is_primitive q small e number) =
-        ap (λ x. rules.constructs (own_name here resource) (Some x)) e
-        ∙ (sym (ap (λ x. same_tree x (own_name here resource)) e)
-        ∙ (own_same k h.part h.seen ∙ sym (ap (λ o. option_map_or (is_handle t known p own_sort resource) (option_and_then ok_in o) (is_handle t known p own_sort resource k)) (no_shape t k small))))
-    constructs_view k h (is_named n q name is there e) =
-        ap (λ x. rules.constructs (own_name here resource) (Some x)) e
-        ∙ (sym (ap (λ x. same_tree x (own_name here resource)) e)
-        ∙ (own_same k h.part h.seen
-        ∙ sym (ap (λ o. option_map_or (is_handle t known p own_sort resource) (option_and_then ok_in o) (is_handle t known p own_sort resource k)) (shape_there t k n (named_shape q name) is there))))
-    constructs_view k h (is_node n form ks is there e ranges) =
-        ap (λ x. rules.constructs (own_name here resource) (Some x)) e
-        ∙ (ok_same form ks (is_handle t known p own_sort resource k)
-        (λ m c. own_same m (in_range ks ranges m c) (λ q x. h.seen q (inside k n m q form ks is there c x)))
-        (sym (ap (λ x. same_tree x (own_name here resource)) e) ∙ own_same k h.part h.seen)
-        ∙ sym (ap (λ o. option_map_or (is_handle t known p own_sort resource) (option_and_then ok_in o) (is_handle t known p own_sort resource k)) (shape_there t k n (node_shape form ks) is there)))
-
     constructs_same : (r : Option ℕ) → AllOf Known r → rules.constructs (own_name here resource) (option_map (tree_at t) r) ≡ constructs t known p resource r
     constructs_same None h = refl
-    constructs_same (Some k) h = constructs_view k h (viewed (place_at t) t.shapes table k h.part)
+    constructs_same (Some k) h =
+        by_shape t table (λ x. rules.constructs (own_name here resource) (Some x))
+        (λ o. option_map_or (is_handle t known p own_sort resource) (option_and_then ok_in o) (is_handle t known p own_sort resource k)) k h.part (λ q e. itself_same e) (λ n q name is there e. itself_same e)
+        (λ n form ks is there e ranges. ok_same form ks (is_handle t known p own_sort resource k)
+        (λ m c. own_same m (all_at (IsPart t) ks ranges m c) (λ q x. h.seen q (inside k n m q form ks is there c x))) (itself_same e))
+      where
+        itself_same : {x : Tree} → tree_at t k ≡ x → same_tree x (own_name here resource) ≡ is_handle t known p own_sort resource k
+        itself_same e = sym (ap (λ x. same_tree x (own_name here resource)) e) ∙ own_same k h.part h.seen
 
     function_of_same : (name : Text) (f : FunctionShape) → PartsOf Known f → rules.is_function_of here name (signature_over (tree_at t) f) resource ≡ is_function_of t known p name f resource
     function_of_same name f h =

@@ -69,8 +69,6 @@ module _ (t : Tables) (tables : AreTables t) where
   one_params : (ps qs : List (Text × ℕ)) → AllByRecursion (λ (p : Text × ℕ). IsOutsidePart t p.1) ps → AllByRecursion (λ (p : Text × ℕ). IsOutsidePart t p.1) qs
       → map param_tree ps ≡ map param_tree qs → ps ≡ qs
   one_params [] [] hp hq e = refl
-  one_params [] (q ∷ qs) hp hq e = absurd cc
-  one_params (p ∷ ps) [] hp hq e = absurd cc
   one_params (p ∷ ps) (q ∷ qs) hp hq e =
       let head : param_tree p ≡ param_tree q = cc in
       let rest : map param_tree ps ≡ map param_tree qs = cc in
@@ -78,12 +76,12 @@ module _ (t : Tables) (tables : AreTables t) where
       let numbers : p.1 ≡ q.1 = one_outside p.1 q.1 hp.0 hq.0 (ap (λ (x : Text × Tree). x.1) head) in
       let more : ps ≡ qs = one_params ps qs hp.1 hq.1 rest in
       λ i. (names i, numbers i) ∷ more i
+  one_params _ _ hp hq e = absurd cc
 
   one_result : (a b : Option ℕ) → AllOf (IsOutsidePart t) a → AllOf (IsOutsidePart t) b → option_map (tree_at t) a ≡ option_map (tree_at t) b → a ≡ b
   one_result None None ha hb e = refl
-  one_result None (Some b) ha hb e = absurd cc
-  one_result (Some a) None ha hb e = absurd cc
   one_result (Some a) (Some b) ha hb e = let trees : tree_at t a ≡ tree_at t b = cc in ap Some (one_outside a b ha hb trees)
+  one_result _ _ ha hb e = absurd cc
 
   one_function : (f g : FunctionShape) → PartsOf (IsOutsidePart t) f → PartsOf (IsOutsidePart t) g → signature_over (tree_at t) f ≡ signature_over (tree_at t) g → f ≡ g
   one_function f g hf hg e =
@@ -113,20 +111,18 @@ module _ (t : Tables) (tables : AreTables t) where
   -- ---- types that are shown
 
   declared_number : (a b : Option ℕ) → AllOf (IsOutsidePart t) a → AllOf (IsOutsidePart t) b → same_declaration (declaration_of t a) (declaration_of t b) ≡ same_number a b
-  declared_number None None ha hb = refl
-  declared_number None (Some b) ha hb = refl
-  declared_number (Some a) None ha hb = refl
   declared_number (Some a) (Some b) ha hb = outside_number a b ha hb
+  declared_number None None ha hb = refl
+  declared_number _ _ ha hb = refl
 
   shown_number : (x y : NumberedType) → TypePasses (IsOutsidePart t) x → TypePasses (IsOutsidePart t) y → reads.same_shown (shown_type t x) (shown_type t y) ≡ same_shown x y
   shown_number x y hx hy = ap (λ b. text_eq x.name y.name && (b && same_option text_eq x.external_id y.external_id)) (declared_number x.declared y.declared hx hy)
 
   types_numbers : (xs ys : List NumberedType) → AllByRecursion (TypePasses (IsOutsidePart t)) xs → AllByRecursion (TypePasses (IsOutsidePart t)) ys
       → pointwise reads.same_shown (map (shown_type t) xs) (map (shown_type t) ys) ≡ pointwise same_shown xs ys
-  types_numbers [] [] hx hy = refl
-  types_numbers [] (y ∷ ys) hx hy = refl
-  types_numbers (x ∷ xs) [] hx hy = refl
   types_numbers (x ∷ xs) (y ∷ ys) hx hy = λ i. shown_number x y hx.0 hy.0 i && types_numbers xs ys hx.1 hy.1 i
+  types_numbers [] [] hx hy = refl
+  types_numbers _ _ hx hy = refl
 
   -- ---- functions that are shown
 
@@ -193,9 +189,8 @@ module _ (t : Tables) (tables : AreTables t) where
       by : (a b : Bool) → a ≡ b → option_map_or holds (find test (map (sight_of t) earlier)) true ≡ option_map_or holds_in (find test_in earlier) true
           → option_map_or holds (cond a (Some (sight_of t f)) (find test (map (sight_of t) earlier))) true ≡ option_map_or holds_in (cond b (Some f) (find test_in earlier)) true
       by true true e more = gives f h.0
-      by true false e more = absurd cc
-      by false true e more = absurd cc
       by false false e more = more
+      by _ _ e more = absurd cc
 
   first_alike : (earlier : List NumberedSight) (s : NumberedSight) → AllByRecursion (IsSight t) earlier → IsSight t s
       → agreement.agrees_with_first (map (sight_of t) earlier) (sight_of t s) ≡ agrees_with_first earlier s

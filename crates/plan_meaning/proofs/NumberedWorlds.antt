@@ -18,7 +18,7 @@ use Rattle.plan_meaning.specs.NumberedViews.{Tables, path_at, path_text, place_a
 use Rattle.plan_meaning.specs.NumberedRules.{Fact, name_in, name_at, IsKnown}
 use Rattle.plan_meaning.specs.NumberedWorlds.{NumberedKey, path, label, implementing, place_of_key, key_of, NumberedShown, instance, function, declares, NumberedSeen, shown_of, seen_of, NumberedInstance, instance_of, sights_of_instance, if_outside, used_by, used_by_view, others_than, uses_of, path_seen, stand_earlier, are_reached, are_once, resources_seen, is_resource_seen, is_item, are_imports, HasPath, KeyStands, ItemStands, DeclaresParts, UsesInNumbers, ReachedInNumbers, PathsInNumbers, WorldsInNumbers, SightsInNumbers}
 use Rattle.plan_meaning.proofs.ShapeLaws.{PartView, is_primitive, is_name, is_node, viewed}
-use Rattle.plan_meaning.proofs.NumberedRules.{no_shape, shape_there, no_name, declared_same, function_same, interface_same}
+use Rattle.plan_meaning.proofs.NumberedRules.{no_shape, shape_there, no_name, declared_same, function_same, interface_same, by_shape}
 use Rattle.base_lemmas.proofs.Bools.{both_ways as either_way}
 use Rattle.base_lemmas.proofs.Elements.{all_both as all_in_both}
 use Rattle.base_lemmas.proofs.Lists.{append_of_map, map_of_map}
@@ -71,20 +71,11 @@ module _ (t : Tables) (tables : AreTables t) where
   abbrev places_named : Option (ℕ × Text) → List ℕ
   places_named o = option_map_or (λ (x : ℕ × Text). if_outside t x.0) o []
 
-  used_view : (k : ℕ) → PartView (place_at t) t.shapes tables.shapes k (tree_at t k) → rules.used_by (Declaration.type_ (tree_at t k)) ≡ map (path_text t) (used_by t (Some k))
-  used_view k (is_primitive q small e number) =
-      ap (λ x. rules.used_by (Declaration.type_ x)) e ∙ sym (ap (λ o. map (path_text t) (places_named (option_and_then name_in o))) (no_shape t k small))
-  used_view k (is_name n q name is there e) =
-      ap (λ x. rules.used_by (Declaration.type_ x)) e
-      ∙ (name_used q name ∙ sym (ap (λ o. map (path_text t) (places_named (option_and_then name_in o))) (shape_there t k n (named_shape q name) is there)))
-  used_view k (is_node n form ks is there e ranges) =
-      ap (λ x. rules.used_by (Declaration.type_ x)) e
-      ∙ sym (ap (λ o. map (path_text t) (places_named (option_and_then name_in o))) (shape_there t k n (node_shape form ks) is there)
-      ∙ ap (λ b. map (path_text t) (places_named (cond b (Some ((form_code form).number, first_label (form_code form).labels)) None))) (no_name form))
-
   used_same : (d : Option ℕ) → AllOf (IsPart t) d → rules.used_by (declaration_of t d) ≡ map (path_text t) (used_by t d)
   used_same None h = refl
-  used_same (Some k) h = used_view k (viewed (place_at t) t.shapes tables.shapes k h)
+  used_same (Some k) h =
+      by_shape t tables.shapes (λ x. rules.used_by (Declaration.type_ x)) (λ o. map (path_text t) (places_named (option_and_then name_in o))) k h (λ q e. refl) (λ n q name is there e. name_used q name)
+      (λ n form ks is there e ranges. sym (ap (λ b. map (path_text t) (places_named (cond b (Some ((form_code form).number, first_label (form_code form).labels)) None))) (no_name form)))
 
   -- ---- what a view uses
 
@@ -122,9 +113,8 @@ module _ (t : Tables) (tables : AreTables t) where
           → cond a (rules.others_than (Some (path_text t own)) (map (path_text t) ps)) (path_text t p ∷ rules.others_than (Some (path_text t own)) (map (path_text t) ps)) ≡ map (path_text t)
           (cond b (others_than own ps) (p ∷ others_than own ps))
       by true true e more = more
-      by true false e more = absurd cc
-      by false true e more = absurd cc
       by false false e more = ap (λ xs. path_text t p ∷ xs) more
+      by _ _ e more = absurd cc
 
   -- a place without a path is none of these
   others_of_none : (own : ℕ) → path_at t own ≡ None → (ps : List ℕ) → AllByRecursion (HasPath t) ps → ps ≡ others_than own ps
@@ -167,17 +157,12 @@ module _ (t : Tables) (tables : AreTables t) where
 
   seen_same : (x : NumberedShown) → rules.path_seen (shown_of t x) ≡ map (path_text t) (path_seen x)
   seen_same (instance (path p) v) = refl
-  seen_same (instance (label l p) v) = refl
-  seen_same (instance (implementing l p) v) = refl
-  seen_same (function n) = refl
-  seen_same (declares d) = refl
+  seen_same _ = refl
 
   seen_paths : (x : NumberedShown) → ItemIsOver x → AllByRecursion (HasPath t) (path_seen x)
   seen_paths (instance (path p) v) h = (h.0, tt)
-  seen_paths (instance (label l p) v) h = tt
   seen_paths (instance (implementing l p) v) h = (h.0, tt)
-  seen_paths (function n) h = tt
-  seen_paths (declares d) h = tt
+  seen_paths _ h = tt
 
   all_stand : (earlier ps : List ℕ) → AllByRecursion (HasPath t) earlier → AllByRecursion (HasPath t) ps
       → list_all (λ x. list_any (text_eq x) (map (path_text t) earlier)) (map (path_text t) ps) ≡ list_all (has earlier) ps
@@ -233,10 +218,8 @@ resources_same t (s ∷ ss) = by s.shown (resources_same t ss)
     by : (x : NumberedShown) → rules.resources_seen (map (seen_of t) ss) ≡ resources_seen ss
         → rules.resources_seen (record { key = s.key; shown = shown_of t x; external_id = s.external_id } ∷ map (seen_of t) ss) ≡ cond (is_resource_seen x) (s.key ∷ resources_seen ss)
         (resources_seen ss)
-    by (instance key v) more = more
-    by (function n) more = more
     by (declares None) more = ap (λ names. s.key ∷ names) more
-    by (declares (Some k)) more = more
+    by _ more = more
 
 module _ (t : Tables) (tables : AreTables t) (known : ℕ → Fact) (home : ℕ) (alone : path_at t home ≡ None) where
   key_place : (key : NumberedKey) → KeyStands t key → place_of (interface_of (key_of t key)) ≡ place_at t (place_of_key key)

@@ -188,9 +188,8 @@ module _ (r : Resolve) (m : ℕ) (is : IsPlan (plan_of r m)) where
   owned n name owner.None h = no_true h
 
   unowned : (o : TypeOwner) → same_owner o owner.None ≡ true → owner_in_range r o ≡ true
-  unowned (owner.Interface id) h = no_true h
-  unowned (owner.World id) h = no_true h
   unowned owner.None h = refl
+  unowned _ h = no_true h
 
   owner_by : (n : ℕ) (name : Option (String Global)) (o : TypeOwner) → option_map_or (λ t. planned.is_listed_in (plan_of r m) n t o) (optional_text name) (same_owner o owner.None) ≡ true
       → owner_in_range r o ≡ true

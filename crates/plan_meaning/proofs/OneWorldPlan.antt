@@ -1,5 +1,5 @@
 -- A worked example: the plan of a package of one world with functions means what its bytes mean, as a package and as a world.
-use Rattle.std.proofs.Common.{◌≡◌, refl, ℕ, [], ◌∷◌, Some, None}
+use Rattle.std.proofs.Common.{rules, ◌≡◌, refl, ℕ, [], ◌∷◌, Some, None}
 use Rattle.std.specs.Prelude.{codes}
 use Rattle.wit_model.specs.declared.model.FunctionKind.TheVariants as call
 use Rattle.wit_model.specs.Names.{cut as cut_at}
@@ -33,43 +33,7 @@ one_plan = record {
 
 is_plan : IsPlan one_plan
 unfolding met_in resource_marks trees_in part_tree
-is_plan = record {
-  packages_fit = refl;
-  interfaces_fit = refl;
-  worlds_fit = refl;
-  types_fit = refl;
-  identities = refl;
-  alone = refl;
-  members = refl;
-  members_differ = refl;
-  interfaces_placed = refl;
-  interface_labels = refl;
-  interface_types = refl;
-  types_rise = refl;
-  uses_fall = refl;
-  function_keys = refl;
-  worlds_placed = refl;
-  world_labels = refl;
-  imports_stand = refl;
-  exports_stand = refl;
-  keys_differ = refl;
-  world_types_rise = refl;
-  items_in_order = refl;
-  types_fall = refl;
-  types_listed = refl;
-  type_labels = refl;
-  types_stay = refl;
-  types_shaped = refl;
-  kinds_named = refl;
-  handles = refl;
-  depths = refl;
-  functions_in_range = record { of_interfaces = refl; of_worlds = refl };
-  functions_labelled = record { of_interfaces = refl; of_worlds = refl };
-  functions_stay = record { of_interfaces = refl; of_worlds = refl };
-  functions_take_values = record { of_interfaces = refl; of_worlds = refl };
-  functions_shallow = record { of_interfaces = refl; of_worlds = refl };
-  functions_belong = record { of_interfaces = refl; of_worlds = refl };
-}
+is_plan = search rules
 
 no_interface : {A : Type 0} (n : ℕ) (i : PlannedInterface) → interface_in one_plan n ≡ Some i → A
 no_interface n i e = let wrong : ⊥ = cc in absurd wrong

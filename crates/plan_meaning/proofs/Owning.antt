@@ -26,7 +26,7 @@ use Rattle.plan_meaning.specs.Plan.{type_in}
 use Rattle.plan_meaning.specs.PlanRules as planned
 use Rattle.plan_meaning.specs.PlanRules.{IsPlan}
 use Rattle.plan_meaning.specs.Built.{planned_type, planned_function, planned_interface}
-use Rattle.plan_meaning.proofs.Lists.{or_of_map, same_or, each_two, each_from_built, each_of_map}
+use Rattle.plan_meaning.proofs.Lists.{or_of_map, same_or, each_two, each_from_built, each_of_map, or_there}
 use Rattle.plan_meaning.proofs.Words.{plan_of, alias_is, value_numbers_are, has_owner_is, used_are, used_by_kind_is, interfaces_used_are}
 use Rattle.plan_meaning.proofs.KindRules.{has_text}
 use Rattle.plan_meaning.proofs.FunctionRules.{interfaces_pass, worlds_pass}
@@ -36,10 +36,7 @@ use Rattle.wit_model.proofs.RulesLemmas.{each_at, each_by_number}
 
 module _ (r : Resolve) (m : ℕ) where
   has_name_is : (n : ℕ) → planned.has_name (plan_of r m) n ≡ option_map_or (λ other. is_some other.name) (interface_at r n) false
-  has_name_is n =
-      ap (λ o. option_map_or (λ i. is_some i.name) o false) (get_of_map planned_interface r.interfaces.items n)
-      ∙ (or_of_map (λ i. is_some i.name) planned_interface false (interface_at r n) ∙ same_or (λ i. is_some (optional_text i.name)) (λ i. is_some i.name) false (λ i. has_text i.name)
-      (interface_at r n))
+  has_name_is = or_there (λ i. is_some i.name) planned_interface (λ i. is_some i.name) false (λ i. has_text i.name) r.interfaces.items
 
   other_owner : (o : TypeOwner) (def : TypeDef) → (not (same_owner def.owner o) && option_map_or (planned.has_name (plan_of r m)) (owner_interface def.owner) false)
       ≡ (not (same_owner def.owner o) && option_map_or (λ i. option_map_or (λ other. is_some other.name) (interface_at r i) false) (owner_interface def.owner) false)
@@ -50,12 +47,10 @@ module _ (r : Resolve) (m : ℕ) where
       → option_map_or (λ u. not (same_owner u.owner o) && option_map_or (planned.has_name (plan_of r m)) (owner_interface u.owner) false) (type_in (plan_of r m) n) false
       ≡ option_map_or (λ target. not (same_owner target.owner o) && option_map_or (λ i. option_map_or (λ other. is_some other.name) (interface_at r i) false) (owner_interface target.owner) false)
       (type_at r n) false
-  target_is o n =
-      ap (λ x. option_map_or (λ u. not (same_owner u.owner o) && option_map_or (planned.has_name (plan_of r m)) (owner_interface u.owner) false) x false) (get_of_map planned_type r.types.items n)
-      ∙ (or_of_map (λ u. not (same_owner u.owner o) && option_map_or (planned.has_name (plan_of r m)) (owner_interface u.owner) false) planned_type false (type_at r n)
-      ∙ same_or (λ def. not (same_owner def.owner o) && option_map_or (planned.has_name (plan_of r m)) (owner_interface def.owner) false)
+  target_is o =
+      or_there (λ u. not (same_owner u.owner o) && option_map_or (planned.has_name (plan_of r m)) (owner_interface u.owner) false) planned_type
       (λ target. not (same_owner target.owner o) && option_map_or (λ i. option_map_or (λ other. is_some other.name) (interface_at r i) false) (owner_interface target.owner) false) false
-      (other_owner o) (type_at r n))
+      (other_owner o) r.types.items
 
   use_is : (def : TypeDef) → planned.is_use (plan_of r m) (planned_type def) ≡ rules.is_use r def
   use_is def =

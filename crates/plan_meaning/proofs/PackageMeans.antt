@@ -22,7 +22,7 @@ use Rattle.wit_model.specs.Valid.{IsValid}
 use Rattle.wit_model.proofs.Elements.{contains-filter_map, has-contains, contains-has}
 use Rattle.wit_model.proofs.Maps.{one_map}
 use Rattle.wit_model.proofs.OnePath.{has-path, path-once}
-use Rattle.plan_meaning.specs.Plan.{Plan, path_of_planned}
+use Rattle.plan_meaning.specs.Plan.{Plan, PlannedInterface, path_of_planned}
 use Rattle.plan_meaning.specs.PlanRules as rules
 use Rattle.plan_meaning.specs.PlanRules.{IsPackagePlan}
 use Rattle.plan_meaning.specs.PlanMeaning as planned
@@ -31,7 +31,7 @@ use Rattle.plan_meaning.specs.Built.{IsBuilt, planned_function, planned_interfac
 use Rattle.plan_meaning.proofs.Lists.{any_get, no_true}
 use Rattle.wit_model.proofs.UsesLemmas.{has_filter, filter_has}
 use Rattle.plan_meaning.proofs.Words.{plan_of, path_of_planned_is}
-use Rattle.plan_meaning.proofs.Meanings.{planned_function_entry, meant_function_entry, interface_is, interface_at_is, world_at_is, functions_are}
+use Rattle.plan_meaning.proofs.Meanings.{named_means, planned_function_entry, meant_function_entry, interface_is, interface_at_is, world_at_is, functions_are}
 use Rattle.plan_meaning.proofs.Reaching.{shown_in, all_reached}
 use Rattle.plan_meaning.proofs.Valid.{plan_is, built_is_valid}
 use Rattle.base_lemmas.proofs.Bools.{left_of as first_true, right_of as second_true}
@@ -65,30 +65,27 @@ module _ (r : Resolve) (m : ℕ) where
   under i path = (path, planned.interface_meaning (plan_of r m) (planned_interface i))
 
   -- an entry of the plan, and what it is
-  pub record IsEntry (i : Interface) (k : Text) (x : InterfaceMeaning) : Type 0 where
-    pub other : is_id m (package_number i.package) ≡ false
-    pub path : path_of_interface r i ≡ Some k
-    pub means : x ≡ meant.interface_meaning r i
+  pub shown_is : (i : Interface) (k : Text) (x : InterfaceMeaning) → option_map (under i) (path_of_planned (plan_of r m) (planned_interface i)) ≡ Some (k, x)
+      → (path_of_interface r i ≡ Some k) × (x ≡ meant.interface_meaning r i)
+  shown_is i k x e =
+      let found = some_path (path_of_planned (plan_of r m) (planned_interface i)) (under i) (k, x) e in
+      (sym (path_of_planned_is r m i) ∙ (found.1 ∙ ap (λ (q : Text × InterfaceMeaning). Some q.0) found.2), ap (λ (q : Text × InterfaceMeaning). q.1) (sym found.2) ∙ interface_is r m i)
 
-  entry_is : (i : Interface) (k : Text) (x : InterfaceMeaning) → foreign_entry (plan_of r m) (planned_interface i) ≡ Some (k, x) → IsEntry i k x
+  pub shown_of : (i : Interface) (k : Text) → path_of_interface r i ≡ Some k → option_map (under i) (path_of_planned (plan_of r m) (planned_interface i)) ≡ Some (k, meant.interface_meaning r i)
+  shown_of i k path = ap (option_map (under i)) (path_of_planned_is r m i ∙ path) ∙ ap (λ (y : InterfaceMeaning). Some (k, y)) (interface_is r m i)
+
+  entry_is : (i : Interface) (k : Text) (x : InterfaceMeaning) → foreign_entry (plan_of r m) (planned_interface i) ≡ Some (k, x)
+      → (is_id m (package_number i.package) ≡ false) × (path_of_interface r i ≡ Some k) × (x ≡ meant.interface_meaning r i)
   entry_is i k x e = go (is_id m (package_number i.package)) refl e
     where
-      go : (b : Bool) → is_id m (package_number i.package) ≡ b → (if b then None else option_map (under i) (path_of_planned (plan_of r m) (planned_interface i))) ≡ Some (k, x) → IsEntry i k x
+      go : (b : Bool) → is_id m (package_number i.package) ≡ b → (if b then None else option_map (under i) (path_of_planned (plan_of r m) (planned_interface i))) ≡ Some (k, x)
+          → (is_id m (package_number i.package) ≡ false) × (path_of_interface r i ≡ Some k) × (x ≡ meant.interface_meaning r i)
       go true same e = absurd (let wrong : ⊥ = cc in wrong)
-      go false other e =
-          let found = some_path (path_of_planned (plan_of r m) (planned_interface i)) (under i) (k, x) e in
-          record {
-            other = other;
-            path = sym (path_of_planned_is r m i) ∙ (found.1 ∙ ap (λ (q : Text × InterfaceMeaning). Some q.0) found.2);
-            means = ap (λ (q : Text × InterfaceMeaning). q.1) (sym found.2) ∙ interface_is r m i;
-          }
+      go false other e = let found = shown_is i k x e in (other, found.0, found.1)
 
   entry_of : (i : Interface) (k : Text) → is_id m (package_number i.package) ≡ false → path_of_interface r i ≡ Some k
       → foreign_entry (plan_of r m) (planned_interface i) ≡ Some (k, meant.interface_meaning r i)
-  entry_of i k other path =
-      ap (λ b. if b then None else option_map (under i) (path_of_planned (plan_of r m) (planned_interface i))) other
-      ∙ (ap (option_map (under i)) (path_of_planned_is r m i ∙ path)
-      ∙ ap (λ (y : InterfaceMeaning). Some (k, y)) (interface_is r m i))
+  entry_of i k other path = ap (λ b. if b then None else option_map (under i) (path_of_planned (plan_of r m) (planned_interface i))) other ∙ shown_of i k path
 
   -- the interface's number is of another package
   foreign_is : (n : ℕ) (i : Interface) → interface_at r n ≡ Some i → is_foreign r m n ≡ (is_some (interface_path r n) && not (option_map_or (λ id. id.0 == m) i.package false))
@@ -97,6 +94,76 @@ module _ (r : Resolve) (m : ℕ) where
   same_test : (o : Option PackageId) → option_map_or (λ id. id.0 == m) o false ≡ is_id m (package_number o)
   same_test None = refl
   same_test (Some id) = refl
+
+-- Entries that a plan gives for some interfaces, by their paths, and those of numbers: one map, where the numbers are those of these interfaces.
+module _ (r : Resolve) (v : IsValid r) (given : PlannedInterface → Option (Text × InterfaceMeaning)) (Passes : Interface → Type 0)
+    (is : (i : Interface) (k : Text) (x : InterfaceMeaning) → given (planned_interface i) ≡ Some (k, x) → Passes i × (path_of_interface r i ≡ Some k) × (x ≡ meant.interface_meaning r i))
+    (of : (i : Interface) (k : Text) → Passes i → path_of_interface r i ≡ Some k → given (planned_interface i) ≡ Some (k, meant.interface_meaning r i))
+    (numbers : List ℕ) (means : ℕ → InterfaceMeaning)
+    (among : (n : ℕ) (i : Interface) → interface_at r n ≡ Some i → (k : Text) → path_of_interface r i ≡ Some k → Passes i → Contains numbers n × (means n ≡ meant.interface_meaning r i))
+    (back : (n : ℕ) → Contains numbers n → (is_some (interface_path r n) ≡ true) × ((i : Interface) → interface_at r n ≡ Some i → Passes i)) where
+  abbrev planned_entries : List (Text × InterfaceMeaning)
+  planned_entries = filter_map given (map planned_interface r.interfaces.items)
+
+  abbrev at_number : ℕ → Text × InterfaceMeaning
+  at_number n = (unwrap_or (interface_path r n) [], means n)
+
+  abbrev meant_entries : List (Text × InterfaceMeaning)
+  meant_entries = map at_number numbers
+
+  record Source (k : Text) (x : InterfaceMeaning) : Type 0 where
+    number : ℕ
+    from : Interface
+    stands : interface_at r number ≡ Some from
+    passes : Passes from
+    path : path_of_interface r from ≡ Some k
+    value : x ≡ meant.interface_meaning r from
+
+  source : (k : Text) (x : InterfaceMeaning) → Contains planned_entries (k, x) → Source k x
+  source k x c =
+      let found = filter_map_from given (map planned_interface r.interfaces.items) (k, x) c in
+      let i = get_back planned_interface r.interfaces.items found.0 found.1 found.2 in
+      let entry = is i.0 k x (ap given i.2 ∙ found.3) in
+      record { number = found.0; from = i.0; stands = i.1; passes = entry.0; path = entry.1; value = entry.2 }
+
+  there : (k : Text) (x : InterfaceMeaning) → Contains planned_entries (k, x) → Contains meant_entries (k, x)
+  there k x c =
+      let s = source k x c in
+      let found = among s.number s.from s.stands k s.path s.passes in
+      let path : interface_path r s.number ≡ Some k = path_there r s.number s.from s.stands ∙ s.path in
+      let value : means s.number ≡ x = found.1 ∙ sym s.value in
+      let same : at_number s.number ≡ (k, x) = λ j. (unwrap_or (path j) [], value j) in
+      subst (λ (q : Text × InterfaceMeaning). Contains meant_entries q) same (contains-map at_number numbers s.number found.0)
+
+  from_number : (n : ℕ) (k : Text) (x : InterfaceMeaning) → Contains numbers n → at_number n ≡ (k, x) → (path : Text) → interface_path r n ≡ Some path → Contains planned_entries (k, x)
+  from_number n k x c e path there =
+      let standing = has-path r n path there in
+      let i = standing.def in
+      let its_path : path_of_interface r i ≡ Some path = sym (path_there r n i standing.there) ∙ there in
+      let passes = (back n c).1 i standing.there in
+      let key : path ≡ k = ap (λ o. unwrap_or o []) (sym there) ∙ ap (λ (q : Text × InterfaceMeaning). q.0) e in
+      let value : meant.interface_meaning r i ≡ x = sym (among n i standing.there path its_path passes).1 ∙ ap (λ (q : Text × InterfaceMeaning). q.1) e in
+      let entry : given (planned_interface i) ≡ Some (k, x) = of i path passes its_path ∙ (λ j. Some (key j, value j)) in
+      contains-filter_map given (map planned_interface r.interfaces.items) (planned_interface i) (k, x)
+      (contains-map planned_interface r.interfaces.items i (get-contains r.interfaces.items n i standing.there))
+      (subst (λ (o : Option (Text × InterfaceMeaning)). Contains (option_to_list o) (k, x)) (sym entry) (contains-one (k, x)))
+
+  here : (k : Text) (x : InterfaceMeaning) → Contains meant_entries (k, x) → Contains planned_entries (k, x)
+  here k x c =
+      let found = map_from at_number numbers (k, x) c in
+      let path = some-of (interface_path r found.0) (back found.0 found.1).0 in
+      from_number found.0 k x found.1 found.2 path.0 path.1
+
+  one_value : (k : Text) (x y : InterfaceMeaning) → Contains planned_entries (k, x) → Contains planned_entries (k, y) → x ≡ y
+  one_value k x y c d =
+      let a = source k x c in
+      let b = source k y d in
+      let numbers = path-once r v a.number b.number k (path_there r a.number a.from a.stands ∙ a.path) (path_there r b.number b.from b.stands ∙ b.path) in
+      let one : a.from ≡ b.from = same-some a.from b.from (sym a.stands ∙ (ap (interface_at r) numbers ∙ b.stands)) in
+      a.value ∙ (ap (meant.interface_meaning r) one ∙ sym b.value)
+
+  pub entries_are : ◌≡◌ {A = TextMap InterfaceMeaning} (from_entries planned_entries) (from_entries meant_entries)
+  entries_are = one_map planned_entries meant_entries (record { one_value = one_value; there = there; here = here })
 
 module _ (r : Resolve) (m : ℕ) (is : IsPackagePlan (plan_of r m)) (v : IsValid r) (p : Package) (at : package_at r m ≡ Some p) where
   -- without a world that shows it, an interface of another package has no functions
@@ -131,39 +198,6 @@ module _ (r : Resolve) (m : ℕ) (is : IsPackagePlan (plan_of r m)) (v : IsValid
       → rules.is_foreign (plan_of r m) (planned_interface i) ≡ true
   is_other n i e k path other = both _ _ (named r i k path) (ap not other)
 
-  abbrev planned_entries : List (Text × InterfaceMeaning)
-  planned_entries = filter_map (foreign_entry (plan_of r m)) (map planned_interface r.interfaces.items)
-
-  abbrev foreign_at : ℕ → Text × InterfaceMeaning
-  foreign_at n = (unwrap_or (interface_path r n) [], foreign_meaning r p n)
-
-  abbrev meant_entries : List (Text × InterfaceMeaning)
-  meant_entries = map foreign_at (foreign_of r m p)
-
-  record Source (k : Text) (x : InterfaceMeaning) : Type 0 where
-    pub number : ℕ
-    pub from : Interface
-    pub stands : interface_at r number ≡ Some from
-    pub entry : IsEntry r m from k x
-
-  source : (k : Text) (x : InterfaceMeaning) → Contains planned_entries (k, x) → Source k x
-  source k x c =
-      let found = filter_map_from (foreign_entry (plan_of r m)) (map planned_interface r.interfaces.items) (k, x) c in
-      let i = get_back planned_interface r.interfaces.items found.0 found.1 found.2 in
-      record { number = found.0; from = i.0; stands = i.1; entry = entry_is r m i.0 k x (ap (foreign_entry (plan_of r m)) i.2 ∙ found.3) }
-
-  there : (k : Text) (x : InterfaceMeaning) → Contains planned_entries (k, x) → Contains meant_entries (k, x)
-  there k x c =
-      let s = source k x c in
-      let path : interface_path r s.number ≡ Some k = path_there r s.number s.from s.stands ∙ s.entry.path in
-      let some : is_some (interface_path r s.number) ≡ true = ap is_some path in
-      let foreign : is_foreign r m s.number ≡ true = foreign_is r m s.number s.from s.stands ∙ both _ _ some (ap not (same_test r m s.from.package ∙ s.entry.other)) in
-      let among = has-contains (foreign_of r m p) s.number (has_filter (is_foreign r m) (reached_by_package r p) s.number
-      (all_reached r m is.plan v p at is.worlds is.wanted s.number s.from s.stands) foreign) in
-      let means : foreign_meaning r p s.number ≡ x = foreign_means s.number s.from s.stands some (is_other s.number s.from s.stands k s.entry.path s.entry.other) ∙ sym s.entry.means in
-      let same : foreign_at s.number ≡ (k, x) = λ j. (unwrap_or (path j) [], means j) in
-      subst (λ (q : Text × InterfaceMeaning). Contains meant_entries q) same (contains-map foreign_at (foreign_of r m p) s.number among)
-
   other_package : (n : ℕ) (i : Interface) → interface_at r n ≡ Some i → is_foreign r m n ≡ true → is_id m (package_number i.package) ≡ false
   other_package n i e foreign =
       sym (same_test r m i.package) ∙ untrue (option_map_or (λ id. id.0 == m) i.package false) (second_true (is_some (interface_path r n)) _ (sym (foreign_is r m n i e) ∙ foreign))
@@ -179,78 +213,33 @@ module _ (r : Resolve) (m : ℕ) (is : IsPackagePlan (plan_of r m)) (v : IsValid
       none_mapped (λ e. (text_of e.0, planned_function e.1)) i.functions.entries
       (plans_none n i e some (is_other n i e path.0 (sym (path_there r n i e) ∙ path.1) (other_package n i e foreign)) hidden)
 
-  from_number : (n : ℕ) (k : Text) (x : InterfaceMeaning) → has (foreign_of r m p) n ≡ true → foreign_at n ≡ (k, x) → (path : Text) → interface_path r n ≡ Some path → Contains planned_entries (k, x)
-  from_number n k x h e path there =
-      let standing = has-path r n path there in
-      let i = standing.def in
-      let foreign = (filter_has (is_foreign r m) (reached_by_package r p) n h).1 in
-      let other = other_package n i standing.there foreign in
-      let its_path : path_of_interface r i ≡ Some path = sym (path_there r n i standing.there) ∙ there in
-      let means = foreign_means n i standing.there (ap is_some there) (is_other n i standing.there path its_path other) in
-      let key : path ≡ k = ap (λ o. unwrap_or o []) (sym there) ∙ ap (λ (q : Text × InterfaceMeaning). q.0) e in
-      let value : meant.interface_meaning r i ≡ x = sym means ∙ ap (λ (q : Text × InterfaceMeaning). q.1) e in
-      let entry = entry_of r m i path other its_path in
-      let same : ◌≡◌ {A = Text × InterfaceMeaning} (path, meant.interface_meaning r i) (k, x) = λ j. (key j, value j) in
-      let one : option_to_list (Some (path, meant.interface_meaning r i)) ≡ option_to_list (foreign_entry (plan_of r m) (planned_interface i)) = ap option_to_list (sym entry) in
-      subst (λ (q : Text × InterfaceMeaning). Contains planned_entries q) same
-      (contains-filter_map (foreign_entry (plan_of r m)) (map planned_interface r.interfaces.items) (planned_interface i) (path, meant.interface_meaning r i)
-      (contains-map planned_interface r.interfaces.items i (get-contains r.interfaces.items n i standing.there))
-      (subst (λ (xs : List (Text × InterfaceMeaning)). Contains xs (path, meant.interface_meaning r i)) one (contains-one (path, meant.interface_meaning r i))))
+  foreign_are : ◌≡◌ {A = TextMap InterfaceMeaning} (from_entries (filter_map (foreign_entry (plan_of r m)) (map planned_interface r.interfaces.items)))
+      (from_entries (map (λ n. (unwrap_or (interface_path r n) [], foreign_meaning r p n)) (foreign_of r m p)))
+  foreign_are = entries_are r v (foreign_entry (plan_of r m)) (λ i. is_id m (package_number i.package) ≡ false) (entry_is r m) (entry_of r m) (foreign_of r m p) (foreign_meaning r p) among back
+    where
+      among : (n : ℕ) (i : Interface) → interface_at r n ≡ Some i → (k : Text) → path_of_interface r i ≡ Some k → is_id m (package_number i.package) ≡ false
+          → Contains (foreign_of r m p) n × (foreign_meaning r p n ≡ meant.interface_meaning r i)
+      among n i e k path other =
+          let some : is_some (interface_path r n) ≡ true = ap is_some (path_there r n i e ∙ path) in
+          let foreign : is_foreign r m n ≡ true = foreign_is r m n i e ∙ both _ _ some (ap not (same_test r m i.package ∙ other)) in (
+            has-contains (foreign_of r m p) n (has_filter (is_foreign r m) (reached_by_package r p) n (all_reached r m is.plan v p at is.worlds is.wanted n i e) foreign),
+            foreign_means n i e some (is_other n i e k path other),
+          )
 
-  here : (k : Text) (x : InterfaceMeaning) → Contains meant_entries (k, x) → Contains planned_entries (k, x)
-  here k x c =
-      let found = map_from foreign_at (foreign_of r m p) (k, x) c in
-      let h = contains-has (foreign_of r m p) found.0 found.1 in
-      let some = first_true (is_some (interface_path r found.0)) _ (filter_has (is_foreign r m) (reached_by_package r p) found.0 h).1 in
-      let path = some-of (interface_path r found.0) some in
-      from_number found.0 k x h found.2 path.0 path.1
-
-  one_value : (k : Text) (x y : InterfaceMeaning) → Contains planned_entries (k, x) → Contains planned_entries (k, y) → x ≡ y
-  one_value k x y c d =
-      let a = source k x c in
-      let b = source k y d in
-      let numbers = path-once r v a.number b.number k (path_there r a.number a.from a.stands ∙ a.entry.path) (path_there r b.number b.from b.stands ∙ b.entry.path) in
-      let one : a.from ≡ b.from = same-some a.from b.from (sym a.stands ∙ (ap (interface_at r) numbers ∙ b.stands)) in
-      a.entry.means ∙ (ap (meant.interface_meaning r) one ∙ sym b.entry.means)
-
-  foreign_are : ◌≡◌ {A = TextMap InterfaceMeaning} (from_entries planned_entries) (from_entries meant_entries)
-  foreign_are = one_map planned_entries meant_entries (record { one_value = one_value; there = there; here = here })
+      back : (n : ℕ) → Contains (foreign_of r m p) n → (is_some (interface_path r n) ≡ true) × ((i : Interface) → interface_at r n ≡ Some i → is_id m (package_number i.package) ≡ false)
+      back n c =
+          let foreign = (filter_has (is_foreign r m) (reached_by_package r p) n (contains-has (foreign_of r m p) n c)).1 in
+          (first_true (is_some (interface_path r n)) _ foreign, λ i e. other_package n i e foreign)
 
   -- ---- the package
 
-  abbrev interface_pair : String Global × InterfaceId → Text × ℕ
-  interface_pair e = (text_of e.0, e.1.0)
-
-  abbrev planned_interface_entry : Text × ℕ → Text × InterfaceMeaning
-  planned_interface_entry e = (e.0, planned.interface_meaning_in (plan_of r m) e.1)
-
-  abbrev meant_interface_entry : String Global × InterfaceId → Text × InterfaceMeaning
-  meant_interface_entry e = (text_of e.0, interface_meaning_at r e.1.0)
-
-  interface_entry_is : (e : String Global × InterfaceId) → planned_interface_entry (interface_pair e) ≡ meant_interface_entry e
-  interface_entry_is e = λ i. (text_of e.0, interface_at_is r m e.1.0 i)
-
-  interfaces_are : map planned_interface_entry (planned_package p).interfaces ≡ map meant_interface_entry p.interfaces.entries
-  interfaces_are = map_of_map planned_interface_entry interface_pair p.interfaces.entries ∙ same_map (λ e. planned_interface_entry (interface_pair e)) meant_interface_entry interface_entry_is
-      p.interfaces.entries
-
-  abbrev world_pair : String Global × WorldId → Text × ℕ
-  world_pair e = (text_of e.0, e.1.0)
-
-  abbrev planned_world_entry : Text × ℕ → Text × WorldMeaning
-  planned_world_entry e = (e.0, planned.world_meaning_in (plan_of r m) e.1)
-
-  abbrev meant_world_entry : String Global × WorldId → Text × WorldMeaning
-  meant_world_entry e = (text_of e.0, meant.world_meaning_at r e.1.0)
-
-  world_entry_is : (e : String Global × WorldId) → planned_world_entry (world_pair e) ≡ meant_world_entry e
-  world_entry_is e = λ i. (text_of e.0, world_at_is r m e.1.0 i)
-
-  worlds_are : map planned_world_entry (planned_package p).worlds ≡ map meant_world_entry p.worlds.entries
-  worlds_are = map_of_map planned_world_entry world_pair p.worlds.entries ∙ same_map (λ e. planned_world_entry (world_pair e)) meant_world_entry world_entry_is p.worlds.entries
-
   pub package_is : planned.package_meaning (plan_of r m) (planned_package p) ≡ meant.package_meaning r m p
-  package_is = λ j. record { identity = identity_of p.name; interfaces = interfaces_are j; worlds = worlds_are j; foreign = foreign_are j }
+  package_is = λ j. record {
+    identity = identity_of p.name;
+    interfaces = named_means (λ (id : InterfaceId). id.0) (planned.interface_meaning_in (plan_of r m)) (λ id. interface_meaning_at r id.0) (λ id. interface_at_is r m id.0) p.interfaces.entries j;
+    worlds = named_means (λ (id : WorldId). id.0) (planned.world_meaning_in (plan_of r m)) (λ id. meant.world_meaning_at r id.0) (λ id. world_at_is r m id.0) p.worlds.entries j;
+    foreign = foreign_are j;
+  }
 
 -- The plan means what its main package means.
 pub plan_means : (r : Resolve) (m : ℕ) → IsPackagePlan (plan_of r m) → IsValid r → plan_meaning (plan_of r m) ≡ option_map (meant.package_meaning r m) (package_at r m)

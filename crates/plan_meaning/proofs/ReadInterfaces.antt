@@ -36,22 +36,19 @@ use Rattle.wit_model.proofs.RulesLemmas.{each_by_number}
 
 type_names : (xs : List NumberedType) (es : List (Text × ℕ)) → AllZip HasName xs es → names_of es ≡ map (λ (x : NumberedType). x.name) xs
 type_names [] [] z = refl
-type_names [] (e ∷ es) z = absurd z
-type_names (x ∷ xs) [] z = absurd z
 type_names (x ∷ xs) (e ∷ es) z = λ i. z.0 i ∷ type_names xs es z.1 i
+type_names _ _ z = absurd z
 
 function_names : (fs : List (Text × NumberedFunction)) (es : List (Text × PlannedFunction)) → AllZip IsNamed fs es → names_of es ≡ map (λ (f : Text × NumberedFunction). f.0) fs
 function_names [] [] z = refl
-function_names [] (e ∷ es) z = absurd z
-function_names (f ∷ fs) [] z = absurd z
 function_names (f ∷ fs) (e ∷ es) z = λ i. z.0.0 i ∷ function_names fs es z.1 i
+function_names _ _ z = absurd z
 
 keys_are_names : (fs : List (Text × NumberedFunction)) (es : List (Text × PlannedFunction)) → AllZip IsNamed fs es → list_all (λ (e : Text × PlannedFunction). text_eq e.0 e.1.name) es ≡ true
 keys_are_names [] [] z = refl
-keys_are_names [] (e ∷ es) z = absurd z
-keys_are_names (f ∷ fs) [] z = absurd z
 keys_are_names (f ∷ fs) (e ∷ es) z = both (text_eq e.0 e.1.name) (list_all (λ (x : Text × PlannedFunction). text_eq x.0 x.1.name) es) (same_text e.0 e.1.name (z.0.0 ∙ sym z.0.1))
     (keys_are_names fs es z.1)
+keys_are_names _ _ z = absurd z
 
 module _ (t : Tables) (kept : List ℕ) (p : Plan) (are : TypesAreKept t kept p) where
   -- ---- order
@@ -59,20 +56,18 @@ module _ (t : Tables) (kept : List ℕ) (p : Plan) (are : TypesAreKept t kept p)
   later_rise : (n : ℕ) (e : Text × ℕ) → slice_get kept e.1 ≡ Some n → (ns : List ℕ) (es : List (Text × ℕ)) → AllZip (IsKeptAs kept p) ns es → list_all (nat_lt n) ns ≡ true
       → list_all (nat_lt e.1) (numbers_of es) ≡ true
   later_rise n e at [] [] z h = refl
-  later_rise n e at [] (x ∷ es) z h = absurd z
-  later_rise n e at (m ∷ ns) [] z h = absurd z
   later_rise n e at (m ∷ ns) (x ∷ es) z h =
       let less : n < m = ltb→lt n m (subst T (sym (first_true (nat_lt n m) (list_all (nat_lt n) ns) h)) tt) in
       both (nat_lt e.1 x.1) (list_all (nat_lt e.1) (numbers_of es)) (lt-ltb e.1 x.1 (are.rise e.1 x.1 n m at z.0.0 less))
       (later_rise n e at ns es z.1 (second_true (nat_lt n m) (list_all (nat_lt n) ns) h))
+  later_rise n e at _ _ z h = absurd z
 
   all_rise : (ns : List ℕ) (es : List (Text × ℕ)) → AllZip (IsKeptAs kept p) ns es → are_rising ns ≡ true → are_rising (numbers_of es) ≡ true
   all_rise [] [] z h = refl
-  all_rise [] (e ∷ es) z h = absurd z
-  all_rise (n ∷ ns) [] z h = absurd z
   all_rise (n ∷ ns) (e ∷ es) z h =
       both (list_all (nat_lt e.1) (numbers_of es)) (are_rising (numbers_of es)) (later_rise n e z.0.0 ns es z.1 (first_true (list_all (nat_lt n) ns) (are_rising ns) h))
       (all_rise ns es z.1 (second_true (list_all (nat_lt n) ns) (are_rising ns) h))
+  all_rise _ _ z h = absurd z
 
   -- ---- types
 

@@ -33,6 +33,7 @@ use Rattle.plan_meaning.specs.KeptFunctions.{FunctionPasses}
 use Rattle.plan_meaning.specs.ReadFunctions.{Beside}
 use Rattle.plan_meaning.specs.ReadWorlds.{ReadItem, is_type_seen, types_follow, IsInterfaceOf, IsReadUnder, IsTypeUnder, IsReadItem, by_path, by_label, implementing_path, a_function, a_type}
 use Rattle.plan_meaning.specs.ReadOrder.{IsViewedInterface, OrderIsRead, ReadOrderPasses}
+use Rattle.plan_meaning.proofs.KeptParts.{shape_parts, all_parts, function_zip, part_from}
 use Rattle.plan_meaning.proofs.KeptFunctions.{kept_functions_pass}
 use Rattle.plan_meaning.proofs.KeptTypes.{kept_types_pass}
 use Rattle.plan_meaning.proofs.Lists.{no_true}
@@ -65,19 +66,17 @@ others_have q r (x ∷ ps) apart h = go (x == q) refl (x == r) refl (others_have
 pub same_declared : (a c : Option ℕ) → same_number a c ≡ true → a ≡ c
 same_declared None None h = refl
 same_declared (Some x) (Some y) h = ap Some (eqb-true x y h)
-same_declared None (Some y) h = no_true h
-same_declared (Some x) None h = no_true h
+same_declared _ _ h = no_true h
 
 pub same_uses : (t : Tables) (xs ys : List NumberedType) → pointwise same_shown xs ys ≡ true
     → flat_map (λ (x : NumberedType). used_by t x.declared) xs ≡ flat_map (λ (x : NumberedType). used_by t x.declared) ys
 same_uses t [] [] h = refl
-same_uses t [] (y ∷ ys) h = no_true h
-same_uses t (x ∷ xs) [] h = no_true h
 same_uses t (x ∷ xs) (y ∷ ys) h =
     let front = first_true (same_shown x y) (pointwise same_shown xs ys) h in
     let one : x.declared ≡ y.declared = same_declared x.declared y.declared
     (first_true (same_number x.declared y.declared) (same_id x.external_id y.external_id) (second_true _ (same_number x.declared y.declared && same_id x.external_id y.external_id) front)) in
     λ i. used_by t (one i) ++ same_uses t xs ys (second_true (same_shown x y) (pointwise same_shown xs ys) h) i
+same_uses t _ _ h = no_true h
 
 pub has_front : (xs ys : List ℕ) (n : ℕ) → has xs n ≡ true → has (xs ++ ys) n ≡ true
 has_front xs ys n h = list_any-append (λ m. m == n) xs ys ∙ ap (λ v. v || has ys n) h
@@ -242,49 +241,10 @@ module _ (t : Tables) (tables : AreTables t) (kept : List ℕ) (p : Plan) (are :
             stands_first x rest j w follow (omega (arith, le, less)) (here j w used) found (inv j w)
 
     -- the numbers of a function
-    part_low : (count old new : ℕ) → old < 14 + count → Becomes t kept p old new → (n : ℕ) → part_number new ≡ Some n → (k : ℕ) × (slice_get kept n ≡ Some k) × (k < count) × (n < length p.types)
-    part_low count old new low is n e = by is.part
-      where
-        by : IsPart kept old new → (k : ℕ) × (slice_get kept n ≡ Some k) × (k < count) × (n < length p.types)
-        by (a_primitive small same) =
-            let less : new < 14 = omega (arith, small, same) in
-            no_true (ap is_some (sym (ap (λ v. cond v None (Some (new - 14))) (lt-ltb new 14 less)) ∙ e))
-        by (a_shape k i from at to) =
-            let range = is.range in
-            let one : i ≡ n = same-some i n (sym (ap part_number to ∙ behind i) ∙ e) in
-            (k, ap (slice_get kept) (sym one) ∙ at, omega (arith, low, from), omega (arith, range, to, one))
-
-    params_low : (count : ℕ) (xs ys : List (Text × ℕ)) → AllZip (ParamBecomes t kept p) xs ys → AllByRecursion (λ (x : Text × ℕ). x.1 < 14 + count) xs
-        → (n : ℕ) → Contains (filter_map part_number (map (λ (y : Text × ℕ). y.1) ys)) n → (k : ℕ) × (slice_get kept n ≡ Some k) × (k < count) × (n < length p.types)
-    params_low count xs ys z low n c =
-        let found = filter_map_from part_number (map (λ (y : Text × ℕ). y.1) ys) n c in
-        let entry = get_back (λ (y : Text × ℕ). y.1) ys found.0 found.1 found.2 in
-        let param = zip_at (ParamBecomes t kept p) xs ys z found.0 entry.0 entry.1 in
-        part_low count param.0.1 found.1 (all_at (λ (x : Text × ℕ). x.1 < 14 + count) xs low param.0 (get-contains xs found.0 param.0 param.1))
-        (subst (Becomes t kept p param.0.1) entry.2 param.2.1) n found.3
-
-    result_low : (count : ℕ) (d e : Option ℕ) → BecomesIfGiven t kept p d e → AllOf (λ k. k < 14 + count) d → (n : ℕ) → Contains (filter_map part_number (option_to_list e)) n
-        → (k : ℕ) × (slice_get kept n ≡ Some k) × (k < count) × (n < length p.types)
-    result_low count None None z low n c = none-in n c
-    result_low count None (Some new) z low n c = absurd z
-    result_low count (Some old) None z low n c = absurd z
-    result_low count (Some old) (Some new) z low n c =
-        let found = filter_map_from part_number (new ∷ []) n c in
-        let one : new ≡ found.1 = one-contained new found.1 (get-contains (new ∷ []) found.0 found.1 found.2) in
-        part_low count old new low z n (ap part_number one ∙ found.3)
-
     function_low : (key : Text) (count : ℕ) (g : PlannedFunction) → IsReadUnder t kept p b views (as_world m) home key count g → (n : ℕ) → Contains (function_numbers g) n
         → (k : ℕ) × (slice_get kept n ≡ Some k) × (k < count) × (n < length p.types)
     function_low key count g is n c = by (Contains-append_cases (filter_map part_number (function_parts g)) (option_to_list (resource_of g.kind)) n c)
       where
-        becomes : FunctionBecomes t kept p is.read.shape is.read.external_id g
-        becomes = is.read.kept_function.becomes
-
-        parts : Contains (filter_map part_number (map (λ (y : Text × ℕ). y.1) g.params)) n ⊎ Contains (filter_map part_number (option_to_list g.result)) n → (k : ℕ) × (slice_get kept n ≡ Some k)
-            × (k < count) × (n < length p.types)
-        parts (inl d) = params_low count is.read.shape.params g.params becomes.params is.parts.0 n d
-        parts (inr d) = result_low count is.read.shape.result g.result becomes.result is.parts.1 n d
-
         passes : FunctionPasses p (as_world m) g
         passes = kept_functions_pass t tables b.known kept p are (as_world m) is.read.place is.read.name is.read.shape is.read.external_id g is.read.kept_function
 
@@ -296,8 +256,11 @@ module _ (t : Tables) (tables : AreTables t) (kept : List ℕ) (p : Plan) (are :
         held (Some k) d = ap Some (one-contained k n d)
 
         by : Contains (filter_map part_number (function_parts g)) n ⊎ Contains (option_to_list (resource_of g.kind)) n → (k : ℕ) × (slice_get kept n ≡ Some k) × (k < count) × (n < length p.types)
-        by (inl d) = parts (Contains-append_cases (filter_map part_number (map (λ (y : Text × ℕ). y.1) g.params)) (filter_map part_number (option_to_list g.result)) n
-            (subst (λ ns. Contains ns n) (filter_map-append part_number (map (λ (y : Text × ℕ). y.1) g.params) (option_to_list g.result)) d))
+        by (inl d) =
+            let from = part_from t kept p (shape_parts is.read.shape) (function_parts g) (function_zip t kept p is.read.shape is.read.external_id g is.read.kept_function.becomes) n d in
+            let low = all_at (λ k. k < 14 + count) (shape_parts is.read.shape) (all_parts (λ k. k < 14 + count) is.read.shape is.parts) from.0 from.1 in
+            let number = from.3 in
+            (from.2, from.4, omega (arith, low, number), from.5)
         by (inr d) =
             let found = slice_there p.types n range in
             let at = are.each n found.0 found.1 in

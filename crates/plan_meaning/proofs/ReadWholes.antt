@@ -25,6 +25,7 @@ use Rattle.plan_meaning.specs.ReadPlaces.{IsPlacedInterface, under_path, inline}
 use Rattle.plan_meaning.specs.ReadWorlds.{ReadItem, IsReadItem, by_path, by_label, implementing_path, a_function, a_type}
 use Rattle.plan_meaning.specs.ReadPlans.{IsReadPlan}
 use Rattle.plan_meaning.specs.ReadWholes.{IsPartOfFunction, a_parameter, a_result, IsPartOfKept, of_type, of_interface, of_world, HasHomes, IsKeptForReasons, place_shown, IsShownByWorld, IsViewOf, IsSeenFor, in_world, in_member, ForeignIsRead, IsReadWorldPlan, ReadPackagePlanStands, ReadWorldPlanStands}
+use Rattle.plan_meaning.proofs.KeptParts.{shape_parts, function_zip}
 use Rattle.plan_meaning.proofs.Lists.{no_true}
 use Rattle.wit_model.proofs.UsesLemmas.{has_filter}
 use Rattle.plan_meaning.proofs.MetTypes.{flat_among}
@@ -62,34 +63,21 @@ module _ (t : Tables) (tables : AreTables t) (h : Homes) (homes : HomesStand t h
     number_there : (news : List ℕ) (new : ℕ) → Contains news new → part_number new ≡ Some j → has (filter_map part_number news) j ≡ true
     number_there news new c e = contains-has (filter_map part_number news) j (contains-filter_map part_number news new j c (subst (λ o. Contains (option_to_list o) j) (sym e) (0, omega arith, refl)))
 
-    of_kind : (x : PlannedType) (olds news : List ℕ) → kind_numbers x.kind ≡ filter_map part_number news → AllZip (Becomes t kept p) olds news → Contains olds (14 + k)
-        → has (kind_numbers x.kind) j ≡ true
-    of_kind x olds news kind z c =
+    numbers_have : (olds news : List ℕ) → AllZip (Becomes t kept p) olds news → Contains olds (14 + k) → has (filter_map part_number news) j ≡ true
+    numbers_have olds news z c =
         let index = contains-get olds (14 + k) c in
         let found = zip_there (Becomes t kept p) olds news z index.0 (14 + k) index.1 in
-        ap (λ ns. has ns j) kind ∙ number_there news found.0 (get-contains news index.0 found.0 found.1) (part_there (14 + k) found.0 refl found.2)
+        number_there news found.0 (get-contains news index.0 found.0 found.1) (part_there (14 + k) found.0 refl found.2)
 
     of_function : (f : FunctionShape) (id : Option Text) (g : PlannedFunction) → FunctionBecomes t kept p f id g → IsPartOfFunction f (14 + k) → has (function_numbers g) j ≡ true
     of_function f id g is part =
         contains-has (function_numbers g) j (Contains-append_left (filter_map part_number (function_parts g)) (option_to_list (resource_of g.kind)) j
-        (has-contains (filter_map part_number (function_parts g)) j (by part)))
+        (has-contains (filter_map part_number (function_parts g)) j (numbers_have (shape_parts f) (function_parts g) (function_zip t kept p f id g is) (by part))))
       where
-        given : (a c : Option ℕ) → BecomesIfGiven t kept p a c → a ≡ Some (14 + k) → (new : ℕ) × Contains (option_to_list c) new × (part_number new ≡ Some j)
-        given None None z e = no_true (ap is_some e)
-        given None (Some new) z e = absurd z
-        given (Some old) None z e = absurd z
-        given (Some old) (Some new) z e = (new, (0, omega arith, refl), part_there old new (same-some old (14 + k) e) z)
-
-        by : IsPartOfFunction f (14 + k) → has (filter_map part_number (function_parts g)) j ≡ true
-        by (a_parameter name c) =
-            let index = contains-get f.params (name, 14 + k) c in
-            let found = zip_there (ParamBecomes t kept p) f.params g.params is.params index.0 (name, 14 + k) index.1 in
-            let there = contains-map (λ (y : Text × ℕ). y.1) g.params found.0 (get-contains g.params index.0 found.0 found.1) in
-            number_there (function_parts g) found.0.1 (Contains-append_left (map (λ (y : Text × ℕ). y.1) g.params) (option_to_list g.result) found.0.1 there)
-            (part_there (14 + k) found.0.1 refl found.2.1)
+        by : IsPartOfFunction f (14 + k) → Contains (shape_parts f) (14 + k)
+        by (a_parameter name c) = Contains-append_left (map (λ (x : Text × ℕ). x.1) f.params) (option_to_list f.result) (14 + k) (contains-map (λ (x : Text × ℕ). x.1) f.params (name, 14 + k) c)
         by (a_result e) =
-            let found = given f.result g.result is.result e in
-            number_there (function_parts g) found.0 (Contains-append_right (map (λ (y : Text × ℕ). y.1) g.params) (option_to_list g.result) found.0 found.1) found.2
+            Contains-append_right (map (λ (x : Text × ℕ). x.1) f.params) (option_to_list f.result) (14 + k) (subst (λ o. Contains (option_to_list o) (14 + k)) (sym e) (0, omega arith, refl))
 
     abbrev in_types : Bool
     in_types = list_any (λ x. has (kind_numbers x.kind) j) p.types
@@ -102,7 +90,7 @@ module _ (t : Tables) (tables : AreTables t) (h : Homes) (homes : HomesStand t h
 
     is_part_of : IsPartOfKept t h kept p b (14 + k) → is_part p j ≡ true
     is_part_of (of_type i x form olds news e kind z c) =
-        ap (λ v. v || (in_interfaces || in_worlds)) (contains_any (λ y. has (kind_numbers y.kind) j) p.types x (get-contains p.types i x e) (of_kind x olds news (ap kind_numbers kind) z c))
+        ap (λ v. v || (in_interfaces || in_worlds)) (contains_any (λ y. has (kind_numbers y.kind) j) p.types x (get-contains p.types i x e) (ap (λ y. has (kind_numbers y) j) kind ∙ numbers_have olds news z c))
     is_part_of (of_interface m i f id g e c is part) =
         or_right in_types (in_interfaces || in_worlds)
         (ap (λ v. v || in_worlds) (contains_any (λ i. list_any (λ f. has (function_numbers f) j) (functions_of i)) p.interfaces i (get-contains p.interfaces m i e)
@@ -293,8 +281,7 @@ module _ (t : Tables) (tables : AreTables t) (h : Homes) (homes : HomesStand t h
     where
       go : (v : Bool) → (s.place == q) ≡ v → (w : Bool) → s.whole ≡ w → functions_seen q rest ≡ [] → cond (v && w) s.view.functions (functions_seen q rest) ≡ []
       go true e true f more = absurd (none s (0, omega arith, refl) f (sym (eqb-true s.place q e)))
-      go true e false f more = more
-      go false e w f more = more
+      go _ e _ f more = more
 
   zip_nothing : {A B : Type 0} (R : A → B → Type 0) (xs : List A) (ys : List B) → xs ≡ [] → AllZip R xs ys → ys ≡ []
   zip_nothing R [] [] e z = refl

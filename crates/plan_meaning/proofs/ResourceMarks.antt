@@ -63,20 +63,8 @@ module _ (r : Resolve) (m : ℕ) (below : Keeps references r) where
         → marked_at (take n marks) x ≡ is_resource_kind (parts.is_resource r) k
     mark_is (kind.Type_ t) x e low = ap (λ y. marked_at (take n marks) (record x { kind = y })) e ∙ alias_mark t low
     mark_is kind.Resource x e low = ap (λ y. marked_at (take n marks) (record x { kind = y })) e
-    mark_is (kind.Record y) x e low = ap (λ z. marked_at (take n marks) (record x { kind = z })) e
     mark_is (kind.Handle (handle.Own id)) x e low = ap (λ z. marked_at (take n marks) (record x { kind = z })) e
-    mark_is (kind.Handle (handle.Borrow id)) x e low = ap (λ z. marked_at (take n marks) (record x { kind = z })) e
-    mark_is (kind.Flags y) x e low = ap (λ z. marked_at (take n marks) (record x { kind = z })) e
-    mark_is (kind.Tuple y) x e low = ap (λ z. marked_at (take n marks) (record x { kind = z })) e
-    mark_is (kind.Variant y) x e low = ap (λ z. marked_at (take n marks) (record x { kind = z })) e
-    mark_is (kind.Enum y) x e low = ap (λ z. marked_at (take n marks) (record x { kind = z })) e
-    mark_is (kind.Option y) x e low = ap (λ z. marked_at (take n marks) (record x { kind = z })) e
-    mark_is (kind.Result y) x e low = ap (λ z. marked_at (take n marks) (record x { kind = z })) e
-    mark_is (kind.List y) x e low = ap (λ z. marked_at (take n marks) (record x { kind = z })) e
-    mark_is (kind.Map y v) x e low = ap (λ z. marked_at (take n marks) (record x { kind = z })) e
-    mark_is (kind.FixedLengthList y v) x e low = ap (λ z. marked_at (take n marks) (record x { kind = z })) e
-    mark_is (kind.Future y) x e low = ap (λ z. marked_at (take n marks) (record x { kind = z })) e
-    mark_is (kind.Stream y) x e low = ap (λ z. marked_at (take n marks) (record x { kind = z })) e
+    mark_is _ x e low = ap (λ z. marked_at (take n marks) (record x { kind = z })) e
 
   marked : (n : ℕ) (def : TypeDef) → type_at r n ≡ Some def → plan.is_resource (plan_of r m) n ≡ mark n def
   unfolding resource_marks
@@ -148,13 +136,10 @@ module _ (r : Resolve) (m : ℕ) (is : IsPlan (plan_of r m)) where
   kind_passes : (k : TypeDefKind) → planned.handles_resources (plan_of r m) (planned_kind k) ≡ true
       → (list_all (λ t. not (is_resource_type r t)) (member_types k) && passes (parts.is_resource r) (handled k)) ≡ true
   kind_passes (kind.Record x) h = of_values (kind.Record x) (plan.kind_parts (planned_kind (kind.Record x))) refl refl h
-  kind_passes kind.Resource h = refl
   kind_passes (kind.Handle (handle.Own id)) h = of_handle id.0 h
   kind_passes (kind.Handle (handle.Borrow id)) h = of_handle id.0 h
-  kind_passes (kind.Flags x) h = refl
   kind_passes (kind.Tuple x) h = of_values (kind.Tuple x) (plan.kind_parts (planned_kind (kind.Tuple x))) refl refl h
   kind_passes (kind.Variant x) h = of_values (kind.Variant x) (plan.kind_parts (planned_kind (kind.Variant x))) refl refl h
-  kind_passes (kind.Enum x) h = refl
   kind_passes (kind.Option t) h = of_values (kind.Option t) (part_of t ∷ []) refl refl h
   kind_passes (kind.Result x) h = of_values (kind.Result x) (plan.kind_parts (planned_kind (kind.Result x))) refl refl h
   kind_passes (kind.List t) h = of_values (kind.List t) (part_of t ∷ []) refl refl h
@@ -162,7 +147,7 @@ module _ (r : Resolve) (m : ℕ) (is : IsPlan (plan_of r m)) where
   kind_passes (kind.FixedLengthList t n) h = of_values (kind.FixedLengthList t n) (part_of t ∷ []) refl refl h
   kind_passes (kind.Future t) h = of_values (kind.Future t) (plan.kind_parts (planned_kind (kind.Future t))) refl refl h
   kind_passes (kind.Stream t) h = of_values (kind.Stream t) (plan.kind_parts (planned_kind (kind.Stream t))) refl refl h
-  kind_passes (kind.Type_ t) h = refl
+  kind_passes _ h = refl
 
   pub handles_kept : Keeps handles r
   unfolding handles

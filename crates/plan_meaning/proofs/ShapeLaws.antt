@@ -22,41 +22,18 @@ first_marked b (l ∷ ls) = ap (λ rest. l ∷ rest) (first_marked b ls)
 pub form_back : (f : Form) → form_of (form_code f) ≡ f
 unfolding form_of
 form_back (Form.record_of names) = ap Form.record_of (first_marked true names)
-form_back (Form.variant_of cases) = refl
-form_back Form.list_of = refl
-form_back (Form.fixed_list_of n) = refl
-form_back Form.option_of = refl
-form_back Form.own_of = refl
-form_back Form.borrow_of = refl
-form_back Form.map_of = refl
-form_back Form.tuple_of = refl
 form_back (Form.flags_of names) = ap Form.flags_of (first_marked false names)
 form_back (Form.enum_of names) = ap Form.enum_of (first_marked false names)
 form_back (Form.result_of false false) = refl
 form_back (Form.result_of true false) = refl
-form_back (Form.result_of false true) = refl
-form_back (Form.result_of true true) = refl
 form_back (Form.future_of false) = refl
-form_back (Form.future_of true) = refl
 form_back (Form.stream_of false) = refl
-form_back (Form.stream_of true) = refl
+form_back _ = refl
 
 by_form : (place : ℕ → Place) (T : List Tree) (f : Form) (ks : List ℕ) → shape_tree place T (node_shape f ks) ≡ Tree.node (form_of (form_code f)) (children (map (part_tree T) ks))
 unfolding shape_tree
 by_form place T (Form.record_of names) ks = refl
-by_form place T (Form.variant_of cases) ks = refl
-by_form place T Form.list_of ks = refl
-by_form place T (Form.fixed_list_of n) ks = refl
-by_form place T Form.option_of ks = refl
-by_form place T Form.own_of ks = refl
-by_form place T Form.borrow_of ks = refl
-by_form place T Form.map_of ks = refl
-by_form place T Form.tuple_of ks = refl
-by_form place T (Form.flags_of names) ks = refl
-by_form place T (Form.enum_of names) ks = refl
-by_form place T (Form.result_of ok err) ks = refl
-by_form place T (Form.future_of some) ks = refl
-by_form place T (Form.stream_of some) ks = refl
+by_form place T _ ks = refl
 
 -- the tree of the shape of a form
 pub node_tree : (place : ℕ → Place) (T : List Tree) (f : Form) (ks : List ℕ) → shape_tree place T (node_shape f ks) ≡ Tree.node f (children (map (part_tree T) ks))
@@ -88,8 +65,7 @@ split_part k = elim (below_or k 14) [ inl h ↦ inl h | inr h ↦ inr (k - 14, o
 
 abbrev number_in : Tree → ℕ
 number_in (Tree.primitive p) = primitive_number p
-number_in (Tree.named place name) = 99
-number_in (Tree.node f ts) = 99
+number_in _ = 99
 
 abbrev AreNumbered : ℕ → List Primitive → Type 0
 AreNumbered o [] = Unit {0}
@@ -222,10 +198,6 @@ module _ (place : ℕ → Place) (ss : List Shape) (table : IsTable ss) where
     same_parts : (xs : Trees) (ks ls : List ℕ) → AllByRecursion InRange ks → AllByRecursion InRange ls → ((k l : ℕ) → Contains ks k → Contains ls l → AreApart place ss k l)
         → children (map (part_tree trees) ks) ≡ xs → children (map (part_tree trees) ls) ≡ xs → ks ≡ ls
     same_parts xs [] [] ra rb near ea eb = refl
-    same_parts Trees.no_children (k ∷ ks) ls ra rb near ea eb = absurd cc
-    same_parts Trees.no_children [] (l ∷ ls) ra rb near ea eb = absurd cc
-    same_parts (Trees.child x xs) [] (l ∷ ls) ra rb near ea eb = absurd cc
-    same_parts (Trees.child x xs) (k ∷ ks) [] ra rb near ea eb = absurd cc
     same_parts (Trees.child x xs) (k ∷ ks) (l ∷ ls) ra rb near ea eb =
         let ka : part_tree trees k ≡ x = cc in
         let la : part_tree trees l ≡ x = cc in
@@ -234,6 +206,7 @@ module _ (place : ℕ → Place) (ss : List Shape) (table : IsTable ss) where
         let heads : k ≡ l = same_part x k l ra.0 rb.0 (near k l (get-contains (k ∷ ks) 0 k refl) (get-contains (l ∷ ls) 0 l refl)) ka la in
         let rests : ks ≡ ls = same_parts xs ks ls ra.1 rb.1 (λ m n cm cn. near m n (contains-later k ks m cm) (contains-later l ls n cn)) kr lr in
         λ i. heads i ∷ rests i
+    same_parts _ _ _ ra rb near ea eb = absurd cc
 
   -- equal trees have one number, where no two names in them are of one place under two numbers
   pub one_number_apart : (a b : ℕ) → InRange a → InRange b → AreApart place ss a b → part_tree trees a ≡ part_tree trees b → a ≡ b

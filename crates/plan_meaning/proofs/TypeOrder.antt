@@ -55,8 +55,7 @@ type_numbers_are i = map_of_map (λ (e : Text × ℕ). e.1) (λ e. (text_of e.0,
 
 pub item_type_is : (x : WorldItem) → plan.item_type (planned_item x) ≡ rules.item_type x
 item_type_is (item.Interface id stability docs external_id) = refl
-item_type_is (item.Function f) = refl
-item_type_is (item.Type_ id) = refl
+item_type_is _ = refl
 
 pub item_types_are : (xs : List WorldItem) → filter_map plan.item_type (map planned_item xs) ≡ filter_map rules.item_type xs
 item_types_are xs = filter_of_map plan.item_type planned_item xs ∙ ap (λ h. filter_map h xs) (λ i x. item_type_is x i)
@@ -105,12 +104,9 @@ module _ (r : Resolve) (m : ℕ) (is : IsPlan (plan_of r m)) where
 
   import_named : (n : ℕ) (e : WorldKey × WorldItem) → planned.import_stands (plan_of r m) n (planned_key e.0, planned_item e.1) ≡ true
       → list_all (is_named_of r (as_world n)) (option_to_list (rules.item_type e.1)) ≡ true
-  import_named n (key.Interface id, item.Interface other stability docs external_id) h = refl
-  import_named n (key.Interface id, item.Function f) h = refl
   import_named n (key.Interface id, item.Type_ other) h = no_true h
-  import_named n (key.Name name, item.Interface id stability docs external_id) h = refl
-  import_named n (key.Name name, item.Function f) h = refl
   import_named n (key.Name name, item.Type_ id) h = both _ _ (named_of (as_world n) (text_of name) id.0 (second_true _ _ h)) refl
+  import_named n _ h = refl
 
   world_passes : (n : ℕ) (w : World) → list_all (planned.import_stands (plan_of r m) n) (planned_world w).imports ≡ true → are_rising (plan.world_types (planned_world w)) ≡ true
       → (list_all (is_named_of r (as_world n)) (world_type_numbers w) && are_in_order r (world_type_numbers w)) ≡ true

@@ -41,8 +41,7 @@ use Rattle.wit_model.proofs.RulesLemmas.{each_by_number}
 -- an owner that is an interface
 pub owned_by : (o : TypeOwner) (u : ℕ) → owner_interface o ≡ Some u → o ≡ as_interface u
 owned_by (owner.Interface id) u e = ap as_interface (same-some id.0 u e)
-owned_by (owner.World id) u e = no_true (ap is_some e)
-owned_by owner.None u e = no_true (ap is_some e)
+owned_by _ u e = no_true (ap is_some e)
 
 module _ (t : Tables) (tables : AreTables t) (kept : List ℕ) (p : Plan) (are : TypesAreKept t kept p) (b : Beside) (owned : AreOwned t kept p b.owners) where
   -- The interface whose type a type is another name for: none, that of its own place, or that of a place that it uses.

@@ -38,70 +38,28 @@ use Rattle.plan_meaning.proofs.PackageMeans.{package_means}
 use Rattle.plan_meaning.proofs.WholePlan.{whole_plan, is_plan, is_package_plan}
 use Rattle.base_lemmas.proofs.Numbers.{utf8-a, utf8-b, utf8-constructor, utf8-f, utf8-h, utf8-i, utf8-j, utf8-k, utf8-method, utf8-p, utf8-pkg, utf8-r, utf8-s, utf8-self, utf8-t, utf8-w, utf8-x}
 
-abbrev vec_of : {X : Type 0} → Global → (xs : List X) → length xs < 2 ^ 63 → Vec X Global
-vec_of alloc xs h = record { ptr = null_ptr; len = length xs; cap = length xs; alloc = alloc; items = xs; ok = (refl, omega arith); small = h }
-
--- an ASCII text is the UTF-8 of its own bytes
-abbrev string_of : Global → (bs : List ℕ) → length bs < 2 ^ 63 → IsUtf8 bs → String Global
-string_of alloc bs h u = record { bytes = vec_of alloc bs h; ok = ∣ u ∣₁ }
-
 module _ (alloc : Global) (hasher : BuildHasherDefault FoldHasher) where
+  abbrev vec_of : {X : Type 0} → (xs : List X) → length xs < 2 ^ 63 → Vec X Global
+  vec_of xs h = record { ptr = null_ptr; len = length xs; cap = length xs; alloc = alloc; items = xs; ok = (refl, omega arith); small = h }
+
+  -- an ASCII text is the UTF-8 of its own bytes
+  abbrev text : (bs : List ℕ) → length bs < 2 ^ 63 → IsUtf8 bs → String Global
+  text bs h u = record { bytes = vec_of bs h; ok = ∣ u ∣₁ }
+
   abbrev map_of : {K X : Type 0} → List (K × X) → IndexMap K X (BuildHasherDefault FoldHasher)
   map_of es = hash_map es hasher 0
 
   abbrev no_docs : Docs
   no_docs = record { contents = None }
 
-  abbrev text-a : String Global
-  text-a = string_of alloc (codes "a") (lit< tt) utf8-a
-
-  abbrev text-b : String Global
-  text-b = string_of alloc (codes "b") (lit< tt) utf8-b
-
-  abbrev text-s : String Global
-  text-s = string_of alloc (codes "s") (lit< tt) utf8-s
-
-  abbrev text-r : String Global
-  text-r = string_of alloc (codes "r") (lit< tt) utf8-r
-
-  abbrev text-i : String Global
-  text-i = string_of alloc (codes "i") (lit< tt) utf8-i
-
-  abbrev text-j : String Global
-  text-j = string_of alloc (codes "j") (lit< tt) utf8-j
-
-  abbrev text-k : String Global
-  text-k = string_of alloc (codes "k") (lit< tt) utf8-k
-
   abbrev text-t : String Global
-  text-t = string_of alloc (codes "t") (lit< tt) utf8-t
+  text-t = text (codes "t") (lit< tt) utf8-t
 
   abbrev text-f : String Global
-  text-f = string_of alloc (codes "f") (lit< tt) utf8-f
+  text-f = text (codes "f") (lit< tt) utf8-f
 
   abbrev text-x : String Global
-  text-x = string_of alloc (codes "x") (lit< tt) utf8-x
-
-  abbrev text-h : String Global
-  text-h = string_of alloc (codes "h") (lit< tt) utf8-h
-
-  abbrev text-w : String Global
-  text-w = string_of alloc (codes "w") (lit< tt) utf8-w
-
-  abbrev text-p : String Global
-  text-p = string_of alloc (codes "p") (lit< tt) utf8-p
-
-  abbrev text-pkg : String Global
-  text-pkg = string_of alloc (codes "pkg") (lit< tt) utf8-pkg
-
-  abbrev text-self : String Global
-  text-self = string_of alloc (codes "self") (lit< tt) utf8-self
-
-  abbrev text-constructor : String Global
-  text-constructor = string_of alloc (codes "[constructor]r") (lit< tt) utf8-constructor
-
-  abbrev text-method : String Global
-  text-method = string_of alloc (codes "[method]r.m") (lit< tt) utf8-method
+  text-x = text (codes "x") (lit< tt) utf8-x
 
   abbrev type-id : ℕ → TypeId
   type-id n = record { 0 = n }
@@ -119,12 +77,16 @@ module _ (alloc : Global) (hasher : BuildHasherDefault FoldHasher) where
   func name kind_ param t result = record {
     name = name;
     kind = kind_;
-    params = vec_of alloc (record { name = param; ty = t } ∷ []) (lit< tt);
+    params = vec_of (record { name = param; ty = t } ∷ []) (lit< tt);
     result = result;
     docs = no_docs;
     stability = stability.Unknown;
     external_id = None;
   }
+
+  -- under its own name
+  abbrev entry : String Global → FunctionKind → String Global → ValueType → Option ValueType → String Global × Function
+  entry name kind_ param t result = (name, func name kind_ param t result)
 
   abbrev face : Option (String Global) → ℕ → List (String Global × TypeId) → List (String Global × Function) → Interface
   face name home types_ functions_ = record {
@@ -141,9 +103,9 @@ module _ (alloc : Global) (hasher : BuildHasherDefault FoldHasher) where
 
   abbrev world : World
   world = record {
-    name = text-w;
-    imports = map_of ((key.Name text-p, shown 0) ∷ (key.Name text-t, item.Type_ (type-id 9)) ∷ (key.Name text-f, item.Function (func text-f call.Freestanding text-x (of_type 9) None)) ∷ []);
-    exports = map_of ((key.Name text-h, shown 4)
+    name = text (codes "w") (lit< tt) utf8-w;
+    imports = map_of ((key.Name (text (codes "p") (lit< tt) utf8-p), shown 0) ∷ (key.Name text-t, item.Type_ (type-id 9)) ∷ (key.Name text-f, item.Function (func text-f call.Freestanding text-x (of_type 9) None)) ∷ []);
+    exports = map_of ((key.Name (text (codes "h") (lit< tt) utf8-h), shown 4)
         ∷ (key.Name text-t, item.Function (func text-t call.Freestanding text-x (of_type 9) None))
         ∷ (key.Name text-x, shown 3)
         ∷ (key.Interface (record { 0 = 3 }), shown 3) ∷ []);
@@ -154,36 +116,36 @@ module _ (alloc : Global) (hasher : BuildHasherDefault FoldHasher) where
 
   abbrev whole : Resolve
   whole = record {
-    packages = vec_of alloc (
+    packages = vec_of (
         record {
-          name = record { namespace = text-s; name = text-r; version = None };
+          name = record { namespace = text (codes "s") (lit< tt) utf8-s; name = text (codes "r") (lit< tt) utf8-r; version = None };
           docs = no_docs;
-          interfaces = map_of ((text-j, record { 0 = 0 }) ∷ (text-k, record { 0 = 1 }) ∷ []);
+          interfaces = map_of ((text (codes "j") (lit< tt) utf8-j, record { 0 = 0 }) ∷ (text (codes "k") (lit< tt) utf8-k, record { 0 = 1 }) ∷ []);
           worlds = map_of [];
         }
         ∷ record {
-          name = record { namespace = text-a; name = text-b; version = None };
+          name = record { namespace = text (codes "a") (lit< tt) utf8-a; name = text (codes "b") (lit< tt) utf8-b; version = None };
           docs = no_docs;
-          interfaces = map_of ((text-i, record { 0 = 2 }) ∷ (text-s, record { 0 = 3 }) ∷ []);
-          worlds = map_of ((text-w, record { 0 = 0 }) ∷ []);
+          interfaces = map_of ((text (codes "i") (lit< tt) utf8-i, record { 0 = 2 }) ∷ (text (codes "s") (lit< tt) utf8-s, record { 0 = 3 }) ∷ []);
+          worlds = map_of ((text (codes "w") (lit< tt) utf8-w, record { 0 = 0 }) ∷ []);
         } ∷ []) (lit< tt);
-    interfaces = vec_of alloc (
-        face (Some text-j) 0 ((text-t, type-id 0) ∷ []) ((text-f, func text-f call.Freestanding text-x (of_type 0) None) ∷ [])
-        ∷ face (Some text-k) 0 ((text-t, type-id 1) ∷ []) []
-        ∷ face (Some text-i) 1 ((text-t, type-id 2) ∷ []) ((text-f, func text-f call.Freestanding text-x (of_type 3) None) ∷ [])
-        ∷ face (Some text-s) 1 ((text-r, type-id 4) ∷ (text-h, type-id 6) ∷ [])
-        ((text-constructor, func text-constructor (call.Constructor (type-id 4)) text-x ty.U8 (Some (of_type 7)))
-        ∷ (text-method, func text-method (call.AsyncMethod (type-id 4)) text-self (of_type 8) None) ∷ [])
-        ∷ face None 1 ((text-t, type-id 10) ∷ []) ((text-f, func text-f call.AsyncFreestanding text-x (of_type 10) None) ∷ []) ∷ []) (lit< tt);
-    worlds = vec_of alloc (world ∷ []) (lit< tt);
-    types = vec_of alloc (
-        record { name = Some text-t; kind = kind.Type_ ty.U32; owner = in_interface 0; docs = no_docs; stability = stability.Unknown; external_id = Some text-pkg }
+    interfaces = vec_of (
+        face (Some (text (codes "j") (lit< tt) utf8-j)) 0 ((text-t, type-id 0) ∷ []) (entry text-f call.Freestanding text-x (of_type 0) None ∷ [])
+        ∷ face (Some (text (codes "k") (lit< tt) utf8-k)) 0 ((text-t, type-id 1) ∷ []) []
+        ∷ face (Some (text (codes "i") (lit< tt) utf8-i)) 1 ((text-t, type-id 2) ∷ []) (entry text-f call.Freestanding text-x (of_type 3) None ∷ [])
+        ∷ face (Some (text (codes "s") (lit< tt) utf8-s)) 1 ((text (codes "r") (lit< tt) utf8-r, type-id 4) ∷ (text (codes "h") (lit< tt) utf8-h, type-id 6) ∷ [])
+        (entry (text (codes "[constructor]r") (lit< tt) utf8-constructor) (call.Constructor (type-id 4)) text-x ty.U8 (Some (of_type 7))
+        ∷ entry (text (codes "[method]r.m") (lit< tt) utf8-method) (call.AsyncMethod (type-id 4)) (text (codes "self") (lit< tt) utf8-self) (of_type 8) None ∷ [])
+        ∷ face None 1 ((text-t, type-id 10) ∷ []) (entry text-f call.AsyncFreestanding text-x (of_type 10) None ∷ []) ∷ []) (lit< tt);
+    worlds = vec_of (world ∷ []) (lit< tt);
+    types = vec_of (
+        record { name = Some text-t; kind = kind.Type_ ty.U32; owner = in_interface 0; docs = no_docs; stability = stability.Unknown; external_id = Some (text (codes "pkg") (lit< tt) utf8-pkg) }
         ∷ def (Some text-t) (kind.Type_ (of_type 0)) (in_interface 1)
         ∷ def (Some text-t) (kind.Type_ (of_type 1)) (in_interface 2)
         ∷ def None (kind.List (of_type 2)) owner.None
-        ∷ def (Some text-r) kind.Resource (in_interface 3)
+        ∷ def (Some (text (codes "r") (lit< tt) utf8-r)) kind.Resource (in_interface 3)
         ∷ def None (kind.Handle (handle.Own (type-id 4))) owner.None
-        ∷ def (Some text-h) (kind.Handle (handle.Own (type-id 4))) (in_interface 3)
+        ∷ def (Some (text (codes "h") (lit< tt) utf8-h)) (kind.Handle (handle.Own (type-id 4))) (in_interface 3)
         ∷ def None (kind.Result (record { ok = Some (of_type 5); err = None })) owner.None
         ∷ def None (kind.Handle (handle.Borrow (type-id 4))) owner.None
         ∷ def (Some text-t) (kind.Type_ (of_type 0)) (owner.World (record { 0 = 0 }))

@@ -1,6 +1,6 @@
 -- A worked example: the plan of two packages, with uses across them. It has a resource, an inline interface, a type of a world, an
 -- interface under a label, an external id, and an interface of the other package that no world shows.
-use Rattle.std.proofs.Common.{◌≡◌, refl, sym, ap, ℕ, zero, suc, Bool, true, false, List, [], ◌∷◌, Option, Some, None, subst}
+use Rattle.std.proofs.Common.{rules as std_rules, ◌≡◌, refl, sym, ap, ℕ, zero, suc, Bool, true, false, List, [], ◌∷◌, Option, Some, None, subst}
 use Rattle.std.specs.Prelude.{codes}
 use Rattle.std.specs.List.{list_any}
 use Rattle.std.specs.FinMap.{from_entries}
@@ -95,43 +95,7 @@ whole_plan = record {
 
 pub is_plan : IsPlan whole_plan
 unfolding met_in resource_marks trees_in part_tree
-is_plan = record {
-  packages_fit = refl;
-  interfaces_fit = refl;
-  worlds_fit = refl;
-  types_fit = refl;
-  identities = refl;
-  alone = refl;
-  members = refl;
-  members_differ = refl;
-  interfaces_placed = refl;
-  interface_labels = refl;
-  interface_types = refl;
-  types_rise = refl;
-  uses_fall = refl;
-  function_keys = refl;
-  worlds_placed = refl;
-  world_labels = refl;
-  imports_stand = refl;
-  exports_stand = refl;
-  keys_differ = refl;
-  world_types_rise = refl;
-  items_in_order = refl;
-  types_fall = refl;
-  types_listed = refl;
-  type_labels = refl;
-  types_stay = refl;
-  types_shaped = refl;
-  kinds_named = refl;
-  handles = refl;
-  depths = refl;
-  functions_in_range = record { of_interfaces = refl; of_worlds = refl };
-  functions_labelled = record { of_interfaces = refl; of_worlds = refl };
-  functions_stay = record { of_interfaces = refl; of_worlds = refl };
-  functions_take_values = record { of_interfaces = refl; of_worlds = refl };
-  functions_shallow = record { of_interfaces = refl; of_worlds = refl };
-  functions_belong = record { of_interfaces = refl; of_worlds = refl };
-}
+is_plan = search std_rules
 
 -- interface i is of the package itself
 own_interface : (i : PlannedInterface) → interface_in whole_plan 2 ≡ Some i → rules.is_foreign whole_plan i ≡ true → ⊥
@@ -141,21 +105,17 @@ own_interface i e h =
     no_true wrong
 
 wanted : (n : ℕ) (i : PlannedInterface) → interface_in whole_plan n ≡ Some i → rules.is_foreign whole_plan i ≡ true → IsWanted whole_plan n
-wanted zero i e h = shown 0 planned_world refl refl
 wanted (suc zero) i e h = used 2 refl
 wanted (suc (suc zero)) i e h = absurd (own_interface i e h)
-wanted (suc (suc (suc zero))) i e h = shown 0 planned_world refl refl
-wanted (suc (suc (suc (suc zero)))) i e h = shown 0 planned_world refl refl
 wanted (suc (suc (suc (suc (suc n))))) i e h = absurd (let wrong : ⊥ = cc in wrong)
+wanted _ i e h = shown 0 planned_world refl refl
 
 bare : (n : ℕ) (i : PlannedInterface) → interface_in whole_plan n ≡ Some i → rules.is_foreign whole_plan i ≡ true → list_any (λ w. rules.is_shown_in w n) (planned_world ∷ []) ≡ false
     → i.functions ≡ []
-bare zero i e h hidden = no_true (sym hidden)
 bare (suc zero) i e h hidden = ap (λ (x : PlannedInterface). x.functions) (sym (same-some _ i e))
 bare (suc (suc zero)) i e h hidden = absurd (own_interface i e h)
-bare (suc (suc (suc zero))) i e h hidden = no_true (sym hidden)
-bare (suc (suc (suc (suc zero)))) i e h hidden = no_true (sym hidden)
 bare (suc (suc (suc (suc (suc n))))) i e h hidden = absurd (let wrong : ⊥ = cc in wrong)
+bare _ i e h hidden = no_true (sym hidden)
 
 -- It is the plan of a package.
 pub is_package_plan : IsPackagePlan whole_plan

@@ -32,7 +32,7 @@ use Rattle.plan_meaning.specs.Plan.{Plan, path_of_planned, path_at, place_in, pa
 use Rattle.plan_meaning.specs.PlanRules.{direct_uses}
 use Rattle.plan_meaning.specs.Built.{part_of, given_parts, planned_kind, planned_type, planned_function, planned_interface, planned_world, planned_package}
 use Rattle.plan_meaning.proofs.ShapeLaws.{part_behind}
-use Rattle.plan_meaning.proofs.Lists.{grow_of_map, same_grow, numbered_of_map, then_of_map, option_of_map, or_of_map, same_then, same_or}
+use Rattle.plan_meaning.proofs.Lists.{grow_of_map, same_grow, numbered_of_map, option_of_map, same_then, then_there, or_there}
 use Rattle.base_lemmas.proofs.Lists.{filter_of_map, map_of_map, same_map}
 use Rattle.std.proofs.lemmas.Option.{slice_get-map as get_of_map}
 
@@ -55,21 +55,8 @@ behind n =
     ap (λ b. if b then None else Some ((14 + n) - 14)) past ∙ ap Some less
 
 pub number_part : (t : ValueType) → part_number (part_of t) ≡ number_of t
-number_part ty.Bool = refl
-number_part ty.U8 = refl
-number_part ty.U16 = refl
-number_part ty.U32 = refl
-number_part ty.U64 = refl
-number_part ty.S8 = refl
-number_part ty.S16 = refl
-number_part ty.S32 = refl
-number_part ty.S64 = refl
-number_part ty.F32 = refl
-number_part ty.F64 = refl
-number_part ty.Char = refl
-number_part ty.String = refl
-number_part ty.ErrorContext = refl
 number_part (ty.Id id) = behind id.0
+number_part _ = refl
 
 pub given_all : {A : Type 0} (h : A → Option ValueType) (xs : List A) → given_parts (map h xs) ≡ map part_of (filter_map h xs)
 given_all h [] = refl
@@ -91,9 +78,8 @@ one_given (Some n) = refl
 
 result_parts : (ok err : Option ValueType) → given_parts (ok ∷ err ∷ []) ≡ map part_of (option_to_list ok ++ option_to_list err)
 result_parts None None = refl
-result_parts None (Some t) = refl
 result_parts (Some s) None = refl
-result_parts (Some s) (Some t) = refl
+result_parts _ _ = refl
 
 option_parts : (o : Option ValueType) → given_parts (o ∷ []) ≡ map part_of (option_to_list o)
 option_parts None = refl
@@ -102,13 +88,10 @@ option_parts (Some t) = refl
 -- the parts of a kind are those of its members, and of a handle its resource
 pub kind_numbers_are : (k : TypeDefKind) → kind_numbers (planned_kind k) ≡ parts.kind_numbers k
 kind_numbers_are (kind.Record record_) = ap (filter_map part_number) (sym (map_of_map part_of (λ f. f.ty) record_.fields.items)) ∙ plain (map (λ f. f.ty) record_.fields.items)
-kind_numbers_are kind.Resource = refl
 kind_numbers_are (kind.Handle (handle.Own id)) = ap (λ o. cons_option o []) (behind id.0)
 kind_numbers_are (kind.Handle (handle.Borrow id)) = ap (λ o. cons_option o []) (behind id.0)
-kind_numbers_are (kind.Flags flags) = refl
 kind_numbers_are (kind.Tuple tuple) = plain tuple.types.items
 kind_numbers_are (kind.Variant variant) = ap (filter_map part_number) (given_all (λ c. c.ty) variant.cases.items) ∙ plain (filter_map (λ c. c.ty) variant.cases.items)
-kind_numbers_are (kind.Enum enum) = refl
 kind_numbers_are (kind.Option t) = plain (t ∷ [])
 kind_numbers_are (kind.Result result) = ap (filter_map part_number) (result_parts result.ok result.err) ∙ plain (option_to_list result.ok ++ option_to_list result.err)
 kind_numbers_are (kind.List t) = plain (t ∷ [])
@@ -117,24 +100,12 @@ kind_numbers_are (kind.FixedLengthList t n) = plain (t ∷ [])
 kind_numbers_are (kind.Future t) = ap (filter_map part_number) (option_parts t) ∙ plain (option_to_list t)
 kind_numbers_are (kind.Stream t) = ap (filter_map part_number) (option_parts t) ∙ plain (option_to_list t)
 kind_numbers_are (kind.Type_ t) = ap (λ o. cons_option o []) (number_part t) ∙ one_given (number_of t)
+kind_numbers_are _ = refl
 
 pub alias_is : (k : TypeDefKind) → alias_number (planned_kind k) ≡ alias_target k
-alias_is (kind.Record x) = refl
-alias_is kind.Resource = refl
 alias_is (kind.Handle (handle.Own id)) = refl
-alias_is (kind.Handle (handle.Borrow id)) = refl
-alias_is (kind.Flags x) = refl
-alias_is (kind.Tuple x) = refl
-alias_is (kind.Variant x) = refl
-alias_is (kind.Enum x) = refl
-alias_is (kind.Option t) = refl
-alias_is (kind.Result x) = refl
-alias_is (kind.List t) = refl
-alias_is (kind.Map k v) = refl
-alias_is (kind.FixedLengthList t n) = refl
-alias_is (kind.Future t) = refl
-alias_is (kind.Stream t) = refl
 alias_is (kind.Type_ t) = number_part t
+alias_is _ = refl
 
 -- ---- functions
 
@@ -159,21 +130,8 @@ function_numbers_are f = ap (λ ns. ns ++ option_to_list (resource_of f.kind)) (
 
 pub part_tree_is : (T : List Tree) (t : ValueType) → part_tree T (part_of t) ≡ tree_of T t
 unfolding part_tree
-part_tree_is T ty.Bool = refl
-part_tree_is T ty.U8 = refl
-part_tree_is T ty.U16 = refl
-part_tree_is T ty.U32 = refl
-part_tree_is T ty.U64 = refl
-part_tree_is T ty.S8 = refl
-part_tree_is T ty.S16 = refl
-part_tree_is T ty.S32 = refl
-part_tree_is T ty.S64 = refl
-part_tree_is T ty.F32 = refl
-part_tree_is T ty.F64 = refl
-part_tree_is T ty.Char = refl
-part_tree_is T ty.String = refl
-part_tree_is T ty.ErrorContext = refl
 part_tree_is T (ty.Id id) = part_behind T id.0
+part_tree_is T _ = refl
 
 module _ (T : List Tree) where
   trees_same : (ts : List ValueType) → map (part_tree T) (map part_of ts) ≡ map (tree_of T) ts
@@ -196,10 +154,8 @@ module _ (T : List Tree) where
       map_of_map (part_tree T) (λ f. part_of f.ty) record_.fields.items
       ∙ (same_map (λ f. part_tree T (part_of f.ty)) (λ f. tree_of T f.ty) (λ f. part_tree_is T f.ty) record_.fields.items ∙ sym (map_of_map (λ e. e.1) pair record_.fields.items)) in
       λ i. type_ (node (Form.record_of (labels i)) (children (members i)))
-  declared_is kind.Resource = refl
   declared_is (kind.Handle (handle.Own id)) = ap (λ t. type_ (node Form.own_of (children (t ∷ [])))) (part_behind T id.0)
   declared_is (kind.Handle (handle.Borrow id)) = ap (λ t. type_ (node Form.borrow_of (children (t ∷ [])))) (part_behind T id.0)
-  declared_is (kind.Flags flags) = refl
   declared_is (kind.Tuple tuple) = ap (λ ts. type_ (node Form.tuple_of (children ts))) (trees_same tuple.types.items)
   declared_is (kind.Variant variant) =
       let pair : _ → Text × Option Tree = λ c. (text_of c.name, option_map (tree_of T) c.ty) in
@@ -210,7 +166,6 @@ module _ (T : List Tree) where
       given_same (map (λ c. c.ty) variant.cases.items)
       ∙ ap given (map_of_map (option_map (tree_of T)) (λ c. c.ty) variant.cases.items ∙ sym (map_of_map (λ e. e.1) pair variant.cases.items)) in
       λ i. type_ (node (Form.variant_of (labels i)) (payloads i))
-  declared_is (kind.Enum enum) = refl
   declared_is (kind.Option t) = ap (λ x. type_ (node Form.option_of (children (x ∷ [])))) (part_tree_is T t)
   declared_is (kind.Result result) =
       λ i. type_ (node (Form.result_of (is_given_map result.ok i) (is_given_map result.err i)) (given_same (result.ok ∷ result.err ∷ []) i))
@@ -220,6 +175,7 @@ module _ (T : List Tree) where
   declared_is (kind.Future t) = λ i. type_ (node (Form.future_of (is_given_map t i)) (given_same (t ∷ []) i))
   declared_is (kind.Stream t) = λ i. type_ (node (Form.stream_of (is_given_map t i)) (given_same (t ∷ []) i))
   declared_is (kind.Type_ t) = ap type_ (part_tree_is T t)
+  declared_is _ = refl
 
 -- ---- along the lists
 
@@ -230,24 +186,19 @@ module _ (r : Resolve) (m : ℕ) where
   path_by : (name : Option (String Global)) (package_ : Option PackageId) →
       option_and_then (λ t. option_and_then (λ q. option_map (λ k. path_in k.identity t) (package_in P q)) (option_map (λ id. id.0) package_)) (optional_text name)
       ≡ option_and_then (λ s. option_and_then (λ p. path_in_package r p.0 (text_of s)) package_) name
-  path_by None package_ = refl
-  path_by (Some s) None = refl
   path_by (Some s) (Some id) = ap (option_map (λ k. path_in k.identity (text_of s))) (get_of_map planned_package r.packages.items id.0) ∙ option_of_map (λ k. path_in k.identity (text_of s))
       planned_package (package_at r id.0)
+  path_by _ _ = refl
 
   pub path_of_planned_is : (i : Interface) → path_of_planned P (planned_interface i) ≡ path_of_interface r i
   path_of_planned_is i = path_by i.name i.package
 
   pub path_is : (n : ℕ) → path_at P n ≡ interface_path r n
-  path_is n =
-      ap (option_and_then (path_of_planned P)) (get_of_map planned_interface r.interfaces.items n)
-      ∙ (then_of_map (path_of_planned P) planned_interface (interface_at r n)
-      ∙ same_then (λ i. path_of_planned P (planned_interface i)) (path_of_interface r) path_of_planned_is (interface_at r n))
+  path_is = then_there (path_of_planned P) planned_interface (path_of_interface r) path_of_planned_is r.interfaces.items
 
   pub place_is : (o : TypeOwner) → place_in P o ≡ place_of r o
   place_is (owner.Interface id) = ap place_of_path (path_is id.0)
-  place_is (owner.World id) = refl
-  place_is owner.None = refl
+  place_is _ = refl
 
   tree_by : (name : Option (String Global)) (a b : Place) (d e : Declaration) → a ≡ b → d ≡ e →
       option_map_or (λ t. named a t) (optional_text name) (tree_of_declaration d) ≡ option_map_or (λ s. named b (text_of s)) name (tree_of_declaration e)
@@ -276,9 +227,7 @@ module _ (r : Resolve) (m : ℕ) where
       ∙ same_grow (λ table e. met_at table (e.0, planned_type e.1)) parts.met_at met_step_is (numbered_from 0 r.types.items))
 
   pub has_owner_is : (o : TypeOwner) (n : ℕ) → has_owner P o n ≡ parts.has_owner r o n
-  has_owner_is o n =
-      ap (λ x. option_map_or (λ t. same_owner t.owner o) x false) (get_of_map planned_type r.types.items n)
-      ∙ or_of_map (λ t. same_owner t.owner o) planned_type false (type_at r n)
+  has_owner_is o = or_there (λ t. same_owner t.owner o) planned_type (λ def. same_owner def.owner o) false (λ def. refl) r.types.items
 
   pub used_are : (ns : List ℕ) → used_by_numbers P ns ≡ flat_map (met_by (met_of r)) ns
   used_are ns = ap (λ table. flat_map (met_by table) ns) met_are
@@ -288,20 +237,15 @@ module _ (r : Resolve) (m : ℕ) where
 
   -- ---- uses of interfaces
 
-  owner_there : (n : ℕ) → option_and_then (λ t. owner_interface t.owner) (type_in P n) ≡ option_and_then (λ def. owner_interface def.owner) (type_at r n)
-  owner_there n = ap (option_and_then (λ t. owner_interface t.owner)) (get_of_map planned_type r.types.items n) ∙ then_of_map (λ t. owner_interface t.owner) planned_type (type_at r n)
-
   used_interface_is : (def : TypeDef) → option_and_then (λ n. option_and_then (λ u. owner_interface u.owner) (type_in P n)) (alias_number (planned_kind def.kind)) ≡ used_interface r def
   used_interface_is def =
       ap (option_and_then (λ n. option_and_then (λ u. owner_interface u.owner) (type_in P n))) (alias_is def.kind)
-      ∙ same_then (λ n. option_and_then (λ u. owner_interface u.owner) (type_in P n)) (λ n. option_and_then (λ target. owner_interface target.owner) (type_at r n)) owner_there (alias_target def.kind)
+      ∙ same_then (λ n. option_and_then (λ u. owner_interface u.owner) (type_in P n)) (λ n. option_and_then (λ target. owner_interface target.owner) (type_at r n))
+      (then_there (λ u. owner_interface u.owner) planned_type (λ target. owner_interface target.owner) (λ target. refl) r.types.items) (alias_target def.kind)
 
   pub interface_used_is : (n : ℕ) → interface_used_by P n ≡ uses.interface_used_by r n
-  interface_used_is n =
-      ap (option_and_then (λ t. option_and_then (λ m. option_and_then (λ u. owner_interface u.owner) (type_in P m)) (alias_number t.kind))) (get_of_map planned_type r.types.items n)
-      ∙ (then_of_map (λ t. option_and_then (λ m. option_and_then (λ u. owner_interface u.owner) (type_in P m)) (alias_number t.kind)) planned_type (type_at r n)
-      ∙ same_then (λ def. option_and_then (λ m. option_and_then (λ u. owner_interface u.owner) (type_in P m)) (alias_number (planned_kind def.kind))) (used_interface r) used_interface_is
-      (type_at r n))
+  interface_used_is =
+      then_there (λ t. option_and_then (λ m. option_and_then (λ u. owner_interface u.owner) (type_in P m)) (alias_number t.kind)) planned_type (used_interface r) used_interface_is r.types.items
 
   pub interfaces_used_are : (i : Interface) → interfaces_used_by P (planned_interface i) ≡ uses.interfaces_used_by r i
   interfaces_used_are i =
@@ -312,8 +256,4 @@ module _ (r : Resolve) (m : ℕ) where
 
   pub direct_uses_are : (n : ℕ) → direct_uses P n ≡ direct_deps r n
   direct_uses_are n =
-      let listed : option_map_or (interfaces_used_by P) (interface_in P n) [] ≡ option_map_or (uses.interfaces_used_by r) (interface_at r n) [] =
-      ap (λ o. option_map_or (interfaces_used_by P) o []) (get_of_map planned_interface r.interfaces.items n)
-      ∙ (or_of_map (interfaces_used_by P) planned_interface [] (interface_at r n)
-      ∙ same_or (λ i. interfaces_used_by P (planned_interface i)) (uses.interfaces_used_by r) [] interfaces_used_are (interface_at r n)) in
-      ap (λ ns. filter (λ k. not (k == n)) (once ns)) listed
+      ap (λ ns. filter (λ k. not (k == n)) (once ns)) (or_there (interfaces_used_by P) planned_interface (uses.interfaces_used_by r) [] interfaces_used_are r.interfaces.items n)

@@ -32,7 +32,7 @@ use Rattle.wit_model.proofs.UsesLemmas.{has_filter, filter_has}
 use Rattle.plan_meaning.proofs.Words.{plan_of, path_of_planned_is}
 use Rattle.plan_meaning.proofs.Meanings.{interface_is, world_is}
 use Rattle.plan_meaning.proofs.Reaching.{shows_is}
-use Rattle.plan_meaning.proofs.PackageMeans.{under, path_there, some_path, named}
+use Rattle.plan_meaning.proofs.PackageMeans.{path_there, named, shown_is, shown_of, entries_are}
 use Rattle.plan_meaning.proofs.Valid.{plan_is, built_is_valid}
 use Rattle.base_lemmas.proofs.Elements.{contains-map, contains-one, filter_map_from, get-contains, map_from}
 use Rattle.base_lemmas.proofs.Lists.{get_back}
@@ -40,89 +40,19 @@ use Rattle.base_lemmas.proofs.Options.{there as some-of}
 use Rattle.std.proofs.lemmas.Option.{same_Some as same-some, slice_get-map as get_of_map}
 use Rattle.wit_model.proofs.MeantLemmas.{meaning_there}
 
-module _ (r : Resolve) (m : ℕ) where
-  -- an entry of the plan, and what it is
-  record IsShown (i : Interface) (k : Text) (x : InterfaceMeaning) : Type 0 where
-    pub path : path_of_interface r i ≡ Some k
-    pub means : x ≡ meant.interface_meaning r i
-
-  entry_is : (i : Interface) (k : Text) (x : InterfaceMeaning) → shown_entry (plan_of r m) (planned_interface i) ≡ Some (k, x) → IsShown i k x
-  entry_is i k x e =
-      let found = some_path (path_of_planned (plan_of r m) (planned_interface i)) (under r m i) (k, x) e in
-      record {
-        path = sym (path_of_planned_is r m i) ∙ (found.1 ∙ ap (λ (q : Text × InterfaceMeaning). Some q.0) found.2);
-        means = ap (λ (q : Text × InterfaceMeaning). q.1) (sym found.2) ∙ interface_is r m i;
-      }
-
-  entry_of : (i : Interface) (k : Text) → path_of_interface r i ≡ Some k → shown_entry (plan_of r m) (planned_interface i) ≡ Some (k, meant.interface_meaning r i)
-  entry_of i k path = ap (option_map (under r m i)) (path_of_planned_is r m i ∙ path) ∙ ap (λ (y : InterfaceMeaning). Some (k, y)) (interface_is r m i)
-
 module _ (r : Resolve) (m : ℕ) (is : IsWorldPlan (plan_of r m)) (v : IsValid r) (w : World) (same : planned_world w ≡ is.world) where
-  abbrev planned_entries : List (Text × InterfaceMeaning)
-  planned_entries = filter_map (shown_entry (plan_of r m)) (map planned_interface r.interfaces.items)
-
-  abbrev shown_at : ℕ → Text × InterfaceMeaning
-  shown_at n = (unwrap_or (interface_path r n) [], interface_meaning_at r n)
-
-  abbrev meant_entries : List (Text × InterfaceMeaning)
-  meant_entries = map shown_at (shown_by r w)
-
-  record Source (k : Text) (x : InterfaceMeaning) : Type 0 where
-    pub number : ℕ
-    pub from : Interface
-    pub stands : interface_at r number ≡ Some from
-    pub entry : IsShown r m from k x
-
-  source : (k : Text) (x : InterfaceMeaning) → Contains planned_entries (k, x) → Source k x
-  source k x c =
-      let found = filter_map_from (shown_entry (plan_of r m)) (map planned_interface r.interfaces.items) (k, x) c in
-      let i = get_back planned_interface r.interfaces.items found.0 found.1 found.2 in
-      record { number = found.0; from = i.0; stands = i.1; entry = entry_is r m i.0 k x (ap (shown_entry (plan_of r m)) i.2 ∙ found.3) }
-
-  there : (k : Text) (x : InterfaceMeaning) → Contains planned_entries (k, x) → Contains meant_entries (k, x)
-  there k x c =
-      let s = source k x c in
-      let path : interface_path r s.number ≡ Some k = path_there r s.number s.from s.stands ∙ s.entry.path in
-      let shows = is.shows s.number (planned_interface s.from) (get_of_map planned_interface r.interfaces.items s.number ∙ ap (option_map planned_interface) s.stands)
-      (named r s.from k s.entry.path) in
-      let items : has (filter_map uses.item_interface (items_of w)) s.number ≡ true = sym (shows_is s.number w) ∙ (ap (λ y. rules.is_shown_in y s.number) same ∙ shows) in
-      let among = has-contains (shown_by r w) s.number (has_filter (λ n. is_some (interface_path r n)) (filter_map uses.item_interface (items_of w)) s.number items (ap is_some path)) in
-      let means : interface_meaning_at r s.number ≡ x = meaning_there r s.number s.from s.stands ∙ sym s.entry.means in
-      let one : shown_at s.number ≡ (k, x) = λ j. (unwrap_or (path j) [], means j) in
-      subst (λ (q : Text × InterfaceMeaning). Contains meant_entries q) one (contains-map shown_at (shown_by r w) s.number among)
-
-  from_number : (n : ℕ) (k : Text) (x : InterfaceMeaning) → shown_at n ≡ (k, x) → (path : Text) → interface_path r n ≡ Some path → Contains planned_entries (k, x)
-  from_number n k x e path there =
-      let standing = has-path r n path there in
-      let i = standing.def in
-      let its_path : path_of_interface r i ≡ Some path = sym (path_there r n i standing.there) ∙ there in
-      let key : path ≡ k = ap (λ o. unwrap_or o []) (sym there) ∙ ap (λ (q : Text × InterfaceMeaning). q.0) e in
-      let value : meant.interface_meaning r i ≡ x = sym (meaning_there r n i standing.there) ∙ ap (λ (q : Text × InterfaceMeaning). q.1) e in
-      let entry = entry_of r m i path its_path in
-      let pair : ◌≡◌ {A = Text × InterfaceMeaning} (path, meant.interface_meaning r i) (k, x) = λ j. (key j, value j) in
-      let one : option_to_list (Some (path, meant.interface_meaning r i)) ≡ option_to_list (shown_entry (plan_of r m) (planned_interface i)) = ap option_to_list (sym entry) in
-      subst (λ (q : Text × InterfaceMeaning). Contains planned_entries q) pair
-      (contains-filter_map (shown_entry (plan_of r m)) (map planned_interface r.interfaces.items) (planned_interface i) (path, meant.interface_meaning r i)
-      (contains-map planned_interface r.interfaces.items i (get-contains r.interfaces.items n i standing.there))
-      (subst (λ (xs : List (Text × InterfaceMeaning)). Contains xs (path, meant.interface_meaning r i)) one (contains-one (path, meant.interface_meaning r i))))
-
-  here : (k : Text) (x : InterfaceMeaning) → Contains meant_entries (k, x) → Contains planned_entries (k, x)
-  here k x c =
-      let found = map_from shown_at (shown_by r w) (k, x) c in
-      let some = (filter_has (λ n. is_some (interface_path r n)) (filter_map uses.item_interface (items_of w)) found.0 (contains-has (shown_by r w) found.0 found.1)).1 in
-      let path = some-of (interface_path r found.0) some in
-      from_number found.0 k x found.2 path.0 path.1
-
-  one_value : (k : Text) (x y : InterfaceMeaning) → Contains planned_entries (k, x) → Contains planned_entries (k, y) → x ≡ y
-  one_value k x y c d =
-      let a = source k x c in
-      let b = source k y d in
-      let numbers = path-once r v a.number b.number k (path_there r a.number a.from a.stands ∙ a.entry.path) (path_there r b.number b.from b.stands ∙ b.entry.path) in
-      let one : a.from ≡ b.from = same-some a.from b.from (sym a.stands ∙ (ap (interface_at r) numbers ∙ b.stands)) in
-      a.entry.means ∙ (ap (meant.interface_meaning r) one ∙ sym b.entry.means)
-
-  shown_are : ◌≡◌ {A = TextMap InterfaceMeaning} (from_entries planned_entries) (from_entries meant_entries)
-  shown_are = one_map planned_entries meant_entries (record { one_value = one_value; there = there; here = here })
+  shown_are : ◌≡◌ {A = TextMap InterfaceMeaning} (from_entries (filter_map (shown_entry (plan_of r m)) (map planned_interface r.interfaces.items)))
+      (from_entries (map (λ n. (unwrap_or (interface_path r n) [], interface_meaning_at r n)) (shown_by r w)))
+  shown_are = entries_are r v (shown_entry (plan_of r m)) (λ i. Unit {0}) (λ i k x e. let found = shown_is r m i k x e in (tt, found.0, found.1)) (λ i k passes path. shown_of r m i k path) (shown_by r w) (interface_meaning_at r) among
+      (λ n c. ((filter_has (λ n. is_some (interface_path r n)) (filter_map uses.item_interface (items_of w)) n (contains-has (shown_by r w) n c)).1, λ i e. tt))
+    where
+      among : (n : ℕ) (i : Interface) → interface_at r n ≡ Some i → (k : Text) → path_of_interface r i ≡ Some k → Unit {0} → Contains (shown_by r w) n × (interface_meaning_at r n ≡ meant.interface_meaning r i)
+      among n i e k path passes =
+          let shows = is.shows n (planned_interface i) (get_of_map planned_interface r.interfaces.items n ∙ ap (option_map planned_interface) e) (named r i k path) in
+          let items : has (filter_map uses.item_interface (items_of w)) n ≡ true = sym (shows_is n w) ∙ (ap (λ y. rules.is_shown_in y n) same ∙ shows) in (
+            has-contains (shown_by r w) n (has_filter (λ n. is_some (interface_path r n)) (filter_map uses.item_interface (items_of w)) n items (ap is_some (path_there r n i e ∙ path))),
+            meaning_there r n i e,
+          )
 
   pub world_package_is : (p : Package) → planned.world_package (plan_of r m) (planned_package p) (planned_world w) ≡ meant.world_package r p w
   world_package_is p = λ j. record { identity = identity_of p.name; name = text_of w.name; world = world_is r m w j; shown = shown_are j }

@@ -30,8 +30,7 @@ use Rattle.std.proofs.lemmas.Option.{slice_get-map as get_of_map}
 
 pub item_interface_is : (x : WorldItem) → plan.item_interface (planned_item x) ≡ uses.item_interface x
 item_interface_is (item.Interface id stability docs external_id) = refl
-item_interface_is (item.Function f) = refl
-item_interface_is (item.Type_ id) = refl
+item_interface_is _ = refl
 
 module _ (r : Resolve) (m : ℕ) (is : IsPlan (plan_of r m)) where
   named : (n : ℕ) → planned.has_name (plan_of r m) n ≡ true → passes (λ other. is_some other.name) (interface_at r n) ≡ true
@@ -52,9 +51,8 @@ module _ (r : Resolve) (m : ℕ) (is : IsPlan (plan_of r m)) where
 
   import_passes : (w : ℕ) (k : WorldKey) (x : WorldItem) → planned.import_stands (plan_of r m) w (planned_key k, planned_item x) ≡ true → rules.import_stands r w k x ≡ true
   import_passes w (key.Interface id) x h = key_stands id.0 x h
-  import_passes w (key.Name name) (item.Interface id stability docs external_id) h = refl
-  import_passes w (key.Name name) (item.Function f) h = refl
   import_passes w (key.Name name) (item.Type_ id) h = own_type (as_world w) (text_of name) id.0 (second_true _ _ h)
+  import_passes w (key.Name name) _ h = refl
 
   export_passes : (k : WorldKey) (x : WorldItem) → planned.export_stands (plan_of r m) (planned_key k, planned_item x) ≡ true → rules.export_stands r k x ≡ true
   export_passes (key.Interface id) x h = key_stands id.0 x h
