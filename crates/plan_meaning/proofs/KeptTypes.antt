@@ -22,7 +22,7 @@ use Rattle.plan_meaning.specs.GatheredPlan as gathered
 use Rattle.plan_meaning.specs.GatheredPlan.{Becomes, DeclaresKind, a_resource, a_form, Keeps}
 use Rattle.plan_meaning.specs.KeptTypes.{IsKeptForm, alone, of_name, IsKeptType, unnamed, declared, TypesAreKept, TypesPass, KeptTypesPass}
 use Rattle.plan_meaning.proofs.KeptParts.{numbers_pass}
-use Rattle.plan_meaning.proofs.Lists.{no_true}
+use Rattle.plan_meaning.proofs.Lists.{no_true, each_so}
 use Rattle.plan_meaning.proofs.GatheredPlan.{parts_kept, form_tree}
 use Rattle.plan_meaning.proofs.NumberedRules.{no_name, shape_there}
 use Rattle.plan_meaning.proofs.Words.{behind}
@@ -96,10 +96,6 @@ module _ (t : Tables) (tables : AreTables t) (kept : List ℕ) (p : Plan) (are :
           no_true (sym (no_name form) ∙ eq-eqb (form_code form).sort 0 sort)
       by (a_node other ks is low) = subst (AllByRecursion (λ k. k < 14 + n)) (sym (ap (λ (s : Shape). s.parts) is)) low
 
-  wider : (m n : ℕ) (ks : List ℕ) → m ≤ n → AllByRecursion (λ k. k < 14 + m) ks → AllByRecursion (λ k. k < 14 + n) ks
-  wider m n [] h all = tt
-  wider m n (k ∷ ks) h all = (let low = all.0 in omega (arith, low, h), wider m n ks h all.1)
-
   module _ (j n : ℕ) (stands : slice_get kept j ≡ Some n) where
     parts_fall : (olds news : List ℕ) → AllZip (Becomes t kept p) olds news → AllByRecursion (λ k. k < 14 + n) olds → list_all (λ m. nat_lt m j) (filter_map part_number news) ≡ true
     parts_fall olds news z low = numbers_pass t kept p olds news z (λ m. nat_lt m j) (λ old c i m from at range.
@@ -112,7 +108,7 @@ module _ (t : Tables) (tables : AreTables t) (kept : List ℕ) (p : Plan) (are :
         ap (λ x. list_all (λ m. nat_lt m j) (kind_numbers x)) k ∙ parts_fall (old ∷ []) (new ∷ []) (b, tt) (before, tt)
     kind_falls d kind low (a_form old m form olds news e is there z k) =
         let before : old < 14 + n = subst (AllOf (λ x. x < 14 + n)) e low in
-        ap (λ x. list_all (λ i. nat_lt i j) (kind_numbers x)) k ∙ parts_fall olds news z (wider m n olds (omega (arith, before, is)) (parts_before m form olds there))
+        ap (λ x. list_all (λ i. nat_lt i j) (kind_numbers x)) k ∙ parts_fall olds news z (each_so (λ i. i < 14 + m) (λ i. i < 14 + n) (λ i low. omega (arith, before, is, low)) olds (parts_before m form olds there))
 
     type_falls : (x : PlannedType) → IsKeptType t kept p n x → list_all (λ m. nat_lt m j) (kind_numbers x.kind) ≡ true
     type_falls x (unnamed place form olds news there z name owner kind part low) = ap (λ k. list_all (λ m. nat_lt m j) (kind_numbers k)) kind ∙ parts_fall olds news z (parts_before n form olds there)

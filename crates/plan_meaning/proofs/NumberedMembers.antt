@@ -16,7 +16,7 @@ use Rattle.comp_meaning.specs.Reads as reads
 use Rattle.comp_meaning.specs.Reads.{Part, Member, Sight, is_of, all_agree, is_interface_part}
 use Rattle.comp_meaning.proofs.SameLaws.{identities_decide}
 use Rattle.plan_meaning.specs.NumberedViews.{Tables, path_text, place_at, AreTables, NumberedView, view_of, shown_function, NumberedSight, sight_of, IsSight, agree_in_numbers}
-use Rattle.plan_meaning.specs.NumberedRules.{Fact}
+use Rattle.plan_meaning.specs.NumberedRules.{Fact, is_interface}
 use Rattle.plan_meaning.specs.NumberedWorlds.{path, label, implementing, NumberedShown, instance, function, declares, NumberedSeen, shown_of, seen_of, sights_of_scope, HasPath}
 use Rattle.plan_meaning.specs.NumberedMembers.{Homes, IsHomeOf, HomesStand, is_of_package, is_named_in, NumberedPart, world, interface, NumberedMember, sights_of_part, sights_of_members, ShowsInterface, ShowsPart, IsMember, shown_view, imported_view, exported_view, are_interfaces, is_interface_of, stands_at_top, package_shown, world_shown, IsKnownSight, ImportsInNumbers, ExportInNumbers, PackagesInNumbers, OneWorldInNumbers}
 use Rattle.plan_meaning.proofs.NumberedRules.{interface_same}
@@ -27,10 +27,11 @@ use Rattle.base_lemmas.proofs.Lists.{append_of_map, map_of_map}
 use Rattle.std.proofs.lemmas.Option.{same_Some as same-some}
 use Rattle.wit_model.proofs.TextLemmas.{text_same}
 use Rattle.wit_model.proofs.RulesLemmas.{items_of_map as filled_same}
+use Rattle.plan_meaning.proofs.Lists.{each_so, all_same}
+use Rattle.base_lemmas.proofs.Numbers.{turned}
 
 pub only_sights : (t : Tables) (known : ℕ → Fact) (seen : List NumberedSight) → AllByRecursion (IsKnownSight t known) seen → AllByRecursion (IsSight t) seen
-only_sights t known [] all = tt
-only_sights t known (s ∷ seen) all = (all.0.0, only_sights t known seen all.1)
+only_sights t known = each_so (IsKnownSight t known) (IsSight t) (λ s h. h.0)
 
 module _ (t : Tables) (tables : AreTables t) (h : Homes) (stand : HomesStand t h) where
   -- ---- packages
@@ -41,9 +42,6 @@ module _ (t : Tables) (tables : AreTables t) (h : Homes) (stand : HomesStand t h
         either_way (same_identity identity other) (n == m)
         (λ e. let same : identity ≡ other = (identities_decide identity other).0 e in eq-eqb n m (stand.apart n m other (there ∙ ap Some same) at))
         (λ e. (identities_decide identity other).1 (same-some identity other (sym there ∙ (ap (slice_get h.packages) (eqb-true n m e) ∙ at))))
-
-    flip : (a b : ℕ) → (a == b) ≡ (b == a)
-    flip a b = either_way (a == b) (b == a) (λ e. eq-eqb b a (sym (eqb-true a b e))) (λ e. eq-eqb a b (sym (eqb-true b a e)))
 
     of_read : Option (PackageIdentity × Text) → Bool
     of_read None = false
@@ -56,7 +54,7 @@ module _ (t : Tables) (tables : AreTables t) (h : Homes) (stand : HomesStand t h
         ap (is_of identity) (path_is t p x)
         ∙ (ap of_read home.reads
         ∙ (package_number home.package_ home.identity home.stands
-        ∙ (flip n home.package_ ∙ sym (ap (λ o. option_map_or (λ (y : ℕ × Text). y.0 == n) o false) home.home))))
+        ∙ (turned n home.package_ ∙ sym (ap (λ o. option_map_or (λ (y : ℕ × Text). y.0 == n) o false) home.home))))
 
     -- the path of this name in the package
     named_in : (name : Text) → read_path (path_in identity name) ≡ Some (identity, name) → (p : ℕ) → HasPath t p → text_eq (path_text t p) (path_in identity name) ≡ is_named_in h n name p
@@ -121,10 +119,9 @@ module _ (t : Tables) (tables : AreTables t) (h : Homes) (stand : HomesStand t h
     sight_place s x = ap Place.of_interface (path_is t s.place (x.path, x.home)) ∙ sym (ap place_of x.home)
 
     pub interfaces_same : (seen : List NumberedSight) → AllByRecursion (IsKnownSight t known) seen → reads.are_interfaces (map (sight_of t) seen) ≡ are_interfaces t known seen
-    interfaces_same [] all = refl
-    interfaces_same (s ∷ seen) all =
-        let one = ap (λ place. rules.is_interface place (view_of t s.view)) (sight_place s all.0.0) ∙ interface_same t tables.shapes known s.place s.view all.0.1 in
-        λ i. one i && interfaces_same seen all.1 i
+    interfaces_same = all_same (IsKnownSight t known) (λ s. rules.is_interface (Place.of_interface s.path) s.view) (sight_of t)
+        (λ (s : NumberedSight). is_interface t known s.place s.view)
+        (λ s h. ap (λ place. rules.is_interface place (view_of t s.view)) (sight_place s h.0) ∙ interface_same t tables.shapes known s.place s.view h.1)
 
     pub agree_same : (seen : List NumberedSight) → AllByRecursion (IsKnownSight t known) seen → all_agree (map (sight_of t) seen) ≡ agree_in_numbers seen
     agree_same seen all = all_agree_in_numbers t tables seen (only_sights t known seen all)
@@ -143,7 +140,7 @@ module _ (t : Tables) (tables : AreTables t) (h : Homes) (stand : HomesStand t h
       part_is s at m x package_ under same (world w) (Part.world scope) is = refl
       part_is s at m x package_ under same (interface p v imports) (Part.interface view views) is =
           ap (text_eq (path_text t s.place)) (ap (λ k. path_in k x.label) ((identities_decide identity x.package_).0 same) ∙ exported_path m x package_ under p v imports view views is)
-          ∙ (path_number t tables s.place p at is.path ∙ flip n identity there p s.place)
+          ∙ (path_number t tables s.place p at is.path ∙ turned p s.place)
       part_is s at m x package_ under same _ _ is = absurd is
 
       one_is : (s : NumberedSight) → HasPath t s.place → (ms : List NumberedMember) (members : List Member) → AllZip (IsMember t h) ms members

@@ -21,6 +21,7 @@ use Rattle.plan_meaning.proofs.Words.{behind}
 use Rattle.base_lemmas.proofs.Bools.{and-true as and_true, both_ways as either_way, no-and as and_false}
 use Rattle.base_lemmas.proofs.Elements.{get-contains, all_at}
 use Rattle.base_lemmas.proofs.Lists.{map_of_map}
+use Rattle.plan_meaning.proofs.Lists.{all_same}
 
 -- ---- tests
 
@@ -110,17 +111,15 @@ module _ (t : Tables) (table : IsTable t.shapes) (known : ℕ → Fact) (p : ℕ
 
   -- ---- signatures
 
-  params_same : (ps : List (Text × ℕ)) → AllByRecursion (λ (x : Text × ℕ). Known x.1) ps
-      → list_all (λ (x : Text × Tree). rules.is_parameter_type here x.1) (map (λ (x : Text × ℕ). (x.0, tree_at t x.1)) ps) ≡ list_all (λ (x : Text × ℕ). is_parameter_type p (known x.1)) ps
-  params_same [] h = refl
-  params_same (x ∷ ps) h = λ i. parameter_same x.1 h.0 i && params_same ps h.1 i
-
   result_same : (r : Option ℕ) → AllOf Known r → rules.is_result_type here (option_map (tree_at t) r) ≡ is_result_type t known p r
   result_same None h = refl
   result_same (Some k) h = parameter_same k h
 
   pub signature_same : (f : FunctionShape) → PartsOf Known f → rules.is_signature here (signature_over (tree_at t) f) ≡ is_signature t known p f
-  signature_same f h = λ i. are_labels (map_of_map (λ (x : Text × Tree). x.0) (λ (x : Text × ℕ). (x.0, tree_at t x.1)) f.params i) && params_same f.params h.0 i && result_same f.result h.1 i
+  signature_same f h =
+      let params = all_same (λ (x : Text × ℕ). Known x.1) (λ (x : Text × Tree). rules.is_parameter_type here x.1) (λ x. (x.0, tree_at t x.1)) (λ x. is_parameter_type p (known x.1))
+      (λ x k. parameter_same x.1 k) f.params h.0 in
+      λ i. are_labels (map_of_map (λ (x : Text × Tree). x.0) (λ (x : Text × ℕ). (x.0, tree_at t x.1)) f.params i) && params i && result_same f.result h.1 i
 
   -- ---- resources
 
@@ -206,23 +205,16 @@ module _ (t : Tables) (table : IsTable t.shapes) (known : ℕ → Fact) (p : ℕ
 
   -- ---- interfaces
 
-  type_same : (xs : List NumberedType) → AllByRecursion (TypePasses Known) xs
-      → list_all (λ x. is_label x.name && rules.is_declared here x.meaning.declaration) (map (shown_type t) xs) ≡ list_all (is_type t known p) xs
-  type_same [] h = refl
-  type_same (x ∷ xs) h = λ i. (is_label x.name && declared_same x.declared h.0 i) && type_same xs h.1 i
-
-  functions_same : (resources : List Text) (fs : List (Text × NumberedFunction)) → AllByRecursion (FunctionPasses t Known) fs
-      → list_all (λ f. rules.is_function here resources f.0 f.1.signature) (map (shown_function t) fs) ≡ list_all (λ f. is_function t known p resources f.0 (function_at t f.1.signature)) fs
-  functions_same resources [] h = refl
-  functions_same resources (f ∷ fs) h = λ i. function_same resources f.0 (function_at t f.1.signature) h.0.1 i && functions_same resources fs h.1 i
-
   pub interface_same : (v : NumberedView) → ViewPasses t Known v → rules.is_interface here (view_of t v) ≡ is_interface t known p v
   interface_same v h =
       let names : (map (λ x. x.name) (map (shown_type t) v.types) ++ map (λ f. f.0) (map (shown_function t) v.functions)) ≡ (map (λ x. x.name) v.types ++ map (λ f. f.0) v.functions) =
       λ i. map_of_map (λ (x : ShownType). x.name) (shown_type t) v.types i ++ map_of_map (λ (f : Text × FunctionMeaning). f.0) (shown_function t) v.functions i in
-      let functions = ap (λ resources. list_all (λ f. rules.is_function here resources f.0 f.1.signature) (map (shown_function t) v.functions)) (resources_same t v.types) ∙ functions_same
-      (resources_of v.types) v.functions h.functions in
-      λ i. type_same v.types h.types i && functions i && distinct (names i)
+      let types = all_same (TypePasses Known) (λ x. is_label x.name && rules.is_declared here x.meaning.declaration) (shown_type t) (is_type t known p)
+      (λ x k i. is_label x.name && declared_same x.declared k i) v.types h.types in
+      let functions = ap (λ resources. list_all (λ f. rules.is_function here resources f.0 f.1.signature) (map (shown_function t) v.functions)) (resources_same t v.types)
+      ∙ all_same (FunctionPasses t Known) (λ f. rules.is_function here (resources_of v.types) f.0 f.1.signature) (shown_function t)
+      (λ f. is_function t known p (resources_of v.types) f.0 (function_at t f.1.signature)) (λ f k. function_same (resources_of v.types) f.0 (function_at t f.1.signature) k.1) v.functions h.functions in
+      λ i. types i && functions i && distinct (names i)
 
 pub each_rule_in_numbers : EachRuleInNumbers
 each_rule_in_numbers t table known p = record {

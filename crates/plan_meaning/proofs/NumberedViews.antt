@@ -21,6 +21,10 @@ use Rattle.plan_meaning.proofs.ShapeLaws.{one_number_apart}
 use Rattle.base_lemmas.proofs.Bools.{both_ways as either_way}
 use Rattle.base_lemmas.proofs.Lists.{append_of_map, length_of_map, within_there as slice_there}
 use Rattle.wit_model.proofs.TextLemmas.{text_same}
+use Rattle.base_lemmas.proofs.Elements.{all_end}
+use Rattle.plan_meaning.proofs.Lists.{all_same}
+use Rattle.plan_meaning.proofs.NumberedWorlds.{path_number}
+use Rattle.base_lemmas.proofs.Numbers.{turned}
 
 path_is : (o p : Option Text) (x y : Text) → o ≡ Some x → p ≡ Some y → place_of o ≡ place_of p → o ≡ p
 path_is o p x y eo ep h =
@@ -149,16 +153,8 @@ module _ (t : Tables) (tables : AreTables t) where
 
   -- ---- views
 
-  path_shown : (s : NumberedSight) (h : IsSight t s) → path_text t s.place ≡ h.path
-  path_shown s h = ap (λ o. unwrap_or o []) h.home
-
-  path_number : (a b : NumberedSight) → IsSight t a → IsSight t b → text_eq (path_text t a.place) (path_text t b.place) ≡ (a.place == b.place)
-  path_number a b ha hb =
-      either_way (text_eq (path_text t a.place) (path_text t b.place)) (a.place == b.place)
-      (λ h.
-      let texts : ha.path ≡ hb.path = sym (path_shown a ha) ∙ (text_same (path_text t a.place) (path_text t b.place) h ∙ path_shown b hb) in
-      eq-eqb a.place b.place (tables.paths a.place b.place hb.path (ha.home ∙ ap Some texts) hb.home))
-      (λ h. same_text (path_text t a.place) (path_text t b.place) (ap (path_text t) (eqb-true a.place b.place h)))
+  path_number_of : (a b : NumberedSight) → IsSight t a → IsSight t b → text_eq (path_text t a.place) (path_text t b.place) ≡ (a.place == b.place)
+  path_number_of a b ha hb = path_number t tables a.place b.place (ha.path, ha.home) (hb.path, hb.home) ∙ turned b.place a.place
 
   same_in_types : (a b : NumberedSight) → IsSight t a → IsSight t b → agreement.same_types (sight_of t a) (sight_of t b) ≡ same_types a b
   same_in_types a b ha hb = types_numbers a.view.types b.view.types ha.parts.types hb.parts.types
@@ -167,16 +163,13 @@ module _ (t : Tables) (tables : AreTables t) where
   same_in_functions a b ha hb = functions_numbers a.view.functions b.view.functions ha.parts.functions hb.parts.functions
 
   agree_number : (a b : NumberedSight) → IsSight t a → IsSight t b → reads.agree (sight_of t a) (sight_of t b) ≡ agree a b
-  agree_number a b ha hb = λ i. not (path_number a b ha hb i) || (same_in_types a b ha hb i && (not (a.whole && b.whole) || same_in_functions a b ha hb i))
-
-  agree_with : (s : NumberedSight) → IsSight t s → (rest : List NumberedSight) → AllByRecursion (IsSight t) rest
-      → list_all (reads.agree (sight_of t s)) (map (sight_of t) rest) ≡ list_all (agree s) rest
-  agree_with s hs [] h = refl
-  agree_with s hs (x ∷ rest) h = λ i. agree_number s x hs h.0 i && agree_with s hs rest h.1 i
+  agree_number a b ha hb = λ i. not (path_number_of a b ha hb i) || (same_in_types a b ha hb i && (not (a.whole && b.whole) || same_in_functions a b ha hb i))
 
   pub all_agree_in_numbers : (seen : List NumberedSight) → AllByRecursion (IsSight t) seen → all_agree (map (sight_of t) seen) ≡ agree_in_numbers seen
   all_agree_in_numbers [] h = refl
-  all_agree_in_numbers (s ∷ rest) h = λ i. agree_with s h.0 rest h.1 i && all_agree_in_numbers rest h.1 i
+  all_agree_in_numbers (s ∷ rest) h =
+      let first = all_same (IsSight t) (reads.agree (sight_of t s)) (sight_of t) (agree s) (λ x k. agree_number s x h.0 k) rest h.1 in
+      λ i. first i && all_agree_in_numbers rest h.1 i
 
   -- ---- with the first alone
 
@@ -198,24 +191,20 @@ module _ (t : Tables) (tables : AreTables t) where
       let types : option_map_or (λ f. agreement.same_types f (sight_of t s)) (first_of (path_text t s.place) (map (sight_of t) earlier)) true ≡ option_map_or (λ f. same_types f s)
       (first_at s.place earlier) true =
       found_alike (λ f. text_eq (path_text t s.place) f.path) (λ f. s.place == f.place) (λ f. agreement.same_types f (sight_of t s)) (λ f. same_types f s)
-      (λ f hf. path_number s f hs hf) (λ f hf. same_in_types f s hf hs) earlier h in
+      (λ f hf. path_number_of s f hs hf) (λ f hf. same_in_types f s hf hs) earlier h in
       let functions : option_map_or (λ f. reads.same_functions f.view.functions (sight_of t s).view.functions) (first_whole (path_text t s.place) (map (sight_of t) earlier)) true ≡ option_map_or
       (λ f. same_whole f s) (first_whole_at s.place earlier) true =
       found_alike (λ f. text_eq (path_text t s.place) f.path && f.whole) (λ f. s.place == f.place && f.whole) (λ f. reads.same_functions f.view.functions (sight_of t s).view.functions)
       (λ f. same_whole f s)
-      (λ f hf. ap (λ b. b && f.whole) (path_number s f hs hf)) (λ f hf. same_in_functions f s hf hs) earlier h in
+      (λ f hf. ap (λ b. b && f.whole) (path_number_of s f hs hf)) (λ f hf. same_in_functions f s hf hs) earlier h in
       λ i. types i && (not s.whole || functions i)
-
-  all_with_one : (earlier : List NumberedSight) (s : NumberedSight) → AllByRecursion (IsSight t) earlier → IsSight t s → AllByRecursion (IsSight t) (earlier ++ s ∷ [])
-  all_with_one [] s h hs = (hs, tt)
-  all_with_one (x ∷ earlier) s h hs = (h.0, all_with_one earlier s h.1 hs)
 
   pub first_agree_in_numbers : (earlier seen : List NumberedSight) → AllByRecursion (IsSight t) earlier → AllByRecursion (IsSight t) seen
       → agree_with_first (map (sight_of t) earlier) (map (sight_of t) seen) ≡ agree_with_first_in_numbers earlier seen
   first_agree_in_numbers earlier [] he h = refl
   first_agree_in_numbers earlier (s ∷ seen) he h =
       ap (λ xs. agreement.agrees_with_first (map (sight_of t) earlier) (sight_of t s) && agree_with_first xs (map (sight_of t) seen)) (sym (append_of_map (sight_of t) earlier (s ∷ [])))
-      ∙ λ i. first_alike earlier s he h.0 i && first_agree_in_numbers (earlier ++ s ∷ []) seen (all_with_one earlier s he h.0) h.1 i
+      ∙ λ i. first_alike earlier s he h.0 i && first_agree_in_numbers (earlier ++ s ∷ []) seen (all_end (IsSight t) earlier s he h.0) h.1 i
 
 pub each_number_tells : EachNumberTells
 each_number_tells t tables = numbers_tell t tables

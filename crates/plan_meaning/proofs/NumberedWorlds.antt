@@ -23,6 +23,7 @@ use Rattle.base_lemmas.proofs.Bools.{both_ways as either_way}
 use Rattle.base_lemmas.proofs.Elements.{all_both as all_in_both}
 use Rattle.base_lemmas.proofs.Lists.{append_of_map, map_of_map}
 use Rattle.wit_model.proofs.TextLemmas.{text_same}
+use Rattle.plan_meaning.proofs.Lists.{each_so, all_same}
 
 pub path_is : (t : Tables) (p : ℕ) (h : HasPath t p) → path_text t p ≡ h.0
 path_is t p h = ap (λ o. unwrap_or o []) h.1
@@ -164,17 +165,13 @@ module _ (t : Tables) (tables : AreTables t) where
   seen_paths (instance (implementing l p) v) h = (h.0, tt)
   seen_paths _ h = tt
 
-  all_stand : (earlier ps : List ℕ) → AllByRecursion (HasPath t) earlier → AllByRecursion (HasPath t) ps
-      → list_all (λ x. list_any (text_eq x) (map (path_text t) earlier)) (map (path_text t) ps) ≡ list_all (has earlier) ps
-  all_stand earlier [] he hs = refl
-  all_stand earlier (p ∷ ps) he hs = λ i. has_path earlier p he hs.0 i && all_stand earlier ps he hs.1 i
-
   pub earlier_same : (earlier : List ℕ) (ss : List NumberedSeen) → AllByRecursion (HasPath t) earlier → AreOver ss
       → rules.stand_earlier (map (path_text t) earlier) (map (seen_of t) ss) ≡ stand_earlier t earlier ss
   earlier_same earlier [] he h = refl
   earlier_same earlier (s ∷ ss) he h =
       let here : list_all (λ x. list_any (text_eq x) (map (path_text t) earlier)) (rules.uses (seen_of t s)) ≡ list_all (has earlier) (uses_of t s.shown) =
-      ap (list_all (λ x. list_any (text_eq x) (map (path_text t) earlier))) (uses_same s h.0) ∙ all_stand earlier (uses_of t s.shown) he (uses_paths s.shown) in
+      ap (list_all (λ x. list_any (text_eq x) (map (path_text t) earlier))) (uses_same s h.0)
+      ∙ all_same (HasPath t) (λ x. list_any (text_eq x) (map (path_text t) earlier)) (path_text t) (has earlier) (λ q. has_path earlier q he) (uses_of t s.shown) (uses_paths s.shown) in
       let more : map (path_text t) earlier ++ rules.path_seen (shown_of t s.shown) ≡ map (path_text t) (earlier ++ path_seen s.shown) =
       ap (λ xs. map (path_text t) earlier ++ xs) (seen_same s.shown) ∙ sym (append_of_map (path_text t) earlier (path_seen s.shown)) in
       let rest = ap (λ xs. rules.stand_earlier xs (map (seen_of t) ss)) more ∙ earlier_same (earlier ++ path_seen s.shown) ss
@@ -245,30 +242,20 @@ module _ (t : Tables) (tables : AreTables t) (known : ℕ → Fact) (home : ℕ)
       let rest = ap (λ xs. rules.are_imports xs (map (seen_of t) ss)) (sym (append_of_map (seen_of t) earlier (s ∷ []))) ∙ imports_same (earlier ++ s ∷ []) ss h.1 in
       λ i. one i && rest i
 
-  exports_same : (ss : List NumberedSeen) → AllStand ss → list_all (λ s. rules.is_item [] s.key s.shown) (map (seen_of t) ss) ≡ list_all (λ s. is_item t known home [] s.key s.shown) ss
-  exports_same [] h = refl
-  exports_same (s ∷ ss) h = λ i. item_same [] s.key s.shown h.0 i && exports_same ss h.1 i
-
-  types_over : (p : ℕ) (xs : List NumberedType) → AllByRecursion (λ (x : NumberedType). AllOf (IsKnown t known p) x.declared) xs → AllByRecursion (λ (x : NumberedType). AllOf (IsPart t) x.declared) xs
-  types_over p [] h = tt
-  types_over p (x ∷ xs) h = (one x.declared h.0, types_over p xs h.1)
-    where
-      one : (d : Option ℕ) → AllOf (IsKnown t known p) d → AllOf (IsPart t) d
-      one None h = tt
-      one (Some k) h = h.part
-
-  declared_over : (d : Option ℕ) → AllOf (IsKnown t known home) d → AllOf (IsPart t) d
-  declared_over None h = tt
-  declared_over (Some k) h = h.part
+  declared_over : (p : ℕ) (d : Option ℕ) → AllOf (IsKnown t known p) d → AllOf (IsPart t) d
+  declared_over p None h = tt
+  declared_over p (Some k) h = h.part
 
   item_over : (x : NumberedShown) → ItemStands t known home x → ItemIsOver t tables x
-  item_over (instance key v) h = (h.0, types_over (place_of_key key) v.types h.1.types)
+  item_over (instance key v) h = (
+    h.0,
+    each_so (λ (x : NumberedType). AllOf (IsKnown t known (place_of_key key)) x.declared) (λ x. AllOf (IsPart t) x.declared) (λ x. declared_over (place_of_key key) x.declared) v.types h.1.types,
+  )
   item_over (function n) h = tt
-  item_over (declares d) h = declared_over d h
+  item_over (declares d) h = declared_over home d h
 
   all_over : (ss : List NumberedSeen) → AllStand ss → AreOver t tables ss
-  all_over [] h = tt
-  all_over (s ∷ ss) h = (item_over s.shown h.0, all_over ss h.1)
+  all_over = each_so (λ (s : NumberedSeen). ItemStands t known home s.shown) (λ s. ItemIsOver t tables s.shown) (λ s. item_over s.shown)
 
   keys_same : (ss : List NumberedSeen) → distinct (map (λ s. s.key) (map (seen_of t) ss)) ≡ distinct (map (λ s. s.key) ss)
   keys_same ss = ap distinct (map_of_map (λ (s : Seen). s.key) (seen_of t) ss)
@@ -280,10 +267,12 @@ module _ (t : Tables) (tables : AreTables t) (known : ℕ → Fact) (home : ℕ)
 
 pub worlds_in_numbers : WorldsInNumbers
 worlds_in_numbers t tables known w scope h shows =
+    let exports = all_same (λ (s : NumberedSeen). ItemStands t known w.home s.shown) (λ s. rules.is_item [] s.key s.shown) (seen_of t) (λ s. is_item t known w.home [] s.key s.shown)
+    (λ s. item_same t tables known w.home h.home [] s.key s.shown) w.exports h.exports in
     (λ i. rules.are_imports [] (shows.imports i) && list_all (λ s. rules.is_item [] s.key s.shown) (shows.exports i) && distinct (map (λ s. s.key) (shows.imports i)) && distinct
     (map (λ s. s.key) (shows.exports i))
     && rules.stand_earlier [] (shows.imports i ++ shows.exports i))
-    ∙ (λ i. imports_same t tables known w.home h.home [] w.imports h.imports i && exports_same t tables known w.home h.home w.exports h.exports i && keys_same t tables known w.home h.home w.imports i
+    ∙ (λ i. imports_same t tables known w.home h.home [] w.imports h.imports i && exports i && keys_same t tables known w.home h.home w.imports i
     && keys_same t tables known w.home h.home w.exports i
     && order_same t tables known w.home h.home w.imports w.exports h.imports h.exports i)
 

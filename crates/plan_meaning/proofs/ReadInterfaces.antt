@@ -25,42 +25,23 @@ use Rattle.plan_meaning.specs.ReadInterfaces.{IsNumberOf, IsKeptAs, HasName, IsN
 use Rattle.plan_meaning.proofs.Lists.{no_true}
 use Rattle.plan_meaning.proofs.NumberedRules.{no_name}
 use Rattle.base_lemmas.proofs.Bools.{left_of as first_true, right_of as second_true}
-use Rattle.base_lemmas.proofs.Elements.{all_by_number}
+use Rattle.base_lemmas.proofs.Elements.{all_by_number, all_get, zip_at_right, zip_map}
 use Rattle.base_lemmas.proofs.Lists.{map_of_map, within_there as slice_there}
 use Rattle.std.proofs.lemmas.Option.{same_Some as same-some}
 use Rattle.comp_meaning.proofs.RulesLemmas.{distinct_same}
 use Rattle.wit_model.proofs.PartsLemmas.{owner_itself}
 use Rattle.wit_model.proofs.RulesLemmas.{each_by_number}
-
--- ---- names
-
-type_names : (xs : List NumberedType) (es : List (Text × ℕ)) → AllZip HasName xs es → names_of es ≡ map (λ (x : NumberedType). x.name) xs
-type_names [] [] z = refl
-type_names (x ∷ xs) (e ∷ es) z = λ i. z.0 i ∷ type_names xs es z.1 i
-type_names _ _ z = absurd z
-
-function_names : (fs : List (Text × NumberedFunction)) (es : List (Text × PlannedFunction)) → AllZip IsNamed fs es → names_of es ≡ map (λ (f : Text × NumberedFunction). f.0) fs
-function_names [] [] z = refl
-function_names (f ∷ fs) (e ∷ es) z = λ i. z.0.0 i ∷ function_names fs es z.1 i
-function_names _ _ z = absurd z
-
-keys_are_names : (fs : List (Text × NumberedFunction)) (es : List (Text × PlannedFunction)) → AllZip IsNamed fs es → list_all (λ (e : Text × PlannedFunction). text_eq e.0 e.1.name) es ≡ true
-keys_are_names [] [] z = refl
-keys_are_names (f ∷ fs) (e ∷ es) z = both (text_eq e.0 e.1.name) (list_all (λ (x : Text × PlannedFunction). text_eq x.0 x.1.name) es) (same_text e.0 e.1.name (z.0.0 ∙ sym z.0.1))
-    (keys_are_names fs es z.1)
-keys_are_names _ _ z = absurd z
+use Rattle.std.proofs.lemmas.List.Folds.{list_all-map}
 
 module _ (t : Tables) (kept : List ℕ) (p : Plan) (are : TypesAreKept t kept p) where
   -- ---- order
 
   later_rise : (n : ℕ) (e : Text × ℕ) → slice_get kept e.1 ≡ Some n → (ns : List ℕ) (es : List (Text × ℕ)) → AllZip (IsKeptAs kept p) ns es → list_all (nat_lt n) ns ≡ true
       → list_all (nat_lt e.1) (numbers_of es) ≡ true
-  later_rise n e at [] [] z h = refl
-  later_rise n e at (m ∷ ns) (x ∷ es) z h =
-      let less : n < m = ltb→lt n m (subst T (sym (first_true (nat_lt n m) (list_all (nat_lt n) ns) h)) tt) in
-      both (nat_lt e.1 x.1) (list_all (nat_lt e.1) (numbers_of es)) (lt-ltb e.1 x.1 (are.rise e.1 x.1 n m at z.0.0 less))
-      (later_rise n e at ns es z.1 (second_true (nat_lt n m) (list_all (nat_lt n) ns) h))
-  later_rise n e at _ _ z h = absurd z
+  later_rise n e at ns es z h = list_all-map (nat_lt e.1) (λ (x : Text × ℕ). x.1) es ∙ all_by_number (λ x. nat_lt e.1 x.1) es (λ j x f.
+      let from = zip_at_right (IsKeptAs kept p) ns es z j x f in
+      let less : n < from.0 = ltb→lt n from.0 (subst T (sym (all_get (nat_lt n) ns j from.0 h from.1)) tt) in
+      lt-ltb e.1 x.1 (are.rise e.1 x.1 n from.0 at from.2.0 less))
 
   all_rise : (ns : List ℕ) (es : List (Text × ℕ)) → AllZip (IsKeptAs kept p) ns es → are_rising ns ≡ true → are_rising (numbers_of es) ≡ true
   all_rise [] [] z h = refl
@@ -113,8 +94,9 @@ module _ (t : Tables) (kept : List ℕ) (p : Plan) (are : TypesAreKept t kept p)
 
     pub has_labels : interface_labels i ≡ true
     has_labels =
+        let functions = zip_map IsNamed (λ (f : Text × NumberedFunction). f.0) (λ (e : Text × PlannedFunction). e.0) (λ f e h. h.0) is.view.functions i.functions is.functions in
         both (passes is_label i.name) (are_distinct (names_of i.types ++ names_of i.functions)) is.label
-        (ap are_distinct (λ j. type_names is.view.types i.types is.names j ++ function_names is.view.functions i.functions is.functions j)
+        (ap are_distinct (λ j. zip_map HasName (λ (x : NumberedType). x.name) (λ (e : Text × ℕ). e.0) (λ x e h. h) is.view.types i.types is.names j ++ functions j)
         ∙ (distinct_same (map (λ (x : NumberedType). x.name) is.view.types ++ map (λ (f : Text × NumberedFunction). f.0) is.view.functions) ∙ shown_names))
 
 pub read_interfaces_pass : ReadInterfacesPass
@@ -123,5 +105,6 @@ read_interfaces_pass t tables kept p are b owned read = record {
   interface_types = each_by_number (λ n i. list_all (is_type_of p (as_interface n)) i.types) p.interfaces
       (λ m i e. let is = read m i e in types_are t kept p are b owned m is.place is.owned is.view.types is.numbers i.types is.shapes is.kept_there is.names);
   types_rise = all_by_number (λ i. are_rising (numbers_of i.types)) p.interfaces (λ m i e. let is = read m i e in all_rise t kept p are is.numbers i.types is.kept_there is.rise);
-  function_keys = all_by_number (λ i. list_all (λ e. text_eq e.0 e.1.name) i.functions) p.interfaces (λ m i e. let is = read m i e in keys_are_names is.view.functions i.functions is.functions);
+  function_keys = all_by_number (λ i. list_all (λ e. text_eq e.0 e.1.name) i.functions) p.interfaces (λ m i e. let is = read m i e in all_by_number (λ (x : Text × PlannedFunction). text_eq x.0 x.1.name) i.functions (λ j x f.
+      let from = zip_at_right IsNamed is.view.functions i.functions is.functions j x f in same_text x.0 x.1.name (from.2.0 ∙ sym from.2.1)));
 }

@@ -12,6 +12,7 @@ use Rattle.base_lemmas.proofs.Elements.{contains-later, get-contains}
 use Rattle.base_lemmas.proofs.Lists.{slice_front, slice_take, within_there as slice_there}
 use Rattle.std.proofs.lemmas.Bool.{cases_lt as below_or}
 use Rattle.std.proofs.lemmas.Option.{slice_get-map as get_of_map}
+use Rattle.plan_meaning.proofs.Lists.{each_so}
 
 -- ---- forms by their codes
 
@@ -122,13 +123,9 @@ module _ (place : ℕ → Place) (ss : List Shape) (table : IsTable ss) where
     is_name : (n : ℕ) (p : ℕ) (x : Text) → k ≡ 14 + n → slice_get ss n ≡ Some (named_shape p x) → t ≡ Tree.named (place p) x → PartView k t
     is_node : (n : ℕ) (f : Form) (ks : List ℕ) → k ≡ 14 + n → slice_get ss n ≡ Some (node_shape f ks) → t ≡ Tree.node f (children (map (part_tree trees) ks)) → AllByRecursion InRange ks → PartView k t
 
-  wider : (n : ℕ) (ks : List ℕ) → n < length ss → AllByRecursion (λ k. k < 14 + n) ks → AllByRecursion InRange ks
-  wider n [] h all = tt
-  wider n (k ∷ ks) h all = (omega (arith, all.0, h), wider n ks h all.1)
-
   shape_view : (k n : ℕ) (s : Shape) → k ≡ 14 + n → n < length ss → slice_get ss n ≡ Some s → IsShape n s → part_tree trees k ≡ shape_tree place trees s → PartView k (part_tree trees k)
   shape_view k n s is h e (a_name p x same) t = is_name n p x is (e ∙ ap Some same) (t ∙ (ap (shape_tree place trees) same ∙ name_tree place trees p x))
-  shape_view k n s is h e (a_node f ks same below) t = is_node n f ks is (e ∙ ap Some same) (t ∙ (ap (shape_tree place trees) same ∙ node_tree place trees f ks)) (wider n ks h below)
+  shape_view k n s is h e (a_node f ks same below) t = is_node n f ks is (e ∙ ap Some same) (t ∙ (ap (shape_tree place trees) same ∙ node_tree place trees f ks)) (each_so (λ k. k < 14 + n) InRange (λ k low. omega (arith, low, h)) ks below)
 
   pub viewed : (k : ℕ) → InRange k → PartView k (part_tree trees k)
   viewed k h = elim (split_part k) [
