@@ -22,11 +22,8 @@ use Rattle.plan_meaning.proofs.Words.{plan_of, part_tree_is, trees_are, function
 use Rattle.plan_meaning.proofs.FunctionRules.{interfaces_pass, worlds_pass, formed_pass, parts_pass, members_pass}
 
 module _ (r : Resolve) (m : ℕ) (is : IsPlan (plan_of r m)) where
-  shallow_is : (t : ValueType) → planned.is_shallow (plan_of r m) (part_of t) ≡ rules.is_shallow r t
-  shallow_is t = ap (λ trees. nat_le (levels (part_tree trees (part_of t))) 100) (trees_are r m) ∙ ap (λ x. nat_le (levels x) 100) (part_tree_is (trees_of r) t)
-
   shallow : (t : ValueType) → planned.is_shallow (plan_of r m) (part_of t) ≡ true → rules.is_shallow r t ≡ true
-  shallow t h = sym (shallow_is t) ∙ h
+  shallow t h = sym (ap (λ trees. nat_le (levels (part_tree trees (part_of t))) 100) (trees_are r m) ∙ ap (λ x. nat_le (levels x) 100) (part_tree_is (trees_of r) t)) ∙ h
 
   abbrev function_shallow : TypeOwner → Function → Bool
   function_shallow o f = list_all (rules.is_shallow r) (function_types f)
@@ -39,13 +36,10 @@ module _ (r : Resolve) (m : ℕ) (is : IsPlan (plan_of r m)) where
   as_formed resource = refl
   as_formed _ = refl
 
-  kind_passes : (k : TypeDefKind) → planned.parts_are_shallow (plan_of r m) (planned_kind k) ≡ true → list_all (rules.is_shallow r) (member_types k) ≡ true
-  kind_passes k h = members_pass (planned.is_shallow (plan_of r m)) (rules.is_shallow r) shallow k (sym (as_formed (planned_kind k)) ∙ h)
-
   pub depths_kept : Keeps depths r
   unfolding depths
   depths_kept = keeps_three depths r refl
       (interfaces_pass r m (λ o f. planned.function_is_shallow (plan_of r m) f) function_shallow function_passes is.functions_shallow)
       (worlds_pass r m (λ o f. planned.function_is_shallow (plan_of r m) f) function_shallow function_passes is.functions_shallow)
-      (each_from_built planned_type (λ t. planned.parts_are_shallow (plan_of r m) t.kind) (λ def. list_all (rules.is_shallow r) (member_types def.kind)) (λ def h. kind_passes def.kind h)
+      (each_from_built planned_type (λ t. planned.parts_are_shallow (plan_of r m) t.kind) (λ def. list_all (rules.is_shallow r) (member_types def.kind)) (λ def h. (members_pass (planned.is_shallow (plan_of r m)) (rules.is_shallow r) shallow def.kind (sym (as_formed (planned_kind def.kind)) ∙ h)))
       r.types.items is.depths)

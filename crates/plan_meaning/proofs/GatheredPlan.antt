@@ -84,16 +84,13 @@ module _ (t : Tables) (tables : AreTables t) (kept : List ℕ) (p : Plan) (keeps
   abbrev over : (ℕ → Tree) → Text × ℕ → Text × Tree
   over trees x = (x.0, trees x.1)
 
-  params_kept : (xs ys : List (Text × ℕ)) → AllZip (ParamBecomes t kept p) xs ys → map (over (part_tree (trees_in p))) ys ≡ map (over (tree_at t)) xs
-  params_kept = zip_map (ParamBecomes t kept p) (over (tree_at t)) (over (part_tree (trees_in p))) (λ x y h i. (h.0 i, part_kept x.1 y.1 h.1 i))
-
   result_kept : (a b : Option ℕ) → BecomesIfGiven t kept p a b → option_map (part_tree (trees_in p)) b ≡ option_map (tree_at t) a
   result_kept None None h = refl
   result_kept (Some a) (Some b) h = ap Some (part_kept a b h)
   result_kept _ _ h = absurd h
 
   signature_kept : (f : FunctionShape) (id : Option Text) (g : PlannedFunction) → FunctionBecomes t kept p f id g → planned.signature_of p g ≡ signature_over (tree_at t) f
-  signature_kept f id g b = λ i. record { is_async = b.waits i; params = params_kept f.params g.params b.params i; result = result_kept f.result g.result b.result i }
+  signature_kept f id g b = λ i. record { is_async = b.waits i; params = (zip_map (ParamBecomes t kept p) (over (tree_at t)) (over (part_tree (trees_in p))) (λ x y h i. (h.0 i, part_kept x.1 y.1 h.1 i))) f.params g.params b.params i; result = result_kept f.result g.result b.result i }
 
   function_kept : (f : FunctionShape) (id : Option Text) (g : PlannedFunction) → FunctionBecomes t kept p f id g
       → function_meaning p g ≡ record { signature = signature_over (tree_at t) f; external_id = id }

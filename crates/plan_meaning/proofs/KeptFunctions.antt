@@ -115,9 +115,6 @@ module _ (t : Tables) (tables : AreTables t) (known : ℕ → Fact) (kept : List
           ∙ (ap (λ b. cond b is.type_.name None) (both (plan.is_resource_kind is.type_.kind) (same_owner is.type_.owner o) (ap plan.is_resource_kind is.kind)
           (ap (λ x. same_owner x o) is.owned ∙ owner_itself o)) ∙ is.named)
 
-      resource_in_range : in_list p.types n ≡ true
-      resource_in_range = lt-ltb n (length p.types) (slice_get_within p.types n is.type_ is.there)
-
       -- the shape of a name in the place
       name_shape : (k : ℕ) → is_name t known q name k ≡ true → k ≡ 14 + is.shape
       name_shape k h = elim (split_part k) [
@@ -256,7 +253,7 @@ module _ (t : Tables) (tables : AreTables t) (known : ℕ → Fact) (kept : List
           ∙ (ap (λ x. option_map_or (λ r. is_member_of p n r g kind) x false) resource_has_name ∙ h))
 
       number_is : (kind : FunctionKind) → resource_of kind ≡ Some n → list_all (in_list p.types) (option_to_list (resource_of kind)) ≡ true
-      number_is kind e = ap (λ x. list_all (in_list p.types) (option_to_list x)) e ∙ both (in_list p.types n) true resource_in_range refl
+      number_is kind e = ap (λ x. list_all (in_list p.types) (option_to_list x)) e ∙ both (in_list p.types n) true (lt-ltb n (length p.types) (slice_get_within p.types n is.type_ is.there)) refl
 
     -- ---- a function
 

@@ -115,13 +115,10 @@ module _ (t : Tables) (tables : AreTables t) (h : Homes) (stand : HomesStand t h
   -- ---- the rules
 
   module _ (known : ℕ → Fact) where
-    sight_place : (s : NumberedSight) → IsSight t s → Place.of_interface (path_text t s.place) ≡ place_at t s.place
-    sight_place s x = ap Place.of_interface (path_is t s.place (x.path, x.home)) ∙ sym (ap place_of x.home)
-
     pub interfaces_same : (seen : List NumberedSight) → AllByRecursion (IsKnownSight t known) seen → reads.are_interfaces (map (sight_of t) seen) ≡ are_interfaces t known seen
     interfaces_same = all_same (IsKnownSight t known) (λ s. rules.is_interface (Place.of_interface s.path) s.view) (sight_of t)
         (λ (s : NumberedSight). is_interface t known s.place s.view)
-        (λ s h. ap (λ place. rules.is_interface place (view_of t s.view)) (sight_place s h.0) ∙ interface_same t tables.shapes known s.place s.view h.1)
+        (λ s h. ap (λ place. rules.is_interface place (view_of t s.view)) (ap Place.of_interface (path_is t s.place (h.0.path, h.0.home)) ∙ sym (ap place_of h.0.home)) ∙ interface_same t tables.shapes known s.place s.view h.1)
 
     pub agree_same : (seen : List NumberedSight) → AllByRecursion (IsKnownSight t known) seen → all_agree (map (sight_of t) seen) ≡ agree_in_numbers seen
     agree_same seen all = all_agree_in_numbers t tables seen (only_sights t known seen all)

@@ -164,13 +164,10 @@ module _ (t : Tables) (table : IsTable t.shapes) (known : ℕ → Fact) (p : ℕ
     own_same : (k : ℕ) → IsPart t k → IsSeenFrom t p k → same_tree (tree_at t k) (own_name here resource) ≡ is_handle t known p own_sort resource k
     own_same k part seen = handle_same Form.own_of own_sort own_by_sort refl k part seen
 
-    borrow_same : (k : ℕ) → IsPart t k → IsSeenFrom t p k → same_tree (tree_at t k) (borrow_name here resource) ≡ is_handle t known p borrow_sort resource k
-    borrow_same k part seen = handle_same Form.borrow_of borrow_sort borrow_by_sort refl k part seen
-
     begins_same : (ps : List (Text × ℕ)) → AllByRecursion (λ (x : Text × ℕ). Known x.1) ps
         → rules.begins_with_self (borrow_name here resource) (map (λ x. (x.0, tree_at t x.1)) ps) ≡ begins_with_self t known p resource ps
     begins_same [] h = refl
-    begins_same (x ∷ ps) h = ap (λ b. text_eq x.0 (codes "self") && b) (borrow_same x.1 h.0.part h.0.seen)
+    begins_same (x ∷ ps) h = ap (λ b. text_eq x.0 (codes "self") && b) (handle_same Form.borrow_of borrow_sort borrow_by_sort refl x.1 h.0.part h.0.seen)
 
     -- ---- constructors
 

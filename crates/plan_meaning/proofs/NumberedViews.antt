@@ -62,9 +62,6 @@ module _ (t : Tables) (tables : AreTables t) where
   one_outside : (a b : ℕ) → IsOutsidePart t a → IsOutsidePart t b → tree_at t a ≡ tree_at t b → a ≡ b
   one_outside a b ha hb e = one_number_apart (place_at t) t.shapes tables.shapes a b ha.0 hb.0 (outside_apart a b ha.1 hb.1) e
 
-  outside_number : (a b : ℕ) → IsOutsidePart t a → IsOutsidePart t b → same_tree (tree_at t a) (tree_at t b) ≡ (a == b)
-  outside_number a b ha hb = tree_number a b ha.0 hb.0 (outside_apart a b ha.1 hb.1)
-
   -- ---- numbers and types of functions
 
   abbrev param_tree : Text × ℕ → Text × Tree
@@ -115,16 +112,13 @@ module _ (t : Tables) (tables : AreTables t) where
   -- ---- types that are shown
 
   declared_number : (a b : Option ℕ) → AllOf (IsOutsidePart t) a → AllOf (IsOutsidePart t) b → same_declaration (declaration_of t a) (declaration_of t b) ≡ same_number a b
-  declared_number (Some a) (Some b) ha hb = outside_number a b ha hb
+  declared_number (Some a) (Some b) ha hb = tree_number a b ha.0 hb.0 (outside_apart a b ha.1 hb.1)
   declared_number None None ha hb = refl
   declared_number _ _ ha hb = refl
 
-  shown_number : (x y : NumberedType) → TypePasses (IsOutsidePart t) x → TypePasses (IsOutsidePart t) y → reads.same_shown (shown_type t x) (shown_type t y) ≡ same_shown x y
-  shown_number x y hx hy = ap (λ b. text_eq x.name y.name && (b && same_option text_eq x.external_id y.external_id)) (declared_number x.declared y.declared hx hy)
-
   types_numbers : (xs ys : List NumberedType) → AllByRecursion (TypePasses (IsOutsidePart t)) xs → AllByRecursion (TypePasses (IsOutsidePart t)) ys
       → pointwise reads.same_shown (map (shown_type t) xs) (map (shown_type t) ys) ≡ pointwise same_shown xs ys
-  types_numbers (x ∷ xs) (y ∷ ys) hx hy = λ i. shown_number x y hx.0 hy.0 i && types_numbers xs ys hx.1 hy.1 i
+  types_numbers (x ∷ xs) (y ∷ ys) hx hy = λ i. (ap (λ b. text_eq x.name y.name && (b && same_option text_eq x.external_id y.external_id)) (declared_number x.declared y.declared hx.0 hy.0)) i && types_numbers xs ys hx.1 hy.1 i
   types_numbers [] [] hx hy = refl
   types_numbers _ _ hx hy = refl
 

@@ -35,13 +35,10 @@ use Rattle.std.proofs.lemmas.Option.{slice_get-map as get_of_map}
 use Rattle.wit_model.proofs.RulesLemmas.{each_at, each_by_number}
 
 module _ (r : Resolve) (m : ℕ) where
-  has_name_is : (n : ℕ) → planned.has_name (plan_of r m) n ≡ option_map_or (λ other. is_some other.name) (interface_at r n) false
-  has_name_is = or_there (λ i. is_some i.name) planned_interface (λ i. is_some i.name) false (λ i. has_text i.name) r.interfaces.items
-
   other_owner : (o : TypeOwner) (def : TypeDef) → (not (same_owner def.owner o) && option_map_or (planned.has_name (plan_of r m)) (owner_interface def.owner) false)
       ≡ (not (same_owner def.owner o) && option_map_or (λ i. option_map_or (λ other. is_some other.name) (interface_at r i) false) (owner_interface def.owner) false)
   other_owner o def = ap (λ b. not (same_owner def.owner o) && b) (same_or (planned.has_name (plan_of r m)) (λ i. option_map_or (λ other. is_some other.name) (interface_at r i) false) false
-      has_name_is (owner_interface def.owner))
+      (or_there (λ i. is_some i.name) planned_interface (λ i. is_some i.name) false (λ i. has_text i.name) r.interfaces.items) (owner_interface def.owner))
 
   target_is : (o : TypeOwner) (n : ℕ)
       → option_map_or (λ u. not (same_owner u.owner o) && option_map_or (planned.has_name (plan_of r m)) (owner_interface u.owner) false) (type_in (plan_of r m) n) false

@@ -59,13 +59,10 @@ interface_number p name = lookup_of_map (text_eq name) text_of (λ (id : Interfa
 pub world_number : (p : Package) (name : Text) → number_under name (planned_package p).worlds ≡ option_map (λ id. id.0) (get_by_text p.worlds name)
 world_number p name = lookup_of_map (text_eq name) text_of (λ (id : WorldId). id.0) p.worlds.entries
 
-world_name_is : (p : Package) (name : Text) → list_any (text_eq name) (names_of (planned_package p).worlds) ≡ is_world_name p name
-world_name_is p name = ap (list_any (text_eq name)) (names_are (λ (id : WorldId). id.0) p.worlds.entries) ∙ any_of_map (text_eq name) text_of (keys p.worlds)
-
 -- no name of an interface of a package is that of a world
 no_world : (p : Package) (name : Text) (n : ℕ) → members_differ (planned_package p) ≡ true → is_id n (number_under name (planned_package p).interfaces) ≡ true → not (is_world_name p name) ≡ true
 no_world p name n h is =
-    ap not (sym (world_name_is p name))
+    ap not (sym (ap (list_any (text_eq name)) (names_are (λ (id : WorldId). id.0) p.worlds.entries) ∙ any_of_map (text_eq name) text_of (keys p.worlds)))
     ∙ under_passes (λ t. not (list_any (text_eq t) (names_of (planned_package p).worlds))) name n (planned_package p).interfaces is
     (sym (list_all-map (λ t. not (list_any (text_eq t) (names_of (planned_package p).worlds))) (λ e. e.0) (planned_package p).interfaces)
     ∙ apart (names_of (planned_package p).interfaces) (names_of (planned_package p).worlds) h)
@@ -77,9 +74,6 @@ times_are n w =
     ap (fold (λ a x. a + cond (is_id n (plan.item_interface x)) 1 0) 0) (items_are w)
     ∙ (fold_of_map (λ a x. a + cond (is_id n (plan.item_interface x)) 1 0) planned_item 0 (items_of w)
     ∙ ap (λ (h : WorldItem → Option ℕ). fold (λ a x. a + cond (is_id n (h x)) 1 0) 0 (items_of w)) (λ i x. item_interface_is x i))
-
-all_times_are : (n : ℕ) (ws : List World) → sum_by (planned.times_shown n) (map planned_world ws) ≡ sum_by (rules.times_shown n) ws
-all_times_are n ws = fold_of_map (λ a w. a + planned.times_shown n w) planned_world 0 ws ∙ ap (λ (h : World → ℕ). fold (λ a w. a + h w) 0 ws) (λ i w. times_are n w i)
 
 passes_both : {A : Type 0} (p q s : A → Bool) → ((x : A) → p x ≡ true → q x ≡ true → s x ≡ true) → (o : Option A) → passes p o ≡ true → passes q o ≡ true → passes s o ≡ true
 passes_both p q s make None h k = refl
@@ -133,10 +127,6 @@ module _ (r : Resolve) (m : ℕ) (is : IsPlan (plan_of r m)) where
   differs_at q p e = all_get members_differ (map planned_package r.packages.items) q (planned_package p) is.members_differ
       (get_of_map planned_package r.packages.items q ∙ ap (option_map planned_package) e)
 
-  listed_in : (n : ℕ) (name : Text) (p : Package) → members_differ (planned_package p) ≡ true → is_id n (number_under name (planned_package p).interfaces) ≡ true
-      → (interface_is_listed n name p && not (is_world_name p name)) ≡ true
-  listed_in n name p d h = both _ _ (ap (is_id n) (sym (interface_number p name)) ∙ h) (no_world p name n d h)
-
   named_at : (n : ℕ) (name : Text) (o : Option PackageId)
       → option_map_or (λ k. is_id n (number_under name k.interfaces)) (option_and_then (package_in (plan_of r m)) (option_map (λ id. id.0) o)) false ≡ true
       → (is_some o && option_map_or (λ p. interface_is_listed n name p && not (is_world_name p name)) (option_and_then (package_at r) (package_number o)) true) ≡ true
@@ -147,7 +137,7 @@ module _ (r : Resolve) (m : ℕ) (is : IsPlan (plan_of r m)) where
       go : (o : Option Package) → package_at r id.0 ≡ o → option_map_or (λ k. is_id n (number_under name k.interfaces)) (option_map planned_package o) false ≡ true
           → option_map_or (λ p. interface_is_listed n name p && not (is_world_name p name)) (package_at r id.0) true ≡ true
       go None e h = no_true h
-      go (Some p) e h = ap (λ o. option_map_or (λ p. interface_is_listed n name p && not (is_world_name p name)) o true) e ∙ listed_in n name p (differs_at id.0 p e) h
+      go (Some p) e h = ap (λ o. option_map_or (λ p. interface_is_listed n name p && not (is_world_name p name)) o true) e ∙ (both _ _ (ap (is_id n) (sym (interface_number p name)) ∙ h) (no_world p name n (differs_at id.0 p e) h))
 
   some_package : (o : Option PackageId) (test : ℕ → Bool) → option_map_or test (option_map (λ id. id.0) o) false ≡ true → is_some o ≡ true
   some_package None test h = no_true h
@@ -159,7 +149,7 @@ module _ (r : Resolve) (m : ℕ) (is : IsPlan (plan_of r m)) where
   inline_at : (n : ℕ) (o : Option PackageId) →
       ((sum_by (planned.times_shown n) (map planned_world r.worlds.items) == 1) && list_all (λ w. (planned.times_shown n w == 0) || option_eq ◌==◌ w.package_ (option_map (λ id. id.0) o))
       (map planned_world r.worlds.items)) ≡ shown_once n o
-  inline_at n o = λ i. (all_times_are n r.worlds.items i == 1)
+  inline_at n o = λ i. ((fold_of_map (λ a w. a + planned.times_shown n w) planned_world 0 r.worlds.items ∙ ap (λ (h : World → ℕ). fold (λ a w. a + h w) 0 r.worlds.items) (λ i w. times_are n w i)) i == 1)
       && all_of_map (λ w. (planned.times_shown n w == 0) || option_eq ◌==◌ w.package_ (option_map (λ id. id.0) o))
       (λ w. (rules.times_shown n w == 0) || option_eq ◌==◌ (package_number w.package) (package_number o)) planned_world
       (λ w. ap (λ t. (t == 0) || option_eq ◌==◌ (package_number w.package) (package_number o)) (times_are n w)) r.worlds.items i

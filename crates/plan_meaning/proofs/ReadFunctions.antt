@@ -34,19 +34,13 @@ module _ (t : Tables) (tables : AreTables t) (kept : List ℕ) (p : Plan) (are :
   pass : (o : TypeOwner) (g : PlannedFunction) → IsReadFunction t kept p b o g → FunctionPasses p o g
   pass o g is = kept_functions_pass t tables b.known kept p are o is.place is.name is.shape is.external_id g is.kept_function
 
-  resources : ResourcesStand t kept p b.marks
-  resources = kept_resources_stand t tables kept p are b.marks marked
-
-  owners : OwnersStand t kept p b.owners
-  owners = kept_owners_stand t tables kept p are b.owners owned
-
   tests : FunctionTests p
   tests = record {
     functions_in_range = each_passes (λ o g. function_in_range p g) (λ o g is. (pass o g is).in_range);
     functions_labelled = each_passes (λ o g. function_labels g) (λ o g is. (pass o g is).labels);
     functions_stay = each_passes (function_stays p) (λ o g is.
-        subst (λ (x : TypeOwner). function_stays p x g ≡ true) is.owned (owners.functions is.place is.shape is.external_id g is.kept_function.becomes is.seen is.obeys));
-    functions_take_values = each_passes (λ o g. takes_values p g) (λ o g is. resources.functions is.shape is.external_id g is.kept_function.becomes is.values);
+        subst (λ (x : TypeOwner). function_stays p x g ≡ true) is.owned ((kept_owners_stand t tables kept p are b.owners owned).functions is.place is.shape is.external_id g is.kept_function.becomes is.seen is.obeys));
+    functions_take_values = each_passes (λ o g. takes_values p g) (λ o g is. (kept_resources_stand t tables kept p are b.marks marked).functions is.shape is.external_id g is.kept_function.becomes is.values);
     functions_shallow = each_passes (λ o g. function_is_shallow p g) (λ o g is. (pass o g is).shallow);
     functions_belong = each_passes (is_member p) (λ o g is. (pass o g is).belongs);
   }

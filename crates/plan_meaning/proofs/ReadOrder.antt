@@ -170,9 +170,6 @@ module _ (t : Tables) (tables : AreTables t) (kept : List ℕ) (p : Plan) (are :
         place : viewed.read.place ≡ q
         place = owned.apart viewed.read.place q (ap (same_owner (b.owners viewed.read.place)) (is.owned ∙ sym viewed.read.owned) ∙ owner_itself (b.owners viewed.read.place))
 
-        same_view : used_by_view t viewed.read.view ≡ used_by_view t v
-        same_view = ap (used_by_view t) (sym viewed.viewed ∙ ap views place) ∙ same_uses t (views q).types v.types is.agrees
-
         by : (u : ℕ) → (u == n) ≡ false → (u ≡ n) ⊎ ((r : ℕ) × Contains (used_by_view t viewed.read.view) r × (b.owners r ≡ as_interface u)) → has found u ≡ true
         by u apart (inl same) = never (u == n) (eq-eqb u n same) apart
         by u apart (inr (r, c, at)) = inv r u (all-contained (has earlier) (others_than q (used_by_view t v)) r h (has-contains (others_than q (used_by_view t v)) r there)) at
@@ -184,7 +181,7 @@ module _ (t : Tables) (tables : AreTables t) (kept : List ℕ) (p : Plan) (are :
                 never (u == n) (eq-eqb u n one) apart
 
             there : has (others_than q (used_by_view t v)) r ≡ true
-            there = others_have q r (used_by_view t v) (other_place (r == q) refl) (contains-has (used_by_view t v) r (subst (λ ns. Contains ns r) same_view c))
+            there = others_have q r (used_by_view t v) (other_place (r == q) refl) (contains-has (used_by_view t v) r (subst (λ ns. Contains ns r) (ap (used_by_view t) (sym viewed.viewed ∙ ap views place) ∙ same_uses t (views q).types v.types is.agrees) c))
 
         each : (u : ℕ) → Contains (direct_uses p n) u → has found u ≡ true
         each u c =
@@ -245,11 +242,8 @@ module _ (t : Tables) (tables : AreTables t) (kept : List ℕ) (p : Plan) (are :
         → (k : ℕ) × (slice_get kept n ≡ Some k) × (k < count) × (n < length p.types)
     function_low key count g is n c = by (Contains-append_cases (filter_map part_number (function_parts g)) (option_to_list (resource_of g.kind)) n c)
       where
-        passes : FunctionPasses p (as_world m) g
-        passes = kept_functions_pass t tables b.known kept p are (as_world m) is.read.place is.read.name is.read.shape is.read.external_id g is.read.kept_function
-
         range : n < length p.types
-        range = ltb→lt n (length p.types) (subst T (sym (all-contained (in_list p.types) (function_numbers g) n passes.in_range c)) tt)
+        range = ltb→lt n (length p.types) (subst T (sym (all-contained (in_list p.types) (function_numbers g) n (kept_functions_pass t tables b.known kept p are (as_world m) is.read.place is.read.name is.read.shape is.read.external_id g is.read.kept_function).in_range c)) tt)
 
         held : (o : Option ℕ) → Contains (option_to_list o) n → o ≡ Some n
         held None d = none-in n d
@@ -340,10 +334,7 @@ module _ (t : Tables) (tables : AreTables t) (kept : List ℕ) (p : Plan) (are :
         interface_last u n id e same =
             ap (λ ns. has ns u) (filter_map-append item_interface before (x.entry.1 ∷ []))
             ∙ has_end (filter_map item_interface before) (filter_map item_interface (x.entry.1 ∷ [])) u
-            (ap (λ i. has (filter_map item_interface (i ∷ [])) u) e ∙ both_or (n == u) (eq-eqb n u (sym same)))
-          where
-            both_or : (a : Bool) → a ≡ true → (a || false) ≡ true
-            both_or a e = ap (λ v. v || false) e
+            (ap (λ i. has (filter_map item_interface (i ∷ [])) u) e ∙ (ap (λ v. v || false) (eq-eqb n u (sym same))))
 
         one_place : (q r : ℕ) → ((q == r) || false) ≡ true → q ≡ r
         one_place q r h = eqb-true q r (or_nothing (q == r) h)
@@ -458,15 +449,12 @@ module _ (t : Tables) (tables : AreTables t) (kept : List ℕ) (p : Plan) (are :
           let owner_is = owned.owned j v.number v.type_ is.scope.home v.name v.there v.stands v.shape ∙ is.owned in
           let found = waits_there m is.scope.home is.owned j v (is_under_label v.name) is.imports is.imports_read
           (ap (λ es. is_id j (option_and_then item_type (lookup (is_under_label v.name) es))) is.imports_listed
-          ∙ (sym (ap (λ o. option_map_or (λ (y : PlannedWorld). is_id j (option_and_then item_type (lookup (is_under_label v.name) y.imports))) o false) e) ∙ by v.type_ v.name (named_type j v)
+          ∙ (sym (ap (λ o. option_map_or (λ (y : PlannedWorld). is_id j (option_and_then item_type (lookup (is_under_label v.name) y.imports))) o false) e) ∙ by v.type_ v.name (v.called)
           owner_is (listed t tables kept p are b owned views read j v.type_ v.there))) in
           (found.0, Contains-append_left is.imports is.exports found.0 found.1, found.2, found.3)
         where
           by : (x : PlannedType) (name : Text) → x.name ≡ Some name → x.owner ≡ as_world m → is_listed p j x ≡ true → is_listed_in p j name (as_world m) ≡ true
           by x name called at h = (λ i. is_listed_in p j name (sym at i)) ∙ (sym (ap (λ o. option_map_or (λ s. is_listed_in p j s x.owner) o (same_owner x.owner owner.None)) called) ∙ h)
-
-          named_type : (j : ℕ) (v : IsWorldType m (read.worlds m w e).scope.home (read.worlds m w e).owned j) → v.type_.name ≡ Some v.name
-          named_type j v = v.called
 
   pub world_items : each_from (λ n w. each_after (uses_stand_before p n) [] (items_of w)) 0 p.worlds ≡ true
   world_items = each_by_number (λ n w. each_after (uses_stand_before p n) [] (items_of w)) p.worlds world_in_order

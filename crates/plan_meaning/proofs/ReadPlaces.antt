@@ -57,9 +57,6 @@ module _ (t : Tables) (tables : AreTables t) (h : Homes) (homes : HomesStand t h
       tables.paths a b pa.0 pa.1 (pb.1 ∙ ap Some (sym path))
 
   module _ (p : Plan) (owners : ℕ → TypeOwner) (read : PlacesAreRead t h p owners) where
-    no_path : (a b : ℕ) → a ≡ b → path_at t a ≡ None → HasPath t b → ⊥
-    no_path a b e none path = no_true (ap is_some (sym none ∙ (ap (path_at t) e ∙ path.1)))
-
     -- ---- packages
 
     identity_there : (n : ℕ) (k : PlannedPackage) → package_in p n ≡ Some k → is_identity k.identity ≡ true
@@ -93,7 +90,7 @@ module _ (t : Tables) (tables : AreTables t) (h : Homes) (homes : HomesStand t h
             (eq-eqb k n (ap (λ (x : ℕ × Text). x.0) one)))
         by (inline q k w none owned unnamed there shown) =
             let place : q ≡ a.0.place = read.apart q a.0.place (ap (same_owner (owners q)) (a.0.owned ∙ sym owned) ∙ owner_itself (owners q)) in
-            absurd (no_path q a.0.place place none a.0.path)
+            absurd (no_true (ap is_some (sym none ∙ (ap (path_at t) place ∙ a.0.path.1))))
 
     all_worlds : (n : ℕ) (es : List (Text × ℕ)) → AllByRecursion (IsListedWorld t h p owners n) es → list_all (lists_world p n) es ≡ true
     all_worlds n [] a = refl
@@ -148,9 +145,6 @@ module _ (t : Tables) (tables : AreTables t) (h : Homes) (homes : HomesStand t h
         times_of item_interface m (items_of w) ∙ sym (times_filter (λ k. not (has_name p k)) m (ap not unnamed) (filter_map item_interface (items_of w))) in
         sum_by-cons (times_shown m) w ws ∙ ((λ i. here i + shown_times m unnamed ws i) ∙ sym (times_both m (inline_shown p w) (flat_map (inline_shown p) ws)))
 
-    is_inline : (m : ℕ) (i : PlannedInterface) → interface_in p m ≡ Some i → i.name ≡ None → has_name p m ≡ false
-    is_inline m i e none = ap (λ o. option_map_or (λ (x : PlannedInterface). is_some x.name) o false) e ∙ ap is_some none
-
     same_package : (a b : Option ℕ) → a ≡ b → option_eq ◌==◌ a b ≡ true
     same_package None b e = ap (option_eq ◌==◌ None) (sym e)
     same_package (Some a) b e = ap (option_eq ◌==◌ (Some a)) (sym e) ∙ same-number a
@@ -181,7 +175,7 @@ module _ (t : Tables) (tables : AreTables t) (h : Homes) (homes : HomesStand t h
         by (inline q n w no_path_there owned none there shown) =
             let home : i.package_ ≡ w.package_ = read.inline_home n w m i there shown e none in
             let at = read.worlds n w there in
-            let unnamed = is_inline m i e none in
+            let unnamed = (ap (λ o. option_map_or (λ (x : PlannedInterface). is_some x.name) o false) e ∙ ap is_some none) in
             let in_world : has (inline_shown p w) m ≡ true = has_filter (λ k. not (has_name p k)) (filter_map item_interface (items_of w)) m
             (contains-has (filter_map item_interface (items_of w)) m shown) (ap not unnamed) in
             let in_all : has (flat_map (inline_shown p) p.worlds) m ≡ true =

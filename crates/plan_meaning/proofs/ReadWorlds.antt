@@ -50,12 +50,9 @@ behind_bracket ps (c ∷ cs) h = go (91 == c) refl
     go true e = ap (λ x. is_label (x ∷ cs)) (sym (eqb-true 91 c e))
     go false e = no_true (sym (ap (λ v. (v && starts_with nat_eq cs ps) && is_label (drop (length ps) cs)) e) ∙ h)
 
-no_resource : (kind : FunctionKind) → resource_of kind ≡ None → is_freestanding kind ≡ true
-no_resource kind e = ap (λ (o : Option ℕ). is_none o) e
-
 module _ (t : Tables) (known : ℕ → Fact) (kept : List ℕ) (p : Plan) (o : TypeOwner) (q : ℕ) where
   stands_free : (name : Text) (f : FunctionShape) (kind : FunctionKind) → IsKindOf t known kept p o q name f kind → is_label name ≡ true → is_freestanding kind ≡ true
-  stands_free name f kind (of_none good none) h = no_resource kind none
+  stands_free name f kind (of_none good none) h = ap (λ (o : Option ℕ). is_none o) none
   stands_free name f kind (a_constructor id r e is named makes) h = no_true (sym (ap is_label named) ∙ h)
   stands_free name f kind (a_method id r e is named self) h = never (is_label name) h (behind_bracket (codes "method]" ++ (r ++ 46 ∷ [])) name named)
   stands_free name f kind (an_async_method id r e is named self) h = never (is_label name) h (behind_bracket (codes "method]" ++ (r ++ 46 ∷ [])) name named)
@@ -266,30 +263,21 @@ module _ (t : Tables) (tables : AreTables t) (kept : List ℕ) (p : Plan) (are :
     pub order_obeys : stand_earlier t [] (is.scope.imports ++ is.scope.exports) ≡ true
     order_obeys = second_true (((imported && exported) && import_keys) && export_keys) (stand_earlier t [] (is.scope.imports ++ is.scope.exports)) is.obeys
 
-    exports_obey : exported ≡ true
-    exports_obey = second_true imported exported (first_true (imported && exported) import_keys (first_true ((imported && exported) && import_keys) export_keys front))
-
-    import_keys_obey : import_keys ≡ true
-    import_keys_obey = second_true (imported && exported) import_keys (first_true ((imported && exported) && import_keys) export_keys front)
-
-    export_keys_obey : export_keys ≡ true
-    export_keys_obey = second_true ((imported && exported) && import_keys) export_keys front
-
     all_import : list_all (import_stands p m) w.imports ≡ true
     all_import = ap (list_all (import_stands p m)) (sym is.imports_listed) ∙ all_imports m is.scope.home is.owned is.imports is.imports_read
 
     all_export : list_all (export_stands p) w.exports ≡ true
     all_export = ap (list_all (export_stands p)) (sym is.exports_listed) ∙ all_exports m is.scope.home is.owned is.exports is.exports_read
-        (ap (list_all (λ (s : NumberedSeen). is_item t b.known is.scope.home [] s.key s.shown)) is.exports_seen ∙ exports_obey)
+        (ap (list_all (λ (s : NumberedSeen). is_item t b.known is.scope.home [] s.key s.shown)) is.exports_seen ∙ (second_true imported exported (first_true (imported && exported) import_keys (first_true ((imported && exported) && import_keys) export_keys front))))
         (ap (list_all (λ (s : NumberedSeen). not (is_type_seen s.shown))) is.exports_seen ∙ is.no_types)
 
     pub import_keys_differ : keys_differ w.imports ≡ true
     import_keys_differ = ap keys_differ (sym is.imports_listed) ∙ all_keys m is.scope.home is.owned is.imports is.imports_read
-        (ap (λ ss. distinct (map (λ (s : NumberedSeen). s.key) ss)) is.imports_seen ∙ import_keys_obey)
+        (ap (λ ss. distinct (map (λ (s : NumberedSeen). s.key) ss)) is.imports_seen ∙ (second_true (imported && exported) import_keys (first_true ((imported && exported) && import_keys) export_keys front)))
 
     export_keys_differ : keys_differ w.exports ≡ true
     export_keys_differ = ap keys_differ (sym is.exports_listed) ∙ all_keys m is.scope.home is.owned is.exports is.exports_read
-        (ap (λ ss. distinct (map (λ (s : NumberedSeen). s.key) ss)) is.exports_seen ∙ export_keys_obey)
+        (ap (λ ss. distinct (map (λ (s : NumberedSeen). s.key) ss)) is.exports_seen ∙ (second_true ((imported && exported) && import_keys) export_keys front))
 
     types_rise : are_rising (world_types w) ≡ true
     types_rise = ap (λ es. are_rising (filter_map item_type (map (λ (e : PlannedKey × PlannedItem). e.1) es))) (sym is.imports_listed) ∙ all_types m is.scope.home is.owned is.imports
