@@ -20,7 +20,7 @@ use Rattle.wit_model.specs.Valid.{HasDistinctKeys, key_eq}
 use Rattle.plan_meaning.specs.PlanRules as planned
 use Rattle.plan_meaning.specs.PlanRules.{IsPlan, names_of, members_differ, same_key, keys_differ}
 use Rattle.plan_meaning.specs.Built.{planned_function, planned_package, planned_interface, planned_world, planned_key, planned_entries}
-use Rattle.plan_meaning.proofs.Lists.{no_true}
+use Rattle.plan_meaning.proofs.Lists.{no_true, all_there}
 use Rattle.plan_meaning.proofs.Words.{plan_of}
 use Rattle.plan_meaning.proofs.Labels.{names_are}
 use Rattle.base_lemmas.proofs.Bools.{left_of as first_true, right_of as second_true}
@@ -81,19 +81,16 @@ module _ (r : Resolve) (m : ℕ) (is : IsPlan (plan_of r m)) where
   package_keys : (n : ℕ) (p : Package) → package_at r n ≡ Some p → IsUnique string_eq p.interfaces × IsUnique string_eq p.worlds
   package_keys n p e =
       both_distinct (λ id. id.0) (λ id. id.0) p.interfaces.entries p.worlds.entries
-      (all_get members_differ (map planned_package r.packages.items) n (planned_package p) is.members_differ (get_of_map planned_package r.packages.items n ∙ ap (option_map planned_package) e))
+      (all_there planned_package members_differ r.packages.items is.members_differ n p e)
 
   interface_keys : (n : ℕ) (i : Interface) → interface_at r n ≡ Some i → IsUnique string_eq i.types × IsUnique string_eq i.functions
   interface_keys n i e =
       both_distinct (λ id. id.0) planned_function i.types.entries i.functions.entries
-      (second_true (passes is_label (optional_text i.name)) _
-      (all_get planned.interface_labels (map planned_interface r.interfaces.items) n (planned_interface i) is.interface_labels
-      (get_of_map planned_interface r.interfaces.items n ∙ ap (option_map planned_interface) e)))
+      (second_true (passes is_label (optional_text i.name)) _ (all_there planned_interface planned.interface_labels r.interfaces.items is.interface_labels n i e))
 
   world_keys : (n : ℕ) (w : World) → world_at r n ≡ Some w → IsUnique key_eq w.imports × IsUnique key_eq w.exports
   world_keys n w e =
-      let differ = all_get (λ x. keys_differ x.imports && keys_differ x.exports) (map planned_world r.worlds.items) n (planned_world w) is.keys_differ
-      (get_of_map planned_world r.worlds.items n ∙ ap (option_map planned_world) e) in
+      let differ = all_there planned_world (λ x. keys_differ x.imports && keys_differ x.exports) r.worlds.items is.keys_differ n w e in
       (keys_distinct w.imports.entries (first_true _ _ differ), keys_distinct w.exports.entries (second_true (keys_differ (planned_entries w.imports.entries)) _ differ))
 
   pub keys_are_distinct : HasDistinctKeys r

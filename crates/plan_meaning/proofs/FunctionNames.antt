@@ -24,7 +24,7 @@ use Rattle.wit_model.specs.declared.model.FunctionKind.TheVariants as call
 use Rattle.wit_model.specs.Text.{Text, text_of, text_eq, optional_text}
 use Rattle.wit_model.specs.Tree.{Form}
 use Rattle.wit_model.specs.Names.{constructor_name, method_name}
-use Rattle.wit_model.specs.Lookup.{type_at, resource_of}
+use Rattle.wit_model.specs.Lookup.{type_at, resource_of, world_at}
 use Rattle.wit_model.specs.Types.{number_of}
 use Rattle.wit_model.specs.Parts.{same_owner}
 use Rattle.wit_model.specs.Rules as rules
@@ -36,13 +36,14 @@ use Rattle.plan_meaning.specs.Plan.{PlannedType, PlannedFunction, type_in}
 use Rattle.plan_meaning.specs.PlanRules as planned
 use Rattle.plan_meaning.specs.PlanRules.{IsPlan}
 use Rattle.plan_meaning.specs.Built.{part_of, given_parts, planned_kind, planned_type, planned_function, planned_interface, planned_world, planned_key, planned_item}
-use Rattle.plan_meaning.proofs.Lists.{then_there, or_there, or_of_map, same_or, all_built, each_built, each_from_built, each_two, no_true}
+use Rattle.plan_meaning.proofs.Lists.{then_there, or_there, or_of_map, same_or, all_built, each_built, each_from_built, each_two, no_true, all_there}
 use Rattle.plan_meaning.proofs.Words.{plan_of, behind, number_part}
-use Rattle.plan_meaning.proofs.FunctionRules.{interfaces_pass, worlds_pass, entries_pass}
+use Rattle.plan_meaning.proofs.FunctionRules.{interfaces_pass, worlds_pass, entries_pass, interface_holds, world_holds, imports_there, exports_there}
 use Rattle.base_lemmas.proofs.Bools.{left_of as first_true, right_of as second_true}
 use Rattle.base_lemmas.proofs.Elements.{all_two}
 use Rattle.std.proofs.lemmas.Bool.{and_from as both}
 use Rattle.std.proofs.lemmas.Option.{slice_get-map as get_of_map}
+use Rattle.wit_model.proofs.RulesLemmas.{each_by_number}
 
 pub unnamed : (o : Option (String Global)) → is_none (optional_text o) ≡ is_none o
 unnamed None = refl
@@ -143,47 +144,26 @@ module _ (r : Resolve) (m : ℕ) where
   passes_both p q (Some f) h k = both _ _ h k
 
   module _ (is : IsPlan (plan_of r m)) where
-    abbrev imports_right : ℕ → World → Bool
-    imports_right n w = list_all (λ e. passes (λ f. is_name_key (text_of f.name) e.0) (item_function e.1)) w.imports.entries
+    abbrev is_right : ℕ → WorldKey × WorldItem → Bool
+    is_right n e = passes (λ f. is_name_key (text_of f.name) e.0 && rules.is_member r (as_world n) f) (item_function e.1)
 
-    abbrev exports_right : World → Bool
-    exports_right w = list_all (λ e. passes (λ f. is_name_key (text_of f.name) e.0) (item_function e.1)) w.exports.entries
-
-    abbrev all_belong : ℕ → World → Bool
-    all_belong n w = list_all (rules.is_member r (as_world n)) (functions_of_world w)
-
-    together : (n : ℕ) (e : WorldKey × WorldItem) → passes (λ f. is_name_key (text_of f.name) e.0) (item_function e.1) ≡ true → passes (rules.is_member r (as_world n)) (item_function e.1) ≡ true
-        → passes (λ f. is_name_key (text_of f.name) e.0 && rules.is_member r (as_world n) f) (item_function e.1) ≡ true
-    together n e a b = passes_both (λ f. is_name_key (text_of f.name) e.0) (rules.is_member r (as_world n)) (item_function e.1) a b
-
-    world_passes : (n : ℕ) (w : World) → (imports_right n w && exports_right w) ≡ true → all_belong n w ≡ true
-        → list_all (λ e. passes (λ f. is_name_key (text_of f.name) e.0 && rules.is_member r (as_world n) f) (item_function e.1)) (w.imports.entries ++ w.exports.entries) ≡ true
-    world_passes n w h functions =
-        let members = entries_pass (rules.is_member r (as_world n)) w functions in
-        list_all-append (λ e. passes (λ f. is_name_key (text_of f.name) e.0 && rules.is_member r (as_world n) f) (item_function e.1)) w.imports.entries w.exports.entries
-        ∙ both _ _ (all_two (λ e. passes (λ f. is_name_key (text_of f.name) e.0) (item_function e.1)) (λ e. passes (rules.is_member r (as_world n)) (item_function e.1))
-        (λ e. passes (λ f. is_name_key (text_of f.name) e.0 && rules.is_member r (as_world n) f) (item_function e.1)) (together n) w.imports.entries (first_true _ _ h) members.0)
-        (all_two (λ e. passes (λ f. is_name_key (text_of f.name) e.0) (item_function e.1)) (λ e. passes (rules.is_member r (as_world n)) (item_function e.1))
-        (λ e. passes (λ f. is_name_key (text_of f.name) e.0 && rules.is_member r (as_world n) f) (item_function e.1)) (together n) w.exports.entries (second_true (imports_right n w) _ h) members.1)
+    world_right : (n : ℕ) (w : World) → world_at r n ≡ Some w → list_all (is_right n) (w.imports.entries ++ w.exports.entries) ≡ true
+    world_right n w at =
+        let members = entries_pass (rules.is_member r (as_world n)) w (world_holds r m (planned.is_member (plan_of r m)) (rules.is_member r) belongs is.functions_belong n w at) in
+        list_all-append (is_right n) w.imports.entries w.exports.entries
+        ∙ both _ _
+        (all_two (λ e. planned.import_stands (plan_of r m) n (planned_key e.0, planned_item e.1)) (λ e. passes (rules.is_member r (as_world n)) (item_function e.1)) (is_right n)
+        (λ e a b. passes_both (λ f. is_name_key (text_of f.name) e.0) (rules.is_member r (as_world n)) (item_function e.1) (import_key n e.0 e.1 a) b) w.imports.entries (imports_there r m is n w at) members.0)
+        (all_two (λ e. planned.export_stands (plan_of r m) (planned_key e.0, planned_item e.1)) (λ e. passes (rules.is_member r (as_world n)) (item_function e.1)) (is_right n)
+        (λ e a b. passes_both (λ f. is_name_key (text_of f.name) e.0) (rules.is_member r (as_world n)) (item_function e.1) (export_key e.0 e.1 a) b) w.exports.entries (exports_there r m is n w at) members.1)
 
     pub function_names_kept : Keeps function_names r
     unfolding function_names
     function_names_kept = keeps_two function_names r refl refl
-        (each_two (λ n i. list_all (λ e. text_eq (text_of e.0) (text_of e.1.name)) i.functions.entries) (λ n i. list_all (rules.is_member r (as_interface n)) (functions_of_interface i))
-        (λ n i. function_names.interface_ r n i)
-        (λ n i a b. all_two (λ e. text_eq (text_of e.0) (text_of e.1.name)) (λ e. rules.is_member r (as_interface n) e.1)
-        (λ e. text_eq (text_of e.0) (text_of e.1.name) && rules.is_member r (as_interface n) e.1) (λ e x y. both _ _ x y) i.functions.entries a
-        (sym (list_all-map (rules.is_member r (as_interface n)) (λ e. e.1) i.functions.entries) ∙ b)) 0 r.interfaces.items
-        (each_from_built planned_interface (λ i. list_all (λ e. text_eq e.0 e.1.name) i.functions) (λ i. list_all (λ e. text_eq (text_of e.0) (text_of e.1.name)) i.functions.entries)
-        (λ i h. all_built (λ e. (text_of e.0, planned_function e.1)) (λ (e : Text × PlannedFunction). text_eq e.0 e.1.name) (λ e. text_eq (text_of e.0) (text_of e.1.name)) (λ e k. k)
-        i.functions.entries h) r.interfaces.items is.function_keys)
-        (interfaces_pass r m (planned.is_member (plan_of r m)) (rules.is_member r) belongs is.functions_belong))
-        (each_two (λ n w. imports_right n w && exports_right w) all_belong (λ n w. function_names.world_ r n w) world_passes 0 r.worlds.items
-        (each_two imports_right (λ n w. exports_right w) (λ n w. imports_right n w && exports_right w) (λ n w a b. both _ _ a b) 0 r.worlds.items
-        (each_built planned_world (λ n w. list_all (planned.import_stands (plan_of r m) n) w.imports) imports_right
-        (λ n w h. all_built (λ e. (planned_key e.0, planned_item e.1)) (planned.import_stands (plan_of r m) n) (λ e. passes (λ f. is_name_key (text_of f.name) e.0) (item_function e.1))
-        (λ e k. import_key n e.0 e.1 k) w.imports.entries h) r.worlds.items is.imports_stand)
-        (each_from_built planned_world (λ w. list_all (planned.export_stands (plan_of r m)) w.exports) exports_right
-        (λ w h. all_built (λ e. (planned_key e.0, planned_item e.1)) (planned.export_stands (plan_of r m)) (λ e. passes (λ f. is_name_key (text_of f.name) e.0) (item_function e.1))
-        (λ e k. export_key e.0 e.1 k) w.exports.entries h) r.worlds.items is.exports_stand))
-        (worlds_pass r m (planned.is_member (plan_of r m)) (rules.is_member r) belongs is.functions_belong))
+        (each_by_number (λ n i. function_names.interface_ r n i) r.interfaces.items (λ n i at. all_two (λ e. text_eq (text_of e.0) (text_of e.1.name)) (λ e. rules.is_member r (as_interface n) e.1)
+        (λ e. text_eq (text_of e.0) (text_of e.1.name) && rules.is_member r (as_interface n) e.1) (λ e x y. both _ _ x y) i.functions.entries
+        (all_built (λ e. (text_of e.0, planned_function e.1)) (λ (e : Text × PlannedFunction). text_eq e.0 e.1.name) (λ e. text_eq (text_of e.0) (text_of e.1.name)) (λ e k. k) i.functions.entries
+        (all_there planned_interface (λ i. list_all (λ e. text_eq e.0 e.1.name) i.functions) r.interfaces.items is.function_keys n i at))
+        (sym (list_all-map (rules.is_member r (as_interface n)) (λ e. e.1) i.functions.entries)
+        ∙ interface_holds r m (planned.is_member (plan_of r m)) (rules.is_member r) belongs is.functions_belong n i at)))
+        (each_by_number (λ n w. function_names.world_ r n w) r.worlds.items world_right)

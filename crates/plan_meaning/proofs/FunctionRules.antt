@@ -22,12 +22,14 @@ use Rattle.wit_model.proofs.Lists.{list_all_filter_map}
 use Rattle.wit_model.specs.Valid.{as_interface, as_world, functions_of_interface, functions_of_world, item_function}
 use Rattle.plan_meaning.specs.Plan as plan
 use Rattle.plan_meaning.specs.Plan.{PlannedKind, PlannedFunction, resource, alias, formed}
-use Rattle.plan_meaning.specs.PlanRules.{FunctionsPass, functions_of, world_functions}
-use Rattle.plan_meaning.specs.Built.{part_of, given_parts, planned_kind, planned_function, planned_interface, planned_item, planned_entries, planned_world}
-use Rattle.plan_meaning.proofs.Lists.{all_built, each_built, same_all}
+use Rattle.plan_meaning.specs.PlanRules.{FunctionsPass, functions_of, world_functions, IsPlan, import_stands, export_stands}
+use Rattle.plan_meaning.specs.Built.{part_of, given_parts, planned_kind, planned_function, planned_interface, planned_item, planned_entries, planned_world, planned_key}
+use Rattle.plan_meaning.proofs.Lists.{all_built, each_built, same_all, each_there, all_there}
 use Rattle.plan_meaning.proofs.Words.{plan_of, given_all}
 use Rattle.base_lemmas.proofs.Bools.{left_of as first_true, right_of as second_true}
 use Rattle.base_lemmas.proofs.Lists.{append_of_map, map_of_map}
+use Rattle.wit_model.proofs.RulesLemmas.{each_by_number}
+use Rattle.wit_model.specs.Lookup.{interface_at, world_at}
 
 -- ---- functions and items
 
@@ -55,16 +57,30 @@ world_functions_are w = ap (filter_map plan.item_function) (items_are w) ∙ ite
 
 module _ (r : Resolve) (m : ℕ) (test : TypeOwner → PlannedFunction → Bool) (rule : TypeOwner → Function → Bool)
     (weaker : (o : TypeOwner) (f : Function) → test o (planned_function f) ≡ true → rule o f ≡ true) (pass : FunctionsPass (plan_of r m) test) where
+  pub interface_holds : (n : ℕ) (i : Interface) → interface_at r n ≡ Some i → list_all (rule (as_interface n)) (functions_of_interface i) ≡ true
+  interface_holds n i e = all_built planned_function (test (as_interface n)) (rule (as_interface n)) (weaker (as_interface n)) (functions_of_interface i)
+      (ap (list_all (test (as_interface n))) (sym (functions_are i))
+      ∙ each_there planned_interface (λ n i. list_all (test (as_interface n)) (functions_of i)) r.interfaces.items pass.of_interfaces n i e)
+
+  pub world_holds : (n : ℕ) (w : World) → world_at r n ≡ Some w → list_all (rule (as_world n)) (functions_of_world w) ≡ true
+  world_holds n w e = all_built planned_function (test (as_world n)) (rule (as_world n)) (weaker (as_world n)) (functions_of_world w)
+      (ap (list_all (test (as_world n))) (sym (world_functions_are w)) ∙ each_there planned_world (λ n w. list_all (test (as_world n)) (world_functions w)) r.worlds.items pass.of_worlds n w e)
+
   pub interfaces_pass : each_from (λ n i. list_all (rule (as_interface n)) (functions_of_interface i)) 0 r.interfaces.items ≡ true
-  interfaces_pass = each_built planned_interface (λ n i. list_all (test (as_interface n)) (functions_of i)) (λ n i. list_all (rule (as_interface n)) (functions_of_interface i))
-      (λ n i h. all_built planned_function (test (as_interface n)) (rule (as_interface n)) (weaker (as_interface n)) (functions_of_interface i)
-      (ap (list_all (test (as_interface n))) (sym (functions_are i)) ∙ h))
-      r.interfaces.items pass.of_interfaces
+  interfaces_pass = each_by_number (λ n i. list_all (rule (as_interface n)) (functions_of_interface i)) r.interfaces.items interface_holds
 
   pub worlds_pass : each_from (λ n w. list_all (rule (as_world n)) (functions_of_world w)) 0 r.worlds.items ≡ true
-  worlds_pass = each_built planned_world (λ n w. list_all (test (as_world n)) (world_functions w)) (λ n w. list_all (rule (as_world n)) (functions_of_world w))
-      (λ n w h. all_built planned_function (test (as_world n)) (rule (as_world n)) (weaker (as_world n)) (functions_of_world w) (ap (list_all (test (as_world n))) (sym (world_functions_are w)) ∙ h))
-      r.worlds.items pass.of_worlds
+  worlds_pass = each_by_number (λ n w. list_all (rule (as_world n)) (functions_of_world w)) r.worlds.items world_holds
+
+-- the items of a world stand as the plan asks
+module _ (r : Resolve) (m : ℕ) (is : IsPlan (plan_of r m)) where
+  pub imports_there : (n : ℕ) (w : World) → world_at r n ≡ Some w → list_all (λ e. import_stands (plan_of r m) n (planned_key e.0, planned_item e.1)) w.imports.entries ≡ true
+  imports_there n w e = sym (list_all-map (import_stands (plan_of r m) n) (λ e. (planned_key e.0, planned_item e.1)) w.imports.entries)
+      ∙ each_there planned_world (λ n w. list_all (import_stands (plan_of r m) n) w.imports) r.worlds.items is.imports_stand n w e
+
+  pub exports_there : (n : ℕ) (w : World) → world_at r n ≡ Some w → list_all (λ e. export_stands (plan_of r m) (planned_key e.0, planned_item e.1)) w.exports.entries ≡ true
+  exports_there n w e = sym (list_all-map (export_stands (plan_of r m)) (λ e. (planned_key e.0, planned_item e.1)) w.exports.entries)
+      ∙ all_there planned_world (λ w. list_all (export_stands (plan_of r m)) w.exports) r.worlds.items is.exports_stand n w e
 
 -- ---- the parts of a kind
 

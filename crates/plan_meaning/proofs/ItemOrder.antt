@@ -20,7 +20,7 @@ use Rattle.plan_meaning.specs.Plan.{kind_numbers, used_by_numbers, type_in}
 use Rattle.plan_meaning.specs.PlanRules as planned
 use Rattle.plan_meaning.specs.PlanRules.{IsPlan}
 use Rattle.plan_meaning.specs.Built.{planned_kind, planned_type, planned_world, planned_item}
-use Rattle.plan_meaning.proofs.Lists.{or_of_map, same_or, each_built}
+use Rattle.plan_meaning.proofs.Lists.{or_of_map, same_or, each_built, or_there}
 use Rattle.plan_meaning.proofs.Words.{plan_of, function_numbers_are, has_owner_is, used_are, used_by_kind_is, interface_used_is, direct_uses_are}
 use Rattle.plan_meaning.proofs.FunctionRules.{items_are}
 use Rattle.plan_meaning.proofs.WorldItems.{item_interface_is}
@@ -39,10 +39,7 @@ module _ (r : Resolve) (m : ℕ) where
   interfaces_are (item.Type_ id) = ap option_to_list (interface_used_is r m id.0)
 
   used_number_is : (n : ℕ) → option_map_or (λ t. used_by_numbers (plan_of r m) (kind_numbers t.kind)) (type_in (plan_of r m) n) [] ≡ used_by_number r n
-  used_number_is n =
-      ap (λ o. option_map_or (λ t. used_by_numbers (plan_of r m) (kind_numbers t.kind)) o []) (get_of_map planned_type r.types.items n)
-      ∙ (or_of_map (λ t. used_by_numbers (plan_of r m) (kind_numbers t.kind)) planned_type [] (type_at r n)
-      ∙ same_or (λ def. used_by_numbers (plan_of r m) (kind_numbers (planned_kind def.kind))) (used_by_type r) [] (λ def. used_by_kind_is r m def.kind) (type_at r n))
+  used_number_is = or_there (λ t. used_by_numbers (plan_of r m) (kind_numbers t.kind)) planned_type (used_by_type r) [] (λ def. used_by_kind_is r m def.kind) r.types.items
 
   types_are : (w : ℕ) (x : WorldItem) → planned.used_types (plan_of r m) w (planned_item x) ≡ rules.used_types r w x
   types_are w (item.Interface id stability docs external_id) = refl

@@ -31,13 +31,15 @@ use Rattle.wit_model.proofs.Checks.{keeps_three}
 use Rattle.plan_meaning.specs.PlanRules as planned
 use Rattle.plan_meaning.specs.PlanRules.{IsPlan, names_of}
 use Rattle.plan_meaning.specs.Built.{part_of, planned_kind, planned_type, planned_function, planned_interface, planned_world, planned_key, planned_item, planned_entries, is_unknown, is_undocumented, is_bare, is_bare_type, is_bare_function, is_bare_interface, is_bare_item, is_bare_world, IsBare}
-use Rattle.plan_meaning.proofs.Lists.{all_built, each_built, each_from_built, each_two, each_all, no_true}
+use Rattle.plan_meaning.proofs.Lists.{all_built, each_built, each_from_built, each_two, each_all, no_true, all_there}
 use Rattle.plan_meaning.proofs.Words.{plan_of}
-use Rattle.plan_meaning.proofs.FunctionRules.{interfaces_pass, worlds_pass}
+use Rattle.plan_meaning.proofs.FunctionRules.{interfaces_pass, worlds_pass, interface_holds, world_holds, imports_there, exports_there}
 use Rattle.base_lemmas.proofs.Bools.{left_of as first_true, right_of as second_true}
-use Rattle.base_lemmas.proofs.Elements.{all_two, any_of_map}
+use Rattle.base_lemmas.proofs.Elements.{all_two, any_of_map, all_get}
 use Rattle.base_lemmas.proofs.Lists.{map_of_map}
 use Rattle.std.proofs.lemmas.Bool.{and_from as both}
+use Rattle.wit_model.proofs.RulesLemmas.{each_by_number}
+use Rattle.wit_model.specs.Lookup.{world_at}
 
 -- ---- stabilities
 
@@ -140,8 +142,7 @@ module _ (r : Resolve) (m : ℕ) (is : IsPlan (plan_of r m)) (bare : IsBare r) w
       all_two test (λ e. item_labels e.1) (λ e. key_label e.0 e.1 && item_labels e.1) (λ e a b. both _ _ (keys_pass e.0 e.1 a) b) es h
       (sym (list_all-map item_labels (λ e. e.1) es) ∙ all_two labelled_item is_bare_item item_labels item_passes (map (λ e. e.1) es) functions bare)
 
-  module _ (n : ℕ) (w : World) (name : is_label (text_of w.name) ≡ true) (imports : list_all (planned.import_stands (plan_of r m) n) (planned_entries w.imports.entries) ≡ true)
-      (exports : list_all (planned.export_stands (plan_of r m)) (planned_entries w.exports.entries) ≡ true)
+  module _ (n : ℕ) (w : World) (name : is_label (text_of w.name) ≡ true) (at : world_at r n ≡ Some w)
       (functions : list_all (λ f. planned.function_labels (planned_function f)) (functions_of_world w) ≡ true) (bare_world : is_bare_world w ≡ true) where
     items_labelled : (list_all labelled_item (map (λ e. e.1) w.imports.entries) && list_all labelled_item (map (λ e. e.1) w.exports.entries)) ≡ true
     items_labelled =
@@ -155,47 +156,18 @@ module _ (r : Resolve) (m : ℕ) (is : IsPlan (plan_of r m)) (bare : IsBare r) w
     world_passes =
         both _ _ name (both _ _ (bare_stability w.docs w.stability (first_true (is_bare w.docs w.stability) _ bare_world))
         (both _ _
-        (entries_pass (λ e. planned.import_stands (plan_of r m) n (planned_key e.0, planned_item e.1)) (import_key n) w.imports.entries
-        (sym (list_all-map (planned.import_stands (plan_of r m) n) (λ e. (planned_key e.0, planned_item e.1)) w.imports.entries) ∙ imports) (first_true _ _ items_labelled) (first_true _ _ bare_items))
-        (entries_pass (λ e. planned.export_stands (plan_of r m) (planned_key e.0, planned_item e.1)) export_key w.exports.entries
-        (sym (list_all-map (planned.export_stands (plan_of r m)) (λ e. (planned_key e.0, planned_item e.1)) w.exports.entries) ∙ exports)
+        (entries_pass (λ e. planned.import_stands (plan_of r m) n (planned_key e.0, planned_item e.1)) (import_key n) w.imports.entries (imports_there r m is n w at)
+        (first_true _ _ items_labelled) (first_true _ _ bare_items))
+        (entries_pass (λ e. planned.export_stands (plan_of r m) (planned_key e.0, planned_item e.1)) export_key w.exports.entries (exports_there r m is n w at)
         (second_true (list_all labelled_item (map (λ e. e.1) w.imports.entries)) _ items_labelled) (second_true (list_all is_bare_item (map (λ e. e.1) w.imports.entries)) _ bare_items))))
-
-  abbrev stands_right : ℕ → World → Bool
-  stands_right n w = (is_label (text_of w.name) && list_all (planned.import_stands (plan_of r m) n) (planned_entries w.imports.entries))
-      && (list_all (planned.export_stands (plan_of r m)) (planned_entries w.exports.entries) && is_bare_world w)
-
-  all_stand : each_from stands_right 0 r.worlds.items ≡ true
-  all_stand =
-      each_two (λ n w. is_label (text_of w.name) && list_all (planned.import_stands (plan_of r m) n) (planned_entries w.imports.entries))
-      (λ n w. list_all (planned.export_stands (plan_of r m)) (planned_entries w.exports.entries) && is_bare_world w) stands_right (λ n w a b. both _ _ a b) 0 r.worlds.items
-      (each_two (λ n w. is_label (text_of w.name)) (λ n w. list_all (planned.import_stands (plan_of r m) n) (planned_entries w.imports.entries))
-      (λ n w. is_label (text_of w.name) && list_all (planned.import_stands (plan_of r m) n) (planned_entries w.imports.entries)) (λ n w a b. both _ _ a b) 0 r.worlds.items
-      (each_from_built planned_world (λ w. is_label w.name) (λ w. is_label (text_of w.name)) (λ w h. h) r.worlds.items is.world_labels)
-      (each_built planned_world (λ n w. list_all (planned.import_stands (plan_of r m) n) w.imports) (λ n w. list_all (planned.import_stands (plan_of r m) n) (planned_entries w.imports.entries))
-      (λ n w h. h) r.worlds.items is.imports_stand))
-      (each_two (λ n w. list_all (planned.export_stands (plan_of r m)) (planned_entries w.exports.entries)) (λ n w. is_bare_world w)
-      (λ n w. list_all (planned.export_stands (plan_of r m)) (planned_entries w.exports.entries) && is_bare_world w) (λ n w a b. both _ _ a b) 0 r.worlds.items
-      (each_from_built planned_world (λ w. list_all (planned.export_stands (plan_of r m)) w.exports) (λ w. list_all (planned.export_stands (plan_of r m)) (planned_entries w.exports.entries))
-      (λ w h. h) r.worlds.items is.exports_stand)
-      (each_all is_bare_world 0 r.worlds.items ∙ bare.worlds))
 
   pub labels_kept : Keeps labels r
   unfolding labels
   labels_kept = keeps_three labels r refl
-      (each_two (λ n i. planned.interface_labels (planned_interface i) && is_bare_interface i) (λ n i. list_all (λ f. planned.function_labels (planned_function f)) (functions_of_interface i))
-      (λ n i. labels.interface_ r n i) (λ n i a b. interface_passes i (first_true _ _ a) (second_true (planned.interface_labels (planned_interface i)) _ a) b) 0 r.interfaces.items
-      (each_two (λ n i. planned.interface_labels (planned_interface i)) (λ n i. is_bare_interface i) (λ n i. planned.interface_labels (planned_interface i) && is_bare_interface i)
-      (λ n i a b. both _ _ a b) 0 r.interfaces.items
-      (each_from_built planned_interface planned.interface_labels (λ i. planned.interface_labels (planned_interface i)) (λ i h. h) r.interfaces.items is.interface_labels)
-      (each_all is_bare_interface 0 r.interfaces.items ∙ bare.interfaces))
-      (interfaces_pass r m (λ o f. planned.function_labels f) labelled (λ o f h. h) is.functions_labelled))
-      (each_two stands_right (λ n w. list_all (λ f. planned.function_labels (planned_function f)) (functions_of_world w)) (λ n w. labels.world_ r n w)
-      (λ n w a b.
-      let front = first_true (is_label (text_of w.name) && list_all (planned.import_stands (plan_of r m) n) (planned_entries w.imports.entries)) _ a in
-      let back = second_true (is_label (text_of w.name) && list_all (planned.import_stands (plan_of r m) n) (planned_entries w.imports.entries)) _ a in
-      world_passes n w (first_true _ _ front) (second_true (is_label (text_of w.name)) _ front) (first_true _ _ back) b
-      (second_true (list_all (planned.export_stands (plan_of r m)) (planned_entries w.exports.entries)) _ back))
-      0 r.worlds.items all_stand (worlds_pass r m (λ o f. planned.function_labels f) labelled (λ o f h. h) is.functions_labelled))
-      (each_two (λ n def. planned.type_labels (planned_type def)) (λ n def. is_bare_type def) (λ n def. labels.type_ r n def) (λ n def a b. type_passes def a b) 0 r.types.items
-      (each_from_built planned_type planned.type_labels (λ def. planned.type_labels (planned_type def)) (λ def h. h) r.types.items is.type_labels) (each_all is_bare_type 0 r.types.items ∙ bare.types))
+      (each_by_number (λ n i. labels.interface_ r n i) r.interfaces.items (λ n i e. interface_passes i
+      (all_there planned_interface planned.interface_labels r.interfaces.items is.interface_labels n i e) (all_get is_bare_interface r.interfaces.items n i bare.interfaces e)
+      (interface_holds r m (λ o f. planned.function_labels f) labelled (λ o f h. h) is.functions_labelled n i e)))
+      (each_by_number (λ n w. labels.world_ r n w) r.worlds.items (λ n w e. world_passes n w (all_there planned_world (λ w. is_label w.name) r.worlds.items is.world_labels n w e) e
+      (world_holds r m (λ o f. planned.function_labels f) labelled (λ o f h. h) is.functions_labelled n w e) (all_get is_bare_world r.worlds.items n w bare.worlds e)))
+      (each_by_number (λ n def. labels.type_ r n def) r.types.items (λ n def e.
+      type_passes def (all_there planned_type planned.type_labels r.types.items is.type_labels n def e) (all_get is_bare_type r.types.items n def bare.types e)))

@@ -22,7 +22,7 @@ use Rattle.plan_meaning.specs.PlanRules as planned
 use Rattle.plan_meaning.specs.PlanRules.{HoldsNoMore, IsPackagePlan, IsWorldPlan}
 use Rattle.plan_meaning.specs.Built.{IsBuilt, planned_kind, planned_type, planned_function, planned_interface, planned_world, planned_package}
 use Rattle.plan_meaning.specs.NothingElse.{is_part_of, TypesAreUsed, PackagesAreUsed, HoldsPackageAlone, HoldsWorldAlone}
-use Rattle.plan_meaning.proofs.Lists.{any_get, each_of_map}
+use Rattle.plan_meaning.proofs.Lists.{any_get, each_of_map, each_there}
 use Rattle.plan_meaning.proofs.Words.{plan_of, kind_numbers_are, function_numbers_are}
 use Rattle.plan_meaning.proofs.KindRules.{has_text}
 use Rattle.plan_meaning.proofs.FunctionRules.{functions_are, world_functions_are}
@@ -72,14 +72,12 @@ module _ (r : Resolve) (m : ℕ) where
   pub types_used : HoldsNoMore (plan_of r m) → TypesAreUsed r
   types_used more k def e =
       (λ i. sym (has_text def.name) i || (sym (part_is k) i && sym (lacks_text def.external_id) i))
-      ∙ each_at (λ n x. is_some (planned_type x).name || (planned.is_part (plan_of r m) n && is_none (planned_type x).external_id)) r.types.items k def
-      (sym (each_of_map (λ n t. is_some t.name || (planned.is_part (plan_of r m) n && is_none t.external_id)) planned_type 0 r.types.items) ∙ more.types) e
+      ∙ each_there planned_type (λ n t. is_some t.name || (planned.is_part (plan_of r m) n && is_none t.external_id)) r.types.items more.types k def e
 
   pub packages_used : HoldsNoMore (plan_of r m) → PackagesAreUsed r m
   packages_used more k q e =
       ap (λ b. (k == m) || b) (sym (some_items (λ x. (text_of x.0, x.1.0)) q.interfaces.entries))
-      ∙ each_at (λ n x. (n == m) || has_items (planned_package x).interfaces) r.packages.items k q
-      (sym (each_of_map (λ n x. (n == m) || has_items x.interfaces) planned_package 0 r.packages.items) ∙ more.packages) e
+      ∙ each_there planned_package (λ n x. (n == m) || has_items x.interfaces) r.packages.items more.packages k q e
 
   -- ---- one world
 
@@ -111,8 +109,7 @@ module _ (r : Resolve) (m : ℕ) where
         ∙ (ap (λ y. planned.is_shown_in y n) same
         ∙ item_by n i e i.name refl (λ t. option_map_or (λ k. is_id n (number_under t k.interfaces)) (option_and_then (package_in (plan_of r m)) (option_map (λ id. id.0) i.package)) false)
         (option_map_or (in_list (map planned_package r.packages.items)) (option_map (λ id. id.0) i.package) false)
-        (each_at (λ k x. planned.is_placed (plan_of r m) k (planned_interface x)) r.interfaces.items n i
-        (sym (each_of_map (planned.is_placed (plan_of r m)) planned_interface 0 r.interfaces.items) ∙ is.plan.interfaces_placed) e))
+        (each_there planned_interface (planned.is_placed (plan_of r m)) r.interfaces.items is.plan.interfaces_placed n i e))
 
     pub world_alone : HoldsWorldAlone r m w
     world_alone = record { one = one_world; interfaces = is_item; packages = packages_used is.no_more; types = types_used is.no_more }

@@ -33,24 +33,22 @@ use Rattle.plan_meaning.specs.Plan.{PlannedPackage, package_in}
 use Rattle.plan_meaning.specs.PlanRules as planned
 use Rattle.plan_meaning.specs.PlanRules.{IsPlan, fits, bears}
 use Rattle.plan_meaning.specs.Built.{planned_kind, planned_type, planned_function, planned_interface, planned_world, planned_package, planned_key, planned_item}
-use Rattle.plan_meaning.proofs.Lists.{all_built, each_of_map, each_built, each_from_built, each_two, no_true}
+use Rattle.plan_meaning.proofs.Lists.{all_built, each_of_map, each_built, each_from_built, each_two, no_true, each_there}
 use Rattle.plan_meaning.proofs.Words.{plan_of, kind_numbers_are, function_numbers_are}
-use Rattle.plan_meaning.proofs.FunctionRules.{interfaces_pass, worlds_pass, entries_pass}
+use Rattle.plan_meaning.proofs.FunctionRules.{interfaces_pass, worlds_pass, entries_pass, interface_holds, world_holds, imports_there, exports_there}
 use Rattle.plan_meaning.proofs.Listed.{in_range, interface_listed, world_listed, members_pass}
 use Rattle.base_lemmas.proofs.Bools.{left_of as first_true, right_of as second_true}
 use Rattle.base_lemmas.proofs.Elements.{all_two, all_weaker}
 use Rattle.base_lemmas.proofs.Lists.{given-some as some_given, length_of_map}
+use Rattle.wit_model.proofs.RulesLemmas.{each_at, each_by_number}
 
 -- ---- lists that fit
 
 place_fits : (n l : ℕ) → n < l → nat_le l 4294967295 ≡ true → is_place n ≡ true
 place_fits n l less h = grind (arith, nat_tests, less, h)
 
-places_fit : {A B : Type 0} (g : A → B) (xs : List A) → fits (map g xs) ≡ true → each_from (λ n x. is_place n) 0 xs ≡ true
-places_fit g xs h =
-    each_from_all (λ n x. is_place n) 0 xs (λ n x e.
-    let less : 0 + n < length xs = let l = slice_get_within xs n x e in omega (arith, l) in
-    place_fits (0 + n) (length xs) less (ap (λ l. nat_le l 4294967295) (sym (length_of_map g xs)) ∙ h))
+place_there : {A B : Type 0} (g : A → B) (xs : List A) → fits (map g xs) ≡ true → (n : ℕ) (x : A) → slice_get xs n ≡ Some x → is_place n ≡ true
+place_there g xs h n x e = place_fits n (length xs) (slice_get_within xs n x e) (ap (λ l. nat_le l 4294967295) (sym (length_of_map g xs)) ∙ h)
 
 -- ---- what has to stand there
 
@@ -97,31 +95,23 @@ module _ (r : Resolve) (m : ℕ) (is : IsPlan (plan_of r m)) where
 
   packages_range : each_from (λ n p. is_place n && (list_all (λ id. in_list r.interfaces.items id.0) (values p.interfaces) && list_all (λ id. in_list r.worlds.items id.0) (values p.worlds))) 0
       r.packages.items ≡ true
-  packages_range =
-      each_two (λ n p. is_place n) (λ n p. list_all (λ e. in_list r.interfaces.items e.1.0) p.interfaces.entries && list_all (λ e. in_list r.worlds.items e.1.0) p.worlds.entries)
-      (λ n p. is_place n && (list_all (λ id. in_list r.interfaces.items id.0) (values p.interfaces) && list_all (λ id. in_list r.worlds.items id.0) (values p.worlds)))
-      (λ n p a b. both _ _ a ((λ j. list_all-map (λ id. in_list r.interfaces.items id.0) (λ e. e.1) p.interfaces.entries j && list_all-map (λ id. in_list r.worlds.items id.0) (λ e. e.1)
-      p.worlds.entries j) ∙ b)) 0 r.packages.items
-      (places_fit planned_package r.packages.items is.packages_fit)
-      (members_pass r m is (λ n e. in_list r.interfaces.items e.1.0) (λ n e. in_list r.worlds.items e.1.0) (λ n e h. (interface_listed r m is n e h).0) (λ n e h. (world_listed r m is n e h).0))
+  packages_range = each_by_number (λ n p. is_place n && (list_all (λ id. in_list r.interfaces.items id.0) (values p.interfaces) && list_all (λ id. in_list r.worlds.items id.0) (values p.worlds)))
+      r.packages.items (λ n p e. both _ _ (place_there planned_package r.packages.items is.packages_fit n p e)
+      ((λ j. list_all-map (λ id. in_list r.interfaces.items id.0) (λ e. e.1) p.interfaces.entries j && list_all-map (λ id. in_list r.worlds.items id.0) (λ e. e.1) p.worlds.entries j)
+      ∙ each_at (λ n p. list_all (λ e. in_list r.interfaces.items e.1.0) p.interfaces.entries && list_all (λ e. in_list r.worlds.items e.1.0) p.worlds.entries) r.packages.items n p
+      (members_pass r m is (λ n e. in_list r.interfaces.items e.1.0) (λ n e. in_list r.worlds.items e.1.0) (λ n e h. (interface_listed r m is n e h).0) (λ n e h. (world_listed r m is n e h).0)) e))
 
   interfaces_range : each_from (λ n i. is_place n && (passes (in_list r.packages.items) (package_number i.package)
       && (list_all (λ id. in_list r.types.items id.0) (values i.types) && list_all (rules.function_in_range r) (values i.functions)))) 0 r.interfaces.items ≡ true
-  interfaces_range =
-      each_two (λ n i. is_place n) (λ n i. passes (in_list r.packages.items) (package_number i.package)
-      && (list_all (λ id. in_list r.types.items id.0) (values i.types) && list_all (rules.function_in_range r) (values i.functions)))
-      _ (λ n i a b. both _ _ a b) 0 r.interfaces.items (places_fit planned_interface r.interfaces.items is.interfaces_fit)
-      (each_two (λ n i. passes (in_list r.packages.items) (package_number i.package))
-      (λ n i. list_all (λ id. in_list r.types.items id.0) (values i.types) && list_all (rules.function_in_range r) (values i.functions))
-      _ (λ n i a b. both _ _ a b) 0 r.interfaces.items (each_built planned_interface (planned.is_placed (plan_of r m)) (λ n i. passes (in_list r.packages.items) (package_number i.package))
-      interface_home r.interfaces.items is.interfaces_placed)
-      (each_two (λ n i. list_all (λ id. in_list r.types.items id.0) (values i.types)) (λ n i. list_all (rules.function_in_range r) (functions_of_interface i)) _ (λ n i a b. both _ _ a b) 0
-      r.interfaces.items
-      (each_built planned_interface (λ n i. list_all (planned.is_type_of (plan_of r m) (as_interface n)) i.types) (λ n i. list_all (λ id. in_list r.types.items id.0) (values i.types))
-      (λ n i h. list_all-map (λ id. in_list r.types.items id.0) (λ e. e.1) i.types.entries
+  interfaces_range = each_by_number (λ n i. is_place n && (passes (in_list r.packages.items) (package_number i.package)
+      && (list_all (λ id. in_list r.types.items id.0) (values i.types) && list_all (rules.function_in_range r) (values i.functions)))) r.interfaces.items (λ n i e.
+      both _ _ (place_there planned_interface r.interfaces.items is.interfaces_fit n i e)
+      (both _ _ (interface_home n i (each_there planned_interface (planned.is_placed (plan_of r m)) r.interfaces.items is.interfaces_placed n i e))
+      (both _ _
+      (list_all-map (λ id. in_list r.types.items id.0) (λ e. e.1) i.types.entries
       ∙ all_built (λ e. (text_of e.0, e.1.0)) (planned.is_type_of (plan_of r m) (as_interface n)) (λ e. in_list r.types.items e.1.0) (λ e k. type_found (as_interface n) (text_of e.0) e.1.0 k)
-      i.types.entries h) r.interfaces.items is.interface_types)
-      (interfaces_pass r m (λ o f. planned.function_in_range (plan_of r m) f) (λ o f. rules.function_in_range r f) function_range is.functions_in_range)))
+      i.types.entries (each_there planned_interface (λ n i. list_all (planned.is_type_of (plan_of r m) (as_interface n)) i.types) r.interfaces.items is.interface_types n i e))
+      (interface_holds r m (λ o f. planned.function_in_range (plan_of r m) f) (λ o f. rules.function_in_range r f) function_range is.functions_in_range n i e))))
 
   -- ---- worlds
 
@@ -152,33 +142,18 @@ module _ (r : Resolve) (m : ℕ) (is : IsPlan (plan_of r m)) where
 
   worlds_range : each_from (λ n w. is_place n && (passes (in_list r.packages.items) (package_number w.package) && (entries_in_range r w.imports.entries && entries_in_range r w.exports.entries))) 0
       r.worlds.items ≡ true
-  worlds_range =
-      each_two (λ n w. is_place n) (λ n w. passes (in_list r.packages.items) (package_number w.package) && (entries_in_range r w.imports.entries && entries_in_range r w.exports.entries))
-      _ (λ n w a b. both _ _ a b) 0 r.worlds.items (places_fit planned_world r.worlds.items is.worlds_fit)
-      (each_two (λ n w. passes (in_list r.packages.items) (package_number w.package)) (λ n w. entries_in_range r w.imports.entries && entries_in_range r w.exports.entries)
-      _ (λ n w a b. both _ _ a b) 0 r.worlds.items
-      (each_built planned_world (planned.is_world_placed (plan_of r m)) (λ n w. passes (in_list r.packages.items) (package_number w.package))
-      (λ n w h. package_found (λ k. is_id n (plan.number_under (text_of w.name) k.worlds)) w.package h) r.worlds.items is.worlds_placed)
-      (each_two (λ n w. list_all (planned.import_stands (plan_of r m) n) (planned_world w).imports && list_all (planned.export_stands (plan_of r m)) (planned_world w).exports)
-      (λ n w. list_all (rules.function_in_range r) (functions_of_world w))
-      (λ n w. entries_in_range r w.imports.entries && entries_in_range r w.exports.entries)
-      (λ n w a b.
-      let fs = entries_pass (rules.function_in_range r) w b in
-      both _ _
-      (all_two (λ e. planned.import_stands (plan_of r m) n (planned_key e.0, planned_item e.1)) (λ e. passes (rules.function_in_range r) (item_function e.1))
-      (λ e. key_in_range r e.0 && item_in_range r e.1) (import_range n) w.imports.entries
-      (sym (list_all-map (planned.import_stands (plan_of r m) n) (λ e. (planned_key e.0, planned_item e.1)) w.imports.entries) ∙ first_true _ _ a) fs.0)
-      (all_two (λ e. planned.export_stands (plan_of r m) (planned_key e.0, planned_item e.1)) (λ e. passes (rules.function_in_range r) (item_function e.1))
-      (λ e. key_in_range r e.0 && item_in_range r e.1) export_range w.exports.entries
-      (sym (list_all-map (planned.export_stands (plan_of r m)) (λ e. (planned_key e.0, planned_item e.1)) w.exports.entries) ∙ second_true
-      (list_all (planned.import_stands (plan_of r m) n) (planned_world w).imports) _ a) fs.1)) 0 r.worlds.items
-      (each_two (λ n w. list_all (planned.import_stands (plan_of r m) n) (planned_world w).imports) (λ n w. list_all (planned.export_stands (plan_of r m)) (planned_world w).exports) _
-      (λ n w a b. both _ _ a b) 0 r.worlds.items
-      (each_built planned_world (λ n w. list_all (planned.import_stands (plan_of r m) n) w.imports) (λ n w. list_all (planned.import_stands (plan_of r m) n) (planned_world w).imports) (λ n w h. h)
-      r.worlds.items is.imports_stand)
-      (each_from_built planned_world (λ w. list_all (planned.export_stands (plan_of r m)) w.exports) (λ w. list_all (planned.export_stands (plan_of r m)) (planned_world w).exports) (λ w h. h)
-      r.worlds.items is.exports_stand))
-      (worlds_pass r m (λ o f. planned.function_in_range (plan_of r m) f) (λ o f. rules.function_in_range r f) function_range is.functions_in_range)))
+  worlds_range = each_by_number (λ n w. is_place n && (passes (in_list r.packages.items) (package_number w.package) && (entries_in_range r w.imports.entries && entries_in_range r w.exports.entries)))
+      r.worlds.items (λ n w e.
+      let fs = entries_pass (rules.function_in_range r) w
+      (world_holds r m (λ o f. planned.function_in_range (plan_of r m) f) (λ o f. rules.function_in_range r f) function_range is.functions_in_range n w e) in
+      both _ _ (place_there planned_world r.worlds.items is.worlds_fit n w e)
+      (both _ _
+      (package_found (λ k. is_id n (plan.number_under (text_of w.name) k.worlds)) w.package (each_there planned_world (planned.is_world_placed (plan_of r m)) r.worlds.items is.worlds_placed n w e))
+      (both _ _
+      (all_two (λ x. planned.import_stands (plan_of r m) n (planned_key x.0, planned_item x.1)) (λ x. passes (rules.function_in_range r) (item_function x.1))
+      (λ x. key_in_range r x.0 && item_in_range r x.1) (import_range n) w.imports.entries (imports_there r m is n w e) fs.0)
+      (all_two (λ x. planned.export_stands (plan_of r m) (planned_key x.0, planned_item x.1)) (λ x. passes (rules.function_in_range r) (item_function x.1))
+      (λ x. key_in_range r x.0 && item_in_range r x.1) export_range w.exports.entries (exports_there r m is n w e) fs.1))))
 
   -- ---- types
 
@@ -197,21 +172,13 @@ module _ (r : Resolve) (m : ℕ) (is : IsPlan (plan_of r m)) where
   owner_by n (Some s) o h = owned n (text_of s) o h
 
   types_range : each_from (λ n def. is_place n && (list_all (in_list r.types.items) (parts.kind_numbers def.kind) && owner_in_range r def.owner)) 0 r.types.items ≡ true
-  types_range =
-      each_two (λ n def. is_place n) (λ n def. list_all (in_list r.types.items) (parts.kind_numbers def.kind) && owner_in_range r def.owner) _ (λ n def a b. both _ _ a b) 0 r.types.items
-      (places_fit planned_type r.types.items is.types_fit)
-      (each_two (λ n def. list_all (in_list r.types.items) (parts.kind_numbers def.kind)) (λ n def. owner_in_range r def.owner) _ (λ n def a b. both _ _ a b) 0 r.types.items
-      (each_from_all (λ n def. list_all (in_list r.types.items) (parts.kind_numbers def.kind)) 0 r.types.items (λ n def e.
-      below n (length r.types.items) (slice_get_within r.types.items n def e) (parts.kind_numbers def.kind)
-      (ap (list_all (λ k. nat_lt k n)) (sym (kind_numbers_are def.kind)) ∙ falls n def e)))
-      (each_built planned_type (planned.is_listed (plan_of r m)) (λ n def. owner_in_range r def.owner) (λ n def h. owner_by n def.name def.owner h) r.types.items is.types_listed))
-    where
-      falls : (n : ℕ) (def : TypeDef) → slice_get r.types.items n ≡ Some def → list_all (λ k. nat_lt k n) (plan.kind_numbers (planned_kind def.kind)) ≡ true
-      falls n def e =
-          let at : 0 + n ≡ n = omega arith in
-          subst (λ j. list_all (λ k. nat_lt k j) (plan.kind_numbers (planned_kind def.kind)) ≡ true) at
-          (each_from_at (λ j x. list_all (λ k. nat_lt k j) (plan.kind_numbers (planned_kind x.kind))) 0 r.types.items n def
-          (sym (each_of_map (λ j t. list_all (λ k. nat_lt k j) (plan.kind_numbers t.kind)) planned_type 0 r.types.items) ∙ is.types_fall) e)
+  types_range = each_by_number (λ n def. is_place n && (list_all (in_list r.types.items) (parts.kind_numbers def.kind) && owner_in_range r def.owner)) r.types.items (λ n def e.
+      both _ _ (place_there planned_type r.types.items is.types_fit n def e)
+      (both _ _
+      (below n (length r.types.items) (slice_get_within r.types.items n def e) (parts.kind_numbers def.kind)
+      (ap (list_all (λ k. nat_lt k n)) (sym (kind_numbers_are def.kind))
+      ∙ each_there planned_type (λ j t. list_all (λ k. nat_lt k j) (plan.kind_numbers t.kind)) r.types.items is.types_fall n def e))
+      (owner_by n def.name def.owner (each_there planned_type (planned.is_listed (plan_of r m)) r.types.items is.types_listed n def e))))
 
   pub numbers_kept : Keeps numbers_in_range r
   unfolding numbers_in_range

@@ -26,10 +26,10 @@ use Rattle.plan_meaning.specs.Plan.{type_in}
 use Rattle.plan_meaning.specs.PlanRules as planned
 use Rattle.plan_meaning.specs.PlanRules.{IsPlan}
 use Rattle.plan_meaning.specs.Built.{planned_type, planned_function, planned_interface}
-use Rattle.plan_meaning.proofs.Lists.{or_of_map, same_or, each_two, each_from_built, each_of_map, or_there}
+use Rattle.plan_meaning.proofs.Lists.{or_of_map, same_or, each_two, each_from_built, each_of_map, or_there, each_there}
 use Rattle.plan_meaning.proofs.Words.{plan_of, alias_is, value_numbers_are, has_owner_is, used_are, used_by_kind_is, interfaces_used_are}
 use Rattle.plan_meaning.proofs.KindRules.{has_text}
-use Rattle.plan_meaning.proofs.FunctionRules.{interfaces_pass, worlds_pass}
+use Rattle.plan_meaning.proofs.FunctionRules.{interfaces_pass, worlds_pass, interface_holds}
 use Rattle.std.proofs.lemmas.Bool.{and_from as both}
 use Rattle.std.proofs.lemmas.Option.{slice_get-map as get_of_map}
 use Rattle.wit_model.proofs.RulesLemmas.{each_at, each_by_number}
@@ -77,15 +77,12 @@ module _ (r : Resolve) (m : ℕ) where
         sym (used_within r n i e)
         ∙ (sym (list_all_filter_map (λ k. nat_le k n) (λ id. uses.interface_used_by r id.0) (values i.types))
         ∙ (ap (list_all (λ k. nat_le k n)) (sym (interfaces_used_are r m i))
-        ∙ each_at (λ k x. list_all (λ j. nat_le j k) (plan.interfaces_used_by (plan_of r m) (planned_interface x))) r.interfaces.items n i
-        (sym (each_of_map (λ k x. list_all (λ j. nat_le j k) (plan.interfaces_used_by (plan_of r m) x)) planned_interface 0 r.interfaces.items) ∙ is.uses_fall) e))
+        ∙ each_there planned_interface (λ k x. list_all (λ j. nat_le j k) (plan.interfaces_used_by (plan_of r m) x)) r.interfaces.items is.uses_fall n i e))
 
     pub owners_kept : Keeps owners r
     unfolding owners
     owners_kept = keeps_three owners r refl
-        (each_two (λ n i. list_all (rules.function_stays r (as_interface n)) (functions_of_interface i)) (λ n i. list_all (λ k. nat_lt k n) (direct_deps r n)) (λ n i. owners.interface_ r n i)
-        (λ n i a b. both _ _ a b) 0 r.interfaces.items
-        (interfaces_pass r m (planned.function_stays (plan_of r m)) (rules.function_stays r) stays is.functions_stay)
-        (each_by_number (λ n i. list_all (λ k. nat_lt k n) (direct_deps r n)) r.interfaces.items falls))
+        (each_by_number (λ n i. owners.interface_ r n i) r.interfaces.items (λ n i e. both _ _
+        (interface_holds r m (planned.function_stays (plan_of r m)) (rules.function_stays r) stays is.functions_stay n i e) (falls n i e)))
         (worlds_pass r m (planned.function_stays (plan_of r m)) (rules.function_stays r) stays is.functions_stay)
         (each_from_built planned_type (planned.type_stays (plan_of r m)) (rules.type_stays r) (λ def h. sym (type_stays_is def) ∙ h) r.types.items is.types_stay)

@@ -28,7 +28,7 @@ use Rattle.plan_meaning.specs.Plan.{number_under, package_in}
 use Rattle.plan_meaning.specs.PlanRules as planned
 use Rattle.plan_meaning.specs.PlanRules.{IsPlan, names_of, members_differ}
 use Rattle.plan_meaning.specs.Built.{planned_interface, planned_world, planned_package, planned_item}
-use Rattle.plan_meaning.proofs.Lists.{all_of_map, each_two, each_built, each_from_built, no_true}
+use Rattle.plan_meaning.proofs.Lists.{all_of_map, each_two, each_built, each_from_built, no_true, all_there}
 use Rattle.plan_meaning.proofs.Words.{plan_of}
 use Rattle.plan_meaning.proofs.FunctionRules.{items_are}
 use Rattle.plan_meaning.proofs.Listed.{interface_listed, world_listed, members_pass}
@@ -124,8 +124,7 @@ module _ (r : Resolve) (m : ℕ) (is : IsPlan (plan_of r m)) where
   -- ---- interfaces
 
   differs_at : (q : ℕ) (p : Package) → package_at r q ≡ Some p → members_differ (planned_package p) ≡ true
-  differs_at q p e = all_get members_differ (map planned_package r.packages.items) q (planned_package p) is.members_differ
-      (get_of_map planned_package r.packages.items q ∙ ap (option_map planned_package) e)
+  differs_at = all_there planned_package members_differ r.packages.items is.members_differ
 
   named_at : (n : ℕ) (name : Text) (o : Option PackageId)
       → option_map_or (λ k. is_id n (number_under name k.interfaces)) (option_and_then (package_in (plan_of r m)) (option_map (λ id. id.0) o)) false ≡ true

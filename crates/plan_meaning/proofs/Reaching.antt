@@ -32,7 +32,7 @@ use Rattle.plan_meaning.specs.Plan.{PlannedInterface, PlannedWorld, PlannedItem,
 use Rattle.plan_meaning.specs.PlanRules as planned
 use Rattle.plan_meaning.specs.PlanRules.{IsPlan, IsWanted, shown, used}
 use Rattle.plan_meaning.specs.Built.{planned_interface, planned_world, planned_package}
-use Rattle.plan_meaning.proofs.Lists.{each_of_map, any_get, no_true}
+use Rattle.plan_meaning.proofs.Lists.{each_of_map, any_get, no_true, each_there}
 use Rattle.wit_model.proofs.UsesLemmas.{has_filter}
 use Rattle.plan_meaning.proofs.Words.{plan_of, direct_uses_are}
 use Rattle.plan_meaning.proofs.FunctionRules.{items_are}
@@ -117,8 +117,7 @@ module _ (r : Resolve) (m : ℕ) (is : IsPlan (plan_of r m)) (v : IsValid r) (p 
   pub world_among : (j : ℕ) (w : World) → world_at r j ≡ Some w → Contains (worlds_of r p) w
   world_among j w e =
       let planned_at : slice_get (map planned_world r.worlds.items) j ≡ Some (planned_world w) = get_of_map planned_world r.worlds.items j ∙ ap (option_map planned_world) e in
-      let placed = each_at (λ k x. planned.is_world_placed (plan_of r m) k (planned_world x)) r.worlds.items j w
-      (sym (each_of_map (planned.is_world_placed (plan_of r m)) planned_world 0 r.worlds.items) ∙ is.worlds_placed) e in
+      let placed = each_there planned_world (planned.is_world_placed (plan_of r m)) r.worlds.items is.worlds_placed j w e in
       let listed = main_package (λ k. is_id j (number_under (text_of w.name) k.worlds)) w.package
       (all_get (λ x. is_id m x.package_) (map planned_world r.worlds.items) j (planned_world w) home planned_at) placed in
       let stands = map_from (λ (id : WorldId). id.0) (values p.worlds) j (has-contains (map (λ id. id.0) (values p.worlds)) j
@@ -186,8 +185,7 @@ module _ (r : Resolve) (m : ℕ) (is : IsPlan (plan_of r m)) (v : IsValid r) (p 
         go false other = by_reason n (wanted n (planned_interface i) (get_of_map planned_interface r.interfaces.items n ∙ ap (option_map planned_interface) e) (foreign other))
 
     why : (n : ℕ) (i : Interface) → interface_at r n ≡ Some i → Why n
-    why n i e = why_by n i e i.name refl (each_at (λ k x. planned.is_placed (plan_of r m) k (planned_interface x)) r.interfaces.items n i
-        (sym (each_of_map (planned.is_placed (plan_of r m)) planned_interface 0 r.interfaces.items) ∙ is.interfaces_placed) e)
+    why n i e = why_by n i e i.name refl (each_there planned_interface (planned.is_placed (plan_of r m)) r.interfaces.items is.interfaces_placed n i e)
 
     abbrev Leads : ℕ → Type 0
     Leads n = (s : ℕ) × (k : ℕ) × (has starts s ≡ true) × Chain r k s n

@@ -34,7 +34,7 @@ use Rattle.plan_meaning.specs.Plan.{number_under, numbers_of}
 use Rattle.plan_meaning.specs.PlanRules as planned
 use Rattle.plan_meaning.specs.PlanRules.{IsPlan, are_rising, is_under_label}
 use Rattle.plan_meaning.specs.Built.{planned_type, planned_interface, planned_world, planned_key, planned_item}
-use Rattle.plan_meaning.proofs.Lists.{then_of_map, same_then, all_built, each_two, each_built, each_from_built, no_true}
+use Rattle.plan_meaning.proofs.Lists.{then_of_map, same_then, all_built, each_two, each_built, each_from_built, no_true, each_there, all_there}
 use Rattle.plan_meaning.proofs.Words.{plan_of, kind_numbers_are}
 use Rattle.plan_meaning.proofs.FunctionRules.{values_are}
 use Rattle.plan_meaning.proofs.Listed.{passes_weaker}
@@ -47,6 +47,7 @@ use Rattle.base_lemmas.proofs.Lists.{filter_of_map, map_of_map}
 use Rattle.base_lemmas.proofs.Maps.{lookup_of_map}
 use Rattle.std.proofs.lemmas.Option.{slice_get-map as get_of_map}
 use Rattle.wit_model.proofs.TextLemmas.{named_too}
+use Rattle.wit_model.proofs.RulesLemmas.{each_by_number}
 
 -- ---- the lists of types
 
@@ -121,10 +122,7 @@ module _ (r : Resolve) (m : ℕ) (is : IsPlan (plan_of r m)) where
   -- ---- types
 
   rises_at : (n : ℕ) (i : Interface) → interface_at r n ≡ Some i → are_rising (interface_type_numbers i) ≡ true
-  rises_at n i e =
-      ap are_rising (sym (type_numbers_are i))
-      ∙ all_get (λ x. are_rising (numbers_of x.types)) (map planned_interface r.interfaces.items) n (planned_interface i) is.types_rise
-      (get_of_map planned_interface r.interfaces.items n ∙ ap (option_map planned_interface) e)
+  rises_at n i e = ap are_rising (sym (type_numbers_are i)) ∙ all_there planned_interface (λ x. are_rising (numbers_of x.types)) r.interfaces.items is.types_rise n i e
 
   world_rises_at : (n : ℕ) (w : World) → world_at r n ≡ Some w → are_rising (world_type_numbers w) ≡ true
   world_rises_at n w e =
@@ -176,19 +174,12 @@ module _ (r : Resolve) (m : ℕ) (is : IsPlan (plan_of r m)) where
   pub order_of_types_kept : Keeps order_of_types r
   unfolding order_of_types
   order_of_types_kept = keeps_three order_of_types r refl
-      (each_two (λ n i. list_all (planned.is_type_of (plan_of r m) (as_interface n)) (planned_interface i).types) (λ n i. are_rising (numbers_of (planned_interface i).types))
-      (λ n i. order_of_types.interface_ r n i) interface_passes 0 r.interfaces.items
-      (each_built planned_interface (λ n i. list_all (planned.is_type_of (plan_of r m) (as_interface n)) i.types)
-      (λ n i. list_all (planned.is_type_of (plan_of r m) (as_interface n)) (planned_interface i).types) (λ n i h. h) r.interfaces.items is.interface_types)
-      (each_from_built planned_interface (λ i. are_rising (numbers_of i.types)) (λ i. are_rising (numbers_of (planned_interface i).types)) (λ i h. h) r.interfaces.items is.types_rise))
-      (each_two (λ n w. list_all (planned.import_stands (plan_of r m) n) (planned_world w).imports) (λ n w. are_rising (plan.world_types (planned_world w))) (λ n w. order_of_types.world_ r n w)
-      world_passes 0 r.worlds.items
-      (each_built planned_world (λ n w. list_all (planned.import_stands (plan_of r m) n) w.imports) (λ n w. list_all (planned.import_stands (plan_of r m) n) (planned_world w).imports) (λ n w h. h)
-      r.worlds.items is.imports_stand)
-      (each_from_built planned_world (λ w. are_rising (plan.world_types w)) (λ w. are_rising (plan.world_types (planned_world w))) (λ w h. h) r.worlds.items is.world_types_rise))
-      (each_two (λ n def. list_all (λ j. nat_lt j n) (parts.kind_numbers def.kind)) (λ n def. option_map_or (λ s. rules.is_listed r n (text_of s) def.owner) def.name (same_owner def.owner owner.None))
-      (λ n def. order_of_types.type_ r n def) (λ n def a b. both _ _ a b) 0 r.types.items
-      (each_built planned_type (λ n t. list_all (λ j. nat_lt j n) (plan.kind_numbers t.kind)) (λ n def. list_all (λ j. nat_lt j n) (parts.kind_numbers def.kind))
-      (λ n def h. ap (list_all (λ j. nat_lt j n)) (sym (kind_numbers_are def.kind)) ∙ h) r.types.items is.types_fall)
-      (each_built planned_type (planned.is_listed (plan_of r m)) (λ n def. option_map_or (λ s. rules.is_listed r n (text_of s) def.owner) def.name (same_owner def.owner owner.None))
-      (λ n def h. listed_by n def.name def.owner h) r.types.items is.types_listed))
+      (each_by_number (λ n i. order_of_types.interface_ r n i) r.interfaces.items (λ n i e. interface_passes n i
+      (each_there planned_interface (λ n i. list_all (planned.is_type_of (plan_of r m) (as_interface n)) i.types) r.interfaces.items is.interface_types n i e)
+      (all_there planned_interface (λ i. are_rising (numbers_of i.types)) r.interfaces.items is.types_rise n i e)))
+      (each_by_number (λ n w. order_of_types.world_ r n w) r.worlds.items (λ n w e. world_passes n w
+      (each_there planned_world (λ n w. list_all (planned.import_stands (plan_of r m) n) w.imports) r.worlds.items is.imports_stand n w e)
+      (all_there planned_world (λ w. are_rising (plan.world_types w)) r.worlds.items is.world_types_rise n w e)))
+      (each_by_number (λ n def. order_of_types.type_ r n def) r.types.items (λ n def e. both _ _
+      (ap (list_all (λ j. nat_lt j n)) (sym (kind_numbers_are def.kind)) ∙ each_there planned_type (λ n t. list_all (λ j. nat_lt j n) (plan.kind_numbers t.kind)) r.types.items is.types_fall n def e)
+      (listed_by n def.name def.owner (each_there planned_type (planned.is_listed (plan_of r m)) r.types.items is.types_listed n def e))))

@@ -27,6 +27,9 @@ use Rattle.plan_meaning.proofs.Listed.{there, passes_weaker, bears_is}
 use Rattle.base_lemmas.proofs.Bools.{left_of as first_true, right_of as second_true}
 use Rattle.std.proofs.lemmas.Bool.{and_from as both}
 use Rattle.std.proofs.lemmas.Option.{slice_get-map as get_of_map}
+use Rattle.base_lemmas.proofs.Elements.{all_weaker}
+use Rattle.wit_model.proofs.RulesLemmas.{each_by_number}
+use Rattle.plan_meaning.proofs.FunctionRules.{imports_there, exports_there}
 
 pub item_interface_is : (x : WorldItem) → plan.item_interface (planned_item x) ≡ uses.item_interface x
 item_interface_is (item.Interface id stability docs external_id) = refl
@@ -63,11 +66,9 @@ module _ (r : Resolve) (m : ℕ) (is : IsPlan (plan_of r m)) where
   pub world_items_kept : Keeps world_items r
   unfolding world_items
   world_items_kept = worlds_keep (λ r n w. list_all (λ e. rules.import_stands r n e.0 e.1) w.imports.entries && list_all (λ e. rules.export_stands r e.0 e.1) w.exports.entries) r
-      (each_two (λ n w. list_all (λ e. rules.import_stands r n e.0 e.1) w.imports.entries) (λ n w. list_all (λ e. rules.export_stands r e.0 e.1) w.exports.entries)
-      (λ n w. list_all (λ e. rules.import_stands r n e.0 e.1) w.imports.entries && list_all (λ e. rules.export_stands r e.0 e.1) w.exports.entries) (λ n w a b. both _ _ a b) 0 r.worlds.items
-      (each_built planned_world (λ n w. list_all (planned.import_stands (plan_of r m) n) w.imports) (λ n w. list_all (λ e. rules.import_stands r n e.0 e.1) w.imports.entries)
-      (λ n w h. all_built (λ e. (planned_key e.0, planned_item e.1)) (planned.import_stands (plan_of r m) n) (λ e. rules.import_stands r n e.0 e.1) (λ e k. import_passes n e.0 e.1 k) w.imports.entries
-      h) r.worlds.items is.imports_stand)
-      (each_from_built planned_world (λ w. list_all (planned.export_stands (plan_of r m)) w.exports) (λ w. list_all (λ e. rules.export_stands r e.0 e.1) w.exports.entries)
-      (λ w h. all_built (λ e. (planned_key e.0, planned_item e.1)) (planned.export_stands (plan_of r m)) (λ e. rules.export_stands r e.0 e.1) (λ e k. export_passes e.0 e.1 k) w.exports.entries h)
-      r.worlds.items is.exports_stand))
+      (each_by_number (λ n w. list_all (λ e. rules.import_stands r n e.0 e.1) w.imports.entries && list_all (λ e. rules.export_stands r e.0 e.1) w.exports.entries) r.worlds.items (λ n w at.
+      both _ _
+      (all_weaker (λ e. planned.import_stands (plan_of r m) n (planned_key e.0, planned_item e.1)) (λ e. rules.import_stands r n e.0 e.1) (λ e k. import_passes n e.0 e.1 k) w.imports.entries
+      (imports_there r m is n w at))
+      (all_weaker (λ e. planned.export_stands (plan_of r m) (planned_key e.0, planned_item e.1)) (λ e. rules.export_stands r e.0 e.1) (λ e k. export_passes e.0 e.1 k) w.exports.entries
+      (exports_there r m is n w at))))
