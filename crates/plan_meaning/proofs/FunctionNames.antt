@@ -44,6 +44,7 @@ use Rattle.base_lemmas.proofs.Elements.{all_two}
 use Rattle.std.proofs.lemmas.Bool.{and_from as both}
 use Rattle.std.proofs.lemmas.Option.{slice_get-map as get_of_map}
 use Rattle.wit_model.proofs.RulesLemmas.{each_by_number}
+use Rattle.plan_meaning.proofs.Listed.{passes_both}
 
 pub unnamed : (o : Option (String Global)) → is_none (optional_text o) ≡ is_none o
 unnamed None = refl
@@ -139,10 +140,6 @@ module _ (r : Resolve) (m : ℕ) where
   export_key (key.Name name) (item.Function f) h = first_true (text_eq (text_of name) (text_of f.name)) _ (first_true (planned.is_function_key (text_of name) (planned_function f)) _ h)
   export_key _ _ h = refl
 
-  passes_both : (p q : Function → Bool) (o : Option Function) → passes p o ≡ true → passes q o ≡ true → passes (λ f. p f && q f) o ≡ true
-  passes_both p q None h k = refl
-  passes_both p q (Some f) h k = both _ _ h k
-
   module _ (is : IsPlan (plan_of r m)) where
     abbrev is_right : ℕ → WorldKey × WorldItem → Bool
     is_right n e = passes (λ f. is_name_key (text_of f.name) e.0 && rules.is_member r (as_world n) f) (item_function e.1)
@@ -153,9 +150,9 @@ module _ (r : Resolve) (m : ℕ) where
         list_all-append (is_right n) w.imports.entries w.exports.entries
         ∙ both _ _
         (all_two (λ e. planned.import_stands (plan_of r m) n (planned_key e.0, planned_item e.1)) (λ e. passes (rules.is_member r (as_world n)) (item_function e.1)) (is_right n)
-        (λ e a b. passes_both (λ f. is_name_key (text_of f.name) e.0) (rules.is_member r (as_world n)) (item_function e.1) (import_key n e.0 e.1 a) b) w.imports.entries (imports_there r m is n w at) members.0)
+        (λ e a b. passes_both (λ f. is_name_key (text_of f.name) e.0) (rules.is_member r (as_world n)) _ (λ f x y. both _ _ x y) (item_function e.1) (import_key n e.0 e.1 a) b) w.imports.entries (imports_there r m is n w at) members.0)
         (all_two (λ e. planned.export_stands (plan_of r m) (planned_key e.0, planned_item e.1)) (λ e. passes (rules.is_member r (as_world n)) (item_function e.1)) (is_right n)
-        (λ e a b. passes_both (λ f. is_name_key (text_of f.name) e.0) (rules.is_member r (as_world n)) (item_function e.1) (export_key e.0 e.1 a) b) w.exports.entries (exports_there r m is n w at) members.1)
+        (λ e a b. passes_both (λ f. is_name_key (text_of f.name) e.0) (rules.is_member r (as_world n)) _ (λ f x y. both _ _ x y) (item_function e.1) (export_key e.0 e.1 a) b) w.exports.entries (exports_there r m is n w at) members.1)
 
     pub function_names_kept : Keeps function_names r
     unfolding function_names

@@ -26,7 +26,7 @@ use Rattle.plan_meaning.specs.PlanRules.{FunctionsPass, functions_of, world_func
 use Rattle.plan_meaning.specs.Built.{part_of, given_parts, planned_kind, planned_function, planned_interface, planned_item, planned_entries, planned_world, planned_key}
 use Rattle.plan_meaning.proofs.Lists.{all_built, each_built, same_all, each_there, all_there}
 use Rattle.plan_meaning.proofs.Words.{plan_of, given_all}
-use Rattle.base_lemmas.proofs.Bools.{left_of as first_true, right_of as second_true}
+use Rattle.base_lemmas.proofs.Bools.{left_of as first_true, right_of as second_true, and-true as and_true}
 use Rattle.base_lemmas.proofs.Lists.{append_of_map, map_of_map}
 use Rattle.wit_model.proofs.RulesLemmas.{each_by_number}
 use Rattle.wit_model.specs.Lookup.{interface_at, world_at}
@@ -122,19 +122,12 @@ module _ (p : Function → Bool) where
   given_passes : (o : Option Function) → list_all p (option_to_list o) ≡ passes p o
   given_passes None = refl
   given_passes (Some f) = and_true (p f)
-    where
-      and_true : (b : Bool) → (b && true) ≡ b
-      and_true true = refl
-      and_true false = refl
-
-  items_pass : (xs : List WorldItem) → list_all p (filter_map item_function xs) ≡ list_all (λ x. passes p (item_function x)) xs
-  items_pass xs = list_all_filter_map p item_function xs ∙ same_all (λ x. list_all p (option_to_list (item_function x))) (λ x. passes p (item_function x)) (λ x. given_passes (item_function x)) xs
 
   pub entries_pass : (w : World) → list_all p (functions_of_world w) ≡ true
       → (list_all (λ e. passes p (item_function e.1)) w.imports.entries ≡ true) × (list_all (λ e. passes p (item_function e.1)) w.exports.entries ≡ true)
   entries_pass w h =
       let split : (list_all (λ x. passes p (item_function x)) (values w.imports) && list_all (λ x. passes p (item_function x)) (values w.exports)) ≡ true =
-      sym (list_all-append (λ x. passes p (item_function x)) (values w.imports) (values w.exports)) ∙ (sym (items_pass (items_of w)) ∙ h) in (
+      sym (list_all-append (λ x. passes p (item_function x)) (values w.imports) (values w.exports)) ∙ (sym (list_all_filter_map p item_function (items_of w) ∙ same_all (λ x. list_all p (option_to_list (item_function x))) (λ x. passes p (item_function x)) (λ x. given_passes (item_function x)) (items_of w)) ∙ h) in (
         sym (list_all-map (λ x. passes p (item_function x)) (λ e. e.1) w.imports.entries) ∙ first_true _ _ split,
         sym (list_all-map (λ x. passes p (item_function x)) (λ e. e.1) w.exports.entries) ∙ second_true (list_all (λ x. passes p (item_function x)) (values w.imports)) _ split,
       )

@@ -40,13 +40,7 @@ use Rattle.base_lemmas.proofs.Lists.{slice_take, within_there as slice_there}
 use Rattle.std.proofs.lemmas.Option.{same_Some as same-some}
 use Rattle.wit_model.proofs.Owners.{numbered_at as numbered_there}
 use Rattle.wit_model.proofs.PartsLemmas.{owner_itself}
-
--- what is met at a type, by what is met at smaller numbers
-pub met_there : (p : Plan) (j : ℕ) (x : PlannedType) → slice_get p.types j ≡ Some x → met_by (met_in p) j ≡ met_at (take j (met_in p)) (j, x)
-unfolding met_in
-met_there p j x e =
-    let zero_more : 0 + j ≡ j = omega arith in
-    ap (λ o. unwrap_or o []) (grow_at met_at (numbered_from 0 p.types) j (j, x) (numbered_there 0 p.types j x e ∙ ap (λ m. Some (m, x)) zero_more))
+use Rattle.plan_meaning.proofs.MetTypes.{met_there}
 
 module _ (t : Tables) (tables : AreTables t) (kept : List ℕ) (p : Plan) (are : TypesAreKept t kept p) (owners : ℕ → TypeOwner) (owned : AreOwned t kept p owners) where
   abbrev all_met : List (List ℕ)

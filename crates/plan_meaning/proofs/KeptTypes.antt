@@ -26,7 +26,7 @@ use Rattle.plan_meaning.proofs.Lists.{no_true, each_so}
 use Rattle.plan_meaning.proofs.GatheredPlan.{parts_kept, form_tree}
 use Rattle.plan_meaning.proofs.NumberedRules.{no_name, shape_there}
 use Rattle.plan_meaning.proofs.Words.{behind}
-use Rattle.base_lemmas.proofs.Bools.{left_of as first_true, right_of as second_true}
+use Rattle.base_lemmas.proofs.Bools.{left_of as first_true, right_of as second_true, or_true}
 use Rattle.base_lemmas.proofs.Elements.{all_by_number, zip-kept as zip-weaker, all_at}
 use Rattle.base_lemmas.proofs.Lists.{within_there as slice_there}
 use Rattle.std.proofs.lemmas.Option.{same_Some as same-some, slice_get_past as slice_past}
@@ -244,10 +244,6 @@ module _ (t : Tables) (tables : AreTables t) (kept : List ℕ) (p : Plan) (are :
   alias_is_named d kind (a_resource e k) = ap (λ x. passes (is_named_number p) (alias_number x)) k
   alias_is_named d kind (gathered.a_name old new e no_form b k) = ap (λ x. passes (is_named_number p) (alias_number x)) k ∙ alias_named old new no_form b
   alias_is_named d kind (a_form old m form olds news e is there z k) = ap (λ x. passes (is_named_number p) (alias_number x)) k
-
-  or_true : (b : Bool) → (b || true) ≡ true
-  or_true true = refl
-  or_true false = refl
 
   type_is_named : (n : ℕ) (x : PlannedType) → IsKeptType t kept p n x → kind_is_named p x ≡ true
   type_is_named n x (unnamed place form olds news there z name owner kind part low) =

@@ -27,7 +27,8 @@ use Rattle.plan_meaning.proofs.Lists.{each_of_map, all_built, each_built, no_tru
 use Rattle.plan_meaning.proofs.Words.{plan_of}
 use Rattle.base_lemmas.proofs.Bools.{left_of as first_true, right_of as second_true}
 use Rattle.base_lemmas.proofs.Elements.{all_get}
-use Rattle.std.proofs.lemmas.Bool.{and_from as both}
+use Rattle.std.proofs.lemmas.Bool.{and_from as both, lt-ltb}
+use Rattle.base_lemmas.proofs.Options.{there as some-of}
 
 -- ---- a name that stands there
 
@@ -45,15 +46,15 @@ some_there g test None h = no_true h
 some_there g test (Some x) h = refl
 
 pub in_range : {A : Type 0} (xs : List A) (n : ℕ) → is_some (slice_get xs n) ≡ true → in_list xs n ≡ true
-in_range xs n h = go (slice_get xs n) refl h
-  where
-    go : (o : Option _) → slice_get xs n ≡ o → is_some o ≡ true → nat_lt n (length xs) ≡ true
-    go None e h = no_true h
-    go (Some x) e h = let less = slice_get_within xs n x e in grind (arith, nat_tests, less)
+in_range xs n h = let found = some-of (slice_get xs n) h in lt-ltb n (length xs) (slice_get_within xs n found.0 found.1)
 
 pub passes_weaker : {A : Type 0} (p q : A → Bool) → ((x : A) → p x ≡ true → q x ≡ true) → (o : Option A) → passes p o ≡ true → passes q o ≡ true
 passes_weaker p q weaker None h = refl
 passes_weaker p q weaker (Some x) h = weaker x h
+
+pub passes_both : {A : Type 0} (p q s : A → Bool) → ((x : A) → p x ≡ true → q x ≡ true → s x ≡ true) → (o : Option A) → passes p o ≡ true → passes q o ≡ true → passes s o ≡ true
+passes_both p q s make None h k = refl
+passes_both p q s make (Some x) h k = make x h k
 
 -- what is asked of an entry of a list that is made of another
 asked : {A B : Type 0} (g : A → B) (test : B → Bool) (p q : A → Bool) → ((x : A) → test (g x) ≡ true → p x ≡ true) → ((x : A) → test (g x) ≡ true → q x ≡ true) → (xs : List A) (n : ℕ)

@@ -63,9 +63,6 @@ module _ (r : Resolve) (m : ℕ) where
 
   -- ---- interfaces
 
-  types_are : (i : Interface) → map {B = Text × TypeMeaning} (λ (e : Text × ℕ). (e.0, planned.type_meaning_in (plan_of r m) e.1)) (planned_interface i).types ≡ map (λ e. (text_of e.0, meant.type_meaning_at r e.1.0)) i.types.entries
-  types_are i = named_means (λ (id : TypeId). id.0) (planned.type_meaning_in (plan_of r m)) (λ id. meant.type_meaning_at r id.0) (λ id. type_at_is id.0) i.types.entries
-
   abbrev pub planned_function_entry : Text × PlannedFunction → Text × FunctionMeaning
   planned_function_entry e = (e.0, planned.function_meaning (plan_of r m) e.1)
 
@@ -76,7 +73,7 @@ module _ (r : Resolve) (m : ℕ) where
   functions_are i = named_means planned_function (planned.function_meaning (plan_of r m)) (meant.function_meaning r) function_is i.functions.entries
 
   pub interface_is : (i : Interface) → planned.interface_meaning (plan_of r m) (planned_interface i) ≡ meant.interface_meaning r i
-  interface_is i = λ j. record { types = types_are i j; functions = from_entries (functions_are i j) }
+  interface_is i = λ j. record { types = (named_means (λ (id : TypeId). id.0) (planned.type_meaning_in (plan_of r m)) (λ id. meant.type_meaning_at r id.0) (λ id. type_at_is id.0) i.types.entries) j; functions = from_entries (functions_are i j) }
 
   pub interface_at_is : (n : ℕ) → planned.interface_meaning_in (plan_of r m) n ≡ meant.interface_meaning_at r n
   interface_at_is = or_there (planned.interface_meaning (plan_of r m)) planned_interface (meant.interface_meaning r) no_interface interface_is r.interfaces.items

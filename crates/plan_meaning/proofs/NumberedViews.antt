@@ -127,14 +127,10 @@ module _ (t : Tables) (tables : AreTables t) where
   abbrev Passes : Text × NumberedFunction → Type 0
   Passes = FunctionPasses t (IsOutsidePart t)
 
-  function_alike : (f g : Text × NumberedFunction) → Passes f → Passes g
-      → (text_eq f.0 g.0 && same.same_function (shown_function t f).1 (shown_function t g).1) ≡ (text_eq f.0 g.0 && same_function f.1 g.1)
-  function_alike f g hf hg = ap (λ b. text_eq f.0 g.0 && (b && same_option text_eq f.1.external_id g.1.external_id)) (function_number f.1.signature g.1.signature hf.0 hg.0 hf.1 hg.1)
-
   function_found : (f : Text × NumberedFunction) → Passes f → (gs : List (Text × NumberedFunction)) → AllByRecursion Passes gs
       → list_any (λ y. text_eq f.0 y.0 && same.same_function (shown_function t f).1 y.1) (map (shown_function t) gs) ≡ list_any (λ y. text_eq f.0 y.0 && same_function f.1 y.1) gs
   function_found f hf [] hg = refl
-  function_found f hf (g ∷ gs) hg = λ i. function_alike f g hf hg.0 i || function_found f hf gs hg.1 i
+  function_found f hf (g ∷ gs) hg = λ i. (ap (λ b. text_eq f.0 g.0 && (b && same_option text_eq f.1.external_id g.1.external_id)) (function_number f.1.signature g.1.signature hf.0 hg.0.0 hf.1 hg.0.1)) i || function_found f hf gs hg.1 i
 
   functions_stand : (fs gs : List (Text × NumberedFunction)) → AllByRecursion Passes fs → AllByRecursion Passes gs
       → stand_in same.same_function (map (shown_function t) fs) (map (shown_function t) gs) ≡ stand_in same_function fs gs

@@ -38,7 +38,7 @@ use Rattle.base_lemmas.proofs.Bools.{left_of as first_true, right_of as second_t
 use Rattle.base_lemmas.proofs.Elements.{contains-map, contains-one, filter_map_from, get-contains, map_from}
 use Rattle.base_lemmas.proofs.Lists.{get_back, map_of_map, nothing-mapped as none_mapped, same_map}
 use Rattle.base_lemmas.proofs.Options.{there as some-of}
-use Rattle.std.proofs.lemmas.Bool.{and_from as both}
+use Rattle.std.proofs.lemmas.Bool.{and_from as both, not-true as not_true}
 use Rattle.std.proofs.lemmas.Option.{same_Some as same-some, slice_get-map as get_of_map}
 use Rattle.wit_model.proofs.MeantLemmas.{meaning_there}
 
@@ -200,11 +200,7 @@ module _ (r : Resolve) (m : ℕ) (is : IsPackagePlan (plan_of r m)) (v : IsValid
 
   other_package : (n : ℕ) (i : Interface) → interface_at r n ≡ Some i → is_foreign r m n ≡ true → is_id m (package_number i.package) ≡ false
   other_package n i e foreign =
-      sym (same_test r m i.package) ∙ untrue (option_map_or (λ id. id.0 == m) i.package false) (second_true (is_some (interface_path r n)) _ (sym (foreign_is r m n i e) ∙ foreign))
-    where
-      untrue : (b : Bool) → not b ≡ true → b ≡ false
-      untrue false h = refl
-      untrue true h = no_true h
+      sym (same_test r m i.package) ∙ not_true (option_map_or (λ id. id.0 == m) i.package false) (second_true (is_some (interface_path r n)) _ (sym (foreign_is r m n i e) ∙ foreign))
 
   pub no_functions : (n : ℕ) (i : Interface) → interface_at r n ≡ Some i → is_foreign r m n ≡ true → is_shown_in r p n ≡ false → i.functions.entries ≡ []
   no_functions n i e foreign hidden =

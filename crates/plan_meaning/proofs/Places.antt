@@ -31,11 +31,11 @@ use Rattle.plan_meaning.specs.Built.{planned_interface, planned_world, planned_p
 use Rattle.plan_meaning.proofs.Lists.{all_of_map, each_two, each_built, each_from_built, no_true, all_there}
 use Rattle.plan_meaning.proofs.Words.{plan_of}
 use Rattle.plan_meaning.proofs.FunctionRules.{items_are}
-use Rattle.plan_meaning.proofs.Listed.{interface_listed, world_listed, members_pass}
+use Rattle.plan_meaning.proofs.Listed.{interface_listed, world_listed, members_pass, passes_both}
 use Rattle.plan_meaning.proofs.Labels.{apart, names_are, keys_apart}
 use Rattle.plan_meaning.proofs.WorldItems.{item_interface_is}
 use Rattle.base_lemmas.proofs.Bools.{left_of as first_true, right_of as second_true}
-use Rattle.base_lemmas.proofs.Elements.{all_get, all_two, any_of_map}
+use Rattle.base_lemmas.proofs.Elements.{all_get, all_two, any_of_map, all_weaker}
 use Rattle.base_lemmas.proofs.Maps.{lookup_of_map}
 use Rattle.std.proofs.lemmas.Bool.{and_from as both, or_left as or_first}
 use Rattle.std.proofs.lemmas.Option.{slice_get-map as get_of_map}
@@ -75,10 +75,6 @@ times_are n w =
     ∙ (fold_of_map (λ a x. a + cond (is_id n (plan.item_interface x)) 1 0) planned_item 0 (items_of w)
     ∙ ap (λ (h : WorldItem → Option ℕ). fold (λ a x. a + cond (is_id n (h x)) 1 0) 0 (items_of w)) (λ i x. item_interface_is x i))
 
-passes_both : {A : Type 0} (p q s : A → Bool) → ((x : A) → p x ≡ true → q x ≡ true → s x ≡ true) → (o : Option A) → passes p o ≡ true → passes q o ≡ true → passes s o ≡ true
-passes_both p q s make None h k = refl
-passes_both p q s make (Some x) h k = make x h k
-
 module _ (r : Resolve) (m : ℕ) (is : IsPlan (plan_of r m)) where
   -- ---- packages
 
@@ -101,15 +97,10 @@ module _ (r : Resolve) (m : ℕ) (is : IsPlan (plan_of r m)) where
 
   names_differ : (p : Package) → members_differ (planned_package p) ≡ true → list_all (λ e. not (is_world_name p (text_of e.0)) || names_itself r e) p.interfaces.entries ≡ true
   names_differ p h =
-      all_two (λ e. not (is_world_name p (text_of e.0))) (λ e. true) (λ e. not (is_world_name p (text_of e.0)) || names_itself r e) (λ e a b. or_first _ (names_itself r e) a) p.interfaces.entries
+      all_weaker (λ e. not (is_world_name p (text_of e.0))) (λ e. not (is_world_name p (text_of e.0)) || names_itself r e) (λ e a. or_first _ (names_itself r e) a) p.interfaces.entries
       (sym (list_all-map (λ name. not (is_world_name p (text_of name))) (λ e. e.0) p.interfaces.entries)
       ∙ keys_apart (keys p.interfaces) (keys p.worlds) (ap are_distinct (λ j. sym (names_are (λ (id : InterfaceId). id.0) p.interfaces.entries) j ++ sym
       (names_are (λ (id : WorldId). id.0) p.worlds.entries) j) ∙ h))
-      (always p.interfaces.entries)
-    where
-      always : {A : Type 0} (xs : List A) → list_all (λ x. true) xs ≡ true
-      always [] = refl
-      always (x ∷ xs) = always xs
 
   packages_placed : each_from (λ n p. list_all (interface_belongs r n) p.interfaces.entries
       && (list_all (world_belongs r n) p.worlds.entries && list_all (λ e. not (is_world_name p (text_of e.0)) || names_itself r e) p.interfaces.entries)) 0 r.packages.items ≡ true
@@ -123,9 +114,6 @@ module _ (r : Resolve) (m : ℕ) (is : IsPlan (plan_of r m)) where
 
   -- ---- interfaces
 
-  differs_at : (q : ℕ) (p : Package) → package_at r q ≡ Some p → members_differ (planned_package p) ≡ true
-  differs_at = all_there planned_package members_differ r.packages.items is.members_differ
-
   named_at : (n : ℕ) (name : Text) (o : Option PackageId)
       → option_map_or (λ k. is_id n (number_under name k.interfaces)) (option_and_then (package_in (plan_of r m)) (option_map (λ id. id.0) o)) false ≡ true
       → (is_some o && option_map_or (λ p. interface_is_listed n name p && not (is_world_name p name)) (option_and_then (package_at r) (package_number o)) true) ≡ true
@@ -136,7 +124,7 @@ module _ (r : Resolve) (m : ℕ) (is : IsPlan (plan_of r m)) where
       go : (o : Option Package) → package_at r id.0 ≡ o → option_map_or (λ k. is_id n (number_under name k.interfaces)) (option_map planned_package o) false ≡ true
           → option_map_or (λ p. interface_is_listed n name p && not (is_world_name p name)) (package_at r id.0) true ≡ true
       go None e h = no_true h
-      go (Some p) e h = ap (λ o. option_map_or (λ p. interface_is_listed n name p && not (is_world_name p name)) o true) e ∙ (both _ _ (ap (is_id n) (sym (interface_number p name)) ∙ h) (no_world p name n (differs_at id.0 p e) h))
+      go (Some p) e h = ap (λ o. option_map_or (λ p. interface_is_listed n name p && not (is_world_name p name)) o true) e ∙ (both _ _ (ap (is_id n) (sym (interface_number p name)) ∙ h) (no_world p name n ((all_there planned_package members_differ r.packages.items is.members_differ) id.0 p e) h))
 
   some_package : (o : Option PackageId) (test : ℕ → Bool) → option_map_or test (option_map (λ id. id.0) o) false ≡ true → is_some o ≡ true
   some_package None test h = no_true h

@@ -184,9 +184,6 @@ module _ (r : Resolve) (m : ℕ) (is : IsPlan (plan_of r m)) (v : IsValid r) (p 
         go true own = inl (listed_starts n (text_of s) (main_package (λ k. is_id n (number_under (text_of s) k.interfaces)) i.package own h))
         go false other = by_reason n (wanted n (planned_interface i) (get_of_map planned_interface r.interfaces.items n ∙ ap (option_map planned_interface) e) (foreign other))
 
-    why : (n : ℕ) (i : Interface) → interface_at r n ≡ Some i → Why n
-    why n i e = why_by n i e i.name refl (each_there planned_interface (planned.is_placed (plan_of r m)) r.interfaces.items is.interfaces_placed n i e)
-
     abbrev Leads : ℕ → Type 0
     Leads n = (s : ℕ) × (k : ℕ) × (has starts s ≡ true) × Chain r k s n
 
@@ -197,7 +194,7 @@ module _ (r : Resolve) (m : ℕ) (is : IsPlan (plan_of r m)) (v : IsValid r) (p 
     leads_by : (fuel n : ℕ) (i : Interface) → length r.interfaces.items ≤ n + fuel → interface_at r n ≡ Some i → Leads n
     leads_by zero n i h e = let less = slice_get_within r.interfaces.items n i e in absurd (omega (arith, h, less))
     leads_by (suc fuel) n i h e =
-        leads_from n (why n i e) (λ j uses_n. let user = user_stands r j n uses_n in let falls = uses_fall r v j n uses_n in leads_by fuel j user.0 (omega (arith, h, falls)) user.1)
+        leads_from n (why_by n i e i.name refl (each_there planned_interface (planned.is_placed (plan_of r m)) r.interfaces.items is.interfaces_placed n i e)) (λ j uses_n. let user = user_stands r j n uses_n in let falls = uses_fall r v j n uses_n in leads_by fuel j user.0 (omega (arith, h, falls)) user.1)
 
     pub all_reached : (n : ℕ) (i : Interface) → interface_at r n ≡ Some i → has (reached_by_package r p) n ≡ true
     all_reached n i e =

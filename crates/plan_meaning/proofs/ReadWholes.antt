@@ -60,14 +60,11 @@ module _ (t : Tables) (tables : AreTables t) (h : Homes) (homes : HomesStand t h
             let one : i ≡ j = read.types.once i j k (stands ∙ ap Some number) at in
             ap part_number to ∙ (behind i ∙ ap Some one)
 
-    number_there : (news : List ℕ) (new : ℕ) → Contains news new → part_number new ≡ Some j → has (filter_map part_number news) j ≡ true
-    number_there news new c e = contains-has (filter_map part_number news) j (contains-filter_map part_number news new j c (subst (λ o. Contains (option_to_list o) j) (sym e) (0, omega arith, refl)))
-
     numbers_have : (olds news : List ℕ) → AllZip (Becomes t kept p) olds news → Contains olds (14 + k) → has (filter_map part_number news) j ≡ true
     numbers_have olds news z c =
         let index = contains-get olds (14 + k) c in
         let found = zip_there (Becomes t kept p) olds news z index.0 (14 + k) index.1 in
-        number_there news found.0 (get-contains news index.0 found.0 found.1) (part_there (14 + k) found.0 refl found.2)
+        (contains-has (filter_map part_number news) j (contains-filter_map part_number news found.0 j (get-contains news index.0 found.0 found.1) (subst (λ o. Contains (option_to_list o) j) (sym (part_there (14 + k) found.0 refl found.2)) (0, omega arith, refl))))
 
     of_function : (f : FunctionShape) (id : Option Text) (g : PlannedFunction) → FunctionBecomes t kept p f id g → IsPartOfFunction f (14 + k) → has (function_numbers g) j ≡ true
     of_function f id g is part =

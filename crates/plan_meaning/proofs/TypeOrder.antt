@@ -88,7 +88,7 @@ module _ (r : Resolve) (m : ℕ) (is : IsPlan (plan_of r m)) where
       (λ def k. both _ _ (named_too def.name t (first_true _ _ k)) (second_true (text_is def.name t) _ k)) (type_at r n) (own_type r m is o t n h)
 
   ordered : (ns : List ℕ) → are_rising ns ≡ true → are_in_order r ns ≡ true
-  ordered ns rise = in_order (used_by_number r) (used_low r (references_hold r m is)) ns [] ns (λ k. refl) rise
+  ordered ns rise = in_order (used_by_number r) (used_low r m is.types_fall) ns [] ns (λ k. refl) rise
 
   -- ---- interfaces and worlds
 
@@ -121,9 +121,6 @@ module _ (r : Resolve) (m : ℕ) (is : IsPlan (plan_of r m)) where
 
   -- ---- types
 
-  rises_at : (n : ℕ) (i : Interface) → interface_at r n ≡ Some i → are_rising (interface_type_numbers i) ≡ true
-  rises_at n i e = ap are_rising (sym (type_numbers_are i)) ∙ all_there planned_interface (λ x. are_rising (numbers_of x.types)) r.interfaces.items is.types_rise n i e
-
   world_rises_at : (n : ℕ) (w : World) → world_at r n ≡ Some w → are_rising (world_type_numbers w) ≡ true
   world_rises_at n w e =
       ap are_rising (sym (world_types_are w))
@@ -155,7 +152,7 @@ module _ (r : Resolve) (m : ℕ) (is : IsPlan (plan_of r m)) where
       go : (o : Option Interface) → interface_at r id.0 ≡ o → option_map_or (λ i. is_id n (number_under name i.types)) (option_map planned_interface o) false ≡ true
           → passes (is_listed_in_interface n name) (interface_at r id.0) ≡ true
       go None e h = no_true h
-      go (Some i) e h = ap (passes (is_listed_in_interface n name)) e ∙ in_interface n name i (rises_at id.0 i e) h
+      go (Some i) e h = ap (passes (is_listed_in_interface n name)) e ∙ in_interface n name i (ap are_rising (sym (type_numbers_are i)) ∙ all_there planned_interface (λ x. are_rising (numbers_of x.types)) r.interfaces.items is.types_rise id.0 i e) h
   listed_in n name (owner.World id) h =
       go (world_at r id.0) refl (sym (ap (λ o. option_map_or (λ w. is_id n (option_and_then plan.item_type (lookup (is_under_label name) w.imports))) o false)
       (get_of_map planned_world r.worlds.items id.0)) ∙ h)
