@@ -99,13 +99,9 @@ module _ (t : Tables) (tables : AreTables t) (kept : List ℕ) (p : Plan) (keeps
   abbrev function_entry : Text × PlannedFunction → Text × FunctionMeaning
   function_entry e = (e.0, function_meaning p e.1)
 
-  functions_kept : (fs : List (Text × NumberedFunction)) (es : List (Text × PlannedFunction)) → AllZip (FunctionListed t kept p) fs es → map function_entry es ≡ map (shown_function t) fs
-  functions_kept = zip_map (FunctionListed t kept p) (shown_function t) function_entry
-      (λ f e h i. (h.0 i, function_kept (function_at t f.1.signature) f.1.external_id e.1 h.1 i))
-
   interface_kept : (v : NumberedView) (fs : List (Text × NumberedFunction)) (x : PlannedInterface) → InterfaceBecomes t kept p v fs x
       → planned.interface_meaning p x ≡ reads.interface_meaning (view_of t v) (map (shown_function t) fs)
-  interface_kept v fs x b = λ i. record { types = types_kept v.types x.types b.types i; functions = from_entries (functions_kept fs x.functions b.functions i) }
+  interface_kept v fs x b = λ i. record { types = types_kept v.types x.types b.types i; functions = from_entries ((zip_map (FunctionListed t kept p) (shown_function t) function_entry (λ f e h i. (h.0 i, function_kept (function_at t f.1.signature) f.1.external_id e.1 h.1 i))) fs x.functions b.functions i) }
 
   interface_there : (v : NumberedView) (fs : List (Text × NumberedFunction)) (n : ℕ) → InterfaceAt t kept p v fs n
       → interface_meaning_in p n ≡ reads.interface_meaning (view_of t v) (map (shown_function t) fs)

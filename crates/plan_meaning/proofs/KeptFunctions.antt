@@ -28,7 +28,7 @@ use Rattle.plan_meaning.specs.NumberedRules.{Fact, shape_at, name_in, only_of, h
 use Rattle.plan_meaning.specs.GatheredPlan.{Becomes, BecomesIfGiven, ParamBecomes}
 use Rattle.plan_meaning.specs.KeptTypes.{IsKeptType, unnamed, declared, TypesAreKept}
 use Rattle.plan_meaning.specs.KeptFunctions.{IsResource, IsKindOf, of_none, a_constructor, a_method, an_async_method, a_static, an_async_static, IsKeptFunction, FunctionPasses, KeptFunctionsPass}
-use Rattle.plan_meaning.proofs.KeptParts.{shape_parts, signature_parts, function_zip, numbers_pass}
+use Rattle.plan_meaning.proofs.KeptParts.{shape_parts, signature_parts, function_zip, numbers_pass, kept_at}
 use Rattle.plan_meaning.proofs.GatheredPlan.{part_kept, parts_kept}
 use Rattle.plan_meaning.proofs.KeptTypes.{keeps, member_labels}
 use Rattle.plan_meaning.proofs.Lists.{no_true}
@@ -88,12 +88,7 @@ module _ (t : Tables) (tables : AreTables t) (known : ℕ → Fact) (kept : List
 
   -- the type that a shape becomes
   kept_there : (old new m j : ℕ) → old ≡ 14 + m → slice_get kept j ≡ Some m → new ≡ 14 + j → Becoming old new → (x : PlannedType) × (type_in p j ≡ Some x) × IsKeptType t kept p m x
-  kept_there old new m j from stands to b =
-      let range = b.range in
-      let found = slice_there p.types j (omega (arith, range, to)) in
-      let is = are.each j found.0 found.1 in
-      let number : is.0 ≡ m = same-some is.0 m (sym is.1 ∙ stands) in
-      (found.0, found.1, subst (λ k. IsKeptType t kept p k found.0) number is.2)
+  kept_there old new m j from stands to b = let range = b.range in kept_at t kept p are j m (omega (arith, range, to)) stands
 
   -- ---- levels
 
@@ -200,10 +195,6 @@ module _ (t : Tables) (tables : AreTables t) (known : ℕ → Fact) (kept : List
       own_becomes = handle_becomes Form.own_of own_sort own_form refl (is_own_of n)
           (λ x is_type. both (is_none x.name) (plan.is_own_kind n x.kind) (ap is_none is_type.none) (ap (plan.is_own_kind n) is_type.kind ∙ is_type.number))
 
-      borrow_becomes : (old new : ℕ) → is_handle t known q borrow_sort name old ≡ true → Becoming old new → part_is p (is_borrow_of n) new ≡ true
-      borrow_becomes = handle_becomes Form.borrow_of borrow_sort borrow_form refl (is_borrow_of n)
-          (λ x is_type. both (is_none x.name) (plan.is_borrow_kind n x.kind) (ap is_none is_type.none) (ap (plan.is_borrow_kind n) is_type.kind ∙ is_type.number))
-
       -- ---- constructors and methods
 
       result_type : (old m i : ℕ) → old ≡ 14 + m → option_and_then ok_in (shape_at t old) ≡ Some i → is_handle t known q own_sort name i ≡ true → (x : PlannedType) → IsKeptType t kept p m x
@@ -244,7 +235,7 @@ module _ (t : Tables) (tables : AreTables t) (known : ℕ → Fact) (kept : List
       self_becomes (x ∷ xs) (y ∷ ys) z h =
           both (text_eq y.0 (codes "self")) (part_is p (is_borrow_of n) y.1) (ap (λ u. text_eq u (codes "self")) z.0.0 ∙ first_true (text_eq x.0 (codes "self"))
           (is_handle t known q borrow_sort name x.1) h)
-          (borrow_becomes x.1 y.1 (second_true (text_eq x.0 (codes "self")) (is_handle t known q borrow_sort name x.1) h) z.0.1)
+          ((handle_becomes Form.borrow_of borrow_sort borrow_form refl (is_borrow_of n) (λ x is_type. both (is_none x.name) (plan.is_borrow_kind n x.kind) (ap is_none is_type.none) (ap (plan.is_borrow_kind n) is_type.kind ∙ is_type.number))) x.1 y.1 (second_true (text_eq x.0 (codes "self")) (is_handle t known q borrow_sort name x.1) h) z.0.1)
 
       member_is : (g : PlannedFunction) (kind : FunctionKind) → g.kind ≡ kind → resource_of kind ≡ Some n → is_member_of p n name g kind ≡ true → is_member p o g ≡ true
       member_is g kind e own h =

@@ -27,7 +27,7 @@ use Rattle.plan_meaning.specs.GatheredPlan as gathered
 use Rattle.plan_meaning.specs.GatheredPlan.{Becomes, BecomesIfGiven, DeclaresKind, a_resource, a_form, FunctionBecomes, ParamBecomes}
 use Rattle.plan_meaning.specs.KeptTypes.{IsKeptType, unnamed, declared, TypesAreKept}
 use Rattle.plan_meaning.specs.KeptOwners.{IsNamedInterface, AreOwned, OwnersStand, KeptOwnersStand, of_name}
-use Rattle.plan_meaning.proofs.KeptParts.{shape_parts, all_parts, signature_parts, function_zip, numbers_pass}
+use Rattle.plan_meaning.proofs.KeptParts.{shape_parts, all_parts, signature_parts, function_zip, numbers_pass, kept_at}
 use Rattle.plan_meaning.proofs.GatheredPlan.{form_tree}
 use Rattle.plan_meaning.proofs.KeptTypes.{form_obeys, keeps, parts_before}
 use Rattle.plan_meaning.proofs.Lists.{no_true}
@@ -126,11 +126,9 @@ module _ (t : Tables) (tables : AreTables t) (kept : List ℕ) (p : Plan) (are :
     all_own : (fuel j n : ℕ) → j < fuel → j < length p.types → slice_get kept j ≡ Some n → IsPartHere (14 + n) → IsOwn (met_by all_met j)
     all_own zero j n h low stands here = absurd (omega (arith, h))
     all_own (suc fuel) j n h low stands here =
-        let found = slice_there p.types j low in
-        let from = are.each j found.0 found.1 in
-        let number : from.0 ≡ n = same-some from.0 n (sym from.1 ∙ stands) in
+        let found = kept_at t kept p are j n low stands in
         ap (list_all (has_owner p (owners q))) (met_there p j found.0 found.1)
-        ∙ type_met j n (λ i m less range at here_m. all_own fuel i m (omega (arith, less, h)) range at here_m) found.0 found.1 stands (subst (λ k. IsKeptType t kept p k found.0) number from.2) here
+        ∙ type_met j n (λ i m less range at here_m. all_own fuel i m (omega (arith, less, h)) range at here_m) found.0 found.1 stands found.2 here
 
     -- ---- functions
 
@@ -212,10 +210,8 @@ module _ (t : Tables) (tables : AreTables t) (kept : List ℕ) (p : Plan) (are :
             own_numbers (ap (λ y. list_all (has_owner p (owners r)) (flat_map (met_by all_met) (kind_numbers y))) k ∙ met_low r all_met new (omega (arith, small, same)) [] refl)
         by (a_shape m i from stands to) =
             let range = b.range in
-            let found = slice_there p.types i (omega (arith, range, to)) in
-            let is = are.each i found.0 found.1 in
-            let number : is.0 ≡ m = same-some is.0 m (sym is.1 ∙ stands) in
-            target (subst (λ l. IsKeptType t kept p l found.0) number is.2) found.1
+            let found = kept_at t kept p are i m (omega (arith, range, to)) stands in
+            target found.2 found.1
           where
             target : {u : PlannedType} → IsKeptType t kept p m u → slice_get p.types i ≡ Some u → IsFine x
             target {u = u} (declared s other e at called home_u kind_u before good obeys_u) there_u =

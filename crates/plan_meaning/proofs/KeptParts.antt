@@ -1,5 +1,5 @@
 -- What holds of the parts of a list, of the numbers that they become; the parts of a function in one list.
-use Rattle.std.proofs.Common.{◌≡◌, refl, sym, ap, ◌∙◌, ◌<◌, ℕ, ◌+◌, ◌-◌, arith, Bool, true, ◌&&◌, cond, List, [], ◌∷◌, ◌++◌, length, map, filter_map, Option, Some, None, option_map, option_to_list, is_some, slice_get}
+use Rattle.std.proofs.Common.{◌≡◌, refl, sym, ap, ◌∙◌, ◌<◌, ℕ, ◌+◌, ◌-◌, arith, Bool, true, ◌&&◌, cond, List, [], ◌∷◌, ◌++◌, length, map, filter_map, Option, Some, None, option_map, option_to_list, is_some, slice_get, subst}
 use Rattle.std.specs.List.{AllByRecursion, AllZip, Contains, list_all}
 use Rattle.std.proofs.lemmas.Bool.{lt-ltb, and_from as both}
 use Rattle.std.proofs.lemmas.List.Folds.{list_all-map}
@@ -8,7 +8,7 @@ use Rattle.wit_model.specs.Text.{Text}
 use Rattle.wit_model.specs.Tree.{Place, Tree}
 use Rattle.comp_meaning.specs.Rules as rules
 use Rattle.comp_meaning.specs.Rules.{are_labels}
-use Rattle.plan_meaning.specs.Plan.{Plan, PlannedFunction, function_parts, part_number}
+use Rattle.plan_meaning.specs.Plan.{Plan, PlannedFunction, function_parts, part_number, PlannedType}
 use Rattle.plan_meaning.specs.Renumbering.{IsPart, a_primitive, a_shape}
 use Rattle.plan_meaning.specs.NumberedViews.{FunctionShape, Tables, AllOf, PartsOf, tree_at, signature_over}
 use Rattle.plan_meaning.specs.GatheredPlan.{Becomes, BecomesIfGiven, FunctionBecomes, ParamBecomes}
@@ -16,6 +16,8 @@ use Rattle.plan_meaning.proofs.Lists.{no_true}
 use Rattle.plan_meaning.proofs.Words.{behind}
 use Rattle.base_lemmas.proofs.Bools.{left_of as first_true, right_of as second_true}
 use Rattle.base_lemmas.proofs.Elements.{all_both, all_pass, filter_map_from, get-contains, joined_well, seconds, zip-append, zip_at_right}
+use Rattle.plan_meaning.specs.KeptTypes.{IsKeptType, TypesAreKept}
+use Rattle.base_lemmas.proofs.Lists.{within_there as slice_there}
 
 -- the parts of a function's type, the result last
 abbrev pub shape_parts : FunctionShape → List ℕ
@@ -45,6 +47,14 @@ signature_parts t place f h =
     given : (o : Option ℕ) → rules.is_result_type place (option_map (tree_at t) o) ≡ true → list_all (λ k. rules.is_parameter_type place (tree_at t k)) (option_to_list o) ≡ true
     given None h = refl
     given (Some k) h = both _ true h refl
+
+-- the type of a shape that is kept
+pub kept_at : (t : Tables) (kept : List ℕ) (p : Plan) → TypesAreKept t kept p → (j m : ℕ) → j < length p.types → slice_get kept j ≡ Some m
+    → (x : PlannedType) × (slice_get p.types j ≡ Some x) × IsKeptType t kept p m x
+kept_at t kept p are j m low at =
+    let found = slice_there p.types j low in
+    let is = are.each j found.0 found.1 in
+    (found.0, found.1, subst (λ k. IsKeptType t kept p k found.0) (same-some is.0 m (sym is.1 ∙ at)) is.2)
 
 module _ (t : Tables) (kept : List ℕ) (p : Plan) where
   pub function_zip : (f : FunctionShape) (id : Option Text) (g : PlannedFunction) → FunctionBecomes t kept p f id g → AllZip (Becomes t kept p) (shape_parts f) (function_parts g)

@@ -15,7 +15,7 @@ use Rattle.plan_meaning.specs.GatheredPlan as gathered
 use Rattle.plan_meaning.specs.GatheredPlan.{Becomes, BecomesIfGiven, DeclaresKind, a_resource, a_form, ParamBecomes}
 use Rattle.plan_meaning.specs.KeptTypes.{alone, IsKeptType, unnamed, declared, TypesAreKept}
 use Rattle.plan_meaning.specs.KeptResources.{MarkedBy, FormIsMarked, AreMarked, ResourcesStand, KeptResourcesStand}
-use Rattle.plan_meaning.proofs.KeptParts.{shape_parts, all_parts, function_zip, numbers_pass}
+use Rattle.plan_meaning.proofs.KeptParts.{shape_parts, all_parts, function_zip, numbers_pass, kept_at}
 use Rattle.plan_meaning.proofs.KeptTypes.{form_of_name}
 use Rattle.plan_meaning.proofs.Words.{behind}
 use Rattle.base_lemmas.proofs.Bools.{left_of as first_true, right_of as second_true}
@@ -72,11 +72,9 @@ module _ (t : Tables) (tables : AreTables t) (kept : List ℕ) (p : Plan) (are :
   marks_are : (fuel j n : ℕ) → j < fuel → j < length p.types → slice_get kept j ≡ Some n → is_resource p j ≡ marks (14 + n)
   marks_are zero j n h low stands = absurd (omega (arith, h))
   marks_are (suc fuel) j n h low stands =
-      let found = slice_there p.types j low in
-      let from = are.each j found.0 found.1 in
-      let number : from.0 ≡ n = same-some from.0 n (sym from.1 ∙ stands) in
+      let found = kept_at t kept p are j n low stands in
       mark_there j found.0 found.1
-      ∙ type_mark j n (λ i m less within there. marks_are fuel i m (omega (arith, less, h)) within there) found.0 found.1 stands (subst (λ k. IsKeptType t kept p k found.0) number from.2)
+      ∙ type_mark j n (λ i m less within there. marks_are fuel i m (omega (arith, less, h)) within there) found.0 found.1 stands found.2
 
   -- ---- parts
 

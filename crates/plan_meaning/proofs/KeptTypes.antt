@@ -21,7 +21,7 @@ use Rattle.plan_meaning.specs.NumberedRules as numbered
 use Rattle.plan_meaning.specs.GatheredPlan as gathered
 use Rattle.plan_meaning.specs.GatheredPlan.{Becomes, DeclaresKind, a_resource, a_form, Keeps}
 use Rattle.plan_meaning.specs.KeptTypes.{IsKeptForm, alone, of_name, IsKeptType, unnamed, declared, TypesAreKept, TypesPass, KeptTypesPass}
-use Rattle.plan_meaning.proofs.KeptParts.{numbers_pass}
+use Rattle.plan_meaning.proofs.KeptParts.{numbers_pass, kept_at}
 use Rattle.plan_meaning.proofs.Lists.{no_true, each_so}
 use Rattle.plan_meaning.proofs.GatheredPlan.{parts_kept, form_tree}
 use Rattle.plan_meaning.proofs.NumberedRules.{no_name, shape_there}
@@ -53,12 +53,6 @@ no_labels (Form.flags_of names) h = no_true h
 no_labels (Form.enum_of names) h = no_true h
 no_labels _ h = refl
 
--- a number of the table is no key
-no_key : (k n : ℕ) → k ≡ 14 + n → is_key_part k ≡ false
-no_key k n e =
-    let many : length primitives ≡ 14 = refl in
-    ap (λ o. option_map_or is_key_primitive o false) (slice_past primitives k (omega (arith, e, many)))
-
 module _ (t : Tables) (kept : List ℕ) (p : Plan) where
   items_same : (olds news : List ℕ) → AllZip (Becomes t kept p) olds news → has_items olds ≡ true → has_items news ≡ true
   items_same [] news z h = no_true h
@@ -67,7 +61,7 @@ module _ (t : Tables) (kept : List ℕ) (p : Plan) where
 
   key_part : (old new : ℕ) → IsPart kept old new → is_key_part old ≡ true → is_key_part new ≡ true
   key_part old new (a_primitive low same) h = ap is_key_part same ∙ h
-  key_part old new (a_shape n j is stands to) h = no_true (sym (no_key old n is) ∙ h)
+  key_part old new (a_shape n j is stands to) h = no_true (sym (let many : length primitives ≡ 14 = refl in ap (λ o. option_map_or is_key_primitive o false) (slice_past primitives old (omega (arith, is, many)))) ∙ h)
 
   key_same : (olds news : List ℕ) → AllZip (Becomes t kept p) olds news → begins_with_key olds ≡ true → begins_with_key news ≡ true
   key_same [] news z h = no_true h
@@ -234,11 +228,8 @@ module _ (t : Tables) (tables : AreTables t) (kept : List ℕ) (p : Plan) (are :
       by (a_primitive low same) = ap (λ c. passes (is_named_number p) (cond c None (Some (new - 14)))) (lt-ltb new 14 (omega (arith, low, same)))
       by (a_shape m i is stands to) =
           let range = b.range in
-          let found = slice_there p.types i (omega (arith, range, to)) in
-          let from = are.each i found.0 found.1 in
-          let number : from.0 ≡ m = same-some from.0 m (sym from.1 ∙ stands) in
-          let named : is_some found.0.name ≡ true = named_type old from.0 (is ∙ ap (λ k. 14 + k) (sym number)) no_form found.0 from.2 in
-          ap (passes (is_named_number p)) (ap part_number to ∙ behind i) ∙ (ap (λ o. option_map_or (λ (x : PlannedType). is_some x.name) o false) found.1 ∙ named)
+          let found = kept_at t kept p are i m (omega (arith, range, to)) stands in
+          ap (passes (is_named_number p)) (ap part_number to ∙ behind i) ∙ (ap (λ o. option_map_or (λ (x : PlannedType). is_some x.name) o false) found.1 ∙ named_type old m is no_form found.0 found.2)
 
   alias_is_named : (d : Option ℕ) (kind : PlannedKind) → DeclaresKind t kept p d kind → passes (is_named_number p) (alias_number kind) ≡ true
   alias_is_named d kind (a_resource e k) = ap (λ x. passes (is_named_number p) (alias_number x)) k

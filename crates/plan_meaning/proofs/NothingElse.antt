@@ -47,11 +47,6 @@ module _ (r : Resolve) (m : ℕ) where
       any_of_map (λ f. has (plan.function_numbers f) n) planned_function fs
       ∙ same_any (λ f. has (plan.function_numbers (planned_function f)) n) (λ f. has (parts.function_numbers f) n) (λ f. ap (λ ns. has ns n) (function_numbers_are f)) fs
 
-  types_have : (n : ℕ) → list_any (λ t. has (plan.kind_numbers t.kind) n) (map planned_type r.types.items) ≡ list_any (λ def. has (parts.kind_numbers def.kind) n) r.types.items
-  types_have n =
-      any_of_map (λ t. has (plan.kind_numbers t.kind) n) planned_type r.types.items
-      ∙ same_any (λ def. has (plan.kind_numbers (planned_kind def.kind)) n) (λ def. has (parts.kind_numbers def.kind) n) (λ def. ap (λ ns. has ns n) (kind_numbers_are def.kind)) r.types.items
-
   interfaces_have : (n : ℕ) → list_any (λ i. list_any (λ f. has (plan.function_numbers f) n) (planned.functions_of i)) (map planned_interface r.interfaces.items)
       ≡ list_any (λ i. list_any (λ f. has (parts.function_numbers f) n) (functions_of_interface i)) r.interfaces.items
   interfaces_have n =
@@ -67,7 +62,7 @@ module _ (r : Resolve) (m : ℕ) where
       (λ w. ap (list_any (λ f. has (plan.function_numbers f) n)) (world_functions_are w) ∙ functions_have n (functions_of_world w)) r.worlds.items
 
   part_is : (n : ℕ) → planned.is_part (plan_of r m) n ≡ is_part_of r n
-  part_is n = λ i. types_have n i || (interfaces_have n i || worlds_have n i)
+  part_is n = λ i. (any_of_map (λ t. has (plan.kind_numbers t.kind) n) planned_type r.types.items ∙ same_any (λ def. has (plan.kind_numbers (planned_kind def.kind)) n) (λ def. has (parts.kind_numbers def.kind) n) (λ def. ap (λ ns. has ns n) (kind_numbers_are def.kind)) r.types.items) i || (interfaces_have n i || worlds_have n i)
 
   pub types_used : HoldsNoMore (plan_of r m) → TypesAreUsed r
   types_used more k def e =

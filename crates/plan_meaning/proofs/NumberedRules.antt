@@ -127,14 +127,10 @@ module _ (t : Tables) (table : IsTable t.shapes) (known : ℕ → Fact) (p : ℕ
     abbrev itself_named : Tree
     itself_named = Tree.named here resource
 
-    place_number : (q : ℕ) → (place_at t q ≡ here → q ≡ p) → same_place (place_at t q) here ≡ (q == p)
-    place_number q one = either_way (same_place (place_at t q) here) (q == p) (λ h. eq-eqb q p (one ((places_decide (place_at t q) here).0 h)))
-        (λ h. (places_decide (place_at t q) here).1 (ap (place_at t) (eqb-true q p h)))
-
     name_same : (k : ℕ) → IsPart t k → IsSeenFrom t p k → same_tree (tree_at t k) itself_named ≡ is_name t known p resource k
     name_same k part seen =
         by_shape t table (λ x. same_tree x itself_named) (λ o. option_map_or (λ (x : ℕ × Text). x.0 == p && text_eq x.1 resource) (option_and_then name_in o) false) k part (λ q e. refl)
-        (λ n q name is there e. ap (λ b. b && text_eq name resource) (place_number q (seen q (itself k n q name is there))))
+        (λ n q name is there e. ap (λ b. b && text_eq name resource) (either_way (same_place (place_at t q) here) (q == p) (λ h. eq-eqb q p ((seen q (itself k n q name is there)) ((places_decide (place_at t q) here).0 h))) (λ h. (places_decide (place_at t q) here).1 (ap (place_at t) (eqb-true q p h)))))
         (λ n form ks is there e ranges. sym (ap (λ b. option_map_or (λ (x : ℕ × Text). x.0 == p && text_eq x.1 resource)
         (cond b (Some ((form_code form).number, first_label (form_code form).labels)) None) false) (no_name form)))
 

@@ -32,6 +32,7 @@ use Rattle.comp_meaning.proofs.RulesLemmas.{distinct_same}
 use Rattle.wit_model.proofs.PartsLemmas.{owner_itself}
 use Rattle.wit_model.proofs.RulesLemmas.{each_by_number}
 use Rattle.std.proofs.lemmas.List.Folds.{list_all-map}
+use Rattle.plan_meaning.proofs.KeptParts.{kept_at}
 
 module _ (t : Tables) (kept : List ℕ) (p : Plan) (are : TypesAreKept t kept p) where
   -- ---- order
@@ -64,13 +65,11 @@ module _ (t : Tables) (kept : List ℕ) (p : Plan) (are : TypesAreKept t kept p)
   module _ (b : Beside) (owned : AreOwned t kept p b.owners) (m q : ℕ) (home : b.owners q ≡ as_interface m) where
     type_is : (x : NumberedType) (n : ℕ) (e : Text × ℕ) → IsNumberOf t q x n → IsKeptAs kept p n e → HasName x e → is_type_of p (as_interface m) e ≡ true
     type_is x n e there at name =
-        let found = slice_there p.types e.1 at.1 in
-        let is = are.each e.1 found.0 found.1 in
-        let number : is.0 ≡ n = same-some is.0 n (sym is.1 ∙ at.0) in
+        let found = kept_at t kept p are e.1 n at.1 at.0 in
         let owner_is = owned.owned e.1 n found.0 q x.name found.1 at.0 there ∙ home in
         ap (λ o. option_map_or (λ y. bears e.0 y.name && same_owner y.owner (as_interface m)) o false) found.1
         ∙ both (bears e.0 found.0.name) (same_owner found.0.owner (as_interface m))
-        (ap (λ y. bears y found.0.name) name ∙ bears_name q n x.name found.0 there (subst (λ k. IsKeptType t kept p k found.0) number is.2))
+        (ap (λ y. bears y found.0.name) name ∙ bears_name q n x.name found.0 there found.2)
         (ap (λ o. same_owner o (as_interface m)) owner_is ∙ owner_itself (as_interface m))
 
     types_are : (xs : List NumberedType) (ns : List ℕ) (es : List (Text × ℕ)) → AllZip (IsNumberOf t q) xs ns → AllZip (IsKeptAs kept p) ns es → AllZip HasName xs es

@@ -326,10 +326,6 @@ module _ (t : Tables) (tables : AreTables t) (kept : List ℕ) (p : Plan) (are :
         either true c h = inl refl
         either false c h = inr h
 
-        interface_front : (u : ℕ) → has (filter_map item_interface before) u ≡ true → has (filter_map item_interface (before ++ x.entry.1 ∷ [])) u ≡ true
-        interface_front u h = ap (λ ns. has ns u) (filter_map-append item_interface before (x.entry.1 ∷ [])) ∙ has_front (filter_map item_interface before)
-            (filter_map item_interface (x.entry.1 ∷ [])) u h
-
         interface_last : (u n : ℕ) (id : Option Text) → x.entry.1 ≡ plan.interface n id → u ≡ n → has (filter_map item_interface (before ++ x.entry.1 ∷ [])) u ≡ true
         interface_last u n id e same =
             ap (λ ns. has ns u) (filter_map-append item_interface before (x.entry.1 ∷ []))
@@ -341,7 +337,7 @@ module _ (t : Tables) (tables : AreTables t) (kept : List ℕ) (p : Plan) (are :
 
         seen_interface : (r u : ℕ) → b.owners r ≡ as_interface u → Item x → (has earlier r ≡ true) ⊎ (has (path_seen x.seen.shown) r ≡ true)
             → has (filter_map item_interface (before ++ x.entry.1 ∷ [])) u ≡ true
-        seen_interface r u at it (inl h) = interface_front u (inv.interfaces r u h at)
+        seen_interface r u at it (inl h) = ap (λ ns. has ns u) (filter_map-append item_interface before (x.entry.1 ∷ [])) ∙ has_front (filter_map item_interface before) (filter_map item_interface (x.entry.1 ∷ [])) u (inv.interfaces r u h at)
         seen_interface r u at (by_path q n v id path shown key entry is) (inr h) =
             let same = one_place q r (sym (ap (λ s. has (path_seen s) r) shown) ∙ h) in
             interface_last u n id (ap (λ (e : PlannedKey × PlannedItem). e.1) entry) (one_interface u n (sym at ∙ (ap b.owners (sym same) ∙ is.owned)))

@@ -3,7 +3,7 @@ use Rattle.std.proofs.Common.{◌≡◌, refl, sym, ap, ◌∙◌, ℕ, ◌+◌,
 use Rattle.std.specs.Prelude.{sum_by}
 use Rattle.std.specs.List.{AllByRecursion, list_all, list_any}
 use Rattle.std.specs.Option.{option_map_or, option_eq}
-use Rattle.std.proofs.lemmas.Bool.{eq-eqb, and_from as both, not-true as not_true}
+use Rattle.std.proofs.lemmas.Bool.{eq-eqb, and_from as both, not-true as not_true, or_right}
 use Rattle.std.proofs.lemmas.List.Folds.{list_all-map}
 use Rattle.std.proofs.lemmas.List.Sums.{sum_by-cons}
 use Rattle.std.proofs.lemmas.Slice.Eq.{bytes_eq-Decides}
@@ -29,7 +29,7 @@ use Rattle.plan_meaning.proofs.Listed.{in_range}
 use Rattle.plan_meaning.proofs.Lists.{no_true}
 use Rattle.wit_model.proofs.UsesLemmas.{has_filter}
 use Rattle.plan_meaning.proofs.ReadLists.{distinct_both, never, number_there, times, times_absent, times_both, times_filter, times_of, times_once}
-use Rattle.base_lemmas.proofs.Bools.{left_of as first_true, right_of as second_true}
+use Rattle.base_lemmas.proofs.Bools.{left_of as first_true, right_of as second_true, or_true, second_false as none_second}
 use Rattle.base_lemmas.proofs.Elements.{all_by_number, get-contains}
 use Rattle.base_lemmas.proofs.Numbers.{same-number}
 use Rattle.std.proofs.lemmas.Option.{same_Some as same-some}
@@ -68,10 +68,6 @@ module _ (t : Tables) (tables : AreTables t) (h : Homes) (homes : HomesStand t h
       where
         go : (b : Bool) → same_identity k.identity other.identity ≡ b → ((m == n) || not (same_identity k.identity other.identity)) ≡ true
         go false g = ap (λ b. (m == n) || not b) g ∙ or_true (m == n)
-          where
-            or_true : (b : Bool) → (b || true) ≡ true
-            or_true true = refl
-            or_true false = refl
         go true g =
             let same : k.identity ≡ other.identity = (identities_decide k.identity other.identity).0 g in
             let number : m ≡ n = homes.apart m n other.identity (read.packages m other f).identity ((read.packages n k e).identity ∙ ap Some same) in
@@ -106,17 +102,13 @@ module _ (t : Tables) (tables : AreTables t) (h : Homes) (homes : HomesStand t h
     other_names n e is [] a none = refl
     other_names n e is (x ∷ es) a none = go (text_eq e.0 x.0) refl (other_names n e is es a.1)
       where
-        rest : (b : Bool) → (b || has (numbers_of es) e.1) ≡ false → has (numbers_of es) e.1 ≡ false
-        rest false g = g
-        rest true g = never true refl g
-
         go : (b : Bool) → text_eq e.0 x.0 ≡ b → (has (numbers_of es) e.1 ≡ false → list_any (text_eq e.0) (names_of es) ≡ false) → list_any (text_eq e.0) (names_of (x ∷ es)) ≡ false
         go true f more =
             let same : e.0 ≡ x.0 = (bytes_eq-Decides e.0 x.0).0 f in
             let place : is.place ≡ a.0.place = one_home is.place a.0.place n x.0 is.path a.0.path (is.home ∙ ap (λ y. Some (n, y)) same) a.0.home in
             let number : x.1 ≡ e.1 = one_interface x.1 e.1 (sym a.0.owned ∙ (ap owners (sym place) ∙ is.owned)) in
             never (has (numbers_of (x ∷ es)) e.1) (ap (λ b. b || has (numbers_of es) e.1) (eq-eqb x.1 e.1 number)) none
-        go false f more = ap (λ b. b || list_any (text_eq e.0) (names_of es)) f ∙ more (rest (x.1 == e.1) none)
+        go false f more = ap (λ b. b || list_any (text_eq e.0) (names_of es)) f ∙ more (none_second (x.1 == e.1) (has (numbers_of es) e.1) none)
 
     interface_names : (n : ℕ) (es : List (Text × ℕ)) → AllByRecursion (IsListedInterface t h p owners n) es → are_once (numbers_of es) ≡ true → are_distinct (names_of es) ≡ true
     interface_names n [] a once = refl
@@ -157,11 +149,7 @@ module _ (t : Tables) (tables : AreTables t) (h : Homes) (homes : HomesStand t h
         go false f = ap (λ k. (k == 0) || option_eq ◌==◌ w.package_ i.package_) (times_of item_interface m (items_of w) ∙ times_absent m (filter_map item_interface (items_of w)) f)
         go true f =
             let home = read.inline_home n w m i at (has-contains (filter_map item_interface (items_of w)) m f) e none in
-            or_second (times_shown m w == 0) (option_eq ◌==◌ w.package_ i.package_) (same_package w.package_ i.package_ (sym home))
-          where
-            or_second : (a b : Bool) → b ≡ true → (a || b) ≡ true
-            or_second true b g = refl
-            or_second false b g = g
+            or_right (times_shown m w == 0) (option_eq ◌==◌ w.package_ i.package_) (same_package w.package_ i.package_ (sym home))
 
     placed : (m : ℕ) (i : PlannedInterface) → interface_in p m ≡ Some i → is_placed p m i ≡ true
     placed m i e = by (read.interfaces m i e)

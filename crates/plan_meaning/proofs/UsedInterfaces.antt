@@ -35,6 +35,7 @@ use Rattle.base_lemmas.proofs.Elements.{all_pass as all_among, contains-map, fil
 use Rattle.base_lemmas.proofs.Lists.{get_back, within_there as slice_there}
 use Rattle.std.proofs.lemmas.Option.{same_Some as same-some}
 use Rattle.wit_model.proofs.RulesLemmas.{each_by_number}
+use Rattle.plan_meaning.proofs.KeptParts.{kept_at}
 
 -- ---- lists
 
@@ -73,10 +74,8 @@ module _ (t : Tables) (tables : AreTables t) (kept : List ℕ) (p : Plan) (are :
       → UsedBy q d (option_and_then (λ (u : PlannedType). owner_interface u.owner) (type_in p i))
   name_used n k q name x there at shape d old new i m kind is no_form becomes from stands to =
       let range = becomes.range in
-      let found = slice_there p.types i (omega (arith, range, to)) in
-      let target = are.each i found.0 found.1 in
-      let number : target.0 ≡ m = same-some target.0 m (sym target.1 ∙ stands) in
-      by found.0 found.1 (subst (λ j. IsKeptType t kept p j found.0) number target.2)
+      let found = kept_at t kept p are i m (omega (arith, range, to)) stands in
+      by found.0 found.1 found.2
     where
       place : {r : ℕ} {label : Text} → option_and_then (λ (u : PlannedType). owner_interface u.owner) (type_in p i) ≡ owner_interface (b.owners r) → slice_get t.shapes m ≡ Some (named_shape r label)
           → (r ≡ q) ⊎ HasPath t r → UsedBy q d (option_and_then (λ (u : PlannedType). owner_interface u.owner) (type_in p i))
