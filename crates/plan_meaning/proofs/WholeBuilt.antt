@@ -1,5 +1,5 @@
 -- The worked plan of two packages, built: valid, and of the plan's meaning. Where values lie in memory is left open.
-use Rattle.std.proofs.Common.{◌≡◌, ℕ, ◌<◌, ◌^◌, List, [], ◌∷◌, length, refl, codes, Vec, String, arith, lit<, Some, None, Option}
+use Rattle.std.proofs.Common.{◌≡◌, ℕ, ◌<◌, ◌^◌, List, [], ◌∷◌, length, refl, codes, Vec, String, arith, lit<, Some, None, Option, rules}
 use Rattle.std.specs.declared.alloc.Global.{Global}
 use Rattle.std.specs.declared.hash.FoldHasher.{FoldHasher}
 use Rattle.std.specs.declared.hash.BuildHasherDefault.{BuildHasherDefault}
@@ -153,14 +153,7 @@ module _ (alloc : Global) (hasher : BuildHasherDefault FoldHasher) where
   }
 
   is_built : IsBuilt whole_plan whole
-  is_built = record {
-    packages = refl;
-    interfaces = refl;
-    worlds = refl;
-    types = refl;
-    versions = refl;
-    bare = record { packages = refl; interfaces = refl; worlds = refl; types = refl };
-  }
+  is_built = search rules
 
   is_valid : IsValid whole
   is_valid = built_is_valid whole_plan whole is_plan is_built
