@@ -30,10 +30,6 @@ use Rattle.plan_meaning.proofs.ListedTypes.{distinct_front as front_distinct}
 
 -- ---- parts of a list whose names differ
 
-pub first_missed : (a b : Bool) → not (a || b) ≡ true → not a ≡ true
-first_missed false b h = refl
-first_missed true b h = no_true h
-
 pub back_distinct : (xs ys : List Text) → are_distinct (xs ++ ys) ≡ true → are_distinct ys ≡ true
 back_distinct [] ys h = h
 back_distinct (x ∷ xs) ys h = back_distinct xs ys (second_true (not (list_any (text_eq x) (xs ++ ys))) _ h)

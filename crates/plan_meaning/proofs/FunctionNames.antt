@@ -150,9 +150,11 @@ module _ (r : Resolve) (m : ℕ) where
         list_all-append (is_right n) w.imports.entries w.exports.entries
         ∙ both _ _
         (all_two (λ e. planned.import_stands (plan_of r m) n (planned_key e.0, planned_item e.1)) (λ e. passes (rules.is_member r (as_world n)) (item_function e.1)) (is_right n)
-        (λ e a b. passes_both (λ f. is_name_key (text_of f.name) e.0) (rules.is_member r (as_world n)) _ (λ f x y. both _ _ x y) (item_function e.1) (import_key n e.0 e.1 a) b) w.imports.entries (imports_there r m is n w at) members.0)
+        (λ e a b. passes_both (λ f. is_name_key (text_of f.name) e.0) (rules.is_member r (as_world n)) _ (λ f x y. both _ _ x y) (item_function e.1) (import_key n e.0 e.1 a) b) w.imports.entries
+        (imports_there r m is n w at) members.0)
         (all_two (λ e. planned.export_stands (plan_of r m) (planned_key e.0, planned_item e.1)) (λ e. passes (rules.is_member r (as_world n)) (item_function e.1)) (is_right n)
-        (λ e a b. passes_both (λ f. is_name_key (text_of f.name) e.0) (rules.is_member r (as_world n)) _ (λ f x y. both _ _ x y) (item_function e.1) (export_key e.0 e.1 a) b) w.exports.entries (exports_there r m is n w at) members.1)
+        (λ e a b. passes_both (λ f. is_name_key (text_of f.name) e.0) (rules.is_member r (as_world n)) _ (λ f x y. both _ _ x y) (item_function e.1) (export_key e.0 e.1 a) b) w.exports.entries
+        (exports_there r m is n w at) members.1)
 
     pub function_names_kept : Keeps function_names r
     unfolding function_names

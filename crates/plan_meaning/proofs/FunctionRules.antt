@@ -127,7 +127,8 @@ module _ (p : Function → Bool) where
       → (list_all (λ e. passes p (item_function e.1)) w.imports.entries ≡ true) × (list_all (λ e. passes p (item_function e.1)) w.exports.entries ≡ true)
   entries_pass w h =
       let split : (list_all (λ x. passes p (item_function x)) (values w.imports) && list_all (λ x. passes p (item_function x)) (values w.exports)) ≡ true =
-      sym (list_all-append (λ x. passes p (item_function x)) (values w.imports) (values w.exports)) ∙ (sym (list_all_filter_map p item_function (items_of w) ∙ same_all (λ x. list_all p (option_to_list (item_function x))) (λ x. passes p (item_function x)) (λ x. given_passes (item_function x)) (items_of w)) ∙ h) in (
+      sym (list_all-append (λ x. passes p (item_function x)) (values w.imports) (values w.exports)) ∙ (sym (list_all_filter_map p item_function (items_of w)
+      ∙ same_all (λ x. list_all p (option_to_list (item_function x))) (λ x. passes p (item_function x)) (λ x. given_passes (item_function x)) (items_of w)) ∙ h) in (
         sym (list_all-map (λ x. passes p (item_function x)) (λ e. e.1) w.imports.entries) ∙ first_true _ _ split,
         sym (list_all-map (λ x. passes p (item_function x)) (λ e. e.1) w.exports.entries) ∙ second_true (list_all (λ x. passes p (item_function x)) (values w.imports)) _ split,
       )

@@ -90,7 +90,9 @@ module _ (t : Tables) (tables : AreTables t) (kept : List ℕ) (p : Plan) (keeps
   result_kept _ _ h = absurd h
 
   signature_kept : (f : FunctionShape) (id : Option Text) (g : PlannedFunction) → FunctionBecomes t kept p f id g → planned.signature_of p g ≡ signature_over (tree_at t) f
-  signature_kept f id g b = λ i. record { is_async = b.waits i; params = (zip_map (ParamBecomes t kept p) (over (tree_at t)) (over (part_tree (trees_in p))) (λ x y h i. (h.0 i, part_kept x.1 y.1 h.1 i))) f.params g.params b.params i; result = result_kept f.result g.result b.result i }
+  signature_kept f id g b =
+      let params = zip_map (ParamBecomes t kept p) (over (tree_at t)) (over (part_tree (trees_in p))) (λ x y h i. (h.0 i, part_kept x.1 y.1 h.1 i)) f.params g.params b.params in
+      λ i. record { is_async = b.waits i; params = params i; result = result_kept f.result g.result b.result i }
 
   function_kept : (f : FunctionShape) (id : Option Text) (g : PlannedFunction) → FunctionBecomes t kept p f id g
       → function_meaning p g ≡ record { signature = signature_over (tree_at t) f; external_id = id }
@@ -101,7 +103,10 @@ module _ (t : Tables) (tables : AreTables t) (kept : List ℕ) (p : Plan) (keeps
 
   interface_kept : (v : NumberedView) (fs : List (Text × NumberedFunction)) (x : PlannedInterface) → InterfaceBecomes t kept p v fs x
       → planned.interface_meaning p x ≡ reads.interface_meaning (view_of t v) (map (shown_function t) fs)
-  interface_kept v fs x b = λ i. record { types = types_kept v.types x.types b.types i; functions = from_entries ((zip_map (FunctionListed t kept p) (shown_function t) function_entry (λ f e h i. (h.0 i, function_kept (function_at t f.1.signature) f.1.external_id e.1 h.1 i))) fs x.functions b.functions i) }
+  interface_kept v fs x b =
+      let functions = zip_map (FunctionListed t kept p) (shown_function t) function_entry
+      (λ f e h i. (h.0 i, function_kept (function_at t f.1.signature) f.1.external_id e.1 h.1 i)) fs x.functions b.functions in
+      λ i. record { types = types_kept v.types x.types b.types i; functions = from_entries (functions i) }
 
   interface_there : (v : NumberedView) (fs : List (Text × NumberedFunction)) (n : ℕ) → InterfaceAt t kept p v fs n
       → interface_meaning_in p n ≡ reads.interface_meaning (view_of t v) (map (shown_function t) fs)

@@ -43,7 +43,8 @@ module _ (r : Resolve) (m : ℕ) where
   types_are w (item.Function f) =
       ap (λ ns. filter (plan.has_owner (plan_of r m) (as_world w)) (used_by_numbers (plan_of r m) ns)) (function_numbers_are f)
       ∙ (λ i. filter (λ n. has_owner_is r m (as_world w) n i) (used_are r m (parts.function_numbers f) i))
-  types_are w (item.Type_ id) = λ i. filter (λ n. has_owner_is r m (as_world w) n i) ((or_there (λ t. used_by_numbers (plan_of r m) (kind_numbers t.kind)) planned_type (used_by_type r) [] (λ def. used_by_kind_is r m def.kind) r.types.items) id.0 i)
+  types_are w (item.Type_ id) = λ i. filter (λ n. has_owner_is r m (as_world w) n i)
+      ((or_there (λ t. used_by_numbers (plan_of r m) (kind_numbers t.kind)) planned_type (used_by_type r) [] (λ def. used_by_kind_is r m def.kind) r.types.items) id.0 i)
 
   before_is : (w : ℕ) (before : List WorldItem) (x : WorldItem) → planned.uses_stand_before (plan_of r m) w (map planned_item before) (planned_item x) ≡ rules.uses_stand_before r w before x
   before_is w before x = λ i. list_all (has (item_interfaces_are before i)) (interfaces_are x i) && list_all (has (item_types_are before i)) (types_are w x i)

@@ -235,7 +235,8 @@ module _ (t : Tables) (tables : AreTables t) (known : ℕ → Fact) (kept : List
       self_becomes (x ∷ xs) (y ∷ ys) z h =
           both (text_eq y.0 (codes "self")) (part_is p (is_borrow_of n) y.1) (ap (λ u. text_eq u (codes "self")) z.0.0 ∙ first_true (text_eq x.0 (codes "self"))
           (is_handle t known q borrow_sort name x.1) h)
-          ((handle_becomes Form.borrow_of borrow_sort borrow_form refl (is_borrow_of n) (λ x is_type. both (is_none x.name) (plan.is_borrow_kind n x.kind) (ap is_none is_type.none) (ap (plan.is_borrow_kind n) is_type.kind ∙ is_type.number))) x.1 y.1 (second_true (text_eq x.0 (codes "self")) (is_handle t known q borrow_sort name x.1) h) z.0.1)
+          ((handle_becomes Form.borrow_of borrow_sort borrow_form refl (is_borrow_of n) (λ x is_type. both (is_none x.name) (plan.is_borrow_kind n x.kind) (ap is_none is_type.none)
+          (ap (plan.is_borrow_kind n) is_type.kind ∙ is_type.number))) x.1 y.1 (second_true (text_eq x.0 (codes "self")) (is_handle t known q borrow_sort name x.1) h) z.0.1)
 
       member_is : (g : PlannedFunction) (kind : FunctionKind) → g.kind ≡ kind → resource_of kind ≡ Some n → is_member_of p n name g kind ≡ true → is_member p o g ≡ true
       member_is g kind e own h =

@@ -61,7 +61,8 @@ module _ (t : Tables) (kept : List ℕ) (p : Plan) where
 
   key_part : (old new : ℕ) → IsPart kept old new → is_key_part old ≡ true → is_key_part new ≡ true
   key_part old new (a_primitive low same) h = ap is_key_part same ∙ h
-  key_part old new (a_shape n j is stands to) h = no_true (sym (let many : length primitives ≡ 14 = refl in ap (λ o. option_map_or is_key_primitive o false) (slice_past primitives old (omega (arith, is, many)))) ∙ h)
+  key_part old new (a_shape n j is stands to) h = no_true
+      (sym (let many : length primitives ≡ 14 = refl in ap (λ o. option_map_or is_key_primitive o false) (slice_past primitives old (omega (arith, is, many)))) ∙ h)
 
   key_same : (olds news : List ℕ) → AllZip (Becomes t kept p) olds news → begins_with_key olds ≡ true → begins_with_key news ≡ true
   key_same [] news z h = no_true h
@@ -102,7 +103,8 @@ module _ (t : Tables) (tables : AreTables t) (kept : List ℕ) (p : Plan) (are :
         ap (λ x. list_all (λ m. nat_lt m j) (kind_numbers x)) k ∙ parts_fall (old ∷ []) (new ∷ []) (b, tt) (before, tt)
     kind_falls d kind low (a_form old m form olds news e is there z k) =
         let before : old < 14 + n = subst (AllOf (λ x. x < 14 + n)) e low in
-        ap (λ x. list_all (λ i. nat_lt i j) (kind_numbers x)) k ∙ parts_fall olds news z (each_so (λ i. i < 14 + m) (λ i. i < 14 + n) (λ i low. omega (arith, before, is, low)) olds (parts_before m form olds there))
+        ap (λ x. list_all (λ i. nat_lt i j) (kind_numbers x)) k
+        ∙ parts_fall olds news z (each_so (λ i. i < 14 + m) (λ i. i < 14 + n) (λ i low. omega (arith, before, is, low)) olds (parts_before m form olds there))
 
     type_falls : (x : PlannedType) → IsKeptType t kept p n x → list_all (λ m. nat_lt m j) (kind_numbers x.kind) ≡ true
     type_falls x (unnamed place form olds news there z name owner kind part low) = ap (λ k. list_all (λ m. nat_lt m j) (kind_numbers k)) kind ∙ parts_fall olds news z (parts_before n form olds there)

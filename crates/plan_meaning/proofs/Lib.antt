@@ -1,40 +1,40 @@
--- Lists and options that are made entry by entry of others. Serves Depths, DistinctKeys, FunctionNames, FunctionRules and 29 more; crates above.
+-- Lists and options that are made entry by entry of others. Serves Depths, DistinctKeys, FunctionNames, FunctionRules and 35 more; crates above.
 pub mod Lists
 -- In a table of shapes each number has a tree, and no tree has two numbers. Serves laws::shapes_are_trees; crates above.
 pub mod ShapeLaws
--- The words of a plan, on the plan that a `Resolve` is built from, are those of the `Resolve`. Serves Depths, DistinctKeys, FunctionNames, FunctionRules and 25 more; crates above.
+-- The words of a plan, on the plan that a `Resolve` is built from, are those of the `Resolve`. Serves Depths, DistinctKeys, FunctionNames, FunctionRules and 27 more; crates above.
 pub mod Words
--- The functions of a plan's interfaces and worlds are those of the `Resolve`, and so are its items. Serves Depths, FunctionNames, ItemOrder, Labels and 7 more.
+-- The functions of a plan's interfaces and worlds are those of the `Resolve`, and so are its items. Serves Depths, FunctionNames, ItemOrder, Labels and 8 more.
 pub mod FunctionRules
 -- Types of values have at most so many unnamed levels. Serves Valid.
 pub mod Depths
 -- Names are labels, and lists of members don't repeat one. Serves DistinctKeys, Places, Valid.
 pub mod Labels
+-- What holds of the parts of a list, of the numbers that they become; the parts of a function in one list. Serves KeptFunctions, KeptOwners, KeptResources, KeptTypes and 4 more.
+pub mod KeptParts
 -- Each rule of reading on types, functions and interfaces has the same answer in numbers. Serves laws::rules_in_numbers; crates above.
 pub mod NumberedRules
 -- Interfaces that are read pass the tests of a plan on each interface by itself. Serves laws::read_interfaces_pass.
 pub mod ReadInterfaces
--- Lists in which no number or no name stands twice. Serves ListedTypes, ReadOrder, ReadPlaces, ReadWholes and 1 more; crates above.
+-- Lists in which no number or no name stands twice. Serves ListedTypes, ReadOrder, ReadPlaces, ReadWholes and 2 more; crates above.
 pub mod ReadLists
 -- One view of each path is enough. Serves laws::one_view_is_enough.
 pub mod Gathering
--- Equal numbers are equal trees and equal types of functions, so views agree where their numbers do. Serves laws::numbers_tell, laws::views_agree_in_numbers.
-pub mod NumberedViews
 -- What uses what, and what a world may have, has the same answer in numbers. Serves laws::uses_in_numbers, laws::worlds_in_numbers; crates above.
 pub mod NumberedWorlds
+-- Equal numbers are equal trees and equal types of functions, so views agree where their numbers do. Serves laws::numbers_tell, laws::views_agree_in_numbers.
+pub mod NumberedViews
 -- Members are a package, and a world stands alone, exactly where their numbers are. Serves laws::interfaces_in_numbers, laws::packages_in_numbers; crates above.
 pub mod NumberedMembers
 -- The types of a plan stand for the trees of the shapes that they are made of. Serves laws::trees_are_kept; crates above.
 pub mod Renumbering
--- What holds of the parts of a list, of the numbers that they become; the parts of a function in one list. Serves KeptFunctions, KeptOwners, KeptResources, KeptTypes and 2 more.
-pub mod KeptParts
 -- A plan that is gathered from views in numbers means what they mean. Serves laws::gathered_plans_are_meant; crates above.
 pub mod GatheredPlan
 -- Types of a plan that are those of kept shapes pass the tests on types. Serves laws::kept_types_pass; crates above.
 pub mod KeptTypes
 -- Functions whose types are those of kept shapes pass the tests on their types and their resource. Serves laws::kept_functions_pass.
 pub mod KeptFunctions
--- What a package lists is in range, of the package, and under its own name; packages are apart. Serves NumbersInRange, Places, ReadPlaces, ReadWorlds and 3 more.
+-- What a package lists is in range, of the package, and under its own name; packages are apart. Serves FunctionNames, NumbersInRange, Places, ReadPlaces and 4 more.
 pub mod Listed
 -- Worlds that are read pass the tests of a plan on each world by itself. Serves laws::read_worlds_pass.
 pub mod ReadWorlds
@@ -46,6 +46,8 @@ pub mod DistinctKeys
 pub mod FunctionNames
 -- Which numbers are resources: the marks along a plan's types say what following aliases finds. Serves Rising, TypeOrder, Valid.
 pub mod ResourceMarks
+-- The named types that numbers of a plan use are under no larger numbers. Serves KeptOwners, ReadOrder, ReadWholes, Rising and 1 more.
+pub mod MetTypes
 -- Lists of rising numbers: none stands twice, and what a number uses, being smaller, stands before it. Serves TypeOrder.
 pub mod Rising
 -- Shapes of kinds, and which kinds have names. Serves NothingElse, Owning, Valid, WorldItems.
@@ -62,8 +64,6 @@ pub mod KeptOwners
 pub mod KeptResources
 -- What a plan means, part by part, is what the `Resolve` means that is built from it. Serves PackageMeans, WorldAlone.
 pub mod Meanings
--- The named types that numbers of a plan use are under no larger numbers. Serves ReadOrder, ReadWholes, UsedInterfaces.
-pub mod MetTypes
 -- Each interface of a plan of a package is reached from the package. Serves NothingElse, PackageMeans, WorldAlone.
 pub mod Reaching
 -- Every number is in range of its list, and no list is too long. Serves Valid.

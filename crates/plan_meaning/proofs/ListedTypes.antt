@@ -39,7 +39,8 @@ pub distinct_front : (xs ys : List Text) → are_distinct (xs ++ ys) ≡ true �
 distinct_front [] ys h = refl
 distinct_front (x ∷ xs) ys h =
     both (not (list_any (text_eq x) xs)) (are_distinct xs)
-    (ap not (none_first (list_any (text_eq x) xs) (list_any (text_eq x) ys) (sym (list_any-append (text_eq x) xs ys) ∙ (not_true (list_any (text_eq x) (xs ++ ys)) (first_true (not (list_any (text_eq x) (xs ++ ys))) (are_distinct (xs ++ ys)) h)))))
+    (ap not (none_first (list_any (text_eq x) xs) (list_any (text_eq x) ys)
+    (sym (list_any-append (text_eq x) xs ys) ∙ (not_true (list_any (text_eq x) (xs ++ ys)) (first_true (not (list_any (text_eq x) (xs ++ ys))) (are_distinct (xs ++ ys)) h)))))
     (distinct_front xs ys (second_true (not (list_any (text_eq x) (xs ++ ys))) (are_distinct (xs ++ ys)) h))
 
 no_key : (key : PlannedKey) (name : Text) (item : PlannedItem) → same_key key (plan.label name) ≡ true → (es : List (PlannedKey × PlannedItem)) → Contains es (plan.label name, item)

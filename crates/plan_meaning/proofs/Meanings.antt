@@ -73,7 +73,9 @@ module _ (r : Resolve) (m : ℕ) where
   functions_are i = named_means planned_function (planned.function_meaning (plan_of r m)) (meant.function_meaning r) function_is i.functions.entries
 
   pub interface_is : (i : Interface) → planned.interface_meaning (plan_of r m) (planned_interface i) ≡ meant.interface_meaning r i
-  interface_is i = λ j. record { types = (named_means (λ (id : TypeId). id.0) (planned.type_meaning_in (plan_of r m)) (λ id. meant.type_meaning_at r id.0) (λ id. type_at_is id.0) i.types.entries) j; functions = from_entries (functions_are i j) }
+  interface_is i =
+      let types = named_means (λ (id : TypeId). id.0) (planned.type_meaning_in (plan_of r m)) (λ id. meant.type_meaning_at r id.0) (λ id. type_at_is id.0) i.types.entries in
+      λ j. record { types = types j; functions = from_entries (functions_are i j) }
 
   pub interface_at_is : (n : ℕ) → planned.interface_meaning_in (plan_of r m) n ≡ meant.interface_meaning_at r n
   interface_at_is = or_there (planned.interface_meaning (plan_of r m)) planned_interface (meant.interface_meaning r) no_interface interface_is r.interfaces.items

@@ -62,7 +62,8 @@ module _ (r : Resolve) (m : ℕ) where
       (λ w. ap (list_any (λ f. has (plan.function_numbers f) n)) (world_functions_are w) ∙ functions_have n (functions_of_world w)) r.worlds.items
 
   part_is : (n : ℕ) → planned.is_part (plan_of r m) n ≡ is_part_of r n
-  part_is n = λ i. (any_of_map (λ t. has (plan.kind_numbers t.kind) n) planned_type r.types.items ∙ same_any (λ def. has (plan.kind_numbers (planned_kind def.kind)) n) (λ def. has (parts.kind_numbers def.kind) n) (λ def. ap (λ ns. has ns n) (kind_numbers_are def.kind)) r.types.items) i || (interfaces_have n i || worlds_have n i)
+  part_is n = λ i. (any_of_map (λ t. has (plan.kind_numbers t.kind) n) planned_type r.types.items ∙ same_any (λ def. has (plan.kind_numbers (planned_kind def.kind)) n)
+      (λ def. has (parts.kind_numbers def.kind) n) (λ def. ap (λ ns. has ns n) (kind_numbers_are def.kind)) r.types.items) i || (interfaces_have n i || worlds_have n i)
 
   pub types_used : HoldsNoMore (plan_of r m) → TypesAreUsed r
   types_used more k def e =

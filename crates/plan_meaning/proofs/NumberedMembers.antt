@@ -118,7 +118,8 @@ module _ (t : Tables) (tables : AreTables t) (h : Homes) (stand : HomesStand t h
     pub interfaces_same : (seen : List NumberedSight) → AllByRecursion (IsKnownSight t known) seen → reads.are_interfaces (map (sight_of t) seen) ≡ are_interfaces t known seen
     interfaces_same = all_same (IsKnownSight t known) (λ s. rules.is_interface (Place.of_interface s.path) s.view) (sight_of t)
         (λ (s : NumberedSight). is_interface t known s.place s.view)
-        (λ s h. ap (λ place. rules.is_interface place (view_of t s.view)) (ap Place.of_interface (path_is t s.place (h.0.path, h.0.home)) ∙ sym (ap place_of h.0.home)) ∙ interface_same t tables.shapes known s.place s.view h.1)
+        (λ s h. ap (λ place. rules.is_interface place (view_of t s.view)) (ap Place.of_interface (path_is t s.place (h.0.path, h.0.home)) ∙ sym (ap place_of h.0.home))
+        ∙ interface_same t tables.shapes known s.place s.view h.1)
 
     pub agree_same : (seen : List NumberedSight) → AllByRecursion (IsKnownSight t known) seen → all_agree (map (sight_of t) seen) ≡ agree_in_numbers seen
     agree_same seen all = all_agree_in_numbers t tables seen (only_sights t known seen all)

@@ -130,7 +130,8 @@ module _ (t : Tables) (table : IsTable t.shapes) (known : ℕ → Fact) (p : ℕ
     name_same : (k : ℕ) → IsPart t k → IsSeenFrom t p k → same_tree (tree_at t k) itself_named ≡ is_name t known p resource k
     name_same k part seen =
         by_shape t table (λ x. same_tree x itself_named) (λ o. option_map_or (λ (x : ℕ × Text). x.0 == p && text_eq x.1 resource) (option_and_then name_in o) false) k part (λ q e. refl)
-        (λ n q name is there e. ap (λ b. b && text_eq name resource) (either_way (same_place (place_at t q) here) (q == p) (λ h. eq-eqb q p ((seen q (itself k n q name is there)) ((places_decide (place_at t q) here).0 h))) (λ h. (places_decide (place_at t q) here).1 (ap (place_at t) (eqb-true q p h)))))
+        (λ n q name is there e. ap (λ b. b && text_eq name resource) (either_way (same_place (place_at t q) here) (q == p)
+        (λ h. eq-eqb q p ((seen q (itself k n q name is there)) ((places_decide (place_at t q) here).0 h))) (λ h. (places_decide (place_at t q) here).1 (ap (place_at t) (eqb-true q p h)))))
         (λ n form ks is there e ranges. sym (ap (λ b. option_map_or (λ (x : ℕ × Text). x.0 == p && text_eq x.1 resource)
         (cond b (Some ((form_code form).number, first_label (form_code form).labels)) None) false) (no_name form)))
 
@@ -155,7 +156,8 @@ module _ (t : Tables) (table : IsTable t.shapes) (known : ℕ → Fact) (p : ℕ
           by_shape t table (λ x. same_tree x handle_tree) (λ o. option_map_or (is_name t known p resource) (option_and_then (held_in sort) o) false) k part (λ q e. refl)
           (λ n q name is there e. sym (ap (λ b. option_map_or (is_name t known p resource) (cond b None None) false) not_name))
           (λ n form ks is there e ranges. handle_cases (same_form form handle) ((form_code form).sort == sort)
-          (same_trees (children (map (tree_at t) ks)) (Trees.child itself_named Trees.no_children)) (only_of ks) (by_sort form) (only_same ks ranges (λ m c q h. seen q (inside k n m q form ks is there c h))))
+          (same_trees (children (map (tree_at t) ks)) (Trees.child itself_named Trees.no_children)) (only_of ks) (by_sort form)
+          (only_same ks ranges (λ m c q h. seen q (inside k n m q form ks is there c h))))
 
     own_same : (k : ℕ) → IsPart t k → IsSeenFrom t p k → same_tree (tree_at t k) (own_name here resource) ≡ is_handle t known p own_sort resource k
     own_same k part seen = handle_same Form.own_of own_sort own_by_sort refl k part seen
@@ -179,7 +181,8 @@ module _ (t : Tables) (table : IsTable t.shapes) (known : ℕ → Fact) (p : ℕ
     constructs_same None h = refl
     constructs_same (Some k) h =
         by_shape t table (λ x. rules.constructs (own_name here resource) (Some x))
-        (λ o. option_map_or (is_handle t known p own_sort resource) (option_and_then ok_in o) (is_handle t known p own_sort resource k)) k h.part (λ q e. itself_same e) (λ n q name is there e. itself_same e)
+        (λ o. option_map_or (is_handle t known p own_sort resource) (option_and_then ok_in o) (is_handle t known p own_sort resource k)) k h.part (λ q e. itself_same e)
+        (λ n q name is there e. itself_same e)
         (λ n form ks is there e ranges. ok_same form ks (is_handle t known p own_sort resource k)
         (λ m c. own_same m (all_at (IsPart t) ks ranges m c) (λ q x. h.seen q (inside k n m q form ks is there c x))) (itself_same e))
       where
@@ -206,7 +209,8 @@ module _ (t : Tables) (table : IsTable t.shapes) (known : ℕ → Fact) (p : ℕ
       (λ x k i. is_label x.name && declared_same x.declared k i) v.types h.types in
       let functions = ap (λ resources. list_all (λ f. rules.is_function here resources f.0 f.1.signature) (map (shown_function t) v.functions)) (resources_same t v.types)
       ∙ all_same (FunctionPasses t Known) (λ f. rules.is_function here (resources_of v.types) f.0 f.1.signature) (shown_function t)
-      (λ f. is_function t known p (resources_of v.types) f.0 (function_at t f.1.signature)) (λ f k. function_same (resources_of v.types) f.0 (function_at t f.1.signature) k.1) v.functions h.functions in
+      (λ f. is_function t known p (resources_of v.types) f.0 (function_at t f.1.signature))
+      (λ f k. function_same (resources_of v.types) f.0 (function_at t f.1.signature) k.1) v.functions h.functions in
       λ i. types i && functions i && distinct (names i)
 
 pub each_rule_in_numbers : EachRuleInNumbers

@@ -118,7 +118,8 @@ module _ (t : Tables) (tables : AreTables t) where
 
   types_numbers : (xs ys : List NumberedType) → AllByRecursion (TypePasses (IsOutsidePart t)) xs → AllByRecursion (TypePasses (IsOutsidePart t)) ys
       → pointwise reads.same_shown (map (shown_type t) xs) (map (shown_type t) ys) ≡ pointwise same_shown xs ys
-  types_numbers (x ∷ xs) (y ∷ ys) hx hy = λ i. (ap (λ b. text_eq x.name y.name && (b && same_option text_eq x.external_id y.external_id)) (declared_number x.declared y.declared hx.0 hy.0)) i && types_numbers xs ys hx.1 hy.1 i
+  types_numbers (x ∷ xs) (y ∷ ys) hx hy = λ i.
+      (ap (λ b. text_eq x.name y.name && (b && same_option text_eq x.external_id y.external_id)) (declared_number x.declared y.declared hx.0 hy.0)) i && types_numbers xs ys hx.1 hy.1 i
   types_numbers [] [] hx hy = refl
   types_numbers _ _ hx hy = refl
 
@@ -130,7 +131,8 @@ module _ (t : Tables) (tables : AreTables t) where
   function_found : (f : Text × NumberedFunction) → Passes f → (gs : List (Text × NumberedFunction)) → AllByRecursion Passes gs
       → list_any (λ y. text_eq f.0 y.0 && same.same_function (shown_function t f).1 y.1) (map (shown_function t) gs) ≡ list_any (λ y. text_eq f.0 y.0 && same_function f.1 y.1) gs
   function_found f hf [] hg = refl
-  function_found f hf (g ∷ gs) hg = λ i. (ap (λ b. text_eq f.0 g.0 && (b && same_option text_eq f.1.external_id g.1.external_id)) (function_number f.1.signature g.1.signature hf.0 hg.0.0 hf.1 hg.0.1)) i || function_found f hf gs hg.1 i
+  function_found f hf (g ∷ gs) hg = λ i.
+      (ap (λ b. text_eq f.0 g.0 && (b && same_option text_eq f.1.external_id g.1.external_id)) (function_number f.1.signature g.1.signature hf.0 hg.0.0 hf.1 hg.0.1)) i || function_found f hf gs hg.1 i
 
   functions_stand : (fs gs : List (Text × NumberedFunction)) → AllByRecursion Passes fs → AllByRecursion Passes gs
       → stand_in same.same_function (map (shown_function t) fs) (map (shown_function t) gs) ≡ stand_in same_function fs gs

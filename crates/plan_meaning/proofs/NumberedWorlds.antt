@@ -75,7 +75,8 @@ module _ (t : Tables) (tables : AreTables t) where
   used_same : (d : Option ℕ) → AllOf (IsPart t) d → rules.used_by (declaration_of t d) ≡ map (path_text t) (used_by t d)
   used_same None h = refl
   used_same (Some k) h =
-      by_shape t tables.shapes (λ x. rules.used_by (Declaration.type_ x)) (λ o. map (path_text t) (places_named (option_and_then name_in o))) k h (λ q e. refl) (λ n q name is there e. name_used q name)
+      by_shape t tables.shapes (λ x. rules.used_by (Declaration.type_ x)) (λ o. map (path_text t) (places_named (option_and_then name_in o))) k h (λ q e. refl)
+      (λ n q name is there e. name_used q name)
       (λ n form ks is there e ranges. sym (ap (λ b. map (path_text t) (places_named (cond b (Some ((form_code form).number, first_label (form_code form).labels)) None))) (no_name form)))
 
   -- ---- what a view uses

@@ -103,7 +103,8 @@ module _ (r : Resolve) (m : ℕ) (is : IsPlan (plan_of r m)) where
   interfaces_range = each_by_number (λ n i. is_place n && (passes (in_list r.packages.items) (package_number i.package)
       && (list_all (λ id. in_list r.types.items id.0) (values i.types) && list_all (rules.function_in_range r) (values i.functions)))) r.interfaces.items (λ n i e.
       both _ _ (place_there planned_interface r.interfaces.items is.interfaces_fit n i e)
-      (both _ _ (interface_package (λ t k. is_id n (plan.number_under t k.interfaces)) _ i.name i.package (each_there planned_interface (planned.is_placed (plan_of r m)) r.interfaces.items is.interfaces_placed n i e))
+      (both _ _ (interface_package (λ t k. is_id n (plan.number_under t k.interfaces)) _ i.name i.package
+      (each_there planned_interface (planned.is_placed (plan_of r m)) r.interfaces.items is.interfaces_placed n i e))
       (both _ _
       (list_all-map (λ id. in_list r.types.items id.0) (λ e. e.1) i.types.entries
       ∙ all_built (λ e. (text_of e.0, e.1.0)) (planned.is_type_of (plan_of r m) (as_interface n)) (λ e. in_list r.types.items e.1.0) (λ e k. type_found (as_interface n) (text_of e.0) e.1.0 k)

@@ -64,7 +64,8 @@ module _ (r : Resolve) (m : ℕ) where
       || (list_all (λ n. has_owner_is r m def.owner n i) (used_by_kind_is r m def.kind i) || (has_text def.name i && use_is def i))
 
   stays : (o : TypeOwner) (f : Function) → planned.function_stays (plan_of r m) o (planned_function f) ≡ true → rules.function_stays r o f ≡ true
-  stays o f h = sym (ap (λ ns. list_all (plan.has_owner (plan_of r m) o) (plan.used_by_numbers (plan_of r m) ns)) (value_numbers_are f) ∙ (λ i. list_all (λ n. has_owner_is r m o n i) (used_are r m (filter_map number_of (parts.function_types f)) i))) ∙ h
+  stays o f h = sym (ap (λ ns. list_all (plan.has_owner (plan_of r m) o) (plan.used_by_numbers (plan_of r m) ns)) (value_numbers_are f)
+      ∙ (λ i. list_all (λ n. has_owner_is r m o n i) (used_are r m (filter_map number_of (parts.function_types f)) i))) ∙ h
 
   module _ (is : IsPlan (plan_of r m)) where
     falls : (n : ℕ) (i : Interface) → interface_at r n ≡ Some i → list_all (λ k. nat_lt k n) (direct_deps r n) ≡ true

@@ -124,7 +124,8 @@ module _ (r : Resolve) (m : ℕ) (is : IsPlan (plan_of r m)) where
       go : (o : Option Package) → package_at r id.0 ≡ o → option_map_or (λ k. is_id n (number_under name k.interfaces)) (option_map planned_package o) false ≡ true
           → option_map_or (λ p. interface_is_listed n name p && not (is_world_name p name)) (package_at r id.0) true ≡ true
       go None e h = no_true h
-      go (Some p) e h = ap (λ o. option_map_or (λ p. interface_is_listed n name p && not (is_world_name p name)) o true) e ∙ (both _ _ (ap (is_id n) (sym (interface_number p name)) ∙ h) (no_world p name n ((all_there planned_package members_differ r.packages.items is.members_differ) id.0 p e) h))
+      go (Some p) e h = ap (λ o. option_map_or (λ p. interface_is_listed n name p && not (is_world_name p name)) o true) e
+          ∙ (both _ _ (ap (is_id n) (sym (interface_number p name)) ∙ h) (no_world p name n ((all_there planned_package members_differ r.packages.items is.members_differ) id.0 p e) h))
 
   some_package : (o : Option PackageId) (test : ℕ → Bool) → option_map_or test (option_map (λ id. id.0) o) false ≡ true → is_some o ≡ true
   some_package None test h = no_true h
@@ -136,7 +137,8 @@ module _ (r : Resolve) (m : ℕ) (is : IsPlan (plan_of r m)) where
   inline_at : (n : ℕ) (o : Option PackageId) →
       ((sum_by (planned.times_shown n) (map planned_world r.worlds.items) == 1) && list_all (λ w. (planned.times_shown n w == 0) || option_eq ◌==◌ w.package_ (option_map (λ id. id.0) o))
       (map planned_world r.worlds.items)) ≡ shown_once n o
-  inline_at n o = λ i. ((fold_of_map (λ a w. a + planned.times_shown n w) planned_world 0 r.worlds.items ∙ ap (λ (h : World → ℕ). fold (λ a w. a + h w) 0 r.worlds.items) (λ i w. times_are n w i)) i == 1)
+  inline_at n o = λ i. ((fold_of_map (λ a w. a + planned.times_shown n w) planned_world 0 r.worlds.items
+      ∙ ap (λ (h : World → ℕ). fold (λ a w. a + h w) 0 r.worlds.items) (λ i w. times_are n w i)) i == 1)
       && all_of_map (λ w. (planned.times_shown n w == 0) || option_eq ◌==◌ w.package_ (option_map (λ id. id.0) o))
       (λ w. (rules.times_shown n w == 0) || option_eq ◌==◌ (package_number w.package) (package_number o)) planned_world
       (λ w. ap (λ t. (t == 0) || option_eq ◌==◌ (package_number w.package) (package_number o)) (times_are n w)) r.worlds.items i

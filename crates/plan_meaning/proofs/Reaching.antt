@@ -194,7 +194,8 @@ module _ (r : Resolve) (m : ℕ) (is : IsPlan (plan_of r m)) (v : IsValid r) (p 
     leads_by : (fuel n : ℕ) (i : Interface) → length r.interfaces.items ≤ n + fuel → interface_at r n ≡ Some i → Leads n
     leads_by zero n i h e = let less = slice_get_within r.interfaces.items n i e in absurd (omega (arith, h, less))
     leads_by (suc fuel) n i h e =
-        leads_from n (why_by n i e i.name refl (each_there planned_interface (planned.is_placed (plan_of r m)) r.interfaces.items is.interfaces_placed n i e)) (λ j uses_n. let user = user_stands r j n uses_n in let falls = uses_fall r v j n uses_n in leads_by fuel j user.0 (omega (arith, h, falls)) user.1)
+        leads_from n (why_by n i e i.name refl (each_there planned_interface (planned.is_placed (plan_of r m)) r.interfaces.items is.interfaces_placed n i e))
+        (λ j uses_n. let user = user_stands r j n uses_n in let falls = uses_fall r v j n uses_n in leads_by fuel j user.0 (omega (arith, h, falls)) user.1)
 
     pub all_reached : (n : ℕ) (i : Interface) → interface_at r n ≡ Some i → has (reached_by_package r p) n ≡ true
     all_reached n i e =

@@ -104,6 +104,7 @@ read_interfaces_pass t tables kept p are b owned read = record {
   interface_types = each_by_number (λ n i. list_all (is_type_of p (as_interface n)) i.types) p.interfaces
       (λ m i e. let is = read m i e in types_are t kept p are b owned m is.place is.owned is.view.types is.numbers i.types is.shapes is.kept_there is.names);
   types_rise = all_by_number (λ i. are_rising (numbers_of i.types)) p.interfaces (λ m i e. let is = read m i e in all_rise t kept p are is.numbers i.types is.kept_there is.rise);
-  function_keys = all_by_number (λ i. list_all (λ e. text_eq e.0 e.1.name) i.functions) p.interfaces (λ m i e. let is = read m i e in all_by_number (λ (x : Text × PlannedFunction). text_eq x.0 x.1.name) i.functions (λ j x f.
+  function_keys = all_by_number (λ i. list_all (λ e. text_eq e.0 e.1.name) i.functions) p.interfaces
+      (λ m i e. let is = read m i e in all_by_number (λ (x : Text × PlannedFunction). text_eq x.0 x.1.name) i.functions (λ j x f.
       let from = zip_at_right IsNamed is.view.functions i.functions is.functions j x f in same_text x.0 x.1.name (from.2.0 ∙ sym from.2.1)));
 }

@@ -181,7 +181,8 @@ module _ (t : Tables) (tables : AreTables t) (kept : List ℕ) (p : Plan) (are :
                 never (u == n) (eq-eqb u n one) apart
 
             there : has (others_than q (used_by_view t v)) r ≡ true
-            there = others_have q r (used_by_view t v) (other_place (r == q) refl) (contains-has (used_by_view t v) r (subst (λ ns. Contains ns r) (ap (used_by_view t) (sym viewed.viewed ∙ ap views place) ∙ same_uses t (views q).types v.types is.agrees) c))
+            there = others_have q r (used_by_view t v) (other_place (r == q) refl)
+                (contains-has (used_by_view t v) r (subst (λ ns. Contains ns r) (ap (used_by_view t) (sym viewed.viewed ∙ ap views place) ∙ same_uses t (views q).types v.types is.agrees) c))
 
         each : (u : ℕ) → Contains (direct_uses p n) u → has found u ≡ true
         each u c =
@@ -243,7 +244,8 @@ module _ (t : Tables) (tables : AreTables t) (kept : List ℕ) (p : Plan) (are :
     function_low key count g is n c = by (Contains-append_cases (filter_map part_number (function_parts g)) (option_to_list (resource_of g.kind)) n c)
       where
         range : n < length p.types
-        range = ltb→lt n (length p.types) (subst T (sym (all-contained (in_list p.types) (function_numbers g) n (kept_functions_pass t tables b.known kept p are (as_world m) is.read.place is.read.name is.read.shape is.read.external_id g is.read.kept_function).in_range c)) tt)
+        range = ltb→lt n (length p.types) (subst T (sym (all-contained (in_list p.types) (function_numbers g) n
+            (kept_functions_pass t tables b.known kept p are (as_world m) is.read.place is.read.name is.read.shape is.read.external_id g is.read.kept_function).in_range c)) tt)
 
         held : (o : Option ℕ) → Contains (option_to_list o) n → o ≡ Some n
         held None d = none-in n d
@@ -337,7 +339,8 @@ module _ (t : Tables) (tables : AreTables t) (kept : List ℕ) (p : Plan) (are :
 
         seen_interface : (r u : ℕ) → b.owners r ≡ as_interface u → Item x → (has earlier r ≡ true) ⊎ (has (path_seen x.seen.shown) r ≡ true)
             → has (filter_map item_interface (before ++ x.entry.1 ∷ [])) u ≡ true
-        seen_interface r u at it (inl h) = ap (λ ns. has ns u) (filter_map-append item_interface before (x.entry.1 ∷ [])) ∙ has_front (filter_map item_interface before) (filter_map item_interface (x.entry.1 ∷ [])) u (inv.interfaces r u h at)
+        seen_interface r u at it (inl h) = ap (λ ns. has ns u) (filter_map-append item_interface before (x.entry.1 ∷ []))
+            ∙ has_front (filter_map item_interface before) (filter_map item_interface (x.entry.1 ∷ [])) u (inv.interfaces r u h at)
         seen_interface r u at (by_path q n v id path shown key entry is) (inr h) =
             let same = one_place q r (sym (ap (λ s. has (path_seen s) r) shown) ∙ h) in
             interface_last u n id (ap (λ (e : PlannedKey × PlannedItem). e.1) entry) (one_interface u n (sym at ∙ (ap b.owners (sym same) ∙ is.owned)))

@@ -64,7 +64,8 @@ module _ (t : Tables) (tables : AreTables t) (h : Homes) (homes : HomesStand t h
     numbers_have olds news z c =
         let index = contains-get olds (14 + k) c in
         let found = zip_there (Becomes t kept p) olds news z index.0 (14 + k) index.1 in
-        (contains-has (filter_map part_number news) j (contains-filter_map part_number news found.0 j (get-contains news index.0 found.0 found.1) (subst (λ o. Contains (option_to_list o) j) (sym (part_there (14 + k) found.0 refl found.2)) (0, omega arith, refl))))
+        (contains-has (filter_map part_number news) j (contains-filter_map part_number news found.0 j (get-contains news index.0 found.0 found.1)
+        (subst (λ o. Contains (option_to_list o) j) (sym (part_there (14 + k) found.0 refl found.2)) (0, omega arith, refl))))
 
     of_function : (f : FunctionShape) (id : Option Text) (g : PlannedFunction) → FunctionBecomes t kept p f id g → IsPartOfFunction f (14 + k) → has (function_numbers g) j ≡ true
     of_function f id g is part =
@@ -87,7 +88,8 @@ module _ (t : Tables) (tables : AreTables t) (h : Homes) (homes : HomesStand t h
 
     is_part_of : IsPartOfKept t h kept p b (14 + k) → is_part p j ≡ true
     is_part_of (of_type i x form olds news e kind z c) =
-        ap (λ v. v || (in_interfaces || in_worlds)) (contains_any (λ y. has (kind_numbers y.kind) j) p.types x (get-contains p.types i x e) (ap (λ y. has (kind_numbers y) j) kind ∙ numbers_have olds news z c))
+        ap (λ v. v || (in_interfaces || in_worlds))
+        (contains_any (λ y. has (kind_numbers y.kind) j) p.types x (get-contains p.types i x e) (ap (λ y. has (kind_numbers y) j) kind ∙ numbers_have olds news z c))
     is_part_of (of_interface m i f id g e c is part) =
         or_right in_types (in_interfaces || in_worlds)
         (ap (λ v. v || in_worlds) (contains_any (λ i. list_any (λ f. has (function_numbers f) j) (functions_of i)) p.interfaces i (get-contains p.interfaces m i e)

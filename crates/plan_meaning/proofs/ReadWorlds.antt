@@ -268,12 +268,14 @@ module _ (t : Tables) (tables : AreTables t) (kept : List ℕ) (p : Plan) (are :
 
     all_export : list_all (export_stands p) w.exports ≡ true
     all_export = ap (list_all (export_stands p)) (sym is.exports_listed) ∙ all_exports m is.scope.home is.owned is.exports is.exports_read
-        (ap (list_all (λ (s : NumberedSeen). is_item t b.known is.scope.home [] s.key s.shown)) is.exports_seen ∙ (second_true imported exported (first_true (imported && exported) import_keys (first_true ((imported && exported) && import_keys) export_keys front))))
+        (ap (list_all (λ (s : NumberedSeen). is_item t b.known is.scope.home [] s.key s.shown)) is.exports_seen
+        ∙ (second_true imported exported (first_true (imported && exported) import_keys (first_true ((imported && exported) && import_keys) export_keys front))))
         (ap (list_all (λ (s : NumberedSeen). not (is_type_seen s.shown))) is.exports_seen ∙ is.no_types)
 
     pub import_keys_differ : keys_differ w.imports ≡ true
     import_keys_differ = ap keys_differ (sym is.imports_listed) ∙ all_keys m is.scope.home is.owned is.imports is.imports_read
-        (ap (λ ss. distinct (map (λ (s : NumberedSeen). s.key) ss)) is.imports_seen ∙ (second_true (imported && exported) import_keys (first_true ((imported && exported) && import_keys) export_keys front)))
+        (ap (λ ss. distinct (map (λ (s : NumberedSeen). s.key) ss)) is.imports_seen
+        ∙ (second_true (imported && exported) import_keys (first_true ((imported && exported) && import_keys) export_keys front)))
 
     export_keys_differ : keys_differ w.exports ≡ true
     export_keys_differ = ap keys_differ (sym is.exports_listed) ∙ all_keys m is.scope.home is.owned is.exports is.exports_read

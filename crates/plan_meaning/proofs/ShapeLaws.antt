@@ -125,7 +125,8 @@ module _ (place : ℕ → Place) (ss : List Shape) (table : IsTable ss) where
 
   shape_view : (k n : ℕ) (s : Shape) → k ≡ 14 + n → n < length ss → slice_get ss n ≡ Some s → IsShape n s → part_tree trees k ≡ shape_tree place trees s → PartView k (part_tree trees k)
   shape_view k n s is h e (a_name p x same) t = is_name n p x is (e ∙ ap Some same) (t ∙ (ap (shape_tree place trees) same ∙ name_tree place trees p x))
-  shape_view k n s is h e (a_node f ks same below) t = is_node n f ks is (e ∙ ap Some same) (t ∙ (ap (shape_tree place trees) same ∙ node_tree place trees f ks)) (each_so (λ k. k < 14 + n) InRange (λ k low. omega (arith, low, h)) ks below)
+  shape_view k n s is h e (a_node f ks same below) t = is_node n f ks is (e ∙ ap Some same) (t ∙ (ap (shape_tree place trees) same ∙ node_tree place trees f ks))
+      (each_so (λ k. k < 14 + n) InRange (λ k low. omega (arith, low, h)) ks below)
 
   pub viewed : (k : ℕ) → InRange k → PartView k (part_tree trees k)
   viewed k h = elim (split_part k) [

@@ -73,10 +73,6 @@ under_has name n (e ∷ es) h = go (text_eq name e.0) h (under_has name n es)
     go true h rest = or_left (e.1 == n) (has (numbers_of es) n) h
     go false h rest = or_right (e.1 == n) (has (numbers_of es) n) (rest h)
 
-given_test : {A : Type 0} (p : A → Bool) (o : Option A) → passes p o ≡ true → list_all p (option_to_list o) ≡ true
-given_test p None h = refl
-given_test p (Some x) h = both _ _ h refl
-
 key_is : (name : Text) (k : WorldKey) → is_under_label name (planned_key k) ≡ is_name_key name k
 key_is name (key.Name s) = refl
 key_is name (key.Interface id) = refl
@@ -152,7 +148,8 @@ module _ (r : Resolve) (m : ℕ) (is : IsPlan (plan_of r m)) where
       go : (o : Option Interface) → interface_at r id.0 ≡ o → option_map_or (λ i. is_id n (number_under name i.types)) (option_map planned_interface o) false ≡ true
           → passes (is_listed_in_interface n name) (interface_at r id.0) ≡ true
       go None e h = no_true h
-      go (Some i) e h = ap (passes (is_listed_in_interface n name)) e ∙ in_interface n name i (ap are_rising (sym (type_numbers_are i)) ∙ all_there planned_interface (λ x. are_rising (numbers_of x.types)) r.interfaces.items is.types_rise id.0 i e) h
+      go (Some i) e h = ap (passes (is_listed_in_interface n name)) e
+          ∙ in_interface n name i (ap are_rising (sym (type_numbers_are i)) ∙ all_there planned_interface (λ x. are_rising (numbers_of x.types)) r.interfaces.items is.types_rise id.0 i e) h
   listed_in n name (owner.World id) h =
       go (world_at r id.0) refl (sym (ap (λ o. option_map_or (λ w. is_id n (option_and_then plan.item_type (lookup (is_under_label name) w.imports))) o false)
       (get_of_map planned_world r.worlds.items id.0)) ∙ h)

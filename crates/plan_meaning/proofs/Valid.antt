@@ -1,5 +1,5 @@
 -- What is built from a plan that was read is valid.
-use Rattle.std.proofs.Common.{◌≡◌, sym, subst, ℕ, true, rules}
+use Rattle.std.proofs.Common.{◌≡◌, sym, subst, ℕ, true}
 use Rattle.std.specs.List.{list_all}
 use Rattle.wit_model.specs.declared.model.Resolve.{Resolve}
 use Rattle.wit_model.specs.Names.{is_version}
@@ -24,9 +24,25 @@ use Rattle.plan_meaning.proofs.ItemOrder.{order_of_items_kept}
 use Rattle.plan_meaning.proofs.DistinctKeys.{keys_are_distinct}
 
 pub rules_kept : (r : Resolve) (m : ℕ) → IsPlan (plan_of r m) → list_all (λ k. passes is_version k.name.version) r.packages.items ≡ true → IsBare r → IsValid r
-rules_kept r m is versions bare = search (rules, keys_are_distinct r m is, numbers_kept r m is, package_names_kept r m is versions, places_kept r m is, labels_kept r m is bare,
-    order_of_types_kept r m is, owners_kept r m is, shapes_kept r m is, named_kinds_kept r m is, handles_kept r m is, depths_kept r m is, function_names_kept r m is, world_items_kept r m is,
-    order_of_items_kept r m is, names_in_packages_kept r m is)
+rules_kept r m is versions bare = record {
+  distinct_keys = keys_are_distinct r m is;
+  rules = record {
+    numbers_in_range = numbers_kept r m is;
+    package_names = package_names_kept r m is versions;
+    places = places_kept r m is;
+    labels = labels_kept r m is bare;
+    order_of_types = order_of_types_kept r m is;
+    owners = owners_kept r m is;
+    shapes = shapes_kept r m is;
+    named_kinds = named_kinds_kept r m is;
+    handles = handles_kept r m is;
+    depths = depths_kept r m is;
+    function_names = function_names_kept r m is;
+    world_items = world_items_kept r m is;
+    order_of_items = order_of_items_kept r m is;
+    names_in_packages = names_in_packages_kept r m is;
+  };
+}
 
 -- the plan is the one that the `Resolve` shows
 pub plan_is : (p : Plan) (r : Resolve) → IsBuilt p r → plan_of r p.main ≡ p

@@ -104,7 +104,8 @@ module _ (alloc : Global) (hasher : BuildHasherDefault FoldHasher) where
   abbrev world : World
   world = record {
     name = text (codes "w") (lit< tt) utf8-w;
-    imports = map_of ((key.Name (text (codes "p") (lit< tt) utf8-p), shown 0) ∷ (key.Name text-t, item.Type_ (type-id 9)) ∷ (key.Name text-f, item.Function (func text-f call.Freestanding text-x (of_type 9) None)) ∷ []);
+    imports = map_of ((key.Name (text (codes "p") (lit< tt) utf8-p), shown 0) ∷ (key.Name text-t, item.Type_ (type-id 9)) ∷
+        (key.Name text-f, item.Function (func text-f call.Freestanding text-x (of_type 9) None)) ∷ []);
     exports = map_of ((key.Name (text (codes "h") (lit< tt) utf8-h), shown 4)
         ∷ (key.Name text-t, item.Function (func text-t call.Freestanding text-x (of_type 9) None))
         ∷ (key.Name text-x, shown 3)

@@ -37,7 +37,10 @@ item_interface_is _ = refl
 
 module _ (r : Resolve) (m : ℕ) (is : IsPlan (plan_of r m)) where
   key_stands : (n : ℕ) (x : WorldItem) → (is_id n (plan.item_interface (planned_item x)) && planned.has_name (plan_of r m) n) ≡ true → rules.is_interface_key r n x ≡ true
-  key_stands n x h = both _ _ (ap (is_id n) (sym (item_interface_is x)) ∙ first_true _ _ h) (passes_weaker (λ i. is_some (optional_text i.name)) (λ i. is_some i.name) (λ i k. sym (has_text i.name) ∙ k) (interface_at r n) (there planned_interface (λ i. is_some i.name) (interface_at r n) (sym (ap (λ o. option_map_or (λ i. is_some i.name) o false) (get_of_map planned_interface r.interfaces.items n)) ∙ (second_true (is_id n (plan.item_interface (planned_item x))) _ h))))
+  key_stands n x h = both _ _ (ap (is_id n) (sym (item_interface_is x)) ∙ first_true _ _ h)
+      (passes_weaker (λ i. is_some (optional_text i.name)) (λ i. is_some i.name) (λ i k. sym (has_text i.name) ∙ k) (interface_at r n)
+      (there planned_interface (λ i. is_some i.name) (interface_at r n)
+      (sym (ap (λ o. option_map_or (λ i. is_some i.name) o false) (get_of_map planned_interface r.interfaces.items n)) ∙ (second_true (is_id n (plan.item_interface (planned_item x))) _ h))))
 
   -- a type of the owner, under its name
   pub own_type : (o : TypeOwner) (t : Text) (n : ℕ) → planned.is_type_of (plan_of r m) o (t, n) ≡ true → passes (λ def. text_is def.name t && same_owner def.owner o) (type_at r n) ≡ true
