@@ -2,7 +2,6 @@
 use Rattle.std.proofs.Common.{◌≡◌, refl, sym, ap, ◌∙◌, ℕ, Bool, true, nat_le}
 use Rattle.std.specs.List.{list_all}
 use Rattle.wit_model.specs.declared.model.Resolve.{Resolve}
-use Rattle.wit_model.specs.declared.model.TypeDefKind.{TypeDefKind}
 use Rattle.wit_model.specs.declared.model.TypeOwner.{TypeOwner}
 use Rattle.wit_model.specs.declared.model.Function.{Function}
 use Rattle.wit_model.specs.declared.model.«Type».{«Type» as ValueType}
@@ -13,7 +12,7 @@ use Rattle.wit_model.specs.Rules as rules
 use Rattle.wit_model.specs.Valid.{Keeps, depths}
 use Rattle.wit_model.proofs.Checks.{keeps_three}
 use Rattle.plan_meaning.specs.Shapes.{part_tree}
-use Rattle.plan_meaning.specs.Plan.{PlannedKind, resource, alias, formed}
+use Rattle.plan_meaning.specs.Plan.{PlannedKind, resource}
 use Rattle.plan_meaning.specs.PlanRules as planned
 use Rattle.plan_meaning.specs.PlanRules.{IsPlan}
 use Rattle.plan_meaning.specs.Built.{part_of, planned_kind, planned_type, planned_function}

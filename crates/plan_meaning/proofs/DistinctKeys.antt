@@ -1,5 +1,5 @@
 -- No map of a built `Resolve` has a key twice.
-use Rattle.std.proofs.Common.{◌≡◌, refl, sym, ap, ◌∙◌, ℕ, Bool, true, false, ◌&&◌, ◌||◌, not, List, [], ◌∷◌, ◌++◌, map, option_map, Some, String}
+use Rattle.std.proofs.Common.{◌≡◌, refl, sym, ap, ◌∙◌, ℕ, Bool, true, false, ◌&&◌, ◌||◌, not, List, [], ◌∷◌, ◌++◌, map, Some, String}
 use Rattle.std.specs.Prelude.{string_eq}
 use Rattle.std.specs.declared.alloc.Global.{Global}
 use Rattle.std.specs.List.{list_any, IsDistinct, AllByRecursion}
@@ -24,8 +24,6 @@ use Rattle.plan_meaning.proofs.Lists.{no_true, all_there}
 use Rattle.plan_meaning.proofs.Words.{plan_of}
 use Rattle.plan_meaning.proofs.Labels.{names_are}
 use Rattle.base_lemmas.proofs.Bools.{left_of as first_true, right_of as second_true}
-use Rattle.base_lemmas.proofs.Elements.{all_get}
-use Rattle.std.proofs.lemmas.Option.{slice_get-map as get_of_map}
 use Rattle.plan_meaning.proofs.ListedTypes.{distinct_front as front_distinct}
 
 -- ---- parts of a list whose names differ

@@ -1,5 +1,5 @@
 -- Functions stand under their names, and those of a resource are named and shaped after it.
-use Rattle.std.proofs.Common.{◌≡◌, refl, sym, ap, ◌∙◌, ℕ, Bool, true, false, ◌&&◌, ◌||◌, [], ◌∷◌, ◌++◌, option_and_then, Option, Some, None, slice_get, is_none, is_some, String, codes}
+use Rattle.std.proofs.Common.{◌≡◌, refl, sym, ap, ◌∙◌, ℕ, Bool, true, false, ◌&&◌, ◌||◌, [], ◌∷◌, ◌++◌, Option, Some, None, is_none, is_some, String, codes}
 use Rattle.std.specs.Prelude.{if◌then◌else◌}
 use Rattle.std.specs.declared.alloc.Global.{Global}
 use Rattle.std.specs.List.{list_all}
@@ -29,20 +29,19 @@ use Rattle.wit_model.specs.Types.{number_of}
 use Rattle.wit_model.specs.Parts.{same_owner}
 use Rattle.wit_model.specs.Rules as rules
 use Rattle.wit_model.specs.Rules.{passes, is_id, is_name_key}
-use Rattle.wit_model.specs.Valid.{Keeps, function_names, as_interface, as_world, functions_of_interface, functions_of_world, item_function}
+use Rattle.wit_model.specs.Valid.{Keeps, function_names, as_interface, as_world, item_function}
 use Rattle.wit_model.proofs.Checks.{keeps_two}
 use Rattle.plan_meaning.specs.Plan as plan
 use Rattle.plan_meaning.specs.Plan.{PlannedType, PlannedFunction, type_in}
 use Rattle.plan_meaning.specs.PlanRules as planned
 use Rattle.plan_meaning.specs.PlanRules.{IsPlan}
-use Rattle.plan_meaning.specs.Built.{part_of, given_parts, planned_kind, planned_type, planned_function, planned_interface, planned_world, planned_key, planned_item}
-use Rattle.plan_meaning.proofs.Lists.{then_there, or_there, or_of_map, same_or, all_built, each_built, each_from_built, each_two, no_true, all_there}
+use Rattle.plan_meaning.specs.Built.{part_of, given_parts, planned_kind, planned_type, planned_function, planned_interface, planned_key, planned_item}
+use Rattle.plan_meaning.proofs.Lists.{then_there, or_there, or_of_map, same_or, all_built, no_true, all_there}
 use Rattle.plan_meaning.proofs.Words.{plan_of, behind, number_part}
-use Rattle.plan_meaning.proofs.FunctionRules.{interfaces_pass, worlds_pass, entries_pass, interface_holds, world_holds, imports_there, exports_there}
-use Rattle.base_lemmas.proofs.Bools.{left_of as first_true, right_of as second_true}
+use Rattle.plan_meaning.proofs.FunctionRules.{entries_pass, interface_holds, world_holds, imports_there, exports_there}
+use Rattle.base_lemmas.proofs.Bools.{left_of as first_true}
 use Rattle.base_lemmas.proofs.Elements.{all_two}
 use Rattle.std.proofs.lemmas.Bool.{and_from as both}
-use Rattle.std.proofs.lemmas.Option.{slice_get-map as get_of_map}
 use Rattle.wit_model.proofs.RulesLemmas.{each_by_number}
 use Rattle.plan_meaning.proofs.Listed.{passes_both}
 

@@ -1,5 +1,5 @@
 -- The functions of a plan's interfaces and worlds are those of the `Resolve`, and so are its items.
-use Rattle.std.proofs.Common.{◌≡◌, refl, sym, ap, ◌∙◌, ℕ, Bool, true, false, ◌&&◌, List, [], ◌∷◌, ◌++◌, map, filter_map, option_to_list, Option, Some, None}
+use Rattle.std.proofs.Common.{◌≡◌, refl, sym, ap, ◌∙◌, ℕ, Bool, true, ◌&&◌, List, [], ◌∷◌, ◌++◌, map, filter_map, option_to_list, Option, Some, None}
 use Rattle.std.specs.List.{list_all, cons_option}
 use Rattle.indexmap.specs.IndexMap.{values}
 use Rattle.wit_model.specs.declared.model.Resolve.{Resolve}
@@ -24,7 +24,7 @@ use Rattle.plan_meaning.specs.Plan as plan
 use Rattle.plan_meaning.specs.Plan.{PlannedKind, PlannedFunction, resource, alias, formed}
 use Rattle.plan_meaning.specs.PlanRules.{FunctionsPass, functions_of, world_functions, IsPlan, import_stands, export_stands}
 use Rattle.plan_meaning.specs.Built.{part_of, given_parts, planned_kind, planned_function, planned_interface, planned_item, planned_entries, planned_world, planned_key}
-use Rattle.plan_meaning.proofs.Lists.{all_built, each_built, same_all, each_there, all_there}
+use Rattle.plan_meaning.proofs.Lists.{all_built, same_all, each_there, all_there}
 use Rattle.plan_meaning.proofs.Words.{plan_of, given_all}
 use Rattle.base_lemmas.proofs.Bools.{left_of as first_true, right_of as second_true, and-true as and_true}
 use Rattle.base_lemmas.proofs.Lists.{append_of_map, map_of_map}

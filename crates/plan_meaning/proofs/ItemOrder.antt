@@ -1,12 +1,10 @@
 -- What an item of a world uses stands before it.
 use Rattle.std.proofs.Common.{◌≡◌, refl, sym, ap, ◌∙◌, ℕ, ◌&&◌, List, [], map, filter, filter_map, option_to_list, Option}
 use Rattle.std.specs.List.{list_all}
-use Rattle.std.specs.Option.{option_map_or}
 use Rattle.wit_model.specs.declared.model.Resolve.{Resolve}
 use Rattle.wit_model.specs.declared.model.World.{World}
 use Rattle.wit_model.specs.declared.model.WorldItem.{WorldItem}
 use Rattle.wit_model.specs.declared.model.WorldItem.TheVariants as item
-use Rattle.wit_model.specs.Lookup.{type_at}
 use Rattle.wit_model.specs.Parts as parts
 use Rattle.wit_model.specs.Parts.{used_by_type}
 use Rattle.wit_model.specs.Uses as uses
@@ -19,14 +17,13 @@ use Rattle.plan_meaning.specs.Plan as plan
 use Rattle.plan_meaning.specs.Plan.{kind_numbers, used_by_numbers, type_in}
 use Rattle.plan_meaning.specs.PlanRules as planned
 use Rattle.plan_meaning.specs.PlanRules.{IsPlan}
-use Rattle.plan_meaning.specs.Built.{planned_kind, planned_type, planned_world, planned_item}
-use Rattle.plan_meaning.proofs.Lists.{or_of_map, same_or, each_built, or_there}
+use Rattle.plan_meaning.specs.Built.{planned_type, planned_world, planned_item}
+use Rattle.plan_meaning.proofs.Lists.{each_built, or_there}
 use Rattle.plan_meaning.proofs.Words.{plan_of, function_numbers_are, has_owner_is, used_are, used_by_kind_is, interface_used_is, direct_uses_are}
 use Rattle.plan_meaning.proofs.FunctionRules.{items_are}
 use Rattle.plan_meaning.proofs.WorldItems.{item_interface_is}
 use Rattle.plan_meaning.proofs.TypeOrder.{item_types_are}
 use Rattle.base_lemmas.proofs.Lists.{filter_of_map}
-use Rattle.std.proofs.lemmas.Option.{slice_get-map as get_of_map}
 use Rattle.wit_model.proofs.RulesLemmas.{after_of_map}
 
 pub item_interfaces_are : (xs : List WorldItem) → filter_map plan.item_interface (map planned_item xs) ≡ filter_map uses.item_interface xs

@@ -1,12 +1,11 @@
 -- Functions whose types are those of kept shapes pass the tests on their types and their resource.
-use Rattle.std.proofs.Common.{◌≡◌, inl, inr, refl, sym, ap, subst, ◌∙◌, ℕ, ◌+◌, ◌-◌, ◌<◌, arith, Bool, true, false, not, ◌&&◌, ◌||◌, ◌==◌, cond, List, [], ◌∷◌, ◌++◌, length, map, drop, filter_map, Option, Some, None, option_map, option_to_list, is_none, slice_get, codes}
+use Rattle.std.proofs.Common.{◌≡◌, inl, inr, refl, sym, ap, subst, ◌∙◌, ℕ, ◌+◌, arith, Bool, true, false, not, ◌&&◌, ◌||◌, ◌==◌, cond, List, [], ◌∷◌, length, map, drop, filter_map, Option, Some, None, option_map, option_to_list, is_none, slice_get, codes}
 use Rattle.std.specs.Prelude.{nat_le, nat_eq, option_and_then}
-use Rattle.std.specs.List.{AllZip, cons_option, list_all, starts_with}
+use Rattle.std.specs.List.{AllZip, list_all, starts_with}
 use Rattle.std.specs.Option.{option_map_or}
 use Rattle.std.proofs.lemmas.Bool.{eqb-true, eq-eqb, lt-ltb, or_right, and_from as both}
 use Rattle.std.proofs.lemmas.Option.{slice_get_within, same_Some as same-some}
 use Rattle.wit_model.specs.declared.model.TypeOwner.{TypeOwner}
-use Rattle.wit_model.specs.declared.model.TypeOwner.TheVariants as owner
 use Rattle.wit_model.specs.declared.model.FunctionKind.{FunctionKind}
 use Rattle.wit_model.specs.declared.model.FunctionKind.TheVariants as call
 use Rattle.wit_model.specs.Text.{Text, text_eq}
@@ -29,14 +28,14 @@ use Rattle.plan_meaning.specs.GatheredPlan.{Becomes, BecomesIfGiven, ParamBecome
 use Rattle.plan_meaning.specs.KeptTypes.{IsKeptType, unnamed, declared, TypesAreKept}
 use Rattle.plan_meaning.specs.KeptFunctions.{IsResource, IsKindOf, of_none, a_constructor, a_method, an_async_method, a_static, an_async_static, IsKeptFunction, FunctionPasses, KeptFunctionsPass}
 use Rattle.plan_meaning.proofs.KeptParts.{shape_parts, signature_parts, function_zip, numbers_pass, kept_at}
-use Rattle.plan_meaning.proofs.GatheredPlan.{part_kept, parts_kept}
+use Rattle.plan_meaning.proofs.GatheredPlan.{parts_kept}
 use Rattle.plan_meaning.proofs.KeptTypes.{keeps, member_labels}
 use Rattle.plan_meaning.proofs.Lists.{no_true}
 use Rattle.plan_meaning.proofs.NumberedRules.{no_name, no_shape, shape_there}
 use Rattle.plan_meaning.proofs.ShapeLaws.{split_part}
 use Rattle.plan_meaning.proofs.Words.{behind}
 use Rattle.base_lemmas.proofs.Bools.{left_of as first_true, right_of as second_true}
-use Rattle.base_lemmas.proofs.Lists.{map_of_map, within_there as slice_there}
+use Rattle.base_lemmas.proofs.Lists.{map_of_map}
 use Rattle.wit_model.proofs.PartsLemmas.{owner_itself}
 use Rattle.wit_model.proofs.TextLemmas.{text_same}
 use Rattle.base_lemmas.proofs.Elements.{all_weaker, joined_well, zip_map}

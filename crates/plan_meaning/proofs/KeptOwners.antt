@@ -1,7 +1,7 @@
 -- What holds names of one place stays with the owner of that place.
-use Rattle.std.proofs.Common.{◌≡◌, inl, inr, refl, sym, ap, subst, ◌∙◌, ℕ, zero, suc, ◌+◌, ◌-◌, ◌<◌, arith, Bool, true, false, not, ◌&&◌, ◌||◌, ◌==◌, cond, List, [], ◌∷◌, ◌++◌, length, map, take, filter_map, Option, Some, None, option_to_list, option_map, is_some, slice_get, unwrap_or}
+use Rattle.std.proofs.Common.{◌≡◌, inl, inr, refl, sym, ap, subst, ◌∙◌, ℕ, zero, suc, ◌+◌, ◌-◌, ◌<◌, arith, Bool, true, false, not, ◌&&◌, ◌||◌, ◌==◌, cond, List, [], ◌∷◌, ◌++◌, length, map, take, filter_map, Option, Some, None, is_some, slice_get, unwrap_or}
 use Rattle.std.specs.Prelude.{nat_le}
-use Rattle.std.specs.List.{AllZip, AllByRecursion, Contains, cons_option, flat_map, list_all}
+use Rattle.std.specs.List.{AllZip, Contains, cons_option, flat_map, list_all}
 use Rattle.std.specs.Option.{option_map_or}
 use Rattle.std.proofs.lemmas.Bool.{eqb-true, eq-eqb, lt-ltb, or_right, and_from as both}
 use Rattle.std.proofs.lemmas.List.Folds.{list_all-append}
@@ -10,9 +10,8 @@ use Rattle.wit_model.specs.declared.model.TypeOwner.TheVariants as owner
 use Rattle.wit_model.specs.Text.{Text}
 use Rattle.wit_model.specs.Tree.{Place, Form, Tree, children, deepest}
 use Rattle.wit_model.specs.Types.{no_tree}
-use Rattle.wit_model.specs.Parts.{met_by, numbered_from, same_owner}
+use Rattle.wit_model.specs.Parts.{met_by, same_owner}
 use Rattle.wit_model.specs.Uses.{owner_interface}
-use Rattle.wit_model.proofs.Tables.{grow_at}
 use Rattle.comp_meaning.specs.Rules as rules
 use Rattle.comp_meaning.specs.Rules.{are_labels, are_parts, form_labels, is_named_form, most_levels}
 use Rattle.comp_meaning.proofs.SameLaws.{places_decide}
@@ -35,10 +34,8 @@ use Rattle.plan_meaning.proofs.NumberedRules.{no_name, shape_there}
 use Rattle.plan_meaning.proofs.ShapeLaws.{name_tree, part_behind, tree_at_number}
 use Rattle.plan_meaning.proofs.Words.{behind}
 use Rattle.base_lemmas.proofs.Bools.{left_of as first_true, right_of as second_true}
-use Rattle.base_lemmas.proofs.Elements.{all_at, all_by_number, contains-later, get-contains, all-contained, flat_all}
-use Rattle.base_lemmas.proofs.Lists.{slice_take, within_there as slice_there}
-use Rattle.std.proofs.lemmas.Option.{same_Some as same-some}
-use Rattle.wit_model.proofs.Owners.{numbered_at as numbered_there}
+use Rattle.base_lemmas.proofs.Elements.{all_at, all_by_number, all-contained, flat_all}
+use Rattle.base_lemmas.proofs.Lists.{slice_take}
 use Rattle.wit_model.proofs.PartsLemmas.{owner_itself}
 use Rattle.plan_meaning.proofs.MetTypes.{met_there}
 

@@ -1,8 +1,8 @@
 -- The numbers of a plan that are resources are those of the parts that are marked.
-use Rattle.std.proofs.Common.{◌≡◌, refl, sym, ap, subst, ◌∙◌, ℕ, zero, suc, ◌+◌, ◌-◌, ◌<◌, arith, Bool, true, false, not, cond, List, [], ◌∷◌, ◌++◌, length, map, take, filter_map, Option, Some, None, option_to_list, slice_get, unwrap_or}
-use Rattle.std.specs.List.{AllZip, AllByRecursion, cons_option, list_all}
+use Rattle.std.proofs.Common.{◌≡◌, refl, sym, ap, subst, ◌∙◌, ℕ, zero, suc, ◌+◌, ◌-◌, ◌<◌, arith, Bool, true, false, not, cond, List, length, take, filter_map, Option, Some, None, slice_get, unwrap_or}
+use Rattle.std.specs.List.{AllZip, list_all}
 use Rattle.std.specs.Option.{option_map_or}
-use Rattle.std.proofs.lemmas.Bool.{lt-ltb, and_from as both}
+use Rattle.std.proofs.lemmas.Bool.{lt-ltb}
 use Rattle.wit_model.specs.Text.{Text}
 use Rattle.wit_model.specs.Tree.{Form}
 use Rattle.wit_model.proofs.Tables.{grow_at}
@@ -18,10 +18,8 @@ use Rattle.plan_meaning.specs.KeptResources.{MarkedBy, FormIsMarked, AreMarked, 
 use Rattle.plan_meaning.proofs.KeptParts.{shape_parts, all_parts, function_zip, numbers_pass, kept_at}
 use Rattle.plan_meaning.proofs.KeptTypes.{form_of_name}
 use Rattle.plan_meaning.proofs.Words.{behind}
-use Rattle.base_lemmas.proofs.Bools.{left_of as first_true, right_of as second_true}
 use Rattle.base_lemmas.proofs.Elements.{all_by_number, all-contained, all_pass, all_at}
-use Rattle.base_lemmas.proofs.Lists.{slice_take, within_there as slice_there}
-use Rattle.std.proofs.lemmas.Option.{same_Some as same-some}
+use Rattle.base_lemmas.proofs.Lists.{slice_take}
 
 module _ (t : Tables) (tables : AreTables t) (kept : List ℕ) (p : Plan) (are : TypesAreKept t kept p) (marks : ℕ → Bool) (marked : AreMarked t kept p marks) where
   abbrev all_marks : List Bool

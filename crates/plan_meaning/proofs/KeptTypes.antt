@@ -1,7 +1,7 @@
 -- Types of a plan that are those of kept shapes pass the tests on types.
-use Rattle.std.proofs.Common.{◌≡◌, refl, sym, ap, subst, ◌∙◌, ℕ, ◌+◌, ◌-◌, ◌<◌, ◌≤◌, arith, Bool, true, false, not, ◌&&◌, ◌||◌, ◌==◌, cond, List, [], ◌∷◌, length, map, filter_map, Option, Some, None, is_some, slice_get}
+use Rattle.std.proofs.Common.{◌≡◌, refl, sym, ap, subst, ◌∙◌, ℕ, ◌+◌, ◌-◌, ◌<◌, ◌≤◌, arith, true, false, not, ◌&&◌, ◌||◌, ◌==◌, cond, List, [], ◌∷◌, length, map, filter_map, Option, Some, None, is_some, slice_get}
 use Rattle.std.specs.Prelude.{nat_le, nat_lt}
-use Rattle.std.specs.List.{AllByRecursion, AllZip, cons_option, list_all}
+use Rattle.std.specs.List.{AllByRecursion, AllZip, list_all}
 use Rattle.std.specs.Option.{option_map_or}
 use Rattle.std.proofs.lemmas.Bool.{eq-eqb, lt-ltb, le-leb, leb-true, and_from as both}
 use Rattle.std.proofs.lemmas.List.Folds.{list_all-map}
@@ -28,8 +28,7 @@ use Rattle.plan_meaning.proofs.NumberedRules.{no_name, shape_there}
 use Rattle.plan_meaning.proofs.Words.{behind}
 use Rattle.base_lemmas.proofs.Bools.{left_of as first_true, right_of as second_true, or_true}
 use Rattle.base_lemmas.proofs.Elements.{all_by_number, zip-kept as zip-weaker, all_at}
-use Rattle.base_lemmas.proofs.Lists.{within_there as slice_there}
-use Rattle.std.proofs.lemmas.Option.{same_Some as same-some, slice_get_past as slice_past}
+use Rattle.std.proofs.lemmas.Option.{slice_get_past as slice_past}
 use Rattle.comp_meaning.proofs.RulesLemmas.{distinct_same}
 use Rattle.wit_model.proofs.RulesLemmas.{each_by_number}
 

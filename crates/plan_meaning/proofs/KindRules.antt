@@ -1,5 +1,5 @@
 -- Shapes of kinds, and which kinds have names.
-use Rattle.std.proofs.Common.{◌≡◌, refl, sym, ap, ◌∙◌, ℕ, ◌+◌, ◌≤◌, true, false, ◌&&◌, ◌||◌, not, [], Option, Some, None, option_map, is_some, String, arith}
+use Rattle.std.proofs.Common.{◌≡◌, refl, sym, ap, ◌∙◌, ℕ, ◌+◌, ◌≤◌, true, false, ◌&&◌, ◌||◌, not, Option, Some, None, option_map, is_some, String, arith}
 use Rattle.std.specs.declared.alloc.Global.{Global}
 use Rattle.std.specs.Option.{option_map_or}
 use Rattle.std.proofs.lemmas.Option.{slice_get_past, slice_get-map as get_of_map}

@@ -30,10 +30,10 @@ use Rattle.wit_model.proofs.Lists.{list_all_filter_map}
 use Rattle.wit_model.proofs.Checks.{keeps_three}
 use Rattle.plan_meaning.specs.PlanRules as planned
 use Rattle.plan_meaning.specs.PlanRules.{IsPlan, names_of}
-use Rattle.plan_meaning.specs.Built.{part_of, planned_kind, planned_type, planned_function, planned_interface, planned_world, planned_key, planned_item, planned_entries, is_unknown, is_undocumented, is_bare, is_bare_type, is_bare_function, is_bare_interface, is_bare_item, is_bare_world, IsBare}
-use Rattle.plan_meaning.proofs.Lists.{all_built, each_built, each_from_built, each_two, each_all, no_true, all_there}
+use Rattle.plan_meaning.specs.Built.{part_of, planned_kind, planned_type, planned_function, planned_interface, planned_world, planned_key, planned_item, is_unknown, is_undocumented, is_bare, is_bare_type, is_bare_function, is_bare_interface, is_bare_item, is_bare_world, IsBare}
+use Rattle.plan_meaning.proofs.Lists.{all_built, no_true, all_there}
 use Rattle.plan_meaning.proofs.Words.{plan_of}
-use Rattle.plan_meaning.proofs.FunctionRules.{interfaces_pass, worlds_pass, interface_holds, world_holds, imports_there, exports_there}
+use Rattle.plan_meaning.proofs.FunctionRules.{interface_holds, world_holds, imports_there, exports_there}
 use Rattle.base_lemmas.proofs.Bools.{left_of as first_true, right_of as second_true}
 use Rattle.base_lemmas.proofs.Elements.{all_two, any_of_map, all_get}
 use Rattle.base_lemmas.proofs.Lists.{map_of_map}

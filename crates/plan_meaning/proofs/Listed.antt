@@ -1,15 +1,13 @@
 -- What a package lists is in range, of the package, and under its own name; packages are apart.
-use Rattle.std.proofs.Common.{◌≡◌, refl, sym, ap, subst, ◌∙◌, ℕ, zero, suc, ◌+◌, Bool, true, false, ◌&&◌, ◌||◌, not, ◌==◌, nat_lt, List, [], ◌∷◌, length, map, option_map, Option, Some, None, slice_get, unwrap_or, is_some, String, arith}
+use Rattle.std.proofs.Common.{◌≡◌, refl, sym, ap, subst, ◌∙◌, ℕ, ◌+◌, Bool, true, false, ◌&&◌, ◌||◌, not, ◌==◌, List, length, map, option_map, Option, Some, None, slice_get, is_some, String, arith}
 use Rattle.std.specs.declared.alloc.Global.{Global}
 use Rattle.std.specs.List.{list_all}
 use Rattle.std.specs.Option.{option_map_or}
-use Rattle.std.proofs.lemmas.Bool.Decides.{nat_tests}
 use Rattle.std.proofs.lemmas.List.Folds.{list_all-map}
 use Rattle.std.proofs.lemmas.Option.{slice_get_within, slice_get-map as get_of_map}
 use Rattle.wit_model.specs.declared.model.Resolve.{Resolve}
 use Rattle.wit_model.specs.declared.model.Package.{Package}
 use Rattle.wit_model.specs.declared.model.PackageName.{PackageName}
-use Rattle.wit_model.specs.declared.model.PackageId.{PackageId}
 use Rattle.wit_model.specs.declared.model.InterfaceId.{InterfaceId}
 use Rattle.wit_model.specs.declared.model.WorldId.{WorldId}
 use Rattle.wit_model.specs.Text.{Text, text_of, text_eq, optional_text}

@@ -16,11 +16,10 @@ use Rattle.wit_model.specs.declared.model.Param.{Param}
 use Rattle.wit_model.specs.declared.model.«Type».{«Type» as ValueType}
 use Rattle.wit_model.specs.declared.model.Function.{Function}
 use Rattle.wit_model.specs.Text.{Text, text_of, optional_text}
-use Rattle.wit_model.specs.Tree.{Tree}
 use Rattle.wit_model.specs.Types.{trees_of, type_tree}
 use Rattle.wit_model.specs.Lookup.{interface_at, world_at, type_at, is_async}
 use Rattle.wit_model.specs.Lookup as lookup
-use Rattle.wit_model.specs.Meaning.{FunctionMeaning, TypeMeaning, InterfaceMeaning, Item, Entry}
+use Rattle.wit_model.specs.Meaning.{FunctionMeaning, TypeMeaning, Item}
 use Rattle.wit_model.specs.Meant as meant
 use Rattle.wit_model.specs.Meant.{no_type, no_interface, no_world}
 use Rattle.plan_meaning.specs.Shapes.{part_tree}

@@ -22,7 +22,7 @@ use Rattle.plan_meaning.specs.PlanRules as planned
 use Rattle.plan_meaning.specs.PlanRules.{HoldsNoMore, IsPackagePlan, IsWorldPlan}
 use Rattle.plan_meaning.specs.Built.{IsBuilt, planned_kind, planned_type, planned_function, planned_interface, planned_world, planned_package}
 use Rattle.plan_meaning.specs.NothingElse.{is_part_of, TypesAreUsed, PackagesAreUsed, HoldsPackageAlone, HoldsWorldAlone}
-use Rattle.plan_meaning.proofs.Lists.{any_get, each_of_map, each_there}
+use Rattle.plan_meaning.proofs.Lists.{any_get, each_there}
 use Rattle.plan_meaning.proofs.Words.{plan_of, kind_numbers_are, function_numbers_are}
 use Rattle.plan_meaning.proofs.KindRules.{has_text}
 use Rattle.plan_meaning.proofs.FunctionRules.{functions_are, world_functions_are}
@@ -34,7 +34,7 @@ use Rattle.base_lemmas.proofs.Elements.{any_of_map}
 use Rattle.base_lemmas.proofs.Lists.{get_back}
 use Rattle.std.proofs.lemmas.Option.{slice_get-map as get_of_map}
 use Rattle.plan_meaning.proofs.FunctionNames.{unnamed as lacks_text}
-use Rattle.wit_model.proofs.RulesLemmas.{each_at, items_of_map as some_items}
+use Rattle.wit_model.proofs.RulesLemmas.{items_of_map as some_items}
 
 module _ (r : Resolve) (m : ℕ) where
   -- ---- types and packages

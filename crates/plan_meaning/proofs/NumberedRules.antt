@@ -1,5 +1,5 @@
 -- Each rule of reading on types, functions and interfaces has the same answer in numbers.
-use Rattle.std.proofs.Common.{◌≡◌, refl, sym, ap, subst, ◌∙◌, ℕ, zero, suc, ◌+◌, ◌-◌, ◌<◌, arith, min, Bool, true, false, not, ◌&&◌, ◌||◌, ◌==◌, cond, List, [], ◌∷◌, ◌++◌, map, Option, Some, None, option_map, slice_get, codes}
+use Rattle.std.proofs.Common.{◌≡◌, refl, sym, ap, ◌∙◌, ℕ, ◌+◌, ◌-◌, ◌<◌, arith, min, Bool, true, false, not, ◌&&◌, ◌||◌, ◌==◌, cond, List, [], ◌∷◌, ◌++◌, map, Option, Some, None, option_map, slice_get, codes}
 use Rattle.std.specs.Prelude.{option_and_then, nat_le}
 use Rattle.std.specs.List.{AllByRecursion, Contains, list_all, list_any}
 use Rattle.std.specs.Option.{option_map_or}
@@ -14,7 +14,7 @@ use Rattle.comp_meaning.specs.Rules as rules
 use Rattle.comp_meaning.specs.Rules.{are_labels, distinct, form_labels, is_label_behind, most_levels, are_parts, own_name, borrow_name}
 use Rattle.comp_meaning.proofs.SameLaws.{places_decide}
 use Rattle.plan_meaning.specs.Shapes.{Shape, form_code, first_label, named_shape, node_shape, IsTable}
-use Rattle.plan_meaning.specs.NumberedViews.{FunctionShape, Tables, place_at, tree_at, function_at, signature_over, IsPart, AllOf, PartsOf, itself, inside, NumberedType, NumberedFunction, NumberedView, view_of, declaration_of, shown_type, shown_function, TypePasses, FunctionPasses, ViewPasses}
+use Rattle.plan_meaning.specs.NumberedViews.{FunctionShape, Tables, place_at, tree_at, function_at, signature_over, IsPart, AllOf, PartsOf, itself, inside, NumberedType, NumberedView, view_of, declaration_of, shown_type, shown_function, TypePasses, FunctionPasses, ViewPasses}
 use Rattle.plan_meaning.specs.NumberedRules.{Fact, most_counted, shape_at, name_in, only_of, held_in, own_sort, borrow_sort, ok_in, is_parameter_type, is_declared_form, is_declared, is_result_type, is_signature, is_name, is_handle, begins_with_self, constructs, is_function_of, is_function, is_type, is_no_part, resources_of, is_interface, IsSeenFrom, IsKnown, EachRuleInNumbers}
 use Rattle.plan_meaning.proofs.ShapeLaws.{PartView, is_primitive, is_name as is_named, is_node, viewed}
 use Rattle.plan_meaning.proofs.Words.{behind}

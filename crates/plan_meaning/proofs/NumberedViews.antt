@@ -1,13 +1,12 @@
 -- Equal numbers are equal trees and equal types of functions, so views agree where their numbers do.
 use Rattle.std.proofs.Common.{◌≡◌, refl, sym, ap, ◌∙◌, ℕ, ◌<◌, Bool, true, false, not, ◌&&◌, ◌||◌, ◌==◌, cond, List, [], ◌∷◌, ◌++◌, length, map, Option, Some, None, option_map, unwrap_or, slice_get}
-use Rattle.std.specs.List.{AllByRecursion, list_all, list_any, find}
+use Rattle.std.specs.List.{AllByRecursion, list_any, find}
 use Rattle.std.specs.Option.{option_map_or}
 use Rattle.std.specs.Cmp.Lexicographic.{pointwise}
 use Rattle.std.proofs.lemmas.Bool.{eqb-true, eq-eqb}
 use Rattle.wit_model.specs.Text.{Text, text_eq}
 use Rattle.wit_model.specs.Tree.{Place, Tree}
 use Rattle.wit_model.specs.Meaning.{Signature}
-use Rattle.wit_model.proofs.VersionLaws.{same_text}
 use Rattle.comp_meaning.specs.Follow.{place_of}
 use Rattle.comp_meaning.specs.Same.{same_option, same_tree, same_declaration, same_signature, stand_in}
 use Rattle.comp_meaning.specs.Same as same
@@ -20,7 +19,6 @@ use Rattle.plan_meaning.specs.NumberedViews.{FunctionShape, Tables, path_at, pat
 use Rattle.plan_meaning.proofs.ShapeLaws.{one_number_apart}
 use Rattle.base_lemmas.proofs.Bools.{both_ways as either_way}
 use Rattle.base_lemmas.proofs.Lists.{append_of_map, length_of_map, within_there as slice_there}
-use Rattle.wit_model.proofs.TextLemmas.{text_same}
 use Rattle.base_lemmas.proofs.Elements.{all_end}
 use Rattle.plan_meaning.proofs.Lists.{all_same}
 use Rattle.plan_meaning.proofs.NumberedWorlds.{path_number}

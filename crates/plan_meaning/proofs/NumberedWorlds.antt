@@ -13,12 +13,11 @@ use Rattle.comp_meaning.specs.Follow.{View, Seen, interface_of, place_of}
 use Rattle.comp_meaning.specs.Rules as rules
 use Rattle.comp_meaning.specs.Rules.{distinct}
 use Rattle.comp_meaning.specs.Reads as reads
-use Rattle.plan_meaning.specs.Shapes.{form_code, first_label, named_shape, node_shape}
-use Rattle.plan_meaning.specs.NumberedViews.{Tables, path_at, path_text, place_at, tree_at, signature_at, function_at, IsPart, AllOf, AreTables, NumberedType, NumberedView, view_of, declaration_of, shown_type, sight_of}
+use Rattle.plan_meaning.specs.Shapes.{form_code, first_label}
+use Rattle.plan_meaning.specs.NumberedViews.{Tables, path_at, path_text, place_at, signature_at, function_at, IsPart, AllOf, AreTables, NumberedType, NumberedView, view_of, declaration_of, shown_type, sight_of}
 use Rattle.plan_meaning.specs.NumberedRules.{Fact, name_in, name_at, IsKnown}
 use Rattle.plan_meaning.specs.NumberedWorlds.{NumberedKey, path, label, implementing, place_of_key, key_of, NumberedShown, instance, function, declares, NumberedSeen, shown_of, seen_of, NumberedInstance, instance_of, sights_of_instance, if_outside, used_by, used_by_view, others_than, uses_of, path_seen, stand_earlier, are_reached, are_once, resources_seen, is_resource_seen, is_item, are_imports, HasPath, KeyStands, ItemStands, DeclaresParts, UsesInNumbers, ReachedInNumbers, PathsInNumbers, WorldsInNumbers, SightsInNumbers}
-use Rattle.plan_meaning.proofs.ShapeLaws.{PartView, is_primitive, is_name, is_node, viewed}
-use Rattle.plan_meaning.proofs.NumberedRules.{no_shape, shape_there, no_name, declared_same, function_same, interface_same, by_shape}
+use Rattle.plan_meaning.proofs.NumberedRules.{no_name, declared_same, function_same, interface_same, by_shape}
 use Rattle.base_lemmas.proofs.Bools.{both_ways as either_way}
 use Rattle.base_lemmas.proofs.Elements.{all_both as all_in_both}
 use Rattle.base_lemmas.proofs.Lists.{append_of_map, map_of_map}

@@ -9,7 +9,6 @@ use Rattle.wit_model.specs.declared.model.TypeDef.{TypeDef}
 use Rattle.wit_model.specs.declared.model.TypeOwner.{TypeOwner}
 use Rattle.wit_model.specs.declared.model.TypeOwner.TheVariants as owner
 use Rattle.wit_model.specs.declared.model.Function.{Function}
-use Rattle.wit_model.specs.Text.{optional_text}
 use Rattle.wit_model.specs.Lookup.{interface_at, type_at}
 use Rattle.wit_model.specs.Parts as parts
 use Rattle.wit_model.specs.Parts.{same_owner}
@@ -17,7 +16,7 @@ use Rattle.wit_model.specs.Types.{number_of}
 use Rattle.wit_model.specs.Uses as uses
 use Rattle.wit_model.specs.Uses.{owner_interface, alias_target, direct_deps}
 use Rattle.wit_model.specs.Rules as rules
-use Rattle.wit_model.specs.Valid.{Keeps, owners, as_interface, functions_of_interface}
+use Rattle.wit_model.specs.Valid.{Keeps, owners}
 use Rattle.wit_model.proofs.Lists.{list_all_filter_map}
 use Rattle.wit_model.proofs.Owners.{used_within}
 use Rattle.wit_model.proofs.Checks.{keeps_three}
@@ -26,13 +25,12 @@ use Rattle.plan_meaning.specs.Plan.{type_in}
 use Rattle.plan_meaning.specs.PlanRules as planned
 use Rattle.plan_meaning.specs.PlanRules.{IsPlan}
 use Rattle.plan_meaning.specs.Built.{planned_type, planned_function, planned_interface}
-use Rattle.plan_meaning.proofs.Lists.{or_of_map, same_or, each_two, each_from_built, each_of_map, or_there, each_there}
+use Rattle.plan_meaning.proofs.Lists.{same_or, each_from_built, or_there, each_there}
 use Rattle.plan_meaning.proofs.Words.{plan_of, alias_is, value_numbers_are, has_owner_is, used_are, used_by_kind_is, interfaces_used_are}
 use Rattle.plan_meaning.proofs.KindRules.{has_text}
-use Rattle.plan_meaning.proofs.FunctionRules.{interfaces_pass, worlds_pass, interface_holds}
+use Rattle.plan_meaning.proofs.FunctionRules.{worlds_pass, interface_holds}
 use Rattle.std.proofs.lemmas.Bool.{and_from as both}
-use Rattle.std.proofs.lemmas.Option.{slice_get-map as get_of_map}
-use Rattle.wit_model.proofs.RulesLemmas.{each_at, each_by_number}
+use Rattle.wit_model.proofs.RulesLemmas.{each_by_number}
 
 module _ (r : Resolve) (m : ℕ) where
   other_owner : (o : TypeOwner) (def : TypeDef) → (not (same_owner def.owner o) && option_map_or (planned.has_name (plan_of r m)) (owner_interface def.owner) false)

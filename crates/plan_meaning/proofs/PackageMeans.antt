@@ -13,8 +13,8 @@ use Rattle.wit_model.specs.declared.model.InterfaceId.{InterfaceId}
 use Rattle.wit_model.specs.declared.model.WorldId.{WorldId}
 use Rattle.wit_model.specs.Text.{Text, TextMap, text_of, optional_text}
 use Rattle.wit_model.specs.Lookup.{package_at, interface_at, interface_path, path_of_interface, path_in_package, identity_of}
-use Rattle.wit_model.specs.Uses.{has, reached_by_package, is_shown_in}
-use Rattle.wit_model.specs.Meaning.{InterfaceMeaning, WorldMeaning, PackageMeaning}
+use Rattle.wit_model.specs.Uses.{reached_by_package, is_shown_in}
+use Rattle.wit_model.specs.Meaning.{InterfaceMeaning, PackageMeaning}
 use Rattle.wit_model.specs.Meant as meant
 use Rattle.wit_model.specs.Meant.{Meant, interface_meaning_at, types_alone, is_foreign, foreign_of, foreign_meaning}
 use Rattle.wit_model.specs.Rules.{is_id, package_number}
@@ -28,7 +28,7 @@ use Rattle.plan_meaning.specs.PlanRules.{IsPackagePlan}
 use Rattle.plan_meaning.specs.PlanMeaning as planned
 use Rattle.plan_meaning.specs.PlanMeaning.{plan_meaning, foreign_entry}
 use Rattle.plan_meaning.specs.Built.{IsBuilt, planned_function, planned_interface, planned_world, planned_package}
-use Rattle.plan_meaning.proofs.Lists.{any_get, no_true}
+use Rattle.plan_meaning.proofs.Lists.{any_get}
 use Rattle.wit_model.proofs.UsesLemmas.{has_filter, filter_has}
 use Rattle.plan_meaning.proofs.Words.{plan_of, path_of_planned_is}
 use Rattle.plan_meaning.proofs.Meanings.{named_means, planned_function_entry, meant_function_entry, interface_is, interface_at_is, world_at_is, functions_are}
@@ -36,7 +36,7 @@ use Rattle.plan_meaning.proofs.Reaching.{shown_in, all_reached}
 use Rattle.plan_meaning.proofs.Valid.{plan_is, built_is_valid}
 use Rattle.base_lemmas.proofs.Bools.{left_of as first_true, right_of as second_true}
 use Rattle.base_lemmas.proofs.Elements.{contains-map, contains-one, filter_map_from, get-contains, map_from}
-use Rattle.base_lemmas.proofs.Lists.{get_back, map_of_map, nothing-mapped as none_mapped, same_map}
+use Rattle.base_lemmas.proofs.Lists.{get_back, nothing-mapped as none_mapped}
 use Rattle.base_lemmas.proofs.Options.{there as some-of}
 use Rattle.std.proofs.lemmas.Bool.{and_from as both, not-true as not_true}
 use Rattle.std.proofs.lemmas.Option.{same_Some as same-some, slice_get-map as get_of_map}

@@ -35,7 +35,7 @@ use Rattle.plan_meaning.proofs.Listed.{interface_listed, world_listed, members_p
 use Rattle.plan_meaning.proofs.Labels.{apart, names_are, keys_apart}
 use Rattle.plan_meaning.proofs.WorldItems.{item_interface_is}
 use Rattle.base_lemmas.proofs.Bools.{left_of as first_true, right_of as second_true}
-use Rattle.base_lemmas.proofs.Elements.{all_get, all_two, any_of_map, all_weaker}
+use Rattle.base_lemmas.proofs.Elements.{any_of_map, all_weaker}
 use Rattle.base_lemmas.proofs.Maps.{lookup_of_map}
 use Rattle.std.proofs.lemmas.Bool.{and_from as both, or_left as or_first}
 use Rattle.std.proofs.lemmas.Option.{slice_get-map as get_of_map}

@@ -32,7 +32,7 @@ use Rattle.plan_meaning.specs.Plan.{PlannedInterface, PlannedWorld, PlannedItem,
 use Rattle.plan_meaning.specs.PlanRules as planned
 use Rattle.plan_meaning.specs.PlanRules.{IsPlan, IsWanted, shown, used}
 use Rattle.plan_meaning.specs.Built.{planned_interface, planned_world, planned_package}
-use Rattle.plan_meaning.proofs.Lists.{each_of_map, any_get, no_true, each_there}
+use Rattle.plan_meaning.proofs.Lists.{any_get, no_true, each_there}
 use Rattle.wit_model.proofs.UsesLemmas.{has_filter}
 use Rattle.plan_meaning.proofs.Words.{plan_of, direct_uses_are}
 use Rattle.plan_meaning.proofs.FunctionRules.{items_are}
@@ -42,7 +42,6 @@ use Rattle.base_lemmas.proofs.Bools.{left_of as first_true, right_of as second_t
 use Rattle.base_lemmas.proofs.Elements.{all_get, contains-one, map_from}
 use Rattle.base_lemmas.proofs.Lists.{get_back, map_of_map}
 use Rattle.std.proofs.lemmas.Map.Keys.{any_passes_from_place as get_any}
-use Rattle.wit_model.proofs.RulesLemmas.{each_at}
 
 -- ---- chains
 

@@ -8,8 +8,8 @@ use Rattle.plan_meaning.specs.PlanRules.{FunctionsPass, function_in_range, funct
 use Rattle.plan_meaning.specs.NumberedViews.{Tables, AreTables}
 use Rattle.plan_meaning.specs.KeptTypes.{TypesAreKept}
 use Rattle.plan_meaning.specs.KeptFunctions.{FunctionPasses}
-use Rattle.plan_meaning.specs.KeptResources.{AreMarked, ResourcesStand}
-use Rattle.plan_meaning.specs.KeptOwners.{AreOwned, OwnersStand}
+use Rattle.plan_meaning.specs.KeptResources.{AreMarked}
+use Rattle.plan_meaning.specs.KeptOwners.{AreOwned}
 use Rattle.plan_meaning.specs.ReadFunctions.{Beside, IsReadFunction, FunctionsAreRead, FunctionTests, ReadFunctionsPass}
 use Rattle.plan_meaning.proofs.KeptFunctions.{kept_functions_pass}
 use Rattle.plan_meaning.proofs.KeptOwners.{kept_owners_stand}

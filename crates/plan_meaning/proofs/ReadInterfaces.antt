@@ -26,7 +26,7 @@ use Rattle.plan_meaning.proofs.Lists.{no_true}
 use Rattle.plan_meaning.proofs.NumberedRules.{no_name}
 use Rattle.base_lemmas.proofs.Bools.{left_of as first_true, right_of as second_true}
 use Rattle.base_lemmas.proofs.Elements.{all_by_number, all_get, zip_at_right, zip_map}
-use Rattle.base_lemmas.proofs.Lists.{map_of_map, within_there as slice_there}
+use Rattle.base_lemmas.proofs.Lists.{map_of_map}
 use Rattle.std.proofs.lemmas.Option.{same_Some as same-some}
 use Rattle.comp_meaning.proofs.RulesLemmas.{distinct_same}
 use Rattle.wit_model.proofs.PartsLemmas.{owner_itself}

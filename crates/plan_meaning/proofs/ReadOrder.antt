@@ -1,11 +1,11 @@
 -- What is read stands in the order that a plan asks for.
-use Rattle.std.proofs.Common.{◌≡◌, ◌⊎◌, inl, inr, refl, sym, ap, subst, ◌∙◌, ◌<◌, ◌≤◌, ℕ, zero, suc, ◌+◌, ◌-◌, arith, Bool, true, false, not, ◌&&◌, ◌||◌, ◌==◌, cond, List, [], ◌∷◌, ◌++◌, length, map, filter, filter_map, flat_map, Option, Some, None, option_and_then, option_to_list, is_some, slice_get, T, ltb→lt}
+use Rattle.std.proofs.Common.{◌≡◌, ◌⊎◌, inl, inr, refl, sym, ap, subst, ◌∙◌, ◌<◌, ◌≤◌, ℕ, zero, suc, ◌+◌, arith, Bool, true, false, not, ◌&&◌, ◌||◌, ◌==◌, cond, List, [], ◌∷◌, ◌++◌, length, map, filter, filter_map, flat_map, Option, Some, None, option_and_then, option_to_list, slice_get, T, ltb→lt}
 use Rattle.std.specs.Prelude.{nat_le, nat_lt}
-use Rattle.std.specs.List.{AllByRecursion, AllZip, Contains, list_all}
+use Rattle.std.specs.List.{AllByRecursion, Contains, list_all}
 use Rattle.std.specs.Cmp.Lexicographic.{pointwise}
 use Rattle.std.specs.Option.{option_map_or}
 use Rattle.std.specs.Map.{lookup}
-use Rattle.std.proofs.lemmas.Bool.{eqb-true, eq-eqb, leb-true, lt-ltb, ltb-false, or_right, and_from as both, not-true as not_true}
+use Rattle.std.proofs.lemmas.Bool.{eqb-true, eq-eqb, leb-true, ltb-false, or_right, and_from as both, not-true as not_true}
 use Rattle.std.proofs.lemmas.Bool.Decides.{nat_tests}
 use Rattle.std.proofs.lemmas.Option.{slice_get_within, same_Some as same-some}
 use Rattle.std.proofs.lemmas.List.Elements.{Contains-append_cases, Contains-append_left, filter_map-append}
@@ -23,13 +23,10 @@ use Rattle.plan_meaning.specs.Shapes.{named_shape}
 use Rattle.plan_meaning.specs.Plan as plan
 use Rattle.plan_meaning.specs.Plan.{Plan, PlannedKey, PlannedItem, PlannedType, PlannedFunction, PlannedWorld, interface_in, world_in, has_owner, kind_numbers, function_numbers, function_parts, part_number, used_by_numbers, interface_used_by, interfaces_used_by, item_interface, item_type, items_of}
 use Rattle.plan_meaning.specs.PlanRules.{direct_uses, is_listed, is_listed_in, is_under_label, uses_stand_before, used_types}
-use Rattle.plan_meaning.specs.Renumbering.{IsPart, a_primitive, a_shape}
-use Rattle.plan_meaning.specs.NumberedViews.{Tables, AllOf, AreTables, NumberedType, NumberedView, same_number, same_shown, same_id}
+use Rattle.plan_meaning.specs.NumberedViews.{Tables, AreTables, NumberedType, NumberedView, same_number, same_shown, same_id}
 use Rattle.plan_meaning.specs.NumberedWorlds.{NumberedSeen, others_than, path_seen, stand_earlier, used_by, used_by_view, uses_of}
-use Rattle.plan_meaning.specs.GatheredPlan.{Becomes, BecomesIfGiven, FunctionBecomes, ParamBecomes}
 use Rattle.plan_meaning.specs.KeptTypes.{IsKeptType, unnamed, declared, TypesAreKept}
 use Rattle.plan_meaning.specs.KeptOwners.{AreOwned}
-use Rattle.plan_meaning.specs.KeptFunctions.{FunctionPasses}
 use Rattle.plan_meaning.specs.ReadFunctions.{Beside}
 use Rattle.plan_meaning.specs.ReadWorlds.{ReadItem, is_type_seen, types_follow, IsInterfaceOf, IsReadUnder, IsTypeUnder, IsReadItem, by_path, by_label, implementing_path, a_function, a_type}
 use Rattle.plan_meaning.specs.ReadOrder.{IsViewedInterface, OrderIsRead, ReadOrderPasses}
@@ -44,10 +41,9 @@ use Rattle.plan_meaning.proofs.ReadLists.{never, or_nothing}
 use Rattle.plan_meaning.proofs.ReadPlaces.{one_interface}
 use Rattle.plan_meaning.proofs.ReadWorlds.{order_obeys}
 use Rattle.plan_meaning.proofs.UsedInterfaces.{UsedBy, nothing, own, other, interface_uses, owned_by, type_uses, uses_are_low}
-use Rattle.plan_meaning.proofs.Words.{behind}
 use Rattle.base_lemmas.proofs.Bools.{left_of as first_true, right_of as second_true}
-use Rattle.base_lemmas.proofs.Elements.{all-contained, all_at, all_both, all_pass as all_among, all_weaker, contains-later, filter_map_from, get-contains, last_of as one-contained, zip_at_right as zip_at}
-use Rattle.base_lemmas.proofs.Lists.{append_of_map, get_back, within_there as slice_there}
+use Rattle.base_lemmas.proofs.Elements.{all-contained, all_at, all_both, all_pass as all_among, all_weaker, contains-later, last_of as one-contained}
+use Rattle.base_lemmas.proofs.Lists.{append_of_map, within_there as slice_there}
 use Rattle.wit_model.proofs.PartsLemmas.{owner_itself}
 use Rattle.wit_model.proofs.RulesLemmas.{each_at, each_by_number}
 

@@ -19,7 +19,7 @@ use Rattle.plan_meaning.specs.Renumbering.{IsPart, a_primitive, a_shape}
 use Rattle.plan_meaning.specs.NumberedViews.{FunctionShape, Tables, path_at, AreTables, NumberedView, NumberedSight}
 use Rattle.plan_meaning.specs.NumberedWorlds.{HasPath, are_once, are_reached, used_by_view}
 use Rattle.plan_meaning.specs.NumberedMembers.{Homes, HomesStand, home_at, is_of_package}
-use Rattle.plan_meaning.specs.GatheredPlan.{Becomes, BecomesIfGiven, FunctionBecomes, FunctionListed, ParamBecomes, functions_seen}
+use Rattle.plan_meaning.specs.GatheredPlan.{Becomes, FunctionBecomes, FunctionListed, functions_seen}
 use Rattle.plan_meaning.specs.ReadFunctions.{Beside}
 use Rattle.plan_meaning.specs.ReadPlaces.{IsPlacedInterface, under_path, inline}
 use Rattle.plan_meaning.specs.ReadWorlds.{ReadItem, IsReadItem, by_path, by_label, implementing_path, a_function, a_type}

@@ -1,27 +1,19 @@
 -- Lists of rising numbers: none stands twice, and what a number uses, being smaller, stands before it.
-use Rattle.std.proofs.Common.{◌≡◌, refl, sym, ap, ◌∙◌, ℕ, zero, suc, ◌+◌, ◌<◌, Bool, true, false, ◌||◌, ◌==◌, not, cond, nat_lt, nat_le, List, [], ◌∷◌, ◌++◌, flat_map, count_by, Option, Some, None, String, arith, map, ◌≤◌, length}
-use Rattle.std.specs.declared.alloc.Global.{Global}
+use Rattle.std.proofs.Common.{◌≡◌, refl, sym, ap, ◌∙◌, ℕ, ◌<◌, Bool, true, false, ◌||◌, ◌==◌, not, nat_lt, List, [], ◌∷◌, ◌++◌, Option, Some, None, arith, map, ◌≤◌}
 use Rattle.std.specs.List.{list_all, Contains}
 use Rattle.std.specs.Option.{option_map_or}
 use Rattle.std.proofs.lemmas.Bool.Decides.{nat_tests}
-use Rattle.std.proofs.lemmas.Bool.{eqb-true, and_from as both, ltb-true as less_than, leb-true, lt-ltb}
+use Rattle.std.proofs.lemmas.Bool.{and_from as both, ltb-true as less_than, leb-true, lt-ltb}
 use Rattle.std.proofs.lemmas.List.Folds.{list_any-append}
-use Rattle.std.proofs.lemmas.List.Sums.{sum_by-cons}
 use Rattle.wit_model.specs.declared.model.Resolve.{Resolve}
 use Rattle.wit_model.specs.declared.model.TypeDef.{TypeDef}
 use Rattle.wit_model.specs.Lookup.{type_at}
-use Rattle.wit_model.specs.Parts.{kind_numbers, met_by, met_of, used_by_type}
+use Rattle.wit_model.specs.Parts.{used_by_type}
 use Rattle.wit_model.specs.Uses.{has}
 use Rattle.wit_model.specs.Rules.{each_after, used_by_number, each_from}
-use Rattle.wit_model.specs.Valid.{Keeps}
-use Rattle.wit_model.specs.Checks.{references}
-use Rattle.wit_model.proofs.Checks.{below_at}
-use Rattle.wit_model.proofs.Functions.{all_flat}
-use Rattle.wit_model.proofs.Owners.{met_step, nothing_past}
 use Rattle.plan_meaning.specs.Plan as plan
 use Rattle.plan_meaning.specs.PlanRules.{are_rising}
-use Rattle.plan_meaning.proofs.Lists.{no_true, each_there}
-use Rattle.plan_meaning.proofs.ResourceMarks.{nothing}
+use Rattle.plan_meaning.proofs.Lists.{each_there}
 use Rattle.base_lemmas.proofs.Bools.{left_of as first_true, right_of as second_true, or_true}
 use Rattle.base_lemmas.proofs.Elements.{all_weaker, all_pass, all-contained}
 use Rattle.plan_meaning.specs.NumberedWorlds.{are_once}

@@ -20,7 +20,6 @@ use Rattle.wit_model.specs.declared.model.TypeOwner.{TypeOwner}
 use Rattle.wit_model.specs.declared.model.TypeOwner.TheVariants as owner
 use Rattle.wit_model.specs.Text.{Text, text_of, text_eq, optional_text}
 use Rattle.wit_model.specs.Lookup.{interface_at, world_at, type_at}
-use Rattle.wit_model.specs.Parts as parts
 use Rattle.wit_model.specs.Parts.{same_owner}
 use Rattle.wit_model.specs.Uses.{has}
 use Rattle.wit_model.specs.Rules as rules
@@ -34,12 +33,11 @@ use Rattle.plan_meaning.specs.Plan.{number_under, numbers_of}
 use Rattle.plan_meaning.specs.PlanRules as planned
 use Rattle.plan_meaning.specs.PlanRules.{IsPlan, are_rising, is_under_label}
 use Rattle.plan_meaning.specs.Built.{planned_type, planned_interface, planned_world, planned_key, planned_item}
-use Rattle.plan_meaning.proofs.Lists.{then_of_map, same_then, all_built, each_two, each_built, each_from_built, no_true, each_there, all_there}
+use Rattle.plan_meaning.proofs.Lists.{then_of_map, same_then, all_built, no_true, each_there, all_there}
 use Rattle.plan_meaning.proofs.Words.{plan_of, kind_numbers_are}
 use Rattle.plan_meaning.proofs.FunctionRules.{values_are}
 use Rattle.plan_meaning.proofs.Listed.{passes_weaker}
 use Rattle.plan_meaning.proofs.WorldItems.{own_type}
-use Rattle.plan_meaning.proofs.ResourceMarks.{references_hold}
 use Rattle.plan_meaning.proofs.Rising.{stands_once, in_order, used_low}
 use Rattle.base_lemmas.proofs.Bools.{left_of as first_true, right_of as second_true}
 use Rattle.base_lemmas.proofs.Elements.{all_get}

@@ -32,7 +32,7 @@ use Rattle.plan_meaning.proofs.NumberedRules.{no_name, no_shape, shape_there}
 use Rattle.plan_meaning.proofs.ReadPlaces.{one_interface}
 use Rattle.plan_meaning.proofs.Words.{behind}
 use Rattle.base_lemmas.proofs.Elements.{all_pass as all_among, contains-map, filter_map_from, get-contains, last_of as one-contained, zip_at as zip_there, zip_at_right as zip_at}
-use Rattle.base_lemmas.proofs.Lists.{get_back, within_there as slice_there}
+use Rattle.base_lemmas.proofs.Lists.{get_back}
 use Rattle.std.proofs.lemmas.Option.{same_Some as same-some}
 use Rattle.wit_model.proofs.RulesLemmas.{each_by_number}
 use Rattle.plan_meaning.proofs.KeptParts.{kept_at}

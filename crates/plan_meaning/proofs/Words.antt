@@ -22,13 +22,13 @@ use Rattle.wit_model.specs.Names.{path_in}
 use Rattle.wit_model.specs.Tree.{Form, Tree, Place, Declaration, type_, node, children, child, given, named, is_given}
 use Rattle.wit_model.specs.Types as types
 use Rattle.wit_model.specs.Types.{number_of, tree_of, declared_by, tree_of_declaration, tree_of_definition, trees_of}
-use Rattle.wit_model.specs.Lookup.{package_at, interface_at, type_at, path_in_package, path_of_interface, interface_path, place_of_path, place_of, resource_of}
+use Rattle.wit_model.specs.Lookup.{package_at, type_at, path_in_package, path_of_interface, interface_path, place_of_path, place_of, resource_of}
 use Rattle.wit_model.specs.Parts as parts
 use Rattle.wit_model.specs.Parts.{met_by, met_of, met_inside, numbered_from, same_owner, function_types}
 use Rattle.wit_model.specs.Uses as uses
 use Rattle.wit_model.specs.Uses.{alias_target, owner_interface, used_interface, direct_deps, once}
 use Rattle.plan_meaning.specs.Shapes.{part_tree}
-use Rattle.plan_meaning.specs.Plan.{Plan, path_of_planned, path_at, place_in, part_number, kind_numbers, function_parts, function_numbers, met_at, met_in, used_by_numbers, has_owner, declared_as, tree_of_planned, trees_in, alias_number, interface_used_by, interfaces_used_by, type_in, interface_in, package_in}
+use Rattle.plan_meaning.specs.Plan.{Plan, path_of_planned, path_at, place_in, part_number, kind_numbers, function_parts, function_numbers, met_at, met_in, used_by_numbers, has_owner, declared_as, tree_of_planned, trees_in, alias_number, interface_used_by, interfaces_used_by, type_in, package_in}
 use Rattle.plan_meaning.specs.PlanRules.{direct_uses}
 use Rattle.plan_meaning.specs.Built.{part_of, given_parts, planned_kind, planned_type, planned_function, planned_interface, planned_world, planned_package}
 use Rattle.plan_meaning.proofs.ShapeLaws.{part_behind}

@@ -1,5 +1,5 @@
 -- A world that is built from a plan of it means what the plan means as a world.
-use Rattle.std.proofs.Common.{◌≡◌, refl, sym, ap, ◌∙◌, ℕ, true, List, [], map, filter_map, option_map, option_and_then, option_to_list, Option, Some, None, slice_get, unwrap_or, is_some, subst}
+use Rattle.std.proofs.Common.{◌≡◌, refl, sym, ap, ◌∙◌, ℕ, true, [], map, filter_map, option_map, option_and_then, Option, Some, None, slice_get, unwrap_or, is_some, subst}
 use Rattle.std.specs.Prelude.{◌↔◌}
 use Rattle.std.specs.List.{Contains}
 use Rattle.std.specs.FinMap.{from_entries}
@@ -18,10 +18,8 @@ use Rattle.wit_model.specs.Meant as meant
 use Rattle.wit_model.specs.Meant.{MeantWorld, interface_meaning_at, package_of_world}
 use Rattle.wit_model.specs.Rules.{is_id}
 use Rattle.wit_model.specs.Valid.{IsValid}
-use Rattle.wit_model.proofs.Elements.{contains-filter_map, has-contains, contains-has}
-use Rattle.wit_model.proofs.Maps.{one_map}
-use Rattle.wit_model.proofs.OnePath.{has-path, path-once}
-use Rattle.plan_meaning.specs.Plan.{Plan, PlannedWorld, path_of_planned, package_in}
+use Rattle.wit_model.proofs.Elements.{has-contains, contains-has}
+use Rattle.plan_meaning.specs.Plan.{Plan, PlannedWorld, package_in}
 use Rattle.plan_meaning.specs.PlanRules as rules
 use Rattle.plan_meaning.specs.PlanRules.{IsWorldPlan}
 use Rattle.plan_meaning.specs.PlanMeaning as planned
@@ -29,15 +27,13 @@ use Rattle.plan_meaning.specs.PlanMeaning.{plan_world_meaning, shown_entry}
 use Rattle.plan_meaning.specs.Built.{IsBuilt, planned_interface, planned_world, planned_package}
 use Rattle.plan_meaning.proofs.Lists.{no_true}
 use Rattle.wit_model.proofs.UsesLemmas.{has_filter, filter_has}
-use Rattle.plan_meaning.proofs.Words.{plan_of, path_of_planned_is}
-use Rattle.plan_meaning.proofs.Meanings.{interface_is, world_is}
+use Rattle.plan_meaning.proofs.Words.{plan_of}
+use Rattle.plan_meaning.proofs.Meanings.{world_is}
 use Rattle.plan_meaning.proofs.Reaching.{shows_is}
 use Rattle.plan_meaning.proofs.PackageMeans.{path_there, named, shown_is, shown_of, entries_are}
 use Rattle.plan_meaning.proofs.Valid.{plan_is, built_is_valid}
-use Rattle.base_lemmas.proofs.Elements.{contains-map, contains-one, filter_map_from, get-contains, map_from}
 use Rattle.base_lemmas.proofs.Lists.{get_back}
-use Rattle.base_lemmas.proofs.Options.{there as some-of}
-use Rattle.std.proofs.lemmas.Option.{same_Some as same-some, slice_get-map as get_of_map}
+use Rattle.std.proofs.lemmas.Option.{slice_get-map as get_of_map}
 use Rattle.wit_model.proofs.MeantLemmas.{meaning_there}
 
 module _ (r : Resolve) (m : ℕ) (is : IsWorldPlan (plan_of r m)) (v : IsValid r) (w : World) (same : planned_world w ≡ is.world) where

@@ -19,8 +19,8 @@ use Rattle.wit_model.proofs.Entries.{worlds_keep}
 use Rattle.plan_meaning.specs.Plan as plan
 use Rattle.plan_meaning.specs.PlanRules as planned
 use Rattle.plan_meaning.specs.PlanRules.{IsPlan, bears}
-use Rattle.plan_meaning.specs.Built.{planned_type, planned_function, planned_interface, planned_world, planned_key, planned_item}
-use Rattle.plan_meaning.proofs.Lists.{all_built, each_built, each_from_built, each_two, no_true}
+use Rattle.plan_meaning.specs.Built.{planned_type, planned_function, planned_interface, planned_key, planned_item}
+use Rattle.plan_meaning.proofs.Lists.{no_true}
 use Rattle.plan_meaning.proofs.Words.{plan_of}
 use Rattle.plan_meaning.proofs.KindRules.{has_text}
 use Rattle.plan_meaning.proofs.Listed.{there, passes_weaker, bears_is}
