@@ -21,12 +21,13 @@ use Rattle.comp_meaning.specs.Same.{same_identity}
 use Rattle.comp_meaning.proofs.SameLaws.{identities_decide}
 use Rattle.plan_meaning.specs.PlanRules.{IsPlan, bears, lists_interface, lists_world, lists_members, is_alone}
 use Rattle.plan_meaning.specs.Built.{planned_interface, planned_world, planned_package}
-use Rattle.plan_meaning.proofs.Lists.{each_of_map, all_built, each_built, no_true}
+use Rattle.plan_meaning.proofs.Lists.{all_built, each_built, no_true, each_there, all_there}
 use Rattle.plan_meaning.proofs.Words.{plan_of}
 use Rattle.base_lemmas.proofs.Bools.{left_of as first_true, right_of as second_true}
 use Rattle.base_lemmas.proofs.Elements.{all_get}
 use Rattle.std.proofs.lemmas.Bool.{and_from as both, lt-ltb}
 use Rattle.base_lemmas.proofs.Options.{there as some-of}
+use Rattle.wit_model.proofs.RulesLemmas.{each_by_number}
 
 -- ---- a name that stands there
 
@@ -120,24 +121,17 @@ module _ (r : Resolve) (m : ℕ) (is : IsPlan (plan_of r m)) where
     named n p e identity alone =
         let rest = second_true (is_label (text_of p.name.namespace)) _ identity in
         both _ _ (both _ _ (first_true _ _ identity) (both _ _ (first_true (is_label (text_of p.name.name)) _ rest) (version_at n p e)))
-        (each_from_all (λ k other. (k == n) || not (same_package_name p.name other.name)) 0 r.packages.items (λ k other f.
-        either (0 + k == n) (not (same_identity (identity_of p.name) (identity_of other.name))) (not (same_package_name p.name other.name))
+        (each_by_number (λ k other. (k == n) || not (same_package_name p.name other.name)) r.packages.items (λ k other f.
+        either (k == n) (not (same_identity (identity_of p.name) (identity_of other.name))) (not (same_package_name p.name other.name))
         (apart p.name other.name (version_at n p e) (version_at k other f))
-        (each_from_at (λ k other. (k == n) || not (same_identity (identity_of p.name) (identity_of other.name))) 0 r.packages.items k other
-        (sym (each_of_map (λ k other. (k == n) || not (same_identity (identity_of p.name) other.identity)) planned_package 0 r.packages.items) ∙ alone) f)))
+        (each_there planned_package (λ k other. (k == n) || not (same_identity (identity_of p.name) other.identity)) r.packages.items alone k other f)))
 
     pub package_names_kept : Keeps package_names r
     unfolding package_names
     package_names_kept = packages_keep
         (λ r n p. (is_label (text_of p.name.namespace) && (is_label (text_of p.name.name) && passes is_version p.name.version)) && each_from
         (λ k other. (k == n) || not (same_package_name p.name other.name)) 0 r.packages.items) r
-        (each_from_all (λ n p. (is_label (text_of p.name.namespace) && (is_label (text_of p.name.name) && passes is_version p.name.version)) && each_from
-        (λ k other. (k == n) || not (same_package_name p.name other.name)) 0 r.packages.items) 0 r.packages.items
-        (λ n p e.
-        let here : n ≡ 0 + n = omega arith in
-        subst (λ k. ((is_label (text_of p.name.namespace) && (is_label (text_of p.name.name) && passes is_version p.name.version)) && each_from
-        (λ j other. (j == k) || not (same_package_name p.name other.name)) 0 r.packages.items) ≡ true) here
-        (named n p e
-        (all_get (λ k. is_identity (identity_of k.name)) r.packages.items n p (sym (list_all-map (λ k. is_identity k.identity) planned_package r.packages.items) ∙ is.identities) e)
-        (let at : 0 + n ≡ n = omega arith in subst (λ k. is_alone (plan_of r m) k (planned_package p) ≡ true) at
-        (each_from_at (λ k x. is_alone (plan_of r m) k (planned_package x)) 0 r.packages.items n p (sym (each_of_map (is_alone (plan_of r m)) planned_package 0 r.packages.items) ∙ is.alone) e)))))
+        (each_by_number (λ n p. (is_label (text_of p.name.namespace) && (is_label (text_of p.name.name) && passes is_version p.name.version)) && each_from
+        (λ k other. (k == n) || not (same_package_name p.name other.name)) 0 r.packages.items) r.packages.items
+        (λ n p e. named n p e (all_there planned_package (λ k. is_identity k.identity) r.packages.items is.identities n p e)
+        (each_there planned_package (is_alone (plan_of r m)) r.packages.items is.alone n p e)))

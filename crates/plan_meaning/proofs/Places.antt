@@ -28,7 +28,7 @@ use Rattle.plan_meaning.specs.Plan.{number_under, package_in}
 use Rattle.plan_meaning.specs.PlanRules as planned
 use Rattle.plan_meaning.specs.PlanRules.{IsPlan, names_of, members_differ}
 use Rattle.plan_meaning.specs.Built.{planned_interface, planned_world, planned_package, planned_item}
-use Rattle.plan_meaning.proofs.Lists.{all_of_map, each_two, each_built, each_from_built, no_true, all_there}
+use Rattle.plan_meaning.proofs.Lists.{all_of_map, each_built, each_from_built, no_true, all_there}
 use Rattle.plan_meaning.proofs.Words.{plan_of}
 use Rattle.plan_meaning.proofs.FunctionRules.{items_are}
 use Rattle.plan_meaning.proofs.Listed.{interface_listed, world_listed, members_pass, passes_both}
@@ -39,6 +39,7 @@ use Rattle.base_lemmas.proofs.Elements.{any_of_map, all_weaker}
 use Rattle.base_lemmas.proofs.Maps.{lookup_of_map}
 use Rattle.std.proofs.lemmas.Bool.{and_from as both, or_left as or_first}
 use Rattle.std.proofs.lemmas.Option.{slice_get-map as get_of_map}
+use Rattle.wit_model.proofs.RulesLemmas.{each_at, each_by_number}
 
 -- ---- what stands under a name
 
@@ -105,12 +106,12 @@ module _ (r : Resolve) (m : ℕ) (is : IsPlan (plan_of r m)) where
   packages_placed : each_from (λ n p. list_all (interface_belongs r n) p.interfaces.entries
       && (list_all (world_belongs r n) p.worlds.entries && list_all (λ e. not (is_world_name p (text_of e.0)) || names_itself r e) p.interfaces.entries)) 0 r.packages.items ≡ true
   packages_placed =
-      each_two (λ n p. list_all (interface_belongs r n) p.interfaces.entries && list_all (world_belongs r n) p.worlds.entries)
-      (λ n p. list_all (λ e. not (is_world_name p (text_of e.0)) || names_itself r e) p.interfaces.entries)
-      _ (λ n p a b. both _ _ (first_true _ _ a) (both _ _ (second_true (list_all (interface_belongs r n) p.interfaces.entries) _ a) b)) 0 r.packages.items
-      (members_pass r m is (interface_belongs r) (world_belongs r) interface_there world_there)
-      (each_from_built planned_package members_differ (λ p. list_all (λ e. not (is_world_name p (text_of e.0)) || names_itself r e) p.interfaces.entries) names_differ r.packages.items
-      is.members_differ)
+      each_by_number (λ n p. list_all (interface_belongs r n) p.interfaces.entries
+      && (list_all (world_belongs r n) p.worlds.entries && list_all (λ e. not (is_world_name p (text_of e.0)) || names_itself r e) p.interfaces.entries)) r.packages.items (λ n p e.
+      let members = each_at (λ n p. list_all (interface_belongs r n) p.interfaces.entries && list_all (world_belongs r n) p.worlds.entries) r.packages.items n p
+      (members_pass r m is (interface_belongs r) (world_belongs r) interface_there world_there) e in
+      both _ _ (first_true _ _ members) (both _ _ (second_true (list_all (interface_belongs r n) p.interfaces.entries) _ members)
+      (names_differ p (all_there planned_package members_differ r.packages.items is.members_differ n p e))))
 
   -- ---- interfaces
 
