@@ -2,7 +2,7 @@
 pub mod Lists
 -- In a table of shapes each number has a tree, and no tree has two numbers. Serves laws::shapes_are_trees; crates above.
 pub mod ShapeLaws
--- The words of a plan, on the plan that a `Resolve` is built from, are those of the `Resolve`. Serves Depths, DistinctKeys, FunctionNames, FunctionRules and 27 more; crates above.
+-- The words of a plan, on the plan that a `Resolve` is built from, are those of the `Resolve`. Serves Depths, DistinctKeys, FunctionNames, FunctionRules and 26 more; crates above.
 pub mod Words
 -- The functions of a plan's interfaces and worlds are those of the `Resolve`, and so are its items. Serves Depths, FunctionNames, ItemOrder, Labels and 8 more.
 pub mod FunctionRules
@@ -44,8 +44,6 @@ pub mod ListedTypes
 pub mod DistinctKeys
 -- Functions stand under their names, and those of a resource are named and shaped after it. Serves NothingElse, Valid.
 pub mod FunctionNames
--- Which numbers are resources: the marks along a plan's types say what following aliases finds. Serves Rising, TypeOrder, Valid.
-pub mod ResourceMarks
 -- The named types that numbers of a plan use are under no larger numbers. Serves KeptOwners, ReadOrder, ReadWholes, Rising and 1 more.
 pub mod MetTypes
 -- Lists of rising numbers: none stands twice, and what a number uses, being smaller, stands before it. Serves TypeOrder.
@@ -72,6 +70,8 @@ pub mod NumbersInRange
 pub mod Owning
 -- Interfaces and worlds stand in the places that they say. Serves Valid.
 pub mod Places
+-- Which numbers are resources: the marks along a plan's types say what following aliases finds. Serves Valid.
+pub mod ResourceMarks
 -- What is built from a plan that was read is valid. Serves laws::plans_are_valid; crates above.
 pub mod Valid
 -- A package that is built from a plan of it means what the plan means. Serves laws::plans_are_meant; crates above.

@@ -1,9 +1,8 @@
 -- What a package lists is in range, of the package, and under its own name; packages are apart.
-use Rattle.std.proofs.Common.{◌≡◌, refl, sym, ap, subst, ◌∙◌, ℕ, ◌+◌, Bool, true, false, ◌&&◌, ◌||◌, not, ◌==◌, List, length, map, option_map, Option, Some, None, slice_get, is_some, String, arith}
+use Rattle.std.proofs.Common.{◌≡◌, refl, sym, ap, ◌∙◌, ℕ, Bool, true, false, ◌&&◌, ◌||◌, not, ◌==◌, List, length, map, option_map, Option, Some, None, slice_get, is_some, String}
 use Rattle.std.specs.declared.alloc.Global.{Global}
 use Rattle.std.specs.List.{list_all}
 use Rattle.std.specs.Option.{option_map_or}
-use Rattle.std.proofs.lemmas.List.Folds.{list_all-map}
 use Rattle.std.proofs.lemmas.Option.{slice_get_within, slice_get-map as get_of_map}
 use Rattle.wit_model.specs.declared.model.Resolve.{Resolve}
 use Rattle.wit_model.specs.declared.model.Package.{Package}
@@ -15,7 +14,7 @@ use Rattle.wit_model.specs.Names.{is_label, is_version, is_identity}
 use Rattle.wit_model.specs.Lookup.{interface_at, world_at, package_at, identity_of}
 use Rattle.wit_model.specs.Rules.{in_list, passes, each_from, is_id, package_number, text_is, same_package_name}
 use Rattle.wit_model.specs.Valid.{Keeps, package_names, names_in_packages}
-use Rattle.wit_model.proofs.Entries.{packages_keep, each_from_at, each_from_all}
+use Rattle.wit_model.proofs.Entries.{packages_keep}
 use Rattle.wit_model.proofs.VersionLaws.{same_name}
 use Rattle.comp_meaning.specs.Same.{same_identity}
 use Rattle.comp_meaning.proofs.SameLaws.{identities_decide}

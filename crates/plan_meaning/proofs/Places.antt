@@ -28,7 +28,7 @@ use Rattle.plan_meaning.specs.Plan.{number_under, package_in}
 use Rattle.plan_meaning.specs.PlanRules as planned
 use Rattle.plan_meaning.specs.PlanRules.{IsPlan, names_of, members_differ}
 use Rattle.plan_meaning.specs.Built.{planned_interface, planned_world, planned_package, planned_item}
-use Rattle.plan_meaning.proofs.Lists.{all_of_map, each_built, each_from_built, no_true, all_there}
+use Rattle.plan_meaning.proofs.Lists.{all_of_map, each_built, no_true, all_there}
 use Rattle.plan_meaning.proofs.Words.{plan_of}
 use Rattle.plan_meaning.proofs.FunctionRules.{items_are}
 use Rattle.plan_meaning.proofs.Listed.{interface_listed, world_listed, members_pass, passes_both}
