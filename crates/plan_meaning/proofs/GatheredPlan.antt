@@ -1,7 +1,7 @@
 -- A plan that is gathered from views in numbers means what they mean.
-use Rattle.std.proofs.Common.{◌≡◌, refl, sym, ap, subst, ◌∙◌, ℕ, ◌+◌, arith, Bool, true, false, not, ◌&&◌, ◌==◌, cond, List, [], ◌∷◌, ◌++◌, map, filter_map, Option, Some, None, option_map, unwrap_or, slice_get}
+use Rattle.std.proofs.Common.{◌≡◌, refl, sym, ap, subst, ◌∙◌, ℕ, ◌+◌, arith, Bool, true, false, not, ◌&&◌, ◌==◌, cond, List, [], ◌∷◌, ◌++◌, map, filter_map, Option, Some, None, option_map, unwrap_or, slice_get, rules}
 use Rattle.std.specs.Prelude.{option_and_then}
-use Rattle.std.specs.List.{AllByRecursion, AllZip, Contains, cons_option, filter, flat_map, list_all, list_any}
+use Rattle.std.specs.List.{AllByRecursion, AllZip, Contains, cons_option, filter, flat_map, list_any}
 use Rattle.std.specs.Option.{option_map_or}
 use Rattle.std.proofs.lemmas.List.Elements.{Contains-append_right}
 use Rattle.std.specs.FinMap.{from_entries}
@@ -25,7 +25,7 @@ use Rattle.plan_meaning.specs.Gathering.{AreEnough}
 use Rattle.plan_meaning.specs.NumberedViews.{FunctionShape, Tables, path_text, place_at, tree_at, signature_over, function_at, AreTables, NumberedType, NumberedFunction, NumberedView, view_of, declaration_of, shown_type, shown_function, NumberedSight, sight_of, IsSight, agree_in_numbers}
 use Rattle.plan_meaning.specs.NumberedRules.{Fact}
 use Rattle.plan_meaning.specs.NumberedWorlds.{path, label, implementing, NumberedShown, instance, function, declares, NumberedSeen, shown_of, seen_of, NumberedScope, Shows, sights_of_scope, HasPath}
-use Rattle.plan_meaning.specs.NumberedMembers.{Homes, HomesStand, is_of_package, NumberedPart, world, interface, NumberedMember, sights_of_members, sights_of_part, ShowsPart, IsMember, stands_at_top, are_interfaces, are_package, is_named_in, package_shown, world_shown, IsKnownSight}
+use Rattle.plan_meaning.specs.NumberedMembers.{Homes, HomesStand, is_of_package, NumberedPart, world, interface, NumberedMember, sights_of_members, sights_of_part, ShowsPart, IsMember, are_interfaces, are_package, is_named_in, package_shown, world_shown, IsKnownSight}
 use Rattle.plan_meaning.specs.GatheredPlan.{functions_seen, interfaces_listed, worlds_listed, Becomes, BecomesIfGiven, DeclaresKind, a_resource, a_name, a_form, TypeBecomes, TypeListed, ParamBecomes, FunctionBecomes, FunctionListed, InterfaceBecomes, InterfaceAt, ItemBecomes, SeenBecomes, WorldBecomes, SightBecomes, Keeps, InterfacesListed, WorldsListed, under_path, foreign_interface, AreChosen, is_foreign, IsGathered, GatheredPackageIsMeant, GatheredWorldIsMeant}
 use Rattle.plan_meaning.proofs.Gathering.{functions_mean_one, one_view_is_enough}
 use Rattle.plan_meaning.proofs.NumberedMembers.{only_sights, of_package, all_sights, agree_same, interfaces_same, packages_in_numbers, one_world_in_numbers}
@@ -302,9 +302,7 @@ module _ (t : Tables) (tables : AreTables t) (h : Homes) (stand : HomesStand t h
   sights = only_sights t known seen all
 
   both_hold : (agree_in_numbers seen && are_interfaces t known seen) ≡ true
-  both_hold =
-      second_true (list_all (stands_at_top h n ms) seen) (agree_in_numbers seen && are_interfaces t known seen)
-      (second_true (list_all (λ m. n == m.package_) ms) (list_all (stands_at_top h n ms) seen && (agree_in_numbers seen && are_interfaces t known seen)) are)
+  both_hold = search rules
 
   agree : reads.all_agree (map (sight_of t) seen) ≡ true
   agree = agree_same t tables h stand known seen all ∙ first_true (agree_in_numbers seen) (are_interfaces t known seen) both_hold

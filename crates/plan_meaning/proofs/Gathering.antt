@@ -1,5 +1,5 @@
 -- One view of each path is enough.
-use Rattle.std.proofs.Common.{◌≡◌, refl, sym, ap, subst, ◌∙◌, zero, suc, Bool, true, false, ◌&&◌, ◌||◌, not, cond, List, [], ◌∷◌, ◌++◌, map, arith}
+use Rattle.std.proofs.Common.{◌≡◌, refl, sym, ap, subst, ◌∙◌, zero, suc, Bool, true, false, ◌&&◌, ◌||◌, not, cond, List, [], ◌∷◌, ◌++◌, map, arith, rules}
 use Rattle.std.specs.List.{Contains, list_all}
 use Rattle.std.specs.Cmp.Lexicographic.{pointwise}
 use Rattle.std.specs.FinMap.{from_entries}
@@ -51,11 +51,7 @@ functions_once all h s c =
 
 -- the functions of two views of one path that show them make one map
 same_whole : (s t : Sight) → agree s t ≡ true → s.path ≡ t.path → s.whole ≡ true → t.whole ≡ true → same_functions s.view.functions t.view.functions ≡ true
-same_whole s t h e p q =
-    let same : text_eq s.path t.path ≡ true = (bytes_eq-Decides s.path t.path).1 e in
-    let both = sym (ap (λ b. not b || (pointwise same_shown s.view.types t.view.types && (not (s.whole && t.whole) || same_functions s.view.functions t.view.functions))) same) ∙ h in
-    let rest = second_true (pointwise same_shown s.view.types t.view.types) (not (s.whole && t.whole) || same_functions s.view.functions t.view.functions) both in
-    sym (ap (λ b. not b || same_functions s.view.functions t.view.functions) (and_from s.whole t.whole p q)) ∙ rest
+same_whole s t h e p q = search rules
 
 -- these make the map of the view's functions
 abbrev MeanThose : Sight → List (Text × FunctionMeaning) → Type 0

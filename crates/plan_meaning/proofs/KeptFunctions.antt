@@ -1,5 +1,5 @@
 -- Functions whose types are those of kept shapes pass the tests on their types and their resource.
-use Rattle.std.proofs.Common.{◌≡◌, inl, inr, refl, sym, ap, subst, ◌∙◌, ℕ, ◌+◌, arith, Bool, true, false, not, ◌&&◌, ◌||◌, ◌==◌, cond, List, [], ◌∷◌, length, map, drop, filter_map, Option, Some, None, option_map, option_to_list, is_none, slice_get, codes}
+use Rattle.std.proofs.Common.{◌≡◌, inl, inr, refl, sym, ap, subst, ◌∙◌, ℕ, ◌+◌, arith, Bool, true, false, not, ◌&&◌, ◌||◌, ◌==◌, cond, List, [], ◌∷◌, length, map, drop, filter_map, Option, Some, None, option_map, option_to_list, is_none, slice_get, codes, rules as std_rules}
 use Rattle.std.specs.Prelude.{nat_le, nat_eq, option_and_then}
 use Rattle.std.specs.List.{AllZip, list_all, starts_with}
 use Rattle.std.specs.Option.{option_map_or}
@@ -12,7 +12,6 @@ use Rattle.wit_model.specs.Text.{Text, text_eq}
 use Rattle.wit_model.specs.Names.{is_label, constructor_name, method_name, static_name}
 use Rattle.wit_model.specs.Tree.{Place, Form, Tree, levels}
 use Rattle.wit_model.specs.Lookup.{resource_of}
-use Rattle.wit_model.specs.Parts.{same_owner}
 use Rattle.wit_model.specs.Rules.{after_prefix, are_member_labels, in_list, is_freestanding, is_id, passes}
 use Rattle.wit_model.proofs.VersionLaws.{same_text}
 use Rattle.comp_meaning.specs.Rules as rules
@@ -36,7 +35,6 @@ use Rattle.plan_meaning.proofs.ShapeLaws.{split_part}
 use Rattle.plan_meaning.proofs.Words.{behind}
 use Rattle.base_lemmas.proofs.Bools.{left_of as first_true, right_of as second_true}
 use Rattle.base_lemmas.proofs.Lists.{map_of_map}
-use Rattle.wit_model.proofs.PartsLemmas.{owner_itself}
 use Rattle.wit_model.proofs.TextLemmas.{text_same}
 use Rattle.base_lemmas.proofs.Elements.{all_weaker, joined_well, zip_map}
 use Rattle.std.proofs.lemmas.List.Folds.{list_all-map}
@@ -104,10 +102,7 @@ module _ (t : Tables) (tables : AreTables t) (known : ℕ → Fact) (kept : List
 
     module _ (name : Text) (n : ℕ) (is : IsResource t known kept p o q name n) where
       resource_has_name : resource_name p o n ≡ Some name
-      resource_has_name =
-          ap (option_and_then (λ x. cond (plan.is_resource_kind x.kind && same_owner x.owner o) x.name None)) is.there
-          ∙ (ap (λ b. cond b is.type_.name None) (both (plan.is_resource_kind is.type_.kind) (same_owner is.type_.owner o) (ap plan.is_resource_kind is.kind)
-          (ap (λ x. same_owner x o) is.owned ∙ owner_itself o)) ∙ is.named)
+      resource_has_name = search std_rules
 
       -- the shape of a name in the place
       name_shape : (k : ℕ) → is_name t known q name k ≡ true → k ≡ 14 + is.shape

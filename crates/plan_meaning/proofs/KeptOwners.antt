@@ -1,5 +1,5 @@
 -- What holds names of one place stays with the owner of that place.
-use Rattle.std.proofs.Common.{◌≡◌, inl, inr, refl, sym, ap, subst, ◌∙◌, ℕ, zero, suc, ◌+◌, ◌-◌, ◌<◌, arith, Bool, true, false, not, ◌&&◌, ◌||◌, ◌==◌, cond, List, [], ◌∷◌, ◌++◌, length, map, take, filter_map, Option, Some, None, is_some, slice_get, unwrap_or}
+use Rattle.std.proofs.Common.{◌≡◌, inl, inr, refl, sym, ap, subst, ◌∙◌, ℕ, zero, suc, ◌+◌, ◌-◌, ◌<◌, arith, Bool, true, false, not, ◌&&◌, ◌||◌, ◌==◌, cond, List, [], ◌∷◌, ◌++◌, length, map, take, filter_map, Option, Some, None, is_some, slice_get, unwrap_or, rules as std_rules}
 use Rattle.std.specs.Prelude.{nat_le}
 use Rattle.std.specs.List.{AllZip, Contains, cons_option, flat_map, list_all}
 use Rattle.std.specs.Option.{option_map_or}
@@ -36,7 +36,6 @@ use Rattle.plan_meaning.proofs.Words.{behind}
 use Rattle.base_lemmas.proofs.Bools.{left_of as first_true, right_of as second_true}
 use Rattle.base_lemmas.proofs.Elements.{all_at, all_by_number, all-contained, flat_all}
 use Rattle.base_lemmas.proofs.Lists.{slice_take}
-use Rattle.wit_model.proofs.PartsLemmas.{owner_itself}
 use Rattle.plan_meaning.proofs.MetTypes.{met_there}
 
 module _ (t : Tables) (tables : AreTables t) (kept : List ℕ) (p : Plan) (are : TypesAreKept t kept p) (owners : ℕ → TypeOwner) (owned : AreOwned t kept p owners) where
@@ -87,9 +86,7 @@ module _ (t : Tables) (tables : AreTables t) (kept : List ℕ) (p : Plan) (are :
 
     named_here : (j n : ℕ) (x : PlannedType) (r : ℕ) (name : Text) → slice_get p.types j ≡ Some x → slice_get kept j ≡ Some n → slice_get t.shapes n ≡ Some (named_shape r name) → r ≡ q
         → has_owner p (owners q) j ≡ true
-    named_here j n x r name e stands there same =
-        ap (λ o. option_map_or (λ y. same_owner y.owner (owners q)) o false) e
-        ∙ (ap (λ y. same_owner y (owners q)) (owned.owned j n x r name e stands there ∙ ap owners same) ∙ owner_itself (owners q))
+    named_here j n x r name e stands there same = search std_rules
 
     -- the parts of a form
     form_met : (table : List (List ℕ)) (n : ℕ) (form : Form) (olds news : List ℕ) → slice_get t.shapes n ≡ Some (node_shape form olds) → AllZip (Becomes t kept p) olds news

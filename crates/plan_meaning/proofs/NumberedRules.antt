@@ -1,9 +1,9 @@
 -- Each rule of reading on types, functions and interfaces has the same answer in numbers.
-use Rattle.std.proofs.Common.{◌≡◌, refl, sym, ap, ◌∙◌, ℕ, ◌+◌, ◌-◌, ◌<◌, arith, min, Bool, true, false, not, ◌&&◌, ◌||◌, ◌==◌, cond, List, [], ◌∷◌, ◌++◌, map, Option, Some, None, option_map, slice_get, codes}
+use Rattle.std.proofs.Common.{◌≡◌, refl, sym, ap, ◌∙◌, ℕ, ◌+◌, ◌-◌, ◌<◌, min, Bool, true, false, not, ◌&&◌, ◌||◌, ◌==◌, cond, List, [], ◌∷◌, ◌++◌, map, Option, Some, None, option_map, slice_get, codes, rules as std_rules}
 use Rattle.std.specs.Prelude.{option_and_then, nat_le}
 use Rattle.std.specs.List.{AllByRecursion, Contains, list_all, list_any}
 use Rattle.std.specs.Option.{option_map_or}
-use Rattle.std.proofs.lemmas.Bool.{eqb-true, eq-eqb, lt-ltb, le-leb, leb-true}
+use Rattle.std.proofs.lemmas.Bool.{eqb-true, eq-eqb, lt-ltb}
 use Rattle.wit_model.specs.Text.{Text, text_eq}
 use Rattle.wit_model.specs.Names.{is_label, constructor_name, method_name, static_name}
 use Rattle.wit_model.specs.Tree.{Place, Form, Tree, Trees, Declaration, children, deepest, levels, Primitive}
@@ -26,16 +26,10 @@ use Rattle.plan_meaning.proofs.Lists.{all_same}
 -- ---- tests
 
 most_levels_counted : (n : ℕ) → nat_le (min most_counted n) most_levels ≡ nat_le n most_levels
-most_levels_counted n =
-    either_way (nat_le (min most_counted n) most_levels) (nat_le n most_levels)
-    (λ h. let low = leb-true (min most_counted n) most_levels h in le-leb n most_levels (omega (arith, low)))
-    (λ h. let low = leb-true n most_levels h in le-leb (min most_counted n) most_levels (omega (arith, low)))
+most_levels_counted n = search std_rules
 
 one_level_more : (n : ℕ) → nat_le (min most_counted (n + 1)) (most_levels + 1) ≡ nat_le n most_levels
-one_level_more n =
-    either_way (nat_le (min most_counted (n + 1)) (most_levels + 1)) (nat_le n most_levels)
-    (λ h. let low = leb-true (min most_counted (n + 1)) (most_levels + 1) h in le-leb n most_levels (omega (arith, low)))
-    (λ h. let low = leb-true n most_levels h in le-leb (min most_counted (n + 1)) (most_levels + 1) (omega (arith, low)))
+one_level_more n = search std_rules
 
 -- ---- forms by their numbers
 
@@ -97,10 +91,7 @@ module _ (t : Tables) (table : IsTable t.shapes) (known : ℕ → Fact) (p : ℕ
 
   form_same : (form : Form) (ts : Trees) (k : ℕ) → Known k → tree_at t k ≡ Tree.node form ts
       → (are_labels (form_labels form) && are_parts here ts && nat_le (deepest ts) most_levels) ≡ is_declared_form p (known k)
-  form_same form ts k h e =
-      let most : nat_le (known k).levels (most_levels + 1) ≡ nat_le (deepest ts) most_levels =
-      ap (λ n. nat_le n (most_levels + 1)) (h.tells.levels ∙ ap (λ x. min most_counted (levels x)) e) ∙ one_level_more (deepest ts) in
-      λ i. sym (h.tells.labels form ts e) i && sym (h.tells.parts form ts e) i && sym most i
+  form_same form ts k h e = search std_rules
 
   pub declared_same : (d : Option ℕ) → AllOf Known d → rules.is_declared here (declaration_of t d) ≡ is_declared t known p d
   declared_same None h = refl

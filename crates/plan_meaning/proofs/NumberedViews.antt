@@ -1,11 +1,11 @@
 -- Equal numbers are equal trees and equal types of functions, so views agree where their numbers do.
-use Rattle.std.proofs.Common.{◌≡◌, refl, sym, ap, ◌∙◌, ℕ, ◌<◌, Bool, true, false, not, ◌&&◌, ◌||◌, ◌==◌, cond, List, [], ◌∷◌, ◌++◌, length, map, Option, Some, None, option_map, unwrap_or, slice_get}
+use Rattle.std.proofs.Common.{◌≡◌, refl, sym, ap, ◌∙◌, ℕ, ◌<◌, Bool, true, false, not, ◌&&◌, ◌||◌, ◌==◌, cond, List, [], ◌∷◌, ◌++◌, length, map, Option, Some, None, option_map, unwrap_or, slice_get, rules}
 use Rattle.std.specs.List.{AllByRecursion, list_any, find}
 use Rattle.std.specs.Option.{option_map_or}
 use Rattle.std.specs.Cmp.Lexicographic.{pointwise}
 use Rattle.std.proofs.lemmas.Bool.{eqb-true, eq-eqb}
 use Rattle.wit_model.specs.Text.{Text, text_eq}
-use Rattle.wit_model.specs.Tree.{Place, Tree}
+use Rattle.wit_model.specs.Tree.{Tree}
 use Rattle.wit_model.specs.Meaning.{Signature}
 use Rattle.comp_meaning.specs.Follow.{place_of}
 use Rattle.comp_meaning.specs.Same.{same_option, same_tree, same_declaration, same_signature, stand_in}
@@ -15,7 +15,7 @@ use Rattle.comp_meaning.specs.Reads as reads
 use Rattle.comp_meaning.specs.Agreement.{first_of, first_whole, agree_with_first}
 use Rattle.comp_meaning.specs.Agreement as agreement
 use Rattle.comp_meaning.proofs.SameLaws.{trees_decide, signatures_decide}
-use Rattle.plan_meaning.specs.NumberedViews.{FunctionShape, Tables, path_at, path_text, place_at, tree_at, signature_over, function_at, no_function, signature_at, IsPart, AllOf, PartsOf, AreTables, AreApart, IsOutside, NumberedType, NumberedFunction, declaration_of, shown_type, shown_function, NumberedSight, sight_of, same_number, same_shown, same_function, same_functions, same_types, same_whole, agree, agree_in_numbers, first_at, first_whole_at, agrees_with_first, agree_with_first_in_numbers, TypePasses, FunctionPasses, IsOutsidePart, IsSight, NumbersTell, EachNumberTells, ViewsAgreeInNumbers, FirstViewsAgreeInNumbers}
+use Rattle.plan_meaning.specs.NumberedViews.{FunctionShape, Tables, path_text, place_at, tree_at, signature_over, function_at, no_function, signature_at, IsPart, AllOf, PartsOf, AreTables, AreApart, IsOutside, NumberedType, NumberedFunction, declaration_of, shown_type, shown_function, NumberedSight, sight_of, same_number, same_shown, same_function, same_functions, same_types, same_whole, agree, agree_in_numbers, first_at, first_whole_at, agrees_with_first, agree_with_first_in_numbers, TypePasses, FunctionPasses, IsOutsidePart, IsSight, NumbersTell, EachNumberTells, ViewsAgreeInNumbers, FirstViewsAgreeInNumbers}
 use Rattle.plan_meaning.proofs.ShapeLaws.{one_number_apart}
 use Rattle.base_lemmas.proofs.Bools.{both_ways as either_way}
 use Rattle.base_lemmas.proofs.Lists.{append_of_map, length_of_map, within_there as slice_there}
@@ -25,10 +25,7 @@ use Rattle.plan_meaning.proofs.NumberedWorlds.{path_number}
 use Rattle.base_lemmas.proofs.Numbers.{turned}
 
 path_is : (o p : Option Text) (x y : Text) → o ≡ Some x → p ≡ Some y → place_of o ≡ place_of p → o ≡ p
-path_is o p x y eo ep h =
-    let places : Place.of_interface x ≡ Place.of_interface y = sym (ap place_of eo) ∙ (h ∙ ap place_of ep) in
-    let texts : x ≡ y = cc in
-    eo ∙ (ap Some texts ∙ sym ep)
+path_is o p x y eo ep h = search rules
 
 both_parts : (P Q : ℕ → Type 0) (f : FunctionShape) → PartsOf P f → PartsOf Q f → PartsOf (λ k. P k × Q k) f
 both_parts P Q f h g = (along f.params h.0 g.0, given f.result h.1 g.1)
@@ -45,11 +42,7 @@ module _ (t : Tables) (tables : AreTables t) where
   -- ---- numbers and trees
 
   outside_apart : (a b : ℕ) → IsOutside t a → IsOutside t b → AreApart (place_at t) t.shapes a b
-  outside_apart a b ha hb p q hp hq e =
-      let first = ha p hp in
-      let second = hb q hq in
-      let same_path = path_is (path_at t p) (path_at t q) first.0 second.0 first.1 second.1 e in
-      tables.paths p q second.0 (same_path ∙ second.1) second.1
+  outside_apart a b ha hb p q hp hq e = search rules
 
   tree_number : (a b : ℕ) → IsPart t a → IsPart t b → AreApart (place_at t) t.shapes a b → same_tree (tree_at t a) (tree_at t b) ≡ (a == b)
   tree_number a b ha hb apart =

@@ -1,14 +1,13 @@
 -- What uses what, and what a world may have, has the same answer in numbers.
-use Rattle.std.proofs.Common.{◌≡◌, refl, sym, ap, ◌∙◌, ℕ, Bool, true, false, not, ◌&&◌, ◌||◌, ◌==◌, cond, List, [], ◌∷◌, ◌++◌, map, Option, Some, None, unwrap_or}
+use Rattle.std.proofs.Common.{◌≡◌, refl, sym, ap, ◌∙◌, ℕ, Bool, true, false, not, ◌&&◌, ◌||◌, ◌==◌, cond, List, [], ◌∷◌, ◌++◌, map, Option, Some, None, unwrap_or, rules as std_rules}
 use Rattle.std.specs.Prelude.{option_and_then}
 use Rattle.std.specs.List.{AllByRecursion, flat_map, list_all, list_any}
 use Rattle.std.specs.Option.{option_map_or}
-use Rattle.std.proofs.lemmas.Bool.{eqb-true, eq-eqb}
+use Rattle.std.proofs.lemmas.Bool.{eqb-true}
 use Rattle.wit_model.specs.Text.{Text, text_eq}
 use Rattle.wit_model.specs.Names.{is_label}
 use Rattle.wit_model.specs.Tree.{Place, Tree, Declaration}
 use Rattle.wit_model.specs.Uses.{has}
-use Rattle.wit_model.proofs.VersionLaws.{same_text}
 use Rattle.comp_meaning.specs.Follow.{View, Seen, interface_of, place_of}
 use Rattle.comp_meaning.specs.Rules as rules
 use Rattle.comp_meaning.specs.Rules.{distinct}
@@ -18,10 +17,8 @@ use Rattle.plan_meaning.specs.NumberedViews.{Tables, path_at, path_text, place_a
 use Rattle.plan_meaning.specs.NumberedRules.{Fact, name_in, name_at, IsKnown}
 use Rattle.plan_meaning.specs.NumberedWorlds.{NumberedKey, path, label, implementing, place_of_key, key_of, NumberedShown, instance, function, declares, NumberedSeen, shown_of, seen_of, NumberedInstance, instance_of, sights_of_instance, if_outside, used_by, used_by_view, others_than, uses_of, path_seen, stand_earlier, are_reached, are_once, resources_seen, is_resource_seen, is_item, are_imports, HasPath, KeyStands, ItemStands, DeclaresParts, UsesInNumbers, ReachedInNumbers, PathsInNumbers, WorldsInNumbers, SightsInNumbers}
 use Rattle.plan_meaning.proofs.NumberedRules.{no_name, declared_same, function_same, interface_same, by_shape}
-use Rattle.base_lemmas.proofs.Bools.{both_ways as either_way}
 use Rattle.base_lemmas.proofs.Elements.{all_both as all_in_both}
 use Rattle.base_lemmas.proofs.Lists.{append_of_map, map_of_map}
-use Rattle.wit_model.proofs.TextLemmas.{text_same}
 use Rattle.plan_meaning.proofs.Lists.{each_so, all_same}
 
 pub path_is : (t : Tables) (p : ℕ) (h : HasPath t p) → path_text t p ≡ h.0
@@ -31,10 +28,7 @@ module _ (t : Tables) (tables : AreTables t) where
   -- ---- paths and their numbers
 
   pub path_number : (p q : ℕ) → HasPath t p → HasPath t q → text_eq (path_text t p) (path_text t q) ≡ (q == p)
-  path_number p q hp hq =
-      either_way (text_eq (path_text t p) (path_text t q)) (q == p)
-      (λ h. let texts : hp.0 ≡ hq.0 = sym (path_is t p hp) ∙ (text_same (path_text t p) (path_text t q) h ∙ path_is t q hq) in eq-eqb q p (tables.paths q p hp.0 (hq.1 ∙ ap Some (sym texts)) hp.1))
-      (λ h. same_text (path_text t p) (path_text t q) (ap (path_text t) (sym (eqb-true q p h))))
+  path_number p q hp hq = search std_rules
 
   pub has_path : (ps : List ℕ) (p : ℕ) → AllByRecursion (HasPath t) ps → HasPath t p → list_any (text_eq (path_text t p)) (map (path_text t) ps) ≡ has ps p
   has_path [] p hs h = refl

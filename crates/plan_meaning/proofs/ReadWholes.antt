@@ -1,5 +1,5 @@
 -- Nothing stands without a reason in a plan that is read as a package or as one world.
-use Rattle.std.proofs.Common.{◌≡◌, ◌⊎◌, inl, inr, refl, sym, ap, subst, ◌∙◌, ℕ, zero, suc, ◌+◌, arith, Bool, true, false, not, ◌&&◌, ◌||◌, ◌==◌, cond, List, [], ◌∷◌, ◌++◌, map, filter_map, flat_map, Option, Some, None, option_to_list, is_some, is_none, slice_get}
+use Rattle.std.proofs.Common.{◌≡◌, ◌⊎◌, inl, inr, refl, sym, ap, subst, ◌∙◌, ℕ, zero, suc, ◌+◌, arith, Bool, true, false, not, ◌&&◌, ◌||◌, ◌==◌, cond, List, [], ◌∷◌, ◌++◌, map, filter_map, flat_map, Option, Some, None, option_to_list, is_some, is_none, slice_get, rules}
 use Rattle.std.specs.List.{AllZip, Contains, list_any}
 use Rattle.std.specs.Option.{option_map_or}
 use Rattle.std.proofs.lemmas.Bool.{eqb-true, eq-eqb, or_right, not-true as not_true}
@@ -270,9 +270,7 @@ module _ (t : Tables) (tables : AreTables t) (h : Homes) (homes : HomesStand t h
       by (inline q a w none owned unnamed there shown_there) = no_true (sym (ap is_some unnamed) ∙ named)
 
   not_main : (n : ℕ) (i : PlannedInterface) (at : HasPlace n i) → is_foreign p i ≡ true → is_of_package h p.main at.place ≡ false
-  not_main n i at foreign =
-      let other : not (is_id p.main i.package_) ≡ true = second_true (is_some i.name) (not (is_id p.main i.package_)) foreign in
-      ap (λ o. option_map_or (λ (x : ℕ × Text). x.0 == p.main) o false) at.home ∙ (sym (ap (is_id p.main) at.of_package) ∙ not_true (is_id p.main i.package_) other)
+  not_main n i at foreign = search rules
 
   no_functions : (q : ℕ) (seen : List NumberedSight) → ((s : NumberedSight) → Contains seen s → s.whole ≡ true → q ≡ s.place → ⊥) → functions_seen q seen ≡ []
   no_functions q [] none = refl

@@ -1,5 +1,5 @@
 -- Worlds that are read pass the tests of a plan on each world by itself.
-use Rattle.std.proofs.Common.{◌≡◌, refl, sym, ap, subst, ◌∙◌, ◌<◌, ℕ, arith, Bool, true, false, not, ◌&&◌, ◌||◌, ◌==◌, List, [], ◌∷◌, ◌++◌, length, map, filter_map, Option, Some, drop, is_none, is_some, slice_get, T, ltb→lt}
+use Rattle.std.proofs.Common.{◌≡◌, refl, sym, ap, subst, ◌∙◌, ◌<◌, ℕ, arith, Bool, true, false, not, ◌&&◌, ◌||◌, ◌==◌, List, [], ◌∷◌, ◌++◌, length, map, filter_map, Option, Some, drop, is_none, is_some, slice_get, T, ltb→lt, rules}
 use Rattle.std.specs.Prelude.{codes, nat_eq, nat_lt}
 use Rattle.std.specs.List.{AllByRecursion, cons_option, list_all, list_any, starts_with}
 use Rattle.std.specs.Option.{option_map_or}
@@ -26,7 +26,6 @@ use Rattle.plan_meaning.specs.KeptFunctions.{IsKindOf, of_none, a_constructor, a
 use Rattle.plan_meaning.specs.KeptOwners.{AreOwned, of_interface}
 use Rattle.plan_meaning.specs.ReadFunctions.{Beside}
 use Rattle.plan_meaning.specs.ReadWorlds.{ReadItem, is_type_seen, types_follow, IsInterfaceOf, IsReadUnder, IsTypeUnder, IsReadItem, by_path, by_label, implementing_path, a_function, a_type, IsReadWorld, ReadWorldsPass}
-use Rattle.plan_meaning.proofs.KeptFunctions.{kept_functions_pass}
 use Rattle.plan_meaning.proofs.Listed.{in_range}
 use Rattle.plan_meaning.proofs.Lists.{no_true}
 use Rattle.plan_meaning.proofs.NumberedRules.{no_name}
@@ -76,11 +75,7 @@ module _ (t : Tables) (tables : AreTables t) (kept : List ℕ) (p : Plan) (are :
     there q n v is = in_range p.interfaces n (ap is_some is.there)
 
     function_stands : (key : Text) (count : ℕ) (g : PlannedFunction) → IsReadUnder t kept p b views (as_world m) home key count g → is_function_key key g ≡ true
-    function_stands key count g is =
-        let r = is.read in
-        let passes = kept_functions_pass t tables b.known kept p are (as_world m) r.place r.name r.shape r.external_id g r.kept_function in
-        both (text_eq key g.name) (not (is_freestanding g.kind) || is_label key) (same_text key g.name (sym is.named))
-        (ap (λ x. not (is_freestanding g.kind) || is_label x) (sym is.named) ∙ first_true (not (is_freestanding g.kind) || is_label g.name) _ passes.labels)
+    function_stands key count g is = search rules
 
     type_there : (key : Text) (count : ℕ) (d : Option ℕ) (id : Option Text) (n : ℕ) → IsTypeUnder t kept p b views (as_world m) home key count d id n
         → (is_label key ≡ true) × (is_type_of p (as_world m) (key, n) ≡ true)

@@ -1,5 +1,5 @@
 -- The interfaces that types of a plan use are those of the places that what was read uses.
-use Rattle.std.proofs.Common.{◌≡◌, ◌⊎◌, inl, inr, refl, sym, ap, subst, ◌∙◌, ℕ, ◌+◌, ◌-◌, arith, true, false, not, ◌==◌, cond, List, [], ◌∷◌, Option, Some, None, option_and_then, option_to_list, is_some, slice_get}
+use Rattle.std.proofs.Common.{◌≡◌, ◌⊎◌, inl, inr, refl, sym, ap, subst, ◌∙◌, ℕ, ◌+◌, ◌-◌, arith, true, false, not, ◌==◌, cond, List, [], ◌∷◌, Option, Some, None, option_and_then, option_to_list, is_some, slice_get, rules}
 use Rattle.std.specs.Prelude.{nat_le}
 use Rattle.std.specs.List.{Contains, list_all}
 use Rattle.std.specs.Option.{option_map_or}
@@ -52,9 +52,7 @@ module _ (t : Tables) (tables : AreTables t) (kept : List ℕ) (p : Plan) (are :
     other : (r : ℕ) → used_by t d ≡ r ∷ [] → o ≡ owner_interface (b.owners r) → UsedBy q d o
 
   uses_outside : (d : Option ℕ) (old k r : ℕ) (name : Text) → d ≡ Some old → old ≡ 14 + k → slice_get t.shapes k ≡ Some (named_shape r name) → used_by t d ≡ if_outside t r
-  uses_outside d old k r name e is there =
-      let named : name_at t old ≡ Some (r, name) = ap (option_and_then name_in) (shape_there t old k (named_shape r name) is there) in
-      ap (used_by t) e ∙ ap (λ o. option_map_or (λ (x : ℕ × Text). if_outside t x.0) o []) named
+  uses_outside d old k r name e is there = search rules
 
   only_there : (d : Option ℕ) (old k r : ℕ) (name : Text) → d ≡ Some old → old ≡ 14 + k → slice_get t.shapes k ≡ Some (named_shape r name) → (a : ℕ) → Contains (used_by t d) a → a ≡ r
   only_there d old k r name e is there a c = by (path_at t r) (subst (λ ns. Contains ns a) (uses_outside d old k r name e is there) c)

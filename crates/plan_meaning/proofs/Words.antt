@@ -1,10 +1,8 @@
 -- The words of a plan, on the plan that a `Resolve` is built from, are those of the `Resolve`.
-use Rattle.std.proofs.Common.{◌≡◌, refl, sym, ap, ◌∙◌, ℕ, ◌+◌, ◌-◌, false, not, ◌==◌, nat_lt, filter, List, [], ◌∷◌, ◌++◌, map, filter_map, flat_map, option_map, option_and_then, option_to_list, Option, Some, None, is_some, append-nil, String, arith}
-use Rattle.std.specs.Prelude.{if◌then◌else◌}
+use Rattle.std.proofs.Common.{◌≡◌, refl, sym, ap, ◌∙◌, ℕ, ◌+◌, false, not, ◌==◌, filter, List, [], ◌∷◌, ◌++◌, map, filter_map, flat_map, option_map, option_and_then, option_to_list, Option, Some, None, is_some, append-nil, String, rules}
 use Rattle.std.specs.declared.alloc.Global.{Global}
 use Rattle.std.specs.List.{cons_option}
 use Rattle.std.specs.Option.{option_map_or}
-use Rattle.std.proofs.lemmas.Bool.Decides.{nat_tests}
 use Rattle.wit_model.specs.declared.model.Resolve.{Resolve}
 use Rattle.wit_model.specs.declared.model.Interface.{Interface}
 use Rattle.wit_model.specs.declared.model.PackageId.{PackageId}
@@ -49,10 +47,7 @@ plan_of r m = record {
 -- ---- parts
 
 pub behind : (n : ℕ) → part_number (14 + n) ≡ Some n
-behind n =
-    let past : nat_lt (14 + n) 14 ≡ false = grind (arith, nat_tests) in
-    let less : (14 + n) - 14 ≡ n = omega arith in
-    ap (λ b. if b then None else Some ((14 + n) - 14)) past ∙ ap Some less
+behind n = search rules
 
 pub number_part : (t : ValueType) → part_number (part_of t) ≡ number_of t
 number_part (ty.Id id) = behind id.0
