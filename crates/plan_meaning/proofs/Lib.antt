@@ -18,6 +18,16 @@ pub mod NumberedRules
 pub mod ReadInterfaces
 -- Lists in which no number or no name stands twice. Serves ListedTypes, ReadOrder, ReadPlaces, ReadWholes and 2 more; crates above.
 pub mod ReadLists
+-- What a package lists is in range, of the package, and under its own name; packages are apart. Serves FunctionNames, NumbersInRange, Places, ReadPlaces and 4 more.
+pub mod Listed
+-- Worlds that are read pass the tests of a plan on each world by itself. Serves laws::read_worlds_pass.
+pub mod ReadWorlds
+-- Each named type of a plan that is read stands in its owner's list. Serves DistinctKeys, ReadOrder; crates above.
+pub mod ListedTypes
+-- No map of a built `Resolve` has a key twice. Serves Valid; crates above.
+pub mod DistinctKeys
+-- Functions stand under their names, and those of a resource are named and shaped after it. Serves NothingElse, Valid.
+pub mod FunctionNames
 -- One view of each path is enough. Serves laws::one_view_is_enough.
 pub mod Gathering
 -- What uses what, and what a world may have, has the same answer in numbers. Serves laws::uses_in_numbers, laws::worlds_in_numbers; crates above.
@@ -30,20 +40,6 @@ pub mod NumberedMembers
 pub mod Renumbering
 -- A plan that is gathered from views in numbers means what they mean. Serves laws::gathered_plans_are_meant; crates above.
 pub mod GatheredPlan
--- Types of a plan that are those of kept shapes pass the tests on types. Serves laws::kept_types_pass; crates above.
-pub mod KeptTypes
--- Functions whose types are those of kept shapes pass the tests on their types and their resource. Serves laws::kept_functions_pass.
-pub mod KeptFunctions
--- What a package lists is in range, of the package, and under its own name; packages are apart. Serves FunctionNames, NumbersInRange, Places, ReadPlaces and 4 more.
-pub mod Listed
--- Worlds that are read pass the tests of a plan on each world by itself. Serves laws::read_worlds_pass.
-pub mod ReadWorlds
--- Each named type of a plan that is read stands in its owner's list. Serves DistinctKeys, ReadOrder; crates above.
-pub mod ListedTypes
--- No map of a built `Resolve` has a key twice. Serves Valid; crates above.
-pub mod DistinctKeys
--- Functions stand under their names, and those of a resource are named and shaped after it. Serves NothingElse, Valid.
-pub mod FunctionNames
 -- The named types that numbers of a plan use are under no larger numbers. Serves KeptOwners, ReadOrder, ReadWholes, Rising and 1 more.
 pub mod MetTypes
 -- Lists of rising numbers: none stands twice, and what a number uses, being smaller, stands before it. Serves TypeOrder.
@@ -56,6 +52,10 @@ pub mod WorldItems
 pub mod TypeOrder
 -- What an item of a world uses stands before it. Serves Reaching, Valid.
 pub mod ItemOrder
+-- Types of a plan that are those of kept shapes pass the tests on types. Serves laws::kept_types_pass; crates above.
+pub mod KeptTypes
+-- Functions whose types are those of kept shapes pass the tests on their types and their resource. Serves laws::kept_functions_pass.
+pub mod KeptFunctions
 -- What holds names of one place stays with the owner of that place. Serves laws::kept_owners_stand.
 pub mod KeptOwners
 -- The numbers of a plan that are resources are those of the parts that are marked. Serves laws::kept_resources_stand.
