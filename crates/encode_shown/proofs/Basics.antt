@@ -1,9 +1,10 @@
 -- What a rule that is kept says of an entry, and owners.
-use Rattle.std.proofs.Common.{◌≡◌, refl, subst, ◌+◌, Bool, true, false, ◌||◌, arith}
+use Rattle.std.proofs.Common.{◌≡◌, refl, subst, ◌+◌, Bool, true, false, not, ◌||◌, Option, Some, None, arith}
+use Rattle.std.specs.Prelude.{option_and_then}
+use Rattle.std.specs.Option.{option_map_or}
 use Rattle.wit_model.specs.Checks.{references}
 use Rattle.wit_model.specs.Valid.{IsValid, Keeps}
 use Rattle.wit_model.specs.declared.model.Resolve.{Resolve}
-use Rattle.wit_model.specs.declared.model.TypeOwner.TheVariants as owner
 use Rattle.wit_model.proofs.Entries.{each_from_all, types_keep}
 use Rattle.wit_model.proofs.TreeTable.{kept_numbers}
 
@@ -17,3 +18,27 @@ valid-references r v = types_keep (λ r n def. references.type_ r n def) r (each
 pub or-cases : {P : Type 0} (a b : Bool) → (a || b) ≡ true → (a ≡ true → P) → (b ≡ true → P) → P
 or-cases true b h p q = p refl
 or-cases false b h p q = q h
+
+pub bool-cases : {P : Type 0} (b : Bool) → (b ≡ true → P) → (b ≡ false → P) → P
+bool-cases true p q = p refl
+bool-cases false p q = q refl
+
+-- what holds where a test passes
+pub implied : (a b : Bool) → (a ≡ true → b ≡ true) → (not a || b) ≡ true
+implied true b h = h refl
+implied false b h = refl
+
+-- a look-up that finds nothing, or this
+pub option-cases : {A P : Type 0} (o : Option A) → (o ≡ None → P) → ((x : A) → o ≡ Some x → P) → P
+option-cases None p q = p refl
+option-cases (Some x) p q = q x refl
+
+-- what a look-up gives is of what is there
+pub given-by : {A B : Type 0} (f : A → Option B) (o : Option A) (y : B) → option_and_then f o ≡ Some y → (x : A) × (o ≡ Some x) × (f x ≡ Some y)
+given-by f (Some x) y h = (x, refl, h)
+given-by f None y h = absurd cc
+
+-- what passes a test is there
+pub passed : {A : Type 0} (test : A → Bool) (o : Option A) → option_map_or test o false ≡ true → (x : A) × (o ≡ Some x) × (test x ≡ true)
+passed test (Some x) h = (x, refl, h)
+passed test None h = absurd cc

@@ -1,10 +1,10 @@
 -- What stands in a declared form: its labels, and the trees of the parts of the kind.
-use Rattle.std.proofs.Common.{◌≡◌, refl, sym, ap, ◌∙◌, ℕ, Bool, true, false, nat_le, max, List, [], ◌∷◌, ◌++◌, append-nil, map, Option, Some, None, option_map, option_to_list}
+use Rattle.std.proofs.Common.{◌≡◌, refl, sym, ap, ◌∙◌, ℕ, Bool, true, false, not, ◌||◌, nat_le, max, List, [], ◌∷◌, ◌++◌, append-nil, map, Option, Some, None, option_map, option_to_list}
 use Rattle.std.specs.Prelude.{filter_map}
-use Rattle.std.specs.List.{list_all}
+use Rattle.std.specs.List.{list_all, cons_option}
 use Rattle.std.proofs.lemmas.Simd.{map-map}
 use Rattle.wit_model.specs.Text.{Text, text_of}
-use Rattle.wit_model.specs.Tree.{Tree, Trees, Place, Declaration, type_, resource, primitive, named, node, no_children, child, children, child_list, given, is_given, levels, deepest}
+use Rattle.wit_model.specs.Tree.{Tree, Trees, Place, Declaration, type_, node, no_children, child, child_list, given, is_given, levels, deepest}
 use Rattle.wit_model.specs.Types.{declared_by, tree_of, tree_at}
 use Rattle.wit_model.specs.Parts.{member_types, handled}
 use Rattle.wit_model.specs.Rules.{kind_labels, is_named_kind}
@@ -26,33 +26,25 @@ abbrev pub declared_labels : Declaration → List Text
 declared_labels (type_ (node form ts)) = form_labels form
 declared_labels _ = []
 
-abbrev pub has_named_form : Declaration → Bool
-has_named_form (type_ (node form ts)) = is_named_form form
-has_named_form _ = false
-
+-- a form that needs no name
+abbrev pub is_unnamed_form : Declaration → Bool
+is_unnamed_form (type_ (node form ts)) = not (is_named_form form)
+is_unnamed_form _ = false
 -- another name for a type
 abbrev pub is_alias : TypeDefKind → Bool
 is_alias (kind.Type_ t) = true
 is_alias _ = false
 
-given-listed : (os : List (Option Tree)) → child_list (given os) ≡ filter_map (λ o. o) os
-given-listed [] = refl
-given-listed (None ∷ os) = given-listed os
-given-listed (Some t ∷ os) = ap (λ us. t ∷ us) (given-listed os)
+-- what is given, listed
+given-one : (f : ValueType → Tree) (o : Option ValueType) (os : List (Option Tree)) (ts : List ValueType) → child_list (given os) ≡ map f ts
+    → child_list (given (option_map f o ∷ os)) ≡ map f (cons_option o ts)
+given-one f None os ts e = e
+given-one f (Some t) os ts e = ap (λ us. f t ∷ us) e
 
 cases-listed : (trees : List Tree) (cs : List Case)
-    → filter_map (λ o. o) (map (λ c. c.1) (map {B = Text × Option Tree} (λ c. (text_of c.name, option_map (tree_of trees) c.ty)) cs)) ≡ map (tree_of trees) (filter_map (λ c. c.ty) cs)
+    → child_list (given (map (λ c. c.1) (map {B = Text × Option Tree} (λ c. (text_of c.name, option_map (tree_of trees) c.ty)) cs))) ≡ map (tree_of trees) (filter_map (λ c. c.ty) cs)
 cases-listed trees [] = refl
-cases-listed trees (c ∷ cs) = go c.ty (cases-listed trees cs)
-  where
-    go : (o : Option ValueType)
-        → filter_map (λ o. o) (map (λ c. c.1) (map {B = Text × Option Tree} (λ c. (text_of c.name, option_map (tree_of trees) c.ty)) cs)) ≡ map (tree_of trees) (filter_map (λ c. c.ty) cs)
-        → Rattle.std.specs.List.cons_option (option_map (tree_of trees) o) (filter_map (λ o. o)
-        (map (λ c. c.1) (map {B = Text × Option Tree} (λ c. (text_of c.name, option_map (tree_of trees) c.ty)) cs)))
-        ≡ map (tree_of trees) (Rattle.std.specs.List.cons_option o (filter_map (λ c. c.ty) cs))
-    go None e = e
-    go (Some t) e = ap (λ us. tree_of trees t ∷ us) e
-
+cases-listed trees (c ∷ cs) = given-one (tree_of trees) c.ty _ _ (cases-listed trees cs)
 one-listed : (trees : List Tree) (o : Option ValueType) → child_list (given (option_map (tree_of trees) o ∷ [])) ≡ map (tree_of trees) (option_to_list o) ++ []
 one-listed trees None = refl
 one-listed trees (Some t) = refl
@@ -69,44 +61,27 @@ pub children-are : (trees : List Tree) (k : TypeDefKind) → is_alias k ≡ fals
     → child_trees (declared_by trees k) ≡ map (tree_of trees) (member_types k) ++ map (tree_at trees) (option_to_list (handled k))
 children-are trees (kind.Record x) e = listed _ ∙ map-map (λ f. f.1) (λ f. (text_of f.name, tree_of trees f.ty)) x.fields.items ∙ sym (map-map (tree_of trees) (λ f. f.ty) x.fields.items) ∙ sym
     (append-nil _)
-children-are trees kind.Resource e = refl
-children-are trees (kind.Handle (handle.Own id)) e = refl
-children-are trees (kind.Handle (handle.Borrow id)) e = refl
-children-are trees (kind.Flags x) e = refl
 children-are trees (kind.Tuple x) e = listed _ ∙ sym (append-nil _)
-children-are trees (kind.Variant x) e = given-listed (map (λ c. c.1) (map {B = Text × Option Tree} (λ c. (text_of c.name, option_map (tree_of trees) c.ty)) x.cases.items)) ∙ cases-listed trees
-    x.cases.items ∙ sym (append-nil _)
-children-are trees (kind.Enum x) e = refl
-children-are trees (kind.Option t) e = refl
+children-are trees (kind.Variant x) e = cases-listed trees x.cases.items ∙ sym (append-nil _)
 children-are trees (kind.Result x) e = two-listed trees x.ok x.err
-children-are trees (kind.List t) e = refl
-children-are trees (kind.Map k v) e = refl
-children-are trees (kind.FixedLengthList t n) e = refl
 children-are trees (kind.Future o) e = one-listed trees o
 children-are trees (kind.Stream o) e = one-listed trees o
-children-are trees (kind.Type_ t) e = let wrong : ⊥ = cc in absurd wrong
+children-are trees (kind.Type_ t) e = absurd cc
+children-are trees (kind.Handle (handle.Own id)) e = refl
+children-are trees _ e = refl
 
 pub labels-are : (trees : List Tree) (k : TypeDefKind) → is_alias k ≡ false → declared_labels (declared_by trees k) ≡ kind_labels k
 labels-are trees (kind.Record x) e = map-map (λ f. f.0) (λ f. (text_of f.name, tree_of trees f.ty)) x.fields.items
 labels-are trees (kind.Variant x) e =
     map-map (λ c. c.0) (λ c. (c.0, is_given c.1)) (map {B = Text × Option Tree} (λ c. (text_of c.name, option_map (tree_of trees) c.ty)) x.cases.items)
     ∙ map-map (λ c. c.0) (λ c. (text_of c.name, option_map (tree_of trees) c.ty)) x.cases.items
-labels-are trees (kind.Type_ t) e = let wrong : ⊥ = cc in absurd wrong
-labels-are trees kind.Resource e = refl
+labels-are trees (kind.Type_ t) e = absurd cc
 labels-are trees (kind.Handle (handle.Own id)) e = refl
-labels-are trees (kind.Handle (handle.Borrow id)) e = refl
 labels-are trees _ e = refl
 
-pub form-unnamed : (trees : List Tree) (k : TypeDefKind) → is_named_kind k ≡ false → has_named_form (declared_by trees k) ≡ false
-form-unnamed trees (kind.Record x) e = let wrong : ⊥ = cc in absurd wrong
-form-unnamed trees (kind.Variant x) e = let wrong : ⊥ = cc in absurd wrong
-form-unnamed trees (kind.Flags x) e = let wrong : ⊥ = cc in absurd wrong
-form-unnamed trees (kind.Enum x) e = let wrong : ⊥ = cc in absurd wrong
-form-unnamed trees (kind.Type_ t) e = let wrong : ⊥ = cc in absurd wrong
-form-unnamed trees kind.Resource e = refl
-form-unnamed trees (kind.Handle (handle.Own id)) e = refl
-form-unnamed trees (kind.Handle (handle.Borrow id)) e = refl
-form-unnamed trees _ e = refl
+pub form-unnamed : (trees : List Tree) (k : TypeDefKind) → (is_named_kind k || is_unnamed_form (declared_by trees k)) ≡ true
+form-unnamed trees (kind.Handle (handle.Own id)) = refl
+form-unnamed trees _ = refl
 
 -- ---- tests of all children
 
@@ -124,7 +99,5 @@ deepest-from (child t ts) h = max-within (levels t) (deepest ts) 100 (first_true
 -- A declared form may stand where its labels and its parts may.
 pub declared-from : (place : Place) (d : Declaration) → are_labels (declared_labels d) ≡ true → list_all (is_part place) (child_trees d) ≡ true
     → list_all (λ t. nat_le (levels t) 100) (child_trees d) ≡ true → is_declared place d ≡ true
-declared-from place resource l p s = refl
-declared-from place (type_ (primitive q)) l p s = refl
-declared-from place (type_ (named q name)) l p s = refl
 declared-from place (type_ (node form ts)) l p s = both _ _ (both (are_labels (form_labels form)) (are_parts place ts) l (parts-from place ts p)) (deepest-from ts s)
+declared-from place _ l p s = refl

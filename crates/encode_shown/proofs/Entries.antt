@@ -1,5 +1,5 @@
 -- What validity says of an import and of an export of a world.
-use Rattle.std.proofs.Common.{◌≡◌, refl, sym, ap, ◌∙◌, ℕ, Bool, true, false, ◌&&◌, ◌++◌, Option, Some, None}
+use Rattle.std.proofs.Common.{◌≡◌, refl, sym, ap, ◌∙◌, ℕ, Bool, true, false, ◌&&◌, List, ◌++◌, Option, Some, None}
 use Rattle.std.specs.Prelude.{is_some, option_to_list}
 use Rattle.std.specs.List.{Contains, list_all}
 use Rattle.std.specs.Option.{option_map_or}
@@ -10,7 +10,7 @@ use Rattle.wit_model.specs.Names.{is_label}
 use Rattle.wit_model.specs.Lookup.{world_at, interface_path}
 use Rattle.wit_model.specs.Parts.{function_types}
 use Rattle.wit_model.specs.Uses.{items_of, item_interface}
-use Rattle.wit_model.specs.Rules.{passes, in_list, is_id, key_in_range, item_in_range, entries_in_range, key_label, item_labels, entries_labels, is_name_key, is_member, is_stability, function_stays, is_shallow, is_interface_key, is_own_type, item_type, import_stands, export_stands, is_export_item, is_freestanding, package_number}
+use Rattle.wit_model.specs.Rules.{passes, in_list, is_id, key_in_range, item_in_range, entries_in_range, key_label, item_labels, entries_labels, is_name_key, is_member, is_stability, function_stays, is_shallow, is_interface_key, is_own_type, item_type, import_stands, export_stands, is_freestanding, package_number}
 use Rattle.wit_model.specs.Valid.{IsValid, as_world, is_place, item_function, functions_of_world, numbers_in_range, labels, owners, depths, function_names, world_items}
 use Rattle.wit_model.specs.declared.model.Resolve.{Resolve}
 use Rattle.wit_model.specs.declared.model.World.{World}
@@ -47,9 +47,8 @@ given-list p (Some x) h = first_true _ _ h
 
 -- an interface is no type
 interface-item : (k : ℕ) (i : WorldItem) → is_id k (item_interface i) ≡ true → item_type i ≡ None
-interface-item k (item.Interface id stability docs external_id) h = refl
-interface-item k (item.Function f) h = refl
-interface-item k (item.Type_ id) h = let wrong : ⊥ = cc in absurd wrong
+interface-item k (item.Type_ id) h = absurd cc
+interface-item k _ h = refl
 
 import-keyed : (r : Resolve) (n : ℕ) (k : WorldKey) (i : WorldItem) → import_stands r n k i ≡ true → key_stands r k i ≡ true
 import-keyed r n (key.Interface id) i h = h
@@ -59,25 +58,17 @@ import-typed : (r : Resolve) (n : ℕ) (k : WorldKey) (i : WorldItem) → import
 import-typed r n (key.Interface id) i h = ap (passes (is_own_type r n (key.Interface id))) (interface-item id.0 i (first_true (is_id id.0 (item_interface i)) _ h))
 import-typed r n (key.Name name) i h = h
 
-export-keyed : (r : Resolve) (k : WorldKey) (i : WorldItem) → export_stands r k i ≡ true → key_stands r k i ≡ true
-export-keyed r (key.Interface id) i h = h
-export-keyed r (key.Name name) i h = refl
-
-no-export-type : (i : WorldItem) → is_export_item i ≡ true → item_type i ≡ None
-no-export-type (item.Interface id stability docs external_id) h = refl
-no-export-type (item.Function f) h = refl
-no-export-type (item.Type_ id) h = let wrong : ⊥ = cc in absurd wrong
-
-export-typed : (r : Resolve) (n : ℕ) (k : WorldKey) (i : WorldItem) → export_stands r k i ≡ true → passes (is_own_type r n k) (item_type i) ≡ true
-export-typed r n (key.Interface id) i h = ap (passes (is_own_type r n (key.Interface id))) (interface-item id.0 i (first_true (is_id id.0 (item_interface i)) _ h))
-export-typed r n (key.Name name) i h = ap (passes (is_own_type r n (key.Name name))) (no-export-type i h)
+-- what may be exported may be imported
+export-import : (r : Resolve) (n : ℕ) (k : WorldKey) (i : WorldItem) → export_stands r k i ≡ true → import_stands r n k i ≡ true
+export-import r n (key.Interface id) i h = h
+export-import r n (key.Name name) (item.Type_ id) h = absurd cc
+export-import r n (key.Name name) _ h = refl
 
 -- an exported function is of no resource
 export-free : (r : Resolve) (k : WorldKey) (i : WorldItem) → export_stands r k i ≡ true → passes (λ f. is_freestanding f.kind) (item_function i) ≡ true
-export-free r k (item.Interface id stability docs external_id) h = refl
-export-free r k (item.Type_ id) h = refl
 export-free r (key.Name name) (item.Function f) h = h
-export-free r (key.Interface id) (item.Function f) h = let wrong : ⊥ = cc in absurd wrong
+export-free r (key.Interface id) (item.Function f) h = absurd cc
+export-free r k _ h = refl
 
 module _ (r : Resolve) (v : IsValid r) (n : ℕ) (w : World) (there : world_at r n ≡ Some w) where
   -- what holds of each function of the world
@@ -85,25 +76,25 @@ module _ (r : Resolve) (v : IsValid r) (n : ℕ) (w : World) (there : world_at r
   of-function p h i c = given-list p (item_function i) (all-contained (λ i. list_all p (option_to_list (item_function i))) (items_of w) i
       (sym (list_all_filter_map p item_function (items_of w)) ∙ h) c)
 
-  module _ (e : WorldKey × WorldItem) (c : Contains (items_of w) e.1) (d : Contains (w.imports.entries ++ w.exports.entries) e) where
-    abbrev in_range : Type 0
-    in_range = (key_in_range r e.0 && item_in_range r e.1) ≡ true
-
-    of-entry : (key_in_range r e.0 && item_in_range r e.1) ≡ true → (key_label e.0 e.1 && item_labels e.1) ≡ true → key_stands r e.0 e.1 ≡ true → passes (is_own_type r n e.0) (item_type e.1) ≡ true
-        → IsEntry r n e
-    unfolding owners depths function_names
-    of-entry range labelled keyed typed = record {
-      key_range = first_true (key_in_range r e.0) _ range;
-      item_range = second_true (key_in_range r e.0) _ range;
-      key_labelled = first_true (key_label e.0 e.1) _ labelled;
-      item_labelled = second_true (key_label e.0 e.1) _ labelled;
-      named_ = all-contained (λ e. passes (λ f. is_name_key (text_of f.name) e.0 && is_member r (as_world n) f) (item_function e.1)) (w.imports.entries ++ w.exports.entries) e
-          (world-passes function_names r v.rules.function_names n w there) d;
-      stays = of-function (function_stays r (as_world n)) (world-passes owners r v.rules.owners n w there) e.1 c;
-      flat = of-function (λ f. list_all (is_shallow r) (function_types f)) (world-passes depths r v.rules.depths n w there) e.1 c;
-      keyed = keyed;
-      typed = typed;
-    }
+  -- an entry of its imports or of its exports
+  of-entry : (es : List (WorldKey × WorldItem)) (e : WorldKey × WorldItem) → Contains es e → Contains (items_of w) e.1 → Contains (w.imports.entries ++ w.exports.entries) e
+      → entries_in_range r es ≡ true → entries_labels es ≡ true → import_stands r n e.0 e.1 ≡ true → IsEntry r n e
+  unfolding owners depths function_names
+  of-entry es e c i d ranges labelled stands =
+      let range = all-contained (λ e. key_in_range r e.0 && item_in_range r e.1) es e ranges c in
+      let label = all-contained (λ e. key_label e.0 e.1 && item_labels e.1) es e labelled c in
+      record {
+        key_range = first_true (key_in_range r e.0) _ range;
+        item_range = second_true (key_in_range r e.0) _ range;
+        key_labelled = first_true (key_label e.0 e.1) _ label;
+        item_labelled = second_true (key_label e.0 e.1) _ label;
+        named_ = all-contained (λ e. passes (λ f. is_name_key (text_of f.name) e.0 && is_member r (as_world n) f) (item_function e.1)) (w.imports.entries ++ w.exports.entries) e
+            (world-passes function_names r v.rules.function_names n w there) d;
+        stays = of-function (function_stays r (as_world n)) (world-passes owners r v.rules.owners n w there) e.1 i;
+        flat = of-function (λ f. list_all (is_shallow r) (function_types f)) (world-passes depths r v.rules.depths n w there) e.1 i;
+        keyed = import-keyed r n e.0 e.1 stands;
+        typed = import-typed r n e.0 e.1 stands;
+      }
 
   ranges : (entries_in_range r w.imports.entries && entries_in_range r w.exports.entries) ≡ true
   unfolding numbers_in_range
@@ -124,18 +115,14 @@ module _ (r : Resolve) (v : IsValid r) (n : ℕ) (w : World) (there : world_at r
   export-stands e c = all-contained (λ e. export_stands r e.0 e.1) w.exports.entries e (second_true (list_all (λ e. import_stands r n e.0 e.1) w.imports.entries) _ stands) c
 
   pub import-entry : (e : WorldKey × WorldItem) → Contains w.imports.entries e → IsEntry r n e
-  import-entry e c = of-entry e (Contains-append_left (values w.imports) (values w.exports) e.1 (contains-map (λ e. e.1) w.imports.entries e c))
-      (Contains-append_left w.imports.entries w.exports.entries e c)
-      (all-contained (λ e. key_in_range r e.0 && item_in_range r e.1) w.imports.entries e (first_true (entries_in_range r w.imports.entries) _ ranges) c)
-      (all-contained (λ e. key_label e.0 e.1 && item_labels e.1) w.imports.entries e (first_true (entries_labels w.imports.entries) _ names) c)
-      (import-keyed r n e.0 e.1 (import-stands e c)) (import-typed r n e.0 e.1 (import-stands e c))
+  import-entry e c = of-entry w.imports.entries e c (Contains-append_left (values w.imports) (values w.exports) e.1 (contains-map (λ e. e.1) w.imports.entries e c))
+      (Contains-append_left w.imports.entries w.exports.entries e c) (first_true (entries_in_range r w.imports.entries) _ ranges) (first_true (entries_labels w.imports.entries) _ names)
+      (import-stands e c)
 
   pub export-entry : (e : WorldKey × WorldItem) → Contains w.exports.entries e → IsEntry r n e
-  export-entry e c = of-entry e (Contains-append_right (values w.imports) (values w.exports) e.1 (contains-map (λ e. e.1) w.exports.entries e c))
-      (Contains-append_right w.imports.entries w.exports.entries e c)
-      (all-contained (λ e. key_in_range r e.0 && item_in_range r e.1) w.exports.entries e (second_true (entries_in_range r w.imports.entries) _ ranges) c)
-      (all-contained (λ e. key_label e.0 e.1 && item_labels e.1) w.exports.entries e (second_true (entries_labels w.imports.entries) _ names) c)
-      (export-keyed r e.0 e.1 (export-stands e c)) (export-typed r n e.0 e.1 (export-stands e c))
+  export-entry e c = of-entry w.exports.entries e c (Contains-append_right (values w.imports) (values w.exports) e.1 (contains-map (λ e. e.1) w.exports.entries e c))
+      (Contains-append_right w.imports.entries w.exports.entries e c) (second_true (entries_in_range r w.imports.entries) _ ranges) (second_true (entries_labels w.imports.entries) _ names)
+      (export-import r n e.0 e.1 (export-stands e c))
 
   pub export-freestanding : (e : WorldKey × WorldItem) → Contains w.exports.entries e → passes (λ f. is_freestanding f.kind) (item_function e.1) ≡ true
   export-freestanding e c = export-free r e.0 e.1 (export-stands e c)

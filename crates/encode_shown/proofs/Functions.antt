@@ -5,7 +5,7 @@ use Rattle.std.specs.Prelude.{is_some, is_none, filter_map, codes}
 use Rattle.std.specs.List.{Contains, list_all, list_any, starts_with}
 use Rattle.std.specs.Option.{option_map_or}
 use Rattle.std.proofs.lemmas.List.Folds.{list_all-append, list_all-map}
-use Rattle.std.proofs.lemmas.Cmp.{nat_list_eq_equiv}
+use Rattle.std.proofs.lemmas.Simd.{map-map}
 use Rattle.wit_model.specs.Text.{Text, text_of, text_eq, optional_text}
 use Rattle.wit_model.specs.Names.{is_label, constructor_name, method_name, static_name}
 use Rattle.wit_model.specs.Tree.{Tree, Place, named, own_tree, borrow_tree, result_tree}
@@ -25,14 +25,16 @@ use Rattle.wit_model.specs.declared.model.TypeDefKind.{TypeDefKind}
 use Rattle.wit_model.specs.declared.model.TypeDefKind.TheVariants as kind
 use Rattle.wit_model.specs.declared.model.Handle.TheVariants as handle
 use Rattle.wit_model.specs.declared.model.TypeOwner.{TypeOwner}
-use Rattle.wit_model.specs.declared.model.TypeId.{TypeId}
 use Rattle.wit_model.specs.declared.model.«Type».{«Type» as ValueType}
 use Rattle.wit_model.specs.declared.model.«Type».TheVariants as ty
 use Rattle.comp_meaning.specs.Same.{same_tree}
 use Rattle.comp_meaning.specs.Rules.{is_part, are_labels, is_parameter_type, is_result_type, is_signature, own_name, borrow_name, is_label_behind, begins_with_self, is_function_of, is_function}
 use Rattle.comp_meaning.specs.Rules as shown
-use Rattle.encode_shown.proofs.Basics.{or-cases}
-use Rattle.encode_shown.proofs.Parts.{place-alike, labels-from, named-tree, unnamed-tree, values-part}
+use Rattle.comp_meaning.proofs.SameLaws.{tree_itself}
+use Rattle.encode_shown.proofs.Basics.{or-cases, given-by, passed}
+use Rattle.encode_shown.proofs.Parts.{labels-from, named-tree, unnamed-tree, values-part}
+use Rattle.base_lemmas.proofs.Elements.{all_two, any-at}
+use Rattle.base_lemmas.proofs.Options.{none_is}
 use Rattle.base_lemmas.proofs.Bools.{given-not, left_of as first_true, right_of as second_true}
 use Rattle.base_lemmas.proofs.Numbers.{equal}
 use Rattle.std.proofs.lemmas.Bool.{and_from as both, or_left as or-first, or_right as or-second}
@@ -44,13 +46,13 @@ use Rattle.wit_model.proofs.PartsLemmas.{owner_same as same-owner}
 -- a label behind a prefix
 label-behind : (ps bs : Text) → option_map_or is_label (after_prefix ps bs) false ≡ true → is_label_behind ps bs ≡ true
 label-behind [] bs h = h
-label-behind (p ∷ ps) [] h = let wrong : ⊥ = cc in absurd wrong
+label-behind (p ∷ ps) [] h = absurd cc
 label-behind (p ∷ ps) (b ∷ bs) h = go (label-behind ps bs) (p == b) refl h
   where
     go : (option_map_or is_label (after_prefix ps bs) false ≡ true → is_label_behind ps bs ≡ true) → (v : Bool) → (p == b) ≡ v
         → option_map_or is_label (cond v (after_prefix ps bs) None) false ≡ true → is_label_behind (p ∷ ps) (b ∷ bs) ≡ true
     go more true e h = ap (λ v. (v && starts_with nat_eq bs ps) && is_label (drop (length ps) bs)) e ∙ more h
-    go more false e h = let wrong : ⊥ = cc in absurd wrong
+    go more false e h = absurd cc
 
 -- ---- signatures
 
@@ -58,108 +60,65 @@ module _ (place : Place) (r : Resolve) where
   abbrev is_value : ValueType → Bool
   is_value t = is_parameter_type place (type_tree r t)
 
-  both-tests : (p q : ValueType → Bool) (ts : List ValueType) → list_all p ts ≡ true → list_all q ts ≡ true → list_all (λ t. p t && q t) ts ≡ true
-  both-tests p q [] h g = refl
-  both-tests p q (t ∷ ts) h g = both _ _ (both (p t) (q t) (first_true _ _ h) (first_true _ _ g)) (both-tests p q ts (second_true (p t) _ h) (second_true (q t) _ g))
-
-  params-pass : (ps : List Param) → list_all is_value (map (λ p. p.ty) ps) ≡ true
-      → list_all (λ p. is_parameter_type place p.1) (map {B = Text × Tree} (λ p. (text_of p.name, type_tree r p.ty)) ps) ≡ true
-  params-pass [] h = refl
-  params-pass (p ∷ ps) h = both _ _ (first_true _ _ h) (params-pass ps (second_true (is_value p.ty) _ h))
-
+  abbrev shown_param : Param → Text × Tree
+  shown_param p = (text_of p.name, type_tree r p.ty)
   result-passes : (o : Option ValueType) → list_all is_value (option_to_list o) ≡ true → is_result_type place (option_map (type_tree r) o) ≡ true
   result-passes None h = refl
   result-passes (Some t) h = first_true _ _ h
 
-  param-names : (ps : List Param) → map (λ p. p.0) (map {B = Text × Tree} (λ p. (text_of p.name, type_tree r p.ty)) ps) ≡ map (λ p. text_of p.name) ps
-  param-names [] = refl
-  param-names (p ∷ ps) = ap (λ ts. text_of p.name ∷ ts) (param-names ps)
-
   signature-from : (f : Function) → are_member_labels (map (λ p. text_of p.name) f.params.items) ≡ true → list_all is_value (function_types f) ≡ true → is_signature place (signature_of r f) ≡ true
   signature-from f names values =
       let split = sym (list_all-append is_value (map (λ p. p.ty) f.params.items) (option_to_list f.result)) ∙ values in
-      both _ _ (both _ _ (ap are_labels (param-names f.params.items) ∙ labels-from (map (λ p. text_of p.name) f.params.items) names)
-      (params-pass f.params.items (first_true (list_all is_value (map (λ p. p.ty) f.params.items)) _ split)))
+      both _ _ (both _ _ (ap are_labels (map-map (λ p. p.0) shown_param f.params.items) ∙ labels-from (map (λ p. text_of p.name) f.params.items) names)
+      (list_all-map (λ p. is_parameter_type place p.1) shown_param f.params.items
+      ∙ sym (list_all-map is_value (λ p. p.ty) f.params.items) ∙ first_true (list_all is_value (map (λ p. p.ty) f.params.items)) _ split))
       (result-passes f.result (second_true (list_all is_value (map (λ p. p.ty) f.params.items)) _ split))
 
 module _ (r : Resolve) (v : IsValid r) where
   -- ---- handles of a resource
 
-  -- what a test of a type says of what it refers to
-  type-found : (test : TypeDef → Bool) (t : ValueType) → type_is r test t ≡ true → (id : TypeId) × (def : TypeDef) × (t ≡ ty.Id id) × (type_at r id.0 ≡ Some def) × (test def ≡ true)
-  type-found test (ty.Id id) h = go (type_at r id.0) refl h
-    where
-      go : (o : Option TypeDef) → type_at r id.0 ≡ o → option_map_or test o false ≡ true → (id' : TypeId) × (def : TypeDef) × (ty.Id id ≡ ty.Id id') × (type_at r id'.0 ≡ Some def) × (test def ≡ true)
-      go None e h = let wrong : ⊥ = cc in absurd wrong
-      go (Some def) e h = (id, def, refl, e, h)
-  type-found test _ h = let wrong : ⊥ = cc in absurd wrong
+  -- an unnamed type whose kind passes a test is as its kind says
+  unnamed-type : (test : TypeDefKind → Bool) (t : ValueType) → type_is r (λ def. is_none def.name && test def.kind) t ≡ true
+      → (k : TypeDefKind) × (type_tree r t ≡ tree_of_declaration (declared_by (trees_of r) k)) × (test k ≡ true)
+  unnamed-type test (ty.Id id) h =
+      let found = passed (λ (def : TypeDef). is_none def.name && test def.kind) (type_at r id.0) h in
+      (found.0.kind, unnamed-tree r v id.0 found.0 found.1 (none_is found.0.name (first_true _ _ found.2)), second_true (is_none found.0.name) _ found.2)
+  unnamed-type test _ h = absurd cc
 
-  is-none : {A : Type 0} (o : Option A) → is_none o ≡ true → o ≡ None
-  is-none None h = refl
-  is-none (Some x) h = let wrong : ⊥ = cc in absurd wrong
+  own-kind : (n : ℕ) (k : TypeDefKind) → is_own_kind n k ≡ true → tree_of_declaration (declared_by (trees_of r) k) ≡ own_tree (number_tree r n)
+  own-kind n (kind.Handle (handle.Own id)) h = ap (λ m. own_tree (number_tree r m)) (equal id.0 n h)
+  own-kind n _ h = absurd cc
 
-  own-kind : (n : ℕ) (k : TypeDefKind) → is_own_kind n k ≡ true → declared_by (trees_of r) k ≡ Rattle.wit_model.specs.Tree.type_ (own_tree (number_tree r n))
-  own-kind n (kind.Handle (handle.Own id)) h = ap (λ m. Rattle.wit_model.specs.Tree.type_ (own_tree (number_tree r m))) (equal id.0 n h)
-  own-kind n (kind.Handle (handle.Borrow id)) h = let wrong : ⊥ = cc in absurd wrong
-  own-kind n _ h = let wrong : ⊥ = cc in absurd wrong
-
-  borrow-kind : (n : ℕ) (k : TypeDefKind) → is_borrow_kind n k ≡ true → declared_by (trees_of r) k ≡ Rattle.wit_model.specs.Tree.type_ (borrow_tree (number_tree r n))
-  borrow-kind n (kind.Handle (handle.Borrow id)) h = ap (λ m. Rattle.wit_model.specs.Tree.type_ (borrow_tree (number_tree r m))) (equal id.0 n h)
-  borrow-kind n (kind.Handle (handle.Own id)) h = let wrong : ⊥ = cc in absurd wrong
-  borrow-kind n _ h = let wrong : ⊥ = cc in absurd wrong
-
-  own-type : (n : ℕ) (t : ValueType) → type_is r (is_own_of n) t ≡ true → type_tree r t ≡ own_tree (number_tree r n)
-  own-type n t h =
-      let found = type-found (is_own_of n) t h in
-      ap (type_tree r) found.2 ∙ unnamed-tree r v found.0.0 found.1 found.3 (is-none found.1.name (first_true (is_none found.1.name) _ found.4))
-      ∙ ap tree_of_declaration (own-kind n found.1.kind (second_true (is_none found.1.name) _ found.4))
-
-  borrow-type : (n : ℕ) (t : ValueType) → type_is r (is_borrow_of n) t ≡ true → type_tree r t ≡ borrow_tree (number_tree r n)
-  borrow-type n t h =
-      let found = type-found (is_borrow_of n) t h in
-      ap (type_tree r) found.2 ∙ unnamed-tree r v found.0.0 found.1 found.3 (is-none found.1.name (first_true (is_none found.1.name) _ found.4))
-      ∙ ap tree_of_declaration (borrow-kind n found.1.kind (second_true (is_none found.1.name) _ found.4))
-
-  same-own : (place : Place) (name : Text) → same_tree (own_name place name) (own_name place name) ≡ true
-  same-own place name = both _ _ (both _ _ (place-alike place) (nat_list_eq_equiv.refl name)) refl
-
-  same-borrow : (place : Place) (name : Text) → same_tree (borrow_name place name) (borrow_name place name) ≡ true
-  same-borrow place name = both _ _ (both _ _ (place-alike place) (nat_list_eq_equiv.refl name)) refl
-
+  borrow-kind : (n : ℕ) (k : TypeDefKind) → is_borrow_kind n k ≡ true → tree_of_declaration (declared_by (trees_of r) k) ≡ borrow_tree (number_tree r n)
+  borrow-kind n (kind.Handle (handle.Borrow id)) h = ap (λ m. borrow_tree (number_tree r m)) (equal id.0 n h)
+  borrow-kind n _ h = absurd cc
   -- ---- functions of resources
 
   module _ (place : Place) (name : Text) (n : ℕ) (tree_is : number_tree r n ≡ named place name) where
     own-named : (t : ValueType) → type_is r (is_own_of n) t ≡ true → type_tree r t ≡ own_name place name
-    own-named t h = own-type n t h ∙ ap own_tree tree_is
+    own-named t h = let k = unnamed-type (is_own_kind n) t h in k.1 ∙ own-kind n k.0 k.2 ∙ ap own_tree tree_is
 
-    result-constructs : (t : ValueType) → type_is r (is_result_of_own r n) t ≡ true → shown.constructs (own_name place name) (Some (type_tree r t)) ≡ true
-    result-constructs t h =
-        let found = type-found (is_result_of_own r n) t h in
-        ap (λ u. shown.constructs (own_name place name) (Some u))
-        (ap (type_tree r) found.2 ∙ unnamed-tree r v found.0.0 found.1 found.3 (is-none found.1.name (first_true (is_none found.1.name) _ found.4)))
-        ∙ of-kind found.1.kind (second_true (is_none found.1.name) _ found.4)
-      where
-        of-ok : (ok err : Option ValueType) → option_map_or (type_is r (is_own_of n)) ok false ≡ true
-            → shown.constructs (own_name place name) (Some (result_tree (option_map (type_tree r) ok) (option_map (type_tree r) err))) ≡ true
-        of-ok None err h = let wrong : ⊥ = cc in absurd wrong
-        of-ok (Some t) err h = ap (λ u. same_tree u (own_name place name)) (own-named t h) ∙ same-own place name
-
-        of-kind : (k : TypeDefKind) → has_own_ok r n k ≡ true → shown.constructs (own_name place name) (Some (tree_of_declaration (declared_by (trees_of r) k))) ≡ true
-        of-kind (kind.Result x) h = of-ok x.ok x.err h
-        of-kind _ h = let wrong : ⊥ = cc in absurd wrong
+    constructs-result : (k : TypeDefKind) → has_own_ok r n k ≡ true → shown.constructs (own_name place name) (Some (tree_of_declaration (declared_by (trees_of r) k))) ≡ true
+    constructs-result (kind.Result x) h =
+        let ok = passed (type_is r (is_own_of n)) x.ok h in
+        ap (λ o. shown.constructs (own_name place name) (Some (result_tree (option_map (type_tree r) o) (option_map (type_tree r) x.err)))) ok.1
+        ∙ ap (λ u. same_tree u (own_name place name)) (own-named ok.0 ok.2) ∙ tree_itself (own_name place name)
+    constructs-result _ h = absurd cc
 
     constructs-shown : (o : Option ValueType) → option_map_or (λ t. type_is r (is_own_of n) t || type_is r (is_result_of_own r n) t) o false ≡ true
         → shown.constructs (own_name place name) (option_map (type_tree r) o) ≡ true
-    constructs-shown None h = let wrong : ⊥ = cc in absurd wrong
+    constructs-shown None h = absurd cc
     constructs-shown (Some t) h = or-cases (type_is r (is_own_of n) t) (type_is r (is_result_of_own r n) t) h
-        (λ e. ap (λ u. shown.constructs (own_name place name) (Some u)) (own-named t e) ∙ same-own place name)
-        (λ e. result-constructs t e)
+        (λ e. ap (λ u. shown.constructs (own_name place name) (Some u)) (own-named t e) ∙ tree_itself (own_name place name))
+        (λ e. let k = unnamed-type (has_own_ok r n) t e in ap (λ u. shown.constructs (own_name place name) (Some u)) k.1 ∙ constructs-result k.0 k.2)
 
     self-shown : (ps : List Param) → option_map_or (λ p. text_eq (text_of p.name) (codes "self") && type_is r (is_borrow_of n) p.ty) (slice_get ps 0) false ≡ true
-        → begins_with_self (borrow_name place name) (map {B = Text × Tree} (λ p. (text_of p.name, type_tree r p.ty)) ps) ≡ true
-    self-shown [] h = let wrong : ⊥ = cc in absurd wrong
-    self-shown (p ∷ ps) h = both _ _ (first_true (text_eq (text_of p.name) (codes "self")) _ h)
-        (ap (λ u. same_tree u (borrow_name place name)) (borrow-type n p.ty (second_true (text_eq (text_of p.name) (codes "self")) _ h) ∙ ap borrow_tree tree_is) ∙ same-borrow place name)
+        → begins_with_self (borrow_name place name) (map (shown_param place r) ps) ≡ true
+    self-shown [] h = absurd cc
+    self-shown (p ∷ ps) h =
+        let k = unnamed-type (is_borrow_kind n) p.ty (second_true (text_eq (text_of p.name) (codes "self")) _ h) in
+        both _ _ (first_true (text_eq (text_of p.name) (codes "self")) _ h)
+        (ap (λ u. same_tree u (borrow_name place name)) (k.1 ∙ borrow-kind n k.0 k.2 ∙ ap borrow_tree tree_is) ∙ tree_itself (borrow_name place name))
 
     -- a function of the resource of this number
     member-shown : (f : Function) → is_some (resource_of f.kind) ≡ true → is_member_of r n name f f.kind ≡ true → is_function_of place (text_of f.name) (signature_of r f) name ≡ true
@@ -183,8 +142,6 @@ module _ (r : Resolve) (v : IsValid r) where
         as-static h = or-second (constructor_ || method_) static_ (label-behind (static_name name []) (text_of f.name) h)
 
         go : (k : FunctionKind) → f.kind ≡ k → is_some (resource_of k) ≡ true → is_member_of r n name f k ≡ true → is_function_of place (text_of f.name) (signature_of r f) name ≡ true
-        go call.Freestanding e s h = let wrong : ⊥ = cc in absurd wrong
-        go call.AsyncFreestanding e s h = let wrong : ⊥ = cc in absurd wrong
         go (call.Method id) e s h = as-method h
         go (call.AsyncMethod id) e s h = as-method h
         go (call.Static id) e s h = as-static h
@@ -192,6 +149,7 @@ module _ (r : Resolve) (v : IsValid r) where
         go (call.Constructor id) e s h = or-first (constructor_ || method_) static_ (or-first constructor_ method_
             (both _ _ (both _ _ (first_true (text_eq (text_of f.name) (constructor_name name)) _ h) (ap (λ k. not (is_async k)) e))
             (constructs-shown f.result (second_true (text_eq (text_of f.name) (constructor_name name)) _ h))))
+        go _ e s h = absurd cc
 
   -- ---- functions of an owner
 
@@ -206,22 +164,22 @@ module _ (r : Resolve) (v : IsValid r) where
     pub text : name ≡ text_of string
 
   resource-found : (o : TypeOwner) (n : ℕ) (name : Text) → resource_name r o n ≡ Some name → IsResourceOf o n name
-  resource-found o n name h = go (type_at r n) refl h
+  resource-found o n name h =
+      let given = given-by (λ (def : TypeDef). cond (is_resource_itself def.kind && same_owner def.owner o) (optional_text def.name) None) (type_at r n) name h in
+      tested given.0 given.1 (is_resource_itself given.0.kind && same_owner given.0.owner o) refl given.0.name refl given.2
     where
-      named-as : (def : TypeDef) → type_at r n ≡ Some def → is_resource_itself def.kind ≡ true → def.owner ≡ o → (x : Option (String Global)) → def.name ≡ x → optional_text x ≡ Some name
-          → IsResourceOf o n name
-      named-as def at i w None e h = let wrong : ⊥ = cc in absurd wrong
-      named-as def at i w (Some s) e h = record { def = def; there = at; itself = i; owned = w; string = s; named_ = e; text = sym (same-some (text_of s) name h) }
-
-      tested : (def : TypeDef) → type_at r n ≡ Some def → (b : Bool) → (is_resource_itself def.kind && same_owner def.owner o) ≡ b → cond b (optional_text def.name) None ≡ Some name
-          → IsResourceOf o n name
-      tested def at true e h = named-as def at (first_true (is_resource_itself def.kind) _ e) (same-owner def.owner o (second_true (is_resource_itself def.kind) _ e)) def.name refl h
-      tested def at false e h = let wrong : ⊥ = cc in absurd wrong
-
-      go : (x : Option TypeDef) → type_at r n ≡ x
-          → Rattle.std.specs.Prelude.option_and_then (λ def. cond (is_resource_itself def.kind && same_owner def.owner o) (optional_text def.name) None) x ≡ Some name → IsResourceOf o n name
-      go None e h = let wrong : ⊥ = cc in absurd wrong
-      go (Some def) e h = tested def e (is_resource_itself def.kind && same_owner def.owner o) refl h
+      tested : (def : TypeDef) → type_at r n ≡ Some def → (b : Bool) → (is_resource_itself def.kind && same_owner def.owner o) ≡ b → (x : Option (String Global)) → def.name ≡ x
+          → cond b (optional_text x) None ≡ Some name → IsResourceOf o n name
+      tested def at true e (Some s) q h = record {
+        def = def;
+        there = at;
+        itself = first_true (is_resource_itself def.kind) _ e;
+        owned = same-owner def.owner o (second_true (is_resource_itself def.kind) _ e);
+        string = s;
+        named_ = q;
+        text = sym (same-some (text_of s) name h);
+      }
+      tested def at _ e _ q h = absurd cc
 
   module _ (o : TypeOwner) (f : Function) (resources : List Text) where
     -- A function of the owner may stand where its resource does.
@@ -237,25 +195,16 @@ module _ (r : Resolve) (v : IsValid r) where
         inside = first_true _ _ (sym (list_all-append (in_list r.types.items) (filter_map number_of (function_types f)) (option_to_list (resource_of f.kind))) ∙ range)
 
         values : list_all (is_value (place_of r o) r) (function_types f) ≡ true
-        values = both-tests (place_of r o) r (λ t. is_part (place_of r o) (type_tree r t)) (is_shallow r) (function_types f)
+        values = all_two (λ t. is_part (place_of r o) (type_tree r t)) (is_shallow r) (is_value (place_of r o) r) (λ t h g. both _ _ h g) (function_types f)
             (sym (list_all-map (is_part (place_of r o)) (type_tree r) (function_types f)) ∙ values-part r v o (function_types f) inside stay) flat
-
-        of-resource : (n : ℕ) → resource_of f.kind ≡ Some n → (x : Option Text) → resource_name r o n ≡ x → option_map_or (λ name. is_member_of r n name f f.kind) x false ≡ true
-            → (is_label (text_of f.name) || list_any (is_function_of (place_of r o) (text_of f.name) (signature_of r f)) resources) ≡ true
-        of-resource n e None q h = let wrong : ⊥ = cc in absurd wrong
-        of-resource n e (Some name) q h =
-            let is = resource-found o n name q in
-            let tree : number_tree r n ≡ named (place_of r o) name = named-tree r v n is.def is.string is.there is.named_ ∙ (λ i. named (place_of r (is.owned i)) (sym is.text i)) in
-            let c = home n name e is in
-            or-second (is_label (text_of f.name)) _ (any-there resources name c (member-shown (place_of r o) name n tree f (ap is_some e) h))
-          where
-            any-there : (ts : List Text) (t : Text) → Contains ts t → is_function_of (place_of r o) (text_of f.name) (signature_of r f) t ≡ true
-                → list_any (is_function_of (place_of r o) (text_of f.name) (signature_of r f)) ts ≡ true
-            any-there ts t c h = Rattle.std.proofs.lemmas.List.Folds.list_any_at (is_function_of (place_of r o) (text_of f.name) (signature_of r f)) ts c.0 t c.1
-                (ap (is_function_of (place_of r o) (text_of f.name) (signature_of r f)) c.2 ∙ h)
 
         go : (x : Option ℕ) → resource_of f.kind ≡ x → passes (λ n. option_map_or (λ name. is_member_of r n name f f.kind) (resource_name r o n) false) x ≡ true
             → (is_label (text_of f.name) || list_any (is_function_of (place_of r o) (text_of f.name) (signature_of r f)) resources) ≡ true
         go None e h = or-first (is_label (text_of f.name)) _ (given-not (is_freestanding f.kind) (is_label (text_of f.name)) (ap is_none e)
             (first_true (not (is_freestanding f.kind) || is_label (text_of f.name)) _ labelled))
-        go (Some n) e h = of-resource n e (resource_name r o n) refl h
+        go (Some n) e h =
+            let name = passed (λ name. is_member_of r n name f f.kind) (resource_name r o n) h in
+            let is = resource-found o n name.0 name.1 in
+            let tree : number_tree r n ≡ named (place_of r o) name.0 = named-tree r v n is.def is.string is.there is.named_ ∙ (λ i. named (place_of r (is.owned i)) (sym is.text i)) in
+            or-second (is_label (text_of f.name)) _ (any-at (is_function_of (place_of r o) (text_of f.name) (signature_of r f)) resources name.0 (home n name.0 e is)
+            (member-shown (place_of r o) name.0 n tree f (ap is_some e) name.2))

@@ -8,14 +8,14 @@ use Rattle.std.specs.FinMap.{from_entries}
 use Rattle.std.proofs.lemmas.Simd.{map-map}
 use Rattle.std.proofs.lemmas.Cmp.{nat_list_eq_equiv}
 use Rattle.std.proofs.lemmas.List.Folds.{list_all-map}
-use Rattle.std.proofs.lemmas.List.Sorted.{IsPermutation-map, IsPermutation-sym, Contains-permutation, list_any-IsPermutation}
+use Rattle.std.proofs.lemmas.List.Sorted.{length_permutation, IsPermutation-map, IsPermutation-sym, Contains-permutation, list_any-IsPermutation}
 use Rattle.indexmap.specs.IndexMap.{keys}
 use Rattle.wit_model.specs.Text.{Text, text_of, text_eq}
 use Rattle.wit_model.specs.Names.{is_label}
 use Rattle.wit_model.specs.Types.{declaration_of, declared_by, trees_of}
 use Rattle.wit_model.specs.Lookup.{interface_at, place_of, type_at}
 use Rattle.wit_model.specs.Parts.{same_owner, function_types}
-use Rattle.wit_model.specs.Meaning.{FunctionMeaning, InterfaceMeaning}
+use Rattle.wit_model.specs.Meaning.{FunctionMeaning}
 use Rattle.wit_model.specs.Meant as meant
 use Rattle.wit_model.specs.Meant.{type_meaning_at, function_meaning, signature_of, interface_meaning_at, no_interface}
 use Rattle.wit_model.specs.Rules.{passes, in_list, function_in_range, function_labels, function_stays, is_shallow, is_member, is_resource_itself, is_stability, package_number}
@@ -26,7 +26,7 @@ use Rattle.wit_model.specs.declared.model.Function.{Function}
 use Rattle.wit_model.specs.declared.model.TypeDef.{TypeDef}
 use Rattle.wit_model.specs.declared.model.TypeDefKind.{TypeDefKind}
 use Rattle.wit_model.specs.declared.model.TypeDefKind.TheVariants as kind
-use Rattle.wit_model.specs.declared.model.TypeId.{TypeId}
+use Rattle.wit_model.specs.declared.model.TypeOwner.{TypeOwner}
 use Rattle.wit_model.specs.declared.model.TypeOwner.TheVariants as owner
 use Rattle.wit_model.proofs.AnyOrder.{distinct-texts, same-map}
 use Rattle.wit_model.proofs.OnePath.{interface-passes}
@@ -37,11 +37,16 @@ use Rattle.encode_shown.specs.Views.{shown_type, home_of, types_of, functions_of
 use Rattle.encode_shown.proofs.Apart.{distinct-from, distinct-both}
 use Rattle.encode_shown.proofs.Parts.{number-declared}
 use Rattle.encode_shown.proofs.Functions.{IsResourceOf, function-shown}
-use Rattle.encode_shown.proofs.Members.{entry-type, entry-of, meaning-there, name-label}
+use Rattle.encode_shown.proofs.Members.{IsNamedType, entry-type, entry-of, meaning-there, name-label}
 use Rattle.base_lemmas.proofs.Bools.{left_of as first_true, right_of as second_true}
 use Rattle.base_lemmas.proofs.Elements.{all-contained, all_pass as all-from, contains-later, contains-map, map_from as contains-mapped}
 use Rattle.std.proofs.lemmas.Bool.{and_from as both, not-true as no-longer}
 use Rattle.wit_model.proofs.TextLemmas.{text_same as text-same}
+
+-- what stands in a list stands in one with a resource more
+pub one-more-resource : (b : Bool) (name : Text) (names : List Text) (t : Text) → Contains names t → Contains (cond b (name ∷ names) names) t
+one-more-resource true name names t c = contains-later name names t c
+one-more-resource false name names t c = c
 
 -- a resource of the list is one of its resources
 pub resource-listed : (ts : List ShownType) (t : ShownType) → Contains ts t → is_resource t.meaning.declaration ≡ true → Contains (resources_of ts) t.name
@@ -49,34 +54,33 @@ resource-listed [] t c h = absurd (let l = c.1 in omega (arith, l))
 resource-listed (x ∷ ts) t (Prim.Native.Nat.zero, l, e) h =
     let here : is_resource x.meaning.declaration ≡ true = ap (λ (z : ShownType). is_resource z.meaning.declaration) e ∙ h in
     subst (λ (ns : List Text). Contains ns t.name) (sym (ap (λ b. cond b (x.name ∷ resources_of ts) (resources_of ts)) here)) (0, omega arith, ap (λ (z : ShownType). z.name) e)
-resource-listed (x ∷ ts) t (Prim.Native.Nat.suc k, l, e) h = later (is_resource x.meaning.declaration) (resource-listed ts t (k, omega (arith, l), e) h)
-  where
-    later : (b : Bool) → Contains (resources_of ts) t.name → Contains (cond b (x.name ∷ resources_of ts) (resources_of ts)) t.name
-    later true c = contains-later x.name (resources_of ts) t.name c
-    later false c = c
+resource-listed (x ∷ ts) t (Prim.Native.Nat.suc k, l, e) h =
+    one-more-resource (is_resource x.meaning.declaration) x.name (resources_of ts) t.name (resource-listed ts t (k, omega (arith, l), e) h)
 
 itself-declared : (r : Resolve) (k : TypeDefKind) → is_resource_itself k ≡ true → is_resource (declared_by (trees_of r) k) ≡ true
 itself-declared r kind.Resource h = refl
-itself-declared r _ h = let wrong : ⊥ = cc in absurd wrong
+itself-declared r _ h = absurd cc
 
 -- a resource itself is declared as one
 pub resource-declared : (r : Resolve) (n : ℕ) (def : TypeDef) → type_at r n ≡ Some def → is_resource_itself def.kind ≡ true → is_resource (type_meaning_at r n).declaration ≡ true
 resource-declared r n def at h = ap (λ m. is_resource m.declaration) (meaning-there r n def at) ∙ itself-declared r def.kind h
 
+-- a named type of an owner obeys the rules in the owner's place
+pub named-type-obeys : (r : Resolve) → IsValid r → (o : TypeOwner) → same_owner o owner.None ≡ false → (n : ℕ) (name : Text) → IsNamedType r o n name
+    → (is_label name && is_declared (place_of r o) (type_meaning_at r n).declaration) ≡ true
+named-type-obeys r v o owned n name is =
+    both _ _ (ap is_label is.name ∙ name-label r v n is.def is.string is.there is.named_)
+    (ap (λ m. is_declared (place_of r o) m.declaration) (meaning-there r n is.def is.there)
+    ∙ (λ j. is_declared (place_of r (sym is.owned j)) (declaration_of r is.def))
+    ∙ number-declared r v n is.def is.there (ap (λ o. same_owner o owner.None) is.owned ∙ owned))
+
 module _ (r : Resolve) (v : IsValid r) (n : ℕ) (i : Interface) (there : interface_at r n ≡ Some i) where
   -- ---- types
 
-  type-test : (e : String Global × TypeId) → Contains i.types.entries e → (is_label (text_of e.0) && is_declared (home_of r n) (type_meaning_at r e.1.0).declaration) ≡ true
-  type-test e c =
-      let is = entry-type r v n i there e c in
-      both _ _ (ap is_label is.name ∙ name-label r v e.1.0 is.def is.string is.there is.named_)
-      (ap (λ m. is_declared (home_of r n) m.declaration) (meaning-there r e.1.0 is.def is.there)
-      ∙ (λ j. is_declared (place_of r (sym is.owned j)) (declaration_of r is.def))
-      ∙ number-declared r v e.1.0 is.def is.there (ap (λ o. same_owner o owner.None) is.owned))
-
   types-pass : list_all (λ t. is_label t.name && is_declared (home_of r n) t.meaning.declaration) (types_of r n i) ≡ true
   types-pass = list_all-map (λ t. is_label t.name && is_declared (home_of r n) t.meaning.declaration) (shown_type r (home_of r n)) i.types.entries
-      ∙ all-from (λ e. is_label (text_of e.0) && is_declared (home_of r n) (type_meaning_at r e.1.0).declaration) i.types.entries type-test
+      ∙ all-from (λ e. is_label (text_of e.0) && is_declared (home_of r n) (type_meaning_at r e.1.0).declaration) i.types.entries
+      (λ e c. named-type-obeys r v (as_interface n) refl e.1.0 (text_of e.0) (entry-type r v n i there e c))
 
   -- ---- functions
 
@@ -140,100 +144,65 @@ module _ (r : Resolve) (v : IsValid r) (n : ℕ) (i : Interface) (there : interf
 
   -- ---- the view
 
-  module _ (view : View) (shows : ShowsInterface r n view) where
-    pub types-are : view.types ≡ types_of r n i
-    types-are = shows.types ∙ ap (λ o. option_map_or (types_of r n) o []) there
-
-    pub functions-are : IsPermutation (functions_of r i) view.functions
-    functions-are = subst (λ (fs : List (Text × FunctionMeaning)). IsPermutation fs view.functions) (ap (λ o. option_map_or (functions_of r) o []) there) shows.functions
-
+  module _ (view : View) (types_are : view.types ≡ types_of r n i) (functions_are : IsPermutation (functions_of r i) view.functions) where
     shown-functions : list_all (λ f. is_function (home_of r n) (resources_of view.types) f.0 f.1.signature) view.functions ≡ true
     shown-functions = all-from (λ f. is_function (home_of r n) (resources_of view.types) f.0 f.1.signature) view.functions (λ f c.
         let from = contains-mapped (λ e. (text_of e.0, function_meaning r e.1)) i.functions.entries f
-        (Contains-permutation view.functions (functions_of r i) f (IsPermutation-sym (functions_of r i) view.functions functions-are) c) in
-        ap (λ (ts : List ShownType). is_function (home_of r n) (resources_of ts) f.0 f.1.signature) types-are
+        (Contains-permutation view.functions (functions_of r i) f (IsPermutation-sym (functions_of r i) view.functions functions_are) c) in
+        ap (λ (ts : List ShownType). is_function (home_of r n) (resources_of ts) f.0 f.1.signature) types_are
         ∙ ap (λ (g : Text × FunctionMeaning). is_function (home_of r n) resources g.0 g.1.signature) (sym from.2) ∙ function-test from.0 from.1)
 
     shown-names : distinct (map (λ t. t.name) view.types ++ map (λ f. f.0) view.functions) ≡ true
     shown-names =
-        let order = IsPermutation-map (λ f. f.0) (functions_of r i) view.functions functions-are in
-        ap (λ (ts : List ShownType). distinct (map (λ t. t.name) ts ++ map (λ f. f.0) view.functions)) types-are
+        let order = IsPermutation-map (λ f. f.0) (functions_of r i) view.functions functions_are in
+        ap (λ (ts : List ShownType). distinct (map (λ t. t.name) ts ++ map (λ f. f.0) view.functions)) types_are
         ∙ distinct-both (map (λ (t : ShownType). t.name) (types_of r n i)) (map (λ f. f.0) view.functions) types-distinct
         (distinct-from _ (Rattle.std.proofs.lemmas.Map.Keys.IsDistinct-IsPermutation text_eq nat_list_eq_equiv.symm (map (λ f. f.0) (functions_of r i)) (map (λ f. f.0) view.functions) order
         functions-distinct))
         (λ t c. sym (list_any-IsPermutation (text_eq t) (map (λ f. f.0) (functions_of r i)) (map (λ f. f.0) view.functions) order) ∙ names-apart t c)
 
     shown-obeys : is_interface (home_of r n) view ≡ true
-    shown-obeys = both _ _ (both _ _ (ap (list_all (λ t. is_label t.name && is_declared (home_of r n) t.meaning.declaration)) types-are ∙ types-pass) shown-functions) shown-names
+    shown-obeys = both _ _ (both _ _ (ap (list_all (λ t. is_label t.name && is_declared (home_of r n) t.meaning.declaration)) types_are ∙ types-pass) shown-functions) shown-names
 
-    -- its functions, in any order, are the interface's
-    pub functions-mean : (functions : List (Text × FunctionMeaning)) → IsPermutation (functions_of r i) functions → interface_meaning view functions ≡ interface_meaning_at r n
-    functions-mean functions p =
-        let types : map (λ t. (t.name, t.meaning)) view.types ≡ map (λ e. (text_of e.0, type_meaning_at r e.1.0)) i.types.entries =
-        ap (map (λ t. (t.name, t.meaning))) types-are ∙ map-map (λ (t : ShownType). (t.name, t.meaning)) (shown_type r (home_of r n)) i.types.entries in
-        let same : from_entries functions ≡ from_entries (functions_of r i) = same-map (functions_of r i) functions p functions-distinct in
-        (λ j. record { types = types j; functions = same j }) ∙ sym (ap (λ o. option_map_or (meant.interface_meaning r) o no_interface) there)
+-- ---- the laws; an interface out of range is shown as nothing
 
-    shown-means : interface_meaning view view.functions ≡ interface_meaning_at r n
-    shown-means = functions-mean view.functions functions-are
-
--- ---- the laws
-
--- an interface out of range is shown as nothing
-module _ (r : Resolve) (n : ℕ) (none : interface_at r n ≡ None) (view : View) (shows : ShowsInterface r n view) where
-  no-types : view.types ≡ []
-  no-types = shows.types ∙ ap (λ o. option_map_or (types_of r n) o []) none
-
-  no-functions : view.functions ≡ []
-  no-functions = empty (subst (λ (fs : List (Text × FunctionMeaning)). IsPermutation fs view.functions) (ap (λ o. option_map_or (functions_of r) o []) none) shows.functions)
-    where
-      empty : {A : Type 0} {xs : List A} → IsPermutation [] xs → xs ≡ []
-      empty {xs = []} p = refl
-      empty {xs = x ∷ xs} p = absurd (let c = Contains-permutation (x ∷ xs) [] x (IsPermutation-sym [] (x ∷ xs) p) (0, omega arith, refl) in let l = c.1 in omega (arith, l))
+nothing-else : {A : Type 0} (xs : List A) → IsPermutation [] xs → xs ≡ []
+nothing-else [] p = refl
+nothing-else (x ∷ xs) p = absurd (omega (arith, length_permutation [] (x ∷ xs) p))
 
 pub interface-obeys : (r : Resolve) → IsValid r → (n : ℕ) (view : View) → ShowsInterface r n view → is_interface (home_of r n) view ≡ true
-interface-obeys r v n view shows = go (interface_at r n) refl
+interface-obeys r v n view shows = go (interface_at r n) refl shows.types shows.functions
   where
-    go : (o : Option Interface) → interface_at r n ≡ o → is_interface (home_of r n) view ≡ true
-    go (Some i) e = shown-obeys r v n i e view shows
-    go None e = λ j. is_interface (home_of r n) (record { types = no-types r n e view shows j; functions = no-functions r n e view shows j })
+    go : (o : Option Interface) → interface_at r n ≡ o → view.types ≡ option_map_or (types_of r n) o [] → IsPermutation (option_map_or (functions_of r) o []) view.functions
+        → is_interface (home_of r n) view ≡ true
+    go (Some i) e t p = shown-obeys r v n i e view t p
+    go None e t p = λ j. is_interface (home_of r n) (record { types = t j; functions = nothing-else view.functions p j })
+
+pub types-obey : (r : Resolve) (n : ℕ) (view : View) → ShowsTypes r n view → IsValid r → is_interface (home_of r n) view ≡ true
+types-obey r n view shows v = (λ j. is_interface (home_of r n) (record { types = shows.types j; functions = shows.functions j })) ∙ go (interface_at r n) refl
+  where
+    go : (o : Option Interface) → interface_at r n ≡ o → is_interface (home_of r n) (record { types = option_map_or (types_of r n) o []; functions = [] }) ≡ true
+    go None e = refl
+    go (Some i) e = both _ _ (both (list_all (λ t. is_label t.name && is_declared (home_of r n) t.meaning.declaration) (types_of r n i)) true (types-pass r v n i e) refl)
+        (ap distinct (append-nil (map (λ (t : ShownType). t.name) (types_of r n i))) ∙ types-distinct r v n i e)
+
+types-meant : (r : Resolve) (n : ℕ) (o : Option Interface)
+    → map (λ t. (t.name, t.meaning)) (option_map_or (types_of r n) o []) ≡ (option_map_or (meant.interface_meaning r) o no_interface).types
+types-meant r n None = refl
+types-meant r n (Some i) = map-map (λ (t : ShownType). (t.name, t.meaning)) (shown_type r (home_of r n)) i.types.entries
+
+pub types-mean : (r : Resolve) (n : ℕ) (view : View) → ShowsTypes r n view → interface_meaning view view.functions ≡ meant.types_alone (interface_meaning_at r n)
+types-mean r n view shows = λ j. record { types = (ap (map (λ t. (t.name, t.meaning))) shows.types ∙ types-meant r n (interface_at r n)) j; functions = from_entries (shows.functions j) }
+
+-- the functions, in any order
+functions-meant : (r : Resolve) → IsValid r → (n : ℕ) (o : Option Interface) → interface_at r n ≡ o → (fs : List (Text × FunctionMeaning)) → IsPermutation (option_map_or (functions_of r) o []) fs
+    → from_entries fs ≡ (option_map_or (meant.interface_meaning r) o no_interface).functions
+unfolding IsDistinct
+functions-meant r v n None e fs p = same-map [] fs p tt
+functions-meant r v n (Some i) e fs p = same-map (functions_of r i) fs p (functions-distinct r v n i e)
 
 pub interface-means : (r : Resolve) → IsValid r → (n : ℕ) (view : View) → ShowsInterface r n view → interface_meaning view view.functions ≡ interface_meaning_at r n
-interface-means r v n view shows = go (interface_at r n) refl
-  where
-    go : (o : Option Interface) → interface_at r n ≡ o → interface_meaning view view.functions ≡ interface_meaning_at r n
-    go (Some i) e = shown-means r v n i e view shows
-    go None e = (λ j. interface_meaning (record { types = no-types r n e view shows j; functions = no-functions r n e view shows j }) (no-functions r n e view shows j))
-        ∙ sym (ap (λ o. option_map_or (meant.interface_meaning r) o no_interface) e)
-
--- ---- types alone
-
-module _ (r : Resolve) (n : ℕ) (view : View) (shows : ShowsTypes r n view) where
-  alone-types : (o : Option Interface) → interface_at r n ≡ o → view.types ≡ option_map_or (types_of r n) o []
-  alone-types o e = shows.types ∙ ap (λ o. option_map_or (types_of r n) o []) e
-
-  abbrev view_of : Option Interface → View
-  view_of o = record { types = option_map_or (types_of r n) o []; functions = [] }
-
-  alone-view : (o : Option Interface) → interface_at r n ≡ o → view ≡ view_of o
-  alone-view o e = λ j. record { types = alone-types o e j; functions = shows.functions j }
-
-  pub types-obey : IsValid r → is_interface (home_of r n) view ≡ true
-  types-obey v = go (interface_at r n) refl
-    where
-      go : (o : Option Interface) → interface_at r n ≡ o → is_interface (home_of r n) view ≡ true
-      go None e = ap (is_interface (home_of r n)) (alone-view None e)
-      go (Some i) e = ap (is_interface (home_of r n)) (alone-view (Some i) e)
-          ∙ both _ _ (both (list_all (λ t. is_label t.name && is_declared (home_of r n) t.meaning.declaration) (types_of r n i)) true (types-pass r v n i e) refl)
-          (ap distinct (append-nil (map (λ (t : ShownType). t.name) (types_of r n i))) ∙ types-distinct r v n i e)
-
-  pub types-mean : interface_meaning view view.functions ≡ meant.types_alone (interface_meaning_at r n)
-  types-mean = go (interface_at r n) refl
-    where
-      alone : Option Interface → InterfaceMeaning
-      alone o = meant.types_alone (option_map_or (meant.interface_meaning r) o no_interface)
-
-      go : (o : Option Interface) → interface_at r n ≡ o → interface_meaning view view.functions ≡ meant.types_alone (interface_meaning_at r n)
-      go None e = ap (λ (w : View). interface_meaning w w.functions) (alone-view None e) ∙ sym (ap alone e)
-      go (Some i) e = ap (λ (w : View). interface_meaning w w.functions) (alone-view (Some i) e)
-          ∙ (λ j. record { types = map-map (λ (t : ShownType). (t.name, t.meaning)) (shown_type r (home_of r n)) i.types.entries j; functions = from_entries [] }) ∙ sym (ap alone e)
+interface-means r v n view shows = λ j. record {
+  types = (ap (map (λ t. (t.name, t.meaning))) shows.types ∙ types-meant r n (interface_at r n)) j;
+  functions = functions-meant r v n (interface_at r n) refl view.functions shows.functions j;
+}

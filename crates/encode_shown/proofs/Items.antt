@@ -7,10 +7,9 @@ use Rattle.std.proofs.lemmas.List.Elements.{Contains-append_right}
 use Rattle.wit_model.specs.Text.{Text, text_of}
 use Rattle.wit_model.specs.Tree as tree
 use Rattle.wit_model.specs.Tree.{Place}
-use Rattle.wit_model.specs.Names.{is_label}
 use Rattle.wit_model.specs.Lookup.{type_at, interface_path, key_text, place_of, place_of_path, resource_of}
 use Rattle.wit_model.specs.Parts.{same_owner, has_owner, met_by, met_of, used_by_function, used_by_type, function_types, function_numbers}
-use Rattle.wit_model.specs.Types.{number_of, declaration_of}
+use Rattle.wit_model.specs.Types.{number_of}
 use Rattle.wit_model.specs.Uses.{has, item_interface}
 use Rattle.wit_model.specs.Meant.{type_meaning_at, signature_of}
 use Rattle.wit_model.specs.Rules.{passes, text_is, is_id, is_name_key, item_type, used_types, used_interfaces, uses_stand_before}
@@ -29,20 +28,18 @@ use Rattle.wit_model.proofs.Elements.{contains-flat, none-in, has-contains}
 use Rattle.wit_model.proofs.OnePath.{found-in}
 use Rattle.comp_meaning.specs.Follow.{View, Seen, Shown, interface_of}
 use Rattle.comp_meaning.specs.Follow as follow
-use Rattle.comp_meaning.specs.Rules.{is_interface, is_declared, is_function, is_item, is_resource, resources_seen}
+use Rattle.comp_meaning.specs.Rules.{is_interface, is_function, is_item, is_resource, resources_seen}
 use Rattle.encode_shown.specs.Views.{instance_key, shown_item, IsViewOf, ShowsItem}
 use Rattle.encode_shown.proofs.Basics.{valid-references}
-use Rattle.encode_shown.proofs.Parts.{number-declared}
 use Rattle.encode_shown.proofs.Functions.{IsResourceOf, function-shown}
-use Rattle.encode_shown.proofs.Members.{IsNamedType, meaning-there, name-label}
-use Rattle.encode_shown.proofs.Interfaces.{interface-obeys, resource-declared}
+use Rattle.encode_shown.proofs.Members.{IsNamedType}
+use Rattle.encode_shown.proofs.Interfaces.{interface-obeys, resource-declared, named-type-obeys, one-more-resource}
 use Rattle.encode_shown.proofs.Entries.{IsEntry, interface-key-path}
 use Rattle.encode_shown.proofs.Keys.{named-key}
 use Rattle.encode_shown.proofs.Zips.{zip-right, given-contains}
 use Rattle.base_lemmas.proofs.Bools.{left_of as first_true, right_of as second_true}
-use Rattle.base_lemmas.proofs.Elements.{all-contained, contains-later, contains-one, filter_keeps as contains-filter}
+use Rattle.base_lemmas.proofs.Elements.{all-contained, contains-one, filter_keeps as contains-filter}
 use Rattle.base_lemmas.proofs.Numbers.{equal}
-use Rattle.std.proofs.lemmas.Bool.{and_from as both}
 use Rattle.std.proofs.lemmas.Option.{same_Some as same-some}
 use Rattle.wit_model.proofs.PartsLemmas.{owner_same as same-owner}
 use Rattle.wit_model.proofs.TextLemmas.{text_named as text-named}
@@ -55,7 +52,7 @@ has_home (key.Interface id) o = is_some o
 has_home (key.Name name) o = true
 
 pub instance-home : (k : WorldKey) (o : Option Text) → has_home k o ≡ true → interface_of (instance_key k o) ≡ o
-instance-home (key.Interface id) None h = let wrong : ⊥ = cc in absurd wrong
+instance-home (key.Interface id) None h = absurd cc
 instance-home (key.Interface id) (Some path) h = refl
 instance-home (key.Name name) None h = refl
 instance-home (key.Name name) (Some path) h = refl
@@ -66,8 +63,7 @@ path-home (Some path) = refl
 
 pub typed-item : (i : WorldItem) (m : ℕ) → item_type i ≡ Some m → (id : TypeId) × (i ≡ item.Type_ id) × (id.0 ≡ m)
 typed-item (item.Type_ id) m e = (id, refl, same-some id.0 m e)
-typed-item (item.Interface id stability docs external_id) m e = let wrong : ⊥ = cc in absurd wrong
-typed-item (item.Function f) m e = let wrong : ⊥ = cc in absurd wrong
+typed-item _ m e = absurd cc
 
 -- a resource that is seen
 pub resource-among : (ss : List Seen) (s : Seen) (d : tree.Declaration) → Contains ss s → s.shown ≡ Shown.declares d → is_resource d ≡ true → Contains (resources_seen ss) s.key
@@ -78,14 +74,9 @@ resource-among (x ∷ ss) s d (zero, l, q) e h =
     (subst (λ b. Contains (cond b (x.key ∷ resources_seen ss) (resources_seen ss)) s.key) (sym h) (0, omega arith, ap (λ (z : Seen). z.key) q))
 resource-among (x ∷ ss) s d (suc k, l, q) e h = later x.shown (resource-among ss s d (k, omega (arith, l), q) e h)
   where
-    if-one : (b : Bool) → Contains (resources_seen ss) s.key → Contains (cond b (x.key ∷ resources_seen ss) (resources_seen ss)) s.key
-    if-one true c = contains-later x.key (resources_seen ss) s.key c
-    if-one false c = c
-
     later : (sh : Shown) → Contains (resources_seen ss) s.key → Contains (resources_seen (record { key = x.key; shown = sh; external_id = x.external_id } ∷ ss)) s.key
-    later (Shown.instance k view) c = c
-    later (Shown.function f) c = c
-    later (Shown.declares g) c = if-one (is_resource g) c
+    later (Shown.declares g) c = one-more-resource (is_resource g) x.key (resources_seen ss) s.key c
+    later _ c = c
 
 module _ (r : Resolve) (v : IsValid r) (n : ℕ) where
   -- an interface under a key that is an interface has a path
@@ -97,7 +88,7 @@ module _ (r : Resolve) (v : IsValid r) (n : ℕ) where
 
   -- a type of a world is a named type of the world, under its name
   pub world-type : (k : WorldKey) (id : TypeId) → IsEntry r n (k, item.Type_ id) → IsNamedType r (as_world n) id.0 (key_text r k)
-  world-type (key.Interface j) id is = let wrong : ⊥ = (let h = is.typed in cc) in absurd wrong
+  world-type (key.Interface j) id is = absurd (let h = is.typed in cc)
   world-type (key.Name name) id is =
       let found = found-in r.types.items id.0 is.item_range in
       let tests = ap (passes (λ (def : TypeDef). text_is def.name (text_of name) && same_owner def.owner (as_world n))) (sym found.1) ∙ is.typed in
@@ -115,28 +106,16 @@ module _ (r : Resolve) (v : IsValid r) (n : ℕ) where
   abbrev pub HasHome : List Text → WorldItem → Type 0
   HasHome resources i = (f : Function) → i ≡ item.Function f → (m : ℕ) (name : Text) → resource_of f.kind ≡ Some m → IsResourceOf r v (as_world n) m name → Contains resources name
 
-  function-obeys : (resources : List Text) (k : WorldKey) (f : Function) → IsEntry r n (k, item.Function f) → HasHome resources (item.Function f)
-      → is_function Place.here resources (key_text r k) (signature_of r f) ≡ true
-  function-obeys resources k f is home =
-      let named = named-key k (text_of f.name) (first_true (is_name_key (text_of f.name) k) _ is.named_) in
-      ap (λ t. is_function Place.here resources t (signature_of r f)) (ap (key_text r) named.1 ∙ named.2)
-      ∙ function-shown r v (as_world n) f resources is.item_range is.item_labelled is.stays is.flat (second_true (is_name_key (text_of f.name) k) _ is.named_) (home f refl)
-
-  type-obeys : (k : WorldKey) (id : TypeId) → IsEntry r n (k, item.Type_ id) → (is_label (key_text r k) && is_declared Place.here (type_meaning_at r id.0).declaration) ≡ true
-  type-obeys k id is =
-      let t = world-type k id is in
-      both _ _ (ap is_label t.name ∙ name-label r v id.0 t.def t.string t.there t.named_)
-      (ap (λ m. is_declared Place.here m.declaration) (meaning-there r id.0 t.def t.there)
-      ∙ (λ j. is_declared (place_of r (sym t.owned j)) (declaration_of r t.def))
-      ∙ number-declared r v id.0 t.def t.there (ap (λ o. same_owner o owner.None) t.owned))
-
   pub item-obeys : (resources : List Text) (k : WorldKey) (i : WorldItem) (view : View) → IsEntry r n (k, i) → IsViewOf r i view → HasHome resources i
       → is_item resources (key_text r k) (shown_item r k i view) ≡ true
   item-obeys resources k (item.Interface id stability docs external_id) view is shows home =
       ap (λ o. is_interface (follow.place_of o) view) (instance-home k (interface_path r id.0) (entry-home k (item.Interface id stability docs external_id) is id.0 refl))
       ∙ ap (λ p. is_interface p view) (path-home (interface_path r id.0)) ∙ interface-obeys r v id.0 view shows
-  item-obeys resources k (item.Function f) view is shows home = function-obeys resources k f is home
-  item-obeys resources k (item.Type_ id) view is shows home = type-obeys k id is
+  item-obeys resources k (item.Function f) view is shows home =
+      let named = named-key k (text_of f.name) (first_true (is_name_key (text_of f.name) k) _ is.named_) in
+      ap (λ t. is_function Place.here resources t (signature_of r f)) (ap (key_text r) named.1 ∙ named.2)
+      ∙ function-shown r v (as_world n) f resources is.item_range is.item_labelled is.stays is.flat (second_true (is_name_key (text_of f.name) k) _ is.named_) (home f refl)
+  item-obeys resources k (item.Type_ id) view is shows home = named-type-obeys r v (as_world n) refl id.0 (key_text r k) (world-type k id is)
 
   pub seen-obeys : (resources : List Text) (e : WorldKey × WorldItem) (s : Seen) → IsEntry r n e → ShowsItem r e s → HasHome resources e.1 → is_item resources s.key s.shown ≡ true
   seen-obeys resources e s is shows home = ap (λ (x : Seen). is_item resources x.key x.shown) shows.is ∙ item-obeys resources e.0 e.1 shows.view is shows.is_view home

@@ -22,9 +22,11 @@ use Rattle.wit_model.specs.declared.model.FunctionKind.TheVariants as call
 use Rattle.wit_model.proofs.NameLaws.{label_lacks, identity_namespace}
 use Rattle.wit_model.proofs.OnePath.{has-path, package-name, path-once}
 use Rattle.encode_shown.proofs.Entries.{IsEntry, interface-key-path}
-use Rattle.base_lemmas.proofs.Bools.{left_of as first_true, right_of as second_true}
+use Rattle.encode_shown.proofs.Basics.{passed}
+use Rattle.base_lemmas.proofs.Bools.{left_of as first_true, right_of as second_true, no-and}
 use Rattle.base_lemmas.proofs.Elements.{contains-later}
-use Rattle.base_lemmas.proofs.Numbers.{equal, same-number}
+use Rattle.base_lemmas.proofs.Numbers.{equal, differ}
+use Rattle.std.proofs.lemmas.Bool.{both_ways, false_from_ne_true}
 use Rattle.base_lemmas.proofs.Options.{there as some-of}
 use Rattle.wit_model.proofs.TextLemmas.{text_same as text-same}
 
@@ -36,7 +38,7 @@ IsKey r (key.Name name) = (is_label (text_of name) ≡ true) ⊎ (begins_with_le
 -- ---- first bytes
 
 front-letter : (xs ys : Text) → begins_with_letter xs ≡ true → begins_with_letter (xs ++ ys) ≡ true
-front-letter [] ys h = let wrong : ⊥ = cc in absurd wrong
+front-letter [] ys h = absurd cc
 front-letter (x ∷ xs) ys h = h
 
 prefix-first : (p : ℕ) (ps bs : Text) → is_ascii_alphabetic p ≡ false → option_map_or is_label (after_prefix (p ∷ ps) bs) false ≡ true → begins_with_letter bs ≡ false
@@ -45,64 +47,51 @@ prefix-first p ps (b ∷ bs) e h = go (p == b) refl h
   where
     go : (c : Bool) → (p == b) ≡ c → option_map_or is_label (cond c (after_prefix ps bs) None) false ≡ true → is_ascii_alphabetic b ≡ false
     go true q h = ap is_ascii_alphabetic (sym (equal p b q)) ∙ e
-    go false q h = let wrong : ⊥ = cc in absurd wrong
+    go false q h = absurd cc
 
 colon-there : (xs ys : Text) → list_all (λ b. not (b == 58)) (xs ++ (58 ∷ ys)) ≡ false
 colon-there [] ys = refl
-colon-there (x ∷ xs) ys = go (not (x == 58)) (colon-there xs ys)
-  where
-    go : (b : Bool) {c : Bool} → c ≡ false → (b && c) ≡ false
-    go true e = e
-    go false e = refl
+colon-there (x ∷ xs) ys = ap (λ c. not (x == 58) && c) (colon-there xs ys) ∙ no-and (not (x == 58))
 
 -- the name of a function of a resource is no label
 member-first : (r : Resolve) (m : ℕ) (name : Text) (f : Function) (k : FunctionKind) → is_some (resource_of k) ≡ true → is_member_of r m name f k ≡ true → begins_with_letter (text_of f.name) ≡ false
-member-first r m name f call.Freestanding s h = let wrong : ⊥ = cc in absurd wrong
-member-first r m name f call.AsyncFreestanding s h = let wrong : ⊥ = cc in absurd wrong
 member-first r m name f (call.Method id) s h = prefix-first 91 (drop 1 (method_name name [])) (text_of f.name) refl (first_true (is_member_name (method_name name []) f) _ h)
 member-first r m name f (call.AsyncMethod id) s h = prefix-first 91 (drop 1 (method_name name [])) (text_of f.name) refl (first_true (is_member_name (method_name name []) f) _ h)
 member-first r m name f (call.Static id) s h = prefix-first 91 (drop 1 (static_name name [])) (text_of f.name) refl h
 member-first r m name f (call.AsyncStatic id) s h = prefix-first 91 (drop 1 (static_name name [])) (text_of f.name) refl h
 member-first r m name f (call.Constructor id) s h = ap begins_with_letter (text-same (text_of f.name) (constructor_name name) (first_true (text_eq (text_of f.name) (constructor_name name)) _ h))
+member-first r m name f _ s h = absurd cc
 
 -- a key that is a name is this one
 pub named-key : (k : WorldKey) (t : Text) → is_name_key t k ≡ true → (name : String Global) × (k ≡ key.Name name) × (text_of name ≡ t)
 named-key (key.Name name) t h = (name, refl, text-same (text_of name) t h)
-named-key (key.Interface id) t h = let wrong : ⊥ = cc in absurd wrong
+named-key (key.Interface id) t h = absurd cc
 
 module _ (r : Resolve) (v : IsValid r) (n : ℕ) where
   member-key : (name : String Global) (f : Function) → is_freestanding f.kind ≡ false → text_of name ≡ text_of f.name → is_member r (as_world n) f ≡ true → begins_with_letter (text_of name) ≡ false
   member-key name f free same h = go (resource_of f.kind) refl h
     where
-      of-name : (m : ℕ) → resource_of f.kind ≡ Some m → (o : Option Text) → option_map_or (λ t. is_member_of r m t f f.kind) o false ≡ true → begins_with_letter (text_of name) ≡ false
-      of-name m e None h = let wrong : ⊥ = cc in absurd wrong
-      of-name m e (Some t) h = ap begins_with_letter same ∙ member-first r m t f f.kind (ap is_some e) h
-
       go : (o : Option ℕ) → resource_of f.kind ≡ o → passes (λ m. option_map_or (λ t. is_member_of r m t f f.kind) (resource_name r (as_world n) m) false) o ≡ true
           → begins_with_letter (text_of name) ≡ false
-      go None e h = let wrong : true ≡ false = sym (ap is_none e) ∙ free in let z : ⊥ = cc in absurd z
-      go (Some m) e h = of-name m e (resource_name r (as_world n) m) h
+      go None e h = absurd (both_ways _ free (ap is_none e))
+      go (Some m) e h =
+          let t = passed (λ t. is_member_of r m t f f.kind) (resource_name r (as_world n) m) h in
+          ap begins_with_letter same ∙ member-first r m t.0 f f.kind (ap is_some e) t.2
 
   -- the key of an import or an export is one
   pub entry-key : (k : WorldKey) (i : WorldItem) → IsEntry r n (k, i) → IsKey r k
   entry-key (key.Interface id) i is = interface-key-path r v n (key.Interface id, i) is id.0 is.keyed is.key_range
-  entry-key (key.Name name) (item.Interface id stability docs external_id) is = inl is.key_labelled
-  entry-key (key.Name name) (item.Type_ id) is = inl is.key_labelled
   entry-key (key.Name name) (item.Function f) is = go (is_freestanding f.kind) refl is.key_labelled
     where
       go : (b : Bool) → is_freestanding f.kind ≡ b → (not b || is_label (text_of name)) ≡ true → IsKey r (key.Name name)
       go true e h = inl h
       go false e h = inr (member-key name f e (text-same (text_of name) (text_of f.name) (first_true (text_eq (text_of name) (text_of f.name)) _ is.named_))
           (second_true (text_eq (text_of name) (text_of f.name)) _ is.named_))
-
+  entry-key (key.Name name) _ is = inl is.key_labelled
   -- ---- texts
 
   not-same : (f : Text → Bool) (t u : Text) → f t ≡ true → f u ≡ false → text_eq t u ≡ false
-  not-same f t u h g = go (text_eq t u) refl
-    where
-      go : (b : Bool) → text_eq t u ≡ b → b ≡ false
-      go true e = let wrong : true ≡ false = sym h ∙ ap f (text-same t u e) ∙ g in let z : ⊥ = cc in absurd z
-      go false e = refl
+  not-same f t u h g = false_from_ne_true (text_eq t u) (λ e. both_ways (f t) (ap f (text-same t u e) ∙ g) h)
 
   path-letter : (m : ℕ) (path : Text) → interface_path r m ≡ Some path → begins_with_letter path ≡ true
   path-letter m path e =
@@ -117,10 +106,9 @@ module _ (r : Resolve) (v : IsValid r) (n : ℕ) where
   name-apart name m path (inl h) e = not-same (list_all (λ b. not (b == 58))) (text_of name) path (label_lacks 58 refl (text_of name) h) (path-colon m path e)
   name-apart name m path (inr h) e = nat_list_eq_equiv.symm (text_of name) path ∙ not-same begins_with_letter path (text_of name) (path-letter m path e) h
 
-  -- a label is no path
-  pub label-apart : (t : Text) (m : ℕ) (path : Text) → is_label t ≡ true → interface_path r m ≡ Some path → text_eq t path ≡ false
-  label-apart t m path h e = not-same (list_all (λ b. not (b == 58))) t path (label_lacks 58 refl t h) (path-colon m path e)
-
+  -- paths of two interfaces
+  pub paths-apart : (a b : ℕ) (p q : Text) → interface_path r a ≡ Some p → interface_path r b ≡ Some q → (a == b) ≡ false → text_eq p q ≡ false
+  paths-apart a b p q e f d = false_from_ne_true (text_eq p q) (λ h. differ a b d (path-once r v a b p e (f ∙ ap Some (sym (text-same p q h)))))
   keys-apart : (a b : WorldKey) → IsKey r a → IsKey r b → key_eq a b ≡ false → text_eq (key_text r a) (key_text r b) ≡ false
   keys-apart (key.Name a) (key.Name b) h g e = e
   keys-apart (key.Name a) (key.Interface b) h g e =
@@ -132,14 +120,7 @@ module _ (r : Resolve) (v : IsValid r) (n : ℕ) where
   keys-apart (key.Interface a) (key.Interface b) h g e =
       let p = some-of (interface_path r a.0) h in
       let q = some-of (interface_path r b.0) g in
-      (λ j. text_eq (unwrap_or (p.1 j) []) (unwrap_or (q.1 j) [])) ∙ go p.0 q.0 p.1 q.1 (text_eq p.0 q.0) refl
-    where
-      go : (x y : Text) → interface_path r a.0 ≡ Some x → interface_path r b.0 ≡ Some y → (c : Bool) → text_eq x y ≡ c → c ≡ false
-      go x y s t true q =
-          let same : a.0 ≡ b.0 = path-once r v a.0 b.0 x s (t ∙ ap Some (sym (text-same x y q))) in
-          let wrong : true ≡ false = sym (same-number a.0) ∙ ap (λ k. a.0 == k) same ∙ e in
-          let z : ⊥ = cc in absurd z
-      go x y s t false q = refl
+      (λ j. text_eq (unwrap_or (p.1 j) []) (unwrap_or (q.1 j) [])) ∙ paths-apart a.0 b.0 p.0 q.0 p.1 q.1 e
 
   all-apart : (k : WorldKey) (ks : List WorldKey) → IsKey r k → ((l : WorldKey) → Contains ks l → IsKey r l) → AllByRecursion (λ l. key_eq k l ≡ false) ks
       → AllByRecursion (λ y. text_eq (key_text r k) y ≡ false) (map (key_text r) ks)

@@ -1,5 +1,5 @@
 -- The types of an interface's list: each is a named type of the interface, under its name, and they are all of those.
-use Rattle.std.proofs.Common.{◌≡◌, refl, sym, ap, ◌∙◌, ℕ, Bool, true, false, ◌&&◌, ◌==◌, cond, nat_lt, List, [], ◌∷◌, count_by, slice_get, Some, String, string_bytes, option_map, arith}
+use Rattle.std.proofs.Common.{◌≡◌, refl, sym, ap, ◌∙◌, ℕ, true, false, ◌&&◌, ◌==◌, nat_lt, List, Option, count_by, Some, None, String, string_bytes, option_map}
 use Rattle.std.specs.declared.alloc.Global.{Global}
 use Rattle.std.specs.Prelude.{is_some}
 use Rattle.std.specs.List.{Contains, list_all}
@@ -26,24 +26,26 @@ use Rattle.wit_model.proofs.Listings.{given_all, given_found}
 use Rattle.wit_model.proofs.Elements.{contains-get}
 use Rattle.wit_model.proofs.OnePath.{found-in, given-test, interface-passes}
 use Rattle.base_lemmas.proofs.Bools.{left_of as first_true, right_of as second_true}
-use Rattle.base_lemmas.proofs.Elements.{all-contained, contains-later, contains-map}
+use Rattle.std.proofs.lemmas.Bool.{both_ways, true_from_ne_false}
+use Rattle.base_lemmas.proofs.Elements.{all-contained, contains-map, lookup_stands}
 use Rattle.base_lemmas.proofs.Numbers.{equal, same-number}
 use Rattle.base_lemmas.proofs.Options.{there as some-of}
 use Rattle.wit_model.proofs.PartsLemmas.{owner_same as same-owner}
 use Rattle.wit_model.proofs.TextLemmas.{text_same as text-same}
 use Rattle.wit_model.proofs.ValidLemmas.{type_passes as type-passes}
 
+-- what has this number
+pub numbered-as : {V : Type 0} (number : V → ℕ) (n : ℕ) (o : Option V) → is_id n (option_map number o) ≡ true → (x : V) × (o ≡ Some x) × (number x ≡ n)
+numbered-as number n None h = absurd cc
+numbered-as number n (Some x) h = (x, refl, equal (number x) n h)
+
 -- what a look-up by text finds
 pub found-entry : {V : Type 0} (number : V → ℕ) (es : List (String Global × V)) (n : ℕ) (t : Text) → is_id n (option_map number (lookup (λ k. bytes_eq t (text_of k)) es)) ≡ true
     → (e : String Global × V) × Contains es e × (number e.1 ≡ n) × (text_of e.0 ≡ t)
-found-entry number [] n t h = let wrong : ⊥ = cc in absurd wrong
-found-entry number (e ∷ es) n t h = go (found-entry number es n t) (bytes_eq t (text_of e.0)) refl h
-  where
-    go : (is_id n (option_map number (lookup (λ k. bytes_eq t (text_of k)) es)) ≡ true → (e : String Global × _) × Contains es e × (number e.1 ≡ n) × (text_of e.0 ≡ t)) → (b : Bool)
-        → bytes_eq t (text_of e.0) ≡ b
-        → is_id n (option_map number (cond b (Some e.1) (lookup (λ k. bytes_eq t (text_of k)) es))) ≡ true → (x : String Global × _) × Contains (e ∷ es) x × (number x.1 ≡ n) × (text_of x.0 ≡ t)
-    go more true q h = (e, (0, omega arith, refl), equal (number e.1) n h, sym (text-same t (text_of e.0) q))
-    go more false q h = let rest = more h in (rest.0, contains-later e es rest.0 rest.1, rest.2, rest.3)
+found-entry number es n t h =
+    let x = numbered-as number n (lookup (λ k. bytes_eq t (text_of k)) es) h in
+    let key = lookup_stands (λ k. bytes_eq t (text_of k)) es x.0 x.1 in
+    ((key.0, x.0), key.1, x.2, sym (text-same t (text_of key.0) key.2))
 
 -- the entry of a number in the list of an interface's types
 pub record HasEntry (es : List (String Global × TypeId)) (n : ℕ) (t : Text) : Type 0 where
@@ -111,20 +113,12 @@ module _ (r : Resolve) (v : IsValid r) where
         record { def = found.0; there = found.1; string = name.0; named_ = name.1; owned = own; name = key found.0 name.0 found.1 name.1 own }
       where
         key : (def : TypeDef) (name : String Global) → type_at r e.1.0 ≡ Some def → def.name ≡ Some name → def.owner ≡ as_interface i → text_of e.0 ≡ text_of name
-        key def name at named own = go (bytes_eq (text_of name) (string_bytes e.0)) refl
-          where
-            place : (k : ℕ) × (slice_get interface.types.entries k ≡ Some e)
-            place = contains-get interface.types.entries e c
-
-            listed : is_listed_in_interface e.1.0 (text_of name) interface ≡ true
-            listed = ap (passes (is_listed_in_interface e.1.0 (text_of name))) (sym there) ∙ ap (is_listed r e.1.0 (text_of name)) (sym own) ∙ valid-listed e.1.0 def name at named
-
-            go : (b : Bool) → bytes_eq (text_of name) (string_bytes e.0) ≡ b → text_of e.0 ≡ text_of name
-            go true q = sym (text-same (text_of name) (text_of e.0) q)
-            go false q =
-                let fails =
-                (λ j. option_map_or (λ m. m == e.1.0) (sym (given_found (get_by_text interface.types (text_of name))) j) false &&
-                (count_by (λ m. m == e.1.0) (sym (given_all (values interface.types)) j) == 1))
-                ∙ misfit (λ key. bytes_eq (text_of name) (string_bytes key)) (λ (id : TypeId). Some id.0) e.1.0 interface.types.entries place.0 e place.1 (same-number e.1.0) q in
-                let wrong : true ≡ false = sym listed ∙ fails in
-                let bad : ⊥ = cc in absurd bad
+        key def name at named own = sym (text-same (text_of name) (text_of e.0) (true_from_ne_false (bytes_eq (text_of name) (string_bytes e.0)) (λ q.
+            let place = contains-get interface.types.entries e c in
+            let listed : is_listed_in_interface e.1.0 (text_of name) interface ≡ true =
+            ap (passes (is_listed_in_interface e.1.0 (text_of name))) (sym there) ∙ ap (is_listed r e.1.0 (text_of name)) (sym own) ∙ valid-listed e.1.0 def name at named in
+            let fails =
+            (λ j. option_map_or (λ m. m == e.1.0) (sym (given_found (get_by_text interface.types (text_of name))) j) false &&
+            (count_by (λ m. m == e.1.0) (sym (given_all (values interface.types)) j) == 1))
+            ∙ misfit (λ key. bytes_eq (text_of name) (string_bytes key)) (λ (id : TypeId). Some id.0) e.1.0 interface.types.entries place.0 e place.1 (same-number e.1.0) q in
+            both_ways _ fails listed)))

@@ -21,7 +21,7 @@ use Rattle.wit_model.specs.declared.model.World.{World}
 use Rattle.wit_model.proofs.NameLaws.{spelled_path_reads}
 use Rattle.wit_model.proofs.VersionLaws.{same_name}
 use Rattle.wit_model.proofs.OnePath.{given-test, interface-passes, HasPath, has-path, path-label, path-listed, package-name, package-once, package-passes, found-in}
-use Rattle.encode_shown.proofs.Members.{found-entry}
+use Rattle.encode_shown.proofs.Members.{found-entry, numbered-as}
 use Rattle.comp_meaning.specs.Same.{same_identity, same_option}
 use Rattle.comp_meaning.specs.Reads.{is_of}
 use Rattle.encode_shown.proofs.Alike.{identity-alike}
@@ -30,13 +30,12 @@ use Rattle.base_lemmas.proofs.Elements.{all-contained, contains-map}
 use Rattle.base_lemmas.proofs.Numbers.{equal, same-number}
 use Rattle.std.proofs.lemmas.Bool.{not-true as no-longer}
 use Rattle.std.proofs.lemmas.Option.{same_Some as some-same}
-use Rattle.wit_model.proofs.TextLemmas.{text_same as text-same}
+use Rattle.wit_model.proofs.TextLemmas.{text_named, text_same as text-same}
 
 same-optional : (a b : Option Text) → same_option text_eq a b ≡ true → a ≡ b
 same-optional None None h = refl
 same-optional (Some a) (Some b) h = ap Some (text-same a b h)
-same-optional None (Some b) h = let wrong : ⊥ = cc in absurd wrong
-same-optional (Some a) None h = let wrong : ⊥ = cc in absurd wrong
+same-optional _ _ h = absurd cc
 
 identity-same : (a b : PackageIdentity) → same_identity a b ≡ true → a ≡ b
 identity-same a b h =
@@ -45,6 +44,16 @@ identity-same a b h =
     let name = text-same a.name b.name (second_true (text_eq a.namespace b.namespace) _ first) in
     let version = same-optional a.version b.version (second_true (text_eq a.namespace b.namespace && text_eq a.name b.name) _ h) in
     λ j. record { namespace = namespace j; name = name j; version = version j }
+
+-- no world of a package has the name of an interface of it
+pub interface-unnamed : (r : Resolve) → IsValid r → (p : Package) (m : ℕ) (i : Interface) (name : String Global) → interface_at r m ≡ Some i → i.name ≡ Some name
+    → option_and_then (package_at r) (package_number i.package) ≡ Some p → is_world_name p (text_of name) ≡ false
+unfolding places
+interface-unnamed r v p m i name there named home =
+    no-longer (is_world_name p (text_of name)) (second_true (interface_is_listed m (text_of name) p) _
+    (given-test (λ p. interface_is_listed m (text_of name) p && not (is_world_name p (text_of name))) (option_and_then (package_at r) (package_number i.package)) true p home
+    (given-test (λ name. option_map_or (λ p. interface_is_listed m (text_of name) p && not (is_world_name p (text_of name))) (option_and_then (package_at r) (package_number i.package)) true)
+    i.name _ name named (second_true (is_some i.package) _ (interface-passes places r v.rules.places m i there)))))
 
 module _ (r : Resolve) (v : IsValid r) (n : ℕ) (p : Package) (at : package_at r n ≡ Some p) where
   pub identity : is_identity (identity_of p.name) ≡ true
@@ -68,14 +77,6 @@ module _ (r : Resolve) (v : IsValid r) (n : ℕ) (p : Package) (at : package_at 
     pub in_package : def.package ≡ Some home
     pub number : home.0 ≡ n
 
-  named-as : (o : Option (String Global)) (t : Text) → text_is o t ≡ true → (name : String Global) × (o ≡ Some name) × (text_of name ≡ t)
-  named-as None t h = let wrong : ⊥ = cc in absurd wrong
-  named-as (Some name) t h = (name, refl, text-same (text_of name) t h)
-
-  numbered-as : (o : Option PackageId) → is_id n (package_number o) ≡ true → (home : PackageId) × (o ≡ Some home) × (home.0 ≡ n)
-  numbered-as None h = let wrong : ⊥ = cc in absurd wrong
-  numbered-as (Some home) h = (home, refl, equal home.0 n h)
-
   pub own-interface : (e : String Global × InterfaceId) → Contains p.interfaces.entries e → IsOwn e
   unfolding places names_in_packages
   own-interface e c =
@@ -85,12 +86,12 @@ module _ (r : Resolve) (v : IsValid r) (n : ℕ) (p : Package) (at : package_at 
       let named = all-contained (λ (e : String Global × InterfaceId). passes (λ i. text_is i.name (text_of e.0)) (interface_at r e.1.0)) p.interfaces.entries e
       (first_true (list_all (λ (e : String Global × InterfaceId). passes (λ i. text_is i.name (text_of e.0)) (interface_at r e.1.0)) p.interfaces.entries) _
       (package-passes names_in_packages r v.rules.names_in_packages n p at)) c in
-      let name = named-as found.0.name (text_of e.0) (ap (passes (λ (i : Interface). text_is i.name (text_of e.0))) (sym found.1) ∙ named) in
+      let name = text_named found.0.name (text_of e.0) (ap (passes (λ (i : Interface). text_is i.name (text_of e.0))) (sym found.1) ∙ named) in
       let belongs = all-contained (interface_belongs r n) p.interfaces.entries e
       (first_true (list_all (interface_belongs r n) p.interfaces.entries) _ (package-passes places r v.rules.places n p at)) c in
       let named_belongs = ap (passes (λ name. is_id n (package_number found.0.package) && text_eq (text_of name) (text_of e.0))) (sym name.1)
       ∙ (ap (passes (λ (i : Interface). passes (λ name. is_id n (package_number i.package) && text_eq (text_of name) (text_of e.0)) i.name)) (sym found.1) ∙ belongs) in
-      let home = numbered-as found.0.package (first_true (is_id n (package_number found.0.package)) _ named_belongs) in
+      let home = numbered-as (λ (id : PackageId). id.0) n found.0.package (first_true (is_id n (package_number found.0.package)) _ named_belongs) in
       record { def = found.0; there = found.1; within = within; string = name.0; named_ = name.1; text = name.2; home = home.0; in_package = home.1; number = home.2 }
 
   -- its path
@@ -106,16 +107,10 @@ module _ (r : Resolve) (v : IsValid r) (n : ℕ) (p : Package) (at : package_at 
 
   -- no world of the package has its name
   pub no-world-name : (e : String Global × InterfaceId) → Contains p.interfaces.entries e → is_world_name p (text_of e.0) ≡ false
-  unfolding places
   no-world-name e c =
       let is = own-interface e c in
-      let rule = second_true (is_some is.def.package) _ (interface-passes places r v.rules.places e.1.0 is.def is.there) in
-      let home : option_and_then (package_at r) (package_number is.def.package) ≡ Some p =
-      ap (λ o. option_and_then (package_at r) (package_number o)) is.in_package ∙ ap (package_at r) is.number ∙ at in
-      ap (is_world_name p) (sym is.text) ∙ no-longer (is_world_name p (text_of is.string)) (second_true (interface_is_listed e.1.0 (text_of is.string) p) _
-      (given-test (λ p. interface_is_listed e.1.0 (text_of is.string) p && not (is_world_name p (text_of is.string))) (option_and_then (package_at r) (package_number is.def.package)) true p home
-      (given-test (λ name. option_map_or (λ p. interface_is_listed e.1.0 (text_of name) p && not (is_world_name p (text_of name))) (option_and_then (package_at r) (package_number is.def.package))
-      true) is.def.name _ is.string is.named_ rule)))
+      ap (is_world_name p) (sym is.text) ∙ interface-unnamed r v p e.1.0 is.def is.string is.there is.named_
+      (ap (λ o. option_and_then (package_at r) (package_number o)) is.in_package ∙ ap (package_at r) is.number ∙ at)
 
   -- a world of the package's map
   pub own-world : (e : String Global × WorldId) → Contains p.worlds.entries e → (w : World) → world_at r e.1.0 ≡ Some w → (text_of w.name ≡ text_of e.0)
@@ -125,7 +120,7 @@ module _ (r : Resolve) (v : IsValid r) (n : ℕ) (p : Package) (at : package_at 
       let belongs = all-contained (world_belongs r n) p.worlds.entries e
       (first_true (list_all (world_belongs r n) p.worlds.entries) _ (second_true (list_all (interface_belongs r n) p.interfaces.entries) _ (package-passes places r v.rules.places n p at))) c in
       let test = ap (passes (λ (w : World). is_id n (package_number w.package) && text_eq (text_of w.name) (text_of e.0))) (sym there) ∙ belongs in
-      (text-same (text_of w.name) (text_of e.0) (second_true (is_id n (package_number w.package)) _ test), numbered-as w.package (first_true (is_id n (package_number w.package)) _ test))
+      (text-same (text_of w.name) (text_of e.0) (second_true (is_id n (package_number w.package)) _ test), numbered-as (λ (id : PackageId). id.0) n w.package (first_true (is_id n (package_number w.package)) _ test))
 
   -- ---- paths of the package
 

@@ -1,11 +1,10 @@
 -- What is seen in the members of a package: of each interface that the package reaches, and of no other.
 use Rattle.std.proofs.Common.{◌≡◌, ◌⊎◌, inl, inr, refl, sym, subst, ap, ◌∙◌, ℕ, zero, suc, ◌<◌, Bool, true, false, ◌&&◌, List, [], ◌∷◌, ◌++◌, map, length, Option, Some, None, String, arith}
 use Rattle.std.specs.declared.alloc.Global.{Global}
-use Rattle.std.specs.Prelude.{is_some, option_to_list, filter_map, flat_map, option_and_then}
+use Rattle.std.specs.Prelude.{is_some, option_to_list, filter_map, flat_map}
 use Rattle.std.specs.List.{Contains, list_all}
-use Rattle.std.proofs.lemmas.Bool.{ltb-true, and_from as both}
+use Rattle.std.proofs.lemmas.Bool.{ltb-true, both_ways, and_from as both}
 use Rattle.std.proofs.lemmas.Option.{slice_get_within, same_Some as same-some}
-use Rattle.std.proofs.lemmas.List.Folds.{list_any_at}
 use Rattle.std.proofs.lemmas.List.Elements.{Contains-append_left, Contains-append_right, Contains-append_cases}
 use Rattle.indexmap.specs.IndexMap.{values}
 use Rattle.wit_model.specs.Text.{Text, text_of, text_eq}
@@ -28,6 +27,8 @@ use Rattle.wit_model.proofs.OnePath.{path-once}
 use Rattle.comp_meaning.specs.Follow.{View}
 use Rattle.comp_meaning.specs.Reads.{Sight, Member, sights, is_of}
 use Rattle.encode_shown.specs.Views.{ShowsInterface, ShowsImport, ShowsReached, ShowsPackage, ShowsInterfaceMember, ShowsWorldMember}
+use Rattle.std.proofs.Math.Logic.{⊎_elim}
+use Rattle.encode_shown.proofs.Basics.{given-by}
 use Rattle.encode_shown.proofs.Alike.{identity-alike}
 use Rattle.encode_shown.proofs.Used.{contains-flat-from}
 use Rattle.encode_shown.proofs.Owning.{identity, own-interface, own-path}
@@ -36,7 +37,7 @@ use Rattle.encode_shown.proofs.WorldMeans.{IsWhole, seen-whole}
 use Rattle.encode_shown.proofs.Sights.{IsSight, is_seen_whole}
 use Rattle.encode_shown.proofs.Zips.{zip-left, zip-right, given-contains}
 use Rattle.base_lemmas.proofs.Bools.{left_of as first_true, right_of as second_true}
-use Rattle.base_lemmas.proofs.Elements.{all-contained, any-contains, contains-map, contains-one, filter_keeps as contains-filter, filter_kept as filter-contains, last_of as one-contained, map_from as contains-mapped}
+use Rattle.base_lemmas.proofs.Elements.{all-contained, any-at, any-contains, contains-map, contains-one, filter_keeps as contains-filter, filter_kept as filter-contains, last_of as one-contained, map_from as contains-mapped}
 use Rattle.wit_model.proofs.TextLemmas.{text_alike as text-alike, text_same as text-same}
 use Rattle.wit_model.proofs.ValidLemmas.{world_passes as world-passes}
 
@@ -52,8 +53,7 @@ after-item q before (z ∷ xs) x h (suc k, l, e) =
 -- an interface item is its interface
 item-is : (r : Resolve) (i : WorldItem) (m : ℕ) → item_interface i ≡ Some m → Contains (interfaces_of_item r i) m
 item-is r (item.Interface id stability docs external_id) m e = (0, omega arith, same-some id.0 m e)
-item-is r (item.Function f) m e = let wrong : ⊥ = cc in absurd wrong
-item-is r (item.Type_ id) m e = let wrong : ⊥ = cc in absurd wrong
+item-is r _ m e = absurd cc
 
 -- what an item is or uses
 item-from : (r : Resolve) (i : WorldItem) (m : ℕ) → Contains (interfaces_of_item r i) m → (item_interface i ≡ Some m) ⊎ Contains (used_interfaces r i) m
@@ -63,16 +63,11 @@ item-from r (item.Type_ id) m c = inr c
 
 pub interface-uses : (r : Resolve) (i : WorldItem) (m k : ℕ) → item_interface i ≡ Some m → Contains (direct_deps r m) k → Contains (used_interfaces r i) k
 interface-uses r (item.Interface id stability docs external_id) m k e c = subst (λ (j : ℕ). Contains (direct_deps r j) k) (sym (same-some id.0 m e)) c
-interface-uses r (item.Function f) m k e c = let wrong : ⊥ = cc in absurd wrong
-interface-uses r (item.Type_ id) m k e c = let wrong : ⊥ = cc in absurd wrong
+interface-uses r _ m k e c = absurd cc
 
 -- what has a path is in range
 path-within : (r : Resolve) (m : ℕ) (path : Text) → interface_path r m ≡ Some path → m < length r.interfaces.items
-path-within r m path e = go (interface_at r m) refl
-  where
-    go : (o : Option Interface) → interface_at r m ≡ o → m < length r.interfaces.items
-    go (Some i) q = slice_get_within r.interfaces.items m i q
-    go None q = let wrong : None ≡ Some path = sym (ap (option_and_then (path_of_interface r)) q) ∙ e in let z : ⊥ = cc in absurd z
+path-within r m path e = let i = given-by (path_of_interface r) (interface_at r m) path e in slice_get_within r.interfaces.items m i.0 i.1
 
 module _ (r : Resolve) (v : IsValid r) where
   -- an interface that an item of a world uses is an item of the world
@@ -107,6 +102,34 @@ module _ (r : Resolve) (v : IsValid r) where
 
     in-members : (m : Member) (s : Sight) → Contains members m → Contains (sights m) s → Contains all_seen s
     in-members m s c d = contains-flat sights members m s c d
+
+    -- a member of an interface, and of a world
+    record InterfaceMember : Type 0 where
+      pub entry : String Global × InterfaceId
+      pub listed : Contains p.interfaces.entries entry
+      pub member : Member
+      pub there : Contains members member
+      pub shown : ShowsInterfaceMember r named entry member
+
+    record WorldMember : Type 0 where
+      pub entry : String Global × WorldId
+      pub member : Member
+      pub there : Contains members member
+      pub shown : ShowsWorldMember r named entry member
+
+    world-shown : (w : World) → Contains (worlds_of r p) w → (m : WorldMember) × (m.shown.world ≡ w)
+    world-shown w c =
+        let given = given-contains (λ (id : WorldId). world_at r id.0) (values p.worlds) w c in
+        let entry = contains-mapped (λ (x : String Global × WorldId). x.1) p.worlds.entries given.0 given.1 in
+        let found = world-member entry.0 entry.1 in
+        (record { entry = entry.0; member = found.0; there = found.1; shown = found.2 },
+         same-some found.2.world w (sym found.2.there ∙ ap (λ (id : WorldId). world_at r id.0) entry.2 ∙ given.2))
+
+    -- an interface that the world of a member shows is seen whole in the member
+    whole-in : (w : WorldMember) (k : ℕ) → Contains (shown_by r w.shown.world) k → (s : Sight) × Contains all_seen s × IsWhole r v w.entry.1.0 k s
+    whole-in w k c =
+        let found = zip-right (IsWhole r v w.entry.1.0) (shown_by r w.shown.world) _ k (seen-whole r v w.entry.1.0 w.shown.world w.shown.there w.shown.scope w.shown.shows) c in
+        (found.0, in-members w.member found.0 w.there (subst (λ (x : Member). Contains (sights x) found.0) (sym w.shown.is) found.1), found.2)
 
     -- ---- what is seen is reached
 
@@ -150,14 +173,12 @@ module _ (r : Resolve) (v : IsValid r) where
         → (s : Sight) → Contains (map import_sight imports ++ export_sight e exported ∷ []) s → (m : ℕ) × IsSeen m s
     interface-seen e c imports exported reach s d = go (Contains-append_cases (map import_sight imports) (export_sight e exported ∷ []) s d)
       where
-        of-import : (i : Text × View) → Contains imports i → import_sight i ≡ s → (m : ℕ) × IsSeen m s
-        of-import i f q =
-            let from = zip-left (ShowsImport r) reach.numbers imports i reach.shown_imports f in
-            let chain = used-chain r reach.numbers e.1.0 reach.reached.used from.0 (Contains-append_left reach.numbers (e.1.0 ∷ []) from.0 from.1) in
-            (from.0, subst (IsSeen from.0) q (record { is = import-seen from.0 i from.2; reached = own-reached e c chain.0 from.0 chain.1; shown = λ h. let wrong : ⊥ = cc in absurd wrong }))
-
         go : Contains (map import_sight imports) s ⊎ Contains (export_sight e exported ∷ []) s → (m : ℕ) × IsSeen m s
-        go (inl d) = let i = contains-mapped import_sight imports s d in of-import i.0 i.1 i.2
+        go (inl d) =
+            let i = contains-mapped import_sight imports s d in
+            let from = zip-left (ShowsImport r) reach.numbers imports i.0 reach.shown_imports i.1 in
+            let chain = used-chain r reach.numbers e.1.0 reach.reached.used from.0 (Contains-append_left reach.numbers (e.1.0 ∷ []) from.0 from.1) in
+            (from.0, subst (IsSeen from.0) i.2 (record { is = import-seen from.0 i.0 from.2; reached = own-reached e c chain.0 from.0 chain.1; shown = λ h. absurd cc }))
         go (inr d) = (
           e.1.0,
           subst (IsSeen e.1.0) (one-contained (export_sight e exported) s d)
@@ -185,8 +206,7 @@ module _ (r : Resolve) (v : IsValid r) where
           record {
             is = from.2.is;
             reached = world-reached shown.world there from.0 s.path from.2.is.has_path from.1;
-            shown = λ h. inr (list_any_at (λ w. has (shown_by r w) from.0) (worlds_of r p) there.0 shown.world there.1
-                (ap (λ w. has (shown_by r w) from.0) there.2 ∙ contains-has (shown_by r shown.world) from.0 from.1));
+            shown = λ h. inr (any-at (λ w. has (shown_by r w) from.0) (worlds_of r p) shown.world there (contains-has (shown_by r shown.world) from.0 from.1));
           },
         )
 
@@ -206,79 +226,34 @@ module _ (r : Resolve) (v : IsValid r) where
     -- ---- what is reached is seen
 
     -- one that an interface of the package reaches, or that is an item of one of its worlds
-    record OfInterface (m : ℕ) : Type 0 where
-      pub entry : String Global × InterfaceId
-      pub listed : Contains p.interfaces.entries entry
-      pub member : Member
-      pub there : Contains members member
-      pub shown : ShowsInterfaceMember r named entry member
-      pub among : Contains (shown.reached.numbers ++ entry.1.0 ∷ []) m
-
-    record OfWorld (m : ℕ) : Type 0 where
-      pub entry : String Global × WorldId
-      pub member : Member
-      pub there : Contains members member
-      pub shown : ShowsWorldMember r named entry member
-      pub among : Contains (filter_map item_interface (items_of shown.world)) m
-
     abbrev IsMet : ℕ → Type 0
-    IsMet m = OfInterface m ⊎ OfWorld m
+    IsMet m = ((i : InterfaceMember) × Contains (i.shown.reached.numbers ++ i.entry.1.0 ∷ []) m) ⊎ ((w : WorldMember) × Contains (filter_map item_interface (items_of w.shown.world)) m)
 
     met-closed : (m k : ℕ) → IsMet m → Contains (direct_deps r m) k → IsMet k
-    met-closed m k (inl i) d = go (earlier-used r [] (i.shown.reached.numbers ++ i.entry.1.0 ∷ []) i.shown.reached.reached.earlier m k i.among d)
-      where
-        go : Contains [] k ⊎ Contains (i.shown.reached.numbers ++ i.entry.1.0 ∷ []) k → IsMet k
-        go (inl c) = none-in k c
-        go (inr c) = inl (record { entry = i.entry; listed = i.listed; member = i.member; there = i.there; shown = i.shown; among = c })
-    met-closed m k (inr w) d =
-        let given = given-contains item_interface (items_of w.shown.world) m w.among in
-        inr (record {
-          entry = w.entry;
-          member = w.member;
-          there = w.there;
-          shown = w.shown;
-          among = world-closed w.entry.1.0 w.shown.world w.shown.there given.0 given.1 k (interface-uses r given.0 m k given.2 d);
-        })
+    met-closed m k (inl (i, among)) d =
+        ⊎_elim (λ c. none-in k c) (λ c. inl (i, c)) (earlier-used r [] (i.shown.reached.numbers ++ i.entry.1.0 ∷ []) i.shown.reached.reached.earlier m k among d)
+    met-closed m k (inr (w, among)) d =
+        let given = given-contains item_interface (items_of w.shown.world) m among in
+        inr (w, world-closed w.entry.1.0 w.shown.world w.shown.there given.0 given.1 k (interface-uses r given.0 m k given.2 d))
 
     starts-met : (m : ℕ) → Contains starts m → IsMet m
     starts-met m c = go (Contains-append_cases (map (λ (id : InterfaceId). id.0) (values p.interfaces)) (flat_map (interfaces_of_world r) (worlds_of r p)) m c)
       where
-        of-world : (w : World) → Contains (worlds_of r p) w → (i : WorldItem) → Contains (items_of w) i → (item_interface i ≡ Some m) ⊎ Contains (used_interfaces r i) m → IsMet m
-        of-world w c i d h =
-            let given = given-contains (λ (id : WorldId). world_at r id.0) (values p.worlds) w c in
-            let entry = contains-mapped (λ (x : String Global × WorldId). x.1) p.worlds.entries given.0 given.1 in
-            let found = world-member entry.0 entry.1 in
-            let same : found.2.world ≡ w = same-some found.2.world w (sym found.2.there ∙ ap (λ (id : WorldId). world_at r id.0) entry.2 ∙ given.2) in
-            inr (record {
-              entry = entry.0;
-              member = found.0;
-              there = found.1;
-              shown = found.2;
-              among = subst (λ (x : World). Contains (filter_map item_interface (items_of x)) m) (sym same) (by h entry.0.1.0 (ap (λ (id : WorldId). world_at r id.0) entry.2 ∙ given.2));
-            })
-          where
-            by : (item_interface i ≡ Some m) ⊎ Contains (used_interfaces r i) m → (k : ℕ) → world_at r k ≡ Some w → Contains (filter_map item_interface (items_of w)) m
-            by (inl e) k there = contains-filter_map item_interface (items_of w) i m d (subst (λ (o : Option ℕ). Contains (option_to_list o) m) (sym e) (contains-one m))
-            by (inr u) k there = world-closed k w there i d m u
-
         go : Contains (map (λ (id : InterfaceId). id.0) (values p.interfaces)) m ⊎ Contains (flat_map (interfaces_of_world r) (worlds_of r p)) m → IsMet m
         go (inl c) =
             let id = contains-mapped (λ (id : InterfaceId). id.0) (values p.interfaces) m c in
             let entry = contains-mapped (λ (x : String Global × InterfaceId). x.1) p.interfaces.entries id.0 id.1 in
             let found = interface-member entry.0 entry.1 in
-            let number : entry.0.1.0 ≡ m = ap (λ (i : InterfaceId). i.0) entry.2 ∙ id.2 in
-            inl (record {
-              entry = entry.0;
-              listed = entry.1;
-              member = found.0;
-              there = found.1;
-              shown = found.2;
-              among = Contains-append_right found.2.reached.numbers (entry.0.1.0 ∷ []) m (0, omega arith, number);
-            })
+            inl (record { entry = entry.0; listed = entry.1; member = found.0; there = found.1; shown = found.2 },
+                Contains-append_right found.2.reached.numbers (entry.0.1.0 ∷ []) m (0, omega arith, ap (λ (i : InterfaceId). i.0) entry.2 ∙ id.2))
         go (inr c) =
             let w = contains-flat-from (interfaces_of_world r) (worlds_of r p) m c in
             let i = contains-flat-from (interfaces_of_item r) (items_of w.0) m w.2 in
-            of-world w.0 w.1 i.0 i.1 (item-from r i.0 m i.2)
+            let of = world-shown w.0 w.1 in
+            let among : Contains (filter_map item_interface (items_of w.0)) m = ⊎_elim
+            (λ e. contains-filter_map item_interface (items_of w.0) i.0 m i.1 (subst (λ (o : Option ℕ). Contains (option_to_list o) m) (sym e) (contains-one m)))
+            (λ u. world-closed of.0.entry.1.0 w.0 (of.0.shown.there ∙ ap Some of.1) i.0 i.1 m u) (item-from r i.0 m i.2) in
+            inr (of.0, subst (λ (x : World). Contains (filter_map item_interface (items_of x)) m) (sym of.1) among)
 
     -- a sight of this interface
     pub record HasSight (m : ℕ) : Type 0 where
@@ -287,7 +262,7 @@ module _ (r : Resolve) (v : IsValid r) where
       pub is : IsSight r m sight
 
     met-sight : (m : ℕ) (path : Text) → interface_path r m ≡ Some path → IsMet m → HasSight m
-    met-sight m path e (inl i) = go (Contains-append_cases i.shown.reached.numbers (i.entry.1.0 ∷ []) m i.among)
+    met-sight m path e (inl (i, among)) = go (Contains-append_cases i.shown.reached.numbers (i.entry.1.0 ∷ []) m among)
       where
         stands : (s : Sight) → Contains (map import_sight i.shown.imports ++ export_sight i.entry i.shown.exported ∷ []) s → Contains all_seen s
         stands s c = in-members i.member s i.there (subst (λ (x : Member). Contains (sights x) s) (sym i.shown.is) c)
@@ -308,12 +283,9 @@ module _ (r : Resolve) (v : IsValid r) where
               (export_sight i.entry i.shown.exported) (contains-one (export_sight i.entry i.shown.exported)));
           is = subst (λ (k : ℕ). IsSight r k (export_sight i.entry i.shown.exported)) (one-contained i.entry.1.0 m c) (export-seen i.entry i.listed i.shown.exported i.shown.reached.shows);
         }
-    met-sight m path e (inr w) =
-        let shown = contains-filter (λ k. is_some (interface_path r k)) (filter_map item_interface (items_of w.shown.world)) m w.among (ap is_some e) in
-        let found = zip-right (IsWhole r v w.entry.1.0) (shown_by r w.shown.world)
-        (Rattle.encode_shown.proofs.WorldMeans.seen r v w.entry.1.0 w.shown.world w.shown.there w.shown.scope w.shown.shows) m
-        (seen-whole r v w.entry.1.0 w.shown.world w.shown.there w.shown.scope w.shown.shows) shown in
-        record { sight = found.0; there = in-members w.member found.0 w.there (subst (λ (x : Member). Contains (sights x) found.0) (sym w.shown.is) found.1); is = found.2.is }
+    met-sight m path e (inr (w, among)) =
+        let found = whole-in w m (contains-filter (λ k. is_some (interface_path r k)) (filter_map item_interface (items_of w.shown.world)) m among (ap is_some e)) in
+        record { sight = found.0; there = found.1; is = found.2.is }
 
     pub reached-seen : (m : ℕ) (path : Text) → interface_path r m ≡ Some path → Contains (reached_by_package r p) m → HasSight m
     reached-seen m path e c = met-sight m path e (holds-reached r IsMet met-closed starts starts-met m c)
@@ -330,24 +302,13 @@ module _ (r : Resolve) (v : IsValid r) where
             let seen = seen-reached found.0 found.1 in
             let text : path ≡ found.0.path = text-same path found.0.path (first_true (text_eq path found.0.path) _ found.2) in
             let number : seen.0 ≡ m = path-once r v seen.0 m path (seen.1.is.has_path ∙ ap Some (sym text)) e in
-            by text number (seen.1.shown (second_true (text_eq path found.0.path) _ found.2))
-          where
-            by : {q : Text} {k : ℕ} → path ≡ q → k ≡ m → (is_of named q ≡ true) ⊎ (is_shown_in r p k ≡ true) → is_shown_in r p m ≡ true
-            by text number (inl own) = let wrong : true ≡ false = sym own ∙ ap (is_of named) (sym text) ∙ other in let z : ⊥ = cc in absurd z
-            by text number (inr shown) = subst (λ (k : ℕ). is_shown_in r p k ≡ true) number shown
+            ⊎_elim (λ own. absurd (both_ways _ other (ap (is_of named) text ∙ own))) (λ shown. subst (λ (k : ℕ). is_shown_in r p k ≡ true) number shown)
+            (seen.1.shown (second_true (text_eq path found.0.path) _ found.2))
 
         back : is_shown_in r p m ≡ true → is_seen_whole r v all_seen path ≡ true
         back h =
             let w = any-contains (λ w. has (shown_by r w) m) (worlds_of r p) h in
-            let given = given-contains (λ (id : WorldId). world_at r id.0) (values p.worlds) w.0 w.1 in
-            let entry = contains-mapped (λ (x : String Global × WorldId). x.1) p.worlds.entries given.0 given.1 in
-            let found = world-member entry.0 entry.1 in
-            let same : found.2.world ≡ w.0 = same-some found.2.world w.0 (sym found.2.there ∙ ap (λ (id : WorldId). world_at r id.0) entry.2 ∙ given.2) in
-            let shown = has-contains (shown_by r found.2.world) m (ap (λ x. has (shown_by r x) m) same ∙ w.2) in
-            let sight = zip-right (IsWhole r v entry.0.1.0) (shown_by r found.2.world)
-            (Rattle.encode_shown.proofs.WorldMeans.seen r v entry.0.1.0 found.2.world found.2.there found.2.scope found.2.shows) m
-            (seen-whole r v entry.0.1.0 found.2.world found.2.there found.2.scope found.2.shows) shown in
-            let there = in-members found.0 sight.0 found.1 (subst (λ (x : Member). Contains (sights x) sight.0) (sym found.2.is) sight.1) in
-            let path_is : path ≡ sight.0.path = same-some path sight.0.path (sym e ∙ sight.2.is.has_path) in
-            list_any_at (λ (s : Sight). text_eq path s.path && s.whole) all_seen there.0 sight.0 there.1
-            (ap (λ (s : Sight). text_eq path s.path && s.whole) there.2 ∙ both _ _ (ap (text_eq path) (sym path_is) ∙ text-alike path) sight.2.whole)
+            let of = world-shown w.0 w.1 in
+            let sight = whole-in of.0 m (has-contains (shown_by r of.0.shown.world) m (ap (λ x. has (shown_by r x) m) of.1 ∙ w.2)) in
+            any-at (λ (s : Sight). text_eq path s.path && s.whole) all_seen sight.0 sight.1
+            (both _ _ (ap (text_eq path) (same-some sight.0.path path (sym sight.2.is.has_path ∙ e)) ∙ text-alike path) sight.2.whole)

@@ -1,5 +1,5 @@
 -- The sections of a component that exports the component types of a package, or of one world, mean it.
-use Rattle.std.proofs.Common.{◌≡◌, ◌↔◌, ◌⊎◌, inl, inr, map, option_map, refl, sym, subst, ap, ◌∙◌, ℕ, true, List, [], ◌∷◌, ◌++◌, Option, Some, None, String, arith}
+use Rattle.std.proofs.Common.{◌≡◌, ◌↔◌, map, option_map, refl, sym, subst, ap, ◌∙◌, ℕ, true, List, [], ◌∷◌, ◌++◌, Option, Some, String, arith}
 use Rattle.std.specs.declared.alloc.Global.{Global}
 use Rattle.std.specs.Prelude.{option_and_then}
 use Rattle.std.specs.List.{AllZip, Contains}
@@ -35,6 +35,8 @@ use Rattle.encode_shown.specs.Views.{ShowsInterfaceMember, ShowsWorldMember}
 use Rattle.encode_shown.specs.PackageTypes.{IsInterfaceType, IsWorldType, IsListedWorldType, ArePackageTypes}
 use Rattle.encode_shown.proofs.Dependencies.{own-label, interface-part-read, world-read}
 use Rattle.encode_shown.proofs.Apart.{distinct-from, distinct-both}
+use Rattle.std.proofs.Math.Logic.{⊎_elim}
+use Rattle.encode_shown.proofs.Basics.{given-by}
 use Rattle.encode_shown.proofs.Zips.{zip-left}
 use Rattle.encode_shown.proofs.Owning.{own-world, no-world-name}
 use Rattle.encode_shown.proofs.Packages.{members-mean}
@@ -48,16 +50,13 @@ each-append f (x ∷ xs) ys us vs e h = go (λ ws q. each-append f xs ys ws vs q
   where
     go : ((ws : List _) → each f xs ≡ Some ws → each f (xs ++ ys) ≡ Some (ws ++ vs)) → (o : Option _) (p : Option (List _)) → each f xs ≡ p → (o >>= λ y. p >>= λ ys. Some (y ∷ ys)) ≡ Some us
         → (o >>= λ y. each f (xs ++ ys) >>= λ ys. Some (y ∷ ys)) ≡ Some (us ++ vs)
-    go more None p q e = let wrong : ⊥ = cc in absurd wrong
-    go more (Some y) None q e = let wrong : ⊥ = cc in absurd wrong
     go more (Some y) (Some ws) q e = ap (λ (o : Option (List _)). o >>= λ ys. Some (y ∷ ys)) (more ws q) ∙ ap (λ (o : Option (List _)). Some (Rattle.std.proofs.Common.unwrap_or o [] ++ vs)) e
+    go more _ _ q e = absurd cc
 
 -- a component type that is followed is no wrapper
 part-of-interface : (label : Text) (ds : Declarations) (scope : Scope) → component_scope ds ≡ Some scope → part_of label ds ≡ interface_part label ds
-part-of-interface label Declarations.no_more scope e = refl
-part-of-interface label (Declarations.declares d rest) scope e = refl
-part-of-interface label (Declarations.instance inner rest) scope e = refl
-part-of-interface label (Declarations.component inner rest) scope e = let wrong : ⊥ = cc in absurd wrong
+part-of-interface label (Declarations.component inner rest) scope e = absurd cc
+part-of-interface label _ scope e = refl
 
 abbrev as_member : Text → Option (PackageIdentity × Part) → Option Member
 as_member label o = o >>= λ p. Some (record { label = label; package_ = p.0; part = p.1 })
@@ -94,33 +93,30 @@ module _ (r : Resolve) (v : IsValid r) (n : ℕ) (p : Package) (at : package_at 
   interfaces-read : (es : List (String Global × InterfaceId)) (xs : List (Text × Declarations)) → AllZip (IsInterfaceType r p) es xs
       → ((e : String Global × InterfaceId) → Contains es e → Contains p.interfaces.entries e) → AreRead (ShowsInterfaceMember r named) es xs
   interfaces-read [] [] z c = record { members = []; read = refl; shown = tt }
-  interfaces-read [] (x ∷ xs) z c = absurd z
-  interfaces-read (e ∷ es) [] z c = absurd z
   interfaces-read (e ∷ es) (x ∷ xs) z c =
       one-read (ShowsInterfaceMember r named) e es x xs (record { label = text_of e.0; package_ = named; part = Part.interface z.0.exported z.0.imports })
       (interface-read e x (c e (0, omega arith, refl)) z.0)
       (record { imports = z.0.imports; exported = z.0.exported; reached = z.0.shows.reached; is = refl })
       (interfaces-read es xs z.1 (λ y d. c y (contains-later e es y d)))
+  interfaces-read _ _ z c = absurd z
 
   worlds-read : (es : List (String Global × WorldId)) (xs : List (Text × Declarations)) → AllZip (IsListedWorldType r p) es xs
       → ((e : String Global × WorldId) → Contains es e → Contains p.worlds.entries e) → AreRead (ShowsWorldMember r named) es xs
   worlds-read [] [] z c = record { members = []; read = refl; shown = tt }
-  worlds-read [] (x ∷ xs) z c = absurd z
-  worlds-read (e ∷ es) [] z c = absurd z
   worlds-read (e ∷ es) (x ∷ xs) z c =
       one-read (ShowsWorldMember r named) e es x xs (record { label = text_of e.0; package_ = named; part = Part.world z.0.scope })
       (wrapper-read e.1.0 (text_of e.0) x z.0 (own-world r v n p at e (c e (0, omega arith, refl)) z.0.world z.0.there).0)
       (record { world = z.0.world; there = z.0.there; scope = z.0.scope; shows = z.0.shows; is = refl })
       (worlds-read es xs z.1 (λ y d. c y (contains-later e es y d)))
+  worlds-read _ _ z c = absurd z
 
   filled-read : (xs : List (Text × Declarations)) (ms : List Member) → each member xs ≡ Some ms → is_filled xs ≡ true → is_filled ms ≡ true
-  filled-read [] ms e h = let wrong : ⊥ = cc in absurd wrong
+  filled-read [] ms e h = absurd cc
   filled-read (x ∷ xs) ms e h = go (member x) (each member xs) e
     where
       go : (o : Option Member) (q : Option (List Member)) → (o >>= λ y. q >>= λ ys. Some (y ∷ ys)) ≡ Some ms → is_filled ms ≡ true
-      go None q e = let wrong : ⊥ = cc in absurd wrong
-      go (Some y) None e = let wrong : ⊥ = cc in absurd wrong
       go (Some y) (Some ys) e = ap (λ (o : Option (List Member)). is_filled (Rattle.std.proofs.Common.unwrap_or o (y ∷ ys))) (sym e)
+      go _ _ e = absurd cc
 
   pub sections-mean : (xs : List (Text × Declarations)) (sections : List Section) → ArePackageTypes r p xs → is_filled xs ≡ true → exported_types sections ≡ Some xs
       → reads.package_meaning sections ≡ Some (meant.package_meaning r n p)
@@ -161,34 +157,24 @@ module _ (r : Resolve) (v : IsValid r) (n : ℕ) (p : Package) (at : package_at 
 
   -- each is a label
   pub all-labels : list_all (λ x. is_label x.0) xs ≡ true
-  all-labels = all-from (λ x. is_label x.0) xs (λ x c. go x (Contains-append_cases types.interface_types types.world_types x (subst (λ (ys : List (Text × Declarations)). Contains ys x) types.are c)))
-    where
-      go : (x : Text × Declarations) → Contains types.interface_types x ⊎ Contains types.world_types x → is_label x.0 ≡ true
-      go x (inl c) = let e = zip-left (IsInterfaceType r p) p.interfaces.entries types.interface_types x types.interfaces c in ap is_label e.2.label ∙ own-label r v n p at e.0 e.1
-      go x (inr c) =
-          let e = zip-left (IsListedWorldType r p) p.worlds.entries types.world_types x types.worlds c in
-          ap (λ (y : Text × Declarations). is_label y.0) e.2.is ∙ ap is_label (sym (own-world r v n p at e.0 e.1 e.2.world e.2.there).0) ∙ world-label r v e.0.1.0 e.2.world e.2.there
-          e.2.scope e.2.shows
+  all-labels = all-from (λ x. is_label x.0) xs (λ x c. ⊎_elim
+      (λ c. let e = zip-left (IsInterfaceType r p) p.interfaces.entries types.interface_types x types.interfaces c in ap is_label e.2.label ∙ own-label r v n p at e.0 e.1)
+      (λ c.
+      let e = zip-left (IsListedWorldType r p) p.worlds.entries types.world_types x types.worlds c in
+      ap (λ (y : Text × Declarations). is_label y.0) e.2.is ∙ ap is_label (sym (own-world r v n p at e.0 e.1 e.2.world e.2.there).0) ∙ world-label r v e.0.1.0 e.2.world e.2.there e.2.scope e.2.shows)
+      (Contains-append_cases types.interface_types types.world_types x (subst (λ (ys : List (Text × Declarations)). Contains ys x) types.are c)))
 
 -- ---- one world
 
 pub world-sections-mean : (r : Resolve) → IsValid r → (n : ℕ) (w : World) (p : Package) → world_at r n ≡ Some w → package_of_world r w ≡ Some p → (x : Text × Declarations) (sections : List Section)
     → IsWorldType r p n (text_of w.name) x
     → exported_types sections ≡ Some (x ∷ []) → reads.world_package sections ≡ Some (meant.world_package r p w)
-world-sections-mean r v n w p there home x sections is e = go w.package refl home
-  where
-    same : is.world ≡ w
-    same = Rattle.std.proofs.lemmas.Option.same_Some is.world w (sym is.there ∙ there)
-
-    of-package : (k : ℕ) → package_at r k ≡ Some p → reads.world_package sections ≡ Some (meant.world_package r p w)
-    of-package k at =
-        ap (λ (o : Option (List (Text × Declarations))). o >>= λ ts. each member ts >>= λ ms. world_of_members ms) e
-        ∙ ap (λ (o : Option Member). (o >>= λ y. Some (y ∷ [])) >>= λ ms. world_of_members ms) (wrapper-read r v k p at n (text_of w.name) x is (ap (λ (u : World). text_of u.name) same))
-        ∙ world-package-means r v n w there is.scope (subst (λ (u : World). Rattle.encode_shown.specs.Views.ShowsWorld r u is.scope) same is.shows) p home
-
-    go : (o : Option PackageId) → w.package ≡ o → option_and_then (λ q. package_at r q.0) o ≡ Some p → reads.world_package sections ≡ Some (meant.world_package r p w)
-    go None q h = let wrong : ⊥ = cc in absurd wrong
-    go (Some id) q h = of-package id.0 h
+world-sections-mean r v n w p there home x sections is e =
+    let same : is.world ≡ w = same-some is.world w (sym is.there ∙ there) in
+    let id = given-by (λ (q : PackageId). package_at r q.0) w.package p home in
+    ap (λ (o : Option (List (Text × Declarations))). o >>= λ ts. each member ts >>= λ ms. world_of_members ms) e
+    ∙ ap (λ (o : Option Member). (o >>= λ y. Some (y ∷ [])) >>= λ ms. world_of_members ms) (wrapper-read r v id.0.0 p id.2 n (text_of w.name) x is (ap (λ (u : World). text_of u.name) same))
+    ∙ world-package-means r v n w there is.scope (subst (λ (u : World). Rattle.encode_shown.specs.Views.ShowsWorld r u is.scope) same is.shows) p home
 
 -- ---- bytes
 

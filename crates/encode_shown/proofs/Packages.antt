@@ -1,12 +1,11 @@
 -- The members that show a package of a valid `Resolve` mean the package.
-use Rattle.std.proofs.Common.{◌≡◌, ◌⊎◌, inl, inr, refl, sym, subst, ap, ◌∙◌, ℕ, Bool, true, false, not, ◌&&◌, ◌||◌, List, [], ◌∷◌, ◌++◌, append-nil, map, filter, Option, Some, None, String, unwrap_or, arith}
+use Rattle.std.proofs.Common.{◌≡◌, refl, sym, subst, ap, ◌∙◌, ℕ, Bool, true, false, not, ◌&&◌, List, [], ◌∷◌, ◌++◌, append-nil, map, filter, Some, String, unwrap_or, arith}
 use Rattle.std.specs.declared.alloc.Global.{Global}
 use Rattle.std.specs.Prelude.{is_some, flat_map}
 use Rattle.std.specs.Option.{option_map_or}
 use Rattle.std.specs.FinMap.{from_entries}
-use Rattle.std.specs.List.{AllZip, Contains, list_all, list_any}
+use Rattle.std.specs.List.{AllZip, Contains, list_all}
 use Rattle.std.proofs.lemmas.Grind.{flat_map-append}
-use Rattle.std.proofs.lemmas.List.Folds.{list_any_at}
 use Rattle.std.proofs.lemmas.List.Elements.{Contains-append_cases}
 use Rattle.wit_model.specs.Text.{Text, TextMap, text_of, text_eq}
 use Rattle.wit_model.specs.Names.{PackageIdentity, path_in}
@@ -25,6 +24,8 @@ use Rattle.comp_meaning.specs.Follow.{provided, is_filled}
 use Rattle.comp_meaning.specs.Same.{same_identity}
 use Rattle.comp_meaning.specs.Reads.{Sight, Member, sights, is_of, stands_at_top, is_interface_part, seen_meaning, interfaces_of, worlds_of, package_with, package_of_members}
 use Rattle.encode_shown.specs.Views.{ShowsPackage, ShowsInterfaceMember, ShowsWorldMember}
+use Rattle.std.proofs.Math.Logic.{⊎_elim}
+use Rattle.encode_shown.proofs.Basics.{implied}
 use Rattle.encode_shown.proofs.Alike.{identity-alike}
 use Rattle.encode_shown.proofs.Interfaces.{interface-means}
 use Rattle.encode_shown.proofs.WorldMeans.{world-means}
@@ -33,23 +34,22 @@ use Rattle.encode_shown.proofs.Sights.{IsSight, all-sights-agree, all-sights-obe
 use Rattle.encode_shown.proofs.SameEntries.{same-entries}
 use Rattle.encode_shown.proofs.PackageSights.{seen-reached, reached-seen, whole-shown, interface-member}
 use Rattle.encode_shown.proofs.Zips.{zip-all, zip-left}
-use Rattle.base_lemmas.proofs.Elements.{all_pass as all-from, contains-map, filter_keeps as contains-filter, filter_kept as filter-contains, map_from as contains-mapped}
-use Rattle.std.proofs.lemmas.Bool.{and_from as both}
+use Rattle.base_lemmas.proofs.Options.{there as some-of}
+use Rattle.base_lemmas.proofs.Elements.{any-at, all_pass as all-from, contains-map, filter_keeps as contains-filter, filter_kept as filter-contains, map_from as contains-mapped}
+use Rattle.std.proofs.lemmas.Bool.{and_from as both, not-true as not-false}
 use Rattle.wit_model.proofs.TextLemmas.{text_alike as text-alike}
 use Rattle.base_lemmas.proofs.Bools.{left_of as left_true}
 
 -- lists, element by element
 zip-flat : {A B C : Type 0} (R : A → B → Type 0) (f : A → C) (g : B → List C) → ((a : A) (b : B) → R a b → g b ≡ f a ∷ []) → (xs : List A) (ys : List B) → AllZip R xs ys → flat_map g ys ≡ map f xs
 zip-flat R f g h [] [] z = refl
-zip-flat R f g h [] (b ∷ ys) z = absurd z
-zip-flat R f g h (a ∷ xs) [] z = absurd z
 zip-flat R f g h (a ∷ xs) (b ∷ ys) z = λ j. h a b z.0 j ++ zip-flat R f g h xs ys z.1 j
+zip-flat R f g h _ _ z = absurd z
 
 zip-empty : {A B C : Type 0} (R : A → B → Type 0) (g : B → List C) → ((a : A) (b : B) → R a b → g b ≡ []) → (xs : List A) (ys : List B) → AllZip R xs ys → flat_map g ys ≡ []
 zip-empty R g h [] [] z = refl
-zip-empty R g h [] (b ∷ ys) z = absurd z
-zip-empty R g h (a ∷ xs) [] z = absurd z
 zip-empty R g h (a ∷ xs) (b ∷ ys) z = λ j. h a b z.0 j ++ zip-empty R g h xs ys z.1 j
+zip-empty R g h _ _ z = absurd z
 
 module _ (r : Resolve) (v : IsValid r) (n : ℕ) (p : Package) (at : package_at r n ≡ Some p) (members : List Member) (shows : ShowsPackage r p members) where
   abbrev named : PackageIdentity
@@ -60,15 +60,14 @@ module _ (r : Resolve) (v : IsValid r) (n : ℕ) (p : Package) (at : package_at 
 
   -- ---- one package
 
+  member-package : (m : Member) → Contains members m → m.package_ ≡ named
+  member-package m c = ⊎_elim
+      (λ c. ap (λ (x : Member). x.package_) (zip-left (ShowsInterfaceMember r named) p.interfaces.entries shows.interface_members m shows.interfaces c).2.is)
+      (λ c. ap (λ (x : Member). x.package_) (zip-left (ShowsWorldMember r named) p.worlds.entries shows.world_members m shows.worlds c).2.is)
+      (Contains-append_cases shows.interface_members shows.world_members m (subst (λ (ms : List Member). Contains ms m) shows.are c))
+
   one-package : list_all (λ m. same_identity named m.package_) members ≡ true
-  one-package = all-from (λ m. same_identity named m.package_) members (λ m c. go m
-      (Contains-append_cases shows.interface_members shows.world_members m (subst (λ (ms : List Member). Contains ms m) shows.are c)))
-    where
-      go : (m : Member) → Contains shows.interface_members m ⊎ Contains shows.world_members m → same_identity named m.package_ ≡ true
-      go m (inl c) = let e = zip-left (ShowsInterfaceMember r named) p.interfaces.entries shows.interface_members m shows.interfaces c in
-          ap (λ (x : Member). same_identity named x.package_) e.2.is ∙ identity-alike named
-      go m (inr c) = let e = zip-left (ShowsWorldMember r named) p.worlds.entries shows.world_members m shows.worlds c in
-          ap (λ (x : Member). same_identity named x.package_) e.2.is ∙ identity-alike named
+  one-package = all-from (λ m. same_identity named m.package_) members (λ m c. ap (same_identity named) (member-package m c) ∙ identity-alike named)
 
   -- ---- sights
 
@@ -76,16 +75,12 @@ module _ (r : Resolve) (v : IsValid r) (n : ℕ) (p : Package) (at : package_at 
   numbered = zip-all (IsSight r) seen (λ s c. let k = seen-reached r v n p at members shows s c in (k.0, k.1.is))
 
   sight-at-top : (s : Sight) → Contains seen s → stands_at_top named members s ≡ true
-  sight-at-top s c = go (is_of named s.path) refl
-    where
-      go : (b : Bool) → is_of named s.path ≡ b → (not b || list_any (λ m. is_interface_part m.part && text_eq s.path (path_in named m.label)) members) ≡ true
-      go false e = refl
-      go true e =
-          let k = seen-reached r v n p at members shows s c in
-          let own = own-listed r v n p at k.0 s.path k.1.is.has_path e in
-          let found = interface-member r v n p at members shows own.0 own.1 in
-          list_any_at (λ m. is_interface_part m.part && text_eq s.path (path_in named m.label)) members found.1.0 found.0 found.1.1
-          (ap (λ (m : Member). is_interface_part m.part && text_eq s.path (path_in named m.label)) (found.1.2 ∙ found.2.is) ∙ (ap (text_eq s.path) (sym own.3) ∙ text-alike s.path))
+  sight-at-top s c = implied (is_of named s.path) _ (λ e.
+      let k = seen-reached r v n p at members shows s c in
+      let own = own-listed r v n p at k.0 s.path k.1.is.has_path e in
+      let found = interface-member r v n p at members shows own.0 own.1 in
+      any-at (λ m. is_interface_part m.part && text_eq s.path (path_in named m.label)) members found.0 found.1
+      (ap (λ (m : Member). is_interface_part m.part && text_eq s.path (path_in named m.label)) found.2.is ∙ (ap (text_eq s.path) (sym own.3) ∙ text-alike s.path)))
 
   -- ---- interfaces and worlds
 
@@ -138,10 +133,6 @@ module _ (r : Resolve) (v : IsValid r) (n : ℕ) (p : Package) (at : package_at 
   abbrev foreign_entries : List (Text × InterfaceMeaning)
   foreign_entries = map foreign_entry (foreign_of r n p)
 
-  not-false : (b : Bool) → not b ≡ true → b ≡ false
-  not-false true h = sym h
-  not-false false h = refl
-
   -- a sight of an interface of another package means what the package says of it
   foreign-meant : (s : Sight) (m : ℕ) → IsSight r m s → is_of named s.path ≡ false → seen_meaning seen s ≡ foreign_entry m
   foreign-meant s m is other =
@@ -157,35 +148,29 @@ module _ (r : Resolve) (v : IsValid r) (n : ℕ) (p : Package) (at : package_at 
       let there = contains-map foreign_entry (foreign_of r n p) number.0 (contains-filter (is_foreign r n) (reached_by_package r p) number.0 number.1.reached foreign) in
       subst (λ (e : Text × InterfaceMeaning). Contains foreign_entries e) (sym (foreign-meant from.0 number.0 number.1.is (not-false (is_of named from.0.path) sight.1)) ∙ from.2) there
 
-  -- what is foreign has a path
-  foreign-named : (m : ℕ) → is_foreign r n m ≡ true → (path : Text) × (interface_path r m ≡ Some path)
-  foreign-named m h = go (interface_path r m) refl (left_true (is_some (interface_path r m)) _ h)
-    where
-      go : (o : Option Text) → interface_path r m ≡ o → is_some o ≡ true → (path : Text) × (interface_path r m ≡ Some path)
-      go None e h = let wrong : ⊥ = cc in absurd wrong
-      go (Some path) e h = (path, e)
+  -- the interface of an entry, which has the entry's path
+  entry-of : (q : Text) (x : InterfaceMeaning) → Contains foreign_entries (q, x) → (m : ℕ) × Contains (reached_by_package r p) m × (is_foreign r n m ≡ true) × (interface_path r m ≡ Some q)
+      × (foreign_entry m ≡ (q, x))
+  entry-of q x c =
+      let from = contains-mapped foreign_entry (foreign_of r n p) (q, x) c in
+      let reach = filter-contains (is_foreign r n) (reached_by_package r p) from.0 from.1 in
+      let path = some-of (interface_path r from.0) (left_true (is_some (interface_path r from.0)) _ reach.1) in
+      (from.0, reach.0, reach.1, path.1 ∙ ap Some (sym (ap (λ o. unwrap_or o []) path.1) ∙ ap (λ (e : Text × InterfaceMeaning). e.0) from.2), from.2)
 
   back : (q : Text) (x : InterfaceMeaning) → Contains foreign_entries (q, x) → Contains seen_entries (q, x)
   back q x c =
-      let from = contains-mapped foreign_entry (foreign_of r n p) (q, x) c in
-      let reach = filter-contains (is_foreign r n) (reached_by_package r p) from.0 from.1 in
-      let path = foreign-named from.0 reach.1 in
-      let sight = reached-seen r v n p at members shows from.0 path.0 path.1 reach.0 in
-      let other : is_other sight.sight ≡ true = sym (foreign-path r v n p at from.0 sight.sight.path sight.is.has_path) ∙ reach.1 in
-      subst (λ (e : Text × InterfaceMeaning). Contains seen_entries e) (foreign-meant sight.sight from.0 sight.is (not-false (is_of named sight.sight.path) other) ∙ from.2)
+      let from = entry-of q x c in
+      let sight = reached-seen r v n p at members shows from.0 q from.3 from.1 in
+      let other : is_other sight.sight ≡ true = sym (foreign-path r v n p at from.0 sight.sight.path sight.is.has_path) ∙ from.2 in
+      subst (λ (e : Text × InterfaceMeaning). Contains seen_entries e) (foreign-meant sight.sight from.0 sight.is (not-false (is_of named sight.sight.path) other) ∙ from.4)
       (contains-map (seen_meaning seen) (filter is_other seen) sight.sight (contains-filter is_other seen sight.sight sight.there other))
 
   -- a path has one meaning
   one-meaning : (q : Text) (x y : InterfaceMeaning) → Contains foreign_entries (q, x) → Contains foreign_entries (q, y) → x ≡ y
   one-meaning q x y c d =
-      let a = contains-mapped foreign_entry (foreign_of r n p) (q, x) c in
-      let b = contains-mapped foreign_entry (foreign_of r n p) (q, y) d in
-      let s = foreign-named a.0 (filter-contains (is_foreign r n) (reached_by_package r p) a.0 a.1).1 in
-      let t = foreign-named b.0 (filter-contains (is_foreign r n) (reached_by_package r p) b.0 b.1).1 in
-      let one : s.0 ≡ q = sym (ap (λ o. unwrap_or o []) s.1) ∙ ap (λ (e : Text × InterfaceMeaning). e.0) a.2 in
-      let other : t.0 ≡ q = sym (ap (λ o. unwrap_or o []) t.1) ∙ ap (λ (e : Text × InterfaceMeaning). e.0) b.2 in
-      let same : a.0 ≡ b.0 = path-once r v a.0 b.0 q (s.1 ∙ ap Some one) (t.1 ∙ ap Some other) in
-      sym (ap (λ (e : Text × InterfaceMeaning). e.1) a.2) ∙ ap (foreign_meaning r p) same ∙ ap (λ (e : Text × InterfaceMeaning). e.1) b.2
+      let a = entry-of q x c in
+      let b = entry-of q y d in
+      sym (ap (λ (e : Text × InterfaceMeaning). e.1) a.4) ∙ ap (foreign_meaning r p) (path-once r v a.0 b.0 q a.3 b.3) ∙ ap (λ (e : Text × InterfaceMeaning). e.1) b.4
 
   abbrev foreign_map : List (Text × InterfaceMeaning) → TextMap InterfaceMeaning
   foreign_map es = from_entries es
@@ -210,12 +195,6 @@ module _ (r : Resolve) (v : IsValid r) (n : ℕ) (p : Package) (at : package_at 
 -- so do they as the members of a component that has one
 pub members-mean : (r : Resolve) → IsValid r → (n : ℕ) (p : Package) → package_at r n ≡ Some p → (members : List Member) → ShowsPackage r p members → is_filled members ≡ true
     → package_of_members members ≡ Some (meant.package_meaning r n p)
-members-mean r v n p at [] shows h = let wrong : ⊥ = cc in absurd wrong
+members-mean r v n p at [] shows h = absurd cc
 members-mean r v n p at (m ∷ ms) shows h =
-    let first : m.package_ ≡ identity_of p.name = go (Contains-append_cases shows.interface_members shows.world_members m
-    (subst (λ (xs : List Member). Contains xs m) shows.are (0, omega arith, refl))) in
-    ap (λ q. package_with q (m ∷ ms)) first ∙ package-means r v n p at (m ∷ ms) shows
-  where
-    go : Contains shows.interface_members m ⊎ Contains shows.world_members m → m.package_ ≡ identity_of p.name
-    go (inl c) = let e = zip-left (ShowsInterfaceMember r (identity_of p.name)) p.interfaces.entries shows.interface_members m shows.interfaces c in ap (λ (x : Member). x.package_) e.2.is
-    go (inr c) = let e = zip-left (ShowsWorldMember r (identity_of p.name)) p.worlds.entries shows.world_members m shows.worlds c in ap (λ (x : Member). x.package_) e.2.is
+    ap (λ q. package_with q (m ∷ ms)) (member-package r v n p at (m ∷ ms) shows m (0, omega arith, refl)) ∙ package-means r v n p at (m ∷ ms) shows

@@ -1,16 +1,16 @@
 -- The types of an owner, as parts of others: the names in them are of the owner's place.
-use Rattle.std.proofs.Common.{◌≡◌, refl, sym, subst, ap, ◌∙◌, ℕ, zero, suc, ◌<◌, Bool, true, false, not, ◌&&◌, ◌||◌, nat_lt, nat_le, List, [], map, length, unwrap_or, Option, Some, None, String, option_to_list, arith}
+use Rattle.std.proofs.Common.{◌≡◌, refl, sym, subst, ap, ◌∙◌, ℕ, zero, suc, ◌<◌, Bool, true, false, not, ◌&&◌, ◌||◌, nat_lt, nat_le, List, map, length, unwrap_or, Option, Some, None, String, option_to_list, arith}
 use Rattle.std.specs.declared.alloc.Global.{Global}
 use Rattle.std.specs.Prelude.{is_some, filter_map, flat_map}
 use Rattle.std.specs.List.{Contains, list_all}
 use Rattle.std.specs.Option.{option_map_or}
-use Rattle.std.proofs.lemmas.Bool.{ltb-true, lt-ltb, and_from as both}
+use Rattle.std.proofs.lemmas.Bool.{ltb-true, lt-ltb, and_from as both, both_ways, false_from_ne_true}
 use Rattle.std.proofs.lemmas.Option.{slice_get_within}
 use Rattle.std.proofs.lemmas.List.Folds.{list_all-append, list_all-map}
 use Rattle.std.proofs.lemmas.List.Elements.{Contains-append_left, Contains-append_right}
 use Rattle.std.proofs.lemmas.Cmp.{nat_list_eq_equiv}
 use Rattle.wit_model.specs.Text.{Text, text_of}
-use Rattle.wit_model.specs.Tree.{Tree, Place, Primitive, Declaration, type_, resource, primitive, named, node, of_interface, here, levels}
+use Rattle.wit_model.specs.Tree.{Tree, Place, Primitive, Declaration, type_, primitive, named, node, of_interface, here, levels}
 use Rattle.wit_model.specs.Types.{declared_by, tree_of, tree_at, tree_of_declaration, type_tree, number_tree, trees_of, no_tree, number_of, declaration_of}
 use Rattle.wit_model.specs.Lookup.{type_at, place_of}
 use Rattle.wit_model.specs.Parts.{member_types, handled, kind_numbers, met_by, met_of, used_by_type, same_owner, has_owner, is_resource, is_resource_kind, is_resource_type}
@@ -22,7 +22,6 @@ use Rattle.wit_model.specs.declared.model.Resolve.{Resolve}
 use Rattle.wit_model.specs.declared.model.TypeDef.{TypeDef}
 use Rattle.wit_model.specs.declared.model.TypeDefKind.{TypeDefKind}
 use Rattle.wit_model.specs.declared.model.TypeDefKind.TheVariants as kind
-use Rattle.wit_model.specs.declared.model.Handle.TheVariants as handle
 use Rattle.wit_model.specs.declared.model.TypeOwner.{TypeOwner}
 use Rattle.wit_model.specs.declared.model.TypeOwner.TheVariants as owner
 use Rattle.wit_model.specs.declared.model.TypeId.{TypeId}
@@ -36,9 +35,9 @@ use Rattle.wit_model.proofs.Elements.{contains-filter_map}
 use Rattle.wit_model.proofs.OnePath.{found-in}
 use Rattle.comp_meaning.specs.Same.{same_place}
 use Rattle.comp_meaning.specs.Rules.{is_part, is_declared, are_labels}
-use Rattle.encode_shown.proofs.Basics.{valid-references, or-cases}
-use Rattle.encode_shown.proofs.Children.{child_trees, has_named_form, is_alias, children-are, labels-are, form-unnamed, parts-from, declared-from}
-use Rattle.base_lemmas.proofs.Bools.{given-not, left_of as first_true, right_of as second_true}
+use Rattle.encode_shown.proofs.Basics.{valid-references, or-cases, passed}
+use Rattle.encode_shown.proofs.Children.{child_trees, is_unnamed_form, is_alias, children-are, labels-are, form-unnamed, parts-from, declared-from}
+use Rattle.base_lemmas.proofs.Bools.{given-not, not-false, left_of as first_true, right_of as second_true}
 use Rattle.base_lemmas.proofs.Elements.{all-contained, all_pass as all-from, contains-one}
 use Rattle.base_lemmas.proofs.Options.{there as some-of}
 use Rattle.comp_meaning.proofs.RulesLemmas.{distinct_same as distinct-same}
@@ -51,45 +50,18 @@ place-alike here = refl
 
 -- ---- unnamed kinds
 
-abbrev is_node : Declaration → Bool
-is_node (type_ (node form ts)) = true
-is_node _ = false
-
-node-of : (trees : List Tree) (k : TypeDefKind) → is_named_kind k ≡ false → is_node (declared_by trees k) ≡ true
-node-of trees (kind.Record x) e = let wrong : ⊥ = cc in absurd wrong
-node-of trees (kind.Variant x) e = let wrong : ⊥ = cc in absurd wrong
-node-of trees (kind.Flags x) e = let wrong : ⊥ = cc in absurd wrong
-node-of trees (kind.Enum x) e = let wrong : ⊥ = cc in absurd wrong
-node-of trees (kind.Type_ t) e = let wrong : ⊥ = cc in absurd wrong
-node-of trees kind.Resource e = let wrong : ⊥ = cc in absurd wrong
-node-of trees (kind.Handle (handle.Own id)) e = refl
-node-of trees (kind.Handle (handle.Borrow id)) e = refl
-node-of trees _ e = refl
-
-node-part : (place : Place) (d : Declaration) → is_node d ≡ true → has_named_form d ≡ false → list_all (is_part place) (child_trees d) ≡ true → is_part place (tree_of_declaration d) ≡ true
-node-part place resource n f h = let wrong : ⊥ = cc in absurd wrong
-node-part place (type_ (primitive q)) n f h = let wrong : ⊥ = cc in absurd wrong
-node-part place (type_ (named q name)) n f h = let wrong : ⊥ = cc in absurd wrong
-node-part place (type_ (node form ts)) n f h = both _ _ (ap not f) (parts-from place ts h)
+form-part : (place : Place) (d : Declaration) → is_unnamed_form d ≡ true → list_all (is_part place) (child_trees d) ≡ true → is_part place (tree_of_declaration d) ≡ true
+form-part place (type_ (node form ts)) n h = both _ _ n (parts-from place ts h)
+form-part place _ n h = absurd cc
 
 unnamed-alias : (k : TypeDefKind) → is_named_kind k ≡ false → is_alias k ≡ false
-unnamed-alias (kind.Type_ t) e = let wrong : ⊥ = cc in absurd wrong
+unnamed-alias (kind.Type_ t) e = absurd cc
 unnamed-alias _ e = refl
 
 -- a resource, or an alias of one, has a name
-resource-named : (f : ℕ → Bool) (k : TypeDefKind) → is_resource_kind f k ≡ true → is_named_kind k ≡ true
-resource-named f kind.Resource e = refl
-resource-named f (kind.Type_ t) e = refl
-resource-named f (kind.Record x) e = refl
-resource-named f (kind.Variant x) e = refl
-resource-named f (kind.Flags x) e = refl
-resource-named f (kind.Enum x) e = refl
-resource-named f _ e = let wrong : ⊥ = cc in absurd wrong
-
-none-given : (f : ℕ → Bool) (o : Option ℕ) → o ≡ None → option_map_or f o false ≡ false
-none-given f None e = refl
-none-given f (Some n) e = let wrong : ⊥ = cc in absurd wrong
-
+resource-named : (f : ℕ → Bool) (k : TypeDefKind) → (is_named_kind k || not (is_resource_kind f k)) ≡ true
+resource-named f kind.Resource = refl
+resource-named f _ = refl
 -- labels that keep the rule
 pub labels-from : (ts : List Text) → are_member_labels ts ≡ true → are_labels ts ≡ true
 labels-from ts h = both _ _ (first_true (rules.are_labels ts) _ h) (sym (distinct-same ts) ∙ second_true (rules.are_labels ts) _ h)
@@ -103,11 +75,7 @@ module _ (r : Resolve) (v : IsValid r) where
       (first_true (not (is_named_kind def.kind) || is_some def.name) (passes (is_named_number r) (alias_target def.kind)) (type-passes named_kinds r v.rules.named_kinds n def at))
 
   unnamed-kind : (n : ℕ) (def : TypeDef) → type_at r n ≡ Some def → def.name ≡ None → is_named_kind def.kind ≡ false
-  unnamed-kind n def at none = go (is_named_kind def.kind) refl
-    where
-      go : (b : Bool) → is_named_kind def.kind ≡ b → b ≡ false
-      go true e = let wrong : true ≡ false = sym (named-kind n def at e) ∙ ap is_some none in let z : ⊥ = cc in absurd z
-      go false e = refl
+  unnamed-kind n def at none = false_from_ne_true (is_named_kind def.kind) (λ e. let named_ : is_some def.name ≡ true = named-kind n def at e in cc)
 
   -- a named type is its name where it is used
   pub named-tree : (n : ℕ) (def : TypeDef) (name : String Global) → type_at r n ≡ Some def → def.name ≡ Some name → number_tree r n ≡ named (place_of r def.owner) (text_of name)
@@ -125,20 +93,7 @@ module _ (r : Resolve) (v : IsValid r) where
   module _ (test : Tree → Bool) (plain : (q : Primitive) → test (primitive q) ≡ true) where
     pub value-passes : (t : ValueType) → ((id : TypeId) → t ≡ ty.Id id → test (number_tree r id.0) ≡ true) → test (type_tree r t) ≡ true
     value-passes (ty.Id id) h = h id refl
-    value-passes ty.Bool h = plain Primitive.bool
-    value-passes ty.U8 h = plain Primitive.u8
-    value-passes ty.U16 h = plain Primitive.u16
-    value-passes ty.U32 h = plain Primitive.u32
-    value-passes ty.U64 h = plain Primitive.u64
-    value-passes ty.S8 h = plain Primitive.s8
-    value-passes ty.S16 h = plain Primitive.s16
-    value-passes ty.S32 h = plain Primitive.s32
-    value-passes ty.S64 h = plain Primitive.s64
-    value-passes ty.F32 h = plain Primitive.f32
-    value-passes ty.F64 h = plain Primitive.f64
-    value-passes ty.Char h = plain Primitive.char
-    value-passes ty.String h = plain Primitive.string
-    value-passes ty.ErrorContext h = plain Primitive.error_context
+    value-passes _ h = plain _
 
     values-pass : (ts : List ValueType) → ((m : ℕ) → Contains (filter_map number_of ts) m → test (number_tree r m) ≡ true) → list_all test (map (type_tree r) ts) ≡ true
     values-pass ts h = list_all-map test (type_tree r) ts ∙ all-from (λ t. test (type_tree r t)) ts (λ t c. value-passes t (λ id e.
@@ -180,8 +135,8 @@ module _ (r : Resolve) (v : IsValid r) where
             let parts = children-pass (is_part (place_of r o)) (λ q. refl) def.kind (unnamed-alias def.kind plain) (λ m c.
             let below = smaller n def at m c in
             more m (omega (arith, l, below)) (omega (arith, inside, below)) (all-contained all_met (kind_numbers def.kind) m all c)) in
-            ap (is_part (place_of r o)) (unnamed-tree n def at is)
-            ∙ node-part (place_of r o) (declared_by (trees_of r) def.kind) (node-of (trees_of r) def.kind plain) (form-unnamed (trees_of r) def.kind plain) parts
+            let form = sym (ap (λ b. b || is_unnamed_form (declared_by (trees_of r) def.kind)) plain) ∙ form-unnamed (trees_of r) def.kind in
+            ap (is_part (place_of r o)) (unnamed-tree n def at is) ∙ form-part (place_of r o) (declared_by (trees_of r) def.kind) form parts
 
     pub number-part : (n : ℕ) → n < length r.types.items → all_met n ≡ true → is_part (place_of r o) (number_tree r n) ≡ true
     number-part n inside met = let l : n < suc n = omega arith in part-at (suc n) n l inside met
@@ -207,7 +162,8 @@ module _ (r : Resolve) (v : IsValid r) where
       let inside : n < length r.types.items = slice_get_within r.types.items n def at in
       let less : m < length r.types.items = omega (arith, below, inside) in
       let found = found-in r.types.items m (lt-ltb m (length r.types.items) less) in
-      let kind_of = resource-named (is_resource r) found.0.kind (sym (resource_step r (valid-references r v) m found.0 found.1) ∙ is_one) in
+      let resource_kind = sym (resource_step r (valid-references r v) m found.0 found.1) ∙ is_one in
+      let kind_of = or-cases (is_named_kind found.0.kind) _ (resource-named (is_resource r) found.0.kind) (λ h. h) (λ h. absurd (not-false (is_resource_kind (is_resource r) found.0.kind) h resource_kind)) in
       let name = some-of found.0.name (named-kind m found.0 found.1 kind_of) in
       ap (λ t. nat_le (levels t) 100) (named-tree m found.0 name.0 found.1 name.1)
     where
@@ -224,44 +180,43 @@ module _ (r : Resolve) (v : IsValid r) where
       (list_all-map (λ t. nat_le (levels t) 100) (tree_at (trees_of r)) (option_to_list (handled def.kind)) ∙ all-from (λ m. nat_le (levels (tree_at (trees_of r) m)) 100)
       (option_to_list (handled def.kind)) (handled-level n def at))
 
+  -- the named type that an alias is of
+  pub record IsTarget (id : TypeId) : Type 0 where
+    pub def : TypeDef
+    pub there : type_at r id.0 ≡ Some def
+    pub string : String Global
+    pub tree : number_tree r id.0 ≡ named (place_of r def.owner) (text_of string)
+
+  pub alias-target : (n : ℕ) (def : TypeDef) → type_at r n ≡ Some def → (id : TypeId) → def.kind ≡ kind.Type_ (ty.Id id) → IsTarget id
+  unfolding named_kinds
+  alias-target n def at id e =
+      let below = smaller n def at id.0 (subst (λ k. Contains (kind_numbers k) id.0) (sym e) (contains-one id.0)) in
+      let inside : n < length r.types.items = slice_get_within r.types.items n def at in
+      let found = found-in r.types.items id.0 (lt-ltb id.0 (length r.types.items) (omega (arith, below, inside))) in
+      let target = second_true (not (is_named_kind def.kind) || is_some def.name) (passes (is_named_number r) (alias_target def.kind)) (type-passes named_kinds r v.rules.named_kinds n def at) in
+      let name = some-of found.0.name (ap (passes (λ (d : TypeDef). is_some d.name)) (sym found.1) ∙ (ap (λ k. passes (is_named_number r) (alias_target k)) (sym e) ∙ target)) in
+      record { def = found.0; there = found.1; string = name.0; tree = named-tree id.0 found.0 name.0 found.1 name.1 }
+
   -- an alias of a primitive or a named type
-  alias-declared : (place : Place) (t : ValueType) → passes (is_named_number r) (number_of t) ≡ true → passes (in_list r.types.items) (number_of t) ≡ true
-      → is_declared place (type_ (type_tree r t)) ≡ true
-  alias-declared place (ty.Id id) h inside =
-      let found = found-in r.types.items id.0 inside in
-      let name = some-of found.0.name (ap (passes (λ def. is_some def.name)) (sym found.1) ∙ h) in
-      ap (λ u. is_declared place (type_ u)) (named-tree id.0 found.0 name.0 found.1 name.1)
-  alias-declared place ty.Bool h i = refl
-  alias-declared place ty.U8 h i = refl
-  alias-declared place ty.U16 h i = refl
-  alias-declared place ty.U32 h i = refl
-  alias-declared place ty.U64 h i = refl
-  alias-declared place ty.S8 h i = refl
-  alias-declared place ty.S16 h i = refl
-  alias-declared place ty.S32 h i = refl
-  alias-declared place ty.S64 h i = refl
-  alias-declared place ty.F32 h i = refl
-  alias-declared place ty.F64 h i = refl
-  alias-declared place ty.Char h i = refl
-  alias-declared place ty.String h i = refl
-  alias-declared place ty.ErrorContext h i = refl
+  alias-declared : (place : Place) (n : ℕ) (def : TypeDef) → type_at r n ≡ Some def → (t : ValueType) → def.kind ≡ kind.Type_ t → is_declared place (declaration_of r def) ≡ true
+  alias-declared place n def at (ty.Id id) e = ap (λ k. is_declared place (declared_by (trees_of r) k)) e ∙ ap (λ u. is_declared place (type_ u)) (alias-target n def at id e).tree
+  alias-declared place n def at _ e = ap (λ k. is_declared place (declared_by (trees_of r) k)) e
 
   -- what else a type of an owner uses is the owner's
   stays : (n : ℕ) (def : TypeDef) → type_at r n ≡ Some def → same_owner def.owner owner.None ≡ false → is_use r def ≡ false → list_all (has_owner r def.owner) (used_by_type r def) ≡ true
   unfolding owners
   stays n def at owned plain =
       or-cases (same_owner def.owner owner.None) (list_all (has_owner r def.owner) (used_by_type r def) || (is_some def.name && is_use r def)) (type-passes owners r v.rules.owners n def at)
-      (λ e. let wrong : true ≡ false = sym e ∙ owned in let z : ⊥ = cc in absurd z)
-      (λ e. or-cases (list_all (has_owner r def.owner) (used_by_type r def)) (is_some def.name && is_use r def) e (λ h. h)
-      (λ h. let wrong : true ≡ false = sym (second_true (is_some def.name) (is_use r def) h) ∙ plain in let z : ⊥ = cc in absurd z))
+      (λ e. absurd (both_ways _ owned e))
+      (λ e. or-cases (list_all (has_owner r def.owner) (used_by_type r def)) (is_some def.name && is_use r def) e (λ h. h) (λ h. absurd (both_ways _ plain (second_true (is_some def.name) _ h))))
 
   no-use : (def : TypeDef) (k : TypeDefKind) → def.kind ≡ k → is_alias k ≡ false → is_use r def ≡ false
-  no-use def (kind.Type_ t) e f = let wrong : ⊥ = cc in absurd wrong
-  no-use def _ e f = none-given _ (alias_target def.kind) (ap alias_target e)
+  no-use def (kind.Type_ t) e f = absurd cc
+  no-use def _ e f = false_from_ne_true (is_use r def) (λ h. let some = (passed _ (alias_target def.kind) h).1 in let none : alias_target def.kind ≡ None = ap alias_target e in cc)
 
   -- a name of an owner is declared as what it may be, in the owner's place
   pub number-declared : (n : ℕ) (def : TypeDef) → type_at r n ≡ Some def → same_owner def.owner owner.None ≡ false → is_declared (place_of r def.owner) (declaration_of r def) ≡ true
-  unfolding labels named_kinds
+  unfolding labels
   number-declared n def at owned = go def.kind refl
     where
       form : is_alias def.kind ≡ false → is_declared (place_of r def.owner) (declaration_of r def) ≡ true
@@ -276,19 +231,6 @@ module _ (r : Resolve) (v : IsValid r) where
           number-part def.owner m (let below = smaller n def at m c in omega (arith, below, inside)) (all-contained (all_met def.owner) (kind_numbers def.kind) m all c)))
           (shallow-children n def at e)
 
-      alias : (t : ValueType) → def.kind ≡ kind.Type_ t → is_declared (place_of r def.owner) (declaration_of r def) ≡ true
-      alias t e =
-          let target = second_true (not (is_named_kind def.kind) || is_some def.name) (passes (is_named_number r) (alias_target def.kind)) (type-passes named_kinds r v.rules.named_kinds n def at) in
-          ap (λ k. is_declared (place_of r def.owner) (declared_by (trees_of r) k)) e
-          ∙ alias-declared (place_of r def.owner) t (ap (λ k. passes (is_named_number r) (alias_target k)) (sym e) ∙ target) (within t e)
-        where
-          within : (t : ValueType) → def.kind ≡ kind.Type_ t → passes (in_list r.types.items) (number_of t) ≡ true
-          within (ty.Id id) e =
-              let below = smaller n def at id.0 (subst (λ k. Contains (kind_numbers k) id.0) (sym e) (contains-one id.0)) in
-              let inside : n < length r.types.items = slice_get_within r.types.items n def at in
-              lt-ltb id.0 (length r.types.items) (omega (arith, below, inside))
-          within _ e = refl
-
       go : (k : TypeDefKind) → def.kind ≡ k → is_declared (place_of r def.owner) (declaration_of r def) ≡ true
-      go (kind.Type_ t) e = alias t e
+      go (kind.Type_ t) e = alias-declared (place_of r def.owner) n def at t e
       go _ e = form (ap is_alias e)

@@ -1,20 +1,21 @@
 -- Which interfaces are reached: what a chain of uses leads to, and no others.
-use Rattle.std.proofs.Common.{◌≡◌, ◌⊎◌, inl, inr, refl, sym, subst, ap, ◌∙◌, ℕ, zero, suc, ◌<◌, ◌≤◌, arith, Bool, true, false, ◌||◌, not, nat_lt, List, [], ◌∷◌, ◌++◌, length, filter, nat_eq, Option, Some, None}
+use Rattle.std.proofs.Common.{◌≡◌, ◌⊎◌, inl, inr, refl, sym, subst, ap, ◌∙◌, ℕ, zero, suc, ◌<◌, ◌≤◌, arith, Bool, true, false, ◌||◌, not, nat_lt, List, [], ◌∷◌, ◌++◌, length, filter, nat_eq, Option}
 use Rattle.std.specs.Prelude.{flat_map}
 use Rattle.std.specs.List.{Contains, list_all}
-use Rattle.std.proofs.lemmas.Bool.{eqb-true, ltb-true, or_left as or-first, or_right as or-second}
+use Rattle.std.proofs.lemmas.Bool.{both_ways, eqb-true, ltb-true, or_left as or-first, or_right as or-second}
 use Rattle.std.proofs.lemmas.List.Folds.{list_any-append}
 use Rattle.std.proofs.lemmas.List.Elements.{Contains-append_cases}
 use Rattle.std.proofs.lemmas.Map.Views.{any-filter_same}
 use Rattle.wit_model.proofs.Elements.{none-in, has-contains, contains-has}
 use Rattle.wit_model.proofs.OnePath.{interface-passes}
 use Rattle.wit_model.specs.declared.model.Resolve.{Resolve}
-use Rattle.wit_model.specs.declared.model.Interface.{Interface}
 use Rattle.wit_model.specs.Lookup.{interface_at}
 use Rattle.wit_model.specs.Rules.{function_stays}
 use Rattle.wit_model.specs.Valid.{IsValid, as_interface, functions_of_interface, owners}
 use Rattle.wit_model.specs.Uses.{has, once, direct_deps, reached_in, reached}
 use Rattle.encode_shown.specs.Views.{AreUsed, UseEarlier}
+use Rattle.std.proofs.Math.Logic.{⊎_elim}
+use Rattle.encode_shown.proofs.Basics.{option-cases}
 use Rattle.encode_shown.proofs.Used.{contains-flat-from}
 use Rattle.base_lemmas.proofs.Bools.{right_of as second_true}
 use Rattle.base_lemmas.proofs.Elements.{all-contained, contains-later, filter_kept as filter-contains, last_of as one-contained}
@@ -73,16 +74,10 @@ module _ (r : Resolve) where
   -- numbers fall along the uses of a valid `Resolve`
   deps-fall : IsValid r → (n m : ℕ) → has (direct_deps r n) m ≡ true → m < n
   unfolding owners
-  deps-fall v n m h = go (interface_at r n) refl
-    where
-      go : (o : Option Interface) → interface_at r n ≡ o → m < n
-      go (Some i) e = ltb-true m n (all-contained (λ m. nat_lt m n) (direct_deps r n) m
-          (second_true (list_all (function_stays r (as_interface n)) (functions_of_interface i)) _ (interface-passes owners r v.rules.owners n i e)) (has-contains (direct_deps r n) m h))
-      go None e =
-          let none : has (direct_deps r n) m ≡ false = ap (λ o. has (filter (λ m. not (nat_eq m n))
-          (once (Rattle.std.specs.Option.option_map_or (Rattle.wit_model.specs.Uses.interfaces_used_by r) o []))) m) e in
-          let wrong : true ≡ false = sym h ∙ none in
-          let z : ⊥ = cc in absurd z
+  deps-fall v n m h = option-cases (interface_at r n)
+      (λ e. absurd (both_ways _ (ap (λ o. has (filter (λ m. not (nat_eq m n)) (once (Rattle.std.specs.Option.option_map_or (Rattle.wit_model.specs.Uses.interfaces_used_by r) o []))) m) e) h))
+      (λ i e. ltb-true m n (all-contained (λ m. nat_lt m n) (direct_deps r n) m
+      (second_true (list_all (function_stays r (as_interface n)) (functions_of_interface i)) _ (interface-passes owners r v.rules.owners n i e)) (has-contains (direct_deps r n) m h)))
 
   -- what a chain from one of these leads to is reached
   pub chain-reached : IsValid r → (ns : List ℕ) (s k m : ℕ) → Contains ns s → s < length r.interfaces.items → Chain r k s m → Contains (reached r ns) m
@@ -96,11 +91,8 @@ module _ (r : Resolve) where
     unfolding reached_in
     holds-in zero ns all m c = all m c
     holds-in (suc steps) ns all m c = holds-in steps (once (ns ++ flat_map (direct_deps r) ns))
-        (λ n d. go n (Contains-append_cases ns (flat_map (direct_deps r) ns) n (once_from n (ns ++ flat_map (direct_deps r) ns) d))) m c
-      where
-        go : (n : ℕ) → Contains ns n ⊎ Contains (flat_map (direct_deps r) ns) n → P n
-        go n (inl d) = all n d
-        go n (inr d) = let from = contains-flat-from (direct_deps r) ns n d in closed from.0 n (all from.0 from.1) from.2
+        (λ n d. ⊎_elim (all n) (λ d. let from = contains-flat-from (direct_deps r) ns n d in closed from.0 n (all from.0 from.1) from.2)
+        (Contains-append_cases ns (flat_map (direct_deps r) ns) n (once_from n (ns ++ flat_map (direct_deps r) ns) d))) m c
 
     pub holds-reached : (ns : List ℕ) → ((n : ℕ) → Contains ns n → P n) → (m : ℕ) → Contains (reached r ns) m → P m
     holds-reached ns all m c = holds-in (length r.interfaces.items) (once ns) (λ n d. all n (once_from n ns d)) m c
@@ -119,12 +111,6 @@ module _ (r : Resolve) where
   pub earlier-used : (earlier ns : List ℕ) → UseEarlier r earlier ns → (n m : ℕ) → Contains ns n → Contains (direct_deps r n) m → Contains earlier m ⊎ Contains ns m
   earlier-used earlier [] u n m c d = none-in n c
   earlier-used earlier (x ∷ ns) u n m (zero, l, e) d = inl (u.0 m (subst (λ (j : ℕ). Contains (direct_deps r j) m) (sym e) d))
-  earlier-used earlier (x ∷ ns) u n m (suc k, l, e) d = go (earlier-used (earlier ++ x ∷ []) ns u.1 n m (k, omega (arith, l), e) d)
-    where
-      split : Contains earlier m ⊎ Contains (x ∷ []) m → Contains earlier m ⊎ Contains (x ∷ ns) m
-      split (inl c) = inl c
-      split (inr c) = inr (0, omega arith, one-contained x m c)
-
-      go : Contains (earlier ++ x ∷ []) m ⊎ Contains ns m → Contains earlier m ⊎ Contains (x ∷ ns) m
-      go (inl c) = split (Contains-append_cases earlier (x ∷ []) m c)
-      go (inr c) = inr (contains-later x ns m c)
+  earlier-used earlier (x ∷ ns) u n m (suc k, l, e) d =
+      ⊎_elim (λ c. ⊎_elim inl (λ c. inr (0, omega arith, one-contained x m c)) (Contains-append_cases earlier (x ∷ []) m c)) (λ c. inr (contains-later x ns m c))
+      (earlier-used (earlier ++ x ∷ []) ns u.1 n m (k, omega (arith, l), e) d)

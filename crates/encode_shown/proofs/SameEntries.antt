@@ -1,12 +1,10 @@
 -- Lists of the same entries make the same finite map, where a name has one meaning.
-use Rattle.std.proofs.Common.{◌≡◌, refl, sym, ap, ◌∙◌, zero, suc, Bool, true, false, cond, List, [], ◌∷◌, Option, Some, None, arith}
+use Rattle.std.proofs.Common.{◌≡◌, refl, sym, ap, ◌∙◌, List, Option, Some, None}
 use Rattle.std.specs.List.{Contains}
-use Rattle.std.specs.Ordering.{eq_by_cmp}
 use Rattle.std.specs.FinMap.{find, from_entries, get-from_entries, same_map, slice_cmp-IsAntisymmetric, nat_cmp-IsAntisymmetric}
-use Rattle.std.proofs.lemmas.Cmp.{nat_list_cmp_total, nat_list_eq_equiv}
+use Rattle.std.proofs.lemmas.Cmp.{nat_list_cmp_total}
 use Rattle.wit_model.specs.Text.{Text, TextMap, text_cmp}
-use Rattle.wit_model.proofs.AnyOrder.{same-text, found-there}
-use Rattle.wit_model.proofs.Elements.{none-in}
+use Rattle.wit_model.proofs.AnyOrder.{found-there}
 use Rattle.wit_model.proofs.Maps.{there_some as found-some}
 
 module _ {X : Type 0} where

@@ -1,5 +1,5 @@
 -- Sights of interfaces of a valid `Resolve` agree, obey the rules, and together mean the interfaces.
-use Rattle.std.proofs.Common.{◌≡◌, refl, sym, subst, ap, ◌∙◌, ℕ, Bool, true, false, not, ◌&&◌, ◌||◌, cond, List, [], ◌∷◌, length, Some}
+use Rattle.std.proofs.Common.{◌≡◌, refl, sym, subst, ap, ◌∙◌, ℕ, Bool, true, false, ◌&&◌, ◌||◌, cond, List, [], ◌∷◌, length, Some}
 use Rattle.std.specs.Prelude.{IsPermutation, if◌then◌else◌}
 use Rattle.std.specs.Option.{option_map_or}
 use Rattle.std.specs.Cmp.Lexicographic.{pointwise}
@@ -23,6 +23,7 @@ use Rattle.encode_shown.specs.Views.{home_of, ShowsTypes, ShowsInterface}
 use Rattle.encode_shown.specs.Views as views
 use Rattle.encode_shown.proofs.Alike.{list-alike, shown-alike, function-alike}
 use Rattle.encode_shown.proofs.Interfaces.{interface-obeys, interface-means, types-obey, types-mean}
+use Rattle.encode_shown.proofs.Basics.{implied}
 use Rattle.encode_shown.proofs.Zips.{zip-left}
 use Rattle.base_lemmas.proofs.Bools.{left_of as first_true, right_of as second_true}
 use Rattle.base_lemmas.proofs.Elements.{all_pass as all-from}
@@ -47,7 +48,7 @@ module _ (r : Resolve) where
 
   sight-functions : (n : ℕ) (whole : Bool) (view : View) → ShowsAs r n whole view → whole ≡ true → IsPermutation (its_functions r n) view.functions
   sight-functions n true view shows e = shows.functions
-  sight-functions n false view shows e = let wrong : ⊥ = cc in absurd wrong
+  sight-functions n false view shows e = absurd cc
 
   stands-in : (xs ys : List (Text × FunctionMeaning)) → ((x : Text × FunctionMeaning) → Contains xs x → Contains ys x) → stand_in same_function xs ys ≡ true
   stands-in xs ys h = all-from (λ x. list_any (λ y. text_eq x.0 y.0 && same_function x.1 y.1) ys) xs (λ x c.
@@ -62,31 +63,21 @@ module _ (r : Resolve) where
 
   module _ (v : IsValid r) where
     sights-agree : (m n : ℕ) (s t : Sight) → IsSight r m s → IsSight r n t → agree s t ≡ true
-    sights-agree m n s t is other = go (text_eq s.path t.path) refl
+    sights-agree m n s t is other = implied (text_eq s.path t.path) _ (λ e.
+        let same : m ≡ n = path-once r v m n s.path is.has_path (other.has_path ∙ ap Some (sym (text-same s.path t.path e))) in
+        both _ _ (types same) (implied (s.whole && t.whole) _ (λ w. orders-same (its_functions r n) s.view.functions t.view.functions
+        (subst (λ k. IsPermutation (its_functions r k) s.view.functions) same (sight-functions m s.whole s.view is.shows (first_true s.whole t.whole w)))
+        (sight-functions n t.whole t.view other.shows (second_true s.whole t.whole w)))))
       where
         types : m ≡ n → pointwise same_shown s.view.types t.view.types ≡ true
         types e = (λ j. pointwise same_shown (sight-types m s.whole s.view is.shows j) (sight-types n t.whole t.view other.shows j))
             ∙ ap (λ k. pointwise same_shown (option_map_or (views.types_of r k) (interface_at r k) []) (option_map_or (views.types_of r n) (interface_at r n) [])) e
             ∙ list-alike same_shown shown-alike (option_map_or (views.types_of r n) (interface_at r n) [])
 
-        functions : m ≡ n → (a b : Bool) → s.whole ≡ a → t.whole ≡ b → (not (a && b) || same_functions s.view.functions t.view.functions) ≡ true
-        functions e true true p q = orders-same (its_functions r n) s.view.functions t.view.functions
-            (subst (λ k. IsPermutation (its_functions r k) s.view.functions) e (sight-functions m s.whole s.view is.shows p)) (sight-functions n t.whole t.view other.shows q)
-        functions e true false p q = refl
-        functions e false b p q = refl
-
-        go : (b : Bool) → text_eq s.path t.path ≡ b
-            → (not b || (pointwise same_shown s.view.types t.view.types && (not (s.whole && t.whole) || same_functions s.view.functions t.view.functions))) ≡ true
-        go false e = refl
-        go true e =
-            let same : m ≡ n = path-once r v m n s.path is.has_path (other.has_path ∙ ap Some (sym (text-same s.path t.path e))) in
-            both _ _ (types same) (functions same s.whole t.whole refl refl)
-
     pub all-sights-agree : (ns : List ℕ) (ss : List Sight) → AllZip (IsSight r) ns ss → all_agree ss ≡ true
     all-sights-agree [] [] z = refl
-    all-sights-agree [] (s ∷ ss) z = absurd z
-    all-sights-agree (n ∷ ns) [] z = absurd z
     all-sights-agree (n ∷ ns) (s ∷ ss) z = both _ _ (all-from (agree s) ss (λ t c. let from = zip-left (IsSight r) ns ss t z.1 c in sights-agree n from.0 s t z.0 from.2)) (all-sights-agree ns ss z.1)
+    all-sights-agree _ _ z = absurd z
 
     sight-obeys : (n : ℕ) (s : Sight) → IsSight r n s → is_interface (Place.of_interface s.path) s.view ≡ true
     sight-obeys n s is = ap (λ o. is_interface (place_of_path o) s.view) (sym is.has_path) ∙ go s.whole is.shows
@@ -106,9 +97,7 @@ module _ (r : Resolve) where
 
     functions-found : (ns : List ℕ) (ss : List Sight) → AllZip (IsSight r) ns ss → (n : ℕ) (path : Text) → interface_path r n ≡ Some path → is_seen_whole ss path ≡ true
         → IsPermutation (its_functions r n) (functions_of path ss)
-    functions-found [] [] z n path e h = let wrong : ⊥ = cc in absurd wrong
-    functions-found [] (s ∷ ss) z n path e h = absurd z
-    functions-found (m ∷ ns) [] z n path e h = absurd z
+    functions-found [] [] z n path e h = absurd cc
     functions-found (m ∷ ns) (s ∷ ss) z n path e h = go (functions-found ns ss z.1 n path e) (text_eq path s.path && s.whole) refl h
       where
         go : (is_seen_whole ss path ≡ true → IsPermutation (its_functions r n) (functions_of path ss)) → (b : Bool) → (text_eq path s.path && s.whole) ≡ b → (b || is_seen_whole ss path) ≡ true
@@ -117,22 +106,19 @@ module _ (r : Resolve) where
             let same : m ≡ n = path-once r v m n path (z.0.has_path ∙ ap Some (sym (text-same path s.path (first_true (text_eq path s.path) s.whole q)))) e in
             subst (λ k. IsPermutation (its_functions r k) s.view.functions) same (sight-functions m s.whole s.view z.0.shows (second_true (text_eq path s.path) s.whole q))
         go more false q h = more h
+    functions-found _ _ z n path e h = absurd z
 
     functions-missing : (ss : List Sight) (path : Text) → is_seen_whole ss path ≡ false → functions_of path ss ≡ []
     functions-missing [] path h = refl
     functions-missing (s ∷ ss) path h = go (text_eq path s.path && s.whole) (functions-missing ss path) h
       where
         go : (b : Bool) → (is_seen_whole ss path ≡ false → functions_of path ss ≡ []) → (b || is_seen_whole ss path) ≡ false → cond b s.view.functions (functions_of path ss) ≡ []
-        go true more h = let wrong : ⊥ = cc in absurd wrong
+        go true more h = absurd cc
         go false more h = more h
 
     -- what an interface means whose functions may be seen
     abbrev pub meaning_as : ℕ → Bool → InterfaceMeaning
     meaning_as n whole = if whole then interface_meaning_at r n else types_alone (interface_meaning_at r n)
-
-    -- views with the same types mean the same with the same functions
-    with-types : (view other : View) (functions : List (Text × FunctionMeaning)) → view.types ≡ other.types → interface_meaning view functions ≡ interface_meaning other functions
-    with-types view other functions e = λ j. interface_meaning (record { types = e j; functions = functions }) functions
 
     pub sight-means : (ns : List ℕ) (ss : List Sight) → AllZip (IsSight r) ns ss → (n : ℕ) (s : Sight) → IsSight r n s → (whole : Bool) → is_seen_whole ss s.path ≡ whole
         → seen_meaning ss s ≡ (s.path, meaning_as n whole)

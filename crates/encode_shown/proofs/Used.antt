@@ -1,22 +1,19 @@
 -- The paths that a declaration uses are those of the interfaces that it uses.
-use Rattle.std.proofs.Common.{◌≡◌, ◌⊎◌, inl, inr, refl, sym, subst, ap, ◌∙◌, ℕ, suc, zero, Bool, true, false, not, ◌&&◌, ◌||◌, ◌==◌, cond, nat_lt, List, [], ◌∷◌, Option, Some, None, String, arith}
+use Rattle.std.proofs.Common.{◌≡◌, ◌⊎◌, inl, inr, refl, sym, subst, ap, ◌∙◌, ℕ, suc, zero, Bool, true, false, ◌&&◌, ◌||◌, ◌==◌, cond, List, [], ◌∷◌, Option, Some, None, String, arith}
 use Rattle.std.specs.declared.alloc.Global.{Global}
-use Rattle.std.specs.Prelude.{is_some, option_and_then, option_to_list, flat_map}
+use Rattle.std.specs.Prelude.{option_and_then, option_to_list, flat_map}
 use Rattle.std.specs.List.{Contains, list_all}
 use Rattle.std.specs.Option.{option_map_or}
-use Rattle.std.proofs.lemmas.Bool.{lt-ltb}
-use Rattle.std.proofs.lemmas.Option.{slice_get_within}
+use Rattle.std.proofs.lemmas.Bool.{both_ways}
 use Rattle.std.proofs.lemmas.Cmp.{nat_list_eq_equiv}
 use Rattle.indexmap.specs.IndexMap.{values}
 use Rattle.wit_model.specs.Text.{Text, text_of, text_eq}
-use Rattle.wit_model.specs.Tree.{Tree, Declaration, type_, named}
+use Rattle.wit_model.specs.Tree.{Tree, type_, named}
 use Rattle.wit_model.specs.Types.{declared_by, trees_of, type_tree, declaration_of}
 use Rattle.wit_model.specs.Lookup.{type_at, interface_at, interface_path, place_of, place_of_path}
-use Rattle.wit_model.specs.Parts.{kind_numbers}
 use Rattle.wit_model.specs.Meant.{type_meaning_at, no_type, type_meaning}
 use Rattle.wit_model.specs.Uses.{has, alias_target, owner_interface, used_interface, interface_used_by, direct_deps}
-use Rattle.wit_model.specs.Rules.{is_named_kind, is_named_number, passes}
-use Rattle.wit_model.specs.Valid.{IsValid, named_kinds}
+use Rattle.wit_model.specs.Valid.{IsValid}
 use Rattle.wit_model.specs.declared.model.Resolve.{Resolve}
 use Rattle.wit_model.specs.declared.model.Interface.{Interface}
 use Rattle.wit_model.specs.declared.model.TypeDef.{TypeDef}
@@ -29,20 +26,18 @@ use Rattle.wit_model.specs.declared.model.TypeOwner.TheVariants as owner
 use Rattle.wit_model.specs.declared.model.«Type».{«Type» as ValueType}
 use Rattle.wit_model.specs.declared.model.«Type».TheVariants as ty
 use Rattle.wit_model.proofs.Shown.{deps_pass}
-use Rattle.wit_model.proofs.TreeTable.{kept_numbers}
 use Rattle.wit_model.proofs.Elements.{none-in, has-contains, contains-has}
-use Rattle.wit_model.proofs.OnePath.{found-in}
 use Rattle.comp_meaning.specs.Follow.{View, ShownType}
 use Rattle.comp_meaning.specs.Rules.{used_by, used_by_view, others_than}
 use Rattle.encode_shown.specs.Views.{shown_type, home_of, types_of}
 use Rattle.encode_shown.proofs.Children.{is_alias}
-use Rattle.encode_shown.proofs.Parts.{named-tree}
+use Rattle.std.proofs.Math.Logic.{⊎_elim}
+use Rattle.encode_shown.proofs.Basics.{bool-cases, option-cases}
+use Rattle.encode_shown.proofs.Parts.{alias-target}
 use Rattle.encode_shown.proofs.Members.{meaning-there}
-use Rattle.base_lemmas.proofs.Bools.{left_of as first_true, right_of as second_true}
-use Rattle.base_lemmas.proofs.Elements.{all-contained, all_pass as all-from, contains-later, contains-map, contains-one, last_of as one-contained, map_from as contains-mapped}
+use Rattle.base_lemmas.proofs.Bools.{left_of as first_true}
+use Rattle.base_lemmas.proofs.Elements.{all-contained, all_pass as all-from, contains-later, contains-map, last_of as one-contained, map_from as contains-mapped}
 use Rattle.base_lemmas.proofs.Numbers.{equal}
-use Rattle.base_lemmas.proofs.Options.{there as some-of}
-use Rattle.wit_model.proofs.ValidLemmas.{type_passes as type-passes}
 
 -- the interface of this path, that a declaration uses
 pub record UsesPath (r : Resolve) (used : Option ℕ) (path : Text) : Type 0 where
@@ -51,85 +46,50 @@ pub record UsesPath (r : Resolve) (used : Option ℕ) (path : Text) : Type 0 whe
   pub has_path : interface_path r number ≡ Some path
 
 nothing-used : (trees : List Tree) (k : TypeDefKind) → is_alias k ≡ false → used_by (declared_by trees k) ≡ []
-nothing-used trees (kind.Type_ t) e = let wrong : ⊥ = cc in absurd wrong
-nothing-used trees kind.Resource e = refl
+nothing-used trees (kind.Type_ t) e = absurd cc
 nothing-used trees (kind.Handle (handle.Own id)) e = refl
-nothing-used trees (kind.Handle (handle.Borrow id)) e = refl
 nothing-used trees _ e = refl
 
 pub contains-flat-from : {A B : Type 0} (f : A → List B) (xs : List A) (y : B) → Contains (flat_map f xs) y → (x : A) × Contains xs x × Contains (f x) y
 contains-flat-from f [] y c = none-in y c
-contains-flat-from f (x ∷ xs) y c = go (contains-flat-from f xs y) (Rattle.std.proofs.lemmas.List.Elements.Contains-append_cases (f x) (flat_map f xs) y c)
-  where
-    go : (Contains (flat_map f xs) y → (z : _) × Contains xs z × Contains (f z) y) → Contains (f x) y ⊎ Contains (flat_map f xs) y → (z : _) × Contains (x ∷ xs) z × Contains (f z) y
-    go more (inl h) = (x, (0, omega arith, refl), h)
-    go more (inr h) = let rest = more h in (rest.0, contains-later x xs rest.0 rest.1, rest.2)
+contains-flat-from f (x ∷ xs) y c =
+    ⊎_elim (λ h. (x, (0, omega arith, refl), h)) (λ h. let rest = contains-flat-from f xs y h in (rest.0, contains-later x xs rest.0 rest.1, rest.2))
+    (Rattle.std.proofs.lemmas.List.Elements.Contains-append_cases (f x) (flat_map f xs) y c)
 
 module _ (r : Resolve) (v : IsValid r) where
   -- a name in the place of a path is of the interface of that path
   named-used : (a : TypeOwner) (name path : Text) → Contains (used_by (type_ (named (place_of r a) name))) path → UsesPath r (owner_interface a) path
-  named-used (owner.World w) name path c = none-in path c
-  named-used owner.None name path c = none-in path c
   named-used (owner.Interface i) name path c = go (interface_path r i.0) refl c
     where
       go : (o : Option Text) → interface_path r i.0 ≡ o → Contains (used_by (type_ (named (place_of_path o) name))) path → UsesPath r (Some i.0) path
       go None e c = none-in path c
       go (Some p) e c = record { number = i.0; is = refl; has_path = e ∙ ap Some (one-contained p path c) }
+  named-used _ name path c = none-in path c
 
-  pub path-used : (n : ℕ) (def : TypeDef) (path : Text) → type_at r n ≡ Some def → Contains (used_by (declaration_of r def)) path → UsesPath r (used_interface r def) path
-  unfolding named_kinds
-  path-used n def path at c = go def.kind refl
+  path-used : (n : ℕ) (def : TypeDef) (path : Text) → type_at r n ≡ Some def → Contains (used_by (declaration_of r def)) path → UsesPath r (used_interface r def) path
+  path-used n def path at c = go def.kind refl c
     where
-      of-target : (id : TypeId) → def.kind ≡ kind.Type_ (ty.Id id) → UsesPath r (used_interface r def) path
-      of-target id e =
-          let below = all-contained (λ m. nat_lt m n) (kind_numbers def.kind) id.0 (kept_numbers r v.rules n def at) (subst (λ k. Contains (kind_numbers k) id.0) (sym e) (contains-one id.0)) in
-          let less = Rattle.std.proofs.lemmas.Bool.ltb-true id.0 n below in
-          let inside = slice_get_within r.types.items n def at in
-          let found = found-in r.types.items id.0 (lt-ltb id.0 (Rattle.std.proofs.Common.length r.types.items) (omega (arith, less, inside))) in
-          let target = second_true (not (is_named_kind def.kind) || is_some def.name) (passes (is_named_number r) (alias_target def.kind)) (type-passes named_kinds r v.rules.named_kinds n def at) in
-          let named_ = ap (passes (λ (d : TypeDef). is_some d.name)) (sym found.1) ∙ (ap (λ k. passes (is_named_number r) (alias_target k)) (sym e) ∙ target) in
-          let name = some-of found.0.name named_ in
-          let tree : declaration_of r def ≡ type_ (named (place_of r found.0.owner) (text_of name.0)) =
-          ap (declared_by (trees_of r)) e ∙ ap type_ (named-tree r v id.0 found.0 name.0 found.1 name.1) in
-          let uses = named-used found.0.owner (text_of name.0) path (subst (λ (d : Declaration). Contains (used_by d) path) tree c) in
-          let interface : used_interface r def ≡ owner_interface found.0.owner =
+      target : (t : ValueType) → def.kind ≡ kind.Type_ t → Contains (used_by (type_ (type_tree r t))) path → UsesPath r (used_interface r def) path
+      target (ty.Id id) e c =
+          let to = alias-target r v n def at id e in
+          let uses = named-used to.def.owner (text_of to.string) path (subst (λ (t : Tree). Contains (used_by (type_ t)) path) to.tree c) in
+          let interface : used_interface r def ≡ owner_interface to.def.owner =
           ap (λ k. option_and_then (λ t. option_and_then (λ (d : TypeDef). owner_interface d.owner) (type_at r t)) (alias_target k)) e
-          ∙ ap (option_and_then (λ (d : TypeDef). owner_interface d.owner)) found.1 in
+          ∙ ap (option_and_then (λ (d : TypeDef). owner_interface d.owner)) to.there in
           record { number = uses.number; is = interface ∙ uses.is; has_path = uses.has_path }
+      target _ e c = none-in path c
 
-      no-target : (t : ValueType) → def.kind ≡ kind.Type_ t → Contains (used_by (type_ (type_tree r t))) path → UsesPath r (used_interface r def) path
-      no-target (ty.Id id) e c = of-target id e
-      no-target ty.Bool e c = none-in path c
-      no-target ty.U8 e c = none-in path c
-      no-target ty.U16 e c = none-in path c
-      no-target ty.U32 e c = none-in path c
-      no-target ty.U64 e c = none-in path c
-      no-target ty.S8 e c = none-in path c
-      no-target ty.S16 e c = none-in path c
-      no-target ty.S32 e c = none-in path c
-      no-target ty.S64 e c = none-in path c
-      no-target ty.F32 e c = none-in path c
-      no-target ty.F64 e c = none-in path c
-      no-target ty.Char e c = none-in path c
-      no-target ty.String e c = none-in path c
-      no-target ty.ErrorContext e c = none-in path c
-
-      plain : is_alias def.kind ≡ false → UsesPath r (used_interface r def) path
-      plain e = none-in path (subst (λ (ps : List Text). Contains ps path) (nothing-used (trees_of r) def.kind e) c)
-
-      go : (k : TypeDefKind) → def.kind ≡ k → UsesPath r (used_interface r def) path
-      go (kind.Type_ t) e = no-target t e (subst (λ k. Contains (used_by (declared_by (trees_of r) k)) path) e c)
-      go _ e = plain (ap is_alias e)
+      go : (k : TypeDefKind) → def.kind ≡ k → Contains (used_by (declared_by (trees_of r) k)) path → UsesPath r (used_interface r def) path
+      go (kind.Type_ t) e c = target t e c
+      go k e c = none-in path (subst (λ (ps : List Text). Contains ps path) (nothing-used (trees_of r) k refl) c)
 
   -- the same by the number of the type
   pub number-used : (n : ℕ) (path : Text) → Contains (used_by (type_meaning_at r n).declaration) path → UsesPath r (interface_used_by r n) path
-  number-used n path c = go (type_at r n) refl
-    where
-      go : (o : Option TypeDef) → type_at r n ≡ o → UsesPath r (interface_used_by r n) path
-      go None e = none-in path (subst (λ o. Contains (used_by (option_map_or (type_meaning r) o no_type).declaration) path) e c)
-      go (Some def) e =
-          let uses = path-used n def path e (subst (λ m. Contains (used_by m.declaration) path) (meaning-there r n def e) c) in
-          record { number = uses.number; is = ap (option_and_then (used_interface r)) e ∙ uses.is; has_path = uses.has_path }
+  number-used n path c = option-cases (type_at r n)
+      (λ e. none-in path (subst (λ o. Contains (used_by (option_map_or (type_meaning r) o no_type).declaration) path) e c))
+      (λ def e.
+      let uses = path-used n def path e (subst (λ m. Contains (used_by m.declaration) path) (meaning-there r n def e) c) in
+      record { number = uses.number; is = ap (option_and_then (used_interface r)) e ∙ uses.is; has_path = uses.has_path })
 
   -- ---- interfaces
 
@@ -148,27 +108,20 @@ module _ (r : Resolve) (v : IsValid r) where
   pub view-used : (n : ℕ) (view : View) → view.types ≡ option_map_or (types_of r n) (interface_at r n) [] → (path : Text) → Contains (used_by_view view) path
       → (interface_path r n ≡ Some path) ⊎ ((m : ℕ) × Contains (direct_deps r n) m × (interface_path r m ≡ Some path))
   view-used n view types path c = go (interface_at r n) refl
+      (contains-flat-from (λ (t : ShownType). used_by t.meaning.declaration) _ path (subst (λ (ts : List ShownType). Contains (flat_map (λ t. used_by t.meaning.declaration) ts) path) types c))
     where
-      used_types : List ShownType → List Text
-      used_types ts = flat_map (λ t. used_by t.meaning.declaration) ts
-
-      go : (o : Option Interface) → interface_at r n ≡ o → (interface_path r n ≡ Some path) ⊎ ((m : ℕ) × Contains (direct_deps r n) m × (interface_path r m ≡ Some path))
-      go None e = none-in path (subst (λ (ts : List ShownType). Contains (used_types ts) path) (types ∙ ap (λ o. option_map_or (types_of r n) o []) e) c)
-      go (Some i) e =
-          let there = subst (λ (ts : List ShownType). Contains (used_types ts) path) (types ∙ ap (λ o. option_map_or (types_of r n) o []) e) c in
-          let shown = contains-flat-from (λ (t : ShownType). used_by t.meaning.declaration) (types_of r n i) path there in
+      go : (o : Option Interface) → interface_at r n ≡ o → (t : ShownType) × Contains (option_map_or (types_of r n) o []) t × Contains (used_by t.meaning.declaration) path
+          → (interface_path r n ≡ Some path) ⊎ ((m : ℕ) × Contains (direct_deps r n) m × (interface_path r m ≡ Some path))
+      go None e shown = none-in shown.0 shown.1
+      go (Some i) e shown =
           let entry = contains-mapped (shown_type r (home_of r n)) i.types.entries shown.0 shown.1 in
           let uses = number-used entry.0.1.0 path (subst (λ (t : ShownType). Contains (used_by t.meaning.declaration) path) (sym entry.2) shown.2) in
-          found entry.0 entry.1 uses.number uses.is uses.has_path (uses.number == n) refl
-        where
-          found : (x : String Global × TypeId) → Contains i.types.entries x → (m : ℕ) → interface_used_by r x.1.0 ≡ Some m → interface_path r m ≡ Some path → (b : Bool) → (m == n) ≡ b
-              → (interface_path r n ≡ Some path) ⊎ ((m : ℕ) × Contains (direct_deps r n) m × (interface_path r m ≡ Some path))
-          found x d m u p true q = inl (subst (λ (k : ℕ). interface_path r k ≡ Some path) (equal m n q) p)
-          found x d m u p false q = inr (m, used-dependency n i e x d m u q, p)
+          bool-cases (uses.number == n) (λ q. inl (subst (λ (k : ℕ). interface_path r k ≡ Some path) (equal uses.number n q) uses.has_path))
+          (λ q. inr (uses.number, used-dependency n i e entry.0 entry.1 uses.number uses.is q, uses.has_path))
 
 -- what is used besides itself
 pub others-used : (own : Option Text) (ps : List Text) (p : Text) → Contains (others_than own ps) p → Contains ps p × ((own ≡ Some p) → ⊥)
-others-used None ps p c = (c, λ e. let wrong : ⊥ = cc in wrong)
+others-used None ps p c = (c, λ e. cc)
 others-used (Some own) [] p c = none-in p c
 others-used (Some own) (q ∷ ps) p c = go (others-used (Some own) ps p) (text_eq own q) refl c
   where
@@ -177,9 +130,6 @@ others-used (Some own) (q ∷ ps) p c = go (others-used (Some own) ps p) (text_e
     go more true e c = let rest = more c in (contains-later q ps p rest.0, rest.1)
     go more false e (zero, l, h) = (
       (0, omega arith, h),
-      λ s.
-          let same : own ≡ q = ap (λ o. Rattle.std.proofs.Common.unwrap_or o own) s ∙ sym h in
-          let wrong : true ≡ false = sym (nat_list_eq_equiv.refl q) ∙ ap (λ t. text_eq t q) (sym same) ∙ e in
-          let z : ⊥ = cc in z,
+      λ s. both_ways (text_eq own q) e (ap (λ o. text_eq (Rattle.std.proofs.Common.unwrap_or o own) q) s ∙ ap (text_eq p) h ∙ nat_list_eq_equiv.refl p),
     )
     go more false e (suc k, l, h) = let rest = more (k, omega (arith, l), h) in (contains-later q ps p rest.0, rest.1)

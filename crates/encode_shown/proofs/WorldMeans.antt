@@ -17,7 +17,7 @@ use Rattle.wit_model.specs.Uses.{item_interface, shown_by}
 use Rattle.wit_model.specs.Meaning.{InterfaceMeaning, Item}
 use Rattle.wit_model.specs.Meant as meant
 use Rattle.wit_model.specs.Meant.{interface_meaning_at, item_meaning, item_external_id, entry_meaning, entries_meaning, package_of_world}
-use Rattle.wit_model.specs.Rules.{is_id, package_number, interface_is_listed, world_is_listed, is_world_name}
+use Rattle.wit_model.specs.Rules.{is_id, package_number, world_is_listed, is_world_name}
 use Rattle.wit_model.specs.Valid.{IsValid, labels, places}
 use Rattle.wit_model.specs.declared.model.Resolve.{Resolve}
 use Rattle.wit_model.specs.declared.model.Package.{Package}
@@ -31,7 +31,7 @@ use Rattle.wit_model.specs.declared.model.WorldItem.TheVariants as item
 use Rattle.wit_model.proofs.Lists.{lookup_any}
 use Rattle.wit_model.proofs.NameLaws.{one_path}
 use Rattle.wit_model.proofs.VersionLaws.{same_name}
-use Rattle.wit_model.proofs.OnePath.{HasPath, has-path, path-label, package-name, package-once, given-test, interface-passes}
+use Rattle.wit_model.proofs.OnePath.{HasPath, has-path, path-label, package-name, package-once, given-test}
 use Rattle.comp_meaning.specs.Follow.{View, Seen, Shown, Instance, Scope, interface_of}
 use Rattle.comp_meaning.specs.Reads.{Sight, of_instance, item_of, entry, world_meaning, seen_meaning, world_with, interface_meaning}
 use Rattle.comp_meaning.specs.Follow.{provided}
@@ -42,8 +42,10 @@ use Rattle.encode_shown.proofs.Items.{has_home, instance-home, entry-home}
 use Rattle.encode_shown.proofs.Worlds.{imports-are, exports-are, all-shown, all-entries}
 use Rattle.encode_shown.proofs.Sights.{IsSight, all-sights-agree, all-sights-obey, is_seen_whole, sight-means}
 use Rattle.base_lemmas.proofs.Bools.{left_of as first_true, right_of as second_true}
-use Rattle.base_lemmas.proofs.Elements.{contains-later}
-use Rattle.std.proofs.lemmas.Bool.{and_from as both, not-true as no-longer}
+use Rattle.encode_shown.proofs.Basics.{given-by}
+use Rattle.encode_shown.proofs.Owning.{interface-unnamed}
+use Rattle.base_lemmas.proofs.Elements.{contains-later, zip-kept}
+use Rattle.std.proofs.lemmas.Bool.{and_from as both, both_ways, false_from_ne_true}
 use Rattle.std.proofs.lemmas.Option.{same_Some as some-same}
 use Rattle.wit_model.proofs.TextLemmas.{text_alike as text-alike, text_same as text-same}
 use Rattle.wit_model.proofs.ValidLemmas.{world_passes as world-passes}
@@ -53,25 +55,23 @@ module _ (r : Resolve) (v : IsValid r) (n : ℕ) where
 
   instance-means : (k : WorldKey) (o : Option Text) (view : View) (i : InterfaceMeaning) → has_home k o ≡ true → interface_meaning view view.functions ≡ i
       → item_of (Shown.instance (instance_key k o) view) ≡ option_map_or Item.interface o (Item.inline i)
-  instance-means (key.Interface id) None view i h e = let wrong : ⊥ = cc in absurd wrong
+  instance-means (key.Interface id) None view i h e = absurd cc
   instance-means (key.Interface id) (Some path) view i h e = refl
   instance-means (key.Name name) None view i h e = ap Item.inline e
   instance-means (key.Name name) (Some path) view i h e = refl
 
   item-means : (k : WorldKey) (i : WorldItem) (view : View) → IsEntry r n (k, i) → IsViewOf r i view → item_of (shown_item r k i view) ≡ item_meaning r i
-  item-means k (item.Function f) view is shows = refl
-  item-means k (item.Type_ id) view is shows = refl
   item-means k (item.Interface id stability docs external_id) view is shows =
       instance-means k (interface_path r id.0) view (interface_meaning_at r id.0) (entry-home r v n k (item.Interface id stability docs external_id) is id.0 refl) (interface-means r v id.0 view shows)
+  item-means k _ view is shows = refl
 
   entry-means : (e : WorldKey × WorldItem) (s : Seen) → IsEntry r n e → ShowsItem r e s → entry s ≡ (key_text r e.0, entry_meaning r e.1)
   entry-means e s is shows = ap entry shows.is ∙ (λ j. (key_text r e.0, record { item = item-means e.0 e.1 shows.view is shows.is_view j; external_id = item_external_id r e.1 }))
 
   entries-mean : (es : List (WorldKey × WorldItem)) (ss : List Seen) → AllZip (ShowsItem r) es ss → ((e : WorldKey × WorldItem) → Contains es e → IsEntry r n e) → map entry ss ≡ entries_meaning r es
   entries-mean [] [] z entries = refl
-  entries-mean [] (s ∷ ss) z entries = absurd z
-  entries-mean (e ∷ es) [] z entries = absurd z
   entries-mean (e ∷ es) (s ∷ ss) z entries = λ j. entry-means e s (entries e (0, omega arith, refl)) z.0 j ∷ entries-mean es ss z.1 (λ x c. entries x (contains-later e es x c)) j
+  entries-mean _ _ z entries = absurd z
 
   -- ---- sights
 
@@ -95,22 +95,15 @@ module _ (r : Resolve) (v : IsValid r) (n : ℕ) where
 
   item-sight : (k : WorldKey) (i : WorldItem) (view : View) → IsEntry r n (k, i) → IsViewOf r i view → (is : List WorldItem) (ss : List Sight) → AllZip IsWhole (named_in is) ss
       → AllZip IsWhole (named_in (i ∷ is)) (flat_map of_instance (instances_of (shown_item r k i view)) ++ ss)
-  item-sight k (item.Function f) view entry shows is ss z = z
-  item-sight k (item.Type_ id) view entry shows is ss z = z
   item-sight k (item.Interface id stability docs external_id) view entry shows is ss z =
       let home = instance-home k (interface_path r id.0) (entry-home r v n k (item.Interface id stability docs external_id) entry id.0 refl) in
-      subst (λ (xs : List Sight). AllZip IsWhole (named_in (item.Interface id stability docs external_id ∷ is)) xs)
-      (seam (of_instance (record { interface = interface_of (instance_key k (interface_path r id.0)); view = view })) ss)
+      subst (λ (xs : List Sight). AllZip IsWhole (named_in (item.Interface id stability docs external_id ∷ is)) (xs ++ ss)) (sym (Rattle.std.proofs.Common.append-nil _))
       (one-sight id.0 view (interface_of (instance_key k (interface_path r id.0))) (sym home) shows (filter_map item_interface is) ss z)
-    where
-      seam : (xs ss : List Sight) → xs ++ ss ≡ (xs ++ []) ++ ss
-      seam xs ss = ap (λ ys. ys ++ ss) (sym (Rattle.std.proofs.Common.append-nil xs))
+  item-sight k _ view entry shows is ss z = z
 
   entries-sights : (es : List (WorldKey × WorldItem)) (ts : List Seen) → AllZip (ShowsItem r) es ts → ((e : WorldKey × WorldItem) → Contains es e → IsEntry r n e)
       → AllZip IsWhole (named_in (map (λ e. e.1) es)) (flat_map of_instance (flat_map (λ (s : Seen). instances_of s.shown) ts))
   entries-sights [] [] z entries = tt
-  entries-sights [] (t ∷ ts) z entries = absurd z
-  entries-sights (e ∷ es) [] z entries = absurd z
   entries-sights (e ∷ es) (t ∷ ts) z entries =
       let rest = entries-sights es ts z.1 (λ x c. entries x (contains-later e es x c)) in
       let shown : t.shown ≡ shown_item r e.0 e.1 z.0.view = ap (λ (x : Seen). x.shown) z.0.is in
@@ -119,19 +112,11 @@ module _ (r : Resolve) (v : IsValid r) (n : ℕ) where
       ((λ j. flat_map of_instance (instances_of (sym shown j)) ++ flat_map of_instance (flat_map (λ (s : Seen). instances_of s.shown) ts))
       ∙ sym (flat_map-append of_instance (instances_of t.shown) (flat_map (λ (s : Seen). instances_of s.shown) ts)))
       this
-
-  forget : (ms : List ℕ) (ss : List Sight) → AllZip IsWhole ms ss → AllZip (IsSight r) ms ss
-  forget [] [] z = tt
-  forget [] (s ∷ ss) z = absurd z
-  forget (m ∷ ms) [] z = absurd z
-  forget (m ∷ ms) (s ∷ ss) z = (z.0.is, forget ms ss z.1)
-
+  entries-sights _ _ z entries = absurd z
   -- each is seen whole
   wholes-mean : (all : List Sight) (ns : List ℕ) → AllZip (IsSight r) ns all → (ms : List ℕ) (ss : List Sight) → AllZip IsWhole ms ss → ((s : Sight) → Contains ss s → Contains all s)
       → map (seen_meaning all) ss ≡ map (λ m. (unwrap_or (interface_path r m) [], interface_meaning_at r m)) ms
   wholes-mean all ns w [] [] z c = refl
-  wholes-mean all ns w [] (s ∷ ss) z c = absurd z
-  wholes-mean all ns w (m ∷ ms) [] z c = absurd z
   wholes-mean all ns w (m ∷ ms) (s ∷ ss) z c =
       let there = c s (0, omega arith, refl) in
       let whole : is_seen_whole r v all s.path ≡ true = list_any_at (λ (t : Sight). text_eq s.path t.path && t.whole) all there.0 s there.1
@@ -139,6 +124,7 @@ module _ (r : Resolve) (v : IsValid r) (n : ℕ) where
       let this : seen_meaning all s ≡ (unwrap_or (interface_path r m) [], interface_meaning_at r m) =
       sight-means r v ns all w m s z.0.is true whole ∙ (λ j. (unwrap_or (sym z.0.is.has_path j) [], interface_meaning_at r m)) in
       λ j. this j ∷ wholes-mean all ns w ms ss z.1 (λ t d. c t (contains-later s ss t d)) j
+  wholes-mean all ns w _ _ z c = absurd z
 
   -- ---- the world
 
@@ -160,7 +146,7 @@ module _ (r : Resolve) (v : IsValid r) (n : ℕ) where
         (map-append (λ e. e.1) w.imports.entries w.exports.entries) all)
 
     pub seen-sights : AllZip (IsSight r) (shown_by r w) seen
-    seen-sights = forget (shown_by r w) seen seen-whole
+    seen-sights = zip-kept IsWhole (IsSight r) (λ m s h. h.is) (shown_by r w) seen seen-whole
 
     shown-mean : map (seen_meaning seen) seen ≡ map (λ m. (unwrap_or (interface_path r m) [], interface_meaning_at r m)) (shown_by r w)
     shown-mean = wholes-mean seen (shown_by r w) seen-sights (shown_by r w) seen seen-whole (λ s c. c)
@@ -182,43 +168,25 @@ module _ (r : Resolve) (v : IsValid r) (n : ℕ) where
           ∙ found (get_by_text p.worlds (text_of w.name)) (given-test (world_is_listed n (text_of w.name)) (option_and_then (package_at r) (package_number w.package)) true p package_ rule)
         where
           found : (o : Option WorldId) → is_id n (option_map (λ id. id.0) o) ≡ true → is_some o ≡ true
-          found None h = let wrong : ⊥ = cc in absurd wrong
+          found None h = absurd cc
           found (Some id) h = refl
 
-      -- no interface of its package has it
-      interface-unnamed : (m : ℕ) (path : Text) (h : HasPath r m path) → h.package_ ≡ p → is_world_name p (text_of h.name) ≡ false
-      unfolding places
-      interface-unnamed m path h same =
-          let rule = second_true (is_some h.def.package) _ (interface-passes places r v.rules.places m h.def h.there) in
-          let home_of : option_and_then (package_at r) (package_number h.def.package) ≡ Some p = ap (λ o. option_and_then (package_at r) (package_number o)) h.in_package ∙ h.stands ∙ ap Some same in
-          no-longer (is_world_name p (text_of h.name)) (second_true (interface_is_listed m (text_of h.name) p) _
-          (given-test (λ p. interface_is_listed m (text_of h.name) p && not (is_world_name p (text_of h.name))) (option_and_then (package_at r) (package_number h.def.package)) true p home_of
-          (given-test (λ name. option_map_or (λ p. interface_is_listed m (text_of name) p && not (is_world_name p (text_of name))) (option_and_then (package_at r) (package_number h.def.package)) true)
-          h.def.name _ h.name h.named_ rule)))
-
       path-apart : (m : ℕ) (path : Text) → interface_path r m ≡ Some path → text_eq path (path_in (identity_of p.name) (text_of w.name)) ≡ false
-      path-apart m path e = go (text_eq path (path_in (identity_of p.name) (text_of w.name))) refl
-        where
-          h : HasPath r m path
-          h = has-path r m path e
-
-          go : (b : Bool) → text_eq path (path_in (identity_of p.name) (text_of w.name)) ≡ b → b ≡ false
-          go false q = refl
-          go true q =
-              let a = package-name r v h.home.0 h.package_ h.stands in
-              let b = package-name r v home.0 p stands in
-              let parts = one_path (identity_of h.package_.name) (identity_of p.name) (text_of h.name) (text_of w.name) a.identity (path-label r v m path h) b.identity world-label
-              (sym h.spelled ∙ text-same path (path_in (identity_of p.name) (text_of w.name)) q) in
-              let homes : home.0 ≡ h.home.0 = package-once r v h.home.0 home.0 h.package_ p h.stands stands ((same_name h.package_.name p.name a.version b.version).1 parts.0) in
-              let same : h.package_ ≡ p = some-same h.package_ p (sym h.stands ∙ ap (package_at r) (sym homes) ∙ stands) in
-              let wrong : true ≡ false = sym world-named ∙ ap (is_world_name p) (sym parts.1) ∙ interface-unnamed m path h same in
-              let z : ⊥ = cc in absurd z
+      path-apart m path e = false_from_ne_true _ (λ q.
+          let h : HasPath r m path = has-path r m path e in
+          let a = package-name r v h.home.0 h.package_ h.stands in
+          let b = package-name r v home.0 p stands in
+          let parts = one_path (identity_of h.package_.name) (identity_of p.name) (text_of h.name) (text_of w.name) a.identity (path-label r v m path h) b.identity world-label
+          (sym h.spelled ∙ text-same path (path_in (identity_of p.name) (text_of w.name)) q) in
+          let homes : home.0 ≡ h.home.0 = package-once r v h.home.0 home.0 h.package_ p h.stands stands ((same_name h.package_.name p.name a.version b.version).1 parts.0) in
+          let same : h.package_ ≡ p = some-same h.package_ p (sym h.stands ∙ ap (package_at r) (sym homes) ∙ stands) in
+          let apart = interface-unnamed r v p m h.def h.name h.there h.named_ (ap (λ o. option_and_then (package_at r) (package_number o)) h.in_package ∙ h.stands ∙ ap Some same) in
+          both_ways _ (ap (is_world_name p) (sym parts.1) ∙ apart) world-named)
 
       none-named : (ms : List ℕ) (ss : List Sight) → AllZip (IsSight r) ms ss → list_any (λ s. text_eq s.path (path_in (identity_of p.name) (text_of w.name))) ss ≡ false
       none-named [] [] z = refl
-      none-named [] (s ∷ ss) z = absurd z
-      none-named (m ∷ ms) [] z = absurd z
       none-named (m ∷ ms) (s ∷ ss) z = ap (λ b. b || list_any (λ s. text_eq s.path (path_in (identity_of p.name) (text_of w.name))) ss) (path-apart m s.path z.0.has_path) ∙ none-named ms ss z.1
+      none-named _ _ z = absurd z
 
       package-means : world_with (identity_of p.name) (text_of w.name) scope ≡ Some (meant.world_package r p w)
       package-means =
@@ -227,8 +195,4 @@ module _ (r : Resolve) (v : IsValid r) (n : ℕ) where
           ∙ (λ j. Some (record { identity = identity_of p.name; name = text_of w.name; world = world-means j; shown = from_entries (shown-mean j) }))
 
     pub world-package-means : (p : Package) → package_of_world r w ≡ Some p → world_with (identity_of p.name) (text_of w.name) scope ≡ Some (meant.world_package r p w)
-    world-package-means p e = go w.package refl e
-      where
-        go : (o : Option PackageId) → w.package ≡ o → option_and_then (λ q. package_at r q.0) o ≡ Some p → world_with (identity_of p.name) (text_of w.name) scope ≡ Some (meant.world_package r p w)
-        go None q e = let wrong : ⊥ = cc in absurd wrong
-        go (Some home) q e = package-means p home q e
+    world-package-means p e = let home = given-by (λ (q : PackageId). package_at r q.0) w.package p e in package-means p home.0 home.1 home.2

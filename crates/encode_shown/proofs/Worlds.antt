@@ -1,5 +1,5 @@
 -- What shows a world of a valid `Resolve` obeys the rules of worlds.
-use Rattle.std.proofs.Common.{◌≡◌, ◌⊎◌, inl, inr, refl, sym, subst, ap, ◌∙◌, ℕ, true, false, List, [], ◌∷◌, ◌++◌, map, Option, Some, arith}
+use Rattle.std.proofs.Common.{◌≡◌, refl, sym, subst, ap, ◌∙◌, ℕ, true, List, [], ◌∷◌, ◌++◌, map, Option, Some, arith}
 use Rattle.std.specs.Prelude.{is_none, option_to_list, filter_map}
 use Rattle.std.specs.List.{AllZip, Contains, IsDistinct, list_all, list_any}
 use Rattle.std.proofs.lemmas.List.{map-append}
@@ -9,8 +9,8 @@ use Rattle.std.proofs.lemmas.Cmp.{nat_list_eq_equiv}
 use Rattle.std.proofs.lemmas.Map.Views.{list_any-from_Contains}
 use Rattle.indexmap.specs.IndexMap.{values}
 use Rattle.wit_model.specs.Text.{Text, text_eq}
-use Rattle.wit_model.specs.Lookup.{world_at, interface_path, key_text, resource_of}
-use Rattle.wit_model.specs.Uses.{has, item_interface, direct_deps}
+use Rattle.wit_model.specs.Lookup.{world_at, interface_path, key_text}
+use Rattle.wit_model.specs.Uses.{has, item_interface}
 use Rattle.wit_model.specs.Meant.{type_meaning_at}
 use Rattle.wit_model.specs.Rules.{passes, each_after, is_freestanding, used_interfaces, uses_stand_before}
 use Rattle.wit_model.specs.Valid.{IsValid, item_function, order_of_items}
@@ -33,7 +33,8 @@ use Rattle.encode_shown.proofs.Items.{HasHome, instance-home, entry-home, seen-o
 use Rattle.encode_shown.proofs.Zips.{zip-left, given-contains}
 use Rattle.base_lemmas.proofs.Bools.{left_of as first_true, right_of as second_true}
 use Rattle.base_lemmas.proofs.Elements.{all-contained, all_pass as all-from, contains-later, contains-one, last_of as one-contained, map_from as contains-mapped, zip-append, zip_map as zip-same}
-use Rattle.std.proofs.lemmas.Bool.{and_from as both}
+use Rattle.std.proofs.lemmas.Bool.{and_from as both, both_ways}
+use Rattle.std.proofs.Math.Logic.{⊎_elim}
 use Rattle.std.proofs.lemmas.Option.{same_Some as same-some}
 use Rattle.wit_model.proofs.ValidLemmas.{world_passes as rule_of_world}
 
@@ -46,11 +47,7 @@ module _ (r : Resolve) (v : IsValid r) (n : ℕ) where
   AreEntries es = (e : WorldKey × WorldItem) → Contains es e → IsEntry r n e
 
   one-more : (before : List (WorldKey × WorldItem)) (e : WorldKey × WorldItem) → AreEntries before → IsEntry r n e → AreEntries (before ++ e ∷ [])
-  one-more before e entries is x c = go (Contains-append_cases before (e ∷ []) x c)
-    where
-      go : Contains before x ⊎ Contains (e ∷ []) x → IsEntry r n x
-      go (inl c) = entries x c
-      go (inr c) = subst (λ y. IsEntry r n y) (one-contained e x c) is
+  one-more before e entries is x c = ⊎_elim (entries x) (λ c. subst (λ y. IsEntry r n y) (one-contained e x c) is) (Contains-append_cases before (e ∷ []) x c)
 
   -- ---- imports
 
@@ -58,8 +55,6 @@ module _ (r : Resolve) (v : IsValid r) (n : ℕ) where
       → AllZip (ShowsItem r) es ts
       → AreEntries es → each_after (uses_stand_before r n) (map (λ e. e.1) before) (map (λ e. e.1) es) ≡ true → are_imports ss ts ≡ true
   imports-obey before ss z entries [] [] w more h = refl
-  imports-obey before ss z entries [] (t ∷ ts) w more h = absurd w
-  imports-obey before ss z entries (e ∷ es) [] w more h = absurd w
   imports-obey before ss z entries (e ∷ es) (t ∷ ts) w more h =
       let this = more e (0, omega arith, refl) in
       let stands = first_true (uses_stand_before r n (map (λ e. e.1) before) e.1) _ h in
@@ -68,7 +63,7 @@ module _ (r : Resolve) (v : IsValid r) (n : ℕ) where
       both _ _ (seen-obeys r v n (resources_seen ss) e t this w.0 (import-home r v n before ss z entries e.1 stands))
       (imports-obey (before ++ e ∷ []) (ss ++ t ∷ []) (zip-append (ShowsItem r) before ss (e ∷ []) (t ∷ []) z (w.0, tt)) (one-more before e entries this) es ts w.1
       (λ x c. more x (contains-later e es x c)) rest)
-
+  imports-obey before ss z entries _ _ w more h = absurd w
   -- ---- what is used stands earlier
 
   -- the paths of these interfaces have been seen
@@ -80,66 +75,55 @@ module _ (r : Resolve) (v : IsValid r) (n : ℕ) where
   stands-among before earlier paths i h m path c e =
       list_any-from_Contains nat_list_eq_equiv path earlier (paths m path (has-contains _ m (all-contained (has (filter_map item_interface before)) (used_interfaces r i) m h c)) e)
 
-  uses-stand : (before : List WorldItem) (earlier : List Text) → ArePaths before earlier → (k : WorldKey) (i : WorldItem) (view : View) (s : Seen) → IsEntry r n (k, i) → IsViewOf r i view
-      → s.shown ≡ shown_item r k i view → list_all (has (filter_map item_interface before)) (used_interfaces r i) ≡ true → list_all (λ p. list_any (text_eq p) earlier) (uses s) ≡ true
-  uses-stand before earlier paths k (item.Function f) view s is shows e h =
-      subst (λ (sh : Shown). list_all (λ p. list_any (text_eq p) earlier) (uses (record { key = s.key; shown = sh; external_id = s.external_id })) ≡ true) (sym e) refl
-  uses-stand before earlier paths k (item.Type_ id) view s is shows e h =
-      subst (λ (sh : Shown). list_all (λ p. list_any (text_eq p) earlier) (uses (record { key = s.key; shown = sh; external_id = s.external_id })) ≡ true) (sym e)
-      (all-from (λ p. list_any (text_eq p) earlier) (used_by (type_meaning_at r id.0).declaration) (λ p c.
+  uses-stand : (before : List WorldItem) (earlier : List Text) → ArePaths before earlier → (k : WorldKey) (i : WorldItem) (view : View) → IsEntry r n (k, i) → IsViewOf r i view
+      → list_all (has (filter_map item_interface before)) (used_interfaces r i) ≡ true → (t : Text) (o : Option Text)
+      → list_all (λ p. list_any (text_eq p) earlier) (uses (record { key = t; shown = shown_item r k i view; external_id = o })) ≡ true
+  uses-stand before earlier paths k (item.Function f) view is shows h t o = refl
+  uses-stand before earlier paths k (item.Type_ id) view is shows h t o =
+      all-from (λ p. list_any (text_eq p) earlier) (used_by (type_meaning_at r id.0).declaration) (λ p c.
       let used = number-used r v id.0 p c in
-      stands-among before earlier paths (item.Type_ id) h used.number p (subst (λ (o : Option ℕ). Contains (option_to_list o) used.number) (sym used.is) (contains-one used.number)) used.has_path))
-  uses-stand before earlier paths k (item.Interface id stability docs external_id) view s is shows e h =
-      subst (λ (sh : Shown). list_all (λ p. list_any (text_eq p) earlier) (uses (record { key = s.key; shown = sh; external_id = s.external_id })) ≡ true) (sym e)
-      (all-from (λ p. list_any (text_eq p) earlier) (others_than (interface_of (instance_key k (interface_path r id.0))) (used_by_view view)) (λ p c.
+      stands-among before earlier paths (item.Type_ id) h used.number p (subst (λ (o : Option ℕ). Contains (option_to_list o) used.number) (sym used.is) (contains-one used.number)) used.has_path)
+  uses-stand before earlier paths k (item.Interface id stability docs external_id) view is shows h t o =
+      all-from (λ p. list_any (text_eq p) earlier) (others_than (interface_of (instance_key k (interface_path r id.0))) (used_by_view view)) (λ p c.
       let others = others-used (interface_of (instance_key k (interface_path r id.0))) (used_by_view view) p c in
-      of-view p others.1 (view-used r v id.0 view shows.types p others.0)))
-    where
-      of-view : (p : Text) → ((interface_of (instance_key k (interface_path r id.0)) ≡ Some p) → ⊥) → (interface_path r id.0 ≡ Some p)
-          ⊎ ((m : ℕ) × Contains (direct_deps r id.0) m × (interface_path r m ≡ Some p)) → list_any (text_eq p) earlier ≡ true
-      of-view p other (inl own) = absurd (other (instance-home k (interface_path r id.0) (entry-home r v n k (item.Interface id stability docs external_id) is id.0 refl) ∙ own))
-      of-view p other (inr dep) = stands-among before earlier paths (item.Interface id stability docs external_id) h dep.0 p dep.1 dep.2
+      ⊎_elim (λ own. absurd (others.1 (instance-home k (interface_path r id.0) (entry-home r v n k (item.Interface id stability docs external_id) is id.0 refl) ∙ own)))
+      (λ dep. stands-among before earlier paths (item.Interface id stability docs external_id) h dep.0 p dep.1 dep.2) (view-used r v id.0 view shows.types p others.0))
 
   -- an interface that is shown has its path among those that have been seen
   seen-path : (k : WorldKey) (i : WorldItem) (view : View) → IsEntry r n (k, i) → (m : ℕ) (path : Text) → item_interface i ≡ Some m → interface_path r m ≡ Some path
       → Contains (path_seen (shown_item r k i view)) path
-  seen-path k (item.Function f) view is m path e p = let wrong : ⊥ = cc in absurd wrong
-  seen-path k (item.Type_ id) view is m path e p = let wrong : ⊥ = cc in absurd wrong
   seen-path k (item.Interface id stability docs external_id) view is m path e p =
       let here : interface_path r id.0 ≡ Some path = ap (interface_path r) (same-some id.0 m e) ∙ p in
       subst (λ (o : Option Text). Contains (path_seen (Shown.instance (instance_key k o) view)) path) (sym here) (of-key k)
     where
       of-key : (k : WorldKey) → Contains (path_seen (Shown.instance (instance_key k (Some path)) view)) path
       of-key (Rattle.wit_model.specs.declared.model.WorldKey.TheVariants.Interface j) = contains-one path
-      of-key (Rattle.wit_model.specs.declared.model.WorldKey.TheVariants.Name name) = contains-one path
+      of-key _ = contains-one path
+  seen-path k _ view is m path e p = absurd cc
 
   more-paths : (before : List WorldItem) (earlier : List Text) → ArePaths before earlier → (e : WorldKey × WorldItem) (t : Seen) → IsEntry r n e → ShowsItem r e t
       → ArePaths (before ++ e.1 ∷ []) (earlier ++ path_seen t.shown)
-  more-paths before earlier paths e t is shows m path c p = go (Contains-append_cases (filter_map item_interface before) (filter_map item_interface (e.1 ∷ [])) m
+  more-paths before earlier paths e t is shows m path c p = ⊎_elim (λ c. Contains-append_left earlier (path_seen t.shown) path (paths m path c p))
+      (λ c.
+      let given = given-contains item_interface (e.1 ∷ []) m c in
+      let at : item_interface e.1 ≡ Some m = ap item_interface (one-contained e.1 given.0 given.1) ∙ given.2 in
+      let shown : t.shown ≡ shown_item r e.0 e.1 shows.view = ap (λ (x : Seen). x.shown) shows.is in
+      Contains-append_right earlier (path_seen t.shown) path (subst (λ (sh : Shown). Contains (path_seen sh) path) (sym shown) (seen-path e.0 e.1 shows.view is m path at p)))
+      (Contains-append_cases (filter_map item_interface before) (filter_map item_interface (e.1 ∷ [])) m
       (subst (λ (ms : List ℕ). Contains ms m) (filter_map-append item_interface before (e.1 ∷ [])) c))
-    where
-      go : Contains (filter_map item_interface before) m ⊎ Contains (filter_map item_interface (e.1 ∷ [])) m → Contains (earlier ++ path_seen t.shown) path
-      go (inl c) = Contains-append_left earlier (path_seen t.shown) path (paths m path c p)
-      go (inr c) =
-          let given = given-contains item_interface (e.1 ∷ []) m c in
-          let at : item_interface e.1 ≡ Some m = ap item_interface (one-contained e.1 given.0 given.1) ∙ given.2 in
-          let shown : t.shown ≡ shown_item r e.0 e.1 shows.view = ap (λ (x : Seen). x.shown) shows.is in
-          Contains-append_right earlier (path_seen t.shown) path (subst (λ (sh : Shown). Contains (path_seen sh) path) (sym shown) (seen-path e.0 e.1 shows.view is m path at p))
 
   earlier-stand : (before : List WorldItem) (earlier : List Text) → ArePaths before earlier → (es : List (WorldKey × WorldItem)) (ts : List Seen) → AllZip (ShowsItem r) es ts → AreEntries es
       → each_after (uses_stand_before r n) before (map (λ e. e.1) es) ≡ true → stand_earlier earlier ts ≡ true
   earlier-stand before earlier paths [] [] z entries h = refl
-  earlier-stand before earlier paths [] (t ∷ ts) z entries h = absurd z
-  earlier-stand before earlier paths (e ∷ es) [] z entries h = absurd z
   earlier-stand before earlier paths (e ∷ es) (t ∷ ts) z entries h =
       let is = entries e (0, omega arith, refl) in
       let stands = first_true (uses_stand_before r n before e.1) _ h in
       let interfaces : list_all (has (filter_map item_interface before)) (used_interfaces r e.1) ≡ true =
       first_true (list_all (has (filter_map item_interface before)) (used_interfaces r e.1)) _ stands in
-      both _ _ (uses-stand before earlier paths e.0 e.1 z.0.view t is z.0.is_view (ap (λ (x : Seen). x.shown) z.0.is) interfaces)
+      both _ _ (ap (λ (s : Seen). list_all (λ p. list_any (text_eq p) earlier) (uses s)) z.0.is ∙ uses-stand before earlier paths e.0 e.1 z.0.view is z.0.is_view interfaces t.key t.external_id)
       (earlier-stand (before ++ e.1 ∷ []) (earlier ++ path_seen t.shown) (more-paths before earlier paths e t is z.0) es ts z.1 (λ x c. entries x (contains-later e es x c))
       (second_true (uses_stand_before r n before e.1) _ h))
-
+  earlier-stand before earlier paths _ _ z entries h = absurd z
   -- ---- the world
 
   module _ (w : World) (there : world_at r n ≡ Some w) (scope : Scope) (shows : ShowsWorld r w scope) where
@@ -163,10 +147,7 @@ module _ (r : Resolve) (v : IsValid r) (n : ℕ) where
         seen-obeys r v n [] from.0 s (exports-are from.0 from.1) from.2 (free from.0 (export-freestanding r v n w there from.0 from.1)))
       where
         free : (e : WorldKey × WorldItem) → passes (λ f. is_freestanding f.kind) (item_function e.1) ≡ true → HasHome r v n [] e.1
-        free e h f q m name at is =
-            let none : is_none (resource_of f.kind) ≡ true = ap (λ i. passes (λ (g : Function). is_freestanding g.kind) (item_function i)) (sym q) ∙ h in
-            let wrong : false ≡ true = sym (ap is_none at) ∙ none in
-            let z : ⊥ = cc in absurd z
+        free e h f q m name at is = absurd (both_ways _ (ap is_none at) (ap (λ i. passes (λ (g : Function). is_freestanding g.kind) (item_function i)) (sym q) ∙ h))
 
     names : (es : List (WorldKey × WorldItem)) (ss : List Seen) → AllZip (ShowsItem r) es ss → AreEntries es → IsDistinct Rattle.wit_model.specs.Valid.key_eq (map (λ e. e.0) es)
         → distinct (map (λ s. s.key) ss) ≡ true
@@ -177,11 +158,7 @@ module _ (r : Resolve) (v : IsValid r) (n : ℕ) where
         subst (IsKey r) e.2 (entry-key r v n e.0.0 e.0.1 (entries e.0 e.1))) d)
 
     pub all-entries : AreEntries (w.imports.entries ++ w.exports.entries)
-    all-entries e c = go (Contains-append_cases w.imports.entries w.exports.entries e c)
-      where
-        go : Contains w.imports.entries e ⊎ Contains w.exports.entries e → IsEntry r n e
-        go (inl c) = imports-are e c
-        go (inr c) = exports-are e c
+    all-entries e c = ⊎_elim (imports-are e) (exports-are e) (Contains-append_cases w.imports.entries w.exports.entries e c)
 
     pub all-shown : AllZip (ShowsItem r) (w.imports.entries ++ w.exports.entries) (scope.imports ++ scope.exports)
     all-shown = zip-append (ShowsItem r) w.imports.entries scope.imports w.exports.entries scope.exports shows.imports shows.exports

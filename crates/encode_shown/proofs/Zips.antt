@@ -1,34 +1,28 @@
 -- Two lists, place by place, and elements of lists that are made from others.
-use Rattle.std.proofs.Common.{◌≡◌, refl, subst, ap, ◌∙◌, zero, suc, List, [], ◌∷◌, Option, Some, None, arith}
+use Rattle.std.proofs.Common.{◌≡◌, refl, subst, zero, suc, List, [], ◌∷◌, Option, Some, arith}
 use Rattle.std.specs.Prelude.{filter_map}
-use Rattle.std.specs.List.{AllZip, Contains, cons_option}
+use Rattle.std.specs.List.{AllZip, Contains}
 use Rattle.wit_model.proofs.Elements.{none-in}
-use Rattle.base_lemmas.proofs.Elements.{contains-later}
+use Rattle.base_lemmas.proofs.Elements.{contains-later, filter_map_from, get-contains}
 
 pub zip-left : {A B : Type 0} (R : A → B → Type 0) (xs : List A) (ys : List B) (y : B) → AllZip R xs ys → Contains ys y → (x : A) × Contains xs x × R x y
 zip-left R [] [] y z c = none-in y c
-zip-left R [] (b ∷ ys) y z c = absurd z
-zip-left R (a ∷ xs) [] y z c = absurd z
 zip-left R (a ∷ xs) (b ∷ ys) y z (zero, l, e) = (a, (0, omega arith, refl), subst (λ w. R a w) e z.0)
 zip-left R (a ∷ xs) (b ∷ ys) y z (suc k, l, e) = let rest = zip-left R xs ys y z.1 (k, omega (arith, l), e) in (rest.0, contains-later a xs rest.0 rest.1, rest.2)
+zip-left R _ _ y z c = absurd z
+
+-- and back
+zip-back : {A B : Type 0} (R : A → B → Type 0) (xs : List A) (ys : List B) → AllZip R xs ys → AllZip (λ b a. R a b) ys xs
+zip-back R [] [] z = tt
+zip-back R (a ∷ xs) (b ∷ ys) z = (z.0, zip-back R xs ys z.1)
+zip-back R _ _ z = absurd z
 
 pub zip-right : {A B : Type 0} (R : A → B → Type 0) (xs : List A) (ys : List B) (x : A) → AllZip R xs ys → Contains xs x → (y : B) × Contains ys y × R x y
-zip-right R [] [] x z c = none-in x c
-zip-right R [] (b ∷ ys) x z c = absurd z
-zip-right R (a ∷ xs) [] x z c = absurd z
-zip-right R (a ∷ xs) (b ∷ ys) x z (zero, l, e) = (b, (0, omega arith, refl), subst (λ w. R w b) e z.0)
-zip-right R (a ∷ xs) (b ∷ ys) x z (suc k, l, e) = let rest = zip-right R xs ys x z.1 (k, omega (arith, l), e) in (rest.0, contains-later b ys rest.0 rest.1, rest.2)
+zip-right R xs ys x z c = zip-left (λ b a. R a b) ys xs x (zip-back R xs ys z) c
 
 -- what is given is given by an element
 pub given-contains : {A B : Type 0} (h : A → Option B) (xs : List A) (y : B) → Contains (filter_map h xs) y → (x : A) × Contains xs x × (h x ≡ Some y)
-given-contains h [] y c = none-in y c
-given-contains h (x ∷ xs) y c = go (given-contains h xs y) (h x) refl c
-  where
-    go : (Contains (filter_map h xs) y → (z : _) × Contains xs z × (h z ≡ Some y)) → (o : Option _) → h x ≡ o → Contains (cons_option o (filter_map h xs)) y → (z : _) × Contains (x ∷ xs) z
-        × (h z ≡ Some y)
-    go more None e c = let rest = more c in (rest.0, contains-later x xs rest.0 rest.1, rest.2)
-    go more (Some w) e (zero, l, q) = (x, (0, omega arith, refl), e ∙ ap Some q)
-    go more (Some w) e (suc k, l, q) = let rest = more (k, omega (arith, l), q) in (rest.0, contains-later x xs rest.0 rest.1, rest.2)
+given-contains h xs y c = let from = filter_map_from h xs y c in (from.1, get-contains xs from.0 from.1 from.2, from.3)
 
 -- a list of what belongs to each element of another
 pub zip-all : {A B : Type 0} (R : A → B → Type 0) (ys : List B) → ((y : B) → Contains ys y → (x : A) × R x y) → (xs : List A) × AllZip R xs ys
