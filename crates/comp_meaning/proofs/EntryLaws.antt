@@ -72,11 +72,8 @@ used_is : (slots : List Slot) (place : Place) (n : ℕ) (view : View) → used_v
 used_is slots place n view e = by (slice_get slots n) e
   where
     by : (o : Option Slot) → used_view slots place o ≡ Some view → option_map is_instance o ≡ Some true
-    by None h = absurd cc
-    by (Some (Slot.value t)) h = absurd cc
-    by (Some (Slot.resource p name)) h = absurd cc
-    by (Some (Slot.function f)) h = absurd cc
     by (Some (Slot.instance ds around)) h = refl
+    by _ h = absurd cc
 
 kept_instance : (direction : Direction) (name : ExternName) (n : ℕ) (scope next : Scope) → see_instance direction name n scope ≡ Some next → IsKept scope → IsKept next
 kept_instance direction name n scope next e k =
@@ -110,16 +107,10 @@ kept_type name described scope next e k =
     subst IsKept (some_is (see import_ seen (in_scope b.0.1 scope)) next w.1) (kept_slot scope b.0.1 k)
 
 kept_described : (direction : Direction) (name : ExternName) (described : ComponentTypeRef) (scope next : Scope) → see_described direction name described scope ≡ Some next → IsKept scope → IsKept next
-kept_described import_ name (refs.Instance n) scope next e k = kept_instance import_ name n scope next e k
-kept_described export_ name (refs.Instance n) scope next e k = kept_instance export_ name n scope next e k
-kept_described import_ name (refs.Func n) scope next e k = kept_function import_ name n scope next e k
-kept_described export_ name (refs.Func n) scope next e k = kept_function export_ name n scope next e k
-kept_described import_ name (refs.TypeEq n) scope next e k = kept_type name (refs.TypeEq n) scope next e k
-kept_described import_ name refs.SubResource scope next e k = kept_type name refs.SubResource scope next e k
-kept_described import_ name (refs.Component n) scope next e k = kept_type name (refs.Component n) scope next e k
-kept_described export_ name (refs.TypeEq n) scope next e k = absurd cc
-kept_described export_ name refs.SubResource scope next e k = absurd cc
-kept_described export_ name (refs.Component n) scope next e k = absurd cc
+kept_described direction name (refs.Instance n) scope next e k = kept_instance direction name n scope next e k
+kept_described direction name (refs.Func n) scope next e k = kept_function direction name n scope next e k
+kept_described import_ name described scope next e k = kept_type name described scope next e k
+kept_described export_ name _ scope next e k = absurd cc
 
 kept_step : (scope next : Scope) (d : Declaration) → component_step scope d ≡ Some next → IsKept scope → IsKept next
 kept_step scope next (Declaration.defined d) e k =
@@ -175,8 +166,7 @@ flat_only Declarations.no_more xs e = ap from_list (some_is [] xs e)
 flat_only (Declarations.declares d rest) xs e =
     let b = bind_some (flat rest) (λ ds. Some (d ∷ ds)) xs e in
     ap (Declarations.declares d) (flat_only rest b.0 b.1) ∙ ap from_list (some_is (d ∷ b.0) xs b.2)
-flat_only (Declarations.component inner rest) xs e = absurd cc
-flat_only (Declarations.instance inner rest) xs e = absurd cc
+flat_only _ xs e = absurd cc
 
 entries_only : (ds : Declarations) (scope next : Scope) → component_steps scope ds ≡ Some next → (es : List Entry) × (ds ≡ declarations_of es)
 entries_only Declarations.no_more scope next e = ([], refl)

@@ -5,7 +5,8 @@ use Rattle.std.specs.Prelude.{slice_get}
 use Rattle.std.specs.List.{Contains, list_any}
 use Rattle.std.specs.Bool.{Decides}
 use Rattle.std.specs.FinMap.{find, from_entries, get, get-from_entries}
-use Rattle.std.proofs.lemmas.Bool.{eqb-true, eq-eqb, and_from, or_left, or_right, not-true}
+use Rattle.base_lemmas.proofs.Elements.{all-contained, all_pass, any-at, any-contains, contains-later as behind, contains-map}
+use Rattle.std.proofs.lemmas.Bool.{false_from_ne_true, eqb-true, eq-eqb, and_from, not-true}
 use Rattle.std.proofs.lemmas.Bool.Decides.{Decides-at}
 use Rattle.std.proofs.lemmas.Cmp.{nat_list_cmp_total}
 use Rattle.wit_model.specs.Text.{Text, TextMap, text_eq, text_cmp}
@@ -30,13 +31,8 @@ module _ {X : Type 0} where
 
   -- ---- names of entries
 
-  behind : (f : Text × X) (fs : List (Text × X)) (x : Text × X) → Contains fs x → Contains (f ∷ fs) x
-  behind f fs x c = (suc c.0, (let low = c.1 in omega (arith, low)), c.2)
-
   contained_name : (fs : List (Text × X)) (k : Text) (v : X) → Contains fs (k, v) → is_named fs k ≡ true
-  contained_name [] k v (i, low, h) = absurd (omega (arith, low))
-  contained_name (f ∷ fs) k v (zero, low, h) = or_left (text_eq k f.0) (is_named fs k) (ap (λ z. text_eq k z.0) h ∙ same_text k k refl)
-  contained_name (f ∷ fs) k v (suc i, low, h) = or_right (text_eq k f.0) (is_named fs k) (contained_name fs k v (i, omega (arith, low), h))
+  contained_name fs k v c = any-at (text_eq k) (names fs) k (contains-map (λ (f : Text × X). f.0) fs (k, v) c) (same_text k k refl)
 
   -- a name that stands in front stands nowhere else
   not_again : (f : Text × X) (fs : List (Text × X)) → distinct (names (f ∷ fs)) ≡ true → is_named fs f.0 ≡ false
@@ -54,11 +50,6 @@ module _ {X : Type 0} where
       absurd (none_again f fs v e (subst (λ (n : Text). Contains fs (n, v)) (sym (ap (λ z. z.0) g)) (i, omega (arith, low), h)))
   one_value (f ∷ fs) e k v w (suc i, low, h) (suc j, small, g) =
       one_value fs (second_true (not (is_named fs f.0)) (distinct (names fs)) e) k v w (i, omega (arith, low), h) (j, omega (arith, small), g)
-
-  entry_at : (fs : List (Text × X)) (x : Text × X) (i : ℕ) → slice_get fs i ≡ Some x → Contains fs x
-  entry_at [] x i e = absurd cc
-  entry_at (f ∷ fs) x zero e = let same : f ≡ x = cc in (0, omega arith, same)
-  entry_at (f ∷ fs) x (suc i) e = behind f fs x (entry_at fs x i e)
 
   at_entry : (fs : List (Text × X)) (x : Text × X) → (c : Contains fs x) → slice_get fs c.0 ≡ Some x
   at_entry [] x (i, low, h) = absurd (omega (arith, low))
@@ -100,15 +91,8 @@ module _ {X : Type 0} where
       a.2 ∙ (ap (λ z. z.0) one ∙ sym b.2)
 
   -- one of these has the same position
-  position_among : (gs fs : List (Text × X)) → ((k : Text) (v : X) → Contains fs (k, v) → is_named gs k ≡ true) → (n : ℕ) → list_any (λ f. eqb (position f.0 gs) n) fs ≡ true → (f : Text × X)
-      × Contains fs f × (position f.0 gs ≡ n)
-  position_among gs [] h n e = absurd cc
-  position_among gs (f ∷ fs) h n e = by (eqb (position f.0 gs) n) refl (position_among gs fs (λ k v c. h k v (behind f fs (k, v) c)) n)
-    where
-      by : (b : Bool) → eqb (position f.0 gs) n ≡ b → (list_any (λ x. eqb (position x.0 gs) n) fs ≡ true → (x : Text × X) × Contains fs x × (position x.0 gs ≡ n)) → (x : Text × X)
-          × Contains (f ∷ fs) x × (position x.0 gs ≡ n)
-      by true s more = (f, (0, omega arith, refl), eqb-true (position f.0 gs) n s)
-      by false s more = let rest = more (sym (ap (λ b. b || list_any (λ x. eqb (position x.0 gs) n) fs) s) ∙ e) in (rest.0, behind f fs rest.0 rest.1, rest.2)
+  position_among : (gs fs : List (Text × X)) (n : ℕ) → list_any (λ f. eqb (position f.0 gs) n) fs ≡ true → (f : Text × X) × Contains fs f × (position f.0 gs ≡ n)
+  position_among gs fs n e = let f = any-contains (λ (f : Text × X). eqb (position f.0 gs) n) fs e in (f.0, f.1, eqb-true (position f.0.0 gs) n f.2)
 
   -- where each name is one of the others, and none stands twice, the positions are those of others, each once
   counted : (gs fs : List (Text × X)) → ((k : Text) (v : X) → Contains fs (k, v) → is_named gs k ≡ true) → distinct (names fs) ≡ true → Counted (λ f. position f.0 gs) fs (map (λ _. true) gs)
@@ -116,15 +100,11 @@ module _ {X : Type 0} where
   counted gs (f ∷ fs) h e =
       let here = h f.0 f.1 (0, omega arith, refl) in
       let others = counted gs fs (λ k v c. h k v (behind f fs (k, v) c)) (second_true (not (is_named fs f.0)) (distinct (names fs)) e) in
-      one_number_first (λ x. position x.0 gs) fs f (map (λ _. true) gs) others (new here (list_any (λ x. eqb (position x.0 gs) (position f.0 gs)) fs) refl)
+      one_number_first (λ x. position x.0 gs) fs f (map (λ _. true) gs) others (false_from_ne_true (list_any (λ x. eqb (position x.0 gs) (position f.0 gs)) fs) (λ s.
+      let other = position_among gs fs (position f.0 gs) s in
+      let same : other.0.0 ≡ f.0 = position_one gs other.0.0 f.0 (h other.0.0 other.0.1 (behind f fs other.0 other.1)) here other.2 in
+      none_again f fs other.0.1 e (subst (λ (n : Text). Contains fs (n, other.0.1)) same other.1)))
       (true_mark gs (position f.0 gs) (position_low gs f.0 here))
-    where
-      new : is_named gs f.0 ≡ true → (b : Bool) → list_any (λ x. eqb (position x.0 gs) (position f.0 gs)) fs ≡ b → b ≡ false
-      new here false s = refl
-      new here true s =
-          let other = position_among gs fs (λ k v c. h k v (behind f fs (k, v) c)) (position f.0 gs) s in
-          let same : other.0.0 ≡ f.0 = position_one gs other.0.0 f.0 (h other.0.0 other.0.1 (behind f fs other.0 other.1)) here other.2 in
-          absurd (none_again f fs other.0.1 e (subst (λ (n : Text). Contains fs (n, other.0.1)) same other.1))
 
   -- ---- lists of which one stands in the other
 
@@ -143,7 +123,7 @@ module _ {X : Type 0} where
       let all : all_taken (λ f. position f.0 gs) fs 0 (map (λ _. true) gs) ≡ true =
       sym (exact (λ f. position f.0 gs) fs (map (λ _. true) gs) c) ∙ eq-eqb (length fs) (marks (map (λ _. true) gs)) (long ∙ sym (all_marked gs)) in
       let one = taken_at (λ f. position f.0 gs) fs 0 there.0 (map (λ _. true) gs) all (true_mark gs there.0 there.1) in
-      let f = position_among gs fs named (0 + there.0) one in
+      let f = position_among gs fs (0 + there.0) one in
       let at = position_at gs f.0.0 (named f.0.0 f.0.1 f.1) in
       let zero_more : 0 + there.0 ≡ there.0 = omega arith in
       let both : ◌≡◌ {A = Option (Text × X)} (Some at.0) (Some (k, v)) = sym at.1 ∙ (ap (slice_get gs) (f.2 ∙ zero_more) ∙ at_entry gs (k, v) there) in
@@ -156,34 +136,20 @@ module _ {X : Type 0} where
 
   module _ (same : X → X → Bool) (d : DecidesEquality same) where
     found : (gs : List (Text × X)) (k : Text) (v : X) → list_any (λ y. text_eq k y.0 && same v y.1) gs ≡ true → Contains gs (k, v)
-    found [] k v h = absurd cc
-    found (g ∷ gs) k v h = by (text_eq k g.0 && same v g.1) refl (found gs k v)
-      where
-        by : (b : Bool) → (text_eq k g.0 && same v g.1) ≡ b → (list_any (λ y. text_eq k y.0 && same v y.1) gs ≡ true → Contains gs (k, v)) → Contains (g ∷ gs) (k, v)
-        by true e more =
-            let name : g.0 ≡ k = sym (text_same k g.0 (first_true (text_eq k g.0) (same v g.1) e)) in
-            let value : g.1 ≡ v = sym ((d v g.1).0 (second_true (text_eq k g.0) (same v g.1) e)) in
-            (0, omega arith, λ i. (name i, value i))
-        by false e more = behind g gs (k, v) (more (sym (ap (λ b. b || list_any (λ y. text_eq k y.0 && same v y.1) gs) e) ∙ h))
+    found gs k v h =
+        let y = any-contains (λ (y : Text × X). text_eq k y.0 && same v y.1) gs h in
+        let name : y.0.0 ≡ k = sym (text_same k y.0.0 (first_true (text_eq k y.0.0) (same v y.0.1) y.2)) in
+        let value : y.0.1 ≡ v = sym ((d v y.0.1).0 (second_true (text_eq k y.0.0) (same v y.0.1) y.2)) in
+        subst (λ (x : Text × X). Contains gs x) (λ i. (name i, value i)) y.1
 
     finds : (gs : List (Text × X)) (k : Text) (v : X) → Contains gs (k, v) → list_any (λ y. text_eq k y.0 && same v y.1) gs ≡ true
-    finds [] k v (i, low, h) = absurd (omega (arith, low))
-    finds (g ∷ gs) k v (zero, low, h) =
-        or_left (text_eq k g.0 && same v g.1) _ (and_from (text_eq k g.0) (same v g.1) (same_text k g.0 (sym (ap (λ z. z.0) h))) ((d v g.1).1 (sym (ap (λ z. z.1) h))))
-    finds (g ∷ gs) k v (suc i, low, h) = or_right (text_eq k g.0 && same v g.1) _ (finds gs k v (i, omega (arith, low), h))
+    finds gs k v c = any-at (λ (y : Text × X). text_eq k y.0 && same v y.1) gs (k, v) c (and_from (text_eq k k) (same v v) (same_text k k refl) ((d v v).1 refl))
 
     stand_there : (fs gs : List (Text × X)) → stand_in same fs gs ≡ true → (k : Text) (v : X) → Contains fs (k, v) → Contains gs (k, v)
-    stand_there [] gs h k v (i, low, e) = absurd (omega (arith, low))
-    stand_there (f ∷ fs) gs h k v (zero, low, e) =
-        subst (λ (x : Text × X). Contains gs x) e (found gs f.0 f.1 (first_true (list_any (λ y. text_eq f.0 y.0 && same f.1 y.1) gs) (stand_in same fs gs) h))
-    stand_there (f ∷ fs) gs h k v (suc i, low, e) =
-        stand_there fs gs (second_true (list_any (λ y. text_eq f.0 y.0 && same f.1 y.1) gs) (stand_in same fs gs) h) k v (i, omega (arith, low), e)
+    stand_there fs gs h k v c = found gs k v (all-contained (λ (x : Text × X). list_any (λ y. text_eq x.0 y.0 && same x.1 y.1) gs) fs (k, v) h c)
 
     all_stand : (fs gs : List (Text × X)) → ((k : Text) (v : X) → Contains fs (k, v) → Contains gs (k, v)) → stand_in same fs gs ≡ true
-    all_stand [] gs h = refl
-    all_stand (f ∷ fs) gs h =
-        and_from (list_any (λ y. text_eq f.0 y.0 && same f.1 y.1) gs) (stand_in same fs gs) (finds gs f.0 f.1 (h f.0 f.1 (0, omega arith, refl)))
-        (all_stand fs gs (λ k v c. h k v (behind f fs (k, v) c)))
+    all_stand fs gs h = all_pass (λ (x : Text × X). list_any (λ y. text_eq x.0 y.0 && same x.1 y.1) gs) fs (λ x c. finds gs x.0 x.1 (h x.0 x.1 c))
 
     -- as many, and all in the other, is each in the other
     pub both_ways : (fs gs : List (Text × X)) → distinct (names fs) ≡ true → distinct (names gs) ≡ true

@@ -36,25 +36,8 @@ IsLevelled ds = (p : PartType) × (ds ≡ raw_part p)
 wrapped_or : (ds : Declarations)
     → ((inner : Declarations) × (name : ExternName) × (ds ≡ Declarations.component inner (Declarations.declares (Declaration.exported name (refs.Component 0)) Declarations.no_more)))
     ⊎ (wrapped ds ≡ None)
-wrapped_or Declarations.no_more = inr refl
-wrapped_or (Declarations.declares d rest) = inr refl
-wrapped_or (Declarations.instance inner rest) = inr refl
-wrapped_or (Declarations.component inner Declarations.no_more) = inr refl
-wrapped_or (Declarations.component inner (Declarations.component other rest)) = inr refl
-wrapped_or (Declarations.component inner (Declarations.instance other rest)) = inr refl
-wrapped_or (Declarations.component inner (Declarations.declares (Declaration.defined d) rest)) = inr refl
-wrapped_or (Declarations.component inner (Declarations.declares (Declaration.function f) rest)) = inr refl
-wrapped_or (Declarations.component inner (Declarations.declares (Declaration.alias_of a) rest)) = inr refl
-wrapped_or (Declarations.component inner (Declarations.declares (Declaration.imported name described) rest)) = inr refl
-wrapped_or (Declarations.component inner (Declarations.declares (Declaration.exported name (refs.Func n)) rest)) = inr refl
-wrapped_or (Declarations.component inner (Declarations.declares (Declaration.exported name (refs.TypeEq n)) rest)) = inr refl
-wrapped_or (Declarations.component inner (Declarations.declares (Declaration.exported name refs.SubResource) rest)) = inr refl
-wrapped_or (Declarations.component inner (Declarations.declares (Declaration.exported name (refs.Instance n)) rest)) = inr refl
-wrapped_or (Declarations.component inner (Declarations.declares (Declaration.exported name (refs.Component (suc n))) rest)) = inr refl
-wrapped_or (Declarations.component inner (Declarations.declares (Declaration.exported name (refs.Component zero)) (Declarations.declares d rest))) = inr refl
-wrapped_or (Declarations.component inner (Declarations.declares (Declaration.exported name (refs.Component zero)) (Declarations.component other rest))) = inr refl
-wrapped_or (Declarations.component inner (Declarations.declares (Declaration.exported name (refs.Component zero)) (Declarations.instance other rest))) = inr refl
 wrapped_or (Declarations.component inner (Declarations.declares (Declaration.exported name (refs.Component zero)) Declarations.no_more)) = inl (inner, name, refl)
+wrapped_or _ = inr refl
 
 -- the world of a wrapper that is read has been followed
 world_scope : (label : Text) (inner : Declarations) (name : ExternName) (p : PackageIdentity × Part) → world_part label (inner, name) ≡ Some p → (scope : Scope) × (component_scope inner ≡ Some scope)
@@ -103,9 +86,6 @@ record IsKept (top : reads.Top) : Type 0 where
   within : (i n : ℕ) → slice_get top.slots i ≡ Some n → n < length top.types
 
 kept_type : (top next : reads.Top) (t : TopType) → top_type top t ≡ Some next → IsKept top → IsKept next
-kept_type top next (TopType.defined d) e k = absurd cc
-kept_type top next (TopType.function f) e k = absurd cc
-kept_type top next (TopType.instance ds) e k = absurd cc
 kept_type top next (TopType.component ds) e k =
     subst IsKept (some_is (record { types = top.types ++ ds ∷ []; slots = top.slots ++ length top.types ∷ []; exported = top.exported }) next e) (record {
       counted = subst (λ fs. Counted (λ x. x.1) top.exported fs) (sym (map-append (λ _. true) top.types (ds ∷ []))) (one_mark_more (λ x. x.1) top.exported (map (λ _. true) top.types) true k.counted);
@@ -116,7 +96,7 @@ kept_type top next (TopType.component ds) e k =
             | inr last ↦ omega (arith, last, more)
           ];
     })
-
+kept_type top next _ e k = absurd cc
 kept_export : (top next : reads.Top) (x : TopExport) → reads.top_export top x ≡ Some next → IsKept top → IsKept next
 kept_export top next x e k =
     let b = bind_some (slice_get top.slots x.type_index) (λ n.
@@ -179,13 +159,10 @@ abbrev Stands : ℕ → Declarations → reads.Top → Type 0
 Stands n ds top = slice_get top.types n ≡ Some ds
 
 type_stays : (n : ℕ) (ds : Declarations) (top next : reads.Top) (t : TopType) → top_type top t ≡ Some next → Stands n ds top → Stands n ds next
-type_stays n ds top next (TopType.defined d) e h = absurd cc
-type_stays n ds top next (TopType.function f) e h = absurd cc
-type_stays n ds top next (TopType.instance inner) e h = absurd cc
 type_stays n ds top next (TopType.component inner) e h =
     subst (Stands n ds) (some_is (record { types = top.types ++ inner ∷ []; slots = top.slots ++ length top.types ∷ []; exported = top.exported }) next e)
     (get_before top.types inner n (slice_get_within top.types n ds h) ∙ h)
-
+type_stays n ds top next _ e h = absurd cc
 export_stays : (n : ℕ) (ds : Declarations) (top next : reads.Top) (x : TopExport) → reads.top_export top x ≡ Some next → Stands n ds top → Stands n ds next
 export_stays n ds top next x e h =
     let b = bind_some (slice_get top.slots x.type_index) (λ n.
@@ -202,15 +179,12 @@ section_stays n ds top next (Section.exports es) e h = steps_keep (Stands n ds) 
 
 types_levels : (ts : List TopType) (top next : reads.Top) → steps top_type top ts ≡ Some next → AllLevelled next → (ps : List PartType) × (ts ≡ map (λ p. TopType.component (raw_part p)) ps)
 types_levels [] top next e all = ([], refl)
-types_levels (TopType.defined d ∷ ts) top next e all = absurd cc
-types_levels (TopType.function f ∷ ts) top next e all = absurd cc
-types_levels (TopType.instance ds ∷ ts) top next e all = absurd cc
 types_levels (TopType.component ds ∷ ts) top next e all =
     let after : reads.Top = record { types = top.types ++ ds ∷ []; slots = top.slots ++ length top.types ∷ []; exported = top.exported } in
     let level = all (length top.types) ds (steps_keep (Stands (length top.types) ds) top_type (type_stays (length top.types) ds) ts after next e (get_last top.types ds)) in
     let more = types_levels ts after next e all in
     (level.0 ∷ more.0, ap (λ d. TopType.component d ∷ ts) level.1 ∙ ap (λ (rest : List TopType). TopType.component (raw_part level.0) ∷ rest) more.1)
-
+types_levels (_ ∷ ts) top next e all = absurd cc
 sections_levels : (ss : List Section) (top next : reads.Top) → steps top_section top ss ≡ Some next → AllLevelled next → (ps : List Piece) × (ss ≡ map raw_piece ps)
 sections_levels [] top next e all = ([], refl)
 sections_levels (Section.custom name contents ∷ ss) top next e all =

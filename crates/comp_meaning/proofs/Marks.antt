@@ -5,7 +5,7 @@ use Rattle.std.specs.List.{list_any}
 use Rattle.std.proofs.lemmas.Bool.{eqb-true, eq-eqb, ne_eqb, false_from_ne_true as absent}
 use Rattle.std.proofs.lemmas.List.Folds.{list_any-append}
 use Rattle.std.proofs.lemmas.Option.{slice_get_within}
-use Rattle.base_lemmas.proofs.Bools.{left_of as first_true, or_false as or_none, right_of as second_true}
+use Rattle.base_lemmas.proofs.Bools.{both_ways, left_of as first_true, or_true, or_false as or_none, right_of as second_true}
 
 -- how many marks there are
 abbrev pub marks : List Bool → ℕ
@@ -24,17 +24,11 @@ all_marked [] = refl
 all_marked (x ∷ xs) = ap suc (all_marked xs)
 
 or_flip : (a b : Bool) → (a || b) ≡ (b || a)
-or_flip true true = refl
-or_flip true false = refl
-or_flip false true = refl
-or_flip false false = refl
+or_flip true b = sym (or_true b)
+or_flip false b = sym (or_none b)
 
 same_number : (a b : ℕ) → eqb (suc a) (suc b) ≡ eqb a b
-same_number a b = by (eqb a b) refl
-  where
-    by : (c : Bool) → eqb a b ≡ c → eqb (suc a) (suc b) ≡ eqb a b
-    by true e = eq-eqb (suc a) (suc b) (ap suc (eqb-true a b e)) ∙ sym e
-    by false e = ne_eqb (suc a) (suc b) (λ same. let wrong : true ≡ false = sym (eq-eqb a b (omega (arith, same))) ∙ e in cc) ∙ sym e
+same_number a b = both_ways (eqb (suc a) (suc b)) (eqb a b) (λ e. let same = eqb-true (suc a) (suc b) e in eq-eqb a b (omega (arith, same))) (λ e. eq-eqb (suc a) (suc b) (ap suc (eqb-true a b e)))
 
 module _ {A : Type 0} (key : A → ℕ) where
   -- how many marks have their number among these, where the first mark has the number n
