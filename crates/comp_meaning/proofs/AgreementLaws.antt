@@ -1,5 +1,5 @@
 -- Views that agree with the first of their path agree with each other, since to show the same is to show what is equal.
-use Rattle.std.proofs.Common.{◌≡◌, refl, sym, ap, subst, ◌∙◌, zero, suc, arith, Bool, true, false, not, ◌&&◌, ◌||◌, cond, List, [], ◌∷◌, ◌++◌, map, Option, Some, None, inl, inr}
+use Rattle.std.proofs.Common.{◌≡◌, refl, sym, ap, subst, ◌∙◌, suc, arith, Bool, true, false, not, ◌&&◌, ◌||◌, cond, List, [], ◌∷◌, ◌++◌, map, Option, Some, None, inl, inr}
 use Rattle.std.specs.List.{Contains, find, list_all, list_any}
 use Rattle.std.specs.Option.{option_map_or, option_or}
 use Rattle.std.proofs.lemmas.List.Folds.{find-append}
@@ -14,11 +14,15 @@ use Rattle.comp_meaning.specs.Agreement.{first_of, first_whole, same_types, agre
 use Rattle.comp_meaning.proofs.SameLaws.{shown_types_decide}
 use Rattle.comp_meaning.proofs.FunctionLists.{functions_make_one_map}
 use Rattle.base_lemmas.proofs.Bools.{both_ways as either_way, left_of as first_true, right_of as second_true}
-use Rattle.base_lemmas.proofs.Elements.{last_of}
+use Rattle.base_lemmas.proofs.Elements.{all-contained, last_of, none_in as none_contained}
 use Rattle.wit_model.proofs.TextLemmas.{text_same}
 
--- ---- one view and another
+-- what holds where a test passes
+pub implied : (a b : Bool) → (a ≡ true → b ≡ true) → (not a || b) ≡ true
+implied true b h = h refl
+implied false b h = refl
 
+-- ---- one view and another
 -- no function stands twice
 abbrev IsOnce : Sight → Type 0
 IsOnce s = distinct (map (λ f. f.0) s.view.functions) ≡ true
@@ -53,16 +57,10 @@ agree_functions a b h e p q =
     sym (ap (λ c. not c || same_in_functions a b) (and_from a.whole b.whole p q)) ∙ rest
 
 agree_from : (a b : Sight) → (a.path ≡ b.path → same_types a b ≡ true) → (a.path ≡ b.path → a.whole ≡ true → b.whole ≡ true → same_in_functions a b ≡ true) → agree a b ≡ true
-agree_from a b types functions = by (text_eq a.path b.path) refl
-  where
-    whole : a.path ≡ b.path → (c d : Bool) → a.whole ≡ c → b.whole ≡ d → (not (c && d) || same_in_functions a b) ≡ true
-    whole e false d p q = refl
-    whole e true false p q = refl
-    whole e true true p q = functions e p q
-
-    by : (c : Bool) → text_eq a.path b.path ≡ c → (not c || (same_types a b && (not (a.whole && b.whole) || same_in_functions a b))) ≡ true
-    by false e = refl
-    by true e = let path = text_same a.path b.path e in and_from (same_types a b) (not (a.whole && b.whole) || same_in_functions a b) (types path) (whole path a.whole b.whole refl refl)
+agree_from a b types functions = implied (text_eq a.path b.path) _ (λ e.
+    let path = text_same a.path b.path e in
+    and_from (same_types a b) (not (a.whole && b.whole) || same_in_functions a b) (types path)
+    (implied (a.whole && b.whole) _ (λ w. functions path (first_true a.whole b.whole w) (second_true a.whole b.whole w))))
 
 -- ---- look-ups
 
@@ -81,7 +79,7 @@ into [] earlier before all = refl
 into (s ∷ rest) earlier before all =
     and_from (agrees_with_first earlier s) (agree_with_first (earlier ++ s ∷ []) rest)
     (and_from (option_map_or (λ f. same_types f s) (first_of s.path earlier) true) (not s.whole || option_map_or (λ f. same_in_functions f s) (first_whole s.path earlier) true)
-    (types (first_of s.path earlier) refl) (whole s.whole refl))
+    (types (first_of s.path earlier) refl) (implied s.whole _ (λ w. functions w (first_whole s.path earlier) refl)))
     (into rest (earlier ++ s ∷ []) (λ x c. elim (Contains-append_cases earlier (s ∷ []) x c) [
       | inl there ↦ second_true (agree x s) (list_all (agree x) rest) (before x there)
       | inr last ↦ subst (λ (y : Sight). list_all (agree y) rest ≡ true) (last_of s x last) (first_true (list_all (agree s) rest) (all_agree rest) all)
@@ -100,11 +98,6 @@ into (s ∷ rest) earlier before all =
         let found = found_contains (λ x. text_eq s.path x.path && x.whole) earlier f e in
         let path = text_same s.path f.path (first_true (text_eq s.path f.path) f.whole found.0) in
         agree_functions f s (agrees f found.1) (sym path) (second_true (text_eq s.path f.path) f.whole found.0) w
-
-    whole : (b : Bool) → s.whole ≡ b → (not b || option_map_or (λ f. same_in_functions f s) (first_whole s.path earlier) true) ≡ true
-    whole false e = refl
-    whole true e = functions e (first_whole s.path earlier) refl
-
 -- what is known of the views so far: each is like the first of its path, and no function stands twice
 record Known (earlier : List Sight) : Type 0 where
   types : (x : Sight) → Contains earlier x → (f : Sight) × (first_of x.path earlier ≡ Some f) × (same_types f x ≡ true)
@@ -133,25 +126,22 @@ module _ (earlier : List Sight) (s : Sight) (known : Known earlier) (one : IsOnc
       let there = found_contains (λ y. text_eq x.path y.path && y.whole) earlier first.0 first.1 in
       function_join first.0 x s (known.once first.0 there.1) (known.once x c) one first.2 (with_functions yours first.0 (ap (λ p. first_whole p earlier) (sym path) ∙ first.1)))
 
+  -- the first that passes a test is still the first, or is the one more
+  still_first : (q : Sight → Bool) (f : Sight) → find q earlier ≡ Some f → find q (earlier ++ s ∷ []) ≡ Some f
+  still_first q f e = find-append q earlier (s ∷ []) ∙ ap (λ o. option_or o (find q (s ∷ []))) e
+
+  now_first : (q : Sight → Bool) → find q earlier ≡ None → q s ≡ true → find q (earlier ++ s ∷ []) ≡ Some s
+  now_first q e h = find-append q earlier (s ∷ []) ∙ (ap (λ o. option_or o (find q (s ∷ []))) e ∙ ap (λ b. cond b (Some s) None) h)
+
   -- and then the same is known of one more
   known_more : Known (earlier ++ s ∷ [])
   known_more = record {
     types = λ x c. elim (Contains-append_cases earlier (s ∷ []) x c) [
-      | inl there ↦ (let first = known.types x there in (
-        first.0,
-        find-append (λ y. text_eq x.path y.path) earlier (s ∷ []) ∙ ap (λ o. option_or o (find (λ y. text_eq x.path y.path) (s ∷ [])))
-            first.1,
-        first.2,
-      ))
+      | inl there ↦ (let first = known.types x there in (first.0, still_first (λ y. text_eq x.path y.path) first.0 first.1, first.2))
       | inr last ↦ subst (λ (y : Sight). (f : Sight) × (first_of y.path (earlier ++ s ∷ []) ≡ Some f) × (same_types f y ≡ true)) (last_of s x last) (own_types (first_of s.path earlier) refl)
     ];
     functions = λ x c w. elim (Contains-append_cases earlier (s ∷ []) x c) [
-      | inl there ↦ (let first = known.functions x there w in (
-        first.0,
-        find-append (λ y. text_eq x.path y.path && y.whole) earlier (s ∷ []) ∙ ap
-            (λ o. option_or o (find (λ y. text_eq x.path y.path && y.whole) (s ∷ []))) first.1,
-        first.2,
-      ))
+      | inl there ↦ (let first = known.functions x there w in (first.0, still_first (λ y. text_eq x.path y.path && y.whole) first.0 first.1, first.2))
       | inr last ↦ subst (λ (y : Sight). (f : Sight) × (first_whole y.path (earlier ++ s ∷ []) ≡ Some f) × (same_in_functions f y ≡ true)) (last_of s x last)
           (own_functions (ap (λ y. y.whole) (last_of s x last) ∙ w) (first_whole s.path earlier) refl)
     ];
@@ -162,27 +152,13 @@ module _ (earlier : List Sight) (s : Sight) (known : Known earlier) (one : IsOnc
   }
     where
       own_types : (o : Option Sight) → first_of s.path earlier ≡ o → (f : Sight) × (first_of s.path (earlier ++ s ∷ []) ≡ Some f) × (same_types f s ≡ true)
-      own_types (Some f) e = (f, find-append (λ y. text_eq s.path y.path) earlier (s ∷ []) ∙ ap (λ o. option_or o (find (λ y. text_eq s.path y.path) (s ∷ []))) e, with_types f e)
-      own_types None e = (
-        s,
-        find-append (λ y. text_eq s.path y.path) earlier (s ∷ []) ∙ (ap (λ o. option_or o (find (λ y. text_eq s.path y.path) (s ∷ []))) e ∙ ap (λ b. cond b (Some s) None)
-            (same_text s.path s.path refl)),
-        type_itself s,
-      )
+      own_types (Some f) e = (f, still_first (λ y. text_eq s.path y.path) f e, with_types f e)
+      own_types None e = (s, now_first (λ y. text_eq s.path y.path) e (same_text s.path s.path refl), type_itself s)
 
       own_functions : s.whole ≡ true → (o : Option Sight) → first_whole s.path earlier ≡ o → (f : Sight) × (first_whole s.path (earlier ++ s ∷ []) ≡ Some f) × (same_in_functions f s ≡ true)
-      own_functions w (Some f) e = (
-        f,
-        find-append (λ y. text_eq s.path y.path && y.whole) earlier (s ∷ []) ∙ ap (λ o. option_or o (find (λ y. text_eq s.path y.path && y.whole) (s ∷ []))) e,
-        with_functions w f e,
-      )
-      own_functions w None e = (
-        s,
-        find-append (λ y. text_eq s.path y.path && y.whole) earlier (s ∷ [])
-            ∙ (ap (λ o. option_or o (find (λ y. text_eq s.path y.path && y.whole) (s ∷ []))) e ∙ ap (λ b. cond b (Some s) None)
-            (and_from (text_eq s.path s.path) s.whole (same_text s.path s.path refl) w)),
-        function_itself s one,
-      )
+      own_functions w (Some f) e = (f, still_first (λ y. text_eq s.path y.path && y.whole) f e, with_functions w f e)
+      own_functions w None e =
+          (s, now_first (λ y. text_eq s.path y.path && y.whole) e (and_from (text_eq s.path s.path) s.whole (same_text s.path s.path refl) w), function_itself s one)
 
 back : (rest earlier : List Sight) → Known earlier → ((x : Sight) → Contains rest x → IsOnce x) → agree_with_first earlier rest ≡ true
     → ((x : Sight) → Contains earlier x → list_all (agree x) rest ≡ true) × (all_agree rest ≡ true)
@@ -202,16 +178,10 @@ pub distinct_behind : (xs ys : List Text) → distinct (xs ++ ys) ≡ true → d
 distinct_behind [] ys e = e
 distinct_behind (x ∷ xs) ys e = distinct_behind xs ys (second_true (not (list_any (text_eq x) (xs ++ ys))) (distinct (xs ++ ys)) e)
 
-none_contained : (x : Sight) → Contains [] x → ⊥
-none_contained x (i, low, h) = omega (arith, low)
-
 interfaces_once : (seen : List Sight) → are_interfaces seen ≡ true → (x : Sight) → Contains seen x → IsOnce x
-interfaces_once [] e x c = absurd (none_contained x c)
-interfaces_once (s ∷ rest) e x (suc i, low, h) = interfaces_once rest (second_true (is_interface (Place.of_interface s.path) s.view) (are_interfaces rest) e) x (i, omega (arith, low), h)
-interfaces_once (s ∷ rest) e x (zero, low, h) = subst IsOnce h (of_interface (first_true (is_interface (Place.of_interface s.path) s.view) (are_interfaces rest) e))
-  where
-    of_interface : is_interface (Place.of_interface s.path) s.view ≡ true → IsOnce s
-    of_interface i = distinct_behind (map (λ t. t.name) s.view.types) (map (λ f. f.0) s.view.functions) (second_true _ (distinct (map (λ t. t.name) s.view.types ++ map (λ f. f.0) s.view.functions)) i)
+interfaces_once seen e x c =
+    let interface = all-contained (λ (s : Sight). is_interface (Place.of_interface s.path) s.view) seen x e c in
+    distinct_behind (map (λ t. t.name) x.view.types) (map (λ f. f.0) x.view.functions) (second_true _ (distinct (map (λ t. t.name) x.view.types ++ map (λ f. f.0) x.view.functions)) interface)
 
 pub first_agrees : FirstAgrees
 first_agrees seen interfaces = either_way (all_agree seen) (agree_with_first [] seen)

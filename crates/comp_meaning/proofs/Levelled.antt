@@ -15,8 +15,8 @@ use Rattle.comp_bytes.specs.Levels.{plain, holds, PartType, wraps, shows, Piece,
 use Rattle.comp_bytes.specs.Levels as levels
 use Rattle.comp_bytes.proofs.Readers.{bind_some, when_some}
 use Rattle.comp_bytes.proofs.PieceLaws.{levels_are_sections}
-use Rattle.comp_meaning.specs.Follow.{each, when, provided, complete_path, Scope, component_scope}
-use Rattle.comp_meaning.specs.Rules.{distinct, is_world}
+use Rattle.comp_meaning.specs.Follow.{each, when, complete_path, Scope, component_scope}
+use Rattle.comp_meaning.specs.Rules.{distinct}
 use Rattle.comp_meaning.specs.Reads.{steps, is_bare, top_type, top_section, exported_types, wrapped, labelled_path, world_part, interface_part, part_of, Part, Member, member, package_of_members, world_of_members}
 use Rattle.comp_meaning.specs.Reads as reads
 use Rattle.comp_meaning.specs.ByLevels.{member_by_levels, exported_parts, package_of_pieces, world_of_pieces, PackageByLevels, WorldByLevels}
@@ -42,10 +42,9 @@ wrapped_or _ = inr refl
 -- the world of a wrapper that is read has been followed
 world_scope : (label : Text) (inner : Declarations) (name : ExternName) (p : PackageIdentity × Part) → world_part label (inner, name) ≡ Some p → (scope : Scope) × (component_scope inner ≡ Some scope)
 world_scope label inner name p e =
-    let path = bind_some (when (is_none name.implements && is_none name.external_id) (complete_path name.text name.version_suffix))
-    (λ path. labelled_path label path >>= λ package_. component_scope inner >>= λ scope. provided (is_world scope) (package_, Part.world scope)) p e in
-    let package_ = bind_some (labelled_path label path.0) (λ package_. component_scope inner >>= λ scope. provided (is_world scope) (package_, Part.world scope)) p path.2 in
-    let scope = bind_some (component_scope inner) (λ scope. provided (is_world scope) (package_.0, Part.world scope)) p package_.2 in
+    let path = bind_some (when (is_none name.implements && is_none name.external_id) (complete_path name.text name.version_suffix)) _ p e in
+    let package_ = bind_some (labelled_path label path.0) _ p path.2 in
+    let scope = bind_some (component_scope inner) _ p package_.2 in
     (scope.0, scope.1)
 
 interface_scope : (label : Text) (ds : Declarations) (p : PackageIdentity × Part) → interface_part label ds ≡ Some p → (scope : Scope) × (component_scope ds ≡ Some scope)
@@ -57,7 +56,7 @@ interface_scope label ds p e = by (component_scope ds) refl
 
 member_levels : (x : Text × Declarations) (m : Member) → member x ≡ Some m → IsLevelled x.1
 member_levels x m e =
-    let part = bind_some (part_of x.0 x.1) (λ p. Some (record { label = x.0; package_ = p.0; part = p.1 })) m e in
+    let part = bind_some (part_of x.0 x.1) _ m e in
     elim (wrapped_or x.1) [
       | inl w ↦
           let world : world_part x.0 (w.0, w.1) ≡ Some part.0 = sym (ap (part_of x.0) w.2) ∙ part.1 in
@@ -99,9 +98,7 @@ kept_type top next (TopType.component ds) e k =
 kept_type top next _ e k = absurd cc
 kept_export : (top next : reads.Top) (x : TopExport) → reads.top_export top x ≡ Some next → IsKept top → IsKept next
 kept_export top next x e k =
-    let b = bind_some (slice_get top.slots x.type_index) (λ n.
-    provided (is_bare x.exported_as && (is_label x.exported_as.text && not (list_any (λ y. eqb y.1 n) top.exported)))
-    (record { types = top.types; slots = top.slots ++ n ∷ []; exported = top.exported ++ (x.exported_as.text, n) ∷ [] })) next e in
+    let b = bind_some (slice_get top.slots x.type_index) _ next e in
     let after : reads.Top = record { types = top.types; slots = top.slots ++ b.0 ∷ []; exported = top.exported ++ (x.exported_as.text, b.0) ∷ [] } in
     let w = when_some (is_bare x.exported_as && (is_label x.exported_as.text && not (list_any (λ y. eqb y.1 b.0) top.exported))) (Some after) next b.2 in
     let named = and_parts (is_bare x.exported_as) (is_label x.exported_as.text && not (list_any (λ y. eqb y.1 b.0) top.exported)) w.0 in
@@ -133,12 +130,12 @@ exported_levels : (types : List Declarations) (xs : List (Text × ℕ)) (found :
     → (n : ℕ) → list_any (λ x. eqb x.1 n) xs ≡ true → (ds : Declarations) → slice_get types n ≡ Some ds → IsLevelled ds
 exported_levels types [] found members e f n h ds at = absurd cc
 exported_levels types (x ∷ xs) found members e f n h ds at =
-    let one = bind_some (raw_found x (slice_get types x.1)) (λ y. each (λ x. raw_found x (slice_get types x.1)) xs >>= λ ys. Some (y ∷ ys)) found e in
-    let more = bind_some (each (λ x. raw_found x (slice_get types x.1)) xs) (λ ys. Some (one.0 ∷ ys)) found one.2 in
-    let type_at = bind_some (slice_get types x.1) (λ d. Some (x.0, d)) one.0 one.1 in
+    let one = bind_some (raw_found x (slice_get types x.1)) _ found e in
+    let more = bind_some (each (λ x. raw_found x (slice_get types x.1)) xs) _ found one.2 in
+    let type_at = bind_some (slice_get types x.1) _ one.0 one.1 in
     let all : each member (one.0 ∷ more.0) ≡ Some members = ap (each member) (some_is (one.0 ∷ more.0) found more.2) ∙ f in
-    let first = bind_some (member one.0) (λ m. each member more.0 >>= λ ms. Some (m ∷ ms)) members all in
-    let others = bind_some (each member more.0) (λ ms. Some (first.0 ∷ ms)) members first.2 in
+    let first = bind_some (member one.0) _ members all in
+    let others = bind_some (each member more.0) _ members first.2 in
     by one.0 first.0 first.1 type_at.0 type_at.1 (some_is (x.0, type_at.0) one.0 type_at.2) (λ k. exported_levels types xs more.0 others.0 more.1 others.1 n k ds at) (eqb x.1 n) refl
   where
     by : (y : Text × Declarations) (m : Member) → member y ≡ Some m → (d : Declarations) → slice_get types x.1 ≡ Some d → (x.0, d) ≡ y → (list_any (λ z. eqb z.1 n) xs ≡ true → IsLevelled ds)
@@ -165,9 +162,7 @@ type_stays n ds top next (TopType.component inner) e h =
 type_stays n ds top next _ e h = absurd cc
 export_stays : (n : ℕ) (ds : Declarations) (top next : reads.Top) (x : TopExport) → reads.top_export top x ≡ Some next → Stands n ds top → Stands n ds next
 export_stays n ds top next x e h =
-    let b = bind_some (slice_get top.slots x.type_index) (λ n.
-    provided (is_bare x.exported_as && (is_label x.exported_as.text && not (list_any (λ y. eqb y.1 n) top.exported)))
-    (record { types = top.types; slots = top.slots ++ n ∷ []; exported = top.exported ++ (x.exported_as.text, n) ∷ [] })) next e in
+    let b = bind_some (slice_get top.slots x.type_index) _ next e in
     let after : reads.Top = record { types = top.types; slots = top.slots ++ b.0 ∷ []; exported = top.exported ++ (x.exported_as.text, b.0) ∷ [] } in
     let w = when_some (is_bare x.exported_as && (is_label x.exported_as.text && not (list_any (λ y. eqb y.1 b.0) top.exported))) (Some after) next b.2 in
     subst (Stands n ds) (some_is after next w.1) h
@@ -191,12 +186,12 @@ sections_levels (Section.custom name contents ∷ ss) top next e all =
     let more = sections_levels ss top next e all in
     (levels.custom name contents ∷ more.0, ap (λ (rest : List Section). Section.custom name contents ∷ rest) more.1)
 sections_levels (Section.types ts ∷ ss) top next e all =
-    let b = bind_some (steps top_type top ts) (λ s. steps top_section s ss) next e in
+    let b = bind_some (steps top_type top ts) _ next e in
     let here = types_levels ts top b.0 b.1 (λ n ds h. all n ds (steps_keep (Stands n ds) top_section (section_stays n ds) ss b.0 next b.2 h)) in
     let more = sections_levels ss b.0 next b.2 all in
     (levels.types here.0 ∷ more.0, ap (λ (xs : List TopType). Section.types xs ∷ ss) here.1 ∙ ap (λ (rest : List Section). raw_piece (levels.types here.0) ∷ rest) more.1)
 sections_levels (Section.exports es ∷ ss) top next e all =
-    let b = bind_some (steps reads.top_export top es) (λ s. steps top_section s ss) next e in
+    let b = bind_some (steps reads.top_export top es) _ next e in
     let more = sections_levels ss b.0 next b.2 all in
     (levels.exports es ∷ more.0, ap (λ (rest : List Section). Section.exports es ∷ rest) more.1)
 
@@ -204,8 +199,7 @@ sections_levels (Section.exports es ∷ ss) top next e all =
 only_levels : (ss : List Section) (found : List (Text × Declarations)) (members : List Member) → exported_types ss ≡ Some found → each member found ≡ Some members → (ps : List Piece)
     × (ss ≡ map raw_piece ps)
 only_levels ss found members e f =
-    let b = bind_some (steps top_section empty_top ss) (λ top.
-    when (eqb (length top.exported) (length top.types) && distinct (map (λ x. x.0) top.exported)) (each (λ x. raw_found x (slice_get top.types x.1)) top.exported)) found e in
+    let b = bind_some (steps top_section empty_top ss) _ found e in
     let w = when_some (eqb (length b.0.exported) (length b.0.types) && distinct (map (λ x. x.0) b.0.exported)) (each (λ x. raw_found x (slice_get b.0.types x.1)) b.0.exported) found b.2 in
     let many = and_parts (eqb (length b.0.exported) (length b.0.types)) (distinct (map (λ x. x.0) b.0.exported)) w.0 in
     let kept = steps_keep IsKept top_section kept_section ss empty_top b.0 b.1 empty_kept in
@@ -251,7 +245,7 @@ module _ {M : Type 0} (last : List Member → Option M) where
       no_meaning none None found r e = e
       no_meaning none (Some ss) found None e = refl
       no_meaning none (Some ss) found (Some m) e =
-          let types = bind_some (exported_types ss) (λ types. each member types >>= λ members. last members) m e in
+          let types = bind_some (exported_types ss) _ m e in
           let members = bind_some (each member types.0) last m types.2 in
           let only = only_levels ss types.0 members.0 types.1 members.1 in
           let read : levels_of bytes ≡ Some only.0 = (levels_are_sections bytes only.0).1 (found ∙ ap (λ (xs : List Section). Some xs) only.1) in

@@ -11,6 +11,8 @@ pub mod AgreementLaws
 pub mod Computing
 -- Worked examples: aliases, attributes, unused definitions, resources and levels. Serves no function.
 mod CornerExamples
+-- What a declaration of a world does to its scope: one more slot, or one more that is seen. Serves EntryLaws; crates above.
+pub mod StepLaws
 -- The declarations of a world or an interface, followed as entries, stand for the scope that they stand for as raw forms. Serves laws::by_levels; crates above.
 pub mod EntryLaws
 -- Lemmas on the steps of following. Serves crates above.

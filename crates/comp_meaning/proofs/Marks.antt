@@ -82,8 +82,6 @@ module _ {A : Type 0} (key : A → ℕ) where
 
   taken_more : (xs : List A) (x : A) (zs : List A) → HasOneMore xs x zs → (n k : ℕ) (fs : List Bool) → key x ≡ n + k → list_any (λ y. eqb (key y) (key x)) xs ≡ false → slice_get fs k ≡ Some true
       → taken zs n fs ≡ suc (taken xs n fs)
-  taken_more xs x zs more n k [] e new h = absurd cc
-  taken_more xs x zs more n zero (false ∷ fs) e new h = absurd cc
   taken_more xs x zs more n zero (true ∷ fs) e new h =
       let here : key x ≡ n = omega (arith, e) in
       let absent_before : list_any (λ y. eqb (key y) n) xs ≡ false = sym (ap (λ m. list_any (λ y. eqb (key y) m) xs) here) ∙ new in
@@ -96,6 +94,7 @@ module _ {A : Type 0} (key : A → ℕ) where
       ∙ ap (λ j. cond (list_any (λ y. eqb (key y) n) xs) (suc j) j) (taken_more xs x zs more (suc n) k fs (omega (arith, e)) new h)
       ∙ one_more (list_any (λ y. eqb (key y) n) xs) (taken xs (suc n) fs)
   taken_more xs x zs more n (suc k) (false ∷ fs) e new h = taken_more xs x zs more (suc n) k fs (omega (arith, e)) new h
+  taken_more xs x zs more n _ _ e new h = absurd cc
 
   -- ---- what is kept
 
@@ -163,8 +162,6 @@ module _ {A : Type 0} (key : A → ℕ) where
   exact xs fs c = ap (λ k. eqb k (marks fs)) c.count ∙ as_many xs 0 fs
 
   pub taken_at : (xs : List A) (n k : ℕ) (fs : List Bool) → all_taken xs n fs ≡ true → slice_get fs k ≡ Some true → list_any (λ x. eqb (key x) (n + k)) xs ≡ true
-  taken_at xs n k [] all h = absurd cc
-  taken_at xs n zero (false ∷ fs) all h = absurd cc
   taken_at xs n zero (true ∷ fs) all h =
       let here : n + 0 ≡ n = omega arith in
       ap (λ m. list_any (λ x. eqb (key x) m) xs) here ∙ first_true (list_any (λ x. eqb (key x) n) xs) (all_taken xs (suc n) fs) all
@@ -174,3 +171,4 @@ module _ {A : Type 0} (key : A → ℕ) where
   taken_at xs n (suc k) (false ∷ fs) all h =
       let here : n + suc k ≡ suc n + k = omega arith in
       ap (λ m. list_any (λ x. eqb (key x) m) xs) here ∙ taken_at xs (suc n) k fs all h
+  taken_at xs n _ _ all h = absurd cc

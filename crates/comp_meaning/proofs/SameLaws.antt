@@ -21,15 +21,13 @@ texts_decide a b = bytes_eq-Decides a b
 
 bools_decide : DecidesEquality same_bool
 bools_decide true true = (λ e. refl, λ e. refl)
-bools_decide true false = (λ e. absurd cc, λ e. absurd cc)
-bools_decide false true = (λ e. absurd cc, λ e. absurd cc)
 bools_decide false false = (λ e. refl, λ e. refl)
+bools_decide _ _ = (λ e. absurd cc, λ e. absurd cc)
 
 options_decide : {A : Type 0} (same : A → A → Bool) → DecidesEquality same → (a b : Option A) → Decides (same_option same a b) (a ≡ b)
 options_decide same d None None = (λ e. refl, λ e. refl)
 options_decide same d (Some x) (Some y) = (λ e. ap Some ((d x y).0 e), λ e. (d x y).1 (let same_value : x ≡ y = cc in same_value))
-options_decide same d None (Some y) = (λ e. absurd cc, λ e. absurd cc)
-options_decide same d (Some x) None = (λ e. absurd cc, λ e. absurd cc)
+options_decide same d _ _ = (λ e. absurd cc, λ e. absurd cc)
 
 pairs_decide : {A B : Type 0} (same : A → A → Bool) (other : B → B → Bool) → DecidesEquality same → DecidesEquality other → (x y : A × B) → Decides (same x.0 y.0 && other x.1 y.1) (x ≡ y)
 pairs_decide same other d e x y =

@@ -1,0 +1,72 @@
+-- What a declaration of a world does to its scope: one more slot, or one more that is seen.
+use Rattle.std.proofs.Common.{◌≡◌, subst, ℕ, false, not, ◌==◌, [], ◌∷◌, ◌++◌, Option, Some, slice_get}
+use Rattle.std.specs.List.{list_any}
+use Rattle.std.proofs.lemmas.Bool.{not-true}
+use Rattle.wit_model.specs.Text.{Text}
+use Rattle.wit_model.specs.Tree as tree
+use Rattle.wit_model.specs.Tree.{Tree, Place}
+use Rattle.wit_model.specs.Meaning.{Signature}
+use Rattle.comp_bytes.specs.declared.forms.ComponentTypeRef.{ComponentTypeRef}
+use Rattle.comp_bytes.specs.declared.forms.ComponentTypeRef.TheVariants as refs
+use Rattle.comp_bytes.specs.Raw.{Alias, DefinedType, ExternName, FunctionType, Declaration}
+use Rattle.comp_bytes.proofs.Readers.{bind_some, when_some}
+use Rattle.comp_meaning.specs.Follow.{Slot, Scope, Seen, Shown, Key, View, Direction, import_, export_, when, provided, in_scope, see, key_of, key_text, place_of, interface_of, used_view, see_instance, see_described, named_type, is_simple, function_in, definition, function_signature, exported_slot, component_step}
+use Rattle.base_lemmas.proofs.Options.{some_is}
+
+-- what is seen under a name, and an instance that is seen
+abbrev pub seen_under : ExternName → Shown → Seen
+seen_under name shown = record { key = name.text; shown = shown; external_id = name.external_id }
+
+abbrev pub seen_instance : ExternName → Key → View → Seen
+seen_instance name key view = record { key = key_text key; shown = Shown.instance key view; external_id = name.external_id }
+
+abbrev pub with_instance : Scope → ℕ → Key → View → Scope
+with_instance scope n key view = record scope { instances = scope.instances ++ record { interface = interface_of key; view = view } ∷ []; used = scope.used ++ n ∷ [] }
+
+-- the scope behind a declaration
+pub data StepOf (scope : Scope) : Scope → Type 0 where
+  defines : (d : DefinedType) (t : Tree) → definition scope.slots d ≡ Some t → StepOf scope (in_scope (Slot.value t) scope)
+  signs : (f : FunctionType) (s : Signature) → function_signature scope.slots f ≡ Some s → StepOf scope (in_scope (Slot.function s) scope)
+  aliases : (m : ℕ) (name : Text) (slot : Slot) → exported_slot name (slice_get scope.instances m) ≡ Some slot → StepOf scope (in_scope slot scope)
+  sees_function : (direction : Direction) (name : ExternName) (n : ℕ) (f : Signature) → function_in (slice_get scope.slots n) ≡ Some f
+      → StepOf scope (see direction (seen_under name (Shown.function f)) scope)
+  sees_type : (name : ExternName) (described : ComponentTypeRef) (found : tree.Declaration × Slot) → named_type scope.slots Place.here name.text described ≡ Some found
+      → StepOf scope (see import_ (seen_under name (Shown.declares found.0)) (in_scope found.1 scope))
+  sees_instance : (direction : Direction) (name : ExternName) (n : ℕ) (key : Key) (view : View) → list_any (λ m. m == n) scope.used ≡ false
+      → used_view scope.slots (place_of (interface_of key)) (slice_get scope.slots n) ≡ Some view → StepOf scope (see direction (seen_instance name key view) (with_instance scope n key view))
+
+instance_step : (direction : Direction) (name : ExternName) (n : ℕ) (scope next : Scope) → see_instance direction name n scope ≡ Some next → StepOf scope next
+instance_step direction name n scope next e =
+    let of_key : Key → Option View = λ key. when (not (list_any (λ m. m == n) scope.used)) (used_view scope.slots (place_of (interface_of key)) (slice_get scope.slots n)) in
+    let after : Key → View → Scope = λ key view. see direction (seen_instance name key view) (with_instance scope n key view) in
+    let k = bind_some (key_of name) _ next e in
+    let v = bind_some (of_key k.0) _ next k.2 in
+    let w = when_some (not (list_any (λ m. m == n) scope.used)) (used_view scope.slots (place_of (interface_of k.0)) (slice_get scope.slots n)) v.0 v.1 in
+    subst (StepOf scope) (some_is (after k.0 v.0) next v.2) (sees_instance direction name n k.0 v.0 (not-true (list_any (λ m. m == n) scope.used) w.0) w.1)
+
+described_step : (direction : Direction) (name : ExternName) (described : ComponentTypeRef) (scope next : Scope) → see_described direction name described scope ≡ Some next → StepOf scope next
+described_step direction name (refs.Instance n) scope next e = instance_step direction name n scope next e
+described_step direction name (refs.Func n) scope next e =
+    let b = bind_some (function_in (slice_get scope.slots n)) _ next e in
+    let w = when_some (is_simple name) (Some (see direction (seen_under name (Shown.function b.0)) scope)) next b.2 in
+    subst (StepOf scope) (some_is (see direction (seen_under name (Shown.function b.0)) scope) next w.1) (sees_function direction name n b.0 b.1)
+described_step import_ name described scope next e =
+    let after : tree.Declaration × Slot → Scope = λ found. see import_ (seen_under name (Shown.declares found.0)) (in_scope found.1 scope) in
+    let b = bind_some (named_type scope.slots Place.here name.text described) (λ found. provided (is_simple name) (after found)) next e in
+    let w = when_some (is_simple name) (Some (after b.0)) next b.2 in
+    subst (StepOf scope) (some_is (after b.0) next w.1) (sees_type name described b.0 b.1)
+described_step export_ name _ scope next e = absurd cc
+
+pub step_of : (scope next : Scope) (d : Declaration) → component_step scope d ≡ Some next → StepOf scope next
+step_of scope next (Declaration.defined d) e =
+    let b = bind_some (definition scope.slots d) _ next e in
+    subst (StepOf scope) (some_is (in_scope (Slot.value b.0) scope) next b.2) (defines d b.0 b.1)
+step_of scope next (Declaration.function f) e =
+    let b = bind_some (function_signature scope.slots f) _ next e in
+    subst (StepOf scope) (some_is (in_scope (Slot.function b.0) scope) next b.2) (signs f b.0 b.1)
+step_of scope next (Declaration.alias_of (Alias.of_export m name)) e =
+    let b = bind_some (exported_slot name (slice_get scope.instances m)) _ next e in
+    subst (StepOf scope) (some_is (in_scope b.0 scope) next b.2) (aliases m name b.0 b.1)
+step_of scope next (Declaration.alias_of (Alias.of_outer scopes n)) e = absurd cc
+step_of scope next (Declaration.imported name described) e = described_step import_ name described scope next e
+step_of scope next (Declaration.exported name described) e = described_step export_ name described scope next e
