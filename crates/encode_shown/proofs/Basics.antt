@@ -1,5 +1,5 @@
 -- What a rule that is kept says of an entry, and owners.
-use Rattle.std.proofs.Common.{◌≡◌, refl, subst, ◌+◌, Bool, true, false, not, ◌||◌, Option, Some, None, arith}
+use Rattle.std.proofs.Common.{◌≡◌, refl, subst, ◌+◌, Bool, true, false, ◌||◌, Option, Some, None, arith}
 use Rattle.std.specs.Prelude.{option_and_then}
 use Rattle.std.specs.Option.{option_map_or}
 use Rattle.wit_model.specs.Checks.{references}
@@ -22,11 +22,6 @@ or-cases false b h p q = q h
 pub bool-cases : {P : Type 0} (b : Bool) → (b ≡ true → P) → (b ≡ false → P) → P
 bool-cases true p q = p refl
 bool-cases false p q = q refl
-
--- what holds where a test passes
-pub implied : (a b : Bool) → (a ≡ true → b ≡ true) → (not a || b) ≡ true
-implied true b h = h refl
-implied false b h = refl
 
 -- a look-up that finds nothing, or this
 pub option-cases : {A P : Type 0} (o : Option A) → (o ≡ None → P) → ((x : A) → o ≡ Some x → P) → P

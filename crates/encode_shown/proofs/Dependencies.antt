@@ -178,16 +178,10 @@ module _ (r : Resolve) (v : IsValid r) where
         (ap not (none-same e.1.0 path (own-path r v n p at e c) ns imports shows.reached.shown_imports (λ k d. apart_back k e.1.0 (apart k e.1.0 d (contains-one e.1.0)))))
         (imports-distinct ns imports shows.reached.shown_imports (distinct-front ns (e.1.0 ∷ []) shows.reached.reached.once)) in
         let all = reached-are e.1.0 exported shows.reached.shows ns imports shows.reached.shown_imports shows.reached.reached.used in
-        ap (λ (o : Option Scope). o >>= λ s. exported_view s.exports >>= λ x. each imported_view s.imports >>= λ is. labelled_path (text_of e.0) x.0 >>= λ q.
-        provided (distinct (x.0 ∷ map (λ i. i.0) is) && are_reached is x.1) (q, Part.interface x.1 is)) follows
-        ∙ ap (λ xs. exported_view xs >>= λ x. each imported_view scope.imports >>= λ is. labelled_path (text_of e.0) x.0 >>= λ q.
-        provided (distinct (x.0 ∷ map (λ i. i.0) is) && are_reached is x.1) (q, Part.interface x.1 is)) shows.exports_are
-        ∙ ap (λ (o : Option (List (Text × View))). o >>= λ is. labelled_path (text_of e.0) path >>= λ q.
-        provided (distinct (path ∷ map (λ i. i.0) is) && are_reached is exported) (q, Part.interface exported is))
-        (ap (each imported_view) shows.imports_are ∙ imports-read ns imports shows.reached.shown_imports)
-        ∙ ap (λ (o : Option PackageIdentity). o >>= λ q. provided (distinct (path ∷ map (λ i. i.0) imports) && are_reached imports exported) (q, Part.interface exported imports))
-        (labelled (identity_of p.name) (text_of e.0) (text_of e.0) (identity r v n p at) (own-label e c) refl)
-        ∙ ap (λ b. provided b (identity_of p.name, Part.interface exported imports)) (both _ _ differ all)
+        let read : each imported_view scope.imports ≡ Some imports = ap (each imported_view) shows.imports_are ∙ imports-read ns imports shows.reached.shown_imports in
+        let label : labelled_path (text_of e.0) path ≡ Some (identity_of p.name) = labelled (identity_of p.name) (text_of e.0) (text_of e.0) (identity r v n p at) (own-label e c) refl in
+        let passed : (distinct (path ∷ map (λ i. i.0) imports) && are_reached imports exported) ≡ true = both _ _ differ all in
+        rw (follows, shows.exports_are, read, label, passed) refl
 
     -- a world of the package under a label that is its name
     pub world-read : (m : ℕ) (w : World) → world_at r m ≡ Some w → (label : Text) → text_of w.name ≡ label → (ds : Declarations) (scope : Scope) → component_scope ds ≡ Some scope

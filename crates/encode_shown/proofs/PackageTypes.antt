@@ -21,11 +21,11 @@ use Rattle.wit_model.specs.declared.model.Resolve.{Resolve}
 use Rattle.wit_model.specs.declared.model.Package.{Package}
 use Rattle.wit_model.specs.declared.model.PackageId.{PackageId}
 use Rattle.wit_model.specs.declared.model.InterfaceId.{InterfaceId}
-use Rattle.wit_model.specs.declared.model.WorldId.{WorldId}
 use Rattle.wit_model.specs.declared.model.World.{World}
 use Rattle.comp_bytes.specs.Raw.{Declarations, Section}
 use Rattle.comp_bytes.specs.Spelling.{IsComponent}
 use Rattle.comp_bytes.specs.Reading.{◌>>=◌}
+use Rattle.comp_bytes.proofs.Readers.{bind_some}
 use Rattle.comp_meaning.specs.Follow.{Scope, each, is_filled, component_scope}
 use Rattle.comp_meaning.specs.Reads.{Member, Part, part_of, member, interface_part, exported_types, package_of_members, world_of_members, Reads, ReadsWorld}
 use Rattle.comp_meaning.specs.Rules.{distinct}
@@ -46,12 +46,11 @@ use Rattle.std.proofs.lemmas.Option.{same_Some as same-some}
 
 each-append : {A B : Type 0} (f : A → Option B) (xs ys : List A) (us vs : List B) → each f xs ≡ Some us → each f ys ≡ Some vs → each f (xs ++ ys) ≡ Some (us ++ vs)
 each-append f [] ys us vs e h = h ∙ ap (λ (o : Option (List _)). Some (Rattle.std.proofs.Common.unwrap_or o [] ++ vs)) e
-each-append f (x ∷ xs) ys us vs e h = go (λ ws q. each-append f xs ys ws vs q h) (f x) (each f xs) refl e
-  where
-    go : ((ws : List _) → each f xs ≡ Some ws → each f (xs ++ ys) ≡ Some (ws ++ vs)) → (o : Option _) (p : Option (List _)) → each f xs ≡ p → (o >>= λ y. p >>= λ ys. Some (y ∷ ys)) ≡ Some us
-        → (o >>= λ y. each f (xs ++ ys) >>= λ ys. Some (y ∷ ys)) ≡ Some (us ++ vs)
-    go more (Some y) (Some ws) q e = ap (λ (o : Option (List _)). o >>= λ ys. Some (y ∷ ys)) (more ws q) ∙ ap (λ (o : Option (List _)). Some (Rattle.std.proofs.Common.unwrap_or o [] ++ vs)) e
-    go more _ _ q e = absurd cc
+each-append f (x ∷ xs) ys us vs e h =
+    let y = bind_some (f x) _ us e in
+    let ws = bind_some (each f xs) _ us y.2 in
+    ap (λ (o : Option _). o >>= λ z. each f (xs ++ ys) >>= λ zs. Some (z ∷ zs)) y.1 ∙ ap (λ (o : Option (List _)). o >>= λ zs. Some (y.0 ∷ zs)) (each-append f xs ys ws.0 vs ws.1 h)
+    ∙ ap (λ zs. Some (zs ++ vs)) (same-some (y.0 ∷ ws.0) us ws.2)
 
 -- a component type that is followed is no wrapper
 part-of-interface : (label : Text) (ds : Declarations) (scope : Scope) → component_scope ds ≡ Some scope → part_of label ds ≡ interface_part label ds
@@ -67,13 +66,18 @@ record AreRead {E : Type 0} (R : E → Member → Type 0) (es : List E) (xs : Li
   pub read : each member xs ≡ Some members
   pub shown : AllZip R es members
 
-one-read : {E : Type 0} (R : E → Member → Type 0) (e : E) (es : List E) (x : Text × Declarations) (xs : List (Text × Declarations)) (m : Member) → member x ≡ Some m → R e m → AreRead R es xs
-    → AreRead R (e ∷ es) (x ∷ xs)
-one-read R e es x xs m h shown rest = record {
-  members = m ∷ rest.members;
-  read = ap (λ (o : Option Member). o >>= λ y. each member xs >>= λ ys. Some (y ∷ ys)) h ∙ ap (λ (o : Option (List Member)). o >>= λ ys. Some (m ∷ ys)) rest.read;
-  shown = (shown, rest.shown);
-}
+all-read : {E : Type 0} (Q : E → Text × Declarations → Type 0) (R : E → Member → Type 0) (es : List E) (xs : List (Text × Declarations)) → AllZip Q es xs
+    → ((e : E) (x : Text × Declarations) → Contains es e → Q e x → (m : Member) × (member x ≡ Some m) × R e m) → AreRead R es xs
+all-read Q R [] [] z one = record { members = []; read = refl; shown = tt }
+all-read Q R (e ∷ es) (x ∷ xs) z one =
+    let m = one e x (0, omega arith, refl) z.0 in
+    let rest = all-read Q R es xs z.1 (λ y w c q. one y w (contains-later e es y c) q) in
+    record {
+      members = m.0 ∷ rest.members;
+      read = ap (λ (o : Option Member). o >>= λ y. each member xs >>= λ ys. Some (y ∷ ys)) m.1 ∙ ap (λ (o : Option (List Member)). o >>= λ ys. Some (m.0 ∷ ys)) rest.read;
+      shown = (m.2, rest.shown);
+    }
+all-read Q R _ _ z one = absurd z
 
 module _ (r : Resolve) (v : IsValid r) (n : ℕ) (p : Package) (at : package_at r n ≡ Some p) where
   abbrev named : PackageIdentity
@@ -90,39 +94,20 @@ module _ (r : Resolve) (v : IsValid r) (n : ℕ) (p : Package) (at : package_at 
       → member x ≡ Some (record { label = label; package_ = named; part = Part.world is.scope })
   wrapper-read m label x is name = ap member is.is ∙ ap (as_member label) (world-read r v n p at m is.world is.there label name is.inner is.scope is.follows is.shows)
 
-  interfaces-read : (es : List (String Global × InterfaceId)) (xs : List (Text × Declarations)) → AllZip (IsInterfaceType r p) es xs
-      → ((e : String Global × InterfaceId) → Contains es e → Contains p.interfaces.entries e) → AreRead (ShowsInterfaceMember r named) es xs
-  interfaces-read [] [] z c = record { members = []; read = refl; shown = tt }
-  interfaces-read (e ∷ es) (x ∷ xs) z c =
-      one-read (ShowsInterfaceMember r named) e es x xs (record { label = text_of e.0; package_ = named; part = Part.interface z.0.exported z.0.imports })
-      (interface-read e x (c e (0, omega arith, refl)) z.0)
-      (record { imports = z.0.imports; exported = z.0.exported; reached = z.0.shows.reached; is = refl })
-      (interfaces-read es xs z.1 (λ y d. c y (contains-later e es y d)))
-  interfaces-read _ _ z c = absurd z
-
-  worlds-read : (es : List (String Global × WorldId)) (xs : List (Text × Declarations)) → AllZip (IsListedWorldType r p) es xs
-      → ((e : String Global × WorldId) → Contains es e → Contains p.worlds.entries e) → AreRead (ShowsWorldMember r named) es xs
-  worlds-read [] [] z c = record { members = []; read = refl; shown = tt }
-  worlds-read (e ∷ es) (x ∷ xs) z c =
-      one-read (ShowsWorldMember r named) e es x xs (record { label = text_of e.0; package_ = named; part = Part.world z.0.scope })
-      (wrapper-read e.1.0 (text_of e.0) x z.0 (own-world r v n p at e (c e (0, omega arith, refl)) z.0.world z.0.there).0)
-      (record { world = z.0.world; there = z.0.there; scope = z.0.scope; shows = z.0.shows; is = refl })
-      (worlds-read es xs z.1 (λ y d. c y (contains-later e es y d)))
-  worlds-read _ _ z c = absurd z
-
   filled-read : (xs : List (Text × Declarations)) (ms : List Member) → each member xs ≡ Some ms → is_filled xs ≡ true → is_filled ms ≡ true
   filled-read [] ms e h = absurd cc
-  filled-read (x ∷ xs) ms e h = go (member x) (each member xs) e
-    where
-      go : (o : Option Member) (q : Option (List Member)) → (o >>= λ y. q >>= λ ys. Some (y ∷ ys)) ≡ Some ms → is_filled ms ≡ true
-      go (Some y) (Some ys) e = ap (λ (o : Option (List Member)). is_filled (Rattle.std.proofs.Common.unwrap_or o (y ∷ ys))) (sym e)
-      go _ _ e = absurd cc
+  filled-read (x ∷ xs) ms e h =
+      let y = bind_some (member x) _ ms e in
+      let ys = bind_some (each member xs) _ ms y.2 in
+      ap is_filled (sym (same-some (y.0 ∷ ys.0) ms ys.2))
 
   pub sections-mean : (xs : List (Text × Declarations)) (sections : List Section) → ArePackageTypes r p xs → is_filled xs ≡ true → exported_types sections ≡ Some xs
       → reads.package_meaning sections ≡ Some (meant.package_meaning r n p)
   sections-mean xs sections types some e =
-      let interfaces = interfaces-read p.interfaces.entries types.interface_types types.interfaces (λ e c. c) in
-      let worlds = worlds-read p.worlds.entries types.world_types types.worlds (λ e c. c) in
+      let interfaces = all-read (IsInterfaceType r p) (ShowsInterfaceMember r named) p.interfaces.entries types.interface_types types.interfaces (λ e x c is.
+      (_, interface-read e x c is, record { imports = is.imports; exported = is.exported; reached = is.shows.reached; is = refl })) in
+      let worlds = all-read (IsListedWorldType r p) (ShowsWorldMember r named) p.worlds.entries types.world_types types.worlds (λ e x c is.
+      (_, wrapper-read e.1.0 (text_of e.0) x is (own-world r v n p at e c is.world is.there).0, record { world = is.world; there = is.there; scope = is.scope; shows = is.shows; is = refl })) in
       let all : each member xs ≡ Some (interfaces.members ++ worlds.members) =
       ap (each member) types.are ∙ each-append member types.interface_types types.world_types interfaces.members worlds.members interfaces.read worlds.read in
       ap (λ (o : Option (List (Text × Declarations))). o >>= λ ts. each member ts >>= λ ms. package_of_members ms) e

@@ -23,7 +23,7 @@ use Rattle.encode_shown.specs.Views.{home_of, ShowsTypes, ShowsInterface}
 use Rattle.encode_shown.specs.Views as views
 use Rattle.encode_shown.proofs.Alike.{list-alike, shown-alike, function-alike}
 use Rattle.encode_shown.proofs.Interfaces.{interface-obeys, interface-means, types-obey, types-mean}
-use Rattle.encode_shown.proofs.Basics.{implied}
+use Rattle.comp_meaning.proofs.AgreementLaws.{implied}
 use Rattle.encode_shown.proofs.Zips.{zip-left}
 use Rattle.base_lemmas.proofs.Bools.{left_of as first_true, right_of as second_true}
 use Rattle.base_lemmas.proofs.Elements.{all_pass as all-from}
