@@ -16,6 +16,7 @@ use Rattle.comp_meaning.specs.Follow.{Slot, each, given, provided, is_filled, is
 use Rattle.read_shown.specs.Trees.{AllAt, count_true, is_formed, HandleStands, TreeStands, PartsStand, SignatureStands, SlotStands}
 use Rattle.read_shown.proofs.Lists.{each_found, each_filled, given_found}
 use Rattle.base_lemmas.proofs.Numbers.{same_count}
+use Rattle.base_lemmas.proofs.Elements.{seconds}
 use Rattle.base_lemmas.proofs.Options.{some_is}
 use Rattle.wit_model.proofs.TreeLemmas.{child_list_of_children as listed}
 
@@ -53,40 +54,27 @@ module _ (Met : Place → Text → Bool → Type 0) where
   parts_given (None ∷ os) all = parts_given os all.1
   parts_given (Some t ∷ os) all = (all.0, parts_given os all.1)
 
-  seconds : {A X : Type 0} (P : X → Type 0) (xs : List (A × X)) → AllByRecursion (λ x. P x.1) xs → AllByRecursion P (map (λ x. x.1) xs)
-  seconds P [] all = tt
-  seconds P (x ∷ xs) all = (all.0, seconds P xs all.1)
-
   module _ (slots : List Slot) (all : AllAt (λ n (s : Slot). SlotStands Met s) slots) where
     value_stands : (n : ℕ) (t : Tree) → value_in (slice_get slots n) ≡ Some t → TreeStands Met t
     value_stands n t e = by (slice_get slots n) refl e
       where
         by : (o : Option Slot) → slice_get slots n ≡ o → value_in o ≡ Some t → TreeStands Met t
-        by None at h = absurd cc
         by (Some (Slot.value u)) at h = subst (TreeStands Met) (some_is u t h) (all n (Slot.value u) at)
-        by (Some (Slot.resource place name)) at h = absurd cc
-        by (Some (Slot.function f)) at h = absurd cc
-        by (Some (Slot.instance ds around)) at h = absurd cc
+        by _ at h = absurd cc
 
     resource_stands : (n : ℕ) (t : Tree) → resource_in (slice_get slots n) ≡ Some t → HandleStands Met (Trees.child t Trees.no_children)
     resource_stands n t e = by (slice_get slots n) refl e
       where
         by : (o : Option Slot) → slice_get slots n ≡ o → resource_in o ≡ Some t → HandleStands Met (Trees.child t Trees.no_children)
-        by None at h = absurd cc
-        by (Some (Slot.value u)) at h = absurd cc
         by (Some (Slot.resource place name)) at h = subst (λ u. HandleStands Met (Trees.child u Trees.no_children)) (some_is (Tree.named place name) t h) (all n (Slot.resource place name) at)
-        by (Some (Slot.function f)) at h = absurd cc
-        by (Some (Slot.instance ds around)) at h = absurd cc
+        by _ at h = absurd cc
 
     pub function_stands : (n : ℕ) (f : Signature) → function_in (slice_get slots n) ≡ Some f → SignatureStands Met f
     function_stands n f e = by (slice_get slots n) refl e
       where
         by : (o : Option Slot) → slice_get slots n ≡ o → function_in o ≡ Some f → SignatureStands Met f
-        by None at h = absurd cc
-        by (Some (Slot.value u)) at h = absurd cc
-        by (Some (Slot.resource place name)) at h = absurd cc
         by (Some (Slot.function g)) at h = subst (SignatureStands Met) (some_is g f h) (all n (Slot.function g) at)
-        by (Some (Slot.instance ds around)) at h = absurd cc
+        by _ at h = absurd cc
 
     type_stands : (v : ComponentValType) (t : Tree) → value_type slots v ≡ Some t → TreeStands Met t
     type_stands (values.Primitive p) t e = subst (TreeStands Met) (some_is (Tree.primitive (primitive_of_type p)) t e) tt
@@ -94,12 +82,12 @@ module _ (Met : Place → Text → Bool → Type 0) where
 
     field_stands : (x : Labeled ComponentValType) (y : Text × Tree) → field_type slots x ≡ Some y → TreeStands Met y.1
     field_stands x y e =
-        let b = bind_some (value_type slots x.type_of) (λ t. Some (x.label, t)) y e in
+        let b = bind_some (value_type slots x.type_of) _ y e in
         subst (λ (z : Text × Tree). TreeStands Met z.1) (some_is (x.label, b.0) y b.2) (type_stands x.type_of b.0 b.1)
 
     case_stands : (x : Labeled (Option ComponentValType)) (y : Text × Option Tree) → case_type slots x ≡ Some y → IfSome y.1 (TreeStands Met)
     case_stands x y e =
-        let b = bind_some (given (value_type slots) x.type_of) (λ t. Some (x.label, t)) y e in
+        let b = bind_some (given (value_type slots) x.type_of) _ y e in
         subst (λ (z : Text × Option Tree). IfSome z.1 (TreeStands Met)) (some_is (x.label, b.0) y b.2) (given_found (value_type slots) (TreeStands Met) type_stands x.type_of b.0 b.1)
 
     optional_stands : (o : Option ComponentValType) (p : Option Tree) → given (value_type slots) o ≡ Some p → IfSome p (TreeStands Met)
@@ -127,25 +115,25 @@ module _ (Met : Place → Text → Bool → Type 0) where
     pub definition_stands : (d : DefinedType) (t : Tree) → definition slots d ≡ Some t → TreeStands Met t
     definition_stands (DefinedType.primitive p) t e = subst (TreeStands Met) (some_is (Tree.primitive (primitive_of_type p)) t e) tt
     definition_stands (DefinedType.record_of fields) t e =
-        let b = bind_some (each (field_type slots) fields) (λ fs. provided (is_filled fields) (tree.record_tree fs)) t e in
+        let b = bind_some (each (field_type slots) fields) _ t e in
         let w = when_some (is_filled fields) (Some (tree.record_tree b.0)) t b.2 in
         let some = each_filled (field_type slots) fields b.0 b.1 w.0 in
         subst (TreeStands Met) (some_is (tree.record_tree b.0) t w.1) (record_stands b.0 (each_found (field_type slots) (λ (f : Text × Tree). TreeStands Met f.1) field_stands fields b.0 b.1) some)
     definition_stands (DefinedType.variant_of cases) t e =
-        let b = bind_some (each (case_type slots) cases) (λ cs. provided (is_filled cases) (tree.variant_tree cs)) t e in
+        let b = bind_some (each (case_type slots) cases) _ t e in
         let w = when_some (is_filled cases) (Some (tree.variant_tree b.0)) t b.2 in
         let some = each_filled (case_type slots) cases b.0 b.1 w.0 in
         subst (TreeStands Met) (some_is (tree.variant_tree b.0) t w.1) (variant_stands b.0
         (each_found (case_type slots) (λ (c : Text × Option Tree). IfSome c.1 (TreeStands Met)) case_stands cases b.0 b.1) some)
     definition_stands (DefinedType.list_of v) t e =
-        let b = bind_some (value_type slots v) (λ u. Some (tree.list_tree u)) t e in
+        let b = bind_some (value_type slots v) _ t e in
         subst (TreeStands Met) (some_is (tree.list_tree b.0) t b.2) (refl, (type_stands v b.0 b.1, tt))
     definition_stands (DefinedType.fixed_length_list_of v n) t e =
-        let b = bind_some (value_type slots v) (λ u. provided (nat_le 1 n) (tree.fixed_list_tree u n)) t e in
+        let b = bind_some (value_type slots v) _ t e in
         let w = when_some (nat_le 1 n) (Some (tree.fixed_list_tree b.0 n)) t b.2 in
         subst (TreeStands Met) (some_is (tree.fixed_list_tree b.0 n) t w.1) (both (nat_le 1 n) true w.0 refl, (type_stands v b.0 b.1, tt))
     definition_stands (DefinedType.tuple_of vs) t e =
-        let b = bind_some (each (value_type slots) vs) (λ ts. provided (is_filled vs) (tree.tuple_tree ts)) t e in
+        let b = bind_some (each (value_type slots) vs) _ t e in
         let w = when_some (is_filled vs) (Some (tree.tuple_tree b.0)) t b.2 in
         subst (TreeStands Met) (some_is (tree.tuple_tree b.0) t w.1) (
           ap (λ ts. is_filled ts) (listed b.0) ∙ each_filled (value_type slots) vs b.0 b.1 w.0,
@@ -158,43 +146,43 @@ module _ (Met : Place → Text → Bool → Type 0) where
         let w = when_some (is_filled names) (Some (tree.enum_tree names)) t e in
         subst (TreeStands Met) (some_is (tree.enum_tree names) t w.1) (both (is_filled names) true w.0 refl, tt)
     definition_stands (DefinedType.option_of v) t e =
-        let b = bind_some (value_type slots v) (λ u. Some (tree.option_tree u)) t e in
+        let b = bind_some (value_type slots v) _ t e in
         subst (TreeStands Met) (some_is (tree.option_tree b.0) t b.2) (refl, (type_stands v b.0 b.1, tt))
     definition_stands (DefinedType.result_of ok err) t e =
-        let b = bind_some (given (value_type slots) ok) (λ o. given (value_type slots) err >>= λ p. Some (tree.result_tree o p)) t e in
-        let c = bind_some (given (value_type slots) err) (λ p. Some (tree.result_tree b.0 p)) t b.2 in
+        let b = bind_some (given (value_type slots) ok) _ t e in
+        let c = bind_some (given (value_type slots) err) _ t b.2 in
         subst (TreeStands Met) (some_is (tree.result_tree b.0 c.0) t c.2) (
           same_count (length (child_list (tree.given (b.0 ∷ c.0 ∷ [])))) (count_true (is_given b.0 ∷ is_given c.0 ∷ [])) (given_counted (b.0 ∷ c.0 ∷ [])),
           parts_given (b.0 ∷ c.0 ∷ []) (optional_stands ok b.0 b.1, (optional_stands err c.0 c.1, tt)),
         )
     definition_stands (DefinedType.own_of n) t e =
-        let b = bind_some (resource_in (slice_get slots n)) (λ r. Some (tree.own_tree r)) t e in
+        let b = bind_some (resource_in (slice_get slots n)) _ t e in
         subst (TreeStands Met) (some_is (tree.own_tree b.0) t b.2) (refl, resource_stands n b.0 b.1)
     definition_stands (DefinedType.borrow_of n) t e =
-        let b = bind_some (resource_in (slice_get slots n)) (λ r. Some (tree.borrow_tree r)) t e in
+        let b = bind_some (resource_in (slice_get slots n)) _ t e in
         subst (TreeStands Met) (some_is (tree.borrow_tree b.0) t b.2) (refl, resource_stands n b.0 b.1)
     definition_stands (DefinedType.stream_of v) t e =
-        let b = bind_some (given (value_type slots) v) (λ o. Some (tree.stream_tree o)) t e in
+        let b = bind_some (given (value_type slots) v) _ t e in
         subst (TreeStands Met) (some_is (tree.stream_tree b.0) t b.2) (
           same_count (length (child_list (tree.given (b.0 ∷ [])))) (count_true (is_given b.0 ∷ [])) (given_counted (b.0 ∷ [])),
           parts_given (b.0 ∷ []) (optional_stands v b.0 b.1, tt),
         )
     definition_stands (DefinedType.future_of v) t e =
-        let b = bind_some (given (value_type slots) v) (λ o. Some (tree.future_tree o)) t e in
+        let b = bind_some (given (value_type slots) v) _ t e in
         subst (TreeStands Met) (some_is (tree.future_tree b.0) t b.2) (
           same_count (length (child_list (tree.given (b.0 ∷ [])))) (count_true (is_given b.0 ∷ [])) (given_counted (b.0 ∷ [])),
           parts_given (b.0 ∷ []) (optional_stands v b.0 b.1, tt),
         )
     definition_stands (DefinedType.map_of k v) t e =
-        let b = bind_some (value_type slots k) (λ key. value_type slots v >>= λ u. provided (is_key key) (tree.map_tree key u)) t e in
-        let c = bind_some (value_type slots v) (λ u. provided (is_key b.0) (tree.map_tree b.0 u)) t b.2 in
+        let b = bind_some (value_type slots k) _ t e in
+        let c = bind_some (value_type slots v) _ t b.2 in
         let w = when_some (is_key b.0) (Some (tree.map_tree b.0 c.0)) t c.2 in
         subst (TreeStands Met) (some_is (tree.map_tree b.0 c.0) t w.1) (key_formed b.0 c.0 w.0, (type_stands k b.0 b.1, (type_stands v c.0 c.1, tt)))
 
     pub signature_stands : (f : FunctionType) (s : Signature) → function_signature slots f ≡ Some s → SignatureStands Met s
     signature_stands f s e =
-        let ps = bind_some (each (field_type slots) f.parameters) (λ ps. given (value_type slots) f.result_type >>= λ r. Some (record { is_async = f.is_async; params = ps; result = r })) s e in
-        let r = bind_some (given (value_type slots) f.result_type) (λ r. Some (record { is_async = f.is_async; params = ps.0; result = r })) s ps.2 in
+        let ps = bind_some (each (field_type slots) f.parameters) _ s e in
+        let r = bind_some (given (value_type slots) f.result_type) _ s ps.2 in
         subst (SignatureStands Met) (some_is (record { is_async = f.is_async; params = ps.0; result = r.0 }) s r.2) (
           each_found (field_type slots) (λ (p : Text × Tree). TreeStands Met p.1) field_stands f.parameters ps.0 ps.1,
           optional_stands f.result_type r.0 r.1,

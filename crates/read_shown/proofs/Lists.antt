@@ -20,11 +20,10 @@ at_end (z ∷ zs) x y zero e = inl e
 at_end (z ∷ zs) x y (suc n) e = elim (at_end zs x y n e) [ inl before ↦ inl before | inr last ↦ inr (ap suc last.0, last.1) ]
 
 pub in_front : {A : Type 0} (xs : List A) (k n : ℕ) (x : A) → slice_get (take k xs) n ≡ Some x → slice_get xs n ≡ Some x
-in_front [] zero n x e = absurd cc
-in_front [] (suc k) n x e = absurd cc
-in_front (y ∷ xs) zero n x e = absurd cc
 in_front (y ∷ xs) (suc k) zero x e = e
 in_front (y ∷ xs) (suc k) (suc n) x e = in_front xs k n x e
+in_front [] (suc k) n x e = absurd cc
+in_front _ _ n x e = absurd cc
 
 -- a list that others may come behind
 pub record Front {A : Type 0} (xs ys : List A) : Type 0 where
@@ -59,21 +58,21 @@ module _ {A B : Type 0} (f : A → Option B) where
   pub each_found : (P : B → Type 0) → ((x : A) (y : B) → f x ≡ Some y → P y) → (xs : List A) (ys : List B) → each f xs ≡ Some ys → AllByRecursion P ys
   each_found P found [] ys e = subst (AllByRecursion P) (some_is [] ys e) tt
   each_found P found (x ∷ xs) ys e =
-      let first = bind_some (f x) (λ y. each f xs >>= λ zs. Some (y ∷ zs)) ys e in
-      let more = bind_some (each f xs) (λ zs. Some (first.0 ∷ zs)) ys first.2 in
+      let first = bind_some (f x) _ ys e in
+      let more = bind_some (each f xs) _ ys first.2 in
       subst (AllByRecursion P) (some_is (first.0 ∷ more.0) ys more.2) (found x first.0 first.1, each_found P found xs more.0 more.1)
 
   pub each_filled : (xs : List A) (ys : List B) → each f xs ≡ Some ys → is_filled xs ≡ true → is_filled ys ≡ true
   each_filled [] ys e h = absurd cc
   each_filled (x ∷ xs) ys e h =
-      let first = bind_some (f x) (λ y. each f xs >>= λ zs. Some (y ∷ zs)) ys e in
-      let more = bind_some (each f xs) (λ zs. Some (first.0 ∷ zs)) ys first.2 in
+      let first = bind_some (f x) _ ys e in
+      let more = bind_some (each f xs) _ ys first.2 in
       ap is_filled (sym (some_is (first.0 ∷ more.0) ys more.2))
 
   pub given_found : (P : B → Type 0) → ((x : A) (y : B) → f x ≡ Some y → P y) → (o : Option A) (p : Option B) → given f o ≡ Some p → IfSome p P
   given_found P found None p e = subst (λ q. IfSome q P) (some_is None p e) tt
   given_found P found (Some x) p e =
-      let one = bind_some (f x) (λ y. Some (Some y)) p e in
+      let one = bind_some (f x) _ p e in
       subst (λ q. IfSome q P) (some_is (Some one.0) p one.2) (found x one.0 one.1)
 
 -- ---- lists in two parts

@@ -35,6 +35,5 @@ world_has_kinds label package_ (Part.world scope) m stand e =
     (ap all_agree (append-nil seen) ∙ first_true (all_agree seen) (are_interfaces seen && apart) w.0) (ap are_interfaces (append-nil seen) ∙ interfaces)
 
 pub worlds_have_kinds : (members : List Member) (m : WorldPackage) → AllByRecursion MemberStands members → world_of_members members ≡ Some m → NamesHaveKinds members
-worlds_have_kinds [] m stand e = absurd cc
 worlds_have_kinds (x ∷ []) m stand e = world_has_kinds x.label x.package_ x.part m stand e
-worlds_have_kinds (x ∷ y ∷ more) m stand e = absurd cc
+worlds_have_kinds _ m stand e = absurd cc

@@ -1,5 +1,5 @@
 -- Each name has one kind in all parts of a package.
-use Rattle.std.proofs.Common.{◌≡◌, ◌⊎◌, inl, inr, refl, sym, ap, subst, ◌∙◌, ℕ, zero, suc, arith, Bool, true, false, ◌&&◌, List, [], ◌∷◌, ◌++◌, map, flat_map, length, Option, Some, None, slice_get}
+use Rattle.std.proofs.Common.{◌≡◌, ◌⊎◌, inl, inr, refl, sym, ap, subst, ◌∙◌, ℕ, zero, suc, arith, Bool, true, ◌&&◌, List, [], ◌∷◌, ◌++◌, map, flat_map, length, Option, Some, None, slice_get}
 use Rattle.std.specs.List.{AllByRecursion, Contains, list_all}
 use Rattle.wit_model.specs.Text.{Text}
 use Rattle.wit_model.specs.Names.{PackageIdentity, path_in}
@@ -53,9 +53,7 @@ exports_obey (s ∷ xs) e x c = elim (in_either (instance_of s.shown) (instances
 
 three_of : (a b c d e : Bool) → (a && b && c && d && e) ≡ true → (a ≡ true) × (b ≡ true) × (c ≡ true)
 three_of true true true d e h = (refl, refl, refl)
-three_of true true false d e h = absurd cc
-three_of true false c d e h = absurd cc
-three_of false b c d e h = absurd cc
+three_of _ _ _ d e h = absurd cc
 
 world_parts : (scope : Scope) → is_world scope ≡ true → (are_imports [] scope.imports ≡ true) × (list_all (λ s. is_item [] s.key s.shown) scope.exports ≡ true)
     × (distinct (map (λ s. s.key) scope.imports) ≡ true)

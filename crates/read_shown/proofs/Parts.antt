@@ -32,7 +32,7 @@ use Rattle.wit_model.proofs.TextLemmas.{text_same, text_there}
 -- the path of a part is that of its package and its label
 path_is : (label path : Text) (package_ : PackageIdentity) → labelled_path label path ≡ Some package_ → path ≡ path_in package_ label
 path_is label path package_ e =
-    let p = bind_some (read_path path) (λ p. provided (text_eq p.1 label) p.0) package_ e in
+    let p = bind_some (read_path path) _ package_ e in
     let w = when_some (text_eq p.0.1 label) (Some p.0.0) package_ p.2 in
     (read_path_is_spelled path p.0.0 p.0.1 p.1).spelled ∙ (λ i. path_in (some_is p.0.0 package_ w.1 i) (text_same p.0.1 label w.0 i))
 
@@ -41,31 +41,24 @@ export_found : (key : Text) (shown : Shown) (id : Option Text) (exported : Text 
 export_found key (Shown.instance (Key.path path) view) id exported e =
     let w = when_some (is_none id) (Some (path, view)) exported e in
     ap (λ (x : Text × View). named_instance x ∷ []) (some_is (path, view) exported w.1)
-export_found key (Shown.instance (Key.label label) view) id exported e = absurd cc
-export_found key (Shown.instance (Key.implementing label path) view) id exported e = absurd cc
-export_found key (Shown.function f) id exported e = absurd cc
-export_found key (Shown.declares d) id exported e = absurd cc
+export_found key _ id exported e = absurd cc
 
 exports_found : (exports : List Seen) (exported : Text × View) → exported_view exports ≡ Some exported → instances_in exports ≡ named_instance exported ∷ []
-exports_found [] exported e = absurd cc
 exports_found (s ∷ []) exported e = ap (λ xs. xs ++ []) (export_found s.key s.shown s.external_id exported e)
-exports_found (s ∷ t ∷ more) exported e = absurd cc
+exports_found _ exported e = absurd cc
 
 import_found : (key : Text) (shown : Shown) (id : Option Text) (x : Text × View) → imported_view (record { key = key; shown = shown; external_id = id }) ≡ Some x
     → instance_of shown ≡ named_instance x ∷ []
 import_found key (Shown.instance (Key.path path) view) id x e =
     let w = when_some (is_none id && not (is_filled view.functions)) (Some (path, view)) x e in
     ap (λ (y : Text × View). named_instance y ∷ []) (some_is (path, view) x w.1)
-import_found key (Shown.instance (Key.label label) view) id x e = absurd cc
-import_found key (Shown.instance (Key.implementing label path) view) id x e = absurd cc
-import_found key (Shown.function f) id x e = absurd cc
-import_found key (Shown.declares d) id x e = absurd cc
+import_found key _ id x e = absurd cc
 
 imports_found : (seen : List Seen) (imports : List (Text × View)) → each imported_view seen ≡ Some imports → instances_in seen ≡ map named_instance imports
 imports_found [] imports e = ap (map named_instance) (some_is [] imports e)
 imports_found (s ∷ seen) imports e =
-    let first = bind_some (imported_view s) (λ y. each imported_view seen >>= λ ys. Some (y ∷ ys)) imports e in
-    let more = bind_some (each imported_view seen) (λ ys. Some (first.0 ∷ ys)) imports first.2 in
+    let first = bind_some (imported_view s) _ imports e in
+    let more = bind_some (each imported_view seen) _ imports first.2 in
     (λ i. import_found s.key s.shown s.external_id first.0 first.1 i ++ imports_found seen more.0 more.1 i) ∙ ap (map named_instance) (some_is (first.0 ∷ more.0) imports more.2)
 
 -- ---- where the export stands
@@ -190,14 +183,10 @@ interface_read label ds p scope follows exported out imports in_ package_ path e
 
 interface_stands : (label : Text) (ds : Declarations) (p : PackageIdentity × Part) → interface_part label ds ≡ Some p → MemberStands (member_of label p)
 interface_stands label ds p e =
-    let scope = bind_some (component_scope ds) (λ scope. exported_view scope.exports >>= λ exported. each imported_view scope.imports >>= λ imports. labelled_path label exported.0 >>= λ package_.
-    provided (distinct (exported.0 ∷ map (λ i. i.0) imports) && are_reached imports exported.1) (package_, Part.interface exported.1 imports)) p e in
-    let exported = bind_some (exported_view scope.0.exports) (λ exported. each imported_view scope.0.imports >>= λ imports. labelled_path label exported.0 >>= λ package_.
-    provided (distinct (exported.0 ∷ map (λ i. i.0) imports) && are_reached imports exported.1) (package_, Part.interface exported.1 imports)) p scope.2 in
-    let imports = bind_some (each imported_view scope.0.imports) (λ imports. labelled_path label exported.0.0 >>= λ package_.
-    provided (distinct (exported.0.0 ∷ map (λ i. i.0) imports) && are_reached imports exported.0.1) (package_, Part.interface exported.0.1 imports)) p exported.2 in
-    let package_ = bind_some (labelled_path label exported.0.0) (λ package_.
-    provided (distinct (exported.0.0 ∷ map (λ i. i.0) imports.0) && are_reached imports.0 exported.0.1) (package_, Part.interface exported.0.1 imports.0)) p imports.2 in
+    let scope = bind_some (component_scope ds) _ p e in
+    let exported = bind_some (exported_view scope.0.exports) _ p scope.2 in
+    let imports = bind_some (each imported_view scope.0.imports) _ p exported.2 in
+    let package_ = bind_some (labelled_path label exported.0.0) _ p imports.2 in
     interface_read label ds p scope.0 scope.1 exported.0 exported.1 imports.0 imports.1 package_.0 package_.1 package_.2
 
 world_read : (label : Text) (ds : Declarations) (p : PackageIdentity × Part) (scope : Scope) → component_scope ds ≡ Some scope → (package_ : PackageIdentity)
@@ -212,15 +201,14 @@ world_read label ds p scope follows package_ e =
 
 world_stands : (label : Text) (w : Declarations × ExternName) (p : PackageIdentity × Part) → world_part label w ≡ Some p → MemberStands (member_of label p)
 world_stands label w p e =
-    let path = bind_some (when (is_none w.1.implements && is_none w.1.external_id) (complete_path w.1.text w.1.version_suffix))
-    (λ path. labelled_path label path >>= λ package_. component_scope w.0 >>= λ scope. provided (is_world scope) (package_, Part.world scope)) p e in
-    let package_ = bind_some (labelled_path label path.0) (λ package_. component_scope w.0 >>= λ scope. provided (is_world scope) (package_, Part.world scope)) p path.2 in
-    let scope = bind_some (component_scope w.0) (λ scope. provided (is_world scope) (package_.0, Part.world scope)) p package_.2 in
+    let path = bind_some (when (is_none w.1.implements && is_none w.1.external_id) (complete_path w.1.text w.1.version_suffix)) _ p e in
+    let package_ = bind_some (labelled_path label path.0) _ p path.2 in
+    let scope = bind_some (component_scope w.0) _ p package_.2 in
     world_read label w.0 p scope.0 scope.1 package_.0 scope.2
 
 pub member_stands : (x : Text × Declarations) (m : Member) → member x ≡ Some m → MemberStands m
 member_stands x m e =
-    let part = bind_some (part_of x.0 x.1) (λ p. Some (member_of x.0 p)) m e in
+    let part = bind_some (part_of x.0 x.1) _ m e in
     subst MemberStands (some_is (member_of x.0 part.0) m part.2) (by (wrapped x.1) refl part.0 part.1)
   where
     by : (o : Option (Declarations × ExternName)) → wrapped x.1 ≡ o → (p : PackageIdentity × Part) → part_of x.0 x.1 ≡ Some p → MemberStands (member_of x.0 p)

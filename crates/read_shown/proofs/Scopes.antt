@@ -1,17 +1,14 @@
 -- What component types show is well-formed.
-use Rattle.std.proofs.Common.{◌≡◌, refl, sym, ap, subst, ◌∙◌, ℕ, zero, suc, ◌==◌, arith, Bool, true, false, not, cond, List, [], ◌∷◌, ◌++◌, length, length-append, take, Option, Some, None, slice_get, is_some}
-use Rattle.std.specs.List.{list_any}
+use Rattle.std.proofs.Common.{◌≡◌, refl, sym, ap, subst, ◌∙◌, ℕ, zero, suc, ◌==◌, arith, Bool, true, false, cond, List, [], ◌∷◌, ◌++◌, length, length-append, take, Option, Some, None, slice_get, is_some}
 use Rattle.std.proofs.lemmas.Option.{slice_get_within}
 use Rattle.wit_model.specs.Text.{Text, text_eq}
 use Rattle.wit_model.specs.Tree.{Place, Tree, Declaration}
-use Rattle.wit_model.specs.Meaning.{Signature}
 use Rattle.comp_bytes.specs.declared.forms.ComponentTypeRef.{ComponentTypeRef}
-use Rattle.comp_bytes.specs.declared.forms.ComponentTypeRef.TheVariants as refs
 use Rattle.comp_bytes.specs.Raw as raw
-use Rattle.comp_bytes.specs.Raw.{Alias, ExternName, Declarations}
-use Rattle.comp_bytes.specs.Reading.{◌>>=◌}
+use Rattle.comp_bytes.specs.Raw.{ExternName, Declarations}
 use Rattle.comp_bytes.proofs.Readers.{bind_some, when_some}
-use Rattle.comp_meaning.specs.Follow.{Slot, View, ShownType, Instance, Seen, Shown, Key, Scope, Direction, import_, export_, component_scope, component_step, component_steps, definition, exported_slot, find_type, flat, function_in, function_signature, in_scope, instance_types, interface_of, is_foreign_name, is_simple, key_of, key_text, named_type, new_scope, place_of, provided, see, see_described, see_function, see_instance, see_type, used_view, when}
+use Rattle.comp_meaning.specs.Follow.{Slot, View, ShownType, Instance, Seen, Shown, Scope, Direction, import_, export_, component_scope, component_step, component_steps, exported_slot, find_type, flat, in_scope, instance_types, interface_of, is_foreign_name, named_type, new_scope, place_of, provided, see, used_view}
+use Rattle.comp_meaning.proofs.StepLaws.{StepOf, defines, signs, aliases, sees_function, sees_type, sees_instance, seen_under, seen_instance, with_instance, step_of}
 use Rattle.read_shown.specs.Trees.{DeclarationStands, SlotStands}
 use Rattle.read_shown.specs.Views.{named_slot, ShowsName, ViewStands}
 use Rattle.read_shown.specs.Scopes.{is_type, IsShownBefore, IsImported, IsDeclared, a_resource, a_value, own_name, name_of_instance, IsMetInScope, by_import, by_instance, ShownStands, ScopeStands}
@@ -78,13 +75,6 @@ seen_stands export_ seen scope st h plain = record {
   no_types = all_more NoType scope.exports seen st.no_types plain;
 }
 
-function_seen : (direction : Direction) (name : ExternName) (n : ℕ) (scope next : Scope) → see_function direction name n scope ≡ Some next → ScopeStands scope → ScopeStands next
-function_seen direction name n scope next e st =
-    let seen : Signature → Seen = λ f. record { key = name.text; shown = Shown.function f; external_id = name.external_id } in
-    let b = bind_some (function_in (slice_get scope.slots n)) (λ f. provided (is_simple name) (see direction (seen f) scope)) next e in
-    let w = when_some (is_simple name) (Some (see direction (seen b.0) scope)) next b.2 in
-    subst ScopeStands (some_is (see direction (seen b.0) scope) next w.1) (seen_stands direction (seen b.0) scope st (function_stands (Met scope) scope.slots st.slots n b.0 b.1) refl)
-
 -- ---- a type that is imported
 
 -- what an import declares, over names that stand before it, is declared by it
@@ -103,31 +93,29 @@ declared_last instances imports count name (Declaration.type_ (Tree.named place 
     of (by_import here d) = own_name other (at_place Place.here here) d
     of (by_instance s) = name_of_instance s.path other (at_place (Place.of_interface s.path) s.stands) (subst (λ p. IsShownBefore instances (length instances) p other b) s.stands s)
 
-type_seen : (name : ExternName) (described : ComponentTypeRef) (scope next : Scope) → see_type name described scope ≡ Some next → ScopeStands scope → ScopeStands next
-type_seen name described scope next e st =
-    let seen : Declaration × Slot → Seen = λ found. record { key = name.text; shown = Shown.declares found.0; external_id = name.external_id } in
-    let b = bind_some (named_type scope.slots Place.here name.text described) (λ found. provided (is_simple name) (see import_ (seen found) (in_scope found.1 scope))) next e in
-    let w = when_some (is_simple name) (Some (see import_ (seen b.0) (in_scope b.0.1 scope))) next b.2 in
-    let is = named_type_stands (Met scope) scope.slots st.slots Place.here name.text described b.0 b.1 in
-    let more : Scope = see import_ (seen b.0) scope in
+type_stands : (name : ExternName) (described : ComponentTypeRef) (scope : Scope) (found : Declaration × Slot) → named_type scope.slots Place.here name.text described ≡ Some found → ScopeStands scope
+    → ScopeStands (see import_ (seen_under name (Shown.declares found.0)) (in_scope found.1 scope))
+type_stands name described scope found e st =
+    let seen : Seen = seen_under name (Shown.declares found.0) in
+    let is = named_type_stands (Met scope) scope.slots st.slots Place.here name.text described found e in
+    let more : Scope = see import_ seen scope in
     let fi = front_same scope.instances in
-    let fm = front_more scope.imports (seen b.0 ∷ []) in
-    let count = length-append scope.imports (seen b.0 ∷ []) in
-    let by : IsImported more.imports (length more.imports) name.text b.0.0 = record {
+    let fm = front_more scope.imports (seen ∷ []) in
+    let count = length-append scope.imports (seen ∷ []) in
+    let by : IsImported more.imports (length more.imports) name.text found.0 = record {
       number = length scope.imports;
       below = omega (arith, count);
-      seen = seen b.0;
-      at = get_last scope.imports (seen b.0);
+      seen = seen;
+      at = get_last scope.imports seen;
       key = refl;
       shown = refl;
     } in
-    let good : DeclarationStands (IsMetInScope more.instances more.imports (length scope.imports)) b.0.0 is.0 =
+    let good : DeclarationStands (IsMetInScope more.instances more.imports (length scope.imports)) found.0 is.0 =
     declaration_wider (Met scope) (IsMetInScope more.instances more.imports (length scope.imports))
-    (met_wider scope.instances scope.instances scope.imports more.imports fi fm (length scope.imports) (length scope.imports) (omega arith)) b.0.0 is.0 is.2 in
+    (met_wider scope.instances scope.instances scope.imports more.imports fi fm (length scope.imports) (length scope.imports) (omega arith)) found.0 is.0 is.2 in
     let named : SlotStands (Met more) (named_slot Place.here name.text is.0) =
-    named_stands (Met more) Place.here name.text is.0 (by_import refl (declared_last more.instances more.imports (length more.imports) name.text b.0.0 is.0 by good)) in
-    subst ScopeStands (some_is (see import_ (seen b.0) (in_scope b.0.1 scope)) next w.1)
-    (pushed more b.0.1 (import_stands (seen b.0) scope st (is.0, is.2)) (subst (SlotStands (Met more)) (sym is.1) named))
+    named_stands (Met more) Place.here name.text is.0 (by_import refl (declared_last more.instances more.imports (length more.imports) name.text found.0 is.0 by good)) in
+    pushed more found.1 (import_stands seen scope st (is.0, is.2)) (subst (SlotStands (Met more)) (sym is.1) named)
 
 -- ---- an instance
 
@@ -141,22 +129,14 @@ around_stands scope st k n slot at foreign = by slot (st.slots n slot (in_front 
     of_interface path name b (by_instance s) = s
 
     by : (s : Slot) → SlotStands (Met scope) s → is_foreign_name s ≡ true → SlotStands (IsShownBefore scope.instances (length scope.instances)) s
-    by (Slot.value (Tree.primitive p)) h f = absurd cc
     by (Slot.value (Tree.named (Place.of_interface path) name)) h f = of_interface path name false h
-    by (Slot.value (Tree.named Place.here name)) h f = absurd cc
-    by (Slot.value (Tree.node form ts)) h f = absurd cc
     by (Slot.resource (Place.of_interface path) name) h f = of_interface path name true h
-    by (Slot.resource Place.here name) h f = absurd cc
-    by (Slot.function g) h f = absurd cc
-    by (Slot.instance ds around) h f = absurd cc
+    by _ h f = absurd cc
 
 used_stands : (scope : Scope) → ScopeStands scope → (place : Place) (o : Option Slot) (view : View) → used_view scope.slots place o ≡ Some view
     → ViewStands (IsShownBefore scope.instances (length scope.instances)) place view
-used_stands scope st place None view e = absurd cc
-used_stands scope st place (Some (Slot.value t)) view e = absurd cc
-used_stands scope st place (Some (Slot.resource p name)) view e = absurd cc
-used_stands scope st place (Some (Slot.function f)) view e = absurd cc
 used_stands scope st place (Some (Slot.instance ds n)) view e = view_stands (IsShownBefore scope.instances (length scope.instances)) place (take n scope.slots) (around_stands scope st n) ds view e
+used_stands scope st place _ view e = absurd cc
 
 instance_stands : (x : Instance) (used : List ℕ) (scope : Scope) → ScopeStands scope → ViewStands (IsShownBefore scope.instances (length scope.instances)) (place_of x.interface) x.view
     → ScopeStands (record scope { instances = scope.instances ++ x ∷ []; used = used })
@@ -174,34 +154,7 @@ instance_stands x used scope st h =
       no_types = st.no_types;
     }
 
-instance_seen : (direction : Direction) (name : ExternName) (n : ℕ) (scope next : Scope) → see_instance direction name n scope ≡ Some next → ScopeStands scope → ScopeStands next
-instance_seen direction name n scope next e st =
-    let seen : Key → View → Seen = λ key view. record { key = key_text key; shown = Shown.instance key view; external_id = name.external_id } in
-    let new : Key → View → Instance = λ key view. record { interface = interface_of key; view = view } in
-    let used : Key → View → Scope = λ key view. record scope { instances = scope.instances ++ new key view ∷ []; used = scope.used ++ n ∷ [] } in
-    let of_key : Key → Option View = λ key. when (not (list_any (λ m. m == n) scope.used)) (used_view scope.slots (place_of (interface_of key)) (slice_get scope.slots n)) in
-    let k = bind_some (key_of name) (λ key. of_key key >>= λ view. Some (see direction (seen key view) (used key view))) next e in
-    let v = bind_some (of_key k.0) (λ view. Some (see direction (seen k.0 view) (used k.0 view))) next k.2 in
-    let w = when_some (not (list_any (λ m. m == n) scope.used)) (used_view scope.slots (place_of (interface_of k.0)) (slice_get scope.slots n)) v.0 v.1 in
-    let good = used_stands scope st (place_of (interface_of k.0)) (slice_get scope.slots n) v.0 w.1 in
-    let more = instance_stands (new k.0 v.0) (scope.used ++ n ∷ []) scope st good in
-    subst ScopeStands {x = see direction (seen k.0 v.0) (used k.0 v.0)} (some_is (see direction (seen k.0 v.0) (used k.0 v.0)) next v.2)
-    (seen_stands direction (seen k.0 v.0) (used k.0 v.0) more (length scope.instances, get_last scope.instances (new k.0 v.0)) refl)
-
 -- ---- each declaration
-
-described_seen : (direction : Direction) (name : ExternName) (described : ComponentTypeRef) (scope next : Scope) → see_described direction name described scope ≡ Some next → ScopeStands scope
-    → ScopeStands next
-described_seen import_ name (refs.Instance n) scope next e st = instance_seen import_ name n scope next e st
-described_seen export_ name (refs.Instance n) scope next e st = instance_seen export_ name n scope next e st
-described_seen import_ name (refs.Func n) scope next e st = function_seen import_ name n scope next e st
-described_seen export_ name (refs.Func n) scope next e st = function_seen export_ name n scope next e st
-described_seen import_ name (refs.TypeEq n) scope next e st = type_seen name (refs.TypeEq n) scope next e st
-described_seen import_ name refs.SubResource scope next e st = type_seen name refs.SubResource scope next e st
-described_seen import_ name (refs.Component n) scope next e st = type_seen name (refs.Component n) scope next e st
-described_seen export_ name (refs.TypeEq n) scope next e st = absurd cc
-described_seen export_ name refs.SubResource scope next e st = absurd cc
-described_seen export_ name (refs.Component n) scope next e st = absurd cc
 
 -- the type of this name that was found is one of those shown
 pub type_found : (name : Text) (ts : List ShownType) (slot : Slot) → find_type name ts ≡ Some slot → (n : ℕ) × (t : ShownType) × (slice_get ts n ≡ Some t) × (t.slot ≡ slot)
@@ -248,24 +201,22 @@ exported_stands scope st m name slot e = by (slice_get scope.instances m) refl e
     by : (o : Option Instance) → slice_get scope.instances m ≡ o → exported_slot name o ≡ Some slot → SlotStands (Met scope) slot
     by None at h = absurd cc
     by (Some x) at h =
-        let b = bind_some (find_type name x.view.types) (λ s. provided (is_some x.interface) s) slot h in
+        let b = bind_some (find_type name x.view.types) _ slot h in
         let w = when_some (is_some x.interface) (Some b.0) slot b.2 in
         let f = type_found name x.view.types b.0 b.1 in
         of_path x at f.0 f.1 f.2 (f.3 ∙ some_is b.0 slot w.1) x.interface refl w.0
 
-pub step_stands : (scope next : Scope) (d : raw.Declaration) → component_step scope d ≡ Some next → ScopeStands scope → ScopeStands next
-step_stands scope next (raw.Declaration.defined d) e st =
-    let b = bind_some (definition scope.slots d) (λ t. Some (in_scope (Slot.value t) scope)) next e in
-    subst ScopeStands (some_is (in_scope (Slot.value b.0) scope) next b.2) (pushed scope (Slot.value b.0) st (definition_stands (Met scope) scope.slots st.slots d b.0 b.1))
-step_stands scope next (raw.Declaration.function f) e st =
-    let b = bind_some (function_signature scope.slots f) (λ s. Some (in_scope (Slot.function s) scope)) next e in
-    subst ScopeStands (some_is (in_scope (Slot.function b.0) scope) next b.2) (pushed scope (Slot.function b.0) st (signature_stands (Met scope) scope.slots st.slots f b.0 b.1))
-step_stands scope next (raw.Declaration.alias_of (Alias.of_export m name)) e st =
-    let b = bind_some (exported_slot name (slice_get scope.instances m)) (λ slot. Some (in_scope slot scope)) next e in
-    subst ScopeStands (some_is (in_scope b.0 scope) next b.2) (pushed scope b.0 st (exported_stands scope st m name b.0 b.1))
-step_stands scope next (raw.Declaration.alias_of (Alias.of_outer scopes n)) e st = absurd cc
-step_stands scope next (raw.Declaration.imported name described) e st = described_seen import_ name described scope next e st
-step_stands scope next (raw.Declaration.exported name described) e st = described_seen export_ name described scope next e st
+step_stands : (scope next : Scope) → StepOf scope next → ScopeStands scope → ScopeStands next
+step_stands scope _ (defines d t e) st = pushed scope (Slot.value t) st (definition_stands (Met scope) scope.slots st.slots d t e)
+step_stands scope _ (signs f s e) st = pushed scope (Slot.function s) st (signature_stands (Met scope) scope.slots st.slots f s e)
+step_stands scope _ (aliases m name slot e) st = pushed scope slot st (exported_stands scope st m name slot e)
+step_stands scope _ (sees_function direction name n f e) st =
+    seen_stands direction (seen_under name (Shown.function f)) scope st (function_stands (Met scope) scope.slots st.slots n f e) refl
+step_stands scope _ (sees_type name described found e) st = type_stands name described scope found e st
+step_stands scope _ (sees_instance direction name n key view new e) st =
+    let x : Instance = record { interface = interface_of key; view = view } in
+    let more = instance_stands x (scope.used ++ n ∷ []) scope st (used_stands scope st (place_of (interface_of key)) (slice_get scope.slots n) view e) in
+    seen_stands direction (seen_instance name key view) (with_instance scope n key view) more (length scope.instances, get_last scope.instances x) refl
 
 -- ---- all of them
 
@@ -275,18 +226,18 @@ pub steps_keep : (P : Scope → Type 0) → ((scope next : Scope) (d : raw.Decla
     → P scope → P next
 steps_keep P step type_ Declarations.no_more scope next e h = subst P (some_is scope next e) h
 steps_keep P step type_ (Declarations.declares d rest) scope next e h =
-    let b = bind_some (component_step scope d) (λ s. component_steps s rest) next e in
+    let b = bind_some (component_step scope d) _ next e in
     steps_keep P step type_ rest b.0 next b.2 (step scope b.0 d b.1 h)
 steps_keep P step type_ (Declarations.component inner rest) scope next e h = absurd cc
 steps_keep P step type_ (Declarations.instance inner rest) scope next e h =
-    let b = bind_some (flat inner) (λ ds. component_steps (in_scope (Slot.instance ds (length scope.slots)) scope) rest) next e in
+    let b = bind_some (flat inner) _ next e in
     steps_keep P step type_ rest (in_scope (Slot.instance b.0 (length scope.slots)) scope) next b.2 (type_ scope b.0 (length scope.slots) h)
 
 pub scope_keeps : (P : Scope → Type 0) → ((scope next : Scope) (d : raw.Declaration) → component_step scope d ≡ Some next → P scope → P next)
     → ((scope : Scope) (ds : List raw.Declaration) (n : ℕ) → P scope → P (in_scope (Slot.instance ds n) scope)) → P new_scope → (ds : Declarations) (scope : Scope)
     → component_scope ds ≡ Some scope → P scope
 scope_keeps P step type_ new ds scope e =
-    let b = bind_some (component_steps new_scope ds) (λ s. provided (length s.used == instance_types s.slots) s) scope e in
+    let b = bind_some (component_steps new_scope ds) _ scope e in
     let w = when_some (length b.0.used == instance_types b.0.slots) (Some b.0) scope b.2 in
     subst P (some_is b.0 scope w.1) (steps_keep P step type_ ds new_scope b.0 b.1 new)
 
@@ -300,4 +251,4 @@ new_stands = record {
 }
 
 pub scope_stands : (ds : Declarations) (scope : Scope) → component_scope ds ≡ Some scope → ScopeStands scope
-scope_stands ds scope e = scope_keeps ScopeStands step_stands (λ s inner n st. pushed s (Slot.instance inner n) st tt) new_stands ds scope e
+scope_stands ds scope e = scope_keeps ScopeStands (λ s next d e st. step_stands s next (step_of s next d e) st) (λ s inner n st. pushed s (Slot.instance inner n) st tt) new_stands ds scope e

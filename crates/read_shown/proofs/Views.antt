@@ -32,24 +32,21 @@ module _ (Met : Place → Text → Bool → Type 0) where
   declared_stands place name (Slot.value (Tree.named q other)) h d e = (false, refl, subst (λ x. DeclarationStands Met x false) (some_is (tree.Declaration.type_ (Tree.named q other)) d e) h)
   declared_stands place name (Slot.value (Tree.node form ts)) h d e = (false, refl, subst (λ x. DeclarationStands Met x false) (some_is (tree.Declaration.type_ (Tree.node form ts)) d e) (refl, h))
   declared_stands place name (Slot.resource q other) h d e = (true, refl, subst (λ x. DeclarationStands Met x true) (some_is (tree.Declaration.type_ (Tree.named q other)) d e) h)
-  declared_stands place name (Slot.function f) h d e = absurd cc
-  declared_stands place name (Slot.instance ds around) h d e = absurd cc
+  declared_stands place name _ h d e = absurd cc
 
   -- what an import or an export of a type declares, and what its index stands for
   pub named_type_stands : (slots : List Slot) → AllAt (λ n (s : Slot). SlotStands Met s) slots → (place : Place) (name : Text) (described : ComponentTypeRef) (found : tree.Declaration × Slot)
       → named_type slots place name described ≡ Some found → (b : Bool) × (found.1 ≡ named_slot place name b) × DeclarationStands Met found.0 b
   named_type_stands slots all place name (refs.TypeEq n) found e =
-      let s = bind_some (slice_get slots n) (λ slot. declared_by slot >>= λ d. Some (d, named_like slot place name)) found e in
-      let d = bind_some (declared_by s.0) (λ d. Some (d, named_like s.0 place name)) found s.2 in
+      let s = bind_some (slice_get slots n) _ found e in
+      let d = bind_some (declared_by s.0) _ found s.2 in
       let is : (d.0, named_like s.0 place name) ≡ found = some_is (d.0, named_like s.0 place name) found d.2 in
       let h = declared_stands place name s.0 (all n s.0 s.1) d.0 d.1 in
       (h.0, ap (λ (x : tree.Declaration × Slot). x.1) (sym is) ∙ h.1, subst (λ (x : tree.Declaration × Slot). DeclarationStands Met x.0 h.0) is h.2)
   named_type_stands slots all place name refs.SubResource found e =
       let is : (tree.Declaration.resource, Slot.resource place name) ≡ found = some_is (tree.Declaration.resource, Slot.resource place name) found e in
       (true, ap (λ (x : tree.Declaration × Slot). x.1) (sym is), subst (λ (x : tree.Declaration × Slot). DeclarationStands Met x.0 true) is refl)
-  named_type_stands slots all place name (refs.Func n) found e = absurd cc
-  named_type_stands slots all place name (refs.Instance n) found e = absurd cc
-  named_type_stands slots all place name (refs.Component n) found e = absurd cc
+  named_type_stands slots all place name _ found e = absurd cc
 
 -- ---- views that grow
 
@@ -112,7 +109,7 @@ module _ (Outside : Place → Text → Bool → Type 0) (own : Place) where
         slots = scope.slots;
         shown = record { types = scope.shown.types; functions = scope.shown.functions ++ (name.text, record { signature = f; external_id = name.external_id }) ∷ [] };
       } in
-      let b = bind_some (function_in (slice_get scope.slots n)) (λ f. Some (after f)) next e in
+      let b = bind_some (function_in (slice_get scope.slots n)) _ next e in
       let more : View = (after b.0).shown in
       let same : Front scope.shown.types more.types = front_same scope.shown.types in
       let last : Text × FunctionMeaning = (name.text, record { signature = b.0; external_id = name.external_id }) in
@@ -135,7 +132,7 @@ module _ (Outside : Place → Text → Bool → Type 0) (own : Place) where
         slots = scope.slots ++ found.1 ∷ [];
         shown = record { types = scope.shown.types ++ type_of found ∷ []; functions = scope.shown.functions };
       } in
-      let b = bind_some (named_type scope.slots own name.text described) (λ found. Some (after found)) next e in
+      let b = bind_some (named_type scope.slots own name.text described) _ next e in
       let more : View = (after b.0).shown in
       let front : Front scope.shown.types more.types = front_more scope.shown.types (type_of b.0 ∷ []) in
       let is = named_type_stands (Met scope.shown) scope.slots st.slots own name.text described b.0 b.1 in
@@ -175,29 +172,27 @@ module _ (Outside : Place → Text → Bool → Type 0) (own : Place) where
     pub instance_step_stands : (d : Declaration) (scope next : InstanceScope) → instance_step own outer scope d ≡ Some next → InstanceScopeStands Outside own scope
         → InstanceScopeStands Outside own next
     instance_step_stands (Declaration.defined d) scope next e st =
-        let b = bind_some (definition scope.slots d) (λ t. Some (in_instance (Slot.value t) scope)) next e in
+        let b = bind_some (definition scope.slots d) _ next e in
         subst (InstanceScopeStands Outside own) (some_is (in_instance (Slot.value b.0) scope) next b.2)
         (pushed scope (Slot.value b.0) st (definition_stands (Met scope.shown) scope.slots st.slots d b.0 b.1))
     instance_step_stands (Declaration.function f) scope next e st =
-        let b = bind_some (function_signature scope.slots f) (λ s. Some (in_instance (Slot.function s) scope)) next e in
+        let b = bind_some (function_signature scope.slots f) _ next e in
         subst (InstanceScopeStands Outside own) (some_is (in_instance (Slot.function b.0) scope) next b.2)
         (pushed scope (Slot.function b.0) st (signature_stands (Met scope.shown) scope.slots st.slots f b.0 b.1))
     instance_step_stands (Declaration.alias_of (Alias.of_outer scopes n)) scope next e st =
-        let b = bind_some (slice_get outer n) (λ slot. provided (scopes == 1 && is_foreign_name slot) (in_instance slot scope)) next e in
+        let b = bind_some (slice_get outer n) _ next e in
         let w = when_some (scopes == 1 && is_foreign_name b.0) (Some (in_instance b.0 scope)) next b.2 in
         let good = around n b.0 b.1 (second_true (scopes == 1) (is_foreign_name b.0) w.0) in
         subst (InstanceScopeStands Outside own) (some_is (in_instance b.0 scope) next w.1) (pushed scope b.0 st (slot_wider Outside (Met scope.shown) (λ place name k h. outside h) b.0 good))
-    instance_step_stands (Declaration.alias_of (Alias.of_export m name)) scope next e st = absurd cc
-    instance_step_stands (Declaration.imported name described) scope next e st = absurd cc
     instance_step_stands (Declaration.exported name described) scope next e st =
         let w = when_some (is_simple name) (show own name described scope) next e in
         shown_stands name described scope next w.1 st
-
+    instance_step_stands _ scope next e st = absurd cc
     pub instance_steps_stand : (ds : List Declaration) (scope next : InstanceScope) → instance_steps own outer scope ds ≡ Some next → InstanceScopeStands Outside own scope
         → InstanceScopeStands Outside own next
     instance_steps_stand [] scope next e st = subst (InstanceScopeStands Outside own) (some_is scope next e) st
     instance_steps_stand (d ∷ ds) scope next e st =
-        let b = bind_some (instance_step own outer scope d) (λ s. instance_steps own outer s ds) next e in
+        let b = bind_some (instance_step own outer scope d) _ next e in
         instance_steps_stand ds b.0 next b.2 (instance_step_stands d scope b.0 b.1 st)
 
     pub new_instance_stands : InstanceScopeStands Outside own new_instance
@@ -211,7 +206,7 @@ module _ (Outside : Place → Text → Bool → Type 0) (own : Place) where
 
     pub view_stands : (ds : List Declaration) (view : View) → instance_view own outer ds ≡ Some view → ViewStands Outside own view
     view_stands ds view e =
-        let b = bind_some (instance_steps own outer new_instance ds) (λ scope. Some scope.shown) view e in
+        let b = bind_some (instance_steps own outer new_instance ds) _ view e in
         let st = instance_steps_stand ds new_instance b.0 b.1 new_instance_stands in
         subst (ViewStands Outside own) (some_is b.0.shown view b.2) st.shown
 

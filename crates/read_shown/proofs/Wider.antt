@@ -12,10 +12,9 @@ use Rattle.std.proofs.ByRecursion.{All-weaker as recursion_weaker}
 module _ (Met More : Place → Text → Bool → Type 0) (wider : (place : Place) (name : Text) (b : Bool) → Met place name b → More place name b) where
   handle_wider : (ts : Trees) → HandleStands Met ts → HandleStands More ts
   handle_wider Trees.no_children h = h
-  handle_wider (Trees.child (Tree.primitive p) ts) h = absurd h
   handle_wider (Trees.child (Tree.named place name) Trees.no_children) h = wider place name true h
   handle_wider (Trees.child (Tree.named place name) (Trees.child t ts)) h = h
-  handle_wider (Trees.child (Tree.node form us) ts) h = absurd h
+  handle_wider (Trees.child _ ts) h = absurd h
 
   mutual
     pub tree_wider : (t : Tree) → TreeStands Met t → TreeStands More t
@@ -35,10 +34,9 @@ module _ (Met More : Place → Text → Bool → Type 0) (wider : (place : Place
   )
 
   pub declaration_wider : (d : tree.Declaration) (b : Bool) → DeclarationStands Met d b → DeclarationStands More d b
-  declaration_wider tree.Declaration.resource b h = h
-  declaration_wider (tree.Declaration.type_ (Tree.primitive p)) b h = h
   declaration_wider (tree.Declaration.type_ (Tree.named place name)) b h = wider place name b h
   declaration_wider (tree.Declaration.type_ (Tree.node form ts)) b h = (h.0, tree_wider (Tree.node form ts) h.1)
+  declaration_wider _ b h = h
 
   pub slot_wider : (s : Slot) → SlotStands Met s → SlotStands More s
   slot_wider (Slot.value t) h = tree_wider t h

@@ -19,12 +19,6 @@ use Rattle.wit_model.proofs.TextLemmas.{text_same}
 declared_is : (d e : Declaration) → Shown.declares d ≡ Shown.declares e → d ≡ e
 declared_is d e h = cc
 
-type_is : (t u : Tree) → Declaration.type_ t ≡ Declaration.type_ u → t ≡ u
-type_is t u h = cc
-
-name_is : (p q : Place) (x y : Text) → Tree.named p x ≡ Tree.named q y → x ≡ y
-name_is p q x y h = cc
-
 module _ (instances : List Instance) (imports : List Seen) (apart : distinct (map (λ (s : Seen). s.key) imports) ≡ true)
     (kinds : Text → Text → Bool) (are : (path name : Text) (b : Bool) → IsShownBefore instances (length instances) (Place.of_interface path) name b → b ≡ kinds path name) where
   -- one name, one declaration
@@ -36,43 +30,33 @@ module _ (instances : List Instance) (imports : List Seen) (apart : distinct (ma
       let seen : i.seen ≡ j.seen = some_is i.seen j.seen (sym i.at ∙ (ap (λ k. slice_get imports k) number ∙ j.at)) in
       declared_is d e (sym i.shown ∙ (ap (λ (z : Seen). z.shown) seen ∙ j.shown))
 
-  declared_once : {m n : ℕ} {x y : Text} {b c : Bool} → x ≡ y → IsDeclared instances imports m x b → IsDeclared instances imports n y c → b ≡ c
-  declared_once {m} {n} {x} {y} same (a_resource i) (a_resource j) = refl
-  declared_once {m} {n} {x} {y} same (a_resource i) (a_value t plain j) = absurd (let h = imported_once m n x y Declaration.resource (Declaration.type_ t) same i j in cc)
-  declared_once {m} {n} {x} {y} same (a_resource i) (own_name o j d) = absurd (let h = imported_once m n x y Declaration.resource (Declaration.type_ (Tree.named Place.here o)) same i j in cc)
-  declared_once {m} {n} {x} {y} same (a_resource i) (name_of_instance p o j s) =
-      absurd (let h = imported_once m n x y Declaration.resource (Declaration.type_ (Tree.named (Place.of_interface p) o)) same i j in cc)
-  declared_once {m} {n} {x} {y} same (a_value t plain i) (a_resource j) = absurd (let h = imported_once m n x y (Declaration.type_ t) Declaration.resource same i j in cc)
-  declared_once {m} {n} {x} {y} same (a_value t plain i) (a_value u other j) = refl
-  declared_once {m} {n} {x} {y} same (a_value t plain i) (own_name o j d) =
-      absurd (let h : is_name t ≡ true = ap is_name (type_is t (Tree.named Place.here o) (imported_once m n x y (Declaration.type_ t) (Declaration.type_ (Tree.named Place.here o)) same i j)) in cc)
-  declared_once {m} {n} {x} {y} same (a_value t plain i) (name_of_instance p o j s) =
-      absurd (let h : is_name t ≡ true = ap is_name (type_is t (Tree.named (Place.of_interface p) o)
-      (imported_once m n x y (Declaration.type_ t) (Declaration.type_ (Tree.named (Place.of_interface p) o)) same i j)) in cc)
-  declared_once {m} {n} {x} {y} same (own_name o i d) (a_resource j) = absurd (let h = imported_once m n x y (Declaration.type_ (Tree.named Place.here o)) Declaration.resource same i j in cc)
-  declared_once {m} {n} {x} {y} same (own_name o i d) (a_value t plain j) =
-      absurd (let h : is_name t ≡ true = ap is_name (sym (type_is (Tree.named Place.here o) t
-      (imported_once m n x y (Declaration.type_ (Tree.named Place.here o)) (Declaration.type_ t) same i j))) in cc)
-  declared_once {m} {n} {x} {y} same (own_name o i d) (own_name w j e) =
-      declared_once (name_is Place.here Place.here o w (type_is (Tree.named Place.here o) (Tree.named Place.here w)
-      (imported_once m n x y (Declaration.type_ (Tree.named Place.here o)) (Declaration.type_ (Tree.named Place.here w)) same i j))) d e
-  declared_once {m} {n} {x} {y} same (own_name o i d) (name_of_instance p w j s) =
-      absurd (let h = type_is (Tree.named Place.here o) (Tree.named (Place.of_interface p) w)
-      (imported_once m n x y (Declaration.type_ (Tree.named Place.here o)) (Declaration.type_ (Tree.named (Place.of_interface p) w)) same i j) in cc)
-  declared_once {m} {n} {x} {y} same (name_of_instance p o i s) (a_resource j) =
-      absurd (let h = imported_once m n x y (Declaration.type_ (Tree.named (Place.of_interface p) o)) Declaration.resource same i j in cc)
-  declared_once {m} {n} {x} {y} same (name_of_instance p o i s) (a_value t plain j) =
-      absurd (let h : is_name t ≡ true = ap is_name (sym (type_is (Tree.named (Place.of_interface p) o) t
-      (imported_once m n x y (Declaration.type_ (Tree.named (Place.of_interface p) o)) (Declaration.type_ t) same i j))) in cc)
-  declared_once {m} {n} {x} {y} same (name_of_instance p o i s) (own_name w j d) =
-      absurd (let h = type_is (Tree.named (Place.of_interface p) o) (Tree.named Place.here w)
-      (imported_once m n x y (Declaration.type_ (Tree.named (Place.of_interface p) o)) (Declaration.type_ (Tree.named Place.here w)) same i j) in cc)
-  declared_once {m} {n} {x} {y} {b} {c} same (name_of_instance p o i s) (name_of_instance q w j t) =
-      let one = type_is (Tree.named (Place.of_interface p) o) (Tree.named (Place.of_interface q) w)
-      (imported_once m n x y (Declaration.type_ (Tree.named (Place.of_interface p) o)) (Declaration.type_ (Tree.named (Place.of_interface q) w)) same i j) in
+  -- what the import of a name declares
+  declaration_of : {m : ℕ} {x : Text} {b : Bool} → IsDeclared instances imports m x b → (d : Declaration) × IsImported imports m x d
+  declaration_of (a_resource i) = (Declaration.resource, i)
+  declaration_of (a_value t plain i) = (Declaration.type_ t, i)
+  declaration_of (own_name o i d) = (Declaration.type_ (Tree.named Place.here o), i)
+  declaration_of (name_of_instance p o i s) = (Declaration.type_ (Tree.named (Place.of_interface p) o), i)
+
+  abbrev names_another : Declaration → Bool
+  names_another Declaration.resource = false
+  names_another (Declaration.type_ t) = is_name t
+
+  declared_alike : {m n : ℕ} {x y : Text} {b c : Bool} (i : IsDeclared instances imports m x b) (j : IsDeclared instances imports n y c) → (declaration_of i).0 ≡ (declaration_of j).0
+      → names_another (declaration_of i).0 ≡ names_another (declaration_of j).0 → b ≡ c
+  unfolding declaration_of
+  declared_alike (a_resource i) (a_resource j) e k = refl
+  declared_alike (a_value t plain i) (a_value u other j) e k = refl
+  declared_alike (own_name o i d) (own_name w j f) e k =
+      let name : o ≡ w = cc in
+      let next = imported_once i.number j.number o w (declaration_of d).0 (declaration_of f).0 name (declaration_of d).1 (declaration_of f).1 in
+      declared_alike d f next (ap names_another next)
+  declared_alike {b = b} {c = c} (name_of_instance p o i s) (name_of_instance q w j t) e k =
       let path : p ≡ q = cc in
       let name : o ≡ w = cc in
       are p o b s ∙ ((λ k. kinds (path k) (name k)) ∙ sym (are q w c t))
+  declared_alike (a_value t plain i) _ e k = absurd cc
+  declared_alike _ (a_value t plain j) e k = absurd cc
+  declared_alike _ _ e k = absurd cc
 
   -- ---- the kind of a key, from what its import declares
 
@@ -113,17 +97,10 @@ module _ (instances : List Instance) (imports : List Seen) (apart : distinct (ma
 
     own_is : {n : ℕ} {name : Text} {b : Bool} → IsDeclared instances imports n name b → b ≡ own_kind name
     unfolding own_kind
-    own_is {n} {name} {b} d = by (position d)
+    own_is {n} {name} {b} d = by (declaration_of d).0 (declaration_of d).1
       where
-        -- an import declares it
-        position : {k : ℕ} {x : Text} {c : Bool} → IsDeclared instances imports k x c → (e : Declaration) × IsImported imports k x e
-        position (a_resource i) = (Declaration.resource, i)
-        position (a_value t plain i) = (Declaration.type_ t, i)
-        position (own_name o i h) = (Declaration.type_ (Tree.named Place.here o), i)
-        position (name_of_instance p o i s) = (Declaration.type_ (Tree.named (Place.of_interface p) o), i)
-
-        by : (e : Declaration) × IsImported imports n name e → b ≡ own_kind name
-        by (e, i) =
+        by : (e : Declaration) → IsImported imports n name e → b ≡ own_kind name
+        by e i =
             let found : (k : ℕ) (s : Seen) → slice_get imports k ≡ Some s → Option Bool = λ k s h. kind_shown k s.shown (stand k s h) in
             let first = keyed_is imports found name i.number i.seen i.at i.key in
             let number : first.0 ≡ i.number = one_place (map (λ (z : Seen). z.key) imports) apart first.0 i.number name
@@ -139,7 +116,9 @@ module _ (instances : List Instance) (imports : List Seen) (apart : distinct (ma
               key = first.3;
               shown = shown;
             } in
-            declared_once refl d (declared_last instances imports (length imports) name e kind.0 there kind.2) ∙ sym (ap (λ o. unwrap_or o false) (first.4 ∙ kind.1))
+            let last = declared_last instances imports (length imports) name e kind.0 there kind.2 in
+            let same = imported_once n (length imports) name name (declaration_of d).0 (declaration_of last).0 refl (declaration_of d).1 (declaration_of last).1 in
+            declared_alike d last same (ap names_another same) ∙ sym (ap (λ o. unwrap_or o false) (first.4 ∙ kind.1))
 
     pub met_is : (n : ℕ) (place : Place) (name : Text) (b : Bool) → IsMetInScope instances imports n place name b → b ≡ kind_at kinds own_kind place name
     met_is n place name b (by_import here d) = own_is d ∙ ap (λ p. kind_at kinds own_kind p name) (sym here)
