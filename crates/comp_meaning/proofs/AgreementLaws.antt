@@ -18,7 +18,10 @@ use Rattle.base_lemmas.proofs.Elements.{all-contained, last_of, none_in as none_
 use Rattle.wit_model.proofs.TextLemmas.{text_same}
 
 -- what holds where a test passes
-pub implied : (a b : Bool) → (a ≡ true → b ≡ true) → (not a || b) ≡ true
+abbrev pub Implies : Bool → Bool → Type 0
+Implies a b = a ≡ true → b ≡ true
+
+pub implied : (a b : Bool) → Implies a b → (not a || b) ≡ true
 implied true b h = h refl
 implied false b h = refl
 
@@ -98,6 +101,7 @@ into (s ∷ rest) earlier before all =
         let found = found_contains (λ x. text_eq s.path x.path && x.whole) earlier f e in
         let path = text_same s.path f.path (first_true (text_eq s.path f.path) f.whole found.0) in
         agree_functions f s (agrees f found.1) (sym path) (second_true (text_eq s.path f.path) f.whole found.0) w
+
 -- what is known of the views so far: each is like the first of its path, and no function stands twice
 record Known (earlier : List Sight) : Type 0 where
   types : (x : Sight) → Contains earlier x → (f : Sight) × (first_of x.path earlier ≡ Some f) × (same_types f x ≡ true)

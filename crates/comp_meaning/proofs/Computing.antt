@@ -1,5 +1,5 @@
 -- What the worked examples share.
-use Rattle.std.proofs.Common.{ℕ, List, [], ◌∷◌, Option, None, false}
+use Rattle.std.proofs.Common.{ℕ, zero, suc, ◌+◌, nat_lt, cond, List, [], ◌∷◌, ◌++◌, Option, None, false}
 use Rattle.std.specs.Prelude.{codes}
 use Rattle.comp_bytes.specs.Reading.{◌>>=◌, unsigned_at, u32_at, last_byte_of, type_index_at, just_at, as_at, pair_at, choose, tagged_at, tag_at, closed_at, byte_at, optional_at, sequence_at, vector_at, counted_at, name_at, value_type_at, field_at, case_at, result_list_at, alias_at, with_attributes, attributed_at, extern_name_at, description_at, declaration_at, body_at, importless_at, component_and, instance_and, plain_and, declarations_at, type_at, top_export_at, section_of, frame_at, sections_of, component_of}
 use Rattle.semver.specs.Parse.{digits_from}
@@ -17,11 +17,19 @@ one_world =
     0x05 ∷ 0x67 ∷ 0x75 ∷ 0x65 ∷ 0x73 ∷ 0x74 ∷ 0x01 ∷ 0x00 ∷ 0x04 ∷ 0x00 ∷ 0x07 ∷ 0x61 ∷ 0x3a ∷ 0x62 ∷ 0x2f ∷ 0x66 ∷
     0x6f ∷ 0x6f ∷ 0x04 ∷ 0x00 ∷ 0x0b ∷ 0x09 ∷ 0x01 ∷ 0x00 ∷ 0x03 ∷ 0x66 ∷ 0x6f ∷ 0x6f ∷ 0x03 ∷ 0x00 ∷ 0x00 ∷ []
 
+-- a type's index, and definitions of so many lists, each of the type before it, the first of type n
+unfoldable pub index_bytes : ℕ → List ℕ
+index_bytes n = cond (nat_lt n 64) (n ∷ []) ((128 + n) ∷ 0 ∷ [])
+
+unfoldable pub lists_of : ℕ → ℕ → List ℕ
+lists_of zero n = []
+lists_of (suc k) n = 1 ∷ 112 ∷ (index_bytes n ++ lists_of k (suc n))
+
 -- what worked examples unfold
 unfoldable pub computes : ℕ
 unfolding unsigned_at u32_at last_byte_of type_index_at just_at as_at pair_at choose tagged_at tag_at closed_at byte_at optional_at sequence_at vector_at counted_at name_at value_type_at field_at
     case_at result_list_at alias_at with_attributes attributed_at extern_name_at description_at declaration_at body_at importless_at component_and instance_and plain_and declarations_at type_at
-    top_export_at section_of frame_at sections_of component_of is_utf8 chars encode one_world digits_from
+    top_export_at section_of frame_at sections_of component_of is_utf8 chars encode one_world digits_from lists_of index_bytes
 computes = 0
 
 -- what bytes mean as a package, and as a world

@@ -96,6 +96,7 @@ kept_type top next (TopType.component ds) e k =
           ];
     })
 kept_type top next _ e k = absurd cc
+
 kept_export : (top next : reads.Top) (x : TopExport) → reads.top_export top x ≡ Some next → IsKept top → IsKept next
 kept_export top next x e k =
     let b = bind_some (slice_get top.slots x.type_index) _ next e in
@@ -160,6 +161,7 @@ type_stays n ds top next (TopType.component inner) e h =
     subst (Stands n ds) (some_is (record { types = top.types ++ inner ∷ []; slots = top.slots ++ length top.types ∷ []; exported = top.exported }) next e)
     (get_before top.types inner n (slice_get_within top.types n ds h) ∙ h)
 type_stays n ds top next _ e h = absurd cc
+
 export_stays : (n : ℕ) (ds : Declarations) (top next : reads.Top) (x : TopExport) → reads.top_export top x ≡ Some next → Stands n ds top → Stands n ds next
 export_stays n ds top next x e h =
     let b = bind_some (slice_get top.slots x.type_index) _ next e in
@@ -180,6 +182,7 @@ types_levels (TopType.component ds ∷ ts) top next e all =
     let more = types_levels ts after next e all in
     (level.0 ∷ more.0, ap (λ d. TopType.component d ∷ ts) level.1 ∙ ap (λ (rest : List TopType). TopType.component (raw_part level.0) ∷ rest) more.1)
 types_levels (_ ∷ ts) top next e all = absurd cc
+
 sections_levels : (ss : List Section) (top next : reads.Top) → steps top_section top ss ≡ Some next → AllLevelled next → (ps : List Piece) × (ss ≡ map raw_piece ps)
 sections_levels [] top next e all = ([], refl)
 sections_levels (Section.custom name contents ∷ ss) top next e all =

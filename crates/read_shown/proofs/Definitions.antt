@@ -10,9 +10,8 @@ use Rattle.wit_model.specs.Meaning.{Signature}
 use Rattle.comp_bytes.specs.declared.forms.ComponentValType.{ComponentValType}
 use Rattle.comp_bytes.specs.declared.forms.ComponentValType.TheVariants as values
 use Rattle.comp_bytes.specs.Raw.{Labeled, DefinedType, FunctionType}
-use Rattle.comp_bytes.specs.Reading.{◌>>=◌}
 use Rattle.comp_bytes.proofs.Readers.{bind_some, when_some}
-use Rattle.comp_meaning.specs.Follow.{Slot, each, given, provided, is_filled, is_key, primitive_of_type, value_in, resource_in, function_in, value_type, field_type, case_type, definition, function_signature}
+use Rattle.comp_meaning.specs.Follow.{Slot, each, given, is_filled, is_key, primitive_of_type, value_in, resource_in, function_in, value_type, field_type, case_type, definition, function_signature}
 use Rattle.read_shown.specs.Trees.{AllAt, count_true, is_formed, HandleStands, TreeStands, PartsStand, SignatureStands, SlotStands}
 use Rattle.read_shown.proofs.Lists.{each_found, each_filled, given_found}
 use Rattle.base_lemmas.proofs.Numbers.{same_count}

@@ -1,6 +1,5 @@
 -- The kind of each name of an interface, found in the first view that shows it, and of each name of a view's own place.
 use Rattle.std.proofs.Common.{◌≡◌, refl, sym, ap, subst, ◌∙◌, ℕ, zero, suc, Bool, true, false, cond, List, [], ◌∷◌, length, Option, Some, None, option_map, slice_get, unwrap_or}
-use Rattle.std.proofs.lemmas.Option.{slice_get_within}
 use Rattle.wit_model.specs.Text.{Text, text_eq}
 use Rattle.wit_model.specs.Tree.{Place}
 use Rattle.wit_model.specs.Meaning.{FunctionMeaning}
@@ -10,6 +9,7 @@ use Rattle.read_shown.specs.Views.{named_slot, ShowsName, IsMetInView, inside, o
 use Rattle.read_shown.specs.Scopes.{IsShownBefore}
 use Rattle.read_shown.specs.Kinds.{kind_at, OfKind, ViewHasKinds}
 use Rattle.read_shown.specs.Trees.{DeclarationStands, SignatureStands}
+use Rattle.read_shown.proofs.Views.{shows_at}
 use Rattle.read_shown.proofs.Wider.{declaration_wider, signature_wider}
 use Rattle.read_shown.proofs.Agreement.{one_number, Alike, NamesDiffer}
 use Rattle.read_shown.proofs.Lists.{first_found, first_some, first_there}
@@ -95,14 +95,7 @@ module _ (parts : List (List Instance)) (stand : AllStand parts)
       record {
         instance_ = x;
         there = record { part = m; instances = xs; part_at = there; number = n; at = at; of_path = of_path };
-        shows = record {
-          number = k;
-          below = slice_get_within x.view.types k t e;
-          shown = t;
-          at = e;
-          named = named;
-          slot = st.slot ∙ (λ i. named_slot (place_of (of_path i)) (named i) (same i));
-        };
+        shows = shows_at (Place.of_interface path) x.view k t e name c named (st.slot ∙ (λ i. named_slot (place_of (of_path i)) (named i) (same i)));
       }
 
   found_somewhere : (path name : Text) (c : Bool) → first_some (first_some (kind_shown path name)) parts ≡ Some c → IsShownSomewhere parts path name c
@@ -133,14 +126,7 @@ module _ (parts : List (List Instance)) (stand : AllStand parts)
       inside_is (Some path) is count name b s = kinds_are path name b (record {
         instance_ = x;
         there = record { part = m; instances = xs; part_at = there; number = n; at = at; of_path = is };
-        shows = record {
-          number = s.number;
-          below = slice_get_within x.view.types s.number s.shown s.at;
-          shown = s.shown;
-          at = s.at;
-          named = s.named;
-          slot = s.slot ∙ ap (λ o. named_slot (place_of o) name b) is;
-        };
+        shows = shows_at (Place.of_interface path) x.view s.number s.shown s.at name b s.named (s.slot ∙ ap (λ o. named_slot (place_of o) name b) is);
       })
 
       met : (count : ℕ) (place : Place) (name : Text) (b : Bool) → IsMetInView (IsShownBefore xs n) (place_of x.interface) x.view count place name b → b ≡ kind_at kinds (own_kind x.view) place name
@@ -150,14 +136,8 @@ module _ (parts : List (List Instance)) (stand : AllStand parts)
       -- a type that is shown has the kind of its name
       kind_shown_at : (k : ℕ) (t : ShownType) (e : slice_get x.view.types k ≡ Some t)
           → ((stand m xs there n x at).types k t e).is_resource ≡ kind_at kinds (own_kind x.view) (place_of x.interface) t.name
-      kind_shown_at k t e = met (length x.view.types) (place_of x.interface) t.name ((stand m xs there n x at).types k t e).is_resource (inside refl (record {
-        number = k;
-        below = slice_get_within x.view.types k t e;
-        shown = t;
-        at = e;
-        named = refl;
-        slot = ((stand m xs there n x at).types k t e).slot;
-      }))
+      kind_shown_at k t e = met (length x.view.types) (place_of x.interface) t.name ((stand m xs there n x at).types k t e).is_resource (inside refl
+          (shows_at (place_of x.interface) x.view k t e t.name ((stand m xs there n x at).types k t e).is_resource refl ((stand m xs there n x at).types k t e).slot))
 
       shown : (k : ℕ) (t : ShownType) → slice_get x.view.types k ≡ Some t → t.slot ≡ named_slot (place_of x.interface) t.name (kind_at kinds (own_kind x.view) (place_of x.interface) t.name)
       shown k t e = ((stand m xs there n x at).types k t e).slot ∙ ap (named_slot (place_of x.interface) t.name) (kind_shown_at k t e)

@@ -3,7 +3,6 @@ use Rattle.std.proofs.Common.{◌≡◌, ◌⊎◌, inl, inr, refl, sym, ap, sub
 use Rattle.std.specs.List.{AllByRecursion}
 use Rattle.std.proofs.lemmas.Option.{slice_get_within}
 use Rattle.wit_model.specs.Text.{Text}
-use Rattle.comp_bytes.specs.Reading.{◌>>=◌}
 use Rattle.comp_bytes.proofs.Readers.{bind_some}
 use Rattle.comp_meaning.specs.Follow.{each, given, is_filled}
 use Rattle.comp_meaning.specs.Rules.{distinct}

@@ -7,7 +7,6 @@ use Rattle.wit_model.specs.Text.{Text, text_eq}
 use Rattle.wit_model.specs.Names.{PackageIdentity, path_in, read_path}
 use Rattle.wit_model.proofs.NameLaws.{read_path_is_spelled}
 use Rattle.comp_bytes.specs.Raw.{ExternName, Declarations}
-use Rattle.comp_bytes.specs.Reading.{◌>>=◌}
 use Rattle.comp_bytes.proofs.Readers.{bind_some, when_some}
 use Rattle.comp_meaning.specs.Follow.{each, View, Instance, Seen, Shown, Key, Scope, Direction, import_, export_, complete_path, component_scope, is_filled, place_of, provided, when}
 use Rattle.comp_meaning.specs.Rules.{distinct, is_world, used_by_view}

@@ -1,5 +1,5 @@
 -- What component types show is well-formed.
-use Rattle.std.proofs.Common.{◌≡◌, refl, sym, ap, subst, ◌∙◌, ℕ, zero, suc, ◌==◌, arith, Bool, true, false, cond, List, [], ◌∷◌, ◌++◌, length, length-append, take, Option, Some, None, slice_get, is_some}
+use Rattle.std.proofs.Common.{◌≡◌, refl, sym, ap, subst, ◌∙◌, ℕ, zero, suc, ◌==◌, arith, Bool, true, false, cond, List, [], ◌∷◌, ◌++◌, length, take, Option, Some, None, slice_get, is_some}
 use Rattle.std.proofs.lemmas.Option.{slice_get_within}
 use Rattle.wit_model.specs.Text.{Text, text_eq}
 use Rattle.wit_model.specs.Tree.{Place, Tree, Declaration}
@@ -7,15 +7,15 @@ use Rattle.comp_bytes.specs.declared.forms.ComponentTypeRef.{ComponentTypeRef}
 use Rattle.comp_bytes.specs.Raw as raw
 use Rattle.comp_bytes.specs.Raw.{ExternName, Declarations}
 use Rattle.comp_bytes.proofs.Readers.{bind_some, when_some}
-use Rattle.comp_meaning.specs.Follow.{Slot, View, ShownType, Instance, Seen, Shown, Scope, Direction, import_, export_, component_scope, component_step, component_steps, exported_slot, find_type, flat, in_scope, instance_types, interface_of, is_foreign_name, named_type, new_scope, place_of, provided, see, used_view}
+use Rattle.comp_meaning.specs.Follow.{Slot, View, ShownType, Instance, Seen, Shown, Scope, Direction, import_, export_, component_scope, component_step, component_steps, exported_slot, find_type, flat, in_scope, instance_types, interface_of, is_foreign_name, named_type, new_scope, place_of, see, used_view}
 use Rattle.comp_meaning.proofs.StepLaws.{StepOf, defines, signs, aliases, sees_function, sees_type, sees_instance, seen_under, seen_instance, with_instance, step_of}
 use Rattle.read_shown.specs.Trees.{DeclarationStands, SlotStands}
-use Rattle.read_shown.specs.Views.{named_slot, ShowsName, ViewStands}
+use Rattle.read_shown.specs.Views.{named_slot, ViewStands}
 use Rattle.read_shown.specs.Scopes.{is_type, IsShownBefore, IsImported, IsDeclared, a_resource, a_value, own_name, name_of_instance, IsMetInScope, by_import, by_instance, ShownStands, ScopeStands}
 use Rattle.read_shown.proofs.Definitions.{definition_stands, function_stands, signature_stands}
 use Rattle.read_shown.proofs.Lists.{all_more, in_front, none_at, front_more, front_same}
 use Rattle.read_shown.proofs.ScopeWider.{exports_wider, imports_wider, instances_wider, met_wider, shown_stands_wider, shown_wider, slots_wider}
-use Rattle.read_shown.proofs.Views.{named_stands, named_type_stands, view_stands, view_wider}
+use Rattle.read_shown.proofs.Views.{shows_at, named_stands, named_type_stands, view_stands, view_wider}
 use Rattle.read_shown.proofs.Wider.{declaration_wider}
 use Rattle.base_lemmas.proofs.Lists.{at_last as get_last}
 use Rattle.base_lemmas.proofs.Options.{some_is}
@@ -77,6 +77,10 @@ seen_stands export_ seen scope st h plain = record {
 
 -- ---- a type that is imported
 
+abbrev pub imported_at : (imports : List Seen) (n : ℕ) (s : Seen) → slice_get imports n ≡ Some s → (name : Text) (d : Declaration) → s.key ≡ name → s.shown ≡ Shown.declares d
+    → IsImported imports (length imports) name d
+imported_at imports n s at name d key shown = record { number = n; below = slice_get_within imports n s at; seen = s; at = at; key = key; shown = shown }
+
 -- what an import declares, over names that stand before it, is declared by it
 pub declared_last : (instances : List Instance) (imports : List Seen) (count : ℕ) (name : Text) (d : Declaration) (b : Bool) (by : IsImported imports count name d)
     → DeclarationStands (IsMetInScope instances imports by.number) d b → IsDeclared instances imports count name b
@@ -101,15 +105,7 @@ type_stands name described scope found e st =
     let more : Scope = see import_ seen scope in
     let fi = front_same scope.instances in
     let fm = front_more scope.imports (seen ∷ []) in
-    let count = length-append scope.imports (seen ∷ []) in
-    let by : IsImported more.imports (length more.imports) name.text found.0 = record {
-      number = length scope.imports;
-      below = omega (arith, count);
-      seen = seen;
-      at = get_last scope.imports seen;
-      key = refl;
-      shown = refl;
-    } in
+    let by = imported_at more.imports (length scope.imports) seen (get_last scope.imports seen) name.text found.0 refl refl in
     let good : DeclarationStands (IsMetInScope more.instances more.imports (length scope.imports)) found.0 is.0 =
     declaration_wider (Met scope) (IsMetInScope more.instances more.imports (length scope.imports))
     (met_wider scope.instances scope.instances scope.imports more.imports fi fm (length scope.imports) (length scope.imports) (omega arith)) found.0 is.0 is.2 in
@@ -178,14 +174,6 @@ exported_stands scope st m name slot e = by (slice_get scope.instances m) refl e
         let place : place_of x.interface ≡ Place.of_interface path = ap place_of path_is in
         let h = (st.instances m x at).types n t there in
         let named : t.slot ≡ named_slot (Place.of_interface path) t.name h.is_resource = h.slot ∙ ap (λ p. named_slot p t.name h.is_resource) place in
-        let shows : ShowsName (Place.of_interface path) x.view (length x.view.types) t.name h.is_resource = record {
-          number = n;
-          below = slice_get_within x.view.types n t there;
-          shown = t;
-          at = there;
-          named = refl;
-          slot = named;
-        } in
         let before : IsShownBefore scope.instances (length scope.instances) (Place.of_interface path) t.name h.is_resource = record {
           number = m;
           below = slice_get_within scope.instances m x at;
@@ -194,7 +182,7 @@ exported_stands scope st m name slot e = by (slice_get scope.instances m) refl e
           path = path;
           of_path = path_is;
           stands = refl;
-          shows = shows;
+          shows = shows_at (Place.of_interface path) x.view n t there t.name h.is_resource refl named;
         } in
         subst (SlotStands (Met scope)) (sym named ∙ is) (named_stands (Met scope) (Place.of_interface path) t.name h.is_resource (by_instance before))
 

@@ -1,5 +1,6 @@
 -- Views of instance types are well-formed.
 use Rattle.std.proofs.Common.{◌≡◌, refl, sym, ap, subst, ◌∙◌, ℕ, ◌≤◌, ◌==◌, ◌&&◌, arith, Bool, true, false, List, [], ◌∷◌, ◌++◌, length, length-append, Some, slice_get}
+use Rattle.std.proofs.lemmas.Option.{slice_get_within}
 use Rattle.wit_model.specs.Text.{Text}
 use Rattle.wit_model.specs.Tree as tree
 use Rattle.wit_model.specs.Tree.{Place, Tree}
@@ -7,9 +8,8 @@ use Rattle.wit_model.specs.Meaning.{Signature, FunctionMeaning}
 use Rattle.comp_bytes.specs.declared.forms.ComponentTypeRef.{ComponentTypeRef}
 use Rattle.comp_bytes.specs.declared.forms.ComponentTypeRef.TheVariants as refs
 use Rattle.comp_bytes.specs.Raw.{Alias, ExternName, Declaration}
-use Rattle.comp_bytes.specs.Reading.{◌>>=◌}
 use Rattle.comp_bytes.proofs.Readers.{bind_some, when_some}
-use Rattle.comp_meaning.specs.Follow.{Slot, View, ShownType, InstanceScope, declared_by, definition, function_in, function_signature, in_instance, instance_step, instance_steps, instance_view, is_foreign_name, is_simple, named_like, named_type, new_instance, provided, show, show_function, show_type}
+use Rattle.comp_meaning.specs.Follow.{Slot, View, ShownType, InstanceScope, declared_by, definition, function_in, function_signature, in_instance, instance_step, instance_steps, instance_view, is_foreign_name, is_simple, named_like, named_type, new_instance, show, show_function, show_type}
 use Rattle.read_shown.specs.Trees.{AllAt, DeclarationStands, SignatureStands, SlotStands}
 use Rattle.read_shown.specs.Views.{named_slot, ShowsName, IsMetInView, inside, outside, TypeStands, ViewStands, InstanceScopeStands}
 use Rattle.read_shown.proofs.Definitions.{definition_stands, function_stands, signature_stands}
@@ -49,6 +49,10 @@ module _ (Met : Place → Text → Bool → Type 0) where
   named_type_stands slots all place name _ found e = absurd cc
 
 -- ---- views that grow
+
+pub shows_at : (place : Place) (view : View) (k : ℕ) (t : ShownType) → slice_get view.types k ≡ Some t → (name : Text) (b : Bool) → t.name ≡ name → t.slot ≡ named_slot place name b
+    → ShowsName place view (length view.types) name b
+shows_at place view k t e name b named slot = record { number = k; below = slice_get_within view.types k t e; shown = t; at = e; named = named; slot = slot }
 
 pub shows_wider : (place : Place) (view more : View) → Front view.types more.types → (k m : ℕ) → k ≤ m → (name : Text) (b : Bool) → ShowsName place view k name b → ShowsName place more m name b
 shows_wider place view more front k m le name b s = record {
@@ -188,6 +192,7 @@ module _ (Outside : Place → Text → Bool → Type 0) (own : Place) where
         let w = when_some (is_simple name) (show own name described scope) next e in
         shown_stands name described scope next w.1 st
     instance_step_stands _ scope next e st = absurd cc
+
     pub instance_steps_stand : (ds : List Declaration) (scope next : InstanceScope) → instance_steps own outer scope ds ≡ Some next → InstanceScopeStands Outside own scope
         → InstanceScopeStands Outside own next
     instance_steps_stand [] scope next e st = subst (InstanceScopeStands Outside own) (some_is scope next e) st

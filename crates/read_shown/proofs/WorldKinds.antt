@@ -1,6 +1,5 @@
 -- The kind of each name that a world declares: its imports have keys that differ.
 use Rattle.std.proofs.Common.{◌≡◌, refl, sym, ap, subst, ◌∙◌, ℕ, zero, suc, Bool, true, false, cond, List, [], ◌∷◌, map, length, Option, Some, None, slice_get, unwrap_or}
-use Rattle.std.proofs.lemmas.Option.{slice_get_within}
 use Rattle.wit_model.specs.Text.{Text, text_eq}
 use Rattle.wit_model.specs.Tree.{Place, Tree, Declaration}
 use Rattle.wit_model.proofs.VersionLaws.{same_text}
@@ -10,7 +9,7 @@ use Rattle.read_shown.specs.Trees.{AllAt, DeclarationStands}
 use Rattle.read_shown.specs.Scopes.{is_name, is_type, IsShownBefore, IsImported, IsDeclared, a_resource, a_value, own_name, name_of_instance, IsMetInScope, by_import, by_instance, ShownStands}
 use Rattle.read_shown.specs.Kinds.{kind_at, OfKind, ShownHasKind}
 use Rattle.read_shown.proofs.Lists.{one_place}
-use Rattle.read_shown.proofs.Scopes.{declared_last}
+use Rattle.read_shown.proofs.Scopes.{declared_last, imported_at}
 use Rattle.read_shown.proofs.Wider.{declaration_wider, signature_wider}
 use Rattle.base_lemmas.proofs.Lists.{mapped_get}
 use Rattle.base_lemmas.proofs.Options.{some_is}
@@ -108,14 +107,7 @@ module _ (instances : List Instance) (imports : List Seen) (apart : distinct (ma
             let seen : first.1 ≡ i.seen = some_is first.1 i.seen (sym first.2 ∙ (ap (λ k. slice_get imports k) number ∙ i.at)) in
             let shown : first.1.shown ≡ Shown.declares e = ap (λ (z : Seen). z.shown) seen ∙ i.shown in
             let kind = kind_shown_is first.0 first.1.shown (stand first.0 first.1 first.2) e shown in
-            let there : IsImported imports (length imports) name e = record {
-              number = first.0;
-              below = slice_get_within imports first.0 first.1 first.2;
-              seen = first.1;
-              at = first.2;
-              key = first.3;
-              shown = shown;
-            } in
+            let there = imported_at imports first.0 first.1 first.2 name e first.3 shown in
             let last = declared_last instances imports (length imports) name e kind.0 there kind.2 in
             let same = imported_once n (length imports) name name (declaration_of d).0 (declaration_of last).0 refl (declaration_of d).1 (declaration_of last).1 in
             declared_alike d last same (ap names_another same) ∙ sym (ap (λ o. unwrap_or o false) (first.4 ∙ kind.1))
@@ -133,14 +125,7 @@ module _ (instances : List Instance) (imports : List Seen) (apart : distinct (ma
         by (Shown.instance key view) e h = tt
         by (Shown.function f) e h = signature_wider (IsMetInScope instances imports n) (OfKind (kind_at kinds own_kind)) (met_is n) f h
         by (Shown.declares d) e h =
-            let there : IsImported imports (length imports) s.key d = record {
-              number = n;
-              below = slice_get_within imports n s at;
-              seen = s;
-              at = at;
-              key = refl;
-              shown = e;
-            } in
+            let there = imported_at imports n s at s.key d refl e in
             subst (DeclarationStands (OfKind (kind_at kinds own_kind)) d) (own_is (declared_last instances imports (length imports) s.key d h.0 there h.1))
             (declaration_wider (IsMetInScope instances imports n) (OfKind (kind_at kinds own_kind)) (met_is n) d h.0 h.1)
 
