@@ -28,12 +28,16 @@ pub option-cases : {A P : Type 0} (o : Option A) → (o ≡ None → P) → ((x 
 option-cases None p q = p refl
 option-cases (Some x) p q = q x refl
 
+-- what is there, of which this holds
+abbrev pub Given : {A : Type 0} → Option A → (A → Type 0) → Type 0
+Given {A} o P = (x : A) × (o ≡ Some x) × P x
+
 -- what a look-up gives is of what is there
-pub given-by : {A B : Type 0} (f : A → Option B) (o : Option A) (y : B) → option_and_then f o ≡ Some y → (x : A) × (o ≡ Some x) × (f x ≡ Some y)
+pub given-by : {A B : Type 0} (f : A → Option B) (o : Option A) (y : B) → option_and_then f o ≡ Some y → Given o (λ x. f x ≡ Some y)
 given-by f (Some x) y h = (x, refl, h)
 given-by f None y h = absurd cc
 
 -- what passes a test is there
-pub passed : {A : Type 0} (test : A → Bool) (o : Option A) → option_map_or test o false ≡ true → (x : A) × (o ≡ Some x) × (test x ≡ true)
+pub passed : {A : Type 0} (test : A → Bool) (o : Option A) → option_map_or test o false ≡ true → Given o (λ x. test x ≡ true)
 passed test (Some x) h = (x, refl, h)
 passed test None h = absurd cc

@@ -30,6 +30,7 @@ declared_labels _ = []
 abbrev pub is_unnamed_form : Declaration → Bool
 is_unnamed_form (type_ (node form ts)) = not (is_named_form form)
 is_unnamed_form _ = false
+
 -- another name for a type
 abbrev pub is_alias : TypeDefKind → Bool
 is_alias (kind.Type_ t) = true
@@ -45,6 +46,7 @@ cases-listed : (trees : List Tree) (cs : List Case)
     → child_list (given (map (λ c. c.1) (map {B = Text × Option Tree} (λ c. (text_of c.name, option_map (tree_of trees) c.ty)) cs))) ≡ map (tree_of trees) (filter_map (λ c. c.ty) cs)
 cases-listed trees [] = refl
 cases-listed trees (c ∷ cs) = given-one (tree_of trees) c.ty _ _ (cases-listed trees cs)
+
 one-listed : (trees : List Tree) (o : Option ValueType) → child_list (given (option_map (tree_of trees) o ∷ [])) ≡ map (tree_of trees) (option_to_list o) ++ []
 one-listed trees None = refl
 one-listed trees (Some t) = refl

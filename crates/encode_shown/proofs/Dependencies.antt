@@ -1,7 +1,7 @@
 -- The component type of an interface of a valid `Resolve`, and the wrapper of a world, are read as parts of their package.
 use Rattle.std.proofs.Common.{◌≡◌, refl, sym, subst, ap, ◌∙◌, ℕ, zero, suc, true, false, not, ◌&&◌, ◌==◌, List, [], ◌∷◌, ◌++◌, map, Option, Some, None, String, arith}
 use Rattle.std.specs.declared.alloc.Global.{Global}
-use Rattle.std.specs.Prelude.{is_some, option_and_then, flat_map}
+use Rattle.std.specs.Prelude.{option_and_then, flat_map}
 use Rattle.std.specs.Option.{option_map_or}
 use Rattle.std.specs.List.{AllZip, AllByRecursion, Contains, IsDistinct, list_any}
 use Rattle.std.proofs.lemmas.List.Elements.{Contains-append_left, Contains-append_right, Contains-append_cases}
@@ -35,8 +35,8 @@ use Rattle.wit_model.proofs.Elements.{contains-flat, none-in}
 use Rattle.comp_bytes.specs.Raw.{Declarations}
 use Rattle.comp_bytes.specs.Reading.{◌>>=◌}
 use Rattle.comp_meaning.specs.Follow.{View, ShownType, Seen, Shown, Key, Scope, each, provided, is_filled, component_scope}
-use Rattle.comp_meaning.specs.Rules.{distinct, used_by, used_by_view, is_world}
-use Rattle.comp_meaning.specs.Reads.{Part, imported_view, exported_view, are_reached, labelled_path, interface_part, world_part}
+use Rattle.comp_meaning.specs.Rules.{distinct, used_by, used_by_view}
+use Rattle.comp_meaning.specs.Reads.{Part, imported_view, are_reached, labelled_path, interface_part, world_part}
 use Rattle.encode_shown.specs.PackageTypes.{plain_name}
 use Rattle.encode_shown.specs.Views.{shown_type, home_of, types_of, ShowsInterface, ShowsImport, ShowsWorld, ShowsDependencies, AreUsed}
 use Rattle.std.proofs.Math.Logic.{⊎_elim}
@@ -188,14 +188,10 @@ module _ (r : Resolve) (v : IsValid r) where
         → ShowsWorld r w scope
         → world_part label (ds, plain_name (path_in (identity_of p.name) (text_of w.name))) ≡ Some (identity_of p.name, Part.world scope)
     world-read m w there label is ds scope follows shows =
-        let path = path_in (identity_of p.name) (text_of w.name) in
         let name = world-label r v m w there scope shows in
-        ap (λ (o : Option (PackageIdentity × Text)). provided (is_some o) path >>= λ whole. labelled_path label whole >>= λ q. component_scope ds >>= λ s. provided (is_world s) (q, Part.world s))
-        (spelled_path_reads (identity_of p.name) (text_of w.name) (identity r v n p at) name)
-        ∙ ap (λ (o : Option PackageIdentity). o >>= λ q. component_scope ds >>= λ s. provided (is_world s) (q, Part.world s))
-        (labelled (identity_of p.name) (text_of w.name) label (identity r v n p at) name is)
-        ∙ ap (λ (o : Option Scope). o >>= λ s. provided (is_world s) (identity_of p.name, Part.world s)) follows
-        ∙ ap (λ b. provided b (identity_of p.name, Part.world scope)) (world-obeys r v m w there scope shows)
+        let spelled = spelled_path_reads (identity_of p.name) (text_of w.name) (identity r v n p at) name in
+        let read = labelled (identity_of p.name) (text_of w.name) label (identity r v n p at) name is in
+        rw (spelled, read, follows, world-obeys r v m w there scope shows) refl
 
     pub world-part-read : (e : String Global × WorldId) → Contains p.worlds.entries e → (w : World) → world_at r e.1.0 ≡ Some w → (ds : Declarations) (scope : Scope) → component_scope ds ≡ Some scope
         → ShowsWorld r w scope

@@ -62,6 +62,7 @@ module _ (place : Place) (r : Resolve) where
 
   abbrev shown_param : Param → Text × Tree
   shown_param p = (text_of p.name, type_tree r p.ty)
+
   result-passes : (o : Option ValueType) → list_all is_value (option_to_list o) ≡ true → is_result_type place (option_map (type_tree r) o) ≡ true
   result-passes None h = refl
   result-passes (Some t) h = first_true _ _ h
@@ -92,6 +93,7 @@ module _ (r : Resolve) (v : IsValid r) where
   borrow-kind : (n : ℕ) (k : TypeDefKind) → is_borrow_kind n k ≡ true → tree_of_declaration (declared_by (trees_of r) k) ≡ borrow_tree (number_tree r n)
   borrow-kind n (kind.Handle (handle.Borrow id)) h = ap (λ m. borrow_tree (number_tree r m)) (equal id.0 n h)
   borrow-kind n _ h = absurd cc
+
   -- ---- functions of resources
 
   module _ (place : Place) (name : Text) (n : ℕ) (tree_is : number_tree r n ≡ named place name) where

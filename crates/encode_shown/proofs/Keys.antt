@@ -88,6 +88,7 @@ module _ (r : Resolve) (v : IsValid r) (n : ℕ) where
       go false e h = inr (member-key name f e (text-same (text_of name) (text_of f.name) (first_true (text_eq (text_of name) (text_of f.name)) _ is.named_))
           (second_true (text_eq (text_of name) (text_of f.name)) _ is.named_))
   entry-key (key.Name name) _ is = inl is.key_labelled
+
   -- ---- texts
 
   not-same : (f : Text → Bool) (t u : Text) → f t ≡ true → f u ≡ false → text_eq t u ≡ false
@@ -109,6 +110,7 @@ module _ (r : Resolve) (v : IsValid r) (n : ℕ) where
   -- paths of two interfaces
   pub paths-apart : (a b : ℕ) (p q : Text) → interface_path r a ≡ Some p → interface_path r b ≡ Some q → (a == b) ≡ false → text_eq p q ≡ false
   paths-apart a b p q e f d = false_from_ne_true (text_eq p q) (λ h. differ a b d (path-once r v a b p e (f ∙ ap Some (sym (text-same p q h)))))
+
   keys-apart : (a b : WorldKey) → IsKey r a → IsKey r b → key_eq a b ≡ false → text_eq (key_text r a) (key_text r b) ≡ false
   keys-apart (key.Name a) (key.Name b) h g e = e
   keys-apart (key.Name a) (key.Interface b) h g e =

@@ -1,29 +1,27 @@
--- Meanings are the same as themselves. Serves Owning, PackageSights, Packages, Sights.
-pub mod Alike
 -- Lists of texts in which none stands twice. Serves Interfaces, PackageTypes, Worlds.
 pub mod Apart
--- What a rule that is kept says of an entry, and owners. Serves Functions, Items, Parts; crates above.
+-- What a rule that is kept says of an entry, and owners. Serves Dependencies, Functions, Items, Keys and 8 more; crates above.
 pub mod Basics
 -- What stands in a declared form: its labels, and the trees of the parts of the kind. Serves Parts, Used.
 pub mod Children
+-- What validity says of an import and of an export of a world. Serves Items, Keys, WorldMeans, Worlds; crates above.
+pub mod Entries
+-- The keys of the imports, and of the exports, of a world are texts of which none stands twice. Serves Dependencies, Items, Worlds.
+pub mod Keys
 -- The types of an interface's list: each is a named type of the interface, under its name, and they are all of those. Serves Dependencies, Interfaces, Items, Owning and 1 more; crates above.
 pub mod Members
--- Which interfaces are a package's own, by their paths. Serves Dependencies, PackageSights, PackageTypes, Packages; crates above.
+-- Which interfaces are a package's own, by their paths. Serves Dependencies, PackageSights, PackageTypes, Packages and 1 more; crates above.
 pub mod Owning
--- The types of an owner, as parts of others: the names in them are of the owner's place. Serves Dependencies, Functions, Interfaces, Items and 1 more; crates above.
+-- The types of an owner, as parts of others: the names in them are of the owner's place. Serves Dependencies, Functions, Interfaces, Used; crates above.
 pub mod Parts
 -- The paths that a declaration uses are those of the interfaces that it uses. Serves PackageSights, Reach, Worlds; crates above.
 pub mod Used
 -- Which interfaces are reached: what a chain of uses leads to, and no others. Serves Dependencies, PackageSights; crates above.
 pub mod Reach
--- What validity says of an import and of an export of a world. Serves Items, Keys, WorldMeans, Worlds; crates above.
-pub mod Entries
 -- A function of an owner obeys the rules in the owner's place. Serves Interfaces, Items.
 pub mod Functions
 -- What shows an interface of a valid `Resolve` obeys the rules of interfaces, and means the interface. Serves laws::interfaces_are_meant, laws::types_are_meant; crates above.
 pub mod Interfaces
--- The keys of the imports, and of the exports, of a world are texts of which none stands twice. Serves Items, Worlds.
-pub mod Keys
 -- Two lists, place by place, and elements of lists that are made from others. Serves Dependencies, Items, PackageSights, PackageTypes and 3 more; crates above.
 pub mod Zips
 -- What shows an import or an export of a valid world obeys the rules of items. Serves WorldMeans, Worlds; crates above.

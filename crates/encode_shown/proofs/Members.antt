@@ -25,6 +25,7 @@ use Rattle.wit_model.proofs.Listed.{misfit}
 use Rattle.wit_model.proofs.Listings.{given_all, given_found}
 use Rattle.wit_model.proofs.Elements.{contains-get}
 use Rattle.wit_model.proofs.OnePath.{found-in, given-test, interface-passes}
+use Rattle.encode_shown.proofs.Basics.{Given}
 use Rattle.base_lemmas.proofs.Bools.{left_of as first_true, right_of as second_true}
 use Rattle.std.proofs.lemmas.Bool.{both_ways, true_from_ne_false}
 use Rattle.base_lemmas.proofs.Elements.{all-contained, contains-map, lookup_stands}
@@ -35,7 +36,7 @@ use Rattle.wit_model.proofs.TextLemmas.{text_same as text-same}
 use Rattle.wit_model.proofs.ValidLemmas.{type_passes as type-passes}
 
 -- what has this number
-pub numbered-as : {V : Type 0} (number : V → ℕ) (n : ℕ) (o : Option V) → is_id n (option_map number o) ≡ true → (x : V) × (o ≡ Some x) × (number x ≡ n)
+pub numbered-as : {V : Type 0} (number : V → ℕ) (n : ℕ) (o : Option V) → is_id n (option_map number o) ≡ true → Given o (λ x. number x ≡ n)
 numbered-as number n None h = absurd cc
 numbered-as number n (Some x) h = (x, refl, equal (number x) n h)
 

@@ -22,28 +22,15 @@ use Rattle.wit_model.proofs.NameLaws.{spelled_path_reads}
 use Rattle.wit_model.proofs.VersionLaws.{same_name}
 use Rattle.wit_model.proofs.OnePath.{given-test, interface-passes, HasPath, has-path, path-label, path-listed, package-name, package-once, package-passes, found-in}
 use Rattle.encode_shown.proofs.Members.{found-entry, numbered-as}
-use Rattle.comp_meaning.specs.Same.{same_identity, same_option}
+use Rattle.comp_meaning.specs.Same.{same_identity}
 use Rattle.comp_meaning.specs.Reads.{is_of}
-use Rattle.encode_shown.proofs.Alike.{identity-alike}
+use Rattle.comp_meaning.proofs.SameLaws.{identities_decide}
 use Rattle.base_lemmas.proofs.Bools.{both_ways as either_way, left_of as first_true, right_of as second_true}
 use Rattle.base_lemmas.proofs.Elements.{all-contained, contains-map}
 use Rattle.base_lemmas.proofs.Numbers.{equal, same-number}
 use Rattle.std.proofs.lemmas.Bool.{not-true as no-longer}
 use Rattle.std.proofs.lemmas.Option.{same_Some as some-same}
 use Rattle.wit_model.proofs.TextLemmas.{text_named, text_same as text-same}
-
-same-optional : (a b : Option Text) → same_option text_eq a b ≡ true → a ≡ b
-same-optional None None h = refl
-same-optional (Some a) (Some b) h = ap Some (text-same a b h)
-same-optional _ _ h = absurd cc
-
-identity-same : (a b : PackageIdentity) → same_identity a b ≡ true → a ≡ b
-identity-same a b h =
-    let first = first_true (text_eq a.namespace b.namespace && text_eq a.name b.name) _ h in
-    let namespace = text-same a.namespace b.namespace (first_true (text_eq a.namespace b.namespace) _ first) in
-    let name = text-same a.name b.name (second_true (text_eq a.namespace b.namespace) _ first) in
-    let version = same-optional a.version b.version (second_true (text_eq a.namespace b.namespace && text_eq a.name b.name) _ h) in
-    λ j. record { namespace = namespace j; name = name j; version = version j }
 
 -- no world of a package has the name of an interface of it
 pub interface-unnamed : (r : Resolve) → IsValid r → (p : Package) (m : ℕ) (i : Interface) (name : String Global) → interface_at r m ≡ Some i → i.name ≡ Some name
@@ -119,8 +106,10 @@ module _ (r : Resolve) (v : IsValid r) (n : ℕ) (p : Package) (at : package_at 
   own-world e c w there =
       let belongs = all-contained (world_belongs r n) p.worlds.entries e
       (first_true (list_all (world_belongs r n) p.worlds.entries) _ (second_true (list_all (interface_belongs r n) p.interfaces.entries) _ (package-passes places r v.rules.places n p at))) c in
-      let test = ap (passes (λ (w : World). is_id n (package_number w.package) && text_eq (text_of w.name) (text_of e.0))) (sym there) ∙ belongs in
-      (text-same (text_of w.name) (text_of e.0) (second_true (is_id n (package_number w.package)) _ test), numbered-as (λ (id : PackageId). id.0) n w.package (first_true (is_id n (package_number w.package)) _ test))
+      let test = ap (passes (λ (w : World). is_id n (package_number w.package) && text_eq (text_of w.name) (text_of e.0))) (sym there) ∙ belongs in (
+        text-same (text_of w.name) (text_of e.0) (second_true (is_id n (package_number w.package)) _ test),
+        numbered-as (λ (id : PackageId). id.0) n w.package (first_true (is_id n (package_number w.package)) _ test),
+      )
 
   -- ---- paths of the package
 
@@ -134,14 +123,14 @@ module _ (r : Resolve) (v : IsValid r) (n : ℕ) (p : Package) (at : package_at 
     same-package : same_identity (identity_of p.name) (identity_of h.package_.name) ≡ true → h.home.0 ≡ n
     same-package e = package-once r v n h.home.0 p h.package_ at h.stands
         ((same_name p.name h.package_.name (package-name r v n p at).version (package-name r v h.home.0 h.package_ h.stands).version).1
-        (identity-same (identity_of p.name) (identity_of h.package_.name) e))
+        ((identities_decide (identity_of p.name) (identity_of h.package_.name)).0 e))
 
     -- a path is of the package where the interface's package is this one
     of-package : is_of (identity_of p.name) path ≡ (h.home.0 == n)
     of-package = ap (λ o. is-of-read o) read ∙ either_way (same_identity (identity_of p.name) (identity_of h.package_.name)) (h.home.0 == n)
         (λ e. ap (λ k. k == n) (same-package e) ∙ same-number n)
         (λ e. let one : h.package_ ≡ p = some-same h.package_ p (sym h.stands ∙ ap (package_at r) (equal h.home.0 n e) ∙ at) in
-        ap (λ (q : Package). same_identity (identity_of p.name) (identity_of q.name)) one ∙ identity-alike (identity_of p.name))
+        ap (λ (q : Package). same_identity (identity_of p.name) (identity_of q.name)) one ∙ (identities_decide (identity_of p.name) (identity_of p.name)).1 refl)
       where
         is-of-read : Option (PackageIdentity × Text) → Bool
         is-of-read None = false

@@ -29,7 +29,7 @@ use Rattle.comp_meaning.specs.Reads.{Sight, Member, sights, is_of}
 use Rattle.encode_shown.specs.Views.{ShowsInterface, ShowsImport, ShowsReached, ShowsPackage, ShowsInterfaceMember, ShowsWorldMember}
 use Rattle.std.proofs.Math.Logic.{⊎_elim}
 use Rattle.encode_shown.proofs.Basics.{given-by}
-use Rattle.encode_shown.proofs.Alike.{identity-alike}
+use Rattle.comp_meaning.proofs.SameLaws.{identities_decide}
 use Rattle.encode_shown.proofs.Used.{contains-flat-from}
 use Rattle.encode_shown.proofs.Owning.{identity, own-interface, own-path}
 use Rattle.encode_shown.proofs.Reach.{Chain, chain-reached, holds-reached, used-chain, earlier-used}
@@ -121,9 +121,10 @@ module _ (r : Resolve) (v : IsValid r) where
     world-shown w c =
         let given = given-contains (λ (id : WorldId). world_at r id.0) (values p.worlds) w c in
         let entry = contains-mapped (λ (x : String Global × WorldId). x.1) p.worlds.entries given.0 given.1 in
-        let found = world-member entry.0 entry.1 in
-        (record { entry = entry.0; member = found.0; there = found.1; shown = found.2 },
-         same-some found.2.world w (sym found.2.there ∙ ap (λ (id : WorldId). world_at r id.0) entry.2 ∙ given.2))
+        let found = world-member entry.0 entry.1 in (
+          record { entry = entry.0; member = found.0; there = found.1; shown = found.2 },
+          same-some found.2.world w (sym found.2.there ∙ ap (λ (id : WorldId). world_at r id.0) entry.2 ∙ given.2),
+        )
 
     -- an interface that the world of a member shows is seen whole in the member
     whole-in : (w : WorldMember) (k : ℕ) → Contains (shown_by r w.shown.world) k → (s : Sight) × Contains all_seen s × IsWhole r v w.entry.1.0 k s
@@ -151,7 +152,7 @@ module _ (r : Resolve) (v : IsValid r) where
     path-own : (e : String Global × InterfaceId) → Contains p.interfaces.entries e → is_of named (path_in named (text_of e.0)) ≡ true
     path-own e c =
         let is = own-interface r v n p at e c in
-        ap read-of (spelled_path_reads named (text_of e.0) (identity r v n p at) (Rattle.encode_shown.proofs.Dependencies.own-label r v n p at e c)) ∙ identity-alike named
+        ap read-of (spelled_path_reads named (text_of e.0) (identity r v n p at) (Rattle.encode_shown.proofs.Dependencies.own-label r v n p at e c)) ∙ (identities_decide named named).1 refl
       where
         read-of : Option (PackageIdentity × Text) → Bool
         read-of None = false
@@ -244,8 +245,10 @@ module _ (r : Resolve) (v : IsValid r) where
             let id = contains-mapped (λ (id : InterfaceId). id.0) (values p.interfaces) m c in
             let entry = contains-mapped (λ (x : String Global × InterfaceId). x.1) p.interfaces.entries id.0 id.1 in
             let found = interface-member entry.0 entry.1 in
-            inl (record { entry = entry.0; listed = entry.1; member = found.0; there = found.1; shown = found.2 },
-                Contains-append_right found.2.reached.numbers (entry.0.1.0 ∷ []) m (0, omega arith, ap (λ (i : InterfaceId). i.0) entry.2 ∙ id.2))
+            inl (
+              record { entry = entry.0; listed = entry.1; member = found.0; there = found.1; shown = found.2 },
+              Contains-append_right found.2.reached.numbers (entry.0.1.0 ∷ []) m (0, omega arith, ap (λ (i : InterfaceId). i.0) entry.2 ∙ id.2),
+            )
         go (inr c) =
             let w = contains-flat-from (interfaces_of_world r) (worlds_of r p) m c in
             let i = contains-flat-from (interfaces_of_item r) (items_of w.0) m w.2 in

@@ -26,7 +26,7 @@ use Rattle.comp_meaning.specs.Reads.{Sight, Member, sights, is_of, stands_at_top
 use Rattle.encode_shown.specs.Views.{ShowsPackage, ShowsInterfaceMember, ShowsWorldMember}
 use Rattle.std.proofs.Math.Logic.{⊎_elim}
 use Rattle.comp_meaning.proofs.AgreementLaws.{implied}
-use Rattle.encode_shown.proofs.Alike.{identity-alike}
+use Rattle.comp_meaning.proofs.SameLaws.{identities_decide}
 use Rattle.encode_shown.proofs.Interfaces.{interface-means}
 use Rattle.encode_shown.proofs.WorldMeans.{world-means}
 use Rattle.encode_shown.proofs.Owning.{foreign-path, own-listed}
@@ -67,7 +67,7 @@ module _ (r : Resolve) (v : IsValid r) (n : ℕ) (p : Package) (at : package_at 
       (Contains-append_cases shows.interface_members shows.world_members m (subst (λ (ms : List Member). Contains ms m) shows.are c))
 
   one-package : list_all (λ m. same_identity named m.package_) members ≡ true
-  one-package = all-from (λ m. same_identity named m.package_) members (λ m c. ap (same_identity named) (member-package m c) ∙ identity-alike named)
+  one-package = all-from (λ m. same_identity named m.package_) members (λ m c. ap (same_identity named) (member-package m c) ∙ (identities_decide named named).1 refl)
 
   -- ---- sights
 

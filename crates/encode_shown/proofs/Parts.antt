@@ -8,9 +8,8 @@ use Rattle.std.proofs.lemmas.Bool.{ltb-true, lt-ltb, and_from as both, both_ways
 use Rattle.std.proofs.lemmas.Option.{slice_get_within}
 use Rattle.std.proofs.lemmas.List.Folds.{list_all-append, list_all-map}
 use Rattle.std.proofs.lemmas.List.Elements.{Contains-append_left, Contains-append_right}
-use Rattle.std.proofs.lemmas.Cmp.{nat_list_eq_equiv}
 use Rattle.wit_model.specs.Text.{Text, text_of}
-use Rattle.wit_model.specs.Tree.{Tree, Place, Primitive, Declaration, type_, primitive, named, node, of_interface, here, levels}
+use Rattle.wit_model.specs.Tree.{Tree, Place, Primitive, Declaration, type_, primitive, named, node, levels}
 use Rattle.wit_model.specs.Types.{declared_by, tree_of, tree_at, tree_of_declaration, type_tree, number_tree, trees_of, no_tree, number_of, declaration_of}
 use Rattle.wit_model.specs.Lookup.{type_at, place_of}
 use Rattle.wit_model.specs.Parts.{member_types, handled, kind_numbers, met_by, met_of, used_by_type, same_owner, has_owner, is_resource, is_resource_kind, is_resource_type}
@@ -33,6 +32,7 @@ use Rattle.wit_model.proofs.Functions.{all_flat}
 use Rattle.wit_model.proofs.Owners.{named_met, unnamed_met}
 use Rattle.wit_model.proofs.Elements.{contains-filter_map}
 use Rattle.wit_model.proofs.OnePath.{found-in}
+use Rattle.comp_meaning.proofs.SameLaws.{places_decide}
 use Rattle.comp_meaning.specs.Same.{same_place}
 use Rattle.comp_meaning.specs.Rules.{is_part, is_declared, are_labels}
 use Rattle.encode_shown.proofs.Basics.{valid-references, or-cases, passed}
@@ -45,8 +45,7 @@ use Rattle.wit_model.proofs.PartsLemmas.{owner_same as same-owner}
 use Rattle.wit_model.proofs.ValidLemmas.{type_passes as type-passes}
 
 pub place-alike : (a : Place) → same_place a a ≡ true
-place-alike (of_interface p) = nat_list_eq_equiv.refl p
-place-alike here = refl
+place-alike a = (places_decide a a).1 refl
 
 -- ---- unnamed kinds
 
@@ -62,6 +61,7 @@ unnamed-alias _ e = refl
 resource-named : (f : ℕ → Bool) (k : TypeDefKind) → (is_named_kind k || not (is_resource_kind f k)) ≡ true
 resource-named f kind.Resource = refl
 resource-named f _ = refl
+
 -- labels that keep the rule
 pub labels-from : (ts : List Text) → are_member_labels ts ≡ true → are_labels ts ≡ true
 labels-from ts h = both _ _ (first_true (rules.are_labels ts) _ h) (sym (distinct-same ts) ∙ second_true (rules.are_labels ts) _ h)
@@ -163,7 +163,8 @@ module _ (r : Resolve) (v : IsValid r) where
       let less : m < length r.types.items = omega (arith, below, inside) in
       let found = found-in r.types.items m (lt-ltb m (length r.types.items) less) in
       let resource_kind = sym (resource_step r (valid-references r v) m found.0 found.1) ∙ is_one in
-      let kind_of = or-cases (is_named_kind found.0.kind) _ (resource-named (is_resource r) found.0.kind) (λ h. h) (λ h. absurd (not-false (is_resource_kind (is_resource r) found.0.kind) h resource_kind)) in
+      let kind_of = or-cases (is_named_kind found.0.kind) _ (resource-named (is_resource r) found.0.kind) (λ h. h)
+      (λ h. absurd (not-false (is_resource_kind (is_resource r) found.0.kind) h resource_kind)) in
       let name = some-of found.0.name (named-kind m found.0 found.1 kind_of) in
       ap (λ t. nat_le (levels t) 100) (named-tree m found.0 name.0 found.1 name.1)
     where

@@ -1,8 +1,7 @@
 -- Sights of interfaces of a valid `Resolve` agree, obey the rules, and together mean the interfaces.
-use Rattle.std.proofs.Common.{◌≡◌, refl, sym, subst, ap, ◌∙◌, ℕ, Bool, true, false, ◌&&◌, ◌||◌, cond, List, [], ◌∷◌, length, Some}
+use Rattle.std.proofs.Common.{◌≡◌, refl, sym, subst, ap, ◌∙◌, ℕ, Bool, true, false, ◌&&◌, ◌||◌, cond, List, [], ◌∷◌, map, length, Some}
 use Rattle.std.specs.Prelude.{IsPermutation, if◌then◌else◌}
 use Rattle.std.specs.Option.{option_map_or}
-use Rattle.std.specs.Cmp.Lexicographic.{pointwise}
 use Rattle.std.specs.List.{AllZip, Contains, list_any}
 use Rattle.std.proofs.lemmas.Bool.{eq-eqb, and_from as both}
 use Rattle.std.proofs.lemmas.List.Folds.{list_any_at}
@@ -18,10 +17,11 @@ use Rattle.wit_model.proofs.OnePath.{path-once}
 use Rattle.comp_meaning.specs.Follow.{View}
 use Rattle.comp_meaning.specs.Rules.{is_interface}
 use Rattle.comp_meaning.specs.Same.{same_function, stand_in}
-use Rattle.comp_meaning.specs.Reads.{Sight, same_shown, same_functions, agree, all_agree, are_interfaces, functions_of, interface_meaning, seen_meaning}
+use Rattle.comp_meaning.specs.Reads.{Sight, same_functions, agree, all_agree, are_interfaces, functions_of, interface_meaning, seen_meaning}
 use Rattle.encode_shown.specs.Views.{home_of, ShowsTypes, ShowsInterface}
 use Rattle.encode_shown.specs.Views as views
-use Rattle.encode_shown.proofs.Alike.{list-alike, shown-alike, function-alike}
+use Rattle.comp_meaning.specs.SameLaws.{named_meaning}
+use Rattle.comp_meaning.proofs.SameLaws.{functions_decide, shown_types_decide}
 use Rattle.encode_shown.proofs.Interfaces.{interface-obeys, interface-means, types-obey, types-mean}
 use Rattle.comp_meaning.proofs.AgreementLaws.{implied}
 use Rattle.encode_shown.proofs.Zips.{zip-left}
@@ -54,7 +54,7 @@ module _ (r : Resolve) where
   stands-in xs ys h = all-from (λ x. list_any (λ y. text_eq x.0 y.0 && same_function x.1 y.1) ys) xs (λ x c.
       let d = h x c in
       list_any_at (λ y. text_eq x.0 y.0 && same_function x.1 y.1) ys d.0 x d.1
-      (ap (λ (y : Text × FunctionMeaning). text_eq x.0 y.0 && same_function x.1 y.1) d.2 ∙ both _ _ (text-alike x.0) (function-alike x.1)))
+      (ap (λ (y : Text × FunctionMeaning). text_eq x.0 y.0 && same_function x.1 y.1) d.2 ∙ both _ _ (text-alike x.0) ((functions_decide x.1 x.1).1 refl)))
 
   -- two orders of the same functions
   orders-same : (fs xs ys : List (Text × FunctionMeaning)) → IsPermutation fs xs → IsPermutation fs ys → same_functions xs ys ≡ true
@@ -65,14 +65,10 @@ module _ (r : Resolve) where
     sights-agree : (m n : ℕ) (s t : Sight) → IsSight r m s → IsSight r n t → agree s t ≡ true
     sights-agree m n s t is other = implied (text_eq s.path t.path) _ (λ e.
         let same : m ≡ n = path-once r v m n s.path is.has_path (other.has_path ∙ ap Some (sym (text-same s.path t.path e))) in
-        both _ _ (types same) (implied (s.whole && t.whole) _ (λ w. orders-same (its_functions r n) s.view.functions t.view.functions
+        both _ _ ((shown_types_decide s.view.types t.view.types).1 (ap (map named_meaning) (sight-types m s.whole s.view is.shows ∙ ap (λ k. option_map_or (views.types_of r k) (interface_at r k) []) same
+        ∙ sym (sight-types n t.whole t.view other.shows)))) (implied (s.whole && t.whole) _ (λ w. orders-same (its_functions r n) s.view.functions t.view.functions
         (subst (λ k. IsPermutation (its_functions r k) s.view.functions) same (sight-functions m s.whole s.view is.shows (first_true s.whole t.whole w)))
         (sight-functions n t.whole t.view other.shows (second_true s.whole t.whole w)))))
-      where
-        types : m ≡ n → pointwise same_shown s.view.types t.view.types ≡ true
-        types e = (λ j. pointwise same_shown (sight-types m s.whole s.view is.shows j) (sight-types n t.whole t.view other.shows j))
-            ∙ ap (λ k. pointwise same_shown (option_map_or (views.types_of r k) (interface_at r k) []) (option_map_or (views.types_of r n) (interface_at r n) [])) e
-            ∙ list-alike same_shown shown-alike (option_map_or (views.types_of r n) (interface_at r n) [])
 
     pub all-sights-agree : (ns : List ℕ) (ss : List Sight) → AllZip (IsSight r) ns ss → all_agree ss ≡ true
     all-sights-agree [] [] z = refl

@@ -113,6 +113,7 @@ module _ (r : Resolve) (v : IsValid r) (n : ℕ) where
       ∙ sym (flat_map-append of_instance (instances_of t.shown) (flat_map (λ (s : Seen). instances_of s.shown) ts)))
       this
   entries-sights _ _ z entries = absurd z
+
   -- each is seen whole
   wholes-mean : (all : List Sight) (ns : List ℕ) → AllZip (IsSight r) ns all → (ms : List ℕ) (ss : List Sight) → AllZip IsWhole ms ss → ((s : Sight) → Contains ss s → Contains all s)
       → map (seen_meaning all) ss ≡ map (λ m. (unwrap_or (interface_path r m) [], interface_meaning_at r m)) ms

@@ -64,6 +64,7 @@ module _ (r : Resolve) (v : IsValid r) (n : ℕ) where
       (imports-obey (before ++ e ∷ []) (ss ++ t ∷ []) (zip-append (ShowsItem r) before ss (e ∷ []) (t ∷ []) z (w.0, tt)) (one-more before e entries this) es ts w.1
       (λ x c. more x (contains-later e es x c)) rest)
   imports-obey before ss z entries _ _ w more h = absurd w
+
   -- ---- what is used stands earlier
 
   -- the paths of these interfaces have been seen
@@ -124,6 +125,7 @@ module _ (r : Resolve) (v : IsValid r) (n : ℕ) where
       (earlier-stand (before ++ e.1 ∷ []) (earlier ++ path_seen t.shown) (more-paths before earlier paths e t is z.0) es ts z.1 (λ x c. entries x (contains-later e es x c))
       (second_true (uses_stand_before r n before e.1) _ h))
   earlier-stand before earlier paths _ _ z entries h = absurd z
+
   -- ---- the world
 
   module _ (w : World) (there : world_at r n ≡ Some w) (scope : Scope) (shows : ShowsWorld r w scope) where
