@@ -65,7 +65,8 @@ module _ (r : Resolve) where
     sights-agree : (m n : ℕ) (s t : Sight) → IsSight r m s → IsSight r n t → agree s t ≡ true
     sights-agree m n s t is other = implied (text_eq s.path t.path) _ (λ e.
         let same : m ≡ n = path-once r v m n s.path is.has_path (other.has_path ∙ ap Some (sym (text-same s.path t.path e))) in
-        both _ _ ((shown_types_decide s.view.types t.view.types).1 (ap (map named_meaning) (sight-types m s.whole s.view is.shows ∙ ap (λ k. option_map_or (views.types_of r k) (interface_at r k) []) same
+        both _ _ ((shown_types_decide s.view.types t.view.types).1 (ap (map named_meaning) (sight-types m s.whole s.view is.shows
+        ∙ ap (λ k. option_map_or (views.types_of r k) (interface_at r k) []) same
         ∙ sym (sight-types n t.whole t.view other.shows)))) (implied (s.whole && t.whole) _ (λ w. orders-same (its_functions r n) s.view.functions t.view.functions
         (subst (λ k. IsPermutation (its_functions r k) s.view.functions) same (sight-functions m s.whole s.view is.shows (first_true s.whole t.whole w)))
         (sight-functions n t.whole t.view other.shows (second_true s.whole t.whole w)))))
