@@ -1,9 +1,7 @@
 -- Lemmas on lists: lengths, positions, joined lists, maps and filters.
 use Rattle.std.proofs.Common.{Bool, List, None, Option, Some, [], add-one, ap, arith, false, filter_map, inl, inr, is_some, length, map, option_map, refl, slice_get, slice_set, suc, sym, take, true, unwrap_or, zero, ℕ, ◌++◌, ◌+◌, ◌<◌, ◌==◌, ◌∙◌, ◌∷◌, ◌≡◌, ◌≢◌, ◌⊎◌}
-use Rattle.std.proofs.lemmas.Bool.{eq-eqb, eqb-true, false≢true}
-use Rattle.std.proofs.lemmas.Option.{same_Some as same-some, slice_get-map}
-use Rattle.std.specs.List.{cons_option, filter, flat_map}
-use Rattle.std.specs.Option.{option_map_or}
+use Rattle.std.proofs.lemmas.{Bool.eq-eqb, Bool.eqb-true, Bool.false≢true, Option.same_Some as same-some, Option.slice_get-map}
+use Rattle.std.specs.{List.cons_option, List.filter, List.flat_map, Option.option_map_or}
 
 pub within_there : {X : Type 0} (xs : List X) (n : ℕ) → n < length xs → (x : X) × (slice_get xs n ≡ Some x)
 within_there [] n l = absurd (omega (arith, l))

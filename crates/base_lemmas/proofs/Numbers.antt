@@ -1,10 +1,8 @@
 -- Lemmas on natural numbers: order, sums, differences, equality as a boolean.
 use Rattle.base_lemmas.proofs.Bools.{both_ways as either_way}
 use Rattle.std.proofs.Common.{Bool, T, [], ap, arith, codes, eq-eqb, eqb→eq, false, inl, inr, max, nat_eq, refl, subst, suc, sym, true, zero, ℕ, ◌+◌, ◌-◌, ◌<◌, ◌==◌, ◌∙◌, ◌≡◌, ◌≤◌, ◌⊎◌}
-use Rattle.std.proofs.lemmas.Bool.{eqb-true}
-use Rattle.std.proofs.lemmas.Bool.Decides.{nat_tests}
-use Rattle.std.specs.List.{IsDistinct}
-use Rattle.std.specs.Str.{IsUtf8}
+use Rattle.std.proofs.lemmas.{Bool.eqb-true, Bool.Decides.nat_tests}
+use Rattle.std.specs.{List.IsDistinct, Str.IsUtf8}
 use lib.Utf8.{encode}
 
 pub turned : (a c : ℕ) → (a == c) ≡ (c == a)

@@ -1,10 +1,9 @@
 -- Packages that stay what they are while they get room.
 use Rattle.std.proofs.Common.{◌≡◌, ◌≢◌, refl, sym, ap, subst, ◌∙◌, ◌⊎◌, inl, inr, ℕ, ◌+◌, ◌<◌, ◌≤◌, arith, List, length, get_or, slice_get, Some}
-use Rattle.std.proofs.lemmas.Option.{slice_get_within, slice_get-get_or}
+use Rattle.std.proofs.lemmas.{Option.slice_get_within, Option.slice_get-get_or, Bool.cases_lt as below_or}
 use Rattle.wit_model.specs.declared.model.Package.{Package}
 use Rattle.bind_add.specs.Growth.{ArePackages, HasRoom, HaveRoom, IsSameWithRoom, OthersStay}
 use Rattle.bind_add.specs.declared.added.Names.{Names}
-use Rattle.std.proofs.lemmas.Bool.{cases_lt as below_or}
 
 -- what stands at a place of the one list stands at it in a list that is as long
 pub there : {X : Type 0} (xs ys : List X) → length ys ≡ length xs → (n : ℕ) (q : X) → slice_get ys n ≡ Some q → (p : X) × (slice_get xs n ≡ Some p)

@@ -2,12 +2,7 @@
 use Rattle.std.proofs.Common.{◌≡◌, ◌≢◌, refl, sym, ap, subst, ◌∙◌, ℕ, zero, suc, ◌<◌, Bool, List, [], ◌∷◌, ◌++◌, arith, length, get_or, slice_get, slice_set, string_eq, Some}
 use Rattle.std.proofs.lemmas.Option.{slice_get-get_or, slice_get_within, same_Some as same_element}
 use Rattle.indexmap.specs.IndexMap.{insert_all}
-use Rattle.wit_model.specs.declared.model.Interface.{Interface}
-use Rattle.wit_model.specs.declared.model.Package.{Package}
-use Rattle.wit_model.specs.declared.model.TypeDef.{TypeDef}
-use Rattle.wit_model.specs.declared.model.World.{World}
-use Rattle.wit_model.specs.declared.model.WorldItem.{WorldItem}
-use Rattle.wit_model.specs.declared.model.WorldKey.{WorldKey}
+use Rattle.wit_model.specs.declared.model.{Interface.Interface, Package.Package, TypeDef.TypeDef, World.World, WorldItem.WorldItem, WorldKey.WorldKey}
 use Rattle.bind_add.specs.Growth.{HasGained, HasGainedItems, IsSamePackage, IsSameWorld, SameThenAdded}
 use Rattle.bind_add.specs.declared.added.Names.{Names}
 

@@ -1,13 +1,9 @@
 -- What own packages gain is of packages that there are, and of none twice.
 use Rattle.std.proofs.Common.{◌≡◌, refl, sym, ap, subst, ◌∙◌, ℕ, zero, suc, ◌<◌, arith, Bool, true, false, nat_lt, List, [], ◌∷◌, length, map, Option, Some, is_none, slice_get}
+use Rattle.std.proofs.lemmas.{Bool.lt-ltb, List.length-map, Option.slice_get_within as within_list}
 use Rattle.std.specs.List.{AllZip}
-use Rattle.std.proofs.lemmas.Bool.{lt-ltb}
-use Rattle.std.proofs.lemmas.List.{length-map}
-use Rattle.wit_model.specs.declared.model.Package.{Package}
-use Rattle.wit_model.specs.declared.model.PackageId.{PackageId}
-use Rattle.wit_model.specs.declared.model.Resolve.{Resolve}
-use Rattle.wit_model.specs.Rules.{same_package_name}
-use Rattle.wit_model.specs.Valid.{IsValid}
+use Rattle.wit_model.specs.declared.model.{Package.Package, PackageId.PackageId, Resolve.Resolve}
+use Rattle.wit_model.specs.{Rules.same_package_name, Valid.IsValid}
 use Rattle.wit_model.proofs.OnePath.{package-once}
 use Rattle.bind_add.specs.Growth.{are_in_range, AreOfDifferent}
 use Rattle.bind_add.specs.declared.added.Names.{Names}
@@ -15,16 +11,11 @@ use Rattle.bind_copy.specs.Copies.{number_under}
 use Rattle.bind_match.specs.Matching.{own_package_of}
 use Rattle.bind_match.proofs.SameNames.{name_same}
 use Rattle.bind_carry.specs.First.{flag_under}
-use Rattle.bind_carry.specs.FirstPass.{UnionsAreAddable}
-use Rattle.bind_carry.specs.Numbers.{numbers_of, package_number}
-use Rattle.bind_carry.specs.Packaged.{grown_packages, IsGained}
+use Rattle.bind_carry.specs.{FirstPass.UnionsAreAddable, Numbers.numbers_of, Numbers.package_number, Packaged.grown_packages, Packaged.IsGained}
 use Rattle.bind_carry.specs.declared.plan.Carried.{Carried}
-use Rattle.bind_carry.proofs.CopiesPlaced.{nothing_there, some_same}
-use Rattle.bind_carry.proofs.FirstMatched.{uncopied_under}
+use Rattle.bind_carry.proofs.{CopiesPlaced.nothing_there, CopiesPlaced.some_same, FirstMatched.uncopied_under}
 use Rattle.bind_carry.proofs.FirstPackages.{found_number, found_own, unflagged_found, IsFound}
-use Rattle.base_lemmas.proofs.Elements.{all_by_number as all_of}
-use Rattle.base_lemmas.proofs.Lists.{mapped_get as mapped_at}
-use Rattle.std.proofs.lemmas.Option.{slice_get_within as within_list}
+use Rattle.base_lemmas.proofs.{Elements.all_by_number as all_of, Lists.mapped_get as mapped_at}
 
 -- how many flags in front of a place aren't set
 abbrev rank : List Bool → ℕ → ℕ

@@ -1,17 +1,14 @@
 -- Where copies of types stand, under the numbers that all types have.
 use Rattle.std.proofs.Common.{◌≡◌, ◌⊎◌, inl, inr, refl, sym, ap, subst, ◌∙◌, ℕ, zero, suc, ◌+◌, ◌≤◌, ◌<◌, arith, true, List, [], ◌∷◌, ◌++◌, length, map, Option, Some, None, slice_get, unwrap_or, append_assoc}
+use Rattle.std.proofs.lemmas.List.{length_push as length_behind}
 use Rattle.std.specs.List.{AllZip}
-use Rattle.wit_model.specs.declared.model.TypeDef.{TypeDef}
-use Rattle.wit_model.specs.declared.model.TypeOwner.{TypeOwner}
+use Rattle.wit_model.specs.declared.model.{TypeDef.TypeDef, TypeOwner.TypeOwner}
 use Rattle.bind_copy.specs.Copies.{number_under, IsTypeUnder}
 use Rattle.bind_union.proofs.Lists.{no_true}
-use Rattle.bind_carry.specs.Fates.{copied_types, copies, numbers_by, AreCopied, IsCopiedType}
-use Rattle.bind_carry.specs.First.{flag_under}
-use Rattle.bind_carry.specs.Renumbered.{is_copied}
+use Rattle.bind_carry.specs.{Fates.copied_types, Fates.copies, Fates.numbers_by, Fates.AreCopied, Fates.IsCopiedType, First.flag_under, Renumbered.is_copied}
 use Rattle.bind_carry.specs.declared.fate.Fate.{Fate}
-use Rattle.bind_carry.specs.declared.fate.Fate.TheVariants as fate
 use Rattle.base_lemmas.proofs.Numbers.{equal_or_past}
-use Rattle.std.proofs.lemmas.List.{length_push as length_behind}
+use Rattle.bind_carry.specs.declared.fate.Fate.TheVariants as fate
 
 -- ---- lists
 

@@ -1,18 +1,11 @@
 -- At most as many are copied as pass a test that each of these passes.
 use Rattle.std.proofs.Common.{◌≡◌, refl, sym, ap, subst, ◌∙◌, ℕ, zero, suc, ◌+◌, ◌≤◌, Bool, true, false, cond, arith, List, [], ◌∷◌, length, Option, Some, slice_get}
-use Rattle.std.specs.Prelude.{count_by}
 use Rattle.std.proofs.lemmas.List.Sums.{sum_by-cons}
-use Rattle.wit_model.specs.declared.model.InterfaceId.{InterfaceId}
-use Rattle.wit_model.specs.declared.model.Resolve.{Resolve}
-use Rattle.wit_model.specs.declared.model.World.{World}
-use Rattle.wit_model.specs.declared.model.WorldId.{WorldId}
+use Rattle.std.specs.Prelude.{count_by}
+use Rattle.wit_model.specs.declared.model.{InterfaceId.InterfaceId, Resolve.Resolve, World.World, WorldId.WorldId}
 use Rattle.bind_union.proofs.Lists.{no_true}
-use Rattle.bind_carry.specs.First.{flag_under}
-use Rattle.bind_carry.specs.Marked.{mark_items, mark_worlds}
-use Rattle.bind_carry.specs.Numbers.{copied_count}
-use Rattle.bind_carry.specs.Which.{new_interfaces, new_worlds}
-use Rattle.bind_carry.proofs.Marking.{mark_items_long}
-use Rattle.bind_carry.proofs.Marking.{new_long as named_flagged}
+use Rattle.bind_carry.specs.{First.flag_under, Marked.mark_items, Marked.mark_worlds, Numbers.copied_count, Which.new_interfaces, Which.new_worlds}
+use Rattle.bind_carry.proofs.Marking.{mark_items_long, new_long as named_flagged}
 
 -- ---- flags
 

@@ -1,19 +1,13 @@
 -- How many are copied.
 use Rattle.std.proofs.Common.{◌≡◌, refl, sym, ap, ◌∙◌, ℕ, ◌+◌, ◌≤◌, Bool, true, false, arith, List, [], ◌∷◌, ◌++◌, length, map}
-use Rattle.std.specs.List.{AllZip}
-use Rattle.std.specs.Prelude.{Option}
-use Rattle.wit_model.specs.declared.model.Interface.{Interface}
-use Rattle.wit_model.specs.declared.model.PackageId.{PackageId}
-use Rattle.wit_model.specs.declared.model.TypeDef.{TypeDef}
+use Rattle.std.specs.{List.AllZip, Prelude.Option}
+use Rattle.wit_model.specs.declared.model.{Interface.Interface, PackageId.PackageId, TypeDef.TypeDef}
 use Rattle.bind_carry.specs.declared.fate.Fate.{Fate}
-use Rattle.bind_carry.specs.declared.fate.Fate.TheVariants as fate
-use Rattle.bind_carry.specs.Fates.{copied_types, copies, AreCopied, IsCopiedType, MeetsFate}
+use Rattle.bind_carry.specs.{Fates.copied_types, Fates.copies, Fates.AreCopied, Fates.IsCopiedType, Fates.MeetsFate, BoundGains.AreInlineCopied, Whole.kept}
+use Rattle.bind_carry.specs.{Numbers.copied_count, TooLong.copies_of}
 use Rattle.bind_copy.specs.Copies.{IsInterfaceUnder}
-use Rattle.bind_carry.specs.BoundGains.{AreInlineCopied}
-use Rattle.bind_carry.specs.Numbers.{copied_count}
-use Rattle.bind_carry.specs.TooLong.{copies_of}
-use Rattle.bind_carry.specs.Whole.{kept}
 use Rattle.base_lemmas.proofs.Elements.{zip_long}
+use Rattle.bind_carry.specs.declared.fate.Fate.TheVariants as fate
 
 -- at most as many are kept as flags are set
 pub kept_few : {X : Type 0} (bs : List Bool) (xs : List X) → length (kept bs xs) ≤ copied_count bs

@@ -1,57 +1,26 @@
 -- What is carried by path is carried as the laws on unions ask for it: interfaces, and how numbers rise.
 use Rattle.std.proofs.Common.{◌≡◌, ◌⊎◌, inl, inr, refl, sym, ap, subst, ◌∙◌, ℕ, zero, suc, ◌+◌, ◌<◌, arith, Bool, true, false, ◌||◌, ◌==◌, List, [], ◌∷◌, ◌++◌, length, map, Option, Some, slice_get}
-use Rattle.std.specs.List.{list_all, AllZip}
-use Rattle.std.specs.String.{string_eq}
-use Rattle.std.proofs.lemmas.Bool.{or_left, or_right}
-use Rattle.std.proofs.lemmas.List.{length-map}
-use Rattle.std.proofs.lemmas.List.Folds.{list_all-map}
-use Rattle.std.proofs.lemmas.Option.{slice_get_within}
+use Rattle.std.proofs.lemmas.{Bool.or_left, Bool.or_right, List.length-map, List.Folds.list_all-map, Option.slice_get_within}
+use Rattle.std.specs.{List.list_all, List.AllZip, String.string_eq}
 use Rattle.indexmap.specs.IndexMap.{values, IsUnique}
-use Rattle.wit_model.specs.declared.model.Interface.{Interface}
-use Rattle.wit_model.specs.declared.model.InterfaceId.{InterfaceId}
-use Rattle.wit_model.specs.declared.model.Resolve.{Resolve}
-use Rattle.wit_model.specs.declared.model.TypeDef.{TypeDef}
-use Rattle.wit_model.specs.declared.model.TypeId.{TypeId}
+use Rattle.wit_model.specs.declared.model.{Interface.Interface, InterfaceId.InterfaceId, Resolve.Resolve, TypeDef.TypeDef, TypeId.TypeId}
 use Rattle.bind_match.specs.declared.matches.Matches.{Matches}
-use Rattle.wit_model.specs.Lookup.{interface_at, interface_path}
-use Rattle.wit_model.specs.Rules.{interface_type_numbers, package_number}
-use Rattle.wit_model.specs.Uses.{has}
-use Rattle.wit_model.specs.Valid.{IsValid}
-use Rattle.wit_model.proofs.Elements.{has-contains}
-use Rattle.wit_model.proofs.OnePath.{path-once}
+use Rattle.wit_model.specs.{Lookup.interface_at, Lookup.interface_path, Rules.interface_type_numbers, Rules.package_number, Uses.has, Valid.IsValid}
+use Rattle.wit_model.proofs.{Elements.has-contains, OnePath.path-once}
 use Rattle.bind_copy.specs.Copies.{number_under}
-use Rattle.bind_union.specs.Carried.{IsInterface, Renumbering, Rises}
-use Rattle.bind_union.specs.Merged.{BeginsWith}
-use Rattle.bind_union.proofs.Homes.{apart}
-use Rattle.bind_union.proofs.Lists.{no_true}
-use Rattle.bind_union.proofs.MatchedStand.{numbers_rise}
-use Rattle.bind_carry.specs.CarriedParts.{is_function_carried}
-use Rattle.bind_carry.specs.Fates.{copies, is_carried, numbers_by, stood}
-use Rattle.bind_carry.specs.FirstPass.{FirstIsCarried}
-use Rattle.bind_carry.specs.First.{adds_any, fate_of, first_fates, flag_under}
-use Rattle.bind_carry.specs.Marked.{AreChosen}
-use Rattle.bind_carry.specs.MatchedSame.{AreMatchedAt, NoneOfPath}
-use Rattle.bind_carry.specs.Numbers.{interface_number, numbers_of}
-use Rattle.bind_carry.specs.Renumbered.{first_of, is_copied, is_matched}
-use Rattle.bind_carry.specs.InRange.{IsInRange}
-use Rattle.bind_carry.specs.Which.{AreMatchedAll, IsNumbered}
-use Rattle.bind_carry.specs.Whole.{home_under, kept, IsInterfaceCarried}
-use Rattle.bind_carry.specs.declared.fate.Fate.{Fate}
-use Rattle.bind_carry.specs.declared.plan.Carried.{Carried}
-use Rattle.bind_carry.proofs.CopiesPlaced.{flag_is_copied, numbers_by_long}
-use Rattle.bind_carry.proofs.FirstInterfaces.{home_number, interface_copy, type_numbers_under}
+use Rattle.bind_union.specs.{Carried.IsInterface, Carried.Renumbering, Carried.Rises, Merged.BeginsWith}
+use Rattle.bind_union.proofs.{Homes.apart, Lists.no_true, MatchedStand.numbers_rise}
+use Rattle.bind_carry.specs.{CarriedParts.is_function_carried, MatchedSame.AreMatchedAt, MatchedSame.NoneOfPath, Numbers.interface_number, Numbers.numbers_of}
+use Rattle.bind_carry.specs.{Fates.copies, Fates.is_carried, Fates.numbers_by, Fates.stood, First.adds_any, First.fate_of, First.first_fates, First.flag_under}
+use Rattle.bind_carry.specs.{FirstPass.FirstIsCarried, Marked.AreChosen, InRange.IsInRange, Which.AreMatchedAll, Which.IsNumbered}
+use Rattle.bind_carry.specs.{Renumbered.first_of, Renumbered.is_copied, Renumbered.is_matched, Whole.home_under, Whole.kept, Whole.IsInterfaceCarried}
+use Rattle.bind_carry.specs.declared.{fate.Fate.Fate, plan.Carried.Carried}
+use Rattle.bind_carry.proofs.{CopiesPlaced.flag_is_copied, CopiesPlaced.numbers_by_long, FirstNumbers.worlds_apart, Marking.are_chosen, Marking.AreWorldsBelow}
+use Rattle.bind_carry.proofs.{FirstInterfaces.home_number, FirstInterfaces.interface_copy, FirstInterfaces.type_numbers_under, FirstPackages.packages_hold}
 use Rattle.bind_carry.proofs.FirstMatched.{interface_is, interface_stands, names, type_low, types_carried, types_copied, types_hold}
-use Rattle.bind_carry.proofs.FirstTypes.{adds_interface, copied_carried, parts_of}
-use Rattle.bind_carry.proofs.FirstNumbers.{worlds_apart}
-use Rattle.bind_carry.proofs.FirstPackages.{packages_hold}
-use Rattle.bind_carry.proofs.Marking.{are_chosen, AreWorldsBelow}
-use Rattle.bind_carry.proofs.Ranges.{is_in_range, shown_below}
-use Rattle.bind_carry.proofs.KeptPlaced.{kept_placed, IsKeptAt}
-use Rattle.bind_carry.proofs.SettledParts.{settled_long}
-use Rattle.base_lemmas.proofs.Elements.{all-contained}
-use Rattle.base_lemmas.proofs.Lists.{within_there}
-use Rattle.base_lemmas.proofs.Numbers.{equal, same-number}
-use Rattle.base_lemmas.proofs.Options.{there as some_of}
+use Rattle.bind_carry.proofs.{FirstTypes.adds_interface, FirstTypes.copied_carried, FirstTypes.parts_of, KeptPlaced.kept_placed, KeptPlaced.IsKeptAt}
+use Rattle.bind_carry.proofs.{Ranges.is_in_range, Ranges.shown_below, SettledParts.settled_long}
+use Rattle.base_lemmas.proofs.{Elements.all-contained, Lists.within_there, Numbers.equal, Numbers.same-number, Options.there as some_of}
 
 -- a number of a mapped list is that of one of the list
 pub has_map : (g : ℕ → ℕ) (ns : List ℕ) (m : ℕ) → has (map g ns) m ≡ true → (k : ℕ) × (has ns k ≡ true) × (g k ≡ m)

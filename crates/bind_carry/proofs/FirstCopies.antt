@@ -1,39 +1,20 @@
 -- What is copied by path stands behind own entries, and inline interfaces come with the world that shows them.
 use Rattle.std.proofs.Common.{◌≡◌, refl, sym, ap, subst, ◌∙◌, ℕ, zero, suc, ◌+◌, ◌≤◌, arith, Bool, true, false, ◌&&◌, ◌||◌, not, ◌==◌, cond, List, [], ◌∷◌, ◌++◌, length, map, filter_map, Option, Some, None, is_some, slice_get}
-use Rattle.std.specs.Prelude.{count_by, sum_by, option_and_then, String}
+use Rattle.std.proofs.lemmas.{List.length-map, List.Sums.sum_by-append, List.Sums.sum_by-cons}
+use Rattle.std.specs.{Prelude.count_by, Prelude.sum_by, Prelude.option_and_then, Prelude.String, List.list_all, Option.option_eq, Option.option_map_or}
 use Rattle.std.specs.declared.alloc.Global.{Global}
-use Rattle.std.specs.List.{list_all}
-use Rattle.std.specs.Option.{option_eq, option_map_or}
-use Rattle.std.proofs.lemmas.List.{length-map}
-use Rattle.std.proofs.lemmas.List.Sums.{sum_by-append, sum_by-cons}
-use Rattle.wit_model.specs.declared.model.Interface.{Interface}
-use Rattle.wit_model.specs.declared.model.InterfaceId.{InterfaceId}
-use Rattle.wit_model.specs.declared.model.Resolve.{Resolve}
+use Rattle.wit_model.specs.declared.model.{Interface.Interface, InterfaceId.InterfaceId, Resolve.Resolve, World.World, WorldItem.WorldItem, WorldKey.WorldKey}
 use Rattle.wit_model.specs.declared.model.TypeDef.{TypeDef}
-use Rattle.wit_model.specs.declared.model.World.{World}
-use Rattle.wit_model.specs.declared.model.WorldItem.{WorldItem}
-use Rattle.wit_model.specs.declared.model.WorldKey.{WorldKey}
-use Rattle.wit_model.specs.Lookup.{interface_at, package_at, world_at}
-use Rattle.wit_model.specs.Text.{text_of}
-use Rattle.wit_model.specs.Rules.{interface_is_listed, is_id, is_world_name, package_number, times_shown}
-use Rattle.wit_model.specs.Uses.{has, item_interface, items_of}
-use Rattle.wit_model.specs.Valid.{IsValid, places}
+use Rattle.wit_model.specs.{Lookup.interface_at, Lookup.package_at, Lookup.world_at, Text.text_of, Uses.has, Uses.item_interface, Uses.items_of}
+use Rattle.wit_model.specs.{Rules.interface_is_listed, Rules.is_id, Rules.is_world_name, Rules.package_number, Rules.times_shown, Valid.IsValid, Valid.places}
 use Rattle.wit_model.proofs.OnePath.{interface-passes}
 use Rattle.bind_copy.specs.Copies.{number_under}
-use Rattle.bind_union.proofs.Images.{filter_map_none, filter_map_some}
-use Rattle.bind_union.proofs.Lists.{no_true}
-use Rattle.bind_carry.specs.Fates.{copies, numbers_by, stood}
-use Rattle.bind_carry.specs.First.{first_fates, flag_under}
-use Rattle.bind_carry.specs.FirstPass.{FirstIsCopied}
-use Rattle.bind_carry.specs.Marked.{is_shown_in, is_shown_of, AreChosen}
-use Rattle.bind_carry.specs.Numbers.{interface_number, numbers_of}
-use Rattle.bind_carry.specs.Renumbered.{first_of, is_matched}
-use Rattle.bind_carry.proofs.CopiesPlaced.{flag_is_copied, some_same}
-use Rattle.bind_carry.proofs.FirstCarried.{chosen_so, first_is_carried}
+use Rattle.bind_union.proofs.{Images.filter_map_none, Images.filter_map_some, Lists.no_true}
+use Rattle.bind_carry.specs.{Fates.copies, Fates.numbers_by, Fates.stood, First.first_fates, First.flag_under, Renumbered.first_of, Renumbered.is_matched}
+use Rattle.bind_carry.specs.{FirstPass.FirstIsCopied, Marked.is_shown_in, Marked.is_shown_of, Marked.AreChosen, Numbers.interface_number, Numbers.numbers_of}
+use Rattle.bind_carry.proofs.{CopiesPlaced.flag_is_copied, CopiesPlaced.some_same, FirstCarried.chosen_so, FirstCarried.first_is_carried, Ranges.is_in_range}
 use Rattle.bind_carry.proofs.FirstMatched.{named_of_path}
-use Rattle.bind_carry.proofs.Ranges.{is_in_range}
-use Rattle.base_lemmas.proofs.Bools.{left_of as first_true, right_of as second_true}
-use Rattle.base_lemmas.proofs.Numbers.{equal, same-number}
+use Rattle.base_lemmas.proofs.{Bools.left_of as first_true, Bools.right_of as second_true, Numbers.equal, Numbers.same-number}
 
 -- ---- numbers
 

@@ -1,21 +1,13 @@
 -- What is copied of interfaces: each stands under its new number, with its types and its functions.
 use Rattle.std.proofs.Common.{◌≡◌, refl, sym, ap, ◌∙◌, ℕ, true, List, [], ◌∷◌, map, Option, Some, None, option_map}
-use Rattle.std.specs.Prelude.{String}
-use Rattle.std.specs.String.{string_eq}
+use Rattle.std.specs.{Prelude.String, String.string_eq, List.list_all, List.AllZip}
 use Rattle.std.specs.declared.alloc.Global.{Global}
-use Rattle.std.specs.List.{list_all, AllZip}
 use Rattle.indexmap.specs.IndexMap.{values, IsUnique}
-use Rattle.wit_model.specs.declared.model.Function.{Function}
-use Rattle.wit_model.specs.declared.model.Interface.{Interface}
-use Rattle.wit_model.specs.declared.model.PackageId.{PackageId}
-use Rattle.wit_model.specs.declared.model.TypeId.{TypeId}
-use Rattle.wit_model.specs.Rules.{interface_type_numbers, package_number}
-use Rattle.wit_model.specs.Text.{Text, text_of}
-use Rattle.bind_copy.specs.Copies.{number_under, type_names, type_names_under, IsInterfaceUnder}
-use Rattle.bind_copy.specs.Copies.{IsFunctionEntry as IsEntryUnderNumbers}
+use Rattle.wit_model.specs.declared.model.{Function.Function, Interface.Interface, PackageId.PackageId, TypeId.TypeId}
+use Rattle.wit_model.specs.{Rules.interface_type_numbers, Rules.package_number, Text.Text, Text.text_of}
+use Rattle.bind_copy.specs.Copies.{number_under, type_names, type_names_under, IsInterfaceUnder, IsFunctionEntry as IsEntryUnderNumbers}
 use Rattle.bind_union.specs.Carried.{IsFunctionEntry, IsInterfaceCopy, Renumbering}
-use Rattle.bind_carry.specs.CarriedParts.{is_function_carried}
-use Rattle.bind_carry.specs.Whole.{home_under}
+use Rattle.bind_carry.specs.{CarriedParts.is_function_carried, Whole.home_under}
 use Rattle.bind_carry.proofs.JoinedItems.{function_copy}
 use Rattle.base_lemmas.proofs.Bools.{left_of as first_true, right_of as second_true}
 

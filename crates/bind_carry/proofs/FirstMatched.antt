@@ -1,49 +1,27 @@
 -- What own interfaces of equal path and sense give: types of the same names, and what stands for what by path.
 use Rattle.std.proofs.Common.{◌≡◌, ◌⊎◌, inl, inr, refl, sym, ap, subst, ◌∙◌, ℕ, zero, suc, ◌+◌, ◌<◌, arith, Bool, true, false, not, ◌&&◌, ◌||◌, List, [], ◌∷◌, ◌++◌, length, map, Option, Some, None, is_some, option_and_then, option_map, slice_get, unwrap_or}
-use Rattle.std.specs.Prelude.{String}
+use Rattle.std.proofs.lemmas.{List.length-map, Option.slice_get_within, List.Folds.list_all-map}
+use Rattle.std.specs.{Prelude.String, HashMap.get_by_text, List.list_all, List.Contains}
 use Rattle.std.specs.declared.alloc.Global.{Global}
-use Rattle.std.specs.HashMap.{get_by_text}
-use Rattle.std.specs.List.{list_all, Contains}
-use Rattle.std.proofs.lemmas.List.{length-map}
-use Rattle.std.proofs.lemmas.Option.{slice_get_within}
-use Rattle.std.proofs.lemmas.List.Folds.{list_all-map}
 use Rattle.indexmap.specs.IndexMap.{values}
-use Rattle.wit_model.specs.declared.model.Interface.{Interface}
-use Rattle.wit_model.specs.declared.model.InterfaceId.{InterfaceId}
-use Rattle.wit_model.specs.declared.model.Resolve.{Resolve}
-use Rattle.wit_model.specs.declared.model.TypeDef.{TypeDef}
-use Rattle.wit_model.specs.declared.model.TypeId.{TypeId}
-use Rattle.wit_model.specs.Lookup.{interface_at, interface_path, path_in_package, path_of_interface, type_at}
-use Rattle.wit_model.specs.Parts.{same_owner}
-use Rattle.wit_model.specs.Meaning.{InterfaceSense}
-use Rattle.wit_model.specs.Meant.{interface_meaning, type_meaning_at}
+use Rattle.wit_model.specs.declared.model.{Interface.Interface, InterfaceId.InterfaceId, Resolve.Resolve, TypeDef.TypeDef, TypeId.TypeId}
+use Rattle.wit_model.specs.{Lookup.interface_at, Lookup.interface_path, Lookup.path_in_package, Lookup.path_of_interface, Lookup.type_at, Parts.same_owner}
+use Rattle.wit_model.specs.{Meaning.InterfaceSense, Uses.has, Valid.IsValid, Valid.as_interface, Valid.is_place, Valid.numbers_in_range, Valid.order_of_types}
+use Rattle.wit_model.specs.{Meant.interface_meaning, Meant.type_meaning_at, Text.Text, Text.optional_text, Text.text_of}
 use Rattle.wit_model.specs.Rules.{are_in_order, function_in_range, in_list, interface_type_numbers, is_named_of, package_number, passes}
-use Rattle.wit_model.specs.Text.{Text, optional_text, text_of}
-use Rattle.wit_model.specs.Uses.{has}
-use Rattle.wit_model.specs.Valid.{IsValid, as_interface, is_place, numbers_in_range, order_of_types}
-use Rattle.wit_model.proofs.OnePath.{found-in, interface-passes}
+use Rattle.wit_model.proofs.{OnePath.found-in, OnePath.interface-passes, PartsLemmas.owner_same as owner_equal}
 use Rattle.bind_copy.specs.Copies.{number_under}
-use Rattle.bind_union.specs.Carried.{carries_owner, IsInterface, IsType, Renumbering}
+use Rattle.bind_union.specs.{Carried.carries_owner, Carried.IsInterface, Carried.IsType, Carried.Renumbering, Merged.BeginsWith}
 use Rattle.bind_union.specs.Matching.{type_names, AreMatched, IsMatch}
-use Rattle.bind_union.specs.Merged.{BeginsWith}
-use Rattle.bind_union.proofs.Listed.{found_by_text, under_text}
-use Rattle.bind_union.proofs.Lists.{no_true}
-use Rattle.bind_union.proofs.MatchedStand.{matched_stand}
+use Rattle.bind_union.proofs.{Listed.found_by_text, Listed.under_text, Lists.no_true, MatchedStand.matched_stand}
 use Rattle.bind_union.proofs.Namesakes.{found_same, home_listed, listed_type, matches_are_namesakes, meaning_under, number_listed, numbers_are as numbers_are_of, under_contains, IsListedType}
-use Rattle.bind_carry.specs.Fates.{is_carried, numbers_by, AreCopied}
-use Rattle.bind_carry.specs.First.{first_fates, flag_under}
-use Rattle.bind_carry.specs.Listed.{given_interface, type_named}
-use Rattle.bind_carry.specs.Marked.{AreChosen}
-use Rattle.bind_carry.specs.MatchedSame.{AreMatchedAt, IsMatchedAt, NoneOfPath}
-use Rattle.bind_carry.specs.Numbers.{interface_number, numbers_of}
-use Rattle.bind_carry.specs.Renumbered.{first_of, is_copied, is_matched}
-use Rattle.bind_carry.specs.declared.fate.Fate.{Fate}
-use Rattle.bind_carry.specs.declared.plan.Carried.{Carried}
+use Rattle.bind_carry.specs.{Fates.is_carried, Fates.numbers_by, Fates.AreCopied, MatchedSame.AreMatchedAt, MatchedSame.IsMatchedAt, MatchedSame.NoneOfPath}
+use Rattle.bind_carry.specs.{First.first_fates, First.flag_under, Listed.given_interface, Listed.type_named}
+use Rattle.bind_carry.specs.{Marked.AreChosen, Numbers.interface_number, Numbers.numbers_of, Renumbered.first_of, Renumbered.is_copied, Renumbered.is_matched}
+use Rattle.bind_carry.specs.declared.{fate.Fate.Fate, plan.Carried.Carried}
 use Rattle.bind_carry.proofs.CopiesPlaced.{stands_under}
 use Rattle.bind_carry.proofs.FirstTypes.{excluded, final_stands, first_types, named_carried, owned_copied, stood_how}
-use Rattle.base_lemmas.proofs.Bools.{left_of as first_true, right_of as second_true}
-use Rattle.base_lemmas.proofs.Elements.{all_two}
-use Rattle.wit_model.proofs.PartsLemmas.{owner_same as owner_equal}
+use Rattle.base_lemmas.proofs.{Bools.left_of as first_true, Bools.right_of as second_true, Elements.all_two}
 
 -- ---- own numbers
 

@@ -4,11 +4,8 @@ use Rattle.std.proofs.lemmas.List.{length-map}
 use Rattle.wit_model.specs.declared.model.WorldId.{WorldId}
 use Rattle.bind_copy.specs.Copies.{number_under}
 use Rattle.bind_union.specs.Carried.{Rises}
-use Rattle.bind_union.proofs.Homes.{apart}
-use Rattle.bind_union.proofs.Lists.{no_true}
-use Rattle.bind_union.proofs.MatchedStand.{numbers_rise}
-use Rattle.bind_carry.specs.First.{flag_under}
-use Rattle.bind_carry.specs.Numbers.{numbers_of, world_number}
+use Rattle.bind_union.proofs.{Homes.apart, Lists.no_true, MatchedStand.numbers_rise}
+use Rattle.bind_carry.specs.{First.flag_under, Numbers.numbers_of, Numbers.world_number}
 
 module _ (first : ℕ) (flags : List Bool) (matched : List (Option WorldId)) (worlds : List ℕ) (long : length flags ≡ length matched) (worlds_are : worlds ≡ numbers_of first flags (map world_number matched)) where
   -- copies stand one behind the other

@@ -1,18 +1,11 @@
 -- What a union adds, once it is added, has all that is carried by path.
 use Rattle.std.proofs.Common.{◌≡◌, refl, sym, ap, subst, ◌∙◌, ℕ, zero, suc, List, [], ◌∷◌, ◌++◌, length}
-use Rattle.std.specs.Prelude.{slice_get, slice_set, Some}
-use Rattle.std.specs.List.{AllZip}
-use Rattle.wit_model.specs.declared.model.TypeDef.{TypeDef}
-use Rattle.wit_model.specs.declared.model.World.{World}
+use Rattle.std.specs.{Prelude.slice_get, Prelude.slice_set, Prelude.Some, List.AllZip}
+use Rattle.wit_model.specs.declared.model.{TypeDef.TypeDef, World.World}
 use Rattle.bind_add.specs.declared.added.Names.{Names}
-use Rattle.bind_carry.specs.BoundGains.{bound_fates}
-use Rattle.bind_carry.specs.Fates.{AreCopied}
-use Rattle.bind_carry.specs.First.{first_fates}
-use Rattle.bind_carry.specs.FirstPass.{UnionsHaveTheFirst}
-use Rattle.bind_carry.specs.Packaged.{grown_packages, IsGained}
-use Rattle.bind_carry.specs.SecondPass.{UnionsHaveTheSecond}
-use Rattle.base_lemmas.proofs.Lists.{front_at}
-use Rattle.base_lemmas.proofs.Numbers.{differ}
+use Rattle.bind_carry.specs.{BoundGains.bound_fates, FirstPass.UnionsHaveTheFirst, Packaged.grown_packages, Packaged.IsGained, SecondPass.UnionsHaveTheSecond}
+use Rattle.bind_carry.specs.{Fates.AreCopied, First.first_fates}
+use Rattle.base_lemmas.proofs.{Lists.front_at, Numbers.differ}
 
 pub set_count : (ws : List World) (n : ℕ) (v : World) → length (slice_set ws n v) ≡ length ws
 set_count [] n v = refl

@@ -1,37 +1,22 @@
 -- Each package of the other stands in one of its name: in a new one, or in the own one that was found.
 use Rattle.std.proofs.Common.{◌≡◌, ◌⊎◌, inl, inr, refl, sym, ap, subst, ◌∙◌, ℕ, zero, suc, ◌+◌, ◌<◌, arith, Bool, true, false, ◌&&◌, ◌==◌, cond, List, [], ◌∷◌, ◌++◌, length, map, Option, Some, None, is_none, option_map, slice_get, unwrap_or, append-nil}
-use Rattle.std.specs.List.{AllZip}
-use Rattle.std.specs.Option.{option_eq}
-use Rattle.std.proofs.lemmas.Bool.{eq-eqb}
-use Rattle.std.proofs.lemmas.List.{length-map}
+use Rattle.std.proofs.lemmas.{Bool.eq-eqb, List.length-map, Option.slice_get_within as within_list}
+use Rattle.std.specs.{List.AllZip, Option.option_eq}
 use Rattle.semver.specs.declared.Version.{Version}
 use Rattle.semver.specs.Identifiers.{parts_of}
-use Rattle.wit_model.specs.declared.model.Package.{Package}
-use Rattle.wit_model.specs.declared.model.PackageId.{PackageId}
-use Rattle.wit_model.specs.declared.model.PackageName.{PackageName}
-use Rattle.wit_model.specs.declared.model.Resolve.{Resolve}
-use Rattle.wit_model.specs.Lookup.{package_at}
-use Rattle.wit_model.specs.Rules.{same_package_name, same_version}
-use Rattle.wit_model.specs.Text.{text_eq, text_of}
+use Rattle.wit_model.specs.declared.model.{Package.Package, PackageId.PackageId, PackageName.PackageName, Resolve.Resolve}
+use Rattle.wit_model.specs.{Lookup.package_at, Rules.same_package_name, Rules.same_version, Text.text_eq, Text.text_of}
 use Rattle.bind_add.specs.Growth.{GainsNone, HaveGained}
 use Rattle.bind_add.specs.declared.added.Names.{Names}
 use Rattle.bind_copy.specs.Copies.{number_under}
 use Rattle.bind_match.specs.Matching.{own_package_of, package_from}
 use Rattle.bind_union.specs.Carried.{IsSameName}
 use Rattle.bind_union.proofs.Lists.{no_true}
-use Rattle.bind_carry.specs.First.{flag_under}
-use Rattle.bind_carry.specs.Numbers.{numbers_of, package_number}
-use Rattle.bind_carry.specs.Packaged.{IsPackageCarried}
-use Rattle.bind_carry.specs.Whole.{kept}
+use Rattle.bind_carry.specs.{First.flag_under, Numbers.numbers_of, Numbers.package_number, Packaged.IsPackageCarried, Whole.kept}
 use Rattle.bind_carry.specs.declared.plan.Carried.{Carried}
-use Rattle.bind_carry.proofs.FirstMatched.{uncopied_under}
-use Rattle.bind_carry.proofs.KeptPlaced.{kept_placed, IsKeptAt}
-use Rattle.base_lemmas.proofs.Bools.{left_of as first_true, right_of as second_true}
-use Rattle.base_lemmas.proofs.Lists.{front_at, mapped_get as mapped_at}
-use Rattle.base_lemmas.proofs.Numbers.{equal}
-use Rattle.std.proofs.lemmas.Option.{slice_get_within as within_list}
-use Rattle.wit_model.proofs.VersionLaws.{same_versions as version_parts}
-use Rattle.wit_model.proofs.TextLemmas.{text_same}
+use Rattle.bind_carry.proofs.{FirstMatched.uncopied_under, KeptPlaced.kept_placed, KeptPlaced.IsKeptAt}
+use Rattle.base_lemmas.proofs.{Bools.left_of as first_true, Bools.right_of as second_true, Lists.front_at, Lists.mapped_get as mapped_at, Numbers.equal}
+use Rattle.wit_model.proofs.{VersionLaws.same_versions as version_parts, TextLemmas.text_same}
 
 -- ---- names
 

@@ -1,45 +1,26 @@
 -- What becomes of types by path: each one that is carried has its image under its new number.
 use Rattle.std.proofs.Common.{◌≡◌, inl, refl, sym, ap, ◌∙◌, ℕ, zero, suc, ◌<◌, arith, Bool, true, false, ◌&&◌, ◌||◌, not, nat_lt, List, [], ◌∷◌, ◌++◌, length, map, Option, Some, None, option_and_then, option_map, is_some, slice_get, if◌then◌else◌}
-use Rattle.std.specs.Prelude.{String}
+use Rattle.std.proofs.lemmas.{Bool.lt-ltb, Bool.or_left, Bool.or_right, List.length-map, Option.slice_get-map, Option.slice_get_within}
+use Rattle.std.specs.{Prelude.String, List.list_all, List.list_any, HashMap.get_by_text, Option.option_map_or}
 use Rattle.std.specs.declared.alloc.Global.{Global}
-use Rattle.std.specs.List.{list_all, list_any}
-use Rattle.std.specs.HashMap.{get_by_text}
-use Rattle.std.specs.Option.{option_map_or}
-use Rattle.std.proofs.lemmas.Bool.{lt-ltb, or_left, or_right}
-use Rattle.std.proofs.lemmas.List.{length-map}
-use Rattle.std.proofs.lemmas.Option.{slice_get-map, slice_get_within}
-use Rattle.wit_model.specs.declared.model.InterfaceId.{InterfaceId}
-use Rattle.wit_model.specs.declared.model.Resolve.{Resolve}
-use Rattle.wit_model.specs.declared.model.TypeDef.{TypeDef}
-use Rattle.wit_model.specs.declared.model.TypeId.{TypeId}
-use Rattle.wit_model.specs.declared.model.TypeOwner.{TypeOwner}
-use Rattle.wit_model.specs.declared.model.TypeOwner.TheVariants as owner
-use Rattle.wit_model.specs.declared.model.WorldId.{WorldId}
-use Rattle.wit_model.specs.Lookup.{interface_at, type_at}
-use Rattle.wit_model.specs.Parts.{kind_numbers, same_owner}
-use Rattle.wit_model.specs.Text.{Text, optional_text, text_of}
+use Rattle.wit_model.specs.declared.model.{InterfaceId.InterfaceId, Resolve.Resolve, TypeDef.TypeDef, TypeId.TypeId, TypeOwner.TypeOwner, WorldId.WorldId}
+use Rattle.wit_model.specs.{Lookup.interface_at, Lookup.type_at, Parts.kind_numbers, Parts.same_owner, Text.Text, Text.optional_text, Text.text_of}
 use Rattle.wit_model.specs.Valid.{IsValid, as_interface}
 use Rattle.wit_model.proofs.OnePath.{found-in}
 use Rattle.bind_copy.specs.Copies.{number_under}
-use Rattle.bind_union.specs.Carried.{Renumbering, carries_owner, copies_owner, owner_under, IsType}
-use Rattle.bind_union.specs.Images.{HasImageKind}
+use Rattle.bind_union.specs.{Carried.Renumbering, Carried.carries_owner, Carried.copies_owner, Carried.owner_under, Carried.IsType, Images.HasImageKind}
 use Rattle.bind_union.specs.Views.{kind_view, view_numbers}
-use Rattle.bind_union.proofs.Carrying.{references_of, refers_below}
-use Rattle.bind_union.proofs.Images.{numbers_of_view}
-use Rattle.bind_union.proofs.Lists.{no_true}
-use Rattle.bind_carry.specs.CarriedParts.{AreCarriedByOwner, PartsOfOwners}
+use Rattle.bind_union.proofs.{Carrying.references_of, Carrying.refers_below, Images.numbers_of_view, Lists.no_true}
+use Rattle.bind_carry.specs.{CarriedParts.AreCarriedByOwner, CarriedParts.PartsOfOwners, Renumbered.first_of, Renumbered.is_copied, Renumbered.is_matched}
 use Rattle.bind_carry.specs.Fates.{are_carried, carries, copies, is_carried, settled, AreCopied, FallBelow}
 use Rattle.bind_carry.specs.First.{adds_any, fate_beside, fate_in, fate_named, fate_of, first_fates, flag_under}
-use Rattle.bind_carry.specs.Listed.{given_interface, type_named}
-use Rattle.bind_carry.specs.Marked.{AreChosen}
-use Rattle.bind_carry.specs.Renumbered.{first_of, is_copied, is_matched}
-use Rattle.bind_carry.specs.declared.fate.Fate.{Fate}
-use Rattle.bind_carry.specs.declared.fate.Fate.TheVariants as fate
-use Rattle.bind_carry.specs.declared.plan.Carried.{Carried}
-use Rattle.bind_carry.proofs.CopiesPlaced.{copy_placed, IsPlaced}
-use Rattle.bind_carry.proofs.PartsCarried.{has_home, no_home, parts_are_carried}
+use Rattle.bind_carry.specs.{Listed.given_interface, Listed.type_named, Marked.AreChosen}
+use Rattle.bind_carry.specs.declared.{fate.Fate.Fate, plan.Carried.Carried}
+use Rattle.bind_carry.proofs.{CopiesPlaced.copy_placed, CopiesPlaced.IsPlaced, PartsCarried.has_home, PartsCarried.no_home, PartsCarried.parts_are_carried}
 use Rattle.bind_carry.proofs.SettledParts.{copied_still, settled_all, settled_long, stands_still, unnamed_carried, unnamed_parts}
 use Rattle.base_lemmas.proofs.Options.{nameless as some_none, none_some}
+use Rattle.wit_model.specs.declared.model.TypeOwner.TheVariants as owner
+use Rattle.bind_carry.specs.declared.fate.Fate.TheVariants as fate
 
 -- ---- tests
 

@@ -1,47 +1,23 @@
 -- Worlds that are copied: all that their items name is carried, so each is a copy as the laws on unions ask for it.
 use Rattle.std.proofs.Common.{◌≡◌, refl, sym, ap, ◌∙◌, ℕ, zero, suc, Bool, true, false, ◌&&◌, ◌||◌, List, [], ◌∷◌, Option, Some, None, is_some, option_to_list, slice_get, unwrap_or}
-use Rattle.std.specs.List.{list_all, list_any}
-use Rattle.std.proofs.lemmas.Bool.{or_left, or_right}
-use Rattle.wit_model.specs.declared.model.Function.{Function}
-use Rattle.wit_model.specs.declared.model.Interface.{Interface}
-use Rattle.wit_model.specs.declared.model.InterfaceId.{InterfaceId}
-use Rattle.wit_model.specs.declared.model.Resolve.{Resolve}
-use Rattle.wit_model.specs.declared.model.TypeDef.{TypeDef}
-use Rattle.wit_model.specs.declared.model.TypeId.{TypeId}
-use Rattle.wit_model.specs.declared.model.World.{World}
-use Rattle.wit_model.specs.declared.model.WorldItem.{WorldItem}
-use Rattle.wit_model.specs.declared.model.WorldItem.TheVariants as item
-use Rattle.wit_model.specs.declared.model.WorldKey.{WorldKey}
-use Rattle.wit_model.specs.declared.model.WorldKey.TheVariants as key
-use Rattle.wit_model.specs.Lookup.{interface_at, type_at, world_at}
-use Rattle.wit_model.specs.Parts.{same_owner}
+use Rattle.std.proofs.lemmas.{Bool.or_left, Bool.or_right, Map.Keys.any_passes_from_place as any_of_at}
+use Rattle.std.specs.{List.list_all, List.list_any, Prelude.String}
+use Rattle.wit_model.specs.declared.model.{Function.Function, Interface.Interface, InterfaceId.InterfaceId, World.World, WorldItem.WorldItem, WorldKey.WorldKey}
+use Rattle.wit_model.specs.declared.model.{Resolve.Resolve, TypeDef.TypeDef, TypeId.TypeId}
+use Rattle.wit_model.specs.{Lookup.interface_at, Lookup.type_at, Lookup.world_at, Parts.same_owner, Text.text_of, Uses.item_interface}
 use Rattle.wit_model.specs.Rules.{entries_in_range, export_stands, import_stands, in_list, is_id, is_interface_key, item_in_range, key_in_range, package_number, passes, text_is}
-use Rattle.wit_model.specs.Text.{text_of}
-use Rattle.wit_model.specs.Uses.{item_interface}
-use Rattle.wit_model.specs.Valid.{IsValid, as_world, is_place, item_function, numbers_in_range, world_items}
-use Rattle.wit_model.proofs.OnePath.{found-in}
+use Rattle.wit_model.specs.Valid.{IsValid, as_world, is_place, item_function, numbers_in_range, world_items, as_interface}
+use Rattle.wit_model.proofs.{OnePath.found-in, PartsLemmas.owner_same as owner_equal, ValidLemmas.world_passes}
 use Rattle.bind_union.specs.Carried.{Renumbering}
-use Rattle.bind_union.proofs.Lists.{no_true}
-use Rattle.bind_union.proofs.WorldRules.{by_entries}
-use Rattle.bind_carry.specs.CarriedParts.{is_function_carried}
-use Rattle.bind_carry.specs.First.{first_fates, flag_under}
-use Rattle.bind_carry.specs.Listed.{type_named}
-use Rattle.bind_carry.specs.Marked.{is_shown_in, AreChosen}
-use Rattle.bind_carry.specs.ReadyItems.{IsItemReady, IsKeyReady}
-use Rattle.bind_carry.specs.Renumbered.{first_of, is_matched}
-use Rattle.bind_carry.specs.Whole.{kept}
-use Rattle.bind_carry.specs.declared.fate.Fate.{Fate}
-use Rattle.bind_carry.specs.declared.plan.Carried.{Carried}
+use Rattle.bind_union.proofs.{Lists.no_true, WorldRules.by_entries}
+use Rattle.bind_carry.specs.{CarriedParts.is_function_carried, First.first_fates, First.flag_under, Listed.type_named, Whole.kept}
+use Rattle.bind_carry.specs.{Marked.is_shown_in, Marked.AreChosen, ReadyItems.IsItemReady, ReadyItems.IsKeyReady, Renumbered.first_of, Renumbered.is_matched}
+use Rattle.bind_carry.specs.declared.{fate.Fate.Fate, plan.Carried.Carried}
 use Rattle.bind_carry.proofs.FirstTypes.{adds_world, excluded, parts_of, world_owned_copied}
-use Rattle.wit_model.specs.Valid.{as_interface}
-use Rattle.std.specs.Prelude.{String}
 use Rattle.std.specs.declared.alloc.Global.{Global}
-use Rattle.base_lemmas.proofs.Bools.{left_of as first_true, right_of as second_true}
-use Rattle.base_lemmas.proofs.Elements.{all_get as all_at}
-use Rattle.base_lemmas.proofs.Numbers.{same-number}
-use Rattle.std.proofs.lemmas.Map.Keys.{any_passes_from_place as any_of_at}
-use Rattle.wit_model.proofs.PartsLemmas.{owner_same as owner_equal}
-use Rattle.wit_model.proofs.ValidLemmas.{world_passes}
+use Rattle.base_lemmas.proofs.{Bools.left_of as first_true, Bools.right_of as second_true, Elements.all_get as all_at, Numbers.same-number}
+use Rattle.wit_model.specs.declared.model.WorldItem.TheVariants as item
+use Rattle.wit_model.specs.declared.model.WorldKey.TheVariants as key
 
 -- ---- lists
 

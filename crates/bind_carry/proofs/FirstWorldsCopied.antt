@@ -1,19 +1,12 @@
 -- Worlds that are copied by path are copies as the laws on unions ask for them, behind own ones.
 use Rattle.std.proofs.Common.{◌≡◌, sym, ap, subst, ◌∙◌, ℕ, ◌+◌, ◌≤◌, ◌<◌, arith, List, [], ◌++◌, length, map, append-nil, Option, Some}
 use Rattle.std.proofs.lemmas.List.{length-map}
-use Rattle.wit_model.specs.declared.model.InterfaceId.{InterfaceId}
-use Rattle.wit_model.specs.declared.model.TypeDef.{TypeDef}
-use Rattle.wit_model.specs.declared.model.World.{World}
+use Rattle.wit_model.specs.declared.model.{InterfaceId.InterfaceId, TypeDef.TypeDef, World.World}
 use Rattle.wit_model.specs.Lookup.{world_at}
 use Rattle.bind_copy.specs.Copies.{number_under}
-use Rattle.bind_carry.specs.FirstPass.{FirstWorldsAreCopied}
-use Rattle.bind_carry.specs.Marked.{AreChosen}
-use Rattle.bind_carry.specs.Numbers.{world_number}
-use Rattle.bind_carry.proofs.FirstCarried.{chosen_so, flag_within, interfaces_once}
-use Rattle.bind_carry.proofs.FirstCopies.{copied_behind}
-use Rattle.bind_carry.proofs.FirstMatched.{names}
-use Rattle.bind_carry.proofs.Ranges.{is_in_range}
-use Rattle.bind_carry.proofs.WorldsCopied.{world_copy}
+use Rattle.bind_carry.specs.{FirstPass.FirstWorldsAreCopied, Marked.AreChosen, Numbers.world_number}
+use Rattle.bind_carry.proofs.{FirstCarried.chosen_so, FirstCarried.flag_within, FirstCarried.interfaces_once, FirstCopies.copied_behind, FirstMatched.names}
+use Rattle.bind_carry.proofs.{Ranges.is_in_range, WorldsCopied.world_copy}
 use Rattle.base_lemmas.proofs.Lists.{within_there}
 
 pub first_worlds_are_copied : FirstWorldsAreCopied

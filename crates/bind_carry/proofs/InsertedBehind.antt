@@ -1,18 +1,15 @@
 -- Entries whose keys are new stand behind those that were there.
 use Rattle.std.proofs.Common.{◌≡◌, refl, sym, ap, ◌∙◌, ℕ, Bool, true, false, not, ◌||◌, ◌==◌, cond, List, [], ◌∷◌, ◌++◌, append-nil, append_assoc, if◌then◌else◌}
+use Rattle.std.proofs.lemmas.{Slice.Eq.bytes_eq-Decides, Bool.and_from as both}
 use Rattle.std.specs.List.{filter, list_all, list_any, AllByRecursion, AllZip, IsDistinct}
 use Rattle.std.specs.Map.{keys_of}
-use Rattle.std.proofs.lemmas.Slice.Eq.{bytes_eq-Decides}
 use Rattle.indexmap.specs.IndexMap.{insert_all, insert_entry}
-use Rattle.wit_model.specs.Text.{Text, text_eq, text_of}
-use Rattle.wit_model.specs.Valid.{key_eq}
-use Rattle.wit_model.specs.declared.model.WorldItem.{WorldItem}
-use Rattle.wit_model.specs.declared.model.WorldKey.{WorldKey}
-use Rattle.wit_model.specs.declared.model.WorldKey.TheVariants as key
+use Rattle.wit_model.specs.{Text.Text, Text.text_eq, Text.text_of, Valid.key_eq}
+use Rattle.wit_model.specs.declared.model.{WorldItem.WorldItem, WorldKey.WorldKey}
 use Rattle.bind_copy.specs.Copies.{become_one, is_key_under, is_new_under, number_under, IsEntryUnder, IsKeyUnder}
 use Rattle.bind_union.proofs.Lists.{no_true}
 use Rattle.base_lemmas.proofs.Bools.{left_of as first_true, right_of as second_true}
-use Rattle.std.proofs.lemmas.Bool.{and_from as both}
+use Rattle.wit_model.specs.declared.model.WorldKey.TheVariants as key
 
 -- what a filter leaves passes
 pub filter_passes : {X : Type 0} (p : X → Bool) (xs : List X) → list_all p (filter p xs) ≡ true

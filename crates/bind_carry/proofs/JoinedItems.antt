@@ -1,25 +1,18 @@
 -- Items that are copied where their keys are new join those that were there.
 use Rattle.std.proofs.Common.{◌≡◌, refl, sym, ap, ap₂, ◌∙◌, ℕ, zero, suc, Bool, true, false, not, ◌==◌, ◌||◌, cond, List, [], ◌∷◌, map, option_map}
-use Rattle.std.specs.List.{filter, list_all, list_any, AllZip}
 use Rattle.std.proofs.lemmas.Simd.{map-map}
-use Rattle.wit_model.specs.declared.model.Function.{Function}
-use Rattle.wit_model.specs.declared.model.FunctionKind.{FunctionKind}
-use Rattle.wit_model.specs.declared.model.FunctionKind.TheVariants as call
+use Rattle.std.specs.List.{filter, list_all, list_any, AllZip}
+use Rattle.wit_model.specs.declared.model.{Function.Function, FunctionKind.FunctionKind, «Type».«Type» as ValueType, WorldItem.WorldItem, WorldKey.WorldKey}
 use Rattle.wit_model.specs.declared.model.Param.{Param}
-use Rattle.wit_model.specs.declared.model.«Type».{«Type» as ValueType}
-use Rattle.wit_model.specs.declared.model.WorldItem.{WorldItem}
-use Rattle.wit_model.specs.declared.model.WorldItem.TheVariants as item
-use Rattle.wit_model.specs.declared.model.WorldKey.{WorldKey}
-use Rattle.wit_model.specs.declared.model.WorldKey.TheVariants as key
-use Rattle.wit_model.specs.Parts.{function_numbers}
-use Rattle.wit_model.specs.Text.{Text, text_of}
-use Rattle.bind_copy.specs.Copies.{is_key_under, is_new_under, number_under, IsEntryUnder, IsFunctionUnder, IsItemUnder, IsKeyUnder}
-use Rattle.bind_copy.specs.Copies.{call_under as call_under_numbers}
-use Rattle.bind_union.specs.Carried.{call_under, ItemBecomes, IsFunctionCopy, KeyBecomes, Renumbering}
+use Rattle.wit_model.specs.{Parts.function_numbers, Text.Text, Text.text_of}
+use Rattle.bind_copy.specs.Copies.{is_key_under, is_new_under, number_under, IsEntryUnder, IsFunctionUnder, IsItemUnder, IsKeyUnder, call_under as call_under_numbers}
+use Rattle.bind_union.specs.{Carried.call_under, Carried.ItemBecomes, Carried.IsFunctionCopy, Carried.KeyBecomes, Carried.Renumbering, Views.renamed_type}
 use Rattle.bind_union.specs.Joined.{is_new, same_key, Joined}
-use Rattle.bind_union.specs.Joined as joined
-use Rattle.bind_union.specs.Views.{renamed_type}
 use Rattle.bind_carry.specs.ReadyItems.{AreReady, IsItemReady, IsKeyReady}
+use Rattle.wit_model.specs.declared.model.FunctionKind.TheVariants as call
+use Rattle.wit_model.specs.declared.model.WorldItem.TheVariants as item
+use Rattle.wit_model.specs.declared.model.WorldKey.TheVariants as key
+use Rattle.bind_union.specs.Joined as joined
 
 module _ (f : Renumbering) (types : List ℕ) (by_type : number_under types ≡ f.types) where
   -- ---- functions

@@ -1,7 +1,6 @@
 -- Names that a package gains join those that it had.
 use Rattle.std.proofs.Common.{◌≡◌, ◌⊎◌, inl, inr, refl, sym, subst, ℕ, zero, suc, Bool, true, false, cond, List, [], ◌∷◌, map, Some, slice_get}
-use Rattle.std.specs.List.{filter, AllZip, Contains}
-use Rattle.std.specs.Prelude.{String}
+use Rattle.std.specs.{List.filter, List.AllZip, List.Contains, Prelude.String}
 use Rattle.std.specs.declared.alloc.Global.{Global}
 use Rattle.wit_model.specs.Text.{Text, text_of}
 use Rattle.bind_union.specs.Merged.{is_name, JoinedNames}

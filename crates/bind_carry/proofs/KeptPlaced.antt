@@ -1,13 +1,11 @@
 -- Where copies of things stand whose flags are set, under the numbers that are given to them one behind the other.
 use Rattle.std.proofs.Common.{◌≡◌, sym, ap, subst, ◌∙◌, ℕ, zero, suc, ◌+◌, arith, Bool, true, false, List, [], ◌∷◌, ◌++◌, length, Some, slice_get, append_assoc}
+use Rattle.std.proofs.lemmas.List.{length_push as length_behind}
 use Rattle.std.specs.List.{AllZip}
 use Rattle.bind_copy.specs.Copies.{number_under}
 use Rattle.bind_union.proofs.Lists.{no_true}
-use Rattle.bind_carry.specs.First.{flag_under}
-use Rattle.bind_carry.specs.Numbers.{numbers_of}
-use Rattle.bind_carry.specs.Whole.{kept}
+use Rattle.bind_carry.specs.{First.flag_under, Numbers.numbers_of, Whole.kept}
 use Rattle.bind_carry.proofs.CopiesPlaced.{get_behind, nothing_there, some_same}
-use Rattle.std.proofs.lemmas.List.{length_push as length_behind}
 
 -- What a copy is, and that it stands at its place.
 pub record IsKeptAt {X Y : Type 0} (P : X → Y → Type 0) (old : X) (news : List Y) (place : ℕ) : Type 0 where

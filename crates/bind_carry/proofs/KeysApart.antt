@@ -3,10 +3,9 @@ use Rattle.std.proofs.Common.{◌≡◌, refl, sym, ap, ◌∙◌, ℕ, Bool, tr
 use Rattle.std.specs.List.{list_all, AllByRecursion, IsDistinct}
 use Rattle.wit_model.specs.Valid.{key_eq}
 use Rattle.wit_model.specs.declared.model.WorldKey.{WorldKey}
-use Rattle.wit_model.specs.declared.model.WorldKey.TheVariants as key
 use Rattle.bind_copy.specs.Copies.{become_one, number_under}
-use Rattle.base_lemmas.proofs.Bools.{left_of as first_true, right_of as second_true}
-use Rattle.base_lemmas.proofs.Numbers.{equal, same-number}
+use Rattle.base_lemmas.proofs.{Bools.left_of as first_true, Bools.right_of as second_true, Numbers.equal, Numbers.same-number}
+use Rattle.wit_model.specs.declared.model.WorldKey.TheVariants as key
 
 abbrev pub is_key_carried : (ℕ → Bool) → WorldKey → Bool
 is_key_carried carried (key.Name name) = true

@@ -1,15 +1,12 @@
 -- Keys that are put into a set one behind the other, under new numbers.
 use Rattle.std.proofs.Common.{◌≡◌, refl, sym, ap, subst, ◌∙◌, ℕ, false, ◌||◌, List, [], ◌∷◌, ◌++◌, append-nil, append_assoc, if◌then◌else◌}
-use Rattle.std.specs.List.{list_any, AllZip, IsDistinct}
-use Rattle.std.specs.Map.{keys_of}
 use Rattle.std.proofs.lemmas.List.Elements.{AllZip-push}
+use Rattle.std.specs.{List.list_any, List.AllZip, List.IsDistinct, Map.keys_of}
 use Rattle.indexmap.specs.IndexSet.{insert_key}
-use Rattle.wit_model.specs.declared.model.WorldItem.{WorldItem}
-use Rattle.wit_model.specs.declared.model.WorldKey.{WorldKey}
+use Rattle.wit_model.specs.declared.model.{WorldItem.WorldItem, WorldKey.WorldKey}
 use Rattle.wit_model.specs.Valid.{key_eq}
 use Rattle.bind_copy.specs.Copies.{become_one, IsKeyUnder}
-use Rattle.bind_copy.proofs.Copied.{at_middle}
-use Rattle.bind_copy.proofs.Gained.{same_images}
+use Rattle.bind_copy.proofs.{Copied.at_middle, Gained.same_images}
 use Rattle.bind_carry.specs.BoundGains.{AreKeysUnder}
 
 module _ (interfaces : List ℕ) where

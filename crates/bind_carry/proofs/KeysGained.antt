@@ -1,45 +1,24 @@
 -- Keys of the other's bound world stay apart under both numberings, and what is gained of them comes behind what was there.
 use Rattle.std.proofs.Common.{◌≡◌, refl, sym, ap, ◌∙◌, ℕ, ◌+◌, Bool, true, false, ◌||◌, List, [], ◌∷◌, ◌++◌, length, arith, Option, Some, None, is_none, is_some}
-use Rattle.std.specs.List.{filter, list_all, Contains, IsDistinct}
-use Rattle.std.specs.Map.{keys_of}
-use Rattle.std.specs.Option.{option_map_or}
-use Rattle.std.proofs.lemmas.Map.Made.{IsDistinct-keys_filter}
+use Rattle.std.proofs.lemmas.{Map.Made.IsDistinct-keys_filter, Bool.and_from as both}
+use Rattle.std.specs.{List.filter, List.list_all, List.Contains, List.IsDistinct, Map.keys_of, Option.option_map_or}
 use Rattle.indexmap.specs.IndexMap.{insert_all}
-use Rattle.wit_model.specs.declared.model.Interface.{Interface}
-use Rattle.wit_model.specs.declared.model.InterfaceId.{InterfaceId}
-use Rattle.wit_model.specs.declared.model.Resolve.{Resolve}
+use Rattle.wit_model.specs.declared.model.{Interface.Interface, InterfaceId.InterfaceId, Resolve.Resolve, World.World, WorldItem.WorldItem, WorldKey.WorldKey}
 use Rattle.wit_model.specs.declared.model.TypeDef.{TypeDef}
-use Rattle.wit_model.specs.declared.model.World.{World}
-use Rattle.wit_model.specs.declared.model.WorldItem.{WorldItem}
-use Rattle.wit_model.specs.declared.model.WorldKey.{WorldKey}
-use Rattle.wit_model.specs.declared.model.WorldKey.TheVariants as key
-use Rattle.wit_model.specs.Lookup.{interface_at, world_at}
-use Rattle.wit_model.specs.Valid.{IsValid, key_eq}
+use Rattle.wit_model.specs.{Lookup.interface_at, Lookup.world_at, Valid.IsValid, Valid.key_eq}
 use Rattle.bind_add.specs.declared.added.Added.{Added}
 use Rattle.bind_copy.specs.Copies.{become_one, is_new_under, number_under}
 use Rattle.bind_match.specs.declared.matches.Matches.{Matches}
 use Rattle.bind_union.proofs.Lists.{no_true}
-use Rattle.bind_carry.specs.First.{flag_under, is_named_at}
-use Rattle.bind_carry.specs.InRange.{IsInRange}
-use Rattle.bind_carry.specs.Marked.{is_inline_at, AreChosen}
-use Rattle.bind_carry.specs.MatchedSame.{AreMatchedAt, NoneOfPath}
-use Rattle.bind_carry.specs.Renumbered.{is_matched}
-use Rattle.bind_carry.specs.Shown.{AreShownBelow}
-use Rattle.bind_carry.specs.Union.{IsUnionOf}
-use Rattle.bind_carry.specs.Which.{AreMatchedAll}
+use Rattle.bind_carry.specs.{First.flag_under, First.is_named_at, Marked.is_inline_at, Marked.AreChosen, MatchedSame.AreMatchedAt, MatchedSame.NoneOfPath}
+use Rattle.bind_carry.specs.{InRange.IsInRange, Renumbered.is_matched, Shown.AreShownBelow, Union.IsUnionOf, Which.AreMatchedAll}
 use Rattle.bind_carry.specs.declared.plan.Carried.{Carried}
-use Rattle.bind_carry.proofs.FirstCarried.{chosen_so, interfaces_once}
-use Rattle.bind_carry.proofs.FirstMatched.{uncopied_under}
+use Rattle.bind_carry.proofs.{FirstCarried.chosen_so, FirstCarried.interfaces_once, Ready.interface_count, WorldEntries.export_keyed, WorldEntries.import_keyed}
+use Rattle.bind_carry.proofs.{FirstMatched.uncopied_under, KeysApart.is_key_carried, KeysApart.keys_apart, Ranges.is_in_range, Ranges.shown_below}
 use Rattle.bind_carry.proofs.FirstTypes.{excluded}
-use Rattle.bind_carry.proofs.InsertedBehind.{all_behind, filter_passes}
-use Rattle.bind_carry.proofs.KeysApart.{is_key_carried, keys_apart}
-use Rattle.bind_carry.proofs.Ranges.{is_in_range, shown_below}
-use Rattle.bind_carry.proofs.Ready.{interface_count}
-use Rattle.bind_carry.proofs.SecondMarks.{gained_inline_alone, gained_long}
-use Rattle.bind_carry.proofs.WorldEntries.{export_keyed, import_keyed}
-use Rattle.base_lemmas.proofs.Elements.{contains-later}
-use Rattle.base_lemmas.proofs.Options.{nameless as none_of}
-use Rattle.std.proofs.lemmas.Bool.{and_from as both}
+use Rattle.bind_carry.proofs.{InsertedBehind.all_behind, InsertedBehind.filter_passes, SecondMarks.gained_inline_alone, SecondMarks.gained_long}
+use Rattle.base_lemmas.proofs.{Elements.contains-later, Options.nameless as none_of}
+use Rattle.wit_model.specs.declared.model.WorldKey.TheVariants as key
 
 -- keys of a list whose interfaces pass
 pub keys_pass : (p : ℕ → Bool) (es : List (WorldKey × WorldItem)) → ((e : WorldKey × WorldItem) → Contains es e → (id : InterfaceId) → e.0 ≡ key.Interface id → p id.0 ≡ true)

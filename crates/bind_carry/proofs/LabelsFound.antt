@@ -1,16 +1,12 @@
 -- What a look-up of a label finds in a map: what stands under a label of its text.
 use Rattle.std.proofs.Common.{◌≡◌, refl, sym, ap, ◌∙◌, ℕ, zero, suc, Bool, true, false, cond, List, [], ◌∷◌, Some, slice_get, unwrap_or}
-use Rattle.std.specs.Prelude.{String}
-use Rattle.std.specs.declared.alloc.Global.{Global}
-use Rattle.std.specs.List.{AllByRecursion, IsDistinct}
-use Rattle.std.specs.Map.{keys_of, lookup}
 use Rattle.std.proofs.lemmas.Slice.Eq.{bytes_eq-Decides}
-use Rattle.wit_model.specs.Text.{text_eq, text_of}
-use Rattle.wit_model.specs.Valid.{key_eq}
-use Rattle.wit_model.specs.declared.model.WorldItem.{WorldItem}
-use Rattle.wit_model.specs.declared.model.WorldKey.{WorldKey}
-use Rattle.wit_model.specs.declared.model.WorldKey.TheVariants as key
+use Rattle.std.specs.{Prelude.String, List.AllByRecursion, List.IsDistinct, Map.keys_of, Map.lookup}
+use Rattle.std.specs.declared.alloc.Global.{Global}
+use Rattle.wit_model.specs.{Text.text_eq, Text.text_of, Valid.key_eq}
+use Rattle.wit_model.specs.declared.model.{WorldItem.WorldItem, WorldKey.WorldKey}
 use Rattle.bind_union.proofs.Lists.{no_true}
+use Rattle.wit_model.specs.declared.model.WorldKey.TheVariants as key
 
 label_test : (a b : String Global) → text_of a ≡ text_of b → (k : WorldKey) → key_eq (key.Name a) k ≡ key_eq (key.Name b) k
 label_test a b e (key.Name s) = ap (λ t. text_eq t (text_of s)) e

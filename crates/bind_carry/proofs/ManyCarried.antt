@@ -1,16 +1,10 @@
 -- With what the bound world gains, behind what is carried by path.
 use Rattle.std.proofs.Common.{◌≡◌, subst, ℕ, List, length}
-use Rattle.wit_model.specs.declared.model.Resolve.{Resolve}
-use Rattle.wit_model.specs.declared.model.World.{World}
+use Rattle.wit_model.specs.declared.model.{Resolve.Resolve, World.World}
 use Rattle.bind_add.specs.declared.added.Added.{Added}
 use Rattle.bind_match.specs.declared.matches.Matches.{Matches}
-use Rattle.bind_carry.specs.Fates.{numbers_by}
-use Rattle.bind_carry.specs.First.{first_fates}
-use Rattle.bind_carry.specs.Numbers.{copied_count}
-use Rattle.bind_carry.specs.Over.{IsPlacedOver}
-use Rattle.bind_carry.specs.TooLong.{copies_of, AreTooManyGained}
-use Rattle.bind_carry.specs.declared.fate.Fate.{Fate}
-use Rattle.bind_carry.specs.declared.plan.Carried.{Carried}
+use Rattle.bind_carry.specs.{Fates.numbers_by, First.first_fates, Numbers.copied_count, Over.IsPlacedOver, TooLong.copies_of, TooLong.AreTooManyGained}
+use Rattle.bind_carry.specs.declared.{fate.Fate.Fate, plan.Carried.Carried}
 
 module _ (own other : Resolve) (m : Matches) (c : Carried) (types : List ℕ)
     (numbers_are : types ≡ numbers_by (length own.types.items) (first_fates own other m.interfaces.items c)) (before : Added)

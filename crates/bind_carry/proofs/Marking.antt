@@ -1,26 +1,13 @@
 -- What flags say that are set one after the other for the inline interfaces that are shown.
 use Rattle.std.proofs.Common.{◌≡◌, refl, sym, ap, subst, ◌∙◌, ℕ, zero, suc, ◌<◌, arith, Bool, true, false, ◌&&◌, ◌||◌, not, ◌==◌, List, [], ◌∷◌, length, Option, Some, None, is_none, is_some, slice_get, slice_set, unwrap_or, if◌then◌else◌}
-use Rattle.std.specs.Option.{option_map_or}
-use Rattle.std.specs.Prelude.{String}
+use Rattle.std.specs.{Option.option_map_or, Prelude.String}
 use Rattle.std.specs.declared.alloc.Global.{Global}
-use Rattle.wit_model.specs.declared.model.Interface.{Interface}
-use Rattle.wit_model.specs.declared.model.InterfaceId.{InterfaceId}
-use Rattle.wit_model.specs.declared.model.Resolve.{Resolve}
-use Rattle.wit_model.specs.declared.model.World.{World}
-use Rattle.wit_model.specs.declared.model.WorldItem.{WorldItem}
-use Rattle.wit_model.specs.declared.model.WorldItem.TheVariants as item
-use Rattle.wit_model.specs.declared.model.WorldKey.{WorldKey}
-use Rattle.wit_model.specs.Lookup.{interface_at}
-use Rattle.wit_model.specs.Rules.{is_id}
-use Rattle.wit_model.specs.Uses.{item_interface}
-use Rattle.bind_carry.specs.First.{flag_under}
-use Rattle.bind_carry.specs.Listed.{given_interface}
+use Rattle.wit_model.specs.declared.model.{Interface.Interface, InterfaceId.InterfaceId, Resolve.Resolve, World.World, WorldItem.WorldItem, WorldKey.WorldKey}
+use Rattle.wit_model.specs.{Lookup.interface_at, Rules.is_id, Uses.item_interface}
+use Rattle.bind_carry.specs.{First.flag_under, Listed.given_interface, Shown.AreShownBelow, Shown.IsShownBelow, Which.new_interfaces}
 use Rattle.bind_carry.specs.Marked.{is_inline_at, is_shown_in, is_shown_of, mark_item, mark_items, mark_worlds, AreChosen}
-use Rattle.bind_carry.specs.Shown.{AreShownBelow, IsShownBelow}
-use Rattle.bind_carry.specs.Which.{new_interfaces}
-use Rattle.base_lemmas.proofs.Bools.{or_false, or_true}
-use Rattle.base_lemmas.proofs.Numbers.{differ, equal}
-use Rattle.base_lemmas.proofs.Options.{none_not_some as none_is}
+use Rattle.base_lemmas.proofs.{Bools.or_false, Bools.or_true, Numbers.differ, Numbers.equal, Options.none_not_some as none_is}
+use Rattle.wit_model.specs.declared.model.WorldItem.TheVariants as item
 
 -- ---- tests
 

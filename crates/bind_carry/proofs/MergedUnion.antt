@@ -1,13 +1,10 @@
 -- What a union adds, once it is added, is merged.
 use Rattle.std.proofs.Common.{◌≡◌, refl, sym, ap, subst, ◌∙◌, ◌+◌, ◌≤◌, ℕ, List, ◌++◌, length}
-use Rattle.std.specs.Prelude.{slice_set}
 use Rattle.std.proofs.lemmas.List.{length-append, length-map}
+use Rattle.std.specs.Prelude.{slice_set}
 use Rattle.bind_match.specs.Matching.{own_interface_of, own_package_of, own_world_of}
-use Rattle.bind_carry.specs.MergedUnion.{UnionsAreMerged}
-use Rattle.bind_carry.specs.Which.{AreMatchedAll}
-use Rattle.bind_carry.proofs.FirstOfUnion.{set_count, unions_have_the_second}
-use Rattle.bind_carry.proofs.MergedWhole.{passes_are_merged}
-use Rattle.bind_carry.proofs.PackagesStand.{package_stands}
+use Rattle.bind_carry.specs.{MergedUnion.UnionsAreMerged, Which.AreMatchedAll}
+use Rattle.bind_carry.proofs.{FirstOfUnion.set_count, FirstOfUnion.unions_have_the_second, MergedWhole.passes_are_merged, PackagesStand.package_stands}
 
 -- as long as two lists together
 both_long : {X : Type 0} (merged own front added : List X) → merged ≡ front ++ added → length front ≡ length own → length own + length added ≤ 4294967295 → length merged ≤ 4294967295

@@ -1,44 +1,22 @@
 -- Both passes together are a merge, where packages stand and no list is too long.
 use Rattle.std.proofs.Common.{◌≡◌, refl, sym, ap, subst, ◌∙◌, ℕ, zero, suc, ◌+◌, ◌<◌, arith, Bool, true, false, not, ◌||◌, List, [], ◌∷◌, ◌++◌, length, map, Option, Some, None, is_none, is_some, option_map, slice_get}
-use Rattle.std.specs.Prelude.{String}
+use Rattle.std.proofs.lemmas.{Bool.or_left, List.length-map}
+use Rattle.std.specs.{Prelude.String, Option.option_map_or}
 use Rattle.std.specs.declared.alloc.Global.{Global}
-use Rattle.std.specs.Option.{option_map_or}
-use Rattle.std.proofs.lemmas.Bool.{or_left}
-use Rattle.std.proofs.lemmas.List.{length-map}
-use Rattle.wit_model.specs.declared.model.Interface.{Interface}
-use Rattle.wit_model.specs.declared.model.PackageName.{PackageName}
-use Rattle.wit_model.specs.declared.model.Resolve.{Resolve}
-use Rattle.wit_model.specs.declared.model.World.{World}
-use Rattle.wit_model.specs.declared.model.WorldId.{WorldId}
-use Rattle.wit_model.specs.Lookup.{interface_at}
-use Rattle.wit_model.specs.Rules.{package_number}
+use Rattle.wit_model.specs.declared.model.{Interface.Interface, PackageName.PackageName, Resolve.Resolve, World.World, WorldId.WorldId}
+use Rattle.wit_model.specs.{Lookup.interface_at, Rules.package_number}
 use Rattle.bind_copy.specs.Copies.{number_under}
 use Rattle.bind_match.specs.Matching.{is_root_world}
-use Rattle.bind_union.specs.Carried.{IsInterface, IsSameName}
-use Rattle.bind_union.specs.Joined.{IsJoined}
-use Rattle.bind_union.specs.Merged.{AreCopies}
+use Rattle.bind_union.specs.{Carried.IsInterface, Carried.IsSameName, Joined.IsJoined, Merged.AreCopies}
 use Rattle.bind_union.proofs.Lists.{no_true}
-use Rattle.bind_carry.specs.First.{first_fates, flag_under}
-use Rattle.bind_carry.specs.Numbers.{interface_number, numbers_of}
-use Rattle.bind_carry.specs.Renumbered.{first_of, is_matched}
-use Rattle.bind_carry.specs.SecondPass.{second_pass_of, PassesAreMerged}
-use Rattle.bind_carry.specs.Which.{new_worlds}
-use Rattle.bind_carry.specs.Whole.{IsInterfaceCarried}
-use Rattle.bind_carry.proofs.CopiesPlaced.{some_same}
-use Rattle.bind_carry.proofs.FirstCopies.{copied_behind, first_is_copied}
-use Rattle.bind_carry.proofs.FirstInterfaces.{home_number}
-use Rattle.bind_carry.proofs.FirstPackages.{grown_name}
-use Rattle.bind_carry.proofs.FirstWorldsCopied.{first_worlds_are_copied}
-use Rattle.bind_carry.proofs.KeptPlaced.{kept_placed}
-use Rattle.bind_carry.proofs.NothingElse.{interface_from, type_from, world_from}
-use Rattle.bind_carry.proofs.PackagesFrom.{package_from}
-use Rattle.bind_carry.proofs.SecondBound.{bound_stands}
-use Rattle.bind_carry.proofs.SecondCarried.{second_is_copied}
+use Rattle.bind_carry.specs.{First.first_fates, First.flag_under, Renumbered.first_of, Renumbered.is_matched, Which.new_worlds}
+use Rattle.bind_carry.specs.{Numbers.interface_number, Numbers.numbers_of, SecondPass.second_pass_of, SecondPass.PassesAreMerged, Whole.IsInterfaceCarried}
+use Rattle.bind_carry.proofs.{CopiesPlaced.some_same, KeptPlaced.kept_placed}
+use Rattle.bind_carry.proofs.{FirstCopies.copied_behind, FirstCopies.first_is_copied, NothingElse.interface_from, NothingElse.type_from, NothingElse.world_from}
+use Rattle.bind_carry.proofs.{FirstInterfaces.home_number, FirstPackages.grown_name, PackagesFrom.package_from, SecondBound.bound_stands}
+use Rattle.bind_carry.proofs.{FirstWorldsCopied.first_worlds_are_copied, SecondCarried.second_is_copied, SecondKnown.copied_long, SecondKnown.long}
 use Rattle.bind_carry.proofs.SecondInterfaces.{carried_number, copied_carries, copied_there, inline_at, inline_place, path_low}
-use Rattle.bind_carry.proofs.SecondKnown.{copied_long, long}
-use Rattle.base_lemmas.proofs.Bools.{right_of as second_true}
-use Rattle.base_lemmas.proofs.Lists.{front_at}
-use Rattle.base_lemmas.proofs.Numbers.{equal}
+use Rattle.base_lemmas.proofs.{Bools.right_of as second_true, Lists.front_at, Numbers.equal}
 
 -- a world that is copied isn't left out
 not_root : (r : Resolve) (ms : List (Option WorldId)) (ws : List World) (n : ℕ) → flag_under (new_worlds r ms ws) n ≡ true → option_map_or (is_root_world r) (slice_get ws n) false ≡ false

@@ -1,14 +1,12 @@
 -- Types that get numbers and places one after the other, and are moved there.
 use Rattle.std.proofs.Common.{◌≡◌, refl, sym, ap, subst, ◌∙◌, ℕ, ◌+◌, ◌<◌, true, arith, List, [], ◌∷◌, ◌++◌, length, append_assoc}
-use Rattle.wit_model.specs.declared.model.TypeDef.{TypeDef}
-use Rattle.wit_model.specs.declared.model.TypeOwner.{TypeOwner}
+use Rattle.wit_model.specs.declared.model.{TypeDef.TypeDef, TypeOwner.TypeOwner}
 use Rattle.bind_union.proofs.Lists.{no_true}
-use Rattle.bind_carry.specs.Fates.{copied_types, copies, numbers_by, IsCopiedType}
+use Rattle.bind_carry.specs.{Fates.copied_types, Fates.copies, Fates.numbers_by, Fates.IsCopiedType, TooLong.copies_of}
 use Rattle.bind_carry.specs.Moved.{AreMoved, AreMovedSoFar, IsMovedBy, MeetsPlace}
-use Rattle.bind_carry.specs.TooLong.{copies_of}
 use Rattle.bind_carry.specs.declared.fate.Fate.{Fate}
-use Rattle.bind_carry.specs.declared.fate.Fate.TheVariants as fate
 use Rattle.bind_carry.proofs.Moving.{one_moved, place_there}
+use Rattle.bind_carry.specs.declared.fate.Fate.TheVariants as fate
 
 -- ---- numbers and places
 

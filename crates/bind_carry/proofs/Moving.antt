@@ -1,10 +1,8 @@
 -- Things that are moved one after the other to the places that were made for them.
 use Rattle.std.proofs.Common.{◌≡◌, refl, sym, ap, subst, ◌∙◌, ℕ, ◌+◌, ◌≤◌, ◌<◌, arith, Bool, true, false, List, [], ◌∷◌, ◌++◌, length, drop, set, append_assoc, append-nil}
+use Rattle.std.proofs.{lemmas.List.drop_more, lemmas.List.length-append, lemmas.List.length-drop, Math.Seq.set-append_seam}
 use Rattle.std.specs.List.{AllZip}
-use Rattle.std.proofs.lemmas.List.{drop_more, length-append, length-drop}
-use Rattle.std.proofs.Math.Seq.{set-append_seam}
-use Rattle.bind_carry.specs.Moved.{AreMoved, AreMovedSoFar}
-use Rattle.bind_carry.specs.Whole.{kept}
+use Rattle.bind_carry.specs.{Moved.AreMoved, Moved.AreMovedSoFar, Whole.kept}
 
 module _ {X Y : Type 0} (P : X → Y → Type 0) (xs : List X) where
   -- nothing is moved yet

@@ -1,21 +1,16 @@
 -- Names that a map gains stand behind those that it had, where their texts are new.
 use Rattle.std.proofs.Common.{◌≡◌, refl, sym, ap, ◌∙◌, ℕ, zero, suc, Bool, true, false, ◌||◌, arith, cond, List, [], ◌∷◌, ◌++◌, map, Some, None, slice_get, append-nil, append_assoc, if◌then◌else◌}
-use Rattle.std.specs.List.{filter, AllByRecursion, AllZip, Contains, IsDistinct}
-use Rattle.std.specs.Map.{keys_of}
-use Rattle.std.specs.Prelude.{String, bytes_eq}
-use Rattle.std.specs.String.{string_eq}
-use Rattle.std.specs.declared.alloc.Global.{Global}
 use Rattle.std.proofs.lemmas.List.{map-append}
+use Rattle.std.specs.{List.filter, List.AllByRecursion, List.AllZip, List.Contains, List.IsDistinct, Prelude.String, Prelude.bytes_eq, String.string_eq}
+use Rattle.std.specs.Map.{keys_of}
+use Rattle.std.specs.declared.alloc.Global.{Global}
 use Rattle.indexmap.specs.IndexMap.{insert_all, insert_entry}
 use Rattle.wit_model.specs.Text.{Text, text_eq, text_of}
-use Rattle.wit_model.proofs.Distinct.{text_eq_flip}
+use Rattle.wit_model.proofs.{Distinct.text_eq_flip, TextLemmas.text_same as text-same}
 use Rattle.bind_union.specs.Merged.{is_name}
-use Rattle.bind_union.proofs.Listed.{under_text}
-use Rattle.bind_union.proofs.Lists.{no_true}
-use Rattle.bind_union.proofs.PackageNames.{name_append}
+use Rattle.bind_union.proofs.{Listed.under_text, Lists.no_true, PackageNames.name_append}
 use Rattle.bind_carry.proofs.CopiesPlaced.{nothing_there, some_same}
 use Rattle.base_lemmas.proofs.Elements.{contains-later}
-use Rattle.wit_model.proofs.TextLemmas.{text_same as text-same}
 
 -- ---- names and numbers
 

@@ -1,51 +1,27 @@
 -- Names that a package gains weren't there, so they come behind what was.
 use Rattle.std.proofs.Common.{◌≡◌, refl, sym, ap, ◌∙◌, ℕ, zero, suc, ◌<◌, arith, Bool, true, false, not, ◌&&◌, ◌||◌, cond, List, [], ◌∷◌, ◌++◌, length, map, append-nil, append_assoc, Option, Some, None, is_none, is_some, option_and_then, slice_get, string_eq, if◌then◌else◌}
-use Rattle.std.specs.Prelude.{String}
-use Rattle.std.specs.declared.alloc.Global.{Global}
+use Rattle.std.proofs.lemmas.{List.length-map, Bool.and_from as both, Option.slice_get_within as within_list}
+use Rattle.std.specs.{Prelude.String, Map.keys_of, Map.lookup, HashMap.get_by_text}
 use Rattle.std.specs.List.{filter, list_all, list_any, AllByRecursion, AllZip, Contains, IsDistinct}
-use Rattle.std.specs.Map.{keys_of, lookup}
-use Rattle.std.specs.HashMap.{get_by_text}
-use Rattle.std.proofs.lemmas.List.{length-map}
+use Rattle.std.specs.declared.alloc.Global.{Global}
 use Rattle.indexmap.specs.IndexMap.{insert_all, insert_entry}
-use Rattle.wit_model.specs.declared.model.Interface.{Interface}
-use Rattle.wit_model.specs.declared.model.InterfaceId.{InterfaceId}
-use Rattle.wit_model.specs.declared.model.Package.{Package}
-use Rattle.wit_model.specs.declared.model.PackageId.{PackageId}
-use Rattle.wit_model.specs.declared.model.Resolve.{Resolve}
+use Rattle.wit_model.specs.declared.model.{Interface.Interface, InterfaceId.InterfaceId, Package.Package, PackageId.PackageId, Resolve.Resolve, WorldId.WorldId}
 use Rattle.wit_model.specs.declared.model.World.{World}
-use Rattle.wit_model.specs.declared.model.WorldId.{WorldId}
-use Rattle.wit_model.specs.Lookup.{interface_at, package_at, world_at}
+use Rattle.wit_model.specs.{Lookup.interface_at, Lookup.package_at, Lookup.world_at, Valid.IsValid, Valid.names_in_packages, Valid.places}
 use Rattle.wit_model.specs.Rules.{interface_belongs, is_id, names_itself, passes, package_number, text_is, world_belongs, is_world_name}
 use Rattle.wit_model.specs.Text.{Text, text_eq, text_of}
-use Rattle.wit_model.specs.Valid.{IsValid, names_in_packages, places}
-use Rattle.wit_model.proofs.Distinct.{text_eq_flip}
-use Rattle.wit_model.proofs.OnePath.{found-in, package-passes}
+use Rattle.wit_model.proofs.{Distinct.text_eq_flip, OnePath.found-in, OnePath.package-passes, TextLemmas.text_named as label_is, TextLemmas.text_same}
 use Rattle.bind_copy.specs.Copies.{number_under}
 use Rattle.bind_match.specs.Matching.{given, interface_in, is_root_world, own_interface_of, own_package_of, own_world_of, world_in}
 use Rattle.bind_match.specs.declared.matches.Matches.{Matches}
 use Rattle.bind_union.proofs.Lists.{no_true}
-use Rattle.bind_carry.specs.AddedApart.{AreMatchedByName}
-use Rattle.bind_carry.specs.First.{flag_under}
-use Rattle.bind_carry.specs.InRange.{IsInRange}
-use Rattle.bind_carry.specs.Listed.{given_interface}
-use Rattle.bind_carry.specs.Marked.{AreChosen}
-use Rattle.bind_carry.specs.Numbers.{package_number as number_of_package}
-use Rattle.bind_carry.specs.Packaged.{grown_packages}
-use Rattle.bind_carry.specs.Which.{new_worlds, IsNumbered}
+use Rattle.bind_carry.specs.{AddedApart.AreMatchedByName, InRange.IsInRange, Numbers.package_number as number_of_package, Which.new_worlds, Which.IsNumbered}
+use Rattle.bind_carry.specs.{First.flag_under, Listed.given_interface, Marked.AreChosen, Packaged.grown_packages}
 use Rattle.bind_carry.specs.declared.plan.Carried.{Carried}
-use Rattle.bind_carry.proofs.CopiesPlaced.{some_same}
-use Rattle.bind_carry.proofs.FirstMatched.{uncopied_under}
-use Rattle.bind_carry.proofs.FirstPackages.{found_number, unflagged_found}
-use Rattle.bind_carry.proofs.Ranges.{is_in_range}
-use Rattle.base_lemmas.proofs.Bools.{left_of as first_true, right_of as second_true}
-use Rattle.base_lemmas.proofs.Elements.{all-contained, contains-later}
-use Rattle.base_lemmas.proofs.Lists.{mapped_get as mapped_at}
-use Rattle.base_lemmas.proofs.Numbers.{equal}
-use Rattle.base_lemmas.proofs.Options.{none_not_some}
-use Rattle.std.proofs.lemmas.Bool.{and_from as both}
-use Rattle.std.proofs.lemmas.Option.{slice_get_within as within_list}
-use Rattle.bind_carry.proofs.InsertedBehind.{none_more}
-use Rattle.wit_model.proofs.TextLemmas.{text_named as label_is, text_same}
+use Rattle.bind_carry.proofs.{CopiesPlaced.some_same, Ranges.is_in_range}
+use Rattle.bind_carry.proofs.{FirstMatched.uncopied_under, FirstPackages.found_number, FirstPackages.unflagged_found, InsertedBehind.none_more}
+use Rattle.base_lemmas.proofs.{Bools.left_of as first_true, Bools.right_of as second_true, Elements.all-contained, Elements.contains-later, Numbers.equal}
+use Rattle.base_lemmas.proofs.{Lists.mapped_get as mapped_at, Options.none_not_some}
 
 -- ---- lists
 

@@ -1,24 +1,15 @@
 -- What a name in a package of a valid `Resolve` is, and where it stands.
 use Rattle.std.proofs.Common.{◌≡◌, ap, ◌∙◌, ℕ, ◌&&◌, Some, option_map}
-use Rattle.std.specs.Prelude.{String}
-use Rattle.std.specs.List.{Contains}
+use Rattle.std.specs.{Prelude.String, List.Contains}
 use Rattle.std.specs.declared.alloc.Global.{Global}
-use Rattle.wit_model.specs.declared.model.Interface.{Interface}
-use Rattle.wit_model.specs.declared.model.Package.{Package}
-use Rattle.wit_model.specs.declared.model.PackageId.{PackageId}
-use Rattle.wit_model.specs.declared.model.Resolve.{Resolve}
-use Rattle.wit_model.specs.declared.model.World.{World}
+use Rattle.wit_model.specs.declared.model.{Interface.Interface, Package.Package, PackageId.PackageId, Resolve.Resolve, World.World}
 use Rattle.wit_model.specs.Lookup.{identity_of, interface_at, package_at, path_of_interface, path_of_world, world_at}
-use Rattle.wit_model.specs.Names.{path_in}
-use Rattle.wit_model.specs.Rules.{is_id, package_number, text_is}
-use Rattle.wit_model.specs.Text.{Text, optional_text, text_eq, text_of}
+use Rattle.wit_model.specs.{Names.path_in, Rules.is_id, Rules.package_number, Rules.text_is, Text.Text, Text.optional_text, Text.text_eq, Text.text_of}
 use Rattle.wit_model.specs.Valid.{IsValid}
 use Rattle.bind_union.specs.Merged.{interface_names, world_names}
-use Rattle.bind_union.proofs.Carrying.{path_by, path_parts}
+use Rattle.bind_union.proofs.{Carrying.path_by, Carrying.path_parts, UnitedWorlds.world_path}
 use Rattle.bind_union.proofs.KeptPackages.{found_option, interfaces_stand, is_interface_of, is_world_of, worlds_stand}
-use Rattle.bind_union.proofs.UnitedWorlds.{world_path}
-use Rattle.base_lemmas.proofs.Bools.{left_of as first_true, right_of as second_true}
-use Rattle.base_lemmas.proofs.Elements.{all-contained}
+use Rattle.base_lemmas.proofs.{Bools.left_of as first_true, Bools.right_of as second_true, Elements.all-contained}
 use Rattle.bind_carry.proofs.NamesGained.{home_is as home_given}
 use Rattle.wit_model.proofs.TextLemmas.{text_named as text_given, text_same as text-same}
 

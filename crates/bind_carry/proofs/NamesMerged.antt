@@ -1,55 +1,30 @@
 -- The names in packages once all is added: own ones, each package's followed by what is new in it, and then those of new packages.
 use Rattle.std.proofs.Common.{◌≡◌, ◌⊎◌, inl, inr, refl, sym, ap, ap₂, subst, ◌∙◌, ℕ, zero, suc, ◌+◌, arith, Bool, true, false, not, ◌&&◌, cond, List, [], ◌∷◌, ◌++◌, length, map, Option, Some, None, is_none, is_some, option_and_then, slice_get, string_eq, unwrap_or}
-use Rattle.std.specs.Prelude.{codes, String}
-use Rattle.std.specs.declared.alloc.Global.{Global}
-use Rattle.std.specs.FinMap.{find}
-use Rattle.std.specs.List.{filter, list_any, AllZip, Contains}
-use Rattle.std.specs.Option.{option_map_or}
-use Rattle.std.specs.Ordering.{eq_by_cmp}
-use Rattle.std.specs.Cmp.Lexicographic.{texts_ties}
 use Rattle.std.proofs.lemmas.List.{length-map, map-append}
-use Rattle.std.specs.HashMap.{get_by_text}
+use Rattle.std.specs.{Prelude.codes, Prelude.String, List.filter, List.list_any, List.AllZip, List.Contains, Option.option_map_or, Cmp.Lexicographic.texts_ties}
+use Rattle.std.specs.{FinMap.find, Ordering.eq_by_cmp, HashMap.get_by_text}
+use Rattle.std.specs.declared.alloc.Global.{Global}
 use Rattle.indexmap.specs.IndexMap.{IsUnique}
-use Rattle.wit_model.specs.declared.model.InterfaceId.{InterfaceId}
-use Rattle.wit_model.specs.declared.model.Package.{Package}
-use Rattle.wit_model.specs.declared.model.PackageId.{PackageId}
-use Rattle.wit_model.specs.declared.model.PackageName.{PackageName}
-use Rattle.wit_model.specs.declared.model.Resolve.{Resolve}
+use Rattle.wit_model.specs.declared.model.{InterfaceId.InterfaceId, Package.Package, PackageId.PackageId, PackageName.PackageName, Resolve.Resolve}
 use Rattle.wit_model.specs.declared.model.WorldId.{WorldId}
-use Rattle.wit_model.specs.Lookup.{identity_of, package_at}
-use Rattle.wit_model.specs.Rules.{same_package_name}
-use Rattle.wit_model.specs.Text.{Text, text_cmp, text_eq, text_of}
-use Rattle.wit_model.specs.Valid.{IsValid}
-use Rattle.wit_model.proofs.Elements.{contains-get}
-use Rattle.wit_model.proofs.OnePath.{package-name, package-once, IsPackageName}
-use Rattle.wit_model.proofs.VersionLaws.{same_text}
+use Rattle.wit_model.specs.{Lookup.identity_of, Lookup.package_at, Rules.same_package_name, Text.Text, Text.text_cmp, Text.text_eq, Text.text_of, Valid.IsValid}
+use Rattle.wit_model.proofs.{Elements.contains-get, OnePath.package-name, OnePath.package-once, OnePath.IsPackageName, VersionLaws.same_text}
 use Rattle.bind_add.specs.Growth.{GainsNone, HasGained, HaveGained}
 use Rattle.bind_add.specs.declared.added.Names.{Names}
 use Rattle.bind_copy.specs.Copies.{number_under}
 use Rattle.bind_match.specs.Matching.{given, interface_in, is_root_name, is_root_world, own_interface_of, own_package_of, own_world_of, package_from, world_in}
 use Rattle.bind_match.specs.declared.matches.Matches.{Matches}
 use Rattle.bind_meaning.specs.Binding.{package_text}
-use Rattle.bind_union.proofs.Carrying.{same_identity}
-use Rattle.bind_union.proofs.Lists.{no_true}
-use Rattle.bind_carry.specs.AddedApart.{AreMatchedByName}
-use Rattle.bind_carry.specs.AddedNames.{NamesAreMerged}
-use Rattle.bind_carry.specs.First.{flag_under}
-use Rattle.bind_carry.specs.Listed.{given_interface}
-use Rattle.bind_carry.specs.ListedNames.{carried_names, grown_names, texts_followed_by, PackageNames}
-use Rattle.bind_carry.specs.Marked.{AreChosen}
+use Rattle.bind_union.proofs.{Carrying.same_identity, Lists.no_true}
+use Rattle.bind_carry.specs.{AddedApart.AreMatchedByName, AddedNames.NamesAreMerged, Listed.given_interface, Marked.AreChosen, Which.IsNumbered, Whole.kept}
+use Rattle.bind_carry.specs.{First.flag_under, ListedNames.carried_names, ListedNames.grown_names, ListedNames.texts_followed_by, ListedNames.PackageNames}
 use Rattle.bind_carry.specs.Packaged.{grown_packages, is_copied_interface, is_copied_world, IsGained, IsInterfaceName, IsPackageCarried, IsWorldName}
-use Rattle.bind_carry.specs.Which.{IsNumbered}
-use Rattle.bind_carry.specs.Whole.{kept}
 use Rattle.bind_carry.specs.declared.plan.Carried.{Carried}
-use Rattle.bind_carry.proofs.CopiesPlaced.{some_same}
-use Rattle.bind_carry.proofs.FirstCarried.{chosen_so}
-use Rattle.bind_carry.proofs.FirstPackages.{found_own, some_gains, IsFound}
+use Rattle.bind_carry.proofs.{CopiesPlaced.some_same, FirstCarried.chosen_so, UnionApart.interfaces_behind, UnionApart.matched_all, UnionApart.worlds_behind}
+use Rattle.bind_carry.proofs.{FirstPackages.found_own, FirstPackages.some_gains, FirstPackages.IsFound, Ranges.is_in_range}
 use Rattle.bind_carry.proofs.NamesGained.{copied_interface, copied_world, grown_of, home_of, interface_of, new_world_flag, world_of, IsGrownOf, IsHome, IsInterfaceOf, IsWorldOf, KeepsNames}
 use Rattle.bind_carry.proofs.PackageTexts.{name_tie, root_text, same_of_texts, text_of_package, texts_of_same}
-use Rattle.bind_carry.proofs.Ranges.{is_in_range}
-use Rattle.bind_carry.proofs.UnionApart.{interfaces_behind, matched_all, worlds_behind}
-use Rattle.base_lemmas.proofs.Bools.{and_flip}
-use Rattle.base_lemmas.proofs.Elements.{any_of_map, contains-later, zip_at as zip_there, zip_at_right as zip_at}
+use Rattle.base_lemmas.proofs.{Bools.and_flip, Elements.any_of_map, Elements.contains-later, Elements.zip_at as zip_there, Elements.zip_at_right as zip_at}
 use Rattle.base_lemmas.proofs.Lists.{map_of_map as map_twice, mapped_get as mapped_at}
 use Rattle.bind_meaning.proofs.Maps.{by_tie as tie_is}
 

@@ -1,46 +1,23 @@
 -- Of the names in a package of the other, those of what is copied are new in the own package of its name, and the others stand there or are left out.
 use Rattle.std.proofs.Common.{◌≡◌, ◌⊎◌, inl, inr, refl, sym, ap, subst, ◌∙◌, ℕ, zero, suc, Bool, true, false, not, ◌&&◌, List, [], ◌∷◌, length, map, Option, Some, None, is_none, is_some, option_map, option_and_then, slice_get}
-use Rattle.std.specs.Prelude.{String}
+use Rattle.std.proofs.lemmas.{List.length-map, Bool.not-false as root_left, Bool.not-true as not_set}
+use Rattle.std.specs.{Prelude.String, List.filter, List.AllZip, List.Contains, Option.option_map_or}
 use Rattle.std.specs.declared.alloc.Global.{Global}
-use Rattle.std.specs.List.{filter, AllZip, Contains}
-use Rattle.std.specs.Option.{option_map_or}
-use Rattle.std.proofs.lemmas.List.{length-map}
-use Rattle.wit_model.specs.declared.model.InterfaceId.{InterfaceId}
-use Rattle.wit_model.specs.declared.model.Package.{Package}
-use Rattle.wit_model.specs.declared.model.PackageId.{PackageId}
-use Rattle.wit_model.specs.declared.model.Resolve.{Resolve}
-use Rattle.wit_model.specs.declared.model.World.{World}
-use Rattle.wit_model.specs.declared.model.WorldId.{WorldId}
-use Rattle.wit_model.specs.Lookup.{package_at}
-use Rattle.wit_model.specs.Text.{Text, text_of}
-use Rattle.wit_model.specs.Valid.{IsValid}
+use Rattle.wit_model.specs.declared.model.{InterfaceId.InterfaceId, Package.Package, PackageId.PackageId, Resolve.Resolve, World.World, WorldId.WorldId}
+use Rattle.wit_model.specs.{Lookup.package_at, Text.Text, Text.text_of, Valid.IsValid}
 use Rattle.bind_copy.specs.Copies.{number_under}
 use Rattle.bind_match.specs.Matching.{interface_in, is_root_world, own_interface_of, own_world_of, world_in}
 use Rattle.bind_match.specs.declared.matches.Matches.{Matches}
 use Rattle.bind_union.specs.Merged.{interface_names, is_name, world_names, JoinedNames}
-use Rattle.bind_union.proofs.Listed.{under_text}
-use Rattle.bind_union.proofs.Lists.{no_true}
-use Rattle.bind_union.proofs.Namesakes.{under_contains}
-use Rattle.bind_carry.specs.First.{flag_under}
-use Rattle.bind_carry.specs.FirstPass.{IsFirstPass}
-use Rattle.bind_carry.specs.Listed.{given_interface}
-use Rattle.bind_carry.specs.Marked.{AreChosen}
-use Rattle.bind_carry.specs.Numbers.{interface_number, world_number}
-use Rattle.bind_carry.specs.Packaged.{is_copied_interface, is_copied_world, IsInterfaceName, IsWorldName}
-use Rattle.bind_carry.specs.SecondPass.{is_left_out}
+use Rattle.bind_union.proofs.{Listed.under_text, Lists.no_true, Namesakes.under_contains}
+use Rattle.bind_carry.specs.{First.flag_under, FirstPass.IsFirstPass, Marked.AreChosen, Numbers.interface_number, Numbers.world_number, SecondPass.is_left_out}
+use Rattle.bind_carry.specs.{Listed.given_interface, Packaged.is_copied_interface, Packaged.is_copied_world, Packaged.IsInterfaceName, Packaged.IsWorldName}
 use Rattle.bind_carry.specs.declared.plan.Carried.{Carried}
-use Rattle.bind_carry.proofs.CopiesPlaced.{nothing_there, some_same}
-use Rattle.bind_carry.proofs.FirstCarried.{chosen_so}
-use Rattle.bind_carry.proofs.FirstMatched.{matched_under, uncopied_under}
-use Rattle.bind_carry.proofs.JoinedNamed.{names_join, AreNamesReady}
-use Rattle.bind_carry.proofs.NamesBehind.{none_named}
-use Rattle.bind_carry.proofs.NamesListed.{listed_interface, listed_world}
-use Rattle.bind_carry.proofs.Ranges.{is_in_range}
-use Rattle.base_lemmas.proofs.Bools.{left_of as first_true, right_of as second_true}
-use Rattle.base_lemmas.proofs.Elements.{contains-map, get-contains}
+use Rattle.bind_carry.proofs.{CopiesPlaced.nothing_there, CopiesPlaced.some_same, FirstCarried.chosen_so, JoinedNamed.names_join, JoinedNamed.AreNamesReady}
+use Rattle.bind_carry.proofs.{FirstMatched.matched_under, FirstMatched.uncopied_under, NamesListed.listed_interface, NamesListed.listed_world}
+use Rattle.bind_carry.proofs.{NamesBehind.none_named, Ranges.is_in_range, NamesGained.new_world_flag as new_world_at}
+use Rattle.base_lemmas.proofs.{Bools.left_of as first_true, Bools.right_of as second_true, Elements.contains-map, Elements.get-contains}
 use Rattle.base_lemmas.proofs.Lists.{mapped_get as mapped_at}
-use Rattle.std.proofs.lemmas.Bool.{not-false as root_left, not-true as not_set}
-use Rattle.bind_carry.proofs.NamesGained.{new_world_flag as new_world_at}
 
 -- ---- worlds by their flags
 

@@ -1,29 +1,17 @@
 -- Nothing else is added: each type, interface and world behind own ones is a copy of one of the passes.
 use Rattle.std.proofs.Common.{◌≡◌, ◌⊎◌, inl, inr, refl, sym, ap, ◌∙◌, ℕ, zero, suc, ◌+◌, ◌<◌, ◌≤◌, arith, Bool, true, false, List, [], ◌∷◌, length, map}
-use Rattle.std.proofs.lemmas.List.{length-append, length-map}
-use Rattle.wit_model.specs.declared.model.Resolve.{Resolve}
-use Rattle.wit_model.specs.declared.model.TypeDef.{TypeDef}
-use Rattle.wit_model.specs.declared.model.World.{World}
+use Rattle.std.proofs.lemmas.{List.length-append, List.length-map, Bool.cases_lt as in_two, Slice.Zip.AllZip-long as zip_long}
+use Rattle.wit_model.specs.declared.model.{Resolve.Resolve, TypeDef.TypeDef, World.World}
 use Rattle.wit_model.specs.Valid.{IsValid}
 use Rattle.bind_copy.specs.Copies.{number_under, IsInterfaceUnder}
 use Rattle.bind_match.specs.declared.matches.Matches.{Matches}
-use Rattle.bind_union.specs.Carried.{Renumbering}
-use Rattle.bind_union.specs.Merged.{IsCopyUnder}
-use Rattle.bind_carry.specs.Fates.{copied_types, IsCopiedType}
-use Rattle.bind_carry.specs.First.{flag_under}
-use Rattle.bind_carry.specs.FirstPass.{IsFirstPass}
-use Rattle.bind_carry.specs.Numbers.{interface_number, numbers_of, world_number}
-use Rattle.bind_carry.specs.SecondPass.{IsSecondPass}
-use Rattle.bind_carry.specs.Whole.{kept, IsInterfaceCarried, IsWorldCarried}
-use Rattle.bind_carry.specs.declared.fate.Fate.{Fate}
-use Rattle.bind_carry.specs.declared.plan.Carried.{Carried}
-use Rattle.bind_carry.proofs.CopiesPlaced.{copied_from}
-use Rattle.bind_carry.proofs.SecondAgreed.{before_fates, fates, first, second}
-use Rattle.bind_carry.proofs.SecondInterfaces.{carried_number, copied_carries}
-use Rattle.bind_carry.proofs.SecondKnown.{copied_long, long}
+use Rattle.bind_union.specs.{Carried.Renumbering, Merged.IsCopyUnder}
+use Rattle.bind_carry.specs.{Fates.copied_types, Fates.IsCopiedType, First.flag_under, FirstPass.IsFirstPass, SecondPass.IsSecondPass}
+use Rattle.bind_carry.specs.{Numbers.interface_number, Numbers.numbers_of, Numbers.world_number, Whole.kept, Whole.IsInterfaceCarried, Whole.IsWorldCarried}
+use Rattle.bind_carry.specs.declared.{fate.Fate.Fate, plan.Carried.Carried}
+use Rattle.bind_carry.proofs.{CopiesPlaced.copied_from, SecondInterfaces.carried_number, SecondInterfaces.copied_carries}
+use Rattle.bind_carry.proofs.{SecondAgreed.before_fates, SecondAgreed.fates, SecondAgreed.first, SecondAgreed.second, SecondKnown.copied_long, SecondKnown.long}
 use Rattle.base_lemmas.proofs.Numbers.{equal_or_past}
-use Rattle.std.proofs.lemmas.Bool.{cases_lt as in_two}
-use Rattle.std.proofs.lemmas.Slice.Zip.{AllZip-long as zip_long}
 
 -- each number from the first on, as far as those go whose flags are set, is one's
 pub kept_from : {X : Type 0} (start : ℕ) (flags : List Bool) (others : List ℕ) (xs : List X) (n : ℕ) → length flags ≡ length others → start ≤ n → n < start + length (kept flags xs)

@@ -1,26 +1,16 @@
 -- The text that names a package names no other.
 use Rattle.std.proofs.Common.{◌≡◌, refl, sym, ap, ◌∙◌, ℕ, true, false, ◌&&◌, ◌==◌, not, [], ◌∷◌, ◌++◌, Option, Some, None}
-use Rattle.std.specs.Prelude.{codes, is_none}
-use Rattle.std.specs.List.{list_all}
-use Rattle.std.specs.Ordering.{eq_by_cmp}
-use Rattle.std.specs.Cmp.Lexicographic.{texts_ties}
-use Rattle.wit_model.specs.declared.model.Package.{Package}
-use Rattle.wit_model.specs.declared.model.PackageName.{PackageName}
-use Rattle.wit_model.specs.Lookup.{identity_of, optional_version_text}
-use Rattle.wit_model.specs.Names.{at_version, is_identity, is_label, is_optional_version, PackageIdentity}
-use Rattle.wit_model.specs.Rules.{same_package_name}
-use Rattle.wit_model.specs.Text.{Text, text_cmp, text_eq, text_of}
-use Rattle.wit_model.proofs.NameLaws.{label_lacks}
-use Rattle.wit_model.proofs.OnePath.{IsPackageName}
-use Rattle.wit_model.proofs.VersionLaws.{same_name, same_text}
+use Rattle.std.proofs.lemmas.Bool.{and_from as both}
+use Rattle.std.specs.{Prelude.codes, Prelude.is_none, List.list_all, Ordering.eq_by_cmp, Cmp.Lexicographic.texts_ties}
+use Rattle.wit_model.specs.declared.model.{Package.Package, PackageName.PackageName}
+use Rattle.wit_model.specs.{Lookup.identity_of, Lookup.optional_version_text, Text.Text, Text.text_cmp, Text.text_eq, Text.text_of}
+use Rattle.wit_model.specs.{Names.at_version, Names.is_identity, Names.is_label, Names.is_optional_version, Names.PackageIdentity, Rules.same_package_name}
+use Rattle.wit_model.proofs.{NameLaws.label_lacks, OnePath.IsPackageName, VersionLaws.same_name, VersionLaws.same_text, LookupLemmas.versionless}
+use Rattle.wit_model.proofs.TextLemmas.{text_same}
 use Rattle.bind_meaning.specs.Binding.{package_text}
 use Rattle.bind_match.specs.Matching.{is_root_name}
-use Rattle.base_lemmas.proofs.Bools.{both_ways as either_way, left_of as first_true, right_of as second_true}
+use Rattle.base_lemmas.proofs.{Bools.both_ways as either_way, Bools.left_of as first_true, Bools.right_of as second_true, Options.none_is as no_version}
 use Rattle.base_lemmas.proofs.Numbers.{same-number}
-use Rattle.std.proofs.lemmas.Bool.{and_from as both}
-use Rattle.base_lemmas.proofs.Options.{none_is as no_version}
-use Rattle.wit_model.proofs.LookupLemmas.{versionless}
-use Rattle.wit_model.proofs.TextLemmas.{text_same}
 
 -- ---- texts up to a byte that they lack
 

@@ -1,30 +1,19 @@
 -- Each package that is merged is an own one to which nothing comes, or one of the other stands in it.
 use Rattle.std.proofs.Common.{◌≡◌, ◌⊎◌, inl, inr, refl, sym, ap, ◌∙◌, ℕ, zero, suc, ◌+◌, ◌<◌, arith, Bool, true, false, List, [], ◌∷◌, length, map, is_none, Some, slice_get}
+use Rattle.std.proofs.lemmas.{List.length-append, List.length-map, Bool.cases_lt as in_two, Slice.Zip.AllZip-long as zip_long}
 use Rattle.std.specs.List.{AllZip}
-use Rattle.std.proofs.lemmas.List.{length-append, length-map}
-use Rattle.wit_model.specs.declared.model.Package.{Package}
-use Rattle.wit_model.specs.declared.model.Resolve.{Resolve}
+use Rattle.wit_model.specs.declared.model.{Package.Package, Resolve.Resolve}
 use Rattle.wit_model.specs.Lookup.{package_at}
 use Rattle.bind_add.specs.Growth.{GainsNone}
 use Rattle.bind_add.specs.declared.added.Names.{Names}
 use Rattle.bind_copy.specs.Copies.{number_under}
 use Rattle.bind_match.specs.declared.matches.Matches.{Matches}
 use Rattle.bind_union.specs.Merged.{IsKeptPackage, IsPackageOf}
-use Rattle.bind_carry.specs.First.{first_fates}
-use Rattle.bind_carry.specs.FirstPass.{IsFirstPass}
-use Rattle.bind_carry.specs.Numbers.{package_number}
-use Rattle.bind_carry.specs.Packaged.{grown_packages, IsGained, IsPackageCarried}
-use Rattle.bind_carry.specs.Renumbered.{first_of}
-use Rattle.bind_carry.specs.Whole.{kept}
+use Rattle.bind_carry.specs.{First.first_fates, Renumbered.first_of}
+use Rattle.bind_carry.specs.{FirstPass.IsFirstPass, Numbers.package_number, Packaged.grown_packages, Packaged.IsGained, Packaged.IsPackageCarried, Whole.kept}
 use Rattle.bind_carry.specs.declared.plan.Carried.{Carried}
-use Rattle.bind_carry.proofs.CopiesPlaced.{some_same}
-use Rattle.bind_carry.proofs.FirstCarried.{flag_within}
-use Rattle.bind_carry.proofs.FirstPackages.{some_gains}
-use Rattle.bind_carry.proofs.NothingElse.{kept_from}
-use Rattle.base_lemmas.proofs.Elements.{zip_at_right as zip_at}
-use Rattle.base_lemmas.proofs.Lists.{front_at, within_there}
-use Rattle.std.proofs.lemmas.Bool.{cases_lt as in_two}
-use Rattle.std.proofs.lemmas.Slice.Zip.{AllZip-long as zip_long}
+use Rattle.bind_carry.proofs.{CopiesPlaced.some_same, FirstCarried.flag_within, FirstPackages.some_gains, NothingElse.kept_from}
+use Rattle.base_lemmas.proofs.{Elements.zip_at_right as zip_at, Lists.front_at, Lists.within_there}
 
 -- what a gain is of is a package of the other, under its number
 grown_member : (flags : List Bool) (ns : List ℕ) (ps : List Package) (i : ℕ) (e : ℕ × Package) → slice_get (grown_packages flags ns ps) i ≡ Some e → (k : ℕ) × (slice_get ps k ≡ Some e.1)

@@ -1,27 +1,13 @@
 -- Each package of the other stands in one of what is merged: in a new one with all its names, or in the own one of its name, behind the names that were there.
 use Rattle.std.proofs.Common.{◌≡◌, refl, sym, ap, subst, ◌∙◌, ℕ, zero, suc, ◌+◌, ◌≤◌, arith, Bool, true, false, cond, List, [], ◌∷◌, ◌++◌, length, map, Option, Some, None, is_none, option_map, option_and_then, slice_get, unwrap_or}
-use Rattle.std.specs.Prelude.{String}
-use Rattle.std.specs.HashMap.{get_by_text}
-use Rattle.std.specs.declared.alloc.Global.{Global}
-use Rattle.std.specs.List.{filter, AllZip, Contains}
-use Rattle.std.specs.Option.{option_map_or}
-use Rattle.std.specs.String.{string_eq}
 use Rattle.std.proofs.lemmas.List.{length-map, map-append}
+use Rattle.std.specs.{Prelude.String, HashMap.get_by_text, List.filter, List.AllZip, List.Contains, Option.option_map_or, String.string_eq}
+use Rattle.std.specs.declared.alloc.Global.{Global}
 use Rattle.indexmap.specs.IndexMap.{IsUnique}
-use Rattle.wit_model.specs.declared.model.InterfaceId.{InterfaceId}
-use Rattle.wit_model.specs.declared.model.Package.{Package}
-use Rattle.wit_model.specs.declared.model.PackageId.{PackageId}
-use Rattle.wit_model.specs.declared.model.PackageName.{PackageName}
-use Rattle.wit_model.specs.declared.model.Resolve.{Resolve}
-use Rattle.wit_model.specs.declared.model.World.{World}
+use Rattle.wit_model.specs.declared.model.{InterfaceId.InterfaceId, Package.Package, PackageId.PackageId, PackageName.PackageName, Resolve.Resolve, World.World}
 use Rattle.wit_model.specs.declared.model.WorldId.{WorldId}
-use Rattle.wit_model.specs.Lookup.{identity_of, package_at}
-use Rattle.wit_model.specs.Names.{path_in}
-use Rattle.wit_model.specs.Rules.{same_package_name}
-use Rattle.wit_model.specs.Text.{Text, text_of}
-use Rattle.wit_model.specs.Valid.{IsValid}
-use Rattle.wit_model.proofs.OnePath.{package-name}
-use Rattle.wit_model.proofs.VersionLaws.{same_name}
+use Rattle.wit_model.specs.{Lookup.identity_of, Lookup.package_at, Names.path_in, Rules.same_package_name, Text.Text, Text.text_of, Valid.IsValid}
+use Rattle.wit_model.proofs.{OnePath.package-name, VersionLaws.same_name}
 use Rattle.bind_add.specs.declared.added.Names.{Names}
 use Rattle.bind_add.specs.Growth.{HasGained}
 use Rattle.bind_copy.specs.Copies.{number_under}
@@ -29,25 +15,15 @@ use Rattle.bind_match.specs.Matching.{given, interface_in, is_root_world, own_in
 use Rattle.bind_match.specs.declared.matches.Matches.{Matches}
 use Rattle.bind_union.specs.Carried.{Renumbering}
 use Rattle.bind_union.specs.Merged.{brought, grown, interface_names, is_name, world_names, IsJoinedPackage, PackageStands}
-use Rattle.bind_union.proofs.Listed.{under_text}
-use Rattle.bind_union.proofs.Lists.{no_true}
-use Rattle.bind_union.proofs.PackageNames.{interfaces_by_name, worlds_by_name}
-use Rattle.bind_carry.specs.First.{first_fates, flag_under}
-use Rattle.bind_carry.specs.FirstPass.{IsFirstPass}
-use Rattle.bind_carry.specs.MergedUnion.{NoOwnInterfaceAtPath, NoOwnWorldAtPath}
-use Rattle.bind_carry.specs.Numbers.{package_number}
+use Rattle.bind_union.proofs.{Listed.under_text, Lists.no_true, PackageNames.interfaces_by_name, PackageNames.worlds_by_name}
+use Rattle.bind_carry.specs.{First.first_fates, First.flag_under, MergedUnion.NoOwnInterfaceAtPath, MergedUnion.NoOwnWorldAtPath, Numbers.package_number}
+use Rattle.bind_carry.specs.{FirstPass.IsFirstPass, Renumbered.first_of, SecondPass.is_left_out}
 use Rattle.bind_carry.specs.Packaged.{grown_packages, is_copied_interface, is_copied_world, IsGained, IsInterfaceName, IsPackageCarried, IsWorldName}
-use Rattle.bind_carry.specs.Renumbered.{first_of}
-use Rattle.bind_carry.specs.SecondPass.{is_left_out}
 use Rattle.bind_carry.specs.declared.plan.Carried.{Carried}
-use Rattle.bind_carry.proofs.CopiesPlaced.{nothing_there, some_same}
-use Rattle.bind_carry.proofs.FirstCopies.{copied_behind}
-use Rattle.bind_carry.proofs.FirstMatched.{uncopied_under}
-use Rattle.bind_carry.proofs.FirstPackages.{found_number, found_own, new_package, IsFound}
-use Rattle.bind_carry.proofs.KeptPlaced.{IsKeptAt}
-use Rattle.bind_carry.proofs.NamesBehind.{name_entry, names_behind}
-use Rattle.bind_carry.proofs.NamesListed.{listed_interface, listed_world}
-use Rattle.bind_carry.proofs.NamesReady.{interfaces_join, interfaces_ready, worlds_join, worlds_ready}
+use Rattle.bind_carry.proofs.{CopiesPlaced.nothing_there, CopiesPlaced.some_same, NamesListed.listed_interface, NamesListed.listed_world}
+use Rattle.bind_carry.proofs.{FirstCopies.copied_behind, FirstPackages.found_number, FirstPackages.found_own, FirstPackages.new_package, FirstPackages.IsFound}
+use Rattle.bind_carry.proofs.{FirstMatched.uncopied_under, NamesBehind.name_entry, NamesBehind.names_behind}
+use Rattle.bind_carry.proofs.{KeptPlaced.IsKeptAt, NamesReady.interfaces_join, NamesReady.interfaces_ready, NamesReady.worlds_join, NamesReady.worlds_ready}
 use Rattle.base_lemmas.proofs.Lists.{front_at, mapped_get as mapped_at}
 
 -- ---- packages by name

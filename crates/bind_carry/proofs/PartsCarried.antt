@@ -1,44 +1,25 @@
 -- With its owner, all that a type or a function refers to is carried: by the rule on owners, from the smaller numbers on.
 use Rattle.std.proofs.Common.{◌≡◌, refl, sym, ap, ◌∙◌, ℕ, zero, suc, ◌<◌, arith, Bool, true, false, ◌&&◌, ◌||◌, not, nat_lt, ltb-true, List, [], ◌∷◌, ◌++◌, flat_map, Option, Some, None, option_to_list, is_some, length}
-use Rattle.std.specs.Prelude.{String}
+use Rattle.std.proofs.lemmas.{Bool.lt-ltb, Bool.and_from as both, List.Folds.list_all-append, List.Folds.list_all-map, Option.slice_get_within}
+use Rattle.std.specs.{Prelude.String, List.list_all, Option.option_map_or}
 use Rattle.std.specs.declared.alloc.Global.{Global}
-use Rattle.std.specs.List.{list_all}
-use Rattle.std.specs.Option.{option_map_or}
-use Rattle.std.proofs.lemmas.Bool.{lt-ltb, and_from as both}
-use Rattle.std.proofs.lemmas.List.Folds.{list_all-append, list_all-map}
-use Rattle.std.proofs.lemmas.Option.{slice_get_within}
 use Rattle.indexmap.specs.IndexMap.{values}
-use Rattle.wit_model.specs.declared.model.Function.{Function}
-use Rattle.wit_model.specs.declared.model.Interface.{Interface}
-use Rattle.wit_model.specs.declared.model.Resolve.{Resolve}
-use Rattle.wit_model.specs.declared.model.TypeDef.{TypeDef}
-use Rattle.wit_model.specs.declared.model.TypeDefKind.TheVariants as kind
-use Rattle.wit_model.specs.declared.model.TypeOwner.{TypeOwner}
-use Rattle.wit_model.specs.declared.model.TypeOwner.TheVariants as owner
-use Rattle.wit_model.specs.declared.model.World.{World}
-use Rattle.wit_model.specs.declared.model.WorldItem.{WorldItem}
-use Rattle.wit_model.specs.declared.model.WorldItem.TheVariants as item
-use Rattle.wit_model.specs.declared.model.WorldKey.{WorldKey}
-use Rattle.wit_model.specs.Lookup.{interface_at, type_at, world_at}
+use Rattle.wit_model.specs.declared.model.{Function.Function, Interface.Interface, Resolve.Resolve, TypeOwner.TypeOwner, WorldItem.WorldItem, WorldKey.WorldKey}
+use Rattle.wit_model.specs.declared.model.{TypeDef.TypeDef, World.World}
+use Rattle.wit_model.specs.{Lookup.interface_at, Lookup.type_at, Lookup.world_at, Uses.alias_target, Uses.direct_deps, Uses.owner_interface, Checks.references}
 use Rattle.wit_model.specs.Parts.{function_numbers, kind_numbers, met_by, met_of, same_owner, has_owner, used_by_type}
 use Rattle.wit_model.specs.Text.{text_eq, text_of}
-use Rattle.wit_model.specs.Uses.{alias_target, direct_deps, owner_interface}
 use Rattle.wit_model.specs.Rules.{entries_in_range, function_in_range, function_stays, in_list, is_listed, is_member, is_named_kind, is_named_number, is_name_key, is_use, item_in_range, key_in_range, owner_in_range, package_number, passes}
-use Rattle.wit_model.specs.Checks.{references}
 use Rattle.wit_model.specs.Valid.{IsValid, Keeps, as_interface, as_world, function_names, functions_of_interface, functions_of_world, is_place, item_function, named_kinds, numbers_in_range, order_of_types, owners}
 use Rattle.wit_model.proofs.Checks.{below_at}
-use Rattle.wit_model.proofs.Functions.{all_flat}
-use Rattle.wit_model.proofs.Owners.{function_home, named_met, owned_stays, unnamed_met}
-use Rattle.wit_model.proofs.OnePath.{found-in, interface-passes}
-use Rattle.bind_union.proofs.Carrying.{references_of}
-use Rattle.bind_union.proofs.Lists.{no_true}
-use Rattle.bind_union.proofs.WorldRules.{by_entries}
+use Rattle.wit_model.proofs.{Functions.all_flat, OnePath.found-in, OnePath.interface-passes, PartsLemmas.owner_same as owner_equal, UsesLemmas.alias_numbers}
+use Rattle.wit_model.proofs.{Owners.function_home, Owners.named_met, Owners.owned_stays, Owners.unnamed_met, ValidLemmas.type_passes, ValidLemmas.world_passes}
+use Rattle.bind_union.proofs.{Carrying.references_of, Lists.no_true, WorldRules.by_entries}
 use Rattle.bind_carry.specs.CarriedParts.{AreCarriedByOwner, PartsAreCarried, is_function_carried}
-use Rattle.base_lemmas.proofs.Bools.{left_of as first_true, right_of as second_true}
-use Rattle.base_lemmas.proofs.Elements.{all_three, all_two, all_weaker}
-use Rattle.wit_model.proofs.PartsLemmas.{owner_same as owner_equal}
-use Rattle.wit_model.proofs.UsesLemmas.{alias_numbers}
-use Rattle.wit_model.proofs.ValidLemmas.{type_passes, world_passes}
+use Rattle.base_lemmas.proofs.{Bools.left_of as first_true, Bools.right_of as second_true, Elements.all_three, Elements.all_two, Elements.all_weaker}
+use Rattle.wit_model.specs.declared.model.TypeDefKind.TheVariants as kind
+use Rattle.wit_model.specs.declared.model.TypeOwner.TheVariants as owner
+use Rattle.wit_model.specs.declared.model.WorldItem.TheVariants as item
 
 -- ---- lists
 

@@ -1,30 +1,19 @@
 -- Types that a pass copies: each stands under its new number, and all its parts are carried. Both passes are so.
 use Rattle.std.proofs.Common.{◌≡◌, inl, refl, sym, ap, ◌∙◌, ℕ, zero, suc, ◌<◌, arith, Bool, true, false, ◌&&◌, nat_lt, List, [], ◌∷◌, ◌++◌, length, Some, is_some, slice_get}
-use Rattle.std.specs.List.{list_all}
-use Rattle.std.specs.Option.{option_map_or}
-use Rattle.wit_model.specs.declared.model.Resolve.{Resolve}
-use Rattle.wit_model.specs.declared.model.TypeDef.{TypeDef}
-use Rattle.wit_model.specs.Lookup.{type_at}
-use Rattle.wit_model.specs.Parts.{kind_numbers}
-use Rattle.wit_model.specs.Valid.{IsValid}
+use Rattle.std.specs.{List.list_all, Option.option_map_or}
+use Rattle.wit_model.specs.declared.model.{Resolve.Resolve, TypeDef.TypeDef}
+use Rattle.wit_model.specs.{Lookup.type_at, Parts.kind_numbers, Valid.IsValid}
 use Rattle.bind_copy.specs.Copies.{number_under}
-use Rattle.bind_union.specs.Carried.{carries_owner, copies_owner, owner_under, IsType, Renumbering}
-use Rattle.bind_union.specs.Images.{HasImageKind}
+use Rattle.bind_union.specs.{Carried.carries_owner, Carried.copies_owner, Carried.owner_under, Carried.IsType, Carried.Renumbering, Images.HasImageKind}
 use Rattle.bind_union.specs.Views.{kind_view, renamed, view_numbers}
-use Rattle.bind_union.proofs.Carrying.{references_of, refers_below}
-use Rattle.bind_union.proofs.Images.{numbers_of_view}
-use Rattle.bind_union.proofs.Lists.{no_true}
-use Rattle.bind_carry.specs.CarriedParts.{AreCarriedByOwner, PartsOfOwners}
+use Rattle.bind_union.proofs.{Carrying.references_of, Carrying.refers_below, Images.numbers_of_view, Lists.no_true}
+use Rattle.bind_carry.specs.{CarriedParts.AreCarriedByOwner, CarriedParts.PartsOfOwners, Initial.IsInitial, Renumbered.is_copied}
 use Rattle.bind_carry.specs.Fates.{are_carried, carries, copies, is_carried, settled, settled_from, AreCopied, FallBelow}
-use Rattle.bind_carry.specs.Initial.{IsInitial}
-use Rattle.bind_carry.specs.Renumbered.{is_copied}
 use Rattle.bind_carry.specs.declared.fate.Fate.{Fate}
-use Rattle.bind_carry.specs.declared.fate.Fate.TheVariants as fate
-use Rattle.bind_carry.proofs.CopiesPlaced.{copy_placed, IsPlaced}
-use Rattle.bind_carry.proofs.FirstTypes.{copied_carried}
-use Rattle.bind_carry.proofs.PartsCarried.{no_home, parts_are_carried}
+use Rattle.bind_carry.proofs.{CopiesPlaced.copy_placed, CopiesPlaced.IsPlaced, FirstTypes.copied_carried, PartsCarried.no_home, PartsCarried.parts_are_carried}
 use Rattle.bind_carry.proofs.SettledParts.{copied_still, settled_all, stands_still, unnamed_carried, unnamed_parts}
 use Rattle.base_lemmas.proofs.Options.{nameless as some_none, none_some}
+use Rattle.bind_carry.specs.declared.fate.Fate.TheVariants as fate
 
 pub fate_there : (fs : List Fate) (n : ℕ) → n < length fs → (g : Fate) × (slice_get fs n ≡ Some g)
 fate_there [] n l = absurd (omega (arith, l))

@@ -1,35 +1,19 @@
 -- What a union adds, once what is moved is in its places.
 use Rattle.std.proofs.Common.{◌≡◌, refl, sym, ap, subst, ◌∙◌, ℕ, ◌+◌, ◌≤◌, ◌<◌, true, arith, nat_lt, List, [], ◌∷◌, ◌++◌, length, drop, slice_get, Some}
-use Rattle.std.specs.List.{AllZip}
-use Rattle.std.specs.Vec.{with_items}
-use Rattle.std.proofs.lemmas.List.{with_items_is}
-use Rattle.wit_model.specs.declared.model.Interface.{Interface}
-use Rattle.wit_model.specs.declared.model.Resolve.{Resolve}
-use Rattle.wit_model.specs.declared.model.TypeDef.{TypeDef}
-use Rattle.wit_model.specs.declared.model.World.{World}
+use Rattle.std.proofs.lemmas.{List.with_items_is, Bool.lt-ltb, Bool.ltb-true}
+use Rattle.std.specs.{List.AllZip, Vec.with_items}
+use Rattle.wit_model.specs.declared.model.{Interface.Interface, Resolve.Resolve, TypeDef.TypeDef, World.World}
 use Rattle.bind_add.specs.declared.added.Added.{Added}
 use Rattle.bind_match.specs.declared.matches.Matches.{Matches}
 use Rattle.bind_copy.specs.Copies.{all_below}
 use Rattle.bind_union.specs.Views.{kind_view, view_numbers}
-use Rattle.bind_carry.specs.Bound.{bound_interfaces}
-use Rattle.bind_carry.specs.BoundGains.{bound_fates}
-use Rattle.bind_carry.specs.Fates.{copied_types, numbers_by, AreCopied, IsCopiedType}
-use Rattle.bind_carry.specs.First.{first_fates}
-use Rattle.bind_carry.specs.InRange.{IsInRange}
-use Rattle.bind_carry.specs.Moved.{AreMoved, IsInterfaceBelow}
-use Rattle.bind_carry.specs.Numbers.{copied_count}
-use Rattle.bind_carry.specs.Planned.{IsPlanned}
-use Rattle.bind_carry.specs.TooLong.{copies_of}
-use Rattle.bind_carry.specs.Union.{IsUnionOf}
-use Rattle.bind_carry.specs.Which.{AreMatchedAll}
-use Rattle.bind_carry.specs.Whole.{kept, IsInterfaceCarried}
+use Rattle.bind_carry.specs.{Bound.bound_interfaces, BoundGains.bound_fates, Numbers.copied_count, Which.AreMatchedAll, Whole.kept, Whole.IsInterfaceCarried}
+use Rattle.bind_carry.specs.{Fates.copied_types, Fates.numbers_by, Fates.AreCopied, Fates.IsCopiedType, Moved.AreMoved, Moved.IsInterfaceBelow, Union.IsUnionOf}
+use Rattle.bind_carry.specs.{First.first_fates, InRange.IsInRange, Planned.IsPlanned, TooLong.copies_of}
 use Rattle.bind_carry.specs.declared.plan.Planned.{Planned}
-use Rattle.std.proofs.lemmas.Bool.{lt-ltb, ltb-true}
 use Rattle.base_lemmas.proofs.Elements.{all_weaker, zip_long}
-use Rattle.bind_carry.proofs.CopiesPlaced.{numbers_by_long}
-use Rattle.bind_carry.proofs.Counting.{carried_all, length_both, types_counted}
-use Rattle.bind_carry.proofs.PassedTypes.{type_within}
-use Rattle.bind_carry.proofs.Ready.{carried_ready, fates_long}
+use Rattle.bind_carry.proofs.{CopiesPlaced.numbers_by_long, PassedTypes.type_within}
+use Rattle.bind_carry.proofs.{Counting.carried_all, Counting.length_both, Counting.types_counted, Ready.carried_ready, Ready.fates_long}
 
 -- what stands behind the front of a list
 behind_front : {X : Type 0} (xs ys : List X) (n : ℕ) → n ≡ length xs → drop n (xs ++ ys) ≡ ys

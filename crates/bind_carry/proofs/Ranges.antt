@@ -1,48 +1,26 @@
 -- A valid `Resolve` is in range.
 use Rattle.std.proofs.Common.{◌≡◌, refl, sym, ap, ◌∙◌, ℕ, ◌≤◌, Bool, true, false, ◌&&◌, nat_lt, ltb-true, List, [], ◌∷◌, ◌++◌, length, map, filter_map, Option, Some, None, option_to_list, slice_get}
-use Rattle.std.specs.Prelude.{String}
+use Rattle.std.proofs.lemmas.{List.Folds.list_all-append, List.Folds.list_all-map, Bool.lt-ltb, Bool.ltb-false}
+use Rattle.std.specs.{Prelude.String, List.list_all, Option.option_map_or}
 use Rattle.std.specs.declared.alloc.Global.{Global}
-use Rattle.std.specs.List.{list_all}
-use Rattle.std.proofs.lemmas.List.Folds.{list_all-append, list_all-map}
-use Rattle.std.proofs.lemmas.Bool.{lt-ltb, ltb-false}
 use Rattle.indexmap.specs.IndexMap.{values}
-use Rattle.wit_model.specs.declared.model.Function.{Function}
-use Rattle.wit_model.specs.declared.model.FunctionKind.{FunctionKind}
-use Rattle.wit_model.specs.declared.model.FunctionKind.TheVariants as call
-use Rattle.wit_model.specs.declared.model.Interface.{Interface}
-use Rattle.wit_model.specs.declared.model.Package.{Package}
-use Rattle.wit_model.specs.declared.model.PackageId.{PackageId}
-use Rattle.wit_model.specs.declared.model.Param.{Param}
-use Rattle.wit_model.specs.declared.model.Resolve.{Resolve}
-use Rattle.wit_model.specs.declared.model.TypeDef.{TypeDef}
-use Rattle.wit_model.specs.declared.model.TypeOwner.{TypeOwner}
-use Rattle.wit_model.specs.declared.model.TypeOwner.TheVariants as owner
-use Rattle.wit_model.specs.declared.model.«Type».{«Type» as ValueType}
-use Rattle.wit_model.specs.declared.model.World.{World}
-use Rattle.wit_model.specs.declared.model.WorldItem.{WorldItem}
-use Rattle.wit_model.specs.declared.model.WorldItem.TheVariants as item
-use Rattle.wit_model.specs.declared.model.WorldKey.{WorldKey}
-use Rattle.wit_model.specs.declared.model.WorldKey.TheVariants as key
-use Rattle.wit_model.specs.Lookup.{interface_at, package_at, resource_of, type_at, world_at}
-use Rattle.wit_model.specs.Parts.{function_types, kind_numbers}
+use Rattle.wit_model.specs.declared.model.{Function.Function, Package.Package, Resolve.Resolve, TypeDef.TypeDef, WorldItem.WorldItem, WorldKey.WorldKey}
+use Rattle.wit_model.specs.declared.model.{FunctionKind.FunctionKind, Interface.Interface, PackageId.PackageId, TypeOwner.TypeOwner, «Type».«Type» as ValueType}
+use Rattle.wit_model.specs.declared.model.{Param.Param, World.World}
+use Rattle.wit_model.specs.{Lookup.interface_at, Lookup.package_at, Lookup.resource_of, Lookup.type_at, Lookup.world_at, Types.number_of}
+use Rattle.wit_model.specs.{Parts.function_types, Parts.kind_numbers, Valid.is_place, Valid.numbers_in_range, Valid.IsValid, Valid.Keeps}
 use Rattle.wit_model.specs.Rules.{entries_in_range, function_in_range, in_list, item_in_range, key_in_range, owner_in_range, package_number, passes}
-use Rattle.wit_model.specs.Types.{number_of}
-use Rattle.wit_model.specs.Valid.{is_place, numbers_in_range, IsValid, Keeps}
-use Rattle.wit_model.proofs.Entries.{lists_pass}
-use Rattle.wit_model.proofs.OnePath.{interface-passes, package-passes}
+use Rattle.wit_model.proofs.{Entries.lists_pass, OnePath.interface-passes, OnePath.package-passes, RulesLemmas.each_at}
 use Rattle.bind_copy.specs.Copies.{all_below, are_names_below, are_params_below, call_numbers, key_numbers, AreEntriesBelow, AreFunctionsBelow, IsFunctionBelow, IsItemBelow}
 use Rattle.bind_union.specs.Views.{type_numbers}
-use Rattle.bind_union.proofs.Carrying.{references_of, refers_below}
-use Rattle.bind_union.proofs.Images.{given_numbers, numbers_cons, numbers_of_view}
-use Rattle.bind_carry.specs.Fates.{FallBelow}
-use Rattle.bind_carry.specs.InRange.{IsInRange}
-use Rattle.bind_carry.specs.Listed.{are_interfaces_below, are_worlds_below, IsHomeBelow, IsOwnerBelow}
-use Rattle.bind_carry.specs.BoundGains.{are_types_below}
-use Rattle.bind_carry.specs.Shown.{are_keys_below, type_in, AreNewShownBelow, AreShownBelow, IsShownBelow}
-use Rattle.std.specs.Option.{option_map_or}
-use Rattle.base_lemmas.proofs.Bools.{left_of as first_true, right_of as second_true}
-use Rattle.base_lemmas.proofs.Lists.{within_there as there}
-use Rattle.wit_model.proofs.RulesLemmas.{each_at}
+use Rattle.bind_union.proofs.{Carrying.references_of, Carrying.refers_below, Images.given_numbers, Images.numbers_cons, Images.numbers_of_view}
+use Rattle.bind_carry.specs.{Fates.FallBelow, InRange.IsInRange, Listed.are_interfaces_below, Listed.are_worlds_below, Listed.IsHomeBelow, Listed.IsOwnerBelow}
+use Rattle.bind_carry.specs.{BoundGains.are_types_below, Shown.are_keys_below, Shown.type_in, Shown.AreNewShownBelow, Shown.AreShownBelow, Shown.IsShownBelow}
+use Rattle.base_lemmas.proofs.{Bools.left_of as first_true, Bools.right_of as second_true, Lists.within_there as there}
+use Rattle.wit_model.specs.declared.model.FunctionKind.TheVariants as call
+use Rattle.wit_model.specs.declared.model.TypeOwner.TheVariants as owner
+use Rattle.wit_model.specs.declared.model.WorldItem.TheVariants as item
+use Rattle.wit_model.specs.declared.model.WorldKey.TheVariants as key
 
 -- ---- functions
 

@@ -1,59 +1,29 @@
 -- What is carried of types into what the bound world gains: each has its image under its new number.
 use Rattle.std.proofs.Common.{◌≡◌, inl, inr, refl, sym, ap, subst, ◌∙◌, ℕ, zero, suc, ◌+◌, ◌<◌, arith, Bool, true, false, List, [], ◌∷◌, ◌++◌, append-nil, length, Option, Some, None, is_some, option_and_then, slice_get, if◌then◌else◌}
-use Rattle.std.specs.Prelude.{String}
+use Rattle.std.specs.{Prelude.String, List.Contains, Map.lookup, Option.option_map_or}
 use Rattle.std.specs.declared.alloc.Global.{Global}
-use Rattle.std.specs.List.{Contains}
-use Rattle.std.specs.Map.{lookup}
-use Rattle.std.specs.Option.{option_map_or}
-use Rattle.wit_model.specs.declared.model.Interface.{Interface}
-use Rattle.wit_model.specs.declared.model.InterfaceId.{InterfaceId}
-use Rattle.wit_model.specs.declared.model.Resolve.{Resolve}
+use Rattle.wit_model.specs.declared.model.{Interface.Interface, InterfaceId.InterfaceId, Resolve.Resolve, World.World, WorldItem.WorldItem, WorldKey.WorldKey}
 use Rattle.wit_model.specs.declared.model.TypeDef.{TypeDef}
-use Rattle.wit_model.specs.declared.model.TypeOwner.TheVariants as owner
-use Rattle.wit_model.specs.declared.model.World.{World}
-use Rattle.wit_model.specs.declared.model.WorldItem.{WorldItem}
-use Rattle.wit_model.specs.declared.model.WorldKey.{WorldKey}
-use Rattle.wit_model.specs.Lookup.{interface_at, interface_path, key_text, type_at}
-use Rattle.wit_model.specs.Rules.{item_type, passes}
-use Rattle.wit_model.specs.Text.{Text, optional_text}
-use Rattle.wit_model.specs.Uses.{alias_target}
-use Rattle.wit_model.specs.Valid.{IsValid, as_interface, as_world, key_eq}
+use Rattle.wit_model.specs.{Lookup.interface_at, Lookup.interface_path, Lookup.key_text, Lookup.type_at, Rules.item_type, Rules.passes, Uses.alias_target}
+use Rattle.wit_model.specs.{Text.Text, Text.optional_text, Valid.IsValid, Valid.as_interface, Valid.as_world, Valid.key_eq}
 use Rattle.bind_copy.specs.Copies.{number_under}
 use Rattle.bind_match.specs.declared.matches.Matches.{Matches}
-use Rattle.bind_union.specs.Carried.{carries_owner, owner_under, IsCarried, IsType, Renumbering}
-use Rattle.bind_union.specs.Joined.{ItemStandsFor}
-use Rattle.bind_union.specs.Matching.{type_names, AreMatched, AreWorldNamesakes, IsMatch, WorldsAgree}
-use Rattle.bind_union.specs.Merged.{BeginsWith}
-use Rattle.bind_union.proofs.Itself.{get_begin}
-use Rattle.bind_union.proofs.Lists.{no_true}
-use Rattle.bind_union.proofs.Namesakes.{listed_type, target_named, IsTarget}
+use Rattle.bind_union.specs.{Carried.carries_owner, Carried.owner_under, Carried.IsCarried, Carried.IsType, Carried.Renumbering, Merged.BeginsWith}
+use Rattle.bind_union.specs.{Joined.ItemStandsFor, Matching.type_names, Matching.AreMatched, Matching.AreWorldNamesakes, Matching.IsMatch, Matching.WorldsAgree}
+use Rattle.bind_union.proofs.{Itself.get_begin, Lists.no_true, Namesakes.listed_type, Namesakes.target_named, Namesakes.IsTarget}
 use Rattle.bind_union.proofs.WorldNamesakes.{met_imports_stand, target_home, world_type, IsWorldType}
-use Rattle.bind_carry.specs.BoundGains.{gains_any, unified}
-use Rattle.bind_carry.specs.Fates.{copies, is_carried, settled_from}
+use Rattle.bind_carry.specs.{BoundGains.gains_any, BoundGains.unified, FirstPass.IsFirstPass, SecondPass.IsSecondPass}
+use Rattle.bind_carry.specs.{Fates.copies, Fates.is_carried, Fates.settled_from, Renumbered.first_of, Renumbered.is_copied, Renumbered.second_of, Shown.type_in}
 use Rattle.bind_carry.specs.First.{beside_first, first_fates, flag_under, is_named_at, second_from, second_in}
-use Rattle.bind_carry.specs.FirstPass.{IsFirstPass}
-use Rattle.bind_carry.specs.Renumbered.{first_of, is_copied, second_of}
-use Rattle.bind_carry.specs.SecondPass.{IsSecondPass}
-use Rattle.bind_carry.specs.Shown.{type_in}
-use Rattle.bind_carry.specs.declared.fate.Fate.{Fate}
-use Rattle.bind_carry.specs.declared.fate.Fate.TheVariants as fate
-use Rattle.bind_carry.specs.declared.plan.Carried.{Carried}
-use Rattle.bind_carry.proofs.CopiesPlaced.{some_same}
-use Rattle.bind_carry.proofs.FirstCarried.{first_is_carried}
-use Rattle.bind_carry.proofs.FirstMatched.{are_matched, named_of_path, there_of_path}
-use Rattle.bind_carry.proofs.PassedTypes.{carried_if, copy_holds}
-use Rattle.bind_carry.proofs.Ready.{bound_long}
-use Rattle.bind_carry.proofs.SecondInitial.{before_at, IsBefore}
-use Rattle.bind_carry.proofs.SecondInline.{inline_agree}
-use Rattle.bind_carry.proofs.SecondKnown.{chosen, first_carried, long, same_label, type_number}
-use Rattle.bind_carry.proofs.SecondKnown.{long_fates as fates_count, long_numbers as numbers_are_many}
-use Rattle.bind_carry.proofs.SecondMet.{types_agree}
+use Rattle.bind_carry.specs.declared.{fate.Fate.Fate, plan.Carried.Carried}
+use Rattle.bind_carry.proofs.{CopiesPlaced.some_same, Ready.bound_long, SecondInline.inline_agree, SecondMet.types_agree, SettledParts.copied_still}
+use Rattle.bind_carry.proofs.{FirstCarried.first_is_carried, PassedTypes.carried_if, PassedTypes.copy_holds, SecondTypes.unified_at, SecondTypes.IsUnified}
+use Rattle.bind_carry.proofs.{FirstMatched.are_matched, FirstMatched.named_of_path, FirstMatched.there_of_path, SecondInitial.before_at, SecondInitial.IsBefore}
+use Rattle.bind_carry.proofs.SecondKnown.{chosen, first_carried, long, same_label, type_number, long_fates as fates_count, long_numbers as numbers_are_many}
 use Rattle.bind_carry.proofs.SecondStands.{falls, known, named_carried_there, path_stands, second_named, second_same, starts, stood_how, StandsByPath}
-use Rattle.bind_carry.proofs.SecondTypes.{unified_at, IsUnified}
-use Rattle.bind_carry.proofs.SettledParts.{copied_still}
-use Rattle.base_lemmas.proofs.Elements.{get-contains, lookup_stands}
-use Rattle.base_lemmas.proofs.Lists.{within_there}
-use Rattle.base_lemmas.proofs.Numbers.{same-number}
+use Rattle.base_lemmas.proofs.{Elements.get-contains, Elements.lookup_stands, Lists.within_there, Numbers.same-number}
+use Rattle.wit_model.specs.declared.model.TypeOwner.TheVariants as owner
+use Rattle.bind_carry.specs.declared.fate.Fate.TheVariants as fate
 
 named_text : (o : Option (String Global)) (t : Text) → optional_text o ≡ Some t → is_some o ≡ true
 named_text None t h = let wrong : ⊥ = cc in absurd wrong

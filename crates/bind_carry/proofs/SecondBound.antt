@@ -1,17 +1,13 @@
 -- The bound world stands as it was, with what it gains behind what it had.
 use Rattle.std.proofs.Common.{◌≡◌, refl, ◌∙◌, ℕ, Bool, List, ◌++◌}
-use Rattle.std.specs.List.{filter}
 use Rattle.std.proofs.lemmas.Map.Made.{IsDistinct-keys_filter}
-use Rattle.wit_model.specs.declared.model.Resolve.{Resolve}
-use Rattle.wit_model.specs.declared.model.World.{World}
-use Rattle.wit_model.specs.declared.model.WorldItem.{WorldItem}
-use Rattle.wit_model.specs.declared.model.WorldKey.{WorldKey}
+use Rattle.std.specs.List.{filter}
+use Rattle.wit_model.specs.declared.model.{Resolve.Resolve, World.World, WorldItem.WorldItem, WorldKey.WorldKey}
 use Rattle.wit_model.specs.Valid.{IsValid}
 use Rattle.bind_copy.specs.Copies.{become_one, is_new_under}
 use Rattle.bind_match.specs.declared.matches.Matches.{Matches}
 use Rattle.bind_union.specs.Joined.{IsJoined}
-use Rattle.bind_carry.specs.FirstPass.{IsFirstPass}
-use Rattle.bind_carry.specs.SecondPass.{second_pass_of, IsSecondPass}
+use Rattle.bind_carry.specs.{FirstPass.IsFirstPass, SecondPass.second_pass_of, SecondPass.IsSecondPass}
 use Rattle.bind_carry.specs.declared.plan.Carried.{Carried}
 use Rattle.bind_carry.proofs.InsertedBehind.{all_behind, filter_passes}
 use Rattle.bind_carry.proofs.SecondJoined.{exports_apart, exports_join, imports_apart, imports_join}

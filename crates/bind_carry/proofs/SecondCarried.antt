@@ -1,45 +1,22 @@
 -- What the bound world gains is carried and copied as the laws on unions ask for it.
 use Rattle.std.proofs.Common.{◌≡◌, ◌⊎◌, inl, inr, refl, sym, ap, subst, ◌∙◌, ℕ, ◌+◌, ◌<◌, ◌≤◌, arith, Bool, true, false, ◌&&◌, ◌||◌, ◌==◌, List, [], ◌∷◌, ◌++◌, append-nil, length, map, filter_map, Some, None, is_some}
-use Rattle.std.proofs.lemmas.Bool.{or_left, or_right}
-use Rattle.std.proofs.lemmas.List.{length-append, length-map}
-use Rattle.std.proofs.lemmas.Option.{slice_get_within}
-use Rattle.wit_model.specs.declared.model.Interface.{Interface}
-use Rattle.wit_model.specs.declared.model.Resolve.{Resolve}
-use Rattle.wit_model.specs.declared.model.TypeDef.{TypeDef}
-use Rattle.wit_model.specs.declared.model.World.{World}
-use Rattle.wit_model.specs.declared.model.WorldItem.{WorldItem}
-use Rattle.wit_model.specs.declared.model.WorldKey.{WorldKey}
-use Rattle.wit_model.specs.Lookup.{interface_at, type_at, world_at}
-use Rattle.wit_model.specs.Rules.{is_id}
-use Rattle.wit_model.specs.Uses.{has, item_interface, items_of}
-use Rattle.wit_model.specs.Valid.{IsValid}
+use Rattle.std.proofs.lemmas.{Bool.or_left, Bool.or_right, List.length-append, List.length-map, Option.slice_get_within}
+use Rattle.wit_model.specs.declared.model.{Interface.Interface, Resolve.Resolve, TypeDef.TypeDef, World.World, WorldItem.WorldItem, WorldKey.WorldKey}
+use Rattle.wit_model.specs.{Lookup.interface_at, Lookup.type_at, Lookup.world_at, Rules.is_id, Uses.has, Uses.item_interface, Uses.items_of, Valid.IsValid}
 use Rattle.bind_copy.specs.Copies.{is_new_under, number_under}
 use Rattle.bind_match.specs.declared.matches.Matches.{Matches}
-use Rattle.bind_union.specs.Carried.{IsCarried, Renumbering, Rises}
-use Rattle.bind_union.specs.Merged.{AreCopies}
-use Rattle.bind_union.proofs.Lists.{no_true}
-use Rattle.bind_union.proofs.MatchedStand.{numbers_rise}
-use Rattle.bind_carry.specs.Fates.{copies, is_carried, numbers_by, stood}
-use Rattle.bind_carry.specs.First.{flag_under}
-use Rattle.bind_carry.specs.FirstPass.{IsFirstPass}
-use Rattle.bind_carry.specs.Marked.{is_inline_at, is_shown_in}
-use Rattle.bind_carry.specs.Numbers.{numbers_of}
-use Rattle.bind_carry.specs.Renumbered.{is_copied}
-use Rattle.bind_carry.specs.SecondPass.{IsSecondPass}
-use Rattle.bind_carry.specs.Shown.{AreShownBelow}
-use Rattle.bind_carry.specs.declared.fate.Fate.{Fate}
-use Rattle.bind_carry.specs.declared.plan.Carried.{Carried}
+use Rattle.bind_union.specs.{Carried.IsCarried, Carried.Renumbering, Carried.Rises, Merged.AreCopies}
+use Rattle.bind_union.proofs.{Lists.no_true, MatchedStand.numbers_rise}
+use Rattle.bind_carry.specs.{Fates.copies, Fates.is_carried, Fates.numbers_by, Fates.stood, Marked.is_inline_at, Marked.is_shown_in, SecondPass.IsSecondPass}
+use Rattle.bind_carry.specs.{First.flag_under, FirstPass.IsFirstPass, Numbers.numbers_of, Renumbered.is_copied, Shown.AreShownBelow}
+use Rattle.bind_carry.specs.declared.{fate.Fate.Fate, plan.Carried.Carried}
 use Rattle.bind_carry.proofs.CopiesPlaced.{copied_home, copied_past, copy_placed, flag_is_copied, some_same}
-use Rattle.bind_carry.proofs.FirstCopies.{copied_behind, one_shows, some_count, times_of}
-use Rattle.bind_carry.proofs.FirstMatched.{type_low}
-use Rattle.bind_carry.proofs.FirstTypes.{copied_carried}
+use Rattle.bind_carry.proofs.{FirstCopies.copied_behind, FirstCopies.one_shows, FirstCopies.some_count, FirstCopies.times_of, FirstTypes.copied_carried}
+use Rattle.bind_carry.proofs.{FirstMatched.type_low, SecondMarks.gained_flag, SecondMarks.is_gained, SecondMarks.is_shown_new, SecondStands.stood_how}
 use Rattle.bind_carry.proofs.SecondAgreed.{before_fates, by_path, fates, first, met_type, same_types, second, type_there, types_hold}
 use Rattle.bind_carry.proofs.SecondInterfaces.{carried_number, copied_carries, interfaces_hold, interfaces_rise, uncopied_named}
 use Rattle.bind_carry.proofs.SecondKnown.{chosen, copied_long, exports_shown, imports_shown, long}
-use Rattle.bind_carry.proofs.SecondMarks.{gained_flag, is_gained, is_shown_new}
-use Rattle.bind_carry.proofs.SecondStands.{stood_how}
-use Rattle.base_lemmas.proofs.Bools.{right_of as second_true}
-use Rattle.base_lemmas.proofs.Numbers.{equal, same-number}
+use Rattle.base_lemmas.proofs.{Bools.right_of as second_true, Numbers.equal, Numbers.same-number}
 
 -- what is shown under a new key is shown
 shown_in : (r : Resolve) (interfaces : List ℕ) (here es : List (WorldKey × WorldItem)) (n : ℕ) → is_shown_new r interfaces here es n ≡ true → is_shown_in es n ≡ true

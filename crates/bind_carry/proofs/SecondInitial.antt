@@ -1,34 +1,21 @@
 -- The pass over what the bound world gains begins as it should: what it copies is of the bound world, or of an inline interface that is gained.
 use Rattle.std.proofs.Common.{◌≡◌, inl, inr, refl, sym, ap, ◌∙◌, ℕ, zero, suc, ◌<◌, arith, Bool, true, false, ◌&&◌, ◌||◌, ◌==◌, List, [], ◌∷◌, length, Option, Some, is_some, slice_get, unwrap_or, if◌then◌else◌}
-use Rattle.std.specs.Option.{option_map_or}
 use Rattle.std.proofs.lemmas.Bool.{or_left, or_right}
-use Rattle.wit_model.specs.declared.model.Interface.{Interface}
-use Rattle.wit_model.specs.declared.model.InterfaceId.{InterfaceId}
-use Rattle.wit_model.specs.declared.model.Resolve.{Resolve}
-use Rattle.wit_model.specs.declared.model.TypeDef.{TypeDef}
-use Rattle.wit_model.specs.declared.model.TypeOwner.{TypeOwner}
-use Rattle.wit_model.specs.declared.model.TypeOwner.TheVariants as owner
-use Rattle.wit_model.specs.declared.model.WorldId.{WorldId}
-use Rattle.wit_model.specs.declared.model.WorldItem.{WorldItem}
-use Rattle.wit_model.specs.declared.model.WorldKey.{WorldKey}
-use Rattle.wit_model.specs.Lookup.{interface_at, type_at}
-use Rattle.wit_model.specs.Parts.{same_owner}
-use Rattle.wit_model.specs.Valid.{IsValid, as_interface}
+use Rattle.std.specs.Option.{option_map_or}
+use Rattle.wit_model.specs.declared.model.{Interface.Interface, InterfaceId.InterfaceId, TypeOwner.TypeOwner, WorldItem.WorldItem, WorldKey.WorldKey}
+use Rattle.wit_model.specs.declared.model.{Resolve.Resolve, TypeDef.TypeDef, WorldId.WorldId}
+use Rattle.wit_model.specs.{Lookup.interface_at, Lookup.type_at, Parts.same_owner, Valid.IsValid, Valid.as_interface}
 use Rattle.bind_copy.specs.Copies.{number_under}
 use Rattle.bind_union.specs.Carried.{carries_owner, copies_owner, owner_under, Renumbering}
 use Rattle.bind_union.proofs.Lists.{no_true}
-use Rattle.bind_carry.specs.BoundGains.{unified}
-use Rattle.bind_carry.specs.Fates.{carries}
-use Rattle.bind_carry.specs.First.{beside_first, flag_under, is_named_at, second_from, second_in}
-use Rattle.bind_carry.specs.Initial.{IsInitial}
-use Rattle.bind_carry.specs.Renumbered.{is_matched, met_under, second_of}
-use Rattle.bind_carry.specs.declared.fate.Fate.{Fate}
-use Rattle.bind_carry.specs.declared.fate.Fate.TheVariants as fate
-use Rattle.bind_carry.specs.declared.plan.Carried.{Carried}
-use Rattle.bind_carry.proofs.PartsCarried.{has_home, no_home}
-use Rattle.bind_carry.proofs.PassedTypes.{fate_there, type_within}
+use Rattle.bind_carry.specs.{BoundGains.unified, First.beside_first, First.flag_under, First.is_named_at, First.second_from, First.second_in, Initial.IsInitial}
+use Rattle.bind_carry.specs.{Fates.carries, Renumbered.is_matched, Renumbered.met_under, Renumbered.second_of}
+use Rattle.bind_carry.specs.declared.{fate.Fate.Fate, plan.Carried.Carried}
+use Rattle.bind_carry.proofs.{PartsCarried.has_home, PartsCarried.no_home, PassedTypes.fate_there, PassedTypes.type_within}
 use Rattle.bind_carry.proofs.SecondTypes.{second_at, second_long, unified_at, unified_long, IsUnified}
 use Rattle.base_lemmas.proofs.Numbers.{equal}
+use Rattle.wit_model.specs.declared.model.TypeOwner.TheVariants as owner
+use Rattle.bind_carry.specs.declared.fate.Fate.TheVariants as fate
 
 number_there : (ns : List ℕ) (n : ℕ) → n < length ns → (m : ℕ) × (slice_get ns n ≡ Some m)
 number_there [] n l = absurd (omega (arith, l))

@@ -1,49 +1,26 @@
 -- Inline interfaces of the other's bound world that stand for own ones: each has the number of the own interface under its label.
 use Rattle.std.proofs.Common.{◌≡◌, refl, sym, ap, ◌∙◌, ℕ, zero, suc, ◌+◌, ◌≤◌, arith, Bool, true, false, not, ◌&&◌, ◌||◌, ◌==◌, cond, List, [], ◌∷◌, map, Option, Some, None, is_some, option_and_then, option_map, slice_get, unwrap_or, if◌then◌else◌}
-use Rattle.std.specs.Prelude.{String, sum_by}
+use Rattle.std.proofs.lemmas.{List.Sums.sum_by-cons, Option.slice_get-map, Map.Keys.any_passes_from_place as any_at}
+use Rattle.std.specs.{Prelude.String, Prelude.sum_by, List.Contains, Map.lookup, Option.option_map_or}
 use Rattle.std.specs.declared.alloc.Global.{Global}
-use Rattle.std.specs.List.{Contains}
-use Rattle.std.specs.Map.{lookup}
-use Rattle.std.specs.Option.{option_map_or}
-use Rattle.std.proofs.lemmas.List.Sums.{sum_by-cons}
-use Rattle.std.proofs.lemmas.Option.{slice_get-map}
-use Rattle.wit_model.specs.declared.model.Interface.{Interface}
-use Rattle.wit_model.specs.declared.model.Resolve.{Resolve}
-use Rattle.wit_model.specs.declared.model.World.{World}
-use Rattle.wit_model.specs.declared.model.WorldItem.{WorldItem}
-use Rattle.wit_model.specs.declared.model.WorldItem.TheVariants as item
-use Rattle.wit_model.specs.declared.model.WorldKey.{WorldKey}
-use Rattle.wit_model.specs.declared.model.WorldKey.TheVariants as key
-use Rattle.wit_model.specs.Lookup.{interface_at, interface_path, key_text, world_at}
-use Rattle.wit_model.specs.Meaning.{item_sense, Entry, InterfaceSense}
-use Rattle.wit_model.specs.Meant.{interface_item, item_meaning}
-use Rattle.wit_model.specs.Rules.{is_id, item_in_range, key_in_range, times_shown}
-use Rattle.wit_model.specs.Text.{text_of}
-use Rattle.wit_model.specs.Uses.{item_interface}
-use Rattle.wit_model.specs.Valid.{IsValid, key_eq}
-use Rattle.wit_model.proofs.Elements.{contains-get}
-use Rattle.wit_model.proofs.OnePath.{named-path}
+use Rattle.wit_model.specs.declared.model.{Interface.Interface, Resolve.Resolve, World.World, WorldItem.WorldItem, WorldKey.WorldKey}
+use Rattle.wit_model.specs.{Lookup.interface_at, Lookup.interface_path, Lookup.key_text, Lookup.world_at, Meant.interface_item, Meant.item_meaning}
+use Rattle.wit_model.specs.{Meaning.item_sense, Meaning.Entry, Meaning.InterfaceSense, Rules.is_id, Rules.item_in_range, Rules.key_in_range, Rules.times_shown}
+use Rattle.wit_model.specs.{Text.text_of, Uses.item_interface, Valid.IsValid, Valid.key_eq}
+use Rattle.wit_model.proofs.{Elements.contains-get, OnePath.named-path, UsesLemmas.interface_in_range as interface_there}
 use Rattle.bind_copy.specs.Copies.{is_new_under, number_under}
 use Rattle.bind_match.specs.declared.matches.Matches.{Matches}
-use Rattle.bind_union.proofs.Lists.{no_true}
-use Rattle.bind_union.proofs.WorldNamesakes.{path_is, path_so}
-use Rattle.bind_carry.specs.First.{flag_under, is_named_at}
-use Rattle.bind_carry.specs.FirstPass.{IsFirstPass}
-use Rattle.bind_carry.specs.Marked.{is_inline_at, is_shown_in}
+use Rattle.bind_union.proofs.{Lists.no_true, WorldNamesakes.path_is, WorldNamesakes.path_so}
+use Rattle.bind_carry.specs.{First.flag_under, First.is_named_at, FirstPass.IsFirstPass, Marked.is_inline_at, Marked.is_shown_in, SecondPass.IsSecondPass}
 use Rattle.bind_carry.specs.Renumbered.{met_under}
-use Rattle.bind_carry.specs.SecondPass.{IsSecondPass}
 use Rattle.bind_carry.specs.declared.plan.Carried.{Carried}
-use Rattle.bind_carry.proofs.CopiesPlaced.{some_same}
+use Rattle.bind_carry.proofs.{CopiesPlaced.some_same, WorldEntries.any_place, WorldEntries.import_keyed, WorldEntries.import_range, WorldEntries.label_new}
 use Rattle.bind_carry.proofs.FirstCopies.{count, count_front, inline_once, shown_count, sum_two}
-use Rattle.bind_carry.proofs.LabelsFound.{label_held}
-use Rattle.bind_carry.proofs.SecondKnown.{exports_shown, imports_shown}
-use Rattle.bind_carry.proofs.SecondMarks.{gained_flag, is_gained, is_shown_new}
-use Rattle.bind_carry.proofs.SecondStands.{second}
-use Rattle.bind_carry.proofs.WorldEntries.{any_place, import_keyed, import_range, label_new}
-use Rattle.base_lemmas.proofs.Bools.{left_of as first_true, right_of as second_true}
-use Rattle.base_lemmas.proofs.Numbers.{equal, same-number}
-use Rattle.std.proofs.lemmas.Map.Keys.{any_passes_from_place as any_at}
-use Rattle.wit_model.proofs.UsesLemmas.{interface_in_range as interface_there}
+use Rattle.bind_carry.proofs.{LabelsFound.label_held, SecondStands.second}
+use Rattle.bind_carry.proofs.{SecondKnown.exports_shown, SecondKnown.imports_shown, SecondMarks.gained_flag, SecondMarks.is_gained, SecondMarks.is_shown_new}
+use Rattle.base_lemmas.proofs.{Bools.left_of as first_true, Bools.right_of as second_true, Numbers.equal, Numbers.same-number}
+use Rattle.wit_model.specs.declared.model.WorldItem.TheVariants as item
+use Rattle.wit_model.specs.declared.model.WorldKey.TheVariants as key
 
 -- ---- lists
 

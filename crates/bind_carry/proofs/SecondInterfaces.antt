@@ -1,51 +1,25 @@
 -- What the bound world gains is carried as the laws on unions ask for it: interfaces, and how numbers rise.
 use Rattle.std.proofs.Common.{◌≡◌, refl, sym, ap, subst, ◌∙◌, ℕ, ◌+◌, ◌<◌, arith, Bool, true, false, ◌&&◌, ◌||◌, ◌==◌, List, [], ◌++◌, append-nil, append_assoc, length, map, Option, Some, None, is_none, is_some, slice_get, unwrap_or, if◌then◌else◌}
-use Rattle.std.specs.List.{list_all}
-use Rattle.std.specs.Option.{option_map_or}
-use Rattle.std.specs.String.{string_eq}
-use Rattle.std.proofs.lemmas.Bool.{or_left, and_from as both}
-use Rattle.std.proofs.lemmas.List.{length-append, length-map}
-use Rattle.std.proofs.lemmas.List.Folds.{list_all-map}
-use Rattle.std.proofs.lemmas.Option.{slice_get_within}
+use Rattle.std.proofs.lemmas.{Bool.or_left, Bool.and_from as both, List.length-append, List.length-map, List.Folds.list_all-map, Option.slice_get_within}
+use Rattle.std.specs.{List.list_all, Option.option_map_or, String.string_eq}
 use Rattle.indexmap.specs.IndexMap.{values, IsUnique}
-use Rattle.wit_model.specs.declared.model.Interface.{Interface}
-use Rattle.wit_model.specs.declared.model.Resolve.{Resolve}
-use Rattle.wit_model.specs.declared.model.TypeDef.{TypeDef}
-use Rattle.wit_model.specs.declared.model.TypeId.{TypeId}
-use Rattle.wit_model.specs.declared.model.World.{World}
-use Rattle.wit_model.specs.Lookup.{interface_at, type_at}
-use Rattle.wit_model.specs.Rules.{interface_type_numbers}
-use Rattle.wit_model.specs.Uses.{has}
-use Rattle.wit_model.specs.Valid.{IsValid, as_interface}
+use Rattle.wit_model.specs.declared.model.{Interface.Interface, Resolve.Resolve, TypeDef.TypeDef, TypeId.TypeId, World.World}
+use Rattle.wit_model.specs.{Lookup.interface_at, Lookup.type_at, Rules.interface_type_numbers, Uses.has, Valid.IsValid, Valid.as_interface}
 use Rattle.bind_copy.specs.Copies.{number_under, IsInterfaceUnder}
 use Rattle.bind_match.specs.declared.matches.Matches.{Matches}
 use Rattle.bind_union.specs.Carried.{carries_owner, IsInterface, Renumbering, Rises}
-use Rattle.bind_union.proofs.Lists.{no_true}
-use Rattle.bind_union.proofs.MatchedStand.{numbers_rise}
-use Rattle.bind_carry.specs.CarriedParts.{is_function_carried}
+use Rattle.bind_union.proofs.{Lists.no_true, MatchedStand.numbers_rise}
+use Rattle.bind_carry.specs.{CarriedParts.is_function_carried, FirstPass.IsFirstPass, Marked.is_inline_at, SecondPass.IsSecondPass, Whole.IsInterfaceCarried}
 use Rattle.bind_carry.specs.Fates.{is_carried}
-use Rattle.bind_carry.specs.First.{flag_under, is_named_at}
-use Rattle.bind_carry.specs.FirstPass.{IsFirstPass}
-use Rattle.bind_carry.specs.Marked.{is_inline_at}
-use Rattle.bind_carry.specs.Numbers.{interface_number, numbers_of}
-use Rattle.bind_carry.specs.Renumbered.{is_matched, met_under}
-use Rattle.bind_carry.specs.SecondPass.{IsSecondPass}
-use Rattle.bind_carry.specs.Whole.{IsInterfaceCarried}
-use Rattle.bind_carry.specs.declared.fate.Fate.{Fate}
-use Rattle.bind_carry.specs.declared.plan.Carried.{Carried}
-use Rattle.bind_carry.proofs.FirstCarried.{flag_within, has_map}
-use Rattle.bind_carry.proofs.FirstInterfaces.{interface_copy, type_numbers_under}
-use Rattle.bind_carry.proofs.FirstMatched.{interface_is, types_are}
-use Rattle.bind_carry.proofs.KeptPlaced.{kept_placed, IsKeptAt}
-use Rattle.bind_carry.proofs.PassedTypes.{parts_hold}
+use Rattle.bind_carry.specs.{First.flag_under, First.is_named_at, Numbers.interface_number, Numbers.numbers_of, Renumbered.is_matched, Renumbered.met_under}
+use Rattle.bind_carry.specs.declared.{fate.Fate.Fate, plan.Carried.Carried}
+use Rattle.bind_carry.proofs.{FirstCarried.flag_within, FirstCarried.has_map, KeptPlaced.kept_placed, KeptPlaced.IsKeptAt, PassedTypes.parts_hold}
+use Rattle.bind_carry.proofs.{FirstInterfaces.interface_copy, FirstInterfaces.type_numbers_under, FirstMatched.interface_is, FirstMatched.types_are}
 use Rattle.bind_carry.proofs.Ready.{interface_count}
 use Rattle.bind_carry.proofs.SecondAgreed.{adds, before_fates, by_path, fates, first, inline_type_copied, initial, named_carried, named_is_carried, same_types, second}
 use Rattle.bind_carry.proofs.SecondKnown.{chosen, copied_long, exports_shown, imports_shown, long, range}
-use Rattle.bind_carry.proofs.SecondMarks.{gained_inline_alone}
-use Rattle.bind_carry.proofs.SecondStands.{is_named_there, known, second_named, starts}
-use Rattle.base_lemmas.proofs.Bools.{left_of as first_true, right_of as second_true}
-use Rattle.base_lemmas.proofs.Lists.{within_there}
-use Rattle.base_lemmas.proofs.Numbers.{equal, same-number}
+use Rattle.bind_carry.proofs.{SecondMarks.gained_inline_alone, SecondStands.is_named_there, SecondStands.known, SecondStands.second_named, SecondStands.starts}
+use Rattle.base_lemmas.proofs.{Bools.left_of as first_true, Bools.right_of as second_true, Lists.within_there, Numbers.equal, Numbers.same-number}
 use Rattle.wit_model.proofs.Chains.{all_has as passes_at}
 
 module _ (own other merged : Resolve) (valid_own : IsValid own) (valid_other : IsValid other) (world other_world : ℕ) (w v : World) (m : Matches) (c : Carried) (first_numbers : List ℕ)

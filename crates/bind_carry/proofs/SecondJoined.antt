@@ -1,70 +1,34 @@
 -- The bound world gains the items whose keys it hasn't, one by one, and own ones stand for the others.
 use Rattle.std.proofs.Common.{◌≡◌, inl, inr, refl, sym, ap, ◌∙◌, ℕ, ◌+◌, Bool, true, false, not, ◌&&◌, ◌||◌, List, [], length, Option, Some, None, is_none, is_some, option_and_then, option_to_list, slice_get, if◌then◌else◌}
-use Rattle.std.specs.Prelude.{String}
+use Rattle.std.proofs.lemmas.{Bool.or_left, Bool.or_right, Bool.and_from as both, Map.Keys.any_passes_from_place as any_at}
+use Rattle.std.specs.{Prelude.String, List.list_all, List.Contains, List.IsDistinct, Map.keys_of, Map.lookup, Option.option_map_or}
 use Rattle.std.specs.declared.alloc.Global.{Global}
-use Rattle.std.specs.List.{list_all, Contains, IsDistinct}
-use Rattle.std.specs.Map.{keys_of, lookup}
-use Rattle.std.specs.Option.{option_map_or}
-use Rattle.std.proofs.lemmas.Bool.{or_left, or_right, and_from as both}
-use Rattle.wit_model.specs.declared.model.Function.{Function}
-use Rattle.wit_model.specs.declared.model.Interface.{Interface}
-use Rattle.wit_model.specs.declared.model.Resolve.{Resolve}
-use Rattle.wit_model.specs.declared.model.TypeDef.{TypeDef}
-use Rattle.wit_model.specs.declared.model.TypeId.{TypeId}
-use Rattle.wit_model.specs.declared.model.TypeOwner.TheVariants as owner
-use Rattle.wit_model.specs.declared.model.World.{World}
-use Rattle.wit_model.specs.declared.model.WorldItem.{WorldItem}
-use Rattle.wit_model.specs.declared.model.WorldItem.TheVariants as item
-use Rattle.wit_model.specs.declared.model.WorldKey.{WorldKey}
-use Rattle.wit_model.specs.declared.model.WorldKey.TheVariants as key
-use Rattle.wit_model.specs.Lookup.{interface_at}
-use Rattle.wit_model.specs.Rules.{export_stands, is_id, item_in_range, item_type, key_in_range}
-use Rattle.wit_model.specs.Uses.{item_interface}
-use Rattle.wit_model.specs.Valid.{IsValid, item_function, key_eq}
-use Rattle.wit_model.proofs.Elements.{contains-get}
-use Rattle.wit_model.proofs.OnePath.{found-in}
+use Rattle.wit_model.specs.declared.model.{Function.Function, Interface.Interface, Resolve.Resolve, TypeDef.TypeDef, WorldItem.WorldItem, WorldKey.WorldKey}
+use Rattle.wit_model.specs.declared.model.{TypeId.TypeId, World.World}
+use Rattle.wit_model.specs.{Lookup.interface_at, Rules.export_stands, Rules.is_id, Rules.item_in_range, Rules.item_type, Rules.key_in_range}
+use Rattle.wit_model.specs.{Uses.item_interface, Valid.IsValid, Valid.item_function, Valid.key_eq}
+use Rattle.wit_model.proofs.{Elements.contains-get, OnePath.found-in}
 use Rattle.bind_copy.specs.Copies.{become_one, is_new_under, number_under}
 use Rattle.bind_match.specs.declared.matches.Matches.{Matches}
-use Rattle.bind_union.specs.Carried.{Renumbering}
-use Rattle.bind_union.specs.Joined.{Joined}
-use Rattle.bind_union.proofs.Lists.{no_true}
-use Rattle.bind_union.proofs.WorldNamesakes.{IsWorldType}
-use Rattle.bind_union.proofs.WorldRules.{by_entries}
-use Rattle.bind_carry.specs.BoundGains.{type_under_key}
-use Rattle.bind_carry.specs.CarriedParts.{is_function_carried}
-use Rattle.bind_carry.specs.Fates.{copies}
-use Rattle.bind_carry.specs.First.{beside_first, flag_under, is_named_at, second_in}
-use Rattle.bind_carry.specs.FirstPass.{IsFirstPass}
-use Rattle.bind_carry.specs.Marked.{is_inline_at}
-use Rattle.bind_carry.specs.ReadyItems.{AreReady, IsItemReady}
-use Rattle.bind_carry.specs.Renumbered.{is_copied, is_matched}
-use Rattle.bind_carry.specs.SecondPass.{IsSecondPass}
-use Rattle.bind_carry.specs.Shown.{any_new, type_in, AreShownBelow}
-use Rattle.bind_carry.specs.declared.fate.Fate.{Fate}
-use Rattle.bind_carry.specs.declared.fate.Fate.TheVariants as fate
-use Rattle.bind_carry.specs.declared.plan.Carried.{Carried}
-use Rattle.bind_carry.proofs.FirstCarried.{interfaces_once}
-use Rattle.bind_carry.proofs.JoinedItems.{items_join}
-use Rattle.bind_carry.proofs.KeysApart.{keys_apart}
-use Rattle.bind_carry.proofs.LabelsFound.{label_found}
-use Rattle.bind_carry.proofs.PassedTypes.{parts_hold}
+use Rattle.bind_union.specs.{Carried.Renumbering, Joined.Joined}
+use Rattle.bind_union.proofs.{Lists.no_true, WorldNamesakes.IsWorldType, WorldRules.by_entries}
+use Rattle.bind_carry.specs.{BoundGains.type_under_key, Fates.copies, FirstPass.IsFirstPass, Marked.is_inline_at, SecondPass.IsSecondPass}
+use Rattle.bind_carry.specs.{CarriedParts.is_function_carried, ReadyItems.AreReady, ReadyItems.IsItemReady, Renumbered.is_copied, Renumbered.is_matched}
+use Rattle.bind_carry.specs.{First.beside_first, First.flag_under, First.is_named_at, First.second_in, Shown.any_new, Shown.type_in, Shown.AreShownBelow}
+use Rattle.bind_carry.specs.declared.{fate.Fate.Fate, plan.Carried.Carried}
+use Rattle.bind_carry.proofs.{FirstCarried.interfaces_once, SecondReady.key_met, SecondReady.key_ready, SecondReady.AreKeysThere, SecondReady.IsKeyNamed}
+use Rattle.bind_carry.proofs.{JoinedItems.items_join, KeysApart.keys_apart, LabelsFound.label_found, PassedTypes.parts_hold, KeysGained.keys_pass}
 use Rattle.bind_carry.proofs.SecondAgreed.{adds, before, before_fates, fates, import_stands_for, initial, named_is_carried, second}
-use Rattle.bind_carry.proofs.SecondInitial.{before_at, IsBefore}
-use Rattle.bind_carry.proofs.SecondInterfaces.{carried_number, copied_carries}
-use Rattle.bind_carry.proofs.SecondKnown.{chosen, export_same, exports_shown, import_same, imports_shown, long, named_number, type_number}
-use Rattle.bind_carry.proofs.SecondKnown.{long_fates as fates_count, long_numbers as numbers_are_many}
-use Rattle.bind_carry.proofs.SecondMarks.{gained_flag, is_shown_new}
-use Rattle.bind_carry.proofs.SecondMet.{one_label, typed, under_label}
-use Rattle.bind_carry.proofs.SecondReady.{key_met, key_ready, AreKeysThere, IsKeyNamed}
-use Rattle.bind_carry.proofs.SecondStands.{falls, named_carried_there, starts}
-use Rattle.bind_carry.proofs.SecondTypes.{unified_at, IsUnified}
-use Rattle.bind_carry.proofs.SettledParts.{copied_still}
+use Rattle.bind_carry.proofs.{SecondInitial.before_at, SecondInitial.IsBefore, SecondTypes.unified_at, SecondTypes.IsUnified, SettledParts.copied_still}
+use Rattle.bind_carry.proofs.{SecondInterfaces.carried_number, SecondInterfaces.copied_carries, SecondMet.one_label, SecondMet.typed, SecondMet.under_label}
+use Rattle.bind_carry.proofs.SecondKnown.{chosen, export_same, exports_shown, import_same, imports_shown, long, named_number, type_number, long_fates as fates_count, long_numbers as numbers_are_many}
+use Rattle.bind_carry.proofs.{SecondMarks.gained_flag, SecondMarks.is_shown_new, SecondStands.falls, SecondStands.named_carried_there, SecondStands.starts}
 use Rattle.bind_carry.proofs.WorldEntries.{export_keyed, export_range, export_so, import_keyed, import_range, label_new, new_under_same}
-use Rattle.base_lemmas.proofs.Bools.{left_of as first_true, right_of as second_true}
-use Rattle.base_lemmas.proofs.Elements.{all-contained, get-contains}
-use Rattle.base_lemmas.proofs.Numbers.{same-number}
-use Rattle.std.proofs.lemmas.Map.Keys.{any_passes_from_place as any_at}
-use Rattle.bind_carry.proofs.KeysGained.{keys_pass}
+use Rattle.base_lemmas.proofs.{Bools.left_of as first_true, Bools.right_of as second_true, Elements.all-contained, Elements.get-contains, Numbers.same-number}
+use Rattle.wit_model.specs.declared.model.TypeOwner.TheVariants as owner
+use Rattle.wit_model.specs.declared.model.WorldItem.TheVariants as item
+use Rattle.wit_model.specs.declared.model.WorldKey.TheVariants as key
+use Rattle.bind_carry.specs.declared.fate.Fate.TheVariants as fate
 
 not_some : {X : Type 0} (o : Option X) → not (is_some o) ≡ true → o ≡ None
 not_some None h = refl

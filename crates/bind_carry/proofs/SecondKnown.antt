@@ -1,62 +1,33 @@
 -- What the second pass begins with is known: from validity, from the first pass, and since the two worlds don't clash.
 use Rattle.std.proofs.Common.{◌≡◌, refl, sym, ap, ◌∙◌, ℕ, ◌+◌, ◌<◌, arith, Bool, true, false, not, ◌||◌, List, [], length, Option, Some, None, is_some, is_none, option_and_then, slice_get}
-use Rattle.std.specs.Prelude.{String}
+use Rattle.std.proofs.lemmas.{Bool.or_left, Option.slice_get_within, Map.Keys.any_passes_from_place as any_at}
+use Rattle.std.specs.{Prelude.String, List.Contains, Map.lookup, Option.option_map_or}
 use Rattle.std.specs.declared.alloc.Global.{Global}
-use Rattle.std.specs.List.{Contains}
-use Rattle.std.specs.Map.{lookup}
-use Rattle.std.specs.Option.{option_map_or}
-use Rattle.std.proofs.lemmas.Bool.{or_left}
-use Rattle.std.proofs.lemmas.Option.{slice_get_within}
-use Rattle.wit_model.specs.declared.model.Interface.{Interface}
-use Rattle.wit_model.specs.declared.model.InterfaceId.{InterfaceId}
-use Rattle.wit_model.specs.declared.model.Resolve.{Resolve}
-use Rattle.wit_model.specs.declared.model.TypeDef.{TypeDef}
-use Rattle.wit_model.specs.declared.model.TypeId.{TypeId}
-use Rattle.wit_model.specs.declared.model.TypeOwner.{TypeOwner}
-use Rattle.wit_model.specs.declared.model.TypeOwner.TheVariants as owner
-use Rattle.wit_model.specs.declared.model.World.{World}
-use Rattle.wit_model.specs.declared.model.WorldItem.{WorldItem}
-use Rattle.wit_model.specs.declared.model.WorldItem.TheVariants as item
-use Rattle.wit_model.specs.declared.model.WorldKey.{WorldKey}
-use Rattle.wit_model.specs.declared.model.WorldKey.TheVariants as key
-use Rattle.wit_model.specs.Lookup.{interface_at, key_text, type_at, world_at}
-use Rattle.wit_model.specs.Meaning.{item_sense, Entry, InterfaceSense}
-use Rattle.wit_model.specs.Meant.{item_meaning}
-use Rattle.wit_model.specs.Rules.{item_type}
-use Rattle.wit_model.specs.Text.{text_of}
-use Rattle.wit_model.specs.Valid.{IsValid, as_interface, as_world, key_eq}
-use Rattle.wit_model.proofs.Elements.{contains-get}
+use Rattle.wit_model.specs.declared.model.{Interface.Interface, InterfaceId.InterfaceId, TypeOwner.TypeOwner, WorldItem.WorldItem, WorldKey.WorldKey}
+use Rattle.wit_model.specs.declared.model.{Resolve.Resolve, TypeDef.TypeDef, TypeId.TypeId, World.World}
+use Rattle.wit_model.specs.{Lookup.interface_at, Lookup.key_text, Lookup.type_at, Lookup.world_at, Meaning.item_sense, Meaning.Entry, Meaning.InterfaceSense}
+use Rattle.wit_model.specs.{Meant.item_meaning, Rules.item_type, Text.text_of, Valid.IsValid, Valid.as_interface, Valid.as_world, Valid.key_eq}
+use Rattle.wit_model.proofs.{Elements.contains-get, TextLemmas.text_same as text-same}
 use Rattle.bind_copy.specs.Copies.{is_new_under, number_under}
 use Rattle.bind_match.specs.declared.matches.Matches.{Matches}
 use Rattle.bind_union.specs.Carried.{carries_owner, Renumbering}
 use Rattle.bind_union.proofs.Lists.{no_true}
 use Rattle.bind_union.proofs.WorldNamesakes.{is_declared, not_declared, type_imported, world_type, IsImported, IsWorldType}
-use Rattle.bind_carry.specs.BoundGains.{gains_any, type_under_key, unified}
-use Rattle.bind_carry.specs.Fates.{carries, is_carried, settled_from}
-use Rattle.bind_carry.specs.First.{first_fates, flag_under, second_from}
-use Rattle.bind_carry.specs.FirstPass.{IsFirstPass}
+use Rattle.bind_carry.specs.{BoundGains.gains_any, BoundGains.type_under_key, BoundGains.unified, First.first_fates, First.flag_under, First.second_from}
+use Rattle.bind_carry.specs.{Fates.carries, Fates.is_carried, Fates.settled_from, FirstPass.IsFirstPass, Shown.any_new, Shown.type_in, Shown.AreShownBelow}
 use Rattle.bind_carry.specs.InRange.{IsInRange}
-use Rattle.bind_carry.specs.Marked.{is_inline_at, AreChosen}
-use Rattle.bind_carry.specs.Renumbered.{first_of, is_matched}
-use Rattle.bind_carry.specs.SecondPass.{DoNotClash, IsSecondPass}
-use Rattle.bind_carry.specs.Shown.{any_new, type_in, AreShownBelow}
-use Rattle.bind_carry.specs.declared.fate.Fate.{Fate}
-use Rattle.bind_carry.specs.declared.fate.Fate.TheVariants as fate
-use Rattle.bind_carry.specs.declared.plan.Carried.{Carried}
-use Rattle.bind_carry.proofs.CopiesPlaced.{some_same}
-use Rattle.bind_carry.proofs.FirstCarried.{chosen_so}
-use Rattle.bind_carry.proofs.FirstMatched.{names, uncopied_under}
-use Rattle.bind_carry.proofs.FirstTypes.{excluded, named_carried}
-use Rattle.bind_carry.proofs.PartsCarried.{no_home}
-use Rattle.bind_carry.proofs.Ranges.{is_in_range, shown_below}
-use Rattle.bind_carry.proofs.Ready.{fates_long, interface_count, numbers_count}
-use Rattle.bind_carry.proofs.SecondInitial.{IsKnown}
-use Rattle.bind_carry.proofs.SecondMarks.{gained_adds, gained_inline_alone, gained_long}
-use Rattle.bind_carry.proofs.SecondTypes.{second_long, unified_set, IsUnified}
+use Rattle.bind_carry.specs.{Marked.is_inline_at, Marked.AreChosen, Renumbered.first_of, Renumbered.is_matched, SecondPass.DoNotClash, SecondPass.IsSecondPass}
+use Rattle.bind_carry.specs.declared.{fate.Fate.Fate, plan.Carried.Carried}
+use Rattle.bind_carry.proofs.{CopiesPlaced.some_same, Ranges.is_in_range, Ranges.shown_below, Ready.fates_long, Ready.interface_count, Ready.numbers_count}
+use Rattle.bind_carry.proofs.{FirstCarried.chosen_so, PartsCarried.no_home, SecondInitial.IsKnown}
+use Rattle.bind_carry.proofs.{FirstMatched.names, FirstMatched.uncopied_under, SecondTypes.second_long, SecondTypes.unified_set, SecondTypes.IsUnified}
+use Rattle.bind_carry.proofs.{FirstTypes.excluded, FirstTypes.named_carried, SecondMarks.gained_adds, SecondMarks.gained_inline_alone, SecondMarks.gained_long}
 use Rattle.bind_carry.proofs.WorldEntries.{any_new_same, export_keyed, import_keyed, label_new, IsNumberedSame}
 use Rattle.base_lemmas.proofs.Elements.{get-contains, lookup_stands}
-use Rattle.std.proofs.lemmas.Map.Keys.{any_passes_from_place as any_at}
-use Rattle.wit_model.proofs.TextLemmas.{text_same as text-same}
+use Rattle.wit_model.specs.declared.model.TypeOwner.TheVariants as owner
+use Rattle.wit_model.specs.declared.model.WorldItem.TheVariants as item
+use Rattle.wit_model.specs.declared.model.WorldKey.TheVariants as key
+use Rattle.bind_carry.specs.declared.fate.Fate.TheVariants as fate
 
 -- ---- items that are types
 

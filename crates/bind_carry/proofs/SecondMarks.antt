@@ -1,18 +1,12 @@
 -- Which inline interfaces the bound world gains, and that something is gained with each.
 use Rattle.std.proofs.Common.{◌≡◌, refl, sym, ap, subst, ◌∙◌, ℕ, zero, suc, Bool, true, false, ◌&&◌, ◌||◌, List, [], ◌∷◌, length, replicate, if◌then◌else◌}
-use Rattle.std.specs.List.{list_any}
 use Rattle.std.proofs.lemmas.List.{length-replicate}
-use Rattle.wit_model.specs.declared.model.Resolve.{Resolve}
-use Rattle.wit_model.specs.declared.model.World.{World}
-use Rattle.wit_model.specs.declared.model.WorldItem.{WorldItem}
-use Rattle.wit_model.specs.declared.model.WorldKey.{WorldKey}
-use Rattle.wit_model.specs.Rules.{is_id}
-use Rattle.wit_model.specs.Uses.{item_interface}
+use Rattle.std.specs.List.{list_any}
+use Rattle.wit_model.specs.declared.model.{Resolve.Resolve, World.World, WorldItem.WorldItem, WorldKey.WorldKey}
+use Rattle.wit_model.specs.{Rules.is_id, Uses.item_interface}
 use Rattle.bind_copy.specs.Copies.{is_new_under}
 use Rattle.bind_union.proofs.Lists.{no_true}
-use Rattle.bind_carry.specs.BoundGains.{gained_inline, gains_any}
-use Rattle.bind_carry.specs.First.{flag_under}
-use Rattle.bind_carry.specs.Marked.{is_inline_at, mark_item, mark_new_items}
+use Rattle.bind_carry.specs.{BoundGains.gained_inline, BoundGains.gains_any, First.flag_under, Marked.is_inline_at, Marked.mark_item, Marked.mark_new_items}
 use Rattle.bind_carry.specs.Shown.{any_new, AreShownBelow}
 use Rattle.bind_carry.proofs.Marking.{joins, mark_item_long, mark_one, no_more}
 use Rattle.base_lemmas.proofs.Bools.{left_of as first_true, right_of as second_true}

@@ -1,39 +1,22 @@
 -- Types of the other's bound world that stand for own ones: each has the number of the own type under its key.
 use Rattle.std.proofs.Common.{◌≡◌, sym, ap, ◌∙◌, ℕ, ◌+◌, ◌<◌, arith, Bool, List, length, Some, option_and_then, slice_get}
-use Rattle.std.specs.List.{Contains}
-use Rattle.std.specs.Map.{lookup}
 use Rattle.std.proofs.lemmas.Option.{slice_get_within}
-use Rattle.wit_model.specs.declared.model.Resolve.{Resolve}
-use Rattle.wit_model.specs.declared.model.TypeDef.{TypeDef}
-use Rattle.wit_model.specs.declared.model.TypeId.{TypeId}
-use Rattle.wit_model.specs.declared.model.World.{World}
-use Rattle.wit_model.specs.declared.model.WorldItem.{WorldItem}
-use Rattle.wit_model.specs.declared.model.WorldKey.{WorldKey}
-use Rattle.wit_model.specs.declared.model.WorldKey.TheVariants as key
-use Rattle.wit_model.specs.Lookup.{key_text}
-use Rattle.wit_model.specs.Rules.{item_type}
-use Rattle.wit_model.specs.Text.{text_of}
-use Rattle.wit_model.specs.Valid.{IsValid, key_eq}
+use Rattle.std.specs.{List.Contains, Map.lookup}
+use Rattle.wit_model.specs.declared.model.{Resolve.Resolve, TypeDef.TypeDef, TypeId.TypeId, World.World, WorldItem.WorldItem, WorldKey.WorldKey}
+use Rattle.wit_model.specs.{Lookup.key_text, Rules.item_type, Text.text_of, Valid.IsValid, Valid.key_eq}
 use Rattle.wit_model.proofs.Elements.{contains-get}
 use Rattle.bind_match.specs.declared.matches.Matches.{Matches}
 use Rattle.bind_union.proofs.WorldNamesakes.{world_type, IsWorldType}
-use Rattle.bind_carry.specs.BoundGains.{type_under_key}
-use Rattle.bind_carry.specs.FirstPass.{IsFirstPass}
-use Rattle.bind_carry.specs.SecondPass.{IsSecondPass}
-use Rattle.bind_carry.specs.declared.fate.Fate.{Fate}
-use Rattle.bind_carry.specs.declared.fate.Fate.TheVariants as fate
-use Rattle.bind_carry.specs.declared.plan.Carried.{Carried}
-use Rattle.bind_carry.proofs.CopiesPlaced.{some_same, stands_under}
-use Rattle.bind_carry.proofs.LabelsFound.{label_found, label_held}
-use Rattle.bind_carry.proofs.SecondKnown.{number_type, type_number}
-use Rattle.bind_carry.proofs.SecondKnown.{long_fates as fates_count, long_numbers as numbers_are_many}
+use Rattle.bind_carry.specs.{BoundGains.type_under_key, FirstPass.IsFirstPass, SecondPass.IsSecondPass, First.first_fates, Shown.type_in}
+use Rattle.bind_carry.specs.declared.{fate.Fate.Fate, plan.Carried.Carried}
+use Rattle.bind_carry.proofs.{CopiesPlaced.some_same, CopiesPlaced.stands_under, SecondTypes.second_long, SecondTypes.unified_set, SecondTypes.IsUnified}
+use Rattle.bind_carry.proofs.{LabelsFound.label_found, LabelsFound.label_held, SettledParts.stands_still}
+use Rattle.bind_carry.proofs.SecondKnown.{number_type, type_number, long_fates as fates_count, long_numbers as numbers_are_many}
 use Rattle.bind_carry.proofs.SecondStands.{adds, before, falls, fates, initial, second}
-use Rattle.bind_carry.proofs.SecondTypes.{second_long, unified_set, IsUnified}
-use Rattle.bind_carry.proofs.SettledParts.{stands_still}
-use Rattle.bind_carry.specs.First.{first_fates}
-use Rattle.bind_carry.specs.Shown.{type_in}
 use Rattle.bind_copy.specs.Copies.{number_under}
 use Rattle.base_lemmas.proofs.Elements.{get-contains}
+use Rattle.wit_model.specs.declared.model.WorldKey.TheVariants as key
+use Rattle.bind_carry.specs.declared.fate.Fate.TheVariants as fate
 
 module _ (own other merged : Resolve) (valid_own : IsValid own) (valid_other : IsValid other) (world other_world : ℕ) (w v : World) (m : Matches) (c : Carried) (first_numbers : List ℕ)
     (p : IsFirstPass own other merged m c first_numbers) (copied : List Bool) (interfaces types : List ℕ)

@@ -1,43 +1,24 @@
 -- Entries of the other's bound world: those whose keys are new are ready to be copied, and an own one stands for each of the others.
 use Rattle.std.proofs.Common.{◌≡◌, refl, sym, ap, subst, ◌∙◌, ℕ, ◌+◌, arith, Bool, true, false, not, ◌||◌, List, [], length, map, Option, Some, None, is_some, unwrap_or}
-use Rattle.std.specs.Prelude.{String}
+use Rattle.std.proofs.lemmas.{List.length-map, Option.slice_get_within}
+use Rattle.std.specs.{Prelude.String, List.list_any, List.Contains, Map.lookup}
 use Rattle.std.specs.declared.alloc.Global.{Global}
-use Rattle.std.specs.List.{list_any, Contains}
-use Rattle.std.specs.Map.{lookup}
-use Rattle.std.proofs.lemmas.List.{length-map}
-use Rattle.std.proofs.lemmas.Option.{slice_get_within}
-use Rattle.wit_model.specs.declared.model.Interface.{Interface}
-use Rattle.wit_model.specs.declared.model.InterfaceId.{InterfaceId}
-use Rattle.wit_model.specs.declared.model.Resolve.{Resolve}
+use Rattle.wit_model.specs.declared.model.{Interface.Interface, InterfaceId.InterfaceId, Resolve.Resolve, World.World, WorldItem.WorldItem, WorldKey.WorldKey}
 use Rattle.wit_model.specs.declared.model.TypeDef.{TypeDef}
-use Rattle.wit_model.specs.declared.model.World.{World}
-use Rattle.wit_model.specs.declared.model.WorldItem.{WorldItem}
-use Rattle.wit_model.specs.declared.model.WorldKey.{WorldKey}
-use Rattle.wit_model.specs.declared.model.WorldKey.TheVariants as key
-use Rattle.wit_model.specs.Lookup.{interface_at, interface_path, key_text}
-use Rattle.wit_model.specs.Text.{text_of}
-use Rattle.wit_model.specs.Valid.{IsValid, key_eq}
+use Rattle.wit_model.specs.{Lookup.interface_at, Lookup.interface_path, Lookup.key_text, Text.text_of, Valid.IsValid, Valid.key_eq}
 use Rattle.bind_copy.specs.Copies.{is_key_under, is_new_under, number_under}
 use Rattle.bind_match.specs.declared.matches.Matches.{Matches}
 use Rattle.bind_union.specs.Carried.{KeyBecomes, Renumbering}
 use Rattle.bind_union.proofs.Lists.{no_true}
-use Rattle.bind_carry.specs.First.{flag_under}
-use Rattle.bind_carry.specs.FirstPass.{IsFirstPass}
-use Rattle.bind_carry.specs.Numbers.{interface_number, numbers_of}
-use Rattle.bind_carry.specs.ReadyItems.{IsKeyReady}
-use Rattle.bind_carry.specs.Renumbered.{is_matched}
-use Rattle.bind_carry.specs.SecondPass.{IsSecondPass}
+use Rattle.bind_carry.specs.{First.flag_under, Renumbered.is_matched}
+use Rattle.bind_carry.specs.{FirstPass.IsFirstPass, Numbers.interface_number, Numbers.numbers_of, ReadyItems.IsKeyReady, SecondPass.IsSecondPass}
 use Rattle.bind_carry.specs.declared.plan.Carried.{Carried}
-use Rattle.bind_carry.proofs.FirstCopies.{copied_behind}
-use Rattle.bind_carry.proofs.FirstMatched.{interface_is}
-use Rattle.bind_carry.proofs.SecondAgreed.{first, named_is_carried, second}
-use Rattle.bind_carry.proofs.SecondInterfaces.{carried_number}
-use Rattle.bind_carry.proofs.SecondKnown.{chosen, long, same_label}
-use Rattle.bind_carry.proofs.SecondStands.{named_carried_there, second_named}
-use Rattle.bind_carry.proofs.WorldEntries.{any_place, label_new, IsPlacedIn}
-use Rattle.base_lemmas.proofs.Elements.{get-contains, lookup_stands}
-use Rattle.base_lemmas.proofs.Numbers.{equal}
+use Rattle.bind_carry.proofs.{FirstCopies.copied_behind, FirstMatched.interface_is, SecondAgreed.first, SecondAgreed.named_is_carried, SecondAgreed.second}
+use Rattle.bind_carry.proofs.{SecondInterfaces.carried_number, WorldEntries.any_place, WorldEntries.label_new, WorldEntries.IsPlacedIn}
+use Rattle.bind_carry.proofs.{SecondKnown.chosen, SecondKnown.long, SecondKnown.same_label, SecondStands.named_carried_there, SecondStands.second_named}
+use Rattle.base_lemmas.proofs.{Elements.get-contains, Elements.lookup_stands, Numbers.equal}
 use Rattle.wit_model.proofs.TextLemmas.{text_same as text-same}
+use Rattle.wit_model.specs.declared.model.WorldKey.TheVariants as key
 
 module _ (own other merged : Resolve) (valid_own : IsValid own) (valid_other : IsValid other) (world other_world : ℕ) (w v : World) (m : Matches) (c : Carried) (first_numbers : List ℕ)
     (p : IsFirstPass own other merged m c first_numbers) (copied : List Bool) (interfaces types : List ℕ)

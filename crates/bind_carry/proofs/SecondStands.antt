@@ -1,51 +1,30 @@
 -- Types that stand in what the bound world gains: those by path for what they stand for by path.
 use Rattle.std.proofs.Common.{◌≡◌, ◌⊎◌, inl, inr, refl, sym, ap, ◌∙◌, ℕ, ◌+◌, Bool, true, false, ◌&&◌, ◌||◌, ◌==◌, List, [], length, Option, Some, None, is_some, option_map, slice_get, unwrap_or, if◌then◌else◌}
-use Rattle.std.specs.List.{list_all}
-use Rattle.std.specs.Option.{option_map_or}
 use Rattle.std.proofs.lemmas.Bool.{or_right}
-use Rattle.wit_model.specs.declared.model.Interface.{Interface}
-use Rattle.wit_model.specs.declared.model.InterfaceId.{InterfaceId}
-use Rattle.wit_model.specs.declared.model.Resolve.{Resolve}
-use Rattle.wit_model.specs.declared.model.TypeDef.{TypeDef}
-use Rattle.wit_model.specs.declared.model.TypeOwner.{TypeOwner}
-use Rattle.wit_model.specs.declared.model.TypeOwner.TheVariants as owner
+use Rattle.std.specs.{List.list_all, Option.option_map_or}
+use Rattle.wit_model.specs.declared.model.{Interface.Interface, InterfaceId.InterfaceId, Resolve.Resolve, TypeDef.TypeDef, TypeOwner.TypeOwner, WorldId.WorldId}
 use Rattle.wit_model.specs.declared.model.World.{World}
-use Rattle.wit_model.specs.declared.model.WorldId.{WorldId}
-use Rattle.wit_model.specs.Lookup.{interface_at, interface_path, type_at}
-use Rattle.wit_model.specs.Parts.{same_owner}
-use Rattle.wit_model.specs.Rules.{is_resource_itself, passes}
-use Rattle.wit_model.specs.Uses.{alias_target}
-use Rattle.wit_model.specs.Valid.{IsValid, as_interface}
+use Rattle.wit_model.specs.{Lookup.interface_at, Lookup.interface_path, Lookup.type_at, Rules.is_resource_itself, Rules.passes, Uses.alias_target}
+use Rattle.wit_model.specs.{Parts.same_owner, Valid.IsValid, Valid.as_interface}
 use Rattle.wit_model.proofs.OnePath.{named-path}
 use Rattle.bind_copy.specs.Copies.{number_under}
 use Rattle.bind_match.specs.declared.matches.Matches.{Matches}
-use Rattle.bind_union.specs.Carried.{carries_owner, owner_under, IsNamesake, IsType, Renumbering}
-use Rattle.bind_union.specs.Images.{HasImageKind}
+use Rattle.bind_union.specs.{Carried.carries_owner, Carried.owner_under, Carried.IsNamesake, Carried.IsType, Carried.Renumbering, Images.HasImageKind}
 use Rattle.bind_union.specs.Views.{kind_view, view_numbers}
-use Rattle.bind_union.proofs.Homes.{alias_of_all}
-use Rattle.bind_union.proofs.Images.{numbers_of_view}
-use Rattle.bind_union.proofs.Lists.{no_true}
-use Rattle.bind_union.proofs.Namesakes.{target_home, target_named}
-use Rattle.bind_union.proofs.ViewTests.{alias_same, resource_same}
-use Rattle.bind_carry.specs.BoundGains.{gains_any, unified}
+use Rattle.bind_union.proofs.{Homes.alias_of_all, Lists.no_true}
+use Rattle.bind_union.proofs.{Images.numbers_of_view, Namesakes.target_home, Namesakes.target_named, ViewTests.alias_same, ViewTests.resource_same}
+use Rattle.bind_carry.specs.{BoundGains.gains_any, BoundGains.unified, FirstPass.IsFirstPass, SecondPass.IsSecondPass}
 use Rattle.bind_carry.specs.Fates.{are_carried, carries, copies, is_carried, settled, settled_from, FallBelow}
 use Rattle.bind_carry.specs.First.{beside_first, first_fates, flag_under, is_named_at, second_from, second_in}
-use Rattle.bind_carry.specs.FirstPass.{IsFirstPass}
-use Rattle.bind_carry.specs.Initial.{IsInitial}
-use Rattle.bind_carry.specs.Renumbered.{first_of, is_copied, is_matched, met_under, second_of}
-use Rattle.bind_carry.specs.SecondPass.{IsSecondPass}
-use Rattle.bind_carry.specs.declared.fate.Fate.{Fate}
-use Rattle.bind_carry.specs.declared.fate.Fate.TheVariants as fate
-use Rattle.bind_carry.specs.declared.plan.Carried.{Carried}
-use Rattle.bind_carry.proofs.CopiesPlaced.{stands_under}
-use Rattle.bind_carry.proofs.FirstMatched.{named_of_path, there_of_path}
-use Rattle.bind_carry.proofs.PartsCarried.{has_home}
-use Rattle.bind_carry.proofs.SecondInitial.{before_at, second_starts, IsBefore, IsKnown}
-use Rattle.bind_carry.proofs.SecondKnown.{is_known, named_number, named_stays, range}
-use Rattle.bind_carry.proofs.SecondKnown.{long_fates as fates_count, long_numbers as numbers_are_many}
-use Rattle.bind_carry.proofs.SecondTypes.{unified_at, IsUnified}
-use Rattle.bind_carry.proofs.SettledParts.{copied_still, settled_all, stands_still, unnamed_parts}
+use Rattle.bind_carry.specs.{Initial.IsInitial, Renumbered.first_of, Renumbered.is_copied, Renumbered.is_matched, Renumbered.met_under, Renumbered.second_of}
+use Rattle.bind_carry.specs.declared.{fate.Fate.Fate, plan.Carried.Carried}
+use Rattle.bind_carry.proofs.{CopiesPlaced.stands_under, SecondInitial.before_at, SecondInitial.second_starts, SecondInitial.IsBefore, SecondInitial.IsKnown}
+use Rattle.bind_carry.proofs.{FirstMatched.named_of_path, FirstMatched.there_of_path, SecondTypes.unified_at, SecondTypes.IsUnified}
+use Rattle.bind_carry.proofs.{PartsCarried.has_home, SettledParts.copied_still, SettledParts.settled_all, SettledParts.stands_still, SettledParts.unnamed_parts}
+use Rattle.bind_carry.proofs.SecondKnown.{is_known, named_number, named_stays, range, long_fates as fates_count, long_numbers as numbers_are_many}
 use Rattle.base_lemmas.proofs.Options.{nameless as none_of}
+use Rattle.wit_model.specs.declared.model.TypeOwner.TheVariants as owner
+use Rattle.bind_carry.specs.declared.fate.Fate.TheVariants as fate
 
 beside_left : (g : Fate) (k : ℕ) → carries g ≡ false → beside_first g k ≡ fate.Left
 beside_left g k h = ap (λ b. if b then fate.Stands k else fate.Left) h

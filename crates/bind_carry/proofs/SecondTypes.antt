@@ -1,17 +1,12 @@
 -- What becomes of types in what the bound world gains, before those without a name have their fates.
 use Rattle.std.proofs.Common.{◌≡◌, ◌⊎◌, inl, inr, refl, sym, ap, subst, ◌∙◌, ℕ, zero, suc, ◌<◌, arith, Bool, true, false, ◌==◌, List, [], ◌∷◌, length, Option, Some, None, slice_get, slice_set, unwrap_or}
-use Rattle.wit_model.specs.declared.model.Resolve.{Resolve}
-use Rattle.wit_model.specs.declared.model.TypeDef.{TypeDef}
-use Rattle.wit_model.specs.declared.model.TypeId.{TypeId}
-use Rattle.wit_model.specs.declared.model.WorldItem.{WorldItem}
-use Rattle.wit_model.specs.declared.model.WorldKey.{WorldKey}
-use Rattle.bind_carry.specs.BoundGains.{type_under_key, unified, unify_one}
-use Rattle.bind_carry.specs.First.{beside_first, second_from, second_in}
+use Rattle.wit_model.specs.declared.model.{Resolve.Resolve, TypeDef.TypeDef, TypeId.TypeId, WorldItem.WorldItem, WorldKey.WorldKey}
+use Rattle.bind_carry.specs.{BoundGains.type_under_key, BoundGains.unified, BoundGains.unify_one, First.beside_first, First.second_from, First.second_in}
 use Rattle.bind_carry.specs.Shown.{type_in}
 use Rattle.bind_carry.specs.declared.fate.Fate.{Fate}
-use Rattle.bind_carry.specs.declared.fate.Fate.TheVariants as fate
 use Rattle.bind_carry.proofs.PassedTypes.{fate_there}
 use Rattle.base_lemmas.proofs.Numbers.{differ, equal}
+use Rattle.bind_carry.specs.declared.fate.Fate.TheVariants as fate
 
 -- ---- by owners
 

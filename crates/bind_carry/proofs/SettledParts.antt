@@ -1,16 +1,15 @@
 -- What becomes of types in the end, place by place: a type without a name is copied exactly where all its parts are carried, if anything is added.
 use Rattle.std.proofs.Common.{◌≡◌, refl, sym, ap, ap₂, subst, ◌∙◌, ℕ, zero, suc, ◌+◌, ◌<◌, arith, Bool, true, false, ◌&&◌, nat_lt, List, [], ◌∷◌, ◌++◌, length, Some, is_none, slice_get, unwrap_or, append_assoc, append-nil}
-use Rattle.std.specs.Option.{option_map_or}
 use Rattle.std.proofs.lemmas.Bool.{ltb-true}
-use Rattle.wit_model.specs.declared.model.TypeDef.{TypeDef}
-use Rattle.wit_model.specs.declared.model.TypeOwner.{TypeOwner}
+use Rattle.std.specs.Option.{option_map_or}
+use Rattle.wit_model.specs.declared.model.{TypeDef.TypeDef, TypeOwner.TypeOwner}
 use Rattle.bind_copy.specs.Copies.{all_below}
 use Rattle.bind_union.specs.Views.{kind_view, view_numbers}
 use Rattle.bind_union.proofs.Lists.{no_true}
 use Rattle.bind_carry.specs.Fates.{are_carried, carries, is_carried, settled, settled_from, FallBelow}
 use Rattle.bind_carry.specs.declared.fate.Fate.{Fate}
-use Rattle.bind_carry.specs.declared.fate.Fate.TheVariants as fate
 use Rattle.base_lemmas.proofs.Bools.{left_of as first_true, right_of as second_true}
+use Rattle.bind_carry.specs.declared.fate.Fate.TheVariants as fate
 
 abbrev parts : TypeDef → List ℕ
 parts t = view_numbers (kind_view t.kind)

@@ -1,31 +1,20 @@
 -- What a union adds stands under keys that weren't there.
 use Rattle.std.proofs.Common.{◌≡◌, sym, ap, subst, ◌∙◌, ℕ, Bool, not, List, ◌++◌, length, Some, slice_get, string_eq}
-use Rattle.std.specs.Prelude.{String}
+use Rattle.std.proofs.lemmas.{List.length-map, Map.Made.IsDistinct-keys_filter}
+use Rattle.std.specs.{Prelude.String, List.filter, List.AllZip}
 use Rattle.std.specs.declared.alloc.Global.{Global}
-use Rattle.std.specs.List.{filter, AllZip}
-use Rattle.std.proofs.lemmas.List.{length-map}
-use Rattle.std.proofs.lemmas.Map.Made.{IsDistinct-keys_filter}
 use Rattle.indexmap.specs.IndexMap.{insert_all, IsUnique}
-use Rattle.wit_model.specs.declared.model.InterfaceId.{InterfaceId}
-use Rattle.wit_model.specs.declared.model.Package.{Package}
-use Rattle.wit_model.specs.declared.model.Resolve.{Resolve}
-use Rattle.wit_model.specs.declared.model.World.{World}
-use Rattle.wit_model.specs.declared.model.WorldId.{WorldId}
-use Rattle.wit_model.specs.Lookup.{package_at}
-use Rattle.wit_model.specs.Valid.{IsValid, key_eq}
+use Rattle.wit_model.specs.declared.model.{InterfaceId.InterfaceId, Package.Package, Resolve.Resolve, World.World, WorldId.WorldId}
+use Rattle.wit_model.specs.{Lookup.package_at, Valid.IsValid, Valid.key_eq}
 use Rattle.bind_add.specs.declared.added.Names.{Names}
 use Rattle.bind_match.specs.Matching.{is_root_world, own_interface_of, own_package_of, own_world_of}
 use Rattle.bind_match.specs.declared.matches.Matches.{Matches}
-use Rattle.bind_carry.specs.AddedApart.{AreMatchedByName, UnionsAreApart}
-use Rattle.bind_carry.specs.Marked.{AreChosen}
+use Rattle.bind_carry.specs.{AddedApart.AreMatchedByName, AddedApart.UnionsAreApart, Marked.AreChosen, Which.AreMatchedAll, Which.IsNumbered}
 use Rattle.bind_carry.specs.Packaged.{grown_packages, is_copied_interface, is_copied_world, IsGained, IsInterfaceName, IsWorldName}
-use Rattle.bind_carry.specs.Which.{AreMatchedAll, IsNumbered}
 use Rattle.bind_carry.specs.declared.plan.Carried.{Carried}
-use Rattle.bind_carry.proofs.CopiesPlaced.{some_same}
-use Rattle.bind_carry.proofs.KeysGained.{chosen, exports_behind, imports_behind}
+use Rattle.bind_carry.proofs.{CopiesPlaced.some_same, KeysGained.chosen, KeysGained.exports_behind, KeysGained.imports_behind}
 use Rattle.bind_carry.proofs.NamesGained.{copied_interface, copied_world, distinct_along, fresh_along, fresh_behind, grown_of, home_of, is_fresh, passes_of_filter, world_of, IsGrownOf, IsHome}
-use Rattle.base_lemmas.proofs.Bools.{left_of as first_true}
-use Rattle.base_lemmas.proofs.Elements.{zip_at_right as zip_at}
+use Rattle.base_lemmas.proofs.{Bools.left_of as first_true, Elements.zip_at_right as zip_at}
 
 -- the tables are as long as what they are of
 pub matched_all : (own other : Resolve) (m : Matches) → AreMatchedByName own other m → AreMatchedAll other m

@@ -1,46 +1,25 @@
 -- No map of what was merged has a key twice: what is inserted keeps keys apart, and copies have the names of what they are of.
 use Rattle.std.proofs.Common.{◌≡◌, ◌⊎◌, inl, inr, refl, sym, ap, subst, ◌∙◌, ℕ, zero, suc, arith, Bool, true, false, List, [], ◌∷◌, ◌++◌, map, Option, Some, slice_get, slice_set, string_eq, if◌then◌else◌}
-use Rattle.std.specs.Prelude.{String}
+use Rattle.std.proofs.lemmas.{Map.Made.IsDistinct-keys_filter, Option.slice_get_within}
+use Rattle.std.specs.{Prelude.String, List.filter, List.AllByRecursion, List.AllZip, List.IsDistinct, Map.keys_of}
 use Rattle.std.specs.declared.alloc.Global.{Global}
-use Rattle.std.specs.List.{filter, AllByRecursion, AllZip, IsDistinct}
-use Rattle.std.specs.Map.{keys_of}
-use Rattle.std.proofs.lemmas.Map.Made.{IsDistinct-keys_filter}
-use Rattle.std.proofs.lemmas.Option.{slice_get_within}
 use Rattle.indexmap.specs.IndexMap.{insert_all, insert_entry, IsUnique}
-use Rattle.wit_model.specs.declared.model.Interface.{Interface}
-use Rattle.wit_model.specs.declared.model.Package.{Package}
-use Rattle.wit_model.specs.declared.model.PackageId.{PackageId}
-use Rattle.wit_model.specs.declared.model.Resolve.{Resolve}
-use Rattle.wit_model.specs.declared.model.TypeId.{TypeId}
-use Rattle.wit_model.specs.declared.model.World.{World}
-use Rattle.wit_model.specs.declared.model.WorldItem.{WorldItem}
-use Rattle.wit_model.specs.declared.model.WorldKey.{WorldKey}
-use Rattle.wit_model.specs.declared.model.WorldKey.TheVariants as key
-use Rattle.wit_model.specs.Lookup.{interface_at, package_at, world_at}
-use Rattle.wit_model.specs.Text.{Text, text_eq, text_of}
-use Rattle.wit_model.specs.Valid.{key_eq, IsValid}
+use Rattle.wit_model.specs.declared.model.{Interface.Interface, Package.Package, PackageId.PackageId, Resolve.Resolve, WorldItem.WorldItem, WorldKey.WorldKey}
+use Rattle.wit_model.specs.declared.model.{TypeId.TypeId, World.World}
+use Rattle.wit_model.specs.{Lookup.interface_at, Lookup.package_at, Lookup.world_at, Text.Text, Text.text_eq, Text.text_of, Valid.key_eq, Valid.IsValid}
 use Rattle.wit_model.proofs.Distinct.{text_eq_flip}
 use Rattle.bind_add.specs.Growth.{GainsNone, HasGained, HasGainedItems, IsAdded}
-use Rattle.bind_add.specs.declared.added.Added.{Added}
-use Rattle.bind_add.specs.declared.added.Names.{Names}
+use Rattle.bind_add.specs.declared.added.{Added.Added, Names.Names}
 use Rattle.bind_copy.specs.Copies.{become_one, is_new_under, names_in, type_names, AreNewCopied, IsEntryUnder, IsFunctionEntry, IsInterfaceUnder, IsKeyUnder}
-use Rattle.bind_copy.proofs.Gained.{same_images}
+use Rattle.bind_copy.proofs.{Gained.same_images, CopiesLemmas.names_alone_under}
 use Rattle.bind_match.specs.declared.matches.Matches.{Matches}
-use Rattle.bind_carry.specs.AddedDistinct.{UnionsHaveDistinctKeys}
-use Rattle.bind_carry.specs.MatchedSame.{AreMatchedAt, NoneOfPath}
+use Rattle.bind_carry.specs.{AddedDistinct.UnionsHaveDistinctKeys, Union.IsUnionOf, Which.AreMatchedAll}
+use Rattle.bind_carry.specs.{MatchedSame.AreMatchedAt, MatchedSame.NoneOfPath, Whole.home_under, Whole.kept, Whole.IsInterfaceCarried, Whole.IsWorldCarried}
 use Rattle.bind_carry.specs.Packaged.{is_copied_interface, is_copied_world, IsInterfaceName, IsPackageCarried, IsWorldName}
-use Rattle.bind_carry.specs.Union.{IsUnionOf}
-use Rattle.bind_carry.specs.Which.{AreMatchedAll}
-use Rattle.bind_carry.specs.Whole.{home_under, kept, IsInterfaceCarried, IsWorldCarried}
 use Rattle.bind_carry.specs.declared.plan.Carried.{Carried}
-use Rattle.bind_carry.proofs.CopiesPlaced.{some_same}
-use Rattle.bind_carry.proofs.FirstPackages.{some_gains}
-use Rattle.bind_carry.proofs.KeysGained.{by_path_apart}
-use Rattle.bind_carry.proofs.NamesGained.{distinct_along}
-use Rattle.base_lemmas.proofs.Elements.{zip_at_right as zip_at}
-use Rattle.base_lemmas.proofs.Lists.{within_there}
-use Rattle.base_lemmas.proofs.Numbers.{turned as number_flip}
-use Rattle.bind_copy.proofs.CopiesLemmas.{names_alone_under}
+use Rattle.bind_carry.proofs.{CopiesPlaced.some_same, FirstPackages.some_gains, KeysGained.by_path_apart, NamesGained.distinct_along}
+use Rattle.base_lemmas.proofs.{Elements.zip_at_right as zip_at, Lists.within_there, Numbers.turned as number_flip}
+use Rattle.wit_model.specs.declared.model.WorldKey.TheVariants as key
 
 -- ---- keys the other way round
 

@@ -1,55 +1,29 @@
 -- All exports of the other's bound world are added, under the keys that are answered.
 use Rattle.std.proofs.Common.{◌≡◌, refl, sym, ap, ap₂, subst, ◌∙◌, ℕ, zero, suc, ◌++◌, slice_get, slice_set, ◌+◌, arith, Bool, true, false, ◌||◌, cond, List, [], ◌∷◌, length, map, Option, Some, None, option_map, option_and_then, unwrap_or, is_some}
-use Rattle.std.specs.Prelude.{String}
+use Rattle.std.proofs.lemmas.{List.length-map, List.map-append, Option.slice_get_within, Bool.not-false as not_not}
+use Rattle.std.specs.{Prelude.String, List.filter, List.list_any, List.AllZip, List.Contains, Map.keys_of}
 use Rattle.std.specs.declared.alloc.Global.{Global}
-use Rattle.std.specs.List.{filter, list_any, AllZip, Contains}
-use Rattle.std.specs.Map.{keys_of}
-use Rattle.std.proofs.lemmas.List.{length-map, map-append}
-use Rattle.std.proofs.lemmas.Option.{slice_get_within}
-use Rattle.wit_model.specs.declared.model.Interface.{Interface}
-use Rattle.wit_model.specs.declared.model.InterfaceId.{InterfaceId}
-use Rattle.wit_model.specs.declared.model.Package.{Package}
-use Rattle.wit_model.specs.declared.model.PackageId.{PackageId}
-use Rattle.wit_model.specs.declared.model.Resolve.{Resolve}
-use Rattle.wit_model.specs.declared.model.TypeDef.{TypeDef}
-use Rattle.wit_model.specs.declared.model.World.{World}
-use Rattle.wit_model.specs.declared.model.WorldItem.{WorldItem}
-use Rattle.wit_model.specs.declared.model.WorldKey.{WorldKey}
-use Rattle.wit_model.specs.declared.model.WorldKey.TheVariants as key
+use Rattle.wit_model.specs.declared.model.{Interface.Interface, InterfaceId.InterfaceId, PackageId.PackageId, WorldItem.WorldItem, WorldKey.WorldKey}
+use Rattle.wit_model.specs.declared.model.{Package.Package, Resolve.Resolve, TypeDef.TypeDef, World.World}
 use Rattle.wit_model.specs.Lookup.{identity_of, interface_at, interface_path, key_text, package_at, path_of_interface, world_at}
-use Rattle.wit_model.specs.Names.{path_in}
-use Rattle.wit_model.specs.Rules.{package_number}
-use Rattle.wit_model.specs.Text.{optional_text, text_of, Text}
-use Rattle.wit_model.specs.Valid.{key_eq, IsValid}
+use Rattle.wit_model.specs.{Names.path_in, Rules.package_number, Text.optional_text, Text.text_of, Text.Text, Valid.key_eq, Valid.IsValid}
 use Rattle.bind_add.specs.Growth.{HasGainedItems}
 use Rattle.bind_add.specs.declared.added.Added.{Added}
 use Rattle.bind_copy.specs.Copies.{is_key_under, is_new_under, number_under, IsEntryUnder, IsKeyUnder}
 use Rattle.bind_match.specs.declared.matches.Matches.{Matches}
 use Rattle.bind_union.specs.Carried.{IsCarried, IsInterface, Renumbering}
-use Rattle.bind_union.proofs.Carrying.{path_by, path_parts, same_identity}
-use Rattle.bind_union.proofs.Lists.{no_true}
+use Rattle.bind_union.proofs.{Carrying.path_by, Carrying.path_parts, Carrying.same_identity, Lists.no_true}
 use Rattle.bind_carry.specs.AddedKeys.{key_view, labelled, numbered, ExportsAreAdded, ExportsComeBehind, KeysKeepTexts}
-use Rattle.bind_carry.specs.First.{first_fates, flag_under}
-use Rattle.bind_carry.specs.Listed.{IsHomeBelow}
-use Rattle.bind_carry.specs.MatchedSame.{AreMatchedAt, NoneOfPath}
-use Rattle.bind_carry.specs.Numbers.{interface_number, numbers_of}
-use Rattle.bind_carry.specs.Renumbered.{first_of, is_matched}
-use Rattle.bind_carry.specs.Union.{IsUnionOf}
-use Rattle.bind_carry.specs.Which.{AreMatchedAll}
+use Rattle.bind_carry.specs.{First.first_fates, First.flag_under, Listed.IsHomeBelow, Renumbered.first_of, Renumbered.is_matched, Union.IsUnionOf}
+use Rattle.bind_carry.specs.{MatchedSame.AreMatchedAt, MatchedSame.NoneOfPath, Numbers.interface_number, Numbers.numbers_of, Which.AreMatchedAll}
 use Rattle.bind_carry.specs.declared.plan.Carried.{Carried}
-use Rattle.bind_carry.proofs.CopiesPlaced.{some_same}
-use Rattle.bind_carry.proofs.FirstCarried.{first_is_carried}
-use Rattle.bind_carry.proofs.FirstCopies.{copied_behind}
-use Rattle.bind_carry.proofs.FirstMatched.{interface_is}
-use Rattle.bind_carry.proofs.FirstOfUnion.{unions_have_the_first}
+use Rattle.bind_carry.proofs.{CopiesPlaced.some_same, WorldEntries.any_place, WorldEntries.export_keyed, WorldEntries.IsNumberedSame, WorldEntries.IsPlacedIn}
+use Rattle.bind_carry.proofs.{FirstCarried.first_is_carried, FirstCopies.copied_behind, FirstMatched.interface_is, FirstOfUnion.unions_have_the_first}
 use Rattle.bind_carry.proofs.KeysGained.{by_path_apart, chosen, export_named, exports_apart, exports_behind, named_carried, named_number}
 use Rattle.bind_carry.proofs.Ranges.{is_in_range}
-use Rattle.bind_carry.proofs.WorldEntries.{any_place, export_keyed, IsNumberedSame, IsPlacedIn}
-use Rattle.base_lemmas.proofs.Elements.{contains-later, get-contains}
-use Rattle.base_lemmas.proofs.Lists.{within_there}
-use Rattle.base_lemmas.proofs.Numbers.{equal}
-use Rattle.std.proofs.lemmas.Bool.{not-false as not_not}
+use Rattle.base_lemmas.proofs.{Elements.contains-later, Elements.get-contains, Lists.within_there, Numbers.equal}
 use Rattle.wit_model.proofs.TextLemmas.{text_same}
+use Rattle.wit_model.specs.declared.model.WorldKey.TheVariants as key
 
 -- ---- lists
 

@@ -1,55 +1,26 @@
 -- What is copied of types: those whose owners are, types that new imports are, and types without a name that are made of what is carried.
 use Rattle.std.proofs.Common.{◌≡◌, ◌⊎◌, inl, inr, refl, sym, ap, subst, ◌∙◌, ℕ, zero, suc, ◌<◌, arith, Bool, true, false, ◌&&◌, ◌==◌, ◌+◌, cond, nat_lt, List, [], ◌∷◌, length, map, Option, Some, None, is_none, is_some, option_map, slice_get, if◌then◌else◌}
-use Rattle.std.specs.Prelude.{String, count_by, option_and_then}
+use Rattle.std.proofs.lemmas.{Bool.ltb-true, List.length-map, List.Sums.sum_by-cons, Option.slice_get-map, Option.slice_get_within}
+use Rattle.std.specs.{Prelude.String, Prelude.count_by, Prelude.option_and_then, HashMap.get_by_text, List.Contains, Option.option_map_or}
 use Rattle.std.specs.declared.alloc.Global.{Global}
-use Rattle.std.specs.HashMap.{get_by_text}
-use Rattle.std.specs.List.{Contains}
-use Rattle.std.specs.Option.{option_map_or}
-use Rattle.std.proofs.lemmas.Bool.{ltb-true}
-use Rattle.std.proofs.lemmas.List.{length-map}
-use Rattle.std.proofs.lemmas.List.Sums.{sum_by-cons}
-use Rattle.std.proofs.lemmas.Option.{slice_get-map, slice_get_within}
-use Rattle.wit_model.specs.Lookup.{interface_at, world_at}
-use Rattle.wit_model.specs.Rules.{item_type}
-use Rattle.wit_model.specs.Text.{Text, optional_text, text_of}
-use Rattle.wit_model.specs.Valid.{IsValid, as_world}
-use Rattle.wit_model.specs.declared.model.InterfaceId.{InterfaceId}
-use Rattle.wit_model.specs.declared.model.Resolve.{Resolve}
-use Rattle.wit_model.specs.declared.model.TypeDef.{TypeDef}
-use Rattle.wit_model.specs.declared.model.TypeId.{TypeId}
-use Rattle.wit_model.specs.declared.model.TypeOwner.{TypeOwner}
-use Rattle.wit_model.specs.declared.model.TypeOwner.TheVariants as owner
-use Rattle.wit_model.specs.declared.model.World.{World}
-use Rattle.wit_model.specs.declared.model.WorldId.{WorldId}
-use Rattle.wit_model.specs.declared.model.WorldItem.{WorldItem}
-use Rattle.wit_model.specs.declared.model.WorldKey.{WorldKey}
+use Rattle.wit_model.specs.{Lookup.interface_at, Lookup.world_at, Rules.item_type, Text.Text, Text.optional_text, Text.text_of, Valid.IsValid, Valid.as_world}
+use Rattle.wit_model.specs.declared.model.{InterfaceId.InterfaceId, Resolve.Resolve, TypeId.TypeId, TypeOwner.TypeOwner, WorldItem.WorldItem, WorldKey.WorldKey}
+use Rattle.wit_model.specs.declared.model.{TypeDef.TypeDef, World.World, WorldId.WorldId}
 use Rattle.wit_model.proofs.Elements.{contains-get}
 use Rattle.bind_copy.specs.Copies.{is_new_under}
-use Rattle.bind_union.proofs.Lists.{no_true}
-use Rattle.bind_union.proofs.WorldNamesakes.{type_imported, world_type, IsImported}
-use Rattle.bind_carry.specs.BoundGains.{bound_fates, gains_any, type_under_key, unified}
+use Rattle.bind_union.proofs.{Lists.no_true, WorldNamesakes.type_imported, WorldNamesakes.world_type, WorldNamesakes.IsImported}
+use Rattle.bind_carry.specs.{BoundGains.bound_fates, BoundGains.gains_any, BoundGains.type_under_key, BoundGains.unified, Renumbered.is_matched, Shown.type_in}
 use Rattle.bind_carry.specs.Fates.{are_carried, carries, copies, is_carried, settled, settled_from, FallBelow}
 use Rattle.bind_carry.specs.First.{adds_any, beside_first, fate_in, fate_named, fate_of, first_fates, flag_under, is_named_at, second_from, second_in}
-use Rattle.bind_carry.specs.Listed.{given_interface, type_named}
+use Rattle.bind_carry.specs.{Listed.given_interface, Listed.type_named, Numbers.copied_count, SecondPass.DoNotClash, TooLong.CarriedThings, TooLong.TypeFates}
 use Rattle.bind_carry.specs.MadeOf.{owned, type_parts, unnamed, IsMadeOf, IsMadeUp, IsOwnedBy}
-use Rattle.bind_carry.specs.Numbers.{copied_count}
-use Rattle.bind_carry.specs.Renumbered.{is_matched}
-use Rattle.bind_carry.specs.SecondPass.{DoNotClash}
-use Rattle.bind_carry.specs.Shown.{type_in}
-use Rattle.bind_carry.specs.TooLong.{CarriedThings, TypeFates}
 use Rattle.bind_carry.specs.declared.fate.Fate.{Fate}
-use Rattle.bind_carry.specs.declared.fate.Fate.TheVariants as fate
-use Rattle.bind_carry.proofs.CopiesPlaced.{some_same}
-use Rattle.bind_carry.proofs.PartsCarried.{no_home}
-use Rattle.bind_carry.proofs.Ranges.{is_in_range}
-use Rattle.bind_carry.proofs.SecondKnown.{number_type, type_number, unmet_new}
+use Rattle.bind_carry.proofs.{CopiesPlaced.some_same, PartsCarried.no_home, Ranges.is_in_range, FirstTypes.beside_stands, FirstTypes.named_no_copy}
+use Rattle.bind_carry.proofs.{SecondKnown.number_type, SecondKnown.type_number, SecondKnown.unmet_new, SettledParts.settled_all, SettledParts.settled_long}
 use Rattle.bind_carry.proofs.SecondTypes.{second_long, unified_at, unified_long, unified_set, IsUnified}
-use Rattle.bind_carry.proofs.SettledParts.{settled_all, settled_long}
-use Rattle.base_lemmas.proofs.Bools.{left_of, right_of}
-use Rattle.base_lemmas.proofs.Elements.{all-contained, get-contains}
-use Rattle.base_lemmas.proofs.Lists.{within_there}
-use Rattle.base_lemmas.proofs.Numbers.{equal}
-use Rattle.bind_carry.proofs.FirstTypes.{beside_stands, named_no_copy}
+use Rattle.base_lemmas.proofs.{Bools.left_of, Bools.right_of, Elements.all-contained, Elements.get-contains, Lists.within_there, Numbers.equal}
+use Rattle.wit_model.specs.declared.model.TypeOwner.TheVariants as owner
+use Rattle.bind_carry.specs.declared.fate.Fate.TheVariants as fate
 
 -- ---- marks
 

@@ -1,28 +1,17 @@
 -- What validity says of the keys of a world, and when a key is new under other numbers.
 use Rattle.std.proofs.Common.{◌≡◌, refl, sym, ap, ap₂, ◌∙◌, ℕ, zero, suc, arith, Bool, true, false, not, ◌&&◌, ◌||◌, ◌==◌, cond, List, [], ◌∷◌, Some, is_some, slice_get}
-use Rattle.std.specs.Prelude.{String}
+use Rattle.std.specs.{Prelude.String, List.list_all, List.list_any, List.Contains, Map.lookup}
 use Rattle.std.specs.declared.alloc.Global.{Global}
-use Rattle.std.specs.List.{list_all, list_any, Contains}
-use Rattle.std.specs.Map.{lookup}
-use Rattle.wit_model.specs.declared.model.Interface.{Interface}
-use Rattle.wit_model.specs.declared.model.InterfaceId.{InterfaceId}
-use Rattle.wit_model.specs.declared.model.Resolve.{Resolve}
-use Rattle.wit_model.specs.declared.model.World.{World}
-use Rattle.wit_model.specs.declared.model.WorldItem.{WorldItem}
-use Rattle.wit_model.specs.declared.model.WorldKey.{WorldKey}
-use Rattle.wit_model.specs.declared.model.WorldKey.TheVariants as key
-use Rattle.wit_model.specs.Lookup.{interface_at, world_at}
+use Rattle.wit_model.specs.declared.model.{Interface.Interface, InterfaceId.InterfaceId, Resolve.Resolve, World.World, WorldItem.WorldItem, WorldKey.WorldKey}
+use Rattle.wit_model.specs.{Lookup.interface_at, Lookup.world_at, Valid.IsValid, Valid.is_place, Valid.key_eq, Valid.numbers_in_range, Valid.world_items}
 use Rattle.wit_model.specs.Rules.{entries_in_range, export_stands, import_stands, in_list, is_id, is_interface_key, item_in_range, key_in_range, package_number, passes}
 use Rattle.wit_model.specs.Uses.{item_interface}
-use Rattle.wit_model.specs.Valid.{IsValid, is_place, key_eq, numbers_in_range, world_items}
-use Rattle.wit_model.proofs.OnePath.{found-in}
+use Rattle.wit_model.proofs.{OnePath.found-in, RulesLemmas.is_id_some as some_id, ValidLemmas.world_passes as world-passes}
 use Rattle.bind_union.proofs.Lists.{no_true}
 use Rattle.bind_copy.specs.Copies.{is_key_under, is_new_under, number_under}
 use Rattle.bind_carry.specs.Shown.{any_new}
-use Rattle.base_lemmas.proofs.Bools.{left_of as first_true, right_of as second_true}
-use Rattle.base_lemmas.proofs.Elements.{all-contained, contains-later}
-use Rattle.wit_model.proofs.RulesLemmas.{is_id_some as some_id}
-use Rattle.wit_model.proofs.ValidLemmas.{world_passes as world-passes}
+use Rattle.base_lemmas.proofs.{Bools.left_of as first_true, Bools.right_of as second_true, Elements.all-contained, Elements.contains-later}
+use Rattle.wit_model.specs.declared.model.WorldKey.TheVariants as key
 
 -- ---- lists
 

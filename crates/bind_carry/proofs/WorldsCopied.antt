@@ -1,40 +1,19 @@
 -- Worlds that are copied whole, as the laws on unions ask for them.
 use Rattle.std.proofs.Common.{◌≡◌, refl, sym, ap, ◌∙◌, ℕ, zero, suc, true, false, List, [], ◌∷◌, ◌++◌, length, map, Option, Some, slice_get}
-use Rattle.std.specs.Prelude.{String}
+use Rattle.std.proofs.lemmas.{List.length-map, Bool.and_from as both}
+use Rattle.std.specs.{Prelude.String, List.list_all, List.AllZip, List.IsDistinct, Map.keys_of}
 use Rattle.std.specs.declared.alloc.Global.{Global}
-use Rattle.std.specs.List.{list_all, AllZip, IsDistinct}
-use Rattle.std.specs.Map.{keys_of}
-use Rattle.std.proofs.lemmas.List.{length-map}
-use Rattle.wit_model.specs.declared.model.InterfaceId.{InterfaceId}
-use Rattle.wit_model.specs.declared.model.Resolve.{Resolve}
-use Rattle.wit_model.specs.declared.model.TypeDef.{TypeDef}
-use Rattle.wit_model.specs.declared.model.TypeId.{TypeId}
-use Rattle.wit_model.specs.declared.model.World.{World}
-use Rattle.wit_model.specs.declared.model.WorldId.{WorldId}
-use Rattle.wit_model.specs.declared.model.WorldItem.{WorldItem}
-use Rattle.wit_model.specs.declared.model.WorldKey.{WorldKey}
-use Rattle.wit_model.specs.declared.model.WorldKey.TheVariants as key
-use Rattle.wit_model.specs.Lookup.{type_at, world_at}
-use Rattle.wit_model.specs.Rules.{package_number}
-use Rattle.wit_model.specs.Text.{text_of}
-use Rattle.wit_model.specs.Valid.{IsValid, as_interface}
+use Rattle.wit_model.specs.declared.model.{InterfaceId.InterfaceId, Resolve.Resolve, TypeDef.TypeDef, WorldId.WorldId, WorldItem.WorldItem, WorldKey.WorldKey}
+use Rattle.wit_model.specs.declared.model.{TypeId.TypeId, World.World}
+use Rattle.wit_model.specs.{Lookup.type_at, Lookup.world_at, Rules.package_number, Text.text_of, Valid.IsValid, Valid.as_interface}
 use Rattle.bind_copy.specs.Copies.{become_one, number_under}
-use Rattle.bind_union.specs.Carried.{Renumbering}
-use Rattle.bind_union.specs.Merged.{IsWorldCopy}
-use Rattle.bind_carry.specs.First.{first_fates, flag_under}
-use Rattle.bind_carry.specs.Listed.{type_named}
-use Rattle.bind_carry.specs.Marked.{AreChosen}
-use Rattle.bind_carry.specs.Numbers.{numbers_of, world_number}
-use Rattle.bind_carry.specs.ReadyItems.{AreReady, IsItemReady, IsKeyReady}
-use Rattle.bind_carry.specs.Renumbered.{first_of, is_matched}
-use Rattle.bind_carry.specs.Whole.{kept, IsWorldCarried}
+use Rattle.bind_union.specs.{Carried.Renumbering, Merged.IsWorldCopy}
+use Rattle.bind_carry.specs.{First.first_fates, First.flag_under, Marked.AreChosen, Numbers.numbers_of, Numbers.world_number, Whole.kept, Whole.IsWorldCarried}
+use Rattle.bind_carry.specs.{Listed.type_named, ReadyItems.AreReady, ReadyItems.IsItemReady, ReadyItems.IsKeyReady, Renumbered.first_of, Renumbered.is_matched}
 use Rattle.bind_carry.specs.declared.plan.Carried.{Carried}
-use Rattle.bind_carry.proofs.FirstInterfaces.{home_number}
-use Rattle.bind_carry.proofs.FirstWorlds.{export_ready, import_ready}
-use Rattle.bind_carry.proofs.JoinedItems.{items_join}
-use Rattle.bind_carry.proofs.KeptPlaced.{kept_placed, IsKeptAt}
-use Rattle.bind_carry.proofs.KeysApart.{is_key_carried, keys_apart}
-use Rattle.std.proofs.lemmas.Bool.{and_from as both}
+use Rattle.bind_carry.proofs.{FirstInterfaces.home_number, FirstWorlds.export_ready, FirstWorlds.import_ready, KeysApart.is_key_carried, KeysApart.keys_apart}
+use Rattle.bind_carry.proofs.{JoinedItems.items_join, KeptPlaced.kept_placed, KeptPlaced.IsKeptAt}
+use Rattle.wit_model.specs.declared.model.WorldKey.TheVariants as key
 
 never_false : {A : Type 0} → true ≡ false → A
 never_false e = let wrong : ⊥ = cc in absurd wrong

@@ -1,16 +1,11 @@
 -- What a union adds stands under keys that weren't there.
 use Rattle.std.specs.Prelude.{◌≡◌, ℕ, List, map, Some}
-use Rattle.wit_model.specs.declared.model.Resolve.{Resolve}
-use Rattle.wit_model.specs.declared.model.World.{World}
-use Rattle.wit_model.specs.declared.model.WorldKey.{WorldKey}
-use Rattle.wit_model.specs.Lookup.{world_at}
-use Rattle.wit_model.specs.Valid.{IsValid}
+use Rattle.wit_model.specs.declared.model.{Resolve.Resolve, World.World, WorldKey.WorldKey}
+use Rattle.wit_model.specs.{Lookup.world_at, Valid.IsValid}
 use Rattle.bind_add.specs.declared.added.Added.{Added}
 use Rattle.bind_match.specs.Matching.{own_interface_of, own_package_of, own_world_of}
 use Rattle.bind_match.specs.declared.matches.Matches.{Matches}
-use Rattle.bind_carry.specs.Apart.{IsApart}
-use Rattle.bind_carry.specs.MatchedSame.{AreMatchedAt, NoneOfPath}
-use Rattle.bind_carry.specs.Union.{IsUnionOf}
+use Rattle.bind_carry.specs.{Apart.IsApart, MatchedSame.AreMatchedAt, MatchedSame.NoneOfPath, Union.IsUnionOf}
 
 -- the table of matches has of each package, interface and world of the other the own one of its name, or path
 pub record AreMatchedByName (own other : Resolve) (m : Matches) : Type 0 where

@@ -1,16 +1,11 @@
 -- No map of what was merged has a key twice.
 use Rattle.std.specs.Prelude.{◌≡◌, ℕ, List, Some}
-use Rattle.wit_model.specs.declared.model.Resolve.{Resolve}
-use Rattle.wit_model.specs.declared.model.World.{World}
-use Rattle.wit_model.specs.declared.model.WorldKey.{WorldKey}
-use Rattle.wit_model.specs.Lookup.{world_at}
-use Rattle.wit_model.specs.Valid.{key_eq, HasDistinctKeys, IsValid}
+use Rattle.wit_model.specs.declared.model.{Resolve.Resolve, World.World, WorldKey.WorldKey}
+use Rattle.wit_model.specs.{Lookup.world_at, Valid.key_eq, Valid.HasDistinctKeys, Valid.IsValid}
 use Rattle.bind_add.specs.Growth.{IsAdded}
 use Rattle.bind_add.specs.declared.added.Added.{Added}
 use Rattle.bind_match.specs.declared.matches.Matches.{Matches}
-use Rattle.bind_carry.specs.MatchedSame.{AreMatchedAt, NoneOfPath}
-use Rattle.bind_carry.specs.Union.{IsUnionOf}
-use Rattle.bind_carry.specs.Which.{AreMatchedAll}
+use Rattle.bind_carry.specs.{MatchedSame.AreMatchedAt, MatchedSame.NoneOfPath, Union.IsUnionOf, Which.AreMatchedAll}
 
 -- So it is once what a union adds is added, where what is matched has one path and one sense.
 abbrev pub UnionsHaveDistinctKeys : Type 0

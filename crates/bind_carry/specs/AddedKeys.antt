@@ -1,22 +1,14 @@
 -- The keys of what is exported, in what was merged.
 use Rattle.std.specs.Prelude.{◌≡◌, ℕ, List, ◌++◌, map, Some}
-use Rattle.std.specs.List.{Contains}
-use Rattle.std.specs.Map.{keys_of}
-use Rattle.wit_model.specs.declared.model.Resolve.{Resolve}
-use Rattle.wit_model.specs.declared.model.World.{World}
-use Rattle.wit_model.specs.declared.model.WorldItem.{WorldItem}
-use Rattle.wit_model.specs.declared.model.WorldKey.{WorldKey}
-use Rattle.wit_model.specs.declared.model.WorldKey.TheVariants as key
-use Rattle.wit_model.specs.Lookup.{key_text, world_at}
-use Rattle.wit_model.specs.Text.{Text, text_of}
-use Rattle.wit_model.specs.Valid.{key_eq, IsValid}
+use Rattle.std.specs.{List.Contains, Map.keys_of}
+use Rattle.wit_model.specs.declared.model.{Resolve.Resolve, World.World, WorldItem.WorldItem, WorldKey.WorldKey}
+use Rattle.wit_model.specs.{Lookup.key_text, Lookup.world_at, Text.Text, Text.text_of, Valid.key_eq, Valid.IsValid}
 use Rattle.bind_add.specs.Growth.{IsAdded}
 use Rattle.bind_add.specs.declared.added.Added.{Added}
 use Rattle.bind_match.specs.Matching.{own_package_of}
 use Rattle.bind_match.specs.declared.matches.Matches.{Matches}
-use Rattle.bind_carry.specs.MatchedSame.{AreMatchedAt, NoneOfPath}
-use Rattle.bind_carry.specs.Union.{IsUnionOf}
-use Rattle.bind_carry.specs.Which.{AreMatchedAll}
+use Rattle.bind_carry.specs.{MatchedSame.AreMatchedAt, MatchedSame.NoneOfPath, Union.IsUnionOf, Which.AreMatchedAll}
+use Rattle.wit_model.specs.declared.model.WorldKey.TheVariants as key
 
 -- What a key says: a label by its text, or the number of an interface. Where a label's string lies, and how much room it has, is no part of it.
 pub data KeyView : Type 0 where

@@ -1,13 +1,9 @@
 -- What is added stands under keys that weren't there.
 use Rattle.std.specs.Prelude.{◌≡◌, ℕ, ◌++◌, slice_get, string_eq, Some}
 use Rattle.indexmap.specs.IndexMap.{insert_all}
-use Rattle.wit_model.specs.declared.model.Package.{Package}
-use Rattle.wit_model.specs.declared.model.Resolve.{Resolve}
-use Rattle.wit_model.specs.declared.model.World.{World}
-use Rattle.wit_model.specs.Lookup.{package_at, world_at}
-use Rattle.wit_model.specs.Valid.{key_eq}
-use Rattle.bind_add.specs.declared.added.Added.{Added}
-use Rattle.bind_add.specs.declared.added.Names.{Names}
+use Rattle.wit_model.specs.declared.model.{Package.Package, Resolve.Resolve, World.World}
+use Rattle.wit_model.specs.{Lookup.package_at, Lookup.world_at, Valid.key_eq}
+use Rattle.bind_add.specs.declared.added.{Added.Added, Names.Names}
 
 -- So it comes behind what was there.
 pub record IsApart (added : Added) (own : Resolve) (world : ℕ) : Type 0 where

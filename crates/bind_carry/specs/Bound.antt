@@ -1,15 +1,11 @@
 -- What the own bound world gains, as it is added behind what is carried by path.
 use Rattle.std.specs.Prelude.{◌≡◌, ◌<◌, ◌+◌, ℕ, Bool, List, length}
-use Rattle.wit_model.specs.declared.model.Resolve.{Resolve}
-use Rattle.wit_model.specs.declared.model.World.{World}
+use Rattle.wit_model.specs.declared.model.{Resolve.Resolve, World.World}
 use Rattle.bind_add.specs.declared.added.Added.{Added}
 use Rattle.bind_copy.specs.Copies.{AreNewCopied}
-use Rattle.bind_carry.specs.BoundGains.{bound_fates, gained_inline, AreInlineCopied}
+use Rattle.bind_carry.specs.{BoundGains.bound_fates, BoundGains.gained_inline, BoundGains.AreInlineCopied, InRange.IsInRange, Numbers.numbers_of}
 use Rattle.bind_carry.specs.Fates.{AreCopied}
-use Rattle.bind_carry.specs.InRange.{IsInRange}
-use Rattle.bind_carry.specs.Numbers.{numbers_of}
-use Rattle.bind_carry.specs.declared.fate.Fate.{Fate}
-use Rattle.bind_carry.specs.declared.plan.Carried.{Carried}
+use Rattle.bind_carry.specs.declared.{fate.Fate.Fate, plan.Carried.Carried}
 
 -- The two worlds are there, and all interfaces and types of the other have numbers, and types their fates.
 pub record IsBoundReady (own other : Resolve) (world other_world : ℕ) (c : Carried) (fates : List Fate) (types : List ℕ) : Type 0 where

@@ -1,22 +1,11 @@
 -- What the own bound world gains of the other one: items whose keys it hasn't, with their inline interfaces and the types of both.
 use Rattle.std.specs.Prelude.{◌≡◌, ℕ, Bool, true, false, ◌||◌, nat_lt, List, [], ◌∷◌, ◌++◌, Option, Some, None, length, option_and_then, replicate, slice_set}
-use Rattle.std.specs.List.{list_all, AllZip, IsDistinct}
-use Rattle.std.specs.Map.{keys_of, lookup}
-use Rattle.std.specs.Option.{option_map_or}
+use Rattle.std.specs.{List.list_all, List.AllZip, List.IsDistinct, Map.keys_of, Map.lookup, Option.option_map_or}
 use Rattle.wit_model.specs.Valid.{key_eq}
-use Rattle.wit_model.specs.declared.model.Interface.{Interface}
-use Rattle.wit_model.specs.declared.model.PackageId.{PackageId}
-use Rattle.wit_model.specs.declared.model.Resolve.{Resolve}
-use Rattle.wit_model.specs.declared.model.TypeId.{TypeId}
+use Rattle.wit_model.specs.declared.model.{Interface.Interface, PackageId.PackageId, Resolve.Resolve, TypeId.TypeId, WorldItem.WorldItem, WorldKey.WorldKey}
 use Rattle.wit_model.specs.declared.model.World.{World}
-use Rattle.wit_model.specs.declared.model.WorldItem.{WorldItem}
-use Rattle.wit_model.specs.declared.model.WorldKey.{WorldKey}
 use Rattle.bind_copy.specs.Copies.{become_one, IsInterfaceUnder, IsKeyUnder}
-use Rattle.bind_carry.specs.Fates.{settled_from}
-use Rattle.bind_carry.specs.First.{second_from}
-use Rattle.bind_carry.specs.Marked.{mark_new_items}
-use Rattle.bind_carry.specs.Shown.{any_new, are_keys_below, type_in}
-use Rattle.bind_carry.specs.Whole.{kept}
+use Rattle.bind_carry.specs.{Fates.settled_from, First.second_from, Marked.mark_new_items, Shown.any_new, Shown.are_keys_below, Shown.type_in, Whole.kept}
 use Rattle.bind_carry.specs.declared.fate.Fate.{Fate}
 use Rattle.bind_carry.specs.declared.fate.Fate.TheVariants as fate
 

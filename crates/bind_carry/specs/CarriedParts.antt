@@ -1,14 +1,8 @@
 -- What is carried with the owners that are: parts of their types, and types of their functions.
 use Rattle.std.specs.Prelude.{◌≡◌, ℕ, Bool, true, false, Some, is_some}
 use Rattle.std.specs.List.{list_all}
-use Rattle.wit_model.specs.declared.model.Function.{Function}
-use Rattle.wit_model.specs.declared.model.Interface.{Interface}
-use Rattle.wit_model.specs.declared.model.Resolve.{Resolve}
-use Rattle.wit_model.specs.declared.model.TypeDef.{TypeDef}
-use Rattle.wit_model.specs.declared.model.TypeOwner.{TypeOwner}
-use Rattle.wit_model.specs.declared.model.World.{World}
-use Rattle.wit_model.specs.Lookup.{interface_at, type_at, world_at}
-use Rattle.wit_model.specs.Parts.{function_numbers, kind_numbers}
+use Rattle.wit_model.specs.declared.model.{Function.Function, Interface.Interface, Resolve.Resolve, TypeDef.TypeDef, TypeOwner.TypeOwner, World.World}
+use Rattle.wit_model.specs.{Lookup.interface_at, Lookup.type_at, Lookup.world_at, Parts.function_numbers, Parts.kind_numbers}
 use Rattle.wit_model.specs.Valid.{IsValid, as_interface, as_world, functions_of_interface, functions_of_world}
 
 -- The named types of these owners are carried, interfaces with a name are among them, and a type without a name is carried where all its parts are.

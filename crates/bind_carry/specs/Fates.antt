@@ -1,14 +1,12 @@
 -- What becomes of the types of another `Resolve`.
 use Rattle.std.specs.Prelude.{◌≡◌, ◌+◌, ◌&&◌, ℕ, Bool, true, false, List, [], ◌∷◌, ◌++◌, length, map, is_none, slice_get, Some, if◌then◌else◌}
-use Rattle.std.specs.List.{list_all, AllZip}
-use Rattle.std.specs.Option.{option_map_or}
-use Rattle.wit_model.specs.declared.model.TypeDef.{TypeDef}
-use Rattle.wit_model.specs.declared.model.TypeOwner.{TypeOwner}
-use Rattle.wit_model.specs.declared.model.TypeOwner.TheVariants as owner
+use Rattle.std.specs.{List.list_all, List.AllZip, Option.option_map_or}
+use Rattle.wit_model.specs.declared.model.{TypeDef.TypeDef, TypeOwner.TypeOwner}
 use Rattle.bind_copy.specs.Copies.{all_below, IsTypeUnder}
 use Rattle.bind_union.specs.Views.{kind_view, view_numbers}
 use Rattle.bind_carry.specs.Numbers.{numbers_of}
 use Rattle.bind_carry.specs.declared.fate.Fate.{Fate}
+use Rattle.wit_model.specs.declared.model.TypeOwner.TheVariants as owner
 use Rattle.bind_carry.specs.declared.fate.Fate.TheVariants as fate
 
 -- whether a type of this fate has a number from now on

@@ -1,21 +1,13 @@
 -- What becomes of the types of another `Resolve` by what is carried of it.
 use Rattle.std.specs.Prelude.{ℕ, ◌<◌, ◌==◌, Bool, false, ◌||◌, List, [], ◌∷◌, map, Option, Some, None, is_some, slice_get, unwrap_or, if◌then◌else◌}
-use Rattle.std.specs.List.{list_any}
-use Rattle.std.specs.Option.{option_map_or}
-use Rattle.wit_model.specs.Lookup.{interface_at}
-use Rattle.wit_model.specs.Text.{Text, optional_text}
-use Rattle.wit_model.specs.declared.model.InterfaceId.{InterfaceId}
-use Rattle.wit_model.specs.declared.model.Resolve.{Resolve}
-use Rattle.wit_model.specs.declared.model.TypeDef.{TypeDef}
-use Rattle.wit_model.specs.declared.model.TypeId.{TypeId}
-use Rattle.wit_model.specs.declared.model.TypeOwner.{TypeOwner}
-use Rattle.wit_model.specs.declared.model.TypeOwner.TheVariants as owner
+use Rattle.std.specs.{List.list_any, Option.option_map_or}
+use Rattle.wit_model.specs.{Lookup.interface_at, Text.Text, Text.optional_text}
+use Rattle.wit_model.specs.declared.model.{InterfaceId.InterfaceId, Resolve.Resolve, TypeDef.TypeDef, TypeId.TypeId, TypeOwner.TypeOwner}
 use Rattle.bind_copy.specs.Copies.{number_under}
-use Rattle.bind_carry.specs.Fates.{carries, settled_from}
-use Rattle.bind_carry.specs.Listed.{type_named}
-use Rattle.bind_carry.specs.declared.fate.Fate.{Fate}
+use Rattle.bind_carry.specs.{Fates.carries, Fates.settled_from, Listed.type_named}
+use Rattle.bind_carry.specs.declared.{fate.Fate.Fate, plan.Carried.Carried}
+use Rattle.wit_model.specs.declared.model.TypeOwner.TheVariants as owner
 use Rattle.bind_carry.specs.declared.fate.Fate.TheVariants as fate
-use Rattle.bind_carry.specs.declared.plan.Carried.{Carried}
 
 abbrev pub flag_under : List Bool → ℕ → Bool
 flag_under flags n = unwrap_or (slice_get flags n) false

@@ -1,30 +1,17 @@
 -- The first pass, by path, as the code leaves it in what is merged, and what follows of what it carries.
 use Rattle.std.specs.Prelude.{◌≡◌, ◌≤◌, ◌<◌, ℕ, true, List, [], ◌++◌, length, map, Some}
 use Rattle.std.specs.List.{AllZip}
-use Rattle.wit_model.specs.declared.model.Interface.{Interface}
-use Rattle.wit_model.specs.declared.model.Package.{Package}
-use Rattle.wit_model.specs.declared.model.Resolve.{Resolve}
-use Rattle.wit_model.specs.declared.model.TypeDef.{TypeDef}
-use Rattle.wit_model.specs.declared.model.World.{World}
-use Rattle.wit_model.specs.declared.model.WorldKey.{WorldKey}
-use Rattle.wit_model.specs.Lookup.{world_at}
-use Rattle.wit_model.specs.Valid.{key_eq, IsValid}
+use Rattle.wit_model.specs.declared.model.{Interface.Interface, Package.Package, Resolve.Resolve, TypeDef.TypeDef, World.World, WorldKey.WorldKey}
+use Rattle.wit_model.specs.{Lookup.world_at, Valid.key_eq, Valid.IsValid}
 use Rattle.bind_add.specs.Growth.{HaveGained, IsAddable, IsAdded}
-use Rattle.bind_add.specs.declared.added.Added.{Added}
-use Rattle.bind_add.specs.declared.added.Names.{Names}
+use Rattle.bind_add.specs.declared.added.{Added.Added, Names.Names}
 use Rattle.bind_copy.specs.Copies.{number_under}
 use Rattle.bind_match.specs.Matching.{own_package_of}
 use Rattle.bind_match.specs.declared.matches.Matches.{Matches}
-use Rattle.bind_union.specs.Carried.{IsCarried}
-use Rattle.bind_union.specs.Merged.{AreCopies, IsWorldCopy}
-use Rattle.bind_carry.specs.Fates.{AreCopied}
-use Rattle.bind_carry.specs.First.{first_fates, flag_under}
-use Rattle.bind_carry.specs.MatchedSame.{AreMatchedAt, NoneOfPath}
-use Rattle.bind_carry.specs.Packaged.{IsPackageCarried}
-use Rattle.bind_carry.specs.Renumbered.{first_of}
+use Rattle.bind_union.specs.{Carried.IsCarried, Merged.AreCopies, Merged.IsWorldCopy}
+use Rattle.bind_carry.specs.{Fates.AreCopied, First.first_fates, First.flag_under, Packaged.IsPackageCarried, Which.AreMatchedAll, Which.IsNumbered}
+use Rattle.bind_carry.specs.{MatchedSame.AreMatchedAt, MatchedSame.NoneOfPath, Renumbered.first_of, Whole.kept, Whole.IsInterfaceCarried, Whole.IsWorldCarried}
 use Rattle.bind_carry.specs.Union.{IsUnionOf}
-use Rattle.bind_carry.specs.Which.{AreMatchedAll, IsNumbered}
-use Rattle.bind_carry.specs.Whole.{kept, IsInterfaceCarried, IsWorldCarried}
 use Rattle.bind_carry.specs.declared.plan.Carried.{Carried}
 
 -- What is matched has one name, or one path and one sense. Types and interfaces are copied behind own ones, under the numbers that the matches and what is

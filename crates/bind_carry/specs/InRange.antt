@@ -1,14 +1,9 @@
 -- What stands in a `Resolve` names numbers of its lists alone, and none of these is too long.
 use Rattle.std.specs.Prelude.{◌≡◌, ◌≤◌, ℕ, true, length, Some}
 use Rattle.wit_model.specs.Lookup.{interface_at, package_at, type_at, world_at}
-use Rattle.wit_model.specs.declared.model.Interface.{Interface}
-use Rattle.wit_model.specs.declared.model.Package.{Package}
-use Rattle.wit_model.specs.declared.model.Resolve.{Resolve}
-use Rattle.wit_model.specs.declared.model.TypeDef.{TypeDef}
-use Rattle.wit_model.specs.declared.model.World.{World}
+use Rattle.wit_model.specs.declared.model.{Interface.Interface, Package.Package, Resolve.Resolve, TypeDef.TypeDef, World.World}
 use Rattle.bind_copy.specs.Copies.{are_names_below, AreEntriesBelow, AreFunctionsBelow}
-use Rattle.bind_carry.specs.Fates.{FallBelow}
-use Rattle.bind_carry.specs.Listed.{are_interfaces_below, are_worlds_below, IsHomeBelow, IsOwnerBelow}
+use Rattle.bind_carry.specs.{Fates.FallBelow, Listed.are_interfaces_below, Listed.are_worlds_below, Listed.IsHomeBelow, Listed.IsOwnerBelow}
 
 pub record IsInRange (r : Resolve) : Type 0 where
   pub few_packages : length r.packages.items ≤ 4294967295

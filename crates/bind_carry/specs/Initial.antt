@@ -1,11 +1,7 @@
 -- What becomes of types before those without a name are settled: what both passes begin with.
 use Rattle.std.specs.Prelude.{◌≡◌, ℕ, Bool, true, false, List, Some, is_some, length, slice_get}
-use Rattle.wit_model.specs.declared.model.Interface.{Interface}
-use Rattle.wit_model.specs.declared.model.Resolve.{Resolve}
-use Rattle.wit_model.specs.declared.model.TypeDef.{TypeDef}
-use Rattle.wit_model.specs.declared.model.TypeOwner.{TypeOwner}
-use Rattle.wit_model.specs.Lookup.{interface_at, type_at}
-use Rattle.wit_model.specs.Valid.{as_interface}
+use Rattle.wit_model.specs.declared.model.{Interface.Interface, Resolve.Resolve, TypeDef.TypeDef, TypeOwner.TypeOwner}
+use Rattle.wit_model.specs.{Lookup.interface_at, Lookup.type_at, Valid.as_interface}
 use Rattle.bind_union.specs.Carried.{carries_owner, copies_owner, owner_under, Renumbering}
 use Rattle.bind_carry.specs.Fates.{carries}
 use Rattle.bind_carry.specs.declared.fate.Fate.{Fate}

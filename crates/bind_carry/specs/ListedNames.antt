@@ -1,10 +1,8 @@
 -- The names of packages, and the names in them, in order; and these when two are merged.
 use Rattle.std.specs.Prelude.{not, ◌&&◌, List, ◌++◌, map, filter, is_none, Option, Some, None, codes}
-use Rattle.std.specs.List.{list_any}
-use Rattle.std.specs.FinMap.{find}
+use Rattle.std.specs.{List.list_any, FinMap.find}
 use Rattle.wit_model.specs.declared.model.Resolve.{Resolve}
-use Rattle.wit_model.specs.Lookup.{identity_of}
-use Rattle.wit_model.specs.Text.{Text, text_of, text_cmp, text_eq}
+use Rattle.wit_model.specs.{Lookup.identity_of, Text.Text, Text.text_of, Text.text_cmp, Text.text_eq}
 use Rattle.bind_meaning.specs.Binding.{package_text}
 
 -- the names that stand in a package, in order

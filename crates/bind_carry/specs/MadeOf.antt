@@ -1,8 +1,7 @@
 -- What types are made of, and whose they are.
 use Rattle.std.specs.Prelude.{◌≡◌, ℕ, Bool, true, List, is_none, slice_get, Some, count_by}
 use Rattle.std.specs.List.{Contains}
-use Rattle.wit_model.specs.declared.model.TypeDef.{TypeDef}
-use Rattle.wit_model.specs.declared.model.TypeOwner.{TypeOwner}
+use Rattle.wit_model.specs.declared.model.{TypeDef.TypeDef, TypeOwner.TypeOwner}
 use Rattle.bind_union.specs.Views.{kind_view, view_numbers}
 
 -- the types that a type names in its definition

@@ -1,21 +1,11 @@
 -- Which interfaces are copied: flags that are set one after the other for inline interfaces that are shown, and what they say in the end.
 use Rattle.std.specs.Prelude.{◌≡◌, ℕ, Bool, true, false, not, ◌||◌, List, [], ◌∷◌, Option, Some, is_none, is_some, slice_set, if◌then◌else◌}
-use Rattle.std.specs.List.{list_any}
-use Rattle.std.specs.Option.{option_map_or}
-use Rattle.wit_model.specs.declared.model.Interface.{Interface}
-use Rattle.wit_model.specs.declared.model.InterfaceId.{InterfaceId}
-use Rattle.wit_model.specs.declared.model.Resolve.{Resolve}
-use Rattle.wit_model.specs.declared.model.World.{World}
-use Rattle.wit_model.specs.declared.model.WorldItem.{WorldItem}
-use Rattle.wit_model.specs.declared.model.WorldItem.TheVariants as item
-use Rattle.wit_model.specs.declared.model.WorldKey.{WorldKey}
-use Rattle.wit_model.specs.Lookup.{interface_at}
-use Rattle.wit_model.specs.Rules.{is_id}
-use Rattle.wit_model.specs.Uses.{item_interface}
+use Rattle.std.specs.{List.list_any, Option.option_map_or}
+use Rattle.wit_model.specs.declared.model.{Interface.Interface, InterfaceId.InterfaceId, Resolve.Resolve, World.World, WorldItem.WorldItem, WorldKey.WorldKey}
+use Rattle.wit_model.specs.{Lookup.interface_at, Rules.is_id, Uses.item_interface}
 use Rattle.bind_copy.specs.Copies.{is_new_under}
-use Rattle.bind_carry.specs.First.{flag_under}
-use Rattle.bind_carry.specs.Renumbered.{is_matched}
-use Rattle.bind_carry.specs.Whole.{kept}
+use Rattle.bind_carry.specs.{First.flag_under, Renumbered.is_matched, Whole.kept}
+use Rattle.wit_model.specs.declared.model.WorldItem.TheVariants as item
 
 -- ---- flags, one after the other
 

@@ -1,16 +1,10 @@
 -- Own interfaces that have the path and the sense of others.
 use Rattle.std.specs.Prelude.{◌≡◌, ℕ, true, false, List, Option, Some, is_some, option_map, slice_get}
-use Rattle.wit_model.specs.declared.model.Interface.{Interface}
-use Rattle.wit_model.specs.declared.model.InterfaceId.{InterfaceId}
-use Rattle.wit_model.specs.declared.model.Resolve.{Resolve}
-use Rattle.wit_model.specs.Lookup.{interface_at, interface_path}
-use Rattle.wit_model.specs.Meaning.{interface_sense}
-use Rattle.wit_model.specs.Meant.{interface_meaning}
-use Rattle.wit_model.specs.Rules.{package_number}
+use Rattle.wit_model.specs.declared.model.{Interface.Interface, InterfaceId.InterfaceId, Resolve.Resolve}
+use Rattle.wit_model.specs.{Lookup.interface_at, Lookup.interface_path, Meaning.interface_sense, Meant.interface_meaning, Rules.package_number}
 use Rattle.wit_model.specs.Text.{optional_text}
 use Rattle.bind_copy.specs.Copies.{number_under}
-use Rattle.bind_carry.specs.Listed.{given_interface}
-use Rattle.bind_carry.specs.Renumbered.{is_matched}
+use Rattle.bind_carry.specs.{Listed.given_interface, Renumbered.is_matched}
 
 -- The own interface that is found for another: it has the same name, in the own package of the other's, and so the same path; and the same sense, where nothing
 -- clashes.

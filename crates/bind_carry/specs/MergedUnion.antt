@@ -1,23 +1,14 @@
 -- What a union adds, once it is added, is merged.
 use Rattle.std.specs.Prelude.{◌≡◌, ℕ, false, List, map, Some}
-use Rattle.wit_model.specs.declared.model.Interface.{Interface}
-use Rattle.wit_model.specs.declared.model.Resolve.{Resolve}
-use Rattle.wit_model.specs.declared.model.World.{World}
-use Rattle.wit_model.specs.declared.model.WorldKey.{WorldKey}
-use Rattle.wit_model.specs.Text.{Text}
-use Rattle.wit_model.specs.Lookup.{interface_at, path_of_interface, path_of_world, world_at}
-use Rattle.wit_model.specs.Valid.{key_eq, IsValid}
+use Rattle.wit_model.specs.declared.model.{Interface.Interface, Resolve.Resolve, World.World, WorldKey.WorldKey}
+use Rattle.wit_model.specs.{Text.Text, Lookup.interface_at, Lookup.path_of_interface, Lookup.path_of_world, Lookup.world_at, Valid.key_eq, Valid.IsValid}
 use Rattle.bind_add.specs.Growth.{IsAdded}
 use Rattle.bind_add.specs.declared.added.Added.{Added}
 use Rattle.bind_match.specs.Matching.{is_root_world, own_interface_of, own_package_of, own_world_of}
 use Rattle.bind_match.specs.declared.matches.Matches.{Matches}
 use Rattle.bind_union.specs.Merged.{IsMerged}
-use Rattle.bind_carry.specs.Few.{AreFew}
-use Rattle.bind_carry.specs.First.{first_fates}
-use Rattle.bind_carry.specs.MatchedSame.{AreMatchedAt, NoneOfPath}
-use Rattle.bind_carry.specs.Renumbered.{first_of}
-use Rattle.bind_carry.specs.SecondPass.{is_left_out, second_pass_of, DoNotClash}
-use Rattle.bind_carry.specs.Union.{IsUnionOf}
+use Rattle.bind_carry.specs.{Few.AreFew, First.first_fates, Renumbered.first_of, Union.IsUnionOf}
+use Rattle.bind_carry.specs.{MatchedSame.AreMatchedAt, MatchedSame.NoneOfPath, SecondPass.is_left_out, SecondPass.second_pass_of, SecondPass.DoNotClash}
 
 -- no interface of the other stands at the path of an own world
 abbrev pub NoOwnWorldAtPath : Resolve → Resolve → Type 0

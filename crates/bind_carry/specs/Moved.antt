@@ -1,8 +1,7 @@
 -- Things that are moved, one after the other, to the places that were made for them.
 use Rattle.std.specs.Prelude.{◌≡◌, ◌+◌, ◌≤◌, ℕ, true, List, ◌++◌, length, drop, slice_set}
 use Rattle.std.specs.List.{AllZip}
-use Rattle.wit_model.specs.declared.model.Interface.{Interface}
-use Rattle.wit_model.specs.declared.model.TypeDef.{TypeDef}
+use Rattle.wit_model.specs.declared.model.{Interface.Interface, TypeDef.TypeDef}
 use Rattle.bind_copy.specs.Copies.{are_names_below, AreFunctionsBelow, IsTypeUnder}
 use Rattle.bind_carry.specs.Listed.{IsHomeBelow}
 use Rattle.bind_carry.specs.declared.fate.Fate.{Fate}

@@ -1,11 +1,8 @@
 -- The numbers that things of another `Resolve` have from now on.
 use Rattle.std.specs.Prelude.{ℕ, ◌+◌, Bool, true, false, List, [], ◌∷◌, Option}
 use Rattle.std.specs.Option.{option_map_or}
-use Rattle.wit_model.specs.declared.error.Error.{Error}
+use Rattle.wit_model.specs.declared.{error.Error.Error, model.InterfaceId.InterfaceId, model.PackageId.PackageId, model.WorldId.WorldId}
 use Rattle.wit_model.specs.declared.error.Error.TheVariants as errors
-use Rattle.wit_model.specs.declared.model.InterfaceId.{InterfaceId}
-use Rattle.wit_model.specs.declared.model.PackageId.{PackageId}
-use Rattle.wit_model.specs.declared.model.WorldId.{WorldId}
 -- those that are copied, one behind the other from the first on, and the others' as they are
 pub use Rattle.bind_union.specs.Matching.{numbers_of}
 

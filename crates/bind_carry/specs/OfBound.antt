@@ -1,23 +1,13 @@
 -- Words for what is said of the two bound worlds, the own one and the one whose items it gains.
 use Rattle.std.specs.Prelude.{◌≡◌, ◌+◌, ◌<◌, ◌≤◌, ℕ, Bool, List, length, Some}
 use Rattle.wit_model.specs.Lookup.{world_at}
-use Rattle.wit_model.specs.declared.model.Resolve.{Resolve}
-use Rattle.wit_model.specs.declared.model.TypeDef.{TypeDef}
-use Rattle.wit_model.specs.declared.model.World.{World}
-use Rattle.wit_model.specs.declared.model.WorldItem.{WorldItem}
-use Rattle.wit_model.specs.declared.model.WorldKey.{WorldKey}
+use Rattle.wit_model.specs.declared.model.{Resolve.Resolve, TypeDef.TypeDef, World.World, WorldItem.WorldItem, WorldKey.WorldKey}
 use Rattle.bind_add.specs.declared.added.Added.{Added}
 use Rattle.bind_copy.specs.Copies.{AreNewCopied}
 use Rattle.bind_match.specs.declared.matches.Matches.{Matches}
-use Rattle.bind_carry.specs.Bound.{IsBoundOver}
-use Rattle.bind_carry.specs.BoundGains.{bound_fates}
-use Rattle.bind_carry.specs.Fates.{AreCopied}
-use Rattle.bind_carry.specs.Few.{AreFew}
-use Rattle.bind_carry.specs.TooLong.{copies_of, AreTooManyGained, IsTooLong}
-use Rattle.bind_carry.specs.Union.{IsUnionOf}
-use Rattle.bind_carry.specs.declared.bound.Bound.{Bound}
-use Rattle.bind_carry.specs.declared.bound.First.{First}
-use Rattle.bind_carry.specs.declared.fate.Fate.{Fate}
+use Rattle.bind_carry.specs.{Bound.IsBoundOver, BoundGains.bound_fates, Fates.AreCopied, TooLong.copies_of, TooLong.AreTooManyGained, TooLong.IsTooLong}
+use Rattle.bind_carry.specs.{Few.AreFew, Union.IsUnionOf}
+use Rattle.bind_carry.specs.declared.{bound.Bound.Bound, bound.First.First, fate.Fate.Fate}
 
 -- it is so of the worlds of these numbers
 abbrev pub OfWorlds : Resolve → Resolve → ℕ → ℕ → (World → World → Type 0) → Type 0

@@ -2,17 +2,11 @@
 use Rattle.std.specs.Prelude.{◌≡◌, ℕ, true, List, [], length, Some}
 use Rattle.std.specs.List.{AllZip}
 use Rattle.wit_model.specs.Lookup.{interface_at, package_at, world_at}
-use Rattle.wit_model.specs.declared.model.Interface.{Interface}
-use Rattle.wit_model.specs.declared.model.Package.{Package}
-use Rattle.wit_model.specs.declared.model.Resolve.{Resolve}
-use Rattle.wit_model.specs.declared.model.TypeDef.{TypeDef}
-use Rattle.wit_model.specs.declared.model.World.{World}
+use Rattle.wit_model.specs.declared.model.{Interface.Interface, Package.Package, Resolve.Resolve, TypeDef.TypeDef, World.World}
 use Rattle.bind_add.specs.declared.added.Added.{Added}
 use Rattle.bind_copy.specs.Copies.{are_names_below, AreEntriesBelow, AreFunctionsBelow}
-use Rattle.bind_carry.specs.Numbers.{copied_count}
-use Rattle.bind_carry.specs.Listed.{are_interfaces_below, are_worlds_below, IsHomeBelow}
-use Rattle.bind_carry.specs.Packaged.{grown_packages, IsGained, IsPackageCarried}
-use Rattle.bind_carry.specs.Whole.{kept, IsInterfaceCarried, IsWorldCarried}
+use Rattle.bind_carry.specs.{Numbers.copied_count, Listed.are_interfaces_below, Listed.are_worlds_below, Listed.IsHomeBelow}
+use Rattle.bind_carry.specs.{Packaged.grown_packages, Packaged.IsGained, Packaged.IsPackageCarried, Whole.kept, Whole.IsInterfaceCarried, Whole.IsWorldCarried}
 use Rattle.bind_carry.specs.declared.plan.Carried.{Carried}
 
 -- All numbers of the other have new ones, with so many for types.

@@ -1,13 +1,10 @@
 -- What is carried of packages: their names, and the names in them of what is copied.
 use Rattle.std.specs.Prelude.{◌≡◌, ℕ, Bool, true, false, List, [], ◌∷◌, ◌++◌, String}
-use Rattle.std.specs.List.{filter, AllZip}
-use Rattle.std.specs.String.{string_eq}
+use Rattle.std.specs.{List.filter, List.AllZip, String.string_eq}
 use Rattle.std.specs.declared.alloc.Global.{Global}
 use Rattle.indexmap.specs.IndexMap.{IndexMap, IsUnique}
 use Rattle.wit_model.specs.Text.{optional_text, text_of}
-use Rattle.wit_model.specs.declared.model.InterfaceId.{InterfaceId}
-use Rattle.wit_model.specs.declared.model.Package.{Package}
-use Rattle.wit_model.specs.declared.model.WorldId.{WorldId}
+use Rattle.wit_model.specs.declared.model.{InterfaceId.InterfaceId, Package.Package, WorldId.WorldId}
 use Rattle.bind_union.specs.Carried.{IsSameName}
 use Rattle.bind_copy.specs.Copies.{number_under}
 use Rattle.bind_add.specs.declared.added.Names.{Names}

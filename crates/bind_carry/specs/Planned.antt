@@ -1,17 +1,10 @@
 -- What a union adds, where the interfaces and types that are carried aren't in their places yet.
 use Rattle.std.specs.Prelude.{◌≡◌, ℕ, length}
-use Rattle.wit_model.specs.declared.model.Resolve.{Resolve}
-use Rattle.wit_model.specs.declared.model.World.{World}
+use Rattle.wit_model.specs.declared.model.{Resolve.Resolve, World.World}
 use Rattle.bind_add.specs.declared.added.Added.{Added}
 use Rattle.bind_match.specs.declared.matches.Matches.{Matches}
-use Rattle.bind_carry.specs.Bound.{IsBoundOver}
-use Rattle.bind_carry.specs.BoundGains.{AreKeysUnder}
-use Rattle.bind_carry.specs.Fates.{numbers_by}
-use Rattle.bind_carry.specs.First.{first_fates}
-use Rattle.bind_carry.specs.OfBound.{OfWorlds}
-use Rattle.bind_carry.specs.Over.{IsPlacedOver}
-use Rattle.bind_carry.specs.TooLong.{copies_of}
-use Rattle.bind_carry.specs.Which.{IsNumbered}
+use Rattle.bind_carry.specs.{Bound.IsBoundOver, BoundGains.AreKeysUnder, Fates.numbers_by, First.first_fates, Over.IsPlacedOver, TooLong.copies_of}
+use Rattle.bind_carry.specs.{OfBound.OfWorlds, Which.IsNumbered}
 use Rattle.bind_carry.specs.declared.plan.Planned.{Planned}
 
 -- All else is as a union adds it, behind so many places for interfaces and types.

@@ -1,14 +1,12 @@
 -- Items of another `Resolve` of which all that they name is carried.
 use Rattle.std.specs.Prelude.{◌≡◌, ℕ, true, false, List, Some, slice_get}
 use Rattle.std.specs.List.{list_all, Contains}
-use Rattle.wit_model.specs.declared.model.WorldItem.{WorldItem}
-use Rattle.wit_model.specs.declared.model.WorldItem.TheVariants as item
-use Rattle.wit_model.specs.declared.model.WorldKey.{WorldKey}
-use Rattle.wit_model.specs.declared.model.WorldKey.TheVariants as key
+use Rattle.wit_model.specs.declared.model.{WorldItem.WorldItem, WorldKey.WorldKey}
 use Rattle.wit_model.specs.Parts.{function_numbers}
 use Rattle.bind_copy.specs.Copies.{is_new_under}
-use Rattle.bind_union.specs.Carried.{KeyBecomes, Renumbering}
-use Rattle.bind_union.specs.Joined.{ItemStandsFor}
+use Rattle.bind_union.specs.{Carried.KeyBecomes, Carried.Renumbering, Joined.ItemStandsFor}
+use Rattle.wit_model.specs.declared.model.WorldItem.TheVariants as item
+use Rattle.wit_model.specs.declared.model.WorldKey.TheVariants as key
 
 abbrev pub IsKeyReady : Renumbering → WorldKey → Type 0
 IsKeyReady f (key.Name name) = Unit {0}

@@ -1,21 +1,12 @@
 -- The new numbers of what is carried by path, and of what the bound world gains.
 use Rattle.std.specs.Prelude.{ℕ, Bool, false, ◌&&◌, ◌||◌, ◌==◌, List, [], ◌∷◌, Option, None, is_some, option_and_then, slice_get, unwrap_or, if◌then◌else◌}
-use Rattle.std.specs.Map.{lookup}
-use Rattle.std.specs.Option.{option_map_or}
-use Rattle.wit_model.specs.declared.model.InterfaceId.{InterfaceId}
-use Rattle.wit_model.specs.declared.model.Resolve.{Resolve}
-use Rattle.wit_model.specs.declared.model.WorldItem.{WorldItem}
-use Rattle.wit_model.specs.declared.model.WorldKey.{WorldKey}
-use Rattle.wit_model.specs.Rules.{is_id}
-use Rattle.wit_model.specs.Uses.{item_interface}
-use Rattle.wit_model.specs.Valid.{key_eq}
+use Rattle.std.specs.{Map.lookup, Option.option_map_or}
+use Rattle.wit_model.specs.declared.model.{InterfaceId.InterfaceId, Resolve.Resolve, WorldItem.WorldItem, WorldKey.WorldKey}
+use Rattle.wit_model.specs.{Rules.is_id, Uses.item_interface, Valid.key_eq}
 use Rattle.bind_union.specs.Carried.{Renumbering}
 use Rattle.bind_copy.specs.Copies.{number_under}
-use Rattle.bind_carry.specs.Fates.{copies, is_carried}
-use Rattle.bind_carry.specs.First.{flag_under, is_named_at}
-use Rattle.bind_carry.specs.Listed.{given_interface}
-use Rattle.bind_carry.specs.declared.fate.Fate.{Fate}
-use Rattle.bind_carry.specs.declared.plan.Carried.{Carried}
+use Rattle.bind_carry.specs.{Fates.copies, Fates.is_carried, First.flag_under, First.is_named_at, Listed.given_interface}
+use Rattle.bind_carry.specs.declared.{fate.Fate.Fate, plan.Carried.Carried}
 
 -- whether the type of this number is copied
 abbrev pub is_copied : List Fate → ℕ → Bool

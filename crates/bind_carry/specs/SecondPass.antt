@@ -1,36 +1,18 @@
 -- The second pass, over what the own bound world gains, as the code leaves it in what is merged.
 use Rattle.std.specs.Prelude.{◌≡◌, ◌≤◌, ◌<◌, ◌⊎◌, ◌==◌, ℕ, Bool, false, List, ◌++◌, length, map, Some}
-use Rattle.std.specs.List.{AllZip, Contains}
-use Rattle.std.specs.Option.{option_map_or}
-use Rattle.wit_model.specs.declared.model.Interface.{Interface}
-use Rattle.wit_model.specs.declared.model.Package.{Package}
-use Rattle.wit_model.specs.declared.model.Resolve.{Resolve}
-use Rattle.wit_model.specs.declared.model.TypeDef.{TypeDef}
+use Rattle.std.specs.{List.AllZip, List.Contains, Option.option_map_or}
+use Rattle.wit_model.specs.declared.model.{Interface.Interface, Package.Package, Resolve.Resolve, TypeDef.TypeDef, WorldItem.WorldItem, WorldKey.WorldKey}
 use Rattle.wit_model.specs.declared.model.World.{World}
-use Rattle.wit_model.specs.declared.model.WorldItem.{WorldItem}
-use Rattle.wit_model.specs.declared.model.WorldKey.{WorldKey}
-use Rattle.wit_model.specs.Lookup.{key_text, package_at, world_at}
-use Rattle.wit_model.specs.Meaning.{entry_sense}
-use Rattle.wit_model.specs.Meant.{entry_meaning}
-use Rattle.wit_model.specs.Valid.{key_eq, IsValid}
+use Rattle.wit_model.specs.{Lookup.key_text, Lookup.package_at, Lookup.world_at, Meaning.entry_sense, Meant.entry_meaning, Valid.key_eq, Valid.IsValid}
 use Rattle.bind_add.specs.Growth.{HasGainedItems, IsAdded}
 use Rattle.bind_add.specs.declared.added.Added.{Added}
 use Rattle.bind_copy.specs.Copies.{AreNewCopied}
 use Rattle.bind_match.specs.Matching.{is_root_world, own_package_of}
 use Rattle.bind_match.specs.declared.matches.Matches.{Matches}
-use Rattle.bind_union.specs.Carried.{Renumbering}
-use Rattle.bind_union.specs.Joined.{IsJoined}
-use Rattle.bind_union.specs.Merged.{AreCopies, IsCopyUnder, IsMerged, PackageStands}
-use Rattle.bind_carry.specs.Bound.{bound_interfaces}
-use Rattle.bind_carry.specs.BoundGains.{bound_fates, gained_inline, AreInlineCopied}
-use Rattle.bind_carry.specs.Fates.{AreCopied}
-use Rattle.bind_carry.specs.First.{first_fates}
-use Rattle.bind_carry.specs.FirstPass.{IsFirstPass}
-use Rattle.bind_carry.specs.MatchedSame.{AreMatchedAt, NoneOfPath}
-use Rattle.bind_carry.specs.Packaged.{grown_packages, IsGained}
-use Rattle.bind_carry.specs.Renumbered.{first_of, second_of}
-use Rattle.bind_carry.specs.Union.{IsUnionOf}
-use Rattle.bind_carry.specs.Which.{AreMatchedAll}
+use Rattle.bind_union.specs.{Carried.Renumbering, Joined.IsJoined, Merged.AreCopies, Merged.IsCopyUnder, Merged.IsMerged, Merged.PackageStands}
+use Rattle.bind_carry.specs.{Bound.bound_interfaces, Packaged.grown_packages, Packaged.IsGained, Renumbered.first_of, Renumbered.second_of, Which.AreMatchedAll}
+use Rattle.bind_carry.specs.{BoundGains.bound_fates, BoundGains.gained_inline, BoundGains.AreInlineCopied, MatchedSame.AreMatchedAt, MatchedSame.NoneOfPath}
+use Rattle.bind_carry.specs.{Fates.AreCopied, First.first_fates, FirstPass.IsFirstPass, Union.IsUnionOf}
 use Rattle.bind_carry.specs.declared.plan.Carried.{Carried}
 
 -- The two worlds don't clash: imports of one key have one sense, and no key is exported by both.

@@ -1,17 +1,10 @@
 -- A list would get too long, by how many are copied.
 use Rattle.std.specs.Prelude.{ℕ, ◌+◌, ◌<◌, ◌⊎◌, Bool, List, length, map, is_none}
-use Rattle.wit_model.specs.declared.model.Resolve.{Resolve}
-use Rattle.wit_model.specs.declared.model.World.{World}
+use Rattle.wit_model.specs.declared.model.{Resolve.Resolve, World.World}
 use Rattle.bind_match.specs.declared.matches.Matches.{Matches}
-use Rattle.bind_carry.specs.Bound.{bound_interfaces}
-use Rattle.bind_carry.specs.BoundGains.{bound_fates, gained_inline}
-use Rattle.bind_carry.specs.Fates.{copies, numbers_by}
-use Rattle.bind_carry.specs.First.{first_fates}
-use Rattle.bind_carry.specs.Marked.{mark_worlds}
-use Rattle.bind_carry.specs.Numbers.{copied_count}
-use Rattle.bind_carry.specs.Which.{new_interfaces, new_worlds, IsNumbered}
-use Rattle.bind_carry.specs.declared.fate.Fate.{Fate}
-use Rattle.bind_carry.specs.declared.plan.Carried.{Carried}
+use Rattle.bind_carry.specs.{Bound.bound_interfaces, BoundGains.bound_fates, BoundGains.gained_inline, Which.new_interfaces, Which.new_worlds, Which.IsNumbered}
+use Rattle.bind_carry.specs.{Fates.copies, Fates.numbers_by, First.first_fates, Marked.mark_worlds, Numbers.copied_count}
+use Rattle.bind_carry.specs.declared.{fate.Fate.Fate, plan.Carried.Carried}
 
 -- what is carried, and what becomes of types, by names that callers' proofs can use
 abbrev pub CarriedThings : Type 0

@@ -1,17 +1,9 @@
 -- What a union adds to an own `Resolve`: what is carried by path, and behind it what the own bound world gains.
 use Rattle.std.specs.Prelude.{ℕ, List, [], length}
-use Rattle.wit_model.specs.declared.model.Resolve.{Resolve}
-use Rattle.wit_model.specs.declared.model.TypeDef.{TypeDef}
-use Rattle.wit_model.specs.declared.model.World.{World}
-use Rattle.wit_model.specs.declared.model.WorldKey.{WorldKey}
+use Rattle.wit_model.specs.declared.model.{Resolve.Resolve, TypeDef.TypeDef, World.World, WorldKey.WorldKey}
 use Rattle.bind_add.specs.declared.added.Added.{Added}
 use Rattle.bind_match.specs.declared.matches.Matches.{Matches}
-use Rattle.bind_carry.specs.Bound.{IsBoundOver}
-use Rattle.bind_carry.specs.BoundGains.{AreKeysUnder}
-use Rattle.bind_carry.specs.Fates.{AreCopied}
-use Rattle.bind_carry.specs.First.{first_fates}
-use Rattle.bind_carry.specs.Over.{IsCarriedOver}
-use Rattle.bind_carry.specs.Which.{IsNumbered}
+use Rattle.bind_carry.specs.{Bound.IsBoundOver, BoundGains.AreKeysUnder, Fates.AreCopied, First.first_fates, Over.IsCarriedOver, Which.IsNumbered}
 use Rattle.bind_carry.specs.declared.plan.Carried.{Carried}
 
 -- All that is added, in two steps, and the keys of the other's exports.

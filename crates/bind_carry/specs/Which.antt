@@ -1,15 +1,9 @@
 -- Which interfaces and worlds of another `Resolve` are copied, and the numbers that all have from now on.
 use Rattle.std.specs.Prelude.{◌≡◌, Bool, not, ◌&&◌, List, [], ◌∷◌, length, map, is_none, Option}
-use Rattle.wit_model.specs.declared.model.Interface.{Interface}
-use Rattle.wit_model.specs.declared.model.InterfaceId.{InterfaceId}
-use Rattle.wit_model.specs.declared.model.Resolve.{Resolve}
-use Rattle.wit_model.specs.declared.model.World.{World}
-use Rattle.wit_model.specs.declared.model.WorldId.{WorldId}
+use Rattle.wit_model.specs.declared.model.{Interface.Interface, InterfaceId.InterfaceId, Resolve.Resolve, World.World, WorldId.WorldId}
 use Rattle.bind_match.specs.Matching.{is_root_world}
 use Rattle.bind_match.specs.declared.matches.Matches.{Matches}
-use Rattle.bind_carry.specs.Listed.{IsWhole}
-use Rattle.bind_carry.specs.Marked.{mark_worlds}
-use Rattle.bind_carry.specs.Numbers.{interface_number, numbers_of, package_number, world_number}
+use Rattle.bind_carry.specs.{Listed.IsWhole, Marked.mark_worlds, Numbers.interface_number, Numbers.numbers_of, Numbers.package_number, Numbers.world_number}
 use Rattle.bind_carry.specs.declared.plan.Carried.{Carried}
 
 -- the worlds whose path no own one has, but for `root:root/root`

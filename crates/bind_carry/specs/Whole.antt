@@ -2,9 +2,7 @@
 use Rattle.std.specs.Prelude.{◌≡◌, ℕ, Bool, true, false, List, [], ◌∷◌, ◌++◌, Option, option_map}
 use Rattle.std.specs.List.{AllZip}
 use Rattle.wit_model.specs.Text.{optional_text, text_of}
-use Rattle.wit_model.specs.declared.model.Interface.{Interface}
-use Rattle.wit_model.specs.declared.model.PackageId.{PackageId}
-use Rattle.wit_model.specs.declared.model.World.{World}
+use Rattle.wit_model.specs.declared.model.{Interface.Interface, PackageId.PackageId, World.World}
 use Rattle.bind_union.specs.Carried.{stability_view}
 use Rattle.bind_copy.specs.Copies.{number_under, AreNewCopied, IsInterfaceUnder}
 use Rattle.bind_carry.specs.declared.plan.Carried.{Carried}

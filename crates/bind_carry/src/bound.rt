@@ -1,23 +1,16 @@
 //! What the bound world gains.
 
 ghost use Rattle.std.specs.Prelude.{◌≡◌, ◌<◌, ◌≤◌, ◌+◌, ℕ, Err, IfErr, IfOk, OnOk, nat_lt, true, length, Some};
-ghost use Rattle.std.specs.Option.{option_map_or};
-ghost use Rattle.wit_model.specs.Lookup.{interface_at, type_at, world_at};
+ghost use Rattle.std.specs.{Option.option_map_or, List.AllZip};
+ghost use Rattle.wit_model.specs.{Lookup.interface_at, Lookup.type_at, Lookup.world_at, Refusals.IsMemory};
 ghost use Rattle.wit_model.specs.declared.error.Error.TheVariants.{Size};
-ghost use Rattle.wit_model.specs.declared.model.Interface.{Interface as InterfaceValue};
-ghost use Rattle.wit_model.specs.declared.model.World.{World as WorldValue};
-ghost use Rattle.std.specs.List.{AllZip};
+ghost use Rattle.wit_model.specs.declared.model.{Interface.Interface as InterfaceValue, World.World as WorldValue, TypeDef.TypeDef as TypeDefValue};
 ghost use Rattle.bind_copy.specs.Copies.{are_names_below, AreEntriesBelow, AreFunctionsBelow, IsInterfaceUnder};
-ghost use Rattle.bind_carry.specs.Whole.{kept};
+ghost use Rattle.bind_carry.specs.{Whole.kept, Fates.FallBelow, First.beside_first, First.is_named_at, First.second_from, First.second_in, First.IsHomeIn};
 ghost use Rattle.bind_carry.specs.BoundGains.{are_types_below, gained_inline, gains_any, type_under_key, unified, unify_one as unify_one_lem, AreInlineCopied, AreKeysUnder, AreWorldKeysBelow};
-ghost use Rattle.bind_carry.specs.Fates.{FallBelow};
-ghost use Rattle.bind_carry.specs.Bound.{IsBoundReady, IsSameButItems};
+ghost use Rattle.bind_carry.specs.{Bound.IsBoundReady, Bound.IsSameButItems, Shown.any_new, Shown.are_keys_below, Shown.type_in, Shown.AreNewShownBelow};
 ghost use Rattle.bind_carry.specs.Numbers.{copied_count, numbers_of, IsMemoryOrSize};
 ghost use Rattle.bind_carry.specs.OfBound.{AreExportsBound, AreImportsBound, AreTooManyTypes, AreTypesBound, IsAllBound, IsTooMuchBound, OfBound, StaysFew};
-ghost use Rattle.bind_carry.specs.Shown.{any_new, are_keys_below, type_in, AreNewShownBelow};
-ghost use Rattle.bind_carry.specs.First.{beside_first, is_named_at, second_from, second_in, IsHomeIn};
-ghost use Rattle.wit_model.specs.declared.model.TypeDef.{TypeDef as TypeDefValue};
-ghost use Rattle.wit_model.specs.Refusals.{IsMemory};
 
 use crate::fate::Fate;
 use crate::fates::{copy_types, settle};

@@ -1,20 +1,11 @@
 //! What is carried of another `Resolve`.
 
 ghost use Rattle.std.specs.Prelude.{◌≡◌, ◌≤◌, ℕ, length, map, IfErr, IfOk, Some};
-ghost use Rattle.wit_model.specs.declared.model.TypeDef.{TypeDef as TypeDefValue};
-ghost use Rattle.wit_model.specs.Lookup.{type_at, world_at};
-ghost use Rattle.wit_model.specs.declared.model.World.{World as WorldValue};
-ghost use Rattle.bind_carry.specs.Shown.{AreShownBelow};
-ghost use Rattle.bind_carry.specs.Which.{IsNumbered};
-ghost use Rattle.bind_carry.specs.First.{fate_named, fate_of, first_fates};
-ghost use Rattle.bind_carry.specs.Numbers.{IsMemoryOrSize};
-ghost use Rattle.bind_carry.specs.Over.{IsCarriedReady, IsPlacedOver};
-ghost use Rattle.wit_model.specs.declared.error.Error.TheVariants.{Size};
-ghost use Rattle.bind_carry.specs.Few.{AreFewNumbered};
-ghost use Rattle.bind_carry.specs.TooLong.{AreTooManyByPath};
-ghost use Rattle.wit_model.specs.Text.{optional_text, text_of};
-ghost use Rattle.wit_model.specs.Refusals.{IsMemory};
-ghost use Rattle.bind_carry.specs.Listed.{type_named, IsOwnerBelow, IsWhole};
+ghost use Rattle.wit_model.specs.declared.{model.TypeDef.TypeDef as TypeDefValue, model.World.World as WorldValue, error.Error.TheVariants.Size};
+ghost use Rattle.wit_model.specs.{Lookup.type_at, Lookup.world_at, Text.optional_text, Text.text_of, Refusals.IsMemory};
+ghost use Rattle.bind_carry.specs.{Shown.AreShownBelow, Numbers.IsMemoryOrSize, Over.IsCarriedReady, Over.IsPlacedOver, TooLong.AreTooManyByPath};
+ghost use Rattle.bind_carry.specs.{Which.IsNumbered, Few.AreFewNumbered};
+ghost use Rattle.bind_carry.specs.{First.fate_named, First.fate_of, First.first_fates, Listed.type_named, Listed.IsOwnerBelow, Listed.IsWhole};
 
 use crate::fate::Fate;
 use crate::fates::{any, settle};

@@ -4,10 +4,8 @@ ghost use Rattle.std.specs.Prelude.{◌≡◌, ◌≤◌, ◌<◌, ◌+◌, ◌&
 ghost use Rattle.std.specs.List.{list_any};
 ghost use Rattle.bind_copy.specs.Copies.{all_below};
 ghost use Rattle.bind_union.specs.Views.{kind_view, view_numbers};
-ghost use Rattle.wit_model.specs.declared.model.TypeDef.{TypeDef as TypeDefValue};
-ghost use Rattle.bind_carry.specs.Numbers.{IsMemoryOrSize};
-ghost use Rattle.wit_model.specs.declared.error.Error.TheVariants.{Size};
-ghost use Rattle.bind_carry.specs.TooLong.{copies_of};
+ghost use Rattle.wit_model.specs.declared.{model.TypeDef.TypeDef as TypeDefValue, error.Error.TheVariants.Size};
+ghost use Rattle.bind_carry.specs.{Numbers.IsMemoryOrSize, TooLong.copies_of};
 ghost use Rattle.bind_carry.specs.Fates.{are_carried, copies, settled as settled_lem, settled_from, AreCopied, FallBelow, MeetsFate};
 
 use crate::fate::Fate;

@@ -1,14 +1,11 @@
 //! Types that are carried by path: they are numbered, get places, and are moved there at last.
 
 ghost use Rattle.std.specs.Prelude.{◌≡◌, ◌<◌, ◌≤◌, ◌+◌, ℕ, true, length, slice_get, IfErr, IfOk, Some};
-ghost use Rattle.wit_model.specs.declared.error.Error.TheVariants.{Size};
-ghost use Rattle.wit_model.specs.declared.model.TypeDef.{TypeDef as TypeDefValue};
+ghost use Rattle.wit_model.specs.declared.{error.Error.TheVariants.Size, model.TypeDef.TypeDef as TypeDefValue};
 ghost use Rattle.bind_copy.specs.Copies.{all_below};
 ghost use Rattle.bind_union.specs.Views.{kind_view, view_numbers};
-ghost use Rattle.bind_carry.specs.Fates.{copied_types, copies, numbers_by, IsCopiedType};
-ghost use Rattle.bind_carry.specs.Moved.{AreMoved, IsMovedBy, MeetsPlace};
-ghost use Rattle.bind_carry.specs.Numbers.{IsMemoryOrSize};
-ghost use Rattle.bind_carry.specs.TooLong.{copies_of};
+ghost use Rattle.bind_carry.specs.{Fates.copied_types, Fates.copies, Fates.numbers_by, Fates.IsCopiedType, Moved.AreMoved, Moved.IsMovedBy, Moved.MeetsPlace};
+ghost use Rattle.bind_carry.specs.{Numbers.IsMemoryOrSize, TooLong.copies_of};
 
 use crate::fate::Fate;
 use crate::numbers::{check_length, number_behind};

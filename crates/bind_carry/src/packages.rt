@@ -1,14 +1,12 @@
 //! Packages, and what stands in them, under new numbers.
 
 ghost use Rattle.std.specs.Prelude.{◌≡◌, ◌++◌, ◌∷◌, [], ℕ, true, false, length, IfErr, IfOk, OnOk, Some};
-ghost use Rattle.bind_add.specs.declared.added.Names.{Names as NamesValue};
 ghost use Rattle.std.specs.List.{AllZip};
+ghost use Rattle.bind_add.specs.declared.added.Names.{Names as NamesValue};
 ghost use Rattle.bind_carry.specs.Packaged.{grown_packages, AreInterfaceNames, AreWorldNames, IsGained, IsPackageCarried};
-ghost use Rattle.bind_carry.specs.Whole.{kept};
+ghost use Rattle.bind_carry.specs.{Whole.kept, Listed.are_interfaces_below, Listed.are_worlds_below, Listed.IsWhole};
 ghost use Rattle.wit_model.specs.declared.model.Package.{Package as PackageValue};
-ghost use Rattle.wit_model.specs.Lookup.{package_at};
-ghost use Rattle.wit_model.specs.Refusals.{IsMemory};
-ghost use Rattle.bind_carry.specs.Listed.{are_interfaces_below, are_worlds_below, IsWhole};
+ghost use Rattle.wit_model.specs.{Lookup.package_at, Refusals.IsMemory};
 
 use crate::plan::Carried;
 use bind_add::Names;

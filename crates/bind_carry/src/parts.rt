@@ -1,10 +1,9 @@
 //! Whether all that a type refers to is carried.
 
-ghost use Rattle.std.specs.Prelude.{◌≡◌, ◌++◌};
-ghost use Rattle.std.specs.List.{list_all};
-ghost use Rattle.wit_model.specs.declared.model.TypeDefKind.TheVariants as kinds;
+ghost use Rattle.std.specs.{Prelude.◌≡◌, Prelude.◌++◌, List.list_all};
 ghost use Rattle.bind_union.specs.Views.{kind_view, optional_numbers, type_numbers, view_numbers};
 ghost use Rattle.bind_carry.specs.Fates.{are_carried, carries, is_carried as is_carried_lem};
+ghost use Rattle.wit_model.specs.declared.model.TypeDefKind.TheVariants as kinds;
 
 use crate::fate::Fate;
 use wit_model::{Case, Field, Handle, Record, Result_, Tuple, Type, TypeDefKind, TypeId, Variant};

@@ -1,11 +1,9 @@
 //! Which interfaces and worlds of another `Resolve` are copied.
 
 ghost use Rattle.std.specs.Prelude.{◌≡◌, ◌≤◌, ℕ, false, is_none, length, replicate, IfErr, IfOk, Some};
-ghost use Rattle.wit_model.specs.Lookup.{world_at};
+ghost use Rattle.wit_model.specs.{Lookup.world_at, Refusals.IsMemory};
 ghost use Rattle.wit_model.specs.declared.model.World.{World as WorldValue};
-ghost use Rattle.wit_model.specs.Refusals.{IsMemory};
-ghost use Rattle.bind_carry.specs.Which.{new_interfaces, new_worlds};
-ghost use Rattle.bind_carry.specs.Marked.{mark_item, mark_items, mark_new_items, mark_worlds};
+ghost use Rattle.bind_carry.specs.{Which.new_interfaces, Which.new_worlds, Marked.mark_item, Marked.mark_items, Marked.mark_new_items, Marked.mark_worlds};
 ghost use Rattle.bind_carry.specs.Shown.{AreNewShownBelow, AreShownBelow, IsShownBelow};
 
 use bind_copy::is_new;

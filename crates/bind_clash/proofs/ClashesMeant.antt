@@ -1,24 +1,17 @@
 -- What clashes by numbers is what clashes in the bindings.
 use Rattle.std.proofs.Common.{◌≡◌, ◌⊎◌, inl, inr, ℕ, Some, None, String}
 use Rattle.std.specs.declared.alloc.Global.{Global}
-use Rattle.wit_model.specs.declared.error.ClashKind.{ClashKind}
-use Rattle.wit_model.specs.declared.error.ClashKind.TheVariants as kinds
-use Rattle.wit_model.specs.declared.error.Error.{Error}
-use Rattle.wit_model.specs.declared.error.Error.TheVariants as errors
-use Rattle.wit_model.specs.declared.model.Resolve.{Resolve}
-use Rattle.wit_model.specs.declared.model.World.{World}
+use Rattle.wit_model.specs.declared.{error.ClashKind.ClashKind, error.Error.Error, model.Resolve.Resolve, model.World.World}
 use Rattle.wit_model.specs.Text.{Text, text_of}
-use Rattle.bind_meaning.specs.Binding.{Binding}
-use Rattle.bind_meaning.specs.ByNumbers.{binding_at}
+use Rattle.bind_meaning.specs.{Binding.Binding, ByNumbers.binding_at, Encodings.Encodings, Laws.SomeClash}
 use Rattle.bind_meaning.specs.Clash.{CanUnite, EncodingFault, ExportFault, ImportFault, InterfaceFault, IsClash, IsLeast, NoFault, WorldFault}
-use Rattle.bind_meaning.specs.Encodings.{Encodings}
-use Rattle.bind_meaning.specs.Laws.{SomeClash}
 use Rattle.bind_meaning.proofs.Searches.{unite_or_clash}
 use Rattle.bind_match.specs.declared.matches.Matches.{Matches}
 use Rattle.bind_clash.specs.Faults.{HasNoClash, InterfaceFaultIn, IsClashAt, WorldFaultIn}
 use Rattle.bind_clash.specs.Laws.{AreWorlds, ClashesAreOfBindings, EncodingsClashLast, FaultsAre, NoneIsOfBindings}
-use Rattle.bind_clash.proofs.FaultsMeant.{faults_are_of_bindings}
-use Rattle.bind_clash.proofs.LeastFaults.{same_faults}
+use Rattle.bind_clash.proofs.{FaultsMeant.faults_are_of_bindings, LeastFaults.same_faults}
+use Rattle.wit_model.specs.declared.error.ClashKind.TheVariants as kinds
+use Rattle.wit_model.specs.declared.error.Error.TheVariants as errors
 
 module _ (own other : Resolve) (m : Matches) (n k : ℕ) (w v : World) (s : AreWorlds own other m n k w v) (a b c d : Encodings) where
   abbrev A : Binding

@@ -1,43 +1,29 @@
 -- Faults by numbers are faults of the bindings.
 use Rattle.std.proofs.Common.{◌≡◌, ◌≢◌, ◌↔◌, inl, inr, refl, sym, ap, subst, ◌∙◌, arith, ℕ, zero, suc, ◌<◌, Bool, true, false, cond, List, [], ◌∷◌, slice_get, Option, Some, None, option_map, option_and_then, is_some, String}
-use Rattle.std.specs.Option.{option_map_or}
-use Rattle.std.specs.FinMap.{find, get}
-use Rattle.std.specs.Ordering.{eq_by_cmp}
-use Rattle.std.specs.declared.alloc.Global.{Global}
 use Rattle.std.proofs.lemmas.Option.{slice_get_within, same_Some as same-some}
-use Rattle.wit_model.specs.declared.model.Interface.{Interface}
-use Rattle.wit_model.specs.declared.model.InterfaceId.{InterfaceId}
-use Rattle.wit_model.specs.declared.model.Resolve.{Resolve}
-use Rattle.wit_model.specs.declared.model.World.{World}
+use Rattle.std.specs.{Option.option_map_or, FinMap.find, FinMap.get, Ordering.eq_by_cmp}
+use Rattle.std.specs.declared.alloc.Global.{Global}
+use Rattle.wit_model.specs.declared.model.{Interface.Interface, InterfaceId.InterfaceId, Resolve.Resolve, World.World, WorldItem.WorldItem, WorldKey.WorldKey}
 use Rattle.wit_model.specs.declared.model.WorldId.{WorldId}
-use Rattle.wit_model.specs.declared.model.WorldItem.{WorldItem}
-use Rattle.wit_model.specs.declared.model.WorldKey.{WorldKey}
 use Rattle.wit_model.specs.Text.{Text, text_cmp, text_of}
 use Rattle.wit_model.specs.Lookup.{interface_at, interface_path, key_text, path_of_interface, path_of_world, world_at}
 use Rattle.wit_model.specs.Meaning.{Entry, InterfaceMeaning, InterfaceSense, WorldMeaning, WorldSense, entry_sense, interface_sense, world_sense}
 use Rattle.wit_model.specs.Meant.{entries_meaning, entry_meaning, interface_meaning, interface_meaning_at, no_interface, no_world, world_meaning, world_meaning_at}
-use Rattle.wit_model.proofs.Elements.{contains-get}
-use Rattle.wit_compat.specs.declared.place.Place.TheVariants as place
+use Rattle.wit_model.proofs.{Elements.contains-get, AnyOrder.found-there as find-contains}
 use Rattle.wit_compat.specs.Senses.{Sense, of_import, of_interface, of_world, sense_of}
-use Rattle.bind_meaning.specs.Binding.{Binding, Stand}
-use Rattle.bind_meaning.specs.ByNumbers.{binding_at}
+use Rattle.bind_meaning.specs.{Binding.Binding, Binding.Stand, ByNumbers.binding_at, Encodings.Encodings, Roots.root_path}
 use Rattle.bind_meaning.specs.Clash.{Differ, ExportFault, ImportFault, InterfaceFault, IsFirstOf, WorldFault, carried_worlds}
-use Rattle.bind_meaning.specs.Encodings.{Encodings}
-use Rattle.bind_meaning.specs.Roots.{root_path}
-use Rattle.bind_meaning.proofs.Listed.{from-map, given as unpacked}
-use Rattle.wit_model.proofs.AnyOrder.{found-there as find-contains}
-use Rattle.bind_meaning.proofs.Maps.{by_tie, get-without, itself_ties}
+use Rattle.bind_meaning.proofs.{Listed.from-map, Listed.given as unpacked, Searches.second-there as second-differs, Searches.stands-second as second-stands}
+use Rattle.bind_meaning.proofs.{Maps.by_tie, Maps.get-without, Maps.itself_ties, WorldPaths.path_at}
 use Rattle.bind_meaning.proofs.WorldBindings.{export-key, exports-distinct, import-key, imports-distinct, interface-found, interface-under, world-found, world-under}
-use Rattle.bind_meaning.proofs.WorldPaths.{path_at}
 use Rattle.bind_match.specs.declared.matches.Matches.{Matches}
 use Rattle.bind_match.specs.Matching.{interface_in, is_root_world, own_interface_of, own_world_of, world_in}
 use Rattle.bind_clash.specs.Faults.{ExportStands, ImportFaults, InterfaceDiffers, InterfaceFaultIn, IsFirstFault, OtherSense, WorldDiffers, WorldFaultIn, is_own_world_of, own_place_in}
 use Rattle.bind_clash.specs.Laws.{AreWorlds, FaultsAreOfBindings, IsFirstIn}
 use Rattle.bind_clash.proofs.KeysMatched.{found-distinct, no-own-entry, own-entry}
 use Rattle.bind_clash.proofs.PathsMatched.{IsPathOf, crossed-world-has, crossed-world-there, has-root, interface-in-has, interface-in-there, own-interface-has, own-interface-there, root-has, untrue, world-in-has, world-in-there, world-path-of}
-use Rattle.base_lemmas.proofs.Elements.{contains-map, get-contains}
-use Rattle.base_lemmas.proofs.Options.{there as some-of}
-use Rattle.bind_meaning.proofs.Searches.{second-there as second-differs, stands-second as second-stands}
+use Rattle.base_lemmas.proofs.{Elements.contains-map, Elements.get-contains, Options.there as some-of}
+use Rattle.wit_compat.specs.declared.place.Place.TheVariants as place
 
 -- ---- what is there on both sides
 

@@ -1,36 +1,20 @@
 -- Which own entry stands under a key of the other's.
 use Rattle.std.proofs.Common.{◌≡◌, refl, sym, ap, ◌∙◌, arith, ℕ, zero, suc, ◌+◌, Bool, true, false, cond, not, List, [], ◌∷◌, map, slice_get, Option, Some, None, option_map, option_and_then, unwrap_or, Contains, is_some}
-use Rattle.std.specs.List.{position_from}
-use Rattle.std.specs.Prelude.{position}
-use Rattle.std.specs.FinMap.{find}
-use Rattle.std.specs.Ordering.{eq_by_cmp}
-use Rattle.std.proofs.lemmas.Iterator.Adapters.{position_from-zero}
-use Rattle.std.proofs.lemmas.Option.{slice_get-map, same_Some as same-some}
-use Rattle.std.proofs.lemmas.Slice.Eq.{bytes_eq-Decides}
-use Rattle.wit_model.specs.declared.model.Interface.{Interface}
-use Rattle.wit_model.specs.declared.model.InterfaceId.{InterfaceId}
-use Rattle.wit_model.specs.declared.model.Resolve.{Resolve}
-use Rattle.wit_model.specs.declared.model.WorldItem.{WorldItem}
-use Rattle.wit_model.specs.declared.model.WorldKey.{WorldKey}
-use Rattle.wit_model.specs.declared.model.WorldKey.TheVariants as key
-use Rattle.wit_model.specs.Text.{Text, text_cmp, text_eq, text_of}
-use Rattle.wit_model.specs.Lookup.{interface_at, interface_path, key_text, path_of_interface}
-use Rattle.wit_model.specs.Meant.{entries_meaning, entry_meaning}
-use Rattle.wit_model.specs.Rules.{are_distinct}
-use Rattle.wit_model.specs.Valid.{IsValid, key_eq}
-use Rattle.wit_model.proofs.Elements.{none-in}
+use Rattle.std.proofs.lemmas.{Iterator.Adapters.position_from-zero, Option.slice_get-map, Option.same_Some as same-some, Slice.Eq.bytes_eq-Decides}
+use Rattle.std.specs.{List.position_from, Prelude.position, FinMap.find, Ordering.eq_by_cmp}
+use Rattle.wit_model.specs.declared.model.{Interface.Interface, InterfaceId.InterfaceId, Resolve.Resolve, WorldItem.WorldItem, WorldKey.WorldKey}
+use Rattle.wit_model.specs.{Text.Text, Text.text_cmp, Text.text_eq, Text.text_of, Rules.are_distinct, Valid.IsValid, Valid.key_eq}
+use Rattle.wit_model.specs.{Lookup.interface_at, Lookup.interface_path, Lookup.key_text, Lookup.path_of_interface, Meant.entries_meaning, Meant.entry_meaning}
+use Rattle.wit_model.proofs.{Elements.none-in, TextLemmas.text_same as text-same}
 use Rattle.bind_meaning.proofs.Listed.{given as unpacked}
-use Rattle.bind_meaning.proofs.Maps.{by_tie, eq_by_text, found_keys, has_key, itself_ties}
-use Rattle.bind_meaning.proofs.WorldBindings.{IsKey, keys-apart}
+use Rattle.bind_meaning.proofs.{Maps.by_tie, Maps.eq_by_text, Maps.found_keys, Maps.has_key, Maps.itself_ties, WorldBindings.IsKey, WorldBindings.keys-apart}
 use Rattle.bind_match.specs.declared.matches.Matches.{Matches}
 use Rattle.bind_match.specs.Matching.{own_interface_of}
 use Rattle.bind_clash.specs.Faults.{IsMatched, own_id, own_place_in}
 use Rattle.bind_clash.proofs.PathsMatched.{own-interface-has, own-interface-there, untrue}
-use Rattle.base_lemmas.proofs.Bools.{left_of as first_true, right_of as second_true}
-use Rattle.base_lemmas.proofs.Elements.{contains-later, first-contained}
-use Rattle.base_lemmas.proofs.Numbers.{equal}
+use Rattle.base_lemmas.proofs.{Bools.left_of as first_true, Bools.right_of as second_true, Elements.contains-later, Elements.first-contained, Numbers.equal}
 use Rattle.base_lemmas.proofs.Options.{there as some-of}
-use Rattle.wit_model.proofs.TextLemmas.{text_same as text-same}
+use Rattle.wit_model.specs.declared.model.WorldKey.TheVariants as key
 
 -- ---- keys by their texts
 

@@ -1,14 +1,11 @@
 -- The least of the texts that have a fault, found one after the other.
 use Rattle.std.proofs.Common.{◌≡◌, refl, ap, subst, ◌∙◌, ◌⊎◌, inl, inr, ℕ, ◌+◌, ◌<◌, cond, Option, Some, None, arith}
-use Rattle.std.specs.declared.cmp.Ordering.{Ordering}
-use Rattle.std.specs.declared.cmp.Ordering.TheVariants.{Less, Equal, Greater}
-use Rattle.std.specs.Ordering.{is_le, ordering_reverse}
-use Rattle.std.specs.Cmp.Lexicographic.{nat_list_cmp_total}
 use Rattle.std.proofs.lemmas.Bool.{cases_order}
+use Rattle.std.specs.declared.cmp.{Ordering.Ordering, Ordering.TheVariants.Less, Ordering.TheVariants.Equal, Ordering.TheVariants.Greater}
+use Rattle.std.specs.{Ordering.is_le, Ordering.ordering_reverse, Cmp.Lexicographic.nat_list_cmp_total}
 use Rattle.wit_model.specs.Text.{Text, text_cmp}
-use Rattle.bind_meaning.proofs.Maps.{tied}
+use Rattle.bind_meaning.proofs.{Maps.tied, Searches.never-less}
 use Rattle.bind_clash.specs.Faults.{Below, IsLeastFault, least_of}
-use Rattle.bind_meaning.proofs.Searches.{never-less}
 
 -- the same faults have the same least
 pub same_faults : (P Q : Text → Type 0) → ((t : Text) → P t → Q t) → ((t : Text) → Q t → P t) → (o : Option Text) → IsLeastFault P o → IsLeastFault Q o

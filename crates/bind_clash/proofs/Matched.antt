@@ -1,35 +1,24 @@
 -- What is matched is in range, and what a comparison says of it.
 use Rattle.std.proofs.Common.{arith, ◌≡◌, ◌↔◌, ◌⊎◌, refl, sym, ap, subst, ◌∙◌, inl, inr, ℕ, ◌<◌, Bool, true, false, not, ◌&&◌, cond, List, [], ◌∷◌, map, length, get_or, slice_get, Option, Some, None, option_map, option_and_then, is_some, IsTrue, lt-ltb, ltb-true, Result, IfOk, String, ◌+◌}
-use Rattle.std.specs.List.{list_all}
-use Rattle.std.specs.Map.{lookup}
 use Rattle.std.proofs.Math.ListN.{length-map}
-use Rattle.std.proofs.lemmas.Option.{slice_get_read, slice_get-map, same_Some as same-some}
-use Rattle.wit_model.specs.declared.model.Interface.{Interface}
-use Rattle.wit_model.specs.declared.model.InterfaceId.{InterfaceId}
-use Rattle.wit_model.specs.declared.model.PackageId.{PackageId}
-use Rattle.wit_model.specs.declared.model.Resolve.{Resolve}
-use Rattle.wit_model.specs.declared.model.World.{World}
-use Rattle.wit_model.specs.declared.model.WorldId.{WorldId}
-use Rattle.wit_model.specs.Lookup.{interface_at, interface_path, package_at, path_in_package, path_of_interface, path_of_world, world_at}
-use Rattle.wit_model.specs.Rules.{entries_in_range, in_list, package_number, passes}
-use Rattle.std.specs.declared.alloc.Global.{Global}
-use Rattle.std.proofs.lemmas.Bool.{cases_order}
+use Rattle.std.proofs.lemmas.{Option.slice_get_read, Option.slice_get-map, Option.same_Some as same-some, Bool.cases_order}
+use Rattle.std.specs.{List.list_all, Map.lookup}
+use Rattle.wit_model.specs.declared.model.{Interface.Interface, InterfaceId.InterfaceId, PackageId.PackageId, Resolve.Resolve, World.World, WorldId.WorldId}
 use Rattle.wit_model.specs.declared.error.Error.{Error}
+use Rattle.wit_model.specs.Lookup.{interface_at, interface_path, package_at, path_in_package, path_of_interface, path_of_world, world_at}
+use Rattle.wit_model.specs.{Rules.entries_in_range, Rules.in_list, Rules.package_number, Rules.passes, Valid.IsValid, Valid.is_place, Valid.numbers_in_range}
 use Rattle.wit_model.specs.Text.{Text, optional_text, text_eq, text_of}
-use Rattle.wit_model.specs.Valid.{IsValid, is_place, numbers_in_range}
-use Rattle.wit_model.proofs.Entries.{each_from_at, lists_pass}
-use Rattle.wit_model.proofs.OnePath.{found-in, package-passes}
+use Rattle.std.specs.declared.alloc.Global.{Global}
+use Rattle.wit_model.proofs.{Entries.each_from_at, Entries.lists_pass, OnePath.found-in, OnePath.package-passes}
 use Rattle.wit_compat.specs.declared.place.Place.{Place}
-use Rattle.wit_compat.specs.declared.place.Place.TheVariants as place
 use Rattle.wit_compat.specs.Senses.{sense_of}
 use Rattle.bind_meaning.proofs.Listed.{given as unpacked}
 use Rattle.bind_match.specs.declared.matches.Matches.{Matches}
 use Rattle.bind_match.specs.Matching.{home_in, interface_in, is_root_world, own_interface_of, own_world_of, world_in}
 use Rattle.bind_clash.specs.Faults.{is_own_world_of, CrossingAt, CrossingOf, InterfaceDiffers, InterfaceFaultAt, IsLeastFault, IsMatched, OtherSense, WorldDiffers, WorldFaultAt}
 use Rattle.bind_clash.proofs.LeastFaults.{one_fault, same_faults}
-use Rattle.base_lemmas.proofs.Bools.{left_of as first_true, right_of as second_true}
-use Rattle.base_lemmas.proofs.Numbers.{false_true}
-use Rattle.base_lemmas.proofs.Options.{if_ok as in_ok}
+use Rattle.base_lemmas.proofs.{Bools.left_of as first_true, Bools.right_of as second_true, Numbers.false_true, Options.if_ok as in_ok}
+use Rattle.wit_compat.specs.declared.place.Place.TheVariants as place
 
 -- ---- small words
 

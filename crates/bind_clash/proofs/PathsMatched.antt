@@ -1,45 +1,23 @@
 -- What is matched by names stands under the path of the other's, and what stands under that path is matched.
 use Rattle.std.proofs.Common.{◌≡◌, refl, sym, ap, ◌∙◌, arith, ℕ, zero, suc, ◌+◌, Bool, true, false, ◌&&◌, cond, List, [], ◌∷◌, map, slice_get, Option, Some, None, option_map, option_and_then, String, is_none}
-use Rattle.std.specs.Option.{option_map_or}
-use Rattle.std.specs.HashMap.{get_by_text}
+use Rattle.std.proofs.lemmas.{Option.slice_get-map, Option.same_Some as same-some, Slice.Eq.bytes_eq-Decides, Bool.and_from as both}
+use Rattle.std.specs.{Option.option_map_or, HashMap.get_by_text}
 use Rattle.std.specs.declared.alloc.Global.{Global}
-use Rattle.std.proofs.lemmas.Option.{slice_get-map, same_Some as same-some}
-use Rattle.std.proofs.lemmas.Slice.Eq.{bytes_eq-Decides}
-use Rattle.wit_model.specs.declared.model.Interface.{Interface}
-use Rattle.wit_model.specs.declared.model.InterfaceId.{InterfaceId}
-use Rattle.wit_model.specs.declared.model.Package.{Package}
-use Rattle.wit_model.specs.declared.model.PackageId.{PackageId}
-use Rattle.wit_model.specs.declared.model.PackageName.{PackageName}
-use Rattle.wit_model.specs.declared.model.Resolve.{Resolve}
-use Rattle.wit_model.specs.declared.model.World.{World}
-use Rattle.wit_model.specs.declared.model.WorldId.{WorldId}
-use Rattle.wit_model.specs.Text.{Text, text_eq, text_of}
-use Rattle.wit_model.specs.Names.{PackageIdentity, is_identity, is_label, path_in}
+use Rattle.wit_model.specs.declared.model.{Interface.Interface, InterfaceId.InterfaceId, Package.Package, PackageId.PackageId, PackageName.PackageName}
+use Rattle.wit_model.specs.declared.model.{Resolve.Resolve, World.World, WorldId.WorldId}
+use Rattle.wit_model.specs.{Text.Text, Text.text_eq, Text.text_of, Names.PackageIdentity, Names.is_identity, Names.is_label, Names.path_in, Valid.IsValid}
 use Rattle.wit_model.specs.Lookup.{identity_of, interface_at, interface_path, optional_version_text, package_at, path_of_interface, path_of_world, world_at}
 use Rattle.wit_model.specs.Rules.{interface_is_listed, is_id, package_number, same_package_name, text_is, world_is_listed}
-use Rattle.wit_model.specs.Valid.{IsValid}
-use Rattle.wit_model.proofs.NameLaws.{one_path}
-use Rattle.wit_model.proofs.OnePath.{has-path, package-name, package-once, path-label, path-listed}
-use Rattle.wit_model.proofs.VersionLaws.{same_name}
+use Rattle.wit_model.proofs.{NameLaws.one_path, VersionLaws.same_name, RulesLemmas.is_id_some as some_id, TextLemmas.text_same as text-same}
+use Rattle.wit_model.proofs.{OnePath.has-path, OnePath.package-name, OnePath.package-once, OnePath.path-label, OnePath.path-listed, LookupLemmas.versionless}
 use Rattle.bind_meaning.specs.Roots.{root, root_meaning, root_path}
-use Rattle.bind_meaning.proofs.Listed.{given as unpacked}
-use Rattle.bind_meaning.proofs.WorldPaths.{has-world-path, path_at, world-label, world-listed}
+use Rattle.bind_meaning.proofs.{Listed.given as unpacked, WorldPaths.has-world-path, WorldPaths.path_at, WorldPaths.world-label, WorldPaths.world-listed}
 use Rattle.bind_union.specs.Merged.{interface_names, world_names}
-use Rattle.bind_union.proofs.Carrying.{path_by, path_parts}
+use Rattle.bind_union.proofs.{Carrying.path_by, Carrying.path_parts, Namesakes.under_contains, PackageNames.interfaces_by_name, PackageNames.worlds_by_name}
 use Rattle.bind_union.proofs.KeptPackages.{found_option, interfaces_stand, is_interface_of, is_world_of, worlds_stand}
-use Rattle.bind_union.proofs.Namesakes.{under_contains}
-use Rattle.bind_union.proofs.PackageNames.{interfaces_by_name, worlds_by_name}
-use Rattle.bind_union.proofs.United.{some_name}
-use Rattle.bind_union.proofs.UnitedWorlds.{world_path}
+use Rattle.bind_union.proofs.{United.some_name, UnitedWorlds.world_path}
 use Rattle.bind_match.specs.Matching.{given, home_in, interface_in, is_root_name, is_root_world, own_interface_of, own_package_of, package_from, world_in}
-use Rattle.base_lemmas.proofs.Bools.{left_of as first_true, right_of as second_true}
-use Rattle.base_lemmas.proofs.Elements.{all-contained}
-use Rattle.base_lemmas.proofs.Numbers.{equal}
-use Rattle.std.proofs.lemmas.Bool.{and_from as both}
-use Rattle.base_lemmas.proofs.Options.{none_is as no-version}
-use Rattle.wit_model.proofs.LookupLemmas.{versionless}
-use Rattle.wit_model.proofs.RulesLemmas.{is_id_some as some_id}
-use Rattle.wit_model.proofs.TextLemmas.{text_same as text-same}
+use Rattle.base_lemmas.proofs.{Bools.left_of as first_true, Bools.right_of as second_true, Elements.all-contained, Numbers.equal, Options.none_is as no-version}
 
 pub untrue : {A : Type 0} → false ≡ true → A
 untrue e = let no : ⊥ = cc in absurd no

@@ -1,23 +1,14 @@
 -- What clashes by numbers is what clashes in the bindings of the two worlds.
 use Rattle.std.specs.Prelude.{◌≡◌, ◌↔◌, ◌⊎◌, ℕ, List, Option, Some, None, String}
 use Rattle.std.specs.declared.alloc.Global.{Global}
-use Rattle.wit_model.specs.declared.error.ClashKind.{ClashKind}
-use Rattle.wit_model.specs.declared.error.ClashKind.TheVariants as kinds
-use Rattle.wit_model.specs.declared.error.Error.{Error}
-use Rattle.wit_model.specs.declared.error.Error.TheVariants as errors
-use Rattle.wit_model.specs.declared.model.Resolve.{Resolve}
-use Rattle.wit_model.specs.declared.model.World.{World}
-use Rattle.wit_model.specs.Text.{Text, text_of}
-use Rattle.wit_model.specs.Lookup.{world_at}
-use Rattle.wit_model.specs.Meaning.{Entry, InterfaceSense, WorldSense}
-use Rattle.wit_model.specs.Valid.{IsValid}
-use Rattle.bind_meaning.specs.Binding.{Binding}
-use Rattle.bind_meaning.specs.ByNumbers.{binding_at}
+use Rattle.wit_model.specs.declared.{error.ClashKind.ClashKind, error.Error.Error, model.Resolve.Resolve, model.World.World}
+use Rattle.wit_model.specs.{Text.Text, Text.text_of, Lookup.world_at, Meaning.Entry, Meaning.InterfaceSense, Meaning.WorldSense, Valid.IsValid}
+use Rattle.bind_meaning.specs.{Binding.Binding, ByNumbers.binding_at, Encodings.Encodings, Laws.CanTell}
 use Rattle.bind_meaning.specs.Clash.{CanUnite, EncodingFault, ExportFault, ImportFault, InterfaceFault, IsClash, IsFirstOf, IsLeast, NoFault, WorldFault}
-use Rattle.bind_meaning.specs.Encodings.{Encodings}
-use Rattle.bind_meaning.specs.Laws.{CanTell}
 use Rattle.bind_match.specs.declared.matches.Matches.{Matches}
 use Rattle.bind_clash.specs.Faults.{ExportStands, HasNoClash, ImportFaults, InterfaceFaultIn, IsClashAt, IsFirstFault, IsMatched, WorldFaultIn}
+use Rattle.wit_model.specs.declared.error.ClashKind.TheVariants as kinds
+use Rattle.wit_model.specs.declared.error.Error.TheVariants as errors
 
 -- a world of each of two valid `Resolve`s, by number, and what of the second has a name or a path of the first
 pub record AreWorlds (own other : Resolve) (m : Matches) (n k : ℕ) (w v : World) : Type 0 where

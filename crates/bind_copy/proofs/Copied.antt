@@ -1,9 +1,7 @@
 -- Entries that are copied into a map one behind the other, those that a test passes, where no key stands twice.
 use Rattle.std.proofs.Common.{◌≡◌, refl, sym, ap, subst, ◌∙◌, Bool, true, false, List, [], ◌∷◌, ◌++◌, cond, append-nil}
-use Rattle.std.specs.List.{filter, AllByRecursion, AllZip, IsDistinct}
-use Rattle.std.specs.Map.{keys_of}
-use Rattle.std.proofs.lemmas.List.{append_assoc}
-use Rattle.std.proofs.lemmas.List.Elements.{filter-append, AllZip-push}
+use Rattle.std.proofs.lemmas.{List.append_assoc, List.Elements.filter-append, List.Elements.AllZip-push}
+use Rattle.std.specs.{List.filter, List.AllByRecursion, List.AllZip, List.IsDistinct, Map.keys_of}
 use Rattle.indexmap.specs.IndexMap.{insert_entry}
 use Rattle.indexmap.proofs.MapLemmas.{insert_entry-absent}
 use Rattle.bind_copy.specs.Copies.{CopiedSoFar}

@@ -1,18 +1,15 @@
 -- Entries that are copied into a map one behind the other, where no name stands twice.
 use Rattle.std.proofs.Common.{◌≡◌, refl, sym, ap, ap₂, ◌∙◌, ℕ, true, false, ◌&&◌, ◌||◌, not, List, [], ◌∷◌, ◌++◌, map}
-use Rattle.std.specs.List.{list_any, AllByRecursion, IsDistinct}
-use Rattle.std.specs.Map.{keys_of}
-use Rattle.std.specs.Prelude.{String, string_eq}
+use Rattle.std.proofs.lemmas.Bool.{not-true as not_true, or_parts as none_of}
+use Rattle.std.specs.{List.list_any, List.AllByRecursion, List.IsDistinct, Map.keys_of, Prelude.String, Prelude.string_eq}
 use Rattle.std.specs.declared.alloc.Global.{Global}
 use Rattle.indexmap.specs.IndexMap.{insert_entry}
 use Rattle.indexmap.proofs.MapLemmas.{insert_entry-absent}
 use Rattle.wit_model.proofs.Distinct.{text_eq_flip}
-use Rattle.wit_model.specs.Rules.{are_distinct}
-use Rattle.wit_model.specs.Text.{Text, text_eq, text_of}
+use Rattle.wit_model.specs.{Rules.are_distinct, Text.Text, Text.text_eq, Text.text_of}
 use Rattle.wit_model.specs.declared.model.TypeId.{TypeId}
 use Rattle.bind_copy.specs.Copies.{names_in, number_under, type_names, type_names_under}
 use Rattle.base_lemmas.proofs.Bools.{left_of as first_true, right_of as second_true}
-use Rattle.std.proofs.lemmas.Bool.{not-true as not_true, or_parts as none_of}
 use Rattle.bind_copy.proofs.CopiesLemmas.{names_alone_under as firsts_under}
 
 -- no name in front is the one that stands in the middle

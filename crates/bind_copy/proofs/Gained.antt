@@ -1,21 +1,16 @@
 -- Items that are copied into a map one behind the other, where their keys are new.
 use Rattle.std.proofs.Common.{◌≡◌, refl, sym, ap, ap₂, subst, ◌∙◌, ℕ, Bool, true, false, not, ◌==◌, ◌||◌, List, [], ◌∷◌, Option, is_some}
-use Rattle.std.specs.List.{filter, list_any, AllZip, IsDistinct}
-use Rattle.std.specs.Map.{keys_of, lookup}
 use Rattle.std.proofs.lemmas.Map.Made.{is_some-lookup}
+use Rattle.std.specs.{List.filter, List.list_any, List.AllZip, List.IsDistinct, Map.keys_of, Map.lookup, Prelude.String}
 use Rattle.indexmap.specs.IndexMap.{get_by, insert_entry, IndexMap}
-use Rattle.wit_model.specs.contracts.model.WorldKeyPartialEq.TheImpl as world_key
 use Rattle.wit_model.proofs.Distinct.{text_eq_flip}
-use Rattle.wit_model.specs.Text.{text_eq, text_of}
-use Rattle.wit_model.specs.Valid.{key_eq}
-use Rattle.std.specs.Prelude.{String}
+use Rattle.wit_model.specs.{Text.text_eq, Text.text_of, Valid.key_eq}
 use Rattle.std.specs.declared.alloc.Global.{Global}
-use Rattle.wit_model.specs.declared.model.InterfaceId.{InterfaceId}
-use Rattle.wit_model.specs.declared.model.WorldItem.{WorldItem}
-use Rattle.wit_model.specs.declared.model.WorldKey.{WorldKey}
-use Rattle.wit_model.specs.declared.model.WorldKey.TheVariants as key
+use Rattle.wit_model.specs.declared.model.{InterfaceId.InterfaceId, WorldItem.WorldItem, WorldKey.WorldKey}
 use Rattle.bind_copy.specs.Copies.{become_one, is_key_under, is_new_under, number_under, AreNewCopied, CopiedSoFar, IsEntryUnder, IsKeyUnder}
 use Rattle.bind_copy.proofs.Copied.{all_copied, one_copied, one_left}
+use Rattle.wit_model.specs.contracts.model.WorldKeyPartialEq.TheImpl as world_key
+use Rattle.wit_model.specs.declared.model.WorldKey.TheVariants as key
 
 -- the test of keys that the code makes
 code_eq : (a b : WorldKey) → world_key.ghosts.eq a b ≡ key_eq a b

@@ -1,25 +1,15 @@
 -- Functions that are copied into a map one behind the other, and what holds of the members of those that are moved.
 use Rattle.std.proofs.Common.{◌≡◌, refl, ap, subst, ◌∙◌, ℕ, true, nat_lt, List, [], ◌∷◌, map}
-use Rattle.std.specs.List.{AllZip}
-use Rattle.std.specs.Prelude.{String}
-use Rattle.std.specs.String.{string_eq}
-use Rattle.std.specs.Map.{keys_of}
-use Rattle.std.specs.List.{IsDistinct}
+use Rattle.std.specs.{List.AllZip, List.IsDistinct, Prelude.String, String.string_eq, Map.keys_of}
 use Rattle.std.specs.declared.alloc.Global.{Global}
 use Rattle.indexmap.specs.IndexMap.{insert_entry}
 use Rattle.wit_model.proofs.Distinct.{text_eq_flip}
 use Rattle.wit_model.specs.Text.{text_eq, text_of}
-use Rattle.wit_model.specs.declared.model.Case.{Case}
-use Rattle.wit_model.specs.declared.model.Field.{Field}
-use Rattle.wit_model.specs.declared.model.Function.{Function}
-use Rattle.wit_model.specs.declared.model.Param.{Param}
-use Rattle.wit_model.specs.declared.model.TypeId.{TypeId}
-use Rattle.wit_model.specs.declared.model.«Type».{«Type» as ValueType}
+use Rattle.wit_model.specs.declared.model.{Case.Case, Field.Field, Function.Function, Param.Param, TypeId.TypeId, «Type».«Type» as ValueType}
 use Rattle.bind_union.specs.Views.{optional_numbers, renamed_type, type_numbers}
 use Rattle.bind_copy.specs.Copies.{all_below, are_cases_below, are_fields_below, are_names_below, are_params_below, are_parts_below, case_docs, cases_of, cases_under, field_docs, fields_of, fields_under, number_under, params_of, params_under, type_names, type_names_under, AreFunctionsBelow, CopiedSoFar, IsCaseUnder, IsFieldUnder, IsFunctionEntry, IsFunctionUnder, IsParamUnder, IsPartUnder, IsTypeEntry}
-use Rattle.base_lemmas.proofs.Bools.{right_of}
+use Rattle.base_lemmas.proofs.{Bools.right_of, Lists.filter_all as all_pass}
 use Rattle.bind_copy.proofs.Copied.{all_copied, one_copied}
-use Rattle.base_lemmas.proofs.Lists.{filter_all as all_pass}
 
 module _ (types : List ℕ) where
   same_keys : (x y u v : String Global × Function) → IsFunctionEntry types x u → IsFunctionEntry types y v → string_eq v.0 u.0 ≡ string_eq x.0 y.0

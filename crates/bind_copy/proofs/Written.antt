@@ -1,14 +1,10 @@
 -- Items that are given new values one after the other, where they stand.
 use Rattle.std.proofs.Common.{◌≡◌, refl, sym, ap, subst, ◌∙◌, ℕ, ◌+◌, ◌≤◌, arith, List, [], ◌∷◌, ◌++◌, length, set, append_assoc, append-nil, Some, slice_get}
-use Rattle.std.specs.List.{AllZip}
-use Rattle.std.specs.Map.{values_of}
-use Rattle.std.proofs.lemmas.List.{length-append}
-use Rattle.std.proofs.lemmas.List.Elements.{length_all_zip, AllZip-push}
-use Rattle.std.proofs.Math.Seq.{set-append_seam}
+use Rattle.std.proofs.{lemmas.List.length-append, lemmas.List.Elements.length_all_zip, lemmas.List.Elements.AllZip-push, Math.Seq.set-append_seam}
+use Rattle.std.specs.{List.AllZip, Map.values_of}
 use Rattle.indexmap.specs.IndexMap.{set_value_at}
 use Rattle.indexmap.proofs.EntryLemmas.{set_middle}
-use Rattle.base_lemmas.proofs.Lists.{none_there}
-use Rattle.base_lemmas.proofs.Options.{some_is}
+use Rattle.base_lemmas.proofs.{Lists.none_there, Options.some_is}
 use Rattle.bind_copy.specs.Copies.{AreWrittenSoFar}
 
 -- what stands behind the front of a list

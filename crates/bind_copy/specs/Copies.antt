@@ -1,34 +1,17 @@
 -- What is copied under new numbers.
-use Rattle.std.specs.Prelude.{◌≡◌, ◌<◌, ◌++◌, ◌==◌, ℕ, Bool, true, false, not, nat_lt, List, [], ◌∷◌, length, map, Option, option_map, slice_get, unwrap_or}
-use Rattle.std.specs.List.{filter, list_all, list_any, AllZip, IsDistinct}
-use Rattle.std.specs.Map.{keys_of}
-use Rattle.std.specs.String.{string_eq}
+use Rattle.std.specs.Prelude.{◌≡◌, ◌<◌, ◌++◌, ◌==◌, ℕ, Bool, true, false, not, nat_lt, List, [], ◌∷◌, length, map, Option, option_map, slice_get, unwrap_or, String}
+use Rattle.std.specs.{List.filter, List.list_all, List.list_any, List.AllZip, List.IsDistinct, Map.keys_of, String.string_eq}
 use Rattle.indexmap.specs.IndexMap.{IsUnique}
-use Rattle.std.specs.Prelude.{String}
 use Rattle.std.specs.declared.alloc.Global.{Global}
-use Rattle.wit_model.specs.declared.model.Field.{Field}
-use Rattle.wit_model.specs.declared.model.Case.{Case}
-use Rattle.wit_model.specs.declared.model.Flag.{Flag}
-use Rattle.wit_model.specs.declared.model.EnumCase.{EnumCase}
-use Rattle.wit_model.specs.declared.model.«Type».{«Type» as ValueType}
-use Rattle.wit_model.specs.declared.model.Function.{Function}
-use Rattle.wit_model.specs.declared.model.FunctionKind.{FunctionKind}
-use Rattle.wit_model.specs.declared.model.FunctionKind.TheVariants as call
-use Rattle.wit_model.specs.declared.model.Interface.{Interface}
-use Rattle.wit_model.specs.declared.model.Param.{Param}
-use Rattle.wit_model.specs.declared.model.TypeId.{TypeId}
+use Rattle.wit_model.specs.declared.model.{Field.Field, Case.Case, Flag.Flag, Param.Param, WorldKey.WorldKey}
+use Rattle.wit_model.specs.declared.model.{EnumCase.EnumCase, Function.Function, TypeId.TypeId, PackageId.PackageId, TypeOwner.TypeOwner, WorldItem.WorldItem}
+use Rattle.wit_model.specs.declared.model.{«Type».«Type» as ValueType, FunctionKind.FunctionKind, Interface.Interface, TypeDef.TypeDef, TypeDefKind.TypeDefKind}
 use Rattle.wit_model.specs.Text.{Text, optional_text, text_eq, text_of}
-use Rattle.wit_model.specs.declared.model.PackageId.{PackageId}
-use Rattle.wit_model.specs.declared.model.TypeDef.{TypeDef}
-use Rattle.wit_model.specs.declared.model.TypeDefKind.{TypeDefKind}
+use Rattle.bind_union.specs.{Carried.stability_view, Views.kind_view, Views.optional_numbers, Views.renamed, Views.renamed_type, Views.type_numbers}
+use Rattle.wit_model.specs.declared.model.FunctionKind.TheVariants as call
 use Rattle.wit_model.specs.declared.model.TypeDefKind.TheVariants as kind
-use Rattle.wit_model.specs.declared.model.TypeOwner.{TypeOwner}
-use Rattle.wit_model.specs.declared.model.WorldItem.{WorldItem}
 use Rattle.wit_model.specs.declared.model.WorldItem.TheVariants as item
-use Rattle.wit_model.specs.declared.model.WorldKey.{WorldKey}
 use Rattle.wit_model.specs.declared.model.WorldKey.TheVariants as key
-use Rattle.bind_union.specs.Carried.{stability_view}
-use Rattle.bind_union.specs.Views.{kind_view, optional_numbers, renamed, renamed_type, type_numbers}
 
 -- the new number of a number
 abbrev pub number_under : List ℕ → ℕ → ℕ

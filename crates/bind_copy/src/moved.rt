@@ -1,10 +1,9 @@
 //! Kinds that are moved: the types in them get their new numbers where they stand.
 
-ghost use Rattle.std.specs.Prelude.{◌≡◌, true, nat_lt, length, map};
-ghost use Rattle.std.specs.List.{list_all};
-ghost use Rattle.wit_model.specs.declared.model.TypeDefKind.TheVariants as kinds;
+ghost use Rattle.std.specs.{Prelude.◌≡◌, Prelude.true, Prelude.nat_lt, Prelude.length, Prelude.map, List.list_all};
 ghost use Rattle.bind_union.specs.Views.{kind_view, renamed, renamed_type, view_numbers};
 ghost use Rattle.bind_copy.specs.Copies.{are_cases_below, are_fields_below, are_parts_below, case_docs, cases_of, cases_under, field_docs, fields_of, fields_under, member_docs, number_under};
+ghost use Rattle.wit_model.specs.declared.model.TypeDefKind.TheVariants as kinds;
 
 use crate::kinds::{image_of, image_of_handle, image_of_map, image_of_result, optional_image};
 use wit_model::{Case, Field, Record, Tuple, Type, TypeDefKind, Variant};

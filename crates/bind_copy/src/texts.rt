@@ -2,8 +2,7 @@
 
 ghost use Rattle.std.specs.Prelude.{◌≡◌, option_map, IfOk, IfErr};
 ghost use Rattle.semver.specs.Identifiers.{parts_of};
-ghost use Rattle.wit_model.specs.Text.{optional_text, text_of};
-ghost use Rattle.wit_model.specs.Refusals.{IsMemory};
+ghost use Rattle.wit_model.specs.{Text.optional_text, Text.text_of, Refusals.IsMemory};
 ghost use Rattle.bind_union.specs.Carried.{stability_view, IsSameName};
 
 use semver::Version;

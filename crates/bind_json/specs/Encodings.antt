@@ -3,21 +3,14 @@
 use Rattle.std.specs.Prelude.{List, [], ◌∷◌, ◌++◌, flat_map, codes, Option, Some, None, String}
 use Rattle.std.specs.declared.alloc.Global.{Global}
 use Rattle.json.specs.Token.{Token, begin_object, end_object, key as key_token, string, null}
-use Rattle.wit_model.specs.declared.model.Function.{Function}
-use Rattle.wit_model.specs.declared.model.Interface.{Interface}
+use Rattle.wit_model.specs.declared.model.{Function.Function, Interface.Interface, StringEncoding.StringEncoding, WorldItem.WorldItem, WorldKey.WorldKey}
 use Rattle.wit_model.specs.declared.model.Resolve.{Resolve}
-use Rattle.wit_model.specs.declared.model.StringEncoding.{StringEncoding}
-use Rattle.wit_model.specs.declared.model.StringEncoding.TheVariants as encodings
-use Rattle.wit_model.specs.declared.model.WorldItem.{WorldItem}
-use Rattle.wit_model.specs.declared.model.WorldItem.TheVariants as item
-use Rattle.wit_model.specs.declared.model.WorldKey.{WorldKey}
-use Rattle.wit_model.specs.Text.{Text, text_of}
-use Rattle.wit_model.specs.Lookup.{interface_at, key_text}
+use Rattle.wit_model.specs.{Text.Text, Text.text_of, Lookup.interface_at, Lookup.key_text}
 use Rattle.wit_bind.specs.declared.bindgen.Bindgen.{Bindgen}
-use Rattle.wit_bind.specs.Encodings.{Encodings, encoding_under}
-use Rattle.wit_bind.specs.Functions.{Items, exports_of, imports_of}
-use Rattle.wit_bind.specs.Keys.{function_key}
+use Rattle.wit_bind.specs.{Encodings.Encodings, Encodings.encoding_under, Functions.Items, Functions.exports_of, Functions.imports_of, Keys.function_key}
 use Rattle.wit_json.specs.Listed.{listed, member, number_token, whole_listing}
+use Rattle.wit_model.specs.declared.model.StringEncoding.TheVariants as encodings
+use Rattle.wit_model.specs.declared.model.WorldItem.TheVariants as item
 
 -- the word of an encoding
 abbrev pub encoding_word : StringEncoding → Text

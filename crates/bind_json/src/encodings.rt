@@ -2,8 +2,7 @@
 #![tactic(auto, using(wit_json::proofs::Adding::adding, wit_json::proofs::Adding::listing))]
 
 ghost use Rattle.std.specs.Prelude.{◌≡◌, ◌∷◌, ◌++◌, [], flat_map, IfErr, OnOk};
-ghost use Rattle.wit_model.specs.Lookup.{interface_at as interface_at_lem};
-ghost use Rattle.wit_model.specs.Refusals.{IsMemory};
+ghost use Rattle.wit_model.specs.{Lookup.interface_at as interface_at_lem, Refusals.IsMemory};
 ghost use Rattle.wit_json.specs.Adds.{Adds};
 ghost use Rattle.bind_json.specs.Encodings.{encoding_token, encoding_word, encodings_tokens, entry_end, interface_encodings, item_encoding, item_encodings, item_under, member_encoding, member_entry, side_tokens, sides_tokens};
 

@@ -2,8 +2,7 @@
 #![tactic(auto, using(wit_json::proofs::Adding::adding))]
 
 ghost use Rattle.std.specs.Prelude.{IfErr, IfOk};
-ghost use Rattle.wit_model.specs.Refusals.{IsMemory};
-ghost use Rattle.wit_model.specs.Text.{text_of};
+ghost use Rattle.wit_model.specs.{Refusals.IsMemory, Text.text_of};
 ghost use Rattle.wit_json.specs.Spelled.{Spells};
 ghost use Rattle.bind_json.specs.Encodings.{bindgen_listing_tokens};
 

@@ -1,36 +1,20 @@
 -- Texts without a byte, and the names of functions, which lack those that paths and keys are cut by.
 use Rattle.std.proofs.Common.{◌≡◌, refl, sym, ap, subst, ◌∙◌, arith, ℕ, ◌+◌, Bool, true, false, ◌&&◌, ◌||◌, ◌==◌, not, cond, [], ◌∷◌, ◌++◌, codes, drop, Option, Some, None, option_and_then, String, eq-eqb}
-use Rattle.std.specs.List.{list_all, Contains}
-use Rattle.std.specs.Option.{option_map_or}
+use Rattle.std.proofs.lemmas.{Bool.and_from, Bool.not-true, List.Folds.list_all-append, Option.some_pair_parts, Option.same_Some as same-some}
+use Rattle.std.specs.{List.list_all, List.Contains, Option.option_map_or}
 use Rattle.std.specs.declared.alloc.Global.{Global}
-use Rattle.std.proofs.lemmas.Bool.{and_from, not-true}
-use Rattle.std.proofs.lemmas.List.Folds.{list_all-append}
-use Rattle.std.proofs.lemmas.Option.{some_pair_parts, same_Some as same-some}
-use Rattle.wit_model.specs.declared.model.Resolve.{Resolve}
-use Rattle.wit_model.specs.declared.model.Interface.{Interface}
-use Rattle.wit_model.specs.declared.model.Function.{Function}
-use Rattle.wit_model.specs.declared.model.FunctionKind.{FunctionKind}
-use Rattle.wit_model.specs.declared.model.FunctionKind.TheVariants as call
-use Rattle.wit_model.specs.declared.model.TypeDef.{TypeDef}
-use Rattle.wit_model.specs.declared.model.«TypeOwner».{TypeOwner}
-use Rattle.wit_model.specs.declared.model.World.{World}
-use Rattle.wit_model.specs.declared.model.WorldItem.{WorldItem}
-use Rattle.wit_model.specs.declared.model.WorldItem.TheVariants as item
-use Rattle.wit_model.specs.declared.model.WorldKey.TheVariants as key
-use Rattle.wit_model.specs.Text.{Text, optional_text, text_eq, text_of}
-use Rattle.wit_model.specs.Lookup.{interface_at, resource_of, type_at, world_at}
-use Rattle.wit_model.specs.Names.{constructor_name, cut, is_label, method_name}
-use Rattle.wit_model.specs.Parts.{same_owner}
+use Rattle.wit_model.specs.declared.model.{Resolve.Resolve, TypeDef.TypeDef, World.World}
+use Rattle.wit_model.specs.declared.model.{Interface.Interface, Function.Function, FunctionKind.FunctionKind, «TypeOwner».TypeOwner, WorldItem.WorldItem}
+use Rattle.wit_model.specs.{Text.Text, Text.optional_text, Text.text_eq, Text.text_of, Lookup.interface_at, Lookup.resource_of, Lookup.type_at, Lookup.world_at}
+use Rattle.wit_model.specs.{Names.constructor_name, Names.cut, Names.is_label, Names.method_name, Parts.same_owner}
 use Rattle.wit_model.specs.Rules.{after_prefix, entries_labels, function_labels, is_freestanding, is_member, is_member_name, is_member_of, is_name_key, is_resource_itself, is_stability, item_labels, key_label, passes, resource_name}
 use Rattle.wit_model.specs.Valid.{IsValid, as_interface, as_world, function_names, functions_of_interface, item_function, labels}
-use Rattle.wit_model.proofs.Entries.{each_from_at, lists_pass}
-use Rattle.wit_model.proofs.NameLaws.{label_lacks}
-use Rattle.wit_model.proofs.OnePath.{interface-passes}
-use Rattle.base_lemmas.proofs.Bools.{left_of as first_true, right_of as second_true}
-use Rattle.base_lemmas.proofs.Elements.{all-contained, contains-map}
-use Rattle.wit_model.proofs.Prefixes.{after_sound as after-front}
-use Rattle.wit_model.proofs.TextLemmas.{text_same as text-same}
-use Rattle.wit_model.proofs.ValidLemmas.{world_passes as world-passes}
+use Rattle.wit_model.proofs.{Entries.each_from_at, Entries.lists_pass, Prefixes.after_sound as after-front, ValidLemmas.world_passes as world-passes}
+use Rattle.wit_model.proofs.{NameLaws.label_lacks, OnePath.interface-passes, TextLemmas.text_same as text-same}
+use Rattle.base_lemmas.proofs.{Bools.left_of as first_true, Bools.right_of as second_true, Elements.all-contained, Elements.contains-map}
+use Rattle.wit_model.specs.declared.model.FunctionKind.TheVariants as call
+use Rattle.wit_model.specs.declared.model.WorldItem.TheVariants as item
+use Rattle.wit_model.specs.declared.model.WorldKey.TheVariants as key
 
 -- ---- texts
 

@@ -1,22 +1,15 @@
 -- Worked examples: worlds that bind in every order, and one that binds in none.
 use Rattle.std.proofs.Common.{◌≡◌, refl, sym, subst, List, [], ◌∷◌, None}
 use Rattle.std.specs.Prelude.{codes}
+use Rattle.wit_model.specs.{Names.cut, Meaning.WorldPackage}
+use Rattle.bind_meaning.specs.{Binding.Binding, ByMeaning.binding_of_world, Clash.CanUnite}
+use Rattle.bind_meaning.specs.{Lists.Listed, Lists.ListsAgree, Lists.binding_from, Orders.ArePairwise, Orders.Folds, Orders.IsReordered, Roots.root_binding}
+use Rattle.bind_meaning.proofs.{EachOrder.every_order_folds, ListLaws.got, ListLaws.united_by_lists, WorldLists.binding_listed, WorldLists.world_lists}
+use Rattle.bind_meaning.proofs.InterfaceExamples.{key_shown, showing, test_path, test_shown, under_its_path}
+use Rattle.bind_meaning.proofs.Orders.{pairwise_folds}
 use Rattle.wit_model.specs.declared.model.StringEncoding.TheVariants as encodings
-use Rattle.wit_model.specs.Names.{cut}
-use Rattle.wit_model.specs.Meaning.{WorldPackage}
-use Rattle.bind_meaning.specs.Binding.{Binding}
-use Rattle.bind_meaning.specs.ByMeaning.{binding_of_world}
-use Rattle.bind_meaning.specs.Clash.{CanUnite}
-use Rattle.bind_meaning.specs.Lists.{Listed, ListsAgree, binding_from}
-use Rattle.bind_meaning.specs.Orders.{ArePairwise, Folds, IsReordered}
-use Rattle.bind_meaning.specs.Roots.{root_binding}
-use Rattle.bind_meaning.proofs.EachOrder.{every_order_folds}
 use Rattle.bind_meaning.proofs.Examples as functions
 use Rattle.bind_meaning.proofs.InterfaceExamples as interfaces
-use Rattle.bind_meaning.proofs.InterfaceExamples.{key_shown, showing, test_path, test_shown, under_its_path}
-use Rattle.bind_meaning.proofs.ListLaws.{got, united_by_lists}
-use Rattle.bind_meaning.proofs.Orders.{pairwise_folds}
-use Rattle.bind_meaning.proofs.WorldLists.{binding_listed, world_lists}
 
 -- world w { import test:test/test; } of package c:d
 abbrev other : WorldPackage

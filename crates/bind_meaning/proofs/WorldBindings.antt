@@ -1,45 +1,26 @@
 -- A world of a valid `Resolve`, bound, is a binding.
 use Rattle.std.proofs.Common.{slice_get, filter_map, ◌≡◌, refl, sym, ap, subst, ◌∙◌, ℕ, true, false, not, ◌&&◌, ◌||◌, ◌==◌, List, [], ◌∷◌, map, length, Option, Some, option_map, option_and_then, unwrap_or, String, Contains}
-use Rattle.std.specs.Prelude.{is_some, option_to_list}
-use Rattle.std.specs.List.{AllByRecursion, IsDistinct, list_all, list_any}
-use Rattle.std.specs.Map.{keys_of}
-use Rattle.std.specs.Option.{option_map_or}
+use Rattle.std.proofs.lemmas.{Bool.false_from_ne_true, Bool.lt-ltb, List.Elements.Contains-append_left, List.Elements.Contains-append_right}
+use Rattle.std.specs.{Prelude.is_some, Prelude.option_to_list, Map.keys_of, Option.option_map_or, Cmp.Lexicographic.nat_list_cmp_total}
+use Rattle.std.specs.{List.AllByRecursion, List.IsDistinct, List.list_all, List.list_any, FinMap.find, FinMap.from_entries, FinMap.get, FinMap.get-from_entries}
 use Rattle.std.specs.declared.alloc.Global.{Global}
-use Rattle.std.specs.Cmp.Lexicographic.{nat_list_cmp_total}
-use Rattle.std.specs.FinMap.{find, from_entries, get, get-from_entries}
-use Rattle.std.proofs.lemmas.Bool.{false_from_ne_true, lt-ltb}
-use Rattle.std.proofs.lemmas.List.Elements.{Contains-append_left, Contains-append_right}
-use Rattle.wit_model.specs.declared.model.Interface.{Interface}
-use Rattle.wit_model.specs.declared.model.Package.{Package}
-use Rattle.wit_model.specs.declared.model.PackageId.{PackageId}
-use Rattle.wit_model.specs.declared.model.Resolve.{Resolve}
+use Rattle.wit_model.specs.declared.model.{Interface.Interface, Package.Package, PackageId.PackageId, Resolve.Resolve, WorldItem.WorldItem, WorldKey.WorldKey}
 use Rattle.wit_model.specs.declared.model.World.{World}
-use Rattle.wit_model.specs.declared.model.WorldItem.{WorldItem}
-use Rattle.wit_model.specs.declared.model.WorldKey.{WorldKey}
-use Rattle.wit_model.specs.declared.model.WorldKey.TheVariants as key
-use Rattle.wit_model.specs.Text.{Text, text_cmp, text_eq, text_of}
-use Rattle.wit_model.specs.Names.{path_in}
+use Rattle.wit_model.specs.{Text.Text, Text.text_cmp, Text.text_eq, Text.text_of, Names.path_in, Meaning.Entry, Meaning.InterfaceMeaning, Meaning.WorldMeaning}
 use Rattle.wit_model.specs.Lookup.{identity_of, interface_at, interface_path, key_text, path_in_package, path_of_interface, path_of_world, world_at}
-use Rattle.wit_model.specs.Meaning.{Entry, InterfaceMeaning, WorldMeaning}
 use Rattle.wit_model.specs.Meant.{entries_meaning, entry_meaning, interface_meaning, interface_meaning_at, no_interface, no_world, world_meaning, world_meaning_at}
 use Rattle.wit_model.specs.Rules.{are_distinct, entries_in_range, export_stands, import_stands, in_list, is_id, is_interface_key, item_in_range, key_in_range, package_number, passes}
 use Rattle.wit_model.specs.Uses.{item_interface}
 use Rattle.wit_model.specs.Valid.{IsValid, is_place, key_eq, numbers_in_range, places, world_items}
-use Rattle.wit_model.proofs.Elements.{contains-filter_map, contains-get}
-use Rattle.wit_model.proofs.OnePath.{found-in, has-path, named-path, path-once}
-use Rattle.bind_meaning.specs.Binding.{Stand}
-use Rattle.bind_meaning.specs.ByNumbers.{WorldsAreBindings, interfaces_by_path, worlds_by_path}
-use Rattle.bind_meaning.proofs.KeyNames.{Lacks, colon, goes-on, key_lacks}
-use Rattle.bind_meaning.proofs.Listed.{from-given, given, mapped}
+use Rattle.wit_model.proofs.{Elements.contains-filter_map, Elements.contains-get, OnePath.found-in, OnePath.has-path, OnePath.named-path, OnePath.path-once}
 use Rattle.wit_model.proofs.Maps.{there_some as contains-find}
-use Rattle.wit_model.proofs.AnyOrder.{found-there as find-contains}
+use Rattle.wit_model.proofs.{AnyOrder.found-there as find-contains, TextLemmas.text_same as text-same, ValidLemmas.world_passes as world-passes}
+use Rattle.bind_meaning.specs.{Binding.Stand, ByNumbers.WorldsAreBindings, ByNumbers.interfaces_by_path, ByNumbers.worlds_by_path}
+use Rattle.bind_meaning.proofs.{KeyNames.Lacks, KeyNames.colon, KeyNames.goes-on, KeyNames.key_lacks, Listed.from-given, Listed.given, Listed.mapped}
 use Rattle.bind_meaning.proofs.WorldPaths.{path-apart, path_at, world-once}
-use Rattle.base_lemmas.proofs.Bools.{left_of as first_true, right_of as second_true}
+use Rattle.base_lemmas.proofs.{Bools.left_of as first_true, Bools.right_of as second_true, Numbers.same-number, Options.there as some-of}
 use Rattle.base_lemmas.proofs.Elements.{all-contained, contains-later, contains-one, first-contained, get-contains}
-use Rattle.base_lemmas.proofs.Numbers.{same-number}
-use Rattle.base_lemmas.proofs.Options.{there as some-of}
-use Rattle.wit_model.proofs.TextLemmas.{text_same as text-same}
-use Rattle.wit_model.proofs.ValidLemmas.{world_passes as world-passes}
+use Rattle.wit_model.specs.declared.model.WorldKey.TheVariants as key
 
 -- ---- what stands under a path
 

@@ -1,28 +1,16 @@
 -- A world is known by its path: in valid packages no two have the same, and none has that of an interface.
 use Rattle.std.proofs.Common.{◌≡◌, refl, sym, ap, ◌∙◌, ℕ, Bool, true, false, not, ◌&&◌, ◌||◌, cond, List, [], ◌∷◌, Option, Some, option_map, option_and_then, String}
-use Rattle.std.specs.Prelude.{is_some}
-use Rattle.std.specs.List.{list_any}
-use Rattle.std.specs.Option.{option_map_or}
-use Rattle.std.specs.HashMap.{get_by_text}
-use Rattle.std.specs.Map.{keys_of, lookup}
+use Rattle.std.proofs.lemmas.Option.{same_Some as some-same}
+use Rattle.std.specs.{Prelude.is_some, List.list_any, Option.option_map_or, HashMap.get_by_text, Map.keys_of, Map.lookup}
 use Rattle.std.specs.declared.alloc.Global.{Global}
-use Rattle.wit_model.specs.declared.model.Resolve.{Resolve}
-use Rattle.wit_model.specs.declared.model.Package.{Package}
-use Rattle.wit_model.specs.declared.model.PackageId.{PackageId}
-use Rattle.wit_model.specs.declared.model.World.{World}
-use Rattle.wit_model.specs.declared.model.WorldId.{WorldId}
-use Rattle.wit_model.specs.Text.{Text, text_eq, text_of}
-use Rattle.wit_model.specs.Names.{is_label, path_in}
+use Rattle.wit_model.specs.declared.model.{Resolve.Resolve, Package.Package, PackageId.PackageId, World.World, WorldId.WorldId}
+use Rattle.wit_model.specs.{Text.Text, Text.text_eq, Text.text_of, Names.is_label, Names.path_in, Valid.IsValid, Valid.labels, Valid.places}
 use Rattle.wit_model.specs.Lookup.{identity_of, interface_path, package_at, path_in_package, path_of_world, world_at}
 use Rattle.wit_model.specs.Rules.{interface_is_listed, is_id, is_world_name, package_number, world_is_listed}
-use Rattle.wit_model.specs.Valid.{IsValid, labels, places}
-use Rattle.wit_model.proofs.NameLaws.{one_path}
+use Rattle.wit_model.proofs.{NameLaws.one_path, VersionLaws.same_name, ValidLemmas.world_passes as world-passes}
 use Rattle.wit_model.proofs.OnePath.{HasPath, given-test, has-path, interface-passes, one-number, package-name, package-once, path-label}
-use Rattle.wit_model.proofs.VersionLaws.{same_name}
 use Rattle.bind_meaning.proofs.Listed.{given, mapped}
 use Rattle.base_lemmas.proofs.Bools.{left_of as first_true, not-false as not-both, right_of as second_true}
-use Rattle.std.proofs.lemmas.Option.{same_Some as some-same}
-use Rattle.wit_model.proofs.ValidLemmas.{world_passes as world-passes}
 
 -- what a path is of
 pub record HasWorldPath (r : Resolve) (n : ℕ) (path : Text) : Type 0 where

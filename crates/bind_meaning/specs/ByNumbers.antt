@@ -1,15 +1,10 @@
 -- The binding of a world of a `Resolve`, which stands there under a number (WIT.md, "Packages"; the crate's README, "Merging Worlds").
 use Rattle.std.specs.Prelude.{◌<◌, ℕ, List, [], map, filter_map, length, option_map, option_and_then, unwrap_or}
-use Rattle.std.specs.FinMap.{from_entries}
-use Rattle.std.specs.FinSet.{from_list}
+use Rattle.std.specs.{FinMap.from_entries, FinSet.from_list}
 use Rattle.wit_model.specs.declared.model.Resolve.{Resolve}
-use Rattle.wit_model.specs.Text.{Text}
-use Rattle.wit_model.specs.Lookup.{world_at, identity_of, path_of_interface, path_of_world}
-use Rattle.wit_model.specs.Meaning.{InterfaceMeaning, WorldMeaning}
-use Rattle.wit_model.specs.Meant.{interface_meaning, world_meaning, world_meaning_at}
-use Rattle.wit_model.specs.Valid.{IsValid}
-use Rattle.bind_meaning.specs.Encodings.{Encodings}
-use Rattle.bind_meaning.specs.Binding.{Binding, IsBinding, package_text}
+use Rattle.wit_model.specs.{Text.Text, Meant.interface_meaning, Meant.world_meaning, Meant.world_meaning_at, Valid.IsValid}
+use Rattle.wit_model.specs.{Lookup.world_at, Lookup.identity_of, Lookup.path_of_interface, Lookup.path_of_world, Meaning.InterfaceMeaning, Meaning.WorldMeaning}
+use Rattle.bind_meaning.specs.{Encodings.Encodings, Binding.Binding, Binding.IsBinding, Binding.package_text}
 
 -- the names of the packages
 abbrev pub package_texts : Resolve → List Text

@@ -1,10 +1,7 @@
 -- What the sections of a module bind has no documentation, and no known stability.
 use Rattle.std.proofs.Common.{ap, ◌∙◌, ℕ, Bool, true, ◌&&◌, List, map, is_none}
 use Rattle.std.specs.List.{list_all}
-use Rattle.wit_model.specs.declared.model.Package.{Package}
-use Rattle.wit_model.specs.declared.model.Resolve.{Resolve}
-use Rattle.wit_model.specs.declared.model.WorldItem.{WorldItem}
-use Rattle.wit_model.specs.declared.model.WorldKey.{WorldKey}
+use Rattle.wit_model.specs.declared.model.{Package.Package, Resolve.Resolve, WorldItem.WorldItem, WorldKey.WorldKey}
 use Rattle.plan_meaning.specs.Built.{is_bare_interface, is_bare_item, is_bare_type, is_bare_world, is_undocumented, is_unknown, IsBare}
 use Rattle.wit_bind.specs.declared.bindgen.Bindgen.{Bindgen}
 use Rattle.wit_bind.specs.Roots.{IsRootResolve, IsRootWorld}

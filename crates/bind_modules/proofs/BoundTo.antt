@@ -1,30 +1,21 @@
 -- What is known of bindings behind each section of a module.
 use Rattle.std.proofs.Common.{◌≡◌, ◌∙◌, refl, sym, ap, subst, ℕ, ◌+◌, ◌-◌, ◌≤◌, ◌<◌, suc, List, [], ◌++◌, append-nil, length, Option, Some, None, arith}
+use Rattle.std.proofs.lemmas.List.{length-append}
 use Rattle.std.specs.Prelude.{◌≢◌, slice_get, IfErr, Result, Ok, Err}
 use Rattle.std.specs.Borrow.{Bor}
-use Rattle.std.proofs.lemmas.List.{length-append}
-use Rattle.wit_model.specs.declared.error.Error.{Error}
-use Rattle.wit_model.specs.declared.error.Error.TheVariants as errors
-use Rattle.wit_model.specs.declared.model.Resolve.{Resolve}
-use Rattle.wit_model.specs.declared.model.WorldKey.{WorldKey}
+use Rattle.wit_model.specs.declared.{error.Error.Error, model.Resolve.Resolve, model.WorldKey.WorldKey}
 use Rattle.wit_model.specs.Lookup.{identity_of, optional_version_text}
 use Rattle.bind_meaning.specs.Binding.{Binding}
 use Rattle.wit_bind.specs.declared.bindgen.Bindgen.{Bindgen}
-use Rattle.wit_bind.specs.Bindings.{binding_of}
-use Rattle.wit_bind.specs.Extends.{Extends}
-use Rattle.wit_bind.specs.Merged.{IsMerge}
-use Rattle.wit_bind.specs.Roots.{IsRoot}
+use Rattle.wit_bind.specs.{Bindings.binding_of, Extends.Extends, Merged.IsMerge, Roots.IsRoot}
 use Rattle.wit_bind.proofs.RootBindings.{roots_are_roots}
 use Rattle.wit_metadata.specs.Modules.{Framed, IsFrontData, IsFrontless, IsInFront, IsModule, IsNoModule, RefusesModule, module_preamble}
-use Rattle.bind_sections.specs.Bound.{CarryData, HasSections, IsBound, IsRefused, RefusesBindings}
-use Rattle.bind_sections.specs.SectionBindings.{IsBoundBy}
-use Rattle.bind_sections.specs.Steps.{IsCountedTo, IsDataInFront, IsReadTo}
-use Rattle.bind_sections.specs.Blamed.{Blames, IsRefusedSection, RefusesNoSection}
-use Rattle.bind_sections.proofs.DecodeSteps.{section-merged}
-use Rattle.bind_sections.proofs.Steps.{counting_begins, left_overs_end, other-counted, reading_ends}
-use Rattle.bind_modules.specs.BoundTo.{BeginsWithRoot, IsBoundTo}
-use Rattle.bind_modules.specs.Reached.{IsReached}
+use Rattle.bind_sections.specs.{Bound.CarryData, Bound.HasSections, Bound.IsBound, Bound.IsRefused, Bound.RefusesBindings, SectionBindings.IsBoundBy}
+use Rattle.bind_sections.specs.{Steps.IsCountedTo, Steps.IsDataInFront, Steps.IsReadTo, Blamed.Blames, Blamed.IsRefusedSection, Blamed.RefusesNoSection}
+use Rattle.bind_sections.proofs.{DecodeSteps.section-merged, Steps.counting_begins, Steps.left_overs_end, Steps.other-counted, Steps.reading_ends}
+use Rattle.bind_modules.specs.{BoundTo.BeginsWithRoot, BoundTo.IsBoundTo, Reached.IsReached}
 use Rattle.base_lemmas.proofs.Lists.{is-nothing as no-bytes}
+use Rattle.wit_model.specs.declared.error.Error.TheVariants as errors
 
 -- ---- the first package
 

@@ -1,9 +1,7 @@
 -- Packages that were known by their names are known when a `Resolve` has grown.
 use Rattle.std.proofs.Common.{◌≡◌, refl, sym, ap, ◌∙◌, ℕ, suc, ◌+◌, ◌≤◌, cond, List, [], ◌∷◌, length, take, Option, Some, None, arith}
 use Rattle.std.specs.Prelude.{slice_get}
-use Rattle.wit_model.specs.declared.model.Package.{Package}
-use Rattle.wit_model.specs.declared.model.PackageName.{PackageName}
-use Rattle.wit_model.specs.declared.model.Resolve.{Resolve}
+use Rattle.wit_model.specs.declared.model.{Package.Package, PackageName.PackageName, Resolve.Resolve}
 use Rattle.wit_model.specs.Rules.{same_package_name}
 use Rattle.bind_match.specs.Matching.{package_from}
 use Rattle.bind_names.specs.Named.{AreNamed, Table}

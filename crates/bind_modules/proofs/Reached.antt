@@ -1,19 +1,14 @@
 -- When a list would get too long: where what a section binds is merged, and nowhere else.
 use Rattle.std.proofs.Common.{◌≡◌, ◌∙◌, sym, ap, subst, ℕ, ◌==◌, Bool, true, false, cond, List, [], ◌∷◌, Option, Some, None, Err}
 use Rattle.std.specs.Prelude.{Result}
-use Rattle.wit_model.specs.declared.error.Error.{Error}
-use Rattle.wit_model.specs.declared.error.Error.TheVariants as errors
-use Rattle.wit_model.specs.declared.model.StringEncoding.{StringEncoding}
+use Rattle.wit_model.specs.declared.{error.Error.Error, model.StringEncoding.StringEncoding}
 use Rattle.wit_bind.specs.declared.bindgen.Bindgen.{Bindgen}
 use Rattle.wit_bind.specs.Merges.{IsMergeRefusal}
-use Rattle.wit_metadata.specs.Carried.{contents_under, last_of}
-use Rattle.wit_metadata.specs.Encodings.{encoding_at, section_name}
+use Rattle.wit_metadata.specs.{Carried.contents_under, Carried.last_of, Encodings.encoding_at, Encodings.section_name, Said.said_by, Said.said_by_code}
 use Rattle.wit_metadata.specs.Modules.{RefusesModule}
-use Rattle.wit_metadata.specs.Said.{said_by, said_by_code}
-use Rattle.bind_sections.specs.SectionBindings.{IsBoundBy, RefusesSection}
-use Rattle.bind_sections.specs.Steps.{IsDataInFront}
-use Rattle.bind_modules.specs.BoundTo.{IsBoundTo}
-use Rattle.bind_modules.specs.Reached.{OutgrowsLists}
+use Rattle.bind_sections.specs.{SectionBindings.IsBoundBy, SectionBindings.RefusesSection, Steps.IsDataInFront}
+use Rattle.bind_modules.specs.{BoundTo.IsBoundTo, Reached.OutgrowsLists}
+use Rattle.wit_model.specs.declared.error.Error.TheVariants as errors
 
 -- ---- sections and what is left of the module
 

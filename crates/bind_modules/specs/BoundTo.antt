@@ -1,7 +1,6 @@
 -- What is known of bindings while the sections of a module are bound.
 use Rattle.std.specs.Prelude.{◌≡◌, ℕ, List, Some}
-use Rattle.wit_model.specs.declared.model.Package.{Package}
-use Rattle.wit_model.specs.declared.model.Resolve.{Resolve}
+use Rattle.wit_model.specs.declared.model.{Package.Package, Resolve.Resolve}
 use Rattle.wit_model.specs.Lookup.{identity_of, package_at}
 use Rattle.bind_meaning.specs.Roots.{root_meaning}
 use Rattle.wit_bind.specs.declared.bindgen.Bindgen.{Bindgen}

@@ -2,12 +2,9 @@
 use Rattle.std.specs.Prelude.{◌≡◌, ℕ, List, ◌++◌}
 use Rattle.wit_model.specs.declared.model.WorldKey.{WorldKey}
 use Rattle.wit_bind.specs.declared.bindgen.Bindgen.{Bindgen}
-use Rattle.wit_bind.specs.Merged.{IsMerge}
-use Rattle.wit_bind.specs.Merges.{AreTooMany}
-use Rattle.wit_bind.specs.Roots.{IsRoot}
+use Rattle.wit_bind.specs.{Merged.IsMerge, Merges.AreTooMany, Roots.IsRoot}
 use Rattle.wit_metadata.specs.Modules.{Carries, Framed, IsInFront, module_preamble}
-use Rattle.bind_sections.specs.SectionBindings.{IsBoundBy}
-use Rattle.bind_sections.specs.Steps.{IsDataInFront}
+use Rattle.bind_sections.specs.{SectionBindings.IsBoundBy, Steps.IsDataInFront}
 
 -- With what the first sections of a module bind, these bindings are reached, and these bytes of it are left. Behind the preamble, the
 -- bindings are those of a module that carries no world. A section that carries none leaves them as they are. What the data of one

@@ -5,12 +5,9 @@ ghost use Rattle.wit_model.specs.declared.error.Error.TheVariants.{Size};
 ghost use Rattle.plan_meaning.specs.Built.{IsBare};
 ghost use Rattle.wit_bind.specs.Bindings.{IsBindgen, binding_of};
 ghost use Rattle.wit_metadata.specs.Modules.{IsFrontData, StripsModule};
-ghost use Rattle.bind_sections.specs.Bound.{IsBound, RefusesBindings};
-ghost use Rattle.bind_sections.specs.Steps.{IsDataInFront};
+ghost use Rattle.bind_sections.specs.{Bound.IsBound, Bound.RefusesBindings, Steps.IsDataInFront, Blamed.Blames};
 ghost use Rattle.bind_names.specs.Named.{AreNamed};
-ghost use Rattle.bind_sections.specs.Blamed.{Blames};
-ghost use Rattle.bind_modules.specs.BoundTo.{BeginsWithRoot, IsBoundTo};
-ghost use Rattle.bind_modules.specs.Reached.{IsReached, OutgrowsLists};
+ghost use Rattle.bind_modules.specs.{BoundTo.BeginsWithRoot, BoundTo.IsBoundTo, Reached.IsReached, Reached.OutgrowsLists};
 
 use crate::named::{merge_named, named_by_bytes};
 use crate::sections::decode_section;

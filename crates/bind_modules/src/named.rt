@@ -3,9 +3,7 @@
 ghost use Rattle.std.specs.Prelude.{◌≡◌, List, IfErr, IfOk, OnOk};
 ghost use Rattle.wit_model.specs.declared.model.WorldKey.{WorldKey};
 ghost use Rattle.wit_model.specs.Refusals.{IsMemory};
-ghost use Rattle.wit_bind.specs.Bindings.{IsBindgen};
-ghost use Rattle.wit_bind.specs.Merged.{IsMerge};
-ghost use Rattle.wit_bind.specs.Merges.{IsMergeRefusal};
+ghost use Rattle.wit_bind.specs.{Bindings.IsBindgen, Merged.IsMerge, Merges.IsMergeRefusal};
 ghost use Rattle.bind_names.specs.Named.{AreNamed};
 
 use bind_names::{PackagesByName, add_packages, matched_by_name, no_packages};

@@ -1,15 +1,11 @@
 -- A copied name is the name, and a table gains the names of packages one by one.
 use Rattle.std.proofs.Common.{◌≡◌, refl, sym, ap, ◌∙◌, ℕ, ◌+◌, ◌<◌, ◌≤◌, Bool, true, false, ◌&&◌, ◌==◌, cond, List, [], ◌∷◌, ◌++◌, take, length, get_or, Option, Some, None, arith, option_map, is_some}
-use Rattle.std.specs.Map.{lookup}
-use Rattle.std.specs.Option.{option_eq}
 use Rattle.std.proofs.lemmas.List.{take_more, length-take-le}
+use Rattle.std.specs.{Map.lookup, Option.option_eq}
 use Rattle.semver.specs.declared.Version.{Version}
 use Rattle.semver.specs.Identifiers.{parts_of}
-use Rattle.wit_model.specs.declared.model.Package.{Package}
-use Rattle.wit_model.specs.declared.model.PackageId.{PackageId}
-use Rattle.wit_model.specs.declared.model.PackageName.{PackageName}
-use Rattle.wit_model.specs.Text.{text_eq, text_of}
-use Rattle.wit_model.specs.Rules.{same_package_name, same_version}
+use Rattle.wit_model.specs.declared.model.{Package.Package, PackageId.PackageId, PackageName.PackageName}
+use Rattle.wit_model.specs.{Text.text_eq, Text.text_of, Rules.same_package_name, Rules.same_version}
 use Rattle.bind_union.specs.Carried.{IsSameName}
 use Rattle.bind_match.specs.Matching.{package_from}
 use Rattle.bind_match.proofs.SameNames.{find_last, from_last, name_same, number, or_last}

@@ -3,9 +3,7 @@ use Rattle.std.specs.Prelude.{◌≡◌, Bool, if◌then◌else◌, List, Option
 use Rattle.std.specs.HashMap.{get_by}
 use Rattle.indexmap.specs.IndexMap.{IndexMap}
 use Rattle.keyed_hash.specs.declared.KeyedHash.{KeyedHash}
-use Rattle.wit_model.specs.declared.model.Package.{Package}
-use Rattle.wit_model.specs.declared.model.PackageId.{PackageId}
-use Rattle.wit_model.specs.declared.model.PackageName.{PackageName}
+use Rattle.wit_model.specs.declared.model.{Package.Package, PackageId.PackageId, PackageName.PackageName}
 use Rattle.wit_model.specs.Rules.{same_package_name}
 use Rattle.bind_match.specs.Matching.{package_from}
 

@@ -2,9 +2,8 @@
 
 ghost use Rattle.std.specs.Prelude.{◌≡◌, ◌≤◌, [], length, List, map, take, IfErr, IfOk, OnOk};
 ghost use Rattle.std.specs.HashMap.{get_by};
-ghost use Rattle.wit_model.specs.Rules.{same_package_name};
+ghost use Rattle.wit_model.specs.{Rules.same_package_name, Refusals.IsMemory};
 ghost use Rattle.wit_model.specs.declared.model.Package.{Package as PackageModel};
-ghost use Rattle.wit_model.specs.Refusals.{IsMemory};
 ghost use Rattle.bind_match.specs.Matching.{own_package_of};
 ghost use Rattle.bind_names.specs.Named.{AreNamed, GainsName};
 

@@ -2,24 +2,16 @@
 use Rattle.std.proofs.Common.{◌≡◌, refl, sym, ap, subst, ℕ, ◌==◌, zero, suc, Bool, true, false, cond, List, [], ◌∷◌, ◌++◌, length, Option, Some, None, Err}
 use mathlib.Core.Logic.{inl, inr}
 use Rattle.std.specs.Prelude.{◌≢◌, Result}
-use Rattle.wit_model.specs.declared.error.Error.{Error}
-use Rattle.wit_model.specs.declared.error.Error.TheVariants as errors
-use Rattle.wit_model.specs.declared.model.StringEncoding.{StringEncoding}
+use Rattle.wit_model.specs.declared.{error.Error.Error, model.StringEncoding.StringEncoding}
 use Rattle.wit_model.specs.Meaning.{WorldPackage}
-use Rattle.bind_meaning.specs.Binding.{Binding}
-use Rattle.bind_meaning.specs.ByMeaning.{binding_of_world}
-use Rattle.bind_meaning.specs.Clash.{CanUnite}
-use Rattle.bind_meaning.specs.Roots.{root_binding}
-use Rattle.bind_meaning.specs.Union.{union}
-use Rattle.wit_metadata.specs.Carried.{contents_under, last_of}
-use Rattle.wit_metadata.specs.Encodings.{encoding_at, section_name}
+use Rattle.bind_meaning.specs.{Binding.Binding, ByMeaning.binding_of_world, Clash.CanUnite, Roots.root_binding, Union.union}
+use Rattle.wit_metadata.specs.{Carried.contents_under, Carried.last_of, Encodings.encoding_at, Encodings.section_name, Said.said_by, Said.said_by_code}
 use Rattle.wit_metadata.specs.Modules.{Framed}
-use Rattle.wit_metadata.specs.Said.{said_by, said_by_code}
-use Rattle.bind_sections.specs.SectionBindings.{RefusesSection}
-use Rattle.bind_sections.specs.Bound.{Binds, CarryData, HasSections, SectionMeans}
+use Rattle.bind_sections.specs.{SectionBindings.RefusesSection, Bound.Binds, Bound.CarryData, Bound.HasSections, Bound.SectionMeans}
 use Rattle.bind_sections.specs.Blamed.{Blames, IsRefusedAs, NoRefusedSection, OneRefusedSection, RefusesNext, RefusesNoSection}
 use Rattle.bind_sections.proofs.BoundLaws.{means-is-let-through, no-clash-error, one-data, one-reading, sections_mean_once}
 use Rattle.bind_sections.proofs.Steps.{all-behind, carried-by, has-more, more-behind, whole}
+use Rattle.wit_model.specs.declared.error.Error.TheVariants as errors
 
 -- ---- what refuses a section
 

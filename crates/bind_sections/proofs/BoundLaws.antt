@@ -1,36 +1,23 @@
 -- A module binds one thing at most, and what binds something isn't refused.
 use Rattle.std.proofs.Common.{◌≡◌, ◌∙◌, refl, sym, ap, subst, ℕ, ◌+◌, List, [], ◌∷◌, ◌++◌, append_assoc, drop, length, Some, Ok, Err, arith}
 use mathlib.Core.Logic.{inl, inr}
-use Rattle.std.specs.Prelude.{◌≢◌, Result}
-use Rattle.std.specs.List.{AllByRecursion}
-use Rattle.wit_model.specs.declared.error.Error.{Error}
-use Rattle.wit_model.specs.declared.error.Error.TheVariants as errors
-use Rattle.wit_model.specs.declared.model.StringEncoding.{StringEncoding}
-use Rattle.wit_model.specs.declared.model.StringEncoding.TheVariants as encodings
-use Rattle.wit_model.specs.Text.{text_of}
-use Rattle.wit_model.specs.Meaning.{WorldPackage}
-use Rattle.comp_bytes.specs.Form.{Sequence}
-use Rattle.comp_bytes.specs.Frames.{IsFrame}
-use Rattle.comp_bytes.specs.Raw.{Section}
-use Rattle.comp_bytes.specs.Spelling.{preamble}
+use Rattle.std.specs.{Prelude.◌≢◌, Prelude.Result, List.AllByRecursion}
+use Rattle.wit_model.specs.declared.{error.Error.Error, model.StringEncoding.StringEncoding}
+use Rattle.wit_model.specs.{Text.text_of, Meaning.WorldPackage}
+use Rattle.comp_bytes.specs.{Form.Sequence, Frames.IsFrame, Raw.Section, Spelling.preamble}
 use Rattle.comp_bytes.proofs.ComponentLaws.{one_component}
 use Rattle.comp_meaning.specs.Reads.{ReadsWorld}
 use Rattle.comp_meaning.proofs.MeaningLaws.{one_world}
-use Rattle.bind_meaning.specs.Binding.{Binding}
-use Rattle.bind_meaning.specs.ByMeaning.{binding_of_world}
-use Rattle.bind_meaning.specs.Clash.{CanUnite}
-use Rattle.bind_meaning.specs.Roots.{root_binding}
-use Rattle.bind_meaning.specs.Union.{union}
+use Rattle.bind_meaning.specs.{Binding.Binding, ByMeaning.binding_of_world, Clash.CanUnite, Roots.root_binding, Union.union}
 use Rattle.bind_meaning.proofs.ClashLaws.{one_clash, united_have_no_clash}
-use Rattle.wit_metadata.specs.Carried.{CarriesEncoding, contents_under, last_of}
-use Rattle.wit_metadata.specs.Encodings.{contents_of, section_name}
-use Rattle.wit_metadata.specs.Modules.{Framed, IsFrontless, IsNamed}
-use Rattle.wit_metadata.specs.Said.{AnswersSaid, said_by}
-use Rattle.wit_metadata.proofs.ModuleLaws.{one-custom, one-frame}
-use Rattle.wit_metadata.proofs.SaidLaws.{read-back}
+use Rattle.wit_metadata.specs.{Carried.CarriesEncoding, Carried.contents_under, Carried.last_of, Modules.Framed, Modules.IsFrontless, Modules.IsNamed}
+use Rattle.wit_metadata.specs.{Encodings.contents_of, Encodings.section_name, Said.AnswersSaid, Said.said_by}
+use Rattle.wit_metadata.proofs.{ModuleLaws.one-custom, ModuleLaws.one-frame, SaidLaws.read-back}
 use Rattle.bind_sections.specs.SectionBindings.{RefusesSection}
 use Rattle.bind_sections.specs.Bound.{Binds, CarryData, HasSections, IsClashError, IsLeftOver, IsRefused, Refuses, SectionMeans}
 use Rattle.bind_sections.specs.BoundLaws.{BoundIsNotRefused, BoundOnce, OneRefusal, SameRefusal, SectionsMeanOnce}
+use Rattle.wit_model.specs.declared.error.Error.TheVariants as errors
+use Rattle.wit_model.specs.declared.model.StringEncoding.TheVariants as encodings
 
 -- ---- the sections of a module
 

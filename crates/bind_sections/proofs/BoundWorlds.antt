@@ -1,40 +1,25 @@
 -- What is bound of the data of a section is the binding of the world that it means.
 use Rattle.std.proofs.Common.{◌≡◌, ◌∙◌, refl, sym, ap, subst, arith, ℕ, ◌&&◌, true, [], length, option_map, Option, Some, Ok, Contains}
-use Rattle.std.specs.List.{list_all}
-use Rattle.std.specs.Option.{option_map_or}
-use Rattle.std.specs.FinMap.{from_entries}
-use Rattle.wit_model.specs.declared.model.Package.{Package}
-use Rattle.wit_model.specs.declared.model.PackageId.{PackageId}
-use Rattle.wit_model.specs.declared.model.Resolve.{Resolve}
-use Rattle.wit_model.specs.declared.model.StringEncoding.{StringEncoding}
-use Rattle.wit_model.specs.declared.model.World.{World}
-use Rattle.wit_model.specs.declared.model.WorldItem.{WorldItem}
-use Rattle.wit_model.specs.declared.model.WorldItem.TheVariants as item
-use Rattle.wit_model.specs.declared.model.WorldKey.{WorldKey}
-use Rattle.wit_model.specs.declared.model.WorldKey.TheVariants as key
-use Rattle.wit_model.specs.Text.{text_of}
-use Rattle.wit_model.specs.Lookup.{package_at, world_at}
-use Rattle.wit_model.specs.Names.{is_label}
-use Rattle.wit_model.specs.Meaning.{WorldPackage}
-use Rattle.wit_model.specs.Meant.{world_package}
+use Rattle.std.proofs.lemmas.Option.{same_Some as some-same}
+use Rattle.std.specs.{List.list_all, Option.option_map_or, FinMap.from_entries}
+use Rattle.wit_model.specs.declared.model.{Package.Package, PackageId.PackageId, StringEncoding.StringEncoding, WorldItem.WorldItem, WorldKey.WorldKey}
+use Rattle.wit_model.specs.declared.model.{Resolve.Resolve, World.World}
+use Rattle.wit_model.specs.{Text.text_of, Names.is_label}
+use Rattle.wit_model.specs.{Lookup.package_at, Lookup.world_at, Meaning.WorldPackage, Meant.world_package, Valid.IsValid, Valid.labels, Valid.world_items}
 use Rattle.wit_model.specs.Rules.{entries_labels, export_stands, import_stands, is_stability, item_labels, key_label}
-use Rattle.wit_model.specs.Valid.{IsValid, labels, world_items}
 use Rattle.plan_meaning.specs.NothingElse.{HoldsWorldAlone}
 use Rattle.bind_meaning.specs.ByMeaning.{binding_of_world, world_path}
 use Rattle.wit_bind.specs.declared.bindgen.Bindgen.{Bindgen}
-use Rattle.wit_bind.specs.Bindings.{binding_of}
-use Rattle.wit_bind.specs.Functions.{MapsFunctions, exports_of, imports_of}
+use Rattle.wit_bind.specs.{Bindings.binding_of, Functions.MapsFunctions, Functions.exports_of, Functions.imports_of}
 use Rattle.wit_bind.proofs.BoundWorlds.{HasMeaning, has-meaning, meaning-there, path-there, world-path}
 use Rattle.wit_metadata.proofs.SaidLaws.{read-back}
 use Rattle.bind_sections.specs.BoundLaws.{SectionsBindTheirWorlds}
-use Rattle.bind_sections.proofs.BoundLaws.{ok-same}
-use Rattle.bind_sections.proofs.DecodedKeys.{Stands, same-encodings}
-use Rattle.bind_sections.proofs.DecodedPackages.{one-world, same-packages}
+use Rattle.bind_sections.proofs.{BoundLaws.ok-same, DecodedKeys.Stands, DecodedKeys.same-encodings, DecodedPackages.one-world, DecodedPackages.same-packages}
 use Rattle.bind_sections.proofs.DecodedWorlds.{same-interfaces}
-use Rattle.base_lemmas.proofs.Bools.{left_of as first_true, right_of as second_true}
-use Rattle.base_lemmas.proofs.Elements.{all-contained}
-use Rattle.std.proofs.lemmas.Option.{same_Some as some-same}
+use Rattle.base_lemmas.proofs.{Bools.left_of as first_true, Bools.right_of as second_true, Elements.all-contained}
 use Rattle.wit_model.proofs.ValidLemmas.{world_passes as world-passes}
+use Rattle.wit_model.specs.declared.model.WorldItem.TheVariants as item
+use Rattle.wit_model.specs.declared.model.WorldKey.TheVariants as key
 
 -- ---- what stands where
 

@@ -2,21 +2,15 @@
 use Rattle.std.proofs.Common.{◌≡◌, ◌∙◌, sym, ap, subst, ℕ, ◌+◌, List, length}
 use mathlib.Core.Logic.{inl, inr}
 use Rattle.wit_model.specs.declared.error.Error.{Error}
-use Rattle.wit_model.specs.declared.error.Error.TheVariants as errors
 use Rattle.wit_model.specs.Text.{text_of}
-use Rattle.bind_meaning.specs.Clash.{CanUnite, IsClash}
-use Rattle.bind_meaning.specs.Union.{union}
+use Rattle.bind_meaning.specs.{Clash.CanUnite, Clash.IsClash, Union.union}
 use Rattle.wit_bind.specs.declared.bindgen.Bindgen.{Bindgen}
-use Rattle.wit_bind.specs.Bindings.{IsBindgen, binding_of}
-use Rattle.wit_bind.specs.Merges.{IsMergeRefusal}
-use Rattle.bind_sections.specs.SectionBindings.{IsBoundBy, RefusesSection}
-use Rattle.bind_sections.specs.Bound.{IsRefused, RefusesBindings}
-use Rattle.bind_sections.specs.Steps.{IsCountedTo, IsDataInFront, IsReadTo}
-use Rattle.bind_sections.specs.Blamed.{Blames}
-use Rattle.bind_sections.proofs.BoundWorlds.{sections_bind_their_worlds}
-use Rattle.bind_sections.proofs.SectionWorlds.{bound_sections_mean}
-use Rattle.bind_sections.proofs.Steps.{refusals_end, world-counted}
+use Rattle.wit_bind.specs.{Bindings.IsBindgen, Bindings.binding_of, Merges.IsMergeRefusal}
+use Rattle.bind_sections.specs.{SectionBindings.IsBoundBy, SectionBindings.RefusesSection, Steps.IsCountedTo, Steps.IsDataInFront, Steps.IsReadTo}
+use Rattle.bind_sections.specs.{Bound.IsRefused, Bound.RefusesBindings, Blamed.Blames}
+use Rattle.bind_sections.proofs.{BoundWorlds.sections_bind_their_worlds, SectionWorlds.bound_sections_mean, Steps.refusals_end, Steps.world-counted}
 use Rattle.bind_sections.proofs.BlamedLaws.{blames-section}
+use Rattle.wit_model.specs.declared.error.Error.TheVariants as errors
 
 -- what refuses a module is a refusal of its bindings
 pub let-through : (input : List ℕ) (e : Error) → IsRefused input e → RefusesBindings input e

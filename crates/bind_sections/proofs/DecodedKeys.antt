@@ -1,60 +1,34 @@
 -- The keys of the functions of a world, by what it means.
 use Rattle.std.proofs.Common.{◌≡◌, ◌∙◌, refl, sym, ap, subst, ℕ, ◌==◌, true, false, not, List, [], ◌∷◌, map, filter_map, option_map, option_and_then, unwrap_or, Option, Some, None, Ok, Err, Contains, String}
-use Rattle.std.specs.Prelude.{Result, is_some}
-use Rattle.std.specs.List.{list_all}
-use Rattle.std.specs.Option.{option_map_or}
-use Rattle.std.specs.declared.alloc.Global.{Global}
-use Rattle.std.specs.Cmp.{eq_by_cmp_equiv}
-use Rattle.std.specs.Cmp.Lexicographic.{nat_list_cmp_total}
+use Rattle.std.proofs.lemmas.{Map.Views.list_any-from_Contains, Map.Views.Contains-from_any, Bool.not-true as isnt, Option.same_Some as same-some}
+use Rattle.std.specs.{Prelude.Result, Prelude.is_some, List.list_all, Option.option_map_or, Cmp.eq_by_cmp_equiv, Cmp.Lexicographic.nat_list_cmp_total}
 use Rattle.std.specs.FinMap.{empty, get, keys, find, same_map, get-empty, get-from_entries, contains_key-keys, nat_cmp-IsAntisymmetric, slice_cmp-IsAntisymmetric}
-use Rattle.std.proofs.lemmas.Map.Views.{list_any-from_Contains, Contains-from_any}
-use Rattle.wit_model.specs.declared.model.Function.{Function}
-use Rattle.wit_model.specs.declared.model.Interface.{Interface}
-use Rattle.wit_model.specs.declared.model.InterfaceId.{InterfaceId}
-use Rattle.wit_model.specs.declared.model.Package.{Package}
-use Rattle.wit_model.specs.declared.model.PackageName.{PackageName}
-use Rattle.wit_model.specs.declared.model.Resolve.{Resolve}
-use Rattle.wit_model.specs.declared.model.StringEncoding.{StringEncoding}
-use Rattle.wit_model.specs.declared.model.World.{World}
-use Rattle.wit_model.specs.declared.model.WorldItem.{WorldItem}
-use Rattle.wit_model.specs.declared.model.WorldItem.TheVariants as item
-use Rattle.wit_model.specs.declared.model.WorldKey.{WorldKey}
-use Rattle.wit_model.specs.declared.model.WorldKey.TheVariants as key
-use Rattle.wit_model.specs.Text.{Text, TextMap, text_cmp, text_of}
+use Rattle.std.specs.declared.alloc.Global.{Global}
+use Rattle.wit_model.specs.declared.model.{Function.Function, Package.Package, Resolve.Resolve, WorldItem.WorldItem, WorldKey.WorldKey}
+use Rattle.wit_model.specs.declared.model.{Interface.Interface, InterfaceId.InterfaceId, PackageName.PackageName, StringEncoding.StringEncoding, World.World}
+use Rattle.wit_model.specs.{Text.Text, Text.TextMap, Text.text_cmp, Text.text_of, Rules.is_id, Rules.is_interface_key, Rules.passes}
 use Rattle.wit_model.specs.Names.{PackageIdentity, canonical_version, cut, is_label, is_version, known_path, path_in, versioned}
 use Rattle.wit_model.specs.Lookup.{canonical_identity_of, identity_of, optional_version_text, interface_at, interface_path, key_text, package_at}
-use Rattle.wit_model.specs.Paths.{full_name}
-use Rattle.wit_model.specs.Meaning.{Entry, FunctionMeaning, InterfaceMeaning, inline, interface}
+use Rattle.wit_model.specs.{Paths.full_name, Meaning.Entry, Meaning.FunctionMeaning, Meaning.InterfaceMeaning, Meaning.inline, Meaning.interface, Valid.IsValid}
 use Rattle.wit_model.specs.Meant.{entries_meaning, entry_meaning, function_meaning, interface_item, interface_meaning, interface_meaning_at, no_interface}
-use Rattle.wit_model.specs.Rules.{is_id, is_interface_key, passes}
 use Rattle.wit_model.specs.Uses.{has, item_interface, items_of}
-use Rattle.wit_model.specs.Valid.{IsValid}
-use Rattle.wit_model.proofs.Elements.{contains-flat, none-in}
-use Rattle.wit_model.proofs.NameLaws.{label_lacks, spelled_path_reads}
+use Rattle.wit_model.proofs.{Elements.contains-flat, Elements.none-in, NameLaws.label_lacks, NameLaws.spelled_path_reads, AnyOrder.found-there as find-contains}
 use Rattle.wit_model.proofs.VersionLaws.{valid_parts}
-use Rattle.semver.specs.declared.Version.{Version}
-use Rattle.semver.specs.declared.error.Error.{Error as VersionError}
-use Rattle.semver.specs.Identifiers.{parts_of, version_text}
-use Rattle.semver.specs.Parse.{Parts}
+use Rattle.wit_model.proofs.{OnePath.HasPath, OnePath.has-path, OnePath.named-path, OnePath.package-name, OnePath.path-label, Maps.there_some as contains-find}
+use Rattle.semver.specs.declared.{Version.Version, error.Error.Error as VersionError}
+use Rattle.semver.specs.{Identifiers.parts_of, Identifiers.version_text, Parse.Parts}
 use Rattle.semver.proofs.Grammar.{version_parts-complete}
-use Rattle.wit_model.proofs.OnePath.{HasPath, has-path, named-path, package-name, path-label}
 use Rattle.bind_meaning.specs.ByMeaning.{entry_keys, functions_by_name, keys_of_entry}
-use Rattle.bind_meaning.specs.Encodings.{Encodings, all_encoded}
-use Rattle.bind_meaning.specs.Keys.{canonical_identity, canonical_part, scope_under, text_under}
-use Rattle.bind_meaning.proofs.Maps.{by_tie}
+use Rattle.bind_meaning.specs.{Encodings.Encodings, Encodings.all_encoded, Keys.canonical_identity, Keys.canonical_part, Keys.scope_under, Keys.text_under}
+use Rattle.bind_meaning.proofs.{Maps.by_tie, Listed.from-flat, Listed.from-map}
 use Rattle.wit_bind.specs.Functions.{Items, IsFunctionKey, MapsFunctions, of_interface, of_item}
 use Rattle.wit_bind.specs.Keys.{function_key, scope_of}
 use Rattle.wit_bind.proofs.ValidKeys.{canonical-by-name}
 use Rattle.bind_sections.proofs.DecodedWorlds.{meaning-at, shown-at, shown_map}
-use Rattle.bind_meaning.proofs.Listed.{from-flat, from-map}
-use Rattle.wit_model.proofs.Maps.{there_some as contains-find}
-use Rattle.wit_model.proofs.AnyOrder.{found-there as find-contains}
 use Rattle.base_lemmas.proofs.Bools.{left_of as first_true, right_of as second_true}
-use Rattle.base_lemmas.proofs.Elements.{contains-map, contains-one, last_of as one-contained}
-use Rattle.base_lemmas.proofs.Numbers.{equal}
-use Rattle.base_lemmas.proofs.Options.{there as some-of}
-use Rattle.std.proofs.lemmas.Bool.{not-true as isnt}
-use Rattle.std.proofs.lemmas.Option.{same_Some as same-some}
+use Rattle.base_lemmas.proofs.{Elements.contains-map, Elements.contains-one, Elements.last_of as one-contained, Numbers.equal, Options.there as some-of}
+use Rattle.wit_model.specs.declared.model.WorldItem.TheVariants as item
+use Rattle.wit_model.specs.declared.model.WorldKey.TheVariants as key
 
 -- ---- labels have no version
 

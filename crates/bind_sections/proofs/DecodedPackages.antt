@@ -1,37 +1,22 @@
 -- The packages and the worlds of a `Resolve` that holds one world and nothing else.
 use Rattle.std.proofs.Common.{◌≡◌, ◌∙◌, refl, sym, ap, subst, arith, ℕ, ◌==◌, ◌&&◌, ◌||◌, zero, suc, Bool, true, false, List, [], ◌∷◌, flat_map, filter_map, option_map, option_and_then, Option, Some, None, Contains, String}
-use Rattle.std.specs.List.{list_all, cons_option}
-use Rattle.std.specs.Option.{option_map_or}
+use Rattle.std.proofs.lemmas.Option.{same_Some as some-same}
+use Rattle.std.specs.{List.list_all, List.cons_option, Option.option_map_or, FinMap.keys, FinSet.from_list}
 use Rattle.std.specs.declared.alloc.Global.{Global}
-use Rattle.std.specs.FinMap.{keys}
-use Rattle.std.specs.FinSet.{from_list}
 use Rattle.indexmap.specs.IndexMap.{values}
-use Rattle.wit_model.specs.declared.model.Interface.{Interface}
-use Rattle.wit_model.specs.declared.model.InterfaceId.{InterfaceId}
-use Rattle.wit_model.specs.declared.model.Package.{Package}
-use Rattle.wit_model.specs.declared.model.PackageId.{PackageId}
-use Rattle.wit_model.specs.declared.model.Resolve.{Resolve}
-use Rattle.wit_model.specs.declared.model.World.{World}
-use Rattle.wit_model.specs.Text.{Text, text_cmp, text_eq, text_of}
-use Rattle.wit_model.specs.Names.{path_in}
+use Rattle.wit_model.specs.declared.model.{Interface.Interface, InterfaceId.InterfaceId, Package.Package, PackageId.PackageId, Resolve.Resolve, World.World}
+use Rattle.wit_model.specs.{Text.Text, Text.text_cmp, Text.text_eq, Text.text_of, Uses.has, Uses.item_interface, Uses.items_of}
+use Rattle.wit_model.specs.{Names.path_in, Meant.world_meaning, Valid.IsValid, Valid.is_place, Valid.names_in_packages, Valid.numbers_in_range, Valid.places}
 use Rattle.wit_model.specs.Lookup.{identity_of, interface_at, interface_path, package_at, path_of_interface, path_of_world, path_in_package}
-use Rattle.wit_model.specs.Meant.{world_meaning}
 use Rattle.wit_model.specs.Rules.{has_items, in_list, interface_belongs, is_id, package_number, passes, text_is}
-use Rattle.wit_model.specs.Uses.{has, item_interface, items_of}
-use Rattle.wit_model.specs.Valid.{IsValid, is_place, names_in_packages, numbers_in_range, places}
-use Rattle.wit_model.proofs.Elements.{contains-flat, contains-get}
-use Rattle.wit_model.proofs.NameLaws.{spelled_path_reads}
+use Rattle.wit_model.proofs.{Elements.contains-flat, Elements.contains-get, NameLaws.spelled_path_reads}
 use Rattle.wit_model.proofs.OnePath.{HasPath, found-in, has-path, package-name, package-passes, path-label}
-use Rattle.bind_meaning.specs.Binding.{package_text}
-use Rattle.bind_meaning.specs.ByMeaning.{package_of_path}
+use Rattle.bind_meaning.specs.{Binding.package_text, ByMeaning.package_of_path, ByNumbers.package_texts, ByNumbers.worlds_by_path}
 use Rattle.plan_meaning.specs.NothingElse.{PackagesAreUsed}
-use Rattle.bind_meaning.specs.ByNumbers.{package_texts, worlds_by_path}
 use Rattle.bind_sections.proofs.DecodedWorlds.{path-of, path-shown, shown_map}
 use Rattle.bind_meaning.proofs.Listed.{from-flat, from-map, same-texts}
-use Rattle.base_lemmas.proofs.Bools.{left_of as first_true, right_of as second_true}
+use Rattle.base_lemmas.proofs.{Bools.left_of as first_true, Bools.right_of as second_true, Numbers.equal}
 use Rattle.base_lemmas.proofs.Elements.{all-contained, contains-later, contains-map, contains-one, first-contained, get-contains, last_of as one-contained}
-use Rattle.base_lemmas.proofs.Numbers.{equal}
-use Rattle.std.proofs.lemmas.Option.{same_Some as some-same}
 use Rattle.bind_carry.proofs.NamesGained.{home_is as id-is}
 
 -- a number that an option has

@@ -1,27 +1,16 @@
 -- The packages, interfaces and worlds of a `Resolve` that holds one world and nothing else, by path.
 use Rattle.std.proofs.Common.{◌≡◌, ◌∙◌, sym, ap, subst, ℕ, true, List, [], map, filter_map, option_map, option_and_then, unwrap_or, Option, Some, Contains}
-use Rattle.std.specs.Prelude.{is_some, option_to_list}
-use Rattle.std.specs.Option.{option_map_or}
-use Rattle.std.specs.Cmp.{eq_by_cmp_equiv}
-use Rattle.std.specs.Cmp.Lexicographic.{nat_list_cmp_total}
-use Rattle.std.specs.FinMap.{get, keys, from_entries, get-from_entries, contains_key-keys}
 use Rattle.std.proofs.lemmas.Map.Views.{list_any-from_Contains, Contains-from_any}
-use Rattle.wit_model.specs.declared.model.Interface.{Interface}
-use Rattle.wit_model.specs.declared.model.Resolve.{Resolve}
-use Rattle.wit_model.specs.declared.model.World.{World}
-use Rattle.wit_model.specs.Text.{Text, TextMap, text_cmp}
-use Rattle.wit_model.specs.Lookup.{interface_at, interface_path, path_of_interface}
-use Rattle.wit_model.specs.Meaning.{InterfaceMeaning}
-use Rattle.wit_model.specs.Meant.{by_path, interface_meaning, interface_meaning_at, no_interface}
-use Rattle.wit_model.specs.Uses.{has, item_interface, items_of, shown_by}
-use Rattle.wit_model.specs.Valid.{IsValid}
-use Rattle.wit_model.proofs.Elements.{contains-filter_map, contains-get, has-contains}
-use Rattle.wit_model.proofs.OnePath.{path-once}
-use Rattle.bind_meaning.proofs.Maps.{by_tie}
+use Rattle.std.specs.{Prelude.is_some, Prelude.option_to_list, FinMap.get, FinMap.keys, FinMap.from_entries, FinMap.get-from_entries, FinMap.contains_key-keys}
+use Rattle.std.specs.{Option.option_map_or, Cmp.eq_by_cmp_equiv, Cmp.Lexicographic.nat_list_cmp_total}
+use Rattle.wit_model.specs.declared.model.{Interface.Interface, Resolve.Resolve, World.World}
+use Rattle.wit_model.specs.{Text.Text, Text.TextMap, Text.text_cmp, Meant.by_path, Meant.interface_meaning, Meant.interface_meaning_at, Meant.no_interface}
+use Rattle.wit_model.specs.{Lookup.interface_at, Lookup.interface_path, Lookup.path_of_interface, Uses.has, Uses.item_interface, Uses.items_of, Uses.shown_by}
+use Rattle.wit_model.specs.{Meaning.InterfaceMeaning, Valid.IsValid}
+use Rattle.wit_model.proofs.{Elements.contains-filter_map, Elements.contains-get, Elements.has-contains, AnyOrder.found-there as find-contains}
+use Rattle.wit_model.proofs.{OnePath.path-once, Maps.there_some as contains-find}
+use Rattle.bind_meaning.proofs.{Maps.by_tie, Listed.from-given, Listed.from-map, Listed.given, Listed.mapped, Listed.same-entries}
 use Rattle.bind_meaning.specs.ByNumbers.{interfaces_by_path}
-use Rattle.bind_meaning.proofs.Listed.{from-given, from-map, given, mapped, same-entries}
-use Rattle.wit_model.proofs.Maps.{there_some as contains-find}
-use Rattle.wit_model.proofs.AnyOrder.{found-there as find-contains}
 use Rattle.base_lemmas.proofs.Elements.{contains-map, contains-one, filter_keeps as contains-filter, filter_kept as from-filter, get-contains}
 use Rattle.base_lemmas.proofs.Options.{there as some-of}
 

@@ -1,18 +1,14 @@
 -- What sections bind is what comes of the bindings that their data mean, in each order.
 use Rattle.std.proofs.Common.{◌≡◌, ℕ, List, [], ◌∷◌, refl, sym, ap, subst}
-use Rattle.bind_meaning.specs.Binding.{Binding}
-use Rattle.bind_meaning.specs.ByMeaning.{binding_of_world}
+use Rattle.bind_meaning.specs.{Binding.Binding, ByMeaning.binding_of_world, Orders.Folds, Orders.IsPutInto, Orders.IsReordered, Roots.root_binding, Union.union}
 use Rattle.bind_meaning.specs.Clash.{CanUnite}
-use Rattle.bind_meaning.specs.Orders.{Folds, IsPutInto, IsReordered}
-use Rattle.bind_meaning.specs.Orders as orders
-use Rattle.bind_meaning.specs.Roots.{root_binding}
-use Rattle.bind_meaning.specs.Union.{union}
-use Rattle.bind_meaning.proofs.EachOrder as each
 use Rattle.wit_metadata.specs.Modules.{Framed}
 use Rattle.bind_sections.specs.Bound.{Binds, CarryData}
 use Rattle.bind_sections.specs.Orders.{AreBindingsOf, IsDataPutInto, IsReorderedData, ModulesInEachOrder, SectionsFold, SectionsInEachOrder}
-use Rattle.bind_sections.specs.Orders as sections
 use Rattle.bind_sections.proofs.BoundLaws.{one-data, one-reading}
+use Rattle.bind_meaning.specs.Orders as orders
+use Rattle.bind_meaning.proofs.EachOrder as each
+use Rattle.bind_sections.specs.Orders as sections
 
 to-fold : (a c : Binding) (ds : List (List ℕ)) → Binds a ds c → (bs : List Binding) × AreBindingsOf ds bs × Folds a bs c
 to-fold a c [] h = ([], tt, h)

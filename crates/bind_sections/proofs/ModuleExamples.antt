@@ -1,29 +1,19 @@
 -- Worked examples: what modules bind, or are refused for, and what the data of a section says of its encoding.
 use Rattle.std.proofs.Common.{◌≡◌, ◌∙◌, refl, sym, ap, ℕ, List, [], ◌∷◌, ◌++◌, append-nil, length, Some, Ok, Err, arith}
 use mathlib.Core.Logic.{inl}
-use Rattle.std.specs.Prelude.{Result, codes, slice_get, unwrap_or}
-use Rattle.std.specs.Str.{is_utf8, chars}
+use Rattle.std.specs.{Prelude.Result, Prelude.codes, Prelude.slice_get, Prelude.unwrap_or, Str.is_utf8, Str.chars}
 use lib.Utf8.{encode}
-use Rattle.wit_model.specs.declared.error.Cause.TheVariants.{Truncated}
-use Rattle.wit_model.specs.declared.error.Error.{Error}
-use Rattle.wit_model.specs.declared.error.Error.TheVariants as errors
-use Rattle.wit_model.specs.declared.model.StringEncoding.{StringEncoding}
-use Rattle.wit_model.specs.declared.model.StringEncoding.TheVariants as encodings
-use Rattle.comp_bytes.specs.Frames.{IsCustom, IsFrame}
-use Rattle.comp_bytes.specs.Laws.{Taken}
-use Rattle.comp_bytes.specs.Raw.{Section}
+use Rattle.wit_model.specs.declared.{error.Cause.TheVariants.Truncated, error.Error.Error, model.StringEncoding.StringEncoding}
+use Rattle.comp_bytes.specs.{Frames.IsCustom, Frames.IsFrame, Laws.Taken, Raw.Section, Spelling.preamble}
 use Rattle.comp_bytes.specs.Reading.{byte_at, counted_at, frame_at, name_at, pair_at, u32_at, unsigned_at}
-use Rattle.comp_bytes.specs.Spelling.{preamble}
-use Rattle.comp_bytes.proofs.ComponentLaws.{frame_law}
-use Rattle.comp_bytes.proofs.PartLaws.{name_law}
+use Rattle.comp_bytes.proofs.{ComponentLaws.frame_law, PartLaws.name_law}
 use Rattle.bind_meaning.specs.Roots.{root_binding}
-use Rattle.wit_metadata.specs.Carried.{contents_under, last_of}
-use Rattle.wit_metadata.specs.Encodings.{section_name}
-use Rattle.wit_metadata.specs.Modules.{Framed, IsFrontless, module_preamble}
+use Rattle.wit_metadata.specs.{Carried.contents_under, Carried.last_of, Encodings.section_name, Modules.Framed, Modules.IsFrontless, Modules.module_preamble}
 use Rattle.wit_metadata.specs.Said.{said_by}
-use Rattle.bind_sections.specs.SectionBindings.{RefusesSection}
-use Rattle.bind_sections.specs.Bound.{CarryData, IsBound, IsRefused}
+use Rattle.bind_sections.specs.{SectionBindings.RefusesSection, Bound.CarryData, Bound.IsBound, Bound.IsRefused}
 use Rattle.std.proofs.lemmas.Option.{none-some}
+use Rattle.wit_model.specs.declared.error.Error.TheVariants as errors
+use Rattle.wit_model.specs.declared.model.StringEncoding.TheVariants as encodings
 
 -- how many bytes there are
 abbrev count : List ℕ → ℕ

@@ -2,14 +2,8 @@
 use Rattle.std.proofs.Common.{List, [], ◌∷◌}
 use mathlib.Core.Logic.{inl, inr}
 use Rattle.std.specs.Prelude.{◌⊎◌}
-use Rattle.bind_meaning.specs.Binding.{Binding}
-use Rattle.bind_meaning.specs.Clash.{CanUnite}
-use Rattle.bind_meaning.specs.Laws.{SomeClash}
-use Rattle.bind_meaning.specs.Orders.{AllUnited, ArePairwise}
-use Rattle.bind_meaning.specs.Roots.{root_binding}
-use Rattle.bind_meaning.proofs.ClashLaws.{united_have_no_clash}
-use Rattle.bind_meaning.proofs.Orders.{pairwise_folds}
-use Rattle.bind_meaning.proofs.Searches.{unite_or_clash}
+use Rattle.bind_meaning.specs.{Binding.Binding, Clash.CanUnite, Laws.SomeClash, Orders.AllUnited, Orders.ArePairwise, Roots.root_binding}
+use Rattle.bind_meaning.proofs.{ClashLaws.united_have_no_clash, Orders.pairwise_folds, Searches.unite_or_clash}
 use Rattle.bind_sections.specs.Orders.{BindsWhereNoTwoClash, ClashesWithNone, EachUnitesOrClashes, NoTwoClash}
 use Rattle.wit_bind.proofs.Telling.{tell-entry, tell-interface, tell-world}
 

@@ -1,34 +1,23 @@
 -- What bytes mean as one world, bound, is a binding, and so is what a module binds.
 use Rattle.std.proofs.Common.{◌≡◌, ◌∙◌, refl, sym, ap, subst, ℕ, Bool, true, false, ◌&&◌, ◌||◌, not, cond, List, [], ◌∷◌, map, flat_map, Option, Some, None}
+use Rattle.std.proofs.lemmas.{Bool.not-true as is_false, Option.same_Some as some-same}
 use Rattle.std.specs.Prelude.{is_some}
-use Rattle.std.specs.List.{AllByRecursion, list_all, list_any}
-use Rattle.std.specs.Ordering.{eq_by_cmp}
-use Rattle.std.specs.FinMap.{from_entries, get, find, get-empty}
+use Rattle.std.specs.{List.AllByRecursion, List.list_all, List.list_any, Ordering.eq_by_cmp, FinMap.from_entries, FinMap.get, FinMap.find, FinMap.get-empty}
 use Rattle.wit_model.specs.declared.model.StringEncoding.{StringEncoding}
-use Rattle.wit_model.specs.Text.{Text, text_cmp, text_eq}
-use Rattle.wit_model.specs.Names.{PackageIdentity, path_in}
-use Rattle.wit_model.specs.Meaning.{WorldMeaning, WorldPackage}
+use Rattle.wit_model.specs.{Text.Text, Text.text_cmp, Text.text_eq, Names.PackageIdentity, Names.path_in, Meaning.WorldMeaning, Meaning.WorldPackage}
 use Rattle.wit_model.specs.Rules.{are_distinct}
 use Rattle.wit_model.proofs.Distinct.{text_eq_flip}
 use Rattle.comp_bytes.specs.Reading.{◌>>=◌}
 use Rattle.comp_bytes.proofs.Readers.{bind_some, when_some}
-use Rattle.comp_meaning.specs.Follow.{Scope, Seen, each}
-use Rattle.comp_meaning.specs.Rules.{are_imports, distinct, is_item, is_world}
+use Rattle.comp_meaning.specs.{Follow.Scope, Follow.Seen, Follow.each, Rules.are_imports, Rules.distinct, Rules.is_item, Rules.is_world}
 use Rattle.comp_meaning.specs.Reads.{Member, Part, ReadsWorld, Sight, all_agree, are_interfaces, entry, exported_types, member, of_instance, seen_meaning, world_meaning, world_of_members, world_with}
 use Rattle.read_shown.specs.Parts.{MemberStands, PartStands}
 use Rattle.read_shown.proofs.Parts.{members_stand}
-use Rattle.bind_meaning.specs.Binding.{Binding, IsBinding, Stand}
+use Rattle.bind_meaning.specs.{Binding.Binding, Binding.IsBinding, Binding.Stand, Roots.root_binding, Roots.root_meaning, Roots.root_path, Union.union}
 use Rattle.bind_meaning.specs.ByMeaning.{binding_of_world, world_path}
-use Rattle.bind_meaning.specs.Roots.{root_binding, root_meaning, root_path}
-use Rattle.bind_meaning.specs.Union.{union}
-use Rattle.bind_meaning.proofs.ListLaws.{got}
-use Rattle.bind_meaning.proofs.Maps.{by_tie, found_keys, has_key, itself_ties}
-use Rattle.bind_meaning.proofs.UnionLaws.{union_is_binding}
-use Rattle.bind_sections.specs.Bound.{Binds}
-use Rattle.bind_sections.specs.BoundLaws.{BoundAreBindings, SectionsAreBindings}
+use Rattle.bind_meaning.proofs.{ListLaws.got, Maps.by_tie, Maps.found_keys, Maps.has_key, Maps.itself_ties, UnionLaws.union_is_binding}
+use Rattle.bind_sections.specs.{Bound.Binds, BoundLaws.BoundAreBindings, BoundLaws.SectionsAreBindings}
 use Rattle.base_lemmas.proofs.Bools.{left_of as first_true, right_of as second_true}
-use Rattle.std.proofs.lemmas.Bool.{not-true as is_false}
-use Rattle.std.proofs.lemmas.Option.{same_Some as some-same}
 use Rattle.comp_meaning.proofs.RulesLemmas.{distinct_same as same_test}
 
 -- ---- the world that was read

@@ -1,21 +1,17 @@
 -- What the data of one section binds.
 use Rattle.std.proofs.Common.{◌≡◌, ◌∙◌, refl, sym, ap, ℕ, ◌==◌, Bool, true, false, cond, List, [], ◌∷◌, Option, Some, None, Ok, Err}
+use Rattle.std.proofs.lemmas.Option.{same_Some as some-same}
 use Rattle.std.specs.Prelude.{Result}
-use Rattle.wit_model.specs.declared.error.Error.{Error}
-use Rattle.wit_model.specs.declared.error.Error.TheVariants as errors
-use Rattle.wit_model.specs.declared.model.StringEncoding.{StringEncoding}
-use Rattle.wit_model.specs.declared.model.StringEncoding.TheVariants as encodings
-use Rattle.bind_meaning.specs.ByMeaning.{binding_of_world}
-use Rattle.bind_meaning.specs.Roots.{root_binding}
-use Rattle.bind_meaning.specs.Union.{union}
+use Rattle.wit_model.specs.declared.{error.Error.Error, model.StringEncoding.StringEncoding}
+use Rattle.bind_meaning.specs.{ByMeaning.binding_of_world, Roots.root_binding, Union.union}
 use Rattle.bind_meaning.proofs.RootLaws.{root_gains, root_unites}
-use Rattle.wit_metadata.specs.Carried.{contents_under, last_of}
-use Rattle.wit_metadata.specs.Encodings.{code_of, contents_of, encoding_at, section_name}
+use Rattle.wit_metadata.specs.{Carried.contents_under, Carried.last_of, Encodings.code_of, Encodings.contents_of, Encodings.encoding_at, Encodings.section_name}
 use Rattle.wit_metadata.specs.Said.{said_by, said_by_code}
 use Rattle.bind_sections.proofs.BoundLaws.{ok-same}
 use Rattle.bind_sections.specs.BoundLaws.{BoundSectionsMean, OneSectionBinds}
 use Rattle.base_lemmas.proofs.Numbers.{equal}
-use Rattle.std.proofs.lemmas.Option.{same_Some as some-same}
+use Rattle.wit_model.specs.declared.error.Error.TheVariants as errors
+use Rattle.wit_model.specs.declared.model.StringEncoding.TheVariants as encodings
 
 -- ---- what is said
 

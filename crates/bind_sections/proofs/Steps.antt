@@ -1,30 +1,19 @@
 -- How a module is read, section by section.
 use Rattle.std.proofs.Common.{◌≡◌, ◌∙◌, refl, sym, ap, subst, arith, ℕ, ◌+◌, ◌≤◌, ◌==◌, nat_eq, zero, suc, Bool, true, false, List, [], ◌∷◌, ◌++◌, append_assoc, append-nil, length, Option, Some, None}
 use mathlib.Core.Logic.{inl, inr}
-use Rattle.std.specs.Prelude.{◌⊎◌}
-use Rattle.std.specs.List.{AllByRecursion, starts_with}
-use Rattle.std.proofs.lemmas.Bool.{true≢false}
-use Rattle.std.proofs.lemmas.List.{length-append}
-use Rattle.wit_model.specs.declared.error.Error.{Error}
-use Rattle.wit_model.specs.declared.model.StringEncoding.{StringEncoding}
+use Rattle.std.specs.{Prelude.◌⊎◌, List.AllByRecursion, List.starts_with}
+use Rattle.std.proofs.lemmas.{Bool.true≢false, List.length-append, Option.none-some, Option.same_Some as some-same}
+use Rattle.wit_model.specs.declared.{error.Error.Error, model.StringEncoding.StringEncoding}
 use Rattle.wit_model.specs.Meaning.{WorldPackage}
-use Rattle.comp_bytes.specs.Form.{Sequence}
-use Rattle.comp_bytes.specs.Frames.{IsCustom, IsFrame}
-use Rattle.comp_bytes.specs.Reading.{frame_at, name_at}
-use Rattle.comp_bytes.proofs.ComponentLaws.{frame_law}
-use Rattle.comp_bytes.proofs.PartLaws.{name_law}
-use Rattle.bind_meaning.specs.Binding.{Binding}
-use Rattle.bind_meaning.specs.ByMeaning.{binding_of_world}
-use Rattle.bind_meaning.specs.Clash.{CanUnite}
-use Rattle.bind_meaning.specs.Roots.{root_binding}
-use Rattle.bind_meaning.specs.Union.{union}
+use Rattle.comp_bytes.specs.{Form.Sequence, Frames.IsCustom, Frames.IsFrame, Reading.frame_at, Reading.name_at}
+use Rattle.comp_bytes.proofs.{ComponentLaws.frame_law, PartLaws.name_law}
+use Rattle.bind_meaning.specs.{Binding.Binding, ByMeaning.binding_of_world, Clash.CanUnite, Roots.root_binding, Union.union}
 use Rattle.wit_metadata.specs.Modules.{AreSections, Carries, Framed, IsFrontless, IsInFront, IsNamed, carrying_name, module_preamble}
 use Rattle.wit_metadata.proofs.ModuleLaws.{named-end, one-custom, sequence-end}
 use Rattle.bind_sections.specs.SectionBindings.{RefusesSection}
 use Rattle.bind_sections.specs.Bound.{Binds, CarryData, HasSections, IsClashError, IsLeftOver, IsRefused, Refuses, SectionMeans}
 use Rattle.bind_sections.specs.Steps.{IsCountedTo, IsDataInFront, IsReadTo, LeftOversEnd, OthersArePassed, ReadingBegins, ReadingEnds, RefusalsEnd, WorldsAreBound}
 use Rattle.base_lemmas.proofs.Numbers.{equal, same-number}
-use Rattle.std.proofs.lemmas.Option.{none-some, same_Some as some-same}
 
 -- ---- the section in front
 

@@ -1,15 +1,11 @@
 -- At which section the bindings of a core module are refused (wit-component README, "Custom Section Format").
 use Rattle.std.specs.Prelude.{◌≡◌, ◌≢◌, ◌⊎◌, ℕ, List, Option, Some, None}
-use Rattle.wit_model.specs.declared.error.Error.{Error}
-use Rattle.wit_model.specs.declared.error.Error.TheVariants as errors
-use Rattle.wit_model.specs.declared.model.StringEncoding.{StringEncoding}
+use Rattle.wit_model.specs.declared.{error.Error.Error, model.StringEncoding.StringEncoding}
 use Rattle.wit_model.specs.Meaning.{WorldPackage}
-use Rattle.bind_meaning.specs.Binding.{Binding}
-use Rattle.bind_meaning.specs.ByMeaning.{binding_of_world}
+use Rattle.bind_meaning.specs.{Binding.Binding, ByMeaning.binding_of_world}
 use Rattle.wit_metadata.specs.Modules.{IsFrontless, IsNoModule}
-use Rattle.bind_sections.specs.SectionBindings.{RefusesSection}
-use Rattle.bind_sections.specs.Bound.{IsClashError, SectionMeans}
-use Rattle.bind_sections.specs.Steps.{IsCountedTo, IsDataInFront, IsReadTo}
+use Rattle.bind_sections.specs.{SectionBindings.RefusesSection, Bound.IsClashError, Bound.SectionMeans, Steps.IsCountedTo, Steps.IsDataInFront, Steps.IsReadTo}
+use Rattle.wit_model.specs.declared.error.Error.TheVariants as errors
 
 -- Behind sections that bind this, one with this data is refused so: the data binds nothing, or what it means clashes with what they bind.
 abbrev pub RefusesNext : Binding → List ℕ → Error → Type 0

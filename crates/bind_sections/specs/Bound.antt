@@ -3,21 +3,15 @@
 -- it: that of a section, a clash, or, behind all sections, that what is left isn't empty.
 use Rattle.std.specs.Prelude.{◌≡◌, ◌≢◌, ◌⊎◌, ◌+◌, ℕ, nat_eq, true, List, [], ◌∷◌, ◌++◌, length}
 use Rattle.std.specs.List.{starts_with}
-use Rattle.wit_model.specs.declared.error.Error.{Error}
-use Rattle.wit_model.specs.declared.error.Error.TheVariants as errors
-use Rattle.wit_model.specs.declared.model.StringEncoding.{StringEncoding}
-use Rattle.wit_model.specs.Text.{text_of}
-use Rattle.wit_model.specs.Meaning.{WorldPackage}
+use Rattle.wit_model.specs.declared.{error.Error.Error, model.StringEncoding.StringEncoding}
+use Rattle.wit_model.specs.{Text.text_of, Meaning.WorldPackage}
 use Rattle.comp_bytes.specs.Frames.{IsCustom}
 use Rattle.comp_meaning.specs.Reads.{ReadsWorld}
-use Rattle.bind_meaning.specs.Binding.{Binding}
-use Rattle.bind_meaning.specs.ByMeaning.{binding_of_world}
-use Rattle.bind_meaning.specs.Clash.{CanUnite, IsClash}
-use Rattle.bind_meaning.specs.Roots.{root_binding}
-use Rattle.bind_meaning.specs.Union.{union}
+use Rattle.bind_meaning.specs.{Binding.Binding, ByMeaning.binding_of_world, Clash.CanUnite, Clash.IsClash, Roots.root_binding, Union.union}
 use Rattle.wit_metadata.specs.Carried.{CarriesEncoding}
 use Rattle.wit_metadata.specs.Modules.{AreSections, Carries, Framed, IsFrontless, carrying_name, module_preamble}
 use Rattle.bind_sections.specs.SectionBindings.{RefusesSection}
+use Rattle.wit_model.specs.declared.error.Error.TheVariants as errors
 
 -- ---- the sections of a module
 

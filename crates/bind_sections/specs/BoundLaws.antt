@@ -2,25 +2,15 @@
 use Rattle.std.specs.Prelude.{◌≡◌, ◌≢◌, ℕ, List, [], ◌∷◌, None, String}
 use Rattle.std.specs.FinMap.{get}
 use Rattle.std.specs.declared.alloc.Global.{Global}
-use Rattle.wit_model.specs.declared.error.Cause.{Cause}
-use Rattle.wit_model.specs.declared.error.ClashKind.{ClashKind}
+use Rattle.wit_model.specs.declared.{error.Cause.Cause, error.ClashKind.ClashKind, model.Resolve.Resolve, model.StringEncoding.StringEncoding}
 use Rattle.wit_model.specs.declared.error.Error.{Error}
-use Rattle.wit_model.specs.declared.error.Error.TheVariants as errors
-use Rattle.wit_model.specs.declared.model.Resolve.{Resolve}
-use Rattle.wit_model.specs.declared.model.StringEncoding.{StringEncoding}
-use Rattle.wit_model.specs.Text.{text_of}
-use Rattle.wit_model.specs.Meaning.{WorldPackage}
-use Rattle.wit_model.specs.Meant.{MeantWorld}
-use Rattle.bind_meaning.specs.Binding.{Binding, IsBinding}
-use Rattle.bind_meaning.specs.ByMeaning.{binding_of_world}
-use Rattle.bind_meaning.specs.Laws.{HasGained}
-use Rattle.bind_meaning.specs.Roots.{root_path}
+use Rattle.wit_model.specs.{Text.text_of, Meaning.WorldPackage, Meant.MeantWorld}
+use Rattle.bind_meaning.specs.{Binding.Binding, Binding.IsBinding, ByMeaning.binding_of_world, Laws.HasGained, Roots.root_path}
 use Rattle.wit_bind.specs.declared.bindgen.Bindgen.{Bindgen}
 use Rattle.wit_bind.specs.Bindings.{IsBindgen, binding_of}
-use Rattle.wit_metadata.specs.Carried.{CarriesEncoding, MeansWorld}
-use Rattle.wit_metadata.specs.Modules.{Framed}
-use Rattle.bind_sections.specs.SectionBindings.{IsBoundBy}
-use Rattle.bind_sections.specs.Bound.{CarryData, HasSections, IsBound, IsRefused, SectionMeans}
+use Rattle.wit_metadata.specs.{Carried.CarriesEncoding, Carried.MeansWorld, Modules.Framed}
+use Rattle.bind_sections.specs.{SectionBindings.IsBoundBy, Bound.CarryData, Bound.HasSections, Bound.IsBound, Bound.IsRefused, Bound.SectionMeans}
+use Rattle.wit_model.specs.declared.error.Error.TheVariants as errors
 
 -- Data means one world and says one encoding at most.
 abbrev pub SectionsMeanOnce : Type 0

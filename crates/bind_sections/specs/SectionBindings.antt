@@ -1,20 +1,14 @@
 -- What the data of one section binds that carries a world (wit-component README, "Custom Section Format").
 use Rattle.std.specs.Prelude.{◌≡◌, ◌↔◌, ◌≤◌, ℕ, List, [], ◌∷◌, length, Ok, Err}
-use Rattle.wit_model.specs.declared.error.Cause.{Cause}
-use Rattle.wit_model.specs.declared.error.Cause.TheVariants.{Truncated}
+use Rattle.wit_model.specs.declared.{error.Cause.Cause, error.Cause.TheVariants.Truncated, model.Resolve.Resolve, model.StringEncoding.StringEncoding}
 use Rattle.wit_model.specs.declared.error.Error.{Error}
-use Rattle.wit_model.specs.declared.error.Error.TheVariants as errors
-use Rattle.wit_model.specs.declared.model.Resolve.{Resolve}
-use Rattle.wit_model.specs.declared.model.StringEncoding.{StringEncoding}
-use Rattle.wit_model.specs.Meaning.{WorldPackage}
-use Rattle.wit_model.specs.Meant.{MeantWorld}
+use Rattle.wit_model.specs.{Meaning.WorldPackage, Meant.MeantWorld}
 use Rattle.comp_meaning.specs.Reads.{ReadsWorld}
 use Rattle.wit_bind.specs.declared.bindgen.Bindgen.{Bindgen}
 use Rattle.wit_bind.specs.Functions.{MapsFunctions, exports_of, imports_of}
-use Rattle.comp_read.specs.DecodedWorlds.{IsDecodedWorld, MeansNoWorld}
-use Rattle.comp_read.specs.Order.{FollowsBytes}
-use Rattle.wit_metadata.specs.Carried.{CarriesEncoding, MeansWorld}
-use Rattle.wit_metadata.specs.Said.{AnswersSaid}
+use Rattle.comp_read.specs.{DecodedWorlds.IsDecodedWorld, DecodedWorlds.MeansNoWorld, Order.FollowsBytes}
+use Rattle.wit_metadata.specs.{Carried.CarriesEncoding, Carried.MeansWorld, Said.AnswersSaid}
+use Rattle.wit_model.specs.declared.error.Error.TheVariants as errors
 
 -- The bindings are of the world that the data means by itself, in the order in which the data shows it, and each function of its imports and its exports has
 -- the encoding that the data says.

@@ -1,13 +1,8 @@
 -- How a module is read, section by section, and what is known then.
 use Rattle.std.specs.Prelude.{◌≡◌, ◌⊎◌, ℕ, List, [], ◌∷◌, ◌++◌, length}
-use Rattle.wit_model.specs.declared.error.Error.{Error}
-use Rattle.wit_model.specs.declared.model.StringEncoding.{StringEncoding}
+use Rattle.wit_model.specs.declared.{error.Error.Error, model.StringEncoding.StringEncoding}
 use Rattle.wit_model.specs.Meaning.{WorldPackage}
-use Rattle.bind_meaning.specs.Binding.{Binding}
-use Rattle.bind_meaning.specs.ByMeaning.{binding_of_world}
-use Rattle.bind_meaning.specs.Clash.{CanUnite}
-use Rattle.bind_meaning.specs.Roots.{root_binding}
-use Rattle.bind_meaning.specs.Union.{union}
+use Rattle.bind_meaning.specs.{Binding.Binding, ByMeaning.binding_of_world, Clash.CanUnite, Roots.root_binding, Union.union}
 use Rattle.wit_metadata.specs.Modules.{AreSections, Carries, Framed, IsFrontless, IsInFront, module_preamble}
 use Rattle.bind_sections.specs.SectionBindings.{RefusesSection}
 use Rattle.bind_sections.specs.Bound.{Binds, CarryData, IsBound, IsClashError, IsLeftOver, IsRefused, SectionMeans}

@@ -1,32 +1,18 @@
 -- The bound world means what it meant, followed by what is new in the other's bound world.
 use Rattle.std.proofs.Common.{◌≡◌, refl, sym, ap, subst, ◌∙◌, ℕ, arith, Bool, true, false, cond, List, [], ◌∷◌, ◌++◌, map, filter, Some, None, is_none, is_some}
-use Rattle.std.specs.List.{Contains, AllByRecursion, IsDistinct}
-use Rattle.std.specs.FinMap.{find}
-use Rattle.wit_model.specs.declared.model.Resolve.{Resolve}
-use Rattle.wit_model.specs.declared.model.Interface.{Interface}
-use Rattle.wit_model.specs.declared.model.WorldKey.{WorldKey}
-use Rattle.wit_model.specs.declared.model.WorldItem.{WorldItem}
-use Rattle.wit_model.specs.Text.{Text, text_eq, text_cmp}
-use Rattle.wit_model.specs.Lookup.{interface_at, interface_path, key_text}
-use Rattle.wit_model.specs.Meaning.{Entry, InterfaceMeaning}
-use Rattle.wit_model.specs.Meant.{entry_meaning, entries_meaning, world_meaning}
-use Rattle.wit_model.specs.Valid.{Keeps, KeepsRules}
-use Rattle.wit_model.specs.Checks.{references}
+use Rattle.std.proofs.lemmas.{List.map-append, Simd.map-map, List.Elements.Contains-append_right as behind}
+use Rattle.std.specs.{List.Contains, List.AllByRecursion, List.IsDistinct, FinMap.find}
+use Rattle.wit_model.specs.declared.model.{Resolve.Resolve, Interface.Interface, WorldKey.WorldKey, WorldItem.WorldItem}
+use Rattle.wit_model.specs.{Text.Text, Text.text_eq, Text.text_cmp, Meaning.Entry, Meaning.InterfaceMeaning, Valid.Keeps, Valid.KeepsRules, Checks.references}
+use Rattle.wit_model.specs.{Lookup.interface_at, Lookup.interface_path, Lookup.key_text, Meant.entry_meaning, Meant.entries_meaning, Meant.world_meaning}
 use Rattle.wit_model.specs.Rules.{entries_in_range}
-use Rattle.wit_model.proofs.Distinct.{text_eq_flip}
-use Rattle.wit_model.proofs.Maps.{there_some}
+use Rattle.wit_model.proofs.{Distinct.text_eq_flip, Maps.there_some}
 use Rattle.bind_meaning.specs.Union.{followed_by}
-use Rattle.std.proofs.lemmas.List.{map-append}
-use Rattle.std.proofs.lemmas.Simd.{map-map}
 use Rattle.bind_union.specs.Carried.{Renumbering, IsCarried}
-use Rattle.bind_union.specs.Joined.{Joined, none, met, added}
-use Rattle.bind_union.specs.Meanings.{HaveDistinctTexts, BoundMeans}
-use Rattle.bind_union.proofs.Namesakes.{entry_under, find_is}
-use Rattle.bind_union.proofs.Itself.{itself, carried_itself, joined_itself, world_range}
-use Rattle.bind_union.proofs.Kept.{below}
-use Rattle.bind_union.proofs.Meanings.{has_path, key_means, item_means, entries_mean}
+use Rattle.bind_union.specs.{Joined.Joined, Joined.none, Joined.met, Joined.added, Meanings.HaveDistinctTexts, Meanings.BoundMeans}
+use Rattle.bind_union.proofs.{Namesakes.entry_under, Namesakes.find_is, Meanings.has_path, Meanings.key_means, Meanings.item_means, Meanings.entries_mean}
+use Rattle.bind_union.proofs.{Itself.itself, Itself.carried_itself, Itself.joined_itself, Itself.world_range, Kept.below}
 use Rattle.base_lemmas.proofs.Elements.{all_at, contains-later, contains-map}
-use Rattle.std.proofs.lemmas.List.Elements.{Contains-append_right as behind}
 
 abbrev texts : Resolve → List (WorldKey × WorldItem) → List Text
 texts r es = map (λ (e : WorldKey × WorldItem). key_text r e.0) es

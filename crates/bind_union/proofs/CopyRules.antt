@@ -1,63 +1,36 @@
 -- What the rules ask of a type, of a function and of an entry of a world holds of its copy.
 use Rattle.std.proofs.Common.{◌≡◌, inl, refl, sym, ap, ◌∙◌, ℕ, Bool, true, false, ◌&&◌, ◌||◌, not, nat_lt, nat_le, ltb-true, List, map, Option, Some, None, option_map, option_to_list, is_some, filter_map, subst, cond, ◌==◌, [], ◌∷◌, ◌++◌, option_and_then, is_none, slice_get}
-use Rattle.std.specs.Prelude.{String, ◌^◌, codes, if◌then◌else◌}
+use Rattle.std.proofs.lemmas.{Bool.or_left, Bool.or_right, Bool.lt-ltb, Bool.and_from as both, List.Folds.list_all-map, List.Folds.list_all-append}
+use Rattle.std.proofs.lemmas.{Option.slice_get_within, Option.slice_get-map, Simd.map-map, List.map-append}
+use Rattle.std.specs.{Prelude.String, Prelude.◌^◌, Prelude.codes, Prelude.if◌then◌else◌, List.list_all, List.flat_map, Option.option_map_or}
 use Rattle.std.specs.declared.alloc.Global.{Global}
-use Rattle.std.specs.List.{list_all, flat_map}
-use Rattle.std.specs.Option.{option_map_or}
-use Rattle.std.proofs.lemmas.Bool.{or_left, or_right, lt-ltb, and_from as both}
-use Rattle.std.proofs.lemmas.List.Folds.{list_all-map, list_all-append}
 use Rattle.semver.specs.declared.Version.{Version}
-use Rattle.semver.specs.Identifiers.{parts_of}
-use Rattle.semver.specs.Grammar.{is_pre_release, is_build}
-use Rattle.wit_model.specs.declared.model.Resolve.{Resolve}
-use Rattle.wit_model.specs.declared.model.TypeOwner.{TypeOwner}
-use Rattle.wit_model.specs.declared.model.TypeOwner.TheVariants as owner
-use Rattle.wit_model.specs.declared.model.Stability.{Stability}
-use Rattle.wit_model.specs.declared.model.Stability.TheVariants as stability
-use Rattle.wit_model.specs.declared.model.«Type».{«Type» as ValueType}
-use Rattle.wit_model.specs.Text.{text_of, optional_text, Text, text_eq}
-use Rattle.wit_model.specs.Names.{is_label, is_version, constructor_name, method_name, static_name}
-use Rattle.wit_model.specs.Lookup.{type_at, interface_at, resource_of}
-use Rattle.wit_model.specs.Tree.{levels}
-use Rattle.wit_model.specs.Types.{number_of}
+use Rattle.semver.specs.{Identifiers.parts_of, Grammar.is_pre_release, Grammar.is_build}
+use Rattle.wit_model.specs.declared.model.{Resolve.Resolve, TypeOwner.TypeOwner, «Type».«Type» as ValueType, TypeDefKind.TypeDefKind, FunctionKind.FunctionKind}
+use Rattle.wit_model.specs.declared.model.{Stability.Stability, TypeDef.TypeDef, Function.Function, Param.Param, WorldKey.WorldKey, WorldItem.WorldItem}
+use Rattle.wit_model.specs.{Text.text_of, Text.optional_text, Text.Text, Text.text_eq, Uses.alias_target, Uses.owner_interface, Uses.item_interface}
+use Rattle.wit_model.specs.{Names.is_label, Names.is_version, Names.constructor_name, Names.method_name, Names.static_name, Types.number_of, Checks.references}
+use Rattle.wit_model.specs.{Lookup.type_at, Lookup.interface_at, Lookup.resource_of, Tree.levels}
 use Rattle.wit_model.specs.Parts.{kind_numbers, member_types, handled, met_by, met_of, is_resource, is_resource_type, same_owner, has_owner, used_by_type, function_types, function_numbers, used_by_values, used_by_function}
-use Rattle.wit_model.specs.Uses.{alias_target, owner_interface, item_interface}
 use Rattle.wit_model.specs.Rules.{passes, is_stability, are_member_labels, is_named_kind, is_named_number, is_shallow, is_use, in_list, is_id, is_freestanding, function_labels, function_stays, function_in_range, is_resource_itself, resource_name, is_own_of, is_borrow_of, type_is, is_result_of_own, constructs, takes_self, after_prefix, is_member_name, is_member_of, is_member, text_is, key_in_range, item_in_range, key_label, item_labels, is_name_key, is_interface_key, is_own_type, import_stands, export_stands}
 use Rattle.wit_model.specs.Valid.{Keeps, KeepsRules, labels, owners, shapes, named_kinds, handles, depths, as_world, item_function}
-use Rattle.wit_model.specs.Checks.{references}
-use Rattle.wit_model.proofs.Lists.{list_all_filter_map}
-use Rattle.wit_model.proofs.Checks.{below_at}
-use Rattle.bind_union.specs.Views.{renamed_type, kind_view}
+use Rattle.wit_model.proofs.{Lists.list_all_filter_map, TextLemmas.some_alike as named_alike, PartsLemmas.owner_itself, PartsLemmas.owner_same as owner_equal}
+use Rattle.wit_model.proofs.{Checks.below_at, ValidLemmas.type_passes}
+use Rattle.bind_union.specs.{Views.renamed_type, Views.kind_view, Images.HasImageKind, Joined.Joined, Joined.none, Joined.met, Joined.added}
 use Rattle.bind_union.specs.Carried.{Renumbering, StabilityView, unknown, stable, unstable, stability_view, owner_under, carries_owner, copies_owner, IsType, IsTypeCopy, IsCarried, call_under, IsFunctionCopy, KeyBecomes, ItemBecomes, EntryBecomes, IsInterface}
-use Rattle.bind_union.proofs.Lists.{no_true}
+use Rattle.bind_union.proofs.{Lists.no_true, Carrying.references_of, Carrying.kind_carried, Carrying.type_tree_same, Carrying.used_same, Carrying.image_kind}
 use Rattle.bind_union.proofs.ViewTests.{types_same, handled_same, alias_same, labels_same, shape_same, named_same, numbers_same, view_ok, ok_by_view, ok_under, own_kept, borrow_kept, numbers_under, number_under, one_given}
-use Rattle.bind_union.proofs.Carrying.{references_of, kind_carried, type_tree_same, used_same, image_kind}
-use Rattle.bind_union.proofs.Homes as homes
 use Rattle.bind_union.proofs.Homes.{alias_of_all, handled_of_all, members_of_all, resource_same_at, resource_type_same, owner_stays, owner_apart, alias_there, all_given}
-use Rattle.base_lemmas.proofs.Bools.{left_of as first_true, right_of as second_true}
-use Rattle.base_lemmas.proofs.Elements.{all_two}
-use Rattle.wit_model.proofs.TextLemmas.{some_alike as named_alike}
-use Rattle.wit_model.proofs.ValidLemmas.{type_passes}
-use Rattle.std.proofs.lemmas.Option.{slice_get_within, slice_get-map}
-use Rattle.wit_model.specs.declared.model.TypeDef.{TypeDef}
-use Rattle.wit_model.specs.declared.model.TypeDefKind.{TypeDefKind}
-use Rattle.wit_model.specs.declared.model.TypeDefKind.TheVariants as kind
-use Rattle.wit_model.specs.declared.model.Function.{Function}
-use Rattle.wit_model.specs.declared.model.FunctionKind.{FunctionKind}
-use Rattle.wit_model.specs.declared.model.FunctionKind.TheVariants as call
-use Rattle.wit_model.specs.declared.model.Param.{Param}
-use Rattle.wit_model.specs.declared.model.Handle.TheVariants as handle
-use Rattle.std.proofs.lemmas.Simd.{map-map}
-use Rattle.std.proofs.lemmas.List.{map-append}
-use Rattle.bind_union.specs.Images.{HasImageKind}
+use Rattle.base_lemmas.proofs.{Bools.left_of as first_true, Bools.right_of as second_true, Elements.all_two, Numbers.equal, Numbers.same-number}
 use Rattle.base_lemmas.proofs.Options.{none_is}
-use Rattle.base_lemmas.proofs.Numbers.{equal, same-number}
-use Rattle.wit_model.proofs.PartsLemmas.{owner_itself, owner_same as owner_equal}
-use Rattle.wit_model.specs.declared.model.WorldKey.{WorldKey}
+use Rattle.wit_model.specs.declared.model.TypeOwner.TheVariants as owner
+use Rattle.wit_model.specs.declared.model.Stability.TheVariants as stability
+use Rattle.bind_union.proofs.Homes as homes
+use Rattle.wit_model.specs.declared.model.TypeDefKind.TheVariants as kind
+use Rattle.wit_model.specs.declared.model.FunctionKind.TheVariants as call
+use Rattle.wit_model.specs.declared.model.Handle.TheVariants as handle
 use Rattle.wit_model.specs.declared.model.WorldKey.TheVariants as key
-use Rattle.wit_model.specs.declared.model.WorldItem.{WorldItem}
 use Rattle.wit_model.specs.declared.model.WorldItem.TheVariants as item
-use Rattle.bind_union.specs.Joined.{Joined, none, met, added}
 
 -- ---- texts
 

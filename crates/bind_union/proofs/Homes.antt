@@ -1,32 +1,18 @@
 -- What is carried keeps its owner, and a resource stays one.
 use Rattle.std.proofs.Common.{◌&&◌, ◌≡◌, ◌⊎◌, inl, inr, refl, sym, ap, subst, ◌∙◌, ℕ, zero, suc, ◌<◌, arith, Bool, true, false, ◌||◌, ◌==◌, nat_lt, ltb-true, ◌++◌, Option, Some, None, option_map, option_to_list, filter_map}
-use Rattle.std.specs.List.{list_all}
-use Rattle.std.specs.Option.{option_map_or}
 use Rattle.std.proofs.lemmas.List.Folds.{list_all-append}
-use Rattle.wit_model.specs.declared.model.Resolve.{Resolve}
-use Rattle.wit_model.specs.declared.model.TypeDef.{TypeDef}
-use Rattle.wit_model.specs.declared.model.TypeDefKind.{TypeDefKind}
-use Rattle.wit_model.specs.declared.model.TypeDefKind.TheVariants as kind
-use Rattle.wit_model.specs.declared.model.TypeOwner.{TypeOwner}
-use Rattle.wit_model.specs.declared.model.TypeOwner.TheVariants as owner
-use Rattle.wit_model.specs.declared.model.«Type».{«Type» as ValueType}
-use Rattle.wit_model.specs.Types.{number_of}
+use Rattle.std.specs.{List.list_all, Option.option_map_or}
+use Rattle.wit_model.specs.declared.model.{Resolve.Resolve, TypeDef.TypeDef, TypeDefKind.TypeDefKind, TypeOwner.TypeOwner, «Type».«Type» as ValueType}
+use Rattle.wit_model.specs.{Types.number_of, Uses.alias_target, Rules.passes, Rules.is_resource_itself, Valid.Keeps, Valid.KeepsRules, Checks.references}
 use Rattle.wit_model.specs.Parts.{kind_numbers, member_types, handled, is_resource, is_resource_type, is_resource_kind, same_owner, has_owner}
-use Rattle.wit_model.specs.Uses.{alias_target}
-use Rattle.wit_model.specs.Rules.{passes, is_resource_itself}
-use Rattle.wit_model.specs.Valid.{Keeps, KeepsRules}
-use Rattle.wit_model.specs.Checks.{references}
-use Rattle.wit_model.proofs.Checks.{below_at}
-use Rattle.wit_model.proofs.Resources.{resource_step}
-use Rattle.bind_union.specs.Views.{renamed_type}
-use Rattle.bind_union.specs.Images.{HasImageKind}
+use Rattle.wit_model.proofs.{Checks.below_at, Resources.resource_step, PartsLemmas.owner_itself, PartsLemmas.owner_same as owner_equal}
+use Rattle.bind_union.specs.{Views.renamed_type, Images.HasImageKind}
 use Rattle.bind_union.specs.Carried.{Renumbering, Rises, owner_under, carries_owner, IsNamesake, IsType, IsCarried}
 use Rattle.bind_union.proofs.Lists.{no_true}
-use Rattle.bind_union.proofs.ViewTests.{alias_same, resource_same, number_under}
-use Rattle.bind_union.proofs.Carrying.{references_of, kind_carried}
-use Rattle.base_lemmas.proofs.Bools.{left_of as first_true, right_of as second_true, and-true}
-use Rattle.base_lemmas.proofs.Numbers.{equal, same-number}
-use Rattle.wit_model.proofs.PartsLemmas.{owner_itself, owner_same as owner_equal}
+use Rattle.bind_union.proofs.{ViewTests.alias_same, ViewTests.resource_same, ViewTests.number_under, Carrying.references_of, Carrying.kind_carried}
+use Rattle.base_lemmas.proofs.{Bools.left_of as first_true, Bools.right_of as second_true, Bools.and-true, Numbers.equal, Numbers.same-number}
+use Rattle.wit_model.specs.declared.model.TypeDefKind.TheVariants as kind
+use Rattle.wit_model.specs.declared.model.TypeOwner.TheVariants as owner
 
 -- ---- kinds
 

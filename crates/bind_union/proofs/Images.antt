@@ -1,29 +1,19 @@
 -- Types under other numbers stand for the same trees.
 use Rattle.std.proofs.Common.{◌≡◌, refl, sym, ap, ◌∙◌, ℕ, zero, suc, ◌<◌, Bool, true, nat_lt, List, [], ◌∷◌, ◌++◌, map, arith, ltb-true, append-nil, Option, Some, None, option_map, unwrap_or}
-use Rattle.std.specs.Prelude.{String, option_to_list}
-use Rattle.std.specs.declared.alloc.Global.{Global}
-use Rattle.std.specs.List.{list_all, flat_map, filter_map, cons_option}
 use Rattle.std.proofs.lemmas.List.Elements.{filter_map-append}
-use Rattle.std.specs.Option.{option_map_or}
-use Rattle.wit_model.specs.declared.model.Resolve.{Resolve}
-use Rattle.wit_model.specs.declared.model.TypeDef.{TypeDef}
-use Rattle.wit_model.specs.declared.model.TypeDefKind.{TypeDefKind}
-use Rattle.wit_model.specs.declared.model.TypeDefKind.TheVariants as kind
-use Rattle.wit_model.specs.declared.model.«Type».{«Type» as ValueType}
-use Rattle.wit_model.specs.declared.model.«Type».TheVariants as ty
-use Rattle.wit_model.specs.declared.model.Handle.TheVariants as handle
-use Rattle.wit_model.specs.Text.{Text, text_of, optional_text}
-use Rattle.wit_model.specs.Lookup.{type_at, place_of}
-use Rattle.wit_model.specs.declared.model.Field.{Field}
-use Rattle.wit_model.specs.declared.model.Case.{Case}
+use Rattle.std.specs.{Prelude.String, Prelude.option_to_list, List.list_all, List.flat_map, List.filter_map, List.cons_option, Option.option_map_or}
+use Rattle.std.specs.declared.alloc.Global.{Global}
+use Rattle.wit_model.specs.declared.model.{Resolve.Resolve, TypeDef.TypeDef, TypeDefKind.TypeDefKind, «Type».«Type» as ValueType, Field.Field, Case.Case}
+use Rattle.wit_model.specs.{Text.Text, Text.text_of, Text.optional_text, Lookup.type_at, Lookup.place_of, Parts.kind_numbers}
 use Rattle.wit_model.specs.Tree.{Tree, Place, named, type_, record_tree, variant_tree, tuple_tree, option_tree, result_tree, list_tree, map_tree, fixed_list_tree, future_tree, stream_tree, own_tree, borrow_tree}
 use Rattle.wit_model.specs.Types.{no_tree, number_of, tree_at, tree_of, declared_by, tree_of_definition, tree_of_declaration, trees_of, number_tree, declaration_of}
-use Rattle.wit_model.specs.Parts.{kind_numbers}
 use Rattle.wit_model.proofs.TreeTable.{trees_at}
 use Rattle.bind_union.specs.Views.{KindView, record_view, variant_view, tuple_view, own_view, borrow_view, option_view, result_view, list_view, map_view, fixed_list_view, future_view, stream_view, alias_view, kind_view, renamed_type, renamed, declared_view, type_numbers, optional_numbers, view_numbers}
 use Rattle.bind_union.specs.Images.{HasImageKind, IsCarriedType, AreCarried, RefersBelow, SameTrees, SameDeclarations}
-use Rattle.base_lemmas.proofs.Bools.{left_of as first_true, right_of as second_true}
-use Rattle.base_lemmas.proofs.Lists.{map_of_map as mapped_twice}
+use Rattle.base_lemmas.proofs.{Bools.left_of as first_true, Bools.right_of as second_true, Lists.map_of_map as mapped_twice}
+use Rattle.wit_model.specs.declared.model.TypeDefKind.TheVariants as kind
+use Rattle.wit_model.specs.declared.model.«Type».TheVariants as ty
+use Rattle.wit_model.specs.declared.model.Handle.TheVariants as handle
 
 -- ---- by the view
 

@@ -1,44 +1,26 @@
 -- What an interface uses, and what the rules ask of it, holds of its copy, with its numbers in order.
 use Rattle.std.proofs.Common.{◌≡◌, refl, sym, ap, subst, ◌∙◌, ℕ, Bool, true, false, not, ◌==◌, List, [], map, Option, Some, None, option_map, option_and_then, option_to_list, slice_get, ◌+◌, ◌||◌, cond, ◌∷◌, ◌++◌, inl, ◌&&◌, nat_lt, ltb-true, is_some}
-use Rattle.std.specs.List.{list_all, Contains, AllZip, list_any}
-use Rattle.std.specs.Option.{option_map_or}
+use Rattle.std.proofs.lemmas.{Option.same_Some as same-some, Bool.or_right, Bool.and_from as both, Bool.lt-ltb, List.Sums.sum_by-cons, List.Folds.list_all-map}
+use Rattle.std.proofs.lemmas.Simd.{map-map}
+use Rattle.std.specs.{List.list_all, List.Contains, List.AllZip, List.list_any, Option.option_map_or, Prelude.count_by, Prelude.String}
 use Rattle.indexmap.specs.IndexMap.{values, keys}
-use Rattle.wit_model.specs.declared.model.Resolve.{Resolve}
-use Rattle.wit_model.specs.declared.model.Interface.{Interface}
-use Rattle.wit_model.specs.declared.model.TypeId.{TypeId}
-use Rattle.wit_model.specs.declared.model.TypeOwner.{TypeOwner}
-use Rattle.wit_model.specs.declared.model.TypeOwner.TheVariants as owner
-use Rattle.wit_model.specs.Lookup.{interface_at, type_at}
+use Rattle.wit_model.specs.declared.model.{Resolve.Resolve, Interface.Interface, TypeId.TypeId, TypeOwner.TypeOwner, Function.Function}
+use Rattle.wit_model.specs.{Lookup.interface_at, Lookup.type_at, Checks.references, Names.is_label}
 use Rattle.wit_model.specs.Uses.{has, once, alias_target, owner_interface, used_interface, interface_used_by, interfaces_used_by, direct_deps}
 use Rattle.wit_model.specs.Rules.{passes, interface_type_numbers, each_after, is_stability, function_labels, is_named_of, used_by_number, are_in_order, function_stays, is_shallow, is_member}
 use Rattle.wit_model.specs.Valid.{Keeps, KeepsRules, as_interface, functions_of_interface, labels, order_of_types, owners, handles, depths, function_names}
-use Rattle.wit_model.specs.Checks.{references}
-use Rattle.wit_model.proofs.Elements.{has-contains, contains-has, contains-filter_map}
-use Rattle.wit_model.proofs.Chains.{has_once, all_has as passes_at}
+use Rattle.wit_model.specs.{Text.Text, Text.text_of, Text.text_eq, Parts.function_types, Parts.is_resource_type, Parts.same_owner, Parts.used_by_type}
+use Rattle.wit_model.proofs.{Elements.has-contains, Elements.contains-has, Elements.contains-filter_map, Chains.has_once, Chains.all_has as passes_at}
+use Rattle.wit_model.proofs.{UsesLemmas.has_filter, UsesLemmas.filter_has, UsesLemmas.all_from_has, TextLemmas.some_alike as named_alike}
+use Rattle.wit_model.proofs.{RulesLemmas.after_of_map, OnePath.interface-passes, PartsLemmas.owner_itself, PartsLemmas.owner_same as owner_equal}
 use Rattle.bind_meaning.proofs.Listed.{from-map}
 use Rattle.bind_union.specs.Carried.{Renumbering, owner_under, carries_owner, IsType, IsInterface, IsCarried, Rises, IsFunctionEntry, IsInterfaceCopy}
-use Rattle.bind_union.proofs.Lists.{no_true}
-use Rattle.wit_model.proofs.UsesLemmas.{has_filter, filter_has, all_from_has}
-use Rattle.bind_union.proofs.Homes.{alias_there, apart}
-use Rattle.base_lemmas.proofs.Elements.{contains-map, contains-one, filter_map_from, get-contains, all_two, any_of_map as list_any_mapped, zip_map}
-use Rattle.base_lemmas.proofs.Numbers.{equal, same-number}
-use Rattle.std.proofs.lemmas.Option.{same_Some as same-some}
-use Rattle.std.specs.Prelude.{count_by, String}
-use Rattle.std.proofs.lemmas.Bool.{or_right, and_from as both, lt-ltb}
-use Rattle.std.proofs.lemmas.List.Sums.{sum_by-cons}
-use Rattle.base_lemmas.proofs.Bools.{left_of as first_true, right_of as second_true}
-use Rattle.wit_model.proofs.RulesLemmas.{after_of_map}
-use Rattle.std.specs.declared.alloc.Global.{Global}
-use Rattle.std.proofs.lemmas.List.Folds.{list_all-map}
-use Rattle.wit_model.specs.declared.model.Function.{Function}
-use Rattle.wit_model.specs.Text.{Text, text_of, text_eq}
-use Rattle.wit_model.specs.Names.{is_label}
-use Rattle.wit_model.specs.Parts.{function_types, is_resource_type, same_owner, used_by_type}
-use Rattle.std.proofs.lemmas.Simd.{map-map}
-use Rattle.wit_model.proofs.OnePath.{interface-passes}
+use Rattle.bind_union.proofs.{Lists.no_true, Homes.alias_there, Homes.apart}
 use Rattle.bind_union.proofs.CopyRules.{label_alike, stability_alike, used, used_there, function_labels_pass, function_stays_passes, function_handles_pass, function_depths_pass, member_passes}
-use Rattle.wit_model.proofs.PartsLemmas.{owner_itself, owner_same as owner_equal}
-use Rattle.wit_model.proofs.TextLemmas.{some_alike as named_alike}
+use Rattle.base_lemmas.proofs.Elements.{contains-map, contains-one, filter_map_from, get-contains, all_two, any_of_map as list_any_mapped, zip_map}
+use Rattle.base_lemmas.proofs.{Numbers.equal, Numbers.same-number, Bools.left_of as first_true, Bools.right_of as second_true}
+use Rattle.std.specs.declared.alloc.Global.{Global}
+use Rattle.wit_model.specs.declared.model.TypeOwner.TheVariants as owner
 
 -- what each number of a list passes, all pass
 

@@ -1,57 +1,31 @@
 -- Each type, interface and world of what was merged is a copy, of an own one or of one of the other's, and so most rules are kept.
 use Rattle.std.proofs.Common.{◌≡◌, inl, inr, refl, sym, ap, subst, ◌∙◌, ℕ, ◌<◌, Bool, true, false, ◌==◌, nat_lt, ltb-true, [], length, Some, ◌&&◌, not, List, ◌++◌, ◌≤◌, arith, ◌||◌, Option, None, filter_map, map, option_map}
-use Rattle.std.specs.List.{list_all}
-use Rattle.std.proofs.lemmas.Bool.{lt-ltb, cases_lt as low_or_high, and_from as both}
-use Rattle.std.proofs.lemmas.Option.{slice_get_within, same_Some as same-some}
-use Rattle.std.proofs.lemmas.List.Folds.{list_all-map, list_all-append}
-use Rattle.wit_model.specs.declared.model.Resolve.{Resolve}
-use Rattle.wit_model.specs.declared.model.Interface.{Interface}
-use Rattle.wit_model.specs.declared.model.World.{World}
-use Rattle.wit_model.specs.declared.model.TypeDef.{TypeDef}
-use Rattle.wit_model.specs.Lookup.{interface_at, world_at, type_at}
-use Rattle.wit_model.specs.Parts.{kind_numbers, function_types, is_resource_type, same_owner}
+use Rattle.std.proofs.lemmas.{Bool.lt-ltb, Bool.cases_lt as low_or_high, Bool.and_from as both, Option.slice_get_within, Option.same_Some as same-some}
+use Rattle.std.proofs.lemmas.{List.Folds.list_all-map, List.Folds.list_all-append, List.map-append}
+use Rattle.std.specs.{List.list_all, Prelude.String, Prelude.count_by, Prelude.option_and_then, Map.lookup, Option.option_map_or}
+use Rattle.wit_model.specs.declared.model.{Resolve.Resolve, Interface.Interface, Function.Function, WorldKey.WorldKey, WorldItem.WorldItem, TypeOwner.TypeOwner}
+use Rattle.wit_model.specs.declared.model.{World.World, TypeDef.TypeDef, TypeId.TypeId}
+use Rattle.wit_model.specs.{Lookup.interface_at, Lookup.world_at, Lookup.type_at, Checks.references, Names.is_label, Uses.has}
+use Rattle.wit_model.specs.{Parts.kind_numbers, Parts.function_types, Parts.is_resource_type, Parts.same_owner, Text.text_of, Text.Text, Text.optional_text}
 use Rattle.wit_model.specs.Rules.{each_from, passes, each_after, is_stability, entries_labels, is_name_key, is_shallow, is_member, function_stays, import_stands, export_stands, uses_stand_before, is_id, in_list, entries_in_range, item_type, world_type_numbers, is_named_of, is_listed, is_listed_in_interface, is_listed_in_world, used_by_number, are_in_order, package_number, owner_in_range, function_in_range, interface_type_numbers, key_in_range, item_in_range}
 use Rattle.wit_model.specs.Valid.{Keeps, KeepsRules, as_world, item_function, functions_of_world, labels, owners, shapes, named_kinds, handles, depths, function_names, world_items, order_of_items, order_of_types, is_place, functions_of_interface, numbers_in_range}
-use Rattle.wit_model.specs.Checks.{references}
-use Rattle.wit_model.proofs.Checks.{below_at}
-use Rattle.wit_model.proofs.Entries.{types_keep, free_passes}
-use Rattle.wit_model.proofs.OnePath.{found-in}
+use Rattle.wit_model.proofs.{Checks.below_at, OnePath.found-in, RulesLemmas.each_by_number, Elements.none-in}
+use Rattle.wit_model.proofs.{Entries.types_keep, Entries.free_passes, Shown.after_append, ValidLemmas.world_passes as world-passes, ValidLemmas.type_passes}
 use Rattle.bind_union.specs.Carried.{Renumbering, IsCarried, EntryBecomes, IsFunctionCopy, owner_under, copies_owner, IsType, carries_owner}
-use Rattle.bind_union.specs.Joined.{IsJoined, Joined}
-use Rattle.bind_union.specs.Merged.{IsCopyUnder, IsMerged}
-use Rattle.bind_union.proofs.Images.{numbers_of_view}
-use Rattle.bind_union.proofs.ViewTests.{numbers_same}
-use Rattle.bind_union.proofs.Carrying.{interface_package, references_of}
+use Rattle.bind_union.specs.{Joined.IsJoined, Joined.Joined, Merged.IsCopyUnder, Merged.IsMerged}
+use Rattle.bind_union.proofs.{Images.numbers_of_view, ViewTests.numbers_same, KeptPackages.kept, KeptPackages.all_stand, KeptPackages.ranges_hold}
+use Rattle.bind_union.proofs.{Carrying.interface_package, Carrying.references_of, Listed.listed_in_interface, Listed.listed_in_world, Listed.stays_listed}
 use Rattle.bind_union.proofs.Itself.{world_package, get_begin, itself, carried_itself, joined_itself, world_range, map_same}
-use Rattle.base_lemmas.proofs.Elements.{all_weaker, all_two}
-use Rattle.base_lemmas.proofs.Numbers.{unequal, equal}
-use Rattle.wit_model.proofs.RulesLemmas.{each_by_number}
-use Rattle.wit_model.specs.declared.model.Function.{Function}
-use Rattle.wit_model.specs.declared.model.WorldKey.{WorldKey}
-use Rattle.wit_model.specs.declared.model.WorldItem.{WorldItem}
-use Rattle.wit_model.specs.Text.{text_of, Text, optional_text}
-use Rattle.wit_model.specs.Names.{is_label}
-use Rattle.wit_model.proofs.Elements.{none-in}
 use Rattle.bind_union.proofs.Lists.{no_true}
 use Rattle.bind_union.proofs.CopyRules.{shape_passes, named_passes, handle_passes, depth_passes, label_passes, stay_passes, stability_alike, function_stays_passes, function_handles_pass, function_depths_pass, function_range_passes, added_pass, entry_function, entry_member, entry_import_stands, entry_export_stands, entry_range}
 use Rattle.bind_union.proofs.InterfaceRules.{interface_labels_pass, interface_owners_pass, interface_handles_pass, interface_depths_pass, interface_members_pass, interface_order_passes, all_named_of, number_uses, type_numbers, all_copies, copies_carried, each_function, after_weaker}
 use Rattle.bind_union.proofs.WorldOrder.{items, number_in, walk, item_stands, numbers_append, types_in, none_added, past_range, range_types}
 use Rattle.bind_union.proofs.WorldRules.{on_function, by_entries, world_labels_pass, world_owners_pass, world_handles_pass, world_depths_pass, world_members_pass, world_items_pass, world_order_passes, world_types_pass, world_range_passes, all_true}
-use Rattle.base_lemmas.proofs.Bools.{left_of as first_true, right_of as second_true, or_false}
-use Rattle.wit_model.proofs.Shown.{after_append}
-use Rattle.wit_model.proofs.ValidLemmas.{world_passes as world-passes, type_passes}
-use Rattle.std.specs.Prelude.{String, count_by, option_and_then}
-use Rattle.std.specs.Map.{lookup}
+use Rattle.base_lemmas.proofs.{Elements.all_weaker, Elements.all_two, Bools.left_of as first_true, Bools.right_of as second_true, Bools.or_false}
+use Rattle.base_lemmas.proofs.Numbers.{unequal, equal}
 use Rattle.std.specs.declared.alloc.Global.{Global}
-use Rattle.std.specs.Option.{option_map_or}
-use Rattle.wit_model.specs.declared.model.TypeOwner.{TypeOwner}
-use Rattle.wit_model.specs.declared.model.TypeOwner.TheVariants as owner
-use Rattle.wit_model.specs.Uses.{has}
-use Rattle.std.proofs.lemmas.List.{map-append}
-use Rattle.bind_union.proofs.Listed.{listed_in_interface, listed_in_world, stays_listed}
 use Rattle.indexmap.specs.IndexMap.{values}
-use Rattle.wit_model.specs.declared.model.TypeId.{TypeId}
-use Rattle.bind_union.proofs.KeptPackages.{kept, all_stand, ranges_hold}
+use Rattle.wit_model.specs.declared.model.TypeOwner.TheVariants as owner
 
 -- a `Resolve` of which something is carried into this one
 pub record Source (s : Resolve) : Type 0 where

@@ -1,45 +1,26 @@
 -- In what was merged interfaces and worlds stand in their packages, and each inline interface in one world.
 use Rattle.std.proofs.Common.{◌≡◌, ◌⊎◌, inl, inr, refl, sym, ap, subst, ◌∙◌, ℕ, zero, suc, ◌<◌, ◌≤◌, ◌+◌, arith, Bool, true, false, ◌&&◌, ◌||◌, ◌==◌, not, List, [], ◌∷◌, ◌++◌, append-nil, length, filter_map, Option, Some, None, option_map, option_and_then, is_some}
-use Rattle.std.specs.Prelude.{String, sum_by}
-use Rattle.std.specs.declared.alloc.Global.{Global}
-use Rattle.std.specs.List.{list_all, Contains}
-use Rattle.std.specs.Option.{option_map_or, option_eq}
 use Rattle.std.proofs.lemmas.Bool.{false_from_ne_true, not-true, lt-ltb, or_left, or_right, and_from as both, cases_lt as low_or_high}
 use Rattle.std.proofs.lemmas.Option.{slice_get_within, same_Some as same-some}
-use Rattle.wit_model.specs.declared.model.Resolve.{Resolve}
-use Rattle.wit_model.specs.declared.model.Package.{Package}
-use Rattle.wit_model.specs.declared.model.PackageId.{PackageId}
-use Rattle.wit_model.specs.declared.model.Interface.{Interface}
+use Rattle.std.specs.{Prelude.String, Prelude.sum_by, List.list_all, List.Contains, Option.option_map_or, Option.option_eq}
+use Rattle.std.specs.declared.alloc.Global.{Global}
+use Rattle.wit_model.specs.declared.model.{Resolve.Resolve, Package.Package, PackageId.PackageId, Interface.Interface, WorldKey.WorldKey, WorldItem.WorldItem}
 use Rattle.wit_model.specs.declared.model.World.{World}
-use Rattle.wit_model.specs.declared.model.WorldKey.{WorldKey}
-use Rattle.wit_model.specs.declared.model.WorldItem.{WorldItem}
-use Rattle.wit_model.specs.Text.{Text, text_of, text_eq, optional_text}
-use Rattle.wit_model.specs.Lookup.{package_at, interface_at, world_at}
-use Rattle.wit_model.specs.Uses.{has, item_interface, items_of}
+use Rattle.wit_model.specs.{Text.Text, Text.text_of, Text.text_eq, Text.optional_text, Lookup.package_at, Lookup.interface_at, Lookup.world_at}
+use Rattle.wit_model.specs.{Uses.has, Uses.item_interface, Uses.items_of, Valid.Keeps, Valid.KeepsRules, Valid.places}
 use Rattle.wit_model.specs.Rules.{passes, each_from, in_list, is_id, package_number, interface_is_listed, world_is_listed, is_world_name, times_shown}
-use Rattle.wit_model.specs.Valid.{Keeps, KeepsRules, places}
-use Rattle.wit_model.proofs.Entries.{free_passes}
-use Rattle.wit_model.proofs.Elements.{none-in}
-use Rattle.wit_model.proofs.VersionLaws.{same_text}
-use Rattle.wit_model.proofs.OnePath.{found-in, interface-passes}
-use Rattle.bind_union.proofs.Listed.{under_text}
-use Rattle.bind_union.specs.Carried.{Renumbering, IsInterface}
-use Rattle.bind_union.specs.Joined.{Joined, IsJoined}
-use Rattle.bind_union.specs.Merged.{interface_names, world_names, is_name, IsJoinedPackage, PackageStands, grown, brought, IsKeptPackage, IsPackageOf, IsCopyUnder, AreCopies, IsWorldCopy, IsMerged}
-use Rattle.bind_union.proofs.Lists.{no_true}
+use Rattle.wit_model.proofs.{Entries.free_passes, Elements.none-in, VersionLaws.same_text, RulesLemmas.each_by_number}
+use Rattle.wit_model.proofs.{OnePath.found-in, OnePath.interface-passes, TextLemmas.text_same as text-same, ValidLemmas.world_passes as world-passes}
+use Rattle.bind_union.proofs.{Listed.under_text, Itself.world_package, Itself.get_begin, Itself.world_range, Kept.each_interface_of_three, Kept.each_world}
+use Rattle.bind_union.proofs.{Lists.no_true, Homes.apart, Carrying.interface_package}
 use Rattle.bind_union.proofs.WorldOrder.{items, numbers_append, interfaces_in, one_sums, one_of_sum, shown, times_are, counted_append, none_counted, none_added, past_range, range_interfaces, same_times}
-use Rattle.bind_union.proofs.Homes.{apart}
-use Rattle.bind_union.proofs.Itself.{world_package, get_begin, world_range}
-use Rattle.bind_union.proofs.Kept.{each_interface_of_three, each_world}
-use Rattle.bind_union.proofs.Carrying.{interface_package}
 use Rattle.bind_union.proofs.KeptPackages.{kept, is_interface_of, is_world_of, interfaces_stand, worlds_stand, all_stand, places_hold, found_option}
 use Rattle.bind_union.proofs.PackageNames.{added_from, name_append, interfaces_by_name, worlds_by_name, world_name_listed, found_name, still_found, copy_found, found_behind}
+use Rattle.bind_union.specs.{Carried.Renumbering, Carried.IsInterface, Joined.Joined, Joined.IsJoined}
+use Rattle.bind_union.specs.Merged.{interface_names, world_names, is_name, IsJoinedPackage, PackageStands, grown, brought, IsKeptPackage, IsPackageOf, IsCopyUnder, AreCopies, IsWorldCopy, IsMerged}
 use Rattle.base_lemmas.proofs.Bools.{left_of as first_true, right_of as second_true, or_false}
 use Rattle.base_lemmas.proofs.Elements.{all-contained, all_by_number as all_by_get, get-contains}
 use Rattle.base_lemmas.proofs.Numbers.{differ, unequal, equal, same-number}
-use Rattle.wit_model.proofs.RulesLemmas.{each_by_number}
-use Rattle.wit_model.proofs.TextLemmas.{text_same as text-same}
-use Rattle.wit_model.proofs.ValidLemmas.{world_passes as world-passes}
 
 types_free : (s : Resolve) → each_from (places.type_ s) 0 s.types.items ≡ true
 unfolding places

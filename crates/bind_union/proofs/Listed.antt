@@ -1,33 +1,19 @@
 -- A copied type stands in its new owner's list under its name, once.
 use Rattle.std.proofs.Common.{◌≡◌, refl, sym, ap, ◌∙◌, ℕ, arith, Bool, true, false, ◌&&◌, ◌||◌, cond, not, ◌==◌, List, [], ◌∷◌, ◌++◌, map, Option, Some, None, option_map, option_and_then, filter_map}
-use Rattle.std.specs.Prelude.{count_by, bytes_eq}
-use Rattle.std.specs.List.{list_any}
-use Rattle.std.specs.Map.{lookup, keys_of}
-use Rattle.std.specs.HashMap.{get_by, get_by_text}
-use Rattle.wit_model.specs.declared.model.Resolve.{Resolve}
-use Rattle.wit_model.specs.declared.model.Interface.{Interface}
-use Rattle.wit_model.specs.declared.model.TypeId.{TypeId}
-use Rattle.wit_model.specs.declared.model.WorldKey.{WorldKey}
-use Rattle.wit_model.specs.declared.model.WorldKey.TheVariants as key
-use Rattle.wit_model.specs.declared.model.WorldItem.{WorldItem}
-use Rattle.wit_model.specs.Text.{Text, text_of, text_eq}
-use Rattle.wit_model.specs.Uses.{has}
+use Rattle.std.proofs.lemmas.Bool.{and_from as both}
+use Rattle.std.specs.{Prelude.count_by, Prelude.bytes_eq, List.list_any, Map.lookup, Map.keys_of, HashMap.get_by, HashMap.get_by_text}
+use Rattle.wit_model.specs.declared.model.{Resolve.Resolve, Interface.Interface, TypeId.TypeId, WorldKey.WorldKey, WorldItem.WorldItem}
+use Rattle.wit_model.specs.{Text.Text, Text.text_of, Text.text_eq, Uses.has, Valid.Keeps, Valid.KeepsRules, Checks.references}
 use Rattle.wit_model.specs.Rules.{is_id, is_name_key, item_type, interface_type_numbers, is_listed_in_interface, is_listed_in_world}
-use Rattle.wit_model.specs.Valid.{Keeps, KeepsRules}
-use Rattle.wit_model.specs.Checks.{references}
-use Rattle.wit_model.proofs.Distinct.{text_eq_flip}
+use Rattle.wit_model.proofs.{Distinct.text_eq_flip, TextLemmas.text_same as text-same}
 use Rattle.bind_union.specs.Carried.{Renumbering, KeyBecomes, IsInterface, IsCarried}
 use Rattle.bind_union.specs.Joined.{is_new, same_key, Joined, none, met, added, IsJoined}
-use Rattle.bind_union.proofs.Lists.{no_true}
+use Rattle.bind_union.proofs.{Lists.no_true, InterfaceRules.count_same, InterfaceRules.copies_carried, InterfaceRules.type_numbers, ViewTests.id_under}
 use Rattle.bind_union.proofs.Homes.{apart}
-use Rattle.bind_union.proofs.InterfaceRules.{count_same, copies_carried, type_numbers}
-use Rattle.bind_union.proofs.InterfaceRules as interface_rules
-use Rattle.bind_union.proofs.ViewTests.{id_under}
 use Rattle.bind_union.proofs.WorldOrder.{items, types_in, becomes, id_stands, counted_append, counted_numbers, none_counted, met_is_other, same_times}
-use Rattle.base_lemmas.proofs.Bools.{left_of as first_true, right_of as second_true}
-use Rattle.base_lemmas.proofs.Maps.{lookup_of_map}
-use Rattle.std.proofs.lemmas.Bool.{and_from as both}
-use Rattle.wit_model.proofs.TextLemmas.{text_same as text-same}
+use Rattle.base_lemmas.proofs.{Bools.left_of as first_true, Bools.right_of as second_true, Maps.lookup_of_map}
+use Rattle.wit_model.specs.declared.model.WorldKey.TheVariants as key
+use Rattle.bind_union.proofs.InterfaceRules as interface_rules
 
 -- ---- interfaces
 

@@ -1,22 +1,15 @@
 -- Matched interfaces and their types stand in what begins with own lists, numbers given in order rise, and entries and names are joined one by one.
 use Rattle.std.proofs.Common.{◌≡◌, ◌⊎◌, inl, inr, refl, sym, ap, ◌∙◌, ℕ, zero, suc, ◌<◌, ◌≤◌, ◌+◌, arith, Bool, true, false, List, [], ◌∷◌, length, Option, Some, None, slice_get, unwrap_or, subst, ◌++◌, append-nil}
-use Rattle.wit_model.specs.Text.{text_of, Text}
-use Rattle.wit_model.specs.Lookup.{interface_path}
-use Rattle.wit_model.specs.Uses.{has, alias_target}
-use Rattle.wit_model.specs.Rules.{passes, interface_type_numbers}
-use Rattle.wit_model.proofs.OnePath.{has-path}
+use Rattle.wit_model.specs.{Text.text_of, Text.Text, Lookup.interface_path, Uses.has, Uses.alias_target, Rules.passes, Rules.interface_type_numbers}
+use Rattle.wit_model.proofs.{OnePath.has-path, Chains.all_has as passes_at}
 use Rattle.bind_union.specs.Carried.{owner_under, carries_owner, IsType, IsInterface, Renumbering}
 use Rattle.bind_union.specs.Matching.{type_names, AreNamesakes, MatchedStand, numbers_of, NumbersRise, StepsKeep}
-use Rattle.bind_union.proofs.Lists.{no_true}
-use Rattle.bind_union.proofs.Itself.{get_begin}
+use Rattle.bind_union.specs.{Joined.Joined, Joined.ItemStandsFor, Joined.is_new, Merged.JoinedNames, Merged.is_name}
+use Rattle.bind_union.proofs.{Lists.no_true, Itself.get_begin}
 use Rattle.bind_union.proofs.Namesakes.{under_contains, number_listed, numbers_are, home_listed, target_named, target_home, matches_are_namesakes, matches_are_onto}
 use Rattle.base_lemmas.proofs.Options.{there as some_of}
-use Rattle.wit_model.proofs.Chains.{all_has as passes_at}
-use Rattle.wit_model.specs.declared.model.WorldKey.{WorldKey}
-use Rattle.wit_model.specs.declared.model.WorldItem.{WorldItem}
-use Rattle.bind_union.specs.Joined.{Joined, ItemStandsFor, is_new}
+use Rattle.wit_model.specs.declared.model.{WorldKey.WorldKey, WorldItem.WorldItem}
 use Rattle.bind_union.specs.Joined as joined
-use Rattle.bind_union.specs.Merged.{JoinedNames, is_name}
 use Rattle.bind_union.specs.Merged as names
 
 -- ---- matched interfaces

@@ -1,50 +1,24 @@
 -- What is carried means what it meant.
 use Rattle.std.proofs.Common.{◌≡◌, ◌⊎◌, inl, inr, refl, sym, ap, ◌∙◌, ℕ, true, false, List, [], ◌∷◌, map, Option, Some, None, option_map, option_to_list, is_some, unwrap_or, filter_map, length}
-use Rattle.std.specs.Prelude.{String}
+use Rattle.std.proofs.lemmas.{List.Folds.list_all-append, Bool.lt-ltb, Bool.and_from as both, Option.slice_get_within, Simd.map-map}
+use Rattle.std.specs.{Prelude.String, List.list_all, Option.option_map_or, FinMap.from_entries}
 use Rattle.std.specs.declared.alloc.Global.{Global}
-use Rattle.std.specs.List.{list_all}
-use Rattle.std.specs.Option.{option_map_or}
-use Rattle.std.specs.FinMap.{from_entries}
-use Rattle.std.proofs.lemmas.List.Folds.{list_all-append}
-use Rattle.wit_model.specs.declared.model.Resolve.{Resolve}
-use Rattle.wit_model.specs.declared.model.Interface.{Interface}
-use Rattle.wit_model.specs.declared.model.WorldKey.{WorldKey}
-use Rattle.wit_model.specs.declared.model.WorldKey.TheVariants as key
-use Rattle.wit_model.specs.declared.model.WorldItem.{WorldItem}
-use Rattle.wit_model.specs.declared.model.WorldItem.TheVariants as item
-use Rattle.wit_model.specs.declared.model.TypeId.{TypeId}
-use Rattle.wit_model.specs.declared.model.Param.{Param}
-use Rattle.wit_model.specs.declared.model.Function.{Function}
-use Rattle.wit_model.specs.declared.model.FunctionKind.{FunctionKind}
-use Rattle.wit_model.specs.declared.model.FunctionKind.TheVariants as call
-use Rattle.wit_model.specs.declared.model.«Type».{«Type» as ValueType}
-use Rattle.wit_model.specs.Text.{Text, text_of}
-use Rattle.wit_model.specs.Tree.{Tree}
-use Rattle.wit_model.specs.Lookup.{interface_at, interface_path, key_text, is_async, resource_of}
-use Rattle.wit_model.specs.Types.{number_of, type_tree}
-use Rattle.wit_model.specs.Parts.{function_types}
-use Rattle.wit_model.specs.Meaning.{TypeMeaning, FunctionMeaning, Item, interface, inline}
+use Rattle.wit_model.specs.declared.model.{Resolve.Resolve, TypeId.TypeId, Param.Param, Function.Function}
+use Rattle.wit_model.specs.declared.model.{Interface.Interface, WorldKey.WorldKey, WorldItem.WorldItem, FunctionKind.FunctionKind, «Type».«Type» as ValueType}
+use Rattle.wit_model.specs.{Text.Text, Text.text_of, Tree.Tree, Meaning.TypeMeaning, Meaning.FunctionMeaning, Meaning.Item, Meaning.interface, Meaning.inline}
+use Rattle.wit_model.specs.{Lookup.interface_at, Lookup.interface_path, Lookup.key_text, Lookup.is_async, Lookup.resource_of, Types.number_of, Types.type_tree}
+use Rattle.wit_model.specs.{Parts.function_types, Valid.Keeps, Valid.KeepsRules, Valid.IsValid, Checks.references}
 use Rattle.wit_model.specs.Meant.{signature_of, function_meaning, type_meaning, type_meaning_at, no_type, interface_meaning, interface_meaning_at, no_interface, interface_item, entry_meaning, entries_meaning, world_meaning, world_meaning_at, no_world}
-use Rattle.wit_model.specs.Valid.{Keeps, KeepsRules, IsValid}
-use Rattle.wit_model.specs.Checks.{references}
-use Rattle.wit_model.proofs.Lists.{list_all_filter_map}
-use Rattle.wit_model.proofs.Elements.{none-in}
-use Rattle.wit_model.proofs.OnePath.{named-path}
-use Rattle.std.proofs.lemmas.Bool.{lt-ltb, and_from as both}
-use Rattle.std.proofs.lemmas.Option.{slice_get_within}
-use Rattle.std.proofs.lemmas.Simd.{map-map}
-use Rattle.bind_union.specs.Views.{renamed_type}
+use Rattle.wit_model.proofs.{Lists.list_all_filter_map, Elements.none-in, OnePath.named-path}
+use Rattle.bind_union.specs.{Views.renamed_type, Meanings.OwnMeansTheSame, Meanings.CopiesMeanTheSame, Meanings.MergedMeans}
 use Rattle.bind_union.specs.Carried.{Renumbering, call_under, IsFunctionCopy, IsFunctionEntry, IsInterfaceCopy, KeyBecomes, ItemBecomes, IsCarried}
 use Rattle.bind_union.specs.Joined.{Joined, none, met, added, IsJoined}
-use Rattle.bind_union.specs.Meanings.{OwnMeansTheSame, CopiesMeanTheSame, MergedMeans}
-use Rattle.bind_union.proofs.Lists.{no_true}
-use Rattle.bind_union.proofs.Images.{same_declarations}
-use Rattle.bind_union.proofs.Carrying.{references_of, refers_below, carried_types, type_tree_same, path_same}
-use Rattle.bind_union.proofs.Itself.{itself, carried_itself}
-use Rattle.bind_union.proofs.Kept.{Source, own_source, own_joined, below}
-use Rattle.base_lemmas.proofs.Bools.{left_of as first_true, right_of as second_true}
-use Rattle.base_lemmas.proofs.Elements.{zip_map}
-use Rattle.base_lemmas.proofs.Numbers.{unequal}
+use Rattle.bind_union.proofs.{Lists.no_true, Carrying.references_of, Carrying.refers_below, Carrying.carried_types, Carrying.type_tree_same, Carrying.path_same}
+use Rattle.bind_union.proofs.{Images.same_declarations, Itself.itself, Itself.carried_itself, Kept.Source, Kept.own_source, Kept.own_joined, Kept.below}
+use Rattle.base_lemmas.proofs.{Bools.left_of as first_true, Bools.right_of as second_true, Elements.zip_map, Numbers.unequal}
+use Rattle.wit_model.specs.declared.model.WorldKey.TheVariants as key
+use Rattle.wit_model.specs.declared.model.WorldItem.TheVariants as item
+use Rattle.wit_model.specs.declared.model.FunctionKind.TheVariants as call
 
 async_under : (f : Renumbering) (k : FunctionKind) → is_async (call_under f k) ≡ is_async k
 async_under f call.Freestanding = refl

@@ -1,59 +1,33 @@
 -- Types of interfaces of one path and one sense stand for each other.
 use Rattle.std.proofs.Common.{◌≡◌, ◌⊎◌, inl, inr, refl, sym, ap, subst, ◌∙◌, ℕ, zero, suc, ◌+◌, arith, Bool, true, false, ◌&&◌, ◌||◌, ◌==◌, not, cond, List, [], ◌∷◌, map, nat_lt, Option, Some, None, option_map, is_some, unwrap_or}
-use Rattle.std.specs.Prelude.{String, bytes_eq, count_by}
+use Rattle.std.proofs.lemmas.{Cmp.nat_list_cmp_total, List.Sums.sum_by-cons, List.Folds.list_all-map, Simd.map-map, Option.same_Some as same-some}
+use Rattle.std.specs.{Prelude.String, Prelude.bytes_eq, Prelude.count_by, Option.option_map_or, FinMap.find, FinMap.from_entries, FinMap.get-from_entries}
+use Rattle.std.specs.{List.list_all, List.Contains, Map.lookup, HashMap.get_by_text}
 use Rattle.std.specs.declared.alloc.Global.{Global}
-use Rattle.std.specs.List.{list_all, Contains}
-use Rattle.std.specs.Option.{option_map_or}
-use Rattle.std.specs.Map.{lookup}
-use Rattle.std.specs.HashMap.{get_by_text}
-use Rattle.std.specs.FinMap.{find, from_entries, get-from_entries}
-use Rattle.std.proofs.lemmas.Cmp.{nat_list_cmp_total}
-use Rattle.std.proofs.lemmas.List.Sums.{sum_by-cons}
-use Rattle.std.proofs.lemmas.List.Folds.{list_all-map}
 use Rattle.indexmap.specs.IndexMap.{values}
-use Rattle.wit_model.specs.declared.model.Resolve.{Resolve}
-use Rattle.wit_model.specs.declared.model.Interface.{Interface}
-use Rattle.wit_model.specs.declared.model.TypeId.{TypeId}
-use Rattle.wit_model.specs.declared.model.TypeDef.{TypeDef}
-use Rattle.wit_model.specs.declared.model.TypeDefKind.{TypeDefKind}
-use Rattle.wit_model.specs.declared.model.TypeDefKind.TheVariants as kind
-use Rattle.wit_model.specs.declared.model.TypeOwner.{TypeOwner}
-use Rattle.wit_model.specs.declared.model.TypeOwner.TheVariants as owner
-use Rattle.wit_model.specs.declared.model.Handle.TheVariants as handle
-use Rattle.wit_model.specs.declared.model.«Type».TheVariants as ty
+use Rattle.wit_model.specs.declared.model.{Resolve.Resolve, Interface.Interface, TypeId.TypeId, TypeDef.TypeDef, TypeDefKind.TypeDefKind, TypeOwner.TypeOwner}
 use Rattle.wit_model.specs.Text.{Text, text_of, text_eq, text_cmp, optional_text, TextMap}
 use Rattle.wit_model.specs.Lookup.{interface_at, type_at, interface_path, place_of, place_of_path}
 use Rattle.wit_model.specs.Tree.{Tree, Place, Declaration, type_, resource, named, primitive, node, of_interface, here}
 use Rattle.wit_model.specs.Types.{no_tree, tree_at, declared_by, trees_of, declaration_of, tree_of_declaration}
 use Rattle.wit_model.specs.Parts.{kind_numbers, same_owner, has_owner, met_by, met_of, used_by_type}
 use Rattle.wit_model.specs.Uses.{has, alias_target, owner_interface}
-use Rattle.wit_model.specs.Meaning.{TypeMeaning, InterfaceSense}
-use Rattle.wit_model.specs.Meant.{interface_meaning, type_meaning, type_meaning_at, no_type}
+use Rattle.wit_model.specs.{Meaning.TypeMeaning, Meaning.InterfaceSense, Meant.interface_meaning, Meant.type_meaning, Meant.type_meaning_at, Meant.no_type}
 use Rattle.wit_model.specs.Rules.{passes, in_list, is_id, package_number, function_in_range, interface_type_numbers, is_listed, is_listed_in_interface, is_named_of, is_named_number, are_in_order, is_use, is_resource_itself, is_named_kind, owner_in_range}
 use Rattle.wit_model.specs.Valid.{IsValid, is_place, as_interface, numbers_in_range, order_of_types, owners, named_kinds}
-use Rattle.wit_model.proofs.AnyOrder.{same-text}
-use Rattle.wit_model.proofs.Elements.{none-in, contains-has, has-contains}
-use Rattle.wit_model.proofs.Functions.{all_flat}
-use Rattle.wit_model.proofs.OnePath.{path-once, named-path, found-in, interface-passes}
-use Rattle.wit_model.proofs.Owners.{met_step, owned_stays}
-use Rattle.wit_model.proofs.TreeTable.{kept_trees_at}
-use Rattle.std.proofs.lemmas.Simd.{map-map}
+use Rattle.wit_model.proofs.{AnyOrder.same-text, Functions.all_flat}
+use Rattle.wit_model.proofs.{Elements.none-in, Elements.contains-has, Elements.has-contains, Owners.met_step, Owners.owned_stays, Chains.all_has as passes_at}
+use Rattle.wit_model.proofs.{OnePath.path-once, OnePath.named-path, OnePath.found-in, OnePath.interface-passes, PartsLemmas.owner_same as owner_equal}
+use Rattle.wit_model.proofs.{TreeTable.kept_trees_at, RulesLemmas.is_id_some as some_id, TextLemmas.text_same as text-same, ValidLemmas.type_passes}
 use Rattle.bind_meaning.proofs.Listed.{from-map}
 use Rattle.bind_union.specs.Matching.{type_names, IsMatch, AreMatched, AreNamesakes, MatchesAreNamesakes, MatchesAreOnto}
-use Rattle.bind_union.proofs.Lists.{no_true}
-use Rattle.bind_union.proofs.Carrying.{references_of}
-use Rattle.bind_union.proofs.Homes.{alias_of_all}
-use Rattle.bind_union.proofs.Listed.{under_text, found_by_text}
-use Rattle.base_lemmas.proofs.Bools.{left_of as first_true, right_of as second_true}
-use Rattle.base_lemmas.proofs.Elements.{contains-later, contains-map}
-use Rattle.base_lemmas.proofs.Maps.{lookup_of_map}
+use Rattle.bind_union.proofs.{Lists.no_true, Carrying.references_of, Homes.alias_of_all, Listed.under_text, Listed.found_by_text}
+use Rattle.base_lemmas.proofs.{Bools.left_of as first_true, Bools.right_of as second_true, Elements.contains-later, Elements.contains-map, Maps.lookup_of_map}
 use Rattle.base_lemmas.proofs.Numbers.{equal, same-number}
-use Rattle.std.proofs.lemmas.Option.{same_Some as same-some}
-use Rattle.wit_model.proofs.Chains.{all_has as passes_at}
-use Rattle.wit_model.proofs.PartsLemmas.{owner_same as owner_equal}
-use Rattle.wit_model.proofs.RulesLemmas.{is_id_some as some_id}
-use Rattle.wit_model.proofs.TextLemmas.{text_same as text-same}
-use Rattle.wit_model.proofs.ValidLemmas.{type_passes}
+use Rattle.wit_model.specs.declared.model.TypeDefKind.TheVariants as kind
+use Rattle.wit_model.specs.declared.model.TypeOwner.TheVariants as owner
+use Rattle.wit_model.specs.declared.model.Handle.TheVariants as handle
+use Rattle.wit_model.specs.declared.model.«Type».TheVariants as ty
 
 -- ---- kinds
 

@@ -1,26 +1,14 @@
 -- Names in packages that were joined.
 use Rattle.std.proofs.Common.{◌≡◌, ◌⊎◌, inl, inr, refl, sym, ap, subst, ◌∙◌, ℕ, zero, suc, Bool, true, false, ◌||◌, cond, List, [], ◌∷◌, ◌++◌, arith, Option, Some, None, option_map}
-use Rattle.std.specs.Prelude.{bytes_eq}
-use Rattle.std.specs.List.{list_all, list_any, Contains}
-use Rattle.std.specs.Map.{keys_of}
-use Rattle.std.specs.HashMap.{get_by_text}
-use Rattle.std.proofs.lemmas.Bool.{or_left, or_right, and_from as both}
-use Rattle.std.proofs.lemmas.List.Folds.{list_any-append}
-use Rattle.wit_model.proofs.Elements.{none-in}
-use Rattle.wit_model.specs.declared.model.Package.{Package}
-use Rattle.wit_model.specs.declared.model.InterfaceId.{InterfaceId}
-use Rattle.wit_model.specs.declared.model.WorldId.{WorldId}
-use Rattle.wit_model.specs.Text.{Text, text_of, text_eq}
-use Rattle.wit_model.specs.Rules.{is_id, is_world_name}
+use Rattle.std.proofs.lemmas.{Bool.or_left, Bool.or_right, Bool.and_from as both, List.Folds.list_any-append}
+use Rattle.std.specs.{Prelude.bytes_eq, List.list_all, List.list_any, List.Contains, Map.keys_of, HashMap.get_by_text}
+use Rattle.wit_model.proofs.{Elements.none-in, TextLemmas.text_same as text-same}
+use Rattle.wit_model.specs.declared.model.{Package.Package, InterfaceId.InterfaceId, WorldId.WorldId}
+use Rattle.wit_model.specs.{Text.Text, Text.text_of, Text.text_eq, Rules.is_id, Rules.is_world_name}
 use Rattle.bind_union.specs.Merged.{interface_names, world_names, is_name, JoinedNames, none, met, left, added}
-use Rattle.bind_union.proofs.Lists.{no_true}
-use Rattle.bind_union.proofs.ViewTests.{id_under}
-use Rattle.bind_union.proofs.Listed.{under_text, lookup_append, lookup_first}
-use Rattle.base_lemmas.proofs.Bools.{left_of as first_true, right_of as second_true}
-use Rattle.base_lemmas.proofs.Elements.{any_of_map, contains-later}
-use Rattle.base_lemmas.proofs.Maps.{lookup_of_map}
+use Rattle.bind_union.proofs.{Lists.no_true, ViewTests.id_under, Listed.under_text, Listed.lookup_append, Listed.lookup_first}
+use Rattle.base_lemmas.proofs.{Bools.left_of as first_true, Bools.right_of as second_true, Elements.any_of_map, Elements.contains-later, Maps.lookup_of_map}
 use Rattle.base_lemmas.proofs.Numbers.{equal}
-use Rattle.wit_model.proofs.TextLemmas.{text_same as text-same}
 
 -- what each name passes, what is added passes
 pub names_pass : (number : ℕ → ℕ) (copies left_out : ℕ → Bool) (own : List (Text × ℕ)) (p q : Text × ℕ → Bool)

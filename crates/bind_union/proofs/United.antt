@@ -1,38 +1,21 @@
 -- The interfaces of what was merged, by path, are those of both.
 use Rattle.std.proofs.Common.{◌≡◌, refl, ◌⊎◌, inl, inr, sym, ap, ◌∙◌, ℕ, ◌≤◌, arith, Bool, true, false, [], length, Option, Some, None, option_map, option_and_then}
-use Rattle.std.specs.Prelude.{String}
+use Rattle.std.proofs.lemmas.{Bool.lt-ltb, Bool.cases_lt as low_or_high, Option.slice_get_within, Option.same_Some as same-some}
+use Rattle.std.specs.{Prelude.String, List.Contains}
 use Rattle.std.specs.declared.alloc.Global.{Global}
-use Rattle.std.specs.List.{Contains}
-use Rattle.std.proofs.lemmas.Bool.{lt-ltb, cases_lt as low_or_high}
-use Rattle.std.proofs.lemmas.Option.{slice_get_within, same_Some as same-some}
-use Rattle.wit_model.specs.declared.model.Resolve.{Resolve}
-use Rattle.wit_model.specs.declared.model.Interface.{Interface}
-use Rattle.wit_model.specs.Text.{Text, text_of, optional_text}
-use Rattle.wit_model.specs.Names.{path_in}
-use Rattle.wit_model.specs.Lookup.{interface_at, interface_path, path_of_interface, identity_of}
-use Rattle.wit_model.specs.Meaning.{InterfaceMeaning}
-use Rattle.wit_model.specs.Meant.{interface_meaning_at}
-use Rattle.wit_model.specs.Rules.{is_id, text_is, package_number}
-use Rattle.wit_model.specs.Valid.{Keeps, IsValid, HasDistinctKeys}
-use Rattle.wit_model.specs.Checks.{references}
-use Rattle.wit_model.proofs.Elements.{none-in}
-use Rattle.wit_model.proofs.OnePath.{HasPath, has-path, path-listed, path-once, found-in}
+use Rattle.wit_model.specs.declared.model.{Resolve.Resolve, Interface.Interface}
+use Rattle.wit_model.specs.{Text.Text, Text.text_of, Text.optional_text, Checks.references}
+use Rattle.wit_model.specs.{Names.path_in, Lookup.interface_at, Lookup.interface_path, Lookup.path_of_interface, Lookup.identity_of, Meant.interface_meaning_at}
+use Rattle.wit_model.specs.{Meaning.InterfaceMeaning, Rules.is_id, Rules.text_is, Rules.package_number, Valid.Keeps, Valid.IsValid, Valid.HasDistinctKeys}
+use Rattle.wit_model.proofs.{Elements.none-in, TextLemmas.text_same as text-same}
+use Rattle.wit_model.proofs.{OnePath.HasPath, OnePath.has-path, OnePath.path-listed, OnePath.path-once, OnePath.found-in, RulesLemmas.is_id_some as some_id}
 use Rattle.bind_union.specs.Carried.{Renumbering}
 use Rattle.bind_union.specs.Merged.{interface_names, PackageStands, grown, brought, IsCopyUnder, IsMerged}
 use Rattle.bind_union.specs.Meanings.{OwnMeansTheSame, CopiesMeanTheSame, Shows, ShowsNone, InterfacesAreUnited}
-use Rattle.bind_union.proofs.Lists.{no_true}
-use Rattle.bind_union.proofs.Carrying.{path_parts, path_by, same_identity, path_same}
-use Rattle.bind_union.proofs.Kept.{below}
-use Rattle.bind_union.proofs.KeptPackages.{is_interface_of, interfaces_stand, found_option}
-use Rattle.bind_union.proofs.PackageNames.{joined_name, interfaces_by_name}
-use Rattle.bind_union.proofs.Listed.{under_text}
-use Rattle.bind_union.proofs.Namesakes.{under_contains}
-use Rattle.bind_union.proofs.Meanings.{merged_means}
-use Rattle.bind_union.proofs.Valid.{merged_is_valid}
-use Rattle.base_lemmas.proofs.Bools.{left_of as first_true, right_of as second_true}
-use Rattle.base_lemmas.proofs.Elements.{all-contained}
-use Rattle.wit_model.proofs.RulesLemmas.{is_id_some as some_id}
-use Rattle.wit_model.proofs.TextLemmas.{text_same as text-same}
+use Rattle.bind_union.proofs.{Lists.no_true, KeptPackages.is_interface_of, KeptPackages.interfaces_stand, KeptPackages.found_option, Namesakes.under_contains}
+use Rattle.bind_union.proofs.{Carrying.path_parts, Carrying.path_by, Carrying.same_identity, Carrying.path_same, Meanings.merged_means, Valid.merged_is_valid}
+use Rattle.bind_union.proofs.{Kept.below, PackageNames.joined_name, PackageNames.interfaces_by_name, Listed.under_text}
+use Rattle.base_lemmas.proofs.{Bools.left_of as first_true, Bools.right_of as second_true, Elements.all-contained}
 
 pub some_name : (o : Option (String Global)) (t : Text) → text_is o t ≡ true → optional_text o ≡ Some t
 some_name None t h = no_true h

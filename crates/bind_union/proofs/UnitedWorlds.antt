@@ -1,43 +1,21 @@
 -- The worlds of what was merged, by path, are those of both, but for the bound one.
 use Rattle.std.proofs.Common.{◌≡◌, ◌⊎◌, inl, inr, refl, sym, ap, subst, ◌∙◌, ℕ, arith, Bool, true, false, ◌==◌, [], Option, Some, None, option_map, option_and_then}
-use Rattle.std.specs.Option.{option_map_or}
-use Rattle.std.specs.List.{Contains}
-use Rattle.wit_model.specs.declared.model.Resolve.{Resolve}
-use Rattle.wit_model.specs.declared.model.Package.{Package}
-use Rattle.wit_model.specs.declared.model.PackageId.{PackageId}
-use Rattle.wit_model.specs.declared.model.World.{World}
-use Rattle.wit_model.specs.Text.{Text, text_of, text_eq}
-use Rattle.wit_model.specs.Names.{path_in}
-use Rattle.wit_model.specs.Lookup.{package_at, world_at, path_of_world, path_in_package, identity_of}
-use Rattle.wit_model.specs.Meaning.{WorldMeaning}
-use Rattle.wit_model.specs.Meant.{world_meaning, no_world}
-use Rattle.wit_model.specs.Rules.{passes, in_list, is_id, package_number, same_package_name}
-use Rattle.wit_model.specs.Valid.{Keeps, IsValid}
-use Rattle.wit_model.specs.Checks.{references}
-use Rattle.wit_model.proofs.NameLaws.{one_path}
-use Rattle.wit_model.proofs.VersionLaws.{same_name}
-use Rattle.wit_model.proofs.Elements.{none-in}
-use Rattle.wit_model.proofs.OnePath.{package-name, package-once, found-in}
-use Rattle.bind_meaning.proofs.WorldPaths.{HasWorldPath, has-world-path, world-label, world-listed}
-use Rattle.bind_union.specs.Carried.{Renumbering}
-use Rattle.bind_union.specs.Merged.{world_names, is_name, PackageStands, grown, brought, IsMerged}
-use Rattle.bind_union.specs.Meanings.{ShowsWorld, ShowsNoWorld, WorldsAreUnited}
-use Rattle.bind_union.proofs.Lists.{no_true}
-use Rattle.bind_union.proofs.Carrying.{path_by, same_path_by, same_identity}
-use Rattle.bind_union.proofs.Kept.{below}
-use Rattle.bind_union.proofs.Itself.{world_package}
-use Rattle.bind_union.proofs.KeptPackages.{is_world_of, worlds_stand, found_option}
-use Rattle.bind_union.proofs.KeptPlaces.{world_case, own_world_low}
-use Rattle.bind_union.proofs.PackageNames.{joined_name, worlds_by_name, found_name, copy_found}
-use Rattle.bind_union.proofs.Listed.{under_text}
-use Rattle.bind_union.proofs.Namesakes.{under_contains}
-use Rattle.bind_union.proofs.Meanings.{merged_means}
-use Rattle.base_lemmas.proofs.Bools.{left_of as first_true, right_of as second_true}
-use Rattle.base_lemmas.proofs.Elements.{all-contained}
-use Rattle.base_lemmas.proofs.Numbers.{equal, same-number}
 use Rattle.std.proofs.lemmas.Option.{same_Some as same-some}
-use Rattle.wit_model.proofs.RulesLemmas.{is_id_some as some_id}
-use Rattle.wit_model.proofs.TextLemmas.{text_same as text-same}
+use Rattle.std.specs.{Option.option_map_or, List.Contains}
+use Rattle.wit_model.specs.declared.model.{Resolve.Resolve, Package.Package, PackageId.PackageId, World.World}
+use Rattle.wit_model.specs.{Text.Text, Text.text_of, Text.text_eq, Rules.passes, Rules.in_list, Rules.is_id, Rules.package_number, Rules.same_package_name}
+use Rattle.wit_model.specs.{Names.path_in, Meaning.WorldMeaning, Meant.world_meaning, Meant.no_world, Checks.references}
+use Rattle.wit_model.specs.{Lookup.package_at, Lookup.world_at, Lookup.path_of_world, Lookup.path_in_package, Lookup.identity_of, Valid.Keeps, Valid.IsValid}
+use Rattle.wit_model.proofs.{NameLaws.one_path, VersionLaws.same_name, Elements.none-in}
+use Rattle.wit_model.proofs.{OnePath.package-name, OnePath.package-once, OnePath.found-in, RulesLemmas.is_id_some as some_id, TextLemmas.text_same as text-same}
+use Rattle.bind_meaning.proofs.WorldPaths.{HasWorldPath, has-world-path, world-label, world-listed}
+use Rattle.bind_union.specs.{Carried.Renumbering, Meanings.ShowsWorld, Meanings.ShowsNoWorld, Meanings.WorldsAreUnited}
+use Rattle.bind_union.specs.Merged.{world_names, is_name, PackageStands, grown, brought, IsMerged}
+use Rattle.bind_union.proofs.{Lists.no_true, Kept.below}
+use Rattle.bind_union.proofs.{Carrying.path_by, Carrying.same_path_by, Carrying.same_identity, Itself.world_package, Listed.under_text, Meanings.merged_means}
+use Rattle.bind_union.proofs.{KeptPackages.is_world_of, KeptPackages.worlds_stand, KeptPackages.found_option, KeptPlaces.world_case, KeptPlaces.own_world_low}
+use Rattle.bind_union.proofs.{PackageNames.joined_name, PackageNames.worlds_by_name, PackageNames.found_name, PackageNames.copy_found, Namesakes.under_contains}
+use Rattle.base_lemmas.proofs.{Bools.left_of as first_true, Bools.right_of as second_true, Elements.all-contained, Numbers.equal, Numbers.same-number}
 
 -- the path of a world by its name and its package
 pub world_path : (r : Resolve) (w : World) → path_of_world r w ≡ path_by r (Some (text_of w.name)) (package_number w.«package»)

@@ -1,8 +1,7 @@
 -- What is merged of two valid ones is valid.
 use Rattle.bind_union.specs.Laws.{MergedIsValid}
 use Rattle.bind_union.proofs.Kept.{labels_kept, owners_kept, shapes_kept, named_kinds_kept, handles_kept, depths_kept, function_names_kept, world_items_kept, order_of_items_kept, order_of_types_kept, numbers_in_range_kept}
-use Rattle.bind_union.proofs.KeptPackages.{names_in_packages_kept, package_names_kept}
-use Rattle.bind_union.proofs.KeptPlaces.{places_kept}
+use Rattle.bind_union.proofs.{KeptPackages.names_in_packages_kept, KeptPackages.package_names_kept, KeptPlaces.places_kept}
 
 pub merged_is_valid : MergedIsValid
 merged_is_valid own other merged bound other_bound first second left_out valid_own valid_other distinct is = record {

@@ -1,43 +1,26 @@
 -- Imports of one key and one sense stand for each other.
 use Rattle.std.proofs.Common.{arith, ◌≡◌, ◌⊎◌, inl, inr, refl, sym, ap, ◌∙◌, ℕ, Bool, true, false, ◌&&◌, ◌==◌, nat_lt, Option, Some, None, option_map, option_and_then, is_some}
-use Rattle.std.specs.Prelude.{String, count_by}
+use Rattle.std.proofs.lemmas.Option.{same_Some as same-some}
+use Rattle.std.specs.{Prelude.String, Prelude.count_by, List.list_all, List.Contains, Option.option_map_or, Map.lookup, HashMap.get_by}
 use Rattle.std.specs.declared.alloc.Global.{Global}
-use Rattle.std.specs.List.{list_all, Contains}
-use Rattle.std.specs.Option.{option_map_or}
-use Rattle.std.specs.Map.{lookup}
-use Rattle.std.specs.HashMap.{get_by}
-use Rattle.wit_model.specs.declared.model.Resolve.{Resolve}
-use Rattle.wit_model.specs.declared.model.World.{World}
-use Rattle.wit_model.specs.declared.model.WorldKey.{WorldKey}
-use Rattle.wit_model.specs.declared.model.WorldKey.TheVariants as key
-use Rattle.wit_model.specs.declared.model.WorldItem.{WorldItem}
-use Rattle.wit_model.specs.declared.model.WorldItem.TheVariants as item
-use Rattle.wit_model.specs.declared.model.TypeDef.{TypeDef}
-use Rattle.wit_model.specs.declared.model.TypeOwner.TheVariants as owner
-use Rattle.wit_model.specs.Text.{Text, text_of, optional_text}
+use Rattle.wit_model.specs.declared.model.{Resolve.Resolve, World.World, WorldKey.WorldKey, WorldItem.WorldItem, TypeDef.TypeDef}
+use Rattle.wit_model.specs.{Text.Text, Text.text_of, Text.optional_text, Types.trees_of, Types.declaration_of, Parts.kind_numbers, Parts.same_owner}
 use Rattle.wit_model.specs.Lookup.{world_at, type_at, interface_path, place_of, place_of_path, key_text}
 use Rattle.wit_model.specs.Tree.{Declaration, named}
-use Rattle.wit_model.specs.Types.{trees_of, declaration_of}
-use Rattle.wit_model.specs.Parts.{kind_numbers, same_owner}
-use Rattle.wit_model.specs.Uses.{alias_target, item_interface}
+use Rattle.wit_model.specs.{Uses.alias_target, Uses.item_interface, Valid.IsValid, Valid.as_interface, Valid.as_world, Valid.order_of_types, Valid.world_items}
 use Rattle.wit_model.specs.Meaning.{Item, interface, inline, function, declares, Entry, InterfaceSense, item_sense}
 use Rattle.wit_model.specs.Meant.{type_meaning, type_meaning_at, no_type, interface_item, interface_meaning_at, item_meaning}
 use Rattle.wit_model.specs.Rules.{passes, is_id, text_is, is_name_key, item_type, key_in_range, item_in_range, world_type_numbers, is_listed, is_listed_in_world, import_stands, export_stands}
-use Rattle.wit_model.specs.Valid.{IsValid, as_interface, as_world, order_of_types, world_items}
-use Rattle.wit_model.proofs.OnePath.{path-once, found-in}
-use Rattle.bind_union.specs.Carried.{Renumbering}
-use Rattle.bind_union.specs.Joined.{ItemStandsFor}
+use Rattle.wit_model.proofs.{OnePath.path-once, OnePath.found-in, RulesLemmas.is_id_some as some_id, TextLemmas.text_same as text-same}
+use Rattle.wit_model.proofs.{PartsLemmas.owner_same as owner_equal, ValidLemmas.type_passes, ValidLemmas.world_passes as world-passes}
+use Rattle.bind_union.specs.{Carried.Renumbering, Joined.ItemStandsFor}
 use Rattle.bind_union.specs.Matching.{IsMatch, AreMatched, WorldsAgree, AreWorldNamesakes, MetImportsStand}
-use Rattle.bind_union.proofs.Lists.{no_true}
-use Rattle.bind_union.proofs.Itself.{world_range}
+use Rattle.bind_union.proofs.{Lists.no_true, Itself.world_range}
 use Rattle.bind_union.proofs.Namesakes.{resource_declares, declares_resource, is_here, place_in, name_in, IsTarget, same_by_path, target_owner, alias_alike}
-use Rattle.base_lemmas.proofs.Bools.{left_of as first_true, right_of as second_true}
-use Rattle.base_lemmas.proofs.Elements.{all-contained, lookup_stands}
-use Rattle.std.proofs.lemmas.Option.{same_Some as same-some}
-use Rattle.wit_model.proofs.PartsLemmas.{owner_same as owner_equal}
-use Rattle.wit_model.proofs.RulesLemmas.{is_id_some as some_id}
-use Rattle.wit_model.proofs.TextLemmas.{text_same as text-same}
-use Rattle.wit_model.proofs.ValidLemmas.{type_passes, world_passes as world-passes}
+use Rattle.base_lemmas.proofs.{Bools.left_of as first_true, Bools.right_of as second_true, Elements.all-contained, Elements.lookup_stands}
+use Rattle.wit_model.specs.declared.model.WorldKey.TheVariants as key
+use Rattle.wit_model.specs.declared.model.WorldItem.TheVariants as item
+use Rattle.wit_model.specs.declared.model.TypeOwner.TheVariants as owner
 
 -- ---- types of a world
 

@@ -1,34 +1,20 @@
 -- What of one `Resolve` stands in another, and under which numbers. A thing is copied, or one that was there stands for it.
-use Rattle.std.specs.Prelude.{◌≡◌, ◌<◌, ◌⊎◌, ℕ, Bool, true, false, List, map, Option, Some, option_map, is_some}
+use Rattle.std.specs.Prelude.{◌≡◌, ◌<◌, ◌⊎◌, ℕ, Bool, true, false, List, map, Option, Some, option_map, is_some, String}
 use Rattle.std.specs.List.{AllZip, list_all}
 use Rattle.std.specs.declared.alloc.Global.{Global}
-use Rattle.std.specs.Prelude.{String}
 use Rattle.indexmap.specs.IndexMap.{values}
 use Rattle.semver.specs.Identifiers.{parts_of}
-use Rattle.wit_model.specs.declared.model.Resolve.{Resolve}
-use Rattle.wit_model.specs.declared.model.Package.{Package}
-use Rattle.wit_model.specs.declared.model.PackageName.{PackageName}
-use Rattle.wit_model.specs.declared.model.Interface.{Interface}
-use Rattle.wit_model.specs.declared.model.WorldKey.{WorldKey}
-use Rattle.wit_model.specs.declared.model.WorldKey.TheVariants as key
-use Rattle.wit_model.specs.declared.model.WorldItem.{WorldItem}
-use Rattle.wit_model.specs.declared.model.WorldItem.TheVariants as item
+use Rattle.wit_model.specs.declared.model.{Resolve.Resolve, PackageName.PackageName, Interface.Interface, FunctionKind.FunctionKind, «Type».«Type» as ValueType}
+use Rattle.wit_model.specs.declared.model.{Package.Package, WorldKey.WorldKey, WorldItem.WorldItem, TypeOwner.TypeOwner, Function.Function, Stability.Stability}
 use Rattle.wit_model.specs.declared.model.TypeDef.{TypeDef}
-use Rattle.wit_model.specs.declared.model.TypeOwner.{TypeOwner}
+use Rattle.wit_model.specs.{Text.Text, Text.text_of, Text.optional_text, Lookup.package_at, Lookup.interface_at, Lookup.type_at, Parts.function_numbers}
+use Rattle.wit_model.specs.{Uses.has, Uses.alias_target, Rules.passes, Rules.package_number, Rules.interface_type_numbers, Rules.is_resource_itself}
+use Rattle.bind_union.specs.{Views.renamed_type, Images.HasImageKind}
+use Rattle.wit_model.specs.declared.model.WorldKey.TheVariants as key
+use Rattle.wit_model.specs.declared.model.WorldItem.TheVariants as item
 use Rattle.wit_model.specs.declared.model.TypeOwner.TheVariants as owner
-use Rattle.wit_model.specs.declared.model.Function.{Function}
-use Rattle.wit_model.specs.declared.model.FunctionKind.{FunctionKind}
 use Rattle.wit_model.specs.declared.model.FunctionKind.TheVariants as call
-use Rattle.wit_model.specs.declared.model.Stability.{Stability}
 use Rattle.wit_model.specs.declared.model.Stability.TheVariants as stability
-use Rattle.wit_model.specs.declared.model.«Type».{«Type» as ValueType}
-use Rattle.wit_model.specs.Text.{Text, text_of, optional_text}
-use Rattle.wit_model.specs.Lookup.{package_at, interface_at, type_at}
-use Rattle.wit_model.specs.Uses.{has, alias_target}
-use Rattle.wit_model.specs.Parts.{function_numbers}
-use Rattle.wit_model.specs.Rules.{passes, package_number, interface_type_numbers, is_resource_itself}
-use Rattle.bind_union.specs.Views.{renamed_type}
-use Rattle.bind_union.specs.Images.{HasImageKind}
 
 -- ---- new numbers
 

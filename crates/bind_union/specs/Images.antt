@@ -1,12 +1,8 @@
 -- Types of one `Resolve` in another, under other numbers.
 use Rattle.std.specs.Prelude.{◌≡◌, ℕ, Bool, true, nat_lt, Some, None}
 use Rattle.std.specs.List.{list_all}
-use Rattle.wit_model.specs.declared.model.Resolve.{Resolve}
-use Rattle.wit_model.specs.declared.model.TypeDef.{TypeDef}
-use Rattle.wit_model.specs.Text.{optional_text}
-use Rattle.wit_model.specs.Lookup.{type_at, place_of}
-use Rattle.wit_model.specs.Types.{number_tree, declaration_of}
-use Rattle.wit_model.specs.Parts.{kind_numbers}
+use Rattle.wit_model.specs.declared.model.{Resolve.Resolve, TypeDef.TypeDef}
+use Rattle.wit_model.specs.{Text.optional_text, Lookup.type_at, Lookup.place_of, Types.number_tree, Types.declaration_of, Parts.kind_numbers}
 use Rattle.bind_union.specs.Views.{kind_view, renamed, view_numbers}
 
 -- The kind is the same under the new numbers, and what it refers to is carried too.

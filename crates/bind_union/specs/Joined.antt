@@ -1,15 +1,11 @@
 -- The entries of a world of one `Resolve` as they stand in a world of another, behind entries that were there.
 use Rattle.std.specs.Prelude.{◌≡◌, ℕ, Some, Bool, true, false, not, ◌==◌, List, [], ◌∷◌, ◌++◌}
 use Rattle.std.specs.List.{Contains, list_any}
-use Rattle.wit_model.specs.declared.model.Resolve.{Resolve}
-use Rattle.wit_model.specs.declared.model.World.{World}
-use Rattle.wit_model.specs.declared.model.WorldKey.{WorldKey}
-use Rattle.wit_model.specs.declared.model.WorldKey.TheVariants as key
-use Rattle.wit_model.specs.declared.model.WorldItem.{WorldItem}
-use Rattle.wit_model.specs.declared.model.WorldItem.TheVariants as item
-use Rattle.wit_model.specs.Text.{text_of, text_eq}
-use Rattle.wit_model.specs.Lookup.{world_at}
+use Rattle.wit_model.specs.declared.model.{Resolve.Resolve, World.World, WorldKey.WorldKey, WorldItem.WorldItem}
+use Rattle.wit_model.specs.{Text.text_of, Text.text_eq, Lookup.world_at}
 use Rattle.bind_union.specs.Carried.{Renumbering, KeyBecomes, EntryBecomes}
+use Rattle.wit_model.specs.declared.model.WorldKey.TheVariants as key
+use Rattle.wit_model.specs.declared.model.WorldItem.TheVariants as item
 
 -- whether a key is this one under its new number
 abbrev pub same_key : Renumbering → WorldKey → WorldKey → Bool

@@ -2,8 +2,7 @@
 use Rattle.std.specs.Prelude.{ℕ, Bool}
 use Rattle.wit_model.specs.declared.model.Resolve.{Resolve}
 use Rattle.wit_model.specs.Valid.{HasDistinctKeys, IsValid}
-use Rattle.bind_union.specs.Carried.{Renumbering}
-use Rattle.bind_union.specs.Merged.{IsMerged}
+use Rattle.bind_union.specs.{Carried.Renumbering, Merged.IsMerged}
 
 -- What is merged of two valid ones is valid. That no map has a key twice is shown by reading the maps.
 abbrev pub MergedIsValid : Type 0

@@ -1,22 +1,14 @@
 -- Interfaces that stand under one path in two values, and have one sense.
 use Rattle.std.specs.Prelude.{◌≡◌, ◌⊎◌, ◌<◌, ◌+◌, ℕ, Bool, true, false, List, [], ◌∷◌, ◌++◌, map, length, slice_get, unwrap_or, Some, None, is_some, option_map, option_and_then}
 use Rattle.std.specs.List.{Contains, list_all}
-use Rattle.wit_model.specs.declared.model.Resolve.{Resolve}
-use Rattle.wit_model.specs.declared.model.Interface.{Interface}
-use Rattle.wit_model.specs.declared.model.TypeDef.{TypeDef}
-use Rattle.wit_model.specs.declared.model.World.{World}
-use Rattle.wit_model.specs.declared.model.WorldKey.{WorldKey}
-use Rattle.wit_model.specs.declared.model.WorldItem.{WorldItem}
+use Rattle.wit_model.specs.declared.model.{Resolve.Resolve, Interface.Interface, TypeDef.TypeDef, World.World, WorldKey.WorldKey, WorldItem.WorldItem}
 use Rattle.wit_model.specs.Text.{Text, text_of, optional_text}
 use Rattle.wit_model.specs.Lookup.{interface_at, world_at, interface_path, type_at, key_text}
-use Rattle.wit_model.specs.Uses.{has, alias_target, item_interface}
+use Rattle.wit_model.specs.{Uses.has, Uses.alias_target, Uses.item_interface, Valid.IsValid, Valid.as_interface, Valid.as_world}
 use Rattle.wit_model.specs.Rules.{passes, package_number, interface_type_numbers, item_type, is_resource_itself}
-use Rattle.wit_model.specs.Meaning.{interface_sense, entry_sense}
-use Rattle.wit_model.specs.Meant.{interface_meaning, entry_meaning}
-use Rattle.wit_model.specs.Valid.{IsValid, as_interface, as_world}
+use Rattle.wit_model.specs.{Meaning.interface_sense, Meaning.entry_sense, Meant.interface_meaning, Meant.entry_meaning}
 use Rattle.bind_union.specs.Carried.{Renumbering, Rises, IsNamesake, IsType, IsInterface, KeyBecomes, EntryBecomes}
-use Rattle.bind_union.specs.Merged.{BeginsWith, is_name, JoinedNames}
-use Rattle.bind_union.specs.Joined.{is_new, ItemStandsFor, Joined}
+use Rattle.bind_union.specs.{Merged.BeginsWith, Merged.is_name, Merged.JoinedNames, Joined.is_new, Joined.ItemStandsFor, Joined.Joined}
 
 abbrev pub type_names : Interface → List (Text × ℕ)
 type_names i = map (λ e. (text_of e.0, e.1.0)) i.types.entries

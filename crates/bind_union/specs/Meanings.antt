@@ -1,19 +1,12 @@
 -- What was merged means what its parts meant.
 use Rattle.std.specs.Prelude.{◌≡◌, ◌⊎◌, ℕ, Bool, true, false, List, map, Some}
 use Rattle.std.specs.List.{IsDistinct}
-use Rattle.wit_model.specs.Text.{Text, text_eq}
-use Rattle.wit_model.specs.declared.model.Resolve.{Resolve}
-use Rattle.wit_model.specs.declared.model.Interface.{Interface}
-use Rattle.wit_model.specs.declared.model.World.{World}
-use Rattle.wit_model.specs.declared.model.WorldKey.{WorldKey}
-use Rattle.wit_model.specs.declared.model.WorldItem.{WorldItem}
-use Rattle.wit_model.specs.Lookup.{interface_at, world_at, interface_path, path_of_world, key_text}
-use Rattle.wit_model.specs.Meant.{interface_meaning_at, world_meaning, world_meaning_at}
-use Rattle.wit_model.specs.Meaning.{InterfaceMeaning, WorldMeaning}
+use Rattle.wit_model.specs.{Text.Text, Text.text_eq, Lookup.interface_at, Lookup.world_at, Lookup.interface_path, Lookup.path_of_world, Lookup.key_text}
+use Rattle.wit_model.specs.{Meant.interface_meaning_at, Meant.world_meaning, Meant.world_meaning_at, Meaning.InterfaceMeaning, Meaning.WorldMeaning}
 use Rattle.wit_model.specs.Valid.{IsValid, HasDistinctKeys}
+use Rattle.wit_model.specs.declared.model.{Resolve.Resolve, Interface.Interface, World.World, WorldKey.WorldKey, WorldItem.WorldItem}
 use Rattle.bind_meaning.specs.Union.{followed_by}
-use Rattle.bind_union.specs.Carried.{Renumbering}
-use Rattle.bind_union.specs.Merged.{IsMerged}
+use Rattle.bind_union.specs.{Carried.Renumbering, Merged.IsMerged}
 
 -- Every own interface, and every own world but the bound one, means what it meant, under its own path.
 pub record OwnMeansTheSame (own merged : Resolve) (bound : ℕ) : Type 0 where

@@ -2,16 +2,10 @@
 -- What is carried is copied behind the own entries, in the other's order; what the other's bound world shows is copied once more, behind that.
 use Rattle.std.specs.Prelude.{◌≡◌, ◌<◌, ◌≤◌, ◌⊎◌, ℕ, Bool, true, false, ◌==◌, List, [], ◌∷◌, ◌++◌, map, length, Some, None, option_map, filter_map}
 use Rattle.std.specs.List.{Contains, list_any}
-use Rattle.wit_model.specs.declared.model.Resolve.{Resolve}
-use Rattle.wit_model.specs.declared.model.Package.{Package}
-use Rattle.wit_model.specs.declared.model.Interface.{Interface}
-use Rattle.wit_model.specs.declared.model.World.{World}
-use Rattle.wit_model.specs.Text.{Text, text_of, text_eq}
-use Rattle.wit_model.specs.Lookup.{package_at, interface_at, world_at}
-use Rattle.wit_model.specs.Uses.{has, item_interface, items_of}
-use Rattle.wit_model.specs.Rules.{package_number, same_package_name}
-use Rattle.bind_union.specs.Carried.{Renumbering, IsCarried, IsSameName, stability_view}
-use Rattle.bind_union.specs.Joined.{IsJoined}
+use Rattle.wit_model.specs.declared.model.{Resolve.Resolve, Package.Package, Interface.Interface, World.World}
+use Rattle.wit_model.specs.{Text.Text, Text.text_of, Text.text_eq, Uses.has, Uses.item_interface, Uses.items_of}
+use Rattle.wit_model.specs.{Lookup.package_at, Lookup.interface_at, Lookup.world_at, Rules.package_number, Rules.same_package_name}
+use Rattle.bind_union.specs.{Carried.Renumbering, Carried.IsCarried, Carried.IsSameName, Carried.stability_view, Joined.IsJoined}
 
 -- the second list begins with the first
 abbrev pub BeginsWith : {X : Type 0} → List X → List X → Type 0

@@ -1,7 +1,6 @@
 //! Laws of merging.
 
-ghost use Rattle.bind_union.specs.Images.{SameDeclarations, SameTrees};
-ghost use Rattle.bind_union.specs.Laws.{MergedIsValid};
+ghost use Rattle.bind_union.specs.{Images.SameDeclarations, Images.SameTrees, Laws.MergedIsValid};
 ghost use Rattle.bind_union.specs.Matching.{
   MatchedStand,
   MatchesAreNamesakes,

@@ -2,16 +2,9 @@
 use Rattle.std.proofs.Common.{◌≡◌, ◌<◌, ℕ, List, length, ap, subst, Result, Ok, Err, MatchResult, slice_get}
 use Rattle.std.proofs.lemmas.Option.{slice_get_within}
 use Rattle.std.specs.Prelude.{OnOk}
-use Rattle.wit_model.specs.declared.model.Package.{Package}
-use Rattle.wit_model.specs.declared.model.Resolve.{Resolve}
-use Rattle.wit_model.specs.declared.model.WorldId.{WorldId}
+use Rattle.wit_model.specs.declared.model.{Package.Package, Resolve.Resolve, WorldId.WorldId}
 use Rattle.wit_bind.specs.declared.bindgen.Bindgen.{Bindgen}
-use Rattle.wit_component.specs.BoundTo.{BeginsWithRoot}
-use Rattle.wit_component.specs.Carried.{MeansWorld}
-use Rattle.wit_component.specs.DecodedWorlds.{IsDecodedWorld}
-use Rattle.wit_component.specs.Extends.{Extends}
-use Rattle.wit_component.specs.Roots.{IsRoot}
-use Rattle.wit_component.specs.Valid.{IsValid}
+use Rattle.wit_component.specs.{BoundTo.BeginsWithRoot, Carried.MeansWorld, DecodedWorlds.IsDecodedWorld, Extends.Extends, Roots.IsRoot, Valid.IsValid}
 use Rattle.callers.specs.Carried.{MeansTheSame}
 
 -- what is true of each value is true of an answer

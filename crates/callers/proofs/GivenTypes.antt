@@ -1,22 +1,14 @@
 -- The types of an interface, as they are handed in to be printed.
 use Rattle.std.proofs.Common.{◌≡◌, ◌∙◌, ap, subst, true, false, List, [], Some}
 use Rattle.std.specs.List.{Contains, list_all}
-use Rattle.wit_model.specs.declared.model.Interface.{Interface}
-use Rattle.wit_model.specs.declared.model.InterfaceId.{InterfaceId}
-use Rattle.wit_model.specs.declared.model.Resolve.{Resolve}
-use Rattle.wit_model.specs.declared.model.TypeOwner.TheVariants as owner
+use Rattle.wit_model.specs.declared.model.{Interface.Interface, InterfaceId.InterfaceId, Resolve.Resolve}
 use Rattle.print_output.specs.OutputCall.{Moves, OutputCall, View}
-use Rattle.wit_component.specs.Calls.{members_calls}
-use Rattle.wit_component.specs.Given.{TypesCanBeGiven}
-use Rattle.wit_component.specs.GivenTypes.{Functions, given_members}
-use Rattle.wit_component.specs.Lookup.{interface_at}
-use Rattle.wit_component.specs.Printer.{GivenTypes, Prints, PrintsTypes, block_has_printed, emits_docs}
-use Rattle.wit_component.specs.Render.{Written, writes}
-use Rattle.wit_component.specs.Shown.{Listed, listed_types}
-use Rattle.wit_component.specs.UseGroups.{is_listed_type, listed_of}
-use Rattle.wit_component.specs.Valid.{IsValid}
+use Rattle.wit_component.specs.{Calls.members_calls, Lookup.interface_at, Render.Written, Render.writes, Valid.IsValid}
+use Rattle.wit_component.specs.{Given.TypesCanBeGiven, Printer.GivenTypes, Printer.Prints, Printer.PrintsTypes, Printer.block_has_printed, Printer.emits_docs}
+use Rattle.wit_component.specs.{GivenTypes.Functions, GivenTypes.given_members, Shown.Listed, Shown.listed_types, UseGroups.is_listed_type, UseGroups.listed_of}
 use Rattle.wit_print.specs.declared.printer.WitPrinter.{WitPrinter}
 use Rattle.callers.specs.Printed.{calls_of_types}
+use Rattle.wit_model.specs.declared.model.TypeOwner.TheVariants as owner
 
 pub can-be-given : TypesCanBeGiven → (r : Resolve) (id : InterfaceId) (i : Interface) → IsValid r → interface_at r id.0 ≡ Some i → (xs : GivenTypes) → listed_of xs ≡ listed_types i
     → list_all (is_listed_type r (owner.Interface id)) (listed_of xs) ≡ true

@@ -1,12 +1,10 @@
 -- The package of a world that is bound.
 use Rattle.std.proofs.Common.{◌≡◌, ◌∙◌, sym, ap, true, length, Some, None}
-use Rattle.std.specs.Prelude.{is_some}
 use Rattle.std.proofs.lemmas.Bool.{ltb-true}
-use Rattle.wit_model.specs.declared.model.PackageId.{PackageId}
-use Rattle.wit_model.specs.declared.model.World.{World}
+use Rattle.std.specs.Prelude.{is_some}
+use Rattle.wit_model.specs.declared.model.{PackageId.PackageId, World.World}
 use Rattle.wit_model.specs.Lookup.{world_at}
-use Rattle.wit_model.specs.Rules.{in_list, package_number, passes}
-use Rattle.wit_model.specs.Valid.{IsValid, is_place, numbers_in_range, places}
+use Rattle.wit_model.specs.{Rules.in_list, Rules.package_number, Rules.passes, Valid.IsValid, Valid.is_place, Valid.numbers_in_range, Valid.places}
 use Rattle.wit_model.proofs.ValidLemmas.{world_passes}
 use Rattle.wit_bind.specs.declared.bindgen.Bindgen.{Bindgen}
 use Rattle.callers.specs.Merged.{IsHome}

@@ -1,27 +1,17 @@
 -- Types of an interface of which an instance stands can be encoded, and the encoder can be used on.
 use Rattle.std.proofs.Common.{◌≡◌, ◌∙◌, refl, sym, ap, subst, ℕ, ◌<◌, true, inr, [], ◌∷◌, length, Option, None, Some, unwrap_or, is_some}
-use Rattle.std.specs.List.{Contains}
 use Rattle.std.proofs.lemmas.Option.{slice_get_within}
-use Rattle.wit_model.specs.declared.model.InterfaceId.{InterfaceId}
-use Rattle.wit_model.specs.declared.model.Resolve.{Resolve}
-use Rattle.wit_model.specs.declared.model.TypeDef.{TypeDef}
-use Rattle.wit_model.specs.declared.model.TypeId.{TypeId}
-use Rattle.wit_model.specs.declared.model.TypeOwner.{TypeOwner}
-use Rattle.wit_model.specs.declared.model.TypeOwner.TheVariants as owner
-use Rattle.wit_model.specs.declared.model.«Type».TheVariants as ty
+use Rattle.std.specs.List.{Contains}
+use Rattle.wit_model.specs.declared.model.{InterfaceId.InterfaceId, Resolve.Resolve, TypeDef.TypeDef, TypeId.TypeId, TypeOwner.TypeOwner}
 use Rattle.wit_model.specs.Types.{number_of}
-use Rattle.wit_component.specs.Fits.{CanEncode}
+use Rattle.wit_component.specs.{Fits.CanEncode, Maps.MapsAgree, Plan.AllInRange, Plan.Reaches, Plan.foreign_owner, Plan.Reaches.itself, Plan.Reaches.through}
 use Rattle.wit_component.specs.InterfaceEncoders.{DefinitionsLeaveInterfaces, InterfaceEncoder, InterfaceScope, LeavesInterfaces, interface_encoder_view, packages_of, standing_in, world_of}
-use Rattle.wit_component.specs.Leaves.{Leaves}
-use Rattle.wit_component.specs.Lookup.{interface_path, type_at}
-use Rattle.wit_component.specs.Maps.{MapsAgree}
-use Rattle.wit_component.specs.OwnerScope.{IsOfInstance, IsScopeOf, IsTypeOf, NamesEncode, NamesStand}
-use Rattle.wit_component.specs.Plan.{AllInRange, Reaches, foreign_owner}
-use Rattle.wit_component.specs.Plan.Reaches.{itself, through}
-use Rattle.wit_component.specs.Scope.{Scope}
-use Rattle.wit_component.specs.Valid.{IsValid}
+use Rattle.wit_component.specs.{Leaves.Leaves, Lookup.interface_path, Lookup.type_at, Valid.IsValid}
+use Rattle.wit_component.specs.{OwnerScope.IsOfInstance, OwnerScope.IsScopeOf, OwnerScope.IsTypeOf, OwnerScope.NamesEncode, OwnerScope.NamesStand, Scope.Scope}
 use Rattle.callers.specs.Encoded.{IsEncoderOf}
 use Rattle.base_lemmas.proofs.Elements.{last_of as one-contained}
+use Rattle.wit_model.specs.declared.model.TypeOwner.TheVariants as owner
+use Rattle.wit_model.specs.declared.model.«Type».TheVariants as ty
 
 -- ---- what is met of a type of another interface
 

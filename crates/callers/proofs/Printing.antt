@@ -1,12 +1,9 @@
 -- The text of the types of an interface that were printed.
 use Rattle.std.proofs.Common.{◌≡◌, ℕ, ap, subst, ◌∙◌, List, Some}
-use Rattle.wit_model.specs.declared.model.Interface.{Interface}
-use Rattle.wit_model.specs.declared.model.InterfaceId.{InterfaceId}
-use Rattle.wit_model.specs.declared.model.Resolve.{Resolve}
+use Rattle.wit_model.specs.declared.model.{Interface.Interface, InterfaceId.InterfaceId, Resolve.Resolve}
 use Rattle.print_output.proofs.RenderLaws.{Moves-writes}
 use Rattle.print_output.specs.OutputCall.{Moves, View}
-use Rattle.wit_component.specs.Lookup.{interface_at}
-use Rattle.wit_component.specs.Render.{Written, blank, render, writes}
+use Rattle.wit_component.specs.{Lookup.interface_at, Render.Written, Render.blank, Render.render, Render.writes}
 use Rattle.callers.specs.Printed.{calls_of_types}
 
 -- what an output holds that was blank before the calls for the types of an interface

@@ -1,11 +1,7 @@
 -- A world that is written as a module carries it, and read back.
 use Rattle.std.specs.Prelude.{◌≡◌, ◌↔◌, ℕ, Some}
-use Rattle.wit_model.specs.declared.model.Resolve.{Resolve}
-use Rattle.wit_model.specs.declared.model.World.{World}
-use Rattle.wit_component.specs.Compatible.{Accepts}
-use Rattle.wit_component.specs.Lookup.{world_at}
-use Rattle.wit_component.specs.Meaning.{WorldPackage}
-use Rattle.wit_component.specs.Meant.{MeantWorld}
+use Rattle.wit_model.specs.declared.model.{Resolve.Resolve, World.World}
+use Rattle.wit_component.specs.{Compatible.Accepts, Lookup.world_at, Meaning.WorldPackage, Meant.MeantWorld}
 
 -- World k of the second `Resolve` means what world n of the first does, and nothing else.
 pub record MeansTheSame (r : Resolve) (n : ℕ) (s : Resolve) (k : ℕ) : Type 0 where

@@ -1,23 +1,11 @@
 -- Worlds and modules bound together, and their text.
 use Rattle.std.specs.Prelude.{◌≡◌, ◌<◌, ℕ, List, Some, length}
-use Rattle.wit_model.specs.declared.error.Error.{Error}
-use Rattle.wit_model.specs.declared.error.Error.TheVariants.{Memory, Size}
-use Rattle.wit_model.specs.declared.model.PackageId.{PackageId}
-use Rattle.wit_model.specs.declared.model.StringEncoding.{StringEncoding}
-use Rattle.wit_model.specs.declared.model.World.{World}
+use Rattle.wit_model.specs.declared.{error.Error.Error, error.Error.TheVariants.Memory, error.Error.TheVariants.Size, model.StringEncoding.StringEncoding}
+use Rattle.wit_model.specs.declared.model.{PackageId.PackageId, World.World}
 use Rattle.wit_bind.specs.declared.bindgen.Bindgen.{Bindgen}
-use Rattle.wit_component.specs.Binding.{Binding}
-use Rattle.wit_component.specs.Bindings.{IsBindgen, binding_of}
-use Rattle.wit_component.specs.Bound.{IsBound, RefusesBindings}
-use Rattle.wit_component.specs.Clash.{CanUnite}
-use Rattle.wit_component.specs.DecodedWorlds.{IsDecodedWorld, RefusesWorldBytes}
-use Rattle.wit_component.specs.Functions.{MapsFunctions, exports_of, imports_of}
-use Rattle.wit_component.specs.Lookup.{world_at}
-use Rattle.wit_component.specs.Merges.{IsMergeRefusal}
-use Rattle.wit_component.specs.Reached.{OutgrowsLists}
-use Rattle.wit_component.specs.RootBinding.{root_binding}
-use Rattle.wit_component.specs.Roots.{IsRoot}
-use Rattle.wit_component.specs.Union.{union}
+use Rattle.wit_component.specs.{Binding.Binding, Bindings.IsBindgen, Bindings.binding_of, Functions.MapsFunctions, Functions.exports_of, Functions.imports_of}
+use Rattle.wit_component.specs.{Bound.IsBound, Bound.RefusesBindings, DecodedWorlds.IsDecodedWorld, DecodedWorlds.RefusesWorldBytes, RootBinding.root_binding}
+use Rattle.wit_component.specs.{Clash.CanUnite, Lookup.world_at, Merges.IsMergeRefusal, Reached.OutgrowsLists, Roots.IsRoot, Union.union}
 use Rattle.callers.specs.Printed.{IsTextOf}
 
 -- The binding is of the world that the bytes mean, and each of its functions has this encoding.

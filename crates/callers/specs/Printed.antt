@@ -1,18 +1,10 @@
 -- The text of packages (Component Model WIT.md).
 use Rattle.std.specs.Prelude.{◌≡◌, ℕ, List, [], Some, false, true}
-use Rattle.wit_model.specs.declared.model.Interface.{Interface}
-use Rattle.wit_model.specs.declared.model.InterfaceId.{InterfaceId}
-use Rattle.wit_model.specs.declared.model.PackageId.{PackageId}
-use Rattle.wit_model.specs.declared.model.Resolve.{Resolve}
-use Rattle.wit_model.specs.declared.model.TypeOwner.TheVariants as owner
+use Rattle.wit_model.specs.declared.model.{Interface.Interface, InterfaceId.InterfaceId, PackageId.PackageId, Resolve.Resolve}
 use Rattle.print_output.specs.OutputCall.{OutputCall}
-use Rattle.wit_component.specs.AsRead.{file_as_read}
-use Rattle.wit_component.specs.Calls.{file_calls, members_calls}
-use Rattle.wit_component.specs.GivenTypes.{given_members}
-use Rattle.wit_component.specs.Lookup.{interface_at}
-use Rattle.wit_component.specs.Reading.{IsOnlyReading}
-use Rattle.wit_component.specs.Render.{render}
-use Rattle.wit_component.specs.Shown.{listed_types, shown_file}
+use Rattle.wit_component.specs.{AsRead.file_as_read, Lookup.interface_at, Render.render}
+use Rattle.wit_component.specs.{Calls.file_calls, Calls.members_calls, GivenTypes.given_members, Reading.IsOnlyReading, Shown.listed_types, Shown.shown_file}
+use Rattle.wit_model.specs.declared.model.TypeOwner.TheVariants as owner
 
 -- The text is what the calls of the package's file render to, with documentation and no others nested; and that is read as what is shown of the
 -- package, and as nothing else.

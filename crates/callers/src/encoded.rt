@@ -4,14 +4,11 @@ ghost use Rattle.std.specs.Prelude.{◌≡◌, true, is_some, IfErr, IfOk, OnOk}
 ghost use Rattle.std.specs.List.{Contains};
 ghost use Rattle.comp_bytes.specs.Refusal.{IsMemoryOrSize};
 ghost use Rattle.wit_model.specs.Types.{type_tree};
-ghost use Rattle.wit_component.specs.InterfaceEncoders.{interface_encoder_view, standing_in};
-ghost use Rattle.wit_component.specs.Lookup.{interface_path};
-ghost use Rattle.wit_component.specs.OwnerScope.{IsTypeOf};
-ghost use Rattle.wit_component.specs.Slots.{StandsFor};
-ghost use Rattle.wit_component.specs.Valid.{IsValid};
+ghost use Rattle.wit_component.specs.{InterfaceEncoders.interface_encoder_view, InterfaceEncoders.standing_in, Lookup.interface_path, OwnerScope.IsTypeOf};
+ghost use Rattle.wit_component.specs.{Slots.StandsFor, Valid.IsValid};
+ghost use Rattle.callers.specs.Encoded.{IsEncoderOf};
 ghost use Rattle.wit_model.specs.declared.model.«Type».TheVariants as types;
 ghost use Rattle.wit_model.specs.declared.model.TypeOwner.TheVariants as owner;
-ghost use Rattle.callers.specs.Encoded.{IsEncoderOf};
 
 use std::alloc::Global;
 use wit_component::laws::{

@@ -1,8 +1,7 @@
 //! Worlds and modules bound together, and printed.
 
 ghost use Rattle.std.specs.Prelude.{◌<◌, length, IfErr, IfOk};
-ghost use Rattle.wit_component.specs.DecodedWorlds.{RefusesWorldBytes};
-ghost use Rattle.wit_component.specs.Valid.{IsValid};
+ghost use Rattle.wit_component.specs.{DecodedWorlds.RefusesWorldBytes, Valid.IsValid};
 ghost use Rattle.callers.specs.Merged.{BindsWorld, IsHome, MergesModules, MergesWithRoot, MergesWorlds, PrintsModules, PrintsWithRoot, PrintsWorlds, RefusesModules, RefusesWithRoot, RefusesWorlds};
 
 use crate::texts::text_of;

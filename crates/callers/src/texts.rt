@@ -2,12 +2,8 @@
 
 ghost use Rattle.std.specs.Prelude.{◌≡◌, ◌<◌, length, Some, false, true, IfOk, OnOk, IfErr};
 ghost use Rattle.wit_model.specs.Refusals.{IsMemory};
-ghost use Rattle.wit_component.specs.Lookup.{interface_at};
-ghost use Rattle.wit_component.specs.Printer.{Prints, block_has_printed, emits_docs};
-ghost use Rattle.wit_component.specs.Render.{writes};
-ghost use Rattle.wit_component.specs.Shown.{listed_types};
-ghost use Rattle.wit_component.specs.UseGroups.{listed_of};
-ghost use Rattle.wit_component.specs.Valid.{IsValid};
+ghost use Rattle.wit_component.specs.{Lookup.interface_at, Printer.Prints, Printer.block_has_printed, Printer.emits_docs, Render.writes, UseGroups.listed_of};
+ghost use Rattle.wit_component.specs.{Shown.listed_types, Valid.IsValid};
 ghost use Rattle.callers.specs.Printed.{IsTextOf, IsTextOfTypes, calls_of_types};
 
 use std::alloc::{AllocError, Global};

@@ -1,21 +1,16 @@
 -- Where no type has a name, each can be encoded by an encoder of interfaces that hasn't been used.
 use Rattle.std.proofs.Common.{◌≡◌, refl, subst, ap, ◌∙◌, ℕ, ◌<◌, true, [], ◌∷◌, length, Option, None, Some, unwrap_or, is_some}
-use Rattle.std.specs.List.{list_all}
-use Rattle.std.specs.Prelude.{is_none}
-use Rattle.wit_model.specs.Types.{number_of}
-use Rattle.wit_model.specs.Valid.{IsValid}
-use Rattle.wit_model.specs.declared.model.Resolve.{Resolve}
-use Rattle.wit_model.specs.declared.model.TypeDef.{TypeDef}
-use Rattle.wit_model.specs.declared.model.TypeId.{TypeId}
-use Rattle.wit_model.specs.declared.model.TypeOwner.TheVariants as owner
-use Rattle.wit_model.specs.declared.model.«Type».TheVariants as ty
-use Rattle.encode_types.specs.Plan.{AllInRange}
-use Rattle.encode_types.specs.View.{Agrees}
+use Rattle.std.specs.{List.list_all, Prelude.is_none}
+use Rattle.wit_model.specs.{Types.number_of, Valid.IsValid}
+use Rattle.wit_model.specs.declared.model.{Resolve.Resolve, TypeDef.TypeDef, TypeId.TypeId}
+use Rattle.encode_types.specs.{Plan.AllInRange, View.Agrees}
 use Rattle.wit_encode.specs.OwnerScope.{IsScopeOf, NamesStand}
 use Rattle.wit_encode.proofs.OwnerScope.{names_encode, table_is_scope}
 use Rattle.wit_interfaces.specs.InterfaceEncoders.{InterfaceEncoder, interface_encoder_view}
 use Rattle.cases.specs.Asked.{CanBeAsked}
 use Rattle.base_lemmas.proofs.Elements.{all_get as at-index, last_of as one-contained}
+use Rattle.wit_model.specs.declared.model.TypeOwner.TheVariants as owner
+use Rattle.wit_model.specs.declared.model.«Type».TheVariants as ty
 
 abbrev AreUnnamed : Resolve → Type 0
 AreUnnamed r = list_all (λ (def : TypeDef). is_none def.name) r.types.items ≡ true

@@ -3,8 +3,7 @@
 ghost use Rattle.std.specs.Prelude.{◌≡◌, ◌<◌, true, length, is_some, OnOk};
 ghost use Rattle.std.specs.List.{list_all};
 ghost use Rattle.wit_component.specs.Senses.{sense_of};
-ghost use Rattle.wit_model.specs.Rules.{in_list};
-ghost use Rattle.wit_model.specs.Valid.{IsValid};
+ghost use Rattle.wit_model.specs.{Rules.in_list, Valid.IsValid};
 
 use crate::answer::Answer;
 use crate::encodings::{UnversionedWords, letters, letters_of};

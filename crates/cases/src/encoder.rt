@@ -1,7 +1,6 @@
 //! A type that an encoder of interfaces is handed, time after time.
 
-ghost use Rattle.std.specs.Prelude.{◌≡◌, ◌<◌, true, is_none, length};
-ghost use Rattle.std.specs.List.{list_all};
+ghost use Rattle.std.specs.{Prelude.◌≡◌, Prelude.◌<◌, Prelude.true, Prelude.is_none, Prelude.length, List.list_all};
 ghost use Rattle.wit_model.specs.Valid.{IsValid};
 ghost use Rattle.wit_interfaces.specs.InterfaceEncoders.{interface_encoder_view};
 ghost use Rattle.cases.specs.Asked.{CanBeAsked};

@@ -1,8 +1,7 @@
 //! What the calls on names answer of a whole `Resolve`, in words.
 
 ghost use Rattle.std.specs.Prelude.{◌≡◌, true};
-ghost use Rattle.wit_model.specs.Rules.{entries_in_range, item_in_range};
-ghost use Rattle.wit_model.specs.Valid.{IsValid};
+ghost use Rattle.wit_model.specs.{Rules.entries_in_range, Rules.item_in_range, Valid.IsValid};
 ghost use Rattle.wit_compat.specs.Compatible.{HasItemsInRange};
 
 use crate::answer::Answer;

@@ -1,17 +1,11 @@
 -- The numbers that a function and a kind refer to are those of their parts.
 use Rattle.std.proofs.Common.{◌≡◌, ap, sym, ◌∙◌, ℕ, Bool, ◌&&◌, List, ◌++◌, map, filter_map, option_to_list}
+use Rattle.std.proofs.lemmas.List.{Folds.list_all-append, Elements.filter_map-append}
 use Rattle.std.specs.List.{list_all}
-use Rattle.std.proofs.lemmas.List.Folds.{list_all-append}
-use Rattle.std.proofs.lemmas.List.Elements.{filter_map-append}
 use Rattle.wit_model.proofs.Lists.{list_all_filter_map, list_all_given}
-use Rattle.wit_model.specs.declared.model.«Type».{«Type» as ValueType}
-use Rattle.wit_model.specs.declared.model.Case.{Case}
-use Rattle.wit_model.specs.declared.model.Function.{Function}
-use Rattle.wit_model.specs.declared.model.TypeDefKind.{TypeDefKind}
-use Rattle.wit_model.specs.Types.{number_of}
-use Rattle.wit_model.specs.Lookup.{resource_of}
-use Rattle.wit_model.specs.Parts.{function_types, function_numbers, handled, kind_numbers, member_types}
-use Rattle.wit_model.specs.Uses.{alias_target}
+use Rattle.wit_model.specs.declared.model.{«Type».«Type» as ValueType, Case.Case, Function.Function, TypeDefKind.TypeDefKind}
+use Rattle.wit_model.specs.{Types.number_of, Uses.alias_target}
+use Rattle.wit_model.specs.{Lookup.resource_of, Parts.function_types, Parts.function_numbers, Parts.handled, Parts.kind_numbers, Parts.member_types}
 
 pub numbers_all : (p : ℕ → Bool) (xs ys : List ValueType) → list_all p (filter_map number_of (xs ++ ys)) ≡ (list_all p (filter_map number_of xs) && list_all p (filter_map number_of ys))
 numbers_all p xs ys = ap (list_all p) (filter_map-append number_of xs ys) ∙ list_all-append p (filter_map number_of xs) (filter_map number_of ys)

@@ -1,11 +1,8 @@
 -- What a walk over the interfaces or the types found, and what the four walks of a rule say of it.
 use Rattle.std.proofs.Common.{◌≡◌, sym, ap, ◌∙◌, ℕ, true, false, List, Some, None, Option, slice_get, option_map, MatchOption}
+use Rattle.wit_model.specs.declared.model.{Resolve.Resolve, Interface.Interface, TypeDef.TypeDef}
+use Rattle.wit_model.specs.{Rules.each_from, Valid.Rule, Valid.IsFound}
 use Rattle.wit_model.specs.declared.error.EntryList.TheVariants as lists
-use Rattle.wit_model.specs.declared.model.Resolve.{Resolve}
-use Rattle.wit_model.specs.declared.model.Interface.{Interface}
-use Rattle.wit_model.specs.declared.model.TypeDef.{TypeDef}
-use Rattle.wit_model.specs.Rules.{each_from}
-use Rattle.wit_model.specs.Valid.{Rule, IsFound}
 
 pub found_interfaces : (rule : Rule) (r : Resolve) (xs : List Interface) → xs ≡ r.interfaces.items → (o : Option ℕ)
     → MatchOption o (each_from (rule.interface_ r) 0 xs ≡ true) (λ n. option_map (rule.interface_ r n) (slice_get xs n) ≡ Some false) → IsFound rule r lists.Interfaces o

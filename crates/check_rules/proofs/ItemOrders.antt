@@ -1,42 +1,24 @@
 -- The order of a world's items, by what is shown and by how far its functions reach.
 use Rattle.std.proofs.Common.{◌≡◌, refl, sym, ap, subst, ◌∙◌, ℕ, ◌+◌, Bool, true, false, ◌&&◌, ◌||◌, not, ◌==◌, nat_le, List, [], ◌∷◌, ◌++◌, take, length, map, filter, filter_map, option_to_list, position, slice_get, Some, None, Option, append_assoc, append-nil, length-append, is_some, arith, String}
+use Rattle.std.proofs.lemmas.List.{Elements.filter_map-append, Folds.list_any-append}
 use Rattle.std.specs.declared.alloc.Global.{Global}
-use Rattle.std.specs.List.{list_all, cons_option}
-use Rattle.std.specs.Option.{option_map_or}
-use Rattle.std.specs.Map.{keys_of, values_of}
-use Rattle.std.proofs.lemmas.List.Elements.{filter_map-append}
-use Rattle.std.proofs.lemmas.List.Folds.{list_any-append}
+use Rattle.std.specs.{List.list_all, List.cons_option, Option.option_map_or, Map.keys_of, Map.values_of}
 use Rattle.indexmap.specs.IndexMap.{values}
-use Rattle.wit_model.specs.declared.error.EntryList.TheVariants as lists
-use Rattle.wit_model.specs.declared.model.Resolve.{Resolve}
-use Rattle.wit_model.specs.declared.model.World.{World}
-use Rattle.wit_model.specs.declared.model.WorldKey.{WorldKey}
-use Rattle.wit_model.specs.declared.model.WorldItem.{WorldItem}
-use Rattle.wit_model.specs.declared.model.WorldItem.TheVariants as item
-use Rattle.wit_model.specs.declared.model.TypeDef.{TypeDef}
-use Rattle.wit_model.specs.declared.model.Function.{Function}
-use Rattle.wit_model.specs.declared.model.TypeOwner.TheVariants as owner
+use Rattle.wit_model.specs.declared.model.{Resolve.Resolve, World.World, WorldKey.WorldKey, WorldItem.WorldItem, TypeDef.TypeDef, Function.Function}
 use Rattle.wit_model.specs.Text.{text_of}
-use Rattle.wit_model.specs.Lookup.{type_at, world_at}
-use Rattle.wit_model.specs.Uses.{has, item_interface, items_of}
+use Rattle.wit_model.specs.{Lookup.type_at, Lookup.world_at, Uses.has, Uses.item_interface, Uses.items_of, ItemOrders.uses_are_shown, ItemOrders.reaches_within}
 use Rattle.wit_model.specs.Parts.{function_numbers, met_by, met_of, used_by_function, same_owner, has_owner}
 use Rattle.wit_model.specs.Rules.{is_id, passes, each_from, each_after, is_name_key, item_type, world_type_numbers, is_listed, is_listed_in_world, are_in_order, used_by_number, used_interfaces, used_types, uses_stand_before, function_stays, is_member}
 use Rattle.wit_model.specs.Valid.{Keeps, as_world, item_function, functions_of_world, function_names, order_of_items, order_of_types, owners}
 use Rattle.wit_model.specs.Checks.{KeepsIn, references, listings, list_orders, rank_of, rank_in, reach_of}
-use Rattle.wit_model.specs.ItemOrders.{uses_are_shown, reaches_within}
-use Rattle.wit_model.proofs.Lists.{list_all_filter_map}
-use Rattle.wit_model.proofs.Entries.{each_from_at, free_passes, lists_pass}
-use Rattle.wit_model.proofs.Checks.{keeps_lists, keeps_three, references_kept}
-use Rattle.wit_model.proofs.Listed.{misfit}
-use Rattle.wit_model.proofs.Owners.{all_filter, function_home}
-use Rattle.check_rules.proofs.Ordered.{highest_flat}
-use Rattle.wit_model.proofs.InOrder.{found, fitting, found_stands, highest_within}
-use Rattle.check_rules.proofs.OwnerOrder.{owned_named, owned_place, all_same}
-use Rattle.check_rules.proofs.ListOrders.{before_seam}
-use Rattle.wit_model.proofs.Shown.{after_both, after_append, interfaces_before}
-use Rattle.base_lemmas.proofs.Bools.{left_of as first_true, right_of as second_true}
-use Rattle.base_lemmas.proofs.Elements.{all_by_number as all_at, all_weaker as all_imply}
-use Rattle.wit_model.proofs.PartsLemmas.{owner_same}
+use Rattle.wit_model.proofs.{Lists.list_all_filter_map, Listed.misfit, Shown.after_both, Shown.after_append, Shown.interfaces_before, PartsLemmas.owner_same}
+use Rattle.wit_model.proofs.{Entries.each_from_at, Entries.free_passes, Entries.lists_pass, Checks.keeps_lists, Checks.keeps_three, Checks.references_kept}
+use Rattle.wit_model.proofs.{Owners.all_filter, Owners.function_home, InOrder.found, InOrder.fitting, InOrder.found_stands, InOrder.highest_within}
+use Rattle.check_rules.proofs.{Ordered.highest_flat, OwnerOrder.owned_named, OwnerOrder.owned_place, OwnerOrder.all_same, ListOrders.before_seam}
+use Rattle.base_lemmas.proofs.{Bools.left_of as first_true, Bools.right_of as second_true, Elements.all_by_number as all_at, Elements.all_weaker as all_imply}
+use Rattle.wit_model.specs.declared.error.EntryList.TheVariants as lists
+use Rattle.wit_model.specs.declared.model.WorldItem.TheVariants as item
+use Rattle.wit_model.specs.declared.model.TypeOwner.TheVariants as owner
 
 -- ---- the parts of the rule on the order of types
 

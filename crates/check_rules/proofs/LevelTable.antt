@@ -1,33 +1,18 @@
 -- The unnamed levels of a type may be computed along the list of types, where each refers to smaller numbers alone.
 use Rattle.std.proofs.Common.{◌≡◌, refl, sym, ap, subst, ◌∙◌, ℕ, ◌+◌, ◌<◌, ◌≤◌, min, max, true, nat_lt, nat_le, T, ltb→lt, List, [], ◌∷◌, ◌++◌, length, map, filter_map, option_map, option_to_list, Some, None, Option, unwrap_or, append-nil, arith}
-use Rattle.std.specs.List.{list_all, cons_option}
-use Rattle.std.specs.Option.{option_map_or}
 use Rattle.std.proofs.lemmas.Option.{slice_get_past}
-use Rattle.wit_model.specs.declared.model.Resolve.{Resolve}
-use Rattle.wit_model.specs.declared.model.TypeDef.{TypeDef}
-use Rattle.wit_model.specs.declared.model.TypeDefKind.{TypeDefKind}
-use Rattle.wit_model.specs.declared.model.TypeDefKind.TheVariants as kind
-use Rattle.wit_model.specs.declared.model.Handle.{Handle}
-use Rattle.wit_model.specs.declared.model.Handle.TheVariants as handle
-use Rattle.wit_model.specs.declared.model.Field.{Field}
-use Rattle.wit_model.specs.declared.model.Case.{Case}
-use Rattle.wit_model.specs.declared.model.Function.{Function}
-use Rattle.wit_model.specs.declared.model.«Type».{«Type» as ValueType}
-use Rattle.wit_model.specs.declared.model.«Type».TheVariants as ty
-use Rattle.wit_model.specs.Text.{Text, text_of}
-use Rattle.wit_model.specs.Lookup.{type_at, place_of}
+use Rattle.std.specs.{List.list_all, List.cons_option, Option.option_map_or}
+use Rattle.wit_model.specs.declared.model.{Resolve.Resolve, TypeDef.TypeDef, TypeDefKind.TypeDefKind, Case.Case, Function.Function, «Type».«Type» as ValueType}
+use Rattle.wit_model.specs.declared.model.{Handle.Handle, Field.Field}
+use Rattle.wit_model.specs.{Text.Text, Text.text_of, Parts.kind_numbers, Parts.function_types, Rules.is_shallow, Valid.Keeps}
+use Rattle.wit_model.specs.{Lookup.type_at, Lookup.place_of, Checks.references, Checks.highest, Checks.levels_above, Checks.capped_levels, Checks.all_values}
 use Rattle.wit_model.specs.Tree.{Tree, levels, deepest, children, given, named}
 use Rattle.wit_model.specs.Types.{number_of, no_tree, tree_at, tree_of, declared_by, tree_of_declaration, tree_of_definition, trees_of, number_tree}
-use Rattle.wit_model.specs.Parts.{kind_numbers, function_types}
-use Rattle.wit_model.specs.Rules.{is_shallow}
-use Rattle.wit_model.specs.Valid.{Keeps}
-use Rattle.wit_model.specs.Checks.{references, highest, levels_above, capped_levels, all_values}
-use Rattle.wit_model.proofs.Tables.{grow_keeps}
-use Rattle.wit_model.proofs.TreeTable.{trees_at}
-use Rattle.wit_model.proofs.Checks.{below_at}
-use Rattle.wit_model.proofs.Functions.{types_test, functions_test}
-use Rattle.base_lemmas.proofs.Bools.{and-true, left_of as first_true, right_of as second_true}
-use Rattle.base_lemmas.proofs.Numbers.{max-none}
+use Rattle.wit_model.proofs.{Tables.grow_keeps, TreeTable.trees_at, Checks.below_at, Functions.types_test, Functions.functions_test}
+use Rattle.base_lemmas.proofs.{Bools.and-true, Bools.left_of as first_true, Bools.right_of as second_true, Numbers.max-none}
+use Rattle.wit_model.specs.declared.model.TypeDefKind.TheVariants as kind
+use Rattle.wit_model.specs.declared.model.Handle.TheVariants as handle
+use Rattle.wit_model.specs.declared.model.«Type».TheVariants as ty
 
 -- ---- the levels of what a kind declares
 

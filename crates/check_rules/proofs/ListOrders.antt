@@ -1,39 +1,21 @@
 -- The third part of the rule on the order of types, by places, for interfaces and worlds.
 use Rattle.std.proofs.Common.{◌≡◌, refl, sym, ap, subst, ◌∙◌, ℕ, zero, suc, ◌+◌, true, false, ◌||◌, not, ◌==◌, eq-eqb, lit≤, List, [], ◌∷◌, ◌++◌, take, length, map, filter_map, option_map, position, string_bytes, Some, None, Option, unwrap_or, arith, String}
-use Rattle.std.specs.declared.alloc.Global.{Global}
-use Rattle.std.specs.List.{list_all, cons_option}
-use Rattle.std.specs.Option.{option_map_or}
-use Rattle.std.specs.Str.{bytes_eq}
-use Rattle.std.specs.Map.{keys_of, values_of}
-use Rattle.std.specs.HashMap.{get_by_text}
 use Rattle.std.proofs.Math.Seq.{take-append_seam}
-use Rattle.std.proofs.lemmas.List.Elements.{filter_map-append}
-use Rattle.std.proofs.lemmas.List.Folds.{list_any-append}
+use Rattle.std.proofs.lemmas.{List.Elements.filter_map-append, List.Folds.list_any-append, Bool.and_right as second_false}
+use Rattle.std.specs.declared.alloc.Global.{Global}
+use Rattle.std.specs.{List.list_all, List.cons_option, Option.option_map_or, Str.bytes_eq, Map.keys_of, Map.values_of, HashMap.get_by_text}
 use Rattle.indexmap.specs.IndexMap.{values}
-use Rattle.wit_model.specs.declared.model.Resolve.{Resolve}
-use Rattle.wit_model.specs.declared.model.Interface.{Interface}
-use Rattle.wit_model.specs.declared.model.World.{World}
-use Rattle.wit_model.specs.declared.model.TypeDef.{TypeDef}
-use Rattle.wit_model.specs.declared.model.TypeOwner.{TypeOwner}
-use Rattle.wit_model.specs.declared.model.TypeOwner.TheVariants as owner
-use Rattle.wit_model.specs.Text.{text_of, text_eq}
-use Rattle.wit_model.specs.Lookup.{type_at, interface_at, world_at}
-use Rattle.wit_model.specs.Uses.{has}
-use Rattle.wit_model.specs.Parts.{same_owner}
+use Rattle.wit_model.specs.declared.model.{Resolve.Resolve, Interface.Interface, World.World, TypeDef.TypeDef, TypeOwner.TypeOwner}
+use Rattle.wit_model.specs.{Text.text_of, Text.text_eq, Lookup.type_at, Lookup.interface_at, Lookup.world_at, Uses.has, Parts.same_owner}
 use Rattle.wit_model.specs.Rules.{passes, is_id, is_name_key, item_type, each_from, is_named_of, is_listed, is_listed_in_interface, is_listed_in_world, interface_type_numbers, world_type_numbers, used_by_number, are_in_order}
-use Rattle.wit_model.specs.declared.error.EntryList.TheVariants as lists
 use Rattle.wit_model.specs.Valid.{Keeps, Breaks, entry_keeps, owners, order_of_types, as_interface, as_world}
 use Rattle.wit_model.specs.Checks.{references, list_orders, listings, names_fit, has_name, key_fits, rank_in, rank_of, reach_of, stands_in_order}
-use Rattle.wit_model.proofs.Entries.{each_from_at, lists_pass}
-use Rattle.wit_model.proofs.Checks.{keeps_three}
-use Rattle.wit_model.proofs.Listings.{given_all, given_found, entry_fits, item_entry_fits}
-use Rattle.wit_model.proofs.InOrder.{found, fitting}
-use Rattle.check_rules.proofs.OwnerOrder.{walk, entry_stands}
-use Rattle.base_lemmas.proofs.Bools.{left_of as first_true, or_true}
-use Rattle.base_lemmas.proofs.Elements.{all_weaker as all_imply}
-use Rattle.std.proofs.lemmas.Bool.{and_right as second_false}
-use Rattle.wit_model.proofs.Chains.{all_has}
-use Rattle.check_rules.proofs.PackageNames.{each_both}
+use Rattle.wit_model.proofs.{Entries.each_from_at, Entries.lists_pass, Listings.given_all, Listings.given_found, Listings.entry_fits, Listings.item_entry_fits}
+use Rattle.wit_model.proofs.{Checks.keeps_three, InOrder.found, InOrder.fitting, Chains.all_has}
+use Rattle.check_rules.proofs.{OwnerOrder.walk, OwnerOrder.entry_stands, PackageNames.each_both}
+use Rattle.base_lemmas.proofs.{Bools.left_of as first_true, Bools.or_true, Elements.all_weaker as all_imply}
+use Rattle.wit_model.specs.declared.model.TypeOwner.TheVariants as owner
+use Rattle.wit_model.specs.declared.error.EntryList.TheVariants as lists
 
 take_map : {X Y : Type 0} (f : X → Y) (n : ℕ) (xs : List X) → map f (take n xs) ≡ take n (map f xs)
 take_map f zero [] = refl

@@ -2,13 +2,9 @@
 use Rattle.std.proofs.Common.{◌≡◌, refl, ap, ◌∙◌, ℕ, max, List, [], ◌∷◌, ◌++◌, flat_map, Some, None, arith, String}
 use Rattle.std.specs.declared.alloc.Global.{Global}
 use Rattle.std.specs.Option.{option_map_or}
-use Rattle.wit_model.specs.declared.model.Resolve.{Resolve}
-use Rattle.wit_model.specs.declared.model.TypeDef.{TypeDef}
-use Rattle.wit_model.specs.Text.{text_of}
-use Rattle.wit_model.specs.Lookup.{type_at}
+use Rattle.wit_model.specs.declared.model.{Resolve.Resolve, TypeDef.TypeDef}
+use Rattle.wit_model.specs.{Text.text_of, Lookup.type_at, Valid.Keeps, Checks.references, Checks.highest, Checks.rank_in, Checks.rank_of, Checks.reach_of}
 use Rattle.wit_model.specs.Parts.{kind_numbers, met_by, met_of, used_by_type}
-use Rattle.wit_model.specs.Valid.{Keeps}
-use Rattle.wit_model.specs.Checks.{references, highest, rank_in, rank_of, reach_of}
 use Rattle.wit_model.proofs.Owners.{met_step}
 use Rattle.base_lemmas.proofs.Numbers.{max-none}
 

@@ -1,30 +1,20 @@
 -- The order of an owner's list, entry by entry: what each owner's list has to know of its types.
 use Rattle.std.proofs.Common.{◌≡◌, refl, sym, ap, subst, ◌∙◌, ℕ, ◌+◌, Bool, true, false, ◌&&◌, ◌||◌, not, nat_le, List, [], ◌∷◌, ◌++◌, take, length, filter_map, flat_map, position, is_some, Some, None, Option, append_assoc, append-nil, length-append, arith, String}
+use Rattle.std.proofs.lemmas.{List.Elements.filter_map-append, Bool.not-true as not_true}
 use Rattle.std.specs.declared.alloc.Global.{Global}
-use Rattle.std.specs.List.{list_all, cons_option}
-use Rattle.std.specs.Option.{option_map_or}
-use Rattle.std.specs.Map.{keys_of, values_of}
-use Rattle.std.proofs.lemmas.List.Elements.{filter_map-append}
-use Rattle.wit_model.specs.declared.model.Resolve.{Resolve}
-use Rattle.wit_model.specs.declared.model.TypeDef.{TypeDef}
-use Rattle.wit_model.specs.declared.model.TypeOwner.{TypeOwner}
-use Rattle.wit_model.specs.declared.model.TypeOwner.TheVariants as owner
+use Rattle.std.specs.{List.list_all, List.cons_option, Option.option_map_or, Map.keys_of, Map.values_of}
+use Rattle.wit_model.specs.declared.model.{Resolve.Resolve, TypeDef.TypeDef, TypeOwner.TypeOwner}
 use Rattle.wit_model.specs.Text.{Text, text_of}
-use Rattle.wit_model.specs.declared.model.TypeDefKind.TheVariants as kind
-use Rattle.wit_model.specs.Lookup.{type_at, interface_at}
-use Rattle.wit_model.specs.Uses.{has, alias_target, owner_interface}
+use Rattle.wit_model.specs.{Lookup.type_at, Lookup.interface_at, Uses.has, Uses.alias_target, Uses.owner_interface, Valid.Keeps, Valid.owners}
 use Rattle.wit_model.specs.Parts.{kind_numbers, used_by_type, same_owner, has_owner, met_by, met_of}
 use Rattle.wit_model.specs.Rules.{passes, each_from, each_after, is_use, type_stays, is_listed, is_named_of, used_by_number}
-use Rattle.wit_model.specs.Valid.{Keeps, owners}
 use Rattle.wit_model.specs.Checks.{highest, references, listings, rank_of, reach_of, stands_in_order}
-use Rattle.wit_model.proofs.Entries.{each_from_at, lists_pass}
-use Rattle.wit_model.proofs.Owners.{met_step, owned_stays}
+use Rattle.wit_model.proofs.{Entries.each_from_at, Entries.lists_pass, InOrder.found, InOrder.fitting, InOrder.used_place, InOrder.highest_within}
+use Rattle.wit_model.proofs.{Owners.met_step, Owners.owned_stays, PartsLemmas.owner_same, UsesLemmas.alias_numbers}
 use Rattle.check_rules.proofs.Ordered.{highest_flat}
-use Rattle.wit_model.proofs.InOrder.{found, fitting, used_place, highest_within}
 use Rattle.base_lemmas.proofs.Bools.{left_of as first_true, right_of as second_true}
-use Rattle.std.proofs.lemmas.Bool.{not-true as not_true}
-use Rattle.wit_model.proofs.PartsLemmas.{owner_same}
-use Rattle.wit_model.proofs.UsesLemmas.{alias_numbers}
+use Rattle.wit_model.specs.declared.model.TypeOwner.TheVariants as owner
+use Rattle.wit_model.specs.declared.model.TypeDefKind.TheVariants as kind
 
 -- ---- a walk over the list with places is a walk with what stands before
 

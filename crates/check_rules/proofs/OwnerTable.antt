@@ -1,14 +1,10 @@
 -- The tests of the rule on owners, by a table of what is met.
 use Rattle.std.proofs.Common.{◌≡◌, refl, sym, ap, ◌∙◌, ℕ, Bool, ◌&&◌, List, [], ◌∷◌, flat_map}
-use Rattle.std.specs.List.{list_all}
 use Rattle.std.proofs.lemmas.List.Folds.{list_all-append}
+use Rattle.std.specs.List.{list_all}
 use Rattle.check_rules.specs.declared.owners.Met.{Met}
-use Rattle.wit_model.specs.declared.model.Resolve.{Resolve}
-use Rattle.wit_model.specs.declared.model.TypeOwner.{TypeOwner}
-use Rattle.wit_model.specs.declared.model.Function.{Function}
-use Rattle.wit_model.specs.Parts.{met_by, met_of, has_owner}
-use Rattle.wit_model.specs.Rules.{function_stays}
-use Rattle.wit_model.specs.Checks.{values_of, all_values}
+use Rattle.wit_model.specs.declared.model.{Resolve.Resolve, TypeOwner.TypeOwner, Function.Function}
+use Rattle.wit_model.specs.{Parts.met_by, Parts.met_of, Parts.has_owner, Rules.function_stays, Checks.values_of, Checks.all_values}
 use Rattle.check_rules.specs.Owners.{stays, met_entry, IsMetTable}
 use Rattle.wit_model.proofs.Functions.{all_flat}
 

@@ -1,26 +1,19 @@
 -- The rule on packages' names from its two parts.
 use Rattle.std.proofs.Common.{◌≡◌, refl, sym, ap, subst, ◌∙◌, ℕ, zero, suc, ◌+◌, ◌<◌, Bool, true, false, ◌&&◌, ◌||◌, not, ◌==◌, List, [], ◌∷◌, map, take, Option, Some, None, option_map, slice_get, inl, inr, arith, lit≤, eq-eqb}
-use Rattle.std.specs.List.{list_any}
 use Rattle.std.proofs.lemmas.Bool.{cases_order, or_right, and_from as both_true, and_left as fails_first, and_right as fails_second, or_parts as either_fails}
+use Rattle.std.proofs.lemmas.Option.{same_Some as some_same}
+use Rattle.std.specs.List.{list_any}
 use Rattle.semver.specs.declared.Version.{Version}
 use Rattle.semver.specs.Identifiers.{pre_text, build_text}
-use Rattle.wit_model.specs.declared.error.EntryList.TheVariants as lists
-use Rattle.wit_model.specs.declared.model.Resolve.{Resolve}
-use Rattle.wit_model.specs.declared.model.Package.{Package}
-use Rattle.wit_model.specs.declared.model.PackageName.{PackageName}
-use Rattle.wit_model.specs.Text.{text_of}
-use Rattle.wit_model.specs.Lookup.{package_at}
-use Rattle.wit_model.specs.Rules.{each_from, same_package_name, same_version}
-use Rattle.wit_model.specs.Valid.{Breaks, Keeps, entry_keeps, package_names}
-use Rattle.wit_model.specs.Checks.{KeepsIn}
+use Rattle.wit_model.specs.declared.model.{Resolve.Resolve, Package.Package, PackageName.PackageName}
+use Rattle.wit_model.specs.{Text.text_of, Lookup.package_at, Checks.KeepsIn}
+use Rattle.wit_model.specs.{Rules.each_from, Rules.same_package_name, Rules.same_version, Valid.Breaks, Valid.Keeps, Valid.entry_keeps, Valid.package_names}
 use Rattle.check_rules.specs.PackageNames.{distinct_names, is_package_name, well_named}
-use Rattle.wit_model.proofs.Entries.{each_from_all, packages_keep}
+use Rattle.wit_model.proofs.{Entries.each_from_all, Entries.packages_keep, RulesLemmas.version_flip as optional_flip, RulesLemmas.name_flip}
 use Rattle.wit_model.proofs.Distinct.{adds_new, adds_apart, are_apart, not_is, text_eq_flip}
 use Rattle.base_lemmas.proofs.Bools.{both_same, left_of as first_true, right_of as second_true}
 use Rattle.base_lemmas.proofs.Numbers.{unequal as differ, turned as number_flip}
-use Rattle.std.proofs.lemmas.Option.{same_Some as some_same}
-use Rattle.wit_model.proofs.RulesLemmas.{version_flip as optional_flip}
-use Rattle.wit_model.proofs.RulesLemmas.{name_flip}
+use Rattle.wit_model.specs.declared.error.EntryList.TheVariants as lists
 
 no_some : {A B : Type 0} (x : A) → None ≡ Some x → B
 no_some x e = let wrong : ⊥ = cc in absurd wrong

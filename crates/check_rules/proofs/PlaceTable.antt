@@ -1,14 +1,12 @@
 -- A table of what worlds show says where inline interfaces stand.
 use Rattle.std.proofs.Common.{◌≡◌, refl, sym, ap, ◌∙◌, ℕ, zero, suc, ◌+◌, ◌<◌, Bool, true, false, ◌&&◌, ◌||◌, ◌==◌, List, [], ◌∷◌, length, sum_by, set, replicate, Option, arith}
-use Rattle.std.specs.List.{list_all}
-use Rattle.std.specs.Option.{option_eq}
 use Rattle.std.proofs.lemmas.List.Sums.{sum_by-cons}
+use Rattle.std.specs.{List.list_all, Option.option_eq}
 use Rattle.check_rules.specs.declared.shown.Shown.{Shown}
-use Rattle.check_rules.specs.declared.shown.Shown.TheVariants as shown
-use Rattle.wit_model.specs.declared.model.PackageId.{PackageId}
-use Rattle.wit_model.specs.declared.model.World.{World}
+use Rattle.wit_model.specs.declared.model.{PackageId.PackageId, World.World}
 use Rattle.wit_model.specs.Rules.{package_number, times_shown}
 use Rattle.check_rules.specs.Places.{times, time, joined, shown_by_all, is_once_in, is_inline_in, shown_entry}
+use Rattle.check_rules.specs.declared.shown.Shown.TheVariants as shown
 
 -- ---- what is shown, together
 

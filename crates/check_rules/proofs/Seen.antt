@@ -1,7 +1,6 @@
 -- What holds of each entry that a walk has seen.
 use Rattle.std.proofs.Common.{◌≡◌, sym, subst, ℕ, ◌+◌, ◌<◌, ◌≤◌, inl, inr, List, Some, length, slice_get, arith, ap, ◌∙◌}
-use Rattle.std.proofs.lemmas.Bool.{cases_eq}
-use Rattle.std.proofs.lemmas.Option.{same_Some, slice_get_within}
+use Rattle.std.proofs.lemmas.{Bool.cases_eq, Option.same_Some, Option.slice_get_within}
 
 module _ {A : Type 0} (P : A → Type 0) (xs : List A) where
   -- one more

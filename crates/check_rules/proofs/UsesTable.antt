@@ -1,21 +1,14 @@
 -- The sets of the interfaces that each interface uses.
 use Rattle.std.proofs.Common.{◌≡◌, refl, sym, ap, subst, ◌∙◌, ℕ, ◌+◌, ◌<◌, ◌≤◌, Bool, true, false, ◌&&◌, ◌||◌, not, ◌==◌, List, [], ◌∷◌, ◌++◌, length, option_to_list, slice_get, Some, None, Option, arith}
-use Rattle.std.specs.List.{list_all, list_any}
-use Rattle.std.specs.Option.{option_map_or}
-use Rattle.std.specs.HashSet.{HashSet}
 use Rattle.std.proofs.lemmas.Option.{slice_get_past}
+use Rattle.std.specs.{List.list_all, List.list_any, Option.option_map_or, HashSet.HashSet}
 use Rattle.indexmap.specs.IndexMap.{values}
-use Rattle.wit_model.specs.declared.model.Resolve.{Resolve}
-use Rattle.wit_model.specs.declared.model.Interface.{Interface}
-use Rattle.wit_model.specs.Lookup.{interface_at}
-use Rattle.wit_model.specs.Uses.{has, interface_used_by, direct_deps}
+use Rattle.wit_model.specs.declared.model.{Resolve.Resolve, Interface.Interface}
+use Rattle.wit_model.specs.{Lookup.interface_at, Uses.has, Uses.interface_used_by, Uses.direct_deps}
 use Rattle.wit_model.specs.ItemOrders.{holds, is_other_use, entry_holds, entry_passes, IsUsesTable}
-use Rattle.wit_model.proofs.Checks.{below_or_past, get_before}
-use Rattle.wit_model.proofs.Shown.{deps_pass}
-use Rattle.base_lemmas.proofs.Elements.{not_all}
-use Rattle.base_lemmas.proofs.Lists.{at_last as get_last}
+use Rattle.wit_model.proofs.{Checks.below_or_past, Checks.get_before, Shown.deps_pass, UsesLemmas.all_from_has as all_of_has, UsesLemmas.any_is_has as held}
 use Rattle.wit_model.proofs.Chains.{all_has}
-use Rattle.wit_model.proofs.UsesLemmas.{all_from_has as all_of_has, any_is_has as held}
+use Rattle.base_lemmas.proofs.{Elements.not_all, Lists.at_last as get_last}
 
 -- ---- lists with the same numbers
 

@@ -2,14 +2,10 @@
 use Rattle.std.specs.Prelude.{Bool, false, ◌&&◌, ◌++◌, [], ◌∷◌, Option, None, if◌then◌else◌}
 use Rattle.std.specs.Option.{option_map_or}
 use Rattle.check_rules.specs.declared.members.Home.{Home}
-use Rattle.check_rules.specs.declared.members.Home.TheVariants as home
-use Rattle.wit_model.specs.declared.model.TypeDef.{TypeDef}
-use Rattle.wit_model.specs.declared.model.TypeOwner.{TypeOwner}
-use Rattle.wit_model.specs.Text.{Text, optional_text}
+use Rattle.wit_model.specs.declared.model.{TypeDef.TypeDef, TypeOwner.TypeOwner}
+use Rattle.wit_model.specs.{Text.Text, Text.optional_text, Parts.same_owner, Rules.after_prefix, Rules.is_resource_itself, Valid.as_interface, Valid.as_world}
 use Rattle.wit_model.specs.Names.{is_label}
-use Rattle.wit_model.specs.Parts.{same_owner}
-use Rattle.wit_model.specs.Rules.{after_prefix, is_resource_itself}
-use Rattle.wit_model.specs.Valid.{as_interface, as_world}
+use Rattle.check_rules.specs.declared.members.Home.TheVariants as home
 
 -- the owner of a number
 abbrev pub owner_of : Home → TypeOwner

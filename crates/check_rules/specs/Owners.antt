@@ -2,10 +2,9 @@
 use Rattle.std.specs.Prelude.{◌≡◌, ℕ, Bool, true, false, List, unwrap_or, slice_get}
 use Rattle.std.specs.List.{list_all}
 use Rattle.check_rules.specs.declared.owners.Met.{Met}
-use Rattle.check_rules.specs.declared.owners.Met.TheVariants as met
-use Rattle.wit_model.specs.declared.model.Resolve.{Resolve}
-use Rattle.wit_model.specs.declared.model.TypeOwner.{TypeOwner}
+use Rattle.wit_model.specs.declared.model.{Resolve.Resolve, TypeOwner.TypeOwner}
 use Rattle.wit_model.specs.Parts.{met_by, met_of, same_owner, has_owner}
+use Rattle.check_rules.specs.declared.owners.Met.TheVariants as met
 
 -- whether all that is met has this owner
 abbrev pub stays : Met → TypeOwner → Bool

@@ -1,10 +1,7 @@
 -- The two parts of the rule on packages' names.
 use Rattle.std.specs.Prelude.{Bool, ◌&&◌, ◌||◌, not, ◌==◌}
 use Rattle.wit_model.specs.declared.model.PackageName.{PackageName}
-use Rattle.wit_model.specs.Text.{text_of}
-use Rattle.wit_model.specs.Names.{is_label, is_version}
-use Rattle.wit_model.specs.Rules.{each_from, passes, same_package_name}
-use Rattle.wit_model.specs.Valid.{Rule, free}
+use Rattle.wit_model.specs.{Text.text_of, Names.is_label, Names.is_version, Rules.each_from, Rules.passes, Rules.same_package_name, Valid.Rule, Valid.free}
 
 -- the namespace and the name are labels, and the version is one of Semantic Versioning 2.0.0
 abbrev pub is_package_name : PackageName → Bool

@@ -1,15 +1,10 @@
 -- How often worlds show an interface, and in which package.
 use Rattle.std.specs.Prelude.{◌≡◌, ℕ, zero, suc, ◌<◌, Bool, true, false, not, ◌&&◌, ◌||◌, ◌==◌, List, [], ◌∷◌, length, sum_by, Option, option_and_then, unwrap_or, slice_get}
-use Rattle.std.specs.List.{list_all}
-use Rattle.std.specs.Option.{option_eq, option_map_or}
+use Rattle.std.specs.{List.list_all, Option.option_eq, Option.option_map_or}
 use Rattle.check_rules.specs.declared.shown.Shown.{Shown}
+use Rattle.wit_model.specs.declared.model.{PackageId.PackageId, Resolve.Resolve, World.World}
+use Rattle.wit_model.specs.{Lookup.package_at, Rules.interface_is_listed, Rules.is_world_name, Rules.package_number, Rules.times_shown, Text.Text}
 use Rattle.check_rules.specs.declared.shown.Shown.TheVariants as shown
-use Rattle.wit_model.specs.declared.model.PackageId.{PackageId}
-use Rattle.wit_model.specs.declared.model.Resolve.{Resolve}
-use Rattle.wit_model.specs.declared.model.World.{World}
-use Rattle.wit_model.specs.Lookup.{package_at}
-use Rattle.wit_model.specs.Rules.{interface_is_listed, is_world_name, package_number, times_shown}
-use Rattle.wit_model.specs.Text.{Text}
 
 -- what is said of so many times in worlds of one package
 abbrev pub times : ℕ → Option PackageId → Shown

@@ -2,8 +2,7 @@
 
 ghost use Rattle.std.specs.Prelude.{◌≡◌, ◌++◌, filter_map, IfOk, OnOk};
 ghost use Rattle.indexmap.specs.IndexMap.{values};
-ghost use Rattle.wit_model.specs.Checks.{all_values, values_of};
-ghost use Rattle.wit_model.specs.Valid.{functions_of_interface, functions_of_world, item_function};
+ghost use Rattle.wit_model.specs.{Checks.all_values, Checks.values_of, Valid.functions_of_interface, Valid.functions_of_world, Valid.item_function};
 
 use crate::parts::value_numbers;
 use std::alloc::{AllocError, Global};

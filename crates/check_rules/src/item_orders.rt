@@ -1,12 +1,10 @@
 //! The rule on the order of a world's items: what an item uses stands before it.
 
 ghost use Rattle.std.specs.Prelude.{◌≡◌, ◌&&◌, ◌||◌, ◌==◌, ◌<◌, ℕ, false, length, option_to_list, slice_get, true, Some, IfOk, OnOk, IfErr};
-ghost use Rattle.std.specs.List.{list_all, list_any};
-ghost use Rattle.std.specs.Option.{option_copied};
+ghost use Rattle.std.specs.{List.list_all, List.list_any, Option.option_copied};
 ghost use Rattle.indexmap.specs.IndexMap.{values};
-ghost use Rattle.wit_model.specs.Checks.{KeepsIn, entry_of, reach_of};
+ghost use Rattle.wit_model.specs.{Checks.KeepsIn, Checks.entry_of, Checks.reach_of, Rules.each_from, Rules.passes, Rules.used_interfaces};
 ghost use Rattle.wit_model.specs.ItemOrders.{IsUsesTable, entry_passes, holds, is_other_use, reaches_within, shown_after, shown_with, uses_are_shown as uses_are_shown_lem};
-ghost use Rattle.wit_model.specs.Rules.{each_from, passes, used_interfaces};
 ghost use Rattle.wit_model.specs.Uses.{direct_deps, has, interface_used_by as interface_used_by_lem, items_of};
 ghost use Rattle.wit_model.specs.Valid.{Keeps, entry_keeps, function_names, item_function, order_of_items, order_of_types, owners, IsFaultOf};
 ghost use Rattle.wit_model.specs.declared.error.EntryList.TheVariants as lists;

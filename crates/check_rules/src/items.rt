@@ -1,13 +1,9 @@
 //! The rule on a world's items: which items stand under which keys.
 
-ghost use Rattle.std.specs.Prelude.{◌≡◌, ◌&&◌, OnOk, IfErr, is_some};
-ghost use Rattle.std.specs.List.{list_all};
-ghost use Rattle.wit_model.specs.Lookup.{interface_at as interface_at_lem, type_at as type_at_lem};
-ghost use Rattle.wit_model.specs.Text.{text_of};
-ghost use Rattle.wit_model.specs.Parts.{same_owner};
-ghost use Rattle.wit_model.specs.Uses.{item_interface};
+ghost use Rattle.std.specs.{Prelude.◌≡◌, Prelude.◌&&◌, Prelude.OnOk, Prelude.IfErr, Prelude.is_some, List.list_all};
+ghost use Rattle.wit_model.specs.{Lookup.interface_at as interface_at_lem, Lookup.type_at as type_at_lem, Text.text_of};
+ghost use Rattle.wit_model.specs.{Parts.same_owner, Uses.item_interface, Valid.as_world, Valid.world_items, Valid.IsFaultOf, Valid.IsFound, Valid.Keeps};
 ghost use Rattle.wit_model.specs.Rules.{export_stands, import_stands, is_export_item, is_freestanding as is_freestanding_lem, is_id, is_interface_key, is_own_type, item_type as item_type_lem, passes, text_is};
-ghost use Rattle.wit_model.specs.Valid.{as_world, world_items, IsFaultOf, IsFound, Keeps};
 
 use crate::walk::first_failing;
 use wit_model::lookup::{interface_at, type_at};

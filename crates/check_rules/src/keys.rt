@@ -1,11 +1,8 @@
 //! The rule on names in packages: what stands in a package's map has the map's key as its name.
 
-ghost use Rattle.std.specs.Prelude.{◌≡◌, OnOk, IfErr};
-ghost use Rattle.std.specs.List.{list_all};
-ghost use Rattle.wit_model.specs.Lookup.{interface_at as interface_at_lem, world_at as world_at_lem};
-ghost use Rattle.wit_model.specs.Text.{text_eq, text_of};
-ghost use Rattle.wit_model.specs.Rules.{passes, text_is};
-ghost use Rattle.wit_model.specs.Valid.{names_in_packages, IsFaultOf, IsFound, Keeps};
+ghost use Rattle.std.specs.{Prelude.◌≡◌, Prelude.OnOk, Prelude.IfErr, List.list_all};
+ghost use Rattle.wit_model.specs.{Lookup.interface_at as interface_at_lem, Lookup.world_at as world_at_lem, Rules.passes, Rules.text_is};
+ghost use Rattle.wit_model.specs.{Text.text_eq, Text.text_of, Valid.names_in_packages, Valid.IsFaultOf, Valid.IsFound, Valid.Keeps};
 
 use crate::walk::first_failing;
 use wit_model::lookup::{interface_at, world_at};

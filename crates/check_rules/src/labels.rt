@@ -3,9 +3,7 @@
 ghost use Rattle.std.specs.Prelude.{◌≡◌, ◌&&◌, ◌<◌, length, map, not, Some, IfOk, OnOk, IfErr};
 ghost use Rattle.std.specs.List.{list_all, list_any};
 ghost use Rattle.indexmap.specs.IndexMap.{keys, values};
-ghost use Rattle.wit_model.specs.Names.{is_label as is_label_lem, is_version as is_version_lem};
-ghost use Rattle.wit_model.specs.Text.{text_eq, text_of};
-ghost use Rattle.wit_model.specs.Checks.{KeepsIn};
+ghost use Rattle.wit_model.specs.{Names.is_label as is_label_lem, Names.is_version as is_version_lem, Text.text_eq, Text.text_of, Checks.KeepsIn};
 ghost use Rattle.wit_model.specs.Rules.{are_member_labels as are_member_labels_lem, entries_labels, function_labels, is_stability as is_stability_lem, item_labels, key_label, kind_labels, passes};
 ghost use Rattle.wit_model.specs.Valid.{labels, Keeps, entry_keeps, IsFaultOf};
 ghost use Rattle.wit_model.specs.declared.error.EntryList.TheVariants as lists;

@@ -2,10 +2,8 @@
 
 ghost use Rattle.std.specs.Prelude.{◌≡◌, ℕ, ◌<◌, ◌≤◌, length, min, nat_le, Some, IfOk, OnOk, IfErr};
 ghost use Rattle.std.specs.List.{list_all};
-ghost use Rattle.wit_model.specs.Checks.{KeepsIn, capped_levels, entry_of, levels_above, references};
-ghost use Rattle.wit_model.specs.Tree.{levels};
-ghost use Rattle.wit_model.specs.Types.{number_tree};
-ghost use Rattle.wit_model.specs.Valid.{Keeps, depths, entry_keeps, IsFaultOf};
+ghost use Rattle.wit_model.specs.{Checks.KeepsIn, Checks.capped_levels, Checks.entry_of, Checks.levels_above, Checks.references, Types.number_tree};
+ghost use Rattle.wit_model.specs.{Tree.levels, Valid.Keeps, Valid.depths, Valid.entry_keeps, Valid.IsFaultOf};
 ghost use Rattle.wit_model.specs.declared.error.EntryList.TheVariants as lists;
 
 use crate::functions::{interface_numbers, world_numbers};

@@ -1,14 +1,11 @@
 //! The third part of the rule on the order of types: a named type that another of its list uses stands earlier in it.
 
 ghost use Rattle.std.specs.Prelude.{◌≡◌, ◌||◌, ◌+◌, ◌<◌, ℕ, length, nat_le, position, string_bytes, Some, IfOk, OnOk, IfErr};
-ghost use Rattle.std.specs.Option.{option_map_or};
-ghost use Rattle.std.specs.Str.{bytes_eq};
+ghost use Rattle.std.specs.{Option.option_map_or, Str.bytes_eq};
 ghost use Rattle.indexmap.specs.IndexMap.{keys, values};
 ghost use Rattle.wit_model.specs.Checks.{KeepsIn, entry_of, highest as highest_lem, list_orders, listings, names_fit, rank_in as rank_in_lem, reach_of, references, stands_in_order as stands_in_order_lem};
-ghost use Rattle.wit_model.specs.Parts.{kind_numbers as kind_numbers_lem};
-ghost use Rattle.wit_model.specs.Rules.{each_from, is_name_key, is_use as is_use_lem, item_type as item_type_lem, passes};
-ghost use Rattle.wit_model.specs.Text.{text_of};
-ghost use Rattle.wit_model.specs.Valid.{Keeps, entry_keeps, owners, IsFaultOf};
+ghost use Rattle.wit_model.specs.{Parts.kind_numbers as kind_numbers_lem, Valid.Keeps, Valid.entry_keeps, Valid.owners, Valid.IsFaultOf};
+ghost use Rattle.wit_model.specs.{Rules.each_from, Rules.is_name_key, Rules.is_use as is_use_lem, Rules.item_type as item_type_lem, Rules.passes, Text.text_of};
 ghost use Rattle.wit_model.specs.declared.error.EntryList.TheVariants as lists;
 
 use crate::listings::item_type;

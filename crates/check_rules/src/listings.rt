@@ -1,9 +1,7 @@
 //! The second part of the rule on the order of types: owners' lists and types name each other.
 
 ghost use Rattle.std.specs.Prelude.{◌≡◌, ◌<◌, false, filter_map, is_some, length, map, not, option_and_then, option_map, option_to_list, Some, true, IfOk, OnOk, IfErr};
-ghost use Rattle.std.specs.List.{find, list_all};
-ghost use Rattle.std.specs.Option.{option_map_or};
-ghost use Rattle.std.specs.HashMap.{get_by, get_by_text};
+ghost use Rattle.std.specs.{List.find, List.list_all, Option.option_map_or, HashMap.get_by, HashMap.get_by_text};
 ghost use Rattle.indexmap.specs.IndexMap.{values};
 ghost use Rattle.wit_model.specs.Checks.{KeepsIn, has_name as has_name_lem, is_found as is_found_lem, key_fits as key_fits_lem, listings, names_fit};
 ghost use Rattle.wit_model.specs.Rules.{is_id, is_name_key, is_named_of, item_type as item_type_lem, passes};

@@ -2,11 +2,8 @@
 
 ghost use Rattle.std.specs.Prelude.{◌≡◌, ℕ, Some, string_eq};
 ghost use Rattle.indexmap.specs.IndexMap.{IsUnique};
-ghost use Rattle.wit_model.specs.declared.model.Package.{Package};
-ghost use Rattle.wit_model.specs.declared.model.Interface.{Interface};
-ghost use Rattle.wit_model.specs.declared.model.World.{World};
-ghost use Rattle.wit_model.specs.Lookup.{package_at, interface_at, world_at};
-ghost use Rattle.wit_model.specs.Valid.{key_eq, HasDistinctKeys};
+ghost use Rattle.wit_model.specs.declared.model.{Package.Package, Interface.Interface, World.World};
+ghost use Rattle.wit_model.specs.{Lookup.package_at, Lookup.interface_at, Lookup.world_at, Valid.key_eq, Valid.HasDistinctKeys};
 
 use wit_model::{Map, Resolve, WorldItem, WorldKey};
 

@@ -1,14 +1,11 @@
 //! The rule on functions' names: a function stands under its name, and one of a resource is named after it.
 
 ghost use Rattle.std.specs.Prelude.{◌≡◌, ◌&&◌, ◌++◌, ◌∷◌, [], codes, false, OnOk, IfErr};
-ghost use Rattle.std.specs.List.{list_all};
-ghost use Rattle.std.specs.Option.{option_copied, option_map_or};
-ghost use Rattle.wit_model.specs.Checks.{KeepsIn};
-ghost use Rattle.check_rules.specs.Members.{name_of_resource, names_member as names_member_lem, owner_of};
-ghost use Rattle.wit_model.specs.Parts.{same_owner};
-ghost use Rattle.wit_model.specs.Text.{text_eq, text_of};
+ghost use Rattle.std.specs.{List.list_all, Option.option_copied, Option.option_map_or};
+ghost use Rattle.wit_model.specs.{Checks.KeepsIn, Parts.same_owner, Text.text_eq, Text.text_of};
 ghost use Rattle.wit_model.specs.Rules.{after_prefix as after_prefix_lem, constructs as constructs_lem, has_own_ok as has_own_ok_lem, is_borrow_kind as is_borrow_kind_lem, is_borrow_of as is_borrow_of_lem, is_member, is_member_of as is_member_of_lem, is_name_key as is_name_key_lem, is_own_kind as is_own_kind_lem, is_own_of as is_own_of_lem, is_result_of_own as is_result_of_own_lem, passes, resource_name as resource_name_lem, takes_self as takes_self_lem, type_is};
 ghost use Rattle.wit_model.specs.Valid.{as_world, function_names, item_function, IsFaultOf, IsFound, Keeps};
+ghost use Rattle.check_rules.specs.Members.{name_of_resource, names_member as names_member_lem, owner_of};
 
 use crate::owners::{is_interface, is_world};
 use crate::parts::resource_of;

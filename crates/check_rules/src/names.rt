@@ -1,9 +1,8 @@
 //! The rule on packages' names: labels and a version, and no name twice.
 
 ghost use Rattle.std.specs.Prelude.{◌≡◌, OnOk, IfErr};
-ghost use Rattle.wit_model.specs.Checks.{KeepsIn};
+ghost use Rattle.wit_model.specs.{Checks.KeepsIn, Valid.package_names, Valid.IsFound, Valid.Keeps, Valid.IsFaultOf};
 ghost use Rattle.check_rules.specs.PackageNames.{distinct_names, is_package_name as is_package_name_lem, well_named};
-ghost use Rattle.wit_model.specs.Valid.{package_names, IsFound, Keeps, IsFaultOf};
 ghost use Rattle.wit_model.specs.declared.error.EntryList.TheVariants as lists;
 
 use crate::labels::is_optional_version;

@@ -3,10 +3,8 @@
 ghost use Rattle.std.specs.Prelude.{◌≡◌, ◌++◌, [], ◌∷◌, false, nat_lt, length, MatchOption, Some, option_to_list, filter_map, map, true, OnOk, IfErr};
 ghost use Rattle.std.specs.List.{list_all};
 ghost use Rattle.indexmap.specs.IndexMap.{values};
-ghost use Rattle.wit_model.specs.Types.{number_of};
-ghost use Rattle.wit_model.specs.Parts.{function_numbers, handled as handled_lem, kind_numbers, member_types};
-ghost use Rattle.wit_model.specs.Lookup.{resource_of};
-ghost use Rattle.wit_model.specs.Uses.{alias_target as alias_target_lem};
+ghost use Rattle.wit_model.specs.{Types.number_of, Uses.alias_target as alias_target_lem};
+ghost use Rattle.wit_model.specs.{Parts.function_numbers, Parts.handled as handled_lem, Parts.kind_numbers, Parts.member_types, Lookup.resource_of};
 ghost use Rattle.wit_model.specs.Valid.{entry_keeps, is_place as is_place_lem, numbers_in_range, IsFaultOf, IsFound, Keeps};
 ghost use Rattle.wit_model.specs.Rules.{entries_in_range, function_in_range, item_in_range, key_in_range, owner_in_range, package_number, passes};
 

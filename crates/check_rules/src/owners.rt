@@ -1,18 +1,15 @@
 //! The rule on owners: types and functions meet types of their own owner alone, but for uses.
 
 ghost use Rattle.std.specs.Prelude.{◌≡◌, ◌&&◌, ◌||◌, ◌<◌, ℕ, false, is_some, length, nat_le, not, option_map, option_to_list, Some, IfOk, OnOk, IfErr};
-ghost use Rattle.std.specs.List.{list_all};
-ghost use Rattle.std.specs.Option.{option_map_or};
+ghost use Rattle.std.specs.{List.list_all, Option.option_map_or};
 ghost use Rattle.indexmap.specs.IndexMap.{values};
-ghost use Rattle.wit_model.specs.Checks.{KeepsIn, references};
+ghost use Rattle.wit_model.specs.{Checks.KeepsIn, Checks.references, Uses.interface_used_by as used_by, Uses.owner_interface as owner_interface_lem};
 ghost use Rattle.wit_model.specs.Lookup.{interface_at};
-ghost use Rattle.check_rules.specs.Owners.{IsMetTable, met_entry, stays as stays_lem};
-ghost use Rattle.wit_model.specs.Parts.{has_owner, met_by as met_by_lem, met_of, same_owner as same_owner_lem};
-ghost use Rattle.wit_model.specs.Rules.{is_use as is_use_lem};
-ghost use Rattle.wit_model.specs.Uses.{interface_used_by as used_by, owner_interface as owner_interface_lem};
+ghost use Rattle.wit_model.specs.{Parts.has_owner, Parts.met_by as met_by_lem, Parts.met_of, Parts.same_owner as same_owner_lem, Rules.is_use as is_use_lem};
 ghost use Rattle.wit_model.specs.Valid.{Keeps, as_interface, as_world, entry_keeps, owners, IsFaultOf};
-ghost use Rattle.wit_model.specs.declared.error.EntryList.TheVariants as lists;
+ghost use Rattle.check_rules.specs.Owners.{IsMetTable, met_entry, stays as stays_lem};
 ghost use Rattle.wit_model.specs.declared.model.TypeOwner.{TypeOwner};
+ghost use Rattle.wit_model.specs.declared.error.EntryList.TheVariants as lists;
 ghost use Rattle.wit_model.specs.declared.model.TypeOwner.TheVariants as owner;
 
 use crate::functions::{interface_numbers, world_numbers};

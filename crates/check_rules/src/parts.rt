@@ -1,10 +1,8 @@
 //! The type numbers that stand in kinds and functions.
 
 ghost use Rattle.std.specs.Prelude.{◌≡◌, ◌++◌, filter_map, map, option_to_list, IfOk, OnOk};
-ghost use Rattle.wit_model.specs.Lookup.{resource_of as resource_of_lem};
+ghost use Rattle.wit_model.specs.{Lookup.resource_of as resource_of_lem, Types.number_of as number_of_lem, Uses.alias_target as alias_target_lem};
 ghost use Rattle.wit_model.specs.Parts.{function_numbers as function_numbers_lem, function_types, handle_target as handle_target_lem, handled as handled_lem, kind_numbers as kind_numbers_lem, member_types as member_types_lem};
-ghost use Rattle.wit_model.specs.Types.{number_of as number_of_lem};
-ghost use Rattle.wit_model.specs.Uses.{alias_target as alias_target_lem};
 
 use std::alloc::{AllocError, Global};
 use wit_model::lookup::{alias_target, number_of};

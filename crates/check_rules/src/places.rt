@@ -1,14 +1,11 @@
 //! The rule on places: interfaces and worlds have a package, and stand in its maps.
 
 ghost use Rattle.std.specs.Prelude.{◌≡◌, ◌&&◌, ◌||◌, ◌<◌, length, not, true, Some, is_some, OnOk, IfErr, option_map};
-ghost use Rattle.std.specs.Option.{option_map_or};
-ghost use Rattle.std.specs.List.{list_all};
+ghost use Rattle.std.specs.{Option.option_map_or, List.list_all};
 ghost use Rattle.wit_model.specs.Lookup.{package_at as package_at_lem, interface_at as interface_at_lem, world_at as world_at_lem};
-ghost use Rattle.wit_model.specs.Text.{text_eq, text_of};
-ghost use Rattle.wit_model.specs.Checks.{KeepsIn};
-ghost use Rattle.check_rules.specs.Places.{IsShownTable, is_once_in, shown_entry, stands_in_map};
+ghost use Rattle.wit_model.specs.{Text.text_eq, Text.text_of, Checks.KeepsIn, Valid.places, Valid.entry_keeps, Valid.IsFaultOf, Valid.IsFound, Valid.Keeps};
 ghost use Rattle.wit_model.specs.Rules.{interface_belongs, interface_is_listed, is_id, is_world_name as is_world_name_lem, names_itself as names_itself_lem, package_number, passes, text_is, world_belongs, world_is_listed};
-ghost use Rattle.wit_model.specs.Valid.{places, entry_keeps, IsFaultOf, IsFound, Keeps};
+ghost use Rattle.check_rules.specs.Places.{IsShownTable, is_once_in, shown_entry, stands_in_map};
 
 use crate::shown::{Shown, is_shown_once_in, shown_table};
 use crate::walk::first_failing;

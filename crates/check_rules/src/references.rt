@@ -2,8 +2,7 @@
 
 ghost use Rattle.std.specs.Prelude.{◌≡◌, ◌<◌, length, nat_lt, Some, IfOk, OnOk, IfErr};
 ghost use Rattle.std.specs.List.{list_all};
-ghost use Rattle.wit_model.specs.Checks.{KeepsIn, references};
-ghost use Rattle.wit_model.specs.Valid.{Keeps, entry_keeps, IsFaultOf};
+ghost use Rattle.wit_model.specs.{Checks.KeepsIn, Checks.references, Valid.Keeps, Valid.entry_keeps, Valid.IsFaultOf};
 ghost use Rattle.wit_model.specs.declared.error.EntryList.TheVariants as lists;
 
 use crate::parts::kind_numbers;

@@ -2,11 +2,9 @@
 
 ghost use Rattle.std.specs.Prelude.{◌≡◌, ◌&&◌, ℕ, ◌<◌, length, not, Some, IfOk, OnOk, IfErr, filter_map};
 ghost use Rattle.std.specs.List.{list_all};
-ghost use Rattle.wit_model.specs.Checks.{KeepsIn, flags, references};
+ghost use Rattle.wit_model.specs.{Checks.KeepsIn, Checks.flags, Checks.references, Valid.Keeps, Valid.entry_keeps, Valid.handles, Valid.IsFaultOf};
 ghost use Rattle.wit_model.specs.Parts.{handled as handled_lem, is_resource, is_resource_kind as is_resource_kind_lem, member_types};
-ghost use Rattle.wit_model.specs.Rules.{passes};
-ghost use Rattle.wit_model.specs.Types.{number_of as number_of_lem};
-ghost use Rattle.wit_model.specs.Valid.{Keeps, entry_keeps, handles, IsFaultOf};
+ghost use Rattle.wit_model.specs.{Rules.passes, Types.number_of as number_of_lem};
 ghost use Rattle.wit_model.specs.declared.error.EntryList.TheVariants as lists;
 
 use crate::functions::{interface_numbers, world_numbers};

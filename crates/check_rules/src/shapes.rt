@@ -2,8 +2,7 @@
 
 ghost use Rattle.std.specs.Prelude.{◌≡◌, IfNone, IfSome, is_some, ◌&&◌, ◌||◌, not};
 ghost use Rattle.wit_model.specs.Rules.{has_shape as has_shape_lem, is_map_key as is_map_key_lem, is_named_kind as is_named_kind_lem, is_named_number as is_named_number_lem, passes};
-ghost use Rattle.wit_model.specs.Uses.{alias_target as alias_target_lem};
-ghost use Rattle.wit_model.specs.Valid.{Breaks, Keeps, named_kinds, shapes};
+ghost use Rattle.wit_model.specs.{Uses.alias_target as alias_target_lem, Valid.Breaks, Valid.Keeps, Valid.named_kinds, Valid.shapes};
 ghost use Rattle.wit_model.specs.declared.error.EntryList.TheVariants as lists;
 
 use wit_model::lookup::alias_target;

@@ -1,12 +1,10 @@
 //! How often worlds show each interface, and in which package.
 
 ghost use Rattle.std.specs.Prelude.{◌≡◌, ℕ, ◌==◌, ◌<◌, length, replicate, IfOk};
-ghost use Rattle.std.specs.List.{count_by};
-ghost use Rattle.std.specs.Option.{option_eq};
+ghost use Rattle.std.specs.{List.count_by, Option.option_eq};
 ghost use Rattle.indexmap.specs.IndexMap.{values};
 ghost use Rattle.check_rules.specs.Places.{IsShownTable, is_once_in as is_once_in_lem, joined, shown_by_all, shown_entry, time, times};
-ghost use Rattle.wit_model.specs.Rules.{is_id, package_number, times_shown};
-ghost use Rattle.wit_model.specs.Uses.{item_interface};
+ghost use Rattle.wit_model.specs.{Rules.is_id, Rules.package_number, Rules.times_shown, Uses.item_interface};
 ghost use Rattle.check_rules.specs.declared.shown.Shown.TheVariants as shown;
 
 use std::alloc::{AllocError, Global};

@@ -1,8 +1,7 @@
 //! The rules on types, one after the other.
 
 ghost use Rattle.std.specs.Prelude.{OnOk, IfErr};
-ghost use Rattle.wit_model.specs.Checks.{KeepsTypes};
-ghost use Rattle.wit_model.specs.Valid.{HasDistinctKeys, Keeps, named_kinds, shapes, IsFaultOf};
+ghost use Rattle.wit_model.specs.{Checks.KeepsTypes, Valid.HasDistinctKeys, Valid.Keeps, Valid.named_kinds, Valid.shapes, Valid.IsFaultOf};
 
 use crate::shapes::{misnamed_kind, misshapen};
 use crate::{levels, list_orders, listings, owners, references, resources};

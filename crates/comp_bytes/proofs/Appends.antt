@@ -2,10 +2,8 @@
 use Rattle.std.proofs.Common.{◌≡◌, ℕ, Bool, true, false, ◌&&◌, List, [], ◌∷◌, ◌++◌, Result, Ok, Err, OnOk, OnErr, IsOkUnless, IsErrAnd, refl, sym, ap, subst, ◌∙◌, append_assoc}
 use Rattle.std.proofs.lemmas.List.{append-nil}
 use Rattle.wit_model.specs.declared.error.Error.{Error}
+use Rattle.comp_bytes.specs.{Form.Spellings, Form.Are, Form.Tagged, Form.Joined, Held.Begins, Appending.Appended, Appending.Stopped, Appending.Appends}
 use Rattle.wit_model.specs.declared.error.Error.TheVariants as errors
-use Rattle.comp_bytes.specs.Form.{Spellings, Are, Tagged, Joined}
-use Rattle.comp_bytes.specs.Held.{Begins}
-use Rattle.comp_bytes.specs.Appending.{Appended, Stopped, Appends}
 
 -- ---- what a test on the whole says where it fails on a part
 

@@ -1,22 +1,15 @@
 -- A component under construction: what its bytes say, and one more part.
 use Rattle.std.proofs.Common.{◌≡◌, ℕ, ◌+◌, ◌^◌, ◌<◌, ◌≤◌, Bool, true, false, List, [], ◌∷◌, ◌++◌, length, drop, Some, refl, sym, ap, subst, ◌∙◌, arith, append_assoc, length-append, length-drop}
+use Rattle.std.proofs.lemmas.{Bool.false≢true, List.append-nil, List.Concat.flat_map-append}
 use Rattle.std.specs.List.{flat_map}
-use Rattle.std.proofs.lemmas.Bool.{false≢true}
-use Rattle.std.proofs.lemmas.List.{append-nil}
-use Rattle.std.proofs.lemmas.List.Concat.{flat_map-append}
-use Rattle.comp_bytes.specs.Form.{Spellings, Sequence, Vector, Name}
+use Rattle.comp_bytes.specs.{Form.Spellings, Form.Sequence, Form.Vector, Form.Name, Parts.Part, Parts.sections_of_parts, Parts.top_slots, Parts.parts_of}
 use Rattle.comp_bytes.specs.Raw.{TopType, TopExport, Section}
 use Rattle.comp_bytes.specs.Spelling.{IsTopType, IsTopExport, IsSectionOf, IsSection, IsComponent, preamble}
-use Rattle.comp_bytes.specs.Reading.{Reader, sequence_at, type_at, top_export_at, sections_of}
+use Rattle.comp_bytes.specs.{Reading.Reader, Reading.sequence_at, Reading.type_at, Reading.top_export_at, Reading.sections_of, Laws.IsReadBy, Held.found_in}
 use Rattle.comp_bytes.specs.Writing.{u32_bytes, name_bytes, vector_bytes, top_type_bytes, top_export_bytes, framed, section_bytes, component_bytes}
-use Rattle.comp_bytes.specs.Laws.{IsReadBy}
-use Rattle.comp_bytes.specs.Held.{found_in}
-use Rattle.comp_bytes.specs.Parts.{Part, sections_of_parts, top_slots, parts_of}
 use Rattle.comp_bytes.specs.Built.{Group, group_sections, group_in, found_sections, sections_in, begun, section_id, closed_bytes, kept_parts, IsItems, IsGroup, Ended, IsBuilt, Builds}
 use Rattle.comp_bytes.proofs.Writes.{spells_u32}
-use Rattle.comp_bytes.proofs.PartLaws.{sequence_again}
-use Rattle.comp_bytes.proofs.HeldLaws.{sequence_push}
-use Rattle.comp_bytes.proofs.ComponentLaws.{type_law, export_law, sections_again}
+use Rattle.comp_bytes.proofs.{PartLaws.sequence_again, HeldLaws.sequence_push, ComponentLaws.type_law, ComponentLaws.export_law, ComponentLaws.sections_again}
 use Rattle.comp_bytes.proofs.PartsLaws.{alone, join, put_behind, put_behind-last, put_behind-ended, Ended-custom, grouped_behind, top_slots-push}
 
 pub sequence_append : {A : Type 0} (form : A → Spellings) (xs ys : List A) (bytes text : List ℕ) → Sequence form xs bytes → Sequence form ys text → Sequence form (xs ++ ys) (bytes ++ text)

@@ -1,20 +1,15 @@
 -- How long a component under construction is, at least: what doesn't fit makes it too long.
 use Rattle.std.proofs.Common.{◌≡◌, ℕ, ◌+◌, ◌^◌, ◌≤◌, Bool, false, List, [], ◌∷◌, ◌++◌, length, map, Result, Ok, Err, IsErrAnd, refl, sym, ap, subst, ◌∙◌, arith, length-append}
-use Rattle.std.specs.Prelude.{nat_lt}
-use Rattle.std.specs.List.{flat_map}
-use Rattle.std.proofs.lemmas.Bool.{le-ltb, ltb-false as not_below}
-use Rattle.std.proofs.lemmas.List.{append-nil}
-use Rattle.std.proofs.lemmas.List.Concat.{flat_map-append}
+use Rattle.std.proofs.lemmas.{Bool.le-ltb, Bool.ltb-false as not_below, List.append-nil, List.Concat.flat_map-append}
+use Rattle.std.specs.{Prelude.nat_lt, List.flat_map}
 use Rattle.wit_model.specs.declared.error.Error.{Error}
-use Rattle.wit_model.specs.declared.error.Error.TheVariants as errors
-use Rattle.comp_bytes.specs.Raw.{DefinedType, TopType, TopExport, Section}
-use Rattle.comp_bytes.specs.Spelling.{preamble}
-use Rattle.comp_bytes.specs.Fits.{fits_length}
+use Rattle.comp_bytes.specs.{Raw.DefinedType, Raw.TopType, Raw.TopExport, Raw.Section, Spelling.preamble, Fits.fits_length}
 use Rattle.comp_bytes.specs.Writing.{u32_bytes, name_bytes, vector_bytes, extern_name_bytes, defined_type_bytes, top_type_bytes, top_export_bytes, framed, section_bytes, component_bytes}
 use Rattle.comp_bytes.specs.Parts.{Part, plain_export, sections_of_parts, top_slots, parts_in, parts_of, fits_component}
 use Rattle.comp_bytes.specs.Built.{Group, group_sections, group_in, sections_in, begun, section_id, closed_bytes, kept_parts, IsBuilt, Builds}
 use Rattle.comp_bytes.proofs.PartsLaws.{alone, put_behind, parts_of-sections_of_parts, sections_behind, top_slots-append, top_slots-push}
 use Rattle.comp_bytes.proofs.BuiltLaws.{all_sections, closed_begins, group_closed, StandsApart, custom_apart}
+use Rattle.wit_model.specs.declared.error.Error.TheVariants as errors
 
 -- a size that is passed on
 pub size_passed : {X Y : Type 0} (r : Result X Error) (e : Error) → IsErrAnd r (λ given. given ≡ e) → r ≡ Err errors.Size → ◌≡◌ {A = Result Y Error} (Err e) (Err errors.Size)

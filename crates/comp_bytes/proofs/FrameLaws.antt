@@ -1,15 +1,10 @@
 -- A section's frame from an offset on, and where its contents stand.
 use Rattle.std.proofs.Common.{◌≡◌, ℕ, suc, false, ◌+◌, ◌-◌, ◌≤◌, ◌<◌, ◌==◌, List, [], ◌∷◌, ◌++◌, length, take, drop, Some, None, refl, sym, ap, ◌∙◌, arith, append_assoc}
+use Rattle.std.proofs.lemmas.{List.take_at, List.take-append-drop, List.length-append, List.length-drop, List.length-take-le, List.Folds.drop_split}
+use Rattle.std.proofs.{lemmas.Bool.false≢true, Math.Seq.drop-append_seam}
 use Rattle.std.specs.Prelude.{slice_range}
-use Rattle.std.proofs.lemmas.List.{take_at, take-append-drop, length-append, length-drop, length-take-le}
-use Rattle.std.proofs.lemmas.Bool.{false≢true}
-use Rattle.std.proofs.lemmas.List.Folds.{drop_split}
-use Rattle.std.proofs.Math.Seq.{drop-append_seam}
-use Rattle.comp_bytes.specs.Reading.{frame_at, name_at}
-use Rattle.comp_bytes.specs.Frames.{IsFrame, IsCustom}
-use Rattle.comp_bytes.proofs.Readers.{read_ok, read_len}
-use Rattle.comp_bytes.proofs.PartLaws.{name_law, no_some}
-use Rattle.comp_bytes.proofs.ComponentLaws.{frame_law}
+use Rattle.comp_bytes.specs.{Reading.frame_at, Reading.name_at, Frames.IsFrame, Frames.IsCustom}
+use Rattle.comp_bytes.proofs.{Readers.read_ok, Readers.read_len, PartLaws.name_law, PartLaws.no_some, ComponentLaws.frame_law}
 
 -- what ends a part of a list ends where the part does
 ends_there : (xs before front contents after : List ℕ) (end : ℕ) → xs ≡ (before ++ front) ++ (contents ++ after) → end ≡ length (before ++ front) + length contents

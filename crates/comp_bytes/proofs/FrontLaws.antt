@@ -1,8 +1,7 @@
 -- The bytes in front tell which entry, and which type at the top, is read.
 use Rattle.std.proofs.Common.{◌≡◌, refl, sym, ap, ◌∙◌, ℕ, Bool, true, false, ◌&&◌, cond, eqb, List, [], ◌∷◌, drop, Option, Some, None}
-use Rattle.std.specs.Prelude.{nat_eq}
-use Rattle.std.specs.List.{starts_with}
 use Rattle.std.proofs.lemmas.Bool.{eqb-true, and_parts}
+use Rattle.std.specs.{Prelude.nat_eq, List.starts_with}
 use Rattle.comp_bytes.specs.Raw.{ExternName}
 use Rattle.comp_bytes.specs.Reading.{Reader, ◌>>=◌, or_else, as_at, pair_at, choose, tagged_at, tag_at, u32_at, sequence_at, vector_at, declaration_at}
 use Rattle.comp_bytes.specs.Levels.{Entry, plain, holds, PartType, wraps, shows, held_at, entry_at, world_export_at, wrapper_at, part_behind_at, EntriesByFront, PartTypesByFront}

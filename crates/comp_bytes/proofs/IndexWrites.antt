@@ -1,9 +1,8 @@
 -- The shortest bytes of the index of a type, by how many there are.
 use Rattle.std.proofs.Common.{◌≡◌, ℕ, zero, suc, ◌+◌, ◌^◌, ◌/◌, ◌%◌, ◌<◌, ◌≤◌, List, [], ◌∷◌, length, refl, arith, inl, inr, subst}
-use Rattle.std.specs.List.{AllByRecursion}
 use Rattle.std.proofs.lemmas.Bool.{cases_lt, le-ltb, lt-ltb}
-use Rattle.comp_bytes.specs.Number.{IsUnsigned, EndsPositive, IsTypeIndex}
-use Rattle.comp_bytes.specs.Writing.{positive_bytes, type_index_bytes}
+use Rattle.std.specs.List.{AllByRecursion}
+use Rattle.comp_bytes.specs.{Number.IsUnsigned, Number.EndsPositive, Number.IsTypeIndex, Writing.positive_bytes, Writing.type_index_bytes}
 use Rattle.comp_bytes.specs.FormatLaws.{ShortestIndex}
 
 pub bytes_1 : (n : ℕ) → n < 64 → type_index_bytes n ≡ n ∷ []

@@ -1,10 +1,7 @@
 -- What is written of a name is its shortest spelling.
 use Rattle.std.proofs.Common.{ℕ, ◌^◌, ◌<◌, List, [], ◌∷◌, ◌++◌, length, refl, arith, subst, ap, length-append}
-use Rattle.std.specs.List.{AllByRecursion}
-use Rattle.std.specs.Str.{IsUtf8}
-use Rattle.comp_bytes.specs.Form.{Name}
-use Rattle.comp_bytes.specs.Writing.{u32_bytes, name_bytes}
-use Rattle.comp_bytes.specs.FormatLaws.{ShortestName}
+use Rattle.std.specs.{List.AllByRecursion, Str.IsUtf8}
+use Rattle.comp_bytes.specs.{Form.Name, Writing.u32_bytes, Writing.name_bytes, FormatLaws.ShortestName}
 use Rattle.comp_bytes.proofs.Writes.{spells_u32, shortest_number}
 
 -- the front of small bytes is small

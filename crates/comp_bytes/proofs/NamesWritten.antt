@@ -2,16 +2,10 @@
 use Rattle.std.proofs.Common.{◌≡◌, ℕ, ◌^◌, ◌<◌, ◌≤◌, Bool, ◌&&◌, List, [], ◌∷◌, ◌++◌, length, Option, Some, None, Result, sym, ap, ◌∙◌, arith, length-append}
 use Rattle.std.specs.List.{flat_map}
 use Rattle.wit_model.specs.declared.error.Error.{Error}
-use Rattle.comp_bytes.specs.Form.{Joined, Name, Sequence, Vector}
-use Rattle.comp_bytes.specs.Number.{IsU32}
-use Rattle.comp_bytes.specs.Raw.{ExternName}
-use Rattle.comp_bytes.specs.Spelling.{attribute, attributes, Attribute, NameWith}
-use Rattle.comp_bytes.specs.Writing.{u32_bytes, name_bytes, vector_bytes, attribute_bytes, attributed_bytes}
-use Rattle.comp_bytes.specs.Fits.{fits_length, fits_given, fits_attributes}
-use Rattle.comp_bytes.specs.Appending.{Appended, Appends}
-use Rattle.comp_bytes.proofs.Appends.{second_fails, joined, tagged}
-use Rattle.comp_bytes.proofs.Writes.{bytes_1, spells_u32}
-use Rattle.comp_bytes.proofs.Sequences.{both, behind}
+use Rattle.comp_bytes.specs.{Form.Joined, Form.Name, Form.Sequence, Form.Vector, Spelling.attribute, Spelling.attributes, Spelling.Attribute, Spelling.NameWith}
+use Rattle.comp_bytes.specs.{Number.IsU32, Fits.fits_length, Fits.fits_given, Fits.fits_attributes, Appending.Appended, Appending.Appends}
+use Rattle.comp_bytes.specs.{Raw.ExternName, Writing.u32_bytes, Writing.name_bytes, Writing.vector_bytes, Writing.attribute_bytes, Writing.attributed_bytes}
+use Rattle.comp_bytes.proofs.{Appends.second_fails, Appends.joined, Appends.tagged, Writes.bytes_1, Writes.spells_u32, Sequences.both, Sequences.behind}
 
 length-attribute : (tag : ℕ) (text : Option (List ℕ)) → length (attribute tag text) ≤ 1
 length-attribute tag None = omega arith

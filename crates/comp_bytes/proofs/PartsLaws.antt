@@ -1,9 +1,8 @@
 -- Parts and the sections that they make.
 use Rattle.std.proofs.Common.{◌≡◌, ℕ, ◌+◌, List, [], ◌∷◌, ◌++◌, refl, sym, ap, ◌∙◌, arith, append_assoc}
 use Rattle.std.proofs.lemmas.List.{append-nil, map-append}
-use Rattle.comp_bytes.specs.Raw.{Section}
+use Rattle.comp_bytes.specs.{Raw.Section, Built.Ended}
 use Rattle.comp_bytes.specs.Parts.{Part, with_part, sections_of_parts, top_slots, parts_in, parts_of}
-use Rattle.comp_bytes.specs.Built.{Ended}
 
 -- ---- a part behind sections
 

@@ -1,22 +1,14 @@
 -- What is read by levels is read as the raw form that it is, and the other way round.
 use Rattle.std.proofs.Common.{◌≡◌, refl, sym, ap, subst, ◌∙◌, ℕ, zero, suc, ◌+◌, ◌<◌, ◌≤◌, ◌^◌, arith, Bool, true, false, ◌&&◌, cond, eqb, ltb, List, [], ◌∷◌, length, map, take, drop, Option, Some, None}
-use Rattle.std.specs.Prelude.{nat_eq}
-use Rattle.std.specs.Cmp.Lexicographic.{pointwise}
-use Rattle.std.proofs.lemmas.Bool.{ne_eqb}
-use Rattle.std.proofs.lemmas.List.{length-map, length-append, length-drop}
-use Rattle.comp_bytes.specs.Raw.{TopType, TopExport, Section}
-use Rattle.comp_bytes.specs.Form.{Spellings, Sequence}
+use Rattle.std.proofs.lemmas.{Bool.ne_eqb, List.length-map, List.length-append, List.length-drop}
+use Rattle.std.specs.{Prelude.nat_eq, Cmp.Lexicographic.pointwise}
+use Rattle.comp_bytes.specs.{Raw.TopType, Raw.TopExport, Raw.Section, Form.Spellings, Form.Sequence, Spelling.IsTopType, Spelling.preamble, Laws.IsReadBy}
 use Rattle.comp_bytes.specs.Number.{IsU32}
-use Rattle.comp_bytes.specs.Spelling.{IsTopType, preamble}
 use Rattle.comp_bytes.specs.Reading.{Reader, ◌>>=◌, name_at, vector_at, declaration_at, type_at, top_export_at, whole, frame_at, section_of, sections_of, component_of}
-use Rattle.comp_bytes.specs.Laws.{IsReadBy}
 use Rattle.comp_bytes.specs.Levels.{Entry, plain, holds, PartType, wraps, shows, IsEntry, IsPartType, Piece, custom, types, exports, raw_part, raw_piece, entry_at, part_type_at, piece_of, pieces_of, pieces_in, levels_of, LevelsAreSections, PiecesByFrames, TakesBytes}
-use Rattle.comp_bytes.proofs.Readers.{bind_some, when_some}
-use Rattle.comp_bytes.proofs.PartLaws.{vector_law}
-use Rattle.comp_bytes.proofs.ComponentLaws.{type_law, frame_law, whole_takes, whole_again}
-use Rattle.comp_bytes.proofs.DeclarationLaws.{declaration_law}
-use Rattle.comp_bytes.proofs.NestedLaws.{declaration_filled}
-use Rattle.comp_bytes.proofs.LevelLaws.{part_into, part_out, entry_law, part_type_law}
+use Rattle.comp_bytes.proofs.{Readers.bind_some, Readers.when_some, LevelLaws.part_into, LevelLaws.part_out, LevelLaws.entry_law, LevelLaws.part_type_law}
+use Rattle.comp_bytes.proofs.{PartLaws.vector_law, ComponentLaws.type_law, ComponentLaws.frame_law, ComponentLaws.whole_takes, ComponentLaws.whole_again}
+use Rattle.comp_bytes.proofs.{DeclarationLaws.declaration_law, NestedLaws.declaration_filled}
 use Rattle.base_lemmas.proofs.Options.{some_is}
 
 -- ---- types at the top

@@ -1,16 +1,11 @@
 -- One item behind the items that a loop has appended.
 use Rattle.std.proofs.Common.{◌≡◌, ℕ, ◌+◌, ◌<◌, Bool, false, List, [], ◌∷◌, ◌++◌, length, get_or, take, map, Result, Ok, Err, refl, sym, ap, subst, ◌∙◌, arith, append_assoc, add-one}
-use Rattle.std.specs.List.{flat_map, list_all}
 use Rattle.std.proofs.Math.Seq.{take-suc}
-use Rattle.std.proofs.Math.ListN.{get_or-map}
-use Rattle.std.proofs.lemmas.List.{append-nil, length-map}
-use Rattle.std.proofs.lemmas.List.Folds.{list_all_at as list_all-fails}
+use Rattle.std.proofs.{Math.ListN.get_or-map, lemmas.List.append-nil, lemmas.List.length-map, lemmas.List.Folds.list_all_at as list_all-fails}
+use Rattle.std.specs.List.{flat_map, list_all}
 use Rattle.wit_model.specs.declared.error.Error.{Error}
-use Rattle.comp_bytes.specs.Form.{Spellings, Sequence}
-use Rattle.comp_bytes.specs.Appending.{Appended, Stopped, Appends}
-use Rattle.comp_bytes.proofs.HeldLaws.{sequence_push}
-use Rattle.comp_bytes.proofs.Appends.{stopped_after, refused, done}
-use Rattle.comp_bytes.proofs.BuiltLaws.{sequence_append as Sequence-append}
+use Rattle.comp_bytes.specs.{Form.Spellings, Form.Sequence, Appending.Appended, Appending.Stopped, Appending.Appends}
+use Rattle.comp_bytes.proofs.{HeldLaws.sequence_push, Appends.stopped_after, Appends.refused, Appends.done, BuiltLaws.sequence_append as Sequence-append}
 
 flat_map-push : {A : Type 0} (f : A → List ℕ) (xs : List A) (y : A) → flat_map f (xs ++ y ∷ []) ≡ flat_map f xs ++ f y
 flat_map-push f [] y = append-nil (f y)

@@ -1,10 +1,8 @@
 -- The shortest bytes of a number, by how many there are.
 use Rattle.std.proofs.Common.{◌≡◌, ℕ, zero, suc, ◌+◌, ◌^◌, ◌/◌, ◌%◌, ◌<◌, ◌≤◌, List, [], ◌∷◌, length, refl, arith, inl, inr, subst}
-use Rattle.std.specs.List.{AllByRecursion}
 use Rattle.std.proofs.lemmas.Bool.{cases_lt, le-ltb, lt-ltb}
-use Rattle.comp_bytes.specs.Number.{IsUnsigned, IsU32}
-use Rattle.comp_bytes.specs.Writing.{unsigned_bytes, u32_bytes}
-use Rattle.comp_bytes.specs.FormatLaws.{ShortestNumber}
+use Rattle.std.specs.List.{AllByRecursion}
+use Rattle.comp_bytes.specs.{Number.IsUnsigned, Number.IsU32, Writing.unsigned_bytes, Writing.u32_bytes, FormatLaws.ShortestNumber}
 
 pub bytes_1 : (n : ℕ) → n < 128 → u32_bytes n ≡ n ∷ []
 unfolding u32_bytes

@@ -1,14 +1,9 @@
 -- What a function that appends a form to a byte string does.
 use Rattle.std.specs.Prelude.{◌≡◌, ◌++◌, Bool, false, List, ℕ, Result, OnOk, IfErr}
 use Rattle.wit_model.specs.declared.error.Error.{Error}
-use Rattle.wit_model.specs.declared.error.Error.TheVariants as errors
-use Rattle.comp_bytes.specs.Raw.{Declaration}
-use Rattle.comp_bytes.specs.Form.{Spellings}
-use Rattle.comp_bytes.specs.Spelling.{IsDeclaration}
-use Rattle.comp_bytes.specs.Writing.{declaration_bytes}
-use Rattle.comp_bytes.specs.Fits.{fits_declaration}
+use Rattle.comp_bytes.specs.{Raw.Declaration, Form.Spellings, Spelling.IsDeclaration, Writing.declaration_bytes, Fits.fits_declaration, Refusal.IsMemoryOrSize}
 use Rattle.comp_bytes.specs.Held.{Begins}
-use Rattle.comp_bytes.specs.Refusal.{IsMemoryOrSize}
+use Rattle.wit_model.specs.declared.error.Error.TheVariants as errors
 
 -- the text stands behind what was there, and spells the form
 pub record Appended (form : Spellings) (text old new : List ℕ) : Type 0 where

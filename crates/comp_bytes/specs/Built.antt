@@ -1,12 +1,9 @@
 -- How a component under construction is kept: whole sections as their bytes, and the items of a section that is still open.
 use Rattle.std.specs.Prelude.{◌≡◌, ℕ, zero, suc, Bool, true, false, List, [], ◌∷◌, ◌++◌, length, drop, Option, Some, None}
 use Rattle.std.specs.List.{flat_map}
-use Rattle.comp_bytes.specs.Form.{Spellings, Sequence}
-use Rattle.comp_bytes.specs.Raw.{TopType, TopExport, Section}
-use Rattle.comp_bytes.specs.Spelling.{IsTopType, IsTopExport, IsSection, preamble}
-use Rattle.comp_bytes.specs.Reading.{sequence_at, type_at, top_export_at, sections_of}
+use Rattle.comp_bytes.specs.{Form.Spellings, Form.Sequence, Spelling.IsTopType, Spelling.IsTopExport, Spelling.IsSection, Spelling.preamble, Held.found_in}
+use Rattle.comp_bytes.specs.{Raw.TopType, Raw.TopExport, Raw.Section, Reading.sequence_at, Reading.type_at, Reading.top_export_at, Reading.sections_of}
 use Rattle.comp_bytes.specs.Writing.{u32_bytes, top_type_bytes, top_export_bytes, framed, section_bytes, component_bytes}
-use Rattle.comp_bytes.specs.Held.{found_in}
 use Rattle.comp_bytes.specs.Parts.{Part, sections_of_parts, parts_of, top_slots}
 
 -- the items of the section that is still open

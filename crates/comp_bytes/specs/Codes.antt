@@ -1,18 +1,14 @@
 -- How raw forms are told apart: each has a code, from which it is found again.
 use Rattle.std.specs.Prelude.{◌≡◌, ◌⊎◌, ℕ, Bool, true, false, if◌then◌else◌, ◌==◌, List, Option, refl}
 use Rattle.std.specs.Coded.{Coded, code_by, coded×, coded⊎, coded_ℕ, coded_bool, coded_list, coded_option}
-use Rattle.std.proofs.Common.{inl, inr, ap, sym, ◌∙◌}
-use Rattle.std.proofs.lemmas.Bool.{false≢true}
+use Rattle.std.proofs.{Common.inl, Common.inr, Common.ap, Common.sym, Common.◌∙◌, lemmas.Bool.false≢true}
 use base.Stored.{Gv, gnil, gnum, gcons}
-use Rattle.comp_bytes.specs.declared.forms.PrimitiveValType.{PrimitiveValType}
-use Rattle.comp_bytes.specs.declared.forms.PrimitiveValType.TheVariants as primitives
-use Rattle.comp_bytes.specs.declared.forms.ComponentValType.{ComponentValType}
-use Rattle.comp_bytes.specs.declared.forms.ComponentValType.TheVariants as values
-use Rattle.comp_bytes.specs.declared.forms.ComponentTypeRef.{ComponentTypeRef}
-use Rattle.comp_bytes.specs.declared.forms.ComponentTypeRef.TheVariants as refs
+use Rattle.comp_bytes.specs.declared.forms.{PrimitiveValType.PrimitiveValType, ComponentValType.ComponentValType, ComponentTypeRef.ComponentTypeRef}
 use Rattle.comp_bytes.specs.Raw.{Labeled, DefinedType, FunctionType, Alias, ExternName, Declaration, Declarations, TopType, TopExport}
-use Rattle.comp_bytes.specs.Spelling.{primitive_byte}
-use Rattle.comp_bytes.specs.Parts.{Part}
+use Rattle.comp_bytes.specs.{Spelling.primitive_byte, Parts.Part}
+use Rattle.comp_bytes.specs.declared.forms.PrimitiveValType.TheVariants as primitives
+use Rattle.comp_bytes.specs.declared.forms.ComponentValType.TheVariants as values
+use Rattle.comp_bytes.specs.declared.forms.ComponentTypeRef.TheVariants as refs
 
 -- ---- parts
 

@@ -1,12 +1,8 @@
 -- Laws over the definitions of bytes.
 use Rattle.std.specs.Prelude.{◌≡◌, ◌<◌, ◌≤◌, ◌^◌, ℕ, List, length}
-use Rattle.std.specs.List.{AllByRecursion}
-use Rattle.std.specs.Str.{IsUtf8}
-use Rattle.comp_bytes.specs.Form.{Spellings, Name}
-use Rattle.comp_bytes.specs.Number.{IsU32, IsTypeIndex}
-use Rattle.comp_bytes.specs.Writing.{u32_bytes, type_index_bytes, name_bytes}
-use Rattle.comp_bytes.specs.Raw.{Section}
-use Rattle.comp_bytes.specs.Spelling.{IsComponent}
+use Rattle.std.specs.{List.AllByRecursion, Str.IsUtf8}
+use Rattle.comp_bytes.specs.{Form.Spellings, Form.Name, Number.IsU32, Number.IsTypeIndex, Writing.u32_bytes, Writing.type_index_bytes, Writing.name_bytes}
+use Rattle.comp_bytes.specs.{Raw.Section, Spelling.IsComponent}
 
 -- A byte string spells the sections of one component at most.
 abbrev pub OneForm : Type 0

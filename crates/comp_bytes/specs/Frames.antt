@@ -1,14 +1,13 @@
 -- The sections of a component or of a core module, one after the other, without a look into their contents (Component Model Binary.md,
 -- "Component Definitions", which takes them from the core specification, "Binary Format", "Sections").
 use Rattle.std.specs.Prelude.{◌≡◌, ℕ, ◌+◌, ◌≤◌, ◌<◌, List, ◌++◌, length, slice_range, Option, Some, None, Result, Ok, Err, IfSome}
-use Rattle.wit_model.specs.declared.error.Error.{Error}
-use Rattle.wit_model.specs.declared.error.Error.TheVariants as errors
-use Rattle.wit_model.specs.declared.error.Cause.{Cause}
-use Rattle.comp_bytes.specs.Form.{Spellings, Tagged, Joined, Counted, Are, Name}
 use Rattle.std.specs.Borrow.{Bor}
-use Rattle.wit_model.specs.Text.{Text}
+use Rattle.wit_model.specs.declared.error.{Error.Error, Cause.Cause}
+use Rattle.comp_bytes.specs.Form.{Spellings, Tagged, Joined, Counted, Are, Name}
 use Rattle.comp_bytes.specs.Answer.{Refuses}
+use Rattle.wit_model.specs.Text.{Text}
 use Rattle.comp_bytes.specs.declared.frames.Section.{Section}
+use Rattle.wit_model.specs.declared.error.Error.TheVariants as errors
 
 -- a section's frame: its id, and its contents behind their length
 abbrev pub IsFrame : ℕ × List ℕ → Spellings

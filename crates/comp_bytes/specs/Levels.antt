@@ -2,14 +2,12 @@
 -- sections, the types at the top, the declarations of a world or an interface, and those of an instance type. A wrapper of a world is
 -- told from the type of an interface by its form (Component Model WIT.md, "Package Format"; Binary.md, "Type Definitions").
 use Rattle.std.specs.Prelude.{◌≡◌, ◌↔◌, ◌<◌, ℕ, zero, suc, ◌^◌, Bool, true, false, IsTrue, ◌&&◌, ◌==◌, nat_eq, nat_lt, if◌then◌else◌, List, [], ◌∷◌, length, take, drop, map, Option, Some, None}
-use Rattle.std.specs.List.{starts_with}
-use Rattle.std.specs.Cmp.Lexicographic.{pointwise}
-use Rattle.comp_bytes.specs.declared.forms.ComponentTypeRef.TheVariants as refs
+use Rattle.std.specs.{List.starts_with, Cmp.Lexicographic.pointwise}
 use Rattle.comp_bytes.specs.Raw.{Declaration, Declarations, ExternName, TopType, TopExport, Section, from_list}
-use Rattle.comp_bytes.specs.Number.{IsU32}
-use Rattle.comp_bytes.specs.Form.{Spellings, Tagged, Joined, Sequence, Vector}
+use Rattle.comp_bytes.specs.{Number.IsU32, Form.Spellings, Form.Tagged, Form.Joined, Form.Sequence, Form.Vector}
 use Rattle.comp_bytes.specs.Spelling.{IsDeclaration, AreDeclarations, preamble}
 use Rattle.comp_bytes.specs.Reading.{Reader, ◌>>=◌, as_at, tag_at, or_else, pair_at, u32_at, name_at, sequence_at, vector_at, declaration_at, top_export_at, whole, frame_at, component_of}
+use Rattle.comp_bytes.specs.declared.forms.ComponentTypeRef.TheVariants as refs
 
 -- ---- forms
 

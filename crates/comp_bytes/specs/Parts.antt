@@ -1,9 +1,7 @@
 -- What a component under construction was given, part by part, and the sections that the parts make.
 use Rattle.std.specs.Prelude.{ℕ, ◌+◌, ◌^◌, Bool, nat_lt, List, [], ◌∷◌, length, map}
 use Rattle.std.specs.List.{flat_map}
-use Rattle.comp_bytes.specs.Raw.{TopType, TopExport, Section}
-use Rattle.comp_bytes.specs.Reading.{plain_name}
-use Rattle.comp_bytes.specs.Writing.{component_bytes}
+use Rattle.comp_bytes.specs.{Raw.TopType, Raw.TopExport, Raw.Section, Reading.plain_name, Writing.component_bytes}
 
 -- a type, an export or a custom section, by its name and its contents
 pub data Part : Type 0 where

@@ -1,16 +1,11 @@
 -- The raw forms that the values of the code stand for: borrowed and owned texts by their bytes.
-use Rattle.std.specs.Prelude.{ℕ, List, map, Option, option_map}
-use Rattle.std.specs.declared.alloc.Global.{Global}
-use Rattle.std.specs.Borrow.{Bor}
-use Rattle.std.specs.Cow.{cow_str_bytes}
-use Rattle.std.specs.declared.borrow.CowStr.{CowStr}
-use Rattle.comp_bytes.specs.declared.forms.ComponentDefinedType.{ComponentDefinedType}
-use Rattle.comp_bytes.specs.declared.forms.ComponentDefinedType.TheVariants as forms
+use Rattle.std.specs.{Prelude.ℕ, Prelude.List, Prelude.map, Prelude.Option, Prelude.option_map, Borrow.Bor, Cow.cow_str_bytes}
+use Rattle.std.specs.declared.{alloc.Global.Global, borrow.CowStr.CowStr}
+use Rattle.comp_bytes.specs.declared.forms.{ComponentDefinedType.ComponentDefinedType, ComponentExternName.ComponentExternName, Alias.Alias as BorrowedAlias}
 use Rattle.comp_bytes.specs.declared.forms.ComponentFuncType.{ComponentFuncType}
-use Rattle.comp_bytes.specs.declared.forms.ComponentExternName.{ComponentExternName}
-use Rattle.comp_bytes.specs.declared.forms.Alias.{Alias as BorrowedAlias}
-use Rattle.comp_bytes.specs.declared.forms.Alias.TheVariants as aliases
 use Rattle.comp_bytes.specs.Raw.{Labeled, DefinedType, FunctionType, Alias, ExternName}
+use Rattle.comp_bytes.specs.declared.forms.ComponentDefinedType.TheVariants as forms
+use Rattle.comp_bytes.specs.declared.forms.Alias.TheVariants as aliases
 
 -- a label with what stands beside it
 abbrev pub with_label : {T : Type 0} → List ℕ → T → Labeled T

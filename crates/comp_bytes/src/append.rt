@@ -1,13 +1,11 @@
 //! The bytes of each form, behind what is there. An `Err` may leave some of them, so the caller cuts them off.
 
-ghost use Rattle.std.specs.Prelude.{◌≡◌, ◌<◌, true, length, map};
-ghost use Rattle.std.specs.List.{list_all, flat_map};
-ghost use Rattle.comp_bytes.specs.Form.{Name, Optional, Sequence, Vector};
+ghost use Rattle.std.specs.{Prelude.◌≡◌, Prelude.◌<◌, Prelude.true, Prelude.length, Prelude.map, List.list_all, List.flat_map};
+ghost use Rattle.comp_bytes.specs.{Form.Name, Form.Optional, Form.Sequence, Form.Vector, Appending.Appends};
 ghost use Rattle.comp_bytes.specs.Spelling.{primitive_byte, ValueType, Field, Case, IsDefinedType, ResultList, IsFunctionType, IsAlias, attribute, attributes, Attribute, IsExternName, IsDescription};
 ghost use Rattle.comp_bytes.specs.Writing.{name_bytes, vector_bytes, optional_bytes, value_bytes, field_bytes, case_bytes, defined_type_bytes, result_list_bytes, function_type_bytes, alias_bytes, attribute_bytes, extern_name_bytes, description_bytes};
 ghost use Rattle.comp_bytes.specs.RawOf.{with_label, labeled, text_of, raw_defined, raw_function, raw_alias, text_given, raw_name};
 ghost use Rattle.comp_bytes.specs.Fits.{fits_length, fits_label, fits_labels, fits_names, fits_defined, fits_function, fits_alias, fits_given, fits_attributes, fits_name};
-ghost use Rattle.comp_bytes.specs.Appending.{Appends};
 
 use crate::forms::{
     Alias, ComponentDefinedType, ComponentExternName, ComponentFuncType, ComponentTypeRef,

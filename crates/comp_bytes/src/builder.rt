@@ -2,11 +2,8 @@
 
 ghost use Rattle.std.specs.Prelude.{◌≡◌, [], ◌∷◌, ◌++◌, false, Err, IfOk, OnOk, OnErr, IfErr};
 ghost use Rattle.wit_model.specs.declared.error.Error.TheVariants.{Size};
-ghost use Rattle.comp_bytes.specs.Raw.{TopType};
-ghost use Rattle.comp_bytes.specs.Spelling.{IsComponent};
-ghost use Rattle.comp_bytes.specs.Writing.{component_bytes};
-ghost use Rattle.comp_bytes.specs.Parts.{Part, sections_of_parts, top_slots, fits_component, plain_export};
-ghost use Rattle.comp_bytes.specs.Refusal.{IsMemoryOrSize};
+ghost use Rattle.comp_bytes.specs.{Raw.TopType, Spelling.IsComponent, Refusal.IsMemoryOrSize};
+ghost use Rattle.comp_bytes.specs.{Writing.component_bytes, Parts.Part, Parts.sections_of_parts, Parts.top_slots, Parts.fits_component, Parts.plain_export};
 
 use crate::component::ComponentType;
 use crate::nested::count_on;

@@ -2,10 +2,8 @@
 
 ghost use Rattle.std.specs.Prelude.{◌≡◌, false, Err, OnOk, OnErr, IfErr};
 ghost use Rattle.wit_model.specs.declared.error.Error.TheVariants.{Size};
-ghost use Rattle.comp_bytes.specs.Raw.{Declaration, Declarations, append, from_list};
-ghost use Rattle.comp_bytes.specs.RawOf.{raw_defined, raw_function, raw_alias, raw_name};
-ghost use Rattle.comp_bytes.specs.Held.{type_slots_of, fits_added, fits_behind};
-ghost use Rattle.comp_bytes.specs.Refusal.{IsMemoryOrSize};
+ghost use Rattle.comp_bytes.specs.{Raw.Declaration, Raw.Declarations, Raw.append, Raw.from_list, Held.type_slots_of, Held.fits_added, Held.fits_behind};
+ghost use Rattle.comp_bytes.specs.{RawOf.raw_defined, RawOf.raw_function, RawOf.raw_alias, RawOf.raw_name, Refusal.IsMemoryOrSize};
 
 use crate::declare::{
     declare_alias, declare_defined, declare_export, declare_function, declare_import,

@@ -2,14 +2,9 @@
 
 ghost use Rattle.std.specs.Prelude.{◌≡◌, ◌++◌, false, Err, OnOk, OnErr, IfErr};
 ghost use Rattle.wit_model.specs.declared.error.Error.TheVariants.{Size};
-ghost use Rattle.comp_bytes.specs.Raw.{Declaration};
-ghost use Rattle.comp_bytes.specs.Form.{Joined};
-ghost use Rattle.comp_bytes.specs.Spelling.{IsExternName, IsDescription, IsDeclaration};
-ghost use Rattle.comp_bytes.specs.Writing.{extern_name_bytes, description_bytes, declaration_bytes};
-ghost use Rattle.comp_bytes.specs.RawOf.{raw_defined, raw_function, raw_alias, raw_name};
-ghost use Rattle.comp_bytes.specs.Fits.{fits_name, fits_declaration};
-ghost use Rattle.comp_bytes.specs.Refusal.{IsMemoryOrSize};
-ghost use Rattle.comp_bytes.specs.Appending.{Appends, AppendsDeclaration};
+ghost use Rattle.comp_bytes.specs.{Raw.Declaration, Form.Joined, Spelling.IsExternName, Spelling.IsDescription, Spelling.IsDeclaration, Refusal.IsMemoryOrSize};
+ghost use Rattle.comp_bytes.specs.{Writing.extern_name_bytes, Writing.description_bytes, Writing.declaration_bytes, Fits.fits_name, Fits.fits_declaration};
+ghost use Rattle.comp_bytes.specs.{RawOf.raw_defined, RawOf.raw_function, RawOf.raw_alias, RawOf.raw_name, Appending.Appends, Appending.AppendsDeclaration};
 
 use crate::append::{
     append_alias, append_defined_type, append_description, append_extern_name, append_function_type,

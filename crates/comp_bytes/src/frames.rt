@@ -2,9 +2,8 @@
 
 ghost use Rattle.std.specs.Prelude.{◌≡◌, ◌≤◌, ◌+◌, length, None, Err, IfErr, IfOk, IfSome};
 ghost use Rattle.wit_model.specs.declared.error.Error.TheVariants.{NoReading};
-ghost use Rattle.comp_bytes.specs.Answer.{Gives, Refuses};
+ghost use Rattle.comp_bytes.specs.{Answer.Gives, Answer.Refuses, Frames.IsNext, Frames.ReadsCustom, Frames.RefusesFront, Frames.StandsAt, Frames.StandsInFront};
 ghost use Rattle.comp_bytes.specs.Reading.{frame_at};
-ghost use Rattle.comp_bytes.specs.Frames.{IsNext, ReadsCustom, RefusesFront, StandsAt, StandsInFront};
 
 use crate::name::{counted_of, name_of};
 use std::marker::Model;

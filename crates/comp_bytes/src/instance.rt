@@ -2,9 +2,7 @@
 
 ghost use Rattle.std.specs.Prelude.{◌≡◌, [], ◌∷◌, ◌++◌, false, Err, OnOk, OnErr, IfErr};
 ghost use Rattle.wit_model.specs.declared.error.Error.TheVariants.{Size};
-ghost use Rattle.comp_bytes.specs.Raw.{Declaration};
-ghost use Rattle.comp_bytes.specs.RawOf.{raw_defined, raw_function, raw_alias, raw_name};
-ghost use Rattle.comp_bytes.specs.Held.{type_slots, fits_next};
+ghost use Rattle.comp_bytes.specs.{Raw.Declaration, RawOf.raw_defined, RawOf.raw_function, RawOf.raw_alias, RawOf.raw_name, Held.type_slots, Held.fits_next};
 ghost use Rattle.comp_bytes.specs.Refusal.{IsMemoryOrSize};
 
 use crate::declare::{declare_alias, declare_defined, declare_export, declare_function};

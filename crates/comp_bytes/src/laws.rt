@@ -1,9 +1,7 @@
 //! Laws of the format.
 
-ghost use Rattle.comp_bytes.specs.FirstByte.{DeclaredTypesAreChosen, DefinitionsAreChosen, ValueTypesAreChosen};
-ghost use Rattle.comp_bytes.specs.Reading.{declaration_at};
-ghost use Rattle.comp_bytes.specs.FormatLaws.{OneForm, ShortestIndex, ShortestName, ShortestNumber};
-ghost use Rattle.comp_bytes.specs.Laws.{IsReadBy};
+ghost use Rattle.comp_bytes.specs.{FirstByte.DeclaredTypesAreChosen, FirstByte.DefinitionsAreChosen, FirstByte.ValueTypesAreChosen, Laws.IsReadBy};
+ghost use Rattle.comp_bytes.specs.{Reading.declaration_at, FormatLaws.OneForm, FormatLaws.ShortestIndex, FormatLaws.ShortestName, FormatLaws.ShortestNumber};
 ghost use Rattle.comp_bytes.specs.Levels.{EntriesAreDeclarations, EntriesByFront, IsEntry, IsPartType, LevelsAreSections, PartTypesByFront, PiecesByFrames, TakesBytes, entry_at, part_type_at};
 
 /// A byte string spells the sections of one component at most.

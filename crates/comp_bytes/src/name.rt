@@ -2,15 +2,9 @@
 
 ghost use Rattle.std.specs.Prelude.{◌≡◌, ◌≤◌, ◌++◌, ◌^◌, ◌↔◌, false, length, nat_lt, Err, OnOk, OnErr, IfErr};
 ghost use Rattle.wit_model.specs.declared.error.Error.TheVariants.{Size};
-ghost use Rattle.comp_bytes.specs.Form.{Name};
-ghost use Rattle.comp_bytes.specs.Number.{IsU32};
-ghost use Rattle.comp_bytes.specs.Writing.{u32_bytes, name_bytes, extern_name_bytes};
-ghost use Rattle.comp_bytes.specs.Spelling.{IsExternName};
-ghost use Rattle.comp_bytes.specs.Answer.{Gives, IsReadAtAs};
-ghost use Rattle.comp_bytes.specs.Reading.{counted_at, name_at, plain_name};
-ghost use Rattle.comp_bytes.specs.Fits.{fits_length, fits_name};
-ghost use Rattle.comp_bytes.specs.Refusal.{IsMemoryOrSize};
-ghost use Rattle.comp_bytes.specs.Appending.{Appends};
+ghost use Rattle.comp_bytes.specs.{Form.Name, Spelling.IsExternName, Answer.Gives, Answer.IsReadAtAs, Fits.fits_length, Fits.fits_name, Refusal.IsMemoryOrSize};
+ghost use Rattle.comp_bytes.specs.{Number.IsU32, Appending.Appends};
+ghost use Rattle.comp_bytes.specs.{Writing.u32_bytes, Writing.name_bytes, Writing.extern_name_bytes, Reading.counted_at, Reading.name_at, Reading.plain_name};
 
 use crate::number::{u32_of, write_u32};
 use wit_model::{Cause, Error};

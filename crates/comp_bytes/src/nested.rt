@@ -2,9 +2,7 @@
 
 ghost use Rattle.std.specs.Prelude.{◌≡◌, ◌+◌, ◌^◌, ◌∷◌, ◌++◌, false, nat_lt, IfOk, OnOk, OnErr, IfErr};
 ghost use Rattle.wit_model.specs.Refusals.{IsMemory};
-ghost use Rattle.comp_bytes.specs.Writing.{body_bytes};
-ghost use Rattle.comp_bytes.specs.Held.{described_slots as slots_of, fits_counts, Begins};
-ghost use Rattle.comp_bytes.specs.Refusal.{IsMemoryOrSize};
+ghost use Rattle.comp_bytes.specs.{Writing.body_bytes, Held.described_slots as slots_of, Held.fits_counts, Held.Begins, Refusal.IsMemoryOrSize};
 
 use crate::forms::ComponentTypeRef;
 use crate::number::write_u32;

@@ -2,10 +2,8 @@
 
 ghost use Rattle.std.specs.Prelude.{◌≡◌, ◌≤◌, ◌+◌, ◌%◌, ◌++◌, length, OnOk, OnErr, IfErr};
 ghost use Rattle.wit_model.specs.Refusals.{IsMemory};
-ghost use Rattle.comp_bytes.specs.Writing.{u32_bytes, type_index_bytes};
-ghost use Rattle.comp_bytes.specs.Answer.{Gives, IsReadAt};
-ghost use Rattle.comp_bytes.specs.Number.{IsU32, IsTypeIndex};
-ghost use Rattle.comp_bytes.specs.Reading.{unsigned_at, u32_at, last_byte_of, type_index_at};
+ghost use Rattle.comp_bytes.specs.{Writing.u32_bytes, Writing.type_index_bytes, Answer.Gives, Answer.IsReadAt};
+ghost use Rattle.comp_bytes.specs.{Number.IsU32, Number.IsTypeIndex, Reading.unsigned_at, Reading.u32_at, Reading.last_byte_of, Reading.type_index_at};
 
 use wit_model::{Cause, Error};
 

@@ -3,15 +3,9 @@
 ghost use Rattle.std.specs.Prelude.{◌≡◌, ◌≤◌, ◌<◌, ◌+◌, ◌^◌, [], ◌∷◌, ◌++◌, false, Err, length, OnOk, OnErr, IfErr};
 ghost use Rattle.wit_model.specs.declared.error.Error.TheVariants.{Size};
 ghost use Rattle.wit_model.specs.Refusals.{IsMemory};
-ghost use Rattle.comp_bytes.specs.Raw.{TopType};
-ghost use Rattle.comp_bytes.specs.Form.{Name};
-ghost use Rattle.comp_bytes.specs.Spelling.{IsTopType, IsTopExport};
-ghost use Rattle.comp_bytes.specs.Writing.{u32_bytes, name_bytes, top_type_bytes, top_export_bytes, framed};
-ghost use Rattle.comp_bytes.specs.Parts.{plain_export};
-ghost use Rattle.comp_bytes.specs.Built.{section_id as id_of, begun, closed_bytes};
-ghost use Rattle.comp_bytes.specs.Fits.{fits_length};
-ghost use Rattle.comp_bytes.specs.Refusal.{IsMemoryOrSize};
-ghost use Rattle.comp_bytes.specs.Held.{Begins};
+ghost use Rattle.comp_bytes.specs.{Raw.TopType, Form.Name, Refusal.IsMemoryOrSize, Held.Begins};
+ghost use Rattle.comp_bytes.specs.{Spelling.IsTopType, Spelling.IsTopExport, Built.section_id as id_of, Built.begun, Built.closed_bytes, Fits.fits_length};
+ghost use Rattle.comp_bytes.specs.{Writing.u32_bytes, Writing.name_bytes, Writing.top_type_bytes, Writing.top_export_bytes, Writing.framed, Parts.plain_export};
 
 use crate::component::ComponentType;
 use crate::name::{append_count, append_name, append_plain_name};

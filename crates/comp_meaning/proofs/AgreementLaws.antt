@@ -1,21 +1,15 @@
 -- Views that agree with the first of their path agree with each other, since to show the same is to show what is equal.
 use Rattle.std.proofs.Common.{◌≡◌, refl, sym, ap, subst, ◌∙◌, suc, arith, Bool, true, false, not, ◌&&◌, ◌||◌, cond, List, [], ◌∷◌, ◌++◌, map, Option, Some, None, inl, inr}
-use Rattle.std.specs.List.{Contains, find, list_all, list_any}
-use Rattle.std.specs.Option.{option_map_or, option_or}
-use Rattle.std.proofs.lemmas.List.Folds.{find-append}
-use Rattle.std.proofs.lemmas.List.Elements.{Contains-append_left, Contains-append_right, Contains-append_cases}
+use Rattle.std.proofs.lemmas.List.{Folds.find-append, Elements.Contains-append_left, Elements.Contains-append_right, Elements.Contains-append_cases}
 use Rattle.std.proofs.lemmas.Bool.{and_from}
-use Rattle.wit_model.specs.Text.{Text, text_eq}
-use Rattle.wit_model.specs.Tree.{Place}
-use Rattle.wit_model.proofs.VersionLaws.{same_text}
-use Rattle.comp_meaning.specs.Rules.{distinct, is_interface}
-use Rattle.comp_meaning.specs.Reads.{Sight, same_functions, agree, all_agree, are_interfaces}
+use Rattle.std.specs.{List.Contains, List.find, List.list_all, List.list_any, Option.option_map_or, Option.option_or}
+use Rattle.wit_model.specs.{Text.Text, Text.text_eq, Tree.Place}
+use Rattle.wit_model.proofs.{VersionLaws.same_text, TextLemmas.text_same}
+use Rattle.comp_meaning.specs.{Rules.distinct, Rules.is_interface, Reads.Sight, Reads.same_functions, Reads.agree, Reads.all_agree, Reads.are_interfaces}
 use Rattle.comp_meaning.specs.Agreement.{first_of, first_whole, same_types, agrees_with_first, agree_with_first, FirstAgrees}
-use Rattle.comp_meaning.proofs.SameLaws.{shown_types_decide}
-use Rattle.comp_meaning.proofs.FunctionLists.{functions_make_one_map}
+use Rattle.comp_meaning.proofs.{SameLaws.shown_types_decide, FunctionLists.functions_make_one_map}
 use Rattle.base_lemmas.proofs.Bools.{both_ways as either_way, left_of as first_true, right_of as second_true}
 use Rattle.base_lemmas.proofs.Elements.{all-contained, last_of, none_in as none_contained}
-use Rattle.wit_model.proofs.TextLemmas.{text_same}
 
 -- what holds where a test passes
 abbrev pub Implies : Bool → Bool → Type 0

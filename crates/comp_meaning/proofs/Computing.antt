@@ -1,12 +1,10 @@
 -- What the worked examples share.
 use Rattle.std.proofs.Common.{ℕ, zero, suc, ◌+◌, nat_lt, cond, List, [], ◌∷◌, ◌++◌, Option, None, false}
-use Rattle.std.specs.Prelude.{codes}
+use Rattle.std.specs.{Prelude.codes, Str.is_utf8, Str.chars}
 use Rattle.comp_bytes.specs.Reading.{◌>>=◌, unsigned_at, u32_at, last_byte_of, type_index_at, just_at, as_at, pair_at, choose, tagged_at, tag_at, closed_at, byte_at, optional_at, sequence_at, vector_at, counted_at, name_at, value_type_at, field_at, case_at, result_list_at, alias_at, with_attributes, attributed_at, extern_name_at, description_at, declaration_at, body_at, importless_at, component_and, instance_and, plain_and, declarations_at, type_at, top_export_at, section_of, frame_at, sections_of, component_of}
 use Rattle.semver.specs.Parse.{digits_from}
-use Rattle.wit_model.specs.Names.{PackageIdentity}
-use Rattle.wit_model.specs.Meaning.{Signature, Item, WorldMeaning, PackageMeaning, WorldPackage}
+use Rattle.wit_model.specs.{Names.PackageIdentity, Meaning.Signature, Meaning.Item, Meaning.WorldMeaning, Meaning.PackageMeaning, Meaning.WorldPackage}
 use Rattle.comp_meaning.specs.Reads.{package_meaning, world_package}
-use Rattle.std.specs.Str.{is_utf8, chars}
 use lib.Utf8.{encode}
 
 -- package a:b; world foo { import host: func(); export guest: func(); }

@@ -1,7 +1,6 @@
 -- Worked examples: aliases, attributes, unused definitions, resources and levels.
 use Rattle.std.proofs.Common.{◌≡◌, ℕ, List, [], ◌∷◌, ◌++◌, take, drop, false, true, refl}
-use Rattle.std.specs.List.{list_all, list_any}
-use Rattle.std.specs.Prelude.{is_some}
+use Rattle.std.specs.{List.list_all, List.list_any, Prelude.is_some}
 use Rattle.wit_model.specs.Names.{cut as cut_at}
 use Rattle.comp_meaning.proofs.Computing.{computes, lists_of, meaning, world_meaning_of}
 

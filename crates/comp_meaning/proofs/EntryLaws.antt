@@ -1,17 +1,12 @@
 -- The declarations of a world or an interface, followed as entries, stand for the scope that they stand for as raw forms.
 use Rattle.std.proofs.Common.{◌≡◌, refl, sym, ap, subst, ◌∙◌, ℕ, suc, Bool, true, false, ◌&&◌, eqb, List, [], ◌∷◌, length, map, Option, Some, None, option_map}
-use Rattle.std.specs.Prelude.{slice_get}
-use Rattle.std.specs.List.{list_any}
-use Rattle.std.proofs.lemmas.List.{map-append}
-use Rattle.std.proofs.lemmas.Option.{slice_get-map}
+use Rattle.std.proofs.lemmas.{List.map-append, Option.slice_get-map}
+use Rattle.std.specs.{Prelude.slice_get, List.list_any}
 use Rattle.wit_model.specs.Tree.{Place}
-use Rattle.comp_bytes.specs.Raw.{Declaration, Declarations, from_list}
-use Rattle.comp_bytes.specs.Reading.{◌>>=◌}
-use Rattle.comp_bytes.specs.Levels.{Entry, plain, holds, declarations_of}
+use Rattle.comp_bytes.specs.{Raw.Declaration, Raw.Declarations, Raw.from_list, Reading.◌>>=◌, Levels.Entry, Levels.plain, Levels.holds, Levels.declarations_of}
 use Rattle.comp_bytes.proofs.Readers.{bind_some}
 use Rattle.comp_meaning.specs.Follow.{Slot, Scope, View, Seen, Shown, Direction, import_, export_, provided, new_scope, in_scope, see, place_of, interface_of, used_view, component_step, component_steps, component_scope, flat, instance_types}
-use Rattle.comp_meaning.specs.Reads.{steps}
-use Rattle.comp_meaning.specs.ByLevels.{entry_step, entry_scope, all_used}
+use Rattle.comp_meaning.specs.{Reads.steps, ByLevels.entry_step, ByLevels.entry_scope, ByLevels.all_used}
 use Rattle.comp_meaning.proofs.Marks.{marks, all_taken, Counted, one_mark_more, one_number_more, exact}
 use Rattle.comp_meaning.proofs.StepLaws.{StepOf, defines, signs, aliases, sees_function, sees_type, sees_instance, seen_under, seen_instance, with_instance, step_of}
 use Rattle.base_lemmas.proofs.Options.{some_is}

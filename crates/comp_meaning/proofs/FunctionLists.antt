@@ -1,26 +1,17 @@
 -- Functions of two lists without a repeated name: where one list has as many as the other and all of its functions stand in the other, both
 -- have the same functions, and make one map.
 use Rattle.std.proofs.Common.{◌≡◌, refl, sym, ap, subst, ◌∙◌, ℕ, zero, suc, ◌+◌, ◌<◌, ◌≤◌, arith, Bool, true, false, not, ◌&&◌, ◌||◌, eqb, cond, List, [], ◌∷◌, length, map, Option, Some}
-use Rattle.std.specs.Prelude.{slice_get}
-use Rattle.std.specs.List.{Contains, list_any}
-use Rattle.std.specs.Bool.{Decides}
-use Rattle.std.specs.FinMap.{find, from_entries, get, get-from_entries}
-use Rattle.base_lemmas.proofs.Elements.{all-contained, all_pass, any-at, any-contains, contains-later as behind, contains-map}
-use Rattle.std.proofs.lemmas.Bool.{false_from_ne_true, eqb-true, eq-eqb, and_from, not-true}
-use Rattle.std.proofs.lemmas.Bool.Decides.{Decides-at}
+use Rattle.std.proofs.lemmas.{Bool.false_from_ne_true, Bool.eqb-true, Bool.eq-eqb, Bool.and_from, Bool.not-true, Bool.Decides.Decides-at}
 use Rattle.std.proofs.lemmas.Cmp.{nat_list_cmp_total}
+use Rattle.std.specs.{Prelude.slice_get, List.Contains, List.list_any, Bool.Decides, FinMap.find, FinMap.from_entries, FinMap.get, FinMap.get-from_entries}
+use Rattle.base_lemmas.proofs.Elements.{all-contained, all_pass, any-at, any-contains, contains-later as behind, contains-map}
+use Rattle.base_lemmas.proofs.Bools.{both_ways as either_way, left_of as first_true, right_of as second_true}
 use Rattle.wit_model.specs.Text.{Text, TextMap, text_eq, text_cmp}
-use Rattle.wit_model.proofs.VersionLaws.{same_text}
-use Rattle.wit_model.proofs.Maps.{one_map, there_some}
-use Rattle.wit_model.proofs.AnyOrder.{found-there as found_there}
-use Rattle.comp_meaning.specs.Rules.{distinct}
-use Rattle.comp_meaning.specs.Same.{same_function, stand_in}
-use Rattle.comp_meaning.specs.Reads.{same_functions}
-use Rattle.comp_meaning.specs.SameLaws.{DecidesEquality, SameFunctionsStandInEachOther, SameFunctionsAreOneMap}
+use Rattle.wit_model.proofs.{VersionLaws.same_text, Maps.one_map, Maps.there_some, AnyOrder.found-there as found_there, TextLemmas.text_same}
+use Rattle.comp_meaning.specs.{Rules.distinct, Same.same_function, Same.stand_in}
+use Rattle.comp_meaning.specs.{Reads.same_functions, SameLaws.DecidesEquality, SameLaws.SameFunctionsStandInEachOther, SameLaws.SameFunctionsAreOneMap}
 use Rattle.comp_meaning.proofs.SameLaws.{functions_decide}
 use Rattle.comp_meaning.proofs.Marks.{marks, all_taken, Counted, no_number, one_number_first, no_more, exact, taken_at, true_mark, all_marked}
-use Rattle.base_lemmas.proofs.Bools.{both_ways as either_way, left_of as first_true, right_of as second_true}
-use Rattle.wit_model.proofs.TextLemmas.{text_same}
 
 module _ {X : Type 0} where
   abbrev names : List (Text × X) → List Text

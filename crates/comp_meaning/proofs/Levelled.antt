@@ -1,30 +1,22 @@
 -- What has a meaning nests no deeper than the levels do, and means the same by levels.
 use Rattle.std.proofs.Common.{◌≡◌, ◌⊎◌, refl, sym, ap, subst, ◌∙◌, ℕ, zero, suc, ◌<◌, ◌+◌, arith, Bool, true, false, not, ◌&&◌, ◌||◌, eqb, List, [], ◌∷◌, ◌++◌, length, map, Option, Some, None, option_map, inl, inr, length-append}
-use Rattle.std.specs.Prelude.{slice_get, is_none}
-use Rattle.std.specs.List.{list_any}
-use Rattle.std.proofs.lemmas.Bool.{eqb-true, and_parts, not-true}
-use Rattle.std.proofs.lemmas.List.{map-append}
-use Rattle.std.proofs.lemmas.Option.{slice_get_within}
-use Rattle.wit_model.specs.Text.{Text}
-use Rattle.wit_model.specs.Names.{PackageIdentity, is_label}
+use Rattle.std.proofs.lemmas.{Bool.eqb-true, Bool.and_parts, Bool.not-true, List.map-append, Option.slice_get_within}
+use Rattle.std.specs.{Prelude.slice_get, Prelude.is_none, List.list_any}
+use Rattle.wit_model.specs.{Text.Text, Names.PackageIdentity, Names.is_label}
 use Rattle.wit_model.proofs.Checks.{get_before}
-use Rattle.comp_bytes.specs.declared.forms.ComponentTypeRef.TheVariants as refs
 use Rattle.comp_bytes.specs.Raw.{ExternName, Declaration, Declarations, TopType, TopExport, Section}
 use Rattle.comp_bytes.specs.Reading.{◌>>=◌, component_of}
 use Rattle.comp_bytes.specs.Levels.{plain, holds, PartType, wraps, shows, Piece, raw_part, raw_piece, levels_of}
-use Rattle.comp_bytes.specs.Levels as levels
-use Rattle.comp_bytes.proofs.Readers.{bind_some, when_some}
-use Rattle.comp_bytes.proofs.PieceLaws.{levels_are_sections}
-use Rattle.comp_meaning.specs.Follow.{each, when, complete_path, Scope, component_scope}
-use Rattle.comp_meaning.specs.Rules.{distinct}
+use Rattle.comp_bytes.proofs.{Readers.bind_some, Readers.when_some, PieceLaws.levels_are_sections}
+use Rattle.comp_meaning.specs.{Follow.each, Follow.when, Follow.complete_path, Follow.Scope, Follow.component_scope, Rules.distinct}
 use Rattle.comp_meaning.specs.Reads.{steps, is_bare, top_type, top_section, exported_types, wrapped, labelled_path, world_part, interface_part, part_of, Part, Member, member, package_of_members, world_of_members}
-use Rattle.comp_meaning.specs.Reads as reads
 use Rattle.comp_meaning.specs.ByLevels.{member_by_levels, exported_parts, package_of_pieces, world_of_pieces, PackageByLevels, WorldByLevels}
 use Rattle.comp_meaning.proofs.Marks.{all_taken, Counted, one_mark_more, one_number_more, exact, taken_at, true_mark, all_marked}
-use Rattle.comp_meaning.proofs.EntryLaws.{steps_keep, scope_is, followed_only}
-use Rattle.comp_meaning.proofs.TopLaws.{labelled, raw_found, parts_along}
-use Rattle.base_lemmas.proofs.Lists.{at_last as get_last}
-use Rattle.base_lemmas.proofs.Options.{some_is}
+use Rattle.comp_meaning.proofs.{EntryLaws.steps_keep, EntryLaws.scope_is, EntryLaws.followed_only, TopLaws.labelled, TopLaws.raw_found, TopLaws.parts_along}
+use Rattle.base_lemmas.proofs.{Lists.at_last as get_last, Options.some_is}
+use Rattle.comp_bytes.specs.declared.forms.ComponentTypeRef.TheVariants as refs
+use Rattle.comp_bytes.specs.Levels as levels
+use Rattle.comp_meaning.specs.Reads as reads
 
 -- the declarations are those of a type at the top that is followed
 abbrev IsLevelled : Declarations → Type 0

@@ -1,11 +1,8 @@
 -- What bytes mean is what reading them gives, so they mean one thing at most.
 use Rattle.std.proofs.Common.{List, Option, sym, ap, ◌∙◌}
-use Rattle.comp_bytes.specs.Raw.{Section}
-use Rattle.comp_bytes.specs.Reading.{component_of, ◌>>=◌}
-use Rattle.comp_meaning.specs.Reads.{package_meaning, world_package}
-use Rattle.comp_meaning.specs.Meanings.{OneMeaning, OneWorld, MeaningIsRead, WorldIsRead}
-use Rattle.comp_bytes.proofs.Readers.{bind_some}
-use Rattle.comp_bytes.proofs.ComponentLaws.{component_takes, component_again}
+use Rattle.comp_bytes.specs.{Raw.Section, Reading.component_of, Reading.◌>>=◌}
+use Rattle.comp_meaning.specs.{Reads.package_meaning, Reads.world_package, Meanings.OneMeaning, Meanings.OneWorld, Meanings.MeaningIsRead, Meanings.WorldIsRead}
+use Rattle.comp_bytes.proofs.{Readers.bind_some, ComponentLaws.component_takes, ComponentLaws.component_again}
 use Rattle.base_lemmas.proofs.Options.{some_is}
 
 pub meaning_is_read : MeaningIsRead

@@ -1,14 +1,10 @@
 -- Worked examples: a package of one world with functions.
 use Rattle.std.proofs.Common.{zero, suc, ◌≡◌, ℕ, List, [], ◌∷◌, ◌++◌, Some, None, take, drop, false, true, refl}
-use Rattle.std.specs.Prelude.{codes, is_some, if◌then◌else◌}
-use Rattle.comp_bytes.specs.declared.forms.ComponentTypeRef.TheVariants as refs
-use Rattle.comp_bytes.specs.Raw.{Declaration, Declarations, TopType, Section}
-use Rattle.comp_bytes.specs.Reading.{plain_name, component_of}
-use Rattle.std.specs.FinMap.{from_entries}
-use Rattle.wit_model.specs.Names.{cut as cut_at}
-use Rattle.wit_model.specs.Tree.{Tree, Primitive}
-use Rattle.wit_model.specs.Meaning.{Item}
+use Rattle.std.specs.{Prelude.codes, Prelude.is_some, Prelude.if◌then◌else◌, FinMap.from_entries}
+use Rattle.comp_bytes.specs.{Raw.Declaration, Raw.Declarations, Raw.TopType, Raw.Section, Reading.plain_name, Reading.component_of}
+use Rattle.wit_model.specs.{Names.cut as cut_at, Tree.Tree, Tree.Primitive, Meaning.Item}
 use Rattle.comp_meaning.proofs.Computing.{computes, one_world, meaning, world_meaning_of, unit_function, a_b, foo}
+use Rattle.comp_bytes.specs.declared.forms.ComponentTypeRef.TheVariants as refs
 
 raw_of_one_world : component_of one_world ≡ Some
     (Section.types (TopType.component

@@ -1,10 +1,7 @@
 -- Worked examples: what is read, and what is refused.
 use Rattle.std.proofs.Common.{◌≡◌, ℕ, List, [], ◌∷◌, ◌++◌, take, drop, Some, None, false, true, refl}
-use Rattle.std.specs.List.{list_all, list_any}
-use Rattle.std.specs.Prelude.{codes, is_some}
-use Rattle.std.specs.FinMap.{from_entries}
-use Rattle.wit_model.specs.Names.{PackageIdentity, cut as cut_at}
-use Rattle.wit_model.specs.Tree.{Tree, Primitive, Place, Declaration as TreeDeclaration}
+use Rattle.std.specs.{List.list_all, List.list_any, Prelude.codes, Prelude.is_some, FinMap.from_entries}
+use Rattle.wit_model.specs.{Names.PackageIdentity, Names.cut as cut_at, Tree.Tree, Tree.Primitive, Tree.Place, Tree.Declaration as TreeDeclaration}
 use Rattle.wit_model.specs.Meaning.{Item, Entry, TypeMeaning, InterfaceMeaning}
 use Rattle.comp_meaning.proofs.Computing.{computes, lists_of, one_world, meaning, unit_function, a_b}
 

@@ -1,11 +1,9 @@
 -- Lemmas on names that stand once.
 use Rattle.wit_model.specs.Rules as rules
-use Rattle.base_lemmas.proofs.Bools.{left_of as first_true, right_of as second_true}
-use Rattle.base_lemmas.proofs.Options.{some_is}
+use Rattle.base_lemmas.proofs.{Bools.left_of as first_true, Bools.right_of as second_true, Options.some_is}
 use Rattle.comp_meaning.specs.Rules.{distinct}
 use Rattle.std.proofs.Common.{Bool, List, Some, [], ap, arith, not, refl, slice_get, suc, true, zero, ℕ, ◌&&◌, ◌<◌, ◌∷◌, ◌≡◌}
-use Rattle.std.proofs.lemmas.Bool.{not-true}
-use Rattle.std.proofs.lemmas.Map.Keys.{any_passes_from_place as any_at}
+use Rattle.std.proofs.lemmas.{Bool.not-true, Map.Keys.any_passes_from_place as any_at}
 use Rattle.std.specs.List.{list_any}
 use Rattle.wit_model.proofs.VersionLaws.{same_text}
 use Rattle.wit_model.specs.Text.{Text, text_eq}

@@ -1,20 +1,13 @@
 -- The top of a component, followed by levels, is the top as its raw form is followed.
 use Rattle.std.proofs.Common.{◌≡◌, refl, sym, ap, ◌∙◌, ℕ, Bool, true, false, not, ◌&&◌, eqb, List, [], ◌∷◌, ◌++◌, length, map, Option, Some, None, option_map}
-use Rattle.std.specs.Prelude.{slice_get}
-use Rattle.std.specs.List.{list_any}
-use Rattle.std.proofs.lemmas.List.{map-append, length-map, map-id}
-use Rattle.std.proofs.lemmas.Option.{slice_get-map}
-use Rattle.wit_model.specs.Text.{Text}
-use Rattle.wit_model.specs.Names.{is_label}
-use Rattle.comp_bytes.specs.Raw.{Declarations, TopType, TopExport}
-use Rattle.comp_bytes.specs.Reading.{◌>>=◌}
-use Rattle.comp_bytes.specs.Levels.{PartType, Piece, raw_part, raw_piece}
+use Rattle.std.proofs.lemmas.{List.map-append, List.length-map, List.map-id, Option.slice_get-map}
+use Rattle.std.specs.{Prelude.slice_get, List.list_any}
+use Rattle.wit_model.specs.{Text.Text, Names.is_label}
+use Rattle.comp_bytes.specs.{Raw.Declarations, Raw.TopType, Raw.TopExport, Reading.◌>>=◌, Levels.PartType, Levels.Piece, Levels.raw_part, Levels.raw_piece}
+use Rattle.comp_meaning.specs.{Follow.each, Follow.when, Follow.provided, Reads.steps, Reads.is_bare, Reads.exported_types}
+use Rattle.comp_meaning.specs.{Rules.distinct, ByLevels.Top, ByLevels.top_part, ByLevels.top_export, ByLevels.top_piece, ByLevels.exported_parts}
 use Rattle.comp_bytes.specs.Levels as levels
-use Rattle.comp_meaning.specs.Follow.{each, when, provided}
-use Rattle.comp_meaning.specs.Rules.{distinct}
-use Rattle.comp_meaning.specs.Reads.{steps, is_bare, exported_types}
 use Rattle.comp_meaning.specs.Reads as reads
-use Rattle.comp_meaning.specs.ByLevels.{Top, top_part, top_export, top_piece, exported_parts}
 
 -- ---- steps under other names
 

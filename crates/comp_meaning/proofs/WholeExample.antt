@@ -1,7 +1,6 @@
 -- A worked example: two packages.
 use Rattle.std.proofs.Common.{◌≡◌, ℕ, List, [], ◌∷◌, Option, Some, None, false, true, Bool, refl}
-use Rattle.std.specs.Prelude.{codes}
-use Rattle.std.specs.FinMap.{from_entries}
+use Rattle.std.specs.{Prelude.codes, FinMap.from_entries}
 use Rattle.wit_model.specs.Names.{cut as cut_at}
 use Rattle.wit_model.specs.Tree.{Tree, Primitive, Place, Declaration as TreeDeclaration, list_tree, own_tree, borrow_tree, result_tree}
 use Rattle.wit_model.specs.Meaning.{Signature, FunctionMeaning, Item, TypeMeaning, InterfaceMeaning, WorldMeaning, PackageMeaning}

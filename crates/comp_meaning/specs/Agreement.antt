@@ -1,8 +1,6 @@
 -- Whether the views of an interface agree, said by looking at the first of them alone, and at the first that shows functions too.
 use Rattle.std.specs.Prelude.{◌≡◌, Bool, true, not, ◌&&◌, ◌||◌, List, [], ◌∷◌, ◌++◌, Option}
-use Rattle.std.specs.List.{find}
-use Rattle.std.specs.Option.{option_map_or}
-use Rattle.std.specs.Cmp.Lexicographic.{pointwise}
+use Rattle.std.specs.{List.find, Option.option_map_or, Cmp.Lexicographic.pointwise}
 use Rattle.wit_model.specs.Text.{Text, text_eq}
 use Rattle.comp_meaning.specs.Reads.{Sight, same_shown, same_functions, all_agree, are_interfaces}
 

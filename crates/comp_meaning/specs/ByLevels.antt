@@ -2,16 +2,13 @@
 -- same rules as in Follow and Reads, where nothing nests without bound.
 use Rattle.std.specs.Prelude.{◌≡◌, ℕ, suc, Bool, true, ◌&&◌, ◌==◌, not, List, [], ◌∷◌, ◌++◌, length, map, Option, Some, slice_get, is_none}
 use Rattle.std.specs.List.{list_any}
-use Rattle.wit_model.specs.Text.{Text}
-use Rattle.wit_model.specs.Names.{PackageIdentity, is_label}
-use Rattle.wit_model.specs.Meaning.{PackageMeaning, WorldPackage}
-use Rattle.comp_bytes.specs.Raw.{ExternName, TopExport}
+use Rattle.wit_model.specs.{Text.Text, Names.PackageIdentity, Names.is_label, Meaning.PackageMeaning, Meaning.WorldPackage}
+use Rattle.comp_bytes.specs.{Raw.ExternName, Raw.TopExport, Reading.◌>>=◌, Reading.component_of}
 use Rattle.comp_bytes.specs.Levels.{Entry, plain, holds, PartType, wraps, shows, Piece, declarations_of, levels_of}
-use Rattle.comp_bytes.specs.Levels as levels
-use Rattle.comp_bytes.specs.Reading.{◌>>=◌, component_of}
 use Rattle.comp_meaning.specs.Follow.{each, when, provided, complete_path, Slot, Scope, new_scope, in_scope, component_step, component_scope}
 use Rattle.comp_meaning.specs.Rules.{distinct, is_world}
 use Rattle.comp_meaning.specs.Reads.{steps, is_bare, exported_view, imported_view, are_reached, labelled_path, Part, Member, package_of_members, world_of_members, package_meaning, world_package}
+use Rattle.comp_bytes.specs.Levels as levels
 
 -- ---- the type of a world or an interface
 

@@ -2,20 +2,15 @@
 -- A package is a component whose types are exported: for each interface a component type that exports it, and for each world
 -- a component type that wraps it (Component Model WIT.md, "Package Format").
 use Rattle.std.specs.Prelude.{◌≡◌, ℕ, zero, Bool, true, false, not, ◌&&◌, ◌||◌, ◌==◌, if◌then◌else◌, List, [], ◌∷◌, ◌++◌, length, map, Option, Some, None, slice_get, is_none}
-use Rattle.std.specs.List.{list_all, list_any, flat_map, filter}
-use Rattle.std.specs.FinMap.{from_entries}
-use Rattle.std.specs.Cmp.Lexicographic.{pointwise}
-use Rattle.wit_model.specs.Text.{Text, text_eq}
-use Rattle.wit_model.specs.Tree.{Place}
-use Rattle.wit_model.specs.Names.{PackageIdentity, is_label, read_path, path_in}
+use Rattle.std.specs.{List.list_all, List.list_any, List.flat_map, List.filter, FinMap.from_entries, Cmp.Lexicographic.pointwise}
+use Rattle.wit_model.specs.{Text.Text, Text.text_eq, Tree.Place, Names.PackageIdentity, Names.is_label, Names.read_path, Names.path_in}
 use Rattle.wit_model.specs.Meaning.{FunctionMeaning, InterfaceMeaning, Item, Entry, WorldMeaning, PackageMeaning, WorldPackage}
-use Rattle.comp_bytes.specs.declared.forms.ComponentTypeRef.TheVariants as refs
 use Rattle.comp_bytes.specs.Raw.{ExternName, Declaration, Declarations, TopType, TopExport, Section}
-use Rattle.comp_bytes.specs.Spelling.{IsComponent}
-use Rattle.comp_bytes.specs.Reading.{◌>>=◌}
+use Rattle.comp_bytes.specs.{Spelling.IsComponent, Reading.◌>>=◌}
 use Rattle.comp_meaning.specs.Follow.{each, when, provided, is_filled, complete_path, View, ShownType, Seen, Shown, Key, Instance, Scope, component_scope}
 use Rattle.comp_meaning.specs.Same.{same_type, same_function, same_identity, stand_in}
 use Rattle.comp_meaning.specs.Rules.{distinct, used_by_view, is_interface, is_world}
+use Rattle.comp_bytes.specs.declared.forms.ComponentTypeRef.TheVariants as refs
 
 -- ---- the top
 

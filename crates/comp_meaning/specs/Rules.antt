@@ -1,14 +1,11 @@
 -- What a package that is read has to obey: the rules of WIT.md on names, types and functions, on what the imports and exports show.
-use Rattle.std.specs.Prelude.{ℕ, Bool, true, false, not, ◌&&◌, ◌||◌, nat_le, if◌then◌else◌, List, [], ◌∷◌, ◌++◌, length, map, drop, Option, Some, None, codes}
+use Rattle.std.specs.Prelude.{ℕ, Bool, true, false, not, ◌&&◌, ◌||◌, nat_le, if◌then◌else◌, List, [], ◌∷◌, ◌++◌, length, map, drop, Option, Some, None, codes, nat_eq}
 use Rattle.std.specs.List.{list_all, list_any, flat_map, starts_with}
-use Rattle.std.specs.Prelude.{nat_eq}
-use Rattle.wit_model.specs.Text.{Text, text_eq}
-use Rattle.wit_model.specs.Tree as tree
+use Rattle.wit_model.specs.{Text.Text, Text.text_eq, Names.is_label, Names.constructor_name, Names.method_name, Names.static_name, Meaning.Signature}
 use Rattle.wit_model.specs.Tree.{Place, Form, Tree, Trees, Declaration, levels, deepest}
-use Rattle.wit_model.specs.Names.{is_label, constructor_name, method_name, static_name}
-use Rattle.wit_model.specs.Meaning.{Signature}
 use Rattle.comp_meaning.specs.Same.{same_place, same_tree}
 use Rattle.comp_meaning.specs.Follow.{View, ShownType, Seen, Shown, Key, Scope, place_of, interface_of}
+use Rattle.wit_model.specs.Tree as tree
 
 -- ---- names
 

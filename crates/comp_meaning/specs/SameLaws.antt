@@ -1,14 +1,8 @@
 -- Laws of the tests that say whether two meanings are the same.
 use Rattle.std.specs.Prelude.{◌≡◌, true, Bool, ◌&&◌, List, map}
-use Rattle.std.specs.Bool.{Decides}
-use Rattle.std.specs.Cmp.Lexicographic.{pointwise}
-use Rattle.std.specs.FinMap.{from_entries}
-use Rattle.wit_model.specs.Text.{Text, TextMap}
-use Rattle.wit_model.specs.Meaning.{FunctionMeaning, TypeMeaning}
-use Rattle.comp_meaning.specs.Follow.{ShownType}
-use Rattle.comp_meaning.specs.Rules.{distinct}
-use Rattle.comp_meaning.specs.Same.{same_function, stand_in}
-use Rattle.comp_meaning.specs.Reads.{same_shown, same_functions}
+use Rattle.std.specs.{Bool.Decides, Cmp.Lexicographic.pointwise, FinMap.from_entries}
+use Rattle.wit_model.specs.{Text.Text, Text.TextMap, Meaning.FunctionMeaning, Meaning.TypeMeaning}
+use Rattle.comp_meaning.specs.{Follow.ShownType, Rules.distinct, Same.same_function, Same.stand_in, Reads.same_shown, Reads.same_functions}
 
 -- The test says whether its two arguments are equal.
 abbrev pub DecidesEquality : {A : Type 0} → (A → A → Bool) → Type 0

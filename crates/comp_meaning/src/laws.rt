@@ -1,8 +1,7 @@
 //! Laws of the meaning of bytes.
 
-ghost use Rattle.comp_meaning.specs.Agreement.{FirstAgrees};
+ghost use Rattle.comp_meaning.specs.{Agreement.FirstAgrees, Meanings.MeaningIsRead, Meanings.OneMeaning, Meanings.OneWorld, Meanings.WorldIsRead};
 ghost use Rattle.comp_meaning.specs.ByLevels.{PackageByLevels, ScopesByLevels, WorldByLevels};
-ghost use Rattle.comp_meaning.specs.Meanings.{MeaningIsRead, OneMeaning, OneWorld, WorldIsRead};
 ghost use Rattle.comp_meaning.specs.Same.{same_declaration, same_function, same_identity, same_signature, same_tree, same_type};
 ghost use Rattle.comp_meaning.specs.SameLaws.{DecidesEquality, SameFunctionsAreOneMap, SameFunctionsStandInEachOther, SameTypesAreEqual};
 

@@ -1,40 +1,21 @@
 -- What is built of the plan of a package.
 use Rattle.std.proofs.Common.{◌≡◌, inl, inr, refl, sym, ap, subst, ◌∙◌, ℕ, zero, suc, ◌+◌, ◌<◌, ◌≤◌, arith, Bool, true, List, [], ◌∷◌, map, length, slice_get, Option, Some, None, option_map}
-use Rattle.std.proofs.lemmas.List.{length-map}
-use Rattle.wit_model.specs.declared.model.Package.{Package}
-use Rattle.wit_model.specs.declared.model.Resolve.{Resolve}
-use Rattle.wit_model.specs.Lookup.{package_at}
-use Rattle.wit_model.specs.Meaning.{PackageMeaning}
-use Rattle.wit_model.specs.Meant.{Meant}
-use Rattle.wit_model.specs.Valid.{IsValid}
-use Rattle.plan_meaning.specs.Built.{IsBuilt, planned_package, planned_type}
-use Rattle.plan_meaning.specs.NumberedViews.{Tables}
-use Rattle.plan_meaning.specs.Plan.{Plan, PlannedPackage, package_in}
-use Rattle.plan_meaning.specs.PlanMeaning.{package_meaning, plan_meaning}
-use Rattle.plan_meaning.specs.PlanRules.{IsPlan}
-use Rattle.plan_meaning.specs.Shapes.{Shape}
+use Rattle.std.proofs.lemmas.{List.length-map, Bool.cases_lt as below_or, Slice.Zip.AllZip-long as zip_length}
+use Rattle.wit_model.specs.declared.model.{Package.Package, Resolve.Resolve}
+use Rattle.wit_model.specs.{Lookup.package_at, Meaning.PackageMeaning, Meant.Meant, Valid.IsValid, Names.PackageIdentity}
+use Rattle.plan_meaning.specs.{Built.IsBuilt, Built.planned_package, Built.planned_type, PlanMeaning.package_meaning, PlanMeaning.plan_meaning, Shapes.Shape}
+use Rattle.plan_meaning.specs.{NumberedViews.Tables, Plan.Plan, Plan.PlannedPackage, Plan.package_in, PlanRules.IsPlan}
 use Rattle.plan_meaning.proofs.NothingElse.{package_holds_alone}
-use Rattle.plan_build.specs.Buildable.{IsBuildable}
-use Rattle.plan_build.specs.MeansPlan.{MeansPlan}
+use Rattle.plan_build.specs.{Buildable.IsBuildable, MeansPlan.MeansPlan}
 use Rattle.plan_build.proofs.BuildableLaws.{plans_are_buildable}
-use Rattle.plan_parts.specs.Kept.{AreMarked}
-use Rattle.plan_parts.specs.Marks.{is_marked, IsUsed, PartsFall, marked, part}
+use Rattle.plan_parts.specs.{Kept.AreMarked, Marks.is_marked, Marks.IsUsed, Marks.PartsFall, Marks.marked, Marks.part}
 use Rattle.plan_type_laws.proofs.ShownForms.{mark_there}
 use Rattle.read_exports.specs.declared.members.Member.{Member}
-use Rattle.plan_types.specs.PlannedTypes.{PlansType}
-use Rattle.plan_types.specs.Used.{TypesFall}
-use Rattle.plan_package.specs.PlanWhole.{owners_in, shown_first, PlansWhole}
-use Rattle.plan_package.specs.WholeInterfaces.{Home}
-use Rattle.wit_model.specs.Names.{PackageIdentity}
-use Rattle.comp_read.specs.Decoded.{HoldsFound}
-use Rattle.comp_read.specs.Order.{OthersRise}
+use Rattle.plan_types.specs.{PlannedTypes.PlansType, Used.TypesFall}
+use Rattle.plan_package.specs.{PlanWhole.owners_in, PlanWhole.shown_first, PlanWhole.PlansWhole, WholeInterfaces.Home}
+use Rattle.comp_read.specs.{Decoded.HoldsFound, Order.OthersRise, Planned.IsBuiltOf, Planned.MeansFound, Planned.PlansMean}
 use Rattle.comp_read.proofs.WorldOrder.{others_rise, plan_others_rise}
-use Rattle.comp_read.specs.Planned.{IsBuiltOf, MeansFound, PlansMean}
-use Rattle.base_lemmas.proofs.Elements.{all_at}
-use Rattle.base_lemmas.proofs.Lists.{get_back}
-use Rattle.base_lemmas.proofs.Options.{there}
-use Rattle.std.proofs.lemmas.Bool.{cases_lt as below_or}
-use Rattle.std.proofs.lemmas.Slice.Zip.{AllZip-long as zip_length}
+use Rattle.base_lemmas.proofs.{Elements.all_at, Lists.get_back, Options.there}
 use Rattle.plan_laws.proofs.Inside.{within as mark_within}
 
 -- ---- what it holds

@@ -1,12 +1,9 @@
 -- What the rules of reading make of the parts at the top is what they make of the scopes that were followed.
 use Rattle.std.proofs.Common.{◌≡◌, refl, sym, ap, ◌∙◌, true, List, [], ◌∷◌, Option, Some, None}
 use Rattle.wit_model.specs.Text.{Text}
-use Rattle.comp_bytes.specs.Levels.{PartType, Piece}
-use Rattle.comp_bytes.specs.Reading.{◌>>=◌}
+use Rattle.comp_bytes.specs.{Levels.PartType, Levels.Piece, Reading.◌>>=◌}
 use Rattle.comp_bytes.proofs.Readers.{bind_some}
-use Rattle.comp_meaning.specs.ByLevels.{exported_parts, member_by_levels}
-use Rattle.comp_meaning.specs.Follow.{each, is_filled}
-use Rattle.comp_meaning.specs.Reads.{Member}
+use Rattle.comp_meaning.specs.{ByLevels.exported_parts, ByLevels.member_by_levels, Follow.each, Follow.is_filled, Reads.Member}
 use Rattle.read_parts.specs.Followed.{PartScope, labelled_scope, member_of_scope, scopes_in, scopes_of}
 use Rattle.read_parts.proofs.ScopeMeaning.{each_both, member_law}
 

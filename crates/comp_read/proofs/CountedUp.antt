@@ -1,17 +1,14 @@
 -- Numbers each of which stands behind all smaller ones: each once, they count up.
 use Rattle.std.proofs.Common.{◌≡◌, refl, sym, ap, subst, ◌∙◌, ℕ, zero, suc, ◌<◌, ◌≤◌, ◌⊎◌, inl, inr, arith, Bool, true, false, cond, List, [], ◌∷◌, ◌++◌, append_assoc, length, length-append, Some, slice_get}
+use Rattle.std.proofs.lemmas.{Bool.cases_lt, Option.same_Some as same-some}
+use Rattle.std.proofs.lemmas.{List.append-nil, List.Elements.Contains-append_cases, List.Elements.Contains-append_left, List.Elements.Contains-append_right}
 use Rattle.std.specs.List.{Contains, flat_map}
-use Rattle.std.proofs.lemmas.Bool.{cases_lt}
-use Rattle.std.proofs.lemmas.List.{append-nil}
-use Rattle.std.proofs.lemmas.List.Elements.{Contains-append_cases, Contains-append_left, Contains-append_right}
 use Rattle.wit_model.specs.Uses.{has, once}
 use Rattle.wit_model.proofs.Elements.{contains-flat, contains-has, has-contains, none-in}
 use Rattle.plan_laws.proofs.Inside.{flat_cases}
 use Rattle.plan_types.specs.Orders.{joined, joined_all}
 use Rattle.comp_read.proofs.WorldOrder.{joined_behind}
-use Rattle.base_lemmas.proofs.Elements.{contains-later, contains-one, first-contained, get-contains, last_of}
-use Rattle.base_lemmas.proofs.Lists.{last_or}
-use Rattle.std.proofs.lemmas.Option.{same_Some as same-some}
+use Rattle.base_lemmas.proofs.{Elements.contains-later, Elements.contains-one, Elements.first-contained, Elements.get-contains, Elements.last_of, Lists.last_or}
 
 -- ---- behind all smaller ones
 

@@ -4,31 +4,23 @@ use Rattle.std.specs.List.{AllZip, Contains, flat_map}
 use Rattle.wit_model.specs.Uses.{once}
 use Rattle.wit_model.proofs.Elements.{contains-flat}
 use Rattle.comp_bytes.specs.Levels.{Piece}
-use Rattle.comp_meaning.specs.Reads as reads
-use Rattle.plan_meaning.specs.NumberedMembers.{Homes}
-use Rattle.plan_meaning.specs.NumberedRules.{Fact}
-use Rattle.plan_meaning.specs.NumberedViews.{NumberedSight, NumberedType, Tables, first_at}
-use Rattle.plan_meaning.specs.NumberedWorlds.{NumberedInstance, NumberedScope}
-use Rattle.plan_meaning.specs.Plan.{PlannedInterface, numbers_of}
+use Rattle.plan_meaning.specs.{NumberedMembers.Homes, NumberedViews.NumberedSight, NumberedViews.NumberedType, NumberedViews.Tables, NumberedViews.first_at}
+use Rattle.plan_meaning.specs.{NumberedRules.Fact, NumberedWorlds.NumberedInstance, NumberedWorlds.NumberedScope, Plan.PlannedInterface, Plan.numbers_of}
 use Rattle.plan_meaning.specs.Renumbering.{IsPart}
 use Rattle.plan_parts.specs.Kept.{AreMarked}
 use Rattle.plan_types.specs.Orders.{joined_all}
-use Rattle.plan_package.specs.Views.{views_of_members}
-use Rattle.plan_package.specs.WholeInterfaces.{Home, PlansPlace}
+use Rattle.plan_package.specs.{Views.views_of_members, WholeInterfaces.Home, WholeInterfaces.PlansPlace}
 use Rattle.read_exports.specs.Members.{numbered_members}
 use Rattle.read_exports.specs.declared.members.Member.{Member}
 use Rattle.read_parts.specs.declared.following.Followed.{Followed}
-use Rattle.read_numbers.specs.NumberedInput.{tables_of}
-use Rattle.read_numbers.specs.PlacedNumbers.{part_of, IsFirstSeen, IsInstanceAt, scopes_in}
-use Rattle.comp_read.specs.Cuts.{IsCut}
-use Rattle.comp_read.specs.ReadInput.{IsReadInput, ViewsObey}
+use Rattle.read_numbers.specs.{NumberedInput.tables_of, PlacedNumbers.part_of, PlacedNumbers.IsFirstSeen, PlacedNumbers.IsInstanceAt, PlacedNumbers.scopes_in}
+use Rattle.comp_read.specs.{Cuts.IsCut, ReadInput.IsReadInput, ReadInput.ViewsObey}
 use Rattle.comp_read.proofs.CutPlaces.{behind_front, early, first_of, late, of_front, split_flat}
-use Rattle.comp_read.proofs.Members.{instance_shown}
-use Rattle.comp_read.proofs.ShownScopes.{scope_places}
-use Rattle.comp_read.proofs.TypeNumbers.{same_part, shown_at, shown_number, told_parts}
-use Rattle.comp_read.proofs.WorldOrder.{joined_behind}
+use Rattle.comp_read.proofs.{Members.instance_shown, WorldOrder.joined_behind}
+use Rattle.comp_read.proofs.{ShownScopes.scope_places, TypeNumbers.same_part, TypeNumbers.shown_at, TypeNumbers.shown_number, TypeNumbers.told_parts}
 use Rattle.base_lemmas.proofs.Elements.{contains-map, get-contains, map_from, zip_at_right}
 use Rattle.base_lemmas.proofs.Lists.{get_back, mapped_get, one_item}
+use Rattle.comp_meaning.specs.Reads as reads
 
 module _ (pieces : List Piece) (x : Followed) (h : Homes) (ms : List Member) (members : List reads.Member) (input : IsReadInput pieces x h ms members) (known : ℕ
     → Fact) (obey : ViewsObey (tables_of x) known ms)

@@ -1,22 +1,15 @@
 -- The places of a beginning among all places, each where it stands first.
 use Rattle.std.proofs.Common.{◌≡◌, refl, sym, ap, subst, ◌∙◌, ℕ, zero, suc, ◌+◌, ◌<◌, ◌≤◌, inl, inr, arith, ◌==◌, List, [], ◌∷◌, ◌++◌, append_assoc, length, take, drop, Some, slice_get}
-use Rattle.std.specs.List.{Contains, flat_map}
-use Rattle.std.proofs.lemmas.Bool.{cases_lt, eqb-true}
-use Rattle.std.proofs.lemmas.List.{take-append-drop}
+use Rattle.std.proofs.lemmas.{Bool.cases_lt, Bool.eqb-true, List.take-append-drop, Option.same_Some as same-some, Option.slice_get_within as found_below}
 use Rattle.std.proofs.lemmas.List.Elements.{Contains-append_cases, Contains-append_left, Contains-append_right}
+use Rattle.std.specs.List.{Contains, flat_map}
 use Rattle.wit_model.specs.Uses.{has, once}
-use Rattle.wit_model.proofs.Chains.{has_once}
-use Rattle.wit_model.proofs.Elements.{contains-flat, contains-get, contains-has, has-contains}
-use Rattle.plan_laws.proofs.FirstPlaces.{joined_more}
-use Rattle.plan_laws.proofs.Inside.{flat_cases}
-use Rattle.plan_laws.proofs.PlaceNumbers.{IsOnce, all_once, none_twice}
+use Rattle.wit_model.proofs.{Chains.has_once, Elements.contains-flat, Elements.contains-get, Elements.contains-has, Elements.has-contains}
+use Rattle.plan_laws.proofs.{FirstPlaces.joined_more, Inside.flat_cases, PlaceNumbers.IsOnce, PlaceNumbers.all_once, PlaceNumbers.none_twice}
 use Rattle.comp_read.specs.Cuts.{StandsBefore, StandsBehind}
-use Rattle.comp_read.proofs.Lists.{first_passing}
-use Rattle.comp_read.proofs.WorldOrder.{joined_behind}
-use Rattle.base_lemmas.proofs.Elements.{get-contains}
-use Rattle.base_lemmas.proofs.Lists.{front_at, none_there, one_item, slice_front, slice_take}
+use Rattle.comp_read.proofs.{Lists.first_passing, WorldOrder.joined_behind}
+use Rattle.base_lemmas.proofs.{Elements.get-contains, Lists.front_at, Lists.none_there, Lists.one_item, Lists.slice_front, Lists.slice_take}
 use Rattle.base_lemmas.proofs.Numbers.{same-number}
-use Rattle.std.proofs.lemmas.Option.{same_Some as same-some, slice_get_within as found_below}
 
 -- ---- each number once
 

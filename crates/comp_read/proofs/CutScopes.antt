@@ -1,31 +1,22 @@
 -- A cut behind some first entries of a part, and the scope that these show.
 use Rattle.std.proofs.Common.{◌≡◌, sym, ap, ◌∙◌, ℕ, List, ◌++◌, length, map, take, Some, None, slice_get, unwrap_or}
-use Rattle.std.proofs.Math.ListN.{length-map}
-use Rattle.std.proofs.Math.Seq.{take-append_seam}
-use Rattle.wit_model.specs.Text.{Text}
-use Rattle.wit_model.specs.Tree.{Place}
+use Rattle.std.proofs.{Math.ListN.length-map, Math.Seq.take-append_seam, lemmas.Option.same_Some as same-some}
+use Rattle.wit_model.specs.{Text.Text, Tree.Place}
 use Rattle.comp_bytes.specs.Levels.{Entry, PartType, Piece}
-use Rattle.comp_meaning.specs.ByLevels.{entry_step}
-use Rattle.comp_meaning.specs.Follow as follow
-use Rattle.comp_meaning.specs.Follow.{new_scope}
-use Rattle.comp_meaning.specs.Reads.{steps}
-use Rattle.plan_meaning.specs.NumberedViews.{Tables, path_at}
-use Rattle.plan_meaning.specs.NumberedWorlds.{NumberedInstance, NumberedScope}
+use Rattle.comp_meaning.specs.{ByLevels.entry_step, Follow.new_scope, Reads.steps}
+use Rattle.plan_meaning.specs.{NumberedViews.Tables, NumberedViews.path_at, NumberedWorlds.NumberedInstance, NumberedWorlds.NumberedScope}
 use Rattle.read_follow.specs.declared.scopes.Instance.{Instance}
 use Rattle.read_follow.specs.Scopes.{World, instance_in, meant_at, seen_in, world_signatures, world_trees}
 use Rattle.read_follow.proofs.ComponentLaws.{place_in, places_are, places_before}
-use Rattle.read_parts.specs.declared.following.Followed.{Followed}
-use Rattle.read_parts.specs.declared.members.Member.{Member}
-use Rattle.read_parts.specs.Input.{IsFollowed}
-use Rattle.read_parts.specs.Members.{entries_of, scope_of}
+use Rattle.read_parts.specs.declared.{following.Followed.Followed, members.Member.Member}
+use Rattle.read_parts.specs.{Input.IsFollowed, Members.entries_of, Members.scope_of}
 use Rattle.read_numbers.specs.NumberedInput.{tables_of}
-use Rattle.read_numbers.specs.NumberedParts.{numbered_instance, numbered_scope}
-use Rattle.read_numbers.specs.PlacedNumbers.{ArePlacedScopes, scopes_in}
+use Rattle.read_numbers.specs.{NumberedParts.numbered_instance, NumberedParts.numbered_scope, PlacedNumbers.ArePlacedScopes, PlacedNumbers.scopes_in}
 use Rattle.read_numbers.proofs.ScopeNumbers.{path_back}
 use Rattle.comp_read.specs.Cuts.{IsCut}
 use Rattle.comp_read.proofs.Cuts.{is_cut, same_front, stage, then}
 use Rattle.base_lemmas.proofs.Lists.{append_of_map, map_of_map}
-use Rattle.std.proofs.lemmas.Option.{same_Some as same-some}
+use Rattle.comp_meaning.specs.Follow as follow
 
 -- the places of the instances of a scope, in order
 abbrev pub places_of_scope : NumberedScope → List ℕ

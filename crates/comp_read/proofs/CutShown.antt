@@ -1,30 +1,23 @@
 -- What had been shown at a cut, in numbers and by the parts and declarations that were read.
 use Rattle.std.proofs.Common.{◌≡◌, refl, sym, ap, subst, ◌∙◌, ℕ, zero, suc, ◌<◌, arith, true, List, [], ◌∷◌, ◌++◌, filter, length, map, take, Option, Some, slice_get}
+use Rattle.std.proofs.lemmas.{List.take-map, List.Elements.filter-append}
 use Rattle.std.specs.List.{AllZip, flat_map}
-use Rattle.std.proofs.lemmas.List.{take-map}
-use Rattle.std.proofs.lemmas.List.Elements.{filter-append}
-use Rattle.wit_model.specs.Meaning.{WorldMeaning}
-use Rattle.wit_model.specs.Text.{Text}
-use Rattle.wit_model.specs.Uses.{once}
-use Rattle.comp_meaning.specs.Follow as follow
-use Rattle.comp_meaning.specs.Reads as reads
+use Rattle.wit_model.specs.{Meaning.WorldMeaning, Text.Text, Uses.once}
 use Rattle.comp_meaning.specs.Reads.{worlds_of}
-use Rattle.plan_meaning.specs.NumberedMembers.{Homes, IsMember, ShowsPart}
+use Rattle.plan_meaning.specs.{NumberedMembers.Homes, NumberedMembers.IsMember, NumberedMembers.ShowsPart, NumberedWorlds.are_once}
 use Rattle.plan_meaning.specs.NumberedViews.{AreTables, Tables, path_at}
-use Rattle.plan_meaning.specs.NumberedWorlds.{are_once}
 use Rattle.plan_type_laws.specs.ShownMarks.{has_no_path}
 use Rattle.plan_package.specs.WholeWorlds.{worlds_in}
 use Rattle.plan_laws.proofs.OwnPlaces.{once_first}
 use Rattle.read_exports.specs.Members.{numbered_member, numbered_members, numbered_part}
-use Rattle.read_exports.specs.declared.members.Member.{Member}
-use Rattle.read_exports.specs.declared.members.Part.{Part}
-use Rattle.read_exports.specs.declared.members.Part.TheVariants as parts
+use Rattle.read_exports.specs.declared.members.{Member.Member, Part.Part}
 use Rattle.read_rules.specs.declared.scopes.Scope.{Scope}
 use Rattle.comp_read.specs.Order.{imports_in, once_by_path}
-use Rattle.comp_read.proofs.CutWorlds.{Counts, worlds_before}
-use Rattle.comp_read.proofs.PlanOrder.{worlds_meant}
-use Rattle.comp_read.proofs.ShownOrder.{paths_once}
+use Rattle.comp_read.proofs.{CutWorlds.Counts, CutWorlds.worlds_before, PlanOrder.worlds_meant, ShownOrder.paths_once}
 use Rattle.base_lemmas.proofs.Lists.{append_of_map, length_of_map}
+use Rattle.comp_meaning.specs.Follow as follow
+use Rattle.comp_meaning.specs.Reads as reads
+use Rattle.read_exports.specs.declared.members.Part.TheVariants as parts
 
 -- ---- beginnings of lists
 

@@ -1,28 +1,20 @@
 -- The types that worlds had imported at a cut have smaller numbers than it, and those of later imports don't.
 use Rattle.std.proofs.Common.{◌≡◌, refl, sym, ap, subst, ◌∙◌, ℕ, zero, suc, ◌+◌, ◌<◌, ◌≤◌, ◌⊎◌, inl, inr, arith, List, [], ◌∷◌, ◌++◌, length, length-append, take, Option, Some, slice_get}
+use Rattle.std.proofs.lemmas.{Bool.cases_lt, Option.same_Some as same-some}
 use Rattle.std.specs.List.{AllByRecursion}
-use Rattle.std.proofs.lemmas.Bool.{cases_lt}
 use Rattle.wit_model.specs.Text.{Text}
-use Rattle.plan_meaning.specs.NumberedViews.{Tables}
-use Rattle.plan_meaning.specs.NumberedWorlds.{declares, NumberedSeen}
-use Rattle.plan_meaning.specs.Plan as plan
-use Rattle.plan_meaning.specs.Plan.{PlannedItem, PlannedKey, PlannedWorld}
-use Rattle.plan_meaning.specs.Renumbering.{IsPart}
-use Rattle.plan_meaning.specs.Shapes.{named_shape}
-use Rattle.read_exports.specs.declared.members.Member.{Member}
-use Rattle.read_exports.specs.declared.members.Part.{Part}
-use Rattle.read_exports.specs.declared.members.Part.TheVariants as parts
+use Rattle.plan_meaning.specs.{NumberedViews.Tables, NumberedWorlds.declares, NumberedWorlds.NumberedSeen, Plan.PlannedItem, Plan.PlannedKey, Plan.PlannedWorld}
+use Rattle.plan_meaning.specs.{Renumbering.IsPart, Shapes.named_shape}
+use Rattle.read_exports.specs.declared.members.{Member.Member, Part.Part}
 use Rattle.read_rules.specs.Scopes.{numbered_scope, numbered_seen, numbered_shown}
-use Rattle.read_rules.specs.declared.scopes.Scope.{Scope}
-use Rattle.read_rules.specs.declared.scopes.Seen.{Seen}
-use Rattle.read_rules.specs.declared.scopes.Shown.{Shown}
-use Rattle.read_rules.specs.declared.scopes.Shown.TheVariants as shown
+use Rattle.read_rules.specs.declared.scopes.{Scope.Scope, Seen.Seen, Shown.Shown}
 use Rattle.plan_package.specs.WholeWorlds.{PlansItem, PlansWorld, a_function, a_type, an_instance, world_in_part, worlds_in}
 use Rattle.plan_laws.specs.ShownNames.{DeclaresName}
 use Rattle.comp_read.specs.Cuts.{StandsBefore, StandsBehind}
-use Rattle.base_lemmas.proofs.Elements.{all_at_too, zip_at_right}
-use Rattle.base_lemmas.proofs.Lists.{mapped_get, none_there}
-use Rattle.std.proofs.lemmas.Option.{same_Some as same-some}
+use Rattle.base_lemmas.proofs.{Elements.all_at_too, Elements.zip_at_right, Lists.mapped_get, Lists.none_there}
+use Rattle.plan_meaning.specs.Plan as plan
+use Rattle.read_exports.specs.declared.members.Part.TheVariants as parts
+use Rattle.read_rules.specs.declared.scopes.Shown.TheVariants as shown
 
 -- ---- the worlds among members
 

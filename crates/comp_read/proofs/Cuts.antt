@@ -1,42 +1,29 @@
 -- What was in the table behind some first entries of a part comes before what was not.
 use Rattle.std.proofs.Common.{◌≡◌, refl, sym, ap, subst, ◌∙◌, ℕ, ◌+◌, ◌<◌, ◌≤◌, inl, inr, arith, true, List, [], ◌∷◌, ◌++◌, length, length-append, map, Option, Some, None, slice_get}
-use Rattle.std.specs.Borrow.{Bor}
-use Rattle.std.specs.List.{Contains}
-use Rattle.std.proofs.lemmas.Bool.{cases_lt}
+use Rattle.std.proofs.lemmas.{Bool.cases_lt, Option.slice_get_within as found_below}
+use Rattle.std.specs.{Borrow.Bor, List.Contains}
 use Rattle.wit_model.specs.Text.{Text}
 use Rattle.wit_model.proofs.Elements.{contains-get}
 use Rattle.comp_bytes.specs.Levels.{Entry, PartType, Piece}
 use Rattle.comp_meaning.specs.Rules.{distinct}
 use Rattle.comp_meaning.proofs.RulesLemmas.{not_twice}
 use Rattle.plan_meaning.specs.NumberedViews.{NumberedType, Tables, path_at}
-use Rattle.plan_meaning.specs.NumberedWorlds as worlds
-use Rattle.plan_meaning.specs.NumberedWorlds.{NumberedInstance, NumberedScope, NumberedSeen}
-use Rattle.plan_meaning.specs.Shapes.{Shape, named_shape}
-use Rattle.read_follow.specs.declared.scopes.Instance.{Instance}
-use Rattle.read_follow.specs.declared.scopes.Seen.{Seen}
-use Rattle.read_follow.specs.declared.scopes.Shown.{Shown}
-use Rattle.read_follow.specs.declared.scopes.Shown.TheVariants as shown
-use Rattle.read_follow.specs.declared.slots.Slot.{Slot}
-use Rattle.read_follow.specs.declared.slots.Slot.TheVariants as slots
-use Rattle.read_follow.specs.declared.views.ShownType.{ShownType}
-use Rattle.read_follow.specs.Following.{IsShownIn, IsSlotIn, IsTypeSlot}
-use Rattle.read_follow.specs.Functions.{FunctionShape}
-use Rattle.read_follow.specs.Placed.{IsTypeNamed}
+use Rattle.plan_meaning.specs.{NumberedWorlds.NumberedInstance, NumberedWorlds.NumberedScope, NumberedWorlds.NumberedSeen, Shapes.Shape, Shapes.named_shape}
+use Rattle.read_follow.specs.declared.{scopes.Instance.Instance, scopes.Seen.Seen, scopes.Shown.Shown, slots.Slot.Slot, views.ShownType.ShownType}
+use Rattle.read_follow.specs.{Following.IsShownIn, Following.IsSlotIn, Following.IsTypeSlot, Functions.FunctionShape, Placed.IsTypeNamed}
 use Rattle.read_follow.specs.Scopes.{IsImportNamed, IsInstanceIn, IsShownAs, IsShownBy, IsStage, World, by_import, by_instance, world_of}
-use Rattle.read_follow.proofs.DefiningLaws.{all_at, longer}
-use Rattle.read_follow.proofs.PlacedLaws.{stands_on, stood}
-use Rattle.read_parts.specs.declared.following.Followed.{Followed}
-use Rattle.read_parts.specs.declared.members.Member.{Member}
-use Rattle.read_parts.specs.Input.{IsFollowed}
-use Rattle.read_parts.specs.Members.{entries_of, scope_of, IsStagedMember}
+use Rattle.read_follow.proofs.{DefiningLaws.all_at, DefiningLaws.longer, PlacedLaws.stands_on, PlacedLaws.stood}
+use Rattle.read_parts.specs.declared.{following.Followed.Followed, members.Member.Member}
+use Rattle.read_parts.specs.{Input.IsFollowed, Members.entries_of, Members.scope_of, Members.IsStagedMember}
 use Rattle.read_numbers.specs.NumberedInput.{tables_of}
 use Rattle.read_numbers.specs.NumberedParts.{instance_view, numbered_instance, numbered_scope, numbered_seen, numbered_shown, numbered_slot, numbered_type}
 use Rattle.read_numbers.specs.PlacedNumbers.{part_of, ArePlacedScopes, IsFirstSeen, IsInstanceAt, scopes_in}
 use Rattle.read_numbers.proofs.PlacedViews.{slot_number}
 use Rattle.comp_read.specs.Cuts.{IsCut, StandsBefore, StandsBehind}
-use Rattle.base_lemmas.proofs.Elements.{map_from}
-use Rattle.base_lemmas.proofs.Lists.{get_back, heads_equal, mapped_get, one_item, tails_equal}
-use Rattle.std.proofs.lemmas.Option.{slice_get_within as found_below}
+use Rattle.base_lemmas.proofs.{Elements.map_from, Lists.get_back, Lists.heads_equal, Lists.mapped_get, Lists.one_item, Lists.tails_equal}
+use Rattle.plan_meaning.specs.NumberedWorlds as worlds
+use Rattle.read_follow.specs.declared.scopes.Shown.TheVariants as shown
+use Rattle.read_follow.specs.declared.slots.Slot.TheVariants as slots
 
 -- two beginnings of one length are the same
 one_front : {A : Type 0} (xs ys us vs : List A) → xs ++ ys ≡ us ++ vs → length xs ≡ length us → xs ≡ us

@@ -2,21 +2,18 @@
 use Rattle.std.proofs.Common.{◌≡◌, refl, sym, subst, ◌∙◌, ℕ, ◌≤◌, arith, List, length, Option, Some, None}
 use Rattle.wit_model.specs.declared.model.Resolve.{Resolve}
 use Rattle.wit_model.specs.Meaning.{PackageMeaning, WorldPackage}
-use Rattle.comp_bytes.specs.Levels.{Piece, levels_of}
-use Rattle.comp_bytes.specs.Reading.{◌>>=◌}
-use Rattle.comp_meaning.specs.ByLevels.{package_of_pieces, world_of_pieces}
-use Rattle.comp_meaning.specs.Reads.{Reads, ReadsWorld}
-use Rattle.comp_meaning.proofs.Levelled.{package_by_levels, world_by_levels}
-use Rattle.comp_meaning.proofs.MeaningLaws.{meaning_is_read, world_is_read}
+use Rattle.comp_bytes.specs.{Levels.Piece, Levels.levels_of, Reading.◌>>=◌}
+use Rattle.comp_meaning.specs.{ByLevels.package_of_pieces, ByLevels.world_of_pieces, Reads.Reads, Reads.ReadsWorld}
+use Rattle.comp_meaning.proofs.{Levelled.package_by_levels, Levelled.world_by_levels, MeaningLaws.meaning_is_read, MeaningLaws.world_is_read}
 use Rattle.read_follow.specs.declared.refusal.Refusal.{Refusal}
-use Rattle.read_follow.specs.declared.refusal.Refusal.TheVariants as refusals
 use Rattle.read_follow.specs.Found.{Refuses}
 use Rattle.read_members.specs.ReadMembers.{Because}
 use Rattle.comp_read.specs.declared.wanted.Wanted.{Wanted}
-use Rattle.comp_read.specs.declared.wanted.Wanted.TheVariants as wanted
 use Rattle.comp_read.specs.Decoded.{error_from, HoldsFound, IsDecoded, MeansNothing, RefusesBytes}
 use Rattle.comp_read.specs.DecodedWorlds.{HoldsWorldFound, IsDecodedWorld, MeansNoWorld, RefusesWorldBytes}
 use Rattle.comp_read.specs.WantedFound.{HoldsWanted, MeansNone}
+use Rattle.read_follow.specs.declared.refusal.Refusal.TheVariants as refusals
+use Rattle.comp_read.specs.declared.wanted.Wanted.TheVariants as wanted
 
 -- ---- what is decoded
 

@@ -1,27 +1,22 @@
 -- What was followed of the sections of an input.
 use Rattle.std.proofs.Common.{◌≡◌, ap, ◌∙◌, ℕ, ◌≤◌, arith, List, length, Some, None}
 use Rattle.wit_model.specs.Names.{read_path}
-use Rattle.comp_bytes.specs.Levels.{Piece, levels_of}
-use Rattle.comp_bytes.specs.Reading.{◌>>=◌}
+use Rattle.comp_bytes.specs.{Levels.Piece, Levels.levels_of, Reading.◌>>=◌}
 use Rattle.read_follow.specs.declared.refusal.Refusal.{Refusal}
-use Rattle.read_follow.specs.declared.refusal.Refusal.TheVariants as refusals
 use Rattle.read_follow.specs.Found.{Refuses}
 use Rattle.read_parts.specs.declared.following.Followed.{Followed}
-use Rattle.comp_meaning.specs.Follow.{each}
-use Rattle.comp_meaning.specs.Reads.{package_of_members, world_of_members}
-use Rattle.read_parts.specs.Followed.{member_of_scope, scopes_of}
-use Rattle.read_parts.specs.Input.{IsFollowed}
+use Rattle.comp_meaning.specs.{Follow.each, Reads.package_of_members, Reads.world_of_members}
+use Rattle.read_parts.specs.{Followed.member_of_scope, Followed.scopes_of, Input.IsFollowed}
 use Rattle.read_parts.proofs.CountLaws.{parts_fit}
 use Rattle.read_numbers.specs.NumberedInput.{tables_of}
 use Rattle.read_members.specs.ReadMembers.{Because, members_meant}
-use Rattle.read_members.proofs.DecidedLaws.{by_members as package_by_members}
-use Rattle.read_members.proofs.DecidedWorldLaws.{by_members as world_by_members}
+use Rattle.read_members.proofs.{DecidedLaws.by_members as package_by_members, DecidedWorldLaws.by_members as world_by_members}
 use Rattle.read_homes.specs.Homes.{ArePaths}
 use Rattle.comp_read.specs.declared.wanted.Wanted.{Wanted}
-use Rattle.comp_read.specs.declared.wanted.Wanted.TheVariants as wanted
-use Rattle.comp_read.specs.SomeFollowed.{IsSomeFollowed}
-use Rattle.comp_read.specs.WantedFound.{MeansNone}
+use Rattle.comp_read.specs.{SomeFollowed.IsSomeFollowed, WantedFound.MeansNone}
 use Rattle.base_lemmas.proofs.Options.{there}
+use Rattle.read_follow.specs.declared.refusal.Refusal.TheVariants as refusals
+use Rattle.comp_read.specs.declared.wanted.Wanted.TheVariants as wanted
 
 -- each path is one
 pub are_paths : (x : Followed) → IsSomeFollowed x → ArePaths x.places

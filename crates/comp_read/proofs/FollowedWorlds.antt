@@ -1,64 +1,45 @@
 -- Instances of worlds stand under their keys, imports are counted, and what interfaces import is bare.
 use Rattle.std.proofs.Common.{◌≡◌, ap, ◌∙◌, refl, sym, subst, ℕ, arith, true, false, not, ◌&&◌, List, [], ◌∷◌, map, Some, None, is_none, slice_get}
-use Rattle.std.specs.List.{AllByRecursion, AllZip, Contains, flat_map}
 use Rattle.std.proofs.lemmas.Option.{slice_get_within, same_Some as same-some}
+use Rattle.std.specs.List.{AllByRecursion, AllZip, Contains, flat_map}
 use Rattle.wit_model.specs.Text.{Text}
-use Rattle.comp_bytes.specs.Levels.{PartType, Piece, shows, wraps}
-use Rattle.comp_bytes.specs.Reading.{◌>>=◌}
+use Rattle.comp_bytes.specs.{Levels.PartType, Levels.Piece, Levels.shows, Levels.wraps, Reading.◌>>=◌}
 use Rattle.comp_bytes.proofs.Readers.{bind_some, when_some}
-use Rattle.comp_meaning.specs.ByLevels.{entry_scope}
-use Rattle.comp_meaning.specs.Follow as follow
-use Rattle.comp_meaning.specs.Follow.{is_filled}
-use Rattle.comp_meaning.specs.Reads as reads
+use Rattle.comp_meaning.specs.{ByLevels.entry_scope, Follow.is_filled}
 use Rattle.plan_meaning.specs.NumberedMembers.{Homes, NumberedMember, imported_view}
 use Rattle.plan_meaning.specs.NumberedViews.{NumberedView, Tables}
-use Rattle.plan_meaning.specs.NumberedWorlds as worlds
 use Rattle.plan_meaning.specs.NumberedWorlds.{NumberedScope, NumberedSeen, NumberedShown, Shows, seen_of, shown_of}
-use Rattle.read_follow.specs.declared.instance_keys.InstanceKey.TheVariants as keys
-use Rattle.read_follow.specs.declared.scopes.Seen.{Seen as FollowedSeen}
-use Rattle.read_follow.specs.declared.scopes.Shown.{Shown as FollowedShown}
-use Rattle.read_follow.specs.declared.scopes.Shown.TheVariants as shown
-use Rattle.read_parts.specs.declared.following.Followed.{Followed}
-use Rattle.read_parts.specs.declared.members.FollowedPart.{FollowedPart}
-use Rattle.read_parts.specs.declared.members.FollowedPart.TheVariants as followed
-use Rattle.read_parts.specs.declared.members.Member.{Member as FollowedMember}
-use Rattle.read_parts.specs.Followed as scopes
-use Rattle.read_parts.specs.Followed.{PartScope, labelled_scope, part_scope, world_path}
-use Rattle.read_parts.specs.Members.{scope_of}
+use Rattle.read_follow.specs.declared.scopes.{Seen.Seen as FollowedSeen, Shown.Shown as FollowedShown}
+use Rattle.read_parts.specs.declared.{following.Followed.Followed, members.FollowedPart.FollowedPart, members.Member.Member as FollowedMember}
+use Rattle.read_parts.specs.{Followed.PartScope, Followed.labelled_scope, Followed.part_scope, Followed.world_path, Members.scope_of}
 use Rattle.read_members.specs.PartMembers.{IsMemberOf, IsPartOf}
 use Rattle.read_numbers.specs.NumberedInput.{tables_of, MemberShown, PartShown}
 use Rattle.read_numbers.specs.NumberedParts.{instance_view, numbered_scope as followed_scope, numbered_seen as followed_seen, numbered_shown as followed_shown, name_in}
 use Rattle.read_numbers.specs.PlacedNumbers.{IsCountedItem, IsPlacedScope}
-use Rattle.read_numbers.proofs.ImportOrder.{imports_come_last}
-use Rattle.read_numbers.proofs.InputNumbers.{input_in_numbers}
-use Rattle.read_exports.specs.Interfaces.{Placed}
-use Rattle.read_exports.specs.Members.{numbered_member, numbered_part}
-use Rattle.read_exports.specs.declared.members.Member.{Member}
-use Rattle.read_exports.specs.declared.members.Part.{Part}
-use Rattle.read_exports.specs.declared.members.Part.TheVariants as parts
-use Rattle.read_rules.specs.Reached.{numbered_import}
-use Rattle.read_rules.specs.Scopes.{numbered_scope}
-use Rattle.read_rules.specs.Views.{numbered_view}
+use Rattle.read_numbers.proofs.{ImportOrder.imports_come_last, InputNumbers.input_in_numbers}
+use Rattle.read_exports.specs.{Interfaces.Placed, Members.numbered_member, Members.numbered_part}
+use Rattle.read_exports.specs.declared.members.{Member.Member, Part.Part}
+use Rattle.read_rules.specs.{Reached.numbered_import, Scopes.numbered_scope, Views.numbered_view}
 use Rattle.read_rules.specs.declared.scopes.Scope.{Scope}
-use Rattle.plan_package.specs.PlanWhole.{places_in}
-use Rattle.plan_package.specs.WholeWorlds.{world_in_part}
+use Rattle.plan_package.specs.{PlanWhole.places_in, WholeWorlds.world_in_part}
 use Rattle.plan_type_laws.proofs.Walks.{all_flat}
-use Rattle.plan_laws.proofs.Planned.{view_met}
-use Rattle.plan_laws.proofs.Showings.{all_given}
+use Rattle.plan_laws.proofs.{Planned.view_met, Showings.all_given}
 use Rattle.plan_laws.specs.WholeCondition.{PartIsBare}
 use Rattle.plan_laws.specs.WholeWorlds.{ImportsAreCounted, IsCounted, IsUnderKey, WorldIsFollowed}
-use Rattle.comp_read.specs.FollowedWorlds.{ReadImportsAreBare, ReadPlacesAreMet, ReadWorldsAreFollowed}
-use Rattle.comp_read.specs.ReadInput.{IsReadInput}
-use Rattle.comp_read.proofs.ByScopes.{scopes_found}
-use Rattle.comp_read.proofs.Inputs.{keys_differ}
-use Rattle.comp_read.proofs.InterfaceViews.{each_beside, shown_as}
-use Rattle.comp_read.proofs.Lists.{all_beside}
-use Rattle.comp_read.proofs.KeyLabels.{HasLabel, HaveLabels, entry_labels}
+use Rattle.comp_read.specs.{FollowedWorlds.ReadImportsAreBare, FollowedWorlds.ReadPlacesAreMet, FollowedWorlds.ReadWorldsAreFollowed, ReadInput.IsReadInput}
+use Rattle.comp_read.proofs.{ByScopes.scopes_found, Inputs.keys_differ, Lists.all_beside, Places.world_at}
+use Rattle.comp_read.proofs.{InterfaceViews.each_beside, InterfaceViews.shown_as, KeyLabels.HasLabel, KeyLabels.HaveLabels, KeyLabels.entry_labels}
 use Rattle.comp_read.proofs.Members.{IsBoth, IsWorldRead, both_at, both_there, part_viewed, placed, scope_in, world_read, world_scope}
-use Rattle.comp_read.proofs.Places.{world_at}
-use Rattle.base_lemmas.proofs.Bools.{right_of as second_true}
+use Rattle.base_lemmas.proofs.{Bools.right_of as second_true, Lists.within_there as slice_there}
 use Rattle.base_lemmas.proofs.Elements.{contains-map, get-contains, zip_at as zip_there, zip_at_right as zip_at}
-use Rattle.base_lemmas.proofs.Lists.{within_there as slice_there}
+use Rattle.comp_meaning.specs.Follow as follow
+use Rattle.comp_meaning.specs.Reads as reads
+use Rattle.plan_meaning.specs.NumberedWorlds as worlds
+use Rattle.read_follow.specs.declared.instance_keys.InstanceKey.TheVariants as keys
+use Rattle.read_follow.specs.declared.scopes.Shown.TheVariants as shown
+use Rattle.read_parts.specs.declared.members.FollowedPart.TheVariants as followed
+use Rattle.read_parts.specs.Followed as scopes
+use Rattle.read_exports.specs.declared.members.Part.TheVariants as parts
 
 -- ---- keys
 

@@ -1,16 +1,11 @@
 -- The functions of inline interfaces stand in the order of the one view of each.
 use Rattle.std.proofs.Common.{◌≡◌, refl, sym, ap, ◌∙◌, ℕ, zero, suc, arith, Bool, true, false, not, ◌&&◌, ◌==◌, cond, List, [], ◌∷◌, ◌++◌, map, Option, Some, None, is_none}
+use Rattle.std.proofs.lemmas.{Bool.and_from as both, Bool.eqb-true, Bool.not-true, Grind.flat_map-append}
 use Rattle.std.specs.List.{AllByRecursion, AllZip, Contains, filter, flat_map}
-use Rattle.std.proofs.lemmas.Bool.{and_from as both, eqb-true, not-true}
-use Rattle.std.proofs.lemmas.Grind.{flat_map-append}
-use Rattle.wit_model.specs.Text.{Text}
-use Rattle.wit_model.specs.Uses.{has, once}
-use Rattle.wit_model.proofs.Chains.{has_once}
-use Rattle.wit_model.proofs.Elements.{contains-has, none-in}
+use Rattle.wit_model.specs.{Text.Text, Uses.has, Uses.once}
+use Rattle.wit_model.proofs.{Chains.has_once, Elements.contains-has, Elements.none-in}
 use Rattle.comp_meaning.specs.Follow.{Instance}
-use Rattle.comp_meaning.specs.Reads as reads
-use Rattle.plan_meaning.specs.FollowedNumbers.{AreMembersIn, IsPartIn, IsViewIn}
-use Rattle.plan_meaning.specs.GatheredPlan.{functions_seen}
+use Rattle.plan_meaning.specs.{FollowedNumbers.AreMembersIn, FollowedNumbers.IsPartIn, FollowedNumbers.IsViewIn, GatheredPlan.functions_seen}
 use Rattle.plan_meaning.specs.NumberedMembers.{Homes, IsMember, NumberedMember, NumberedPart, ShowsPart, interface, world}
 use Rattle.plan_meaning.specs.NumberedViews.{AreTables, NumberedFunction, NumberedSight, NumberedView, Tables, path_at, shown_function}
 use Rattle.plan_meaning.specs.NumberedWorlds.{HasPath, NumberedInstance, are_once, instance_of}
@@ -21,10 +16,10 @@ use Rattle.plan_package.proofs.PlacedLaws.{part_placed}
 use Rattle.plan_laws.proofs.Inside.{flat_cases}
 use Rattle.comp_read.specs.Order.{if_inline, inline_functions_shown, inline_shown}
 use Rattle.comp_read.proofs.ShownOrder.{none_left, pathless}
-use Rattle.base_lemmas.proofs.Bools.{left_of as first_true, right_of as second_true}
+use Rattle.base_lemmas.proofs.{Bools.left_of as first_true, Bools.right_of as second_true, Lists.append_of_map, Lists.flat_mapped, Lists.map_of_map}
 use Rattle.base_lemmas.proofs.Elements.{all_at, all_both, contains-later, contains-map, filter_keeps, first-contained, map_from}
-use Rattle.base_lemmas.proofs.Lists.{append_of_map, flat_mapped, map_of_map}
 use Rattle.base_lemmas.proofs.Numbers.{same-number}
+use Rattle.comp_meaning.specs.Reads as reads
 
 -- ---- lists
 

@@ -1,57 +1,41 @@
 -- What was followed is the input of the laws of whole plans.
 use Rattle.std.proofs.Common.{◌≡◌, refl, sym, ap, subst, ◌∙◌, ℕ, arith, true, false, List, [], ◌∷◌, ◌++◌, map, Option, Some, slice_get}
-use Rattle.std.specs.Borrow.{Bor}
-use Rattle.std.specs.List.{AllByRecursion, Contains, list_all}
-use Rattle.std.proofs.lemmas.List.Elements.{Contains-append_left, Contains-append_right}
+use Rattle.std.proofs.{lemmas.List.Elements.Contains-append_left, lemmas.List.Elements.Contains-append_right, ByRecursion.All-weaker as recursion_weaker}
 use Rattle.std.proofs.lemmas.Option.{slice_get_within}
+use Rattle.std.specs.{Borrow.Bor, List.AllByRecursion, List.Contains, List.list_all}
 use Rattle.wit_model.proofs.Elements.{contains-get}
 use Rattle.comp_bytes.specs.Levels.{Piece}
-use Rattle.comp_meaning.specs.Follow as follow
-use Rattle.comp_meaning.specs.Reads as reads
-use Rattle.comp_meaning.specs.Rules as rules
 use Rattle.comp_meaning.specs.Rules.{distinct}
-use Rattle.read_shown.specs.Scopes as scopes
 use Rattle.plan_meaning.specs.FollowedNumbers.{IsOneOf, IsPartIn, IsScopeIn, IsSeenIn, IsViewIn}
 use Rattle.plan_meaning.specs.NumberedMembers.{Homes, NumberedMember}
-use Rattle.plan_meaning.specs.NumberedRules.{Fact}
-use Rattle.plan_meaning.specs.NumberedViews.{NumberedSight, NumberedView, Tables}
-use Rattle.plan_meaning.specs.NumberedWorlds as worlds
+use Rattle.plan_meaning.specs.{NumberedRules.Fact, NumberedViews.NumberedSight, NumberedViews.NumberedView, NumberedViews.Tables}
 use Rattle.plan_meaning.specs.NumberedWorlds.{HasPath, NumberedInstance, NumberedScope, NumberedSeen, NumberedShown, place_of_key, seen_of, shown_of}
 use Rattle.read_parts.specs.declared.following.Followed.{Followed}
 use Rattle.read_parts.specs.Members.{scope_of}
-use Rattle.read_numbers.specs.ImportParts.{IsSeenNamed}
-use Rattle.read_numbers.specs.NumberedInput.{tables_of}
-use Rattle.read_numbers.specs.NumberedParts.{instance_view}
-use Rattle.read_numbers.specs.PlacedNumbers.{IsPlacedItem, IsPlacedScope, scopes_in as numbered_scopes}
-use Rattle.read_numbers.proofs.ImportOrder.{imports_come_last}
-use Rattle.read_numbers.proofs.ImportParts.{imports_are_named}
-use Rattle.plan_type_laws.proofs.MembersStand.{members_stand_together}
-use Rattle.plan_type_laws.proofs.Walks.{all_unmapped}
+use Rattle.read_numbers.specs.{ImportParts.IsSeenNamed, NumberedInput.tables_of}
+use Rattle.read_numbers.specs.{NumberedParts.instance_view, PlacedNumbers.IsPlacedItem, PlacedNumbers.IsPlacedScope, PlacedNumbers.scopes_in as numbered_scopes}
+use Rattle.read_numbers.proofs.{ImportOrder.imports_come_last, ImportParts.imports_are_named}
+use Rattle.plan_type_laws.proofs.{MembersStand.members_stand_together, Walks.all_unmapped}
 use Rattle.read_exports.specs.Members.{numbered_member, numbered_members, numbered_part}
-use Rattle.read_exports.specs.declared.members.Member.{Member}
-use Rattle.read_exports.specs.declared.members.Part.{Part}
-use Rattle.read_exports.specs.declared.members.Part.TheVariants as parts
-use Rattle.read_rules.specs.Reached.{numbered_import}
-use Rattle.read_rules.specs.Scopes.{numbered_scope}
-use Rattle.read_rules.specs.Views.{numbered_view}
-use Rattle.read_rules.specs.declared.reached.ImportedView.{ImportedView}
-use Rattle.read_rules.specs.declared.scopes.Scope.{Scope}
-use Rattle.read_rules.specs.declared.scopes.Seen.{Seen}
-use Rattle.read_rules.specs.declared.scopes.Shown.{Shown}
-use Rattle.read_rules.specs.declared.scopes.Shown.TheVariants as shown
-use Rattle.read_rules.specs.declared.views.View.{View}
+use Rattle.read_exports.specs.declared.members.{Member.Member, Part.Part}
+use Rattle.read_rules.specs.{Reached.numbered_import, Scopes.numbered_scope, Views.numbered_view}
+use Rattle.read_rules.specs.declared.{reached.ImportedView.ImportedView, scopes.Scope.Scope, scopes.Seen.Seen, scopes.Shown.Shown, views.View.View}
 use Rattle.plan_package.specs.Views.{types_alone, views_of_part}
 use Rattle.plan_laws.specs.ShownNames.{DeclaresName, IsInput, PartDeclaresNames}
-use Rattle.plan_laws.proofs.Showings.{all_given}
-use Rattle.plan_laws.proofs.ShownRules.{all_of}
+use Rattle.plan_laws.proofs.{Showings.all_given, ShownRules.all_of}
 use Rattle.comp_read.specs.InputLaws.{ReadIsInput, ReadMembersAreIn, ReadMembersAreNamed, ReadMembersStand}
 use Rattle.comp_read.specs.ReadInput.{IsReadInput, ViewsObey}
 use Rattle.comp_read.proofs.Members.{IsBoth, IsWorldRead, both_at, instance_shown, interface_path, members_stand, instance_of_view, scope_at, scope_in, scope_placed, tables, world_read, world_scope}
 use Rattle.comp_read.proofs.Views.{all_met, function_in, instance_in}
-use Rattle.base_lemmas.proofs.Bools.{third_of}
+use Rattle.base_lemmas.proofs.{Bools.third_of, Lists.map_of_map, Lists.within_there as slice_there}
 use Rattle.base_lemmas.proofs.Elements.{all_at, contains-map, contains-one, get-contains, map_from as from_map}
-use Rattle.base_lemmas.proofs.Lists.{map_of_map, within_there as slice_there}
-use Rattle.std.proofs.ByRecursion.{All-weaker as recursion_weaker}
+use Rattle.comp_meaning.specs.Follow as follow
+use Rattle.comp_meaning.specs.Reads as reads
+use Rattle.comp_meaning.specs.Rules as rules
+use Rattle.read_shown.specs.Scopes as scopes
+use Rattle.plan_meaning.specs.NumberedWorlds as worlds
+use Rattle.read_exports.specs.declared.members.Part.TheVariants as parts
+use Rattle.read_rules.specs.declared.scopes.Shown.TheVariants as shown
 
 -- the third of five tests that hold
 

@@ -1,14 +1,14 @@
 -- The views that the component type of an interface gives are those of its instances.
 use Rattle.std.proofs.Common.{◌≡◌, refl, sym, ap, subst, ◌∙◌, ◌⊎◌, inl, inr, Bool, true, false, not, ◌&&◌, List, [], ◌∷◌, ◌++◌, map, Option, Some, None, is_none}
-use Rattle.std.specs.List.{AllByRecursion, AllZip, Contains}
 use Rattle.std.proofs.lemmas.List.Elements.{Contains-append_cases, Contains-append_left, Contains-append_right}
+use Rattle.std.proofs.lemmas.Option.{same_Some as same-some}
+use Rattle.std.specs.List.{AllByRecursion, AllZip, Contains}
 use Rattle.wit_model.proofs.Elements.{contains-get}
 use Rattle.comp_bytes.specs.Reading.{◌>>=◌}
 use Rattle.comp_bytes.proofs.Readers.{when_some}
 use Rattle.comp_meaning.specs.Follow.{each, is_filled, provided}
-use Rattle.plan_meaning.specs.FollowedNumbers.{IsOneOf}
+use Rattle.plan_meaning.specs.{FollowedNumbers.IsOneOf, NumberedViews.NumberedSight, NumberedViews.NumberedView, NumberedViews.Tables}
 use Rattle.plan_meaning.specs.NumberedMembers.{exported_view, imported_view}
-use Rattle.plan_meaning.specs.NumberedViews.{NumberedSight, NumberedView, Tables}
 use Rattle.plan_meaning.specs.NumberedWorlds.{HasPath, NumberedInstance, NumberedKey, NumberedScope, NumberedSeen, NumberedShown, are_once, are_reached, declares, function, implementing, instance, label, path, place_of_key}
 use Rattle.read_exports.specs.Interfaces.{Placed, shown_interface}
 use Rattle.plan_package.specs.Views.{types_alone}
@@ -16,7 +16,6 @@ use Rattle.read_numbers.specs.PlacedNumbers.{IsPlacedItem}
 use Rattle.comp_read.proofs.Scopes.{IsSeen, IsSeenAs}
 use Rattle.base_lemmas.proofs.Bools.{left_of as first_true, right_of as second_true}
 use Rattle.base_lemmas.proofs.Elements.{all_at, contains-map, contains-one, get-contains, last_of as one-contained, map_from as from_map, zip_at as zip_there, zip_at_right as zip_at}
-use Rattle.std.proofs.lemmas.Option.{same_Some as same-some}
 use Rattle.comp_meaning.proofs.FollowLemmas.{provided_is as of_provided}
 
 no_some : {A B : Type 0} (x : A) → None ≡ Some x → B

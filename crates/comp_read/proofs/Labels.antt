@@ -1,17 +1,12 @@
 -- What is exported at the top has labels, none twice.
 use Rattle.std.proofs.Common.{◌≡◌, refl, sym, ap, subst, ◌∙◌, ℕ, Bool, true, not, ◌&&◌, ◌==◌, List, [], ◌∷◌, ◌++◌, length, map, Option, Some, slice_get}
+use Rattle.std.proofs.lemmas.Option.{same_Some as same-some}
 use Rattle.std.specs.List.{AllByRecursion, AllZip, list_any}
-use Rattle.wit_model.specs.Names.{is_label}
-use Rattle.wit_model.specs.Text.{Text}
-use Rattle.comp_bytes.specs.Levels as levels
-use Rattle.comp_bytes.specs.Levels.{PartType, Piece}
-use Rattle.comp_bytes.specs.Raw.{TopExport}
-use Rattle.comp_bytes.specs.Reading.{◌>>=◌}
+use Rattle.wit_model.specs.{Names.is_label, Text.Text}
+use Rattle.comp_bytes.specs.{Levels.PartType, Levels.Piece, Raw.TopExport, Reading.◌>>=◌}
 use Rattle.comp_bytes.proofs.Readers.{bind_some, when_some}
-use Rattle.comp_meaning.specs.ByLevels.{Top, exported_parts, top_export, top_part, top_piece}
-use Rattle.comp_meaning.specs.Follow.{each, provided, when}
-use Rattle.comp_meaning.specs.Reads.{is_bare, steps}
-use Rattle.comp_meaning.specs.Rules.{distinct}
+use Rattle.comp_meaning.specs.{ByLevels.Top, ByLevels.exported_parts, ByLevels.top_export, ByLevels.top_part, ByLevels.top_piece, Reads.is_bare, Reads.steps}
+use Rattle.comp_meaning.specs.{Follow.each, Follow.provided, Follow.when, Rules.distinct}
 use Rattle.comp_meaning.proofs.EntryLaws.{steps_keep}
 use Rattle.plan_meaning.specs.NumberedViews.{Tables}
 use Rattle.read_parts.specs.declared.members.Member.{Member as FollowedMember}
@@ -21,11 +16,9 @@ use Rattle.read_numbers.specs.NumberedInput.{tables_of, MemberShown}
 use Rattle.read_numbers.proofs.InputNumbers.{input_in_numbers}
 use Rattle.read_exports.specs.declared.members.Member.{Member}
 use Rattle.comp_read.specs.InputLaws.{ReadLabelsStand}
-use Rattle.comp_read.proofs.ByScopes.{scopes_found}
-use Rattle.comp_read.proofs.InterfaceViews.{each_beside}
-use Rattle.base_lemmas.proofs.Bools.{left_of as first_true, right_of as second_true}
-use Rattle.base_lemmas.proofs.Elements.{all_end as one_more}
-use Rattle.std.proofs.lemmas.Option.{same_Some as same-some}
+use Rattle.comp_read.proofs.{ByScopes.scopes_found, InterfaceViews.each_beside}
+use Rattle.base_lemmas.proofs.{Bools.left_of as first_true, Bools.right_of as second_true, Elements.all_end as one_more}
+use Rattle.comp_bytes.specs.Levels as levels
 
 -- ---- the exports at the top
 

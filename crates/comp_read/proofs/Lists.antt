@@ -1,15 +1,13 @@
 -- Lists that are looked through, and numbers that stand once.
 use Rattle.std.proofs.Common.{◌≡◌, refl, sym, ap, subst, ◌∙◌, ℕ, zero, suc, ◌+◌, ◌<◌, ◌⊎◌, inl, inr, arith, Bool, true, false, not, filter, List, [], ◌∷◌, ◌++◌, length, length-append, map, Some, None, slice_get}
-use Rattle.std.specs.List.{AllByRecursion, AllZip, Contains, flat_map}
 use Rattle.std.proofs.lemmas.List.Elements.{Contains-append_cases, Contains-append_left, Contains-append_right, filter-append}
+use Rattle.std.proofs.lemmas.{Bool.and_from as both, Option.same_Some as same-some}
+use Rattle.std.specs.List.{AllByRecursion, AllZip, Contains, flat_map}
 use Rattle.wit_model.specs.Uses.{has}
 use Rattle.wit_model.proofs.Elements.{contains-get, has-contains, none-in}
 use Rattle.plan_meaning.specs.NumberedWorlds.{are_once}
 use Rattle.plan_laws.proofs.OwnPlaces.{AreDifferent, all_taken}
-use Rattle.base_lemmas.proofs.Elements.{contains-later, get-contains}
-use Rattle.base_lemmas.proofs.Lists.{split_at as append_at}
-use Rattle.std.proofs.lemmas.Bool.{and_from as both}
-use Rattle.std.proofs.lemmas.Option.{same_Some as same-some}
+use Rattle.base_lemmas.proofs.{Elements.contains-later, Elements.get-contains, Lists.split_at as append_at}
 
 -- ---- the first that passes
 

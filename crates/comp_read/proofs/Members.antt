@@ -3,41 +3,33 @@ use Rattle.std.proofs.Common.{◌≡◌, ap, subst, ◌∙◌, ℕ, true, List, 
 use Rattle.std.specs.List.{AllByRecursion, Contains}
 use Rattle.wit_model.proofs.Elements.{contains-flat, contains-get}
 use Rattle.comp_bytes.specs.Levels.{Piece}
-use Rattle.comp_meaning.specs.Follow as follow
 use Rattle.comp_meaning.specs.Follow.{each}
-use Rattle.comp_meaning.specs.Reads as reads
 use Rattle.read_shown.specs.Parts.{MemberStands, PartStands, WorldStands}
 use Rattle.read_shown.proofs.ByLevels.{members_by_levels_stand}
 use Rattle.plan_meaning.specs.NumberedMembers.{Homes, IsMember, NumberedMember, ShowsPart, interface, world}
 use Rattle.plan_meaning.specs.NumberedViews.{AreTables, NumberedSight, NumberedView, Tables}
 use Rattle.plan_meaning.specs.NumberedWorlds.{HasPath, NumberedInstance, NumberedScope, Shows}
-use Rattle.read_parts.specs.declared.following.Followed.{Followed}
-use Rattle.read_parts.specs.declared.members.FollowedPart.{FollowedPart}
-use Rattle.read_parts.specs.declared.members.FollowedPart.TheVariants as followed
-use Rattle.read_parts.specs.declared.members.Member.{Member as FollowedMember}
+use Rattle.read_parts.specs.declared.{following.Followed.Followed, members.FollowedPart.FollowedPart, members.Member.Member as FollowedMember}
 use Rattle.read_parts.specs.Members.{scope_of}
-use Rattle.comp_read.proofs.ByScopes.{members_by_scopes}
+use Rattle.comp_read.proofs.{ByScopes.members_by_scopes, Scopes.IsSeen, Scopes.either_seen}
+use Rattle.comp_read.proofs.InterfaceViews.{IsViewed, instance_viewed, of_views, seen_viewed}
 use Rattle.read_members.specs.PartMembers.{IsMemberOf, IsPartOf, IsScopeOf}
-use Rattle.read_numbers.specs.NumberedInput.{tables_of}
-use Rattle.read_numbers.specs.NumberedParts.{numbered_scope as followed_scope}
+use Rattle.read_numbers.specs.{NumberedInput.tables_of, NumberedParts.numbered_scope as followed_scope}
 use Rattle.read_numbers.specs.PlacedNumbers.{ArePlacedScopes, IsInstanceAt, IsPlacedScope, scopes_in as numbered_scopes}
-use Rattle.read_numbers.proofs.InputNumbers.{input_in_numbers}
-use Rattle.read_numbers.proofs.PlacedMembers.{places_are_kept}
+use Rattle.read_numbers.proofs.{InputNumbers.input_in_numbers, PlacedMembers.places_are_kept}
 use Rattle.read_exports.specs.Members.{numbered_member, numbered_members, numbered_part}
-use Rattle.read_exports.specs.declared.members.Member.{Member}
-use Rattle.read_exports.specs.declared.members.Part.{Part}
-use Rattle.read_exports.specs.declared.members.Part.TheVariants as parts
+use Rattle.read_exports.specs.declared.members.{Member.Member, Part.Part}
 use Rattle.read_rules.specs.declared.scopes.Scope.{Scope}
-use Rattle.read_rules.specs.Reached.{numbered_import}
-use Rattle.read_rules.specs.Scopes.{numbered_scope}
-use Rattle.read_rules.specs.Views.{numbered_view}
+use Rattle.read_rules.specs.{Reached.numbered_import, Scopes.numbered_scope, Views.numbered_view}
 use Rattle.plan_package.specs.Views.{views_of_members, views_of_part, whole_view}
 use Rattle.plan_laws.proofs.ShownNames.{beside}
 use Rattle.comp_read.specs.ReadInput.{IsReadInput}
-use Rattle.comp_read.proofs.InterfaceViews.{IsViewed, instance_viewed, of_views, seen_viewed}
-use Rattle.comp_read.proofs.Scopes.{IsSeen, either_seen}
 use Rattle.base_lemmas.proofs.Elements.{all_at, contains-map, get-contains, map_from as from_map, zip_at as zip_there, zip_at_right as zip_at}
 use Rattle.base_lemmas.proofs.Lists.{get_back as at_mapped, mapped_get}
+use Rattle.comp_meaning.specs.Follow as follow
+use Rattle.comp_meaning.specs.Reads as reads
+use Rattle.read_parts.specs.declared.members.FollowedPart.TheVariants as followed
+use Rattle.read_exports.specs.declared.members.Part.TheVariants as parts
 
 -- the instance of which a view is
 abbrev pub instance_shown : NumberedSight → NumberedInstance

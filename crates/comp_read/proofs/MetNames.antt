@@ -1,22 +1,14 @@
 -- The named types that a type of the plan meets are names in the part that is kept for it.
 use Rattle.std.proofs.Common.{◌≡◌, refl, sym, ap, subst, ◌∙◌, ℕ, zero, suc, ◌+◌, ◌-◌, ◌<◌, arith, cond, List, ◌∷◌, [], take, Option, Some, None, slice_get, unwrap_or}
-use Rattle.std.specs.List.{Contains, flat_map}
-use Rattle.std.specs.Option.{option_map_or}
-use Rattle.std.proofs.lemmas.Bool.{lt-ltb}
-use Rattle.std.proofs.lemmas.Option.{same_Some as same-some}
-use Rattle.wit_model.specs.Parts.{met_by, numbered_from}
-use Rattle.wit_model.specs.Text.{Text}
-use Rattle.wit_model.specs.Tree.{Form}
-use Rattle.plan_meaning.specs.GatheredPlan.{Becomes}
-use Rattle.plan_meaning.specs.KeptTypes.{IsKeptType, unnamed, declared, TypesAreKept}
+use Rattle.std.proofs.lemmas.{Bool.lt-ltb, Option.same_Some as same-some}
+use Rattle.std.specs.{List.Contains, List.flat_map, Option.option_map_or}
+use Rattle.wit_model.specs.{Parts.met_by, Parts.numbered_from, Text.Text, Tree.Form}
+use Rattle.plan_meaning.specs.{GatheredPlan.Becomes, Renumbering.IsPart, Renumbering.a_primitive, Renumbering.a_shape}
+use Rattle.plan_meaning.specs.{KeptTypes.IsKeptType, KeptTypes.unnamed, KeptTypes.declared, KeptTypes.TypesAreKept, Shapes.named_shape, Shapes.node_shape}
 use Rattle.plan_meaning.specs.NumberedViews.{AreTables, HasNameIn, itself, inside, Tables}
-use Rattle.wit_model.proofs.Owners.{numbered_at}
-use Rattle.wit_model.proofs.Tables.{grow_at}
 use Rattle.plan_meaning.specs.Plan.{Plan, PlannedKind, PlannedType, kind_numbers, met_at, met_in, part_number}
-use Rattle.plan_meaning.specs.Renumbering.{IsPart, a_primitive, a_shape}
-use Rattle.plan_meaning.specs.Shapes.{named_shape, node_shape}
-use Rattle.plan_meaning.proofs.KeptTypes.{parts_before}
-use Rattle.plan_meaning.proofs.Words.{behind}
+use Rattle.wit_model.proofs.{Owners.numbered_at, Tables.grow_at}
+use Rattle.plan_meaning.proofs.{KeptTypes.parts_before, Words.behind}
 use Rattle.plan_laws.proofs.Inside.{flat_cases}
 use Rattle.base_lemmas.proofs.Elements.{all_at, filter_map_from, get-contains, last_of, zip_at_right}
 use Rattle.base_lemmas.proofs.Lists.{slice_take, within_there}

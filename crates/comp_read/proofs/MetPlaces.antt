@@ -1,33 +1,27 @@
 -- Each inline interface is met once.
 use Rattle.std.proofs.Common.{◌≡◌, refl, sym, ap, subst, ◌∙◌, ℕ, arith, Bool, true, false, cond, List, [], ◌∷◌, ◌++◌, map, Option, Some, None, is_none, slice_get}
-use Rattle.std.specs.List.{AllByRecursion, Contains, filter, flat_map}
 use Rattle.std.proofs.lemmas.List.Elements.{filter-append}
+use Rattle.std.specs.List.{AllByRecursion, Contains, filter, flat_map}
 use Rattle.wit_model.specs.Text.{Text}
 use Rattle.wit_model.proofs.Elements.{contains-get, none-in}
 use Rattle.comp_bytes.specs.Levels.{Piece}
-use Rattle.comp_meaning.specs.Reads as reads
-use Rattle.plan_meaning.specs.FollowedNumbers.{IsPartIn, IsViewIn}
+use Rattle.plan_meaning.specs.{FollowedNumbers.IsPartIn, FollowedNumbers.IsViewIn, NumberedViews.NumberedView, NumberedViews.Tables, NumberedViews.path_at}
 use Rattle.plan_meaning.specs.NumberedMembers.{Homes, NumberedMember, NumberedPart, interface, world}
-use Rattle.plan_meaning.specs.NumberedViews.{NumberedView, Tables, path_at}
 use Rattle.plan_meaning.specs.NumberedWorlds.{HasPath, NumberedInstance, NumberedScope, are_once}
 use Rattle.plan_type_laws.specs.ShownMarks.{has_no_path}
 use Rattle.plan_types.specs.Orders.{places_of_part}
 use Rattle.plan_laws.proofs.OwnPlaces.{AreDifferent, no_path}
 use Rattle.read_exports.specs.Members.{numbered_members, numbered_part}
-use Rattle.read_exports.specs.declared.members.Member.{Member}
-use Rattle.read_exports.specs.declared.members.Part.{Part}
-use Rattle.read_exports.specs.declared.members.Part.TheVariants as parts
+use Rattle.read_exports.specs.declared.members.{Member.Member, Part.Part}
 use Rattle.read_rules.specs.Scopes.{numbered_scope}
 use Rattle.read_parts.specs.declared.following.Followed.{Followed}
-use Rattle.read_numbers.specs.NumberedInput.{tables_of}
-use Rattle.read_numbers.specs.PlacedNumbers.{IsInstanceAt, scopes_in as numbered_scopes}
+use Rattle.read_numbers.specs.{NumberedInput.tables_of, PlacedNumbers.IsInstanceAt, PlacedNumbers.scopes_in as numbered_scopes}
 use Rattle.comp_read.specs.ReadInput.{IsReadInput}
 use Rattle.comp_read.proofs.Lists.{IsOfOne, before_of, filter_flat, of_one, once_different, once_given}
-use Rattle.comp_read.proofs.Members.{IsBoth, numbered_at, placed}
-use Rattle.comp_read.proofs.Places.{no_place, places_differ, world_at}
-use Rattle.comp_read.proofs.PlanOrder.{StandAlone}
-use Rattle.base_lemmas.proofs.Elements.{all_at, filter_kept as filter_from, get-contains, map_from as from_map}
-use Rattle.base_lemmas.proofs.Lists.{one_item}
+use Rattle.comp_read.proofs.{Members.IsBoth, Members.numbered_at, Members.placed, Places.no_place, Places.places_differ, Places.world_at, PlanOrder.StandAlone}
+use Rattle.base_lemmas.proofs.{Elements.all_at, Elements.filter_kept as filter_from, Elements.get-contains, Elements.map_from as from_map, Lists.one_item}
+use Rattle.comp_meaning.specs.Reads as reads
+use Rattle.read_exports.specs.declared.members.Part.TheVariants as parts
 
 -- the places of an interface and of its imports have a path
 abbrev pub HavePaths : Tables → NumberedPart → Type 0

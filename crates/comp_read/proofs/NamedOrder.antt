@@ -2,69 +2,45 @@
 use Rattle.std.proofs.Common.{◌≡◌, sym, ap, subst, ◌∙◌, ℕ, ◌+◌, ◌<◌, ◌≤◌, ◌⊎◌, arith, Bool, true, List, [], ◌++◌, length, map, take, Option, Some, slice_get}
 use Rattle.std.specs.List.{AllByRecursion, AllZip, Contains, filter, flat_map}
 use Rattle.indexmap.specs.IndexMap.{values}
-use Rattle.wit_model.specs.declared.model.Resolve.{Resolve}
-use Rattle.wit_model.specs.declared.model.TypeId.{TypeId}
-use Rattle.wit_model.specs.declared.model.World.{World}
-use Rattle.wit_model.specs.declared.model.WorldItem.TheVariants as item
-use Rattle.wit_model.specs.Lookup.{world_at as model_world}
-use Rattle.wit_model.specs.Text.{Text}
-use Rattle.wit_model.specs.Uses.{once}
+use Rattle.wit_model.specs.declared.model.{Resolve.Resolve, TypeId.TypeId, World.World}
+use Rattle.wit_model.specs.{Lookup.world_at as model_world, Text.Text, Uses.once}
 use Rattle.comp_bytes.specs.Levels.{Entry, PartType, Piece}
 use Rattle.comp_bytes.proofs.Readers.{bind_some}
-use Rattle.comp_meaning.specs.ByLevels.{entry_step}
-use Rattle.comp_meaning.specs.Follow as follow
-use Rattle.comp_meaning.specs.Follow.{each, new_scope}
-use Rattle.comp_meaning.specs.Reads as reads
-use Rattle.comp_meaning.specs.Reads.{steps}
-use Rattle.comp_meaning.specs.Rules.{distinct}
-use Rattle.plan_meaning.specs.Built.{IsBuilt, planned_interface, planned_item, planned_key, planned_world}
+use Rattle.comp_meaning.specs.{ByLevels.entry_step, Follow.each, Follow.new_scope, Reads.steps, Rules.distinct}
+use Rattle.plan_meaning.specs.{Built.IsBuilt, Built.planned_interface, Built.planned_item, Built.planned_key, Built.planned_world, NumberedRules.Fact}
 use Rattle.plan_meaning.specs.NumberedMembers.{Homes, IsMember, NumberedMember}
-use Rattle.plan_meaning.specs.NumberedRules.{Fact}
-use Rattle.plan_meaning.specs.NumberedViews.{NumberedSight, Tables, first_at, path_at}
+use Rattle.plan_meaning.specs.{NumberedViews.NumberedSight, NumberedViews.Tables, NumberedViews.first_at, NumberedViews.path_at, Plan.Plan}
 use Rattle.plan_meaning.specs.NumberedWorlds.{NumberedScope, NumberedSeen, are_once}
-use Rattle.plan_meaning.specs.Plan as plan
-use Rattle.plan_meaning.specs.Plan.{Plan}
 use Rattle.plan_meaning.proofs.TypeOrder.{type_numbers_are}
 use Rattle.plan_parts.specs.Kept.{AreMarked}
 use Rattle.plan_types.specs.Orders.{joined_all}
 use Rattle.plan_type_laws.specs.ShownMarks.{has_no_path}
-use Rattle.plan_package.specs.Views.{views_of_members}
-use Rattle.plan_package.specs.WholeInterfaces.{Home, PlansPlace}
-use Rattle.plan_package.specs.WholeWorlds.{PlansWorld, worlds_in}
+use Rattle.plan_package.specs.{Views.views_of_members, WholeInterfaces.Home, WholeInterfaces.PlansPlace, WholeWorlds.PlansWorld, WholeWorlds.worlds_in}
 use Rattle.plan_laws.specs.ShownNames.{PartDeclaresNames}
 use Rattle.read_exports.specs.Members.{numbered_member, numbered_members}
-use Rattle.read_exports.specs.declared.members.Member.{Member}
-use Rattle.read_exports.specs.declared.members.Part.{Part}
+use Rattle.read_exports.specs.declared.members.{Member.Member, Part.Part}
 use Rattle.read_members.specs.PartMembers.{IsMemberOf}
-use Rattle.read_numbers.specs.NumberedInput.{MemberShown, tables_of}
-use Rattle.read_numbers.specs.NumberedParts.{numbered_scope as followed_scope}
-use Rattle.read_numbers.specs.PlacedNumbers.{scopes_in}
+use Rattle.read_numbers.specs.{NumberedInput.MemberShown, NumberedInput.tables_of, NumberedParts.numbered_scope as followed_scope, PlacedNumbers.scopes_in}
 use Rattle.read_numbers.proofs.InputNumbers.{input_in_numbers}
-use Rattle.read_parts.specs.declared.following.Followed.{Followed}
-use Rattle.read_parts.specs.declared.members.Member.{Member as FollowedMember}
-use Rattle.read_parts.specs.Followed.{labelled_scope, member_of_scope, scopes_of}
-use Rattle.read_parts.specs.Members.{entries_of, scope_of}
+use Rattle.read_parts.specs.declared.{following.Followed.Followed, members.Member.Member as FollowedMember}
+use Rattle.read_parts.specs.{Followed.labelled_scope, Followed.member_of_scope, Followed.scopes_of, Members.entries_of, Members.scope_of}
 use Rattle.read_rules.specs.Scopes.{numbered_scope}
 use Rattle.read_rules.specs.declared.scopes.Scope.{Scope}
 use Rattle.comp_read.specs.Order.{HowMuch, IsNamedBefore, IsNamedBehind, once_by_path, shown_under, shown_until}
-use Rattle.comp_read.specs.Order as named
 use Rattle.comp_read.specs.ReadInput.{IsReadInput, ViewsObey}
-use Rattle.comp_read.proofs.ByScopes.{scopes_found}
-use Rattle.comp_read.proofs.CutOrder.{IsHigh, IsLow, interface_high, interface_low}
-use Rattle.comp_read.proofs.CutPlaces.{split_flat}
-use Rattle.comp_read.proofs.CutScopes.{IsCutOf, cut_of}
+use Rattle.comp_read.proofs.{ByScopes.scopes_found, CutScopes.IsCutOf, CutScopes.cut_of, Members.both_at, Members.placed, Members.tables, Members.world_read}
+use Rattle.comp_read.proofs.{CutOrder.IsHigh, CutOrder.IsLow, CutOrder.interface_high, CutOrder.interface_low, PlanOrder.built_at, PlanOrder.world_built_at}
+use Rattle.comp_read.proofs.{CutPlaces.split_flat, Inputs.keys_differ, InterfaceViews.each_beside, Places.world_at, TypeNumbers.kept_less}
 use Rattle.comp_read.proofs.CutShown.{chained, counts_of, many_places, many_worlds, mapped_zip, zip_of_map, zip_take}
 use Rattle.comp_read.proofs.CutWorlds.{Counts, IsImported, IsWorldOf, before_there, behind_there, imported, world_of, worlds_before}
-use Rattle.comp_read.proofs.Inputs.{keys_differ}
-use Rattle.comp_read.proofs.InterfaceViews.{each_beside}
-use Rattle.comp_read.proofs.Members.{both_at, placed, tables, world_read}
-use Rattle.comp_read.proofs.Places.{world_at}
-use Rattle.comp_read.proofs.PlanOrder.{built_at, world_built_at}
 use Rattle.comp_read.proofs.ShownScopes.{one_paths, one_stands, part_named, scope_in, scope_places}
-use Rattle.comp_read.proofs.TypeNumbers.{kept_less}
-use Rattle.base_lemmas.proofs.Elements.{all_at_too, get-contains, zip_at, zip_at_right, zip_each}
+use Rattle.base_lemmas.proofs.{Elements.all_at_too, Elements.get-contains, Elements.zip_at, Elements.zip_at_right, Elements.zip_each, Options.some_is}
 use Rattle.base_lemmas.proofs.Lists.{append_of_map, get_back, mapped_get, one_item}
-use Rattle.base_lemmas.proofs.Options.{some_is}
+use Rattle.wit_model.specs.declared.model.WorldItem.TheVariants as item
+use Rattle.comp_meaning.specs.Follow as follow
+use Rattle.comp_meaning.specs.Reads as reads
+use Rattle.plan_meaning.specs.Plan as plan
+use Rattle.comp_read.specs.Order as named
 
 module _ (pieces : List Piece) (x : Followed) (h : Homes) (ms : List Member) (members : List reads.Member) (input : IsReadInput pieces x h ms members) (known : ℕ
     → Fact) (obey : ViewsObey (tables_of x) known ms)

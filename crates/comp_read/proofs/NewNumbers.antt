@@ -1,15 +1,13 @@
 -- Numbers as they are met: what holds of each new one and of all that were met before it holds of each two of them.
 use Rattle.std.proofs.Common.{◌≡◌, refl, sym, subst, ◌∙◌, ap, ℕ, zero, suc, ◌<◌, ◌⊎◌, inl, inr, arith, Bool, true, false, cond, List, [], ◌∷◌, ◌++◌, append_assoc, Some, slice_get}
+use Rattle.std.proofs.lemmas.{List.append-nil, List.Elements.Contains-append_cases, List.Elements.Contains-append_left, List.Elements.Contains-append_right}
+use Rattle.std.proofs.lemmas.Option.{same_Some as same-some}
 use Rattle.std.specs.List.{Contains, flat_map}
-use Rattle.std.proofs.lemmas.List.{append-nil}
-use Rattle.std.proofs.lemmas.List.Elements.{Contains-append_cases, Contains-append_left, Contains-append_right}
 use Rattle.wit_model.specs.Uses.{has}
 use Rattle.wit_model.proofs.Elements.{contains-has, has-contains}
 use Rattle.plan_types.specs.Orders.{joined_all}
 use Rattle.comp_read.proofs.CountedUp.{IsBefore, IsBeforeIn, in_earlier, in_same}
-use Rattle.base_lemmas.proofs.Elements.{contains-one, get-contains, last_of}
-use Rattle.base_lemmas.proofs.Lists.{last_or}
-use Rattle.std.proofs.lemmas.Option.{same_Some as same-some}
+use Rattle.base_lemmas.proofs.{Elements.contains-one, Elements.get-contains, Elements.last_of, Lists.last_or}
 
 module _ (R : ℕ → ℕ → Type 0) where
   -- each new number stands so behind all that were met before it, which these in front begin

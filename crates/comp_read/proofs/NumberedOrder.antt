@@ -1,29 +1,20 @@
 -- Types are numbered in the order in which they are declared.
 use Rattle.std.proofs.Common.{◌≡◌, refl, sym, ap, subst, ◌∙◌, ℕ, zero, suc, ◌+◌, ◌<◌, ◌≤◌, ◌-◌, ◌⊎◌, inl, inr, arith, Bool, true, false, cond, ◌&&◌, List, [], ◌∷◌, ◌++◌, length, map, Option, Some, None, option_and_then, option_to_list, slice_get, unwrap_or}
-use Rattle.std.specs.List.{AllZip, Contains, flat_map}
-use Rattle.std.proofs.lemmas.Bool.{cases_lt, le-ltb, lt-ltb}
-use Rattle.std.proofs.lemmas.List.Elements.{Contains-append_left, Contains-append_right}
+use Rattle.std.proofs.lemmas.{Bool.cases_lt, Bool.le-ltb, Bool.lt-ltb, List.Elements.Contains-append_left, List.Elements.Contains-append_right}
 use Rattle.std.proofs.lemmas.Option.{same_Some as same-some, slice_get_within as found_below}
+use Rattle.std.specs.List.{AllZip, Contains, flat_map}
 use Rattle.wit_model.specs.declared.model.Resolve.{Resolve}
 use Rattle.wit_model.specs.Parts.{met_by, met_of}
-use Rattle.wit_model.specs.Text.{Text}
-use Rattle.wit_model.specs.Tree.{Form, Place, Tree, Trees, children}
-use Rattle.wit_model.specs.Types.{no_tree, number_tree, trees_of}
-use Rattle.wit_model.specs.Uses.{once}
+use Rattle.wit_model.specs.{Text.Text, Tree.Form, Tree.Place, Tree.Tree, Tree.Trees, Tree.children, Types.no_tree, Types.number_tree, Types.trees_of, Uses.once}
 use Rattle.wit_model.proofs.Elements.{contains-flat, contains-get, none-in}
 use Rattle.comp_meaning.specs.Follow.{place_of}
-use Rattle.plan_meaning.specs.Built.{IsBuilt, planned_type}
-use Rattle.plan_meaning.specs.KeptTypes.{IsKeptType, unnamed, declared, TypesAreKept}
+use Rattle.plan_meaning.specs.{Built.IsBuilt, Built.planned_type, KeptTypes.IsKeptType, KeptTypes.unnamed, KeptTypes.declared, KeptTypes.TypesAreKept}
 use Rattle.plan_meaning.specs.NumberedViews.{AreApart, AreTables, HasNameIn, itself, inside, IsOutside, Tables, path_at, place_at, tree_at}
-use Rattle.plan_meaning.specs.Plan.{Plan, PlannedType, met_in, part_number, trees_in}
-use Rattle.plan_meaning.specs.Renumbering.{a_shape}
+use Rattle.plan_meaning.specs.{Plan.Plan, Plan.PlannedType, Plan.met_in, Plan.part_number, Plan.trees_in, Renumbering.a_shape}
 use Rattle.plan_meaning.specs.Shapes.{Shape, named_shape, node_shape, part_tree, shape_tree, shape_trees}
-use Rattle.plan_meaning.proofs.KeptTypes.{kept_types_pass}
-use Rattle.plan_meaning.proofs.Renumbering.{trees_are_kept}
+use Rattle.plan_meaning.proofs.{KeptTypes.kept_types_pass, Renumbering.trees_are_kept, Words.met_are, Words.trees_are}
 use Rattle.plan_meaning.proofs.ShapeLaws.{name_tree, node_tree, one_number_apart, part_behind, split_part, tree_at_number}
-use Rattle.plan_meaning.proofs.Words.{met_are, trees_are}
-use Rattle.plan_laws.proofs.Inside.{flat_cases}
-use Rattle.plan_laws.proofs.PlaceNumbers.{number_given}
+use Rattle.plan_laws.proofs.{Inside.flat_cases, PlaceNumbers.number_given}
 use Rattle.plan_package.proofs.ReadPackageLaws.{number_at as number_there}
 use Rattle.plan_types.specs.PlannedTypes.{number_in}
 use Rattle.read_follow.specs.Numbering.{bare_parts, scoped_trees, CountUp, IsNext}
@@ -33,8 +24,7 @@ use Rattle.read_numbers.proofs.MetNumbers.{met_parts_are_seen}
 use Rattle.read_parts.specs.Members.{DeclaringScope}
 use Rattle.comp_read.specs.TypeOrder.{are_pathed, is_pathed, numbers_below, HasNumber, NumbersFollow}
 use Rattle.comp_read.proofs.CountedUp.{Any, IsOfSmaller, StandBehind, behind_mapped, below, counted_up}
-use Rattle.comp_read.proofs.MetNames.{names_are_inside, IsNameInside}
-use Rattle.comp_read.proofs.PlanOrder.{is_plan}
+use Rattle.comp_read.proofs.{MetNames.names_are_inside, MetNames.IsNameInside, PlanOrder.is_plan}
 use Rattle.base_lemmas.proofs.Bools.{left_of as first_true, right_of as second_true}
 use Rattle.base_lemmas.proofs.Elements.{all_at, contains-later, contains-map, contains-one, first-contained, get-contains, last_of}
 use Rattle.base_lemmas.proofs.Lists.{flat_mapped, get_back, length_of_map, map_of_map, mapped_get, within_there}

@@ -1,44 +1,28 @@
 -- The views of what was followed are known, obey the rules, and stand in the order of the table.
 use Rattle.std.proofs.Common.{◌≡◌, refl, sym, ap, subst, ℕ, List, [], ◌∷◌, map}
-use Rattle.std.specs.Borrow.{Bor}
-use Rattle.std.specs.List.{AllByRecursion, AllZip, Contains}
+use Rattle.std.specs.{Borrow.Bor, List.AllByRecursion, List.AllZip, List.Contains}
 use Rattle.wit_model.proofs.Elements.{contains-get}
 use Rattle.comp_bytes.specs.Levels.{Piece}
-use Rattle.comp_meaning.specs.Reads as reads
 use Rattle.plan_meaning.specs.NumberedMembers.{Homes, IsKnownSight, NumberedMember, sights_of_members, sights_of_part}
-use Rattle.plan_meaning.specs.NumberedRules.{Fact}
-use Rattle.plan_meaning.specs.NumberedViews.{NumberedSight, NumberedType, Tables}
-use Rattle.plan_meaning.specs.NumberedWorlds.{NumberedScope}
+use Rattle.plan_meaning.specs.{NumberedRules.Fact, NumberedViews.NumberedSight, NumberedViews.NumberedType, NumberedViews.Tables, NumberedWorlds.NumberedScope}
 use Rattle.plan_meaning.specs.ReadInterfaces.{IsNumberOf}
 use Rattle.read_parts.specs.declared.following.Followed.{Followed}
 use Rattle.read_numbers.specs.FactLaws.{known_by}
-use Rattle.read_numbers.specs.KnownScopes.{AreKnown}
-use Rattle.read_numbers.specs.NumberedInput.{tables_of}
-use Rattle.read_numbers.specs.PlacedNumbers.{IsNumbered, scopes_in as numbered_scopes}
+use Rattle.read_numbers.specs.{KnownScopes.AreKnown, NumberedInput.tables_of, PlacedNumbers.IsNumbered, PlacedNumbers.scopes_in as numbered_scopes}
 use Rattle.read_numbers.proofs.KnownScopes.{scopes_are_known, views_are_known}
 use Rattle.plan_type_laws.proofs.Walks.{all_flat}
 use Rattle.read_exports.specs.Members.{numbered_members, numbered_part}
-use Rattle.read_exports.specs.declared.members.Member.{Member}
-use Rattle.read_exports.specs.declared.members.Part.{Part}
-use Rattle.read_exports.specs.declared.members.Part.TheVariants as parts
-use Rattle.read_rules.specs.Reached.{numbered_import}
-use Rattle.read_rules.specs.Scopes.{numbered_scope}
-use Rattle.read_rules.specs.Views.{numbered_view}
-use Rattle.read_rules.specs.declared.reached.ImportedView.{ImportedView}
-use Rattle.read_rules.specs.declared.tables.Fact.{Fact as KeptFact}
-use Rattle.read_rules.specs.declared.views.View.{View}
+use Rattle.read_exports.specs.declared.members.{Member.Member, Part.Part}
+use Rattle.read_rules.specs.{Reached.numbered_import, Scopes.numbered_scope, Views.numbered_view}
+use Rattle.read_rules.specs.declared.{reached.ImportedView.ImportedView, tables.Fact.Fact as KeptFact, views.View.View}
 use Rattle.plan_package.specs.Views.{views_of_members, views_of_part}
-use Rattle.plan_laws.specs.Apart.{FirstsRise}
-use Rattle.plan_laws.specs.FirstViews.{IsRisingView}
-use Rattle.plan_laws.specs.Whole.{PartIsKnown}
-use Rattle.plan_laws.proofs.FirstViews.{first_is}
-use Rattle.plan_laws.proofs.Inside.{flat_cases}
-use Rattle.plan_laws.proofs.ShownRules.{all_of}
-use Rattle.comp_read.specs.InputLaws.{ReadFirstsRise}
-use Rattle.comp_read.specs.ReadInput.{IsReadInput, ViewsObey}
+use Rattle.plan_laws.specs.{Apart.FirstsRise, FirstViews.IsRisingView, Whole.PartIsKnown}
+use Rattle.plan_laws.proofs.{FirstViews.first_is, Inside.flat_cases, ShownRules.all_of}
+use Rattle.comp_read.specs.{InputLaws.ReadFirstsRise, ReadInput.IsReadInput, ReadInput.ViewsObey}
 use Rattle.comp_read.proofs.Members.{IsBoth, IsInstance, IsNumberedAt, instance_of_view, instance_shown, interface_path, numbered_at}
-use Rattle.comp_read.proofs.Places.{world_at}
-use Rattle.comp_read.proofs.Views.{instance_placed, instance_rises}
+use Rattle.comp_read.proofs.{Places.world_at, Views.instance_placed, Views.instance_rises}
+use Rattle.comp_meaning.specs.Reads as reads
+use Rattle.read_exports.specs.declared.members.Part.TheVariants as parts
 
 numbers_of : (t : Tables) (p : ℕ) (xs : List NumberedType) (ns : List ℕ) → AllZip (IsNumbered t p) xs ns → AllZip (IsNumberOf t p) xs ns
 numbers_of t p [] [] all = tt

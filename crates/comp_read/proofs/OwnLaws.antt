@@ -1,13 +1,10 @@
 -- The interfaces of a package, gathered view by view.
 use Rattle.std.proofs.Common.{◌≡◌, refl, sym, ap, subst, ◌∙◌, ℕ, zero, suc, ◌+◌, ◌<◌, ◌≤◌, ◌⊎◌, inl, inr, arith, Bool, true, false, not, ◌||◌, ◌==◌, cond, List, [], ◌∷◌, ◌++◌, map, take, drop, length, get_or, if◌then◌else◌, Option, Some, Result, Ok, Err, OnOk}
-use Rattle.std.specs.Borrow.{Bor}
-use Rattle.std.specs.List.{AllByRecursion, Contains, find, flat_map, list_any}
-use Rattle.std.specs.Option.{option_map_or}
-use Rattle.std.proofs.lemmas.Bool.{eq-eqb, eqb-true, and_from as both}
+use Rattle.std.proofs.lemmas.{Bool.eq-eqb, Bool.eqb-true, Bool.and_from as both, Map.Keys.any_passes_from_place as get_any}
 use Rattle.std.proofs.lemmas.List.Elements.{Contains-append_cases, Contains-append_left, Contains-append_right}
-use Rattle.wit_model.specs.Names.{PackageIdentity}
-use Rattle.wit_model.specs.Text.{Text}
-use Rattle.wit_model.specs.Uses.{has}
+use Rattle.std.proofs.ByRecursion.{All-weaker as recursion_weaker}
+use Rattle.std.specs.{Borrow.Bor, List.AllByRecursion, List.Contains, List.find, List.flat_map, List.list_any, Option.option_map_or}
+use Rattle.wit_model.specs.{Names.PackageIdentity, Text.Text, Uses.has}
 use Rattle.wit_model.proofs.Elements.{contains-get, contains-has, has-contains, none-in}
 use Rattle.plan_meaning.specs.NumberedMembers.{Homes, NumberedMember, NumberedPart, home_at, interface, is_interface_of, is_of_package, world}
 use Rattle.plan_meaning.specs.NumberedViews.{NumberedSight, Tables, first_at}
@@ -20,11 +17,7 @@ use Rattle.plan_laws.proofs.Inside.{flat_cases}
 use Rattle.comp_read.specs.OwnMembers.{AddsInterface, AddsView, AreOwnAmong, IsOfView, IsOwnAmong, StandAsShown, another, known, new, own, own_places}
 use Rattle.comp_read.proofs.OwnOrder.{filter_known, filter_new, filter_other}
 use Rattle.base_lemmas.proofs.Bools.{left_of as first_true, right_of as second_true}
-use Rattle.base_lemmas.proofs.Elements.{all_both, contains-one, last_of as one-contained}
-use Rattle.base_lemmas.proofs.Lists.{append_of_map}
-use Rattle.base_lemmas.proofs.Numbers.{same-number}
-use Rattle.std.proofs.ByRecursion.{All-weaker as recursion_weaker}
-use Rattle.std.proofs.lemmas.Map.Keys.{any_passes_from_place as get_any}
+use Rattle.base_lemmas.proofs.{Elements.all_both, Elements.contains-one, Elements.last_of as one-contained, Lists.append_of_map, Numbers.same-number}
 use Rattle.read_rules.proofs.PlaceLaws.{any_flip}
 
 -- ---- lists

@@ -1,9 +1,7 @@
 -- Numbers, each once, where it stands first.
 use Rattle.std.proofs.Common.{◌≡◌, refl, sym, ap, ◌∙◌, ℕ, Bool, true, false, not, ◌||◌, ◌==◌, cond, List, [], ◌∷◌, ◌++◌, map, append-nil}
+use Rattle.std.proofs.lemmas.{Bool.eq-eqb, Bool.eqb-true, List.map-append, List.Elements.filter-append}
 use Rattle.std.specs.List.{filter}
-use Rattle.std.proofs.lemmas.Bool.{eq-eqb, eqb-true}
-use Rattle.std.proofs.lemmas.List.{map-append}
-use Rattle.std.proofs.lemmas.List.Elements.{filter-append}
 use Rattle.wit_model.specs.Uses.{has, once}
 use Rattle.wit_model.proofs.Chains.{has_once}
 

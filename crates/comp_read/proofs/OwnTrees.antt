@@ -1,33 +1,23 @@
 -- The interfaces of a world's package that it shows, as they are meant: each is shown as the world shows it.
 use Rattle.std.proofs.Common.{◌≡◌, refl, sym, ap, subst, ◌∙◌, ℕ, zero, suc, ◌+◌, ◌≤◌, ◌⊎◌, inl, inr, arith, Bool, List, [], ◌∷◌, ◌++◌, map, length, Some, slice_get}
-use Rattle.std.specs.List.{AllZip, Contains}
 use Rattle.std.proofs.lemmas.Option.{slice_get_within, same_Some as same-some}
-use Rattle.wit_model.specs.Names.{PackageIdentity, path_in}
-use Rattle.wit_model.specs.Text.{Text}
-use Rattle.wit_model.specs.Tree.{Place}
+use Rattle.std.specs.List.{AllZip, Contains}
+use Rattle.wit_model.specs.{Names.PackageIdentity, Names.path_in, Text.Text, Tree.Place}
 use Rattle.wit_model.proofs.Elements.{contains-get}
-use Rattle.comp_meaning.specs.Follow as follow
 use Rattle.comp_meaning.specs.Follow.{Instance, place_of}
-use Rattle.comp_meaning.specs.Reads as reads
-use Rattle.read_shown.specs.Kinds.{MemberHasKinds, NamesHaveKinds, ViewHasKinds}
-use Rattle.read_shown.specs.Parts.{MemberStands, PartStands, instances_of, named_instance}
-use Rattle.read_shown.specs.Scopes.{IsShownBefore}
-use Rattle.read_shown.specs.Trees.{AllAt}
-use Rattle.read_shown.specs.Views.{IsMetInView, ViewStands, inside, outside}
-use Rattle.read_shown.proofs.Lists.{front_more}
-use Rattle.read_shown.proofs.ScopeWider.{shown_wider}
-use Rattle.read_shown.proofs.Views.{view_wider}
+use Rattle.read_shown.specs.{Kinds.MemberHasKinds, Kinds.NamesHaveKinds, Kinds.ViewHasKinds, Views.IsMetInView, Views.ViewStands, Views.inside, Views.outside}
+use Rattle.read_shown.specs.{Parts.MemberStands, Parts.PartStands, Parts.instances_of, Parts.named_instance, Scopes.IsShownBefore, Trees.AllAt}
+use Rattle.read_shown.proofs.{Lists.front_more, ScopeWider.shown_wider, Views.view_wider}
 use Rattle.plan_meaning.specs.NumberedMembers.{Homes, HomesStand, IsMember, NumberedMember, NumberedPart, ShowsPart, interface, world}
 use Rattle.plan_meaning.specs.NumberedViews.{AreTables, NumberedView, Tables, path_at, path_text, view_of}
 use Rattle.plan_meaning.specs.NumberedWorlds.{NumberedScope, Shows, instance_of}
 use Rattle.plan_type_laws.specs.MembersStand.{MembersStand, all_instances}
 use Rattle.plan_laws.specs.OneWorld.{AreOwnInterfaces}
-use Rattle.plan_laws.proofs.Inside.{flat_cases}
-use Rattle.plan_laws.proofs.ShownRules.{all_of}
-use Rattle.comp_read.proofs.OwnViews.{own_at}
-use Rattle.comp_read.proofs.WorldLabels.{spelled_as}
-use Rattle.base_lemmas.proofs.Elements.{contains-map, get-contains, last_of as one-contained, map_from as from_map}
-use Rattle.base_lemmas.proofs.Lists.{split_at}
+use Rattle.plan_laws.proofs.{Inside.flat_cases, ShownRules.all_of}
+use Rattle.comp_read.proofs.{OwnViews.own_at, WorldLabels.spelled_as}
+use Rattle.base_lemmas.proofs.{Elements.contains-map, Elements.get-contains, Elements.last_of as one-contained, Elements.map_from as from_map, Lists.split_at}
+use Rattle.comp_meaning.specs.Follow as follow
+use Rattle.comp_meaning.specs.Reads as reads
 
 -- ---- what an interface is meant as
 

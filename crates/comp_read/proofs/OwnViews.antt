@@ -1,8 +1,7 @@
 -- The interfaces of a world's package that it shows: each is seen by a view of the world.
 use Rattle.std.proofs.Common.{◌≡◌, refl, sym, ap, subst, ◌∙◌, ℕ, inl, inr, true, List, [], ◌∷◌, map, Option, Some, None}
-use Rattle.std.specs.List.{Contains}
-use Rattle.std.specs.Option.{option_map_or}
 use Rattle.std.proofs.lemmas.List.Elements.{Contains-append_cases}
+use Rattle.std.specs.{List.Contains, Option.option_map_or}
 use Rattle.wit_model.specs.Text.{Text}
 use Rattle.wit_model.proofs.Elements.{none-in}
 use Rattle.plan_meaning.specs.NumberedMembers.{Homes, NumberedMember, NumberedPart, home_at, interface, sights_of_members, sights_of_part, world}
@@ -10,8 +9,7 @@ use Rattle.plan_meaning.specs.NumberedViews.{NumberedSight, NumberedView, Tables
 use Rattle.plan_meaning.specs.NumberedWorlds.{HasPath, NumberedInstance, NumberedScope, sights_of_instance, sights_of_scope}
 use Rattle.plan_package.specs.Views.{views_of_members, views_of_part, whole_view}
 use Rattle.plan_laws.specs.OneWorld.{AreOwnInterfaces, IsOwnInterface}
-use Rattle.plan_laws.proofs.FirstViews.{first_is}
-use Rattle.plan_laws.proofs.Inside.{flat_cases}
+use Rattle.plan_laws.proofs.{FirstViews.first_is, Inside.flat_cases}
 use Rattle.base_lemmas.proofs.Elements.{all_at, contains-map, last_of as one-contained}
 
 -- ---- the views of a world

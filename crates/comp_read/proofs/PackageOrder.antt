@@ -1,49 +1,36 @@
 -- Packages are numbered in the order in which what was followed shows them.
 use Rattle.std.proofs.Common.{◌≡◌, refl, sym, ap, subst, ◌∙◌, ℕ, zero, suc, ◌<◌, ◌⊎◌, inl, inr, arith, Bool, true, false, not, ◌==◌, cond, List, [], ◌∷◌, ◌++◌, length, map, Option, Some, None, option_map, option_to_list, slice_get, unwrap_or}
+use Rattle.std.proofs.lemmas.{Bool.eq-eqb, List.Elements.Contains-append_cases, List.Elements.Contains-append_left, List.Elements.Contains-append_right}
+use Rattle.std.proofs.lemmas.Option.{slice_get_within as found_below}
 use Rattle.std.specs.List.{Contains, filter, flat_map}
-use Rattle.std.proofs.lemmas.Bool.{eq-eqb}
-use Rattle.std.proofs.lemmas.List.Elements.{Contains-append_cases, Contains-append_left, Contains-append_right}
 use Rattle.wit_model.specs.declared.model.Resolve.{Resolve}
-use Rattle.wit_model.specs.Lookup.{identity_of}
-use Rattle.wit_model.specs.Names.{PackageIdentity}
-use Rattle.wit_model.specs.Text.{Text}
-use Rattle.wit_model.specs.Uses.{once}
-use Rattle.wit_model.proofs.Chains.{has_once}
-use Rattle.wit_model.proofs.Elements.{contains-flat, contains-get, contains-has, has-contains, none-in}
+use Rattle.wit_model.specs.{Lookup.identity_of, Names.PackageIdentity, Text.Text, Uses.once}
+use Rattle.wit_model.proofs.{Chains.has_once, Elements.contains-flat, Elements.contains-get, Elements.contains-has, Elements.has-contains, Elements.none-in}
 use Rattle.comp_bytes.specs.Levels.{Piece}
-use Rattle.comp_meaning.specs.Reads as reads
 use Rattle.comp_meaning.specs.Same.{same_identity}
 use Rattle.comp_meaning.proofs.SameLaws.{identities_decide}
-use Rattle.plan_meaning.specs.Built.{IsBuilt, planned_package}
+use Rattle.plan_meaning.specs.{Built.IsBuilt, Built.planned_package, NumberedWorlds.HasPath, NumberedWorlds.NumberedInstance, NumberedWorlds.NumberedScope}
 use Rattle.plan_meaning.specs.NumberedMembers.{Homes, IsMember, NumberedMember, home_at}
-use Rattle.plan_meaning.specs.NumberedViews.{Tables, path_at}
-use Rattle.plan_meaning.specs.NumberedWorlds.{HasPath, NumberedInstance, NumberedScope}
-use Rattle.plan_meaning.specs.Plan.{Plan, PlannedPackage}
+use Rattle.plan_meaning.specs.{NumberedViews.Tables, NumberedViews.path_at, Plan.Plan, Plan.PlannedPackage}
 use Rattle.plan_package.specs.PlanWhole.{PlansWhole, places_in}
-use Rattle.plan_package.specs.WholeInterfaces.{Home}
-use Rattle.plan_package.specs.WholePackages.{PlansPackage, another, entries_from, the_main}
+use Rattle.plan_package.specs.{WholeInterfaces.Home, WholePackages.PlansPackage, WholePackages.another, WholePackages.entries_from, WholePackages.the_main}
 use Rattle.plan_laws.specs.WholePlan.{IsOfMember}
 use Rattle.plan_laws.proofs.Inside.{flat_cases}
 use Rattle.read_homes.specs.Homes.{ComeInOrder, HasPlace, HasPlaceBefore}
 use Rattle.read_exports.specs.Members.{numbered_member, numbered_members}
 use Rattle.read_exports.specs.declared.members.Member.{Member}
 use Rattle.read_parts.specs.declared.following.Followed.{Followed}
-use Rattle.read_numbers.specs.NumberedInput.{tables_of}
-use Rattle.read_numbers.specs.PlacedNumbers as placed_numbers
-use Rattle.read_numbers.specs.PlacedNumbers.{ArePlacedScopes, IsMetBefore, scopes_in}
-use Rattle.comp_read.specs.Order.{once_by_identity, package_of_path, packages_shown, shown_under}
-use Rattle.comp_read.specs.ReadInput.{AreHomesOf, IsReadInput}
+use Rattle.read_numbers.specs.{NumberedInput.tables_of, PlacedNumbers.ArePlacedScopes, PlacedNumbers.IsMetBefore, PlacedNumbers.scopes_in}
+use Rattle.comp_read.specs.{Order.once_by_identity, Order.package_of_path, Order.packages_shown, Order.shown_under, ReadInput.AreHomesOf, ReadInput.IsReadInput}
 use Rattle.comp_read.specs.ReadPackages.{HaveSources}
-use Rattle.comp_read.proofs.CountedUp as counted
 use Rattle.comp_read.proofs.CountedUp.{Any, IsBeforeIn, IsOfSmaller, StandBehind, behind_both, behind_flat, behind_low, behind_mapped, below, below_at, below_long, counted_up}
-use Rattle.comp_read.proofs.Members.{placed}
-use Rattle.comp_read.proofs.ShownScopes.{places_shown_under, scope_places}
-use Rattle.comp_read.proofs.WorldOrder.{homeless}
+use Rattle.comp_read.proofs.{Members.placed, ShownScopes.places_shown_under, ShownScopes.scope_places, WorldOrder.homeless}
 use Rattle.base_lemmas.proofs.Elements.{contains-later, contains-map, first-contained, get-contains, last_of, map_from, zip_at, zip_map}
 use Rattle.base_lemmas.proofs.Lists.{append_of_map, get_back, length_of_map, map_of_map, mapped_get, within_there}
-use Rattle.base_lemmas.proofs.Numbers.{unequal}
-use Rattle.base_lemmas.proofs.Options.{some_is}
-use Rattle.std.proofs.lemmas.Option.{slice_get_within as found_below}
+use Rattle.base_lemmas.proofs.{Numbers.unequal, Options.some_is}
+use Rattle.comp_meaning.specs.Reads as reads
+use Rattle.read_numbers.specs.PlacedNumbers as placed_numbers
+use Rattle.comp_read.proofs.CountedUp as counted
 
 -- ---- lists
 

@@ -1,44 +1,36 @@
 -- Each world and each inline interface has a place of its own.
 use Rattle.std.proofs.Common.{◌≡◌, refl, sym, ap, subst, ◌∙◌, ℕ, zero, suc, ◌+◌, ◌⊎◌, inl, inr, arith, Bool, true, false, filter, if◌then◌else◌, List, [], ◌∷◌, ◌++◌, length, length-append, map, Option, Some, None, is_none, slice_get}
-use Rattle.std.specs.List.{AllByRecursion, Contains, flat_map}
 use Rattle.std.proofs.lemmas.List.Elements.{Contains-append_cases, Contains-append_left, Contains-append_right, filter-append}
+use Rattle.std.proofs.ByRecursion.{All-weaker as recursion_weaker}
+use Rattle.std.specs.List.{AllByRecursion, Contains, flat_map}
 use Rattle.wit_model.specs.Text.{Text}
 use Rattle.wit_model.proofs.Elements.{contains-flat, contains-get, none-in}
 use Rattle.comp_bytes.specs.Levels.{Piece}
 use Rattle.comp_meaning.specs.Follow.{Direction, Instance, export_, import_}
-use Rattle.comp_meaning.specs.Reads as reads
 use Rattle.read_shown.specs.Instances.{going, instances_in}
-use Rattle.plan_meaning.specs.FollowedNumbers.{IsOneOf, IsScopeIn}
-use Rattle.plan_meaning.specs.NumberedMembers.{Homes, NumberedMember, world}
-use Rattle.plan_meaning.specs.NumberedRules.{Fact}
-use Rattle.plan_meaning.specs.NumberedViews.{Tables, path_at}
-use Rattle.plan_meaning.specs.NumberedWorlds as worlds
+use Rattle.plan_meaning.specs.{FollowedNumbers.IsOneOf, FollowedNumbers.IsScopeIn, NumberedMembers.Homes, NumberedMembers.NumberedMember, NumberedMembers.world}
+use Rattle.plan_meaning.specs.{NumberedRules.Fact, NumberedViews.Tables, NumberedViews.path_at}
 use Rattle.plan_meaning.specs.NumberedWorlds.{NumberedInstance, NumberedScope, NumberedSeen, NumberedShown, are_once, instance_of, place_of_key}
 use Rattle.read_parts.specs.declared.following.Followed.{Followed}
-use Rattle.read_numbers.specs.NumberedInput.{tables_of}
-use Rattle.read_numbers.specs.PlacedNumbers.{IsInstanceAt, scopes_in as numbered_scopes}
+use Rattle.read_numbers.specs.{NumberedInput.tables_of, PlacedNumbers.IsInstanceAt, PlacedNumbers.scopes_in as numbered_scopes}
 use Rattle.plan_type_laws.specs.ShownMarks.{ArePlaced, NamesSeen, PartNames, has_no_path, own_places, places_of_part, places_of_seen, places_of_shown}
 use Rattle.read_exports.specs.Members.{numbered_members, numbered_part}
-use Rattle.read_exports.specs.declared.members.Member.{Member}
-use Rattle.read_exports.specs.declared.members.Part.{Part}
-use Rattle.read_exports.specs.declared.members.Part.TheVariants as parts
+use Rattle.read_exports.specs.declared.members.{Member.Member, Part.Part}
 use Rattle.read_rules.specs.Scopes.{numbered_scope}
-use Rattle.read_rules.specs.declared.scopes.Scope.{Scope}
-use Rattle.read_rules.specs.declared.scopes.Seen.{Seen}
-use Rattle.read_rules.specs.declared.scopes.Shown.{Shown}
-use Rattle.read_rules.specs.declared.scopes.Shown.TheVariants as shown
+use Rattle.read_rules.specs.declared.scopes.{Scope.Scope, Seen.Seen, Shown.Shown}
 use Rattle.plan_laws.specs.ShownNames.{DeclaresName, PartDeclaresNames}
 use Rattle.plan_laws.proofs.Inside.{flat_cases}
 use Rattle.plan_laws.proofs.OwnPlaces.{AreDifferent, both_ways, inline_places, inlines, kept_nones, no_path, nones, seen_nones}
-use Rattle.comp_read.specs.InputLaws.{ReadPlacesAreApart}
-use Rattle.comp_read.specs.ReadInput.{IsReadInput, ViewsObey}
-use Rattle.comp_read.proofs.Inputs.{members_named, world_in}
+use Rattle.comp_read.specs.{InputLaws.ReadPlacesAreApart, ReadInput.IsReadInput, ReadInput.ViewsObey}
+use Rattle.comp_read.proofs.{Inputs.members_named, Inputs.world_in, Scopes.IsSeen}
 use Rattle.comp_read.proofs.Lists.{IsOfOne, all_different, before_of, filter_flat, of_one, once_different, once_given}
 use Rattle.comp_read.proofs.Members.{IsBoth, IsWorldRead, numbered_at, placed, scope_at, scope_in, seen_at, world_read, world_scope}
-use Rattle.comp_read.proofs.Scopes.{IsSeen}
 use Rattle.base_lemmas.proofs.Elements.{all_at, contains-one, filter_keeps as in_filter, filter_kept as filter_from, get-contains, last_of as one-contained, map_from as from_map}
 use Rattle.base_lemmas.proofs.Lists.{length_of_map, one_item}
-use Rattle.std.proofs.ByRecursion.{All-weaker as recursion_weaker}
+use Rattle.comp_meaning.specs.Reads as reads
+use Rattle.plan_meaning.specs.NumberedWorlds as worlds
+use Rattle.read_exports.specs.declared.members.Part.TheVariants as parts
+use Rattle.read_rules.specs.declared.scopes.Shown.TheVariants as shown
 
 pub no_place : (o : Option Text) → is_none o ≡ true → o ≡ None
 no_place None e = refl

@@ -2,54 +2,37 @@
 use Rattle.std.proofs.Common.{◌≡◌, refl, sym, ap, subst, ◌∙◌, ℕ, true, ◌&&◌, nat_lt, List, [], ◌∷◌, ◌++◌, map, Option, Some, slice_get, option_map, append-nil}
 use Rattle.std.proofs.lemmas.Option.{slice_get-map, same_Some as same-some}
 use Rattle.std.specs.List.{AllByRecursion, AllZip, Contains, filter, flat_map, list_all}
-use Rattle.wit_model.specs.declared.model.Interface.{Interface}
-use Rattle.wit_model.specs.declared.model.Resolve.{Resolve}
-use Rattle.wit_model.specs.declared.model.World.{World}
-use Rattle.wit_model.specs.Lookup.{interface_at, path_of_interface, world_at}
-use Rattle.wit_model.specs.Rules.{interface_type_numbers, world_type_numbers}
+use Rattle.wit_model.specs.declared.model.{Interface.Interface, Resolve.Resolve, World.World}
+use Rattle.wit_model.specs.{Lookup.interface_at, Lookup.path_of_interface, Lookup.world_at, Rules.interface_type_numbers, Rules.world_type_numbers, Uses.once}
 use Rattle.wit_model.specs.Text.{Text, text_of}
-use Rattle.wit_model.specs.Uses.{once}
-use Rattle.comp_meaning.specs.Reads as reads
-use Rattle.plan_meaning.specs.Built.{IsBuilt, planned_function, planned_interface, planned_world}
-use Rattle.plan_meaning.specs.GatheredPlan.{functions_seen}
+use Rattle.plan_meaning.specs.{Built.IsBuilt, Built.planned_function, Built.planned_interface, Built.planned_world, PlanRules.are_rising, PlanRules.IsPlan}
+use Rattle.plan_meaning.specs.{GatheredPlan.functions_seen, NumberedViews.NumberedSight, NumberedViews.Tables, NumberedViews.path_at, NumberedViews.sight_of}
 use Rattle.plan_meaning.specs.NumberedMembers.{Homes, IsKnownSight, IsMember, NumberedMember, ShowsPart, home_at, sights_of_members, sights_of_part}
 use Rattle.plan_meaning.specs.NumberedRules.{Fact}
-use Rattle.plan_meaning.specs.NumberedViews.{NumberedSight, Tables, path_at, sight_of}
 use Rattle.plan_meaning.specs.NumberedWorlds.{HasPath, NumberedInstance, are_once, sights_of_scope}
 use Rattle.plan_meaning.specs.Plan.{Plan, PlannedInterface, PlannedWorld, numbers_of, path_of_planned, world_types}
-use Rattle.plan_meaning.specs.PlanRules.{are_rising, IsPlan}
-use Rattle.plan_meaning.proofs.TypeOrder.{type_numbers_are, world_types_are}
-use Rattle.plan_meaning.proofs.NumberedMembers.{all_sights}
+use Rattle.plan_meaning.proofs.{TypeOrder.type_numbers_are, TypeOrder.world_types_are, NumberedMembers.all_sights, Words.path_of_planned_is, Words.plan_of}
 use Rattle.plan_meaning.proofs.NumberedWorlds.{path_is}
-use Rattle.plan_meaning.proofs.Words.{path_of_planned_is, plan_of}
 use Rattle.plan_parts.specs.Interfaces.{IsPlannedFunction}
 use Rattle.read_exports.specs.Members.{numbered_members, numbered_part}
-use Rattle.read_exports.specs.declared.members.Member.{Member}
-use Rattle.read_exports.specs.declared.members.Part.{Part}
-use Rattle.read_exports.specs.declared.members.Part.TheVariants as parts
+use Rattle.read_exports.specs.declared.members.{Member.Member, Part.Part}
 use Rattle.plan_types.specs.Orders.{places_of_part}
 use Rattle.read_rules.specs.Scopes.{numbered_scope}
 use Rattle.read_rules.specs.declared.scopes.Scope.{Scope}
-use Rattle.plan_package.specs.PlanWhole.{PlansWhole, places_in}
-use Rattle.plan_package.specs.Views.{views_of_members, views_of_part}
-use Rattle.plan_package.specs.WholeInterfaces.{PlansPlace}
-use Rattle.plan_package.specs.WholeWorlds.{PlansWorld, world_in_part, worlds_in}
-use Rattle.plan_laws.specs.OneWorld.{AreOwnInterfaces}
-use Rattle.plan_laws.specs.Whole.{IsPackageInput}
-use Rattle.plan_laws.specs.WholeTypes.{IsRuledInput}
-use Rattle.plan_laws.proofs.ListedFunctions.{seen_same}
-use Rattle.plan_laws.proofs.OneWorld.{functions_shown as functions_in_world, one_world, place_shown}
-use Rattle.plan_laws.proofs.Planned.{first_there, interface_there}
-use Rattle.plan_laws.proofs.WholeTypes.{packages_are_ruled, path_planned}
+use Rattle.plan_package.specs.{PlanWhole.PlansWhole, PlanWhole.places_in, WholeInterfaces.PlansPlace}
+use Rattle.plan_package.specs.{Views.views_of_members, Views.views_of_part, WholeWorlds.PlansWorld, WholeWorlds.world_in_part, WholeWorlds.worlds_in}
+use Rattle.plan_laws.specs.{OneWorld.AreOwnInterfaces, Whole.IsPackageInput, WholeTypes.IsRuledInput}
+use Rattle.plan_laws.proofs.{ListedFunctions.seen_same, OneWorld.functions_shown as functions_in_world, OneWorld.one_world, OneWorld.place_shown}
+use Rattle.plan_laws.proofs.{Planned.first_there, Planned.interface_there, WholeTypes.packages_are_ruled, WholeTypes.path_planned}
 use Rattle.plan_type_laws.specs.ShownMarks.{has_no_path}
 use Rattle.comp_read.specs.Order.{rise, FollowsParts, TypesRise, function_names, if_inline, inline_function_names, inline_functions_shown, once_by_path, packages_shown, shown_under, worlds_shown}
 use Rattle.comp_read.proofs.InlineOrder.{flat_each, inline_at, inline_whole, members_inline, views_inline, views_placed}
-use Rattle.comp_read.proofs.PackageOrder.{built_identities}
-use Rattle.comp_read.proofs.TypeNumbers.{zip_flat}
-use Rattle.comp_read.proofs.ShownOrder.{members_paths, names_alike, paths_once, scope_paths}
-use Rattle.comp_read.proofs.WorldOrder.{joined_behind}
+use Rattle.comp_read.proofs.{PackageOrder.built_identities, ShownOrder.members_paths, ShownOrder.names_alike, ShownOrder.paths_once, ShownOrder.scope_paths}
+use Rattle.comp_read.proofs.{TypeNumbers.zip_flat, WorldOrder.joined_behind}
 use Rattle.base_lemmas.proofs.Elements.{all_get, get-contains, zip_at_right, zip_each, zip_map as zip_names}
 use Rattle.base_lemmas.proofs.Lists.{append_of_map as map_append, flat_mapped, map_of_map, same_map as map_each}
+use Rattle.comp_meaning.specs.Reads as reads
+use Rattle.read_exports.specs.declared.members.Part.TheVariants as parts
 
 -- ---- what is shown, in numbers
 

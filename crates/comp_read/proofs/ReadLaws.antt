@@ -1,34 +1,26 @@
 -- The package of members that were read of what was followed.
 use Rattle.std.proofs.Common.{◌≡◌, sym, ap, subst, ◌∙◌, ℕ, true, false, List, [], ◌∷◌, map, Option, Some, None, slice_get}
-use Rattle.std.specs.Borrow.{Bor}
-use Rattle.std.specs.List.{AllZip}
+use Rattle.std.specs.{Borrow.Bor, List.AllZip}
 use Rattle.wit_model.specs.Names.{PackageIdentity}
 use Rattle.comp_bytes.specs.Levels.{Piece}
-use Rattle.comp_meaning.specs.ByLevels.{package_of_pieces}
-use Rattle.comp_meaning.specs.Follow.{provided}
+use Rattle.comp_meaning.specs.{ByLevels.package_of_pieces, Follow.provided}
 use Rattle.plan_meaning.specs.NumberedMembers.{Homes, HomesStand, NumberedMember, are_package, home_at, package_shown}
-use Rattle.plan_meaning.specs.NumberedRules.{Fact}
-use Rattle.plan_meaning.specs.NumberedViews.{Tables}
+use Rattle.plan_meaning.specs.{NumberedRules.Fact, NumberedViews.Tables}
 use Rattle.read_homes.specs.Homes.{given_home, ArePackages, ComeInOrder, HaveReasons, IsHomeOf}
-use Rattle.read_parts.specs.declared.following.Followed.{Followed}
-use Rattle.read_parts.specs.declared.members.Member.{Member as FollowedMember}
+use Rattle.read_parts.specs.declared.{following.Followed.Followed, members.Member.Member as FollowedMember}
 use Rattle.read_parts.specs.Input.{IsFollowed}
 use Rattle.read_exports.specs.declared.members.Member.{Member}
 use Rattle.read_exports.specs.Members.{homes_in, numbered_members}
 use Rattle.read_rules.specs.declared.tables.Fact.{Fact as KeptFact}
 use Rattle.plan_package.specs.PlanWhole.{MayBeWhole}
 use Rattle.plan_build.proofs.BuildableLaws.{plans_are_buildable}
-use Rattle.read_numbers.specs.FactLaws.{known_by}
-use Rattle.read_numbers.specs.KnownScopes.{AreKnown}
-use Rattle.read_numbers.specs.NumberedInput.{tables_of}
+use Rattle.read_numbers.specs.{FactLaws.known_by, KnownScopes.AreKnown, NumberedInput.tables_of}
 use Rattle.read_members.specs.Decided.{ArePackageDecided, are_one_package}
-use Rattle.read_members.specs.declared.reading.ReadMember.{ReadMember}
 use Rattle.read_members.specs.ReadMembers.{lent_member, read_member, AreForMembers, AreRead}
+use Rattle.read_members.specs.declared.reading.ReadMember.{ReadMember}
 use Rattle.read_members.proofs.DecidedLaws.{packages_are_decided}
-use Rattle.comp_read.specs.ReadPackages.{IsReadPackage}
+use Rattle.comp_read.specs.{ReadPackages.IsReadPackage, MembersRead.AreReadOf, MembersRead.IsMain, Planned.CanBeBuilt, Planned.PlansMean}
 use Rattle.comp_read.proofs.ReadPackages.{read_may_be_planned, read_packages_have_sources, read_plans_are_meant}
-use Rattle.comp_read.specs.MembersRead.{AreReadOf, IsMain}
-use Rattle.comp_read.specs.Planned.{CanBeBuilt, PlansMean}
 use Rattle.base_lemmas.proofs.Lists.{map_of_map}
 
 -- ---- the package of the first member

@@ -2,85 +2,47 @@
 use Rattle.std.proofs.Common.{◌≡◌, refl, sym, ap, subst, ◌∙◌, ℕ, ◌+◌, ◌<◌, true, List, [], ◌∷◌, ◌++◌, append-nil, length, map, IfOk, Option, Some, None, Result, Ok, Err, slice_get}
 use Rattle.std.specs.List.{AllZip, Contains, filter, flat_map}
 use Rattle.wit_model.specs.declared.model.Resolve.{Resolve}
-use Rattle.wit_model.specs.Meaning.{PackageMeaning, WorldPackage}
-use Rattle.wit_model.specs.Text.{Text}
-use Rattle.comp_bytes.specs.Levels.{PartType, Piece, levels_of}
-use Rattle.comp_bytes.specs.Reading.{◌>>=◌, component_of}
-use Rattle.comp_bytes.proofs.Readers.{bind_some}
-use Rattle.comp_bytes.proofs.ComponentLaws.{component_takes}
-use Rattle.comp_meaning.specs.ByLevels.{exported_parts, member_by_levels}
-use Rattle.comp_meaning.specs.Follow.{each}
-use Rattle.comp_meaning.specs.Reads as reads
-use Rattle.comp_meaning.specs.Reads.{exported_types}
+use Rattle.wit_model.specs.{Meaning.PackageMeaning, Meaning.WorldPackage, Text.Text}
+use Rattle.comp_bytes.specs.{Levels.PartType, Levels.Piece, Levels.levels_of, Reading.◌>>=◌, Reading.component_of}
+use Rattle.comp_bytes.proofs.{Readers.bind_some, ComponentLaws.component_takes}
+use Rattle.comp_meaning.specs.{ByLevels.exported_parts, ByLevels.member_by_levels, Follow.each, Reads.exported_types}
 use Rattle.comp_meaning.proofs.Levelled.{levelled}
-use Rattle.plan_meaning.specs.Built.{IsBuilt}
+use Rattle.plan_meaning.specs.{Built.IsBuilt, KeptTypes.TypesAreKept}
 use Rattle.plan_meaning.specs.NumberedMembers.{Homes, HomesStand, IsMember, are_package, home_at}
-use Rattle.plan_meaning.specs.KeptTypes.{TypesAreKept}
-use Rattle.plan_meaning.specs.NumberedViews.{NumberedSight, Tables, first_at, place_at}
-use Rattle.plan_meaning.specs.NumberedWorlds.{are_once}
-use Rattle.plan_meaning.specs.Plan.{Plan, PlannedInterface, numbers_of}
-use Rattle.plan_meaning.specs.PlanRules.{are_rising, IsPlan}
-use Rattle.plan_meaning.specs.Shapes.{shape_trees, IsTable}
+use Rattle.plan_meaning.specs.{NumberedViews.NumberedSight, NumberedViews.Tables, NumberedViews.first_at, NumberedViews.place_at, NumberedWorlds.are_once}
+use Rattle.plan_meaning.specs.{Plan.Plan, Plan.PlannedInterface, Plan.numbers_of, PlanRules.are_rising, PlanRules.IsPlan, Shapes.shape_trees, Shapes.IsTable}
 use Rattle.plan_build.proofs.BuildableLaws.{plans_are_buildable}
 use Rattle.plan_types.specs.Orders.{joined_all}
-use Rattle.plan_package.specs.PlanWhole.{PlansWhole, places_in}
+use Rattle.plan_package.specs.{PlanWhole.PlansWhole, PlanWhole.places_in, WholeWorlds.PlansWorld, WholeWorlds.world_in_part, WholeWorlds.worlds_in}
 use Rattle.plan_package.specs.Views.{views_of_members}
-use Rattle.plan_package.specs.WholeWorlds.{PlansWorld, world_in_part, worlds_in}
 use Rattle.plan_type_laws.specs.ShownMarks.{has_no_path}
-use Rattle.plan_laws.specs.OneWorld.{AreOwnInterfaces}
-use Rattle.plan_laws.specs.ShownNames.{PartDeclaresNames}
+use Rattle.plan_laws.specs.{OneWorld.AreOwnInterfaces, ShownNames.PartDeclaresNames, Whole.IsPackageInput}
 use Rattle.plan_laws.proofs.OneWorld.{one_world}
-use Rattle.plan_laws.specs.Whole.{IsPackageInput}
-use Rattle.plan_laws.proofs.Planned.{first_there}
-use Rattle.plan_laws.proofs.WholePlacesTop.{one_package}
-use Rattle.plan_laws.proofs.WholeTypes.{packages_are_ruled, planned_types_are_whole}
-use Rattle.base_lemmas.proofs.Elements.{all_at, contains-map, last_of, zip_long}
-use Rattle.base_lemmas.proofs.Lists.{one_item}
-use Rattle.read_follow.specs.declared.scopes.Instance.{Instance}
-use Rattle.read_follow.specs.declared.scopes.Scope.{Scope as FollowedScope}
-use Rattle.read_follow.specs.Numbering.{bare_parts, scoped_trees}
-use Rattle.read_follow.specs.Scopes.{world_of, IsPartOver, IsScopedIn, World}
-use Rattle.read_follow.proofs.ComponentLaws.{places_are as places_stand}
-use Rattle.read_follow.proofs.NumberingLaws.{count_below}
+use Rattle.plan_laws.proofs.{Planned.first_there, WholePlacesTop.one_package, WholeTypes.packages_are_ruled, WholeTypes.planned_types_are_whole}
+use Rattle.base_lemmas.proofs.{Elements.all_at, Elements.contains-map, Elements.last_of, Elements.zip_long, Lists.one_item}
+use Rattle.read_follow.specs.declared.scopes.{Instance.Instance, Scope.Scope as FollowedScope}
+use Rattle.read_follow.specs.{Numbering.bare_parts, Numbering.scoped_trees, Scopes.world_of, Scopes.IsPartOver, Scopes.IsScopedIn, Scopes.World}
+use Rattle.read_follow.proofs.{ComponentLaws.places_are as places_stand, NumberingLaws.count_below}
 use Rattle.read_exports.specs.Members.{numbered_members, numbered_part}
-use Rattle.read_exports.specs.declared.members.Member.{Member}
-use Rattle.read_exports.specs.declared.members.Part.{Part}
-use Rattle.read_exports.specs.declared.members.Part.TheVariants as parts
+use Rattle.read_exports.specs.declared.members.{Member.Member, Part.Part}
 use Rattle.read_members.specs.ReadMembers.{AreRead, lent_member}
-use Rattle.read_numbers.specs.FactLaws.{known_by}
-use Rattle.read_numbers.specs.NumberedInput.{tables_of}
-use Rattle.read_numbers.specs.PlacedNumbers.{scopes_in, IsMetFrom}
+use Rattle.read_numbers.specs.{FactLaws.known_by, NumberedInput.tables_of, PlacedNumbers.scopes_in, PlacedNumbers.IsMetFrom}
 use Rattle.read_numbers.proofs.MetNumbers.{met_from}
-use Rattle.read_parts.specs.declared.following.Followed.{Followed}
-use Rattle.read_parts.specs.Input.{IsFollowed}
-use Rattle.read_parts.specs.declared.members.Member.{Member as FollowedMember}
-use Rattle.read_parts.specs.Members.{declared_trees, scope_of, DeclaringScope, IsScopedBy}
+use Rattle.read_parts.specs.declared.{following.Followed.Followed, members.Member.Member as FollowedMember}
+use Rattle.read_parts.specs.{Input.IsFollowed, Members.declared_trees, Members.scope_of, Members.DeclaringScope, Members.IsScopedBy}
 use Rattle.read_rules.specs.Scopes.{numbered_scope}
-use Rattle.read_rules.specs.declared.scopes.Scope.{Scope}
-use Rattle.read_rules.specs.declared.tables.Fact.{Fact as KeptFact}
-use Rattle.comp_read.specs.MembersRead.{AreReadOf}
-use Rattle.comp_read.specs.Order.{FollowsBytes, FollowsLevels, NamesFollow}
-use Rattle.comp_read.specs.OwnMembers.{StandAsShown}
-use Rattle.comp_read.specs.Planned.{IsBuiltOf, PlansMean, WorldPlansMean}
-use Rattle.comp_read.specs.ReadInput.{AreHomesOf, IsReadInput, ViewsObey}
-use Rattle.comp_read.specs.ReadWorlds.{AreBeside, IsReadWorld}
-use Rattle.comp_read.specs.TypeOrder.{NumbersFollow}
-use Rattle.comp_read.specs.WorldsRead.{IsWorldReadOf}
-use Rattle.comp_read.proofs.ByScopes.{members_by_scopes}
-use Rattle.comp_read.proofs.Members.{tables}
-use Rattle.comp_read.proofs.MetPlaces.{HavePaths, all_have, stand_alone}
-use Rattle.comp_read.proofs.NamedOrder.{named_less}
-use Rattle.comp_read.proofs.NumberedOrder.{met_apart, numbers_follow}
-use Rattle.comp_read.proofs.PlanOrder.{StandAlone, package_follows, types_built, world_follows}
-use Rattle.comp_read.proofs.ShownScopes.{scope_places}
-use Rattle.comp_read.proofs.TypeNumbers.{all_rise, places_alike, world_places, world_views}
-use Rattle.comp_read.proofs.PackageOrder.{packages_are}
-use Rattle.comp_read.proofs.ReadPackages.{read_members_are_input, read_packages_have_sources}
-use Rattle.comp_read.proofs.Whole.{package_views_obey, read_is_package_input}
-use Rattle.comp_read.proofs.WorldInput.{views_obey}
-use Rattle.comp_read.proofs.WorldOrder.{places_are}
-use Rattle.comp_read.proofs.WorldReadLaws.{is_world}
-use Rattle.comp_read.proofs.WorldWhole.{read_world_is_whole}
+use Rattle.read_rules.specs.declared.{scopes.Scope.Scope, tables.Fact.Fact as KeptFact}
+use Rattle.comp_read.specs.{MembersRead.AreReadOf, OwnMembers.StandAsShown, TypeOrder.NumbersFollow}
+use Rattle.comp_read.specs.{Order.FollowsBytes, Order.FollowsLevels, Order.NamesFollow, ReadWorlds.AreBeside, ReadWorlds.IsReadWorld, WorldsRead.IsWorldReadOf}
+use Rattle.comp_read.specs.{Planned.IsBuiltOf, Planned.PlansMean, Planned.WorldPlansMean, ReadInput.AreHomesOf, ReadInput.IsReadInput, ReadInput.ViewsObey}
+use Rattle.comp_read.proofs.{ByScopes.members_by_scopes, PlanOrder.StandAlone, PlanOrder.package_follows, PlanOrder.types_built, PlanOrder.world_follows}
+use Rattle.comp_read.proofs.{Members.tables, WorldOrder.places_are}
+use Rattle.comp_read.proofs.{MetPlaces.HavePaths, MetPlaces.all_have, MetPlaces.stand_alone, NumberedOrder.met_apart, NumberedOrder.numbers_follow}
+use Rattle.comp_read.proofs.{NamedOrder.named_less, Whole.package_views_obey, Whole.read_is_package_input, WorldInput.views_obey, WorldReadLaws.is_world}
+use Rattle.comp_read.proofs.{ShownScopes.scope_places, PackageOrder.packages_are, ReadPackages.read_members_are_input, ReadPackages.read_packages_have_sources}
+use Rattle.comp_read.proofs.{TypeNumbers.all_rise, TypeNumbers.places_alike, TypeNumbers.world_places, TypeNumbers.world_views, WorldWhole.read_world_is_whole}
+use Rattle.comp_meaning.specs.Reads as reads
+use Rattle.read_exports.specs.declared.members.Part.TheVariants as parts
 
 -- what is exported was read of the sections
 exported : (pieces : List Piece) (x : Followed) (h : Homes) (ms : List Member) (members : List reads.Member) → IsReadInput pieces x h ms members

@@ -1,47 +1,31 @@
 -- A package that was followed and read: what was followed is whole, and so is the plan of it, which means what the input does.
 use Rattle.std.proofs.Common.{◌≡◌, refl, sym, ap, subst, ◌∙◌, ℕ, arith, inl, inr, true, false, List, [], ◌∷◌, map, Option, Some, None, slice_get}
+use Rattle.std.proofs.lemmas.Option.{same_Some as same-some}
 use Rattle.std.specs.List.{AllZip, Contains}
-use Rattle.comp_bytes.specs.Levels.{Piece}
-use Rattle.comp_bytes.specs.Reading.{◌>>=◌}
+use Rattle.comp_bytes.specs.{Levels.Piece, Reading.◌>>=◌}
 use Rattle.comp_bytes.proofs.Readers.{bind_some}
-use Rattle.comp_meaning.specs.Follow.{each, is_filled}
-use Rattle.comp_meaning.specs.Reads as reads
-use Rattle.comp_meaning.specs.Reads.{package_of_members, package_with}
+use Rattle.comp_meaning.specs.{Follow.each, Follow.is_filled, Reads.package_of_members, Reads.package_with}
 use Rattle.plan_meaning.specs.NumberedMembers.{Homes, HomesStand, IsMember, NumberedMember, home_at}
-use Rattle.plan_meaning.specs.NumberedRules.{Fact}
-use Rattle.plan_meaning.specs.NumberedViews.{Tables}
-use Rattle.plan_meaning.specs.Plan.{Plan}
-use Rattle.plan_meaning.specs.ReadPlans.{FitsInput}
+use Rattle.plan_meaning.specs.{NumberedRules.Fact, NumberedViews.Tables, Plan.Plan, ReadPlans.FitsInput}
 use Rattle.read_exports.specs.Members.{numbered_member, numbered_members}
 use Rattle.read_exports.specs.declared.members.Member.{Member}
 use Rattle.read_rules.specs.declared.tables.Fact.{Fact as KeptFact}
 use Rattle.plan_package.specs.PlanWhole.{MayBeWhole, PlansWhole}
 use Rattle.read_parts.specs.declared.following.Followed.{Followed}
-use Rattle.read_parts.specs.Followed.{labelled_scope, member_of_scope, scopes_of}
-use Rattle.read_parts.specs.Input.{IsFollowed}
-use Rattle.read_numbers.specs.FactLaws.{known_by}
-use Rattle.read_numbers.specs.KnownScopes.{AreKnown}
-use Rattle.read_numbers.specs.NumberedInput.{tables_of}
+use Rattle.read_parts.specs.{Followed.labelled_scope, Followed.member_of_scope, Followed.scopes_of, Input.IsFollowed}
+use Rattle.read_numbers.specs.{FactLaws.known_by, KnownScopes.AreKnown, NumberedInput.tables_of}
 use Rattle.read_members.specs.ReadMembers.{AreMeant, AreRead, IsOfOne, lent_member}
-use Rattle.read_members.proofs.DecidedLaws.{by_members}
-use Rattle.read_members.proofs.LentLaws.{lent_members_are_members}
-use Rattle.read_members.proofs.MeantLaws.{read_members_are_meant}
-use Rattle.plan_laws.specs.Whole.{IsPackageInput}
-use Rattle.plan_laws.specs.WholePlan.{IsOfMember, IsWholeInput}
-use Rattle.plan_laws.proofs.WholeCondition.{whole_may_be_planned}
-use Rattle.plan_laws.proofs.WholeMeaning.{plan_is_whole}
-use Rattle.plan_laws.proofs.WholePlacesTop.{one_package}
+use Rattle.read_members.proofs.{DecidedLaws.by_members, LentLaws.lent_members_are_members, MeantLaws.read_members_are_meant}
+use Rattle.plan_laws.specs.{Whole.IsPackageInput, WholePlan.IsOfMember, WholePlan.IsWholeInput}
+use Rattle.plan_laws.proofs.{WholeCondition.whole_may_be_planned, WholeMeaning.plan_is_whole, WholePlacesTop.one_package}
 use Rattle.comp_read.specs.ReadInput.{IsReadInput}
 use Rattle.comp_read.specs.ReadPackages.{IsPlanOf, IsReadPackage, ReadMayBePlanned, ReadMembersAreInput, ReadPackageIsWhole, ReadPackagesHaveSources, ReadPlansAreMeant}
-use Rattle.comp_read.proofs.ByScopes.{parts_filled, scopes_found}
-use Rattle.comp_read.proofs.FollowedWorlds.{read_imports_are_bare, read_places_are_met, worlds_followed}
-use Rattle.comp_read.proofs.InterfaceViews.{each_beside}
-use Rattle.comp_read.proofs.Labels.{read_labels_stand}
-use Rattle.comp_read.proofs.Ordered.{firsts_rise}
-use Rattle.comp_read.proofs.Whole.{package_input, package_views_obey, read_parts_are_reached}
+use Rattle.comp_read.proofs.{ByScopes.parts_filled, ByScopes.scopes_found, Whole.package_input, Whole.package_views_obey, Whole.read_parts_are_reached}
+use Rattle.comp_read.proofs.{FollowedWorlds.read_imports_are_bare, FollowedWorlds.read_places_are_met, FollowedWorlds.worlds_followed, Labels.read_labels_stand}
+use Rattle.comp_read.proofs.{InterfaceViews.each_beside, Ordered.firsts_rise}
 use Rattle.base_lemmas.proofs.Elements.{get-contains, zip_at as zip_there, zip_at_right as zip_at}
 use Rattle.base_lemmas.proofs.Lists.{get_back as at_mapped, map_of_map}
-use Rattle.std.proofs.lemmas.Option.{same_Some as same-some}
+use Rattle.comp_meaning.specs.Reads as reads
 
 -- ---- members that were read
 

@@ -1,9 +1,8 @@
 -- Numbers that rise, and what a plan lists in its packages.
 use Rattle.std.proofs.Common.{◌≡◌, refl, ap, subst, ◌∙◌, ℕ, suc, ◌+◌, ◌<◌, arith, Bool, true, false, ltb, cond, ◌==◌, List, [], ◌∷◌, ◌++◌, map, Option, Some, None, slice_get}
-use Rattle.std.specs.List.{AllZip, filter, list_all}
 use Rattle.std.proofs.lemmas.Bool.{lt-ltb, and_from as both}
-use Rattle.wit_model.specs.Names.{PackageIdentity}
-use Rattle.wit_model.specs.Text.{Text}
+use Rattle.std.specs.List.{AllZip, filter, list_all}
+use Rattle.wit_model.specs.{Names.PackageIdentity, Text.Text}
 use Rattle.plan_meaning.specs.Plan.{PlannedPackage}
 use Rattle.plan_package.specs.WholeInterfaces.{Home}
 use Rattle.plan_package.specs.WholePackages.{ListsPlace, PlansPackage, another, entries_from, entry_of, the_main}

@@ -1,26 +1,19 @@
 -- The order in which views are shown, in numbers and in paths.
 use Rattle.std.proofs.Common.{◌≡◌, refl, sym, ap, ◌∙◌, ℕ, Bool, true, false, not, ◌&&◌, ◌||◌, ◌==◌, cond, List, [], ◌∷◌, ◌++◌, map, Option, Some, None, is_none, slice_get}
-use Rattle.std.specs.List.{AllByRecursion, AllZip, filter, flat_map}
-use Rattle.std.specs.Option.{option_map_or}
-use Rattle.std.proofs.lemmas.Bool.{eqb-true, not-true}
-use Rattle.wit_model.specs.Text.{Text, text_eq}
-use Rattle.wit_model.specs.Names.{path_in}
-use Rattle.wit_model.specs.Uses.{has, once}
-use Rattle.wit_model.proofs.Chains.{has_once}
-use Rattle.comp_meaning.specs.Reads as reads
-use Rattle.plan_meaning.specs.FollowedNumbers.{AreMembersIn, IsPartIn, IsViewIn}
-use Rattle.plan_meaning.specs.GatheredPlan.{functions_seen}
+use Rattle.std.proofs.lemmas.{Bool.eqb-true, Bool.not-true, Option.same_Some as same-some}
+use Rattle.std.specs.{List.AllByRecursion, List.AllZip, List.filter, List.flat_map, Option.option_map_or}
+use Rattle.wit_model.specs.{Text.Text, Text.text_eq, Names.path_in, Uses.has, Uses.once}
+use Rattle.wit_model.proofs.{Chains.has_once, NameLaws.read_path_is_spelled}
+use Rattle.plan_meaning.specs.{FollowedNumbers.AreMembersIn, FollowedNumbers.IsPartIn, FollowedNumbers.IsViewIn, GatheredPlan.functions_seen}
 use Rattle.plan_meaning.specs.NumberedMembers.{Homes, HomesStand, IsMember, NumberedMember, ShowsPart, home_at, NumberedPart, interface, world}
 use Rattle.plan_meaning.specs.NumberedViews.{AreTables, NumberedFunction, NumberedSight, NumberedView, Tables, path_at, path_text, shown_function, sight_of, view_of}
 use Rattle.plan_meaning.specs.NumberedWorlds.{HasPath, NumberedInstance, are_once, instance_of, sights_of_instance}
 use Rattle.plan_meaning.proofs.NumberedWorlds.{path_is, path_number}
-use Rattle.wit_model.proofs.NameLaws.{read_path_is_spelled}
 use Rattle.plan_types.specs.Orders.{places_of_part}
 use Rattle.plan_type_laws.specs.ShownMarks.{has_no_path}
 use Rattle.comp_read.specs.Order.{is_under, once_by_path, shown_under}
-use Rattle.base_lemmas.proofs.Bools.{left_of as first_true, right_of as second_true}
-use Rattle.base_lemmas.proofs.Lists.{append_of_map, map_of_map}
-use Rattle.std.proofs.lemmas.Option.{same_Some as same-some}
+use Rattle.base_lemmas.proofs.{Bools.left_of as first_true, Bools.right_of as second_true, Lists.append_of_map, Lists.map_of_map}
+use Rattle.comp_meaning.specs.Reads as reads
 
 -- ---- paths
 

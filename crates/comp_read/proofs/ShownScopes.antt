@@ -1,41 +1,27 @@
 -- The instances of what was followed stand under the paths that the parts show, in their order.
 use Rattle.std.proofs.Common.{◌≡◌, refl, sym, ap, subst, ◌∙◌, ℕ, ◌&&◌, List, [], ◌∷◌, ◌++◌, map, Option, Some}
 use Rattle.std.specs.List.{AllZip, flat_map}
-use Rattle.wit_model.specs.Text.{Text}
-use Rattle.wit_model.specs.Names.{PackageIdentity, path_in}
-use Rattle.comp_bytes.specs.Levels.{PartType, Piece, shows, wraps}
-use Rattle.comp_bytes.specs.Reading.{◌>>=◌}
+use Rattle.wit_model.specs.{Text.Text, Names.PackageIdentity, Names.path_in}
+use Rattle.comp_bytes.specs.{Levels.PartType, Levels.Piece, Levels.shows, Levels.wraps, Reading.◌>>=◌}
 use Rattle.comp_bytes.proofs.Readers.{bind_some, when_some}
-use Rattle.comp_meaning.specs.ByLevels.{entry_scope}
-use Rattle.comp_meaning.specs.Follow.{Instance, Scope, View, each, provided}
+use Rattle.comp_meaning.specs.{ByLevels.entry_scope, Follow.Instance, Follow.Scope, Follow.View, Follow.each, Follow.provided, Rules.distinct, Rules.is_world}
 use Rattle.comp_meaning.specs.Reads.{Member, Part, are_reached, exported_view, imported_view, labelled_path}
-use Rattle.comp_meaning.specs.Rules.{distinct, is_world}
-use Rattle.read_shown.specs.Instances.{InstancesAreSeen}
-use Rattle.read_shown.specs.Parts.{named_instance}
-use Rattle.read_shown.specs.Scopes.{ScopeStands}
-use Rattle.read_shown.proofs.ByLevels.{entry_scope_stands}
-use Rattle.read_shown.proofs.Parts.{interface_shows}
-use Rattle.plan_meaning.specs.NumberedMembers.{Homes}
-use Rattle.plan_meaning.specs.NumberedViews.{Tables, path_at}
+use Rattle.read_shown.specs.{Instances.InstancesAreSeen, Parts.named_instance, Scopes.ScopeStands}
+use Rattle.read_shown.proofs.{ByLevels.entry_scope_stands, Parts.interface_shows}
+use Rattle.plan_meaning.specs.{NumberedMembers.Homes, NumberedViews.Tables, NumberedViews.path_at}
 use Rattle.plan_meaning.specs.NumberedWorlds.{NumberedInstance, NumberedScope, Shows, instance_of}
 use Rattle.read_exports.specs.declared.members.Member.{Member as KeptMember}
-use Rattle.read_parts.specs.declared.following.Followed.{Followed}
-use Rattle.read_parts.specs.declared.members.FollowedPart.{FollowedPart}
-use Rattle.read_parts.specs.declared.members.FollowedPart.TheVariants as followed
-use Rattle.read_parts.specs.declared.members.Member.{Member as FollowedMember}
+use Rattle.read_parts.specs.declared.{following.Followed.Followed, members.FollowedPart.FollowedPart, members.Member.Member as FollowedMember}
 use Rattle.read_parts.specs.Followed.{PartScope, interface, labelled_scope, member_of_scope, part_of_scope, part_scope, scopes_of, world, world_path}
 use Rattle.read_parts.specs.Members.{scope_of}
-use Rattle.read_numbers.specs.NumberedInput.{MemberShown, PartShown, tables_of}
-use Rattle.read_numbers.specs.NumberedParts.{numbered_scope}
+use Rattle.read_numbers.specs.{NumberedInput.MemberShown, NumberedInput.PartShown, NumberedInput.tables_of, NumberedParts.numbered_scope}
 use Rattle.read_numbers.specs.PlacedNumbers.{scopes_in}
 use Rattle.read_numbers.proofs.InputNumbers.{input_in_numbers}
-use Rattle.comp_read.specs.Order.{shown_under}
-use Rattle.comp_read.specs.ReadInput.{IsReadInput}
-use Rattle.comp_read.proofs.ByScopes.{scopes_found}
-use Rattle.comp_read.proofs.InterfaceViews.{each_beside}
-use Rattle.base_lemmas.proofs.Bools.{left_of as first_true, right_of as second_true}
-use Rattle.base_lemmas.proofs.Lists.{append_of_map, flat_mapped, map_of_map}
+use Rattle.comp_read.specs.{Order.shown_under, ReadInput.IsReadInput}
+use Rattle.comp_read.proofs.{ByScopes.scopes_found, InterfaceViews.each_beside}
+use Rattle.base_lemmas.proofs.{Bools.left_of as first_true, Bools.right_of as second_true, Lists.append_of_map, Lists.flat_mapped, Lists.map_of_map}
 use Rattle.base_lemmas.proofs.Options.{some_is}
+use Rattle.read_parts.specs.declared.members.FollowedPart.TheVariants as followed
 
 -- ---- one part
 

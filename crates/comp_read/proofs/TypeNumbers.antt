@@ -1,68 +1,45 @@
 -- Types are numbered in the order of the interfaces that show them.
 use Rattle.std.proofs.Common.{◌≡◌, refl, sym, ap, subst, ◌∙◌, ℕ, zero, suc, ◌+◌, ◌<◌, ◌⊎◌, inl, inr, arith, Bool, true, nat_lt, List, [], ◌∷◌, ◌++◌, map, Option, Some, slice_get}
+use Rattle.std.proofs.lemmas.{Bool.and_from as both, Bool.lt-ltb, List.append-nil, List.Elements.Contains-append_cases, List.Elements.Contains-append_left}
 use Rattle.std.specs.List.{AllByRecursion, AllZip, Contains, flat_map, list_all}
-use Rattle.std.proofs.lemmas.Bool.{and_from as both, lt-ltb}
-use Rattle.std.proofs.lemmas.List.{append-nil}
-use Rattle.std.proofs.lemmas.List.Elements.{Contains-append_cases, Contains-append_left}
-use Rattle.wit_model.specs.Text.{Text}
-use Rattle.wit_model.specs.Uses.{once}
+use Rattle.wit_model.specs.{Text.Text, Uses.once}
 use Rattle.wit_model.proofs.Elements.{contains-get, none-in}
 use Rattle.comp_bytes.specs.Levels.{Piece}
 use Rattle.comp_bytes.proofs.Readers.{bind_some}
 use Rattle.comp_meaning.specs.Follow.{each}
-use Rattle.comp_meaning.specs.Reads as reads
-use Rattle.plan_meaning.specs.FollowedNumbers.{AreMembersIn, IsPartIn, IsViewIn}
+use Rattle.plan_meaning.specs.{FollowedNumbers.AreMembersIn, FollowedNumbers.IsPartIn, FollowedNumbers.IsViewIn, NumberedRules.Fact, PlanRules.are_rising}
 use Rattle.plan_meaning.specs.NumberedMembers.{Homes, IsMember, NumberedMember}
-use Rattle.plan_meaning.specs.NumberedRules.{Fact}
 use Rattle.plan_meaning.specs.NumberedViews.{NumberedSight, NumberedSlot, NumberedType, NumberedView, Tables, first_at, path_at, resource, value}
-use Rattle.plan_meaning.specs.NumberedWorlds.{HasPath, NumberedInstance, NumberedScope}
-use Rattle.plan_meaning.specs.Plan.{PlannedInterface, numbers_of}
-use Rattle.plan_meaning.specs.PlanRules.{are_rising}
+use Rattle.plan_meaning.specs.{NumberedWorlds.HasPath, NumberedWorlds.NumberedInstance, NumberedWorlds.NumberedScope, Plan.PlannedInterface, Plan.numbers_of}
 use Rattle.plan_meaning.specs.Renumbering.{IsPart, a_primitive, a_shape}
-use Rattle.plan_parts.specs.Interfaces.{slot_part}
-use Rattle.plan_parts.specs.Kept.{AreMarked}
+use Rattle.plan_parts.specs.{Interfaces.slot_part, Kept.AreMarked}
 use Rattle.plan_types.specs.Orders.{joined_all, places_of_part}
 use Rattle.plan_package.specs.Views.{views_of_members, views_of_part, whole_view}
 use Rattle.plan_package.specs.WholeInterfaces.{Home, ListsNumber, PlansPlace}
 use Rattle.plan_laws.specs.OneWorld.{AreOwnInterfaces}
-use Rattle.plan_laws.proofs.FirstViews.{first_is}
-use Rattle.plan_laws.proofs.Inside.{flat_cases}
+use Rattle.plan_laws.proofs.{FirstViews.first_is, Inside.flat_cases}
 use Rattle.read_exports.specs.Members.{numbered_member, numbered_members, numbered_part}
-use Rattle.read_exports.specs.declared.members.Member.{Member}
-use Rattle.read_exports.specs.declared.members.Part.{Part}
-use Rattle.read_exports.specs.declared.members.Part.TheVariants as parts
-use Rattle.read_rules.specs.Reached.{numbered_import}
-use Rattle.read_rules.specs.Scopes.{numbered_scope}
+use Rattle.read_exports.specs.declared.members.{Member.Member, Part.Part}
+use Rattle.read_rules.specs.{Reached.numbered_import, Scopes.numbered_scope}
 use Rattle.read_rules.specs.declared.scopes.Scope.{Scope}
 use Rattle.read_members.specs.PartMembers.{IsMemberOf, IsPartOf}
-use Rattle.read_parts.specs.declared.following.Followed.{Followed}
-use Rattle.read_parts.specs.declared.members.FollowedPart.{FollowedPart}
-use Rattle.read_parts.specs.declared.members.FollowedPart.TheVariants as followed
-use Rattle.read_parts.specs.declared.members.Member.{Member as FollowedMember}
-use Rattle.read_parts.specs.Followed.{labelled_scope, member_of_scope, scopes_of}
-use Rattle.read_parts.specs.Members.{scope_of}
-use Rattle.read_numbers.specs.NumberedInput.{MemberShown, tables_of}
-use Rattle.read_numbers.specs.NumberedParts.{numbered_scope as followed_scope}
+use Rattle.read_parts.specs.declared.{following.Followed.Followed, members.FollowedPart.FollowedPart, members.Member.Member as FollowedMember}
+use Rattle.read_parts.specs.{Followed.labelled_scope, Followed.member_of_scope, Followed.scopes_of, Members.scope_of}
+use Rattle.read_numbers.specs.{NumberedInput.MemberShown, NumberedInput.tables_of, NumberedParts.numbered_scope as followed_scope}
 use Rattle.read_numbers.specs.PlacedNumbers.{part_of, IsFirstSeen, IsInstanceAt, IsNumbered, scopes_in}
 use Rattle.read_numbers.proofs.InputNumbers.{input_in_numbers}
-use Rattle.comp_read.specs.Order.{shown_under}
-use Rattle.comp_read.specs.ReadInput.{IsReadInput, ViewsObey}
-use Rattle.comp_read.proofs.ByScopes.{scopes_found}
-use Rattle.comp_read.proofs.CountedUp.{IsBeforeIn, in_earlier, in_same}
-use Rattle.comp_read.proofs.Inputs.{read_members_are_in}
-use Rattle.comp_read.proofs.InterfaceViews.{each_beside}
-use Rattle.comp_read.proofs.Members.{instance_shown, placed, tables}
-use Rattle.comp_read.proofs.NewNumbers.{Pairs, StandNew, joined_pairs, new_flat}
-use Rattle.comp_read.proofs.Ordered.{instance_of_any}
-use Rattle.comp_read.proofs.OwnViews.{view_among}
-use Rattle.comp_read.proofs.ShownOrder.{part_paths}
+use Rattle.comp_read.specs.{Order.shown_under, ReadInput.IsReadInput, ReadInput.ViewsObey}
+use Rattle.comp_read.proofs.{ByScopes.scopes_found, Ordered.instance_of_any, ShownOrder.part_paths}
+use Rattle.comp_read.proofs.{CountedUp.IsBeforeIn, CountedUp.in_earlier, CountedUp.in_same, Views.instance_placed, Views.same_numbers, Views.told_same}
+use Rattle.comp_read.proofs.{Inputs.read_members_are_in, NewNumbers.Pairs, NewNumbers.StandNew, NewNumbers.joined_pairs, NewNumbers.new_flat}
+use Rattle.comp_read.proofs.{InterfaceViews.each_beside, Members.instance_shown, Members.placed, Members.tables, OwnViews.view_among, WorldOrder.joined_behind}
 use Rattle.comp_read.proofs.ShownScopes.{one_paths, one_stands, part_named, scope_in, scope_places}
-use Rattle.comp_read.proofs.Views.{instance_placed, same_numbers, told_same}
-use Rattle.comp_read.proofs.WorldOrder.{joined_behind}
-use Rattle.base_lemmas.proofs.Bools.{left_of as first_true, right_of as second_true}
+use Rattle.base_lemmas.proofs.{Bools.left_of as first_true, Bools.right_of as second_true, Lists.flat_mapped, Lists.get_back, Lists.mapped_get, Lists.one_item}
 use Rattle.base_lemmas.proofs.Elements.{all-contained, all_at, all_both, all_pass, contains-later, contains-map, first-contained, get-contains, map_from, zip_at, zip_at_right, zip_each}
-use Rattle.base_lemmas.proofs.Lists.{flat_mapped, get_back, mapped_get, one_item}
 use Rattle.base_lemmas.proofs.Options.{some_is}
+use Rattle.comp_meaning.specs.Reads as reads
+use Rattle.read_exports.specs.declared.members.Part.TheVariants as parts
+use Rattle.read_parts.specs.declared.members.FollowedPart.TheVariants as followed
 
 -- ---- numbers that rise
 

@@ -1,50 +1,36 @@
 -- The names of each view stand in the table in the view's order, each behind what it is declared as, where views of one place agree.
 use Rattle.std.proofs.Common.{◌≡◌, refl, sym, ap, subst, ◌∙◌, ℕ, ◌+◌, ◌<◌, Bool, true, ◌&&◌, ◌==◌, List, [], ◌∷◌, ◌++◌, length, map, Option, Some, None, slice_get}
+use Rattle.std.proofs.{lemmas.Bool.eq-eqb, lemmas.Bool.eqb-true, ByRecursion.All-weaker as recursion_weaker, lemmas.Map.Keys.any_passes_from_place as get_any}
 use Rattle.std.specs.List.{AllByRecursion, AllZip, Contains, list_all, list_any}
-use Rattle.std.proofs.lemmas.Bool.{eq-eqb, eqb-true}
-use Rattle.wit_model.specs.Meaning.{FunctionMeaning}
-use Rattle.wit_model.specs.Names.{is_label}
-use Rattle.wit_model.specs.Text.{Text}
-use Rattle.wit_model.specs.Tree.{Place}
+use Rattle.wit_model.specs.{Meaning.FunctionMeaning, Names.is_label, Text.Text, Tree.Place}
 use Rattle.comp_bytes.specs.Levels.{Piece}
-use Rattle.comp_meaning.specs.Follow as follow
-use Rattle.comp_meaning.specs.Reads as reads
-use Rattle.comp_meaning.specs.Rules as rules
 use Rattle.comp_meaning.specs.Rules.{distinct}
 use Rattle.plan_meaning.specs.FollowedNumbers.{IsCalledIn, IsMetFrom, IsShownIn, IsSlotOf, IsViewIn}
-use Rattle.plan_meaning.specs.NumberedMembers.{Homes, sights_of_members}
+use Rattle.plan_meaning.specs.{NumberedMembers.Homes, NumberedMembers.sights_of_members, PlanRules.are_rising, Shapes.named_shape}
 use Rattle.plan_meaning.specs.NumberedRules.{Fact, is_function, is_interface, is_type, resources_of}
 use Rattle.plan_meaning.specs.NumberedViews.{AllOf, AreTables, FunctionPasses, NumberedFunction, NumberedSight, NumberedSlot, NumberedType, NumberedView, PartsOf, Tables, TypePasses, function_at, path_at, resource, shown_type, value, view_of}
 use Rattle.plan_meaning.specs.NumberedWorlds.{HasPath, NumberedInstance, NumberedScope, instance_of}
-use Rattle.plan_meaning.specs.PlanRules.{are_rising}
-use Rattle.plan_meaning.specs.Shapes.{named_shape}
 use Rattle.plan_meaning.proofs.Lists.{any_get}
 use Rattle.read_parts.specs.declared.following.Followed.{Followed}
 use Rattle.read_numbers.specs.NumberedInput.{tables_of}
 use Rattle.read_numbers.specs.PlacedNumbers.{part_of, IsFirstSeen, IsInstanceAt, IsMetPart, IsNumbered, IsPlacedView, IsRisingView, scopes_in}
 use Rattle.plan_type_laws.proofs.PartPlaces.{parts_weaker}
 use Rattle.read_exports.specs.Members.{numbered_members, numbered_part}
-use Rattle.read_exports.specs.declared.members.Member.{Member}
-use Rattle.read_exports.specs.declared.members.Part.{Part}
-use Rattle.read_exports.specs.declared.members.Part.TheVariants as parts
-use Rattle.read_rules.specs.Reached.{numbered_import}
-use Rattle.read_rules.specs.Scopes.{numbered_scope}
-use Rattle.read_rules.specs.Views.{numbered_view}
+use Rattle.read_exports.specs.declared.members.{Member.Member, Part.Part}
+use Rattle.read_rules.specs.{Reached.numbered_import, Scopes.numbered_scope, Views.numbered_view}
 use Rattle.plan_package.specs.Views.{views_of_part}
 use Rattle.plan_laws.specs.FirstViews.{told}
-use Rattle.plan_laws.proofs.FirstViews.{one_told, sight_there}
-use Rattle.plan_laws.proofs.ShownRules.{instances_obey}
+use Rattle.plan_laws.proofs.{FirstViews.one_told, FirstViews.sight_there, ShownRules.instances_obey}
 use Rattle.comp_read.specs.ReadInput.{IsReadInput, ViewsObey}
-use Rattle.comp_read.proofs.InterfaceViews.{IsViewed}
-use Rattle.comp_read.proofs.Lists.{IsFirstPassing, first_passing}
+use Rattle.comp_read.proofs.{InterfaceViews.IsViewed, Lists.IsFirstPassing, Lists.first_passing}
 use Rattle.comp_read.proofs.Members.{IsBoth, both_there, interface_path, part_viewed, placed, scope_in, tables, view_among, world_read, world_scope}
 use Rattle.base_lemmas.proofs.Bools.{right_of as second_true}
-use Rattle.base_lemmas.proofs.Elements.{all-contained, contains-map, get-contains}
-use Rattle.base_lemmas.proofs.Lists.{map_of_map, one_item}
-use Rattle.base_lemmas.proofs.Numbers.{same-number}
-use Rattle.std.proofs.ByRecursion.{All-weaker as recursion_weaker}
-use Rattle.std.proofs.lemmas.Map.Keys.{any_passes_from_place as get_any}
+use Rattle.base_lemmas.proofs.{Elements.all-contained, Elements.contains-map, Elements.get-contains, Lists.map_of_map, Lists.one_item, Numbers.same-number}
 use Rattle.read_shown.proofs.Agreement.{distinct_front}
+use Rattle.comp_meaning.specs.Follow as follow
+use Rattle.comp_meaning.specs.Reads as reads
+use Rattle.comp_meaning.specs.Rules as rules
+use Rattle.read_exports.specs.declared.members.Part.TheVariants as parts
 
 -- ---- names of types
 

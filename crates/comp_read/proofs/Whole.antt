@@ -1,48 +1,32 @@
 -- A package that was followed is the input of the laws of packages.
 use Rattle.std.proofs.Common.{◌≡◌, refl, ap, ◌∙◌, ℕ, zero, suc, true, false, ◌&&◌, ◌==◌, List, [], ◌∷◌, map, Option, Some, None, slice_get, unwrap_or}
-use Rattle.std.specs.Prelude.{nat_le, nat_lt}
-use Rattle.std.specs.List.{AllByRecursion, AllZip, list_all}
 use Rattle.std.proofs.lemmas.Bool.{eqb-true, ltb-true}
-use Rattle.wit_model.specs.Names.{PackageIdentity}
-use Rattle.wit_model.specs.Text.{Text}
+use Rattle.std.specs.{Prelude.nat_le, Prelude.nat_lt, List.AllByRecursion, List.AllZip, List.list_all}
+use Rattle.wit_model.specs.{Names.PackageIdentity, Text.Text, Tree.Form}
 use Rattle.comp_bytes.specs.Levels.{Piece}
 use Rattle.comp_meaning.specs.Follow.{provided}
-use Rattle.comp_meaning.specs.Reads as reads
-use Rattle.read_shown.specs.Kinds.{NamesHaveKinds}
-use Rattle.read_shown.specs.Parts.{MemberStands}
+use Rattle.read_shown.specs.{Kinds.NamesHaveKinds, Parts.MemberStands}
 use Rattle.read_shown.proofs.MeaningKinds.{packages_have_kinds}
 use Rattle.plan_meaning.specs.NumberedMembers.{Homes, IsKnownSight, IsMember, NumberedMember, are_interfaces, are_package, package_shown, sights_of_members, stands_at_top}
-use Rattle.plan_meaning.specs.NumberedRules.{Fact}
-use Rattle.plan_meaning.specs.NumberedViews.{NumberedSight, Tables, agree_in_numbers}
+use Rattle.plan_meaning.specs.{NumberedRules.Fact, NumberedViews.NumberedSight, NumberedViews.Tables, NumberedViews.agree_in_numbers}
 use Rattle.plan_meaning.proofs.NumberedMembers.{packages_in_numbers}
-use Rattle.read_parts.specs.declared.following.Followed.{Followed}
-use Rattle.read_parts.specs.declared.members.FollowedPart.{FollowedPart}
-use Rattle.read_parts.specs.declared.members.FollowedPart.TheVariants as followed
+use Rattle.read_parts.specs.declared.{following.Followed.Followed, members.FollowedPart.FollowedPart}
 use Rattle.read_members.specs.PartMembers.{IsMemberOf, IsPartOf}
-use Rattle.read_numbers.specs.FactLaws.{known_by}
-use Rattle.read_numbers.specs.KnownScopes.{AreKnown}
-use Rattle.read_numbers.specs.NumberedInput.{tables_of}
-use Rattle.read_numbers.specs.NumberedParts.{numbered_scope as followed_scope}
+use Rattle.read_numbers.specs.{FactLaws.known_by, KnownScopes.AreKnown, NumberedInput.tables_of, NumberedParts.numbered_scope as followed_scope}
 use Rattle.read_homes.specs.Homes.{IsHomeOf}
 use Rattle.read_exports.specs.Members.{numbered_member, numbered_members, numbered_part}
-use Rattle.read_exports.specs.declared.members.Member.{Member}
-use Rattle.read_exports.specs.declared.members.Part.{Part}
-use Rattle.read_exports.specs.declared.members.Part.TheVariants as parts
-use Rattle.read_rules.specs.Reached.{numbered_import}
-use Rattle.read_rules.specs.Views.{numbered_view}
+use Rattle.read_exports.specs.declared.members.{Member.Member, Part.Part}
+use Rattle.read_rules.specs.{Reached.numbered_import, Views.numbered_view}
 use Rattle.read_rules.specs.declared.tables.Fact.{Fact as KeptFact}
-use Rattle.wit_model.specs.Tree.{Form}
-use Rattle.plan_laws.specs.Whole.{IsPackageInput}
-use Rattle.plan_laws.specs.WholeReasonsForeign.{PartIsReached}
+use Rattle.plan_laws.specs.{Whole.IsPackageInput, WholeReasonsForeign.PartIsReached}
 use Rattle.comp_read.specs.InputLaws.{PackageViewsObey, ReadIsPackageInput, ReadLengthsFit, ReadNamesHaveKinds, ReadPartsAreReached}
 use Rattle.comp_read.specs.ReadInput.{AreHomesOf, IsReadInput, ViewsObey}
-use Rattle.comp_read.proofs.Inputs.{is_input}
-use Rattle.comp_read.proofs.InterfaceViews.{shown_as}
-use Rattle.comp_read.proofs.Lists.{all_beside}
-use Rattle.comp_read.proofs.Members.{members_stand, tables}
-use Rattle.comp_read.proofs.Ordered.{parts_known, sights_known}
-use Rattle.comp_read.proofs.Places.{are_placed}
+use Rattle.comp_read.proofs.{Inputs.is_input, Lists.all_beside}
+use Rattle.comp_read.proofs.{InterfaceViews.shown_as, Members.members_stand, Members.tables, Ordered.parts_known, Ordered.sights_known, Places.are_placed}
 use Rattle.base_lemmas.proofs.Bools.{left_of as first_true, right_of as second_true}
+use Rattle.comp_meaning.specs.Reads as reads
+use Rattle.read_parts.specs.declared.members.FollowedPart.TheVariants as followed
+use Rattle.read_exports.specs.declared.members.Part.TheVariants as parts
 
 -- ---- lengths
 

@@ -1,57 +1,36 @@
 -- A world by itself that was followed and read is, with the interfaces of its package that it shows, the input of the laws of packages.
 use Rattle.std.proofs.Common.{◌≡◌, refl, sym, ap, subst, ◌∙◌, ℕ, suc, arith, List, [], ◌∷◌, ◌++◌, filter, map, Some, slice_get}
-use Rattle.std.specs.Borrow.{Bor}
-use Rattle.std.specs.List.{AllByRecursion, AllZip, Contains, flat_map}
-use Rattle.std.proofs.lemmas.List.{append-nil}
-use Rattle.std.proofs.lemmas.List.Elements.{Contains-append_left}
-use Rattle.wit_model.specs.Meaning.{WorldPackage}
-use Rattle.wit_model.specs.Names.{PackageIdentity}
-use Rattle.wit_model.specs.Text.{Text}
-use Rattle.comp_bytes.specs.Levels.{Piece}
-use Rattle.comp_bytes.specs.Reading.{◌>>=◌}
-use Rattle.comp_meaning.specs.ByLevels.{world_of_pieces}
-use Rattle.comp_meaning.specs.Follow as follow
-use Rattle.comp_meaning.specs.Follow.{each, provided}
-use Rattle.comp_meaning.specs.Reads as reads
-use Rattle.comp_meaning.specs.Reads.{world_of_members, world_with}
-use Rattle.read_shown.specs.Kinds.{NamesHaveKinds}
-use Rattle.read_shown.specs.Parts.{MemberStands}
+use Rattle.std.proofs.lemmas.{List.append-nil, List.Elements.Contains-append_left}
+use Rattle.std.specs.{Borrow.Bor, List.AllByRecursion, List.AllZip, List.Contains, List.flat_map}
+use Rattle.wit_model.specs.{Meaning.WorldPackage, Names.PackageIdentity, Text.Text}
+use Rattle.comp_bytes.specs.{Levels.Piece, Reading.◌>>=◌}
+use Rattle.comp_meaning.specs.{ByLevels.world_of_pieces, Follow.each, Follow.provided, Reads.world_of_members, Reads.world_with}
+use Rattle.read_shown.specs.{Kinds.NamesHaveKinds, Parts.MemberStands}
 use Rattle.read_shown.proofs.MeaningKinds.{worlds_have_kinds}
-use Rattle.plan_meaning.specs.FollowedNumbers.{IsPartIn, IsViewIn}
-use Rattle.plan_meaning.specs.NumberedMembers.{Homes, IsKnownSight, IsMember, NumberedMember, NumberedPart, ShowsPart, interface, sights_of_members, world, world_shown}
-use Rattle.plan_meaning.specs.NumberedRules.{Fact}
+use Rattle.plan_meaning.specs.{FollowedNumbers.IsPartIn, FollowedNumbers.IsViewIn, NumberedRules.Fact}
+use Rattle.plan_meaning.specs.NumberedMembers.{Homes, IsKnownSight, IsMember, NumberedMember, NumberedPart, ShowsPart, interface, sights_of_members, world, world_shown, are_interfaces}
 use Rattle.plan_meaning.specs.NumberedViews.{NumberedSight, NumberedView, Tables, agree_in_numbers}
-use Rattle.plan_meaning.specs.NumberedMembers.{are_interfaces}
 use Rattle.plan_meaning.specs.NumberedWorlds.{NumberedInstance, NumberedScope, Shows, are_once, sights_of_scope}
 use Rattle.read_parts.specs.declared.following.Followed.{Followed}
-use Rattle.read_numbers.specs.FactLaws.{known_by}
-use Rattle.read_numbers.specs.NumberedInput.{tables_of}
+use Rattle.read_numbers.specs.{FactLaws.known_by, NumberedInput.tables_of}
 use Rattle.plan_type_laws.specs.ShownMarks.{ArePlaced, PartNames, has_no_path, places_of_part}
 use Rattle.read_exports.specs.Members.{numbered_member, numbered_members, numbered_part}
-use Rattle.read_exports.specs.declared.members.Member.{Member}
-use Rattle.read_exports.specs.declared.members.Part.{Part}
-use Rattle.read_exports.specs.declared.members.Part.TheVariants as parts
+use Rattle.read_exports.specs.declared.members.{Member.Member, Part.Part}
 use Rattle.read_rules.specs.Scopes.{numbered_scope}
-use Rattle.read_rules.specs.declared.scopes.Scope.{Scope}
-use Rattle.read_rules.specs.declared.tables.Fact.{Fact as KeptFact}
-use Rattle.read_members.specs.DecidedWorlds.{IsWorldDecided}
-use Rattle.read_members.specs.ReadMembers.{lent_member}
+use Rattle.read_rules.specs.declared.{scopes.Scope.Scope, tables.Fact.Fact as KeptFact}
+use Rattle.read_members.specs.{DecidedWorlds.IsWorldDecided, ReadMembers.lent_member}
 use Rattle.read_members.proofs.DecidedWorldLaws.{by_members, worlds_are_decided}
-use Rattle.plan_laws.specs.ShownNames.{IsInput, PartDeclaresNames}
-use Rattle.plan_laws.specs.Whole.{IsPackageInput, PartIsKnown}
+use Rattle.plan_laws.specs.{ShownNames.IsInput, ShownNames.PartDeclaresNames, Whole.IsPackageInput, Whole.PartIsKnown}
 use Rattle.plan_laws.proofs.ShownRules.{all_of}
-use Rattle.comp_read.specs.ReadInput.{IsReadInput, ViewsObey}
+use Rattle.comp_read.specs.{ReadInput.IsReadInput, ReadInput.ViewsObey, ReadWorlds.AreBeside, ReadWorlds.IsReadWorld}
 use Rattle.comp_read.proofs.Inputs.{is_input}
-use Rattle.comp_read.proofs.Members.{members_stand}
-use Rattle.comp_read.proofs.Ordered.{parts_known, sights_known}
-use Rattle.comp_read.proofs.Places.{are_placed}
-use Rattle.comp_read.proofs.ReadPackages.{read_members_are_input}
-use Rattle.comp_read.proofs.Whole.{alone, lengths_fit}
-use Rattle.comp_read.specs.ReadWorlds.{AreBeside, IsReadWorld}
-use Rattle.comp_read.proofs.OwnTrees.{own_members, own_tree, world_members_stand, world_names_have_kinds}
-use Rattle.comp_read.proofs.OwnViews.{own_at, sight_among}
-use Rattle.comp_read.proofs.WorldPackage.{agree, interfaces, obeys_package}
+use Rattle.comp_read.proofs.{Members.members_stand, OwnTrees.own_members, OwnTrees.own_tree, OwnTrees.world_members_stand, OwnTrees.world_names_have_kinds}
+use Rattle.comp_read.proofs.{Ordered.parts_known, Ordered.sights_known, WorldPackage.agree, WorldPackage.interfaces, WorldPackage.obeys_package}
+use Rattle.comp_read.proofs.{Places.are_placed, ReadPackages.read_members_are_input, Whole.alone, Whole.lengths_fit, OwnViews.own_at, OwnViews.sight_among}
 use Rattle.base_lemmas.proofs.Elements.{all_at, contains-map}
+use Rattle.comp_meaning.specs.Follow as follow
+use Rattle.comp_meaning.specs.Reads as reads
+use Rattle.read_exports.specs.declared.members.Part.TheVariants as parts
 
 -- ---- interfaces without imports
 

@@ -1,28 +1,19 @@
 -- The labels of a world by itself and of the interfaces of its package that it shows differ.
 use Rattle.std.proofs.Common.{◌≡◌, refl, sym, ap, subst, ◌∙◌, ℕ, arith, Bool, true, false, not, ◌&&◌, ◌==◌, List, [], ◌∷◌, ◌++◌, map, Some, slice_get}
-use Rattle.std.specs.List.{Contains, flat_map, list_any}
-use Rattle.std.specs.Option.{option_map_or}
-use Rattle.wit_model.specs.Names.{PackageIdentity, is_label, path_in}
-use Rattle.wit_model.specs.Text.{Text, text_eq}
-use Rattle.wit_model.specs.Uses.{has}
-use Rattle.wit_model.proofs.Elements.{contains-flat, contains-get, contains-has}
+use Rattle.std.proofs.lemmas.{Bool.and_from as both, Map.Keys.any_passes_from_place as get_any, Option.same_Some as same-some}
+use Rattle.std.specs.{List.Contains, List.flat_map, List.list_any, Option.option_map_or}
+use Rattle.wit_model.specs.{Names.PackageIdentity, Names.is_label, Names.path_in, Text.Text, Text.text_eq, Uses.has}
+use Rattle.wit_model.proofs.{Elements.contains-flat, Elements.contains-get, Elements.contains-has, TextLemmas.text_alike as same_text, TextLemmas.text_same}
 use Rattle.wit_model.proofs.NameLaws.{read_path_is_spelled}
 use Rattle.comp_meaning.specs.Rules.{distinct}
 use Rattle.plan_meaning.specs.NumberedMembers.{Homes, HomesStand, NumberedMember, home_at, is_named_in, is_one_world}
-use Rattle.plan_meaning.specs.NumberedRules.{Fact}
-use Rattle.plan_meaning.specs.NumberedViews.{AreTables, NumberedSight, Tables, path_at}
+use Rattle.plan_meaning.specs.{NumberedRules.Fact, NumberedViews.AreTables, NumberedViews.NumberedSight, NumberedViews.Tables, NumberedViews.path_at}
 use Rattle.plan_meaning.specs.NumberedWorlds.{HasPath, NumberedScope, are_once, sights_of_scope}
 use Rattle.plan_meaning.proofs.Lists.{any_get, no_true}
 use Rattle.plan_laws.specs.OneWorld.{AreOwnInterfaces, place_of_part}
-use Rattle.comp_read.proofs.OwnViews.{own_at}
-use Rattle.comp_read.proofs.WorldPackage.{not_taken}
+use Rattle.comp_read.proofs.{OwnViews.own_at, WorldPackage.not_taken}
 use Rattle.base_lemmas.proofs.Bools.{left_of as first_true, right_of as second_true}
-use Rattle.base_lemmas.proofs.Elements.{contains-later, contains-one, get-contains, map_from as from_map}
-use Rattle.base_lemmas.proofs.Numbers.{same-number}
-use Rattle.std.proofs.lemmas.Bool.{and_from as both}
-use Rattle.std.proofs.lemmas.Map.Keys.{any_passes_from_place as get_any}
-use Rattle.std.proofs.lemmas.Option.{same_Some as same-some}
-use Rattle.wit_model.proofs.TextLemmas.{text_alike as same_text, text_same}
+use Rattle.base_lemmas.proofs.{Elements.contains-later, Elements.contains-one, Elements.get-contains, Elements.map_from as from_map, Numbers.same-number}
 
 -- the text isn't one of these
 not_among : (l : Text) (ls : List Text) → ((x : Text) → Contains ls x → l ≡ x → ⊥) → not (list_any (text_eq l) ls) ≡ true

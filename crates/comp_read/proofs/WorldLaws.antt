@@ -1,30 +1,17 @@
 -- What is built of the plan of one world.
 use Rattle.std.proofs.Common.{◌≡◌, ap, subst, ◌∙◌, ℕ, ◌≤◌, List, length, Option, Some, slice_get}
-use Rattle.wit_model.specs.declared.model.Resolve.{Resolve}
-use Rattle.wit_model.specs.declared.model.World.{World}
-use Rattle.wit_model.specs.Lookup.{world_at}
-use Rattle.wit_model.specs.Meaning.{WorldPackage}
-use Rattle.wit_model.specs.Meant.{MeantWorld}
-use Rattle.wit_model.specs.Names.{PackageIdentity}
-use Rattle.wit_model.specs.Valid.{IsValid}
-use Rattle.plan_meaning.specs.Built.{IsBuilt, planned_world}
-use Rattle.plan_meaning.specs.NumberedViews.{Tables}
-use Rattle.plan_meaning.specs.Plan.{Plan, PlannedWorld}
-use Rattle.plan_meaning.specs.PlanMeaning.{plan_world_meaning}
+use Rattle.wit_model.specs.declared.model.{Resolve.Resolve, World.World}
+use Rattle.wit_model.specs.{Lookup.world_at, Meaning.WorldPackage, Meant.MeantWorld, Names.PackageIdentity, Valid.IsValid}
+use Rattle.plan_meaning.specs.{Built.IsBuilt, Built.planned_world, NumberedViews.Tables, Plan.Plan, Plan.PlannedWorld, PlanMeaning.plan_world_meaning}
 use Rattle.plan_meaning.specs.PlanRules.{IsPlan}
 use Rattle.plan_meaning.proofs.NothingElse.{world_holds_alone}
-use Rattle.plan_build.specs.Buildable.{IsBuildable}
-use Rattle.plan_build.specs.MeansPlan.{MeansPlan}
+use Rattle.plan_build.specs.{Buildable.IsBuildable, MeansPlan.MeansPlan}
 use Rattle.plan_build.proofs.BuildableLaws.{plans_are_buildable}
 use Rattle.read_exports.specs.declared.members.Member.{Member}
 use Rattle.plan_types.specs.Used.{TypesFall}
-use Rattle.plan_package.specs.PlanWhole.{PlansWhole}
-use Rattle.plan_package.specs.WholeInterfaces.{Home}
-use Rattle.comp_read.specs.DecodedWorlds.{HoldsWorldFound}
-use Rattle.comp_read.specs.Planned.{IsBuiltOf, MeansWorldFound, WorldPlansMean}
-use Rattle.comp_read.specs.Order.{PackagesRise}
-use Rattle.comp_read.proofs.BuildLaws.{few_built}
-use Rattle.comp_read.proofs.WorldOrder.{built_rise}
+use Rattle.plan_package.specs.{PlanWhole.PlansWhole, WholeInterfaces.Home}
+use Rattle.comp_read.specs.{DecodedWorlds.HoldsWorldFound, Planned.IsBuiltOf, Planned.MeansWorldFound, Planned.WorldPlansMean, Order.PackagesRise}
+use Rattle.comp_read.proofs.{BuildLaws.few_built, WorldOrder.built_rise}
 use Rattle.base_lemmas.proofs.Lists.{get_back}
 use Rattle.wit_model.proofs.RulesLemmas.{is_id_some as id_is}
 

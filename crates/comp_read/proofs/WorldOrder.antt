@@ -1,43 +1,29 @@
 -- The order of the interfaces of a world's package, in its plan and in what is built of it.
 use Rattle.std.proofs.Common.{◌≡◌, refl, sym, ap, subst, ◌∙◌, ℕ, zero, suc, Bool, true, false, not, ◌&&◌, ◌||◌, ◌==◌, cond, List, [], ◌∷◌, ◌++◌, map, Option, Some, None, slice_get, unwrap_or, option_map}
-use Rattle.std.proofs.lemmas.Bool.{eqb-true, and_from as both}
-use Rattle.std.proofs.lemmas.Option.{slice_get-map}
-use Rattle.std.specs.List.{AllByRecursion, AllZip, filter, flat_map, list_all}
-use Rattle.std.specs.Option.{option_map_or}
-use Rattle.wit_model.specs.declared.model.InterfaceId.{InterfaceId}
-use Rattle.wit_model.specs.declared.model.Package.{Package}
-use Rattle.wit_model.specs.declared.model.Resolve.{Resolve}
-use Rattle.wit_model.specs.Lookup.{package_at}
-use Rattle.wit_model.specs.Names.{PackageIdentity}
-use Rattle.wit_model.specs.Text.{Text, text_of}
-use Rattle.wit_model.specs.Uses.{has, once}
+use Rattle.std.proofs.lemmas.{Bool.eqb-true, Bool.and_from as both, Option.slice_get-map}
+use Rattle.std.specs.{List.AllByRecursion, List.AllZip, List.filter, List.flat_map, List.list_all, Option.option_map_or}
+use Rattle.wit_model.specs.declared.model.{InterfaceId.InterfaceId, Package.Package, Resolve.Resolve}
+use Rattle.wit_model.specs.{Lookup.package_at, Names.PackageIdentity, Text.Text, Text.text_of, Uses.has, Uses.once}
 use Rattle.wit_model.proofs.Chains.{has_once}
-use Rattle.plan_meaning.specs.Built.{IsBuilt, planned_package}
+use Rattle.plan_meaning.specs.{Built.IsBuilt, Built.planned_package, NumberedViews.NumberedSight, NumberedViews.Tables, NumberedViews.path_at, Plan.Plan}
 use Rattle.plan_meaning.specs.NumberedMembers.{Homes, NumberedMember, NumberedPart, home_at, is_of_package}
-use Rattle.plan_meaning.specs.NumberedViews.{NumberedSight, Tables, path_at}
 use Rattle.plan_meaning.specs.NumberedWorlds.{NumberedInstance, sights_of_instance}
-use Rattle.plan_meaning.specs.Plan.{Plan}
 use Rattle.plan_types.specs.Orders.{joined, joined_all, places_of_part}
 use Rattle.plan_types.proofs.OrderLaws.{joined_both}
-use Rattle.plan_package.specs.PlanWhole.{places_in, PlansWhole}
-use Rattle.plan_package.specs.WholeInterfaces.{Home}
+use Rattle.plan_package.specs.{PlanWhole.places_in, PlanWhole.PlansWhole, WholeInterfaces.Home}
 use Rattle.plan_package.specs.WholePackages.{PlansPackage, another, entries_from, interface_in_part, interfaces_in, the_main}
 use Rattle.plan_laws.specs.OneWorld.{AreOwnInterfaces, IsOwnInterface, place_of_part}
 use Rattle.plan_laws.proofs.PlaceNumbers.{IsOnce, all_once, none_twice}
 use Rattle.read_homes.specs.Homes.{IsHomeOf}
 use Rattle.read_exports.specs.Members.{numbered_members, numbered_part}
-use Rattle.read_exports.specs.declared.members.Member.{Member}
-use Rattle.read_exports.specs.declared.members.Part.{Part}
-use Rattle.read_exports.specs.declared.members.Part.TheVariants as parts
+use Rattle.read_exports.specs.declared.members.{Member.Member, Part.Part}
 use Rattle.read_rules.specs.Scopes.{numbered_scope}
 use Rattle.read_rules.specs.declared.scopes.Scope.{Scope}
 use Rattle.comp_read.specs.Order.{ListByNumber, OthersListByNumber, OthersRise, PackagesRise, numbers_in, rise}
-use Rattle.comp_read.specs.OwnMembers.{StandAsShown, places_of}
-use Rattle.comp_read.specs.ReadInput.{AreHomesOf}
-use Rattle.comp_read.proofs.OwnOrder.{once_more}
-use Rattle.comp_read.proofs.Rising.{listed_rise, numbers, other_rises}
-use Rattle.base_lemmas.proofs.Lists.{map_of_map}
-use Rattle.base_lemmas.proofs.Numbers.{same-number}
+use Rattle.comp_read.specs.{OwnMembers.StandAsShown, OwnMembers.places_of, ReadInput.AreHomesOf}
+use Rattle.comp_read.proofs.{OwnOrder.once_more, Rising.listed_rise, Rising.numbers, Rising.other_rises}
+use Rattle.base_lemmas.proofs.{Lists.map_of_map, Numbers.same-number}
+use Rattle.read_exports.specs.declared.members.Part.TheVariants as parts
 
 -- ---- numbers that pass a test, each once
 

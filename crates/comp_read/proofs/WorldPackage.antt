@@ -1,22 +1,16 @@
 -- A world by itself and the interfaces of its package that it shows obey the rules on a package.
 use Rattle.std.proofs.Common.{◌≡◌, refl, sym, ap, ◌∙◌, ℕ, Bool, true, false, not, ◌&&◌, ◌||◌, ◌==◌, List, [], ◌∷◌, ◌++◌, Option}
-use Rattle.std.specs.List.{Contains, find, list_all, list_any}
-use Rattle.std.specs.Option.{option_map_or, option_or}
-use Rattle.std.proofs.lemmas.List.Folds.{find-append}
+use Rattle.std.proofs.lemmas.{List.Folds.find-append, Bool.and_from as both}
+use Rattle.std.specs.{List.Contains, List.find, List.list_all, List.list_any, Option.option_map_or, Option.option_or}
 use Rattle.wit_model.specs.Text.{Text}
 use Rattle.plan_meaning.specs.NumberedMembers.{Homes, NumberedMember, are_interfaces, are_package, is_interface_of, is_named_in, is_of_package, is_one_world, sights_of_members, stands_at_top, world}
-use Rattle.plan_meaning.specs.NumberedRules.{Fact, is_interface}
+use Rattle.plan_meaning.specs.{NumberedRules.Fact, NumberedRules.is_interface, NumberedWorlds.NumberedScope, NumberedWorlds.sights_of_scope}
 use Rattle.plan_meaning.specs.NumberedViews.{NumberedSight, Tables, agree_in_numbers, agree_with_first_in_numbers, agrees_with_first, first_at, first_whole_at, same_types, same_whole}
-use Rattle.plan_meaning.specs.NumberedWorlds.{NumberedScope, sights_of_scope}
-use Rattle.plan_parts.proofs.FirstAgreement.{agree_by_first}
-use Rattle.plan_parts.proofs.SightLaws.{all_alike}
+use Rattle.plan_parts.proofs.{FirstAgreement.agree_by_first, SightLaws.all_alike}
 use Rattle.plan_laws.specs.OneWorld.{AreOwnInterfaces}
 use Rattle.plan_laws.proofs.Planned.{found_there}
 use Rattle.comp_read.proofs.OwnViews.{own_at, scope_sight, sight_among}
-use Rattle.base_lemmas.proofs.Bools.{left_of as first_true, right_of as second_true}
-use Rattle.base_lemmas.proofs.Elements.{all-contained, all_pass}
-use Rattle.base_lemmas.proofs.Numbers.{same-number}
-use Rattle.std.proofs.lemmas.Bool.{and_from as both}
+use Rattle.base_lemmas.proofs.{Bools.left_of as first_true, Bools.right_of as second_true, Elements.all-contained, Elements.all_pass, Numbers.same-number}
 
 -- what is found in the front is found in the whole
 found_first : {A : Type 0} (p : A → Bool) (xs ys : List A) (x : A) → Contains xs x → p x ≡ true → find p (xs ++ ys) ≡ find p xs

@@ -2,37 +2,26 @@
 use Rattle.std.proofs.Common.{◌≡◌, refl, sym, ap, subst, ◌∙◌, ℕ, Bool, false, List, [], ◌∷◌, length, map, Option, Some, None, slice_get}
 use Rattle.std.specs.Borrow.{Bor}
 use Rattle.comp_bytes.specs.Levels.{Piece}
-use Rattle.comp_meaning.specs.ByLevels.{world_of_pieces}
-use Rattle.comp_meaning.specs.Follow.{provided}
-use Rattle.plan_meaning.specs.NumberedMembers as members
+use Rattle.comp_meaning.specs.{ByLevels.world_of_pieces, Follow.provided}
 use Rattle.plan_meaning.specs.NumberedMembers.{Homes, HomesStand, NumberedMember, NumberedPart, home_at, world_shown}
-use Rattle.plan_meaning.specs.NumberedRules.{Fact}
-use Rattle.plan_meaning.specs.NumberedViews.{Tables}
+use Rattle.plan_meaning.specs.{NumberedRules.Fact, NumberedViews.Tables}
 use Rattle.read_parts.specs.declared.following.Followed.{Followed}
 use Rattle.read_parts.specs.Input.{IsFollowed}
 use Rattle.read_exports.specs.Members.{numbered_members}
-use Rattle.read_exports.specs.declared.members.Member.{Member}
-use Rattle.read_exports.specs.declared.members.Part.{Part}
-use Rattle.read_exports.specs.declared.members.Part.TheVariants as parts
+use Rattle.read_exports.specs.declared.members.{Member.Member, Part.Part}
 use Rattle.read_rules.specs.Scopes.{numbered_scope}
-use Rattle.read_rules.specs.declared.reached.ImportedView.{ImportedView}
-use Rattle.read_rules.specs.declared.scopes.Scope.{Scope}
-use Rattle.read_rules.specs.declared.tables.Fact.{Fact as KeptFact}
-use Rattle.read_rules.specs.declared.views.View.{View}
+use Rattle.read_rules.specs.declared.{reached.ImportedView.ImportedView, scopes.Scope.Scope, tables.Fact.Fact as KeptFact, views.View.View}
 use Rattle.plan_package.specs.PlanWhole.{MayBeWhole}
 use Rattle.plan_build.proofs.BuildableLaws.{plans_are_buildable}
-use Rattle.read_numbers.specs.FactLaws.{known_by}
-use Rattle.read_numbers.specs.NumberedInput.{tables_of}
-use Rattle.read_members.specs.DecidedWorlds.{AreWorldDecided, IsPartDecided}
-use Rattle.read_members.specs.ReadMembers.{AreRead, lent_member}
+use Rattle.read_numbers.specs.{FactLaws.known_by, NumberedInput.tables_of}
+use Rattle.read_members.specs.{DecidedWorlds.AreWorldDecided, DecidedWorlds.IsPartDecided, ReadMembers.AreRead, ReadMembers.lent_member}
 use Rattle.read_members.proofs.DecidedWorldLaws.{worlds_are_decided}
-use Rattle.comp_read.proofs.ReadPackages.{read_packages_have_sources}
-use Rattle.comp_read.specs.ReadWorlds.{AreBeside, IsReadWorld}
-use Rattle.comp_read.proofs.WorldWhole.{read_world_is_whole, read_world_plans_are_meant}
-use Rattle.comp_read.specs.MembersRead.{AreReadOf}
-use Rattle.comp_read.specs.Planned.{CanBeBuilt, WorldPlansMean}
-use Rattle.comp_read.specs.WorldsRead.{IsAlone, IsWorldReadOf, are_one_world, is_alone}
+use Rattle.comp_read.proofs.{ReadPackages.read_packages_have_sources, WorldWhole.read_world_is_whole, WorldWhole.read_world_plans_are_meant}
+use Rattle.comp_read.specs.{ReadWorlds.AreBeside, ReadWorlds.IsReadWorld, Planned.CanBeBuilt, Planned.WorldPlansMean}
+use Rattle.comp_read.specs.{MembersRead.AreReadOf, WorldsRead.IsAlone, WorldsRead.IsWorldReadOf, WorldsRead.are_one_world, WorldsRead.is_alone}
 use Rattle.base_lemmas.proofs.Lists.{map_of_map}
+use Rattle.plan_meaning.specs.NumberedMembers as members
+use Rattle.read_exports.specs.declared.members.Part.TheVariants as parts
 
 -- ---- the one member
 

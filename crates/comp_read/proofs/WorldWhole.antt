@@ -1,55 +1,34 @@
 -- A world by itself that was followed and read is, with the interfaces of its package that it shows, what the laws of whole plans ask for.
 use Rattle.std.proofs.Common.{◌≡◌, refl, sym, ap, subst, ◌∙◌, ℕ, ◌⊎◌, inl, inr, arith, true, List, [], ◌∷◌, ◌++◌, map}
-use Rattle.std.specs.Borrow.{Bor}
-use Rattle.std.specs.List.{AllByRecursion, Contains, flat_map}
 use Rattle.std.proofs.lemmas.List.Elements.{Contains-append_cases, Contains-append_left}
-use Rattle.wit_model.specs.Names.{is_label}
-use Rattle.wit_model.specs.Text.{Text}
+use Rattle.std.specs.{Borrow.Bor, List.AllByRecursion, List.Contains, List.flat_map}
+use Rattle.wit_model.specs.{Names.is_label, Text.Text}
 use Rattle.wit_model.proofs.Elements.{none-in}
 use Rattle.comp_bytes.specs.Levels.{Piece}
 use Rattle.comp_meaning.specs.Rules.{distinct}
 use Rattle.plan_meaning.specs.NumberedMembers.{Homes, NumberedMember, NumberedPart, interface, world}
-use Rattle.plan_meaning.specs.NumberedRules.{Fact}
-use Rattle.plan_meaning.specs.NumberedViews.{AreTables, NumberedSight, NumberedView, Tables}
+use Rattle.plan_meaning.specs.{NumberedRules.Fact, NumberedViews.AreTables, NumberedViews.NumberedSight, NumberedViews.NumberedView, NumberedViews.Tables}
 use Rattle.plan_meaning.specs.NumberedWorlds.{HasPath, NumberedScope}
 use Rattle.read_parts.specs.declared.following.Followed.{Followed}
-use Rattle.read_numbers.specs.FactLaws.{known_by}
-use Rattle.read_numbers.specs.NumberedInput.{tables_of}
+use Rattle.read_numbers.specs.{FactLaws.known_by, NumberedInput.tables_of}
 use Rattle.read_homes.specs.Homes.{HasPlace}
 use Rattle.read_exports.specs.Members.{numbered_member, numbered_members, numbered_part}
-use Rattle.read_exports.specs.declared.members.Member.{Member}
-use Rattle.read_exports.specs.declared.members.Part.{Part}
-use Rattle.read_exports.specs.declared.members.Part.TheVariants as parts
+use Rattle.read_exports.specs.declared.members.{Member.Member, Part.Part}
 use Rattle.read_rules.specs.Scopes.{numbered_scope}
-use Rattle.read_rules.specs.declared.scopes.Scope.{Scope}
-use Rattle.read_rules.specs.declared.tables.Fact.{Fact as KeptFact}
+use Rattle.read_rules.specs.declared.{scopes.Scope.Scope, tables.Fact.Fact as KeptFact}
 use Rattle.plan_types.specs.Orders.{places_of_part}
-use Rattle.plan_package.specs.PlanWhole.{places_in}
-use Rattle.plan_package.specs.Views.{views_of_members, whole_view}
-use Rattle.plan_package.specs.WholeWorlds.{world_in_part, worlds_in}
-use Rattle.plan_laws.specs.Apart.{FirstsRise}
-use Rattle.plan_laws.specs.FirstViews.{IsRisingView}
-use Rattle.plan_laws.specs.OneWorld.{IsWorldInput}
-use Rattle.plan_laws.specs.ShownWhole.{AreReached}
-use Rattle.plan_laws.specs.WholeCondition.{ImportsAreBare, PartIsBare}
-use Rattle.plan_laws.specs.WholePlaces.{LabelsStand}
-use Rattle.plan_laws.specs.WholePlan.{IsOfMember, IsWholeInput}
-use Rattle.plan_laws.specs.WholeReasonsForeign.{PartIsReached}
-use Rattle.plan_laws.specs.WholeWorlds.{WorldIsFollowed, WorldsAreFollowed}
-use Rattle.plan_laws.proofs.FirstViews.{first_is}
-use Rattle.plan_laws.proofs.PlaceNumbers.{all_joined, from_joined}
-use Rattle.plan_laws.proofs.ShownRules.{all_of}
-use Rattle.plan_laws.proofs.WholeCondition.{whole_may_be_planned}
-use Rattle.plan_laws.proofs.WorldMeaning.{world_plan_is_whole}
-use Rattle.comp_read.proofs.FollowedWorlds.{read_places_are_met, worlds_followed}
-use Rattle.comp_read.proofs.Labels.{read_labels_stand}
-use Rattle.comp_read.proofs.Ordered.{view_rises}
-use Rattle.comp_read.specs.ReadWorlds.{AreBeside, IsReadWorld, IsWholeWorld, ReadWorldIsWhole, ReadWorldPlansAreMeant}
-use Rattle.comp_read.proofs.OwnViews.{own_at, view_among}
+use Rattle.plan_package.specs.{PlanWhole.places_in, Views.views_of_members, Views.whole_view, WholeWorlds.world_in_part, WholeWorlds.worlds_in}
+use Rattle.plan_laws.specs.{Apart.FirstsRise, OneWorld.IsWorldInput, ShownWhole.AreReached}
+use Rattle.plan_laws.specs.{FirstViews.IsRisingView, WholePlaces.LabelsStand, WholePlan.IsOfMember, WholePlan.IsWholeInput, WholeReasonsForeign.PartIsReached}
+use Rattle.plan_laws.specs.{WholeCondition.ImportsAreBare, WholeCondition.PartIsBare, WholeWorlds.WorldIsFollowed, WholeWorlds.WorldsAreFollowed}
+use Rattle.plan_laws.proofs.{FirstViews.first_is, ShownRules.all_of}
+use Rattle.plan_laws.proofs.{PlaceNumbers.all_joined, PlaceNumbers.from_joined, WholeCondition.whole_may_be_planned, WorldMeaning.world_plan_is_whole}
+use Rattle.comp_read.proofs.{FollowedWorlds.read_places_are_met, FollowedWorlds.worlds_followed, WorldLabels.labels_differ, WorldLabels.own_label}
+use Rattle.comp_read.proofs.{Labels.read_labels_stand, Ordered.view_rises, OwnViews.own_at, OwnViews.view_among}
 use Rattle.comp_read.proofs.WorldInput.{all_trees, input, one_world, packaged, read_members, tree, views_obey, world_found, world_means}
-use Rattle.comp_read.proofs.WorldLabels.{labels_differ, own_label}
-use Rattle.base_lemmas.proofs.Elements.{contains-later, contains-map, contains-one, last_of as one-contained}
-use Rattle.base_lemmas.proofs.Lists.{map_of_map}
+use Rattle.comp_read.specs.ReadWorlds.{AreBeside, IsReadWorld, IsWholeWorld, ReadWorldIsWhole, ReadWorldPlansAreMeant}
+use Rattle.base_lemmas.proofs.{Elements.contains-later, Elements.contains-map, Elements.contains-one, Elements.last_of as one-contained, Lists.map_of_map}
+use Rattle.read_exports.specs.declared.members.Part.TheVariants as parts
 
 -- an interface without imports is no world
 no_worlds : (label : Text) (a : Part) (p : ℕ) (v : NumberedView) → numbered_part a ≡ interface p v [] → world_in_part label a ≡ []

@@ -2,14 +2,12 @@
 use Rattle.std.specs.Prelude.{Bool, true, false, nat_lt, List, []}
 use Rattle.std.specs.List.{list_any}
 use Rattle.wit_model.specs.declared.error.Cause.{Cause}
-use Rattle.wit_model.specs.declared.error.Cause.TheVariants as causes
-use Rattle.plan_meaning.specs.NumberedViews.{agree_with_first_in_numbers}
-use Rattle.plan_meaning.specs.NumberedMembers.{sights_of_members}
+use Rattle.plan_meaning.specs.{NumberedViews.agree_with_first_in_numbers, NumberedMembers.sights_of_members}
 use Rattle.read_exports.specs.Members.{numbered_members}
 use Rattle.read_exports.specs.declared.members.Member.{Member}
 use Rattle.read_rules.specs.Tables.{numbered_tables}
-use Rattle.read_rules.specs.declared.tables.Fact.{Fact}
-use Rattle.read_rules.specs.declared.tables.Tables.{Tables}
+use Rattle.read_rules.specs.declared.tables.{Fact.Fact, Tables.Tables}
+use Rattle.wit_model.specs.declared.error.Cause.TheVariants as causes
 
 -- a type has more levels than a type may have
 abbrev pub has_deep : List Fact → Bool

@@ -3,9 +3,8 @@
 use Rattle.std.specs.Prelude.{◌≡◌, ◌⊎◌, ◌<◌, ◌≤◌, ◌+◌, ℕ, true, List, map, Option, Some, slice_get}
 use Rattle.std.specs.List.{Contains}
 use Rattle.comp_meaning.specs.Rules.{distinct}
-use Rattle.plan_meaning.specs.NumberedViews.{NumberedType, Tables}
+use Rattle.plan_meaning.specs.{NumberedViews.NumberedType, NumberedViews.Tables, Shapes.named_shape}
 use Rattle.plan_meaning.specs.NumberedWorlds.{declares, NumberedInstance, NumberedScope, NumberedSeen}
-use Rattle.plan_meaning.specs.Shapes.{named_shape}
 use Rattle.read_numbers.specs.PlacedNumbers.{part_of, IsFirstSeen, IsInstanceAt}
 
 -- The item of this number in the scope of this number stands in an earlier scope than the one that is cut, or among its first so many items.

@@ -1,19 +1,13 @@
 -- What is decoded of bytes (Component Model WIT.md, "Package Format"; Binary.md, "Component Definitions").
 use Rattle.std.specs.Prelude.{◌≡◌, ◌≤◌, ◌↔◌, ℕ, ◌-◌, List, length, Option, Some}
-use Rattle.wit_model.specs.declared.error.Error.{Error}
-use Rattle.wit_model.specs.declared.error.Error.TheVariants as errors
-use Rattle.wit_model.specs.declared.model.Package.{Package}
-use Rattle.wit_model.specs.declared.model.Resolve.{Resolve}
-use Rattle.wit_model.specs.Lookup.{package_at}
-use Rattle.wit_model.specs.Meaning.{PackageMeaning}
-use Rattle.wit_model.specs.Meant.{Meant}
-use Rattle.wit_model.specs.Valid.{IsValid}
+use Rattle.wit_model.specs.declared.{error.Error.Error, model.Package.Package, model.Resolve.Resolve}
+use Rattle.wit_model.specs.{Lookup.package_at, Meaning.PackageMeaning, Meant.Meant, Valid.IsValid}
 use Rattle.comp_meaning.specs.Reads.{Reads}
 use Rattle.read_follow.specs.declared.refusal.Refusal.{Refusal}
-use Rattle.read_follow.specs.declared.refusal.Refusal.TheVariants as refusals
-use Rattle.plan_meaning.specs.Built.{IsBare}
-use Rattle.plan_meaning.specs.NothingElse.{HoldsPackageAlone}
+use Rattle.plan_meaning.specs.{Built.IsBare, NothingElse.HoldsPackageAlone}
 use Rattle.comp_read.specs.Order.{OthersListByNumber}
+use Rattle.wit_model.specs.declared.error.Error.TheVariants as errors
+use Rattle.read_follow.specs.declared.refusal.Refusal.TheVariants as refusals
 
 -- The `Resolve` is valid, without documentation and with no stability known; its package of this number means just what was found, and nothing stands
 -- there beyond that. Each other package lists its interfaces in the order of their numbers.

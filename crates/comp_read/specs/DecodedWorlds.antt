@@ -1,17 +1,11 @@
 -- What is decoded of bytes as one world (WIT.md, "Worlds"; Component Model WIT.md, "Package Format").
 use Rattle.std.specs.Prelude.{◌≡◌, ◌≤◌, ◌↔◌, ℕ, List, length, Option, Some, option_map}
-use Rattle.wit_model.specs.declared.error.Error.{Error}
-use Rattle.wit_model.specs.declared.error.Error.TheVariants as errors
-use Rattle.wit_model.specs.declared.model.Resolve.{Resolve}
-use Rattle.wit_model.specs.declared.model.World.{World}
-use Rattle.wit_model.specs.Lookup.{world_at}
-use Rattle.wit_model.specs.Meaning.{WorldPackage}
-use Rattle.wit_model.specs.Meant.{MeantWorld}
-use Rattle.wit_model.specs.Valid.{IsValid}
+use Rattle.wit_model.specs.declared.{error.Error.Error, model.Resolve.Resolve, model.World.World}
+use Rattle.wit_model.specs.{Lookup.world_at, Meaning.WorldPackage, Meant.MeantWorld, Valid.IsValid}
 use Rattle.comp_meaning.specs.Reads.{ReadsWorld}
-use Rattle.plan_meaning.specs.Built.{IsBare}
-use Rattle.plan_meaning.specs.NothingElse.{HoldsWorldAlone}
+use Rattle.plan_meaning.specs.{Built.IsBare, NothingElse.HoldsWorldAlone}
 use Rattle.comp_read.specs.Order.{ListByNumber}
+use Rattle.wit_model.specs.declared.error.Error.TheVariants as errors
 
 -- the number of the package of a world
 abbrev pub package_of : World → Option ℕ

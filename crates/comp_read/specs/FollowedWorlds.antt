@@ -1,18 +1,15 @@
 -- What was followed of worlds and interfaces, beside what makes a package of them (WIT.md, "Worlds"; Component Model WIT.md, "Package Format";
 -- Binary.md, "Index Spaces" and "Import and Export Definitions").
-use Rattle.std.specs.Prelude.{ℕ, List}
-use Rattle.std.specs.List.{Contains}
+use Rattle.std.specs.{Prelude.ℕ, Prelude.List, List.Contains}
 use Rattle.comp_bytes.specs.Levels.{Piece}
-use Rattle.comp_meaning.specs.Reads as reads
-use Rattle.plan_meaning.specs.NumberedMembers.{Homes}
-use Rattle.plan_meaning.specs.NumberedWorlds.{HasPath}
+use Rattle.plan_meaning.specs.{NumberedMembers.Homes, NumberedWorlds.HasPath}
 use Rattle.read_exports.specs.declared.members.Member.{Member}
 use Rattle.plan_package.specs.PlanWhole.{places_in}
 use Rattle.read_parts.specs.declared.following.Followed.{Followed}
 use Rattle.read_numbers.specs.NumberedInput.{tables_of}
-use Rattle.plan_laws.specs.WholeCondition.{ImportsAreBare}
-use Rattle.plan_laws.specs.WholeWorlds.{WorldsAreFollowed}
+use Rattle.plan_laws.specs.{WholeCondition.ImportsAreBare, WholeWorlds.WorldsAreFollowed}
 use Rattle.comp_read.specs.ReadInput.{IsReadInput}
+use Rattle.comp_meaning.specs.Reads as reads
 
 abbrev pub ReadWorldsAreFollowed : Type 0
 ReadWorldsAreFollowed = (pieces : List Piece) (x : Followed) (h : Homes) (ms : List Member) (members : List reads.Member) → IsReadInput pieces x h ms members

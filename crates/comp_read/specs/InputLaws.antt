@@ -1,29 +1,18 @@
 -- What was followed of an input is what the laws of whole plans ask for (Component Model WIT.md, "Package Format").
-use Rattle.std.specs.Prelude.{◌≡◌, ℕ, true, List}
-use Rattle.std.specs.List.{AllByRecursion}
+use Rattle.std.specs.{Prelude.◌≡◌, Prelude.ℕ, Prelude.true, Prelude.List, List.AllByRecursion}
 use Rattle.comp_bytes.specs.Levels.{Piece}
-use Rattle.comp_meaning.specs.Reads as reads
-use Rattle.read_shown.specs.Kinds.{NamesHaveKinds}
-use Rattle.read_shown.specs.Parts.{MemberStands}
-use Rattle.plan_meaning.specs.FollowedNumbers.{AreMembersIn}
-use Rattle.plan_meaning.specs.NumberedMembers.{Homes, are_package}
-use Rattle.plan_meaning.specs.NumberedRules.{Fact}
-use Rattle.plan_meaning.specs.NumberedViews.{Tables}
+use Rattle.read_shown.specs.{Kinds.NamesHaveKinds, Parts.MemberStands}
+use Rattle.plan_meaning.specs.{FollowedNumbers.AreMembersIn, NumberedMembers.Homes, NumberedMembers.are_package, NumberedRules.Fact, NumberedViews.Tables}
 use Rattle.read_rules.specs.declared.tables.Fact.{Fact as KeptFact}
-use Rattle.plan_type_laws.specs.FormsObeyed.{LengthsFit}
-use Rattle.plan_type_laws.specs.ShownMarks.{ArePlaced}
+use Rattle.plan_type_laws.specs.{FormsObeyed.LengthsFit, ShownMarks.ArePlaced}
 use Rattle.read_exports.specs.Members.{numbered_members}
 use Rattle.read_exports.specs.declared.members.Member.{Member}
 use Rattle.read_parts.specs.declared.following.Followed.{Followed}
-use Rattle.read_numbers.specs.FactLaws.{known_by}
-use Rattle.read_numbers.specs.KnownScopes.{AreKnown}
-use Rattle.read_numbers.specs.NumberedInput.{tables_of}
+use Rattle.read_numbers.specs.{FactLaws.known_by, KnownScopes.AreKnown, NumberedInput.tables_of}
 use Rattle.plan_laws.specs.Apart.{FirstsRise}
-use Rattle.plan_laws.specs.ShownNames.{IsInput, PartDeclaresNames}
-use Rattle.plan_laws.specs.ShownWhole.{AreReached}
-use Rattle.plan_laws.specs.Whole.{IsPackageInput}
-use Rattle.plan_laws.specs.WholePlaces.{LabelsStand}
+use Rattle.plan_laws.specs.{ShownNames.IsInput, ShownNames.PartDeclaresNames, ShownWhole.AreReached, Whole.IsPackageInput, WholePlaces.LabelsStand}
 use Rattle.comp_read.specs.ReadInput.{AreHomesOf, IsReadInput, ViewsObey}
+use Rattle.comp_meaning.specs.Reads as reads
 
 -- Each part is well-formed as it was read.
 abbrev pub ReadMembersStand : Type 0

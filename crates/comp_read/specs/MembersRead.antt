@@ -2,16 +2,12 @@
 use Rattle.std.specs.Prelude.{◌≡◌, ℕ, true, false, List, [], Option, Some, None}
 use Rattle.wit_model.specs.Names.{PackageIdentity}
 use Rattle.plan_meaning.specs.NumberedMembers.{Homes, HomesStand, NumberedMember, are_package}
-use Rattle.plan_meaning.specs.NumberedRules.{Fact}
-use Rattle.plan_meaning.specs.NumberedViews.{Tables}
+use Rattle.plan_meaning.specs.{NumberedRules.Fact, NumberedViews.Tables}
 use Rattle.read_homes.specs.Homes.{ArePackages, ComeInOrder, HaveReasons}
 use Rattle.read_rules.specs.declared.tables.Fact.{Fact as KeptFact}
 use Rattle.read_parts.specs.declared.following.Followed.{Followed}
-use Rattle.read_numbers.specs.FactLaws.{known_by}
-use Rattle.read_numbers.specs.KnownScopes.{AreKnown}
-use Rattle.read_numbers.specs.NumberedInput.{tables_of}
-use Rattle.read_members.specs.Decided.{are_one_package}
-use Rattle.read_members.specs.ReadMembers.{AreForMembers, AreRead}
+use Rattle.read_numbers.specs.{FactLaws.known_by, KnownScopes.AreKnown, NumberedInput.tables_of}
+use Rattle.read_members.specs.{Decided.are_one_package, ReadMembers.AreForMembers, ReadMembers.AreRead}
 use Rattle.comp_read.specs.ReadInput.{AreHomesOf}
 
 -- Members were read of what was followed, over tables whose types are known, and over packages, each of which is that of a place or of a member. Those

@@ -1,29 +1,19 @@
 -- The order in which what is decoded stands in a `Resolve` (Component Model WIT.md, "Package Format").
 use Rattle.std.specs.Prelude.{◌≡◌, ◌⊎◌, ◌<◌, ◌≤◌, ℕ, Bool, true, not, false, List, [], ◌∷◌, ◌++◌, filter, flat_map, length, map, take, Option, Some, None, option_to_list, slice_get}
-use Rattle.std.specs.List.{Contains}
-use Rattle.std.specs.Option.{option_map_or}
+use Rattle.std.specs.{List.Contains, Option.option_map_or}
 use Rattle.indexmap.specs.IndexMap.{values}
-use Rattle.wit_model.specs.declared.model.Interface.{Interface}
-use Rattle.wit_model.specs.declared.model.Package.{Package}
-use Rattle.wit_model.specs.declared.model.Resolve.{Resolve}
-use Rattle.wit_model.specs.declared.model.TypeId.{TypeId}
-use Rattle.wit_model.specs.declared.model.World.{World}
-use Rattle.wit_model.specs.declared.model.WorldItem.TheVariants as item
+use Rattle.wit_model.specs.declared.model.{Interface.Interface, Package.Package, Resolve.Resolve, TypeId.TypeId, World.World}
 use Rattle.wit_model.specs.Lookup.{identity_of, interface_at, package_at, path_of_interface, world_at}
-use Rattle.wit_model.specs.Names.{PackageIdentity, path_in, read_path}
-use Rattle.wit_model.specs.Rules.{interface_type_numbers, world_type_numbers}
+use Rattle.wit_model.specs.{Names.PackageIdentity, Names.path_in, Names.read_path, Rules.interface_type_numbers, Rules.world_type_numbers}
 use Rattle.wit_model.specs.Text.{Text, text_eq, text_of}
-use Rattle.comp_bytes.specs.Levels.{Entry, PartType, Piece, levels_of}
-use Rattle.comp_bytes.specs.Raw.{Section}
-use Rattle.comp_bytes.specs.Reading.{◌>>=◌}
-use Rattle.comp_bytes.specs.Spelling.{IsComponent}
-use Rattle.comp_meaning.specs.ByLevels.{entry_step, exported_parts, member_by_levels}
-use Rattle.comp_meaning.specs.Follow.{Scope, each, new_scope}
+use Rattle.comp_bytes.specs.{Levels.Entry, Levels.PartType, Levels.Piece, Levels.levels_of, Raw.Section, Reading.◌>>=◌, Spelling.IsComponent}
+use Rattle.comp_meaning.specs.{ByLevels.entry_step, ByLevels.exported_parts, ByLevels.member_by_levels, Follow.Scope, Follow.each, Follow.new_scope}
 use Rattle.comp_meaning.specs.Same.{same_identity}
 use Rattle.comp_meaning.specs.Reads.{Member, Part, exported_types, functions_of, interface, member, sights, steps, world, worlds_of}
 use Rattle.plan_meaning.specs.Plan.{Plan, PlannedPackage, numbers_of}
 use Rattle.read_parts.specs.Members.{declared_trees, entries_of}
 use Rattle.comp_read.specs.TypeOrder.{NumbersFollow}
+use Rattle.wit_model.specs.declared.model.WorldItem.TheVariants as item
 pub use Rattle.plan_meaning.specs.PlanRules.{are_rising as rise}
 
 -- the numbers of the interfaces of a package, in its order

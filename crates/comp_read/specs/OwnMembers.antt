@@ -1,15 +1,12 @@
 -- The interfaces of a package that views show, each once, as it is seen first (WIT.md, "Worlds"; Component Model WIT.md, "Package Format").
 use Rattle.std.specs.Prelude.{◌≡◌, ℕ, true, false, List, [], ◌∷◌, ◌++◌, map, Option, Some, None}
 use Rattle.std.specs.List.{AllByRecursion, Contains, filter, flat_map, list_any}
-use Rattle.wit_model.specs.Text.{Text}
-use Rattle.wit_model.specs.Uses.{has, once as each_once}
+use Rattle.wit_model.specs.{Text.Text, Uses.has, Uses.once as each_once}
 use Rattle.plan_meaning.specs.NumberedMembers.{Homes, NumberedMember, home_at, interface, is_interface_of, is_of_package}
 use Rattle.plan_meaning.specs.NumberedViews.{NumberedSight, NumberedView, Tables, first_at}
 use Rattle.plan_meaning.specs.NumberedWorlds.{NumberedScope, are_once, sights_of_scope}
-use Rattle.read_rules.specs.declared.scopes.Scope.{Scope}
-use Rattle.read_rules.specs.declared.tables.Tables.{Tables as KeptTables}
-use Rattle.read_rules.specs.Scopes.{numbered_scope}
-use Rattle.read_rules.specs.Tables.{numbered_tables}
+use Rattle.read_rules.specs.declared.{scopes.Scope.Scope, tables.Tables.Tables as KeptTables}
+use Rattle.read_rules.specs.{Scopes.numbered_scope, Tables.numbered_tables}
 use Rattle.read_exports.specs.declared.members.Member.{Member}
 use Rattle.read_exports.specs.Members.{numbered_members}
 use Rattle.plan_laws.specs.OneWorld.{AreOwnInterfaces, place_of_part}

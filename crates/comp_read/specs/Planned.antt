@@ -1,22 +1,14 @@
 -- What plans of members mean, and what is built of one (Component Model WIT.md, "Package Format").
 use Rattle.std.specs.Prelude.{◌≡◌, ℕ, List, Option, Some}
 use Rattle.wit_model.specs.declared.model.Resolve.{Resolve}
-use Rattle.wit_model.specs.Meaning.{PackageMeaning, WorldPackage}
-use Rattle.wit_model.specs.Names.{PackageIdentity}
-use Rattle.wit_model.specs.Valid.{IsValid}
+use Rattle.wit_model.specs.{Meaning.PackageMeaning, Meaning.WorldPackage, Names.PackageIdentity, Valid.IsValid}
 use Rattle.read_follow.specs.declared.refusal.Refusal.{Refusal}
-use Rattle.read_follow.specs.declared.refusal.Refusal.TheVariants as refusals
-use Rattle.plan_meaning.specs.Built.{IsBuilt}
-use Rattle.plan_meaning.specs.NumberedViews.{Tables}
-use Rattle.plan_meaning.specs.Plan.{Plan}
-use Rattle.plan_meaning.specs.PlanMeaning.{plan_meaning, plan_world_meaning}
-use Rattle.plan_meaning.specs.PlanRules.{IsPackagePlan, IsPlan, IsWorldPlan}
-use Rattle.plan_meaning.specs.ReadPlans.{FitsInput}
-use Rattle.plan_build.specs.Buildable.{IsBuildable}
-use Rattle.plan_build.specs.MeansPlan.{MeansPlan}
+use Rattle.plan_meaning.specs.{Built.IsBuilt, NumberedViews.Tables, Plan.Plan, ReadPlans.FitsInput}
+use Rattle.plan_meaning.specs.{PlanMeaning.plan_meaning, PlanMeaning.plan_world_meaning, PlanRules.IsPackagePlan, PlanRules.IsPlan, PlanRules.IsWorldPlan}
+use Rattle.plan_build.specs.{Buildable.IsBuildable, MeansPlan.MeansPlan}
 use Rattle.read_exports.specs.declared.members.Member.{Member}
-use Rattle.plan_package.specs.PlanWhole.{PlansWhole}
-use Rattle.plan_package.specs.WholeInterfaces.{Home}
+use Rattle.plan_package.specs.{PlanWhole.PlansWhole, WholeInterfaces.Home}
+use Rattle.read_follow.specs.declared.refusal.Refusal.TheVariants as refusals
 
 -- The plan is that of a package, and means what was found.
 pub record MeansFound (found : Option PackageMeaning) (p : Plan) : Type 0 where

@@ -1,22 +1,18 @@
 -- What was followed of an input, as members, and what the rules of reading make of it (Component Model WIT.md, "Package Format").
-use Rattle.std.specs.Prelude.{◌≡◌, ℕ, true, List, Some}
-use Rattle.std.specs.List.{AllZip}
+use Rattle.std.specs.{Prelude.◌≡◌, Prelude.ℕ, Prelude.true, Prelude.List, Prelude.Some, List.AllZip}
 use Rattle.wit_model.specs.Names.{PackageIdentity}
-use Rattle.comp_bytes.specs.Levels.{Piece}
-use Rattle.comp_bytes.specs.Reading.{◌>>=◌}
+use Rattle.comp_bytes.specs.{Levels.Piece, Reading.◌>>=◌}
 use Rattle.comp_meaning.specs.Follow.{each}
-use Rattle.comp_meaning.specs.Reads as reads
 use Rattle.plan_meaning.specs.NumberedMembers.{Homes, HomesStand, IsMember, are_interfaces, sights_of_members}
-use Rattle.plan_meaning.specs.NumberedRules.{Fact}
-use Rattle.plan_meaning.specs.NumberedViews.{Tables, agree_in_numbers}
+use Rattle.plan_meaning.specs.{NumberedRules.Fact, NumberedViews.Tables, NumberedViews.agree_in_numbers}
 use Rattle.read_parts.specs.declared.following.Followed.{Followed}
-use Rattle.read_parts.specs.Followed.{member_of_scope, scopes_of}
-use Rattle.read_parts.specs.Input.{IsFollowed}
+use Rattle.read_parts.specs.{Followed.member_of_scope, Followed.scopes_of, Input.IsFollowed}
 use Rattle.read_numbers.specs.NumberedInput.{tables_of}
 use Rattle.read_members.specs.PartMembers.{AreMembersOf}
 use Rattle.read_homes.specs.Homes.{IsHomeOf}
 use Rattle.read_exports.specs.Members.{numbered_members}
 use Rattle.read_exports.specs.declared.members.Member.{Member}
+use Rattle.comp_meaning.specs.Reads as reads
 
 -- What was followed of the sections stands, as these members, for those that the rules of reading make of it.
 pub record IsReadInput (pieces : List Piece) (x : Followed) (h : Homes) (ms : List Member) (members : List reads.Member) : Type 0 where

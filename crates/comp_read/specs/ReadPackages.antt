@@ -1,16 +1,10 @@
 -- A package that was followed and read: a plan can be made of it, which means what the input does (Component Model WIT.md, "Package Format").
 use Rattle.std.specs.Prelude.{◌≡◌, ◌<◌, ◌⊎◌, ℕ, true, List, [], length, map, Option}
-use Rattle.wit_model.specs.Names.{PackageIdentity}
-use Rattle.wit_model.specs.Text.{Text}
+use Rattle.wit_model.specs.{Names.PackageIdentity, Text.Text}
 use Rattle.comp_bytes.specs.Levels.{Piece}
 use Rattle.comp_meaning.specs.ByLevels.{package_of_pieces}
-use Rattle.comp_meaning.specs.Reads as reads
-use Rattle.plan_meaning.specs.NumberedMembers.{Homes, HomesStand, are_package, home_at}
-use Rattle.plan_meaning.specs.NumberedViews.{Tables}
-use Rattle.plan_meaning.specs.Plan.{Plan}
-use Rattle.plan_meaning.specs.PlanMeaning.{plan_meaning}
-use Rattle.plan_meaning.specs.PlanRules.{IsPackagePlan}
-use Rattle.plan_meaning.specs.ReadPlans.{FitsInput}
+use Rattle.plan_meaning.specs.{NumberedMembers.Homes, NumberedMembers.HomesStand, NumberedMembers.are_package, NumberedMembers.home_at, PlanRules.IsPackagePlan}
+use Rattle.plan_meaning.specs.{NumberedViews.Tables, Plan.Plan, PlanMeaning.plan_meaning, ReadPlans.FitsInput}
 use Rattle.read_homes.specs.Homes.{ArePackages, HasPlace, HaveReasons}
 use Rattle.read_exports.specs.Members.{numbered_members}
 use Rattle.read_exports.specs.declared.members.Member.{Member}
@@ -18,12 +12,11 @@ use Rattle.read_rules.specs.declared.tables.Fact.{Fact as KeptFact}
 use Rattle.plan_package.specs.PlanWhole.{MayBeWhole, PlansWhole}
 use Rattle.read_parts.specs.declared.following.Followed.{Followed}
 use Rattle.read_parts.specs.Input.{IsFollowed}
-use Rattle.read_numbers.specs.FactLaws.{known_by}
-use Rattle.read_numbers.specs.KnownScopes.{AreKnown}
-use Rattle.read_numbers.specs.NumberedInput.{tables_of}
+use Rattle.read_numbers.specs.{FactLaws.known_by, KnownScopes.AreKnown, NumberedInput.tables_of}
 use Rattle.read_members.specs.ReadMembers.{AreForMembers, AreRead, lent_member}
 use Rattle.plan_laws.specs.WholePlan.{IsOfMember, IsWholeInput}
 use Rattle.comp_read.specs.ReadInput.{AreHomesOf, IsReadInput}
+use Rattle.comp_meaning.specs.Reads as reads
 
 -- ---- what was read
 

@@ -3,35 +3,24 @@
 use Rattle.std.specs.Prelude.{◌≡◌, true, List, [], ◌∷◌, map, Some}
 use Rattle.wit_model.specs.Meaning.{WorldPackage}
 use Rattle.comp_bytes.specs.Levels.{Piece}
-use Rattle.comp_meaning.specs.ByLevels.{world_of_pieces}
-use Rattle.comp_meaning.specs.Follow as follow
-use Rattle.comp_meaning.specs.Reads as reads
-use Rattle.comp_meaning.specs.Reads.{world_with}
-use Rattle.plan_meaning.specs.NumberedMembers.{Homes, HomesStand, home_at, is_one_world}
-use Rattle.plan_meaning.specs.NumberedViews.{Tables}
-use Rattle.plan_meaning.specs.Plan.{Plan}
-use Rattle.plan_meaning.specs.PlanMeaning.{plan_world_meaning}
-use Rattle.plan_meaning.specs.PlanRules.{IsWorldPlan}
-use Rattle.plan_meaning.specs.ReadPlans.{FitsInput}
+use Rattle.comp_meaning.specs.{ByLevels.world_of_pieces, Reads.world_with}
+use Rattle.plan_meaning.specs.{NumberedMembers.Homes, NumberedMembers.HomesStand, NumberedMembers.home_at, NumberedMembers.is_one_world, PlanRules.IsWorldPlan}
+use Rattle.plan_meaning.specs.{NumberedViews.Tables, Plan.Plan, PlanMeaning.plan_world_meaning, ReadPlans.FitsInput}
 use Rattle.read_homes.specs.Homes.{ArePackages}
 use Rattle.read_exports.specs.Members.{numbered_members}
 use Rattle.read_exports.specs.declared.members.Member.{Member}
-use Rattle.read_exports.specs.declared.members.Part.TheVariants as parts
 use Rattle.read_rules.specs.Scopes.{numbered_scope}
-use Rattle.read_rules.specs.declared.scopes.Scope.{Scope}
-use Rattle.read_rules.specs.declared.tables.Fact.{Fact as KeptFact}
+use Rattle.read_rules.specs.declared.{scopes.Scope.Scope, tables.Fact.Fact as KeptFact}
 use Rattle.plan_package.specs.PlanWhole.{MayBeWhole, PlansWhole}
 use Rattle.read_parts.specs.declared.following.Followed.{Followed}
 use Rattle.read_parts.specs.Input.{IsFollowed}
-use Rattle.read_numbers.specs.FactLaws.{known_by}
-use Rattle.read_numbers.specs.KnownScopes.{AreKnown}
-use Rattle.read_numbers.specs.NumberedInput.{tables_of}
+use Rattle.read_numbers.specs.{FactLaws.known_by, KnownScopes.AreKnown, NumberedInput.tables_of}
 use Rattle.read_members.specs.ReadMembers.{AreRead, lent_member}
-use Rattle.plan_laws.specs.OneWorld.{AreOwnInterfaces, IsWorldInput}
-use Rattle.plan_laws.specs.Whole.{IsPackageInput}
-use Rattle.plan_laws.specs.WholePlan.{IsWholeInput}
-use Rattle.comp_read.specs.ReadInput.{AreHomesOf}
-use Rattle.comp_read.specs.ReadPackages.{HaveSources}
+use Rattle.plan_laws.specs.{OneWorld.AreOwnInterfaces, OneWorld.IsWorldInput, Whole.IsPackageInput, WholePlan.IsWholeInput}
+use Rattle.comp_read.specs.{ReadInput.AreHomesOf, ReadPackages.HaveSources}
+use Rattle.comp_meaning.specs.Follow as follow
+use Rattle.comp_meaning.specs.Reads as reads
+use Rattle.read_exports.specs.declared.members.Part.TheVariants as parts
 
 -- ---- what was read
 

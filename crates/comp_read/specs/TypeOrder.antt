@@ -2,10 +2,8 @@
 use Rattle.std.specs.Prelude.{◌≡◌, ◌⊎◌, ◌<◌, ◌&&◌, ℕ, zero, suc, Bool, true, false, List, [], ◌∷◌, ◌++◌, length, Option, Some, None, option_to_list, slice_get}
 use Rattle.std.specs.List.{AllZip, Contains, flat_map}
 use Rattle.wit_model.specs.declared.model.Resolve.{Resolve}
-use Rattle.wit_model.specs.Parts.{met_by, met_of}
+use Rattle.wit_model.specs.{Parts.met_by, Parts.met_of, Types.number_tree, Uses.once}
 use Rattle.wit_model.specs.Tree.{Place, Tree, Trees, primitive, named, node, no_children, child}
-use Rattle.wit_model.specs.Types.{number_tree}
-use Rattle.wit_model.specs.Uses.{once}
 use Rattle.read_parts.specs.Members.{DeclaringScope}
 
 abbrev mutual

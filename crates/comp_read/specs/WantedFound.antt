@@ -1,14 +1,11 @@
 -- What sections mean, as what is looked for: a package, or one world (Component Model WIT.md, "Package Format").
 use Rattle.std.specs.Prelude.{◌≡◌, ℕ, List, Option, None}
 use Rattle.wit_model.specs.declared.model.Resolve.{Resolve}
-use Rattle.comp_bytes.specs.Levels.{Piece}
-use Rattle.comp_bytes.specs.Reading.{◌>>=◌}
+use Rattle.comp_bytes.specs.{Levels.Piece, Reading.◌>>=◌}
 use Rattle.comp_meaning.specs.ByLevels.{package_of_pieces, world_of_pieces}
 use Rattle.comp_read.specs.declared.wanted.Wanted.{Wanted}
+use Rattle.comp_read.specs.{Decoded.HoldsFound, DecodedWorlds.HoldsWorldFound, Order.FollowsLevels}
 use Rattle.comp_read.specs.declared.wanted.Wanted.TheVariants as wanted
-use Rattle.comp_read.specs.Decoded.{HoldsFound}
-use Rattle.comp_read.specs.DecodedWorlds.{HoldsWorldFound}
-use Rattle.comp_read.specs.Order.{FollowsLevels}
 
 -- the `Resolve` holds what the sections mean, if there are any, in the package of this number
 abbrev pub HoldsMeaning : Wanted → Option (List Piece) → Resolve → ℕ → Type 0

@@ -1,19 +1,17 @@
 -- What was followed of an input, read as one world (WIT.md, "Worlds"; Component Model WIT.md, "Package Format").
 use Rattle.std.specs.Prelude.{◌≡◌, ℕ, Bool, true, false, List, [], ◌∷◌, length, map, Option, Some, None}
-use Rattle.plan_meaning.specs.NumberedMembers as members
 use Rattle.plan_meaning.specs.NumberedMembers.{Homes, NumberedMember, NumberedPart, is_one_world}
-use Rattle.plan_meaning.specs.NumberedRules.{Fact}
-use Rattle.plan_meaning.specs.NumberedViews.{Tables}
+use Rattle.plan_meaning.specs.{NumberedRules.Fact, NumberedViews.Tables}
 use Rattle.read_exports.specs.Members.{numbered_members}
 use Rattle.read_exports.specs.declared.members.Member.{Member}
-use Rattle.read_exports.specs.declared.members.Part.TheVariants as parts
 use Rattle.read_rules.specs.Scopes.{numbered_scope}
-use Rattle.read_rules.specs.declared.scopes.Scope.{Scope}
-use Rattle.read_rules.specs.declared.tables.Fact.{Fact as KeptFact}
+use Rattle.read_rules.specs.declared.{scopes.Scope.Scope, tables.Fact.Fact as KeptFact}
 use Rattle.read_parts.specs.declared.following.Followed.{Followed}
 use Rattle.read_numbers.specs.FactLaws.{known_by}
 use Rattle.read_members.specs.ReadMembers.{lent_member}
 use Rattle.comp_read.specs.MembersRead.{AreReadOf}
+use Rattle.plan_meaning.specs.NumberedMembers as members
+use Rattle.read_exports.specs.declared.members.Part.TheVariants as parts
 
 -- the one of these, or there aren't just one
 abbrev pub IsOneMember : List Member → Option Member → Type 0

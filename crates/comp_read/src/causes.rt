@@ -4,9 +4,8 @@ ghost use Rattle.std.specs.Prelude.{◌≡◌, List, Some, IfOk};
 ghost use Rattle.wit_model.specs.declared.error.Cause.TheVariants.{Disagree};
 ghost use Rattle.comp_bytes.specs.Levels.{Piece};
 ghost use Rattle.read_members.specs.ReadMembers.{Because};
-ghost use Rattle.comp_read.specs.Causes.{cause_by_depth, cause_by_views, has_deep, views_agree};
+ghost use Rattle.comp_read.specs.{Causes.cause_by_depth, Causes.cause_by_views, Causes.has_deep, Causes.views_agree, WantedFound.MeansNone};
 ghost use Rattle.comp_read.specs.declared.wanted.Wanted.{Wanted};
-ghost use Rattle.comp_read.specs.WantedFound.{MeansNone};
 
 use plan_parts::agree;
 use read_exports::{Member, sights_of_members};

@@ -3,10 +3,8 @@
 ghost use Rattle.std.specs.Prelude.{◌≡◌, ◌≤◌, length, IfErr, IfOk};
 ghost use Rattle.comp_bytes.specs.Levels.{levels_of};
 ghost use Rattle.read_members.specs.ReadMembers.{Because};
-ghost use Rattle.comp_read.specs.Decoded.{error_from, IsDecoded, RefusesBytes};
-ghost use Rattle.comp_read.specs.DecodedWorlds.{IsDecodedWorld, RefusesWorldBytes};
-ghost use Rattle.comp_read.specs.Order.{FollowsBytes};
-ghost use Rattle.comp_read.specs.WantedFound.{HoldsWanted, MeansNone};
+ghost use Rattle.comp_read.specs.{Decoded.error_from, Decoded.IsDecoded, Decoded.RefusesBytes, DecodedWorlds.IsDecodedWorld, DecodedWorlds.RefusesWorldBytes};
+ghost use Rattle.comp_read.specs.{Order.FollowsBytes, WantedFound.HoldsWanted, WantedFound.MeansNone};
 
 use crate::reading::wanted_of_pieces;
 use crate::wanted::Wanted;

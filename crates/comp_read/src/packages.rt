@@ -8,10 +8,7 @@ ghost use Rattle.read_parts.specs.Input.{IsFollowed};
 ghost use Rattle.read_exports.specs.Members.{homes_in, numbered_members};
 ghost use Rattle.read_rules.specs.Tables.{known_in, numbered_tables};
 ghost use Rattle.read_members.specs.ReadMembers.{lent_member, Because};
-ghost use Rattle.comp_read.specs.Decoded.{HoldsFound};
-ghost use Rattle.comp_read.specs.MembersRead.{AreReadOf, IsMain};
-ghost use Rattle.comp_read.specs.Order.{FollowsLevels};
-ghost use Rattle.comp_read.specs.SomeFollowed.{IsSomeFollowed};
+ghost use Rattle.comp_read.specs.{Decoded.HoldsFound, MembersRead.AreReadOf, MembersRead.IsMain, Order.FollowsLevels, SomeFollowed.IsSomeFollowed};
 
 use crate::building::built;
 use crate::causes::cause_among;

@@ -5,16 +5,13 @@ ghost use Rattle.std.specs.Prelude.{◌≡◌, ◌≤◌, ℕ, List, length, map
 ghost use Rattle.comp_bytes.specs.Levels.{levels_of, Piece as RawPiece};
 ghost use Rattle.read_follow.specs.Pieces.{raw_piece, IsWholePiece};
 ghost use Rattle.read_parts.specs.Input.{IsFollowed};
-ghost use Rattle.read_numbers.specs.KnownScopes.{AreKnown};
-ghost use Rattle.read_numbers.specs.NumberedInput.{tables_of as tables_of_lem};
+ghost use Rattle.read_numbers.specs.{KnownScopes.AreKnown, NumberedInput.tables_of as tables_of_lem};
 ghost use Rattle.read_homes.specs.Homes.{ArePaths};
 ghost use Rattle.read_exports.specs.Members.{homes_in};
 ghost use Rattle.read_rules.specs.Tables.{numbered_tables};
 ghost use Rattle.read_members.specs.Layers.{shown_of_member, shown_owned, AreTablesOf};
 ghost use Rattle.read_members.specs.ReadMembers.{lent_member, read_member, Because};
-ghost use Rattle.comp_read.specs.MembersRead.{AreReadOf};
-ghost use Rattle.comp_read.specs.SomeFollowed.{IsSomeFollowed};
-ghost use Rattle.comp_read.specs.WantedFound.{HoldsWanted, MeansNone};
+ghost use Rattle.comp_read.specs.{MembersRead.AreReadOf, SomeFollowed.IsSomeFollowed, WantedFound.HoldsWanted, WantedFound.MeansNone};
 
 use crate::causes::refusal_over;
 use crate::packages::package_of_members;

@@ -9,13 +9,8 @@ ghost use Rattle.read_parts.specs.Input.{IsFollowed};
 ghost use Rattle.read_exports.specs.Members.{homes_in};
 ghost use Rattle.read_rules.specs.Tables.{known_in, numbered_tables};
 ghost use Rattle.read_members.specs.ReadMembers.{lent_member, Because};
-ghost use Rattle.comp_read.specs.Causes.{cause_by_views, views_agree};
-ghost use Rattle.comp_read.specs.DecodedWorlds.{HoldsWorldFound};
-ghost use Rattle.comp_read.specs.MembersRead.{AreReadOf};
-ghost use Rattle.comp_read.specs.Order.{FollowsLevels};
-ghost use Rattle.comp_read.specs.Planned.{IsMemory};
-ghost use Rattle.comp_read.specs.SomeFollowed.{IsSomeFollowed};
-ghost use Rattle.comp_read.specs.WorldsRead.{IsOneMember, IsOneWorld, IsWorldReadOf};
+ghost use Rattle.comp_read.specs.{Causes.cause_by_views, Causes.views_agree, WorldsRead.IsOneMember, WorldsRead.IsOneWorld, WorldsRead.IsWorldReadOf};
+ghost use Rattle.comp_read.specs.{DecodedWorlds.HoldsWorldFound, MembersRead.AreReadOf, Order.FollowsLevels, Planned.IsMemory, SomeFollowed.IsSomeFollowed};
 
 use crate::building::built;
 use crate::causes::cause_among;

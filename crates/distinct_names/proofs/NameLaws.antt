@@ -1,9 +1,7 @@
 -- Names, none of which stands twice: as they are put into a table one after the other, and as labels.
 use Rattle.std.proofs.Common.{◌≡◌, sym, ◌∙◌, ℕ, ◌+◌, ◌<◌, ◌≤◌, ap, Bool, true, false, not, ◌&&◌, cond, List, [], ◌∷◌, ◌++◌, map, drop, length, get_or, Result, Ok, Err, IfOk}
-use Rattle.std.specs.Borrow.{Bor}
-use Rattle.std.specs.List.{list_all, list_any}
-use Rattle.wit_model.specs.Text.{Text, text_eq}
-use Rattle.wit_model.specs.Names.{is_label}
+use Rattle.std.specs.{Borrow.Bor, List.list_all, List.list_any}
+use Rattle.wit_model.specs.{Text.Text, Text.text_eq, Names.is_label}
 use Rattle.wit_model.proofs.Distinct.{adds_new, adds_distinct, new_turn, old_turn, last_turn}
 use Rattle.comp_meaning.specs.Rules.{are_labels, distinct}
 use Rattle.comp_meaning.proofs.RulesLemmas.{distinct_same}

@@ -3,8 +3,7 @@
 //! A few names are compared with each other. More are put into a table under a keyed hash, so whoever gives the names can't choose them to collide.
 #![tactic(auto)]
 
-ghost use Rattle.std.specs.List.{list_any};
-ghost use Rattle.std.specs.Prelude.{◌≡◌, map, IfOk};
+ghost use Rattle.std.specs.{List.list_any, Prelude.◌≡◌, Prelude.map, Prelude.IfOk};
 ghost use Rattle.wit_model.specs.Text.{Text, text_eq};
 ghost use Rattle.comp_meaning.specs.Rules.{distinct};
 

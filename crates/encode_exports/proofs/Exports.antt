@@ -2,19 +2,12 @@
 use Rattle.std.proofs.Common.{◌≡◌, ℕ, suc, ◌+◌, ◌<◌, ◌≤◌, ◌==◌, Bool, true, false, ◌&&◌, ◌||◌, List, [], ◌∷◌, ◌++◌, map, length, Some, Option, slice_get, refl, sym, ap, ◌∙◌, subst, append_assoc, append-nil, arith}
 use borrow.Author.Tests.{eq-eqb}
 use Rattle.std.specs.List.{list_all, list_any}
-use Rattle.wit_model.specs.Text.{Text}
-use Rattle.wit_model.specs.Names.{is_label}
+use Rattle.wit_model.specs.{Text.Text, Names.is_label}
 use Rattle.comp_bytes.specs.Raw.{Declarations, TopType, TopExport, Section}
-use Rattle.comp_bytes.specs.Reading.{◌>>=◌}
-use Rattle.comp_bytes.specs.Parts.{Part, sections_of_parts, with_part, plain_export, top_slots}
-use Rattle.comp_meaning.specs.Follow.{each, when}
-use Rattle.comp_meaning.specs.Reads.{Top, steps, top_section, exported_types}
-use Rattle.comp_meaning.specs.Rules.{distinct}
-use Rattle.encode_exports.specs.ExportedParts.{exporting, exporting_from, one_exported}
-use Rattle.encode_exports.specs.ExportLaws.{TypesAreExported}
-use Rattle.base_lemmas.proofs.Bools.{left_of as first_true, right_of as second_true}
-use Rattle.base_lemmas.proofs.Lists.{middle_get as last_found}
-use Rattle.base_lemmas.proofs.Numbers.{apart}
+use Rattle.comp_bytes.specs.{Reading.◌>>=◌, Parts.Part, Parts.sections_of_parts, Parts.with_part, Parts.plain_export, Parts.top_slots}
+use Rattle.comp_meaning.specs.{Follow.each, Follow.when, Reads.Top, Reads.steps, Reads.top_section, Reads.exported_types, Rules.distinct}
+use Rattle.encode_exports.specs.{ExportedParts.exporting, ExportedParts.exporting_from, ExportedParts.one_exported, ExportLaws.TypesAreExported}
+use Rattle.base_lemmas.proofs.{Bools.left_of as first_true, Bools.right_of as second_true, Lists.middle_get as last_found, Numbers.apart}
 use Rattle.std.proofs.lemmas.Bool.{and_from as both_true}
 
 -- ---- the sections

@@ -1,12 +1,8 @@
 -- What components export that were given component types, each with its export.
-use Rattle.std.specs.Prelude.{◌≡◌, true, List, Some, map}
-use Rattle.std.specs.List.{list_all}
-use Rattle.wit_model.specs.Text.{Text}
-use Rattle.wit_model.specs.Names.{is_label}
-use Rattle.comp_bytes.specs.Raw.{Declarations}
-use Rattle.comp_bytes.specs.Parts.{sections_of_parts}
-use Rattle.comp_meaning.specs.Rules.{distinct}
-use Rattle.comp_meaning.specs.Reads.{exported_types}
+use Rattle.std.specs.{Prelude.◌≡◌, Prelude.true, Prelude.List, Prelude.Some, Prelude.map, List.list_all}
+use Rattle.wit_model.specs.{Text.Text, Names.is_label}
+use Rattle.comp_bytes.specs.{Raw.Declarations, Parts.sections_of_parts}
+use Rattle.comp_meaning.specs.{Rules.distinct, Reads.exported_types}
 use Rattle.encode_exports.specs.ExportedParts.{exporting}
 
 -- Labels that stand once: then the sections export these component types, in order.

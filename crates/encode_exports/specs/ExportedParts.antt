@@ -1,8 +1,7 @@
 -- The parts of a component that exports component types, each under its label (Component Model WIT.md, "Package Format").
 use Rattle.std.specs.Prelude.{◌≡◌, ◌&&◌, ℕ, zero, suc, Bool, List, [], ◌∷◌, ◌++◌}
 use Rattle.wit_model.specs.Text.{Text}
-use Rattle.comp_bytes.specs.Raw.{Declarations, TopType}
-use Rattle.comp_bytes.specs.Parts.{Part, fits_component, plain_export, top_slots}
+use Rattle.comp_bytes.specs.{Raw.Declarations, Raw.TopType, Parts.Part, Parts.fits_component, Parts.plain_export, Parts.top_slots}
 
 -- a component type that takes this type index, and its export
 abbrev pub one_exported : ℕ → Text × Declarations → List Part

@@ -1,15 +1,12 @@
 -- Which declaration a name exports.
 use Rattle.std.proofs.Common.{◌≡◌, sym, ◌∙◌, refl, ap, zero, suc, Bool, true, false, cond, List, [], ◌∷◌, arith, Option, Some, None, find}
-use Rattle.std.specs.List.{Contains}
-use Rattle.std.specs.Option.{option_eq}
-use Rattle.wit_model.specs.Text.{Text, text_eq}
-use Rattle.wit_model.specs.Meaning.{TypeMeaning}
+use Rattle.std.proofs.lemmas.Bool.{and_from as both}
+use Rattle.std.specs.{List.Contains, Option.option_eq}
+use Rattle.wit_model.specs.{Text.Text, Text.text_eq, Meaning.TypeMeaning}
 use Rattle.comp_bytes.specs.Raw.{ExternName}
-use Rattle.encode_types.specs.KeyLaws.{text_same}
-use Rattle.encode_types.specs.Scope.{exported_name}
+use Rattle.encode_types.specs.{KeyLaws.text_same, Scope.exported_name}
 use Rattle.encode_flat.specs.Flat.{is_name_of}
 use Rattle.base_lemmas.proofs.Bools.{left_of as first_true, right_of as second_true}
-use Rattle.std.proofs.lemmas.Bool.{and_from as both}
 use Rattle.wit_model.proofs.TextLemmas.{text_alike as text-alike}
 
 optional-alike : (o : Option Text) → option_eq text_eq o o ≡ true

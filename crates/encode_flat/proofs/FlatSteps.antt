@@ -1,32 +1,22 @@
 -- What one more addition says of the slots of a flat encoder.
 use Rattle.std.proofs.Common.{◌≡◌, sym, subst, ◌∙◌, refl, ap, ℕ, Bool, true, false, cond, List, [], ◌∷◌, ◌++◌, inl, inr, arith, Result, Ok, Err, IfOk, OnErr, OnOk, Option, Some, None, nat_eq, is_some, ◌||◌, ◌⊎◌, option_to_list, find}
-use Rattle.std.proofs.lemmas.Bool.{eqb-true}
-use Rattle.std.proofs.lemmas.List.{reverse-append}
-use Rattle.std.specs.Prelude.{reverse}
-use Rattle.std.specs.List.{Contains}
-use Rattle.wit_model.specs.Text.{Text}
-use Rattle.wit_model.specs.Tree.{Place, named}
-use Rattle.wit_model.specs.Types.{number_tree}
-use Rattle.wit_model.specs.Meaning.{TypeMeaning}
+use Rattle.std.proofs.lemmas.{Bool.eqb-true, List.reverse-append, Option.none-some as not-none, Option.same_Some as some-is}
+use Rattle.std.specs.{Prelude.reverse, List.Contains}
+use Rattle.wit_model.specs.{Text.Text, Tree.Place, Tree.named, Types.number_tree, Meaning.TypeMeaning}
 use Rattle.wit_model.specs.declared.model.Resolve.{Resolve}
-use Rattle.comp_bytes.specs.declared.forms.ComponentDefinedType.{ComponentDefinedType}
-use Rattle.comp_bytes.specs.declared.forms.ComponentExternName.{ComponentExternName}
+use Rattle.comp_bytes.specs.declared.forms.{ComponentDefinedType.ComponentDefinedType, ComponentExternName.ComponentExternName}
 use Rattle.comp_bytes.specs.declared.forms.ComponentFuncType.{ComponentFuncType}
 use Rattle.comp_bytes.specs.RawOf.{raw_name}
 use Rattle.encode_types.specs.declared.maps.TypeEncodingMaps.{TypeEncodingMaps}
-use Rattle.encode_types.specs.Scope.{Scope, exported_name}
-use Rattle.encode_types.specs.Counts.{Definitions, ExportsOne, one_type_more, one_function_more}
+use Rattle.encode_types.specs.{Scope.Scope, Scope.exported_name, Counts.Definitions, Counts.ExportsOne, Counts.one_type_more, Counts.one_function_more}
 use Rattle.encode_types.specs.Slots.{Adds, SlotAdded, NameAdded, SlotsGrow, Standing, tree}
-use Rattle.encode_flat.specs.declared.forms.Form.{Form}
-use Rattle.encode_flat.specs.declared.forms.Form.TheVariants as form
-use Rattle.encode_flat.specs.declared.marks.Mark.{Mark}
-use Rattle.encode_flat.specs.declared.marks.Mark.TheVariants as mark
+use Rattle.encode_flat.specs.declared.{forms.Form.Form, marks.Mark.Mark, encoder.FlatEncoderOf.FlatEncoderOf}
 use Rattle.encode_flat.specs.Marked.{Imports, import_slot, slot_count}
-use Rattle.encode_flat.specs.declared.encoder.FlatEncoderOf.{FlatEncoderOf}
 use Rattle.encode_flat.specs.Flat.{FlatReads, ImportsOnce, ReadsAs, exports_more, flat_definitions, flat-in_range, is_name_of}
 use Rattle.encode_flat.proofs.Exported.{found-in, name-passes, name-same}
 use Rattle.base_lemmas.proofs.Numbers.{no-slot, same-number}
-use Rattle.std.proofs.lemmas.Option.{none-some as not-none, same_Some as some-is}
+use Rattle.encode_flat.specs.declared.forms.Form.TheVariants as form
+use Rattle.encode_flat.specs.declared.marks.Mark.TheVariants as mark
 
 -- one form more, the latest first
 reversed : (old new : List Form) (x : Form) → new ≡ old ++ x ∷ [] → reverse new ≡ x ∷ reverse old

@@ -1,28 +1,17 @@
 -- What the slots of a flat encoder stand for: each is read with what was added before it.
 use Rattle.std.specs.Prelude.{ℕ, ◌^◌, ◌+◌, ◌<◌, ◌≡◌, ◌⊎◌, ◌&&◌, ◌||◌, Bool, true, false, nat_eq, nat_lt, List, [], ◌∷◌, ◌++◌, reverse, Option, Some, None, option_to_list, is_some}
+use Rattle.std.specs.{List.find, Option.option_eq}
 use Rattle.std.proofs.Common.{inl, inr, arith}
-use Rattle.std.specs.List.{find}
-use Rattle.std.specs.Option.{option_eq}
-use Rattle.wit_model.specs.Text.{Text, text_eq}
-use Rattle.wit_model.specs.Tree.{Place, named}
-use Rattle.wit_model.specs.Types.{number_tree}
-use Rattle.wit_model.specs.Meaning.{TypeMeaning}
-use Rattle.wit_model.specs.Lookup.{place_of}
+use Rattle.wit_model.specs.{Text.Text, Text.text_eq, Tree.Place, Tree.named, Types.number_tree, Meaning.TypeMeaning, Lookup.place_of}
 use Rattle.wit_model.specs.declared.model.Resolve.{Resolve}
-use Rattle.comp_bytes.specs.Raw.{ExternName}
-use Rattle.comp_bytes.specs.RawOf.{raw_name}
+use Rattle.comp_bytes.specs.{Raw.ExternName, RawOf.raw_name}
 use Rattle.encode_types.specs.declared.maps.TypeEncodingMaps.{TypeEncodingMaps}
-use Rattle.encode_types.specs.Slots.{Defines, DefinesFunction, Pairs, Standing, tree}
-use Rattle.encode_types.specs.Counts.{Definitions, one_type_more, one_function_more}
-use Rattle.encode_types.specs.Known.{no_around}
-use Rattle.encode_types.specs.Table.{table_scope}
-use Rattle.encode_types.specs.View.{AddsSlot, View}
-use Rattle.encode_flat.specs.declared.encoder.FlatEncoderOf.{FlatEncoderOf}
-use Rattle.encode_flat.specs.declared.forms.Form.{Form}
-use Rattle.encode_flat.specs.declared.forms.Form.TheVariants as form
-use Rattle.encode_flat.specs.declared.marks.Mark.{Mark}
-use Rattle.encode_flat.specs.declared.marks.Mark.TheVariants as mark
+use Rattle.encode_types.specs.{Slots.Defines, Slots.DefinesFunction, Slots.Pairs, Slots.Standing, Slots.tree, Table.table_scope, View.AddsSlot, View.View}
+use Rattle.encode_types.specs.{Counts.Definitions, Counts.one_type_more, Counts.one_function_more, Known.no_around}
+use Rattle.encode_flat.specs.declared.{encoder.FlatEncoderOf.FlatEncoderOf, forms.Form.Form, marks.Mark.Mark}
 use Rattle.encode_flat.specs.Marked.{import_slot, mark_count, slot_count}
+use Rattle.encode_flat.specs.declared.forms.Form.TheVariants as form
+use Rattle.encode_flat.specs.declared.marks.Mark.TheVariants as mark
 
 -- what a form stands for, after the slots that say S
 abbrev pub ReadsAs : Place → Pairs → Form → Standing → Type 0

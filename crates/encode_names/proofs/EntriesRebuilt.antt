@@ -1,15 +1,12 @@
 -- A component type that has imported types, while nothing else has changed, shows these types too.
 use Rattle.std.proofs.Common.{◌≡◌, refl, sym, subst, ap, ◌∙◌, Bool, true, false, ◌&&◌, cond, List, [], ◌∷◌, ◌++◌, length, append-nil}
-use Rattle.std.specs.List.{AllZip, list_all}
 use Rattle.std.proofs.lemmas.List.Folds.{list_all-append}
+use Rattle.std.specs.List.{AllZip, list_all}
 use Rattle.comp_meaning.specs.Follow.{Seen, Shown}
 use Rattle.encode_shown.specs.Views.{ShowsItem, instances_of}
-use Rattle.encode_names.specs.Rebuilt.{is_type_shown, types_seen}
-use Rattle.encode_names.specs.WorldSteps.{EntriesAreRebuilt}
-use Rattle.encode_names.proofs.Rebuilt.{types_come_last}
-use Rattle.encode_names.proofs.WorldSteps.{AreBelow, below-more, flat-appended, shown_instances}
-use Rattle.base_lemmas.proofs.Bools.{left_of as first_true, right_of as second_true}
-use Rattle.base_lemmas.proofs.Elements.{zip-append}
+use Rattle.encode_names.specs.{Rebuilt.is_type_shown, Rebuilt.types_seen, WorldSteps.EntriesAreRebuilt}
+use Rattle.encode_names.proofs.{Rebuilt.types_come_last, WorldSteps.AreBelow, WorldSteps.below-more, WorldSteps.flat-appended, WorldSteps.shown_instances}
+use Rattle.base_lemmas.proofs.{Bools.left_of as first_true, Bools.right_of as second_true, Elements.zip-append}
 
 abbrev AreTypes : List Seen → Type 0
 AreTypes ss = list_all (λ s. is_type_shown s.shown) ss ≡ true

@@ -1,24 +1,17 @@
 -- The instances in the component type of a world are those of the interfaces that it shows, and their types are reached by aliases.
 use Rattle.std.proofs.Common.{◌≡◌, refl, sym, subst, ap, ◌∙◌, Bool, true, false, List, [], ◌∷◌, ◌++◌, Some}
-use Rattle.std.specs.Prelude.{is_some, option_to_list}
-use Rattle.std.specs.List.{AllZip, Contains, flat_map}
-use Rattle.wit_model.specs.Text.{Text, text_of}
-use Rattle.wit_model.specs.Tree.{Place}
-use Rattle.wit_model.specs.Lookup.{interface_path}
-use Rattle.wit_model.specs.Parts.{is_resource}
-use Rattle.wit_model.specs.Uses.{item_interface}
-use Rattle.wit_model.specs.Valid.{IsValid}
+use Rattle.std.proofs.lemmas.List.Elements.{Contains-append_left}
+use Rattle.std.specs.{Prelude.is_some, Prelude.option_to_list, List.AllZip, List.Contains, List.flat_map}
+use Rattle.wit_model.specs.{Text.Text, Text.text_of, Tree.Place, Lookup.interface_path, Parts.is_resource, Uses.item_interface, Valid.IsValid}
 use Rattle.wit_model.specs.declared.model.Resolve.{Resolve}
-use Rattle.wit_model.specs.declared.model.WorldItem.TheVariants as item
 use Rattle.comp_bytes.specs.Reading.{◌>>=◌}
 use Rattle.comp_meaning.specs.Follow.{Seen, exported_slot, in_scope, instance_types, provided}
 use Rattle.encode_shown.specs.Views.{ShowsItem, home_of, instances_of, name_slot}
 use Rattle.encode_shown.proofs.Items.{entry-home, instance-home}
 use Rattle.encode_names.specs.WorldSteps.{AliasesAreNames, Entry, InstancesStand, IsEntryOf, StandsAs, interfaces_among}
-use Rattle.encode_names.proofs.TypesFound.{types_are_found}
-use Rattle.encode_names.proofs.WorldSteps.{entry-of, slots_leave_entries}
-use Rattle.std.proofs.lemmas.List.Elements.{Contains-append_left}
+use Rattle.encode_names.proofs.{TypesFound.types_are_found, WorldSteps.entry-of, WorldSteps.slots_leave_entries}
 use Rattle.base_lemmas.proofs.Elements.{contains-later, contains-one, zip-append}
+use Rattle.wit_model.specs.declared.model.WorldItem.TheVariants as item
 
 module _ (r : Resolve) (v : IsValid r) where
   stands-one : (e : Entry) (s : Seen) → IsEntryOf r e → ShowsItem r e s → AllZip (StandsAs r) (option_to_list (item_interface e.1)) (instances_of s.shown)

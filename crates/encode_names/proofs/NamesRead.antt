@@ -1,36 +1,22 @@
 -- The name of each import and each export of a valid world says which it is.
 use Rattle.std.proofs.Common.{◌≡◌, ◌⊎◌, inl, inr, refl, sym, ap, ◌∙◌, ℕ, Bool, true, false, not, ◌&&◌, cond, Option, Some, None, String, option_map, option_and_then}
-use Rattle.std.specs.declared.alloc.Global.{Global}
-use Rattle.std.specs.Prelude.{is_some}
-use Rattle.std.specs.Option.{option_map_or}
-use Rattle.std.specs.List.{Contains}
 use Rattle.std.proofs.lemmas.List.Elements.{Contains-append_cases}
-use Rattle.wit_model.specs.Text.{Text, text_of}
-use Rattle.wit_model.specs.Names.{is_label}
-use Rattle.wit_model.specs.Lookup.{interface_at, interface_path, path_of_interface}
-use Rattle.wit_model.specs.Meant.{item_external_id}
-use Rattle.wit_model.specs.Rules.{is_id, is_member, is_name_key}
-use Rattle.wit_model.specs.Uses.{item_interface}
-use Rattle.wit_model.specs.Valid.{IsValid, as_world}
-use Rattle.wit_model.specs.declared.model.Resolve.{Resolve}
-use Rattle.wit_model.specs.declared.model.WorldKey.{WorldKey}
-use Rattle.wit_model.specs.declared.model.WorldKey.TheVariants as key
-use Rattle.wit_model.specs.declared.model.WorldItem.{WorldItem}
-use Rattle.wit_model.specs.declared.model.WorldItem.TheVariants as item
-use Rattle.wit_model.specs.declared.model.Interface.{Interface}
-use Rattle.wit_model.specs.declared.model.InterfaceId.{InterfaceId}
+use Rattle.std.specs.declared.alloc.Global.{Global}
+use Rattle.std.specs.{Prelude.is_some, Option.option_map_or, List.Contains}
+use Rattle.wit_model.specs.{Text.Text, Text.text_of, Names.is_label, Meant.item_external_id, Uses.item_interface, Valid.IsValid, Valid.as_world}
+use Rattle.wit_model.specs.{Lookup.interface_at, Lookup.interface_path, Lookup.path_of_interface, Rules.is_id, Rules.is_member, Rules.is_name_key}
+use Rattle.wit_model.specs.declared.model.{Resolve.Resolve, WorldKey.WorldKey, WorldItem.WorldItem, Interface.Interface, InterfaceId.InterfaceId}
 use Rattle.wit_model.proofs.OnePath.{found-in, named-path}
-use Rattle.comp_bytes.specs.Raw.{ExternName}
-use Rattle.comp_bytes.specs.Reading.{◌>>=◌}
+use Rattle.comp_bytes.specs.{Raw.ExternName, Reading.◌>>=◌}
 use Rattle.comp_meaning.specs.Follow.{Key, complete_path, key_of, provided}
 use Rattle.encode_shown.specs.Views.{instance_key}
 use Rattle.encode_shown.proofs.Entries.{IsEntry, import-entry, export-entry, interface-key-path}
 use Rattle.encode_names.specs.WorldNames.{name_of_item, written_path, written_suffix}
 use Rattle.encode_names.specs.NameLaws.{NamesAreRead, ReadsAs, Says}
 use Rattle.encode_names.proofs.PathsRead.{path-key, written-path}
-use Rattle.base_lemmas.proofs.Bools.{left_of as first_true}
-use Rattle.base_lemmas.proofs.Numbers.{equal}
-use Rattle.base_lemmas.proofs.Options.{there as some-of}
+use Rattle.base_lemmas.proofs.{Bools.left_of as first_true, Numbers.equal, Options.there as some-of}
+use Rattle.wit_model.specs.declared.model.WorldKey.TheVariants as key
+use Rattle.wit_model.specs.declared.model.WorldItem.TheVariants as item
 
 -- nothing completes a name without a path
 pub no-suffix : (r : Resolve) (canonical : Bool) → written_suffix r canonical None ≡ None

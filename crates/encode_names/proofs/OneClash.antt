@@ -1,10 +1,9 @@
 -- A list has one first repeat at most, and none where its texts are different.
 use Rattle.std.proofs.Common.{◌≡◌, sym, ap, subst, ◌∙◌, ◌⊎◌, inl, inr, true, false, List, [], ◌∷◌, ◌++◌}
-use Rattle.std.specs.List.{AllByRecursion, Contains, IsDistinct}
 use Rattle.std.proofs.lemmas.List.Elements.{Contains-append_cases, Contains-append_left, Contains-append_right}
+use Rattle.std.specs.List.{AllByRecursion, Contains, IsDistinct}
 use Rattle.wit_model.specs.Text.{Text, text_eq}
-use Rattle.wit_model.proofs.VersionLaws.{same_text}
-use Rattle.wit_model.proofs.Elements.{none-in}
+use Rattle.wit_model.proofs.{VersionLaws.same_text, Elements.none-in}
 use Rattle.encode_names.proofs.Lists.{head-of, tail-of}
 use Rattle.encode_names.specs.Clashes.{canonical_names_of, AreDifferent, IsClash, IsFirstRepeat}
 use Rattle.encode_names.specs.ClashLaws.{NoClashWithout, OneClash}

@@ -1,16 +1,11 @@
 -- Names that are seen one after the other: the next canonical path, and what comes of a name that was seen.
 use Rattle.std.proofs.Common.{◌≡◌, refl, sym, ap, subst, ◌∙◌, ℕ, ◌<◌, ◌≤◌, ◌+◌, List, [], ◌∷◌, ◌++◌, append_assoc, add-one, drop, get_or, length, map, true, Result, Ok, Err, IfErr}
-use Rattle.std.specs.Prelude.{IsErrAnd, String}
-use Rattle.std.specs.List.{Contains}
+use Rattle.std.proofs.{Math.Seq.drop-cons, lemmas.List.append-nil, lemmas.List.drop_all}
+use Rattle.std.specs.{Prelude.IsErrAnd, Prelude.String, List.Contains}
 use Rattle.std.specs.declared.alloc.Global.{Global}
-use Rattle.std.proofs.Math.Seq.{drop-cons}
-use Rattle.std.proofs.lemmas.List.{append-nil, drop_all}
 use Rattle.wit_model.specs.Text.{Text, text_of}
 use Rattle.wit_model.specs.declared.error.Error.{Error}
-use Rattle.wit_model.specs.declared.model.Resolve.{Resolve}
-use Rattle.wit_model.specs.declared.model.InterfaceId.{InterfaceId}
-use Rattle.wit_model.specs.declared.model.WorldKey.{WorldKey}
-use Rattle.wit_model.specs.declared.model.WorldItem.{WorldItem}
+use Rattle.wit_model.specs.declared.model.{Resolve.Resolve, InterfaceId.InterfaceId, WorldKey.WorldKey, WorldItem.WorldItem}
 use Rattle.encode_names.specs.WorldNames.{written_path}
 use Rattle.encode_names.specs.Clashes.{canonical_names_of, canonical_paths_of, AreDifferent, IsFirstRepeat, RefusesItems, RefusesPaths, RefusesText}
 

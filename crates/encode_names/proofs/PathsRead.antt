@@ -1,30 +1,21 @@
 -- The path of an interface, as it is written and completed, reads as its path.
 use Rattle.std.proofs.Common.{◌≡◌, refl, sym, ap, ◌∙◌, ℕ, ◌<◌, Bool, true, false, not, ◌&&◌, ◌==◌, nat_lt, cond, [], ◌∷◌, ◌++◌, length, decimal, append-nil, Option, Some, None, option_map, option_and_then, unwrap_or, arith}
-use Rattle.std.specs.Prelude.{is_some}
-use Rattle.std.specs.List.{list_all}
-use Rattle.std.proofs.lemmas.List.Folds.{list_all-append}
-use Rattle.std.proofs.lemmas.Fmt.{decimal_nonempty}
+use Rattle.std.proofs.lemmas.{List.Folds.list_all-append, Fmt.decimal_nonempty, Option.same_Some as same-some}
+use Rattle.std.specs.{Prelude.is_some, List.list_all}
 use Rattle.semver.specs.declared.Version.{Version}
-use Rattle.semver.specs.Identifiers.{parts_of, parts_text}
-use Rattle.semver.specs.Grammar as grammar
-use Rattle.semver.specs.Parse.{Parts}
-use Rattle.wit_model.specs.Text.{Text, text_of}
+use Rattle.semver.specs.{Identifiers.parts_of, Identifiers.parts_text, Parse.Parts}
+use Rattle.wit_model.specs.{Text.Text, Text.text_of, Rules.passes, Valid.IsValid}
 use Rattle.wit_model.specs.Names.{PackageIdentity, path_in, cut, is_label, is_version, read_path, canonical_version, version_suffix}
 use Rattle.wit_model.specs.Lookup.{interface_path, canonical_path, canonical_suffix, canonical_identity_of, identity_of}
-use Rattle.wit_model.specs.Rules.{passes}
-use Rattle.wit_model.specs.Valid.{IsValid}
-use Rattle.wit_model.specs.declared.model.Resolve.{Resolve}
-use Rattle.wit_model.specs.declared.model.PackageName.{PackageName}
-use Rattle.wit_model.proofs.NameLaws.{label_lacks, spelled_path_reads}
-use Rattle.wit_model.proofs.OnePath.{HasPath, has-path, package-name, path-label}
-use Rattle.wit_model.proofs.PathParts.{canonical_found, canonical_paths_join, suffix_found}
+use Rattle.wit_model.specs.declared.model.{Resolve.Resolve, PackageName.PackageName}
+use Rattle.wit_model.proofs.{NameLaws.label_lacks, NameLaws.spelled_path_reads, OnePath.HasPath, OnePath.has-path, OnePath.package-name, OnePath.path-label}
+use Rattle.wit_model.proofs.{PathParts.canonical_found, PathParts.canonical_paths_join, PathParts.suffix_found, PathsLemmas.named_in_full as full-name}
 use Rattle.wit_model.proofs.VersionLaws.{valid_parts}
 use Rattle.comp_bytes.specs.Reading.{◌>>=◌}
 use Rattle.comp_meaning.specs.Follow.{Key, complete_path, is_begun_version, is_filled, plain_key, provided}
 use Rattle.encode_names.specs.WorldNames.{written_path, written_suffix}
 use Rattle.base_lemmas.proofs.Bools.{no-and}
-use Rattle.std.proofs.lemmas.Option.{same_Some as same-some}
-use Rattle.wit_model.proofs.PathsLemmas.{named_in_full as full-name}
+use Rattle.semver.specs.Grammar as grammar
 
 -- ---- texts
 

@@ -1,9 +1,7 @@
 -- What the list of imports, or that of exports, is refused for, the world is refused for.
 use Rattle.std.proofs.Common.{◌≡◌, sym, subst, true, Bool, Result, Ok, Err, IfErr}
 use Rattle.std.specs.Prelude.{IsErrAnd}
-use Rattle.wit_model.specs.declared.error.Error.{Error}
-use Rattle.wit_model.specs.declared.model.Resolve.{Resolve}
-use Rattle.wit_model.specs.declared.model.World.{World}
+use Rattle.wit_model.specs.declared.{error.Error.Error, model.Resolve.Resolve, model.World.World}
 use Rattle.encode_names.specs.Clashes.{canonical_names_of, AreDifferent, IsClash, RefusesItems, RefusesNames}
 
 module _ (r : Resolve) (w : World) (canonical : Bool) (is : canonical ≡ true) where

@@ -1,11 +1,8 @@
 -- Texts that are seen one after the other: a text that was seen, and one that is new.
 use Rattle.std.proofs.Common.{◌≡◌, sym, ap, subst, ◌∙◌, true, false, cond, Bool, List, [], ◌∷◌, ◌++◌, map, String}
+use Rattle.std.proofs.lemmas.{List.map-append, Cmp.nat_list_eq_equiv, Map.Keys.IsDistinct-push, Map.Views.Contains-from_any}
 use Rattle.std.specs.declared.alloc.Global.{Global}
 use Rattle.std.specs.List.{list_any, Contains, IsDistinct}
-use Rattle.std.proofs.lemmas.List.{map-append}
-use Rattle.std.proofs.lemmas.Cmp.{nat_list_eq_equiv}
-use Rattle.std.proofs.lemmas.Map.Keys.{IsDistinct-push}
-use Rattle.std.proofs.lemmas.Map.Views.{Contains-from_any}
 use Rattle.wit_model.specs.Text.{Text, text_eq, text_of}
 use Rattle.base_lemmas.proofs.Elements.{any_of_map as list_any_mapped}
 use Rattle.wit_model.proofs.TextLemmas.{text_same as text-same}

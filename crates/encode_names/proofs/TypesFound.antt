@@ -1,22 +1,15 @@
 -- A view that shows an interface has each named type of the interface under its name.
 use Rattle.std.proofs.Common.{◌≡◌, refl, sym, ap, ◌∙◌, ℕ, Bool, true, false, cond, List, [], ◌∷◌, map, Some, String, option_map}
 use Rattle.std.specs.declared.alloc.Global.{Global}
-use Rattle.std.specs.Map.{lookup}
-use Rattle.std.specs.Option.{option_map_or}
-use Rattle.std.specs.HashMap.{get_by_text}
-use Rattle.wit_model.specs.Text.{Text, text_eq, text_of}
-use Rattle.wit_model.specs.Tree.{Place}
-use Rattle.wit_model.specs.Lookup.{interface_at}
-use Rattle.wit_model.specs.Parts.{is_resource}
-use Rattle.wit_model.specs.Rules.{is_id, is_listed, is_listed_in_interface, passes}
-use Rattle.wit_model.specs.declared.model.Resolve.{Resolve}
-use Rattle.wit_model.specs.declared.model.TypeId.{TypeId}
+use Rattle.std.specs.{Map.lookup, Option.option_map_or, HashMap.get_by_text}
+use Rattle.wit_model.specs.{Text.Text, Text.text_eq, Text.text_of, Parts.is_resource, Rules.is_id, Rules.is_listed, Rules.is_listed_in_interface, Rules.passes}
+use Rattle.wit_model.specs.{Tree.Place, Lookup.interface_at}
+use Rattle.wit_model.specs.declared.model.{Resolve.Resolve, TypeId.TypeId}
 use Rattle.comp_meaning.specs.Follow.{find_type}
 use Rattle.encode_shown.specs.Views.{home_of, name_slot, shown_type, types_of}
 use Rattle.encode_shown.proofs.Members.{valid-listed}
 use Rattle.encode_names.specs.WorldSteps.{TypesAreFound}
-use Rattle.base_lemmas.proofs.Bools.{left_of as first_true}
-use Rattle.base_lemmas.proofs.Numbers.{equal}
+use Rattle.base_lemmas.proofs.{Bools.left_of as first_true, Numbers.equal}
 use Rattle.wit_model.proofs.TextLemmas.{text_same as text-same}
 
 -- what a look-up by name finds is shown under that name

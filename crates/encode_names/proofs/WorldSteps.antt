@@ -1,42 +1,27 @@
 -- One declaration more in the component type of a world, followed, shows one import or export more.
 use Rattle.std.proofs.Common.{◌≡◌, ◌⊎◌, inl, inr, refl, sym, subst, ap, ◌∙◌, ℕ, ◌+◌, ◌<◌, ◌≤◌, Bool, true, false, not, ◌||◌, ◌==◌, nat_lt, List, [], ◌∷◌, ◌++◌, length, length-append, take, append-nil, append_assoc, Option, Some, None, slice_get, unwrap_or, arith}
-use Rattle.std.specs.Prelude.{is_some}
-use Rattle.std.specs.List.{AllZip, Contains, flat_map, list_all, list_any}
-use Rattle.std.proofs.Math.Seq.{take-append_seam}
-use Rattle.std.proofs.lemmas.Bool.{ltb-true, lt-ltb, and_from as both}
-use Rattle.std.proofs.lemmas.Option.{some_pair_parts, same_Some as same-some}
-use Rattle.std.proofs.lemmas.List.Elements.{Contains-append_cases}
-use Rattle.std.proofs.lemmas.List.Folds.{list_all-append}
-use Rattle.wit_model.specs.Text.{Text, text_of}
-use Rattle.wit_model.specs.Tree as tree
-use Rattle.wit_model.specs.Tree.{Place, here}
-use Rattle.wit_model.specs.Lookup.{interface_path, key_text}
-use Rattle.wit_model.specs.Meaning.{Signature}
-use Rattle.wit_model.specs.Meant.{signature_of, type_meaning_at}
-use Rattle.wit_model.specs.Rules.{is_id}
-use Rattle.wit_model.specs.Uses.{item_interface}
-use Rattle.wit_model.specs.Valid.{IsValid}
-use Rattle.wit_model.specs.declared.model.Resolve.{Resolve}
-use Rattle.wit_model.specs.declared.model.WorldKey.{WorldKey}
-use Rattle.wit_model.specs.declared.model.WorldKey.TheVariants as key
-use Rattle.wit_model.specs.declared.model.WorldItem.{WorldItem}
-use Rattle.wit_model.specs.declared.model.WorldItem.TheVariants as item
+use Rattle.std.proofs.{Math.Seq.take-append_seam, lemmas.List.Elements.Contains-append_cases, lemmas.List.Folds.list_all-append}
+use Rattle.std.proofs.lemmas.{Bool.ltb-true, Bool.lt-ltb, Bool.and_from as both, Option.some_pair_parts, Option.same_Some as same-some}
+use Rattle.std.specs.{Prelude.is_some, List.AllZip, List.Contains, List.flat_map, List.list_all, List.list_any}
+use Rattle.wit_model.specs.{Text.Text, Text.text_of, Tree.Place, Tree.here, Lookup.interface_path, Lookup.key_text, Meant.signature_of, Meant.type_meaning_at}
+use Rattle.wit_model.specs.{Meaning.Signature, Rules.is_id, Uses.item_interface, Valid.IsValid}
+use Rattle.wit_model.specs.declared.model.{Resolve.Resolve, WorldKey.WorldKey, WorldItem.WorldItem}
 use Rattle.wit_model.proofs.Elements.{zip-push}
-use Rattle.comp_bytes.specs.Raw.{Declaration, ExternName}
-use Rattle.comp_bytes.specs.Reading.{◌>>=◌}
+use Rattle.comp_bytes.specs.{Raw.Declaration, Raw.ExternName, Reading.◌>>=◌}
 use Rattle.comp_bytes.specs.declared.forms.ComponentTypeRef.{ComponentTypeRef}
-use Rattle.comp_bytes.specs.declared.forms.ComponentTypeRef.TheVariants as refs
-use Rattle.comp_meaning.specs.Follow as follow
 use Rattle.comp_meaning.specs.Follow.{Direction, import_, export_, Instance, Key, Scope, Seen, Shown, Slot, View, component_step, declared_by, function_in, in_scope, instance_types, instance_view, interface_of, is_simple, key_of, named_like, named_type, provided, see, used_view, when}
 use Rattle.encode_shown.specs.Views.{IsViewOf, ShowsInterface, ShowsItem, home_of, instance_key, instances_of, shown_item}
 use Rattle.encode_shown.proofs.Entries.{IsEntry, import-entry, export-entry}
 use Rattle.encode_shown.proofs.Items.{entry-home, has_home, instance-home, path-home}
-use Rattle.encode_names.specs.WorldNames.{name_of_item}
-use Rattle.encode_names.specs.NameLaws.{IsKeyAlone, ReadsAs, Says}
+use Rattle.encode_names.specs.{WorldNames.name_of_item, NameLaws.IsKeyAlone, NameLaws.ReadsAs, NameLaws.Says}
 use Rattle.encode_names.specs.WorldSteps.{Entries, Entry, FunctionsAreShown, InterfacesAreShown, IsEntryOf, IsTurnOf, NothingIsShown, ShowsEntries, SlotsLeaveEntries, TypesAreShown, WorldsAreShown, declared_towards, seen_function, seen_instance, seen_type, with_entry, with_instance}
 use Rattle.encode_names.proofs.NamesRead.{names_are_read}
-use Rattle.base_lemmas.proofs.Bools.{left_of as first_true, right_of as second_true}
-use Rattle.base_lemmas.proofs.Numbers.{apart, equal, same-number}
+use Rattle.base_lemmas.proofs.{Bools.left_of as first_true, Bools.right_of as second_true, Numbers.apart, Numbers.equal, Numbers.same-number}
+use Rattle.wit_model.specs.Tree as tree
+use Rattle.wit_model.specs.declared.model.WorldKey.TheVariants as key
+use Rattle.wit_model.specs.declared.model.WorldItem.TheVariants as item
+use Rattle.comp_bytes.specs.declared.forms.ComponentTypeRef.TheVariants as refs
+use Rattle.comp_meaning.specs.Follow as follow
 
 -- ---- slots
 

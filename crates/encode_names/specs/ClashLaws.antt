@@ -1,8 +1,7 @@
 -- Laws of the canonical names that repeat.
 use Rattle.std.specs.Prelude.{◌≡◌}
 use Rattle.wit_model.specs.Text.{Text}
-use Rattle.wit_model.specs.declared.model.Resolve.{Resolve}
-use Rattle.wit_model.specs.declared.model.World.{World}
+use Rattle.wit_model.specs.declared.model.{Resolve.Resolve, World.World}
 use Rattle.encode_names.specs.Clashes.{HasNoClash, IsClash}
 
 -- A world clashes at one name at most, and at none where it has no clash.

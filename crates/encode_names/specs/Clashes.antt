@@ -3,13 +3,9 @@ use Rattle.std.specs.Prelude.{◌≡◌, ℕ, Bool, true, List, ◌∷◌, ◌++
 use Rattle.std.specs.List.{Contains, IsDistinct}
 use Rattle.std.specs.declared.alloc.Global.{Global}
 use Rattle.wit_model.specs.Text.{Text, text_eq, text_of}
-use Rattle.wit_model.specs.declared.error.Error.{Error}
-use Rattle.wit_model.specs.declared.error.Error.TheVariants as errors
-use Rattle.wit_model.specs.declared.model.Resolve.{Resolve}
-use Rattle.wit_model.specs.declared.model.World.{World}
-use Rattle.wit_model.specs.declared.model.WorldKey.{WorldKey}
-use Rattle.wit_model.specs.declared.model.WorldItem.{WorldItem}
+use Rattle.wit_model.specs.declared.{error.Error.Error, model.Resolve.Resolve, model.World.World, model.WorldKey.WorldKey, model.WorldItem.WorldItem}
 use Rattle.encode_names.specs.WorldNames.{written_key, written_path}
+use Rattle.wit_model.specs.declared.error.Error.TheVariants as errors
 
 -- the canonical names of imports, or of exports
 abbrev pub canonical_names_of : Resolve → List (WorldKey × WorldItem) → List Text

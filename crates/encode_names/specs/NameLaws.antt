@@ -1,18 +1,13 @@
 -- What the names of imports and exports say when they are read.
 use Rattle.std.specs.Prelude.{◌≡◌, ℕ, Bool, true, ◌++◌, Some}
 use Rattle.std.specs.List.{Contains}
-use Rattle.wit_model.specs.Lookup.{world_at, interface_path, key_text}
-use Rattle.wit_model.specs.Meant.{item_external_id}
-use Rattle.wit_model.specs.Valid.{IsValid}
-use Rattle.wit_model.specs.declared.model.Resolve.{Resolve}
-use Rattle.wit_model.specs.declared.model.World.{World}
-use Rattle.wit_model.specs.declared.model.WorldKey.{WorldKey}
-use Rattle.wit_model.specs.declared.model.WorldItem.{WorldItem}
-use Rattle.wit_model.specs.declared.model.WorldItem.TheVariants as item
+use Rattle.wit_model.specs.{Lookup.world_at, Lookup.interface_path, Lookup.key_text, Meant.item_external_id, Valid.IsValid}
+use Rattle.wit_model.specs.declared.model.{Resolve.Resolve, World.World, WorldKey.WorldKey, WorldItem.WorldItem}
 use Rattle.comp_bytes.specs.Raw.{ExternName}
 use Rattle.comp_meaning.specs.Follow.{key_of, is_simple}
 use Rattle.encode_shown.specs.Views.{instance_key}
 use Rattle.encode_names.specs.WorldNames.{name_of_item}
+use Rattle.wit_model.specs.declared.model.WorldItem.TheVariants as item
 
 -- What a name without attributes but perhaps an external id says: the key's text.
 pub record IsKeyAlone (r : Resolve) (k : WorldKey) (name : ExternName) : Type 0 where

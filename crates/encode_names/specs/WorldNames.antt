@@ -1,15 +1,11 @@
 -- The names under which the imports and exports of a world are written (Component Model Binary.md, "Import and Export Definitions"): each
 -- path with its whole version, or with the canonical part of it and an attribute that completes it.
 use Rattle.std.specs.Prelude.{ℕ, Bool, if◌then◌else◌, [], Option, Some, None, option_map, option_and_then, unwrap_or}
-use Rattle.wit_model.specs.Text.{Text, text_of}
-use Rattle.wit_model.specs.Lookup.{interface_path, canonical_path, canonical_suffix}
+use Rattle.wit_model.specs.{Text.Text, Text.text_of, Lookup.interface_path, Lookup.canonical_path, Lookup.canonical_suffix, Meant.item_external_id}
 use Rattle.wit_model.specs.Calls.{implemented}
-use Rattle.wit_model.specs.Meant.{item_external_id}
-use Rattle.wit_model.specs.declared.model.Resolve.{Resolve}
-use Rattle.wit_model.specs.declared.model.WorldKey.{WorldKey}
-use Rattle.wit_model.specs.declared.model.WorldKey.TheVariants as key
-use Rattle.wit_model.specs.declared.model.WorldItem.{WorldItem}
+use Rattle.wit_model.specs.declared.model.{Resolve.Resolve, WorldKey.WorldKey, WorldItem.WorldItem}
 use Rattle.comp_bytes.specs.Raw.{ExternName}
+use Rattle.wit_model.specs.declared.model.WorldKey.TheVariants as key
 
 -- the path of an interface, as it is written
 abbrev pub written_path : Resolve → Bool → ℕ → Text

@@ -3,33 +3,19 @@
 use Rattle.std.specs.Prelude.{◌≡◌, ◌≤◌, ℕ, Bool, true, is_some, option_to_list, List, [], ◌∷◌, ◌++◌, length, Some, slice_get, String, nat_lt}
 use Rattle.std.specs.List.{AllZip, Contains, flat_map, list_all}
 use Rattle.std.specs.declared.alloc.Global.{Global}
-use Rattle.wit_model.specs.Text.{text_of}
-use Rattle.wit_model.specs.Tree as tree
-use Rattle.wit_model.specs.Tree.{here}
-use Rattle.wit_model.specs.Lookup.{interface_at, interface_path, type_at, world_at}
-use Rattle.wit_model.specs.Meaning.{Signature}
-use Rattle.wit_model.specs.Meant.{signature_of, type_meaning_at}
-use Rattle.wit_model.specs.Parts.{is_resource}
-use Rattle.wit_model.specs.Uses.{item_interface}
-use Rattle.wit_model.specs.Valid.{IsValid}
-use Rattle.wit_model.specs.declared.model.Resolve.{Resolve}
-use Rattle.wit_model.specs.declared.model.World.{World}
-use Rattle.wit_model.specs.declared.model.WorldKey.{WorldKey}
-use Rattle.wit_model.specs.declared.model.WorldItem.{WorldItem}
-use Rattle.wit_model.specs.declared.model.WorldItem.TheVariants as item
-use Rattle.wit_model.specs.declared.model.Function.{Function}
-use Rattle.wit_model.specs.declared.model.Interface.{Interface}
-use Rattle.wit_model.specs.declared.model.InterfaceId.{InterfaceId}
-use Rattle.wit_model.specs.declared.model.TypeDef.{TypeDef}
-use Rattle.wit_model.specs.declared.model.TypeId.{TypeId}
-use Rattle.wit_model.specs.declared.model.TypeOwner.TheVariants as owner
+use Rattle.wit_model.specs.{Text.text_of, Meaning.Signature, Parts.is_resource, Uses.item_interface, Valid.IsValid}
+use Rattle.wit_model.specs.{Tree.here, Lookup.interface_at, Lookup.interface_path, Lookup.type_at, Lookup.world_at, Meant.signature_of, Meant.type_meaning_at}
+use Rattle.wit_model.specs.declared.model.{Resolve.Resolve, TypeDef.TypeDef, TypeId.TypeId}
+use Rattle.wit_model.specs.declared.model.{World.World, WorldKey.WorldKey, WorldItem.WorldItem, Function.Function, Interface.Interface, InterfaceId.InterfaceId}
 use Rattle.comp_bytes.specs.Raw.{Alias, Declaration, Declarations, ExternName}
 use Rattle.comp_bytes.specs.declared.forms.ComponentTypeRef.{ComponentTypeRef}
-use Rattle.comp_bytes.specs.declared.forms.ComponentTypeRef.TheVariants as refs
 use Rattle.comp_meaning.specs.Follow.{Direction, import_, export_, Instance, Key, Scope, Seen, Shown, Slot, View, component_scope, component_step, component_steps, find_type, function_in, in_scope, instance_types, instance_view, interface_of, key_text, named_type, new_scope, see}
 use Rattle.encode_shown.specs.Views.{ShowsInterface, ShowsItem, ShowsWorld, home_of, instance_key, instances_of, name_slot}
-use Rattle.encode_names.specs.WorldNames.{name_of_item}
-use Rattle.encode_names.specs.Rebuilt.{others_seen, types_seen}
+use Rattle.encode_names.specs.{WorldNames.name_of_item, Rebuilt.others_seen, Rebuilt.types_seen}
+use Rattle.wit_model.specs.Tree as tree
+use Rattle.wit_model.specs.declared.model.WorldItem.TheVariants as item
+use Rattle.wit_model.specs.declared.model.TypeOwner.TheVariants as owner
+use Rattle.comp_bytes.specs.declared.forms.ComponentTypeRef.TheVariants as refs
 
 -- ---- imports and exports so far
 

@@ -1,8 +1,7 @@
 //! Canonical names that repeat.
 
 ghost use Rattle.std.specs.Prelude.{◌≡◌, ◌++◌, ◌∷◌, [], false, true, IfErr, IfOk, IsOk, OnOk, map};
-ghost use Rattle.wit_model.specs.Text.{text_of};
-ghost use Rattle.wit_model.specs.Refusals.{IsMemory};
+ghost use Rattle.wit_model.specs.{Text.text_of, Refusals.IsMemory};
 ghost use Rattle.encode_names.specs.WorldNames.{written_key};
 ghost use Rattle.encode_names.specs.Clashes.{canonical_names_of, canonical_paths_of, AreDifferent, HasNoClash, RefusesItems, RefusesNames, RefusesPaths, RefusesText};
 

@@ -1,10 +1,7 @@
 //! The names under which the imports and exports of a world are written.
 
-ghost use Rattle.std.specs.Prelude.{◌≡◌, IfOk, IfErr, option_map};
-ghost use Rattle.std.specs.Option.{option_copied};
-ghost use Rattle.std.specs.Cow.{cow_str_bytes};
-ghost use Rattle.wit_model.specs.Text.{text_of};
-ghost use Rattle.wit_model.specs.Refusals.{IsMemory};
+ghost use Rattle.std.specs.{Prelude.◌≡◌, Prelude.IfOk, Prelude.IfErr, Prelude.option_map, Option.option_copied, Cow.cow_str_bytes};
+ghost use Rattle.wit_model.specs.{Text.text_of, Refusals.IsMemory};
 ghost use Rattle.comp_bytes.specs.RawOf.{raw_name, text_given};
 ghost use Rattle.encode_names.specs.WorldNames.{name_of_interface, name_of_item, pathed_interface as pathed_interface_lem, written_key as written_key_lem, written_path as written_path_lem, written_suffix as written_suffix_lem};
 

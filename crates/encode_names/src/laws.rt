@@ -1,8 +1,6 @@
 //! Laws of the names of imports and exports, of their clashes, and of what is shown under them.
 
-ghost use Rattle.encode_names.specs.ClashLaws.{NoClashWithout, OneClash};
-ghost use Rattle.encode_names.specs.NameLaws.{NamesAreRead};
-ghost use Rattle.encode_names.specs.Rebuilt.{ImportsAreKnown, TypesComeLast};
+ghost use Rattle.encode_names.specs.{ClashLaws.NoClashWithout, ClashLaws.OneClash, NameLaws.NamesAreRead, Rebuilt.ImportsAreKnown, Rebuilt.TypesComeLast};
 ghost use Rattle.encode_names.specs.WorldSteps.{AliasesAreNames, EntriesAreRebuilt, FunctionsAreShown, InstancesStand, InterfacesAreShown, NothingIsShown, SlotsLeaveEntries, TypesAreFound, TypesAreShown, WorldsAreShown};
 
 /// The name of each import and each export of a valid world says which it is, with canonical names and without. That of an interface is

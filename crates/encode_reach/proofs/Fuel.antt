@@ -1,14 +1,11 @@
 -- Numbers fall along uses: so what is listed with an interface, and the steps that it takes, are the same for every bound above its number.
 use Rattle.std.proofs.Common.{◌≡◌, ◌⊎◌, inl, inr, refl, sym, ap, ◌∙◌, ℕ, zero, suc, ◌+◌, ◌<◌, ◌≤◌, arith, Bool, true, false, ◌||◌, ◌==◌, List, [], ◌∷◌, ◌++◌}
+use Rattle.std.proofs.lemmas.{Bool.eqb-true, Bool.eq-eqb, Bool.or_left, Bool.or_right, List.Folds.list_any-append}
 use Rattle.std.specs.Prelude.{if◌then◌else◌, fold}
-use Rattle.std.proofs.lemmas.Bool.{eqb-true, eq-eqb, or_left, or_right}
-use Rattle.std.proofs.lemmas.List.Folds.{list_any-append}
 use Rattle.wit_model.specs.declared.model.Resolve.{Resolve}
-use Rattle.wit_model.specs.Uses.{has, direct_deps}
-use Rattle.wit_model.specs.Valid.{IsValid}
+use Rattle.wit_model.specs.{Uses.has, Uses.direct_deps, Valid.IsValid}
 use Rattle.wit_model.proofs.Chains.{uses_fall}
-use Rattle.encode_reach.specs.Reach.{add, listed_with}
-use Rattle.encode_reach.specs.Walk.{sum_along, steps_for}
+use Rattle.encode_reach.specs.{Reach.add, Reach.listed_with, Walk.sum_along, Walk.steps_for}
 
 -- ---- functions that agree on each of these
 

@@ -1,15 +1,11 @@
 -- What is listed in order is what is reached: each once, behind what it uses, and used by a later one.
 use Rattle.std.proofs.Common.{◌≡◌, ◌⊎◌, inl, inr, refl, sym, ap, subst, ◌∙◌, ℕ, zero, suc, ◌<◌, arith, Bool, true, false, ◌||◌, ◌==◌, List, [], ◌∷◌, ◌++◌}
-use Rattle.std.specs.Prelude.{if◌then◌else◌, fold}
-use Rattle.std.specs.List.{AllByRecursion, Contains, IsDistinct}
-use Rattle.std.proofs.lemmas.Bool.{eqb-true, eq-eqb, or_left, or_right}
-use Rattle.std.proofs.lemmas.List.{append-nil, append_assoc}
+use Rattle.std.proofs.lemmas.{Bool.eqb-true, Bool.eq-eqb, Bool.or_left, Bool.or_right, List.append-nil, List.append_assoc}
 use Rattle.std.proofs.lemmas.List.Elements.{Contains-append_left, Contains-append_right, Contains-append_cases}
+use Rattle.std.specs.{Prelude.if◌then◌else◌, Prelude.fold, List.AllByRecursion, List.Contains, List.IsDistinct}
 use Rattle.wit_model.specs.declared.model.Resolve.{Resolve}
-use Rattle.wit_model.specs.Uses.{has, direct_deps}
-use Rattle.wit_model.specs.Valid.{IsValid}
-use Rattle.wit_model.proofs.Chains.{uses_fall}
-use Rattle.wit_model.proofs.Elements.{has-contains, contains-has}
+use Rattle.wit_model.specs.{Uses.has, Uses.direct_deps, Valid.IsValid}
+use Rattle.wit_model.proofs.{Chains.uses_fall, Elements.has-contains, Elements.contains-has}
 use Rattle.encode_shown.specs.Views.{AreReached, AreUsed, UseEarlier}
 use Rattle.encode_reach.specs.Reach.{add, listed_with, reached_in_order}
 use Rattle.encode_reach.proofs.Fuel.{not-among-uses}

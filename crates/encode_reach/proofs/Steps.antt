@@ -1,18 +1,16 @@
 -- A step of the walk keeps what is listed at the end, and leaves fewer steps.
 use Rattle.std.proofs.Common.{◌≡◌, refl, sym, ap, ◌∙◌, ℕ, suc, ◌+◌, arith, true, false, nat_eq, List, [], ◌∷◌, ◌++◌, map, reverse}
-use Rattle.std.specs.Prelude.{if◌then◌else◌, fold}
 use Rattle.std.proofs.lemmas.List.{map-append, reverse-append}
+use Rattle.std.specs.Prelude.{if◌then◌else◌, fold}
 use Rattle.indexmap.specs.IndexSet.{insert_key}
-use Rattle.wit_model.specs.declared.model.Resolve.{Resolve}
-use Rattle.wit_model.specs.declared.model.InterfaceId.{InterfaceId}
-use Rattle.wit_model.specs.Uses.{has, direct_deps}
-use Rattle.wit_model.specs.Valid.{IsValid}
+use Rattle.wit_model.specs.declared.model.{Resolve.Resolve, InterfaceId.InterfaceId}
+use Rattle.wit_model.specs.{Uses.has, Uses.direct_deps, Valid.IsValid}
 use Rattle.encode_reach.specs.Reach.{add, listed_with, reached_in_order}
 use Rattle.encode_reach.specs.Walk.{listed_after, listed_at_end, sum_along, steps_for, steps_of, steps_left, visits, IsDone}
 use Rattle.encode_reach.specs.declared.reach.Step.{Step}
-use Rattle.encode_reach.specs.declared.reach.Step.TheVariants as step
 use Rattle.encode_reach.proofs.Fuel.{each-bound, each-bound-steps}
 use Rattle.wit_model.proofs.UsesLemmas.{any_is_has as held}
+use Rattle.encode_reach.specs.declared.reach.Step.TheVariants as step
 
 -- a set of numbers has what the list of them has
 

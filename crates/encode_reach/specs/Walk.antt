@@ -1,7 +1,6 @@
 -- The steps of a walk along uses that are still to be done, and how many steps they take.
 use Rattle.std.specs.Prelude.{◌≡◌, ◌<◌, ℕ, zero, suc, ◌+◌, if◌then◌else◌, List, [], ◌∷◌, ◌++◌, map, reverse}
-use Rattle.wit_model.specs.declared.model.Resolve.{Resolve}
-use Rattle.wit_model.specs.declared.model.InterfaceId.{InterfaceId}
+use Rattle.wit_model.specs.declared.model.{Resolve.Resolve, InterfaceId.InterfaceId}
 use Rattle.wit_model.specs.Uses.{has, direct_deps}
 use Rattle.encode_reach.specs.Reach.{add, listed_with}
 use Rattle.encode_reach.specs.declared.reach.Step.{Step}

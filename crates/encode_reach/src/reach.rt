@@ -1,10 +1,8 @@
 //! The interfaces that an interface reaches, each behind those that it uses.
 
 ghost use Rattle.std.specs.Prelude.{◌≡◌, ◌++◌, [], List, map, reverse, IfOk, IfErr, OnOk};
-ghost use Rattle.encode_reach.specs.Reach.{reached_in_order};
-ghost use Rattle.encode_reach.specs.Walk.{IsDone, listed_at_end, visits};
-ghost use Rattle.wit_model.specs.Valid.{IsValid};
-ghost use Rattle.wit_model.specs.Refusals.{IsMemory};
+ghost use Rattle.encode_reach.specs.{Reach.reached_in_order, Walk.IsDone, Walk.listed_at_end, Walk.visits};
+ghost use Rattle.wit_model.specs.{Valid.IsValid, Refusals.IsMemory};
 ghost use Rattle.encode_shown.specs.Views.{AreReached};
 
 use indexmap::IndexSet;

@@ -1,15 +1,11 @@
 -- Lists of texts in which none stands twice.
 use Rattle.std.proofs.Common.{◌≡◌, refl, ap, ◌∙◌, true, false, not, ◌||◌, List, [], ◌∷◌, ◌++◌, arith}
-use Rattle.std.specs.Prelude.{IsPermutation}
-use Rattle.std.specs.List.{Contains, AllByRecursion, IsDistinct, list_any}
-use Rattle.std.proofs.lemmas.Map.Keys.{IsDistinct-IsPermutation}
-use Rattle.std.proofs.lemmas.List.Folds.{list_any-append}
+use Rattle.std.proofs.lemmas.{Map.Keys.IsDistinct-IsPermutation, List.Folds.list_any-append, Bool.and_from as both, Bool.not-true as no-longer}
 use Rattle.std.proofs.lemmas.Cmp.{nat_list_eq_equiv}
+use Rattle.std.specs.{Prelude.IsPermutation, List.Contains, List.AllByRecursion, List.IsDistinct, List.list_any}
 use Rattle.wit_model.specs.Text.{Text, text_eq}
 use Rattle.comp_meaning.specs.Rules.{distinct}
-use Rattle.base_lemmas.proofs.Bools.{left_of as first_true, right_of as second_true}
-use Rattle.base_lemmas.proofs.Elements.{contains-later}
-use Rattle.std.proofs.lemmas.Bool.{and_from as both, not-true as no-longer}
+use Rattle.base_lemmas.proofs.{Bools.left_of as first_true, Bools.right_of as second_true, Elements.contains-later}
 use Rattle.wit_model.proofs.TextLemmas.{none_of_texts as any-none}
 
 none-any : (t : Text) (ts : List Text) → AllByRecursion (λ y. text_eq t y ≡ false) ts → list_any (text_eq t) ts ≡ false

@@ -1,12 +1,9 @@
 -- What a rule that is kept says of an entry, and owners.
 use Rattle.std.proofs.Common.{◌≡◌, refl, subst, ◌+◌, Bool, true, false, ◌||◌, Option, Some, None, arith}
-use Rattle.std.specs.Prelude.{option_and_then}
-use Rattle.std.specs.Option.{option_map_or}
-use Rattle.wit_model.specs.Checks.{references}
-use Rattle.wit_model.specs.Valid.{IsValid, Keeps}
+use Rattle.std.specs.{Prelude.option_and_then, Option.option_map_or}
+use Rattle.wit_model.specs.{Checks.references, Valid.IsValid, Valid.Keeps}
 use Rattle.wit_model.specs.declared.model.Resolve.{Resolve}
-use Rattle.wit_model.proofs.Entries.{each_from_all, types_keep}
-use Rattle.wit_model.proofs.TreeTable.{kept_numbers}
+use Rattle.wit_model.proofs.{Entries.each_from_all, Entries.types_keep, TreeTable.kept_numbers}
 
 -- types refer to smaller numbers alone
 pub valid-references : (r : Resolve) → IsValid r → Keeps references r

@@ -1,60 +1,33 @@
 -- The component type of an interface of a valid `Resolve`, and the wrapper of a world, are read as parts of their package.
 use Rattle.std.proofs.Common.{◌≡◌, refl, sym, subst, ap, ◌∙◌, ℕ, zero, suc, true, false, not, ◌&&◌, ◌==◌, List, [], ◌∷◌, ◌++◌, map, Option, Some, None, String, arith}
-use Rattle.std.specs.declared.alloc.Global.{Global}
-use Rattle.std.specs.Prelude.{option_and_then, flat_map}
-use Rattle.std.specs.Option.{option_map_or}
-use Rattle.std.specs.List.{AllZip, AllByRecursion, Contains, IsDistinct, list_any}
 use Rattle.std.proofs.lemmas.List.Elements.{Contains-append_left, Contains-append_right, Contains-append_cases}
-use Rattle.std.proofs.lemmas.Cmp.{nat_list_eq_equiv}
-use Rattle.std.proofs.lemmas.Map.Views.{list_any-from_Contains}
+use Rattle.std.proofs.{lemmas.Cmp.nat_list_eq_equiv, Math.Logic.⊎_elim}
+use Rattle.std.proofs.lemmas.{Map.Views.list_any-from_Contains, Bool.and_from as both, Bool.both_ways, Bool.false_from_ne_true, Option.same_Some as same-some}
+use Rattle.std.specs.declared.alloc.Global.{Global}
+use Rattle.std.specs.{Prelude.option_and_then, Prelude.flat_map, List.AllZip, List.AllByRecursion, List.Contains, List.IsDistinct, List.list_any}
+use Rattle.std.specs.Option.{option_map_or}
 use Rattle.indexmap.specs.IndexMap.{values}
-use Rattle.wit_model.specs.Text.{Text, text_of, text_eq}
-use Rattle.wit_model.specs.Tree.{type_, named}
-use Rattle.wit_model.specs.Names.{PackageIdentity, is_label, path_in}
-use Rattle.wit_model.specs.Types.{declared_by, trees_of}
+use Rattle.wit_model.specs.{Text.Text, Text.text_of, Text.text_eq, Names.PackageIdentity, Names.is_label, Names.path_in, Types.declared_by, Types.trees_of}
+use Rattle.wit_model.specs.{Tree.type_, Tree.named, Meant.type_meaning_at, Rules.passes, Valid.IsValid}
 use Rattle.wit_model.specs.Lookup.{package_at, world_at, type_at, interface_at, interface_path, place_of, place_of_path, identity_of}
-use Rattle.wit_model.specs.Meant.{type_meaning_at}
 use Rattle.wit_model.specs.Uses.{once, alias_target, owner_interface, used_interface, interface_used_by, interfaces_used_by, direct_deps}
-use Rattle.wit_model.specs.Rules.{passes}
-use Rattle.wit_model.specs.Valid.{IsValid}
-use Rattle.wit_model.specs.declared.model.Resolve.{Resolve}
-use Rattle.wit_model.specs.declared.model.Package.{Package}
-use Rattle.wit_model.specs.declared.model.World.{World}
-use Rattle.wit_model.specs.declared.model.WorldId.{WorldId}
-use Rattle.wit_model.specs.declared.model.Interface.{Interface}
-use Rattle.wit_model.specs.declared.model.InterfaceId.{InterfaceId}
-use Rattle.wit_model.specs.declared.model.TypeDef.{TypeDef}
-use Rattle.wit_model.specs.declared.model.TypeDefKind.{TypeDefKind}
-use Rattle.wit_model.specs.declared.model.TypeDefKind.TheVariants as kind
-use Rattle.wit_model.specs.declared.model.TypeId.{TypeId}
-use Rattle.wit_model.specs.declared.model.TypeOwner.{TypeOwner}
-use Rattle.wit_model.specs.declared.model.TypeOwner.TheVariants as owner
-use Rattle.wit_model.specs.declared.model.«Type».TheVariants as ty
-use Rattle.wit_model.proofs.NameLaws.{spelled_path_reads}
-use Rattle.wit_model.proofs.Elements.{contains-flat, none-in}
-use Rattle.comp_bytes.specs.Raw.{Declarations}
-use Rattle.comp_bytes.specs.Reading.{◌>>=◌}
+use Rattle.wit_model.specs.declared.model.{Resolve.Resolve, Interface.Interface, InterfaceId.InterfaceId, TypeDefKind.TypeDefKind, TypeOwner.TypeOwner}
+use Rattle.wit_model.specs.declared.model.{Package.Package, World.World, WorldId.WorldId, TypeDef.TypeDef, TypeId.TypeId}
+use Rattle.wit_model.proofs.{NameLaws.spelled_path_reads, Elements.contains-flat, Elements.none-in, TextLemmas.text_alike as text-alike}
+use Rattle.comp_bytes.specs.{Raw.Declarations, Reading.◌>>=◌}
 use Rattle.comp_meaning.specs.Follow.{View, ShownType, Seen, Shown, Key, Scope, each, provided, is_filled, component_scope}
 use Rattle.comp_meaning.specs.Rules.{distinct, used_by, used_by_view}
 use Rattle.comp_meaning.specs.Reads.{Part, imported_view, are_reached, labelled_path, interface_part, world_part}
 use Rattle.encode_shown.specs.PackageTypes.{plain_name}
 use Rattle.encode_shown.specs.Views.{shown_type, home_of, types_of, ShowsInterface, ShowsImport, ShowsWorld, ShowsDependencies, AreUsed}
-use Rattle.std.proofs.Math.Logic.{⊎_elim}
-use Rattle.encode_shown.proofs.Basics.{given-by}
-use Rattle.encode_shown.proofs.Parts.{alias-target}
-use Rattle.encode_shown.proofs.Keys.{paths-apart}
-use Rattle.encode_shown.proofs.Members.{meaning-there}
+use Rattle.encode_shown.proofs.{Basics.given-by, Parts.alias-target, Keys.paths-apart, Members.meaning-there, Worlds.world-obeys, WorldMeans.world-label}
 use Rattle.encode_shown.proofs.Reach.{once_from}
-use Rattle.encode_shown.proofs.Owning.{identity, own-interface, own-path, own-world}
-use Rattle.encode_shown.proofs.Worlds.{world-obeys}
-use Rattle.encode_shown.proofs.WorldMeans.{world-label}
-use Rattle.encode_shown.proofs.Zips.{zip-left, zip-right, given-contains}
-use Rattle.base_lemmas.proofs.Bools.{left_of as first_true}
+use Rattle.encode_shown.proofs.{Owning.identity, Owning.own-interface, Owning.own-path, Owning.own-world, Zips.zip-left, Zips.zip-right, Zips.given-contains}
+use Rattle.base_lemmas.proofs.{Bools.left_of as first_true, Numbers.apart_back}
 use Rattle.base_lemmas.proofs.Elements.{all_at, any-contains, contains-map, contains-one, filter_kept as filter-contains, last_of as one-contained, map_from as contains-mapped}
-use Rattle.base_lemmas.proofs.Numbers.{apart_back}
-use Rattle.std.proofs.lemmas.Bool.{and_from as both, both_ways, false_from_ne_true}
-use Rattle.std.proofs.lemmas.Option.{same_Some as same-some}
-use Rattle.wit_model.proofs.TextLemmas.{text_alike as text-alike}
+use Rattle.wit_model.specs.declared.model.TypeDefKind.TheVariants as kind
+use Rattle.wit_model.specs.declared.model.TypeOwner.TheVariants as owner
+use Rattle.wit_model.specs.declared.model.«Type».TheVariants as ty
 
 -- ---- numbers that differ
 

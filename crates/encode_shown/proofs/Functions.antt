@@ -1,45 +1,30 @@
 -- A function of an owner obeys the rules in the owner's place.
 use Rattle.std.proofs.Common.{◌≡◌, refl, sym, ap, ◌∙◌, ℕ, Bool, true, false, not, ◌&&◌, ◌||◌, ◌==◌, cond, nat_eq, List, [], ◌∷◌, map, length, drop, slice_get, Option, Some, None, String, option_map, option_to_list}
+use Rattle.std.proofs.lemmas.{List.Folds.list_all-append, List.Folds.list_all-map, Bool.and_from as both, Bool.or_left as or-first, Bool.or_right as or-second}
+use Rattle.std.proofs.lemmas.{Simd.map-map, Option.same_Some as same-some}
 use Rattle.std.specs.declared.alloc.Global.{Global}
-use Rattle.std.specs.Prelude.{is_some, is_none, filter_map, codes}
-use Rattle.std.specs.List.{Contains, list_all, list_any, starts_with}
+use Rattle.std.specs.{Prelude.is_some, Prelude.is_none, Prelude.filter_map, Prelude.codes, List.Contains, List.list_all, List.list_any, List.starts_with}
 use Rattle.std.specs.Option.{option_map_or}
-use Rattle.std.proofs.lemmas.List.Folds.{list_all-append, list_all-map}
-use Rattle.std.proofs.lemmas.Simd.{map-map}
-use Rattle.wit_model.specs.Text.{Text, text_of, text_eq, optional_text}
-use Rattle.wit_model.specs.Names.{is_label, constructor_name, method_name, static_name}
+use Rattle.wit_model.specs.{Text.Text, Text.text_of, Text.text_eq, Text.optional_text, Lookup.type_at, Lookup.place_of, Lookup.resource_of, Lookup.is_async}
+use Rattle.wit_model.specs.{Names.is_label, Names.constructor_name, Names.method_name, Names.static_name, Parts.same_owner, Parts.function_types, Valid.IsValid}
 use Rattle.wit_model.specs.Tree.{Tree, Place, named, own_tree, borrow_tree, result_tree}
 use Rattle.wit_model.specs.Types.{type_tree, number_tree, number_of, declared_by, trees_of, tree_of_declaration}
-use Rattle.wit_model.specs.Lookup.{type_at, place_of, resource_of, is_async}
-use Rattle.wit_model.specs.Parts.{same_owner, function_types}
 use Rattle.wit_model.specs.Meant.{signature_of}
 use Rattle.wit_model.specs.Rules.{passes, in_list, after_prefix, function_in_range, function_labels, function_stays, is_freestanding, are_member_labels, is_shallow, is_member, is_member_of, is_member_name, resource_name, is_resource_itself, takes_self, type_is, is_own_of, is_borrow_of, is_own_kind, is_borrow_kind, has_own_ok, is_result_of_own}
-use Rattle.wit_model.specs.Valid.{IsValid}
-use Rattle.wit_model.specs.declared.model.Resolve.{Resolve}
-use Rattle.wit_model.specs.declared.model.Function.{Function}
-use Rattle.wit_model.specs.declared.model.FunctionKind.{FunctionKind}
-use Rattle.wit_model.specs.declared.model.FunctionKind.TheVariants as call
-use Rattle.wit_model.specs.declared.model.Param.{Param}
-use Rattle.wit_model.specs.declared.model.TypeDef.{TypeDef}
-use Rattle.wit_model.specs.declared.model.TypeDefKind.{TypeDefKind}
-use Rattle.wit_model.specs.declared.model.TypeDefKind.TheVariants as kind
-use Rattle.wit_model.specs.declared.model.Handle.TheVariants as handle
-use Rattle.wit_model.specs.declared.model.TypeOwner.{TypeOwner}
-use Rattle.wit_model.specs.declared.model.«Type».{«Type» as ValueType}
-use Rattle.wit_model.specs.declared.model.«Type».TheVariants as ty
+use Rattle.wit_model.specs.declared.model.{Resolve.Resolve, FunctionKind.FunctionKind, TypeDefKind.TypeDefKind, TypeOwner.TypeOwner, «Type».«Type» as ValueType}
+use Rattle.wit_model.specs.declared.model.{Function.Function, Param.Param, TypeDef.TypeDef}
 use Rattle.comp_meaning.specs.Same.{same_tree}
 use Rattle.comp_meaning.specs.Rules.{is_part, are_labels, is_parameter_type, is_result_type, is_signature, own_name, borrow_name, is_label_behind, begins_with_self, is_function_of, is_function}
-use Rattle.comp_meaning.specs.Rules as shown
 use Rattle.comp_meaning.proofs.SameLaws.{tree_itself}
-use Rattle.encode_shown.proofs.Basics.{or-cases, given-by, passed}
-use Rattle.encode_shown.proofs.Parts.{labels-from, named-tree, unnamed-tree, values-part}
-use Rattle.base_lemmas.proofs.Elements.{all_two, any-at}
-use Rattle.base_lemmas.proofs.Options.{none_is}
-use Rattle.base_lemmas.proofs.Bools.{given-not, left_of as first_true, right_of as second_true}
+use Rattle.encode_shown.proofs.{Basics.or-cases, Basics.given-by, Basics.passed, Parts.labels-from, Parts.named-tree, Parts.unnamed-tree, Parts.values-part}
+use Rattle.base_lemmas.proofs.{Elements.all_two, Elements.any-at, Options.none_is, Bools.given-not, Bools.left_of as first_true, Bools.right_of as second_true}
 use Rattle.base_lemmas.proofs.Numbers.{equal}
-use Rattle.std.proofs.lemmas.Bool.{and_from as both, or_left as or-first, or_right as or-second}
-use Rattle.std.proofs.lemmas.Option.{same_Some as same-some}
 use Rattle.wit_model.proofs.PartsLemmas.{owner_same as same-owner}
+use Rattle.wit_model.specs.declared.model.FunctionKind.TheVariants as call
+use Rattle.wit_model.specs.declared.model.TypeDefKind.TheVariants as kind
+use Rattle.wit_model.specs.declared.model.Handle.TheVariants as handle
+use Rattle.wit_model.specs.declared.model.«Type».TheVariants as ty
+use Rattle.comp_meaning.specs.Rules as shown
 
 -- ---- prefixes
 

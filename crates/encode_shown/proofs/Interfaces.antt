@@ -1,47 +1,28 @@
 -- What shows an interface of a valid `Resolve` obeys the rules of interfaces, and means the interface.
 use Rattle.std.proofs.Common.{◌≡◌, refl, sym, subst, ap, ◌∙◌, ℕ, Bool, true, false, not, ◌&&◌, List, [], ◌∷◌, ◌++◌, append-nil, map, Option, Some, None, String, cond, arith}
-use Rattle.std.specs.declared.alloc.Global.{Global}
-use Rattle.std.specs.Prelude.{IsPermutation}
-use Rattle.std.specs.List.{Contains, IsDistinct, list_all, list_any}
-use Rattle.std.specs.Option.{option_map_or}
-use Rattle.std.specs.FinMap.{from_entries}
-use Rattle.std.proofs.lemmas.Simd.{map-map}
-use Rattle.std.proofs.lemmas.Cmp.{nat_list_eq_equiv}
-use Rattle.std.proofs.lemmas.List.Folds.{list_all-map}
+use Rattle.std.proofs.lemmas.{Simd.map-map, Cmp.nat_list_eq_equiv, List.Folds.list_all-map, Bool.and_from as both, Bool.not-true as no-longer}
 use Rattle.std.proofs.lemmas.List.Sorted.{length_permutation, IsPermutation-map, IsPermutation-sym, Contains-permutation, list_any-IsPermutation}
+use Rattle.std.specs.declared.alloc.Global.{Global}
+use Rattle.std.specs.{Prelude.IsPermutation, List.Contains, List.IsDistinct, List.list_all, List.list_any, Option.option_map_or, FinMap.from_entries}
 use Rattle.indexmap.specs.IndexMap.{keys}
-use Rattle.wit_model.specs.Text.{Text, text_of, text_eq}
-use Rattle.wit_model.specs.Names.{is_label}
-use Rattle.wit_model.specs.Types.{declaration_of, declared_by, trees_of}
-use Rattle.wit_model.specs.Lookup.{interface_at, place_of, type_at}
-use Rattle.wit_model.specs.Parts.{same_owner, function_types}
-use Rattle.wit_model.specs.Meaning.{FunctionMeaning}
-use Rattle.wit_model.specs.Meant as meant
-use Rattle.wit_model.specs.Meant.{type_meaning_at, function_meaning, signature_of, interface_meaning_at, no_interface}
+use Rattle.wit_model.specs.{Text.Text, Text.text_of, Text.text_eq, Parts.same_owner, Parts.function_types, Meaning.FunctionMeaning}
+use Rattle.wit_model.specs.{Names.is_label, Meant.type_meaning_at, Meant.function_meaning, Meant.signature_of, Meant.interface_meaning_at, Meant.no_interface}
+use Rattle.wit_model.specs.{Types.declaration_of, Types.declared_by, Types.trees_of, Lookup.interface_at, Lookup.place_of, Lookup.type_at}
 use Rattle.wit_model.specs.Rules.{passes, in_list, function_in_range, function_labels, function_stays, is_shallow, is_member, is_resource_itself, is_stability, package_number}
 use Rattle.wit_model.specs.Valid.{IsValid, as_interface, is_place, functions_of_interface, labels, owners, depths, function_names, numbers_in_range}
-use Rattle.wit_model.specs.declared.model.Resolve.{Resolve}
-use Rattle.wit_model.specs.declared.model.Interface.{Interface}
-use Rattle.wit_model.specs.declared.model.Function.{Function}
+use Rattle.wit_model.specs.declared.model.{Resolve.Resolve, Interface.Interface, Function.Function, TypeDefKind.TypeDefKind, TypeOwner.TypeOwner}
 use Rattle.wit_model.specs.declared.model.TypeDef.{TypeDef}
-use Rattle.wit_model.specs.declared.model.TypeDefKind.{TypeDefKind}
-use Rattle.wit_model.specs.declared.model.TypeDefKind.TheVariants as kind
-use Rattle.wit_model.specs.declared.model.TypeOwner.{TypeOwner}
-use Rattle.wit_model.specs.declared.model.TypeOwner.TheVariants as owner
-use Rattle.wit_model.proofs.AnyOrder.{distinct-texts, same-map}
-use Rattle.wit_model.proofs.OnePath.{interface-passes}
-use Rattle.comp_meaning.specs.Follow.{View, ShownType}
+use Rattle.wit_model.proofs.{AnyOrder.distinct-texts, AnyOrder.same-map, OnePath.interface-passes, TextLemmas.text_same as text-same}
+use Rattle.comp_meaning.specs.{Follow.View, Follow.ShownType, Reads.interface_meaning}
 use Rattle.comp_meaning.specs.Rules.{distinct, is_interface, is_declared, is_function, resources_of, is_resource}
-use Rattle.comp_meaning.specs.Reads.{interface_meaning}
 use Rattle.encode_shown.specs.Views.{shown_type, home_of, types_of, functions_of, ShowsTypes, ShowsInterface}
-use Rattle.encode_shown.proofs.Apart.{distinct-from, distinct-both}
-use Rattle.encode_shown.proofs.Parts.{number-declared}
-use Rattle.encode_shown.proofs.Functions.{IsResourceOf, function-shown}
-use Rattle.encode_shown.proofs.Members.{IsNamedType, entry-type, entry-of, meaning-there, name-label}
+use Rattle.encode_shown.proofs.{Apart.distinct-from, Apart.distinct-both, Functions.IsResourceOf, Functions.function-shown}
+use Rattle.encode_shown.proofs.{Parts.number-declared, Members.IsNamedType, Members.entry-type, Members.entry-of, Members.meaning-there, Members.name-label}
 use Rattle.base_lemmas.proofs.Bools.{left_of as first_true, right_of as second_true}
 use Rattle.base_lemmas.proofs.Elements.{all-contained, all_pass as all-from, contains-later, contains-map, map_from as contains-mapped}
-use Rattle.std.proofs.lemmas.Bool.{and_from as both, not-true as no-longer}
-use Rattle.wit_model.proofs.TextLemmas.{text_same as text-same}
+use Rattle.wit_model.specs.Meant as meant
+use Rattle.wit_model.specs.declared.model.TypeDefKind.TheVariants as kind
+use Rattle.wit_model.specs.declared.model.TypeOwner.TheVariants as owner
 
 -- what stands in a list stands in one with a resource more
 pub one-more-resource : (b : Bool) (name : Text) (names : List Text) (t : Text) → Contains names t → Contains (cond b (name ∷ names) names) t

@@ -1,48 +1,28 @@
 -- What shows an import or an export of a valid world obeys the rules of items.
 use Rattle.std.proofs.Common.{◌≡◌, refl, sym, subst, ap, ◌∙◌, ℕ, zero, suc, Bool, true, false, ◌&&◌, cond, List, [], ◌∷◌, map, Option, Some, None, arith}
-use Rattle.std.specs.Prelude.{is_some, option_to_list, filter_map}
-use Rattle.std.specs.List.{AllZip, Contains, list_all}
-use Rattle.std.specs.Option.{option_map_or}
-use Rattle.std.proofs.lemmas.List.Elements.{Contains-append_right}
-use Rattle.wit_model.specs.Text.{Text, text_of}
-use Rattle.wit_model.specs.Tree as tree
-use Rattle.wit_model.specs.Tree.{Place}
+use Rattle.std.proofs.lemmas.{List.Elements.Contains-append_right, Option.same_Some as same-some}
+use Rattle.std.specs.{Prelude.is_some, Prelude.option_to_list, Prelude.filter_map, List.AllZip, List.Contains, List.list_all, Option.option_map_or}
+use Rattle.wit_model.specs.{Text.Text, Text.text_of, Uses.has, Uses.item_interface, Meant.type_meaning_at, Meant.signature_of, Valid.IsValid, Valid.as_world}
+use Rattle.wit_model.specs.{Tree.Place, Types.number_of}
 use Rattle.wit_model.specs.Lookup.{type_at, interface_path, key_text, place_of, place_of_path, resource_of}
 use Rattle.wit_model.specs.Parts.{same_owner, has_owner, met_by, met_of, used_by_function, used_by_type, function_types, function_numbers}
-use Rattle.wit_model.specs.Types.{number_of}
-use Rattle.wit_model.specs.Uses.{has, item_interface}
-use Rattle.wit_model.specs.Meant.{type_meaning_at, signature_of}
 use Rattle.wit_model.specs.Rules.{passes, text_is, is_id, is_name_key, item_type, used_types, used_interfaces, uses_stand_before}
-use Rattle.wit_model.specs.Valid.{IsValid, as_world}
-use Rattle.wit_model.specs.declared.model.Resolve.{Resolve}
-use Rattle.wit_model.specs.declared.model.TypeDef.{TypeDef}
-use Rattle.wit_model.specs.declared.model.TypeId.{TypeId}
-use Rattle.wit_model.specs.declared.model.TypeOwner.TheVariants as owner
-use Rattle.wit_model.specs.declared.model.WorldKey.{WorldKey}
-use Rattle.wit_model.specs.declared.model.WorldKey.TheVariants as key
-use Rattle.wit_model.specs.declared.model.WorldItem.{WorldItem}
-use Rattle.wit_model.specs.declared.model.WorldItem.TheVariants as item
-use Rattle.wit_model.specs.declared.model.Function.{Function}
-use Rattle.wit_model.proofs.Owners.{met_step}
-use Rattle.wit_model.proofs.Elements.{contains-flat, none-in, has-contains}
-use Rattle.wit_model.proofs.OnePath.{found-in}
+use Rattle.wit_model.specs.declared.model.{Resolve.Resolve, TypeDef.TypeDef, TypeId.TypeId, WorldKey.WorldKey, WorldItem.WorldItem, Function.Function}
+use Rattle.wit_model.proofs.{Owners.met_step, TextLemmas.text_named as text-named}
+use Rattle.wit_model.proofs.{Elements.contains-flat, Elements.none-in, Elements.has-contains, OnePath.found-in, PartsLemmas.owner_same as same-owner}
 use Rattle.comp_meaning.specs.Follow.{View, Seen, Shown, interface_of}
-use Rattle.comp_meaning.specs.Follow as follow
 use Rattle.comp_meaning.specs.Rules.{is_interface, is_function, is_item, is_resource, resources_seen}
 use Rattle.encode_shown.specs.Views.{instance_key, shown_item, IsViewOf, ShowsItem}
-use Rattle.encode_shown.proofs.Basics.{valid-references}
-use Rattle.encode_shown.proofs.Functions.{IsResourceOf, function-shown}
-use Rattle.encode_shown.proofs.Members.{IsNamedType}
+use Rattle.encode_shown.proofs.{Basics.valid-references, Functions.IsResourceOf, Functions.function-shown, Entries.IsEntry, Entries.interface-key-path}
+use Rattle.encode_shown.proofs.{Members.IsNamedType, Keys.named-key, Zips.zip-right, Zips.given-contains}
 use Rattle.encode_shown.proofs.Interfaces.{interface-obeys, resource-declared, named-type-obeys, one-more-resource}
-use Rattle.encode_shown.proofs.Entries.{IsEntry, interface-key-path}
-use Rattle.encode_shown.proofs.Keys.{named-key}
-use Rattle.encode_shown.proofs.Zips.{zip-right, given-contains}
 use Rattle.base_lemmas.proofs.Bools.{left_of as first_true, right_of as second_true}
-use Rattle.base_lemmas.proofs.Elements.{all-contained, contains-one, filter_keeps as contains-filter}
-use Rattle.base_lemmas.proofs.Numbers.{equal}
-use Rattle.std.proofs.lemmas.Option.{same_Some as same-some}
-use Rattle.wit_model.proofs.PartsLemmas.{owner_same as same-owner}
-use Rattle.wit_model.proofs.TextLemmas.{text_named as text-named}
+use Rattle.base_lemmas.proofs.{Elements.all-contained, Elements.contains-one, Elements.filter_keeps as contains-filter, Numbers.equal}
+use Rattle.wit_model.specs.Tree as tree
+use Rattle.wit_model.specs.declared.model.TypeOwner.TheVariants as owner
+use Rattle.wit_model.specs.declared.model.WorldKey.TheVariants as key
+use Rattle.wit_model.specs.declared.model.WorldItem.TheVariants as item
+use Rattle.comp_meaning.specs.Follow as follow
 
 -- ---- places
 

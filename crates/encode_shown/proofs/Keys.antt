@@ -1,34 +1,22 @@
 -- The keys of the imports, and of the exports, of a world are texts of which none stands twice.
 use Rattle.std.proofs.Common.{◌≡◌, ◌⊎◌, inl, inr, refl, sym, ap, ◌∙◌, ℕ, Bool, true, false, not, ◌&&◌, ◌||◌, ◌==◌, cond, List, [], ◌∷◌, ◌++◌, map, drop, Option, Some, None, String, unwrap_or, arith}
+use Rattle.std.proofs.lemmas.{Cmp.nat_list_eq_equiv, Bool.both_ways, Bool.false_from_ne_true}
 use Rattle.std.specs.declared.alloc.Global.{Global}
-use Rattle.std.specs.Prelude.{is_some, is_none}
-use Rattle.std.specs.Char.{is_ascii_alphabetic}
-use Rattle.std.specs.List.{Contains, AllByRecursion, IsDistinct, list_all}
+use Rattle.std.specs.{Prelude.is_some, Prelude.is_none, Char.is_ascii_alphabetic, List.Contains, List.AllByRecursion, List.IsDistinct, List.list_all}
 use Rattle.std.specs.Option.{option_map_or}
-use Rattle.std.proofs.lemmas.Cmp.{nat_list_eq_equiv}
 use Rattle.wit_model.specs.Text.{Text, text_of, text_eq}
 use Rattle.wit_model.specs.Names.{is_label, begins_with_letter, constructor_name, method_name, static_name}
-use Rattle.wit_model.specs.Lookup.{interface_path, key_text, resource_of}
+use Rattle.wit_model.specs.{Lookup.interface_path, Lookup.key_text, Lookup.resource_of, Valid.IsValid, Valid.key_eq, Valid.as_world}
 use Rattle.wit_model.specs.Rules.{passes, after_prefix, is_name_key, is_freestanding, is_member, is_member_of, is_member_name, resource_name}
-use Rattle.wit_model.specs.Valid.{IsValid, key_eq, as_world}
-use Rattle.wit_model.specs.declared.model.Resolve.{Resolve}
-use Rattle.wit_model.specs.declared.model.WorldKey.{WorldKey}
-use Rattle.wit_model.specs.declared.model.WorldKey.TheVariants as key
-use Rattle.wit_model.specs.declared.model.WorldItem.{WorldItem}
-use Rattle.wit_model.specs.declared.model.WorldItem.TheVariants as item
-use Rattle.wit_model.specs.declared.model.Function.{Function}
-use Rattle.wit_model.specs.declared.model.FunctionKind.{FunctionKind}
-use Rattle.wit_model.specs.declared.model.FunctionKind.TheVariants as call
-use Rattle.wit_model.proofs.NameLaws.{label_lacks, identity_namespace}
-use Rattle.wit_model.proofs.OnePath.{has-path, package-name, path-once}
-use Rattle.encode_shown.proofs.Entries.{IsEntry, interface-key-path}
-use Rattle.encode_shown.proofs.Basics.{passed}
-use Rattle.base_lemmas.proofs.Bools.{left_of as first_true, right_of as second_true, no-and}
-use Rattle.base_lemmas.proofs.Elements.{contains-later}
-use Rattle.base_lemmas.proofs.Numbers.{equal, differ}
-use Rattle.std.proofs.lemmas.Bool.{both_ways, false_from_ne_true}
-use Rattle.base_lemmas.proofs.Options.{there as some-of}
+use Rattle.wit_model.specs.declared.model.{Resolve.Resolve, WorldKey.WorldKey, WorldItem.WorldItem, Function.Function, FunctionKind.FunctionKind}
+use Rattle.wit_model.proofs.{NameLaws.label_lacks, NameLaws.identity_namespace, OnePath.has-path, OnePath.package-name, OnePath.path-once}
 use Rattle.wit_model.proofs.TextLemmas.{text_same as text-same}
+use Rattle.encode_shown.proofs.{Entries.IsEntry, Entries.interface-key-path, Basics.passed}
+use Rattle.base_lemmas.proofs.{Bools.left_of as first_true, Bools.right_of as second_true, Bools.no-and, Elements.contains-later, Numbers.equal, Numbers.differ}
+use Rattle.base_lemmas.proofs.Options.{there as some-of}
+use Rattle.wit_model.specs.declared.model.WorldKey.TheVariants as key
+use Rattle.wit_model.specs.declared.model.WorldItem.TheVariants as item
+use Rattle.wit_model.specs.declared.model.FunctionKind.TheVariants as call
 
 -- a key is a path, or a label, or the name of a function of a resource
 abbrev pub IsKey : Resolve → WorldKey → Type 0

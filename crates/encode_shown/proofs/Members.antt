@@ -1,39 +1,20 @@
 -- The types of an interface's list: each is a named type of the interface, under its name, and they are all of those.
 use Rattle.std.proofs.Common.{◌≡◌, refl, sym, ap, ◌∙◌, ℕ, true, false, ◌&&◌, ◌==◌, nat_lt, List, Option, count_by, Some, None, String, string_bytes, option_map}
+use Rattle.std.proofs.lemmas.Bool.{both_ways, true_from_ne_false}
 use Rattle.std.specs.declared.alloc.Global.{Global}
-use Rattle.std.specs.Prelude.{is_some}
-use Rattle.std.specs.List.{Contains, list_all}
-use Rattle.std.specs.Option.{option_map_or}
-use Rattle.std.specs.Map.{lookup}
-use Rattle.std.specs.Str.{bytes_eq}
-use Rattle.std.specs.HashMap.{get_by_text}
+use Rattle.std.specs.{Prelude.is_some, List.Contains, List.list_all, Option.option_map_or, Map.lookup, Str.bytes_eq, HashMap.get_by_text}
 use Rattle.indexmap.specs.IndexMap.{values}
-use Rattle.wit_model.specs.Text.{Text, text_of}
-use Rattle.wit_model.specs.Lookup.{type_at, interface_at}
-use Rattle.wit_model.specs.Parts.{kind_numbers, same_owner}
-use Rattle.wit_model.specs.Meant.{type_meaning, type_meaning_at, no_type}
+use Rattle.wit_model.specs.{Text.Text, Text.text_of, Names.is_label}
+use Rattle.wit_model.specs.{Lookup.type_at, Lookup.interface_at, Parts.kind_numbers, Parts.same_owner, Meant.type_meaning, Meant.type_meaning_at, Meant.no_type}
 use Rattle.wit_model.specs.Rules.{passes, in_list, is_id, is_listed, is_listed_in_interface, is_named_of, interface_type_numbers, are_in_order, package_number}
 use Rattle.wit_model.specs.Valid.{IsValid, as_interface, is_place, labels, numbers_in_range, order_of_types}
-use Rattle.wit_model.specs.Names.{is_label}
-use Rattle.wit_model.specs.declared.model.Resolve.{Resolve}
-use Rattle.wit_model.specs.declared.model.Interface.{Interface}
-use Rattle.wit_model.specs.declared.model.TypeDef.{TypeDef}
-use Rattle.wit_model.specs.declared.model.TypeId.{TypeId}
-use Rattle.wit_model.specs.declared.model.TypeOwner.{TypeOwner}
-use Rattle.wit_model.specs.declared.model.TypeOwner.TheVariants as owner
-use Rattle.wit_model.proofs.Listed.{misfit}
-use Rattle.wit_model.proofs.Listings.{given_all, given_found}
-use Rattle.wit_model.proofs.Elements.{contains-get}
-use Rattle.wit_model.proofs.OnePath.{found-in, given-test, interface-passes}
+use Rattle.wit_model.specs.declared.model.{Resolve.Resolve, Interface.Interface, TypeDef.TypeDef, TypeId.TypeId, TypeOwner.TypeOwner}
+use Rattle.wit_model.proofs.{Listed.misfit, PartsLemmas.owner_same as same-owner, TextLemmas.text_same as text-same, ValidLemmas.type_passes as type-passes}
+use Rattle.wit_model.proofs.{Listings.given_all, Listings.given_found, Elements.contains-get, OnePath.found-in, OnePath.given-test, OnePath.interface-passes}
 use Rattle.encode_shown.proofs.Basics.{Given}
-use Rattle.base_lemmas.proofs.Bools.{left_of as first_true, right_of as second_true}
-use Rattle.std.proofs.lemmas.Bool.{both_ways, true_from_ne_false}
-use Rattle.base_lemmas.proofs.Elements.{all-contained, contains-map, lookup_stands}
-use Rattle.base_lemmas.proofs.Numbers.{equal, same-number}
-use Rattle.base_lemmas.proofs.Options.{there as some-of}
-use Rattle.wit_model.proofs.PartsLemmas.{owner_same as same-owner}
-use Rattle.wit_model.proofs.TextLemmas.{text_same as text-same}
-use Rattle.wit_model.proofs.ValidLemmas.{type_passes as type-passes}
+use Rattle.base_lemmas.proofs.{Bools.left_of as first_true, Bools.right_of as second_true, Options.there as some-of}
+use Rattle.base_lemmas.proofs.{Elements.all-contained, Elements.contains-map, Elements.lookup_stands, Numbers.equal, Numbers.same-number}
+use Rattle.wit_model.specs.declared.model.TypeOwner.TheVariants as owner
 
 -- what has this number
 pub numbered-as : {V : Type 0} (number : V → ℕ) (n : ℕ) (o : Option V) → is_id n (option_map number o) ≡ true → Given o (λ x. number x ≡ n)

@@ -1,36 +1,22 @@
 -- Which interfaces are a package's own, by their paths.
 use Rattle.std.proofs.Common.{◌≡◌, refl, sym, subst, ap, ◌∙◌, ℕ, Bool, true, false, not, ◌&&◌, ◌==◌, option_map, Option, Some, None, String}
+use Rattle.std.proofs.lemmas.{Bool.not-true as no-longer, Option.same_Some as some-same}
 use Rattle.std.specs.declared.alloc.Global.{Global}
-use Rattle.std.specs.Prelude.{is_some, option_and_then}
-use Rattle.std.specs.Option.{option_map_or}
-use Rattle.std.specs.List.{Contains, list_all}
+use Rattle.std.specs.{Prelude.is_some, Prelude.option_and_then, Option.option_map_or, List.Contains, List.list_all}
 use Rattle.indexmap.specs.IndexMap.{values}
-use Rattle.wit_model.specs.Text.{Text, text_of, text_eq}
-use Rattle.wit_model.specs.Names.{PackageIdentity, is_identity, path_in, read_path}
+use Rattle.wit_model.specs.{Text.Text, Text.text_of, Text.text_eq, Valid.IsValid, Valid.is_place, Valid.numbers_in_range, Valid.places, Valid.names_in_packages}
+use Rattle.wit_model.specs.{Names.PackageIdentity, Names.is_identity, Names.path_in, Names.read_path, Meant.is_foreign}
 use Rattle.wit_model.specs.Lookup.{package_at, interface_at, world_at, interface_path, path_of_interface, path_in_package, identity_of}
-use Rattle.wit_model.specs.Meant.{is_foreign}
 use Rattle.wit_model.specs.Rules.{passes, in_list, is_id, text_is, package_number, is_world_name, interface_is_listed, interface_belongs, world_belongs}
-use Rattle.wit_model.specs.Valid.{IsValid, is_place, numbers_in_range, places, names_in_packages}
-use Rattle.wit_model.specs.declared.model.Resolve.{Resolve}
-use Rattle.wit_model.specs.declared.model.Package.{Package}
-use Rattle.wit_model.specs.declared.model.PackageId.{PackageId}
-use Rattle.wit_model.specs.declared.model.Interface.{Interface}
-use Rattle.wit_model.specs.declared.model.InterfaceId.{InterfaceId}
-use Rattle.wit_model.specs.declared.model.WorldId.{WorldId}
+use Rattle.wit_model.specs.declared.model.{Resolve.Resolve, Package.Package, PackageId.PackageId, Interface.Interface, InterfaceId.InterfaceId, WorldId.WorldId}
 use Rattle.wit_model.specs.declared.model.World.{World}
-use Rattle.wit_model.proofs.NameLaws.{spelled_path_reads}
-use Rattle.wit_model.proofs.VersionLaws.{same_name}
+use Rattle.wit_model.proofs.{NameLaws.spelled_path_reads, VersionLaws.same_name, TextLemmas.text_named, TextLemmas.text_same as text-same}
 use Rattle.wit_model.proofs.OnePath.{given-test, interface-passes, HasPath, has-path, path-label, path-listed, package-name, package-once, package-passes, found-in}
 use Rattle.encode_shown.proofs.Members.{found-entry, numbered-as}
-use Rattle.comp_meaning.specs.Same.{same_identity}
-use Rattle.comp_meaning.specs.Reads.{is_of}
+use Rattle.comp_meaning.specs.{Same.same_identity, Reads.is_of}
 use Rattle.comp_meaning.proofs.SameLaws.{identities_decide}
-use Rattle.base_lemmas.proofs.Bools.{both_ways as either_way, left_of as first_true, right_of as second_true}
+use Rattle.base_lemmas.proofs.{Bools.both_ways as either_way, Bools.left_of as first_true, Bools.right_of as second_true, Numbers.equal, Numbers.same-number}
 use Rattle.base_lemmas.proofs.Elements.{all-contained, contains-map}
-use Rattle.base_lemmas.proofs.Numbers.{equal, same-number}
-use Rattle.std.proofs.lemmas.Bool.{not-true as no-longer}
-use Rattle.std.proofs.lemmas.Option.{same_Some as some-same}
-use Rattle.wit_model.proofs.TextLemmas.{text_named, text_same as text-same}
 
 -- no world of a package has the name of an interface of it
 pub interface-unnamed : (r : Resolve) → IsValid r → (p : Package) (m : ℕ) (i : Interface) (name : String Global) → interface_at r m ≡ Some i → i.name ≡ Some name

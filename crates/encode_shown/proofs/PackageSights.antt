@@ -1,45 +1,29 @@
 -- What is seen in the members of a package: of each interface that the package reaches, and of no other.
 use Rattle.std.proofs.Common.{◌≡◌, ◌⊎◌, inl, inr, refl, sym, subst, ap, ◌∙◌, ℕ, zero, suc, ◌<◌, Bool, true, false, ◌&&◌, List, [], ◌∷◌, ◌++◌, map, length, Option, Some, None, String, arith}
-use Rattle.std.specs.declared.alloc.Global.{Global}
-use Rattle.std.specs.Prelude.{is_some, option_to_list, filter_map, flat_map}
-use Rattle.std.specs.List.{Contains, list_all}
-use Rattle.std.proofs.lemmas.Bool.{ltb-true, both_ways, and_from as both}
-use Rattle.std.proofs.lemmas.Option.{slice_get_within, same_Some as same-some}
+use Rattle.std.proofs.lemmas.{Bool.ltb-true, Bool.both_ways, Bool.and_from as both, Option.slice_get_within, Option.same_Some as same-some}
 use Rattle.std.proofs.lemmas.List.Elements.{Contains-append_left, Contains-append_right, Contains-append_cases}
+use Rattle.std.proofs.Math.Logic.{⊎_elim}
+use Rattle.std.specs.declared.alloc.Global.{Global}
+use Rattle.std.specs.{Prelude.is_some, Prelude.option_to_list, Prelude.filter_map, Prelude.flat_map, List.Contains, List.list_all}
 use Rattle.indexmap.specs.IndexMap.{values}
-use Rattle.wit_model.specs.Text.{Text, text_of, text_eq}
-use Rattle.wit_model.specs.Names.{PackageIdentity, path_in}
+use Rattle.wit_model.specs.{Text.Text, Text.text_of, Text.text_eq, Rules.each_after, Rules.used_interfaces, Rules.uses_stand_before}
+use Rattle.wit_model.specs.{Names.PackageIdentity, Names.path_in, Valid.IsValid, Valid.order_of_items}
 use Rattle.wit_model.specs.Lookup.{package_at, world_at, interface_at, interface_path, path_of_interface, identity_of}
 use Rattle.wit_model.specs.Uses.{has, items_of, item_interface, interfaces_of_item, interfaces_of_world, shown_by, worlds_of, reached_by_package, is_shown_in, direct_deps}
-use Rattle.wit_model.specs.Rules.{each_after, used_interfaces, uses_stand_before}
-use Rattle.wit_model.specs.Valid.{IsValid, order_of_items}
-use Rattle.wit_model.specs.declared.model.Resolve.{Resolve}
-use Rattle.wit_model.specs.declared.model.Package.{Package}
-use Rattle.wit_model.specs.declared.model.Interface.{Interface}
-use Rattle.wit_model.specs.declared.model.InterfaceId.{InterfaceId}
+use Rattle.wit_model.specs.declared.model.{Resolve.Resolve, Package.Package, Interface.Interface, InterfaceId.InterfaceId, WorldId.WorldId, WorldItem.WorldItem}
 use Rattle.wit_model.specs.declared.model.World.{World}
-use Rattle.wit_model.specs.declared.model.WorldId.{WorldId}
-use Rattle.wit_model.specs.declared.model.WorldItem.{WorldItem}
-use Rattle.wit_model.specs.declared.model.WorldItem.TheVariants as item
-use Rattle.wit_model.proofs.NameLaws.{spelled_path_reads}
+use Rattle.wit_model.proofs.{NameLaws.spelled_path_reads, OnePath.path-once}
 use Rattle.wit_model.proofs.Elements.{contains-flat, contains-filter_map, none-in, has-contains, contains-has}
-use Rattle.wit_model.proofs.OnePath.{path-once}
-use Rattle.comp_meaning.specs.Follow.{View}
-use Rattle.comp_meaning.specs.Reads.{Sight, Member, sights, is_of}
+use Rattle.wit_model.proofs.{TextLemmas.text_alike as text-alike, TextLemmas.text_same as text-same, ValidLemmas.world_passes as world-passes}
+use Rattle.comp_meaning.specs.{Follow.View, Reads.Sight, Reads.Member, Reads.sights, Reads.is_of}
 use Rattle.encode_shown.specs.Views.{ShowsInterface, ShowsImport, ShowsReached, ShowsPackage, ShowsInterfaceMember, ShowsWorldMember}
-use Rattle.std.proofs.Math.Logic.{⊎_elim}
-use Rattle.encode_shown.proofs.Basics.{given-by}
+use Rattle.encode_shown.proofs.{Basics.given-by, Owning.identity, Owning.own-interface, Owning.own-path, Zips.zip-left, Zips.zip-right, Zips.given-contains}
+use Rattle.encode_shown.proofs.{Used.contains-flat-from, Reach.Chain, Reach.chain-reached, Reach.holds-reached, Reach.used-chain, Reach.earlier-used}
+use Rattle.encode_shown.proofs.{WorldMeans.IsWhole, WorldMeans.seen-whole, Sights.IsSight, Sights.is_seen_whole}
 use Rattle.comp_meaning.proofs.SameLaws.{identities_decide}
-use Rattle.encode_shown.proofs.Used.{contains-flat-from}
-use Rattle.encode_shown.proofs.Owning.{identity, own-interface, own-path}
-use Rattle.encode_shown.proofs.Reach.{Chain, chain-reached, holds-reached, used-chain, earlier-used}
-use Rattle.encode_shown.proofs.WorldMeans.{IsWhole, seen-whole}
-use Rattle.encode_shown.proofs.Sights.{IsSight, is_seen_whole}
-use Rattle.encode_shown.proofs.Zips.{zip-left, zip-right, given-contains}
 use Rattle.base_lemmas.proofs.Bools.{left_of as first_true, right_of as second_true}
 use Rattle.base_lemmas.proofs.Elements.{all-contained, any-at, any-contains, contains-map, contains-one, filter_keeps as contains-filter, filter_kept as filter-contains, last_of as one-contained, map_from as contains-mapped}
-use Rattle.wit_model.proofs.TextLemmas.{text_alike as text-alike, text_same as text-same}
-use Rattle.wit_model.proofs.ValidLemmas.{world_passes as world-passes}
+use Rattle.wit_model.specs.declared.model.WorldItem.TheVariants as item
 
 -- what stands behind others passes the test behind some of them
 after-item : {A : Type 0} (q : List A → A → Bool) (before xs : List A) (x : A) → each_after q before xs ≡ true → Contains xs x → (front : List A) × (q front x ≡ true)

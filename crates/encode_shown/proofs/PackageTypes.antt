@@ -1,48 +1,28 @@
 -- The sections of a component that exports the component types of a package, or of one world, mean it.
 use Rattle.std.proofs.Common.{◌≡◌, ◌↔◌, map, option_map, refl, sym, subst, ap, ◌∙◌, ℕ, true, List, [], ◌∷◌, ◌++◌, Option, Some, String, arith}
+use Rattle.std.proofs.lemmas.{Simd.map-map, List.map-append, List.Elements.Contains-append_cases, Option.same_Some as same-some}
+use Rattle.std.proofs.Math.Logic.{⊎_elim}
 use Rattle.std.specs.declared.alloc.Global.{Global}
-use Rattle.std.specs.Prelude.{option_and_then}
-use Rattle.std.specs.List.{AllZip, Contains}
-use Rattle.std.specs.List.{list_all}
-use Rattle.std.proofs.lemmas.Simd.{map-map}
-use Rattle.std.proofs.lemmas.List.{map-append}
-use Rattle.std.proofs.lemmas.List.Elements.{Contains-append_cases}
+use Rattle.std.specs.{Prelude.option_and_then, List.AllZip, List.Contains, List.list_all}
 use Rattle.indexmap.specs.IndexMap.{keys}
-use Rattle.wit_model.specs.Text.{Text, text_of, text_eq}
-use Rattle.wit_model.specs.Names.{PackageIdentity, is_label}
-use Rattle.wit_model.specs.Lookup.{package_at, world_at, identity_of}
-use Rattle.wit_model.specs.Meant as meant
-use Rattle.wit_model.specs.Meant.{Meant, MeantWorld, package_of_world}
-use Rattle.wit_model.specs.Meaning.{PackageMeaning, WorldPackage}
-use Rattle.wit_model.specs.Rules.{is_world_name}
-use Rattle.wit_model.proofs.AnyOrder.{distinct-texts}
+use Rattle.wit_model.specs.{Text.Text, Text.text_of, Text.text_eq, Names.PackageIdentity, Names.is_label, Meaning.PackageMeaning, Meaning.WorldPackage}
+use Rattle.wit_model.specs.{Lookup.package_at, Lookup.world_at, Lookup.identity_of, Meant.Meant, Meant.MeantWorld, Meant.package_of_world, Rules.is_world_name}
 use Rattle.wit_model.specs.Valid.{IsValid}
-use Rattle.wit_model.specs.declared.model.Resolve.{Resolve}
-use Rattle.wit_model.specs.declared.model.Package.{Package}
-use Rattle.wit_model.specs.declared.model.PackageId.{PackageId}
-use Rattle.wit_model.specs.declared.model.InterfaceId.{InterfaceId}
-use Rattle.wit_model.specs.declared.model.World.{World}
-use Rattle.comp_bytes.specs.Raw.{Declarations, Section}
-use Rattle.comp_bytes.specs.Spelling.{IsComponent}
-use Rattle.comp_bytes.specs.Reading.{◌>>=◌}
+use Rattle.wit_model.proofs.AnyOrder.{distinct-texts}
+use Rattle.wit_model.specs.declared.model.{Resolve.Resolve, Package.Package, PackageId.PackageId, InterfaceId.InterfaceId, World.World}
+use Rattle.comp_bytes.specs.{Raw.Declarations, Raw.Section, Spelling.IsComponent, Reading.◌>>=◌}
 use Rattle.comp_bytes.proofs.Readers.{bind_some}
-use Rattle.comp_meaning.specs.Follow.{Scope, each, is_filled, component_scope}
+use Rattle.comp_meaning.specs.{Follow.Scope, Follow.each, Follow.is_filled, Follow.component_scope, Rules.distinct}
 use Rattle.comp_meaning.specs.Reads.{Member, Part, part_of, member, interface_part, exported_types, package_of_members, world_of_members, Reads, ReadsWorld}
-use Rattle.comp_meaning.specs.Rules.{distinct}
 use Rattle.comp_meaning.proofs.MeaningLaws.{one_meaning, one_world}
-use Rattle.comp_meaning.specs.Reads as reads
 use Rattle.encode_shown.specs.Views.{ShowsInterfaceMember, ShowsWorldMember}
 use Rattle.encode_shown.specs.PackageTypes.{IsInterfaceType, IsWorldType, IsListedWorldType, ArePackageTypes}
-use Rattle.encode_shown.proofs.Dependencies.{own-label, interface-part-read, world-read}
-use Rattle.encode_shown.proofs.Apart.{distinct-from, distinct-both}
-use Rattle.std.proofs.Math.Logic.{⊎_elim}
-use Rattle.encode_shown.proofs.Basics.{given-by}
-use Rattle.encode_shown.proofs.Zips.{zip-left}
-use Rattle.encode_shown.proofs.Owning.{own-world, no-world-name}
-use Rattle.encode_shown.proofs.Packages.{members-mean}
-use Rattle.encode_shown.proofs.WorldMeans.{world-label, world-package-means}
+use Rattle.encode_shown.proofs.{Dependencies.own-label, Dependencies.interface-part-read, Dependencies.world-read, Apart.distinct-from, Apart.distinct-both}
+use Rattle.encode_shown.proofs.{Basics.given-by, Zips.zip-left}
+use Rattle.encode_shown.proofs.{Owning.own-world, Owning.no-world-name, Packages.members-mean, WorldMeans.world-label, WorldMeans.world-package-means}
 use Rattle.base_lemmas.proofs.Elements.{all_pass as all-from, any_of_map as list_any_mapped, contains-later, map_from as contains-mapped, zip_map as zip-same}
-use Rattle.std.proofs.lemmas.Option.{same_Some as same-some}
+use Rattle.wit_model.specs.Meant as meant
+use Rattle.comp_meaning.specs.Reads as reads
 
 each-append : {A B : Type 0} (f : A → Option B) (xs ys : List A) (us vs : List B) → each f xs ≡ Some us → each f ys ≡ Some vs → each f (xs ++ ys) ≡ Some (us ++ vs)
 each-append f [] ys us vs e h = h ∙ ap (λ (o : Option (List _)). Some (Rattle.std.proofs.Common.unwrap_or o [] ++ vs)) e

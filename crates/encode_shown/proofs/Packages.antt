@@ -1,44 +1,24 @@
 -- The members that show a package of a valid `Resolve` mean the package.
 use Rattle.std.proofs.Common.{◌≡◌, refl, sym, subst, ap, ◌∙◌, ℕ, Bool, true, false, not, ◌&&◌, List, [], ◌∷◌, ◌++◌, append-nil, map, filter, Some, String, unwrap_or, arith}
+use Rattle.std.proofs.lemmas.{Grind.flat_map-append, List.Elements.Contains-append_cases, Bool.and_from as both, Bool.not-true as not-false}
+use Rattle.std.proofs.Math.Logic.{⊎_elim}
 use Rattle.std.specs.declared.alloc.Global.{Global}
-use Rattle.std.specs.Prelude.{is_some, flat_map}
-use Rattle.std.specs.Option.{option_map_or}
-use Rattle.std.specs.FinMap.{from_entries}
-use Rattle.std.specs.List.{AllZip, Contains, list_all}
-use Rattle.std.proofs.lemmas.Grind.{flat_map-append}
-use Rattle.std.proofs.lemmas.List.Elements.{Contains-append_cases}
-use Rattle.wit_model.specs.Text.{Text, TextMap, text_of, text_eq}
-use Rattle.wit_model.specs.Names.{PackageIdentity, path_in}
-use Rattle.wit_model.specs.Lookup.{package_at, interface_path, identity_of}
-use Rattle.wit_model.specs.Uses.{reached_by_package, is_shown_in}
-use Rattle.wit_model.specs.Meaning.{InterfaceMeaning, WorldMeaning}
-use Rattle.wit_model.specs.Meant as meant
-use Rattle.wit_model.specs.Meant.{interface_meaning_at, world_meaning_at, foreign_of, foreign_meaning, is_foreign}
-use Rattle.wit_model.specs.Valid.{IsValid}
-use Rattle.wit_model.specs.declared.model.Resolve.{Resolve}
-use Rattle.wit_model.specs.declared.model.Package.{Package}
-use Rattle.wit_model.specs.declared.model.InterfaceId.{InterfaceId}
-use Rattle.wit_model.specs.declared.model.WorldId.{WorldId}
-use Rattle.wit_model.proofs.OnePath.{path-once}
-use Rattle.comp_meaning.specs.Follow.{provided, is_filled}
-use Rattle.comp_meaning.specs.Same.{same_identity}
+use Rattle.std.specs.{Prelude.is_some, Prelude.flat_map, Option.option_map_or, FinMap.from_entries, List.AllZip, List.Contains, List.list_all}
+use Rattle.wit_model.specs.{Text.Text, Text.TextMap, Text.text_of, Text.text_eq, Lookup.package_at, Lookup.interface_path, Lookup.identity_of}
+use Rattle.wit_model.specs.{Names.PackageIdentity, Names.path_in, Uses.reached_by_package, Uses.is_shown_in, Meaning.InterfaceMeaning, Meaning.WorldMeaning}
+use Rattle.wit_model.specs.{Meant.interface_meaning_at, Meant.world_meaning_at, Meant.foreign_of, Meant.foreign_meaning, Meant.is_foreign, Valid.IsValid}
+use Rattle.wit_model.specs.declared.model.{Resolve.Resolve, Package.Package, InterfaceId.InterfaceId, WorldId.WorldId}
+use Rattle.wit_model.proofs.{OnePath.path-once, TextLemmas.text_alike as text-alike}
+use Rattle.comp_meaning.specs.{Follow.provided, Follow.is_filled, Same.same_identity}
 use Rattle.comp_meaning.specs.Reads.{Sight, Member, sights, is_of, stands_at_top, is_interface_part, seen_meaning, interfaces_of, worlds_of, package_with, package_of_members}
 use Rattle.encode_shown.specs.Views.{ShowsPackage, ShowsInterfaceMember, ShowsWorldMember}
-use Rattle.std.proofs.Math.Logic.{⊎_elim}
-use Rattle.comp_meaning.proofs.AgreementLaws.{implied}
-use Rattle.comp_meaning.proofs.SameLaws.{identities_decide}
-use Rattle.encode_shown.proofs.Interfaces.{interface-means}
-use Rattle.encode_shown.proofs.WorldMeans.{world-means}
-use Rattle.encode_shown.proofs.Owning.{foreign-path, own-listed}
-use Rattle.encode_shown.proofs.Sights.{IsSight, all-sights-agree, all-sights-obey, sight-means}
-use Rattle.encode_shown.proofs.SameEntries.{same-entries}
+use Rattle.comp_meaning.proofs.{AgreementLaws.implied, SameLaws.identities_decide}
+use Rattle.encode_shown.proofs.{Interfaces.interface-means, WorldMeans.world-means, SameEntries.same-entries, Zips.zip-all, Zips.zip-left}
+use Rattle.encode_shown.proofs.{Owning.foreign-path, Owning.own-listed, Sights.IsSight, Sights.all-sights-agree, Sights.all-sights-obey, Sights.sight-means}
 use Rattle.encode_shown.proofs.PackageSights.{seen-reached, reached-seen, whole-shown, interface-member}
-use Rattle.encode_shown.proofs.Zips.{zip-all, zip-left}
-use Rattle.base_lemmas.proofs.Options.{there as some-of}
+use Rattle.base_lemmas.proofs.{Options.there as some-of, Bools.left_of as left_true}
 use Rattle.base_lemmas.proofs.Elements.{any-at, all_pass as all-from, contains-map, filter_keeps as contains-filter, filter_kept as filter-contains, map_from as contains-mapped}
-use Rattle.std.proofs.lemmas.Bool.{and_from as both, not-true as not-false}
-use Rattle.wit_model.proofs.TextLemmas.{text_alike as text-alike}
-use Rattle.base_lemmas.proofs.Bools.{left_of as left_true}
+use Rattle.wit_model.specs.Meant as meant
 
 -- lists, element by element
 zip-flat : {A B C : Type 0} (R : A → B → Type 0) (f : A → C) (g : B → List C) → ((a : A) (b : B) → R a b → g b ≡ f a ∷ []) → (xs : List A) (ys : List B) → AllZip R xs ys → flat_map g ys ≡ map f xs

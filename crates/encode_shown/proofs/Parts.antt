@@ -1,48 +1,29 @@
 -- The types of an owner, as parts of others: the names in them are of the owner's place.
 use Rattle.std.proofs.Common.{◌≡◌, refl, sym, subst, ap, ◌∙◌, ℕ, zero, suc, ◌<◌, Bool, true, false, not, ◌&&◌, ◌||◌, nat_lt, nat_le, List, map, length, unwrap_or, Option, Some, None, String, option_to_list, arith}
+use Rattle.std.proofs.lemmas.{Bool.ltb-true, Bool.lt-ltb, Bool.and_from as both, Bool.both_ways, Bool.false_from_ne_true, Option.slice_get_within}
+use Rattle.std.proofs.lemmas.List.{Folds.list_all-append, Folds.list_all-map, Elements.Contains-append_left, Elements.Contains-append_right}
 use Rattle.std.specs.declared.alloc.Global.{Global}
-use Rattle.std.specs.Prelude.{is_some, filter_map, flat_map}
-use Rattle.std.specs.List.{Contains, list_all}
-use Rattle.std.specs.Option.{option_map_or}
-use Rattle.std.proofs.lemmas.Bool.{ltb-true, lt-ltb, and_from as both, both_ways, false_from_ne_true}
-use Rattle.std.proofs.lemmas.Option.{slice_get_within}
-use Rattle.std.proofs.lemmas.List.Folds.{list_all-append, list_all-map}
-use Rattle.std.proofs.lemmas.List.Elements.{Contains-append_left, Contains-append_right}
-use Rattle.wit_model.specs.Text.{Text, text_of}
+use Rattle.std.specs.{Prelude.is_some, Prelude.filter_map, Prelude.flat_map, List.Contains, List.list_all, Option.option_map_or}
+use Rattle.wit_model.specs.{Text.Text, Text.text_of, Lookup.type_at, Lookup.place_of, Uses.alias_target}
 use Rattle.wit_model.specs.Tree.{Tree, Place, Primitive, Declaration, type_, primitive, named, node, levels}
 use Rattle.wit_model.specs.Types.{declared_by, tree_of, tree_at, tree_of_declaration, type_tree, number_tree, trees_of, no_tree, number_of, declaration_of}
-use Rattle.wit_model.specs.Lookup.{type_at, place_of}
 use Rattle.wit_model.specs.Parts.{member_types, handled, kind_numbers, met_by, met_of, used_by_type, same_owner, has_owner, is_resource, is_resource_kind, is_resource_type}
-use Rattle.wit_model.specs.Uses.{alias_target}
 use Rattle.wit_model.specs.Rules.{is_named_kind, is_named_number, passes, in_list, is_use, kind_labels, are_member_labels}
-use Rattle.wit_model.specs.Rules as rules
 use Rattle.wit_model.specs.Valid.{IsValid, labels, named_kinds, owners, handles, depths}
-use Rattle.wit_model.specs.declared.model.Resolve.{Resolve}
-use Rattle.wit_model.specs.declared.model.TypeDef.{TypeDef}
-use Rattle.wit_model.specs.declared.model.TypeDefKind.{TypeDefKind}
-use Rattle.wit_model.specs.declared.model.TypeDefKind.TheVariants as kind
-use Rattle.wit_model.specs.declared.model.TypeOwner.{TypeOwner}
-use Rattle.wit_model.specs.declared.model.TypeOwner.TheVariants as owner
+use Rattle.wit_model.specs.declared.model.{Resolve.Resolve, TypeDef.TypeDef, TypeDefKind.TypeDefKind, TypeOwner.TypeOwner, «Type».«Type» as ValueType}
 use Rattle.wit_model.specs.declared.model.TypeId.{TypeId}
-use Rattle.wit_model.specs.declared.model.«Type».{«Type» as ValueType}
-use Rattle.wit_model.specs.declared.model.«Type».TheVariants as ty
-use Rattle.wit_model.proofs.TreeTable.{kept_numbers, kept_trees_at}
-use Rattle.wit_model.proofs.Resources.{resource_step}
-use Rattle.wit_model.proofs.Functions.{all_flat}
-use Rattle.wit_model.proofs.Owners.{named_met, unnamed_met}
-use Rattle.wit_model.proofs.Elements.{contains-filter_map}
-use Rattle.wit_model.proofs.OnePath.{found-in}
-use Rattle.comp_meaning.proofs.SameLaws.{places_decide}
-use Rattle.comp_meaning.specs.Same.{same_place}
-use Rattle.comp_meaning.specs.Rules.{is_part, is_declared, are_labels}
+use Rattle.wit_model.proofs.{TreeTable.kept_numbers, TreeTable.kept_trees_at, Owners.named_met, Owners.unnamed_met, ValidLemmas.type_passes as type-passes}
+use Rattle.wit_model.proofs.{Resources.resource_step, Functions.all_flat, Elements.contains-filter_map, OnePath.found-in, PartsLemmas.owner_same as same-owner}
+use Rattle.comp_meaning.proofs.{SameLaws.places_decide, RulesLemmas.distinct_same as distinct-same}
+use Rattle.comp_meaning.specs.{Same.same_place, Rules.is_part, Rules.is_declared, Rules.are_labels}
 use Rattle.encode_shown.proofs.Basics.{valid-references, or-cases, passed}
 use Rattle.encode_shown.proofs.Children.{child_trees, is_unnamed_form, is_alias, children-are, labels-are, form-unnamed, parts-from, declared-from}
-use Rattle.base_lemmas.proofs.Bools.{given-not, not-false, left_of as first_true, right_of as second_true}
+use Rattle.base_lemmas.proofs.{Bools.given-not, Bools.not-false, Bools.left_of as first_true, Bools.right_of as second_true, Options.there as some-of}
 use Rattle.base_lemmas.proofs.Elements.{all-contained, all_pass as all-from, contains-one}
-use Rattle.base_lemmas.proofs.Options.{there as some-of}
-use Rattle.comp_meaning.proofs.RulesLemmas.{distinct_same as distinct-same}
-use Rattle.wit_model.proofs.PartsLemmas.{owner_same as same-owner}
-use Rattle.wit_model.proofs.ValidLemmas.{type_passes as type-passes}
+use Rattle.wit_model.specs.Rules as rules
+use Rattle.wit_model.specs.declared.model.TypeDefKind.TheVariants as kind
+use Rattle.wit_model.specs.declared.model.TypeOwner.TheVariants as owner
+use Rattle.wit_model.specs.declared.model.«Type».TheVariants as ty
 
 pub place-alike : (a : Place) → same_place a a ≡ true
 place-alike a = (places_decide a a).1 refl

@@ -1,26 +1,16 @@
 -- Which interfaces are reached: what a chain of uses leads to, and no others.
 use Rattle.std.proofs.Common.{◌≡◌, ◌⊎◌, inl, inr, refl, sym, subst, ap, ◌∙◌, ℕ, zero, suc, ◌<◌, ◌≤◌, arith, Bool, true, false, ◌||◌, not, nat_lt, List, [], ◌∷◌, ◌++◌, length, filter, nat_eq, Option}
-use Rattle.std.specs.Prelude.{flat_map}
-use Rattle.std.specs.List.{Contains, list_all}
-use Rattle.std.proofs.lemmas.Bool.{both_ways, eqb-true, ltb-true, or_left as or-first, or_right as or-second}
-use Rattle.std.proofs.lemmas.List.Folds.{list_any-append}
-use Rattle.std.proofs.lemmas.List.Elements.{Contains-append_cases}
-use Rattle.std.proofs.lemmas.Map.Views.{any-filter_same}
-use Rattle.wit_model.proofs.Elements.{none-in, has-contains, contains-has}
-use Rattle.wit_model.proofs.OnePath.{interface-passes}
+use Rattle.std.proofs.lemmas.{Bool.both_ways, Bool.eqb-true, Bool.ltb-true, Bool.or_left as or-first, Bool.or_right as or-second, List.Folds.list_any-append}
+use Rattle.std.proofs.{lemmas.List.Elements.Contains-append_cases, lemmas.Map.Views.any-filter_same, Math.Logic.⊎_elim}
+use Rattle.std.specs.{Prelude.flat_map, List.Contains, List.list_all}
+use Rattle.wit_model.proofs.{Elements.none-in, Elements.has-contains, Elements.contains-has, OnePath.interface-passes, Chains.has_flat}
 use Rattle.wit_model.specs.declared.model.Resolve.{Resolve}
-use Rattle.wit_model.specs.Lookup.{interface_at}
-use Rattle.wit_model.specs.Rules.{function_stays}
-use Rattle.wit_model.specs.Valid.{IsValid, as_interface, functions_of_interface, owners}
+use Rattle.wit_model.specs.{Lookup.interface_at, Rules.function_stays, Valid.IsValid, Valid.as_interface, Valid.functions_of_interface, Valid.owners}
 use Rattle.wit_model.specs.Uses.{has, once, direct_deps, reached_in, reached}
 use Rattle.encode_shown.specs.Views.{AreUsed, UseEarlier}
-use Rattle.std.proofs.Math.Logic.{⊎_elim}
-use Rattle.encode_shown.proofs.Basics.{option-cases}
-use Rattle.encode_shown.proofs.Used.{contains-flat-from}
-use Rattle.base_lemmas.proofs.Bools.{right_of as second_true}
+use Rattle.encode_shown.proofs.{Basics.option-cases, Used.contains-flat-from}
+use Rattle.base_lemmas.proofs.{Bools.right_of as second_true, Numbers.nat_eq_flip}
 use Rattle.base_lemmas.proofs.Elements.{all-contained, contains-later, filter_kept as filter-contains, last_of as one-contained}
-use Rattle.base_lemmas.proofs.Numbers.{nat_eq_flip}
-use Rattle.wit_model.proofs.Chains.{has_flat}
 
 -- a chain of so many uses from n to m
 abbrev pub Chain : Resolve → ℕ → ℕ → ℕ → Type 0

@@ -1,11 +1,10 @@
 -- Lists of the same entries make the same finite map, where a name has one meaning.
 use Rattle.std.proofs.Common.{◌≡◌, sym, ap, ◌∙◌, List, Some}
+use Rattle.std.proofs.lemmas.Cmp.{nat_list_cmp_total}
 use Rattle.std.specs.List.{Contains}
 use Rattle.std.specs.FinMap.{find, from_entries, get-from_entries, same_map, slice_cmp-IsAntisymmetric, nat_cmp-IsAntisymmetric}
-use Rattle.std.proofs.lemmas.Cmp.{nat_list_cmp_total}
 use Rattle.wit_model.specs.Text.{Text, TextMap, text_cmp}
-use Rattle.wit_model.proofs.AnyOrder.{found-there}
-use Rattle.wit_model.proofs.Maps.{there_some as found-some}
+use Rattle.wit_model.proofs.{AnyOrder.found-there, Maps.there_some as found-some}
 use Rattle.encode_shown.proofs.Basics.{option-cases}
 
 module _ {X : Type 0} where

@@ -1,33 +1,19 @@
 -- Sights of interfaces of a valid `Resolve` agree, obey the rules, and together mean the interfaces.
 use Rattle.std.proofs.Common.{◌≡◌, refl, sym, subst, ap, ◌∙◌, ℕ, Bool, true, false, ◌&&◌, ◌||◌, cond, List, [], ◌∷◌, map, length, Some}
-use Rattle.std.specs.Prelude.{IsPermutation, if◌then◌else◌}
-use Rattle.std.specs.Option.{option_map_or}
-use Rattle.std.specs.List.{AllZip, Contains, list_any}
 use Rattle.std.proofs.lemmas.Bool.{eq-eqb, and_from as both}
-use Rattle.std.proofs.lemmas.List.Folds.{list_any_at}
-use Rattle.std.proofs.lemmas.List.Sorted.{IsPermutation-sym, Contains-permutation, length_permutation}
-use Rattle.wit_model.specs.Text.{Text, text_eq}
-use Rattle.wit_model.specs.Tree.{Place}
-use Rattle.wit_model.specs.Lookup.{interface_at, interface_path, place_of_path}
-use Rattle.wit_model.specs.Meaning.{FunctionMeaning, InterfaceMeaning}
-use Rattle.wit_model.specs.Meant.{interface_meaning_at, types_alone}
-use Rattle.wit_model.specs.Valid.{IsValid}
+use Rattle.std.proofs.lemmas.List.{Folds.list_any_at, Sorted.IsPermutation-sym, Sorted.Contains-permutation, Sorted.length_permutation}
+use Rattle.std.specs.{Prelude.IsPermutation, Prelude.if◌then◌else◌, Option.option_map_or, List.AllZip, List.Contains, List.list_any}
+use Rattle.wit_model.specs.{Text.Text, Text.text_eq, Tree.Place, Meant.interface_meaning_at, Meant.types_alone}
+use Rattle.wit_model.specs.{Lookup.interface_at, Lookup.interface_path, Lookup.place_of_path, Meaning.FunctionMeaning, Meaning.InterfaceMeaning, Valid.IsValid}
 use Rattle.wit_model.specs.declared.model.Resolve.{Resolve}
-use Rattle.wit_model.proofs.OnePath.{path-once}
-use Rattle.comp_meaning.specs.Follow.{View}
-use Rattle.comp_meaning.specs.Rules.{is_interface}
-use Rattle.comp_meaning.specs.Same.{same_function, stand_in}
+use Rattle.wit_model.proofs.{OnePath.path-once, TextLemmas.text_alike as text-alike, TextLemmas.text_same as text-same}
+use Rattle.comp_meaning.specs.{Follow.View, Rules.is_interface, Same.same_function, Same.stand_in, SameLaws.named_meaning}
 use Rattle.comp_meaning.specs.Reads.{Sight, same_functions, agree, all_agree, are_interfaces, functions_of, interface_meaning, seen_meaning}
 use Rattle.encode_shown.specs.Views.{home_of, ShowsTypes, ShowsInterface}
+use Rattle.comp_meaning.proofs.{SameLaws.functions_decide, SameLaws.shown_types_decide, AgreementLaws.implied}
+use Rattle.encode_shown.proofs.{Interfaces.interface-obeys, Interfaces.interface-means, Interfaces.types-obey, Interfaces.types-mean, Zips.zip-left}
+use Rattle.base_lemmas.proofs.{Bools.left_of as first_true, Bools.right_of as second_true, Elements.all_pass as all-from}
 use Rattle.encode_shown.specs.Views as views
-use Rattle.comp_meaning.specs.SameLaws.{named_meaning}
-use Rattle.comp_meaning.proofs.SameLaws.{functions_decide, shown_types_decide}
-use Rattle.encode_shown.proofs.Interfaces.{interface-obeys, interface-means, types-obey, types-mean}
-use Rattle.comp_meaning.proofs.AgreementLaws.{implied}
-use Rattle.encode_shown.proofs.Zips.{zip-left}
-use Rattle.base_lemmas.proofs.Bools.{left_of as first_true, right_of as second_true}
-use Rattle.base_lemmas.proofs.Elements.{all_pass as all-from}
-use Rattle.wit_model.proofs.TextLemmas.{text_alike as text-alike, text_same as text-same}
 
 -- a sight shows the interface whole, or its types alone
 abbrev pub ShowsAs : Resolve → ℕ → Bool → View → Type 0

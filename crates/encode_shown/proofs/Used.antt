@@ -1,43 +1,25 @@
 -- The paths that a declaration uses are those of the interfaces that it uses.
 use Rattle.std.proofs.Common.{◌≡◌, ◌⊎◌, inl, inr, refl, sym, subst, ap, ◌∙◌, ℕ, suc, zero, Bool, true, false, ◌&&◌, ◌||◌, ◌==◌, cond, List, [], ◌∷◌, Option, Some, None, String, arith}
+use Rattle.std.proofs.{lemmas.Bool.both_ways, lemmas.Cmp.nat_list_eq_equiv, Math.Logic.⊎_elim}
 use Rattle.std.specs.declared.alloc.Global.{Global}
-use Rattle.std.specs.Prelude.{option_and_then, option_to_list, flat_map}
-use Rattle.std.specs.List.{Contains, list_all}
-use Rattle.std.specs.Option.{option_map_or}
-use Rattle.std.proofs.lemmas.Bool.{both_ways}
-use Rattle.std.proofs.lemmas.Cmp.{nat_list_eq_equiv}
+use Rattle.std.specs.{Prelude.option_and_then, Prelude.option_to_list, Prelude.flat_map, List.Contains, List.list_all, Option.option_map_or}
 use Rattle.indexmap.specs.IndexMap.{values}
-use Rattle.wit_model.specs.Text.{Text, text_of, text_eq}
-use Rattle.wit_model.specs.Tree.{Tree, type_, named}
-use Rattle.wit_model.specs.Types.{declared_by, trees_of, type_tree, declaration_of}
-use Rattle.wit_model.specs.Lookup.{type_at, interface_at, interface_path, place_of, place_of_path}
-use Rattle.wit_model.specs.Meant.{type_meaning_at, no_type, type_meaning}
+use Rattle.wit_model.specs.{Text.Text, Text.text_of, Text.text_eq, Tree.Tree, Tree.type_, Tree.named}
+use Rattle.wit_model.specs.{Types.declared_by, Types.trees_of, Types.type_tree, Types.declaration_of, Meant.type_meaning_at, Meant.no_type, Meant.type_meaning}
+use Rattle.wit_model.specs.{Lookup.type_at, Lookup.interface_at, Lookup.interface_path, Lookup.place_of, Lookup.place_of_path, Valid.IsValid}
 use Rattle.wit_model.specs.Uses.{has, alias_target, owner_interface, used_interface, interface_used_by, direct_deps}
-use Rattle.wit_model.specs.Valid.{IsValid}
-use Rattle.wit_model.specs.declared.model.Resolve.{Resolve}
-use Rattle.wit_model.specs.declared.model.Interface.{Interface}
-use Rattle.wit_model.specs.declared.model.TypeDef.{TypeDef}
-use Rattle.wit_model.specs.declared.model.TypeDefKind.{TypeDefKind}
+use Rattle.wit_model.specs.declared.model.{Resolve.Resolve, Interface.Interface, TypeDefKind.TypeDefKind, TypeOwner.TypeOwner, «Type».«Type» as ValueType}
+use Rattle.wit_model.specs.declared.model.{TypeDef.TypeDef, TypeId.TypeId}
+use Rattle.wit_model.proofs.{Shown.deps_pass, Elements.none-in, Elements.has-contains, Elements.contains-has}
+use Rattle.comp_meaning.specs.{Follow.View, Follow.ShownType, Rules.used_by, Rules.used_by_view, Rules.others_than}
+use Rattle.encode_shown.specs.Views.{shown_type, home_of, types_of}
+use Rattle.encode_shown.proofs.{Children.is_alias, Basics.bool-cases, Basics.option-cases, Parts.alias-target, Members.meaning-there}
+use Rattle.base_lemmas.proofs.{Bools.left_of as first_true, Numbers.equal}
+use Rattle.base_lemmas.proofs.Elements.{all-contained, all_pass as all-from, contains-later, contains-map, last_of as one-contained, map_from as contains-mapped}
 use Rattle.wit_model.specs.declared.model.TypeDefKind.TheVariants as kind
 use Rattle.wit_model.specs.declared.model.Handle.TheVariants as handle
-use Rattle.wit_model.specs.declared.model.TypeId.{TypeId}
-use Rattle.wit_model.specs.declared.model.TypeOwner.{TypeOwner}
 use Rattle.wit_model.specs.declared.model.TypeOwner.TheVariants as owner
-use Rattle.wit_model.specs.declared.model.«Type».{«Type» as ValueType}
 use Rattle.wit_model.specs.declared.model.«Type».TheVariants as ty
-use Rattle.wit_model.proofs.Shown.{deps_pass}
-use Rattle.wit_model.proofs.Elements.{none-in, has-contains, contains-has}
-use Rattle.comp_meaning.specs.Follow.{View, ShownType}
-use Rattle.comp_meaning.specs.Rules.{used_by, used_by_view, others_than}
-use Rattle.encode_shown.specs.Views.{shown_type, home_of, types_of}
-use Rattle.encode_shown.proofs.Children.{is_alias}
-use Rattle.std.proofs.Math.Logic.{⊎_elim}
-use Rattle.encode_shown.proofs.Basics.{bool-cases, option-cases}
-use Rattle.encode_shown.proofs.Parts.{alias-target}
-use Rattle.encode_shown.proofs.Members.{meaning-there}
-use Rattle.base_lemmas.proofs.Bools.{left_of as first_true}
-use Rattle.base_lemmas.proofs.Elements.{all-contained, all_pass as all-from, contains-later, contains-map, last_of as one-contained, map_from as contains-mapped}
-use Rattle.base_lemmas.proofs.Numbers.{equal}
 
 -- the interface of this path, that a declaration uses
 pub record UsesPath (r : Resolve) (used : Option ℕ) (path : Text) : Type 0 where

@@ -1,54 +1,29 @@
 -- What shows a world of a valid `Resolve` means the world, with the interfaces that it shows.
 use Rattle.std.proofs.Common.{◌≡◌, refl, sym, subst, ap, ◌∙◌, ℕ, Bool, true, false, not, ◌&&◌, ◌||◌, cond, List, [], ◌∷◌, ◌++◌, map, filter, option_map, Option, Some, None, String, arith, unwrap_or}
+use Rattle.std.proofs.lemmas.{List.map-append, Grind.flat_map-append}
+use Rattle.std.proofs.lemmas.{List.Folds.list_any_at, Bool.and_from as both, Bool.both_ways, Bool.false_from_ne_true, Option.same_Some as some-same}
 use Rattle.std.specs.declared.alloc.Global.{Global}
-use Rattle.std.specs.Prelude.{is_some, filter_map, flat_map, option_and_then}
-use Rattle.std.specs.Option.{option_map_or}
-use Rattle.std.specs.HashMap.{get_by_text}
-use Rattle.std.specs.FinMap.{from_entries}
-use Rattle.std.specs.List.{AllZip, Contains, list_any}
-use Rattle.std.specs.Str.{bytes_eq}
-use Rattle.std.proofs.lemmas.List.{map-append}
-use Rattle.std.proofs.lemmas.Grind.{flat_map-append}
-use Rattle.std.proofs.lemmas.List.Folds.{list_any_at}
-use Rattle.wit_model.specs.Text.{Text, text_of, text_eq}
-use Rattle.wit_model.specs.Names.{is_label, path_in}
-use Rattle.wit_model.specs.Lookup.{package_at, world_at, interface_path, key_text, identity_of}
-use Rattle.wit_model.specs.Uses.{item_interface, shown_by}
-use Rattle.wit_model.specs.Meaning.{InterfaceMeaning, Item}
-use Rattle.wit_model.specs.Meant as meant
+use Rattle.std.specs.{Prelude.is_some, Prelude.filter_map, Prelude.flat_map, Prelude.option_and_then, List.AllZip, List.Contains, List.list_any, Str.bytes_eq}
+use Rattle.std.specs.{Option.option_map_or, HashMap.get_by_text, FinMap.from_entries}
+use Rattle.wit_model.specs.{Text.Text, Text.text_of, Text.text_eq, Names.is_label, Names.path_in, Meaning.InterfaceMeaning, Meaning.Item}
+use Rattle.wit_model.specs.{Lookup.package_at, Lookup.world_at, Lookup.interface_path, Lookup.key_text, Lookup.identity_of, Uses.item_interface, Uses.shown_by}
 use Rattle.wit_model.specs.Meant.{interface_meaning_at, item_meaning, item_external_id, entry_meaning, entries_meaning, package_of_world}
-use Rattle.wit_model.specs.Rules.{is_id, package_number, world_is_listed, is_world_name}
-use Rattle.wit_model.specs.Valid.{IsValid, labels, places}
-use Rattle.wit_model.specs.declared.model.Resolve.{Resolve}
-use Rattle.wit_model.specs.declared.model.Package.{Package}
-use Rattle.wit_model.specs.declared.model.PackageId.{PackageId}
+use Rattle.wit_model.specs.{Rules.is_id, Rules.package_number, Rules.world_is_listed, Rules.is_world_name, Valid.IsValid, Valid.labels, Valid.places}
+use Rattle.wit_model.specs.declared.model.{Resolve.Resolve, Package.Package, PackageId.PackageId, WorldId.WorldId, WorldKey.WorldKey, WorldItem.WorldItem}
 use Rattle.wit_model.specs.declared.model.World.{World}
-use Rattle.wit_model.specs.declared.model.WorldId.{WorldId}
-use Rattle.wit_model.specs.declared.model.WorldKey.{WorldKey}
-use Rattle.wit_model.specs.declared.model.WorldKey.TheVariants as key
-use Rattle.wit_model.specs.declared.model.WorldItem.{WorldItem}
-use Rattle.wit_model.specs.declared.model.WorldItem.TheVariants as item
-use Rattle.wit_model.proofs.Lists.{lookup_any}
-use Rattle.wit_model.proofs.NameLaws.{one_path}
-use Rattle.wit_model.proofs.VersionLaws.{same_name}
+use Rattle.wit_model.proofs.{Lists.lookup_any, TextLemmas.text_alike as text-alike, TextLemmas.text_same as text-same, ValidLemmas.world_passes as world-passes}
+use Rattle.wit_model.proofs.{NameLaws.one_path, VersionLaws.same_name}
 use Rattle.wit_model.proofs.OnePath.{HasPath, has-path, path-label, package-name, package-once, given-test}
-use Rattle.comp_meaning.specs.Follow.{View, Seen, Shown, Instance, Scope, interface_of}
+use Rattle.comp_meaning.specs.Follow.{View, Seen, Shown, Instance, Scope, interface_of, provided}
 use Rattle.comp_meaning.specs.Reads.{Sight, of_instance, item_of, entry, world_meaning, seen_meaning, world_with, interface_meaning}
-use Rattle.comp_meaning.specs.Follow.{provided}
 use Rattle.encode_shown.specs.Views.{instance_key, shown_item, instances_of, IsViewOf, ShowsItem, ShowsInterface, ShowsWorld}
-use Rattle.encode_shown.proofs.Interfaces.{interface-means}
-use Rattle.encode_shown.proofs.Entries.{IsEntry}
-use Rattle.encode_shown.proofs.Items.{has_home, instance-home, entry-home}
-use Rattle.encode_shown.proofs.Worlds.{imports-are, exports-are, all-shown, all-entries}
-use Rattle.encode_shown.proofs.Sights.{IsSight, all-sights-agree, all-sights-obey, is_seen_whole, sight-means}
-use Rattle.base_lemmas.proofs.Bools.{left_of as first_true, right_of as second_true}
-use Rattle.encode_shown.proofs.Basics.{given-by}
-use Rattle.encode_shown.proofs.Owning.{interface-unnamed}
-use Rattle.base_lemmas.proofs.Elements.{contains-later, zip-kept}
-use Rattle.std.proofs.lemmas.Bool.{and_from as both, both_ways, false_from_ne_true}
-use Rattle.std.proofs.lemmas.Option.{same_Some as some-same}
-use Rattle.wit_model.proofs.TextLemmas.{text_alike as text-alike, text_same as text-same}
-use Rattle.wit_model.proofs.ValidLemmas.{world_passes as world-passes}
+use Rattle.encode_shown.proofs.{Interfaces.interface-means, Worlds.imports-are, Worlds.exports-are, Worlds.all-shown, Worlds.all-entries, Basics.given-by}
+use Rattle.encode_shown.proofs.{Entries.IsEntry, Sights.IsSight, Sights.all-sights-agree, Sights.all-sights-obey, Sights.is_seen_whole, Sights.sight-means}
+use Rattle.encode_shown.proofs.{Items.has_home, Items.instance-home, Items.entry-home, Owning.interface-unnamed}
+use Rattle.base_lemmas.proofs.{Bools.left_of as first_true, Bools.right_of as second_true, Elements.contains-later, Elements.zip-kept}
+use Rattle.wit_model.specs.Meant as meant
+use Rattle.wit_model.specs.declared.model.WorldKey.TheVariants as key
+use Rattle.wit_model.specs.declared.model.WorldItem.TheVariants as item
 
 module _ (r : Resolve) (v : IsValid r) (n : ℕ) where
   -- ---- entries

@@ -1,42 +1,24 @@
 -- What shows a world of a valid `Resolve` obeys the rules of worlds.
 use Rattle.std.proofs.Common.{◌≡◌, refl, sym, subst, ap, ◌∙◌, ℕ, true, List, [], ◌∷◌, ◌++◌, map, Option, Some, arith}
-use Rattle.std.specs.Prelude.{is_none, option_to_list, filter_map}
-use Rattle.std.specs.List.{AllZip, Contains, IsDistinct, list_all, list_any}
-use Rattle.std.proofs.lemmas.List.{map-append}
+use Rattle.std.proofs.{lemmas.List.map-append, lemmas.Simd.map-map, Math.Logic.⊎_elim}
 use Rattle.std.proofs.lemmas.List.Elements.{Contains-append_left, Contains-append_right, Contains-append_cases, filter_map-append}
-use Rattle.std.proofs.lemmas.Simd.{map-map}
-use Rattle.std.proofs.lemmas.Cmp.{nat_list_eq_equiv}
-use Rattle.std.proofs.lemmas.Map.Views.{list_any-from_Contains}
+use Rattle.std.proofs.lemmas.{Cmp.nat_list_eq_equiv, Map.Views.list_any-from_Contains, Bool.and_from as both, Bool.both_ways, Option.same_Some as same-some}
+use Rattle.std.specs.{Prelude.is_none, Prelude.option_to_list, Prelude.filter_map, List.AllZip, List.Contains, List.IsDistinct, List.list_all, List.list_any}
 use Rattle.indexmap.specs.IndexMap.{values}
-use Rattle.wit_model.specs.Text.{Text, text_eq}
-use Rattle.wit_model.specs.Lookup.{world_at, interface_path, key_text}
-use Rattle.wit_model.specs.Uses.{has, item_interface}
-use Rattle.wit_model.specs.Meant.{type_meaning_at}
-use Rattle.wit_model.specs.Rules.{passes, each_after, is_freestanding, used_interfaces, uses_stand_before}
-use Rattle.wit_model.specs.Valid.{IsValid, item_function, order_of_items}
-use Rattle.wit_model.specs.declared.model.Resolve.{Resolve}
-use Rattle.wit_model.specs.declared.model.World.{World}
-use Rattle.wit_model.specs.declared.model.WorldKey.{WorldKey}
-use Rattle.wit_model.specs.declared.model.WorldItem.{WorldItem}
-use Rattle.wit_model.specs.declared.model.WorldItem.TheVariants as item
-use Rattle.wit_model.specs.declared.model.Function.{Function}
-use Rattle.wit_model.proofs.Shown.{after_append}
-use Rattle.wit_model.proofs.Elements.{none-in, has-contains}
+use Rattle.wit_model.specs.{Text.Text, Text.text_eq, Rules.passes, Rules.each_after, Rules.is_freestanding, Rules.used_interfaces, Rules.uses_stand_before}
+use Rattle.wit_model.specs.{Lookup.world_at, Lookup.interface_path, Lookup.key_text, Valid.IsValid, Valid.item_function, Valid.order_of_items}
+use Rattle.wit_model.specs.{Uses.has, Uses.item_interface, Meant.type_meaning_at}
+use Rattle.wit_model.specs.declared.model.{Resolve.Resolve, World.World, WorldKey.WorldKey, WorldItem.WorldItem, Function.Function}
+use Rattle.wit_model.proofs.{Shown.after_append, Elements.none-in, Elements.has-contains, ValidLemmas.world_passes as rule_of_world}
 use Rattle.comp_meaning.specs.Follow.{View, Seen, Shown, Scope, interface_of}
 use Rattle.comp_meaning.specs.Rules.{distinct, is_item, are_imports, stand_earlier, path_seen, resources_seen, used_by, used_by_view, uses, others_than, is_world}
 use Rattle.encode_shown.specs.Views.{instance_key, shown_item, IsViewOf, ShowsItem, ShowsWorld}
-use Rattle.encode_shown.proofs.Apart.{distinct-from}
-use Rattle.encode_shown.proofs.Used.{number-used, view-used, others-used}
-use Rattle.encode_shown.proofs.Entries.{IsEntry, import-entry, export-entry, export-freestanding}
-use Rattle.encode_shown.proofs.Keys.{IsKey, entry-key, keys-distinct}
-use Rattle.encode_shown.proofs.Items.{HasHome, instance-home, entry-home, seen-obeys, import-home}
-use Rattle.encode_shown.proofs.Zips.{zip-left, given-contains}
+use Rattle.encode_shown.proofs.{Apart.distinct-from, Entries.IsEntry, Entries.import-entry, Entries.export-entry, Entries.export-freestanding}
+use Rattle.encode_shown.proofs.{Used.number-used, Used.view-used, Used.others-used, Keys.IsKey, Keys.entry-key, Keys.keys-distinct}
+use Rattle.encode_shown.proofs.{Items.HasHome, Items.instance-home, Items.entry-home, Items.seen-obeys, Items.import-home, Zips.zip-left, Zips.given-contains}
 use Rattle.base_lemmas.proofs.Bools.{left_of as first_true, right_of as second_true}
 use Rattle.base_lemmas.proofs.Elements.{all-contained, all_pass as all-from, contains-later, contains-one, last_of as one-contained, map_from as contains-mapped, zip-append, zip_map as zip-same}
-use Rattle.std.proofs.lemmas.Bool.{and_from as both, both_ways}
-use Rattle.std.proofs.Math.Logic.{⊎_elim}
-use Rattle.std.proofs.lemmas.Option.{same_Some as same-some}
-use Rattle.wit_model.proofs.ValidLemmas.{world_passes as rule_of_world}
+use Rattle.wit_model.specs.declared.model.WorldItem.TheVariants as item
 
 -- the key of what shows an item
 pub key-seen : (r : Resolve) (e : WorldKey × WorldItem) (s : Seen) → ShowsItem r e s → s.key ≡ key_text r e.0

@@ -1,7 +1,6 @@
 -- Two lists, place by place, and elements of lists that are made from others.
 use Rattle.std.proofs.Common.{◌≡◌, refl, subst, zero, suc, List, [], ◌∷◌, Option, Some, arith}
-use Rattle.std.specs.Prelude.{filter_map}
-use Rattle.std.specs.List.{AllZip, Contains}
+use Rattle.std.specs.{Prelude.filter_map, List.AllZip, List.Contains}
 use Rattle.wit_model.proofs.Elements.{none-in}
 use Rattle.base_lemmas.proofs.Elements.{contains-later, filter_map_from, get-contains}
 

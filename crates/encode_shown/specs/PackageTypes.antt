@@ -2,18 +2,12 @@
 use Rattle.std.specs.Prelude.{◌≡◌, ℕ, zero, List, ◌++◌, Some, None, String}
 use Rattle.std.specs.List.{AllZip}
 use Rattle.std.specs.declared.alloc.Global.{Global}
-use Rattle.wit_model.specs.Text.{Text, text_of}
-use Rattle.wit_model.specs.Names.{path_in}
-use Rattle.wit_model.specs.Lookup.{world_at, identity_of}
-use Rattle.wit_model.specs.declared.model.Resolve.{Resolve}
-use Rattle.wit_model.specs.declared.model.Package.{Package}
-use Rattle.wit_model.specs.declared.model.InterfaceId.{InterfaceId}
-use Rattle.wit_model.specs.declared.model.WorldId.{WorldId}
-use Rattle.wit_model.specs.declared.model.World.{World}
-use Rattle.comp_bytes.specs.declared.forms.ComponentTypeRef.TheVariants as refs
+use Rattle.wit_model.specs.{Text.Text, Text.text_of, Names.path_in, Lookup.world_at, Lookup.identity_of}
+use Rattle.wit_model.specs.declared.model.{Resolve.Resolve, Package.Package, InterfaceId.InterfaceId, WorldId.WorldId, World.World}
 use Rattle.comp_bytes.specs.Raw.{Declaration, Declarations, ExternName}
 use Rattle.comp_meaning.specs.Follow.{View, Scope, component_scope}
 use Rattle.encode_shown.specs.Views.{ShowsWorld, ShowsDependencies}
+use Rattle.comp_bytes.specs.declared.forms.ComponentTypeRef.TheVariants as refs
 
 -- the component type of an interface of the package
 pub record IsInterfaceType (r : Resolve) (p : Package) (e : String Global × InterfaceId) (x : Text × Declarations) : Type 0 where

@@ -2,26 +2,17 @@
 use Rattle.std.specs.Prelude.{◌≡◌, ◌↔◌, ℕ, map, List, [], ◌∷◌, true, Some, String}
 use Rattle.std.specs.List.{Contains, list_all}
 use Rattle.std.specs.declared.alloc.Global.{Global}
-use Rattle.wit_model.specs.Text.{Text, text_of}
-use Rattle.wit_model.specs.Names.{is_label, path_in}
-use Rattle.wit_model.specs.Lookup.{package_at, world_at, identity_of}
-use Rattle.wit_model.specs.Meant as meant
-use Rattle.wit_model.specs.Meant.{interface_meaning_at, types_alone, package_of_world, Meant, MeantWorld}
-use Rattle.wit_model.specs.Meaning.{PackageMeaning, WorldPackage}
+use Rattle.wit_model.specs.{Text.Text, Text.text_of, Lookup.package_at, Lookup.world_at, Lookup.identity_of, Meaning.PackageMeaning, Meaning.WorldPackage}
+use Rattle.wit_model.specs.{Names.is_label, Names.path_in, Meant.interface_meaning_at, Meant.types_alone, Meant.package_of_world, Meant.Meant, Meant.MeantWorld}
 use Rattle.wit_model.specs.Valid.{IsValid}
-use Rattle.wit_model.specs.declared.model.Resolve.{Resolve}
-use Rattle.wit_model.specs.declared.model.Package.{Package}
-use Rattle.wit_model.specs.declared.model.InterfaceId.{InterfaceId}
-use Rattle.wit_model.specs.declared.model.WorldId.{WorldId}
-use Rattle.wit_model.specs.declared.model.World.{World}
-use Rattle.comp_bytes.specs.Raw.{Declarations, Section}
-use Rattle.comp_bytes.specs.Spelling.{IsComponent}
-use Rattle.comp_meaning.specs.Follow.{View, Scope, component_scope, is_filled}
-use Rattle.comp_meaning.specs.Rules.{distinct, is_interface, is_world}
+use Rattle.wit_model.specs.declared.model.{Resolve.Resolve, Package.Package, InterfaceId.InterfaceId, WorldId.WorldId, World.World}
+use Rattle.comp_bytes.specs.{Raw.Declarations, Raw.Section, Spelling.IsComponent}
+use Rattle.comp_meaning.specs.{Follow.View, Follow.Scope, Follow.component_scope, Follow.is_filled, Rules.distinct, Rules.is_interface, Rules.is_world}
 use Rattle.comp_meaning.specs.Reads.{interface_meaning, world_meaning, world_with, Part, Member, interface_part, world_part, package_of_members, exported_types, Reads, ReadsWorld}
-use Rattle.comp_meaning.specs.Reads as reads
 use Rattle.encode_shown.specs.PackageTypes.{plain_name, IsWorldType, ArePackageTypes}
 use Rattle.encode_shown.specs.Views.{home_of, ShowsTypes, ShowsInterface, ShowsWorld, ShowsDependencies, ShowsPackage}
+use Rattle.wit_model.specs.Meant as meant
+use Rattle.comp_meaning.specs.Reads as reads
 
 -- What shows an interface obeys the rules of interfaces in its place, and means the interface.
 abbrev pub InterfacesObey : Type 0

@@ -1,31 +1,17 @@
 -- What is shown of the declarations of a `Resolve` in a component type, every index followed (Component Model WIT.md, "Package Format").
 -- Relations: what is shown of an interface is fixed but for the order of its functions.
 use Rattle.std.specs.Prelude.{◌≡◌, ℕ, if◌then◌else◌, Bool, List, [], ◌∷◌, ◌++◌, map, Option, Some, None, String, ◌==◌}
-use Rattle.std.specs.Option.{option_map_or}
-use Rattle.std.specs.List.{AllZip, Contains, IsDistinct, flat_map}
-use Rattle.std.specs.List.Sorted.{IsPermutation}
+use Rattle.std.specs.{Option.option_map_or, List.AllZip, List.Contains, List.IsDistinct, List.flat_map, List.Sorted.IsPermutation}
 use Rattle.std.specs.declared.alloc.Global.{Global}
-use Rattle.wit_model.specs.Text.{Text, text_of}
-use Rattle.wit_model.specs.Tree.{Tree, Place}
-use Rattle.wit_model.specs.Names.{PackageIdentity}
+use Rattle.wit_model.specs.{Text.Text, Text.text_of, Meant.type_meaning_at, Meant.function_meaning, Meant.signature_of, Meant.item_external_id}
+use Rattle.wit_model.specs.{Tree.Tree, Tree.Place, Names.PackageIdentity, Parts.is_resource, Uses.direct_deps, Meaning.FunctionMeaning}
 use Rattle.wit_model.specs.Lookup.{interface_at, world_at, interface_path, key_text, place_of_path, identity_of}
-use Rattle.wit_model.specs.Parts.{is_resource}
-use Rattle.wit_model.specs.Uses.{direct_deps}
-use Rattle.wit_model.specs.Meaning.{FunctionMeaning}
-use Rattle.wit_model.specs.Meant.{type_meaning_at, function_meaning, signature_of, item_external_id}
-use Rattle.wit_model.specs.declared.model.Resolve.{Resolve}
-use Rattle.wit_model.specs.declared.model.Interface.{Interface}
-use Rattle.wit_model.specs.declared.model.InterfaceId.{InterfaceId}
-use Rattle.wit_model.specs.declared.model.Package.{Package}
-use Rattle.wit_model.specs.declared.model.TypeId.{TypeId}
-use Rattle.wit_model.specs.declared.model.WorldId.{WorldId}
-use Rattle.wit_model.specs.declared.model.World.{World}
-use Rattle.wit_model.specs.declared.model.WorldKey.{WorldKey}
-use Rattle.wit_model.specs.declared.model.WorldKey.TheVariants as key
-use Rattle.wit_model.specs.declared.model.WorldItem.{WorldItem}
-use Rattle.wit_model.specs.declared.model.WorldItem.TheVariants as item
+use Rattle.wit_model.specs.declared.model.{Resolve.Resolve, Interface.Interface, InterfaceId.InterfaceId, TypeId.TypeId, WorldKey.WorldKey, WorldItem.WorldItem}
+use Rattle.wit_model.specs.declared.model.{Package.Package, WorldId.WorldId, World.World}
 use Rattle.comp_meaning.specs.Follow.{Slot, View, ShownType, Seen, Shown, Key, Instance, Scope, interface_of}
 use Rattle.comp_meaning.specs.Reads.{Member, Part}
+use Rattle.wit_model.specs.declared.model.WorldKey.TheVariants as key
+use Rattle.wit_model.specs.declared.model.WorldItem.TheVariants as item
 
 -- ---- interfaces
 

@@ -1,32 +1,15 @@
 -- Maps that agree with slots, over what a call adds.
 use Rattle.std.proofs.Common.{◌≡◌, refl, sym, subst, ap, ◌∙◌, ℕ, Bool, true, false, List, ◌⊎◌, inl, inr, Result, Ok, Err, OnOk, OnErr, Option, Some, None, nat_eq, arith, [], ◌∷◌, ◌++◌, map, length, get_or}
-use Rattle.std.specs.Prelude.{is_some, IsSome, IsPermutation}
-use Rattle.std.specs.List.{Contains, AllPairs}
-use Rattle.std.specs.Borrow.{Bor}
-use Rattle.std.proofs.lemmas.Cmp.{nat_eq_equiv}
-use Rattle.std.proofs.lemmas.List.Elements.{Contains-get_or}
-use Rattle.std.proofs.lemmas.List.Quantifiers.{all_pairs_push}
-use Rattle.std.proofs.lemmas.Bool.{eqb-true}
-use Rattle.wit_model.specs.Text.{Text}
-use Rattle.wit_model.specs.Tree.{Declaration}
-use Rattle.wit_model.specs.Rules.{is_named_kind}
-use Rattle.wit_model.specs.Types.{trees_of, tree_of_declaration}
-use Rattle.wit_model.specs.Meaning.{Signature}
-use Rattle.wit_model.specs.declared.model.Resolve.{Resolve}
-use Rattle.wit_model.specs.declared.model.TypeDefKind.{TypeDefKind}
-use Rattle.wit_model.specs.declared.model.TypeId.{TypeId}
-use Rattle.encode_types.specs.declared.maps.TypeEncodingMaps.{TypeEncodingMaps}
-use Rattle.encode_types.specs.declared.key.FunctionKey.{FunctionKey}
-use Rattle.encode_types.specs.Codes.{kind_code, names_of, lists_of, IsKeyList, ListKey}
-use Rattle.encode_types.specs.Slots.{Pairs, Standing, tree, function, Keeps}
-use Rattle.encode_types.specs.View.{View, SameRest}
-use Rattle.encode_types.specs.Counts.{SameUnits}
-use Rattle.encode_types.specs.Leaves.{Leaves, LeavesSlots}
+use Rattle.std.proofs.lemmas.{Cmp.nat_eq_equiv, List.Elements.Contains-get_or, List.Quantifiers.all_pairs_push, Bool.eqb-true}
+use Rattle.std.specs.{Prelude.is_some, Prelude.IsSome, Prelude.IsPermutation, List.Contains, List.AllPairs, Borrow.Bor}
+use Rattle.wit_model.specs.{Text.Text, Tree.Declaration, Rules.is_named_kind, Types.trees_of, Types.tree_of_declaration, Meaning.Signature}
+use Rattle.wit_model.specs.declared.model.{Resolve.Resolve, TypeDefKind.TypeDefKind, TypeId.TypeId}
+use Rattle.encode_types.specs.declared.{maps.TypeEncodingMaps.TypeEncodingMaps, key.FunctionKey.FunctionKey}
+use Rattle.encode_types.specs.{Codes.kind_code, Codes.names_of, Codes.lists_of, Codes.IsKeyList, Codes.ListKey, Leaves.Leaves, Leaves.LeavesSlots}
+use Rattle.encode_types.specs.{Slots.Pairs, Slots.Standing, Slots.tree, Slots.function, Slots.Keeps, View.View, View.SameRest, Counts.SameUnits}
 use Rattle.encode_types.specs.Maps.{Known, by_number, by_kind, by_key, by_unit_future, by_unit_stream, Holds, standing_of, IsOnce, IsSomeKeyList, AreNumbered, MapsAgree, MapsGrow, IsKnown, LacksList, StandsAsKind, StandsAsKey, SameMaps, NamesGrow, AddsNames, LearnsNumber, LearnsList, LearnsKeyList, LearnsOne}
-use Rattle.encode_types.proofs.Around.{around-same}
-use Rattle.encode_types.proofs.EqualLists.{kinds-of-lists, keys-of-lists, key-shrink}
-use Rattle.encode_types.proofs.KindLaws.{same_tree, same-signature}
-use Rattle.encode_types.proofs.Tables.{kept-in, new-in, one-more-in, pairs-permuted, key-grow}
+use Rattle.encode_types.proofs.{Around.around-same, Tables.kept-in, Tables.new-in, Tables.one-more-in, Tables.pairs-permuted, Tables.key-grow}
+use Rattle.encode_types.proofs.{EqualLists.kinds-of-lists, EqualLists.keys-of-lists, EqualLists.key-shrink, KindLaws.same_tree, KindLaws.same-signature}
 
 pub either : {A E : Type 0} (x : Result A E) (P Q : Type 0) → OnOk x P → OnErr x Q → P ⊎ Q
 either (Ok x) P Q p q = inl p

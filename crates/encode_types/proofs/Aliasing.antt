@@ -1,25 +1,16 @@
 -- Aliases of what is met.
 use Rattle.std.proofs.Common.{◌≡◌, refl, sym, subst, ap, ◌∙◌, ℕ, Bool, true, List, [], ◌∷◌, ◌++◌, Option, Some, inl, inr}
-use Rattle.std.specs.List.{Contains}
 use Rattle.std.proofs.lemmas.List.Elements.{Contains-append_cases}
+use Rattle.std.specs.List.{Contains}
 use Rattle.wit_model.specs.Lookup.{type_at}
-use Rattle.wit_model.specs.declared.model.Resolve.{Resolve}
-use Rattle.wit_model.specs.declared.model.TypeId.{TypeId}
-use Rattle.wit_model.specs.declared.model.TypeDef.{TypeDef}
-use Rattle.wit_model.specs.declared.model.InterfaceId.{InterfaceId}
-use Rattle.wit_model.specs.declared.model.«Type».{«Type» as ValueType}
-use Rattle.wit_model.specs.declared.model.«Type».TheVariants as ty
+use Rattle.wit_model.specs.declared.model.{Resolve.Resolve, TypeId.TypeId, TypeDef.TypeDef, InterfaceId.InterfaceId, «Type».«Type» as ValueType}
 use Rattle.encode_types.specs.declared.maps.TypeEncodingMaps.{TypeEncodingMaps}
-use Rattle.encode_types.specs.Aliases.{IsMetElsewhere, AliasesMet, NumbersMet}
+use Rattle.encode_types.specs.{Aliases.IsMetElsewhere, Aliases.AliasesMet, Aliases.NumbersMet, Plan.foreign_owner, Plan.itself, Plan.Reaches, Plan.IsOrderOf}
 use Rattle.encode_types.specs.Known.{Around, Aliased, with_aliases, AreAliases, ReachesAround, as_before, aliased}
-use Rattle.encode_types.specs.MetKinds.{ReachedFrom}
-use Rattle.encode_types.specs.Plan.{foreign_owner, itself, Reaches, IsOrderOf}
-use Rattle.encode_types.specs.View.{ImportsOne}
-use Rattle.encode_types.proofs.Around.{with-both, are-both}
-use Rattle.encode_types.proofs.Encoding.{meets-reaches}
-use Rattle.encode_types.proofs.Lists.{none-in}
-use Rattle.encode_types.proofs.Rooms.{reaches-then}
+use Rattle.encode_types.specs.{MetKinds.ReachedFrom, View.ImportsOne}
+use Rattle.encode_types.proofs.{Around.with-both, Around.are-both, Encoding.meets-reaches, Lists.none-in, Rooms.reaches-then}
 use Rattle.base_lemmas.proofs.Elements.{contains-one, last_of as one-contained}
+use Rattle.wit_model.specs.declared.model.«Type».TheVariants as ty
 
 -- none have been made
 pub met-none : {r : Resolve} {own : Option InterfaceId} {ts : List ValueType} {a a' : Around} → a' ≡ a → AliasesMet r own ts a a'

@@ -1,9 +1,7 @@
 -- Aliases that are made in the scope around.
 use Rattle.std.proofs.Common.{◌≡◌, refl, subst, ap, ◌∙◌, ℕ, List, [], ◌∷◌, ◌++◌}
-use Rattle.wit_model.specs.declared.model.Resolve.{Resolve}
-use Rattle.wit_model.specs.declared.model.TypeId.{TypeId}
-use Rattle.encode_types.specs.Slots.{SlotsGrow}
-use Rattle.encode_types.specs.View.{Told, View, Grows}
+use Rattle.wit_model.specs.declared.model.{Resolve.Resolve, TypeId.TypeId}
+use Rattle.encode_types.specs.{Slots.SlotsGrow, View.Told, View.View, View.Grows}
 use Rattle.encode_types.specs.Known.{Around, Aliased, with_alias, with_aliases, AreAliases, GrowsAround, ReachesAround, as_before, aliased}
 
 pub around-same : {r : Resolve} {a a' : Around} → a' ≡ a → GrowsAround r a a'

@@ -1,20 +1,11 @@
 -- What a search finds in an ascending list.
 use Rattle.std.proofs.Common.{◌≡◌, sym, subst, ap, ◌∙◌, ℕ, ◌<◌, ◌≤◌, ◌-◌, ◌++◌, length, List, [], ◌∷◌, get_or, Ok, Err, Some, Option, arith, inl, inr, append_assoc}
-use Rattle.std.specs.Prelude.{IsPermutation, IfSome, IfNone}
-use Rattle.std.specs.List.{Contains, slice_get}
-use Rattle.std.proofs.lemmas.Option.{get_or_from_slice_get}
-use Rattle.std.specs.List.Sorted.{IsBinarySearchResult, IsNonDecreasingBy}
-use Rattle.std.specs.Ordering.{nat_cmp, ordering_index, is_eq}
-use Rattle.std.proofs.lemmas.Cmp.{ranked}
-use Rattle.std.proofs.lemmas.List.Elements.{Contains-append_cases, Contains-append_right, Contains-get_or}
-use Rattle.std.proofs.lemmas.List.{get_or_default}
-use Rattle.std.proofs.lemmas.Cmp.{nat_cmp_total}
-use Rattle.std.specs.Map.{lookup}
-use Rattle.std.specs.BTreeMap.{is_at}
+use Rattle.std.proofs.lemmas.{Option.get_or_from_slice_get, Bool.Decides.nat_tests}
+use Rattle.std.proofs.lemmas.{Cmp.ranked, Cmp.nat_cmp_total, List.get_or_default, List.Sorted.IsPermutation-append_comm, List.Sorted.IsPermutation-append_right}
+use Rattle.std.proofs.lemmas.List.{Elements.Contains-append_cases, Elements.Contains-append_right, Elements.Contains-get_or, Quantifiers.all_pairs_push}
+use Rattle.std.specs.{Prelude.IsPermutation, Prelude.IfSome, Prelude.IfNone, List.Contains, List.slice_get, BTreeMap.is_at}
+use Rattle.std.specs.{List.Sorted.IsBinarySearchResult, List.Sorted.IsNonDecreasingBy, Ordering.nat_cmp, Ordering.ordering_index, Ordering.is_eq, Map.lookup}
 use Rattle.encode_types.proofs.Tables.{absent, some-when, none-when, at-some, equal-self, number-found}
-use Rattle.std.proofs.lemmas.List.Quantifiers.{all_pairs_push}
-use Rattle.std.proofs.lemmas.List.Sorted.{IsPermutation-append_comm, IsPermutation-append_right}
-use Rattle.std.proofs.lemmas.Bool.Decides.{nat_tests}
 use Rattle.encode_types.specs.NumberMaps.{AreAscending, AreBelow}
 
 module _ (run : List (ℕ × ℕ)) (ascend : AreAscending run) (n : ℕ) where

@@ -1,43 +1,25 @@
 -- What is defined, call by call.
 use Rattle.std.proofs.Common.{◌≡◌, refl, sym, subst, ap, ◌∙◌, ℕ, ◌+◌, inl, inr, append_assoc, append-nil, Bool, true, false, List, [], ◌∷◌, ◌++◌, Result, Ok, Err, IfOk, Option, Some, None, length, length-append, arith, map}
-use Rattle.wit_model.specs.Rules.{is_named_kind}
-use Rattle.wit_model.specs.Tree.{Tree}
-use Rattle.wit_model.specs.Types.{trees_of, tree_of}
-use Rattle.wit_model.specs.declared.model.Resolve.{Resolve}
-use Rattle.wit_model.specs.declared.model.TypeId.{TypeId}
-use Rattle.wit_model.specs.declared.model.TypeDefKind.{TypeDefKind}
-use Rattle.wit_model.specs.declared.model.TypeDefKind.TheVariants as kind
-use Rattle.wit_model.specs.declared.model.«Type».{«Type» as ValueType}
-use Rattle.std.specs.Borrow.{Bor}
-use Rattle.std.specs.List.{AllZip, Contains, cons_option}
 use Rattle.std.proofs.lemmas.List.{map-append, length-map}
-use Rattle.std.specs.Prelude.{IsPermutation}
-use Rattle.std.proofs.lemmas.List.Sorted.{IsPermutation-refl, length_permutation}
-use Rattle.std.proofs.lemmas.List.Elements.{Contains-append_cases, filter_map-append}
-use Rattle.wit_model.specs.Meaning.{TypeMeaning}
+use Rattle.std.proofs.lemmas.List.{Sorted.IsPermutation-refl, Sorted.length_permutation, Elements.Contains-append_cases, Elements.filter_map-append}
+use Rattle.wit_model.specs.{Rules.is_named_kind, Tree.Tree, Types.trees_of, Types.tree_of, Meaning.TypeMeaning, Text.Text, Text.text_of}
+use Rattle.wit_model.specs.declared.model.{Resolve.Resolve, TypeId.TypeId, TypeDefKind.TypeDefKind, «Type».«Type» as ValueType, Param.Param}
+use Rattle.std.specs.{Borrow.Bor, List.AllZip, List.Contains, List.cons_option, Prelude.IsPermutation}
 use Rattle.comp_bytes.specs.Raw.{ExternName}
-use Rattle.comp_bytes.specs.declared.forms.ComponentValType.{ComponentValType}
-use Rattle.comp_bytes.specs.declared.forms.ComponentValType.TheVariants as v
-use Rattle.comp_bytes.specs.declared.forms.ComponentDefinedType.{ComponentDefinedType}
-use Rattle.comp_bytes.specs.declared.forms.ComponentDefinedType.TheVariants as form
+use Rattle.comp_bytes.specs.declared.forms.{ComponentValType.ComponentValType, ComponentDefinedType.ComponentDefinedType}
 use Rattle.encode_types.specs.declared.maps.TypeEncodingMaps.{TypeEncodingMaps}
 use Rattle.encode_types.specs.Slots.{Pairs, Standing, tree, Keeps, SlotAdded, StandsFor, StandsForOptional, NamedStands, CaseStands, Follows}
-use Rattle.encode_types.specs.Kinds.{kind_tree, has_form}
+use Rattle.encode_types.specs.{Kinds.kind_tree, Kinds.has_form, Scope.Scope, Known.GrowsAround}
 use Rattle.encode_types.specs.Maps.{Says, Holds, MapsAgree, IsWritten, HasKind, by_kind, LearnsNumber, LearnsList}
-use Rattle.wit_model.specs.Text.{Text, text_of}
-use Rattle.wit_model.specs.declared.model.Param.{Param}
-use Rattle.encode_types.specs.Definition.{FollowsKind, IsWrittenParam}
-use Rattle.encode_types.proofs.Lists.{none-in}
-use Rattle.encode_types.specs.Scope.{Scope}
+use Rattle.encode_types.specs.{Definition.FollowsKind, Definition.IsWrittenParam, View.View, View.Agrees, View.Grows, Leaves.Leaves, Leaves.LeavesSlots}
 use Rattle.encode_types.specs.Counts.{Definitions, one_type_more, type_more_if, is_defined_by_name, own_name, ExportsOne, Shows, IsTarget, AddsTypes}
+use Rattle.encode_types.proofs.{Lists.none-in, Around.around-trans, Written.written-stands}
 use Rattle.encode_types.proofs.Marking.{more-then, slots-none, slots-then, slots-kind, slots-number, slots-named}
-use Rattle.encode_types.specs.Known.{GrowsAround}
-use Rattle.encode_types.proofs.Around.{around-trans}
-use Rattle.encode_types.specs.View.{View, Agrees, Grows}
-use Rattle.encode_types.specs.Leaves.{Leaves, LeavesSlots}
-use Rattle.encode_types.proofs.Written.{written-stands}
 use Rattle.wit_model.proofs.Elements.{zip-along}
 use Rattle.base_lemmas.proofs.Elements.{last_of as one-contained, zip-kept}
+use Rattle.wit_model.specs.declared.model.TypeDefKind.TheVariants as kind
+use Rattle.comp_bytes.specs.declared.forms.ComponentValType.TheVariants as v
+use Rattle.comp_bytes.specs.declared.forms.ComponentDefinedType.TheVariants as form
 
 -- ---- more pairs
 

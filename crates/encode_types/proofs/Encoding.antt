@@ -1,28 +1,18 @@
 -- The loop that defines what types need, in order.
 use Rattle.std.proofs.Common.{◌≡◌, refl, sym, subst, ap, ◌∙◌, ℕ, ◌+◌, ◌<◌, ◌≤◌, false, ◌&&◌, List, [], ◌∷◌, ◌++◌, inl, inr, Option, Some, None, length, take, get_or, arith, unwrap_or}
-use Rattle.std.specs.Prelude.{is_none, is_some, String}
-use Rattle.std.specs.declared.alloc.Global.{Global}
-use Rattle.std.specs.Option.{option_map_or}
-use Rattle.std.specs.List.{Contains}
 use Rattle.std.proofs.lemmas.List.{take_more, take_all}
 use Rattle.std.proofs.lemmas.List.Elements.{Contains-push_cases, Contains-push, Contains-append_left, Contains-append_right}
-use Rattle.std.specs.Prelude.{option_and_then, option_map, cond}
-use Rattle.wit_model.specs.Text.{text_of}
-use Rattle.wit_model.specs.Lookup.{type_at}
-use Rattle.wit_model.specs.Types.{no_tree, number_tree, trees_of, tree_of_definition}
+use Rattle.std.specs.Prelude.{is_none, is_some, String, option_and_then, option_map, cond}
+use Rattle.std.specs.{Option.option_map_or, List.Contains}
+use Rattle.std.specs.declared.alloc.Global.{Global}
+use Rattle.wit_model.specs.{Text.text_of, Lookup.type_at, Types.no_tree, Types.number_tree, Types.trees_of, Types.tree_of_definition}
 use Rattle.wit_model.proofs.TreeTable.{trees_at}
-use Rattle.wit_model.specs.declared.model.Resolve.{Resolve}
-use Rattle.wit_model.specs.declared.model.TypeDef.{TypeDef}
-use Rattle.wit_model.specs.declared.model.InterfaceId.{InterfaceId}
-use Rattle.wit_model.specs.declared.model.«Type».{«Type» as ValueType}
+use Rattle.wit_model.specs.declared.model.{Resolve.Resolve, TypeDef.TypeDef, InterfaceId.InterfaceId, «Type».«Type» as ValueType}
 use Rattle.encode_types.specs.declared.maps.TypeEncodingMaps.{TypeEncodingMaps}
-use Rattle.encode_types.specs.Kinds.{parts_of, has_definition}
-use Rattle.encode_types.specs.Maps.{IsKnown, AllReady, MapsGrow, LearnsOnly, LearnsOne}
-use Rattle.encode_types.specs.Scope.{Scope}
-use Rattle.encode_types.specs.Counts.{is_defined_by_name, is_defined_under_name, own_name, name_of_own}
+use Rattle.encode_types.specs.{Kinds.parts_of, Kinds.has_definition, Maps.IsKnown, Maps.AllReady, Maps.MapsGrow, Maps.LearnsOnly, Maps.LearnsOne}
+use Rattle.encode_types.specs.{Scope.Scope, Counts.is_defined_by_name, Counts.is_defined_under_name, Counts.own_name, Counts.name_of_own}
 use Rattle.encode_types.specs.Plan.{foreign_owner, Reaches, itself, through, Meets, at_once, further, MetFrom, IsLayered, InRange, IsOrdered, IsOrderOf}
-use Rattle.encode_types.proofs.Agree.{known-grow}
-use Rattle.encode_types.proofs.Planning.{part-smaller}
+use Rattle.encode_types.proofs.{Agree.known-grow, Planning.part-smaller}
 
 -- ---- single numbers
 

@@ -1,28 +1,20 @@
 -- Equal lists are those of equal kinds, and of equal keys of functions.
 use Rattle.std.proofs.Common.{◌≡◌, refl, sym, subst, ap, ◌∙◌, ℕ, suc, ◌+◌, ◌-◌, ◌≤◌, Bool, true, false, ◌&&◌, List, [], ◌∷◌, ◌++◌, map, cond, length, get_or, Option, Some, None, arith, rules, nat_eq}
-use Rattle.std.specs.List.{Contains}
-use Rattle.std.specs.Option.{option_eq}
-use Rattle.std.specs.Cmp.Lexicographic.{pointwise}
-use Rattle.std.proofs.lemmas.Bool.{eqb-true, eq-eqb, and_from as both}
-use Rattle.std.proofs.lemmas.List.{get_or_past}
+use Rattle.std.proofs.lemmas.{Bool.eqb-true, Bool.eq-eqb, Bool.and_from as both, List.get_or_past}
+use Rattle.std.specs.{List.Contains, Option.option_eq, Cmp.Lexicographic.pointwise}
 use mathlib.Core.Bool.{beq, true≢false}
-use Rattle.wit_model.specs.Text.{Text, text_of, text_eq}
-use Rattle.wit_model.specs.Rules.{is_named_kind}
-use Rattle.wit_model.specs.declared.model.Param.{Param}
-use Rattle.wit_model.specs.declared.model.TypeDefKind.{TypeDefKind}
-use Rattle.wit_model.specs.declared.model.TypeDefKind.TheVariants as kind
-use Rattle.wit_model.specs.declared.model.Handle.TheVariants as handle
-use Rattle.wit_model.specs.declared.model.«Type».{«Type» as ValueType}
-use Rattle.wit_model.specs.declared.model.«Type».TheVariants as ty
+use Rattle.wit_model.specs.{Text.Text, Text.text_of, Text.text_eq, Rules.is_named_kind}
+use Rattle.wit_model.specs.declared.model.{Param.Param, TypeDefKind.TypeDefKind, «Type».«Type» as ValueType}
 use Rattle.encode_types.specs.declared.key.FunctionKey.{FunctionKey}
-use Rattle.encode_types.specs.Key.{same_type, same_param, same_params, same_key}
+use Rattle.encode_types.specs.{Key.same_type, Key.same_param, Key.same_params, Key.same_key, Maps.same_kind, CodeLaws.EqualKinds, CodeLaws.EqualKeys}
 use Rattle.encode_types.specs.KeyLaws.{type_equiv, text_same}
-use Rattle.encode_types.specs.Maps.{same_kind}
 use Rattle.encode_types.specs.Codes.{type_code, optional_code, kind_code, Names, IsTable, AreListed, async_code, IsKeyList}
-use Rattle.encode_types.specs.CodeLaws.{EqualKinds, EqualKeys}
 use Rattle.encode_types.proofs.KindLaws.{same_types, optional_same, types_same}
 use Rattle.base_lemmas.proofs.Bools.{left_of as first_true, right_of as second_true}
 use Rattle.wit_model.proofs.TextLemmas.{text_alike as text-refl}
+use Rattle.wit_model.specs.declared.model.TypeDefKind.TheVariants as kind
+use Rattle.wit_model.specs.declared.model.Handle.TheVariants as handle
+use Rattle.wit_model.specs.declared.model.«Type».TheVariants as ty
 
 -- ---- types
 

@@ -1,32 +1,16 @@
 -- Types of functions by their keys.
 use Rattle.std.proofs.Common.{◌≡◌, sym, subst, ap, ◌∙◌, ℕ, List, [], ◌∷◌, ◌++◌, inl, inr, map, option_map, Bool, Option}
-use Rattle.std.specs.Prelude.{IsPermutation}
-use Rattle.std.specs.Borrow.{Bor}
-use Rattle.std.specs.List.{Contains}
 use Rattle.std.proofs.lemmas.List.Elements.{Contains-append_left, Contains-append_right}
-use Rattle.wit_model.specs.Text.{Text, text_of}
-use Rattle.wit_model.specs.Types.{trees_of, tree_of}
-use Rattle.wit_model.specs.Meant.{signature_of}
-use Rattle.wit_model.specs.Meaning.{Signature}
-use Rattle.wit_model.specs.declared.model.Resolve.{Resolve}
-use Rattle.wit_model.specs.declared.model.Function.{Function}
-use Rattle.wit_model.specs.declared.model.«Type».{«Type» as ValueType}
-use Rattle.encode_types.specs.declared.key.FunctionKey.{FunctionKey}
-use Rattle.encode_types.specs.declared.maps.TypeEncodingMaps.{TypeEncodingMaps}
-use Rattle.encode_types.specs.Key.{IsKeyOf, key_signature}
+use Rattle.std.specs.{Prelude.IsPermutation, Borrow.Bor, List.Contains}
+use Rattle.wit_model.specs.{Text.Text, Text.text_of, Types.trees_of, Types.tree_of, Meant.signature_of, Meaning.Signature, Lookup.is_async}
+use Rattle.wit_model.specs.declared.model.{Resolve.Resolve, Function.Function, «Type».«Type» as ValueType, Param.Param}
+use Rattle.encode_types.specs.declared.{key.FunctionKey.FunctionKey, maps.TypeEncodingMaps.TypeEncodingMaps}
+use Rattle.encode_types.specs.{Key.IsKeyOf, Key.key_signature, Slots.Pairs, Slots.function}
 use Rattle.encode_types.specs.Maps.{MapsAgree, NamesGrow, IsOnce, AddsNames, KeepsKnownNames, HasKey, LacksKey, LearnsKeyList, by_key}
-use Rattle.encode_types.specs.Slots.{Pairs, function}
-use Rattle.encode_types.specs.Scope.{Scope}
-use Rattle.encode_types.specs.Fits.{CanEncode}
-use Rattle.encode_types.specs.Codes.{names_of, lists_of, ListKey, IsListed, IsKeyList}
-use Rattle.encode_types.specs.Distinct.{KnowsKey, key_of}
-use Rattle.wit_model.specs.Lookup.{is_async}
-use Rattle.wit_model.specs.declared.model.Param.{Param}
-use Rattle.encode_types.specs.Counts.{SameKeys, Definitions, one_function_more, AddsTypes, AddsFunction}
-use Rattle.encode_types.proofs.Agree.{adds-holds, adds-back}
-use Rattle.encode_types.proofs.Tables.{listed-names, listed-grow, names-same, names-then}
-use Rattle.encode_types.proofs.Defining.{shows-none, shows-trans}
-use Rattle.encode_types.proofs.Marking.{slots-none, slots-then}
+use Rattle.encode_types.specs.{Scope.Scope, Codes.names_of, Codes.lists_of, Codes.ListKey, Codes.IsListed, Codes.IsKeyList, Distinct.KnowsKey, Distinct.key_of}
+use Rattle.encode_types.specs.{Fits.CanEncode, Counts.SameKeys, Counts.Definitions, Counts.one_function_more, Counts.AddsTypes, Counts.AddsFunction}
+use Rattle.encode_types.proofs.{Agree.adds-holds, Agree.adds-back, Marking.slots-none, Marking.slots-then}
+use Rattle.encode_types.proofs.{Tables.listed-names, Tables.listed-grow, Tables.names-same, Tables.names-then, Defining.shows-none, Defining.shows-trans}
 
 pub key-signature : (r : Resolve) (key : FunctionKey) (f : Function) → IsKeyOf key f → key_signature r key ≡ signature_of r f
 key-signature r key f k = λ i. record {

@@ -1,9 +1,6 @@
 -- A loop that feeds a hasher parameter by parameter.
 use Rattle.std.proofs.Common.{◌≡◌, refl, sym, ap, ◌∙◌, ℕ, zero, suc, ◌+◌, ◌<◌, List, [], ◌∷◌, ◌++◌, length, get_or, take, arith}
-use Rattle.std.specs.Hash.{HashWrites}
-use Rattle.std.specs.List.{flat_map, fold, list_all, zip}
-use Rattle.std.specs.Cmp.Lexicographic.{pointwise}
-use Rattle.std.specs.Prelude.{Bool, ◌&&◌}
+use Rattle.std.specs.{Hash.HashWrites, List.flat_map, List.fold, List.list_all, List.zip, Cmp.Lexicographic.pointwise, Prelude.Bool, Prelude.◌&&◌}
 
 fold-more : {S : Type 0} (write : S → List ℕ → S) (s : S) (xs ys : HashWrites) → fold write s (xs ++ ys) ≡ fold write (fold write s xs) ys
 fold-more write s [] ys = refl

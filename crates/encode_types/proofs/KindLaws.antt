@@ -1,23 +1,16 @@
 -- Kinds that are the same declare the same tree.
 use Rattle.std.proofs.Common.{◌≡◌, refl, sym, ap, true, false, ◌&&◌, rules, List, [], ◌∷◌, map, Option, Some, None, option_map, nat_eq}
-use Rattle.wit_model.specs.declared.model.TypeDefKind.{TypeDefKind}
-use Rattle.wit_model.specs.declared.model.TypeDefKind.TheVariants as kind
-use Rattle.wit_model.specs.declared.model.«Type».{«Type» as ValueType}
-use Rattle.wit_model.specs.Rules.{is_named_kind}
-use Rattle.wit_model.specs.Tree.{Tree, type_, tuple_tree, result_tree, map_tree, fixed_list_tree}
-use Rattle.wit_model.specs.Types.{declared_by, tree_of}
-use Rattle.std.specs.Option.{option_eq}
-use Rattle.std.specs.Cmp.Lexicographic.{pointwise}
 use Rattle.std.proofs.lemmas.Bool.{eqb-true}
-use Rattle.encode_types.specs.Maps.{same_kind}
+use Rattle.wit_model.specs.declared.model.{TypeDefKind.TypeDefKind, «Type».«Type» as ValueType}
+use Rattle.wit_model.specs.{Rules.is_named_kind, Types.declared_by, Types.tree_of}
+use Rattle.wit_model.specs.Tree.{Tree, type_, tuple_tree, result_tree, map_tree, fixed_list_tree}
+use Rattle.std.specs.{Option.option_eq, Cmp.Lexicographic.pointwise}
+use Rattle.encode_types.specs.{Maps.same_kind, Key.same_type, Key.same_param, Key.same_params, Key.same_key, Key.key_signature, KeyLaws.text_same}
 use Rattle.encode_types.specs.declared.key.FunctionKey.{FunctionKey}
-use Rattle.encode_types.specs.Key.{same_type, same_param, same_params, same_key, key_signature}
-use Rattle.encode_types.specs.KeyLaws.{text_same}
+use Rattle.wit_model.specs.declared.model.TypeDefKind.TheVariants as kind
 use mathlib.Core.Bool.{beq, true≢false}
-use Rattle.wit_model.specs.Text.{Text, text_of, text_eq}
-use Rattle.wit_model.specs.Types.{trees_of}
-use Rattle.wit_model.specs.declared.model.Param.{Param}
-use Rattle.wit_model.specs.declared.model.Resolve.{Resolve}
+use Rattle.wit_model.specs.{Text.Text, Text.text_of, Text.text_eq, Types.trees_of}
+use Rattle.wit_model.specs.declared.model.{Param.Param, Resolve.Resolve}
 use Rattle.base_lemmas.proofs.Bools.{beq_same as beq-same, left_of as first_true, right_of as second_true}
 
 pub same_types : (a b : ValueType) → same_type a b ≡ true → a ≡ b

@@ -1,35 +1,19 @@
 -- What maps learn, call by call.
 use Rattle.std.proofs.Common.{◌≡◌, refl, sym, subst, ap, ◌∙◌, ℕ, ◌⊎◌, false, inl, inr, List, [], ◌∷◌, ◌++◌, map, Option, Some, None, option_to_list, Result, Ok, Err, OnOk, String}
+use Rattle.std.proofs.lemmas.{List.Elements.Contains-append_cases, Option.same_Some as some-same}
 use Rattle.std.specs.declared.alloc.Global.{Global}
-use Rattle.std.specs.List.{Contains}
-use Rattle.std.specs.Borrow.{Bor}
-use Rattle.std.proofs.lemmas.List.Elements.{Contains-append_cases}
-use Rattle.wit_model.specs.Lookup.{type_at}
-use Rattle.wit_model.specs.Parts.{function_types}
-use Rattle.wit_model.specs.declared.model.Resolve.{Resolve}
-use Rattle.wit_model.specs.declared.model.Function.{Function}
+use Rattle.std.specs.{List.Contains, Borrow.Bor}
+use Rattle.wit_model.specs.{Lookup.type_at, Parts.function_types, Rules.is_named_kind, Text.Text}
+use Rattle.wit_model.specs.declared.model.{Resolve.Resolve, Function.Function, TypeDefKind.TypeDefKind, InterfaceId.InterfaceId, «Type».«Type» as ValueType}
 use Rattle.wit_model.specs.declared.model.TypeDef.{TypeDef}
-use Rattle.wit_model.specs.declared.model.TypeDefKind.{TypeDefKind}
-use Rattle.wit_model.specs.declared.model.InterfaceId.{InterfaceId}
-use Rattle.wit_model.specs.declared.model.«Type».{«Type» as ValueType}
-use Rattle.encode_types.specs.declared.key.FunctionKey.{FunctionKey}
-use Rattle.encode_types.specs.declared.maps.TypeEncodingMaps.{TypeEncodingMaps}
-use Rattle.encode_types.specs.Key.{IsKeyOf}
-use Rattle.encode_types.specs.Kinds.{parts_of}
-use Rattle.wit_model.specs.Rules.{is_named_kind}
-use Rattle.wit_model.specs.Text.{Text}
-use Rattle.encode_types.specs.Codes.{kind_code, names_of, lists_of, IsKeyList, ListKey}
+use Rattle.encode_types.specs.declared.{key.FunctionKey.FunctionKey, maps.TypeEncodingMaps.TypeEncodingMaps}
+use Rattle.encode_types.specs.{Key.IsKeyOf, Kinds.parts_of, Codes.kind_code, Codes.names_of, Codes.lists_of, Codes.IsKeyList, Codes.ListKey, Plan.foreign_owner}
 use Rattle.encode_types.specs.Maps.{IsKnown, IsReady, AllReady, HasKind, MapsGrow, AddsNames, LearnsOne, LearnsList, LearnsKeyList, by_kind}
-use Rattle.encode_types.proofs.Tables.{new-in, one-more-in, key-grow}
-use Rattle.encode_types.specs.Plan.{foreign_owner}
-use Rattle.encode_types.specs.Scope.{Scope}
-use Rattle.encode_types.specs.Counts.{Definitions, SameKeys, AddsTypes}
+use Rattle.encode_types.specs.{Scope.Scope, Counts.Definitions, Counts.SameKeys, Counts.AddsTypes}
 use Rattle.encode_types.specs.MetKinds.{IsKnownKind, IsKnownList, IsReadyKey, KeepsNames, IsHeld, key_types, Learns, LearnsMet, LearnsKindOf}
-use Rattle.encode_types.proofs.Agree.{known-grow, adds-holds}
-use Rattle.encode_types.proofs.Lists.{none-in}
-use Rattle.encode_types.proofs.Encoding.{learns-nothing, learns-both, learns-same}
+use Rattle.encode_types.proofs.{Tables.new-in, Tables.one-more-in, Tables.key-grow, Encoding.learns-nothing, Encoding.learns-both, Encoding.learns-same}
+use Rattle.encode_types.proofs.{Agree.known-grow, Agree.adds-holds, Lists.none-in}
 use Rattle.base_lemmas.proofs.Elements.{last_of as one-contained}
-use Rattle.std.proofs.lemmas.Option.{same_Some as some-same}
 
 pub ready-grow : (m m' : TypeEncodingMaps) (ts : List ValueType) → MapsGrow m m' → AllReady m ts → AllReady m' ts
 ready-grow m m' ts g a t c id e = known-grow m m' id.0 g (a t c id e)

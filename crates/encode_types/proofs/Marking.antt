@@ -1,17 +1,12 @@
 -- Which definition is which, call by call.
 use Rattle.std.proofs.Common.{◌≡◌, refl, sym, subst, ap, ◌∙◌, ℕ, ◌+◌, inl, inr, append_assoc, append-nil, Bool, true, false, cond, List, [], ◌∷◌, ◌++◌, length, length-append, arith, count_by, zero-add, map}
-use Rattle.std.specs.Prelude.{IsPermutation, not, filter}
-use Rattle.std.specs.List.{Contains}
 use Rattle.std.proofs.lemmas.List.{map-append}
-use Rattle.std.proofs.lemmas.List.Sums.{sum_by-append}
+use Rattle.std.proofs.lemmas.List.{Sums.sum_by-append, Elements.Contains-append_cases, Elements.Contains-append_left, Elements.filter-append}
 use Rattle.std.proofs.lemmas.List.Sorted.{IsPermutation-refl, IsPermutation-trans, IsPermutation-append_left, IsPermutation-map, Contains-permutation, sum_by-IsPermutation}
-use Rattle.std.proofs.lemmas.List.Elements.{Contains-append_cases, Contains-append_left, filter-append}
-use Rattle.wit_model.specs.declared.model.Resolve.{Resolve}
-use Rattle.wit_model.specs.declared.model.TypeId.{TypeId}
+use Rattle.std.specs.{Prelude.IsPermutation, Prelude.not, Prelude.filter, List.Contains}
+use Rattle.wit_model.specs.declared.model.{Resolve.Resolve, TypeId.TypeId}
 use Rattle.encode_types.specs.declared.maps.TypeEncodingMaps.{TypeEncodingMaps}
-use Rattle.encode_types.specs.Codes.{lists_of, ListKey}
-use Rattle.encode_types.specs.Maps.{LearnsNumber, LearnsList}
-use Rattle.encode_types.specs.Scope.{Scope}
+use Rattle.encode_types.specs.{Codes.lists_of, Codes.ListKey, Maps.LearnsNumber, Maps.LearnsList, Scope.Scope}
 use Rattle.encode_types.specs.Counts.{Definitions, Marked, slots_of, named_slots, other_slots, kind_slots, key_slots, names_defined, is_defined_by_name, type_more_if, IsTarget, AddsSlots}
 use Rattle.encode_types.proofs.Lists.{none-in}
 use Rattle.base_lemmas.proofs.Elements.{last_of as one-contained}

@@ -1,26 +1,15 @@
 -- A type of the place, from what fits the scope.
 use Rattle.std.proofs.Common.{◌≡◌, refl, sym, subst, ap, ◌∙◌, ℕ, true, false, Some, None}
-use Rattle.std.specs.Prelude.{String}
+use Rattle.std.specs.{Prelude.String, Option.option_map_or}
 use Rattle.std.specs.declared.alloc.Global.{Global}
-use Rattle.std.specs.Option.{option_map_or}
-use Rattle.wit_model.specs.Text.{Text, text_of}
-use Rattle.wit_model.specs.Tree.{Place, named}
-use Rattle.wit_model.specs.Lookup.{place_of}
-use Rattle.wit_model.specs.Types.{number_tree, trees_of, tree_of_definition, declared_by, tree_of_declaration}
-use Rattle.wit_model.specs.Meaning.{TypeMeaning}
-use Rattle.wit_model.specs.Meant.{type_meaning}
-use Rattle.wit_model.specs.declared.model.Resolve.{Resolve}
-use Rattle.wit_model.specs.declared.model.TypeDef.{TypeDef}
-use Rattle.wit_model.specs.declared.model.TypeDefKind.{TypeDefKind}
-use Rattle.wit_model.specs.declared.model.TypeDefKind.TheVariants as kind
-use Rattle.wit_model.specs.declared.model.TypeId.{TypeId}
-use Rattle.wit_model.specs.declared.model.«Type».{«Type» as ValueType}
-use Rattle.wit_model.specs.declared.model.«Type».TheVariants as ty
+use Rattle.wit_model.specs.{Text.Text, Text.text_of, Types.number_tree, Types.trees_of, Types.tree_of_definition, Types.declared_by, Types.tree_of_declaration}
+use Rattle.wit_model.specs.{Tree.Place, Tree.named, Lookup.place_of, Meaning.TypeMeaning, Meant.type_meaning}
+use Rattle.wit_model.specs.declared.model.{Resolve.Resolve, TypeDef.TypeDef, TypeDefKind.TypeDefKind, TypeId.TypeId, «Type».«Type» as ValueType}
 use Rattle.comp_bytes.specs.Raw.{ExternName}
-use Rattle.encode_types.specs.Kinds.{has_definition}
-use Rattle.encode_types.specs.Plan.{foreign_owner}
-use Rattle.encode_types.specs.Scope.{Scope, IsDeclared, DeclaresResource, exported_name}
+use Rattle.encode_types.specs.{Kinds.has_definition, Plan.foreign_owner, Scope.Scope, Scope.IsDeclared, Scope.DeclaresResource, Scope.exported_name}
 use Rattle.encode_types.specs.Fits.{FitsScope}
+use Rattle.wit_model.specs.declared.model.TypeDefKind.TheVariants as kind
+use Rattle.wit_model.specs.declared.model.«Type».TheVariants as ty
 
 pub own-definition : (k : TypeDefKind) → (k ≡ kind.Resource → ⊥) → ((t : ValueType) → k ≡ kind.Type_ t → ⊥) → has_definition k ≡ true
 own-definition kind.Resource n m = absurd (n refl)

@@ -1,9 +1,7 @@
 -- Lists of which each element stands in a relation with each later one.
 use Rattle.std.proofs.Common.{sym, subst, ℕ, zero, suc, ◌<◌, List, [], ◌∷◌, ◌++◌, map, length, get_or, arith}
-use Rattle.std.specs.Prelude.{AllPairs}
-use Rattle.std.specs.List.{Contains}
-use Rattle.std.proofs.lemmas.List.{get_or-map, length-map}
-use Rattle.std.proofs.lemmas.List.Elements.{Contains-append_right}
+use Rattle.std.proofs.lemmas.{List.get_or-map, List.length-map, List.Elements.Contains-append_right}
+use Rattle.std.specs.{Prelude.AllPairs, List.Contains}
 use Rattle.encode_types.proofs.Lists.{none-in}
 
 pub pairs-tail : {X : Type 0} (R : X → X → Type 0) (x : X) (xs : List X) → AllPairs R (x ∷ xs) → AllPairs R xs

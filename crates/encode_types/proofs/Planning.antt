@@ -1,47 +1,23 @@
 -- The order in which types are defined, made step by step.
 use Rattle.std.proofs.Common.{◌≡◌, refl, sym, subst, ap, ◌∙◌, ℕ, ◌+◌, ◌<◌, ◌≤◌, List, [], ◌∷◌, ◌++◌, ◌⊎◌, inl, inr, Option, Some, None, length, take, get_or, arith, length-append, below_more, true, false, nat_lt, T, ltb→lt, filter_map, Bool, nat_eq, zero, suc, ◌||◌, cond, drop, Decides}
-use Rattle.std.specs.Prelude.{slice_index, option_to_list}
-use Rattle.std.specs.Option.{is_some}
-use Rattle.std.specs.List.{Contains, IsDistinct}
-use Rattle.std.specs.List.{list_any}
-use Rattle.std.specs.Set.{is_member}
-use Rattle.std.specs.BTreeSet.{contains}
-use Rattle.std.specs.BTreeMap.{is_at}
-use Rattle.std.specs.Ordering.{nat_cmp, is_eq}
-use Rattle.std.proofs.lemmas.Bool.{eq-eqb}
-use Rattle.std.proofs.lemmas.Cmp.{nat_cmp_total}
-use Rattle.std.proofs.lemmas.Map.Lookups.{exact_unsigned}
-use Rattle.encode_types.proofs.Tables.{equal-is, equal-self}
-use Rattle.encode_types.proofs.Lists.{none-in}
-use Rattle.std.proofs.lemmas.List.Elements.{Contains-append_right, Contains-append_cases}
-use Rattle.std.proofs.lemmas.Cmp.{nat_eq_equiv}
-use Rattle.std.proofs.lemmas.Map.Keys.{IsDistinct-push}
-use Rattle.std.proofs.lemmas.Map.Made.{is_member-Decides}
-use Rattle.std.proofs.lemmas.Bool.Decides.{Decides-eqb}
+use Rattle.std.proofs.{lemmas.Bool.eq-eqb, lemmas.Bool.Decides.Decides-eqb, Math.Seq.get_or-append_seam}
+use Rattle.std.proofs.lemmas.{Cmp.nat_cmp_total, Cmp.nat_eq_equiv, Map.Lookups.exact_unsigned, Map.Keys.IsDistinct-push, Map.Made.is_member-Decides}
+use Rattle.std.proofs.lemmas.List.Elements.{Contains-append_right, Contains-append_cases, Contains-append_left, Contains-push_cases, Contains-push}
 use Rattle.std.proofs.lemmas.List.{take_more, take_all, take-append-le, take_at, get_or_append_left, take-append-drop, drop_all, drop-append-le}
-use Rattle.std.proofs.Math.Seq.{get_or-append_seam}
-use Rattle.std.proofs.lemmas.List.Elements.{Contains-append_left, Contains-push_cases, Contains-push}
-use Rattle.wit_model.specs.Lookup.{type_at}
-use Rattle.wit_model.specs.Types.{number_of}
-use Rattle.wit_model.specs.Parts.{kind_numbers, member_types, handled}
-use Rattle.wit_model.specs.Uses.{alias_target}
-use Rattle.wit_model.specs.declared.model.Resolve.{Resolve}
-use Rattle.wit_model.specs.declared.model.TypeDef.{TypeDef}
-use Rattle.wit_model.specs.declared.model.TypeDefKind.{TypeDefKind}
-use Rattle.wit_model.specs.declared.model.TypeDefKind.TheVariants as kind
-use Rattle.wit_model.specs.declared.model.Handle.TheVariants as handle
+use Rattle.std.specs.{Prelude.slice_index, Prelude.option_to_list, List.Contains, List.IsDistinct, List.list_any, Ordering.nat_cmp, Ordering.is_eq}
+use Rattle.std.specs.{Option.is_some, Set.is_member, BTreeSet.contains, BTreeMap.is_at}
+use Rattle.encode_types.proofs.{Tables.equal-is, Tables.equal-self, Lists.none-in}
+use Rattle.wit_model.specs.{Lookup.type_at, Types.number_of, Parts.kind_numbers, Parts.member_types, Parts.handled, Uses.alias_target}
+use Rattle.wit_model.specs.declared.model.{Resolve.Resolve, TypeDef.TypeDef, TypeDefKind.TypeDefKind, InterfaceId.InterfaceId, «Type».«Type» as ValueType}
 use Rattle.wit_model.specs.declared.model.TypeId.{TypeId}
-use Rattle.wit_model.specs.declared.model.InterfaceId.{InterfaceId}
-use Rattle.wit_model.specs.declared.model.«Type».{«Type» as ValueType}
-use Rattle.wit_model.specs.declared.model.«Type».TheVariants as ty
-use Rattle.encode_types.specs.declared.maps.TypeEncodingMaps.{TypeEncodingMaps}
-use Rattle.encode_types.specs.declared.plan.Order.{Order}
-use Rattle.encode_types.specs.Kinds.{parts_of}
-use Rattle.encode_types.specs.Maps.{IsKnown}
+use Rattle.encode_types.specs.declared.{maps.TypeEncodingMaps.TypeEncodingMaps, plan.Order.Order}
+use Rattle.encode_types.specs.{Kinds.parts_of, Maps.IsKnown}
 use Rattle.encode_types.specs.Plan.{foreign_owner, Meets, at_once, further, IsLayered, PartsStand, IsOrdered, AreMet, Stands, IsPlanned, IsOrderOf, rank}
 use Rattle.wit_model.proofs.Elements.{contains-filter_map}
-use Rattle.base_lemmas.proofs.Elements.{all-contained, contains-one, last_of as one-contained}
-use Rattle.base_lemmas.proofs.Numbers.{none-twice}
+use Rattle.base_lemmas.proofs.{Elements.all-contained, Elements.contains-one, Elements.last_of as one-contained, Numbers.none-twice}
+use Rattle.wit_model.specs.declared.model.TypeDefKind.TheVariants as kind
+use Rattle.wit_model.specs.declared.model.Handle.TheVariants as handle
+use Rattle.wit_model.specs.declared.model.«Type».TheVariants as ty
 
 none-of : {A : Type 0} (o : Option A) → is_some o ≡ false → o ≡ None
 none-of None e = refl

@@ -1,37 +1,21 @@
 -- How much an encoder holds, and what it has no room for, call after call.
 use Rattle.std.proofs.Common.{◌≡◌, refl, sym, subst, ap, ◌∙◌, ℕ, zero, suc, ◌+◌, ◌*◌, ◌<◌, ◌≤◌, ◌&&◌, ◌⊎◌, inl, inr, Bool, true, false, cond, List, [], ◌∷◌, ◌++◌, map, length, length-append, append-nil, take, Option, Some, None, arith, nat_eq, Result, Ok, Err, OnOk}
-use Rattle.std.specs.Prelude.{flat_map, is_none, option_and_then, String, IsPermutation}
-use Rattle.std.specs.declared.alloc.Global.{Global}
-use Rattle.std.specs.List.{Contains, AllPairs, All}
-use Rattle.std.proofs.lemmas.List.Kept.{AllPairs-cons}
-use Rattle.std.proofs.lemmas.List.Sorted.{IsPermutation-sym, Contains-permutation, length_permutation}
+use Rattle.std.proofs.lemmas.{List.Kept.AllPairs-cons, Bool.eqb-true, Bool.or_from as neither, Option.same_Some as some-same}
+use Rattle.std.proofs.lemmas.List.{Sorted.IsPermutation-sym, Sorted.Contains-permutation, Sorted.length_permutation, Sums.sum_by-cons, Sums.sum_by-append}
 use Rattle.std.proofs.lemmas.List.Elements.{Contains-append_left, Contains-append_right, Contains-append_cases, Contains-get_or}
-use Rattle.std.proofs.lemmas.List.Sums.{sum_by-cons, sum_by-append}
-use Rattle.std.proofs.lemmas.Bool.{eqb-true, or_from as neither}
-use Rattle.wit_model.specs.Lookup.{type_at}
-use Rattle.wit_model.specs.Rules.{is_named_kind}
-use Rattle.wit_model.specs.declared.model.Resolve.{Resolve}
-use Rattle.wit_model.specs.declared.model.TypeDef.{TypeDef}
-use Rattle.wit_model.specs.declared.model.TypeDefKind.{TypeDefKind}
+use Rattle.std.specs.{Prelude.flat_map, Prelude.is_none, Prelude.option_and_then, Prelude.String, Prelude.IsPermutation, List.Contains, List.AllPairs, List.All}
+use Rattle.std.specs.declared.alloc.Global.{Global}
+use Rattle.wit_model.specs.{Lookup.type_at, Rules.is_named_kind}
+use Rattle.wit_model.specs.declared.model.{Resolve.Resolve, TypeDef.TypeDef, TypeDefKind.TypeDefKind, InterfaceId.InterfaceId, «Type».«Type» as ValueType}
 use Rattle.wit_model.specs.declared.model.TypeId.{TypeId}
-use Rattle.wit_model.specs.declared.model.InterfaceId.{InterfaceId}
-use Rattle.wit_model.specs.declared.model.«Type».{«Type» as ValueType}
-use Rattle.wit_model.specs.declared.model.«Type».TheVariants as ty
 use Rattle.encode_types.specs.declared.maps.TypeEncodingMaps.{TypeEncodingMaps}
-use Rattle.encode_types.specs.Codes.{lists_of}
+use Rattle.encode_types.specs.{Codes.lists_of, MetKinds.ReachedFrom, Distinct.has_own_definition}
 use Rattle.encode_types.specs.Plan.{foreign_owner, Reaches, itself, through, IsOrderOf, MetFrom}
 use Rattle.encode_types.specs.Maps.{same_kind, IsKnown, HasKind, LacksKind, LearnsOnly, MapsGrow, by_kind}
-use Rattle.encode_types.specs.MetKinds.{ReachedFrom}
-use Rattle.encode_types.specs.Distinct.{has_own_definition}
 use Rattle.encode_types.specs.Room.{Request, Refusals, number_count, numbers_count, unnamed_kind, are_one_kind, share_declarations, IsNewKind, AreNew, HoldsFor, LacksPart, LacksOne, a_type, a_request, FindsNoRoom}
-use Rattle.encode_types.proofs.Agree.{known-grow}
-use Rattle.encode_types.proofs.EqualLists.{lists-of-kinds}
-use Rattle.encode_types.proofs.Lists.{none-in}
-use Rattle.encode_types.proofs.Encoding.{meets-reaches}
-use Rattle.encode_types.proofs.Pairs.{pairs-head, pairs-tail}
-use Rattle.base_lemmas.proofs.Bools.{first_false as first-false}
-use Rattle.base_lemmas.proofs.Elements.{contains-one, last_of as one-contained}
-use Rattle.std.proofs.lemmas.Option.{same_Some as some-same}
+use Rattle.encode_types.proofs.{Agree.known-grow, EqualLists.lists-of-kinds, Lists.none-in, Encoding.meets-reaches, Pairs.pairs-head, Pairs.pairs-tail}
+use Rattle.base_lemmas.proofs.{Bools.first_false as first-false, Elements.contains-one, Elements.last_of as one-contained}
+use Rattle.wit_model.specs.declared.model.«Type».TheVariants as ty
 
 -- ---- lists without repeats
 

@@ -1,32 +1,21 @@
 -- Ordered maps as lists of entries: what is found, what isn't, and what is added.
 use Rattle.std.proofs.Common.{◌≡◌, refl, sym, subst, ap, ◌∙◌, ℕ, zero, suc, ◌+◌, ◌<◌, Bool, true, false, List, [], ◌∷◌, ◌++◌, map, length, get_or, take, Option, Some, None, arith, inl, inr, nat_cmp, length-append, append_assoc, Ordering}
-use Rattle.std.specs.Prelude.{IsPermutation, AllPairs, ◌⊎◌, IfSome, IfNone, IsSome}
-use Rattle.std.specs.Cmp.{IsTotalOrder}
-use Rattle.std.proofs.lemmas.Cmp.{nat_cmp_total, nat_list_cmp_total}
-use Rattle.std.specs.declared.cmp.Ordering.TheVariants.{Less, Equal, Greater}
-use Rattle.std.specs.Ordering.{is_eq, match_ordering, ordering_reverse, ordering_then}
-use Rattle.std.specs.List.{Contains, swap}
-use Rattle.std.specs.Map.{keys_of, lookup}
-use Rattle.std.specs.Option.{is_some, unwrap_or}
-use Rattle.std.specs.Borrow.{Bor}
-use Rattle.std.specs.BTreeMap.{insert_entry, is_at}
-use Rattle.std.specs.Cmp.Lexicographic.{slice_cmp}
-use Rattle.std.proofs.lemmas.Map.Lookups.{exact_bytes, exact_unsigned}
-use Rattle.std.proofs.lemmas.Bool.{cases_Bool, cond-true, cond-false, cases_lt, cases_eq}
-use Rattle.std.proofs.lemmas.List.Edits.{swapped_from_swap}
-use Rattle.std.proofs.lemmas.List.Elements.{Contains-append_left, Contains-push, Contains-push_cases}
+use Rattle.std.proofs.lemmas.{Cmp.nat_cmp_total, Cmp.nat_list_cmp_total, Map.Lookups.exact_bytes, Map.Lookups.exact_unsigned}
+use Rattle.std.proofs.lemmas.{Bool.cases_Bool, Bool.cond-true, Bool.cond-false, Bool.cases_lt, Bool.cases_eq, List.length-map, List.map-append, List.take_more}
+use Rattle.std.proofs.lemmas.List.{Edits.swapped_from_swap, Elements.Contains-append_left, Elements.Contains-push, Elements.Contains-push_cases}
 use Rattle.std.proofs.lemmas.List.Sorted.{IsPermutation-refl, IsPermutation-sym, IsPermutation-cons, IsPermutation-to_front, IsPermutation-trans, IsPermutation-swap, IsPermutation-keeps, length_permutation, Contains-permutation, IsPermutation-map}
-use Rattle.std.proofs.lemmas.List.{length-map, map-append, take_more}
+use Rattle.std.specs.Prelude.{IsPermutation, AllPairs, ◌⊎◌, IfSome, IfNone, IsSome}
+use Rattle.std.specs.{Cmp.IsTotalOrder, List.Contains, List.swap, Map.keys_of, Map.lookup, Option.is_some, Option.unwrap_or, Cmp.Lexicographic.slice_cmp}
+use Rattle.std.specs.{Ordering.is_eq, Ordering.match_ordering, Ordering.ordering_reverse, Ordering.ordering_then, BTreeMap.insert_entry, BTreeMap.is_at}
+use Rattle.std.specs.Borrow.{Bor}
+use Rattle.std.specs.declared.cmp.Ordering.TheVariants.{Less, Equal, Greater}
 use Rattle.wit_model.specs.Text.{Text, text_of}
 use Rattle.wit_model.specs.declared.model.Param.{Param}
-use Rattle.encode_types.specs.declared.key.FunctionKey.{FunctionKey}
+use Rattle.encode_types.specs.declared.{key.FunctionKey.FunctionKey, maps.TypeEncodingMaps.TypeEncodingMaps}
 use Rattle.encode_types.specs.Codes.{names_of, lists_of, Names, ListKey, IsTable, HasNumber, AreListed, AddsParams, AddsParam, IsKeyList, type_code}
-use Rattle.encode_types.specs.Heads.{head_of, name_order}
-use Rattle.encode_types.specs.KeyLaws.{key_equiv}
-use Rattle.encode_types.proofs.EqualLists.{lists-of-keys}
+use Rattle.encode_types.specs.{Heads.head_of, Heads.name_order, KeyLaws.key_equiv}
 use Rattle.encode_types.specs.Maps.{AreNumbered, NamesGrow, AddsNames, IsOnce, LacksKey, LacksList}
-use Rattle.encode_types.specs.declared.maps.TypeEncodingMaps.{TypeEncodingMaps}
-use Rattle.encode_types.proofs.Lists.{none-in}
+use Rattle.encode_types.proofs.{EqualLists.lists-of-keys, Lists.none-in}
 use Rattle.base_lemmas.proofs.Elements.{contains-map, map_from as contains-unmap}
 
 pub equal-is : (o : Ordering) → is_eq o ≡ true → o ≡ Equal

@@ -1,24 +1,13 @@
 -- How much an encoder has written, call after call.
 use Rattle.std.proofs.Common.{◌≡◌, sym, subst, ap, ◌∙◌, ℕ, zero, suc, ◌+◌, ◌≤◌, if◌then◌else◌, List, [], ◌∷◌, ◌++◌, Option, Some, None, String, Result, Ok, Err, OnOk, arith, inl, inr}
-use Rattle.std.specs.Prelude.{IsPermutation, is_some, sum_by}
-use Rattle.std.specs.List.{Contains}
-use Rattle.std.specs.Option.{option_map_or}
-use Rattle.std.specs.declared.alloc.Global.{Global}
-use Rattle.std.proofs.lemmas.List.Sums.{sum_by-append, sum_by-cons}
-use Rattle.std.proofs.lemmas.List.Sorted.{IsPermutation-sym, Contains-permutation, sum_by-IsPermutation}
+use Rattle.std.proofs.lemmas.List.{Sums.sum_by-append, Sums.sum_by-cons, Sorted.IsPermutation-sym, Sorted.Contains-permutation, Sorted.sum_by-IsPermutation}
 use Rattle.std.proofs.lemmas.List.Elements.{Contains-append_cases}
-use Rattle.wit_model.specs.Lookup.{type_at}
-use Rattle.wit_model.specs.Text.{text_of}
-use Rattle.wit_model.specs.Meant.{type_meaning}
-use Rattle.wit_model.specs.declared.model.Resolve.{Resolve}
-use Rattle.wit_model.specs.declared.model.TypeDef.{TypeDef}
-use Rattle.wit_model.specs.declared.model.InterfaceId.{InterfaceId}
+use Rattle.std.specs.{Prelude.IsPermutation, Prelude.is_some, Prelude.sum_by, List.Contains, Option.option_map_or}
+use Rattle.std.specs.declared.alloc.Global.{Global}
+use Rattle.wit_model.specs.{Lookup.type_at, Text.text_of, Meant.type_meaning}
+use Rattle.wit_model.specs.declared.model.{Resolve.Resolve, TypeDef.TypeDef, InterfaceId.InterfaceId}
 use Rattle.comp_bytes.specs.Raw.{ExternName}
-use Rattle.encode_types.specs.Kinds.{kind_tree}
-use Rattle.encode_types.specs.Maps.{IsKnown}
-use Rattle.encode_types.specs.Plan.{foreign_owner}
-use Rattle.encode_types.specs.Scope.{Scope, exported_name}
-use Rattle.encode_types.specs.View.{View, Writes, WritesLearnt}
+use Rattle.encode_types.specs.{Kinds.kind_tree, Maps.IsKnown, Plan.foreign_owner, Scope.Scope, Scope.exported_name, View.View, View.Writes, View.WritesLearnt}
 use Rattle.encode_types.specs.Extents.{tree_extent, name_extent, own_name_extent, import_extent, number_extent, known_extent}
 
 -- ---- one call

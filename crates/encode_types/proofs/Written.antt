@@ -1,32 +1,22 @@
 -- What is written with the indexes of the maps stands for its tree.
 use Rattle.std.proofs.Common.{◌≡◌, refl, sym, subst, ap, ℕ, ◌<◌, List, [], ◌∷◌, ◌++◌, map, filter_map, option_to_list, option_map, length, get_or, Option, Some, None, Vec}
-use Rattle.std.specs.List.{Contains, AllZip}
 use Rattle.std.proofs.lemmas.List.Elements.{Contains-append_left, Contains-append_right}
-use Rattle.std.specs.Borrow.{Bor}
+use Rattle.std.specs.{List.Contains, List.AllZip, Borrow.Bor}
 use Rattle.std.specs.declared.alloc.Global.{Global}
 use Rattle.wit_model.specs.Text.{Text, text_of}
-use Rattle.wit_model.specs.Tree.{Primitive, primitive, flags_tree, enum_tree}
-use Rattle.wit_model.specs.Types.{trees_of, tree_of, number_tree}
-use Rattle.wit_model.specs.declared.model.Resolve.{Resolve}
-use Rattle.wit_model.specs.declared.model.Record.{Record}
-use Rattle.wit_model.specs.declared.model.Variant.{Variant}
-use Rattle.wit_model.specs.declared.model.Tuple.{Tuple}
-use Rattle.wit_model.specs.declared.model.Flags.{Flags}
-use Rattle.wit_model.specs.declared.model.Enum.{Enum}
-use Rattle.wit_model.specs.declared.model.Result_.{Result_}
-use Rattle.wit_model.specs.declared.model.TypeId.{TypeId}
-use Rattle.wit_model.specs.declared.model.TypeDefKind.TheVariants as kind
-use Rattle.wit_model.specs.declared.model.Handle.TheVariants as handle
-use Rattle.wit_model.specs.declared.model.«Type».{«Type» as ValueType}
-use Rattle.wit_model.specs.declared.model.«Type».TheVariants as ty
+use Rattle.wit_model.specs.{Tree.Primitive, Tree.primitive, Tree.flags_tree, Tree.enum_tree, Types.trees_of, Types.tree_of, Types.number_tree}
+use Rattle.wit_model.specs.declared.model.{Resolve.Resolve, Record.Record, Variant.Variant, Result_.Result_, TypeId.TypeId, «Type».«Type» as ValueType}
+use Rattle.wit_model.specs.declared.model.{Tuple.Tuple, Flags.Flags, Enum.Enum}
 use Rattle.comp_bytes.specs.declared.forms.ComponentValType.{ComponentValType}
-use Rattle.comp_bytes.specs.declared.forms.ComponentDefinedType.TheVariants as form
 use Rattle.encode_types.specs.declared.maps.TypeEncodingMaps.{TypeEncodingMaps}
-use Rattle.encode_types.specs.Slots.{StandsFor, StandsForOptional, texts}
-use Rattle.encode_types.specs.Maps.{Says, by_number, IsWritten, IsReady, AllReady}
+use Rattle.encode_types.specs.{Slots.StandsFor, Slots.StandsForOptional, Slots.texts, Maps.Says, Maps.by_number, Maps.IsWritten, Maps.IsReady, Maps.AllReady}
 use Rattle.encode_types.specs.Definition.{IsWrittenOptional, IsWrittenField, IsWrittenCase, FollowsKind}
 use Rattle.wit_model.proofs.Elements.{contains-filter_map, zip-along}
 use Rattle.base_lemmas.proofs.Elements.{contains-at, contains-map, contains-one}
+use Rattle.wit_model.specs.declared.model.TypeDefKind.TheVariants as kind
+use Rattle.wit_model.specs.declared.model.Handle.TheVariants as handle
+use Rattle.wit_model.specs.declared.model.«Type».TheVariants as ty
+use Rattle.comp_bytes.specs.declared.forms.ComponentDefinedType.TheVariants as form
 
 pub written-stands : (r : Resolve) (m : TypeEncodingMaps) (x : ComponentValType) (t : ValueType) → IsWritten m x t → StandsFor (Says r m) x (tree_of (trees_of r) t)
 written-stands r m x (ty.Id id) w = subst (λ (y : ComponentValType). StandsFor (Says r m) y (number_tree r id.0)) (sym w.1) (by_number id.0, w.2, refl)

@@ -2,14 +2,8 @@
 use Rattle.std.specs.Prelude.{ℕ, ◌≡◌, ◌⊎◌, Bool, true, List, Option, Some}
 use Rattle.std.specs.List.{Contains}
 use Rattle.wit_model.specs.Lookup.{type_at}
-use Rattle.wit_model.specs.declared.model.Resolve.{Resolve}
-use Rattle.wit_model.specs.declared.model.TypeDef.{TypeDef}
-use Rattle.wit_model.specs.declared.model.InterfaceId.{InterfaceId}
-use Rattle.wit_model.specs.declared.model.«Type».{«Type» as ValueType}
-use Rattle.encode_types.specs.Known.{Around, Aliased, GrowsAround}
-use Rattle.encode_types.specs.Plan.{foreign_owner}
-use Rattle.encode_types.specs.MetKinds.{ReachedFrom}
-use Rattle.encode_types.specs.View.{View}
+use Rattle.wit_model.specs.declared.model.{Resolve.Resolve, TypeDef.TypeDef, InterfaceId.InterfaceId, «Type».«Type» as ValueType}
+use Rattle.encode_types.specs.{Known.Around, Known.Aliased, Known.GrowsAround, Plan.foreign_owner, MetKinds.ReachedFrom, View.View}
 
 -- a type of another interface, met on the way down from these types
 pub record IsMetElsewhere (r : Resolve) (own : Option InterfaceId) (ts : List ValueType) (n : ℕ) : Type 0 where

@@ -3,9 +3,7 @@ use Rattle.std.specs.Prelude.{ℕ, ◌≡◌, true, false, List}
 use Rattle.wit_model.specs.Rules.{is_named_kind}
 use Rattle.wit_model.specs.declared.model.TypeDefKind.{TypeDefKind}
 use Rattle.encode_types.specs.declared.key.FunctionKey.{FunctionKey}
-use Rattle.encode_types.specs.Key.{same_key}
-use Rattle.encode_types.specs.Maps.{same_kind}
-use Rattle.encode_types.specs.Codes.{Names, IsTable, kind_code, IsKeyList}
+use Rattle.encode_types.specs.{Key.same_key, Maps.same_kind, Codes.Names, Codes.IsTable, Codes.kind_code, Codes.IsKeyList}
 
 -- Unnamed kinds have equal lists exactly where they are the same.
 pub record EqualKindLists (a b : TypeDefKind) : Type 0 where

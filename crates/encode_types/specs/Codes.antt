@@ -1,18 +1,13 @@
 -- Types, unnamed kinds and keys of functions as numbers and lists of numbers, for ordered tables.
 use Rattle.std.specs.Prelude.{ℕ, ◌≡◌, ◌+◌, ◌≤◌, Bool, true, false, List, [], ◌∷◌, ◌++◌, map, length, take, Option, Some, None, Vec}
-use Rattle.std.specs.Borrow.{Bor}
-use Rattle.std.specs.BTreeMap.{BTreeMap}
-use Rattle.std.specs.List.{Contains}
-use Rattle.std.specs.declared.alloc.Global.{Global}
-use Rattle.std.specs.declared.cmp.Reverse.{Reverse}
+use Rattle.std.specs.{Borrow.Bor, BTreeMap.BTreeMap, List.Contains}
+use Rattle.std.specs.declared.{alloc.Global.Global, cmp.Reverse.Reverse}
 use Rattle.wit_model.specs.Text.{Text, text_of}
-use Rattle.wit_model.specs.declared.model.Param.{Param}
-use Rattle.wit_model.specs.declared.model.TypeDefKind.{TypeDefKind}
+use Rattle.wit_model.specs.declared.model.{Param.Param, TypeDefKind.TypeDefKind, «Type».«Type» as ValueType}
+use Rattle.encode_types.specs.declared.key.FunctionKey.{FunctionKey}
 use Rattle.wit_model.specs.declared.model.TypeDefKind.TheVariants as kind
 use Rattle.wit_model.specs.declared.model.Handle.TheVariants as handle
-use Rattle.wit_model.specs.declared.model.«Type».{«Type» as ValueType}
 use Rattle.wit_model.specs.declared.model.«Type».TheVariants as ty
-use Rattle.encode_types.specs.declared.key.FunctionKey.{FunctionKey}
 
 -- the number of a type: those of primitive types are below 14
 abbrev pub type_code : ValueType → ℕ

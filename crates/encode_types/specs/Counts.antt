@@ -1,23 +1,14 @@
 -- What is defined in a scope, and what for (Component Model Binary.md, "Index Spaces" and "Type Definitions").
 use Rattle.std.specs.Prelude.{ℕ, ◌≡◌, ◌+◌, Bool, false, not, cond, ◌&&◌, ◌++◌, ◌∷◌, [], ◌⊎◌, is_some, is_none, length, count_by, IsPermutation, List, Option, Some, None, option_map, option_and_then, option_to_list, map, filter, filter_map}
-use Rattle.std.specs.List.{Contains}
-use Rattle.std.specs.Option.{option_map_or}
-use Rattle.wit_model.specs.Text.{Text, text_of}
-use Rattle.wit_model.specs.Meaning.{TypeMeaning}
-use Rattle.wit_model.specs.Lookup.{type_at}
-use Rattle.wit_model.specs.declared.model.Resolve.{Resolve}
-use Rattle.wit_model.specs.declared.model.TypeDef.{TypeDef}
-use Rattle.wit_model.specs.declared.model.TypeId.{TypeId}
+use Rattle.std.specs.{List.Contains, Option.option_map_or}
+use Rattle.wit_model.specs.{Text.Text, Text.text_of, Meaning.TypeMeaning, Lookup.type_at}
+use Rattle.wit_model.specs.declared.model.{Resolve.Resolve, TypeDef.TypeDef, TypeId.TypeId}
+use Rattle.comp_bytes.specs.Raw.{ExternName}
+use Rattle.encode_types.specs.declared.{maps.TypeEncodingMaps.TypeEncodingMaps, key.FunctionKey.FunctionKey}
+use Rattle.encode_types.specs.{Kinds.has_definition, Plan.foreign_owner}
+use Rattle.encode_types.specs.{Codes.IsKeyList, Codes.names_of, Codes.lists_of, Maps.HasKey, Maps.LacksKey, Maps.NamesGrow, Scope.Scope, Scope.exported_name}
 use Rattle.wit_model.specs.declared.model.TypeDefKind.TheVariants as kind
 use Rattle.wit_model.specs.declared.model.«Type».TheVariants as ty
-use Rattle.comp_bytes.specs.Raw.{ExternName}
-use Rattle.encode_types.specs.declared.maps.TypeEncodingMaps.{TypeEncodingMaps}
-use Rattle.encode_types.specs.declared.key.FunctionKey.{FunctionKey}
-use Rattle.encode_types.specs.Kinds.{has_definition}
-use Rattle.encode_types.specs.Codes.{IsKeyList, names_of, lists_of}
-use Rattle.encode_types.specs.Maps.{HasKey, LacksKey, NamesGrow}
-use Rattle.encode_types.specs.Plan.{foreign_owner}
-use Rattle.encode_types.specs.Scope.{Scope, exported_name}
 
 -- The slots of the value types that have been defined in a scope, those that have been exported under a name, and those of the types of
 -- functions that have been defined, each in order. Besides, which declarations have been exported, in order.

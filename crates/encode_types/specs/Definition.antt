@@ -1,19 +1,10 @@
 -- Definitions that are written with the indexes of the maps.
-use Rattle.std.specs.Prelude.{◌≡◌, Option, Some, None}
-use Rattle.std.specs.Borrow.{Bor}
-use Rattle.wit_model.specs.declared.model.Resolve.{Resolve}
-use Rattle.wit_model.specs.declared.model.Field.{Field}
-use Rattle.wit_model.specs.declared.model.Case.{Case}
-use Rattle.wit_model.specs.declared.model.Param.{Param}
-use Rattle.wit_model.specs.declared.model.TypeDefKind.{TypeDefKind}
-use Rattle.wit_model.specs.declared.model.«Type».{«Type» as ValueType}
+use Rattle.std.specs.{Prelude.◌≡◌, Prelude.Option, Prelude.Some, Prelude.None, Borrow.Bor}
+use Rattle.wit_model.specs.declared.model.{Resolve.Resolve, Field.Field, Case.Case, Param.Param, TypeDefKind.TypeDefKind, «Type».«Type» as ValueType}
 use Rattle.wit_model.specs.Text.{Text, text_of}
-use Rattle.comp_bytes.specs.declared.forms.ComponentValType.{ComponentValType}
-use Rattle.comp_bytes.specs.declared.forms.ComponentDefinedType.{ComponentDefinedType}
+use Rattle.comp_bytes.specs.declared.forms.{ComponentValType.ComponentValType, ComponentDefinedType.ComponentDefinedType}
 use Rattle.encode_types.specs.declared.maps.TypeEncodingMaps.{TypeEncodingMaps}
-use Rattle.encode_types.specs.Kinds.{kind_tree}
-use Rattle.encode_types.specs.Maps.{IsWritten, Says}
-use Rattle.encode_types.specs.Slots.{Follows}
+use Rattle.encode_types.specs.{Kinds.kind_tree, Maps.IsWritten, Maps.Says, Slots.Follows}
 
 -- a part that may be left out
 abbrev pub IsWrittenOptional : TypeEncodingMaps → Option ComponentValType → Option ValueType → Type 0

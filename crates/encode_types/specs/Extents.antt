@@ -2,21 +2,12 @@
 -- Definitions").
 use Rattle.std.specs.Prelude.{ℕ, ◌+◌, ◌*◌, if◌then◌else◌, List, map, length, sum_by, Option, is_some}
 use Rattle.std.specs.Option.{option_map_or}
-use Rattle.wit_model.specs.Text.{Text, text_of, optional_text}
+use Rattle.wit_model.specs.{Text.Text, Text.text_of, Text.optional_text, Meaning.Signature, Meant.signature_of, Meant.type_meaning, Lookup.type_at}
 use Rattle.wit_model.specs.Tree.{Tree, Form, child_list, primitive, named, node, record_of, variant_of, tuple_of, flags_of, enum_of}
-use Rattle.wit_model.specs.Meaning.{Signature}
-use Rattle.wit_model.specs.Meant.{signature_of, type_meaning}
-use Rattle.wit_model.specs.Lookup.{type_at}
-use Rattle.wit_model.specs.declared.model.Resolve.{Resolve}
-use Rattle.wit_model.specs.declared.model.TypeDef.{TypeDef}
-use Rattle.wit_model.specs.declared.model.Function.{Function}
-use Rattle.wit_model.specs.declared.model.InterfaceId.{InterfaceId}
+use Rattle.wit_model.specs.declared.model.{Resolve.Resolve, TypeDef.TypeDef, Function.Function, InterfaceId.InterfaceId}
 use Rattle.comp_bytes.specs.Raw.{ExternName}
 use Rattle.encode_types.specs.declared.maps.TypeEncodingMaps.{TypeEncodingMaps}
-use Rattle.encode_types.specs.Kinds.{kind_tree}
-use Rattle.encode_types.specs.Plan.{foreign_owner}
-use Rattle.encode_types.specs.Room.{function_name}
-use Rattle.encode_types.specs.Scope.{exported_name}
+use Rattle.encode_types.specs.{Kinds.kind_tree, Plan.foreign_owner, Room.function_name, Scope.exported_name}
 
 -- ---- one thing
 

@@ -2,18 +2,10 @@
 use Rattle.std.specs.Prelude.{ℕ, ◌≡◌, Bool, false, List, Some, None, is_some, String, true}
 use Rattle.std.specs.List.{Contains}
 use Rattle.std.specs.declared.alloc.Global.{Global}
-use Rattle.wit_model.specs.Text.{text_of}
-use Rattle.wit_model.specs.Lookup.{type_at, place_of}
-use Rattle.wit_model.specs.Meant.{type_meaning}
-use Rattle.wit_model.specs.Rules.{is_named_kind}
-use Rattle.wit_model.specs.declared.model.Resolve.{Resolve}
-use Rattle.wit_model.specs.declared.model.TypeDef.{TypeDef}
-use Rattle.wit_model.specs.declared.model.«Type».{«Type» as ValueType}
-use Rattle.wit_model.specs.declared.model.InterfaceId.{InterfaceId}
-use Rattle.encode_types.specs.Plan.{foreign_owner, Reaches, IsLayered, AllInRange}
-use Rattle.encode_types.specs.Kinds.{kind_tree, has_definition}
-use Rattle.encode_types.specs.Scope.{Scope, IsImportable, IsDeclared}
-use Rattle.encode_types.specs.Formed.{IsFormed}
+use Rattle.wit_model.specs.{Text.text_of, Lookup.type_at, Lookup.place_of, Meant.type_meaning, Rules.is_named_kind}
+use Rattle.wit_model.specs.declared.model.{Resolve.Resolve, TypeDef.TypeDef, «Type».«Type» as ValueType, InterfaceId.InterfaceId}
+use Rattle.encode_types.specs.{Plan.foreign_owner, Plan.Reaches, Plan.IsLayered, Plan.AllInRange, Scope.Scope, Scope.IsImportable, Scope.IsDeclared}
+use Rattle.encode_types.specs.{Kinds.kind_tree, Kinds.has_definition, Formed.IsFormed}
 
 -- A type of another interface can be imported. A named type of the place is declared there, and what is defined is well formed.
 -- An unnamed type is of no kind that has to be named.

@@ -4,8 +4,7 @@ use Rattle.std.specs.List.{list_all}
 use Rattle.wit_model.specs.Tree.{Tree, child_list, primitive, named, node, Form, record_of, variant_of, list_of, fixed_list_of, option_of, own_of, borrow_of, map_of, tuple_of, flags_of, enum_of, result_of, future_of, stream_of}
 use Rattle.wit_model.specs.Meaning.{Signature}
 use Rattle.comp_meaning.specs.Follow.{is_key, is_filled}
-use Rattle.encode_types.specs.Resources.{Names, is_resource_tree}
-use Rattle.encode_types.specs.Scope.{Scope}
+use Rattle.encode_types.specs.{Resources.Names, Resources.is_resource_tree, Scope.Scope}
 
 -- whether no resource is among these trees
 abbrev pub are_values : Names → List Tree → Bool

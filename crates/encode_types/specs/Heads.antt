@@ -1,11 +1,6 @@
 -- The first bytes of a text as a number, and the order of texts that compares it first.
 use Rattle.std.specs.Prelude.{[], ◌∷◌, List, Option, ℕ, get_or}
-use Rattle.std.specs.BTreeMap.{is_at}
-use Rattle.std.specs.Borrow.{Bor}
-use Rattle.std.specs.Cmp.Lexicographic.{slice_cmp}
-use Rattle.std.specs.Int.{from_be_bytes, w64}
-use Rattle.std.specs.Map.{lookup}
-use Rattle.std.specs.Ordering.{nat_cmp, ordering_then}
+use Rattle.std.specs.{BTreeMap.is_at, Borrow.Bor, Cmp.Lexicographic.slice_cmp, Int.from_be_bytes, Int.w64, Map.lookup, Ordering.nat_cmp, Ordering.ordering_then}
 use Rattle.std.specs.declared.cmp.Ordering.{Ordering}
 use Rattle.wit_model.specs.Text.{Text}
 

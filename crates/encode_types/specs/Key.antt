@@ -2,20 +2,12 @@
 use Rattle.std.specs.Prelude.{◌≡◌, ◌&&◌, Bool, map, option_map, ◌++◌}
 use mathlib.Core.Bool.{beq}
 use Rattle.std.specs.Hash as fed
-use Rattle.std.specs.Option.{option_eq}
-use Rattle.std.specs.Cmp.Lexicographic.{pointwise}
-use Rattle.wit_model.specs.declared.model.Resolve.{Resolve}
-use Rattle.wit_model.specs.declared.model.Param.{Param}
-use Rattle.wit_model.specs.declared.model.Function.{Function}
-use Rattle.wit_model.specs.declared.model.«Type».{«Type» as ValueType}
+use Rattle.std.specs.{Option.option_eq, Cmp.Lexicographic.pointwise}
+use Rattle.wit_model.specs.declared.model.{Resolve.Resolve, Param.Param, Function.Function, «Type».«Type» as ValueType}
+use Rattle.wit_model.specs.{Text.text_of, Text.text_eq, Lookup.is_async, Types.trees_of, Types.tree_of, Meaning.Signature}
+use Rattle.encode_types.specs.declared.key.{ParamSignatures.ParamSignatures, FunctionKey.FunctionKey}
 use Rattle.wit_model.specs.contracts.model.TypePartialEq.TheImpl as type_eq
 use Rattle.wit_model.specs.contracts.model.TypeHash.TheImpl as type_hash
-use Rattle.wit_model.specs.Text.{text_of, text_eq}
-use Rattle.wit_model.specs.Lookup.{is_async}
-use Rattle.wit_model.specs.Types.{trees_of, tree_of}
-use Rattle.wit_model.specs.Meaning.{Signature}
-use Rattle.encode_types.specs.declared.key.ParamSignatures.{ParamSignatures}
-use Rattle.encode_types.specs.declared.key.FunctionKey.{FunctionKey}
 
 -- whether two types are the same
 abbrev pub same_type : ValueType → ValueType → Bool

@@ -1,19 +1,16 @@
 -- Keys of functions: the equality is an equivalence, and equal keys are hashed alike.
 use Rattle.std.specs.Cmp.{IsEquivalence, IsPartialEquivalence, partial_equiv_from_equiv, bool_eq_equiv, first_so, second_so}
-use Rattle.std.specs.Hash.{Alike, on_Alike, and-Alike, items_Alike}
-use Rattle.std.specs.Hash as fed
-use Rattle.std.proofs.lemmas.Cmp.{on_equiv, and_equiv, lists_equiv, nat_list_eq_equiv}
+use Rattle.std.specs.{Hash.Alike, Hash.on_Alike, Hash.and-Alike, Hash.items_Alike, Cmp.Lexicographic.options_equiv}
 use Rattle.std.specs.Prelude.{◌≡◌, Bool, true, false, [], ◌∷◌, ◌++◌, Option, Some, None, nat_eq, pos, refl}
-use Rattle.std.proofs.Common.{sym, ap}
+use Rattle.std.proofs.{lemmas.Cmp.on_equiv, lemmas.Cmp.and_equiv, lemmas.Cmp.lists_equiv, lemmas.Cmp.nat_list_eq_equiv, Common.sym, Common.ap}
 use Rattle.std.proofs.lemmas.Bool.{eqb-true}
-use Rattle.std.specs.Cmp.Lexicographic.{options_equiv}
+use Rattle.std.specs.Hash as fed
 use mathlib.Core.Bool.{beq, true≢false}
 use Rattle.std.specs.Option.{option_eq}
-use Rattle.wit_model.specs.contracts.model.TypeEq.TheImpl.Laws.{laws-law}
-use Rattle.wit_model.specs.contracts.model.TypeHash.TheImpl.Laws as type_hash
+use Rattle.wit_model.specs.{contracts.model.TypeEq.TheImpl.Laws.laws-law, Text.Text, Text.text_of, Text.text_eq}
 use Rattle.wit_model.specs.declared.model.«Type».{«Type» as ValueType}
-use Rattle.wit_model.specs.Text.{Text, text_of, text_eq}
 use Rattle.encode_types.specs.Key.{same_type, same_param, same_params, same_key, type_writes, param_writes, params_writes, key_writes}
+use Rattle.wit_model.specs.contracts.model.TypeHash.TheImpl.Laws as type_hash
 
 pub type_equiv : IsEquivalence same_type
 type_equiv = laws-law

@@ -1,17 +1,12 @@
 -- Kinds of types: what each is made of, and how the encoder treats it (Component Model Binary.md, "Type Definitions").
 use Rattle.std.specs.Prelude.{Bool, true, false, List, [], ◌∷◌}
-use Rattle.wit_model.specs.declared.model.TypeDefKind.{TypeDefKind}
+use Rattle.wit_model.specs.declared.model.{TypeDefKind.TypeDefKind, «Type».«Type» as ValueType, Resolve.Resolve, Param.Param}
+use Rattle.wit_model.specs.{Parts.member_types, Text.Text, Text.text_of, Types.trees_of, Types.type_tree, Types.declared_by, Types.tree_of_declaration}
+use Rattle.wit_model.specs.Tree.{Tree}
+use Rattle.encode_types.specs.declared.shape.Shape.{Shape}
 use Rattle.wit_model.specs.declared.model.TypeDefKind.TheVariants as kind
-use Rattle.wit_model.specs.declared.model.«Type».{«Type» as ValueType}
 use Rattle.wit_model.specs.declared.model.«Type».TheVariants as ty
 use Rattle.wit_model.specs.declared.model.Handle.TheVariants as handle
-use Rattle.wit_model.specs.declared.model.Resolve.{Resolve}
-use Rattle.wit_model.specs.Parts.{member_types}
-use Rattle.wit_model.specs.Tree.{Tree}
-use Rattle.wit_model.specs.Text.{Text, text_of}
-use Rattle.wit_model.specs.declared.model.Param.{Param}
-use Rattle.wit_model.specs.Types.{trees_of, type_tree, declared_by, tree_of_declaration}
-use Rattle.encode_types.specs.declared.shape.Shape.{Shape}
 use Rattle.encode_types.specs.declared.shape.Shape.TheVariants as shape
 
 -- the types that a kind is made of, in order

@@ -2,30 +2,17 @@
 -- the instance type can stand (Component Model Explainer.md, "Alias Definitions").
 use Rattle.std.specs.Prelude.{ℕ, ◌≡◌, Bool, false, not, ◌&&◌, ◌||◌, if◌then◌else◌, List, [], ◌∷◌, length, Option, Some, None, String, slice_get, is_some}
 use Prim.Native.Nat.{zero, suc}
-use Rattle.std.specs.List.{Contains, filter, list_all}
-use Rattle.std.specs.Map.{lookup}
-use Rattle.std.specs.BTreeMap.{is_at, insert_entry}
-use Rattle.std.specs.Ordering.{nat_cmp}
-use Rattle.std.specs.Option.{option_map_or}
+use Rattle.std.specs.{List.Contains, List.filter, List.list_all, Map.lookup, BTreeMap.is_at, BTreeMap.insert_entry, Ordering.nat_cmp, Option.option_map_or}
 use Rattle.std.specs.declared.alloc.Global.{Global}
-use Rattle.wit_model.specs.Text.{Text, text_eq, text_of}
-use Rattle.wit_model.specs.Tree.{Tree, named}
-use Rattle.wit_model.specs.Types.{number_tree}
-use Rattle.wit_model.specs.Lookup.{interface_path, type_at}
-use Rattle.wit_model.specs.Parts.{same_owner, numbered_from}
-use Rattle.wit_model.specs.Uses.{direct_deps}
-use Rattle.wit_model.specs.declared.model.Resolve.{Resolve}
-use Rattle.wit_model.specs.declared.model.TypeDef.{TypeDef}
-use Rattle.wit_model.specs.declared.model.TypeId.{TypeId}
-use Rattle.wit_model.specs.declared.model.InterfaceId.{InterfaceId}
-use Rattle.wit_model.specs.declared.model.TypeOwner.TheVariants as owner
-use Rattle.comp_bytes.specs.Raw.{Alias, Declaration, Declarations, append}
-use Rattle.comp_bytes.specs.Held.{type_slots_of}
+use Rattle.wit_model.specs.{Text.Text, Text.text_eq, Text.text_of, Lookup.interface_path, Lookup.type_at, Parts.same_owner, Parts.numbered_from}
+use Rattle.wit_model.specs.{Tree.Tree, Tree.named, Types.number_tree, Uses.direct_deps}
+use Rattle.wit_model.specs.declared.model.{Resolve.Resolve, TypeDef.TypeDef, TypeId.TypeId, InterfaceId.InterfaceId}
+use Rattle.comp_bytes.specs.{Raw.Alias, Raw.Declaration, Raw.Declarations, Raw.append, Held.type_slots_of}
 use Rattle.comp_meaning.specs.Same.{same_place}
-use Rattle.comp_meaning.specs.Follow as follow
 use Rattle.comp_meaning.specs.Follow.{Slot, Instance, find_type, is_foreign_name, component_steps, new_scope}
-use Rattle.encode_types.specs.Resources.{Names, named_resources}
-use Rattle.encode_types.specs.Standing.{is_slot_of}
+use Rattle.encode_types.specs.{Resources.Names, Resources.named_resources, Standing.is_slot_of}
+use Rattle.wit_model.specs.declared.model.TypeOwner.TheVariants as owner
+use Rattle.comp_meaning.specs.Follow as follow
 
 -- ---- what stands around
 

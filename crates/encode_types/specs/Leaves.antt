@@ -2,27 +2,15 @@
 use Rattle.std.specs.Prelude.{ℕ, ◌≡◌, ◌+◌, ◌++◌, ◌⊎◌, Bool, List, [], ◌∷◌, length, Result, Err, IfOk, OnOk, IfErr}
 use Rattle.comp_bytes.specs.Refusal.{IsMemoryOrSize}
 use Rattle.comp_bytes.specs.declared.forms.ComponentValType.{ComponentValType}
-use Rattle.comp_bytes.specs.declared.forms.ComponentValType.TheVariants as value
-use Rattle.wit_model.specs.declared.error.Error.{Error}
-use Rattle.wit_model.specs.declared.error.Error.TheVariants.{Size}
-use Rattle.wit_model.specs.Meant.{signature_of}
-use Rattle.wit_model.specs.Parts.{function_types}
-use Rattle.wit_model.specs.declared.model.TypeDefKind.{TypeDefKind}
-use Rattle.wit_model.specs.declared.model.Resolve.{Resolve}
-use Rattle.wit_model.specs.declared.model.«Type».{«Type» as ValueType}
-use Rattle.wit_model.specs.declared.model.Function.{Function}
+use Rattle.wit_model.specs.declared.{error.Error.Error, model.Resolve.Resolve}
+use Rattle.wit_model.specs.declared.{error.Error.TheVariants.Size, model.TypeDefKind.TypeDefKind, model.«Type».«Type» as ValueType, model.Function.Function}
+use Rattle.wit_model.specs.{Meant.signature_of, Parts.function_types}
 use Rattle.encode_types.specs.declared.key.FunctionKey.{FunctionKey}
-use Rattle.encode_types.specs.MetKinds.{Learns, LearnsMet}
-use Rattle.encode_types.specs.Maps.{MapsGrow}
+use Rattle.encode_types.specs.{MetKinds.Learns, MetKinds.LearnsMet, View.View, View.Agrees, View.Grows, View.HoldsLearnt, Aliases.ImportsMet, Aliases.MakesMet}
+use Rattle.encode_types.specs.{Maps.MapsGrow, Fits.CanEncode, Formed.IsFormed, Slots.StandsFor, Kinds.parts_of, Kinds.kind_tree}
 use Rattle.encode_types.specs.Counts.{Definitions, SameUnits, one_type_more, type_more_if, AddsTypes, AddsFunction}
-use Rattle.encode_types.specs.Fits.{CanEncode}
-use Rattle.encode_types.specs.Formed.{IsFormed}
-use Rattle.encode_types.specs.Slots.{StandsFor}
-use Rattle.encode_types.specs.Distinct.{KnowsKey, key_of, AddsFunctions}
-use Rattle.encode_types.specs.Kinds.{parts_of, kind_tree}
-use Rattle.encode_types.specs.Room.{Request, value_type, function_type, FindsNoRoom}
-use Rattle.encode_types.specs.View.{View, Agrees, Grows, HoldsLearnt}
-use Rattle.encode_types.specs.Aliases.{ImportsMet, MakesMet}
+use Rattle.encode_types.specs.{Distinct.KnowsKey, Distinct.key_of, Distinct.AddsFunctions, Room.Request, Room.value_type, Room.function_type, Room.FindsNoRoom}
+use Rattle.comp_bytes.specs.declared.forms.ComponentValType.TheVariants as value
 
 -- The maps agree with the slots and have lost no entry, old slots stand for what they did, and the surroundings are the same.
 pub record LeavesSlots (r : Resolve) (v v' : View) : Type 0 where

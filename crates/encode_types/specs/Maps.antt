@@ -1,25 +1,16 @@
 -- What the maps of an encoder hold, and what they say of its slots.
 use Rattle.std.specs.Prelude.{ℕ, ◌≡◌, ◌<◌, ◌++◌, Bool, false, List, [], ◌∷◌, length, Some, None, AllPairs, IsPermutation, nat_eq, ◌⊎◌}
 use Rattle.std.specs.List.{Contains}
-use Rattle.wit_model.specs.Rules.{is_named_kind}
-use Rattle.wit_model.specs.Text.{Text}
-use Rattle.wit_model.specs.Tree.{future_tree, stream_tree}
-use Rattle.wit_model.specs.Types.{number_tree}
-use Rattle.wit_model.specs.declared.model.Resolve.{Resolve}
-use Rattle.wit_model.specs.declared.model.TypeId.{TypeId}
-use Rattle.wit_model.specs.declared.model.TypeDefKind.{TypeDefKind}
-use Rattle.wit_model.specs.declared.model.«Type».{«Type» as ValueType}
+use Rattle.wit_model.specs.{Rules.is_named_kind, Text.Text, Tree.future_tree, Tree.stream_tree, Types.number_tree}
+use Rattle.wit_model.specs.declared.model.{Resolve.Resolve, TypeId.TypeId, TypeDefKind.TypeDefKind, «Type».«Type» as ValueType}
+use Rattle.comp_bytes.specs.declared.forms.ComponentValType.{ComponentValType}
+use Rattle.encode_types.specs.declared.{key.FunctionKey.FunctionKey, maps.TypeEncodingMaps.TypeEncodingMaps}
+use Rattle.encode_types.specs.Codes.{Names, IsTable, kind_code, IsKeyList, HaveNumbers, names_of, lists_of}
+use Rattle.encode_types.specs.{Key.key_signature, Kinds.kind_tree, Slots.Standing, Slots.tree, Slots.function, Slots.Pairs}
 use Rattle.wit_model.specs.declared.model.«Type».TheVariants as ty
 use Rattle.wit_model.specs.contracts.model.TypeDefKindPartialEq.TheImpl as kind_eq
-use Rattle.comp_bytes.specs.declared.forms.ComponentValType.{ComponentValType}
 use Rattle.comp_bytes.specs.declared.forms.ComponentValType.TheVariants as v
 use Rattle.comp_bytes.specs.declared.forms.PrimitiveValType.TheVariants as p
-use Rattle.encode_types.specs.declared.key.FunctionKey.{FunctionKey}
-use Rattle.encode_types.specs.declared.maps.TypeEncodingMaps.{TypeEncodingMaps}
-use Rattle.encode_types.specs.Codes.{Names, IsTable, kind_code, IsKeyList, HaveNumbers, names_of, lists_of}
-use Rattle.encode_types.specs.Key.{key_signature}
-use Rattle.encode_types.specs.Kinds.{kind_tree}
-use Rattle.encode_types.specs.Slots.{Standing, tree, function, Pairs}
 
 -- whether two kinds are the same: references are compared by number
 abbrev pub same_kind : TypeDefKind → TypeDefKind → Bool

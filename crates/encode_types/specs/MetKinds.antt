@@ -1,23 +1,13 @@
 -- The kinds of unnamed types that the types and functions of an interface meet, and what maps have learnt on the way.
 use Rattle.std.specs.Prelude.{ℕ, ◌≡◌, ◌⊎◌, true, false, Some, List, [], ◌++◌, map, flat_map, option_to_list, Option, None}
 use Rattle.std.specs.List.{Contains, AllPairs}
-use Rattle.wit_model.specs.Lookup.{type_at}
-use Rattle.wit_model.specs.Parts.{function_types}
-use Rattle.wit_model.specs.Valid.{IsValid}
-use Rattle.wit_model.specs.declared.model.Resolve.{Resolve}
-use Rattle.wit_model.specs.declared.model.Function.{Function}
-use Rattle.wit_model.specs.declared.model.TypeDef.{TypeDef}
-use Rattle.wit_model.specs.declared.model.TypeDefKind.{TypeDefKind}
-use Rattle.wit_model.specs.declared.model.TypeId.{TypeId}
-use Rattle.wit_model.specs.declared.model.InterfaceId.{InterfaceId}
-use Rattle.wit_model.specs.declared.model.«Type».{«Type» as ValueType}
-use Rattle.wit_model.specs.declared.model.«Type».TheVariants as ty
-use Rattle.encode_types.specs.declared.key.FunctionKey.{FunctionKey}
-use Rattle.encode_types.specs.declared.maps.TypeEncodingMaps.{TypeEncodingMaps}
-use Rattle.encode_types.specs.Codes.{kind_code, IsKeyList, names_of, lists_of}
-use Rattle.encode_types.specs.Kinds.{parts_of}
+use Rattle.wit_model.specs.{Lookup.type_at, Parts.function_types, Valid.IsValid}
+use Rattle.wit_model.specs.declared.model.{Resolve.Resolve, Function.Function, TypeDefKind.TypeDefKind, InterfaceId.InterfaceId, «Type».«Type» as ValueType}
+use Rattle.wit_model.specs.declared.model.{TypeDef.TypeDef, TypeId.TypeId}
+use Rattle.encode_types.specs.declared.{key.FunctionKey.FunctionKey, maps.TypeEncodingMaps.TypeEncodingMaps}
+use Rattle.encode_types.specs.{Codes.kind_code, Codes.IsKeyList, Codes.names_of, Codes.lists_of, Kinds.parts_of, Plan.foreign_owner, Plan.Reaches, Plan.MetFrom}
 use Rattle.encode_types.specs.Maps.{same_kind, IsKnown, AllReady, HasKind, IsOnce, MapsGrow, LearnsOnly}
-use Rattle.encode_types.specs.Plan.{foreign_owner, Reaches, MetFrom}
+use Rattle.wit_model.specs.declared.model.«Type».TheVariants as ty
 
 -- ---- what an interface meets
 

@@ -1,6 +1,5 @@
 -- Maps from numbers to numbers.
-use Rattle.std.specs.Prelude.{AllPairs, List, ℕ, ◌<◌}
-use Rattle.std.specs.List.{Contains}
+use Rattle.std.specs.{Prelude.AllPairs, Prelude.List, Prelude.ℕ, Prelude.◌<◌, List.Contains}
 
 -- what such a map holds: each number with what stands with it
 pub record NumberEntries : Type 0 where

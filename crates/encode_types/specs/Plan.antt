@@ -1,22 +1,13 @@
 -- In which order the types that a type needs are defined.
 use Rattle.std.specs.Prelude.{ℕ, ◌≡◌, ◌<◌, ◌+◌, ◌⊎◌, Bool, true, false, Decides, cond, nat_eq, nat_lt, List, take, drop, length, slice_index, Option, Some, None}
-use Rattle.std.specs.List.{Contains, IsDistinct, list_all}
-use Rattle.std.specs.BTreeSet.{contains}
-use Rattle.std.specs.Ordering.{nat_cmp}
-use Rattle.wit_model.specs.Lookup.{type_at}
-use Rattle.wit_model.specs.Parts.{kind_numbers}
-use Rattle.wit_model.specs.declared.model.Resolve.{Resolve}
-use Rattle.wit_model.specs.declared.model.TypeDef.{TypeDef}
-use Rattle.wit_model.specs.declared.model.«Type».{«Type» as ValueType}
-use Rattle.wit_model.specs.declared.model.«Type».TheVariants as ty
+use Rattle.std.specs.{List.Contains, List.IsDistinct, List.list_all, BTreeSet.contains, Ordering.nat_cmp}
+use Rattle.wit_model.specs.{Lookup.type_at, Parts.kind_numbers}
+use Rattle.wit_model.specs.declared.model.{Resolve.Resolve, TypeDef.TypeDef, «Type».«Type» as ValueType, InterfaceId.InterfaceId, TypeOwner.TypeOwner}
 use Rattle.wit_model.specs.declared.model.TypeId.{TypeId}
-use Rattle.wit_model.specs.declared.model.InterfaceId.{InterfaceId}
-use Rattle.wit_model.specs.declared.model.TypeOwner.{TypeOwner}
+use Rattle.encode_types.specs.declared.{maps.TypeEncodingMaps.TypeEncodingMaps, plan.Order.Order}
+use Rattle.encode_types.specs.{Kinds.parts_of, Maps.IsKnown}
+use Rattle.wit_model.specs.declared.model.«Type».TheVariants as ty
 use Rattle.wit_model.specs.declared.model.TypeOwner.TheVariants as owner
-use Rattle.encode_types.specs.declared.maps.TypeEncodingMaps.{TypeEncodingMaps}
-use Rattle.encode_types.specs.declared.plan.Order.{Order}
-use Rattle.encode_types.specs.Kinds.{parts_of}
-use Rattle.encode_types.specs.Maps.{IsKnown}
 
 -- whether the interface of a scope, if it has one, is this one
 abbrev pub is_interface : Option InterfaceId → InterfaceId → Bool

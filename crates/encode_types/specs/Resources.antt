@@ -1,16 +1,11 @@
 -- Which names stand for resources: no value is of such a type, and a handle is of one.
 use Rattle.std.specs.Prelude.{ℕ, Bool, true, false, ◌&&◌, ◌||◌, is_some}
 use Rattle.std.specs.List.{list_any}
-use Rattle.wit_model.specs.Text.{Text}
+use Rattle.wit_model.specs.{Text.Text, Lookup.place_of, Lookup.interface_path, Rules.text_is, Parts.is_resource, Parts.numbered_from, Parts.same_owner}
 use Rattle.wit_model.specs.Tree.{Tree, Place, primitive, named, node, Declaration, type_, resource}
-use Rattle.wit_model.specs.Lookup.{place_of, interface_path}
-use Rattle.wit_model.specs.Rules.{text_is}
-use Rattle.wit_model.specs.Parts.{is_resource, numbered_from, same_owner}
-use Rattle.wit_model.specs.declared.model.Resolve.{Resolve}
-use Rattle.wit_model.specs.declared.model.TypeDef.{TypeDef}
-use Rattle.wit_model.specs.declared.model.TypeOwner.{TypeOwner}
-use Rattle.wit_model.specs.declared.model.TypeOwner.TheVariants as owner
+use Rattle.wit_model.specs.declared.model.{Resolve.Resolve, TypeDef.TypeDef, TypeOwner.TypeOwner}
 use Rattle.comp_meaning.specs.Same.{same_place}
+use Rattle.wit_model.specs.declared.model.TypeOwner.TheVariants as owner
 
 -- names in their places
 abbrev pub Names : Type 0

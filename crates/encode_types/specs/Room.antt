@@ -1,31 +1,17 @@
 -- What an encoder is asked to add, and what of it has no room: where every count and every length is a number of 32 bits
 -- (Component Model Binary.md, "vec" and the numbers of "Core WebAssembly").
 use Rattle.std.specs.Prelude.{ℕ, ◌≡◌, ◌≤◌, ◌<◌, ◌+◌, ◌⊎◌, ◌&&◌, ◌||◌, Bool, true, false, cond, nat_eq, Some, None, Option, String, option_and_then, is_none, List, [], ◌∷◌, map, flat_map, length, sum_by}
-use Rattle.std.specs.List.{Contains, AllPairs}
-use Rattle.std.specs.Option.{option_map_or}
-use Rattle.std.specs.Set.{distinct_count}
+use Rattle.std.specs.{List.Contains, List.AllPairs, Option.option_map_or, Set.distinct_count}
 use Rattle.std.specs.declared.alloc.Global.{Global}
-use Rattle.wit_model.specs.Text.{Text, text_of, optional_text}
+use Rattle.wit_model.specs.{Text.Text, Text.text_of, Text.optional_text, Meaning.Signature, Meant.type_meaning, Meant.signature_of, Rules.is_named_kind}
 use Rattle.wit_model.specs.Tree.{Tree, Form, child_list, primitive, named, node, record_of, variant_of, tuple_of, flags_of, enum_of}
-use Rattle.wit_model.specs.Meaning.{Signature}
-use Rattle.wit_model.specs.Meant.{type_meaning, signature_of}
 use Rattle.wit_model.specs.Lookup.{type_at}
-use Rattle.wit_model.specs.Rules.{is_named_kind}
-use Rattle.wit_model.specs.declared.model.Resolve.{Resolve}
+use Rattle.wit_model.specs.declared.model.{Resolve.Resolve, TypeDefKind.TypeDefKind, Function.Function, InterfaceId.InterfaceId, «Type».«Type» as ValueType}
 use Rattle.wit_model.specs.declared.model.TypeDef.{TypeDef}
-use Rattle.wit_model.specs.declared.model.TypeDefKind.{TypeDefKind}
-use Rattle.wit_model.specs.declared.model.Function.{Function}
-use Rattle.wit_model.specs.declared.model.InterfaceId.{InterfaceId}
-use Rattle.wit_model.specs.declared.model.«Type».{«Type» as ValueType}
-use Rattle.comp_bytes.specs.Raw.{ExternName}
-use Rattle.comp_bytes.specs.Fits.{fits_length, fits_names, fits_given, fits_name}
+use Rattle.comp_bytes.specs.{Raw.ExternName, Fits.fits_length, Fits.fits_names, Fits.fits_given, Fits.fits_name}
 use Rattle.encode_types.specs.declared.maps.TypeEncodingMaps.{TypeEncodingMaps}
-use Rattle.encode_types.specs.Kinds.{kind_tree}
-use Rattle.encode_types.specs.Maps.{same_kind, IsKnown, HasKind, LacksKind}
-use Rattle.encode_types.specs.Plan.{foreign_owner}
-use Rattle.encode_types.specs.MetKinds.{ReachedFrom}
-use Rattle.encode_types.specs.Distinct.{has_own_definition, key_of, are_same}
-use Rattle.encode_types.specs.Scope.{exported_name}
+use Rattle.encode_types.specs.{Kinds.kind_tree, Plan.foreign_owner, MetKinds.ReachedFrom, Scope.exported_name}
+use Rattle.encode_types.specs.{Maps.same_kind, Maps.IsKnown, Maps.HasKind, Maps.LacksKind, Distinct.has_own_definition, Distinct.key_of, Distinct.are_same}
 
 -- what an encoder is asked to add: a definition of this tree, the type of a function of this signature, an export under this name,
 -- or what stands for a type number of another interface

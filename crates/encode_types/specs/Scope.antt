@@ -2,18 +2,12 @@
 use Rattle.std.specs.Prelude.{ℕ, ◌≡◌, Bool, true, List, [], Option, Some, None, String}
 use Rattle.std.specs.List.{Contains}
 use Rattle.std.specs.declared.alloc.Global.{Global}
-use Rattle.wit_model.specs.Text.{Text}
-use Rattle.wit_model.specs.Tree.{Tree, Place, type_, resource}
-use Rattle.wit_model.specs.Meaning.{TypeMeaning, FunctionMeaning}
-use Rattle.wit_model.specs.Lookup.{type_at}
-use Rattle.wit_model.specs.declared.model.Resolve.{Resolve}
-use Rattle.wit_model.specs.declared.model.TypeDef.{TypeDef}
-use Rattle.wit_model.specs.declared.model.TypeOwner.TheVariants as owner
-use Rattle.wit_model.specs.declared.model.InterfaceId.{InterfaceId}
+use Rattle.wit_model.specs.{Text.Text, Tree.Tree, Tree.Place, Tree.type_, Tree.resource, Meaning.TypeMeaning, Meaning.FunctionMeaning, Lookup.type_at}
+use Rattle.wit_model.specs.declared.model.{Resolve.Resolve, TypeDef.TypeDef, InterfaceId.InterfaceId}
 use Rattle.comp_bytes.specs.Raw.{ExternName, Declarations}
 use Rattle.comp_meaning.specs.Follow.{Seen, Instance}
-use Rattle.encode_types.specs.Resources.{Names, is_resource_declaration}
-use Rattle.encode_types.specs.Slots.{Pairs, tree}
+use Rattle.encode_types.specs.{Resources.Names, Resources.is_resource_declaration, Slots.Pairs, Slots.tree}
+use Rattle.wit_model.specs.declared.model.TypeOwner.TheVariants as owner
 
 -- What else the surroundings of a scope hold that defining, exporting and importing types leaves as it is: of the component type of a world,
 -- all that has been imported and exported beside its types.

@@ -1,15 +1,11 @@
 -- What the slots of a scope stand for (Component Model Binary.md, "Index Spaces" and "Type Definitions").
 use Rattle.std.specs.Prelude.{ℕ, ◌+◌, ◌≤◌, ◌≡◌, ◌⊎◌, List, map, Option, Some, None}
-use Rattle.std.specs.List.{AllZip}
-use Rattle.std.specs.Borrow.{Bor}
-use Rattle.wit_model.specs.Text.{Text}
+use Rattle.std.specs.{List.AllZip, Borrow.Bor}
+use Rattle.wit_model.specs.{Text.Text, Meaning.Signature}
 use Rattle.wit_model.specs.Tree.{Tree, primitive, record_tree, variant_tree, flags_tree, enum_tree, tuple_tree, list_tree, fixed_list_tree, map_tree, option_tree, result_tree, own_tree, borrow_tree, future_tree, stream_tree}
-use Rattle.wit_model.specs.Meaning.{Signature}
-use Rattle.comp_bytes.specs.declared.forms.ComponentValType.{ComponentValType}
+use Rattle.comp_bytes.specs.declared.forms.{ComponentValType.ComponentValType, ComponentDefinedType.ComponentDefinedType, ComponentFuncType.ComponentFuncType}
 use Rattle.comp_bytes.specs.declared.forms.ComponentValType.TheVariants as v
-use Rattle.comp_bytes.specs.declared.forms.ComponentDefinedType.{ComponentDefinedType}
 use Rattle.comp_bytes.specs.declared.forms.ComponentDefinedType.TheVariants as form
-use Rattle.comp_bytes.specs.declared.forms.ComponentFuncType.{ComponentFuncType}
 pub use Rattle.comp_meaning.specs.Follow.{primitive_of_type as primitive_of}
 
 -- what a slot stands for

@@ -2,8 +2,7 @@
 use Rattle.std.specs.Prelude.{◌≡◌, Bool, true, not, List, Option, Some, None, slice_get}
 use Rattle.wit_model.specs.Tree.{named}
 use Rattle.comp_meaning.specs.Follow.{Slot}
-use Rattle.encode_types.specs.Slots.{Pairs, Standing, tree, function}
-use Rattle.encode_types.specs.Resources.{Names, is_resource_tree}
+use Rattle.encode_types.specs.{Slots.Pairs, Slots.Standing, Slots.tree, Slots.function, Resources.Names, Resources.is_resource_tree}
 
 -- what a slot that has been followed stands for
 abbrev pub standing_at : Option Slot → Option Standing

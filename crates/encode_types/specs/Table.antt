@@ -1,31 +1,17 @@
 -- The scope of an encoder over one table of slots: of the types of an interface or a world, with the instances of all interfaces.
 use Rattle.std.specs.Prelude.{◌≡◌, Bool, true, false, ◌||◌, ◌&&◌, cond, ℕ, List, [], ◌∷◌, length, flat_map, Option, Some, None, String, is_some, is_none}
+use Rattle.std.specs.{List.Contains, Option.option_map_or}
 use Rattle.std.specs.declared.alloc.Global.{Global}
-use Rattle.std.specs.List.{Contains}
-use Rattle.std.specs.Option.{option_map_or}
-use Rattle.wit_model.specs.Text.{Text, text_of}
-use Rattle.wit_model.specs.Meaning.{TypeMeaning}
-use Rattle.wit_model.specs.Meant.{type_meaning}
-use Rattle.wit_model.specs.Lookup.{place_of, interface_at, type_at}
-use Rattle.wit_model.specs.Uses.{owner_interface}
-use Rattle.wit_model.specs.Parts.{same_owner}
-use Rattle.wit_model.specs.Valid.{IsValid}
-use Rattle.wit_model.specs.declared.model.Resolve.{Resolve}
-use Rattle.wit_model.specs.declared.model.TypeDef.{TypeDef}
-use Rattle.wit_model.specs.declared.model.InterfaceId.{InterfaceId}
+use Rattle.wit_model.specs.{Text.Text, Text.text_of, Meaning.TypeMeaning, Lookup.place_of, Lookup.interface_at, Lookup.type_at, Uses.owner_interface}
+use Rattle.wit_model.specs.{Meant.type_meaning, Parts.same_owner, Valid.IsValid}
+use Rattle.wit_model.specs.declared.model.{Resolve.Resolve, TypeDef.TypeDef, InterfaceId.InterfaceId, «Type».«Type» as ValueType, TypeOwner.TypeOwner}
 use Rattle.wit_model.specs.declared.model.TypeId.{TypeId}
-use Rattle.wit_model.specs.declared.model.«Type».{«Type» as ValueType}
+use Rattle.encode_types.specs.{Kinds.has_definition, Plan.foreign_owner, MetKinds.ReachedFrom, Resources.resource_names}
 use Rattle.wit_model.specs.declared.model.«Type».TheVariants as ty
-use Rattle.encode_types.specs.Kinds.{has_definition}
-use Rattle.wit_model.specs.declared.model.TypeOwner.{TypeOwner}
 use Rattle.wit_model.specs.declared.model.TypeOwner.TheVariants as owner
-use Rattle.encode_types.specs.Plan.{foreign_owner}
-use Rattle.encode_types.specs.MetKinds.{ReachedFrom}
-use Rattle.encode_types.specs.Resources.{resource_names}
 pub use Rattle.encode_types.specs.Resources.{is_met_owner}
 pub use Rattle.encode_types.specs.Known.{below}
-use Rattle.encode_types.specs.Scope.{Scope, no_others}
-use Rattle.encode_types.specs.View.{View, Agrees}
+use Rattle.encode_types.specs.{Scope.Scope, Scope.no_others, View.View, View.Agrees}
 
 -- the declaration of a type under its name, if it has one
 abbrev pub named_declaration : Resolve → Option (String Global) → TypeDef → List (Text × TypeMeaning)

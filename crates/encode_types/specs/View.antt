@@ -1,22 +1,14 @@
 -- What an encoder holds.
 use Rattle.std.specs.Prelude.{ℕ, ◌≡◌, ◌≤◌, ◌+◌, ◌⊎◌, Bool, true, cond, List, Option, Some}
-use Rattle.wit_model.specs.Tree.{Tree, named}
-use Rattle.wit_model.specs.Meaning.{Signature}
-use Rattle.wit_model.specs.Lookup.{type_at}
-use Rattle.wit_model.specs.declared.model.TypeDef.{TypeDef}
-use Rattle.wit_model.specs.declared.model.TypeId.{TypeId}
-use Rattle.comp_bytes.specs.declared.forms.ComponentDefinedType.{ComponentDefinedType}
-use Rattle.comp_bytes.specs.declared.forms.ComponentFuncType.{ComponentFuncType}
-use Rattle.wit_model.specs.declared.model.Resolve.{Resolve}
+use Rattle.wit_model.specs.{Tree.Tree, Tree.named, Meaning.Signature, Lookup.type_at}
+use Rattle.wit_model.specs.declared.model.{TypeDef.TypeDef, TypeId.TypeId, Resolve.Resolve}
+use Rattle.comp_bytes.specs.declared.forms.{ComponentDefinedType.ComponentDefinedType, ComponentFuncType.ComponentFuncType}
 use Rattle.comp_bytes.specs.Raw.{ExternName, Declarations}
 use Rattle.encode_types.specs.declared.maps.TypeEncodingMaps.{TypeEncodingMaps}
 use Rattle.encode_types.specs.Slots.{Pairs, Standing, tree, Keeps, SlotAdded, NameAdded, Follows, FollowsFunction}
-use Rattle.encode_types.specs.Scope.{Scope}
-use Rattle.encode_types.specs.Known.{Around, GrowsAround}
-use Rattle.encode_types.specs.Maps.{MapsAgree}
-use Rattle.encode_types.specs.Counts.{Definitions, ExportsOne}
-use Rattle.encode_types.specs.Room.{Request, Refusals, HoldsFor, value_type, function_type}
-use Rattle.encode_types.specs.Extents.{tree_extent, signature_extent, import_extent, known_extent}
+use Rattle.encode_types.specs.{Scope.Scope, Maps.MapsAgree}
+use Rattle.encode_types.specs.{Known.Around, Known.GrowsAround, Extents.tree_extent, Extents.signature_extent, Extents.import_extent, Extents.known_extent}
+use Rattle.encode_types.specs.{Counts.Definitions, Counts.ExportsOne, Room.Request, Room.Refusals, Room.HoldsFor, Room.value_type, Room.function_type}
 
 -- what the user of an encoder may have in mind of it: some numbers, or what had been declared at some time
 pub data Told : Type 0 where

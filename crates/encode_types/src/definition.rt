@@ -1,11 +1,8 @@
 //! Definitions with the indexes of the maps.
 
-ghost use Rattle.std.specs.Prelude.{◌≡◌, IfOk, map, filter_map, option_to_list};
-ghost use Rattle.std.specs.List.{AllZip, Contains};
+ghost use Rattle.std.specs.{Prelude.◌≡◌, Prelude.IfOk, Prelude.map, Prelude.filter_map, Prelude.option_to_list, List.AllZip, List.Contains};
 ghost use Rattle.wit_model.specs.Text.{text_of};
-ghost use Rattle.encode_types.specs.Slots.{texts};
-ghost use Rattle.encode_types.specs.Kinds.{parts_of, kind_of};
-ghost use Rattle.encode_types.specs.Maps.{AllReady, IsKnown, IsWritten};
+ghost use Rattle.encode_types.specs.{Slots.texts, Kinds.parts_of, Kinds.kind_of, Maps.AllReady, Maps.IsKnown, Maps.IsWritten};
 ghost use Rattle.encode_types.specs.Definition.{IsWrittenOptional, IsWrittenField, IsWrittenParam, IsWrittenCase, FollowsKind};
 
 use crate::maps::{TypeEncodingMaps, value_in};

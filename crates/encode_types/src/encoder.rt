@@ -3,19 +3,12 @@
 ghost use Rattle.std.specs.Prelude.{◌≡◌, ◌<◌, ℕ, Err, Some, None, IfOk, OnOk, IfErr};
 ghost use Rattle.std.specs.Borrow.{sem, Lends};
 ghost use Rattle.wit_model.specs.declared.error.Error.TheVariants.{Size};
-ghost use Rattle.wit_model.specs.Tree.{Tree, named};
-ghost use Rattle.wit_model.specs.Meaning.{Signature};
-ghost use Rattle.wit_model.specs.Types.{number_tree};
-ghost use Rattle.comp_bytes.specs.RawOf.{raw_name};
-ghost use Rattle.comp_bytes.specs.Refusal.{IsMemoryOrSize};
+ghost use Rattle.wit_model.specs.{Tree.Tree, Tree.named, Meaning.Signature, Types.number_tree};
+ghost use Rattle.comp_bytes.specs.{RawOf.raw_name, Refusal.IsMemoryOrSize};
 ghost use Rattle.encode_types.specs.Slots.{Standing, tree, Follows, FollowsFunction, Defines, DefinesFunction};
 ghost use Rattle.encode_types.specs.View.{View, Grows, ImportsOne, AddsSlot, AddsName, Exports, ExportsName, SameRest, HoldsMore, Refuses, LacksDefinition, LacksFunctionType, Writes, WritesDefinition, WritesFunctionType, WritesImport};
-ghost use Rattle.encode_types.specs.Known.{ReachesAround};
-ghost use Rattle.encode_types.specs.Scope.{DeclaresSlot, DeclaresResource, IsImportable};
-ghost use Rattle.encode_types.specs.Room.{export_name, import_of};
-ghost use Rattle.encode_types.specs.Extents.{name_extent};
-ghost use Rattle.encode_types.specs.Formed.{IsFormed, IsFormedSignature};
-ghost use Rattle.encode_types.specs.Counts.{one_type_more, one_function_more};
+ghost use Rattle.encode_types.specs.{Known.ReachesAround, Room.export_name, Room.import_of, Extents.name_extent, Formed.IsFormed, Formed.IsFormedSignature};
+ghost use Rattle.encode_types.specs.{Scope.DeclaresSlot, Scope.DeclaresResource, Scope.IsImportable, Counts.one_type_more, Counts.one_function_more};
 ghost use Rattle.encode_types.specs.declared.maps.TypeEncodingMaps.{TypeEncodingMaps as MapsValue};
 
 use crate::maps::TypeEncodingMaps;

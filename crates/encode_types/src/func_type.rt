@@ -3,17 +3,10 @@
 ghost use Rattle.std.specs.Prelude.{◌≡◌, [], Err, IfOk, OnOk, IfErr};
 ghost use Rattle.comp_bytes.specs.Refusal.{IsMemoryOrSize};
 ghost use Rattle.wit_model.specs.declared.error.Error.TheVariants.{Size};
-ghost use Rattle.wit_model.specs.Meant.{signature_of};
-ghost use Rattle.wit_model.specs.Parts.{function_types};
-ghost use Rattle.encode_types.specs.Slots.{function, FollowsFunction};
-ghost use Rattle.encode_types.specs.Key.{IsKeyOf};
-ghost use Rattle.encode_types.specs.Codes.{names_of, IsKeyList};
-ghost use Rattle.encode_types.specs.Maps.{AllReady, LacksKey};
-ghost use Rattle.encode_types.specs.Fits.{CanEncode};
-ghost use Rattle.encode_types.specs.Formed.{IsFormedSignature};
-ghost use Rattle.encode_types.specs.Extents.{signature_extent};
-ghost use Rattle.encode_types.specs.Aliases.{ImportsMet, MakesMet};
-ghost use Rattle.encode_types.specs.View.{Agrees, HoldsLearnt, WritesLearnt};
+ghost use Rattle.wit_model.specs.{Meant.signature_of, Parts.function_types};
+ghost use Rattle.encode_types.specs.{Slots.function, Slots.FollowsFunction, Codes.names_of, Codes.IsKeyList, View.Agrees, View.HoldsLearnt, View.WritesLearnt};
+ghost use Rattle.encode_types.specs.{Key.IsKeyOf, Fits.CanEncode};
+ghost use Rattle.encode_types.specs.{Maps.AllReady, Maps.LacksKey, Formed.IsFormedSignature, Extents.signature_extent, Aliases.ImportsMet, Aliases.MakesMet};
 ghost use Rattle.encode_types.specs.Leaves.{Leaves, LearnsFrom, CountsTypes, CountsFunction, DefinesFunctionLast, DefinesLast, LacksRoom, FunctionLacksRoom};
 ghost use Rattle.encode_types.specs.declared.key.FunctionKey.{FunctionKey as KeyValue};
 

@@ -4,16 +4,11 @@ ghost use Rattle.std.specs.Prelude.{◌≡◌, Err, IfOk, OnOk, IfSome, IfNone, 
 ghost use Rattle.std.specs.List.{Contains, AllZip};
 ghost use Rattle.comp_bytes.specs.Refusal.{IsMemoryOrSize};
 ghost use Rattle.wit_model.specs.declared.error.Error.TheVariants.{Size};
-ghost use Rattle.wit_model.specs.Types.{number_tree};
-ghost use Rattle.wit_model.specs.Tree.{future_tree, stream_tree};
+ghost use Rattle.wit_model.specs.{Types.number_tree, Tree.future_tree, Tree.stream_tree};
 ghost use Rattle.encode_types.specs.Slots.{tree};
-ghost use Rattle.encode_types.specs.Kinds.{kind_of, parts_of};
-ghost use Rattle.encode_types.specs.Codes.{names_of, lists_of, IsKeyList};
+ghost use Rattle.encode_types.specs.{Kinds.kind_of, Kinds.parts_of, Plan.IsLayered, Plan.AllInRange, Plan.IsOrderOf, Leaves.Leaves, Leaves.LeavesSlots};
+ghost use Rattle.encode_types.specs.{Codes.names_of, Codes.lists_of, Codes.IsKeyList, Definition.IsWrittenParam, Definition.FollowsKind, View.Agrees};
 ghost use Rattle.encode_types.specs.Maps.{IsKnown, LacksList, StandsAsKind, StandsAsKey, IsReady, AllReady, IsWritten, AddsNames, KeepsKnownNames, LearnsNumber, LearnsList, LearnsKeyList};
-ghost use Rattle.encode_types.specs.Definition.{IsWrittenParam, FollowsKind};
-ghost use Rattle.encode_types.specs.Plan.{IsLayered, AllInRange, IsOrderOf};
-ghost use Rattle.encode_types.specs.View.{Agrees};
-ghost use Rattle.encode_types.specs.Leaves.{Leaves, LeavesSlots};
 
 use crate::codes::ListKey;
 use crate::definition::{definition, params_in};

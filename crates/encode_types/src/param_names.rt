@@ -1,9 +1,7 @@
 //! The numbers of the names of parameters, in an ordered map.
 
 ghost use Rattle.std.specs.Prelude.{◌≡◌, get_or, IfOk, IsSome, length, OnErr};
-ghost use Rattle.std.specs.BTreeMap.{insert_entry};
-ghost use Rattle.std.specs.Map.{keys_of};
-ghost use Rattle.std.specs.Option.{unwrap_or};
+ghost use Rattle.std.specs.{BTreeMap.insert_entry, Map.keys_of, Option.unwrap_or};
 ghost use Rattle.encode_types.specs.Heads.{head_of as head_from, known_number, name_order};
 
 use std::alloc::AllocError;

@@ -1,16 +1,11 @@
 -- A plan that was read can be built.
 use Rattle.std.proofs.Common.{◌≡◌, true, ◌&&◌, List, [], ◌++◌}
-use Rattle.wit_model.specs.Text.{Text}
-use Rattle.wit_model.specs.Names.{is_label, is_identity, is_optional_version}
-use Rattle.wit_model.specs.Rules.{passes, are_distinct}
-use Rattle.plan_meaning.specs.Plan.{PlannedPackage, PlannedInterface}
-use Rattle.plan_meaning.specs.PlanRules.{names_of, members_differ, interface_labels}
-use Rattle.plan_build.specs.Buildable.{PlansAreBuildable, has_version, package_differs, interface_differs}
-use Rattle.base_lemmas.proofs.Bools.{right_of as second_true}
-use Rattle.base_lemmas.proofs.Elements.{all_weaker}
 use Rattle.std.proofs.lemmas.Bool.{and_from as both}
-use Rattle.plan_meaning.proofs.DistinctKeys.{back_distinct}
-use Rattle.plan_meaning.proofs.ListedTypes.{distinct_front as front_distinct}
+use Rattle.wit_model.specs.{Text.Text, Names.is_label, Names.is_identity, Names.is_optional_version, Rules.passes, Rules.are_distinct}
+use Rattle.plan_meaning.specs.{Plan.PlannedPackage, Plan.PlannedInterface, PlanRules.names_of, PlanRules.members_differ, PlanRules.interface_labels}
+use Rattle.plan_build.specs.Buildable.{PlansAreBuildable, has_version, package_differs, interface_differs}
+use Rattle.base_lemmas.proofs.{Bools.right_of as second_true, Elements.all_weaker}
+use Rattle.plan_meaning.proofs.{DistinctKeys.back_distinct, ListedTypes.distinct_front as front_distinct}
 
 parts_distinct : (xs ys : List Text) → are_distinct (xs ++ ys) ≡ true → (are_distinct xs && are_distinct ys) ≡ true
 parts_distinct xs ys h = both (are_distinct xs) (are_distinct ys) (front_distinct xs ys h) (back_distinct xs ys h)

@@ -1,11 +1,9 @@
 -- Lists that are built of others, entry by entry.
 use Rattle.std.proofs.Common.{◌≡◌, refl, sym, ap, ◌∙◌, ℕ, ◌+◌, ◌<◌, Bool, true, ◌&&◌, List, [], ◌∷◌, ◌++◌, map, take, length, get_or, option_map, Some}
-use Rattle.std.specs.List.{list_all}
-use Rattle.std.proofs.lemmas.List.{take_more, map-append}
-use Rattle.std.proofs.lemmas.List.Folds.{list_all-append}
-use Rattle.std.proofs.lemmas.Option.{slice_get-get_or, slice_get-map as get_of_map}
-use Rattle.base_lemmas.proofs.Elements.{all_get}
+use Rattle.std.proofs.lemmas.{List.take_more, List.map-append, List.Folds.list_all-append, Option.slice_get-get_or, Option.slice_get-map as get_of_map}
 use Rattle.std.proofs.lemmas.Bool.{and_from as both}
+use Rattle.std.specs.List.{list_all}
+use Rattle.base_lemmas.proofs.Elements.{all_get}
 
 -- an entry more that passes
 pub all_more : {B : Type 0} (test : B → Bool) (out new : List B) (y : B) → list_all test out ≡ true → test y ≡ true → new ≡ out ++ y ∷ [] → list_all test new ≡ true

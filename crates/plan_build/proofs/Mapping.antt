@@ -1,15 +1,12 @@
 -- Maps that are built of lists whose keys differ.
 use Rattle.std.proofs.Common.{◌≡◌, refl, sym, ap, ◌∙◌, ℕ, zero, suc, ◌+◌, ◌<◌, Bool, true, false, ◌&&◌, not, List, [], ◌∷◌, ◌++◌, map, take, length, get_or, option_map, Some, slice_get}
-use Rattle.std.specs.List.{list_any, AllByRecursion}
-use Rattle.std.specs.Map.{keys_of, values_of}
-use Rattle.std.proofs.lemmas.List.{map-append, take-map}
+use Rattle.std.proofs.lemmas.{List.map-append, List.take-map, Bool.not-true as not_true, Bool.or_from as none_or, Bool.or_parts as none_of}
 use Rattle.std.proofs.lemmas.Option.{slice_get-get_or, slice_get-map as get_of_map}
+use Rattle.std.specs.{List.list_any, List.AllByRecursion, Map.keys_of, Map.values_of}
 use Rattle.indexmap.specs.IndexMap.{insert_entry}
 use Rattle.indexmap.proofs.MapLemmas.{insert_entry-absent}
 use Rattle.plan_build.proofs.Listing.{one_more}
-use Rattle.base_lemmas.proofs.Bools.{left_of as first_true, right_of as second_true}
-use Rattle.base_lemmas.proofs.Lists.{map_of_map}
-use Rattle.std.proofs.lemmas.Bool.{not-true as not_true, or_from as none_or, or_parts as none_of}
+use Rattle.base_lemmas.proofs.{Bools.left_of as first_true, Bools.right_of as second_true, Lists.map_of_map}
 
 -- the values, where an entry comes last
 pub values_more : {K V : Type 0} (es new : List (K × V)) (k : K) (v : V) → new ≡ es ++ (k, v) ∷ [] → values_of new ≡ values_of es ++ v ∷ []

@@ -1,24 +1,18 @@
 -- Maps whose keys are names, and those whose keys are of imports and exports.
 use Rattle.std.proofs.Common.{◌≡◌, refl, sym, subst, ap, ◌∙◌, ℕ, Bool, true, ◌&&◌, not, List, [], ◌∷◌, map, String}
-use Rattle.std.specs.Borrow.{Bor}
+use Rattle.std.specs.{Borrow.Bor, List.list_any}
 use Rattle.std.specs.declared.alloc.Global.{Global}
-use Rattle.std.specs.List.{list_any}
-use Rattle.wit_model.specs.contracts.model.WorldKeyPartialEq.TheImpl as world_key
 use Rattle.wit_model.specs.declared.model.WorldKey.{WorldKey}
-use Rattle.wit_model.specs.declared.model.WorldKey.TheVariants as key
-use Rattle.wit_model.specs.Text.{Text, text_of, text_eq}
-use Rattle.wit_model.specs.Rules.{are_distinct}
+use Rattle.wit_model.specs.{Text.Text, Text.text_of, Text.text_eq, Rules.are_distinct}
 use Rattle.wit_model.proofs.Distinct.{text_eq_flip}
-use Rattle.plan_meaning.specs.Plan.{PlannedKey, PlannedItem, label, path_of}
-use Rattle.plan_meaning.specs.PlanRules.{names_of, same_key, keys_differ}
+use Rattle.plan_meaning.specs.{Plan.PlannedKey, Plan.PlannedItem, Plan.label, Plan.path_of, PlanRules.names_of, PlanRules.same_key, PlanRules.keys_differ}
 use Rattle.plan_meaning.specs.Built.{planned_key}
 use Rattle.plan_build.specs.PlanOf.{stated_entry, stated_number, built_number}
-use Rattle.plan_build.specs.declared.plan.PlannedKey.{PlannedKey as GivenKey}
-use Rattle.plan_build.specs.declared.plan.PlannedItem.{PlannedItem as GivenItem}
+use Rattle.plan_build.specs.declared.plan.{PlannedKey.PlannedKey as GivenKey, PlannedItem.PlannedItem as GivenItem}
 use Rattle.plan_build.proofs.Mapping.{differ}
-use Rattle.base_lemmas.proofs.Elements.{any_of_map}
-use Rattle.base_lemmas.proofs.Lists.{map_of_map}
-use Rattle.base_lemmas.proofs.Numbers.{turned as number_flip}
+use Rattle.base_lemmas.proofs.{Elements.any_of_map, Lists.map_of_map, Numbers.turned as number_flip}
+use Rattle.wit_model.specs.contracts.model.WorldKeyPartialEq.TheImpl as world_key
+use Rattle.wit_model.specs.declared.model.WorldKey.TheVariants as key
 
 -- ---- lists whose names, or keys, differ
 

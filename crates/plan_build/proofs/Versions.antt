@@ -2,12 +2,10 @@
 use Rattle.std.proofs.Common.{◌≡◌, ◌^◌, true, ◌&&◌, nat_lt, Ok}
 use Rattle.std.proofs.lemmas.Bool.{and_from, lt-ltb}
 use Rattle.semver.specs.declared.Version.{Version}
-use Rattle.semver.specs.Identifiers.{parts_of, version_text, pre_text, build_text}
+use Rattle.semver.specs.{Identifiers.parts_of, Identifiers.version_text, Identifiers.pre_text, Identifiers.build_text, Parse.version_parts}
 use Rattle.semver.specs.Grammar.{is_pre_release, is_build, IsValid}
-use Rattle.semver.specs.Parse.{version_parts}
 use Rattle.semver.proofs.Grammar.{version_parts-sound}
-use Rattle.wit_model.specs.Text.{Text}
-use Rattle.wit_model.specs.Names.{is_version}
+use Rattle.wit_model.specs.{Text.Text, Names.is_version}
 
 valid_version : (v : Version) → IsValid (parts_of v) → is_version v ≡ true
 valid_version v valid =

@@ -1,8 +1,6 @@
 -- When a `Resolve` can be built of a plan.
-use Rattle.std.specs.Prelude.{◌≡◌, Bool, true, ◌&&◌}
-use Rattle.std.specs.List.{list_all}
-use Rattle.wit_model.specs.Names.{is_optional_version}
-use Rattle.wit_model.specs.Rules.{are_distinct}
+use Rattle.std.specs.{Prelude.◌≡◌, Prelude.Bool, Prelude.true, Prelude.◌&&◌, List.list_all}
+use Rattle.wit_model.specs.{Names.is_optional_version, Rules.are_distinct}
 use Rattle.plan_meaning.specs.Plan.{Plan, PlannedPackage, PlannedInterface, PlannedWorld}
 use Rattle.plan_meaning.specs.PlanRules.{IsPlan, names_of, keys_differ}
 

@@ -1,11 +1,8 @@
 -- When a `Resolve` means what a plan means.
 use Rattle.std.specs.Prelude.{◌≡◌, ◌↔◌, Some}
 use Rattle.wit_model.specs.declared.model.Resolve.{Resolve}
-use Rattle.wit_model.specs.Meaning.{PackageMeaning, WorldPackage}
-use Rattle.wit_model.specs.Meant.{Meant, MeantWorld}
-use Rattle.plan_meaning.specs.Plan.{Plan}
-use Rattle.plan_meaning.specs.PlanMeaning.{plan_meaning, plan_world_meaning}
-use Rattle.plan_meaning.specs.PlanRules.{IsPackagePlan, IsWorldPlan}
+use Rattle.wit_model.specs.{Meaning.PackageMeaning, Meaning.WorldPackage, Meant.Meant, Meant.MeantWorld}
+use Rattle.plan_meaning.specs.{Plan.Plan, PlanMeaning.plan_meaning, PlanMeaning.plan_world_meaning, PlanRules.IsPackagePlan, PlanRules.IsWorldPlan}
 
 -- Its main package means exactly what the plan of a package means, and its one world what the plan of a world means.
 pub record MeansPlan (p : Plan) (r : Resolve) : Type 0 where

@@ -2,27 +2,16 @@
 use Rattle.std.specs.Prelude.{ℕ, ◌+◌, Bool, List, [], ◌∷◌, map, Option, String, option_map, is_some}
 use Rattle.std.specs.Borrow.{Bor}
 use Rattle.std.specs.declared.alloc.Global.{Global}
-use Rattle.wit_model.specs.declared.model.«Type».{«Type» as ValueType}
-use Rattle.wit_model.specs.declared.model.Case.{Case}
-use Rattle.wit_model.specs.declared.model.Function.{Function}
-use Rattle.wit_model.specs.declared.model.Param.{Param}
-use Rattle.wit_model.specs.Names.{PackageIdentity}
-use Rattle.wit_model.specs.Text.{Text, text_of}
-use Rattle.wit_model.specs.Tree.{Form}
-use Rattle.plan_meaning.specs.Plan as plan
+use Rattle.wit_model.specs.declared.model.{«Type».«Type» as ValueType, Case.Case, Function.Function, Param.Param}
+use Rattle.wit_model.specs.{Names.PackageIdentity, Text.Text, Text.text_of, Tree.Form}
 use Rattle.plan_meaning.specs.Plan.{resource, alias, formed, label, path_of, interface, function, declares}
 use Rattle.plan_meaning.specs.Built.{part_of, given_parts, planned_function}
-use Rattle.plan_build.specs.declared.plan.Plan.{Plan}
-use Rattle.plan_build.specs.declared.plan.PlannedPackage.{PlannedPackage}
-use Rattle.plan_build.specs.declared.plan.PlannedInterface.{PlannedInterface}
-use Rattle.plan_build.specs.declared.plan.PlannedWorld.{PlannedWorld}
+use Rattle.plan_build.specs.declared.plan.{Plan.Plan, PlannedPackage.PlannedPackage, PlannedInterface.PlannedInterface, PlannedFunction.PlannedFunction}
+use Rattle.plan_build.specs.declared.plan.{PlannedWorld.PlannedWorld, PlannedItem.PlannedItem, PlannedType.PlannedType, PlannedKind.PlannedKind}
 use Rattle.plan_build.specs.declared.plan.PlannedKey.{PlannedKey}
+use Rattle.plan_meaning.specs.Plan as plan
 use Rattle.plan_build.specs.declared.plan.PlannedKey.TheVariants as key
-use Rattle.plan_build.specs.declared.plan.PlannedItem.{PlannedItem}
 use Rattle.plan_build.specs.declared.plan.PlannedItem.TheVariants as item
-use Rattle.plan_build.specs.declared.plan.PlannedFunction.{PlannedFunction}
-use Rattle.plan_build.specs.declared.plan.PlannedType.{PlannedType}
-use Rattle.plan_build.specs.declared.plan.PlannedKind.{PlannedKind}
 use Rattle.plan_build.specs.declared.plan.PlannedKind.TheVariants as kind
 
 abbrev pub stated_text : Option (Bor Text) → Option Text

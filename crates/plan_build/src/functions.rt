@@ -1,7 +1,6 @@
 //! The functions of a plan.
 
-ghost use Rattle.std.specs.List.{list_all};
-ghost use Rattle.std.specs.Prelude.{◌≡◌, map, true, IfOk};
+ghost use Rattle.std.specs.{List.list_all, Prelude.◌≡◌, Prelude.map, Prelude.true, Prelude.IfOk};
 ghost use Rattle.indexmap.specs.IndexMap.{values};
 ghost use Rattle.wit_model.specs.Rules.{are_distinct};
 ghost use Rattle.plan_meaning.specs.Built.{is_bare_function, planned_function};

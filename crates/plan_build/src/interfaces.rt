@@ -1,10 +1,8 @@
 //! The interfaces of a plan.
 
-ghost use Rattle.std.specs.List.{list_all};
-ghost use Rattle.std.specs.Prelude.{◌≡◌, map, true, IfOk};
+ghost use Rattle.std.specs.{List.list_all, Prelude.◌≡◌, Prelude.map, Prelude.true, Prelude.IfOk};
 ghost use Rattle.plan_meaning.specs.Built.{is_bare_interface, planned_interface};
-ghost use Rattle.plan_build.specs.Buildable.{interface_differs};
-ghost use Rattle.plan_build.specs.PlanOf.{stated_interface};
+ghost use Rattle.plan_build.specs.{Buildable.interface_differs, PlanOf.stated_interface};
 
 use crate::functions::functions_of;
 use crate::maps::numbers_of;

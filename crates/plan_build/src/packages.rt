@@ -1,17 +1,12 @@
 //! The packages of a plan.
 
-ghost use Rattle.std.specs.List.{list_all};
-ghost use Rattle.std.specs.Prelude.{◌≡◌, map, true, IfOk, IfErr};
+ghost use Rattle.std.specs.{List.list_all, Prelude.◌≡◌, Prelude.map, Prelude.true, Prelude.IfOk, Prelude.IfErr};
 ghost use Rattle.plan_meaning.specs.Built.{is_undocumented, planned_package};
-ghost use Rattle.wit_model.specs.Lookup.{identity_of, optional_version_text};
-ghost use Rattle.wit_model.specs.Names.{is_optional_version, is_version, is_version_text};
-ghost use Rattle.wit_model.specs.Rules.{passes};
+ghost use Rattle.wit_model.specs.{Lookup.identity_of, Lookup.optional_version_text, Names.is_optional_version, Names.is_version, Names.is_version_text};
+ghost use Rattle.wit_model.specs.{Rules.passes, Refusals.IsMemory};
+ghost use Rattle.semver.specs.{Parse.memory_error, Identifiers.version_text};
+ghost use Rattle.plan_build.specs.{Buildable.has_version, Buildable.package_differs, PlanOf.stated_identity, PlanOf.stated_package, PlanOf.stated_text};
 ghost use Rattle.wit_model.specs.declared.error.Error.TheVariants as errors;
-ghost use Rattle.wit_model.specs.Refusals.{IsMemory};
-ghost use Rattle.semver.specs.Parse.{memory_error};
-ghost use Rattle.semver.specs.Identifiers.{version_text};
-ghost use Rattle.plan_build.specs.Buildable.{has_version, package_differs};
-ghost use Rattle.plan_build.specs.PlanOf.{stated_identity, stated_package, stated_text};
 
 use crate::maps::numbers_of;
 use crate::plan::PlannedPackage;

@@ -1,14 +1,9 @@
 //! The `Resolve` of a plan.
 
-ghost use Rattle.std.specs.List.{list_all};
-ghost use Rattle.std.specs.Prelude.{◌≡◌, true, IfOk, IfErr};
-ghost use Rattle.plan_meaning.specs.Built.{IsBuilt};
-ghost use Rattle.plan_meaning.specs.PlanRules.{IsPlan};
-ghost use Rattle.wit_model.specs.Valid.{IsValid};
-ghost use Rattle.wit_model.specs.Refusals.{IsMemory};
-ghost use Rattle.plan_build.specs.Buildable.{has_version, IsBuildable};
-ghost use Rattle.plan_build.specs.MeansPlan.{MeansPlan};
-ghost use Rattle.plan_build.specs.PlanOf.{stated_plan};
+ghost use Rattle.std.specs.{List.list_all, Prelude.◌≡◌, Prelude.true, Prelude.IfOk, Prelude.IfErr};
+ghost use Rattle.plan_meaning.specs.{Built.IsBuilt, PlanRules.IsPlan};
+ghost use Rattle.wit_model.specs.{Valid.IsValid, Refusals.IsMemory};
+ghost use Rattle.plan_build.specs.{Buildable.has_version, Buildable.IsBuildable, MeansPlan.MeansPlan, PlanOf.stated_plan};
 
 use crate::interfaces::interfaces_of;
 use crate::packages::packages_of;

@@ -1,7 +1,6 @@
 //! The types of a plan as definitions.
 
-ghost use Rattle.std.specs.List.{list_all};
-ghost use Rattle.std.specs.Prelude.{◌≡◌, map, true, IfOk};
+ghost use Rattle.std.specs.{List.list_all, Prelude.◌≡◌, Prelude.map, Prelude.true, Prelude.IfOk};
 ghost use Rattle.plan_meaning.specs.Built.{is_bare_kind, is_bare_type, is_undocumented, part_of, planned_kind, planned_type};
 ghost use Rattle.wit_model.specs.Text.{text_of};
 ghost use Rattle.plan_build.specs.PlanOf.{marked_case, stated_case, stated_kind, stated_names, stated_type};

@@ -1,12 +1,10 @@
 //! The worlds of a plan.
 
-ghost use Rattle.std.specs.List.{list_all};
-ghost use Rattle.std.specs.Prelude.{◌≡◌, map, true, IfOk};
+ghost use Rattle.std.specs.{List.list_all, Prelude.◌≡◌, Prelude.map, Prelude.true, Prelude.IfOk};
 ghost use Rattle.indexmap.specs.IndexMap.{values};
 ghost use Rattle.plan_meaning.specs.Built.{is_bare_item, is_bare_world, planned_entries, planned_item, planned_key, planned_world};
 ghost use Rattle.plan_meaning.specs.PlanRules.{keys_differ};
-ghost use Rattle.plan_build.specs.Buildable.{world_differs};
-ghost use Rattle.plan_build.specs.PlanOf.{stated_entry, stated_item, stated_key, stated_world};
+ghost use Rattle.plan_build.specs.{Buildable.world_differs, PlanOf.stated_entry, PlanOf.stated_item, PlanOf.stated_key, PlanOf.stated_world};
 
 use crate::functions::function_of;
 use crate::plan::{PlannedItem, PlannedKey, PlannedWorld};

@@ -1,47 +1,32 @@
 -- Each place without a path is that of one view, or of one world.
 use Rattle.std.proofs.Common.{◌≡◌, refl, sym, ap, subst, ◌∙◌, ℕ, zero, suc, ◌+◌, ◌≤◌, ◌⊎◌, inl, inr, arith, Bool, true, false, ◌==◌, cond, filter, List, [], ◌∷◌, ◌++◌, length, length-append, map, Some, None, is_none, slice_get}
-use Rattle.std.specs.List.{Contains, flat_map}
-use Rattle.std.proofs.lemmas.Bool.{eq-eqb, eqb-true}
+use Rattle.std.proofs.lemmas.{Bool.eq-eqb, Bool.eqb-true, Option.slice_get_within, Option.same_Some as same-some}
 use Rattle.std.proofs.lemmas.List.Elements.{Contains-append_cases, Contains-append_left, Contains-append_right, filter-append}
-use Rattle.std.proofs.lemmas.Option.{slice_get_within, same_Some as same-some}
-use Rattle.wit_model.specs.Text.{Text}
-use Rattle.wit_model.specs.Uses.{has}
-use Rattle.wit_model.proofs.Elements.{contains-get, contains-has, has-contains, none-in}
-use Rattle.comp_meaning.specs.Reads as reads
-use Rattle.plan_meaning.specs.FollowedNumbers.{IsPartIn, IsViewIn}
-use Rattle.plan_meaning.specs.NumberedMembers.{Homes, NumberedMember}
-use Rattle.plan_meaning.specs.NumberedRules.{Fact}
-use Rattle.plan_meaning.specs.NumberedViews.{NumberedSight, NumberedView, Tables, path_at}
+use Rattle.std.specs.List.{Contains, flat_map}
+use Rattle.wit_model.specs.{Text.Text, Uses.has}
+use Rattle.wit_model.proofs.{Elements.contains-get, Elements.contains-has, Elements.has-contains, Elements.none-in, UsesLemmas.filter_has}
+use Rattle.plan_meaning.specs.{FollowedNumbers.IsPartIn, FollowedNumbers.IsViewIn, NumberedMembers.Homes, NumberedMembers.NumberedMember}
+use Rattle.plan_meaning.specs.{NumberedRules.Fact, NumberedViews.NumberedSight, NumberedViews.NumberedView, NumberedViews.Tables, NumberedViews.path_at}
 use Rattle.plan_meaning.specs.NumberedWorlds.{HasPath, NumberedInstance, are_once}
 use Rattle.plan_meaning.proofs.Lists.{no_true}
-use Rattle.wit_model.proofs.UsesLemmas.{filter_has}
 use Rattle.read_exports.specs.Members.{numbered_member, numbered_members, numbered_part}
-use Rattle.read_exports.specs.declared.members.Member.{Member}
-use Rattle.read_exports.specs.declared.members.Part.{Part}
-use Rattle.read_exports.specs.declared.members.Part.TheVariants as parts
+use Rattle.read_exports.specs.declared.members.{Member.Member, Part.Part}
 use Rattle.read_rules.specs.declared.scopes.Scope.{Scope}
-use Rattle.read_rules.specs.Reached.{numbered_import}
-use Rattle.read_rules.specs.Scopes.{numbered_scope}
-use Rattle.plan_types.specs.Orders as orders
+use Rattle.read_rules.specs.{Reached.numbered_import, Scopes.numbered_scope}
 use Rattle.plan_types.specs.Orders.{home_of_part}
-use Rattle.plan_package.specs.Views.{views_of_members, views_of_part, whole_view}
-use Rattle.plan_package.specs.WholeWorlds.{worlds_in}
+use Rattle.plan_package.specs.{Views.views_of_members, Views.views_of_part, Views.whole_view, WholeWorlds.worlds_in}
 use Rattle.plan_type_laws.specs.ShownMarks.{has_no_path, own_places, places_of_part, places_of_seen}
-use Rattle.plan_laws.specs.Apart.{WholeStandsApart}
-use Rattle.plan_laws.specs.Owners.{homes_in}
-use Rattle.plan_laws.specs.ShownRules.{ViewObeys}
-use Rattle.plan_laws.specs.Whole.{IsPackageInput}
-use Rattle.plan_laws.specs.WorldItems.{WorldsAreApart}
+use Rattle.plan_laws.specs.{Apart.WholeStandsApart, Owners.homes_in, ShownRules.ViewObeys, Whole.IsPackageInput, WorldItems.WorldsAreApart}
 use Rattle.plan_laws.proofs.Sources.{view_among, among_mapped, mapped_cases, part_at, IsWorldIn, world_in}
 use Rattle.plan_laws.proofs.PlaceNumbers.{IsOnce, from_joined}
-use Rattle.plan_laws.proofs.Planned.{home_alone}
-use Rattle.plan_laws.proofs.WholePlacesInstances.{as_many, one_of}
-use Rattle.plan_laws.proofs.OwnPlaces.{different, no_longer, filtered_there, unfiltered_once}
-use Rattle.plan_laws.proofs.WholeTypes.{packages_are_ruled}
-use Rattle.plan_laws.proofs.WorldItems.{homes_of_worlds, world_member}
+use Rattle.plan_laws.proofs.{Planned.home_alone, WholePlacesInstances.as_many, WholePlacesInstances.one_of, WorldItems.homes_of_worlds, WorldItems.world_member}
+use Rattle.plan_laws.proofs.{OwnPlaces.different, OwnPlaces.no_longer, OwnPlaces.filtered_there, OwnPlaces.unfiltered_once, WholeTypes.packages_are_ruled}
 use Rattle.base_lemmas.proofs.Elements.{all_at, contains-later, contains-map, get-contains, last_of as one-contained, map_from as from_map}
 use Rattle.base_lemmas.proofs.Lists.{append_of_map, front_at as at_front, map_of_map, mapped_get, identity}
 use Rattle.plan_package.proofs.PlacedLaws.{part_placed as places_of_views}
+use Rattle.comp_meaning.specs.Reads as reads
+use Rattle.read_exports.specs.declared.members.Part.TheVariants as parts
+use Rattle.plan_types.specs.Orders as orders
 
 -- ---- as many numbers as others, of which none stands twice
 

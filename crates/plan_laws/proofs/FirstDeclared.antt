@@ -3,27 +3,20 @@ use Rattle.plan_type_laws.proofs.PartPlaces.{slot_number}
 use Rattle.std.proofs.Common.{◌≡◌, sym, ap, subst, ◌∙◌, ℕ, ◌+◌, arith, true, List, map, Option, Some, slice_get}
 use Rattle.std.specs.List.{Contains}
 use Rattle.wit_model.specs.Text.{Text}
-use Rattle.comp_meaning.specs.Reads as reads
 use Rattle.comp_meaning.specs.Rules.{distinct}
-use Rattle.plan_meaning.specs.FollowedNumbers.{IsShownIn}
-use Rattle.plan_meaning.specs.NumberedMembers.{Homes, sights_of_members}
+use Rattle.plan_meaning.specs.{FollowedNumbers.IsShownIn, NumberedMembers.Homes, NumberedMembers.sights_of_members, NumberedWorlds.are_once, Shapes.named_shape}
 use Rattle.plan_meaning.specs.NumberedViews.{NumberedSight, NumberedType, Tables, agree_in_numbers}
-use Rattle.plan_meaning.specs.NumberedWorlds.{are_once}
-use Rattle.plan_meaning.specs.Shapes.{named_shape}
 use Rattle.plan_parts.specs.Interfaces.{slot_part}
 use Rattle.read_exports.specs.Members.{numbered_members}
 use Rattle.read_exports.specs.declared.members.Member.{Member}
 use Rattle.plan_types.specs.Showings.{NumberedShowing, showings_of_members}
 use Rattle.plan_package.specs.Views.{views_of_members}
 use Rattle.plan_type_laws.specs.ShownMarks.{own_places}
-use Rattle.plan_laws.proofs.Inside.{name_same}
+use Rattle.plan_laws.proofs.{Inside.name_same, Showings.import_named, Sources.one_under, WorldKeys.view_apart}
+use Rattle.plan_laws.proofs.{ShownFrom.IsFrom, ShownFrom.of_import, ShownFrom.of_view, ShownFrom.shown_from, ViewsAgree.told, ViewsAgree.views_tell}
 use Rattle.plan_laws.specs.ShownNames.{IsInput}
-use Rattle.plan_laws.proofs.Showings.{import_named}
-use Rattle.plan_laws.proofs.Sources.{one_under}
-use Rattle.plan_laws.proofs.WorldKeys.{view_apart}
-use Rattle.plan_laws.proofs.ShownFrom.{IsFrom, of_import, of_view, shown_from}
-use Rattle.plan_laws.proofs.ViewsAgree.{told, views_tell}
 use Rattle.base_lemmas.proofs.Elements.{all_at, contains-map, map_from as from_map}
+use Rattle.comp_meaning.specs.Reads as reads
 
 module _ (t : Tables) (h : Homes) (ms : List Member) (members : List reads.Member) (input : IsInput t h ms members) (apart : are_once (own_places t (numbered_members ms)) ≡ true) (agrees : agree_in_numbers (sights_of_members t (numbered_members ms)) ≡ true) where
   -- each showing of the number declares what the view does, whose names differ

@@ -1,14 +1,12 @@
 -- What stands before the first view of a place has a smaller number.
 use Rattle.std.proofs.Common.{◌≡◌, refl, sym, ap, ◌∙◌, ℕ, zero, suc, ◌<◌, ◌⊎◌, inl, inr, arith, Bool, true, false, ◌==◌, cond, List, [], ◌∷◌, ◌++◌, length, Some, None, slice_get}
-use Rattle.std.specs.List.{Contains, find}
-use Rattle.std.proofs.lemmas.Bool.{eq-eqb, eqb-true, false_from_ne_true}
+use Rattle.std.proofs.lemmas.{Bool.eq-eqb, Bool.eqb-true, Bool.false_from_ne_true, Option.slice_get_within, Option.same_Some as same-some}
 use Rattle.std.proofs.lemmas.List.{append-nil, append_assoc}
-use Rattle.std.proofs.lemmas.Option.{slice_get_within, same_Some as same-some}
+use Rattle.std.specs.List.{Contains, find}
 use Rattle.wit_model.specs.Uses.{has}
 use Rattle.wit_model.proofs.Elements.{contains-get, has-contains, none-in}
 use Rattle.plan_meaning.specs.NumberedViews.{NumberedSight, first_at}
-use Rattle.plan_types.specs.Orders.{joined, joined_all}
-use Rattle.plan_types.specs.PlannedTypes.{number_in}
+use Rattle.plan_types.specs.{Orders.joined, Orders.joined_all, PlannedTypes.number_in}
 use Rattle.plan_types.proofs.OrderLaws.{joined_both}
 use Rattle.plan_laws.proofs.PlaceNumbers.{all_joined, all_once, from_joined, none_twice}
 use Rattle.base_lemmas.proofs.Lists.{front_at as at_front, middle_get}

@@ -1,35 +1,26 @@
 -- The types of the first view of a place are shown first as it shows them.
-use Rattle.plan_type_laws.proofs.PartPlaces.{slot_number}
+use Rattle.plan_type_laws.proofs.{PartPlaces.slot_number, FirstFound.firsts_found}
 use Rattle.std.proofs.Common.{◌≡◌, refl, sym, ap, subst, ◌∙◌, ℕ, ◌+◌, arith, true, List, map, Option, Some, None, slice_get}
+use Rattle.std.proofs.lemmas.Option.{same_Some as same-some}
 use Rattle.std.specs.List.{Contains}
 use Rattle.wit_model.specs.Text.{Text}
 use Rattle.wit_model.proofs.Elements.{contains-get}
-use Rattle.comp_meaning.specs.Reads as reads
-use Rattle.plan_meaning.specs.FollowedNumbers.{IsShownIn}
-use Rattle.plan_meaning.specs.NumberedMembers.{Homes, sights_of_members}
+use Rattle.plan_meaning.specs.{FollowedNumbers.IsShownIn, NumberedMembers.Homes, NumberedMembers.sights_of_members}
 use Rattle.plan_meaning.specs.NumberedViews.{NumberedSight, NumberedType, Tables, agree_in_numbers, first_at, path_at}
 use Rattle.read_exports.specs.Members.{numbered_members}
 use Rattle.read_exports.specs.declared.members.Member.{Member}
-use Rattle.read_exports.specs.declared.members.Part.TheVariants as parts
-use Rattle.read_rules.specs.declared.scopes.Scope.{Scope}
-use Rattle.read_rules.specs.declared.scopes.Seen.{Seen}
-use Rattle.read_rules.specs.declared.scopes.Shown.TheVariants as shown
+use Rattle.read_rules.specs.declared.scopes.{Scope.Scope, Seen.Seen}
 use Rattle.plan_parts.specs.Interfaces.{slot_part}
 use Rattle.plan_types.specs.Showings.{NumberedShowing, showing_of, showings_of_members}
-use Rattle.plan_package.specs.PlanWhole.{shown_first}
-use Rattle.plan_package.specs.Views.{views_of_members}
-use Rattle.plan_type_laws.proofs.FirstFound.{firsts_found}
-use Rattle.plan_laws.specs.FirstViews.{ViewsAreOrdered, told}
-use Rattle.plan_laws.specs.Owners.{homes_in}
-use Rattle.plan_laws.specs.ShownNames.{IsInput}
-use Rattle.plan_laws.proofs.FirstViews.{first_is, one_told, sight_there, view_names}
-use Rattle.plan_laws.proofs.Inside.{name_same}
-use Rattle.plan_laws.proofs.Sources as origins
-use Rattle.plan_laws.proofs.Sources.{member_view_in, one_under, origin, view_among}
-use Rattle.plan_laws.proofs.Showings.{import_named}
-use Rattle.plan_laws.proofs.Planned.{home_met}
+use Rattle.plan_package.specs.{PlanWhole.shown_first, Views.views_of_members}
+use Rattle.plan_laws.specs.{FirstViews.ViewsAreOrdered, FirstViews.told, Owners.homes_in, ShownNames.IsInput}
+use Rattle.plan_laws.proofs.{FirstViews.first_is, FirstViews.one_told, FirstViews.sight_there, FirstViews.view_names, Inside.name_same, Showings.import_named}
+use Rattle.plan_laws.proofs.{Sources.member_view_in, Sources.one_under, Sources.origin, Sources.view_among, Planned.home_met}
 use Rattle.base_lemmas.proofs.Elements.{all_at, contains-map, map_from as from_map}
-use Rattle.std.proofs.lemmas.Option.{same_Some as same-some}
+use Rattle.comp_meaning.specs.Reads as reads
+use Rattle.read_exports.specs.declared.members.Part.TheVariants as parts
+use Rattle.read_rules.specs.declared.scopes.Shown.TheVariants as shown
+use Rattle.plan_laws.proofs.Sources as origins
 
 module _ (t : Tables) (h : Homes) (ms : List Member) (members : List reads.Member) (input : IsInput t h ms members) (agreed : agree_in_numbers (sights_of_members t (numbered_members ms)) ≡ true) (ordered : ViewsAreOrdered t ms) where
   abbrev pub views : List NumberedSight

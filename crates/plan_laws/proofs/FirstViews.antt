@@ -1,29 +1,20 @@
 -- All views of one place tell the same of types.
 use Rattle.plan_type_laws.proofs.FirstFound.{first_found}
-use Rattle.read_shown.proofs.Agreement as agreement
-use Rattle.plan_laws.specs.ShownRules.{ViewObeys}
-use Rattle.comp_meaning.specs.Follow.{ShownType}
-use Rattle.comp_meaning.specs.Rules.{distinct}
-use Rattle.base_lemmas.proofs.Lists.{map_of_map}
+use Rattle.plan_laws.specs.{ShownRules.ViewObeys, FirstViews.told}
+use Rattle.comp_meaning.specs.{Follow.ShownType, Rules.distinct, Same.same_option}
+use Rattle.base_lemmas.proofs.{Lists.map_of_map, Elements.all-contained, Elements.contains-one, Elements.map_from as from_map, Numbers.same-number}
+use Rattle.base_lemmas.proofs.Bools.{left_of as first_true, right_of as second_true}
 use Rattle.std.proofs.Common.{◌≡◌, refl, sym, ap, subst, ◌∙◌, ℕ, zero, suc, arith, Bool, true, false, not, ◌&&◌, ◌||◌, ◌==◌, List, [], ◌∷◌, map, Option, Some, None}
-use Rattle.std.specs.List.{Contains, flat_map, list_all}
-use Rattle.std.specs.Option.{option_map_or}
-use Rattle.std.specs.Cmp.Lexicographic.{pointwise}
-use Rattle.std.proofs.lemmas.Bool.{eq-eqb, eqb-true, and_from as both}
-use Rattle.std.proofs.lemmas.Slice.Eq.{bytes_eq-Decides}
+use Rattle.std.proofs.lemmas.{Bool.eq-eqb, Bool.eqb-true, Bool.and_from as both, Slice.Eq.bytes_eq-Decides}
+use Rattle.std.specs.{List.Contains, List.flat_map, List.list_all, Option.option_map_or, Cmp.Lexicographic.pointwise}
 use Rattle.wit_model.specs.Text.{Text, text_eq}
-use Rattle.wit_model.proofs.Elements.{contains-flat, none-in}
-use Rattle.comp_meaning.specs.Same.{same_option}
+use Rattle.wit_model.proofs.{Elements.contains-flat, Elements.none-in, TextLemmas.text_same}
 use Rattle.plan_meaning.specs.NumberedMembers.{NumberedMember, NumberedPart, interface, sights_of_members, sights_of_part, world}
 use Rattle.plan_meaning.specs.NumberedViews.{NumberedSight, NumberedType, Tables, agree, agree_in_numbers, first_at, same_functions, same_id, same_number, same_shown, place_at, shown_type, view_of}
 use Rattle.plan_meaning.specs.NumberedWorlds.{HasPath, NumberedInstance, sights_of_instance}
 use Rattle.plan_package.specs.Views.{views_of_part, whole_view}
-use Rattle.plan_laws.specs.FirstViews.{told}
 use Rattle.plan_laws.proofs.Inside.{flat_cases}
-use Rattle.base_lemmas.proofs.Bools.{left_of as first_true, right_of as second_true}
-use Rattle.base_lemmas.proofs.Elements.{all-contained, contains-one, map_from as from_map}
-use Rattle.base_lemmas.proofs.Numbers.{same-number}
-use Rattle.wit_model.proofs.TextLemmas.{text_same}
+use Rattle.read_shown.proofs.Agreement as agreement
 
 -- ---- what is told of a type
 

@@ -1,23 +1,18 @@
 -- What a world imports, behind the resources that it imports before, and items as they are read.
 use Rattle.std.proofs.Common.{◌≡◌, refl, sym, ap, subst, ◌∙◌, ℕ, zero, suc, ◌+◌, ◌<◌, arith, Bool, true, false, not, ◌||◌, nat_lt, if◌then◌else◌, List, [], ◌∷◌, ◌++◌, length, length-append, map, Option, Some, None, append_assoc, slice_get}
+use Rattle.std.proofs.lemmas.{Bool.lt-ltb, Bool.and_from as both, Option.slice_get_within, Option.same_Some as same-some, Slice.Eq.bytes_eq-Decides}
 use Rattle.std.specs.List.{AllByRecursion, AllZip, list_all, list_any}
-use Rattle.std.proofs.lemmas.Bool.{lt-ltb, and_from as both}
-use Rattle.std.proofs.lemmas.Option.{slice_get_within, same_Some as same-some}
-use Rattle.std.proofs.lemmas.Slice.Eq.{bytes_eq-Decides}
 use Rattle.wit_model.specs.Text.{Text, text_eq}
 use Rattle.plan_meaning.specs.GatheredPlan.{BecomesIfGiven, FunctionBecomes, ParamBecomes}
-use Rattle.plan_meaning.specs.NumberedRules.{Fact}
-use Rattle.plan_meaning.specs.NumberedViews.{AllOf, FunctionShape, PartsOf, Tables}
-use Rattle.plan_meaning.specs.NumberedWorlds as worlds
+use Rattle.plan_meaning.specs.{NumberedRules.Fact, NumberedViews.AllOf, NumberedViews.FunctionShape, NumberedViews.PartsOf, NumberedViews.Tables}
 use Rattle.plan_meaning.specs.NumberedWorlds.{NumberedSeen, NumberedShown, are_imports, is_item, is_resource_seen, resources_seen}
 use Rattle.plan_meaning.specs.Plan.{Plan, PlannedFunction, PlannedItem, PlannedKey}
 use Rattle.plan_meaning.specs.ReadWorlds.{ReadItem, is_type_seen, types_follow}
 use Rattle.plan_meaning.proofs.Lists.{no_true}
 use Rattle.plan_parts.specs.Functions.{KeptIfGiven, KeptParam, TakesAndGives}
 use Rattle.plan_type_laws.proofs.KeptKinds.{one_old}
-use Rattle.base_lemmas.proofs.Bools.{left_of as first_true, right_of as second_true}
-use Rattle.base_lemmas.proofs.Elements.{all_by_number}
-use Rattle.base_lemmas.proofs.Lists.{front_at as at_front}
+use Rattle.base_lemmas.proofs.{Bools.left_of as first_true, Bools.right_of as second_true, Elements.all_by_number, Lists.front_at as at_front}
+use Rattle.plan_meaning.specs.NumberedWorlds as worlds
 
 -- ---- resources that are imported before
 

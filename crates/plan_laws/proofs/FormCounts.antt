@@ -1,32 +1,21 @@
 -- A form of what was followed has as many parts as it asks for, and a handle is of a type that is no primitive.
 use Rattle.std.proofs.Common.{◌≡◌, refl, sym, ap, subst, ◌∙◌, ℕ, ◌+◌, ◌≤◌, arith, Bool, true, false, ◌==◌, nat_lt, List, [], ◌∷◌, length, map, Some, None, slice_get}
-use Rattle.std.specs.Prelude.{nat_le}
 use Rattle.std.proofs.lemmas.Bool.{ltb-false, ltb-true}
-use Rattle.std.specs.List.{AllByRecursion, list_all}
-use Rattle.wit_model.specs.Text.{Text}
-use Rattle.wit_model.specs.Tree.{Form}
+use Rattle.std.specs.{Prelude.nat_le, List.AllByRecursion, List.list_all}
+use Rattle.wit_model.specs.{Text.Text, Tree.Form}
 use Rattle.comp_meaning.specs.Follow.{is_filled}
-use Rattle.comp_meaning.specs.Reads as reads
 use Rattle.read_shown.specs.Trees.{begins_with_key, count_true, is_formed}
-use Rattle.plan_meaning.specs.KeptResources.{FormIsMarked}
-use Rattle.plan_meaning.specs.NumberedMembers.{Homes}
-use Rattle.plan_meaning.specs.NumberedRules.{name_in}
-use Rattle.plan_meaning.specs.NumberedViews.{Tables, tree_at}
-use Rattle.plan_meaning.specs.PlanRules.{is_handle_form}
-use Rattle.plan_meaning.specs.Shapes.{Shape, form_code, node_shape}
-use Rattle.plan_meaning.proofs.Lists.{no_true}
-use Rattle.plan_meaning.proofs.ShapeLaws.{form_back}
-use Rattle.plan_parts.specs.Kept.{IsKeptPart}
-use Rattle.plan_parts.specs.Kinds.{IsFormOver, given_count, has_count, shape_form}
+use Rattle.plan_meaning.specs.{KeptResources.FormIsMarked, NumberedViews.Tables, NumberedViews.tree_at, Shapes.Shape, Shapes.form_code, Shapes.node_shape}
+use Rattle.plan_meaning.specs.{NumberedMembers.Homes, NumberedRules.name_in, PlanRules.is_handle_form}
+use Rattle.plan_meaning.proofs.{Lists.no_true, ShapeLaws.form_back}
+use Rattle.plan_parts.specs.{Kept.IsKeptPart, Kinds.IsFormOver, Kinds.given_count, Kinds.has_count, Kinds.shape_form}
 use Rattle.read_exports.specs.declared.members.Member.{Member}
 use Rattle.plan_types.specs.Showings.{showings_of_members, signatures_of_members}
-use Rattle.plan_type_laws.specs.ShownForms.{EachForm, FormsHold, itself}
-use Rattle.plan_type_laws.specs.ShownMarks.{MarksStand}
-use Rattle.plan_type_laws.proofs.FormsObeyed.{forms_hold}
-use Rattle.plan_type_laws.proofs.UsedWalk.{form_there}
+use Rattle.plan_type_laws.specs.{ShownForms.EachForm, ShownForms.FormsHold, ShownForms.itself, ShownMarks.MarksStand}
+use Rattle.plan_type_laws.proofs.{FormsObeyed.forms_hold, UsedWalk.form_there}
 use Rattle.plan_laws.specs.ShownNames.{IsInput}
-use Rattle.base_lemmas.proofs.Bools.{left_of as first_true, right_of as second_true}
-use Rattle.base_lemmas.proofs.Lists.{length_of_map}
+use Rattle.base_lemmas.proofs.{Bools.left_of as first_true, Bools.right_of as second_true, Lists.length_of_map}
+use Rattle.comp_meaning.specs.Reads as reads
 
 abbrev pub HasCount : Form → List ℕ → Type 0
 HasCount form parts = has_count form (length parts) ≡ true

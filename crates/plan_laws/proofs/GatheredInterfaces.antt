@@ -1,54 +1,32 @@
 -- The interfaces of a plan become what each view of their places tells, with the functions of the first that shows some.
 use Rattle.std.proofs.Common.{◌≡◌, refl, sym, ap, subst, ◌∙◌, ℕ, arith, Bool, true, false, not, ◌==◌, cond, List, [], ◌∷◌, ◌++◌, map, Option, Some, None, option_map, slice_get}
-use Rattle.std.specs.Prelude.{option_and_then}
-use Rattle.std.specs.List.{AllZip, Contains}
-use Rattle.std.specs.Option.{option_map_or}
-use Rattle.wit_model.specs.Rules.{is_id}
-use Rattle.wit_model.specs.Text.{Text}
-use Rattle.wit_model.specs.Valid.{as_interface}
-use Rattle.comp_meaning.specs.Reads as reads
-use Rattle.plan_meaning.specs.FollowedNumbers.{IsPartIn}
+use Rattle.std.proofs.lemmas.Option.{same_Some as same-some}
+use Rattle.std.specs.{Prelude.option_and_then, List.AllZip, List.Contains, Option.option_map_or}
+use Rattle.wit_model.specs.{Rules.is_id, Text.Text, Valid.as_interface}
+use Rattle.plan_meaning.specs.{FollowedNumbers.IsPartIn, NumberedWorlds.HasPath, Plan.Plan, Plan.PlannedInterface, Plan.interface_in, Plan.path_of_planned}
 use Rattle.plan_meaning.specs.GatheredPlan.{InterfaceAt, InterfaceBecomes, InterfacesListed, TypeBecomes, TypeListed, foreign_interface, functions_seen, interfaces_listed, under_path}
 use Rattle.plan_meaning.specs.NumberedMembers.{Homes, NumberedMember, home_at, is_of_package, sights_of_members}
-use Rattle.plan_meaning.specs.NumberedRules.{Fact}
+use Rattle.plan_meaning.specs.{NumberedRules.Fact, ReadFunctions.Beside}
 use Rattle.plan_meaning.specs.NumberedViews.{IsSight, NumberedSight, NumberedType, NumberedView, Tables, first_at, path_at, path_text}
-use Rattle.plan_meaning.specs.NumberedWorlds.{HasPath}
-use Rattle.plan_meaning.specs.Plan.{Plan, PlannedInterface, interface_in, path_of_planned}
-use Rattle.plan_meaning.specs.Plan as plan
-use Rattle.plan_meaning.specs.ReadFunctions.{Beside}
-use Rattle.plan_meaning.proofs.Lists.{no_true}
-use Rattle.plan_meaning.proofs.NumberedMembers.{only_sights}
-use Rattle.plan_meaning.proofs.NumberedWorlds.{path_is}
+use Rattle.plan_meaning.proofs.{Lists.no_true, NumberedMembers.only_sights, NumberedWorlds.path_is}
 use Rattle.read_exports.specs.Members.{numbered_members, numbered_part}
-use Rattle.read_exports.specs.declared.members.Member.{Member}
-use Rattle.read_exports.specs.declared.members.Part.{Part}
-use Rattle.read_exports.specs.declared.members.Part.TheVariants as parts
+use Rattle.read_exports.specs.declared.members.{Member.Member, Part.Part}
 use Rattle.read_rules.specs.Views.{numbered_view}
 use Rattle.plan_types.specs.PlannedTypes.{number_in}
-use Rattle.plan_package.specs.PlanWhole.{PlansWhole, places_in}
-use Rattle.plan_package.specs.Views.{views_of_members, views_of_part}
-use Rattle.plan_package.specs.WholeInterfaces.{PlansPlace}
-use Rattle.plan_package.specs.WholePackages.{ListsPlace, interface_in_part, interfaces_in}
-use Rattle.plan_laws.specs.FirstViews.{ViewsAreOrdered, told}
+use Rattle.plan_package.specs.{PlanWhole.PlansWhole, PlanWhole.places_in, Views.views_of_members, Views.views_of_part}
+use Rattle.plan_package.specs.{WholeInterfaces.PlansPlace, WholePackages.ListsPlace, WholePackages.interface_in_part, WholePackages.interfaces_in}
+use Rattle.plan_laws.specs.{FirstViews.ViewsAreOrdered, FirstViews.told, ViewedInterfaces.views_read, Whole.IsPackageInput, WholeTypes.IsRuledInput}
 use Rattle.plan_laws.specs.Owners.{owners_of}
-use Rattle.plan_laws.specs.ViewedInterfaces.{views_read}
-use Rattle.plan_laws.specs.Whole.{IsPackageInput}
-use Rattle.plan_laws.specs.WholeTypes.{IsRuledInput}
-use Rattle.plan_laws.proofs.FirstTypes.{views_told}
-use Rattle.plan_laws.proofs.FirstViews.{first_is}
+use Rattle.plan_laws.proofs.{FirstTypes.views_told, FirstViews.first_is, Inside.flat_cases, ShownWhole.sight_viewed, WholePlacesTop.sight_of_place}
 use Rattle.plan_laws.proofs.GatheredSights.{IsGatheredFrom, IsGatheredOne, gathered, gathered_from, left_out}
-use Rattle.plan_laws.proofs.Inside.{flat_cases}
-use Rattle.plan_laws.proofs.ListedFunctions.{functions_listed, seen_same}
-use Rattle.plan_laws.proofs.Sources.{view_among, own_sight, own_there, part_at}
-use Rattle.plan_laws.proofs.PlaceNumbers.{one_owner, owner_numbered, place_number}
-use Rattle.plan_laws.proofs.Planned.{first_there, interface_there, view_met}
-use Rattle.plan_laws.proofs.ShownWhole.{sight_viewed}
-use Rattle.plan_laws.proofs.Viewed.{planned_interfaces_are_viewed}
-use Rattle.plan_laws.proofs.WholePlacesTop.{sight_of_place}
-use Rattle.plan_laws.proofs.WholeTypes.{packages_are_ruled, path_planned}
+use Rattle.plan_laws.proofs.{ListedFunctions.functions_listed, ListedFunctions.seen_same, Planned.first_there, Planned.interface_there, Planned.view_met}
+use Rattle.plan_laws.proofs.{Sources.view_among, Sources.own_sight, Sources.own_there, Sources.part_at, WholeTypes.packages_are_ruled, WholeTypes.path_planned}
+use Rattle.plan_laws.proofs.{PlaceNumbers.one_owner, PlaceNumbers.owner_numbered, PlaceNumbers.place_number, Viewed.planned_interfaces_are_viewed}
 use Rattle.base_lemmas.proofs.Elements.{all_at, contains-later, get-contains, zip_each}
-use Rattle.std.proofs.lemmas.Option.{same_Some as same-some}
 use Rattle.plan_package.proofs.ReadPackageLaws.{number_at as number_there}
+use Rattle.comp_meaning.specs.Reads as reads
+use Rattle.plan_meaning.specs.Plan as plan
+use Rattle.read_exports.specs.declared.members.Part.TheVariants as parts
 
 -- what is told of types alone says what they become
 told_listed : (t : Tables) (kept : List ℕ) (p : Plan) (xs ys : List NumberedType) (es : List (Text × ℕ)) → map told xs ≡ map told ys → AllZip (TypeListed t kept p) xs es

@@ -3,9 +3,7 @@ use Rattle.std.proofs.Common.{◌≡◌, sym, ap, subst, ◌∙◌, refl, ℕ, z
 use Rattle.std.specs.List.{AllZip, Contains, cons_option}
 use Rattle.wit_model.specs.Text.{Text}
 use Rattle.wit_model.proofs.Elements.{none-in}
-use Rattle.plan_meaning.specs.GatheredPlan.{AreChosen, SightBecomes}
-use Rattle.plan_meaning.specs.NumberedViews.{NumberedSight, Tables}
-use Rattle.plan_meaning.specs.NumberedWorlds.{HasPath}
+use Rattle.plan_meaning.specs.{GatheredPlan.AreChosen, GatheredPlan.SightBecomes, NumberedViews.NumberedSight, NumberedViews.Tables, NumberedWorlds.HasPath}
 use Rattle.plan_meaning.specs.Plan.{Plan, PlannedInterface}
 use Rattle.base_lemmas.proofs.Elements.{contains-later}
 

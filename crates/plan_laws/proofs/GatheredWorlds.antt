@@ -3,57 +3,34 @@ use Rattle.std.proofs.Common.{◌≡◌, refl, sym, ap, subst, ◌∙◌, ℕ, s
 use Rattle.std.specs.List.{AllZip, Contains, flat_map}
 use Rattle.wit_model.specs.Text.{Text}
 use Rattle.wit_model.specs.declared.model.TypeId.{TypeId}
-use Rattle.comp_meaning.specs.Reads as reads
 use Rattle.plan_meaning.specs.GatheredPlan.{InterfaceAt, SeenBecomes, WorldAt, WorldBecomes, WorldsListed, functions_seen, worlds_listed}
-use Rattle.plan_meaning.specs.NumberedMembers.{Homes, home_at}
-use Rattle.plan_meaning.specs.NumberedRules.{Fact}
-use Rattle.plan_meaning.specs.NumberedViews.{NumberedSight, Tables, path_at, path_text}
-use Rattle.plan_meaning.specs.NumberedWorlds as worlds
+use Rattle.plan_meaning.specs.{NumberedMembers.Homes, NumberedMembers.home_at, Plan.Plan, Plan.PlannedItem, Plan.PlannedKey, Plan.PlannedWorld}
+use Rattle.plan_meaning.specs.{NumberedRules.Fact, ReadFunctions.Beside}
+use Rattle.plan_meaning.specs.{NumberedViews.NumberedSight, NumberedViews.Tables, NumberedViews.path_at, NumberedViews.path_text, ReadWorlds.is_type_seen}
 use Rattle.plan_meaning.specs.NumberedWorlds.{HasPath, KeyStands, NumberedScope, NumberedSeen, place_of_key, shown_of}
-use Rattle.plan_meaning.specs.Plan as plan
-use Rattle.plan_meaning.specs.Plan.{Plan, PlannedItem, PlannedKey, PlannedWorld}
-use Rattle.plan_meaning.specs.ReadFunctions.{Beside}
-use Rattle.plan_meaning.proofs.Lists.{no_true}
-use Rattle.plan_meaning.proofs.NumberedWorlds.{path_is}
+use Rattle.plan_meaning.proofs.{Lists.no_true, NumberedWorlds.path_is}
 use Rattle.plan_parts.specs.Interfaces.{AreResources}
 use Rattle.read_exports.specs.Members.{numbered_members, numbered_part}
-use Rattle.read_exports.specs.declared.members.Member.{Member}
-use Rattle.read_exports.specs.declared.members.Part.{Part}
-use Rattle.read_exports.specs.declared.members.Part.TheVariants as parts
-use Rattle.read_rules.specs.declared.scopes.InstanceKey.{InstanceKey}
-use Rattle.read_rules.specs.declared.scopes.InstanceKey.TheVariants as keys
-use Rattle.read_rules.specs.declared.scopes.Scope.{Scope}
-use Rattle.read_rules.specs.declared.scopes.Seen.{Seen}
-use Rattle.read_rules.specs.declared.scopes.Shown.{Shown}
-use Rattle.read_rules.specs.declared.scopes.Shown.TheVariants as shown
-use Rattle.read_rules.specs.declared.views.View.{View}
-use Rattle.read_rules.specs.Scopes.{numbered_key, numbered_scope, numbered_seen, numbered_shown}
-use Rattle.read_rules.specs.Tables.{given_text}
-use Rattle.read_rules.specs.Views.{numbered_view}
+use Rattle.read_exports.specs.declared.members.{Member.Member, Part.Part}
+use Rattle.read_rules.specs.declared.{scopes.InstanceKey.InstanceKey, scopes.Scope.Scope, scopes.Seen.Seen, scopes.Shown.Shown, views.View.View}
+use Rattle.read_rules.specs.{Scopes.numbered_key, Scopes.numbered_scope, Scopes.numbered_seen, Scopes.numbered_shown, Tables.given_text, Views.numbered_view}
 use Rattle.plan_types.specs.PlannedTypes.{number_in}
-use Rattle.plan_package.specs.PlanWhole.{PlansWhole, places_in}
-use Rattle.plan_package.specs.Views.{views_of_members}
-use Rattle.plan_package.specs.WholePackages.{numbered_labels}
+use Rattle.plan_package.specs.{PlanWhole.PlansWhole, PlanWhole.places_in, Views.views_of_members, WholePackages.numbered_labels}
 use Rattle.plan_package.specs.WholeWorlds.{PlansItem, PlansWorld, a_function, a_type, an_instance, planned_key, types_seen, world_in_part, worlds_in}
-use Rattle.plan_laws.specs.FirstViews.{ViewsAreOrdered}
+use Rattle.plan_laws.specs.{FirstViews.ViewsAreOrdered, WholeTypes.IsRuledInput, WholeTypes.TypesAreWhole, WorldItems.TypesAreRead, WorldItems.WorldsAreApart}
 use Rattle.plan_laws.specs.Whole.{IsPackageInput}
-use Rattle.plan_laws.specs.WholeFunctions.{beside_tables}
-use Rattle.plan_laws.specs.WholeTypes.{IsRuledInput, TypesAreWhole}
-use Rattle.plan_laws.specs.WholeWorlds.{IsUnderKey, WorldIsFollowed, WorldsAreFollowed}
-use Rattle.plan_laws.specs.WorldItems.{TypesAreRead, WorldsAreApart}
-use Rattle.plan_laws.proofs.GatheredInterfaces.{interface_at, path_same}
-use Rattle.plan_laws.proofs.OwnPlaces.{a_view, frames, one_owned}
+use Rattle.plan_laws.specs.{WholeFunctions.beside_tables, WholeWorlds.IsUnderKey, WholeWorlds.WorldIsFollowed, WholeWorlds.WorldsAreFollowed}
+use Rattle.plan_laws.proofs.{GatheredInterfaces.interface_at, GatheredInterfaces.path_same, WorldItems.planned_worlds_stand, WorldItems.world_member}
+use Rattle.plan_laws.proofs.{OwnPlaces.a_view, OwnPlaces.frames, OwnPlaces.one_owned, WholePlacesLabels.world_among, WholeReasonsFunctions.first_whole}
 use Rattle.plan_laws.proofs.Sources.{Side, seen_sight, side_good, side_is, sight_of, IsWorldIn, world_in}
-use Rattle.plan_meaning.specs.ReadWorlds.{is_type_seen}
-use Rattle.plan_laws.proofs.ShownAlike.{view_owned}
-use Rattle.plan_laws.proofs.ShownFrom.{view_frame}
-use Rattle.plan_laws.proofs.WholeFunctions.{seen_becomes}
-use Rattle.plan_laws.proofs.WholePlacesLabels.{world_among}
-use Rattle.plan_laws.proofs.WholeReasonsFunctions.{first_whole}
-use Rattle.plan_laws.proofs.WholeTypes.{packages_are_ruled}
-use Rattle.plan_laws.proofs.WorldItems.{planned_worlds_stand, world_member}
-use Rattle.plan_laws.proofs.WorldKeys.{keys_differ}
+use Rattle.plan_laws.proofs.{ShownAlike.view_owned, ShownFrom.view_frame, WholeFunctions.seen_becomes, WholeTypes.packages_are_ruled, WorldKeys.keys_differ}
 use Rattle.base_lemmas.proofs.Elements.{all_at, contains-later, get-contains, zip_at}
+use Rattle.comp_meaning.specs.Reads as reads
+use Rattle.plan_meaning.specs.NumberedWorlds as worlds
+use Rattle.plan_meaning.specs.Plan as plan
+use Rattle.read_exports.specs.declared.members.Part.TheVariants as parts
+use Rattle.read_rules.specs.declared.scopes.InstanceKey.TheVariants as keys
+use Rattle.read_rules.specs.declared.scopes.Shown.TheVariants as shown
 
 zip_mapped : {A B C : Type 0} (P : A → B → Type 0) (Q : C → B → Type 0) (f : A → C) (xs : List A) → ((x : A) → Contains xs x → (y : B) → P x y → Q (f x) y) → (ys : List B) → AllZip P xs ys
     → AllZip Q (map f xs) ys

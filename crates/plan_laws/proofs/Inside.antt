@@ -1,16 +1,15 @@
 -- Which types stand inside a part: what is used is inside a part that is used to begin with.
 use Rattle.std.proofs.Common.{◌≡◌, refl, sym, ap, subst, ◌∙◌, ℕ, zero, suc, ◌+◌, ◌<◌, ◌⊎◌, inl, inr, arith, Bool, true, false, List, [], ◌∷◌, length, map, Some, slice_get}
+use Rattle.std.proofs.lemmas.{List.Elements.Contains-append_cases, Option.same_Some as same-some}
 use Rattle.std.specs.List.{Contains, flat_map}
-use Rattle.std.proofs.lemmas.List.Elements.{Contains-append_cases}
 use Rattle.wit_model.specs.Text.{Text}
 use Rattle.wit_model.proofs.Elements.{has-contains, none-in}
 use Rattle.plan_meaning.specs.NumberedViews.{HasNameIn, Tables, NumberedSlot, resource, value}
-use Rattle.plan_meaning.specs.NumberedViews as views
 use Rattle.plan_meaning.specs.Shapes.{IsShape, IsTable, Shape, a_name, a_node, named_shape, first_label}
 use Rattle.plan_parts.specs.Marks.{is_marked, IsUsed, marked, part}
 use Rattle.plan_types.specs.Used.{AreUsed}
 use Rattle.base_lemmas.proofs.Lists.{get_back as unmapped_get}
-use Rattle.std.proofs.lemmas.Option.{same_Some as same-some}
+use Rattle.plan_meaning.specs.NumberedViews as views
 
 -- the type of this number is the part, or one of those inside it
 pub data IsIn (shapes : List Shape) : ℕ → ℕ → Type 0 where

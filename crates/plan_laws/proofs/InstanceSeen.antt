@@ -1,45 +1,35 @@
 -- Each instance of a world has the place of one that it imports or exports.
-use Rattle.plan_laws.proofs.ShownFrom.{own_once}
+use Rattle.plan_laws.proofs.{ShownFrom.own_once, OwnPlaces.inline_of, OwnPlaces.inline_seen, OwnPlaces.inlines, ShownRules.one_way as either_way}
+use Rattle.plan_laws.proofs.Sources.{Side, interface_views, mapped_cases, own_sight, seen_sight, side_shows, sight_of, IsWorldIn, world_in}
+use Rattle.plan_laws.proofs.Inside.{flat_cases}
 use Rattle.std.proofs.Common.{◌≡◌, refl, sym, ap, subst, ◌∙◌, ℕ, ◌⊎◌, inl, inr, true, false, List, map, Option, Some, None, filter}
-use Rattle.std.specs.List.{AllByRecursion, Contains, flat_map}
 use Rattle.std.proofs.lemmas.List.Elements.{Contains-append_cases, Contains-append_left, Contains-append_right}
+use Rattle.std.proofs.lemmas.Option.{same_Some as same-some}
+use Rattle.std.specs.List.{AllByRecursion, Contains, flat_map}
 use Rattle.wit_model.specs.Text.{Text}
 use Rattle.wit_model.proofs.Elements.{contains-flat, none-in}
-use Rattle.comp_meaning.specs.Follow as follow
 use Rattle.comp_meaning.specs.Follow.{Instance, export_, import_, interface_of}
-use Rattle.comp_meaning.specs.Reads as reads
-use Rattle.read_shown.specs.Instances as tree
 use Rattle.read_shown.specs.Instances.{going, instances_in}
-use Rattle.plan_meaning.specs.FollowedNumbers.{IsSeenIn}
-use Rattle.plan_meaning.specs.NumberedMembers.{Homes, NumberedMember, world}
+use Rattle.plan_meaning.specs.{FollowedNumbers.IsSeenIn, NumberedMembers.Homes, NumberedMembers.NumberedMember, NumberedMembers.world, ReadWholes.place_shown}
 use Rattle.plan_meaning.specs.NumberedViews.{AreTables, NumberedFunction, NumberedSight, NumberedType, Tables, path_at}
-use Rattle.plan_meaning.specs.NumberedWorlds as worlds
 use Rattle.plan_meaning.specs.NumberedWorlds.{HasPath, KeyStands, NumberedInstance, NumberedKey, NumberedSeen, NumberedShown, are_once, instance_of, key_of, place_of_key, seen_of, shown_of}
-use Rattle.plan_meaning.specs.ReadWholes.{place_shown}
 use Rattle.plan_meaning.proofs.NumberedWorlds.{path_is}
 use Rattle.read_exports.specs.Members.{numbered_member, numbered_members, numbered_part}
-use Rattle.read_exports.specs.declared.members.Member.{Member}
-use Rattle.read_exports.specs.declared.members.Part.{Part}
-use Rattle.read_exports.specs.declared.members.Part.TheVariants as parts
-use Rattle.read_rules.specs.declared.reached.ImportedView.{ImportedView}
-use Rattle.read_rules.specs.declared.scopes.Scope.{Scope}
-use Rattle.read_rules.specs.declared.scopes.Seen.{Seen}
-use Rattle.read_rules.specs.declared.scopes.Shown.{Shown}
-use Rattle.read_rules.specs.declared.scopes.Shown.TheVariants as shown
-use Rattle.read_rules.specs.Reached.{numbered_import}
+use Rattle.read_exports.specs.declared.members.{Member.Member, Part.Part}
+use Rattle.read_rules.specs.declared.{reached.ImportedView.ImportedView, scopes.Scope.Scope, scopes.Seen.Seen, scopes.Shown.Shown}
+use Rattle.read_rules.specs.{Reached.numbered_import, Tables.given_text, Views.numbered_view}
 use Rattle.read_rules.specs.Scopes.{numbered_instance, numbered_key, numbered_scope, numbered_seen, numbered_shown}
-use Rattle.read_rules.specs.Tables.{given_text}
-use Rattle.read_rules.specs.Views.{numbered_view}
 use Rattle.plan_types.specs.Showings.{NumberedShowing, showing_of, showings_of_import, showings_of_members, showings_of_part, showings_of_seen, showings_of_shown, showings_of_view, signatures_of_members, signatures_of_part, signatures_of_seen, signatures_of_shown}
 use Rattle.plan_package.specs.Views.{types_alone, views_of_members, views_of_part, whole_view}
-use Rattle.std.proofs.lemmas.Option.{same_Some as same-some}
-use Rattle.plan_laws.proofs.Sources.{Side, interface_views, mapped_cases, own_sight, seen_sight, side_shows, sight_of, IsWorldIn, world_in}
 use Rattle.plan_type_laws.specs.ShownMarks.{own_places, has_no_path, places_of_part}
 use Rattle.plan_laws.specs.ShownNames.{IsInput}
-use Rattle.plan_laws.proofs.Inside.{flat_cases}
-use Rattle.plan_laws.proofs.OwnPlaces.{inline_of, inline_seen, inlines}
 use Rattle.base_lemmas.proofs.Elements.{all_at, contains-map, last_of as one-contained, map_from as from_map}
-use Rattle.plan_laws.proofs.ShownRules.{one_way as either_way}
+use Rattle.comp_meaning.specs.Follow as follow
+use Rattle.comp_meaning.specs.Reads as reads
+use Rattle.read_shown.specs.Instances as tree
+use Rattle.plan_meaning.specs.NumberedWorlds as worlds
+use Rattle.read_exports.specs.declared.members.Part.TheVariants as parts
+use Rattle.read_rules.specs.declared.scopes.Shown.TheVariants as shown
 
 -- one of these goes one of the two ways
 

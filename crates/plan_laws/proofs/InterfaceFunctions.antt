@@ -1,40 +1,28 @@
 -- A function that a view shows is one that was read, where its values are.
-use Rattle.plan_type_laws.proofs.PartPlaces.{slot_number}
+use Rattle.plan_type_laws.proofs.{PartPlaces.slot_number, FirstFound.firsts_found}
 use Rattle.std.proofs.Common.{◌≡◌, refl, sym, ap, subst, ◌∙◌, ℕ, zero, arith, Bool, true, false, ◌||◌, List, [], ◌∷◌, cond, map, Option, Some, None}
-use Rattle.std.specs.List.{Contains, list_any}
 use Rattle.std.proofs.lemmas.Slice.Eq.{bytes_eq-Decides}
+use Rattle.std.specs.List.{Contains, list_any}
 use Rattle.wit_model.specs.declared.model.TypeId.{TypeId}
 use Rattle.wit_model.specs.Text.{Text, text_eq}
 use Rattle.wit_model.proofs.Elements.{contains-get}
-use Rattle.comp_meaning.specs.Reads as reads
-use Rattle.comp_meaning.specs.Rules as rules
 use Rattle.comp_meaning.specs.Rules.{distinct}
-use Rattle.plan_meaning.specs.FollowedNumbers.{IsCalledIn, IsMetFrom, IsShownIn, IsViewIn}
-use Rattle.plan_meaning.specs.GatheredPlan.{FunctionBecomes}
-use Rattle.plan_meaning.specs.KeptFunctions.{IsResource}
-use Rattle.plan_meaning.specs.NumberedMembers.{Homes, home_at}
-use Rattle.plan_meaning.specs.NumberedRules.{is_no_part}
+use Rattle.plan_meaning.specs.{FollowedNumbers.IsCalledIn, FollowedNumbers.IsMetFrom, FollowedNumbers.IsShownIn, FollowedNumbers.IsViewIn, Shapes.named_shape}
+use Rattle.plan_meaning.specs.{GatheredPlan.FunctionBecomes, NumberedMembers.Homes, NumberedMembers.home_at, ReadFunctions.Beside, ReadFunctions.IsReadFunction}
+use Rattle.plan_meaning.specs.{KeptFunctions.IsResource, NumberedRules.is_no_part, Plan.Plan, Plan.PlannedFunction}
 use Rattle.plan_meaning.specs.NumberedViews.{NumberedFunction, NumberedSight, NumberedType, PartsOf, Tables, declaration_of, function_at, place_at, shown_type, signature_at, view_of}
-use Rattle.plan_meaning.specs.Plan.{Plan, PlannedFunction}
-use Rattle.plan_meaning.specs.ReadFunctions.{Beside, IsReadFunction}
-use Rattle.plan_meaning.specs.Shapes.{named_shape}
 use Rattle.plan_parts.specs.Interfaces.{AreResources, IsPlannedFunction, slot_part}
 use Rattle.read_exports.specs.Members.{numbered_members}
 use Rattle.read_exports.specs.declared.members.Member.{Member}
 use Rattle.plan_types.specs.Showings.{showings_of_members}
-use Rattle.plan_package.specs.PlanWhole.{PlansWhole}
-use Rattle.plan_package.specs.Views.{views_of_members}
-use Rattle.plan_type_laws.proofs.FirstFound.{firsts_found}
-use Rattle.plan_laws.specs.Owners.{owners_of}
-use Rattle.plan_laws.specs.WholeTypes.{IsRuledInput}
-use Rattle.plan_laws.specs.ShownRules.{ViewObeys}
-use Rattle.plan_laws.proofs.FirstDeclared.{shown_alike}
+use Rattle.plan_package.specs.{PlanWhole.PlansWhole, Views.views_of_members}
+use Rattle.plan_laws.specs.{Owners.owners_of, WholeTypes.IsRuledInput, ShownRules.ViewObeys}
+use Rattle.plan_laws.proofs.{FirstDeclared.shown_alike, ShownRules.function_obeys, ViewsAgree.told, ViewsAgree.views_tell, WholeFunctions.nothing_declared}
 use Rattle.plan_laws.proofs.ReadFunction.{function_becomes, read_function, resource_at, told as told_of}
-use Rattle.plan_laws.proofs.ShownRules.{function_obeys}
-use Rattle.plan_laws.proofs.ViewsAgree.{told, views_tell}
-use Rattle.plan_laws.proofs.WholeFunctions.{nothing_declared}
 use Rattle.plan_laws.proofs.Planned.{kept_number}
 use Rattle.base_lemmas.proofs.Elements.{all_at, contains-later, contains-map, get-contains, map_from as from_map}
+use Rattle.comp_meaning.specs.Reads as reads
+use Rattle.comp_meaning.specs.Rules as rules
 
 -- a name of a resource is that of a type which is declared as one
 resource_listed : (t : Tables) (xs : List NumberedType) (r : Text) → list_any (text_eq r) (rules.resources_of (map (shown_type t) xs)) ≡ true → (x : NumberedType) × Contains xs x × (x.declared ≡ None)

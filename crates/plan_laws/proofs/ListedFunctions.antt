@@ -1,38 +1,25 @@
 -- The functions of an interface of the plan are those of the first view of its place that shows some.
-use Rattle.plan_laws.proofs.Sources.{member_view_in}
+use Rattle.plan_laws.proofs.{Sources.member_view_in, Viewed.zip_within, WholeTypes.packages_are_ruled}
+use Rattle.plan_laws.proofs.{FirstViews.first_is, FirstViews.view_names, InterfaceFunctions.view_becomes, Planned.first_there, Planned.interface_there}
 use Rattle.std.proofs.Common.{◌≡◌, refl, sym, ap, subst, ◌∙◌, ℕ, arith, Bool, true, false, ◌==◌, ◌&&◌, cond, List, [], ◌∷◌, ◌++◌, map, Option, Some, None, slice_get}
-use Rattle.std.specs.List.{AllZip, Contains, flat_map}
-use Rattle.std.specs.Option.{option_map_or}
-use Rattle.std.proofs.lemmas.Bool.{eqb-true}
+use Rattle.std.proofs.lemmas.{Bool.eqb-true, Option.same_Some as same-some}
+use Rattle.std.specs.{List.AllZip, List.Contains, List.flat_map, Option.option_map_or}
 use Rattle.wit_model.specs.Text.{Text}
 use Rattle.wit_model.specs.declared.model.TypeOwner.{TypeOwner}
 use Rattle.wit_model.proofs.Elements.{none-in}
-use Rattle.comp_meaning.specs.Reads as reads
-use Rattle.plan_meaning.specs.GatheredPlan.{FunctionBecomes, FunctionListed, functions_seen}
+use Rattle.plan_meaning.specs.{GatheredPlan.FunctionBecomes, GatheredPlan.FunctionListed, GatheredPlan.functions_seen, NumberedRules.Fact}
 use Rattle.plan_meaning.specs.NumberedMembers.{Homes, NumberedMember, NumberedPart, home_at, interface, sights_of_members, sights_of_part, world}
-use Rattle.plan_meaning.specs.NumberedRules.{Fact}
 use Rattle.plan_meaning.specs.NumberedViews.{NumberedFunction, NumberedSight, Tables, first_at, function_at, path_at}
-use Rattle.plan_meaning.specs.NumberedWorlds.{HasPath, NumberedInstance, sights_of_instance}
+use Rattle.plan_meaning.specs.{NumberedWorlds.HasPath, NumberedWorlds.NumberedInstance, NumberedWorlds.sights_of_instance, ReadFunctions.Beside}
 use Rattle.plan_meaning.specs.Plan.{Plan, PlannedFunction, PlannedInterface, interface_in}
-use Rattle.plan_meaning.specs.ReadFunctions.{Beside}
 use Rattle.plan_parts.specs.Interfaces.{IsPlannedFunction}
 use Rattle.read_exports.specs.Members.{numbered_members}
 use Rattle.read_exports.specs.declared.members.Member.{Member}
-use Rattle.plan_package.specs.PlanWhole.{PlansWhole, places_in}
-use Rattle.plan_package.specs.Views.{views_of_members, views_of_part, whole_view}
+use Rattle.plan_package.specs.{PlanWhole.PlansWhole, PlanWhole.places_in, Views.views_of_members, Views.views_of_part, Views.whole_view}
 use Rattle.plan_package.specs.WholeInterfaces.{PlansInterface}
-use Rattle.plan_laws.specs.Owners.{owners_of}
-use Rattle.plan_laws.specs.ShownRules.{ViewObeys}
-use Rattle.plan_laws.specs.Whole.{IsPackageInput}
-use Rattle.plan_laws.specs.WholeTypes.{IsRuledInput}
-use Rattle.plan_laws.proofs.FirstViews.{first_is, view_names}
-use Rattle.plan_laws.proofs.InterfaceFunctions.{view_becomes}
-use Rattle.plan_laws.proofs.Planned.{first_there, interface_there}
-use Rattle.plan_laws.proofs.Viewed.{zip_within}
-use Rattle.plan_laws.proofs.WholeTypes.{packages_are_ruled}
-use Rattle.base_lemmas.proofs.Bools.{left_of as first_true, right_of as second_true}
-use Rattle.base_lemmas.proofs.Elements.{all_at, contains-later}
-use Rattle.std.proofs.lemmas.Option.{same_Some as same-some}
+use Rattle.plan_laws.specs.{Owners.owners_of, ShownRules.ViewObeys, Whole.IsPackageInput, WholeTypes.IsRuledInput}
+use Rattle.base_lemmas.proofs.{Bools.left_of as first_true, Bools.right_of as second_true, Elements.all_at, Elements.contains-later}
+use Rattle.comp_meaning.specs.Reads as reads
 
 -- ---- the view that shows a function
 

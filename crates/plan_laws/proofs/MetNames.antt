@@ -1,20 +1,17 @@
 -- A name that stands inside a part is one of those that are met in its tree.
 use Rattle.std.proofs.Common.{◌≡◌, sym, ap, subst, ◌∙◌, ℕ, zero, suc, ◌+◌, ◌<◌, ◌⊎◌, inl, inr, arith, Bool, true, false, List, [], ◌∷◌, map, Option, Some, None, IfSome, option_map, option_to_list, slice_get}
+use Rattle.std.proofs.lemmas.{List.Elements.Contains-append_cases, Option.same_Some as same-some}
 use Rattle.std.specs.List.{AllByRecursion, Contains}
-use Rattle.wit_model.specs.Text.{Text}
-use Rattle.wit_model.specs.Tree as tree
-use Rattle.wit_model.specs.Tree.{Form, Place, Tree, Trees, children}
-use Rattle.std.proofs.lemmas.List.Elements.{Contains-append_cases}
+use Rattle.wit_model.specs.{Text.Text, Tree.Form, Tree.Place, Tree.Tree, Tree.Trees, Tree.children}
 use Rattle.wit_model.proofs.Elements.{none-in}
 use Rattle.read_shown.specs.Trees.{DeclarationStands, HandleStands, PartsStand, SignatureStands, TreeStands, is_handle}
 use Rattle.plan_meaning.specs.NumberedViews.{AllOf, AreTables, FunctionShape, IsPart, PartsOf, Tables, declaration_of, place_at, signature_over, tree_at}
 use Rattle.plan_meaning.specs.Shapes.{Shape, named_shape, node_shape}
-use Rattle.plan_meaning.proofs.ShapeLaws.{PartView, is_name, is_node, is_primitive, viewed}
+use Rattle.plan_meaning.proofs.{ShapeLaws.PartView, ShapeLaws.is_name, ShapeLaws.is_node, ShapeLaws.is_primitive, ShapeLaws.viewed, ShapesLemmas.no_sort}
 use Rattle.plan_types.specs.Used.{signature_parts}
 use Rattle.plan_laws.proofs.Inside.{IsIn, inside, itself, name_alone, name_same}
 use Rattle.base_lemmas.proofs.Elements.{last_of as one-contained}
-use Rattle.std.proofs.lemmas.Option.{same_Some as same-some}
-use Rattle.plan_meaning.proofs.ShapesLemmas.{no_sort}
+use Rattle.wit_model.specs.Tree as tree
 
 module _ (t : Tables) (tables : AreTables t) (Met : Place → Text → Bool → Type 0) (n q : ℕ) (name : Text) (at : slice_get t.shapes n ≡ Some (named_shape q name)) where
   -- the name is met, as a resource or as a type of values

@@ -1,31 +1,22 @@
 -- One world beside the interfaces of its package that it shows: the views that it gives come first, and are of all places under a path.
 use Rattle.std.proofs.Common.{◌≡◌, refl, sym, ap, subst, ◌∙◌, ℕ, zero, suc, ◌⊎◌, inl, inr, arith, Bool, true, false, ◌==◌, ◌&&◌, cond, List, [], ◌∷◌, ◌++◌}
+use Rattle.std.proofs.lemmas.{List.Elements.Contains-append_cases, List.Elements.Contains-append_left, Bool.and_from as both}
 use Rattle.std.specs.List.{AllByRecursion, AllZip, Contains}
-use Rattle.std.proofs.lemmas.List.Elements.{Contains-append_cases, Contains-append_left}
 use Rattle.wit_model.proofs.Elements.{none-in}
-use Rattle.plan_meaning.specs.GatheredPlan.{functions_seen}
+use Rattle.plan_meaning.specs.{GatheredPlan.functions_seen, NumberedViews.NumberedSight, NumberedViews.Tables, Plan.Plan, Plan.PlannedWorld}
 use Rattle.plan_meaning.specs.NumberedMembers.{Homes, NumberedMember, home_at, interface, sights_of_members, sights_of_part}
-use Rattle.plan_meaning.specs.NumberedViews.{NumberedSight, Tables}
 use Rattle.plan_meaning.specs.NumberedWorlds.{HasPath, NumberedInstance, NumberedScope, sights_of_instance, sights_of_scope}
-use Rattle.plan_meaning.specs.Plan.{Plan, PlannedWorld}
 use Rattle.plan_meaning.proofs.Lists.{no_true}
 use Rattle.read_exports.specs.Members.{numbered_members, numbered_part}
-use Rattle.read_exports.specs.declared.members.Member.{Member}
-use Rattle.read_exports.specs.declared.members.Part.{Part}
-use Rattle.read_exports.specs.declared.members.Part.TheVariants as parts
+use Rattle.read_exports.specs.declared.members.{Member.Member, Part.Part}
 use Rattle.read_rules.specs.declared.scopes.Scope.{Scope}
 use Rattle.read_rules.specs.Scopes.{numbered_scope}
-use Rattle.plan_package.specs.PlanWhole.{PlansWhole, places_in}
+use Rattle.plan_package.specs.{PlanWhole.PlansWhole, PlanWhole.places_in, WholeWorlds.PlansWorld, WholeWorlds.world_in_part, WholeWorlds.worlds_in}
 use Rattle.plan_package.specs.Views.{whole_view}
-use Rattle.plan_package.specs.WholeWorlds.{PlansWorld, world_in_part, worlds_in}
 use Rattle.plan_laws.specs.OneWorld.{AreOwnInterfaces, IsOwnInterface}
-use Rattle.plan_laws.proofs.FirstViews.{first_is}
-use Rattle.plan_laws.proofs.Inside.{flat_cases}
-use Rattle.plan_laws.proofs.ShownWhole.{view_given}
-use Rattle.plan_laws.proofs.WholePlacesTop.{sight_of_place}
-use Rattle.base_lemmas.proofs.Elements.{all_at, last_of as one-contained}
-use Rattle.base_lemmas.proofs.Numbers.{same-number}
-use Rattle.std.proofs.lemmas.Bool.{and_from as both}
+use Rattle.plan_laws.proofs.{FirstViews.first_is, Inside.flat_cases, ShownWhole.view_given, WholePlacesTop.sight_of_place}
+use Rattle.base_lemmas.proofs.{Elements.all_at, Elements.last_of as one-contained, Numbers.same-number}
+use Rattle.read_exports.specs.declared.members.Part.TheVariants as parts
 
 -- ---- views
 

@@ -1,28 +1,23 @@
 -- Each place without a path is of one world, or of one inline interface with one view.
 use Rattle.plan_meaning.proofs.Lists.{no_true}
-use Rattle.std.proofs.lemmas.Option.{same_Some as same-some}
-use Rattle.wit_model.proofs.UsesLemmas.{has_filter}
-use Rattle.plan_laws.proofs.PlaceNumbers.{IsOnce}
+use Rattle.std.proofs.lemmas.{Option.same_Some as same-some, Bool.not-true, Bool.and_from as both, Bool.false_from_ne_true}
 use Rattle.std.proofs.Common.{◌≡◌, refl, sym, ap, subst, ◌∙◌, ℕ, zero, suc, ◌+◌, ◌⊎◌, inl, inr, arith, Bool, true, false, not, filter, if◌then◌else◌, List, [], ◌∷◌, ◌++◌, length, length-append, map, Option, None, is_none, ◌≤◌, Some, slice_get, cond}
-use Rattle.std.specs.List.{AllByRecursion, Contains, flat_map}
-use Rattle.std.proofs.lemmas.Bool.{not-true, and_from as both, false_from_ne_true}
 use Rattle.std.proofs.lemmas.List.Elements.{Contains-append_cases, Contains-append_left, filter-append}
-use Rattle.wit_model.specs.Uses.{has}
-use Rattle.wit_model.proofs.Elements.{contains-has, has-contains, none-in, contains-get}
-use Rattle.comp_meaning.specs.Follow as follow
+use Rattle.wit_model.proofs.{UsesLemmas.has_filter, Elements.contains-has, Elements.has-contains, Elements.none-in, Elements.contains-get}
+use Rattle.plan_laws.proofs.{PlaceNumbers.IsOnce, Inside.flat_cases}
+use Rattle.std.specs.List.{AllByRecursion, Contains, flat_map}
+use Rattle.wit_model.specs.{Uses.has, Text.Text}
 use Rattle.comp_meaning.specs.Follow.{Direction, Instance, export_, import_}
-use Rattle.read_shown.specs.Instances as shown_instances
 use Rattle.read_shown.specs.Instances.{InstancesAreSeen, going, instances_in}
-use Rattle.wit_model.specs.Text.{Text}
 use Rattle.plan_meaning.specs.FollowedNumbers.{IsOneOf, IsScopeIn, IsSeenIn}
 use Rattle.plan_meaning.specs.NumberedMembers.{NumberedMember, NumberedPart, interface, world}
 use Rattle.plan_meaning.specs.NumberedViews.{NumberedView, Tables, path_at}
 use Rattle.plan_meaning.specs.NumberedWorlds.{HasPath, NumberedInstance, NumberedScope, NumberedSeen, NumberedShown, Shows, are_once, implementing, instance, instance_of, label, path, place_of_key, seen_of, shown_of}
 use Rattle.plan_type_laws.specs.ShownMarks.{has_no_path, own_places, places_of_part, places_of_seen, places_of_shown}
-use Rattle.plan_laws.proofs.Inside.{flat_cases}
-use Rattle.base_lemmas.proofs.Bools.{left_of as first_true, right_of as second_true}
+use Rattle.base_lemmas.proofs.{Bools.left_of as first_true, Bools.right_of as second_true, Lists.append_of_map, Lists.mapped_get}
 use Rattle.base_lemmas.proofs.Elements.{all_at, contains-later, contains-map, filter_keeps as in_filter, last_of as one-contained, get-contains}
-use Rattle.base_lemmas.proofs.Lists.{append_of_map, mapped_get}
+use Rattle.comp_meaning.specs.Follow as follow
+use Rattle.read_shown.specs.Instances as shown_instances
 
 -- ---- what stands at a number that stands once
 

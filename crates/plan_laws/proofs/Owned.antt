@@ -1,43 +1,26 @@
 -- Types that are planned are their owners', and are seen from there.
 use Rattle.std.proofs.Common.{◌≡◌, refl, sym, ap, subst, ◌∙◌, ℕ, ◌+◌, ◌<◌, ◌⊎◌, inl, inr, arith, true, List, length, Option, Some, None, slice_get}
-use Rattle.std.specs.List.{Contains}
-use Rattle.std.specs.Option.{option_map_or}
-use Rattle.std.proofs.lemmas.Option.{slice_get_within, same_Some as same-some}
-use Rattle.wit_model.specs.Text.{Text}
-use Rattle.wit_model.specs.Valid.{as_interface, as_world}
-use Rattle.wit_model.specs.Parts.{same_owner}
-use Rattle.wit_model.specs.Uses.{owner_interface}
-use Rattle.comp_meaning.specs.Reads as reads
-use Rattle.plan_meaning.specs.FollowedNumbers.{IsMetFrom, IsNameOf}
-use Rattle.plan_meaning.specs.GatheredPlan.{DeclaresKind}
+use Rattle.std.proofs.lemmas.{Option.slice_get_within, Option.same_Some as same-some, Slice.Zip.AllZip-long as zip_length}
+use Rattle.std.specs.{List.Contains, Option.option_map_or}
+use Rattle.wit_model.specs.{Text.Text, Valid.as_interface, Valid.as_world, Parts.same_owner, Uses.owner_interface}
+use Rattle.plan_meaning.specs.{FollowedNumbers.IsMetFrom, FollowedNumbers.IsNameOf, Plan.Plan, Plan.PlannedInterface, Plan.PlannedType, Plan.interface_in}
+use Rattle.plan_meaning.specs.{GatheredPlan.DeclaresKind, NumberedMembers.Homes, NumberedMembers.home_at, Shapes.Shape, Shapes.named_shape}
 use Rattle.plan_meaning.specs.KeptOwners.{AreOwned, IsNamedInterface, IsPlaceOf, of_interface, of_name}
-use Rattle.plan_meaning.specs.NumberedMembers.{Homes, home_at}
-use Rattle.plan_meaning.specs.NumberedRules.{IsSeenFrom, name_in}
-use Rattle.plan_meaning.specs.NumberedViews.{AllOf, Tables, itself}
+use Rattle.plan_meaning.specs.{NumberedRules.IsSeenFrom, NumberedRules.name_in, NumberedViews.AllOf, NumberedViews.Tables, NumberedViews.itself}
 use Rattle.plan_meaning.specs.NumberedWorlds.{HasPath}
-use Rattle.plan_meaning.specs.Plan.{Plan, PlannedInterface, PlannedType, interface_in}
-use Rattle.plan_meaning.specs.Shapes.{Shape, named_shape}
 use Rattle.read_exports.specs.Members.{numbered_members}
 use Rattle.read_exports.specs.declared.members.Member.{Member}
 use Rattle.plan_types.specs.PlannedTypes.{PlansType, named, number_in, owner_in, unnamed}
 use Rattle.plan_types.specs.Showings.{NumberedShowing, showings_of_members}
 use Rattle.plan_parts.proofs.DeclaredKinds.{kinds_declared}
-use Rattle.plan_package.specs.Views.{views_of_members}
-use Rattle.plan_package.specs.WholeInterfaces.{PlansPlace}
-use Rattle.plan_type_laws.proofs.FirstFound.{firsts_found}
-use Rattle.plan_type_laws.proofs.KeptKinds.{kinds_tell}
-use Rattle.plan_package.specs.PlanWhole.{PlansWhole, places_in, shown_first}
-use Rattle.plan_laws.specs.Owners.{PlannedTypesAreOwned, homes_in, owners_of}
-use Rattle.plan_laws.specs.ShownNames.{IsInput}
-use Rattle.plan_laws.proofs.Inside.{name_same}
-use Rattle.plan_laws.proofs.Sources.{if_given}
-use Rattle.plan_laws.proofs.PlaceNumbers.{number_given, owner_met, owners_apart}
-use Rattle.plan_laws.proofs.Planned.{home_alone, name_met, named_there}
-use Rattle.plan_laws.proofs.Showings.{showings_named}
-use Rattle.plan_laws.proofs.ViewNames.{same_place}
+use Rattle.plan_package.specs.{Views.views_of_members, WholeInterfaces.PlansPlace, PlanWhole.PlansWhole, PlanWhole.places_in, PlanWhole.shown_first}
+use Rattle.plan_type_laws.proofs.{FirstFound.firsts_found, KeptKinds.kinds_tell}
+use Rattle.plan_laws.specs.{Owners.PlannedTypesAreOwned, Owners.homes_in, Owners.owners_of, ShownNames.IsInput}
+use Rattle.plan_laws.proofs.{Inside.name_same, Sources.if_given, Planned.home_alone, Planned.name_met, Planned.named_there}
+use Rattle.plan_laws.proofs.{PlaceNumbers.number_given, PlaceNumbers.owner_met, PlaceNumbers.owners_apart, Showings.showings_named, ViewNames.same_place}
 use Rattle.base_lemmas.proofs.Elements.{get-contains, zip_at_right as zip_get}
-use Rattle.std.proofs.lemmas.Slice.Zip.{AllZip-long as zip_length}
 use Rattle.plan_package.proofs.ReadPackageLaws.{number_at as number_there}
+use Rattle.comp_meaning.specs.Reads as reads
 
 module _ (t : Tables) (h : Homes) (ms : List Member) (members : List reads.Member) (input : IsInput t h ms members) (main : ℕ) (p : Plan) (planned : PlansWhole t h.packages (home_at h) main ms p) where
   abbrev places : List ℕ

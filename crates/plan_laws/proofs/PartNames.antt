@@ -1,48 +1,35 @@
 -- A name that is used by what a part shows is shown by a view in its own place, or imported by the world.
-use Rattle.read_rules.specs.Reached.{numbered_import}
-use Rattle.read_exports.specs.declared.members.Part.{Part}
-use Rattle.read_exports.specs.declared.members.Member.{Member}
+use Rattle.read_rules.specs.{Reached.numbered_import, Scopes.numbered_instance, Scopes.numbered_scope, Scopes.numbered_seen, Scopes.numbered_shown}
+use Rattle.read_rules.specs.Tables.{given_text}
+use Rattle.read_exports.specs.declared.members.{Part.Part, Member.Member}
 use Rattle.std.proofs.Common.{◌≡◌, refl, sym, ap, subst, ◌∙◌, ℕ, zero, suc, ◌+◌, ◌⊎◌, inl, inr, arith, Bool, List, [], ◌∷◌, ◌++◌, length, map, Option, Some, slice_get}
 use Rattle.std.specs.List.{AllByRecursion, AllZip, Contains}
-use Rattle.wit_model.specs.Text.{Text}
-use Rattle.wit_model.specs.Names.{path_in}
-use Rattle.wit_model.specs.Tree.{Declaration, Place}
+use Rattle.wit_model.specs.{Text.Text, Names.path_in, Tree.Declaration, Tree.Place}
 use Rattle.wit_model.proofs.Elements.{contains-get}
-use Rattle.comp_meaning.specs.Follow as follow
-use Rattle.comp_meaning.specs.Follow.{Instance, place_of}
-use Rattle.comp_meaning.specs.Reads as reads
-use Rattle.comp_meaning.specs.Reads.{Part as MeantPart}
-use Rattle.read_shown.specs.Parts.{instances_of, named_instance}
-use Rattle.read_shown.specs.Scopes as scopes
+use Rattle.comp_meaning.specs.{Follow.Instance, Follow.place_of, Reads.Part as MeantPart}
+use Rattle.read_shown.specs.{Parts.instances_of, Parts.named_instance, Trees.SignatureStands, Views.ViewStands}
 use Rattle.read_shown.specs.Scopes.{IsDeclared, IsImported, IsMetInScope, IsShownBefore, ScopeStands, a_resource, a_value, name_of_instance, own_name}
-use Rattle.read_shown.specs.Trees.{SignatureStands}
-use Rattle.read_shown.specs.Views.{ViewStands}
 use Rattle.plan_meaning.specs.FollowedNumbers.{IsCalledIn, IsMetFrom, IsNameOf, IsPartIn, IsScopeIn, IsSeenIn, IsViewIn, AreMembersIn}
-use Rattle.plan_meaning.specs.NumberedMembers.{Homes, HomesStand, IsMember, ShowsPart}
+use Rattle.plan_meaning.specs.{NumberedMembers.Homes, NumberedMembers.HomesStand, NumberedMembers.IsMember, NumberedMembers.ShowsPart, Shapes.named_shape}
 use Rattle.plan_meaning.specs.NumberedViews.{AllOf, AreTables, IsPart, NumberedFunction, NumberedSight, NumberedType, NumberedView, Tables, function_at, path_at, path_text, place_at, signature_at, view_of}
 use Rattle.plan_meaning.specs.NumberedWorlds.{HasPath, Shows, seen_of, shown_of}
-use Rattle.plan_meaning.specs.Shapes.{named_shape}
 use Rattle.plan_meaning.proofs.NumberedWorlds.{path_is}
-use Rattle.read_rules.specs.declared.scopes.Scope.{Scope}
-use Rattle.read_rules.specs.declared.scopes.Seen.{Seen}
-use Rattle.read_rules.specs.declared.scopes.Shown.{Shown}
-use Rattle.read_rules.specs.declared.scopes.Shown.TheVariants as shown
-use Rattle.read_rules.specs.Scopes.{numbered_instance, numbered_scope, numbered_seen, numbered_shown}
-use Rattle.read_rules.specs.Tables.{given_text}
+use Rattle.read_rules.specs.declared.scopes.{Scope.Scope, Seen.Seen, Shown.Shown}
 use Rattle.read_exports.specs.Members.{numbered_part, numbered_member, numbered_members}
-use Rattle.read_exports.specs.declared.members.Part.TheVariants as parts
 use Rattle.plan_type_laws.specs.MembersStand.{all_instances}
-use Rattle.plan_types.specs.Showings.{NumberedShowing, showing_of}
-use Rattle.plan_types.specs.Used.{declared_parts, function_parts, showing_parts}
+use Rattle.plan_types.specs.{Showings.NumberedShowing, Showings.showing_of, Used.declared_parts, Used.function_parts, Used.showing_parts}
 use Rattle.plan_package.specs.Views.{types_alone, views_of_members, views_of_part, whole_view}
 use Rattle.plan_laws.specs.ShownNames.{DeclaresName, ImportsNumber, ShowsNumber}
-use Rattle.plan_laws.proofs.Inside.{IsIn, name_alone, name_in, name_same}
+use Rattle.plan_laws.proofs.{Inside.IsIn, Inside.name_alone, Inside.name_in, Inside.name_same, MetNames.in_declared, MetNames.in_signature}
 use Rattle.plan_laws.proofs.Sources.{Side, at_mapped, imported_showing, side_good, view_in, import_sights, own_sight}
-use Rattle.plan_laws.proofs.MetNames.{in_declared, in_signature}
 use Rattle.plan_laws.proofs.ViewNames.{declared_inside, function_shows, instance_tree, outside_shows, part_of_function, part_shows, path_back, text_of_place}
-use Rattle.base_lemmas.proofs.Elements.{all_at, get-contains}
-use Rattle.base_lemmas.proofs.Lists.{append_of_map, get_back as unmapped_get, map_of_map, mapped_get}
+use Rattle.base_lemmas.proofs.{Elements.all_at, Elements.get-contains, Lists.append_of_map, Lists.get_back as unmapped_get, Lists.map_of_map, Lists.mapped_get}
 use Rattle.plan_type_laws.proofs.PartPlaces.{parts_weaker, exported_place}
+use Rattle.comp_meaning.specs.Follow as follow
+use Rattle.comp_meaning.specs.Reads as reads
+use Rattle.read_shown.specs.Scopes as scopes
+use Rattle.read_rules.specs.declared.scopes.Shown.TheVariants as shown
+use Rattle.read_exports.specs.declared.members.Part.TheVariants as parts
 
 -- ---- the instances of a part, as trees
 

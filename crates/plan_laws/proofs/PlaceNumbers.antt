@@ -1,30 +1,21 @@
 -- Places by their numbers, and the owner of each.
 use Rattle.std.proofs.Common.{◌≡◌, refl, sym, ap, subst, ◌∙◌, ℕ, zero, suc, ◌+◌, ◌<◌, ◌≤◌, ◌⊎◌, inl, inr, arith, Bool, true, false, ◌==◌, nat_lt, cond, List, [], ◌∷◌, ◌++◌, length, Option, Some, None, slice_get, get_or}
-use Rattle.std.specs.List.{Contains, flat_map, position_or_len}
-use Rattle.std.specs.Option.{option_map_or}
-use Rattle.std.proofs.lemmas.Bool.{eqb-true, ltb-false}
-use Rattle.std.proofs.lemmas.List.Elements.{Contains-append_cases, Contains-append_left, Contains-append_right}
-use Rattle.std.proofs.lemmas.List.Sums.{fails_before_first}
-use Rattle.std.proofs.lemmas.Option.{slice_get_within, same_Some as same-some}
+use Rattle.std.proofs.lemmas.{Bool.eqb-true, Bool.ltb-false, Option.slice_get_within, Option.same_Some as same-some}
+use Rattle.std.proofs.lemmas.List.{Elements.Contains-append_cases, Elements.Contains-append_left, Elements.Contains-append_right, Sums.fails_before_first}
+use Rattle.std.specs.{List.Contains, List.flat_map, List.position_or_len, Option.option_map_or}
 use Rattle.wit_model.specs.declared.model.TypeOwner.{TypeOwner}
-use Rattle.wit_model.specs.declared.model.TypeOwner.TheVariants as owner
-use Rattle.wit_model.specs.Parts.{same_owner}
-use Rattle.wit_model.specs.Uses.{has}
-use Rattle.wit_model.specs.Valid.{as_interface, as_world}
-use Rattle.wit_model.proofs.Elements.{contains-has, has-contains, none-in}
+use Rattle.wit_model.specs.{Parts.same_owner, Uses.has, Valid.as_interface, Valid.as_world}
+use Rattle.wit_model.proofs.{Elements.contains-has, Elements.has-contains, Elements.none-in, PartsLemmas.owner_itself}
 use Rattle.read_shown.proofs.Lists.{at_end}
-use Rattle.plan_meaning.specs.NumberedMembers.{NumberedMember}
-use Rattle.plan_meaning.specs.ReadFunctions.{Beside}
+use Rattle.plan_meaning.specs.{NumberedMembers.NumberedMember, ReadFunctions.Beside}
 use Rattle.read_exports.specs.Members.{numbered_members}
 use Rattle.read_exports.specs.declared.members.Member.{Member}
-use Rattle.plan_types.specs.Orders.{joined, joined_all, places_of_part}
-use Rattle.plan_types.specs.PlannedTypes.{number_in, owner_in}
+use Rattle.plan_types.specs.{Orders.joined, Orders.joined_all, Orders.places_of_part, PlannedTypes.number_in, PlannedTypes.owner_in}
 use Rattle.plan_package.specs.PlanWhole.{places_in}
 use Rattle.plan_laws.specs.Owners.{homes_in, owner_of, owners_of}
-use Rattle.base_lemmas.proofs.Elements.{contains-one, get-contains, last_of as one-contained}
-use Rattle.base_lemmas.proofs.Numbers.{same-number}
+use Rattle.base_lemmas.proofs.{Elements.contains-one, Elements.get-contains, Elements.last_of as one-contained, Numbers.same-number}
 use Rattle.plan_package.proofs.ReadPackageLaws.{number_at as number_there}
-use Rattle.wit_model.proofs.PartsLemmas.{owner_itself}
+use Rattle.wit_model.specs.declared.model.TypeOwner.TheVariants as owner
 
 -- ---- numbers
 

@@ -1,35 +1,25 @@
 -- What is known of a plan that was made of what was followed: where names are shown, and the interface of each place.
-use Rattle.plan_meaning.specs.Renumbering.{IsPart, a_primitive, a_shape}
+use Rattle.plan_meaning.specs.{Renumbering.IsPart, Renumbering.a_primitive, Renumbering.a_shape, Plan.Plan, Plan.PlannedInterface, Plan.interface_in}
+use Rattle.plan_meaning.specs.{FollowedNumbers.IsPartIn, NumberedViews.NumberedSight, NumberedViews.Tables, NumberedViews.first_at, NumberedViews.path_at}
+use Rattle.plan_meaning.specs.NumberedMembers.{Homes, NumberedMember, NumberedPart, home_at, interface, world}
+use Rattle.plan_meaning.specs.{NumberedWorlds.HasPath, PlanRules.has_name, Shapes.named_shape}
 use Rattle.std.proofs.Common.{◌≡◌, refl, sym, ap, subst, ◌∙◌, ℕ, zero, suc, ◌⊎◌, inl, inr, arith, Bool, true, false, ◌==◌, cond, List, [], ◌∷◌, Some, None, option_map, is_some, slice_get, ◌+◌, Option}
-use Rattle.std.specs.List.{Contains, find, flat_map}
-use Rattle.std.specs.Option.{option_map_or}
+use Rattle.std.specs.{List.Contains, List.find, List.flat_map, Option.option_map_or}
 use Rattle.wit_model.specs.Text.{Text}
 use Rattle.wit_model.proofs.Elements.{contains-flat, none-in}
-use Rattle.comp_meaning.specs.Reads as reads
-use Rattle.plan_meaning.specs.FollowedNumbers.{IsPartIn}
-use Rattle.plan_meaning.specs.NumberedMembers.{Homes, NumberedMember, NumberedPart, home_at, interface, world}
-use Rattle.plan_meaning.specs.NumberedViews.{NumberedSight, Tables, first_at, path_at}
-use Rattle.plan_meaning.specs.NumberedWorlds.{HasPath}
-use Rattle.plan_meaning.specs.Plan.{Plan, PlannedInterface, interface_in}
-use Rattle.plan_meaning.specs.PlanRules.{has_name}
-use Rattle.plan_meaning.specs.Shapes.{named_shape}
 use Rattle.read_exports.specs.Members.{numbered_member, numbered_members, numbered_part}
 use Rattle.read_exports.specs.declared.members.Member.{Member}
-use Rattle.read_exports.specs.declared.members.Part.TheVariants as parts
 use Rattle.plan_types.specs.Orders.{home_of_part, places_of_part}
-use Rattle.plan_package.specs.Views.{views_of_members, views_of_part}
-use Rattle.plan_package.specs.WholeInterfaces.{PlansPlace}
+use Rattle.plan_package.specs.{Views.views_of_members, Views.views_of_part, WholeInterfaces.PlansPlace, PlanWhole.PlansWhole, PlanWhole.places_in}
 use Rattle.read_rules.specs.declared.scopes.Scope.{Scope}
 use Rattle.plan_type_laws.proofs.ShownForms.{mark_there}
-use Rattle.plan_package.specs.PlanWhole.{PlansWhole, places_in}
-use Rattle.plan_laws.specs.Owners.{homes_in}
-use Rattle.plan_laws.specs.ShownNames.{IsInput, IsShownByPart, by_import, by_view}
-use Rattle.plan_laws.proofs.Inside.{flat_cases}
-use Rattle.plan_laws.proofs.PlaceNumbers.{all_joined, from_joined}
-use Rattle.plan_laws.proofs.ShownNames.{names_are_shown}
+use Rattle.plan_laws.specs.{Owners.homes_in, ShownNames.IsInput, ShownNames.IsShownByPart, ShownNames.by_import, ShownNames.by_view}
+use Rattle.plan_laws.proofs.{Inside.flat_cases, PlaceNumbers.all_joined, PlaceNumbers.from_joined, ShownNames.names_are_shown}
 use Rattle.base_lemmas.proofs.Elements.{all_at, contains-map, get-contains, last_of as one-contained, map_from as from_map, zip_at}
 use Rattle.base_lemmas.proofs.Numbers.{same-number}
 use Rattle.plan_package.proofs.PlacedLaws.{part_placed as places_of_views}
+use Rattle.comp_meaning.specs.Reads as reads
+use Rattle.read_exports.specs.declared.members.Part.TheVariants as parts
 
 -- ---- lists
 

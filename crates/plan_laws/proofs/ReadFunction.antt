@@ -1,43 +1,29 @@
 -- A function of a plan is one that was read, where its resources are types of the plan.
 use Rattle.std.proofs.Common.{◌≡◌, refl, sym, ap, ◌∙◌, ℕ, ◌<◌, arith, min, Bool, true, false, List, [], ◌∷◌, length, Option, Some, None, slice_get}
+use Rattle.std.proofs.lemmas.{Option.slice_get_within, Slice.Zip.AllZip-long as zip_length}
 use Rattle.std.specs.List.{list_any}
-use Rattle.std.proofs.lemmas.Option.{slice_get_within}
-use Rattle.wit_model.specs.declared.model.FunctionKind.{FunctionKind}
-use Rattle.wit_model.specs.declared.model.TypeId.{TypeId}
-use Rattle.wit_model.specs.declared.model.TypeOwner.{TypeOwner}
-use Rattle.wit_model.specs.Lookup.{is_async}
-use Rattle.wit_model.specs.Text.{Text, text_eq}
-use Rattle.wit_model.specs.Tree.{Tree, levels}
-use Rattle.comp_meaning.specs.Reads as reads
-use Rattle.comp_meaning.specs.Rules as rules
+use Rattle.wit_model.specs.declared.model.{FunctionKind.FunctionKind, TypeId.TypeId, TypeOwner.TypeOwner}
+use Rattle.wit_model.specs.{Lookup.is_async, Text.Text, Text.text_eq, Tree.Tree, Tree.levels}
 use Rattle.comp_meaning.specs.Rules.{are_labels, are_parts, form_labels}
-use Rattle.plan_meaning.specs.FollowedNumbers.{IsMetFrom}
+use Rattle.plan_meaning.specs.{FollowedNumbers.IsMetFrom, Plan.Plan, Plan.PlannedFunction, Plan.PlannedKind, ReadFunctions.Beside, ReadFunctions.IsReadFunction}
 use Rattle.plan_meaning.specs.GatheredPlan.{DeclaresKind, FunctionBecomes, a_form, a_name, a_resource}
 use Rattle.plan_meaning.specs.KeptFunctions.{IsKindOf, IsResource, a_constructor, a_method, a_static, an_async_method, an_async_static, of_none}
-use Rattle.plan_meaning.specs.NumberedMembers.{Homes, home_at}
+use Rattle.plan_meaning.specs.{NumberedMembers.Homes, NumberedMembers.home_at, Shapes.named_shape}
 use Rattle.plan_meaning.specs.NumberedRules.{Fact, IsKnown, IsSeenFrom, begins_with_self, constructs, most_counted, nowhere}
 use Rattle.plan_meaning.specs.NumberedViews.{FunctionShape, IsPart, NumberedFunction, PartsOf, Tables, function_at, place_at, signature_at, tree_at}
-use Rattle.plan_meaning.specs.Plan as plan
-use Rattle.plan_meaning.specs.Plan.{Plan, PlannedFunction, PlannedKind}
-use Rattle.plan_meaning.specs.ReadFunctions.{Beside, IsReadFunction}
-use Rattle.plan_meaning.specs.Shapes.{named_shape}
 use Rattle.plan_meaning.proofs.NumberedRules.{function_same}
 use Rattle.plan_parts.specs.Interfaces.{IsPlannedFunction}
 use Rattle.plan_parts.proofs.FunctionLaws.{functions_become, kinds_are_named}
 use Rattle.read_exports.specs.declared.members.Member.{Member}
-use Rattle.plan_types.specs.Showings.{NumberedShowing}
-use Rattle.plan_types.specs.PlannedTypes.{PlansType}
+use Rattle.plan_types.specs.{Showings.NumberedShowing, PlannedTypes.PlansType}
 use Rattle.plan_package.specs.PlanWhole.{PlansWhole, owners_in, places_in, shown_first}
-use Rattle.plan_laws.specs.Owners.{homes_in, owners_of}
-use Rattle.plan_laws.specs.ShownNames.{IsInput}
-use Rattle.plan_laws.proofs.Owned.{planned_name, seen_from}
-use Rattle.plan_laws.proofs.PlaceNumbers.{owner_met}
-use Rattle.plan_laws.proofs.Planned.{name_met}
-use Rattle.plan_laws.proofs.ShownRules.{signature_of}
-use Rattle.base_lemmas.proofs.Bools.{and-true as and_true}
-use Rattle.base_lemmas.proofs.Lists.{within_there as slice_there}
-use Rattle.std.proofs.lemmas.Slice.Zip.{AllZip-long as zip_length}
+use Rattle.plan_laws.specs.{Owners.homes_in, Owners.owners_of, ShownNames.IsInput}
+use Rattle.plan_laws.proofs.{Owned.planned_name, Owned.seen_from, PlaceNumbers.owner_met, Planned.name_met, ShownRules.signature_of}
+use Rattle.base_lemmas.proofs.{Bools.and-true as and_true, Lists.within_there as slice_there}
 use Rattle.plan_type_laws.proofs.PartPlaces.{parts_weaker}
+use Rattle.comp_meaning.specs.Reads as reads
+use Rattle.comp_meaning.specs.Rules as rules
+use Rattle.plan_meaning.specs.Plan as plan
 
 -- ---- what is told of a part by its tree
 

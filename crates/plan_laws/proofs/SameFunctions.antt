@@ -1,20 +1,15 @@
 -- Views of one place that show functions show the same ones.
 use Rattle.std.proofs.Common.{◌≡◌, refl, sym, ap, subst, ◌∙◌, zero, suc, arith, true, not, ◌&&◌, ◌||◌, ◌==◌, List, [], ◌∷◌, length, map}
-use Rattle.std.specs.Bool.{Decides}
-use Rattle.std.specs.List.{Contains, list_all, list_any}
-use Rattle.std.proofs.lemmas.Bool.{and_from, eq-eqb, eqb-true, and_from as both}
-use Rattle.std.proofs.lemmas.Slice.Eq.{bytes_eq-Decides}
+use Rattle.std.proofs.lemmas.{Bool.and_from, Bool.eq-eqb, Bool.eqb-true, Bool.and_from as both, Slice.Eq.bytes_eq-Decides}
+use Rattle.std.specs.{Bool.Decides, List.Contains, List.list_all, List.list_any}
 use Rattle.wit_model.specs.Text.{Text, text_eq}
-use Rattle.wit_model.proofs.Elements.{none-in}
-use Rattle.comp_meaning.specs.Rules.{distinct}
-use Rattle.comp_meaning.specs.Same.{stand_in}
+use Rattle.wit_model.proofs.{Elements.none-in, TextLemmas.text_same}
+use Rattle.comp_meaning.specs.{Rules.distinct, Same.stand_in}
 use Rattle.comp_meaning.proofs.FunctionLists.{both_ways}
 use Rattle.plan_meaning.specs.NumberedViews.{NumberedFunction, NumberedSight, agree, agree_in_numbers, same_function, same_functions, same_id, same_types, same_whole}
 use Rattle.plan_meaning.proofs.Lists.{any_get}
 use Rattle.plan_laws.proofs.FirstViews.{option_same, same_of_option}
-use Rattle.base_lemmas.proofs.Bools.{left_of as first_true, right_of as second_true}
-use Rattle.base_lemmas.proofs.Elements.{all-contained, get-contains}
-use Rattle.wit_model.proofs.TextLemmas.{text_same}
+use Rattle.base_lemmas.proofs.{Bools.left_of as first_true, Bools.right_of as second_true, Elements.all-contained, Elements.get-contains}
 
 same_decides : (a b : NumberedFunction) → Decides (same_function a b) (a ≡ b)
 same_decides a b = (into, back)

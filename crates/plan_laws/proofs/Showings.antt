@@ -3,23 +3,19 @@ use Rattle.plan_type_laws.proofs.PartPlaces.{slot_number}
 use Rattle.std.proofs.Common.{◌≡◌, subst, ℕ, ◌+◌, inl, List, Option}
 use Rattle.std.specs.List.{Contains}
 use Rattle.wit_model.specs.Text.{Text}
-use Rattle.comp_meaning.specs.Reads as reads
-use Rattle.plan_meaning.specs.FollowedNumbers.{IsNameOf, IsPartIn, IsShownIn}
-use Rattle.plan_meaning.specs.NumberedMembers.{Homes}
-use Rattle.plan_meaning.specs.NumberedViews.{AreTables, Tables}
-use Rattle.plan_meaning.specs.Shapes.{named_shape}
-use Rattle.read_rules.specs.declared.scopes.Scope.{Scope}
-use Rattle.read_rules.specs.declared.scopes.Seen.{Seen}
-use Rattle.read_rules.specs.declared.scopes.Shown.{Shown}
-use Rattle.read_rules.specs.declared.scopes.Shown.TheVariants as shown
+use Rattle.plan_meaning.specs.{FollowedNumbers.IsNameOf, FollowedNumbers.IsPartIn, FollowedNumbers.IsShownIn, NumberedViews.AreTables, NumberedViews.Tables}
+use Rattle.plan_meaning.specs.{NumberedMembers.Homes, Shapes.named_shape}
+use Rattle.read_rules.specs.declared.scopes.{Scope.Scope, Seen.Seen, Shown.Shown}
 use Rattle.read_exports.specs.Members.{numbered_part}
 use Rattle.read_exports.specs.declared.members.Member.{Member}
-use Rattle.read_exports.specs.declared.members.Part.TheVariants as parts
 use Rattle.plan_types.specs.Showings.{NumberedShowing, showings_of_members}
 use Rattle.plan_laws.specs.ShownNames.{DeclaresName, IsInput, PartDeclaresNames}
-use Rattle.plan_laws.proofs.Sources as sources
 use Rattle.plan_laws.proofs.Sources.{origin, part_at, side_good, view_in}
 use Rattle.base_lemmas.proofs.Elements.{all_at}
+use Rattle.comp_meaning.specs.Reads as reads
+use Rattle.read_rules.specs.declared.scopes.Shown.TheVariants as shown
+use Rattle.read_exports.specs.declared.members.Part.TheVariants as parts
+use Rattle.plan_laws.proofs.Sources as sources
 pub use Rattle.plan_laws.proofs.Sources.{all_given}
 
 module _ (t : Tables) (tables : AreTables t) where

@@ -3,7 +3,6 @@ use Rattle.plan_type_laws.proofs.PartPlaces.{slot_number}
 use Rattle.std.proofs.Common.{◌≡◌, refl, sym, ap, subst, ◌∙◌, ℕ, arith, true, ◌&&◌, List, ◌++◌, map, Option, Some, None}
 use Rattle.std.specs.List.{Contains, list_all}
 use Rattle.wit_model.specs.Text.{Text}
-use Rattle.comp_meaning.specs.Reads as reads
 use Rattle.comp_meaning.specs.Rules.{distinct}
 use Rattle.plan_meaning.specs.FollowedNumbers.{IsShownIn, IsViewIn}
 use Rattle.plan_meaning.specs.NumberedMembers.{Homes, NumberedMember, sights_of_members}
@@ -14,20 +13,14 @@ use Rattle.read_exports.specs.Members.{numbered_members}
 use Rattle.read_exports.specs.declared.members.Member.{Member}
 use Rattle.plan_types.specs.Showings.{NumberedShowing, showings_of_members}
 use Rattle.plan_package.specs.Views.{views_of_members}
-use Rattle.plan_laws.specs.ShownAlike.{WholeIsShownAlike}
-use Rattle.plan_laws.specs.ShownRules.{ViewObeys}
-use Rattle.plan_laws.specs.Whole.{IsPackageInput}
-use Rattle.plan_laws.specs.WholeTypes.{IsRuledInput}
-use Rattle.plan_laws.proofs.FirstDeclared.{shown_alike}
-use Rattle.plan_laws.proofs.OwnPlaces.{Owned, a_view, a_world, frames, one_owned}
-use Rattle.plan_laws.proofs.SameFunctions.{IsOnce, function_shared}
-use Rattle.plan_laws.proofs.ShownFrom.{IsFrom, of_import, of_view, shown_from, view_frame}
+use Rattle.plan_laws.specs.{ShownAlike.WholeIsShownAlike, ShownRules.ViewObeys, Whole.IsPackageInput, WholeTypes.IsRuledInput}
+use Rattle.plan_laws.proofs.{FirstDeclared.shown_alike, ShownFrom.IsFrom, ShownFrom.of_import, ShownFrom.of_view, ShownFrom.shown_from, ShownFrom.view_frame}
+use Rattle.plan_laws.proofs.{OwnPlaces.Owned, OwnPlaces.a_view, OwnPlaces.a_world, OwnPlaces.frames, OwnPlaces.one_owned, WorldKeys.by_imports}
+use Rattle.plan_laws.proofs.{SameFunctions.IsOnce, SameFunctions.function_shared, WholeTypes.packages_are_ruled, WholeTypes.tests_hold}
 use Rattle.plan_laws.proofs.FirstViews.{sight_there, view_names}
-use Rattle.plan_laws.proofs.WholeTypes.{packages_are_ruled, tests_hold}
-use Rattle.plan_laws.proofs.WorldKeys.{by_imports}
 use Rattle.comp_meaning.proofs.AgreementLaws.{distinct_behind}
-use Rattle.base_lemmas.proofs.Bools.{right_of as second_true}
-use Rattle.base_lemmas.proofs.Elements.{all-contained, all_at}
+use Rattle.base_lemmas.proofs.{Bools.right_of as second_true, Elements.all-contained, Elements.all_at}
+use Rattle.comp_meaning.specs.Reads as reads
 
 abbrev pub view_owned : NumberedView → Owned → NumberedView
 view_owned default (a_view v) = v

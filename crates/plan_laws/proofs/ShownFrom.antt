@@ -1,33 +1,28 @@
 -- Where each type that is shown comes from: a view, or an import of a world.
 use Rattle.std.proofs.Common.{◌≡◌, refl, sym, ap, subst, ◌∙◌, ℕ, zero, ◌⊎◌, inl, inr, arith, true, filter, List, [], ◌∷◌, ◌++◌, map, Some, None}
-use Rattle.std.specs.List.{Contains}
 use Rattle.std.proofs.lemmas.List.Elements.{Contains-append_cases, Contains-append_left, Contains-append_right}
+use Rattle.std.specs.List.{Contains}
 use Rattle.wit_model.proofs.Elements.{contains-flat, none-in}
-use Rattle.comp_meaning.specs.Reads as reads
-use Rattle.plan_meaning.specs.FollowedNumbers.{IsPartIn, IsViewIn}
-use Rattle.plan_meaning.specs.NumberedMembers.{Homes, NumberedMember, world}
+use Rattle.plan_meaning.specs.{FollowedNumbers.IsPartIn, FollowedNumbers.IsViewIn, NumberedMembers.Homes, NumberedMembers.NumberedMember, NumberedMembers.world}
 use Rattle.plan_meaning.specs.NumberedViews.{NumberedSight, NumberedType, NumberedView, Tables, path_at}
-use Rattle.plan_meaning.specs.NumberedWorlds as worlds
 use Rattle.plan_meaning.specs.NumberedWorlds.{HasPath, NumberedInstance, NumberedSeen, NumberedShown, Shows, are_once, place_of_key, shown_of}
 use Rattle.read_exports.specs.Members.{numbered_member, numbered_members, numbered_part}
-use Rattle.read_exports.specs.declared.members.Member.{Member}
-use Rattle.read_exports.specs.declared.members.Part.{Part}
-use Rattle.read_exports.specs.declared.members.Part.TheVariants as parts
-use Rattle.read_rules.specs.declared.scopes.Scope.{Scope}
-use Rattle.read_rules.specs.declared.scopes.Seen.{Seen}
-use Rattle.read_rules.specs.declared.scopes.Shown.TheVariants as shown
-use Rattle.read_rules.specs.Reached.{numbered_import}
-use Rattle.read_rules.specs.Scopes.{numbered_instance, numbered_scope, numbered_seen}
+use Rattle.read_exports.specs.declared.members.{Member.Member, Part.Part}
+use Rattle.read_rules.specs.declared.{scopes.Scope.Scope, scopes.Seen.Seen, reached.ImportedView.ImportedView}
+use Rattle.read_rules.specs.{Reached.numbered_import, Scopes.numbered_instance, Scopes.numbered_scope, Scopes.numbered_seen}
 use Rattle.plan_types.specs.Showings.{NumberedShowing, showing_of, showings_of_members}
 use Rattle.plan_package.specs.Views.{types_alone, views_of_members, views_of_part, whole_view}
 use Rattle.plan_type_laws.specs.ShownMarks.{has_no_path, own_places, places_of_part}
 use Rattle.plan_laws.specs.ShownNames.{IsInput}
 use Rattle.plan_laws.proofs.Inside.{flat_cases}
-use Rattle.read_rules.specs.declared.reached.ImportedView.{ImportedView}
-use Rattle.plan_laws.proofs.Sources as sources
 use Rattle.plan_laws.proofs.Sources.{among_mapped, at_mapped, interface_views, mapped_cases, origin, own_sight, part_at, view_among, view_in, world_in, IsWorldIn}
 use Rattle.plan_laws.proofs.OwnPlaces.{Frame, a_view, a_world, frames, frames_of_part, frames_of_seen, frames_of_shown, inline_of, inline_seen, inlines, once_inside}
 use Rattle.base_lemmas.proofs.Elements.{contains-later, contains-map, last_of as one-contained, map_from as from_map}
+use Rattle.comp_meaning.specs.Reads as reads
+use Rattle.plan_meaning.specs.NumberedWorlds as worlds
+use Rattle.read_exports.specs.declared.members.Part.TheVariants as parts
+use Rattle.read_rules.specs.declared.scopes.Shown.TheVariants as shown
+use Rattle.plan_laws.proofs.Sources as sources
 
 module _ (t : Tables) (h : Homes) (ms : List Member) (members : List reads.Member) (input : IsInput t h ms members) (apart : are_once (own_places t (numbered_members ms)) ≡ true) where
   abbrev numbered : List NumberedMember

@@ -1,22 +1,15 @@
 -- Each name that the types of a plan use is shown in its own place.
 use Rattle.std.proofs.Common.{◌≡◌, sym, subst, ℕ, ◌⊎◌, inl, inr, List, map, Some, slice_get}
-use Rattle.std.specs.List.{Contains, flat_map}
 use Rattle.std.proofs.lemmas.List.Elements.{Contains-append_cases}
+use Rattle.std.specs.List.{Contains, flat_map}
 use Rattle.wit_model.specs.Text.{Text}
-use Rattle.comp_meaning.specs.Follow.{Instance}
-use Rattle.comp_meaning.specs.Reads as reads
-use Rattle.comp_meaning.specs.Reads.{Part as MeantPart}
-use Rattle.read_shown.specs.Scopes.{IsShownBefore}
-use Rattle.read_shown.specs.Views.{ViewStands}
-use Rattle.plan_meaning.specs.FollowedNumbers.{IsViewIn}
-use Rattle.plan_meaning.specs.NumberedMembers.{Homes, NumberedMember}
-use Rattle.plan_meaning.specs.NumberedViews.{NumberedSight, Tables, place_at, view_of}
-use Rattle.plan_meaning.specs.Shapes.{named_shape}
+use Rattle.comp_meaning.specs.{Follow.Instance, Reads.Part as MeantPart}
+use Rattle.read_shown.specs.{Scopes.IsShownBefore, Views.ViewStands}
+use Rattle.plan_meaning.specs.{FollowedNumbers.IsViewIn, NumberedViews.NumberedSight, NumberedViews.Tables, NumberedViews.place_at, NumberedViews.view_of}
+use Rattle.plan_meaning.specs.{NumberedMembers.Homes, NumberedMembers.NumberedMember, Shapes.named_shape}
 use Rattle.read_rules.specs.declared.scopes.Scope.{Scope}
 use Rattle.read_exports.specs.Members.{numbered_member, numbered_members, numbered_part}
-use Rattle.read_exports.specs.declared.members.Member.{Member}
-use Rattle.read_exports.specs.declared.members.Part.{Part}
-use Rattle.read_exports.specs.declared.members.Part.TheVariants as parts
+use Rattle.read_exports.specs.declared.members.{Member.Member, Part.Part}
 use Rattle.plan_type_laws.specs.MembersStand.{all_instances}
 use Rattle.plan_types.specs.Showings.{NumberedShowing, showings_of_members, signatures_of_members}
 use Rattle.plan_types.specs.Used.{function_parts, showing_parts, used_parts}
@@ -24,8 +17,10 @@ use Rattle.plan_package.specs.Views.{views_of_members, views_of_part}
 use Rattle.plan_laws.specs.ShownNames.{ImportsNumber, IsInput, IsShownByPart, ShowsNumber, UsedNamesAreShown, by_import, by_view}
 use Rattle.plan_laws.proofs.Inside.{IsIn, flat_cases, used_inside}
 use Rattle.plan_laws.proofs.PartNames.{import_showing, trees_of_all, view_showing, view_signature, world_signature}
-use Rattle.plan_laws.proofs.Sources as sources
 use Rattle.plan_laws.proofs.Sources.{IsSignedIn, IsWorldIn, all_of, mapped_cases, member_view_in, origin, signed, view_among, world_in}
+use Rattle.comp_meaning.specs.Reads as reads
+use Rattle.read_exports.specs.declared.members.Part.TheVariants as parts
+use Rattle.plan_laws.proofs.Sources as sources
 pub use Rattle.plan_laws.proofs.Sources.{beside}
 use Rattle.plan_laws.proofs.ViewNames.{instance_tree}
 use Rattle.base_lemmas.proofs.Lists.{mapped_get}

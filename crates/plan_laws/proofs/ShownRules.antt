@@ -1,47 +1,37 @@
 -- What is shown obeys the rules of reading.
-use Rattle.std.proofs.lemmas.Slice.Eq.{bytes_eq-Decides}
+use Rattle.std.proofs.lemmas.{Slice.Eq.bytes_eq-Decides, List.Elements.Contains-append_cases}
 use Rattle.std.proofs.Common.{◌≡◌, refl, sym, ap, subst, ◌∙◌, ℕ, zero, suc, ◌+◌, ◌⊎◌, inl, inr, arith, Bool, true, false, ◌&&◌, ◌||◌, List, [], ◌∷◌, ◌++◌, map, Option}
 use Rattle.std.specs.List.{AllByRecursion, Contains, list_all, list_any}
-use Rattle.std.proofs.lemmas.List.Elements.{Contains-append_cases}
-use Rattle.wit_model.specs.Names.{is_label}
-use Rattle.wit_model.specs.Meaning.{FunctionMeaning, Signature}
-use Rattle.wit_model.specs.Text.{Text, text_eq}
-use Rattle.wit_model.specs.Tree.{Place, Declaration}
+use Rattle.wit_model.specs.{Names.is_label, Meaning.FunctionMeaning, Meaning.Signature, Text.Text, Text.text_eq, Tree.Place, Tree.Declaration}
 use Rattle.wit_model.proofs.Elements.{none-in}
-use Rattle.comp_meaning.specs.Follow as follow
 use Rattle.comp_meaning.specs.Follow.{Direction, Instance, export_, import_, interface_of, place_of}
-use Rattle.comp_meaning.specs.Reads as reads
-use Rattle.comp_meaning.specs.Rules as rules
 use Rattle.comp_meaning.specs.Rules.{distinct}
-use Rattle.read_shown.specs.Instances.{going, instances_in}
-use Rattle.read_shown.specs.Instances as shown_instances
-use Rattle.read_shown.specs.Parts.{WorldStands}
+use Rattle.read_shown.specs.{Instances.going, Instances.instances_in, Parts.WorldStands}
 use Rattle.plan_meaning.specs.FollowedNumbers.{IsCalledIn, IsMetFrom, IsNameOf, IsShownIn, IsViewIn}
 use Rattle.plan_meaning.specs.NumberedMembers.{Homes, IsKnownSight, NumberedMember, are_interfaces, sights_of_members, sights_of_part}
 use Rattle.plan_meaning.specs.NumberedRules.{Fact, is_interface}
 use Rattle.plan_meaning.specs.NumberedViews.{AreTables, IsPart, NumberedFunction, NumberedSight, NumberedType, Tables, declaration_of, function_at, place_at, shown_function, shown_type, signature_at, view_of}
 use Rattle.plan_meaning.specs.NumberedWorlds.{NumberedSeen, instance_of, seen_of, shown_of}
 use Rattle.plan_meaning.proofs.NumberedRules.{interface_same}
-use Rattle.read_rules.specs.declared.scopes.Scope.{Scope}
-use Rattle.read_rules.specs.declared.scopes.Seen.{Seen}
-use Rattle.read_rules.specs.declared.scopes.Shown.{Shown}
-use Rattle.read_rules.specs.declared.scopes.Shown.TheVariants as shown
-use Rattle.read_rules.specs.Scopes.{numbered_instance, numbered_seen, numbered_shown}
-use Rattle.read_rules.specs.Tables.{given_text}
+use Rattle.read_rules.specs.declared.scopes.{Scope.Scope, Seen.Seen, Shown.Shown}
+use Rattle.read_rules.specs.{Scopes.numbered_instance, Scopes.numbered_seen, Scopes.numbered_shown, Tables.given_text}
 use Rattle.read_exports.specs.Members.{numbered_member, numbered_members, numbered_part}
-use Rattle.read_exports.specs.declared.members.Member.{Member}
-use Rattle.read_exports.specs.declared.members.Part.{Part}
-use Rattle.read_exports.specs.declared.members.Part.TheVariants as parts
+use Rattle.read_exports.specs.declared.members.{Member.Member, Part.Part}
 use Rattle.plan_types.specs.Showings.{NumberedShowing, showing_of, showings_of_members, signatures_of_members}
 use Rattle.plan_package.specs.Views.{views_of_members, views_of_part, whole_view}
 use Rattle.plan_type_laws.proofs.Walks.{all_unmapped}
 use Rattle.plan_type_laws.specs.UsedParts.{SignatureObeys}
 use Rattle.plan_laws.specs.ShownNames.{IsInput}
 use Rattle.plan_laws.specs.ShownRules.{PartObeys, RulesAreObeyed, ShownObeysRules, TypeObeys, ViewObeys}
-use Rattle.plan_laws.proofs.Inside.{flat_cases}
-use Rattle.plan_laws.proofs.Sources as sources
+use Rattle.plan_laws.proofs.{Inside.flat_cases, Showings.import_named}
 use Rattle.plan_laws.proofs.Sources.{IsWorldIn, Side, among_mapped, imported_showing, mapped_cases, member_there, origin, part_at, side_good, signed, view_in, world_in}
-use Rattle.plan_laws.proofs.Showings.{import_named}
+use Rattle.comp_meaning.specs.Follow as follow
+use Rattle.comp_meaning.specs.Reads as reads
+use Rattle.comp_meaning.specs.Rules as rules
+use Rattle.read_shown.specs.Instances as shown_instances
+use Rattle.read_rules.specs.declared.scopes.Shown.TheVariants as shown
+use Rattle.read_exports.specs.declared.members.Part.TheVariants as parts
+use Rattle.plan_laws.proofs.Sources as sources
 pub use Rattle.plan_laws.proofs.Sources.{all_of}
 use Rattle.base_lemmas.proofs.Bools.{left_of as first_true, right_of as second_true}
 use Rattle.base_lemmas.proofs.Elements.{all-contained, all_at, contains-later, contains-map, last_of as one-contained, map_from as from_map}

@@ -1,55 +1,34 @@
 -- The worlds of a plan show what worlds at the top do, and each view shows the types by which its place is read.
-use Rattle.plan_laws.proofs.ShownFrom.{own_once}
+use Rattle.plan_laws.proofs.{ShownFrom.own_once, Inside.flat_cases, InstanceSeen.instance_seen, Planned.found_there}
+use Rattle.plan_laws.proofs.{Sources.Side, Sources.partner, Sources.world_in as world_of, PlaceNumbers.one_owner, PlaceNumbers.owner_numbered}
+use Rattle.plan_laws.proofs.{FirstTypes.views_told, FirstViews.first_is, FirstViews.told_types, WholePlacesLabels.world_among, WholeTypes.packages_are_ruled}
 use Rattle.std.proofs.Common.{◌≡◌, refl, sym, ap, subst, ◌∙◌, ℕ, inl, inr, ◌==◌, true, List, [], ◌∷◌, ◌++◌, map, Option, Some, None}
-use Rattle.std.specs.List.{AllByRecursion, AllZip, Contains}
-use Rattle.std.specs.Option.{option_map_or}
-use Rattle.std.specs.Cmp.Lexicographic.{pointwise}
-use Rattle.std.proofs.lemmas.List.Elements.{Contains-append_left, Contains-append_right}
-use Rattle.wit_model.specs.Text.{Text}
-use Rattle.wit_model.specs.declared.model.TypeId.{TypeId}
-use Rattle.wit_model.specs.declared.model.TypeOwner.{TypeOwner}
-use Rattle.wit_model.specs.Valid.{as_interface, as_world}
+use Rattle.std.proofs.lemmas.{List.Elements.Contains-append_left, List.Elements.Contains-append_right, Option.same_Some as same-some}
+use Rattle.std.specs.{List.AllByRecursion, List.AllZip, List.Contains, Option.option_map_or, Cmp.Lexicographic.pointwise}
+use Rattle.wit_model.specs.{Text.Text, Valid.as_interface, Valid.as_world}
+use Rattle.wit_model.specs.declared.model.{TypeId.TypeId, TypeOwner.TypeOwner}
 use Rattle.wit_model.proofs.Elements.{contains-flat, contains-get, none-in}
-use Rattle.comp_meaning.specs.Reads as reads
 use Rattle.plan_meaning.specs.NumberedMembers.{Homes, NumberedMember, NumberedPart, home_at, interface, sights_of_members, sights_of_part, world}
-use Rattle.plan_meaning.specs.NumberedRules.{Fact}
-use Rattle.plan_meaning.specs.NumberedViews.{NumberedSight, Tables, path_at, same_shown}
-use Rattle.plan_meaning.specs.NumberedWorlds.{NumberedInstance, place_of_key, sights_of_instance}
-use Rattle.plan_meaning.specs.Plan as plan
+use Rattle.plan_meaning.specs.{NumberedRules.Fact, ReadWholes.IsShownByWorld, ReadWholes.place_shown}
+use Rattle.plan_meaning.specs.{NumberedViews.NumberedSight, NumberedViews.Tables, NumberedViews.path_at, NumberedViews.same_shown, ReadFunctions.Beside}
+use Rattle.plan_meaning.specs.{NumberedWorlds.NumberedInstance, NumberedWorlds.place_of_key, NumberedWorlds.sights_of_instance, ReadPlans.IsReadPlan}
 use Rattle.plan_meaning.specs.Plan.{Plan, PlannedItem, PlannedKey, PlannedWorld, item_interface, world_in}
-use Rattle.plan_meaning.specs.ReadFunctions.{Beside}
-use Rattle.plan_meaning.specs.ReadPlans.{IsReadPlan}
-use Rattle.plan_meaning.specs.ReadWholes.{IsShownByWorld, place_shown}
 use Rattle.plan_meaning.specs.ReadWorlds.{IsReadItem, IsReadWorld, ReadItem, a_function, a_type, by_label, by_path, implementing_path}
 use Rattle.read_exports.specs.Members.{numbered_members}
 use Rattle.read_exports.specs.declared.members.Member.{Member}
-use Rattle.read_exports.specs.declared.members.Part.TheVariants as parts
-use Rattle.read_rules.specs.declared.scopes.Scope.{Scope}
-use Rattle.read_rules.specs.declared.scopes.Seen.{Seen}
+use Rattle.read_rules.specs.declared.scopes.{Scope.Scope, Seen.Seen}
 use Rattle.read_rules.specs.Scopes.{numbered_key, numbered_scope, numbered_shown}
 use Rattle.plan_types.specs.PlannedTypes.{number_in}
-use Rattle.plan_package.specs.PlanWhole.{PlansWhole, places_in}
+use Rattle.plan_package.specs.{PlanWhole.PlansWhole, PlanWhole.places_in, WholeWorlds.PlansItem, WholeWorlds.PlansWorld, WholeWorlds.worlds_in}
 use Rattle.plan_package.specs.Views.{views_of_members, views_of_part, whole_view}
-use Rattle.plan_package.specs.WholeWorlds as items
-use Rattle.plan_package.specs.WholeWorlds.{PlansItem, PlansWorld, worlds_in}
-use Rattle.plan_laws.specs.FirstViews.{ViewsAreOrdered}
+use Rattle.plan_laws.specs.{FirstViews.ViewsAreOrdered, ShownWhole.WholeIsShown, ViewedInterfaces.views_read, Whole.IsPackageInput, WholeTypes.IsRuledInput}
 use Rattle.plan_laws.specs.Owners.{owners_of}
-use Rattle.plan_laws.specs.ShownWhole.{WholeIsShown}
-use Rattle.plan_laws.specs.ViewedInterfaces.{views_read}
-use Rattle.plan_laws.specs.Whole.{IsPackageInput}
-use Rattle.plan_laws.specs.WholeTypes.{IsRuledInput}
-use Rattle.plan_laws.proofs.Sources.{Side, partner, world_in as world_of}
-use Rattle.plan_laws.proofs.FirstTypes.{views_told}
-use Rattle.plan_laws.proofs.FirstViews.{first_is, told_types}
-use Rattle.plan_laws.proofs.Inside.{flat_cases}
-use Rattle.plan_laws.proofs.InstanceSeen.{instance_seen}
-use Rattle.plan_laws.proofs.PlaceNumbers.{one_owner, owner_numbered}
-use Rattle.plan_laws.proofs.Planned.{found_there}
-use Rattle.plan_laws.proofs.WholePlacesLabels.{world_among}
-use Rattle.plan_laws.proofs.WholeTypes.{packages_are_ruled}
 use Rattle.base_lemmas.proofs.Elements.{all_at, contains-map, last_of as one-contained, zip_at, map_from as from_map}
 use Rattle.base_lemmas.proofs.Numbers.{same-number}
-use Rattle.std.proofs.lemmas.Option.{same_Some as same-some}
+use Rattle.comp_meaning.specs.Reads as reads
+use Rattle.plan_meaning.specs.Plan as plan
+use Rattle.read_exports.specs.declared.members.Part.TheVariants as parts
+use Rattle.plan_package.specs.WholeWorlds as items
 
 -- the view that an instance gives, if its place has a path
 pub view_given : (t : Tables) (i : NumberedInstance) (s : NumberedSight) → Contains (sights_of_instance t i) s → whole_view i ≡ s

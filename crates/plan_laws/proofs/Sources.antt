@@ -1,43 +1,35 @@
 -- Where what is shown stands: a type in a view or as an import of a world, and a function in a whole view or in a world.
 use Rattle.std.proofs.Common.{◌≡◌, refl, sym, ap, subst, ◌∙◌, ℕ, suc, ◌⊎◌, inl, inr, true, false, List, [], ◌∷◌, ◌++◌, map, Option, Some, None, slice_get}
-use Rattle.std.specs.Borrow.{Bor}
-use Rattle.std.specs.List.{AllByRecursion, AllZip, Contains, flat_map}
 use Rattle.std.proofs.lemmas.List.Elements.{Contains-append_cases, Contains-append_left, Contains-append_right}
+use Rattle.std.proofs.lemmas.Option.{same_Some as same-some}
+use Rattle.std.specs.{Borrow.Bor, List.AllByRecursion, List.AllZip, List.Contains, List.flat_map}
 use Rattle.wit_model.specs.Text.{Text}
 use Rattle.wit_model.proofs.Elements.{contains-flat, contains-get, none-in}
-use Rattle.comp_meaning.specs.Follow as follow
-use Rattle.comp_meaning.specs.Reads as reads
 use Rattle.comp_meaning.specs.Rules.{distinct}
 use Rattle.read_shown.proofs.Lists.{one_place}
-use Rattle.std.proofs.lemmas.Option.{same_Some as same-some}
 use Rattle.read_shown.specs.Parts.{PartStands, WorldStands}
-use Rattle.read_shown.specs.Scopes as scopes
 use Rattle.plan_meaning.specs.FollowedNumbers.{AreMembersIn, IsOneOf, IsPartIn, IsScopeIn, IsSeenIn, IsViewIn}
 use Rattle.plan_meaning.specs.NumberedMembers.{Homes, IsMember, NumberedMember, ShowsPart}
 use Rattle.plan_meaning.specs.NumberedViews.{AllOf, NumberedFunction, NumberedSight, NumberedType, NumberedView, Tables}
 use Rattle.plan_meaning.specs.NumberedWorlds.{HasPath, NumberedInstance, NumberedSeen, Shows, place_of_key, seen_of, shown_of}
 use Rattle.plan_meaning.specs.ReadWorlds.{is_type_seen}
-use Rattle.read_rules.specs.declared.reached.ImportedView.{ImportedView}
-use Rattle.read_rules.specs.declared.scopes.InstanceKey.{InstanceKey}
-use Rattle.read_rules.specs.declared.scopes.Scope.{Scope}
-use Rattle.read_rules.specs.declared.scopes.Seen.{Seen}
-use Rattle.read_rules.specs.declared.scopes.Shown.{Shown}
-use Rattle.read_rules.specs.declared.scopes.Shown.TheVariants as shown
-use Rattle.read_rules.specs.declared.views.View.{View}
-use Rattle.read_rules.specs.Reached.{numbered_import}
+use Rattle.read_rules.specs.declared.{reached.ImportedView.ImportedView, scopes.InstanceKey.InstanceKey, scopes.Scope.Scope, scopes.Shown.Shown}
+use Rattle.read_rules.specs.declared.{scopes.Seen.Seen, views.View.View}
+use Rattle.read_rules.specs.{Reached.numbered_import, Tables.given_text, Views.numbered_view}
 use Rattle.read_rules.specs.Scopes.{numbered_instance, numbered_key, numbered_scope, numbered_seen, numbered_shown}
-use Rattle.read_rules.specs.Tables.{given_text}
-use Rattle.read_rules.specs.Views.{numbered_view}
 use Rattle.read_exports.specs.Members.{numbered_member, numbered_members, numbered_part}
-use Rattle.read_exports.specs.declared.members.Member.{Member}
-use Rattle.read_exports.specs.declared.members.Part.{Part}
-use Rattle.read_exports.specs.declared.members.Part.TheVariants as parts
+use Rattle.read_exports.specs.declared.members.{Member.Member, Part.Part}
 use Rattle.plan_types.specs.Showings.{NumberedShowing, showing_of, showings_of_import, showings_of_members, showings_of_part, showings_of_seen, showings_of_shown, showings_of_view, signatures_of_members, signatures_of_part, signatures_of_seen, signatures_of_shown}
 use Rattle.plan_package.specs.Views.{types_alone, views_of_members, views_of_part, whole_view}
 use Rattle.plan_laws.specs.ShownNames.{DeclaresName, IsInput, PartDeclaresNames}
 use Rattle.plan_laws.proofs.Inside.{flat_cases}
 use Rattle.base_lemmas.proofs.Elements.{all_at, contains-map, contains-one, get-contains, last_of as one-contained, map_from as from_map, zip_at, zip_at_right}
 use Rattle.base_lemmas.proofs.Lists.{mapped_get}
+use Rattle.comp_meaning.specs.Follow as follow
+use Rattle.comp_meaning.specs.Reads as reads
+use Rattle.read_shown.specs.Scopes as scopes
+use Rattle.read_rules.specs.declared.scopes.Shown.TheVariants as shown
+use Rattle.read_exports.specs.declared.members.Part.TheVariants as parts
 
 -- ---- lists
 

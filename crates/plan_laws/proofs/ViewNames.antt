@@ -1,28 +1,20 @@
 -- A name that is met in a view was shown in its own place.
 use Rattle.std.proofs.Common.{◌≡◌, refl, sym, ap, subst, ◌∙◌, ℕ, suc, zero, ◌+◌, ◌⊎◌, inl, inr, arith, Bool, true, false, if◌then◌else◌, List, [], ◌∷◌, length, map, Option, Some, None, slice_get}
-use Rattle.std.specs.List.{Contains}
-use Rattle.std.specs.Option.{option_map_or}
-use Rattle.wit_model.specs.Text.{Text}
-use Rattle.wit_model.specs.Tree.{Place}
+use Rattle.std.specs.{List.Contains, Option.option_map_or}
+use Rattle.wit_model.specs.{Text.Text, Tree.Place}
 use Rattle.wit_model.proofs.Elements.{contains-get, none-in, contains-has}
 use Rattle.comp_meaning.specs.Follow.{Instance, ShownType, place_of}
-use Rattle.read_shown.specs.Scopes.{IsShownBefore}
-use Rattle.read_shown.specs.Trees.{DeclarationStands}
+use Rattle.read_shown.specs.{Scopes.IsShownBefore, Trees.DeclarationStands}
 use Rattle.read_shown.specs.Views.{IsMetInView, ShowsName, ViewStands, inside as met_inside, outside as met_outside}
 use Rattle.plan_meaning.specs.FollowedNumbers.{IsCalledIn, IsMetFrom, IsNameOf, IsShownIn, IsSlotOf, IsViewIn}
-use Rattle.plan_meaning.specs.NumberedRules.{is_form, shape_at}
+use Rattle.plan_meaning.specs.{NumberedRules.is_form, NumberedRules.shape_at, NumberedWorlds.HasPath, Shapes.Shape, Shapes.named_shape}
 use Rattle.plan_meaning.specs.NumberedViews.{AllOf, AreTables, FunctionShape, IsPart, NumberedFunction, NumberedSight, NumberedType, PartsOf, Tables, declaration_of, function_at, path_at, place_at, shown_function, shown_type, view_of}
-use Rattle.plan_meaning.specs.NumberedWorlds.{HasPath}
-use Rattle.plan_meaning.specs.Shapes.{Shape, named_shape}
 use Rattle.plan_parts.specs.Interfaces.{slot_part}
 use Rattle.plan_types.specs.Used.{declared_parts, form_parts, signature_parts}
-use Rattle.plan_type_laws.proofs.ShownForms.{numbered_shape, function_part}
+use Rattle.plan_type_laws.proofs.{ShownForms.numbered_shape, ShownForms.function_part, PartPlaces.parts_weaker, PartPlaces.slot_number}
 use Rattle.plan_laws.specs.ShownNames.{ShowsNumber}
-use Rattle.plan_laws.proofs.Inside.{IsIn, inside, name_alone, name_in, name_same}
-use Rattle.plan_laws.proofs.MetNames.{in_declared, in_signature}
-use Rattle.base_lemmas.proofs.Elements.{all_at, get-contains, last_of as one-contained}
-use Rattle.base_lemmas.proofs.Lists.{get_back as unmapped_get, mapped_get}
-use Rattle.plan_type_laws.proofs.PartPlaces.{parts_weaker, slot_number}
+use Rattle.plan_laws.proofs.{Inside.IsIn, Inside.inside, Inside.name_alone, Inside.name_in, Inside.name_same, MetNames.in_declared, MetNames.in_signature}
+use Rattle.base_lemmas.proofs.{Elements.all_at, Elements.get-contains, Elements.last_of as one-contained, Lists.get_back as unmapped_get, Lists.mapped_get}
 
 -- ---- parts
 

@@ -1,20 +1,15 @@
 -- What a place is read by obeys the rules on interfaces.
 use Rattle.std.proofs.Common.{◌≡◌, refl, ap, subst, ◌∙◌, ℕ, suc, arith, Bool, true, false, ◌&&◌, ◌==◌, if◌then◌else◌, List, [], ◌∷◌, ◌++◌, map, Option}
+use Rattle.std.proofs.lemmas.{Bool.eqb-true, List.append-nil}
 use Rattle.std.specs.List.{Contains, list_all}
-use Rattle.std.proofs.lemmas.Bool.{eqb-true}
-use Rattle.std.proofs.lemmas.List.{append-nil}
-use Rattle.wit_model.specs.Text.{Text}
-use Rattle.wit_model.specs.Tree.{Place}
-use Rattle.wit_model.specs.Meaning.{FunctionMeaning}
-use Rattle.wit_model.specs.Names.{is_label}
-use Rattle.comp_meaning.specs.Follow.{ShownType}
-use Rattle.comp_meaning.specs.Rules as rules
-use Rattle.comp_meaning.specs.Rules.{distinct, is_declared, is_function, is_resource, resources_of}
-use Rattle.read_shown.proofs.Agreement as agreement
+use Rattle.wit_model.specs.{Text.Text, Tree.Place, Meaning.FunctionMeaning, Names.is_label}
+use Rattle.comp_meaning.specs.{Follow.ShownType, Rules.distinct, Rules.is_declared, Rules.is_function, Rules.is_resource, Rules.resources_of}
 use Rattle.plan_meaning.specs.GatheredPlan.{functions_seen}
 use Rattle.plan_meaning.specs.NumberedViews.{NumberedFunction, NumberedSight, NumberedType, Tables, declaration_of, place_at, shown_function, shown_type, view_of}
 use Rattle.plan_laws.specs.FirstViews.{told}
 use Rattle.base_lemmas.proofs.Bools.{left_of as first_true}
+use Rattle.comp_meaning.specs.Rules as rules
+use Rattle.read_shown.proofs.Agreement as agreement
 
 -- ---- the rules look at what is told alone
 

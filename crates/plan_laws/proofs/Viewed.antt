@@ -1,61 +1,42 @@
 -- Each interface of the plan is read by the first view of its place.
 use Rattle.plan_type_laws.proofs.PartPlaces.{slot_number}
 use Rattle.std.proofs.Common.{◌≡◌, refl, sym, ap, subst, ◌∙◌, ℕ, suc, ◌<◌, ◌⊎◌, inl, inr, arith, true, List, [], ◌∷◌, ◌++◌, length, map, Option, Some, None, option_map, slice_get}
-use Rattle.std.specs.List.{AllZip, Contains, flat_map}
-use Rattle.std.specs.Option.{option_map_or}
-use Rattle.std.proofs.lemmas.List.Elements.{Contains-append_left}
+use Rattle.std.proofs.{lemmas.List.Elements.Contains-append_left, ByRecursion.All-weaker as recursion_weaker, lemmas.Slice.Zip.AllZip-long as zip_length}
 use Rattle.std.proofs.lemmas.Option.{slice_get_within}
-use Rattle.wit_model.specs.Text.{Text}
-use Rattle.wit_model.specs.Names.{is_label}
-use Rattle.wit_model.specs.Rules.{passes}
+use Rattle.std.specs.{List.AllZip, List.Contains, List.flat_map, Option.option_map_or}
+use Rattle.wit_model.specs.{Text.Text, Names.is_label, Rules.passes, Valid.as_interface}
 use Rattle.wit_model.specs.declared.model.TypeOwner.{TypeOwner}
-use Rattle.wit_model.specs.Valid.{as_interface}
 use Rattle.wit_model.proofs.NameLaws.{read_path_is_spelled}
-use Rattle.comp_meaning.specs.Reads as reads
-use Rattle.comp_meaning.specs.Rules as rules
 use Rattle.comp_meaning.specs.Follow.{Instance}
 use Rattle.read_shown.specs.Scopes.{IsInstanceBefore}
 use Rattle.read_shown.proofs.Uses.{use_stands_before}
-use Rattle.plan_meaning.specs.FollowedNumbers.{IsMetFrom, IsShownIn}
+use Rattle.plan_meaning.specs.{FollowedNumbers.IsMetFrom, FollowedNumbers.IsShownIn, Plan.Plan, Plan.PlannedInterface, Plan.interface_in}
 use Rattle.plan_meaning.specs.GatheredPlan.{DeclaresKind, TypeListed, functions_seen}
 use Rattle.plan_meaning.specs.NumberedMembers.{Homes, NumberedMember, home_at, sights_of_members}
 use Rattle.plan_meaning.specs.NumberedViews.{AllOf, IsPart, NumberedSight, NumberedType, Tables, agree_in_numbers, first_at, path_at, path_text, place_at, view_of}
-use Rattle.plan_meaning.specs.NumberedWorlds.{DeclaresParts, HasPath, used_by_view}
-use Rattle.plan_meaning.specs.Plan.{Plan, PlannedInterface, interface_in}
-use Rattle.plan_meaning.specs.ReadFunctions.{Beside}
+use Rattle.plan_meaning.specs.{NumberedWorlds.DeclaresParts, NumberedWorlds.HasPath, NumberedWorlds.used_by_view, ReadFunctions.Beside, Shapes.named_shape}
 use Rattle.plan_meaning.specs.ReadInterfaces.{HasName, IsKeptAs, IsNamed, IsNumberOf, IsReadInterface}
 use Rattle.plan_meaning.specs.ReadOrder.{InterfacesAreViewed, IsUsedPlace, IsViewedInterface, itself, smaller}
-use Rattle.plan_meaning.specs.Shapes.{named_shape}
 use Rattle.plan_meaning.proofs.NumberedWorlds.{path_is, view_paths, view_uses}
 use Rattle.plan_parts.specs.Interfaces.{IsPlannedFunction, slot_part}
 use Rattle.read_exports.specs.Members.{numbered_members}
 use Rattle.read_exports.specs.declared.members.Member.{Member}
-use Rattle.plan_types.specs.Orders.{joined_all, places_of_part}
-use Rattle.plan_types.specs.PlannedTypes.{PlansType, number_in}
+use Rattle.plan_types.specs.{Orders.joined_all, Orders.places_of_part, PlannedTypes.PlansType, PlannedTypes.number_in}
 use Rattle.plan_package.specs.PlanWhole.{PlansWhole, owners_in, places_in, shown_first}
 use Rattle.plan_package.specs.Views.{views_of_members, views_of_part}
 use Rattle.plan_package.specs.WholeInterfaces.{ListsNumber, PlansInterface, PlansPlace}
 use Rattle.plan_type_laws.specs.MembersStand.{all_instances}
-use Rattle.plan_laws.specs.FirstViews.{IsRisingView, ViewsAreOrdered}
-use Rattle.plan_laws.specs.Owners.{owners_of}
-use Rattle.plan_laws.specs.ShownNames.{IsInput}
-use Rattle.plan_laws.specs.ViewedInterfaces.{PlannedInterfacesAreViewed, views_read}
-use Rattle.plan_laws.proofs.FirstPlaces.{first_split, number_before}
-use Rattle.plan_laws.proofs.FirstTypes.{first_told, views_told}
-use Rattle.plan_laws.proofs.FirstViews.{first_is}
+use Rattle.plan_laws.specs.{FirstViews.IsRisingView, FirstViews.ViewsAreOrdered, ViewedInterfaces.PlannedInterfacesAreViewed, ViewedInterfaces.views_read}
+use Rattle.plan_laws.specs.{Owners.owners_of, ShownNames.IsInput}
+use Rattle.plan_laws.proofs.{FirstPlaces.first_split, FirstPlaces.number_before, FirstTypes.first_told, FirstTypes.views_told, ViewNames.instance_tree}
+use Rattle.plan_laws.proofs.{FirstViews.first_is, Planned.first_there, Planned.kept_number, Sources.if_given, Sources.member_view_in, ViewRules.seen_obeys}
 use Rattle.plan_laws.proofs.Owned.{planned_name}
-use Rattle.plan_laws.proofs.PartNames.{trees_of_all}
-use Rattle.plan_laws.proofs.PlaceNumbers.{all_joined, number_given, owner_numbered, place_number}
-use Rattle.plan_laws.proofs.Planned.{first_there, kept_number}
-use Rattle.plan_laws.proofs.Sources.{if_given, member_view_in}
-use Rattle.plan_laws.proofs.ViewNames.{instance_tree}
-use Rattle.plan_laws.proofs.ViewRules.{seen_obeys}
+use Rattle.plan_laws.proofs.{PartNames.trees_of_all, PlaceNumbers.all_joined, PlaceNumbers.number_given, PlaceNumbers.owner_numbered, PlaceNumbers.place_number}
 use Rattle.base_lemmas.proofs.Elements.{all_at, contains-map, get-contains, map_from as from_map, zip-kept as zip-weaker, zip_at_right as zip_get}
 use Rattle.base_lemmas.proofs.Lists.{append_of_map, get_back as unmapped_get, mapped_get, middle_get, slice_front as front_get, within_there as slice_there}
-use Rattle.std.proofs.ByRecursion.{All-weaker as recursion_weaker}
-use Rattle.std.proofs.lemmas.Slice.Zip.{AllZip-long as zip_length}
-use Rattle.plan_package.proofs.PlacedLaws.{part_placed as places_of_views}
-use Rattle.plan_package.proofs.ReadPackageLaws.{number_at as number_there}
+use Rattle.plan_package.proofs.{PlacedLaws.part_placed as places_of_views, ReadPackageLaws.number_at as number_there}
+use Rattle.comp_meaning.specs.Reads as reads
+use Rattle.comp_meaning.specs.Rules as rules
 
 -- what stands beside the same elements
 zip_beside : {A B C : Type 0} (P : A → B → Type 0) (Q : A → C → Type 0) (R : B → C → Type 0) (xs : List A) → ((x : A) → Contains xs x → (b : B) (c : C) → P x b → Q x c → R b c)

@@ -3,19 +3,16 @@ use Rattle.base_lemmas.proofs.Lists.{map_of_map}
 use Rattle.std.proofs.Common.{◌≡◌, refl, sym, ap, subst, ◌∙◌, ℕ, true, List, map, Option, Some, None}
 use Rattle.std.specs.List.{Contains}
 use Rattle.wit_model.specs.Text.{Text}
-use Rattle.comp_meaning.specs.Reads as reads
-use Rattle.plan_meaning.specs.NumberedMembers.{Homes, NumberedMember, sights_of_members}
+use Rattle.plan_meaning.specs.{NumberedMembers.Homes, NumberedMembers.NumberedMember, NumberedMembers.sights_of_members, NumberedWorlds.are_once}
 use Rattle.plan_meaning.specs.NumberedViews.{NumberedSight, NumberedType, NumberedView, Tables, agree_in_numbers, path_at}
-use Rattle.plan_meaning.specs.NumberedWorlds.{are_once}
 use Rattle.read_exports.specs.Members.{numbered_members}
 use Rattle.read_exports.specs.declared.members.Member.{Member}
 use Rattle.plan_package.specs.Views.{views_of_members}
 use Rattle.plan_type_laws.specs.ShownMarks.{own_places}
-use Rattle.plan_laws.specs.ShownNames.{IsInput}
-use Rattle.plan_laws.proofs.FirstViews.{one_told, sight_there}
-use Rattle.plan_laws.specs.FirstViews.{told as told_all}
+use Rattle.plan_laws.specs.{ShownNames.IsInput, FirstViews.told as told_all}
+use Rattle.plan_laws.proofs.{FirstViews.one_told, FirstViews.sight_there, ShownFrom.view_frame}
 use Rattle.plan_laws.proofs.OwnPlaces.{Frame, Owned, a_view, a_world, frames, one_owned}
-use Rattle.plan_laws.proofs.ShownFrom.{view_frame}
+use Rattle.comp_meaning.specs.Reads as reads
 
 -- the name of a type that is shown, and what it is declared as
 abbrev pub told : NumberedType → Text × Option ℕ

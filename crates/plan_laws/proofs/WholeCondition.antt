@@ -1,77 +1,44 @@
 -- A plan can be made of what was followed: all that is shown is over types that are used.
-use Rattle.plan_type_laws.proofs.PartPlaces.{slot_number}
+use Rattle.plan_type_laws.proofs.{PartPlaces.slot_number, InnerForms.name_there, ShownMarks.names_marked, UsedWalk.unnamed_node}
+use Rattle.plan_type_laws.proofs.{FirstFound.firsts_found, ShownForms.form_unnamed, ShownForms.mark_there, ShownForms.numbered_shape, ShownForms.used_form}
 use Rattle.std.proofs.Common.{◌≡◌, refl, sym, ap, subst, ◌∙◌, ℕ, ◌+◌, ◌-◌, ◌<◌, ◌≤◌, ◌⊎◌, inl, inr, arith, Bool, true, false, ◌==◌, nat_lt, cond, List, [], ◌∷◌, length, map, option_to_list, Option, Some, None, slice_get}
-use Rattle.std.specs.Prelude.{not}
-use Rattle.std.specs.List.{AllByRecursion, Contains, flat_map}
-use Rattle.std.specs.Option.{option_map_or}
-use Rattle.std.proofs.lemmas.Bool.{eq-eqb, ltb-false, ltb-true}
-use Rattle.std.proofs.lemmas.List.Elements.{Contains-append_left, Contains-append_right}
-use Rattle.std.proofs.lemmas.Option.{slice_get_within}
+use Rattle.std.proofs.lemmas.{Bool.eq-eqb, Bool.ltb-false, Bool.ltb-true, List.Elements.Contains-append_left, List.Elements.Contains-append_right}
+use Rattle.std.proofs.{lemmas.Option.slice_get_within, ByRecursion.All-weaker as recursion_weaker}
+use Rattle.std.specs.{Prelude.not, List.AllByRecursion, List.Contains, List.flat_map, Option.option_map_or}
 use Rattle.wit_model.specs.Text.{Text}
 use Rattle.wit_model.proofs.Elements.{contains-flat, contains-get, contains-has}
-use Rattle.comp_meaning.specs.Reads as reads
-use Rattle.plan_meaning.specs.FollowedNumbers.{IsMetFrom, IsScopeIn, IsShownIn}
-use Rattle.plan_meaning.specs.KeptResources.{FormIsMarked}
-use Rattle.plan_meaning.specs.NumberedMembers.{Homes, NumberedMember}
+use Rattle.plan_meaning.specs.{FollowedNumbers.IsMetFrom, FollowedNumbers.IsScopeIn, FollowedNumbers.IsShownIn, Renumbering.a_primitive, Renumbering.a_shape}
+use Rattle.plan_meaning.specs.{KeptResources.FormIsMarked, NumberedWorlds.place_of_key}
+use Rattle.plan_meaning.specs.{NumberedMembers.Homes, NumberedMembers.NumberedMember, Shapes.IsShape, Shapes.Shape, Shapes.named_shape}
 use Rattle.plan_meaning.specs.NumberedRules.{Fact, is_form, name_at, name_in, shape_at}
 use Rattle.plan_meaning.specs.NumberedViews.{AllOf, FunctionShape, IsPart, NumberedSight, NumberedType, NumberedView, PartsOf, Tables, function_at}
-use Rattle.plan_meaning.specs.NumberedWorlds.{place_of_key}
-use Rattle.plan_meaning.specs.Renumbering.{a_primitive, a_shape}
-use Rattle.plan_meaning.specs.Shapes as shapes
-use Rattle.plan_meaning.specs.Shapes.{IsShape, Shape, named_shape}
 use Rattle.plan_meaning.proofs.Lists.{no_true}
-use Rattle.plan_parts.specs.Interfaces.{IsFunctionOver, IsKeptSlot, slot_part}
-use Rattle.plan_parts.specs.Kept.{IsKeptPart}
-use Rattle.plan_parts.specs.Kinds.{MayBeDeclared, a_part, nothing, over_parts}
-use Rattle.plan_parts.specs.Marks.{IsUsed, is_marked, marked, part}
+use Rattle.plan_parts.specs.{Interfaces.IsFunctionOver, Interfaces.IsKeptSlot, Interfaces.slot_part, Marks.IsUsed, Marks.is_marked, Marks.marked, Marks.part}
+use Rattle.plan_parts.specs.{Kept.IsKeptPart, Kinds.MayBeDeclared, Kinds.a_part, Kinds.nothing, Kinds.over_parts}
 use Rattle.read_exports.specs.Members.{numbered_member, numbered_members, numbered_part}
-use Rattle.read_exports.specs.declared.members.Member.{Member}
-use Rattle.read_exports.specs.declared.members.Part.{Part}
-use Rattle.read_exports.specs.declared.members.Part.TheVariants as parts
-use Rattle.read_rules.specs.declared.reached.ImportedView.{ImportedView}
-use Rattle.read_rules.specs.declared.scopes.Scope.{Scope}
-use Rattle.read_rules.specs.declared.scopes.Seen.{Seen}
-use Rattle.read_rules.specs.declared.scopes.Shown.{Shown}
-use Rattle.read_rules.specs.declared.scopes.Shown.TheVariants as shown
-use Rattle.read_rules.specs.Reached.{numbered_import}
-use Rattle.read_rules.specs.Scopes.{numbered_instance, numbered_key, numbered_scope}
-use Rattle.read_rules.specs.Tables.{given_text}
+use Rattle.read_exports.specs.declared.members.{Member.Member, Part.Part}
+use Rattle.read_rules.specs.declared.{reached.ImportedView.ImportedView, scopes.Scope.Scope, scopes.Seen.Seen, scopes.Shown.Shown}
+use Rattle.read_rules.specs.{Reached.numbered_import, Scopes.numbered_instance, Scopes.numbered_key, Scopes.numbered_scope, Tables.given_text}
 use Rattle.plan_types.specs.PlannedTypes.{MayBePlanned, a_form, a_name}
 use Rattle.plan_types.specs.Showings.{NumberedShowing, showing_of, showings_of_members, showings_of_shown, signatures_of_members, signatures_of_shown}
 use Rattle.plan_types.specs.Used.{declared_parts, form_parts, function_parts, showing_parts, signature_parts, used_parts}
 use Rattle.plan_package.specs.PlanWhole.{AreKeptFor, IsKeptWhole, MayBeWhole, places_in, shown_first}
-use Rattle.plan_package.specs.Views.{types_alone, views_of_members, views_of_part, whole_view}
-use Rattle.plan_package.specs.WholeInterfaces.{ViewIsKept}
+use Rattle.plan_package.specs.{Views.types_alone, Views.views_of_members, Views.views_of_part, Views.whole_view, WholeInterfaces.ViewIsKept}
 use Rattle.plan_package.specs.WholeWorlds.{SeenIsKept, SeenIsPlaced, ShownIsKept, ShownIsPlaced, WorldIsKept, WorldIsPlaced, worlds_in}
-use Rattle.plan_type_laws.specs.ShownForms.{EachForm}
-use Rattle.plan_type_laws.specs.ShownMarks.{MarksStand}
-use Rattle.plan_type_laws.specs.UsedParts.{SignatureObeys}
-use Rattle.plan_type_laws.proofs.FirstFound.{firsts_found}
-use Rattle.plan_type_laws.proofs.InnerForms.{name_there}
-use Rattle.plan_type_laws.proofs.ShownForms.{form_unnamed, mark_there, numbered_shape, used_form}
-use Rattle.plan_type_laws.proofs.ShownMarks.{names_marked}
-use Rattle.plan_type_laws.proofs.UsedWalk.{unnamed_node}
-use Rattle.plan_laws.specs.ShownNames.{IsShownByPart, by_import, by_view}
-use Rattle.plan_laws.specs.ShownRules.{TypeObeys}
-use Rattle.plan_laws.specs.Whole.{IsPackageInput}
-use Rattle.plan_laws.specs.WholeCondition.{ImportsAreBare, PartIsBare, WholeMayBePlanned}
-use Rattle.plan_laws.specs.WholeTypes.{IsRuledInput}
-use Rattle.plan_laws.proofs.FormCounts.{HasCount, form_over, forms_count}
-use Rattle.plan_laws.proofs.Inside.{flat_cases, within}
-use Rattle.plan_laws.proofs.InstanceSeen.{seen_showing, seen_signature, shown_so}
+use Rattle.plan_type_laws.specs.{ShownForms.EachForm, ShownMarks.MarksStand, UsedParts.SignatureObeys}
+use Rattle.plan_laws.specs.{ShownNames.IsShownByPart, ShownNames.by_import, ShownNames.by_view, ShownRules.TypeObeys, Whole.IsPackageInput}
+use Rattle.plan_laws.specs.{WholeCondition.ImportsAreBare, WholeCondition.PartIsBare, WholeCondition.WholeMayBePlanned, WholeTypes.IsRuledInput}
+use Rattle.plan_laws.proofs.{FormCounts.HasCount, FormCounts.form_over, FormCounts.forms_count, Planned.found_there, Planned.view_met, WorldItems.world_member}
+use Rattle.plan_laws.proofs.{Inside.flat_cases, Inside.within, ShownAlike.functions_alike, WholeTypes.packages_are_ruled, ViewNames.part_of_function as part_of}
+use Rattle.plan_laws.proofs.{InstanceSeen.seen_showing, InstanceSeen.seen_signature, InstanceSeen.shown_so, ViewsAgree.told, ViewsAgree.views_tell}
 use Rattle.plan_laws.proofs.Sources.{Side, at_mapped, interface_views, mapped_cases, own_sight, seen_sight, sight_of, view_among, world_in, member_view_in}
-use Rattle.plan_laws.proofs.Planned.{found_there, view_met}
-use Rattle.plan_laws.proofs.ShownAlike.{functions_alike}
-use Rattle.plan_laws.proofs.ShownNames.{names_are_shown}
-use Rattle.plan_laws.proofs.ShownRules.{all_of}
-use Rattle.plan_laws.proofs.ViewsAgree.{told, views_tell}
-use Rattle.plan_laws.proofs.WholeReasons.{there_marked}
-use Rattle.plan_laws.proofs.WholeTypes.{packages_are_ruled}
-use Rattle.plan_laws.proofs.WorldItems.{world_member}
+use Rattle.plan_laws.proofs.{ShownNames.names_are_shown, ShownRules.all_of, WholeReasons.there_marked}
 use Rattle.base_lemmas.proofs.Elements.{all_at, contains-map, contains-one, map_from as from_map}
 use Rattle.base_lemmas.proofs.Lists.{get_back as unmapped_get, mapped_get, within_there as slice_there}
-use Rattle.std.proofs.ByRecursion.{All-weaker as recursion_weaker}
-use Rattle.plan_laws.proofs.ViewNames.{part_of_function as part_of}
+use Rattle.comp_meaning.specs.Reads as reads
+use Rattle.plan_meaning.specs.Shapes as shapes
+use Rattle.read_exports.specs.declared.members.Part.TheVariants as parts
+use Rattle.read_rules.specs.declared.scopes.Shown.TheVariants as shown
 
 -- ---- parts of functions
 

@@ -1,56 +1,37 @@
 -- The functions of a whole plan are those that were read.
-use Rattle.plan_type_laws.proofs.PartPlaces.{slot_number}
+use Rattle.plan_type_laws.proofs.{PartPlaces.slot_number, FirstFound.firsts_found}
 use Rattle.plan_laws.proofs.Sources.{Side, partner_back, side_good, side_shows, world_in, IsWorldIn}
-use Rattle.plan_laws.proofs.ShownRules.{IsItemAmong, IsResourceIn, item_obeys}
+use Rattle.plan_laws.proofs.{ShownRules.IsItemAmong, ShownRules.IsResourceIn, ShownRules.item_obeys, WorldItems.world_member as world_there}
+use Rattle.plan_laws.proofs.{Inside.flat_cases, Inside.name_same, Planned.kept_number}
+use Rattle.plan_laws.proofs.{ReadFunction.function_becomes, ReadFunction.read_function, ReadFunction.resource_at, ReadFunction.told, Showings.import_named}
+use Rattle.plan_laws.proofs.{ShownFrom.IsFrom, ShownFrom.of_import, ShownFrom.of_view, ShownFrom.shown_from, WorldKeys.by_imports, WorldKeys.view_apart}
 use Rattle.std.proofs.Common.{◌≡◌, refl, sym, ap, subst, ◌∙◌, ℕ, zero, ◌+◌, ◌⊎◌, inl, inr, arith, Bool, true, false, filter_map, List, [], ◌∷◌, map, Option, Some, None, slice_get}
+use Rattle.std.proofs.lemmas.{List.Elements.Contains-append_cases, Option.same_Some as same-some}
 use Rattle.std.specs.List.{AllByRecursion, AllZip, Contains, cons_option, flat_map}
-use Rattle.std.proofs.lemmas.List.Elements.{Contains-append_cases}
-use Rattle.wit_model.specs.declared.model.TypeId.{TypeId}
-use Rattle.wit_model.specs.Text.{Text}
+use Rattle.wit_model.specs.declared.model.{TypeId.TypeId, TypeOwner.TypeOwner}
+use Rattle.wit_model.specs.{Text.Text, Tree.Declaration}
 use Rattle.wit_model.proofs.Elements.{contains-flat, contains-get, none-in}
-use Rattle.wit_model.specs.declared.model.TypeOwner.{TypeOwner}
-use Rattle.wit_model.specs.Tree.{Declaration}
-use Rattle.comp_meaning.specs.Follow as follow
 use Rattle.comp_meaning.specs.Follow.{place_of}
-use Rattle.comp_meaning.specs.Reads as reads
-use Rattle.comp_meaning.specs.Rules as rules
-use Rattle.plan_meaning.specs.FollowedNumbers.{IsCalledIn, IsNameOf, IsShownIn}
-use Rattle.plan_meaning.specs.GatheredPlan.{FunctionBecomes}
-use Rattle.plan_meaning.specs.KeptFunctions.{IsResource}
-use Rattle.plan_meaning.specs.NumberedMembers.{Homes, home_at}
-use Rattle.plan_meaning.specs.NumberedRules.{Fact, is_no_part}
+use Rattle.plan_meaning.specs.{FollowedNumbers.IsCalledIn, FollowedNumbers.IsNameOf, FollowedNumbers.IsShownIn, NumberedWorlds.seen_of, NumberedWorlds.shown_of}
+use Rattle.plan_meaning.specs.{GatheredPlan.FunctionBecomes, NumberedMembers.Homes, NumberedMembers.home_at, ReadFunctions.Beside, ReadFunctions.IsReadFunction}
+use Rattle.plan_meaning.specs.{KeptFunctions.IsResource, NumberedRules.Fact, NumberedRules.is_no_part, PlanRules.world_functions, Shapes.named_shape}
 use Rattle.plan_meaning.specs.NumberedViews.{NumberedType, PartsOf, Tables, value, function_at, place_at, signature_at}
-use Rattle.plan_meaning.specs.NumberedWorlds.{seen_of, shown_of}
 use Rattle.plan_meaning.specs.Plan.{Plan, PlannedFunction, PlannedItem, PlannedKey, PlannedWorld, item_function, items_of}
-use Rattle.plan_meaning.specs.PlanRules.{world_functions}
-use Rattle.plan_meaning.specs.ReadFunctions.{Beside, IsReadFunction}
-use Rattle.plan_meaning.specs.Shapes.{named_shape}
 use Rattle.plan_parts.specs.Interfaces.{AreResources, IsPlannedFunction, slot_part}
 use Rattle.read_exports.specs.declared.members.Member.{Member}
-use Rattle.read_exports.specs.declared.members.Part.TheVariants as parts
-use Rattle.read_rules.specs.declared.scopes.Scope.{Scope}
-use Rattle.read_rules.specs.declared.scopes.Seen.{Seen}
-use Rattle.read_rules.specs.declared.scopes.Shown.{Shown}
-use Rattle.read_rules.specs.declared.scopes.Shown.TheVariants as shown
-use Rattle.read_rules.specs.Scopes.{numbered_seen, numbered_shown}
-use Rattle.read_rules.specs.Tables.{given_text}
+use Rattle.read_rules.specs.declared.scopes.{Scope.Scope, Seen.Seen, Shown.Shown}
+use Rattle.read_rules.specs.{Scopes.numbered_seen, Scopes.numbered_shown, Tables.given_text}
 use Rattle.plan_types.specs.Showings.{NumberedShowing, showings_of_members, signatures_of_members, signatures_of_part, signatures_of_seen, signatures_of_shown}
 use Rattle.plan_package.specs.PlanWhole.{PlansWhole, places_in, shown_first}
 use Rattle.plan_package.specs.WholeWorlds.{PlansItem, a_function, a_type, an_instance, types_seen, types_shown}
-use Rattle.plan_type_laws.proofs.FirstFound.{firsts_found}
-use Rattle.plan_laws.specs.Owners.{owners_of}
-use Rattle.plan_laws.specs.ShownNames.{IsInput}
-use Rattle.plan_laws.specs.WholeFunctions.{WorldFunctionsAreRead, beside_tables}
-use Rattle.plan_laws.specs.WholeTypes.{IsRuledInput, TypesAreWhole}
-use Rattle.plan_laws.proofs.Inside.{flat_cases, name_same}
-use Rattle.plan_laws.proofs.ReadFunction.{function_becomes, read_function, resource_at, told}
-use Rattle.plan_laws.proofs.Planned.{kept_number}
-use Rattle.plan_laws.proofs.Showings.{import_named}
-use Rattle.plan_laws.proofs.ShownFrom.{IsFrom, of_import, of_view, shown_from}
-use Rattle.plan_laws.proofs.WorldKeys.{by_imports, view_apart}
+use Rattle.plan_laws.specs.{Owners.owners_of, ShownNames.IsInput}
+use Rattle.plan_laws.specs.{WholeFunctions.WorldFunctionsAreRead, WholeFunctions.beside_tables, WholeTypes.IsRuledInput, WholeTypes.TypesAreWhole}
 use Rattle.base_lemmas.proofs.Elements.{all_at, contains-later, contains-one, get-contains, last_of as one-contained, map_from as from_map}
-use Rattle.std.proofs.lemmas.Option.{same_Some as same-some}
-use Rattle.plan_laws.proofs.WorldItems.{world_member as world_there}
+use Rattle.comp_meaning.specs.Follow as follow
+use Rattle.comp_meaning.specs.Reads as reads
+use Rattle.comp_meaning.specs.Rules as rules
+use Rattle.read_exports.specs.declared.members.Part.TheVariants as parts
+use Rattle.read_rules.specs.declared.scopes.Shown.TheVariants as shown
 
 -- ---- lists
 

@@ -1,36 +1,22 @@
 -- A plan that was made of what was followed means what that means.
 use Rattle.std.proofs.Common.{◌≡◌, sym, ap, subst, ◌∙◌, ℕ, ◌<◌, arith, refl, List, length, Some, slice_get}
-use Rattle.std.specs.List.{AllZip}
 use Rattle.std.proofs.lemmas.Option.{slice_get_within, same_Some as same-some}
+use Rattle.std.specs.List.{AllZip}
 use Rattle.wit_model.specs.Names.{PackageIdentity}
-use Rattle.comp_meaning.specs.Reads as reads
-use Rattle.plan_meaning.specs.GatheredPlan.{IsGathered, WorldsListed, worlds_listed}
-use Rattle.plan_meaning.specs.NumberedMembers.{Homes, home_at}
+use Rattle.plan_meaning.specs.{GatheredPlan.IsGathered, GatheredPlan.WorldsListed, GatheredPlan.worlds_listed, Plan.Plan, Plan.PlannedPackage, Plan.package_in}
+use Rattle.plan_meaning.specs.{NumberedMembers.Homes, NumberedMembers.home_at, NumberedViews.Tables, PlanMeaning.plan_meaning, ReadFunctions.Beside}
 use Rattle.plan_meaning.specs.NumberedRules.{Fact}
-use Rattle.plan_meaning.specs.NumberedViews.{Tables}
-use Rattle.plan_meaning.specs.Plan.{Plan, PlannedPackage, package_in}
-use Rattle.plan_meaning.specs.PlanMeaning.{plan_meaning}
-use Rattle.plan_meaning.specs.ReadFunctions.{Beside}
-use Rattle.plan_meaning.proofs.GatheredPlan.{gathered_package_is_meant}
-use Rattle.plan_meaning.proofs.KeptTypes.{kept_types_pass}
-use Rattle.plan_meaning.proofs.ReadWholes.{read_package_plan_stands}
+use Rattle.plan_meaning.proofs.{GatheredPlan.gathered_package_is_meant, KeptTypes.kept_types_pass, ReadWholes.read_package_plan_stands}
 use Rattle.read_exports.specs.Members.{numbered_members}
 use Rattle.read_exports.specs.declared.members.Member.{Member}
 use Rattle.plan_package.specs.PlanWhole.{PlansWhole, places_in}
 use Rattle.plan_package.specs.WholePackages.{IsMainPackage, PlansPackage, another, entries_from, the_main}
-use Rattle.plan_laws.specs.FirstViews.{ViewsAreOrdered}
-use Rattle.plan_laws.specs.ViewedInterfaces.{views_read}
-use Rattle.plan_laws.specs.Whole.{IsPackageInput}
-use Rattle.plan_laws.specs.WholeFunctions.{beside_tables}
-use Rattle.plan_laws.specs.WholePlan.{IsWholeInput, PlanIsWhole}
-use Rattle.plan_laws.specs.WholeTypes.{TypesAreWhole}
-use Rattle.plan_laws.specs.WorldItems.{WorldsAreApart}
-use Rattle.plan_laws.proofs.Apart.{whole_stands_apart}
-use Rattle.plan_laws.proofs.GatheredInterfaces.{foreign_gathered, top_listed}
-use Rattle.plan_laws.proofs.GatheredWorlds.{worlds_are_listed}
-use Rattle.plan_laws.proofs.WholePlan.{plan_read}
-use Rattle.plan_laws.proofs.WholeTypes.{packages_are_ruled, planned_types_are_whole}
+use Rattle.plan_laws.specs.{FirstViews.ViewsAreOrdered, Whole.IsPackageInput, WholeTypes.TypesAreWhole}
+use Rattle.plan_laws.specs.{ViewedInterfaces.views_read, WholeFunctions.beside_tables, WholePlan.IsWholeInput, WholePlan.PlanIsWhole, WorldItems.WorldsAreApart}
+use Rattle.plan_laws.proofs.{Apart.whole_stands_apart, GatheredInterfaces.foreign_gathered, GatheredInterfaces.top_listed, GatheredWorlds.worlds_are_listed}
+use Rattle.plan_laws.proofs.{WholePlan.plan_read, WholeTypes.packages_are_ruled, WholeTypes.planned_types_are_whole}
 use Rattle.base_lemmas.proofs.Lists.{within_there as slice_there}
+use Rattle.comp_meaning.specs.Reads as reads
 
 module _ (t : Tables) (h : Homes) (known : ℕ → Fact) (n : ℕ) (ms : List Member) (members : List reads.Member) (given : IsPackageInput t h known n ms members) (input : IsWholeInput t h n ms) (p : Plan)
     (planned : PlansWhole t h.packages (home_at h) n ms p) (whole : TypesAreWhole t planned.kept ms p) where

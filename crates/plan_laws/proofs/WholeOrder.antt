@@ -1,51 +1,34 @@
 -- What stands before what in a whole plan is as it was read.
 use Rattle.std.proofs.Common.{◌≡◌, sym, ap, subst, ◌∙◌, ℕ, ◌+◌, List, [], map, Option, Some, slice_get}
-use Rattle.std.specs.List.{Contains}
-use Rattle.std.specs.Option.{option_map_or}
+use Rattle.std.proofs.lemmas.Option.{same_Some as same-some}
+use Rattle.std.specs.{List.Contains, Option.option_map_or}
 use Rattle.wit_model.specs.declared.model.TypeOwner.{TypeOwner}
-use Rattle.wit_model.specs.Text.{Text}
-use Rattle.wit_model.specs.Valid.{as_interface, as_world}
+use Rattle.wit_model.specs.{Text.Text, Valid.as_interface, Valid.as_world}
 use Rattle.wit_model.proofs.Elements.{contains-flat, contains-get}
-use Rattle.comp_meaning.specs.Reads as reads
-use Rattle.plan_meaning.specs.NumberedMembers.{Homes, NumberedMember, home_at}
-use Rattle.plan_meaning.specs.NumberedRules.{Fact}
-use Rattle.plan_meaning.specs.NumberedViews.{NumberedSight, NumberedType, NumberedView, Tables}
-use Rattle.plan_meaning.specs.NumberedWorlds as worlds
+use Rattle.plan_meaning.specs.{NumberedMembers.Homes, NumberedMembers.NumberedMember, NumberedMembers.home_at, NumberedRules.Fact, Shapes.named_shape}
+use Rattle.plan_meaning.specs.{NumberedViews.NumberedSight, NumberedViews.NumberedType, NumberedViews.NumberedView, NumberedViews.Tables, ReadFunctions.Beside}
 use Rattle.plan_meaning.specs.NumberedWorlds.{NumberedScope, NumberedSeen}
 use Rattle.plan_meaning.specs.Plan.{Plan, PlannedInterface, PlannedType, PlannedWorld, interface_in, world_in}
-use Rattle.plan_meaning.specs.ReadFunctions.{Beside}
-use Rattle.plan_meaning.specs.ReadInterfaces.{IsNumberOf}
-use Rattle.plan_meaning.specs.ReadOrder.{InterfacesAreViewed, IsShownThere, in_interface, in_world}
+use Rattle.plan_meaning.specs.{ReadInterfaces.IsNumberOf, ReadOrder.InterfacesAreViewed, ReadOrder.IsShownThere, ReadOrder.in_interface, ReadOrder.in_world}
 use Rattle.plan_meaning.specs.ReadWorlds.{IsReadItem, ReadItem, a_function, a_type, by_label, by_path, implementing_path, is_type_seen}
-use Rattle.plan_meaning.specs.Shapes.{named_shape}
 use Rattle.read_exports.specs.Members.{numbered_member, numbered_members, numbered_part}
 use Rattle.read_exports.specs.declared.members.Member.{Member}
-use Rattle.read_exports.specs.declared.members.Part.TheVariants as parts
 use Rattle.read_rules.specs.Scopes.{numbered_scope, numbered_seen, numbered_shown}
 use Rattle.read_rules.specs.declared.scopes.Scope.{Scope}
 use Rattle.plan_package.specs.PlanWhole.{PlansWhole, places_in}
-use Rattle.plan_package.specs.Views.{views_of_members, views_of_part}
-use Rattle.plan_package.specs.WholeWorlds.{PlansWorld, worlds_in}
-use Rattle.plan_laws.specs.FirstViews.{ViewsAreOrdered, told}
-use Rattle.plan_laws.specs.Owners.{owners_of}
+use Rattle.plan_package.specs.{Views.views_of_members, Views.views_of_part, WholeWorlds.PlansWorld, WholeWorlds.worlds_in}
+use Rattle.plan_laws.specs.{FirstViews.ViewsAreOrdered, FirstViews.told, ViewedInterfaces.views_read, WholeOrder.PlannedOrderIsRead, WholeTypes.IsRuledInput}
+use Rattle.plan_laws.specs.{Owners.owners_of, Whole.IsPackageInput, WholeWorlds.WorldsAreReadAs}
 use Rattle.plan_laws.specs.ShownNames.{ImportsNumber, IsShownByPart, ShowsNumber, by_import, by_view}
-use Rattle.plan_laws.specs.ViewedInterfaces.{views_read}
-use Rattle.plan_laws.specs.Whole.{IsPackageInput}
-use Rattle.plan_laws.specs.WholeOrder.{PlannedOrderIsRead}
-use Rattle.plan_laws.specs.WholeTypes.{IsRuledInput}
-use Rattle.plan_laws.specs.WholeWorlds.{WorldsAreReadAs}
-use Rattle.plan_laws.proofs.FirstTypes.{views_told}
-use Rattle.plan_laws.proofs.FirstViews.{first_is}
-use Rattle.plan_laws.proofs.PlaceNumbers.{number_given, one_owner, owner_numbered}
-use Rattle.plan_laws.proofs.Planned.{first_there, interface_there, name_shown, view_met}
-use Rattle.plan_laws.proofs.Viewed.{planned_interfaces_are_viewed}
-use Rattle.plan_laws.proofs.WholePlacesLabels.{world_among}
-use Rattle.plan_laws.proofs.WholeTypes.{packages_are_ruled}
-use Rattle.plan_laws.proofs.WholeWorlds.{planned_worlds_are_read}
+use Rattle.plan_laws.proofs.{FirstTypes.views_told, FirstViews.first_is, WholePlacesLabels.world_among, WholeTypes.packages_are_ruled}
+use Rattle.plan_laws.proofs.{PlaceNumbers.number_given, PlaceNumbers.one_owner, PlaceNumbers.owner_numbered, WholeWorlds.planned_worlds_are_read}
+use Rattle.plan_laws.proofs.{Planned.first_there, Planned.interface_there, Planned.name_shown, Planned.view_met, Viewed.planned_interfaces_are_viewed}
 use Rattle.base_lemmas.proofs.Elements.{all_at, contains-map, get-contains, map_from as from_map, zip_at}
 use Rattle.base_lemmas.proofs.Lists.{get_back as unmapped_get}
-use Rattle.std.proofs.lemmas.Option.{same_Some as same-some}
 use Rattle.plan_package.proofs.ReadPackageLaws.{number_at as number_there}
+use Rattle.comp_meaning.specs.Reads as reads
+use Rattle.plan_meaning.specs.NumberedWorlds as worlds
+use Rattle.read_exports.specs.declared.members.Part.TheVariants as parts
 
 module _ (t : Tables) (h : Homes) (known : ℕ → Fact) (n : ℕ) (ms : List Member) (members : List reads.Member) (given : IsPackageInput t h known n ms members) (ordered : ViewsAreOrdered t ms)
     (p : Plan) (planned : PlansWhole t h.packages (home_at h) n ms p)

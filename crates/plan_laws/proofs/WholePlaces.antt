@@ -1,57 +1,40 @@
 -- The packages, the interfaces and the worlds of a plan that was made of what was followed.
-use Rattle.plan_package.specs.ReadPackages.{AreExported, world_labels}
+use Rattle.plan_package.specs.{ReadPackages.AreExported, ReadPackages.world_labels, WholeInterfaces.PlansPlace, WholeWorlds.PlansWorld, WholeWorlds.worlds_in}
+use Rattle.plan_package.specs.{PlanWhole.PlansWhole, PlanWhole.places_in, Views.views_of_members}
+use Rattle.plan_package.specs.WholePackages.{IsMainPackage, ListsPlace, PlansPackage, another, entries_from, interfaces_in, numbered_labels, the_main}
 use Rattle.std.proofs.Common.{◌≡◌, refl, sym, ap, subst, ◌∙◌, ℕ, arith, Bool, true, false, not, ◌||◌, ◌==◌, List, [], ◌∷◌, ◌++◌, filter, filter_map, map, Option, Some, None, option_map, slice_get}
-use Rattle.std.specs.Prelude.{is_none, is_some}
-use Rattle.std.specs.List.{AllByRecursion, Contains, list_any}
-use Rattle.std.specs.Option.{option_map_or}
-use Rattle.std.proofs.lemmas.Bool.{eqb-true, and_from as both, not-true as not_true}
-use Rattle.std.proofs.lemmas.Option.{slice_get_within, same_Some as same-some}
+use Rattle.std.proofs.lemmas.{Bool.eqb-true, Bool.and_from as both, Bool.not-true as not_true, Option.slice_get_within, Option.same_Some as same-some}
 use Rattle.std.proofs.lemmas.Slice.Eq.{bytes_eq-Decides}
+use Rattle.std.specs.{Prelude.is_none, Prelude.is_some, List.AllByRecursion, List.Contains, List.list_any, Option.option_map_or}
 use Rattle.wit_model.specs.declared.model.TypeOwner.{TypeOwner}
-use Rattle.wit_model.specs.Names.{PackageIdentity, is_label}
-use Rattle.wit_model.specs.Text.{Text, text_eq}
-use Rattle.wit_model.specs.Uses.{has}
+use Rattle.wit_model.specs.{Names.PackageIdentity, Names.is_label, Text.Text, Text.text_eq, Uses.has}
 use Rattle.wit_model.proofs.Elements.{contains-get}
-use Rattle.comp_meaning.specs.Reads as reads
 use Rattle.comp_meaning.specs.Rules.{distinct}
 use Rattle.read_homes.specs.Homes.{ArePackages}
-use Rattle.plan_meaning.specs.NumberedMembers.{Homes, NumberedMember, home_at}
-use Rattle.plan_meaning.specs.NumberedRules.{Fact}
-use Rattle.plan_meaning.specs.NumberedViews.{Tables, path_at}
-use Rattle.plan_meaning.specs.NumberedWorlds.{HasPath, are_once}
+use Rattle.plan_meaning.specs.{NumberedMembers.Homes, NumberedMembers.NumberedMember, NumberedMembers.home_at, NumberedWorlds.HasPath, NumberedWorlds.are_once}
+use Rattle.plan_meaning.specs.{NumberedRules.Fact, NumberedViews.Tables, NumberedViews.path_at, PlanRules.has_name, PlanRules.names_of}
 use Rattle.plan_meaning.specs.Plan.{Plan, PlannedInterface, PlannedPackage, PlannedWorld, interface_in, item_interface, items_of, package_in, world_in}
-use Rattle.plan_meaning.specs.PlanRules.{has_name, names_of}
 use Rattle.plan_meaning.specs.ReadPlaces.{IsPlacedInterface, IsPlacedWorld, IsReadPackage, PlacesAreRead, inline, under_path}
-use Rattle.plan_meaning.proofs.Lists.{no_true}
-use Rattle.plan_meaning.proofs.ReadLists.{never}
+use Rattle.plan_meaning.proofs.{Lists.no_true, ReadLists.never}
 use Rattle.plan_type_laws.specs.ShownMarks.{has_no_path, places_of_part, places_of_seen}
 use Rattle.read_exports.specs.Members.{numbered_member, numbered_members, numbered_part}
 use Rattle.read_exports.specs.declared.members.Member.{Member}
 use Rattle.read_rules.specs.declared.scopes.Scope.{Scope}
 use Rattle.read_rules.specs.Scopes.{numbered_scope, numbered_seen}
 use Rattle.plan_types.specs.PlannedTypes.{number_in}
-use Rattle.plan_package.specs.PlanWhole.{PlansWhole, places_in}
-use Rattle.plan_package.specs.Views.{views_of_members}
-use Rattle.plan_package.specs.WholeInterfaces.{PlansPlace}
-use Rattle.plan_package.specs.WholePackages.{IsMainPackage, ListsPlace, PlansPackage, another, entries_from, interfaces_in, numbered_labels, the_main}
-use Rattle.plan_package.specs.WholeWorlds.{PlansWorld, worlds_in}
 use Rattle.plan_package.proofs.ListedLaws.{homes_are_listed, worlds_are_listed}
-use Rattle.plan_laws.specs.Owners.{homes_in, owners_of}
-use Rattle.plan_laws.specs.Whole.{IsPackageInput}
-use Rattle.plan_laws.specs.WholePlaces.{LabelsStand}
-use Rattle.plan_laws.proofs.PlaceNumbers.{owner_numbered, owners_apart, place_number}
-use Rattle.plan_laws.proofs.Planned.{first_there, interface_there, named_there, path_given}
-use Rattle.plan_laws.proofs.WholePlacesInstances.{own_shown}
-use Rattle.plan_laws.proofs.WholePlacesItems as items
+use Rattle.plan_package.proofs.ReadPackageLaws.{number_at as number_there, packages_are_read}
+use Rattle.plan_laws.specs.{Owners.homes_in, Owners.owners_of, Whole.IsPackageInput, WholePlaces.LabelsStand}
+use Rattle.plan_laws.proofs.{PlaceNumbers.owner_numbered, PlaceNumbers.owners_apart, PlaceNumbers.place_number, Sources.world_in as world_of, Sources.all_of}
+use Rattle.plan_laws.proofs.{Planned.first_there, Planned.interface_there, Planned.named_there, Planned.path_given, OwnPlaces.once_inside as once_within}
+use Rattle.plan_laws.proofs.{WholePlacesInstances.own_shown, WorldItems.world_member}
 use Rattle.plan_laws.proofs.WholePlacesLabels.{interface_among, interface_of, interfaces_differ, no_world, world_among, worlds_differ}
-use Rattle.plan_laws.proofs.WorldItems.{world_member}
 use Rattle.plan_laws.proofs.WholePlacesTop.{IsOwnInstance, at_top, interface_home, main_identity, own_instance}
-use Rattle.plan_laws.proofs.Sources.{world_in as world_of, all_of}
 use Rattle.base_lemmas.proofs.Bools.{left_of as first_true, right_of as second_true, first_false, second_false}
 use Rattle.base_lemmas.proofs.Elements.{all_at, contains-map, get-contains, zip_at, zip_at_right as zip_get, all_pass}
 use Rattle.base_lemmas.proofs.Lists.{within_there as there_at}
-use Rattle.plan_laws.proofs.OwnPlaces.{once_inside as once_within}
-use Rattle.plan_package.proofs.ReadPackageLaws.{number_at as number_there, packages_are_read}
+use Rattle.comp_meaning.specs.Reads as reads
+use Rattle.plan_laws.proofs.WholePlacesItems as items
 
 -- the places of what a world imports and exports
 abbrev shown_of : Scope → List ℕ

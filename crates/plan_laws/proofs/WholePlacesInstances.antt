@@ -1,19 +1,16 @@
 -- Each instance of a world whose place has no path is one that is imported or exported.
-use Rattle.plan_meaning.specs.NumberedMembers.{world}
+use Rattle.plan_meaning.specs.{NumberedMembers.world, FollowedNumbers.IsOneOf, FollowedNumbers.IsScopeIn, NumberedViews.Tables, NumberedViews.path_at}
+use Rattle.plan_meaning.specs.NumberedWorlds.{NumberedInstance, NumberedScope, NumberedSeen, NumberedShown, Shows, are_once, instance, place_of_key}
 use Rattle.base_lemmas.proofs.Lists.{length_of_map}
-use Rattle.plan_laws.proofs.OwnPlaces.{all_inline, inline_many, inline_seen, no_path, places_are}
+use Rattle.base_lemmas.proofs.Elements.{all_at, contains-map, last_of as one-contained, filter_kept, map_from as from_map}
+use Rattle.plan_laws.proofs.{OwnPlaces.all_inline, OwnPlaces.inline_many, OwnPlaces.inline_seen, OwnPlaces.no_path, OwnPlaces.places_are, Inside.flat_cases}
 use Rattle.std.proofs.Common.{◌≡◌, refl, sym, ap, subst, ◌∙◌, ℕ, ◌⊎◌, inl, inr, Bool, true, false, cond, List, [], ◌∷◌, ◌++◌, filter, length, map, None, suc}
-use Rattle.std.specs.List.{AllByRecursion, Contains}
 use Rattle.std.proofs.lemmas.List.Elements.{Contains-append_cases}
+use Rattle.std.specs.List.{AllByRecursion, Contains}
 use Rattle.wit_model.proofs.Elements.{none-in}
 use Rattle.comp_meaning.specs.Follow.{Scope}
 use Rattle.read_shown.specs.Instances.{InstancesAreSeen}
-use Rattle.plan_meaning.specs.FollowedNumbers.{IsOneOf, IsScopeIn}
-use Rattle.plan_meaning.specs.NumberedViews.{Tables, path_at}
-use Rattle.plan_meaning.specs.NumberedWorlds.{NumberedInstance, NumberedScope, NumberedSeen, NumberedShown, Shows, are_once, instance, place_of_key}
 use Rattle.plan_type_laws.specs.ShownMarks.{has_no_path, places_of_seen, places_of_shown, places_of_part}
-use Rattle.plan_laws.proofs.Inside.{flat_cases}
-use Rattle.base_lemmas.proofs.Elements.{all_at, contains-map, last_of as one-contained, filter_kept, map_from as from_map}
 
 module _ (t : Tables) where
   instances_many : (is : List NumberedInstance) → length (filter (has_no_path t) (map (λ (i : NumberedInstance). i.place) is)) ≡ length (filter (no_path t) is)

@@ -1,37 +1,25 @@
 -- The interfaces that worlds import and export, by the numbers of their places: no inline one is an item twice.
 use Rattle.plan_meaning.specs.Plan as plan
-use Rattle.read_rules.specs.Tables.{given_text}
-use Rattle.read_rules.specs.declared.scopes.Shown.{Shown}
-use Rattle.read_rules.specs.declared.scopes.Shown.TheVariants as shown
+use Rattle.read_rules.specs.{Tables.given_text, Scopes.numbered_seen, Scopes.numbered_shown}
+use Rattle.read_rules.specs.declared.scopes.{Shown.Shown, Scope.Scope, Seen.Seen}
 use Rattle.std.proofs.Common.{◌≡◌, refl, sym, ap, subst, ◌∙◌, ℕ, ◌||◌, ◌==◌, Bool, true, false, not, cond, List, [], ◌∷◌, ◌++◌, filter, filter_map, map, Option, Some}
-use Rattle.std.specs.List.{AllZip, cons_option, flat_map}
-use Rattle.std.proofs.lemmas.Bool.{eq-eqb, eqb-true, and_from as both, not-true as not_true}
+use Rattle.std.proofs.lemmas.{Bool.eq-eqb, Bool.eqb-true, Bool.and_from as both, Bool.not-true as not_true, Option.same_Some as same-some}
 use Rattle.std.proofs.lemmas.List.Elements.{filter-append, filter_map-append}
+use Rattle.std.specs.List.{AllZip, cons_option, flat_map}
 use Rattle.wit_model.specs.declared.model.TypeId.{TypeId}
-use Rattle.wit_model.specs.Text.{Text}
-use Rattle.wit_model.specs.Uses.{has}
-use Rattle.plan_meaning.specs.NumberedMembers.{NumberedMember}
-use Rattle.plan_meaning.specs.NumberedViews.{Tables}
-use Rattle.plan_meaning.specs.NumberedWorlds.{are_once}
+use Rattle.wit_model.specs.{Text.Text, Uses.has}
+use Rattle.plan_meaning.specs.{NumberedMembers.NumberedMember, NumberedViews.Tables, NumberedWorlds.are_once, PlanRules.has_name, ReadPlaces.inline_shown}
 use Rattle.plan_meaning.specs.Plan.{Plan, PlannedItem, PlannedKey, PlannedWorld, item_interface, items_of}
-use Rattle.plan_meaning.specs.PlanRules.{has_name}
-use Rattle.plan_meaning.specs.ReadPlaces.{inline_shown}
-use Rattle.plan_meaning.proofs.Lists.{no_true}
-use Rattle.plan_meaning.proofs.ReadLists.{never}
+use Rattle.plan_meaning.proofs.{Lists.no_true, ReadLists.never}
 use Rattle.plan_type_laws.specs.ShownMarks.{has_no_path, places_of_part, places_of_seen, places_of_shown}
 use Rattle.read_exports.specs.Members.{numbered_members, numbered_part}
-use Rattle.read_exports.specs.declared.members.Member.{Member}
-use Rattle.read_exports.specs.declared.members.Part.{Part}
-use Rattle.read_exports.specs.declared.members.Part.TheVariants as parts
-use Rattle.read_rules.specs.declared.scopes.Scope.{Scope}
-use Rattle.read_rules.specs.declared.scopes.Seen.{Seen}
-use Rattle.read_rules.specs.Scopes.{numbered_seen, numbered_shown}
+use Rattle.read_exports.specs.declared.members.{Member.Member, Part.Part}
 use Rattle.plan_types.specs.PlannedTypes.{number_in}
 use Rattle.plan_package.specs.WholeWorlds.{PlansItem, PlansWorld, a_function, a_type, an_instance, world_in_part, worlds_in}
-use Rattle.base_lemmas.proofs.Bools.{left_of as first_true, right_of as second_true, or_true}
-use Rattle.base_lemmas.proofs.Elements.{zip-append as zip_both}
-use Rattle.std.proofs.lemmas.Option.{same_Some as same-some}
+use Rattle.base_lemmas.proofs.{Bools.left_of as first_true, Bools.right_of as second_true, Bools.or_true, Elements.zip-append as zip_both}
 use Rattle.plan_package.proofs.ReadPackageLaws.{number_at as number_there}
+use Rattle.read_rules.specs.declared.scopes.Shown.TheVariants as shown
+use Rattle.read_exports.specs.declared.members.Part.TheVariants as parts
 
 module _ (places : List ℕ) where
   -- the place has the number

@@ -1,28 +1,19 @@
 -- What is exported at the top, by labels of which none stands twice.
-use Rattle.base_lemmas.proofs.Bools.{first_false, left_of as first_true, right_of as second_true, second_false as later_false}
-use Rattle.std.proofs.lemmas.Bool.{false_from_ne_true, and_from as both, not-true as not_true}
+use Rattle.base_lemmas.proofs.{Bools.first_false, Bools.left_of as first_true, Bools.right_of as second_true, Bools.second_false as later_false, Lists.get_back}
+use Rattle.base_lemmas.proofs.Elements.{contains-one, get-contains, last_of as one-contained}
+use Rattle.std.proofs.lemmas.{Bool.false_from_ne_true, Bool.and_from as both, Bool.not-true as not_true, Slice.Eq.bytes_eq-Decides}
 use Rattle.std.proofs.Common.{◌≡◌, refl, sym, ap, subst, ◌∙◌, ℕ, true, false, List, [], ◌∷◌, ◌++◌, map, not, ◌||◌}
-use Rattle.std.specs.Borrow.{Bor}
-use Rattle.std.specs.List.{Contains, list_any}
-use Rattle.std.proofs.lemmas.Slice.Eq.{bytes_eq-Decides}
+use Rattle.std.specs.{Borrow.Bor, List.Contains, List.list_any}
 use Rattle.wit_model.specs.Text.{Text, text_eq}
 use Rattle.wit_model.proofs.Elements.{contains-flat, none-in}
 use Rattle.comp_meaning.specs.Rules.{distinct}
 use Rattle.plan_meaning.specs.PlanRules.{names_of}
 use Rattle.plan_meaning.proofs.Lists.{any_get}
-use Rattle.read_rules.specs.declared.reached.ImportedView.{ImportedView}
-use Rattle.read_rules.specs.declared.scopes.Scope.{Scope}
-use Rattle.read_rules.specs.declared.views.View.{View}
-use Rattle.read_exports.specs.declared.members.Member.{Member}
-use Rattle.read_exports.specs.declared.members.Part.{Part}
+use Rattle.read_rules.specs.declared.{reached.ImportedView.ImportedView, scopes.Scope.Scope, views.View.View}
+use Rattle.read_exports.specs.declared.members.{Member.Member, Part.Part}
+use Rattle.plan_package.specs.{WholePackages.interface_in_part, WholePackages.interfaces_in, WholeWorlds.world_in_part, WholeWorlds.worlds_in}
+use Rattle.plan_laws.proofs.{Sources.one_under, WorldItems.world_member, Inside.flat_cases}
 use Rattle.read_exports.specs.declared.members.Part.TheVariants as parts
-use Rattle.plan_package.specs.WholePackages.{interface_in_part, interfaces_in}
-use Rattle.plan_package.specs.WholeWorlds.{world_in_part, worlds_in}
-use Rattle.plan_laws.proofs.Sources.{one_under}
-use Rattle.plan_laws.proofs.WorldItems.{world_member}
-use Rattle.plan_laws.proofs.Inside.{flat_cases}
-use Rattle.base_lemmas.proofs.Elements.{contains-one, get-contains, last_of as one-contained}
-use Rattle.base_lemmas.proofs.Lists.{get_back}
 
 -- ---- texts of which none stands twice
 

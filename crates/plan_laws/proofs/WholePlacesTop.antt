@@ -1,39 +1,26 @@
 -- What is exported at the top of a package: its interfaces, by the homes of their places.
 use Rattle.std.proofs.Common.{◌≡◌, refl, sym, ap, subst, ◌∙◌, ℕ, ◌⊎◌, inl, inr, true, false, not, ◌||◌, ◌==◌, List, [], ◌∷◌, map, Some, None, slice_get}
-use Rattle.std.specs.Borrow.{Bor}
-use Rattle.std.specs.List.{Contains, flat_map, list_any}
-use Rattle.std.specs.Option.{option_map_or}
-use Rattle.std.proofs.lemmas.Bool.{eq-eqb, eqb-true}
-use Rattle.std.proofs.lemmas.List.Elements.{Contains-append_cases}
-use Rattle.wit_model.specs.Names.{PackageIdentity}
-use Rattle.wit_model.specs.Text.{Text}
+use Rattle.std.proofs.lemmas.{Bool.eq-eqb, Bool.eqb-true, List.Elements.Contains-append_cases}
+use Rattle.std.specs.{Borrow.Bor, List.Contains, List.flat_map, List.list_any, Option.option_map_or}
+use Rattle.wit_model.specs.{Names.PackageIdentity, Text.Text}
 use Rattle.wit_model.proofs.Elements.{none-in}
-use Rattle.comp_meaning.specs.Reads as reads
-use Rattle.plan_meaning.specs.FollowedNumbers.{IsPartIn, IsViewIn}
+use Rattle.plan_meaning.specs.{FollowedNumbers.IsPartIn, FollowedNumbers.IsViewIn, NumberedWorlds.HasPath, NumberedWorlds.NumberedInstance}
 use Rattle.plan_meaning.specs.NumberedMembers.{Homes, NumberedMember, ShowsPart, home_at, is_interface_of, is_of_package, sights_of_members, stands_at_top}
-use Rattle.plan_meaning.specs.NumberedRules.{Fact}
-use Rattle.plan_meaning.specs.NumberedViews.{NumberedSight, NumberedView, Tables, path_at}
-use Rattle.plan_meaning.specs.NumberedWorlds.{HasPath, NumberedInstance}
+use Rattle.plan_meaning.specs.{NumberedRules.Fact, NumberedViews.NumberedSight, NumberedViews.NumberedView, NumberedViews.Tables, NumberedViews.path_at}
 use Rattle.plan_meaning.proofs.Lists.{any_get, no_true}
 use Rattle.read_exports.specs.Members.{numbered_member, numbered_members, numbered_part}
-use Rattle.read_exports.specs.declared.members.Member.{Member}
-use Rattle.read_exports.specs.declared.members.Part.{Part}
-use Rattle.read_exports.specs.declared.members.Part.TheVariants as parts
-use Rattle.read_rules.specs.declared.reached.ImportedView.{ImportedView}
-use Rattle.read_rules.specs.declared.scopes.Scope.{Scope}
-use Rattle.read_rules.specs.declared.views.View.{View}
-use Rattle.read_rules.specs.Reached.{numbered_import}
-use Rattle.read_rules.specs.Scopes.{numbered_scope}
-use Rattle.plan_types.specs.Orders as orders
+use Rattle.read_exports.specs.declared.members.{Member.Member, Part.Part}
+use Rattle.read_rules.specs.declared.{reached.ImportedView.ImportedView, scopes.Scope.Scope, views.View.View}
+use Rattle.read_rules.specs.{Reached.numbered_import, Scopes.numbered_scope}
 use Rattle.plan_package.specs.PlanWhole.{places_in}
 use Rattle.plan_laws.specs.Whole.{IsPackageInput}
-use Rattle.plan_laws.proofs.FirstViews.{sight_there}
+use Rattle.plan_laws.proofs.{FirstViews.sight_there, Sources.mapped_cases, Sources.member_there, Sources.part_at, PlaceNumbers.from_joined, Planned.place_seen}
 use Rattle.plan_laws.proofs.WholeTypes.{tests_hold}
-use Rattle.plan_laws.proofs.Sources.{mapped_cases, member_there, part_at}
-use Rattle.plan_laws.proofs.PlaceNumbers.{from_joined}
-use Rattle.plan_laws.proofs.Planned.{place_seen}
 use Rattle.base_lemmas.proofs.Elements.{all-contained, all_at, contains-map, get-contains, last_of as one-contained, map_from as from_map}
 use Rattle.base_lemmas.proofs.Lists.{get_back}
+use Rattle.comp_meaning.specs.Reads as reads
+use Rattle.read_exports.specs.declared.members.Part.TheVariants as parts
+use Rattle.plan_types.specs.Orders as orders
 
 -- ---- views of places that have a path
 

@@ -1,56 +1,29 @@
 -- A plan that was made of what was followed is one that was read, whole.
 use Rattle.std.proofs.Common.{◌≡◌, refl, sym, ap, subst, ◌∙◌, ℕ, ◌<◌, ◌⊎◌, inl, inr, arith, true, not, List, length, Option, Some, None, option_map, slice_get}
-use Rattle.std.specs.Prelude.{is_some}
-use Rattle.std.specs.List.{AllZip}
 use Rattle.std.proofs.lemmas.Option.{slice_get_within}
-use Rattle.wit_model.specs.Rules.{is_id}
-use Rattle.wit_model.specs.Text.{Text}
-use Rattle.wit_model.specs.Valid.{as_interface}
-use Rattle.comp_meaning.specs.Reads as reads
+use Rattle.std.specs.{Prelude.is_some, List.AllZip}
+use Rattle.wit_model.specs.{Rules.is_id, Text.Text, Valid.as_interface}
 use Rattle.read_homes.specs.Homes.{HasPlace}
-use Rattle.plan_meaning.specs.GatheredPlan.{FunctionListed, functions_seen}
-use Rattle.plan_meaning.specs.NumberedMembers.{Homes, home_at, sights_of_members}
+use Rattle.plan_meaning.specs.{GatheredPlan.FunctionListed, GatheredPlan.functions_seen, ReadFunctions.Beside, ReadFunctions.FunctionsAreRead}
+use Rattle.plan_meaning.specs.{NumberedMembers.Homes, NumberedMembers.home_at, NumberedMembers.sights_of_members, ReadPlans.FitsInput, ReadPlans.IsReadPlan}
 use Rattle.plan_meaning.specs.NumberedRules.{Fact}
-use Rattle.plan_meaning.specs.NumberedViews.{NumberedSight, Tables}
-use Rattle.plan_meaning.specs.NumberedWorlds.{HasPath}
+use Rattle.plan_meaning.specs.{NumberedViews.NumberedSight, NumberedViews.Tables, NumberedWorlds.HasPath, PlanRules.is_foreign, ReadWholes.IsReadPackagePlan}
 use Rattle.plan_meaning.specs.Plan.{Plan, PlannedInterface, PlannedPackage, PlannedWorld, interface_in, package_in, world_in}
-use Rattle.plan_meaning.specs.PlanRules.{is_foreign}
-use Rattle.plan_meaning.specs.ReadFunctions.{Beside, FunctionsAreRead}
-use Rattle.plan_meaning.specs.ReadPlans.{FitsInput, IsReadPlan}
-use Rattle.plan_meaning.specs.ReadWholes.{IsReadPackagePlan}
 use Rattle.plan_meaning.proofs.Lists.{no_true}
 use Rattle.read_exports.specs.Members.{numbered_members}
 use Rattle.read_exports.specs.declared.members.Member.{Member}
-use Rattle.plan_package.specs.PlanWhole.{PlansWhole, places_in}
+use Rattle.plan_package.specs.{PlanWhole.PlansWhole, PlanWhole.places_in, WholeInterfaces.PlansPlace, WholeWorlds.PlansWorld, WholeWorlds.worlds_in}
 use Rattle.plan_package.specs.Views.{views_of_members}
-use Rattle.plan_package.specs.WholeInterfaces.{PlansPlace}
-use Rattle.plan_package.specs.WholeWorlds.{PlansWorld, worlds_in}
-use Rattle.plan_laws.specs.FirstViews.{ViewsAreOrdered}
-use Rattle.plan_laws.specs.ViewedInterfaces.{views_read}
-use Rattle.plan_laws.specs.Whole.{IsPackageInput}
-use Rattle.plan_laws.specs.WholeFunctions.{beside_tables}
-use Rattle.plan_laws.specs.WholePlan.{IsOfMember, IsWholeInput}
+use Rattle.plan_laws.specs.{FirstViews.ViewsAreOrdered, ViewedInterfaces.views_read, Whole.IsPackageInput, WholeTypes.TypesAreWhole, WorldItems.WorldsAreApart}
+use Rattle.plan_laws.specs.{WholeFunctions.beside_tables, WholePlan.IsOfMember, WholePlan.IsWholeInput, WholeReasonsForeign.HasForeignReasons}
 use Rattle.plan_laws.specs.WholeReasons.{HavePlaces}
-use Rattle.plan_laws.specs.WholeReasonsForeign.{HasForeignReasons}
-use Rattle.plan_laws.specs.WholeTypes.{TypesAreWhole}
-use Rattle.plan_laws.specs.WorldItems.{WorldsAreApart}
-use Rattle.plan_laws.proofs.Apart.{whole_stands_apart}
-use Rattle.plan_laws.proofs.ListedFunctions.{functions_listed, seen_same}
-use Rattle.plan_laws.proofs.Owned.{planned_types_are_owned}
-use Rattle.plan_laws.proofs.PlaceNumbers.{one_owner, owner_numbered, place_number}
-use Rattle.plan_laws.proofs.Planned.{first_there, path_given}
-use Rattle.plan_laws.proofs.PlannedFunctions.{planned_functions_are_read}
-use Rattle.plan_laws.proofs.ShownAlike.{whole_is_shown_alike}
-use Rattle.plan_laws.proofs.ShownWhole.{whole_is_shown}
-use Rattle.plan_laws.proofs.WholeOrder.{planned_order_is_read}
+use Rattle.plan_laws.proofs.{Apart.whole_stands_apart, Owned.planned_types_are_owned, WholeReasons.kept_for_reasons, WholeTypes.packages_are_ruled}
+use Rattle.plan_laws.proofs.{ListedFunctions.functions_listed, ListedFunctions.seen_same, Planned.first_there, Planned.path_given, WholePlacesTop.one_package}
+use Rattle.plan_laws.proofs.{PlaceNumbers.one_owner, PlaceNumbers.owner_numbered, PlaceNumbers.place_number, PlannedFunctions.planned_functions_are_read}
+use Rattle.plan_laws.proofs.{ShownAlike.whole_is_shown_alike, ShownWhole.whole_is_shown, WholeOrder.planned_order_is_read, WholeReasonsForeign.foreign_reasons}
 use Rattle.plan_laws.proofs.WholePlaces.{places_read}
-use Rattle.plan_laws.proofs.WholePlacesTop.{one_package}
-use Rattle.plan_laws.proofs.WholeReasons.{kept_for_reasons}
-use Rattle.plan_laws.proofs.WholeReasonsForeign.{foreign_reasons}
-use Rattle.plan_laws.proofs.WholeTypes.{packages_are_ruled}
-use Rattle.base_lemmas.proofs.Bools.{left_of as first_true}
-use Rattle.base_lemmas.proofs.Elements.{zip_at_right as zip_get}
-use Rattle.base_lemmas.proofs.Lists.{within_there as slice_there}
+use Rattle.base_lemmas.proofs.{Bools.left_of as first_true, Elements.zip_at_right as zip_get, Lists.within_there as slice_there}
+use Rattle.comp_meaning.specs.Reads as reads
 
 module _ (t : Tables) (h : Homes) (known : ℕ → Fact) (n : ℕ) (ms : List Member) (members : List reads.Member) (given : IsPackageInput t h known n ms members) (input : IsWholeInput t h n ms) where
   have_places : HavePlaces t h n ms

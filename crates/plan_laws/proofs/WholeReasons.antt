@@ -1,52 +1,33 @@
 -- Unnamed types stand in a plan as parts of others or of functions, and packages for the places whose homes they are.
-use Rattle.plan_type_laws.proofs.UsedParts.{has_form}
+use Rattle.plan_type_laws.proofs.{UsedParts.has_form, FirstFound.firsts_found, ShownForms.mark_there}
 use Rattle.std.proofs.Common.{◌≡◌, refl, sym, ap, subst, ◌∙◌, ℕ, zero, suc, ◌+◌, ◌⊎◌, inl, inr, arith, Bool, true, false, cond, List, [], ◌∷◌, ◌++◌, length, map, Option, Some, None, slice_get}
-use Rattle.std.specs.Prelude.{is_some, unwrap_or}
-use Rattle.std.specs.List.{Contains, flat_map}
-use Rattle.std.specs.Option.{option_map_or}
-use Rattle.std.proofs.lemmas.List.Elements.{Contains-append_cases, Contains-append_left}
-use Rattle.std.proofs.lemmas.Option.{slice_get_within, same_Some as same-some}
+use Rattle.std.proofs.lemmas.{List.Elements.Contains-append_cases, List.Elements.Contains-append_left, Option.slice_get_within, Option.same_Some as same-some}
+use Rattle.std.proofs.lemmas.Slice.Zip.{AllZip-long as zip_length}
+use Rattle.std.specs.{Prelude.is_some, Prelude.unwrap_or, List.Contains, List.flat_map, Option.option_map_or}
 use Rattle.wit_model.specs.declared.model.TypeOwner.{TypeOwner}
-use Rattle.wit_model.specs.Text.{Text}
-use Rattle.wit_model.specs.Uses.{has}
-use Rattle.wit_model.specs.Valid.{as_interface, as_world}
+use Rattle.wit_model.specs.{Text.Text, Uses.has, Valid.as_interface, Valid.as_world}
 use Rattle.wit_model.proofs.Elements.{contains-flat, contains-has, has-contains, none-in}
-use Rattle.comp_meaning.specs.Reads as reads
 use Rattle.read_homes.specs.Homes.{HasPlace}
 use Rattle.plan_meaning.specs.GatheredPlan.{DeclaresKind, a_form, a_name, a_resource}
-use Rattle.plan_meaning.specs.NumberedMembers.{Homes, home_at}
+use Rattle.plan_meaning.specs.{NumberedMembers.Homes, NumberedMembers.home_at, Plan.Plan, Plan.PlannedPackage, Plan.PlannedType, Plan.package_in}
 use Rattle.plan_meaning.specs.NumberedRules.{Fact, is_form, name_in, shape_at}
-use Rattle.plan_meaning.specs.NumberedViews.{Tables}
-use Rattle.plan_meaning.specs.Plan.{Plan, PlannedPackage, PlannedType, package_in}
-use Rattle.plan_meaning.specs.ReadFunctions.{Beside, FunctionsAreRead}
-use Rattle.plan_meaning.specs.ReadWholes.{HasHomes, IsKeptForReasons, IsPartOfKept, of_type}
-use Rattle.plan_meaning.specs.Shapes.{IsShape, Shape, named_shape, node_shape}
-use Rattle.plan_meaning.specs.Shapes as shapes
-use Rattle.plan_meaning.proofs.Lists.{no_true}
-use Rattle.plan_meaning.proofs.NumberedRules.{no_name, shape_there}
-use Rattle.plan_parts.specs.Kinds.{shape_form}
-use Rattle.plan_parts.specs.Marks.{IsUsed, is_marked, marked, part}
+use Rattle.plan_meaning.specs.{NumberedViews.Tables, ReadWholes.HasHomes, ReadWholes.IsKeptForReasons, ReadWholes.IsPartOfKept, ReadWholes.of_type}
+use Rattle.plan_meaning.specs.{ReadFunctions.Beside, ReadFunctions.FunctionsAreRead, Shapes.IsShape, Shapes.Shape, Shapes.named_shape, Shapes.node_shape}
+use Rattle.plan_meaning.proofs.{Lists.no_true, NumberedRules.no_name, NumberedRules.shape_there}
+use Rattle.plan_parts.specs.{Kinds.shape_form, Marks.IsUsed, Marks.is_marked, Marks.marked, Marks.part}
 use Rattle.plan_parts.proofs.DeclaredKinds.{parts_become}
-use Rattle.plan_type_laws.proofs.FirstFound.{firsts_found}
-use Rattle.plan_type_laws.proofs.ShownForms.{mark_there}
 use Rattle.read_exports.specs.declared.members.Member.{Member}
 use Rattle.plan_types.specs.PlannedTypes.{PlansType, named, number_in, unnamed}
 use Rattle.plan_types.specs.Showings.{NumberedShowing, showings_of_members, signatures_of_members}
 use Rattle.plan_types.specs.Used.{declared_parts, form_parts, function_parts, showing_parts, used_parts}
 use Rattle.plan_package.specs.PlanWhole.{PlansWhole, owners_in, places_in, shown_first}
-use Rattle.plan_laws.specs.Owners.{homes_in, owners_of}
-use Rattle.plan_laws.specs.Whole.{IsPackageInput}
-use Rattle.plan_laws.specs.WholeReasons.{AreShownAlike, HavePlaces}
-use Rattle.plan_laws.proofs.Inside.{flat_cases}
-use Rattle.plan_laws.proofs.Owned.{planned_name}
-use Rattle.plan_laws.proofs.PlaceNumbers.{number_given}
-use Rattle.plan_laws.proofs.Planned.{interface_there, path_given}
-use Rattle.plan_laws.proofs.Showings.{IsNamed, showings_named}
-use Rattle.plan_laws.proofs.WholeReasonsFunctions.{by_function}
-use Rattle.base_lemmas.proofs.Elements.{last_of as one-contained, zip_at, zip_at_right as zip_get}
-use Rattle.base_lemmas.proofs.Lists.{get_back as unmapped_get}
-use Rattle.std.proofs.lemmas.Slice.Zip.{AllZip-long as zip_length}
+use Rattle.plan_laws.specs.{Owners.homes_in, Owners.owners_of, Whole.IsPackageInput, WholeReasons.AreShownAlike, WholeReasons.HavePlaces}
+use Rattle.plan_laws.proofs.{Inside.flat_cases, Owned.planned_name, PlaceNumbers.number_given}
+use Rattle.plan_laws.proofs.{Planned.interface_there, Planned.path_given, Showings.IsNamed, Showings.showings_named, WholeReasonsFunctions.by_function}
+use Rattle.base_lemmas.proofs.{Elements.last_of as one-contained, Elements.zip_at, Elements.zip_at_right as zip_get, Lists.get_back as unmapped_get}
 use Rattle.plan_package.proofs.ReadPackageLaws.{number_at as number_there}
+use Rattle.comp_meaning.specs.Reads as reads
+use Rattle.plan_meaning.specs.Shapes as shapes
 
 pub there_marked : (marks : List Bool) (n : ℕ) → is_marked marks n ≡ true → slice_get marks n ≡ Some true
 there_marked [] n e = no_true e

@@ -1,46 +1,31 @@
 -- Each interface of another package is shown by a world, or imported by the component type of an interface.
 use Rattle.std.proofs.Common.{◌≡◌, refl, sym, ap, subst, ◌∙◌, ℕ, ◌⊎◌, inl, inr, true, false, ◌==◌, List, [], ◌∷◌, map, Option, Some, None}
-use Rattle.std.specs.Borrow.{Bor}
-use Rattle.std.specs.List.{Contains}
-use Rattle.std.specs.Option.{option_map_or}
 use Rattle.std.proofs.lemmas.Bool.{eq-eqb}
-use Rattle.wit_model.specs.Text.{Text}
+use Rattle.std.specs.{Borrow.Bor, List.Contains, Option.option_map_or}
+use Rattle.wit_model.specs.{Text.Text, Valid.as_interface}
 use Rattle.wit_model.specs.declared.model.TypeOwner.{TypeOwner}
-use Rattle.wit_model.specs.Valid.{as_interface}
 use Rattle.wit_model.proofs.Elements.{contains-flat, none-in}
-use Rattle.comp_meaning.specs.Reads as reads
 use Rattle.plan_meaning.specs.NumberedMembers.{Homes, NumberedMember, home_at, is_of_package, sights_of_members, sights_of_part}
-use Rattle.plan_meaning.specs.NumberedRules.{Fact}
-use Rattle.plan_meaning.specs.NumberedViews.{NumberedSight, NumberedView, Tables, path_at}
-use Rattle.plan_meaning.specs.NumberedWorlds.{HasPath, NumberedInstance, sights_of_instance}
-use Rattle.plan_meaning.specs.Plan.{Plan, PlannedInterface, interface_in}
-use Rattle.plan_meaning.specs.ReadFunctions.{Beside}
-use Rattle.plan_meaning.specs.ReadPlans.{IsReadPlan}
+use Rattle.plan_meaning.specs.{NumberedRules.Fact, Plan.Plan, Plan.PlannedInterface, Plan.interface_in}
+use Rattle.plan_meaning.specs.{NumberedViews.NumberedSight, NumberedViews.NumberedView, NumberedViews.Tables, NumberedViews.path_at, ReadFunctions.Beside}
+use Rattle.plan_meaning.specs.{NumberedWorlds.HasPath, NumberedWorlds.NumberedInstance, NumberedWorlds.sights_of_instance, ReadPlans.IsReadPlan}
 use Rattle.plan_meaning.specs.ReadWholes.{IsSeenFor, IsShownByWorld, IsViewOf, in_member, in_world}
 use Rattle.plan_meaning.proofs.ReadLists.{never}
 use Rattle.read_exports.specs.Members.{numbered_member, numbered_members, numbered_part}
-use Rattle.read_exports.specs.declared.members.Member.{Member}
-use Rattle.read_exports.specs.declared.members.Part.{Part}
-use Rattle.read_exports.specs.declared.members.Part.TheVariants as parts
-use Rattle.read_rules.specs.Reached.{numbered_import}
-use Rattle.read_rules.specs.Scopes.{numbered_scope}
-use Rattle.read_rules.specs.Views.{numbered_view}
-use Rattle.read_rules.specs.declared.reached.ImportedView.{ImportedView}
-use Rattle.read_rules.specs.declared.scopes.Scope.{Scope}
-use Rattle.read_rules.specs.declared.views.View.{View}
-use Rattle.plan_package.specs.PlanWhole.{PlansWhole, places_in}
-use Rattle.plan_package.specs.Views.{types_alone, views_of_members, views_of_part, whole_view}
+use Rattle.read_exports.specs.declared.members.{Member.Member, Part.Part}
+use Rattle.read_rules.specs.{Reached.numbered_import, Scopes.numbered_scope, Views.numbered_view}
+use Rattle.read_rules.specs.declared.{reached.ImportedView.ImportedView, scopes.Scope.Scope, views.View.View}
+use Rattle.plan_package.specs.{PlanWhole.PlansWhole, PlanWhole.places_in, Views.types_alone, Views.views_of_members, Views.views_of_part, Views.whole_view}
 use Rattle.plan_package.specs.WholeInterfaces.{PlansPlace}
 use Rattle.plan_laws.specs.Owners.{owners_of}
-use Rattle.plan_laws.specs.Whole.{IsPackageInput}
-use Rattle.plan_laws.specs.WholeReasonsForeign.{HasForeignReasons, IsShownWhole, PartIsReached}
+use Rattle.plan_laws.specs.{Whole.IsPackageInput, WholeReasonsForeign.HasForeignReasons, WholeReasonsForeign.IsShownWhole, WholeReasonsForeign.PartIsReached}
 use Rattle.plan_laws.proofs.Sources.{all_of, at_mapped, import_there, interface_views, mapped_cases, own_sight, own_there}
-use Rattle.plan_laws.proofs.Inside.{flat_cases}
-use Rattle.plan_laws.proofs.PlaceNumbers.{number_given, owner_numbered, place_number, one_owner}
-use Rattle.plan_laws.proofs.Planned.{interface_there, view_met}
-use Rattle.plan_laws.proofs.WholePlacesTop.{interface_home, sight_of_place}
+use Rattle.plan_laws.proofs.{Inside.flat_cases, PlaceNumbers.number_given, PlaceNumbers.owner_numbered, PlaceNumbers.place_number, PlaceNumbers.one_owner}
+use Rattle.plan_laws.proofs.{Planned.interface_there, Planned.view_met, WholePlacesTop.interface_home, WholePlacesTop.sight_of_place}
 use Rattle.base_lemmas.proofs.Elements.{contains-map, get-contains, last_of as one-contained, map_from as from_map, zip_at_right as zip_get}
 use Rattle.plan_package.proofs.ReadPackageLaws.{number_at as number_there}
+use Rattle.comp_meaning.specs.Reads as reads
+use Rattle.read_exports.specs.declared.members.Part.TheVariants as parts
 
 module _ (t : Tables) (h : Homes) (known : ℕ → Fact) (n : ℕ) (ms : List Member) (members : List reads.Member) (given : IsPackageInput t h known n ms members) (p : Plan)
     (planned : PlansWhole t h.packages (home_at h) n ms p) (b : Beside) (owned : b.owners ≡ owners_of ms) (views : ℕ → NumberedView) (read : IsReadPlan t h planned.kept p b views)

@@ -1,48 +1,35 @@
 -- A part of a function that is shown is one of a function of the plan.
 use Rattle.std.proofs.Common.{◌≡◌, refl, sym, ap, subst, ◌∙◌, ℕ, zero, suc, ◌⊎◌, inl, inr, arith, Bool, true, false, ◌==◌, ◌&&◌, cond, List, [], ◌∷◌, map, option_to_list, Option, Some, None}
+use Rattle.std.proofs.lemmas.{Bool.eqb-true, List.Elements.Contains-append_cases, List.Elements.Contains-append_left, List.Elements.Contains-append_right}
 use Rattle.std.specs.List.{AllZip, Contains}
-use Rattle.std.proofs.lemmas.Bool.{eqb-true}
-use Rattle.std.proofs.lemmas.List.Elements.{Contains-append_cases, Contains-append_left, Contains-append_right}
 use Rattle.wit_model.specs.declared.model.TypeId.{TypeId}
-use Rattle.wit_model.specs.Text.{Text}
-use Rattle.wit_model.specs.Valid.{as_interface, as_world}
+use Rattle.wit_model.specs.{Text.Text, Valid.as_interface, Valid.as_world}
 use Rattle.wit_model.proofs.Elements.{contains-filter_map, contains-get, none-in}
-use Rattle.comp_meaning.specs.Reads as reads
 use Rattle.plan_meaning.specs.GatheredPlan.{BecomesIfGiven, FunctionBecomes, ParamBecomes, functions_seen}
 use Rattle.plan_meaning.specs.NumberedMembers.{Homes, NumberedMember, home_at}
-use Rattle.plan_meaning.specs.NumberedRules.{Fact}
+use Rattle.plan_meaning.specs.{NumberedRules.Fact, ReadFunctions.Beside, ReadFunctions.FunctionsAreRead, ReadFunctions.IsReadFunction}
 use Rattle.plan_meaning.specs.NumberedViews.{FunctionShape, NumberedFunction, NumberedSight, Tables, function_at}
 use Rattle.plan_meaning.specs.Plan.{Plan, PlannedFunction, PlannedInterface, PlannedItem, PlannedKey, PlannedWorld, interface_in, item_function, items_of, world_in}
 use Rattle.plan_meaning.specs.PlanRules.{functions_of, world_functions}
-use Rattle.plan_meaning.specs.ReadFunctions.{Beside, FunctionsAreRead, IsReadFunction}
 use Rattle.plan_meaning.specs.ReadWholes.{IsPartOfFunction, IsPartOfKept, a_parameter, a_result, of_interface, of_world}
-use Rattle.plan_parts.specs.Functions.{KeptIfGiven, KeptParam, TakesAndGives}
-use Rattle.plan_parts.specs.Interfaces.{IsPlannedFunction}
+use Rattle.plan_parts.specs.{Functions.KeptIfGiven, Functions.KeptParam, Functions.TakesAndGives, Interfaces.IsPlannedFunction}
 use Rattle.plan_type_laws.proofs.KeptKinds.{one_old}
 use Rattle.read_exports.specs.Members.{numbered_members}
 use Rattle.read_exports.specs.declared.members.Member.{Member}
-use Rattle.read_exports.specs.declared.members.Part.TheVariants as parts
-use Rattle.read_rules.specs.declared.scopes.Scope.{Scope}
-use Rattle.read_rules.specs.declared.scopes.Seen.{Seen}
-use Rattle.read_rules.specs.declared.scopes.Shown.{Shown}
-use Rattle.read_rules.specs.declared.scopes.Shown.TheVariants as shown
-use Rattle.plan_types.specs.Showings.{signatures_of_members}
-use Rattle.plan_types.specs.Used.{function_parts, signature_parts}
-use Rattle.plan_package.specs.PlanWhole.{PlansWhole, places_in}
-use Rattle.plan_package.specs.Views.{views_of_members, views_of_part}
-use Rattle.plan_package.specs.WholeInterfaces.{PlansInterface}
+use Rattle.read_rules.specs.declared.scopes.{Scope.Scope, Seen.Seen, Shown.Shown}
+use Rattle.plan_types.specs.{Showings.signatures_of_members, Used.function_parts, Used.signature_parts}
+use Rattle.plan_package.specs.{PlanWhole.PlansWhole, PlanWhole.places_in, Views.views_of_members, Views.views_of_part, WholeInterfaces.PlansInterface}
 use Rattle.plan_package.specs.WholeWorlds.{PlansItem, PlansWorld, a_function, a_type, an_instance, worlds_in}
-use Rattle.plan_laws.specs.Whole.{IsPackageInput}
-use Rattle.plan_laws.specs.WholeReasons.{AreShownAlike}
-use Rattle.plan_laws.proofs.Inside.{flat_cases}
-use Rattle.plan_laws.proofs.Sources as sources
-use Rattle.plan_laws.proofs.Sources.{partner, signed, view_among}
-use Rattle.plan_laws.proofs.PlaceNumbers.{number_given}
-use Rattle.plan_laws.proofs.Planned.{first_there, interface_there, view_met}
-use Rattle.plan_laws.proofs.WholePlacesLabels.{world_among}
+use Rattle.plan_laws.specs.{Whole.IsPackageInput, WholeReasons.AreShownAlike}
+use Rattle.plan_laws.proofs.{Inside.flat_cases, PlaceNumbers.number_given, WholePlacesLabels.world_among}
+use Rattle.plan_laws.proofs.{Sources.partner, Sources.signed, Sources.view_among, Planned.first_there, Planned.interface_there, Planned.view_met}
 use Rattle.base_lemmas.proofs.Elements.{all_at, contains-later, contains-map, contains-one, get-contains, last_of as one-contained, map_from as from_map, zip_at, zip_at_right as zip_get}
 use Rattle.base_lemmas.proofs.Numbers.{same-number}
 use Rattle.plan_package.proofs.ReadPackageLaws.{number_at as number_there}
+use Rattle.comp_meaning.specs.Reads as reads
+use Rattle.read_exports.specs.declared.members.Part.TheVariants as parts
+use Rattle.read_rules.specs.declared.scopes.Shown.TheVariants as shown
+use Rattle.plan_laws.proofs.Sources as sources
 
 -- ---- parts of functions
 

@@ -1,53 +1,30 @@
 -- The types of a whole plan are those that were read.
-use Rattle.plan_laws.specs.Whole.{IsPackageInput}
-use Rattle.plan_meaning.specs.NumberedRules.{Fact}
-use Rattle.std.proofs.Common.{◌≡◌, refl, sym, ap, subst, ◌∙◌, ℕ, ◌+◌, ◌<◌, ◌⊎◌, inl, inr, arith, true, ◌&&◌, ◌==◌, List, length, Option, Some, None, option_map, slice_get, Bool}
-use Rattle.std.specs.Prelude.{option_and_then}
-use Rattle.std.specs.List.{Contains, list_all}
-use Rattle.std.specs.Option.{option_map_or}
-use Rattle.std.proofs.lemmas.Option.{slice_get_within, same_Some as same-some}
-use Rattle.wit_model.specs.Lookup.{place_of_path}
-use Rattle.wit_model.specs.Names.{PackageIdentity, is_label, path_in}
-use Rattle.wit_model.specs.Text.{Text}
-use Rattle.wit_model.specs.Valid.{as_interface, as_world}
-use Rattle.wit_model.proofs.NameLaws.{read_path_is_spelled}
-use Rattle.comp_meaning.specs.Follow.{place_of}
-use Rattle.comp_meaning.specs.Reads as reads
-use Rattle.comp_meaning.specs.Rules as rules
-use Rattle.plan_meaning.specs.FollowedNumbers.{IsMetFrom}
+use Rattle.plan_laws.specs.{Whole.IsPackageInput, Owners.homes_in, Owners.owners_of, ShownRules.TypeObeys}
+use Rattle.plan_laws.specs.{ShownNames.IsInput, WholeTypes.IsRuledInput, WholeTypes.PackagesAreRuled, WholeTypes.PlannedTypesAreWhole, WholeTypes.TypesAreWhole}
+use Rattle.plan_meaning.specs.{NumberedRules.Fact, FollowedNumbers.IsMetFrom}
 use Rattle.plan_meaning.specs.NumberedMembers.{Homes, NumberedMember, are_interfaces, home_at, sights_of_members, stands_at_top}
 use Rattle.plan_meaning.specs.NumberedViews.{AllOf, IsPart, Tables, agree_in_numbers, declaration_of, path_at, place_at}
 use Rattle.plan_meaning.specs.Plan.{Plan, PlannedInterface, PlannedPackage, package_in, path_of_planned, place_in}
+use Rattle.std.proofs.Common.{◌≡◌, refl, sym, ap, subst, ◌∙◌, ℕ, ◌+◌, ◌<◌, ◌⊎◌, inl, inr, arith, true, ◌&&◌, ◌==◌, List, length, Option, Some, None, option_map, slice_get, Bool}
+use Rattle.std.proofs.lemmas.Option.{slice_get_within, same_Some as same-some}
+use Rattle.std.specs.{Prelude.option_and_then, List.Contains, List.list_all, Option.option_map_or}
+use Rattle.wit_model.specs.{Lookup.place_of_path, Names.PackageIdentity, Names.is_label, Names.path_in, Text.Text, Valid.as_interface, Valid.as_world}
+use Rattle.wit_model.proofs.NameLaws.{read_path_is_spelled}
+use Rattle.comp_meaning.specs.Follow.{place_of}
 use Rattle.read_exports.specs.Members.{numbered_members}
 use Rattle.read_exports.specs.declared.members.Member.{Member}
-use Rattle.plan_types.specs.PlannedTypes.{number_in}
-use Rattle.plan_types.specs.Showings.{NumberedShowing, showings_of_members, signatures_of_members}
+use Rattle.plan_types.specs.{PlannedTypes.number_in, Showings.NumberedShowing, Showings.showings_of_members, Showings.signatures_of_members}
 use Rattle.plan_package.specs.PlanWhole.{PlansWhole, owners_in, places_in, shown_first}
-use Rattle.plan_package.specs.WholeInterfaces.{Home}
-use Rattle.plan_package.specs.WholePackages.{PlansPackage, another, entries_from, the_main}
-use Rattle.plan_type_laws.specs.PlanTypes.{NamesObey}
-use Rattle.plan_type_laws.specs.ShownForms.{FindsShown}
-use Rattle.plan_type_laws.specs.ShownMarks.{MarksStand}
-use Rattle.plan_type_laws.specs.UsedParts.{ShowingObeys}
-use Rattle.plan_type_laws.proofs.FirstFound.{firsts_found}
-use Rattle.plan_type_laws.proofs.FormsObeyed.{forms_obeyed}
-use Rattle.plan_type_laws.proofs.InnerForms.{name_there}
+use Rattle.plan_package.specs.{WholeInterfaces.Home, WholePackages.PlansPackage, WholePackages.another, WholePackages.entries_from, WholePackages.the_main}
+use Rattle.plan_type_laws.specs.{PlanTypes.NamesObey, ShownForms.FindsShown, ShownMarks.MarksStand, UsedParts.ShowingObeys}
+use Rattle.plan_type_laws.proofs.{FirstFound.firsts_found, FormsObeyed.forms_obeyed, InnerForms.name_there, PlanTypes.types_are_kept, ShownMarks.names_marked}
 use Rattle.plan_type_laws.proofs.KeptMarks.{marks_kept}
-use Rattle.plan_type_laws.proofs.PlanTypes.{types_are_kept}
-use Rattle.plan_type_laws.proofs.ShownMarks.{names_marked}
-use Rattle.plan_laws.specs.Owners.{homes_in, owners_of}
-use Rattle.plan_laws.specs.ShownNames.{IsInput}
-use Rattle.plan_laws.specs.ShownRules.{TypeObeys}
-use Rattle.plan_laws.specs.WholeTypes.{IsRuledInput, PackagesAreRuled, PlannedTypesAreWhole, TypesAreWhole}
-use Rattle.plan_laws.proofs.PlaceNumbers.{number_given, owner_met}
-use Rattle.plan_laws.proofs.Planned.{first_there, home_alone, interface_there, shown_met}
-use Rattle.plan_laws.proofs.ShownNames.{names_are_shown}
-use Rattle.plan_laws.proofs.Inside.{name_same}
-use Rattle.plan_laws.proofs.Sources.{if_given}
-use Rattle.plan_laws.proofs.ShownRules.{all_of, rules_obeyed}
-use Rattle.base_lemmas.proofs.Elements.{all_at}
-use Rattle.base_lemmas.proofs.Lists.{within_there as slice_there}
+use Rattle.plan_laws.proofs.{PlaceNumbers.number_given, PlaceNumbers.owner_met, ShownNames.names_are_shown, Inside.name_same, Sources.if_given}
+use Rattle.plan_laws.proofs.{Planned.first_there, Planned.home_alone, Planned.interface_there, Planned.shown_met, ShownRules.all_of, ShownRules.rules_obeyed}
+use Rattle.base_lemmas.proofs.{Elements.all_at, Lists.within_there as slice_there}
 use Rattle.plan_package.proofs.ReadPackageLaws.{number_at as number_there}
+use Rattle.comp_meaning.specs.Reads as reads
+use Rattle.comp_meaning.specs.Rules as rules
 
 -- ---- what is shown
 

@@ -1,67 +1,45 @@
 -- The worlds of a whole plan are those that were read.
-use Rattle.plan_laws.proofs.WorldKeys.{keys_differ}
-use Rattle.plan_laws.proofs.Sources.{Side, side_good, side_is, IsWorldIn, world_in as world_of}
+use Rattle.plan_laws.proofs.{WorldKeys.keys_differ, PlaceNumbers.one_owner, Showings.all_given, WorldItems.planned_worlds_stand, WorldItems.world_member}
+use Rattle.plan_laws.proofs.{Sources.Side, Sources.side_good, Sources.side_is, Sources.IsWorldIn, Sources.world_in as world_of, WholeTypes.packages_are_ruled}
+use Rattle.plan_laws.proofs.FollowedItems.{items, items_at, items_behind, items_listed, items_seen, parts_back, seen_resource, types_behind}
 use Rattle.std.proofs.Common.{◌≡◌, refl, sym, ap, subst, ◌∙◌, ℕ, ◌+◌, ◌<◌, inl, inr, arith, Bool, true, false, not, ◌&&◌, List, [], ◌++◌, length, map, option_to_list, Option, Some, None, slice_get}
+use Rattle.std.proofs.{Math.ListN.length-map, lemmas.Slice.Zip.AllZip-long as zip_length}
+use Rattle.std.proofs.lemmas.{List.Elements.Contains-append_left, List.Elements.Contains-append_right, Option.slice_get_within, Option.same_Some as same-some}
 use Rattle.std.specs.List.{AllByRecursion, Contains, list_all, AllZip}
-use Rattle.std.proofs.Math.ListN.{length-map}
-use Rattle.std.proofs.lemmas.List.Elements.{Contains-append_left, Contains-append_right}
-use Rattle.std.proofs.lemmas.Option.{slice_get_within, same_Some as same-some}
 use Rattle.wit_model.specs.declared.model.TypeId.{TypeId}
-use Rattle.wit_model.specs.Lookup.{resource_of}
-use Rattle.wit_model.specs.Names.{is_label}
-use Rattle.wit_model.specs.Text.{Text}
-use Rattle.wit_model.specs.Valid.{as_world}
+use Rattle.wit_model.specs.{Lookup.resource_of, Names.is_label, Text.Text, Valid.as_world}
 use Rattle.wit_model.proofs.Elements.{contains-filter_map}
-use Rattle.comp_meaning.specs.Reads as reads
 use Rattle.comp_meaning.specs.Rules.{distinct}
-use Rattle.plan_meaning.specs.FollowedNumbers.{IsCalledIn, IsMetFrom}
+use Rattle.plan_meaning.specs.{FollowedNumbers.IsCalledIn, FollowedNumbers.IsMetFrom, NumberedViews.PartsOf, NumberedViews.Tables, NumberedViews.function_at}
 use Rattle.plan_meaning.specs.KeptFunctions.{IsKindOf, IsResource, a_constructor, a_method, a_static, an_async_method, an_async_static, of_none}
-use Rattle.plan_meaning.specs.NumberedMembers.{Homes, NumberedMember, home_at}
-use Rattle.plan_meaning.specs.NumberedRules.{Fact, is_function}
-use Rattle.plan_meaning.specs.NumberedViews.{PartsOf, Tables, function_at}
-use Rattle.plan_meaning.specs.NumberedWorlds as worlds
+use Rattle.plan_meaning.specs.{NumberedMembers.Homes, NumberedMembers.NumberedMember, NumberedMembers.home_at, NumberedRules.Fact, NumberedRules.is_function}
 use Rattle.plan_meaning.specs.NumberedWorlds.{KeyStands, NumberedScope, NumberedSeen, NumberedShown, ScopeStands, are_imports, is_item, is_world, place_of_key, resources_seen, shown_of, stand_earlier}
-use Rattle.plan_meaning.specs.Plan as plan
 use Rattle.plan_meaning.specs.Plan.{Plan, PlannedFunction, PlannedItem, PlannedKey, PlannedWorld, item_function, items_of, world_in}
-use Rattle.plan_meaning.specs.PlanRules.{world_functions}
-use Rattle.plan_meaning.specs.ReadFunctions.{Beside, FunctionsAreRead, IsReadFunction}
+use Rattle.plan_meaning.specs.{PlanRules.world_functions, ReadFunctions.Beside, ReadFunctions.FunctionsAreRead, ReadFunctions.IsReadFunction}
 use Rattle.plan_meaning.specs.ReadWorlds.{IsInterfaceOf, IsReadItem, IsReadUnder, IsReadWorld, ReadItem, by_label, by_path, implementing_path, is_type_seen, types_follow}
-use Rattle.plan_meaning.specs.ReadWorlds as read
 use Rattle.plan_meaning.specs.Shapes.{named_shape}
-use Rattle.plan_meaning.proofs.Lists.{no_true}
-use Rattle.plan_meaning.proofs.NumberedWorlds.{worlds_in_numbers}
+use Rattle.plan_meaning.proofs.{Lists.no_true, NumberedWorlds.worlds_in_numbers}
 use Rattle.plan_parts.specs.Functions.{TakesAndGives}
 use Rattle.plan_parts.proofs.FunctionLaws.{IsNamedAfter, constructor_after, method_after, resource_among, static_after}
 use Rattle.read_exports.specs.Members.{numbered_member, numbered_members, numbered_part}
 use Rattle.read_exports.specs.declared.members.Member.{Member}
-use Rattle.read_exports.specs.declared.members.Part.TheVariants as parts
-use Rattle.read_rules.specs.Scopes.{numbered_key, numbered_scope, numbered_seen, numbered_shown}
-use Rattle.read_rules.specs.Tables.{given_text}
-use Rattle.read_rules.specs.Views.{numbered_view}
-use Rattle.read_rules.specs.declared.scopes.InstanceKey.{InstanceKey}
-use Rattle.read_rules.specs.declared.scopes.InstanceKey.TheVariants as keys
-use Rattle.read_rules.specs.declared.scopes.Scope.{Scope}
-use Rattle.read_rules.specs.declared.scopes.Seen.{Seen}
-use Rattle.read_rules.specs.declared.scopes.Shown.TheVariants as shown
-use Rattle.read_rules.specs.declared.views.View.{View}
+use Rattle.read_rules.specs.{Scopes.numbered_key, Scopes.numbered_scope, Scopes.numbered_seen, Scopes.numbered_shown, Tables.given_text, Views.numbered_view}
+use Rattle.read_rules.specs.declared.{scopes.InstanceKey.InstanceKey, scopes.Scope.Scope, scopes.Seen.Seen, views.View.View}
 use Rattle.plan_package.specs.PlanWhole.{PlansWhole, places_in}
 use Rattle.plan_package.specs.WholeWorlds.{PlansFunction, PlansInstance, PlansItem, PlansWorld, a_function, a_type, an_instance, worlds_in}
-use Rattle.plan_laws.specs.FirstViews.{ViewsAreOrdered}
-use Rattle.plan_laws.specs.Owners.{owners_of}
-use Rattle.plan_laws.specs.ViewedInterfaces.{views_read}
-use Rattle.plan_laws.specs.Whole.{IsPackageInput, PartIsKnown}
-use Rattle.plan_laws.specs.WholeTypes.{IsRuledInput}
+use Rattle.plan_laws.specs.{FirstViews.ViewsAreOrdered, Owners.owners_of, ViewedInterfaces.views_read, WholeTypes.IsRuledInput}
+use Rattle.plan_laws.specs.{Whole.IsPackageInput, Whole.PartIsKnown, WorldItems.KeysAreApart, WorldItems.WorldIsPlanned, WorldItems.WorldsAreApart}
 use Rattle.plan_laws.specs.WholeWorlds.{IsCounted, IsLastType, IsReadAs, IsUnderKey, PlannedWorldsAreRead, WorldIsFollowed, WorldsAreFollowed, WorldsAreReadAs}
-use Rattle.plan_laws.specs.WorldItems.{KeysAreApart, WorldIsPlanned, WorldsAreApart}
-use Rattle.plan_laws.proofs.FollowedItems.{items, items_at, items_behind, items_listed, items_seen, parts_back, seen_resource, types_behind}
-use Rattle.plan_laws.proofs.PlaceNumbers.{one_owner}
-use Rattle.plan_laws.proofs.Showings.{all_given}
-use Rattle.plan_laws.proofs.WholeTypes.{packages_are_ruled}
-use Rattle.plan_laws.proofs.WorldItems.{planned_worlds_stand, world_member}
 use Rattle.base_lemmas.proofs.Elements.{all_at, all_by_number, contains-map, contains-one, get-contains, zip_at_right as zip_get}
 use Rattle.base_lemmas.proofs.Lists.{get_back as unmapped_get, mapped_get, within_there as slice_there}
-use Rattle.std.proofs.lemmas.Slice.Zip.{AllZip-long as zip_length}
 use Rattle.plan_type_laws.proofs.PartPlaces.{parts_weaker}
+use Rattle.comp_meaning.specs.Reads as reads
+use Rattle.plan_meaning.specs.NumberedWorlds as worlds
+use Rattle.plan_meaning.specs.Plan as plan
+use Rattle.plan_meaning.specs.ReadWorlds as read
+use Rattle.read_exports.specs.declared.members.Part.TheVariants as parts
+use Rattle.read_rules.specs.declared.scopes.InstanceKey.TheVariants as keys
+use Rattle.read_rules.specs.declared.scopes.Shown.TheVariants as shown
 
 abbrev value : PlannedKey × PlannedItem → PlannedItem
 value e = e.1

@@ -1,61 +1,37 @@
 -- What the worlds of a plan import and export, beside functions, is as it was followed.
 use Rattle.std.proofs.lemmas.Bool.{false_from_ne_true}
-use Rattle.plan_type_laws.proofs.PartPlaces.{slot_number}
 use Rattle.std.proofs.Common.{◌≡◌, refl, sym, ap, subst, ◌∙◌, ℕ, ◌+◌, arith, true, false, cond, List, [], ◌∷◌, ◌++◌, length, map, Option, Some, None, slice_get}
-use Rattle.std.specs.Cmp.Lexicographic.{pointwise}
-use Rattle.std.specs.List.{Contains, flat_map}
-use Rattle.std.specs.Option.{option_map_or}
-use Rattle.std.proofs.lemmas.List.{append-nil, append_assoc}
-use Rattle.std.proofs.lemmas.Option.{slice_get_within, same_Some as same-some}
+use Rattle.std.proofs.lemmas.{List.append-nil, List.append_assoc, Option.slice_get_within, Option.same_Some as same-some, Slice.Zip.AllZip-long as zip_length}
+use Rattle.plan_type_laws.proofs.{PartPlaces.slot_number, FirstFound.firsts_found}
+use Rattle.std.specs.{Cmp.Lexicographic.pointwise, List.Contains, List.flat_map, Option.option_map_or}
 use Rattle.wit_model.specs.declared.model.TypeOwner.{TypeOwner}
-use Rattle.wit_model.specs.Text.{Text}
-use Rattle.wit_model.specs.Uses.{has}
-use Rattle.wit_model.specs.Valid.{as_interface, as_world}
+use Rattle.wit_model.specs.{Text.Text, Uses.has, Valid.as_interface, Valid.as_world}
 use Rattle.wit_model.proofs.Elements.{contains-flat, contains-get, has-contains, none-in}
-use Rattle.comp_meaning.specs.Reads as reads
-use Rattle.plan_meaning.specs.FollowedNumbers.{IsPartIn, IsShownIn}
-use Rattle.plan_meaning.specs.GatheredPlan.{DeclaresKind}
-use Rattle.plan_meaning.specs.NumberedMembers.{Homes, NumberedMember, home_at, sights_of_members}
-use Rattle.plan_meaning.specs.NumberedViews.{NumberedSight, Tables, agree_in_numbers, same_shown}
-use Rattle.plan_meaning.specs.NumberedWorlds.{place_of_key}
-use Rattle.plan_meaning.specs.Plan.{Plan}
+use Rattle.plan_meaning.specs.{FollowedNumbers.IsPartIn, FollowedNumbers.IsShownIn, GatheredPlan.DeclaresKind, NumberedWorlds.place_of_key}
+use Rattle.plan_meaning.specs.{NumberedMembers.Homes, NumberedMembers.NumberedMember, NumberedMembers.home_at, NumberedMembers.sights_of_members, Plan.Plan}
+use Rattle.plan_meaning.specs.{NumberedViews.NumberedSight, NumberedViews.Tables, NumberedViews.agree_in_numbers, NumberedViews.same_shown, Shapes.named_shape}
 use Rattle.plan_meaning.specs.ReadFunctions.{Beside}
-use Rattle.plan_meaning.specs.Shapes.{named_shape}
 use Rattle.read_exports.specs.Members.{numbered_members, numbered_part}
-use Rattle.read_exports.specs.declared.members.Member.{Member}
-use Rattle.read_exports.specs.declared.members.Part.{Part}
-use Rattle.read_exports.specs.declared.members.Part.TheVariants as parts
-use Rattle.read_rules.specs.Scopes.{numbered_key}
-use Rattle.read_rules.specs.Tables.{given_text}
-use Rattle.read_rules.specs.Views.{numbered_view}
-use Rattle.read_rules.specs.declared.scopes.Scope.{Scope}
-use Rattle.read_rules.specs.declared.scopes.Seen.{Seen}
-use Rattle.read_rules.specs.declared.scopes.Shown.{Shown}
-use Rattle.read_rules.specs.declared.scopes.Shown.TheVariants as shown
+use Rattle.read_exports.specs.declared.members.{Member.Member, Part.Part}
+use Rattle.read_rules.specs.{Scopes.numbered_key, Tables.given_text, Views.numbered_view}
+use Rattle.read_rules.specs.declared.scopes.{Scope.Scope, Seen.Seen, Shown.Shown}
 use Rattle.plan_types.specs.Orders.{home_of_part, joined_all}
-use Rattle.plan_types.specs.PlannedTypes.{PlansType, number_in}
-use Rattle.plan_types.specs.Showings.{NumberedShowing, showings_of_members}
-use Rattle.plan_package.specs.PlanWhole.{PlansWhole, owners_in, places_in, shown_first}
-use Rattle.plan_package.specs.Views.{views_of_members}
+use Rattle.plan_types.specs.{PlannedTypes.PlansType, PlannedTypes.number_in, Showings.NumberedShowing, Showings.showings_of_members}
+use Rattle.plan_package.specs.{PlanWhole.PlansWhole, PlanWhole.owners_in, PlanWhole.places_in, PlanWhole.shown_first, Views.views_of_members}
 use Rattle.plan_package.specs.WholeWorlds.{world_in_part, worlds_in}
-use Rattle.plan_type_laws.proofs.FirstFound.{firsts_found}
-use Rattle.plan_laws.specs.FirstViews.{ViewsAreOrdered}
-use Rattle.plan_laws.specs.Owners.{homes_in, owners_of}
-use Rattle.plan_laws.specs.ShownNames.{IsInput}
+use Rattle.plan_laws.specs.{FirstViews.ViewsAreOrdered, Owners.homes_in, Owners.owners_of, ShownNames.IsInput}
 use Rattle.plan_laws.specs.WorldItems.{InstancesAreRead, KeysAreApart, PlannedWorldsStand, TypesAreRead, WorldsAreApart}
-use Rattle.plan_laws.proofs.FirstTypes.{views_told}
-use Rattle.plan_laws.proofs.FirstViews.{first_is, told_types}
-use Rattle.plan_laws.proofs.Inside.{flat_cases, name_same}
-use Rattle.plan_laws.proofs.Sources as origins
+use Rattle.plan_laws.proofs.{FirstTypes.views_told, Inside.flat_cases, Inside.name_same, PlaceNumbers.IsOnce, PlaceNumbers.number_given, Showings.import_named}
+use Rattle.plan_laws.proofs.{FirstViews.first_is, FirstViews.told_types, Planned.first_there, Planned.interface_there, Planned.kept_number, Planned.place_seen}
 use Rattle.plan_laws.proofs.Sources.{origin, seen_sight, sight_of, view_among, world_in, member_view_in}
 use Rattle.plan_laws.proofs.Owned.{planned_name}
-use Rattle.plan_laws.proofs.PlaceNumbers.{IsOnce, number_given}
-use Rattle.plan_laws.proofs.Planned.{first_there, interface_there, kept_number, place_seen}
-use Rattle.plan_laws.proofs.Showings.{import_named}
 use Rattle.base_lemmas.proofs.Elements.{all_at, contains-one, get-contains, last_of as one-contained}
 use Rattle.base_lemmas.proofs.Lists.{front_at as at_front, get_back as unmapped_get, mapped_get, middle_get, within_there as slice_there}
-use Rattle.std.proofs.lemmas.Slice.Zip.{AllZip-long as zip_length}
 use Rattle.plan_package.proofs.ReadPackageLaws.{number_at as number_there}
+use Rattle.comp_meaning.specs.Reads as reads
+use Rattle.read_exports.specs.declared.members.Part.TheVariants as parts
+use Rattle.read_rules.specs.declared.scopes.Shown.TheVariants as shown
+use Rattle.plan_laws.proofs.Sources as origins
 
 declared_of : Shown → Option ℕ
 declared_of (shown.Declares g o) = o

@@ -1,34 +1,26 @@
 -- The imports of a world stand under keys that differ, and a world has a place of its own.
 use Rattle.read_shown.proofs.Lists.{one_place}
-use Rattle.plan_laws.specs.WorldItems.{KeysAreApart}
-use Rattle.read_rules.specs.declared.scopes.Shown.TheVariants as shown
-use Rattle.base_lemmas.proofs.Elements.{contains-map}
-use Rattle.read_rules.specs.declared.scopes.Seen.{Seen}
+use Rattle.plan_laws.specs.{WorldItems.KeysAreApart, ShownNames.IsInput}
+use Rattle.base_lemmas.proofs.{Elements.contains-map, Bools.third_of, Lists.map_of_map, Lists.mapped_get}
+use Rattle.read_rules.specs.declared.scopes.{Seen.Seen, Scope.Scope}
 use Rattle.plan_package.specs.Views.{views_of_members}
-use Rattle.plan_laws.proofs.Showings.{import_named}
-use Rattle.plan_laws.proofs.Inside.{name_same}
+use Rattle.plan_laws.proofs.{Showings.import_named, OwnPlaces.Owned, OwnPlaces.a_view, OwnPlaces.a_world, OwnPlaces.frames, OwnPlaces.one_owned}
+use Rattle.plan_laws.proofs.{Inside.name_same, Sources.one_under, Sources.IsWorldIn, Sources.world_in, ShownFrom.home_frame, ShownFrom.view_frame}
 use Rattle.std.proofs.Common.{◌≡◌, sym, ap, subst, ◌∙◌, ℕ, Bool, true, false, List, [], ◌++◌, map, Option, arith, Some}
 use Rattle.std.specs.List.{Contains, list_all}
-use Rattle.comp_meaning.specs.Follow as follow
-use Rattle.comp_meaning.specs.Reads as reads
-use Rattle.comp_meaning.specs.Rules as rules
 use Rattle.comp_meaning.specs.Rules.{distinct}
-use Rattle.plan_meaning.specs.NumberedMembers.{Homes}
-use Rattle.plan_meaning.specs.NumberedViews.{Tables, NumberedSight, path_at}
-use Rattle.plan_meaning.specs.NumberedWorlds as worlds
+use Rattle.plan_meaning.specs.{NumberedMembers.Homes, NumberedViews.Tables, NumberedViews.NumberedSight, NumberedViews.path_at}
 use Rattle.plan_meaning.specs.NumberedWorlds.{NumberedScope, NumberedSeen, NumberedShown, are_once, seen_of}
 use Rattle.read_exports.specs.Members.{numbered_members}
 use Rattle.read_exports.specs.declared.members.Member.{Member}
-use Rattle.read_exports.specs.declared.members.Part.TheVariants as parts
-use Rattle.read_rules.specs.declared.scopes.Scope.{Scope}
 use Rattle.read_rules.specs.Scopes.{numbered_scope, numbered_seen, numbered_shown}
 use Rattle.plan_type_laws.specs.ShownMarks.{own_places}
-use Rattle.plan_laws.specs.ShownNames.{IsInput}
-use Rattle.plan_laws.proofs.OwnPlaces.{Owned, a_view, a_world, frames, one_owned}
-use Rattle.plan_laws.proofs.Sources.{one_under, IsWorldIn, world_in}
-use Rattle.plan_laws.proofs.ShownFrom.{home_frame, view_frame}
-use Rattle.base_lemmas.proofs.Bools.{third_of}
-use Rattle.base_lemmas.proofs.Lists.{map_of_map, mapped_get}
+use Rattle.read_rules.specs.declared.scopes.Shown.TheVariants as shown
+use Rattle.comp_meaning.specs.Follow as follow
+use Rattle.comp_meaning.specs.Reads as reads
+use Rattle.comp_meaning.specs.Rules as rules
+use Rattle.plan_meaning.specs.NumberedWorlds as worlds
+use Rattle.read_exports.specs.declared.members.Part.TheVariants as parts
 
 -- the import of a key is one
 pub one_key : (ss : List NumberedSeen) → distinct (map (λ (s : NumberedSeen). s.key) ss) ≡ true → (a b : NumberedSeen) → Contains ss a → Contains ss b → a.key ≡ b.key → a ≡ b

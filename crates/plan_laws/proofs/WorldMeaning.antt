@@ -1,44 +1,27 @@
 -- The plan of one world, beside the interfaces of its package that it shows, means what the world does.
 use Rattle.std.proofs.Common.{◌≡◌, refl, sym, ap, subst, ◌∙◌, ℕ, true, false, List, ◌∷◌, Some, slice_get}
+use Rattle.std.proofs.lemmas.Option.{same_Some as same-some}
 use Rattle.std.specs.List.{AllByRecursion}
 use Rattle.wit_model.specs.Names.{PackageIdentity, path_in, read_path}
 use Rattle.wit_model.proofs.NameLaws.{read_path_is_spelled, spelled_path_reads}
-use Rattle.comp_meaning.specs.Follow as follow
-use Rattle.comp_meaning.specs.Reads as reads
 use Rattle.comp_meaning.specs.Reads.{world_with}
-use Rattle.plan_meaning.specs.GatheredPlan.{IsGatheredWorld, WorldBecomes, under_path}
+use Rattle.plan_meaning.specs.{GatheredPlan.IsGatheredWorld, GatheredPlan.WorldBecomes, GatheredPlan.under_path, NumberedWorlds.sights_of_scope}
 use Rattle.plan_meaning.specs.NumberedMembers.{Homes, IsKnownSight, home_at, sights_of_members}
-use Rattle.plan_meaning.specs.NumberedRules.{Fact}
-use Rattle.plan_meaning.specs.NumberedViews.{NumberedSight, Tables}
-use Rattle.plan_meaning.specs.NumberedWorlds.{sights_of_scope}
-use Rattle.plan_meaning.specs.Plan.{Plan, world_in}
-use Rattle.plan_meaning.specs.PlanMeaning.{plan_world_meaning}
+use Rattle.plan_meaning.specs.{NumberedRules.Fact, NumberedViews.NumberedSight, NumberedViews.Tables, Plan.Plan, Plan.world_in, PlanMeaning.plan_world_meaning}
 use Rattle.plan_meaning.specs.ReadFunctions.{Beside}
-use Rattle.plan_meaning.proofs.GatheredPlan.{gathered_world_is_meant}
-use Rattle.plan_meaning.proofs.KeptTypes.{kept_types_pass}
-use Rattle.plan_meaning.proofs.ReadWholes.{read_world_plan_stands}
+use Rattle.plan_meaning.proofs.{GatheredPlan.gathered_world_is_meant, KeptTypes.kept_types_pass, ReadWholes.read_world_plan_stands}
 use Rattle.plan_type_laws.proofs.Walks.{all_split}
 use Rattle.read_exports.specs.Members.{numbered_members}
 use Rattle.read_exports.specs.declared.members.Member.{Member}
 use Rattle.read_rules.specs.Scopes.{numbered_scope}
 use Rattle.plan_package.specs.PlanWhole.{PlansWhole}
-use Rattle.plan_laws.specs.FirstViews.{ViewsAreOrdered}
-use Rattle.plan_laws.specs.OneWorld.{IsWorldInput, WorldPlanIsWhole}
-use Rattle.plan_laws.specs.ViewedInterfaces.{views_read}
-use Rattle.plan_laws.specs.Whole.{IsPackageInput}
-use Rattle.plan_laws.specs.WholeFunctions.{beside_tables}
-use Rattle.plan_laws.specs.WholePlan.{IsWholeInput}
-use Rattle.plan_laws.specs.WholeTypes.{TypesAreWhole}
-use Rattle.plan_laws.specs.WorldItems.{WorldsAreApart}
-use Rattle.plan_laws.proofs.Apart.{whole_stands_apart}
-use Rattle.plan_laws.proofs.GatheredInterfaces.{all_gathered}
-use Rattle.plan_laws.proofs.GatheredSights.{IsGatheredFrom}
-use Rattle.plan_laws.proofs.GatheredWorlds.{world_at}
+use Rattle.plan_laws.specs.{FirstViews.ViewsAreOrdered, Whole.IsPackageInput, WholeTypes.TypesAreWhole, WorldItems.WorldsAreApart}
+use Rattle.plan_laws.specs.{OneWorld.IsWorldInput, OneWorld.WorldPlanIsWhole, ViewedInterfaces.views_read, WholeFunctions.beside_tables, WholePlan.IsWholeInput}
+use Rattle.plan_laws.proofs.{Apart.whole_stands_apart, GatheredWorlds.world_at, WholeMeaning.main, WorldPlan.world_plan_read}
+use Rattle.plan_laws.proofs.{GatheredInterfaces.all_gathered, GatheredSights.IsGatheredFrom, WholeTypes.packages_are_ruled, WholeTypes.planned_types_are_whole}
 use Rattle.plan_laws.proofs.OneWorld.{functions_shown, one_world, place_shown, planned_alone, shown_among, views_first}
-use Rattle.plan_laws.proofs.WholeMeaning.{main}
-use Rattle.plan_laws.proofs.WholeTypes.{packages_are_ruled, planned_types_are_whole}
-use Rattle.plan_laws.proofs.WorldPlan.{world_plan_read}
-use Rattle.std.proofs.lemmas.Option.{same_Some as same-some}
+use Rattle.comp_meaning.specs.Follow as follow
+use Rattle.comp_meaning.specs.Reads as reads
 
 module _ (t : Tables) (h : Homes) (known : ℕ → Fact) (n : ℕ) (m : Member) (own : List Member) (members : List reads.Member) (given : IsPackageInput t h known n (m ∷ own) members)
     (input : IsWholeInput t h n (m ∷ own))

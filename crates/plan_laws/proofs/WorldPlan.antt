@@ -1,30 +1,19 @@
 -- The plan of one world, beside the interfaces of its package that it shows, is one that was read as one world.
 use Rattle.std.proofs.Common.{◌≡◌, refl, sym, ap, subst, ◌∙◌, ℕ, arith, List, ◌∷◌, Some}
-use Rattle.comp_meaning.specs.Reads as reads
-use Rattle.plan_meaning.specs.NumberedMembers.{Homes, home_at}
+use Rattle.plan_meaning.specs.{NumberedMembers.Homes, NumberedMembers.home_at, Plan.Plan, ReadFunctions.Beside, ReadPlans.FitsInput, ReadPlans.IsReadPlan}
 use Rattle.plan_meaning.specs.NumberedRules.{Fact}
-use Rattle.plan_meaning.specs.NumberedViews.{NumberedSight, Tables}
-use Rattle.plan_meaning.specs.NumberedWorlds.{HasPath}
-use Rattle.plan_meaning.specs.Plan.{Plan}
-use Rattle.plan_meaning.specs.ReadFunctions.{Beside}
-use Rattle.plan_meaning.specs.ReadPlans.{FitsInput, IsReadPlan}
-use Rattle.plan_meaning.specs.ReadWholes.{IsReadWorldPlan, IsShownByWorld}
+use Rattle.plan_meaning.specs.{NumberedViews.NumberedSight, NumberedViews.Tables, NumberedWorlds.HasPath, ReadWholes.IsReadWorldPlan, ReadWholes.IsShownByWorld}
 use Rattle.read_exports.specs.Members.{numbered_members}
 use Rattle.read_exports.specs.declared.members.Member.{Member}
-use Rattle.read_exports.specs.declared.members.Part.TheVariants as parts
 use Rattle.read_rules.specs.declared.scopes.Scope.{Scope}
 use Rattle.read_rules.specs.Scopes.{numbered_scope}
 use Rattle.plan_package.specs.PlanWhole.{PlansWhole}
-use Rattle.plan_laws.specs.OneWorld.{AreOwnInterfaces}
-use Rattle.plan_laws.specs.ViewedInterfaces.{views_read}
-use Rattle.plan_laws.specs.Whole.{IsPackageInput}
-use Rattle.plan_laws.specs.WholeFunctions.{beside_tables}
-use Rattle.plan_laws.specs.WholePlan.{IsWholeInput}
-use Rattle.plan_laws.specs.WholeTypes.{TypesAreWhole}
-use Rattle.plan_laws.proofs.Apart.{whole_stands_apart}
-use Rattle.plan_laws.proofs.OneWorld.{instance_of_view, place_shown, planned_alone}
-use Rattle.plan_laws.proofs.ShownWhole.{whole_is_shown}
+use Rattle.plan_laws.specs.{OneWorld.AreOwnInterfaces, ViewedInterfaces.views_read, WholeFunctions.beside_tables, WholeTypes.TypesAreWhole}
+use Rattle.plan_laws.specs.{Whole.IsPackageInput, WholePlan.IsWholeInput}
+use Rattle.plan_laws.proofs.{Apart.whole_stands_apart, OneWorld.instance_of_view, OneWorld.place_shown, OneWorld.planned_alone, ShownWhole.whole_is_shown}
 use Rattle.plan_laws.proofs.WholePlan.{plan_read}
+use Rattle.comp_meaning.specs.Reads as reads
+use Rattle.read_exports.specs.declared.members.Part.TheVariants as parts
 
 module _ (t : Tables) (h : Homes) (known : ℕ → Fact) (n : ℕ) (m : Member) (own : List Member) (members : List reads.Member) (given : IsPackageInput t h known n (m ∷ own) members)
     (input : IsWholeInput t h n (m ∷ own))

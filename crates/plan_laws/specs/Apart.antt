@@ -1,15 +1,11 @@
 -- What stands apart in what was followed of a package: the places of views and of worlds (WIT.md, "Worlds" and "Interfaces").
 use Rattle.std.specs.Prelude.{◌≡◌, ℕ, List, Some}
-use Rattle.comp_meaning.specs.Reads as reads
-use Rattle.plan_meaning.specs.NumberedMembers.{Homes}
-use Rattle.plan_meaning.specs.NumberedRules.{Fact}
-use Rattle.plan_meaning.specs.NumberedViews.{NumberedSight, Tables, first_at}
+use Rattle.plan_meaning.specs.{NumberedMembers.Homes, NumberedRules.Fact, NumberedViews.NumberedSight, NumberedViews.Tables, NumberedViews.first_at}
 use Rattle.read_exports.specs.Members.{numbered_members}
 use Rattle.read_exports.specs.declared.members.Member.{Member}
 use Rattle.plan_package.specs.Views.{views_of_members}
-use Rattle.plan_laws.specs.FirstViews.{IsRisingView, ViewsAreOrdered}
-use Rattle.plan_laws.specs.Whole.{IsPackageInput}
-use Rattle.plan_laws.specs.WorldItems.{WorldsAreApart}
+use Rattle.plan_laws.specs.{FirstViews.IsRisingView, FirstViews.ViewsAreOrdered, Whole.IsPackageInput, WorldItems.WorldsAreApart}
+use Rattle.comp_meaning.specs.Reads as reads
 
 -- the names of the first view of each place rise in the table
 abbrev pub FirstsRise : Tables → List Member → Type 0

@@ -2,14 +2,13 @@
 use Rattle.std.specs.Prelude.{◌≡◌, ℕ, true, List, Option, Some, None, slice_get}
 use Rattle.std.specs.List.{AllZip, Contains}
 use Rattle.wit_model.specs.Text.{Text}
-use Rattle.comp_meaning.specs.Rules as rules
 use Rattle.plan_meaning.specs.NumberedViews.{NumberedSight, NumberedType, NumberedView, Tables, first_at, path_at, place_at, view_of}
-use Rattle.plan_meaning.specs.PlanRules.{are_rising}
-use Rattle.plan_meaning.specs.ReadInterfaces.{IsNumberOf}
+use Rattle.plan_meaning.specs.{PlanRules.are_rising, ReadInterfaces.IsNumberOf}
 use Rattle.read_exports.specs.Members.{numbered_members}
 use Rattle.read_exports.specs.declared.members.Member.{Member}
 use Rattle.plan_package.specs.Views.{views_of_members}
 use Rattle.plan_laws.specs.Owners.{homes_in}
+use Rattle.comp_meaning.specs.Rules as rules
 
 -- a type's name, the part that it is another name for, and its external id
 abbrev pub told : NumberedType → Text × (Option ℕ × Option Text)

@@ -2,25 +2,20 @@
 -- WIT.md, "Package Format").
 use Rattle.std.specs.Prelude.{◌≡◌, ℕ, true, List, [], ◌∷◌, Some}
 use Rattle.std.specs.List.{AllByRecursion, Contains, flat_map, list_any}
-use Rattle.comp_meaning.specs.Follow as follow
-use Rattle.comp_meaning.specs.Reads as reads
 use Rattle.comp_meaning.specs.Reads.{world_with}
 use Rattle.plan_meaning.specs.NumberedMembers.{Homes, NumberedMember, NumberedPart, home_at, interface, is_interface_of, is_of_package, is_one_world, world}
-use Rattle.plan_meaning.specs.NumberedRules.{Fact}
-use Rattle.plan_meaning.specs.NumberedViews.{NumberedSight, NumberedView, Tables, first_at}
-use Rattle.plan_meaning.specs.NumberedWorlds.{NumberedScope, Shows, are_once, sights_of_scope}
-use Rattle.plan_meaning.specs.Plan.{Plan}
-use Rattle.plan_meaning.specs.PlanMeaning.{plan_world_meaning}
-use Rattle.plan_meaning.specs.PlanRules.{IsWorldPlan}
-use Rattle.plan_meaning.specs.ReadPlans.{FitsInput}
+use Rattle.plan_meaning.specs.{NumberedRules.Fact, Plan.Plan, PlanMeaning.plan_world_meaning}
+use Rattle.plan_meaning.specs.{NumberedViews.NumberedSight, NumberedViews.NumberedView, NumberedViews.Tables, NumberedViews.first_at, PlanRules.IsWorldPlan}
+use Rattle.plan_meaning.specs.{NumberedWorlds.NumberedScope, NumberedWorlds.Shows, NumberedWorlds.are_once, NumberedWorlds.sights_of_scope, ReadPlans.FitsInput}
 use Rattle.read_exports.specs.declared.members.Member.{Member}
-use Rattle.read_exports.specs.declared.members.Part.TheVariants as parts
 use Rattle.read_exports.specs.Members.{numbered_members}
 use Rattle.read_rules.specs.declared.scopes.Scope.{Scope}
 use Rattle.read_rules.specs.Scopes.{numbered_scope}
 use Rattle.plan_package.specs.PlanWhole.{PlansWhole}
-use Rattle.plan_laws.specs.Whole.{IsPackageInput}
-use Rattle.plan_laws.specs.WholePlan.{IsWholeInput}
+use Rattle.plan_laws.specs.{Whole.IsPackageInput, WholePlan.IsWholeInput}
+use Rattle.comp_meaning.specs.Follow as follow
+use Rattle.comp_meaning.specs.Reads as reads
+use Rattle.read_exports.specs.declared.members.Part.TheVariants as parts
 
 -- ---- a world as a package
 

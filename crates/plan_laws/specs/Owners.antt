@@ -1,19 +1,14 @@
 -- Whose the names of each place are (WIT.md, "Interfaces" and "Worlds").
-use Rattle.std.specs.Prelude.{◌+◌, ℕ, List, length}
-use Rattle.std.specs.Option.{option_map_or}
+use Rattle.std.specs.{Prelude.◌+◌, Prelude.ℕ, Prelude.List, Prelude.length, Option.option_map_or}
 use Rattle.wit_model.specs.declared.model.TypeOwner.{TypeOwner}
 use Rattle.wit_model.specs.Valid.{as_interface, as_world}
-use Rattle.comp_meaning.specs.Reads as reads
-use Rattle.plan_meaning.specs.KeptOwners.{AreOwned}
-use Rattle.plan_meaning.specs.NumberedMembers.{Homes, home_at}
-use Rattle.plan_meaning.specs.NumberedViews.{Tables}
-use Rattle.plan_meaning.specs.Plan.{Plan}
+use Rattle.plan_meaning.specs.{KeptOwners.AreOwned, NumberedMembers.Homes, NumberedMembers.home_at, NumberedViews.Tables, Plan.Plan}
 use Rattle.read_exports.specs.Members.{numbered_members}
 use Rattle.read_exports.specs.declared.members.Member.{Member}
-use Rattle.plan_types.specs.Orders.{homes_met}
-use Rattle.plan_types.specs.PlannedTypes.{number_in}
+use Rattle.plan_types.specs.{Orders.homes_met, PlannedTypes.number_in}
 use Rattle.plan_package.specs.PlanWhole.{PlansWhole, places_in}
 use Rattle.plan_laws.specs.ShownNames.{IsInput}
+use Rattle.comp_meaning.specs.Reads as reads
 
 -- those of an interface by its number among the places, or of a world by its number among the homes. A place that nothing has been met of has an
 -- owner of its own too, which is none of the plan's.

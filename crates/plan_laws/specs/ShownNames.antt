@@ -2,24 +2,19 @@
 use Rattle.std.specs.Prelude.{◌≡◌, ℕ, ◌+◌, Bool, true, List, Option, Some, slice_get}
 use Rattle.std.specs.List.{AllByRecursion, AllZip, Contains}
 use Rattle.wit_model.specs.Text.{Text}
-use Rattle.comp_meaning.specs.Reads as reads
 use Rattle.plan_meaning.specs.FollowedNumbers.{AreMembersIn, IsNameOf, IsSlotOf}
 use Rattle.plan_meaning.specs.NumberedMembers.{Homes, HomesStand, IsMember}
-use Rattle.plan_meaning.specs.NumberedViews.{AreTables, NumberedSight, NumberedType, Tables}
-use Rattle.plan_meaning.specs.Shapes.{named_shape}
-use Rattle.read_rules.specs.declared.scopes.Scope.{Scope}
-use Rattle.read_rules.specs.declared.scopes.Seen.{Seen}
-use Rattle.read_rules.specs.declared.scopes.Shown.{Shown}
-use Rattle.read_rules.specs.declared.scopes.Shown.TheVariants as shown
+use Rattle.plan_meaning.specs.{NumberedViews.AreTables, NumberedViews.NumberedSight, NumberedViews.NumberedType, NumberedViews.Tables, Shapes.named_shape}
+use Rattle.read_rules.specs.declared.scopes.{Scope.Scope, Seen.Seen, Shown.Shown}
 use Rattle.plan_parts.specs.Marks.{is_marked}
 use Rattle.read_exports.specs.Members.{numbered_members, numbered_part}
-use Rattle.read_exports.specs.declared.members.Member.{Member}
-use Rattle.read_exports.specs.declared.members.Part.{Part}
-use Rattle.read_exports.specs.declared.members.Part.TheVariants as parts
+use Rattle.read_exports.specs.declared.members.{Member.Member, Part.Part}
 use Rattle.plan_type_laws.specs.MembersStand.{MembersStand}
-use Rattle.plan_types.specs.Showings.{showings_of_members, signatures_of_members}
-use Rattle.plan_types.specs.Used.{used_parts, AreUsed}
+use Rattle.plan_types.specs.{Showings.showings_of_members, Showings.signatures_of_members, Used.used_parts, Used.AreUsed}
 use Rattle.plan_package.specs.Views.{views_of_part}
+use Rattle.comp_meaning.specs.Reads as reads
+use Rattle.read_rules.specs.declared.scopes.Shown.TheVariants as shown
+use Rattle.read_exports.specs.declared.members.Part.TheVariants as parts
 
 module _ (t : Tables) where
   -- the part of a type that a world imports is its name

@@ -1,24 +1,20 @@
 -- What is shown obeys the rules of reading, each as it is seen from its place (WIT.md, "Types", "Functions", "Interfaces" and "Worlds").
 use Rattle.std.specs.Prelude.{◌≡◌, ◌+◌, ℕ, true, List, [], map}
 use Rattle.std.specs.List.{AllByRecursion, list_all}
-use Rattle.wit_model.specs.Names.{is_label}
-use Rattle.wit_model.specs.Text.{Text}
-use Rattle.comp_meaning.specs.Reads as reads
-use Rattle.comp_meaning.specs.Rules as rules
-use Rattle.plan_meaning.specs.FollowedNumbers.{IsNameOf}
+use Rattle.wit_model.specs.{Names.is_label, Text.Text}
+use Rattle.plan_meaning.specs.{FollowedNumbers.IsNameOf, NumberedRules.Fact, NumberedWorlds.seen_of}
 use Rattle.plan_meaning.specs.NumberedMembers.{Homes, IsKnownSight, are_interfaces, sights_of_members}
-use Rattle.plan_meaning.specs.NumberedRules.{Fact}
 use Rattle.plan_meaning.specs.NumberedViews.{NumberedSight, Tables, declaration_of, place_at, view_of}
-use Rattle.plan_meaning.specs.NumberedWorlds.{seen_of}
 use Rattle.read_rules.specs.Scopes.{numbered_seen}
 use Rattle.read_exports.specs.Members.{numbered_members}
-use Rattle.read_exports.specs.declared.members.Member.{Member}
-use Rattle.read_exports.specs.declared.members.Part.{Part}
-use Rattle.read_exports.specs.declared.members.Part.TheVariants as parts
+use Rattle.read_exports.specs.declared.members.{Member.Member, Part.Part}
 use Rattle.plan_types.specs.Showings.{NumberedShowing, showings_of_members, signatures_of_members}
 use Rattle.plan_package.specs.Views.{views_of_members}
 use Rattle.plan_type_laws.specs.UsedParts.{SignatureObeys}
 use Rattle.plan_laws.specs.ShownNames.{IsInput}
+use Rattle.comp_meaning.specs.Reads as reads
+use Rattle.comp_meaning.specs.Rules as rules
+use Rattle.read_exports.specs.declared.members.Part.TheVariants as parts
 
 module _ (t : Tables) where
   -- the view is what an interface may have whose names stand in its place

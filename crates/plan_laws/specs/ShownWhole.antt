@@ -1,22 +1,14 @@
 -- The worlds of a plan that was made of what was followed show what worlds at the top do, and each view shows the types by which its place is read
 -- (WIT.md, "Worlds"; Component Model WIT.md, "Package Format").
-use Rattle.std.specs.Prelude.{◌≡◌, ℕ, List}
-use Rattle.std.specs.List.{AllByRecursion}
-use Rattle.comp_meaning.specs.Reads as reads
-use Rattle.plan_meaning.specs.NumberedMembers.{Homes, NumberedMember, home_at}
-use Rattle.plan_meaning.specs.NumberedRules.{Fact}
-use Rattle.plan_meaning.specs.NumberedViews.{Tables}
-use Rattle.plan_meaning.specs.Plan.{Plan}
-use Rattle.plan_meaning.specs.ReadFunctions.{Beside}
-use Rattle.plan_meaning.specs.ReadPlans.{IsReadPlan}
+use Rattle.std.specs.{Prelude.◌≡◌, Prelude.ℕ, Prelude.List, List.AllByRecursion}
+use Rattle.plan_meaning.specs.{NumberedMembers.Homes, NumberedMembers.NumberedMember, NumberedMembers.home_at, NumberedViews.Tables, ReadFunctions.Beside}
+use Rattle.plan_meaning.specs.{NumberedRules.Fact, Plan.Plan, ReadPlans.IsReadPlan}
 use Rattle.read_exports.specs.Members.{numbered_members}
 use Rattle.read_exports.specs.declared.members.Member.{Member}
 use Rattle.plan_package.specs.PlanWhole.{PlansWhole}
-use Rattle.plan_laws.specs.FirstViews.{ViewsAreOrdered}
-use Rattle.plan_laws.specs.Owners.{owners_of}
-use Rattle.plan_laws.specs.ViewedInterfaces.{views_read}
-use Rattle.plan_laws.specs.Whole.{IsPackageInput}
-use Rattle.plan_laws.specs.WholeReasonsForeign.{IsShownWhole, PartIsReached}
+use Rattle.plan_laws.specs.{FirstViews.ViewsAreOrdered, ViewedInterfaces.views_read, WholeReasonsForeign.IsShownWhole, WholeReasonsForeign.PartIsReached}
+use Rattle.plan_laws.specs.{Owners.owners_of, Whole.IsPackageInput}
+use Rattle.comp_meaning.specs.Reads as reads
 
 -- each component type of an interface imports what is reached, each once
 abbrev pub AreReached : Tables → List Member → Type 0

@@ -1,20 +1,14 @@
 -- The interfaces of a plan are read by the first view of each place (WIT.md, "Interfaces").
 use Rattle.std.specs.Prelude.{◌≡◌, ℕ, true, List, [], None}
 use Rattle.std.specs.Option.{option_map_or}
-use Rattle.comp_meaning.specs.Reads as reads
-use Rattle.plan_meaning.specs.GatheredPlan.{functions_seen}
-use Rattle.plan_meaning.specs.NumberedMembers.{Homes, home_at, sights_of_members}
+use Rattle.plan_meaning.specs.{GatheredPlan.functions_seen, ReadFunctions.Beside}
+use Rattle.plan_meaning.specs.{NumberedMembers.Homes, NumberedMembers.home_at, NumberedMembers.sights_of_members, Plan.Plan, ReadOrder.InterfacesAreViewed}
 use Rattle.plan_meaning.specs.NumberedViews.{NumberedSight, NumberedView, Tables, agree_in_numbers, first_at, path_at}
-use Rattle.plan_meaning.specs.Plan.{Plan}
-use Rattle.plan_meaning.specs.ReadFunctions.{Beside}
-use Rattle.plan_meaning.specs.ReadOrder.{InterfacesAreViewed}
 use Rattle.read_exports.specs.Members.{numbered_members}
 use Rattle.read_exports.specs.declared.members.Member.{Member}
-use Rattle.plan_package.specs.PlanWhole.{PlansWhole}
-use Rattle.plan_package.specs.Views.{views_of_members}
-use Rattle.plan_laws.specs.FirstViews.{ViewsAreOrdered}
-use Rattle.plan_laws.specs.Owners.{owners_of}
-use Rattle.plan_laws.specs.ShownNames.{IsInput}
+use Rattle.plan_package.specs.{PlanWhole.PlansWhole, Views.views_of_members}
+use Rattle.plan_laws.specs.{FirstViews.ViewsAreOrdered, Owners.owners_of, ShownNames.IsInput}
+use Rattle.comp_meaning.specs.Reads as reads
 
 -- what a place is read by: the types of its first view, and the functions of the first that shows some
 abbrev pub view_read : List NumberedSight → ℕ → NumberedView

@@ -1,17 +1,13 @@
 -- A plan, whole, of what was followed and obeys the rules of a package (Component Model WIT.md, "Package Format").
-use Rattle.std.specs.Prelude.{◌≡◌, ℕ, true, List, None}
-use Rattle.std.specs.List.{AllByRecursion}
-use Rattle.comp_meaning.specs.Reads as reads
+use Rattle.std.specs.{Prelude.◌≡◌, Prelude.ℕ, Prelude.true, Prelude.List, Prelude.None, List.AllByRecursion}
 use Rattle.read_shown.specs.Kinds.{NamesHaveKinds}
 use Rattle.plan_meaning.specs.NumberedMembers.{Homes, NumberedMember, NumberedPart, IsKnownSight, are_package, home_at, interface, sights_of_members, world}
-use Rattle.plan_meaning.specs.NumberedRules.{Fact}
-use Rattle.plan_meaning.specs.NumberedViews.{Tables, path_at}
-use Rattle.plan_meaning.specs.NumberedWorlds.{ScopeStands}
+use Rattle.plan_meaning.specs.{NumberedRules.Fact, NumberedViews.Tables, NumberedViews.path_at, NumberedWorlds.ScopeStands}
 use Rattle.read_exports.specs.Members.{numbered_members}
 use Rattle.read_exports.specs.declared.members.Member.{Member}
-use Rattle.plan_type_laws.specs.FormsObeyed.{LengthsFit}
-use Rattle.plan_type_laws.specs.ShownMarks.{ArePlaced}
+use Rattle.plan_type_laws.specs.{FormsObeyed.LengthsFit, ShownMarks.ArePlaced}
 use Rattle.plan_laws.specs.ShownNames.{IsInput}
+use Rattle.comp_meaning.specs.Reads as reads
 
 -- what is known of the parts of a world is true
 abbrev pub PartIsKnown : Tables → (ℕ → Fact) → NumberedPart → Type 0

@@ -1,14 +1,12 @@
 -- A plan can be made of what was followed of a package (Component Model WIT.md, "Package Format").
-use Rattle.std.specs.Prelude.{◌≡◌, ℕ, List, []}
-use Rattle.std.specs.List.{AllByRecursion}
-use Rattle.comp_meaning.specs.Reads as reads
+use Rattle.std.specs.{Prelude.◌≡◌, Prelude.ℕ, Prelude.List, Prelude.[], List.AllByRecursion}
 use Rattle.plan_meaning.specs.NumberedMembers.{Homes, NumberedMember, NumberedPart, interface, world}
-use Rattle.plan_meaning.specs.NumberedRules.{Fact}
-use Rattle.plan_meaning.specs.NumberedViews.{NumberedView, Tables}
+use Rattle.plan_meaning.specs.{NumberedRules.Fact, NumberedViews.NumberedView, NumberedViews.Tables}
 use Rattle.read_exports.specs.Members.{numbered_members}
 use Rattle.read_exports.specs.declared.members.Member.{Member}
 use Rattle.plan_package.specs.PlanWhole.{MayBeWhole}
 use Rattle.plan_laws.specs.Whole.{IsPackageInput}
+use Rattle.comp_meaning.specs.Reads as reads
 
 -- what the component type of an interface imports shows no functions
 abbrev pub PartIsBare : NumberedPart → Type 0

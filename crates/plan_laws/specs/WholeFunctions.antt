@@ -1,23 +1,14 @@
 -- The functions of a whole plan are those that were read, each in its place (WIT.md, "Functions", "Interfaces" and "Worlds").
-use Rattle.std.specs.Prelude.{ℕ, Bool, List}
-use Rattle.std.specs.List.{AllByRecursion, Contains}
+use Rattle.std.specs.{Prelude.ℕ, Prelude.Bool, Prelude.List, List.AllByRecursion, List.Contains}
 use Rattle.wit_model.specs.Text.{Text}
-use Rattle.comp_meaning.specs.Reads as reads
-use Rattle.plan_meaning.specs.NumberedMembers.{Homes, home_at}
-use Rattle.plan_meaning.specs.NumberedRules.{Fact}
-use Rattle.plan_meaning.specs.NumberedViews.{Tables}
-use Rattle.plan_meaning.specs.Plan.{Plan, PlannedWorld}
-use Rattle.plan_meaning.specs.PlanRules.{world_functions}
-use Rattle.plan_meaning.specs.ReadFunctions.{Beside, FunctionsAreRead, IsReadFunction}
+use Rattle.plan_meaning.specs.{NumberedMembers.Homes, NumberedMembers.home_at, NumberedRules.Fact, NumberedViews.Tables, PlanRules.world_functions}
+use Rattle.plan_meaning.specs.{Plan.Plan, Plan.PlannedWorld, ReadFunctions.Beside, ReadFunctions.FunctionsAreRead, ReadFunctions.IsReadFunction}
 use Rattle.read_rules.specs.declared.scopes.Scope.{Scope}
 use Rattle.read_exports.specs.declared.members.Member.{Member}
-use Rattle.plan_package.specs.PlanWhole.{PlansWhole, places_in}
-use Rattle.plan_package.specs.WholeWorlds.{PlansWorld, worlds_in}
-use Rattle.plan_laws.specs.FirstViews.{ViewsAreOrdered}
-use Rattle.plan_laws.specs.Owners.{owners_of}
-use Rattle.plan_laws.specs.WholeReasons.{AreShownAlike}
-use Rattle.plan_laws.specs.WholeTypes.{IsRuledInput, TypesAreWhole}
+use Rattle.plan_package.specs.{PlanWhole.PlansWhole, PlanWhole.places_in, WholeWorlds.PlansWorld, WholeWorlds.worlds_in}
+use Rattle.plan_laws.specs.{FirstViews.ViewsAreOrdered, Owners.owners_of, WholeReasons.AreShownAlike, WholeTypes.IsRuledInput, WholeTypes.TypesAreWhole}
 use Rattle.plan_laws.specs.WorldItems.{WorldsAreApart}
+use Rattle.comp_meaning.specs.Reads as reads
 
 -- what is kept beside the tables: what is known of each part, which parts are resources, and the owner of each place
 abbrev pub beside_tables : (ℕ → Fact) → (ℕ → Bool) → List Member → Beside

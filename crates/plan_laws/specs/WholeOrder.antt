@@ -1,20 +1,12 @@
 -- What stands before what in a whole plan is as it was read (WIT.md, "Interfaces: use" and "Worlds"; Binary.md, "Import and Export Definitions").
 use Rattle.std.specs.Prelude.{◌≡◌, ℕ, List, Some}
-use Rattle.comp_meaning.specs.Reads as reads
-use Rattle.plan_meaning.specs.NumberedMembers.{Homes, home_at}
-use Rattle.plan_meaning.specs.NumberedRules.{Fact}
-use Rattle.plan_meaning.specs.NumberedViews.{NumberedView, Tables}
-use Rattle.plan_meaning.specs.Plan.{Plan, PlannedWorld, world_in}
-use Rattle.plan_meaning.specs.ReadFunctions.{Beside, FunctionsAreRead}
-use Rattle.plan_meaning.specs.ReadOrder.{OrderIsRead}
+use Rattle.plan_meaning.specs.{NumberedMembers.Homes, NumberedMembers.home_at, NumberedRules.Fact, Plan.Plan, Plan.PlannedWorld, Plan.world_in}
+use Rattle.plan_meaning.specs.{NumberedViews.NumberedView, NumberedViews.Tables, ReadFunctions.Beside, ReadFunctions.FunctionsAreRead, ReadOrder.OrderIsRead}
 use Rattle.read_exports.specs.declared.members.Member.{Member}
 use Rattle.plan_package.specs.PlanWhole.{PlansWhole}
-use Rattle.plan_laws.specs.FirstViews.{ViewsAreOrdered}
-use Rattle.plan_laws.specs.Owners.{owners_of}
-use Rattle.plan_laws.specs.ViewedInterfaces.{views_read}
-use Rattle.plan_laws.specs.Whole.{IsPackageInput}
-use Rattle.plan_laws.specs.WholeWorlds.{IsReadAs, WorldsAreFollowed}
-use Rattle.plan_laws.specs.WorldItems.{WorldsAreApart}
+use Rattle.plan_laws.specs.{FirstViews.ViewsAreOrdered, ViewedInterfaces.views_read, Whole.IsPackageInput, WholeWorlds.IsReadAs, WholeWorlds.WorldsAreFollowed}
+use Rattle.plan_laws.specs.{Owners.owners_of, WorldItems.WorldsAreApart}
+use Rattle.comp_meaning.specs.Reads as reads
 
 -- The order is that in which all was read, where each world was read by what the member of its number shows.
 pub record OrderIsReadAs (t : Tables) (ms : List Member) (kept : List ℕ) (p : Plan) (b : Beside) (views : ℕ → NumberedView) : Type 0 where

@@ -1,19 +1,13 @@
 -- The packages and the places of a plan that was made of what was followed are read (WIT.md, "Packages", "Interfaces" and "Worlds").
-use Rattle.std.specs.Prelude.{◌≡◌, ℕ, true, List, map}
-use Rattle.std.specs.List.{AllByRecursion}
+use Rattle.std.specs.{Prelude.◌≡◌, Prelude.ℕ, Prelude.true, Prelude.List, Prelude.map, List.AllByRecursion}
 use Rattle.wit_model.specs.Names.{is_label}
-use Rattle.comp_meaning.specs.Reads as reads
 use Rattle.comp_meaning.specs.Rules.{distinct}
 use Rattle.read_homes.specs.Homes.{ArePackages}
-use Rattle.plan_meaning.specs.NumberedMembers.{Homes, home_at}
-use Rattle.plan_meaning.specs.NumberedRules.{Fact}
-use Rattle.plan_meaning.specs.NumberedViews.{Tables}
-use Rattle.plan_meaning.specs.Plan.{Plan}
-use Rattle.plan_meaning.specs.ReadPlaces.{PlacesAreRead}
+use Rattle.plan_meaning.specs.{NumberedMembers.Homes, NumberedMembers.home_at, NumberedRules.Fact, NumberedViews.Tables, Plan.Plan, ReadPlaces.PlacesAreRead}
 use Rattle.read_exports.specs.declared.members.Member.{Member}
 use Rattle.plan_package.specs.PlanWhole.{PlansWhole}
-use Rattle.plan_laws.specs.Owners.{owners_of}
-use Rattle.plan_laws.specs.Whole.{IsPackageInput}
+use Rattle.plan_laws.specs.{Owners.owners_of, Whole.IsPackageInput}
+use Rattle.comp_meaning.specs.Reads as reads
 
 -- What is exported at the top has labels, none twice.
 pub record LabelsStand (ms : List Member) : Type 0 where

@@ -3,27 +3,14 @@
 use Rattle.std.specs.Prelude.{◌≡◌, ◌<◌, ◌⊎◌, ℕ, List, length, Some, slice_get}
 use Rattle.std.specs.List.{Contains}
 use Rattle.wit_model.specs.Names.{PackageIdentity}
-use Rattle.comp_meaning.specs.Reads as reads
 use Rattle.read_homes.specs.Homes.{ArePackages, HasPlace}
-use Rattle.plan_meaning.specs.NumberedMembers.{Homes, home_at}
-use Rattle.plan_meaning.specs.NumberedRules.{Fact}
-use Rattle.plan_meaning.specs.NumberedViews.{Tables}
-use Rattle.plan_meaning.specs.NumberedWorlds.{HasPath}
-use Rattle.plan_meaning.specs.Plan.{Plan}
-use Rattle.plan_meaning.specs.PlanMeaning.{plan_meaning}
-use Rattle.plan_meaning.specs.PlanRules.{IsPackagePlan}
-use Rattle.plan_meaning.specs.ReadPlans.{FitsInput}
-use Rattle.plan_meaning.specs.ReadWholes.{IsReadPackagePlan}
+use Rattle.plan_meaning.specs.{NumberedMembers.Homes, NumberedMembers.home_at, PlanMeaning.plan_meaning, PlanRules.IsPackagePlan, ReadWholes.IsReadPackagePlan}
+use Rattle.plan_meaning.specs.{NumberedRules.Fact, NumberedViews.Tables, NumberedWorlds.HasPath, Plan.Plan, ReadPlans.FitsInput}
 use Rattle.read_exports.specs.declared.members.Member.{Member}
 use Rattle.plan_package.specs.PlanWhole.{PlansWhole, places_in}
-use Rattle.plan_laws.specs.Apart.{FirstsRise}
-use Rattle.plan_laws.specs.ShownWhole.{AreReached}
-use Rattle.plan_laws.specs.ViewedInterfaces.{views_read}
-use Rattle.plan_laws.specs.Whole.{IsPackageInput}
-use Rattle.plan_laws.specs.WholeFunctions.{beside_tables}
-use Rattle.plan_laws.specs.WholePlaces.{LabelsStand}
-use Rattle.plan_laws.specs.WholeTypes.{TypesAreWhole}
-use Rattle.plan_laws.specs.WholeWorlds.{WorldsAreFollowed}
+use Rattle.plan_laws.specs.{Apart.FirstsRise, ShownWhole.AreReached, Whole.IsPackageInput, WholePlaces.LabelsStand}
+use Rattle.plan_laws.specs.{ViewedInterfaces.views_read, WholeFunctions.beside_tables, WholeTypes.TypesAreWhole, WholeWorlds.WorldsAreFollowed}
+use Rattle.comp_meaning.specs.Reads as reads
 
 -- the package of this number is that of something that is exported
 pub record IsOfMember (ms : List Member) (c : ℕ) : Type 0 where

@@ -2,22 +2,16 @@
 use Rattle.std.specs.Prelude.{◌≡◌, ◌<◌, ◌⊎◌, ℕ, true, List, length}
 use Rattle.std.specs.List.{Contains}
 use Rattle.wit_model.specs.Text.{Text}
-use Rattle.comp_meaning.specs.Reads as reads
 use Rattle.read_homes.specs.Homes.{HasPlace}
-use Rattle.plan_meaning.specs.NumberedMembers.{Homes, home_at}
+use Rattle.plan_meaning.specs.{NumberedMembers.Homes, NumberedMembers.home_at, NumberedWorlds.HasPath, ReadFunctions.Beside, ReadFunctions.FunctionsAreRead}
 use Rattle.plan_meaning.specs.NumberedRules.{Fact}
-use Rattle.plan_meaning.specs.NumberedViews.{NumberedFunction, NumberedSight, Tables}
-use Rattle.plan_meaning.specs.NumberedWorlds.{HasPath}
-use Rattle.plan_meaning.specs.Plan.{Plan}
-use Rattle.plan_meaning.specs.ReadFunctions.{Beside, FunctionsAreRead}
-use Rattle.plan_meaning.specs.ReadWholes.{IsKeptForReasons}
+use Rattle.plan_meaning.specs.{NumberedViews.NumberedFunction, NumberedViews.NumberedSight, NumberedViews.Tables, Plan.Plan, ReadWholes.IsKeptForReasons}
 use Rattle.read_exports.specs.Members.{numbered_members}
 use Rattle.read_exports.specs.declared.members.Member.{Member}
 use Rattle.plan_types.specs.Showings.{NumberedShowing, showings_of_members}
-use Rattle.plan_package.specs.PlanWhole.{PlansWhole, places_in}
-use Rattle.plan_package.specs.Views.{views_of_members}
-use Rattle.plan_laws.specs.Owners.{owners_of}
-use Rattle.plan_laws.specs.Whole.{IsPackageInput}
+use Rattle.plan_package.specs.{PlanWhole.PlansWhole, PlanWhole.places_in, Views.views_of_members}
+use Rattle.plan_laws.specs.{Owners.owners_of, Whole.IsPackageInput}
+use Rattle.comp_meaning.specs.Reads as reads
 
 -- A type is declared as one and the same wherever it is shown, and views of a place that show functions show the same ones.
 pub record AreShownAlike (ms : List Member) : Type 0 where

@@ -1,25 +1,19 @@
 -- Why the interfaces of other packages stand in a plan that was made of what was followed (Component Model WIT.md, "Package Format").
 use Rattle.std.specs.Prelude.{◌≡◌, ◌⊎◌, ℕ, true, false, List, ◌∷◌, map, Some}
-use Rattle.std.specs.List.{AllByRecursion, Contains}
-use Rattle.std.specs.Cmp.Lexicographic.{pointwise}
+use Rattle.std.specs.{List.AllByRecursion, List.Contains, Cmp.Lexicographic.pointwise}
 use Rattle.wit_model.specs.Valid.{as_interface}
-use Rattle.comp_meaning.specs.Reads as reads
 use Rattle.plan_meaning.specs.NumberedMembers.{Homes, NumberedMember, NumberedPart, home_at, interface, is_of_package, sights_of_members, world}
-use Rattle.plan_meaning.specs.NumberedRules.{Fact}
-use Rattle.plan_meaning.specs.NumberedViews.{NumberedSight, NumberedView, Tables, same_shown}
-use Rattle.plan_meaning.specs.NumberedWorlds.{HasPath, NumberedInstance, are_once, are_reached}
-use Rattle.plan_meaning.specs.Plan.{Plan, PlannedInterface, interface_in}
-use Rattle.plan_meaning.specs.ReadFunctions.{Beside}
-use Rattle.plan_meaning.specs.ReadPlans.{IsReadPlan}
-use Rattle.plan_meaning.specs.ReadWholes.{IsSeenFor, IsShownByWorld}
+use Rattle.plan_meaning.specs.{NumberedRules.Fact, NumberedWorlds.HasPath, NumberedWorlds.NumberedInstance, NumberedWorlds.are_once, NumberedWorlds.are_reached}
+use Rattle.plan_meaning.specs.{NumberedViews.NumberedSight, NumberedViews.NumberedView, NumberedViews.Tables, NumberedViews.same_shown, ReadFunctions.Beside}
+use Rattle.plan_meaning.specs.{Plan.Plan, Plan.PlannedInterface, Plan.interface_in, ReadPlans.IsReadPlan, ReadWholes.IsSeenFor, ReadWholes.IsShownByWorld}
 use Rattle.read_exports.specs.Members.{numbered_members}
 use Rattle.read_exports.specs.declared.members.Member.{Member}
-use Rattle.read_exports.specs.declared.members.Part.TheVariants as parts
 use Rattle.read_rules.specs.declared.scopes.Scope.{Scope}
 use Rattle.read_rules.specs.Scopes.{numbered_scope}
 use Rattle.plan_package.specs.PlanWhole.{PlansWhole}
-use Rattle.plan_laws.specs.Owners.{owners_of}
-use Rattle.plan_laws.specs.Whole.{IsPackageInput}
+use Rattle.plan_laws.specs.{Owners.owners_of, Whole.IsPackageInput}
+use Rattle.comp_meaning.specs.Reads as reads
+use Rattle.read_exports.specs.declared.members.Part.TheVariants as parts
 
 -- the component type of an interface imports others, each of which is reached
 abbrev pub PartIsReached : Tables → NumberedPart → Type 0

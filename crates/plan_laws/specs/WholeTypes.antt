@@ -1,24 +1,17 @@
 -- The types of a whole plan are those that were read, and its owners stand for the places (WIT.md, "Types", "Interfaces" and "Worlds").
 use Rattle.std.specs.Prelude.{◌≡◌, ◌⊎◌, ℕ, true, List, None}
 use Rattle.std.specs.List.{Contains}
-use Rattle.comp_meaning.specs.Reads as reads
 use Rattle.read_shown.specs.Kinds.{NamesHaveKinds}
-use Rattle.plan_meaning.specs.KeptResources as resources
-use Rattle.plan_meaning.specs.KeptTypes.{TypesAreKept}
-use Rattle.plan_meaning.specs.NumberedMembers.{Homes, home_at, sights_of_members}
-use Rattle.plan_meaning.specs.NumberedRules.{Fact}
-use Rattle.plan_meaning.specs.NumberedViews.{Tables, agree_in_numbers, path_at, place_at}
-use Rattle.plan_meaning.specs.Plan.{Plan, place_in}
+use Rattle.plan_meaning.specs.{KeptTypes.TypesAreKept, NumberedMembers.Homes, NumberedMembers.home_at, NumberedMembers.sights_of_members, NumberedRules.Fact}
+use Rattle.plan_meaning.specs.{NumberedViews.Tables, NumberedViews.agree_in_numbers, NumberedViews.path_at, NumberedViews.place_at, Plan.Plan, Plan.place_in}
 use Rattle.read_exports.specs.Members.{numbered_members}
 use Rattle.read_exports.specs.declared.members.Member.{Member}
 use Rattle.plan_types.specs.Showings.{showings_of_members, signatures_of_members}
-use Rattle.plan_type_laws.specs.FormsObeyed.{LengthsFit}
-use Rattle.plan_type_laws.specs.ShownMarks.{ArePlaced, MarksStand}
+use Rattle.plan_type_laws.specs.{FormsObeyed.LengthsFit, ShownMarks.ArePlaced, ShownMarks.MarksStand}
 use Rattle.plan_package.specs.PlanWhole.{PlansWhole, places_in}
-use Rattle.plan_laws.specs.Owners.{homes_in, owners_of}
-use Rattle.plan_laws.specs.ShownNames.{IsInput}
-use Rattle.plan_laws.specs.ShownRules.{RulesAreObeyed}
-use Rattle.plan_laws.specs.Whole.{IsPackageInput}
+use Rattle.plan_laws.specs.{Owners.homes_in, Owners.owners_of, ShownNames.IsInput, ShownRules.RulesAreObeyed, Whole.IsPackageInput}
+use Rattle.comp_meaning.specs.Reads as reads
+use Rattle.plan_meaning.specs.KeptResources as resources
 
 -- ---- what was followed, under the rules
 

@@ -2,27 +2,17 @@
 -- Export Definitions").
 use Rattle.std.specs.Prelude.{◌≡◌, ◌<◌, ◌≤◌, ◌+◌, ℕ, true, List, length, Some, slice_get}
 use Rattle.std.specs.List.{AllByRecursion}
-use Rattle.wit_model.specs.Names.{is_label}
-use Rattle.wit_model.specs.Text.{Text}
-use Rattle.comp_meaning.specs.Reads as reads
-use Rattle.plan_meaning.specs.NumberedMembers.{Homes, home_at}
-use Rattle.plan_meaning.specs.NumberedRules.{Fact}
+use Rattle.wit_model.specs.{Names.is_label, Text.Text}
+use Rattle.plan_meaning.specs.{NumberedMembers.Homes, NumberedMembers.home_at, ReadFunctions.Beside, ReadFunctions.FunctionsAreRead, ReadWorlds.WorldsAreRead}
+use Rattle.plan_meaning.specs.{NumberedRules.Fact, Plan.Plan, Plan.PlannedWorld, Plan.world_in, Shapes.named_shape}
 use Rattle.plan_meaning.specs.NumberedViews.{NumberedView, PartsOf, Tables, function_at, path_text}
 use Rattle.plan_meaning.specs.NumberedWorlds.{NumberedScope, NumberedSeen, NumberedShown, declares, function, implementing, instance, label, path}
-use Rattle.plan_meaning.specs.Plan.{Plan, PlannedWorld, world_in}
-use Rattle.plan_meaning.specs.ReadFunctions.{Beside, FunctionsAreRead}
-use Rattle.plan_meaning.specs.ReadWorlds.{WorldsAreRead}
-use Rattle.plan_meaning.specs.Shapes.{named_shape}
 use Rattle.read_exports.specs.declared.members.Member.{Member}
 use Rattle.read_rules.specs.declared.scopes.Scope.{Scope}
 use Rattle.read_rules.specs.Scopes.{numbered_scope}
-use Rattle.plan_package.specs.PlanWhole.{PlansWhole}
-use Rattle.plan_package.specs.WholeWorlds.{worlds_in}
-use Rattle.plan_laws.specs.FirstViews.{ViewsAreOrdered}
-use Rattle.plan_laws.specs.Owners.{owners_of}
-use Rattle.plan_laws.specs.ViewedInterfaces.{views_read}
-use Rattle.plan_laws.specs.Whole.{IsPackageInput}
-use Rattle.plan_laws.specs.WorldItems.{WorldsAreApart}
+use Rattle.plan_package.specs.{PlanWhole.PlansWhole, WholeWorlds.worlds_in}
+use Rattle.plan_laws.specs.{FirstViews.ViewsAreOrdered, Owners.owners_of, ViewedInterfaces.views_read, Whole.IsPackageInput, WorldItems.WorldsAreApart}
+use Rattle.comp_meaning.specs.Reads as reads
 
 -- ---- what was followed of a world
 

@@ -1,35 +1,19 @@
 -- What the worlds of a plan import and export, beside functions, is as it was followed (WIT.md, "Worlds").
 use Rattle.std.specs.Prelude.{◌≡◌, ◌⊎◌, ◌+◌, ℕ, true, List, Option, Some, slice_get}
 use Rattle.std.specs.List.{Contains}
-use Rattle.wit_model.specs.Text.{Text}
-use Rattle.wit_model.specs.Valid.{as_world}
-use Rattle.comp_meaning.specs.Reads as reads
-use Rattle.plan_meaning.specs.GatheredPlan.{TypeBecomes}
-use Rattle.plan_meaning.specs.NumberedMembers.{Homes, home_at, sights_of_members}
-use Rattle.plan_meaning.specs.NumberedViews.{Tables, agree_in_numbers}
-use Rattle.plan_meaning.specs.NumberedWorlds.{place_of_key}
-use Rattle.plan_meaning.specs.Plan.{Plan}
-use Rattle.plan_meaning.specs.ReadFunctions.{Beside}
-use Rattle.plan_meaning.specs.ReadWorlds.{IsInterfaceOf}
-use Rattle.plan_meaning.specs.Renumbering.{IsPart}
-use Rattle.plan_meaning.specs.Shapes.{named_shape}
+use Rattle.wit_model.specs.{Text.Text, Valid.as_world}
+use Rattle.plan_meaning.specs.{GatheredPlan.TypeBecomes, NumberedViews.Tables, NumberedViews.agree_in_numbers, ReadFunctions.Beside, ReadWorlds.IsInterfaceOf}
+use Rattle.plan_meaning.specs.{NumberedMembers.Homes, NumberedMembers.home_at, NumberedMembers.sights_of_members, NumberedWorlds.place_of_key, Plan.Plan}
+use Rattle.plan_meaning.specs.{Renumbering.IsPart, Shapes.named_shape}
 use Rattle.read_exports.specs.Members.{numbered_members}
 use Rattle.read_exports.specs.declared.members.Member.{Member}
-use Rattle.read_rules.specs.Scopes.{numbered_key}
-use Rattle.read_rules.specs.Tables.{given_text}
-use Rattle.read_rules.specs.Views.{numbered_view}
-use Rattle.read_rules.specs.declared.scopes.InstanceKey.{InstanceKey}
-use Rattle.read_rules.specs.declared.scopes.Scope.{Scope}
-use Rattle.read_rules.specs.declared.scopes.Seen.{Seen}
-use Rattle.read_rules.specs.declared.scopes.Shown.TheVariants as shown
-use Rattle.read_rules.specs.declared.views.View.{View}
+use Rattle.read_rules.specs.{Scopes.numbered_key, Tables.given_text, Views.numbered_view}
+use Rattle.read_rules.specs.declared.{scopes.InstanceKey.InstanceKey, scopes.Scope.Scope, scopes.Seen.Seen, views.View.View}
 use Rattle.plan_types.specs.PlannedTypes.{number_in}
-use Rattle.plan_package.specs.PlanWhole.{PlansWhole, places_in}
-use Rattle.plan_package.specs.WholeWorlds.{worlds_in}
-use Rattle.plan_laws.specs.FirstViews.{ViewsAreOrdered}
-use Rattle.plan_laws.specs.Owners.{owners_of}
-use Rattle.plan_laws.specs.ShownNames.{IsInput}
-use Rattle.plan_laws.specs.ViewedInterfaces.{views_read}
+use Rattle.plan_package.specs.{PlanWhole.PlansWhole, PlanWhole.places_in, WholeWorlds.worlds_in}
+use Rattle.plan_laws.specs.{FirstViews.ViewsAreOrdered, Owners.owners_of, ShownNames.IsInput, ViewedInterfaces.views_read}
+use Rattle.comp_meaning.specs.Reads as reads
+use Rattle.read_rules.specs.declared.scopes.Shown.TheVariants as shown
 
 -- no two worlds have one place
 abbrev pub WorldsAreApart : List Member → Type 0

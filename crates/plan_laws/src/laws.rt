@@ -1,23 +1,11 @@
 //! Laws over definitions alone.
 
-ghost use Rattle.plan_laws.specs.Apart.{WholeStandsApart};
-ghost use Rattle.plan_laws.specs.OneWorld.{WorldPlanIsWhole};
-ghost use Rattle.plan_laws.specs.Owners.{PlannedTypesAreOwned};
-ghost use Rattle.plan_laws.specs.ShownAlike.{WholeIsShownAlike};
-ghost use Rattle.plan_laws.specs.ShownNames.{UsedNamesAreShown};
-ghost use Rattle.plan_laws.specs.ShownRules.{ShownObeysRules};
-ghost use Rattle.plan_laws.specs.ShownWhole.{WholeIsShown};
-ghost use Rattle.plan_laws.specs.ViewedInterfaces.{PlannedInterfacesAreViewed};
-ghost use Rattle.plan_laws.specs.WholeCondition.{WholeMayBePlanned};
-ghost use Rattle.plan_laws.specs.WholeFunctions.{PlannedFunctionsAreRead, WorldFunctionsAreRead};
-ghost use Rattle.plan_laws.specs.WholeOrder.{PlannedOrderIsRead};
-ghost use Rattle.plan_laws.specs.WholePlaces.{WholePlacesAreRead};
-ghost use Rattle.plan_laws.specs.WholePlan.{PlanIsWhole};
-ghost use Rattle.plan_laws.specs.WholeReasons.{WholeIsKeptForReasons};
-ghost use Rattle.plan_laws.specs.WholeReasonsForeign.{ForeignHasReasons};
-ghost use Rattle.plan_laws.specs.WholeTypes.{PackagesAreRuled, PlannedTypesAreWhole};
-ghost use Rattle.plan_laws.specs.WholeWorlds.{PlannedWorldsAreRead};
-ghost use Rattle.plan_laws.specs.WorldItems.{PlannedWorldsStand};
+ghost use Rattle.plan_laws.specs.{Apart.WholeStandsApart, WholePlan.PlanIsWhole};
+ghost use Rattle.plan_laws.specs.{OneWorld.WorldPlanIsWhole, Owners.PlannedTypesAreOwned, ShownNames.UsedNamesAreShown, ShownRules.ShownObeysRules};
+ghost use Rattle.plan_laws.specs.{ShownAlike.WholeIsShownAlike, WholeOrder.PlannedOrderIsRead, WholePlaces.WholePlacesAreRead, WorldItems.PlannedWorldsStand};
+ghost use Rattle.plan_laws.specs.{ShownWhole.WholeIsShown, WholeReasonsForeign.ForeignHasReasons, WholeTypes.PackagesAreRuled, WholeTypes.PlannedTypesAreWhole};
+ghost use Rattle.plan_laws.specs.{ViewedInterfaces.PlannedInterfacesAreViewed, WholeFunctions.PlannedFunctionsAreRead, WholeFunctions.WorldFunctionsAreRead};
+ghost use Rattle.plan_laws.specs.{WholeCondition.WholeMayBePlanned, WholeReasons.WholeIsKeptForReasons, WholeWorlds.PlannedWorldsAreRead};
 
 /// Each name that a plan's types use is shown in its own place, by a view or by an import of a world.
 pub fn used_names_are_shown()

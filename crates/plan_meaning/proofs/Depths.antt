@@ -1,24 +1,15 @@
 -- Types of values have at most so many unnamed levels.
 use Rattle.std.proofs.Common.{◌≡◌, refl, sym, ap, ◌∙◌, ℕ, Bool, true, nat_le}
 use Rattle.std.specs.List.{list_all}
-use Rattle.wit_model.specs.declared.model.Resolve.{Resolve}
-use Rattle.wit_model.specs.declared.model.TypeOwner.{TypeOwner}
-use Rattle.wit_model.specs.declared.model.Function.{Function}
-use Rattle.wit_model.specs.declared.model.«Type».{«Type» as ValueType}
-use Rattle.wit_model.specs.Tree.{levels}
-use Rattle.wit_model.specs.Types.{trees_of}
-use Rattle.wit_model.specs.Parts.{member_types, function_types}
-use Rattle.wit_model.specs.Rules as rules
-use Rattle.wit_model.specs.Valid.{Keeps, depths}
+use Rattle.wit_model.specs.declared.model.{Resolve.Resolve, TypeOwner.TypeOwner, Function.Function, «Type».«Type» as ValueType}
+use Rattle.wit_model.specs.{Tree.levels, Types.trees_of, Parts.member_types, Parts.function_types, Valid.Keeps, Valid.depths}
 use Rattle.wit_model.proofs.Checks.{keeps_three}
-use Rattle.plan_meaning.specs.Shapes.{part_tree}
-use Rattle.plan_meaning.specs.Plan.{PlannedKind, resource}
-use Rattle.plan_meaning.specs.PlanRules as planned
+use Rattle.plan_meaning.specs.{Shapes.part_tree, Plan.PlannedKind, Plan.resource, Built.part_of, Built.planned_kind, Built.planned_type, Built.planned_function}
 use Rattle.plan_meaning.specs.PlanRules.{IsPlan}
-use Rattle.plan_meaning.specs.Built.{part_of, planned_kind, planned_type, planned_function}
-use Rattle.plan_meaning.proofs.Lists.{each_from_built}
-use Rattle.plan_meaning.proofs.Words.{plan_of, part_tree_is, trees_are, function_parts_are}
+use Rattle.plan_meaning.proofs.{Lists.each_from_built, Words.plan_of, Words.part_tree_is, Words.trees_are, Words.function_parts_are}
 use Rattle.plan_meaning.proofs.FunctionRules.{interfaces_pass, worlds_pass, formed_pass, parts_pass, members_pass}
+use Rattle.wit_model.specs.Rules as rules
+use Rattle.plan_meaning.specs.PlanRules as planned
 
 module _ (r : Resolve) (m : ℕ) (is : IsPlan (plan_of r m)) where
   shallow : (t : ValueType) → planned.is_shallow (plan_of r m) (part_of t) ≡ true → rules.is_shallow r t ≡ true

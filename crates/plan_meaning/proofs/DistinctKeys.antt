@@ -1,30 +1,17 @@
 -- No map of a built `Resolve` has a key twice.
 use Rattle.std.proofs.Common.{◌≡◌, refl, sym, ap, ◌∙◌, ℕ, Bool, true, false, ◌&&◌, ◌||◌, not, List, [], ◌∷◌, ◌++◌, map, Some, String}
-use Rattle.std.specs.Prelude.{string_eq}
+use Rattle.std.specs.{Prelude.string_eq, List.list_any, List.IsDistinct, List.AllByRecursion, Map.keys_of}
 use Rattle.std.specs.declared.alloc.Global.{Global}
-use Rattle.std.specs.List.{list_any, IsDistinct, AllByRecursion}
-use Rattle.std.specs.Map.{keys_of}
 use Rattle.indexmap.specs.IndexMap.{IsUnique}
-use Rattle.wit_model.specs.declared.model.Resolve.{Resolve}
-use Rattle.wit_model.specs.declared.model.Package.{Package}
-use Rattle.wit_model.specs.declared.model.Interface.{Interface}
-use Rattle.wit_model.specs.declared.model.World.{World}
-use Rattle.wit_model.specs.declared.model.WorldKey.{WorldKey}
-use Rattle.wit_model.specs.declared.model.WorldKey.TheVariants as key
-use Rattle.wit_model.specs.declared.model.WorldItem.{WorldItem}
-use Rattle.wit_model.specs.Text.{Text, text_of, text_eq, optional_text}
-use Rattle.wit_model.specs.Names.{is_label}
-use Rattle.wit_model.specs.Lookup.{package_at, interface_at, world_at}
-use Rattle.wit_model.specs.Rules.{passes, are_distinct}
-use Rattle.wit_model.specs.Valid.{HasDistinctKeys, key_eq}
-use Rattle.plan_meaning.specs.PlanRules as planned
+use Rattle.wit_model.specs.declared.model.{Resolve.Resolve, Package.Package, Interface.Interface, World.World, WorldKey.WorldKey, WorldItem.WorldItem}
+use Rattle.wit_model.specs.{Text.Text, Text.text_of, Text.text_eq, Text.optional_text, Names.is_label, Lookup.package_at, Lookup.interface_at, Lookup.world_at}
+use Rattle.wit_model.specs.{Rules.passes, Rules.are_distinct, Valid.HasDistinctKeys, Valid.key_eq}
 use Rattle.plan_meaning.specs.PlanRules.{IsPlan, names_of, members_differ, same_key, keys_differ}
 use Rattle.plan_meaning.specs.Built.{planned_function, planned_package, planned_interface, planned_world, planned_key, planned_entries}
-use Rattle.plan_meaning.proofs.Lists.{no_true, all_there}
-use Rattle.plan_meaning.proofs.Words.{plan_of}
-use Rattle.plan_meaning.proofs.Labels.{names_are}
+use Rattle.plan_meaning.proofs.{Lists.no_true, Lists.all_there, Words.plan_of, Labels.names_are, ListedTypes.distinct_front as front_distinct}
 use Rattle.base_lemmas.proofs.Bools.{left_of as first_true, right_of as second_true}
-use Rattle.plan_meaning.proofs.ListedTypes.{distinct_front as front_distinct}
+use Rattle.wit_model.specs.declared.model.WorldKey.TheVariants as key
+use Rattle.plan_meaning.specs.PlanRules as planned
 
 -- ---- parts of a list whose names differ
 

@@ -1,49 +1,28 @@
 -- Functions stand under their names, and those of a resource are named and shaped after it.
 use Rattle.std.proofs.Common.{◌≡◌, refl, sym, ap, ◌∙◌, ℕ, Bool, true, false, ◌&&◌, ◌||◌, [], ◌∷◌, ◌++◌, Option, Some, None, is_none, is_some, String, codes}
-use Rattle.std.specs.Prelude.{if◌then◌else◌}
+use Rattle.std.proofs.lemmas.{List.Folds.list_all-append, List.Folds.list_all-map, Bool.and_from as both}
+use Rattle.std.specs.{Prelude.if◌then◌else◌, List.list_all, Option.option_map_or}
 use Rattle.std.specs.declared.alloc.Global.{Global}
-use Rattle.std.specs.List.{list_all}
-use Rattle.std.specs.Option.{option_map_or}
-use Rattle.std.proofs.lemmas.List.Folds.{list_all-append, list_all-map}
-use Rattle.wit_model.specs.declared.model.Resolve.{Resolve}
-use Rattle.wit_model.specs.declared.model.World.{World}
-use Rattle.wit_model.specs.declared.model.WorldKey.{WorldKey}
-use Rattle.wit_model.specs.declared.model.WorldKey.TheVariants as key
-use Rattle.wit_model.specs.declared.model.WorldItem.{WorldItem}
-use Rattle.wit_model.specs.declared.model.WorldItem.TheVariants as item
-use Rattle.wit_model.specs.declared.model.TypeDef.{TypeDef}
-use Rattle.wit_model.specs.declared.model.TypeDefKind.{TypeDefKind}
-use Rattle.wit_model.specs.declared.model.TypeDefKind.TheVariants as kind
-use Rattle.wit_model.specs.declared.model.TypeOwner.{TypeOwner}
-use Rattle.wit_model.specs.declared.model.Handle.TheVariants as handle
-use Rattle.wit_model.specs.declared.model.Param.{Param}
-use Rattle.wit_model.specs.declared.model.«Type».{«Type» as ValueType}
-use Rattle.wit_model.specs.declared.model.Function.{Function}
-use Rattle.wit_model.specs.declared.model.FunctionKind.{FunctionKind}
-use Rattle.wit_model.specs.declared.model.FunctionKind.TheVariants as call
-use Rattle.wit_model.specs.Text.{Text, text_of, text_eq, optional_text}
-use Rattle.wit_model.specs.Tree.{Form}
-use Rattle.wit_model.specs.Names.{constructor_name, method_name}
-use Rattle.wit_model.specs.Lookup.{type_at, resource_of, world_at}
-use Rattle.wit_model.specs.Types.{number_of}
-use Rattle.wit_model.specs.Parts.{same_owner}
-use Rattle.wit_model.specs.Rules as rules
-use Rattle.wit_model.specs.Rules.{passes, is_id, is_name_key}
-use Rattle.wit_model.specs.Valid.{Keeps, function_names, as_interface, as_world, item_function}
-use Rattle.wit_model.proofs.Checks.{keeps_two}
-use Rattle.plan_meaning.specs.Plan as plan
-use Rattle.plan_meaning.specs.Plan.{PlannedType, PlannedFunction, type_in}
-use Rattle.plan_meaning.specs.PlanRules as planned
-use Rattle.plan_meaning.specs.PlanRules.{IsPlan}
+use Rattle.wit_model.specs.declared.model.{Resolve.Resolve, WorldItem.WorldItem, TypeDefKind.TypeDefKind, «Type».«Type» as ValueType, FunctionKind.FunctionKind}
+use Rattle.wit_model.specs.declared.model.{World.World, WorldKey.WorldKey, TypeDef.TypeDef, TypeOwner.TypeOwner, Param.Param, Function.Function}
+use Rattle.wit_model.specs.{Text.Text, Text.text_of, Text.text_eq, Text.optional_text, Tree.Form, Lookup.type_at, Lookup.resource_of, Lookup.world_at}
+use Rattle.wit_model.specs.{Names.constructor_name, Names.method_name, Rules.passes, Rules.is_id, Rules.is_name_key}
+use Rattle.wit_model.specs.{Types.number_of, Parts.same_owner, Valid.Keeps, Valid.function_names, Valid.as_interface, Valid.as_world, Valid.item_function}
+use Rattle.wit_model.proofs.{Checks.keeps_two, RulesLemmas.each_by_number}
+use Rattle.plan_meaning.specs.{Plan.PlannedType, Plan.PlannedFunction, Plan.type_in, PlanRules.IsPlan}
 use Rattle.plan_meaning.specs.Built.{part_of, given_parts, planned_kind, planned_type, planned_function, planned_interface, planned_key, planned_item}
 use Rattle.plan_meaning.proofs.Lists.{then_there, or_there, or_of_map, same_or, all_built, no_true, all_there}
-use Rattle.plan_meaning.proofs.Words.{plan_of, behind, number_part}
+use Rattle.plan_meaning.proofs.{Words.plan_of, Words.behind, Words.number_part, Listed.passes_both}
 use Rattle.plan_meaning.proofs.FunctionRules.{entries_pass, interface_holds, world_holds, imports_there, exports_there}
-use Rattle.base_lemmas.proofs.Bools.{left_of as first_true}
-use Rattle.base_lemmas.proofs.Elements.{all_two}
-use Rattle.std.proofs.lemmas.Bool.{and_from as both}
-use Rattle.wit_model.proofs.RulesLemmas.{each_by_number}
-use Rattle.plan_meaning.proofs.Listed.{passes_both}
+use Rattle.base_lemmas.proofs.{Bools.left_of as first_true, Elements.all_two}
+use Rattle.wit_model.specs.declared.model.WorldKey.TheVariants as key
+use Rattle.wit_model.specs.declared.model.WorldItem.TheVariants as item
+use Rattle.wit_model.specs.declared.model.TypeDefKind.TheVariants as kind
+use Rattle.wit_model.specs.declared.model.Handle.TheVariants as handle
+use Rattle.wit_model.specs.declared.model.FunctionKind.TheVariants as call
+use Rattle.wit_model.specs.Rules as rules
+use Rattle.plan_meaning.specs.Plan as plan
+use Rattle.plan_meaning.specs.PlanRules as planned
 
 pub unnamed : (o : Option (String Global)) → is_none (optional_text o) ≡ is_none o
 unnamed None = refl

@@ -1,35 +1,21 @@
 -- The functions of a plan's interfaces and worlds are those of the `Resolve`, and so are its items.
 use Rattle.std.proofs.Common.{◌≡◌, refl, sym, ap, ◌∙◌, ℕ, Bool, true, ◌&&◌, List, [], ◌∷◌, ◌++◌, map, filter_map, option_to_list, Option, Some, None}
+use Rattle.std.proofs.lemmas.List.Folds.{list_all-append, list_all-map}
 use Rattle.std.specs.List.{list_all, cons_option}
 use Rattle.indexmap.specs.IndexMap.{values}
-use Rattle.wit_model.specs.declared.model.Resolve.{Resolve}
-use Rattle.wit_model.specs.declared.model.Interface.{Interface}
-use Rattle.wit_model.specs.declared.model.World.{World}
-use Rattle.wit_model.specs.declared.model.WorldKey.{WorldKey}
-use Rattle.wit_model.specs.declared.model.WorldItem.{WorldItem}
-use Rattle.wit_model.specs.declared.model.WorldItem.TheVariants as item
-use Rattle.wit_model.specs.declared.model.TypeDefKind.{TypeDefKind}
-use Rattle.wit_model.specs.declared.model.TypeDefKind.TheVariants as kind
-use Rattle.wit_model.specs.declared.model.TypeOwner.{TypeOwner}
-use Rattle.wit_model.specs.declared.model.«Type».{«Type» as ValueType}
-use Rattle.wit_model.specs.declared.model.Function.{Function}
-use Rattle.wit_model.specs.Text.{Text, text_of}
-use Rattle.wit_model.specs.Parts.{member_types}
-use Rattle.wit_model.specs.Uses.{items_of}
-use Rattle.std.proofs.lemmas.List.Folds.{list_all-append, list_all-map}
-use Rattle.wit_model.specs.Rules.{each_from, passes}
-use Rattle.wit_model.proofs.Lists.{list_all_filter_map}
-use Rattle.wit_model.specs.Valid.{as_interface, as_world, functions_of_interface, functions_of_world, item_function}
-use Rattle.plan_meaning.specs.Plan as plan
+use Rattle.wit_model.specs.declared.model.{Resolve.Resolve, World.World, WorldKey.WorldKey, Function.Function}
+use Rattle.wit_model.specs.declared.model.{Interface.Interface, WorldItem.WorldItem, TypeDefKind.TypeDefKind, TypeOwner.TypeOwner, «Type».«Type» as ValueType}
+use Rattle.wit_model.specs.{Text.Text, Text.text_of, Uses.items_of, Rules.each_from, Rules.passes, Lookup.interface_at, Lookup.world_at}
+use Rattle.wit_model.specs.{Parts.member_types, Valid.as_interface, Valid.as_world, Valid.functions_of_interface, Valid.functions_of_world, Valid.item_function}
+use Rattle.wit_model.proofs.{Lists.list_all_filter_map, RulesLemmas.each_by_number}
 use Rattle.plan_meaning.specs.Plan.{PlannedKind, PlannedFunction, resource, alias, formed}
 use Rattle.plan_meaning.specs.PlanRules.{FunctionsPass, functions_of, world_functions, IsPlan, import_stands, export_stands}
 use Rattle.plan_meaning.specs.Built.{part_of, given_parts, planned_kind, planned_function, planned_interface, planned_item, planned_entries, planned_world, planned_key}
-use Rattle.plan_meaning.proofs.Lists.{all_built, same_all, each_there, all_there}
-use Rattle.plan_meaning.proofs.Words.{plan_of, given_all}
-use Rattle.base_lemmas.proofs.Bools.{left_of as first_true, right_of as second_true, and-true as and_true}
-use Rattle.base_lemmas.proofs.Lists.{append_of_map, map_of_map}
-use Rattle.wit_model.proofs.RulesLemmas.{each_by_number}
-use Rattle.wit_model.specs.Lookup.{interface_at, world_at}
+use Rattle.plan_meaning.proofs.{Lists.all_built, Lists.same_all, Lists.each_there, Lists.all_there, Words.plan_of, Words.given_all}
+use Rattle.base_lemmas.proofs.{Bools.left_of as first_true, Bools.right_of as second_true, Bools.and-true as and_true, Lists.append_of_map, Lists.map_of_map}
+use Rattle.wit_model.specs.declared.model.WorldItem.TheVariants as item
+use Rattle.wit_model.specs.declared.model.TypeDefKind.TheVariants as kind
+use Rattle.plan_meaning.specs.Plan as plan
 
 -- ---- functions and items
 

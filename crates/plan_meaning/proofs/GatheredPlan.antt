@@ -1,40 +1,29 @@
 -- A plan that is gathered from views in numbers means what they mean.
 use Rattle.std.proofs.Common.{◌≡◌, refl, sym, ap, subst, ◌∙◌, ℕ, ◌+◌, arith, Bool, true, false, not, ◌&&◌, ◌==◌, cond, List, [], ◌∷◌, ◌++◌, map, filter_map, Option, Some, None, option_map, unwrap_or, slice_get, rules}
-use Rattle.std.specs.Prelude.{option_and_then}
-use Rattle.std.specs.List.{AllByRecursion, AllZip, Contains, cons_option, filter, flat_map, list_any}
-use Rattle.std.specs.Option.{option_map_or}
 use Rattle.std.proofs.lemmas.List.Elements.{Contains-append_right}
-use Rattle.std.specs.FinMap.{from_entries}
+use Rattle.std.specs.{Prelude.option_and_then, Option.option_map_or, FinMap.from_entries}
+use Rattle.std.specs.List.{AllByRecursion, AllZip, Contains, cons_option, filter, flat_map, list_any}
 use Rattle.wit_model.specs.Text.{Text, TextMap, text_eq}
-use Rattle.wit_model.specs.Tree.{Form, Tree, Declaration, children}
-use Rattle.wit_model.specs.Types.{no_tree}
-use Rattle.wit_model.specs.Rules.{is_id}
-use Rattle.wit_model.specs.Meaning.{FunctionMeaning, TypeMeaning, InterfaceMeaning, WorldMeaning, Item}
-use Rattle.wit_model.specs.Meant.{no_type, no_interface, no_world}
+use Rattle.wit_model.specs.{Tree.Form, Tree.Tree, Tree.Declaration, Tree.children, Rules.is_id, Meant.no_type, Meant.no_interface, Meant.no_world}
+use Rattle.wit_model.specs.{Types.no_tree, Meaning.FunctionMeaning, Meaning.TypeMeaning, Meaning.InterfaceMeaning, Meaning.WorldMeaning, Meaning.Item}
 use Rattle.wit_model.proofs.Elements.{contains-flat}
-use Rattle.comp_meaning.specs.Follow.{Scope, View, provided}
-use Rattle.comp_meaning.specs.SameLaws.{named_meaning}
-use Rattle.comp_meaning.specs.Reads as reads
+use Rattle.comp_meaning.specs.{Follow.Scope, Follow.View, Follow.provided, SameLaws.named_meaning}
 use Rattle.comp_meaning.specs.Reads.{Part, Member, Sight, seen_meaning, is_of, package_with}
-use Rattle.plan_meaning.specs.Shapes.{node_shape, part_tree, shape_trees}
-use Rattle.plan_meaning.specs.Plan as plan
+use Rattle.plan_meaning.specs.{Shapes.node_shape, Shapes.part_tree, Shapes.shape_trees, Gathering.AreEnough, NumberedRules.Fact}
 use Rattle.plan_meaning.specs.Plan.{Plan, PlannedKind, PlannedFunction, PlannedInterface, PlannedKey, PlannedItem, PlannedWorld, path_of_planned, declared_as, trees_in}
-use Rattle.plan_meaning.specs.PlanMeaning as planned
 use Rattle.plan_meaning.specs.PlanMeaning.{type_meaning_in, function_meaning, interface_meaning_in, world_meaning_in, foreign_entry, shown_entry, plan_meaning, plan_world_meaning}
-use Rattle.plan_meaning.specs.Gathering.{AreEnough}
 use Rattle.plan_meaning.specs.NumberedViews.{FunctionShape, Tables, path_text, place_at, tree_at, signature_over, function_at, AreTables, NumberedType, NumberedFunction, NumberedView, view_of, declaration_of, shown_type, shown_function, NumberedSight, sight_of, IsSight, agree_in_numbers}
-use Rattle.plan_meaning.specs.NumberedRules.{Fact}
 use Rattle.plan_meaning.specs.NumberedWorlds.{path, label, implementing, NumberedShown, instance, function, declares, NumberedSeen, shown_of, seen_of, NumberedScope, Shows, sights_of_scope, HasPath}
 use Rattle.plan_meaning.specs.NumberedMembers.{Homes, HomesStand, is_of_package, NumberedPart, world, interface, NumberedMember, sights_of_members, sights_of_part, ShowsPart, IsMember, are_interfaces, are_package, is_named_in, package_shown, world_shown, IsKnownSight}
 use Rattle.plan_meaning.specs.GatheredPlan.{functions_seen, interfaces_listed, worlds_listed, Becomes, BecomesIfGiven, DeclaresKind, a_resource, a_name, a_form, TypeBecomes, TypeListed, ParamBecomes, FunctionBecomes, FunctionListed, InterfaceBecomes, InterfaceAt, ItemBecomes, SeenBecomes, WorldBecomes, SightBecomes, Keeps, InterfacesListed, WorldsListed, under_path, foreign_interface, AreChosen, is_foreign, IsGathered, GatheredPackageIsMeant, GatheredWorldIsMeant}
-use Rattle.plan_meaning.proofs.Gathering.{functions_mean_one, one_view_is_enough}
+use Rattle.plan_meaning.proofs.{Gathering.functions_mean_one, Gathering.one_view_is_enough, NumberedWorlds.path_number, NumberedWorlds.sights_in_numbers}
 use Rattle.plan_meaning.proofs.NumberedMembers.{only_sights, of_package, all_sights, agree_same, interfaces_same, packages_in_numbers, one_world_in_numbers}
-use Rattle.plan_meaning.proofs.NumberedWorlds.{path_number, sights_in_numbers}
-use Rattle.plan_meaning.proofs.Renumbering.{trees_are_kept}
-use Rattle.plan_meaning.proofs.ShapeLaws.{node_tree, part_behind, tree_at_number}
-use Rattle.base_lemmas.proofs.Bools.{left_of as first_true, right_of as second_true}
+use Rattle.plan_meaning.proofs.{Renumbering.trees_are_kept, ShapeLaws.node_tree, ShapeLaws.part_behind, ShapeLaws.tree_at_number}
+use Rattle.base_lemmas.proofs.{Bools.left_of as first_true, Bools.right_of as second_true, Lists.map_of_map}
 use Rattle.base_lemmas.proofs.Elements.{all_at, contains-later, contains-map, contains-one, filter_keeps, filter_kept, map_from, zip_map}
-use Rattle.base_lemmas.proofs.Lists.{map_of_map}
+use Rattle.comp_meaning.specs.Reads as reads
+use Rattle.plan_meaning.specs.Plan as plan
+use Rattle.plan_meaning.specs.PlanMeaning as planned
 
 -- ---- lists
 

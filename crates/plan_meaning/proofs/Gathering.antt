@@ -1,24 +1,14 @@
 -- One view of each path is enough.
 use Rattle.std.proofs.Common.{◌≡◌, refl, sym, ap, subst, ◌∙◌, zero, suc, Bool, true, false, ◌&&◌, ◌||◌, not, cond, List, [], ◌∷◌, ◌++◌, map, arith, rules}
-use Rattle.std.specs.List.{Contains, list_all}
-use Rattle.std.specs.Cmp.Lexicographic.{pointwise}
-use Rattle.std.specs.FinMap.{from_entries}
-use Rattle.std.proofs.lemmas.Bool.{and_from}
-use Rattle.std.proofs.lemmas.Slice.Eq.{bytes_eq-Decides}
-use Rattle.wit_model.specs.Text.{Text, TextMap, text_eq}
-use Rattle.wit_model.specs.Meaning.{FunctionMeaning, TypeMeaning, InterfaceMeaning}
-use Rattle.wit_model.specs.Tree.{Place}
+use Rattle.std.proofs.lemmas.{Bool.and_from, Slice.Eq.bytes_eq-Decides}
+use Rattle.std.specs.{List.Contains, List.list_all, Cmp.Lexicographic.pointwise, FinMap.from_entries}
+use Rattle.wit_model.specs.{Text.Text, Text.TextMap, Text.text_eq, Meaning.FunctionMeaning, Meaning.TypeMeaning, Meaning.InterfaceMeaning, Tree.Place}
 use Rattle.wit_model.proofs.Maps.{one_map}
-use Rattle.comp_meaning.specs.Follow.{ShownType}
-use Rattle.comp_meaning.specs.Rules.{distinct, is_interface}
-use Rattle.comp_meaning.specs.SameLaws.{HaveDistinctNames, named_meaning}
+use Rattle.comp_meaning.specs.{Follow.ShownType, Rules.distinct, Rules.is_interface, SameLaws.HaveDistinctNames, SameLaws.named_meaning}
 use Rattle.comp_meaning.specs.Reads.{Sight, same_shown, same_functions, agree, all_agree, are_interfaces, functions_of, seen_meaning}
-use Rattle.comp_meaning.proofs.FunctionLists.{functions_make_one_map}
-use Rattle.comp_meaning.proofs.SameLaws.{shown_types_decide}
+use Rattle.comp_meaning.proofs.{FunctionLists.functions_make_one_map, SameLaws.shown_types_decide, AgreementLaws.distinct_behind}
 use Rattle.plan_meaning.specs.Gathering.{ViewsMeanOne, OneViewIsEnough}
-use Rattle.comp_meaning.proofs.AgreementLaws.{distinct_behind}
-use Rattle.base_lemmas.proofs.Bools.{left_of as first_true, right_of as second_true}
-use Rattle.base_lemmas.proofs.Elements.{all-contained, contains-map, map_from}
+use Rattle.base_lemmas.proofs.{Bools.left_of as first_true, Bools.right_of as second_true, Elements.all-contained, Elements.contains-map, Elements.map_from}
 
 -- what a view shows of types
 abbrev types_of : Sight → List (Text × TypeMeaning)

@@ -1,30 +1,21 @@
 -- What an item of a world uses stands before it.
 use Rattle.std.proofs.Common.{◌≡◌, refl, sym, ap, ◌∙◌, ℕ, ◌&&◌, List, [], map, filter, filter_map, option_to_list, Option}
 use Rattle.std.specs.List.{list_all}
-use Rattle.wit_model.specs.declared.model.Resolve.{Resolve}
-use Rattle.wit_model.specs.declared.model.World.{World}
-use Rattle.wit_model.specs.declared.model.WorldItem.{WorldItem}
+use Rattle.wit_model.specs.declared.model.{Resolve.Resolve, World.World, WorldItem.WorldItem}
+use Rattle.wit_model.specs.Parts.{used_by_type}
+use Rattle.wit_model.specs.{Uses.has, Uses.items_of, Rules.each_after, Rules.used_by_number, Valid.Keeps, Valid.order_of_items, Valid.as_world}
+use Rattle.wit_model.proofs.{Entries.worlds_keep, RulesLemmas.after_of_map}
+use Rattle.plan_meaning.specs.{Plan.kind_numbers, Plan.used_by_numbers, Plan.type_in, Built.planned_type, Built.planned_world, Built.planned_item}
+use Rattle.plan_meaning.specs.PlanRules.{IsPlan}
+use Rattle.plan_meaning.proofs.{Lists.each_built, Lists.or_there, FunctionRules.items_are, WorldItems.item_interface_is, TypeOrder.item_types_are}
+use Rattle.plan_meaning.proofs.Words.{plan_of, function_numbers_are, has_owner_is, used_are, used_by_kind_is, interface_used_is, direct_uses_are}
+use Rattle.base_lemmas.proofs.Lists.{filter_of_map}
 use Rattle.wit_model.specs.declared.model.WorldItem.TheVariants as item
 use Rattle.wit_model.specs.Parts as parts
-use Rattle.wit_model.specs.Parts.{used_by_type}
 use Rattle.wit_model.specs.Uses as uses
-use Rattle.wit_model.specs.Uses.{has, items_of}
 use Rattle.wit_model.specs.Rules as rules
-use Rattle.wit_model.specs.Rules.{each_after, used_by_number}
-use Rattle.wit_model.specs.Valid.{Keeps, order_of_items, as_world}
-use Rattle.wit_model.proofs.Entries.{worlds_keep}
 use Rattle.plan_meaning.specs.Plan as plan
-use Rattle.plan_meaning.specs.Plan.{kind_numbers, used_by_numbers, type_in}
 use Rattle.plan_meaning.specs.PlanRules as planned
-use Rattle.plan_meaning.specs.PlanRules.{IsPlan}
-use Rattle.plan_meaning.specs.Built.{planned_type, planned_world, planned_item}
-use Rattle.plan_meaning.proofs.Lists.{each_built, or_there}
-use Rattle.plan_meaning.proofs.Words.{plan_of, function_numbers_are, has_owner_is, used_are, used_by_kind_is, interface_used_is, direct_uses_are}
-use Rattle.plan_meaning.proofs.FunctionRules.{items_are}
-use Rattle.plan_meaning.proofs.WorldItems.{item_interface_is}
-use Rattle.plan_meaning.proofs.TypeOrder.{item_types_are}
-use Rattle.base_lemmas.proofs.Lists.{filter_of_map}
-use Rattle.wit_model.proofs.RulesLemmas.{after_of_map}
 
 pub item_interfaces_are : (xs : List WorldItem) → filter_map plan.item_interface (map planned_item xs) ≡ filter_map uses.item_interface xs
 item_interfaces_are xs = filter_of_map plan.item_interface planned_item xs ∙ ap (λ (h : WorldItem → Option ℕ). filter_map h xs) (λ i x. item_interface_is x i)

@@ -1,24 +1,16 @@
 -- Functions whose types are those of kept shapes pass the tests on their types and their resource.
 use Rattle.std.proofs.Common.{◌≡◌, inl, inr, refl, sym, ap, subst, ◌∙◌, ℕ, ◌+◌, arith, Bool, true, false, not, ◌&&◌, ◌||◌, ◌==◌, cond, List, [], ◌∷◌, length, map, drop, filter_map, Option, Some, None, option_map, option_to_list, is_none, slice_get, codes, rules as std_rules}
-use Rattle.std.specs.Prelude.{nat_le, nat_eq, option_and_then}
-use Rattle.std.specs.List.{AllZip, list_all, starts_with}
-use Rattle.std.specs.Option.{option_map_or}
-use Rattle.std.proofs.lemmas.Bool.{eqb-true, eq-eqb, lt-ltb, or_right, and_from as both}
+use Rattle.std.proofs.lemmas.{Bool.eqb-true, Bool.eq-eqb, Bool.lt-ltb, Bool.or_right, Bool.and_from as both, List.Folds.list_all-map}
 use Rattle.std.proofs.lemmas.Option.{slice_get_within, same_Some as same-some}
-use Rattle.wit_model.specs.declared.model.TypeOwner.{TypeOwner}
-use Rattle.wit_model.specs.declared.model.FunctionKind.{FunctionKind}
-use Rattle.wit_model.specs.declared.model.FunctionKind.TheVariants as call
-use Rattle.wit_model.specs.Text.{Text, text_eq}
-use Rattle.wit_model.specs.Names.{is_label, constructor_name, method_name, static_name}
-use Rattle.wit_model.specs.Tree.{Place, Form, Tree, levels}
-use Rattle.wit_model.specs.Lookup.{resource_of}
+use Rattle.std.specs.{Prelude.nat_le, Prelude.nat_eq, Prelude.option_and_then, List.AllZip, List.list_all, List.starts_with, Option.option_map_or}
+use Rattle.wit_model.specs.declared.model.{TypeOwner.TypeOwner, FunctionKind.FunctionKind}
+use Rattle.wit_model.specs.{Text.Text, Text.text_eq, Lookup.resource_of}
+use Rattle.wit_model.specs.{Names.is_label, Names.constructor_name, Names.method_name, Names.static_name, Tree.Place, Tree.Form, Tree.Tree, Tree.levels}
 use Rattle.wit_model.specs.Rules.{after_prefix, are_member_labels, in_list, is_freestanding, is_id, passes}
-use Rattle.wit_model.proofs.VersionLaws.{same_text}
-use Rattle.comp_meaning.specs.Rules as rules
+use Rattle.wit_model.proofs.{VersionLaws.same_text, TextLemmas.text_same}
 use Rattle.comp_meaning.specs.Rules.{are_labels, is_label_behind, most_levels}
 use Rattle.plan_meaning.specs.Shapes.{Shape, first_label, form_code, named_shape, node_shape, IsShape, a_name, a_node, part_tree}
 use Rattle.plan_meaning.specs.Plan.{Plan, PlannedType, PlannedFunction, formed, function_parts, part_number, type_in, trees_in}
-use Rattle.plan_meaning.specs.PlanRules as plan
 use Rattle.plan_meaning.specs.PlanRules.{is_borrow_of, is_member, is_member_of, is_member_name, is_own_of, is_result_of_own, is_shallow, names_of, part_is, resource_name, takes_self}
 use Rattle.plan_meaning.specs.Renumbering.{IsPart, a_primitive, a_shape}
 use Rattle.plan_meaning.specs.NumberedViews.{FunctionShape, Tables, tree_at, AreTables}
@@ -27,17 +19,13 @@ use Rattle.plan_meaning.specs.GatheredPlan.{Becomes, BecomesIfGiven, ParamBecome
 use Rattle.plan_meaning.specs.KeptTypes.{IsKeptType, unnamed, declared, TypesAreKept}
 use Rattle.plan_meaning.specs.KeptFunctions.{IsResource, IsKindOf, of_none, a_constructor, a_method, an_async_method, a_static, an_async_static, IsKeptFunction, FunctionPasses, KeptFunctionsPass}
 use Rattle.plan_meaning.proofs.KeptParts.{shape_parts, signature_parts, function_zip, numbers_pass, kept_at}
-use Rattle.plan_meaning.proofs.GatheredPlan.{parts_kept}
-use Rattle.plan_meaning.proofs.KeptTypes.{keeps, member_labels}
-use Rattle.plan_meaning.proofs.Lists.{no_true}
-use Rattle.plan_meaning.proofs.NumberedRules.{no_name, no_shape, shape_there}
-use Rattle.plan_meaning.proofs.ShapeLaws.{split_part}
-use Rattle.plan_meaning.proofs.Words.{behind}
-use Rattle.base_lemmas.proofs.Bools.{left_of as first_true, right_of as second_true}
+use Rattle.plan_meaning.proofs.{GatheredPlan.parts_kept, Lists.no_true, ShapeLaws.split_part, Words.behind}
+use Rattle.plan_meaning.proofs.{KeptTypes.keeps, KeptTypes.member_labels, NumberedRules.no_name, NumberedRules.no_shape, NumberedRules.shape_there}
+use Rattle.base_lemmas.proofs.{Bools.left_of as first_true, Bools.right_of as second_true, Elements.all_weaker, Elements.joined_well, Elements.zip_map}
 use Rattle.base_lemmas.proofs.Lists.{map_of_map}
-use Rattle.wit_model.proofs.TextLemmas.{text_same}
-use Rattle.base_lemmas.proofs.Elements.{all_weaker, joined_well, zip_map}
-use Rattle.std.proofs.lemmas.List.Folds.{list_all-map}
+use Rattle.wit_model.specs.declared.model.FunctionKind.TheVariants as call
+use Rattle.comp_meaning.specs.Rules as rules
+use Rattle.plan_meaning.specs.PlanRules as plan
 
 -- ---- names
 

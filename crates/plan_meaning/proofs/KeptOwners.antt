@@ -1,42 +1,30 @@
 -- What holds names of one place stays with the owner of that place.
 use Rattle.std.proofs.Common.{◌≡◌, inl, inr, refl, sym, ap, subst, ◌∙◌, ℕ, zero, suc, ◌+◌, ◌-◌, ◌<◌, arith, Bool, true, false, not, ◌&&◌, ◌||◌, ◌==◌, cond, List, [], ◌∷◌, ◌++◌, length, map, take, filter_map, Option, Some, None, is_some, slice_get, unwrap_or, rules as std_rules}
-use Rattle.std.specs.Prelude.{nat_le}
-use Rattle.std.specs.List.{AllZip, Contains, cons_option, flat_map, list_all}
-use Rattle.std.specs.Option.{option_map_or}
-use Rattle.std.proofs.lemmas.Bool.{eqb-true, eq-eqb, lt-ltb, or_right, and_from as both}
-use Rattle.std.proofs.lemmas.List.Folds.{list_all-append}
+use Rattle.std.proofs.lemmas.{Bool.eqb-true, Bool.eq-eqb, Bool.lt-ltb, Bool.or_right, Bool.and_from as both, List.Folds.list_all-append}
+use Rattle.std.specs.{Prelude.nat_le, List.AllZip, List.Contains, List.cons_option, List.flat_map, List.list_all, Option.option_map_or}
 use Rattle.wit_model.specs.declared.model.TypeOwner.{TypeOwner}
-use Rattle.wit_model.specs.declared.model.TypeOwner.TheVariants as owner
 use Rattle.wit_model.specs.Text.{Text}
-use Rattle.wit_model.specs.Tree.{Place, Form, Tree, children, deepest}
-use Rattle.wit_model.specs.Types.{no_tree}
-use Rattle.wit_model.specs.Parts.{met_by, same_owner}
-use Rattle.wit_model.specs.Uses.{owner_interface}
-use Rattle.comp_meaning.specs.Rules as rules
+use Rattle.wit_model.specs.{Tree.Place, Tree.Form, Tree.Tree, Tree.children, Tree.deepest, Types.no_tree, Parts.met_by, Parts.same_owner, Uses.owner_interface}
 use Rattle.comp_meaning.specs.Rules.{are_labels, are_parts, form_labels, is_named_form, most_levels}
 use Rattle.comp_meaning.proofs.SameLaws.{places_decide}
 use Rattle.plan_meaning.specs.Shapes.{Shape, node_shape, named_shape, shape_trees}
 use Rattle.plan_meaning.specs.Plan.{Plan, PlannedType, PlannedFunction, kind_numbers, part_number, alias_number, met_at, met_in, has_owner, type_in, function_parts}
-use Rattle.plan_meaning.specs.Plan as plan
-use Rattle.plan_meaning.specs.PlanRules.{function_stays, has_name, is_use, type_stays}
+use Rattle.plan_meaning.specs.{PlanRules.function_stays, PlanRules.has_name, PlanRules.is_use, PlanRules.type_stays, NumberedRules.IsSeenFrom}
 use Rattle.plan_meaning.specs.Renumbering.{IsPart, a_primitive, a_shape}
 use Rattle.plan_meaning.specs.NumberedViews.{FunctionShape, Tables, place_at, tree_at, signature_over, declaration_of, AllOf, PartsOf, AreTables, itself, inside}
-use Rattle.plan_meaning.specs.NumberedRules.{IsSeenFrom}
-use Rattle.plan_meaning.specs.GatheredPlan as gathered
 use Rattle.plan_meaning.specs.GatheredPlan.{Becomes, BecomesIfGiven, DeclaresKind, a_resource, a_form, FunctionBecomes, ParamBecomes}
 use Rattle.plan_meaning.specs.KeptTypes.{IsKeptType, unnamed, declared, TypesAreKept}
 use Rattle.plan_meaning.specs.KeptOwners.{IsNamedInterface, AreOwned, OwnersStand, KeptOwnersStand, of_name}
 use Rattle.plan_meaning.proofs.KeptParts.{shape_parts, all_parts, signature_parts, function_zip, numbers_pass, kept_at}
-use Rattle.plan_meaning.proofs.GatheredPlan.{form_tree}
-use Rattle.plan_meaning.proofs.KeptTypes.{form_obeys, keeps, parts_before}
-use Rattle.plan_meaning.proofs.Lists.{no_true}
-use Rattle.plan_meaning.proofs.NumberedRules.{no_name, shape_there}
-use Rattle.plan_meaning.proofs.ShapeLaws.{name_tree, part_behind, tree_at_number}
+use Rattle.plan_meaning.proofs.{GatheredPlan.form_tree, KeptTypes.form_obeys, KeptTypes.keeps, KeptTypes.parts_before, Lists.no_true, MetTypes.met_there}
+use Rattle.plan_meaning.proofs.{NumberedRules.no_name, NumberedRules.shape_there, ShapeLaws.name_tree, ShapeLaws.part_behind, ShapeLaws.tree_at_number}
 use Rattle.plan_meaning.proofs.Words.{behind}
 use Rattle.base_lemmas.proofs.Bools.{left_of as first_true, right_of as second_true}
-use Rattle.base_lemmas.proofs.Elements.{all_at, all_by_number, all-contained, flat_all}
-use Rattle.base_lemmas.proofs.Lists.{slice_take}
-use Rattle.plan_meaning.proofs.MetTypes.{met_there}
+use Rattle.base_lemmas.proofs.{Elements.all_at, Elements.all_by_number, Elements.all-contained, Elements.flat_all, Lists.slice_take}
+use Rattle.wit_model.specs.declared.model.TypeOwner.TheVariants as owner
+use Rattle.comp_meaning.specs.Rules as rules
+use Rattle.plan_meaning.specs.Plan as plan
+use Rattle.plan_meaning.specs.GatheredPlan as gathered
 
 module _ (t : Tables) (tables : AreTables t) (kept : List ℕ) (p : Plan) (are : TypesAreKept t kept p) (owners : ℕ → TypeOwner) (owned : AreOwned t kept p owners) where
   abbrev all_met : List (List ℕ)

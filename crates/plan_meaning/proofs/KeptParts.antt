@@ -1,23 +1,17 @@
 -- What holds of the parts of a list, of the numbers that they become; the parts of a function in one list.
 use Rattle.std.proofs.Common.{◌≡◌, refl, sym, ap, ◌∙◌, ◌<◌, ℕ, ◌+◌, ◌-◌, arith, Bool, true, ◌&&◌, cond, List, [], ◌∷◌, ◌++◌, length, map, filter_map, Option, Some, None, option_map, option_to_list, is_some, slice_get, subst}
+use Rattle.std.proofs.lemmas.{Bool.lt-ltb, Bool.and_from as both, List.Folds.list_all-map, Option.same_Some as same-some}
 use Rattle.std.specs.List.{AllByRecursion, AllZip, Contains, list_all}
-use Rattle.std.proofs.lemmas.Bool.{lt-ltb, and_from as both}
-use Rattle.std.proofs.lemmas.List.Folds.{list_all-map}
-use Rattle.std.proofs.lemmas.Option.{same_Some as same-some}
-use Rattle.wit_model.specs.Text.{Text}
-use Rattle.wit_model.specs.Tree.{Place, Tree}
-use Rattle.comp_meaning.specs.Rules as rules
+use Rattle.wit_model.specs.{Text.Text, Tree.Place, Tree.Tree}
 use Rattle.comp_meaning.specs.Rules.{are_labels}
 use Rattle.plan_meaning.specs.Plan.{Plan, PlannedFunction, function_parts, part_number, PlannedType}
-use Rattle.plan_meaning.specs.Renumbering.{IsPart, a_primitive, a_shape}
+use Rattle.plan_meaning.specs.{Renumbering.IsPart, Renumbering.a_primitive, Renumbering.a_shape, KeptTypes.IsKeptType, KeptTypes.TypesAreKept}
 use Rattle.plan_meaning.specs.NumberedViews.{FunctionShape, Tables, AllOf, PartsOf, tree_at, signature_over}
 use Rattle.plan_meaning.specs.GatheredPlan.{Becomes, BecomesIfGiven, FunctionBecomes, ParamBecomes}
-use Rattle.plan_meaning.proofs.Lists.{no_true}
-use Rattle.plan_meaning.proofs.Words.{behind}
-use Rattle.base_lemmas.proofs.Bools.{left_of as first_true, right_of as second_true}
+use Rattle.plan_meaning.proofs.{Lists.no_true, Words.behind}
+use Rattle.base_lemmas.proofs.{Bools.left_of as first_true, Bools.right_of as second_true, Lists.within_there as slice_there}
 use Rattle.base_lemmas.proofs.Elements.{all_both, all_pass, filter_map_from, get-contains, joined_well, seconds, zip-append, zip_at_right}
-use Rattle.plan_meaning.specs.KeptTypes.{IsKeptType, TypesAreKept}
-use Rattle.base_lemmas.proofs.Lists.{within_there as slice_there}
+use Rattle.comp_meaning.specs.Rules as rules
 
 -- the parts of a function's type, the result last
 abbrev pub shape_parts : FunctionShape → List ℕ

@@ -1,25 +1,19 @@
 -- The numbers of a plan that are resources are those of the parts that are marked.
 use Rattle.std.proofs.Common.{◌≡◌, refl, sym, ap, subst, ◌∙◌, ℕ, zero, suc, ◌+◌, ◌-◌, ◌<◌, arith, Bool, true, false, not, cond, List, length, take, filter_map, Option, Some, None, slice_get, unwrap_or}
-use Rattle.std.specs.List.{AllZip, list_all}
-use Rattle.std.specs.Option.{option_map_or}
 use Rattle.std.proofs.lemmas.Bool.{lt-ltb}
-use Rattle.wit_model.specs.Text.{Text}
-use Rattle.wit_model.specs.Tree.{Form}
+use Rattle.std.specs.{List.AllZip, List.list_all, Option.option_map_or}
+use Rattle.wit_model.specs.{Text.Text, Tree.Form}
 use Rattle.wit_model.proofs.Tables.{grow_at}
 use Rattle.plan_meaning.specs.Plan.{Plan, PlannedKind, resource, alias, formed, PlannedType, part_number, marked_at, resource_marks, is_resource, function_parts}
-use Rattle.plan_meaning.specs.PlanRules.{handles_resources, is_handle_form}
+use Rattle.plan_meaning.specs.{PlanRules.handles_resources, PlanRules.is_handle_form, NumberedViews.Tables, NumberedViews.AreTables, NumberedViews.AllOf}
 use Rattle.plan_meaning.specs.Renumbering.{IsPart, a_primitive, a_shape}
-use Rattle.plan_meaning.specs.Shapes.{named_shape}
-use Rattle.plan_meaning.specs.NumberedViews.{Tables, AreTables, AllOf}
-use Rattle.plan_meaning.specs.GatheredPlan as gathered
+use Rattle.plan_meaning.specs.{Shapes.named_shape, KeptTypes.alone, KeptTypes.IsKeptType, KeptTypes.unnamed, KeptTypes.declared, KeptTypes.TypesAreKept}
 use Rattle.plan_meaning.specs.GatheredPlan.{Becomes, BecomesIfGiven, DeclaresKind, a_resource, a_form, ParamBecomes}
-use Rattle.plan_meaning.specs.KeptTypes.{alone, IsKeptType, unnamed, declared, TypesAreKept}
 use Rattle.plan_meaning.specs.KeptResources.{MarkedBy, FormIsMarked, AreMarked, ResourcesStand, KeptResourcesStand}
-use Rattle.plan_meaning.proofs.KeptParts.{shape_parts, all_parts, function_zip, numbers_pass, kept_at}
+use Rattle.plan_meaning.proofs.{KeptParts.shape_parts, KeptParts.all_parts, KeptParts.function_zip, KeptParts.numbers_pass, KeptParts.kept_at, Words.behind}
 use Rattle.plan_meaning.proofs.KeptTypes.{form_of_name}
-use Rattle.plan_meaning.proofs.Words.{behind}
-use Rattle.base_lemmas.proofs.Elements.{all_by_number, all-contained, all_pass, all_at}
-use Rattle.base_lemmas.proofs.Lists.{slice_take}
+use Rattle.base_lemmas.proofs.{Elements.all_by_number, Elements.all-contained, Elements.all_pass, Elements.all_at, Lists.slice_take}
+use Rattle.plan_meaning.specs.GatheredPlan as gathered
 
 module _ (t : Tables) (tables : AreTables t) (kept : List ℕ) (p : Plan) (are : TypesAreKept t kept p) (marks : ℕ → Bool) (marked : AreMarked t kept p marks) where
   abbrev all_marks : List Bool

@@ -1,36 +1,27 @@
 -- Types of a plan that are those of kept shapes pass the tests on types.
 use Rattle.std.proofs.Common.{◌≡◌, refl, sym, ap, subst, ◌∙◌, ℕ, ◌+◌, ◌-◌, ◌<◌, ◌≤◌, arith, true, false, not, ◌&&◌, ◌||◌, ◌==◌, cond, List, [], ◌∷◌, length, map, filter_map, Option, Some, None, is_some, slice_get}
-use Rattle.std.specs.Prelude.{nat_le, nat_lt}
-use Rattle.std.specs.List.{AllByRecursion, AllZip, list_all}
-use Rattle.std.specs.Option.{option_map_or}
-use Rattle.std.proofs.lemmas.Bool.{eq-eqb, lt-ltb, le-leb, leb-true, and_from as both}
+use Rattle.std.proofs.lemmas.{Bool.eq-eqb, Bool.lt-ltb, Bool.le-leb, Bool.leb-true, Bool.and_from as both, Option.slice_get_past as slice_past}
 use Rattle.std.proofs.lemmas.List.Folds.{list_all-map}
-use Rattle.wit_model.specs.Text.{Text}
-use Rattle.wit_model.specs.Names.{is_label}
+use Rattle.std.specs.{Prelude.nat_le, Prelude.nat_lt, List.AllByRecursion, List.AllZip, List.list_all, Option.option_map_or}
+use Rattle.wit_model.specs.{Text.Text, Names.is_label, Rules.each_from, Rules.are_member_labels, Rules.has_items, Rules.passes}
 use Rattle.wit_model.specs.Tree.{Place, Form, Tree, Declaration, children, deepest, levels}
-use Rattle.wit_model.specs.Rules.{each_from, are_member_labels, has_items, passes}
-use Rattle.comp_meaning.specs.Rules as rules
-use Rattle.comp_meaning.specs.Rules.{are_labels, are_parts, form_labels, is_named_form, most_levels}
-use Rattle.comp_meaning.specs.Follow.{is_key_primitive}
+use Rattle.comp_meaning.specs.{Rules.are_labels, Rules.are_parts, Rules.form_labels, Rules.is_named_form, Rules.most_levels, Follow.is_key_primitive}
 use Rattle.plan_meaning.specs.Shapes.{Shape, form_code, node_shape, named_shape, part_tree, primitives, IsShape, a_name, a_node}
 use Rattle.plan_meaning.specs.Plan.{Plan, PlannedKind, PlannedType, part_number, kind_numbers, alias_number, trees_in}
 use Rattle.plan_meaning.specs.PlanRules.{is_form, is_key_part, begins_with_key, type_labels, kind_labels, has_shape, is_named_kind, is_named_number, kind_is_named, is_shallow, parts_are_shallow}
 use Rattle.plan_meaning.specs.Renumbering.{IsPart, a_primitive, a_shape, IsTypeOf, of_form, of_name}
 use Rattle.plan_meaning.specs.NumberedViews.{Tables, place_at, tree_at, declaration_of, AllOf, AreTables}
-use Rattle.plan_meaning.specs.NumberedRules as numbered
-use Rattle.plan_meaning.specs.GatheredPlan as gathered
 use Rattle.plan_meaning.specs.GatheredPlan.{Becomes, DeclaresKind, a_resource, a_form, Keeps}
 use Rattle.plan_meaning.specs.KeptTypes.{IsKeptForm, alone, of_name, IsKeptType, unnamed, declared, TypesAreKept, TypesPass, KeptTypesPass}
-use Rattle.plan_meaning.proofs.KeptParts.{numbers_pass, kept_at}
-use Rattle.plan_meaning.proofs.Lists.{no_true, each_so}
-use Rattle.plan_meaning.proofs.GatheredPlan.{parts_kept, form_tree}
-use Rattle.plan_meaning.proofs.NumberedRules.{no_name, shape_there}
-use Rattle.plan_meaning.proofs.Words.{behind}
+use Rattle.plan_meaning.proofs.{KeptParts.numbers_pass, KeptParts.kept_at, Words.behind}
+use Rattle.plan_meaning.proofs.{Lists.no_true, Lists.each_so, GatheredPlan.parts_kept, GatheredPlan.form_tree, NumberedRules.no_name, NumberedRules.shape_there}
 use Rattle.base_lemmas.proofs.Bools.{left_of as first_true, right_of as second_true, or_true}
 use Rattle.base_lemmas.proofs.Elements.{all_by_number, zip-kept as zip-weaker, all_at}
-use Rattle.std.proofs.lemmas.Option.{slice_get_past as slice_past}
 use Rattle.comp_meaning.proofs.RulesLemmas.{distinct_same}
 use Rattle.wit_model.proofs.RulesLemmas.{each_by_number}
+use Rattle.comp_meaning.specs.Rules as rules
+use Rattle.plan_meaning.specs.NumberedRules as numbered
+use Rattle.plan_meaning.specs.GatheredPlan as gathered
 
 -- ---- lists
 

@@ -1,33 +1,21 @@
 -- Shapes of kinds, and which kinds have names.
 use Rattle.std.proofs.Common.{◌≡◌, refl, sym, ap, ◌∙◌, ℕ, ◌+◌, ◌≤◌, true, false, ◌&&◌, ◌||◌, not, Option, Some, None, option_map, is_some, String, arith}
+use Rattle.std.proofs.lemmas.{Option.slice_get_past, Option.slice_get-map as get_of_map, Bool.and_from as both}
 use Rattle.std.specs.declared.alloc.Global.{Global}
 use Rattle.std.specs.Option.{option_map_or}
-use Rattle.std.proofs.lemmas.Option.{slice_get_past, slice_get-map as get_of_map}
-use Rattle.wit_model.specs.declared.model.Resolve.{Resolve}
-use Rattle.wit_model.specs.declared.model.TypeDef.{TypeDef}
-use Rattle.wit_model.specs.declared.model.TypeDefKind.{TypeDefKind}
+use Rattle.wit_model.specs.declared.model.{Resolve.Resolve, TypeDef.TypeDef, TypeDefKind.TypeDefKind, «Type».«Type» as ValueType}
+use Rattle.wit_model.specs.{Text.optional_text, Text.text_of, Lookup.type_at, Uses.alias_target, Rules.passes, Valid.Keeps, Valid.shapes, Valid.named_kinds}
+use Rattle.wit_model.proofs.{Entries.types_keep, RulesLemmas.items_of_map}
+use Rattle.comp_meaning.specs.Follow.{is_key_primitive}
+use Rattle.plan_meaning.specs.{Shapes.primitives, PlanRules.IsPlan, PlanRules.is_key_part, Built.part_of, Built.planned_kind, Built.planned_type}
+use Rattle.plan_meaning.specs.Plan.{alias_number}
+use Rattle.plan_meaning.proofs.{Lists.each_from_built, Lists.no_true, Words.plan_of, Words.alias_is}
+use Rattle.base_lemmas.proofs.Bools.{left_of as first_true, right_of as second_true}
 use Rattle.wit_model.specs.declared.model.TypeDefKind.TheVariants as kind
 use Rattle.wit_model.specs.declared.model.Handle.TheVariants as handle
-use Rattle.wit_model.specs.declared.model.«Type».{«Type» as ValueType}
 use Rattle.wit_model.specs.declared.model.«Type».TheVariants as ty
-use Rattle.wit_model.specs.Text.{optional_text, text_of}
-use Rattle.wit_model.specs.Lookup.{type_at}
-use Rattle.wit_model.specs.Uses.{alias_target}
 use Rattle.wit_model.specs.Rules as rules
-use Rattle.wit_model.specs.Rules.{passes}
-use Rattle.wit_model.specs.Valid.{Keeps, shapes, named_kinds}
-use Rattle.wit_model.proofs.Entries.{types_keep}
-use Rattle.comp_meaning.specs.Follow.{is_key_primitive}
-use Rattle.plan_meaning.specs.Shapes.{primitives}
-use Rattle.plan_meaning.specs.Plan.{alias_number}
 use Rattle.plan_meaning.specs.PlanRules as planned
-use Rattle.plan_meaning.specs.PlanRules.{IsPlan, is_key_part}
-use Rattle.plan_meaning.specs.Built.{part_of, planned_kind, planned_type}
-use Rattle.plan_meaning.proofs.Lists.{each_from_built, no_true}
-use Rattle.plan_meaning.proofs.Words.{plan_of, alias_is}
-use Rattle.base_lemmas.proofs.Bools.{left_of as first_true, right_of as second_true}
-use Rattle.std.proofs.lemmas.Bool.{and_from as both}
-use Rattle.wit_model.proofs.RulesLemmas.{items_of_map}
 
 key_is : (t : ValueType) → is_key_part (part_of t) ≡ rules.is_map_key t
 key_is (ty.Id id) =

@@ -1,45 +1,28 @@
 -- Names are labels, and lists of members don't repeat one.
 use Rattle.std.proofs.Common.{◌≡◌, refl, sym, ap, ◌∙◌, ℕ, Bool, true, false, ◌&&◌, ◌||◌, not, List, [], ◌∷◌, ◌++◌, map, option_to_list, Option, Some, None, String}
+use Rattle.std.proofs.lemmas.{List.Folds.list_any-append, List.Folds.list_all-append, List.Folds.list_all-map, Bool.and_from as both}
 use Rattle.std.specs.declared.alloc.Global.{Global}
-use Rattle.std.specs.List.{list_all, list_any}
-use Rattle.std.specs.Map.{keys_of}
-use Rattle.std.proofs.lemmas.List.Folds.{list_any-append, list_all-append, list_all-map}
+use Rattle.std.specs.{List.list_all, List.list_any, Map.keys_of}
 use Rattle.indexmap.specs.IndexMap.{keys}
-use Rattle.wit_model.specs.declared.model.Resolve.{Resolve}
-use Rattle.wit_model.specs.declared.model.Interface.{Interface}
-use Rattle.wit_model.specs.declared.model.World.{World}
-use Rattle.wit_model.specs.declared.model.WorldKey.{WorldKey}
-use Rattle.wit_model.specs.declared.model.WorldKey.TheVariants as key
-use Rattle.wit_model.specs.declared.model.WorldItem.{WorldItem}
-use Rattle.wit_model.specs.declared.model.WorldItem.TheVariants as item
-use Rattle.wit_model.specs.declared.model.TypeDef.{TypeDef}
-use Rattle.wit_model.specs.declared.model.TypeDefKind.{TypeDefKind}
-use Rattle.wit_model.specs.declared.model.TypeDefKind.TheVariants as kind
-use Rattle.wit_model.specs.declared.model.Handle.TheVariants as handle
-use Rattle.wit_model.specs.declared.model.TypeOwner.{TypeOwner}
-use Rattle.wit_model.specs.declared.model.Function.{Function}
-use Rattle.wit_model.specs.declared.model.Docs.{Docs}
-use Rattle.wit_model.specs.declared.model.Stability.{Stability}
-use Rattle.wit_model.specs.declared.model.Stability.TheVariants as stability
-use Rattle.wit_model.specs.Text.{Text, text_of, text_eq, optional_text}
-use Rattle.wit_model.specs.Names.{is_label}
-use Rattle.wit_model.specs.Rules as rules
+use Rattle.wit_model.specs.declared.model.{Resolve.Resolve, World.World, WorldKey.WorldKey, TypeDef.TypeDef, Function.Function, Docs.Docs}
+use Rattle.wit_model.specs.declared.model.{Interface.Interface, WorldItem.WorldItem, TypeDefKind.TypeDefKind, TypeOwner.TypeOwner, Stability.Stability}
+use Rattle.wit_model.specs.{Text.Text, Text.text_of, Text.text_eq, Text.optional_text, Names.is_label}
 use Rattle.wit_model.specs.Rules.{each_from, passes, are_distinct, are_member_labels, is_freestanding, is_stability, key_label, item_labels, entries_labels}
-use Rattle.wit_model.specs.Valid.{Keeps, labels, functions_of_interface, functions_of_world, item_function}
-use Rattle.wit_model.proofs.Lists.{list_all_filter_map}
-use Rattle.wit_model.proofs.Checks.{keeps_three}
-use Rattle.plan_meaning.specs.PlanRules as planned
+use Rattle.wit_model.specs.{Valid.Keeps, Valid.labels, Valid.functions_of_interface, Valid.functions_of_world, Valid.item_function, Lookup.world_at}
+use Rattle.wit_model.proofs.{Lists.list_all_filter_map, Checks.keeps_three, RulesLemmas.each_by_number}
 use Rattle.plan_meaning.specs.PlanRules.{IsPlan, names_of}
 use Rattle.plan_meaning.specs.Built.{part_of, planned_kind, planned_type, planned_function, planned_interface, planned_world, planned_key, planned_item, is_unknown, is_undocumented, is_bare, is_bare_type, is_bare_function, is_bare_interface, is_bare_item, is_bare_world, IsBare}
-use Rattle.plan_meaning.proofs.Lists.{all_built, no_true, all_there}
-use Rattle.plan_meaning.proofs.Words.{plan_of}
+use Rattle.plan_meaning.proofs.{Lists.all_built, Lists.no_true, Lists.all_there, Words.plan_of}
 use Rattle.plan_meaning.proofs.FunctionRules.{interface_holds, world_holds, imports_there, exports_there}
-use Rattle.base_lemmas.proofs.Bools.{left_of as first_true, right_of as second_true}
-use Rattle.base_lemmas.proofs.Elements.{all_two, any_of_map, all_get}
+use Rattle.base_lemmas.proofs.{Bools.left_of as first_true, Bools.right_of as second_true, Elements.all_two, Elements.any_of_map, Elements.all_get}
 use Rattle.base_lemmas.proofs.Lists.{map_of_map}
-use Rattle.std.proofs.lemmas.Bool.{and_from as both}
-use Rattle.wit_model.proofs.RulesLemmas.{each_by_number}
-use Rattle.wit_model.specs.Lookup.{world_at}
+use Rattle.wit_model.specs.declared.model.WorldKey.TheVariants as key
+use Rattle.wit_model.specs.declared.model.WorldItem.TheVariants as item
+use Rattle.wit_model.specs.declared.model.TypeDefKind.TheVariants as kind
+use Rattle.wit_model.specs.declared.model.Handle.TheVariants as handle
+use Rattle.wit_model.specs.declared.model.Stability.TheVariants as stability
+use Rattle.wit_model.specs.Rules as rules
+use Rattle.plan_meaning.specs.PlanRules as planned
 
 -- ---- stabilities
 

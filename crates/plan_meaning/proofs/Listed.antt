@@ -1,32 +1,19 @@
 -- What a package lists is in range, of the package, and under its own name; packages are apart.
 use Rattle.std.proofs.Common.{◌≡◌, refl, sym, ap, ◌∙◌, ℕ, Bool, true, false, ◌&&◌, ◌||◌, not, ◌==◌, List, length, map, option_map, Option, Some, None, slice_get, is_some, String}
+use Rattle.std.proofs.lemmas.{Option.slice_get_within, Option.slice_get-map as get_of_map, Bool.and_from as both, Bool.lt-ltb}
 use Rattle.std.specs.declared.alloc.Global.{Global}
-use Rattle.std.specs.List.{list_all}
-use Rattle.std.specs.Option.{option_map_or}
-use Rattle.std.proofs.lemmas.Option.{slice_get_within, slice_get-map as get_of_map}
-use Rattle.wit_model.specs.declared.model.Resolve.{Resolve}
-use Rattle.wit_model.specs.declared.model.Package.{Package}
-use Rattle.wit_model.specs.declared.model.PackageName.{PackageName}
-use Rattle.wit_model.specs.declared.model.InterfaceId.{InterfaceId}
-use Rattle.wit_model.specs.declared.model.WorldId.{WorldId}
-use Rattle.wit_model.specs.Text.{Text, text_of, text_eq, optional_text}
-use Rattle.wit_model.specs.Names.{is_label, is_version, is_identity}
-use Rattle.wit_model.specs.Lookup.{interface_at, world_at, package_at, identity_of}
+use Rattle.std.specs.{List.list_all, Option.option_map_or}
+use Rattle.wit_model.specs.declared.model.{Resolve.Resolve, Package.Package, PackageName.PackageName, InterfaceId.InterfaceId, WorldId.WorldId}
+use Rattle.wit_model.specs.{Text.Text, Text.text_of, Text.text_eq, Text.optional_text, Valid.Keeps, Valid.package_names, Valid.names_in_packages}
+use Rattle.wit_model.specs.{Names.is_label, Names.is_version, Names.is_identity, Lookup.interface_at, Lookup.world_at, Lookup.package_at, Lookup.identity_of}
 use Rattle.wit_model.specs.Rules.{in_list, passes, each_from, is_id, package_number, text_is, same_package_name}
-use Rattle.wit_model.specs.Valid.{Keeps, package_names, names_in_packages}
-use Rattle.wit_model.proofs.Entries.{packages_keep}
-use Rattle.wit_model.proofs.VersionLaws.{same_name}
+use Rattle.wit_model.proofs.{Entries.packages_keep, VersionLaws.same_name, RulesLemmas.each_by_number}
 use Rattle.comp_meaning.specs.Same.{same_identity}
 use Rattle.comp_meaning.proofs.SameLaws.{identities_decide}
 use Rattle.plan_meaning.specs.PlanRules.{IsPlan, bears, lists_interface, lists_world, lists_members, is_alone}
 use Rattle.plan_meaning.specs.Built.{planned_interface, planned_world, planned_package}
-use Rattle.plan_meaning.proofs.Lists.{all_built, each_built, no_true, each_there, all_there}
-use Rattle.plan_meaning.proofs.Words.{plan_of}
-use Rattle.base_lemmas.proofs.Bools.{left_of as first_true, right_of as second_true}
-use Rattle.base_lemmas.proofs.Elements.{all_get}
-use Rattle.std.proofs.lemmas.Bool.{and_from as both, lt-ltb}
-use Rattle.base_lemmas.proofs.Options.{there as some-of}
-use Rattle.wit_model.proofs.RulesLemmas.{each_by_number}
+use Rattle.plan_meaning.proofs.{Lists.all_built, Lists.each_built, Lists.no_true, Lists.each_there, Lists.all_there, Words.plan_of}
+use Rattle.base_lemmas.proofs.{Bools.left_of as first_true, Bools.right_of as second_true, Elements.all_get, Options.there as some-of}
 
 -- ---- a name that stands there
 

@@ -1,37 +1,22 @@
 -- Each named type of a plan that is read stands in its owner's list.
 use Rattle.std.proofs.Common.{◌≡◌, refl, sym, ap, subst, ◌∙◌, ℕ, zero, suc, ◌+◌, arith, Bool, true, false, not, ◌||◌, cond, List, [], ◌∷◌, ◌++◌, Some, option_and_then, slice_get}
-use Rattle.std.specs.List.{AllZip, Contains, list_any}
-use Rattle.std.specs.Option.{option_map_or}
-use Rattle.std.specs.Map.{lookup}
-use Rattle.std.proofs.lemmas.Bool.{or_right, and_from as both, not-true as not_true}
-use Rattle.std.proofs.lemmas.List.Folds.{list_any-append}
-use Rattle.wit_model.specs.declared.model.TypeOwner.TheVariants as owner
-use Rattle.wit_model.specs.Text.{Text, text_eq}
-use Rattle.wit_model.specs.Parts.{same_owner}
-use Rattle.wit_model.specs.Rules.{are_distinct, each_from, is_id, passes}
-use Rattle.wit_model.specs.Names.{is_label}
-use Rattle.wit_model.specs.Valid.{as_interface, as_world}
-use Rattle.wit_model.proofs.VersionLaws.{same_text}
-use Rattle.plan_meaning.specs.Shapes.{Shape, first_label, named_shape}
-use Rattle.plan_meaning.specs.Plan as plan
+use Rattle.std.proofs.lemmas.{Bool.or_right, Bool.and_from as both, Bool.not-true as not_true, List.Folds.list_any-append, Option.same_Some as same-some}
+use Rattle.std.specs.{List.AllZip, List.Contains, List.list_any, Option.option_map_or, Map.lookup}
+use Rattle.wit_model.specs.{Text.Text, Text.text_eq, Rules.are_distinct, Rules.each_from, Rules.is_id, Rules.passes, Valid.as_interface, Valid.as_world}
+use Rattle.wit_model.specs.{Parts.same_owner, Names.is_label}
+use Rattle.wit_model.proofs.{VersionLaws.same_text, RulesLemmas.each_by_number}
+use Rattle.plan_meaning.specs.{Shapes.Shape, Shapes.first_label, Shapes.named_shape, ReadInterfaces.IsNumberOf, ReadInterfaces.IsKeptAs, ReadInterfaces.HasName}
 use Rattle.plan_meaning.specs.Plan.{Plan, PlannedKey, PlannedItem, PlannedType, PlannedInterface, PlannedWorld, interface_in, world_in, number_under, item_type}
 use Rattle.plan_meaning.specs.PlanRules.{is_listed, is_listed_in, is_under_label, keys_differ, names_of, same_key}
-use Rattle.plan_meaning.specs.NumberedViews.{Tables, AreTables, NumberedType, NumberedView}
+use Rattle.plan_meaning.specs.{NumberedViews.Tables, NumberedViews.AreTables, NumberedViews.NumberedType, NumberedViews.NumberedView, ReadFunctions.Beside}
 use Rattle.plan_meaning.specs.KeptTypes.{IsKeptType, unnamed, declared, TypesAreKept}
-use Rattle.plan_meaning.specs.KeptOwners.{AreOwned}
-use Rattle.plan_meaning.specs.ReadFunctions.{Beside}
-use Rattle.plan_meaning.specs.ReadInterfaces.{IsNumberOf, IsKeptAs, HasName}
+use Rattle.plan_meaning.specs.{KeptOwners.AreOwned, ReadOrder.IsShownThere, ReadOrder.in_interface, ReadOrder.in_world, ReadOrder.OrderIsRead}
 use Rattle.plan_meaning.specs.ReadWorlds.{ReadItem, is_type_seen, IsReadItem, by_path, by_label, implementing_path, a_function, a_type}
-use Rattle.plan_meaning.specs.ReadOrder.{IsShownThere, in_interface, in_world, OrderIsRead}
-use Rattle.plan_meaning.proofs.Lists.{no_true}
-use Rattle.plan_meaning.proofs.ReadInterfaces.{has_labels}
-use Rattle.plan_meaning.proofs.ReadLists.{never, number_there}
-use Rattle.plan_meaning.proofs.ReadWorlds.{import_keys_differ}
-use Rattle.base_lemmas.proofs.Bools.{first_false as none_first, left_of as first_true, right_of as second_true}
+use Rattle.plan_meaning.proofs.{Lists.no_true, ReadInterfaces.has_labels, ReadLists.never, ReadLists.number_there, ReadWorlds.import_keys_differ}
+use Rattle.base_lemmas.proofs.{Bools.first_false as none_first, Bools.left_of as first_true, Bools.right_of as second_true, Numbers.same-number}
 use Rattle.base_lemmas.proofs.Elements.{all_at, contains-later, contains-map}
-use Rattle.base_lemmas.proofs.Numbers.{same-number}
-use Rattle.std.proofs.lemmas.Option.{same_Some as same-some}
-use Rattle.wit_model.proofs.RulesLemmas.{each_by_number}
+use Rattle.wit_model.specs.declared.model.TypeOwner.TheVariants as owner
+use Rattle.plan_meaning.specs.Plan as plan
 
 -- ---- lists
 

@@ -1,33 +1,19 @@
 -- What a plan means, part by part, is what the `Resolve` means that is built from it.
 use Rattle.std.proofs.Common.{◌≡◌, refl, ap, ◌∙◌, ℕ, List, [], map, option_map, Option, Some, None, unwrap_or, String}
 use Rattle.std.specs.declared.alloc.Global.{Global}
-use Rattle.wit_model.specs.declared.model.TypeId.{TypeId}
-use Rattle.std.specs.Option.{option_map_or}
-use Rattle.std.specs.FinMap.{from_entries}
-use Rattle.wit_model.specs.declared.model.Resolve.{Resolve}
-use Rattle.wit_model.specs.declared.model.Interface.{Interface}
-use Rattle.wit_model.specs.declared.model.World.{World}
-use Rattle.wit_model.specs.declared.model.WorldKey.{WorldKey}
-use Rattle.wit_model.specs.declared.model.WorldKey.TheVariants as key
-use Rattle.wit_model.specs.declared.model.WorldItem.{WorldItem}
-use Rattle.wit_model.specs.declared.model.WorldItem.TheVariants as item
-use Rattle.wit_model.specs.declared.model.TypeDef.{TypeDef}
-use Rattle.wit_model.specs.declared.model.Param.{Param}
-use Rattle.wit_model.specs.declared.model.«Type».{«Type» as ValueType}
-use Rattle.wit_model.specs.declared.model.Function.{Function}
-use Rattle.wit_model.specs.Text.{Text, text_of, optional_text}
-use Rattle.wit_model.specs.Types.{trees_of, type_tree}
-use Rattle.wit_model.specs.Lookup.{interface_at, world_at, type_at, is_async}
-use Rattle.wit_model.specs.Lookup as lookup
-use Rattle.wit_model.specs.Meaning.{FunctionMeaning, TypeMeaning, Item}
-use Rattle.wit_model.specs.Meant as meant
-use Rattle.wit_model.specs.Meant.{no_type, no_interface, no_world}
-use Rattle.plan_meaning.specs.Shapes.{part_tree}
-use Rattle.plan_meaning.specs.Plan.{PlannedFunction, PlannedKey, PlannedItem, trees_in, declared_as}
-use Rattle.plan_meaning.specs.PlanMeaning as planned
+use Rattle.wit_model.specs.declared.model.{TypeId.TypeId, Resolve.Resolve, World.World, TypeDef.TypeDef, Param.Param}
+use Rattle.wit_model.specs.declared.model.{Interface.Interface, WorldKey.WorldKey, WorldItem.WorldItem, «Type».«Type» as ValueType, Function.Function}
+use Rattle.std.specs.{Option.option_map_or, FinMap.from_entries}
+use Rattle.wit_model.specs.{Text.Text, Text.text_of, Text.optional_text, Types.trees_of, Types.type_tree, Meant.no_type, Meant.no_interface, Meant.no_world}
+use Rattle.wit_model.specs.{Lookup.interface_at, Lookup.world_at, Lookup.type_at, Lookup.is_async, Meaning.FunctionMeaning, Meaning.TypeMeaning, Meaning.Item}
+use Rattle.plan_meaning.specs.{Shapes.part_tree, Plan.PlannedFunction, Plan.PlannedKey, Plan.PlannedItem, Plan.trees_in, Plan.declared_as}
 use Rattle.plan_meaning.specs.Built.{part_of, planned_kind, planned_type, planned_function, planned_interface, planned_world, planned_key, planned_item, planned_entries}
-use Rattle.plan_meaning.proofs.Lists.{map_there, or_there}
-use Rattle.plan_meaning.proofs.Words.{plan_of, part_tree_is, trees_are, declared_is, path_is}
+use Rattle.plan_meaning.proofs.{Lists.map_there, Lists.or_there, Words.plan_of, Words.part_tree_is, Words.trees_are, Words.declared_is, Words.path_is}
+use Rattle.wit_model.specs.declared.model.WorldKey.TheVariants as key
+use Rattle.wit_model.specs.declared.model.WorldItem.TheVariants as item
+use Rattle.wit_model.specs.Lookup as lookup
+use Rattle.wit_model.specs.Meant as meant
+use Rattle.plan_meaning.specs.PlanMeaning as planned
 
 -- what stands under names
 module _ {X Y M : Type 0} (g : X → Y) (mean : Y → M) (meant : X → M) (same : (x : X) → mean (g x) ≡ meant x) where

@@ -1,22 +1,11 @@
 -- The named types that numbers of a plan use are under no larger numbers.
 use Rattle.std.proofs.Common.{◌≡◌, ◌⊎◌, inl, inr, refl, ap, ◌∙◌, ◌<◌, ℕ, zero, suc, arith, true, List, [], ◌∷◌, length, take, flat_map, Option, Some, None, unwrap_or, ◌+◌, slice_get}
-use Rattle.std.specs.Prelude.{nat_le, nat_lt}
-use Rattle.std.specs.List.{Contains, list_all}
-use Rattle.std.specs.Option.{option_map_or}
-use Rattle.std.proofs.lemmas.Bool.Decides.{nat_tests}
-use Rattle.std.proofs.lemmas.List.Elements.{Contains-append_cases}
-use Rattle.wit_model.specs.Text.{Text}
-use Rattle.wit_model.specs.Parts.{met_by, numbered_from}
-use Rattle.wit_model.specs.Rules.{each_from}
-use Rattle.wit_model.proofs.Elements.{none-in}
-use Rattle.wit_model.proofs.Functions.{all_flat}
+use Rattle.std.proofs.lemmas.{Bool.Decides.nat_tests, List.Elements.Contains-append_cases, Bool.and_from as both, Bool.ltb-true as less_than}
+use Rattle.std.specs.{Prelude.nat_le, Prelude.nat_lt, List.Contains, List.list_all, Option.option_map_or}
+use Rattle.wit_model.specs.{Text.Text, Parts.met_by, Parts.numbered_from, Rules.each_from}
+use Rattle.wit_model.proofs.{Elements.none-in, Functions.all_flat, RulesLemmas.each_at, Tables.grow_at, Owners.numbered_at as numbered_there}
 use Rattle.plan_meaning.specs.Plan.{Plan, PlannedType, kind_numbers, met_at, met_in, used_by_numbers}
-use Rattle.base_lemmas.proofs.Elements.{all-contained, all_weaker, contains-later}
-use Rattle.base_lemmas.proofs.Lists.{slice_take, within_there as slice_there}
-use Rattle.std.proofs.lemmas.Bool.{and_from as both, ltb-true as less_than}
-use Rattle.wit_model.proofs.RulesLemmas.{each_at}
-use Rattle.wit_model.proofs.Tables.{grow_at}
-use Rattle.wit_model.proofs.Owners.{numbered_at as numbered_there}
+use Rattle.base_lemmas.proofs.{Elements.all-contained, Elements.all_weaker, Elements.contains-later, Lists.slice_take, Lists.within_there as slice_there}
 
 -- what is met at a type, by what is met at smaller numbers
 pub met_there : (p : Plan) (j : ℕ) (x : PlannedType) → slice_get p.types j ≡ Some x → met_by (met_in p) j ≡ met_at (take j (met_in p)) (j, x)

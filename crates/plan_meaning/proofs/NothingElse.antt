@@ -1,40 +1,24 @@
 -- Nothing stands in what is built from a plan but what the plan means.
 use Rattle.std.proofs.Common.{◌≡◌, refl, sym, ap, ◌∙◌, ℕ, Bool, true, false, ◌&&◌, ◌||◌, ◌==◌, List, [], ◌∷◌, map, filter_map, option_map, option_and_then, Option, Some, None, slice_get, unwrap_or, zero, suc, is_some, is_none, subst, String}
-use Rattle.std.specs.Prelude.{sum_by}
+use Rattle.std.proofs.lemmas.Option.{slice_get-map as get_of_map}
+use Rattle.std.specs.{Prelude.sum_by, List.list_all, List.list_any, Option.option_map_or, Option.option_eq}
 use Rattle.std.specs.declared.alloc.Global.{Global}
-use Rattle.std.specs.List.{list_all, list_any}
-use Rattle.std.specs.Option.{option_map_or, option_eq}
-use Rattle.wit_model.specs.declared.model.Resolve.{Resolve}
-use Rattle.wit_model.specs.declared.model.Package.{Package}
-use Rattle.wit_model.specs.declared.model.Interface.{Interface}
-use Rattle.wit_model.specs.declared.model.World.{World}
-use Rattle.wit_model.specs.declared.model.Function.{Function}
-use Rattle.wit_model.specs.Text.{Text, text_of, optional_text}
-use Rattle.wit_model.specs.Lookup.{package_at, interface_at, world_at}
-use Rattle.wit_model.specs.Parts as parts
-use Rattle.wit_model.specs.Uses as uses
-use Rattle.wit_model.specs.Uses.{has, items_of}
-use Rattle.wit_model.specs.Rules.{is_id, in_list, has_items}
-use Rattle.wit_model.specs.Valid.{IsValid, functions_of_interface, functions_of_world}
-use Rattle.plan_meaning.specs.Plan as plan
+use Rattle.wit_model.specs.declared.model.{Resolve.Resolve, Package.Package, Interface.Interface, World.World, Function.Function}
+use Rattle.wit_model.specs.{Text.Text, Text.text_of, Text.optional_text, Uses.has, Uses.items_of, Rules.is_id, Rules.in_list, Rules.has_items}
+use Rattle.wit_model.specs.{Lookup.package_at, Lookup.interface_at, Lookup.world_at, Valid.IsValid, Valid.functions_of_interface, Valid.functions_of_world}
 use Rattle.plan_meaning.specs.Plan.{Plan, PlannedWorld, number_under, package_in}
-use Rattle.plan_meaning.specs.PlanRules as planned
 use Rattle.plan_meaning.specs.PlanRules.{HoldsNoMore, IsPackagePlan, IsWorldPlan}
 use Rattle.plan_meaning.specs.Built.{IsBuilt, planned_kind, planned_type, planned_function, planned_interface, planned_world, planned_package}
 use Rattle.plan_meaning.specs.NothingElse.{is_part_of, TypesAreUsed, PackagesAreUsed, HoldsPackageAlone, HoldsWorldAlone}
-use Rattle.plan_meaning.proofs.Lists.{any_get, each_there}
-use Rattle.plan_meaning.proofs.Words.{plan_of, kind_numbers_are, function_numbers_are}
-use Rattle.plan_meaning.proofs.KindRules.{has_text}
-use Rattle.plan_meaning.proofs.FunctionRules.{functions_are, world_functions_are}
-use Rattle.plan_meaning.proofs.PackageMeans.{no_functions}
-use Rattle.plan_meaning.proofs.Reaching.{shown_somewhere, shows_is, world_among, all_reached}
-use Rattle.plan_meaning.proofs.Valid.{plan_is, built_is_valid}
-use Rattle.base_lemmas.proofs.Bools.{left_of as first_true, right_of as second_true}
-use Rattle.base_lemmas.proofs.Elements.{any_of_map}
-use Rattle.base_lemmas.proofs.Lists.{get_back}
-use Rattle.std.proofs.lemmas.Option.{slice_get-map as get_of_map}
-use Rattle.plan_meaning.proofs.FunctionNames.{unnamed as lacks_text}
+use Rattle.plan_meaning.proofs.{Lists.any_get, Lists.each_there, FunctionRules.functions_are, FunctionRules.world_functions_are, PackageMeans.no_functions}
+use Rattle.plan_meaning.proofs.{Words.plan_of, Words.kind_numbers_are, Words.function_numbers_are, KindRules.has_text, FunctionNames.unnamed as lacks_text}
+use Rattle.plan_meaning.proofs.{Reaching.shown_somewhere, Reaching.shows_is, Reaching.world_among, Reaching.all_reached, Valid.plan_is, Valid.built_is_valid}
+use Rattle.base_lemmas.proofs.{Bools.left_of as first_true, Bools.right_of as second_true, Elements.any_of_map, Lists.get_back}
 use Rattle.wit_model.proofs.RulesLemmas.{items_of_map as some_items}
+use Rattle.wit_model.specs.Parts as parts
+use Rattle.wit_model.specs.Uses as uses
+use Rattle.plan_meaning.specs.Plan as plan
+use Rattle.plan_meaning.specs.PlanRules as planned
 
 module _ (r : Resolve) (m : ℕ) where
   -- ---- types and packages

@@ -1,34 +1,23 @@
 -- Members are a package, and a world stands alone, exactly where their numbers are.
 use Rattle.std.proofs.Common.{◌≡◌, refl, sym, ap, ◌∙◌, ℕ, Bool, true, false, not, ◌&&◌, ◌||◌, ◌==◌, List, [], ◌∷◌, ◌++◌, map, Option, Some, None, option_map, is_none, slice_get}
-use Rattle.std.specs.List.{AllByRecursion, AllZip, flat_map, list_all, list_any}
-use Rattle.std.specs.Option.{option_map_or}
-use Rattle.std.proofs.lemmas.Bool.{eqb-true, eq-eqb, and_from as both}
-use Rattle.wit_model.specs.Text.{Text, text_eq}
-use Rattle.wit_model.specs.Names.{PackageIdentity, path_in, read_path}
-use Rattle.wit_model.specs.Tree.{Place}
-use Rattle.wit_model.proofs.NameLaws.{read_path_is_spelled}
-use Rattle.wit_model.proofs.VersionLaws.{same_text}
-use Rattle.comp_meaning.specs.Follow.{View, each, is_filled, provided, place_of}
-use Rattle.comp_bytes.specs.Reading.{◌>>=◌}
-use Rattle.comp_meaning.specs.Same.{same_identity}
-use Rattle.comp_meaning.specs.Rules as rules
-use Rattle.comp_meaning.specs.Reads as reads
+use Rattle.std.proofs.lemmas.{Bool.eqb-true, Bool.eq-eqb, Bool.and_from as both, Option.same_Some as same-some}
+use Rattle.std.specs.{List.AllByRecursion, List.AllZip, List.flat_map, List.list_all, List.list_any, Option.option_map_or}
+use Rattle.wit_model.specs.{Text.Text, Text.text_eq, Names.PackageIdentity, Names.path_in, Names.read_path, Tree.Place}
+use Rattle.wit_model.proofs.{NameLaws.read_path_is_spelled, VersionLaws.same_text, TextLemmas.text_same, RulesLemmas.items_of_map as filled_same}
+use Rattle.comp_meaning.specs.{Follow.View, Follow.each, Follow.is_filled, Follow.provided, Follow.place_of, Same.same_identity}
 use Rattle.comp_meaning.specs.Reads.{Part, Member, Sight, is_of, all_agree, is_interface_part}
+use Rattle.comp_bytes.specs.Reading.{◌>>=◌}
 use Rattle.comp_meaning.proofs.SameLaws.{identities_decide}
 use Rattle.plan_meaning.specs.NumberedViews.{Tables, path_text, AreTables, NumberedView, view_of, shown_function, NumberedSight, sight_of, IsSight, agree_in_numbers}
 use Rattle.plan_meaning.specs.NumberedRules.{Fact, is_interface}
 use Rattle.plan_meaning.specs.NumberedWorlds.{path, NumberedShown, instance, NumberedSeen, shown_of, seen_of, sights_of_scope, HasPath}
 use Rattle.plan_meaning.specs.NumberedMembers.{Homes, IsHomeOf, HomesStand, is_of_package, is_named_in, NumberedPart, world, interface, NumberedMember, sights_of_part, sights_of_members, ShowsInterface, ShowsPart, IsMember, shown_view, imported_view, exported_view, are_interfaces, is_interface_of, stands_at_top, package_shown, world_shown, IsKnownSight, ImportsInNumbers, ExportInNumbers, PackagesInNumbers, OneWorldInNumbers}
-use Rattle.plan_meaning.proofs.NumberedRules.{interface_same}
-use Rattle.plan_meaning.proofs.NumberedViews.{all_agree_in_numbers}
-use Rattle.plan_meaning.proofs.NumberedWorlds.{path_is, path_number, sights_in_numbers}
-use Rattle.base_lemmas.proofs.Bools.{both_ways as either_way, left_of as first_true, right_of as second_true}
-use Rattle.base_lemmas.proofs.Lists.{append_of_map, map_of_map}
-use Rattle.std.proofs.lemmas.Option.{same_Some as same-some}
-use Rattle.wit_model.proofs.TextLemmas.{text_same}
-use Rattle.wit_model.proofs.RulesLemmas.{items_of_map as filled_same}
-use Rattle.plan_meaning.proofs.Lists.{each_so, all_same}
+use Rattle.plan_meaning.proofs.{NumberedRules.interface_same, Lists.each_so, Lists.all_same}
+use Rattle.plan_meaning.proofs.{NumberedViews.all_agree_in_numbers, NumberedWorlds.path_is, NumberedWorlds.path_number, NumberedWorlds.sights_in_numbers}
+use Rattle.base_lemmas.proofs.{Bools.both_ways as either_way, Bools.left_of as first_true, Bools.right_of as second_true, Lists.append_of_map, Lists.map_of_map}
 use Rattle.base_lemmas.proofs.Numbers.{turned}
+use Rattle.comp_meaning.specs.Rules as rules
+use Rattle.comp_meaning.specs.Reads as reads
 
 pub only_sights : (t : Tables) (known : ℕ → Fact) (seen : List NumberedSight) → AllByRecursion (IsKnownSight t known) seen → AllByRecursion (IsSight t) seen
 only_sights t known = each_so (IsKnownSight t known) (IsSight t) (λ s h. h.0)

@@ -1,27 +1,20 @@
 -- Each rule of reading on types, functions and interfaces has the same answer in numbers.
 use Rattle.std.proofs.Common.{◌≡◌, refl, sym, ap, ◌∙◌, ℕ, ◌+◌, ◌-◌, ◌<◌, min, Bool, true, false, not, ◌&&◌, ◌||◌, ◌==◌, cond, List, [], ◌∷◌, ◌++◌, map, Option, Some, None, option_map, slice_get, codes, rules as std_rules}
-use Rattle.std.specs.Prelude.{option_and_then, nat_le}
-use Rattle.std.specs.List.{AllByRecursion, Contains, list_all, list_any}
-use Rattle.std.specs.Option.{option_map_or}
 use Rattle.std.proofs.lemmas.Bool.{eqb-true, eq-eqb, lt-ltb}
-use Rattle.wit_model.specs.Text.{Text, text_eq}
-use Rattle.wit_model.specs.Names.{is_label, constructor_name, method_name, static_name}
+use Rattle.std.specs.{Prelude.option_and_then, Prelude.nat_le, List.AllByRecursion, List.Contains, List.list_all, List.list_any, Option.option_map_or}
+use Rattle.wit_model.specs.{Text.Text, Text.text_eq, Names.is_label, Names.constructor_name, Names.method_name, Names.static_name, Meaning.FunctionMeaning}
 use Rattle.wit_model.specs.Tree.{Place, Form, Tree, Trees, Declaration, children, deepest, levels, Primitive}
-use Rattle.wit_model.specs.Meaning.{FunctionMeaning}
-use Rattle.comp_meaning.specs.Follow.{ShownType}
-use Rattle.comp_meaning.specs.Same.{same_place, same_tree, same_trees, same_form}
-use Rattle.comp_meaning.specs.Rules as rules
+use Rattle.comp_meaning.specs.{Follow.ShownType, Same.same_place, Same.same_tree, Same.same_trees, Same.same_form}
 use Rattle.comp_meaning.specs.Rules.{are_labels, distinct, form_labels, is_label_behind, most_levels, are_parts, own_name, borrow_name}
 use Rattle.comp_meaning.proofs.SameLaws.{places_decide}
 use Rattle.plan_meaning.specs.Shapes.{Shape, form_code, first_label, named_shape, node_shape, IsTable}
 use Rattle.plan_meaning.specs.NumberedViews.{FunctionShape, Tables, place_at, tree_at, function_at, signature_over, IsPart, AllOf, PartsOf, itself, inside, NumberedType, NumberedView, view_of, declaration_of, shown_type, shown_function, TypePasses, FunctionPasses, ViewPasses}
 use Rattle.plan_meaning.specs.NumberedRules.{Fact, most_counted, shape_at, name_in, only_of, held_in, own_sort, borrow_sort, ok_in, is_parameter_type, is_declared_form, is_declared, is_result_type, is_signature, is_name, is_handle, begins_with_self, constructs, is_function_of, is_function, is_type, is_no_part, resources_of, is_interface, IsSeenFrom, IsKnown, EachRuleInNumbers}
-use Rattle.plan_meaning.proofs.ShapeLaws.{PartView, is_primitive, is_name as is_named, is_node, viewed}
+use Rattle.plan_meaning.proofs.{ShapeLaws.PartView, ShapeLaws.is_primitive, ShapeLaws.is_name as is_named, ShapeLaws.is_node, ShapeLaws.viewed, Lists.all_same}
 use Rattle.plan_meaning.proofs.Words.{behind}
-use Rattle.base_lemmas.proofs.Bools.{and-true as and_true, both_ways as either_way, no-and as and_false}
-use Rattle.base_lemmas.proofs.Elements.{get-contains, all_at}
+use Rattle.base_lemmas.proofs.{Bools.and-true as and_true, Bools.both_ways as either_way, Bools.no-and as and_false, Elements.get-contains, Elements.all_at}
 use Rattle.base_lemmas.proofs.Lists.{map_of_map}
-use Rattle.plan_meaning.proofs.Lists.{all_same}
+use Rattle.comp_meaning.specs.Rules as rules
 
 -- ---- tests
 

@@ -1,28 +1,18 @@
 -- Equal numbers are equal trees and equal types of functions, so views agree where their numbers do.
 use Rattle.std.proofs.Common.{◌≡◌, refl, sym, ap, ◌∙◌, ℕ, ◌<◌, Bool, true, false, not, ◌&&◌, ◌||◌, ◌==◌, cond, List, [], ◌∷◌, ◌++◌, length, map, Option, Some, None, option_map, unwrap_or, slice_get, rules}
-use Rattle.std.specs.List.{AllByRecursion, list_any, find}
-use Rattle.std.specs.Option.{option_map_or}
-use Rattle.std.specs.Cmp.Lexicographic.{pointwise}
 use Rattle.std.proofs.lemmas.Bool.{eqb-true, eq-eqb}
-use Rattle.wit_model.specs.Text.{Text, text_eq}
-use Rattle.wit_model.specs.Tree.{Tree}
-use Rattle.wit_model.specs.Meaning.{Signature}
-use Rattle.comp_meaning.specs.Follow.{place_of}
-use Rattle.comp_meaning.specs.Same.{same_option, same_tree, same_declaration, same_signature, stand_in}
-use Rattle.comp_meaning.specs.Same as same
-use Rattle.comp_meaning.specs.Reads.{Sight, all_agree}
-use Rattle.comp_meaning.specs.Reads as reads
-use Rattle.comp_meaning.specs.Agreement.{first_of, first_whole, agree_with_first}
-use Rattle.comp_meaning.specs.Agreement as agreement
+use Rattle.std.specs.{List.AllByRecursion, List.list_any, List.find, Option.option_map_or, Cmp.Lexicographic.pointwise}
+use Rattle.wit_model.specs.{Text.Text, Text.text_eq, Tree.Tree, Meaning.Signature}
+use Rattle.comp_meaning.specs.{Follow.place_of, Agreement.first_of, Agreement.first_whole, Agreement.agree_with_first}
+use Rattle.comp_meaning.specs.{Same.same_option, Same.same_tree, Same.same_declaration, Same.same_signature, Same.stand_in, Reads.Sight, Reads.all_agree}
 use Rattle.comp_meaning.proofs.SameLaws.{trees_decide, signatures_decide}
 use Rattle.plan_meaning.specs.NumberedViews.{FunctionShape, Tables, path_text, place_at, tree_at, signature_over, function_at, no_function, signature_at, IsPart, AllOf, PartsOf, AreTables, AreApart, IsOutside, NumberedType, NumberedFunction, declaration_of, shown_type, shown_function, NumberedSight, sight_of, same_number, same_shown, same_function, same_functions, same_types, same_whole, agree, agree_in_numbers, first_at, first_whole_at, agrees_with_first, agree_with_first_in_numbers, TypePasses, FunctionPasses, IsOutsidePart, IsSight, NumbersTell, EachNumberTells, ViewsAgreeInNumbers, FirstViewsAgreeInNumbers}
-use Rattle.plan_meaning.proofs.ShapeLaws.{one_number_apart}
-use Rattle.base_lemmas.proofs.Bools.{both_ways as either_way}
-use Rattle.base_lemmas.proofs.Lists.{append_of_map, length_of_map, within_there as slice_there}
-use Rattle.base_lemmas.proofs.Elements.{all_end}
-use Rattle.plan_meaning.proofs.Lists.{all_same}
-use Rattle.plan_meaning.proofs.NumberedWorlds.{path_number}
+use Rattle.plan_meaning.proofs.{ShapeLaws.one_number_apart, Lists.all_same, NumberedWorlds.path_number}
+use Rattle.base_lemmas.proofs.{Bools.both_ways as either_way, Lists.append_of_map, Lists.length_of_map, Lists.within_there as slice_there, Elements.all_end}
 use Rattle.base_lemmas.proofs.Numbers.{turned}
+use Rattle.comp_meaning.specs.Same as same
+use Rattle.comp_meaning.specs.Reads as reads
+use Rattle.comp_meaning.specs.Agreement as agreement
 
 path_is : (o p : Option Text) (x y : Text) → o ≡ Some x → p ≡ Some y → place_of o ≡ place_of p → o ≡ p
 path_is o p x y eo ep h = search rules

@@ -1,25 +1,17 @@
 -- What uses what, and what a world may have, has the same answer in numbers.
 use Rattle.std.proofs.Common.{◌≡◌, refl, sym, ap, ◌∙◌, ℕ, Bool, true, false, not, ◌&&◌, ◌||◌, ◌==◌, cond, List, [], ◌∷◌, ◌++◌, map, Option, Some, None, unwrap_or, rules as std_rules}
-use Rattle.std.specs.Prelude.{option_and_then}
-use Rattle.std.specs.List.{AllByRecursion, flat_map, list_all, list_any}
-use Rattle.std.specs.Option.{option_map_or}
 use Rattle.std.proofs.lemmas.Bool.{eqb-true}
-use Rattle.wit_model.specs.Text.{Text, text_eq}
-use Rattle.wit_model.specs.Names.{is_label}
-use Rattle.wit_model.specs.Tree.{Place, Tree, Declaration}
-use Rattle.wit_model.specs.Uses.{has}
-use Rattle.comp_meaning.specs.Follow.{View, Seen, interface_of, place_of}
-use Rattle.comp_meaning.specs.Rules as rules
-use Rattle.comp_meaning.specs.Rules.{distinct}
-use Rattle.comp_meaning.specs.Reads as reads
-use Rattle.plan_meaning.specs.Shapes.{form_code, first_label}
+use Rattle.std.specs.{Prelude.option_and_then, List.AllByRecursion, List.flat_map, List.list_all, List.list_any, Option.option_map_or}
+use Rattle.wit_model.specs.{Text.Text, Text.text_eq, Names.is_label, Tree.Place, Tree.Tree, Tree.Declaration, Uses.has}
+use Rattle.comp_meaning.specs.{Follow.View, Follow.Seen, Follow.interface_of, Follow.place_of, Rules.distinct}
+use Rattle.plan_meaning.specs.{Shapes.form_code, Shapes.first_label, NumberedRules.Fact, NumberedRules.name_in, NumberedRules.name_at, NumberedRules.IsKnown}
 use Rattle.plan_meaning.specs.NumberedViews.{Tables, path_at, path_text, place_at, signature_at, function_at, IsPart, AllOf, AreTables, NumberedType, NumberedView, view_of, declaration_of, shown_type, sight_of}
-use Rattle.plan_meaning.specs.NumberedRules.{Fact, name_in, name_at, IsKnown}
 use Rattle.plan_meaning.specs.NumberedWorlds.{NumberedKey, path, label, implementing, place_of_key, key_of, NumberedShown, instance, function, declares, NumberedSeen, shown_of, seen_of, NumberedInstance, instance_of, sights_of_instance, if_outside, used_by, used_by_view, others_than, uses_of, path_seen, stand_earlier, are_reached, are_once, resources_seen, is_resource_seen, is_item, are_imports, HasPath, KeyStands, ItemStands, DeclaresParts, UsesInNumbers, ReachedInNumbers, PathsInNumbers, WorldsInNumbers, SightsInNumbers}
 use Rattle.plan_meaning.proofs.NumberedRules.{no_name, declared_same, function_same, interface_same, by_shape}
-use Rattle.base_lemmas.proofs.Elements.{all_both as all_in_both}
-use Rattle.base_lemmas.proofs.Lists.{append_of_map, map_of_map}
 use Rattle.plan_meaning.proofs.Lists.{each_so, all_same}
+use Rattle.base_lemmas.proofs.{Elements.all_both as all_in_both, Lists.append_of_map, Lists.map_of_map}
+use Rattle.comp_meaning.specs.Rules as rules
+use Rattle.comp_meaning.specs.Reads as reads
 
 pub path_is : (t : Tables) (p : ℕ) (h : HasPath t p) → path_text t p ≡ h.0
 path_is t p h = ap (λ o. unwrap_or o []) h.1

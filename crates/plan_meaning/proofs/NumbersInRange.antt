@@ -1,43 +1,28 @@
 -- Every number is in range of its list, and no list is too long.
 use Rattle.std.proofs.Common.{◌≡◌, refl, sym, ap, ◌∙◌, ℕ, ◌<◌, Bool, true, false, ◌&&◌, ◌==◌, nat_lt, nat_le, List, length, map, option_map, option_and_then, Option, Some, None, slice_get, is_some, String, arith}
+use Rattle.std.proofs.lemmas.{Bool.eqb-true, Bool.and_from as both, Bool.Decides.nat_tests, List.Folds.list_all-map, Option.slice_get_within}
 use Rattle.std.specs.declared.alloc.Global.{Global}
-use Rattle.std.specs.List.{list_all}
-use Rattle.std.specs.Option.{option_map_or}
-use Rattle.std.specs.Map.{lookup}
-use Rattle.std.proofs.lemmas.Bool.{eqb-true, and_from as both}
-use Rattle.std.proofs.lemmas.Bool.Decides.{nat_tests}
-use Rattle.std.proofs.lemmas.List.Folds.{list_all-map}
-use Rattle.std.proofs.lemmas.Option.{slice_get_within}
+use Rattle.std.specs.{List.list_all, Option.option_map_or, Map.lookup}
 use Rattle.indexmap.specs.IndexMap.{values}
-use Rattle.wit_model.specs.declared.model.Resolve.{Resolve}
-use Rattle.wit_model.specs.declared.model.PackageId.{PackageId}
-use Rattle.wit_model.specs.declared.model.WorldKey.{WorldKey}
-use Rattle.wit_model.specs.declared.model.WorldKey.TheVariants as key
-use Rattle.wit_model.specs.declared.model.WorldItem.{WorldItem}
-use Rattle.wit_model.specs.declared.model.WorldItem.TheVariants as item
-use Rattle.wit_model.specs.declared.model.TypeOwner.{TypeOwner}
-use Rattle.wit_model.specs.declared.model.TypeOwner.TheVariants as owner
-use Rattle.wit_model.specs.declared.model.Function.{Function}
-use Rattle.wit_model.specs.Text.{Text, text_of, optional_text}
-use Rattle.wit_model.specs.Parts as parts
-use Rattle.wit_model.specs.Parts.{same_owner}
-use Rattle.wit_model.specs.Rules as rules
+use Rattle.wit_model.specs.declared.model.{Resolve.Resolve, PackageId.PackageId, WorldKey.WorldKey, WorldItem.WorldItem, TypeOwner.TypeOwner, Function.Function}
+use Rattle.wit_model.specs.{Text.Text, Text.text_of, Text.optional_text, Parts.same_owner}
 use Rattle.wit_model.specs.Rules.{in_list, passes, each_from, is_id, package_number, key_in_range, item_in_range, entries_in_range, owner_in_range}
 use Rattle.wit_model.specs.Valid.{Keeps, numbers_in_range, is_place, as_interface, as_world, item_function}
-use Rattle.wit_model.proofs.Checks.{keeps_lists}
-use Rattle.plan_meaning.specs.Plan as plan
-use Rattle.plan_meaning.specs.Plan.{PlannedPackage, package_in}
-use Rattle.plan_meaning.specs.PlanRules as planned
-use Rattle.plan_meaning.specs.PlanRules.{IsPlan, fits, bears}
+use Rattle.wit_model.proofs.{Checks.keeps_lists, RulesLemmas.each_at, RulesLemmas.each_by_number}
+use Rattle.plan_meaning.specs.{Plan.PlannedPackage, Plan.package_in, PlanRules.IsPlan, PlanRules.fits, PlanRules.bears}
 use Rattle.plan_meaning.specs.Built.{planned_type, planned_function, planned_interface, planned_world, planned_package, planned_key, planned_item}
-use Rattle.plan_meaning.proofs.Lists.{all_built, no_true, each_there}
-use Rattle.plan_meaning.proofs.Words.{plan_of, kind_numbers_are, function_numbers_are}
+use Rattle.plan_meaning.proofs.{Lists.all_built, Lists.no_true, Lists.each_there, Words.plan_of, Words.kind_numbers_are, Words.function_numbers_are}
 use Rattle.plan_meaning.proofs.FunctionRules.{entries_pass, interface_holds, world_holds, imports_there, exports_there}
 use Rattle.plan_meaning.proofs.Listed.{in_range, interface_listed, world_listed, members_pass}
-use Rattle.base_lemmas.proofs.Bools.{left_of as first_true, right_of as second_true}
+use Rattle.base_lemmas.proofs.{Bools.left_of as first_true, Bools.right_of as second_true, Lists.given-some as some_given, Lists.length_of_map}
 use Rattle.base_lemmas.proofs.Elements.{all_two, all_weaker}
-use Rattle.base_lemmas.proofs.Lists.{given-some as some_given, length_of_map}
-use Rattle.wit_model.proofs.RulesLemmas.{each_at, each_by_number}
+use Rattle.wit_model.specs.declared.model.WorldKey.TheVariants as key
+use Rattle.wit_model.specs.declared.model.WorldItem.TheVariants as item
+use Rattle.wit_model.specs.declared.model.TypeOwner.TheVariants as owner
+use Rattle.wit_model.specs.Parts as parts
+use Rattle.wit_model.specs.Rules as rules
+use Rattle.plan_meaning.specs.Plan as plan
+use Rattle.plan_meaning.specs.PlanRules as planned
 
 -- ---- lists that fit
 

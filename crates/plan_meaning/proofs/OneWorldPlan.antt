@@ -1,14 +1,12 @@
 -- A worked example: the plan of a package of one world with functions means what its bytes mean, as a package and as a world.
 use Rattle.std.proofs.Common.{rules, ◌≡◌, refl, ℕ, [], ◌∷◌, Some, None}
 use Rattle.std.specs.Prelude.{codes}
-use Rattle.wit_model.specs.declared.model.FunctionKind.TheVariants as call
-use Rattle.wit_model.specs.Names.{cut as cut_at}
-use Rattle.wit_model.specs.Text.{Text}
+use Rattle.wit_model.specs.{Names.cut as cut_at, Text.Text}
 use Rattle.comp_meaning.proofs.Computing.{computes, one_world, meaning, world_meaning_of}
-use Rattle.plan_meaning.specs.Shapes.{part_tree}
+use Rattle.plan_meaning.specs.{Shapes.part_tree, PlanRules.IsPlan, PlanRules.HoldsNoMore, PlanRules.IsPackagePlan, PlanRules.IsWorldPlan}
 use Rattle.plan_meaning.specs.Plan.{Plan, PlannedFunction, PlannedInterface, function, label, PlannedWorld, met_in, resource_marks, trees_in, interface_in}
 use Rattle.plan_meaning.specs.PlanMeaning.{plan_meaning, plan_world_meaning}
-use Rattle.plan_meaning.specs.PlanRules.{IsPlan, HoldsNoMore, IsPackagePlan, IsWorldPlan}
+use Rattle.wit_model.specs.declared.model.FunctionKind.TheVariants as call
 
 abbrev unit_function : Text → PlannedFunction
 unit_function name = record { name = name; kind = call.Freestanding; params = []; result = None; external_id = None }

@@ -1,36 +1,22 @@
 -- What is met from types and functions of an owner belongs to it.
 use Rattle.std.proofs.Common.{◌≡◌, refl, sym, ap, ◌∙◌, ℕ, true, false, ◌&&◌, ◌||◌, not, nat_lt, nat_le, filter_map, Some, is_some}
-use Rattle.std.specs.List.{list_all}
-use Rattle.std.specs.Option.{option_map_or}
-use Rattle.indexmap.specs.IndexMap.{values}
-use Rattle.wit_model.specs.declared.model.Resolve.{Resolve}
-use Rattle.wit_model.specs.declared.model.Interface.{Interface}
-use Rattle.wit_model.specs.declared.model.TypeDef.{TypeDef}
-use Rattle.wit_model.specs.declared.model.TypeOwner.{TypeOwner}
-use Rattle.wit_model.specs.declared.model.TypeOwner.TheVariants as owner
-use Rattle.wit_model.specs.declared.model.Function.{Function}
-use Rattle.wit_model.specs.Lookup.{interface_at, type_at}
-use Rattle.wit_model.specs.Parts as parts
-use Rattle.wit_model.specs.Parts.{same_owner}
-use Rattle.wit_model.specs.Types.{number_of}
-use Rattle.wit_model.specs.Uses as uses
-use Rattle.wit_model.specs.Uses.{owner_interface, alias_target, direct_deps}
-use Rattle.wit_model.specs.Rules as rules
-use Rattle.wit_model.specs.Valid.{Keeps, owners}
-use Rattle.wit_model.proofs.Lists.{list_all_filter_map}
-use Rattle.wit_model.proofs.Owners.{used_within}
-use Rattle.wit_model.proofs.Checks.{keeps_three}
-use Rattle.plan_meaning.specs.Plan as plan
-use Rattle.plan_meaning.specs.Plan.{type_in}
-use Rattle.plan_meaning.specs.PlanRules as planned
-use Rattle.plan_meaning.specs.PlanRules.{IsPlan}
-use Rattle.plan_meaning.specs.Built.{planned_type, planned_function, planned_interface}
-use Rattle.plan_meaning.proofs.Lists.{same_or, each_from_built, or_there, each_there}
-use Rattle.plan_meaning.proofs.Words.{plan_of, alias_is, value_numbers_are, has_owner_is, used_are, used_by_kind_is, interfaces_used_are}
-use Rattle.plan_meaning.proofs.KindRules.{has_text}
-use Rattle.plan_meaning.proofs.FunctionRules.{worlds_pass, interface_holds}
 use Rattle.std.proofs.lemmas.Bool.{and_from as both}
-use Rattle.wit_model.proofs.RulesLemmas.{each_by_number}
+use Rattle.std.specs.{List.list_all, Option.option_map_or}
+use Rattle.indexmap.specs.IndexMap.{values}
+use Rattle.wit_model.specs.declared.model.{Resolve.Resolve, Interface.Interface, TypeDef.TypeDef, TypeOwner.TypeOwner, Function.Function}
+use Rattle.wit_model.specs.{Lookup.interface_at, Lookup.type_at, Uses.owner_interface, Uses.alias_target, Uses.direct_deps, Valid.Keeps, Valid.owners}
+use Rattle.wit_model.specs.{Parts.same_owner, Types.number_of}
+use Rattle.wit_model.proofs.{Lists.list_all_filter_map, Owners.used_within, Checks.keeps_three, RulesLemmas.each_by_number}
+use Rattle.plan_meaning.specs.{Plan.type_in, PlanRules.IsPlan, Built.planned_type, Built.planned_function, Built.planned_interface}
+use Rattle.plan_meaning.proofs.{Lists.same_or, Lists.each_from_built, Lists.or_there, Lists.each_there, KindRules.has_text}
+use Rattle.plan_meaning.proofs.Words.{plan_of, alias_is, value_numbers_are, has_owner_is, used_are, used_by_kind_is, interfaces_used_are}
+use Rattle.plan_meaning.proofs.FunctionRules.{worlds_pass, interface_holds}
+use Rattle.wit_model.specs.declared.model.TypeOwner.TheVariants as owner
+use Rattle.wit_model.specs.Parts as parts
+use Rattle.wit_model.specs.Uses as uses
+use Rattle.wit_model.specs.Rules as rules
+use Rattle.plan_meaning.specs.Plan as plan
+use Rattle.plan_meaning.specs.PlanRules as planned
 
 module _ (r : Resolve) (m : ℕ) where
   other_owner : (o : TypeOwner) (def : TypeDef) → (not (same_owner def.owner o) && option_map_or (planned.has_name (plan_of r m)) (owner_interface def.owner) false)

@@ -1,46 +1,27 @@
 -- A package that is built from a plan of it means what the plan means.
 use Rattle.std.proofs.Common.{◌≡◌, refl, sym, ap, ◌∙◌, ℕ, Bool, true, false, ◌&&◌, not, ◌==◌, List, [], map, filter_map, option_map, option_and_then, option_to_list, Option, Some, None, unwrap_or, is_some, subst, String}
-use Rattle.std.specs.Prelude.{if◌then◌else◌, ◌↔◌}
-use Rattle.std.specs.List.{Contains, list_any}
-use Rattle.std.specs.Option.{option_map_or}
+use Rattle.std.proofs.lemmas.{Bool.and_from as both, Bool.not-true as not_true, Option.same_Some as same-some, Option.slice_get-map as get_of_map}
+use Rattle.std.specs.{Prelude.if◌then◌else◌, Prelude.◌↔◌, List.Contains, List.list_any, Option.option_map_or, FinMap.from_entries}
 use Rattle.std.specs.declared.alloc.Global.{Global}
-use Rattle.std.specs.FinMap.{from_entries}
-use Rattle.wit_model.specs.declared.model.Resolve.{Resolve}
-use Rattle.wit_model.specs.declared.model.Package.{Package}
-use Rattle.wit_model.specs.declared.model.PackageId.{PackageId}
-use Rattle.wit_model.specs.declared.model.Interface.{Interface}
-use Rattle.wit_model.specs.declared.model.InterfaceId.{InterfaceId}
-use Rattle.wit_model.specs.declared.model.WorldId.{WorldId}
-use Rattle.wit_model.specs.Text.{Text, TextMap, text_of, optional_text}
+use Rattle.wit_model.specs.declared.model.{Resolve.Resolve, Package.Package, PackageId.PackageId, Interface.Interface, InterfaceId.InterfaceId, WorldId.WorldId}
+use Rattle.wit_model.specs.{Text.Text, Text.TextMap, Text.text_of, Text.optional_text, Meaning.InterfaceMeaning, Meaning.PackageMeaning, Valid.IsValid}
 use Rattle.wit_model.specs.Lookup.{package_at, interface_at, interface_path, path_of_interface, path_in_package, identity_of}
-use Rattle.wit_model.specs.Uses.{reached_by_package, is_shown_in}
-use Rattle.wit_model.specs.Meaning.{InterfaceMeaning, PackageMeaning}
-use Rattle.wit_model.specs.Meant as meant
+use Rattle.wit_model.specs.{Uses.reached_by_package, Uses.is_shown_in, Rules.is_id, Rules.package_number}
 use Rattle.wit_model.specs.Meant.{Meant, interface_meaning_at, types_alone, is_foreign, foreign_of, foreign_meaning}
-use Rattle.wit_model.specs.Rules.{is_id, package_number}
-use Rattle.wit_model.specs.Valid.{IsValid}
-use Rattle.wit_model.proofs.Elements.{contains-filter_map, has-contains, contains-has}
-use Rattle.wit_model.proofs.Maps.{one_map}
-use Rattle.wit_model.proofs.OnePath.{has-path, path-once}
-use Rattle.plan_meaning.specs.Plan.{Plan, PlannedInterface, path_of_planned}
-use Rattle.plan_meaning.specs.PlanRules as rules
+use Rattle.wit_model.proofs.{Elements.contains-filter_map, Elements.has-contains, Elements.contains-has, UsesLemmas.has_filter, UsesLemmas.filter_has}
+use Rattle.wit_model.proofs.{Maps.one_map, OnePath.has-path, OnePath.path-once, MeantLemmas.meaning_there}
+use Rattle.plan_meaning.specs.{Plan.Plan, Plan.PlannedInterface, Plan.path_of_planned, PlanMeaning.plan_meaning, PlanMeaning.foreign_entry}
 use Rattle.plan_meaning.specs.PlanRules.{IsPackagePlan}
-use Rattle.plan_meaning.specs.PlanMeaning as planned
-use Rattle.plan_meaning.specs.PlanMeaning.{plan_meaning, foreign_entry}
 use Rattle.plan_meaning.specs.Built.{IsBuilt, planned_function, planned_interface, planned_world, planned_package}
 use Rattle.plan_meaning.proofs.Lists.{any_get}
-use Rattle.wit_model.proofs.UsesLemmas.{has_filter, filter_has}
-use Rattle.plan_meaning.proofs.Words.{plan_of, path_of_planned_is}
+use Rattle.plan_meaning.proofs.{Words.plan_of, Words.path_of_planned_is, Reaching.shown_in, Reaching.all_reached, Valid.plan_is, Valid.built_is_valid}
 use Rattle.plan_meaning.proofs.Meanings.{named_means, planned_function_entry, meant_function_entry, interface_is, interface_at_is, world_at_is, functions_are}
-use Rattle.plan_meaning.proofs.Reaching.{shown_in, all_reached}
-use Rattle.plan_meaning.proofs.Valid.{plan_is, built_is_valid}
-use Rattle.base_lemmas.proofs.Bools.{left_of as first_true, right_of as second_true}
+use Rattle.base_lemmas.proofs.{Bools.left_of as first_true, Bools.right_of as second_true, Lists.get_back, Lists.nothing-mapped as none_mapped}
 use Rattle.base_lemmas.proofs.Elements.{contains-map, contains-one, filter_map_from, get-contains, map_from}
-use Rattle.base_lemmas.proofs.Lists.{get_back, nothing-mapped as none_mapped}
 use Rattle.base_lemmas.proofs.Options.{there as some-of}
-use Rattle.std.proofs.lemmas.Bool.{and_from as both, not-true as not_true}
-use Rattle.std.proofs.lemmas.Option.{same_Some as same-some, slice_get-map as get_of_map}
-use Rattle.wit_model.proofs.MeantLemmas.{meaning_there}
+use Rattle.wit_model.specs.Meant as meant
+use Rattle.plan_meaning.specs.PlanRules as rules
+use Rattle.plan_meaning.specs.PlanMeaning as planned
 
 -- ---- the path of an interface that stands there
 

@@ -1,45 +1,25 @@
 -- Interfaces and worlds stand in the places that they say.
 use Rattle.std.proofs.Common.{◌≡◌, refl, sym, ap, ◌∙◌, ℕ, ◌+◌, Bool, true, false, ◌&&◌, ◌||◌, ◌==◌, not, cond, List, [], ◌∷◌, ◌++◌, map, option_map, option_and_then, Option, Some, None, is_some, String}
-use Rattle.std.specs.Prelude.{fold, sum_by}
+use Rattle.std.proofs.lemmas.{List.Folds.list_all-map, List.Folds.fold-map as fold_of_map, Bool.and_from as both, Bool.or_left as or_first}
+use Rattle.std.proofs.lemmas.{Slice.Eq.bytes_eq-Decides, Option.slice_get-map as get_of_map}
+use Rattle.std.specs.{Prelude.fold, Prelude.sum_by, List.list_all, List.list_any, Option.option_map_or, Option.option_eq, HashMap.get_by_text}
 use Rattle.std.specs.declared.alloc.Global.{Global}
-use Rattle.std.specs.List.{list_all, list_any}
-use Rattle.std.specs.Option.{option_map_or, option_eq}
-use Rattle.std.specs.HashMap.{get_by_text}
-use Rattle.std.proofs.lemmas.List.Folds.{list_all-map, fold-map as fold_of_map}
-use Rattle.std.proofs.lemmas.Slice.Eq.{bytes_eq-Decides}
 use Rattle.indexmap.specs.IndexMap.{keys}
-use Rattle.wit_model.specs.declared.model.Resolve.{Resolve}
-use Rattle.wit_model.specs.declared.model.Package.{Package}
-use Rattle.wit_model.specs.declared.model.PackageId.{PackageId}
-use Rattle.wit_model.specs.declared.model.InterfaceId.{InterfaceId}
+use Rattle.wit_model.specs.declared.model.{Resolve.Resolve, Package.Package, PackageId.PackageId, InterfaceId.InterfaceId, WorldId.WorldId, WorldItem.WorldItem}
 use Rattle.wit_model.specs.declared.model.World.{World}
-use Rattle.wit_model.specs.declared.model.WorldId.{WorldId}
-use Rattle.wit_model.specs.declared.model.WorldItem.{WorldItem}
-use Rattle.wit_model.specs.Text.{Text, text_of, text_eq, optional_text}
-use Rattle.wit_model.specs.Lookup.{package_at, interface_at, world_at}
-use Rattle.wit_model.specs.Uses.{items_of}
-use Rattle.wit_model.specs.Rules as rules
+use Rattle.wit_model.specs.{Text.Text, Text.text_of, Text.text_eq, Text.optional_text, Lookup.package_at, Lookup.interface_at, Lookup.world_at, Uses.items_of}
 use Rattle.wit_model.specs.Rules.{each_from, passes, is_id, package_number, text_is, are_distinct, interface_belongs, world_belongs, interface_is_listed, world_is_listed, names_itself, is_world_name}
 use Rattle.wit_model.specs.Valid.{Keeps, places}
-use Rattle.wit_model.proofs.Entries.{free_passes}
-use Rattle.wit_model.proofs.Checks.{keeps_lists}
-use Rattle.plan_meaning.specs.Plan as plan
-use Rattle.plan_meaning.specs.Plan.{number_under, package_in}
-use Rattle.plan_meaning.specs.PlanRules as planned
+use Rattle.wit_model.proofs.{Entries.free_passes, Checks.keeps_lists, RulesLemmas.each_at, RulesLemmas.each_by_number}
+use Rattle.plan_meaning.specs.{Plan.number_under, Plan.package_in, Built.planned_interface, Built.planned_world, Built.planned_package, Built.planned_item}
 use Rattle.plan_meaning.specs.PlanRules.{IsPlan, names_of, members_differ}
-use Rattle.plan_meaning.specs.Built.{planned_interface, planned_world, planned_package, planned_item}
-use Rattle.plan_meaning.proofs.Lists.{all_of_map, each_built, no_true, all_there}
-use Rattle.plan_meaning.proofs.Words.{plan_of}
-use Rattle.plan_meaning.proofs.FunctionRules.{items_are}
-use Rattle.plan_meaning.proofs.Listed.{interface_listed, world_listed, members_pass, passes_both}
-use Rattle.plan_meaning.proofs.Labels.{apart, names_are, keys_apart}
-use Rattle.plan_meaning.proofs.WorldItems.{item_interface_is}
-use Rattle.base_lemmas.proofs.Bools.{left_of as first_true, right_of as second_true}
-use Rattle.base_lemmas.proofs.Elements.{any_of_map, all_weaker}
-use Rattle.base_lemmas.proofs.Maps.{lookup_of_map}
-use Rattle.std.proofs.lemmas.Bool.{and_from as both, or_left as or_first}
-use Rattle.std.proofs.lemmas.Option.{slice_get-map as get_of_map}
-use Rattle.wit_model.proofs.RulesLemmas.{each_at, each_by_number}
+use Rattle.plan_meaning.proofs.{Lists.all_of_map, Lists.each_built, Lists.no_true, Lists.all_there, Labels.apart, Labels.names_are, Labels.keys_apart}
+use Rattle.plan_meaning.proofs.{Words.plan_of, FunctionRules.items_are}
+use Rattle.plan_meaning.proofs.{Listed.interface_listed, Listed.world_listed, Listed.members_pass, Listed.passes_both, WorldItems.item_interface_is}
+use Rattle.base_lemmas.proofs.{Bools.left_of as first_true, Bools.right_of as second_true, Elements.any_of_map, Elements.all_weaker, Maps.lookup_of_map}
+use Rattle.wit_model.specs.Rules as rules
+use Rattle.plan_meaning.specs.Plan as plan
+use Rattle.plan_meaning.specs.PlanRules as planned
 
 -- ---- what stands under a name
 

@@ -1,47 +1,28 @@
 -- Each interface of a plan of a package is reached from the package.
 use Rattle.std.proofs.Common.{◌≡◌, ◌⊎◌, inl, inr, refl, sym, ap, ◌∙◌, ℕ, zero, suc, ◌+◌, ◌≤◌, Bool, true, false, ◌&&◌, ◌||◌, ◌==◌, not, cond, List, [], ◌∷◌, ◌++◌, length, map, filter_map, flat_map, count_by, option_map, option_and_then, option_to_list, Option, Some, None, slice_get, is_some, String, subst, arith}
-use Rattle.std.specs.Prelude.{sum_by}
+use Rattle.std.proofs.lemmas.{Bool.eqb-true, Bool.or_left, Bool.or_right, Bool.or_parts as neither, Option.slice_get_within, Option.slice_get-map as get_of_map}
+use Rattle.std.proofs.lemmas.{List.Folds.list_any-append, List.Sums.sum_by-cons, Map.Keys.any_passes_from_place as get_any}
+use Rattle.std.specs.{Prelude.sum_by, List.Contains, List.list_all, List.list_any, List.cons_option, Option.option_map_or, Option.option_eq}
 use Rattle.std.specs.declared.alloc.Global.{Global}
-use Rattle.std.specs.List.{Contains, list_all, list_any, cons_option}
-use Rattle.std.specs.Option.{option_map_or, option_eq}
-use Rattle.std.proofs.lemmas.Bool.{eqb-true, or_left, or_right, or_parts as neither}
-use Rattle.std.proofs.lemmas.List.Folds.{list_any-append}
-use Rattle.std.proofs.lemmas.List.Sums.{sum_by-cons}
-use Rattle.std.proofs.lemmas.Option.{slice_get_within, slice_get-map as get_of_map}
 use Rattle.indexmap.specs.IndexMap.{values}
-use Rattle.wit_model.specs.declared.model.Resolve.{Resolve}
-use Rattle.wit_model.specs.declared.model.Package.{Package}
-use Rattle.wit_model.specs.declared.model.PackageId.{PackageId}
-use Rattle.wit_model.specs.declared.model.Interface.{Interface}
-use Rattle.wit_model.specs.declared.model.InterfaceId.{InterfaceId}
-use Rattle.wit_model.specs.declared.model.World.{World}
-use Rattle.wit_model.specs.declared.model.WorldId.{WorldId}
-use Rattle.wit_model.specs.declared.model.WorldItem.{WorldItem}
-use Rattle.wit_model.specs.declared.model.WorldItem.TheVariants as item
-use Rattle.wit_model.specs.Text.{Text, text_of, optional_text}
-use Rattle.wit_model.specs.Lookup.{package_at, interface_at, world_at, interface_path}
-use Rattle.wit_model.specs.Uses as uses
+use Rattle.wit_model.specs.declared.model.{Resolve.Resolve, PackageId.PackageId, Interface.Interface, InterfaceId.InterfaceId, World.World, WorldItem.WorldItem}
+use Rattle.wit_model.specs.declared.model.{Package.Package, WorldId.WorldId}
+use Rattle.wit_model.specs.{Text.Text, Text.text_of, Text.optional_text, Lookup.package_at, Lookup.interface_at, Lookup.world_at, Lookup.interface_path}
 use Rattle.wit_model.specs.Uses.{has, once, items_of, direct_deps, interfaces_of_item, interfaces_of_world, worlds_of, reached, reached_by_package, shown_by, is_shown_in}
-use Rattle.wit_model.specs.Rules.{is_id, in_list}
-use Rattle.wit_model.specs.Valid.{IsValid}
-use Rattle.wit_model.specs.Chains.{Chain}
+use Rattle.wit_model.specs.{Rules.is_id, Rules.in_list, Valid.IsValid, Chains.Chain}
 use Rattle.wit_model.proofs.Elements.{contains-filter_map, contains-flat, has-contains, contains-has, contains-get}
-use Rattle.wit_model.proofs.Chains.{uses_fall, chains_reach, user_stands}
-use Rattle.plan_meaning.specs.Plan as plan
+use Rattle.wit_model.proofs.{Chains.uses_fall, Chains.chains_reach, Chains.user_stands, UsesLemmas.has_filter}
 use Rattle.plan_meaning.specs.Plan.{PlannedInterface, PlannedWorld, PlannedItem, PlannedPackage, number_under, package_in}
-use Rattle.plan_meaning.specs.PlanRules as planned
 use Rattle.plan_meaning.specs.PlanRules.{IsPlan, IsWanted, shown, used}
 use Rattle.plan_meaning.specs.Built.{planned_interface, planned_world, planned_package}
-use Rattle.plan_meaning.proofs.Lists.{any_get, no_true, each_there}
-use Rattle.wit_model.proofs.UsesLemmas.{has_filter}
-use Rattle.plan_meaning.proofs.Words.{plan_of, direct_uses_are}
-use Rattle.plan_meaning.proofs.FunctionRules.{items_are}
-use Rattle.plan_meaning.proofs.TypeOrder.{under_has}
-use Rattle.plan_meaning.proofs.ItemOrder.{item_interfaces_are}
-use Rattle.base_lemmas.proofs.Bools.{left_of as first_true, right_of as second_true}
-use Rattle.base_lemmas.proofs.Elements.{all_get, contains-one, map_from}
+use Rattle.plan_meaning.proofs.{Lists.any_get, Lists.no_true, Lists.each_there, Words.plan_of, Words.direct_uses_are, ItemOrder.item_interfaces_are}
+use Rattle.plan_meaning.proofs.{FunctionRules.items_are, TypeOrder.under_has}
+use Rattle.base_lemmas.proofs.{Bools.left_of as first_true, Bools.right_of as second_true, Elements.all_get, Elements.contains-one, Elements.map_from}
 use Rattle.base_lemmas.proofs.Lists.{get_back, map_of_map}
-use Rattle.std.proofs.lemmas.Map.Keys.{any_passes_from_place as get_any}
+use Rattle.wit_model.specs.declared.model.WorldItem.TheVariants as item
+use Rattle.wit_model.specs.Uses as uses
+use Rattle.plan_meaning.specs.Plan as plan
+use Rattle.plan_meaning.specs.PlanRules as planned
 
 -- ---- chains
 

@@ -1,20 +1,14 @@
 -- Functions that are read pass the tests of a plan on functions.
 use Rattle.std.proofs.Common.{◌≡◌, refl, subst, ℕ, Bool, true, List, [], ◌∷◌}
+use Rattle.std.proofs.lemmas.Bool.{and_from as both}
 use Rattle.std.specs.List.{AllByRecursion, list_all}
 use Rattle.wit_model.specs.declared.model.TypeOwner.{TypeOwner}
 use Rattle.wit_model.specs.Valid.{as_interface, as_world}
-use Rattle.plan_meaning.specs.Plan.{Plan, PlannedFunction}
+use Rattle.plan_meaning.specs.{Plan.Plan, Plan.PlannedFunction, NumberedViews.Tables, NumberedViews.AreTables, KeptFunctions.FunctionPasses}
 use Rattle.plan_meaning.specs.PlanRules.{FunctionsPass, function_in_range, function_labels, function_stays, function_is_shallow, functions_of, is_member, takes_values, world_functions}
-use Rattle.plan_meaning.specs.NumberedViews.{Tables, AreTables}
-use Rattle.plan_meaning.specs.KeptTypes.{TypesAreKept}
-use Rattle.plan_meaning.specs.KeptFunctions.{FunctionPasses}
-use Rattle.plan_meaning.specs.KeptResources.{AreMarked}
-use Rattle.plan_meaning.specs.KeptOwners.{AreOwned}
+use Rattle.plan_meaning.specs.{KeptTypes.TypesAreKept, KeptResources.AreMarked, KeptOwners.AreOwned}
 use Rattle.plan_meaning.specs.ReadFunctions.{Beside, IsReadFunction, FunctionsAreRead, FunctionTests, ReadFunctionsPass}
-use Rattle.plan_meaning.proofs.KeptFunctions.{kept_functions_pass}
-use Rattle.plan_meaning.proofs.KeptOwners.{kept_owners_stand}
-use Rattle.plan_meaning.proofs.KeptResources.{kept_resources_stand}
-use Rattle.std.proofs.lemmas.Bool.{and_from as both}
+use Rattle.plan_meaning.proofs.{KeptFunctions.kept_functions_pass, KeptOwners.kept_owners_stand, KeptResources.kept_resources_stand}
 use Rattle.wit_model.proofs.RulesLemmas.{each_by_number}
 
 all_of : {X : Type 0} (P : X → Type 0) (test : X → Bool) → ((x : X) → P x → test x ≡ true) → (xs : List X) → AllByRecursion P xs → list_all test xs ≡ true

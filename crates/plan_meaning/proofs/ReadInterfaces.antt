@@ -1,38 +1,22 @@
 -- Interfaces that are read pass the tests of a plan on each interface by itself.
 use Rattle.std.proofs.Common.{◌≡◌, refl, sym, ap, subst, ◌∙◌, ℕ, ◌<◌, true, false, ◌&&◌, T, ltb→lt, List, [], ◌∷◌, ◌++◌, map, Some, slice_get}
-use Rattle.std.specs.Prelude.{nat_lt}
-use Rattle.std.specs.List.{AllZip, list_all}
-use Rattle.std.specs.Option.{option_map_or}
-use Rattle.std.proofs.lemmas.Bool.{eq-eqb, lt-ltb, and_from as both}
-use Rattle.wit_model.specs.Text.{Text, text_eq}
+use Rattle.std.proofs.lemmas.{Bool.eq-eqb, Bool.lt-ltb, Bool.and_from as both, Option.same_Some as same-some, List.Folds.list_all-map}
+use Rattle.std.specs.{Prelude.nat_lt, List.AllZip, List.list_all, Option.option_map_or}
+use Rattle.wit_model.specs.{Text.Text, Text.text_eq, Meaning.FunctionMeaning, Parts.same_owner, Rules.are_distinct, Rules.passes, Valid.as_interface}
 use Rattle.wit_model.specs.Names.{is_label}
-use Rattle.wit_model.specs.Meaning.{FunctionMeaning}
-use Rattle.wit_model.specs.Parts.{same_owner}
-use Rattle.wit_model.specs.Rules.{are_distinct, passes}
-use Rattle.wit_model.specs.Valid.{as_interface}
-use Rattle.wit_model.proofs.VersionLaws.{same_text}
-use Rattle.comp_meaning.specs.Follow.{ShownType}
-use Rattle.comp_meaning.specs.Rules as rules
-use Rattle.comp_meaning.specs.Rules.{distinct}
-use Rattle.plan_meaning.specs.Shapes.{Shape, first_label, form_code, named_shape, node_shape}
+use Rattle.wit_model.proofs.{VersionLaws.same_text, PartsLemmas.owner_itself, RulesLemmas.each_by_number}
+use Rattle.comp_meaning.specs.{Follow.ShownType, Rules.distinct}
+use Rattle.plan_meaning.specs.{Shapes.Shape, Shapes.first_label, Shapes.form_code, Shapes.named_shape, Shapes.node_shape, ReadFunctions.Beside}
 use Rattle.plan_meaning.specs.Plan.{Plan, PlannedType, PlannedFunction, PlannedInterface, numbers_of}
-use Rattle.plan_meaning.specs.PlanRules.{are_rising, bears, interface_labels, is_type_of, names_of}
+use Rattle.plan_meaning.specs.{PlanRules.are_rising, PlanRules.bears, PlanRules.interface_labels, PlanRules.is_type_of, PlanRules.names_of, KeptOwners.AreOwned}
 use Rattle.plan_meaning.specs.NumberedViews.{Tables, place_at, NumberedType, NumberedFunction, view_of, shown_type, shown_function}
 use Rattle.plan_meaning.specs.KeptTypes.{IsKeptType, unnamed, declared, TypesAreKept}
-use Rattle.plan_meaning.specs.KeptOwners.{AreOwned}
-use Rattle.plan_meaning.specs.ReadFunctions.{Beside}
 use Rattle.plan_meaning.specs.ReadInterfaces.{IsNumberOf, IsKeptAs, HasName, IsNamed, IsReadInterface, ReadInterfacesPass}
-use Rattle.plan_meaning.proofs.Lists.{no_true}
-use Rattle.plan_meaning.proofs.NumberedRules.{no_name}
+use Rattle.plan_meaning.proofs.{Lists.no_true, NumberedRules.no_name, KeptParts.kept_at}
 use Rattle.base_lemmas.proofs.Bools.{left_of as first_true, right_of as second_true}
-use Rattle.base_lemmas.proofs.Elements.{all_by_number, all_get, zip_at_right, zip_map}
-use Rattle.base_lemmas.proofs.Lists.{map_of_map}
-use Rattle.std.proofs.lemmas.Option.{same_Some as same-some}
+use Rattle.base_lemmas.proofs.{Elements.all_by_number, Elements.all_get, Elements.zip_at_right, Elements.zip_map, Lists.map_of_map}
 use Rattle.comp_meaning.proofs.RulesLemmas.{distinct_same}
-use Rattle.wit_model.proofs.PartsLemmas.{owner_itself}
-use Rattle.wit_model.proofs.RulesLemmas.{each_by_number}
-use Rattle.std.proofs.lemmas.List.Folds.{list_all-map}
-use Rattle.plan_meaning.proofs.KeptParts.{kept_at}
+use Rattle.comp_meaning.specs.Rules as rules
 
 module _ (t : Tables) (kept : List ℕ) (p : Plan) (are : TypesAreKept t kept p) where
   -- ---- order

@@ -1,23 +1,14 @@
 -- Lists in which no number or no name stands twice.
 use Rattle.std.proofs.Common.{◌≡◌, refl, sym, ap, ◌∙◌, ℕ, zero, suc, ◌+◌, arith, Bool, true, false, not, ◌||◌, ◌==◌, cond, List, [], ◌∷◌, ◌++◌, filter, filter_map, count_by, Option, Some, None, option_map}
-use Rattle.std.specs.List.{Contains, cons_option, list_all, list_any}
-use Rattle.std.proofs.lemmas.Bool.{eqb-true, and_from as both, not-true as not_true, or_from as neither}
-use Rattle.std.proofs.lemmas.List.Folds.{list_any-append}
-use Rattle.std.proofs.lemmas.List.Sums.{sum_by-append, sum_by-cons}
+use Rattle.std.proofs.lemmas.{Bool.eqb-true, Bool.and_from as both, Bool.not-true as not_true, Bool.or_from as neither, Option.slice_get-map as get_of_map}
+use Rattle.std.proofs.lemmas.{List.Folds.list_any-append, List.Sums.sum_by-append, List.Sums.sum_by-cons, Map.Keys.any_passes_from_place as get_any}
 use Rattle.std.proofs.lemmas.Slice.Eq.{bytes_eq-Decides}
-use Rattle.wit_model.specs.Text.{Text, text_eq}
-use Rattle.wit_model.specs.Uses.{has}
-use Rattle.wit_model.specs.Rules.{are_distinct, is_id}
-use Rattle.wit_model.proofs.Elements.{contains-get}
-use Rattle.wit_model.proofs.VersionLaws.{same_text}
-use Rattle.plan_meaning.specs.Plan.{number_under}
-use Rattle.plan_meaning.specs.PlanRules.{names_of}
-use Rattle.plan_meaning.specs.NumberedWorlds.{are_once}
+use Rattle.std.specs.List.{Contains, cons_option, list_all, list_any}
+use Rattle.wit_model.specs.{Text.Text, Text.text_eq, Uses.has, Rules.are_distinct, Rules.is_id}
+use Rattle.wit_model.proofs.{Elements.contains-get, VersionLaws.same_text}
+use Rattle.plan_meaning.specs.{Plan.number_under, PlanRules.names_of, NumberedWorlds.are_once}
 use Rattle.plan_meaning.proofs.Lists.{no_true}
-use Rattle.base_lemmas.proofs.Bools.{left_of as first_true, right_of as second_true}
-use Rattle.base_lemmas.proofs.Numbers.{nothing_more, same-number}
-use Rattle.std.proofs.lemmas.Map.Keys.{any_passes_from_place as get_any}
-use Rattle.std.proofs.lemmas.Option.{slice_get-map as get_of_map}
+use Rattle.base_lemmas.proofs.{Bools.left_of as first_true, Bools.right_of as second_true, Numbers.nothing_more, Numbers.same-number}
 
 pub never : {A : Type 0} (b : Bool) → b ≡ true → b ≡ false → A
 never b h k = no_true (sym k ∙ h)

@@ -1,51 +1,30 @@
 -- What is read stands in the order that a plan asks for.
 use Rattle.std.proofs.Common.{◌≡◌, ◌⊎◌, inl, inr, refl, sym, ap, subst, ◌∙◌, ◌<◌, ◌≤◌, ℕ, zero, suc, ◌+◌, arith, Bool, true, false, not, ◌&&◌, ◌||◌, ◌==◌, cond, List, [], ◌∷◌, ◌++◌, length, map, filter, filter_map, flat_map, Option, Some, None, option_and_then, option_to_list, slice_get, T, ltb→lt}
-use Rattle.std.specs.Prelude.{nat_le, nat_lt}
-use Rattle.std.specs.List.{AllByRecursion, Contains, list_all}
-use Rattle.std.specs.Cmp.Lexicographic.{pointwise}
-use Rattle.std.specs.Option.{option_map_or}
-use Rattle.std.specs.Map.{lookup}
 use Rattle.std.proofs.lemmas.Bool.{eqb-true, eq-eqb, leb-true, ltb-false, or_right, and_from as both, not-true as not_true}
-use Rattle.std.proofs.lemmas.Bool.Decides.{nat_tests}
+use Rattle.std.proofs.lemmas.{Bool.Decides.nat_tests, List.Elements.Contains-append_cases, List.Elements.Contains-append_left, List.Elements.filter_map-append}
 use Rattle.std.proofs.lemmas.Option.{slice_get_within, same_Some as same-some}
-use Rattle.std.proofs.lemmas.List.Elements.{Contains-append_cases, Contains-append_left, filter_map-append}
 use Rattle.std.proofs.lemmas.List.Folds.{list_all-append, list_all-map, list_any-append}
-use Rattle.wit_model.specs.declared.model.TypeOwner.TheVariants as owner
-use Rattle.wit_model.specs.Text.{Text}
-use Rattle.wit_model.specs.Lookup.{resource_of}
-use Rattle.wit_model.specs.Parts.{same_owner}
-use Rattle.wit_model.specs.Uses.{has, once, owner_interface}
-use Rattle.wit_model.specs.Rules.{each_after, each_from, in_list, is_id}
-use Rattle.wit_model.specs.Valid.{as_interface, as_world}
-use Rattle.wit_model.proofs.Chains.{has_once}
-use Rattle.wit_model.proofs.Elements.{contains-has, has-contains, none-in}
-use Rattle.plan_meaning.specs.Shapes.{named_shape}
-use Rattle.plan_meaning.specs.Plan as plan
+use Rattle.std.specs.{Prelude.nat_le, Prelude.nat_lt, List.AllByRecursion, List.Contains, List.list_all, Cmp.Lexicographic.pointwise, Option.option_map_or}
+use Rattle.std.specs.Map.{lookup}
+use Rattle.wit_model.specs.{Text.Text, Parts.same_owner, Valid.as_interface, Valid.as_world}
+use Rattle.wit_model.specs.{Lookup.resource_of, Uses.has, Uses.once, Uses.owner_interface, Rules.each_after, Rules.each_from, Rules.in_list, Rules.is_id}
+use Rattle.wit_model.proofs.{Chains.has_once, Elements.contains-has, Elements.has-contains, Elements.none-in, RulesLemmas.each_at, RulesLemmas.each_by_number}
+use Rattle.wit_model.proofs.{UsesLemmas.filter_has, PartsLemmas.owner_itself}
+use Rattle.plan_meaning.specs.{Shapes.named_shape, ReadOrder.IsViewedInterface, ReadOrder.OrderIsRead, ReadOrder.ReadOrderPasses}
 use Rattle.plan_meaning.specs.Plan.{Plan, PlannedKey, PlannedItem, PlannedType, PlannedFunction, PlannedWorld, interface_in, world_in, has_owner, kind_numbers, function_numbers, function_parts, part_number, used_by_numbers, interface_used_by, interfaces_used_by, item_interface, item_type, items_of}
 use Rattle.plan_meaning.specs.PlanRules.{direct_uses, is_listed, is_listed_in, is_under_label, uses_stand_before, used_types}
 use Rattle.plan_meaning.specs.NumberedViews.{Tables, AreTables, NumberedType, NumberedView, same_number, same_shown, same_id}
 use Rattle.plan_meaning.specs.NumberedWorlds.{NumberedSeen, others_than, path_seen, stand_earlier, used_by, used_by_view, uses_of}
-use Rattle.plan_meaning.specs.KeptTypes.{IsKeptType, unnamed, declared, TypesAreKept}
-use Rattle.plan_meaning.specs.KeptOwners.{AreOwned}
-use Rattle.plan_meaning.specs.ReadFunctions.{Beside}
+use Rattle.plan_meaning.specs.{KeptTypes.IsKeptType, KeptTypes.unnamed, KeptTypes.declared, KeptTypes.TypesAreKept, KeptOwners.AreOwned, ReadFunctions.Beside}
 use Rattle.plan_meaning.specs.ReadWorlds.{ReadItem, is_type_seen, types_follow, IsInterfaceOf, IsReadUnder, IsTypeUnder, IsReadItem, by_path, by_label, implementing_path, a_function, a_type}
-use Rattle.plan_meaning.specs.ReadOrder.{IsViewedInterface, OrderIsRead, ReadOrderPasses}
-use Rattle.plan_meaning.proofs.KeptParts.{shape_parts, all_parts, function_zip, part_from}
-use Rattle.plan_meaning.proofs.KeptFunctions.{kept_functions_pass}
-use Rattle.plan_meaning.proofs.KeptTypes.{kept_types_pass}
-use Rattle.plan_meaning.proofs.Lists.{no_true}
-use Rattle.wit_model.proofs.UsesLemmas.{filter_has}
-use Rattle.plan_meaning.proofs.ListedTypes.{listed, types_are_listed}
-use Rattle.plan_meaning.proofs.MetTypes.{used_among}
-use Rattle.plan_meaning.proofs.ReadLists.{never, or_nothing}
-use Rattle.plan_meaning.proofs.ReadPlaces.{one_interface}
-use Rattle.plan_meaning.proofs.ReadWorlds.{order_obeys}
+use Rattle.plan_meaning.proofs.{KeptParts.shape_parts, KeptParts.all_parts, KeptParts.function_zip, KeptParts.part_from, ReadLists.never, ReadLists.or_nothing}
+use Rattle.plan_meaning.proofs.{KeptFunctions.kept_functions_pass, KeptTypes.kept_types_pass, Lists.no_true, ListedTypes.listed, ListedTypes.types_are_listed}
+use Rattle.plan_meaning.proofs.{MetTypes.used_among, ReadPlaces.one_interface, ReadWorlds.order_obeys}
 use Rattle.plan_meaning.proofs.UsedInterfaces.{UsedBy, nothing, own, other, interface_uses, owned_by, type_uses, uses_are_low}
-use Rattle.base_lemmas.proofs.Bools.{left_of as first_true, right_of as second_true}
+use Rattle.base_lemmas.proofs.{Bools.left_of as first_true, Bools.right_of as second_true, Lists.append_of_map, Lists.within_there as slice_there}
 use Rattle.base_lemmas.proofs.Elements.{all-contained, all_at, all_both, all_pass as all_among, all_weaker, contains-later, last_of as one-contained}
-use Rattle.base_lemmas.proofs.Lists.{append_of_map, within_there as slice_there}
-use Rattle.wit_model.proofs.PartsLemmas.{owner_itself}
-use Rattle.wit_model.proofs.RulesLemmas.{each_at, each_by_number}
+use Rattle.wit_model.specs.declared.model.TypeOwner.TheVariants as owner
+use Rattle.plan_meaning.specs.Plan as plan
 
 -- ---- places
 

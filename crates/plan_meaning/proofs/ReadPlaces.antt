@@ -1,41 +1,24 @@
 -- Packages, and the places of interfaces and worlds, that are read pass the tests of a plan on them.
 use Rattle.std.proofs.Common.{◌≡◌, refl, sym, ap, ◌∙◌, ℕ, ◌+◌, Bool, true, false, not, ◌&&◌, ◌||◌, ◌==◌, List, [], ◌∷◌, filter_map, flat_map, Option, Some, None, option_and_then, is_some, slice_get}
-use Rattle.std.specs.Prelude.{sum_by}
-use Rattle.std.specs.List.{AllByRecursion, list_all, list_any}
-use Rattle.std.specs.Option.{option_map_or, option_eq}
-use Rattle.std.proofs.lemmas.Bool.{eq-eqb, and_from as both, not-true as not_true, or_right}
-use Rattle.std.proofs.lemmas.List.Folds.{list_all-map}
-use Rattle.std.proofs.lemmas.List.Sums.{sum_by-cons}
-use Rattle.std.proofs.lemmas.Slice.Eq.{bytes_eq-Decides}
+use Rattle.std.proofs.lemmas.{Bool.eq-eqb, Bool.and_from as both, Bool.not-true as not_true, Bool.or_right, Option.same_Some as same-some}
+use Rattle.std.proofs.lemmas.{List.Folds.list_all-map, List.Sums.sum_by-cons, Slice.Eq.bytes_eq-Decides}
+use Rattle.std.specs.{Prelude.sum_by, List.AllByRecursion, List.list_all, List.list_any, Option.option_map_or, Option.option_eq}
 use Rattle.wit_model.specs.declared.model.TypeOwner.{TypeOwner}
-use Rattle.wit_model.specs.Text.{Text, text_eq}
-use Rattle.wit_model.specs.Names.{path_in, is_identity, is_label}
-use Rattle.wit_model.specs.Parts.{same_owner}
-use Rattle.wit_model.specs.Uses.{has, owner_interface}
-use Rattle.wit_model.specs.Rules.{are_distinct, in_list, is_id}
-use Rattle.wit_model.specs.Valid.{as_interface}
-use Rattle.wit_model.proofs.Elements.{contains-flat, contains-has, has-contains}
-use Rattle.wit_model.proofs.NameLaws.{read_path_is_spelled}
-use Rattle.wit_model.proofs.VersionLaws.{same_text}
+use Rattle.wit_model.specs.{Text.Text, Text.text_eq, Parts.same_owner, Valid.as_interface}
+use Rattle.wit_model.specs.{Names.path_in, Names.is_identity, Names.is_label, Uses.has, Uses.owner_interface, Rules.are_distinct, Rules.in_list, Rules.is_id}
+use Rattle.wit_model.proofs.{Elements.contains-flat, Elements.contains-has, Elements.has-contains, NameLaws.read_path_is_spelled, RulesLemmas.each_by_number}
+use Rattle.wit_model.proofs.{VersionLaws.same_text, UsesLemmas.has_filter, PartsLemmas.owner_itself}
 use Rattle.comp_meaning.specs.Same.{same_identity}
-use Rattle.comp_meaning.proofs.SameLaws.{identities_decide}
+use Rattle.comp_meaning.proofs.{SameLaws.identities_decide, RulesLemmas.distinct_same}
 use Rattle.plan_meaning.specs.Plan.{Plan, PlannedInterface, PlannedWorld, PlannedPackage, package_in, interface_in, world_in, number_under, numbers_of, item_interface, items_of}
 use Rattle.plan_meaning.specs.PlanRules.{bears, has_name, is_alone, is_placed, is_world_placed, lists_interface, lists_members, lists_world, members_differ, names_of, times_shown}
 use Rattle.plan_meaning.specs.NumberedViews.{Tables, path_at, AreTables}
-use Rattle.plan_meaning.specs.NumberedWorlds.{HasPath, are_once}
-use Rattle.plan_meaning.specs.NumberedMembers.{Homes, HomesStand, home_at}
+use Rattle.plan_meaning.specs.{NumberedWorlds.HasPath, NumberedWorlds.are_once, NumberedMembers.Homes, NumberedMembers.HomesStand, NumberedMembers.home_at}
 use Rattle.plan_meaning.specs.ReadPlaces.{inline_shown, IsPlacedInterface, under_path, inline, IsListedInterface, IsListedWorld, PlacesAreRead, PlaceTests, ReadPlacesPass}
-use Rattle.plan_meaning.proofs.Listed.{in_range}
-use Rattle.plan_meaning.proofs.Lists.{no_true}
-use Rattle.wit_model.proofs.UsesLemmas.{has_filter}
+use Rattle.plan_meaning.proofs.{Listed.in_range, Lists.no_true}
 use Rattle.plan_meaning.proofs.ReadLists.{distinct_both, never, number_there, times, times_absent, times_both, times_filter, times_of, times_once}
 use Rattle.base_lemmas.proofs.Bools.{left_of as first_true, right_of as second_true, or_true, second_false as none_second}
-use Rattle.base_lemmas.proofs.Elements.{all_by_number, get-contains}
-use Rattle.base_lemmas.proofs.Numbers.{same-number}
-use Rattle.std.proofs.lemmas.Option.{same_Some as same-some}
-use Rattle.comp_meaning.proofs.RulesLemmas.{distinct_same}
-use Rattle.wit_model.proofs.PartsLemmas.{owner_itself}
-use Rattle.wit_model.proofs.RulesLemmas.{each_by_number}
+use Rattle.base_lemmas.proofs.{Elements.all_by_number, Elements.get-contains, Numbers.same-number}
 
 pub one_interface : (m n : ℕ) → as_interface m ≡ as_interface n → m ≡ n
 one_interface m n e = same-some m n (ap owner_interface e)

@@ -1,16 +1,11 @@
 -- All that a plan is asked for holds of one that is read.
 use Rattle.std.proofs.Common.{◌≡◌, ◌≤◌, ◌<◌, ℕ, arith, true, length, rules}
-use Rattle.std.specs.Prelude.{nat_le}
 use Rattle.std.proofs.lemmas.Bool.{le-leb}
+use Rattle.std.specs.Prelude.{nat_le}
 use Rattle.plan_meaning.specs.ReadPlans.{ReadPlanStands}
-use Rattle.plan_meaning.proofs.KeptOwners.{kept_owners_stand}
-use Rattle.plan_meaning.proofs.KeptResources.{kept_resources_stand}
+use Rattle.plan_meaning.proofs.{KeptOwners.kept_owners_stand, ReadOrder.read_order_passes, ReadPlaces.read_places_pass, ReadWorlds.read_worlds_pass}
+use Rattle.plan_meaning.proofs.{KeptResources.kept_resources_stand, ReadFunctions.read_functions_pass, ReadInterfaces.read_interfaces_pass}
 use Rattle.plan_meaning.proofs.KeptTypes.{kept_types_pass}
-use Rattle.plan_meaning.proofs.ReadFunctions.{read_functions_pass}
-use Rattle.plan_meaning.proofs.ReadInterfaces.{read_interfaces_pass}
-use Rattle.plan_meaning.proofs.ReadOrder.{read_order_passes}
-use Rattle.plan_meaning.proofs.ReadPlaces.{read_places_pass}
-use Rattle.plan_meaning.proofs.ReadWorlds.{read_worlds_pass}
 
 no_longer : (n bytes : ℕ) → n ≤ bytes → bytes < 4294967296 → nat_le n 4294967295 ≡ true
 no_longer n bytes few less = le-leb n 4294967295 (omega (arith, few, less))

@@ -1,47 +1,28 @@
 -- Nothing stands without a reason in a plan that is read as a package or as one world.
 use Rattle.std.proofs.Common.{◌≡◌, ◌⊎◌, inl, inr, refl, sym, ap, subst, ◌∙◌, ℕ, zero, suc, ◌+◌, arith, Bool, true, false, not, ◌&&◌, ◌||◌, ◌==◌, cond, List, [], ◌∷◌, ◌++◌, map, filter_map, flat_map, Option, Some, None, option_to_list, is_some, is_none, slice_get, rules}
-use Rattle.std.specs.List.{AllZip, Contains, list_any}
-use Rattle.std.specs.Option.{option_map_or}
-use Rattle.std.proofs.lemmas.Bool.{eqb-true, eq-eqb, or_right, not-true as not_true}
+use Rattle.std.proofs.lemmas.{Bool.eqb-true, Bool.eq-eqb, Bool.or_right, Bool.not-true as not_true, Option.same_Some as same-some}
 use Rattle.std.proofs.lemmas.List.Elements.{Contains-append_cases, Contains-append_left, Contains-append_right}
+use Rattle.std.specs.{List.AllZip, List.Contains, List.list_any, Option.option_map_or}
 use Rattle.wit_model.specs.declared.model.TypeOwner.{TypeOwner}
 use Rattle.wit_model.specs.Text.{Text}
-use Rattle.wit_model.specs.Lookup.{resource_of}
-use Rattle.wit_model.specs.Parts.{same_owner}
-use Rattle.wit_model.specs.Uses.{has, once}
-use Rattle.wit_model.specs.Rules.{has_items, is_id}
-use Rattle.wit_model.specs.Valid.{as_interface, as_world}
-use Rattle.wit_model.proofs.Chains.{has_once}
+use Rattle.wit_model.specs.{Lookup.resource_of, Parts.same_owner, Uses.has, Uses.once, Rules.has_items, Rules.is_id, Valid.as_interface, Valid.as_world}
+use Rattle.wit_model.proofs.{Chains.has_once, UsesLemmas.has_filter, PartsLemmas.owner_itself, RulesLemmas.each_by_number}
 use Rattle.wit_model.proofs.Elements.{contains-filter_map, contains-get, contains-has, has-contains, none-in}
 use Rattle.plan_meaning.specs.Plan.{Plan, PlannedKey, PlannedItem, PlannedType, PlannedFunction, PlannedInterface, PlannedPackage, package_in, interface_in, kind_numbers, part_number, function_numbers, function_parts, interfaces_used_by, item_interface, items_of}
 use Rattle.plan_meaning.specs.PlanRules.{HoldsNoMore, IsWanted, shown, used, direct_uses, functions_of, is_foreign, is_part, is_shown_in, world_functions}
 use Rattle.plan_meaning.specs.Renumbering.{IsPart, a_primitive, a_shape}
 use Rattle.plan_meaning.specs.NumberedViews.{FunctionShape, Tables, path_at, AreTables, NumberedView, NumberedSight}
-use Rattle.plan_meaning.specs.NumberedWorlds.{HasPath, are_once, are_reached, used_by_view}
-use Rattle.plan_meaning.specs.NumberedMembers.{Homes, HomesStand, home_at, is_of_package}
+use Rattle.plan_meaning.specs.{NumberedWorlds.HasPath, NumberedWorlds.are_once, NumberedWorlds.are_reached, NumberedWorlds.used_by_view, ReadPlans.IsReadPlan}
+use Rattle.plan_meaning.specs.{NumberedMembers.Homes, NumberedMembers.HomesStand, NumberedMembers.home_at, NumberedMembers.is_of_package, ReadFunctions.Beside}
 use Rattle.plan_meaning.specs.GatheredPlan.{Becomes, FunctionBecomes, FunctionListed, functions_seen}
-use Rattle.plan_meaning.specs.ReadFunctions.{Beside}
 use Rattle.plan_meaning.specs.ReadPlaces.{IsPlacedInterface, under_path, inline}
 use Rattle.plan_meaning.specs.ReadWorlds.{ReadItem, IsReadItem, by_path, by_label, implementing_path, a_function, a_type}
-use Rattle.plan_meaning.specs.ReadPlans.{IsReadPlan}
 use Rattle.plan_meaning.specs.ReadWholes.{IsPartOfFunction, a_parameter, a_result, IsPartOfKept, of_type, of_interface, of_world, HasHomes, IsKeptForReasons, place_shown, IsShownByWorld, IsViewOf, IsSeenFor, in_world, in_member, ForeignIsRead, IsReadWorldPlan, ReadPackagePlanStands, ReadWorldPlanStands}
-use Rattle.plan_meaning.proofs.KeptParts.{shape_parts, function_zip}
-use Rattle.plan_meaning.proofs.Lists.{no_true}
-use Rattle.wit_model.proofs.UsesLemmas.{has_filter}
-use Rattle.plan_meaning.proofs.MetTypes.{flat_among}
-use Rattle.plan_meaning.proofs.ReadLists.{never}
-use Rattle.plan_meaning.proofs.ReadOrder.{same_uses}
-use Rattle.plan_meaning.proofs.ReadPlaces.{one_interface}
-use Rattle.plan_meaning.proofs.ReadPlans.{read_plan_stands}
-use Rattle.plan_meaning.proofs.UsedInterfaces.{interface_uses_back}
-use Rattle.plan_meaning.proofs.Words.{behind}
+use Rattle.plan_meaning.proofs.{KeptParts.shape_parts, KeptParts.function_zip, ReadLists.never, ReadPlans.read_plan_stands, UsedInterfaces.interface_uses_back}
+use Rattle.plan_meaning.proofs.{Lists.no_true, MetTypes.flat_among, ReadOrder.same_uses, ReadPlaces.one_interface, Words.behind}
 use Rattle.base_lemmas.proofs.Bools.{first_false as none_first, left_of as first_true, right_of as second_true, second_false as none_second}
 use Rattle.base_lemmas.proofs.Elements.{all_at, all_both, all_by_number, any-at as contains_any, contains-later, contains-map, get-contains, last_of as one-contained, zip_at as zip_there}
-use Rattle.base_lemmas.proofs.Lists.{append_of_map}
-use Rattle.base_lemmas.proofs.Numbers.{same-number}
-use Rattle.std.proofs.lemmas.Option.{same_Some as same-some}
-use Rattle.wit_model.proofs.PartsLemmas.{owner_itself}
-use Rattle.wit_model.proofs.RulesLemmas.{each_by_number}
+use Rattle.base_lemmas.proofs.{Lists.append_of_map, Numbers.same-number}
 
 module _ (t : Tables) (tables : AreTables t) (h : Homes) (homes : HomesStand t h) (kept : List ℕ) (p : Plan) (b : Beside) (views : ℕ → NumberedView) (read : IsReadPlan t h kept p b views) where
   one_place : (a c n : ℕ) → b.owners a ≡ as_interface n → b.owners c ≡ as_interface n → a ≡ c

@@ -1,42 +1,27 @@
 -- Worlds that are read pass the tests of a plan on each world by itself.
 use Rattle.std.proofs.Common.{◌≡◌, refl, sym, ap, subst, ◌∙◌, ◌<◌, ℕ, arith, Bool, true, false, not, ◌&&◌, ◌||◌, ◌==◌, List, [], ◌∷◌, ◌++◌, length, map, filter_map, Option, Some, drop, is_none, is_some, slice_get, T, ltb→lt, rules}
-use Rattle.std.specs.Prelude.{codes, nat_eq, nat_lt}
-use Rattle.std.specs.List.{AllByRecursion, cons_option, list_all, list_any, starts_with}
-use Rattle.std.specs.Option.{option_map_or}
 use Rattle.std.proofs.lemmas.Bool.{eqb-true, eq-eqb, lt-ltb, and_from as both, not-true as not_true, or_from as neither}
-use Rattle.wit_model.specs.declared.model.TypeOwner.{TypeOwner}
-use Rattle.wit_model.specs.declared.model.FunctionKind.{FunctionKind}
-use Rattle.wit_model.specs.Text.{Text, text_eq}
-use Rattle.wit_model.specs.Names.{is_label}
-use Rattle.wit_model.specs.Parts.{same_owner}
-use Rattle.wit_model.specs.Rules.{in_list, is_freestanding}
-use Rattle.wit_model.specs.Uses.{owner_interface}
-use Rattle.wit_model.specs.Valid.{as_interface, as_world}
-use Rattle.wit_model.proofs.VersionLaws.{same_text}
+use Rattle.std.proofs.lemmas.Option.{same_Some as same-some}
+use Rattle.std.specs.{Prelude.codes, Prelude.nat_eq, Prelude.nat_lt, List.AllByRecursion, List.cons_option, List.list_all, List.list_any, List.starts_with}
+use Rattle.std.specs.Option.{option_map_or}
+use Rattle.wit_model.specs.declared.model.{TypeOwner.TypeOwner, FunctionKind.FunctionKind}
+use Rattle.wit_model.specs.{Text.Text, Text.text_eq, Rules.in_list, Rules.is_freestanding, Uses.owner_interface, Valid.as_interface, Valid.as_world}
+use Rattle.wit_model.specs.{Names.is_label, Parts.same_owner}
+use Rattle.wit_model.proofs.{VersionLaws.same_text, PartsLemmas.owner_itself, RulesLemmas.each_by_number}
 use Rattle.comp_meaning.specs.Rules.{distinct, is_label_behind}
-use Rattle.plan_meaning.specs.Shapes.{Shape, first_label, form_code, named_shape, node_shape}
-use Rattle.plan_meaning.specs.Plan as plan
+use Rattle.plan_meaning.specs.{Shapes.Shape, Shapes.first_label, Shapes.form_code, Shapes.named_shape, Shapes.node_shape, ReadFunctions.Beside}
 use Rattle.plan_meaning.specs.Plan.{Plan, PlannedKey, PlannedItem, PlannedType, PlannedFunction, PlannedInterface, PlannedWorld, interface_in, item_type, world_types}
 use Rattle.plan_meaning.specs.PlanRules.{are_rising, bears, has_name, import_stands, export_stands, is_function_key, is_type_of, keys_differ, same_key}
 use Rattle.plan_meaning.specs.NumberedViews.{Tables, path_text, AreTables, NumberedView, FunctionShape, function_at}
-use Rattle.plan_meaning.specs.NumberedRules.{Fact, is_signature}
+use Rattle.plan_meaning.specs.{NumberedRules.Fact, NumberedRules.is_signature, KeptOwners.AreOwned, KeptOwners.of_interface}
 use Rattle.plan_meaning.specs.NumberedWorlds.{HasPath, NumberedSeen, are_imports, is_item, stand_earlier}
 use Rattle.plan_meaning.specs.KeptTypes.{IsKeptType, unnamed, declared, TypesAreKept}
 use Rattle.plan_meaning.specs.KeptFunctions.{IsKindOf, of_none, a_constructor, a_method, an_async_method, a_static, an_async_static}
-use Rattle.plan_meaning.specs.KeptOwners.{AreOwned, of_interface}
-use Rattle.plan_meaning.specs.ReadFunctions.{Beside}
 use Rattle.plan_meaning.specs.ReadWorlds.{ReadItem, is_type_seen, types_follow, IsInterfaceOf, IsReadUnder, IsTypeUnder, IsReadItem, by_path, by_label, implementing_path, a_function, a_type, IsReadWorld, ReadWorldsPass}
-use Rattle.plan_meaning.proofs.Listed.{in_range}
-use Rattle.plan_meaning.proofs.Lists.{no_true}
-use Rattle.plan_meaning.proofs.NumberedRules.{no_name}
-use Rattle.plan_meaning.proofs.ReadInterfaces.{bears_name}
-use Rattle.plan_meaning.proofs.ReadLists.{never, or_nothing}
+use Rattle.plan_meaning.proofs.{Listed.in_range, Lists.no_true, NumberedRules.no_name, ReadInterfaces.bears_name, ReadLists.never, ReadLists.or_nothing}
 use Rattle.base_lemmas.proofs.Bools.{first_false as none_first, left_of as first_true, right_of as second_true, second_false as none_second}
-use Rattle.base_lemmas.proofs.Elements.{all_by_number}
-use Rattle.base_lemmas.proofs.Numbers.{same-number}
-use Rattle.std.proofs.lemmas.Option.{same_Some as same-some}
-use Rattle.wit_model.proofs.PartsLemmas.{owner_itself}
-use Rattle.wit_model.proofs.RulesLemmas.{each_by_number}
+use Rattle.base_lemmas.proofs.{Elements.all_by_number, Numbers.same-number}
+use Rattle.plan_meaning.specs.Plan as plan
 
 -- ---- a function whose name is a label
 

@@ -1,21 +1,14 @@
 -- The types of a plan stand for the trees of the shapes that they are made of.
 use Rattle.std.proofs.Common.{◌≡◌, refl, sym, ap, ◌∙◌, ℕ, zero, suc, ◌+◌, ◌<◌, Bool, true, nat_lt, List, [], ◌∷◌, length, map, take, filter_map, Option, Some, None, slice_get, unwrap_or, arith}
-use Rattle.std.specs.List.{AllZip, list_all, cons_option}
-use Rattle.std.specs.Option.{option_map_or}
-use Rattle.wit_model.specs.Tree.{Place, Tree, node, children, named}
-use Rattle.wit_model.specs.Types.{no_tree, tree_of_declaration}
-use Rattle.wit_model.specs.Rules.{each_from}
-use Rattle.wit_model.proofs.Tables.{grow_at}
+use Rattle.std.proofs.lemmas.{Bool.ltb-true as less_than, Option.same_Some as same-some}
+use Rattle.std.specs.{List.AllZip, List.list_all, List.cons_option, Option.option_map_or}
+use Rattle.wit_model.specs.{Tree.Place, Tree.Tree, Tree.node, Tree.children, Tree.named, Types.no_tree, Types.tree_of_declaration, Rules.each_from}
+use Rattle.wit_model.proofs.{Tables.grow_at, RulesLemmas.each_at}
 use Rattle.plan_meaning.specs.Shapes.{Shape, primitives, part_tree, shape_tree, shape_trees, IsTable}
 use Rattle.plan_meaning.specs.Plan.{Plan, PlannedType, PlannedKind, part_number, kind_numbers, declared_as, tree_of_planned, place_in, trees_in}
 use Rattle.plan_meaning.specs.Renumbering.{IsPart, a_primitive, a_shape, IsTypeOf, of_form, of_name, AreKept, TreesAreKept}
-use Rattle.plan_meaning.proofs.ShapeLaws.{node_tree, name_tree, part_behind, part_front, tree_at_number}
-use Rattle.plan_meaning.proofs.Words.{behind}
-use Rattle.base_lemmas.proofs.Bools.{left_of as first_true, right_of as second_true}
-use Rattle.base_lemmas.proofs.Lists.{slice_take, within_there as slice_there}
-use Rattle.std.proofs.lemmas.Bool.{ltb-true as less_than}
-use Rattle.std.proofs.lemmas.Option.{same_Some as same-some}
-use Rattle.wit_model.proofs.RulesLemmas.{each_at}
+use Rattle.plan_meaning.proofs.{ShapeLaws.node_tree, ShapeLaws.name_tree, ShapeLaws.part_behind, ShapeLaws.part_front, ShapeLaws.tree_at_number, Words.behind}
+use Rattle.base_lemmas.proofs.{Bools.left_of as first_true, Bools.right_of as second_true, Lists.slice_take, Lists.within_there as slice_there}
 
 -- what comes first, and what follows
 head_passes : (p : ℕ → Bool) (n : ℕ) (o : Option ℕ) (ns : List ℕ) → o ≡ Some n → list_all p (cons_option o ns) ≡ true → p n ≡ true

@@ -1,38 +1,24 @@
 -- Which numbers are resources: the marks along a plan's types say what following aliases finds.
 use Rattle.std.proofs.Common.{◌≡◌, refl, sym, ap, subst, ◌∙◌, ℕ, zero, suc, ◌+◌, ◌<◌, ◌≤◌, Bool, true, false, ◌&&◌, not, nat_lt, T, ltb→lt, List, [], ◌∷◌, length, map, take, filter_map, option_map, option_to_list, Option, Some, None, slice_get, unwrap_or, arith}
-use Rattle.std.specs.List.{list_all, cons_option}
-use Rattle.std.specs.Option.{option_map_or}
-use Rattle.std.proofs.lemmas.Option.{slice_get_past, slice_get-map as get_of_map}
-use Rattle.wit_model.specs.declared.model.Resolve.{Resolve}
+use Rattle.std.proofs.lemmas.{Option.slice_get_past, Option.slice_get-map as get_of_map, Bool.and_from as both}
+use Rattle.std.specs.{List.list_all, List.cons_option, Option.option_map_or}
+use Rattle.wit_model.specs.declared.model.{Resolve.Resolve, TypeDefKind.TypeDefKind, «Type».«Type» as ValueType, TypeOwner.TypeOwner, Function.Function}
 use Rattle.wit_model.specs.declared.model.TypeDef.{TypeDef}
-use Rattle.wit_model.specs.declared.model.TypeDefKind.{TypeDefKind}
-use Rattle.wit_model.specs.declared.model.TypeDefKind.TheVariants as kind
-use Rattle.wit_model.specs.declared.model.Handle.TheVariants as handle
-use Rattle.wit_model.specs.declared.model.«Type».{«Type» as ValueType}
-use Rattle.wit_model.specs.declared.model.TypeOwner.{TypeOwner}
-use Rattle.wit_model.specs.declared.model.Function.{Function}
-use Rattle.wit_model.specs.Lookup.{type_at}
-use Rattle.wit_model.specs.Types.{number_of}
-use Rattle.wit_model.specs.Parts as parts
-use Rattle.wit_model.specs.Parts.{member_types, handled, function_types, is_resource_type, is_resource_kind}
-use Rattle.wit_model.specs.Rules.{passes}
-use Rattle.wit_model.specs.Valid.{Keeps, handles}
-use Rattle.wit_model.specs.Checks.{references}
-use Rattle.wit_model.proofs.Lists.{list_all_filter_map}
-use Rattle.wit_model.proofs.Tables.{grow_at, grow_keeps}
-use Rattle.wit_model.proofs.Checks.{below_at, references_kept, keeps_three}
-use Rattle.wit_model.proofs.Resources.{resource_step, no_resource}
-use Rattle.plan_meaning.specs.Plan as plan
+use Rattle.wit_model.specs.{Lookup.type_at, Types.number_of, Rules.passes, Checks.references}
+use Rattle.wit_model.specs.{Parts.member_types, Parts.handled, Parts.function_types, Parts.is_resource_type, Parts.is_resource_kind, Valid.Keeps, Valid.handles}
+use Rattle.wit_model.proofs.{Lists.list_all_filter_map, Tables.grow_at, Tables.grow_keeps}
+use Rattle.wit_model.proofs.{Checks.below_at, Checks.references_kept, Checks.keeps_three, Resources.resource_step, Resources.no_resource}
 use Rattle.plan_meaning.specs.Plan.{PlannedType, part_number, marked_at, resource_marks}
-use Rattle.plan_meaning.specs.PlanRules as planned
-use Rattle.plan_meaning.specs.PlanRules.{IsPlan}
-use Rattle.plan_meaning.specs.Built.{part_of, planned_kind, planned_type, planned_function}
+use Rattle.plan_meaning.specs.{PlanRules.IsPlan, Built.part_of, Built.planned_kind, Built.planned_type, Built.planned_function}
 use Rattle.plan_meaning.proofs.Lists.{each_built, each_from_built}
 use Rattle.plan_meaning.proofs.Words.{plan_of, behind, number_part, kind_numbers_are, value_numbers_are}
 use Rattle.plan_meaning.proofs.FunctionRules.{interfaces_pass, worlds_pass, formed_pass, members_pass}
-use Rattle.base_lemmas.proofs.Bools.{left_of as first_true, right_of as second_true}
-use Rattle.base_lemmas.proofs.Lists.{length_of_map, slice_take}
-use Rattle.std.proofs.lemmas.Bool.{and_from as both}
+use Rattle.base_lemmas.proofs.{Bools.left_of as first_true, Bools.right_of as second_true, Lists.length_of_map, Lists.slice_take}
+use Rattle.wit_model.specs.declared.model.TypeDefKind.TheVariants as kind
+use Rattle.wit_model.specs.declared.model.Handle.TheVariants as handle
+use Rattle.wit_model.specs.Parts as parts
+use Rattle.plan_meaning.specs.Plan as plan
+use Rattle.plan_meaning.specs.PlanRules as planned
 
 pub nothing : {A : Type 0} (xs : List A) (k : ℕ) → slice_get xs k ≡ None → length xs ≤ k
 nothing [] k e = omega arith

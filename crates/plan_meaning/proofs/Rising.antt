@@ -1,28 +1,15 @@
 -- Lists of rising numbers: none stands twice, and what a number uses, being smaller, stands before it.
 use Rattle.std.proofs.Common.{◌≡◌, refl, sym, ap, ◌∙◌, ℕ, ◌<◌, Bool, true, false, ◌||◌, ◌==◌, not, nat_lt, List, [], ◌∷◌, ◌++◌, Option, Some, None, arith, map, ◌≤◌}
-use Rattle.std.specs.List.{list_all, Contains}
-use Rattle.std.specs.Option.{option_map_or}
-use Rattle.std.proofs.lemmas.Bool.Decides.{nat_tests}
-use Rattle.std.proofs.lemmas.Bool.{and_from as both, ltb-true as less_than, leb-true, lt-ltb}
-use Rattle.std.proofs.lemmas.List.Folds.{list_any-append}
-use Rattle.wit_model.specs.declared.model.Resolve.{Resolve}
-use Rattle.wit_model.specs.declared.model.TypeDef.{TypeDef}
-use Rattle.wit_model.specs.Lookup.{type_at}
-use Rattle.wit_model.specs.Parts.{used_by_type}
-use Rattle.wit_model.specs.Uses.{has}
-use Rattle.wit_model.specs.Rules.{each_after, used_by_number, each_from}
-use Rattle.plan_meaning.specs.Plan as plan
-use Rattle.plan_meaning.specs.PlanRules.{are_rising}
-use Rattle.plan_meaning.proofs.Lists.{each_there}
-use Rattle.base_lemmas.proofs.Bools.{left_of as first_true, right_of as second_true, or_true}
-use Rattle.base_lemmas.proofs.Elements.{all_weaker, all_pass, all-contained}
-use Rattle.plan_meaning.specs.NumberedWorlds.{are_once}
-use Rattle.plan_meaning.proofs.ReadLists.{times, times_once}
-use Rattle.plan_meaning.specs.Built.{planned_type, planned_kind}
-use Rattle.plan_meaning.proofs.Words.{plan_of, used_by_kind_is}
-use Rattle.plan_meaning.proofs.MetTypes.{used_among}
+use Rattle.std.proofs.lemmas.{Bool.Decides.nat_tests, Bool.and_from as both, Bool.ltb-true as less_than, Bool.leb-true, Bool.lt-ltb, List.Folds.list_any-append}
 use Rattle.std.proofs.lemmas.Option.{slice_get_within}
-use Rattle.base_lemmas.proofs.Lists.{length_of_map}
+use Rattle.std.specs.{List.list_all, List.Contains, Option.option_map_or}
+use Rattle.wit_model.specs.declared.model.{Resolve.Resolve, TypeDef.TypeDef}
+use Rattle.wit_model.specs.{Lookup.type_at, Parts.used_by_type, Uses.has, Rules.each_after, Rules.used_by_number, Rules.each_from}
+use Rattle.plan_meaning.specs.{PlanRules.are_rising, NumberedWorlds.are_once, Built.planned_type, Built.planned_kind}
+use Rattle.plan_meaning.proofs.{Lists.each_there, ReadLists.times, ReadLists.times_once, Words.plan_of, Words.used_by_kind_is, MetTypes.used_among}
+use Rattle.base_lemmas.proofs.{Bools.left_of as first_true, Bools.right_of as second_true, Bools.or_true, Lists.length_of_map}
+use Rattle.base_lemmas.proofs.Elements.{all_weaker, all_pass, all-contained}
+use Rattle.plan_meaning.specs.Plan as plan
 
 -- ---- none stands twice
 

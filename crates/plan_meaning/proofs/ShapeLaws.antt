@@ -1,17 +1,14 @@
 -- In a table of shapes each number has a tree, and no tree has two numbers.
 use Rattle.std.proofs.Common.{◌≡◌, ◌⊎◌, inl, inr, refl, sym, ap, ◌∙◌, ℕ, zero, suc, ◌+◌, ◌-◌, ◌<◌, arith, Bool, true, false, List, [], ◌∷◌, ◌++◌, map, take, length, Some, slice_get, unwrap_or, option_map}
+use Rattle.std.proofs.lemmas.{Bool.cases_lt as below_or, Option.slice_get-map as get_of_map}
 use Rattle.std.specs.List.{AllByRecursion, Contains}
-use Rattle.wit_model.specs.Text.{Text}
+use Rattle.wit_model.specs.{Text.Text, Types.grow, Types.no_tree}
 use Rattle.wit_model.specs.Tree.{Primitive, Place, Form, Tree, Trees, children}
-use Rattle.wit_model.specs.Types.{grow, no_tree}
 use Rattle.wit_model.proofs.Tables.{grow_at}
 use Rattle.comp_meaning.specs.Same.{primitive_number}
 use Rattle.plan_meaning.specs.Shapes.{Shape, form_code, form_of, marked, node_shape, named_shape, primitives, part_tree, shape_tree, shape_trees, IsShape, a_name, a_node, IsTable, OneNumber}
 use Rattle.plan_meaning.specs.NumberedViews.{itself, inside, AreApart}
-use Rattle.base_lemmas.proofs.Elements.{contains-later, get-contains}
-use Rattle.base_lemmas.proofs.Lists.{slice_front, slice_take, within_there as slice_there}
-use Rattle.std.proofs.lemmas.Bool.{cases_lt as below_or}
-use Rattle.std.proofs.lemmas.Option.{slice_get-map as get_of_map}
+use Rattle.base_lemmas.proofs.{Elements.contains-later, Elements.get-contains, Lists.slice_front, Lists.slice_take, Lists.within_there as slice_there}
 use Rattle.plan_meaning.proofs.Lists.{each_so}
 
 -- ---- forms by their codes

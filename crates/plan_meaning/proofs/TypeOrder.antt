@@ -1,51 +1,28 @@
 -- Types refer to smaller ones, and stand with their owners in order.
 use Rattle.std.proofs.Common.{◌≡◌, refl, sym, ap, ◌∙◌, ℕ, Bool, true, false, ◌&&◌, ◌||◌, ◌==◌, cond, nat_lt, List, [], ◌∷◌, map, filter_map, option_map, option_and_then, option_to_list, Option, Some, None, is_some, String}
+use Rattle.std.proofs.lemmas.{Bool.or_left, Bool.or_right, Bool.and_from as both, List.Folds.list_all-map, Option.slice_get-map as get_of_map}
 use Rattle.std.specs.declared.alloc.Global.{Global}
-use Rattle.std.specs.List.{list_all}
-use Rattle.std.specs.Option.{option_map_or}
-use Rattle.std.specs.Map.{lookup}
-use Rattle.std.specs.HashMap.{get_by}
-use Rattle.std.proofs.lemmas.Bool.{or_left, or_right, and_from as both}
-use Rattle.std.proofs.lemmas.List.Folds.{list_all-map}
+use Rattle.std.specs.{List.list_all, Option.option_map_or, Map.lookup, HashMap.get_by}
 use Rattle.indexmap.specs.IndexMap.{values}
-use Rattle.wit_model.specs.declared.model.Resolve.{Resolve}
-use Rattle.wit_model.specs.declared.model.Interface.{Interface}
+use Rattle.wit_model.specs.declared.model.{Resolve.Resolve, Interface.Interface, WorldKey.WorldKey, WorldItem.WorldItem, TypeId.TypeId, TypeOwner.TypeOwner}
 use Rattle.wit_model.specs.declared.model.World.{World}
-use Rattle.wit_model.specs.declared.model.WorldKey.{WorldKey}
-use Rattle.wit_model.specs.declared.model.WorldKey.TheVariants as key
-use Rattle.wit_model.specs.declared.model.WorldItem.{WorldItem}
-use Rattle.wit_model.specs.declared.model.WorldItem.TheVariants as item
-use Rattle.wit_model.specs.declared.model.TypeId.{TypeId}
-use Rattle.wit_model.specs.declared.model.TypeOwner.{TypeOwner}
-use Rattle.wit_model.specs.declared.model.TypeOwner.TheVariants as owner
-use Rattle.wit_model.specs.Text.{Text, text_of, text_eq, optional_text}
-use Rattle.wit_model.specs.Lookup.{interface_at, world_at, type_at}
-use Rattle.wit_model.specs.Parts.{same_owner}
-use Rattle.wit_model.specs.Uses.{has}
-use Rattle.wit_model.specs.Rules as rules
+use Rattle.wit_model.specs.{Text.Text, Text.text_of, Text.text_eq, Text.optional_text, Valid.Keeps, Valid.order_of_types, Valid.as_interface, Valid.as_world}
+use Rattle.wit_model.specs.{Lookup.interface_at, Lookup.world_at, Lookup.type_at, Parts.same_owner, Uses.has}
 use Rattle.wit_model.specs.Rules.{passes, is_id, text_is, is_name_key, is_named_of, are_in_order, interface_type_numbers, world_type_numbers, is_listed_in_interface, is_listed_in_world, used_by_number}
-use Rattle.wit_model.specs.Valid.{Keeps, order_of_types, as_interface, as_world}
-use Rattle.wit_model.proofs.Lists.{list_all_filter_map}
-use Rattle.wit_model.proofs.Checks.{keeps_three}
-use Rattle.wit_model.proofs.InOrder.{found_stands}
-use Rattle.plan_meaning.specs.Plan as plan
-use Rattle.plan_meaning.specs.Plan.{number_under, numbers_of}
-use Rattle.plan_meaning.specs.PlanRules as planned
-use Rattle.plan_meaning.specs.PlanRules.{IsPlan, are_rising, is_under_label}
+use Rattle.wit_model.proofs.{Lists.list_all_filter_map, Checks.keeps_three, InOrder.found_stands, TextLemmas.named_too, RulesLemmas.each_by_number}
+use Rattle.plan_meaning.specs.{Plan.number_under, Plan.numbers_of, PlanRules.IsPlan, PlanRules.are_rising, PlanRules.is_under_label}
 use Rattle.plan_meaning.specs.Built.{planned_type, planned_interface, planned_world, planned_key, planned_item}
 use Rattle.plan_meaning.proofs.Lists.{then_of_map, same_then, all_built, no_true, each_there, all_there}
-use Rattle.plan_meaning.proofs.Words.{plan_of, kind_numbers_are}
-use Rattle.plan_meaning.proofs.FunctionRules.{values_are}
-use Rattle.plan_meaning.proofs.Listed.{passes_weaker}
-use Rattle.plan_meaning.proofs.WorldItems.{own_type}
-use Rattle.plan_meaning.proofs.Rising.{stands_once, in_order, used_low}
-use Rattle.base_lemmas.proofs.Bools.{left_of as first_true, right_of as second_true}
+use Rattle.plan_meaning.proofs.{Words.plan_of, Words.kind_numbers_are, FunctionRules.values_are, Rising.stands_once, Rising.in_order, Rising.used_low}
+use Rattle.plan_meaning.proofs.{Listed.passes_weaker, WorldItems.own_type}
+use Rattle.base_lemmas.proofs.{Bools.left_of as first_true, Bools.right_of as second_true, Lists.filter_of_map, Lists.map_of_map, Maps.lookup_of_map}
 use Rattle.base_lemmas.proofs.Elements.{all_get}
-use Rattle.base_lemmas.proofs.Lists.{filter_of_map, map_of_map}
-use Rattle.base_lemmas.proofs.Maps.{lookup_of_map}
-use Rattle.std.proofs.lemmas.Option.{slice_get-map as get_of_map}
-use Rattle.wit_model.proofs.TextLemmas.{named_too}
-use Rattle.wit_model.proofs.RulesLemmas.{each_by_number}
+use Rattle.wit_model.specs.declared.model.WorldKey.TheVariants as key
+use Rattle.wit_model.specs.declared.model.WorldItem.TheVariants as item
+use Rattle.wit_model.specs.declared.model.TypeOwner.TheVariants as owner
+use Rattle.wit_model.specs.Rules as rules
+use Rattle.plan_meaning.specs.Plan as plan
+use Rattle.plan_meaning.specs.PlanRules as planned
 
 -- ---- the lists of types
 

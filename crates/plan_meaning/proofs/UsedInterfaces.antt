@@ -1,41 +1,26 @@
 -- The interfaces that types of a plan use are those of the places that what was read uses.
 use Rattle.std.proofs.Common.{◌≡◌, ◌⊎◌, inl, inr, refl, sym, ap, subst, ◌∙◌, ℕ, ◌+◌, ◌-◌, arith, true, false, not, ◌==◌, cond, List, [], ◌∷◌, Option, Some, None, option_and_then, option_to_list, is_some, slice_get, rules}
-use Rattle.std.specs.Prelude.{nat_le}
-use Rattle.std.specs.List.{Contains, list_all}
-use Rattle.std.specs.Option.{option_map_or}
-use Rattle.std.proofs.lemmas.Bool.{le-leb, lt-ltb}
+use Rattle.std.proofs.lemmas.{Bool.le-leb, Bool.lt-ltb, Option.same_Some as same-some}
+use Rattle.std.specs.{Prelude.nat_le, List.Contains, List.list_all, Option.option_map_or}
 use Rattle.wit_model.specs.declared.model.TypeOwner.{TypeOwner}
-use Rattle.wit_model.specs.declared.model.TypeOwner.TheVariants as owner
-use Rattle.wit_model.specs.Text.{Text}
-use Rattle.wit_model.specs.Uses.{owner_interface}
-use Rattle.wit_model.specs.Rules.{each_from}
-use Rattle.wit_model.specs.Valid.{as_interface}
-use Rattle.wit_model.proofs.Elements.{contains-filter_map, contains-flat, contains-get, none-in}
-use Rattle.plan_meaning.specs.Shapes.{Shape, first_label, named_shape, node_shape}
-use Rattle.plan_meaning.specs.Plan as plan
+use Rattle.wit_model.specs.{Text.Text, Uses.owner_interface, Rules.each_from, Valid.as_interface}
+use Rattle.wit_model.proofs.{Elements.contains-filter_map, Elements.contains-flat, Elements.contains-get, Elements.none-in, RulesLemmas.each_by_number}
+use Rattle.plan_meaning.specs.{Shapes.Shape, Shapes.first_label, Shapes.named_shape, Shapes.node_shape, ReadInterfaces.IsNumberOf, ReadInterfaces.IsKeptAs}
 use Rattle.plan_meaning.specs.Plan.{Plan, PlannedKind, PlannedType, PlannedInterface, type_in, alias_number, part_number, interface_used_by, interfaces_used_by, numbers_of}
-use Rattle.plan_meaning.specs.Renumbering.{IsPart, a_primitive, a_shape}
+use Rattle.plan_meaning.specs.{Renumbering.IsPart, Renumbering.a_primitive, Renumbering.a_shape, NumberedRules.name_at, NumberedRules.name_in}
 use Rattle.plan_meaning.specs.NumberedViews.{Tables, path_at, AreTables, NumberedType, NumberedView}
-use Rattle.plan_meaning.specs.NumberedRules as numbered
-use Rattle.plan_meaning.specs.NumberedRules.{name_at, name_in}
-use Rattle.plan_meaning.specs.NumberedWorlds.{HasPath, if_outside, used_by, used_by_view}
-use Rattle.plan_meaning.specs.GatheredPlan as gathered
+use Rattle.plan_meaning.specs.{NumberedWorlds.HasPath, NumberedWorlds.if_outside, NumberedWorlds.used_by, NumberedWorlds.used_by_view, ReadFunctions.Beside}
 use Rattle.plan_meaning.specs.GatheredPlan.{Becomes, DeclaresKind, a_resource, a_form, TypeBecomes, TypeListed}
-use Rattle.plan_meaning.specs.KeptTypes.{IsKeptType, unnamed, declared, TypesAreKept}
-use Rattle.plan_meaning.specs.KeptOwners.{AreOwned}
-use Rattle.plan_meaning.specs.ReadFunctions.{Beside}
-use Rattle.plan_meaning.specs.ReadInterfaces.{IsNumberOf, IsKeptAs}
+use Rattle.plan_meaning.specs.{KeptTypes.IsKeptType, KeptTypes.unnamed, KeptTypes.declared, KeptTypes.TypesAreKept, KeptOwners.AreOwned}
 use Rattle.plan_meaning.specs.ReadOrder.{IsUsedPlace, itself, smaller, IsViewedInterface, InterfacesAreViewed}
-use Rattle.plan_meaning.proofs.MetTypes.{flat_among}
-use Rattle.plan_meaning.proofs.Lists.{no_true}
-use Rattle.plan_meaning.proofs.NumberedRules.{no_name, no_shape, shape_there}
-use Rattle.plan_meaning.proofs.ReadPlaces.{one_interface}
-use Rattle.plan_meaning.proofs.Words.{behind}
+use Rattle.plan_meaning.proofs.{MetTypes.flat_among, NumberedRules.no_name, NumberedRules.no_shape, NumberedRules.shape_there, ReadPlaces.one_interface}
+use Rattle.plan_meaning.proofs.{Lists.no_true, Words.behind, KeptParts.kept_at}
 use Rattle.base_lemmas.proofs.Elements.{all_pass as all_among, contains-map, filter_map_from, get-contains, last_of as one-contained, zip_at as zip_there, zip_at_right as zip_at}
 use Rattle.base_lemmas.proofs.Lists.{get_back}
-use Rattle.std.proofs.lemmas.Option.{same_Some as same-some}
-use Rattle.wit_model.proofs.RulesLemmas.{each_by_number}
-use Rattle.plan_meaning.proofs.KeptParts.{kept_at}
+use Rattle.wit_model.specs.declared.model.TypeOwner.TheVariants as owner
+use Rattle.plan_meaning.specs.Plan as plan
+use Rattle.plan_meaning.specs.NumberedRules as numbered
+use Rattle.plan_meaning.specs.GatheredPlan as gathered
 
 -- ---- lists
 

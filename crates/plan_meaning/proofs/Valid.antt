@@ -2,26 +2,12 @@
 use Rattle.std.proofs.Common.{◌≡◌, sym, subst, ℕ, true}
 use Rattle.std.specs.List.{list_all}
 use Rattle.wit_model.specs.declared.model.Resolve.{Resolve}
-use Rattle.wit_model.specs.Names.{is_version}
-use Rattle.wit_model.specs.Rules.{passes}
-use Rattle.wit_model.specs.Valid.{IsValid}
-use Rattle.plan_meaning.specs.Plan.{Plan}
-use Rattle.plan_meaning.specs.PlanRules.{IsPlan}
-use Rattle.plan_meaning.specs.Built.{IsBuilt, IsBare}
-use Rattle.plan_meaning.proofs.Words.{plan_of}
-use Rattle.plan_meaning.proofs.KindRules.{shapes_kept, named_kinds_kept}
-use Rattle.plan_meaning.proofs.Depths.{depths_kept}
-use Rattle.plan_meaning.proofs.ResourceMarks.{handles_kept}
-use Rattle.plan_meaning.proofs.Listed.{names_in_packages_kept, package_names_kept}
-use Rattle.plan_meaning.proofs.Labels.{labels_kept}
-use Rattle.plan_meaning.proofs.WorldItems.{world_items_kept}
-use Rattle.plan_meaning.proofs.FunctionNames.{function_names_kept}
-use Rattle.plan_meaning.proofs.NumbersInRange.{numbers_kept}
-use Rattle.plan_meaning.proofs.Places.{places_kept}
-use Rattle.plan_meaning.proofs.TypeOrder.{order_of_types_kept}
-use Rattle.plan_meaning.proofs.Owning.{owners_kept}
-use Rattle.plan_meaning.proofs.ItemOrder.{order_of_items_kept}
-use Rattle.plan_meaning.proofs.DistinctKeys.{keys_are_distinct}
+use Rattle.wit_model.specs.{Names.is_version, Rules.passes, Valid.IsValid}
+use Rattle.plan_meaning.specs.{Plan.Plan, PlanRules.IsPlan, Built.IsBuilt, Built.IsBare}
+use Rattle.plan_meaning.proofs.{Words.plan_of, Owning.owners_kept}
+use Rattle.plan_meaning.proofs.{KindRules.shapes_kept, KindRules.named_kinds_kept, Depths.depths_kept, Listed.names_in_packages_kept, Listed.package_names_kept}
+use Rattle.plan_meaning.proofs.{ResourceMarks.handles_kept, Labels.labels_kept, WorldItems.world_items_kept, NumbersInRange.numbers_kept, Places.places_kept}
+use Rattle.plan_meaning.proofs.{FunctionNames.function_names_kept, TypeOrder.order_of_types_kept, ItemOrder.order_of_items_kept, DistinctKeys.keys_are_distinct}
 
 pub rules_kept : (r : Resolve) (m : ℕ) → IsPlan (plan_of r m) → list_all (λ k. passes is_version k.name.version) r.packages.items ≡ true → IsBare r → IsValid r
 rules_kept r m is versions bare = record {

@@ -1,42 +1,23 @@
 -- The worked plan of two packages, built: valid, and of the plan's meaning. Where values lie in memory is left open.
 use Rattle.std.proofs.Common.{◌≡◌, ℕ, ◌<◌, ◌^◌, List, [], ◌∷◌, length, refl, codes, Vec, String, arith, lit<, Some, None, Option, rules}
-use Rattle.std.specs.declared.alloc.Global.{Global}
-use Rattle.std.specs.declared.hash.FoldHasher.{FoldHasher}
-use Rattle.std.specs.declared.hash.BuildHasherDefault.{BuildHasherDefault}
+use Rattle.std.specs.declared.{alloc.Global.Global, hash.FoldHasher.FoldHasher, hash.BuildHasherDefault.BuildHasherDefault}
 use denote.RawPtr.{null_ptr}
-use Rattle.std.specs.Str.{IsUtf8}
-use Rattle.std.specs.Prelude.{◌↔◌}
-use Rattle.indexmap.specs.IndexMap.{IndexMap}
-use Rattle.indexmap.specs.Layout.{hash_map}
-use Rattle.wit_model.specs.declared.model.Resolve.{Resolve}
-use Rattle.wit_model.specs.declared.model.Interface.{Interface}
-use Rattle.wit_model.specs.declared.model.TypeId.{TypeId}
-use Rattle.wit_model.specs.declared.model.TypeDef.{TypeDef}
-use Rattle.wit_model.specs.declared.model.TypeDefKind.{TypeDefKind}
+use Rattle.std.specs.{Str.IsUtf8, Prelude.◌↔◌}
+use Rattle.indexmap.specs.{IndexMap.IndexMap, Layout.hash_map}
+use Rattle.wit_model.specs.declared.model.{Resolve.Resolve, Interface.Interface, TypeDefKind.TypeDefKind, «Type».«Type» as ValueType, FunctionKind.FunctionKind}
+use Rattle.wit_model.specs.declared.model.{TypeId.TypeId, TypeDef.TypeDef, TypeOwner.TypeOwner, Function.Function, World.World, WorldItem.WorldItem, Docs.Docs}
+use Rattle.wit_model.specs.{Valid.IsValid, Meant.Meant, Meaning.PackageMeaning}
+use Rattle.plan_meaning.specs.{PlanMeaning.plan_meaning, Built.IsBuilt}
+use Rattle.plan_meaning.proofs.{Valid.built_is_valid, PackageMeans.package_means, WholePlan.whole_plan, WholePlan.is_plan, WholePlan.is_package_plan}
+use Rattle.base_lemmas.proofs.Numbers.{utf8-a, utf8-b, utf8-constructor, utf8-f, utf8-h, utf8-i, utf8-j, utf8-k, utf8-method, utf8-p, utf8-pkg, utf8-r, utf8-s, utf8-self, utf8-t, utf8-w, utf8-x}
 use Rattle.wit_model.specs.declared.model.TypeDefKind.TheVariants as kind
-use Rattle.wit_model.specs.declared.model.TypeOwner.{TypeOwner}
 use Rattle.wit_model.specs.declared.model.TypeOwner.TheVariants as owner
 use Rattle.wit_model.specs.declared.model.Handle.TheVariants as handle
-use Rattle.wit_model.specs.declared.model.«Type».{«Type» as ValueType}
 use Rattle.wit_model.specs.declared.model.«Type».TheVariants as ty
-use Rattle.wit_model.specs.declared.model.Function.{Function}
-use Rattle.wit_model.specs.declared.model.FunctionKind.{FunctionKind}
 use Rattle.wit_model.specs.declared.model.FunctionKind.TheVariants as call
-use Rattle.wit_model.specs.declared.model.World.{World}
 use Rattle.wit_model.specs.declared.model.WorldKey.TheVariants as key
-use Rattle.wit_model.specs.declared.model.WorldItem.{WorldItem}
 use Rattle.wit_model.specs.declared.model.WorldItem.TheVariants as item
-use Rattle.wit_model.specs.declared.model.Docs.{Docs}
 use Rattle.wit_model.specs.declared.model.Stability.TheVariants as stability
-use Rattle.wit_model.specs.Valid.{IsValid}
-use Rattle.wit_model.specs.Meant.{Meant}
-use Rattle.wit_model.specs.Meaning.{PackageMeaning}
-use Rattle.plan_meaning.specs.PlanMeaning.{plan_meaning}
-use Rattle.plan_meaning.specs.Built.{IsBuilt}
-use Rattle.plan_meaning.proofs.Valid.{built_is_valid}
-use Rattle.plan_meaning.proofs.PackageMeans.{package_means}
-use Rattle.plan_meaning.proofs.WholePlan.{whole_plan, is_plan, is_package_plan}
-use Rattle.base_lemmas.proofs.Numbers.{utf8-a, utf8-b, utf8-constructor, utf8-f, utf8-h, utf8-i, utf8-j, utf8-k, utf8-method, utf8-p, utf8-pkg, utf8-r, utf8-s, utf8-self, utf8-t, utf8-w, utf8-x}
 
 module _ (alloc : Global) (hasher : BuildHasherDefault FoldHasher) where
   abbrev vec_of : {X : Type 0} → (xs : List X) → length xs < 2 ^ 63 → Vec X Global

@@ -1,24 +1,19 @@
 -- A worked example: the plan of two packages, with uses across them. It has a resource, an inline interface, a type of a world, an
 -- interface under a label, an external id, and an interface of the other package that no world shows.
 use Rattle.std.proofs.Common.{rules as std_rules, ◌≡◌, refl, sym, ap, ℕ, zero, suc, Bool, true, false, List, [], ◌∷◌, Option, Some, None, subst}
-use Rattle.std.specs.Prelude.{codes}
-use Rattle.std.specs.List.{list_any}
-use Rattle.std.specs.FinMap.{from_entries}
-use Rattle.wit_model.specs.declared.model.TypeOwner.{TypeOwner}
-use Rattle.wit_model.specs.declared.model.TypeOwner.TheVariants as owner
-use Rattle.wit_model.specs.declared.model.FunctionKind.{FunctionKind}
-use Rattle.wit_model.specs.declared.model.FunctionKind.TheVariants as call
-use Rattle.wit_model.specs.Text.{Text}
-use Rattle.wit_model.specs.Tree as tree
+use Rattle.std.proofs.lemmas.Option.{same_Some as same-some}
+use Rattle.std.specs.{Prelude.codes, List.list_any, FinMap.from_entries}
+use Rattle.wit_model.specs.declared.model.{TypeOwner.TypeOwner, FunctionKind.FunctionKind}
+use Rattle.wit_model.specs.{Text.Text, Meaning.FunctionMeaning, Meaning.TypeMeaning, Meaning.Item}
 use Rattle.wit_model.specs.Tree.{Tree, Primitive, Place, Form, list_tree, own_tree, borrow_tree, result_tree}
-use Rattle.wit_model.specs.Meaning.{FunctionMeaning, TypeMeaning, Item}
 use Rattle.plan_meaning.specs.Shapes.{part_tree}
 use Rattle.plan_meaning.specs.Plan.{Plan, PlannedKind, resource, alias, formed, PlannedType, PlannedFunction, PlannedInterface, interface, function, declares, label, path_of, PlannedWorld, met_in, resource_marks, trees_in, interface_in}
-use Rattle.plan_meaning.specs.PlanMeaning.{plan_meaning}
-use Rattle.plan_meaning.specs.PlanRules as rules
-use Rattle.plan_meaning.specs.PlanRules.{IsPlan, IsPackagePlan, IsWanted, shown, used}
+use Rattle.plan_meaning.specs.{PlanMeaning.plan_meaning, PlanRules.IsPlan, PlanRules.IsPackagePlan, PlanRules.IsWanted, PlanRules.shown, PlanRules.used}
 use Rattle.plan_meaning.proofs.Lists.{no_true}
-use Rattle.std.proofs.lemmas.Option.{same_Some as same-some}
+use Rattle.wit_model.specs.declared.model.TypeOwner.TheVariants as owner
+use Rattle.wit_model.specs.declared.model.FunctionKind.TheVariants as call
+use Rattle.wit_model.specs.Tree as tree
+use Rattle.plan_meaning.specs.PlanRules as rules
 
 -- ---- types: those of s:r/j, s:r/k, a:b/i and a:b/s, the world's and the inline interface's, with unnamed ones between them
 

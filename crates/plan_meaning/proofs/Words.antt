@@ -1,38 +1,29 @@
 -- The words of a plan, on the plan that a `Resolve` is built from, are those of the `Resolve`.
 use Rattle.std.proofs.Common.{◌≡◌, refl, sym, ap, ◌∙◌, ℕ, ◌+◌, false, not, ◌==◌, filter, List, [], ◌∷◌, ◌++◌, map, filter_map, flat_map, option_map, option_and_then, option_to_list, Option, Some, None, is_some, append-nil, String, rules}
+use Rattle.std.proofs.lemmas.Option.{slice_get-map as get_of_map}
 use Rattle.std.specs.declared.alloc.Global.{Global}
-use Rattle.std.specs.List.{cons_option}
-use Rattle.std.specs.Option.{option_map_or}
-use Rattle.wit_model.specs.declared.model.Resolve.{Resolve}
-use Rattle.wit_model.specs.declared.model.Interface.{Interface}
-use Rattle.wit_model.specs.declared.model.PackageId.{PackageId}
-use Rattle.wit_model.specs.declared.model.TypeDef.{TypeDef}
-use Rattle.wit_model.specs.declared.model.TypeDefKind.{TypeDefKind}
-use Rattle.wit_model.specs.declared.model.TypeDefKind.TheVariants as kind
-use Rattle.wit_model.specs.declared.model.TypeOwner.{TypeOwner}
-use Rattle.wit_model.specs.declared.model.TypeOwner.TheVariants as owner
-use Rattle.wit_model.specs.declared.model.Handle.TheVariants as handle
-use Rattle.wit_model.specs.declared.model.«Type».{«Type» as ValueType}
-use Rattle.wit_model.specs.declared.model.«Type».TheVariants as ty
-use Rattle.wit_model.specs.declared.model.Function.{Function}
+use Rattle.std.specs.{List.cons_option, Option.option_map_or}
+use Rattle.wit_model.specs.declared.model.{Resolve.Resolve, TypeDef.TypeDef, Function.Function}
+use Rattle.wit_model.specs.declared.model.{Interface.Interface, PackageId.PackageId, TypeDefKind.TypeDefKind, TypeOwner.TypeOwner, «Type».«Type» as ValueType}
 use Rattle.wit_model.specs.Text.{Text, text_of, optional_text}
-use Rattle.wit_model.specs.Names.{path_in}
+use Rattle.wit_model.specs.{Names.path_in, Uses.alias_target, Uses.owner_interface, Uses.used_interface, Uses.direct_deps, Uses.once}
 use Rattle.wit_model.specs.Tree.{Form, Tree, Place, Declaration, type_, node, children, child, given, named, is_given}
-use Rattle.wit_model.specs.Types as types
 use Rattle.wit_model.specs.Types.{number_of, tree_of, declared_by, tree_of_declaration, tree_of_definition, trees_of}
 use Rattle.wit_model.specs.Lookup.{package_at, type_at, path_in_package, path_of_interface, interface_path, place_of_path, place_of, resource_of}
-use Rattle.wit_model.specs.Parts as parts
 use Rattle.wit_model.specs.Parts.{met_by, met_of, met_inside, numbered_from, same_owner, function_types}
-use Rattle.wit_model.specs.Uses as uses
-use Rattle.wit_model.specs.Uses.{alias_target, owner_interface, used_interface, direct_deps, once}
-use Rattle.plan_meaning.specs.Shapes.{part_tree}
+use Rattle.plan_meaning.specs.{Shapes.part_tree, PlanRules.direct_uses}
 use Rattle.plan_meaning.specs.Plan.{Plan, path_of_planned, path_at, place_in, part_number, kind_numbers, function_parts, function_numbers, met_at, met_in, used_by_numbers, has_owner, declared_as, tree_of_planned, trees_in, alias_number, interface_used_by, interfaces_used_by, type_in, package_in}
-use Rattle.plan_meaning.specs.PlanRules.{direct_uses}
 use Rattle.plan_meaning.specs.Built.{part_of, given_parts, planned_kind, planned_type, planned_function, planned_interface, planned_world, planned_package}
 use Rattle.plan_meaning.proofs.ShapeLaws.{part_behind}
 use Rattle.plan_meaning.proofs.Lists.{grow_of_map, same_grow, numbered_of_map, option_of_map, same_then, then_there, or_there}
 use Rattle.base_lemmas.proofs.Lists.{filter_of_map, map_of_map, same_map}
-use Rattle.std.proofs.lemmas.Option.{slice_get-map as get_of_map}
+use Rattle.wit_model.specs.declared.model.TypeDefKind.TheVariants as kind
+use Rattle.wit_model.specs.declared.model.TypeOwner.TheVariants as owner
+use Rattle.wit_model.specs.declared.model.Handle.TheVariants as handle
+use Rattle.wit_model.specs.declared.model.«Type».TheVariants as ty
+use Rattle.wit_model.specs.Types as types
+use Rattle.wit_model.specs.Parts as parts
+use Rattle.wit_model.specs.Uses as uses
 
 -- the plan that a `Resolve` is built from
 abbrev pub plan_of : Resolve → ℕ → Plan

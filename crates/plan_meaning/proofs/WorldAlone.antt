@@ -1,40 +1,21 @@
 -- A world that is built from a plan of it means what the plan means as a world.
 use Rattle.std.proofs.Common.{◌≡◌, refl, sym, ap, ◌∙◌, ℕ, true, [], map, filter_map, option_map, option_and_then, Option, Some, None, slice_get, unwrap_or, is_some, subst}
-use Rattle.std.specs.Prelude.{◌↔◌}
-use Rattle.std.specs.List.{Contains}
-use Rattle.std.specs.FinMap.{from_entries}
-use Rattle.std.proofs.lemmas.Bool.{eqb-true}
-use Rattle.wit_model.specs.declared.model.Resolve.{Resolve}
-use Rattle.wit_model.specs.declared.model.Package.{Package}
-use Rattle.wit_model.specs.declared.model.PackageId.{PackageId}
-use Rattle.wit_model.specs.declared.model.Interface.{Interface}
-use Rattle.wit_model.specs.declared.model.World.{World}
-use Rattle.wit_model.specs.Text.{Text, TextMap, text_of}
+use Rattle.std.proofs.lemmas.{Bool.eqb-true, Option.slice_get-map as get_of_map}
+use Rattle.std.specs.{Prelude.◌↔◌, List.Contains, FinMap.from_entries}
+use Rattle.wit_model.specs.declared.model.{Resolve.Resolve, Package.Package, PackageId.PackageId, Interface.Interface, World.World}
+use Rattle.wit_model.specs.{Text.Text, Text.TextMap, Text.text_of, Uses.has, Uses.items_of, Uses.shown_by, Rules.is_id}
 use Rattle.wit_model.specs.Lookup.{package_at, interface_at, world_at, interface_path, path_of_interface, identity_of}
-use Rattle.wit_model.specs.Uses as uses
-use Rattle.wit_model.specs.Uses.{has, items_of, shown_by}
-use Rattle.wit_model.specs.Meaning.{InterfaceMeaning, WorldPackage}
-use Rattle.wit_model.specs.Meant as meant
-use Rattle.wit_model.specs.Meant.{MeantWorld, interface_meaning_at, package_of_world}
-use Rattle.wit_model.specs.Rules.{is_id}
-use Rattle.wit_model.specs.Valid.{IsValid}
-use Rattle.wit_model.proofs.Elements.{has-contains, contains-has}
-use Rattle.plan_meaning.specs.Plan.{Plan, PlannedWorld, package_in}
-use Rattle.plan_meaning.specs.PlanRules as rules
-use Rattle.plan_meaning.specs.PlanRules.{IsWorldPlan}
-use Rattle.plan_meaning.specs.PlanMeaning as planned
-use Rattle.plan_meaning.specs.PlanMeaning.{plan_world_meaning, shown_entry}
-use Rattle.plan_meaning.specs.Built.{IsBuilt, planned_interface, planned_world, planned_package}
-use Rattle.plan_meaning.proofs.Lists.{no_true}
-use Rattle.wit_model.proofs.UsesLemmas.{has_filter, filter_has}
-use Rattle.plan_meaning.proofs.Words.{plan_of}
-use Rattle.plan_meaning.proofs.Meanings.{world_is}
-use Rattle.plan_meaning.proofs.Reaching.{shows_is}
+use Rattle.wit_model.specs.{Meaning.InterfaceMeaning, Meaning.WorldPackage, Meant.MeantWorld, Meant.interface_meaning_at, Meant.package_of_world, Valid.IsValid}
+use Rattle.wit_model.proofs.{Elements.has-contains, Elements.contains-has, UsesLemmas.has_filter, UsesLemmas.filter_has, MeantLemmas.meaning_there}
+use Rattle.plan_meaning.specs.{Plan.Plan, Plan.PlannedWorld, Plan.package_in, PlanMeaning.plan_world_meaning, PlanMeaning.shown_entry}
+use Rattle.plan_meaning.specs.{PlanRules.IsWorldPlan, Built.IsBuilt, Built.planned_interface, Built.planned_world, Built.planned_package}
+use Rattle.plan_meaning.proofs.{Lists.no_true, Words.plan_of, Meanings.world_is, Reaching.shows_is, Valid.plan_is, Valid.built_is_valid}
 use Rattle.plan_meaning.proofs.PackageMeans.{path_there, named, shown_is, shown_of, entries_are}
-use Rattle.plan_meaning.proofs.Valid.{plan_is, built_is_valid}
 use Rattle.base_lemmas.proofs.Lists.{get_back}
-use Rattle.std.proofs.lemmas.Option.{slice_get-map as get_of_map}
-use Rattle.wit_model.proofs.MeantLemmas.{meaning_there}
+use Rattle.wit_model.specs.Uses as uses
+use Rattle.wit_model.specs.Meant as meant
+use Rattle.plan_meaning.specs.PlanRules as rules
+use Rattle.plan_meaning.specs.PlanMeaning as planned
 
 module _ (r : Resolve) (m : ℕ) (is : IsWorldPlan (plan_of r m)) (v : IsValid r) (w : World) (same : planned_world w ≡ is.world) where
   shown_are : ◌≡◌ {A = TextMap InterfaceMeaning} (from_entries (filter_map (shown_entry (plan_of r m)) (map planned_interface r.interfaces.items)))

@@ -1,35 +1,22 @@
 -- Items of worlds stand under their keys.
 use Rattle.std.proofs.Common.{◌≡◌, refl, sym, ap, ◌∙◌, ℕ, true, false, ◌&&◌, is_some}
-use Rattle.std.specs.List.{list_all}
-use Rattle.std.specs.Option.{option_map_or}
-use Rattle.wit_model.specs.declared.model.Resolve.{Resolve}
-use Rattle.wit_model.specs.declared.model.WorldKey.{WorldKey}
-use Rattle.wit_model.specs.declared.model.WorldKey.TheVariants as key
-use Rattle.wit_model.specs.declared.model.WorldItem.{WorldItem}
-use Rattle.wit_model.specs.declared.model.WorldItem.TheVariants as item
-use Rattle.wit_model.specs.declared.model.TypeOwner.{TypeOwner}
-use Rattle.wit_model.specs.Text.{Text, text_of, optional_text}
-use Rattle.wit_model.specs.Lookup.{interface_at, type_at}
-use Rattle.wit_model.specs.Parts.{same_owner}
-use Rattle.wit_model.specs.Uses as uses
-use Rattle.wit_model.specs.Rules as rules
-use Rattle.wit_model.specs.Rules.{passes, is_id, text_is}
-use Rattle.wit_model.specs.Valid.{Keeps, world_items, as_world}
-use Rattle.wit_model.proofs.Entries.{worlds_keep}
-use Rattle.plan_meaning.specs.Plan as plan
-use Rattle.plan_meaning.specs.PlanRules as planned
+use Rattle.std.proofs.lemmas.{Bool.and_from as both, Option.slice_get-map as get_of_map}
+use Rattle.std.specs.{List.list_all, Option.option_map_or}
+use Rattle.wit_model.specs.declared.model.{Resolve.Resolve, WorldKey.WorldKey, WorldItem.WorldItem, TypeOwner.TypeOwner}
+use Rattle.wit_model.specs.{Text.Text, Text.text_of, Text.optional_text, Lookup.interface_at, Lookup.type_at, Valid.Keeps, Valid.world_items, Valid.as_world}
+use Rattle.wit_model.specs.{Parts.same_owner, Rules.passes, Rules.is_id, Rules.text_is}
+use Rattle.wit_model.proofs.{Entries.worlds_keep, RulesLemmas.each_by_number}
 use Rattle.plan_meaning.specs.PlanRules.{IsPlan, bears}
 use Rattle.plan_meaning.specs.Built.{planned_type, planned_function, planned_interface, planned_key, planned_item}
-use Rattle.plan_meaning.proofs.Lists.{no_true}
-use Rattle.plan_meaning.proofs.Words.{plan_of}
-use Rattle.plan_meaning.proofs.KindRules.{has_text}
-use Rattle.plan_meaning.proofs.Listed.{there, passes_weaker, bears_is}
-use Rattle.base_lemmas.proofs.Bools.{left_of as first_true, right_of as second_true}
-use Rattle.std.proofs.lemmas.Bool.{and_from as both}
-use Rattle.std.proofs.lemmas.Option.{slice_get-map as get_of_map}
-use Rattle.base_lemmas.proofs.Elements.{all_weaker}
-use Rattle.wit_model.proofs.RulesLemmas.{each_by_number}
-use Rattle.plan_meaning.proofs.FunctionRules.{imports_there, exports_there}
+use Rattle.plan_meaning.proofs.{Lists.no_true, Listed.there, Listed.passes_weaker, Listed.bears_is, FunctionRules.imports_there, FunctionRules.exports_there}
+use Rattle.plan_meaning.proofs.{Words.plan_of, KindRules.has_text}
+use Rattle.base_lemmas.proofs.{Bools.left_of as first_true, Bools.right_of as second_true, Elements.all_weaker}
+use Rattle.wit_model.specs.declared.model.WorldKey.TheVariants as key
+use Rattle.wit_model.specs.declared.model.WorldItem.TheVariants as item
+use Rattle.wit_model.specs.Uses as uses
+use Rattle.wit_model.specs.Rules as rules
+use Rattle.plan_meaning.specs.Plan as plan
+use Rattle.plan_meaning.specs.PlanRules as planned
 
 pub item_interface_is : (x : WorldItem) → plan.item_interface (planned_item x) ≡ uses.item_interface x
 item_interface_is (item.Interface id stability docs external_id) = refl

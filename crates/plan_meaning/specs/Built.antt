@@ -3,31 +3,17 @@
 use Rattle.std.specs.Prelude.{◌≡◌, ℕ, ◌+◌, Bool, true, false, ◌&&◌, List, [], ◌∷◌, map, Option, Some, None, option_map, is_some, is_none}
 use Rattle.std.specs.List.{list_all}
 use Rattle.indexmap.specs.IndexMap.{values}
-use Rattle.wit_model.specs.declared.model.Resolve.{Resolve}
-use Rattle.wit_model.specs.declared.model.Package.{Package}
-use Rattle.wit_model.specs.declared.model.Interface.{Interface}
-use Rattle.wit_model.specs.declared.model.World.{World}
-use Rattle.wit_model.specs.declared.model.WorldKey.{WorldKey}
-use Rattle.wit_model.specs.declared.model.WorldKey.TheVariants as key
-use Rattle.wit_model.specs.declared.model.WorldItem.{WorldItem}
-use Rattle.wit_model.specs.declared.model.WorldItem.TheVariants as item
-use Rattle.wit_model.specs.declared.model.TypeDef.{TypeDef}
-use Rattle.wit_model.specs.declared.model.TypeDefKind.{TypeDefKind}
-use Rattle.wit_model.specs.declared.model.TypeDefKind.TheVariants as kind
-use Rattle.wit_model.specs.declared.model.Handle.{Handle}
-use Rattle.wit_model.specs.declared.model.Handle.TheVariants as handle
-use Rattle.wit_model.specs.declared.model.«Type».{«Type» as ValueType}
-use Rattle.wit_model.specs.declared.model.«Type».TheVariants as ty
-use Rattle.wit_model.specs.declared.model.Function.{Function}
+use Rattle.wit_model.specs.declared.model.{Resolve.Resolve, Package.Package, World.World, WorldKey.WorldKey, TypeDef.TypeDef, Handle.Handle, Function.Function}
+use Rattle.wit_model.specs.declared.model.{Interface.Interface, WorldItem.WorldItem, TypeDefKind.TypeDefKind, «Type».«Type» as ValueType, Stability.Stability}
 use Rattle.wit_model.specs.declared.model.Docs.{Docs}
-use Rattle.wit_model.specs.declared.model.Stability.{Stability}
-use Rattle.wit_model.specs.declared.model.Stability.TheVariants as stability
-use Rattle.wit_model.specs.Text.{text_of, optional_text}
-use Rattle.wit_model.specs.Names.{is_version}
-use Rattle.wit_model.specs.Tree.{Form}
-use Rattle.wit_model.specs.Lookup.{identity_of}
-use Rattle.wit_model.specs.Rules.{passes}
+use Rattle.wit_model.specs.{Text.text_of, Text.optional_text, Names.is_version, Tree.Form, Lookup.identity_of, Rules.passes}
 use Rattle.plan_meaning.specs.Plan.{Plan, PlannedKind, resource, alias, formed, PlannedType, PlannedFunction, PlannedInterface, PlannedKey, label, path_of, PlannedItem, interface, function, declares, PlannedWorld, PlannedPackage}
+use Rattle.wit_model.specs.declared.model.WorldKey.TheVariants as key
+use Rattle.wit_model.specs.declared.model.WorldItem.TheVariants as item
+use Rattle.wit_model.specs.declared.model.TypeDefKind.TheVariants as kind
+use Rattle.wit_model.specs.declared.model.Handle.TheVariants as handle
+use Rattle.wit_model.specs.declared.model.«Type».TheVariants as ty
+use Rattle.wit_model.specs.declared.model.Stability.TheVariants as stability
 
 -- ---- types
 

@@ -2,22 +2,15 @@
 -- (Component Model WIT.md, "Package Format").
 use Rattle.std.specs.Prelude.{◌≡◌, ℕ, ◌<◌, ◌+◌, Bool, true, false, ◌&&◌, ◌==◌, nat_lt, if◌then◌else◌, List, [], ◌∷◌, length, filter_map, Option, Some, None, option_map, slice_get}
 use Rattle.std.specs.List.{AllByRecursion, AllZip, Contains, list_all}
-use Rattle.wit_model.specs.Text.{Text}
-use Rattle.wit_model.specs.Tree.{Form}
-use Rattle.wit_model.specs.Lookup.{is_async}
-use Rattle.wit_model.specs.Rules.{each_from, is_id}
-use Rattle.comp_meaning.specs.Follow.{Scope}
-use Rattle.comp_meaning.specs.Reads.{Member, package_with, world_with}
-use Rattle.wit_model.specs.Names.{path_in, read_path}
-use Rattle.plan_meaning.specs.Shapes.{node_shape}
-use Rattle.plan_meaning.specs.Plan as plan
+use Rattle.wit_model.specs.{Text.Text, Tree.Form, Lookup.is_async, Rules.each_from, Rules.is_id, Names.path_in, Names.read_path}
+use Rattle.comp_meaning.specs.{Follow.Scope, Reads.Member, Reads.package_with, Reads.world_with}
+use Rattle.plan_meaning.specs.{Shapes.node_shape, Renumbering.IsPart, Renumbering.AreKept}
 use Rattle.plan_meaning.specs.Plan.{Plan, PlannedKind, PlannedType, PlannedFunction, PlannedInterface, PlannedKey, PlannedItem, PlannedWorld, PlannedPackage, package_in, interface_in, world_in, type_in, path_of_planned, kind_numbers}
-use Rattle.plan_meaning.specs.PlanMeaning.{key_text, plan_meaning, plan_world_meaning}
-use Rattle.plan_meaning.specs.Renumbering.{IsPart, AreKept}
+use Rattle.plan_meaning.specs.{PlanMeaning.key_text, PlanMeaning.plan_meaning, PlanMeaning.plan_world_meaning, NumberedRules.Fact, NumberedRules.is_form}
 use Rattle.plan_meaning.specs.NumberedViews.{FunctionShape, Tables, path_text, place_at, function_at, AreTables, NumberedType, NumberedFunction, NumberedView, NumberedSight}
-use Rattle.plan_meaning.specs.NumberedRules.{Fact, is_form}
 use Rattle.plan_meaning.specs.NumberedWorlds.{NumberedKey, path, label, implementing, NumberedShown, instance, function, declares, NumberedSeen, NumberedScope, Shows, sights_of_scope}
 use Rattle.plan_meaning.specs.NumberedMembers.{Homes, HomesStand, is_of_package, NumberedPart, world, interface, NumberedMember, sights_of_members, IsMember, are_package, is_one_world, IsKnownSight}
+use Rattle.plan_meaning.specs.Plan as plan
 
 -- the functions of the first view of the place that shows functions
 abbrev pub functions_seen : ℕ → List NumberedSight → List (Text × NumberedFunction)

@@ -1,9 +1,6 @@
 -- An interface that bytes show often is gathered once: one view of each path is enough (Component Model WIT.md, "Package Format").
-use Rattle.std.specs.Prelude.{◌≡◌, true, List, map}
-use Rattle.std.specs.List.{Contains}
-use Rattle.std.specs.FinMap.{from_entries}
-use Rattle.wit_model.specs.Text.{TextMap}
-use Rattle.wit_model.specs.Meaning.{InterfaceMeaning}
+use Rattle.std.specs.{Prelude.◌≡◌, Prelude.true, Prelude.List, Prelude.map, List.Contains, FinMap.from_entries}
+use Rattle.wit_model.specs.{Text.TextMap, Meaning.InterfaceMeaning}
 use Rattle.comp_meaning.specs.Reads.{Sight, all_agree, seen_meaning}
 
 -- Some of these, one of each path at least

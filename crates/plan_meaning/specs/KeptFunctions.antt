@@ -1,23 +1,15 @@
 -- The functions of a plan whose types are those of shapes that are kept, where what was read obeys the rules. Then each passes tests of its
 -- numbers, its labels, its levels and its resource (WIT.md, "Functions"; Explainer.md, "Import and Export Definitions").
 use Rattle.std.specs.Prelude.{◌≡◌, ℕ, true, List, [], Option, Some, None, slice_get}
-use Rattle.wit_model.specs.declared.model.TypeOwner.{TypeOwner}
-use Rattle.wit_model.specs.declared.model.TypeId.{TypeId}
-use Rattle.wit_model.specs.declared.model.FunctionKind.{FunctionKind}
-use Rattle.wit_model.specs.declared.model.FunctionKind.TheVariants as call
-use Rattle.wit_model.specs.Text.{Text}
-use Rattle.wit_model.specs.Names.{is_label, constructor_name, method_name, static_name}
-use Rattle.wit_model.specs.Tree.{Place}
-use Rattle.wit_model.specs.Lookup.{resource_of}
-use Rattle.comp_meaning.specs.Rules as rules
+use Rattle.wit_model.specs.declared.model.{TypeOwner.TypeOwner, TypeId.TypeId, FunctionKind.FunctionKind}
+use Rattle.wit_model.specs.{Text.Text, Names.is_label, Names.constructor_name, Names.method_name, Names.static_name, Tree.Place, Lookup.resource_of}
 use Rattle.comp_meaning.specs.Rules.{is_label_behind}
-use Rattle.plan_meaning.specs.Shapes.{named_shape}
-use Rattle.plan_meaning.specs.Plan.{Plan, PlannedType, PlannedFunction, resource, type_in}
-use Rattle.plan_meaning.specs.PlanRules.{function_in_range, function_labels, function_is_shallow, is_member}
+use Rattle.plan_meaning.specs.{Shapes.named_shape, PlanRules.function_in_range, PlanRules.function_labels, PlanRules.function_is_shallow, PlanRules.is_member}
+use Rattle.plan_meaning.specs.{Plan.Plan, Plan.PlannedType, Plan.PlannedFunction, Plan.resource, Plan.type_in, GatheredPlan.FunctionBecomes}
 use Rattle.plan_meaning.specs.NumberedViews.{FunctionShape, Tables, tree_at, signature_over, AreTables}
-use Rattle.plan_meaning.specs.NumberedRules.{Fact, begins_with_self, constructs}
-use Rattle.plan_meaning.specs.GatheredPlan.{FunctionBecomes}
-use Rattle.plan_meaning.specs.KeptTypes.{TypesAreKept}
+use Rattle.plan_meaning.specs.{NumberedRules.Fact, NumberedRules.begins_with_self, NumberedRules.constructs, KeptTypes.TypesAreKept}
+use Rattle.wit_model.specs.declared.model.FunctionKind.TheVariants as call
+use Rattle.comp_meaning.specs.Rules as rules
 
 module _ (t : Tables) (known : ℕ → Fact) (kept : List ℕ) (p : Plan) (o : TypeOwner) (q : ℕ) where
   -- The type of this number is the resource of this name in the place of number q, which is the owner's.

@@ -2,21 +2,14 @@
 -- (WIT.md, "Interfaces" and "Worlds").
 use Rattle.std.specs.Prelude.{◌≡◌, ◌⊎◌, ℕ, ◌+◌, true, List, Option, Some, slice_get}
 use Rattle.std.specs.List.{list_all}
-use Rattle.wit_model.specs.declared.model.TypeOwner.{TypeOwner}
-use Rattle.wit_model.specs.declared.model.TypeOwner.TheVariants as owner
-use Rattle.wit_model.specs.declared.model.InterfaceId.{InterfaceId}
-use Rattle.wit_model.specs.Text.{Text}
-use Rattle.wit_model.specs.Parts.{same_owner}
-use Rattle.wit_model.specs.Valid.{as_interface}
-use Rattle.comp_meaning.specs.Rules as rules
-use Rattle.plan_meaning.specs.Shapes.{named_shape}
-use Rattle.plan_meaning.specs.Plan.{Plan, PlannedType, PlannedFunction, PlannedInterface, interface_in}
-use Rattle.plan_meaning.specs.PlanRules.{function_stays, has_name, type_stays}
+use Rattle.wit_model.specs.declared.model.{TypeOwner.TypeOwner, InterfaceId.InterfaceId}
+use Rattle.wit_model.specs.{Text.Text, Parts.same_owner, Valid.as_interface}
+use Rattle.plan_meaning.specs.{Shapes.named_shape, NumberedWorlds.HasPath, KeptTypes.TypesAreKept}
+use Rattle.plan_meaning.specs.{Plan.Plan, Plan.PlannedType, Plan.PlannedFunction, Plan.PlannedInterface, Plan.interface_in, NumberedRules.IsSeenFrom}
+use Rattle.plan_meaning.specs.{PlanRules.function_stays, PlanRules.has_name, PlanRules.type_stays, GatheredPlan.DeclaresKind, GatheredPlan.FunctionBecomes}
 use Rattle.plan_meaning.specs.NumberedViews.{FunctionShape, Tables, place_at, tree_at, signature_over, AllOf, PartsOf, AreTables}
-use Rattle.plan_meaning.specs.NumberedRules.{IsSeenFrom}
-use Rattle.plan_meaning.specs.NumberedWorlds.{HasPath}
-use Rattle.plan_meaning.specs.GatheredPlan.{DeclaresKind, FunctionBecomes}
-use Rattle.plan_meaning.specs.KeptTypes.{TypesAreKept}
+use Rattle.wit_model.specs.declared.model.TypeOwner.TheVariants as owner
+use Rattle.comp_meaning.specs.Rules as rules
 
 -- an interface of the plan that has a name
 pub record IsNamedInterface (p : Plan) (o : TypeOwner) : Type 0 where

@@ -2,14 +2,11 @@
 -- as a part (Explainer.md, "Type Definitions"; WIT.md, "Types").
 use Rattle.std.specs.Prelude.{◌≡◌, ℕ, ◌<◌, ◌+◌, Bool, true, false, not, List, Option, Some, slice_get}
 use Rattle.std.specs.List.{list_all}
-use Rattle.wit_model.specs.Text.{Text}
-use Rattle.wit_model.specs.Tree.{Form}
-use Rattle.plan_meaning.specs.Shapes.{node_shape, named_shape}
+use Rattle.wit_model.specs.{Text.Text, Tree.Form}
+use Rattle.plan_meaning.specs.{Shapes.node_shape, Shapes.named_shape, GatheredPlan.Becomes, GatheredPlan.FunctionBecomes}
 use Rattle.plan_meaning.specs.Plan.{Plan, PlannedKind, resource, alias, formed, PlannedType, PlannedFunction}
-use Rattle.plan_meaning.specs.PlanRules.{handles_resources, is_handle_form, takes_values}
+use Rattle.plan_meaning.specs.{PlanRules.handles_resources, PlanRules.is_handle_form, PlanRules.takes_values, KeptTypes.IsKeptForm, KeptTypes.TypesAreKept}
 use Rattle.plan_meaning.specs.NumberedViews.{FunctionShape, Tables, AreTables, PartsOf}
-use Rattle.plan_meaning.specs.GatheredPlan.{Becomes, FunctionBecomes}
-use Rattle.plan_meaning.specs.KeptTypes.{IsKeptForm, TypesAreKept}
 
 -- the mark of a type by its kind: a resource has one, another name has that of what it names, and a form has none
 abbrev pub MarkedBy : Tables → List ℕ → Plan → (ℕ → Bool) → PlannedKind → Bool → Type 0

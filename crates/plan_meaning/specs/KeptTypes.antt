@@ -2,18 +2,14 @@
 -- (WIT.md, "Types"; Binary.md, "Type Validation").
 use Rattle.std.specs.Prelude.{◌≡◌, ℕ, ◌<◌, ◌+◌, true, nat_le, nat_lt, List, Option, Some, None, slice_get}
 use Rattle.std.specs.List.{AllZip, list_all}
-use Rattle.wit_model.specs.declared.model.TypeOwner.TheVariants as owner
-use Rattle.wit_model.specs.Text.{Text}
-use Rattle.wit_model.specs.Names.{is_label}
-use Rattle.wit_model.specs.Tree.{Place, Form, levels}
-use Rattle.wit_model.specs.Rules.{each_from}
-use Rattle.comp_meaning.specs.Rules as rules
+use Rattle.wit_model.specs.{Text.Text, Names.is_label, Tree.Place, Tree.Form, Tree.levels, Rules.each_from}
 use Rattle.comp_meaning.specs.Rules.{most_levels}
-use Rattle.plan_meaning.specs.Shapes.{node_shape, named_shape}
-use Rattle.plan_meaning.specs.Plan.{Plan, PlannedType, formed, place_in, kind_numbers}
+use Rattle.plan_meaning.specs.{Shapes.node_shape, Shapes.named_shape, Plan.Plan, Plan.PlannedType, Plan.formed, Plan.place_in, Plan.kind_numbers}
 use Rattle.plan_meaning.specs.PlanRules.{is_form, type_labels, has_shape, kind_is_named, parts_are_shallow}
 use Rattle.plan_meaning.specs.NumberedViews.{Tables, place_at, tree_at, declaration_of, AllOf, AreTables}
 use Rattle.plan_meaning.specs.GatheredPlan.{Becomes, DeclaresKind, Keeps}
+use Rattle.wit_model.specs.declared.model.TypeOwner.TheVariants as owner
+use Rattle.comp_meaning.specs.Rules as rules
 
 -- The type of a shape that is kept. An unnamed one is a part of what was read in a place; a named one declares under a label what a name
 -- may be declared as in its place, and stands behind that.

@@ -1,17 +1,10 @@
 -- That a `Resolve` holds what its package, or its world, means, and nothing else.
 use Rattle.std.specs.Prelude.{◌≡◌, ℕ, Bool, true, false, ◌&&◌, ◌||◌, ◌==◌, [], ◌∷◌, filter_map, Some, is_some, is_none}
 use Rattle.std.specs.List.{Contains, list_any}
-use Rattle.wit_model.specs.declared.model.Resolve.{Resolve}
-use Rattle.wit_model.specs.declared.model.Package.{Package}
-use Rattle.wit_model.specs.declared.model.Interface.{Interface}
-use Rattle.wit_model.specs.declared.model.World.{World}
-use Rattle.wit_model.specs.declared.model.TypeDef.{TypeDef}
-use Rattle.wit_model.specs.Lookup.{package_at, interface_at, world_at, type_at}
-use Rattle.wit_model.specs.Parts.{kind_numbers, function_numbers}
+use Rattle.wit_model.specs.declared.model.{Resolve.Resolve, Package.Package, Interface.Interface, World.World, TypeDef.TypeDef}
+use Rattle.wit_model.specs.{Lookup.package_at, Lookup.interface_at, Lookup.world_at, Lookup.type_at, Valid.functions_of_interface, Valid.functions_of_world}
+use Rattle.wit_model.specs.{Parts.kind_numbers, Parts.function_numbers, Meant.is_foreign, Rules.has_items}
 use Rattle.wit_model.specs.Uses.{has, item_interface, items_of, worlds_of, reached_by_package, is_shown_in}
-use Rattle.wit_model.specs.Meant.{is_foreign}
-use Rattle.wit_model.specs.Rules.{has_items}
-use Rattle.wit_model.specs.Valid.{functions_of_interface, functions_of_world}
 
 -- a part of a type, or of a function
 abbrev pub is_part_of : Resolve → ℕ → Bool

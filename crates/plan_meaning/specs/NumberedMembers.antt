@@ -1,17 +1,14 @@
 -- What is exported at the top, and the rules of reading on a package and on one world, in numbers (WIT.md, "Package Format").
 use Rattle.std.specs.Prelude.{◌≡◌, ℕ, Bool, true, false, not, ◌&&◌, ◌||◌, ◌==◌, List, [], ◌∷◌, ◌++◌, map, Option, Some, None, option_map, is_none, unwrap_or, slice_get}
 use Rattle.std.specs.List.{AllByRecursion, AllZip, flat_map, filter, list_all, list_any}
-use Rattle.std.specs.Option.{option_map_or}
-use Rattle.std.specs.FinMap.{from_entries}
-use Rattle.wit_model.specs.Text.{Text, text_eq}
-use Rattle.wit_model.specs.Names.{PackageIdentity, path_in, read_path}
-use Rattle.wit_model.specs.Meaning.{PackageMeaning, WorldPackage}
+use Rattle.std.specs.{Option.option_map_or, FinMap.from_entries}
+use Rattle.wit_model.specs.{Text.Text, Text.text_eq, Names.PackageIdentity, Names.path_in, Names.read_path, Meaning.PackageMeaning, Meaning.WorldPackage}
 use Rattle.comp_meaning.specs.Follow.{Scope, View, each, is_filled, provided}
-use Rattle.comp_meaning.specs.Reads as reads
 use Rattle.comp_meaning.specs.Reads.{Part, Member, of_instance, seen_meaning, is_of, world_meaning, package_with, world_with}
 use Rattle.plan_meaning.specs.NumberedViews.{Tables, path_at, path_text, AreTables, NumberedView, view_of, NumberedSight, ViewPasses, IsSight, agree_in_numbers}
 use Rattle.plan_meaning.specs.NumberedRules.{Fact, is_interface, IsKnown}
 use Rattle.plan_meaning.specs.NumberedWorlds.{NumberedShown, instance, path, NumberedSeen, NumberedScope, Shows, sights_of_scope, HasPath}
+use Rattle.comp_meaning.specs.Reads as reads
 
 -- ---- packages
 

@@ -1,17 +1,14 @@
 -- The rules of reading on types, functions and interfaces, in numbers: what is asked of a tree is asked of a number, its shape and what is
 -- known of it (WIT.md, "Types", "Functions" and "Interfaces").
 use Rattle.std.specs.Prelude.{◌≡◌, ℕ, ◌+◌, min, Bool, true, false, not, ◌&&◌, ◌||◌, ◌==◌, nat_le, if◌then◌else◌, List, [], ◌∷◌, ◌++◌, map, Option, Some, None, option_and_then, slice_get, codes}
-use Rattle.std.specs.List.{list_all, list_any}
-use Rattle.std.specs.Option.{option_map_or}
+use Rattle.std.specs.{List.list_all, List.list_any, Option.option_map_or}
 use Rattle.wit_model.specs.Text.{Text, text_eq}
-use Rattle.wit_model.specs.Names.{is_label, constructor_name, method_name, static_name}
-use Rattle.wit_model.specs.Tree as tree
-use Rattle.wit_model.specs.Tree.{Form, Tree, Trees}
-use Rattle.comp_meaning.specs.Rules as rules
+use Rattle.wit_model.specs.{Names.is_label, Names.constructor_name, Names.method_name, Names.static_name, Tree.Form, Tree.Tree, Tree.Trees}
 use Rattle.comp_meaning.specs.Rules.{are_labels, distinct, form_labels, is_label_behind, most_levels, are_parts}
-use Rattle.plan_meaning.specs.Shapes.{Shape, first_label, IsTable}
-use Rattle.plan_meaning.specs.Plan.{part_number}
+use Rattle.plan_meaning.specs.{Shapes.Shape, Shapes.first_label, Shapes.IsTable, Plan.part_number}
 use Rattle.plan_meaning.specs.NumberedViews.{FunctionShape, Tables, place_at, tree_at, function_at, signature_over, IsPart, HasNameIn, NumberedType, NumberedView, view_of, declaration_of, AllOf, PartsOf, ViewPasses}
+use Rattle.wit_model.specs.Tree as tree
+use Rattle.comp_meaning.specs.Rules as rules
 
 -- ---- what is known of a part
 

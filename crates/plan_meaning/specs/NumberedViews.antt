@@ -2,16 +2,10 @@
 -- "Interfaces", "Worlds"). A type is a number of a table of shapes, the type of a function a number of a table of these, and a place the
 -- number of a path.
 use Rattle.std.specs.Prelude.{◌≡◌, ℕ, ◌<◌, ◌+◌, Bool, true, false, not, ◌&&◌, ◌||◌, ◌==◌, List, [], ◌∷◌, ◌++◌, length, map, Option, Some, None, option_map, unwrap_or, slice_get}
-use Rattle.std.specs.List.{AllByRecursion, Contains, list_all, find}
-use Rattle.std.specs.Option.{option_map_or}
-use Rattle.std.specs.Cmp.Lexicographic.{pointwise}
-use Rattle.wit_model.specs.Text.{Text, text_eq}
-use Rattle.wit_model.specs.Tree.{Place, Form, Tree, Declaration}
-use Rattle.wit_model.specs.Meaning.{Signature, FunctionMeaning}
+use Rattle.std.specs.{List.AllByRecursion, List.Contains, List.list_all, List.find, Option.option_map_or, Cmp.Lexicographic.pointwise}
+use Rattle.wit_model.specs.{Text.Text, Text.text_eq, Tree.Place, Tree.Form, Tree.Tree, Tree.Declaration, Meaning.Signature, Meaning.FunctionMeaning}
 use Rattle.comp_meaning.specs.Follow.{Slot, View, ShownType, place_of}
-use Rattle.comp_meaning.specs.Same.{same_option, same_tree, same_signature, stand_in}
-use Rattle.comp_meaning.specs.Reads.{Sight, all_agree}
-use Rattle.comp_meaning.specs.Agreement.{agree_with_first}
+use Rattle.comp_meaning.specs.{Same.same_option, Same.same_tree, Same.same_signature, Same.stand_in, Reads.Sight, Reads.all_agree, Agreement.agree_with_first}
 use Rattle.plan_meaning.specs.Shapes.{Shape, node_shape, named_shape, part_tree, shape_trees, IsTable}
 
 -- ---- tables

@@ -1,16 +1,12 @@
 -- The rules of reading on what uses what, and on worlds, in numbers (WIT.md, "Worlds"; Binary.md, "Import and Export Definitions").
 use Rattle.std.specs.Prelude.{◌≡◌, ℕ, Bool, true, false, not, ◌&&◌, ◌==◌, if◌then◌else◌, List, [], ◌∷◌, ◌++◌, map, Option, Some, None}
-use Rattle.std.specs.List.{AllByRecursion, flat_map, list_all}
-use Rattle.std.specs.Option.{option_map_or}
-use Rattle.wit_model.specs.Text.{Text}
-use Rattle.wit_model.specs.Names.{is_label}
-use Rattle.wit_model.specs.Uses.{has}
-use Rattle.comp_meaning.specs.Follow.{Key, Seen, Shown, Instance, Scope}
-use Rattle.comp_meaning.specs.Rules as rules
-use Rattle.comp_meaning.specs.Rules.{distinct}
-use Rattle.comp_meaning.specs.Reads as reads
+use Rattle.std.specs.{List.AllByRecursion, List.flat_map, List.list_all, Option.option_map_or}
+use Rattle.wit_model.specs.{Text.Text, Names.is_label, Uses.has}
+use Rattle.comp_meaning.specs.{Follow.Key, Follow.Seen, Follow.Shown, Follow.Instance, Follow.Scope, Rules.distinct}
 use Rattle.plan_meaning.specs.NumberedViews.{Tables, path_at, path_text, signature_at, function_at, IsPart, AllOf, PartsOf, AreTables, NumberedType, NumberedView, view_of, declaration_of, NumberedSight, sight_of, ViewPasses}
 use Rattle.plan_meaning.specs.NumberedRules.{Fact, name_at, is_declared, is_function, is_interface, is_no_part, IsKnown}
+use Rattle.comp_meaning.specs.Rules as rules
+use Rattle.comp_meaning.specs.Reads as reads
 
 -- ---- imports and exports
 

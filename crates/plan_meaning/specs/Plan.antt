@@ -1,20 +1,14 @@
 -- What is read of a package or of a world, in plain numbers and texts, before a `Resolve` is made of it. Packages, interfaces, worlds
 -- and types stand under the numbers that they get in the `Resolve` (WIT.md, "Packages", "Interfaces", "Worlds" and "Types").
 use Rattle.std.specs.Prelude.{ℕ, Bool, true, false, ◌-◌, nat_lt, if◌then◌else◌, List, [], ◌∷◌, ◌++◌, map, filter_map, flat_map, Option, Some, None, option_map, option_and_then, option_to_list, unwrap_or, slice_get}
-use Rattle.std.specs.Option.{option_map_or}
-use Rattle.std.specs.Map.{lookup}
-use Rattle.wit_model.specs.declared.model.TypeOwner.{TypeOwner}
-use Rattle.wit_model.specs.declared.model.TypeOwner.TheVariants as owner
-use Rattle.wit_model.specs.declared.model.FunctionKind.{FunctionKind}
-use Rattle.wit_model.specs.Text.{Text, text_eq}
-use Rattle.wit_model.specs.Names.{PackageIdentity, path_in}
+use Rattle.std.specs.{Option.option_map_or, Map.lookup}
+use Rattle.wit_model.specs.declared.model.{TypeOwner.TypeOwner, FunctionKind.FunctionKind}
+use Rattle.wit_model.specs.{Text.Text, Text.text_eq, Types.grow, Types.tree_of_declaration, Uses.owner_interface}
+use Rattle.wit_model.specs.{Names.PackageIdentity, Names.path_in, Lookup.place_of_path, Lookup.resource_of, Parts.met_by, Parts.numbered_from, Parts.same_owner}
 use Rattle.wit_model.specs.Tree.{Form, Tree, Place, here, Declaration, type_, children, named}
-use Rattle.wit_model.specs.Tree as tree
-use Rattle.wit_model.specs.Types.{grow, tree_of_declaration}
-use Rattle.wit_model.specs.Lookup.{place_of_path, resource_of}
-use Rattle.wit_model.specs.Parts.{met_by, numbered_from, same_owner}
-use Rattle.wit_model.specs.Uses.{owner_interface}
 use Rattle.plan_meaning.specs.Shapes.{part_tree}
+use Rattle.wit_model.specs.declared.model.TypeOwner.TheVariants as owner
+use Rattle.wit_model.specs.Tree as tree
 
 -- ---- the plan
 

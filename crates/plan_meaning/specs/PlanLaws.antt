@@ -1,17 +1,9 @@
 -- Laws of plans: a `Resolve` that is built from a plan that was read is valid, and means what the plan means.
 use Rattle.std.specs.Prelude.{◌≡◌, ◌↔◌, Some}
-use Rattle.wit_model.specs.declared.model.Resolve.{Resolve}
-use Rattle.wit_model.specs.declared.model.Package.{Package}
-use Rattle.wit_model.specs.declared.model.World.{World}
-use Rattle.wit_model.specs.Lookup.{package_at, world_at}
-use Rattle.wit_model.specs.Meaning.{PackageMeaning, WorldPackage}
-use Rattle.wit_model.specs.Meant.{Meant, MeantWorld}
-use Rattle.wit_model.specs.Valid.{IsValid}
-use Rattle.plan_meaning.specs.Plan.{Plan}
-use Rattle.plan_meaning.specs.PlanMeaning.{plan_meaning, plan_world_meaning}
-use Rattle.plan_meaning.specs.PlanRules.{IsPlan, IsPackagePlan, IsWorldPlan}
-use Rattle.plan_meaning.specs.Built.{IsBuilt}
-use Rattle.plan_meaning.specs.NothingElse.{HoldsPackageAlone, HoldsWorldAlone}
+use Rattle.wit_model.specs.declared.model.{Resolve.Resolve, Package.Package, World.World}
+use Rattle.wit_model.specs.{Lookup.package_at, Lookup.world_at, Meaning.PackageMeaning, Meaning.WorldPackage, Meant.Meant, Meant.MeantWorld, Valid.IsValid}
+use Rattle.plan_meaning.specs.{Plan.Plan, PlanMeaning.plan_meaning, PlanMeaning.plan_world_meaning, Built.IsBuilt}
+use Rattle.plan_meaning.specs.{PlanRules.IsPlan, PlanRules.IsPackagePlan, PlanRules.IsWorldPlan, NothingElse.HoldsPackageAlone, NothingElse.HoldsWorldAlone}
 
 -- A `Resolve` that is built from a plan that was read is valid.
 abbrev pub BuiltIsValid : Type 0

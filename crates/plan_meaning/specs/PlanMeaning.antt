@@ -1,15 +1,11 @@
 -- What a plan means: nothing that it doesn't hold, and the interfaces of other packages by path.
 use Rattle.std.specs.Prelude.{ℕ, if◌then◌else◌, List, [], map, filter_map, Option, None, option_map, option_and_then, unwrap_or}
-use Rattle.std.specs.Option.{option_map_or}
-use Rattle.std.specs.FinMap.{from_entries}
-use Rattle.wit_model.specs.Text.{Text}
-use Rattle.wit_model.specs.Lookup.{is_async}
-use Rattle.wit_model.specs.Rules.{is_id}
+use Rattle.std.specs.{Option.option_map_or, FinMap.from_entries}
+use Rattle.wit_model.specs.{Text.Text, Lookup.is_async, Rules.is_id, Meant.no_type, Meant.no_interface, Meant.no_world}
 use Rattle.wit_model.specs.Meaning.{Signature, FunctionMeaning, TypeMeaning, InterfaceMeaning, Item, Entry, WorldMeaning, PackageMeaning, WorldPackage}
-use Rattle.wit_model.specs.Meant.{no_type, no_interface, no_world}
 use Rattle.plan_meaning.specs.Shapes.{part_tree}
-use Rattle.plan_meaning.specs.Plan as plan
 use Rattle.plan_meaning.specs.Plan.{Plan, PlannedType, PlannedFunction, PlannedInterface, PlannedKey, PlannedItem, PlannedWorld, PlannedPackage, package_in, interface_in, world_in, type_in, path_of_planned, path_at, trees_in, declared_as}
+use Rattle.plan_meaning.specs.Plan as plan
 
 abbrev pub signature_of : Plan → PlannedFunction → Signature
 signature_of p f = record {

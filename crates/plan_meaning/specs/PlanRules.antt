@@ -1,26 +1,16 @@
 -- What holds of a plan that was read. Each is a test of numbers and labels along one list of the plan
 -- (WIT.md; Binary.md, "Type Validation" and "Import and Export Definitions").
 use Rattle.std.specs.Prelude.{◌≡◌, ℕ, Bool, true, false, ◌&&◌, ◌||◌, not, ◌==◌, nat_lt, nat_le, if◌then◌else◌, List, [], ◌∷◌, ◌++◌, map, filter, filter_map, length, count_by, sum_by, codes, Option, Some, None, option_and_then, option_to_list, is_some, is_none, slice_get}
-use Rattle.std.specs.Option.{option_map_or, option_eq}
-use Rattle.std.specs.List.{list_all, list_any}
-use Rattle.std.specs.Map.{lookup}
-use Rattle.wit_model.specs.declared.model.TypeOwner.{TypeOwner}
-use Rattle.wit_model.specs.declared.model.TypeOwner.TheVariants as owner
-use Rattle.wit_model.specs.declared.model.FunctionKind.{FunctionKind}
-use Rattle.wit_model.specs.declared.model.FunctionKind.TheVariants as call
-use Rattle.wit_model.specs.Text.{Text, text_eq}
-use Rattle.wit_model.specs.Names.{is_label, is_identity, constructor_name, method_name, static_name}
-use Rattle.wit_model.specs.Tree.{Form, levels}
-use Rattle.wit_model.specs.Lookup.{resource_of}
-use Rattle.wit_model.specs.Parts.{same_owner}
-use Rattle.wit_model.specs.Uses.{has, once, owner_interface}
+use Rattle.std.specs.{Option.option_map_or, Option.option_eq, List.list_all, List.list_any, Map.lookup}
+use Rattle.wit_model.specs.declared.model.{TypeOwner.TypeOwner, FunctionKind.FunctionKind}
+use Rattle.wit_model.specs.{Text.Text, Text.text_eq, Tree.Form, Tree.levels, Lookup.resource_of, Parts.same_owner, Uses.has, Uses.once, Uses.owner_interface}
+use Rattle.wit_model.specs.{Names.is_label, Names.is_identity, Names.constructor_name, Names.method_name, Names.static_name, Valid.as_interface, Valid.as_world}
 use Rattle.wit_model.specs.Rules.{in_list, passes, are_distinct, after_prefix, each_from, each_after, is_id, are_member_labels, has_items, is_freestanding}
-use Rattle.wit_model.specs.Valid.{as_interface, as_world}
-use Rattle.comp_meaning.specs.Follow.{is_key_primitive}
-use Rattle.comp_meaning.specs.Rules.{is_named_form, form_labels, most_levels}
-use Rattle.comp_meaning.specs.Same.{same_identity}
+use Rattle.comp_meaning.specs.{Follow.is_key_primitive, Rules.is_named_form, Rules.form_labels, Rules.most_levels, Same.same_identity}
 use Rattle.plan_meaning.specs.Shapes.{primitives, part_tree}
 use Rattle.plan_meaning.specs.Plan.{Plan, PlannedKind, resource, alias, formed, PlannedType, PlannedFunction, PlannedInterface, PlannedKey, label, path_of, PlannedItem, interface, function, declares, PlannedWorld, PlannedPackage, package_in, interface_in, world_in, type_in, number_under, numbers_of, part_number, kind_numbers, function_parts, function_numbers, used_by_numbers, has_owner, is_resource, trees_in, alias_number, interface_used_by, interfaces_used_by, item_interface, item_function, item_type, items_of, world_types}
+use Rattle.wit_model.specs.declared.model.TypeOwner.TheVariants as owner
+use Rattle.wit_model.specs.declared.model.FunctionKind.TheVariants as call
 
 -- ---- small words
 

@@ -3,17 +3,13 @@
 use Rattle.std.specs.Prelude.{◌≡◌, ℕ, Bool, true, false, List, Option, Some}
 use Rattle.std.specs.List.{AllByRecursion}
 use Rattle.wit_model.specs.declared.model.TypeOwner.{TypeOwner}
-use Rattle.wit_model.specs.Text.{Text}
-use Rattle.wit_model.specs.Valid.{as_interface, as_world}
-use Rattle.comp_meaning.specs.Rules as rules
+use Rattle.wit_model.specs.{Text.Text, Valid.as_interface, Valid.as_world}
 use Rattle.plan_meaning.specs.Plan.{Plan, PlannedFunction, PlannedInterface, PlannedWorld, interface_in, world_in}
 use Rattle.plan_meaning.specs.PlanRules.{FunctionsPass, function_in_range, function_labels, function_stays, function_is_shallow, functions_of, is_member, takes_values, world_functions}
 use Rattle.plan_meaning.specs.NumberedViews.{FunctionShape, Tables, place_at, tree_at, signature_over, PartsOf, AreTables}
-use Rattle.plan_meaning.specs.NumberedRules.{Fact, IsSeenFrom}
-use Rattle.plan_meaning.specs.KeptTypes.{TypesAreKept}
-use Rattle.plan_meaning.specs.KeptFunctions.{IsKeptFunction}
-use Rattle.plan_meaning.specs.KeptResources.{AreMarked}
+use Rattle.plan_meaning.specs.{NumberedRules.Fact, NumberedRules.IsSeenFrom, KeptTypes.TypesAreKept, KeptFunctions.IsKeptFunction, KeptResources.AreMarked}
 use Rattle.plan_meaning.specs.KeptOwners.{AreOwned}
+use Rattle.comp_meaning.specs.Rules as rules
 
 -- what is kept beside the tables: what is known of each part, which parts are resources, and the owner of each place
 pub record Beside : Type 0 where

@@ -2,18 +2,12 @@
 -- (WIT.md, "Interfaces").
 use Rattle.std.specs.Prelude.{◌≡◌, ◌<◌, ℕ, true, List, Some, length, slice_get}
 use Rattle.std.specs.List.{AllZip, list_all}
-use Rattle.wit_model.specs.Text.{Text, text_eq}
-use Rattle.wit_model.specs.Names.{is_label}
-use Rattle.wit_model.specs.Rules.{each_from, passes}
-use Rattle.wit_model.specs.Valid.{as_interface}
-use Rattle.comp_meaning.specs.Rules as rules
+use Rattle.wit_model.specs.{Text.Text, Text.text_eq, Names.is_label, Rules.each_from, Rules.passes, Valid.as_interface}
 use Rattle.plan_meaning.specs.Shapes.{named_shape}
-use Rattle.plan_meaning.specs.Plan.{Plan, PlannedFunction, PlannedInterface, interface_in, numbers_of}
-use Rattle.plan_meaning.specs.PlanRules.{are_rising, interface_labels, is_type_of}
+use Rattle.plan_meaning.specs.{Plan.Plan, Plan.PlannedFunction, Plan.PlannedInterface, Plan.interface_in, Plan.numbers_of, KeptTypes.TypesAreKept}
+use Rattle.plan_meaning.specs.{PlanRules.are_rising, PlanRules.interface_labels, PlanRules.is_type_of, KeptOwners.AreOwned, ReadFunctions.Beside}
 use Rattle.plan_meaning.specs.NumberedViews.{Tables, place_at, AreTables, NumberedType, NumberedFunction, NumberedView, view_of}
-use Rattle.plan_meaning.specs.KeptTypes.{TypesAreKept}
-use Rattle.plan_meaning.specs.KeptOwners.{AreOwned}
-use Rattle.plan_meaning.specs.ReadFunctions.{Beside}
+use Rattle.comp_meaning.specs.Rules as rules
 
 -- the number in the table of the name of a type that is shown
 abbrev pub IsNumberOf : Tables → ℕ → NumberedType → ℕ → Type 0

@@ -3,20 +3,11 @@
 use Rattle.std.specs.Prelude.{◌≡◌, ◌<◌, ℕ, ◌+◌, true, nat_le, List, [], Some, slice_get}
 use Rattle.std.specs.List.{AllZip, Contains, list_all}
 use Rattle.wit_model.specs.declared.model.TypeOwner.{TypeOwner}
-use Rattle.wit_model.specs.Text.{Text}
-use Rattle.wit_model.specs.Rules.{each_after, each_from}
-use Rattle.wit_model.specs.Valid.{as_interface, as_world}
-use Rattle.plan_meaning.specs.Shapes.{named_shape}
+use Rattle.wit_model.specs.{Text.Text, Rules.each_after, Rules.each_from, Valid.as_interface, Valid.as_world}
+use Rattle.plan_meaning.specs.{Shapes.named_shape, NumberedWorlds.used_by_view, KeptTypes.TypesAreKept, KeptOwners.AreOwned, ReadFunctions.Beside}
 use Rattle.plan_meaning.specs.Plan.{Plan, PlannedType, PlannedInterface, PlannedWorld, interface_in, world_in, interfaces_used_by, items_of}
-use Rattle.plan_meaning.specs.PlanRules.{is_listed, uses_stand_before}
-use Rattle.plan_meaning.specs.NumberedViews.{Tables, AreTables, NumberedView}
-use Rattle.plan_meaning.specs.NumberedWorlds.{used_by_view}
-use Rattle.plan_meaning.specs.GatheredPlan.{TypeListed}
-use Rattle.plan_meaning.specs.KeptTypes.{TypesAreKept}
-use Rattle.plan_meaning.specs.KeptOwners.{AreOwned}
-use Rattle.plan_meaning.specs.ReadFunctions.{Beside}
-use Rattle.plan_meaning.specs.ReadInterfaces.{IsReadInterface}
-use Rattle.plan_meaning.specs.ReadWorlds.{ReadItem, is_type_seen, WorldsAreRead}
+use Rattle.plan_meaning.specs.{PlanRules.is_listed, PlanRules.uses_stand_before, NumberedViews.Tables, NumberedViews.AreTables, NumberedViews.NumberedView}
+use Rattle.plan_meaning.specs.{GatheredPlan.TypeListed, ReadInterfaces.IsReadInterface, ReadWorlds.ReadItem, ReadWorlds.is_type_seen, ReadWorlds.WorldsAreRead}
 
 -- A place that the interface of this number, whose place is home, uses: its own, or one whose interface has a smaller number.
 pub data IsUsedPlace (owners : ℕ → TypeOwner) (m home r : ℕ) : Type 0 where

@@ -3,17 +3,12 @@
 use Rattle.std.specs.Prelude.{◌≡◌, ℕ, true, not, List, filter, filter_map, flat_map, Some, None, slice_get}
 use Rattle.std.specs.List.{AllByRecursion, Contains, list_all, list_any}
 use Rattle.wit_model.specs.declared.model.TypeOwner.{TypeOwner}
-use Rattle.wit_model.specs.Text.{Text, text_eq}
-use Rattle.wit_model.specs.Names.{is_identity, is_label, read_path}
-use Rattle.wit_model.specs.Parts.{same_owner}
-use Rattle.wit_model.specs.Rules.{each_from}
-use Rattle.wit_model.specs.Valid.{as_interface}
+use Rattle.wit_model.specs.{Text.Text, Text.text_eq, Names.is_identity, Names.is_label, Names.read_path, Parts.same_owner, Rules.each_from, Valid.as_interface}
 use Rattle.comp_meaning.specs.Rules.{distinct}
 use Rattle.plan_meaning.specs.Plan.{Plan, PlannedInterface, PlannedWorld, PlannedPackage, package_in, interface_in, world_in, numbers_of, item_interface, items_of}
 use Rattle.plan_meaning.specs.PlanRules.{has_name, is_alone, is_placed, is_world_placed, lists_members, members_differ, names_of}
 use Rattle.plan_meaning.specs.NumberedViews.{Tables, path_at, AreTables}
-use Rattle.plan_meaning.specs.NumberedWorlds.{HasPath, are_once}
-use Rattle.plan_meaning.specs.NumberedMembers.{Homes, HomesStand, home_at}
+use Rattle.plan_meaning.specs.{NumberedWorlds.HasPath, NumberedWorlds.are_once, NumberedMembers.Homes, NumberedMembers.HomesStand, NumberedMembers.home_at}
 
 -- the inline interfaces among the items of a world
 abbrev pub inline_shown : Plan → PlannedWorld → List ℕ

@@ -1,16 +1,9 @@
 -- A plan as it is read, whole: then all holds of it that a `Resolve` that is built from it asks for (WIT.md; Component Model WIT.md,
 -- "Package Format").
 use Rattle.std.specs.Prelude.{◌≤◌, ◌<◌, ℕ, length, List}
-use Rattle.plan_meaning.specs.Plan.{Plan}
-use Rattle.plan_meaning.specs.PlanRules.{IsPlan}
-use Rattle.plan_meaning.specs.NumberedViews.{Tables, AreTables, NumberedView}
-use Rattle.plan_meaning.specs.NumberedMembers.{Homes, HomesStand}
-use Rattle.plan_meaning.specs.KeptTypes.{TypesAreKept}
-use Rattle.plan_meaning.specs.KeptResources.{AreMarked}
-use Rattle.plan_meaning.specs.KeptOwners.{AreOwned}
-use Rattle.plan_meaning.specs.ReadFunctions.{Beside, FunctionsAreRead}
-use Rattle.plan_meaning.specs.ReadPlaces.{PlacesAreRead}
-use Rattle.plan_meaning.specs.ReadOrder.{OrderIsRead}
+use Rattle.plan_meaning.specs.{Plan.Plan, PlanRules.IsPlan, KeptOwners.AreOwned, ReadOrder.OrderIsRead}
+use Rattle.plan_meaning.specs.{NumberedViews.Tables, NumberedViews.AreTables, NumberedViews.NumberedView, ReadFunctions.Beside, ReadFunctions.FunctionsAreRead}
+use Rattle.plan_meaning.specs.{NumberedMembers.Homes, NumberedMembers.HomesStand, KeptTypes.TypesAreKept, KeptResources.AreMarked, ReadPlaces.PlacesAreRead}
 
 -- Nothing is more often there than the input has bytes, of which there are less than 2^32.
 pub record FitsInput (p : Plan) : Type 0 where

@@ -1,19 +1,14 @@
 -- A plan of a package, and one of a world, as they are read: then nothing stands there without a reason (Component Model WIT.md, "Package Format").
 use Rattle.std.specs.Prelude.{◌≡◌, ◌⊎◌, ◌+◌, ℕ, true, false, List, [], ◌∷◌, ◌++◌, map, Option, Some, None, slice_get}
-use Rattle.std.specs.List.{AllByRecursion, AllZip, Contains}
-use Rattle.std.specs.Cmp.Lexicographic.{pointwise}
-use Rattle.wit_model.specs.Text.{Text}
-use Rattle.wit_model.specs.Tree.{Form}
-use Rattle.wit_model.specs.Valid.{as_interface}
+use Rattle.std.specs.{List.AllByRecursion, List.AllZip, List.Contains, Cmp.Lexicographic.pointwise}
+use Rattle.wit_model.specs.{Text.Text, Tree.Form, Valid.as_interface}
 use Rattle.plan_meaning.specs.Plan.{Plan, formed, PlannedType, PlannedFunction, PlannedInterface, PlannedWorld, PlannedPackage, package_in, interface_in, world_in}
 use Rattle.plan_meaning.specs.PlanRules.{functions_of, is_foreign, world_functions, IsPackagePlan, IsWorldPlan}
 use Rattle.plan_meaning.specs.NumberedViews.{FunctionShape, Tables, AreTables, NumberedView, NumberedSight, same_shown}
 use Rattle.plan_meaning.specs.NumberedWorlds.{HasPath, NumberedShown, instance, are_once, are_reached, place_of_key}
-use Rattle.plan_meaning.specs.NumberedMembers.{Homes, HomesStand, home_at, is_of_package}
+use Rattle.plan_meaning.specs.{NumberedMembers.Homes, NumberedMembers.HomesStand, NumberedMembers.home_at, NumberedMembers.is_of_package, ReadFunctions.Beside}
 use Rattle.plan_meaning.specs.GatheredPlan.{Becomes, FunctionBecomes, FunctionListed, functions_seen}
-use Rattle.plan_meaning.specs.ReadFunctions.{Beside}
-use Rattle.plan_meaning.specs.ReadWorlds.{ReadItem}
-use Rattle.plan_meaning.specs.ReadPlans.{IsReadPlan}
+use Rattle.plan_meaning.specs.{ReadWorlds.ReadItem, ReadPlans.IsReadPlan}
 
 -- ---- why a type and a package are there
 

@@ -1,24 +1,15 @@
 -- The worlds of a plan as they are read: then their imports and exports stand under keys that differ, and their types under rising numbers
 -- (WIT.md, "Worlds"; Binary.md, "Import and Export Definitions").
 use Rattle.std.specs.Prelude.{◌≡◌, ◌<◌, ℕ, ◌+◌, Bool, true, false, not, ◌&&◌, ◌||◌, nat_lt, List, [], ◌∷◌, map, Option, Some, slice_get}
-use Rattle.std.specs.List.{AllByRecursion, list_all}
-use Rattle.std.specs.Cmp.Lexicographic.{pointwise}
+use Rattle.std.specs.{List.AllByRecursion, List.list_all, Cmp.Lexicographic.pointwise}
 use Rattle.wit_model.specs.declared.model.TypeOwner.{TypeOwner}
-use Rattle.wit_model.specs.Text.{Text}
-use Rattle.wit_model.specs.Names.{is_label}
-use Rattle.wit_model.specs.Lookup.{resource_of}
-use Rattle.wit_model.specs.Rules.{each_from}
-use Rattle.wit_model.specs.Valid.{as_interface, as_world}
-use Rattle.plan_meaning.specs.Shapes.{named_shape}
-use Rattle.plan_meaning.specs.Plan as plan
+use Rattle.wit_model.specs.{Text.Text, Names.is_label, Lookup.resource_of, Rules.each_from, Valid.as_interface, Valid.as_world}
+use Rattle.plan_meaning.specs.{Shapes.named_shape, KeptTypes.TypesAreKept, KeptOwners.AreOwned, ReadFunctions.Beside, ReadFunctions.IsReadFunction}
 use Rattle.plan_meaning.specs.Plan.{Plan, PlannedFunction, PlannedInterface, PlannedKey, PlannedItem, PlannedWorld, interface_in, world_in, world_types}
-use Rattle.plan_meaning.specs.PlanRules.{are_rising, import_stands, export_stands, keys_differ}
+use Rattle.plan_meaning.specs.{PlanRules.are_rising, PlanRules.import_stands, PlanRules.export_stands, PlanRules.keys_differ, GatheredPlan.TypeBecomes}
 use Rattle.plan_meaning.specs.NumberedViews.{Tables, path_text, same_shown, PartsOf, AreTables, NumberedView}
 use Rattle.plan_meaning.specs.NumberedWorlds.{HasPath, NumberedShown, instance, function, declares, path, label, implementing, NumberedSeen, NumberedScope, is_world}
-use Rattle.plan_meaning.specs.GatheredPlan.{TypeBecomes}
-use Rattle.plan_meaning.specs.KeptTypes.{TypesAreKept}
-use Rattle.plan_meaning.specs.KeptOwners.{AreOwned}
-use Rattle.plan_meaning.specs.ReadFunctions.{Beside, IsReadFunction}
+use Rattle.plan_meaning.specs.Plan as plan
 
 -- An import or an export of a world, the item that it becomes, and how many types the table has once it is followed.
 pub record ReadItem : Type 0 where

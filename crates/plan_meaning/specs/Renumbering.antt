@@ -1,9 +1,7 @@
 -- The types of a plan as those of the shapes of a table that are kept, in the table's order: only they get a number.
 use Rattle.std.specs.Prelude.{◌≡◌, ◌<◌, ◌+◌, ℕ, true, nat_lt, List, length, Some, None, slice_get}
 use Rattle.std.specs.List.{AllZip, list_all}
-use Rattle.wit_model.specs.Text.{Text}
-use Rattle.wit_model.specs.Tree.{Place, Form}
-use Rattle.wit_model.specs.Rules.{each_from}
+use Rattle.wit_model.specs.{Text.Text, Tree.Place, Tree.Form, Rules.each_from}
 use Rattle.plan_meaning.specs.Shapes.{Shape, node_shape, named_shape, shape_trees, part_tree, IsTable}
 use Rattle.plan_meaning.specs.Plan.{Plan, PlannedType, formed, kind_numbers, place_in, trees_in}
 

@@ -2,9 +2,7 @@
 -- (Binary.md, "Type Definitions"; WIT.md, "Types").
 use Rattle.std.specs.Prelude.{◌≡◌, ℕ, ◌<◌, Bool, true, false, ◌==◌, ◌||◌, ◌+◌, if◌then◌else◌, List, [], ◌∷◌, ◌++◌, map, length, Some, slice_get, unwrap_or}
 use Rattle.std.specs.List.{AllByRecursion}
-use Rattle.wit_model.specs.Text.{Text}
-use Rattle.wit_model.specs.Tree.{Primitive, Place, Form, Tree, children}
-use Rattle.wit_model.specs.Types.{grow, no_tree}
+use Rattle.wit_model.specs.{Text.Text, Tree.Primitive, Tree.Place, Tree.Form, Tree.Tree, Tree.children, Types.grow, Types.no_tree}
 
 -- what a type is, over the numbers of its parts
 pub record Shape : Type 0 where

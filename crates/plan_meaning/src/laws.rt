@@ -1,11 +1,7 @@
 //! Laws of what is read.
 
-ghost use Rattle.plan_meaning.specs.GatheredPlan.{GatheredPackageIsMeant, GatheredWorldIsMeant};
-ghost use Rattle.plan_meaning.specs.Gathering.{OneViewIsEnough, ViewsMeanOne};
-ghost use Rattle.plan_meaning.specs.KeptFunctions.{KeptFunctionsPass};
-ghost use Rattle.plan_meaning.specs.KeptOwners.{KeptOwnersStand};
-ghost use Rattle.plan_meaning.specs.KeptResources.{KeptResourcesStand};
-ghost use Rattle.plan_meaning.specs.KeptTypes.{KeptTypesPass};
+ghost use Rattle.plan_meaning.specs.{GatheredPlan.GatheredPackageIsMeant, GatheredPlan.GatheredWorldIsMeant, Gathering.OneViewIsEnough, Gathering.ViewsMeanOne};
+ghost use Rattle.plan_meaning.specs.{KeptFunctions.KeptFunctionsPass, KeptOwners.KeptOwnersStand, KeptResources.KeptResourcesStand, KeptTypes.KeptTypesPass};
 ghost use Rattle.plan_meaning.specs.NumberedMembers.{
   ExportInNumbers,
   ImportsInNumbers,
@@ -32,15 +28,9 @@ ghost use Rattle.plan_meaning.specs.PlanLaws.{
   WorldIsMeant,
   WorldStandsAlone,
 };
-ghost use Rattle.plan_meaning.specs.ReadFunctions.{ReadFunctionsPass};
-ghost use Rattle.plan_meaning.specs.ReadInterfaces.{ReadInterfacesPass};
-ghost use Rattle.plan_meaning.specs.ReadOrder.{ReadOrderPasses};
-ghost use Rattle.plan_meaning.specs.ReadPlaces.{ReadPlacesPass};
-ghost use Rattle.plan_meaning.specs.ReadPlans.{ReadPlanStands};
-ghost use Rattle.plan_meaning.specs.ReadWholes.{ReadPackagePlanStands, ReadWorldPlanStands};
-ghost use Rattle.plan_meaning.specs.ReadWorlds.{ReadWorldsPass};
-ghost use Rattle.plan_meaning.specs.Renumbering.{TreesAreKept};
-ghost use Rattle.plan_meaning.specs.Shapes.{OneNumber, TreeAtNumber};
+ghost use Rattle.plan_meaning.specs.{ReadFunctions.ReadFunctionsPass, ReadInterfaces.ReadInterfacesPass, ReadOrder.ReadOrderPasses, ReadPlaces.ReadPlacesPass};
+ghost use Rattle.plan_meaning.specs.{ReadPlans.ReadPlanStands, ReadWorlds.ReadWorldsPass, Renumbering.TreesAreKept};
+ghost use Rattle.plan_meaning.specs.{ReadWholes.ReadPackagePlanStands, ReadWholes.ReadWorldPlanStands, Shapes.OneNumber, Shapes.TreeAtNumber};
 
 /// Each number of a table of shapes stands for the tree of its shape, and equal trees have one number.
 pub fn shapes_are_trees()

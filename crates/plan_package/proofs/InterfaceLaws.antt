@@ -1,9 +1,7 @@
 -- The interfaces of a plan.
 use Rattle.std.proofs.Common.{◌≡◌, refl, sym, ap, subst, ◌∙◌, ℕ, ◌+◌, ◌<◌, Bool, true, false, ◌&&◌, ◌==◌, cond, if◌then◌else◌, List, [], ◌∷◌, ◌++◌, map, take, length, get_or, Bor, Option, Some, None, Result, Ok, Err, IfOk, is_some}
-use Rattle.std.proofs.lemmas.Bool.{eqb-true}
-use Rattle.std.proofs.lemmas.List.{map-append, take_more}
-use Rattle.std.specs.List.{AllByRecursion, AllZip}
-use Rattle.std.specs.Option.{option_map_or}
+use Rattle.std.proofs.lemmas.{Bool.eqb-true, List.map-append, List.take_more, Option.same_Some as same-some}
+use Rattle.std.specs.{List.AllByRecursion, List.AllZip, Option.option_map_or}
 use Rattle.wit_model.proofs.Elements.{zip-push}
 use Rattle.wit_model.specs.declared.model.TypeId.{TypeId}
 use Rattle.wit_model.specs.Text.{Text}
@@ -16,7 +14,6 @@ use Rattle.plan_meaning.specs.GatheredPlan.{functions_seen}
 use Rattle.plan_meaning.specs.NumberedViews.{NumberedFunction, NumberedSight, NumberedType, NumberedView, Tables, first_at, first_whole_at}
 use Rattle.plan_package.specs.WholeInterfaces.{AreSeen, Home, ListsNumber, PlansInterface, PlansPlace}
 use Rattle.base_lemmas.proofs.Numbers.{turned as flip}
-use Rattle.std.proofs.lemmas.Option.{same_Some as same-some}
 
 pub numbers_listed : (kept : List ℕ) (xs : List NumberedType) (es : List (Bor Text × TypeId)) → AllZip (ListsType kept) xs (map stated_number es)
     → AllZip (ListsNumber kept) xs (map (λ (e : Bor Text × TypeId). (e.0.now, e.1.0)) es)

@@ -1,18 +1,13 @@
 -- What is listed in a package.
 use Rattle.std.proofs.Common.{◌≡◌, refl, ap, subst, ◌∙◌, ℕ, zero, suc, ◌+◌, ◌<◌, arith, Bool, true, false, not, ◌&&◌, ◌||◌, ◌==◌, cond, List, [], ◌∷◌, ◌++◌, map, Option, Some, None, slice_get}
-use Rattle.std.proofs.lemmas.Bool.{eqb-true, eq-eqb}
+use Rattle.std.proofs.{lemmas.Bool.eqb-true, lemmas.Bool.eq-eqb, ByRecursion.All-weaker as all_through, lemmas.Option.same_Some as same-some}
 use Rattle.std.specs.List.{AllByRecursion}
-use Rattle.wit_model.specs.Text.{Text}
-use Rattle.wit_model.specs.Uses.{has}
+use Rattle.wit_model.specs.{Text.Text, Uses.has}
 use Rattle.read_rules.specs.declared.scopes.Scope.{Scope}
 use Rattle.plan_meaning.specs.NumberedWorlds.{are_once}
 use Rattle.plan_package.specs.Listed.{HomesAreListed, IsHomeAt, IsWorldAt, WorldsAreListed}
-use Rattle.plan_package.specs.WholeInterfaces.{Home}
-use Rattle.plan_package.specs.WholePackages.{entries_from, entry_of, numbered_labels}
-use Rattle.base_lemmas.proofs.Elements.{all_at_too as all_at}
-use Rattle.base_lemmas.proofs.Lists.{none_there}
-use Rattle.std.proofs.ByRecursion.{All-weaker as all_through}
-use Rattle.std.proofs.lemmas.Option.{same_Some as same-some}
+use Rattle.plan_package.specs.{WholeInterfaces.Home, WholePackages.entries_from, WholePackages.entry_of, WholePackages.numbered_labels}
+use Rattle.base_lemmas.proofs.{Elements.all_at_too as all_at, Lists.none_there}
 
 -- ---- entries whose numbers rise
 

@@ -1,20 +1,17 @@
 -- The packages of a plan.
 use Rattle.std.proofs.Common.{◌≡◌, refl, sym, ap, subst, ◌∙◌, ℕ, zero, suc, ◌+◌, ◌<◌, ◌≤◌, arith, Bool, true, false, ◌==◌, cond, List, [], ◌∷◌, ◌++◌, append_assoc, map, drop, length, get_or, slice_index_or, slice_set, Bor, Option, Some, None, option_map, slice_get, ◌⊎◌, inl, inr, Result, Ok, Err, IfOk}
-use Rattle.std.proofs.lemmas.Bool.{eqb-true, eq-eqb}
+use Rattle.std.proofs.lemmas.{Bool.eqb-true, Bool.eq-eqb, List.drop_more, List.length-append, List.map-append, Option.slice_get_within as below}
 use Rattle.std.proofs.Math.ListN.{drop_of_length-le}
-use Rattle.std.proofs.lemmas.List.{drop_more, length-append, map-append}
 use Rattle.wit_model.specs.declared.model.InterfaceId.{InterfaceId}
-use Rattle.wit_model.specs.Text.{Text}
+use Rattle.wit_model.specs.{Text.Text, Names.PackageIdentity}
 use Rattle.read_rules.specs.declared.scopes.Scope.{Scope}
 use Rattle.plan_package.specs.WholeInterfaces.{Home}
+use Rattle.plan_package.specs.WholePackages.{entries_from, entry_of, listed_at, numbered_interface, numbered_labels, AreListed, ArePlanned, Entries, IsMainPackage, ListsEntry, PlansPackage, PlansPackages, the_main}
 use Rattle.read_exports.specs.declared.members.Member.{Member}
 use Rattle.plan_build.specs.declared.plan.PlannedPackage.{PlannedPackage as CodePackage}
 use Rattle.plan_build.specs.PlanOf.{stated_package}
 use Rattle.plan_meaning.specs.Plan.{PlannedPackage}
-use Rattle.wit_model.specs.Names.{PackageIdentity}
-use Rattle.plan_package.specs.WholePackages.{entries_from, entry_of, listed_at, numbered_interface, numbered_labels, AreListed, ArePlanned, Entries, IsMainPackage, ListsEntry, PlansPackage, PlansPackages, the_main}
 use Rattle.base_lemmas.proofs.Lists.{append_none, front_or_end, none_there}
-use Rattle.std.proofs.lemmas.Option.{slice_get_within as below}
 
 below_none : (k : ℕ) → k < 0 → ⊥
 below_none k h = omega (arith, h)

@@ -1,26 +1,19 @@
 -- Places that are met, and numbers of places among some.
 use Rattle.std.proofs.Common.{◌≡◌, refl, ap, subst, ◌∙◌, ℕ, suc, ◌+◌, ◌<◌, arith, Bool, true, false, not, ◌||◌, ◌==◌, cond, List, [], ◌∷◌, ◌++◌, length, map, Some, None, is_some}
-use Rattle.std.proofs.lemmas.Bool.{eqb-true, eq-eqb, lt-ltb}
-use Rattle.std.proofs.lemmas.List.{map-append}
+use Rattle.std.proofs.lemmas.{Bool.eqb-true, Bool.eq-eqb, Bool.lt-ltb, List.map-append}
 use Rattle.std.specs.List.{AllByRecursion, flat_map, prefix_len}
-use Rattle.wit_model.specs.Text.{Text}
-use Rattle.wit_model.specs.Uses.{has}
-use Rattle.read_exports.specs.declared.members.Member.{Member}
-use Rattle.read_exports.specs.declared.members.Part.{Part}
-use Rattle.read_exports.specs.declared.members.Part.TheVariants as parts
+use Rattle.wit_model.specs.{Text.Text, Uses.has}
+use Rattle.read_exports.specs.declared.members.{Member.Member, Part.Part}
 use Rattle.read_exports.specs.Members.{numbered_members, numbered_part}
 use Rattle.read_rules.specs.Reached.{numbered_import}
-use Rattle.plan_types.specs.Orders.{joined, joined_all, places_of_part}
-use Rattle.plan_types.specs.PlannedTypes.{number_in}
+use Rattle.plan_types.specs.{Orders.joined, Orders.joined_all, Orders.places_of_part, PlannedTypes.number_in}
 use Rattle.plan_meaning.specs.NumberedMembers.{NumberedMember, NumberedPart, interface, world}
 use Rattle.plan_meaning.specs.NumberedViews.{NumberedSight, NumberedView, first_at}
-use Rattle.plan_package.specs.PlanWhole.{places_in}
-use Rattle.plan_package.specs.Views.{types_alone, views_of_members, views_of_part, whole_view}
-use Rattle.plan_package.specs.WholeInterfaces.{AreSeen}
-use Rattle.plan_package.specs.WholePackages.{interface_in_part, interfaces_in, IsPlaced}
-use Rattle.base_lemmas.proofs.Lists.{map_of_map as map_twice}
-use Rattle.base_lemmas.proofs.Numbers.{turned as flip}
+use Rattle.plan_package.specs.{PlanWhole.places_in, Views.types_alone, Views.views_of_members, Views.views_of_part, Views.whole_view}
+use Rattle.plan_package.specs.{WholeInterfaces.AreSeen, WholePackages.interface_in_part, WholePackages.interfaces_in, WholePackages.IsPlaced}
+use Rattle.base_lemmas.proofs.{Lists.map_of_map as map_twice, Numbers.turned as flip}
 use Rattle.plan_meaning.proofs.ReadOrder.{has_end as has_right, has_front as has_left}
+use Rattle.read_exports.specs.declared.members.Part.TheVariants as parts
 
 -- ---- numbers
 

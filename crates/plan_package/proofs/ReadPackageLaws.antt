@@ -1,33 +1,23 @@
 -- The packages of a plan of what is exported, as they are read.
 use Rattle.std.proofs.Common.{◌≡◌, refl, sym, ap, subst, ◌∙◌, ℕ, suc, ◌+◌, ◌<◌, arith, Bool, true, false, not, ◌&&◌, ◌||◌, ◌==◌, nat_lt, cond, List, [], ◌∷◌, length, map, Some, None, slice_get}
-use Rattle.std.proofs.lemmas.Bool.{eqb-true, eq-eqb, ltb-true, not-true as is_absent}
+use Rattle.std.proofs.{lemmas.Bool.eqb-true, lemmas.Bool.eq-eqb, lemmas.Bool.ltb-true, lemmas.Bool.not-true as is_absent, ByRecursion.All-weaker as all_through}
+use Rattle.std.proofs.lemmas.Option.{same_Some as same-some}
 use Rattle.std.specs.List.{AllByRecursion, AllZip, list_all, list_any, prefix_len}
 use Rattle.wit_model.specs.declared.model.TypeOwner.{TypeOwner}
-use Rattle.wit_model.specs.Names.{PackageIdentity}
-use Rattle.wit_model.specs.Text.{Text, text_eq}
-use Rattle.wit_model.specs.Uses.{has}
-use Rattle.wit_model.specs.Valid.{as_interface}
+use Rattle.wit_model.specs.{Names.PackageIdentity, Text.Text, Text.text_eq, Uses.has, Valid.as_interface}
 use Rattle.comp_meaning.specs.Rules.{distinct}
 use Rattle.read_homes.specs.Homes.{ArePackages}
 use Rattle.read_exports.specs.declared.members.Member.{Member}
 use Rattle.read_rules.specs.declared.scopes.Scope.{Scope}
 use Rattle.plan_types.specs.PlannedTypes.{number_in}
-use Rattle.plan_meaning.specs.NumberedMembers.{Homes, home_at}
-use Rattle.plan_meaning.specs.NumberedViews.{Tables}
-use Rattle.plan_meaning.specs.NumberedWorlds.{HasPath, are_once}
-use Rattle.plan_meaning.specs.Plan.{Plan, PlannedInterface, PlannedPackage, PlannedWorld, numbers_of}
-use Rattle.plan_meaning.specs.PlanRules.{names_of}
-use Rattle.plan_meaning.specs.ReadPlaces.{IsListedInterface, IsListedWorld, IsReadPackage}
-use Rattle.plan_package.specs.Listed.{IsHomeAt, IsWorldAt}
-use Rattle.plan_package.specs.PlanWhole.{places_in}
-use Rattle.plan_package.specs.ReadPackages.{world_labels, AreExported, PackagesAreRead}
+use Rattle.plan_meaning.specs.{NumberedMembers.Homes, NumberedMembers.home_at, ReadPlaces.IsListedInterface, ReadPlaces.IsListedWorld, ReadPlaces.IsReadPackage}
+use Rattle.plan_meaning.specs.{NumberedViews.Tables, Plan.Plan, Plan.PlannedInterface, Plan.PlannedPackage, Plan.PlannedWorld, Plan.numbers_of}
+use Rattle.plan_meaning.specs.{NumberedWorlds.HasPath, NumberedWorlds.are_once, PlanRules.names_of}
+use Rattle.plan_package.specs.{Listed.IsHomeAt, Listed.IsWorldAt, PlanWhole.places_in}
+use Rattle.plan_package.specs.{ReadPackages.world_labels, ReadPackages.AreExported, ReadPackages.PackagesAreRead, WholeWorlds.worlds_in, WholeWorlds.PlansWorld}
 use Rattle.plan_package.specs.WholePackages.{entries_from, interfaces_in, numbered_labels, IsForeignPackage, IsMainPackage, ListsPlace, PlansPackage, another, the_main}
-use Rattle.plan_package.specs.WholeWorlds.{worlds_in, PlansWorld}
 use Rattle.plan_package.proofs.ListedLaws.{homes_are_listed, worlds_are_listed}
-use Rattle.base_lemmas.proofs.Bools.{left_of as first_true, right_of as second_true, second_false as or_none}
-use Rattle.base_lemmas.proofs.Elements.{zip_at as zip_on}
-use Rattle.std.proofs.ByRecursion.{All-weaker as all_through}
-use Rattle.std.proofs.lemmas.Option.{same_Some as same-some}
+use Rattle.base_lemmas.proofs.{Bools.left_of as first_true, Bools.right_of as second_true, Bools.second_false as or_none, Elements.zip_at as zip_on}
 
 -- ---- numbers among places
 

@@ -1,24 +1,17 @@
 -- A plan, whole.
 use Rattle.std.proofs.Common.{◌≡◌, sym, subst, ◌∙◌, ℕ, arith, List, [], ◌∷◌, length, Option, Some, slice_get}
+use Rattle.std.proofs.lemmas.Option.{slice_get_within as below}
 use Rattle.std.specs.List.{AllByRecursion, AllZip}
 use Rattle.wit_model.specs.declared.model.TypeOwner.{TypeOwner}
 use Rattle.wit_model.specs.Names.{PackageIdentity}
-use Rattle.plan_meaning.specs.NumberedViews.{Tables}
-use Rattle.plan_meaning.specs.Plan.{Plan, PlannedType}
-use Rattle.plan_meaning.specs.Shapes.{Shape}
+use Rattle.plan_meaning.specs.{NumberedViews.Tables, Plan.Plan, Plan.PlannedType, Shapes.Shape}
 use Rattle.read_exports.specs.declared.members.Member.{Member}
 use Rattle.read_exports.specs.Members.{numbered_members}
 use Rattle.plan_types.specs.declared.showings.Showing.{Showing}
-use Rattle.plan_types.specs.FirstShown.{first_showing, showing_at, TellsFirst}
-use Rattle.plan_types.specs.Orders.{homes_met}
+use Rattle.plan_types.specs.{FirstShown.first_showing, FirstShown.showing_at, FirstShown.TellsFirst, Orders.homes_met, Showings.NumberedShowing}
 use Rattle.plan_types.specs.PlannedTypes.{owner_in, MayBePlanned, PlansType, a_form, a_name, named, unnamed}
-use Rattle.plan_types.specs.Showings.{NumberedShowing}
-use Rattle.plan_package.specs.PlanWhole.{places_in, shown_first, AreKeptFor, PlansWhole}
-use Rattle.plan_package.specs.Views.{views_of_members}
-use Rattle.plan_package.specs.WholeInterfaces.{Home, PlansPlace}
-use Rattle.plan_package.specs.WholePackages.{PlansPackages}
-use Rattle.plan_package.specs.WholeWorlds.{worlds_in, PlansWorld}
-use Rattle.std.proofs.lemmas.Option.{slice_get_within as below}
+use Rattle.plan_package.specs.{PlanWhole.places_in, PlanWhole.shown_first, PlanWhole.AreKeptFor, PlanWhole.PlansWhole, WholePackages.PlansPackages}
+use Rattle.plan_package.specs.{Views.views_of_members, WholeInterfaces.Home, WholeInterfaces.PlansPlace, WholeWorlds.worlds_in, WholeWorlds.PlansWorld}
 
 -- a table that tells what each type is shown as first
 module _ (t : Tables) (kept : List ℕ) (showings : List NumberedShowing) (table : List (Option Showing)) (many : length table ≡ length t.shapes) (told : TellsFirst showings table) where

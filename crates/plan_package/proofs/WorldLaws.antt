@@ -3,19 +3,14 @@ use Rattle.std.proofs.Common.{◌≡◌, ℕ, List, [], ◌∷◌, ◌++◌, Opt
 use Rattle.std.specs.List.{AllByRecursion, flat_map}
 use Rattle.wit_model.specs.declared.model.TypeId.{TypeId}
 use Rattle.wit_model.specs.Text.{Text}
-use Rattle.plan_build.specs.declared.plan.PlannedItem.{PlannedItem}
-use Rattle.plan_build.specs.declared.plan.PlannedKey.{PlannedKey}
+use Rattle.plan_build.specs.declared.plan.{PlannedItem.PlannedItem, PlannedKey.PlannedKey}
 use Rattle.plan_build.specs.PlanOf.{stated_entry}
 use Rattle.plan_parts.specs.Interfaces.{IsKeptSlot}
-use Rattle.read_rules.specs.declared.scopes.InstanceKey.{InstanceKey}
-use Rattle.read_rules.specs.declared.scopes.Seen.{Seen}
-use Rattle.read_rules.specs.declared.scopes.Shown.{Shown}
-use Rattle.read_rules.specs.declared.scopes.Shown.TheVariants as shown
-use Rattle.read_rules.specs.declared.views.View.{View}
-use Rattle.read_rules.specs.Scopes.{numbered_key}
-use Rattle.read_rules.specs.Tables.{given_text}
+use Rattle.read_rules.specs.declared.{scopes.InstanceKey.InstanceKey, scopes.Seen.Seen, scopes.Shown.Shown, views.View.View}
+use Rattle.read_rules.specs.{Scopes.numbered_key, Tables.given_text}
 use Rattle.plan_meaning.specs.NumberedViews.{Tables}
 use Rattle.plan_package.specs.WholeWorlds.{types_seen, types_shown, PlansInstance, PlansItem, SeenIsKept, ShownIsKept, an_instance}
+use Rattle.read_rules.specs.declared.scopes.Shown.TheVariants as shown
 
 module _ (t : Tables) (kept : List ℕ) where
   pub instance_planned : {E : Type 0} (places : List ℕ) (find : Text → Option TypeId) (s : Seen) (r : Result (PlannedKey × PlannedItem) E) (key : InstanceKey) (v : View)

@@ -4,8 +4,7 @@ use Rattle.std.specs.List.{AllByRecursion}
 use Rattle.wit_model.specs.Text.{Text}
 use Rattle.read_rules.specs.declared.scopes.Scope.{Scope}
 use Rattle.plan_meaning.specs.NumberedWorlds.{are_once}
-use Rattle.plan_package.specs.WholeInterfaces.{Home}
-use Rattle.plan_package.specs.WholePackages.{entries_from, numbered_labels}
+use Rattle.plan_package.specs.{WholeInterfaces.Home, WholePackages.entries_from, WholePackages.numbered_labels}
 
 -- the place of this number has its home in the package, under the name
 pub record IsHomeAt (homes : ℕ → Option Home) (q : ℕ) (places : List ℕ) (e : Text × ℕ) : Type 0 where

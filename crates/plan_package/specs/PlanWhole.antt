@@ -1,23 +1,17 @@
 -- A plan, whole, of what is exported: the types that are used, all interfaces that are met, the worlds and the packages (Component Model WIT.md,
 -- "Package Format").
-use Rattle.std.specs.Prelude.{◌≡◌, ℕ, Bool, List, Option}
-use Rattle.std.specs.List.{AllByRecursion, AllZip}
+use Rattle.std.specs.{Prelude.◌≡◌, Prelude.ℕ, Prelude.Bool, Prelude.List, Prelude.Option, List.AllByRecursion, List.AllZip}
 use Rattle.wit_model.specs.declared.model.TypeOwner.{TypeOwner}
 use Rattle.wit_model.specs.Names.{PackageIdentity}
-use Rattle.plan_meaning.specs.NumberedViews.{Tables}
-use Rattle.plan_meaning.specs.Plan.{Plan}
+use Rattle.plan_meaning.specs.{NumberedViews.Tables, Plan.Plan}
 use Rattle.plan_parts.specs.Kept.{AreMarked}
 use Rattle.read_exports.specs.declared.members.Member.{Member}
 use Rattle.read_exports.specs.Members.{numbered_members}
 use Rattle.plan_types.specs.FirstShown.{first_showing}
-use Rattle.plan_types.specs.Orders.{homes_met, places_met}
-use Rattle.plan_types.specs.PlannedTypes.{owner_in, MayBePlanned, PlansType}
-use Rattle.plan_types.specs.Showings.{NumberedShowing, showings_of_members, signatures_of_members}
-use Rattle.plan_types.specs.Used.{used_parts, AreUsed, TypesFall}
-use Rattle.plan_package.specs.Views.{views_of_members}
-use Rattle.plan_package.specs.WholeInterfaces.{Home, PlansPlace, ViewIsKept}
-use Rattle.plan_package.specs.WholePackages.{PlansPackages}
-use Rattle.plan_package.specs.WholeWorlds.{worlds_in, PlansWorld, WorldIsKept, WorldIsPlaced}
+use Rattle.plan_types.specs.{Orders.homes_met, Orders.places_met, Showings.NumberedShowing, Showings.showings_of_members, Showings.signatures_of_members}
+use Rattle.plan_types.specs.{PlannedTypes.owner_in, PlannedTypes.MayBePlanned, PlannedTypes.PlansType, Used.used_parts, Used.AreUsed, Used.TypesFall}
+use Rattle.plan_package.specs.{Views.views_of_members, WholeInterfaces.Home, WholeInterfaces.PlansPlace, WholeInterfaces.ViewIsKept}
+use Rattle.plan_package.specs.{WholePackages.PlansPackages, WholeWorlds.worlds_in, WholeWorlds.PlansWorld, WholeWorlds.WorldIsKept, WholeWorlds.WorldIsPlaced}
 
 -- the places of the interfaces that are met, in the order of their numbers
 abbrev pub places_in : List Member → List ℕ

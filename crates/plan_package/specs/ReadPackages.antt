@@ -2,20 +2,14 @@
 use Rattle.std.specs.Prelude.{◌≡◌, ℕ, true, not, List, map, Some, slice_get}
 use Rattle.std.specs.List.{AllByRecursion, list_all, list_any}
 use Rattle.wit_model.specs.declared.model.TypeOwner.{TypeOwner}
-use Rattle.wit_model.specs.Text.{Text, text_eq}
-use Rattle.wit_model.specs.Valid.{as_interface}
+use Rattle.wit_model.specs.{Text.Text, Text.text_eq, Valid.as_interface}
 use Rattle.comp_meaning.specs.Rules.{distinct}
 use Rattle.read_homes.specs.Homes.{ArePackages}
 use Rattle.read_exports.specs.declared.members.Member.{Member}
 use Rattle.read_rules.specs.declared.scopes.Scope.{Scope}
-use Rattle.plan_meaning.specs.NumberedMembers.{Homes, home_at}
-use Rattle.plan_meaning.specs.NumberedViews.{Tables}
-use Rattle.plan_meaning.specs.NumberedWorlds.{HasPath, are_once}
-use Rattle.plan_meaning.specs.Plan.{Plan, PlannedPackage, package_in}
-use Rattle.plan_meaning.specs.ReadPlaces.{IsReadPackage}
-use Rattle.plan_package.specs.PlanWhole.{places_in, PlansWhole}
-use Rattle.plan_package.specs.WholePackages.{interfaces_in}
-use Rattle.plan_package.specs.WholeWorlds.{worlds_in}
+use Rattle.plan_meaning.specs.{NumberedMembers.Homes, NumberedMembers.home_at, NumberedViews.Tables}
+use Rattle.plan_meaning.specs.{NumberedWorlds.HasPath, NumberedWorlds.are_once, Plan.Plan, Plan.PlannedPackage, Plan.package_in, ReadPlaces.IsReadPackage}
+use Rattle.plan_package.specs.{PlanWhole.places_in, PlanWhole.PlansWhole, WholePackages.interfaces_in, WholeWorlds.worlds_in}
 
 -- the labels of the worlds that are exported
 abbrev pub world_labels : List Member → List Text

@@ -2,8 +2,7 @@
 use Rattle.std.specs.Prelude.{ℕ, true, false, List, [], ◌∷◌, ◌++◌, map}
 use Rattle.std.specs.List.{flat_map}
 use Rattle.plan_meaning.specs.NumberedMembers.{NumberedMember, NumberedPart, interface, world}
-use Rattle.plan_meaning.specs.NumberedViews.{NumberedSight, NumberedView}
-use Rattle.plan_meaning.specs.NumberedWorlds.{NumberedInstance}
+use Rattle.plan_meaning.specs.{NumberedViews.NumberedSight, NumberedViews.NumberedView, NumberedWorlds.NumberedInstance}
 
 -- the view of an instance, whole
 abbrev pub whole_view : NumberedInstance → NumberedSight

@@ -1,13 +1,10 @@
 -- The interfaces of a plan, each by the first view of its place and the functions of the first that shows some (WIT.md, "Interfaces").
 use Rattle.std.specs.Prelude.{◌≡◌, ◌+◌, ℕ, List, Option, Some, option_map, is_some, true}
-use Rattle.std.specs.List.{AllByRecursion, AllZip}
-use Rattle.std.specs.Option.{option_map_or}
+use Rattle.std.specs.{List.AllByRecursion, List.AllZip, Option.option_map_or}
 use Rattle.wit_model.specs.declared.model.TypeId.{TypeId}
 use Rattle.wit_model.specs.Text.{Text}
-use Rattle.plan_meaning.specs.GatheredPlan.{functions_seen}
+use Rattle.plan_meaning.specs.{GatheredPlan.functions_seen, Plan.PlannedInterface, Renumbering.IsPart}
 use Rattle.plan_meaning.specs.NumberedViews.{NumberedFunction, NumberedSight, NumberedType, NumberedView, Tables, first_at}
-use Rattle.plan_meaning.specs.Plan.{PlannedInterface}
-use Rattle.plan_meaning.specs.Renumbering.{IsPart}
 use Rattle.plan_parts.specs.Interfaces.{slot_part, AreResources, IsFunctionOver, IsKeptSlot, IsPlannedFunction}
 
 -- a package and the name of an interface in it

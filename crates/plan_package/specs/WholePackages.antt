@@ -1,21 +1,15 @@
 -- The packages of a plan, with what stands in each by name (WIT.md, "Package declaration"; Component Model WIT.md, "Package Format").
 use Rattle.std.specs.Prelude.{◌≡◌, ◌<◌, ◌+◌, ◌==◌, ℕ, cond, List, [], ◌∷◌, ◌++◌, length, map, Option, Some, None, slice_get, Vec}
-use Rattle.std.specs.Borrow.{Bor}
-use Rattle.std.specs.List.{AllZip, flat_map}
-use Rattle.std.specs.Option.{option_map_or}
+use Rattle.std.specs.{Borrow.Bor, List.AllZip, List.flat_map, Option.option_map_or}
 use Rattle.std.specs.declared.alloc.Global.{Global}
-use Rattle.wit_model.specs.declared.model.InterfaceId.{InterfaceId}
-use Rattle.wit_model.specs.declared.model.WorldId.{WorldId}
-use Rattle.wit_model.specs.Names.{PackageIdentity}
-use Rattle.wit_model.specs.Text.{Text}
-use Rattle.read_exports.specs.declared.members.Member.{Member}
-use Rattle.read_exports.specs.declared.members.Part.{Part}
-use Rattle.read_exports.specs.declared.members.Part.TheVariants as parts
+use Rattle.wit_model.specs.declared.model.{InterfaceId.InterfaceId, WorldId.WorldId}
+use Rattle.wit_model.specs.{Names.PackageIdentity, Text.Text}
+use Rattle.read_exports.specs.declared.members.{Member.Member, Part.Part}
 use Rattle.plan_types.specs.PlannedTypes.{number_in}
 use Rattle.read_rules.specs.declared.scopes.Scope.{Scope}
 use Rattle.plan_meaning.specs.Plan.{PlannedPackage}
-use Rattle.plan_package.specs.WholeInterfaces.{Home}
-use Rattle.plan_package.specs.WholeWorlds.{IsAmong, worlds_in}
+use Rattle.plan_package.specs.{WholeInterfaces.Home, WholeWorlds.IsAmong, WholeWorlds.worlds_in}
+use Rattle.read_exports.specs.declared.members.Part.TheVariants as parts
 
 -- the number of an interface or of a world, under its name
 abbrev pub numbered_interface : Bor Text × InterfaceId → Text × ℕ

@@ -1,30 +1,20 @@
 -- The worlds of a plan, each by what its component type shows (WIT.md, "Worlds"; Binary.md, "Import and Export Definitions").
 use Rattle.std.specs.Prelude.{◌≡◌, ◌≤◌, ◌+◌, ℕ, true, List, [], ◌∷◌, Option, Some}
-use Rattle.std.specs.Borrow.{Bor}
-use Rattle.std.specs.List.{AllByRecursion, AllZip, flat_map}
+use Rattle.std.specs.{Borrow.Bor, List.AllByRecursion, List.AllZip, List.flat_map}
 use Rattle.wit_model.specs.declared.model.TypeId.{TypeId}
-use Rattle.wit_model.specs.Text.{Text}
-use Rattle.wit_model.specs.Uses.{has}
+use Rattle.wit_model.specs.{Text.Text, Uses.has}
 use Rattle.plan_meaning.specs.NumberedViews.{NumberedType, PartsOf, Tables, function_at, value}
-use Rattle.plan_meaning.specs.NumberedWorlds as worlds
 use Rattle.plan_meaning.specs.NumberedWorlds.{NumberedKey, place_of_key}
-use Rattle.plan_meaning.specs.Plan as plan
-use Rattle.plan_meaning.specs.Plan.{PlannedFunction, PlannedItem, PlannedKey, PlannedWorld}
-use Rattle.plan_meaning.specs.Renumbering.{IsPart}
-use Rattle.plan_parts.specs.Interfaces.{AreResources, IsPlannedFunction}
-use Rattle.plan_parts.specs.Kept.{IsKeptPart}
-use Rattle.read_rules.specs.declared.scopes.InstanceKey.{InstanceKey}
-use Rattle.read_rules.specs.declared.scopes.Scope.{Scope}
-use Rattle.read_rules.specs.declared.scopes.Seen.{Seen}
-use Rattle.read_rules.specs.declared.scopes.Shown.{Shown}
-use Rattle.read_rules.specs.declared.scopes.Shown.TheVariants as shown
-use Rattle.read_rules.specs.declared.views.View.{View}
-use Rattle.read_rules.specs.Scopes.{numbered_key}
-use Rattle.read_rules.specs.Tables.{given_text}
-use Rattle.read_exports.specs.declared.members.Member.{Member}
-use Rattle.read_exports.specs.declared.members.Part.{Part}
-use Rattle.read_exports.specs.declared.members.Part.TheVariants as parts
+use Rattle.plan_meaning.specs.{Plan.PlannedFunction, Plan.PlannedItem, Plan.PlannedKey, Plan.PlannedWorld, Renumbering.IsPart}
+use Rattle.plan_parts.specs.{Interfaces.AreResources, Interfaces.IsPlannedFunction, Kept.IsKeptPart}
+use Rattle.read_rules.specs.declared.{scopes.InstanceKey.InstanceKey, scopes.Scope.Scope, scopes.Seen.Seen, scopes.Shown.Shown, views.View.View}
+use Rattle.read_rules.specs.{Scopes.numbered_key, Tables.given_text}
+use Rattle.read_exports.specs.declared.members.{Member.Member, Part.Part}
 use Rattle.plan_types.specs.PlannedTypes.{number_in}
+use Rattle.plan_meaning.specs.NumberedWorlds as worlds
+use Rattle.plan_meaning.specs.Plan as plan
+use Rattle.read_rules.specs.declared.scopes.Shown.TheVariants as shown
+use Rattle.read_exports.specs.declared.members.Part.TheVariants as parts
 
 -- ---- imports and exports
 

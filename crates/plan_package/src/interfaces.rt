@@ -1,19 +1,14 @@
 //! The interfaces of a plan.
 
-ghost use Rattle.std.specs.List.{AllByRecursion, AllZip};
-ghost use Rattle.std.specs.Option.{option_map_or};
+ghost use Rattle.std.specs.{List.AllByRecursion, List.AllZip, Option.option_map_or};
 ghost use Rattle.std.specs.Prelude.{◌≡◌, ◌<◌, [], false, true, length, map, option_map, is_some, IfOk, Some};
 ghost use Rattle.wit_model.specs.declared.model.PackageId.{PackageId as Number};
-ghost use Rattle.plan_meaning.specs.GatheredPlan.{functions_seen};
-ghost use Rattle.plan_meaning.specs.NumberedViews.{NumberedSight, first_at as first_in};
+ghost use Rattle.plan_meaning.specs.{GatheredPlan.functions_seen, NumberedViews.NumberedSight, NumberedViews.first_at as first_in};
 ghost use Rattle.read_homes.specs.Homes.{given_home};
 ghost use Rattle.plan_build.specs.PlanOf.{stated_interface};
-ghost use Rattle.plan_parts.specs.Interfaces.{IsFunctionOver, IsKeptSlot};
-ghost use Rattle.plan_parts.specs.Views.{TellsFirst};
+ghost use Rattle.plan_parts.specs.{Interfaces.IsFunctionOver, Interfaces.IsKeptSlot, Views.TellsFirst};
 ghost use Rattle.read_exports.specs.Members.{home_of_place};
-ghost use Rattle.read_rules.specs.Sights.{numbered_sight};
-ghost use Rattle.read_rules.specs.Tables.{numbered_tables};
-ghost use Rattle.read_rules.specs.Views.{numbered_function, numbered_view};
+ghost use Rattle.read_rules.specs.{Sights.numbered_sight, Tables.numbered_tables, Views.numbered_function, Views.numbered_view};
 ghost use Rattle.plan_package.specs.WholeInterfaces.{AreSeen, Home, PlansInterface, PlansPlace, ViewIsKept};
 
 use crate::numbers::package_id;

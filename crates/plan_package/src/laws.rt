@@ -1,7 +1,6 @@
 //! Laws over definitions alone.
 
-ghost use Rattle.plan_package.specs.Listed.{HomesAreListed, WorldsAreListed};
-ghost use Rattle.plan_package.specs.ReadPackages.{PackagesAreRead};
+ghost use Rattle.plan_package.specs.{Listed.HomesAreListed, Listed.WorldsAreListed, ReadPackages.PackagesAreRead};
 
 /// What is listed for a package: exactly the places whose home is there, by their numbers, in order.
 pub fn homes_are_listed()

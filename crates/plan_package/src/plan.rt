@@ -1,18 +1,13 @@
 //! The plan of all that is exported.
 
-ghost use Rattle.std.specs.List.{AllByRecursion, AllZip};
-ghost use Rattle.std.specs.Prelude.{◌≡◌, length, map, true, IfOk};
+ghost use Rattle.std.specs.{List.AllByRecursion, List.AllZip, Prelude.◌≡◌, Prelude.length, Prelude.map, Prelude.true, Prelude.IfOk};
 ghost use Rattle.plan_meaning.specs.ReadPlans.{FitsInput};
 ghost use Rattle.plan_build.specs.PlanOf.{stated_interface, stated_plan, stated_type};
 ghost use Rattle.read_exports.specs.Members.{home_of_place, numbered_members};
 ghost use Rattle.read_rules.specs.Tables.{numbered_tables};
-ghost use Rattle.plan_types.specs.FirstShown.{showing_at, TellsFirst};
-ghost use Rattle.plan_types.specs.Orders.{homes_met};
-ghost use Rattle.plan_types.specs.PlannedTypes.{owner_in, MayBePlanned, PlansType};
-ghost use Rattle.plan_types.specs.Showings.{showings_of_members as showings_of_members_lem};
-ghost use Rattle.plan_types.specs.Used.{TypesFall};
-ghost use Rattle.plan_package.specs.PlanWhole.{AreKeptFor, MayBeWhole, PlansWhole};
-ghost use Rattle.plan_package.specs.Views.{views_of_members as views_of_members_lem};
+ghost use Rattle.plan_types.specs.{FirstShown.showing_at, FirstShown.TellsFirst, PlannedTypes.owner_in, PlannedTypes.MayBePlanned, PlannedTypes.PlansType};
+ghost use Rattle.plan_types.specs.{Orders.homes_met, Showings.showings_of_members as showings_of_members_lem, Used.TypesFall};
+ghost use Rattle.plan_package.specs.{PlanWhole.AreKeptFor, PlanWhole.MayBeWhole, PlanWhole.PlansWhole, Views.views_of_members as views_of_members_lem};
 ghost use Rattle.plan_package.specs.WholeInterfaces.{AreSeen, PlansPlace, ViewIsKept};
 
 use crate::interfaces::interfaces_of;

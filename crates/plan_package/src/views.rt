@@ -3,10 +3,7 @@
 ghost use Rattle.std.specs.List.{flat_map};
 ghost use Rattle.std.specs.Prelude.{◌≡◌, ◌++◌, ◌∷◌, [], false, true, map, IfOk};
 ghost use Rattle.read_exports.specs.Members.{numbered_members, numbered_part};
-ghost use Rattle.read_rules.specs.Reached.{numbered_import};
-ghost use Rattle.read_rules.specs.Scopes.{numbered_instance};
-ghost use Rattle.read_rules.specs.Sights.{numbered_sight, AreBehind};
-ghost use Rattle.read_rules.specs.Views.{numbered_view};
+ghost use Rattle.read_rules.specs.{Reached.numbered_import, Scopes.numbered_instance, Sights.numbered_sight, Sights.AreBehind, Views.numbered_view};
 ghost use Rattle.plan_package.specs.Views.{types_alone, views_of_members as views_of_members_lem, views_of_part, whole_view};
 
 use read_exports::{Member, Part};

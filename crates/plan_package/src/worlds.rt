@@ -1,16 +1,10 @@
 //! The worlds of a plan.
 
-ghost use Rattle.std.specs.List.{AllByRecursion, AllZip, flat_map};
-ghost use Rattle.std.specs.Prelude.{◌≡◌, ◌++◌, map, IfOk};
-ghost use Rattle.plan_meaning.specs.NumberedViews.{function_at as function_at_lem, PartsOf};
-ghost use Rattle.plan_meaning.specs.NumberedWorlds.{place_of_key};
+ghost use Rattle.std.specs.{List.AllByRecursion, List.AllZip, List.flat_map, Prelude.◌≡◌, Prelude.◌++◌, Prelude.map, Prelude.IfOk};
+ghost use Rattle.plan_meaning.specs.{NumberedViews.function_at as function_at_lem, NumberedViews.PartsOf, NumberedWorlds.place_of_key};
 ghost use Rattle.plan_build.specs.PlanOf.{stated_entry, stated_item, stated_key, stated_world};
-ghost use Rattle.plan_parts.specs.Functions.{found_under};
-ghost use Rattle.plan_parts.specs.Interfaces.{AreResources};
-ghost use Rattle.plan_parts.specs.Kept.{IsKeptPart};
-ghost use Rattle.read_rules.specs.Scopes.{numbered_key};
-ghost use Rattle.read_rules.specs.Tables.{given_text, numbered_tables};
-ghost use Rattle.read_rules.specs.Views.{numbered_type};
+ghost use Rattle.plan_parts.specs.{Functions.found_under, Interfaces.AreResources, Kept.IsKeptPart};
+ghost use Rattle.read_rules.specs.{Scopes.numbered_key, Tables.given_text, Tables.numbered_tables, Views.numbered_type};
 ghost use Rattle.plan_package.specs.WholeWorlds.{labelled, planned_key, types_seen, world_in_part, worlds_in, PlansFunction, PlansInstance, IsAmong, PlansItem, PlansWorld, SeenIsKept, SeenIsPlaced, WorldIsKept, WorldIsPlaced};
 
 use crate::numbers::{number_of, package_id};

@@ -1,23 +1,16 @@
 -- Lists that go pair by pair, and functions that are told, added to a set one by one.
 use Rattle.std.proofs.Common.{◌≡◌, refl, sym, ap, ◌∙◌, ℕ, ◌+◌, ◌<◌, ◌≤◌, Bool, true, false, ◌&&◌, ◌||◌, ◌==◌, cond, List, [], ◌∷◌, ◌++◌, map, drop, length, get_or, Option, Some, None, eq-eqb, eqb-true}
-use Rattle.std.proofs.Math.ListN.{drop_of_length-le}
-use Rattle.std.proofs.lemmas.List.{drop_more, map-append}
-use Rattle.std.proofs.lemmas.List.Folds.{list_any-append}
-use Rattle.std.proofs.lemmas.Slice.Eq.{bytes_eq-Decides}
-use Rattle.std.specs.Borrow.{Bor}
-use Rattle.std.specs.Cmp.Lexicographic.{pointwise}
-use Rattle.std.specs.List.{list_all, list_any}
-use Rattle.std.specs.Option.{option_eq}
+use Rattle.std.proofs.{Math.ListN.drop_of_length-le, lemmas.Slice.Eq.bytes_eq-Decides}
+use Rattle.std.proofs.lemmas.{List.drop_more, List.map-append, List.Folds.list_any-append, Bool.or_left as either_true, Bool.or_right as second_of}
+use Rattle.std.specs.{Borrow.Bor, Cmp.Lexicographic.pointwise, List.list_all, List.list_any, Option.option_eq}
 use Rattle.wit_model.specs.Text.{Text, text_eq}
 use Rattle.comp_meaning.specs.Same.{stand_in}
 use Rattle.plan_meaning.specs.NumberedViews.{NumberedFunction, same_function, same_functions, same_id}
 use Rattle.read_rules.specs.Tables.{given_text}
-use Rattle.plan_parts.specs.contracts.agreement.ToldFunctionPartialEq.TheImpl as told_eq
 use Rattle.plan_parts.specs.declared.agreement.ToldFunction.{ToldFunction}
 use Rattle.plan_parts.specs.Agreement.{are_told, is_told, tells_same, told_function, AreTold}
-use Rattle.base_lemmas.proofs.Bools.{absorbed, left_of as first_true, or_false, or_line, right_of as second_true}
-use Rattle.base_lemmas.proofs.Lists.{length_of_map}
-use Rattle.std.proofs.lemmas.Bool.{or_left as either_true, or_right as second_of}
+use Rattle.base_lemmas.proofs.{Bools.absorbed, Bools.left_of as first_true, Bools.or_false, Bools.or_line, Bools.right_of as second_true, Lists.length_of_map}
+use Rattle.plan_parts.specs.contracts.agreement.ToldFunctionPartialEq.TheImpl as told_eq
 
 -- ---- pair by pair
 

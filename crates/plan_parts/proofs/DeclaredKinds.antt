@@ -1,16 +1,12 @@
 -- Kinds of types as the plan's types declare them.
 use Rattle.std.proofs.Common.{◌≡◌, refl, sym, ap, subst, ◌∙◌, ℕ, ◌+◌, ◌-◌, arith, Bool, true, false, not, ◌==◌, nat_lt, if◌then◌else◌, List, [], ◌∷◌, length, Option, Some, None, option_and_then, slice_get}
 use Rattle.std.proofs.lemmas.Bool.{ltb-false}
-use Rattle.std.specs.List.{AllZip}
-use Rattle.std.specs.Option.{option_map_or}
+use Rattle.std.specs.{List.AllZip, Option.option_map_or}
 use Rattle.wit_model.specs.Tree.{Form}
 use Rattle.plan_meaning.proofs.ShapeLaws.{form_back}
 use Rattle.plan_meaning.specs.GatheredPlan.{Becomes, DeclaresKind, a_resource as declares_resource, a_name as declares_name, a_form as declares_form}
-use Rattle.plan_meaning.specs.NumberedRules.{shape_at}
-use Rattle.plan_meaning.specs.NumberedViews.{AreTables, Tables}
-use Rattle.plan_meaning.specs.Plan.{Plan, PlannedKind, formed as formed_kind}
-use Rattle.plan_meaning.specs.Renumbering.{IsPart}
-use Rattle.plan_meaning.specs.Shapes.{Shape, IsShape, a_name as is_name, a_node as is_node}
+use Rattle.plan_meaning.specs.{NumberedRules.shape_at, Plan.Plan, Plan.PlannedKind, Plan.formed as formed_kind, Renumbering.IsPart}
+use Rattle.plan_meaning.specs.{NumberedViews.AreTables, NumberedViews.Tables, Shapes.Shape, Shapes.IsShape, Shapes.a_name as is_name, Shapes.a_node as is_node}
 use Rattle.plan_parts.specs.Kinds.{shape_form, IsFormed, IsKindFor, KindsAreDeclared, a_form, a_name, a_resource}
 use Rattle.plan_parts.proofs.FunctionLaws.{part_becomes}
 

@@ -1,29 +1,18 @@
 -- Views that agree with the first of their place agree with each other, in numbers: a number stands for a tree of its own here, so that what is
 -- known of trees holds of numbers.
 use Rattle.std.proofs.Common.{◌≡◌, refl, sym, ap, subst, ◌∙◌, ℕ, zero, suc, arith, Bool, true, false, not, ◌&&◌, ◌||◌, ◌==◌, cond, List, [], ◌∷◌, ◌++◌, map, Option, Some, None, inl, inr}
-use Rattle.std.specs.List.{Contains, find, list_all, list_any}
-use Rattle.std.specs.Option.{option_map_or, option_or}
-use Rattle.std.specs.Cmp.Lexicographic.{pointwise}
-use Rattle.std.proofs.lemmas.List.Folds.{find-append}
-use Rattle.std.proofs.lemmas.List.Elements.{Contains-append_left, Contains-append_right, Contains-append_cases}
+use Rattle.std.proofs.lemmas.List.{Folds.find-append, Elements.Contains-append_left, Elements.Contains-append_right, Elements.Contains-append_cases}
 use Rattle.std.proofs.lemmas.Bool.{and_from, eqb-true, eq-eqb}
-use Rattle.wit_model.specs.Text.{Text, text_eq}
-use Rattle.wit_model.specs.Tree.{Form, Tree, Trees, Declaration}
-use Rattle.wit_model.specs.Meaning.{FunctionMeaning}
-use Rattle.comp_meaning.specs.Follow.{ShownType, Slot}
-use Rattle.comp_meaning.specs.Rules.{distinct}
-use Rattle.comp_meaning.specs.Same as same
-use Rattle.comp_meaning.specs.Same.{same_option}
-use Rattle.comp_meaning.specs.Reads as reads
-use Rattle.comp_meaning.proofs.SameLaws.{shown_types_decide}
-use Rattle.comp_meaning.proofs.FunctionLists.{functions_make_one_map}
-use Rattle.plan_meaning.specs.NumberedMembers.{are_interfaces}
-use Rattle.plan_meaning.specs.NumberedRules.{Fact, is_interface}
+use Rattle.std.specs.{List.Contains, List.find, List.list_all, List.list_any, Option.option_map_or, Option.option_or, Cmp.Lexicographic.pointwise}
+use Rattle.wit_model.specs.{Text.Text, Text.text_eq, Tree.Form, Tree.Tree, Tree.Trees, Tree.Declaration, Meaning.FunctionMeaning}
+use Rattle.comp_meaning.specs.{Follow.ShownType, Follow.Slot, Rules.distinct, Same.same_option}
+use Rattle.comp_meaning.proofs.{SameLaws.shown_types_decide, FunctionLists.functions_make_one_map, AgreementLaws.found_contains, AgreementLaws.distinct_behind}
+use Rattle.plan_meaning.specs.{NumberedMembers.are_interfaces, NumberedRules.Fact, NumberedRules.is_interface}
 use Rattle.plan_meaning.specs.NumberedViews.{NumberedFunction, NumberedSight, NumberedType, Tables, agree, agree_in_numbers, agree_with_first_in_numbers, agrees_with_first, first_at, first_whole_at, same_function, same_functions, same_number, same_shown, same_types, same_whole}
-use Rattle.comp_meaning.proofs.AgreementLaws.{found_contains, distinct_behind}
 use Rattle.base_lemmas.proofs.Bools.{and-true as and_true, both_ways as either_way, left_of as first_true, right_of as second_true}
-use Rattle.base_lemmas.proofs.Elements.{last_of}
-use Rattle.base_lemmas.proofs.Lists.{length_of_map}
+use Rattle.base_lemmas.proofs.{Elements.last_of, Lists.length_of_map}
+use Rattle.comp_meaning.specs.Same as same
+use Rattle.comp_meaning.specs.Reads as reads
 
 -- ---- numbers as trees of their own
 

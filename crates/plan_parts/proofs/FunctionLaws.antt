@@ -1,39 +1,24 @@
 -- The kinds of functions by their names: of one resource alone, as what may stand behind some resources is.
 use Rattle.std.proofs.Common.{◌≡◌, refl, sym, ap, subst, ◌∙◌, ℕ, zero, suc, ◌+◌, ◌<◌, arith, Bool, true, false, not, ◌&&◌, ◌||◌, ◌⊎◌, inl, inr, List, [], ◌∷◌, ◌++◌, length, map, take, get_or, Option, Some, None, codes, append_assoc}
-use Rattle.std.specs.Borrow.{Bor}
-use Rattle.std.specs.List.{AllByRecursion, AllZip, list_any}
-use Rattle.std.specs.Option.{option_map_or}
-use Rattle.std.proofs.lemmas.List.{take_more, map-append}
-use Rattle.std.proofs.lemmas.Option.{slice_get_within}
+use Rattle.std.proofs.lemmas.{List.take_more, List.map-append, Option.slice_get_within, Bool.or_cases as either_true, Map.Keys.any_passes_from_place as get_any}
 use Rattle.std.proofs.lemmas.Slice.Eq.{bytes_eq-Decides}
-use Rattle.wit_model.specs.declared.model.FunctionKind.{FunctionKind}
-use Rattle.wit_model.specs.declared.model.TypeId.{TypeId}
-use Rattle.wit_model.specs.declared.model.TypeOwner.{TypeOwner}
-use Rattle.wit_model.specs.declared.model.«Type».{«Type» as ValueType}
-use Rattle.wit_model.specs.Lookup.{is_async, resource_of}
-use Rattle.wit_model.specs.Names.{constructor_name, is_label, method_name, static_name}
-use Rattle.wit_model.specs.Rules.{after_prefix}
-use Rattle.wit_model.specs.Text.{Text, text_eq}
-use Rattle.wit_model.proofs.Elements.{zip-push}
-use Rattle.wit_model.proofs.NameLaws.{label_lacks}
+use Rattle.std.specs.{Borrow.Bor, List.AllByRecursion, List.AllZip, List.list_any, Option.option_map_or}
+use Rattle.wit_model.specs.declared.model.{FunctionKind.FunctionKind, TypeId.TypeId, TypeOwner.TypeOwner, «Type».«Type» as ValueType}
+use Rattle.wit_model.specs.{Lookup.is_async, Lookup.resource_of, Names.constructor_name, Names.is_label, Names.method_name, Names.static_name}
+use Rattle.wit_model.specs.{Rules.after_prefix, Text.Text, Text.text_eq}
+use Rattle.wit_model.proofs.{Elements.zip-push, NameLaws.label_lacks, Prefixes.after_sound as prefix_back}
 use Rattle.comp_meaning.specs.Rules.{is_label_behind}
 use Rattle.plan_meaning.specs.Built.{part_of}
-use Rattle.plan_meaning.specs.GatheredPlan.{Becomes, BecomesIfGiven, ParamBecomes}
-use Rattle.plan_meaning.specs.KeptFunctions.{IsKindOf, IsResource}
-use Rattle.plan_meaning.specs.KeptFunctions as kinds
+use Rattle.plan_meaning.specs.{GatheredPlan.Becomes, GatheredPlan.BecomesIfGiven, GatheredPlan.ParamBecomes, NumberedViews.FunctionShape, NumberedViews.Tables}
+use Rattle.plan_meaning.specs.{KeptFunctions.IsKindOf, KeptFunctions.IsResource, Plan.Plan, Renumbering.IsPart, Renumbering.a_primitive, Renumbering.a_shape}
 use Rattle.plan_meaning.specs.NumberedRules.{Fact, begins_with_self, constructs, is_function, is_function_of, is_signature}
-use Rattle.plan_meaning.specs.NumberedViews.{FunctionShape, Tables}
-use Rattle.plan_meaning.specs.Plan.{Plan}
-use Rattle.plan_meaning.specs.Renumbering.{IsPart, a_primitive, a_shape}
 use Rattle.plan_meaning.proofs.Lists.{any_get}
 use Rattle.plan_build.specs.PlanOf.{stated_params}
 use Rattle.read_rules.specs.Tables.{param_of}
 use Rattle.read_rules.proofs.MemberNames.{behind, label_no_dot, unique_last}
 use Rattle.plan_parts.specs.Functions.{free_kind, is_behind, is_constructor_named, method_kind, method_mark, static_kind, static_mark, KeptIfGiven, KeptParam, NamesKind, a_constructor, a_method, a_static, of_none, KindsAreNamed, FunctionsBecome}
 use Rattle.base_lemmas.proofs.Bools.{right_of as second_true}
-use Rattle.std.proofs.lemmas.Bool.{or_cases as either_true}
-use Rattle.std.proofs.lemmas.Map.Keys.{any_passes_from_place as get_any}
-use Rattle.wit_model.proofs.Prefixes.{after_sound as prefix_back}
+use Rattle.plan_meaning.specs.KeptFunctions as kinds
 
 -- ---- names of members
 

@@ -1,15 +1,12 @@
 -- The types and the functions of an interface, one after the other.
 use Rattle.std.proofs.Common.{◌≡◌, refl, sym, ap, subst, ◌∙◌, ℕ, zero, suc, ◌+◌, ◌<◌, arith, Bool, true, false, ◌&&◌, inl, inr, cond, List, [], ◌∷◌, ◌++◌, length, map, take, get_or, Option, Some, None, is_some, slice_get}
+use Rattle.std.proofs.lemmas.{List.take_more, List.map-append, Slice.Eq.bytes_eq-Decides}
 use Rattle.std.specs.List.{AllByRecursion, AllZip}
-use Rattle.std.proofs.lemmas.List.{take_more, map-append}
-use Rattle.std.proofs.lemmas.Slice.Eq.{bytes_eq-Decides}
 use Rattle.wit_model.specs.declared.model.TypeId.{TypeId}
 use Rattle.wit_model.specs.Text.{Text, text_eq}
 use Rattle.wit_model.proofs.Elements.{zip-push}
-use Rattle.plan_meaning.specs.NumberedRules.{is_no_part}
+use Rattle.plan_meaning.specs.{NumberedRules.is_no_part, Plan.PlannedFunction, Renumbering.IsPart}
 use Rattle.plan_meaning.specs.NumberedViews.{FunctionShape, NumberedFunction, NumberedType, Tables, function_at}
-use Rattle.plan_meaning.specs.Plan.{PlannedFunction}
-use Rattle.plan_meaning.specs.Renumbering.{IsPart}
 use Rattle.plan_parts.specs.Functions.{NamesKind, TakesAndGives}
 use Rattle.plan_parts.specs.Interfaces.{noted, slot_part, AreResources, IsPlannedFunction}
 use Rattle.base_lemmas.proofs.Bools.{left_of as first_true, right_of as second_true}

@@ -1,7 +1,6 @@
 -- Marked numbers, each with its place among them.
 use Rattle.std.proofs.Common.{◌≡◌, refl, sym, ap, ◌∙◌, subst, ℕ, zero, suc, ◌+◌, ◌-◌, ◌<◌, ◌≤◌, arith, Bool, true, false, cond, List, [], ◌∷◌, ◌++◌, length, take, get_or, Some, slice_get}
-use Rattle.std.proofs.lemmas.List.{take_more, append-nil, length-take-le}
-use Rattle.std.proofs.lemmas.Option.{slice_get_within, slice_get_read}
+use Rattle.std.proofs.lemmas.{List.take_more, List.append-nil, List.length-take-le, Option.slice_get_within, Option.slice_get_read}
 use Rattle.plan_meaning.specs.Renumbering.{IsPart, a_primitive, a_shape}
 use Rattle.plan_parts.specs.Kept.{marked_from, counted_from, AreMarked, AreNumbered, IsKeptPart}
 

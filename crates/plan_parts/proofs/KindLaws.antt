@@ -1,26 +1,18 @@
 -- Forms over the new numbers of their parts.
 use Rattle.std.proofs.Common.{◌≡◌, ◌≢◌, refl, sym, ap, subst, ◌∙◌, ℕ, ◌+◌, ◌<◌, ◌≤◌, arith, Bool, true, false, ◌||◌, ◌==◌, List, [], ◌∷◌, ◌++◌, map, take, drop, length, get_or, Option, Some, None, is_some, Bor, Result, Ok, Err, IfOk}
-use Rattle.std.proofs.lemmas.Bool.{eqb-true, eq-eqb}
-use Rattle.std.proofs.lemmas.List.{map-append, take_more, drop_more}
+use Rattle.std.proofs.lemmas.{Bool.eqb-true, Bool.eq-eqb, List.map-append, List.take_more, List.drop_more, Option.same_Some as same-some}
 use Rattle.std.specs.List.{AllByRecursion, AllZip}
 use Rattle.wit_model.proofs.Elements.{zip-push}
 use Rattle.wit_model.specs.declared.model.«Type».{«Type» as ValueType}
-use Rattle.wit_model.specs.Text.{Text}
-use Rattle.wit_model.specs.Tree.{Form}
-use Rattle.plan_meaning.specs.Built.{given_parts, part_of}
-use Rattle.plan_meaning.specs.Plan.{formed}
-use Rattle.plan_meaning.specs.PlanRules.{is_handle_form}
-use Rattle.plan_meaning.specs.Renumbering.{IsPart}
-use Rattle.plan_meaning.specs.Shapes.{Shape, code, form_of, one_mark}
-use Rattle.plan_meaning.specs.NumberedRules.{is_form, shape_at}
-use Rattle.plan_meaning.specs.NumberedViews.{Tables}
+use Rattle.wit_model.specs.{Text.Text, Tree.Form}
+use Rattle.plan_meaning.specs.{Built.given_parts, Built.part_of, Plan.formed, PlanRules.is_handle_form, Renumbering.IsPart}
+use Rattle.plan_meaning.specs.{Shapes.Shape, Shapes.code, Shapes.form_of, Shapes.one_mark, NumberedRules.is_form, NumberedRules.shape_at, NumberedViews.Tables}
 use Rattle.plan_build.specs.declared.plan.PlannedKind.{PlannedKind as CodeKind}
 use Rattle.plan_build.specs.PlanOf.{stated_case, stated_kind}
 use Rattle.read_rules.specs.Tables.{label_of}
 use Rattle.plan_parts.specs.Kept.{IsKeptPart}
 use Rattle.plan_parts.specs.Kinds.{given_count, has_count, shape_form, IsFormed, IsFormOver, IsLabelledSort, a_record, a_variant, an_enum, flags, IsKindFor, MayBeDeclared, a_form, a_part, nothing, over_parts}
 use Rattle.base_lemmas.proofs.Lists.{map_of_map as map_twice}
-use Rattle.std.proofs.lemmas.Option.{same_Some as same-some}
 
 -- ---- forms by their numbers
 

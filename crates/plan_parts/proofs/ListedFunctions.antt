@@ -1,17 +1,13 @@
 -- The functions of an interface that obeys the rules, as those of a plan.
 use Rattle.std.proofs.Common.{◌≡◌, refl, ap, subst, ◌∙◌, ℕ, zero, suc, ◌+◌, Bool, true, false, ◌&&◌, ◌||◌, cond, List, [], ◌∷◌, ◌++◌, length, map, Option, Some, slice_get}
-use Rattle.std.specs.List.{AllZip, list_all, list_any}
 use Rattle.std.proofs.lemmas.Slice.Eq.{bytes_eq-Decides}
-use Rattle.wit_model.specs.declared.model.TypeId.{TypeId}
-use Rattle.wit_model.specs.declared.model.TypeOwner.{TypeOwner}
+use Rattle.std.specs.List.{AllZip, list_all, list_any}
+use Rattle.wit_model.specs.declared.model.{TypeId.TypeId, TypeOwner.TypeOwner}
 use Rattle.wit_model.specs.Text.{Text, text_eq}
 use Rattle.comp_meaning.specs.Rules.{distinct}
-use Rattle.plan_meaning.specs.GatheredPlan.{FunctionListed}
-use Rattle.plan_meaning.specs.KeptFunctions.{IsKindOf, IsResource}
+use Rattle.plan_meaning.specs.{GatheredPlan.FunctionListed, KeptFunctions.IsKindOf, KeptFunctions.IsResource, Plan.Plan, Plan.PlannedFunction}
 use Rattle.plan_meaning.specs.NumberedRules.{Fact, is_function, is_no_part, is_type, resources_of}
-use Rattle.plan_meaning.specs.NumberedViews.{NumberedFunction, NumberedType, Tables, function_at}
-use Rattle.plan_meaning.specs.Plan.{Plan, PlannedFunction}
-use Rattle.plan_meaning.specs.Renumbering.{IsPart}
+use Rattle.plan_meaning.specs.{NumberedViews.NumberedFunction, NumberedViews.NumberedType, NumberedViews.Tables, NumberedViews.function_at, Renumbering.IsPart}
 use Rattle.plan_parts.specs.Interfaces.{slot_part, AreResources, IsPlannedFunction, FunctionsAreListed}
 use Rattle.plan_parts.proofs.FunctionLaws.{functions_become, kinds_are_named}
 use Rattle.base_lemmas.proofs.Bools.{left_of as first_true, right_of as second_true}

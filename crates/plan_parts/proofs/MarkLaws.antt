@@ -1,11 +1,8 @@
 -- Types that are used: each is marked once the types behind it have been looked at.
 use Rattle.std.proofs.Common.{◌≡◌, refl, sym, ap, ◌∙◌, subst, inl, inr, ℕ, zero, suc, ◌+◌, ◌-◌, ◌<◌, ◌≤◌, arith, Bool, true, false, ◌||◌, ◌==◌, List, [], ◌∷◌, length, get_or, Some, slice_get}
-use Rattle.std.specs.Borrow.{Bor}
-use Rattle.std.specs.List.{AllByRecursion, Contains}
-use Rattle.std.proofs.Math.ListN.{length-map}
-use Rattle.std.proofs.lemmas.Bool.{eqb-true, or_cases as either, or_left as left_true, or_right as right_true}
-use Rattle.std.proofs.lemmas.Bool.Decides.{nat_tests}
-use Rattle.std.proofs.lemmas.Option.{slice_get_within}
+use Rattle.std.proofs.{Math.ListN.length-map, lemmas.Bool.Decides.nat_tests}
+use Rattle.std.proofs.lemmas.{Bool.eqb-true, Bool.or_cases as either, Bool.or_left as left_true, Bool.or_right as right_true, Option.slice_get_within}
+use Rattle.std.specs.{Borrow.Bor, List.AllByRecursion, List.Contains}
 use Rattle.wit_model.specs.Uses.{has}
 use Rattle.wit_model.proofs.Elements.{has-contains, contains-has}
 use Rattle.plan_parts.specs.Marks.{is_marked, parts_of, PartsFall, IsUsed, marked, part}

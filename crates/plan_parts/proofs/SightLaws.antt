@@ -1,9 +1,7 @@
 -- Views that are each compared with the first of their place.
 use Rattle.std.proofs.Common.{◌≡◌, refl, sym, ap, subst, ◌∙◌, ℕ, zero, suc, ◌+◌, ◌<◌, arith, Bool, true, false, not, ◌&&◌, ◌||◌, ◌==◌, cond, List, [], ◌∷◌, ◌++◌, map, take, length, get_or, Option, Some, None, Result, Ok, Err, IfOk, eq-eqb, append_assoc, ◌≤◌}
-use Rattle.std.proofs.lemmas.List.{map-append, take_more}
-use Rattle.std.specs.Cmp.Lexicographic.{pointwise}
-use Rattle.std.specs.List.{AllByRecursion, find, list_all, list_any}
-use Rattle.std.specs.Option.{option_map_or}
+use Rattle.std.proofs.lemmas.{List.map-append, List.take_more, Bool.and_from as both}
+use Rattle.std.specs.{Cmp.Lexicographic.pointwise, List.AllByRecursion, List.find, List.list_all, List.list_any, Option.option_map_or}
 use Rattle.wit_model.specs.Text.{Text, text_eq}
 use Rattle.comp_meaning.specs.Same.{stand_in}
 use Rattle.plan_meaning.specs.NumberedViews.{NumberedFunction, NumberedSight, NumberedType, agree_with_first_in_numbers, agrees_with_first, first_at, first_whole_at, same_function, same_functions, same_id, same_number, same_shown, same_types, same_whole}
@@ -11,7 +9,6 @@ use Rattle.read_rules.specs.declared.sights.Sight.{Sight}
 use Rattle.read_rules.specs.Sights.{numbered_sight}
 use Rattle.plan_parts.specs.declared.views.Sighted.{Sighted}
 use Rattle.plan_parts.specs.Views.{in_numbers, sighted}
-use Rattle.std.proofs.lemmas.Bool.{and_from as both}
 use Rattle.wit_model.proofs.TextLemmas.{text_alike as text_self}
 
 pub each_at : {A : Type 0} (P : A → Type 0) (xs : List A) (i : ℕ) (d : A) → i < length xs → AllByRecursion P xs → P (get_or xs i d)

@@ -1,9 +1,7 @@
 -- The first of each place.
 use Rattle.std.proofs.Common.{◌≡◌, ◌≢◌, refl, sym, ap, ◌∙◌, subst, ℕ, zero, suc, ◌+◌, ◌<◌, arith, Bool, true, false, not, ◌&&◌, ◌||◌, ◌==◌, cond, List, [], ◌∷◌, ◌++◌, length, map, take, get_or, Option, Some, None, option_map, option_and_then, slice_get, slice_set}
+use Rattle.std.proofs.lemmas.{Bool.eqb-true, Bool.Decides.nat_tests, List.take_more, List.length-take-le, List.get_or-set_same, List.get_or-set_other}
 use Rattle.std.specs.List.{AllByRecursion, find}
-use Rattle.std.proofs.lemmas.Bool.{eqb-true}
-use Rattle.std.proofs.lemmas.Bool.Decides.{nat_tests}
-use Rattle.std.proofs.lemmas.List.{take_more, length-take-le, get_or-set_same, get_or-set_other}
 use Rattle.plan_meaning.specs.NumberedViews.{NumberedSight}
 use Rattle.plan_parts.specs.declared.views.Sighted.{Sighted}
 use Rattle.plan_parts.specs.Views.{earlier_of, first_index, in_numbers, passes, sighted, TellsFirst}

@@ -2,8 +2,7 @@
 use Rattle.std.specs.Prelude.{◌≡◌, Bool, ◌&&◌, List, ℕ, []}
 use Rattle.std.specs.List.{list_all, list_any}
 use Rattle.wit_model.specs.Text.{Text, text_eq}
-use Rattle.plan_meaning.specs.NumberedMembers.{are_interfaces}
-use Rattle.plan_meaning.specs.NumberedRules.{Fact}
+use Rattle.plan_meaning.specs.{NumberedMembers.are_interfaces, NumberedRules.Fact}
 use Rattle.plan_meaning.specs.NumberedViews.{NumberedFunction, NumberedSight, Tables, agree_in_numbers, agree_with_first_in_numbers, same_function}
 use Rattle.read_rules.specs.Tables.{given_text}
 use Rattle.plan_parts.specs.declared.agreement.ToldFunction.{ToldFunction}

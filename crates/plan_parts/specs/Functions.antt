@@ -1,22 +1,12 @@
 -- Functions of a plan, by their names and over the types that are kept (WIT.md, "Functions"; Explainer.md, "Import and Export Definitions").
 use Rattle.std.specs.Prelude.{◌≡◌, ℕ, Bool, true, false, List, [], ◌∷◌, ◌++◌, length, Option, Some, None, codes}
-use Rattle.std.specs.Borrow.{Bor}
-use Rattle.std.specs.List.{AllZip, list_any}
-use Rattle.std.specs.Map.{lookup}
-use Rattle.wit_model.specs.declared.model.FunctionKind.{FunctionKind}
-use Rattle.wit_model.specs.declared.model.FunctionKind.TheVariants as call
-use Rattle.wit_model.specs.declared.model.TypeId.{TypeId}
-use Rattle.wit_model.specs.declared.model.TypeOwner.{TypeOwner}
-use Rattle.wit_model.specs.Lookup.{is_async}
-use Rattle.wit_model.specs.Names.{constructor_name}
-use Rattle.wit_model.specs.Text.{Text, text_eq}
+use Rattle.std.specs.{Borrow.Bor, List.AllZip, List.list_any, Map.lookup}
+use Rattle.wit_model.specs.declared.model.{FunctionKind.FunctionKind, TypeId.TypeId, TypeOwner.TypeOwner}
+use Rattle.wit_model.specs.{Lookup.is_async, Names.constructor_name, Text.Text, Text.text_eq}
 use Rattle.comp_meaning.specs.Rules.{is_label_behind}
-use Rattle.plan_meaning.specs.GatheredPlan.{FunctionBecomes}
-use Rattle.plan_meaning.specs.KeptFunctions.{IsKindOf, IsResource}
-use Rattle.plan_meaning.specs.NumberedRules.{Fact, is_function}
-use Rattle.plan_meaning.specs.NumberedViews.{FunctionShape, Tables}
-use Rattle.plan_meaning.specs.Plan.{Plan, PlannedFunction}
-use Rattle.plan_meaning.specs.Renumbering.{IsPart}
+use Rattle.plan_meaning.specs.{GatheredPlan.FunctionBecomes, NumberedRules.Fact, NumberedRules.is_function, Plan.Plan, Plan.PlannedFunction}
+use Rattle.plan_meaning.specs.{KeptFunctions.IsKindOf, KeptFunctions.IsResource, NumberedViews.FunctionShape, NumberedViews.Tables, Renumbering.IsPart}
+use Rattle.wit_model.specs.declared.model.FunctionKind.TheVariants as call
 
 -- ---- kinds
 

@@ -1,24 +1,16 @@
 -- Interfaces of a plan, over the types that are kept (WIT.md, "Interfaces").
 use Rattle.std.specs.Prelude.{◌≡◌, ◌≤◌, ◌+◌, ◌&&◌, ℕ, true, List, length, cond, map, Option, Some, slice_get}
-use Rattle.std.specs.Borrow.{Bor}
-use Rattle.std.specs.List.{AllZip}
-use Rattle.wit_model.specs.declared.model.TypeId.{TypeId}
-use Rattle.wit_model.specs.declared.model.TypeOwner.{TypeOwner}
+use Rattle.std.specs.{Borrow.Bor, List.AllZip}
+use Rattle.wit_model.specs.declared.model.{TypeId.TypeId, TypeOwner.TypeOwner}
 use Rattle.wit_model.specs.Text.{Text, text_eq}
-use Rattle.plan_meaning.specs.GatheredPlan.{FunctionListed}
-use Rattle.plan_meaning.specs.KeptFunctions.{IsKindOf, IsResource}
-use Rattle.plan_meaning.specs.NumberedRules.{Fact, is_interface, is_no_part}
+use Rattle.plan_meaning.specs.{GatheredPlan.FunctionListed, Plan.Plan, Plan.PlannedFunction, Renumbering.IsPart}
+use Rattle.plan_meaning.specs.{KeptFunctions.IsKindOf, KeptFunctions.IsResource, NumberedRules.Fact, NumberedRules.is_interface, NumberedRules.is_no_part}
 use Rattle.plan_meaning.specs.NumberedViews.{NumberedFunction, NumberedSlot, NumberedType, NumberedView, Tables, function_at, value, resource, PartsOf}
-use Rattle.plan_meaning.specs.Plan.{Plan, PlannedFunction}
-use Rattle.plan_meaning.specs.Renumbering.{IsPart}
-use Rattle.read_rules.specs.declared.tables.Tables.{Tables as KeptTables}
-use Rattle.read_rules.specs.declared.views.ViewFunction.{ViewFunction}
-use Rattle.read_rules.specs.Tables.{numbered_tables}
-use Rattle.read_rules.specs.Views.{numbered_function}
+use Rattle.read_rules.specs.declared.{tables.Tables.Tables as KeptTables, views.ViewFunction.ViewFunction}
+use Rattle.read_rules.specs.{Tables.numbered_tables, Views.numbered_function}
 use Rattle.plan_build.specs.declared.plan.PlannedFunction.{PlannedFunction as BuiltFunction}
 use Rattle.plan_build.specs.PlanOf.{named_function}
-use Rattle.plan_parts.specs.Functions.{found_under, NamesKind, TakesAndGives}
-use Rattle.plan_parts.specs.Kept.{IsKeptPart}
+use Rattle.plan_parts.specs.{Functions.found_under, Functions.NamesKind, Functions.TakesAndGives, Kept.IsKeptPart}
 
 -- the part that the index of a type stands for
 abbrev pub slot_part : NumberedSlot → ℕ

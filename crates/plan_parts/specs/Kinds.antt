@@ -2,16 +2,10 @@
 use Rattle.std.specs.Prelude.{◌≡◌, ◌≤◌, ℕ, ◌+◌, Bool, true, false, ◌==◌, List, [], ◌∷◌, length, Option, Some, None, is_some}
 use Rattle.std.specs.List.{AllByRecursion, AllZip}
 use Rattle.wit_model.specs.declared.model.«Type».{«Type» as ValueType}
-use Rattle.wit_model.specs.Text.{Text}
-use Rattle.wit_model.specs.Tree.{Form}
-use Rattle.plan_meaning.specs.Built.{given_parts}
-use Rattle.plan_meaning.specs.GatheredPlan.{DeclaresKind}
-use Rattle.plan_meaning.specs.NumberedRules.{is_form, shape_at}
-use Rattle.plan_meaning.specs.NumberedViews.{AreTables, Tables}
-use Rattle.plan_meaning.specs.Plan.{Plan, PlannedKind, alias, formed, resource}
-use Rattle.plan_meaning.specs.PlanRules.{is_handle_form}
-use Rattle.plan_meaning.specs.Renumbering.{IsPart}
-use Rattle.plan_meaning.specs.Shapes.{Shape, code, form_of, one_mark}
+use Rattle.wit_model.specs.{Text.Text, Tree.Form}
+use Rattle.plan_meaning.specs.{Built.given_parts, PlanRules.is_handle_form, Renumbering.IsPart}
+use Rattle.plan_meaning.specs.{GatheredPlan.DeclaresKind, NumberedRules.is_form, NumberedRules.shape_at, NumberedViews.AreTables, NumberedViews.Tables}
+use Rattle.plan_meaning.specs.{Plan.Plan, Plan.PlannedKind, Plan.alias, Plan.formed, Plan.resource, Shapes.Shape, Shapes.code, Shapes.form_of, Shapes.one_mark}
 use Rattle.plan_parts.specs.Kept.{IsKeptPart}
 
 -- ---- forms over parts

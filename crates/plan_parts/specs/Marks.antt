@@ -1,7 +1,6 @@
 -- Which types of a table are used: those that are marked, and the parts of those that are used (Binary.md, "Type Definitions").
 use Rattle.std.specs.Prelude.{◌≡◌, ◌<◌, ◌+◌, ℕ, Bool, true, false, List, map, Some, slice_get, slice_index_or}
-use Rattle.std.specs.Borrow.{Bor}
-use Rattle.std.specs.List.{AllByRecursion, Contains}
+use Rattle.std.specs.{Borrow.Bor, List.AllByRecursion, List.Contains}
 
 abbrev pub is_marked : List Bool → ℕ → Bool
 is_marked marks n = slice_index_or marks n false

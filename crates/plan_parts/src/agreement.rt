@@ -1,7 +1,6 @@
 //! Whether views of interfaces agree: each with the first of its place, and each that shows functions with the first that does.
 
-ghost use Rattle.std.specs.Cmp.Lexicographic.{pointwise};
-ghost use Rattle.std.specs.List.{list_any};
+ghost use Rattle.std.specs.{Cmp.Lexicographic.pointwise, List.list_any};
 ghost use Rattle.std.specs.Prelude.{◌≡◌, ◌||◌, length, map, Bool, IfOk};
 ghost use Rattle.wit_model.specs.Text.{Text};
 ghost use Rattle.plan_meaning.specs.NumberedViews.{NumberedFunction, same_functions as same_functions_lem, same_shown};

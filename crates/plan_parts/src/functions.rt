@@ -1,9 +1,7 @@
 //! Functions of a plan: of which kind they are, by their names, and what they take and give, over the types that are kept.
 
-ghost use Rattle.std.specs.List.{AllByRecursion, AllZip};
-ghost use Rattle.std.specs.Prelude.{◌≡◌, map, option_map, IfOk};
-ghost use Rattle.plan_meaning.specs.Built.{part_of};
-ghost use Rattle.plan_meaning.specs.NumberedViews.{AllOf, PartsOf};
+ghost use Rattle.std.specs.{List.AllByRecursion, List.AllZip, Prelude.◌≡◌, Prelude.map, Prelude.option_map, Prelude.IfOk};
+ghost use Rattle.plan_meaning.specs.{Built.part_of, NumberedViews.AllOf, NumberedViews.PartsOf};
 ghost use Rattle.plan_build.specs.PlanOf.{stated_function, stated_params};
 ghost use Rattle.read_rules.specs.Tables.{given_text, numbered_function_type, param_of};
 ghost use Rattle.plan_parts.specs.Functions.{found_under, free_kind, is_behind, is_constructor_named, method_kind, static_kind, IsFoundBy, KeptIfGiven, KeptParam, NamesKind, TakesAndGives};

@@ -1,11 +1,9 @@
 //! Interfaces of a plan, by what is shown of them: their types under the numbers that these get, and their functions.
 
-ghost use Rattle.std.specs.List.{AllByRecursion, AllZip};
-ghost use Rattle.std.specs.Prelude.{◌≡◌, map, IfOk};
+ghost use Rattle.std.specs.{List.AllByRecursion, List.AllZip, Prelude.◌≡◌, Prelude.map, Prelude.IfOk};
 ghost use Rattle.wit_model.specs.Text.{Text};
 ghost use Rattle.plan_build.specs.PlanOf.{stated_number};
-ghost use Rattle.read_rules.specs.Tables.{numbered_tables};
-ghost use Rattle.read_rules.specs.Views.{numbered_function, numbered_slot, numbered_type};
+ghost use Rattle.read_rules.specs.{Tables.numbered_tables, Views.numbered_function, Views.numbered_slot, Views.numbered_type};
 ghost use Rattle.plan_parts.specs.Functions.{found_under};
 ghost use Rattle.plan_parts.specs.Interfaces.{noted, slot_part as slot_part_lem, AreResources, IsFunctionOver, IsKeptSlot, ListsType, PlansFunctions};
 

@@ -1,8 +1,7 @@
 //! The types of a table that are kept, and their new numbers.
 
 ghost use Rattle.std.specs.Prelude.{◌≡◌, ◌<◌, ◌≤◌, ◌+◌, IfOk};
-ghost use Rattle.plan_meaning.specs.Built.{part_of};
-ghost use Rattle.plan_meaning.specs.Renumbering.{IsPart};
+ghost use Rattle.plan_meaning.specs.{Built.part_of, Renumbering.IsPart};
 ghost use Rattle.plan_parts.specs.Kept.{counted_from, marked_from, AreMarked, IsKeptPart};
 
 use std::alloc::{AllocError, Global};

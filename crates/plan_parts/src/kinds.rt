@@ -2,9 +2,7 @@
 
 ghost use Rattle.std.specs.List.{AllByRecursion, AllZip};
 ghost use Rattle.std.specs.Prelude.{◌≡◌, ◌≤◌, ◌<◌, ◌+◌, ◌==◌, length, map, option_map, true, is_some, IfOk, get_or};
-ghost use Rattle.plan_meaning.specs.Built.{given_parts, part_of};
-ghost use Rattle.plan_meaning.specs.Renumbering.{IsPart};
-ghost use Rattle.plan_meaning.specs.Shapes.{one_mark};
+ghost use Rattle.plan_meaning.specs.{Built.given_parts, Built.part_of, Renumbering.IsPart, Shapes.one_mark};
 ghost use Rattle.plan_build.specs.PlanOf.{stated_case, stated_kind};
 ghost use Rattle.read_rules.specs.Tables.{label_of, numbered_shape, numbered_tables};
 ghost use Rattle.plan_parts.specs.Kept.{IsKeptPart};

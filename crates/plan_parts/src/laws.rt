@@ -1,8 +1,6 @@
 //! Laws over definitions alone.
 
-ghost use Rattle.plan_parts.specs.Agreement.{FirstViewsTell};
-ghost use Rattle.plan_parts.specs.Functions.{FunctionsBecome, KindsAreNamed};
-ghost use Rattle.plan_parts.specs.Interfaces.{FunctionsAreListed};
+ghost use Rattle.plan_parts.specs.{Agreement.FirstViewsTell, Functions.FunctionsBecome, Functions.KindsAreNamed, Interfaces.FunctionsAreListed};
 ghost use Rattle.plan_parts.specs.Kinds.{KindsAreDeclared};
 
 /// A function that may stand behind some resources is of the kind that its name says.

@@ -1,8 +1,7 @@
 //! Which types are used: those that are marked to begin with, and the parts of those that are used.
 
-ghost use Rattle.std.specs.List.{AllByRecursion};
+ghost use Rattle.std.specs.{List.AllByRecursion, Borrow.Bor};
 ghost use Rattle.std.specs.Prelude.{◌≡◌, ◌↔◌, ◌<◌, ◌+◌, ◌||◌, ℕ, length, map, true, List};
-ghost use Rattle.std.specs.Borrow.{Bor};
 ghost use Rattle.wit_model.specs.Uses.{has};
 ghost use Rattle.plan_parts.specs.Marks.{is_marked, parts_of, PartsFall, IsUsed};
 

@@ -1,7 +1,6 @@
 //! Views of interfaces, each compared with the first of its place.
 
-ghost use Rattle.std.specs.List.{AllByRecursion, list_all};
-ghost use Rattle.std.specs.Option.{option_map_or};
+ghost use Rattle.std.specs.{List.AllByRecursion, List.list_all, Option.option_map_or};
 ghost use Rattle.std.specs.Prelude.{◌≡◌, ◌<◌, ◌||◌, [], false, true, length, map, not, option_and_then, option_map, slice_get, slice_index_or, IfOk, None};
 ghost use Rattle.plan_meaning.specs.NumberedViews.{agree_with_first_in_numbers, agrees_with_first, same_types as same_types_lem, same_whole};
 ghost use Rattle.read_rules.specs.Sights.{numbered_sight};

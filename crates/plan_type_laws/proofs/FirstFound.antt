@@ -1,15 +1,11 @@
 -- What is shown of a type first is a showing of it.
 use Rattle.std.proofs.Common.{◌≡◌, refl, sym, ap, ◌∙◌, ◌+◌, Bool, true, false, ◌==◌, cond, List, [], ◌∷◌, length, Option, Some, None, option_map}
-use Rattle.std.specs.Prelude.{nat_lt}
-use Rattle.std.specs.List.{Contains, find}
-use Rattle.std.proofs.lemmas.Bool.{eqb-true, ltb-false, ltb-true}
-use Rattle.std.proofs.lemmas.List.{get_or_past}
+use Rattle.std.proofs.lemmas.{Bool.eqb-true, Bool.ltb-false, Bool.ltb-true, List.get_or_past, Option.same_Some as same-some}
+use Rattle.std.specs.{Prelude.nat_lt, List.Contains, List.find}
 use Rattle.plan_types.specs.declared.showings.Showing.{Showing}
-use Rattle.plan_types.specs.FirstShown.{TellsFirst, first_showing, showing_at}
-use Rattle.plan_types.specs.Showings.{NumberedShowing, numbered_showing}
+use Rattle.plan_types.specs.{FirstShown.TellsFirst, FirstShown.first_showing, FirstShown.showing_at, Showings.NumberedShowing, Showings.numbered_showing}
 use Rattle.plan_type_laws.specs.ShownForms.{FindsShown, FirstsAreFound}
 use Rattle.base_lemmas.proofs.Elements.{contains-later, get-contains}
-use Rattle.std.proofs.lemmas.Option.{same_Some as same-some}
 
 pub first_found : {A : Type 0} (test : A → Bool) (xs : List A) (x : A) → find test xs ≡ Some x → Contains xs x × (test x ≡ true)
 first_found test [] x e = let wrong : None ≡ Some x = e in absurd cc

@@ -1,55 +1,34 @@
 -- Forms of what was followed are as definitions have them.
 use Rattle.std.proofs.Common.{◌≡◌, refl, sym, ap, subst, ◌∙◌, ℕ, Bool, true, false, ◌&&◌, ◌==◌, List, [], ◌∷◌, map, length, Option, Some, None, option_map, slice_get, unwrap_or}
-use Rattle.std.specs.Prelude.{nat_le, nat_lt}
-use Rattle.std.proofs.lemmas.Bool.{lt-ltb, and_from as both}
-use Rattle.std.specs.List.{AllByRecursion, AllZip, Contains, flat_map}
-use Rattle.std.proofs.lemmas.List.Elements.{Contains-append_left, Contains-append_right}
-use Rattle.std.specs.Option.{option_map_or}
-use Rattle.wit_model.specs.Text.{Text}
-use Rattle.wit_model.specs.Tree.{Declaration, Form, Place, Tree}
-use Rattle.wit_model.specs.Meaning.{FunctionMeaning}
-use Rattle.wit_model.specs.Names.{PackageIdentity, path_in}
-use Rattle.wit_model.specs.Rules.{has_items}
-use Rattle.wit_model.specs.Types.{no_tree}
-use Rattle.wit_model.proofs.Elements.{contains-get}
+use Rattle.std.proofs.lemmas.{Bool.lt-ltb, Bool.and_from as both, List.Elements.Contains-append_left, List.Elements.Contains-append_right}
+use Rattle.std.proofs.{ByRecursion.All-map as all_mapped, ByRecursion.All-weaker as recursion_weaker, lemmas.Option.slice_get-map as get_of_map}
+use Rattle.std.specs.{Prelude.nat_le, Prelude.nat_lt, List.AllByRecursion, List.AllZip, List.Contains, List.flat_map, Option.option_map_or}
+use Rattle.wit_model.specs.{Text.Text, Types.no_tree}
+use Rattle.wit_model.specs.{Tree.Declaration, Tree.Form, Tree.Place, Tree.Tree, Meaning.FunctionMeaning, Names.PackageIdentity, Names.path_in, Rules.has_items}
+use Rattle.wit_model.proofs.{Elements.contains-get, TreeLemmas.child_list_of_children as child_list_back}
 use Rattle.comp_meaning.specs.Follow.{Instance, Scope, Seen, interface_of, is_filled, is_key, is_key_primitive, place_of}
-use Rattle.comp_meaning.specs.Reads as reads
-use Rattle.read_shown.specs.Parts.{PartStands, instances_of, named_instance}
-use Rattle.read_shown.specs.Scopes.{IsMetInScope, IsShownBefore, ShownStands}
-use Rattle.read_shown.specs.Scopes as scopes
+use Rattle.read_shown.specs.{Parts.PartStands, Parts.instances_of, Parts.named_instance, Scopes.IsMetInScope, Scopes.IsShownBefore, Scopes.ShownStands}
 use Rattle.read_shown.specs.Trees.{AllAt, DeclarationStands, SignatureStands, TreeStands, count_true, is_formed}
 use Rattle.read_shown.specs.Views.{IsMetInView, TypeStands, ViewStands}
-use Rattle.plan_meaning.proofs.Lists.{no_true}
-use Rattle.plan_meaning.proofs.ShapeLaws.{PartView, is_name, is_node, is_primitive, part_front}
-use Rattle.plan_meaning.specs.NumberedMembers.{Homes, IsMember, ShowsPart}
+use Rattle.plan_meaning.proofs.{Lists.no_true, ShapeLaws.PartView, ShapeLaws.is_name, ShapeLaws.is_node, ShapeLaws.is_primitive, ShapeLaws.part_front}
+use Rattle.plan_meaning.specs.{NumberedMembers.Homes, NumberedMembers.IsMember, NumberedMembers.ShowsPart, PlanRules.is_form, PlanRules.is_key_part}
 use Rattle.plan_meaning.specs.NumberedViews.{AllOf, AreTables, IsPart, NumberedFunction, NumberedView, PartsOf, Tables, declaration_of, function_at, path_text, place_at, shown_function, shown_type, signature_at, tree_at, view_of}
-use Rattle.plan_meaning.specs.NumberedWorlds.{key_of, seen_of, shown_of}
-use Rattle.plan_meaning.specs.PlanRules.{is_form, is_key_part}
-use Rattle.plan_meaning.specs.Shapes.{node_shape, primitives, shape_trees}
-use Rattle.read_rules.specs.declared.reached.ImportedView.{ImportedView}
-use Rattle.read_rules.specs.declared.scopes.Seen.{Seen as NumberSeen}
-use Rattle.read_rules.specs.declared.scopes.Shown.{Shown as NumberShown}
-use Rattle.read_rules.specs.declared.scopes.Shown.TheVariants as shown
-use Rattle.read_rules.specs.Reached.{numbered_import}
-use Rattle.read_rules.specs.Scopes.{numbered_key, numbered_seen, numbered_shown}
-use Rattle.read_rules.specs.Tables.{given_text}
-use Rattle.read_rules.specs.Views.{numbered_view}
-use Rattle.read_exports.specs.declared.members.Member.{Member}
-use Rattle.read_exports.specs.declared.members.Part.{Part}
-use Rattle.read_exports.specs.declared.members.Part.TheVariants as parts
+use Rattle.plan_meaning.specs.{NumberedWorlds.key_of, NumberedWorlds.seen_of, NumberedWorlds.shown_of, Shapes.node_shape, Shapes.primitives, Shapes.shape_trees}
+use Rattle.read_rules.specs.declared.{reached.ImportedView.ImportedView, scopes.Seen.Seen as NumberSeen, scopes.Shown.Shown as NumberShown}
+use Rattle.read_rules.specs.{Reached.numbered_import, Scopes.numbered_key, Scopes.numbered_seen, Scopes.numbered_shown, Tables.given_text, Views.numbered_view}
+use Rattle.read_exports.specs.declared.members.{Member.Member, Part.Part}
 use Rattle.read_exports.specs.Members.{numbered_member, numbered_members, numbered_part}
 use Rattle.plan_types.specs.Showings.{NumberedShowing, showing_of, showings_of_import, showings_of_members, showings_of_part, showings_of_seen, showings_of_shown, showings_of_view, signatures_of_members, signatures_of_part, signatures_of_seen, signatures_of_shown, signatures_of_view}
 use Rattle.plan_type_laws.proofs.InnerForms.{form_range, inner_stands, signature_parts_hold, view_part}
 use Rattle.plan_type_laws.proofs.Walks.{all_any, all_flat, at_each, Held, all_held, two_held}
-use Rattle.plan_type_laws.specs.FormsObeyed.{FormsAreObeyed, LengthsFit}
-use Rattle.plan_type_laws.specs.MembersStand.{MembersStand, all_instances}
+use Rattle.plan_type_laws.specs.{FormsObeyed.FormsAreObeyed, FormsObeyed.LengthsFit, MembersStand.MembersStand, MembersStand.all_instances}
 use Rattle.plan_type_laws.specs.ShownForms.{EachForm, FormsHold}
 use Rattle.base_lemmas.proofs.Bools.{left_of as first_true}
-use Rattle.base_lemmas.proofs.Elements.{all_both, contains-one, get-contains}
-use Rattle.base_lemmas.proofs.Lists.{map_of_map, within_there as slice_there}
-use Rattle.std.proofs.ByRecursion.{All-map as all_mapped, All-weaker as recursion_weaker}
-use Rattle.std.proofs.lemmas.Option.{slice_get-map as get_of_map}
-use Rattle.wit_model.proofs.TreeLemmas.{child_list_of_children as child_list_back}
+use Rattle.base_lemmas.proofs.{Elements.all_both, Elements.contains-one, Elements.get-contains, Lists.map_of_map, Lists.within_there as slice_there}
+use Rattle.comp_meaning.specs.Reads as reads
+use Rattle.read_shown.specs.Scopes as scopes
+use Rattle.read_rules.specs.declared.scopes.Shown.TheVariants as shown
+use Rattle.read_exports.specs.declared.members.Part.TheVariants as parts
 
 module _ (t : Tables) (tables : AreTables t) (fit : LengthsFit t) where
   -- ---- forms

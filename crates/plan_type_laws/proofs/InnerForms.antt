@@ -2,18 +2,15 @@
 use Rattle.std.proofs.Common.{◌≡◌, refl, sym, ap, subst, ◌∙◌, ℕ, zero, suc, ◌+◌, arith, Bool, true, false, List, [], ◌∷◌, map, Option, Some, None, option_and_then, option_map, slice_get, unwrap_or, IfSome}
 use Rattle.std.proofs.lemmas.Option.{slice_get_within, same_Some as same-some}
 use Rattle.std.specs.List.{AllByRecursion, Contains}
-use Rattle.wit_model.specs.Text.{Text}
-use Rattle.wit_model.specs.Tree.{Form, Place, Tree, Trees, children}
-use Rattle.wit_model.specs.Types.{no_tree}
+use Rattle.wit_model.specs.{Text.Text, Tree.Form, Tree.Place, Tree.Tree, Tree.Trees, Tree.children, Types.no_tree}
 use Rattle.wit_model.proofs.Elements.{none-in}
 use Rattle.plan_meaning.proofs.ShapeLaws.{PartView, is_name, is_node, is_primitive, node_tree, part_behind, tree_at_number, viewed}
 use Rattle.plan_meaning.proofs.NumberedRules.{shape_there}
-use Rattle.plan_meaning.specs.NumberedRules.{name_at, name_in}
+use Rattle.plan_meaning.specs.{NumberedRules.name_at, NumberedRules.name_in, Shapes.Shape, Shapes.named_shape, Shapes.node_shape, Shapes.shape_trees}
 use Rattle.plan_meaning.specs.NumberedViews.{AllOf, AreTables, FunctionShape, HasNameIn, IsPart, PartsOf, Tables, place_at, tree_at}
-use Rattle.plan_meaning.specs.NumberedViews as numbered
-use Rattle.plan_meaning.specs.Shapes.{Shape, named_shape, node_shape, shape_trees}
 use Rattle.read_shown.specs.Trees.{HandleStands, PartsStand, SignatureStands, TreeStands, is_handle}
 use Rattle.plan_type_laws.specs.ShownForms.{HasNumberIn, itself, inside}
+use Rattle.plan_meaning.specs.NumberedViews as numbered
 
 -- an item of a list is the first, or stands behind it
 among : {A : Type 0} {R : Type 0} (x y : A) (xs : List A) → Contains (x ∷ xs) y → (x ≡ y → R) → (Contains xs y → R) → R

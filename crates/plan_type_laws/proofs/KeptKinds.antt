@@ -1,15 +1,12 @@
 -- What a type of a plan declares: its kind tells that.
-use Rattle.std.proofs.Common.{◌≡◌, refl, sym, ap, ◌∙◌, ℕ, ◌+◌, arith, List, [], ◌∷◌, Option, Some, None, slice_get}
-use Rattle.std.proofs.Common.{subst}
+use Rattle.std.proofs.Common.{◌≡◌, refl, sym, ap, ◌∙◌, ℕ, ◌+◌, arith, List, [], ◌∷◌, Option, Some, None, slice_get, subst}
+use Rattle.std.proofs.lemmas.Option.{same_Some as same-some}
 use Rattle.std.specs.List.{AllZip}
 use Rattle.wit_model.specs.Tree.{Form}
 use Rattle.plan_meaning.specs.GatheredPlan.{Becomes, DeclaresKind, a_form, a_name, a_resource}
-use Rattle.plan_meaning.specs.NumberedViews.{AreTables, Tables}
+use Rattle.plan_meaning.specs.{NumberedViews.AreTables, NumberedViews.Tables, Renumbering.IsPart, Renumbering.a_primitive, Renumbering.a_shape}
+use Rattle.plan_meaning.specs.{Plan.Plan, Plan.PlannedKind, Shapes.node_shape}
 use Rattle.plan_meaning.specs.Plan as plan
-use Rattle.plan_meaning.specs.Plan.{Plan, PlannedKind}
-use Rattle.plan_meaning.specs.Renumbering.{IsPart, a_primitive, a_shape}
-use Rattle.plan_meaning.specs.Shapes.{node_shape}
-use Rattle.std.proofs.lemmas.Option.{same_Some as same-some}
 
 -- ---- numbers
 

@@ -1,18 +1,13 @@
 -- The marks of what is shown are those of the types of a plan.
 use Rattle.std.proofs.Common.{◌≡◌, sym, ap, subst, ◌∙◌, ℕ, ◌+◌, List, Option, Some}
-use Rattle.wit_model.specs.Text.{Text}
-use Rattle.plan_meaning.specs.GatheredPlan.{DeclaresKind, a_form, a_name, a_resource}
-use Rattle.plan_meaning.specs.KeptResources.{FormIsMarked, MarkedBy}
-use Rattle.plan_meaning.specs.NumberedRules.{name_at}
-use Rattle.plan_meaning.specs.NumberedViews.{Tables}
-use Rattle.plan_meaning.specs.Plan.{Plan, PlannedKind}
-use Rattle.plan_types.specs.Showings.{NumberedShowing}
-use Rattle.plan_type_laws.proofs.KeptKinds.{one_old}
-use Rattle.plan_type_laws.proofs.ShownForms.{kept_forms, shown_kind}
-use Rattle.plan_type_laws.specs.KeptMarks.{MarksAreKept}
-use Rattle.plan_type_laws.specs.ShownMarks.{IsMarkedAs, MarksStand, ShowingIsMarked}
-use Rattle.base_lemmas.proofs.Elements.{all_at}
 use Rattle.std.proofs.ByRecursion.{All-weaker as recursion_weaker}
+use Rattle.wit_model.specs.Text.{Text}
+use Rattle.plan_meaning.specs.{GatheredPlan.DeclaresKind, GatheredPlan.a_form, GatheredPlan.a_name, GatheredPlan.a_resource, Plan.Plan, Plan.PlannedKind}
+use Rattle.plan_meaning.specs.{KeptResources.FormIsMarked, KeptResources.MarkedBy, NumberedRules.name_at, NumberedViews.Tables}
+use Rattle.plan_types.specs.Showings.{NumberedShowing}
+use Rattle.plan_type_laws.proofs.{KeptKinds.one_old, ShownForms.kept_forms, ShownForms.shown_kind}
+use Rattle.plan_type_laws.specs.{KeptMarks.MarksAreKept, ShownMarks.IsMarkedAs, ShownMarks.MarksStand, ShownMarks.ShowingIsMarked}
+use Rattle.base_lemmas.proofs.Elements.{all_at}
 
 module _ (t : Tables) (showings : List NumberedShowing) (signatures : List ℕ) (m : MarksStand t showings signatures) (kept : List ℕ) (p : Plan) where
   kind_marked : (k : ℕ) (d : Option ℕ) (kind : PlannedKind) → IsMarkedAs m.marks k d → DeclaresKind t kept p d kind → MarkedBy t kept p m.marks kind (m.marks k)

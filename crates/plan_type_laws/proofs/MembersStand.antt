@@ -1,19 +1,14 @@
 -- Parts that are well-formed each alone are so together.
 use Rattle.std.proofs.Common.{◌≡◌, sym, subst, ℕ, suc, ◌+◌, ◌⊎◌, inl, inr, arith, Bool, List, [], ◌∷◌, ◌++◌, length, Some, slice_get}
+use Rattle.std.proofs.ByRecursion.{All-weaker as recursion_weaker}
 use Rattle.std.specs.List.{AllByRecursion}
-use Rattle.wit_model.specs.Text.{Text}
-use Rattle.wit_model.specs.Tree.{Place}
+use Rattle.wit_model.specs.{Text.Text, Tree.Place}
 use Rattle.comp_meaning.specs.Follow.{Instance, place_of}
-use Rattle.comp_meaning.specs.Reads as reads
-use Rattle.read_shown.specs.Parts.{MemberStands, PartStands, instances_of}
-use Rattle.read_shown.specs.Scopes.{IsShownBefore}
-use Rattle.read_shown.specs.Trees.{AllAt}
-use Rattle.read_shown.specs.Views.{ViewStands}
+use Rattle.read_shown.specs.{Parts.MemberStands, Parts.PartStands, Parts.instances_of, Scopes.IsShownBefore, Trees.AllAt, Views.ViewStands}
 use Rattle.read_shown.proofs.Views.{view_wider}
 use Rattle.plan_type_laws.specs.MembersStand.{MembersStandTogether, all_instances}
-use Rattle.base_lemmas.proofs.Lists.{front_at as at_front, split_at}
-use Rattle.base_lemmas.proofs.Numbers.{nothing_more as from_start}
-use Rattle.std.proofs.ByRecursion.{All-weaker as recursion_weaker}
+use Rattle.base_lemmas.proofs.{Lists.front_at as at_front, Lists.split_at, Numbers.nothing_more as from_start}
+use Rattle.comp_meaning.specs.Reads as reads
 
 -- an item of two lists is one of the first, or one behind them
 

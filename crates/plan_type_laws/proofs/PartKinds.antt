@@ -1,39 +1,28 @@
 -- The kinds of the names that are shown, in numbers.
 use Rattle.std.proofs.Common.{◌≡◌, sym, ap, subst, ◌∙◌, ℕ, Bool, false, List, [], ◌∷◌, ◌++◌, map, length, Option, Some, None, slice_get}
 use Rattle.std.specs.List.{AllByRecursion, AllZip}
-use Rattle.wit_model.specs.Meaning.{FunctionMeaning}
-use Rattle.wit_model.specs.Names.{PackageIdentity, path_in}
-use Rattle.wit_model.specs.Text.{Text}
+use Rattle.wit_model.specs.{Meaning.FunctionMeaning, Names.PackageIdentity, Names.path_in, Text.Text}
 use Rattle.comp_meaning.specs.Follow.{Instance, Scope, Seen, ShownType, interface_of, place_of}
-use Rattle.comp_meaning.specs.Reads as reads
 use Rattle.read_shown.specs.Kinds.{MemberHasKinds, OfKind, ShownHasKind, ViewHasKinds, WorldHasKinds, kind_at}
-use Rattle.read_shown.specs.Parts.{PartStands, named_instance}
-use Rattle.read_shown.specs.Scopes as scopes
-use Rattle.read_shown.specs.Scopes.{ShownStands}
-use Rattle.read_shown.specs.Trees.{AllAt, DeclarationStands, SignatureStands}
+use Rattle.read_shown.specs.{Parts.PartStands, Parts.named_instance, Scopes.ShownStands, Trees.AllAt, Trees.DeclarationStands, Trees.SignatureStands}
 use Rattle.plan_meaning.specs.FollowedNumbers.{AreMembersIn, IsCalledIn, IsMetFrom, IsPartIn, IsScopeIn, IsSeenIn, IsShownIn, IsViewIn}
-use Rattle.plan_meaning.specs.NumberedMembers.{Homes, HomesStand, IsMember, ShowsPart}
-use Rattle.plan_meaning.specs.NumberedRules.{name_at}
+use Rattle.plan_meaning.specs.{NumberedMembers.Homes, NumberedMembers.HomesStand, NumberedMembers.IsMember, NumberedMembers.ShowsPart, NumberedRules.name_at}
 use Rattle.plan_meaning.specs.NumberedViews.{AllOf, NumberedFunction, NumberedType, NumberedView, Tables, declaration_of, path_at, path_text, place_at, shown_function, shown_type, signature_at, view_of}
 use Rattle.plan_meaning.specs.NumberedWorlds.{HasPath, Shows, key_of, place_of_key, seen_of, shown_of}
-use Rattle.read_rules.specs.declared.reached.ImportedView.{ImportedView}
-use Rattle.read_rules.specs.declared.scopes.Scope.{Scope as NumberScope}
+use Rattle.read_rules.specs.declared.{reached.ImportedView.ImportedView, scopes.Scope.Scope as NumberScope, scopes.Shown.Shown as NumberShown}
 use Rattle.read_rules.specs.declared.scopes.Seen.{Seen as NumberSeen}
-use Rattle.read_rules.specs.declared.scopes.Shown.{Shown as NumberShown}
-use Rattle.read_rules.specs.declared.scopes.Shown.TheVariants as shown
-use Rattle.read_rules.specs.Reached.{numbered_import}
-use Rattle.read_rules.specs.Scopes.{numbered_key, numbered_scope, numbered_seen, numbered_shown}
-use Rattle.read_rules.specs.Tables.{given_text}
-use Rattle.read_rules.specs.Views.{numbered_view}
-use Rattle.read_exports.specs.declared.members.Member.{Member}
-use Rattle.read_exports.specs.declared.members.Part.{Part}
-use Rattle.read_exports.specs.declared.members.Part.TheVariants as parts
+use Rattle.read_rules.specs.{Reached.numbered_import, Scopes.numbered_key, Scopes.numbered_scope, Scopes.numbered_seen, Scopes.numbered_shown}
+use Rattle.read_rules.specs.{Tables.given_text, Views.numbered_view}
+use Rattle.read_exports.specs.declared.members.{Member.Member, Part.Part}
 use Rattle.read_exports.specs.Members.{numbered_member, numbered_members, numbered_part}
-use Rattle.plan_type_laws.proofs.InnerForms.{name_there}
-use Rattle.plan_type_laws.proofs.PartPlaces.{exported_place, key_place, no_names, path_place}
+use Rattle.plan_type_laws.proofs.{InnerForms.name_there, PartPlaces.exported_place, PartPlaces.key_place, PartPlaces.no_names, PartPlaces.path_place}
 use Rattle.plan_type_laws.proofs.Walks.{all_two, all_unmapped, at_each}
 use Rattle.plan_type_laws.specs.ShownMarks.{NamesSeen, NamesShown, PartNames}
 use Rattle.base_lemmas.proofs.Lists.{front_at as at_front, map_of_map, middle_get}
+use Rattle.comp_meaning.specs.Reads as reads
+use Rattle.read_shown.specs.Scopes as scopes
+use Rattle.read_rules.specs.declared.scopes.Shown.TheVariants as shown
+use Rattle.read_exports.specs.declared.members.Part.TheVariants as parts
 
 module _ (t : Tables) (kinds : Text → Text → Bool) where
   -- ---- the kinds of what is shown

@@ -1,27 +1,23 @@
 -- The places of what is shown, in trees and in numbers.
 use Rattle.plan_parts.specs.Interfaces.{slot_part}
-use Rattle.plan_meaning.specs.FollowedNumbers.{IsSlotOf}
-use Rattle.std.proofs.Common.{◌≡◌, sym, ap, subst, ◌∙◌, ℕ, true, false, List, [], map, Option, Some, None, slice_get, unwrap_or, ◌+◌}
-use Rattle.std.specs.List.{AllByRecursion}
-use Rattle.wit_model.specs.Names.{PackageIdentity, path_in}
-use Rattle.wit_model.specs.Text.{Text}
-use Rattle.wit_model.proofs.NameLaws.{read_path_is_spelled}
-use Rattle.comp_meaning.specs.Follow.{Seen, interface_of, place_of}
-use Rattle.read_shown.specs.Scopes as scopes
-use Rattle.read_shown.specs.Trees.{AllAt}
-use Rattle.plan_meaning.specs.NumberedMembers.{Homes, HomesStand, home_at}
+use Rattle.plan_meaning.specs.{FollowedNumbers.IsSlotOf, NumberedMembers.Homes, NumberedMembers.HomesStand, NumberedMembers.home_at}
 use Rattle.plan_meaning.specs.NumberedViews.{AllOf, FunctionShape, PartsOf, Tables, path_text, place_at, NumberedSlot, resource, value}
 use Rattle.plan_meaning.specs.NumberedWorlds.{HasPath, KeyStands, NumberedKey, implementing, key_of, label, path, place_of_key, seen_of, shown_of}
-use Rattle.read_rules.specs.declared.scopes.Seen.{Seen as NumberSeen}
-use Rattle.read_rules.specs.declared.scopes.Shown.{Shown as NumberShown}
-use Rattle.read_rules.specs.declared.scopes.Shown.TheVariants as shown
+use Rattle.std.proofs.Common.{◌≡◌, sym, ap, subst, ◌∙◌, ℕ, true, false, List, [], map, Option, Some, None, slice_get, unwrap_or, ◌+◌}
+use Rattle.std.proofs.{ByRecursion.All-weaker as recursion_weaker, lemmas.Option.same_Some as same-some}
+use Rattle.std.specs.List.{AllByRecursion}
+use Rattle.wit_model.specs.{Names.PackageIdentity, Names.path_in, Text.Text}
+use Rattle.wit_model.proofs.NameLaws.{read_path_is_spelled}
+use Rattle.comp_meaning.specs.Follow.{Seen, interface_of, place_of}
+use Rattle.read_shown.specs.Trees.{AllAt}
+use Rattle.read_rules.specs.declared.scopes.{Seen.Seen as NumberSeen, Shown.Shown as NumberShown}
 use Rattle.read_rules.specs.Scopes.{numbered_seen, numbered_shown}
 use Rattle.read_exports.specs.declared.members.Member.{Member}
 use Rattle.plan_type_laws.proofs.Walks.{all_any, at_each}
 use Rattle.plan_type_laws.specs.ShownMarks.{NamesSeen, NamesShown}
 use Rattle.base_lemmas.proofs.Lists.{map_of_map}
-use Rattle.std.proofs.ByRecursion.{All-weaker as recursion_weaker}
-use Rattle.std.proofs.lemmas.Option.{same_Some as same-some}
+use Rattle.read_shown.specs.Scopes as scopes
+use Rattle.read_rules.specs.declared.scopes.Shown.TheVariants as shown
 
 -- what holds of each part that a function has
 pub parts_weaker : (P Q : ℕ → Type 0) → ((k : ℕ) → P k → Q k) → (f : FunctionShape) → PartsOf P f → PartsOf Q f

@@ -1,32 +1,19 @@
 -- The types of a plan that were made of those that are used.
 use Rattle.std.proofs.Common.{◌≡◌, sym, ap, subst, ◌∙◌, ℕ, Bool, true, List, length, Option, Some, None, slice_get}
+use Rattle.std.proofs.{ByRecursion.All-weaker as recursion_weaker, lemmas.Option.same_Some as same-some, lemmas.Slice.Zip.AllZip-long as zip_length}
 use Rattle.std.specs.List.{AllByRecursion, AllZip}
 use Rattle.wit_model.specs.declared.model.TypeOwner.{TypeOwner}
 use Rattle.wit_model.specs.Text.{Text}
 use Rattle.plan_meaning.proofs.ShapeLaws.{form_back}
-use Rattle.plan_meaning.specs.GatheredPlan.{Becomes}
-use Rattle.plan_meaning.specs.KeptTypes.{IsKeptType, declared, unnamed as kept_unnamed}
-use Rattle.plan_meaning.specs.NumberedRules.{name_at, name_in}
-use Rattle.plan_meaning.specs.NumberedViews.{AreTables, Tables}
-use Rattle.plan_meaning.specs.Plan.{Plan, PlannedType, formed, place_in}
-use Rattle.plan_meaning.specs.Shapes.{Shape, IsShape, a_name, a_node, named_shape}
+use Rattle.plan_meaning.specs.{GatheredPlan.Becomes, Plan.Plan, Plan.PlannedType, Plan.formed, Plan.place_in, PlanRules.is_form}
+use Rattle.plan_meaning.specs.{KeptTypes.IsKeptType, KeptTypes.declared, KeptTypes.unnamed as kept_unnamed, NumberedRules.name_at, NumberedRules.name_in}
+use Rattle.plan_meaning.specs.{NumberedViews.AreTables, NumberedViews.Tables, Shapes.Shape, Shapes.IsShape, Shapes.a_name, Shapes.a_node, Shapes.named_shape}
 use Rattle.plan_parts.proofs.DeclaredKinds.{kinds_declared, parts_become}
-use Rattle.plan_parts.specs.Kept.{AreMarked}
-use Rattle.plan_parts.specs.Kinds.{shape_form}
-use Rattle.plan_parts.specs.Marks.{is_marked}
-use Rattle.plan_types.specs.PlannedTypes.{PlansType, named, unnamed}
-use Rattle.plan_types.specs.Showings.{NumberedShowing}
-use Rattle.plan_types.specs.Used.{used_parts, AreUsed}
-use Rattle.plan_meaning.specs.PlanRules.{is_form}
-use Rattle.plan_type_laws.proofs.ShownForms.{kept_forms, mark_there}
-use Rattle.plan_type_laws.proofs.UsedWalk.{unnamed_node}
-use Rattle.plan_type_laws.specs.PlanTypes.{NamesObey, PlannedTypesAreKept}
-use Rattle.plan_type_laws.specs.UsedParts.{ShowingObeys, SignatureObeys}
-use Rattle.plan_type_laws.proofs.UsedParts.{used_are_fine}
+use Rattle.plan_parts.specs.{Kept.AreMarked, Kinds.shape_form, Marks.is_marked}
+use Rattle.plan_types.specs.{PlannedTypes.PlansType, PlannedTypes.named, PlannedTypes.unnamed, Showings.NumberedShowing, Used.used_parts, Used.AreUsed}
+use Rattle.plan_type_laws.proofs.{ShownForms.kept_forms, ShownForms.mark_there, UsedWalk.unnamed_node, UsedParts.used_are_fine}
+use Rattle.plan_type_laws.specs.{PlanTypes.NamesObey, PlanTypes.PlannedTypesAreKept, UsedParts.ShowingObeys, UsedParts.SignatureObeys}
 use Rattle.base_lemmas.proofs.Elements.{zip_at_right as zip_get}
-use Rattle.std.proofs.ByRecursion.{All-weaker as recursion_weaker}
-use Rattle.std.proofs.lemmas.Option.{same_Some as same-some}
-use Rattle.std.proofs.lemmas.Slice.Zip.{AllZip-long as zip_length}
 
 no_some : {A : Type 0} {B : Type 0} (x : A) → None ≡ Some x → B
 no_some x e = let wrong : ⊥ = cc in absurd wrong

@@ -1,13 +1,8 @@
 -- The types of a plan of what was read, whole.
 use Rattle.std.proofs.Common.{ℕ}
-use Rattle.plan_types.specs.FirstShown.{first_showing}
-use Rattle.plan_types.specs.Showings.{showings_of_members, signatures_of_members}
-use Rattle.plan_type_laws.proofs.FirstFound.{firsts_found}
-use Rattle.plan_type_laws.proofs.FormsObeyed.{forms_obeyed}
-use Rattle.plan_type_laws.proofs.KeptMarks.{marks_kept}
-use Rattle.plan_type_laws.proofs.PlanTypes.{types_are_kept}
-use Rattle.plan_type_laws.proofs.ShownMarks.{names_marked}
-use Rattle.plan_type_laws.proofs.ShownRules.{names_obey, shown_obeys}
+use Rattle.plan_types.specs.{FirstShown.first_showing, Showings.showings_of_members, Showings.signatures_of_members}
+use Rattle.plan_type_laws.proofs.{FirstFound.firsts_found, FormsObeyed.forms_obeyed, PlanTypes.types_are_kept, ShownRules.names_obey, ShownRules.shown_obeys}
+use Rattle.plan_type_laws.proofs.{KeptMarks.marks_kept, ShownMarks.names_marked}
 use Rattle.plan_type_laws.specs.ReadTypes.{PlannedTypesAreRead}
 
 pub types_are_read : PlannedTypesAreRead

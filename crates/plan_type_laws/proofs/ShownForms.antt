@@ -1,34 +1,23 @@
 -- What holds of each form that is shown holds of each form of the plan.
-use Rattle.plan_type_laws.proofs.Walks.{all_two}
+use Rattle.plan_type_laws.proofs.{Walks.all_two, KeptKinds.kinds_tell}
+use Rattle.plan_type_laws.proofs.UsedWalk.{form_there, in_both, in_flat, one_there, unnamed_node, used_fine}
 use Rattle.std.proofs.Common.{◌≡◌, refl, sym, ap, subst, ◌∙◌, ℕ, zero, suc, ◌+◌, ◌-◌, arith, Bool, true, false, not, ◌==◌, if◌then◌else◌, List, [], ◌∷◌, map, length, Option, Some, None, option_and_then, option_to_list, slice_get}
-use Rattle.std.proofs.lemmas.Bool.{ltb-false}
-use Rattle.std.specs.Prelude.{nat_lt}
-use Rattle.std.specs.Option.{option_map_or}
-use Rattle.std.specs.List.{AllByRecursion, AllZip, Contains, flat_map}
+use Rattle.std.proofs.lemmas.{Bool.ltb-false, Option.same_Some as same-some, Slice.Zip.AllZip-long as zip_length}
+use Rattle.std.specs.{Prelude.nat_lt, Option.option_map_or, List.AllByRecursion, List.AllZip, List.Contains, List.flat_map}
 use Rattle.wit_model.specs.declared.model.TypeOwner.{TypeOwner}
-use Rattle.wit_model.specs.Text.{Text}
-use Rattle.wit_model.specs.Tree.{Form}
-use Rattle.wit_model.specs.Uses.{has}
+use Rattle.wit_model.specs.{Text.Text, Tree.Form, Uses.has}
 use Rattle.wit_model.proofs.Elements.{has-contains}
 use Rattle.plan_meaning.proofs.NumberedRules.{shape_there}
-use Rattle.plan_meaning.specs.GatheredPlan.{DeclaresKind}
+use Rattle.plan_meaning.specs.{GatheredPlan.DeclaresKind, Shapes.Shape, Shapes.first_label, Shapes.named_shape, Shapes.node_shape}
 use Rattle.plan_meaning.specs.KeptTypes.{IsKeptForm, alone, of_name}
-use Rattle.plan_meaning.specs.NumberedRules.{is_form, name_at, name_in, shape_at}
+use Rattle.plan_meaning.specs.{NumberedRules.is_form, NumberedRules.name_at, NumberedRules.name_in, NumberedRules.shape_at, Plan.Plan, Plan.PlannedType}
 use Rattle.plan_meaning.specs.NumberedViews.{AllOf, AreTables, FunctionShape, PartsOf, Tables, function_at}
-use Rattle.plan_meaning.specs.Plan.{Plan, PlannedType}
-use Rattle.plan_meaning.specs.Shapes.{Shape, first_label, named_shape, node_shape}
 use Rattle.plan_parts.proofs.DeclaredKinds.{kinds_declared}
-use Rattle.plan_parts.specs.Kept.{AreMarked}
-use Rattle.plan_parts.specs.Marks.{is_marked}
-use Rattle.plan_types.specs.PlannedTypes.{PlansType, named, unnamed}
-use Rattle.plan_types.specs.Showings.{NumberedShowing}
+use Rattle.plan_parts.specs.{Kept.AreMarked, Marks.is_marked}
+use Rattle.plan_types.specs.{PlannedTypes.PlansType, PlannedTypes.named, PlannedTypes.unnamed, Showings.NumberedShowing}
 use Rattle.plan_types.specs.Used.{declared_parts, form_parts, function_parts, showing_parts, signature_parts, used_parts, AreUsed}
-use Rattle.plan_type_laws.proofs.KeptKinds.{kinds_tell}
-use Rattle.plan_type_laws.proofs.UsedWalk.{form_there, in_both, in_flat, one_there, unnamed_node, used_fine}
 use Rattle.plan_type_laws.specs.ShownForms.{EachForm, FindsShown, FormsHold, itself, inside}
 use Rattle.base_lemmas.proofs.Elements.{all_at, zip_at_right as zip_get}
-use Rattle.std.proofs.lemmas.Option.{same_Some as same-some}
-use Rattle.std.proofs.lemmas.Slice.Zip.{AllZip-long as zip_length}
 
 -- ---- marks
 

@@ -1,36 +1,25 @@
 -- There are marks that tell which of the names that are shown are resources.
 use Rattle.std.proofs.Common.{◌≡◌, refl, sym, ap, ◌∙◌, ℕ, Bool, true, false, not, ◌==◌, filter, if◌then◌else◌, List, [], ◌∷◌, ◌++◌, map, Option, Some, None, is_none}
-use Rattle.std.proofs.lemmas.Bool.{eqb-true, not-true}
+use Rattle.std.proofs.{lemmas.Bool.eqb-true, lemmas.Bool.not-true, ByRecursion.All-weaker as recursion_weaker}
 use Rattle.std.specs.List.{AllByRecursion, flat_map}
-use Rattle.wit_model.specs.Text.{Text}
-use Rattle.wit_model.specs.Uses.{has}
+use Rattle.wit_model.specs.{Text.Text, Uses.has}
 use Rattle.plan_meaning.specs.KeptResources.{FormIsMarked}
-use Rattle.plan_meaning.specs.NumberedMembers.{NumberedMember}
+use Rattle.plan_meaning.specs.{NumberedMembers.NumberedMember, NumberedWorlds.HasPath, NumberedWorlds.are_once, NumberedWorlds.place_of_key}
 use Rattle.plan_meaning.specs.NumberedViews.{AllOf, AreTables, PartsOf, Tables, function_at, path_at}
-use Rattle.plan_meaning.specs.NumberedWorlds.{HasPath, are_once, place_of_key}
-use Rattle.read_rules.specs.declared.reached.ImportedView.{ImportedView}
-use Rattle.read_rules.specs.declared.scopes.Seen.{Seen}
-use Rattle.read_rules.specs.declared.scopes.Shown.{Shown as NumberShown}
-use Rattle.read_rules.specs.declared.scopes.Shown.TheVariants as shown
-use Rattle.read_rules.specs.Scopes.{numbered_key, numbered_seen, numbered_shown}
-use Rattle.read_rules.specs.Tables.{given_text}
-use Rattle.read_rules.specs.Views.{numbered_view}
-use Rattle.read_exports.specs.declared.members.Member.{Member}
-use Rattle.read_exports.specs.declared.members.Part.{Part}
-use Rattle.read_exports.specs.declared.members.Part.TheVariants as parts
+use Rattle.read_rules.specs.declared.{reached.ImportedView.ImportedView, scopes.Seen.Seen, scopes.Shown.Shown as NumberShown}
+use Rattle.read_rules.specs.{Scopes.numbered_key, Scopes.numbered_seen, Scopes.numbered_shown, Tables.given_text, Views.numbered_view}
+use Rattle.read_exports.specs.declared.members.{Member.Member, Part.Part}
 use Rattle.read_exports.specs.Members.{numbered_members, numbered_part}
 use Rattle.plan_types.specs.Showings.{NumberedShowing, showings_of_import, showings_of_members, showings_of_part, showings_of_seen, showings_of_shown, showings_of_view, signatures_of_members, signatures_of_part, signatures_of_seen, signatures_of_shown}
 use Rattle.plan_type_laws.proofs.PartKinds.{PartKinds, SeenKinds, ShownKinds, ViewKinds, member_kinds}
-use Rattle.plan_type_laws.proofs.PartPlaces.{parts_weaker}
+use Rattle.plan_type_laws.proofs.{PartPlaces.parts_weaker, Walks.all_split, Walks.all_two, Walks.two_held}
 use Rattle.plan_type_laws.proofs.ViewMarks.{AreShown, Called, HasOwn, IsValue, Shown, call_marked, mark_of_form, mark_of_primitive, marks, name_marked, own_by_path, own_by_place, view_marked}
-use Rattle.plan_type_laws.proofs.Walks.{all_split, all_two, two_held}
 use Rattle.plan_type_laws.specs.ShownForms.{EachForm}
 use Rattle.plan_type_laws.specs.ShownMarks.{NamesAreMarked, ShowingIsMarked, has_no_path, places_of_part, places_of_seen, places_of_shown}
-use Rattle.base_lemmas.proofs.Bools.{first_false, left_of as first_true, right_of as second_true, second_false}
-use Rattle.base_lemmas.proofs.Elements.{all_both}
-use Rattle.base_lemmas.proofs.Lists.{append_of_map}
-use Rattle.base_lemmas.proofs.Numbers.{apart_back, same-number}
-use Rattle.std.proofs.ByRecursion.{All-weaker as recursion_weaker}
+use Rattle.base_lemmas.proofs.{Bools.first_false, Bools.left_of as first_true, Bools.right_of as second_true, Bools.second_false, Lists.append_of_map}
+use Rattle.base_lemmas.proofs.{Elements.all_both, Numbers.apart_back, Numbers.same-number}
+use Rattle.read_rules.specs.declared.scopes.Shown.TheVariants as shown
+use Rattle.read_exports.specs.declared.members.Part.TheVariants as parts
 
 -- ---- places and the kinds of their names
 

@@ -1,49 +1,35 @@
 -- What is shown of what was read obeys the rules.
-use Rattle.plan_type_laws.proofs.Walks.{Held, two_held}
+use Rattle.plan_type_laws.proofs.{Walks.Held, Walks.two_held, InnerForms.name_there}
+use Rattle.plan_type_laws.proofs.PartPlaces.{exported_place, key_place, no_names, parts_weaker, path_place, slot_number}
 use Rattle.std.proofs.Common.{◌≡◌, sym, ap, subst, ◌∙◌, ℕ, ◌+◌, ◌<◌, arith, Bool, true, false, ◌&&◌, ◌||◌, List, [], ◌∷◌, ◌++◌, map, Option, Some, None, slice_get}
 use Rattle.std.proofs.lemmas.List.Folds.{list_all-append}
-use Rattle.std.proofs.lemmas.Option.{slice_get_within, same_Some as same-some}
+use Rattle.std.proofs.{lemmas.Option.slice_get_within, lemmas.Option.same_Some as same-some, ByRecursion.All-weaker as recursion_weaker}
 use Rattle.std.specs.List.{AllByRecursion, AllZip, flat_map, list_all, list_any}
-use Rattle.wit_model.specs.Meaning.{FunctionMeaning, Signature}
-use Rattle.wit_model.specs.Names.{PackageIdentity, is_label, path_in}
-use Rattle.wit_model.specs.Text.{Text}
-use Rattle.wit_model.specs.Tree.{Place}
+use Rattle.wit_model.specs.{Meaning.FunctionMeaning, Meaning.Signature, Names.PackageIdentity, Names.is_label, Names.path_in, Text.Text, Tree.Place}
 use Rattle.comp_meaning.specs.Follow.{Scope, Seen, ShownType, View, interface_of, place_of}
-use Rattle.comp_meaning.specs.Reads as reads
-use Rattle.comp_meaning.specs.Reads.{Sight}
-use Rattle.comp_meaning.specs.Rules as rules
-use Rattle.comp_meaning.specs.Rules.{distinct}
-use Rattle.read_shown.specs.Parts.{PartStands}
-use Rattle.read_shown.specs.Scopes as scopes
-use Rattle.read_shown.specs.Trees.{AllAt}
+use Rattle.comp_meaning.specs.{Reads.Sight, Rules.distinct}
+use Rattle.read_shown.specs.{Parts.PartStands, Trees.AllAt}
 use Rattle.plan_meaning.specs.FollowedNumbers.{AreMembersIn, IsCalledIn, IsMetFrom, IsPartIn, IsScopeIn, IsSeenIn, IsShownIn, IsSlotOf, IsViewIn}
 use Rattle.plan_meaning.specs.NumberedMembers.{Homes, HomesStand, IsMember, ShowsPart}
 use Rattle.plan_meaning.specs.NumberedViews.{AllOf, AreTables, IsPart, NumberedFunction, NumberedSlot, NumberedType, NumberedView, Tables, declaration_of, function_at, path_at, path_text, place_at, resource, shown_function, shown_type, signature_at, value, view_of}
 use Rattle.plan_meaning.specs.NumberedWorlds.{HasPath, Shows, key_of, place_of_key, seen_of, shown_of}
 use Rattle.plan_meaning.specs.Shapes.{Shape, first_label, named_shape}
 use Rattle.plan_parts.specs.Interfaces.{slot_part}
-use Rattle.read_rules.specs.declared.reached.ImportedView.{ImportedView}
-use Rattle.read_rules.specs.declared.scopes.Scope.{Scope as NumberScope}
+use Rattle.read_rules.specs.declared.{reached.ImportedView.ImportedView, scopes.Scope.Scope as NumberScope, scopes.Shown.Shown as NumberShown}
 use Rattle.read_rules.specs.declared.scopes.Seen.{Seen as NumberSeen}
-use Rattle.read_rules.specs.declared.scopes.Shown.{Shown as NumberShown}
-use Rattle.read_rules.specs.declared.scopes.Shown.TheVariants as shown
-use Rattle.read_rules.specs.Reached.{numbered_import}
-use Rattle.read_rules.specs.Scopes.{numbered_key, numbered_scope, numbered_seen, numbered_shown}
-use Rattle.read_rules.specs.Tables.{given_text}
-use Rattle.read_rules.specs.Views.{numbered_view}
-use Rattle.read_exports.specs.declared.members.Member.{Member}
-use Rattle.read_exports.specs.declared.members.Part.{Part}
-use Rattle.read_exports.specs.declared.members.Part.TheVariants as parts
+use Rattle.read_rules.specs.{Reached.numbered_import, Scopes.numbered_key, Scopes.numbered_scope, Scopes.numbered_seen, Scopes.numbered_shown}
+use Rattle.read_rules.specs.{Tables.given_text, Views.numbered_view}
+use Rattle.read_exports.specs.declared.members.{Member.Member, Part.Part}
 use Rattle.read_exports.specs.Members.{numbered_member, numbered_members, numbered_part}
 use Rattle.plan_types.specs.Showings.{NumberedShowing, showing_of, showings_of_import, showings_of_members, showings_of_part, showings_of_seen, showings_of_shown, showings_of_view, signatures_of_members, signatures_of_part, signatures_of_seen, signatures_of_shown, signatures_of_view}
-use Rattle.plan_type_laws.proofs.InnerForms.{name_there}
-use Rattle.plan_type_laws.proofs.PartPlaces.{exported_place, key_place, no_names, parts_weaker, path_place, slot_number}
-use Rattle.plan_type_laws.specs.ShownMarks.{NamesSeen, NamesShown, PartNames}
+use Rattle.plan_type_laws.specs.{ShownMarks.NamesSeen, ShownMarks.NamesShown, ShownMarks.PartNames, UsedParts.ShowingObeys, UsedParts.SignatureObeys}
 use Rattle.plan_type_laws.specs.ShownRules.{NamesObeyRules, ShowingIsName, ShownObeysRules}
-use Rattle.plan_type_laws.specs.UsedParts.{ShowingObeys, SignatureObeys}
-use Rattle.base_lemmas.proofs.Bools.{left_of as first_true, right_of as second_true}
-use Rattle.base_lemmas.proofs.Elements.{all_at, all_both}
-use Rattle.std.proofs.ByRecursion.{All-weaker as recursion_weaker}
+use Rattle.base_lemmas.proofs.{Bools.left_of as first_true, Bools.right_of as second_true, Elements.all_at, Elements.all_both}
+use Rattle.comp_meaning.specs.Reads as reads
+use Rattle.comp_meaning.specs.Rules as rules
+use Rattle.read_shown.specs.Scopes as scopes
+use Rattle.read_rules.specs.declared.scopes.Shown.TheVariants as shown
+use Rattle.read_exports.specs.declared.members.Part.TheVariants as parts
 
 module _ (t : Tables) (tables : AreTables t) where
   abbrev Hold : List NumberedShowing → List ℕ → Type 0

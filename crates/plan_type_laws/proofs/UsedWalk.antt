@@ -1,19 +1,14 @@
 -- What holds of each unnamed type that is used: what holds of those that are shown, and of the parts of each of which it holds.
 use Rattle.std.proofs.Common.{◌≡◌, refl, sym, ap, ◌∙◌, ℕ, ◌+◌, inl, inr, Bool, true, false, ◌||◌, ◌==◌, List, [], ◌∷◌, ◌++◌, map, Option, Some, None, option_map, slice_get}
-use Rattle.std.proofs.lemmas.Bool.{eqb-true, or_cases}
-use Rattle.std.proofs.lemmas.Option.{slice_get_within, same_Some as same-some, slice_get-map as get_of_map}
+use Rattle.std.proofs.lemmas.{Bool.eqb-true, Bool.or_cases, Option.slice_get_within, Option.same_Some as same-some, Option.slice_get-map as get_of_map}
 use Rattle.std.proofs.lemmas.List.Folds.{list_any-append}
 use Rattle.std.specs.List.{AllByRecursion, Contains, flat_map}
-use Rattle.wit_model.specs.Text.{Text}
-use Rattle.wit_model.specs.Tree.{Form}
-use Rattle.wit_model.specs.Uses.{has}
+use Rattle.wit_model.specs.{Text.Text, Tree.Form, Uses.has}
 use Rattle.wit_model.proofs.Elements.{contains-has}
 use Rattle.plan_meaning.specs.NumberedRules.{name_in}
-use Rattle.plan_meaning.specs.NumberedViews.{AreTables, Tables}
-use Rattle.plan_meaning.specs.Shapes.{Shape, IsShape, a_name, a_node, node_shape}
+use Rattle.plan_meaning.specs.{NumberedViews.AreTables, NumberedViews.Tables, Shapes.Shape, Shapes.IsShape, Shapes.a_name, Shapes.a_node, Shapes.node_shape}
 use Rattle.plan_parts.specs.Marks.{IsUsed, is_marked, marked, part}
-use Rattle.plan_types.specs.Showings.{NumberedShowing}
-use Rattle.plan_types.specs.Used.{function_parts, showing_parts, used_parts, AreUsed}
+use Rattle.plan_types.specs.{Showings.NumberedShowing, Used.function_parts, Used.showing_parts, Used.used_parts, Used.AreUsed}
 
 -- ---- lists
 

@@ -1,34 +1,23 @@
 -- The marks of names by their kinds: what is shown in one place is marked as it is shown.
-use Rattle.plan_type_laws.proofs.PartPlaces.{slot_number}
+use Rattle.plan_type_laws.proofs.{PartPlaces.slot_number, PartKinds.NameKinds, PartKinds.ViewKinds, UsedWalk.unnamed_node}
+use Rattle.plan_type_laws.proofs.InnerForms.{form_range, handle_held, inner_names, inner_stands, name_alone, name_there, signature_parts_hold, view_part}
 use Rattle.std.proofs.Common.{◌≡◌, ◌⊎◌, inl, inr, refl, sym, ap, subst, ◌∙◌, ℕ, ◌+◌, ◌<◌, arith, Bool, true, false, not, List, [], ◌∷◌, map, Option, Some, None, option_and_then, slice_get}
-use Rattle.std.specs.List.{AllByRecursion, Contains, list_all}
-use Rattle.std.specs.Option.{option_map_or}
-use Rattle.wit_model.specs.Text.{Text}
-use Rattle.wit_model.specs.Tree.{Declaration, Form, Place, Tree, children}
+use Rattle.std.proofs.{ByRecursion.All-map as all_mapped, ByRecursion.All-weaker as recursion_weaker, lemmas.Bool.and_from as both}
+use Rattle.std.specs.{List.AllByRecursion, List.Contains, List.list_all, Option.option_map_or}
+use Rattle.wit_model.specs.{Text.Text, Tree.Declaration, Tree.Form, Tree.Place, Tree.Tree, Tree.children}
 use Rattle.comp_meaning.specs.Follow.{place_of}
-use Rattle.read_shown.specs.Kinds.{OfKind, kind_at}
-use Rattle.read_shown.specs.Trees.{DeclarationStands, PartsStand, SignatureStands, TreeStands, is_handle}
-use Rattle.plan_meaning.proofs.Lists.{no_true}
+use Rattle.read_shown.specs.{Kinds.OfKind, Kinds.kind_at, Trees.DeclarationStands, Trees.PartsStand, Trees.SignatureStands, Trees.TreeStands, Trees.is_handle}
+use Rattle.plan_meaning.proofs.{Lists.no_true, ShapeLaws.PartView, ShapeLaws.is_name, ShapeLaws.is_node, ShapeLaws.is_primitive}
 use Rattle.plan_meaning.proofs.NumberedRules.{no_shape, shape_there}
-use Rattle.plan_meaning.proofs.ShapeLaws.{PartView, is_name, is_node, is_primitive}
 use Rattle.plan_meaning.specs.FollowedNumbers.{IsCalledIn, IsMetFrom, IsShownIn, IsSlotOf}
-use Rattle.plan_meaning.specs.KeptResources.{FormIsMarked}
-use Rattle.plan_meaning.specs.NumberedRules.{name_at, name_in}
+use Rattle.plan_meaning.specs.{KeptResources.FormIsMarked, NumberedRules.name_at, NumberedRules.name_in, Shapes.named_shape, Shapes.node_shape}
 use Rattle.plan_meaning.specs.NumberedViews.{AllOf, AreTables, HasNameIn, IsPart, NumberedFunction, NumberedSlot, NumberedType, NumberedView, PartsOf, Tables, declaration_of, function_at, inside, itself, place_at, resource, signature_at, tree_at, value}
-use Rattle.plan_meaning.specs.NumberedWorlds.{HasPath}
-use Rattle.plan_meaning.specs.PlanRules.{is_handle_form}
-use Rattle.plan_meaning.specs.Shapes.{named_shape, node_shape}
+use Rattle.plan_meaning.specs.{NumberedWorlds.HasPath, PlanRules.is_handle_form}
 use Rattle.plan_parts.specs.Interfaces.{slot_part}
 use Rattle.plan_types.specs.Showings.{NumberedShowing, showing_of, showings_of_view, signatures_of_view}
-use Rattle.plan_type_laws.proofs.InnerForms.{form_range, handle_held, inner_names, inner_stands, name_alone, name_there, signature_parts_hold, view_part}
-use Rattle.plan_type_laws.proofs.PartKinds.{NameKinds, ViewKinds}
-use Rattle.plan_type_laws.proofs.UsedWalk.{unnamed_node}
-use Rattle.plan_type_laws.specs.ShownForms as forms
-use Rattle.plan_type_laws.specs.ShownForms.{EachForm, HasNumberIn}
-use Rattle.plan_type_laws.specs.ShownMarks.{IsMarkedAs, ShowingIsMarked}
+use Rattle.plan_type_laws.specs.{ShownForms.EachForm, ShownForms.HasNumberIn, ShownMarks.IsMarkedAs, ShownMarks.ShowingIsMarked}
 use Rattle.base_lemmas.proofs.Elements.{contains-later, get-contains}
-use Rattle.std.proofs.ByRecursion.{All-map as all_mapped, All-weaker as recursion_weaker}
-use Rattle.std.proofs.lemmas.Bool.{and_from as both}
+use Rattle.plan_type_laws.specs.ShownForms as forms
 
 same_handle : (form : Form) → is_handle_form form ≡ is_handle form
 same_handle (Form.record_of names) = refl

@@ -2,15 +2,12 @@
 use Rattle.std.specs.Prelude.{◌≡◌, ◌<◌, ℕ, List, Some, slice_get}
 use Rattle.std.specs.List.{AllZip}
 use Rattle.wit_model.specs.Tree.{Form}
-use Rattle.comp_meaning.specs.Reads as reads
-use Rattle.plan_meaning.specs.NumberedMembers.{Homes, IsMember}
-use Rattle.plan_meaning.specs.NumberedViews.{AreTables, Tables}
-use Rattle.plan_meaning.specs.Shapes.{node_shape}
+use Rattle.plan_meaning.specs.{NumberedMembers.Homes, NumberedMembers.IsMember, NumberedViews.AreTables, NumberedViews.Tables, Shapes.node_shape}
 use Rattle.read_exports.specs.declared.members.Member.{Member}
 use Rattle.read_exports.specs.Members.{numbered_members}
 use Rattle.plan_types.specs.Showings.{showings_of_members, signatures_of_members}
-use Rattle.plan_type_laws.specs.ShownForms.{FormsObey}
-use Rattle.plan_type_laws.specs.MembersStand.{MembersStand}
+use Rattle.plan_type_laws.specs.{ShownForms.FormsObey, MembersStand.MembersStand}
+use Rattle.comp_meaning.specs.Reads as reads
 
 -- each fixed length of the table is a number of 32 bits
 abbrev pub LengthsFit : Tables → Type 0

@@ -1,16 +1,11 @@
 -- The resources of a plan, by the marks of what is shown (Explainer.md, "Type Definitions"; WIT.md, "Types").
-use Rattle.std.specs.Prelude.{ℕ, Bool, List, Option}
-use Rattle.std.specs.List.{AllZip}
+use Rattle.std.specs.{Prelude.ℕ, Prelude.Bool, Prelude.List, Prelude.Option, List.AllZip}
 use Rattle.wit_model.specs.declared.model.TypeOwner.{TypeOwner}
-use Rattle.plan_meaning.specs.KeptResources as resources
-use Rattle.plan_meaning.specs.NumberedViews.{AreTables, Tables}
-use Rattle.plan_meaning.specs.Plan.{Plan}
+use Rattle.plan_meaning.specs.{NumberedViews.AreTables, NumberedViews.Tables, Plan.Plan}
 use Rattle.plan_parts.specs.Kept.{AreMarked}
-use Rattle.plan_types.specs.PlannedTypes.{PlansType}
-use Rattle.plan_types.specs.Showings.{NumberedShowing}
-use Rattle.plan_types.specs.Used.{used_parts, AreUsed}
-use Rattle.plan_type_laws.specs.ShownForms.{FindsShown}
-use Rattle.plan_type_laws.specs.ShownMarks.{MarksStand}
+use Rattle.plan_types.specs.{PlannedTypes.PlansType, Showings.NumberedShowing, Used.used_parts, Used.AreUsed}
+use Rattle.plan_type_laws.specs.{ShownForms.FindsShown, ShownMarks.MarksStand}
+use Rattle.plan_meaning.specs.KeptResources as resources
 
 -- The marks of what is shown are those of the types that are made of what is used.
 abbrev pub MarksAreKept : Type 0

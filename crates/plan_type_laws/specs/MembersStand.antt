@@ -1,13 +1,9 @@
 -- Parts at the top that are well-formed together: each name that is met was shown before it, by the same part or by one before it (WIT.md, "Package
 -- Format").
-use Rattle.std.specs.Prelude.{List}
-use Rattle.std.specs.List.{AllByRecursion, flat_map}
+use Rattle.std.specs.{Prelude.List, List.AllByRecursion, List.flat_map}
 use Rattle.comp_meaning.specs.Follow.{Instance, place_of}
+use Rattle.read_shown.specs.{Parts.MemberStands, Parts.PartStands, Parts.instances_of, Scopes.IsShownBefore, Trees.AllAt, Views.ViewStands}
 use Rattle.comp_meaning.specs.Reads as reads
-use Rattle.read_shown.specs.Parts.{MemberStands, PartStands, instances_of}
-use Rattle.read_shown.specs.Scopes.{IsShownBefore}
-use Rattle.read_shown.specs.Trees.{AllAt}
-use Rattle.read_shown.specs.Views.{ViewStands}
 
 -- the instances that the parts show, in order
 abbrev pub all_instances : List reads.Member → List Instance

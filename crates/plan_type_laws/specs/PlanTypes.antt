@@ -2,20 +2,13 @@
 use Rattle.std.specs.Prelude.{◌≡◌, ◌<◌, ◌+◌, ℕ, Bool, true, List, Option, Some, slice_get}
 use Rattle.std.specs.List.{AllByRecursion, AllZip}
 use Rattle.wit_model.specs.declared.model.TypeOwner.{TypeOwner}
-use Rattle.wit_model.specs.Names.{is_label}
-use Rattle.wit_model.specs.Text.{Text}
-use Rattle.comp_meaning.specs.Rules as rules
-use Rattle.plan_meaning.specs.KeptTypes.{TypesAreKept}
+use Rattle.wit_model.specs.{Names.is_label, Text.Text}
+use Rattle.plan_meaning.specs.{KeptTypes.TypesAreKept, Plan.Plan, Plan.place_in, Shapes.named_shape}
 use Rattle.plan_meaning.specs.NumberedViews.{AllOf, AreTables, Tables, declaration_of, place_at}
-use Rattle.plan_meaning.specs.Plan.{Plan, place_in}
-use Rattle.plan_meaning.specs.Shapes.{named_shape}
-use Rattle.plan_parts.specs.Kept.{AreMarked}
-use Rattle.plan_parts.specs.Marks.{is_marked}
-use Rattle.plan_types.specs.PlannedTypes.{PlansType}
-use Rattle.plan_types.specs.Showings.{NumberedShowing}
-use Rattle.plan_types.specs.Used.{used_parts, AreUsed}
-use Rattle.plan_type_laws.specs.ShownForms.{FindsShown, FormsObey}
-use Rattle.plan_type_laws.specs.UsedParts.{ShowingObeys, SignatureObeys}
+use Rattle.plan_parts.specs.{Kept.AreMarked, Marks.is_marked}
+use Rattle.plan_types.specs.{PlannedTypes.PlansType, Showings.NumberedShowing, Used.used_parts, Used.AreUsed}
+use Rattle.plan_type_laws.specs.{ShownForms.FindsShown, ShownForms.FormsObey, UsedParts.ShowingObeys, UsedParts.SignatureObeys}
+use Rattle.comp_meaning.specs.Rules as rules
 
 -- A name is a label. It is shown as what may be declared in its place, which is its owner's, and stands behind that.
 pub record NameObeys (t : Tables) (p : Plan) (owners : ℕ → TypeOwner) (n q : ℕ) (name : Text) (s : NumberedShowing) : Type 0 where

@@ -4,26 +4,17 @@ use Rattle.std.specs.Prelude.{◌≡◌, ℕ, Bool, true, List, Some, slice_get}
 use Rattle.std.specs.List.{AllZip, flat_map}
 use Rattle.wit_model.specs.declared.model.TypeOwner.{TypeOwner}
 use Rattle.wit_model.specs.Text.{Text}
-use Rattle.comp_meaning.specs.Reads as reads
 use Rattle.read_shown.specs.Kinds.{NamesHaveKinds}
-use Rattle.plan_meaning.specs.FollowedNumbers.{AreMembersIn}
-use Rattle.plan_meaning.specs.KeptResources as resources
-use Rattle.plan_meaning.specs.KeptTypes.{TypesAreKept}
-use Rattle.plan_meaning.specs.NumberedMembers.{Homes, HomesStand, IsMember}
-use Rattle.plan_meaning.specs.NumberedViews.{AreTables, Tables, place_at}
-use Rattle.plan_meaning.specs.Plan.{Plan, place_in}
-use Rattle.plan_meaning.specs.Shapes.{named_shape}
-use Rattle.plan_parts.specs.Kept.{AreMarked}
-use Rattle.plan_parts.specs.Marks.{is_marked}
+use Rattle.plan_meaning.specs.{FollowedNumbers.AreMembersIn, NumberedMembers.Homes, NumberedMembers.HomesStand, NumberedMembers.IsMember, Shapes.named_shape}
+use Rattle.plan_meaning.specs.{KeptTypes.TypesAreKept, NumberedViews.AreTables, NumberedViews.Tables, NumberedViews.place_at, Plan.Plan, Plan.place_in}
+use Rattle.plan_parts.specs.{Kept.AreMarked, Marks.is_marked}
 use Rattle.read_exports.specs.declared.members.Member.{Member}
 use Rattle.read_exports.specs.Members.{numbered_members}
-use Rattle.plan_types.specs.FirstShown.{first_showing}
+use Rattle.plan_types.specs.{FirstShown.first_showing, Showings.showings_of_members, Showings.signatures_of_members, Used.used_parts, Used.AreUsed}
 use Rattle.plan_types.specs.PlannedTypes.{PlansType}
-use Rattle.plan_types.specs.Showings.{showings_of_members, signatures_of_members}
-use Rattle.plan_types.specs.Used.{used_parts, AreUsed}
-use Rattle.plan_type_laws.specs.FormsObeyed.{LengthsFit}
-use Rattle.plan_type_laws.specs.ShownMarks.{ArePlaced, MarksStand}
-use Rattle.plan_type_laws.specs.MembersStand.{MembersStand}
+use Rattle.plan_type_laws.specs.{FormsObeyed.LengthsFit, ShownMarks.ArePlaced, ShownMarks.MarksStand, MembersStand.MembersStand}
+use Rattle.comp_meaning.specs.Reads as reads
+use Rattle.plan_meaning.specs.KeptResources as resources
 
 -- What is exported at the top, in numbers and in trees: it is well-formed, each name is a resource or isn't wherever it is met, and the views of
 -- interfaces may be ones.

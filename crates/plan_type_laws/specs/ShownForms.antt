@@ -2,12 +2,10 @@
 use Rattle.std.specs.Prelude.{◌≡◌, ◌+◌, ℕ, true, List, Option, Some, slice_get}
 use Rattle.std.specs.List.{AllByRecursion, Contains}
 use Rattle.wit_model.specs.Tree.{Form}
-use Rattle.plan_meaning.specs.NumberedViews.{AllOf, PartsOf, Tables, function_at}
-use Rattle.plan_meaning.specs.PlanRules.{is_form}
+use Rattle.plan_meaning.specs.{NumberedViews.AllOf, NumberedViews.PartsOf, NumberedViews.Tables, NumberedViews.function_at, PlanRules.is_form}
 use Rattle.plan_meaning.specs.Shapes.{node_shape}
 use Rattle.plan_types.specs.declared.showings.Showing.{Showing}
-use Rattle.plan_types.specs.FirstShown.{TellsFirst, first_showing, showing_at}
-use Rattle.plan_types.specs.Showings.{NumberedShowing}
+use Rattle.plan_types.specs.{FirstShown.TellsFirst, FirstShown.first_showing, FirstShown.showing_at, Showings.NumberedShowing}
 
 module _ (t : Tables) where
   -- In the part stands the number, as itself or among the parts of a form.

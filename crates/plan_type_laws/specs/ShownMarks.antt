@@ -1,27 +1,20 @@
 -- Which names are resources: each is one wherever it is shown or met, or nowhere (Explainer.md, "Type Definitions"; WIT.md, "Interfaces: use").
 use Rattle.std.specs.Prelude.{◌≡◌, ◌<◌, ◌+◌, ℕ, Bool, true, false, List, [], ◌∷◌, ◌++◌, filter, is_none, Option, Some, None, slice_get}
 use Rattle.std.specs.List.{AllByRecursion, AllZip, flat_map}
-use Rattle.wit_model.specs.Text.{Text}
-use Rattle.wit_model.specs.Tree.{Form}
-use Rattle.comp_meaning.specs.Reads as reads
+use Rattle.wit_model.specs.{Text.Text, Tree.Form}
 use Rattle.read_shown.specs.Kinds.{NamesHaveKinds}
-use Rattle.plan_meaning.specs.FollowedNumbers.{AreMembersIn}
-use Rattle.plan_meaning.specs.KeptResources.{FormIsMarked}
+use Rattle.plan_meaning.specs.{FollowedNumbers.AreMembersIn, KeptResources.FormIsMarked, NumberedRules.name_at, Shapes.named_shape, Shapes.node_shape}
 use Rattle.plan_meaning.specs.NumberedMembers.{Homes, HomesStand, IsMember, NumberedMember, NumberedPart, interface, world}
-use Rattle.plan_meaning.specs.NumberedRules.{name_at}
 use Rattle.plan_meaning.specs.NumberedViews.{AreTables, PartsOf, Tables, function_at, path_at}
 use Rattle.plan_meaning.specs.NumberedWorlds.{NumberedSeen, NumberedShown, are_once, declares, function, instance, place_of_key}
-use Rattle.plan_meaning.specs.Shapes.{named_shape, node_shape}
-use Rattle.read_rules.specs.declared.scopes.Seen.{Seen}
-use Rattle.read_rules.specs.declared.scopes.Shown.{Shown}
-use Rattle.read_rules.specs.declared.scopes.Shown.TheVariants as shown
-use Rattle.read_exports.specs.declared.members.Member.{Member}
-use Rattle.read_exports.specs.declared.members.Part.{Part}
-use Rattle.read_exports.specs.declared.members.Part.TheVariants as parts
+use Rattle.read_rules.specs.declared.scopes.{Seen.Seen, Shown.Shown}
+use Rattle.read_exports.specs.declared.members.{Member.Member, Part.Part}
 use Rattle.read_exports.specs.Members.{numbered_members}
 use Rattle.plan_types.specs.Showings.{NumberedShowing, showings_of_members, signatures_of_members}
-use Rattle.plan_type_laws.specs.ShownForms.{FormsHold}
-use Rattle.plan_type_laws.specs.MembersStand.{MembersStand}
+use Rattle.plan_type_laws.specs.{ShownForms.FormsHold, MembersStand.MembersStand}
+use Rattle.comp_meaning.specs.Reads as reads
+use Rattle.read_rules.specs.declared.scopes.Shown.TheVariants as shown
+use Rattle.read_exports.specs.declared.members.Part.TheVariants as parts
 
 -- ---- places
 

@@ -2,24 +2,18 @@
 use Rattle.std.specs.Prelude.{◌≡◌, ◌<◌, ◌+◌, ℕ, Bool, true, List, Option, Some, slice_get}
 use Rattle.std.specs.List.{AllByRecursion, AllZip, flat_map}
 use Rattle.wit_model.specs.declared.model.TypeOwner.{TypeOwner}
-use Rattle.wit_model.specs.Names.{is_label}
-use Rattle.wit_model.specs.Text.{Text}
-use Rattle.comp_meaning.specs.Reads as reads
-use Rattle.comp_meaning.specs.Rules as rules
-use Rattle.plan_meaning.specs.FollowedNumbers.{AreMembersIn}
-use Rattle.plan_meaning.specs.NumberedMembers.{Homes, HomesStand, IsMember}
+use Rattle.wit_model.specs.{Names.is_label, Text.Text}
+use Rattle.plan_meaning.specs.{FollowedNumbers.AreMembersIn, NumberedMembers.Homes, NumberedMembers.HomesStand, NumberedMembers.IsMember, Shapes.named_shape}
 use Rattle.plan_meaning.specs.NumberedViews.{AllOf, AreTables, Tables, declaration_of, place_at}
 use Rattle.plan_meaning.specs.Plan.{Plan, place_in}
-use Rattle.plan_meaning.specs.Shapes.{named_shape}
 use Rattle.plan_parts.specs.Marks.{is_marked}
 use Rattle.read_exports.specs.declared.members.Member.{Member}
 use Rattle.read_exports.specs.Members.{numbered_members}
 use Rattle.plan_types.specs.Showings.{NumberedShowing, showings_of_members, signatures_of_members}
 use Rattle.plan_type_laws.specs.PlanTypes.{NamesObey}
-use Rattle.plan_type_laws.specs.ShownForms.{FindsShown}
-use Rattle.plan_type_laws.specs.ShownMarks.{PartNames}
-use Rattle.plan_type_laws.specs.UsedParts.{ShowingObeys, SignatureObeys}
-use Rattle.plan_type_laws.specs.MembersStand.{MembersStand}
+use Rattle.plan_type_laws.specs.{ShownForms.FindsShown, ShownMarks.PartNames, UsedParts.ShowingObeys, UsedParts.SignatureObeys, MembersStand.MembersStand}
+use Rattle.comp_meaning.specs.Reads as reads
+use Rattle.comp_meaning.specs.Rules as rules
 
 -- A type that is shown is a name of its place, a label, and stands behind what it is declared as, which is what may be declared there.
 pub record ShowingIsName (t : Tables) (s : NumberedShowing) : Type 0 where

@@ -1,16 +1,13 @@
 -- Types that are used, where what is shown obeys the rules (WIT.md, "Types"; Component Model WIT.md, "Package Format").
 use Rattle.std.specs.Prelude.{◌≡◌, ◌+◌, ℕ, Bool, true, nat_le, List, Some, None, slice_get}
 use Rattle.std.specs.List.{AllByRecursion}
-use Rattle.wit_model.specs.Text.{Text}
-use Rattle.wit_model.specs.Tree.{Place, levels}
-use Rattle.comp_meaning.specs.Rules as rules
+use Rattle.wit_model.specs.{Text.Text, Tree.Place, Tree.levels}
 use Rattle.comp_meaning.specs.Rules.{most_levels}
-use Rattle.plan_meaning.specs.NumberedRules.{name_at, name_in}
+use Rattle.plan_meaning.specs.{NumberedRules.name_at, NumberedRules.name_in, Shapes.Shape}
 use Rattle.plan_meaning.specs.NumberedViews.{AllOf, AreTables, IsPart, PartsOf, Tables, declaration_of, function_at, signature_at, tree_at}
-use Rattle.plan_meaning.specs.Shapes.{Shape}
 use Rattle.plan_parts.specs.Marks.{is_marked}
-use Rattle.plan_types.specs.Showings.{NumberedShowing}
-use Rattle.plan_types.specs.Used.{used_parts, AreUsed}
+use Rattle.plan_types.specs.{Showings.NumberedShowing, Used.used_parts, Used.AreUsed}
+use Rattle.comp_meaning.specs.Rules as rules
 
 module _ (t : Tables) where
   -- what a name is shown as, in some place, is what a name may be declared as there

@@ -1,14 +1,8 @@
 //! Laws over definitions alone.
 
-ghost use Rattle.plan_type_laws.specs.FormsObeyed.{FormsAreObeyed};
-ghost use Rattle.plan_type_laws.specs.KeptMarks.{MarksAreKept};
-ghost use Rattle.plan_type_laws.specs.MembersStand.{MembersStandTogether};
-ghost use Rattle.plan_type_laws.specs.PlanTypes.{PlannedTypesAreKept};
-ghost use Rattle.plan_type_laws.specs.ReadTypes.{PlannedTypesAreRead};
-ghost use Rattle.plan_type_laws.specs.ShownForms.{FirstsAreFound};
-ghost use Rattle.plan_type_laws.specs.ShownMarks.{NamesAreMarked};
-ghost use Rattle.plan_type_laws.specs.ShownRules.{NamesObeyRules, ShownObeysRules};
-ghost use Rattle.plan_type_laws.specs.UsedParts.{UsedPartsAreFine};
+ghost use Rattle.plan_type_laws.specs.{FormsObeyed.FormsAreObeyed, ReadTypes.PlannedTypesAreRead, ShownForms.FirstsAreFound, UsedParts.UsedPartsAreFine};
+ghost use Rattle.plan_type_laws.specs.{KeptMarks.MarksAreKept, ShownMarks.NamesAreMarked};
+ghost use Rattle.plan_type_laws.specs.{MembersStand.MembersStandTogether, PlanTypes.PlannedTypesAreKept, ShownRules.NamesObeyRules, ShownRules.ShownObeysRules};
 
 /// Where what is shown obeys the rules, each unnamed type that is used is one that a type may have as its part, and isn't too deep.
 pub fn used_parts_are_fine()

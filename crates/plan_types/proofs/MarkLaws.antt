@@ -1,7 +1,6 @@
 -- Marks that are set one after the other.
 use Rattle.std.proofs.Common.{◌≡◌, refl, sym, ap, subst, ◌∙◌, ℕ, ◌+◌, ◌<◌, ◌≤◌, arith, Bool, true, false, ◌||◌, ◌==◌, List, [], ◌∷◌, ◌++◌, length, map, take, get_or}
-use Rattle.std.proofs.lemmas.List.{map-append, take_all, take_more}
-use Rattle.std.proofs.lemmas.List.Folds.{list_any-append}
+use Rattle.std.proofs.lemmas.{List.map-append, List.take_all, List.take_more, List.Folds.list_any-append}
 use Rattle.std.specs.List.{flat_map}
 use Rattle.wit_model.specs.Uses.{has}
 use Rattle.plan_parts.specs.Marks.{is_marked}

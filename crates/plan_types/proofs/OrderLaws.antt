@@ -1,15 +1,13 @@
 -- Places that are met one after the other.
 use Rattle.std.proofs.Common.{◌≡◌, refl, sym, ap, ◌∙◌, ℕ, ◌+◌, ◌<◌, ◌≤◌, List, [], ◌∷◌, ◌++◌, map, drop, length, get_or, Bor, Result, Ok, Err, OnOk}
-use Rattle.std.proofs.Math.ListN.{drop_of_length-le}
-use Rattle.std.proofs.lemmas.List.{drop_more, drop-map as drop_mapped}
+use Rattle.std.proofs.{Math.ListN.drop_of_length-le, lemmas.List.drop_more, lemmas.List.drop-map as drop_mapped}
 use Rattle.std.specs.List.{flat_map}
 use Rattle.read_exports.specs.declared.members.Part.{Part}
-use Rattle.read_exports.specs.declared.members.Part.TheVariants as parts
 use Rattle.read_exports.specs.Members.{numbered_part}
-use Rattle.read_rules.specs.declared.reached.ImportedView.{ImportedView}
-use Rattle.read_rules.specs.declared.views.View.{View}
+use Rattle.read_rules.specs.declared.{reached.ImportedView.ImportedView, views.View.View}
 use Rattle.read_rules.specs.Reached.{numbered_import}
 use Rattle.plan_types.specs.Orders.{joined, joined_all, places_of_part}
+use Rattle.read_exports.specs.declared.members.Part.TheVariants as parts
 
 pub joined_both : (met ps qs : List ℕ) → joined_all met (ps ++ qs) ≡ joined_all (joined_all met ps) qs
 joined_both met [] qs = refl

@@ -1,20 +1,17 @@
 -- The types of a plan.
 use Rattle.std.proofs.Common.{◌≡◌, sym, ap, subst, ◌∙◌, ℕ, ◌<◌, ◌+◌, length, get_or, map, take, List, [], ◌∷◌, ◌++◌, Option, Some, None, Result, Ok, Err, IfOk, slice_get}
-use Rattle.std.proofs.lemmas.List.{map-append, take_more}
+use Rattle.std.proofs.lemmas.{List.map-append, List.take_more, Option.same_Some as same-some}
 use Rattle.std.specs.List.{AllZip}
 use Rattle.wit_model.specs.declared.model.TypeOwner.{TypeOwner}
-use Rattle.wit_model.specs.declared.model.TypeOwner.TheVariants as owner
 use Rattle.wit_model.specs.Text.{Text}
 use Rattle.wit_model.proofs.Elements.{zip-push}
-use Rattle.plan_meaning.specs.NumberedRules.{name_in}
-use Rattle.plan_meaning.specs.NumberedViews.{Tables}
-use Rattle.plan_meaning.specs.Shapes.{Shape}
+use Rattle.plan_meaning.specs.{NumberedRules.name_in, NumberedViews.Tables, Shapes.Shape}
 use Rattle.plan_build.specs.declared.plan.PlannedType.{PlannedType}
 use Rattle.plan_build.specs.PlanOf.{stated_type}
 use Rattle.plan_parts.specs.Kinds.{IsFormed, IsFormOver, IsKindFor, MayBeDeclared}
 use Rattle.plan_types.specs.PlannedTypes.{MayBePlanned, PlansType, a_form, a_name, unnamed, named}
 use Rattle.plan_types.specs.Showings.{NumberedShowing}
-use Rattle.std.proofs.lemmas.Option.{same_Some as same-some}
+use Rattle.wit_model.specs.declared.model.TypeOwner.TheVariants as owner
 
 module _ (t : Tables) (kept : List ℕ) (find : ℕ → Option NumberedShowing) (n : ℕ) where
   pub in_table : MayBePlanned t kept find n → (s : Shape) × (slice_get t.shapes n ≡ Some s)

@@ -3,8 +3,7 @@ use Rattle.std.specs.Prelude.{ℕ, cond, List, [], ◌∷◌, ◌++◌, map}
 use Rattle.std.specs.List.{flat_map}
 use Rattle.wit_model.specs.Uses.{has}
 use Rattle.plan_meaning.specs.NumberedMembers.{NumberedMember, NumberedPart, interface, world}
-use Rattle.plan_meaning.specs.NumberedViews.{NumberedView}
-use Rattle.plan_meaning.specs.NumberedWorlds.{NumberedInstance}
+use Rattle.plan_meaning.specs.{NumberedViews.NumberedView, NumberedWorlds.NumberedInstance}
 
 -- the place comes behind the others, unless it is there
 abbrev pub joined : List ℕ → ℕ → List ℕ

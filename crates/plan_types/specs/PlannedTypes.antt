@@ -1,21 +1,15 @@
 -- The types of a plan, by the types of the table that are kept (WIT.md, "Types"; Binary.md, "Type Definitions").
 use Rattle.std.specs.Prelude.{◌≡◌, ◌==◌, ℕ, List, Option, Some, None, map, slice_get, position}
-use Rattle.std.specs.List.{AllZip}
-use Rattle.std.specs.Option.{option_map_or}
+use Rattle.std.specs.{List.AllZip, Option.option_map_or}
 use Rattle.wit_model.specs.declared.model.TypeOwner.{TypeOwner}
-use Rattle.wit_model.specs.declared.model.TypeOwner.TheVariants as owner
-use Rattle.wit_model.specs.Text.{Text}
-use Rattle.wit_model.specs.Valid.{as_interface, as_world}
-use Rattle.plan_meaning.specs.NumberedRules.{name_in}
-use Rattle.plan_meaning.specs.NumberedViews.{Tables}
-use Rattle.plan_meaning.specs.Plan.{PlannedType}
-use Rattle.plan_meaning.specs.Shapes.{Shape}
+use Rattle.wit_model.specs.{Text.Text, Valid.as_interface, Valid.as_world}
+use Rattle.plan_meaning.specs.{NumberedRules.name_in, NumberedViews.Tables, Plan.PlannedType, Shapes.Shape}
 use Rattle.plan_parts.specs.Kinds.{IsFormed, IsFormOver, IsKindFor, MayBeDeclared}
-use Rattle.plan_types.specs.Showings.{NumberedShowing}
-use Rattle.plan_types.specs.FirstShown.{showing_at}
+use Rattle.plan_types.specs.{Showings.NumberedShowing, FirstShown.showing_at}
 use Rattle.plan_types.specs.declared.showings.Showing.{Showing}
 use Rattle.plan_build.specs.PlanOf.{stated_type}
 use Rattle.plan_build.specs.declared.plan.PlannedType.{PlannedType as BuiltType}
+use Rattle.wit_model.specs.declared.model.TypeOwner.TheVariants as owner
 
 -- ---- owners
 

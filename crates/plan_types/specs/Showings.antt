@@ -4,16 +4,12 @@ use Rattle.std.specs.List.{flat_map}
 use Rattle.wit_model.specs.Text.{Text}
 use Rattle.plan_meaning.specs.NumberedViews.{NumberedFunction, NumberedType, NumberedView}
 use Rattle.plan_parts.specs.Interfaces.{slot_part}
-use Rattle.read_rules.specs.declared.reached.ImportedView.{ImportedView}
-use Rattle.read_rules.specs.declared.scopes.Seen.{Seen}
-use Rattle.read_rules.specs.declared.scopes.Shown.{Shown}
-use Rattle.read_rules.specs.declared.scopes.Shown.TheVariants as shown
-use Rattle.read_rules.specs.Tables.{given_text}
-use Rattle.read_rules.specs.Views.{numbered_view}
-use Rattle.read_exports.specs.declared.members.Member.{Member}
-use Rattle.read_exports.specs.declared.members.Part.{Part}
-use Rattle.read_exports.specs.declared.members.Part.TheVariants as parts
+use Rattle.read_rules.specs.declared.{reached.ImportedView.ImportedView, scopes.Seen.Seen, scopes.Shown.Shown}
+use Rattle.read_rules.specs.{Tables.given_text, Views.numbered_view}
+use Rattle.read_exports.specs.declared.members.{Member.Member, Part.Part}
 use Rattle.plan_types.specs.declared.showings.Showing.{Showing}
+use Rattle.read_rules.specs.declared.scopes.Shown.TheVariants as shown
+use Rattle.read_exports.specs.declared.members.Part.TheVariants as parts
 
 -- A type that is shown: the part that its name is, the part that it is another name for, if it is no resource, and its external id.
 pub record NumberedShowing : Type 0 where

@@ -1,11 +1,8 @@
 -- Which types are used, by what is shown (Component Model WIT.md, "Package Format": a decoded package has the types that are used alone).
 use Rattle.std.specs.Prelude.{◌≡◌, ◌↔◌, ◌<◌, ◌+◌, ◌||◌, ℕ, Bool, true, if◌then◌else◌, List, [], ◌∷◌, ◌++◌, length, map, option_to_list, Option, Some, None}
-use Rattle.std.specs.List.{flat_map}
-use Rattle.std.specs.Option.{option_map_or}
-use Rattle.wit_model.specs.Text.{Text}
-use Rattle.wit_model.specs.Uses.{has}
-use Rattle.plan_meaning.specs.NumberedRules.{is_form, shape_at}
-use Rattle.plan_meaning.specs.NumberedViews.{FunctionShape, Tables, function_at}
+use Rattle.std.specs.{List.flat_map, Option.option_map_or}
+use Rattle.wit_model.specs.{Text.Text, Uses.has}
+use Rattle.plan_meaning.specs.{NumberedRules.is_form, NumberedRules.shape_at, NumberedViews.FunctionShape, NumberedViews.Tables, NumberedViews.function_at}
 use Rattle.plan_parts.specs.Marks.{is_marked, IsUsed, PartsFall}
 use Rattle.plan_types.specs.Showings.{NumberedShowing, numbered_showing}
 use Rattle.plan_types.specs.declared.showings.Showing.{Showing}

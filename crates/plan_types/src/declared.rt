@@ -1,8 +1,7 @@
 //! What each type declares.
 
 ghost use Rattle.std.specs.Prelude.{◌≡◌, ℕ, length, map, IfOk, None};
-ghost use Rattle.plan_types.specs.FirstShown.{showing_at, IsNoted, TellsFirst};
-ghost use Rattle.plan_types.specs.Showings.{numbered_showing};
+ghost use Rattle.plan_types.specs.{FirstShown.showing_at, FirstShown.IsNoted, FirstShown.TellsFirst, Showings.numbered_showing};
 
 use crate::showings::Showing;
 use std::alloc::{AllocError, Global};

@@ -2,8 +2,7 @@
 
 ghost use Rattle.std.specs.Prelude.{◌≡◌, ◌++◌, ◌∷◌, [], map, OnOk, IfOk};
 ghost use Rattle.read_exports.specs.Members.{numbered_members, numbered_part};
-ghost use Rattle.read_rules.specs.Reached.{numbered_import};
-ghost use Rattle.read_rules.specs.Scopes.{numbered_instance};
+ghost use Rattle.read_rules.specs.{Reached.numbered_import, Scopes.numbered_instance};
 ghost use Rattle.plan_types.specs.Orders.{home_of_part, homes_met, joined, joined_all, places_met, places_of_part};
 
 use indexmap::IndexSet;

@@ -1,7 +1,6 @@
 //! The types that are shown, one after the other, and the types of functions.
 
-ghost use Rattle.std.specs.List.{flat_map};
-ghost use Rattle.std.specs.Prelude.{◌≡◌, ◌++◌, map, IfOk};
+ghost use Rattle.std.specs.{List.flat_map, Prelude.◌≡◌, Prelude.◌++◌, Prelude.map, Prelude.IfOk};
 ghost use Rattle.read_rules.specs.Views.{numbered_function, numbered_slot, numbered_type};
 ghost use Rattle.plan_parts.specs.Interfaces.{slot_part};
 ghost use Rattle.plan_types.specs.Showings.{numbered_showing, showing_of, showings_of_import, showings_of_members as showings_of_members_lem, showings_of_part, showings_of_seen, signatures_of_members as signatures_of_members_lem, signatures_of_part, signatures_of_seen};

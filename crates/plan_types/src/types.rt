@@ -2,14 +2,13 @@
 
 ghost use Rattle.std.specs.List.{AllByRecursion};
 ghost use Rattle.std.specs.Prelude.{◌≡◌, ◌<◌, length, option_map, slice_get, IfOk, None, Some};
-ghost use Rattle.wit_model.specs.declared.model.TypeOwner.TheVariants as owner;
 ghost use Rattle.plan_meaning.specs.NumberedRules.{name_in as name_in_lem};
 ghost use Rattle.plan_build.specs.PlanOf.{stated_kind, stated_type};
 ghost use Rattle.plan_parts.specs.Kinds.{IsFormed, IsFormOver, IsKindFor, MayBeDeclared};
 ghost use Rattle.read_rules.specs.Tables.{given_text, numbered_shape, numbered_tables};
-ghost use Rattle.plan_types.specs.FirstShown.{showing_at};
+ghost use Rattle.plan_types.specs.{FirstShown.showing_at, Showings.numbered_showing};
 ghost use Rattle.plan_types.specs.PlannedTypes.{number_in, owner_in, MayBePlanned, PlansType, PlansTypes};
-ghost use Rattle.plan_types.specs.Showings.{numbered_showing};
+ghost use Rattle.wit_model.specs.declared.model.TypeOwner.TheVariants as owner;
 
 use crate::showings::Showing;
 use indexmap::IndexSet;

@@ -1,8 +1,7 @@
 -- What a fresh list of calls renders to.
 use Rattle.std.proofs.Common.{◌≡◌, ◌∙◌, ap, sym, List}
 use Rattle.print_output.specs.Expansion.{appends}
-use Rattle.print_output.specs.OutputCall.{Moves, OutputCall, View}
-use Rattle.print_output.specs.Render.{Written, blank, render, writes}
+use Rattle.print_output.specs.{OutputCall.Moves, OutputCall.OutputCall, OutputCall.View, Render.Written, Render.blank, Render.render, Render.writes}
 use Rattle.print_output.proofs.RenderLaws.{Expands-writes, Moves-appends, Moves-writes}
 use Rattle.print_calls.specs.Listed.{no_calls}
 

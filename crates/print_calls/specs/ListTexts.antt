@@ -1,12 +1,8 @@
 -- What a fresh list renders to, where calls have moved it.
 use Rattle.std.specs.Prelude.{◌≡◌, Bool, List}
 use Rattle.print_output.specs.Expansion.{appends}
-use Rattle.print_output.specs.OutputCall.{Moves, OutputCall, View}
-use Rattle.print_output.specs.Render.{Written, blank, render, writes}
-use Rattle.print_grammar.specs.AsRead.{file_as_read}
-use Rattle.print_grammar.specs.Calls.{file_calls}
-use Rattle.print_grammar.specs.Reading.{IsOnlyReading}
-use Rattle.print_grammar.specs.Tree.{FileTree}
+use Rattle.print_output.specs.{OutputCall.Moves, OutputCall.OutputCall, OutputCall.View, Render.Written, Render.blank, Render.render, Render.writes}
+use Rattle.print_grammar.specs.{AsRead.file_as_read, Calls.file_calls, Reading.IsOnlyReading, Tree.FileTree}
 use Rattle.print_calls.specs.Listed.{no_calls}
 
 -- Where these calls have moved a fresh list and a fresh output that keeps a text, the list renders to that text.

@@ -1,10 +1,8 @@
 -- What a list of calls shows.
-use Rattle.std.specs.Prelude.{List, [], map, false}
-use Rattle.std.specs.String.{string_bytes}
+use Rattle.std.specs.{Prelude.List, Prelude.[], Prelude.map, Prelude.false, String.string_bytes}
 use Rattle.print_output.specs.OutputCall.{OutputCall, View}
-use Rattle.print_calls.specs.declared.call.Call.{Call}
+use Rattle.print_calls.specs.declared.{call.Call.Call, call_list.CallList.CallList}
 use Rattle.print_calls.specs.declared.call.Call.TheVariants as call
-use Rattle.print_calls.specs.declared.call_list.CallList.{CallList}
 
 -- a call, with the bytes of its text
 abbrev pub call_of : Call → OutputCall

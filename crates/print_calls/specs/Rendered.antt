@@ -1,7 +1,6 @@
 -- A text that comes of calls, as it grows.
 use Rattle.std.specs.String.{string_bytes}
-use Rattle.print_output.specs.OutputCall.{View}
-use Rattle.print_output.specs.Render.{Written}
+use Rattle.print_output.specs.{OutputCall.View, Render.Written}
 use Rattle.print_calls.specs.declared.rendering.Rendering.{Rendering}
 
 abbrev pub written : Rendering → View Written

@@ -3,12 +3,9 @@
 ghost use Rattle.std.specs.Prelude.{◌≡◌, ◌++◌, ◌∷◌, [], OnOk, OnErr, IfOk, IfErr};
 ghost use Rattle.std.specs.String.{string_bytes};
 ghost use Rattle.wit_model.specs.Refusals.{IsMemory};
-ghost use Rattle.print_output.specs.OutputCall.{after, line_begun_after};
+ghost use Rattle.print_output.specs.{OutputCall.after, OutputCall.line_begun_after, Expansion.appends, Render.blank, Render.render};
 ghost use Rattle.print_output.specs.OutputCall.OutputCall.{Case, Doc, GenericArgsEnd, GenericArgsStart, IndentAndPrint, Keyword, Param, Semicolon, Str, Ty};
-ghost use Rattle.print_output.specs.Expansion.{appends};
-ghost use Rattle.print_output.specs.Render.{blank, render};
-ghost use Rattle.print_calls.specs.Listed.{call_of, calls_of, listed, no_calls};
-ghost use Rattle.print_calls.specs.Rendered.{written};
+ghost use Rattle.print_calls.specs.{Listed.call_of, Listed.calls_of, Listed.listed, Listed.no_calls, Rendered.written};
 
 use crate::call::Call;
 use crate::rendering::Rendering;

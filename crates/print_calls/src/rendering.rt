@@ -2,11 +2,9 @@
 
 ghost use Rattle.std.specs.Prelude.{◌≡◌, ◌+◌, ◌≤◌, ◌<◌, ◌^◌, ◌++◌, ◌∷◌, [], true, OnOk};
 ghost use Rattle.std.specs.String.{string_bytes};
-ghost use Rattle.print_output.specs.OutputCall.{after};
+ghost use Rattle.print_output.specs.{OutputCall.after, Render.front_of, Render.indentation, Render.printed, Render.writes};
 ghost use Rattle.print_output.specs.OutputCall.OutputCall.{Doc, IndentEnd, IndentStart, Newline, PushStr};
-ghost use Rattle.print_output.specs.Render.{front_of, indentation, printed, writes};
-ghost use Rattle.print_calls.specs.Listed.{call_of};
-ghost use Rattle.print_calls.specs.Rendered.{written};
+ghost use Rattle.print_calls.specs.{Listed.call_of, Rendered.written};
 
 use crate::call::Call;
 use std::alloc::AllocError;

@@ -1,9 +1,8 @@
 -- Tests of every byte of a text.
 use Rattle.std.proofs.Common.{◌≡◌, refl, sym, ap, ◌∙◌, ℕ, Bool, true, false, ◌&&◌, ◌||◌, ◌==◌, List, [], ◌∷◌, ◌++◌, inl, inr}
-use Rattle.std.specs.List.{list_all, slice_split, onto_first}
-use Rattle.std.proofs.lemmas.Bool.{cases_Bool, and_from as both, or_left, or_right}
-use Rattle.std.proofs.lemmas.List.Folds.{list_all-append}
+use Rattle.std.proofs.lemmas.{Bool.cases_Bool, Bool.and_from as both, Bool.or_left, Bool.or_right, List.Folds.list_all-append}
 use Rattle.std.proofs.lemmas.List.Splits.{slice_split-cons_yes, slice_split-cons_no}
+use Rattle.std.specs.List.{list_all, slice_split, onto_first}
 use Rattle.base_lemmas.proofs.Bools.{left_of, right_of}
 
 -- a byte that fails the test

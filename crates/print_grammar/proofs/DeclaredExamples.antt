@@ -1,43 +1,20 @@
 -- Worked examples: the tokens and the tree of a text with every kind of declared type but a record.
 use Rattle.std.proofs.Common.{◌≡◌, [], ◌∷◌, ◌++◌, List, ℕ, refl, codes, None, Some, false, true}
 use Rattle.print_grammar.specs.Keyword.Keyword.{PrimitiveWord, Package, Interface, Func, Variant, Flags, Enum, Resource, Async, Type_}
-use Rattle.print_grammar.specs.Keyword.{Keyword}
-use Rattle.print_grammar.specs.Keyword.Primitive.{U8}
-use Rattle.print_output.specs.Render.{render}
-use Rattle.print_grammar.specs.Calls.{file_calls}
-use Rattle.print_grammar.specs.Token.{Token, Tokens}
-use Rattle.print_grammar.specs.Token.Token.{Word, Key, Punctuation}
+use Rattle.print_grammar.specs.{Keyword.Keyword, Calls.file_calls, Tree.Gates.Ungated, Grammar.IsId.plain, Reading.IsReading}
+use Rattle.print_grammar.specs.{Keyword.Primitive.U8, Token.Token, Token.Tokens, Grammar.ReadsLabel.label, Grammar.ReadsHead.head, Grammar.ReadsFile.file}
+use Rattle.print_grammar.specs.{Token.Token.Word, Token.Token.Key, Token.Token.Punctuation, Tree.TypeTree.PrimitiveType, Tree.TypeTree.Name, Tree.TypeTree.Own}
 use Rattle.print_grammar.specs.Token.Mark.{OpenBrace, CloseBrace, OpenParen, CloseParen, Less, Greater, Colon, Semi, Comma, Equals, Arrow}
-use Rattle.print_grammar.specs.Token.Tokens.{no_tokens, skip, token}
-use Rattle.print_grammar.specs.Tree.{Prefix, ResourceMember, FileTree}
-use Rattle.print_grammar.specs.Tree.TypeTree.{PrimitiveType, Name, Own}
-use Rattle.print_grammar.specs.Tree.Gates.{Ungated}
-use Rattle.print_grammar.specs.Tree.Declared.{VariantOf, FlagsOf, EnumOf, AliasOf, ResourceOf}
-use Rattle.print_grammar.specs.Tree.MemberTree.{TypeMember}
-use Rattle.print_grammar.specs.Tree.ItemTree.{InterfaceItem}
-use Rattle.print_grammar.specs.Grammar.IsId.{plain}
-use Rattle.print_grammar.specs.Grammar.Repeated.{closed, again}
-use Rattle.print_grammar.specs.Grammar.Listed.{last, last_with_comma, next}
-use Rattle.print_grammar.specs.Grammar.ReadsType.{primitive, named, own}
-use Rattle.print_grammar.specs.Grammar.ReadsParam.{param}
-use Rattle.print_grammar.specs.Grammar.ReadsParams.{no_params, params}
-use Rattle.print_grammar.specs.Grammar.ReadsResult.{no_result, with_result}
-use Rattle.print_grammar.specs.Grammar.ReadsSignature.{func, async_func}
-use Rattle.print_grammar.specs.Grammar.ReadsVersion.{no_version}
-use Rattle.print_grammar.specs.Grammar.ReadsGates.{no_gates}
-use Rattle.print_grammar.specs.Grammar.ReadsExternalId.{no_external_id}
-use Rattle.print_grammar.specs.Grammar.ReadsPrefix.{prefix}
-use Rattle.print_grammar.specs.Grammar.ReadsCase.{case_alone, case_of}
-use Rattle.print_grammar.specs.Grammar.ReadsLabel.{label}
-use Rattle.print_grammar.specs.Grammar.ReadsResourceMember.{constructor_, method, static}
+use Rattle.print_grammar.specs.{Token.Tokens.no_tokens, Token.Tokens.skip, Token.Tokens.token, Grammar.ReadsParams.no_params, Grammar.ReadsParams.params}
+use Rattle.print_grammar.specs.{Tree.Prefix, Tree.ResourceMember, Tree.FileTree, Grammar.ReadsExternalId.no_external_id, Grammar.ReadsItem.interface_item}
+use Rattle.print_grammar.specs.Tree.{Declared.VariantOf, Declared.FlagsOf, Declared.EnumOf, Declared.AliasOf, Declared.ResourceOf, ItemTree.InterfaceItem}
+use Rattle.print_grammar.specs.{Tree.MemberTree.TypeMember, Grammar.ReadsGates.no_gates, Grammar.ReadsPrefix.prefix, Grammar.ReadsMember.member_type}
+use Rattle.print_grammar.specs.Grammar.{Repeated.closed, Repeated.again, ReadsCase.case_alone, ReadsCase.case_of, ReadsItems.no_items, ReadsItems.next_item}
+use Rattle.print_grammar.specs.Grammar.{Listed.last, Listed.last_with_comma, Listed.next, ReadsType.primitive, ReadsType.named, ReadsType.own, ReadsParam.param}
+use Rattle.print_grammar.specs.Grammar.{ReadsResult.no_result, ReadsResult.with_result, ReadsSignature.func, ReadsSignature.async_func, ReadsVersion.no_version}
+use Rattle.print_grammar.specs.Grammar.{ReadsResourceMember.constructor_, ReadsResourceMember.method, ReadsResourceMember.static, ReadsAllNested.nested_end}
 use Rattle.print_grammar.specs.Grammar.ReadsDeclared.{variant, flags, enum, alias, resource_with}
-use Rattle.print_grammar.specs.Grammar.ReadsMember.{member_type}
-use Rattle.print_grammar.specs.Grammar.ReadsItem.{interface_item}
-use Rattle.print_grammar.specs.Grammar.ReadsItems.{no_items, next_item}
-use Rattle.print_grammar.specs.Grammar.ReadsHead.{head}
-use Rattle.print_grammar.specs.Grammar.ReadsAllNested.{nested_end}
-use Rattle.print_grammar.specs.Grammar.ReadsFile.{file}
-use Rattle.print_grammar.specs.Reading.{IsReading}
+use Rattle.print_output.specs.Render.{render}
 
 abbrev declared_text : List ℕ
 declared_text = codes "package a:b;" ++ (10 ∷ 10 ∷ (codes "interface i {"

@@ -2,34 +2,23 @@
 use Rattle.std.proofs.Common.{◌≡◌, refl, sym, ap, ◌∙◌, subst, ℕ, Bool, true, false, List, [], ◌∷◌, ◌++◌, append_assoc, codes, map}
 use Rattle.std.specs.List.{list_all, flat_map}
 use Rattle.wit_model.specs.Names.{is_label}
-use Rattle.print_grammar.specs.Keyword.{Keyword as WordKey, escaped}
-use Rattle.print_output.specs.OutputCall.{OutputCall, is_one_line}
-use Rattle.print_output.specs.OutputCall.OutputCall.{PushStr, IndentIfNeeded, IndentAndPrint, Keyword, Ty, Param, Case, GenericArgsStart, GenericArgsEnd, Doc, Str, Semicolon, IndentStart, IndentEnd, Newline}
-use Rattle.print_output.specs.Render.{render}
+use Rattle.print_grammar.specs.{Keyword.Keyword as WordKey, Keyword.escaped, AsRead.type_as_read, AsRead.bare_item, AsRead.bare_package, AsRead.file_as_read}
 use Rattle.print_grammar.specs.Calls.{doc_calls, gates_calls, version_calls, members_calls, world_members_calls, block_calls, line_after_calls, package_item_calls, package_outer_calls, package_calls, more_nested_calls, nested_calls, file_calls, space as space_call}
-use Rattle.print_grammar.specs.Token.{Token, Tokens}
+use Rattle.print_grammar.specs.{Token.Token, Token.Tokens, Token.Token.Punctuation, Token.Token.Key, Token.Mark.Colon, Reading.IsReading, Reading.IsOnlyReading}
 use Rattle.print_grammar.specs.Token.Tokens.{no_tokens}
-use Rattle.print_grammar.specs.Token.Token.{Punctuation, Key}
-use Rattle.print_grammar.specs.Token.Mark.{Colon}
-use Rattle.print_grammar.specs.Tree.{ItemTree, PackageHead, PackageTree, FileTree}
-use Rattle.print_grammar.specs.Tree.ItemTree.{InterfaceItem, WorldItem}
-use Rattle.print_grammar.specs.AsRead.{type_as_read, bare_item, bare_package, file_as_read}
+use Rattle.print_grammar.specs.{Tree.ItemTree, Tree.PackageHead, Tree.PackageTree, Tree.FileTree, Tree.ItemTree.InterfaceItem, Tree.ItemTree.WorldItem}
 use Rattle.print_grammar.specs.Grammar.{ReadsItem, ReadsItems, ReadsHead, ReadsNested, ReadsAllNested, ReadsFile}
-use Rattle.print_grammar.specs.Reading.{IsReading, IsOnlyReading}
-use Rattle.print_grammar.proofs.GrammarUnique.{reading-unique}
 use Rattle.print_grammar.specs.WellNamed.{is_well_gates, is_well_item, is_well_head, is_well_package, is_well_file}
-use Rattle.print_output.specs.declared.type_kind.TypeKind.TheVariants as kind
-use Rattle.print_grammar.proofs.TokenFacts.{id_token, id_is}
-use Rattle.print_grammar.proofs.TextOf.{text_of, rendered}
-use Rattle.print_grammar.proofs.Printing.{Follows, Printed, EndsWord, relist, word_call, id_call, line_begins, indents, semicolon_call}
-use Rattle.print_grammar.proofs.Printing.Prints.{by_keyword, by_type}
+use Rattle.print_output.specs.{OutputCall.OutputCall, OutputCall.is_one_line, Render.render}
+use Rattle.print_output.specs.OutputCall.OutputCall.{PushStr, IndentIfNeeded, IndentAndPrint, Keyword, Ty, Param, Case, GenericArgsStart, GenericArgsEnd, Doc, Str, Semicolon, IndentStart, IndentEnd, Newline}
+use Rattle.print_grammar.proofs.{GrammarUnique.reading-unique, TextOf.text_of, TextOf.rendered, PrefixReads.docs_read, PrefixReads.gates_read}
+use Rattle.print_grammar.proofs.{TokenFacts.id_token, TokenFacts.id_is, MemberReads.empty_line, MemberReads.members_read, MemberReads.world_members_read}
+use Rattle.print_grammar.proofs.Printing.{Follows, Printed, EndsWord, relist, word_call, id_call, line_begins, indents, semicolon_call, three_lists as four_lists}
+use Rattle.print_grammar.proofs.{Printing.Prints.by_keyword, Printing.Prints.by_type, DeclaredReads.start_call, DeclaredReads.members_repeat}
 use Rattle.print_grammar.proofs.SignatureReads.{space_before}
-use Rattle.print_grammar.proofs.PrefixReads.{docs_read, gates_read}
 use Rattle.print_grammar.proofs.PathReads.{EndsVersion, colon_id_call, version_reads, version_ends_word}
-use Rattle.print_grammar.proofs.DeclaredReads.{start_call, members_repeat}
-use Rattle.print_grammar.proofs.MemberReads.{empty_line, members_read, world_members_read}
 use Rattle.base_lemmas.proofs.Bools.{left_of, right_of}
-use Rattle.print_grammar.proofs.Printing.{three_lists as four_lists}
+use Rattle.print_output.specs.declared.type_kind.TypeKind.TheVariants as kind
 
 five_lists : (a b c d e : List OutputCall) → (((a ++ b) ++ c) ++ d) ++ e ≡ a ++ (b ++ (c ++ (d ++ e)))
 five_lists a b c d e = simp append_assoc

@@ -1,27 +1,17 @@
 -- A list of tokens is at most one file, and a text at most one.
 use Rattle.std.proofs.Common.{◌≡◌, List, [], ◌∷◌, ℕ, refl, ap, sym, subst, Bool, true, false}
-use Rattle.print_grammar.specs.Keyword.{Keyword}
-use Rattle.print_grammar.specs.Token.{Token, Mark}
-use Rattle.print_grammar.specs.Token.Token.{Punctuation, Key}
-use Rattle.print_grammar.specs.Token.Mark.{Colon, Semi, OpenBrace, CloseBrace}
+use Rattle.print_grammar.specs.{Keyword.Keyword, Token.Token.Punctuation, Token.Token.Key, Grammar.ReadsItem.interface_item, Grammar.ReadsItem.world_item}
+use Rattle.print_grammar.specs.{Token.Token, Token.Mark, Grammar.ReadsUse.use_names, Grammar.ReadsNested.nested_package, Reading.IsReading, Reading.OneReading}
+use Rattle.print_grammar.specs.{Token.Mark.Colon, Token.Mark.Semi, Token.Mark.OpenBrace, Token.Mark.CloseBrace, Grammar.ReadsPath.local, Grammar.ReadsPath.full}
 use Rattle.print_grammar.specs.Tree.{SignatureTree, Gates, PathTree, UsedName, Declared, ExternTree, ItemTree, PackageHead, PackageTree, FileTree}
 use Rattle.print_grammar.specs.Grammar.{IsId, Repeated, ReadsGates, ReadsPath, ReadsUse, ReadsDeclared, ReadsSignature, ReadsMember, ReadsExtern, ReadsWorldMember, ReadsItem, ReadsItems, ReadsHead, ReadsNested, ReadsAllNested, ReadsFile}
-use Rattle.print_grammar.specs.Grammar.ReadsPath.{local, full}
-use Rattle.print_grammar.specs.Grammar.ReadsUse.{use_names}
 use Rattle.print_grammar.specs.Grammar.ReadsDeclared.{record_, variant, flags, enum, alias, resource, resource_with}
-use Rattle.print_grammar.specs.Grammar.ReadsSignature.{func, async_func}
-use Rattle.print_grammar.specs.Grammar.ReadsMember.{member_use, member_type, member_function}
+use Rattle.print_grammar.specs.Grammar.{ReadsSignature.func, ReadsSignature.async_func, ReadsHead.head, ReadsAllNested.nested_end, ReadsAllNested.next_nested}
+use Rattle.print_grammar.specs.Grammar.{ReadsMember.member_use, ReadsMember.member_type, ReadsMember.member_function, ReadsItems.no_items, ReadsItems.next_item}
 use Rattle.print_grammar.specs.Grammar.ReadsExtern.{extern_path, extern_function, extern_named_path, extern_interface}
 use Rattle.print_grammar.specs.Grammar.ReadsWorldMember.{world_use, world_type, world_import, world_export}
-use Rattle.print_grammar.specs.Grammar.ReadsItem.{interface_item, world_item}
-use Rattle.print_grammar.specs.Grammar.ReadsItems.{no_items, next_item}
-use Rattle.print_grammar.specs.Grammar.ReadsHead.{head}
-use Rattle.print_grammar.specs.Grammar.ReadsNested.{nested_package}
-use Rattle.print_grammar.specs.Grammar.ReadsAllNested.{nested_end, next_nested}
 use Rattle.print_grammar.specs.Grammar.ReadsFile.{file}
-use Rattle.print_grammar.specs.Reading.{IsReading, OneReading}
-use Rattle.print_grammar.proofs.TokensUnique.{tokens-unique}
-use Rattle.print_grammar.proofs.TypeUnique.{id-unique, tail_same, begins_with_at}
+use Rattle.print_grammar.proofs.{TokensUnique.tokens-unique, TypeUnique.id-unique, TypeUnique.tail_same, TypeUnique.begins_with_at}
 use Rattle.print_grammar.proofs.ListsUnique.{Same, Unique, Never, head_same, repeated-unique, no_id_key, signature-unique}
 use Rattle.print_grammar.proofs.PrefixUnique.{use_no_at, declared_no_at, id_no_at, version-unique, gates-unique, prefix-unique, all_prefix, no_prefix, path-unique, use-unique, function-unique, declared-unique, mark_or_id}
 

@@ -1,7 +1,6 @@
 -- A word is a keyword where it is the text of one.
 use Rattle.std.proofs.Common.{◌≡◌, refl, ap, ℕ, drop, List, [], ◌∷◌, Bool, true, false, ◌||◌, Option, Some, None, if◌then◌else◌}
-use Rattle.std.specs.Prelude.{is_some}
-use Rattle.std.specs.List.{list_any, slice_get}
+use Rattle.std.specs.{Prelude.is_some, List.list_any, List.slice_get}
 use Rattle.wit_model.specs.Text.{Text, text_eq}
 use Rattle.print_grammar.specs.Keyword.{Keyword, entry_of}
 

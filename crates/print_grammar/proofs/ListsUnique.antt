@@ -1,16 +1,10 @@
 -- A list of tokens begins with at most one list, parameter list, result or signature.
 use Rattle.std.proofs.Common.{◌≡◌, List, [], ◌∷◌, ℕ, refl, ap, sym, subst, true, Option, Some}
-use Rattle.print_grammar.specs.Token.{Token}
-use Rattle.print_grammar.specs.Token.Token.{Punctuation, Key}
-use Rattle.print_grammar.specs.Token.Mark.{Comma, CloseParen, CloseBrace}
-use Rattle.print_grammar.specs.Tree.{TypeTree, ParamTree, SignatureTree}
+use Rattle.print_grammar.specs.{Token.Token, Tree.TypeTree, Tree.ParamTree, Tree.SignatureTree, Grammar.ReadsParams.no_params, Grammar.ReadsParams.params}
+use Rattle.print_grammar.specs.{Token.Token.Punctuation, Token.Token.Key, Grammar.Repeated.closed, Grammar.Repeated.again}
+use Rattle.print_grammar.specs.{Token.Mark.Comma, Token.Mark.CloseParen, Token.Mark.CloseBrace, Grammar.ReadsSignature.func, Grammar.ReadsSignature.async_func}
 use Rattle.print_grammar.specs.Grammar.{IsId, Listed, Repeated, ReadsParam, ReadsParams, ReadsResult, ReadsSignature}
-use Rattle.print_grammar.specs.Grammar.Listed.{last, last_with_comma, next}
-use Rattle.print_grammar.specs.Grammar.Repeated.{closed, again}
-use Rattle.print_grammar.specs.Grammar.ReadsParam.{param}
-use Rattle.print_grammar.specs.Grammar.ReadsParams.{no_params, params}
-use Rattle.print_grammar.specs.Grammar.ReadsResult.{no_result, with_result}
-use Rattle.print_grammar.specs.Grammar.ReadsSignature.{func, async_func}
+use Rattle.print_grammar.specs.Grammar.{Listed.last, Listed.last_with_comma, Listed.next, ReadsParam.param, ReadsResult.no_result, ReadsResult.with_result}
 use Rattle.print_grammar.proofs.TypeUnique.{id-unique, tail_same, type-unique, stops, no_less}
 
 -- the same tree, and the same tokens after it

@@ -2,30 +2,24 @@
 use Rattle.std.proofs.Common.{◌≡◌, refl, ap, subst, ℕ, Bool, true, false, ◌&&◌, not, List, [], ◌∷◌, ◌++◌, append_assoc, codes, Some, map}
 use Rattle.std.specs.List.{list_all}
 use Rattle.wit_model.specs.Names.{is_label, begins_with_letter}
-use Rattle.print_grammar.specs.Keyword.{Keyword as WordKey, escaped}
-use Rattle.print_output.specs.OutputCall.{OutputCall}
-use Rattle.print_output.specs.OutputCall.OutputCall.{Keyword, Ty, Str, Semicolon, IndentStart, IndentEnd, Newline}
+use Rattle.print_grammar.specs.{Keyword.Keyword as WordKey, Keyword.escaped, Token.Token, Token.spelled}
 use Rattle.print_grammar.specs.Calls.{path_calls, prefix_calls, signature_calls, declared_calls, use_calls, function_calls, item_calls, members_calls, extern_calls, world_extern_calls, world_members_calls, separated, used_name_calls, space as space_call}
-use Rattle.print_grammar.specs.Token.{Token, spelled}
-use Rattle.print_grammar.specs.Token.Token.{Punctuation, Key}
-use Rattle.print_grammar.specs.Token.Mark.{Colon, OpenBrace, CloseBrace}
+use Rattle.print_grammar.specs.{Token.Token.Punctuation, Token.Token.Key, Tree.MemberTree.UseMember, Tree.MemberTree.TypeMember, Tree.MemberTree.FunctionMember}
+use Rattle.print_grammar.specs.{Token.Mark.Colon, Token.Mark.OpenBrace, Token.Mark.CloseBrace, Grammar.Repeated.closed, Grammar.Repeated.again}
 use Rattle.print_grammar.specs.Tree.{Prefix, Declared, PathTree, UsedName, MemberTree, ExternTree, WorldMember}
-use Rattle.print_grammar.specs.Tree.MemberTree.{UseMember, TypeMember, FunctionMember}
 use Rattle.print_grammar.specs.Tree.ExternTree.{Path, NamedFunction, NamedPath, NamedInterface}
 use Rattle.print_grammar.specs.Tree.WorldMember.{WorldUse, WorldType, WorldImport, WorldExport}
 use Rattle.print_grammar.specs.AsRead.{type_as_read, bare_prefix, bare_declared, bare_member, bare_extern, bare_world_member}
 use Rattle.print_grammar.specs.Grammar.{ReadsPrefix, ReadsUse, ReadsDeclared, ReadsMember, ReadsExtern, ReadsWorldMember, Repeated}
-use Rattle.print_grammar.specs.Grammar.Repeated.{closed, again}
 use Rattle.print_grammar.specs.WellNamed.{is_well_prefix, is_well_use, is_well_declared, is_well_member, is_well_extern, is_well_world_member}
-use Rattle.print_output.specs.declared.type_kind.TypeKind.TheVariants as kind
-use Rattle.print_grammar.proofs.TokenFacts.{id_token, id_is}
+use Rattle.print_output.specs.OutputCall.{OutputCall}
+use Rattle.print_output.specs.OutputCall.OutputCall.{Keyword, Ty, Str, Semicolon, IndentStart, IndentEnd, Newline}
+use Rattle.print_grammar.proofs.{TokenFacts.id_token, TokenFacts.id_is, SignatureReads.colon_call, SignatureReads.space_before, SignatureReads.signature_reads}
 use Rattle.print_grammar.proofs.Printing.{Follows, Printed, relist, word_call, id_call, line_begins, semicolon_call, line_feed}
-use Rattle.print_grammar.proofs.Printing.Prints.{by_keyword, by_type}
-use Rattle.print_grammar.proofs.SignatureReads.{colon_call, space_before, signature_reads}
-use Rattle.print_grammar.proofs.PrefixReads.{prefix_reads}
-use Rattle.print_grammar.proofs.PathReads.{path_reads, use_reads}
+use Rattle.print_grammar.proofs.{Printing.Prints.by_keyword, Printing.Prints.by_type, PrefixReads.prefix_reads, PathReads.path_reads, PathReads.use_reads}
 use Rattle.print_grammar.proofs.DeclaredReads.{start_call, end_call, function_reads, declared_reads}
 use Rattle.base_lemmas.proofs.Bools.{left_of, right_of}
+use Rattle.print_output.specs.declared.type_kind.TypeKind.TheVariants as kind
 
 -- an empty line
 pub empty_line : {more : List OutputCall} {ts : List Token} → Follows true more ts → Follows true (Newline ∷ more) ts

@@ -1,29 +1,21 @@
 -- What is printed of a path and of a use is read as it.
 use Rattle.std.proofs.Common.{◌≡◌, refl, ap, subst, ℕ, true, false, nat_lt, length, List, [], ◌∷◌, ◌++◌, codes, Option, Some, None, map}
-use Rattle.wit_model.specs.Names.{is_label, is_version_text}
-use Rattle.wit_model.specs.Rules.{passes}
-use Rattle.print_grammar.specs.Keyword.{escaped}
-use Rattle.print_grammar.specs.Keyword.Keyword.{As, Use}
+use Rattle.wit_model.specs.{Names.is_label, Names.is_version_text, Rules.passes}
+use Rattle.print_grammar.specs.{Keyword.escaped, Token.Token, WellNamed.is_well_path, WellNamed.is_well_used, WellNamed.is_well_use, WellNamed.are_well_some}
+use Rattle.print_grammar.specs.{Keyword.Keyword.As, Keyword.Keyword.Use, Token.Token.Punctuation, Token.Token.Key, Token.Token.VersionText}
+use Rattle.print_grammar.specs.Calls.{path_calls, version_calls, used_name_calls, own_name_calls, separated, space as space_call}
+use Rattle.print_grammar.specs.Token.Mark.{Colon, Slash, At, Dot, OpenBrace, CloseBrace, Semi}
+use Rattle.print_grammar.specs.{Tree.PathTree, Tree.UsedName, Grammar.Listed, Grammar.ReadsPath, Grammar.ReadsVersion, Grammar.ReadsUsedName, Grammar.ReadsUse}
+use Rattle.print_grammar.specs.Tree.PathTree.{Local, Full}
 use Rattle.print_output.specs.OutputCall.{OutputCall}
 use Rattle.print_output.specs.OutputCall.OutputCall.{Keyword, Ty, Str, Semicolon}
-use Rattle.print_grammar.specs.Calls.{path_calls, version_calls, used_name_calls, own_name_calls, separated, space as space_call}
-use Rattle.print_grammar.specs.Token.{Token}
-use Rattle.print_grammar.specs.Token.Token.{Punctuation, Key, VersionText}
-use Rattle.print_grammar.specs.Token.Mark.{Colon, Slash, At, Dot, OpenBrace, CloseBrace, Semi}
-use Rattle.print_grammar.specs.Tree.{PathTree, UsedName}
-use Rattle.print_grammar.specs.Tree.PathTree.{Local, Full}
-use Rattle.print_grammar.specs.Grammar.{Listed, ReadsPath, ReadsVersion, ReadsUsedName, ReadsUse}
-use Rattle.print_grammar.specs.WellNamed.{is_well_path, is_well_used, is_well_use, are_well_some}
 use Rattle.print_output.specs.declared.type_kind.TypeKind.{TypeKind}
-use Rattle.print_output.specs.declared.type_kind.TypeKind.TheVariants as kind
-use Rattle.print_grammar.proofs.TokenFacts.{id_at, slash_at, id_token, id_is}
+use Rattle.print_grammar.proofs.{TokenFacts.id_at, TokenFacts.slash_at, TokenFacts.id_token, TokenFacts.id_is, TextOf.text_of}
 use Rattle.print_grammar.proofs.VersionFacts.{version_at, ends_version}
-use Rattle.print_grammar.proofs.TextOf.{text_of}
 use Rattle.print_grammar.proofs.Printing.{Follows, Printed, EndsWord, Ended, relist, two_lists, word_call, id_call, colon, dot, semi, line_feed, at_sign, open_brace, close_brace}
-use Rattle.print_grammar.proofs.Printing.Prints.{by_keyword, by_type}
-use Rattle.print_grammar.proofs.SignatureReads.{listed_reads, space_before}
-use Rattle.base_lemmas.proofs.Bools.{left_of, right_of}
-use Rattle.base_lemmas.proofs.Lists.{identity}
+use Rattle.print_grammar.proofs.{Printing.Prints.by_keyword, Printing.Prints.by_type, SignatureReads.listed_reads, SignatureReads.space_before}
+use Rattle.base_lemmas.proofs.{Bools.left_of, Bools.right_of, Lists.identity}
+use Rattle.print_output.specs.declared.type_kind.TypeKind.TheVariants as kind
 
 -- no version goes on into the text of the calls
 abbrev pub EndsVersion : List OutputCall → Type 0

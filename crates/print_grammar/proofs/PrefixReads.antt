@@ -1,32 +1,22 @@
 -- What is printed in front of an item is read as it: documentation, gates.
 use Rattle.std.proofs.Common.{◌≡◌, refl, sym, ap, ◌∙◌, subst, ℕ, Bool, true, false, not, ◌==◌, List, [], ◌∷◌, ◌++◌, append_assoc, codes, Option, Some, None, map}
 use Rattle.std.specs.List.{list_all}
-use Rattle.wit_model.specs.Names.{is_label, is_version_text, begins_with_letter}
-use Rattle.wit_model.specs.Rules.{passes}
+use Rattle.wit_model.specs.{Names.is_label, Names.is_version_text, Names.begins_with_letter, Rules.passes}
 use Rattle.print_grammar.specs.Keyword.{escaped}
-use Rattle.print_output.specs.OutputCall.{OutputCall, is_one_line}
+use Rattle.print_output.specs.{OutputCall.OutputCall, OutputCall.is_one_line, Render.doc_text}
 use Rattle.print_output.specs.OutputCall.OutputCall.{Keyword, Ty, Str, Newline, Doc}
-use Rattle.print_output.specs.Render.{doc_text}
 use lib.Utf8.{scalar}
 use Rattle.print_grammar.specs.Calls.{prefix_calls, external_id_calls, character_call, escaped_character, doc_calls, gates_calls, deprecated_calls}
-use Rattle.print_grammar.specs.Token.{Token, Tokens, spelled, after_comment}
-use Rattle.print_grammar.specs.Token.Front.{Skipped}
-use Rattle.print_grammar.specs.Token.Tokens.{skip}
-use Rattle.print_grammar.specs.Token.Token.{Punctuation, Word, VersionText, Quoted}
-use Rattle.print_grammar.specs.Token.Mark.{OpenParen, CloseParen, At, Equals}
-use Rattle.print_grammar.specs.Tree.{Gates, Prefix}
-use Rattle.print_grammar.specs.Tree.Gates.{Ungated, Since, Unstable}
+use Rattle.print_grammar.specs.{Token.Token, Token.Tokens, Token.spelled, Token.after_comment, Tree.Gates.Ungated, Tree.Gates.Since, Tree.Gates.Unstable}
+use Rattle.print_grammar.specs.Token.{Front.Skipped, Tokens.skip}
+use Rattle.print_grammar.specs.Token.{Token.Punctuation, Token.Word, Token.VersionText, Token.Quoted, Mark.OpenParen, Mark.CloseParen, Mark.At, Mark.Equals}
+use Rattle.print_grammar.specs.{Tree.Gates, Tree.Prefix, WellNamed.is_well_gates, WellNamed.is_well_prefix, AsRead.type_as_read, AsRead.bare_prefix}
 use Rattle.print_grammar.specs.Grammar.{ReadsPrefix, ReadsExternalId, ReadsGates, ReadsDeprecated, ReadsVersionArgument}
-use Rattle.print_grammar.specs.WellNamed.{is_well_gates, is_well_prefix}
-use Rattle.print_grammar.specs.AsRead.{type_as_read, bare_prefix}
-use Rattle.print_grammar.proofs.StringReads.{body, quoted_at}
-use Rattle.print_output.specs.declared.type_kind.TypeKind.TheVariants as kind
-use Rattle.print_grammar.proofs.TokenFacts.{word_at, id_is}
-use Rattle.print_grammar.proofs.VersionFacts.{version_at}
+use Rattle.print_grammar.proofs.{StringReads.body, StringReads.quoted_at, TokenFacts.word_at, TokenFacts.id_is, VersionFacts.version_at, Printing.Prints.by_str}
 use Rattle.print_grammar.proofs.TextOf.{text_of}
 use Rattle.print_grammar.proofs.Printing.{Follows, Printed, EndsWord, relist, id_call, line_begins, space, open_paren, close_paren, equals, at_sign, line_feed}
-use Rattle.print_grammar.proofs.Printing.Prints.{by_str}
 use Rattle.base_lemmas.proofs.Bools.{left_of, right_of}
+use Rattle.print_output.specs.declared.type_kind.TypeKind.TheVariants as kind
 
 -- ---- documentation
 

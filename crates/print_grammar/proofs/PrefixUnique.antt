@@ -1,27 +1,16 @@
 -- A list of tokens begins with at most one prefix, path, use or declared type.
 use Rattle.std.proofs.Common.{◌≡◌, List, ◌∷◌, ℕ, refl, ap, sym, subst, ◌∙◌, Bool, true, false, Option, Some, codes}
-use Rattle.std.proofs.lemmas.Bool.Decides.{Decides-eqb}
-use Rattle.std.proofs.lemmas.Slice.Eq.{slice_eq-Decides}
+use Rattle.std.proofs.lemmas.{Bool.Decides.Decides-eqb, Slice.Eq.slice_eq-Decides}
 use Rattle.wit_model.specs.Text.{text_eq}
-use Rattle.print_grammar.specs.Keyword.{Keyword}
-use Rattle.print_grammar.specs.Token.{Token, Mark}
-use Rattle.print_grammar.specs.Token.Token.{Punctuation, Key, Word}
-use Rattle.print_grammar.specs.Token.Mark.{At, Colon, Semi, Dot, CloseBrace}
+use Rattle.print_grammar.specs.{Keyword.Keyword, Token.Token, Token.Mark}
+use Rattle.print_grammar.specs.Token.{Token.Punctuation, Token.Key, Token.Word, Mark.At, Mark.Colon, Mark.Semi, Mark.Dot, Mark.CloseBrace}
 use Rattle.print_grammar.specs.Tree.{SignatureTree, Gates, Prefix, PathTree, UsedName, Declared}
 use Rattle.print_grammar.specs.Grammar.{IsId, Listed, ReadsVersion, ReadsVersionArgument, ReadsDeprecated, ReadsGates, ReadsExternalId, ReadsPrefix, ReadsPath, ReadsUsedName, ReadsUse, ReadsField, ReadsCase, ReadsLabel, ReadsResourceMember, ReadsDeclared, ReadsParams, ReadsSignature}
-use Rattle.print_grammar.specs.Grammar.ReadsVersion.{no_version, with_version}
-use Rattle.print_grammar.specs.Grammar.ReadsVersionArgument.{version_argument}
-use Rattle.print_grammar.specs.Grammar.ReadsDeprecated.{not_deprecated, deprecated}
-use Rattle.print_grammar.specs.Grammar.ReadsGates.{no_gates, since, unstable}
-use Rattle.print_grammar.specs.Grammar.ReadsExternalId.{no_external_id, external_id}
-use Rattle.print_grammar.specs.Grammar.ReadsPrefix.{prefix}
-use Rattle.print_grammar.specs.Grammar.ReadsPath.{local, full}
-use Rattle.print_grammar.specs.Grammar.ReadsUsedName.{same_name, other_name}
-use Rattle.print_grammar.specs.Grammar.ReadsUse.{use_names}
-use Rattle.print_grammar.specs.Grammar.ReadsField.{field}
-use Rattle.print_grammar.specs.Grammar.ReadsCase.{case_alone, case_of}
-use Rattle.print_grammar.specs.Grammar.ReadsLabel.{label}
-use Rattle.print_grammar.specs.Grammar.ReadsResourceMember.{constructor_, method, static}
+use Rattle.print_grammar.specs.Grammar.{ReadsVersion.no_version, ReadsVersion.with_version, ReadsDeprecated.not_deprecated, ReadsDeprecated.deprecated}
+use Rattle.print_grammar.specs.Grammar.{ReadsVersionArgument.version_argument, ReadsPath.local, ReadsPath.full, ReadsField.field, ReadsLabel.label}
+use Rattle.print_grammar.specs.Grammar.{ReadsGates.no_gates, ReadsGates.since, ReadsGates.unstable, ReadsExternalId.no_external_id, ReadsExternalId.external_id}
+use Rattle.print_grammar.specs.Grammar.{ReadsPrefix.prefix, ReadsResourceMember.constructor_, ReadsResourceMember.method, ReadsResourceMember.static}
+use Rattle.print_grammar.specs.Grammar.{ReadsUsedName.same_name, ReadsUsedName.other_name, ReadsUse.use_names, ReadsCase.case_alone, ReadsCase.case_of}
 use Rattle.print_grammar.specs.Grammar.ReadsDeclared.{record_, variant, flags, enum, alias, resource, resource_with}
 use Rattle.print_grammar.proofs.TypeUnique.{id-unique, tail_same, type-unique, begins_with_at, no_less}
 use Rattle.print_grammar.proofs.ListsUnique.{Same, Unique, UniqueBefore, Never, head_same, listed-unique, repeated-unique, no_id_mark, no_id_key, arguments-unique, signature-unique}

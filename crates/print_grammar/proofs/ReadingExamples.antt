@@ -1,40 +1,19 @@
 -- Worked examples: the tokens and the tree of short texts.
 use Rattle.std.proofs.Common.{◌≡◌, length, [], ◌∷◌, ◌++◌, List, ℕ, refl, codes, None, Some, false, true}
 use Rattle.print_grammar.specs.Keyword.Keyword.{Package, World, Import, Export, Func, Map}
-use Rattle.print_grammar.specs.Keyword.Primitive.{U32, Bool_}
-use Rattle.std.specs.List.{flat_map}
-use Rattle.print_output.specs.OutputCall.{body_calls}
-use Rattle.print_output.specs.Render.{render}
+use Rattle.print_grammar.specs.{Keyword.Primitive.U32, Keyword.Primitive.Bool_, Tree.ExternTree.NamedFunction, Grammar.Repeated.closed, Grammar.Repeated.again}
 use Rattle.print_grammar.specs.Calls.{file_calls}
-use Rattle.print_grammar.specs.Tree.TypeTree.{PrimitiveType}
-use Rattle.print_grammar.specs.Token.{Token, Tokens, front_of_text}
+use Rattle.print_grammar.specs.{Tree.TypeTree.PrimitiveType, Grammar.ReadsItem.world_item, Grammar.ReadsGates.no_gates, Grammar.ReadsSignature.func}
+use Rattle.print_grammar.specs.{Token.Token, Token.Tokens, Token.front_of_text, Tree.FileTree, Tree.SignatureTree, Tree.Prefix, Grammar.ReadsVersion.no_version}
 use Rattle.print_grammar.specs.Token.Token.{Word, Escaped, Key, VersionText, Digits, Quoted, Punctuation}
 use Rattle.print_grammar.specs.Token.Mark.{Arrow, Colon, Semi, OpenBrace, CloseBrace, OpenParen, CloseParen}
-use Rattle.print_grammar.specs.Token.Front.{Found, Unknown}
-use Rattle.print_grammar.specs.Token.Tokens.{no_tokens, skip, token}
-use Rattle.print_grammar.specs.Tree.{FileTree, SignatureTree, Prefix}
-use Rattle.print_grammar.specs.Tree.Gates.{Ungated}
-use Rattle.print_grammar.specs.Tree.ExternTree.{NamedFunction}
-use Rattle.print_grammar.specs.Tree.WorldMember.{WorldImport, WorldExport}
-use Rattle.print_grammar.specs.Tree.ItemTree.{WorldItem}
-use Rattle.print_grammar.specs.Grammar.{ReadsFile, ReadsSignature}
-use Rattle.print_grammar.specs.Grammar.ReadsFile.{file}
-use Rattle.print_grammar.specs.Grammar.ReadsHead.{head}
-use Rattle.print_grammar.specs.Grammar.ReadsItems.{no_items, next_item}
-use Rattle.print_grammar.specs.Grammar.ReadsAllNested.{nested_end}
-use Rattle.print_grammar.specs.Grammar.ReadsItem.{world_item}
-use Rattle.print_grammar.specs.Grammar.ReadsVersion.{no_version}
-use Rattle.print_grammar.specs.Grammar.ReadsWorldMember.{world_import, world_export}
-use Rattle.print_grammar.specs.Grammar.ReadsPrefix.{prefix}
-use Rattle.print_grammar.specs.Grammar.ReadsGates.{no_gates}
-use Rattle.print_grammar.specs.Grammar.ReadsExternalId.{no_external_id}
-use Rattle.print_grammar.specs.Grammar.ReadsExtern.{extern_function}
-use Rattle.print_grammar.specs.Grammar.ReadsSignature.{func}
-use Rattle.print_grammar.specs.Grammar.ReadsParams.{no_params}
-use Rattle.print_grammar.specs.Grammar.ReadsResult.{no_result}
-use Rattle.print_grammar.specs.Grammar.Repeated.{closed, again}
-use Rattle.print_grammar.specs.Grammar.IsId.{plain}
-use Rattle.print_grammar.specs.Reading.{IsReading}
+use Rattle.print_grammar.specs.{Token.Front.Found, Token.Front.Unknown, Grammar.ReadsFile, Grammar.ReadsSignature, Grammar.ReadsExternalId.no_external_id}
+use Rattle.print_grammar.specs.{Token.Tokens.no_tokens, Token.Tokens.skip, Token.Tokens.token, Tree.WorldMember.WorldImport, Tree.WorldMember.WorldExport}
+use Rattle.print_grammar.specs.{Tree.Gates.Ungated, Tree.ItemTree.WorldItem, Grammar.ReadsPrefix.prefix, Grammar.IsId.plain, Reading.IsReading}
+use Rattle.print_grammar.specs.Grammar.{ReadsFile.file, ReadsItems.no_items, ReadsItems.next_item, ReadsWorldMember.world_import, ReadsWorldMember.world_export}
+use Rattle.print_grammar.specs.Grammar.{ReadsHead.head, ReadsAllNested.nested_end, ReadsExtern.extern_function, ReadsParams.no_params, ReadsResult.no_result}
+use Rattle.std.specs.List.{flat_map}
+use Rattle.print_output.specs.{OutputCall.body_calls, Render.render}
 
 -- a world that imports a function and exports one
 abbrev two_functions_text : List ℕ

@@ -1,19 +1,12 @@
 -- The escaped characters of a string between quotation marks are one token.
 use Rattle.std.proofs.Common.{◌≡◌, refl, sym, ap, ◌∙◌, subst, ℕ, ◌+◌, ◌*◌, ◌/◌, ◌%◌, ◌^◌, ◌<◌, true, false, ◌&&◌, ◌==◌, List, [], ◌∷◌, ◌++◌, append-nil, append_assoc, Option, Some, None, inl, inr, arith, zero, suc, ◌≤◌, nat_le}
-use Rattle.std.specs.List.{list_all, flat_map}
-use Rattle.std.specs.Option.{option_map}
-use Rattle.std.specs.Char.{is_ascii_digit}
-use Rattle.std.specs.Fmt.{digits, digits_onto, digit_glyph}
+use Rattle.std.specs.{List.list_all, List.flat_map, Option.option_map, Char.is_ascii_digit, Fmt.digits, Fmt.digits_onto, Fmt.digit_glyph}
 use lib.Utf8.{scalar}
 use Rattle.std.proofs.lemmas.Bool.{cases_Bool, cases_lt, eqb-true, eq-eqb, lt-ltb, le-ltb, false_from_ne_true as refuted}
-use Rattle.std.proofs.Math.Nat.{pow-suc}
-use Rattle.std.proofs.Math.Utf8.{scalar_fits}
-use Rattle.std.proofs.lemmas.Bool.Decides.{nat_tests}
+use Rattle.std.proofs.{Math.Nat.pow-suc, Math.Utf8.scalar_fits, lemmas.Bool.Decides.nat_tests}
 use Rattle.print_grammar.specs.Calls.{is_plain, escaped_character}
 use Rattle.print_grammar.specs.Token.{Token, Tokens, spelled, StringState, string_step, string_characters, hexadecimal}
-use Rattle.print_grammar.specs.Token.StringState.{Between, AfterBrace, InCode}
-use Rattle.print_grammar.specs.Token.StringStep.{Goes, Reads}
-use Rattle.print_grammar.specs.Token.Token.{Quoted}
+use Rattle.print_grammar.specs.Token.{StringState.Between, StringState.AfterBrace, StringState.InCode, StringStep.Goes, StringStep.Reads, Token.Quoted}
 use Rattle.print_grammar.proofs.TokenFacts.{EndsToken, ends_by, token_at}
 use Rattle.base_lemmas.proofs.Bools.{left_of, right_of}
 

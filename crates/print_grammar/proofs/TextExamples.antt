@@ -3,45 +3,23 @@ use Rattle.std.proofs.Common.{◌≡◌, [], ◌∷◌, ◌++◌, List, ℕ, ref
 use Rattle.std.specs.Fmt.{digits}
 use Rattle.wit_model.specs.Names.{cut}
 use Rattle.print_grammar.specs.Keyword.Keyword.{PrimitiveWord, Package, Interface, World, Func, Record, Tuple, Option_, List_, Map, Underscore}
-use Rattle.print_grammar.specs.Keyword.{Keyword}
+use Rattle.print_grammar.specs.{Keyword.Keyword, Grammar.ReadsFile.file, Reading.IsReading}
 use Rattle.print_grammar.specs.Keyword.Primitive.{Bool_, U8, U16, U32, U64, S8, S16, S32, S64, F32, F64, Char, String, ErrorContext}
-use Rattle.print_output.specs.Render.{render}
-use Rattle.print_grammar.specs.Calls.{type_calls, file_calls}
-use Rattle.print_grammar.specs.Token.{Token, Tokens}
+use Rattle.print_grammar.specs.{Calls.type_calls, Calls.file_calls, Tree.TypeTrees.NoTypes, Tree.TypeTrees.AndTypes, Tree.Gates.Ungated, Tree.Gates.Unstable}
+use Rattle.print_grammar.specs.{Token.Token, Token.Tokens, Tree.Declared.RecordOf, Grammar.ReadsPrefix.prefix, Grammar.ReadsField.field, Grammar.ReadsHead.head}
 use Rattle.print_grammar.specs.Token.Token.{Word, Escaped, Key, VersionText, Digits, Quoted, Punctuation}
 use Rattle.print_grammar.specs.Token.Mark.{OpenBrace, CloseBrace, OpenParen, CloseParen, Less, Greater, Colon, Semi, Comma, Dot, Equals, At}
-use Rattle.print_grammar.specs.Token.Tokens.{no_tokens, skip, token}
-use Rattle.print_grammar.specs.Tree.{TypeTree, Prefix, SignatureTree, FileTree}
+use Rattle.print_grammar.specs.{Token.Tokens.no_tokens, Token.Tokens.skip, Token.Tokens.token, Tree.TypeTree, Tree.Prefix, Tree.SignatureTree, Tree.FileTree}
 use Rattle.print_grammar.specs.Tree.TypeTree.{PrimitiveType, Name, Own, Borrow, TupleOf, OptionOf, ListOf, FixedListOf, MapOf, Result, ResultOk, ResultErr, ResultOf, Future, FutureOf, Stream, StreamOf}
-use Rattle.print_grammar.specs.Tree.TypeTrees.{NoTypes, AndTypes}
-use Rattle.print_grammar.specs.Tree.Gates.{Ungated, Unstable}
-use Rattle.print_grammar.specs.Tree.Declared.{RecordOf}
-use Rattle.print_grammar.specs.Tree.MemberTree.{TypeMember, FunctionMember}
-use Rattle.print_grammar.specs.Tree.ItemTree.{InterfaceItem}
-use Rattle.print_grammar.specs.Grammar.{ReadsFile, ReadsType, ReadsSignature}
-use Rattle.print_grammar.specs.Grammar.IsId.{plain, with_percent}
-use Rattle.print_grammar.specs.Grammar.Repeated.{closed, again}
-use Rattle.print_grammar.specs.Grammar.Listed.{last_with_comma, next}
+use Rattle.print_grammar.specs.{Tree.MemberTree.TypeMember, Tree.MemberTree.FunctionMember, Grammar.ReadsFile, Grammar.ReadsType, Grammar.ReadsSignature}
+use Rattle.print_grammar.specs.{Tree.ItemTree.InterfaceItem, Grammar.ReadsResult.no_result, Grammar.ReadsSignature.func, Grammar.ReadsDeclared.record_}
+use Rattle.print_grammar.specs.Grammar.{IsId.plain, IsId.with_percent, Listed.last_with_comma, Listed.next, ReadsGates.no_gates, ReadsGates.unstable}
+use Rattle.print_grammar.specs.Grammar.{Repeated.closed, Repeated.again, ReadsTypes.last_type, ReadsTypes.next_type, ReadsItems.no_items, ReadsItems.next_item}
 use Rattle.print_grammar.specs.Grammar.ReadsType.{primitive, named, named_with_percent, own, borrow, tuple, option, map, list, fixed_list, future, future_of, stream, stream_of, result, result_ok, result_of, result_err}
-use Rattle.print_grammar.specs.Grammar.ReadsTypes.{last_type, next_type}
-use Rattle.print_grammar.specs.Grammar.ReadsParams.{no_params}
-use Rattle.print_grammar.specs.Grammar.ReadsResult.{no_result}
-use Rattle.print_grammar.specs.Grammar.ReadsSignature.{func}
-use Rattle.print_grammar.specs.Grammar.ReadsVersion.{no_version, with_version}
-use Rattle.print_grammar.specs.Grammar.ReadsDeprecated.{not_deprecated}
-use Rattle.print_grammar.specs.Grammar.ReadsGates.{no_gates, unstable}
-use Rattle.print_grammar.specs.Grammar.ReadsExternalId.{no_external_id, external_id}
-use Rattle.print_grammar.specs.Grammar.ReadsPrefix.{prefix}
-use Rattle.print_grammar.specs.Grammar.ReadsField.{field}
-use Rattle.print_grammar.specs.Grammar.ReadsDeclared.{record_}
-use Rattle.print_grammar.specs.Grammar.ReadsMember.{member_type, member_function}
-use Rattle.print_grammar.specs.Grammar.ReadsItem.{interface_item}
-use Rattle.print_grammar.specs.Grammar.ReadsItems.{no_items, next_item}
-use Rattle.print_grammar.specs.Grammar.ReadsHead.{head}
-use Rattle.print_grammar.specs.Grammar.ReadsNested.{nested_package}
-use Rattle.print_grammar.specs.Grammar.ReadsAllNested.{nested_end, next_nested}
-use Rattle.print_grammar.specs.Grammar.ReadsFile.{file}
-use Rattle.print_grammar.specs.Reading.{IsReading}
+use Rattle.print_grammar.specs.Grammar.{ReadsParams.no_params, ReadsDeprecated.not_deprecated, ReadsItem.interface_item, ReadsNested.nested_package}
+use Rattle.print_grammar.specs.Grammar.{ReadsVersion.no_version, ReadsVersion.with_version, ReadsMember.member_type, ReadsMember.member_function}
+use Rattle.print_grammar.specs.Grammar.{ReadsExternalId.no_external_id, ReadsExternalId.external_id, ReadsAllNested.nested_end, ReadsAllNested.next_nested}
+use Rattle.print_output.specs.Render.{render}
 
 abbrev bare : Prefix
 bare = record { docs = []; gates = Ungated; external_id = None }

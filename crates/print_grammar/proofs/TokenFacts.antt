@@ -1,20 +1,13 @@
 -- Which token begins a text, and where it ends.
 use Rattle.std.proofs.Common.{◌≡◌, refl, sym, ap, ◌∙◌, subst, ℕ, Bool, true, false, ◌||◌, ◌==◌, not, List, [], ◌∷◌, ◌++◌, Option, Some, None, append-nil, append_assoc, arith, zero, suc, replicate}
-use Rattle.std.specs.Char.{is_ascii_alphabetic, is_ascii_digit}
-use Rattle.std.specs.List.{list_all, slice_split}
-use Rattle.std.proofs.lemmas.Bool.Decides.{nat_tests}
+use Rattle.std.proofs.lemmas.{Bool.Decides.nat_tests, Bool.false_from_ne_true as refuted, Bool.not-true as not_true}
+use Rattle.std.specs.{Char.is_ascii_alphabetic, Char.is_ascii_digit, List.list_all, List.slice_split}
 use Rattle.wit_model.specs.Names.{is_label, is_fragment, is_lower_byte, is_upper_byte, begins_with_letter}
-use Rattle.print_grammar.specs.Keyword.{Keyword, keyword_of, escaped}
-use Rattle.print_grammar.specs.Grammar.{IsId}
-use Rattle.print_grammar.specs.Grammar.IsId.{plain, with_percent}
+use Rattle.print_grammar.specs.{Keyword.Keyword, Keyword.keyword_of, Keyword.escaped, Grammar.IsId.plain, Grammar.IsId.with_percent, Token.Front.Found}
+use Rattle.print_grammar.specs.{Grammar.IsId, Token.Mark.Slash, Token.Tokens.skip, Token.Tokens.token}
 use Rattle.print_grammar.specs.Token.{Token, Tokens, spelled, longest, found, front_of_text, is_blank, begins_comment, begins_with_slash}
-use Rattle.print_grammar.specs.Token.Mark.{Slash}
-use Rattle.print_grammar.specs.Token.Front.{Found}
-use Rattle.print_grammar.specs.Token.Tokens.{skip, token}
 use Rattle.print_grammar.proofs.ByteTests.{all_but_one, parts_pass}
-use Rattle.base_lemmas.proofs.Bools.{left_of, right_of}
-use Rattle.base_lemmas.proofs.Elements.{all_weaker as weaker_all}
-use Rattle.std.proofs.lemmas.Bool.{false_from_ne_true as refuted, not-true as not_true}
+use Rattle.base_lemmas.proofs.{Bools.left_of, Bools.right_of, Elements.all_weaker as weaker_all}
 
 -- no token begins with this text
 abbrev pub NoToken : List ℕ → Type 0

@@ -1,8 +1,7 @@
 -- A text has at most one list of tokens.
 use Rattle.std.proofs.Common.{◌≡◌, List, ℕ, refl, subst}
 use Rattle.print_grammar.specs.Token.{Token, Tokens, Front}
-use Rattle.print_grammar.specs.Token.Front.{Ended, Skipped, Found}
-use Rattle.print_grammar.specs.Token.Tokens.{no_tokens, skip, token}
+use Rattle.print_grammar.specs.Token.{Front.Ended, Front.Skipped, Front.Found, Tokens.no_tokens, Tokens.skip, Tokens.token}
 
 same_skip : (f : Front) (a b : List ℕ) → f ≡ Skipped a → f ≡ Skipped b → b ≡ a
 same_skip f a b p q = cc

@@ -2,29 +2,22 @@
 use Rattle.std.proofs.Common.{◌≡◌, refl, sym, ap, ◌∙◌, subst, ℕ, true, false, nat_lt, List, [], ◌∷◌, ◌++◌, append-nil, append_assoc, codes, Some, ◌^◌}
 use Rattle.std.proofs.lemmas.Bool.{ltb-true}
 use Rattle.wit_model.specs.Names.{is_label, begins_with_letter}
-use Rattle.print_grammar.specs.Keyword.{Keyword, Primitive, primitive_text, escaped}
+use Rattle.print_grammar.specs.{Keyword.Keyword, Keyword.Primitive, Keyword.primitive_text, Keyword.escaped, WellNamed.is_well_type, WellNamed.are_well_types}
 use Rattle.print_grammar.specs.Keyword.Primitive.{Bool_, U8, U16, U32, U64, S8, S16, S32, S64, F32, F64, Char, String, ErrorContext}
+use Rattle.print_grammar.specs.{Calls.type_calls, Calls.types_calls, Tree.TypeTrees.NoTypes, Tree.TypeTrees.AndTypes, AsRead.type_as_read, AsRead.types_as_read}
+use Rattle.print_grammar.specs.{Token.Token, Token.Tokens, Token.spelled, Tree.TypeTree, Tree.TypeTrees}
+use Rattle.print_grammar.specs.{Token.Token.Punctuation, Token.Token.Key, Token.Token.Digits, Grammar.ReadsTypes.last_type, Grammar.ReadsTypes.next_type}
+use Rattle.print_grammar.specs.{Token.Mark.Less, Token.Mark.Greater, Token.Mark.Comma, Grammar.ReadsType, Grammar.ReadsTypes, Grammar.IsId}
+use Rattle.print_grammar.specs.Tree.TypeTree.{PrimitiveType, Name, Handle, Own, Borrow, TupleOf, OptionOf, ListOf, FixedListOf, MapOf, Result, ResultOk, ResultErr, ResultOf, Future, FutureOf, Stream, StreamOf}
 use Rattle.print_output.specs.OutputCall.{OutputCall}
 use Rattle.print_output.specs.OutputCall.OutputCall.{PushStr, Ty, GenericArgsStart, GenericArgsEnd, Str}
-use Rattle.print_grammar.specs.Calls.{type_calls, types_calls}
-use Rattle.print_grammar.specs.Token.{Token, Tokens, spelled}
-use Rattle.print_grammar.specs.Token.Token.{Punctuation, Key, Digits}
-use Rattle.print_grammar.specs.Token.Mark.{Less, Greater, Comma}
-use Rattle.print_grammar.specs.Tree.{TypeTree, TypeTrees}
-use Rattle.print_grammar.specs.Tree.TypeTree.{PrimitiveType, Name, Handle, Own, Borrow, TupleOf, OptionOf, ListOf, FixedListOf, MapOf, Result, ResultOk, ResultErr, ResultOf, Future, FutureOf, Stream, StreamOf}
-use Rattle.print_grammar.specs.Tree.TypeTrees.{NoTypes, AndTypes}
-use Rattle.print_grammar.specs.AsRead.{type_as_read, types_as_read}
-use Rattle.print_grammar.specs.Grammar.{ReadsType, ReadsTypes, IsId}
-use Rattle.print_grammar.specs.Grammar.ReadsTypes.{last_type, next_type}
-use Rattle.print_grammar.specs.WellNamed.{is_well_type, are_well_types}
-use Rattle.print_output.specs.declared.type_kind.TypeKind.TheVariants as kind
 use Rattle.print_grammar.proofs.TokenFacts.{word_at, mark_at, id_token, id_is}
-use Rattle.std.specs.Fmt.{decimal}
 use Rattle.print_grammar.proofs.VersionFacts.{number_at, ends_version}
-use Rattle.print_grammar.proofs.TextOf.{text_of}
+use Rattle.print_grammar.proofs.{TextOf.text_of, Printing.Prints.by_type, Printing.Prints.by_push, Printing.Prints.by_start, Printing.Prints.by_end}
 use Rattle.print_grammar.proofs.Printing.{Follows, Printed, Prints, Ended, relist, two_lists, word_call, id_call, call_is, less_call, greater_call, comma_call, no_word, printed_text, comma, less, space}
-use Rattle.print_grammar.proofs.Printing.Prints.{by_type, by_push, by_start, by_end}
+use Rattle.std.specs.Fmt.{decimal}
 use Rattle.base_lemmas.proofs.Bools.{left_of, right_of}
+use Rattle.print_output.specs.declared.type_kind.TypeKind.TheVariants as kind
 
 primitive_spelled : (p : Primitive) → spelled (primitive_text p) ≡ Some (Key (Keyword.PrimitiveWord p))
 primitive_spelled Bool_ = refl

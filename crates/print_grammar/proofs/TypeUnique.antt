@@ -1,14 +1,10 @@
 -- A list of tokens begins with at most one type, where what follows doesn't go on with it.
 use Rattle.std.proofs.Common.{◌≡◌, List, ◌∷◌, ℕ, Bool, true, false, refl, ap, sym, subst}
-use Rattle.print_grammar.specs.Keyword.Keyword.{As}
-use Rattle.print_grammar.specs.Token.{Token, Mark}
-use Rattle.print_grammar.specs.Token.Token.{Punctuation, Key}
+use Rattle.print_grammar.specs.{Keyword.Keyword.As, Token.Token, Token.Mark}
+use Rattle.print_grammar.specs.{Token.Token.Punctuation, Token.Token.Key, Tree.TypeTree, Tree.TypeTrees, Grammar.ReadsType, Grammar.ReadsTypes, Grammar.IsId}
 use Rattle.print_grammar.specs.Token.Mark.{OpenParen, CloseParen, CloseBrace, Less, Greater, Semi, Comma, At, Arrow}
-use Rattle.print_grammar.specs.Tree.{TypeTree, TypeTrees}
-use Rattle.print_grammar.specs.Grammar.{ReadsType, ReadsTypes, IsId}
 use Rattle.print_grammar.specs.Grammar.ReadsType.{primitive, named, named_with_percent, own, borrow, tuple, option, map, list, fixed_list, future, future_of, stream, stream_of, result, result_ok, result_of, result_err}
-use Rattle.print_grammar.specs.Grammar.ReadsTypes.{last_type, last_type_with_comma, next_type}
-use Rattle.print_grammar.specs.Grammar.IsId.{plain, with_percent}
+use Rattle.print_grammar.specs.Grammar.{ReadsTypes.last_type, ReadsTypes.last_type_with_comma, ReadsTypes.next_type, IsId.plain, IsId.with_percent}
 
 pub id-unique : {t : Token} {a b : List ℕ} → IsId t a → IsId t b → a ≡ b
 id-unique plain plain = refl

@@ -1,30 +1,20 @@
 -- The text of a version is one token.
 use Rattle.std.proofs.Common.{◌≡◌, refl, sym, ap, ◌∙◌, subst, ℕ, ◌<◌, ◌^◌, Bool, true, false, ◌&&◌, ◌||◌, ◌==◌, not, List, [], ◌∷◌, ◌++◌, length, Option, Some, None, append-nil, append_assoc, inl, inr, arith, zero, suc, get_or, Ok, Err, Result, nat_lt, unwrap_or}
-use Rattle.std.specs.Option.{option_map, option_map_or}
-use Rattle.std.specs.Prelude.{is_ok}
-use Rattle.std.specs.Char.{is_ascii_alphabetic, is_ascii_digit, digit_value}
-use Rattle.std.specs.Fmt.{decimal}
-use Rattle.std.specs.List.{list_all, onto_first, All}
-use Rattle.std.specs.Str.Parse.{AllDigits}
 use Rattle.std.proofs.lemmas.Bool.{cases_Bool, eqb-true, lt-ltb, and_from as both, and_right as and_false, false_from_ne_true as refuted, not-true as not_true, or_left}
-use Rattle.std.proofs.lemmas.Bool.Decides.{nat_tests}
-use Rattle.std.proofs.lemmas.Fmt.{decimal_is_IsNumeral, decimal_nonempty, first_decimal, decimal_digit}
-use Rattle.std.proofs.lemmas.List.Folds.{list_all-append}
+use Rattle.std.proofs.lemmas.{Bool.Decides.nat_tests, List.Folds.list_all-append}
+use Rattle.std.proofs.lemmas.{Fmt.decimal_is_IsNumeral, Fmt.decimal_nonempty, Fmt.first_decimal, Fmt.decimal_digit, List.Sums.AllPass-from_list_all}
 use Rattle.std.proofs.lemmas.List.Splits.{slice_split_none, slice_split_at, slice_split-cons_yes, slice_split-cons_no}
-use Rattle.std.proofs.lemmas.List.Sums.{AllPass-from_list_all}
+use Rattle.std.specs.{Option.option_map, Option.option_map_or, Prelude.is_ok, Fmt.decimal}
+use Rattle.std.specs.{Char.is_ascii_alphabetic, Char.is_ascii_digit, Char.digit_value, List.list_all, List.onto_first, List.All, Str.Parse.AllDigits}
 use Rattle.semver.specs.Grammar.{IsValid, has_leading_zero, is_pre_release, is_build, is_identifier_byte, is_build_identifier, is_pre_identifier}
-use Rattle.semver.specs.Identifiers.{parts_text, marked}
-use Rattle.semver.specs.Order.{is_numeric, parts}
-use Rattle.semver.specs.Parse.{Parts, version_parts}
+use Rattle.semver.specs.{Identifiers.parts_text, Identifiers.marked, Order.is_numeric, Order.parts, Parse.Parts, Parse.version_parts}
 use Rattle.semver.specs.declared.error.Error.{Error}
 use Rattle.semver.proofs.Grammar.{version_parts-sound}
 use Rattle.wit_model.specs.Names.{cut, is_version_text}
 use Rattle.print_grammar.specs.Token.{Token, Tokens, spelled, is_blank, is_numeral, are_three_numerals, is_version_core, is_given, is_version_number, is_semantic_version, number_token}
 use Rattle.print_grammar.proofs.ByteTests.{all_but_one, parts_pass}
-use Rattle.print_grammar.proofs.TokenFacts.{NoToken, EndsToken, ends_by, ends_by_two, token_at}
-use Rattle.base_lemmas.proofs.Bools.{left_of, right_of}
-use Rattle.base_lemmas.proofs.Elements.{all_weaker as weaker_all}
-use Rattle.print_grammar.proofs.TokenFacts.{no_comment}
+use Rattle.print_grammar.proofs.TokenFacts.{NoToken, EndsToken, ends_by, ends_by_two, token_at, no_comment}
+use Rattle.base_lemmas.proofs.{Bools.left_of, Bools.right_of, Elements.all_weaker as weaker_all}
 
 -- ---- what stands before and after a byte
 

@@ -1,20 +1,15 @@
 -- The grammar of WIT text (WIT.md, Package declaration to Item: type), one case for each alternative.
 -- Each relation says which tree stands at the front of a list of tokens, and which tokens follow it: `ReadsType before tree after`.
 use Rattle.std.specs.Prelude.{◌≡◌, true, false, List, [], ◌∷◌, ℕ, Option, None, Some, codes}
-use Rattle.print_grammar.specs.Keyword.{Keyword, Primitive}
-use Rattle.print_grammar.specs.Token.{Token}
+use Rattle.print_grammar.specs.{Keyword.Keyword, Keyword.Primitive, Tree.TypeTrees.NoTypes, Tree.TypeTrees.AndTypes}
+use Rattle.print_grammar.specs.{Token.Token, Tree.WorldMember.WorldUse, Tree.WorldMember.WorldType, Tree.WorldMember.WorldImport, Tree.WorldMember.WorldExport}
 use Rattle.print_grammar.specs.Token.Mark.{OpenBrace, CloseBrace, OpenParen, CloseParen, Less, Greater, Colon, Semi, Comma, Dot, Equals, Slash, At, Arrow}
 use Rattle.print_grammar.specs.Token.Token.{Word, Escaped, Key, VersionText, Digits, Quoted, Punctuation}
 use Rattle.print_grammar.specs.Tree.{TypeTree, TypeTrees, Gates, Prefix, ParamTree, FieldTree, CaseTree, LabelTree, SignatureTree, ResourceMember, Declared, PathTree, UsedName, MemberTree, ExternTree, WorldMember, ItemTree, PackageHead, PackageTree, FileTree}
-use Rattle.print_grammar.specs.Tree.TypeTrees.{NoTypes, AndTypes}
-use Rattle.print_grammar.specs.Tree.Gates.{Ungated, Since, Unstable}
-use Rattle.print_grammar.specs.Tree.ResourceMember.{Constructor, Method, Static}
+use Rattle.print_grammar.specs.Tree.{Gates.Ungated, Gates.Since, Gates.Unstable, ResourceMember.Constructor, ResourceMember.Method, ResourceMember.Static}
 use Rattle.print_grammar.specs.Tree.Declared.{RecordOf, VariantOf, FlagsOf, EnumOf, AliasOf, ResourceOf}
-use Rattle.print_grammar.specs.Tree.PathTree.{Local, Full}
-use Rattle.print_grammar.specs.Tree.MemberTree.{UseMember, TypeMember, FunctionMember}
-use Rattle.print_grammar.specs.Tree.ExternTree.{Path, NamedFunction, NamedPath, NamedInterface}
-use Rattle.print_grammar.specs.Tree.WorldMember.{WorldUse, WorldType, WorldImport, WorldExport}
-use Rattle.print_grammar.specs.Tree.ItemTree.{InterfaceItem, WorldItem}
+use Rattle.print_grammar.specs.Tree.{PathTree.Local, PathTree.Full, ExternTree.Path, ExternTree.NamedFunction, ExternTree.NamedPath, ExternTree.NamedInterface}
+use Rattle.print_grammar.specs.Tree.{MemberTree.UseMember, MemberTree.TypeMember, MemberTree.FunctionMember, ItemTree.InterfaceItem, ItemTree.WorldItem}
 
 -- An id is a word that is no keyword, or any word after `%`.
 pub data IsId : Token → List ℕ → Type 0 where

@@ -1,8 +1,6 @@
 -- What a text of WIT says: its tokens, and the tree that they are (WIT.md, "Lexical structure" and "Top-level items").
 use Rattle.std.specs.Prelude.{◌≡◌, List, ℕ}
-use Rattle.print_grammar.specs.Token.{Token, Tokens}
-use Rattle.print_grammar.specs.Tree.{FileTree}
-use Rattle.print_grammar.specs.Grammar.{ReadsFile}
+use Rattle.print_grammar.specs.{Token.Token, Token.Tokens, Tree.FileTree, Grammar.ReadsFile}
 
 -- the text is read as this tree
 pub record IsReading (text : List ℕ) (tree : FileTree) : Type 0 where

@@ -1,16 +1,10 @@
 -- The tokens of WIT text (WIT.md, Lexical structure; Semantic Versioning 2.0.0). Each is the longest that begins where it stands.
 use Rattle.std.specs.Prelude.{◌≡◌, Bool, true, false, List, [], ◌∷◌, ◌++◌, ◌==◌, ◌&&◌, ◌||◌, ◌+◌, ◌-◌, ◌*◌, nat_le, nat_lt, ℕ, Option, None, Some, codes, length, not, if◌then◌else◌}
-use Rattle.std.specs.Char.{is_ascii_alphabetic, is_ascii_digit}
-use Rattle.std.specs.Option.{option_map, option_map_or}
-use Rattle.std.specs.Str.Parse.{digits_value}
+use Rattle.std.specs.{Char.is_ascii_alphabetic, Char.is_ascii_digit, Option.option_map, Option.option_map_or, Str.Parse.digits_value}
 use lib.Utf8.{scalar}
-use Rattle.semver.specs.Grammar.{has_leading_zero, is_pre_release, is_build}
-use Rattle.semver.specs.Order.{is_numeric, parts}
-use Rattle.wit_model.specs.Text.{text_eq}
-use Rattle.wit_model.specs.Names.{is_label, cut}
-use Rattle.print_grammar.specs.Keyword.{Keyword, keyword_of}
-use Rattle.print_grammar.specs.Keyword.Keyword.{Underscore}
-use Rattle.print_grammar.specs.Calls.{is_plain}
+use Rattle.semver.specs.{Grammar.has_leading_zero, Grammar.is_pre_release, Grammar.is_build, Order.is_numeric, Order.parts}
+use Rattle.wit_model.specs.{Text.text_eq, Names.is_label, Names.cut}
+use Rattle.print_grammar.specs.{Keyword.Keyword, Keyword.keyword_of, Keyword.Keyword.Underscore, Calls.is_plain}
 
 -- The punctuation of WIT text.
 pub data Mark : Type 0 where

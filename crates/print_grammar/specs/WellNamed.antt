@@ -2,18 +2,14 @@
 use Rattle.std.specs.Prelude.{Bool, true, false, List, ◌&&◌, nat_lt, length, ◌^◌}
 use Rattle.std.specs.List.{list_all}
 use lib.Utf8.{scalar}
-use Rattle.wit_model.specs.Names.{is_label, is_version_text}
-use Rattle.wit_model.specs.Rules.{passes}
+use Rattle.wit_model.specs.{Names.is_label, Names.is_version_text, Rules.passes}
 use Rattle.print_output.specs.OutputCall.{is_one_line}
 use Rattle.print_grammar.specs.Tree.{TypeTree, TypeTrees, Gates, Prefix, ParamTree, FieldTree, CaseTree, LabelTree, SignatureTree, ResourceMember, Declared, PathTree, UsedName, MemberTree, ExternTree, WorldMember, ItemTree, PackageHead, PackageTree, FileTree}
-use Rattle.print_grammar.specs.Tree.ResourceMember.{Constructor, Method, Static}
+use Rattle.print_grammar.specs.Tree.{ResourceMember.Constructor, ResourceMember.Method, ResourceMember.Static, Gates.Ungated, Gates.Since, Gates.Unstable}
 use Rattle.print_grammar.specs.Tree.Declared.{RecordOf, VariantOf, FlagsOf, EnumOf, AliasOf, ResourceOf}
-use Rattle.print_grammar.specs.Tree.PathTree.{Local, Full}
-use Rattle.print_grammar.specs.Tree.MemberTree.{UseMember, TypeMember, FunctionMember}
-use Rattle.print_grammar.specs.Tree.ExternTree.{Path, NamedFunction, NamedPath, NamedInterface}
+use Rattle.print_grammar.specs.Tree.{PathTree.Local, PathTree.Full, ExternTree.Path, ExternTree.NamedFunction, ExternTree.NamedPath, ExternTree.NamedInterface}
+use Rattle.print_grammar.specs.Tree.{MemberTree.UseMember, MemberTree.TypeMember, MemberTree.FunctionMember, ItemTree.InterfaceItem, ItemTree.WorldItem}
 use Rattle.print_grammar.specs.Tree.WorldMember.{WorldUse, WorldType, WorldImport, WorldExport}
-use Rattle.print_grammar.specs.Tree.ItemTree.{InterfaceItem, WorldItem}
-use Rattle.print_grammar.specs.Tree.Gates.{Ungated, Since, Unstable}
 use Rattle.print_grammar.specs.Tree.TypeTree.{PrimitiveType, Name, Handle, Own, Borrow, TupleOf, OptionOf, ListOf, FixedListOf, MapOf, Result, ResultOk, ResultErr, ResultOf, Future, FutureOf, Stream, StreamOf}
 use Rattle.print_grammar.specs.Tree.TypeTrees.{NoTypes, AndTypes}
 

@@ -1,9 +1,7 @@
 //! Names as ids of WIT text.
 
 ghost use Rattle.std.specs.Prelude.{◌≡◌, ◌∷◌, true, false, List, ℕ, IfOk};
-ghost use Rattle.std.specs.String.{string_bytes};
-ghost use Rattle.std.specs.List.{list_any};
-ghost use Rattle.std.specs.Cow.{cow_str_bytes};
+ghost use Rattle.std.specs.{String.string_bytes, List.list_any, Cow.cow_str_bytes};
 ghost use Rattle.wit_model.specs.Text.{text_eq};
 ghost use Rattle.print_grammar.specs.Calls.{escaped_character, is_plain as is_plain_lem};
 ghost use Rattle.print_grammar.specs.Keyword.{escaped, is_keyword as is_keyword_lem, keyword_texts};

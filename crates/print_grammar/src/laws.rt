@@ -1,11 +1,7 @@
 //! Laws about the grammar.
 
 ghost use Rattle.std.specs.Prelude.{◌≡◌, Bool, true};
-ghost use Rattle.print_grammar.specs.AsRead.{file_as_read};
-ghost use Rattle.print_grammar.specs.Calls.{file_calls};
-ghost use Rattle.print_grammar.specs.Reading.{IsOnlyReading, OneReading};
-ghost use Rattle.print_grammar.specs.Tree.{FileTree};
-ghost use Rattle.print_grammar.specs.WellNamed.{is_well_file};
+ghost use Rattle.print_grammar.specs.{AsRead.file_as_read, Calls.file_calls, Reading.IsOnlyReading, Reading.OneReading, Tree.FileTree, WellNamed.is_well_file};
 ghost use Rattle.print_output.specs.Render.{render};
 
 /// A text has at most one list of tokens, and a list of tokens is at most one file.

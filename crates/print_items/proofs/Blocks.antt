@@ -1,9 +1,8 @@
 -- A block: its start, its members, and its end.
 use Rattle.std.proofs.Common.{◌≡◌, List, [], ◌∷◌, ◌++◌, ◌∙◌, ap, map, sym}
-use Rattle.std.specs.List.{flat_map}
 use Rattle.std.proofs.lemmas.List.Folds.{flat_map-map}
-use Rattle.print_output.specs.OutputCall.{OutputCall, View}
-use Rattle.print_output.specs.OutputCall.OutputCall.{IndentEnd}
+use Rattle.std.specs.List.{flat_map}
+use Rattle.print_output.specs.{OutputCall.OutputCall, OutputCall.View, OutputCall.OutputCall.IndentEnd}
 use Rattle.print_items.specs.declared.driver.Driver.{Driver}
 use Rattle.print_items.specs.Drives.{Drives}
 use Rattle.print_items.proofs.Driven.{driven3}

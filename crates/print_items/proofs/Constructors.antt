@@ -1,27 +1,17 @@
 -- What is written of functions of resources.
 use Rattle.std.proofs.Common.{◌≡◌, refl, sym, ap, subst, Bool, true, false, ◌&&◌, ◌++◌, ◌==◌, List, [], ◌∷◌, length, map, drop, Option, Some, None}
-use Rattle.std.specs.Prelude.{option_map, if◌then◌else◌}
-use Rattle.std.specs.Borrow.{Bor}
-use Rattle.std.specs.List.{flat_map, list_all}
 use Rattle.std.proofs.lemmas.List.Folds.{flat_map-map}
-use Rattle.std.specs.Option.{option_map_or}
-use Rattle.wit_model.specs.declared.model.Resolve.{Resolve}
-use Rattle.wit_model.specs.declared.model.Function.{Function}
-use Rattle.wit_model.specs.declared.model.FunctionKind.{FunctionKind}
-use Rattle.wit_model.specs.declared.model.FunctionKind.TheVariants as call
-use Rattle.wit_model.specs.declared.model.TypeId.{TypeId}
-use Rattle.wit_model.specs.declared.model.«Type».{«Type» as ValueType}
-use Rattle.wit_model.specs.declared.model.«Type».TheVariants as value
-use Rattle.wit_model.specs.Calls.{is_constructor_shorthand, is_shorthand, item_name}
-use Rattle.wit_model.specs.Names.{is_label}
-use Rattle.wit_model.specs.Rules.{is_own_of, type_is, passes}
-use Rattle.print_grammar.specs.Tree.{TypeTree}
-use Rattle.print_items.specs.Shown.{constructor_result, function_prefix, is_method, shown_param, shown_params, shown_resource_member, shown_signature, shown_type}
-use Rattle.print_grammar.specs.Calls.{prefix_calls, resource_body_calls, resource_member_calls}
-use Rattle.print_output.specs.OutputCall.OutputCall.{IndentEnd, IndentStart}
-use Rattle.print_items.specs.DeclaredCalls.{bare_member_calls}
+use Rattle.std.specs.{Prelude.option_map, Prelude.if◌then◌else◌, Borrow.Bor, List.flat_map, List.list_all, Option.option_map_or}
+use Rattle.wit_model.specs.declared.model.{Resolve.Resolve, Function.Function, FunctionKind.FunctionKind, TypeId.TypeId, «Type».«Type» as ValueType}
+use Rattle.wit_model.specs.{Calls.is_constructor_shorthand, Calls.is_shorthand, Calls.item_name, Names.is_label, Rules.is_own_of, Rules.type_is, Rules.passes}
+use Rattle.print_grammar.specs.{Tree.TypeTree, Calls.prefix_calls, Calls.resource_body_calls, Calls.resource_member_calls}
 use Rattle.print_grammar.specs.WellNamed.{is_well_param, is_well_prefix, is_well_resource_member, is_well_signature, is_well_type}
+use Rattle.print_items.specs.Shown.{constructor_result, function_prefix, is_method, shown_param, shown_params, shown_resource_member, shown_signature, shown_type}
+use Rattle.print_items.specs.DeclaredCalls.{bare_member_calls}
+use Rattle.print_output.specs.OutputCall.OutputCall.{IndentEnd, IndentStart}
 use Rattle.base_lemmas.proofs.Bools.{left_of, right_of}
+use Rattle.wit_model.specs.declared.model.FunctionKind.TheVariants as call
+use Rattle.wit_model.specs.declared.model.«Type».TheVariants as value
 
 module _ (r : Resolve) (id : TypeId) where
   owned : (o : Option ValueType) → option_map_or (type_is r (is_own_of id.0)) o false ≡ true → constructor_result r id o ≡ None

@@ -1,39 +1,22 @@
 -- Declared types, part by part.
 use Rattle.std.proofs.Common.{◌≡◌, refl, sym, ap, subst, ◌∙◌, Bool, true, false, ◌&&◌, ◌||◌, not, List, [], map, Option, Some, None}
-use Rattle.std.specs.Prelude.{codes, String, is_some}
-use Rattle.std.specs.Option.{option_map_or}
-use Rattle.std.specs.List.{list_all}
+use Rattle.std.proofs.lemmas.{List.Folds.list_all-map, Bool.lt-ltb, Bool.ltb-true, Option.slice_get_within}
+use Rattle.std.specs.{Prelude.codes, Prelude.String, Prelude.is_some, Option.option_map_or, List.list_all}
 use Rattle.std.specs.declared.alloc.Global.{Global}
-use Rattle.std.proofs.lemmas.List.Folds.{list_all-map}
-use Rattle.std.proofs.lemmas.Bool.{lt-ltb, ltb-true}
-use Rattle.std.proofs.lemmas.Option.{slice_get_within}
-use Rattle.wit_model.specs.declared.model.Resolve.{Resolve}
-use Rattle.wit_model.specs.declared.model.TypeDef.{TypeDef}
-use Rattle.wit_model.specs.declared.model.TypeDefKind.TheVariants as defined
-use Rattle.wit_model.specs.declared.model.TypeId.{TypeId}
-use Rattle.wit_model.specs.declared.model.Handle.{Handle}
-use Rattle.wit_model.specs.declared.model.«Type».{«Type» as ValueType}
-use Rattle.wit_model.specs.declared.model.«Type».TheVariants as value
-use Rattle.wit_model.specs.Lookup.{type_at}
-use Rattle.wit_model.specs.Parts.{handle_target}
-use Rattle.wit_model.specs.Rules.{in_list, is_named_kind, is_named_number, passes}
-use Rattle.wit_model.specs.Text.{Text, text_of}
-use Rattle.wit_model.specs.Uses.{alias_target}
-use Rattle.wit_model.specs.Valid.{IsValid, named_kinds}
+use Rattle.wit_model.specs.declared.model.{Resolve.Resolve, TypeDef.TypeDef, TypeId.TypeId, Handle.Handle, «Type».«Type» as ValueType}
+use Rattle.wit_model.specs.{Lookup.type_at, Parts.handle_target, Uses.alias_target}
+use Rattle.wit_model.specs.{Rules.in_list, Rules.is_named_kind, Rules.is_named_number, Rules.passes, Text.Text, Text.text_of, Valid.IsValid, Valid.named_kinds}
 use Rattle.print_output.specs.OutputCall.{lines_begun_after}
-use Rattle.print_grammar.specs.Tree.{TypeTree}
-use Rattle.print_grammar.specs.Tree.TypeTree.{PrimitiveType, Name}
-use Rattle.print_grammar.specs.Tree.Declared.{AliasOf}
+use Rattle.print_grammar.specs.{Tree.TypeTree, Calls.declared_calls, Calls.type_calls}
+use Rattle.print_grammar.specs.{Tree.TypeTree.PrimitiveType, Tree.TypeTree.Name, Tree.Declared.AliasOf, WellNamed.are_well_some, WellNamed.is_well_type}
 use Rattle.print_items.specs.Shown.{future_tree, kind_tree, shown_type, stream_tree, type_trees}
-use Rattle.print_grammar.specs.Calls.{declared_calls, type_calls}
 use Rattle.print_items.specs.DeclaredCalls.{alias_calls, carrier_calls, is_word}
 use Rattle.print_items.specs.TypeParts.{handles_label, is_labelled, kind_calls, may_be_unnamed}
-use Rattle.print_grammar.specs.WellNamed.{are_well_some, is_well_type}
+use Rattle.print_items.proofs.{TypesWell.type_rule, TypeParts.handles_at, TypeParts.shown_at, TypeParts.type_stays, TypeParts.well_in_range}
+use Rattle.base_lemmas.proofs.{Bools.right_of, Lists.within_there as one_there}
+use Rattle.wit_model.specs.declared.model.TypeDefKind.TheVariants as defined
+use Rattle.wit_model.specs.declared.model.«Type».TheVariants as value
 use Rattle.print_output.specs.declared.type_kind.TypeKind.TheVariants as kind
-use Rattle.print_items.proofs.TypesWell.{type_rule}
-use Rattle.print_items.proofs.TypeParts.{handles_at, shown_at, type_stays, well_in_range}
-use Rattle.base_lemmas.proofs.Bools.{right_of}
-use Rattle.base_lemmas.proofs.Lists.{within_there as one_there}
 
 -- what is in a block passes the test, as it is shown
 pub block_members : {X Y : Type 0} (well : Y → Bool) (show : X → Y) (label : Bool) (xs : List X) → (label && are_well_some well (map show xs)) ≡ true → list_all (λ x. well (show x)) xs ≡ true

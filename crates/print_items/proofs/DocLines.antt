@@ -1,16 +1,13 @@
 -- The lines of a text have no line end in them.
 use Rattle.std.proofs.Common.{◌≡◌, refl, sym, ◌<◌, ◌-◌, ℕ, zero, suc, Bool, true, false, IsTrue, ◌==◌, cond, List, [], ◌∷◌, length, take, get_or, subst, if◌then◌else◌, slice_index, map, ap, ◌∙◌, Bor}
-use Rattle.std.specs.List.{list_all, slice_split, onto_first}
-use Rattle.std.specs.Str.Lines.{lines, lines_of_parts}
-use Rattle.std.proofs.lemmas.List.Sums.{AllPass-from_list_all}
-use Rattle.std.proofs.lemmas.Simd.{map-map}
+use Rattle.std.proofs.lemmas.{List.Sums.AllPass-from_list_all, Simd.map-map, Bool.and_from as both_true}
+use Rattle.std.specs.{List.list_all, List.slice_split, List.onto_first, Str.Lines.lines, Str.Lines.lines_of_parts}
 use Rattle.wit_model.specs.Text.{Text}
 use Rattle.print_output.specs.OutputCall.{OutputCall, View, is_one_line}
 use Rattle.print_items.specs.declared.driver.Driver.{Driver}
 use Rattle.print_items.specs.Drives.{Drives}
 use Rattle.print_items.proofs.Driven.{driven_as}
 use Rattle.base_lemmas.proofs.Bools.{left_of as first_true, right_of as second_true}
-use Rattle.std.proofs.lemmas.Bool.{and_from as both_true}
 
 onto_first_one_line : (b : ℕ) (parts : List Text) → (b == 10) ≡ false → list_all is_one_line parts ≡ true → list_all is_one_line (onto_first b parts) ≡ true
 onto_first_one_line b [] e h = rw e refl

@@ -1,17 +1,12 @@
 -- Calls of a driver: one call, calls after calls, and what they come to at the end.
 use Rattle.std.proofs.Common.{Result, Ok, Err, OnOk, OnErr, ◌≡◌, ◌<◌, ◌+◌, ℕ, Bool, true, false, List, [], ◌∷◌, ◌++◌, refl, sym, subst, ◌∙◌, ap, inl, take, get_or, length, append-nil, append_assoc}
-use Rattle.std.specs.Prelude.{is_err}
-use Rattle.std.proofs.lemmas.Bool.{false≢true, true≢false}
-use Rattle.std.specs.List.{flat_map}
+use Rattle.std.proofs.lemmas.{Bool.false≢true, Bool.true≢false, Result.on_err_weaker as on_err, Result.on_ok_weaker as on_ok}
+use Rattle.std.specs.{Prelude.is_err, List.flat_map}
 use Rattle.print_output.specs.OutputCall.{OutputCall, View, after, lines_begun_after, Counts, Reaches, Moves, Begins, body_calls}
-use Rattle.print_output.specs.OutputCall.Moves.{nothing_moved, then_moved}
-use Rattle.print_output.specs.OutputCall.Begins.{nothing_begun, begun_in}
+use Rattle.print_output.specs.OutputCall.{Moves.nothing_moved, Moves.then_moved, Begins.nothing_begun, Begins.begun_in}
 use Rattle.print_items.specs.declared.driver.Driver.{Driver}
-use Rattle.print_items.specs.Drives.{Runs, Drives}
-use Rattle.print_items.specs.Drives.Runs.{all_made, one_refused, none_made}
-use Rattle.print_items.proofs.Runs.{flat_map-take_next}
-use Rattle.print_items.proofs.Moves.{Moves-append, Begins-append, Begins-more, one_moved, Counts-line}
-use Rattle.std.proofs.lemmas.Result.{on_err_weaker as on_err, on_ok_weaker as on_ok}
+use Rattle.print_items.specs.{Drives.Runs, Drives.Drives, Drives.Runs.all_made, Drives.Runs.one_refused, Drives.Runs.none_made}
+use Rattle.print_items.proofs.{Runs.flat_map-take_next, Moves.Moves-append, Moves.Begins-append, Moves.Begins-more, Moves.one_moved, Moves.Counts-line}
 
 module _ {Kept : Type 0} {keeps : View Kept → OutputCall → Kept} where
   runs_append : {a b c : Bool} {u v w : View Kept} {calls more : List OutputCall} → Runs keeps a u calls b v → Runs keeps b v more c w → Runs keeps a u (calls ++ more) c w

@@ -2,8 +2,7 @@
 use Rattle.std.proofs.Common.{◌≡◌, List, [], ◌∷◌, ◌++◌, refl, sym, inl, inr, ◌∙◌, ap, subst, append-nil, append_assoc}
 use Rattle.std.specs.List.{flat_map}
 use Rattle.print_output.specs.OutputCall.{OutputCall, View, after, after_all, body_calls, line_begun_after, Counts, Moves, Begins}
-use Rattle.print_output.specs.OutputCall.Moves.{nothing_moved, then_moved}
-use Rattle.print_output.specs.OutputCall.Begins.{nothing_begun, begun_in, then_begun}
+use Rattle.print_output.specs.OutputCall.{Moves.nothing_moved, Moves.then_moved, Begins.nothing_begun, Begins.begun_in, Begins.then_begun}
 use Rattle.print_output.specs.OutputCall.OutputCall.{PushStr, IndentIfNeeded, IndentStart, IndentEnd, Newline, IndentAndPrint, Keyword, Ty, Param, Case, GenericArgsStart, GenericArgsEnd, Doc, Semicolon, Str}
 use Rattle.base_lemmas.proofs.Options.{at_err}
 

@@ -1,23 +1,17 @@
 -- Labels and versions have no line end in them, and begin with no space.
 use Rattle.std.proofs.Common.{◌≡◌, refl, sym, ap, subst, ◌∙◌, inl, inr, ℕ, Bool, true, false, IsTrue, ◌&&◌, not, ◌==◌, List, [], ◌∷◌, ◌++◌, T, eqb→eq, if◌then◌else◌, arith, zero, suc, ◌/◌, ◌%◌, Result, Ok, Err}
-use Rattle.std.proofs.lemmas.Bool.Decides.{nat_tests}
+use Rattle.std.proofs.lemmas.{Bool.Decides.nat_tests, List.Splits.join_with_byte-slice_split, Bool.and_from as both_true, Bool.or_cases as either_true}
 use Rattle.std.specs.Prelude.{is_ok}
-use Rattle.std.specs.List.{list_all, slice_split, join_with_byte}
-use Rattle.std.specs.Char.{is_ascii_alphabetic}
-use Rattle.std.specs.Fmt.{decimal, digits, digits_onto, digit_glyph}
-use Rattle.std.proofs.lemmas.List.Splits.{join_with_byte-slice_split}
-use Rattle.semver.specs.Identifiers.{marked, parts_text}
-use Rattle.semver.specs.Parse.{Parts, version_parts}
+use Rattle.std.specs.{List.list_all, List.slice_split, List.join_with_byte, Char.is_ascii_alphabetic, Fmt.decimal, Fmt.digits, Fmt.digits_onto, Fmt.digit_glyph}
+use Rattle.semver.specs.{Identifiers.marked, Identifiers.parts_text, Parse.Parts, Parse.version_parts, Order.parts}
+use Rattle.semver.specs.Grammar.{is_identifier_byte, is_build_identifier, is_pre_identifier, is_pre_release, is_build, IsValid as IsValidVersion}
 use Rattle.semver.specs.declared.error.Error.{Error}
 use Rattle.semver.proofs.Grammar.{version_parts-sound}
-use Rattle.semver.specs.Order.{parts}
-use Rattle.semver.specs.Grammar.{is_identifier_byte, is_build_identifier, is_pre_identifier, is_pre_release, is_build, IsValid as IsValidVersion}
 use Rattle.wit_model.specs.Text.{Text}
 use Rattle.wit_model.specs.Names.{is_lower_byte, is_upper_byte, is_fragment, begins_with_letter, is_label, is_version_text}
 use Rattle.print_grammar.specs.Keyword.{escaped, is_keyword}
 use Rattle.print_output.specs.OutputCall.{is_one_line, has_no_space_first, may_begin}
 use Rattle.base_lemmas.proofs.Bools.{left_of as first_true, right_of as second_true}
-use Rattle.std.proofs.lemmas.Bool.{and_from as both_true, or_cases as either_true}
 
 -- what passes a test that n fails is not n
 other_than : (n : ℕ) (p : ℕ → Bool) → p n ≡ false → (b : ℕ) → p b ≡ true → not (b == n) ≡ true

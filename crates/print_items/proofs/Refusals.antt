@@ -1,9 +1,7 @@
 -- A driver that has refused a call stays as it is, whatever calls follow: calls after a refusal may be left out.
 use Rattle.std.proofs.Common.{◌≡◌, ℕ, Bool, true, List, ◌++◌, sym, ap, ◌∙◌, take, drop, map}
+use Rattle.std.proofs.lemmas.{Bool.true≢false, Grind.flat_map-append, List.map-append, List.take-append-drop}
 use Rattle.std.specs.List.{flat_map}
-use Rattle.std.proofs.lemmas.Bool.{true≢false}
-use Rattle.std.proofs.lemmas.Grind.{flat_map-append}
-use Rattle.std.proofs.lemmas.List.{map-append, take-append-drop}
 use Rattle.print_output.specs.OutputCall.{OutputCall, View}
 use Rattle.print_items.specs.declared.driver.Driver.{Driver}
 use Rattle.print_items.specs.Drives.{Drives, LineIs}

@@ -1,10 +1,8 @@
 -- Runs of calls, one for each element of a list.
 use Rattle.std.proofs.Common.{◌≡◌, refl, sym, ap, subst, ◌∙◌, ◌<◌, ◌+◌, ℕ, Bool, true, List, [], ◌∷◌, ◌++◌, length, take, get_or, add-one, append-nil, map, drop, zero, suc}
-use Rattle.std.specs.List.{flat_map, list_all}
-use Rattle.std.proofs.Math.Seq.{take-suc, drop-cons}
+use Rattle.std.proofs.{Math.Seq.take-suc, Math.Seq.drop-cons, lemmas.List.Sums.AllPass-from_list_all, lemmas.List.Folds.flat_map-map}
 use Rattle.std.proofs.lemmas.Grind.{flat_map-append}
-use Rattle.std.proofs.lemmas.List.Sums.{AllPass-from_list_all}
-use Rattle.std.proofs.lemmas.List.Folds.{flat_map-map}
+use Rattle.std.specs.List.{flat_map, list_all}
 use Rattle.print_output.specs.OutputCall.{OutputCall}
 use Rattle.print_grammar.specs.Calls.{separated}
 

@@ -1,29 +1,23 @@
 -- What is shown in front of an item of a valid package is well named.
 use Rattle.std.proofs.Common.{◌≡◌, refl, ap, ℕ, suc, ◌<◌, Bool, true, ◌&&◌, List, [], ◌∷◌, length, get_or, Option, Some, None, nat_lt, ◌^◌, arith}
-use Rattle.std.specs.Prelude.{String, is_ok, is_some}
-use Rattle.std.specs.declared.alloc.Global.{Global}
-use Rattle.std.specs.List.{list_all}
-use Rattle.std.specs.Str.{chars}
-use Rattle.std.specs.Str.Lines.{lines}
 use Rattle.std.proofs.lemmas.Str.{scalars-chars, IsUtf8-string_bytes}
+use Rattle.std.specs.{Prelude.String, Prelude.is_ok, Prelude.is_some, List.list_all, Str.chars, Str.Lines.lines}
+use Rattle.std.specs.declared.alloc.Global.{Global}
 use lib.Utf8.{scalar, scalars}
-use Rattle.wit_model.specs.declared.model.Docs.{Docs}
-use Rattle.wit_model.specs.declared.model.Stability.{Stability}
-use Rattle.wit_model.specs.declared.model.Stability.TheVariants as stability
+use Rattle.wit_model.specs.declared.model.{Docs.Docs, Stability.Stability}
 use Rattle.wit_model.specs.Text.{Text, text_of}
-use Rattle.wit_model.specs.Names.{is_label, is_version, is_version_text}
-use Rattle.wit_model.specs.Rules.{is_stability, passes}
+use Rattle.wit_model.specs.{Names.is_label, Names.is_version, Names.is_version_text, Rules.is_stability, Rules.passes, Lookup.optional_version_text}
 use Rattle.semver.specs.declared.Version.{Version}
 use Rattle.semver.specs.Identifiers.{parts_of, version_text, pre_text, build_text}
 use Rattle.semver.specs.Grammar.{IsValid as IsValidVersion, is_pre_release, is_build}
 use Rattle.semver.proofs.Grammar.{version_parts-complete}
-use Rattle.wit_model.specs.Lookup.{optional_version_text}
 use Rattle.std.proofs.lemmas.Bool.{ltb-true, and_from as both}
 use Rattle.print_output.specs.OutputCall.{is_one_line}
 use Rattle.print_items.specs.Shown.{present_name, shown_docs, shown_gates, shown_external_id, shown_prefix}
 use Rattle.print_grammar.specs.WellNamed.{is_well_gates, is_well_prefix}
 use Rattle.print_items.proofs.DocLines.{line_one_line}
 use Rattle.base_lemmas.proofs.Bools.{left_of, right_of}
+use Rattle.wit_model.specs.declared.model.Stability.TheVariants as stability
 
 -- ---- versions
 

@@ -1,42 +1,25 @@
 -- What is shown of a type number: its name, or the calls for its kind part by part.
 use Rattle.std.proofs.Common.{◌≡◌, refl, sym, ap, ◌∙◌, subst, ℕ, zero, suc, ◌+◌, ◌<◌, ◌≤◌, Bool, true, false, IsTrue, ◌&&◌, ◌||◌, not, nat_lt, List, [], ◌∷◌, ◌++◌, length, take, drop, Option, Some, None, slice_get, unwrap_or, arith, append-nil, append_assoc, add-one, codes, is_some}
-use Rattle.std.specs.Prelude.{option_map, option_to_list, String}
-use Rattle.std.specs.Option.{option_map_or}
-use Rattle.std.specs.List.{list_all}
-use Rattle.std.specs.declared.alloc.Global.{Global}
 use Rattle.std.proofs.lemmas.Bool.{ltb-true, ltb-false, lt-ltb, and_from as both}
 use Rattle.std.proofs.lemmas.Option.{same_Some, slice_get_past, slice_get_within}
-use Rattle.wit_model.specs.declared.model.Resolve.{Resolve}
-use Rattle.wit_model.specs.declared.model.TypeDef.{TypeDef}
-use Rattle.wit_model.specs.declared.model.TypeDefKind.{TypeDefKind}
-use Rattle.wit_model.specs.declared.model.TypeDefKind.TheVariants as defined
-use Rattle.wit_model.specs.declared.model.Handle.TheVariants as handle
-use Rattle.wit_model.specs.declared.model.TypeId.{TypeId}
-use Rattle.wit_model.specs.declared.model.«Type».{«Type» as ValueType}
-use Rattle.wit_model.specs.declared.model.«Type».TheVariants as value
-use Rattle.wit_model.specs.Text.{text_of}
-use Rattle.wit_model.specs.Names.{is_label}
-use Rattle.wit_model.specs.Lookup.{type_at}
-use Rattle.wit_model.specs.Parts.{kind_numbers, member_types, handled, handle_target}
-use Rattle.wit_model.specs.Rules.{in_list, passes, is_named_kind}
-use Rattle.wit_model.specs.Types.{grow, number_of}
-use Rattle.wit_model.specs.Uses.{alias_target}
-use Rattle.wit_model.specs.Valid.{IsValid}
+use Rattle.std.specs.{Prelude.option_map, Prelude.option_to_list, Prelude.String, Option.option_map_or, List.list_all}
+use Rattle.std.specs.declared.alloc.Global.{Global}
+use Rattle.wit_model.specs.declared.model.{Resolve.Resolve, TypeDef.TypeDef, TypeDefKind.TypeDefKind, TypeId.TypeId, «Type».«Type» as ValueType}
+use Rattle.wit_model.specs.{Text.text_of, Names.is_label, Lookup.type_at, Types.grow, Types.number_of, Uses.alias_target, Valid.IsValid}
+use Rattle.wit_model.specs.{Parts.kind_numbers, Parts.member_types, Parts.handled, Parts.handle_target, Rules.in_list, Rules.passes, Rules.is_named_kind}
 use Rattle.wit_model.proofs.Tables.{grow_at}
 use Rattle.print_output.specs.OutputCall.{OutputCall, lines_begun_after, line_begun_after, may_follow}
-use Rattle.print_grammar.specs.Tree.{TypeTree, TypeTrees}
+use Rattle.print_grammar.specs.{Tree.TypeTree, Tree.TypeTrees, WellNamed.is_well_type}
 use Rattle.print_grammar.specs.Tree.TypeTree.{PrimitiveType, Name, Handle, Own, Borrow, TupleOf, OptionOf, ListOf, FixedListOf, MapOf, Result, ResultOk, ResultErr, ResultOf, Future, FutureOf, Stream, StreamOf}
-use Rattle.print_grammar.specs.Tree.TypeTrees.{NoTypes, AndTypes}
+use Rattle.print_grammar.specs.{Tree.TypeTrees.NoTypes, Tree.TypeTrees.AndTypes, Keyword.escaped, Calls.type_calls, Calls.types_calls, Calls.more_types_calls}
 use Rattle.print_items.specs.Shown.{shown_type, type_name, used_type, used_types, future_tree, stream_tree, result_tree, kind_tree, def_tree, trees_from, type_trees}
-use Rattle.print_grammar.specs.Keyword.{escaped}
-use Rattle.print_output.specs.declared.type_kind.TypeKind.TheVariants.{Other}
-use Rattle.print_grammar.specs.Calls.{type_calls, types_calls, more_types_calls}
 use Rattle.print_items.specs.TypeParts.{kind_start, kind_end, result_start, result_end, carrier_end, types_from, comma_calls, handles_label, may_be_unnamed, kind_calls}
-use Rattle.print_grammar.specs.WellNamed.{is_well_type}
+use Rattle.print_output.specs.declared.type_kind.TypeKind.TheVariants.{Other}
 use Rattle.print_items.proofs.TypesWell.{is_below, below_of_numbers, IsShownType, type_is_shown, trees_count}
-use Rattle.base_lemmas.proofs.Bools.{left_of, right_of, unnamed_kind}
-use Rattle.base_lemmas.proofs.Elements.{all_get}
-use Rattle.base_lemmas.proofs.Lists.{slice_take as slice_get-take}
+use Rattle.base_lemmas.proofs.{Bools.left_of, Bools.right_of, Bools.unnamed_kind, Elements.all_get, Lists.slice_take as slice_get-take}
+use Rattle.wit_model.specs.declared.model.TypeDefKind.TheVariants as defined
+use Rattle.wit_model.specs.declared.model.Handle.TheVariants as handle
+use Rattle.wit_model.specs.declared.model.«Type».TheVariants as value
 
 -- ---- the trees of the type numbers
 

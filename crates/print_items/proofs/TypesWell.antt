@@ -1,34 +1,20 @@
 -- What is shown of a type number is well named, if its parts stand before it.
 use Rattle.std.proofs.Common.{◌≡◌, refl, sym, ◌∙◌, subst, ℕ, zero, suc, ◌+◌, ◌<◌, ◌^◌, Bool, true, false, ◌&&◌, ◌||◌, not, nat_lt, nat_le, lit≤, ◌≤◌, List, [], ◌∷◌, ◌++◌, length, length-append, Option, Some, None, slice_get, filter_map, unwrap_or, arith}
-use Rattle.std.specs.Prelude.{option_map, option_to_list, is_some, String}
-use Rattle.std.specs.Option.{option_map_or}
-use Rattle.std.specs.List.{list_all}
+use Rattle.std.proofs.lemmas.{Bool.ltb-true, Bool.lt-ltb, Bool.and_from as both, List.Folds.list_all-append}
+use Rattle.std.specs.{Prelude.option_map, Prelude.option_to_list, Prelude.is_some, Prelude.String, Option.option_map_or, List.list_all}
 use Rattle.std.specs.declared.alloc.Global.{Global}
-use Rattle.std.proofs.lemmas.Bool.{ltb-true, lt-ltb, and_from as both}
-use Rattle.std.proofs.lemmas.List.Folds.{list_all-append}
-use Rattle.wit_model.specs.declared.model.Resolve.{Resolve}
-use Rattle.wit_model.specs.declared.model.TypeDef.{TypeDef}
-use Rattle.wit_model.specs.declared.model.TypeDefKind.{TypeDefKind}
-use Rattle.wit_model.specs.declared.model.TypeDefKind.TheVariants as defined
-use Rattle.wit_model.specs.declared.model.Handle.TheVariants as handle
-use Rattle.wit_model.specs.declared.model.«Type».{«Type» as ValueType}
-use Rattle.wit_model.specs.declared.model.«Type».TheVariants as value
-use Rattle.wit_model.specs.Text.{text_of}
-use Rattle.wit_model.specs.Names.{is_label}
-use Rattle.wit_model.specs.Types.{number_of}
+use Rattle.wit_model.specs.declared.model.{Resolve.Resolve, TypeDef.TypeDef, TypeDefKind.TypeDefKind, «Type».«Type» as ValueType}
+use Rattle.wit_model.specs.{Text.text_of, Names.is_label, Types.number_of, Lookup.type_at, Rules.passes, Rules.has_shape, Rules.has_items, Rules.is_named_kind}
 use Rattle.wit_model.specs.Parts.{kind_numbers, member_types, handled, is_resource, is_resource_type, is_resource_kind, ends_in_resource}
-use Rattle.wit_model.specs.Lookup.{type_at}
 use Rattle.wit_model.specs.Valid.{IsValid, Rule, Keeps, is_place, numbers_in_range, labels, order_of_types, shapes, named_kinds, handles}
 use Rattle.wit_model.proofs.Entries.{each_from_at, lists_pass}
-use Rattle.wit_model.specs.Rules.{passes, has_shape, has_items, is_named_kind}
-use Rattle.print_grammar.specs.Tree.{TypeTree}
-use Rattle.print_grammar.specs.Tree.TypeTree.{Name}
+use Rattle.print_grammar.specs.{Tree.TypeTree, Tree.TypeTree.Name, WellNamed.is_well_type, WellNamed.are_well_types, WellNamed.are_well_more}
 use Rattle.print_items.specs.Shown.{present_name, shown_type, type_name, used_type, used_types, future_tree, stream_tree, result_tree, kind_tree, def_tree, trees_from, type_trees}
-use Rattle.print_grammar.specs.WellNamed.{is_well_type, are_well_types, are_well_more}
 use Rattle.print_items.proofs.ShownWell.{given_label}
-use Rattle.base_lemmas.proofs.Bools.{left_of, right_of}
-use Rattle.base_lemmas.proofs.Elements.{all_get}
-use Rattle.base_lemmas.proofs.Lists.{within_there as one_there}
+use Rattle.base_lemmas.proofs.{Bools.left_of, Bools.right_of, Elements.all_get, Lists.within_there as one_there}
+use Rattle.wit_model.specs.declared.model.TypeDefKind.TheVariants as defined
+use Rattle.wit_model.specs.declared.model.Handle.TheVariants as handle
+use Rattle.wit_model.specs.declared.model.«Type».TheVariants as value
 
 -- a length that fits 32 bits fits 64
 short_length : (n : ℕ) → (nat_le 1 n && nat_lt n 4294967296) ≡ true → nat_lt n (2 ^ 64) ≡ true

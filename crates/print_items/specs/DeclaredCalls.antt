@@ -2,13 +2,11 @@
 use Rattle.std.specs.Prelude.{Bool, true, false, List, [], ◌∷◌, ◌++◌, ℕ, Option, None, Some, codes}
 use Rattle.std.specs.Fmt.{decimal}
 use Rattle.wit_model.specs.Text.{Text}
-use Rattle.print_grammar.specs.Keyword.{escaped}
+use Rattle.print_grammar.specs.{Keyword.escaped, Calls.params_calls, Calls.signature_calls, Calls.space, Calls.type_calls}
+use Rattle.print_grammar.specs.Tree.{TypeTree, SignatureTree, ParamTree, ResourceMember}
+use Rattle.print_grammar.specs.Tree.{TypeTree.PrimitiveType, TypeTree.Name, ResourceMember.Constructor, ResourceMember.Method, ResourceMember.Static}
 use Rattle.print_output.specs.OutputCall.{OutputCall}
 use Rattle.print_output.specs.OutputCall.OutputCall.{IndentStart, Newline, Keyword, Ty, Semicolon, Str}
-use Rattle.print_grammar.specs.Tree.{TypeTree, SignatureTree, ParamTree, ResourceMember}
-use Rattle.print_grammar.specs.Tree.TypeTree.{PrimitiveType, Name}
-use Rattle.print_grammar.specs.Tree.ResourceMember.{Constructor, Method, Static}
-use Rattle.print_grammar.specs.Calls.{params_calls, signature_calls, space, type_calls}
 use Rattle.print_items.specs.ItemCalls.{named_calls}
 use Rattle.print_output.specs.declared.type_kind.TypeKind.{TypeKind}
 use Rattle.print_output.specs.declared.type_kind.TypeKind.TheVariants as kind

@@ -1,20 +1,13 @@
 -- The calls for parts of items that are printed by themselves.
 use Rattle.std.specs.Prelude.{Bool, false, List, ◌∷◌, ◌++◌, [], codes, drop, is_some, if◌then◌else◌}
 use Rattle.std.specs.Option.{option_map_or}
-use Rattle.wit_model.specs.declared.model.Resolve.{Resolve}
-use Rattle.wit_model.specs.declared.model.InterfaceId.{InterfaceId}
-use Rattle.wit_model.specs.declared.model.PackageId.{PackageId}
-use Rattle.wit_model.specs.declared.model.Function.{Function}
-use Rattle.wit_model.specs.declared.model.Param.{Param}
-use Rattle.wit_model.specs.Lookup.{interface_at}
-use Rattle.wit_model.specs.Text.{Text}
-use Rattle.print_grammar.specs.Keyword.{escaped}
+use Rattle.wit_model.specs.declared.model.{Resolve.Resolve, InterfaceId.InterfaceId, PackageId.PackageId, Function.Function, Param.Param}
+use Rattle.wit_model.specs.{Lookup.interface_at, Text.Text}
+use Rattle.print_grammar.specs.{Keyword.escaped, Tree.ExternTree, Tree.Prefix, Tree.SignatureTree}
+use Rattle.print_grammar.specs.{Tree.ExternTree.NamedInterface, Tree.ExternTree.NamedPath, Calls.prefix_calls, Calls.signature_calls, Calls.space}
 use Rattle.print_output.specs.OutputCall.{OutputCall}
 use Rattle.print_output.specs.OutputCall.OutputCall.{IndentStart, Keyword, Newline, Ty, Semicolon, Str}
-use Rattle.print_grammar.specs.Tree.{ExternTree, Prefix, SignatureTree}
-use Rattle.print_grammar.specs.Tree.ExternTree.{NamedInterface, NamedPath}
 use Rattle.print_items.specs.Shown.{is_method, shown_interface, shown_path}
-use Rattle.print_grammar.specs.Calls.{prefix_calls, signature_calls, space}
 use Rattle.print_output.specs.declared.type_kind.TypeKind.{TypeKind}
 use Rattle.print_output.specs.declared.type_kind.TypeKind.TheVariants as kind
 

@@ -1,63 +1,32 @@
 -- What is shown of packages: their trees as WIT text has them, with documentation (WIT.md, "Package declaration" to "Item: type").
 use Rattle.std.specs.Prelude.{Bool, true, false, List, [], ◌∷◌, ◌++◌, ◌==◌, ◌&&◌, ℕ, Option, None, Some, map, drop, option_map, option_and_then, unwrap_or, slice_get, is_some, if◌then◌else◌, filter, String}
-use Rattle.std.specs.List.{filter_map}
-use Rattle.std.specs.Option.{option_map_or, option_eq}
-use Rattle.std.specs.Borrow.{Bor}
-use Rattle.std.specs.Str.{chars}
-use Rattle.std.specs.Str.Lines.{lines}
+use Rattle.std.specs.{List.filter_map, Option.option_map_or, Option.option_eq, Borrow.Bor, Str.chars, Str.Lines.lines}
 use Rattle.std.specs.declared.alloc.Global.{Global}
 use Rattle.semver.specs.Identifiers.{version_text}
-use Rattle.wit_model.specs.declared.model.Resolve.{Resolve}
-use Rattle.wit_model.specs.declared.model.Package.{Package}
-use Rattle.wit_model.specs.declared.model.Interface.{Interface}
-use Rattle.wit_model.specs.declared.model.World.{World}
-use Rattle.wit_model.specs.declared.model.WorldKey.{WorldKey}
-use Rattle.wit_model.specs.declared.model.WorldKey.TheVariants as key
-use Rattle.wit_model.specs.declared.model.WorldItem.{WorldItem as Item}
-use Rattle.wit_model.specs.declared.model.WorldItem.TheVariants as item
-use Rattle.wit_model.specs.declared.model.TypeDef.{TypeDef}
-use Rattle.wit_model.specs.declared.model.TypeDefKind.{TypeDefKind}
-use Rattle.wit_model.specs.declared.model.TypeDefKind.TheVariants as defined
-use Rattle.wit_model.specs.declared.model.TypeOwner.{TypeOwner}
-use Rattle.wit_model.specs.declared.model.TypeOwner.TheVariants as owner
-use Rattle.wit_model.specs.declared.model.TypeId.{TypeId}
-use Rattle.wit_model.specs.declared.model.InterfaceId.{InterfaceId}
-use Rattle.wit_model.specs.declared.model.PackageId.{PackageId}
-use Rattle.wit_model.specs.declared.model.WorldId.{WorldId}
-use Rattle.wit_model.specs.declared.model.«Type».{«Type» as ValueType}
-use Rattle.wit_model.specs.declared.model.«Type».TheVariants as value
-use Rattle.wit_model.specs.declared.model.Handle.{Handle as HandleKind}
-use Rattle.wit_model.specs.declared.model.Handle.TheVariants as handle
-use Rattle.wit_model.specs.declared.model.Function.{Function}
-use Rattle.wit_model.specs.declared.model.FunctionKind.{FunctionKind}
-use Rattle.wit_model.specs.declared.model.FunctionKind.TheVariants as function
-use Rattle.wit_model.specs.declared.model.Param.{Param}
-use Rattle.wit_model.specs.declared.model.Field.{Field}
-use Rattle.wit_model.specs.declared.model.Record.{Record}
-use Rattle.wit_model.specs.declared.model.Case.{Case}
-use Rattle.wit_model.specs.declared.model.Flag.{Flag}
-use Rattle.wit_model.specs.declared.model.EnumCase.{EnumCase}
-use Rattle.wit_model.specs.declared.model.Docs.{Docs}
-use Rattle.wit_model.specs.declared.model.Stability.{Stability}
-use Rattle.wit_model.specs.declared.model.Stability.TheVariants as stability
-use Rattle.wit_model.specs.Text.{Text, text_of, text_eq}
+use Rattle.wit_model.specs.declared.model.{Resolve.Resolve, Package.Package, WorldKey.WorldKey, Function.Function, EnumCase.EnumCase, Stability.Stability}
+use Rattle.wit_model.specs.declared.model.{Interface.Interface, TypeDefKind.TypeDefKind, TypeOwner.TypeOwner, InterfaceId.InterfaceId, PackageId.PackageId}
+use Rattle.wit_model.specs.declared.model.{World.World, TypeDef.TypeDef, TypeId.TypeId, WorldId.WorldId, Param.Param, Field.Field, Record.Record, Case.Case}
+use Rattle.wit_model.specs.declared.model.{WorldItem.WorldItem as Item, «Type».«Type» as ValueType, Handle.Handle as HandleKind, FunctionKind.FunctionKind}
+use Rattle.wit_model.specs.declared.model.{Flag.Flag, Docs.Docs}
+use Rattle.wit_model.specs.{Text.Text, Text.text_of, Text.text_eq, Parts.same_owner, Rules.is_freestanding, Rules.is_own_of, Valid.item_function}
 use Rattle.wit_model.specs.Lookup.{package_at, interface_at, world_at, type_at, optional_version_text, is_async, resource_of}
-use Rattle.wit_model.specs.Parts.{same_owner}
-use Rattle.wit_model.specs.Rules.{is_freestanding, is_own_of}
 use Rattle.wit_model.specs.Calls.{item_name}
-use Rattle.wit_model.specs.Valid.{item_function}
-use Rattle.print_grammar.specs.Keyword.{Primitive}
+use Rattle.print_grammar.specs.{Keyword.Primitive, Tree.TypeTrees.NoTypes, Tree.TypeTrees.AndTypes}
 use Rattle.print_grammar.specs.Tree.{TypeTree, TypeTrees, Gates, Prefix, ParamTree, FieldTree, CaseTree, LabelTree, SignatureTree, ResourceMember, Declared, PathTree, UsedName, MemberTree, ExternTree, WorldMember, ItemTree, PackageHead, PackageTree, FileTree}
 use Rattle.print_grammar.specs.Tree.TypeTree.{PrimitiveType, Name, Handle, Own, Borrow, TupleOf, OptionOf, ListOf, FixedListOf, MapOf, Result, ResultOk, ResultErr, ResultOf, Future, FutureOf, Stream, StreamOf}
-use Rattle.print_grammar.specs.Tree.TypeTrees.{NoTypes, AndTypes}
-use Rattle.print_grammar.specs.Tree.Gates.{Ungated, Since, Unstable}
-use Rattle.print_grammar.specs.Tree.ResourceMember.{Constructor, Method, Static}
+use Rattle.print_grammar.specs.Tree.{Gates.Ungated, Gates.Since, Gates.Unstable, ResourceMember.Constructor, ResourceMember.Method, ResourceMember.Static}
 use Rattle.print_grammar.specs.Tree.Declared.{RecordOf, VariantOf, FlagsOf, EnumOf, AliasOf, ResourceOf}
-use Rattle.print_grammar.specs.Tree.PathTree.{Local, Full}
-use Rattle.print_grammar.specs.Tree.MemberTree.{UseMember, TypeMember, FunctionMember}
-use Rattle.print_grammar.specs.Tree.ExternTree.{Path, NamedFunction, NamedPath, NamedInterface}
+use Rattle.print_grammar.specs.Tree.{PathTree.Local, PathTree.Full, ExternTree.Path, ExternTree.NamedFunction, ExternTree.NamedPath, ExternTree.NamedInterface}
+use Rattle.print_grammar.specs.Tree.{MemberTree.UseMember, MemberTree.TypeMember, MemberTree.FunctionMember, ItemTree.InterfaceItem, ItemTree.WorldItem}
 use Rattle.print_grammar.specs.Tree.WorldMember.{WorldUse, WorldType, WorldImport, WorldExport}
-use Rattle.print_grammar.specs.Tree.ItemTree.{InterfaceItem, WorldItem}
+use Rattle.wit_model.specs.declared.model.WorldKey.TheVariants as key
+use Rattle.wit_model.specs.declared.model.WorldItem.TheVariants as item
+use Rattle.wit_model.specs.declared.model.TypeDefKind.TheVariants as defined
+use Rattle.wit_model.specs.declared.model.TypeOwner.TheVariants as owner
+use Rattle.wit_model.specs.declared.model.«Type».TheVariants as value
+use Rattle.wit_model.specs.declared.model.Handle.TheVariants as handle
+use Rattle.wit_model.specs.declared.model.FunctionKind.TheVariants as function
+use Rattle.wit_model.specs.declared.model.Stability.TheVariants as stability
 
 -- ---- texts
 

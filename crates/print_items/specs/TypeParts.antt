@@ -1,25 +1,15 @@
 -- The calls for a kind without a name of its own, in three parts: before its types, its types with commas between, and behind them.
 use Rattle.std.specs.Prelude.{Bool, false, true, List, [], ◌∷◌, ◌++◌, ◌&&◌, not, ℕ, zero, suc, Option, Some, None, codes, option_to_list}
-use Rattle.std.specs.Option.{option_map_or}
-use Rattle.std.specs.Fmt.{decimal}
-use Rattle.wit_model.specs.declared.model.Resolve.{Resolve}
-use Rattle.wit_model.specs.declared.model.TypeDefKind.{TypeDefKind}
-use Rattle.wit_model.specs.declared.model.TypeDefKind.TheVariants as defined
-use Rattle.wit_model.specs.declared.model.TypeId.{TypeId}
-use Rattle.wit_model.specs.declared.model.Handle.{Handle as HandleKind}
-use Rattle.wit_model.specs.declared.model.Handle.TheVariants as handle
-use Rattle.wit_model.specs.declared.model.«Type».{«Type» as ValueType}
-use Rattle.wit_model.specs.declared.model.«Type».TheVariants as value
-use Rattle.wit_model.specs.Text.{Text}
-use Rattle.wit_model.specs.Names.{is_label}
-use Rattle.wit_model.specs.Parts.{handled}
-use Rattle.wit_model.specs.Rules.{in_list, passes, is_named_kind}
-use Rattle.wit_model.specs.Lookup.{type_at}
+use Rattle.std.specs.{Option.option_map_or, Fmt.decimal}
+use Rattle.wit_model.specs.declared.model.{Resolve.Resolve, TypeDefKind.TypeDefKind, TypeId.TypeId, Handle.Handle as HandleKind, «Type».«Type» as ValueType}
+use Rattle.wit_model.specs.{Text.Text, Names.is_label, Parts.handled, Rules.in_list, Rules.passes, Rules.is_named_kind, Lookup.type_at}
 use Rattle.print_output.specs.OutputCall.{OutputCall}
 use Rattle.print_output.specs.OutputCall.OutputCall.{PushStr, Ty, GenericArgsStart, GenericArgsEnd, Str}
-use Rattle.print_grammar.specs.Tree.{TypeTree}
+use Rattle.print_grammar.specs.{Tree.TypeTree, Calls.name_calls, Calls.handle_calls, Calls.type_calls}
 use Rattle.print_items.specs.Shown.{kind_tree, type_name, type_trees, used_type}
-use Rattle.print_grammar.specs.Calls.{name_calls, handle_calls, type_calls}
+use Rattle.wit_model.specs.declared.model.TypeDefKind.TheVariants as defined
+use Rattle.wit_model.specs.declared.model.Handle.TheVariants as handle
+use Rattle.wit_model.specs.declared.model.«Type».TheVariants as value
 use Rattle.print_output.specs.declared.type_kind.TypeKind.TheVariants as kind
 
 -- a word and the start of what stands in angle brackets

@@ -2,19 +2,13 @@
 #![tactic(auto, using(crate::proofs::Driven::driving))]
 
 ghost use Rattle.std.specs.Prelude.{◌≡◌, true, false, IsTrue};
-ghost use Rattle.wit_model.specs.Names.{is_label};
-ghost use Rattle.wit_model.specs.Parts.{handle_target};
-ghost use Rattle.wit_model.specs.Rules.{in_list, passes};
-ghost use Rattle.wit_model.specs.Valid.{IsValid};
-ghost use Rattle.print_items.specs.Drives.{Drives, LineIs};
-ghost use Rattle.print_output.specs.OutputCall.{is_one_line, has_no_space_first};
-ghost use Rattle.print_items.specs.Shown.{named_handle, shown_map, shown_payload, shown_type};
-ghost use Rattle.print_grammar.specs.Tree.Declared.{AliasOf};
-ghost use Rattle.print_grammar.specs.Tree.TypeTree.{FixedListOf, ListOf};
-ghost use Rattle.print_grammar.specs.Calls.{declared_calls, type_calls};
+ghost use Rattle.wit_model.specs.{Names.is_label, Parts.handle_target, Rules.in_list, Rules.passes, Valid.IsValid};
+ghost use Rattle.print_items.specs.{Drives.Drives, Drives.LineIs, Shown.named_handle, Shown.shown_map, Shown.shown_payload, Shown.shown_type};
 ghost use Rattle.print_items.specs.DeclaredCalls.{alias_calls, alias_start_calls, angle_calls, angled_calls, carrier_calls, fixed_list_calls, is_word, map_calls, two_calls};
 ghost use Rattle.print_items.specs.TypeParts.{is_labelled, kind_calls, may_be_unnamed};
-ghost use Rattle.print_grammar.specs.WellNamed.{is_well_type};
+ghost use Rattle.print_output.specs.OutputCall.{is_one_line, has_no_space_first};
+ghost use Rattle.print_grammar.specs.Tree.Declared.{AliasOf};
+ghost use Rattle.print_grammar.specs.{Tree.TypeTree.FixedListOf, Tree.TypeTree.ListOf, Calls.declared_calls, Calls.type_calls, WellNamed.is_well_type};
 
 use crate::driver::Driver;
 use crate::type_name::{name_of, write_handle_of, write_type, write_unnamed};

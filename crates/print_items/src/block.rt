@@ -3,9 +3,8 @@
 
 ghost use Rattle.std.specs.Prelude.{◌≡◌, true, false, IsTrue};
 ghost use Rattle.wit_model.specs.Names.{is_label};
-ghost use Rattle.print_items.specs.Drives.{Drives, LineIs};
+ghost use Rattle.print_items.specs.{Drives.Drives, Drives.LineIs, DeclaredCalls.block_start_calls, DeclaredCalls.line_end_calls};
 ghost use Rattle.print_output.specs.OutputCall.{is_one_line, has_no_space_first};
-ghost use Rattle.print_items.specs.DeclaredCalls.{block_start_calls, line_end_calls};
 
 use crate::driver::Driver;
 use print_output::{Output, TypeKind};

@@ -3,12 +3,10 @@
 ghost use Rattle.std.specs.Prelude.{◌≡◌, ◌∷◌, ◌++◌, [], true, false, codes, IsTrue, OnOk, OnErr, IfErr};
 ghost use Rattle.std.specs.Fmt.{decimal};
 ghost use Rattle.semver.specs.Identifiers.{version_text};
-ghost use Rattle.wit_model.specs.Names.{is_label, is_version_text};
-ghost use Rattle.wit_model.specs.Refusals.{IsMemory};
+ghost use Rattle.wit_model.specs.{Names.is_label, Names.is_version_text, Refusals.IsMemory};
 ghost use Rattle.print_output.specs.OutputCall.{OutputCall, is_one_line, has_no_space_first};
-ghost use Rattle.print_grammar.specs.Calls.{character_call, space};
+ghost use Rattle.print_grammar.specs.{Calls.character_call, Calls.space, Keyword.escaped};
 ghost use Rattle.print_items.specs.Drives.{Drives, LineIs, MayBegin};
-ghost use Rattle.print_grammar.specs.Keyword.{escaped};
 
 use crate::spelled;
 use print_output::{Output, TypeKind};

@@ -3,15 +3,11 @@
 
 ghost use Rattle.std.specs.Prelude.{◌≡◌, ◌∷◌, codes, true, false, map, option_map};
 ghost use Rattle.std.specs.List.{list_all, flat_map};
-ghost use Rattle.wit_model.specs.Names.{is_label};
-ghost use Rattle.wit_model.specs.Lookup.{is_async as is_async_lem};
-ghost use Rattle.wit_model.specs.Valid.{IsValid};
-ghost use Rattle.wit_model.specs.Rules.{passes};
-ghost use Rattle.print_items.specs.Drives.{Drives, LineIs};
-ghost use Rattle.print_output.specs.OutputCall.{OutputCall};
-ghost use Rattle.print_items.specs.Shown.{is_method as is_method_lem, shown_param, shown_signature, shown_type};
-ghost use Rattle.print_grammar.specs.Calls.{async_calls, param_calls, params_calls, result_calls, separated, signature_calls};
+ghost use Rattle.wit_model.specs.{Names.is_label, Lookup.is_async as is_async_lem, Valid.IsValid, Rules.passes};
+ghost use Rattle.print_items.specs.{Drives.Drives, Drives.LineIs, Shown.is_method as is_method_lem, Shown.shown_param, Shown.shown_signature, Shown.shown_type};
 ghost use Rattle.print_items.specs.ItemCalls.{named_calls, written_params as written_params_lem};
+ghost use Rattle.print_output.specs.OutputCall.{OutputCall};
+ghost use Rattle.print_grammar.specs.Calls.{async_calls, param_calls, params_calls, result_calls, separated, signature_calls};
 ghost use Rattle.print_grammar.specs.WellNamed.{is_well_param, is_well_signature, is_well_type};
 
 use crate::driver::Driver;

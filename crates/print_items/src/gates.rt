@@ -3,15 +3,10 @@
 
 ghost use Rattle.std.specs.Prelude.{◌≡◌, true, IsTrue};
 ghost use Rattle.semver.specs.Identifiers.{version_text};
-ghost use Rattle.wit_model.specs.Names.{is_label, is_version_text};
-ghost use Rattle.wit_model.specs.Lookup.{optional_version_text};
-ghost use Rattle.wit_model.specs.Rules.{passes};
-ghost use Rattle.print_items.specs.Drives.{Drives};
+ghost use Rattle.wit_model.specs.{Names.is_label, Names.is_version_text, Lookup.optional_version_text, Rules.passes};
+ghost use Rattle.print_items.specs.{Drives.Drives, Shown.shown_gates, ItemCalls.feature_calls};
 ghost use Rattle.print_output.specs.OutputCall.{is_one_line, has_no_space_first};
-ghost use Rattle.print_items.specs.Shown.{shown_gates};
-ghost use Rattle.print_grammar.specs.Calls.{deprecated_calls, gates_calls, version_attribute_calls};
-ghost use Rattle.print_items.specs.ItemCalls.{feature_calls};
-ghost use Rattle.print_grammar.specs.WellNamed.{is_well_gates};
+ghost use Rattle.print_grammar.specs.{Calls.deprecated_calls, Calls.gates_calls, Calls.version_attribute_calls, WellNamed.is_well_gates};
 
 use crate::driver::Driver;
 use print_output::Output;

@@ -1,14 +1,11 @@
 //! Flags and enums, printed: both are lists of labels.
 #![tactic(auto, using(crate::proofs::Driven::driving))]
 
-ghost use Rattle.std.specs.Prelude.{◌≡◌, true, map};
-ghost use Rattle.std.specs.List.{flat_map, list_all};
+ghost use Rattle.std.specs.{Prelude.◌≡◌, Prelude.true, Prelude.map, List.flat_map, List.list_all};
 ghost use Rattle.wit_model.specs.Names.{is_label};
-ghost use Rattle.print_items.specs.Drives.{Drives};
-ghost use Rattle.print_items.specs.Shown.{shown_docs, shown_enum_case, shown_flag};
-ghost use Rattle.print_grammar.specs.Tree.Declared.{EnumOf, FlagsOf};
+ghost use Rattle.print_items.specs.{Drives.Drives, Shown.shown_docs, Shown.shown_enum_case, Shown.shown_flag};
+ghost use Rattle.print_grammar.specs.{Tree.Declared.EnumOf, Tree.Declared.FlagsOf, WellNamed.is_well_declared, WellNamed.is_well_label};
 ghost use Rattle.print_grammar.specs.Calls.{declared_calls, label_calls};
-ghost use Rattle.print_grammar.specs.WellNamed.{is_well_declared, is_well_label};
 
 use crate::block::{write_block_start, write_line_end};
 use crate::driver::Driver;

@@ -2,13 +2,10 @@
 #![tactic(auto, using(crate::proofs::Driven::driving))]
 
 ghost use Rattle.std.specs.Prelude.{◌≡◌, ◌∷◌, [], codes, true, map, Some};
-ghost use Rattle.std.specs.Str.{chars};
-ghost use Rattle.std.specs.Str.Lines.{lines};
-ghost use Rattle.print_items.specs.Drives.{Drives};
+ghost use Rattle.std.specs.{Str.chars, Str.Lines.lines};
+ghost use Rattle.print_items.specs.{Drives.Drives, Shown.shown_docs, Shown.shown_external_id, Shown.shown_prefix};
 ghost use Rattle.print_output.specs.OutputCall.{OutputCall};
-ghost use Rattle.print_items.specs.Shown.{shown_docs, shown_external_id, shown_prefix};
-ghost use Rattle.print_grammar.specs.Calls.{character_call, doc_calls, external_id_calls, prefix_calls};
-ghost use Rattle.print_grammar.specs.WellNamed.{is_well_prefix};
+ghost use Rattle.print_grammar.specs.{Calls.character_call, Calls.doc_calls, Calls.external_id_calls, Calls.prefix_calls, WellNamed.is_well_prefix};
 
 use crate::driver::Driver;
 use crate::gates::write_gates;

@@ -1,17 +1,12 @@
 //! Records, printed.
 #![tactic(auto, using(crate::proofs::Driven::driving))]
 
-ghost use Rattle.std.specs.Prelude.{◌≡◌, ◌∷◌, codes, true, false};
-ghost use Rattle.std.specs.List.{flat_map, list_all};
-ghost use Rattle.wit_model.specs.Names.{is_label};
-ghost use Rattle.wit_model.specs.Valid.{IsValid};
-ghost use Rattle.print_items.specs.Drives.{Drives, LineIs};
+ghost use Rattle.std.specs.{Prelude.◌≡◌, Prelude.◌∷◌, Prelude.codes, Prelude.true, Prelude.false, List.flat_map, List.list_all};
+ghost use Rattle.wit_model.specs.{Names.is_label, Valid.IsValid};
+ghost use Rattle.print_items.specs.{Drives.Drives, Drives.LineIs, Shown.shown_field, Shown.shown_fields, Shown.shown_type};
 ghost use Rattle.print_output.specs.OutputCall.{OutputCall};
-ghost use Rattle.print_grammar.specs.Keyword.{escaped};
-ghost use Rattle.print_items.specs.Shown.{shown_field, shown_fields, shown_type};
-ghost use Rattle.print_grammar.specs.Tree.Declared.{RecordOf};
+ghost use Rattle.print_grammar.specs.{Keyword.escaped, Tree.Declared.RecordOf, WellNamed.is_well_declared, WellNamed.is_well_field, WellNamed.is_well_type};
 ghost use Rattle.print_grammar.specs.Calls.{declared_calls, field_calls, type_calls};
-ghost use Rattle.print_grammar.specs.WellNamed.{is_well_declared, is_well_field, is_well_type};
 
 use crate::block::{write_block_start, write_line_end};
 use crate::driver::Driver;

@@ -1,20 +1,14 @@
 //! Resources with their functions, printed.
 #![tactic(auto, using(crate::proofs::Driven::driving))]
 
-ghost use Rattle.std.specs.Prelude.{◌≡◌, true, false, option_map};
-ghost use Rattle.std.specs.List.{flat_map, list_all};
-ghost use Rattle.wit_model.specs.declared.model.FunctionKind.TheVariants as kinds;
-ghost use Rattle.wit_model.specs.Calls.{item_name};
-ghost use Rattle.wit_model.specs.Names.{is_label};
-ghost use Rattle.wit_model.specs.Valid.{IsValid};
-ghost use Rattle.wit_model.specs.Rules.{passes};
-ghost use Rattle.print_items.specs.Drives.{Drives, LineIs};
+ghost use Rattle.std.specs.{Prelude.◌≡◌, Prelude.true, Prelude.false, Prelude.option_map, List.flat_map, List.list_all};
+ghost use Rattle.wit_model.specs.{Calls.item_name, Names.is_label, Valid.IsValid, Rules.passes};
+ghost use Rattle.print_items.specs.{Drives.Drives, Drives.LineIs, ItemCalls.named_calls};
 ghost use Rattle.print_items.specs.Shown.{constructor_result, shown_params, shown_resource_member, shown_resource_members, shown_signature, shown_type};
-ghost use Rattle.print_grammar.specs.Tree.Declared.{ResourceOf};
-ghost use Rattle.print_grammar.specs.Calls.{declared_calls, resource_body_calls, resource_member_calls};
 ghost use Rattle.print_items.specs.DeclaredCalls.{bare_member_calls, constructor_calls, resource_name_calls, static_calls, static_start_calls};
-ghost use Rattle.print_items.specs.ItemCalls.{named_calls};
+ghost use Rattle.print_grammar.specs.{Tree.Declared.ResourceOf, Calls.declared_calls, Calls.resource_body_calls, Calls.resource_member_calls};
 ghost use Rattle.print_grammar.specs.WellNamed.{is_well_declared, is_well_param, is_well_resource_member, is_well_signature, is_well_type};
+ghost use Rattle.wit_model.specs.declared.model.FunctionKind.TheVariants as kinds;
 
 use crate::driver::Driver;
 use crate::function::{write_named, write_params_and_result, write_signature};

@@ -1,13 +1,11 @@
 //! Calls of text that has to be spelled.
 
 ghost use Rattle.std.specs.Prelude.{◌≡◌, [], ◌∷◌, ◌++◌, codes, IsTrue, IfOk, OnOk, OnErr, IfErr};
-ghost use Rattle.std.specs.Fmt.{decimal};
-ghost use Rattle.std.specs.String.{string_bytes};
+ghost use Rattle.std.specs.{Fmt.decimal, String.string_bytes};
 ghost use Rattle.wit_model.specs.Refusals.{IsMemory};
 ghost use Rattle.semver.specs.Identifiers.{version_text};
 ghost use Rattle.print_output.specs.OutputCall.{OutputCall, Moves, Begins, may_stand, line_begun_after};
-ghost use Rattle.print_grammar.specs.Calls.{character_call};
-ghost use Rattle.print_grammar.specs.Keyword.{escaped};
+ghost use Rattle.print_grammar.specs.{Calls.character_call, Keyword.escaped};
 
 use print_grammar::escape::{escape, escape_character, is_keyword, unescaped};
 use print_output::{Output, TypeKind};

@@ -3,18 +3,12 @@
 
 ghost use Rattle.std.specs.Prelude.{◌≡◌, ◌++◌, ◌∷◌, ◌≤◌, [], codes, Bool, true, false, List, option_to_list, slice_get, take, IsTrue};
 ghost use Rattle.std.specs.Fmt.{decimal};
-ghost use Rattle.wit_model.specs.Names.{is_label};
-ghost use Rattle.wit_model.specs.Parts.{member_types, handle_target};
-ghost use Rattle.wit_model.specs.Rules.{in_list, is_named_kind, passes};
-ghost use Rattle.wit_model.specs.Types.{number_of};
+ghost use Rattle.wit_model.specs.{Names.is_label, Parts.member_types, Parts.handle_target, Rules.in_list, Rules.is_named_kind, Rules.passes, Types.number_of};
 ghost use Rattle.wit_model.specs.Valid.{IsValid};
-ghost use Rattle.print_items.specs.Drives.{Drives, LineIs, MayFollow};
-ghost use Rattle.print_output.specs.OutputCall.{OutputCall, is_one_line, has_no_space_first};
-ghost use Rattle.print_items.specs.Shown.{present_name, shown_type, type_name, used_type};
-ghost use Rattle.print_grammar.specs.Calls.{handle_calls, type_calls};
+ghost use Rattle.print_items.specs.{Drives.Drives, Drives.LineIs, Drives.MayFollow, Shown.present_name, Shown.shown_type, Shown.type_name, Shown.used_type};
 ghost use Rattle.print_items.specs.TypeParts.{carrier_end, carrier_start, comma_calls, few_types as few_types_lem, handle_start, handles_label, is_labelled, is_primitive, kind_calls, kind_end, kind_start, may_be_unnamed, result_end, result_start, word_start};
-ghost use Rattle.print_grammar.specs.Tree.{TypeTree};
-ghost use Rattle.print_grammar.specs.WellNamed.{is_well_type};
+ghost use Rattle.print_output.specs.OutputCall.{OutputCall, is_one_line, has_no_space_first};
+ghost use Rattle.print_grammar.specs.{Calls.handle_calls, Calls.type_calls, Tree.TypeTree, WellNamed.is_well_type};
 
 use crate::driver::Driver;
 use print_output::{Output, TypeKind};

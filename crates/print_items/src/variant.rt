@@ -1,15 +1,11 @@
 //! Variants, printed.
 #![tactic(auto, using(crate::proofs::Driven::driving))]
 
-ghost use Rattle.std.specs.Prelude.{◌≡◌, true, false, map, option_map};
-ghost use Rattle.std.specs.List.{flat_map, list_all};
-ghost use Rattle.wit_model.specs.Valid.{IsValid};
-ghost use Rattle.wit_model.specs.Rules.{passes};
-ghost use Rattle.print_items.specs.Drives.{Drives, LineIs};
-ghost use Rattle.print_items.specs.Shown.{shown_case, shown_type};
-ghost use Rattle.print_grammar.specs.Tree.Declared.{VariantOf};
+ghost use Rattle.std.specs.{Prelude.◌≡◌, Prelude.true, Prelude.false, Prelude.map, Prelude.option_map, List.flat_map, List.list_all};
+ghost use Rattle.wit_model.specs.{Valid.IsValid, Rules.passes};
+ghost use Rattle.print_items.specs.{Drives.Drives, Drives.LineIs, Shown.shown_case, Shown.shown_type};
+ghost use Rattle.print_grammar.specs.{Tree.Declared.VariantOf, WellNamed.is_well_declared, WellNamed.is_well_case, WellNamed.is_well_type};
 ghost use Rattle.print_grammar.specs.Calls.{case_calls, declared_calls, payload_calls};
-ghost use Rattle.print_grammar.specs.WellNamed.{is_well_declared, is_well_case, is_well_type};
 
 use crate::block::{write_block_start, write_line_end};
 use crate::driver::Driver;

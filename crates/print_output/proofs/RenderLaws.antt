@@ -2,9 +2,8 @@
 use Rattle.std.proofs.Common.{◌≡◌, ◌∙◌, true, List, [], ◌∷◌, ◌++◌, refl, ap, sym, inl, inr, append_assoc, append-nil}
 use Rattle.print_output.specs.OutputCall.{OutputCall, View, after, after_all, body_calls, Counts, Moves}
 use Rattle.print_output.specs.OutputCall.OutputCall.{PushStr, IndentIfNeeded, IndentStart, IndentEnd, Newline, IndentAndPrint, Keyword, Ty, Param, Case, GenericArgsStart, GenericArgsEnd, Doc, Semicolon, Str}
-use Rattle.print_output.specs.OutputCall.Moves.{nothing_moved, then_moved}
+use Rattle.print_output.specs.{OutputCall.Moves.nothing_moved, OutputCall.Moves.then_moved, Expansion.appends, Expansion.Expands, Expansion.is_whole}
 use Rattle.print_output.specs.Render.{Written, writes}
-use Rattle.print_output.specs.Expansion.{appends, Expands, is_whole}
 
 -- the calls of a body write what the call does
 pub writes-body : (v : View Written) (call : OutputCall) → after_all writes v (body_calls call) ≡ after writes v call

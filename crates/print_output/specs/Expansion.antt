@@ -1,7 +1,6 @@
 -- Lists of recorded calls.
 use Rattle.std.specs.Prelude.{◌≡◌, ◌⊎◌, Bool, true, false, List, [], ◌∷◌, ◌++◌}
-use Rattle.print_output.specs.OutputCall.{OutputCall, View, body_calls}
-use Rattle.print_output.specs.OutputCall.OutputCall.{IndentIfNeeded}
+use Rattle.print_output.specs.{OutputCall.OutputCall, OutputCall.View, OutputCall.body_calls, OutputCall.OutputCall.IndentIfNeeded}
 
 -- what a recording output keeps: the calls in order
 abbrev pub appends : View (List OutputCall) → OutputCall → List OutputCall

@@ -1,8 +1,7 @@
 //! Laws about what calls come to.
 
 ghost use Rattle.std.specs.Prelude.{◌≡◌, List, true};
-ghost use Rattle.print_output.specs.OutputCall.{OutputCall, View, Moves, after_all};
-ghost use Rattle.print_output.specs.Render.{Written, writes};
+ghost use Rattle.print_output.specs.{OutputCall.OutputCall, OutputCall.View, OutputCall.Moves, OutputCall.after_all, Render.Written, Render.writes};
 ghost use Rattle.print_output.specs.Expansion.{Expands, ListsOn, appends, is_whole};
 
 /// An output that keeps a text keeps what the calls that moved it render to, however they were counted.

@@ -3,9 +3,8 @@
 ghost use Rattle.std.specs.Prelude.{◌≡◌, ◌+◌, ◌*◌, ◌≤◌, ◌++◌, length, true, false, OnOk, OnErr, IfErr};
 ghost use Rattle.std.specs.String.{string_bytes, string_len, string_capacity};
 ghost use Rattle.wit_model.specs.Refusals.{IsMemory};
-ghost use Rattle.print_output.specs.OutputCall.{after};
+ghost use Rattle.print_output.specs.{OutputCall.after, Render.indentation, Render.printed, Render.writes, Render.blank};
 ghost use Rattle.print_output.specs.OutputCall.OutputCall.{IndentAndPrint, Keyword, Ty, Param, Case, GenericArgsStart, GenericArgsEnd, Doc, Semicolon, Str};
-ghost use Rattle.print_output.specs.Render.{indentation, printed, writes, blank};
 
 use crate::output::Output;
 use crate::type_kind::TypeKind;

@@ -1,22 +1,15 @@
 -- Functions by the resources that they belong to.
 use Rattle.std.proofs.Common.{◌≡◌, refl, sym, ap, ◌∙◌, Bool, true, false, cond, List, [], ◌∷◌, ◌++◌, Option, Some, None, filter, map, option_and_then, if◌then◌else◌}
-use Rattle.std.specs.Prelude.{is_some}
-use Rattle.std.specs.List.{list_all}
-use Rattle.std.specs.Option.{option_map_or}
-use Rattle.wit_model.specs.declared.model.Resolve.{Resolve}
-use Rattle.wit_model.specs.declared.model.Function.{Function}
-use Rattle.wit_model.specs.declared.model.TypeDef.{TypeDef}
-use Rattle.wit_model.specs.declared.model.TypeId.{TypeId}
-use Rattle.wit_model.specs.declared.model.TypeOwner.{TypeOwner}
+use Rattle.std.proofs.lemmas.Bool.{and_from as both}
+use Rattle.std.specs.{Prelude.is_some, List.list_all, Option.option_map_or}
+use Rattle.wit_model.specs.declared.model.{Resolve.Resolve, Function.Function, TypeDef.TypeDef, TypeId.TypeId, TypeOwner.TypeOwner}
 use Rattle.wit_model.specs.Lookup.{type_at}
-use Rattle.print_grammar.specs.Tree.{MemberTree}
-use Rattle.print_grammar.specs.Tree.MemberTree.{TypeMember}
+use Rattle.print_grammar.specs.{Tree.MemberTree, Tree.MemberTree.TypeMember}
 use Rattle.print_items.specs.Shown.{DeclaredWith, Listed, belongs_to, declared_of, present_name, shown_prefix, shown_resource_member, used_of}
 use Rattle.print_packages.specs.GivenTypes.{Functions, functions_under, given_declarations}
 use Rattle.print_uses.specs.UseGroups.{declared_members, listed_declaration}
 use Rattle.print_uses.proofs.ListedTypes.{next_declarations}
 use Rattle.base_lemmas.proofs.Bools.{left_of, right_of}
-use Rattle.std.proofs.lemmas.Bool.{and_from as both}
 
 module _ {X : Type 0} (test : X → Bool) where
   twice_by : (b : Bool) (x : X) (xs : List X) → test x ≡ b → filter test xs ≡ xs → filter test (cond b (x ∷ xs) xs) ≡ cond b (x ∷ xs) xs

@@ -1,28 +1,18 @@
 -- The functions of an interface, one after the other.
 use Rattle.std.proofs.Common.{◌≡◌, refl, sym, ap, ◌∙◌, Bool, true, false, ◌||◌, not, List, [], ◌∷◌, ◌++◌, append-nil, Some}
-use Rattle.std.specs.Prelude.{String}
-use Rattle.std.specs.List.{list_all}
-use Rattle.std.specs.declared.alloc.Global.{Global}
 use Rattle.std.proofs.lemmas.List.Folds.{list_all-map}
-use Rattle.wit_model.specs.declared.model.Resolve.{Resolve}
-use Rattle.wit_model.specs.declared.model.TypeOwner.TheVariants as owner
-use Rattle.wit_model.specs.declared.model.Function.{Function}
-use Rattle.wit_model.specs.declared.model.Interface.{Interface}
-use Rattle.wit_model.specs.declared.model.InterfaceId.{InterfaceId}
-use Rattle.wit_model.specs.Lookup.{interface_at}
-use Rattle.wit_model.specs.Rules.{is_freestanding}
-use Rattle.wit_model.specs.Text.{text_of}
-use Rattle.wit_model.specs.Valid.{IsValid}
-use Rattle.print_grammar.specs.Tree.{MemberTree}
-use Rattle.print_items.specs.Shown.{function_prefix, listed_functions, shown_function, shown_signature}
-use Rattle.print_grammar.specs.Calls.{function_calls, item_calls, members_calls, prefix_calls, line_after_calls}
-use Rattle.print_items.specs.ItemCalls.{named_calls}
-use Rattle.print_uses.specs.Printable.{is_printable_function, shown_functions}
+use Rattle.std.specs.{Prelude.String, List.list_all}
+use Rattle.std.specs.declared.alloc.Global.{Global}
+use Rattle.wit_model.specs.declared.model.{Resolve.Resolve, Function.Function, Interface.Interface, InterfaceId.InterfaceId}
+use Rattle.wit_model.specs.{Lookup.interface_at, Rules.is_freestanding, Text.text_of, Valid.IsValid}
+use Rattle.print_grammar.specs.{Tree.MemberTree, Calls.function_calls, Calls.item_calls, Calls.members_calls, Calls.prefix_calls, Calls.line_after_calls}
 use Rattle.print_grammar.specs.WellNamed.{is_well_member}
+use Rattle.print_items.specs.{Shown.function_prefix, Shown.listed_functions, Shown.shown_function, Shown.shown_signature, ItemCalls.named_calls}
+use Rattle.print_uses.specs.Printable.{is_printable_function, shown_functions}
 use Rattle.print_output.specs.declared.type_kind.TypeKind.TheVariants.{FunctionFreestanding}
-use Rattle.print_uses.proofs.ValidDeclared.{is_known_function}
-use Rattle.print_uses.proofs.ValidInterfaces.{function_well, interface_functions}
+use Rattle.print_uses.proofs.{ValidDeclared.is_known_function, ValidInterfaces.function_well, ValidInterfaces.interface_functions}
 use Rattle.base_lemmas.proofs.Elements.{all_weaker as weaker_all}
+use Rattle.wit_model.specs.declared.model.TypeOwner.TheVariants as owner
 
 -- one function in its block
 pub function_alone : (emits printed : Bool) (r : Resolve) (f : Function)

@@ -1,20 +1,13 @@
 -- One type that is handed in after the other is printed.
 use Rattle.std.proofs.Common.{◌≡◌, refl, sym, ap, subst, ◌∙◌, ℕ, ◌+◌, ◌<◌, ◌==◌, Bool, true, false, List, [], ◌∷◌, ◌++◌, Option, Some, Vec, length, drop, get_or, cond}
-use Rattle.std.specs.Borrow.{Bor}
-use Rattle.std.specs.List.{list_all}
-use Rattle.std.specs.Map.{lookup}
-use Rattle.std.specs.Option.{option_map_or}
-use Rattle.std.specs.declared.alloc.Global.{Global}
 use Rattle.std.proofs.lemmas.List.{drop_more}
-use Rattle.wit_model.specs.declared.model.Resolve.{Resolve}
-use Rattle.wit_model.specs.declared.model.Function.{Function}
-use Rattle.wit_model.specs.declared.model.TypeId.{TypeId}
-use Rattle.wit_model.specs.declared.model.TypeOwner.{TypeOwner}
+use Rattle.std.specs.{Borrow.Bor, List.list_all, Map.lookup, Option.option_map_or}
+use Rattle.std.specs.declared.alloc.Global.{Global}
+use Rattle.wit_model.specs.declared.model.{Resolve.Resolve, Function.Function, TypeId.TypeId, TypeOwner.TypeOwner}
 use Rattle.wit_model.specs.Text.{Text}
 use Rattle.print_output.specs.OutputCall.{OutputCall, View, Moves, Begins}
-use Rattle.print_grammar.specs.Tree.{MemberTree}
+use Rattle.print_grammar.specs.{Tree.MemberTree, Calls.members_calls, Calls.printed_after}
 use Rattle.print_items.specs.Shown.{Listed}
-use Rattle.print_grammar.specs.Calls.{members_calls, printed_after}
 use Rattle.print_packages.specs.GivenTypes.{Functions, are_functions_of, behind, functions_under, given_declarations}
 use Rattle.print_uses.specs.UseGroups.{is_listed_function, listed_declaration, listed_of}
 use Rattle.print_uses.proofs.Declarations.{members_append, printed_append}

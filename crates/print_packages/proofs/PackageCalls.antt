@@ -1,35 +1,24 @@
 -- What is shown of worlds and packages, and its calls.
 use Rattle.std.proofs.Common.{◌≡◌, cond, refl, sym, ap, subst, ◌∙◌, ℕ, Bool, true, false, ◌&&◌, ◌||◌, List, [], ◌∷◌, ◌++◌, append_assoc, Option, Some, None, map, filter, T, eqb→eq, slice_get, get_or, zero, suc, length}
-use Rattle.std.specs.Prelude.{codes, String, option_map, if◌then◌else◌}
-use Rattle.std.specs.List.{list_all, flat_map, filter_map, cons_option}
+use Rattle.std.proofs.lemmas.Grind.{flat_map-append}
+use Rattle.std.specs.{Prelude.codes, Prelude.String, Prelude.option_map, Prelude.if◌then◌else◌, List.list_all, List.flat_map, List.filter_map, List.cons_option}
 use Rattle.std.specs.Option.{option_map_or}
 use Rattle.std.specs.declared.alloc.Global.{Global}
-use Rattle.std.proofs.lemmas.Grind.{flat_map-append}
-use Rattle.wit_model.specs.declared.model.TypeOwner.TheVariants as owner
-use Rattle.wit_model.specs.declared.model.Resolve.{Resolve}
-use Rattle.wit_model.specs.declared.model.Package.{Package}
-use Rattle.wit_model.specs.declared.model.Interface.{Interface}
-use Rattle.wit_model.specs.declared.model.InterfaceId.{InterfaceId}
+use Rattle.wit_model.specs.declared.model.{Resolve.Resolve, Package.Package, Interface.Interface, InterfaceId.InterfaceId, WorldId.WorldId, PackageId.PackageId}
 use Rattle.wit_model.specs.declared.model.World.{World}
-use Rattle.wit_model.specs.declared.model.WorldId.{WorldId}
-use Rattle.wit_model.specs.declared.model.PackageId.{PackageId}
-use Rattle.wit_model.specs.Text.{Text, text_of}
-use Rattle.wit_model.specs.Names.{is_label}
+use Rattle.wit_model.specs.{Text.Text, Text.text_of, Names.is_label, Rules.has_items, Rules.in_list, Rules.is_id, Rules.package_number, Rules.passes}
 use Rattle.wit_model.specs.Lookup.{package_at, world_at, interface_at}
-use Rattle.wit_model.specs.Rules.{has_items, in_list, is_id, package_number, passes}
 use Rattle.print_output.specs.OutputCall.{OutputCall, is_one_line}
-use Rattle.print_grammar.specs.Tree.{ItemTree, WorldMember}
-use Rattle.print_grammar.specs.Tree.WorldMember.{WorldType, WorldUse}
-use Rattle.print_grammar.specs.Tree.MemberTree.{TypeMember, UseMember}
-use Rattle.print_uses.specs.UseGroups.{declared_members, is_listed_type, use_members}
-use Rattle.print_uses.proofs.Declarations.{after_printed, members_append, printed_append}
-use Rattle.print_uses.specs.Printable.{imports_interfaces, is_printable_entry, is_printable_import, printed_imports, is_printable_interface, is_printable_world, IsPrintableWorld, entry_calls, interface_entry_calls, world_body_calls, world_calls, is_printable_listed, listed_calls, listed_interface_calls, listed_package_calls, next_package_calls}
-use Rattle.print_items.specs.Shown.{DeclaredWith, Entry, Used, listed_imports, shown_declarations, shown_path, shown_uses, is_interface_item, is_freestanding_item, imported_functions, shown_import, shown_export, shown_interface, shown_world, shown_world_in, shown_world_item, shown_interface_item, shown_docs, shown_gates, shown_head, shown_package, shown_package_of}
-use Rattle.print_grammar.specs.Keyword.{escaped}
+use Rattle.print_grammar.specs.{Tree.ItemTree, Tree.WorldMember, WellNamed.is_well_gates, WellNamed.is_well_item}
+use Rattle.print_grammar.specs.{Tree.WorldMember.WorldType, Tree.WorldMember.WorldUse, Tree.MemberTree.TypeMember, Tree.MemberTree.UseMember, Keyword.escaped}
 use Rattle.print_grammar.specs.Calls.{declared_calls, item_calls, members_calls, prefix_calls, printed_after, space, use_calls, world_members_calls, package_item_calls, block_calls, doc_calls, gates_calls, more_nested_calls, nested_calls, package_outer_calls, package_start_calls, package_end_calls, package_calls, line_after_calls}
+use Rattle.print_uses.specs.UseGroups.{declared_members, is_listed_type, use_members}
+use Rattle.print_uses.specs.Printable.{imports_interfaces, is_printable_entry, is_printable_import, printed_imports, is_printable_interface, is_printable_world, IsPrintableWorld, entry_calls, interface_entry_calls, world_body_calls, world_calls, is_printable_listed, listed_calls, listed_interface_calls, listed_package_calls, next_package_calls}
+use Rattle.print_uses.proofs.Declarations.{after_printed, members_append, printed_append}
+use Rattle.print_items.specs.Shown.{DeclaredWith, Entry, Used, listed_imports, shown_declarations, shown_path, shown_uses, is_interface_item, is_freestanding_item, imported_functions, shown_import, shown_export, shown_interface, shown_world, shown_world_in, shown_world_item, shown_interface_item, shown_docs, shown_gates, shown_head, shown_package, shown_package_of}
 use Rattle.print_output.specs.declared.type_kind.TypeKind.TheVariants.{WorldDeclaration}
-use Rattle.print_grammar.specs.WellNamed.{is_well_gates, is_well_item}
 use Rattle.base_lemmas.proofs.Bools.{left_of as first_true, or_false, or_true, right_of as second_true}
+use Rattle.wit_model.specs.declared.model.TypeOwner.TheVariants as owner
 
 -- ---- the calls for what a world without types has
 

@@ -2,28 +2,18 @@
 use Rattle.std.proofs.Common.{◌≡◌, refl, sym, ap, subst, ◌∙◌, Bool, true, false, ◌&&◌, ◌||◌, not, Option, Some}
 use Rattle.std.specs.Prelude.{String, is_some}
 use Rattle.std.specs.declared.alloc.Global.{Global}
-use Rattle.wit_model.specs.declared.model.Resolve.{Resolve}
-use Rattle.wit_model.specs.declared.model.Docs.{Docs}
-use Rattle.wit_model.specs.declared.model.Function.{Function}
-use Rattle.wit_model.specs.declared.model.Interface.{Interface}
-use Rattle.wit_model.specs.declared.model.InterfaceId.{InterfaceId}
-use Rattle.wit_model.specs.declared.model.PackageId.{PackageId}
-use Rattle.wit_model.specs.declared.model.Stability.{Stability}
-use Rattle.wit_model.specs.declared.model.WorldKey.{WorldKey}
-use Rattle.wit_model.specs.declared.model.WorldKey.TheVariants as key
-use Rattle.wit_model.specs.declared.model.WorldItem.{WorldItem}
-use Rattle.wit_model.specs.declared.model.WorldItem.TheVariants as item
-use Rattle.wit_model.specs.Lookup.{interface_at}
-use Rattle.wit_model.specs.Text.{Text, text_of}
-use Rattle.wit_model.specs.Rules.{in_list, is_export_item, item_in_range, key_in_range}
-use Rattle.print_grammar.specs.Tree.{Prefix}
-use Rattle.print_grammar.specs.Tree.ExternTree.{NamedFunction, NamedInterface, NamedPath, Path}
+use Rattle.wit_model.specs.declared.model.{Resolve.Resolve, Docs.Docs, Function.Function, WorldKey.WorldKey}
+use Rattle.wit_model.specs.declared.model.{Interface.Interface, InterfaceId.InterfaceId, PackageId.PackageId, Stability.Stability, WorldItem.WorldItem}
+use Rattle.wit_model.specs.{Lookup.interface_at, Text.Text, Text.text_of, Rules.in_list, Rules.is_export_item, Rules.item_in_range, Rules.key_in_range}
+use Rattle.print_grammar.specs.{Tree.Prefix, Tree.ExternTree.NamedFunction, Tree.ExternTree.NamedInterface, Tree.ExternTree.NamedPath, Tree.ExternTree.Path}
 use Rattle.print_grammar.specs.Calls.{world_extern_calls}
-use Rattle.print_items.specs.ItemCalls.{labelled_tree}
-use Rattle.print_uses.specs.Printable.{entry_calls, is_printable_entry, is_printable_import, is_shown_item}
-use Rattle.print_items.specs.Shown.{extern_docs, extern_prefix, function_prefix, shown_docs, shown_external_id, shown_gates, shown_import, shown_interface, shown_path, shown_prefix, shown_signature}
 use Rattle.print_grammar.specs.WellNamed.{is_well_extern, is_well_path, is_well_prefix, is_well_world_member}
+use Rattle.print_items.specs.ItemCalls.{labelled_tree}
+use Rattle.print_items.specs.Shown.{extern_docs, extern_prefix, function_prefix, shown_docs, shown_external_id, shown_gates, shown_import, shown_interface, shown_path, shown_prefix, shown_signature}
+use Rattle.print_uses.specs.Printable.{entry_calls, is_printable_entry, is_printable_import, is_shown_item}
 use Rattle.base_lemmas.proofs.Bools.{left_of, right_of}
+use Rattle.wit_model.specs.declared.model.WorldKey.TheVariants as key
+use Rattle.wit_model.specs.declared.model.WorldItem.TheVariants as item
 
 module _ (r : Resolve) (here : PackageId) where
   -- what is shown as an import can be printed as one

@@ -1,42 +1,23 @@
 -- What is shown of valid packages is well named, and so is read as it stands.
 use Rattle.std.proofs.Common.{◌≡◌, refl, sym, ap, subst, ◌<◌, ℕ, Bool, true, List, filter_map, length, Option, Some, None}
-use Rattle.std.specs.Prelude.{String, option_map}
-use Rattle.std.specs.Option.{option_map_or}
-use Rattle.std.specs.List.{list_all}
-use Rattle.std.specs.declared.alloc.Global.{Global}
 use Rattle.std.proofs.lemmas.Bool.{ltb-true, and_from as both}
-use Rattle.wit_model.specs.declared.model.Resolve.{Resolve}
-use Rattle.wit_model.specs.declared.model.Package.{Package}
-use Rattle.wit_model.specs.declared.model.PackageId.{PackageId}
-use Rattle.wit_model.specs.declared.model.Interface.{Interface}
-use Rattle.wit_model.specs.declared.model.InterfaceId.{InterfaceId}
+use Rattle.std.specs.{Prelude.String, Prelude.option_map, Option.option_map_or, List.list_all}
+use Rattle.std.specs.declared.alloc.Global.{Global}
+use Rattle.wit_model.specs.declared.model.{Resolve.Resolve, Package.Package, PackageId.PackageId, Interface.Interface, InterfaceId.InterfaceId, WorldId.WorldId}
 use Rattle.wit_model.specs.declared.model.World.{World}
-use Rattle.wit_model.specs.declared.model.WorldId.{WorldId}
-use Rattle.wit_model.specs.Text.{Text, text_of, text_eq}
-use Rattle.wit_model.specs.Names.{is_label}
-use Rattle.wit_model.specs.Lookup.{package_at, interface_at, world_at}
-use Rattle.wit_model.specs.Rules.{in_list, passes, is_stability, text_is}
-use Rattle.wit_model.specs.Valid.{IsValid, package_names, labels, names_in_packages}
-use Rattle.wit_model.proofs.OnePath.{package-passes, interface-passes}
-use Rattle.print_output.specs.OutputCall.{View, Moves, is_one_line}
-use Rattle.print_output.specs.Render.{Written, render, writes, blank}
-use Rattle.print_grammar.specs.Calls.{file_calls}
-use Rattle.print_grammar.specs.AsRead.{file_as_read}
-use Rattle.print_grammar.specs.Reading.{IsOnlyReading}
-use Rattle.print_grammar.specs.Tree.ItemTree.{InterfaceItem, WorldItem}
+use Rattle.wit_model.specs.{Text.Text, Text.text_of, Text.text_eq, Names.is_label, Rules.in_list, Rules.passes, Rules.is_stability, Rules.text_is}
+use Rattle.wit_model.specs.{Lookup.package_at, Lookup.interface_at, Lookup.world_at, Valid.IsValid, Valid.package_names, Valid.labels, Valid.names_in_packages}
+use Rattle.wit_model.proofs.{OnePath.package-passes, OnePath.interface-passes, TextLemmas.text_same}
+use Rattle.print_output.specs.{OutputCall.View, OutputCall.Moves, OutputCall.is_one_line, Render.Written, Render.render, Render.writes, Render.blank}
+use Rattle.print_grammar.specs.{Calls.file_calls, AsRead.file_as_read, Tree.ItemTree.InterfaceItem, Tree.ItemTree.WorldItem}
+use Rattle.print_grammar.specs.{Reading.IsOnlyReading, WellNamed.is_well_gates, WellNamed.is_well_item, WellNamed.is_well_package, WellNamed.is_well_file}
 use Rattle.print_items.specs.Shown.{shown_docs, shown_gates, shown_interface, shown_interface_item, shown_world, shown_world_item, shown_package_of, no_package, shown_package, shown_file}
-use Rattle.print_grammar.specs.WellNamed.{is_well_gates, is_well_item, is_well_package, is_well_file}
-use Rattle.print_uses.proofs.WellLists.{each_well, given_well}
+use Rattle.print_uses.proofs.{WellLists.each_well, WellLists.given_well, ValidOwners.world_rule, ValidInterfaces.interface_well}
 use Rattle.print_output.proofs.RenderLaws.{Moves-writes}
 use Rattle.print_grammar.proofs.FileReads.{file_reads_only}
 use Rattle.print_items.proofs.ShownWell.{docs_well, gates_well, optional_version}
-use Rattle.print_uses.proofs.ValidOwners.{world_rule}
-use Rattle.print_uses.proofs.ValidInterfaces.{interface_well}
 use Rattle.print_packages.proofs.ValidWorlds.{world_well}
-use Rattle.base_lemmas.proofs.Bools.{left_of, right_of}
-use Rattle.base_lemmas.proofs.Elements.{joined_well}
-use Rattle.base_lemmas.proofs.Lists.{within_there as one_there}
-use Rattle.wit_model.proofs.TextLemmas.{text_same}
+use Rattle.base_lemmas.proofs.{Bools.left_of, Bools.right_of, Elements.joined_well, Lists.within_there as one_there}
 
 module _ (r : Resolve) (valid : IsValid r) where
   -- a name under which something with this label stands

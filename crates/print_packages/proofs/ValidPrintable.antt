@@ -1,42 +1,28 @@
 -- What validity says of a `Resolve`: its worlds and interfaces can be printed.
 use Rattle.std.proofs.Common.{◌≡◌, refl, sym, subst, ◌∙◌, ℕ, ◌+◌, Bool, true, false, ◌&&◌, ◌||◌, not, List, [], ◌∷◌, length, Option, Some, arith}
-use Rattle.std.specs.Prelude.{String}
-use Rattle.std.specs.List.{list_all}
-use Rattle.std.specs.Option.{option_map_or}
-use Rattle.std.specs.Cmp.Lexicographic.{same_text}
+use Rattle.std.proofs.lemmas.{Bool.ltb-true, Bool.and_from as both_true, List.Folds.list_all-map}
+use Rattle.std.specs.{Prelude.String, List.list_all, Option.option_map_or, Cmp.Lexicographic.same_text}
 use Rattle.std.specs.declared.alloc.Global.{Global}
-use Rattle.std.proofs.lemmas.Bool.{ltb-true, and_from as both_true}
-use Rattle.std.proofs.lemmas.List.Folds.{list_all-map}
 use Rattle.indexmap.specs.IndexMap.{values}
-use Rattle.wit_model.specs.declared.model.Resolve.{Resolve}
-use Rattle.wit_model.specs.declared.model.Package.{Package}
-use Rattle.wit_model.specs.declared.model.PackageId.{PackageId}
+use Rattle.wit_model.specs.declared.model.{Resolve.Resolve, Package.Package, PackageId.PackageId, WorldId.WorldId, WorldKey.WorldKey, WorldItem.WorldItem}
 use Rattle.wit_model.specs.declared.model.World.{World}
-use Rattle.wit_model.specs.declared.model.WorldId.{WorldId}
-use Rattle.wit_model.specs.declared.model.WorldKey.{WorldKey}
-use Rattle.wit_model.specs.declared.model.WorldKey.TheVariants as key
-use Rattle.wit_model.specs.declared.model.WorldItem.{WorldItem}
-use Rattle.wit_model.specs.declared.model.WorldItem.TheVariants as item
-use Rattle.wit_model.specs.Text.{text_of, text_eq}
+use Rattle.wit_model.specs.{Text.text_of, Text.text_eq, Lookup.interface_at, Lookup.package_at, Lookup.world_at, Lookup.optional_version_text}
 use Rattle.wit_model.specs.Names.{is_label, is_version, is_version_text}
-use Rattle.wit_model.specs.Lookup.{interface_at, package_at, world_at, optional_version_text}
-use Rattle.wit_model.specs.declared.model.TypeOwner.TheVariants as owner
 use Rattle.wit_model.specs.Rules.{in_list, passes, key_in_range, item_in_range, key_label, item_labels, entries_labels, is_stability, interface_belongs, world_belongs, is_id, package_number, is_export_item, text_is}
 use Rattle.wit_model.specs.Valid.{IsValid, names_in_packages, numbers_in_range, package_names, places, labels, is_place, item_function}
-use Rattle.wit_model.proofs.Entries.{each_from_at, lists_pass}
+use Rattle.wit_model.proofs.{Entries.each_from_at, Entries.lists_pass, OnePath.package-passes}
 use Rattle.print_uses.specs.Printable.{is_printable_import, is_shown_item, is_printable_interface, is_printable_entry, is_printable_world, is_printable_listed}
+use Rattle.print_uses.specs.UseGroups.{is_listed_function, is_listed_type}
 use Rattle.print_grammar.specs.WellNamed.{is_well_item}
 use Rattle.print_items.specs.Shown.{Listed, imported_functions, listed_imports, shown_interface_item, type_of_entry}
-use Rattle.wit_model.proofs.OnePath.{package-passes}
-use Rattle.print_uses.proofs.WellLists.{all_both, given_well}
-use Rattle.print_uses.specs.UseGroups.{is_listed_function, is_listed_type}
+use Rattle.print_uses.proofs.{WellLists.all_both, WellLists.given_well, ValidOwners.is_known_listed}
 use Rattle.print_packages.proofs.ValidWorlds.{is_known_entry, entry_function_known, extern_well, world_is_shown}
-use Rattle.print_uses.proofs.ValidOwners.{is_known_listed}
 use Rattle.print_packages.proofs.ValidFiles.{interface_item_well}
 use Rattle.print_items.proofs.ShownWell.{gates_well, optional_version}
-use Rattle.base_lemmas.proofs.Bools.{left_of as first_true, right_of as second_true}
-use Rattle.base_lemmas.proofs.Elements.{all_weaker as weaker_all}
-use Rattle.base_lemmas.proofs.Lists.{within_there as found}
+use Rattle.base_lemmas.proofs.{Bools.left_of as first_true, Bools.right_of as second_true, Elements.all_weaker as weaker_all, Lists.within_there as found}
+use Rattle.wit_model.specs.declared.model.WorldKey.TheVariants as key
+use Rattle.wit_model.specs.declared.model.WorldItem.TheVariants as item
+use Rattle.wit_model.specs.declared.model.TypeOwner.TheVariants as owner
 
 -- ---- items
 

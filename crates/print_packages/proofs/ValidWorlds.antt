@@ -1,49 +1,29 @@
 -- What is shown of a valid `Resolve`'s worlds is well named.
 use Rattle.std.proofs.Common.{◌≡◌, refl, sym, ◌∙◌, subst, Bool, true, false, ◌&&◌, List, [], ◌∷◌, ◌++◌, map, filter, filter_map, Option, Some, None, ℕ, length}
-use Rattle.std.specs.Prelude.{String, is_some, if◌then◌else◌}
-use Rattle.std.specs.Option.{option_map_or}
-use Rattle.std.specs.List.{list_all, cons_option}
-use Rattle.std.specs.Map.{values_of}
+use Rattle.std.proofs.lemmas.{Bool.ltb-true, Bool.and_from as both, List.Folds.list_all-append}
+use Rattle.std.specs.{Prelude.String, Prelude.is_some, Prelude.if◌then◌else◌, Option.option_map_or, List.list_all, List.cons_option, Map.values_of}
 use Rattle.std.specs.declared.alloc.Global.{Global}
-use Rattle.std.proofs.lemmas.Bool.{ltb-true, and_from as both}
-use Rattle.std.proofs.lemmas.List.Folds.{list_all-append}
-use Rattle.wit_model.specs.declared.model.Function.{Function}
-use Rattle.wit_model.specs.declared.model.TypeId.{TypeId}
-use Rattle.wit_model.specs.declared.model.Resolve.{Resolve}
-use Rattle.wit_model.specs.declared.model.Interface.{Interface}
-use Rattle.wit_model.specs.declared.model.InterfaceId.{InterfaceId}
-use Rattle.wit_model.specs.declared.model.PackageId.{PackageId}
-use Rattle.wit_model.specs.declared.model.World.{World}
-use Rattle.wit_model.specs.declared.model.WorldId.{WorldId}
-use Rattle.wit_model.specs.declared.model.WorldKey.{WorldKey}
-use Rattle.wit_model.specs.declared.model.WorldKey.TheVariants as key
-use Rattle.wit_model.specs.declared.model.WorldItem.{WorldItem as Item}
-use Rattle.wit_model.specs.declared.model.WorldItem.TheVariants as item
-use Rattle.wit_model.specs.declared.model.TypeOwner.{TypeOwner}
-use Rattle.wit_model.specs.declared.model.TypeOwner.TheVariants as owner
-use Rattle.wit_model.specs.declared.model.Docs.{Docs}
-use Rattle.wit_model.specs.declared.model.Stability.{Stability}
-use Rattle.wit_model.specs.Text.{Text, text_of}
-use Rattle.wit_model.specs.Names.{is_label}
-use Rattle.wit_model.specs.Lookup.{interface_at, world_at}
+use Rattle.wit_model.specs.declared.model.{Function.Function, TypeId.TypeId, Resolve.Resolve, WorldId.WorldId, WorldKey.WorldKey, Stability.Stability}
+use Rattle.wit_model.specs.declared.model.{Interface.Interface, InterfaceId.InterfaceId, PackageId.PackageId, WorldItem.WorldItem as Item, TypeOwner.TypeOwner}
+use Rattle.wit_model.specs.declared.model.{World.World, Docs.Docs}
+use Rattle.wit_model.specs.{Text.Text, Text.text_of, Names.is_label, Lookup.interface_at, Lookup.world_at}
 use Rattle.wit_model.specs.Rules.{in_list, passes, is_id, package_number, is_stability, function_labels, key_in_range, item_in_range, entries_in_range, key_label, item_labels, entries_labels, item_type, is_name_key, is_named_of, is_member, is_interface_key, import_stands, export_stands, is_export_item}
 use Rattle.wit_model.specs.Valid.{IsValid, is_place, item_function, numbers_in_range, labels, order_of_types, function_names, world_items}
 use Rattle.print_output.specs.OutputCall.{is_one_line}
-use Rattle.print_grammar.specs.Tree.ExternTree.{NamedPath, NamedInterface}
+use Rattle.print_grammar.specs.Tree.{ExternTree.NamedPath, ExternTree.NamedInterface, WorldMember.WorldUse, WorldMember.WorldType}
 use Rattle.print_grammar.specs.Tree.{WorldMember}
-use Rattle.print_grammar.specs.Tree.WorldMember.{WorldUse, WorldType}
-use Rattle.print_items.specs.Shown.{Entry, Used, shown_docs, shown_gates, shown_path, shown_uses, shown_declarations, shown_interface, function_prefix, extern_docs, extern_prefix, shown_extern, shown_import, shown_export, is_interface_item, is_freestanding_item, type_of_entry, listed_imports, imported_functions, shown_world_in, shown_world}
 use Rattle.print_grammar.specs.WellNamed.{is_well_gates, is_well_prefix, is_well_path, is_well_member, is_well_extern, is_well_world_member}
+use Rattle.print_items.specs.Shown.{Entry, Used, shown_docs, shown_gates, shown_path, shown_uses, shown_declarations, shown_interface, function_prefix, extern_docs, extern_prefix, shown_extern, shown_import, shown_export, is_interface_item, is_freestanding_item, type_of_entry, listed_imports, imported_functions, shown_world_in, shown_world}
 use Rattle.print_uses.proofs.WellLists.{all_both, each_well, kept_well, given_well}
-use Rattle.print_items.proofs.ShownWell.{docs_well, gates_well, external_id_well}
 use Rattle.print_uses.proofs.FunctionsWell.{signature_well, function_prefix_well}
-use Rattle.print_uses.proofs.ValidDeclared.{is_known_function}
-use Rattle.print_uses.proofs.ValidOwners.{is_named_interface, is_known_listed, world_rule}
+use Rattle.print_uses.proofs.{ValidDeclared.is_known_function, ValidOwners.is_named_interface, ValidOwners.is_known_listed, ValidOwners.world_rule}
 use Rattle.print_uses.proofs.ValidUses.{is_known_use, is_well_declared_with, path_well, uses_known, declarations_well}
 use Rattle.print_uses.proofs.ValidInterfaces.{freestanding_label, interface_well}
-use Rattle.base_lemmas.proofs.Bools.{left_of, right_of}
-use Rattle.base_lemmas.proofs.Elements.{all_weaker as weaker_all, joined_well}
-use Rattle.base_lemmas.proofs.Lists.{within_there as one_there}
+use Rattle.print_items.proofs.ShownWell.{docs_well, gates_well, external_id_well}
+use Rattle.base_lemmas.proofs.{Bools.left_of, Bools.right_of, Elements.all_weaker as weaker_all, Elements.joined_well, Lists.within_there as one_there}
+use Rattle.wit_model.specs.declared.model.WorldKey.TheVariants as key
+use Rattle.wit_model.specs.declared.model.WorldItem.TheVariants as item
+use Rattle.wit_model.specs.declared.model.TypeOwner.TheVariants as owner
 
 -- what stands under an interface is that interface
 abbrev stands_under : Resolve → WorldKey → Item → Bool

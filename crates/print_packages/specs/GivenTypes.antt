@@ -1,20 +1,11 @@
 -- Types that are handed in, with functions by the resources that they stand under.
 use Rattle.std.specs.Prelude.{Bool, List, [], ◌++◌, ◌==◌, Vec, map, unwrap_or}
-use Rattle.std.specs.List.{flat_map, list_all}
-use Rattle.std.specs.Option.{option_map_or}
-use Rattle.std.specs.Borrow.{Bor}
-use Rattle.std.specs.HashMap.{HashMap}
-use Rattle.std.specs.Map.{lookup}
+use Rattle.std.specs.{List.flat_map, List.list_all, Option.option_map_or, Borrow.Bor, HashMap.HashMap, Map.lookup}
 use Rattle.std.specs.declared.alloc.Global.{Global}
-use Rattle.wit_model.specs.declared.model.Resolve.{Resolve}
-use Rattle.wit_model.specs.declared.model.PackageId.{PackageId}
-use Rattle.wit_model.specs.declared.model.TypeOwner.{TypeOwner}
-use Rattle.wit_model.specs.declared.model.Function.{Function}
-use Rattle.wit_model.specs.declared.model.TypeId.{TypeId}
+use Rattle.wit_model.specs.declared.model.{Resolve.Resolve, PackageId.PackageId, TypeOwner.TypeOwner, Function.Function, TypeId.TypeId}
 use Rattle.wit_model.specs.Text.{Text}
 use Rattle.print_output.specs.OutputCall.{OutputCall}
-use Rattle.print_grammar.specs.Calls.{members_calls}
-use Rattle.print_grammar.specs.Tree.{MemberTree}
+use Rattle.print_grammar.specs.{Calls.members_calls, Tree.MemberTree}
 use Rattle.print_items.specs.Shown.{Listed, owner_package}
 use Rattle.print_uses.specs.UseGroups.{is_listed_function, listed_declaration, listed_of, use_members}
 

@@ -1,11 +1,7 @@
 -- The calls for what stands before the block of an interface, and for the block.
-use Rattle.std.specs.Prelude.{Bool, false, List, []}
-use Rattle.std.specs.Option.{option_map_or}
-use Rattle.wit_model.specs.declared.model.Resolve.{Resolve}
-use Rattle.wit_model.specs.declared.model.Interface.{Interface}
-use Rattle.wit_model.specs.declared.model.InterfaceId.{InterfaceId}
-use Rattle.wit_model.specs.Lookup.{interface_at}
-use Rattle.wit_model.specs.Text.{Text}
+use Rattle.std.specs.{Prelude.Bool, Prelude.false, Prelude.List, Prelude.[], Option.option_map_or}
+use Rattle.wit_model.specs.declared.model.{Resolve.Resolve, Interface.Interface, InterfaceId.InterfaceId}
+use Rattle.wit_model.specs.{Lookup.interface_at, Text.Text}
 use Rattle.print_output.specs.OutputCall.{OutputCall}
 use Rattle.print_items.specs.Shown.{shown_docs, shown_gates, shown_interface}
 use Rattle.print_grammar.specs.Calls.{interface_outer_calls, members_calls}

@@ -1,20 +1,13 @@
 -- What stands in the block of an interface, of a world or of a package, as it is shown there.
-use Rattle.std.specs.Prelude.{List}
-use Rattle.std.specs.Borrow.{Bor}
-use Rattle.wit_model.specs.declared.model.Resolve.{Resolve}
-use Rattle.wit_model.specs.declared.model.Interface.{Interface}
-use Rattle.wit_model.specs.declared.model.InterfaceId.{InterfaceId}
-use Rattle.wit_model.specs.declared.model.PackageId.{PackageId}
+use Rattle.std.specs.{Prelude.List, Borrow.Bor}
+use Rattle.wit_model.specs.declared.model.{Resolve.Resolve, Interface.Interface, InterfaceId.InterfaceId, PackageId.PackageId, Function.Function}
 use Rattle.wit_model.specs.declared.model.TypeDef.{TypeDef}
-use Rattle.wit_model.specs.declared.model.TypeOwner.TheVariants as owner
-use Rattle.wit_model.specs.declared.model.Function.{Function}
 use Rattle.wit_model.specs.Text.{Text, text_of}
-use Rattle.print_grammar.specs.Tree.{Declared, ExternTree, ItemTree, MemberTree, Prefix}
-use Rattle.print_grammar.specs.Tree.ExternTree.{NamedFunction, NamedInterface}
-use Rattle.print_grammar.specs.Tree.ItemTree.{InterfaceItem}
-use Rattle.print_grammar.specs.Tree.MemberTree.{TypeMember}
+use Rattle.print_grammar.specs.{Tree.Declared, Tree.ExternTree, Tree.ItemTree, Tree.MemberTree, Tree.Prefix, Tree.ItemTree.InterfaceItem}
+use Rattle.print_grammar.specs.Tree.{ExternTree.NamedFunction, ExternTree.NamedInterface, MemberTree.TypeMember}
 use Rattle.print_items.specs.Shown.{declared_of, listed_functions, listed_types, present_name, shown_docs, shown_gates, shown_interface, shown_prefix, shown_resource_members, shown_signature}
 use Rattle.print_uses.specs.UseGroups.{type_members}
+use Rattle.wit_model.specs.declared.model.TypeOwner.TheVariants as owner
 
 -- ---- types
 

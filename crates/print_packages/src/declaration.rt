@@ -3,18 +3,14 @@
 
 ghost use Rattle.std.specs.Prelude.{◌≡◌, ◌∷◌, [], true, filter, map, Some, IfOk, OnErr, OnOk, IfErr};
 ghost use Rattle.std.specs.List.{list_all};
-ghost use Rattle.wit_model.specs.Lookup.{type_at};
-ghost use Rattle.wit_model.specs.Valid.{IsValid};
-ghost use Rattle.wit_model.specs.Refusals.{IsMemory};
-ghost use Rattle.print_items.specs.Drives.{Drives};
+ghost use Rattle.wit_model.specs.{Lookup.type_at, Valid.IsValid, Refusals.IsMemory};
+ghost use Rattle.print_items.specs.{Drives.Drives, Shown.belongs_to as belongs_to_lem, Shown.present_name};
 ghost use Rattle.print_output.specs.OutputCall.{Moves, Begins};
-ghost use Rattle.print_items.specs.Shown.{belongs_to as belongs_to_lem, present_name};
-ghost use Rattle.print_grammar.specs.Calls.{declared_calls, members_calls, printed_after};
+ghost use Rattle.print_grammar.specs.{Calls.declared_calls, Calls.members_calls, Calls.printed_after, WellNamed.is_well_declared, WellNamed.is_well_prefix};
 ghost use Rattle.print_uses.specs.Printable.{declaration_of, is_printable_type};
+ghost use Rattle.print_uses.specs.UseGroups.{as_listed, is_listed_function, is_listed_type, listed_declaration, listed_of};
 ghost use Rattle.print_packages.specs.GivenTypes.{functions_under as under, given_declarations};
 ghost use Rattle.print_packages.specs.Members.{declared_under, type_member, type_prefix};
-ghost use Rattle.print_uses.specs.UseGroups.{as_listed, is_listed_function, is_listed_type, listed_declaration, listed_of};
-ghost use Rattle.print_grammar.specs.WellNamed.{is_well_declared, is_well_prefix};
 
 use crate::interface::write_line_before;
 use print_items::{

@@ -1,17 +1,12 @@
 //! Interfaces that a world imports or exports, printed.
 
 ghost use Rattle.std.specs.Prelude.{◌≡◌, ◌++◌, ◌∷◌, [], true, Some, IsTrue, OnOk, OnErr, IfErr};
-ghost use Rattle.wit_model.specs.Lookup.{interface_at};
-ghost use Rattle.wit_model.specs.Names.{is_label};
-ghost use Rattle.wit_model.specs.Rules.{in_list};
-ghost use Rattle.wit_model.specs.Valid.{IsValid};
-ghost use Rattle.wit_model.specs.Refusals.{IsMemory};
+ghost use Rattle.wit_model.specs.{Lookup.interface_at, Names.is_label, Rules.in_list, Valid.IsValid, Refusals.IsMemory};
 ghost use Rattle.print_output.specs.OutputCall.{OutputCall, Moves, Begins, is_one_line, has_no_space_first};
-ghost use Rattle.print_grammar.specs.Calls.{world_extern_calls};
+ghost use Rattle.print_grammar.specs.{Calls.world_extern_calls, WellNamed.is_well_extern, WellNamed.is_well_path, WellNamed.is_well_prefix};
+ghost use Rattle.print_grammar.specs.Tree.ExternTree.{NamedPath, Path};
 ghost use Rattle.print_items.specs.ItemCalls.{front_calls, inline_start_calls, labelled_tree};
 ghost use Rattle.print_items.specs.Shown.{extern_docs, shown_docs, shown_path, shown_prefix};
-ghost use Rattle.print_grammar.specs.Tree.ExternTree.{NamedPath, Path};
-ghost use Rattle.print_grammar.specs.WellNamed.{is_well_extern, is_well_path, is_well_prefix};
 ghost use Rattle.print_packages.specs.Members.{inline_interface};
 
 use crate::interface::print_interface_body;

@@ -2,9 +2,7 @@
 
 ghost use Rattle.std.specs.Prelude.{◌≡◌, ◌<◌, ◌∷◌, [], true, length, map, OnOk, OnErr, IfErr};
 ghost use Rattle.std.specs.List.{flat_map, list_all};
-ghost use Rattle.wit_model.specs.Rules.{in_list};
-ghost use Rattle.wit_model.specs.Valid.{IsValid};
-ghost use Rattle.wit_model.specs.Refusals.{IsMemory};
+ghost use Rattle.wit_model.specs.{Rules.in_list, Valid.IsValid, Refusals.IsMemory};
 ghost use Rattle.print_output.specs.OutputCall.{OutputCall, Moves, Begins};
 ghost use Rattle.print_grammar.specs.Calls.{file_calls, nested_calls};
 ghost use Rattle.print_uses.specs.Printable.{next_package_calls};

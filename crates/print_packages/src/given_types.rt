@@ -1,15 +1,11 @@
 //! Types that are handed in, with functions by the resources that they stand under, printed.
 
 ghost use Rattle.std.specs.Prelude.{◌≡◌, true, false, IfOk, OnErr, OnOk, IfErr};
-ghost use Rattle.std.specs.Iterator.{Drains, IsFinite};
-ghost use Rattle.std.specs.List.{list_all};
-ghost use Rattle.wit_model.specs.Parts.{same_owner};
-ghost use Rattle.wit_model.specs.Valid.{IsValid};
-ghost use Rattle.wit_model.specs.Refusals.{IsMemory};
-ghost use Rattle.print_items.specs.Drives.{Makes, MakesInPart};
+ghost use Rattle.std.specs.{Iterator.Drains, Iterator.IsFinite, List.list_all};
+ghost use Rattle.wit_model.specs.{Parts.same_owner, Valid.IsValid, Refusals.IsMemory};
+ghost use Rattle.print_items.specs.{Drives.Makes, Drives.MakesInPart, Shown.owner_package as owner_package_lem};
 ghost use Rattle.print_grammar.specs.Calls.{printed_after};
 ghost use Rattle.print_packages.specs.GivenTypes.{are_functions_of, given_calls, given_with, package_of_owner};
-ghost use Rattle.print_items.specs.Shown.{owner_package as owner_package_lem};
 ghost use Rattle.print_uses.specs.UseGroups.{is_listed_type, listed_of};
 
 use crate::declaration::print_declarations;

@@ -3,18 +3,12 @@
 
 ghost use Rattle.std.specs.Prelude.{◌≡◌, ◌∷◌, [], true, false, Some, OnOk, OnErr, IfErr};
 ghost use Rattle.std.specs.List.{list_all};
-ghost use Rattle.wit_model.specs.Lookup.{interface_at};
-ghost use Rattle.wit_model.specs.Names.{is_label};
-ghost use Rattle.wit_model.specs.Rules.{is_freestanding as is_freestanding_lem};
-ghost use Rattle.wit_model.specs.Valid.{IsValid};
-ghost use Rattle.wit_model.specs.Refusals.{IsMemory};
-ghost use Rattle.print_items.specs.Drives.{Drives, LineIs};
+ghost use Rattle.wit_model.specs.{Lookup.interface_at, Names.is_label, Rules.is_freestanding as is_freestanding_lem, Valid.IsValid, Refusals.IsMemory};
+ghost use Rattle.print_items.specs.{Drives.Drives, Drives.LineIs, Shown.shown_function, Shown.shown_gates};
 ghost use Rattle.print_output.specs.OutputCall.{Moves, Begins};
-ghost use Rattle.print_grammar.specs.Calls.{members_calls, line_after_calls};
+ghost use Rattle.print_grammar.specs.{Calls.members_calls, Calls.line_after_calls, WellNamed.is_well_gates, WellNamed.is_well_member};
 ghost use Rattle.print_packages.specs.Heads.{head_calls, interface_block_calls};
 ghost use Rattle.print_uses.specs.Printable.{is_printable_function, shown_functions};
-ghost use Rattle.print_items.specs.Shown.{shown_function, shown_gates};
-ghost use Rattle.print_grammar.specs.WellNamed.{is_well_gates, is_well_member};
 
 use crate::types::print_interface_types;
 use print_items::{Driver, write_docs, write_gates, write_named, write_prefix};

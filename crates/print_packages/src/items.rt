@@ -2,14 +2,11 @@
 
 ghost use Rattle.std.specs.Prelude.{◌≡◌, ◌&&◌, true, codes, IsTrue, IfOk, OnOk, OnErr, IfErr};
 ghost use Rattle.std.specs.List.{flat_map, list_all};
-ghost use Rattle.wit_model.specs.Rules.{has_items as has_items_lem};
-ghost use Rattle.wit_model.specs.Valid.{IsValid};
-ghost use Rattle.wit_model.specs.Refusals.{IsMemory};
+ghost use Rattle.wit_model.specs.{Rules.has_items as has_items_lem, Valid.IsValid, Refusals.IsMemory};
 ghost use Rattle.print_output.specs.OutputCall.{Moves, Begins, is_one_line, has_no_space_first};
-ghost use Rattle.print_grammar.specs.Calls.{world_extern_calls, line_after_calls};
+ghost use Rattle.print_grammar.specs.{Calls.world_extern_calls, Calls.line_after_calls, WellNamed.is_well_extern, WellNamed.is_well_prefix};
 ghost use Rattle.print_uses.specs.Printable.{entry_calls, function_entry_calls, imports_calls, imports_functions, imports_interfaces, interface_entry_calls, is_printable_entry, is_printable_import, IsPrintableWorld, printed_imports, world_body_calls};
 ghost use Rattle.print_items.specs.Shown.{function_prefix, is_freestanding_item, is_interface_item};
-ghost use Rattle.print_grammar.specs.WellNamed.{is_well_extern, is_well_prefix};
 ghost use Rattle.print_packages.specs.Members.{named_function};
 
 use crate::extern_item::{docs_of, print_keyed, print_labelled};

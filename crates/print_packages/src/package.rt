@@ -3,20 +3,14 @@
 
 ghost use Rattle.std.specs.Prelude.{◌≡◌, ◌<◌, ◌++◌, ◌∷◌, [], true, false, length, Some, OnOk, OnErr, IfErr};
 ghost use Rattle.std.specs.List.{flat_map, list_all};
-ghost use Rattle.wit_model.specs.Text.{text_of};
-ghost use Rattle.wit_model.specs.Names.{is_label, is_version_text};
-ghost use Rattle.wit_model.specs.Lookup.{interface_at, optional_version_text};
-ghost use Rattle.wit_model.specs.Valid.{IsValid};
-ghost use Rattle.wit_model.specs.Rules.{passes};
-ghost use Rattle.wit_model.specs.Refusals.{IsMemory};
-ghost use Rattle.print_items.specs.Drives.{Drives, LineIs};
+ghost use Rattle.wit_model.specs.{Text.text_of, Rules.passes};
+ghost use Rattle.wit_model.specs.{Names.is_label, Names.is_version_text, Lookup.interface_at, Lookup.optional_version_text, Valid.IsValid, Refusals.IsMemory};
+ghost use Rattle.print_items.specs.{Drives.Drives, Drives.LineIs, Shown.shown_gates, Shown.shown_head, Shown.shown_package};
 ghost use Rattle.print_output.specs.OutputCall.{OutputCall, Moves, Begins};
 ghost use Rattle.print_uses.specs.Printable.{IsPrintableWorld, is_printable_interface, is_printable_listed, listed_calls, listed_interface_calls, listed_package_calls, world_start_calls, world_calls};
-ghost use Rattle.print_items.specs.Shown.{shown_gates, shown_head, shown_package};
 ghost use Rattle.print_grammar.specs.Calls.{line_after_calls, package_calls, package_item_calls, package_outer_calls, package_start_calls, package_end_calls};
-ghost use Rattle.print_packages.specs.Heads.{head_calls};
-ghost use Rattle.print_packages.specs.Members.{interface_item};
 ghost use Rattle.print_grammar.specs.WellNamed.{is_well_gates};
+ghost use Rattle.print_packages.specs.{Heads.head_calls, Members.interface_item};
 
 use crate::extern_item::print_block_end;
 use crate::interface::{print_interface_body, write_head};

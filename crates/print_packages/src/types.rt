@@ -2,11 +2,7 @@
 
 ghost use Rattle.std.specs.Prelude.{◌≡◌, true, false, map, option_map, Some, IfOk, OnErr, OnOk, IfErr};
 ghost use Rattle.std.specs.List.{filter_map, list_all};
-ghost use Rattle.wit_model.specs.Lookup.{interface_at};
-ghost use Rattle.wit_model.specs.Parts.{same_owner};
-ghost use Rattle.wit_model.specs.Text.{text_of};
-ghost use Rattle.wit_model.specs.Valid.{IsValid, item_function};
-ghost use Rattle.wit_model.specs.Refusals.{IsMemory};
+ghost use Rattle.wit_model.specs.{Lookup.interface_at, Parts.same_owner, Text.text_of, Valid.IsValid, Valid.item_function, Refusals.IsMemory};
 ghost use Rattle.print_output.specs.OutputCall.{Moves, Begins};
 ghost use Rattle.print_grammar.specs.Calls.{members_calls, printed_after};
 ghost use Rattle.print_items.specs.Shown.{imported_functions as imported_functions_lem, listed_imports, type_of_entry as type_of_entry_lem};

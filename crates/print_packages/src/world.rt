@@ -2,16 +2,12 @@
 #![tactic(auto, using(print_items::proofs::Driven::driving))]
 
 ghost use Rattle.std.specs.Prelude.{◌≡◌, ◌++◌, true, false, IsTrue};
-ghost use Rattle.wit_model.specs.Names.{is_label};
-ghost use Rattle.wit_model.specs.Rules.{in_list};
-ghost use Rattle.wit_model.specs.Text.{text_of};
-ghost use Rattle.wit_model.specs.Valid.{IsValid};
-ghost use Rattle.print_items.specs.Drives.{Drives, LineIs};
+ghost use Rattle.wit_model.specs.{Names.is_label, Rules.in_list, Text.text_of, Valid.IsValid};
+ghost use Rattle.print_items.specs.{Drives.Drives, Drives.LineIs, Shown.function_prefix, Shown.shown_path, Shown.shown_prefix, Shown.shown_signature};
+ghost use Rattle.print_items.specs.ItemCalls.{front_calls, inline_start_calls};
 ghost use Rattle.print_output.specs.OutputCall.{is_one_line, has_no_space_first};
 ghost use Rattle.print_grammar.specs.Tree.ExternTree.{NamedFunction, NamedPath, Path};
-ghost use Rattle.print_items.specs.Shown.{function_prefix, shown_path, shown_prefix, shown_signature};
 ghost use Rattle.print_grammar.specs.Calls.{extern_calls, world_extern_calls};
-ghost use Rattle.print_items.specs.ItemCalls.{front_calls, inline_start_calls};
 ghost use Rattle.print_grammar.specs.WellNamed.{is_well_path, is_well_prefix, is_well_signature};
 
 use print_items::{Driver, write_named, write_prefix};

@@ -1,35 +1,22 @@
 -- The declarations of an owner's types, one after the other.
 use Rattle.std.proofs.Common.{◌≡◌, refl, sym, ap, subst, ◌∙◌, Bool, true, false, ◌&&◌, List, [], ◌∷◌, ◌++◌, append-nil, append_assoc, map, Some, None}
-use Rattle.std.specs.Prelude.{String, is_some}
-use Rattle.std.specs.Borrow.{Bor}
-use Rattle.std.specs.Option.{option_map_or}
-use Rattle.std.specs.List.{list_all}
 use Rattle.std.proofs.lemmas.List.Folds.{list_all-map}
+use Rattle.std.specs.{Prelude.String, Prelude.is_some, Borrow.Bor, Option.option_map_or, List.list_all}
 use Rattle.std.specs.declared.alloc.Global.{Global}
-use Rattle.wit_model.specs.declared.model.Resolve.{Resolve}
-use Rattle.wit_model.specs.declared.model.Function.{Function}
-use Rattle.wit_model.specs.declared.model.Interface.{Interface}
-use Rattle.wit_model.specs.declared.model.InterfaceId.{InterfaceId}
-use Rattle.wit_model.specs.declared.model.PackageId.{PackageId}
+use Rattle.wit_model.specs.declared.model.{Resolve.Resolve, Function.Function, Interface.Interface, InterfaceId.InterfaceId, PackageId.PackageId, TypeId.TypeId}
 use Rattle.wit_model.specs.declared.model.TypeDef.{TypeDef}
-use Rattle.wit_model.specs.declared.model.TypeId.{TypeId}
-use Rattle.wit_model.specs.declared.model.TypeOwner.TheVariants as owner
-use Rattle.wit_model.specs.Lookup.{interface_at, type_at}
-use Rattle.wit_model.specs.Rules.{in_list}
-use Rattle.wit_model.specs.Text.{text_of}
-use Rattle.wit_model.specs.Valid.{IsValid}
-use Rattle.print_grammar.specs.Tree.{Declared, MemberTree, Prefix}
+use Rattle.wit_model.specs.{Lookup.interface_at, Lookup.type_at, Rules.in_list, Text.text_of, Valid.IsValid}
+use Rattle.print_grammar.specs.{Tree.Declared, Tree.MemberTree, Tree.Prefix, WellNamed.is_well_declared, WellNamed.is_well_prefix}
 use Rattle.print_grammar.specs.Tree.MemberTree.{FunctionMember, TypeMember, UseMember}
-use Rattle.print_items.specs.Shown.{Listed, listed_functions, listed_types, path_from_owner, shown_declared, shown_interface, shown_prefix, shown_resource_member, shown_uses}
 use Rattle.print_grammar.specs.Calls.{declared_calls, function_calls, item_calls, members_calls, prefix_calls, printed_after, use_calls, line_after_calls}
+use Rattle.print_items.specs.Shown.{Listed, listed_functions, listed_types, path_from_owner, shown_declared, shown_interface, shown_prefix, shown_resource_member, shown_uses}
 use Rattle.print_uses.specs.Printable.{declaration_of, is_printable_type, shown_functions}
 use Rattle.print_uses.specs.UseGroups.{declared_members, is_listed_type, type_members}
-use Rattle.print_grammar.specs.WellNamed.{is_well_declared, is_well_prefix}
 use Rattle.print_output.specs.declared.type_kind.TypeKind.TheVariants.{FunctionFreestanding}
-use Rattle.print_uses.proofs.ValidInterfaces.{in_package, interface_range, interface_types}
-use Rattle.print_uses.proofs.ValidOwners.{is_known_listed}
+use Rattle.print_uses.proofs.{ValidInterfaces.in_package, ValidInterfaces.interface_range, ValidInterfaces.interface_types, ValidOwners.is_known_listed}
 use Rattle.print_uses.proofs.WellLists.{all_both}
 use Rattle.base_lemmas.proofs.Bools.{right_of}
+use Rattle.wit_model.specs.declared.model.TypeOwner.TheVariants as owner
 
 -- ---- calls
 

@@ -1,25 +1,15 @@
 -- What is shown of a function of a valid `Resolve` is well named.
 use Rattle.std.proofs.Common.{◌≡◌, refl, sym, ◌∙◌, Bool, true, ◌&&◌, ◌||◌, not, List, [], ◌∷◌, length, drop, Option, Some, None, map}
-use Rattle.std.specs.Prelude.{option_map, option_to_list, if◌then◌else◌}
-use Rattle.std.specs.List.{list_all}
-use Rattle.std.proofs.lemmas.List.Folds.{list_all-append}
-use Rattle.wit_model.specs.declared.model.Resolve.{Resolve}
-use Rattle.wit_model.specs.declared.model.Function.{Function}
-use Rattle.wit_model.specs.declared.model.Param.{Param}
-use Rattle.wit_model.specs.declared.model.«Type».{«Type» as ValueType}
-use Rattle.wit_model.specs.Text.{text_of}
-use Rattle.wit_model.specs.Names.{is_label}
-use Rattle.wit_model.specs.Lookup.{resource_of}
-use Rattle.wit_model.specs.Parts.{function_types}
-use Rattle.wit_model.specs.Rules.{function_in_range, function_labels, is_freestanding, are_member_labels, passes}
-use Rattle.wit_model.specs.Valid.{IsValid}
+use Rattle.std.proofs.lemmas.{List.Folds.list_all-append, Bool.and_from as both}
+use Rattle.std.specs.{Prelude.option_map, Prelude.option_to_list, Prelude.if◌then◌else◌, List.list_all}
+use Rattle.wit_model.specs.declared.model.{Resolve.Resolve, Function.Function, Param.Param, «Type».«Type» as ValueType}
+use Rattle.wit_model.specs.{Text.text_of, Names.is_label, Lookup.resource_of, Valid.IsValid}
+use Rattle.wit_model.specs.{Parts.function_types, Rules.function_in_range, Rules.function_labels, Rules.is_freestanding, Rules.are_member_labels, Rules.passes}
 use Rattle.print_items.specs.Shown.{shown_type, shown_param, shown_params, shown_signature, function_prefix, is_method}
 use Rattle.print_grammar.specs.WellNamed.{is_well_type, is_well_param, is_well_signature, is_well_prefix}
 use Rattle.print_uses.proofs.WellLists.{written_well}
-use Rattle.print_items.proofs.ShownWell.{shown_prefix_well}
-use Rattle.print_items.proofs.TypesWell.{is_below, below_of_numbers, shown_type_well}
+use Rattle.print_items.proofs.{ShownWell.shown_prefix_well, TypesWell.is_below, TypesWell.below_of_numbers, TypesWell.shown_type_well}
 use Rattle.base_lemmas.proofs.Bools.{left_of, right_of}
-use Rattle.std.proofs.lemmas.Bool.{and_from as both}
 
 module _ (r : Resolve) (valid : IsValid r) where
   -- a parameter with a label and a type in range

@@ -1,23 +1,16 @@
 -- One type of an owner's list after the other is printed.
 use Rattle.std.proofs.Common.{◌≡◌, sym, ap, subst, ◌∙◌, ℕ, ◌+◌, ◌<◌, Bool, true, ◌||◌, List, ◌∷◌, ◌++◌, Option, filter_map, length, drop, get_or}
-use Rattle.std.specs.Prelude.{is_some}
-use Rattle.std.specs.Borrow.{Bor}
-use Rattle.std.specs.List.{list_all}
 use Rattle.std.proofs.lemmas.List.{drop_more}
-use Rattle.wit_model.specs.declared.model.Resolve.{Resolve}
-use Rattle.wit_model.specs.declared.model.InterfaceId.{InterfaceId}
-use Rattle.wit_model.specs.declared.model.TypeId.{TypeId}
-use Rattle.wit_model.specs.declared.model.TypeOwner.{TypeOwner}
-use Rattle.wit_model.specs.Rules.{has_items}
-use Rattle.wit_model.specs.Text.{Text}
+use Rattle.std.specs.{Prelude.is_some, Borrow.Bor, List.list_all}
+use Rattle.wit_model.specs.declared.model.{Resolve.Resolve, InterfaceId.InterfaceId, TypeId.TypeId, TypeOwner.TypeOwner}
+use Rattle.wit_model.specs.{Rules.has_items, Text.Text}
 use Rattle.print_output.specs.OutputCall.{OutputCall, View, Moves, Begins}
 use Rattle.print_grammar.specs.Tree.{PathTree}
 use Rattle.print_items.specs.Shown.{Listed, Used}
 use Rattle.print_uses.specs.UseGroups.{is_listed_type, listed_of, listed_use, listed_use_calls, use_after, uses_calls}
 use Rattle.print_uses.proofs.ListedTypes.{next_listed_some, next_listed_use}
 use Rattle.print_items.proofs.Moves.{Going, made_on, refused_in}
-use Rattle.base_lemmas.proofs.Bools.{left_of, right_of}
-use Rattle.base_lemmas.proofs.Lists.{within_there as one_there}
+use Rattle.base_lemmas.proofs.{Bools.left_of, Bools.right_of, Lists.within_there as one_there}
 
 -- a type under its name
 abbrev entry : Bor Text × TypeId → Listed

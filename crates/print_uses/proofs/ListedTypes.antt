@@ -1,42 +1,24 @@
 -- The types that stand in an owner's list, as uses and as declarations.
 use Rattle.std.proofs.Common.{◌≡◌, refl, sym, ap, subst, ◌∙◌, ℕ, Bool, true, false, ◌&&◌, ◌||◌, List, [], ◌∷◌, ◌++◌, map, filter_map, Option, Some, None, option_and_then, if◌then◌else◌}
-use Rattle.std.specs.Prelude.{is_some, option_map}
-use Rattle.std.specs.Option.{option_map_or}
-use Rattle.std.specs.List.{list_all, cons_option}
-use Rattle.std.proofs.lemmas.Bool.{lt-ltb, and_from as both}
-use Rattle.std.proofs.lemmas.Option.{slice_get_within}
-use Rattle.wit_model.specs.declared.model.Resolve.{Resolve}
-use Rattle.wit_model.specs.declared.model.Interface.{Interface}
-use Rattle.wit_model.specs.declared.model.InterfaceId.{InterfaceId}
-use Rattle.wit_model.specs.declared.model.PackageId.{PackageId}
-use Rattle.wit_model.specs.declared.model.Function.{Function}
-use Rattle.wit_model.specs.declared.model.TypeDef.{TypeDef}
-use Rattle.wit_model.specs.declared.model.TypeId.{TypeId}
-use Rattle.wit_model.specs.declared.model.TypeOwner.{TypeOwner}
-use Rattle.wit_model.specs.declared.model.TypeOwner.TheVariants as owner
-use Rattle.wit_model.specs.Names.{is_label}
-use Rattle.wit_model.specs.Lookup.{interface_at, type_at}
-use Rattle.wit_model.specs.Parts.{same_owner}
-use Rattle.wit_model.specs.Rules.{has_items, in_list, is_stability, passes}
-use Rattle.wit_model.specs.Text.{Text, text_of}
-use Rattle.wit_model.specs.Valid.{IsValid, labels}
+use Rattle.std.proofs.lemmas.{Bool.lt-ltb, Bool.and_from as both, Option.slice_get_within}
+use Rattle.std.specs.{Prelude.is_some, Prelude.option_map, Option.option_map_or, List.list_all, List.cons_option}
+use Rattle.wit_model.specs.declared.model.{Resolve.Resolve, TypeDef.TypeDef, TypeId.TypeId}
+use Rattle.wit_model.specs.declared.model.{Interface.Interface, InterfaceId.InterfaceId, PackageId.PackageId, Function.Function, TypeOwner.TypeOwner}
+use Rattle.wit_model.specs.{Names.is_label, Parts.same_owner, Text.Text, Text.text_of}
+use Rattle.wit_model.specs.{Lookup.interface_at, Lookup.type_at, Rules.has_items, Rules.in_list, Rules.is_stability, Rules.passes, Valid.IsValid, Valid.labels}
 use Rattle.print_output.specs.OutputCall.{OutputCall}
-use Rattle.print_grammar.specs.Tree.{MemberTree, PathTree}
-use Rattle.print_grammar.specs.Tree.MemberTree.{TypeMember}
+use Rattle.print_grammar.specs.{Tree.MemberTree, Tree.PathTree, Tree.MemberTree.TypeMember, Calls.members_calls, Calls.printed_after}
+use Rattle.print_grammar.specs.WellNamed.{are_well_some, is_well_declared, is_well_gates, is_well_prefix, is_well_used}
 use Rattle.print_items.specs.Shown.{DeclaredWith, Listed, Used, declared_with, shown_declarations, shown_declared, shown_gates, shown_path, shown_prefix, used_of}
-use Rattle.print_grammar.specs.Calls.{members_calls, printed_after}
 use Rattle.print_uses.specs.Printable.{declaration_of, is_printable_type}
 use Rattle.print_uses.specs.UseGroups.{declared_members, is_listed_type, is_printable_use, listed_declaration, listed_use, listed_use_calls, shown_use, use_after, use_members, uses_calls}
 use Rattle.print_uses.specs.declared.use_group.Use.{Use}
-use Rattle.print_grammar.specs.WellNamed.{are_well_some, is_well_declared, is_well_gates, is_well_prefix, is_well_used}
-use Rattle.print_uses.proofs.Declarations.{declaration_at}
-use Rattle.print_items.proofs.ShownWell.{shown_prefix_well}
-use Rattle.print_items.proofs.TypesWell.{name_well, type_rule}
+use Rattle.print_uses.proofs.{Declarations.declaration_at, ValidOwners.is_named_interface}
 use Rattle.print_uses.proofs.UseGroups.{listed_plain, next_some, next_use, uses_grouped, uses_printed}
-use Rattle.print_uses.proofs.ValidDeclared.{declared_well, is_known_function}
-use Rattle.print_uses.proofs.ValidOwners.{is_named_interface}
-use Rattle.print_uses.proofs.ValidUses.{is_known_use, path_well, use_known}
+use Rattle.print_uses.proofs.{ValidDeclared.declared_well, ValidDeclared.is_known_function, ValidUses.is_known_use, ValidUses.path_well, ValidUses.use_known}
+use Rattle.print_items.proofs.{ShownWell.shown_prefix_well, TypesWell.name_well, TypesWell.type_rule}
 use Rattle.base_lemmas.proofs.Bools.{left_of, right_of}
+use Rattle.wit_model.specs.declared.model.TypeOwner.TheVariants as owner
 
 module _ (r : Resolve) where
   -- ---- a use that can be printed

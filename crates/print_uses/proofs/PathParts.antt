@@ -1,22 +1,13 @@
 -- What a path is, by the package of the interface that it leads to.
 use Rattle.std.proofs.Common.{◌≡◌, refl, sym, ap, subst, ℕ, Bool, true, false, ◌==◌, [], Option, Some, None, ◌≢◌, get_or}
-use Rattle.std.specs.Prelude.{if◌then◌else◌}
-use Rattle.std.specs.Option.{option_map_or}
-use Rattle.std.proofs.lemmas.Bool.{ltb-true, ne_eqb}
-use Rattle.std.proofs.lemmas.Option.{slice_get_read}
-use Rattle.wit_model.specs.declared.model.Resolve.{Resolve}
-use Rattle.wit_model.specs.declared.model.Package.{Package}
-use Rattle.wit_model.specs.declared.model.PackageId.{PackageId}
-use Rattle.wit_model.specs.declared.model.Interface.{Interface}
-use Rattle.wit_model.specs.declared.model.InterfaceId.{InterfaceId}
+use Rattle.std.proofs.lemmas.{Bool.ltb-true, Bool.ne_eqb, Option.slice_get_read}
+use Rattle.std.specs.{Prelude.if◌then◌else◌, Option.option_map_or}
+use Rattle.wit_model.specs.declared.model.{Resolve.Resolve, Package.Package, PackageId.PackageId, Interface.Interface, InterfaceId.InterfaceId}
 use Rattle.wit_model.specs.Lookup.{interface_at, package_at}
-use Rattle.wit_model.specs.Rules.{in_list, package_number, passes}
-use Rattle.wit_model.specs.Valid.{IsValid, is_place, numbers_in_range}
+use Rattle.wit_model.specs.{Rules.in_list, Rules.package_number, Rules.passes, Valid.IsValid, Valid.is_place, Valid.numbers_in_range}
 use Rattle.wit_model.proofs.OnePath.{interface-passes}
 use Rattle.print_items.specs.Shown.{full_path, path_from, present_name, shown_path}
-use Rattle.print_grammar.specs.WellNamed.{is_well_path}
-use Rattle.print_grammar.specs.Tree.{PathTree}
-use Rattle.print_grammar.specs.Tree.PathTree.{Local}
+use Rattle.print_grammar.specs.{WellNamed.is_well_path, Tree.PathTree, Tree.PathTree.Local}
 use Rattle.base_lemmas.proofs.Bools.{left_of, right_of}
 
 module _ (r : Resolve) (here : PackageId) (i : Interface) where

@@ -1,41 +1,24 @@
 -- Uses one after the other are the groups that are shown.
 use Rattle.std.proofs.Common.{◌≡◌, refl, sym, ap, subst, ◌∙◌, Bool, true, false, ℕ, ◌&&◌, ◌||◌, ◌==◌, nat_lt, length, List, [], ◌∷◌, ◌++◌, append-nil, append_assoc, map, filter_map, Option, Some, None, option_and_then, if◌then◌else◌}
-use Rattle.std.specs.Prelude.{codes, is_some, String}
-use Rattle.std.specs.declared.alloc.Global.{Global}
-use Rattle.std.specs.Str.{chars}
 use Rattle.std.proofs.Math.Utf8.{encodes}
-use Rattle.std.proofs.lemmas.Str.{encodes-chars, IsUtf8-string_bytes}
-use Rattle.std.specs.List.{list_all, cons_option, flat_map}
-use Rattle.std.proofs.lemmas.Grind.{flat_map-append}
-use Rattle.std.proofs.lemmas.Bool.{eqb-true, and_from as both}
-use Rattle.std.proofs.lemmas.List.Folds.{flat_map-map}
-use Rattle.wit_model.specs.declared.model.Resolve.{Resolve}
-use Rattle.wit_model.specs.declared.model.InterfaceId.{InterfaceId}
-use Rattle.wit_model.specs.declared.model.PackageId.{PackageId}
+use Rattle.std.proofs.lemmas.{Str.encodes-chars, Str.IsUtf8-string_bytes, Grind.flat_map-append, Bool.eqb-true, Bool.and_from as both, List.Folds.flat_map-map}
+use Rattle.std.specs.{Prelude.codes, Prelude.is_some, Prelude.String, Str.chars, List.list_all, List.cons_option, List.flat_map}
+use Rattle.std.specs.declared.alloc.Global.{Global}
+use Rattle.wit_model.specs.declared.model.{Resolve.Resolve, InterfaceId.InterfaceId, PackageId.PackageId, TypeDefKind.TypeDefKind, TypeOwner.TypeOwner}
 use Rattle.wit_model.specs.declared.model.TypeDef.{TypeDef}
-use Rattle.wit_model.specs.declared.model.TypeDefKind.{TypeDefKind}
-use Rattle.wit_model.specs.declared.model.TypeDefKind.TheVariants as defined
-use Rattle.wit_model.specs.declared.model.TypeOwner.{TypeOwner}
-use Rattle.wit_model.specs.declared.model.TypeOwner.TheVariants as owner
-use Rattle.wit_model.specs.declared.model.«Type».TheVariants as value
-use Rattle.wit_model.specs.Lookup.{type_at}
-use Rattle.wit_model.specs.Names.{is_label}
-use Rattle.wit_model.specs.Parts.{same_owner}
-use Rattle.wit_model.specs.Rules.{has_items, in_list, is_stability, passes}
-use Rattle.wit_model.specs.Text.{Text, text_eq, text_of}
-use Rattle.wit_model.specs.Uses.{alias_target}
-use Rattle.wit_model.proofs.VersionLaws.{same_text}
-use Rattle.print_output.specs.OutputCall.{OutputCall}
-use Rattle.print_output.specs.OutputCall.OutputCall.{Keyword, Str}
-use Rattle.print_grammar.specs.Tree.{MemberTree, PathTree, UsedName}
-use Rattle.print_grammar.specs.Tree.MemberTree.{UseMember}
-use Rattle.print_items.specs.Shown.{Listed, Used, grouped, grouped_with, same_group, shown_gates, shown_path, used_of}
+use Rattle.wit_model.specs.{Lookup.type_at, Names.is_label, Parts.same_owner}
+use Rattle.wit_model.specs.{Rules.has_items, Rules.in_list, Rules.is_stability, Rules.passes, Text.Text, Text.text_eq, Text.text_of, Uses.alias_target}
+use Rattle.wit_model.proofs.{VersionLaws.same_text, TextLemmas.text_same}
+use Rattle.print_output.specs.{OutputCall.OutputCall, OutputCall.OutputCall.Keyword, OutputCall.OutputCall.Str}
+use Rattle.print_grammar.specs.{Tree.MemberTree, Tree.PathTree, Tree.UsedName, Tree.MemberTree.UseMember, WellNamed.is_well_gates, WellNamed.is_well_path}
 use Rattle.print_grammar.specs.Calls.{doc_calls, external_id_calls, gates_calls, members_calls, path_calls, printed_after, space, use_calls, used_name_calls}
+use Rattle.print_items.specs.Shown.{Listed, Used, grouped, grouped_with, same_group, shown_gates, shown_path, used_of}
 use Rattle.print_uses.specs.UseGroups.{group_end_calls, is_printable_use, joins, listed_use, listed_use_calls, more_names_calls, names_calls, new_group_calls, open_end_calls, use_after, use_from, use_run_calls, uses_calls}
-use Rattle.print_grammar.specs.WellNamed.{is_well_gates, is_well_path}
 use Rattle.print_uses.specs.declared.use_group.Use.{Use}
 use Rattle.base_lemmas.proofs.Bools.{both_ways, left_of, or_false, or_true, right_of}
-use Rattle.wit_model.proofs.TextLemmas.{text_same}
+use Rattle.wit_model.specs.declared.model.TypeDefKind.TheVariants as defined
+use Rattle.wit_model.specs.declared.model.TypeOwner.TheVariants as owner
+use Rattle.wit_model.specs.declared.model.«Type».TheVariants as value
 
 -- ---- a use alone
 

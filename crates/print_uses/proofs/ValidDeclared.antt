@@ -1,43 +1,25 @@
 -- What is shown of a valid `Resolve`'s declared types is well named.
 use Rattle.std.proofs.Common.{◌≡◌, refl, sym, ◌∙◌, Bool, true, false, ◌&&◌, List, [], ◌∷◌, length, map, filter, filter_map, Option, Some, None}
-use Rattle.std.specs.Prelude.{option_map, option_to_list, if◌then◌else◌}
-use Rattle.std.specs.Option.{option_map_or}
-use Rattle.std.specs.List.{list_all}
-use Rattle.wit_model.specs.declared.model.Resolve.{Resolve}
-use Rattle.wit_model.specs.declared.model.TypeDef.{TypeDef}
-use Rattle.wit_model.specs.declared.model.TypeId.{TypeId}
-use Rattle.wit_model.specs.declared.model.TypeOwner.{TypeOwner}
-use Rattle.wit_model.specs.declared.model.TypeDefKind.{TypeDefKind}
-use Rattle.wit_model.specs.declared.model.TypeDefKind.TheVariants as defined
-use Rattle.wit_model.specs.declared.model.Handle.TheVariants as handle
-use Rattle.wit_model.specs.declared.model.«Type».{«Type» as ValueType}
-use Rattle.wit_model.specs.declared.model.«Type».TheVariants as value
-use Rattle.wit_model.specs.declared.model.Field.{Field}
-use Rattle.wit_model.specs.declared.model.Case.{Case}
-use Rattle.wit_model.specs.declared.model.Flag.{Flag}
-use Rattle.wit_model.specs.declared.model.EnumCase.{EnumCase}
-use Rattle.wit_model.specs.declared.model.Function.{Function}
-use Rattle.wit_model.specs.declared.model.FunctionKind.{FunctionKind}
-use Rattle.wit_model.specs.declared.model.FunctionKind.TheVariants as call
-use Rattle.wit_model.specs.Text.{text_of}
-use Rattle.wit_model.specs.Names.{is_label}
-use Rattle.wit_model.specs.Lookup.{type_at}
-use Rattle.wit_model.specs.Calls.{own_name_of}
-use Rattle.wit_model.specs.Types.{number_of}
-use Rattle.wit_model.specs.Parts.{kind_numbers, handled}
+use Rattle.std.proofs.lemmas.Bool.{and_from as both}
+use Rattle.std.specs.{Prelude.option_map, Prelude.option_to_list, Prelude.if◌then◌else◌, Option.option_map_or, List.list_all}
+use Rattle.wit_model.specs.declared.model.{Resolve.Resolve, TypeOwner.TypeOwner, TypeDefKind.TypeDefKind, «Type».«Type» as ValueType, FunctionKind.FunctionKind}
+use Rattle.wit_model.specs.declared.model.{TypeDef.TypeDef, TypeId.TypeId, Field.Field, Case.Case, Flag.Flag, EnumCase.EnumCase, Function.Function}
+use Rattle.wit_model.specs.{Text.text_of, Names.is_label, Lookup.type_at, Types.number_of}
+use Rattle.wit_model.specs.{Calls.own_name_of, Parts.kind_numbers, Parts.handled, Valid.IsValid, Valid.is_place, Valid.numbers_in_range, Valid.labels}
 use Rattle.wit_model.specs.Rules.{in_list, passes, has_shape, kind_labels, is_stability, is_named_kind, is_own_of, function_in_range, function_labels, is_member}
-use Rattle.wit_model.specs.Valid.{IsValid, is_place, numbers_in_range, labels}
 use Rattle.wit_model.proofs.Lists.{list_all_filter_map}
 use Rattle.print_output.specs.OutputCall.{is_one_line}
 use Rattle.print_items.specs.Shown.{present_name, shown_docs, shown_type, type_name, type_trees, kind_tree, shown_field, shown_case, shown_flag, shown_enum_case, shown_params, function_prefix, shown_signature, constructor_result, shown_resource_member, belongs_to, shown_declared}
 use Rattle.print_grammar.specs.WellNamed.{is_well_type, is_well_field, is_well_case, is_well_label, is_well_param, is_well_signature, is_well_prefix, is_well_resource_member, is_well_declared}
 use Rattle.print_uses.proofs.WellLists.{kept_well, some_well}
+use Rattle.print_uses.proofs.{FunctionsWell.signature_well, FunctionsWell.function_prefix_well, FunctionsWell.optional_type_well, ValidNames.item_name_well}
 use Rattle.print_items.proofs.ShownWell.{docs_well}
 use Rattle.print_items.proofs.TypesWell.{is_below, below_of_numbers, type_rule, shape_of, handled_label, shown_type_well, shown_kind_well}
-use Rattle.print_uses.proofs.FunctionsWell.{signature_well, function_prefix_well, optional_type_well}
-use Rattle.print_uses.proofs.ValidNames.{item_name_well}
 use Rattle.base_lemmas.proofs.Bools.{left_of, right_of}
-use Rattle.std.proofs.lemmas.Bool.{and_from as both}
+use Rattle.wit_model.specs.declared.model.TypeDefKind.TheVariants as defined
+use Rattle.wit_model.specs.declared.model.Handle.TheVariants as handle
+use Rattle.wit_model.specs.declared.model.«Type».TheVariants as value
+use Rattle.wit_model.specs.declared.model.FunctionKind.TheVariants as call
 
 flags_well : (fs : List Flag) → list_all is_label (map (λ f. text_of f.name) fs) ≡ true → list_all is_well_label (map shown_flag fs) ≡ true
 flags_well [] h = refl

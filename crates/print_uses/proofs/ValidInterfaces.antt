@@ -1,34 +1,23 @@
 -- What is shown of a valid `Resolve`'s interfaces is well named.
 use Rattle.std.proofs.Common.{◌≡◌, refl, sym, ◌∙◌, true, ◌&&◌, List, [], ◌∷◌, ◌++◌, map, filter, Some, ℕ}
-use Rattle.std.specs.Prelude.{String, is_some}
-use Rattle.std.specs.List.{list_all}
-use Rattle.std.specs.Map.{values_of}
-use Rattle.std.proofs.lemmas.List.Folds.{list_all-map}
+use Rattle.std.proofs.lemmas.{List.Folds.list_all-map, Bool.and_from as both}
+use Rattle.std.specs.{Prelude.String, Prelude.is_some, List.list_all, Map.values_of}
 use Rattle.std.specs.declared.alloc.Global.{Global}
 use Rattle.indexmap.specs.IndexMap.{values}
-use Rattle.wit_model.specs.declared.model.Resolve.{Resolve}
-use Rattle.wit_model.specs.declared.model.Interface.{Interface}
-use Rattle.wit_model.specs.declared.model.InterfaceId.{InterfaceId}
-use Rattle.wit_model.specs.declared.model.TypeOwner.{TypeOwner}
-use Rattle.wit_model.specs.declared.model.TypeOwner.TheVariants as owner
-use Rattle.wit_model.specs.declared.model.Function.{Function}
-use Rattle.wit_model.specs.Text.{text_of, text_eq}
-use Rattle.wit_model.specs.Names.{is_label}
-use Rattle.wit_model.specs.Lookup.{interface_at}
+use Rattle.wit_model.specs.declared.model.{Resolve.Resolve, Interface.Interface, InterfaceId.InterfaceId, TypeOwner.TypeOwner, Function.Function}
+use Rattle.wit_model.specs.{Text.text_of, Text.text_eq, Names.is_label, Lookup.interface_at}
 use Rattle.wit_model.specs.Rules.{in_list, passes, package_number, is_stability, is_freestanding, function_in_range, function_labels, is_member}
 use Rattle.wit_model.specs.Valid.{IsValid, is_place, numbers_in_range, places, labels, order_of_types, function_names}
 use Rattle.wit_model.proofs.OnePath.{interface-passes}
 use Rattle.print_grammar.specs.Tree.MemberTree.{UseMember, TypeMember}
-use Rattle.print_items.specs.Shown.{Used, DeclaredWith, shown_uses, shown_declarations, path_from_owner, listed_types, listed_functions, function_prefix, shown_function, shown_interface}
 use Rattle.print_grammar.specs.WellNamed.{is_well_prefix, is_well_path, is_well_member}
-use Rattle.print_uses.proofs.WellLists.{each_well, kept_well}
-use Rattle.print_uses.proofs.FunctionsWell.{signature_well, function_prefix_well}
+use Rattle.print_items.specs.Shown.{Used, DeclaredWith, shown_uses, shown_declarations, path_from_owner, listed_types, listed_functions, function_prefix, shown_function, shown_interface}
+use Rattle.print_uses.proofs.{WellLists.each_well, WellLists.kept_well, FunctionsWell.signature_well, FunctionsWell.function_prefix_well}
 use Rattle.print_uses.proofs.ValidDeclared.{is_known_function}
 use Rattle.print_uses.proofs.ValidOwners.{is_named_interface, is_known_listed, own_names, listed_known}
 use Rattle.print_uses.proofs.ValidUses.{is_known_use, is_well_declared_with, owner_path_well, uses_known, declarations_well}
-use Rattle.base_lemmas.proofs.Bools.{given-not as implied, left_of, right_of}
-use Rattle.base_lemmas.proofs.Elements.{joined_well}
-use Rattle.std.proofs.lemmas.Bool.{and_from as both}
+use Rattle.base_lemmas.proofs.{Bools.given-not as implied, Bools.left_of, Bools.right_of, Elements.joined_well}
+use Rattle.wit_model.specs.declared.model.TypeOwner.TheVariants as owner
 
 module _ (r : Resolve) (valid : IsValid r) where
   -- ---- functions

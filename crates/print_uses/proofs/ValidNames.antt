@@ -1,28 +1,16 @@
 -- The own names of a valid `Resolve`'s functions are labels.
 use Rattle.std.proofs.Common.{◌≡◌, refl, sym, ap, ◌∙◌, subst, ℕ, ◌+◌, Bool, true, false, ◌&&◌, ◌||◌, ◌==◌, not, cond, [], ◌∷◌, ◌++◌, append_assoc, length, drop, Option, Some, None, option_and_then, arith}
-use Rattle.std.specs.Prelude.{codes, String, if◌then◌else◌}
-use Rattle.std.specs.List.{list_all, position_or_len}
-use Rattle.std.specs.Option.{option_map_or}
-use Rattle.std.specs.declared.alloc.Global.{Global}
 use Rattle.std.proofs.lemmas.List.{drop_at, length_push}
-use Rattle.wit_model.specs.declared.model.Resolve.{Resolve}
-use Rattle.wit_model.specs.declared.model.TypeDef.{TypeDef}
-use Rattle.wit_model.specs.declared.model.TypeOwner.{TypeOwner}
-use Rattle.wit_model.specs.declared.model.Function.{Function}
-use Rattle.wit_model.specs.declared.model.FunctionKind.{FunctionKind}
-use Rattle.wit_model.specs.declared.model.FunctionKind.TheVariants as call
-use Rattle.wit_model.specs.Text.{Text, text_of, optional_text}
-use Rattle.wit_model.specs.Names.{is_label, method_name, static_name}
-use Rattle.wit_model.specs.Lookup.{type_at, resource_of}
-use Rattle.wit_model.specs.Calls.{after_dot, own_name_of, item_name}
-use Rattle.wit_model.specs.Parts.{same_owner}
+use Rattle.std.specs.{Prelude.codes, Prelude.String, Prelude.if◌then◌else◌, List.list_all, List.position_or_len, Option.option_map_or}
+use Rattle.std.specs.declared.alloc.Global.{Global}
+use Rattle.wit_model.specs.declared.model.{Resolve.Resolve, TypeDef.TypeDef, TypeOwner.TypeOwner, Function.Function, FunctionKind.FunctionKind}
+use Rattle.wit_model.specs.{Text.Text, Text.text_of, Text.optional_text, Lookup.type_at, Lookup.resource_of, Valid.IsValid}
+use Rattle.wit_model.specs.{Names.is_label, Names.method_name, Names.static_name, Calls.after_dot, Calls.own_name_of, Calls.item_name, Parts.same_owner}
 use Rattle.wit_model.specs.Rules.{passes, after_prefix, is_freestanding, function_labels, is_resource_itself, resource_name, takes_self, is_member_name, is_member_of, is_member}
-use Rattle.wit_model.specs.Valid.{IsValid}
-use Rattle.wit_model.proofs.NameLaws.{label_lacks}
+use Rattle.wit_model.proofs.{NameLaws.label_lacks, Prefixes.after_sound}
 use Rattle.print_items.proofs.TypesWell.{label_of}
-use Rattle.base_lemmas.proofs.Bools.{left_of, right_of}
-use Rattle.base_lemmas.proofs.Elements.{joined_well}
-use Rattle.wit_model.proofs.Prefixes.{after_sound}
+use Rattle.base_lemmas.proofs.{Bools.left_of, Bools.right_of, Elements.joined_well}
+use Rattle.wit_model.specs.declared.model.FunctionKind.TheVariants as call
 
 -- ---- what follows a dot
 

@@ -1,43 +1,24 @@
 -- What a valid `Resolve` says of owners and of the names in their lists.
 use Rattle.std.proofs.Common.{◌≡◌, refl, sym, ap, ◌∙◌, subst, ℕ, ◌+◌, Bool, true, false, ◌&&◌, ◌||◌, not, eq-eqb, List, [], ◌∷◌, flat_map, map, Option, Some, None, option_map, length, arith}
-use Rattle.std.specs.Prelude.{is_some, String}
-use Rattle.std.specs.Option.{option_map_or}
-use Rattle.std.specs.List.{list_all, find}
-use Rattle.std.specs.Map.{values_of}
+use Rattle.std.proofs.lemmas.{Bool.ltb-true, Bool.and_from as both, Bool.false_from_ne_true as refuted, List.Folds.list_all-append}
+use Rattle.std.specs.{Prelude.is_some, Prelude.String, Option.option_map_or, List.list_all, List.find, Map.values_of}
 use Rattle.std.specs.declared.alloc.Global.{Global}
-use Rattle.std.proofs.lemmas.Bool.{ltb-true, and_from as both, false_from_ne_true as refuted}
-use Rattle.std.proofs.lemmas.List.Folds.{list_all-append}
-use Rattle.wit_model.specs.declared.error.EntryList.TheVariants as lists
-use Rattle.wit_model.specs.declared.model.Resolve.{Resolve}
-use Rattle.wit_model.specs.declared.model.Interface.{Interface}
-use Rattle.wit_model.specs.declared.model.InterfaceId.{InterfaceId}
+use Rattle.wit_model.specs.declared.model.{Resolve.Resolve, Interface.Interface, InterfaceId.InterfaceId, TypeDef.TypeDef, TypeId.TypeId, TypeOwner.TypeOwner}
 use Rattle.wit_model.specs.declared.model.World.{World}
-use Rattle.wit_model.specs.declared.model.TypeDef.{TypeDef}
-use Rattle.wit_model.specs.declared.model.TypeId.{TypeId}
-use Rattle.wit_model.specs.declared.model.TypeDefKind.TheVariants as defined
-use Rattle.wit_model.specs.declared.model.TypeOwner.{TypeOwner}
-use Rattle.wit_model.specs.declared.model.TypeOwner.TheVariants as owner
-use Rattle.wit_model.specs.declared.model.«Type».TheVariants as value
-use Rattle.wit_model.specs.Text.{Text, text_of, text_eq}
-use Rattle.wit_model.specs.Names.{is_label}
-use Rattle.wit_model.specs.Lookup.{interface_at, world_at, type_at}
-use Rattle.wit_model.specs.Uses.{alias_target, owner_interface}
+use Rattle.wit_model.specs.{Text.Text, Text.text_of, Text.text_eq, Names.is_label, Uses.alias_target, Uses.owner_interface}
+use Rattle.wit_model.specs.{Lookup.interface_at, Lookup.world_at, Lookup.type_at, Valid.IsValid, Valid.Rule, Valid.Keeps, Valid.order_of_types, Valid.owners}
 use Rattle.wit_model.specs.Parts.{kind_numbers, met_by, met_of, used_by_type, same_owner, has_owner}
-use Rattle.wit_model.specs.Rules.{in_list, passes, is_use, is_named_of}
-use Rattle.wit_model.specs.Valid.{IsValid, Rule, Keeps, order_of_types, owners}
-use Rattle.wit_model.specs.Checks.{KeepsIn, references, listings, has_name}
-use Rattle.wit_model.proofs.Entries.{each_from_at, each_from_all, lists_pass, none_breaks}
-use Rattle.wit_model.proofs.Checks.{references_kept}
-use Rattle.wit_model.proofs.TreeTable.{kept_numbers}
-use Rattle.wit_model.proofs.Owners.{named_met, owned_stays}
-use Rattle.wit_model.proofs.Listings.{interface_fits, misnamed_in_interface_breaks}
-use Rattle.wit_model.proofs.OnePath.{interface-passes, given-test}
+use Rattle.wit_model.specs.{Rules.in_list, Rules.passes, Rules.is_use, Rules.is_named_of, Checks.KeepsIn, Checks.references, Checks.listings, Checks.has_name}
+use Rattle.wit_model.proofs.{Entries.each_from_at, Entries.each_from_all, Entries.lists_pass, Entries.none_breaks, OnePath.interface-passes, OnePath.given-test}
+use Rattle.wit_model.proofs.{Checks.references_kept, Listings.interface_fits, Listings.misnamed_in_interface_breaks, PartsLemmas.owner_same as same_owner_is}
+use Rattle.wit_model.proofs.{TreeTable.kept_numbers, Owners.named_met, Owners.owned_stays, TextLemmas.text_same}
 use Rattle.print_items.specs.Shown.{Listed}
 use Rattle.print_items.proofs.TypesWell.{type_rule, label_of}
-use Rattle.base_lemmas.proofs.Bools.{left_of, right_of}
-use Rattle.base_lemmas.proofs.Lists.{within_there as one_there}
-use Rattle.wit_model.proofs.PartsLemmas.{owner_same as same_owner_is}
-use Rattle.wit_model.proofs.TextLemmas.{text_same}
+use Rattle.base_lemmas.proofs.{Bools.left_of, Bools.right_of, Lists.within_there as one_there}
+use Rattle.wit_model.specs.declared.error.EntryList.TheVariants as lists
+use Rattle.wit_model.specs.declared.model.TypeDefKind.TheVariants as defined
+use Rattle.wit_model.specs.declared.model.TypeOwner.TheVariants as owner
+use Rattle.wit_model.specs.declared.model.«Type».TheVariants as value
 
 -- ---- owners
 

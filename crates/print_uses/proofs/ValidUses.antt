@@ -1,40 +1,23 @@
 -- What is shown of a valid `Resolve`'s paths and uses is well named.
 use Rattle.std.proofs.Common.{◌≡◌, refl, ap, subst, ℕ, Bool, true, false, ◌&&◌, ◌||◌, ◌==◌, not, List, [], ◌∷◌, ◌++◌, Option, Some, None, option_and_then, filter_map, inl, inr}
-use Rattle.std.specs.Prelude.{is_some, if◌then◌else◌}
-use Rattle.std.specs.Option.{option_map_or}
-use Rattle.std.specs.List.{list_all}
 use Rattle.std.proofs.lemmas.Bool.{cases_Bool, and_from as both}
-use Rattle.wit_model.specs.declared.model.Resolve.{Resolve}
-use Rattle.wit_model.specs.declared.model.Package.{Package}
-use Rattle.wit_model.specs.declared.model.PackageId.{PackageId}
-use Rattle.wit_model.specs.declared.model.Interface.{Interface}
-use Rattle.wit_model.specs.declared.model.InterfaceId.{InterfaceId}
-use Rattle.wit_model.specs.declared.model.TypeDef.{TypeDef}
-use Rattle.wit_model.specs.declared.model.TypeDefKind.{TypeDefKind}
-use Rattle.wit_model.specs.declared.model.TypeDefKind.TheVariants as defined
-use Rattle.wit_model.specs.declared.model.TypeId.{TypeId}
-use Rattle.wit_model.specs.declared.model.TypeOwner.{TypeOwner}
-use Rattle.wit_model.specs.declared.model.TypeOwner.TheVariants as owner
-use Rattle.wit_model.specs.declared.model.«Type».{«Type» as ValueType}
-use Rattle.wit_model.specs.declared.model.«Type».TheVariants as value
-use Rattle.wit_model.specs.declared.model.Function.{Function}
-use Rattle.wit_model.specs.Text.{Text, text_of, text_eq}
-use Rattle.wit_model.specs.Names.{is_label}
-use Rattle.wit_model.specs.Lookup.{package_at, interface_at, type_at}
-use Rattle.wit_model.specs.Uses.{alias_target}
-use Rattle.wit_model.specs.Parts.{same_owner}
-use Rattle.wit_model.specs.Rules.{passes, is_stability, is_named_number, is_named_kind}
-use Rattle.wit_model.specs.Valid.{IsValid, package_names, labels, named_kinds}
+use Rattle.std.specs.{Prelude.is_some, Prelude.if◌then◌else◌, Option.option_map_or, List.list_all}
+use Rattle.wit_model.specs.declared.model.{Resolve.Resolve, Package.Package, Interface.Interface, TypeDef.TypeDef, TypeId.TypeId, TypeOwner.TypeOwner}
+use Rattle.wit_model.specs.declared.model.{PackageId.PackageId, InterfaceId.InterfaceId, TypeDefKind.TypeDefKind, «Type».«Type» as ValueType, Function.Function}
+use Rattle.wit_model.specs.{Text.Text, Text.text_of, Text.text_eq, Names.is_label, Rules.passes, Rules.is_stability, Rules.is_named_number, Rules.is_named_kind}
+use Rattle.wit_model.specs.{Lookup.package_at, Lookup.interface_at, Lookup.type_at, Valid.IsValid, Valid.package_names, Valid.labels, Valid.named_kinds}
+use Rattle.wit_model.specs.{Uses.alias_target, Parts.same_owner}
 use Rattle.wit_model.proofs.OnePath.{package-passes, interface-passes}
 use Rattle.print_grammar.specs.Tree.PathTree.{Local}
-use Rattle.print_items.specs.Shown.{present_name, shown_prefix, full_path, path_from, shown_path, Used, own_name, used_of, same_group, grouped_with, grouped, Listed, shown_uses, DeclaredWith, shown_declared, declared_with, shown_declarations, path_from_owner}
 use Rattle.print_grammar.specs.WellNamed.{is_well_prefix, is_well_path, is_well_used, are_well_some, is_well_declared}
-use Rattle.print_uses.proofs.WellLists.{given_well, joined_some}
-use Rattle.print_items.proofs.ShownWell.{given_label, optional_version, shown_prefix_well}
-use Rattle.print_items.proofs.TypesWell.{type_rule, name_well}
-use Rattle.print_uses.proofs.ValidDeclared.{is_known_function, declared_well}
+use Rattle.print_items.specs.Shown.{present_name, shown_prefix, full_path, path_from, shown_path, Used, own_name, used_of, same_group, grouped_with, grouped, Listed, shown_uses, DeclaredWith, shown_declared, declared_with, shown_declarations, path_from_owner}
+use Rattle.print_uses.proofs.{WellLists.given_well, WellLists.joined_some, ValidDeclared.is_known_function, ValidDeclared.declared_well}
 use Rattle.print_uses.proofs.ValidOwners.{is_named_interface, is_known_listed, target_interface_named}
+use Rattle.print_items.proofs.{ShownWell.given_label, ShownWell.optional_version, ShownWell.shown_prefix_well, TypesWell.type_rule, TypesWell.name_well}
 use Rattle.base_lemmas.proofs.Bools.{left_of, right_of}
+use Rattle.wit_model.specs.declared.model.TypeDefKind.TheVariants as defined
+use Rattle.wit_model.specs.declared.model.TypeOwner.TheVariants as owner
+use Rattle.wit_model.specs.declared.model.«Type».TheVariants as value
 
 -- a use of a named interface, whose names are labels
 abbrev pub is_known_use : Resolve → Used → Bool

@@ -1,12 +1,10 @@
 -- Lists whose elements pass a test.
 use Rattle.std.proofs.Common.{◌≡◌, refl, Bool, true, false, ◌&&◌, nat_lt, List, [], ◌∷◌, ◌++◌, length, map, filter, filter_map, Option, Some, None, drop, arith, inl, inr}
-use Rattle.std.specs.Prelude.{if◌then◌else◌}
-use Rattle.std.specs.List.{list_all, cons_option}
 use Rattle.std.proofs.lemmas.Bool.{cases_Bool, lt-ltb, and_from as both}
+use Rattle.std.specs.{Prelude.if◌then◌else◌, List.list_all, List.cons_option}
 use Rattle.wit_model.specs.Rules.{passes, has_items}
 use Rattle.print_grammar.specs.WellNamed.{are_well_some}
-use Rattle.base_lemmas.proofs.Bools.{left_of, right_of}
-use Rattle.base_lemmas.proofs.Elements.{joined_well}
+use Rattle.base_lemmas.proofs.{Bools.left_of, Bools.right_of, Elements.joined_well}
 
 -- what is made of each element
 pub each_well : {X Y : Type 0} (known : X → Bool) (shown : X → Y) (well : Y → Bool) → ((x : X) → known x ≡ true → well (shown x) ≡ true) → (xs : List X) → list_all known xs ≡ true

@@ -1,35 +1,22 @@
 -- What a package has to be to be printed: its names are labels and its versions versions.
 use Rattle.std.specs.Prelude.{◌≡◌, ◌++◌, ◌∷◌, [], List, codes, Bool, true, false, ◌&&◌, ◌||◌, not, Some, String, map, filter, if◌then◌else◌}
-use Rattle.std.specs.List.{list_all, flat_map}
-use Rattle.std.specs.Option.{option_map_or}
+use Rattle.std.specs.{List.list_all, List.flat_map, Option.option_map_or}
 use Rattle.std.specs.declared.alloc.Global.{Global}
-use Rattle.wit_model.specs.declared.model.Resolve.{Resolve}
-use Rattle.wit_model.specs.declared.model.Package.{Package}
-use Rattle.wit_model.specs.declared.model.PackageId.{PackageId}
-use Rattle.wit_model.specs.declared.model.InterfaceId.{InterfaceId}
-use Rattle.wit_model.specs.declared.model.World.{World}
-use Rattle.wit_model.specs.declared.model.WorldId.{WorldId}
-use Rattle.wit_model.specs.declared.model.WorldKey.{WorldKey}
-use Rattle.wit_model.specs.declared.model.WorldKey.TheVariants as key
-use Rattle.wit_model.specs.declared.model.WorldItem.{WorldItem}
-use Rattle.wit_model.specs.declared.model.WorldItem.TheVariants as item
-use Rattle.wit_model.specs.declared.model.Function.{Function}
-use Rattle.wit_model.specs.declared.model.TypeId.{TypeId}
-use Rattle.wit_model.specs.declared.model.TypeOwner.TheVariants as owner
-use Rattle.wit_model.specs.Text.{Text, text_of}
-use Rattle.wit_model.specs.Names.{is_label}
-use Rattle.wit_model.specs.Lookup.{type_at, world_at}
+use Rattle.wit_model.specs.declared.model.{Resolve.Resolve, Package.Package, WorldId.WorldId, TypeId.TypeId}
+use Rattle.wit_model.specs.declared.model.{PackageId.PackageId, InterfaceId.InterfaceId, World.World, WorldKey.WorldKey, WorldItem.WorldItem, Function.Function}
+use Rattle.wit_model.specs.{Text.Text, Text.text_of, Names.is_label, Lookup.type_at, Lookup.world_at}
 use Rattle.wit_model.specs.Rules.{in_list, is_export_item, is_freestanding, has_items, is_id, item_in_range, key_in_range, package_number, passes}
 use Rattle.print_output.specs.declared.type_kind.TypeKind.TheVariants.{WorldDeclaration}
 use Rattle.print_output.specs.OutputCall.{OutputCall}
 use Rattle.print_output.specs.OutputCall.OutputCall.{IndentStart, IndentEnd, Keyword, Newline, Ty}
-use Rattle.print_grammar.specs.Keyword.{escaped}
-use Rattle.print_grammar.specs.Tree.{MemberTree}
-use Rattle.print_grammar.specs.Tree.MemberTree.{TypeMember}
-use Rattle.print_items.specs.Shown.{extern_prefix, imported_functions, is_freestanding_item, is_interface_item, listed_imports, shown_docs, shown_gates, shown_head, shown_extern, shown_function, shown_import, shown_interface_item, shown_declared, shown_package, shown_prefix, shown_world_item}
-use Rattle.print_uses.specs.UseGroups.{is_listed_function, is_listed_type, type_members}
+use Rattle.print_grammar.specs.{Keyword.escaped, Tree.MemberTree, Tree.MemberTree.TypeMember}
 use Rattle.print_grammar.specs.WellNamed.{is_well_declared, is_well_gates, is_well_item, is_well_member, is_well_prefix, is_well_world_member}
 use Rattle.print_grammar.specs.Calls.{members_calls, printed_after, space, doc_calls, gates_calls, world_extern_calls, package_item_calls, package_outer_calls, package_start_calls, package_end_calls, package_calls, line_after_calls}
+use Rattle.print_items.specs.Shown.{extern_prefix, imported_functions, is_freestanding_item, is_interface_item, listed_imports, shown_docs, shown_gates, shown_head, shown_extern, shown_function, shown_import, shown_interface_item, shown_declared, shown_package, shown_prefix, shown_world_item}
+use Rattle.print_uses.specs.UseGroups.{is_listed_function, is_listed_type, type_members}
+use Rattle.wit_model.specs.declared.model.WorldKey.TheVariants as key
+use Rattle.wit_model.specs.declared.model.WorldItem.TheVariants as item
+use Rattle.wit_model.specs.declared.model.TypeOwner.TheVariants as owner
 
 -- a type of an owner, in range, whose declaration is well named with the functions among which a resource's stand
 abbrev pub is_printable_type : Resolve → List Function → TypeId → Bool

@@ -1,29 +1,17 @@
 -- The calls for uses, one after the other: a use joins the group of the use before it, or begins the next group.
 use Rattle.std.specs.Prelude.{Bool, false, List, [], ◌∷◌, ◌++◌, ◌&&◌, codes, map, Option, Some, None, option_and_then, if◌then◌else◌}
-use Rattle.std.specs.List.{flat_map}
-use Rattle.std.specs.Option.{option_map_or}
-use Rattle.std.specs.Borrow.{Bor}
-use Rattle.wit_model.specs.declared.model.Resolve.{Resolve}
-use Rattle.wit_model.specs.declared.model.InterfaceId.{InterfaceId}
-use Rattle.wit_model.specs.declared.model.PackageId.{PackageId}
-use Rattle.wit_model.specs.declared.model.TypeOwner.{TypeOwner}
-use Rattle.wit_model.specs.declared.model.TypeOwner.TheVariants as owner
+use Rattle.std.specs.{List.flat_map, Option.option_map_or, Borrow.Bor}
+use Rattle.wit_model.specs.declared.model.{Resolve.Resolve, InterfaceId.InterfaceId, PackageId.PackageId, TypeOwner.TypeOwner, Function.Function, TypeId.TypeId}
 use Rattle.wit_model.specs.declared.model.TypeDef.{TypeDef}
-use Rattle.wit_model.specs.declared.model.Function.{Function}
-use Rattle.wit_model.specs.declared.model.TypeId.{TypeId}
-use Rattle.wit_model.specs.Lookup.{type_at}
-use Rattle.wit_model.specs.Names.{is_label}
-use Rattle.wit_model.specs.Text.{Text}
-use Rattle.wit_model.specs.Parts.{same_owner}
+use Rattle.wit_model.specs.{Lookup.type_at, Names.is_label, Text.Text, Parts.same_owner}
 use Rattle.wit_model.specs.Rules.{function_in_range, function_labels, in_list, is_member, is_named_of, is_stability}
-use Rattle.print_output.specs.OutputCall.{OutputCall}
-use Rattle.print_output.specs.OutputCall.OutputCall.{Keyword, Semicolon, Str}
-use Rattle.print_grammar.specs.Tree.{MemberTree, PathTree, Prefix, UsedName}
-use Rattle.print_grammar.specs.Tree.MemberTree.{TypeMember, UseMember}
-use Rattle.print_items.specs.Shown.{DeclaredWith, Listed, Used, declared_with, own_name, present_name, same_group, shown_declarations, shown_external_id, shown_gates, shown_path, shown_uses, used_of}
+use Rattle.print_output.specs.{OutputCall.OutputCall, OutputCall.OutputCall.Keyword, OutputCall.OutputCall.Semicolon, OutputCall.OutputCall.Str}
+use Rattle.print_grammar.specs.{Tree.MemberTree, Tree.PathTree, Tree.Prefix, Tree.UsedName, Tree.MemberTree.TypeMember, Tree.MemberTree.UseMember}
 use Rattle.print_grammar.specs.Calls.{external_id_calls, gates_calls, path_calls, separated, space, used_name_calls}
 use Rattle.print_grammar.specs.WellNamed.{is_well_gates, is_well_path}
+use Rattle.print_items.specs.Shown.{DeclaredWith, Listed, Used, declared_with, own_name, present_name, same_group, shown_declarations, shown_external_id, shown_gates, shown_path, shown_uses, used_of}
 use Rattle.print_uses.specs.declared.use_group.Use.{Use}
+use Rattle.wit_model.specs.declared.model.TypeOwner.TheVariants as owner
 
 -- a use, as it is shown
 abbrev pub shown_use : Use → Used

@@ -2,12 +2,8 @@
 #![tactic(auto, using(print_items::proofs::Driven::driving))]
 
 ghost use Rattle.std.specs.Prelude.{◌≡◌, true, false};
-ghost use Rattle.wit_model.specs.Text.{text_of};
-ghost use Rattle.wit_model.specs.Names.{is_label, is_version_text};
-ghost use Rattle.wit_model.specs.Lookup.{optional_version_text};
-ghost use Rattle.wit_model.specs.Rules.{passes};
-ghost use Rattle.print_items.specs.Drives.{Drives, LineIs};
-ghost use Rattle.print_items.specs.Shown.{shown_head};
+ghost use Rattle.wit_model.specs.{Text.text_of, Names.is_label, Names.is_version_text, Lookup.optional_version_text, Rules.passes};
+ghost use Rattle.print_items.specs.{Drives.Drives, Drives.LineIs, Shown.shown_head};
 ghost use Rattle.print_grammar.specs.Calls.{package_name_calls, package_outer_calls, version_calls};
 
 use print_items::{Driver, write_docs};

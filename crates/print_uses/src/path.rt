@@ -2,16 +2,10 @@
 #![tactic(auto, using(print_items::proofs::Driven::driving))]
 
 ghost use Rattle.std.specs.Prelude.{◌≡◌, true, false};
-ghost use Rattle.wit_model.specs.Names.{is_label, is_version_text};
-ghost use Rattle.wit_model.specs.Lookup.{optional_version_text};
-ghost use Rattle.wit_model.specs.Rules.{in_list, package_number, passes};
-ghost use Rattle.wit_model.specs.Text.{text_of};
-ghost use Rattle.wit_model.specs.Valid.{IsValid};
-ghost use Rattle.print_items.specs.Drives.{Drives, LineIs};
-ghost use Rattle.print_items.specs.Shown.{path_from, shown_path};
-ghost use Rattle.print_grammar.specs.Tree.PathTree.{Full};
-ghost use Rattle.print_grammar.specs.Calls.{path_calls};
-ghost use Rattle.print_grammar.specs.WellNamed.{is_well_path};
+ghost use Rattle.wit_model.specs.{Names.is_label, Names.is_version_text, Lookup.optional_version_text, Rules.in_list, Rules.package_number, Rules.passes};
+ghost use Rattle.wit_model.specs.{Text.text_of, Valid.IsValid};
+ghost use Rattle.print_items.specs.{Drives.Drives, Drives.LineIs, Shown.path_from, Shown.shown_path};
+ghost use Rattle.print_grammar.specs.{Tree.PathTree.Full, Calls.path_calls, WellNamed.is_well_path};
 ghost use Rattle.print_uses.specs.Paths.{package_path_calls};
 
 use crate::parts::write_version;

@@ -2,27 +2,17 @@
 #![tactic(auto, using(print_items::proofs::Driven::driving))]
 
 ghost use Rattle.std.specs.Prelude.{◌≡◌, ◌++◌, ◌∷◌, ◌&&◌, ◌||◌, [], codes, true, false, option_map, IfOk, IfSome, OnErr, OnOk, IfErr};
-ghost use Rattle.std.specs.List.{list_all};
-ghost use Rattle.std.specs.Option.{option_eq};
-ghost use Rattle.std.specs.Str.{chars};
+ghost use Rattle.std.specs.{List.list_all, Option.option_eq, Str.chars};
 ghost use Rattle.semver.specs.Identifiers.{build_text, pre_text, version_text};
-ghost use Rattle.wit_model.specs.Lookup.{optional_version_text};
-ghost use Rattle.wit_model.specs.Names.{is_label, is_version};
-ghost use Rattle.wit_model.specs.Parts.{same_owner as same_owner_lem};
-ghost use Rattle.wit_model.specs.Rules.{in_list, is_stability, passes, same_version as same_version_lem};
-ghost use Rattle.wit_model.specs.Text.{text_eq, text_of};
-ghost use Rattle.wit_model.specs.Types.{number_of as number_of_lem};
-ghost use Rattle.wit_model.specs.Uses.{alias_target};
-ghost use Rattle.wit_model.specs.Valid.{IsValid};
-ghost use Rattle.wit_model.specs.Refusals.{IsMemory};
+ghost use Rattle.wit_model.specs.{Lookup.optional_version_text, Names.is_label, Names.is_version, Text.text_eq, Text.text_of, Types.number_of as number_of_lem};
+ghost use Rattle.wit_model.specs.{Parts.same_owner as same_owner_lem, Rules.in_list, Rules.is_stability, Rules.passes, Rules.same_version as same_version_lem};
+ghost use Rattle.wit_model.specs.{Uses.alias_target, Valid.IsValid, Refusals.IsMemory};
 ghost use Rattle.print_items.specs.Drives.{Drives, LineIs, Makes, MakesInPart};
-ghost use Rattle.print_output.specs.OutputCall.{OutputCall, Moves, Begins};
-ghost use Rattle.print_grammar.specs.Keyword.{escaped};
 ghost use Rattle.print_items.specs.Shown.{own_name, same_gates as same_gates_lem, same_group as same_group_lem, shown_external_id, shown_gates, shown_path, used_of};
-ghost use Rattle.print_grammar.specs.Tree.Gates.{Since, Ungated, Unstable};
-ghost use Rattle.print_grammar.specs.Calls.{members_calls, path_calls, printed_after, space, used_name_calls};
+ghost use Rattle.print_output.specs.OutputCall.{OutputCall, Moves, Begins};
+ghost use Rattle.print_grammar.specs.{Keyword.escaped, Tree.Gates.Since, Tree.Gates.Ungated, Tree.Gates.Unstable};
+ghost use Rattle.print_grammar.specs.{Calls.members_calls, Calls.path_calls, Calls.printed_after, Calls.space, Calls.used_name_calls, WellNamed.is_well_path};
 ghost use Rattle.print_uses.specs.UseGroups.{as_listed, group_end_calls, group_start_calls, is_listed_type, is_printable_use, listed_of, listed_use, listed_use_calls, more_names_calls, new_group_calls, open_end_calls, shown_use, use_after, use_from as use_from_lem, use_run_calls, uses_of};
-ghost use Rattle.print_grammar.specs.WellNamed.{is_well_path};
 
 use crate::path::write_path;
 use print_items::{Driver, present, write_external_id, write_gates};

@@ -1,14 +1,11 @@
 -- The component type of an interface, in numbers.
 use Rattle.std.proofs.Common.{◌≡◌, refl, sym, ap, subst, ◌∙◌, ℕ, Bool, true, false, not, ◌&&◌, List, [], ◌∷◌, map, Option, Some, None, option_map, is_none}
+use Rattle.std.proofs.lemmas.Option.{same_Some as same-some}
 use Rattle.std.specs.List.{AllByRecursion}
-use Rattle.wit_model.specs.Names.{PackageIdentity}
-use Rattle.wit_model.specs.Text.{Text, text_eq}
-use Rattle.wit_model.proofs.VersionLaws.{same_text}
+use Rattle.wit_model.specs.{Names.PackageIdentity, Text.Text, Text.text_eq}
+use Rattle.wit_model.proofs.{VersionLaws.same_text, TextLemmas.text_same}
 use Rattle.comp_bytes.specs.Reading.{◌>>=◌}
-use Rattle.comp_meaning.specs.Follow.{View, each, is_filled, provided}
-use Rattle.comp_meaning.specs.Rules.{distinct}
-use Rattle.comp_meaning.specs.Reads as reads
-use Rattle.comp_meaning.specs.Reads.{Part, labelled_path}
+use Rattle.comp_meaning.specs.{Follow.View, Follow.each, Follow.is_filled, Follow.provided, Rules.distinct, Reads.Part, Reads.labelled_path}
 use Rattle.plan_meaning.specs.NumberedMembers.{Homes, IsHomeOf, HomesStand, exported_view, imported_view, shown_view}
 use Rattle.plan_meaning.specs.NumberedRules.{Fact, IsKnown}
 use Rattle.plan_meaning.specs.NumberedViews.{AllOf, AreTables, IsPart, NumberedType, Tables, path_text, view_of}
@@ -17,9 +14,8 @@ use Rattle.plan_meaning.proofs.NumberedMembers.{export_in_numbers, imports_in_nu
 use Rattle.plan_meaning.proofs.NumberedWorlds.{path_is, paths_in_numbers, reached_in_numbers}
 use Rattle.read_exports.specs.Interfaces.{IsInterfacePart, IsPartOf, InterfacesInNumbers, Placed, InterfaceScopesInNumbers, at_home, elsewhere, interface_of_scope, shown_interface}
 use Rattle.base_lemmas.proofs.Lists.{map_of_map}
-use Rattle.std.proofs.lemmas.Option.{same_Some as same-some}
 use Rattle.comp_meaning.proofs.FollowLemmas.{provided_is}
-use Rattle.wit_model.proofs.TextLemmas.{text_same}
+use Rattle.comp_meaning.specs.Reads as reads
 
 no_some : {A B : Type 0} (x : A) → None ≡ Some x → B
 no_some x e = let wrong : ⊥ = cc in absurd wrong

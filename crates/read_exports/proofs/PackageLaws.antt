@@ -3,9 +3,8 @@ use Rattle.std.proofs.Common.{◌≡◌, refl, sym, ap, ◌∙◌, ℕ, Bool, no
 use Rattle.std.specs.List.{list_all, list_any}
 use Rattle.wit_model.specs.Text.{Text}
 use Rattle.plan_meaning.specs.NumberedMembers.{Homes, NumberedMember, are_interfaces, are_package, is_named_in, is_of_package, is_one_world, sights_of_members, stands_at_top}
-use Rattle.plan_meaning.specs.NumberedRules.{Fact}
+use Rattle.plan_meaning.specs.{NumberedRules.Fact, NumberedWorlds.NumberedScope, NumberedWorlds.sights_of_scope}
 use Rattle.plan_meaning.specs.NumberedViews.{NumberedSight, Tables, agree_in_numbers, agree_with_first_in_numbers}
-use Rattle.plan_meaning.specs.NumberedWorlds.{NumberedScope, sights_of_scope}
 use Rattle.plan_parts.proofs.FirstAgreement.{agree_by_first}
 use Rattle.read_exports.specs.Members.{stands_among, ArePlaces}
 use Rattle.base_lemmas.proofs.Bools.{and_line}

@@ -1,7 +1,6 @@
 -- Walks along lists, step by step.
 use Rattle.std.proofs.Common.{◌≡◌, ◌≢◌, refl, sym, ap, ◌∙◌, ℕ, ◌+◌, ◌<◌, ◌≤◌, false, List, [], ◌∷◌, ◌++◌, map, drop, length, get_or, Option, Some, None, option_map}
-use Rattle.std.proofs.Math.ListN.{drop_of_length-le}
-use Rattle.std.proofs.lemmas.List.{drop_more, map-append, drop-map as drop_mapped}
+use Rattle.std.proofs.{Math.ListN.drop_of_length-le, lemmas.List.drop_more, lemmas.List.map-append, lemmas.List.drop-map as drop_mapped}
 use Rattle.comp_bytes.specs.Reading.{◌>>=◌}
 use Rattle.comp_meaning.specs.Follow.{each}
 use Rattle.plan_meaning.specs.NumberedViews.{NumberedSight, NumberedView}

@@ -1,22 +1,16 @@
 -- The component type of an interface, in numbers: its one export and its imports (Component Model WIT.md, "Package Format").
 use Rattle.std.specs.Prelude.{◌≡◌, ◌∷◌, ◌&&◌, ℕ, List, map, Option, Some, None, Vec, slice_get}
 use Rattle.std.specs.declared.alloc.Global.{Global}
-use Rattle.wit_model.specs.Names.{PackageIdentity}
-use Rattle.wit_model.specs.Text.{Text}
-use Rattle.comp_bytes.specs.Raw.{Declarations}
-use Rattle.comp_bytes.specs.Reading.{◌>>=◌}
+use Rattle.wit_model.specs.{Names.PackageIdentity, Text.Text}
+use Rattle.comp_bytes.specs.{Raw.Declarations, Reading.◌>>=◌}
 use Rattle.comp_meaning.specs.Follow.{Scope, component_scope, each, provided}
-use Rattle.comp_meaning.specs.Reads as reads
-use Rattle.comp_meaning.specs.Reads.{Part, interface, interface_part, labelled_path}
-use Rattle.comp_meaning.specs.Rules.{distinct}
+use Rattle.comp_meaning.specs.{Reads.Part, Reads.interface, Reads.interface_part, Reads.labelled_path, Rules.distinct}
 use Rattle.plan_meaning.specs.NumberedMembers.{Homes, HomesStand, exported_view, home_at, imported_view, shown_view}
-use Rattle.plan_meaning.specs.NumberedRules.{Fact}
-use Rattle.plan_meaning.specs.NumberedViews.{AreTables, NumberedView, Tables, view_of}
+use Rattle.plan_meaning.specs.{NumberedRules.Fact, NumberedViews.AreTables, NumberedViews.NumberedView, NumberedViews.Tables, NumberedViews.view_of}
 use Rattle.plan_meaning.specs.NumberedWorlds.{NumberedScope, ScopeStands, Shows, are_once, are_reached}
-use Rattle.read_rules.specs.Reached.{numbered_import}
-use Rattle.read_rules.specs.Sights.{placed_view}
-use Rattle.read_rules.specs.declared.reached.ImportedView.{ImportedView}
-use Rattle.read_rules.specs.declared.scopes.Instance.{Instance}
+use Rattle.read_rules.specs.{Reached.numbered_import, Sights.placed_view}
+use Rattle.read_rules.specs.declared.{reached.ImportedView.ImportedView, scopes.Instance.Instance}
+use Rattle.comp_meaning.specs.Reads as reads
 
 -- a view under the place of its interface
 abbrev pub Placed : Type 0

@@ -1,22 +1,14 @@
 -- What is exported at the top, as the numbers and texts that it stands for (Component Model WIT.md, "Package Format").
 use Rattle.std.specs.Prelude.{◌≡◌, ℕ, Bool, not, ◌||◌, List, [], map, Option}
-use Rattle.std.specs.Borrow.{Bor}
-use Rattle.std.specs.List.{list_any}
-use Rattle.wit_model.specs.Names.{PackageIdentity}
-use Rattle.wit_model.specs.Text.{Text}
-use Rattle.wit_model.specs.Uses.{has}
+use Rattle.std.specs.{Borrow.Bor, List.list_any}
+use Rattle.wit_model.specs.{Names.PackageIdentity, Text.Text, Uses.has}
 use Rattle.read_homes.specs.Homes.{given_home}
-use Rattle.plan_meaning.specs.NumberedMembers as members
 use Rattle.plan_meaning.specs.NumberedMembers.{Homes, NumberedMember, NumberedPart, are_package, home_at, is_interface_of, is_of_package, is_one_world}
 use Rattle.plan_meaning.specs.NumberedViews.{NumberedSight}
-use Rattle.read_rules.specs.Reached.{numbered_import}
-use Rattle.read_rules.specs.Scopes.{numbered_scope}
-use Rattle.read_rules.specs.Tables.{known_in, numbered_tables}
-use Rattle.read_rules.specs.Views.{numbered_view}
-use Rattle.read_rules.specs.declared.scopes.Scope.{Scope}
-use Rattle.read_rules.specs.declared.tables.Tables.{Tables}
-use Rattle.read_exports.specs.declared.members.Member.{Member}
-use Rattle.read_exports.specs.declared.members.Part.{Part}
+use Rattle.read_rules.specs.{Reached.numbered_import, Scopes.numbered_scope, Tables.known_in, Tables.numbered_tables, Views.numbered_view}
+use Rattle.read_rules.specs.declared.{scopes.Scope.Scope, tables.Tables.Tables}
+use Rattle.read_exports.specs.declared.members.{Member.Member, Part.Part}
+use Rattle.plan_meaning.specs.NumberedMembers as members
 use Rattle.read_exports.specs.declared.members.Part.TheVariants as parts
 
 abbrev pub numbered_part : Part → NumberedPart

@@ -3,9 +3,7 @@
 ghost use Rattle.std.specs.Prelude.{◌≡◌, ◌∷◌, map, option_map, IfOk};
 ghost use Rattle.comp_meaning.specs.Follow.{each};
 ghost use Rattle.plan_meaning.specs.NumberedMembers.{imported_view as imported_view_lem};
-ghost use Rattle.read_rules.specs.Reached.{numbered_import};
-ghost use Rattle.read_rules.specs.Scopes.{numbered_scope, numbered_seen};
-ghost use Rattle.read_rules.specs.Tables.{numbered_tables};
+ghost use Rattle.read_rules.specs.{Reached.numbered_import, Scopes.numbered_scope, Scopes.numbered_seen, Tables.numbered_tables};
 ghost use Rattle.read_exports.specs.Interfaces.{numbered_interface, shown_interface};
 
 use read_rules::{

@@ -3,10 +3,7 @@
 ghost use Rattle.std.specs.List.{flat_map};
 ghost use Rattle.std.specs.Prelude.{◌≡◌, ◌++◌, ◌∷◌, [], false, true, map, IfOk};
 ghost use Rattle.plan_meaning.specs.NumberedMembers.{sights_of_members as sights_of_members_lem, sights_of_part};
-ghost use Rattle.read_rules.specs.Reached.{numbered_import};
-ghost use Rattle.read_rules.specs.Sights.{numbered_sight, AreBehind};
-ghost use Rattle.read_rules.specs.Tables.{numbered_tables};
-ghost use Rattle.read_rules.specs.Views.{numbered_view};
+ghost use Rattle.read_rules.specs.{Reached.numbered_import, Sights.numbered_sight, Sights.AreBehind, Tables.numbered_tables, Views.numbered_view};
 ghost use Rattle.read_exports.specs.Members.{numbered_members, numbered_part};
 
 use crate::members::{Member, Part};

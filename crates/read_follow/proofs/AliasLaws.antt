@@ -1,27 +1,19 @@
 -- Which slots are names of interfaces with a path.
 use Rattle.std.proofs.Common.{◌≡◌, refl, sym, ap, ◌∙◌, subst, ℕ, ◌+◌, ◌-◌, ◌<◌, arith, inl, inr, Bool, true, false, cond, List, length, Option, Some, None, slice_get, unwrap_or}
 use Rattle.std.proofs.lemmas.Bool.{lt-ltb, le-ltb, false≢true}
-use Rattle.wit_model.specs.Meaning.{Signature}
-use Rattle.wit_model.specs.Text.{Text}
-use Rattle.wit_model.specs.Tree.{Place, Tree}
-use Rattle.wit_model.specs.Types.{no_tree}
-use Rattle.comp_meaning.specs.Follow as follow
+use Rattle.wit_model.specs.{Meaning.Signature, Text.Text, Tree.Place, Tree.Tree, Types.no_tree}
 use Rattle.comp_meaning.specs.Follow.{is_foreign_name}
 use Rattle.read_follow.specs.declared.slots.Slot.{Slot}
-use Rattle.read_follow.specs.declared.slots.Slot.TheVariants as slots
-use Rattle.read_follow.specs.Defining.{ArePlacedBelow}
-use Rattle.read_follow.specs.Following.{is_path, AreMarked, IsNamePart, IsSlotIn}
-use Rattle.read_follow.specs.Functions.{FunctionShape}
+use Rattle.read_follow.specs.{Defining.ArePlacedBelow, Functions.FunctionShape, Placed.apart, Placed.MayMeet, Placed.SlotOver, Placed.TreeOver}
+use Rattle.read_follow.specs.{Following.is_path, Following.AreMarked, Following.IsNamePart, Following.IsSlotIn, Slots.resource_slot, Slots.slot_in}
 use Rattle.read_follow.specs.InstanceScopes.{foreign_part, foreign_slot, is_marked, name_place, place_in}
-use Rattle.read_follow.specs.Placed.{apart, MayMeet, SlotOver, TreeOver}
-use Rattle.read_follow.specs.Slots.{resource_slot, slot_in}
 use Rattle.plan_meaning.specs.Shapes.{Shape, form_code, named_shape, part_tree, primitives, shape_tree, shape_trees, IsShape, a_name, a_node, IsTable}
 use Rattle.plan_meaning.proofs.ShapeLaws.{name_tree, node_tree, part_behind, part_front, split_part, tree_at_number}
-use Rattle.read_follow.proofs.DefiningLaws.{all_at}
-use Rattle.read_follow.proofs.FollowingLaws.{name_part}
-use Rattle.read_follow.proofs.OverLaws.{name_over}
-use Rattle.base_lemmas.proofs.Lists.{mapped_get, within_there as slice_there}
 use Rattle.plan_meaning.proofs.NumberedRules.{no_name as no_sort}
+use Rattle.read_follow.proofs.{DefiningLaws.all_at, FollowingLaws.name_part, OverLaws.name_over}
+use Rattle.base_lemmas.proofs.Lists.{mapped_get, within_there as slice_there}
+use Rattle.comp_meaning.specs.Follow as follow
+use Rattle.read_follow.specs.declared.slots.Slot.TheVariants as slots
 
 -- the place of a primitive, and of a number of the table
 place_front : (shapes : List Shape) (k : ℕ) → k < 14 → place_in shapes k ≡ None

@@ -1,13 +1,10 @@
 -- A body has all the bytes of its items.
 use Rattle.std.proofs.Common.{◌≡◌, refl, sym, ap, ◌∙◌, ℕ, ◌+◌, ◌-◌, ◌≤◌, arith, List, [], ◌++◌, length, take, Option, Some, None, append-nil}
-use Rattle.std.proofs.lemmas.List.{take_at, length-append}
-use Rattle.comp_bytes.specs.Form.{Spellings, Sequence}
-use Rattle.comp_bytes.specs.Laws.{IsReadBy}
-use Rattle.comp_bytes.specs.Reading.{Reader, sequence_at}
+use Rattle.std.proofs.lemmas.{List.take_at, List.length-append, Option.same_Some as some_is}
+use Rattle.comp_bytes.specs.{Form.Spellings, Form.Sequence, Laws.IsReadBy, Reading.Reader, Reading.sequence_at}
 use Rattle.comp_bytes.proofs.PartLaws.{sequence_takes, sequence_again}
 use Rattle.read_follow.specs.declared.bodies.Body.{Body}
 use Rattle.read_follow.specs.Bodies.{behind, items_of, items_in, IsBody}
-use Rattle.std.proofs.lemmas.Option.{same_Some as some_is}
 
 abbrev followed_by : {A : Type 0} → A → List ℕ → Option (A × List ℕ)
 followed_by x rest = Some (x, rest)

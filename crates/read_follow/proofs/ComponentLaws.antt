@@ -1,53 +1,33 @@
 -- One entry of a component type after the other.
 use Rattle.std.proofs.Common.{◌≡◌, inl, inr, refl, sym, ap, ◌∙◌, subst, ℕ, zero, suc, ◌+◌, ◌-◌, ◌<◌, ◌≤◌, ◌==◌, ◌&&◌, arith, Bool, true, false, cond, List, [], ◌∷◌, ◌++◌, map, append_assoc, length, length-append, Option, Some, None, slice_get, unwrap_or}
-use Rattle.std.specs.List.{AllByRecursion, list_any}
-use Rattle.std.specs.Option.{option_map_or}
-use Rattle.std.proofs.Math.ListN.{length-map}
+use Rattle.std.proofs.{Math.ListN.length-map, lemmas.List.append-nil, lemmas.Option.same_Some as some_same, lemmas.Option.slice_get_within as found_below}
 use Rattle.std.proofs.lemmas.Bool.{cases_lt}
-use Rattle.std.proofs.lemmas.List.{append-nil}
-use Rattle.wit_model.specs.Meaning.{Signature}
-use Rattle.wit_model.specs.Text.{Text, text_eq}
-use Rattle.wit_model.specs.Tree.{Place, Tree}
-use Rattle.comp_bytes.specs.Levels.{Entry as RawEntry, holds, entry_at}
-use Rattle.comp_bytes.specs.Raw.{Alias, Declaration, DefinedType, FunctionType}
+use Rattle.std.specs.{List.AllByRecursion, List.list_any, Option.option_map_or}
+use Rattle.wit_model.specs.{Meaning.Signature, Text.Text, Text.text_eq, Tree.Place, Tree.Tree}
+use Rattle.comp_bytes.specs.{Levels.Entry as RawEntry, Levels.holds, Levels.entry_at, Raw.Alias, Raw.Declaration, Raw.DefinedType, Raw.FunctionType}
 use Rattle.comp_bytes.specs.Reading.{◌>>=◌, Reader, sequence_at}
-use Rattle.comp_meaning.specs.ByLevels.{all_used, entry_scope, entry_step}
-use Rattle.comp_meaning.specs.Follow as follow
+use Rattle.comp_meaning.specs.{ByLevels.all_used, ByLevels.entry_scope, ByLevels.entry_step, Reads.steps}
 use Rattle.comp_meaning.specs.Follow.{Scope as MeantScope, component_step, definition, exported_slot, find_type, function_signature, in_scope, new_scope, provided}
-use Rattle.comp_meaning.specs.Reads.{steps}
-use Rattle.read_follow.specs.declared.bodies.Body.{Body}
-use Rattle.read_follow.specs.declared.refusal.Refusal.{Refusal}
-use Rattle.read_follow.specs.declared.scopes.Instance.{Instance}
-use Rattle.read_follow.specs.declared.slots.Slot.{Slot}
-use Rattle.read_follow.specs.declared.slots.Slot.TheVariants as slots
-use Rattle.read_follow.specs.declared.views.ShownType.{ShownType}
+use Rattle.read_follow.specs.declared.{bodies.Body.Body, refusal.Refusal.Refusal, scopes.Instance.Instance, slots.Slot.Slot, views.ShownType.ShownType}
 use Rattle.read_follow.specs.Bodies.{held_declaration_at, items_in, IsBody}
-use Rattle.read_follow.specs.Defining.{AddsForms, Grows, IsDefined, IsDefinedFunction, IsUndefined}
+use Rattle.read_follow.specs.{Defining.AddsForms, Defining.Grows, Defining.IsDefined, Defining.IsDefinedFunction, Defining.IsUndefined, Found.Refuses}
 use Rattle.read_follow.specs.Following.{shown_type, AreTables, IsShownIn, IsSlotIn, IsTypeSlot}
-use Rattle.read_follow.specs.Found.{Refuses}
 use Rattle.read_follow.specs.Functions.{functions_in, signature_in, FunctionShape, IsFunctionIn}
 use Rattle.read_follow.specs.Numbering.{all_in, bare_parts, parts_in, scoped_trees, slot_parts, trees_along, trees_since, CountUp}
-use Rattle.read_follow.specs.Placed.{apart, HasNoNames, MayMeet, SignatureOver, SlotOver}
-use Rattle.read_follow.specs.Places.{has_path, ArePlacesOf}
+use Rattle.read_follow.specs.{Placed.apart, Placed.HasNoNames, Placed.MayMeet, Placed.SignatureOver, Placed.SlotOver, Places.has_path, Places.ArePlacesOf}
 use Rattle.read_follow.specs.Scopes.{are_settled, find_slot, instance_in, meant_at, path_of, slot_of_instance, start_of, taken_from, waiting, weight, weights, world_signatures, world_trees, Goes, HasStages, IsFollowedTo, IsInstanceIn, IsPlacedWorld, IsScopedIn, IsScopeOf, IsStage, IsWorld, Stops, World}
 use Rattle.read_follow.specs.Slots.{no_signature, resource_slot, slot_in, slots_in, AreNames, IsName}
 use Rattle.plan_meaning.specs.Shapes.{Shape, named_shape, node_shape, part_tree, shape_trees, IsTable}
 use Rattle.read_follow.proofs.DefiningLaws.{all_at, longer, no_shapes, same_list, scoped_grown}
 use Rattle.read_follow.proofs.FollowingLaws.{functions_wider, joins_all, joins_grow, names_of, ranges_of, slot_counted}
-use Rattle.read_follow.proofs.NumberingLaws.{count_below, count_scoped}
-use Rattle.read_follow.proofs.OverLaws.{definition_over, signature_over}
-use Rattle.read_follow.proofs.PlaceLaws.{below_pathless}
-use Rattle.read_follow.proofs.PlacedLaws.{stood}
+use Rattle.read_follow.proofs.{NumberingLaws.count_below, NumberingLaws.count_scoped, PlacedLaws.stood, ScopedLaws.all_still_scoped, ScopedLaws.slot_numbered}
+use Rattle.read_follow.proofs.{OverLaws.definition_over, OverLaws.signature_over, PlaceLaws.below_pathless, Refusing.refused, SlotLaws.mapped_none}
 use Rattle.read_follow.proofs.PlacedScopes.{extended_placed, found_over, none_past, path_marked, path_met}
-use Rattle.read_follow.proofs.Refusing.{refused}
 use Rattle.read_follow.proofs.ScopeLaws.{all_before, extended_world, goes_on, none_behind, plus_slot, waiting_push, waits}
-use Rattle.read_follow.proofs.ScopedLaws.{all_still_scoped, slot_numbered}
-use Rattle.read_follow.proofs.SlotLaws.{mapped_none}
 use Rattle.read_follow.proofs.StepLaws.{after_first, grow_on, guarded, headed, none_left, none_less, peeled, sequence_more, unread}
-use Rattle.base_lemmas.proofs.Elements.{all_both}
-use Rattle.base_lemmas.proofs.Lists.{append_of_map, mapped_get, slice_front}
-use Rattle.base_lemmas.proofs.Numbers.{less}
-use Rattle.std.proofs.lemmas.Option.{same_Some as some_same, slice_get_within as found_below}
+use Rattle.base_lemmas.proofs.{Elements.all_both, Lists.append_of_map, Lists.mapped_get, Lists.slice_front, Numbers.less}
+use Rattle.comp_meaning.specs.Follow as follow
+use Rattle.read_follow.specs.declared.slots.Slot.TheVariants as slots
 
 -- ---- the same step in other words
 

@@ -1,31 +1,22 @@
 -- Types of values and of functions in tables that grow.
 use Rattle.std.proofs.Common.{◌≡◌, ◌⊎◌, refl, sym, ap, ◌∙◌, subst, ℕ, zero, suc, ◌+◌, ◌<◌, ◌≤◌, arith, inl, inr, true, false, List, [], ◌∷◌, ◌++◌, map, length, Option, Some, None, option_map, IfSome, slice_get, unwrap_or, append_assoc, append-nil, length-append}
+use Rattle.std.proofs.lemmas.{Bool.cases_lt, Option.slice_get_past, Option.slice_get_within as found_below}
 use Rattle.std.specs.List.{AllByRecursion}
-use Rattle.std.proofs.lemmas.Bool.{cases_lt}
-use Rattle.std.proofs.lemmas.Option.{slice_get_past, slice_get_within as found_below}
-use Rattle.wit_model.specs.Meaning.{Signature}
-use Rattle.wit_model.specs.Text.{Text}
-use Rattle.wit_model.specs.Tree.{Form, Place, Tree, children}
-use Rattle.wit_model.specs.Types.{no_tree}
+use Rattle.wit_model.specs.{Meaning.Signature, Text.Text, Tree.Form, Tree.Place, Tree.Tree, Tree.children, Types.no_tree}
 use Rattle.comp_bytes.specs.Raw.{DefinedType}
 use Rattle.comp_meaning.specs.Follow.{definition, is_key}
-use Rattle.read_follow.specs.declared.refusal.Refusal.{Refusal}
-use Rattle.read_follow.specs.declared.slots.Slot.{Slot}
-use Rattle.read_follow.specs.declared.slots.Slot.TheVariants as slots
+use Rattle.read_follow.specs.declared.{refusal.Refusal.Refusal, slots.Slot.Slot}
 use Rattle.read_follow.specs.Defining.{AddsForms, ArePlacedBelow, Grows, IsDefined, IsPlacedBelow, IsUndefined}
-use Rattle.read_follow.specs.DefinitionKeys.{HasNoKeys, IsNodeOf}
-use Rattle.read_follow.specs.Found.{Refuses}
+use Rattle.read_follow.specs.{DefinitionKeys.HasNoKeys, DefinitionKeys.IsNodeOf, Found.Refuses, Slots.slots_in, Slots.AreInRange, Slots.AreNames}
 use Rattle.read_follow.specs.Functions.{functions_in, param_tree, signature_in, AreApart, AreFunctionsIn, FunctionShape, IsFunctionIn}
 use Rattle.read_follow.specs.Numbering.{bare_parts, scoped_trees}
-use Rattle.read_follow.specs.Slots.{slots_in, AreInRange, AreNames}
 use Rattle.plan_meaning.specs.PlanRules.{is_form}
 use Rattle.plan_meaning.specs.Shapes.{Shape, code, form_of, named_shape, node_shape, part_tree, shape_tree, shape_trees, Adds, stays, comes, IsShape, a_name, a_node, IsTable}
 use Rattle.plan_meaning.proofs.ShapeLaws.{form_back, name_tree, node_tree, one_number, part_behind, tree_at_number}
-use Rattle.read_follow.proofs.NumberingLaws.{adds_next}
-use Rattle.read_follow.proofs.TableGrowth.{part_kept, trees_length, trees_more}
-use Rattle.base_lemmas.proofs.Elements.{all_end}
-use Rattle.base_lemmas.proofs.Lists.{get_back as mapped_back, last_or, within_there as slice_there}
 use Rattle.plan_meaning.proofs.ShapesLemmas.{no_sort as no_name}
+use Rattle.read_follow.proofs.{NumberingLaws.adds_next, TableGrowth.part_kept, TableGrowth.trees_length, TableGrowth.trees_more}
+use Rattle.base_lemmas.proofs.{Elements.all_end, Lists.get_back as mapped_back, Lists.last_or, Lists.within_there as slice_there}
+use Rattle.read_follow.specs.declared.slots.Slot.TheVariants as slots
 
 -- ---- lists that grow
 

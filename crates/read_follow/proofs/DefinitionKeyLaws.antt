@@ -1,33 +1,22 @@
 -- The key of each form, from the parts that its indexes stand for.
 use Rattle.std.proofs.Common.{◌≡◌, refl, sym, ap, ◌∙◌, subst, ℕ, zero, suc, ◌&&◌, ◌+◌, ◌<◌, ◌≤◌, arith, inl, inr, Bool, true, false, List, [], ◌∷◌, ◌++◌, map, length, Option, Some, None, Result, Ok, Err, IfOk, IfSome, IsOkUnless, is_some, option_map, option_to_list, unwrap_or, slice_get}
-use Rattle.std.specs.Prelude.{nat_le}
-use Rattle.std.specs.Option.{option_map_or}
-use Rattle.std.specs.List.{AllByRecursion}
-use Rattle.std.proofs.lemmas.Bool.{le-leb, lt-leb, lt-ltb}
-use Rattle.std.proofs.lemmas.Option.{slice_get_past}
-use Rattle.wit_model.specs.Meaning.{Signature}
+use Rattle.std.proofs.lemmas.{Bool.le-leb, Bool.lt-leb, Bool.lt-ltb, Option.slice_get_past}
+use Rattle.std.specs.{Prelude.nat_le, Option.option_map_or, List.AllByRecursion}
+use Rattle.wit_model.specs.{Meaning.Signature, Types.no_tree}
 use Rattle.wit_model.specs.Tree.{Form, Primitive, Tree, children, fixed_list_tree, future_tree, map_tree, result_tree, stream_tree}
-use Rattle.wit_model.specs.Types.{no_tree}
-use Rattle.comp_bytes.specs.declared.forms.ComponentDefinedType.{ComponentDefinedType}
-use Rattle.comp_bytes.specs.declared.forms.ComponentDefinedType.TheVariants as forms
-use Rattle.comp_bytes.specs.declared.forms.ComponentValType.{ComponentValType}
-use Rattle.comp_bytes.specs.declared.forms.PrimitiveValType.{PrimitiveValType}
-use Rattle.comp_bytes.specs.Raw.{DefinedType}
-use Rattle.comp_bytes.specs.Reading.{◌>>=◌}
+use Rattle.comp_bytes.specs.declared.forms.{ComponentDefinedType.ComponentDefinedType, ComponentValType.ComponentValType, PrimitiveValType.PrimitiveValType}
+use Rattle.comp_bytes.specs.{Raw.DefinedType, Reading.◌>>=◌}
 use Rattle.comp_meaning.specs.Follow.{definition, given, is_key, is_key_primitive, provided, value_type}
-use Rattle.read_follow.specs.declared.keys.Key.{Key}
-use Rattle.read_follow.specs.declared.refusal.Refusal.{Refusal}
-use Rattle.read_follow.specs.declared.refusal.Refusal.TheVariants as refusals
-use Rattle.read_follow.specs.declared.slots.Slot.{Slot}
-use Rattle.read_follow.specs.Found.{Refuses}
+use Rattle.read_follow.specs.declared.{keys.Key.Key, refusal.Refusal.Refusal, slots.Slot.Slot}
+use Rattle.read_follow.specs.{Found.Refuses, Slots.slots_in, Slots.AreInRange, Slots.AreNames}
+use Rattle.read_follow.specs.{KeyShapes.shape_of, DefinitionKeys.key_marks, DefinitionKeys.HasNoKeys, DefinitionKeys.IsForm, DefinitionKeys.IsKeyOf}
 use Rattle.plan_meaning.specs.PlanRules.{is_form as formed_by, is_key_part}
 use Rattle.plan_meaning.specs.Shapes.{node_shape, part_tree, primitives, one_mark, two_marks}
-use Rattle.read_follow.specs.KeyShapes.{shape_of}
-use Rattle.read_follow.specs.Slots.{slots_in, AreInRange, AreNames}
-use Rattle.read_follow.specs.DefinitionKeys.{key_marks, HasNoKeys, IsForm, IsKeyOf}
 use Rattle.read_follow.proofs.Refusing.{refused}
 use Rattle.plan_meaning.proofs.ShapeLaws.{part_front, split_part}
 use Rattle.base_lemmas.proofs.Lists.{mapped_get, within_there as slice_there}
+use Rattle.comp_bytes.specs.declared.forms.ComponentDefinedType.TheVariants as forms
+use Rattle.read_follow.specs.declared.refusal.Refusal.TheVariants as refusals
 
 or_none : {A B : Type 0} (o : Option A) (f : A → Option B) → ((x : A) → f x ≡ None) → (o >>= f) ≡ None
 or_none None f e = refl

@@ -1,10 +1,8 @@
 -- An entry is read by the bytes in front of it.
 use Rattle.std.proofs.Common.{◌≡◌, sym, ap, ◌∙◌, ℕ, Bool, true, false, cond, List, [], ◌∷◌, drop, Option, Some}
-use Rattle.std.specs.Prelude.{nat_eq}
-use Rattle.std.specs.List.{starts_with}
+use Rattle.std.specs.{Prelude.nat_eq, List.starts_with}
 use Rattle.comp_bytes.specs.Raw.{Declaration}
-use Rattle.comp_bytes.specs.Levels.{Entry, plain, holds, held_at, entry_at}
-use Rattle.comp_bytes.specs.Reading.{◌>>=◌, as_at, declaration_at}
+use Rattle.comp_bytes.specs.{Levels.Entry, Levels.plain, Levels.holds, Levels.held_at, Levels.entry_at, Reading.◌>>=◌, Reading.as_at, Reading.declaration_at}
 use Rattle.comp_bytes.proofs.FrontLaws.{entries_by_front}
 
 abbrev as_held : Option (List Declaration × List ℕ) → Option (Entry × List ℕ)

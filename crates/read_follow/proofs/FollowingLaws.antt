@@ -1,41 +1,25 @@
 -- A scope of an instance type in tables that grow, and what each declaration does to it.
 use Rattle.std.proofs.Common.{◌≡◌, refl, sym, ap, ◌∙◌, subst, ℕ, ◌+◌, ◌<◌, ◌≤◌, arith, inl, Bool, List, [], ◌∷◌, ◌++◌, map, length, Option, Some, None, option_map, IfSome, Result, Ok, Err, IfErr, OnOk, slice_get, unwrap_or}
+use Rattle.std.proofs.{Math.ListN.length-map, lemmas.List.map-append, lemmas.Option.slice_get_within as found_below}
 use Rattle.std.specs.List.{AllByRecursion}
-use Rattle.std.proofs.Math.ListN.{length-map}
-use Rattle.std.proofs.lemmas.List.{map-append}
-use Rattle.wit_model.specs.Meaning.{Signature}
-use Rattle.wit_model.specs.Text.{Text}
-use Rattle.wit_model.specs.Tree as tree
-use Rattle.wit_model.specs.Tree.{Place, Tree}
-use Rattle.wit_model.specs.Types.{no_tree}
-use Rattle.comp_bytes.specs.Raw.{Declaration, DefinedType, FunctionType}
-use Rattle.comp_bytes.specs.RawOf.{text_of}
-use Rattle.comp_bytes.specs.Reading.{◌>>=◌}
-use Rattle.comp_meaning.specs.Follow as follow
+use Rattle.wit_model.specs.{Meaning.Signature, Text.Text, Tree.Place, Tree.Tree, Types.no_tree}
+use Rattle.comp_bytes.specs.{Raw.Declaration, Raw.DefinedType, Raw.FunctionType, RawOf.text_of, Reading.◌>>=◌}
 use Rattle.comp_meaning.specs.Follow.{InstanceScope as MeantScope, Slot as Meant, definition, function_signature, in_instance, instance_step}
-use Rattle.read_follow.specs.declared.refusal.Refusal.{Refusal}
-use Rattle.read_follow.specs.declared.slots.Slot.{Slot}
-use Rattle.read_follow.specs.declared.slots.Slot.TheVariants as slots
-use Rattle.read_follow.specs.declared.views.ShownFunction.{ShownFunction}
-use Rattle.read_follow.specs.declared.views.ShownType.{ShownType}
-use Rattle.read_follow.specs.Defining.{AddsForms, Grows, IsDefined, IsDefinedFunction, IsUndefined}
+use Rattle.read_follow.specs.declared.{refusal.Refusal.Refusal, slots.Slot.Slot, views.ShownFunction.ShownFunction, views.ShownType.ShownType}
+use Rattle.read_follow.specs.{Defining.AddsForms, Defining.Grows, Defining.IsDefined, Defining.IsDefinedFunction, Defining.IsUndefined, Found.Refuses}
 use Rattle.read_follow.specs.Following.{declared_in, scope_at, shown_function, shown_type, signatures_at, slots_at, trees_at, view_at, AreSlotsIn, AreTables, Halts, IsNamePart, IsPlacedState, IsShownFunctionIn, IsShownIn, IsSlotIn, IsState, State, Steps}
-use Rattle.read_follow.specs.Found.{Refuses}
 use Rattle.read_follow.specs.Functions.{functions_in, signature_in, AreFunctionsIn, FunctionShape, IsFunctionIn, Joins, stays, comes}
-use Rattle.read_follow.specs.Numbering.{slot_parts, CountUp}
-use Rattle.read_follow.specs.Placed.{apart, MayMeet, SignatureOver, SlotOver, ViewOver}
+use Rattle.read_follow.specs.{Numbering.slot_parts, Numbering.CountUp, Placed.apart, Placed.MayMeet, Placed.SignatureOver, Placed.SlotOver, Placed.ViewOver}
 use Rattle.read_follow.specs.Slots.{no_signature, resource_slot, slot_in, slots_in, AreInRange, AreNames, IsName}
 use Rattle.plan_meaning.specs.Shapes.{Shape, named_shape, part_tree, shape_trees, IsTable}
 use Rattle.plan_meaning.proofs.ShapeLaws.{name_tree, part_behind, tree_at_number}
 use Rattle.read_follow.proofs.DefiningLaws.{functions_grown, longer, no_shapes, one_longer, part_grown, same_list}
-use Rattle.read_follow.proofs.NumberingLaws.{count_pushed}
-use Rattle.read_follow.proofs.OverLaws.{definition_over, signature_over}
-use Rattle.read_follow.proofs.PlacedLaws.{same_types}
+use Rattle.read_follow.proofs.{NumberingLaws.count_pushed, OverLaws.definition_over, OverLaws.signature_over, PlacedLaws.same_types, TableGrowth.no_types}
 use Rattle.read_follow.proofs.Refusing.{refused}
-use Rattle.read_follow.proofs.TableGrowth.{no_types}
-use Rattle.base_lemmas.proofs.Elements.{all_end}
-use Rattle.base_lemmas.proofs.Lists.{mapped_get, slice_front}
-use Rattle.std.proofs.lemmas.Option.{slice_get_within as found_below}
+use Rattle.base_lemmas.proofs.{Elements.all_end, Lists.mapped_get, Lists.slice_front}
+use Rattle.wit_model.specs.Tree as tree
+use Rattle.comp_meaning.specs.Follow as follow
+use Rattle.read_follow.specs.declared.slots.Slot.TheVariants as slots
 
 -- ---- slots of well-formed tables
 

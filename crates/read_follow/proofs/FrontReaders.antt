@@ -1,18 +1,12 @@
 -- What a reader from an offset answers at the front is what the function that reads the form finds there.
 use Rattle.std.proofs.Common.{◌≡◌, refl, sym, ap, ◌∙◌, subst, ℕ, ◌-◌, ◌<◌, arith, List, [], ◌∷◌, length, take, drop, Option, Some, None}
+use Rattle.std.proofs.lemmas.List.{take-append-drop, take_at}
 use Rattle.std.specs.Prelude.{slice_range}
-use Rattle.std.proofs.lemmas.List.{take-append-drop}
 use Rattle.wit_model.specs.declared.error.Error.{Error}
-use Rattle.wit_model.specs.declared.error.Error.TheVariants as errors
-use Rattle.comp_bytes.specs.Answer.{Refuses as RefusesAt}
-use Rattle.comp_bytes.specs.Form.{Spellings}
-use Rattle.comp_bytes.specs.Number.{IsU32}
-use Rattle.comp_bytes.specs.Reading.{Reader, type_index_at, u32_at}
-use Rattle.comp_bytes.proofs.FormLaws.{type_index_law}
-use Rattle.comp_bytes.proofs.NumberLaws.{u32_law}
-use Rattle.comp_bytes.specs.Laws.{IsReadBy}
-use Rattle.std.proofs.lemmas.List.{take_at}
+use Rattle.comp_bytes.specs.{Answer.Refuses as RefusesAt, Form.Spellings, Number.IsU32, Reading.Reader, Reading.type_index_at, Reading.u32_at, Laws.IsReadBy}
+use Rattle.comp_bytes.proofs.{FormLaws.type_index_law, NumberLaws.u32_law}
 use Rattle.read_follow.specs.Found.{Refuses, refusal_from, IsNoReading}
+use Rattle.wit_model.specs.declared.error.Error.TheVariants as errors
 
 -- a reader that takes no memory refuses because of the bytes
 pub because_of_bytes : (e : Error) (bytes : List ℕ) (why : Type 0) → RefusesAt e bytes why → IsNoReading e

@@ -1,35 +1,21 @@
 -- Keys of types of functions are the same exactly where their shapes are; and what a key is made of.
 use Rattle.std.proofs.Common.{◌≡◌, refl, sym, ap, ◌∙◌, subst, ℕ, ◌+◌, ◌<◌, ◌≤◌, Bool, true, ◌&&◌, List, [], ◌∷◌, ◌++◌, drop, map, length, get_or, append-nil, nat_eq, ◌==◌, Option, Some, None, option_map, IfSome}
 use mathlib.Core.Bool.{beq, true≢false}
-use Rattle.std.specs.Borrow.{Bor}
-use Rattle.std.specs.Cmp.Lexicographic.{pointwise}
-use Rattle.std.specs.List.{AllByRecursion}
-use Rattle.std.specs.Option.{option_eq}
-use Rattle.std.proofs.lemmas.Bool.{eqb-true, eq-eqb, and_from as both}
-use Rattle.std.proofs.lemmas.List.{map-append}
-use Rattle.std.proofs.lemmas.Slice.Eq.{bytes_eq-Decides}
-use Rattle.wit_model.specs.Meaning.{Signature}
-use Rattle.wit_model.specs.Text.{Text, text_eq}
-use Rattle.wit_model.specs.Tree.{Tree}
+use Rattle.std.specs.{Borrow.Bor, Cmp.Lexicographic.pointwise, List.AllByRecursion, Option.option_eq}
+use Rattle.std.proofs.lemmas.{Bool.eqb-true, Bool.eq-eqb, Bool.and_from as both, List.map-append, Slice.Eq.bytes_eq-Decides}
+use Rattle.wit_model.specs.{Meaning.Signature, Text.Text, Text.text_eq, Tree.Tree}
 use Rattle.comp_bytes.specs.declared.forms.ComponentValType.{ComponentValType}
-use Rattle.comp_bytes.specs.Raw.{FunctionType}
-use Rattle.comp_bytes.specs.RawOf.{labeled}
-use Rattle.comp_bytes.specs.Reading.{◌>>=◌}
+use Rattle.comp_bytes.specs.{Raw.FunctionType, RawOf.labeled, Reading.◌>>=◌}
 use Rattle.comp_meaning.specs.Follow.{each, field_type, function_signature, given, value_type}
-use Rattle.read_follow.specs.contracts.keys.FunctionKeyPartialEq.TheImpl as key_eq
-use Rattle.read_follow.specs.declared.keys.FunctionKey.{FunctionKey}
-use Rattle.read_follow.specs.declared.refusal.Refusal.{Refusal}
-use Rattle.read_follow.specs.declared.slots.Slot.{Slot}
-use Rattle.read_follow.specs.Found.{Refuses}
+use Rattle.read_follow.specs.declared.{keys.FunctionKey.FunctionKey, refusal.Refusal.Refusal, slots.Slot.Slot}
+use Rattle.read_follow.specs.{Found.Refuses, Rows.behind_rows, Slots.slots_in, Slots.AreInRange}
 use Rattle.read_follow.specs.Functions.{function_shape, param_of, param_tree, signature_in, FunctionShape, IsSignatureOf}
-use Rattle.read_follow.specs.Rows.{behind_rows}
-use Rattle.read_follow.specs.Slots.{slots_in, AreInRange}
 use Rattle.plan_meaning.specs.Shapes.{part_tree}
-use Rattle.read_follow.proofs.KeyLaws.{beq_again}
+use Rattle.read_follow.proofs.{KeyLaws.beq_again, RowLaws.behind_more, RowLaws.behind_none, RowLaws.none_dropped, RowLaws.raw_at, RowLaws.raw_end}
 use Rattle.read_follow.proofs.Refusing.{refused}
-use Rattle.read_follow.proofs.RowLaws.{behind_more, behind_none, none_dropped, raw_at, raw_end}
 use Rattle.base_lemmas.proofs.Bools.{beq_same, left_of as first_true, right_of as second_true}
 use Rattle.wit_model.proofs.TextLemmas.{text_same}
+use Rattle.read_follow.specs.contracts.keys.FunctionKeyPartialEq.TheImpl as key_eq
 
 -- ---- sameness
 

@@ -1,13 +1,8 @@
 -- Declarations of an instance type: those of which none is an import.
 use Rattle.std.proofs.Common.{◌≡◌, refl, sym, ap, ◌∙◌, ℕ, zero, suc, Bool, true, false, cond, List, ◌∷◌, Option, Some, None}
-use Rattle.comp_bytes.specs.Raw.{Declaration}
-use Rattle.comp_bytes.specs.Form.{Spellings}
-use Rattle.comp_bytes.specs.Laws.{IsReadBy}
-use Rattle.comp_bytes.specs.Levels.{import_free, held_at}
-use Rattle.comp_bytes.specs.Spelling.{IsDeclaration}
-use Rattle.comp_bytes.specs.Reading.{◌>>=◌, u32_at, sequence_at, vector_at, declaration_at}
-use Rattle.comp_bytes.proofs.Readers.{bind_some}
-use Rattle.comp_bytes.proofs.DeclarationLaws.{declaration_law}
+use Rattle.comp_bytes.specs.{Raw.Declaration, Form.Spellings, Laws.IsReadBy, Spelling.IsDeclaration}
+use Rattle.comp_bytes.specs.{Levels.import_free, Levels.held_at, Reading.◌>>=◌, Reading.u32_at, Reading.sequence_at, Reading.vector_at, Reading.declaration_at}
+use Rattle.comp_bytes.proofs.{Readers.bind_some, DeclarationLaws.declaration_law}
 use Rattle.read_follow.specs.Bodies.{is_import, held_declaration_at}
 
 abbrev Found : Type 0

@@ -1,17 +1,15 @@
 -- Keys are the same exactly where their shapes are.
 use Rattle.std.proofs.Common.{◌≡◌, refl, sym, ap, ◌∙◌, ℕ, Bool, true, false, ◌&&◌, List, [], ◌∷◌, map, nat_eq, ◌==◌}
 use mathlib.Core.Bool.{beq, true≢false}
-use Rattle.std.specs.Borrow.{Bor}
-use Rattle.std.specs.Cmp.Lexicographic.{pointwise}
-use Rattle.std.proofs.lemmas.Bool.{eqb-true, eq-eqb, and_from as both}
-use Rattle.std.proofs.lemmas.Slice.Eq.{bytes_eq-Decides}
+use Rattle.std.specs.{Borrow.Bor, Cmp.Lexicographic.pointwise}
+use Rattle.std.proofs.lemmas.{Bool.eqb-true, Bool.eq-eqb, Bool.and_from as both, Slice.Eq.bytes_eq-Decides}
 use Rattle.wit_model.specs.Text.{Text, text_eq}
-use Rattle.read_follow.specs.contracts.keys.KeyPartialEq.TheImpl as key_eq
 use Rattle.read_follow.specs.declared.keys.Key.{Key}
 use Rattle.plan_meaning.specs.Shapes.{Shape}
 use Rattle.read_follow.specs.KeyShapes.{shape_of, label_of}
 use Rattle.base_lemmas.proofs.Bools.{beq_same, left_of as first_true, right_of as second_true}
 use Rattle.wit_model.proofs.TextLemmas.{text_same}
+use Rattle.read_follow.specs.contracts.keys.KeyPartialEq.TheImpl as key_eq
 
 abbrev pub same_key : Key → Key → Bool
 same_key = key_eq.ghosts.eq

@@ -1,18 +1,12 @@
 -- Tables of the names of types: how one is made, and that they stay those of their instances.
 use Rattle.std.proofs.Common.{◌≡◌, refl, sym, ap, ◌∙◌, subst, inl, inr, ◌⊎◌, ℕ, suc, zero, if◌then◌else◌, cond, List, [], ◌∷◌, ◌++◌, Option, Some, None, slice_get}
-use Rattle.std.specs.Borrow.{Bor}
-use Rattle.std.specs.BTreeMap.{BTreeMap, get, get_by, Updates}
-use Rattle.std.specs.Cmp.Lexicographic.{nat_list_eq_equiv, slice_cmp}
-use Rattle.std.specs.Map.{lookup}
-use Rattle.std.specs.Ordering.{is_eq, nat_cmp}
 use Rattle.std.proofs.lemmas.Map.Text.{btree_map_updates_str}
+use Rattle.std.specs.{Borrow.Bor, Map.lookup, Ordering.is_eq, Ordering.nat_cmp}
+use Rattle.std.specs.{BTreeMap.BTreeMap, BTreeMap.get, BTreeMap.get_by, BTreeMap.Updates, Cmp.Lexicographic.nat_list_eq_equiv, Cmp.Lexicographic.slice_cmp}
 use Rattle.wit_model.specs.Text.{Text, text_eq}
-use Rattle.read_follow.specs.declared.slots.Slot.{Slot}
-use Rattle.read_follow.specs.declared.views.ShownType.{ShownType}
-use Rattle.read_follow.specs.declared.scopes.Instance.{Instance}
+use Rattle.read_follow.specs.declared.{slots.Slot.Slot, views.ShownType.ShownType, scopes.Instance.Instance}
 use Rattle.read_follow.specs.Defining.{Grows}
-use Rattle.read_follow.specs.NameTables.{AddsTable, AreNamesOf, AreSlotsOf, IsTableIn, IsTableOf}
-use Rattle.read_follow.specs.Scopes.{find_slot}
+use Rattle.read_follow.specs.{NameTables.AddsTable, NameTables.AreNamesOf, NameTables.AreSlotsOf, NameTables.IsTableIn, NameTables.IsTableOf, Scopes.find_slot}
 
 -- the slot of the first type of this name, or else the other
 abbrev pub find_or : Text → List ShownType → Option Slot → Option Slot

@@ -1,24 +1,18 @@
 -- What a definition stands for is over the places that the slots are over.
 use Rattle.std.proofs.Common.{◌≡◌, inl, inr, refl, subst, ◌<◌, ℕ, zero, suc, arith, List, [], ◌∷◌, map, Option, Some, None, slice_get, IfSome, nat_le, get_or}
-use Rattle.std.specs.List.{AllByRecursion, Contains}
 use Rattle.std.proofs.lemmas.List.Elements.{Contains-append_cases}
-use Rattle.wit_model.specs.Meaning.{Signature}
-use Rattle.wit_model.specs.Text.{Text}
-use Rattle.wit_model.specs.Tree as tree
-use Rattle.wit_model.specs.Tree.{Place, Tree, children}
-use Rattle.comp_bytes.specs.declared.forms.ComponentValType.{ComponentValType}
-use Rattle.comp_bytes.specs.declared.forms.ComponentValType.TheVariants as values
-use Rattle.comp_bytes.specs.declared.forms.ComponentTypeRef.{ComponentTypeRef}
-use Rattle.comp_bytes.specs.declared.forms.ComponentTypeRef.TheVariants as refs
-use Rattle.comp_bytes.specs.Raw.{Labeled, DefinedType, FunctionType}
-use Rattle.comp_bytes.specs.Reading.{◌>>=◌}
+use Rattle.std.specs.List.{AllByRecursion, Contains}
+use Rattle.wit_model.specs.{Meaning.Signature, Text.Text, Tree.Place, Tree.Tree, Tree.children}
+use Rattle.comp_bytes.specs.declared.forms.{ComponentValType.ComponentValType, ComponentTypeRef.ComponentTypeRef}
+use Rattle.comp_bytes.specs.{Raw.Labeled, Raw.DefinedType, Raw.FunctionType, Reading.◌>>=◌}
 use Rattle.comp_bytes.proofs.Readers.{bind_some, when_some}
 use Rattle.comp_meaning.specs.Follow.{Slot as Meant, value, resource, function, instance, each, given, provided, is_filled, is_key, primitive_of_type, value_in, resource_in, value_type, field_type, case_type, declared_by, definition, function_signature, named_like, named_type}
-use Rattle.read_follow.specs.Facts.{places, places_in}
-use Rattle.read_follow.specs.Placed.{DeclarationOver, SignatureOver, SlotOver, TreeOver}
+use Rattle.read_follow.specs.{Facts.places, Facts.places_in, Placed.DeclarationOver, Placed.SignatureOver, Placed.SlotOver, Placed.TreeOver}
 use Rattle.read_follow.proofs.DefiningLaws.{all_at}
-use Rattle.base_lemmas.proofs.Elements.{none_in, seconds}
-use Rattle.base_lemmas.proofs.Options.{some_is}
+use Rattle.base_lemmas.proofs.{Elements.none_in, Elements.seconds, Options.some_is}
+use Rattle.wit_model.specs.Tree as tree
+use Rattle.comp_bytes.specs.declared.forms.ComponentValType.TheVariants as values
+use Rattle.comp_bytes.specs.declared.forms.ComponentTypeRef.TheVariants as refs
 
 -- ---- what is found for each
 

@@ -1,8 +1,7 @@
 -- A type at the top is read by the bytes in front of it.
 use Rattle.std.proofs.lemmas.Bool.{ne_eqb}
 use Rattle.std.proofs.Common.{◌≡◌, refl, sym, ap, ◌∙◌, ℕ, Bool, true, false, cond, eqb, ◌&&◌, List, [], ◌∷◌, drop, Option, Some}
-use Rattle.std.specs.Prelude.{nat_eq}
-use Rattle.std.specs.List.{starts_with}
+use Rattle.std.specs.{Prelude.nat_eq, List.starts_with}
 use Rattle.comp_bytes.specs.Levels.{PartType, wraps, shows, entry_at, world_export_at, part_behind_at}
 use Rattle.comp_bytes.specs.Reading.{Reader, ◌>>=◌, as_at, pair_at, sequence_at, vector_at, u32_at}
 use Rattle.comp_bytes.proofs.FrontLaws.{part_types_by_front}

@@ -1,23 +1,17 @@
 -- Names stay in their places as a scope goes on.
 use Rattle.std.proofs.Common.{◌≡◌, ◌⊎◌, inl, inr, refl, sym, ap, ◌∙◌, subst, ℕ, zero, suc, ◌+◌, ◌<◌, ◌≤◌, arith, Bool, true, List, [], ◌∷◌, ◌++◌, map, length, Option, Some, None, IfSome, slice_get, append_assoc}
-use Rattle.std.proofs.lemmas.Bool.{cases_lt}
-use Rattle.std.proofs.lemmas.List.{map-append}
-use Rattle.wit_model.specs.Tree.{Form, Place}
+use Rattle.std.proofs.lemmas.{Bool.cases_lt, List.map-append, Option.slice_get_within as found_below}
+use Rattle.wit_model.specs.{Tree.Form, Tree.Place, Text.Text, Meaning.FunctionMeaning}
 use Rattle.std.specs.List.{AllByRecursion}
-use Rattle.wit_model.specs.Text.{Text}
-use Rattle.wit_model.specs.Meaning.{FunctionMeaning}
 use Rattle.comp_meaning.specs.Follow.{ShownType as MeantType, View as MeantView}
 use Rattle.read_follow.specs.declared.views.ShownType.{ShownType}
-use Rattle.read_follow.specs.Defining.{AddsForms, Grows}
-use Rattle.read_follow.specs.Following.{slots_at, view_at, IsPlacedState, State}
+use Rattle.read_follow.specs.{Defining.AddsForms, Defining.Grows, Following.slots_at, Following.view_at, Following.IsPlacedState, Following.State}
 use Rattle.read_follow.specs.Placed.{apart, slot_part, ComesBehind, FunctionOver, HasNoNames, IsNameAs, IsRepeated, IsShownAmong, IsTypeNamed, MayMeet, Rise, SlotOver, TypeOver, ViewOver}
 use Rattle.read_follow.specs.Places.{has_path}
 use Rattle.plan_meaning.specs.PlanRules.{is_form}
 use Rattle.plan_meaning.specs.Shapes.{Shape, first_label, named_shape, node_shape, Adds, IsTable}
 use Rattle.read_follow.proofs.DefiningLaws.{adds_cases, adds_name, same_list}
-use Rattle.base_lemmas.proofs.Elements.{all_end}
-use Rattle.base_lemmas.proofs.Lists.{at_last, last_or, slice_front}
-use Rattle.std.proofs.lemmas.Option.{slice_get_within as found_below}
+use Rattle.base_lemmas.proofs.{Elements.all_end, Lists.at_last, Lists.last_or, Lists.slice_front}
 
 -- ---- lists that grow
 

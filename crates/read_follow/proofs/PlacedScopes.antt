@@ -1,39 +1,24 @@
 -- Names stay in their places as a scope of a component type goes on.
 use Rattle.std.proofs.Common.{◌≡◌, ◌⊎◌, inl, inr, refl, sym, ap, ◌∙◌, subst, ℕ, zero, suc, ◌+◌, ◌<◌, ◌≤◌, arith, Bool, true, false, cond, List, [], ◌∷◌, ◌++◌, map, length, length-append, Option, Some, None, IfSome, slice_get, unwrap_or, append_assoc}
+use Rattle.std.proofs.lemmas.{Bool.cases_lt, Bool.false≢true, List.append-nil, List.map-append, Option.slice_get_within as found_below}
 use Rattle.std.specs.List.{AllByRecursion}
-use Rattle.std.proofs.lemmas.Bool.{cases_lt, false≢true}
-use Rattle.std.proofs.lemmas.List.{append-nil, map-append}
-use Rattle.wit_model.specs.Meaning.{FunctionMeaning, Signature}
-use Rattle.wit_model.specs.Text.{Text, text_eq}
-use Rattle.wit_model.specs.Tree as tree
-use Rattle.wit_model.specs.Tree.{Form, Place, Tree}
-use Rattle.comp_meaning.specs.Follow as follow
+use Rattle.wit_model.specs.{Meaning.FunctionMeaning, Meaning.Signature, Text.Text, Text.text_eq, Tree.Form, Tree.Place, Tree.Tree}
 use Rattle.comp_meaning.specs.Follow.{Scope as MeantScope, Seen as MeantSeen, Shown as MeantShown, Slot as Meant, ShownType as MeantType, View as MeantView}
-use Rattle.read_follow.specs.declared.instance_keys.InstanceKey.{InstanceKey}
-use Rattle.read_follow.specs.declared.scopes.Instance.{Instance}
-use Rattle.read_follow.specs.declared.scopes.Seen.{Seen}
-use Rattle.read_follow.specs.declared.scopes.Shown.{Shown}
-use Rattle.read_follow.specs.declared.scopes.Shown.TheVariants as shown
-use Rattle.read_follow.specs.declared.slots.Slot.{Slot}
-use Rattle.read_follow.specs.declared.slots.Slot.TheVariants as slots
-use Rattle.read_follow.specs.declared.views.ShownType.{ShownType}
-use Rattle.read_follow.specs.Defining.{Grows}
-use Rattle.read_follow.specs.Following.{AreTables, IsShownIn, IsTypeSlot}
-use Rattle.read_follow.specs.Functions.{functions_in, FunctionShape}
+use Rattle.read_follow.specs.declared.{instance_keys.InstanceKey.InstanceKey, scopes.Instance.Instance, scopes.Shown.Shown, views.ShownType.ShownType}
+use Rattle.read_follow.specs.declared.{scopes.Seen.Seen, slots.Slot.Slot}
+use Rattle.read_follow.specs.{Defining.Grows, Functions.functions_in, Functions.FunctionShape, Places.has_path}
+use Rattle.read_follow.specs.{Following.AreTables, Following.IsShownIn, Following.IsTypeSlot, Slots.resource_slot, Slots.slot_in, Slots.slots_in}
 use Rattle.read_follow.specs.Placed.{apart, slot_part, DeclarationOver, FunctionOver, IsNameAs, IsTypeNamed, MayMeet, SignatureOver, SlotOver, TreeOver, TypeOver, ViewOver}
-use Rattle.read_follow.specs.Places.{has_path}
 use Rattle.read_follow.specs.Scopes.{find_slot, meant_at, seen_in, view_in, IsCounted, IsCountedAs, IsFirstOf, IsImportNamed, IsKeyPlaced, IsInlinePlace, IsInstanceIn, IsInstanceSeen, as_export, as_import, IsPlacedAmong, IsPlacedInstance, IsShownAs, IsShownBy, by_instance, by_import, IsWorld, ShownOver, World}
-use Rattle.read_follow.specs.Slots.{resource_slot, slot_in, slots_in}
-use Rattle.plan_meaning.specs.PlanRules.{is_form}
-use Rattle.plan_meaning.specs.Shapes.{Shape, named_shape, node_shape, shape_trees, IsTable}
-use Rattle.read_follow.proofs.DefiningLaws.{all_at, longer}
-use Rattle.read_follow.proofs.FollowingLaws.{name_part}
-use Rattle.read_follow.proofs.OverLaws.{name_over}
+use Rattle.plan_meaning.specs.{PlanRules.is_form, Shapes.Shape, Shapes.named_shape, Shapes.node_shape, Shapes.shape_trees, Shapes.IsTable}
+use Rattle.read_follow.proofs.{DefiningLaws.all_at, DefiningLaws.longer, FollowingLaws.name_part, OverLaws.name_over}
 use Rattle.read_follow.proofs.PlacedLaws.{met_wider, name_wider, stands_on, stood, types_named_wider}
 use Rattle.read_follow.proofs.ScopeLaws.{exported, extended, extended_meant, imported, view_stays, F, G, T, U}
-use Rattle.base_lemmas.proofs.Elements.{all_both}
-use Rattle.base_lemmas.proofs.Lists.{at_last, last_or, within_there as slice_there}
-use Rattle.std.proofs.lemmas.Option.{slice_get_within as found_below}
+use Rattle.base_lemmas.proofs.{Elements.all_both, Lists.at_last, Lists.last_or, Lists.within_there as slice_there}
+use Rattle.wit_model.specs.Tree as tree
+use Rattle.comp_meaning.specs.Follow as follow
+use Rattle.read_follow.specs.declared.scopes.Shown.TheVariants as shown
+use Rattle.read_follow.specs.declared.slots.Slot.TheVariants as slots
 
 -- ---- what is over fewer places is over more
 

@@ -1,33 +1,20 @@
 -- Rows, one after the other.
 use Rattle.std.proofs.Common.{◌≡◌, refl, sym, ap, ◌∙◌, subst, ℕ, ◌+◌, ◌<◌, ◌≤◌, Bool, true, false, ◌==◌, List, [], ◌∷◌, ◌++◌, drop, map, length, get_or, option_map, is_some, IfSome, Option, Some, None, option_to_list, append_assoc, append-nil}
-use Rattle.std.specs.Borrow.{Bor}
-use Rattle.std.specs.List.{flat_map, AllByRecursion}
-use Rattle.std.proofs.Math.ListN.{drop_of_length-le}
-use Rattle.std.proofs.lemmas.Bool.{false≢true}
-use Rattle.std.proofs.lemmas.Grind.{flat_map-append}
-use Rattle.std.proofs.lemmas.List.{drop-map, drop_more, map-append}
-use Rattle.std.proofs.lemmas.List.Concat.{flat_map_single}
-use Rattle.wit_model.specs.Rules.{has_items}
-use Rattle.wit_model.specs.Text.{Text}
-use Rattle.wit_model.specs.Meaning.{Signature}
+use Rattle.std.proofs.{Math.ListN.drop_of_length-le, lemmas.List.drop-map, lemmas.List.drop_more, lemmas.List.map-append, lemmas.List.Concat.flat_map_single}
+use Rattle.std.proofs.lemmas.{Bool.false≢true, Grind.flat_map-append}
+use Rattle.std.specs.{Borrow.Bor, List.flat_map, List.AllByRecursion}
+use Rattle.wit_model.specs.{Rules.has_items, Text.Text, Meaning.Signature}
 use Rattle.wit_model.specs.Tree.{Form, Tree, child, children, given, is_given, record_tree, tuple_tree, variant_tree}
 use Rattle.comp_bytes.specs.declared.forms.ComponentValType.{ComponentValType}
-use Rattle.comp_bytes.specs.Raw.{DefinedType, Labeled}
-use Rattle.comp_bytes.specs.RawOf.{labeled}
-use Rattle.comp_bytes.specs.Reading.{◌>>=◌}
+use Rattle.comp_bytes.specs.{Raw.DefinedType, Raw.Labeled, RawOf.labeled, Reading.◌>>=◌}
 use Rattle.comp_bytes.proofs.Readers.{bind_some}
-use Rattle.comp_meaning.specs.Follow.{given as payload}
-use Rattle.comp_meaning.specs.Follow.{case_type, definition, each, field_type, is_filled, provided, value_type}
-use Rattle.read_follow.specs.declared.refusal.Refusal.{Refusal}
-use Rattle.read_follow.specs.declared.slots.Slot.{Slot}
-use Rattle.read_follow.specs.Found.{Refuses}
+use Rattle.comp_meaning.specs.Follow.{given as payload, case_type, definition, each, field_type, is_filled, provided, value_type}
+use Rattle.read_follow.specs.declared.{refusal.Refusal.Refusal, slots.Slot.Slot}
+use Rattle.read_follow.specs.{Found.Refuses, Slots.slots_in, Slots.AreInRange, DefinitionKeys.IsNodeOf}
 use Rattle.read_follow.specs.Rows.{behind_rows, case_labels, case_trees, field_labels, field_trees, value_labels, value_trees, RowsOf, RowsSoFar}
 use Rattle.plan_meaning.specs.Shapes.{marked, part_tree}
-use Rattle.read_follow.specs.Slots.{slots_in, AreInRange}
-use Rattle.read_follow.specs.DefinitionKeys.{IsNodeOf}
 use Rattle.read_follow.proofs.Refusing.{refused}
-use Rattle.base_lemmas.proofs.Elements.{all_end}
-use Rattle.base_lemmas.proofs.Options.{some_is}
+use Rattle.base_lemmas.proofs.{Elements.all_end, Options.some_is}
 use Rattle.wit_model.proofs.RulesLemmas.{items_of_map as mapped_items}
 
 pub behind_none : {Y : Type 0} (found : Option (List Y)) → behind_rows [] found ≡ found

@@ -1,36 +1,24 @@
 -- A scope of a component type in tables that grow, with something more in it.
 use Rattle.std.proofs.Common.{◌≡◌, ◌⊎◌, inl, inr, refl, sym, ap, ◌∙◌, subst, ℕ, zero, suc, ◌+◌, ◌<◌, ◌≤◌, ◌==◌, ◌||◌, arith, Bool, true, false, cond, List, [], ◌∷◌, ◌++◌, map, length, length-append, Option, Some, None, slice_get, unwrap_or, option_map}
+use Rattle.std.proofs.lemmas.{Bool.eq-eqb, List.append-nil, List.map-append, Option.slice_get_within as found_below}
 use Rattle.std.specs.List.{AllByRecursion, flat_map, list_any}
-use Rattle.std.proofs.lemmas.Bool.{eq-eqb}
-use Rattle.std.proofs.lemmas.List.{append-nil, map-append}
-use Rattle.wit_model.specs.Meaning.{Signature}
-use Rattle.wit_model.specs.Tree.{Place, Tree}
+use Rattle.wit_model.specs.{Meaning.Signature, Tree.Place, Tree.Tree}
 use Rattle.comp_bytes.specs.RawOf.{text_of}
 use Rattle.comp_meaning.specs.Follow.{Scope as MeantScope, Seen as MeantSeen, Shown as MeantShown, Instance as MeantInstance, Slot as Meant, in_scope, see}
-use Rattle.read_follow.specs.declared.instance_keys.InstanceKey.{InstanceKey}
-use Rattle.read_follow.specs.declared.instance_keys.InstanceKey.TheVariants as keys
-use Rattle.read_follow.specs.declared.scopes.Instance.{Instance}
-use Rattle.read_follow.specs.declared.scopes.Seen.{Seen}
-use Rattle.read_follow.specs.declared.scopes.Shown.{Shown}
-use Rattle.read_follow.specs.declared.scopes.Shown.TheVariants as shown
-use Rattle.read_follow.specs.declared.slots.Slot.{Slot}
-use Rattle.read_follow.specs.declared.slots.Slot.TheVariants as slots
+use Rattle.read_follow.specs.declared.{instance_keys.InstanceKey.InstanceKey, scopes.Instance.Instance, scopes.Seen.Seen, scopes.Shown.Shown, slots.Slot.Slot}
 use Rattle.read_follow.specs.declared.views.View.{View}
-use Rattle.read_follow.specs.Defining.{Grows}
-use Rattle.read_follow.specs.Following.{AreSlotsIn, AreTables, IsShownFunctionIn, IsShownIn, IsSlotIn}
+use Rattle.read_follow.specs.{Defining.Grows, Following.AreSlotsIn, Following.AreTables, Following.IsShownFunctionIn, Following.IsShownIn, Following.IsSlotIn}
 use Rattle.read_follow.specs.Functions.{functions_in, FunctionShape}
 use Rattle.read_follow.specs.Numbering.{all_in, bare_parts, scoped_trees, slot_trees, trees_since, used_trees, CountUp}
-use Rattle.read_follow.specs.Places.{key_at, ArePlacesOf, IsKeyIn}
+use Rattle.read_follow.specs.{Places.key_at, Places.ArePlacesOf, Places.IsKeyIn, Slots.no_signature, Slots.slot_in, Slots.slots_in}
 use Rattle.read_follow.specs.Scopes.{direction, instance_in, meant_at, seen_in, shown_in, view_in, viewed, waiting, ArePathsInOrder, ArePathsMet, AreScopedIn, AreSeenIn, Goes, IsInstanceIn, IsPlaceMet, IsPlaceMetBefore, IsPlacedWorld, IsShownAs, IsWorld, Numbers, World}
-use Rattle.read_follow.specs.Slots.{no_signature, slot_in, slots_in}
 use Rattle.plan_meaning.specs.Shapes.{Shape, shape_trees}
-use Rattle.read_follow.proofs.DefiningLaws.{all_at, longer}
+use Rattle.read_follow.proofs.{DefiningLaws.all_at, DefiningLaws.longer, NumberingLaws.since_plus, PlacedLaws.stands_on, PlacedLaws.stood}
 use Rattle.read_follow.proofs.FollowingLaws.{declared_stays, functions_stay, signature_stays, slots_stay, types_stay, wider_declared, wider_functions, wider_number, wider_part, wider_slots, wider_types}
-use Rattle.read_follow.proofs.NumberingLaws.{since_plus}
-use Rattle.read_follow.proofs.PlacedLaws.{stands_on, stood}
-use Rattle.base_lemmas.proofs.Elements.{all_both}
-use Rattle.base_lemmas.proofs.Lists.{length_of_map, slice_front, split_at}
-use Rattle.std.proofs.lemmas.Option.{slice_get_within as found_below}
+use Rattle.base_lemmas.proofs.{Elements.all_both, Lists.length_of_map, Lists.slice_front, Lists.split_at}
+use Rattle.read_follow.specs.declared.instance_keys.InstanceKey.TheVariants as keys
+use Rattle.read_follow.specs.declared.scopes.Shown.TheVariants as shown
+use Rattle.read_follow.specs.declared.slots.Slot.TheVariants as slots
 
 -- ---- what is well-formed stays so
 

@@ -1,32 +1,19 @@
 -- The scopes of types: a type is over names of its scope's place and of places with a path.
 use Rattle.std.proofs.Common.{◌≡◌, inl, inr, sym, ap, ◌∙◌, subst, ℕ, ◌+◌, ◌<◌, List, [], ◌∷◌, ◌++◌, map, length, Option, Some, None, slice_get}
-use Rattle.std.specs.List.{AllByRecursion, Contains, flat_map}
 use Rattle.std.proofs.lemmas.List.{append-nil}
-use Rattle.wit_model.specs.Meaning.{Signature}
-use Rattle.wit_model.specs.Text.{Text}
-use Rattle.wit_model.specs.Tree.{Place, Tree}
-use Rattle.read_follow.specs.declared.scopes.Instance.{Instance}
-use Rattle.read_follow.specs.declared.scopes.Seen.{Seen}
-use Rattle.read_follow.specs.declared.slots.Slot.{Slot}
-use Rattle.read_follow.specs.declared.slots.Slot.TheVariants as slots
-use Rattle.read_follow.specs.Defining.{Grows}
-use Rattle.read_follow.specs.Facts.{places}
-use Rattle.read_follow.specs.Following.{AreTables, IsSlotIn}
-use Rattle.read_follow.specs.Functions.{functions_in, FunctionShape}
+use Rattle.std.specs.List.{AllByRecursion, Contains, flat_map}
+use Rattle.wit_model.specs.{Meaning.Signature, Text.Text, Tree.Place, Tree.Tree}
+use Rattle.read_follow.specs.declared.{scopes.Instance.Instance, scopes.Seen.Seen, slots.Slot.Slot}
+use Rattle.read_follow.specs.{Defining.Grows, Facts.places}
+use Rattle.read_follow.specs.{Following.AreTables, Following.IsSlotIn, Placed.apart, Placed.MayMeet, Placed.SlotOver, Placed.TreeOver, Places.has_path}
+use Rattle.read_follow.specs.{Functions.functions_in, Functions.FunctionShape, Slots.resource_slot, Slots.slot_in, Slots.slots_in, Slots.AreNames, Slots.IsName}
 use Rattle.read_follow.specs.Numbering.{all_in, bare_parts, parts_in, scoped_trees, slot_parts, slot_trees, CountUp}
-use Rattle.read_follow.specs.Placed.{apart, MayMeet, SlotOver, TreeOver}
-use Rattle.read_follow.specs.Places.{has_path}
 use Rattle.read_follow.specs.Scopes.{meant_at, AreScopedIn, IsPartOver, IsScopedIn, IsWorld, World}
-use Rattle.read_follow.specs.Slots.{resource_slot, slot_in, slots_in, AreNames, IsName}
 use Rattle.plan_meaning.specs.Shapes.{Shape, part_tree, shape_trees}
-use Rattle.read_follow.proofs.DefiningLaws.{part_grown}
-use Rattle.read_follow.proofs.FollowingLaws.{names_of}
-use Rattle.read_follow.proofs.NumberingLaws.{bare_all, scoped_all, slots_declare}
-use Rattle.read_follow.proofs.OverLaws.{name_over}
-use Rattle.read_follow.proofs.PlacedLaws.{met_wider, stands_on}
-use Rattle.read_follow.proofs.ScopeLaws.{extended, IsNumbered}
-use Rattle.base_lemmas.proofs.Elements.{all_at_too}
-use Rattle.base_lemmas.proofs.Lists.{at_last, mapped_get}
+use Rattle.read_follow.proofs.{DefiningLaws.part_grown, FollowingLaws.names_of, OverLaws.name_over, ScopeLaws.extended, ScopeLaws.IsNumbered}
+use Rattle.read_follow.proofs.{NumberingLaws.bare_all, NumberingLaws.scoped_all, NumberingLaws.slots_declare, PlacedLaws.met_wider, PlacedLaws.stands_on}
+use Rattle.base_lemmas.proofs.{Elements.all_at_too, Lists.at_last, Lists.mapped_get}
+use Rattle.read_follow.specs.declared.slots.Slot.TheVariants as slots
 
 -- ---- slots
 

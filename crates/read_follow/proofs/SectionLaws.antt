@@ -1,22 +1,15 @@
 -- Sections in front of bytes, and those behind them.
 use Rattle.std.proofs.Common.{◌≡◌, refl, sym, ap, ◌∙◌, ℕ, ◌<◌, ◌≤◌, ◌^◌, arith, Bool, true, false, ◌&&◌, cond, ltb, nat_eq, List, [], ◌∷◌, ◌++◌, length, map, take, drop, Option, Some, None, append_assoc, append-nil}
-use Rattle.std.proofs.lemmas.Bool.{ne_eqb, eq-eqb, lt-ltb, ltb-true, false_from_ne_true}
-use Rattle.std.proofs.lemmas.List.{map-append}
-use Rattle.std.proofs.lemmas.Cmp.{nat_list_eq_equiv}
+use Rattle.std.proofs.lemmas.{Bool.ne_eqb, Bool.eq-eqb, Bool.lt-ltb, Bool.ltb-true, Bool.false_from_ne_true, List.map-append, Cmp.nat_list_eq_equiv}
 use Rattle.std.specs.List.{starts_with}
 use Rattle.wit_model.specs.declared.error.Error.{Error}
-use Rattle.wit_model.specs.declared.error.Error.TheVariants as errors
-use Rattle.comp_bytes.specs.Levels.{Piece, piece_of, pieces_in, levels_of}
-use Rattle.comp_bytes.specs.Reading.{◌>>=◌, frame_at, name_at}
-use Rattle.comp_bytes.specs.Answer.{Refuses as RefusesAt}
-use Rattle.comp_bytes.specs.Frames.{IsCustom, RefusesFront}
-use Rattle.comp_bytes.specs.Spelling.{preamble}
-use Rattle.comp_bytes.proofs.PartLaws.{name_law}
-use Rattle.comp_bytes.proofs.PieceLaws.{pieces_by_frames}
+use Rattle.comp_bytes.specs.{Levels.Piece, Levels.piece_of, Levels.pieces_in, Levels.levels_of, Reading.◌>>=◌, Reading.frame_at, Reading.name_at}
+use Rattle.comp_bytes.specs.{Answer.Refuses as RefusesAt, Frames.IsCustom, Frames.RefusesFront, Spelling.preamble}
+use Rattle.comp_bytes.proofs.{PartLaws.name_law, PieceLaws.pieces_by_frames}
 use Rattle.read_follow.specs.declared.refusal.Refusal.{Refusal}
+use Rattle.read_follow.specs.{Found.Refuses, Found.refusal_from, Found.IsNoReading, Pieces.piece_at, Pieces.AreAlike}
+use Rattle.wit_model.specs.declared.error.Error.TheVariants as errors
 use Rattle.read_follow.specs.declared.refusal.Refusal.TheVariants as refusals
-use Rattle.read_follow.specs.Found.{Refuses, refusal_from, IsNoReading}
-use Rattle.read_follow.specs.Pieces.{piece_at, AreAlike}
 
 -- ---- the frame in front
 

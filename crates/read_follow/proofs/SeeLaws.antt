@@ -1,49 +1,31 @@
 -- What imports, exports and aliases of a component type show.
 use Rattle.std.proofs.Common.{◌≡◌, ◌⊎◌, inl, inr, refl, sym, ap, ◌∙◌, subst, ℕ, ◌+◌, ◌<◌, ◌≤◌, arith, Bool, true, false, cond, List, [], ◌∷◌, ◌++◌, map, length, Option, Some, None, IfSome, slice_get, unwrap_or, Result, Ok, Err, OnOk}
+use Rattle.std.proofs.{Math.ListN.length-map, lemmas.Bool.cases_lt, lemmas.List.append-nil, lemmas.Option.slice_get_within as found_below}
 use Rattle.std.specs.List.{AllByRecursion}
-use Rattle.std.proofs.Math.ListN.{length-map}
-use Rattle.std.proofs.lemmas.Bool.{cases_lt}
-use Rattle.std.proofs.lemmas.List.{append-nil}
-use Rattle.wit_model.specs.Meaning.{Signature}
-use Rattle.wit_model.specs.Text.{Text}
-use Rattle.wit_model.specs.Tree as tree
-use Rattle.wit_model.specs.Tree.{Place, Tree}
+use Rattle.wit_model.specs.{Meaning.Signature, Text.Text, Tree.Place, Tree.Tree}
 use Rattle.comp_bytes.specs.declared.forms.ComponentTypeRef.{ComponentTypeRef}
 use Rattle.comp_bytes.specs.Reading.{◌>>=◌}
-use Rattle.comp_meaning.specs.Follow as follow
 use Rattle.comp_meaning.specs.Follow.{Scope as MeantScope, Seen as MeantSeen, Instance as MeantInstance, Slot as Meant, function_in, in_scope, is_simple, named_type, provided, see, see_function, see_type}
-use Rattle.read_follow.specs.declared.names.ExternName.{ExternName}
-use Rattle.read_follow.specs.declared.refusal.Refusal.{Refusal}
-use Rattle.read_follow.specs.declared.scopes.Instance.{Instance}
-use Rattle.read_follow.specs.declared.scopes.Seen.{Seen}
-use Rattle.read_follow.specs.declared.scopes.Shown.TheVariants as shown
-use Rattle.read_follow.specs.declared.shows.NewName.{NewName}
+use Rattle.read_follow.specs.declared.{names.ExternName.ExternName, refusal.Refusal.Refusal, scopes.Instance.Instance, scopes.Seen.Seen, shows.NewName.NewName}
 use Rattle.read_follow.specs.declared.slots.Slot.{Slot}
-use Rattle.read_follow.specs.declared.slots.Slot.TheVariants as slots
-use Rattle.read_follow.specs.Defining.{Grows}
-use Rattle.read_follow.specs.ExternNames.{raw_name}
-use Rattle.read_follow.specs.Following.{declared_in, AreTables, IsSlotIn, IsState, State}
-use Rattle.read_follow.specs.Found.{Refuses}
-use Rattle.read_follow.specs.Functions.{functions_in, IsFunctionIn}
+use Rattle.read_follow.specs.{Defining.Grows, Placed.apart, Placed.DeclarationOver, Placed.MayMeet, Placed.SignatureOver, Placed.SlotOver, Places.has_path}
+use Rattle.read_follow.specs.{ExternNames.raw_name, Following.declared_in, Following.AreTables, Following.IsSlotIn, Following.IsState, Following.State}
+use Rattle.read_follow.specs.{Found.Refuses, Slots.no_signature, Slots.slot_in, Slots.slots_in, Slots.AreInRange, Slots.AreNames}
+use Rattle.read_follow.specs.{Functions.functions_in, Functions.IsFunctionIn, Numbering.all_in, Numbering.parts_in, Numbering.slot_parts, Numbering.CountUp}
 use Rattle.read_follow.specs.InstanceScopes.{name_meant, name_slot, named_by}
-use Rattle.read_follow.specs.Numbering.{all_in, parts_in, slot_parts, CountUp}
-use Rattle.read_follow.specs.Placed.{apart, DeclarationOver, MayMeet, SignatureOver, SlotOver}
-use Rattle.read_follow.specs.Places.{has_path}
 use Rattle.read_follow.specs.Scopes.{direction, meant_at, seen_in, waiting, world_signatures, world_trees, Goes, IsCountedAs, IsImportNamed, IsImportRepeated, IsKeyPlaced, IsLastName, IsPlacedWorld, IsShownAs, IsShownBy, by_instance, by_import, IsWorld, ShownOver, Stops, World}
-use Rattle.read_follow.specs.Slots.{no_signature, slot_in, slots_in, AreInRange, AreNames}
 use Rattle.plan_meaning.specs.Shapes.{Shape, first_label, named_shape, node_shape, shape_trees, Adds, IsTable}
 use Rattle.read_follow.proofs.DefiningLaws.{adds_cases, adds_grow, adds_name, adds_one, adds_placed, all_at, longer, same_list}
-use Rattle.read_follow.proofs.FollowingLaws.{declared_stays, functions_wider, names_of}
-use Rattle.read_follow.proofs.OverLaws.{named_over}
-use Rattle.read_follow.proofs.PlacedLaws.{stands_on, stood}
+use Rattle.read_follow.proofs.{FollowingLaws.declared_stays, FollowingLaws.functions_wider, FollowingLaws.names_of, PlacedLaws.stands_on, PlacedLaws.stood}
+use Rattle.read_follow.proofs.{OverLaws.named_over, Refusing.refused, ScopedLaws.slot_numbered, SlotLaws.at_slot}
 use Rattle.read_follow.proofs.PlacedScopes.{both_pass, counts_below, extended_placed, import_passes, imported_many, none_past, one_counted, seen_passes}
-use Rattle.read_follow.proofs.Refusing.{refused}
 use Rattle.read_follow.proofs.ScopeLaws.{all_before, exported, extended, extended_world, goes_on, imported, none_behind, plus, plus_seen, plus_type, waiting_push, waits}
-use Rattle.read_follow.proofs.ScopedLaws.{slot_numbered}
 use Rattle.read_follow.proofs.ShowLaws.{declared_range, name_counted, name_in, name_stands, old_range, own_over}
-use Rattle.read_follow.proofs.SlotLaws.{at_slot}
 use Rattle.base_lemmas.proofs.Lists.{at_last, last_or}
-use Rattle.std.proofs.lemmas.Option.{slice_get_within as found_below}
+use Rattle.wit_model.specs.Tree as tree
+use Rattle.comp_meaning.specs.Follow as follow
+use Rattle.read_follow.specs.declared.scopes.Shown.TheVariants as shown
+use Rattle.read_follow.specs.declared.slots.Slot.TheVariants as slots
 
 -- ---- results
 

@@ -1,42 +1,29 @@
 -- What the exports of an instance type show.
 use Rattle.std.proofs.Common.{◌≡◌, refl, sym, ap, ◌∙◌, subst, ℕ, ◌+◌, ◌<◌, ◌≤◌, arith, Bool, true, false, List, [], ◌∷◌, ◌++◌, map, length, Option, Some, None, IfSome, slice_get, unwrap_or}
+use Rattle.std.proofs.lemmas.{List.map-append, Option.slice_get_within as found_below}
 use Rattle.std.specs.List.{AllByRecursion}
-use Rattle.std.proofs.lemmas.List.{map-append}
-use Rattle.wit_model.specs.Meaning.{FunctionMeaning, Signature}
-use Rattle.wit_model.specs.Text.{Text}
-use Rattle.wit_model.specs.Tree as tree
-use Rattle.wit_model.specs.Tree.{Place, Tree}
+use Rattle.wit_model.specs.{Meaning.FunctionMeaning, Meaning.Signature, Text.Text, Tree.Place, Tree.Tree}
 use Rattle.comp_bytes.specs.declared.forms.ComponentTypeRef.{ComponentTypeRef}
-use Rattle.comp_bytes.specs.declared.forms.ComponentTypeRef.TheVariants as refs
-use Rattle.comp_bytes.specs.Raw.{ExternName as RawName}
-use Rattle.comp_bytes.specs.Reading.{◌>>=◌}
-use Rattle.comp_meaning.specs.Follow as follow
+use Rattle.comp_bytes.specs.{Raw.ExternName as RawName, Reading.◌>>=◌}
 use Rattle.comp_meaning.specs.Follow.{InstanceScope as MeantScope, Slot as Meant, function_in, named_type, show_function, show_type}
-use Rattle.read_follow.specs.declared.names.ExternName.{ExternName}
-use Rattle.read_follow.specs.declared.refusal.Refusal.{Refusal}
-use Rattle.read_follow.specs.declared.shows.NewName.{NewName}
-use Rattle.read_follow.specs.declared.slots.Slot.{Slot}
-use Rattle.read_follow.specs.declared.slots.Slot.TheVariants as slots
-use Rattle.read_follow.specs.declared.views.ShownFunction.{ShownFunction}
-use Rattle.read_follow.specs.declared.views.ShownType.{ShownType}
-use Rattle.read_follow.specs.ExternNames.{raw_name}
+use Rattle.read_follow.specs.declared.{names.ExternName.ExternName, refusal.Refusal.Refusal, views.ShownFunction.ShownFunction, views.ShownType.ShownType}
+use Rattle.read_follow.specs.declared.{shows.NewName.NewName, slots.Slot.Slot}
+use Rattle.read_follow.specs.{ExternNames.raw_name, Found.Refuses, Functions.functions_in}
 use Rattle.read_follow.specs.Following.{declared_in, scope_at, shown_function, shown_type, signatures_at, slots_at, trees_at, AreTables, Halts, IsShownFunctionIn, IsShownIn, IsSlotIn, IsState, IsTypeSlot, State, Steps}
-use Rattle.read_follow.specs.Found.{Refuses}
-use Rattle.read_follow.specs.Functions.{functions_in}
-use Rattle.read_follow.specs.InstanceScopes.{name_meant, name_slot, named_by}
-use Rattle.read_follow.specs.Numbering.{slot_parts, CountUp}
+use Rattle.read_follow.specs.{InstanceScopes.name_meant, InstanceScopes.name_slot, InstanceScopes.named_by, Numbering.slot_parts, Numbering.CountUp}
 use Rattle.read_follow.specs.Placed.{apart, slot_part, DeclarationOver, MayMeet, SlotOver, ViewOver}
 use Rattle.read_follow.specs.Slots.{no_signature, resource_slot, slot_in, slots_in, AreInRange, AreNames, IsName}
 use Rattle.plan_meaning.specs.Shapes.{Shape, named_shape, part_tree, shape_trees, Adds, IsTable}
 use Rattle.read_follow.proofs.DefiningLaws.{adds_grow, adds_one, adds_placed, all_at, longer, no_shapes, same_list}
 use Rattle.read_follow.proofs.FollowingLaws.{declared_stays, functions_wider, name_part, names_of, ranges_of, shown_scope, shown_state}
-use Rattle.read_follow.proofs.NumberingLaws.{adds_next, count_pushed}
+use Rattle.read_follow.proofs.{NumberingLaws.adds_next, NumberingLaws.count_pushed, Refusing.refused, SlotLaws.at_slot, SlotLaws.name_at, SlotLaws.no_slot}
 use Rattle.read_follow.proofs.OverLaws.{name_over, named_over}
 use Rattle.read_follow.proofs.PlacedLaws.{function_over_more, own_met, same_types, type_more, type_over_more}
-use Rattle.read_follow.proofs.Refusing.{refused}
-use Rattle.read_follow.proofs.SlotLaws.{at_slot, name_at, no_slot}
 use Rattle.base_lemmas.proofs.Elements.{all_end}
-use Rattle.std.proofs.lemmas.Option.{slice_get_within as found_below}
+use Rattle.wit_model.specs.Tree as tree
+use Rattle.comp_bytes.specs.declared.forms.ComponentTypeRef.TheVariants as refs
+use Rattle.comp_meaning.specs.Follow as follow
+use Rattle.read_follow.specs.declared.slots.Slot.TheVariants as slots
 
 -- ---- what an export of a type declares
 

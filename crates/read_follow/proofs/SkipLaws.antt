@@ -2,12 +2,10 @@
 use Rattle.std.proofs.Common.{◌≡◌, refl, sym, ap, ◌∙◌, ℕ, suc, ◌+◌, ◌-◌, ◌<◌, ◌≤◌, arith, Bool, true, false, cond, eqb-true, List, [], ◌∷◌, Option, Some, None, ◌==◌}
 use Rattle.comp_bytes.specs.FirstByte.{declared_type_at, defined_type_at, function_type_at}
 use Rattle.comp_bytes.specs.Raw.{Declaration, DefinedType, ExternName}
-use Rattle.comp_bytes.specs.declared.forms.ComponentTypeRef.{ComponentTypeRef}
 use Rattle.comp_bytes.specs.Reading.{Reader, ◌>>=◌, as_at, case_at, choose, declaration_at, description_at, extern_name_at, field_at, function_of, name_at, pair_at, plain_name, result_list_at, sequence_at, tagged_at, u32_at, value_type_at, vector_at}
-use Rattle.read_follow.specs.Bodies.{behind, held_declaration_at, is_import}
-use Rattle.read_follow.specs.Declares.{declaration_by_first, type_by_first}
-use Rattle.read_follow.proofs.BodyLaws.{found_before, none_found}
-use Rattle.read_follow.proofs.DeclarationLaws.{declaration_first}
+use Rattle.comp_bytes.specs.declared.forms.ComponentTypeRef.{ComponentTypeRef}
+use Rattle.read_follow.specs.{Bodies.behind, Bodies.held_declaration_at, Bodies.is_import, Declares.declaration_by_first, Declares.type_by_first}
+use Rattle.read_follow.proofs.{BodyLaws.found_before, BodyLaws.none_found, DeclarationLaws.declaration_first}
 
 -- a form under another name has the same bytes behind it
 pub behind_as : {A B : Type 0} (f : A → B) (o : Option (A × List ℕ)) → behind (o >>= λ x. Some (f x.0, x.1)) ≡ behind o

@@ -1,16 +1,15 @@
 -- What the slots of a scope stand for, by number.
 use Rattle.std.proofs.Common.{◌≡◌, refl, ap, ◌∙◌, ℕ, zero, suc, ◌<◌, ◌+◌, arith, List, [], ◌∷◌, map, Some, None, slice_get}
-use Rattle.wit_model.specs.Meaning.{Signature}
-use Rattle.wit_model.specs.Tree.{Tree}
+use Rattle.wit_model.specs.{Meaning.Signature, Tree.Tree}
 use Rattle.comp_bytes.specs.declared.forms.PrimitiveValType.{PrimitiveValType}
-use Rattle.comp_bytes.specs.declared.forms.PrimitiveValType.TheVariants as primitives
-use Rattle.comp_bytes.specs.declared.forms.ComponentValType.TheVariants as values
 use Rattle.comp_meaning.specs.Follow.{function_in, value_type, value_in, resource_in, primitive_of_type}
 use Rattle.read_follow.specs.declared.slots.Slot.{Slot}
-use Rattle.read_follow.specs.declared.slots.Slot.TheVariants as slots
 use Rattle.plan_meaning.specs.Shapes.{part_tree}
 use Rattle.read_follow.specs.Slots.{slot_in, slots_in, resource_slot, primitive_index, AreInRange, IsName, AreNames}
 use Rattle.base_lemmas.proofs.Lists.{mapped_get}
+use Rattle.comp_bytes.specs.declared.forms.PrimitiveValType.TheVariants as primitives
+use Rattle.comp_bytes.specs.declared.forms.ComponentValType.TheVariants as values
+use Rattle.read_follow.specs.declared.slots.Slot.TheVariants as slots
 
 pub primitive_part : (T : List Tree) (p : PrimitiveValType) → Tree.primitive (primitive_of_type p) ≡ part_tree T (primitive_index p)
 unfolding part_tree

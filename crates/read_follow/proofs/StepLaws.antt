@@ -1,36 +1,22 @@
 -- One declaration of an instance type after the other.
 use Rattle.std.proofs.Common.{◌≡◌, inl, refl, sym, ap, ◌∙◌, subst, ℕ, suc, ◌+◌, ◌-◌, ◌<◌, ◌≤◌, arith, Bool, true, false, ◌&&◌, ◌==◌, List, [], ◌∷◌, ◌++◌, length, Option, Some, None, slice_get, append_assoc}
+use Rattle.std.proofs.lemmas.Option.{none-some as not_some, same_Some as some_same, slice_get_within as found_below}
 use Rattle.std.specs.List.{AllByRecursion}
 use Rattle.wit_model.specs.Tree.{Place, Tree}
-use Rattle.comp_bytes.specs.Raw.{Alias, Declaration}
-use Rattle.comp_bytes.specs.Reading.{◌>>=◌, Reader, sequence_at}
+use Rattle.comp_bytes.specs.{Raw.Alias, Raw.Declaration, Reading.◌>>=◌, Reading.Reader, Reading.sequence_at}
 use Rattle.comp_meaning.specs.Follow.{InstanceScope as MeantScope, in_instance, instance_step, instance_steps, instance_view, is_foreign_name, new_instance, provided}
-use Rattle.read_follow.specs.declared.bodies.Body.{Body}
-use Rattle.read_follow.specs.declared.refusal.Refusal.{Refusal}
-use Rattle.read_follow.specs.declared.slots.Slot.{Slot}
-use Rattle.read_follow.specs.declared.views.InstanceScope.{InstanceScope}
-use Rattle.read_follow.specs.declared.views.ShownFunction.{ShownFunction}
-use Rattle.read_follow.specs.declared.views.ShownType.{ShownType}
-use Rattle.read_follow.specs.declared.views.View.{View}
-use Rattle.read_follow.specs.Bodies.{held_declaration_at, items_in, IsBody}
-use Rattle.read_follow.specs.Defining.{Grows}
+use Rattle.read_follow.specs.declared.{bodies.Body.Body, slots.Slot.Slot, views.View.View}
+use Rattle.read_follow.specs.declared.{refusal.Refusal.Refusal, views.InstanceScope.InstanceScope, views.ShownFunction.ShownFunction, views.ShownType.ShownType}
+use Rattle.read_follow.specs.{Bodies.held_declaration_at, Bodies.items_in, Bodies.IsBody, Defining.Grows, Functions.functions_in, Functions.FunctionShape}
 use Rattle.read_follow.specs.Following.{scope_at, signatures_at, slots_at, trees_at, view_at, AreMarked, AreSlotsIn, AreTables, Halts, IsPlacedState, IsShownFunctionIn, IsShownIn, IsSlotIn, IsState, State, Steps}
 use Rattle.read_follow.specs.Found.{Refuses}
-use Rattle.read_follow.specs.Functions.{functions_in, FunctionShape}
 use Rattle.read_follow.specs.InstanceScopes.{foreign_slot, state_of, step_of, tables_of, taken_by, IsFollowed, IsViewOf, ShowsNothing}
-use Rattle.read_follow.specs.Numbering.{held_trees, parts_in}
-use Rattle.read_follow.specs.Placed.{apart, MayMeet, SlotOver}
-use Rattle.read_follow.specs.Slots.{slot_in, slots_in}
+use Rattle.read_follow.specs.{Numbering.held_trees, Numbering.parts_in, Placed.apart, Placed.MayMeet, Placed.SlotOver, Slots.slot_in, Slots.slots_in}
 use Rattle.plan_meaning.specs.Shapes.{Shape, named_shape, node_shape, shape_trees}
-use Rattle.read_follow.proofs.AliasLaws.{foreign_over, slot_foreign}
-use Rattle.read_follow.proofs.DefiningLaws.{all_at, no_shapes, same_list}
+use Rattle.read_follow.proofs.{AliasLaws.foreign_over, AliasLaws.slot_foreign, Refusing.refused, ScopedLaws.parts_over, SlotLaws.at_slot, SlotLaws.no_slot}
+use Rattle.read_follow.proofs.{DefiningLaws.all_at, DefiningLaws.no_shapes, DefiningLaws.same_list, NumberingLaws.count_pushed, NumberingLaws.slots_declare}
 use Rattle.read_follow.proofs.FollowingLaws.{names_of, pushed_placed, pushed_scope, pushed_state, slot_counted, slots_stay, wider_slots}
-use Rattle.read_follow.proofs.NumberingLaws.{count_pushed, slots_declare}
-use Rattle.read_follow.proofs.Refusing.{refused}
-use Rattle.read_follow.proofs.ScopedLaws.{parts_over}
-use Rattle.read_follow.proofs.SlotLaws.{at_slot, no_slot}
 use Rattle.base_lemmas.proofs.Numbers.{less}
-use Rattle.std.proofs.lemmas.Option.{none-some as not_some, same_Some as some_same, slice_get_within as found_below}
 
 -- ---- aliases
 

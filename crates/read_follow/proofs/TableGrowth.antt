@@ -1,7 +1,6 @@
 -- A table with one type more.
 use Rattle.std.proofs.Common.{◌≡◌, inl, inr, refl, sym, ap, ◌∙◌, subst, ℕ, zero, suc, ◌+◌, ◌<◌, arith, List, [], ◌∷◌, ◌++◌, length, Some, slice_get, unwrap_or, length-append}
-use Rattle.wit_model.specs.Tree.{Place, Tree}
-use Rattle.wit_model.specs.Types.{grow, no_tree}
+use Rattle.wit_model.specs.{Tree.Place, Tree.Tree, Types.grow, Types.no_tree}
 use Rattle.wit_model.proofs.Tables.{grow_keeps}
 use Rattle.plan_meaning.specs.Shapes.{Shape, part_tree, shape_tree, shape_trees, IsShape, IsTable, Adds, stays, comes}
 use Rattle.read_follow.specs.declared.facts.Fact.{Fact}

@@ -1,52 +1,32 @@
 -- What instances of a component type show, and what they use.
 use Rattle.std.proofs.Common.{◌≡◌, ◌⊎◌, inl, inr, refl, sym, ap, ◌∙◌, subst, ℕ, zero, suc, ◌+◌, ◌<◌, ◌≤◌, ◌==◌, arith, Bool, true, false, not, ◌||◌, eqb, List, [], ◌∷◌, ◌++◌, map, length, length-append, take, Option, Some, None, slice_get, Result, Ok, Err, IfOk, IfErr}
-use Rattle.std.specs.List.{list_any}
 use Rattle.std.proofs.Math.ListN.{length-map}
-use Rattle.std.proofs.lemmas.Bool.{cases_lt, eqb-true, eq-eqb}
-use Rattle.std.proofs.lemmas.List.{append-nil, take-map}
-use Rattle.wit_model.specs.Meaning.{Signature}
-use Rattle.wit_model.specs.Text.{Text}
-use Rattle.wit_model.specs.Tree.{Place, Tree}
+use Rattle.std.proofs.lemmas.{Bool.cases_lt, Bool.eqb-true, Bool.eq-eqb, List.append-nil, List.take-map, Option.slice_get_within as found_below}
+use Rattle.std.specs.List.{list_any}
+use Rattle.wit_model.specs.{Meaning.Signature, Text.Text, Tree.Place, Tree.Tree}
 use Rattle.comp_bytes.specs.Reading.{◌>>=◌}
-use Rattle.comp_meaning.specs.Follow as follow
 use Rattle.comp_meaning.specs.Follow.{Scope as MeantScope, Seen as MeantSeen, Key, Slot as Meant, View as MeantView, interface_of, key_text, see, see_instance, used_view, when}
-use Rattle.read_follow.specs.declared.bodies.Body.{Body}
-use Rattle.read_follow.specs.declared.instance_keys.InstanceKey.{InstanceKey}
-use Rattle.read_follow.specs.declared.instance_keys.InstanceKey.TheVariants as keys
-use Rattle.read_follow.specs.declared.names.ExternName.{ExternName}
-use Rattle.read_follow.specs.declared.refusal.Refusal.{Refusal}
-use Rattle.read_follow.specs.declared.scopes.Instance.{Instance}
-use Rattle.read_follow.specs.declared.scopes.Seen.{Seen}
-use Rattle.read_follow.specs.declared.scopes.Shown.TheVariants as shown
-use Rattle.read_follow.specs.declared.slots.Slot.{Slot}
-use Rattle.read_follow.specs.declared.slots.Slot.TheVariants as slots
-use Rattle.read_follow.specs.declared.views.View.{View}
-use Rattle.read_follow.specs.Bodies.{held_declaration_at, items_in}
-use Rattle.read_follow.specs.Defining.{Grows}
-use Rattle.read_follow.specs.ExternNames.{raw_name}
+use Rattle.read_follow.specs.declared.{bodies.Body.Body, scopes.Seen.Seen, slots.Slot.Slot, views.View.View}
+use Rattle.read_follow.specs.declared.{instance_keys.InstanceKey.InstanceKey, names.ExternName.ExternName, refusal.Refusal.Refusal, scopes.Instance.Instance}
+use Rattle.read_follow.specs.{Bodies.held_declaration_at, Bodies.items_in, Slots.resource_slot, Slots.slot_in, Slots.slots_in}
+use Rattle.read_follow.specs.{Defining.Grows, ExternNames.raw_name, Placed.apart, Placed.ComeBefore, Placed.HasNoNames, Placed.IsTypeNamed, Placed.MayMeet}
 use Rattle.read_follow.specs.Following.{is_path, slots_at, AreMarked, AreSlotsIn, AreTables, IsSlotIn, State}
-use Rattle.read_follow.specs.Functions.{functions_in, FunctionShape}
-use Rattle.read_follow.specs.InstanceScopes.{tables_of, IsViewOf, ShowsNothing}
+use Rattle.read_follow.specs.{Functions.functions_in, Functions.FunctionShape, InstanceScopes.tables_of, InstanceScopes.IsViewOf, InstanceScopes.ShowsNothing}
 use Rattle.read_follow.specs.Numbering.{all_in, held_trees, instance_trees, scoped_trees, used_trees, CountUp}
-use Rattle.read_follow.specs.Placed.{apart, ComeBefore, HasNoNames, IsTypeNamed, MayMeet}
 use Rattle.read_follow.specs.Places.{has_path, key_at, path_text, place_number, ArePlacesOf, IsFreshKey, IsKeyIn, IsKeyOf, IsOnlyNew}
 use Rattle.read_follow.specs.Scopes.{direction, instance_in, meant_at, path_of, seen_in, view_in, viewed, waiting, Goes, HasNoUsedView, IsFirstOf, IsImportNamed, IsInstanceIn, IsInstanceSeen, IsKeyPlaced, IsPlacedInstance, IsPlacedWorld, IsShownAs, IsShownBy, by_instance, by_import, IsUsedView, IsWorld, ShownOver, Stops, World}
-use Rattle.read_follow.specs.Slots.{resource_slot, slot_in, slots_in}
 use Rattle.plan_meaning.specs.Shapes.{Shape, named_shape, shape_trees, IsTable}
-use Rattle.read_follow.proofs.DefiningLaws.{all_at, longer}
-use Rattle.read_follow.proofs.NumberingLaws.{bare_all, scoped_all}
-use Rattle.read_follow.proofs.PlacedLaws.{stands_on, stood}
+use Rattle.read_follow.proofs.{DefiningLaws.all_at, DefiningLaws.longer, FollowingLaws.name_part, FollowingLaws.slots_stay, FollowingLaws.if_err as if_refused}
+use Rattle.read_follow.proofs.{NumberingLaws.bare_all, NumberingLaws.scoped_all, PlacedLaws.stands_on, PlacedLaws.stood, SlotLaws.at_slot, SlotLaws.no_slot}
 use Rattle.read_follow.proofs.PlacedScopes.{added_seen, both_pass, extended_placed, import_passes, imported_many, one_counted, only_last, seen_passes}
-use Rattle.read_follow.proofs.Refusing.{refused}
+use Rattle.read_follow.proofs.{Refusing.refused, ScopedLaws.instance_scoped}
 use Rattle.read_follow.proofs.ScopeLaws.{exported, extended, extended_world, goes_on, imported, one_behind, plus, plus_instance, waiting_used}
-use Rattle.read_follow.proofs.ScopedLaws.{instance_scoped}
-use Rattle.read_follow.proofs.SlotLaws.{at_slot, no_slot}
 use Rattle.read_follow.proofs.SeeLaws.{added_exports, added_imports, all_exported, all_imported, exports_are, imports_are, seen_plus}
-use Rattle.read_follow.proofs.FollowingLaws.{name_part, slots_stay}
-use Rattle.base_lemmas.proofs.Lists.{at_last}
-use Rattle.base_lemmas.proofs.Numbers.{nothing_more as none_before}
-use Rattle.std.proofs.lemmas.Option.{slice_get_within as found_below}
-use Rattle.read_follow.proofs.FollowingLaws.{if_err as if_refused}
+use Rattle.base_lemmas.proofs.{Lists.at_last, Numbers.nothing_more as none_before}
+use Rattle.comp_meaning.specs.Follow as follow
+use Rattle.read_follow.specs.declared.instance_keys.InstanceKey.TheVariants as keys
+use Rattle.read_follow.specs.declared.scopes.Shown.TheVariants as shown
+use Rattle.read_follow.specs.declared.slots.Slot.TheVariants as slots
 
 -- ---- the view of an instance type
 

@@ -1,11 +1,10 @@
 -- Value types by their first byte.
 use Rattle.std.proofs.Common.{◌≡◌, refl, sym, ap, ◌∙◌, ℕ, List, [], ◌∷◌, Option, Some, None, option_map, length, arith}
-use Rattle.comp_bytes.specs.declared.forms.PrimitiveValType.{PrimitiveValType}
-use Rattle.comp_bytes.specs.declared.forms.ComponentValType.{ComponentValType}
-use Rattle.comp_bytes.specs.declared.forms.ComponentValType.TheVariants as values
+use Rattle.comp_bytes.specs.declared.forms.{PrimitiveValType.PrimitiveValType, ComponentValType.ComponentValType}
 use Rattle.comp_bytes.specs.Reading.{or_else, as_at, tagged_at, value_type_at, type_index_at, last_byte_of, u32_at, unsigned_at, ◌>>=◌}
 use Rattle.comp_bytes.specs.FirstByte.{primitive_beside}
 use Rattle.comp_bytes.proofs.FirstByteLaws.{value_types_chosen}
+use Rattle.comp_bytes.specs.declared.forms.ComponentValType.TheVariants as values
 
 -- what stands there by the primitive of the first byte, if it is one
 by_primitive : (b : ℕ) (rest : List ℕ) (o : Option PrimitiveValType) → primitive_beside b ≡ o

@@ -1,12 +1,10 @@
 -- Bodies: declarations that are kept as a part of the input and read again where they are followed.
 use Rattle.std.specs.Prelude.{◌≡◌, Bool, true, false, ℕ, List, [], Option, Some, None, if◌then◌else◌}
 use Rattle.comp_bytes.specs.Raw.{Declaration}
-use Rattle.comp_bytes.specs.Levels.{Entry as RawEntry, plain, holds}
-use Rattle.comp_bytes.specs.Reading.{Reader, ◌>>=◌, sequence_at, declaration_at}
-use Rattle.read_follow.specs.declared.bodies.Body.{Body}
-use Rattle.read_follow.specs.declared.bodies.Entry.{Entry}
-use Rattle.read_follow.specs.declared.bodies.Entry.TheVariants as entries
+use Rattle.comp_bytes.specs.{Levels.Entry as RawEntry, Levels.plain, Levels.holds, Reading.Reader, Reading.◌>>=◌, Reading.sequence_at, Reading.declaration_at}
+use Rattle.read_follow.specs.declared.bodies.{Body.Body, Entry.Entry}
 use Rattle.read_follow.specs.Declares.{raw_declared}
+use Rattle.read_follow.specs.declared.bodies.Entry.TheVariants as entries
 
 abbrev pub is_import : Declaration → Bool
 is_import (Declaration.imported _ _) = true

@@ -1,14 +1,12 @@
 -- The raw forms that declarations of the code stand for, and declarations by their first bytes.
 use Rattle.std.specs.Prelude.{ℕ, List, [], ◌∷◌, None, ◌==◌, if◌then◌else◌}
 use Rattle.std.specs.Borrow.{Bor}
-use Rattle.comp_bytes.specs.Raw.{Declaration}
-use Rattle.comp_bytes.specs.RawOf.{raw_defined, raw_function, raw_alias}
-use Rattle.comp_bytes.specs.declared.forms.ComponentTypeRef.{ComponentTypeRef}
-use Rattle.comp_bytes.specs.declared.forms.ComponentTypeRef.TheVariants as refs
+use Rattle.comp_bytes.specs.{Raw.Declaration, RawOf.raw_defined, RawOf.raw_function, RawOf.raw_alias, FirstByte.declared_type_at}
 use Rattle.comp_bytes.specs.Reading.{Reader, as_at, just_at, pair_at, tagged_at, u32_at, alias_at, extern_name_at, description_at}
-use Rattle.comp_bytes.specs.FirstByte.{declared_type_at}
+use Rattle.comp_bytes.specs.declared.forms.ComponentTypeRef.{ComponentTypeRef}
 use Rattle.read_follow.specs.ExternNames.{raw_name}
 use Rattle.read_follow.specs.declared.declarations.Declared.{Declared}
+use Rattle.comp_bytes.specs.declared.forms.ComponentTypeRef.TheVariants as refs
 use Rattle.read_follow.specs.declared.declarations.Declared.TheVariants as declared
 
 abbrev pub raw_declared : Declared → Declaration

@@ -1,20 +1,14 @@
 -- A definition takes the next slot of a scope.
 use Rattle.std.specs.Prelude.{◌≡◌, ◌⊎◌, ◌<◌, ◌≤◌, ◌+◌, ℕ, true, List, [], ◌∷◌, ◌++◌, length, Some, slice_get}
 use Rattle.std.specs.List.{AllByRecursion}
-use Rattle.wit_model.specs.Meaning.{Signature}
-use Rattle.wit_model.specs.Text.{Text}
-use Rattle.wit_model.specs.Tree.{Form, Place, Tree}
+use Rattle.wit_model.specs.{Meaning.Signature, Text.Text, Tree.Form, Tree.Place, Tree.Tree}
 use Rattle.comp_bytes.specs.Raw.{DefinedType, FunctionType}
 use Rattle.comp_meaning.specs.Follow.{definition, function_signature}
-use Rattle.read_follow.specs.declared.refusal.Refusal.{Refusal}
-use Rattle.read_follow.specs.declared.slots.Slot.{Slot}
-use Rattle.read_follow.specs.declared.slots.Slot.TheVariants as slots
-use Rattle.read_follow.specs.Found.{Refuses}
-use Rattle.read_follow.specs.Functions.{FunctionShape, IsFunctionIn, Joins, signature_in}
-use Rattle.read_follow.specs.Numbering.{IsNext}
+use Rattle.read_follow.specs.declared.{refusal.Refusal.Refusal, slots.Slot.Slot}
+use Rattle.read_follow.specs.{Found.Refuses, Functions.FunctionShape, Functions.IsFunctionIn, Functions.Joins, Functions.signature_in, Numbering.IsNext}
 use Rattle.read_follow.specs.Slots.{slots_in, AreInRange, AreNames}
-use Rattle.plan_meaning.specs.PlanRules.{is_form}
-use Rattle.plan_meaning.specs.Shapes.{Shape, named_shape, node_shape, part_tree, shape_trees}
+use Rattle.plan_meaning.specs.{PlanRules.is_form, Shapes.Shape, Shapes.named_shape, Shapes.node_shape, Shapes.part_tree, Shapes.shape_trees}
+use Rattle.read_follow.specs.declared.slots.Slot.TheVariants as slots
 
 -- The list has what it had, and perhaps more behind it.
 pub record Grows {X : Type 0} (old new : List X) : Type 0 where

@@ -1,22 +1,15 @@
 -- The key of a definition: its form, over the parts that its indexes stand for.
 use Rattle.std.specs.Prelude.{◌≡◌, ◌<◌, ◌+◌, ℕ, Bool, true, false, List, map, Some, Result, Ok, Err}
 use Rattle.std.specs.List.{AllByRecursion}
-use Rattle.wit_model.specs.Meaning.{Signature}
-use Rattle.wit_model.specs.Tree.{Form, Tree, children}
+use Rattle.wit_model.specs.{Meaning.Signature, Tree.Form, Tree.Tree, Tree.children}
 use Rattle.comp_bytes.specs.declared.forms.ComponentDefinedType.{ComponentDefinedType}
-use Rattle.comp_bytes.specs.declared.forms.ComponentDefinedType.TheVariants as forms
 use Rattle.comp_bytes.specs.Raw.{DefinedType}
 use Rattle.comp_meaning.specs.Follow.{definition, is_key, is_key_primitive}
-use Rattle.read_follow.specs.declared.definition_keys.Definition.{Definition}
+use Rattle.read_follow.specs.declared.{definition_keys.Definition.Definition, keys.Key.Key, refusal.Refusal.Refusal, slots.Slot.Slot}
+use Rattle.read_follow.specs.{Found.Refuses, KeyShapes.shape_of, Slots.slots_in, Slots.AreInRange, Slots.AreNames}
+use Rattle.plan_meaning.specs.{PlanRules.is_form, Shapes.Shape, Shapes.node_shape, Shapes.part_tree, Shapes.primitives}
+use Rattle.comp_bytes.specs.declared.forms.ComponentDefinedType.TheVariants as forms
 use Rattle.read_follow.specs.declared.definition_keys.Definition.TheVariants as definitions
-use Rattle.read_follow.specs.declared.keys.Key.{Key}
-use Rattle.read_follow.specs.declared.refusal.Refusal.{Refusal}
-use Rattle.read_follow.specs.declared.slots.Slot.{Slot}
-use Rattle.read_follow.specs.Found.{Refuses}
-use Rattle.plan_meaning.specs.PlanRules.{is_form}
-use Rattle.plan_meaning.specs.Shapes.{Shape, node_shape, part_tree, primitives}
-use Rattle.read_follow.specs.KeyShapes.{shape_of}
-use Rattle.read_follow.specs.Slots.{slots_in, AreInRange, AreNames}
 
 -- of each primitive, whether a map may have it as its key
 abbrev pub key_marks : List Bool

@@ -1,7 +1,6 @@
 -- The raw names that names of imports and exports stand for.
 use Rattle.std.specs.Prelude.{option_map}
-use Rattle.comp_bytes.specs.Raw.{ExternName as RawName}
-use Rattle.comp_bytes.specs.RawOf.{text_of}
+use Rattle.comp_bytes.specs.{Raw.ExternName as RawName, RawOf.text_of}
 use Rattle.read_follow.specs.declared.names.ExternName.{ExternName}
 
 abbrev pub raw_name : ExternName → RawName

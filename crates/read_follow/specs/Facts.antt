@@ -1,15 +1,12 @@
 -- What is kept of each type of a table beside its shape, so that its parts need not be looked at again.
 use Rattle.std.specs.Prelude.{◌≡◌, ◌≢◌, ℕ, ◌+◌, ◌-◌, min, max, Bool, true, false, not, ◌&&◌, ◌==◌, nat_lt, if◌then◌else◌, List, [], ◌∷◌, ◌++◌, length, Some, slice_get, unwrap_or}
 use Rattle.std.specs.List.{Contains}
-use Rattle.wit_model.specs.Text.{Text}
-use Rattle.wit_model.specs.Tree as tree
-use Rattle.wit_model.specs.Tree.{Place, Tree, Trees, children, deepest}
+use Rattle.wit_model.specs.{Text.Text, Tree.Place, Tree.Tree, Tree.Trees, Tree.children, Tree.deepest}
 use Rattle.comp_meaning.specs.Rules.{is_named_form, form_labels, are_labels}
-use Rattle.read_follow.specs.declared.facts.Fact.{Fact}
-use Rattle.read_follow.specs.declared.facts.Names.{Names}
-use Rattle.read_follow.specs.declared.facts.Names.TheVariants as names
-use Rattle.read_follow.specs.declared.facts.Summary.{Summary}
+use Rattle.read_follow.specs.declared.facts.{Fact.Fact, Names.Names, Summary.Summary}
 use Rattle.plan_meaning.specs.Shapes.{Shape, part_tree, shape_trees, IsTable}
+use Rattle.wit_model.specs.Tree as tree
+use Rattle.read_follow.specs.declared.facts.Names.TheVariants as names
 
 -- ---- of a tree
 

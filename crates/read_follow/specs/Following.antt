@@ -1,26 +1,18 @@
 -- Declarations of an instance type that are followed one after the other: what their scope stands for, and what each of them does to it.
 use Rattle.std.specs.Prelude.{◌≡◌, ◌⊎◌, ◌<◌, ◌≤◌, ◌+◌, ℕ, Bool, false, true, List, length, map, option_map, slice_get, unwrap_or, IfSome, Option, Some, None}
 use Rattle.std.specs.List.{AllByRecursion}
-use Rattle.wit_model.specs.Meaning.{FunctionMeaning, Signature}
-use Rattle.wit_model.specs.Text.{Text}
-use Rattle.wit_model.specs.Tree as tree
-use Rattle.wit_model.specs.Tree.{Form, Place, Tree}
+use Rattle.wit_model.specs.{Meaning.FunctionMeaning, Meaning.Signature, Text.Text, Tree.Form, Tree.Place, Tree.Tree}
 use Rattle.comp_bytes.specs.RawOf.{text_of}
 use Rattle.comp_meaning.specs.Follow.{InstanceScope as MeantScope, ShownType as MeantType, View as MeantView, Slot as Meant}
-use Rattle.read_follow.specs.declared.refusal.Refusal.{Refusal}
-use Rattle.read_follow.specs.declared.slots.Slot.{Slot}
-use Rattle.read_follow.specs.declared.slots.Slot.TheVariants as slots
-use Rattle.read_follow.specs.declared.views.ShownFunction.{ShownFunction}
-use Rattle.read_follow.specs.declared.views.ShownType.{ShownType}
-use Rattle.read_follow.specs.Bodies.{held_declaration_at, IsBody}
-use Rattle.read_follow.specs.Defining.{ArePlacedBelow, Grows}
+use Rattle.read_follow.specs.declared.{refusal.Refusal.Refusal, slots.Slot.Slot, views.ShownFunction.ShownFunction, views.ShownType.ShownType}
+use Rattle.read_follow.specs.{Bodies.held_declaration_at, Bodies.IsBody, Defining.ArePlacedBelow, Defining.Grows, Numbering.parts_in, Numbering.CountUp}
 use Rattle.read_follow.specs.Found.{Refuses}
-use Rattle.read_follow.specs.Functions.{functions_in, AreFunctionsIn, FunctionShape}
+use Rattle.read_follow.specs.{Functions.functions_in, Functions.AreFunctionsIn, Functions.FunctionShape, Slots.slot_in, Slots.slots_in, Slots.no_signature}
 use Rattle.read_follow.specs.Placed.{apart, HasNoNames, IsShownAmong, IsTypeNamed, MayMeet, Rise, SlotOver, ViewOver}
-use Rattle.read_follow.specs.Numbering.{parts_in, CountUp}
-use Rattle.read_follow.specs.Slots.{slot_in, slots_in, no_signature}
 use Rattle.plan_meaning.specs.PlanRules.{is_form}
 use Rattle.plan_meaning.specs.Shapes.{Shape, named_shape, node_shape, part_tree, shape_trees, IsTable}
+use Rattle.wit_model.specs.Tree as tree
+use Rattle.read_follow.specs.declared.slots.Slot.TheVariants as slots
 
 -- ---- what was kept, as what it stands for
 

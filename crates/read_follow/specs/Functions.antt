@@ -1,19 +1,13 @@
 -- A table of types of functions, each kept once, over the numbers of the types of their parameters and results
 -- (Binary.md, "Type Definitions": functype).
 use Rattle.std.specs.Prelude.{◌≡◌, ◌<◌, ◌+◌, ℕ, Bool, List, [], ◌∷◌, ◌++◌, length, map, option_map, slice_get, IfSome, Option, Some, Result, Ok, Err}
-use Rattle.std.specs.Borrow.{Bor}
-use Rattle.std.specs.List.{AllByRecursion}
-use Rattle.wit_model.specs.Meaning.{Signature}
-use Rattle.wit_model.specs.Text.{Text}
-use Rattle.wit_model.specs.Tree.{Place, Tree}
+use Rattle.std.specs.{Borrow.Bor, List.AllByRecursion}
+use Rattle.wit_model.specs.{Meaning.Signature, Text.Text, Tree.Place, Tree.Tree}
 use Rattle.comp_bytes.specs.Raw.{FunctionType}
 use Rattle.comp_meaning.specs.Follow.{function_signature}
 use Rattle.plan_meaning.specs.Shapes.{Shape, part_tree, shape_trees, IsTable}
-use Rattle.read_follow.specs.declared.keys.FunctionKey.{FunctionKey}
-use Rattle.read_follow.specs.declared.refusal.Refusal.{Refusal}
-use Rattle.read_follow.specs.declared.slots.Slot.{Slot}
-use Rattle.read_follow.specs.Found.{Refuses}
-use Rattle.read_follow.specs.Slots.{slots_in, AreInRange}
+use Rattle.read_follow.specs.declared.{keys.FunctionKey.FunctionKey, refusal.Refusal.Refusal, slots.Slot.Slot}
+use Rattle.read_follow.specs.{Found.Refuses, Slots.slots_in, Slots.AreInRange}
 
 -- what the type of a function is, over parts
 pub record FunctionShape : Type 0 where

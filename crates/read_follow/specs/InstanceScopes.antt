@@ -1,29 +1,18 @@
 -- Scopes of instance types as they are kept, and what their exports declare.
 use Rattle.std.specs.Prelude.{◌≡◌, ◌<◌, ◌≤◌, ℕ, ◌+◌, ◌-◌, ◌==◌, ◌&&◌, nat_lt, if◌then◌else◌, Bool, true, false, List, [], length, map, IfErr, OnOk, Option, Some, None, Result, slice_get, unwrap_or}
 use Rattle.std.specs.List.{AllByRecursion}
-use Rattle.wit_model.specs.Text.{Text}
-use Rattle.wit_model.specs.Tree as tree
-use Rattle.wit_model.specs.Tree.{Place, Tree}
-use Rattle.comp_meaning.specs.Follow as follow
-use Rattle.comp_bytes.specs.Raw.{Alias, Declaration}
-use Rattle.comp_bytes.specs.Reading.{◌>>=◌, sequence_at}
+use Rattle.wit_model.specs.{Text.Text, Tree.Place, Tree.Tree}
+use Rattle.comp_bytes.specs.{Raw.Alias, Raw.Declaration, Reading.◌>>=◌, Reading.sequence_at}
 use Rattle.comp_meaning.specs.Follow.{InstanceScope as MeantScope, Slot as Meant, instance_step, instance_steps, instance_view, new_instance, provided}
-use Rattle.read_follow.specs.declared.bodies.Body.{Body}
-use Rattle.read_follow.specs.declared.shows.NewName.{NewName}
-use Rattle.read_follow.specs.declared.refusal.Refusal.{Refusal}
-use Rattle.read_follow.specs.declared.slots.Slot.{Slot}
-use Rattle.read_follow.specs.declared.slots.Slot.TheVariants as slots
-use Rattle.read_follow.specs.declared.views.InstanceScope.{InstanceScope}
+use Rattle.read_follow.specs.declared.{bodies.Body.Body, shows.NewName.NewName, refusal.Refusal.Refusal, slots.Slot.Slot, views.InstanceScope.InstanceScope}
 use Rattle.read_follow.specs.declared.views.View.{View}
-use Rattle.read_follow.specs.Bodies.{held_declaration_at, items_in}
-use Rattle.read_follow.specs.Defining.{Grows}
+use Rattle.read_follow.specs.{Bodies.held_declaration_at, Bodies.items_in, Found.Refuses, Placed.apart, Placed.MayMeet, Placed.TreeOver, Slots.slots_in}
+use Rattle.read_follow.specs.{Defining.Grows, Functions.functions_in, Functions.FunctionShape, Numbering.held_trees, Numbering.parts_in, Numbering.CountUp}
 use Rattle.read_follow.specs.Following.{declared_in, scope_at, slots_at, trees_at, view_at, AreMarked, AreTables, Halts, IsPlacedState, IsShownFunctionIn, IsShownIn, IsState, State, Steps}
-use Rattle.read_follow.specs.Found.{Refuses}
-use Rattle.read_follow.specs.Functions.{functions_in, FunctionShape}
-use Rattle.read_follow.specs.Numbering.{held_trees, parts_in, CountUp}
-use Rattle.read_follow.specs.Placed.{apart, MayMeet, TreeOver}
-use Rattle.read_follow.specs.Slots.{slots_in}
 use Rattle.plan_meaning.specs.Shapes.{Shape, part_tree, shape_trees}
+use Rattle.wit_model.specs.Tree as tree
+use Rattle.comp_meaning.specs.Follow as follow
+use Rattle.read_follow.specs.declared.slots.Slot.TheVariants as slots
 
 -- the scope over the tables
 abbrev pub state_of : List Shape → List FunctionShape → InstanceScope → State

@@ -1,6 +1,5 @@
 -- The shapes that keys of the table stand for.
-use Rattle.std.specs.Prelude.{ℕ, Bool, List, map}
-use Rattle.std.specs.Borrow.{Bor}
+use Rattle.std.specs.{Prelude.ℕ, Prelude.Bool, Prelude.List, Prelude.map, Borrow.Bor}
 use Rattle.wit_model.specs.Text.{Text}
 use Rattle.plan_meaning.specs.Shapes.{Shape}
 use Rattle.read_follow.specs.declared.keys.Key.{Key}

@@ -1,17 +1,11 @@
 -- Tables of the names of types, by the numbers of the instances that show them.
 use Rattle.std.specs.Prelude.{◌≡◌, ◌⊎◌, ℕ, List, Option, Some, None, slice_get, unwrap_or}
-use Rattle.std.specs.Borrow.{Bor}
-use Rattle.std.specs.BTreeMap.{BTreeMap, get, get_by}
-use Rattle.std.specs.Cmp.Lexicographic.{slice_cmp}
-use Rattle.std.specs.Ordering.{nat_cmp}
+use Rattle.std.specs.{Borrow.Bor, BTreeMap.BTreeMap, BTreeMap.get, BTreeMap.get_by, Cmp.Lexicographic.slice_cmp, Ordering.nat_cmp}
 use Rattle.wit_model.specs.Text.{Text}
 use Rattle.comp_bytes.specs.Reading.{◌>>=◌}
 use Rattle.comp_meaning.specs.Follow.{provided}
-use Rattle.read_follow.specs.declared.scopes.Instance.{Instance}
-use Rattle.read_follow.specs.declared.slots.Slot.{Slot}
-use Rattle.read_follow.specs.declared.views.ShownType.{ShownType}
-use Rattle.read_follow.specs.Places.{has_path}
-use Rattle.read_follow.specs.Scopes.{find_slot}
+use Rattle.read_follow.specs.declared.{scopes.Instance.Instance, slots.Slot.Slot, views.ShownType.ShownType}
+use Rattle.read_follow.specs.{Places.has_path, Scopes.find_slot}
 
 -- each name has the slot of the first type under it, if there is one
 abbrev pub AreSlotsOf : BTreeMap (Bor Text) Slot → List ShownType → Type 0

@@ -1,14 +1,13 @@
 -- The types that declarations declare one after the other, and how they are numbered (Component Model Binary.md, "Index Spaces").
 use Rattle.std.specs.Prelude.{◌≡◌, ◌⊎◌, ◌<◌, ◌+◌, ℕ, suc, List, [], ◌∷◌, ◌++◌, drop, length, map, take, Option, Some, None, slice_get}
-use Rattle.std.specs.List.{flat_map}
-use Rattle.std.specs.Option.{option_map_or}
+use Rattle.std.specs.{List.flat_map, Option.option_map_or}
 use Rattle.wit_model.specs.Tree.{Place, Tree}
 use Rattle.comp_bytes.specs.Levels.{Entry}
 use Rattle.comp_meaning.specs.ByLevels.{entry_step}
 use Rattle.comp_meaning.specs.Follow.{Instance as MeantInstance, InstanceScope as MeantInstanceScope, Scope as MeantScope, Slot as Meant, value, resource, function, instance, instance_steps, new_instance, place_of}
 use Rattle.read_follow.specs.declared.slots.Slot.{Slot}
-use Rattle.read_follow.specs.declared.slots.Slot.TheVariants as slots
 use Rattle.plan_meaning.specs.Shapes.{part_tree}
+use Rattle.read_follow.specs.declared.slots.Slot.TheVariants as slots
 
 -- ---- what is declared
 

@@ -1,9 +1,8 @@
 -- Types at the top, whose entries are kept as a part of the input.
 use Rattle.comp_bytes.specs.Levels.{PartType as RawPartType, entry_at, wraps, shows}
-use Rattle.read_follow.specs.ExternNames.{raw_name}
+use Rattle.read_follow.specs.{ExternNames.raw_name, Bodies.items_in, Bodies.IsBody}
 use Rattle.read_follow.specs.declared.part_types.PartType.{PartType}
 use Rattle.read_follow.specs.declared.part_types.PartType.TheVariants as parts
-use Rattle.read_follow.specs.Bodies.{items_in, IsBody}
 
 abbrev pub raw_part_type : PartType → RawPartType
 raw_part_type (parts.Wraps b name) = wraps (items_in entry_at b) (raw_name name)

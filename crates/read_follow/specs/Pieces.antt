@@ -1,16 +1,11 @@
 -- The sections of a component as they are kept.
-use Rattle.std.specs.Prelude.{map, Some}
-use Rattle.std.specs.List.{AllByRecursion}
-use Rattle.comp_bytes.specs.Raw.{TopExport as RawExport}
-use Rattle.read_follow.specs.ExternNames.{raw_name}
-use Rattle.comp_bytes.specs.Levels.{Piece as RawPiece, custom, types, exports, piece_of}
+use Rattle.std.specs.{Prelude.map, Prelude.Some, List.AllByRecursion}
+use Rattle.comp_bytes.specs.{Raw.TopExport as RawExport, Levels.Piece as RawPiece, Levels.custom, Levels.types, Levels.exports, Levels.piece_of}
 use Rattle.comp_bytes.specs.Reading.{Reader, ◌>>=◌, frame_at}
-use Rattle.read_follow.specs.declared.refusal.Refusal.{Refusal}
+use Rattle.read_follow.specs.{ExternNames.raw_name, PartTypes.raw_part_type, PartTypes.IsWholePart}
+use Rattle.read_follow.specs.declared.{refusal.Refusal.Refusal, sections.TopExport.TopExport, sections.Piece.Piece}
 use Rattle.read_follow.specs.declared.refusal.Refusal.TheVariants as refusals
-use Rattle.read_follow.specs.declared.sections.TopExport.{TopExport}
-use Rattle.read_follow.specs.declared.sections.Piece.{Piece}
 use Rattle.read_follow.specs.declared.sections.Piece.TheVariants as pieces
-use Rattle.read_follow.specs.PartTypes.{raw_part_type, IsWholePart}
 
 abbrev pub raw_export : TopExport → RawExport
 raw_export e = record { exported_as = raw_name e.name; type_index = e.index }

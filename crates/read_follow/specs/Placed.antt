@@ -2,16 +2,13 @@
 -- names come into the table (Binary.md, "Index Spaces" and "Import and Export Definitions").
 use Rattle.std.specs.Prelude.{◌≡◌, ◌⊎◌, ◌<◌, ◌+◌, ℕ, Bool, true, List, [], ◌∷◌, Some, IfSome, slice_get}
 use Rattle.std.specs.List.{AllByRecursion, Contains}
-use Rattle.wit_model.specs.Meaning.{FunctionMeaning, Signature}
-use Rattle.wit_model.specs.Text.{Text}
-use Rattle.wit_model.specs.Tree as tree
-use Rattle.wit_model.specs.Tree.{Place, Tree}
+use Rattle.wit_model.specs.{Meaning.FunctionMeaning, Meaning.Signature, Text.Text, Tree.Place, Tree.Tree}
 use Rattle.comp_meaning.specs.Follow.{ShownType as MeantType, View as MeantView, Slot as Meant, value, resource, function, instance}
-use Rattle.read_follow.specs.declared.slots.Slot.{Slot}
-use Rattle.read_follow.specs.declared.slots.Slot.TheVariants as slots
-use Rattle.read_follow.specs.declared.views.ShownType.{ShownType}
+use Rattle.read_follow.specs.declared.{slots.Slot.Slot, views.ShownType.ShownType}
 use Rattle.read_follow.specs.Facts.{places}
 use Rattle.plan_meaning.specs.Shapes.{Shape, named_shape}
+use Rattle.wit_model.specs.Tree as tree
+use Rattle.read_follow.specs.declared.slots.Slot.TheVariants as slots
 
 -- ---- the places of the names in trees
 

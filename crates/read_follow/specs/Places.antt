@@ -1,15 +1,12 @@
 -- The places of names, by number, and the keys of instances, whose paths are places (Binary.md, "Import and Export Definitions").
 use Rattle.std.specs.Prelude.{◌≡◌, ◌⊎◌, ◌<◌, ◌≤◌, ℕ, ◌+◌, ◌==◌, ◌&&◌, not, if◌then◌else◌, Bool, false, List, [], length, map, Option, Some, None, option_map, is_some, slice_get, true}
 use Rattle.std.specs.Borrow.{Bor}
-use Rattle.wit_model.specs.Text.{Text, text_of}
-use Rattle.wit_model.specs.Names.{is_label, known_path, read_path, versioned}
-use Rattle.wit_model.specs.Tree.{Place}
+use Rattle.wit_model.specs.{Text.Text, Text.text_of, Names.is_label, Names.known_path, Names.read_path, Names.versioned, Tree.Place}
 use Rattle.comp_bytes.specs.Reading.{◌>>=◌}
 use Rattle.comp_meaning.specs.Follow.{Key, complete_path, place_of, provided}
-use Rattle.read_follow.specs.declared.instance_keys.InstanceKey.{InstanceKey}
-use Rattle.read_follow.specs.declared.instance_keys.InstanceKey.TheVariants as keys
-use Rattle.read_follow.specs.declared.places.PlaceKey.{PlaceKey}
+use Rattle.read_follow.specs.declared.{instance_keys.InstanceKey.InstanceKey, places.PlaceKey.PlaceKey}
 use Rattle.read_follow.specs.Functions.{AreApart}
+use Rattle.read_follow.specs.declared.instance_keys.InstanceKey.TheVariants as keys
 
 -- two texts that are parts of another
 abbrev pub two_texts : Option (Bor (List ℕ) × Bor (List ℕ)) → Option (Text × Text)

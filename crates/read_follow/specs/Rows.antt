@@ -1,8 +1,7 @@
 -- Rows of a definition, its fields, cases or values: what each of them is, the labels and the parts.
 use Rattle.std.specs.Prelude.{◌≡◌, ℕ, Bool, true, List, [], ◌∷◌, ◌++◌, drop, option_to_list, Option, Some}
 use Rattle.std.specs.List.{flat_map}
-use Rattle.wit_model.specs.Text.{Text}
-use Rattle.wit_model.specs.Tree.{Tree, is_given}
+use Rattle.wit_model.specs.{Text.Text, Tree.Tree, Tree.is_given}
 use Rattle.comp_bytes.specs.Reading.{◌>>=◌}
 use Rattle.comp_meaning.specs.Follow.{each}
 

@@ -1,41 +1,21 @@
 -- Scopes of component types as they are kept, what they stand for, and what each entry does to them.
 use Rattle.std.specs.Prelude.{◌≡◌, ◌⊎◌, ◌<◌, ◌≤◌, ◌+◌, ◌-◌, ◌==◌, ◌&&◌, ℕ, suc, Bool, true, false, not, if◌then◌else◌, List, [], ◌∷◌, ◌++◌, length, map, take, option_map, slice_get, unwrap_or, IfErr, IfSome, OnOk, Option, Some, None, Result}
-use Rattle.std.specs.Borrow.{Bor}
-use Rattle.std.specs.List.{AllByRecursion, list_any}
-use Rattle.wit_model.specs.Meaning.{Signature}
-use Rattle.wit_model.specs.Text.{Text, text_eq}
-use Rattle.wit_model.specs.Tree.{Form, Place, Tree}
-use Rattle.comp_bytes.specs.Levels.{Entry as RawEntry, plain, holds, entry_at}
+use Rattle.std.specs.{Borrow.Bor, List.AllByRecursion, List.list_any}
+use Rattle.wit_model.specs.{Meaning.Signature, Text.Text, Text.text_eq, Tree.Form, Tree.Place, Tree.Tree}
+use Rattle.comp_bytes.specs.{Levels.Entry as RawEntry, Levels.plain, Levels.holds, Levels.entry_at, RawOf.text_of, Reading.◌>>=◌, Reading.sequence_at}
 use Rattle.comp_bytes.specs.Raw.{Alias}
-use Rattle.comp_bytes.specs.RawOf.{text_of}
-use Rattle.comp_bytes.specs.Reading.{◌>>=◌, sequence_at}
-use Rattle.comp_meaning.specs.ByLevels.{entry_scope, entry_step}
+use Rattle.comp_meaning.specs.{ByLevels.entry_scope, ByLevels.entry_step, Reads.steps}
 use Rattle.comp_meaning.specs.Follow.{Scope as MeantScope, Seen as MeantSeen, Shown as MeantShown, Instance as MeantInstance, View as MeantView, Direction, key_text, provided, used_view, when, new_scope}
-use Rattle.comp_meaning.specs.Reads.{steps}
-use Rattle.read_follow.specs.declared.bodies.Body.{Body}
-use Rattle.read_follow.specs.declared.instance_keys.InstanceKey.{InstanceKey}
-use Rattle.read_follow.specs.declared.refusal.Refusal.{Refusal}
-use Rattle.read_follow.specs.declared.scopes.Instance.{Instance}
-use Rattle.read_follow.specs.declared.scopes.Scope.{Scope}
-use Rattle.read_follow.specs.declared.scopes.Seen.{Seen}
-use Rattle.read_follow.specs.declared.scopes.Shown.{Shown}
-use Rattle.read_follow.specs.declared.scopes.Shown.TheVariants as shown
-use Rattle.read_follow.specs.declared.slots.Slot.{Slot}
-use Rattle.read_follow.specs.declared.slots.Slot.TheVariants as slots
-use Rattle.read_follow.specs.declared.views.ShownType.{ShownType}
-use Rattle.read_follow.specs.declared.views.View.{View}
-use Rattle.read_follow.specs.Bodies.{items_in}
-use Rattle.read_follow.specs.Defining.{Grows}
+use Rattle.read_follow.specs.declared.{bodies.Body.Body, scopes.Scope.Scope, scopes.Seen.Seen, scopes.Shown.Shown, slots.Slot.Slot, views.View.View}
+use Rattle.read_follow.specs.declared.{instance_keys.InstanceKey.InstanceKey, refusal.Refusal.Refusal, scopes.Instance.Instance, views.ShownType.ShownType}
+use Rattle.read_follow.specs.{Bodies.items_in, Numbering.bare_parts, Numbering.scoped_trees, Numbering.trees_along, Numbering.trees_since, Numbering.CountUp}
+use Rattle.read_follow.specs.{Defining.Grows, InstanceScopes.IsViewOf, Found.Refuses, Functions.functions_in, Functions.FunctionShape, Functions.IsFunctionIn}
 use Rattle.read_follow.specs.Following.{declared_in, shown_function, shown_type, slots_at, AreMarked, AreSlotsIn, AreTables, IsShownFunctionIn, IsShownIn, State}
-use Rattle.read_follow.specs.InstanceScopes.{IsViewOf}
-use Rattle.read_follow.specs.Found.{Refuses}
-use Rattle.read_follow.specs.Functions.{functions_in, FunctionShape, IsFunctionIn}
 use Rattle.read_follow.specs.Placed.{apart, ComeBefore, DeclarationOver, HasNoNames, IsNameAs, IsShownAmong, IsTypeNamed, MayMeet, Rise, SignatureOver, SlotOver, TreeOver, ViewOver}
-use Rattle.read_follow.specs.Places.{has_path, key_at, place_number, ArePlacesOf, IsKeyIn}
-use Rattle.read_follow.specs.Numbering.{bare_parts, scoped_trees, trees_along, trees_since, CountUp}
-use Rattle.read_follow.specs.Slots.{no_signature, slots_in}
-use Rattle.plan_meaning.specs.PlanRules.{is_form}
-use Rattle.plan_meaning.specs.Shapes.{Shape, named_shape, node_shape, part_tree, shape_trees}
+use Rattle.read_follow.specs.{Places.has_path, Places.key_at, Places.place_number, Places.ArePlacesOf, Places.IsKeyIn, Slots.no_signature, Slots.slots_in}
+use Rattle.plan_meaning.specs.{PlanRules.is_form, Shapes.Shape, Shapes.named_shape, Shapes.node_shape, Shapes.part_tree, Shapes.shape_trees}
+use Rattle.read_follow.specs.declared.scopes.Shown.TheVariants as shown
+use Rattle.read_follow.specs.declared.slots.Slot.TheVariants as slots
 
 -- ---- what was kept, as what it stands for
 

@@ -1,16 +1,13 @@
 -- What the slots of a scope stand for, where T are the trees of the table, and F the types of functions by number.
 use Rattle.std.specs.Prelude.{◌<◌, ◌+◌, ℕ, false, List, [], ◌∷◌, map, IfErr, None, Option, Result, slice_get, unwrap_or}
-use Rattle.wit_model.specs.Meaning.{Signature}
-use Rattle.wit_model.specs.Tree.{Tree}
+use Rattle.wit_model.specs.{Meaning.Signature, Tree.Tree}
 use Rattle.comp_bytes.specs.declared.forms.PrimitiveValType.{PrimitiveValType}
 use Rattle.comp_meaning.specs.Follow.{Slot as Meant, value, resource, function, instance, primitive_of_type}
 use Rattle.comp_meaning.specs.Same.{primitive_number}
-use Rattle.read_follow.specs.declared.slots.Slot.{Slot}
-use Rattle.read_follow.specs.declared.slots.Slot.TheVariants as slots
-use Rattle.read_follow.specs.declared.refusal.Refusal.{Refusal}
-use Rattle.read_follow.specs.Found.{Refuses}
-use Rattle.read_follow.specs.Bodies.{held_declaration_at, items_in}
+use Rattle.read_follow.specs.declared.{slots.Slot.Slot, refusal.Refusal.Refusal}
+use Rattle.read_follow.specs.{Found.Refuses, Bodies.held_declaration_at, Bodies.items_in}
 use Rattle.plan_meaning.specs.Shapes.{part_tree}
+use Rattle.read_follow.specs.declared.slots.Slot.TheVariants as slots
 
 -- a resource by its name
 abbrev pub resource_slot : Tree → Meant

@@ -1,12 +1,9 @@
 //! Bodies: declarations that are kept as a part of the input and read again where they are followed.
 
 ghost use Rattle.std.specs.Prelude.{◌≡◌, ◌≤◌, ◌-◌, length, take, IfOk};
-ghost use Rattle.comp_bytes.specs.Raw.{Declaration};
-ghost use Rattle.comp_bytes.specs.Levels.{Entry as RawEntry, entry_at, held_at};
-ghost use Rattle.comp_bytes.specs.Reading.{declaration_at, sequence_at};
+ghost use Rattle.comp_bytes.specs.{Raw.Declaration, Levels.Entry as RawEntry, Levels.entry_at, Levels.held_at, Reading.declaration_at, Reading.sequence_at};
 ghost use Rattle.read_follow.specs.Bodies.{behind, held_declaration_at, items_in, raw_entry, IsBody, IsWhole};
-ghost use Rattle.read_follow.specs.Declares.{raw_declared};
-ghost use Rattle.read_follow.specs.Found.{Finds, Gives};
+ghost use Rattle.read_follow.specs.{Declares.raw_declared, Found.Finds, Found.Gives};
 
 use crate::declarations::{Declared, declaration_of};
 use crate::front::u32_of;

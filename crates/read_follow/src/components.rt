@@ -1,18 +1,10 @@
 //! Component types of worlds and interfaces, followed entry by entry.
 
 ghost use Rattle.std.specs.Prelude.{◌≡◌, [], None, Some, length, slice_get, IfErr, IfOk, OnOk};
-ghost use Rattle.comp_bytes.specs.Levels.{entry_at};
-ghost use Rattle.comp_bytes.specs.RawOf.{raw_alias};
-ghost use Rattle.comp_meaning.specs.ByLevels.{entry_scope, entry_step};
-ghost use Rattle.comp_meaning.specs.Follow.{component_step, see_described as see_described_lem};
-ghost use Rattle.read_follow.specs.Bodies.{raw_entry, items_in, IsBody, IsWhole};
-ghost use Rattle.read_follow.specs.Declares.{raw_declared};
-ghost use Rattle.read_follow.specs.Defining.{Grows};
-ghost use Rattle.read_follow.specs.ExternNames.{raw_name};
-ghost use Rattle.read_follow.specs.Following.{AreTables};
-ghost use Rattle.read_follow.specs.Found.{Gives, Refuses};
-ghost use Rattle.read_follow.specs.NameTables.{AreNamesOf};
-ghost use Rattle.read_follow.specs.Placed.{HasNoNames};
+ghost use Rattle.comp_bytes.specs.{Levels.entry_at, RawOf.raw_alias};
+ghost use Rattle.comp_meaning.specs.{ByLevels.entry_scope, ByLevels.entry_step, Follow.component_step, Follow.see_described as see_described_lem};
+ghost use Rattle.read_follow.specs.{Bodies.raw_entry, Bodies.items_in, Bodies.IsBody, Bodies.IsWhole, Declares.raw_declared, Found.Gives, Found.Refuses};
+ghost use Rattle.read_follow.specs.{Defining.Grows, ExternNames.raw_name, Following.AreTables, NameTables.AreNamesOf, Placed.HasNoNames};
 ghost use Rattle.read_follow.specs.Scopes.{are_settled as are_settled_lem, direction, is_settled as is_settled_lem, start_of, taken_from, weight, world_of, Goes, IsFollowedTo, IsScopeOf, IsWorld, Stops};
 
 use crate::bodies::{Body, Entry, entry_of};

@@ -1,10 +1,8 @@
 //! Declarations in which no other stands.
 
 ghost use Rattle.std.specs.Prelude.{◌≡◌};
-ghost use Rattle.comp_bytes.specs.RawOf.{raw_alias};
-ghost use Rattle.comp_bytes.specs.Reading.{alias_at, declaration_at, description_at};
-ghost use Rattle.read_follow.specs.Declares.{declaration_by_first, raw_declared, type_by_first, type_description_at};
-ghost use Rattle.read_follow.specs.Found.{Finds};
+ghost use Rattle.comp_bytes.specs.{RawOf.raw_alias, Reading.alias_at, Reading.declaration_at, Reading.description_at};
+ghost use Rattle.read_follow.specs.{Declares.declaration_by_first, Declares.raw_declared, Declares.type_by_first, Declares.type_description_at, Found.Finds};
 
 use crate::definitions::{defined_type_of, function_type_of};
 use crate::front::{name_of, u32_of};

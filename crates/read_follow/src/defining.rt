@@ -3,9 +3,8 @@
 ghost use Rattle.std.specs.Prelude.{◌≡◌, length, IfErr, OnErr, OnOk};
 ghost use Rattle.comp_bytes.specs.RawOf.{raw_defined, raw_function};
 ghost use Rattle.comp_meaning.specs.Follow.{function_signature};
-ghost use Rattle.read_follow.specs.Defining.{Grows, IsDefined, IsDefinedFunction, IsUndefined};
+ghost use Rattle.read_follow.specs.{Defining.Grows, Defining.IsDefined, Defining.IsDefinedFunction, Defining.IsUndefined, Slots.AreInRange, Slots.RefusedOver};
 ghost use Rattle.read_follow.specs.Functions.{AreApart};
-ghost use Rattle.read_follow.specs.Slots.{AreInRange, RefusedOver};
 ghost use Rattle.plan_meaning.specs.Shapes.{IsTable};
 
 use crate::definition_keys::{Definition, definition_of};

@@ -2,17 +2,13 @@
 
 ghost use Rattle.std.specs.List.{AllByRecursion};
 ghost use Rattle.std.specs.Prelude.{◌≡◌, ◌<◌, ◌+◌, ◌++◌, ℕ, List, [], false, is_some, map, option_to_list, slice_get, unwrap_or, IfErr, IfOk, IsOkUnless, OnOk};
-ghost use Rattle.wit_model.specs.Meaning.{Signature};
-ghost use Rattle.wit_model.specs.Tree.{Tree};
-ghost use Rattle.comp_bytes.specs.Raw.{DefinedType};
-ghost use Rattle.comp_bytes.specs.RawOf.{labeled, raw_defined, text_of};
+ghost use Rattle.wit_model.specs.{Meaning.Signature, Tree.Tree};
+ghost use Rattle.comp_bytes.specs.{Raw.DefinedType, RawOf.labeled, RawOf.raw_defined, RawOf.text_of};
 ghost use Rattle.comp_meaning.specs.Follow.{case_type, each, field_type, value_type};
-ghost use Rattle.read_follow.specs.DefinitionKeys.{key_marks, IsDefinitionOf, IsForm, IsKeyOf};
-ghost use Rattle.read_follow.specs.Found.{Refuses};
+ghost use Rattle.read_follow.specs.{DefinitionKeys.key_marks, DefinitionKeys.IsDefinitionOf, DefinitionKeys.IsForm, DefinitionKeys.IsKeyOf, Found.Refuses};
 ghost use Rattle.read_follow.specs.Rows.{case_labels, case_trees, field_labels, field_trees, value_labels, value_trees, RowsOf};
+ghost use Rattle.read_follow.specs.{KeyShapes.label_of, KeyShapes.shape_of, Slots.slots_in, Slots.AreInRange};
 ghost use Rattle.plan_meaning.specs.Shapes.{marked, one_mark as one_mark_lem, part_tree, two_marks as two_marks_lem};
-ghost use Rattle.read_follow.specs.KeyShapes.{label_of, shape_of};
-ghost use Rattle.read_follow.specs.Slots.{slots_in, AreInRange};
 ghost use Rattle.read_follow.specs.declared.refusal.Refusal.TheVariants as refusals;
 
 use crate::keys::Key;

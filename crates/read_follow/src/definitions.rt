@@ -2,10 +2,9 @@
 
 ghost use Rattle.std.specs.Prelude.{◌≡◌};
 ghost use Rattle.comp_bytes.specs.Raw.{DefinedType, FunctionType};
-ghost use Rattle.comp_bytes.specs.RawOf.{raw_defined, raw_function};
+ghost use Rattle.comp_bytes.specs.{RawOf.raw_defined, RawOf.raw_function, FirstByte.defined_type_at, FirstByte.function_type_at};
 ghost use Rattle.comp_bytes.specs.Reading.{vector_at, field_at, case_at, value_type_at, name_at, optional_at, pair_at, as_at, u32_at, result_list_at, function_of, choose};
 ghost use Rattle.read_follow.specs.Found.{Finds};
-ghost use Rattle.comp_bytes.specs.FirstByte.{defined_type_at, function_type_at};
 
 use crate::front::u32_of;
 use crate::items::optional_of;

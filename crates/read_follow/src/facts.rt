@@ -2,12 +2,11 @@
 
 ghost use Rattle.std.specs.List.{list_all, AllByRecursion};
 ghost use Rattle.std.specs.Prelude.{◌≡◌, ◌<◌, ◌+◌, ℕ, List, length, map, min, IfOk};
-ghost use Rattle.wit_model.specs.Names.{is_label as is_label_lem};
-ghost use Rattle.wit_model.specs.Tree.{Place, Tree};
+ghost use Rattle.wit_model.specs.{Names.is_label as is_label_lem, Tree.Place, Tree.Tree};
 ghost use Rattle.comp_meaning.specs.Rules.{are_labels as are_labels_lem};
 ghost use Rattle.read_follow.specs.Facts.{cap, fact_at as fact_at_lem, is_named_sort as is_named_sort_lem, joined as joined_lem, node_fact as node_fact_lem, with_fact as with_fact_lem, FactsHold, Sums, Tells};
-ghost use Rattle.plan_meaning.specs.Shapes.{part_tree, shape_tree, IsShape};
 ghost use Rattle.read_follow.specs.KeyShapes.{labels_of, shape_of};
+ghost use Rattle.plan_meaning.specs.Shapes.{part_tree, shape_tree, IsShape};
 
 use crate::keys::Key;
 use distinct_names::are_distinct_by;

@@ -4,9 +4,7 @@ ghost use Rattle.std.specs.Prelude.{◌≡◌, true, None, option_map, IfErr, If
 ghost use Rattle.wit_model.specs.Names.{is_label as is_label_lem};
 ghost use Rattle.comp_bytes.specs.RawOf.{text_of as borrowed_text};
 ghost use Rattle.comp_meaning.specs.Follow.{complete_path as complete_path_lem, key_of as key_of_lem, plain_key as plain_key_lem};
-ghost use Rattle.read_follow.specs.Defining.{Grows};
-ghost use Rattle.read_follow.specs.ExternNames.{raw_name};
-ghost use Rattle.read_follow.specs.Found.{Refuses};
+ghost use Rattle.read_follow.specs.{Defining.Grows, ExternNames.raw_name, Found.Refuses};
 ghost use Rattle.read_follow.specs.Places.{implementing_key as implementing_key_lem, place_number, IsFreshKey, IsKeyOf, IsNoLabel, IsOnlyNew, IsPathNumber};
 ghost use Rattle.read_follow.specs.declared.refusal.Refusal.TheVariants as refusals;
 

@@ -2,12 +2,9 @@
 
 ghost use Rattle.std.specs.Prelude.{◌≡◌, ◌<◌, [], length, IfErr, IfOk, OnOk};
 ghost use Rattle.comp_bytes.specs.RawOf.{raw_alias};
-ghost use Rattle.read_follow.specs.Declares.{raw_declared};
-ghost use Rattle.read_follow.specs.Following.{AreSlotsIn, AreTables, Halts, IsState, Steps};
+ghost use Rattle.read_follow.specs.{Declares.raw_declared, Following.AreSlotsIn, Following.AreTables, Following.Halts, Following.IsState, Following.Steps};
 ghost use Rattle.read_follow.specs.InstanceScopes.{foreign_part, foreign_slot, state_of, step_of, tables_of, taken_by, IsFollowed, IsViewOf, ShowsNothing};
-ghost use Rattle.read_follow.specs.Bodies.{held_declaration_at, IsBody};
-ghost use Rattle.read_follow.specs.Pieces.{AreAlike};
-ghost use Rattle.read_follow.specs.Found.{Gives};
+ghost use Rattle.read_follow.specs.{Bodies.held_declaration_at, Bodies.IsBody, Pieces.AreAlike, Found.Gives};
 
 use crate::bodies::{Body, held_declaration_of};
 use crate::declarations::Declared;

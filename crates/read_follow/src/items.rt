@@ -1,8 +1,7 @@
 //! What stands in vectors: value types, names, fields and cases.
 
 ghost use Rattle.std.specs.Prelude.{◌≡◌, List, ℕ, Option};
-ghost use Rattle.comp_bytes.specs.Raw.{Labeled};
-ghost use Rattle.comp_bytes.specs.RawOf.{labeled, text_of};
+ghost use Rattle.comp_bytes.specs.{Raw.Labeled, RawOf.labeled, RawOf.text_of};
 ghost use Rattle.comp_bytes.specs.Reading.{optional_at, value_type_at, name_at, field_at, case_at, closed_at};
 ghost use Rattle.comp_bytes.specs.declared.forms.ComponentValType.{ComponentValType as RawValueType};
 ghost use Rattle.read_follow.specs.Found.{Finds};

@@ -1,8 +1,7 @@
 //! Slots of types by their names, of the instances among whose types some are looked for.
 
 ghost use Rattle.std.specs.Prelude.{◌≡◌, IfOk};
-ghost use Rattle.read_follow.specs.NameTables.{AddsTable, AreSlotsOf, IsTableOf};
-ghost use Rattle.read_follow.specs.Scopes.{find_slot};
+ghost use Rattle.read_follow.specs.{NameTables.AddsTable, NameTables.AreSlotsOf, NameTables.IsTableOf, Scopes.find_slot};
 
 use crate::slots::Slot;
 use crate::views::ShownType;

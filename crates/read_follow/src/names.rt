@@ -3,9 +3,7 @@
 ghost use Rattle.std.specs.Prelude.{◌≡◌, List, ℕ, map, option_map};
 ghost use Rattle.comp_bytes.specs.RawOf.{text_of};
 ghost use Rattle.comp_bytes.specs.Reading.{attributed_at, byte_at, extern_name_at, name_at, pair_at, plain_name, take_attribute as take_attribute_lem, with_attributes as with_attributes_lem};
-ghost use Rattle.read_follow.specs.Declares.{attribute};
-ghost use Rattle.read_follow.specs.ExternNames.{raw_name};
-ghost use Rattle.read_follow.specs.Found.{Finds, Gives};
+ghost use Rattle.read_follow.specs.{Declares.attribute, ExternNames.raw_name, Found.Finds, Found.Gives};
 
 use crate::front::name_of;
 use crate::refusal::Refusal;

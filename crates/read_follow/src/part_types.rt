@@ -2,11 +2,8 @@
 
 ghost use Rattle.std.specs.Prelude.{◌≡◌, IfOk};
 ghost use Rattle.comp_bytes.specs.Levels.{PartType as RawPartType, entry_at, part_behind_at, part_type_at, shows, world_export_at, wraps};
-ghost use Rattle.read_follow.specs.ExternNames.{raw_name};
 ghost use Rattle.comp_bytes.specs.Reading.{as_at, pair_at, sequence_at, vector_at};
-ghost use Rattle.read_follow.specs.Bodies.{items_in, IsBody};
-ghost use Rattle.read_follow.specs.Found.{Finds};
-ghost use Rattle.read_follow.specs.PartTypes.{raw_part_type, IsWholePart};
+ghost use Rattle.read_follow.specs.{ExternNames.raw_name, Bodies.items_in, Bodies.IsBody, Found.Finds, PartTypes.raw_part_type, PartTypes.IsWholePart};
 
 use crate::bodies::{Body, entry_items};
 use crate::declarations::{Declared, declaration_of};

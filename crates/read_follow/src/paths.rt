@@ -6,10 +6,9 @@ ghost use Rattle.wit_model.specs.Names.{cut, is_label as is_label_lem, is_option
 ghost use Rattle.wit_model.specs.Text.{text_of};
 ghost use Rattle.comp_bytes.specs.RawOf.{text_of as borrowed_text};
 ghost use Rattle.comp_meaning.specs.Follow.{complete_path as complete_path_lem, completed as completed_lem, is_begun_version};
-ghost use Rattle.read_follow.specs.Found.{Gives};
-ghost use Rattle.read_follow.specs.Places.{behind_name, two_texts};
-ghost use Rattle.read_follow.specs.declared.refusal.Refusal.TheVariants as refusals;
+ghost use Rattle.read_follow.specs.{Found.Gives, Places.behind_name, Places.two_texts};
 ghost use Rattle.semver.specs.Parse.{memory_error};
+ghost use Rattle.read_follow.specs.declared.refusal.Refusal.TheVariants as refusals;
 
 use crate::refusal::Refusal;
 use semver::Version;

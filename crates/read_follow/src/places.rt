@@ -1,10 +1,8 @@
 //! The places of names, by number: each path once, and the scopes that have none.
 
 ghost use Rattle.std.specs.Prelude.{◌≡◌, ◌<◌, ◌≤◌, ◌+◌, ◌^◌, ◌==◌, ◌∷◌, ◌++◌, [], None, Some, is_some, length, map, option_map, slice_get, true, unwrap_or, IfOk, IsOkUnless, OnErr, OnOk};
-ghost use Rattle.wit_model.specs.Names.{read_path};
-ghost use Rattle.wit_model.specs.Text.{text_of};
-ghost use Rattle.read_follow.specs.Defining.{Grows};
-ghost use Rattle.read_follow.specs.Functions.{Joins};
+ghost use Rattle.wit_model.specs.{Names.read_path, Text.text_of};
+ghost use Rattle.read_follow.specs.{Defining.Grows, Functions.Joins};
 ghost use Rattle.read_follow.specs.Places.{has_path, place_shape, ArePathsApart, ArePlaces, IsOnlyNew, path_in, ArePathsRead, IsReadIfGiven};
 ghost use Rattle.read_follow.specs.declared.refusal.Refusal.TheVariants as refusals;
 

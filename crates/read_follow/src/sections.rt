@@ -1,12 +1,9 @@
 //! The sections of a component, with what stands in them.
 
-ghost use Rattle.std.specs.List.{AllByRecursion};
-ghost use Rattle.std.specs.Prelude.{◌≡◌, ◌<◌, length, map, IfOk};
-ghost use Rattle.comp_bytes.specs.Levels.{levels_of, piece_of as piece_of_lem, pieces_in};
-ghost use Rattle.comp_bytes.specs.Raw.{TopExport as RawExport};
+ghost use Rattle.std.specs.{List.AllByRecursion, Prelude.◌≡◌, Prelude.◌<◌, Prelude.length, Prelude.map, Prelude.IfOk};
+ghost use Rattle.comp_bytes.specs.{Levels.levels_of, Levels.piece_of as piece_of_lem, Levels.pieces_in, Raw.TopExport as RawExport};
 ghost use Rattle.comp_bytes.specs.Reading.{as_at, closed_at, frame_at, name_at, tag_at, top_export_at, u32_at, vector_at, whole};
-ghost use Rattle.read_follow.specs.Found.{Finds, Gives};
-ghost use Rattle.read_follow.specs.Pieces.{piece_at, raw_export, raw_piece, AreAlike, IsWholePiece};
+ghost use Rattle.read_follow.specs.{Found.Finds, Found.Gives, Pieces.piece_at, Pieces.raw_export, Pieces.raw_piece, Pieces.AreAlike, Pieces.IsWholePiece};
 
 use crate::front::u32_of;
 use crate::names::{ExternName, extern_name_of};

@@ -1,21 +1,14 @@
 //! Imports, exports and aliases of a component type: what each shows, and what its index stands for.
 
 ghost use Rattle.std.specs.List.{list_any};
-ghost use Rattle.std.specs.Prelude.{◌≡◌, ◌<◌, ◌==◌, ◌∷◌, ◌++◌, [], ℕ, false, if◌then◌else◌, length, map, take, IfErr, IfOk, IsOkUnless, OnErr, OnOk};
+ghost use Rattle.std.specs.Prelude.{◌≡◌, ◌<◌, ◌==◌, ◌∷◌, ◌++◌, [], ℕ, false, if◌then◌else◌, length, map, take, IfErr, IfOk, IsOkUnless, OnErr, OnOk, List, Option, Some, option_map, slice_get};
 ghost use Rattle.comp_meaning.specs.Follow.{see_function as see_function_lem, see_instance as see_instance_lem, see_type as see_type_lem};
-ghost use Rattle.read_follow.specs.Defining.{Grows};
-ghost use Rattle.read_follow.specs.ExternNames.{raw_name};
-ghost use Rattle.read_follow.specs.Following.{AreSlotsIn, AreTables};
-ghost use Rattle.read_follow.specs.Found.{Gives};
-ghost use Rattle.read_follow.specs.Functions.{FunctionShape};
-ghost use Rattle.read_follow.specs.InstanceScopes.{tables_of};
-ghost use Rattle.read_follow.specs.NameTables.{marked_slot, AreNamesOf};
-ghost use Rattle.read_follow.specs.Places.{has_path, place_number};
+ghost use Rattle.read_follow.specs.{Defining.Grows, ExternNames.raw_name, Found.Gives, Functions.FunctionShape, Places.has_path, Places.place_number};
+ghost use Rattle.read_follow.specs.{Following.AreSlotsIn, Following.AreTables, InstanceScopes.tables_of, NameTables.marked_slot, NameTables.AreNamesOf};
 ghost use Rattle.read_follow.specs.Scopes.{direction, slot_of_instance, world_of, Goes, GoesBy, HasNoUsedView, IsInstanceAdded, IsUsedView, IsWorld, Stops, StopsBy};
-ghost use Rattle.read_follow.specs.declared.refusal.Refusal.TheVariants as refusals;
 ghost use Rattle.plan_meaning.specs.Shapes.{Shape};
-ghost use Rattle.std.specs.Prelude.{List, Option, Some, option_map, slice_get};
 ghost use Rattle.wit_model.specs.Text.{Text};
+ghost use Rattle.read_follow.specs.declared.refusal.Refusal.TheVariants as refusals;
 
 use crate::functions::Functions;
 use crate::instance_keys::{InstanceKey, key_of};

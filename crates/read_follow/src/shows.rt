@@ -1,16 +1,12 @@
 //! Exports of an instance type: what each shows, and what its index stands for.
 
 ghost use Rattle.std.specs.Prelude.{◌≡◌, ◌<◌, ◌+◌, ◌^◌, ℕ, List, Bool, length, slice_get, Some, IfErr, IfOk, IfSome, IsOkUnless, OnOk};
-ghost use Rattle.wit_model.specs.Meaning.{Signature};
-ghost use Rattle.wit_model.specs.Text.{Text};
-ghost use Rattle.wit_model.specs.Tree.{Place, Tree};
+ghost use Rattle.wit_model.specs.{Meaning.Signature, Text.Text, Tree.Place, Tree.Tree};
 ghost use Rattle.comp_meaning.specs.Follow.{is_simple as is_simple_lem, named_type, show as show_lem, show_function as show_function_lem, show_type as show_type_lem, when};
-ghost use Rattle.read_follow.specs.ExternNames.{raw_name};
-ghost use Rattle.read_follow.specs.Found.{Gives};
+ghost use Rattle.read_follow.specs.{ExternNames.raw_name, Found.Gives, Slots.slots_in, Slots.AreInRange, Slots.AreNames};
 ghost use Rattle.read_follow.specs.InstanceScopes.{named_by, name_slot as name_slot_lem, HaltsBy, StepsBy, StepsHereBy};
-ghost use Rattle.read_follow.specs.Slots.{slots_in, AreInRange, AreNames};
-ghost use Rattle.read_follow.specs.declared.refusal.Refusal.TheVariants as refusals;
 ghost use Rattle.plan_meaning.specs.Shapes.{named_shape, Adds, IsTable, Shape};
+ghost use Rattle.read_follow.specs.declared.refusal.Refusal.TheVariants as refusals;
 
 use crate::keys::Key;
 use crate::names::ExternName;

@@ -2,15 +2,12 @@
 
 ghost use Rattle.std.specs.List.{AllByRecursion};
 ghost use Rattle.std.specs.Prelude.{◌≡◌, ◌<◌, ◌+◌, ℕ, List, Some, map, slice_get, IfErr, IfOk};
-ghost use Rattle.wit_model.specs.Meaning.{Signature};
-ghost use Rattle.wit_model.specs.Tree.{Tree};
+ghost use Rattle.wit_model.specs.{Meaning.Signature, Tree.Tree};
 ghost use Rattle.comp_bytes.specs.RawOf.{labeled, raw_function};
 ghost use Rattle.comp_meaning.specs.Follow.{each, field_type, function_in as function_in_lem};
-ghost use Rattle.read_follow.specs.Found.{Refuses};
+ghost use Rattle.read_follow.specs.{Found.Refuses, Found.Gives, Slots.found_slot, Slots.signature_in, Slots.slots_in, Slots.AreInRange};
 ghost use Rattle.read_follow.specs.Functions.{param_of, param_tree, IsFunctionKeyOf};
-ghost use Rattle.read_follow.specs.Slots.{found_slot, signature_in, slots_in, AreInRange};
 ghost use Rattle.read_follow.specs.declared.slots.Slot.TheVariants as variants;
-ghost use Rattle.read_follow.specs.Found.{Gives};
 
 use crate::keys::FunctionKey;
 use crate::refusal::Refusal;

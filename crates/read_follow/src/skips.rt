@@ -1,13 +1,10 @@
 //! The bytes behind forms, which are gone along only to find their end: nothing is kept of them.
 
 ghost use Rattle.std.specs.Prelude.{◌≡◌, List, ℕ, Option};
-ghost use Rattle.comp_bytes.specs.FirstByte.{defined_type_at, function_type_at};
-ghost use Rattle.comp_bytes.specs.Raw.{Labeled};
+ghost use Rattle.comp_bytes.specs.{FirstByte.defined_type_at, FirstByte.function_type_at, Raw.Labeled};
 ghost use Rattle.comp_bytes.specs.Reading.{Reader, case_at, description_at, extern_name_at, field_at, name_at, pair_at, sequence_at, value_type_at, vector_at};
 ghost use Rattle.comp_bytes.specs.declared.forms.ComponentValType.{ComponentValType as RawValueType};
-ghost use Rattle.read_follow.specs.Bodies.{behind};
-ghost use Rattle.read_follow.specs.Declares.{type_by_first};
-ghost use Rattle.read_follow.specs.Found.{Gives};
+ghost use Rattle.read_follow.specs.{Bodies.behind, Declares.type_by_first, Found.Gives};
 
 use crate::declarations::description_of;
 use crate::definitions::{defined_type_of, result_list_of};

@@ -1,12 +1,11 @@
 //! What the indexes of a scope stand for.
 
 ghost use Rattle.std.specs.Prelude.{◌≡◌, ◌<◌, ◌+◌, ℕ, List, option_map, slice_get, IfOk, IfSome};
-ghost use Rattle.wit_model.specs.Meaning.{Signature};
-ghost use Rattle.wit_model.specs.Tree.{Tree};
+ghost use Rattle.wit_model.specs.{Meaning.Signature, Tree.Tree};
 ghost use Rattle.comp_meaning.specs.Follow.{given, value_type, resource_in as resource_in_lem};
 ghost use Rattle.read_follow.specs.Found.{Gives};
-ghost use Rattle.plan_meaning.specs.Shapes.{part_tree};
 ghost use Rattle.read_follow.specs.Slots.{found_slot, primitive_index as primitive_index_lem, slots_in, AreInRange, AreNames};
+ghost use Rattle.plan_meaning.specs.Shapes.{part_tree};
 
 use crate::bodies::Body;
 use crate::refusal::Refusal;

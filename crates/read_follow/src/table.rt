@@ -1,10 +1,8 @@
 //! Types, each kept once.
 
 ghost use Rattle.std.specs.Prelude.{◌≡◌, ◌<◌, ◌+◌, ◌^◌, ◌==◌, [], length, map, option_map, slice_get, IfOk, OnOk, OnErr, IsOkUnless, Some};
-ghost use Rattle.read_follow.specs.Facts.{IsKept, Tells};
+ghost use Rattle.read_follow.specs.{Facts.IsKept, Facts.Tells, InstanceScopes.place_in, KeyShapes.shape_of};
 ghost use Rattle.plan_meaning.specs.Shapes.{part_tree, shape_tree, shape_trees, Adds, IsShape, IsTable};
-ghost use Rattle.read_follow.specs.InstanceScopes.{place_in};
-ghost use Rattle.read_follow.specs.KeyShapes.{shape_of};
 ghost use Rattle.read_follow.specs.declared.refusal.Refusal.TheVariants as refusals;
 
 use crate::facts::{Fact, fact_at, fact_of};

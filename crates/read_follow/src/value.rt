@@ -1,9 +1,8 @@
 //! Value types.
 
 ghost use Rattle.std.specs.Prelude.{◌≡◌};
-ghost use Rattle.comp_bytes.specs.Reading.{value_type_at};
+ghost use Rattle.comp_bytes.specs.{Reading.value_type_at, FirstByte.primitive_beside};
 ghost use Rattle.read_follow.specs.Found.{Finds};
-ghost use Rattle.comp_bytes.specs.FirstByte.{primitive_beside};
 
 use crate::front::index_of;
 use crate::refusal::Refusal;

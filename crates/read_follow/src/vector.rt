@@ -1,7 +1,6 @@
 //! Vectors of any form.
 
-ghost use Rattle.std.specs.List.{AllByRecursion};
-ghost use Rattle.std.specs.Prelude.{◌≡◌, map, IfOk};
+ghost use Rattle.std.specs.{List.AllByRecursion, Prelude.◌≡◌, Prelude.map, Prelude.IfOk};
 ghost use Rattle.comp_bytes.specs.Reading.{Reader, vector_at, sequence_at};
 ghost use Rattle.read_follow.specs.Found.{Finds};
 

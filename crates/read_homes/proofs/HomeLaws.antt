@@ -1,20 +1,15 @@
 -- The packages of places, one place after the other.
 use Rattle.std.proofs.Common.{◌≡◌, inl, inr, refl, sym, ap, ◌∙◌, subst, ℕ, zero, suc, ◌+◌, ◌<◌, ◌≤◌, arith, List, [], ◌∷◌, ◌++◌, map, length, take, get_or, Option, Some, None, option_map, slice_get, unwrap_or, Result, Ok, Err, IfOk, OnOk}
-use Rattle.std.specs.Borrow.{Bor}
+use Rattle.std.proofs.lemmas.{List.map-append, List.take_all, List.take_more, Option.slice_get_within as found_below}
+use Rattle.std.specs.{Borrow.Bor, List.AllZip}
 use Rattle.std.specs.declared.alloc.AllocError.{AllocError}
-use Rattle.std.specs.List.{AllZip}
-use Rattle.std.proofs.lemmas.List.{map-append, take_all, take_more}
-use Rattle.wit_model.specs.Text.{Text}
-use Rattle.wit_model.specs.Names.{PackageIdentity, read_path}
+use Rattle.wit_model.specs.{Text.Text, Names.PackageIdentity, Names.read_path}
 use Rattle.wit_model.proofs.Elements.{zip-push}
-use Rattle.plan_meaning.specs.NumberedViews.{Tables}
-use Rattle.plan_meaning.specs.NumberedMembers.{HomesStand}
-use Rattle.plan_meaning.specs.NumberedMembers as members
+use Rattle.plan_meaning.specs.{NumberedViews.Tables, NumberedMembers.HomesStand}
 use Rattle.read_homes.specs.Homes.{given_home, given_text, package_read, ArePackages, ArePaths, ComeInOrder, Grows, HaveReasons, IsHomeOf, IsReadAs, IsReason, Joins, stays, comes, Takes}
 use Rattle.read_homes.proofs.PackageLaws.{homes_on}
-use Rattle.base_lemmas.proofs.Lists.{at_last as last_there, front_more, last_or, within_there as at_number}
-use Rattle.base_lemmas.proofs.Options.{some_is}
-use Rattle.std.proofs.lemmas.Option.{slice_get_within as found_below}
+use Rattle.base_lemmas.proofs.{Lists.at_last as last_there, Lists.front_more, Lists.last_or, Lists.within_there as at_number, Options.some_is}
+use Rattle.plan_meaning.specs.NumberedMembers as members
 
 -- ---- why a package is there
 

@@ -1,22 +1,16 @@
 -- Packages that each stand once, and what stands of places where there are more of them.
 use Rattle.std.proofs.Common.{◌≡◌, inl, inr, refl, sym, ap, ◌∙◌, subst, ℕ, zero, suc, Bool, true, false, ◌&&◌, ◌||◌, cond, List, [], ◌∷◌, ◌++◌, map, append_assoc, Option, Some, None, option_map, slice_get, OnOk, OnErr, Result, Ok, Err}
-use Rattle.std.specs.Borrow.{Bor}
-use Rattle.std.specs.declared.alloc.AllocError.{AllocError}
-use Rattle.std.specs.List.{AllZip, list_any}
-use Rattle.std.specs.Option.{option_eq}
-use Rattle.std.proofs.lemmas.List.{append-nil, map-append}
+use Rattle.std.proofs.lemmas.{List.append-nil, List.map-append, Bool.and_from as both, Bool.or_right as either_true, Option.slice_get_within as found_below}
 use Rattle.std.proofs.lemmas.Slice.Eq.{bytes_eq-Decides}
-use Rattle.wit_model.specs.Text.{Text, text_eq}
-use Rattle.wit_model.specs.Names.{PackageIdentity}
+use Rattle.std.specs.{Borrow.Bor, List.AllZip, List.list_any, Option.option_eq}
+use Rattle.std.specs.declared.alloc.AllocError.{AllocError}
+use Rattle.wit_model.specs.{Text.Text, Text.text_eq, Names.PackageIdentity}
 use Rattle.comp_bytes.specs.RawOf.{text_of}
-use Rattle.read_homes.specs.contracts.packages.PackageTextsPartialEq.TheImpl as texts_eq
 use Rattle.read_homes.specs.declared.packages.PackageTexts.{PackageTexts}
 use Rattle.read_homes.specs.Homes.{identity_of, AreApart, ArePackages, Grows, IsHomeOf, IsRead, Joins, stays, comes, KeepsHomes}
-use Rattle.base_lemmas.proofs.Bools.{left_of as first_true, right_of as second_true}
-use Rattle.base_lemmas.proofs.Lists.{last_or, none_there as nothing_at, slice_front}
-use Rattle.std.proofs.lemmas.Bool.{and_from as both, or_right as either_true}
-use Rattle.std.proofs.lemmas.Option.{slice_get_within as found_below}
+use Rattle.base_lemmas.proofs.{Bools.left_of as first_true, Bools.right_of as second_true, Lists.last_or, Lists.none_there as nothing_at, Lists.slice_front}
 use Rattle.wit_model.proofs.TextLemmas.{text_same as same_text}
+use Rattle.read_homes.specs.contracts.packages.PackageTextsPartialEq.TheImpl as texts_eq
 
 -- ---- equal texts
 

@@ -1,12 +1,10 @@
 -- Packages by number, and what paths are read as (WIT.md, "Package declaration"; Binary.md, "Import and Export Definitions").
 use Rattle.std.specs.Prelude.{◌≡◌, ◌⊎◌, ◌<◌, ℕ, length, List, [], ◌∷◌, ◌++◌, Option, Some, None, option_map, option_and_then, slice_get}
 use Rattle.std.specs.Borrow.{Bor}
-use Rattle.wit_model.specs.Text.{Text}
-use Rattle.wit_model.specs.Names.{PackageIdentity, cut, known_path, read_path, versioned}
+use Rattle.wit_model.specs.{Text.Text, Names.PackageIdentity, Names.cut, Names.known_path, Names.read_path, Names.versioned}
 use Rattle.comp_bytes.specs.RawOf.{text_of}
 use Rattle.comp_meaning.specs.Reads.{labelled_path}
-use Rattle.plan_meaning.specs.NumberedViews.{Tables}
-use Rattle.plan_meaning.specs.NumberedMembers.{HomesStand}
+use Rattle.plan_meaning.specs.{NumberedViews.Tables, NumberedMembers.HomesStand}
 use Rattle.read_homes.specs.declared.packages.PackageTexts.{PackageTexts}
 
 -- ---- texts that are parts of others, as texts

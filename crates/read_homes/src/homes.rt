@@ -1,7 +1,6 @@
 //! The packages of places.
 
-ghost use Rattle.std.specs.List.{AllZip};
-ghost use Rattle.std.specs.Prelude.{map, IfOk};
+ghost use Rattle.std.specs.{List.AllZip, Prelude.map, Prelude.IfOk};
 ghost use Rattle.read_homes.specs.Homes.{given_home, given_text, ArePackages, ComeInOrder, Grows, HaveReasons, IsHomeOf, IsReason, KeepsHomes, StandInTables};
 
 use crate::packages::Packages;

@@ -1,7 +1,6 @@
 //! What a path is read as.
 
-ghost use Rattle.std.specs.Option.{option_copied};
-ghost use Rattle.std.specs.Prelude.{◌≡◌, ◌<◌, option_map, true, IfOk};
+ghost use Rattle.std.specs.{Option.option_copied, Prelude.◌≡◌, Prelude.◌<◌, Prelude.option_map, Prelude.true, Prelude.IfOk};
 ghost use Rattle.wit_model.specs.Names.{cut, is_label as is_label_lem, is_optional_version, is_version_text as is_version_text_lem, known_path, read_path as read_path_lem, versioned as versioned_lem};
 ghost use Rattle.comp_bytes.specs.RawOf.{text_of};
 ghost use Rattle.read_homes.specs.Homes.{behind_namespace, identity_of, named_in, two_texts, with_version};

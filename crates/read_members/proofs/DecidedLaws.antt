@@ -2,27 +2,19 @@
 use Rattle.std.proofs.Common.{◌≡◌, refl, ap, ◌∙◌, ℕ, List, [], ◌∷◌, map, Option, Some, None}
 use Rattle.std.specs.List.{AllZip}
 use Rattle.wit_model.specs.Text.{Text}
-use Rattle.comp_bytes.specs.Levels.{Piece}
-use Rattle.comp_bytes.specs.Reading.{◌>>=◌}
-use Rattle.comp_meaning.specs.ByLevels.{package_of_pieces}
-use Rattle.comp_meaning.specs.Follow.{each}
-use Rattle.comp_meaning.specs.Reads as reads
-use Rattle.comp_meaning.specs.Reads.{package_of_members}
+use Rattle.comp_bytes.specs.{Levels.Piece, Reading.◌>>=◌}
+use Rattle.comp_meaning.specs.{ByLevels.package_of_pieces, Follow.each, Reads.package_of_members}
 use Rattle.plan_meaning.specs.NumberedMembers.{Homes, HomesStand, IsMember, NumberedMember}
 use Rattle.plan_meaning.proofs.NumberedMembers.{packages_in_numbers}
 use Rattle.read_parts.specs.declared.following.Followed.{Followed}
-use Rattle.read_parts.specs.Followed.{PartScope, member_of_scope, scopes_of}
-use Rattle.read_parts.specs.Input.{IsFollowed}
+use Rattle.read_parts.specs.{Followed.PartScope, Followed.member_of_scope, Followed.scopes_of, Input.IsFollowed}
 use Rattle.read_parts.proofs.ScopeMeaning.{package_by_scopes}
 use Rattle.read_rules.specs.declared.tables.Fact.{Fact as KeptFact}
-use Rattle.read_numbers.specs.FactLaws.{known_by}
-use Rattle.read_numbers.specs.KnownScopes.{AreKnown}
-use Rattle.read_numbers.specs.NumberedInput.{tables_of}
+use Rattle.read_numbers.specs.{FactLaws.known_by, KnownScopes.AreKnown, NumberedInput.tables_of}
 use Rattle.read_numbers.proofs.InputNumbers.{input_in_numbers}
-use Rattle.read_members.specs.Decided.{ArePackageDecided, PackagesAreDecided}
-use Rattle.read_members.specs.ReadMembers.{members_meant, AreRead}
-use Rattle.read_members.proofs.MeantLaws.{read_members_are_meant}
-use Rattle.read_members.proofs.SightLaws.{members_are_known}
+use Rattle.read_members.specs.{Decided.ArePackageDecided, Decided.PackagesAreDecided, ReadMembers.members_meant, ReadMembers.AreRead}
+use Rattle.read_members.proofs.{MeantLaws.read_members_are_meant, SightLaws.members_are_known}
+use Rattle.comp_meaning.specs.Reads as reads
 
 -- the package of the members
 pub by_members : (pieces : List Piece) → package_of_pieces pieces ≡ (members_meant pieces >>= package_of_members)

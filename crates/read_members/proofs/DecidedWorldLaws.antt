@@ -1,35 +1,24 @@
 -- What the pieces mean as one world, by what was read of the member.
 use Rattle.std.proofs.Common.{◌≡◌, refl, sym, ap, subst, ◌∙◌, ℕ, Bool, true, false, List, [], ◌∷◌, map, slice_get, Option, Some, None}
-use Rattle.std.proofs.lemmas.List.{append-nil}
+use Rattle.std.proofs.lemmas.{List.append-nil, Option.same_Some as same-some}
 use Rattle.std.specs.List.{AllByRecursion, AllZip}
-use Rattle.wit_model.specs.Names.{PackageIdentity, path_in, read_path}
-use Rattle.wit_model.specs.Text.{Text, text_eq, text_of}
-use Rattle.wit_model.proofs.NameLaws.{read_path_is_spelled}
-use Rattle.comp_bytes.specs.Levels.{Piece}
-use Rattle.comp_bytes.specs.Reading.{◌>>=◌}
-use Rattle.comp_meaning.specs.ByLevels.{world_of_pieces}
-use Rattle.comp_meaning.specs.Follow.{each, provided}
-use Rattle.comp_meaning.specs.Reads as reads
-use Rattle.comp_meaning.specs.Reads.{labelled_path, world_of_members}
+use Rattle.wit_model.specs.{Names.PackageIdentity, Names.path_in, Names.read_path, Text.Text, Text.text_eq, Text.text_of}
+use Rattle.wit_model.proofs.{NameLaws.read_path_is_spelled, TextLemmas.text_same}
+use Rattle.comp_bytes.specs.{Levels.Piece, Reading.◌>>=◌}
+use Rattle.comp_meaning.specs.{ByLevels.world_of_pieces, Follow.each, Follow.provided, Reads.labelled_path, Reads.world_of_members}
 use Rattle.plan_meaning.specs.NumberedMembers.{Homes, HomesStand, IsKnownSight, IsMember, NumberedMember, NumberedPart, ShowsPart, interface, sights_of_members, sights_of_part, world}
-use Rattle.plan_meaning.specs.NumberedRules.{Fact}
-use Rattle.plan_meaning.specs.NumberedViews.{AreTables, Tables}
-use Rattle.plan_meaning.specs.NumberedWorlds.{NumberedScope}
+use Rattle.plan_meaning.specs.{NumberedRules.Fact, NumberedViews.AreTables, NumberedViews.Tables, NumberedWorlds.NumberedScope}
 use Rattle.plan_meaning.proofs.NumberedMembers.{one_world_in_numbers}
-use Rattle.read_parts.specs.declared.members.FollowedPart.{FollowedPart}
-use Rattle.read_parts.specs.declared.members.FollowedPart.TheVariants as followed
-use Rattle.read_parts.specs.declared.members.Member.{Member as FollowedMember}
+use Rattle.read_parts.specs.declared.members.{FollowedPart.FollowedPart, Member.Member as FollowedMember}
 use Rattle.read_parts.specs.Followed.{PartScope, member_of_scope, scopes_of}
 use Rattle.read_parts.proofs.ScopeMeaning.{world_by_scopes}
-use Rattle.read_numbers.specs.FactLaws.{known_by}
-use Rattle.read_numbers.specs.NumberedInput.{tables_of}
+use Rattle.read_numbers.specs.{FactLaws.known_by, NumberedInput.tables_of}
 use Rattle.read_numbers.proofs.InputNumbers.{input_in_numbers}
 use Rattle.read_members.specs.DecidedWorlds.{AreWorldDecided, IsPartDecided, WorldsAreDecided}
 use Rattle.read_members.specs.ReadMembers.{members_meant, AreRead, IsPartRead}
-use Rattle.read_members.proofs.MeantLaws.{read_members_are_meant}
-use Rattle.read_members.proofs.SightLaws.{members_are_known}
-use Rattle.std.proofs.lemmas.Option.{same_Some as same-some}
-use Rattle.wit_model.proofs.TextLemmas.{text_same}
+use Rattle.read_members.proofs.{MeantLaws.read_members_are_meant, SightLaws.members_are_known}
+use Rattle.comp_meaning.specs.Reads as reads
+use Rattle.read_parts.specs.declared.members.FollowedPart.TheVariants as followed
 
 -- the one world of the members
 pub by_members : (pieces : List Piece) → world_of_pieces pieces ≡ (members_meant pieces >>= world_of_members)

@@ -2,19 +2,15 @@
 use Rattle.std.proofs.Common.{◌≡◌, ℕ, List, [], ◌∷◌, map}
 use Rattle.std.specs.List.{AllZip}
 use Rattle.wit_model.specs.Text.{Text}
-use Rattle.read_parts.specs.declared.members.FollowedPart.{FollowedPart}
-use Rattle.read_parts.specs.declared.members.FollowedPart.TheVariants as followed
-use Rattle.read_parts.specs.declared.members.Member.{Member as FollowedMember}
-use Rattle.plan_meaning.specs.NumberedMembers.{Homes}
-use Rattle.plan_meaning.specs.NumberedRules.{Fact}
-use Rattle.plan_meaning.specs.NumberedViews.{Tables}
+use Rattle.read_parts.specs.declared.members.{FollowedPart.FollowedPart, Member.Member as FollowedMember}
+use Rattle.plan_meaning.specs.{NumberedMembers.Homes, NumberedRules.Fact, NumberedViews.Tables}
 use Rattle.read_exports.specs.Members.{numbered_part}
-use Rattle.read_exports.specs.declared.members.Member.{Member}
-use Rattle.read_exports.specs.declared.members.Part.{Part}
-use Rattle.read_exports.specs.declared.members.Part.TheVariants as parts
+use Rattle.read_exports.specs.declared.members.{Member.Member, Part.Part}
 use Rattle.read_numbers.specs.NumberedInput.{tables_of}
 use Rattle.read_members.specs.PartMembers.{IsMemberOf, IsPartOf}
 use Rattle.read_members.specs.ReadMembers.{lent_member, parts_followed, parts_lent, IsMemberRead, IsPartRead, LentMembersAreMembers}
+use Rattle.read_parts.specs.declared.members.FollowedPart.TheVariants as followed
+use Rattle.read_exports.specs.declared.members.Part.TheVariants as parts
 
 module _ (t : Tables) (known : ℕ → Fact) (h : Homes) where
   part_lent : (label : Text) (x : FollowedPart) (n : ℕ) (p : Part) → IsPartRead t known h label x n (numbered_part p) → parts_lent p ≡ parts_followed x → IsPartOf t x p

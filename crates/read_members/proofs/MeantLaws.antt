@@ -1,34 +1,27 @@
 -- Members that are read are what the pieces of the input mean.
 use Rattle.std.proofs.Common.{◌≡◌, inl, inr, refl, sym, ap, subst, ◌∙◌, ℕ, zero, suc, true, List, [], ◌∷◌, map, slice_get, Option, Some, None}
+use Rattle.std.proofs.lemmas.Option.{same_Some as same-some}
 use Rattle.std.specs.List.{AllByRecursion, AllZip}
-use Rattle.wit_model.specs.Names.{PackageIdentity}
-use Rattle.wit_model.specs.Text.{Text, text_of}
+use Rattle.wit_model.specs.{Names.PackageIdentity, Text.Text, Text.text_of}
 use Rattle.comp_bytes.specs.Reading.{◌>>=◌}
-use Rattle.comp_meaning.specs.Follow.{Scope as MeantScope, each, provided}
-use Rattle.comp_meaning.specs.Reads as reads
-use Rattle.comp_meaning.specs.Reads.{labelled_path}
-use Rattle.comp_meaning.specs.Rules as rules
+use Rattle.comp_meaning.specs.{Follow.Scope as MeantScope, Follow.each, Follow.provided, Reads.labelled_path}
 use Rattle.plan_meaning.specs.NumberedMembers.{Homes, HomesStand, IsMember, NumberedMember, NumberedPart, ShowsPart, home_at, interface, shown_view, world}
-use Rattle.plan_meaning.specs.NumberedRules.{Fact}
-use Rattle.plan_meaning.specs.NumberedViews.{AreTables, Tables, view_of}
+use Rattle.plan_meaning.specs.{NumberedRules.Fact, NumberedViews.AreTables, NumberedViews.Tables, NumberedViews.view_of}
 use Rattle.plan_meaning.specs.NumberedWorlds.{HasPath, NumberedScope, ScopeStands, Shows, is_world}
 use Rattle.plan_meaning.proofs.NumberedWorlds.{worlds_in_numbers}
-use Rattle.read_parts.specs.declared.members.FollowedPart.{FollowedPart}
-use Rattle.read_parts.specs.declared.members.FollowedPart.TheVariants as followed
-use Rattle.read_parts.specs.declared.members.Member.{Member as FollowedMember}
-use Rattle.read_parts.specs.Followed as scopes
-use Rattle.read_parts.specs.Followed.{PartScope, member_of_scope, part_of_scope}
-use Rattle.read_parts.specs.Members.{scope_of}
+use Rattle.read_parts.specs.declared.members.{FollowedPart.FollowedPart, Member.Member as FollowedMember}
+use Rattle.read_parts.specs.{Followed.PartScope, Followed.member_of_scope, Followed.part_of_scope, Members.scope_of}
 use Rattle.read_numbers.specs.FactLaws.{known_by}
-use Rattle.read_numbers.specs.NumberedInput.{MemberShown, PartShown, tables_of}
-use Rattle.read_numbers.specs.NumberedParts.{numbered_scope as followed_scope}
-use Rattle.read_numbers.proofs.InputNumbers.{input_in_numbers}
-use Rattle.read_numbers.proofs.KnownScopes.{scopes_are_known}
+use Rattle.read_numbers.specs.{NumberedInput.MemberShown, NumberedInput.PartShown, NumberedInput.tables_of, NumberedParts.numbered_scope as followed_scope}
+use Rattle.read_numbers.proofs.{InputNumbers.input_in_numbers, KnownScopes.scopes_are_known}
 use Rattle.read_exports.specs.Interfaces.{IsInterfacePart, IsPartOf, Placed, at_home, elsewhere, interface_of_scope, shown_interface}
 use Rattle.read_exports.proofs.InterfaceLaws.{export_stands, scopes_are_parts}
 use Rattle.read_members.proofs.SightLaws.{placed_views}
 use Rattle.read_members.specs.ReadMembers.{IsElsewhere, IsMemberRead, IsNoMember, IsNoPart, IsPartRead, NoMembersAreMeant, ReadMembersAreMeant}
-use Rattle.std.proofs.lemmas.Option.{same_Some as same-some}
+use Rattle.comp_meaning.specs.Reads as reads
+use Rattle.comp_meaning.specs.Rules as rules
+use Rattle.read_parts.specs.declared.members.FollowedPart.TheVariants as followed
+use Rattle.read_parts.specs.Followed as scopes
 
 -- ---- one part
 

@@ -1,26 +1,17 @@
 -- Where one of the members that were followed is none.
 use Rattle.std.proofs.Common.{◌≡◌, subst, ℕ, List, Option, Some, None}
 use Rattle.std.specs.Borrow.{Bor}
-use Rattle.wit_model.specs.Names.{PackageIdentity}
-use Rattle.wit_model.specs.Text.{Text}
+use Rattle.wit_model.specs.{Names.PackageIdentity, Text.Text}
 use Rattle.comp_bytes.specs.Levels.{Piece}
-use Rattle.plan_meaning.specs.NumberedMembers.{HomesStand}
-use Rattle.plan_meaning.specs.NumberedRules.{Fact}
-use Rattle.plan_meaning.specs.NumberedViews.{Tables}
-use Rattle.read_parts.specs.declared.following.Followed.{Followed}
-use Rattle.read_parts.specs.declared.members.FollowedPart.{FollowedPart}
-use Rattle.read_parts.specs.declared.members.FollowedPart.TheVariants as followed
-use Rattle.read_parts.specs.declared.members.Member.{Member as FollowedMember}
+use Rattle.plan_meaning.specs.{NumberedMembers.HomesStand, NumberedRules.Fact, NumberedViews.Tables}
+use Rattle.read_parts.specs.declared.{following.Followed.Followed, members.FollowedPart.FollowedPart, members.Member.Member as FollowedMember}
 use Rattle.read_parts.specs.Input.{IsFollowed}
-use Rattle.read_exports.specs.Interfaces.{Placed, shown_interface}
-use Rattle.read_exports.specs.Members.{homes_alone, homes_in}
+use Rattle.read_exports.specs.{Interfaces.Placed, Interfaces.shown_interface, Members.homes_alone, Members.homes_in}
 use Rattle.read_rules.specs.declared.tables.Fact.{Fact as KeptFact}
-use Rattle.read_numbers.specs.FactLaws.{known_by}
-use Rattle.read_numbers.specs.KnownScopes.{AreKnown}
-use Rattle.read_numbers.specs.NumberedInput.{tables_of}
-use Rattle.read_numbers.specs.NumberedParts.{numbered_scope as followed_scope}
+use Rattle.read_numbers.specs.{FactLaws.known_by, KnownScopes.AreKnown, NumberedInput.tables_of, NumberedParts.numbered_scope as followed_scope}
 use Rattle.read_members.specs.ReadMembers.{members_meant, IsElsewhere, IsNoPart, IsOneNone}
 use Rattle.read_members.proofs.MeantLaws.{no_members_are_meant}
+use Rattle.read_parts.specs.declared.members.FollowedPart.TheVariants as followed
 
 abbrev Given : Type 0
 Given = List (Option (ℕ × Bor (List ℕ)))

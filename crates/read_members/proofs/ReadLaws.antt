@@ -1,24 +1,20 @@
 -- Members that are read one after the other, as packages grow.
 use Rattle.std.proofs.Common.{◌≡◌, ◌⊎◌, inl, inr, sym, ap, subst, ◌∙◌, ℕ, ◌+◌, ◌<◌, arith, List, [], ◌∷◌, ◌++◌, map, length, take, get_or, slice_get, Option, Some}
-use Rattle.std.proofs.lemmas.List.{length-map, map-append, take_more}
-use Rattle.std.proofs.lemmas.Option.{slice_get-get_or, same_Some as same-some}
-use Rattle.wit_model.specs.Names.{PackageIdentity}
-use Rattle.wit_model.specs.Text.{Text}
+use Rattle.std.proofs.lemmas.{List.length-map, List.map-append, List.take_more, Option.slice_get-get_or, Option.same_Some as same-some}
+use Rattle.wit_model.specs.{Names.PackageIdentity, Text.Text}
 use Rattle.wit_model.proofs.Elements.{zip-push}
 use Rattle.read_follow.specs.declared.refusal.Refusal.{Refusal}
-use Rattle.read_follow.specs.declared.refusal.Refusal.TheVariants as refusals
-use Rattle.read_parts.specs.declared.members.FollowedPart.{FollowedPart}
-use Rattle.read_parts.specs.declared.members.FollowedPart.TheVariants as followed
-use Rattle.read_parts.specs.declared.members.Member.{Member as FollowedMember}
+use Rattle.read_parts.specs.declared.members.{FollowedPart.FollowedPart, Member.Member as FollowedMember}
 use Rattle.read_homes.specs.Homes.{ArePackages, Grows, IsLabelled, Joins, Takes, comes, stays}
 use Rattle.read_homes.proofs.PackageLaws.{stands_on}
 use Rattle.comp_meaning.specs.Reads.{labelled_path}
 use Rattle.plan_meaning.specs.NumberedMembers.{Homes, NumberedMember, NumberedPart, interface, world}
-use Rattle.plan_meaning.specs.NumberedRules.{Fact}
-use Rattle.plan_meaning.specs.NumberedViews.{Tables}
+use Rattle.plan_meaning.specs.{NumberedRules.Fact, NumberedViews.Tables}
 use Rattle.read_members.specs.declared.reading.ReadMember.{ReadMember}
 use Rattle.read_members.specs.ReadMembers.{read_member, AreForMembers, AreRead, Because, IsForMember, IsMemberRead, IsPartRead}
 use Rattle.base_lemmas.proofs.Lists.{at_last as last_there, front_more, last_or, mapped_get, within_there as slice_there}
+use Rattle.read_follow.specs.declared.refusal.Refusal.TheVariants as refusals
+use Rattle.read_parts.specs.declared.members.FollowedPart.TheVariants as followed
 
 -- ---- items by number
 

@@ -1,34 +1,24 @@
 -- The views that members give are over places whose names are known.
 use Rattle.std.proofs.Common.{◌≡◌, refl, sym, ap, subst, ℕ, zero, suc, Bool, true, false, not, ◌&&◌, List, [], ◌∷◌, map, slice_get, Option, Some, None, is_none}
+use Rattle.std.proofs.lemmas.Option.{same_Some as same-some}
 use Rattle.std.specs.List.{AllByRecursion}
 use Rattle.wit_model.specs.Text.{Text}
-use Rattle.comp_bytes.specs.Levels.{Piece}
-use Rattle.comp_bytes.specs.Reading.{◌>>=◌}
+use Rattle.comp_bytes.specs.{Levels.Piece, Reading.◌>>=◌}
 use Rattle.comp_meaning.specs.Follow.{each, is_filled, provided}
 use Rattle.plan_meaning.specs.NumberedMembers.{Homes, IsKnownSight, NumberedMember, NumberedPart, exported_view, imported_view, interface, sights_of_members, sights_of_part, world}
-use Rattle.plan_meaning.specs.NumberedRules.{Fact}
-use Rattle.plan_meaning.specs.NumberedViews.{NumberedSight, Tables}
+use Rattle.plan_meaning.specs.{NumberedRules.Fact, NumberedViews.NumberedSight, NumberedViews.Tables}
 use Rattle.plan_meaning.specs.NumberedWorlds.{HasPath, NumberedScope, NumberedSeen, NumberedShown, are_once, are_reached, declares, function, implementing, instance, label, path, sights_of_scope}
-use Rattle.read_parts.specs.declared.following.Followed.{Followed}
-use Rattle.read_parts.specs.declared.members.FollowedPart.{FollowedPart}
-use Rattle.read_parts.specs.declared.members.FollowedPart.TheVariants as followed
-use Rattle.read_parts.specs.declared.members.Member.{Member as FollowedMember}
-use Rattle.read_parts.specs.Input.{IsFollowed}
-use Rattle.read_parts.specs.Members.{scope_of}
+use Rattle.read_parts.specs.declared.{following.Followed.Followed, members.FollowedPart.FollowedPart, members.Member.Member as FollowedMember}
+use Rattle.read_parts.specs.{Input.IsFollowed, Members.scope_of}
 use Rattle.read_exports.specs.Interfaces.{Placed, shown_interface}
 use Rattle.read_rules.specs.declared.tables.Fact.{Fact as KeptFact}
-use Rattle.read_numbers.specs.FactLaws.{known_by}
-use Rattle.read_numbers.specs.KnownScopes.{AreKnown}
-use Rattle.read_numbers.specs.NumberedInput.{tables_of}
-use Rattle.read_numbers.specs.NumberedParts.{numbered_scope as followed_scope}
-use Rattle.read_numbers.specs.PlacedNumbers.{IsPlacedItem, IsPlacedScope, IsPlacedView}
-use Rattle.read_numbers.proofs.KnownScopes.{scopes_are_known, views_are_known}
-use Rattle.read_numbers.proofs.PlacedMembers.{places_are_kept}
-use Rattle.read_members.specs.Decided.{MembersAreKnown}
-use Rattle.read_members.specs.ReadMembers.{AreRead, IsPartRead}
+use Rattle.read_numbers.specs.{FactLaws.known_by, NumberedInput.tables_of, PlacedNumbers.IsPlacedItem, PlacedNumbers.IsPlacedScope, PlacedNumbers.IsPlacedView}
+use Rattle.read_numbers.specs.{KnownScopes.AreKnown, NumberedParts.numbered_scope as followed_scope}
+use Rattle.read_numbers.proofs.{KnownScopes.scopes_are_known, KnownScopes.views_are_known, PlacedMembers.places_are_kept}
+use Rattle.read_members.specs.{Decided.MembersAreKnown, ReadMembers.AreRead, ReadMembers.IsPartRead}
 use Rattle.base_lemmas.proofs.Elements.{all_both}
-use Rattle.std.proofs.lemmas.Option.{same_Some as same-some}
 use Rattle.comp_meaning.proofs.FollowLemmas.{provided_is}
+use Rattle.read_parts.specs.declared.members.FollowedPart.TheVariants as followed
 
 -- ---- what is shown as an interface
 

@@ -3,19 +3,15 @@ use Rattle.std.specs.Prelude.{◌≡◌, ℕ, Bool, true, false, List, [], ◌�
 use Rattle.std.specs.List.{AllByRecursion, AllZip}
 use Rattle.wit_model.specs.Names.{PackageIdentity}
 use Rattle.comp_bytes.specs.Levels.{Piece}
-use Rattle.comp_meaning.specs.ByLevels.{package_of_pieces}
-use Rattle.comp_meaning.specs.Follow.{provided}
-use Rattle.comp_meaning.specs.Reads as reads
+use Rattle.comp_meaning.specs.{ByLevels.package_of_pieces, Follow.provided}
 use Rattle.plan_meaning.specs.NumberedMembers.{Homes, HomesStand, IsKnownSight, IsMember, NumberedMember, are_package, package_shown, sights_of_members}
-use Rattle.plan_meaning.specs.NumberedRules.{Fact}
-use Rattle.plan_meaning.specs.NumberedViews.{Tables}
+use Rattle.plan_meaning.specs.{NumberedRules.Fact, NumberedViews.Tables}
 use Rattle.read_parts.specs.declared.following.Followed.{Followed}
 use Rattle.read_parts.specs.Input.{IsFollowed}
 use Rattle.read_rules.specs.declared.tables.Fact.{Fact as KeptFact}
-use Rattle.read_numbers.specs.FactLaws.{known_by}
-use Rattle.read_numbers.specs.KnownScopes.{AreKnown}
-use Rattle.read_numbers.specs.NumberedInput.{tables_of}
+use Rattle.read_numbers.specs.{FactLaws.known_by, KnownScopes.AreKnown, NumberedInput.tables_of}
 use Rattle.read_members.specs.ReadMembers.{AreRead}
+use Rattle.comp_meaning.specs.Reads as reads
 
 -- whether they are a package: that of the first
 abbrev pub are_one_package : Tables → Homes → (ℕ → Fact) → List NumberedMember → Bool

@@ -2,18 +2,13 @@
 use Rattle.std.specs.Prelude.{◌≡◌, ℕ, List, [], ◌∷◌, map, slice_get, Option, Some, None}
 use Rattle.wit_model.specs.Names.{PackageIdentity}
 use Rattle.comp_bytes.specs.Levels.{Piece}
-use Rattle.comp_meaning.specs.ByLevels.{world_of_pieces}
-use Rattle.comp_meaning.specs.Follow.{Scope, provided}
+use Rattle.comp_meaning.specs.{ByLevels.world_of_pieces, Follow.Scope, Follow.provided}
 use Rattle.plan_meaning.specs.NumberedMembers.{Homes, HomesStand, NumberedMember, NumberedPart, interface, is_one_world, world, world_shown}
-use Rattle.plan_meaning.specs.NumberedRules.{Fact}
-use Rattle.plan_meaning.specs.NumberedViews.{Tables}
-use Rattle.plan_meaning.specs.NumberedWorlds.{NumberedScope, Shows}
+use Rattle.plan_meaning.specs.{NumberedRules.Fact, NumberedViews.Tables, NumberedWorlds.NumberedScope, NumberedWorlds.Shows}
 use Rattle.read_parts.specs.declared.following.Followed.{Followed}
 use Rattle.read_parts.specs.Input.{IsFollowed}
 use Rattle.read_rules.specs.declared.tables.Fact.{Fact as KeptFact}
-use Rattle.read_numbers.specs.FactLaws.{known_by}
-use Rattle.read_numbers.specs.KnownScopes.{AreKnown}
-use Rattle.read_numbers.specs.NumberedInput.{tables_of}
+use Rattle.read_numbers.specs.{FactLaws.known_by, KnownScopes.AreKnown, NumberedInput.tables_of}
 use Rattle.read_members.specs.ReadMembers.{AreRead}
 
 -- The pieces mean the one world that the member shows, if that stands by itself.

@@ -1,22 +1,15 @@
 -- Tables and scopes that are kept while the rules of reading look at them.
 use Rattle.std.specs.Prelude.{◌≡◌, ℕ, List, map, Option}
 use Rattle.wit_model.specs.Text.{Text}
-use Rattle.plan_meaning.specs.NumberedViews.{NumberedView, Tables}
-use Rattle.plan_meaning.specs.NumberedWorlds.{NumberedScope}
-use Rattle.read_rules.specs.Scopes.{numbered_instance, numbered_seen}
-use Rattle.read_rules.specs.Tables.{given_text, numbered_function_type, numbered_shape}
+use Rattle.plan_meaning.specs.{NumberedViews.NumberedView, NumberedViews.Tables, NumberedWorlds.NumberedScope}
+use Rattle.read_rules.specs.{Scopes.numbered_instance, Scopes.numbered_seen, Tables.given_text, Tables.numbered_function_type, Tables.numbered_shape}
 use Rattle.read_follow.specs.declared.scopes.Scope.{Scope as FollowedScope}
-use Rattle.read_parts.specs.declared.following.Followed.{Followed}
-use Rattle.read_parts.specs.declared.members.Member.{Member as FollowedMember}
+use Rattle.read_parts.specs.declared.{following.Followed.Followed, members.Member.Member as FollowedMember}
 use Rattle.read_parts.specs.Members.{scope_of}
-use Rattle.read_numbers.specs.ImportParts.{part_followed, part_seen}
-use Rattle.read_numbers.specs.KnownScopes.{AreKnown}
-use Rattle.read_numbers.specs.NumberedInput.{tables_of}
-use Rattle.read_numbers.specs.NumberedParts.{instance_view, numbered_scope as followed_scope}
-use Rattle.read_numbers.specs.OwnedViews.{owned_view}
+use Rattle.read_numbers.specs.{ImportParts.part_followed, ImportParts.part_seen, NumberedParts.instance_view, NumberedParts.numbered_scope as followed_scope}
+use Rattle.read_numbers.specs.{KnownScopes.AreKnown, NumberedInput.tables_of, OwnedViews.owned_view}
 use Rattle.read_numbers.specs.declared.views.OwnedView.{OwnedView}
-use Rattle.read_members.specs.declared.scopes.OwnedScope.{OwnedScope}
-use Rattle.read_members.specs.declared.tables.OwnedTables.{OwnedTables}
+use Rattle.read_members.specs.declared.{scopes.OwnedScope.OwnedScope, tables.OwnedTables.OwnedTables}
 
 -- ---- tables
 

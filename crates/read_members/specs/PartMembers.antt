@@ -1,22 +1,14 @@
 -- What was followed of an input, as the rules of reading look at it (Component Model WIT.md, "Package Format").
-use Rattle.std.specs.Prelude.{◌≡◌, List, map, Some}
-use Rattle.std.specs.List.{AllZip}
+use Rattle.std.specs.{Prelude.◌≡◌, Prelude.List, Prelude.map, Prelude.Some, List.AllZip}
 use Rattle.plan_meaning.specs.NumberedViews.{Tables}
 use Rattle.read_rules.specs.declared.scopes.Scope.{Scope}
-use Rattle.read_rules.specs.Reached.{numbered_import}
-use Rattle.read_rules.specs.Scopes.{numbered_scope}
-use Rattle.read_rules.specs.Views.{numbered_view}
+use Rattle.read_rules.specs.{Reached.numbered_import, Scopes.numbered_scope, Views.numbered_view}
 use Rattle.read_follow.specs.declared.scopes.Scope.{Scope as FollowedScope}
-use Rattle.read_parts.specs.declared.following.Followed.{Followed}
-use Rattle.read_parts.specs.declared.members.FollowedPart.{FollowedPart}
-use Rattle.read_parts.specs.declared.members.FollowedPart.TheVariants as followed
-use Rattle.read_parts.specs.declared.members.Member.{Member as FollowedMember}
-use Rattle.read_numbers.specs.ImportParts.{part_followed, part_seen}
-use Rattle.read_numbers.specs.NumberedInput.{tables_of}
-use Rattle.read_numbers.specs.NumberedParts.{numbered_scope as followed_scope}
+use Rattle.read_parts.specs.declared.{following.Followed.Followed, members.FollowedPart.FollowedPart, members.Member.Member as FollowedMember}
+use Rattle.read_numbers.specs.{ImportParts.part_followed, ImportParts.part_seen, NumberedInput.tables_of, NumberedParts.numbered_scope as followed_scope}
 use Rattle.read_exports.specs.Interfaces.{shown_interface}
-use Rattle.read_exports.specs.declared.members.Member.{Member}
-use Rattle.read_exports.specs.declared.members.Part.{Part}
+use Rattle.read_exports.specs.declared.members.{Member.Member, Part.Part}
+use Rattle.read_parts.specs.declared.members.FollowedPart.TheVariants as followed
 use Rattle.read_exports.specs.declared.members.Part.TheVariants as parts
 
 -- The scope shows what was followed, and each type that it imports is the part that it was.

@@ -1,46 +1,27 @@
 -- Members that are read of what was followed, in numbers (Component Model WIT.md, "Package Format").
 use Rattle.std.specs.Prelude.{◌≡◌, ◌<◌, ◌⊎◌, ℕ, true, false, List, [], length, map, slice_get, Option, Some, None}
 use Rattle.std.specs.List.{AllZip}
-use Rattle.wit_model.specs.Names.{PackageIdentity}
-use Rattle.wit_model.specs.Text.{Text, text_of}
-use Rattle.comp_bytes.specs.Levels.{Piece}
-use Rattle.comp_bytes.specs.Reading.{◌>>=◌}
-use Rattle.comp_meaning.specs.Follow.{each}
-use Rattle.comp_meaning.specs.Reads as reads
-use Rattle.comp_meaning.specs.Reads.{labelled_path}
+use Rattle.wit_model.specs.{Names.PackageIdentity, Text.Text, Text.text_of}
+use Rattle.comp_bytes.specs.{Levels.Piece, Reading.◌>>=◌}
+use Rattle.comp_meaning.specs.{Follow.each, Reads.labelled_path}
 use Rattle.read_follow.specs.declared.refusal.Refusal.{Refusal}
-use Rattle.read_follow.specs.declared.refusal.Refusal.TheVariants as refusals
-use Rattle.read_parts.specs.declared.following.Followed.{Followed}
-use Rattle.read_parts.specs.declared.members.FollowedPart.{FollowedPart}
-use Rattle.read_parts.specs.declared.members.FollowedPart.TheVariants as followed
-use Rattle.read_parts.specs.declared.members.Member.{Member as FollowedMember}
-use Rattle.read_parts.specs.Followed.{member_of_scope, scopes_of}
-use Rattle.read_parts.specs.Input.{IsFollowed}
+use Rattle.read_parts.specs.declared.{following.Followed.Followed, members.FollowedPart.FollowedPart, members.Member.Member as FollowedMember}
+use Rattle.read_parts.specs.{Followed.member_of_scope, Followed.scopes_of, Input.IsFollowed}
 use Rattle.read_homes.specs.Homes.{IsLabelled}
 use Rattle.plan_meaning.specs.NumberedMembers.{Homes, HomesStand, IsMember, NumberedMember, NumberedPart, interface, world, home_at}
-use Rattle.plan_meaning.specs.NumberedRules.{Fact}
-use Rattle.plan_meaning.specs.NumberedViews.{Tables}
-use Rattle.plan_meaning.specs.NumberedWorlds.{NumberedScope, is_world}
-use Rattle.read_exports.specs.Interfaces.{Placed, shown_interface}
-use Rattle.read_exports.specs.Members.{numbered_part}
-use Rattle.read_exports.specs.declared.members.Member.{Member}
-use Rattle.read_exports.specs.declared.members.Part.{Part}
-use Rattle.read_exports.specs.declared.members.Part.TheVariants as parts
-use Rattle.read_rules.specs.Reached.{numbered_import}
-use Rattle.read_rules.specs.Scopes.{numbered_scope}
-use Rattle.read_rules.specs.Views.{numbered_view}
-use Rattle.read_rules.specs.declared.scopes.Scope.{Scope}
-use Rattle.read_rules.specs.declared.tables.Fact.{Fact as KeptFact}
-use Rattle.read_rules.specs.declared.tables.Tables.{Tables as KeptTables}
-use Rattle.read_rules.specs.Tables.{known_in, numbered_tables}
-use Rattle.read_numbers.specs.FactLaws.{known_by}
-use Rattle.read_numbers.specs.ImportParts.{part_followed, part_seen}
-use Rattle.read_numbers.specs.KnownScopes.{AreKnown}
-use Rattle.read_numbers.specs.NumberedInput.{tables_of}
-use Rattle.read_numbers.specs.NumberedParts.{numbered_scope as followed_scope}
+use Rattle.plan_meaning.specs.{NumberedRules.Fact, NumberedViews.Tables, NumberedWorlds.NumberedScope, NumberedWorlds.is_world}
+use Rattle.read_exports.specs.{Interfaces.Placed, Interfaces.shown_interface, Members.numbered_part}
+use Rattle.read_exports.specs.declared.members.{Member.Member, Part.Part}
+use Rattle.read_rules.specs.{Reached.numbered_import, Scopes.numbered_scope, Views.numbered_view, Tables.known_in, Tables.numbered_tables}
+use Rattle.read_rules.specs.declared.{scopes.Scope.Scope, tables.Fact.Fact as KeptFact, tables.Tables.Tables as KeptTables}
+use Rattle.read_numbers.specs.{FactLaws.known_by, KnownScopes.AreKnown}
+use Rattle.read_numbers.specs.{ImportParts.part_followed, ImportParts.part_seen, NumberedInput.tables_of, NumberedParts.numbered_scope as followed_scope}
 use Rattle.read_members.specs.PartMembers.{AreMembersOf}
-use Rattle.read_members.specs.declared.reading.ReadMember.{ReadMember}
-use Rattle.read_members.specs.declared.reading.ReadPart.{ReadPart}
+use Rattle.read_members.specs.declared.reading.{ReadMember.ReadMember, ReadPart.ReadPart}
+use Rattle.comp_meaning.specs.Reads as reads
+use Rattle.read_follow.specs.declared.refusal.Refusal.TheVariants as refusals
+use Rattle.read_parts.specs.declared.members.FollowedPart.TheVariants as followed
+use Rattle.read_exports.specs.declared.members.Part.TheVariants as parts
 use Rattle.read_members.specs.declared.reading.ReadPart.TheVariants as read
 
 -- ---- one member

@@ -1,7 +1,6 @@
 //! Laws over definitions alone.
 
-ghost use Rattle.read_members.specs.Decided.{MembersAreKnown, PackagesAreDecided};
-ghost use Rattle.read_members.specs.DecidedWorlds.{WorldsAreDecided};
+ghost use Rattle.read_members.specs.{Decided.MembersAreKnown, Decided.PackagesAreDecided, DecidedWorlds.WorldsAreDecided};
 ghost use Rattle.read_members.specs.ReadMembers.{LentMembersAreMembers, NoMembersAreMeant, ReadMembersAreMeant};
 
 /// Members that are read are what the pieces of the input mean, and where one of them is none, those mean no members.

@@ -2,10 +2,8 @@
 
 ghost use Rattle.std.specs.Prelude.{◌≡◌, map, IfErr, IfOk};
 ghost use Rattle.read_homes.specs.Homes.{ArePackages, Grows, KeepsHomes};
-ghost use Rattle.read_exports.specs.Interfaces.{shown_interface};
-ghost use Rattle.read_exports.specs.Members.{homes_alone, homes_in};
-ghost use Rattle.read_rules.specs.Scopes.{numbered_scope};
-ghost use Rattle.read_rules.specs.Tables.{known_in, numbered_tables};
+ghost use Rattle.read_exports.specs.{Interfaces.shown_interface, Members.homes_alone, Members.homes_in};
+ghost use Rattle.read_rules.specs.{Scopes.numbered_scope, Tables.known_in, Tables.numbered_tables};
 ghost use Rattle.read_members.specs.Layers.{shown_of_member, shown_owned};
 ghost use Rattle.read_members.specs.ReadMembers.{read_member as read_member_lem, AreForMembers, AreReadMembers, Because, IsElsewhere, IsForMember, IsInterfaceRead, IsMemberRead, IsNoMember, IsNoWorld, IsOneNone, IsPackageOf, IsWorldRead};
 

@@ -2,8 +2,7 @@
 
 ghost use Rattle.std.specs.Prelude.{◌≡◌, [], map, slice_get, unwrap_or, IfOk};
 ghost use Rattle.read_parts.specs.Members.{scope_of as scope_of_lem};
-ghost use Rattle.read_numbers.specs.ImportParts.{part_seen};
-ghost use Rattle.read_numbers.specs.NumberedParts.{instance_view};
+ghost use Rattle.read_numbers.specs.{ImportParts.part_seen, NumberedParts.instance_view};
 ghost use Rattle.read_rules.specs.Scopes.{numbered_scope};
 ghost use Rattle.read_members.specs.Layers.{member_views, owned_scope as owned_scope_lem, owned_views, shown_followed, shown_of_member, shown_owned};
 

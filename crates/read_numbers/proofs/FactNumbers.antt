@@ -1,7 +1,6 @@
 -- What is known of types, one after the other.
 use Rattle.std.proofs.Common.{◌≡◌, inl, inr, sym, ap, ◌∙◌, subst, ℕ, ◌+◌, List, [], ◌∷◌, ◌++◌, map, length, length-append, arith, slice_get}
-use Rattle.std.proofs.Math.ListN.{length-map}
-use Rattle.std.proofs.lemmas.List.{map-append}
+use Rattle.std.proofs.{Math.ListN.length-map, lemmas.List.map-append}
 use Rattle.wit_model.specs.Tree.{Place, Tree}
 use Rattle.plan_meaning.specs.Shapes.{part_tree}
 use Rattle.read_rules.specs.declared.tables.Fact.{Fact}

@@ -2,19 +2,15 @@
 use Rattle.std.proofs.Common.{◌≡◌, sym, ap, ◌∙◌, subst, ℕ, List, [], ◌∷◌, map, Option, Some}
 use Rattle.std.specs.List.{AllByRecursion}
 use Rattle.wit_model.specs.Text.{Text}
-use Rattle.plan_meaning.specs.NumberedViews.{NumberedView, Tables}
-use Rattle.plan_meaning.specs.NumberedWorlds.{NumberedSeen}
-use Rattle.plan_meaning.specs.Shapes.{Shape}
+use Rattle.plan_meaning.specs.{NumberedViews.NumberedView, NumberedViews.Tables, NumberedWorlds.NumberedSeen, Shapes.Shape}
 use Rattle.read_rules.specs.declared.scopes.Seen.{Seen}
 use Rattle.read_rules.specs.Scopes.{numbered_seen}
-use Rattle.read_follow.specs.declared.scopes.Seen.{Seen as FollowedSeen}
-use Rattle.read_follow.specs.declared.scopes.Shown.{Shown as FollowedShown}
-use Rattle.read_follow.specs.declared.scopes.Shown.TheVariants as followed
-use Rattle.read_follow.specs.Functions.{FunctionShape}
-use Rattle.read_follow.specs.Scopes.{IsImportNamed}
+use Rattle.read_follow.specs.declared.scopes.{Seen.Seen as FollowedSeen, Shown.Shown as FollowedShown}
+use Rattle.read_follow.specs.{Functions.FunctionShape, Scopes.IsImportNamed}
 use Rattle.read_parts.specs.Members.{scope_of}
 use Rattle.read_numbers.specs.ImportParts.{followed_part, part_followed, part_seen, ImportsAreNamed, IsNameOf, IsSeenNamed}
 use Rattle.read_numbers.specs.NumberedParts.{name_in, numbered_seen as followed_seen, tables_in}
+use Rattle.read_follow.specs.declared.scopes.Shown.TheVariants as followed
 
 module _ (shapes : List Shape) (fs : List FunctionShape) (paths : List (Option Text)) (views : List NumberedView) (home : ℕ) where
   abbrev t : Tables

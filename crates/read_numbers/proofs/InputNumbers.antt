@@ -2,17 +2,14 @@
 use Rattle.std.proofs.Common.{refl, List, [], ◌∷◌, map, Option}
 use Rattle.std.specs.List.{AllZip}
 use Rattle.wit_model.specs.Text.{Text}
-use Rattle.plan_meaning.specs.NumberedViews.{place_at, Tables}
-use Rattle.plan_meaning.specs.Shapes.{Shape}
+use Rattle.plan_meaning.specs.{NumberedViews.place_at, NumberedViews.Tables, Shapes.Shape}
 use Rattle.read_follow.specs.Functions.{FunctionShape}
-use Rattle.read_parts.specs.declared.members.FollowedPart.{FollowedPart}
-use Rattle.read_parts.specs.declared.members.FollowedPart.TheVariants as followed
-use Rattle.read_parts.specs.declared.members.Member.{Member}
+use Rattle.read_parts.specs.declared.members.{FollowedPart.FollowedPart, Member.Member}
 use Rattle.read_parts.specs.Members.{member_meant, part_meant, MembersStand, StandsIn}
 use Rattle.read_numbers.specs.NumberedInput.{tables_of, InputInNumbers, MemberShown, PartShown}
 use Rattle.read_numbers.specs.NumberedParts.{tables_in}
-use Rattle.read_numbers.proofs.ScopeNumbers.{scopes_in_numbers}
-use Rattle.read_numbers.proofs.TableNumbers.{places_in_numbers, tables_in_numbers}
+use Rattle.read_numbers.proofs.{ScopeNumbers.scopes_in_numbers, TableNumbers.places_in_numbers, TableNumbers.tables_in_numbers}
+use Rattle.read_parts.specs.declared.members.FollowedPart.TheVariants as followed
 
 module _ (shapes : List Shape) (fs : List FunctionShape) (paths : List (Option Text)) where
   abbrev t : Tables

@@ -1,35 +1,25 @@
 -- What is known of a part, as it is seen from a place.
 use Rattle.std.proofs.Common.{◌≡◌, ◌≢◌, refl, sym, ap, ◌∙◌, subst, ℕ, zero, suc, ◌+◌, ◌-◌, ◌<◌, Bool, true, false, not, ◌&&◌, ◌==◌, cond, List, [], ◌∷◌, map, length, get_or, arith, Option, slice_get, unwrap_or}
-use Rattle.std.specs.Prelude.{nat_lt}
-use Rattle.std.specs.List.{Contains, list_all}
-use Rattle.std.proofs.Math.ListN.{length-map}
-use Rattle.std.proofs.lemmas.Bool.{eq-eqb, eqb-true, false≢true}
-use Rattle.wit_model.specs.Text.{Text}
-use Rattle.wit_model.specs.Tree.{Place, Tree, Trees}
-use Rattle.comp_meaning.specs.Rules as rules
-use Rattle.comp_meaning.specs.Rules.{are_labels, is_named_form}
-use Rattle.comp_meaning.specs.Same.{same_place}
+use Rattle.std.proofs.{Math.ListN.length-map, lemmas.Bool.eq-eqb, lemmas.Bool.eqb-true, lemmas.Bool.false≢true, lemmas.List.Folds.list_all-append as all_both}
+use Rattle.std.specs.{Prelude.nat_lt, List.Contains, List.list_all}
+use Rattle.wit_model.specs.{Text.Text, Tree.Place, Tree.Tree, Tree.Trees}
+use Rattle.comp_meaning.specs.{Rules.are_labels, Rules.is_named_form, Same.same_place}
 use Rattle.comp_meaning.proofs.SameLaws.{places_decide}
-use Rattle.plan_meaning.specs.NumberedRules as numbered
-use Rattle.plan_meaning.specs.NumberedRules.{stand_in_place, IsSeenFrom}
-use Rattle.plan_meaning.specs.NumberedViews.{place_at, tree_at, Tables}
+use Rattle.plan_meaning.specs.{NumberedRules.stand_in_place, NumberedRules.IsSeenFrom, NumberedViews.place_at, NumberedViews.tree_at, NumberedViews.Tables}
 use Rattle.plan_meaning.specs.Shapes.{Shape, part_tree, shape_trees, IsTable}
-use Rattle.read_rules.specs.declared.tables.Fact.{Fact}
-use Rattle.read_rules.specs.declared.tables.Names.{Names}
-use Rattle.read_rules.specs.declared.tables.Names.TheVariants as names
+use Rattle.read_rules.specs.declared.tables.{Fact.Fact, Names.Names}
 use Rattle.read_rules.specs.Tables.{numbered_fact, primitive_fact, standing}
-use Rattle.read_follow.specs.Facts as followed
 use Rattle.read_follow.specs.Facts.{are_plain, below, is_plain, labels_of, places, places_in, AreOf, Tells}
 use Rattle.read_follow.specs.Functions.{FunctionShape}
 use Rattle.read_follow.specs.declared.facts.Fact.{Fact as FollowedFact}
 use Rattle.read_follow.proofs.FactLaws.{tells_part}
-use Rattle.read_numbers.specs.FactLaws.{fact_of, FactsInNumbers}
-use Rattle.read_numbers.specs.Facts.{followed_fact, followed_names}
-use Rattle.read_numbers.specs.NumberedParts.{tables_in}
+use Rattle.read_numbers.specs.{FactLaws.fact_of, FactLaws.FactsInNumbers, Facts.followed_fact, Facts.followed_names, NumberedParts.tables_in}
 use Rattle.read_numbers.proofs.NameNumbers.{apart, number_inside}
-use Rattle.base_lemmas.proofs.Bools.{and_assoc as under, exchange, left_of as first_true, right_of as second_true}
-use Rattle.base_lemmas.proofs.Elements.{all_pass}
-use Rattle.std.proofs.lemmas.List.Folds.{list_all-append as all_both}
+use Rattle.base_lemmas.proofs.{Bools.and_assoc as under, Bools.exchange, Bools.left_of as first_true, Bools.right_of as second_true, Elements.all_pass}
+use Rattle.comp_meaning.specs.Rules as rules
+use Rattle.plan_meaning.specs.NumberedRules as numbered
+use Rattle.read_rules.specs.declared.tables.Names.TheVariants as names
+use Rattle.read_follow.specs.Facts as followed
 
 -- ---- a part of a type: plain, with names of one place
 

@@ -1,25 +1,15 @@
 -- What is known of the parts of scopes.
 use Rattle.std.proofs.Common.{◌≡◌, refl, ℕ, zero, suc, Bool, true, List, [], ◌∷◌, map, length, Option, Some, None, slice_get}
-use Rattle.std.specs.List.{AllByRecursion, flat_map}
-use Rattle.std.specs.Option.{option_map_or}
+use Rattle.std.specs.{List.AllByRecursion, List.flat_map, Option.option_map_or}
 use Rattle.wit_model.specs.Text.{Text}
-use Rattle.plan_meaning.specs.NumberedMembers.{IsKnownSight}
-use Rattle.plan_meaning.specs.NumberedRules.{IsKnown}
+use Rattle.plan_meaning.specs.{NumberedMembers.IsKnownSight, NumberedRules.IsKnown, Shapes.Shape, Shapes.shape_trees, Shapes.IsTable}
 use Rattle.plan_meaning.specs.NumberedViews.{function_at, path_at, AllOf, AreTables, FunctionPasses, FunctionShape as NumberedFunctionShape, IsOutsidePart, NumberedFunction, NumberedSight, NumberedType, NumberedView, PartsOf, Tables, TypePasses, ViewPasses}
 use Rattle.plan_meaning.specs.NumberedWorlds.{instance, function, declares, place_of_key, sights_of_instance, sights_of_scope, HasPath, ItemStands, NumberedInstance, NumberedScope, NumberedSeen, NumberedShown, ScopeStands}
-use Rattle.plan_meaning.specs.Shapes.{Shape, shape_trees, IsTable}
 use Rattle.read_rules.specs.declared.tables.Fact.{Fact}
-use Rattle.read_follow.specs.Facts.{FactsHold}
-use Rattle.read_follow.specs.Functions.{FunctionShape}
-use Rattle.read_numbers.specs.FactLaws.{known_by}
-use Rattle.read_numbers.specs.Facts.{followed_fact}
-use Rattle.read_numbers.specs.KnownScopes.{ScopesAreKnown, ViewsAreKnown}
-use Rattle.read_numbers.specs.NumberedParts.{tables_in}
-use Rattle.read_numbers.specs.PlacedNumbers.{IsMetPart, IsPlacedItem, IsPlacedScope, IsPlacedView}
-use Rattle.read_numbers.proofs.KnownNumbers.{facts_in_numbers}
-use Rattle.read_numbers.proofs.MetNumbers.{met_parts_are_seen}
-use Rattle.read_numbers.proofs.PlacedMembers.{places_are_kept}
-use Rattle.read_numbers.proofs.TableNumbers.{tables_in_numbers}
+use Rattle.read_follow.specs.{Facts.FactsHold, Functions.FunctionShape}
+use Rattle.read_numbers.specs.{FactLaws.known_by, PlacedNumbers.IsMetPart, PlacedNumbers.IsPlacedItem, PlacedNumbers.IsPlacedScope, PlacedNumbers.IsPlacedView}
+use Rattle.read_numbers.specs.{Facts.followed_fact, KnownScopes.ScopesAreKnown, KnownScopes.ViewsAreKnown, NumberedParts.tables_in}
+use Rattle.read_numbers.proofs.{KnownNumbers.facts_in_numbers, MetNumbers.met_parts_are_seen, PlacedMembers.places_are_kept, TableNumbers.tables_in_numbers}
 use Rattle.base_lemmas.proofs.Elements.{all_both}
 
 -- ---- parts that pass more

@@ -1,23 +1,15 @@
 -- The places that a part is over, by the names that stand in its tree.
 use Rattle.std.proofs.Common.{◌≡◌, inl, inr, refl, sym, ap, ◌∙◌, subst, ℕ, zero, suc, ◌+◌, ◌<◌, arith, lit<, true, false, List, [], ◌∷◌, map, length, get_or, Option, Some, None, slice_get, unwrap_or}
+use Rattle.std.proofs.lemmas.{Bool.false≢true, List.Elements.Contains-append_left, List.Elements.Contains-append_right}
 use Rattle.std.specs.List.{Contains}
-use Rattle.std.proofs.lemmas.Bool.{false≢true}
-use Rattle.std.proofs.lemmas.List.Elements.{Contains-append_left, Contains-append_right}
-use Rattle.wit_model.specs.Text.{Text}
-use Rattle.wit_model.specs.Tree.{Place, Tree, children}
-use Rattle.wit_model.specs.Types.{no_tree}
+use Rattle.wit_model.specs.{Text.Text, Tree.Place, Tree.Tree, Tree.children, Types.no_tree}
 use Rattle.comp_meaning.specs.Follow.{place_of}
-use Rattle.plan_meaning.specs.NumberedRules.{IsSeenFrom}
+use Rattle.plan_meaning.specs.{NumberedRules.IsSeenFrom, NumberedWorlds.HasPath}
 use Rattle.plan_meaning.specs.NumberedViews.{path_at, HasNameIn, itself, inside, IsOutside}
-use Rattle.plan_meaning.specs.NumberedWorlds.{HasPath}
 use Rattle.plan_meaning.specs.Shapes.{Shape, named_shape, node_shape, part_tree, shape_tree, shape_trees, IsTable}
 use Rattle.plan_meaning.proofs.ShapeLaws.{name_tree, node_tree, part_behind, tree_at_number}
-use Rattle.read_follow.specs.Facts.{places, places_in}
-use Rattle.read_follow.specs.Functions.{FunctionShape}
-use Rattle.read_follow.specs.Placed.{apart, MayMeet, TreeOver}
-use Rattle.read_follow.specs.Places.{has_path}
-use Rattle.read_numbers.specs.NumberedParts.{tables_in}
-use Rattle.read_numbers.specs.PlacedNumbers.{IsMetFrom, MetPartsAreSeen}
+use Rattle.read_follow.specs.{Facts.places, Facts.places_in, Functions.FunctionShape, Placed.apart, Placed.MayMeet, Placed.TreeOver, Places.has_path}
+use Rattle.read_numbers.specs.{NumberedParts.tables_in, PlacedNumbers.IsMetFrom, PlacedNumbers.MetPartsAreSeen}
 
 -- ---- names of parts stand in their trees
 

@@ -1,15 +1,13 @@
 -- The names in a part, by the numbers of their places.
 use Rattle.std.proofs.Common.{◌≡◌, inl, inr, refl, ap, ◌∙◌, subst, ℕ, zero, suc, ◌+◌, ◌<◌, ◌≤◌, arith, lit<, List, [], ◌∷◌, map, length, Some, slice_get, unwrap_or}
-use Rattle.std.specs.List.{AllByRecursion, Contains}
 use Rattle.std.proofs.lemmas.List.Elements.{Contains-append_left, Contains-append_right, Contains-append_cases}
-use Rattle.wit_model.specs.Tree.{Place, Tree, children}
-use Rattle.wit_model.specs.Types.{no_tree}
+use Rattle.std.specs.List.{AllByRecursion, Contains}
+use Rattle.wit_model.specs.{Tree.Place, Tree.Tree, Tree.children, Types.no_tree}
 use Rattle.plan_meaning.specs.NumberedViews.{HasNameIn, itself, inside}
 use Rattle.plan_meaning.specs.Shapes.{Shape, part_tree, primitives, shape_tree, shape_trees, IsShape, a_name, a_node, IsTable}
 use Rattle.plan_meaning.proofs.ShapeLaws.{name_tree, node_tree, part_behind, part_front, split_part, tree_at_number}
 use Rattle.read_follow.specs.Facts.{places, places_in}
-use Rattle.base_lemmas.proofs.Elements.{last_of as only_one, none_in as nothing_in}
-use Rattle.base_lemmas.proofs.Lists.{mapped_get, within_there as slice_there}
+use Rattle.base_lemmas.proofs.{Elements.last_of as only_one, Elements.none_in as nothing_in, Lists.mapped_get, Lists.within_there as slice_there}
 
 -- in the part stands a name whose place is this
 pub record IsNamed (ss : List Shape) (place : ℕ → Place) (k : ℕ) (x : Place) : Type 0 where

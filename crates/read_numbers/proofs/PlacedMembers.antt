@@ -1,43 +1,32 @@
 -- The scopes of an input in numbers: what they are over, and in which order their names came into the table.
 use Rattle.std.proofs.Common.{◌≡◌, ◌⊎◌, inl, inr, refl, sym, ap, ◌∙◌, subst, ℕ, ◌+◌, ◌<◌, arith, true, List, [], ◌∷◌, map, length, Option, Some, None, IfSome, slice_get, unwrap_or}
+use Rattle.std.proofs.{Math.ListN.length-map, lemmas.Bool.cases_lt}
 use Rattle.std.specs.List.{AllByRecursion}
-use Rattle.std.proofs.Math.ListN.{length-map}
-use Rattle.std.proofs.lemmas.Bool.{cases_lt}
-use Rattle.wit_model.specs.Text.{Text}
-use Rattle.wit_model.specs.Tree.{Place, Tree}
-use Rattle.comp_meaning.specs.Follow.{Seen as MeantSeen}
-use Rattle.comp_meaning.specs.Rules.{distinct}
-use Rattle.plan_meaning.specs.FollowedNumbers.{IsOneOf}
-use Rattle.plan_meaning.specs.NumberedViews as views
+use Rattle.wit_model.specs.{Text.Text, Tree.Place, Tree.Tree}
+use Rattle.comp_meaning.specs.{Follow.Seen as MeantSeen, Rules.distinct}
+use Rattle.plan_meaning.specs.{FollowedNumbers.IsOneOf, Shapes.Shape, Shapes.named_shape, Shapes.shape_trees}
 use Rattle.plan_meaning.specs.NumberedViews.{function_at, path_at, NumberedType, NumberedView, PartsOf, Tables}
-use Rattle.plan_meaning.specs.NumberedWorlds as worlds
 use Rattle.plan_meaning.specs.NumberedWorlds.{place_of_key, NumberedInstance, NumberedScope, NumberedSeen}
-use Rattle.plan_meaning.specs.Shapes.{Shape, named_shape, shape_trees}
-use Rattle.read_follow.specs.declared.instance_keys.InstanceKey.{InstanceKey}
-use Rattle.read_follow.specs.declared.instance_keys.InstanceKey.TheVariants as keys
-use Rattle.read_follow.specs.declared.scopes.Instance.{Instance}
-use Rattle.read_follow.specs.declared.scopes.Scope.{Scope}
+use Rattle.read_follow.specs.declared.{instance_keys.InstanceKey.InstanceKey, scopes.Instance.Instance, scopes.Scope.Scope, scopes.Shown.Shown}
 use Rattle.read_follow.specs.declared.scopes.Seen.{Seen}
-use Rattle.read_follow.specs.declared.scopes.Shown.{Shown}
-use Rattle.read_follow.specs.declared.scopes.Shown.TheVariants as shown
 use Rattle.read_follow.specs.Following.{AreTables}
-use Rattle.read_follow.specs.Functions.{functions_in, FunctionShape, IsFunctionIn}
+use Rattle.read_follow.specs.{Functions.functions_in, Functions.FunctionShape, Functions.IsFunctionIn, Places.has_path, Places.place_number}
 use Rattle.read_follow.specs.Placed.{apart, slot_part, ComeBefore, HasNoNames, IsTypeNamed, MayMeet, Rise}
-use Rattle.read_follow.specs.Places.{has_path, place_number}
-use Rattle.read_follow.specs.Scopes as scopes
 use Rattle.read_follow.specs.Scopes.{seen_in, world_of, AreSeenIn, IsCountedAs, IsImportNamed, IsInlinePlace, IsInstanceIn, IsInstanceSeen, IsKeyPlaced, IsPlacedAmong, IsShownAs, IsShownBy, IsWorld, ShownOver}
-use Rattle.read_follow.proofs.DefiningLaws.{all_at}
-use Rattle.read_follow.proofs.PlacedLaws.{stood}
+use Rattle.read_follow.proofs.{DefiningLaws.all_at, PlacedLaws.stood}
 use Rattle.read_parts.specs.declared.members.Member.{Member}
-use Rattle.read_parts.specs.Members as followed
 use Rattle.read_parts.specs.Members.{scope_of, AreFormed, AreMembersPlaced, AreNamesShown, ArePlacesInOrder, ArePlacesMet, MembersStand, StandsIn}
 use Rattle.read_numbers.specs.NumberedParts.{instance_view, name_in, no_view, numbered_function, numbered_instance, numbered_key, numbered_scope, numbered_seen, numbered_shown, numbered_type, numbered_view, tables_in}
 use Rattle.read_numbers.specs.PlacedNumbers.{part_of, ArePlacedScopes, AreTypesBefore, IsCounted, IsCountedItem, IsFirstSeen, IsInstanceAt, IsLastType, IsMetBefore, in_earlier, in_same, IsPlacedItem, IsPlacedScope, IsPlacedView, IsRisingView, IsSeenAs, as_export, as_import, PlacesAreKept, ShowsName, by_instance, by_import}
 use Rattle.read_numbers.proofs.PlacedViews.{all_of, declared_met, function_met, placed_view, rising_view, slot_number}
-use Rattle.read_numbers.proofs.ScopeNumbers.{keys_in_numbers}
-use Rattle.read_numbers.proofs.TableNumbers.{path_there}
-use Rattle.base_lemmas.proofs.Elements.{get-contains}
-use Rattle.base_lemmas.proofs.Lists.{get_back as at_mapped, mapped_get, one_item, within_there as slice_there}
+use Rattle.read_numbers.proofs.{ScopeNumbers.keys_in_numbers, TableNumbers.path_there}
+use Rattle.base_lemmas.proofs.{Elements.get-contains, Lists.get_back as at_mapped, Lists.mapped_get, Lists.one_item, Lists.within_there as slice_there}
+use Rattle.plan_meaning.specs.NumberedViews as views
+use Rattle.plan_meaning.specs.NumberedWorlds as worlds
+use Rattle.read_follow.specs.declared.instance_keys.InstanceKey.TheVariants as keys
+use Rattle.read_follow.specs.declared.scopes.Shown.TheVariants as shown
+use Rattle.read_follow.specs.Scopes as scopes
+use Rattle.read_parts.specs.Members as followed
 
 key_place : (key : InstanceKey) → place_of_key (numbered_key key) ≡ place_number key
 key_place (keys.Path p) = refl

@@ -1,35 +1,25 @@
 -- Views in numbers: the places that they are over, the numbers of their names, and the order of these.
 use Rattle.std.proofs.Common.{◌≡◌, inl, inr, refl, sym, ap, ◌∙◌, subst, ℕ, zero, suc, ◌+◌, ◌<◌, ◌&&◌, arith, Bool, true, false, ◌||◌, List, [], ◌∷◌, map, length, Option, Some, None, IfSome, option_map, slice_get, unwrap_or}
-use Rattle.std.specs.Prelude.{nat_lt}
-use Rattle.std.specs.List.{AllByRecursion, AllZip, list_all, list_any}
-use Rattle.std.proofs.Math.ListN.{length-map}
-use Rattle.std.proofs.lemmas.Bool.{lt-ltb}
-use Rattle.wit_model.specs.Meaning.{Signature}
-use Rattle.wit_model.specs.Text.{Text, text_eq}
-use Rattle.wit_model.specs.Tree.{Place, Tree}
+use Rattle.std.proofs.{Math.ListN.length-map, lemmas.Bool.lt-ltb}
+use Rattle.std.specs.{Prelude.nat_lt, List.AllByRecursion, List.AllZip, List.list_all, List.list_any}
+use Rattle.wit_model.specs.{Meaning.Signature, Text.Text, Text.text_eq, Tree.Place, Tree.Tree}
 use Rattle.wit_model.proofs.VersionLaws.{same_text}
 use Rattle.comp_meaning.specs.Rules.{distinct}
-use Rattle.plan_meaning.specs.NumberedViews as views
 use Rattle.plan_meaning.specs.NumberedViews.{function_at, AllOf, FunctionPasses, NumberedType, PartsOf, Tables, TypePasses}
-use Rattle.plan_meaning.specs.PlanRules.{are_rising}
-use Rattle.plan_meaning.specs.Shapes.{Shape, part_tree, shape_trees, IsTable}
-use Rattle.read_follow.specs.declared.slots.Slot.{Slot}
-use Rattle.read_follow.specs.declared.slots.Slot.TheVariants as slots
-use Rattle.read_follow.specs.declared.views.ShownFunction.{ShownFunction}
-use Rattle.read_follow.specs.declared.views.ShownType.{ShownType}
-use Rattle.read_follow.specs.declared.views.View.{View}
+use Rattle.plan_meaning.specs.{PlanRules.are_rising, Shapes.Shape, Shapes.part_tree, Shapes.shape_trees, Shapes.IsTable}
+use Rattle.read_follow.specs.declared.{slots.Slot.Slot, views.ShownFunction.ShownFunction, views.ShownType.ShownType, views.View.View}
 use Rattle.read_follow.specs.Following.{declared_in, shown_function, shown_type, IsShownFunctionIn, IsShownIn}
 use Rattle.read_follow.specs.Functions.{functions_in, param_tree, signature_in, AreFunctionsIn, FunctionShape, IsFunctionIn}
 use Rattle.read_follow.specs.Placed.{apart, slot_part, ComesBehind, DeclarationOver, FunctionOver, IsTypeNamed, MayMeet, Rise, SignatureOver, TreeOver, TypeOver, ViewOver}
-use Rattle.read_follow.specs.Places.{has_path}
-use Rattle.read_follow.specs.Scopes.{view_in}
-use Rattle.read_follow.specs.Slots.{no_signature}
+use Rattle.read_follow.specs.{Places.has_path, Scopes.view_in, Slots.no_signature}
 use Rattle.read_follow.proofs.DefiningLaws.{all_at}
 use Rattle.read_numbers.specs.NumberedParts.{numbered_function, numbered_shown_function, numbered_slot, numbered_type, numbered_view, tables_in}
 use Rattle.read_numbers.specs.PlacedNumbers.{part_of, IsMetPart, IsNumbered, IsPlacedView, IsRisingView}
 use Rattle.read_numbers.proofs.MetNumbers.{met_from}
 use Rattle.base_lemmas.proofs.Lists.{mapped_get, within_there as slice_there}
 use Rattle.comp_meaning.proofs.RulesLemmas.{not_twice}
+use Rattle.plan_meaning.specs.NumberedViews as views
+use Rattle.read_follow.specs.declared.slots.Slot.TheVariants as slots
 
 -- ---- the numbers of names
 

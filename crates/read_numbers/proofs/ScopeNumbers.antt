@@ -1,37 +1,27 @@
 -- Scopes in numbers.
 use Rattle.std.proofs.Common.{◌≡◌, refl, sym, ap, ◌∙◌, ℕ, zero, suc, List, [], ◌∷◌, map, Option, Some, None, option_map, slice_get, unwrap_or}
 use Rattle.std.specs.List.{AllByRecursion}
-use Rattle.wit_model.specs.Text.{Text}
-use Rattle.wit_model.specs.Meaning.{Signature}
-use Rattle.wit_model.specs.Tree.{Tree}
+use Rattle.wit_model.specs.{Text.Text, Meaning.Signature, Tree.Tree}
 use Rattle.comp_bytes.specs.RawOf.{text_of}
-use Rattle.comp_meaning.specs.Follow as follow
 use Rattle.comp_meaning.specs.Follow.{place_of, Key, Shown as MeantShown}
-use Rattle.plan_meaning.specs.NumberedViews as views
 use Rattle.plan_meaning.specs.NumberedViews.{declaration_of, path_at, place_at, slot_of, view_of, Tables}
 use Rattle.plan_meaning.specs.NumberedWorlds.{key_of, instance_of, seen_of, shown_of}
 use Rattle.plan_meaning.specs.Shapes.{Shape, part_tree, shape_trees}
-use Rattle.read_follow.specs.declared.instance_keys.InstanceKey.{InstanceKey}
-use Rattle.read_follow.specs.declared.instance_keys.InstanceKey.TheVariants as keys
-use Rattle.read_follow.specs.declared.scopes.Instance.{Instance}
-use Rattle.read_follow.specs.declared.scopes.Seen.{Seen}
-use Rattle.read_follow.specs.declared.scopes.Shown.{Shown}
-use Rattle.read_follow.specs.declared.scopes.Shown.TheVariants as shown
-use Rattle.read_follow.specs.declared.slots.Slot.{Slot}
-use Rattle.read_follow.specs.declared.slots.Slot.TheVariants as slots
-use Rattle.read_follow.specs.declared.views.ShownFunction.{ShownFunction}
-use Rattle.read_follow.specs.declared.views.ShownType.{ShownType}
-use Rattle.read_follow.specs.declared.views.View.{View}
+use Rattle.read_follow.specs.declared.{instance_keys.InstanceKey.InstanceKey, scopes.Shown.Shown, views.ShownFunction.ShownFunction, views.ShownType.ShownType}
+use Rattle.read_follow.specs.declared.{scopes.Instance.Instance, scopes.Seen.Seen, slots.Slot.Slot, views.View.View}
 use Rattle.read_follow.specs.Following.{declared_in, shown_function, shown_type, IsShownIn, IsTypeSlot}
-use Rattle.read_follow.specs.Functions.{functions_in, signature_in, FunctionShape}
+use Rattle.read_follow.specs.{Functions.functions_in, Functions.signature_in, Functions.FunctionShape, Slots.no_signature, Slots.resource_slot, Slots.slot_in}
 use Rattle.read_follow.specs.Places.{key_at, path_text}
 use Rattle.read_follow.specs.Scopes.{instance_in, path_of, seen_in, shown_in, shown_text, view_in, viewed, IsInstanceIn}
-use Rattle.read_follow.specs.Slots.{no_signature, resource_slot, slot_in}
-use Rattle.read_follow.proofs.DefiningLaws.{all_at}
-use Rattle.read_follow.proofs.SlotLaws.{mapped_none}
+use Rattle.read_follow.proofs.{DefiningLaws.all_at, SlotLaws.mapped_none}
 use Rattle.read_numbers.specs.NumberedParts.{numbered_function, numbered_instance, numbered_key, numbered_seen, numbered_shown, numbered_shown_function, numbered_slot, numbered_type, numbered_view, instance_view, name_in, no_view, tables_in, text_in}
 use Rattle.read_numbers.specs.NumberLaws.{KeysInNumbers, ScopesInNumbers}
 use Rattle.base_lemmas.proofs.Lists.{mapped_get}
+use Rattle.comp_meaning.specs.Follow as follow
+use Rattle.plan_meaning.specs.NumberedViews as views
+use Rattle.read_follow.specs.declared.instance_keys.InstanceKey.TheVariants as keys
+use Rattle.read_follow.specs.declared.scopes.Shown.TheVariants as shown
+use Rattle.read_follow.specs.declared.slots.Slot.TheVariants as slots
 
 -- ---- places
 

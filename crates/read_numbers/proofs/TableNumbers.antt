@@ -2,14 +2,12 @@
 use Rattle.std.proofs.Common.{◌≡◌, sym, ap, ◌∙◌, subst, ℕ, zero, suc, ◌+◌, ◌<◌, List, [], ◌∷◌, map, length, Option, Some, None, IfSome, slice_get, unwrap_or}
 use Rattle.wit_model.specs.Text.{Text}
 use Rattle.comp_meaning.specs.Follow.{place_of}
-use Rattle.plan_meaning.specs.NumberedViews as views
-use Rattle.plan_meaning.specs.NumberedViews.{AllOf, IsPart, PartsOf, Tables}
-use Rattle.plan_meaning.specs.Shapes.{Shape}
+use Rattle.plan_meaning.specs.{NumberedViews.AllOf, NumberedViews.IsPart, NumberedViews.PartsOf, NumberedViews.Tables, Shapes.Shape}
 use Rattle.read_follow.specs.Functions.{AreApart, AreFunctionsIn, FunctionShape, IsFunctionIn}
 use Rattle.read_follow.proofs.DefiningLaws.{all_at}
-use Rattle.read_numbers.specs.NumberedParts.{numbered_function, tables_in}
-use Rattle.read_numbers.specs.NumberLaws.{PlacesInNumbers, TablesInNumbers}
+use Rattle.read_numbers.specs.{NumberedParts.numbered_function, NumberedParts.tables_in, NumberLaws.PlacesInNumbers, NumberLaws.TablesInNumbers}
 use Rattle.base_lemmas.proofs.Lists.{get_back as at_mapped}
+use Rattle.plan_meaning.specs.NumberedViews as views
 
 -- a type of a function from its numbers
 abbrev function_back : views.FunctionShape → FunctionShape

@@ -1,15 +1,12 @@
 -- What was kept of each type is true of it in numbers.
 use Rattle.std.specs.Prelude.{◌≡◌, ℕ, ◌<◌, ◌+◌, ◌-◌, nat_lt, if◌then◌else◌, List, length, map, Option, slice_get, unwrap_or}
 use Rattle.wit_model.specs.Text.{Text}
-use Rattle.plan_meaning.specs.NumberedRules as rules
-use Rattle.plan_meaning.specs.NumberedRules.{IsKnown, IsSeenFrom}
-use Rattle.plan_meaning.specs.Shapes.{Shape, shape_trees, IsTable}
+use Rattle.plan_meaning.specs.{NumberedRules.IsKnown, NumberedRules.IsSeenFrom, Shapes.Shape, Shapes.shape_trees, Shapes.IsTable}
 use Rattle.read_rules.specs.declared.tables.Fact.{Fact}
 use Rattle.read_rules.specs.Tables.{numbered_fact, primitive_fact}
-use Rattle.read_follow.specs.Facts.{FactsHold}
-use Rattle.read_follow.specs.Functions.{FunctionShape}
-use Rattle.read_numbers.specs.Facts.{followed_fact}
-use Rattle.read_numbers.specs.NumberedParts.{tables_in}
+use Rattle.read_follow.specs.{Facts.FactsHold, Functions.FunctionShape}
+use Rattle.read_numbers.specs.{Facts.followed_fact, NumberedParts.tables_in}
+use Rattle.plan_meaning.specs.NumberedRules as rules
 
 -- what is known of a part: a primitive by its number, or 14 more than the number of a type
 abbrev pub fact_of : List Fact → ℕ → Fact

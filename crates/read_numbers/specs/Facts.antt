@@ -1,9 +1,7 @@
 -- What is known of a type, as it was kept where the type was followed.
-use Rattle.read_rules.specs.declared.tables.Fact.{Fact}
-use Rattle.read_rules.specs.declared.tables.Names.{Names}
+use Rattle.read_rules.specs.declared.tables.{Fact.Fact, Names.Names}
+use Rattle.read_follow.specs.declared.facts.{Fact.Fact as FollowedFact, Names.Names as FollowedNames}
 use Rattle.read_rules.specs.declared.tables.Names.TheVariants as names
-use Rattle.read_follow.specs.declared.facts.Fact.{Fact as FollowedFact}
-use Rattle.read_follow.specs.declared.facts.Names.{Names as FollowedNames}
 use Rattle.read_follow.specs.declared.facts.Names.TheVariants as followed
 
 abbrev pub followed_names : Names → FollowedNames

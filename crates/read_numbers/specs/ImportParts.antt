@@ -3,21 +3,15 @@ use Rattle.std.specs.Prelude.{◌≡◌, ℕ, ◌+◌, List, map, slice_get, Opt
 use Rattle.std.specs.List.{AllByRecursion}
 use Rattle.wit_model.specs.Text.{Text}
 use Rattle.comp_bytes.specs.Levels.{Piece}
-use Rattle.plan_meaning.specs.NumberedViews.{NumberedView, Tables}
-use Rattle.plan_meaning.specs.Shapes.{named_shape}
-use Rattle.read_rules.specs.declared.scopes.Seen.{Seen}
-use Rattle.read_rules.specs.declared.scopes.Shown.{Shown}
-use Rattle.read_rules.specs.declared.scopes.Shown.TheVariants as shown
+use Rattle.plan_meaning.specs.{NumberedViews.NumberedView, NumberedViews.Tables, Shapes.named_shape}
+use Rattle.read_rules.specs.declared.scopes.{Seen.Seen, Shown.Shown}
 use Rattle.read_rules.specs.Scopes.{numbered_seen}
-use Rattle.read_follow.specs.declared.scopes.Seen.{Seen as FollowedSeen}
-use Rattle.read_follow.specs.declared.scopes.Shown.{Shown as FollowedShown}
+use Rattle.read_follow.specs.declared.scopes.{Seen.Seen as FollowedSeen, Shown.Shown as FollowedShown}
+use Rattle.read_parts.specs.declared.{following.Followed.Followed, members.Member.Member}
+use Rattle.read_parts.specs.{Input.IsFollowed, Members.scope_of}
+use Rattle.read_numbers.specs.{NumberedInput.tables_of, NumberedParts.numbered_seen as followed_seen}
+use Rattle.read_rules.specs.declared.scopes.Shown.TheVariants as shown
 use Rattle.read_follow.specs.declared.scopes.Shown.TheVariants as followed
-use Rattle.read_parts.specs.declared.following.Followed.{Followed}
-use Rattle.read_parts.specs.declared.members.Member.{Member}
-use Rattle.read_parts.specs.Input.{IsFollowed}
-use Rattle.read_parts.specs.Members.{scope_of}
-use Rattle.read_numbers.specs.NumberedInput.{tables_of}
-use Rattle.read_numbers.specs.NumberedParts.{numbered_seen as followed_seen}
 
 -- the part that the name of a type is, if it is one of a type
 abbrev pub type_part : Shown → Option ℕ

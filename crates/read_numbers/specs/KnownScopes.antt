@@ -2,18 +2,13 @@
 use Rattle.std.specs.Prelude.{◌≡◌, ℕ, Bool, List, length, map, slice_get, Some}
 use Rattle.std.specs.List.{AllByRecursion}
 use Rattle.comp_bytes.specs.Levels.{Piece}
-use Rattle.plan_meaning.specs.NumberedMembers.{IsKnownSight}
-use Rattle.plan_meaning.specs.NumberedViews.{NumberedView}
+use Rattle.plan_meaning.specs.{NumberedMembers.IsKnownSight, NumberedViews.NumberedView, Shapes.shape_trees}
 use Rattle.plan_meaning.specs.NumberedWorlds.{HasPath, NumberedScope, ScopeStands, sights_of_scope}
-use Rattle.plan_meaning.specs.Shapes.{shape_trees}
 use Rattle.read_rules.specs.declared.tables.Fact.{Fact}
 use Rattle.read_follow.specs.Facts.{FactsHold}
 use Rattle.read_parts.specs.declared.following.Followed.{Followed}
 use Rattle.read_parts.specs.Input.{IsFollowed}
-use Rattle.read_numbers.specs.FactLaws.{known_by}
-use Rattle.read_numbers.specs.Facts.{followed_fact}
-use Rattle.read_numbers.specs.NumberedInput.{tables_of}
-use Rattle.read_numbers.specs.PlacedNumbers.{scopes_in, IsPlacedView}
+use Rattle.read_numbers.specs.{FactLaws.known_by, Facts.followed_fact, NumberedInput.tables_of, PlacedNumbers.scopes_in, PlacedNumbers.IsPlacedView}
 
 -- there is a fact of each type, and it is true
 pub record AreKnown (x : Followed) (facts : List Fact) : Type 0 where

@@ -1,16 +1,12 @@
 -- What was followed stands, in numbers, for what it stands for.
 use Rattle.std.specs.Prelude.{List, length, Option}
 use Rattle.wit_model.specs.Text.{Text}
-use Rattle.plan_meaning.specs.NumberedViews.{place_at, AreTables}
-use Rattle.plan_meaning.specs.NumberedWorlds.{KeyStands, Shows}
-use Rattle.plan_meaning.specs.Shapes.{Shape}
-use Rattle.read_follow.specs.Following as following
+use Rattle.plan_meaning.specs.{NumberedViews.place_at, NumberedViews.AreTables, NumberedWorlds.KeyStands, NumberedWorlds.Shows, Shapes.Shape}
 use Rattle.read_follow.specs.Functions.{AreApart, FunctionShape}
-use Rattle.read_follow.specs.Places.{ArePathsApart, ArePlacesOf, IsKeyIn}
-use Rattle.read_follow.specs.Scopes.{meant_at, world_of, IsWorld}
-use Rattle.read_follow.specs.declared.instance_keys.InstanceKey.{InstanceKey}
-use Rattle.read_follow.specs.declared.scopes.Scope.{Scope}
+use Rattle.read_follow.specs.{Places.ArePathsApart, Places.ArePlacesOf, Places.IsKeyIn, Scopes.meant_at, Scopes.world_of, Scopes.IsWorld}
+use Rattle.read_follow.specs.declared.{instance_keys.InstanceKey.InstanceKey, scopes.Scope.Scope}
 use Rattle.read_numbers.specs.NumberedParts.{numbered_key, numbered_scope, tables_in}
+use Rattle.read_follow.specs.Following as following
 
 -- Well-formed tables, in which each type of a function and each path stands once, are so in numbers.
 abbrev pub TablesInNumbers : Type 0

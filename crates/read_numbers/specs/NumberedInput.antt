@@ -1,17 +1,12 @@
 -- All parts of an input in numbers.
-use Rattle.std.specs.Prelude.{◌≡◌, List, Some}
-use Rattle.std.specs.List.{AllZip}
+use Rattle.std.specs.{Prelude.◌≡◌, Prelude.List, Prelude.Some, List.AllZip}
 use Rattle.wit_model.specs.Text.{Text, text_of}
 use Rattle.comp_bytes.specs.Levels.{Piece}
-use Rattle.plan_meaning.specs.NumberedViews.{Tables, AreTables}
-use Rattle.plan_meaning.specs.NumberedWorlds.{Shows}
-use Rattle.read_parts.specs.declared.following.Followed.{Followed}
-use Rattle.read_parts.specs.declared.members.FollowedPart.{FollowedPart}
-use Rattle.read_parts.specs.declared.members.FollowedPart.TheVariants as followed
-use Rattle.read_parts.specs.declared.members.Member.{Member}
-use Rattle.read_parts.specs.Followed.{PartScope, world, interface, scopes_of}
-use Rattle.read_parts.specs.Input.{IsFollowed}
+use Rattle.plan_meaning.specs.{NumberedViews.Tables, NumberedViews.AreTables, NumberedWorlds.Shows}
+use Rattle.read_parts.specs.declared.{following.Followed.Followed, members.FollowedPart.FollowedPart, members.Member.Member}
+use Rattle.read_parts.specs.{Followed.PartScope, Followed.world, Followed.interface, Followed.scopes_of, Input.IsFollowed}
 use Rattle.read_numbers.specs.NumberedParts.{numbered_scope, tables_in}
+use Rattle.read_parts.specs.declared.members.FollowedPart.TheVariants as followed
 
 abbrev pub tables_of : Followed → Tables
 tables_of x = tables_in x.table x.functions x.places

@@ -2,24 +2,17 @@
 use Rattle.std.specs.Prelude.{ℕ, List, [], map, Option, None, option_map, slice_get, unwrap_or}
 use Rattle.wit_model.specs.Text.{Text}
 use Rattle.comp_bytes.specs.RawOf.{text_of}
-use Rattle.plan_meaning.specs.NumberedViews as views
 use Rattle.plan_meaning.specs.NumberedViews.{Tables, NumberedFunction, NumberedSlot, NumberedType, NumberedView}
-use Rattle.plan_meaning.specs.NumberedWorlds as worlds
 use Rattle.plan_meaning.specs.NumberedWorlds.{NumberedInstance, NumberedKey, NumberedScope, NumberedSeen, NumberedShown}
 use Rattle.plan_meaning.specs.Shapes.{Shape}
 use Rattle.read_follow.specs.Functions.{FunctionShape}
-use Rattle.read_follow.specs.declared.instance_keys.InstanceKey.{InstanceKey}
+use Rattle.read_follow.specs.declared.{instance_keys.InstanceKey.InstanceKey, scopes.Scope.Scope, views.ShownFunction.ShownFunction, views.ShownType.ShownType}
+use Rattle.read_follow.specs.declared.{scopes.Instance.Instance, scopes.Seen.Seen, scopes.Shown.Shown, slots.Slot.Slot, views.View.View}
+use Rattle.plan_meaning.specs.NumberedViews as views
+use Rattle.plan_meaning.specs.NumberedWorlds as worlds
 use Rattle.read_follow.specs.declared.instance_keys.InstanceKey.TheVariants as keys
-use Rattle.read_follow.specs.declared.scopes.Instance.{Instance}
-use Rattle.read_follow.specs.declared.scopes.Scope.{Scope}
-use Rattle.read_follow.specs.declared.scopes.Seen.{Seen}
-use Rattle.read_follow.specs.declared.scopes.Shown.{Shown}
 use Rattle.read_follow.specs.declared.scopes.Shown.TheVariants as shown
-use Rattle.read_follow.specs.declared.slots.Slot.{Slot}
 use Rattle.read_follow.specs.declared.slots.Slot.TheVariants as slots
-use Rattle.read_follow.specs.declared.views.ShownFunction.{ShownFunction}
-use Rattle.read_follow.specs.declared.views.ShownType.{ShownType}
-use Rattle.read_follow.specs.declared.views.View.{View}
 
 -- ---- tables
 

@@ -2,22 +2,16 @@
 -- that what was followed is over, what stands for a name under which it is shown, and the order in which names came into the table.
 use Rattle.std.specs.Prelude.{◌≡◌, ◌⊎◌, ◌<◌, ◌≤◌, ◌+◌, ℕ, true, List, length, map, slice_get, Option, Some, None}
 use Rattle.std.specs.List.{AllByRecursion, AllZip}
-use Rattle.wit_model.specs.Text.{Text}
-use Rattle.wit_model.specs.Tree.{Form}
+use Rattle.wit_model.specs.{Text.Text, Tree.Form}
 use Rattle.comp_bytes.specs.Levels.{Piece}
 use Rattle.comp_meaning.specs.Rules.{distinct}
 use Rattle.plan_meaning.specs.FollowedNumbers.{IsOneOf}
-use Rattle.plan_meaning.specs.NumberedRules.{IsSeenFrom}
+use Rattle.plan_meaning.specs.{NumberedRules.IsSeenFrom, PlanRules.are_rising, PlanRules.is_form, Shapes.named_shape, Shapes.node_shape}
 use Rattle.plan_meaning.specs.NumberedViews.{Tables, path_at, function_at, value, resource, AllOf, AreTables, HasNameIn, IsOutside, IsPart, NumberedSlot, NumberedType, NumberedView, PartsOf, ViewPasses}
 use Rattle.plan_meaning.specs.NumberedWorlds.{instance, function, declares, place_of_key, HasPath, KeyStands, NumberedInstance, NumberedKey, NumberedScope, NumberedSeen, NumberedShown}
-use Rattle.plan_meaning.specs.PlanRules.{are_rising, is_form}
-use Rattle.plan_meaning.specs.Shapes.{named_shape, node_shape}
-use Rattle.read_parts.specs.declared.following.Followed.{Followed}
-use Rattle.read_parts.specs.declared.members.Member.{Member}
-use Rattle.read_parts.specs.Input.{IsFollowed}
-use Rattle.read_parts.specs.Members.{scope_of}
-use Rattle.read_numbers.specs.NumberedInput.{tables_of}
-use Rattle.read_numbers.specs.NumberedParts.{numbered_scope}
+use Rattle.read_parts.specs.declared.{following.Followed.Followed, members.Member.Member}
+use Rattle.read_parts.specs.{Input.IsFollowed, Members.scope_of}
+use Rattle.read_numbers.specs.{NumberedInput.tables_of, NumberedParts.numbered_scope}
 
 -- ---- the places that a part is over
 

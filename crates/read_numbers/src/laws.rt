@@ -1,11 +1,8 @@
 //! Laws over definitions alone.
 
-ghost use Rattle.read_numbers.specs.FactLaws.{FactsInNumbers};
-ghost use Rattle.read_numbers.specs.ImportParts.{ImportsAreNamed};
-ghost use Rattle.read_numbers.specs.KnownScopes.{ScopesAreKnown, ViewsAreKnown};
+ghost use Rattle.read_numbers.specs.{FactLaws.FactsInNumbers, ImportParts.ImportsAreNamed, KnownScopes.ScopesAreKnown, KnownScopes.ViewsAreKnown};
 ghost use Rattle.read_numbers.specs.NumberLaws.{KeysInNumbers, PlacesInNumbers, ScopesInNumbers, TablesInNumbers};
-ghost use Rattle.read_numbers.specs.NumberedInput.{InputInNumbers};
-ghost use Rattle.read_numbers.specs.PlacedNumbers.{ImportsComeLast, MetPartsAreSeen, PlacesAreKept};
+ghost use Rattle.read_numbers.specs.{NumberedInput.InputInNumbers, PlacedNumbers.ImportsComeLast, PlacedNumbers.MetPartsAreSeen, PlacedNumbers.PlacesAreKept};
 
 /// Well-formed tables, in which each type of a function and each path stands once, are so in numbers; and each place is that of its path.
 pub fn tables_in_numbers()

@@ -1,11 +1,9 @@
 //! What component types show, as the rules of reading look at it.
 
 ghost use Rattle.std.specs.Prelude.{◌≡◌, None, map, slice_get, unwrap_or, IfOk};
-ghost use Rattle.read_rules.specs.Scopes.{numbered_instance, numbered_key, numbered_seen, numbered_shown};
-ghost use Rattle.read_rules.specs.Views.{numbered_view};
+ghost use Rattle.read_rules.specs.{Scopes.numbered_instance, Scopes.numbered_key, Scopes.numbered_seen, Scopes.numbered_shown, Views.numbered_view};
 ghost use Rattle.read_numbers.specs.NumberedParts.{instance_view, name_in, no_view, numbered_instance as followed_instance, numbered_key as followed_key, numbered_seen as followed_seen, numbered_shown as followed_shown, path_in};
-ghost use Rattle.read_numbers.specs.ImportParts.{followed_part, part_followed, part_seen, type_part};
-ghost use Rattle.read_numbers.specs.OwnedViews.{owned_view};
+ghost use Rattle.read_numbers.specs.{ImportParts.followed_part, ImportParts.part_followed, ImportParts.part_seen, ImportParts.type_part, OwnedViews.owned_view};
 
 use crate::views::OwnedView;
 use read_follow::{

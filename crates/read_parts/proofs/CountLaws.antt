@@ -1,28 +1,18 @@
 -- The parts that are exported make no more types than the input has bytes.
 use Rattle.std.proofs.Common.{◌≡◌, refl, sym, ap, ◌∙◌, subst, ℕ, zero, suc, ◌+◌, ◌≤◌, ◌==◌, ◌||◌, ◌&&◌, arith, Bool, true, false, not, cond, List, [], ◌∷◌, ◌++◌, map, length, length-append, append_assoc, append-nil, Option, Some, None, slice_get}
+use Rattle.std.proofs.lemmas.{Bool.eq-eqb, Option.same_Some as some_same}
 use Rattle.std.specs.List.{list_any}
-use Rattle.std.proofs.lemmas.Bool.{eq-eqb}
-use Rattle.wit_model.specs.Text.{Text}
-use Rattle.wit_model.specs.Names.{is_label}
+use Rattle.wit_model.specs.{Text.Text, Names.is_label}
 use Rattle.comp_bytes.specs.Levels.{Entry, IsEntry, IsPartType, PartType, Piece, custom, exports, holds, levels_of, plain, raw_part, raw_piece, shows, types, wraps}
-use Rattle.comp_bytes.specs.Raw.{Declaration, TopExport, TopType}
-use Rattle.comp_bytes.specs.Form.{Sequence}
-use Rattle.comp_bytes.specs.Spelling.{IsDeclaration, IsSection, IsTopType}
+use Rattle.comp_bytes.specs.{Raw.Declaration, Raw.TopExport, Raw.TopType, Form.Sequence, Spelling.IsDeclaration, Spelling.IsSection, Spelling.IsTopType}
 use Rattle.comp_bytes.specs.Reading.{◌>>=◌}
-use Rattle.comp_bytes.proofs.ComponentLaws.{component_takes}
-use Rattle.comp_bytes.proofs.LevelLaws.{part_out}
-use Rattle.comp_bytes.proofs.PieceLaws.{levels_are_sections}
-use Rattle.comp_meaning.specs.ByLevels.{Top, top_export, top_part, top_piece}
-use Rattle.comp_meaning.specs.Follow.{each, provided, when}
-use Rattle.comp_meaning.specs.Reads.{is_bare, steps}
-use Rattle.comp_meaning.specs.Rules.{distinct}
+use Rattle.comp_bytes.proofs.{ComponentLaws.component_takes, LevelLaws.part_out, PieceLaws.levels_are_sections}
+use Rattle.comp_meaning.specs.{ByLevels.Top, ByLevels.top_export, ByLevels.top_part, ByLevels.top_piece, Follow.each, Follow.provided, Follow.when}
+use Rattle.comp_meaning.specs.{Reads.is_bare, Reads.steps, Rules.distinct}
 use Rattle.read_follow.specs.Scopes.{weight, weights}
-use Rattle.read_parts.specs.Counts.{types_weight, pieces_weight, PartsFit}
-use Rattle.read_parts.specs.Exported.{part_under}
-use Rattle.read_parts.specs.Members.{part_weight, parts_weight}
+use Rattle.read_parts.specs.{Counts.types_weight, Counts.pieces_weight, Counts.PartsFit, Exported.part_under, Members.part_weight, Members.parts_weight}
 use Rattle.read_parts.specs.Tops.{empty_top}
 use Rattle.read_follow.proofs.ScopeLaws.{any_more, fewer}
-use Rattle.std.proofs.lemmas.Option.{same_Some as some_same}
 
 -- ---- bytes
 

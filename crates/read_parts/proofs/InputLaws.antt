@@ -1,19 +1,13 @@
 -- All parts of an input.
 use Rattle.std.proofs.Common.{◌≡◌, refl, ap, ◌∙◌, ◌==◌, false, List, [], ◌∷◌, map, length, Some, IfOk, IfErr, Result, Ok, Err}
 use Rattle.wit_model.specs.Text.{Text}
-use Rattle.comp_bytes.specs.Levels.{PartType, Piece}
-use Rattle.comp_bytes.specs.Reading.{◌>>=◌}
-use Rattle.comp_meaning.specs.ByLevels.{exported_parts}
-use Rattle.comp_meaning.specs.Follow.{each}
+use Rattle.comp_bytes.specs.{Levels.PartType, Levels.Piece, Reading.◌>>=◌}
+use Rattle.comp_meaning.specs.{ByLevels.exported_parts, Follow.each}
 use Rattle.read_follow.specs.declared.refusal.Refusal.{Refusal}
 use Rattle.read_follow.specs.Found.{Refuses}
-use Rattle.read_follow.proofs.FollowingLaws.{if_err}
-use Rattle.read_follow.proofs.Refusing.{refused}
-use Rattle.read_parts.specs.declared.exported.ExportedPart.{ExportedPart}
-use Rattle.read_parts.specs.declared.following.Followed.{Followed}
-use Rattle.read_parts.specs.Exported.{raw_exported}
-use Rattle.read_parts.specs.Followed.{labelled_scope, scopes_in, scopes_of}
-use Rattle.read_parts.specs.Input.{ArePartsFollowed, IsFollowed}
+use Rattle.read_follow.proofs.{FollowingLaws.if_err, Refusing.refused}
+use Rattle.read_parts.specs.declared.{exported.ExportedPart.ExportedPart, following.Followed.Followed}
+use Rattle.read_parts.specs.{Exported.raw_exported, Followed.labelled_scope, Followed.scopes_in, Followed.scopes_of, Input.ArePartsFollowed, Input.IsFollowed}
 
 pub some_there : (xs : List ExportedPart) → (length xs == 0) ≡ false → scopes_in (map raw_exported xs) ≡ each labelled_scope (map raw_exported xs)
 some_there [] e = absurd cc

@@ -1,42 +1,24 @@
 -- Parts at the top that are followed into tables that grow.
 use Rattle.std.proofs.Common.{◌≡◌, inl, inr, refl, sym, ap, ◌∙◌, subst, ℕ, zero, suc, ◌+◌, ◌<◌, ◌≤◌, arith, List, [], ◌∷◌, ◌++◌, map, drop, length, length-append, get_or, Option, Some, None, slice_get}
-use Rattle.std.proofs.lemmas.List.{append-nil, drop_more, map-append}
-use Rattle.wit_model.specs.Text.{Text, text_of}
-use Rattle.wit_model.specs.Tree.{Place}
-use Rattle.comp_bytes.specs.Levels.{Entry, PartType}
-use Rattle.comp_bytes.specs.Reading.{◌>>=◌}
+use Rattle.std.proofs.lemmas.{List.append-nil, List.drop_more, List.map-append, Option.same_Some as same-some, Option.slice_get_within as found_below}
+use Rattle.wit_model.specs.{Text.Text, Text.text_of, Tree.Place}
+use Rattle.comp_bytes.specs.{Levels.Entry, Levels.PartType, Reading.◌>>=◌}
 use Rattle.comp_meaning.specs.Follow.{Scope as MeantScope, each}
-use Rattle.read_follow.specs.declared.refusal.Refusal.{Refusal}
-use Rattle.read_follow.specs.declared.scopes.Scope.{Scope}
-use Rattle.read_follow.specs.declared.scopes.Seen.{Seen}
-use Rattle.read_follow.specs.declared.scopes.Shown.{Shown}
-use Rattle.read_follow.specs.Defining.{Grows}
-use Rattle.read_follow.specs.Following.{AreTables}
+use Rattle.read_follow.specs.declared.{refusal.Refusal.Refusal, scopes.Scope.Scope, scopes.Seen.Seen, scopes.Shown.Shown}
+use Rattle.read_follow.specs.{Defining.Grows, Following.AreTables, Functions.FunctionShape, PartTypes.raw_part_type, Placed.IsTypeNamed, Places.ArePlacesOf}
 use Rattle.read_follow.specs.Found.{Refuses}
-use Rattle.read_follow.specs.Functions.{FunctionShape}
-use Rattle.read_follow.specs.PartTypes.{raw_part_type}
-use Rattle.read_follow.specs.Placed.{IsTypeNamed}
-use Rattle.read_follow.specs.Places.{ArePlacesOf}
 use Rattle.read_follow.specs.Scopes.{meant_at, world_of, ArePathsInOrder, IsInstanceIn, IsPlacedAmong, IsShownAs, IsShownBy, by_instance, by_import, IsStage, IsWorld, World}
 use Rattle.plan_meaning.specs.Shapes.{Shape, named_shape, node_shape}
-use Rattle.read_follow.proofs.ComponentLaws.{place_in, places_are}
-use Rattle.read_follow.proofs.DefiningLaws.{all_at, longer}
-use Rattle.read_follow.proofs.PlacedLaws.{stands_on, stood}
-use Rattle.read_follow.proofs.PlacedScopes.{extended_placed, none_past}
-use Rattle.read_follow.proofs.Refusing.{refused}
-use Rattle.read_follow.proofs.StepLaws.{grow_on}
-use Rattle.read_follow.proofs.ScopeLaws.{extended, extended_meant, extended_world, plus}
-use Rattle.read_parts.specs.declared.exported.ExportedPart.{ExportedPart}
-use Rattle.read_parts.specs.declared.members.FollowedPart.{FollowedPart}
-use Rattle.read_parts.specs.declared.members.FollowedPart.TheVariants as followed
-use Rattle.read_parts.specs.declared.members.Member.{Member}
-use Rattle.read_parts.specs.Exported.{raw_exported}
-use Rattle.read_parts.specs.Followed.{PartScope, world, interface, labelled_scope, part_scope}
+use Rattle.read_follow.proofs.{ComponentLaws.place_in, ComponentLaws.places_are, PlacedScopes.extended_placed, PlacedScopes.none_past, Refusing.refused}
+use Rattle.read_follow.proofs.{DefiningLaws.all_at, DefiningLaws.longer, ScopeLaws.extended, ScopeLaws.extended_meant, ScopeLaws.extended_world, ScopeLaws.plus}
+use Rattle.read_follow.proofs.{PlacedLaws.stands_on, PlacedLaws.stood, StepLaws.grow_on}
+use Rattle.read_parts.specs.declared.{exported.ExportedPart.ExportedPart, members.FollowedPart.FollowedPart, members.Member.Member}
+use Rattle.read_parts.specs.{Exported.raw_exported, Followed.PartScope, Followed.world, Followed.interface, Followed.labelled_scope, Followed.part_scope}
 use Rattle.read_parts.specs.Members.{entries_of, member_meant, part_meant, parts_weight, scope_of, with_front, AreFollowedTo, AreImportsBelow, AreMembersPlaced, AreMembersStaged, ArePlacesBelow, AreTypesBelow, ArePlacesInOrder, ArePlacesMet, IsMetBefore, in_earlier, in_same, IsMetBySome, IsPartFollowed, IsPlacedMember, IsShownBySome, IsStagedMember, MembersStand, StandsIn}
 use Rattle.read_parts.proofs.ExportLaws.{each_more, each_none}
 use Rattle.base_lemmas.proofs.Elements.{all_end}
 use Rattle.base_lemmas.proofs.Lists.{at_last, heads_equal, last_or, length_of_map, mapped_get, slice_front}
-use Rattle.std.proofs.lemmas.Option.{same_Some as same-some, slice_get_within as found_below}
+use Rattle.read_parts.specs.declared.members.FollowedPart.TheVariants as followed
 
 abbrev Paths : Type 0
 Paths = List (Option Text)

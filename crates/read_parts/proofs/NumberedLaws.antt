@@ -1,26 +1,18 @@
 -- The types of the table are those that the parts declare, part by part.
 use Rattle.std.proofs.Common.{◌≡◌, refl, sym, ap, ◌∙◌, subst, ℕ, suc, ◌+◌, ◌<◌, ◌≤◌, arith, List, [], ◌∷◌, ◌++◌, map, drop, length, length-append, append_assoc, get_or, Option}
+use Rattle.std.proofs.{Math.ListN.drop_of_length-le, lemmas.List.drop_more}
 use Rattle.std.specs.List.{AllByRecursion}
-use Rattle.std.proofs.Math.ListN.{drop_of_length-le}
-use Rattle.std.proofs.lemmas.List.{drop_more}
-use Rattle.wit_model.specs.Text.{Text}
-use Rattle.wit_model.specs.Tree.{Tree}
+use Rattle.wit_model.specs.{Text.Text, Tree.Tree}
 use Rattle.comp_bytes.specs.Levels.{PartType}
-use Rattle.read_follow.specs.Functions.{FunctionShape}
-use Rattle.read_follow.specs.Numbering.{bare_parts, scoped_trees, CountUp}
+use Rattle.read_follow.specs.{Functions.FunctionShape, Numbering.bare_parts, Numbering.scoped_trees, Numbering.CountUp, Scopes.world_of, Scopes.AreScopedIn}
 use Rattle.read_follow.specs.PartTypes.{raw_part_type}
-use Rattle.read_follow.specs.Scopes.{world_of, AreScopedIn}
 use Rattle.plan_meaning.specs.Shapes.{Shape, part_tree, shape_trees}
-use Rattle.read_follow.proofs.ComponentLaws.{places_before}
-use Rattle.read_follow.proofs.DefiningLaws.{same_list, scoped_grown}
-use Rattle.read_follow.proofs.NumberingLaws.{count_below, count_scoped}
-use Rattle.read_follow.proofs.ScopedLaws.{still_scoped}
-use Rattle.read_parts.specs.declared.exported.ExportedPart.{ExportedPart}
-use Rattle.read_parts.specs.declared.members.Member.{Member}
+use Rattle.read_follow.proofs.{ComponentLaws.places_before, ScopedLaws.still_scoped}
+use Rattle.read_follow.proofs.{DefiningLaws.same_list, DefiningLaws.scoped_grown, NumberingLaws.count_below, NumberingLaws.count_scoped}
+use Rattle.read_parts.specs.declared.{exported.ExportedPart.ExportedPart, members.Member.Member}
 use Rattle.read_parts.specs.Exported.{raw_exported}
 use Rattle.read_parts.specs.Members.{in_part, scope_of, trees_from, AreNumberedTo, DeclaringScope, IsPartFollowed, IsScopedBy}
-use Rattle.base_lemmas.proofs.Elements.{all_both}
-use Rattle.base_lemmas.proofs.Lists.{append_of_map, at_last, front_more}
+use Rattle.base_lemmas.proofs.{Elements.all_both, Lists.append_of_map, Lists.at_last, Lists.front_more}
 
 -- nothing is followed
 pub none_numbered : (raws : List (Text × PartType)) (shapes : List Shape) (fs : List FunctionShape) (paths : List (Option Text)) (ms : List Member) → shapes ≡ [] → ms ≡ []

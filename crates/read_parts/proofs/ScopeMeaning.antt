@@ -1,13 +1,10 @@
 -- What the sections mean is what the rules of reading make of what is followed.
 use Rattle.std.proofs.Common.{◌≡◌, refl, ap, ◌∙◌, List, [], ◌∷◌, Option, Some, None}
-use Rattle.wit_model.specs.Names.{PackageIdentity}
-use Rattle.wit_model.specs.Text.{Text}
-use Rattle.comp_bytes.specs.Levels.{PartType, wraps, shows}
-use Rattle.comp_bytes.specs.Reading.{◌>>=◌}
+use Rattle.wit_model.specs.{Names.PackageIdentity, Text.Text}
+use Rattle.comp_bytes.specs.{Levels.PartType, Levels.wraps, Levels.shows, Reading.◌>>=◌}
 use Rattle.comp_meaning.specs.ByLevels.{entry_scope, exported_parts, member_by_levels, package_of_pieces, part_by_levels, world_of_pieces}
 use Rattle.comp_meaning.specs.Follow.{Scope, each, provided}
-use Rattle.comp_meaning.specs.Reads.{Member, Part, labelled_path, package_of_members, world_of_members}
-use Rattle.comp_meaning.specs.Rules.{is_world}
+use Rattle.comp_meaning.specs.{Reads.Member, Reads.Part, Reads.labelled_path, Reads.package_of_members, Reads.world_of_members, Rules.is_world}
 use Rattle.read_parts.specs.Followed.{PartScope, world, interface, labelled_scope, member_of_scope, part_of_scope, part_scope, scopes_in, scopes_of, world_path, PackageByScopes, WorldByScopes}
 
 -- ---- one test behind another

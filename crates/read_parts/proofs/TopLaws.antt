@@ -1,28 +1,14 @@
 -- Types and exports at the top, as they take their indexes.
 use Rattle.std.proofs.Common.{◌≡◌, refl, sym, ap, ◌∙◌, subst, ℕ, Bool, true, false, not, ◌&&◌, ◌||◌, ◌==◌, List, [], ◌∷◌, ◌++◌, map, Option, Some, None, slice_get}
+use Rattle.std.proofs.{Math.Dec.eqb, lemmas.Bool.eq-eqb, lemmas.Bool.eqb-true, lemmas.Bool.false≢true, lemmas.List.map-append}
 use Rattle.std.specs.List.{AllByRecursion, list_any}
-use Rattle.std.proofs.Math.Dec.{eqb}
-use Rattle.std.proofs.lemmas.Bool.{eq-eqb, eqb-true, false≢true}
-use Rattle.std.proofs.lemmas.List.{map-append}
-use Rattle.wit_model.specs.Text.{Text}
-use Rattle.wit_model.specs.Names.{is_label}
-use Rattle.comp_bytes.specs.Levels.{PartType}
-use Rattle.comp_bytes.specs.Reading.{◌>>=◌}
-use Rattle.comp_meaning.specs.ByLevels.{Top, top_export}
-use Rattle.comp_meaning.specs.Follow.{each, provided, when}
-use Rattle.comp_meaning.specs.Reads.{is_bare}
-use Rattle.comp_meaning.specs.Rules.{distinct}
-use Rattle.read_follow.specs.declared.refusal.Refusal.{Refusal}
-use Rattle.read_follow.specs.declared.sections.TopExport.{TopExport}
-use Rattle.read_follow.specs.ExternNames.{raw_name}
-use Rattle.read_follow.specs.Found.{Refuses}
-use Rattle.read_follow.specs.PartTypes.{raw_part_type, IsWholePart}
-use Rattle.read_follow.specs.Pieces.{raw_export}
-use Rattle.read_follow.proofs.Refusing.{refused}
-use Rattle.read_follow.proofs.SlotLaws.{mapped_none}
-use Rattle.read_parts.specs.declared.tops.Exported.{Exported}
-use Rattle.read_parts.specs.declared.tops.TopType.{TopType}
-use Rattle.read_parts.specs.declared.tops.Tops.{Tops}
+use Rattle.wit_model.specs.{Text.Text, Names.is_label}
+use Rattle.comp_bytes.specs.{Levels.PartType, Reading.◌>>=◌}
+use Rattle.comp_meaning.specs.{ByLevels.Top, ByLevels.top_export, Follow.each, Follow.provided, Follow.when, Reads.is_bare, Rules.distinct}
+use Rattle.read_follow.specs.declared.{refusal.Refusal.Refusal, sections.TopExport.TopExport}
+use Rattle.read_follow.specs.{ExternNames.raw_name, Found.Refuses, PartTypes.raw_part_type, PartTypes.IsWholePart, Pieces.raw_export}
+use Rattle.read_follow.proofs.{Refusing.refused, SlotLaws.mapped_none}
+use Rattle.read_parts.specs.declared.tops.{Exported.Exported, TopType.TopType, Tops.Tops}
 use Rattle.read_parts.specs.Exported.{distinct_parts, part_under}
 use Rattle.read_parts.specs.Tops.{label_and_number, may_export, number_found, top_of, AreTops, IsExportAdded}
 use Rattle.base_lemmas.proofs.Lists.{mapped_get}

@@ -1,11 +1,8 @@
 -- The types at the top by the labels under which they are exported.
 use Rattle.std.specs.Prelude.{ℕ, List, map, Option, Some, slice_get}
 use Rattle.wit_model.specs.Text.{Text}
-use Rattle.comp_bytes.specs.Levels.{PartType}
-use Rattle.comp_bytes.specs.Reading.{◌>>=◌}
-use Rattle.comp_meaning.specs.ByLevels.{Top}
-use Rattle.comp_meaning.specs.Follow.{each, when}
-use Rattle.comp_meaning.specs.Rules.{distinct}
+use Rattle.comp_bytes.specs.{Levels.PartType, Reading.◌>>=◌}
+use Rattle.comp_meaning.specs.{ByLevels.Top, Follow.each, Follow.when, Rules.distinct}
 use Rattle.read_follow.specs.PartTypes.{raw_part_type}
 use Rattle.read_parts.specs.declared.exported.ExportedPart.{ExportedPart}
 

@@ -1,11 +1,8 @@
 -- What is followed of each type at the top before the rules of reading on it are looked at, and what the rules make of that
 -- (Component Model WIT.md, "Package Format").
 use Rattle.std.specs.Prelude.{◌≡◌, ◌&&◌, List, ◌∷◌, map, Option, Some, is_none}
-use Rattle.wit_model.specs.Names.{PackageIdentity}
-use Rattle.wit_model.specs.Text.{Text}
-use Rattle.comp_bytes.specs.Levels.{PartType, Piece, wraps, shows}
-use Rattle.comp_bytes.specs.Raw.{ExternName}
-use Rattle.comp_bytes.specs.Reading.{◌>>=◌}
+use Rattle.wit_model.specs.{Names.PackageIdentity, Text.Text}
+use Rattle.comp_bytes.specs.{Levels.PartType, Levels.Piece, Levels.wraps, Levels.shows, Raw.ExternName, Reading.◌>>=◌}
 use Rattle.comp_meaning.specs.ByLevels.{entry_scope, exported_parts, package_of_pieces, world_of_pieces}
 use Rattle.comp_meaning.specs.Follow.{Scope, complete_path, each, is_filled, provided, when}
 use Rattle.comp_meaning.specs.Reads.{Member, Part, are_reached, exported_view, imported_view, labelled_path, package_of_members, world_of_members}

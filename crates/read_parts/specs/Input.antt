@@ -1,12 +1,9 @@
 -- All parts of an input, followed into one set of tables.
 use Rattle.std.specs.Prelude.{◌≡◌, ◌≤◌, ℕ, List, [], length, map, Some}
-use Rattle.wit_model.specs.Text.{Text}
-use Rattle.wit_model.specs.Tree.{Place}
+use Rattle.wit_model.specs.{Text.Text, Tree.Place}
 use Rattle.comp_bytes.specs.Levels.{PartType, Piece}
 use Rattle.comp_meaning.specs.ByLevels.{exported_parts}
-use Rattle.read_follow.specs.Following.{AreTables}
-use Rattle.read_follow.specs.Functions.{AreApart}
-use Rattle.read_follow.specs.Places.{ArePathsApart, ArePathsRead, ArePlacesOf}
+use Rattle.read_follow.specs.{Following.AreTables, Functions.AreApart, Places.ArePathsApart, Places.ArePathsRead, Places.ArePlacesOf}
 use Rattle.read_parts.specs.declared.following.Followed.{Followed}
 use Rattle.read_parts.specs.Followed.{scopes_in, scopes_of}
 use Rattle.read_parts.specs.Members.{member_meant, parts_weight, AreFormed, AreMembersPlaced, AreMembersStaged, AreNamesShown, ArePlacesInOrder, ArePlacesMet, AreNumberedTo, MembersStand}

@@ -1,30 +1,18 @@
 -- The parts at the top as they are followed, over the tables and the places of a whole input.
 use Rattle.std.specs.Prelude.{◌≡◌, ◌<◌, ◌≤◌, ℕ, suc, ◌+◌, true, List, [], ◌∷◌, ◌++◌, length, map, slice_get, Option, Some}
-use Rattle.std.specs.Borrow.{Bor}
-use Rattle.std.specs.List.{AllByRecursion}
-use Rattle.wit_model.specs.Text.{Text, text_of}
-use Rattle.wit_model.specs.Tree.{Form, Place, Tree}
-use Rattle.comp_bytes.specs.Levels.{Entry, PartType, wraps, shows}
-use Rattle.comp_bytes.specs.Reading.{◌>>=◌}
+use Rattle.std.specs.{Borrow.Bor, List.AllByRecursion}
+use Rattle.wit_model.specs.{Text.Text, Text.text_of, Tree.Form, Tree.Place, Tree.Tree}
+use Rattle.comp_bytes.specs.{Levels.Entry, Levels.PartType, Levels.wraps, Levels.shows, Reading.◌>>=◌}
 use Rattle.comp_meaning.specs.Follow.{each, new_scope}
-use Rattle.read_follow.specs.declared.scopes.Instance.{Instance}
-use Rattle.read_follow.specs.declared.scopes.Scope.{Scope}
-use Rattle.read_follow.specs.declared.scopes.Seen.{Seen}
-use Rattle.read_follow.specs.declared.scopes.Shown.TheVariants as shown
-use Rattle.read_follow.specs.declared.views.ShownType.{ShownType}
-use Rattle.read_follow.specs.Defining.{Grows}
-use Rattle.read_follow.specs.Following.{AreTables}
-use Rattle.read_follow.specs.Functions.{FunctionShape}
-use Rattle.read_follow.specs.Numbering.{bare_parts, scoped_trees, trees_along, CountUp}
-use Rattle.read_follow.specs.Placed.{slot_part}
-use Rattle.read_follow.specs.Places.{ArePlacesOf}
+use Rattle.read_follow.specs.declared.{scopes.Instance.Instance, scopes.Scope.Scope, scopes.Seen.Seen, views.ShownType.ShownType}
+use Rattle.read_follow.specs.{Defining.Grows, Following.AreTables, Places.ArePlacesOf}
+use Rattle.read_follow.specs.{Functions.FunctionShape, Numbering.bare_parts, Numbering.scoped_trees, Numbering.trees_along, Numbering.CountUp, Placed.slot_part}
 use Rattle.read_follow.specs.Scopes.{meant_at, weights, world_of, ArePathsInOrder, ArePathsMet, AreScopedIn, HasStages, IsPlacedAmong, IsPlacedWorld, IsPlaceMet, IsPlaceMetBefore, IsScopedIn, IsShownBy, IsWorld}
-use Rattle.plan_meaning.specs.PlanRules.{is_form}
-use Rattle.plan_meaning.specs.Shapes.{Shape, named_shape, node_shape, shape_trees}
-use Rattle.read_parts.specs.declared.members.FollowedPart.{FollowedPart}
-use Rattle.read_parts.specs.declared.members.FollowedPart.TheVariants as followed
-use Rattle.read_parts.specs.declared.members.Member.{Member}
+use Rattle.plan_meaning.specs.{PlanRules.is_form, Shapes.Shape, Shapes.named_shape, Shapes.node_shape, Shapes.shape_trees}
+use Rattle.read_parts.specs.declared.members.{FollowedPart.FollowedPart, Member.Member}
 use Rattle.read_parts.specs.Followed.{PartScope, world, interface, labelled_scope, part_scope}
+use Rattle.read_follow.specs.declared.scopes.Shown.TheVariants as shown
+use Rattle.read_parts.specs.declared.members.FollowedPart.TheVariants as followed
 
 abbrev pub scope_of : FollowedPart → Scope
 scope_of (followed.World path scope) = scope

@@ -1,19 +1,12 @@
 -- The types and the exports at the top of a component, as they are kept (Component Model Binary.md, "Index Spaces").
 use Rattle.std.specs.Prelude.{◌≡◌, ℕ, Bool, not, ◌&&◌, ◌==◌, List, [], ◌∷◌, ◌++◌, map, Option, slice_get}
-use Rattle.std.specs.Borrow.{Bor}
-use Rattle.std.specs.List.{AllByRecursion, list_any}
-use Rattle.wit_model.specs.Text.{Text}
-use Rattle.wit_model.specs.Names.{is_label}
+use Rattle.std.specs.{Borrow.Bor, List.AllByRecursion, List.list_any}
+use Rattle.wit_model.specs.{Text.Text, Names.is_label}
 use Rattle.comp_bytes.specs.Reading.{◌>>=◌}
-use Rattle.comp_meaning.specs.ByLevels.{Top}
-use Rattle.comp_meaning.specs.Follow.{provided}
-use Rattle.comp_meaning.specs.Reads.{is_bare}
+use Rattle.comp_meaning.specs.{ByLevels.Top, Follow.provided, Reads.is_bare}
 use Rattle.read_follow.specs.declared.sections.TopExport.{TopExport}
-use Rattle.read_follow.specs.ExternNames.{raw_name}
-use Rattle.read_follow.specs.PartTypes.{raw_part_type, IsWholePart}
-use Rattle.read_parts.specs.declared.tops.Exported.{Exported}
-use Rattle.read_parts.specs.declared.tops.TopType.{TopType}
-use Rattle.read_parts.specs.declared.tops.Tops.{Tops}
+use Rattle.read_follow.specs.{ExternNames.raw_name, PartTypes.raw_part_type, PartTypes.IsWholePart}
+use Rattle.read_parts.specs.declared.tops.{Exported.Exported, TopType.TopType, Tops.Tops}
 
 abbrev pub label_and_number : Exported → Text × ℕ
 label_and_number x = (x.label.now, x.number)

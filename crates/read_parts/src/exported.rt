@@ -1,14 +1,9 @@
 //! The types at the top, by the labels under which they are exported.
 
-ghost use Rattle.std.specs.List.{AllByRecursion};
-ghost use Rattle.std.specs.Prelude.{◌≡◌, map, slice_get, IfOk, Some};
-ghost use Rattle.comp_meaning.specs.ByLevels.{exported_parts as exported_parts_lem};
-ghost use Rattle.comp_meaning.specs.Follow.{each};
-ghost use Rattle.read_follow.specs.Found.{Gives};
-ghost use Rattle.read_follow.specs.PartTypes.{IsWholePart};
-ghost use Rattle.read_follow.specs.Pieces.{raw_piece, IsWholePiece};
-ghost use Rattle.read_parts.specs.Exported.{distinct_parts, part_under, raw_exported};
-ghost use Rattle.read_parts.specs.Tops.{label_and_number, top_of, AreTops};
+ghost use Rattle.std.specs.{List.AllByRecursion, Prelude.◌≡◌, Prelude.map, Prelude.slice_get, Prelude.IfOk, Prelude.Some};
+ghost use Rattle.comp_meaning.specs.{ByLevels.exported_parts as exported_parts_lem, Follow.each};
+ghost use Rattle.read_follow.specs.{Found.Gives, PartTypes.IsWholePart, Pieces.raw_piece, Pieces.IsWholePiece};
+ghost use Rattle.read_parts.specs.{Exported.distinct_parts, Exported.part_under, Exported.raw_exported, Tops.label_and_number, Tops.top_of, Tops.AreTops};
 
 use crate::tops::{Exported, TopType, Tops, tops_of};
 use distinct_names::are_distinct;

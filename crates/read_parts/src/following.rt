@@ -3,14 +3,9 @@
 ghost use Rattle.std.specs.List.{AllByRecursion};
 ghost use Rattle.std.specs.Prelude.{◌≡◌, [], length, map, IfErr, IfOk};
 ghost use Rattle.comp_meaning.specs.Follow.{each};
-ghost use Rattle.read_follow.specs.Following.{AreTables};
-ghost use Rattle.read_follow.specs.Found.{Refuses};
-ghost use Rattle.read_follow.specs.PartTypes.{IsWholePart};
-ghost use Rattle.read_follow.specs.Pieces.{raw_piece, IsWholePiece};
-ghost use Rattle.read_parts.specs.Exported.{raw_exported};
-ghost use Rattle.read_parts.specs.Followed.{labelled_scope, scopes_in, scopes_of};
-ghost use Rattle.read_parts.specs.Input.{ArePartsFollowed, IsFollowed};
-ghost use Rattle.read_parts.specs.Members.{AreFollowed, AreNumberedTo};
+ghost use Rattle.read_follow.specs.{Following.AreTables, Found.Refuses, PartTypes.IsWholePart, Pieces.raw_piece, Pieces.IsWholePiece};
+ghost use Rattle.read_parts.specs.{Exported.raw_exported, Input.ArePartsFollowed, Input.IsFollowed};
+ghost use Rattle.read_parts.specs.{Followed.labelled_scope, Followed.scopes_in, Followed.scopes_of, Members.AreFollowed, Members.AreNumberedTo};
 
 use crate::exported::{ExportedPart, exported_parts};
 use crate::members::{Member, follow_part};

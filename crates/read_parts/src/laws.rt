@@ -1,7 +1,6 @@
 //! Laws over definitions alone.
 
-ghost use Rattle.read_parts.specs.Counts.{PartsFit};
-ghost use Rattle.read_parts.specs.Followed.{PackageByScopes, WorldByScopes};
+ghost use Rattle.read_parts.specs.{Counts.PartsFit, Followed.PackageByScopes, Followed.WorldByScopes};
 
 /// What the sections of a component mean, as a package and as one world, is what the rules of reading make of what is followed.
 pub fn meaning_by_scopes()

@@ -2,12 +2,8 @@
 
 ghost use Rattle.std.specs.Prelude.{◌≡◌, ◌≤◌, ◌+◌, ◌&&◌, is_none, length, option_map, IfErr, IfOk};
 ghost use Rattle.wit_model.specs.Text.{text_of};
-ghost use Rattle.read_follow.specs.ExternNames.{raw_name};
-ghost use Rattle.read_follow.specs.Following.{AreTables};
-ghost use Rattle.read_follow.specs.Found.{Gives, Refuses};
-ghost use Rattle.read_follow.specs.PartTypes.{raw_part_type, IsWholePart};
-ghost use Rattle.read_parts.specs.Followed.{part_scope, world_path as world_path_lem};
-ghost use Rattle.read_parts.specs.Members.{IsPartFollowed};
+ghost use Rattle.read_follow.specs.{ExternNames.raw_name, Following.AreTables, Found.Gives, Found.Refuses, PartTypes.raw_part_type, PartTypes.IsWholePart};
+ghost use Rattle.read_parts.specs.{Followed.part_scope, Followed.world_path as world_path_lem, Members.IsPartFollowed};
 
 use crate::offsets::in_front;
 use read_follow::{

@@ -2,14 +2,11 @@
 
 ghost use Rattle.std.specs.List.{AllByRecursion, list_any};
 ghost use Rattle.std.specs.Prelude.{◌≡◌, ◌==◌, false, map, slice_get, IfErr, IfOk, IsOkUnless, OnOk, Some};
-ghost use Rattle.comp_meaning.specs.ByLevels.{top_export, top_part, top_piece};
-ghost use Rattle.comp_meaning.specs.Reads.{is_bare as is_bare_lem, steps};
-ghost use Rattle.read_follow.specs.ExternNames.{raw_name};
-ghost use Rattle.read_follow.specs.Found.{Gives, Refuses};
-ghost use Rattle.read_follow.specs.PartTypes.{raw_part_type, IsWholePart};
-ghost use Rattle.read_follow.specs.Pieces.{raw_export, raw_piece, IsWholePiece};
-ghost use Rattle.read_follow.specs.declared.refusal.Refusal.TheVariants as refusals;
+ghost use Rattle.comp_meaning.specs.{ByLevels.top_export, ByLevels.top_part, ByLevels.top_piece, Reads.is_bare as is_bare_lem, Reads.steps};
+ghost use Rattle.read_follow.specs.{ExternNames.raw_name, Found.Gives, Found.Refuses};
+ghost use Rattle.read_follow.specs.{PartTypes.raw_part_type, PartTypes.IsWholePart, Pieces.raw_export, Pieces.raw_piece, Pieces.IsWholePiece};
 ghost use Rattle.read_parts.specs.Tops.{empty_top, may_export as may_export_lem, number_found, top_of, AreTops, IsExportAdded};
+ghost use Rattle.read_follow.specs.declared.refusal.Refusal.TheVariants as refusals;
 
 use crate::offsets::in_front;
 use distinct_names::Named;

@@ -1,7 +1,6 @@
 -- A walk that ends at the first item that doesn't pass.
 use Rattle.std.proofs.Common.{◌≡◌, sym, ap, ◌∙◌, ℕ, ◌+◌, ◌<◌, ◌≤◌, Bool, true, false, ◌&&◌, List, drop, length, get_or}
-use Rattle.std.proofs.Math.ListN.{drop_of_length-le}
-use Rattle.std.proofs.lemmas.List.{drop_more}
+use Rattle.std.proofs.{Math.ListN.drop_of_length-le, lemmas.List.drop_more}
 use Rattle.std.specs.List.{list_all}
 
 module _ {A : Type 0} (P : A → Bool) (xs : List A) (i : ℕ) {v : Bool} (kept : list_all P (drop i xs) ≡ v) where

@@ -1,13 +1,9 @@
 -- Functions that belong to one of several resources: the name says which.
 use Rattle.std.proofs.Common.{◌≡◌, refl, sym, ap, ◌∙◌, ℕ, Bool, true, false, not, ◌&&◌, ◌||◌, List, [], Some, None, codes}
-use Rattle.std.specs.List.{list_any}
-use Rattle.std.specs.Option.{option_map_or}
-use Rattle.wit_model.specs.Text.{Text, text_eq}
-use Rattle.wit_model.specs.Names.{constructor_name, method_name, static_name}
-use Rattle.wit_model.specs.Rules.{after_prefix}
+use Rattle.std.specs.{List.list_any, Option.option_map_or}
+use Rattle.wit_model.specs.{Text.Text, Text.text_eq, Names.constructor_name, Names.method_name, Names.static_name, Rules.after_prefix}
 use Rattle.comp_meaning.specs.Rules.{is_label_behind}
-use Rattle.plan_meaning.specs.NumberedRules.{begins_with_self, constructs, is_function_of}
-use Rattle.plan_meaning.specs.NumberedViews.{FunctionShape}
+use Rattle.plan_meaning.specs.{NumberedRules.begins_with_self, NumberedRules.constructs, NumberedRules.is_function_of, NumberedViews.FunctionShape}
 use Rattle.read_rules.specs.declared.tables.Tables.{Tables}
 use Rattle.read_rules.specs.FunctionNames.{constructs_one, is_member_of_one, is_method_of_one, is_static_of_one}
 use Rattle.read_rules.specs.Tables.{known_in, numbered_tables}

@@ -1,21 +1,14 @@
 -- What the rules on interfaces come to, function by function and name by name.
 use Rattle.std.proofs.Common.{◌≡◌, refl, sym, ap, ◌∙◌, ℕ, Bool, true, false, ◌&&◌, ◌||◌, List, [], ◌∷◌, ◌++◌, map, Result, Ok, Err, IfOk}
-use Rattle.std.specs.Borrow.{Bor}
-use Rattle.std.specs.List.{list_all}
 use Rattle.std.proofs.lemmas.List.{map-append}
-use Rattle.wit_model.specs.Text.{Text}
-use Rattle.wit_model.specs.Names.{is_label}
+use Rattle.std.specs.{Borrow.Bor, List.list_all}
+use Rattle.wit_model.specs.{Text.Text, Names.is_label}
 use Rattle.comp_meaning.specs.Rules.{distinct}
 use Rattle.plan_meaning.specs.NumberedRules.{is_function, is_function_of, is_interface, is_signature, is_type, resources_of}
 use Rattle.plan_meaning.specs.NumberedViews.{FunctionShape, NumberedFunction, NumberedView, function_at}
-use Rattle.read_rules.specs.declared.tables.FunctionType.{FunctionType}
-use Rattle.read_rules.specs.declared.tables.Tables.{Tables}
-use Rattle.read_rules.specs.declared.views.ViewFunction.{ViewFunction}
-use Rattle.read_rules.specs.declared.views.ViewType.{ViewType}
-use Rattle.read_rules.specs.Interfaces.{are_functions, have_one_name_each}
-use Rattle.read_rules.specs.Resources.{AreSame}
-use Rattle.read_rules.specs.Tables.{known_in, now_of, numbered_function_type, numbered_tables}
-use Rattle.read_rules.specs.Views.{numbered_function, numbered_type}
+use Rattle.read_rules.specs.declared.{tables.FunctionType.FunctionType, tables.Tables.Tables, views.ViewFunction.ViewFunction, views.ViewType.ViewType}
+use Rattle.read_rules.specs.{Interfaces.are_functions, Interfaces.have_one_name_each, Views.numbered_function, Views.numbered_type}
+use Rattle.read_rules.specs.{Resources.AreSame, Tables.known_in, Tables.now_of, Tables.numbered_function_type, Tables.numbered_tables}
 
 module _ (t : Tables) (p : ℕ) where
   pub stands_as : (rs : List Text) (name : Text) (signature : ℕ) (shape : FunctionType) → numbered_function_type shape ≡ function_at (numbered_tables t) signature

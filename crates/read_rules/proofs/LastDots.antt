@@ -1,10 +1,7 @@
 -- The last dot of a text.
 use Rattle.std.proofs.Common.{◌≡◌, refl, sym, ap, ◌∙◌, ℕ, suc, ◌+◌, ◌≤◌, ◌<◌, arith, true, not, ◌&&◌, ◌==◌, List, [], ◌∷◌, ◌++◌, length, take, drop, get_or, Option, Some, None, MatchOption, Bor, take-append-drop, ne_eqb, lit<}
-use Rattle.std.specs.List.{list_all}
-use Rattle.std.specs.Str.Pattern.{RFindsChar}
-use Rattle.std.proofs.lemmas.List.{drop_more}
-use Rattle.std.proofs.lemmas.Str.{len_utf8_ascii}
-use Rattle.std.proofs.lemmas.Str.Pattern.{NoCharPasses-char}
+use Rattle.std.proofs.lemmas.{List.drop_more, Str.len_utf8_ascii, Str.Pattern.NoCharPasses-char}
+use Rattle.std.specs.{List.list_all, Str.Pattern.RFindsChar}
 use Rattle.read_rules.specs.FunctionNames.{IsLastCut}
 
 lacks : (xs : List ℕ) → ((i : ℕ) → i < length xs → get_or xs i 0 ≡ 46 → ⊥) → list_all (λ b. not (b == 46)) xs ≡ true

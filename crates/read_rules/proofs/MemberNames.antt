@@ -1,20 +1,11 @@
 -- The names of functions of resources, cut at their last dot: a label has none.
 use Rattle.std.proofs.Common.{◌≡◌, refl, sym, ap, subst, ◌∙◌, Bool, true, false, not, ◌&&◌, ◌==◌, cond, [], ◌∷◌, ◌++◌, length, take, drop, Option, Some, None, option_and_then, append_assoc}
-use Rattle.std.specs.List.{list_all}
-use Rattle.std.specs.Option.{option_map_or}
-use Rattle.std.specs.Cmp.Lexicographic.{pointwise}
-use Rattle.std.specs.Prelude.{nat_eq}
-use Rattle.std.proofs.lemmas.Slice.Eq.{bytes_eq-Decides}
-use Rattle.wit_model.specs.Text.{Text, text_eq}
-use Rattle.wit_model.specs.Names.{is_label}
-use Rattle.wit_model.specs.Rules.{after_prefix}
-use Rattle.wit_model.proofs.NameLaws.{label_lacks}
+use Rattle.std.proofs.lemmas.{Slice.Eq.bytes_eq-Decides, Bool.and_from as both_true}
+use Rattle.std.specs.{List.list_all, Option.option_map_or, Cmp.Lexicographic.pointwise, Prelude.nat_eq}
+use Rattle.wit_model.specs.{Text.Text, Text.text_eq, Names.is_label, Rules.after_prefix}
+use Rattle.wit_model.proofs.{NameLaws.label_lacks, PathParts.after-itself as prefix_on, Prefixes.after_sound as prefix_back, RulesLemmas.after_both}
 use Rattle.comp_meaning.specs.Rules.{is_label_behind}
 use Rattle.base_lemmas.proofs.Bools.{both_ways as either_way, left_of as first_true, right_of as second_true}
-use Rattle.std.proofs.lemmas.Bool.{and_from as both_true}
-use Rattle.wit_model.proofs.PathParts.{after-itself as prefix_on}
-use Rattle.wit_model.proofs.Prefixes.{after_sound as prefix_back}
-use Rattle.wit_model.proofs.RulesLemmas.{after_both}
 
 -- ---- what stands after a prefix
 

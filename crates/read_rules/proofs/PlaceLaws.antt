@@ -1,6 +1,6 @@
 -- Numbers, none of which stands twice.
 use Rattle.std.proofs.Common.{◌≡◌, refl, sym, ap, ◌∙◌, ℕ, ◌+◌, ◌<◌, ◌≤◌, Bool, true, false, not, ◌&&◌, ◌||◌, ◌==◌, cond, List, [], ◌∷◌, ◌++◌, map, drop, length, get_or}
-use Rattle.std.proofs.lemmas.List.Folds.{list_any-append}
+use Rattle.std.proofs.lemmas.{List.Folds.list_any-append, List.get_or_default as same_default}
 use Rattle.std.specs.List.{list_all, list_any}
 use Rattle.wit_model.specs.Uses.{has}
 use Rattle.wit_model.proofs.Distinct.{adds_new, adds_apart, are_apart, new_turn, old_turn, last_turn}
@@ -8,7 +8,6 @@ use Rattle.plan_meaning.specs.NumberedViews.{Tables}
 use Rattle.plan_meaning.specs.NumberedWorlds.{NumberedSeen, are_once, path_seen, stand_earlier, uses_of}
 use Rattle.read_rules.specs.Places.{places_of}
 use Rattle.base_lemmas.proofs.Numbers.{turned as same_flip}
-use Rattle.std.proofs.lemmas.List.{get_or_default as same_default}
 
 pub any_flip : (n : ℕ) (ns : List ℕ) → list_any (λ m. n == m) ns ≡ has ns n
 any_flip n ns = ap (λ (f : ℕ → Bool). list_any f ns) (λ i m. same_flip n m i)

@@ -1,18 +1,13 @@
 -- Imports that are reached, from the last one back.
 use Rattle.std.proofs.Common.{◌≡◌, refl, sym, ap, ◌∙◌, ℕ, zero, suc, ◌+◌, ◌<◌, ◌≤◌, arith, Bool, true, false, ◌&&◌, ◌||◌, ◌==◌, List, [], ◌∷◌, ◌++◌, map, drop, length, get_or, Option, option_to_list, Result, Ok, Err, IfOk}
-use Rattle.std.proofs.Math.ListN.{drop_of_length-le}
-use Rattle.std.proofs.lemmas.List.{drop_more}
-use Rattle.std.proofs.lemmas.List.Folds.{list_any-append}
+use Rattle.std.proofs.{Math.ListN.drop_of_length-le, lemmas.List.drop_more, lemmas.List.Folds.list_any-append, lemmas.Bool.and_right as second_fails}
 use Rattle.std.specs.List.{flat_map}
 use Rattle.wit_model.specs.Uses.{has}
 use Rattle.plan_meaning.specs.NumberedViews.{NumberedView, Tables}
 use Rattle.plan_meaning.specs.NumberedWorlds.{are_reached, used_by, used_by_view}
-use Rattle.read_rules.specs.declared.reached.ImportedView.{ImportedView}
-use Rattle.read_rules.specs.declared.views.ViewType.{ViewType}
-use Rattle.read_rules.specs.Reached.{numbered_import, used_by_types}
-use Rattle.read_rules.specs.Views.{numbered_type}
+use Rattle.read_rules.specs.declared.{reached.ImportedView.ImportedView, views.ViewType.ViewType}
+use Rattle.read_rules.specs.{Reached.numbered_import, Reached.used_by_types, Views.numbered_type}
 use Rattle.base_lemmas.proofs.Bools.{or_false, or_line}
-use Rattle.std.proofs.lemmas.Bool.{and_right as second_fails}
 
 has_append : (xs ys : List ℕ) (n : ℕ) → has (xs ++ ys) n ≡ (has xs n || has ys n)
 has_append xs ys n = list_any-append (λ m. m == n) xs ys

@@ -1,7 +1,6 @@
 -- Views that are added one by one.
 use Rattle.std.proofs.Common.{◌≡◌, refl, sym, ap, ◌∙◌, ℕ, ◌+◌, ◌<◌, ◌≤◌, List, [], ◌∷◌, ◌++◌, drop, length, get_or}
-use Rattle.std.proofs.Math.ListN.{drop_of_length-le}
-use Rattle.std.proofs.lemmas.List.{drop_more}
+use Rattle.std.proofs.{Math.ListN.drop_of_length-le, lemmas.List.drop_more}
 use Rattle.std.specs.List.{flat_map}
 use Rattle.base_lemmas.proofs.Lists.{append_none}
 

@@ -1,10 +1,8 @@
 -- Tests of one text among several, and the names of parameters.
 use Rattle.std.proofs.Common.{◌≡◌, refl, sym, ap, ◌∙◌, subst, ℕ, Bool, true, false, ◌&&◌, ◌||◌, List, [], ◌∷◌, map, Result, IfOk}
 use Rattle.std.proofs.lemmas.List.Folds.{list_all-map}
-use Rattle.std.specs.Borrow.{Bor}
-use Rattle.std.specs.List.{list_all, list_any}
-use Rattle.wit_model.specs.Names.{is_label}
-use Rattle.wit_model.specs.Text.{Text, text_eq}
+use Rattle.std.specs.{Borrow.Bor, List.list_all, List.list_any}
+use Rattle.wit_model.specs.{Names.is_label, Text.Text, Text.text_eq}
 use Rattle.comp_meaning.specs.Rules.{are_labels, distinct}
 use Rattle.distinct_names.proofs.NameLaws.{labels_good}
 use Rattle.read_rules.specs.Tables.{param_of}

@@ -1,39 +1,21 @@
 -- Imports and exports of a world, one by one, and what stands earlier.
 use Rattle.std.proofs.Common.{◌≡◌, refl, sym, ap, ◌∙◌, subst, ℕ, ◌+◌, ◌<◌, ◌≤◌, Bool, true, false, ◌&&◌, ◌||◌, ◌==◌, cond, List, [], ◌∷◌, ◌++◌, map, drop, take, length, get_or, Option, Some, None, is_some, option_to_list, Result, Ok, Err, IfOk}
 use Rattle.std.proofs.Math.ListN.{drop_of_length-le}
-use Rattle.std.proofs.lemmas.List.{append-nil, drop_more, map-append, take_more}
-use Rattle.std.proofs.lemmas.List.Folds.{list_all-append}
-use Rattle.std.specs.Borrow.{Bor}
-use Rattle.std.specs.List.{flat_map, list_all, list_any}
-use Rattle.std.specs.Option.{option_map_or}
-use Rattle.wit_model.specs.Text.{Text}
-use Rattle.wit_model.specs.Uses.{has}
+use Rattle.std.proofs.lemmas.{List.append-nil, List.drop_more, List.map-append, List.take_more, List.Folds.list_all-append}
+use Rattle.std.specs.{Borrow.Bor, List.flat_map, List.list_all, List.list_any, Option.option_map_or}
+use Rattle.wit_model.specs.{Text.Text, Uses.has, Names.is_label}
 use Rattle.comp_meaning.specs.Rules.{distinct}
-use Rattle.wit_model.specs.Names.{is_label}
-use Rattle.plan_meaning.specs.NumberedRules.{is_declared, is_function, is_interface}
-use Rattle.plan_meaning.specs.NumberedViews as views
-use Rattle.plan_meaning.specs.NumberedViews.{function_at}
+use Rattle.plan_meaning.specs.{NumberedRules.is_declared, NumberedRules.is_function, NumberedRules.is_interface, NumberedViews.function_at}
 use Rattle.plan_meaning.specs.NumberedWorlds.{NumberedSeen, NumberedShown, instance, function, declares, are_imports, is_item, is_resource_seen, others_than, path_seen, place_of_key, resources_seen, stand_earlier, used_by, uses_of}
-use Rattle.read_rules.specs.declared.scopes.Seen.{Seen}
-use Rattle.read_rules.specs.declared.tables.Tables.{Tables}
-use Rattle.read_rules.specs.declared.views.ViewType.{ViewType}
-use Rattle.read_rules.specs.declared.scopes.InstanceKey.{InstanceKey}
-use Rattle.read_rules.specs.declared.scopes.Shown.{Shown}
+use Rattle.read_rules.specs.declared.{scopes.Seen.Seen, scopes.Shown.Shown, views.View.View}
+use Rattle.read_rules.specs.declared.{tables.Tables.Tables, views.ViewType.ViewType, scopes.InstanceKey.InstanceKey, tables.FunctionType.FunctionType}
+use Rattle.read_rules.specs.{Places.places_of, Resources.AreSame, Uses.IsPlaceAdded, Uses.item_stands}
+use Rattle.read_rules.specs.{Scopes.numbered_key, Scopes.numbered_seen, Scopes.numbered_shown, Worlds.IsAdded, Worlds.may_be_exported, Worlds.may_be_imported}
+use Rattle.read_rules.specs.{Tables.known_in, Tables.now_of, Tables.numbered_function_type, Tables.numbered_tables, Views.numbered_type, Views.numbered_view}
+use Rattle.read_rules.proofs.{InterfaceLaws.same_function, PlaceLaws.same_before, PlaceLaws.stands_earlier, ResourceLaws.one_or_none}
+use Rattle.base_lemmas.proofs.{Bools.and-true as and_true, Bools.or_false, Bools.or_line, Lists.map_of_map}
+use Rattle.plan_meaning.specs.NumberedViews as views
 use Rattle.read_rules.specs.declared.scopes.Shown.TheVariants as variants
-use Rattle.read_rules.specs.declared.tables.FunctionType.{FunctionType}
-use Rattle.read_rules.specs.declared.views.View.{View}
-use Rattle.read_rules.specs.Places.{places_of}
-use Rattle.read_rules.specs.Resources.{AreSame}
-use Rattle.read_rules.specs.Scopes.{numbered_key, numbered_seen, numbered_shown}
-use Rattle.read_rules.specs.Tables.{known_in, now_of, numbered_function_type, numbered_tables}
-use Rattle.read_rules.specs.Uses.{IsPlaceAdded, item_stands}
-use Rattle.read_rules.specs.Views.{numbered_type, numbered_view}
-use Rattle.read_rules.specs.Worlds.{IsAdded, may_be_exported, may_be_imported}
-use Rattle.read_rules.proofs.InterfaceLaws.{same_function}
-use Rattle.read_rules.proofs.PlaceLaws.{same_before, stands_earlier}
-use Rattle.read_rules.proofs.ResourceLaws.{one_or_none}
-use Rattle.base_lemmas.proofs.Bools.{and-true as and_true, or_false, or_line}
-use Rattle.base_lemmas.proofs.Lists.{map_of_map}
 
 -- ---- resources that were seen
 

@@ -1,12 +1,9 @@
 -- Functions that belong to one of several resources, kind by kind (WIT.md, "Resources").
 use Rattle.std.specs.Prelude.{◌≡◌, ℕ, Bool, true, false, not, ◌&&◌, ◌||◌, ◌==◌, List, [], ◌∷◌, ◌++◌, Option, Some, None}
-use Rattle.std.specs.Borrow.{Bor}
-use Rattle.std.specs.List.{list_all, list_any}
-use Rattle.wit_model.specs.Text.{Text, text_eq}
-use Rattle.wit_model.specs.Names.{constructor_name, method_name, static_name}
+use Rattle.std.specs.{Borrow.Bor, List.list_all, List.list_any}
+use Rattle.wit_model.specs.{Text.Text, Text.text_eq, Names.constructor_name, Names.method_name, Names.static_name}
 use Rattle.comp_meaning.specs.Rules.{is_label_behind}
-use Rattle.plan_meaning.specs.NumberedRules.{begins_with_self, constructs, is_function}
-use Rattle.plan_meaning.specs.NumberedViews.{FunctionShape}
+use Rattle.plan_meaning.specs.{NumberedRules.begins_with_self, NumberedRules.constructs, NumberedRules.is_function, NumberedViews.FunctionShape}
 use Rattle.read_rules.specs.declared.tables.Tables.{Tables}
 use Rattle.read_rules.specs.Tables.{known_in, numbered_tables}
 

@@ -1,10 +1,8 @@
 -- The rules on the functions of an interface and on its names (WIT.md, "Interfaces").
-use Rattle.std.specs.Prelude.{ℕ, Bool, List, ◌++◌, map}
-use Rattle.std.specs.List.{list_all}
+use Rattle.std.specs.{Prelude.ℕ, Prelude.Bool, Prelude.List, Prelude.◌++◌, Prelude.map, List.list_all}
 use Rattle.wit_model.specs.Text.{Text}
 use Rattle.comp_meaning.specs.Rules.{distinct}
-use Rattle.plan_meaning.specs.NumberedRules.{is_function}
-use Rattle.plan_meaning.specs.NumberedViews.{NumberedFunction, NumberedView, function_at}
+use Rattle.plan_meaning.specs.{NumberedRules.is_function, NumberedViews.NumberedFunction, NumberedViews.NumberedView, NumberedViews.function_at}
 use Rattle.read_rules.specs.declared.tables.Tables.{Tables}
 use Rattle.read_rules.specs.Tables.{known_in, numbered_tables}
 

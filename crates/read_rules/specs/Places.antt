@@ -1,7 +1,6 @@
 -- Imports and exports, by the places that they use and the place that they stand for (WIT.md, "Worlds").
 use Rattle.std.specs.Prelude.{ℕ, List}
-use Rattle.plan_meaning.specs.NumberedViews.{Tables}
-use Rattle.plan_meaning.specs.NumberedWorlds.{NumberedSeen, path_seen, uses_of}
+use Rattle.plan_meaning.specs.{NumberedViews.Tables, NumberedWorlds.NumberedSeen, NumberedWorlds.path_seen, NumberedWorlds.uses_of}
 
 -- the places that an item uses, and those that it stands for
 abbrev pub places_of : Tables → NumberedSeen → List ℕ × List ℕ

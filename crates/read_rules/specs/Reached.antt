@@ -1,8 +1,6 @@
 -- The imports of an interface's component type, and what they use.
-use Rattle.std.specs.Prelude.{ℕ, List}
-use Rattle.std.specs.List.{flat_map}
-use Rattle.plan_meaning.specs.NumberedViews.{NumberedType, NumberedView, Tables}
-use Rattle.plan_meaning.specs.NumberedWorlds.{used_by}
+use Rattle.std.specs.{Prelude.ℕ, Prelude.List, List.flat_map}
+use Rattle.plan_meaning.specs.{NumberedViews.NumberedType, NumberedViews.NumberedView, NumberedViews.Tables, NumberedWorlds.used_by}
 use Rattle.read_rules.specs.declared.reached.ImportedView.{ImportedView}
 use Rattle.read_rules.specs.Views.{numbered_view}
 

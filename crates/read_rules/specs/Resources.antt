@@ -1,6 +1,5 @@
 -- Sets of texts, by the tests that one of them passes.
-use Rattle.std.specs.Prelude.{◌≡◌, Bool, List}
-use Rattle.std.specs.List.{list_any}
+use Rattle.std.specs.{Prelude.◌≡◌, Prelude.Bool, Prelude.List, List.list_any}
 use Rattle.wit_model.specs.Text.{Text}
 
 -- The same texts stand in both, in any order and however often.

@@ -1,16 +1,11 @@
 -- What is shown of component types, as the numbers and texts that it stands for.
 use Rattle.std.specs.Prelude.{map}
-use Rattle.plan_meaning.specs.NumberedWorlds as worlds
 use Rattle.plan_meaning.specs.NumberedWorlds.{NumberedInstance, NumberedKey, NumberedScope, NumberedSeen, NumberedShown}
-use Rattle.read_rules.specs.declared.scopes.Instance.{Instance}
-use Rattle.read_rules.specs.declared.scopes.InstanceKey.{InstanceKey}
+use Rattle.read_rules.specs.declared.scopes.{Instance.Instance, InstanceKey.InstanceKey, Scope.Scope, Seen.Seen, Shown.Shown}
+use Rattle.read_rules.specs.{Tables.given_text, Views.numbered_view}
+use Rattle.plan_meaning.specs.NumberedWorlds as worlds
 use Rattle.read_rules.specs.declared.scopes.InstanceKey.TheVariants as keys
-use Rattle.read_rules.specs.declared.scopes.Scope.{Scope}
-use Rattle.read_rules.specs.declared.scopes.Seen.{Seen}
-use Rattle.read_rules.specs.declared.scopes.Shown.{Shown}
 use Rattle.read_rules.specs.declared.scopes.Shown.TheVariants as shown
-use Rattle.read_rules.specs.Tables.{given_text}
-use Rattle.read_rules.specs.Views.{numbered_view}
 
 abbrev pub numbered_key : InstanceKey → NumberedKey
 numbered_key (keys.Path p) = worlds.path p

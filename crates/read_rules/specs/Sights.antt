@@ -1,15 +1,9 @@
 -- Views of interfaces by their places, as the numbers and texts that they stand for.
 use Rattle.std.specs.Prelude.{◌≡◌, ℕ, Bool, List, ◌++◌, map}
 use Rattle.std.specs.List.{flat_map}
-use Rattle.plan_meaning.specs.NumberedRules.{is_interface}
-use Rattle.plan_meaning.specs.NumberedWorlds.{sights_of_instance}
-use Rattle.plan_meaning.specs.NumberedViews.{NumberedSight, NumberedView}
-use Rattle.read_rules.specs.Scopes.{numbered_instance}
-use Rattle.read_rules.specs.declared.scopes.Instance.{Instance}
-use Rattle.read_rules.specs.declared.sights.Sight.{Sight}
-use Rattle.read_rules.specs.declared.tables.Tables.{Tables}
-use Rattle.read_rules.specs.Tables.{known_in, numbered_tables}
-use Rattle.read_rules.specs.Views.{numbered_view}
+use Rattle.plan_meaning.specs.{NumberedRules.is_interface, NumberedWorlds.sights_of_instance, NumberedViews.NumberedSight, NumberedViews.NumberedView}
+use Rattle.read_rules.specs.{Scopes.numbered_instance, Tables.known_in, Tables.numbered_tables, Views.numbered_view}
+use Rattle.read_rules.specs.declared.{scopes.Instance.Instance, sights.Sight.Sight, tables.Tables.Tables}
 
 abbrev pub numbered_sight : Sight → NumberedSight
 numbered_sight s = record { place = s.place; view = numbered_view s.view; whole = s.whole }

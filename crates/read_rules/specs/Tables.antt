@@ -2,17 +2,12 @@
 use Rattle.std.specs.Prelude.{ℕ, ◌-◌, Bool, true, nat_lt, if◌then◌else◌, List, map, option_map, Option, slice_get, unwrap_or}
 use Rattle.std.specs.Borrow.{Bor}
 use Rattle.wit_model.specs.Text.{Text}
-use Rattle.plan_meaning.specs.NumberedRules as rules
-use Rattle.plan_meaning.specs.NumberedRules.{Standing, nowhere, in_place, in_several}
-use Rattle.plan_meaning.specs.NumberedViews as views
-use Rattle.plan_meaning.specs.NumberedViews.{FunctionShape}
+use Rattle.plan_meaning.specs.{NumberedRules.Standing, NumberedRules.nowhere, NumberedRules.in_place, NumberedRules.in_several, NumberedViews.FunctionShape}
 use Rattle.plan_meaning.specs.Shapes.{Shape}
-use Rattle.read_rules.specs.declared.tables.Fact.{Fact}
-use Rattle.read_rules.specs.declared.tables.FunctionType.{FunctionType}
-use Rattle.read_rules.specs.declared.tables.Names.{Names}
+use Rattle.read_rules.specs.declared.tables.{Fact.Fact, FunctionType.FunctionType, Names.Names, Tables.Tables, TypeShape.TypeShape}
+use Rattle.plan_meaning.specs.NumberedRules as rules
+use Rattle.plan_meaning.specs.NumberedViews as views
 use Rattle.read_rules.specs.declared.tables.Names.TheVariants as names
-use Rattle.read_rules.specs.declared.tables.Tables.{Tables}
-use Rattle.read_rules.specs.declared.tables.TypeShape.{TypeShape}
 
 -- a text, without where it lies in memory
 abbrev pub now_of : Bor (List ℕ) → Text

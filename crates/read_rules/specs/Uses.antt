@@ -1,9 +1,7 @@
 -- Whether what an import or an export uses stands earlier (WIT.md, "Worlds").
-use Rattle.std.specs.Prelude.{◌≡◌, ◌++◌, ℕ, Bool, List}
-use Rattle.std.specs.List.{list_all}
+use Rattle.std.specs.{Prelude.◌≡◌, Prelude.◌++◌, Prelude.ℕ, Prelude.Bool, Prelude.List, List.list_all}
 use Rattle.wit_model.specs.Uses.{has}
-use Rattle.plan_meaning.specs.NumberedViews.{Tables}
-use Rattle.plan_meaning.specs.NumberedWorlds.{NumberedSeen, path_seen, uses_of}
+use Rattle.plan_meaning.specs.{NumberedViews.Tables, NumberedWorlds.NumberedSeen, NumberedWorlds.path_seen, NumberedWorlds.uses_of}
 
 abbrev pub item_stands : Tables → List ℕ → NumberedSeen → Bool
 item_stands t earlier s = list_all (has earlier) (uses_of t s.shown)

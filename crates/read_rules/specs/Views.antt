@@ -2,12 +2,9 @@
 use Rattle.std.specs.Prelude.{map}
 use Rattle.wit_model.specs.Text.{Text}
 use Rattle.plan_meaning.specs.NumberedViews.{NumberedFunction, NumberedSlot, NumberedType, NumberedView, resource, value}
-use Rattle.read_rules.specs.declared.views.TypeSlot.{TypeSlot}
-use Rattle.read_rules.specs.declared.views.TypeSlot.TheVariants as slots
-use Rattle.read_rules.specs.declared.views.View.{View}
-use Rattle.read_rules.specs.declared.views.ViewFunction.{ViewFunction}
-use Rattle.read_rules.specs.declared.views.ViewType.{ViewType}
+use Rattle.read_rules.specs.declared.views.{TypeSlot.TypeSlot, View.View, ViewFunction.ViewFunction, ViewType.ViewType}
 use Rattle.read_rules.specs.Tables.{given_text}
+use Rattle.read_rules.specs.declared.views.TypeSlot.TheVariants as slots
 
 abbrev pub numbered_slot : TypeSlot → NumberedSlot
 numbered_slot (slots.Value k) = value k

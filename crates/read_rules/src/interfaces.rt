@@ -1,11 +1,9 @@
 //! The rules of reading on interfaces.
 
-ghost use Rattle.std.specs.Prelude.{◌≡◌, ◌++◌, map, IfOk};
-ghost use Rattle.std.specs.List.{list_all};
+ghost use Rattle.std.specs.{Prelude.◌≡◌, Prelude.◌++◌, Prelude.map, Prelude.IfOk, List.list_all};
 ghost use Rattle.plan_meaning.specs.NumberedRules.{is_interface as is_interface_lem, is_type as is_type_lem};
 ghost use Rattle.read_rules.specs.Interfaces.{are_functions as are_functions_lem, have_one_name_each as have_one_name_each_lem, may_stand as may_stand_lem};
-ghost use Rattle.read_rules.specs.Tables.{known_in, now_of, numbered_tables};
-ghost use Rattle.read_rules.specs.Views.{numbered_function, numbered_type, numbered_view};
+ghost use Rattle.read_rules.specs.{Tables.known_in, Tables.now_of, Tables.numbered_tables, Views.numbered_function, Views.numbered_type, Views.numbered_view};
 
 use crate::functions::is_function;
 use crate::parts::is_declared;

@@ -5,8 +5,7 @@ ghost use Rattle.wit_model.specs.Names.{is_label as is_label_lem};
 ghost use Rattle.comp_meaning.specs.Rules.{distinct};
 ghost use Rattle.plan_meaning.specs.NumberedRules.{is_declared as is_declared_lem};
 ghost use Rattle.plan_meaning.specs.NumberedWorlds.{are_imports as are_imports_lem, is_item as is_item_lem};
-ghost use Rattle.read_rules.specs.Scopes.{numbered_seen, numbered_shown};
-ghost use Rattle.read_rules.specs.Tables.{known_in, now_of, numbered_tables};
+ghost use Rattle.read_rules.specs.{Scopes.numbered_seen, Scopes.numbered_shown, Tables.known_in, Tables.now_of, Tables.numbered_tables};
 ghost use Rattle.read_rules.specs.Worlds.{are_exports as are_exports_lem, may_be_exported as may_be_exported_lem, may_be_imported as may_be_imported_lem, IsAdded};
 
 use crate::functions::is_function;

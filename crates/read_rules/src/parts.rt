@@ -1,7 +1,6 @@
 //! The rules of reading on types as parts, on what a name may be declared as, and on the types of functions.
 
-ghost use Rattle.std.specs.Prelude.{◌≡◌, map, IfOk};
-ghost use Rattle.std.specs.List.{list_all};
+ghost use Rattle.std.specs.{Prelude.◌≡◌, Prelude.map, Prelude.IfOk, List.list_all};
 ghost use Rattle.wit_model.specs.Names.{is_label as is_label_lem};
 ghost use Rattle.comp_meaning.specs.Rules.{are_labels as are_labels_lem};
 ghost use Rattle.plan_meaning.specs.NumberedRules.{

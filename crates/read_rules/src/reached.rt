@@ -3,9 +3,7 @@
 ghost use Rattle.std.specs.Prelude.{◌≡◌, ◌++◌, ◌||◌, ℕ, map, IfOk};
 ghost use Rattle.wit_model.specs.Uses.{has};
 ghost use Rattle.plan_meaning.specs.NumberedWorlds.{are_reached as are_reached_lem, used_by as used_by_lem};
-ghost use Rattle.read_rules.specs.Reached.{numbered_import, used_by_types};
-ghost use Rattle.read_rules.specs.Tables.{numbered_tables};
-ghost use Rattle.read_rules.specs.Views.{numbered_type, numbered_view};
+ghost use Rattle.read_rules.specs.{Reached.numbered_import, Reached.used_by_types, Tables.numbered_tables, Views.numbered_type, Views.numbered_view};
 
 use crate::places::add_given;
 use crate::tables::Tables;

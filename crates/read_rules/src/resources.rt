@@ -4,9 +4,7 @@ ghost use Rattle.std.specs.Prelude.{◌≡◌, ◌&&◌, ◌||◌, Bool, map, If
 ghost use Rattle.std.specs.List.{list_any};
 ghost use Rattle.wit_model.specs.Text.{Text};
 ghost use Rattle.plan_meaning.specs.NumberedRules.{is_no_part, resources_of as resources_of_lem};
-ghost use Rattle.read_rules.specs.Resources.{AreSame};
-ghost use Rattle.read_rules.specs.Tables.{now_of};
-ghost use Rattle.read_rules.specs.Views.{numbered_type};
+ghost use Rattle.read_rules.specs.{Resources.AreSame, Tables.now_of, Views.numbered_type};
 
 use crate::views::ViewType;
 use indexmap::IndexSet;

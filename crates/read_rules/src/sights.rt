@@ -3,9 +3,8 @@
 ghost use Rattle.std.specs.Prelude.{◌≡◌, map, IfOk};
 ghost use Rattle.plan_meaning.specs.NumberedMembers.{are_interfaces as are_interfaces_lem};
 ghost use Rattle.plan_meaning.specs.NumberedWorlds.{sights_of_instance, sights_of_scope as sights_of_scope_lem};
-ghost use Rattle.read_rules.specs.Scopes.{numbered_instance, numbered_scope};
+ghost use Rattle.read_rules.specs.{Scopes.numbered_instance, Scopes.numbered_scope, Tables.known_in, Tables.numbered_tables};
 ghost use Rattle.read_rules.specs.Sights.{numbered_sight, shows_interface as shows_interface_lem, sights_of_all, AreBehind};
-ghost use Rattle.read_rules.specs.Tables.{known_in, numbered_tables};
 
 use crate::interfaces::is_interface;
 use crate::scopes::{Instance, Scope};

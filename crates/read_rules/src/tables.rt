@@ -2,8 +2,7 @@
 
 ghost use Rattle.std.specs.Prelude.{◌≡◌, map, option_map, is_some};
 ghost use Rattle.plan_meaning.specs.NumberedRules.{name_at as name_at_lem, name_in as name_in_lem, shape_at as shape_at_lem};
-ghost use Rattle.plan_meaning.specs.NumberedViews.{function_at as function_at_lem, path_at};
-ghost use Rattle.plan_meaning.specs.Shapes.{first_label as first_label_lem};
+ghost use Rattle.plan_meaning.specs.{NumberedViews.function_at as function_at_lem, NumberedViews.path_at, Shapes.first_label as first_label_lem};
 ghost use Rattle.read_rules.specs.Tables.{kept_fact, label_of, name_of, numbered_function_type, numbered_shape, numbered_tables};
 
 /// What a type is, over the numbers of its parts. Texts are parts of the input.

@@ -2,9 +2,7 @@
 
 ghost use Rattle.std.specs.Prelude.{◌≡◌, ◌∷◌, [], map, option_map};
 ghost use Rattle.plan_meaning.specs.NumberedMembers.{exported_view as exported_view_lem, imported_view as imported_view_lem};
-ghost use Rattle.read_rules.specs.Reached.{numbered_import};
-ghost use Rattle.read_rules.specs.Scopes.{numbered_seen};
-ghost use Rattle.read_rules.specs.Sights.{placed_view};
+ghost use Rattle.read_rules.specs.{Reached.numbered_import, Scopes.numbered_seen, Sights.placed_view};
 
 use crate::reached::ImportedView;
 use crate::scopes::{Instance, InstanceKey, Seen, Shown};

@@ -11,9 +11,7 @@ ghost use Rattle.plan_meaning.specs.NumberedWorlds.{
   uses_of,
   NumberedSeen,
 };
-ghost use Rattle.read_rules.specs.Scopes.{numbered_seen, numbered_shown};
-ghost use Rattle.read_rules.specs.Tables.{numbered_tables};
-ghost use Rattle.read_rules.specs.Uses.{item_stands as item_stands_lem, IsPlaceAdded};
+ghost use Rattle.read_rules.specs.{Scopes.numbered_seen, Scopes.numbered_shown, Tables.numbered_tables, Uses.item_stands as item_stands_lem, Uses.IsPlaceAdded};
 
 use crate::places::add_given;
 use crate::scopes::{Seen, Shown, place_of, place_seen};

@@ -2,8 +2,7 @@
 
 ghost use Rattle.std.specs.Prelude.{◌≡◌, IfOk};
 ghost use Rattle.plan_meaning.specs.NumberedWorlds.{is_world as is_world_lem};
-ghost use Rattle.read_rules.specs.Scopes.{numbered_scope};
-ghost use Rattle.read_rules.specs.Tables.{known_in, numbered_tables};
+ghost use Rattle.read_rules.specs.{Scopes.numbered_scope, Tables.known_in, Tables.numbered_tables};
 
 use crate::items::{are_exports, are_imports, have_one_key_each};
 use crate::scopes::Scope;

@@ -1,25 +1,18 @@
 -- Views of one path declare the same under the same names, none of which stands twice.
 use Rattle.std.proofs.Common.{◌≡◌, ◌⊎◌, inl, inr, refl, sym, ap, subst, ◌∙◌, ℕ, zero, suc, Bool, true, false, not, ◌&&◌, ◌||◌, List, [], ◌∷◌, ◌++◌, map, length, flat_map, Option, Some, None, slice_get}
-use Rattle.std.specs.List.{Contains, list_all, list_any}
-use Rattle.std.specs.Cmp.Lexicographic.{pointwise}
 use Rattle.std.proofs.lemmas.List.Elements.{Contains-append_left, Contains-append_right}
-use Rattle.wit_model.specs.Text.{Text, text_eq}
-use Rattle.wit_model.specs.Names.{PackageIdentity, path_in, is_label}
-use Rattle.wit_model.specs.Meaning.{FunctionMeaning, TypeMeaning}
+use Rattle.std.specs.{List.Contains, List.list_all, List.list_any, Cmp.Lexicographic.pointwise}
+use Rattle.wit_model.specs.{Text.Text, Text.text_eq, Names.PackageIdentity, Names.path_in, Names.is_label, Meaning.FunctionMeaning, Meaning.TypeMeaning}
 use Rattle.wit_model.specs.Tree.{Place}
-use Rattle.wit_model.proofs.Elements.{contains-flat, contains-get}
-use Rattle.wit_model.proofs.VersionLaws.{same_text}
+use Rattle.wit_model.proofs.{Elements.contains-flat, Elements.contains-get, VersionLaws.same_text}
 use Rattle.comp_meaning.specs.Follow.{View, ShownType, Instance}
-use Rattle.comp_meaning.specs.Rules.{distinct, is_declared, is_function, is_interface, resources_of}
+use Rattle.comp_meaning.specs.{Rules.distinct, Rules.is_declared, Rules.is_function, Rules.is_interface, Rules.resources_of, SameLaws.named_meaning}
 use Rattle.comp_meaning.specs.Reads.{Part, Member, Sight, agree, all_agree, are_interfaces, of_instance, same_functions, same_shown, sights}
-use Rattle.comp_meaning.specs.SameLaws.{named_meaning}
 use Rattle.comp_meaning.proofs.SameLaws.{shown_types_decide}
 use Rattle.read_shown.specs.Parts.{named_instance, instances_of}
 use Rattle.read_shown.proofs.Lists.{at_end, one_place}
-use Rattle.base_lemmas.proofs.Bools.{left_of as first_true, right_of as second_true}
-use Rattle.base_lemmas.proofs.Elements.{all-contained, contains-map, contains-one, get-contains}
-use Rattle.base_lemmas.proofs.Lists.{get_back as unmapped_get, mapped_get}
-use Rattle.base_lemmas.proofs.Options.{some_is}
+use Rattle.base_lemmas.proofs.{Bools.left_of as first_true, Bools.right_of as second_true, Lists.get_back as unmapped_get, Lists.mapped_get}
+use Rattle.base_lemmas.proofs.{Elements.all-contained, Elements.contains-map, Elements.contains-one, Elements.get-contains, Options.some_is}
 
 -- ---- two views
 

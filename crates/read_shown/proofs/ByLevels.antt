@@ -3,17 +3,10 @@ use Rattle.std.proofs.Common.{◌≡◌, refl, ◌∙◌, List, [], ◌∷◌, S
 use Rattle.std.specs.List.{AllByRecursion}
 use Rattle.wit_model.specs.Text.{Text}
 use Rattle.comp_bytes.specs.Levels.{Entry, plain, holds, PartType, wraps, shows, raw_part, declarations_of}
-use Rattle.comp_meaning.specs.Follow.{each, Scope}
-use Rattle.comp_meaning.specs.Reads.{Member, member}
-use Rattle.comp_meaning.specs.ByLevels.{entry_scope, member_by_levels}
+use Rattle.comp_meaning.specs.{Follow.each, Follow.Scope, Reads.Member, Reads.member, ByLevels.entry_scope, ByLevels.member_by_levels}
 use Rattle.comp_meaning.proofs.EntryLaws.{scope_is}
-use Rattle.read_shown.specs.Scopes.{ScopeStands}
-use Rattle.read_shown.specs.Instances.{InstancesAreSeen}
-use Rattle.read_shown.specs.Parts.{MemberStands}
-use Rattle.read_shown.proofs.Instances.{instances_seen}
-use Rattle.read_shown.proofs.Lists.{each_found}
-use Rattle.read_shown.proofs.Parts.{member_stands}
-use Rattle.read_shown.proofs.Scopes.{scope_stands}
+use Rattle.read_shown.specs.{Scopes.ScopeStands, Instances.InstancesAreSeen, Parts.MemberStands}
+use Rattle.read_shown.proofs.{Instances.instances_seen, Lists.each_found, Parts.member_stands, Scopes.scope_stands}
 
 pub entry_scope_stands : (es : List Entry) (scope : Scope) → entry_scope es ≡ Some scope → ScopeStands scope × InstancesAreSeen scope
 entry_scope_stands es scope e = (scope_stands (declarations_of es) scope (scope_is es ∙ e), instances_seen (declarations_of es) scope (scope_is es ∙ e))

@@ -1,23 +1,19 @@
 -- Definitions over indexes that are well-formed are well-formed trees.
 use Rattle.std.proofs.Common.{◌≡◌, refl, sym, ap, subst, ◌∙◌, ℕ, suc, Bool, true, false, ◌==◌, nat_le, List, [], ◌∷◌, map, length, Option, Some, None, slice_get, IfSome}
+use Rattle.std.proofs.{Math.ListN.length-map, lemmas.Bool.and_from as both}
 use Rattle.std.specs.List.{AllByRecursion}
-use Rattle.std.proofs.Math.ListN.{length-map}
-use Rattle.std.proofs.lemmas.Bool.{and_from as both}
-use Rattle.wit_model.specs.Text.{Text}
-use Rattle.wit_model.specs.Tree as tree
+use Rattle.wit_model.specs.{Text.Text, Meaning.Signature}
 use Rattle.wit_model.specs.Tree.{Place, Form, Tree, Trees, child_list, children, is_given}
-use Rattle.wit_model.specs.Meaning.{Signature}
 use Rattle.comp_bytes.specs.declared.forms.ComponentValType.{ComponentValType}
-use Rattle.comp_bytes.specs.declared.forms.ComponentValType.TheVariants as values
 use Rattle.comp_bytes.specs.Raw.{Labeled, DefinedType, FunctionType}
 use Rattle.comp_bytes.proofs.Readers.{bind_some, when_some}
 use Rattle.comp_meaning.specs.Follow.{Slot, each, given, is_filled, is_key, primitive_of_type, value_in, resource_in, function_in, value_type, field_type, case_type, definition, function_signature}
 use Rattle.read_shown.specs.Trees.{AllAt, count_true, is_formed, HandleStands, TreeStands, PartsStand, SignatureStands, SlotStands}
 use Rattle.read_shown.proofs.Lists.{each_found, each_filled, given_found}
-use Rattle.base_lemmas.proofs.Numbers.{same_count}
-use Rattle.base_lemmas.proofs.Elements.{seconds}
-use Rattle.base_lemmas.proofs.Options.{some_is}
+use Rattle.base_lemmas.proofs.{Numbers.same_count, Elements.seconds, Options.some_is}
 use Rattle.wit_model.proofs.TreeLemmas.{child_list_of_children as listed}
+use Rattle.wit_model.specs.Tree as tree
+use Rattle.comp_bytes.specs.declared.forms.ComponentValType.TheVariants as values
 
 -- ---- counts
 

@@ -1,22 +1,14 @@
 -- The kind of each name of an interface, found in the first view that shows it, and of each name of a view's own place.
 use Rattle.std.proofs.Common.{◌≡◌, refl, sym, ap, subst, ◌∙◌, ℕ, zero, suc, Bool, true, false, cond, List, [], ◌∷◌, length, Option, Some, None, option_map, slice_get, unwrap_or}
-use Rattle.wit_model.specs.Text.{Text, text_eq}
-use Rattle.wit_model.specs.Tree.{Place}
-use Rattle.wit_model.specs.Meaning.{FunctionMeaning}
-use Rattle.wit_model.proofs.VersionLaws.{same_text}
+use Rattle.wit_model.specs.{Text.Text, Text.text_eq, Tree.Place, Meaning.FunctionMeaning}
+use Rattle.wit_model.proofs.{VersionLaws.same_text, TextLemmas.text_same}
 use Rattle.comp_meaning.specs.Follow.{Slot, View, ShownType, Instance, find_type, place_of}
-use Rattle.read_shown.specs.Views.{named_slot, ShowsName, IsMetInView, inside, outside}
-use Rattle.read_shown.specs.Scopes.{IsShownBefore}
-use Rattle.read_shown.specs.Kinds.{kind_at, OfKind, ViewHasKinds}
-use Rattle.read_shown.specs.Trees.{DeclarationStands, SignatureStands}
-use Rattle.read_shown.proofs.Views.{shows_at}
-use Rattle.read_shown.proofs.Wider.{declaration_wider, signature_wider}
-use Rattle.read_shown.proofs.Agreement.{one_number, Alike, NamesDiffer}
-use Rattle.read_shown.proofs.Lists.{first_found, first_some, first_there}
+use Rattle.read_shown.specs.{Views.named_slot, Views.ShowsName, Views.IsMetInView, Views.inside, Views.outside, Kinds.kind_at, Kinds.OfKind, Kinds.ViewHasKinds}
+use Rattle.read_shown.specs.{Scopes.IsShownBefore, Trees.DeclarationStands, Trees.SignatureStands}
+use Rattle.read_shown.proofs.{Views.shows_at, Wider.declaration_wider, Wider.signature_wider, Scopes.type_found}
+use Rattle.read_shown.proofs.{Agreement.one_number, Agreement.Alike, Agreement.NamesDiffer, Lists.first_found, Lists.first_some, Lists.first_there}
 use Rattle.read_shown.proofs.OneKind.{before_somewhere, kind_of_named, one_kind, slot_kind, AllStand, IsOfPath, IsShownSomewhere}
-use Rattle.read_shown.proofs.Scopes.{type_found}
 use Rattle.base_lemmas.proofs.Options.{some_is}
-use Rattle.wit_model.proofs.TextLemmas.{text_same}
 
 -- ---- in a list of types
 

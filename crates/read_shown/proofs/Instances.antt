@@ -1,7 +1,6 @@
 -- The instances of a scope are its imports and its exports that are instances.
 use Rattle.std.proofs.Common.{◌≡◌, refl, sym, ap, ◌∙◌, ℕ, List, [], ◌∷◌, ◌++◌, Some}
-use Rattle.std.proofs.lemmas.Grind.{flat_map-append}
-use Rattle.std.proofs.lemmas.List.{append-nil, map-append}
+use Rattle.std.proofs.lemmas.{Grind.flat_map-append, List.append-nil, List.map-append}
 use Rattle.comp_bytes.specs.Raw.{Declarations}
 use Rattle.comp_meaning.specs.Follow.{Slot, Instance, Seen, Shown, Scope, Direction, import_, export_, component_scope, in_scope, interface_of, new_scope, see}
 use Rattle.comp_meaning.proofs.StepLaws.{StepOf, defines, signs, aliases, sees_function, sees_type, sees_instance, seen_under, seen_instance, step_of}

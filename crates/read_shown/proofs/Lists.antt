@@ -1,14 +1,12 @@
 -- Lists by the numbers of their items, and what is found in each.
 use Rattle.std.proofs.Common.{◌≡◌, ◌⊎◌, inl, inr, refl, sym, ap, subst, ◌∙◌, ℕ, zero, suc, ◌<◌, ◌≤◌, arith, take, length-append, true, List, [], ◌∷◌, ◌++◌, length, Option, Some, None, slice_get, IfSome}
-use Rattle.std.specs.List.{AllByRecursion}
 use Rattle.std.proofs.lemmas.Option.{slice_get_within}
+use Rattle.std.specs.List.{AllByRecursion}
 use Rattle.wit_model.specs.Text.{Text}
 use Rattle.comp_bytes.proofs.Readers.{bind_some}
-use Rattle.comp_meaning.specs.Follow.{each, given, is_filled}
-use Rattle.comp_meaning.specs.Rules.{distinct}
+use Rattle.comp_meaning.specs.{Follow.each, Follow.given, Follow.is_filled, Rules.distinct}
 use Rattle.read_shown.specs.Trees.{AllAt}
-use Rattle.base_lemmas.proofs.Lists.{front_at as at_front}
-use Rattle.base_lemmas.proofs.Options.{some_is}
+use Rattle.base_lemmas.proofs.{Lists.front_at as at_front, Options.some_is}
 use Rattle.comp_meaning.proofs.RulesLemmas.{not_twice as twice}
 
 -- an item of the front, or the last

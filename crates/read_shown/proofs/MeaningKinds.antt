@@ -1,15 +1,12 @@
 -- The names of a package, or of one world, that has a meaning have one kind.
 use Rattle.std.proofs.Common.{◌≡◌, ap, ◌∙◌, not, ◌&&◌, List, [], ◌∷◌, flat_map, Some}
-use Rattle.std.specs.List.{AllByRecursion, list_all, list_any}
 use Rattle.std.proofs.lemmas.List.{append-nil}
-use Rattle.wit_model.specs.Text.{Text, text_eq}
-use Rattle.wit_model.specs.Names.{PackageIdentity, path_in}
-use Rattle.wit_model.specs.Meaning.{PackageMeaning, WorldPackage}
+use Rattle.std.specs.List.{AllByRecursion, list_all, list_any}
+use Rattle.wit_model.specs.{Text.Text, Text.text_eq, Names.PackageIdentity, Names.path_in, Meaning.PackageMeaning, Meaning.WorldPackage}
 use Rattle.comp_bytes.proofs.Readers.{when_some}
 use Rattle.comp_meaning.specs.Same.{same_identity}
 use Rattle.comp_meaning.specs.Reads.{Part, Member, Sight, all_agree, are_interfaces, of_instance, package_of_members, sights, stands_at_top, world_of_members}
-use Rattle.read_shown.specs.Parts.{MemberStands}
-use Rattle.read_shown.specs.Kinds.{NamesHaveKinds}
+use Rattle.read_shown.specs.{Parts.MemberStands, Kinds.NamesHaveKinds}
 use Rattle.read_shown.proofs.MemberKinds.{have_kinds}
 use Rattle.base_lemmas.proofs.Bools.{left_of as first_true, right_of as second_true}
 

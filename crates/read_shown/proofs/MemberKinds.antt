@@ -1,30 +1,20 @@
 -- Each name has one kind in all parts of a package.
 use Rattle.std.proofs.Common.{◌≡◌, ◌⊎◌, inl, inr, refl, sym, ap, subst, ◌∙◌, ℕ, zero, suc, arith, Bool, true, ◌&&◌, List, [], ◌∷◌, ◌++◌, map, flat_map, length, Option, Some, None, slice_get}
+use Rattle.std.proofs.lemmas.List.Elements.{Contains-append_cases as in_either}
 use Rattle.std.specs.List.{AllByRecursion, Contains, list_all}
-use Rattle.wit_model.specs.Text.{Text}
-use Rattle.wit_model.specs.Names.{PackageIdentity, path_in}
-use Rattle.wit_model.specs.Tree.{Place}
+use Rattle.wit_model.specs.{Text.Text, Names.PackageIdentity, Names.path_in, Tree.Place}
 use Rattle.wit_model.proofs.Elements.{none-in}
 use Rattle.comp_meaning.specs.Follow.{each, Instance, Seen, Shown, Scope, Direction, import_, export_, interface_of, place_of}
 use Rattle.comp_meaning.specs.Rules.{are_imports, distinct, is_interface, is_item, is_world, resources_seen, stand_earlier}
 use Rattle.comp_meaning.specs.Reads.{Part, Member, all_agree, are_interfaces, sights}
-use Rattle.read_shown.specs.Trees.{AllAt}
-use Rattle.read_shown.specs.Views.{ViewStands}
-use Rattle.read_shown.specs.Scopes.{IsShownBefore}
-use Rattle.read_shown.specs.Instances.{instance_of, instances_in, going}
-use Rattle.read_shown.specs.Parts.{named_instance, instances_of, WorldStands, PartStands, MemberStands}
-use Rattle.read_shown.specs.Kinds.{PartHasKinds, MemberHasKinds, NamesHaveKinds}
+use Rattle.read_shown.specs.{Trees.AllAt, Views.ViewStands}
+use Rattle.read_shown.specs.{Scopes.IsShownBefore, Parts.named_instance, Parts.instances_of, Parts.WorldStands, Parts.PartStands, Parts.MemberStands}
+use Rattle.read_shown.specs.{Instances.instance_of, Instances.instances_in, Instances.going, Kinds.PartHasKinds, Kinds.MemberHasKinds, Kinds.NamesHaveKinds}
 use Rattle.read_shown.proofs.Agreement.{names_differ, paths_alike, paths_differ, seen_in_all, seen_in_member, Alike, IsSeenIn, NamesDiffer}
-use Rattle.read_shown.proofs.FoundKinds.{kinds, kinds_are, view_kinds}
-use Rattle.read_shown.proofs.Lists.{at_end}
-use Rattle.read_shown.proofs.OneKind.{before_somewhere, AllStand, IsOfPath}
-use Rattle.read_shown.proofs.Uses.{path_once}
-use Rattle.read_shown.proofs.WorldKinds.{export_is, import_is, met_is, own_kind}
-use Rattle.base_lemmas.proofs.Bools.{left_of as first_true, right_of as second_true}
-use Rattle.base_lemmas.proofs.Elements.{contains-later, last_of as one-contained}
-use Rattle.base_lemmas.proofs.Lists.{get_back as unmapped_get, mapped_get}
-use Rattle.base_lemmas.proofs.Options.{some_is}
-use Rattle.std.proofs.lemmas.List.Elements.{Contains-append_cases as in_either}
+use Rattle.read_shown.proofs.{FoundKinds.kinds, FoundKinds.kinds_are, FoundKinds.view_kinds, OneKind.before_somewhere, OneKind.AllStand, OneKind.IsOfPath}
+use Rattle.read_shown.proofs.{Lists.at_end, Uses.path_once, WorldKinds.export_is, WorldKinds.import_is, WorldKinds.met_is, WorldKinds.own_kind}
+use Rattle.base_lemmas.proofs.{Bools.left_of as first_true, Bools.right_of as second_true, Elements.contains-later, Elements.last_of as one-contained}
+use Rattle.base_lemmas.proofs.{Lists.get_back as unmapped_get, Lists.mapped_get, Options.some_is}
 
 -- ---- the views of a world obey the rules on interfaces
 

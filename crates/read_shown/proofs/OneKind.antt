@@ -1,16 +1,12 @@
 -- A name of an interface is a resource in every view that shows it, or in none.
 use Rattle.std.proofs.Common.{◌≡◌, refl, sym, ap, subst, ◌∙◌, ℕ, zero, suc, ◌<◌, ◌≤◌, arith, Bool, true, false, List, length, Some, slice_get}
 use Rattle.std.proofs.lemmas.Option.{slice_get_within}
-use Rattle.wit_model.specs.Text.{Text}
-use Rattle.wit_model.specs.Tree.{Place, Tree, Declaration}
+use Rattle.wit_model.specs.{Text.Text, Tree.Place, Tree.Tree, Tree.Declaration}
 use Rattle.comp_meaning.specs.Follow.{Slot, ShownType, Instance, place_of}
-use Rattle.read_shown.specs.Trees.{AllAt, DeclarationStands}
+use Rattle.read_shown.specs.{Trees.AllAt, Trees.DeclarationStands, Scopes.IsShownBefore}
 use Rattle.read_shown.specs.Views.{named_slot, ShowsName, IsMetInView, inside, outside, ViewStands}
-use Rattle.read_shown.specs.Scopes.{IsShownBefore}
-use Rattle.read_shown.proofs.Agreement.{alike_at, one_number, Alike, NamesDiffer}
+use Rattle.read_shown.proofs.{Agreement.alike_at, Agreement.one_number, Agreement.Alike, Agreement.NamesDiffer, Views.shows_wider, Lists.front_same}
 use Rattle.read_shown.proofs.Uses.{path_once}
-use Rattle.read_shown.proofs.Views.{shows_wider}
-use Rattle.read_shown.proofs.Lists.{front_same}
 use Rattle.base_lemmas.proofs.Options.{some_is}
 
 abbrev pub slot_kind : Slot → Bool

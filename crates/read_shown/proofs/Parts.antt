@@ -1,30 +1,20 @@
 -- Parts at the top are well-formed, and the component type of an interface has its export behind its imports.
 use Rattle.std.proofs.Common.{◌≡◌, ◌⊎◌, inl, inr, refl, sym, ap, subst, ◌∙◌, ℕ, zero, suc, ◌+◌, ◌≤◌, arith, true, not, ◌&&◌, List, [], ◌∷◌, ◌++◌, map, length, length-append, Option, Some, None, slice_get, is_none}
+use Rattle.std.proofs.{Math.ListN.length-map, lemmas.List.append-nil}
 use Rattle.std.specs.List.{AllByRecursion, flat_map, list_any}
-use Rattle.std.proofs.Math.ListN.{length-map}
-use Rattle.std.proofs.lemmas.List.{append-nil}
-use Rattle.wit_model.specs.Text.{Text, text_eq}
-use Rattle.wit_model.specs.Names.{PackageIdentity, path_in, read_path}
-use Rattle.wit_model.proofs.NameLaws.{read_path_is_spelled}
+use Rattle.wit_model.specs.{Text.Text, Text.text_eq, Names.PackageIdentity, Names.path_in, Names.read_path}
+use Rattle.wit_model.proofs.{NameLaws.read_path_is_spelled, TextLemmas.text_same, TextLemmas.text_there}
 use Rattle.comp_bytes.specs.Raw.{ExternName, Declarations}
 use Rattle.comp_bytes.proofs.Readers.{bind_some, when_some}
 use Rattle.comp_meaning.specs.Follow.{each, View, Instance, Seen, Shown, Key, Scope, Direction, import_, export_, complete_path, component_scope, is_filled, place_of, provided, when}
 use Rattle.comp_meaning.specs.Rules.{distinct, is_world, used_by_view}
 use Rattle.comp_meaning.specs.Reads.{Part, Member, are_reached, exported_view, imported_view, interface_part, labelled_path, member, part_of, world_part, wrapped}
-use Rattle.read_shown.specs.Trees.{AllAt}
-use Rattle.read_shown.specs.Views.{ViewStands}
-use Rattle.read_shown.specs.Scopes.{IsInstanceBefore, IsShownBefore, ScopeStands}
-use Rattle.read_shown.specs.Instances.{instance_of, instances_in, going, InstancesAreSeen}
-use Rattle.read_shown.specs.Parts.{named_instance, MemberStands}
-use Rattle.read_shown.proofs.Instances.{instances_seen}
-use Rattle.read_shown.proofs.Lists.{each_found, last_of}
-use Rattle.read_shown.proofs.Scopes.{scope_stands}
-use Rattle.read_shown.proofs.Uses.{use_stands_before}
+use Rattle.read_shown.specs.{Trees.AllAt, Views.ViewStands, Instances.instance_of, Instances.instances_in, Instances.going, Instances.InstancesAreSeen}
+use Rattle.read_shown.specs.{Scopes.IsInstanceBefore, Scopes.IsShownBefore, Scopes.ScopeStands, Parts.named_instance, Parts.MemberStands}
+use Rattle.read_shown.proofs.{Instances.instances_seen, Lists.each_found, Lists.last_of, Scopes.scope_stands, Uses.use_stands_before}
 use Rattle.base_lemmas.proofs.Bools.{left_of as first_true, right_of as second_true}
-use Rattle.base_lemmas.proofs.Lists.{get_back as unmapped_get, mapped_get, middle_get, slice_front as front_get}
-use Rattle.base_lemmas.proofs.Options.{some_is}
+use Rattle.base_lemmas.proofs.{Lists.get_back as unmapped_get, Lists.mapped_get, Lists.middle_get, Lists.slice_front as front_get, Options.some_is}
 use Rattle.comp_meaning.proofs.RulesLemmas.{not_twice as twice}
-use Rattle.wit_model.proofs.TextLemmas.{text_same, text_there}
 
 -- ---- what is found
 

@@ -1,14 +1,10 @@
 -- What is well-formed in a scope stays so where more instances and more imports are seen.
 use Rattle.std.proofs.Common.{ℕ, ◌≤◌, arith, Bool, List, length}
-use Rattle.wit_model.specs.Text.{Text}
-use Rattle.wit_model.specs.Tree.{Place, Tree, Declaration}
+use Rattle.wit_model.specs.{Text.Text, Tree.Place, Tree.Tree, Tree.Declaration}
 use Rattle.comp_meaning.specs.Follow.{Slot, Instance, Seen, Shown, place_of}
-use Rattle.read_shown.specs.Trees.{AllAt, SlotStands}
-use Rattle.read_shown.specs.Views.{ViewStands}
+use Rattle.read_shown.specs.{Trees.AllAt, Trees.SlotStands, Views.ViewStands}
 use Rattle.read_shown.specs.Scopes.{IsShownBefore, IsImported, IsDeclared, a_resource, a_value, own_name, name_of_instance, IsMetInScope, by_import, by_instance, ShownStands}
-use Rattle.read_shown.proofs.Lists.{all_weaker, Front}
-use Rattle.read_shown.proofs.Views.{view_wider}
-use Rattle.read_shown.proofs.Wider.{declaration_wider, signature_wider, slot_wider}
+use Rattle.read_shown.proofs.{Lists.all_weaker, Lists.Front, Views.view_wider, Wider.declaration_wider, Wider.signature_wider, Wider.slot_wider}
 use Rattle.base_lemmas.proofs.Numbers.{same_number}
 
 pub shown_wider : (instances more : List Instance) → Front instances more → (k m : ℕ) → k ≤ m → (place : Place) (name : Text) (b : Bool) → IsShownBefore instances k place name b

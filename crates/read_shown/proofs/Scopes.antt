@@ -1,24 +1,20 @@
 -- What component types show is well-formed.
 use Rattle.std.proofs.Common.{◌≡◌, refl, sym, ap, subst, ◌∙◌, ℕ, zero, suc, ◌==◌, arith, Bool, true, false, cond, List, [], ◌∷◌, ◌++◌, length, take, Option, Some, None, slice_get, is_some}
 use Rattle.std.proofs.lemmas.Option.{slice_get_within}
-use Rattle.wit_model.specs.Text.{Text, text_eq}
-use Rattle.wit_model.specs.Tree.{Place, Tree, Declaration}
+use Rattle.wit_model.specs.{Text.Text, Text.text_eq, Tree.Place, Tree.Tree, Tree.Declaration}
 use Rattle.comp_bytes.specs.declared.forms.ComponentTypeRef.{ComponentTypeRef}
-use Rattle.comp_bytes.specs.Raw as raw
 use Rattle.comp_bytes.specs.Raw.{ExternName, Declarations}
 use Rattle.comp_bytes.proofs.Readers.{bind_some, when_some}
 use Rattle.comp_meaning.specs.Follow.{Slot, View, ShownType, Instance, Seen, Shown, Scope, Direction, import_, export_, component_scope, component_step, component_steps, exported_slot, find_type, flat, in_scope, instance_types, interface_of, is_foreign_name, named_type, new_scope, place_of, see, used_view}
 use Rattle.comp_meaning.proofs.StepLaws.{StepOf, defines, signs, aliases, sees_function, sees_type, sees_instance, seen_under, seen_instance, with_instance, step_of}
-use Rattle.read_shown.specs.Trees.{DeclarationStands, SlotStands}
-use Rattle.read_shown.specs.Views.{named_slot, ViewStands}
+use Rattle.read_shown.specs.{Trees.DeclarationStands, Trees.SlotStands, Views.named_slot, Views.ViewStands}
 use Rattle.read_shown.specs.Scopes.{is_type, IsShownBefore, IsImported, IsDeclared, a_resource, a_value, own_name, name_of_instance, IsMetInScope, by_import, by_instance, ShownStands, ScopeStands}
 use Rattle.read_shown.proofs.Definitions.{definition_stands, function_stands, signature_stands}
 use Rattle.read_shown.proofs.Lists.{all_more, in_front, none_at, front_more, front_same}
 use Rattle.read_shown.proofs.ScopeWider.{exports_wider, imports_wider, instances_wider, met_wider, shown_stands_wider, shown_wider, slots_wider}
-use Rattle.read_shown.proofs.Views.{shows_at, named_stands, named_type_stands, view_stands, view_wider}
-use Rattle.read_shown.proofs.Wider.{declaration_wider}
-use Rattle.base_lemmas.proofs.Lists.{at_last as get_last}
-use Rattle.base_lemmas.proofs.Options.{some_is}
+use Rattle.read_shown.proofs.{Views.shows_at, Views.named_stands, Views.named_type_stands, Views.view_stands, Views.view_wider, Wider.declaration_wider}
+use Rattle.base_lemmas.proofs.{Lists.at_last as get_last, Options.some_is}
+use Rattle.comp_bytes.specs.Raw as raw
 
 -- what is met in a scope so far
 abbrev pub Met : Scope → Place → Text → Bool → Type 0

@@ -1,16 +1,13 @@
 -- Each interface that a well-formed view uses was seen before it.
 use Rattle.std.proofs.Common.{◌≡◌, ◌⊎◌, inl, inr, refl, sym, ap, subst, ◌∙◌, ℕ, zero, suc, Bool, List, [], ◌∷◌, flat_map, Option, Some, None, slice_get}
-use Rattle.std.specs.List.{Contains}
-use Rattle.wit_model.specs.Text.{Text}
-use Rattle.wit_model.specs.Tree.{Place, Tree, Declaration}
-use Rattle.wit_model.proofs.Elements.{none-in}
-use Rattle.comp_meaning.specs.Follow.{ShownType, Instance, place_of}
-use Rattle.comp_meaning.specs.Rules.{used_by, used_by_view}
-use Rattle.read_shown.specs.Trees.{DeclarationStands}
-use Rattle.read_shown.specs.Views.{IsMetInView, inside, outside, ViewStands}
-use Rattle.read_shown.specs.Scopes.{IsInstanceBefore, IsShownBefore}
-use Rattle.base_lemmas.proofs.Elements.{last_of as one-contained}
 use Rattle.std.proofs.lemmas.List.Elements.{Contains-append_cases as in_either}
+use Rattle.std.specs.List.{Contains}
+use Rattle.wit_model.specs.{Text.Text, Tree.Place, Tree.Tree, Tree.Declaration}
+use Rattle.wit_model.proofs.Elements.{none-in}
+use Rattle.comp_meaning.specs.{Follow.ShownType, Follow.Instance, Follow.place_of, Rules.used_by, Rules.used_by_view}
+use Rattle.read_shown.specs.Trees.{DeclarationStands}
+use Rattle.read_shown.specs.{Views.IsMetInView, Views.inside, Views.outside, Views.ViewStands, Scopes.IsInstanceBefore, Scopes.IsShownBefore}
+use Rattle.base_lemmas.proofs.Elements.{last_of as one-contained}
 
 -- ---- what stands in lists
 

@@ -1,12 +1,8 @@
 -- Views of instance types are well-formed.
 use Rattle.std.proofs.Common.{◌≡◌, refl, sym, ap, subst, ◌∙◌, ℕ, ◌≤◌, ◌==◌, ◌&&◌, arith, Bool, true, false, List, [], ◌∷◌, ◌++◌, length, length-append, Some, slice_get}
 use Rattle.std.proofs.lemmas.Option.{slice_get_within}
-use Rattle.wit_model.specs.Text.{Text}
-use Rattle.wit_model.specs.Tree as tree
-use Rattle.wit_model.specs.Tree.{Place, Tree}
-use Rattle.wit_model.specs.Meaning.{Signature, FunctionMeaning}
+use Rattle.wit_model.specs.{Text.Text, Tree.Place, Tree.Tree, Meaning.Signature, Meaning.FunctionMeaning}
 use Rattle.comp_bytes.specs.declared.forms.ComponentTypeRef.{ComponentTypeRef}
-use Rattle.comp_bytes.specs.declared.forms.ComponentTypeRef.TheVariants as refs
 use Rattle.comp_bytes.specs.Raw.{Alias, ExternName, Declaration}
 use Rattle.comp_bytes.proofs.Readers.{bind_some, when_some}
 use Rattle.comp_meaning.specs.Follow.{Slot, View, ShownType, InstanceScope, declared_by, definition, function_in, function_signature, in_instance, instance_step, instance_steps, instance_view, is_foreign_name, is_simple, named_like, named_type, new_instance, show, show_function, show_type}
@@ -15,9 +11,9 @@ use Rattle.read_shown.specs.Views.{named_slot, ShowsName, IsMetInView, inside, o
 use Rattle.read_shown.proofs.Definitions.{definition_stands, function_stands, signature_stands}
 use Rattle.read_shown.proofs.Lists.{all_more, all_weaker, none_at, Front, front_more, front_same}
 use Rattle.read_shown.proofs.Wider.{declaration_wider, signature_wider, slot_wider}
-use Rattle.base_lemmas.proofs.Bools.{right_of as second_true}
-use Rattle.base_lemmas.proofs.Lists.{at_last as get_last}
-use Rattle.base_lemmas.proofs.Options.{some_is}
+use Rattle.base_lemmas.proofs.{Bools.right_of as second_true, Lists.at_last as get_last, Options.some_is}
+use Rattle.wit_model.specs.Tree as tree
+use Rattle.comp_bytes.specs.declared.forms.ComponentTypeRef.TheVariants as refs
 
 -- ---- named types
 

@@ -1,13 +1,10 @@
 -- What is well-formed stays so where more names are met.
-use Rattle.std.proofs.Common.{Bool, true, false}
-use Rattle.wit_model.specs.Text.{Text}
-use Rattle.wit_model.specs.Tree as tree
-use Rattle.wit_model.specs.Tree.{Place, Tree, Trees}
-use Rattle.wit_model.specs.Meaning.{Signature}
+use Rattle.std.proofs.{Common.Bool, Common.true, Common.false, ByRecursion.All-weaker as recursion_weaker}
+use Rattle.wit_model.specs.{Text.Text, Tree.Place, Tree.Tree, Tree.Trees, Meaning.Signature}
 use Rattle.comp_meaning.specs.Follow.{Slot}
 use Rattle.read_shown.specs.Trees.{is_handle, HandleStands, TreeStands, PartsStand, SignatureStands, DeclarationStands, SlotStands}
 use Rattle.read_shown.proofs.Lists.{some_weaker}
-use Rattle.std.proofs.ByRecursion.{All-weaker as recursion_weaker}
+use Rattle.wit_model.specs.Tree as tree
 
 module _ (Met More : Place → Text → Bool → Type 0) (wider : (place : Place) (name : Text) (b : Bool) → Met place name b → More place name b) where
   handle_wider : (ts : Trees) → HandleStands Met ts → HandleStands More ts

@@ -1,19 +1,12 @@
 -- The kind of each name that a world declares: its imports have keys that differ.
 use Rattle.std.proofs.Common.{◌≡◌, refl, sym, ap, subst, ◌∙◌, ℕ, zero, suc, Bool, true, false, cond, List, [], ◌∷◌, map, length, Option, Some, None, slice_get, unwrap_or}
-use Rattle.wit_model.specs.Text.{Text, text_eq}
-use Rattle.wit_model.specs.Tree.{Place, Tree, Declaration}
-use Rattle.wit_model.proofs.VersionLaws.{same_text}
-use Rattle.comp_meaning.specs.Follow.{Instance, Seen, Shown}
-use Rattle.comp_meaning.specs.Rules.{distinct}
-use Rattle.read_shown.specs.Trees.{AllAt, DeclarationStands}
+use Rattle.wit_model.specs.{Text.Text, Text.text_eq, Tree.Place, Tree.Tree, Tree.Declaration}
+use Rattle.wit_model.proofs.{VersionLaws.same_text, TextLemmas.text_same}
+use Rattle.comp_meaning.specs.{Follow.Instance, Follow.Seen, Follow.Shown, Rules.distinct}
+use Rattle.read_shown.specs.{Trees.AllAt, Trees.DeclarationStands, Kinds.kind_at, Kinds.OfKind, Kinds.ShownHasKind}
 use Rattle.read_shown.specs.Scopes.{is_name, is_type, IsShownBefore, IsImported, IsDeclared, a_resource, a_value, own_name, name_of_instance, IsMetInScope, by_import, by_instance, ShownStands}
-use Rattle.read_shown.specs.Kinds.{kind_at, OfKind, ShownHasKind}
-use Rattle.read_shown.proofs.Lists.{one_place}
-use Rattle.read_shown.proofs.Scopes.{declared_last, imported_at}
-use Rattle.read_shown.proofs.Wider.{declaration_wider, signature_wider}
-use Rattle.base_lemmas.proofs.Lists.{mapped_get}
-use Rattle.base_lemmas.proofs.Options.{some_is}
-use Rattle.wit_model.proofs.TextLemmas.{text_same}
+use Rattle.read_shown.proofs.{Lists.one_place, Scopes.declared_last, Scopes.imported_at, Wider.declaration_wider, Wider.signature_wider}
+use Rattle.base_lemmas.proofs.{Lists.mapped_get, Options.some_is}
 
 declared_is : (d e : Declaration) → Shown.declares d ≡ Shown.declares e → d ≡ e
 declared_is d e h = cc

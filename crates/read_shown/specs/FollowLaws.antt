@@ -1,21 +1,13 @@
 -- Laws of what is followed (Binary.md, "Index Spaces" and "Import and Export Definitions").
 use Rattle.std.specs.Prelude.{◌≡◌, ◌⊎◌, ℕ, true, List, Some}
 use Rattle.std.specs.List.{AllByRecursion, Contains, flat_map}
-use Rattle.wit_model.specs.Text.{Text}
-use Rattle.wit_model.specs.Meaning.{PackageMeaning, WorldPackage}
-use Rattle.wit_model.specs.Tree.{Place}
-use Rattle.comp_bytes.specs.Raw.{Declaration, Declarations}
-use Rattle.comp_bytes.specs.Levels.{Entry, PartType}
+use Rattle.wit_model.specs.{Text.Text, Meaning.PackageMeaning, Meaning.WorldPackage, Tree.Place}
+use Rattle.comp_bytes.specs.{Raw.Declaration, Raw.Declarations, Levels.Entry, Levels.PartType}
 use Rattle.comp_meaning.specs.Follow.{each, Slot, Instance, InstanceScope, Scope, component_scope, instance_steps, is_foreign_name, new_instance, place_of}
-use Rattle.comp_meaning.specs.Rules.{used_by_view}
+use Rattle.comp_meaning.specs.{Rules.used_by_view, ByLevels.entry_scope, ByLevels.member_by_levels}
 use Rattle.comp_meaning.specs.Reads.{Member, all_agree, are_interfaces, member, package_of_members, sights, world_of_members}
-use Rattle.comp_meaning.specs.ByLevels.{entry_scope, member_by_levels}
-use Rattle.read_shown.specs.Trees.{AllAt, SlotStands}
-use Rattle.read_shown.specs.Views.{InstanceScopeStands, ViewStands}
-use Rattle.read_shown.specs.Scopes.{IsInstanceBefore, IsShownBefore, ScopeStands}
-use Rattle.read_shown.specs.Instances.{InstancesAreSeen}
-use Rattle.read_shown.specs.Parts.{MemberStands}
-use Rattle.read_shown.specs.Kinds.{NamesHaveKinds}
+use Rattle.read_shown.specs.{Trees.AllAt, Trees.SlotStands, Instances.InstancesAreSeen, Kinds.NamesHaveKinds}
+use Rattle.read_shown.specs.{Views.InstanceScopeStands, Views.ViewStands, Scopes.IsInstanceBefore, Scopes.IsShownBefore, Scopes.ScopeStands, Parts.MemberStands}
 
 -- A scope of a component type is well-formed: each form, each handle, each name.
 abbrev pub EachScopeStands : Type 0

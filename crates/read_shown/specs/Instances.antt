@@ -1,6 +1,5 @@
 -- The instances of a scope are its imports and its exports that are instances, in one order (Binary.md, "Index Spaces").
-use Rattle.std.specs.Prelude.{◌≡◌, List, [], ◌∷◌, map}
-use Rattle.std.specs.List.{flat_map}
+use Rattle.std.specs.{Prelude.◌≡◌, Prelude.List, Prelude.[], Prelude.◌∷◌, Prelude.map, List.flat_map}
 use Rattle.comp_meaning.specs.Follow.{Instance, Seen, Shown, Scope, Direction, import_, export_, interface_of}
 
 -- the instance that an import or an export is

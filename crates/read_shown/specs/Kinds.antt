@@ -1,15 +1,10 @@
 -- Each name is a resource wherever it is met, or nowhere (Explainer.md, "Type Definitions"; WIT.md, "Interfaces: use").
-use Rattle.std.specs.Prelude.{◌≡◌, ℕ, Bool, List}
-use Rattle.std.specs.List.{AllByRecursion}
-use Rattle.wit_model.specs.Text.{Text}
-use Rattle.wit_model.specs.Tree.{Place}
-use Rattle.wit_model.specs.Meaning.{FunctionMeaning}
+use Rattle.std.specs.{Prelude.◌≡◌, Prelude.ℕ, Prelude.Bool, Prelude.List, List.AllByRecursion}
+use Rattle.wit_model.specs.{Text.Text, Tree.Place, Meaning.FunctionMeaning}
 use Rattle.comp_meaning.specs.Follow.{Instance, ShownType, Seen, Shown, Scope, place_of}
 use Rattle.comp_meaning.specs.Reads.{Part, Member}
-use Rattle.read_shown.specs.Trees.{AllAt, DeclarationStands, SignatureStands}
+use Rattle.read_shown.specs.{Trees.AllAt, Trees.DeclarationStands, Trees.SignatureStands, Scopes.IsShownBefore, Scopes.IsMetInScope, Parts.instances_of}
 use Rattle.read_shown.specs.Views.{named_slot, IsMetInView}
-use Rattle.read_shown.specs.Scopes.{IsShownBefore, IsMetInScope}
-use Rattle.read_shown.specs.Parts.{instances_of}
 
 -- whether a name is a resource: one of an interface, by its path, or one of the world or the inline interface around
 abbrev pub kind_at : (Text → Text → Bool) → (Text → Bool) → Place → Text → Bool

@@ -1,14 +1,8 @@
 -- Parts at the top that are well-formed, by the instances that they show (WIT.md, "Package Format").
 use Rattle.std.specs.Prelude.{◌≡◌, true, List, [], ◌∷◌, ◌++◌, map, Some}
-use Rattle.wit_model.specs.Text.{Text}
-use Rattle.wit_model.specs.Names.{path_in}
-use Rattle.comp_meaning.specs.Follow.{View, Instance, Scope, place_of}
-use Rattle.comp_meaning.specs.Rules.{is_world}
-use Rattle.comp_meaning.specs.Reads.{Part, Member}
-use Rattle.read_shown.specs.Trees.{AllAt}
-use Rattle.read_shown.specs.Views.{ViewStands}
-use Rattle.read_shown.specs.Scopes.{IsShownBefore, ScopeStands}
-use Rattle.read_shown.specs.Instances.{InstancesAreSeen}
+use Rattle.wit_model.specs.{Text.Text, Names.path_in}
+use Rattle.comp_meaning.specs.{Follow.View, Follow.Instance, Follow.Scope, Follow.place_of, Rules.is_world, Reads.Part, Reads.Member}
+use Rattle.read_shown.specs.{Trees.AllAt, Views.ViewStands, Scopes.IsShownBefore, Scopes.ScopeStands, Instances.InstancesAreSeen}
 
 abbrev pub named_instance : Text × View → Instance
 named_instance i = record { interface = Some i.0; view = i.1 }

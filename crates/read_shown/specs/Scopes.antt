@@ -1,11 +1,9 @@
 -- Scopes of component types that are well-formed: each name that is met was shown before, by an instance or by an import of a type
 -- (Binary.md, "Import and Export Definitions"; WIT.md, "Worlds").
 use Rattle.std.specs.Prelude.{◌≡◌, ◌<◌, ℕ, Bool, true, false, List, length, slice_get, Some}
-use Rattle.wit_model.specs.Text.{Text}
-use Rattle.wit_model.specs.Tree.{Place, Tree, Declaration}
+use Rattle.wit_model.specs.{Text.Text, Tree.Place, Tree.Tree, Tree.Declaration}
 use Rattle.comp_meaning.specs.Follow.{Slot, Instance, Seen, Shown, Scope, place_of, interface_of}
-use Rattle.read_shown.specs.Trees.{AllAt, DeclarationStands, SignatureStands, SlotStands}
-use Rattle.read_shown.specs.Views.{ShowsName, ViewStands}
+use Rattle.read_shown.specs.{Trees.AllAt, Trees.DeclarationStands, Trees.SignatureStands, Trees.SlotStands, Views.ShowsName, Views.ViewStands}
 
 -- An instance of the interface of this path shows the name so, among as many instances from the first on.
 pub record IsShownBefore (instances : List Instance) (count : ℕ) (place : Place) (name : Text) (is_resource : Bool) : Type 0 where

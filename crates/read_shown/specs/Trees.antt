@@ -2,11 +2,9 @@
 -- values (Explainer.md, "Type Definitions"; Binary.md, "Type Definitions").
 use Rattle.std.specs.Prelude.{◌≡◌, ℕ, zero, suc, Bool, true, false, ◌&&◌, ◌==◌, nat_le, List, [], ◌∷◌, length, map, IfSome, slice_get, Some}
 use Rattle.std.specs.List.{AllByRecursion}
-use Rattle.wit_model.specs.Text.{Text}
-use Rattle.wit_model.specs.Tree as tree
-use Rattle.wit_model.specs.Tree.{Place, Form, Tree, Trees, child_list}
-use Rattle.wit_model.specs.Meaning.{Signature}
+use Rattle.wit_model.specs.{Text.Text, Tree.Place, Tree.Form, Tree.Tree, Tree.Trees, Tree.child_list, Meaning.Signature}
 use Rattle.comp_meaning.specs.Follow.{Slot, is_filled, is_key}
+use Rattle.wit_model.specs.Tree as tree
 
 -- P of each item of the list and its number
 abbrev pub AllAt : {A : Type 0} → (ℕ → A → Type 0) → List A → Type 0

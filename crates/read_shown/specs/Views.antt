@@ -1,9 +1,7 @@
 -- Views that are well-formed. Each type is shown under its own name, as a resource or a type of values. Each name that is met was shown
 -- before, in the view or outside of it (Binary.md, "Import and Export Definitions").
 use Rattle.std.specs.Prelude.{◌≡◌, ◌<◌, ℕ, Bool, true, false, length, slice_get, Some}
-use Rattle.wit_model.specs.Text.{Text}
-use Rattle.wit_model.specs.Tree.{Place, Tree}
-use Rattle.wit_model.specs.Meaning.{FunctionMeaning}
+use Rattle.wit_model.specs.{Text.Text, Tree.Place, Tree.Tree, Meaning.FunctionMeaning}
 use Rattle.comp_meaning.specs.Follow.{Slot, View, ShownType, InstanceScope}
 use Rattle.read_shown.specs.Trees.{AllAt, DeclarationStands, SignatureStands, SlotStands}
 

@@ -1,52 +1,29 @@
 -- Where there is no documentation and no known stability on either side, there is none in what is merged.
 use Rattle.std.proofs.Common.{◌≡◌, refl, sym, ap, ◌∙◌, inl, inr, arith, ℕ, zero, suc, ◌≤◌, Bool, true, false, ◌&&◌, List, [], ◌∷◌, ◌++◌, length, map, Option, Some, None, is_none, slice_get, slice_set, String, Contains}
-use Rattle.std.specs.List.{filter, list_all, AllZip, IsDistinct}
-use Rattle.std.specs.Map.{keys_of}
-use Rattle.std.specs.String.{string_eq}
+use Rattle.std.proofs.lemmas.{Bool.and_from as both, Bool.cases_lt as either, List.map-append, Option.slice_get_within, Option.same_Some as same-some}
+use Rattle.std.specs.{List.filter, List.list_all, List.AllZip, List.IsDistinct, Map.keys_of, String.string_eq}
 use Rattle.std.specs.declared.alloc.Global.{Global}
-use Rattle.std.proofs.lemmas.Bool.{and_from as both, cases_lt as either}
-use Rattle.std.proofs.lemmas.List.{map-append}
-use Rattle.std.proofs.lemmas.Option.{slice_get_within, same_Some as same-some}
 use Rattle.indexmap.specs.IndexMap.{values, IsUnique}
-use Rattle.wit_model.specs.declared.model.Docs.{Docs}
-use Rattle.wit_model.specs.declared.model.Function.{Function}
-use Rattle.wit_model.specs.declared.model.Interface.{Interface}
-use Rattle.wit_model.specs.declared.model.Package.{Package}
-use Rattle.wit_model.specs.declared.model.PackageId.{PackageId}
-use Rattle.wit_model.specs.declared.model.Resolve.{Resolve}
-use Rattle.wit_model.specs.declared.model.Stability.{Stability}
-use Rattle.wit_model.specs.declared.model.Stability.TheVariants as stability
-use Rattle.wit_model.specs.declared.model.TypeDef.{TypeDef}
-use Rattle.wit_model.specs.declared.model.TypeDefKind.{TypeDefKind}
-use Rattle.wit_model.specs.declared.model.TypeDefKind.TheVariants as kind
-use Rattle.wit_model.specs.declared.model.World.{World}
-use Rattle.wit_model.specs.declared.model.WorldItem.{WorldItem}
-use Rattle.wit_model.specs.declared.model.WorldItem.TheVariants as item
-use Rattle.wit_model.specs.declared.model.WorldKey.{WorldKey}
-use Rattle.wit_model.specs.Lookup.{type_at, world_at}
-use Rattle.wit_model.specs.Text.{Text, optional_text}
-use Rattle.wit_model.specs.Valid.{key_eq, IsValid}
+use Rattle.wit_model.specs.declared.model.{Docs.Docs, Function.Function, Package.Package, Resolve.Resolve, TypeDef.TypeDef, World.World, WorldKey.WorldKey}
+use Rattle.wit_model.specs.declared.model.{Interface.Interface, PackageId.PackageId, Stability.Stability, TypeDefKind.TypeDefKind, WorldItem.WorldItem}
+use Rattle.wit_model.specs.{Lookup.type_at, Lookup.world_at, Text.Text, Text.optional_text, Valid.key_eq, Valid.IsValid}
 use Rattle.wit_model.proofs.Elements.{contains-get}
 use Rattle.plan_meaning.specs.Built.{is_bare, is_bare_function, is_bare_interface, is_bare_item, is_bare_kind, is_bare_type, is_bare_world, is_undocumented, is_unknown, IsBare}
 use Rattle.bind_add.specs.Growth.{HasGainedItems, IsAdded}
 use Rattle.bind_add.specs.declared.added.Added.{Added}
-use Rattle.bind_copy.specs.Copies.{become_one, is_new_under, member_docs, IsEntryUnder, IsFunctionUnder, IsInterfaceUnder, IsItemUnder}
-use Rattle.bind_copy.specs.Copies.{IsFunctionEntry as IsFunctionEntryUnder}
+use Rattle.bind_copy.specs.Copies.{become_one, is_new_under, member_docs, IsEntryUnder, IsFunctionUnder, IsInterfaceUnder, IsItemUnder, IsFunctionEntry as IsFunctionEntryUnder}
 use Rattle.bind_match.specs.declared.matches.Matches.{Matches}
 use Rattle.bind_union.specs.Carried.{stability_view}
 use Rattle.bind_union.proofs.Lists.{no_true}
-use Rattle.bind_carry.specs.MatchedSame.{AreMatchedAt, NoneOfPath}
-use Rattle.bind_carry.specs.Packaged.{IsPackageCarried}
-use Rattle.bind_carry.specs.TooLong.{CarriedThings}
-use Rattle.bind_carry.specs.Union.{IsUnionOf}
-use Rattle.bind_carry.specs.Which.{AreMatchedAll}
-use Rattle.bind_carry.specs.Whole.{kept, IsInterfaceCarried, IsWorldCarried}
+use Rattle.bind_carry.specs.{MatchedSame.AreMatchedAt, MatchedSame.NoneOfPath, Which.AreMatchedAll, Whole.kept, Whole.IsInterfaceCarried, Whole.IsWorldCarried}
+use Rattle.bind_carry.specs.{Packaged.IsPackageCarried, TooLong.CarriedThings, Union.IsUnionOf}
 use Rattle.bind_carry.proofs.KeysGained.{by_path_apart, exports_apart, exports_behind, imports_apart, imports_behind}
-use Rattle.wit_bind.specs.Brings.{type_notes, Notes}
-use Rattle.wit_bind.specs.Extends.{Extends}
-use Rattle.base_lemmas.proofs.Bools.{left_of as first_true, right_of as second_true}
+use Rattle.wit_bind.specs.{Brings.type_notes, Brings.Notes, Extends.Extends}
+use Rattle.base_lemmas.proofs.{Bools.left_of as first_true, Bools.right_of as second_true, Lists.front_at, Lists.within_there as element_at}
 use Rattle.base_lemmas.proofs.Elements.{all-contained, all_by_number as all_by, all_get as at_all, contains-later, contains-map, filter_kept as from-filter, joined_well as joined_all}
-use Rattle.base_lemmas.proofs.Lists.{front_at, within_there as element_at}
+use Rattle.wit_model.specs.declared.model.Stability.TheVariants as stability
+use Rattle.wit_model.specs.declared.model.TypeDefKind.TheVariants as kind
+use Rattle.wit_model.specs.declared.model.WorldItem.TheVariants as item
 
 -- ---- documentation and stability
 

@@ -1,45 +1,23 @@
 -- What is new by name or path is copied.
 use Rattle.std.proofs.Common.{◌≡◌, refl, sym, ap, ◌∙◌, ℕ, zero, suc, Bool, true, false, not, ◌&&◌, List, [], ◌∷◌, map, Option, Some, None, is_none, is_some, option_map, slice_get, unwrap_or}
-use Rattle.std.specs.Prelude.{filter_map, option_and_then}
-use Rattle.std.specs.List.{cons_option, list_any}
-use Rattle.std.specs.Option.{option_map_or}
-use Rattle.std.proofs.lemmas.Bool.{or_left, or_right}
-use Rattle.std.proofs.lemmas.Option.{slice_get-map}
-use Rattle.wit_model.specs.declared.model.Interface.{Interface}
-use Rattle.wit_model.specs.declared.model.Package.{Package}
-use Rattle.wit_model.specs.declared.model.PackageId.{PackageId}
-use Rattle.wit_model.specs.declared.model.Resolve.{Resolve}
-use Rattle.wit_model.specs.declared.model.World.{World}
-use Rattle.wit_model.specs.declared.model.WorldId.{WorldId}
+use Rattle.std.proofs.lemmas.{Bool.or_left, Bool.or_right, Option.slice_get-map, Map.Keys.any_passes_from_place as any_at}
+use Rattle.std.specs.{Prelude.filter_map, Prelude.option_and_then, List.cons_option, List.list_any, Option.option_map_or}
+use Rattle.wit_model.specs.declared.model.{Interface.Interface, Package.Package, PackageId.PackageId, Resolve.Resolve, World.World, WorldId.WorldId}
 use Rattle.wit_model.specs.Lookup.{identity_of, interface_at, package_at, path_of_interface, path_of_world, world_at}
-use Rattle.wit_model.specs.Meant.{interface_meaning, world_meaning}
-use Rattle.wit_model.specs.Text.{Text, text_eq, text_of}
-use Rattle.wit_model.specs.Valid.{IsValid}
-use Rattle.wit_model.proofs.OnePath.{package-name}
-use Rattle.wit_model.proofs.VersionLaws.{same_name, same_text}
+use Rattle.wit_model.specs.{Meant.interface_meaning, Meant.world_meaning, Text.Text, Text.text_eq, Text.text_of, Valid.IsValid}
+use Rattle.wit_model.proofs.{OnePath.package-name, VersionLaws.same_name, VersionLaws.same_text}
 use Rattle.bind_clash.specs.Faults.{IsMatched}
 use Rattle.bind_clash.proofs.PathsMatched.{root-has, world-in-has, world-path-of}
 use Rattle.bind_match.specs.declared.matches.Matches.{Matches}
 use Rattle.bind_match.specs.Matching.{is_root_world, own_package_of, own_world_of}
-use Rattle.bind_meaning.specs.Binding.{package_text}
-use Rattle.bind_meaning.specs.ByNumbers.{interfaces_by_path, package_texts, worlds_by_path}
-use Rattle.bind_meaning.specs.Roots.{root_path}
+use Rattle.bind_meaning.specs.{Binding.package_text, ByNumbers.interfaces_by_path, ByNumbers.package_texts, ByNumbers.worlds_by_path, Roots.root_path}
 use Rattle.bind_meaning.proofs.Listed.{given as unpacked}
 use Rattle.bind_union.proofs.Lists.{no_true}
-use Rattle.bind_carry.specs.First.{flag_under}
+use Rattle.bind_carry.specs.{First.flag_under, MatchedSame.AreMatchedAt, Renumbered.is_matched, TooLong.CarriedThings, Which.AreMatchedAll, Which.IsNumbered}
 use Rattle.bind_carry.specs.Marked.{AreChosen}
-use Rattle.bind_carry.specs.MatchedSame.{AreMatchedAt}
-use Rattle.bind_carry.specs.Renumbered.{is_matched}
-use Rattle.bind_carry.specs.TooLong.{CarriedThings}
-use Rattle.bind_carry.specs.Which.{AreMatchedAll, IsNumbered}
-use Rattle.bind_carry.proofs.FirstCarried.{chosen_so}
-use Rattle.bind_carry.proofs.FirstPackages.{found_own}
-use Rattle.bind_carry.proofs.Ranges.{is_in_range}
+use Rattle.bind_carry.proofs.{FirstCarried.chosen_so, FirstPackages.found_own, Ranges.is_in_range, NamesGained.new_world_flag as world_flag}
 use Rattle.wit_bind.specs.Comes.{is_new_interface, is_new_package, is_new_world, is_one_of}
-use Rattle.base_lemmas.proofs.Bools.{left_of as first_true, right_of as second_true}
-use Rattle.base_lemmas.proofs.Lists.{mapped_get as mapped_at}
-use Rattle.std.proofs.lemmas.Map.Keys.{any_passes_from_place as any_at}
-use Rattle.bind_carry.proofs.NamesGained.{new_world_flag as world_flag}
+use Rattle.base_lemmas.proofs.{Bools.left_of as first_true, Bools.right_of as second_true, Lists.mapped_get as mapped_at}
 
 -- ---- what stands under a path
 

@@ -1,76 +1,35 @@
 -- What both passes copy has its own documentation, stability and external ids in what is merged.
 use Rattle.std.proofs.Common.{◌≡◌, refl, sym, ap, subst, ◌∙◌, inl, inr, ℕ, ◌+◌, ◌≤◌, Bool, true, false, List, [], ◌++◌, length, map, append-nil, Option, Some, is_none, is_some, option_map, slice_get, Contains}
-use Rattle.std.specs.Prelude.{option_and_then, unwrap_or}
-use Rattle.std.specs.List.{filter, list_all, AllZip, IsDistinct}
-use Rattle.std.specs.Map.{keys_of}
-use Rattle.std.specs.Option.{option_map_or}
-use Rattle.std.proofs.lemmas.List.{length-map}
-use Rattle.std.proofs.lemmas.List.Elements.{Contains-append_right}
-use Rattle.std.proofs.lemmas.Map.Made.{IsDistinct-keys_filter}
-use Rattle.std.proofs.lemmas.Option.{slice_get-map, slice_get_within, same_Some as same-some}
-use Rattle.wit_model.specs.declared.model.Interface.{Interface}
-use Rattle.wit_model.specs.declared.model.InterfaceId.{InterfaceId}
-use Rattle.wit_model.specs.declared.model.Package.{Package}
-use Rattle.wit_model.specs.declared.model.PackageId.{PackageId}
-use Rattle.wit_model.specs.declared.model.Resolve.{Resolve}
-use Rattle.wit_model.specs.declared.model.TypeDef.{TypeDef}
-use Rattle.wit_model.specs.declared.model.TypeOwner.{TypeOwner}
-use Rattle.wit_model.specs.declared.model.World.{World}
-use Rattle.wit_model.specs.declared.model.WorldItem.{WorldItem}
-use Rattle.wit_model.specs.declared.model.WorldKey.{WorldKey}
-use Rattle.wit_model.specs.declared.model.WorldKey.TheVariants as key
-use Rattle.wit_model.specs.Checks.{references}
+use Rattle.std.proofs.lemmas.{List.length-map, List.Elements.Contains-append_right, Map.Made.IsDistinct-keys_filter}
+use Rattle.std.proofs.lemmas.{Option.slice_get-map, Option.slice_get_within, Option.same_Some as same-some, Map.Keys.any_passes_from_place as any_at}
+use Rattle.std.specs.{Prelude.option_and_then, Prelude.unwrap_or, List.filter, List.list_all, List.AllZip, List.IsDistinct, Map.keys_of, Option.option_map_or}
+use Rattle.wit_model.specs.declared.model.{Interface.Interface, InterfaceId.InterfaceId, PackageId.PackageId, TypeOwner.TypeOwner, WorldItem.WorldItem}
+use Rattle.wit_model.specs.declared.model.{Package.Package, Resolve.Resolve, TypeDef.TypeDef, World.World, WorldKey.WorldKey}
+use Rattle.wit_model.specs.{Checks.references, Names.path_in, Parts.kind_numbers}
 use Rattle.wit_model.specs.Lookup.{identity_of, interface_at, interface_path, key_text, package_at, path_in_package, path_of_interface, path_of_world, type_at, world_at}
-use Rattle.wit_model.specs.Names.{path_in}
-use Rattle.wit_model.specs.Parts.{kind_numbers}
-use Rattle.wit_model.specs.Text.{Text, optional_text, text_eq, text_of}
-use Rattle.wit_model.specs.Types.{declaration_of, number_tree}
-use Rattle.wit_model.specs.Valid.{IsValid, Keeps}
-use Rattle.wit_model.proofs.Elements.{contains-get}
-use Rattle.wit_model.proofs.OnePath.{named-path}
-use Rattle.wit_model.proofs.VersionLaws.{same_text}
+use Rattle.wit_model.specs.{Text.Text, Text.optional_text, Text.text_eq, Text.text_of, Types.declaration_of, Types.number_tree, Valid.IsValid, Valid.Keeps}
+use Rattle.wit_model.proofs.{Elements.contains-get, OnePath.named-path, VersionLaws.same_text}
 use Rattle.bind_clash.proofs.PathsMatched.{world-path-of, IsPathOf}
 use Rattle.bind_copy.specs.Copies.{become_one, is_new_under, number_under, IsEntryUnder, IsInterfaceUnder, IsTypeUnder}
 use Rattle.bind_match.specs.declared.matches.Matches.{Matches}
-use Rattle.bind_union.specs.Carried.{Renumbering}
-use Rattle.bind_union.specs.Joined.{IsJoined, Joined}
-use Rattle.bind_union.specs.Merged.{AreCopies}
+use Rattle.bind_union.specs.{Carried.Renumbering, Joined.IsJoined, Joined.Joined, Merged.AreCopies}
 use Rattle.bind_union.proofs.Carrying.{carried_types, kind_carried, references_of, refers_below, same_identity, tree_same}
-use Rattle.bind_union.proofs.Images.{same_declarations}
-use Rattle.bind_union.proofs.Lists.{no_true}
-use Rattle.bind_union.proofs.ViewTests.{numbers_same}
-use Rattle.bind_carry.specs.BoundGains.{bound_fates}
-use Rattle.bind_carry.specs.Fates.{is_carried}
-use Rattle.bind_carry.specs.First.{first_fates, flag_under}
-use Rattle.bind_carry.specs.FirstPass.{IsFirstPass}
-use Rattle.bind_carry.specs.Marked.{AreChosen}
-use Rattle.bind_carry.specs.Numbers.{interface_number, numbers_of, package_number, world_number}
-use Rattle.bind_carry.specs.Packaged.{IsPackageCarried}
-use Rattle.bind_carry.specs.Renumbered.{first_of, is_copied}
-use Rattle.bind_carry.specs.SecondPass.{second_pass_of, IsSecondPass}
-use Rattle.bind_carry.specs.TooLong.{CarriedThings, TypeFates}
-use Rattle.bind_carry.specs.Whole.{home_under, IsInterfaceCarried, IsWorldCarried}
-use Rattle.bind_carry.proofs.CopiesPlaced.{copied_home, copy_placed}
-use Rattle.bind_carry.proofs.FirstCopies.{first_is_copied}
-use Rattle.bind_carry.proofs.FirstMatched.{names}
-use Rattle.bind_carry.proofs.FirstTypes.{stood_how as first_stood}
-use Rattle.bind_carry.proofs.FirstWorldsCopied.{first_worlds_are_copied}
-use Rattle.bind_carry.proofs.InsertedBehind.{all_behind, filter_passes}
-use Rattle.bind_carry.proofs.KeptPlaced.{kept_placed, IsKeptAt}
-use Rattle.bind_carry.proofs.NothingElse.{type_from}
-use Rattle.bind_carry.proofs.SecondCarried.{second_is_copied}
-use Rattle.bind_carry.proofs.SecondInterfaces.{carried_number, inline_at, inline_place}
-use Rattle.bind_carry.proofs.SecondJoined as second_joined
-use Rattle.bind_carry.proofs.SecondKnown.{chosen, long}
-use Rattle.bind_carry.proofs.SecondStands.{known as second_known, stood_how as second_stood}
-use Rattle.bind_carry.proofs.UnionKeys.{carried_path}
-use Rattle.bind_carry.proofs.WorldEntries.{export_keyed, import_keyed}
+use Rattle.bind_union.proofs.{Images.same_declarations, Lists.no_true, ViewTests.numbers_same}
+use Rattle.bind_carry.specs.{BoundGains.bound_fates, FirstPass.IsFirstPass, Marked.AreChosen}
+use Rattle.bind_carry.specs.{Fates.is_carried, Packaged.IsPackageCarried, Renumbered.first_of, Renumbered.is_copied, TooLong.CarriedThings, TooLong.TypeFates}
+use Rattle.bind_carry.specs.{First.first_fates, First.flag_under, Numbers.interface_number, Numbers.numbers_of, Numbers.package_number, Numbers.world_number}
+use Rattle.bind_carry.specs.{SecondPass.second_pass_of, SecondPass.IsSecondPass, Whole.home_under, Whole.IsInterfaceCarried, Whole.IsWorldCarried}
+use Rattle.bind_carry.proofs.{CopiesPlaced.copied_home, CopiesPlaced.copy_placed, FirstMatched.names, InsertedBehind.all_behind, InsertedBehind.filter_passes}
+use Rattle.bind_carry.proofs.{FirstCopies.first_is_copied, NothingElse.type_from, SecondCarried.second_is_copied, UnionKeys.carried_path}
+use Rattle.bind_carry.proofs.{FirstTypes.stood_how as first_stood, FirstWorldsCopied.first_worlds_are_copied, KeptPlaced.kept_placed, KeptPlaced.IsKeptAt}
+use Rattle.bind_carry.proofs.{SecondInterfaces.carried_number, SecondInterfaces.inline_at, SecondInterfaces.inline_place, SecondKnown.chosen, SecondKnown.long}
+use Rattle.bind_carry.proofs.{SecondStands.known as second_known, SecondStands.stood_how as second_stood, WorldEntries.export_keyed, WorldEntries.import_keyed}
 use Rattle.wit_bind.specs.Brings.{entry_notes, interface_notes, key_texts, type_notes, type_notes_at, unnamed_notes, world_notes, BringsEntries, IsTypeOf}
 use Rattle.wit_bind.specs.Comes.{is_one_of}
 use Rattle.wit_bind.proofs.Notes.{entries_noted, interface_noted, met_or_noted, parts_noted, IsMetOrNoted}
-use Rattle.base_lemmas.proofs.Elements.{get-contains}
-use Rattle.base_lemmas.proofs.Options.{nameless as named_none, there as some-of}
-use Rattle.std.proofs.lemmas.Map.Keys.{any_passes_from_place as any_at}
+use Rattle.base_lemmas.proofs.{Elements.get-contains, Options.nameless as named_none, Options.there as some-of}
+use Rattle.wit_model.specs.declared.model.WorldKey.TheVariants as key
+use Rattle.bind_carry.proofs.SecondJoined as second_joined
 
 type_noted : (numbers : List ℕ) (home : TypeOwner) (old new : TypeDef) → IsTypeUnder numbers home old new → type_notes new ≡ type_notes old
 type_noted numbers home old new is = λ i. record { docs = is.docs i; stability = is.stability i; external_id = is.external_id i; of_members = is.of_members i }

@@ -1,26 +1,12 @@
 -- What is copied of other bindings comes by its path, or is gained by the own bound world.
 use Rattle.std.proofs.Common.{◌≡◌, ◌⊎◌, inl, inr, refl, sym, ap, subst, ◌∙◌, arith, ℕ, zero, suc, ◌+◌, Bool, true, false, not, ◌&&◌, ◌||◌, ◌==◌, List, [], ◌∷◌, length, map, Option, Some, None, is_none, is_some, slice_get, unwrap_or, Contains}
-use Rattle.std.specs.Prelude.{String}
+use Rattle.std.proofs.lemmas.{List.length-map, Option.slice_get_within}
+use Rattle.std.specs.{Prelude.String, List.list_any, Option.option_map_or}
 use Rattle.std.specs.declared.alloc.Global.{Global}
-use Rattle.std.specs.List.{list_any}
-use Rattle.std.specs.Option.{option_map_or}
-use Rattle.std.proofs.lemmas.List.{length-map}
-use Rattle.std.proofs.lemmas.Option.{slice_get_within}
-use Rattle.wit_model.specs.declared.model.Interface.{Interface}
-use Rattle.wit_model.specs.declared.model.Resolve.{Resolve}
-use Rattle.wit_model.specs.declared.model.TypeOwner.{TypeOwner}
-use Rattle.wit_model.specs.declared.model.TypeOwner.TheVariants as owner
-use Rattle.wit_model.specs.declared.model.World.{World}
-use Rattle.wit_model.specs.declared.model.WorldItem.{WorldItem}
-use Rattle.wit_model.specs.declared.model.WorldKey.{WorldKey}
-use Rattle.wit_model.specs.declared.model.WorldKey.TheVariants as key
-use Rattle.wit_model.specs.Lookup.{interface_at, interface_path, key_text, world_at}
-use Rattle.wit_model.specs.Meaning.{WorldMeaning}
-use Rattle.wit_model.specs.Meant.{entries_meaning, no_world, world_meaning}
-use Rattle.wit_model.specs.Rules.{is_id}
-use Rattle.wit_model.specs.Text.{Text, text_eq}
-use Rattle.wit_model.specs.Uses.{item_interface}
-use Rattle.wit_model.proofs.OnePath.{named-path}
+use Rattle.wit_model.specs.declared.model.{Interface.Interface, Resolve.Resolve, TypeOwner.TypeOwner, World.World, WorldItem.WorldItem, WorldKey.WorldKey}
+use Rattle.wit_model.specs.{Lookup.interface_at, Lookup.interface_path, Lookup.key_text, Lookup.world_at, Meaning.WorldMeaning, Text.Text, Text.text_eq}
+use Rattle.wit_model.specs.{Meant.entries_meaning, Meant.no_world, Meant.world_meaning, Rules.is_id, Uses.item_interface}
+use Rattle.wit_model.proofs.{OnePath.named-path, RulesLemmas.is_id_some as some_id, TextLemmas.text_same as text-same}
 use Rattle.bind_meaning.specs.Clash.{entry_under, CanUnite}
 use Rattle.bind_meaning.proofs.WorldBindings.{export-key, import-key, keys-apart, IsKey}
 use Rattle.bind_clash.specs.Faults.{IsMatched}
@@ -28,40 +14,25 @@ use Rattle.bind_clash.proofs.KeysMatched.{no-entry}
 use Rattle.bind_copy.specs.Copies.{is_key_under, is_new_under, number_under}
 use Rattle.bind_match.specs.declared.matches.Matches.{Matches}
 use Rattle.bind_union.proofs.Lists.{no_true}
-use Rattle.bind_carry.specs.Bound.{bound_interfaces}
-use Rattle.bind_carry.specs.BoundGains.{bound_fates, gained_inline, gains_any}
-use Rattle.bind_carry.specs.Fates.{copies}
-use Rattle.bind_carry.specs.First.{adds_any, first_fates, flag_under, is_named_at}
-use Rattle.bind_carry.specs.MadeOf.{Come, IsMadeUp, IsOwnedBy}
-use Rattle.bind_carry.specs.Marked.{is_inline_at, is_shown_in, mark_worlds, AreChosen}
-use Rattle.bind_carry.specs.MatchedSame.{AreMatchedAt, NoneOfPath}
-use Rattle.bind_carry.specs.Numbers.{copied_count, interface_number}
-use Rattle.bind_carry.specs.Renumbered.{is_matched}
-use Rattle.bind_carry.specs.SecondPass.{DoNotClash}
-use Rattle.bind_carry.specs.Shown.{any_new, AreShownBelow}
-use Rattle.bind_carry.specs.TooLong.{carried_interfaces, carried_worlds, copies_of, CarriedThings, TypeFates}
-use Rattle.bind_carry.specs.Which.{new_interfaces, AreMatchedAll, IsNumbered}
-use Rattle.bind_carry.specs.Whole.{kept}
-use Rattle.bind_carry.proofs.FirstMatched.{matched_under, named_of_path, uncopied_under}
-use Rattle.bind_carry.proofs.Marking.{are_chosen}
-use Rattle.bind_carry.proofs.Ranges.{is_in_range}
-use Rattle.bind_carry.proofs.Ready.{fates_long, interface_count}
-use Rattle.bind_carry.proofs.SecondMarks.{gained_flag, gained_long, is_gained, is_shown_new}
+use Rattle.bind_carry.specs.{Bound.bound_interfaces, Shown.any_new, Shown.AreShownBelow, Which.new_interfaces, Which.AreMatchedAll, Which.IsNumbered}
+use Rattle.bind_carry.specs.{BoundGains.bound_fates, BoundGains.gained_inline, BoundGains.gains_any, MadeOf.Come, MadeOf.IsMadeUp, MadeOf.IsOwnedBy, Whole.kept}
+use Rattle.bind_carry.specs.{Fates.copies, TooLong.carried_interfaces, TooLong.carried_worlds, TooLong.copies_of, TooLong.CarriedThings, TooLong.TypeFates}
+use Rattle.bind_carry.specs.{First.adds_any, First.first_fates, First.flag_under, First.is_named_at, Numbers.copied_count, Numbers.interface_number}
+use Rattle.bind_carry.specs.{Marked.is_inline_at, Marked.is_shown_in, Marked.mark_worlds, Marked.AreChosen, MatchedSame.AreMatchedAt, MatchedSame.NoneOfPath}
+use Rattle.bind_carry.specs.{Renumbered.is_matched, SecondPass.DoNotClash}
+use Rattle.bind_carry.proofs.{FirstMatched.matched_under, FirstMatched.named_of_path, FirstMatched.uncopied_under, Ready.fates_long, Ready.interface_count}
+use Rattle.bind_carry.proofs.{Marking.are_chosen, WorldEntries.any_place, WorldEntries.export_keyed, WorldEntries.import_keyed, WorldEntries.new_under_same}
+use Rattle.bind_carry.proofs.{Ranges.is_in_range, SecondMarks.gained_flag, SecondMarks.gained_long, SecondMarks.is_gained, SecondMarks.is_shown_new}
 use Rattle.bind_carry.proofs.WhatComes.{first_comes, marked_count, second_comes, IsNewImport}
-use Rattle.bind_carry.proofs.WorldEntries.{any_place, export_keyed, import_keyed, new_under_same}
 use Rattle.bind_carry.proofs.CountedCopies.{interfaces_flagged, worlds_flagged}
 use Rattle.wit_bind.specs.declared.bindgen.Bindgen.{Bindgen}
 use Rattle.wit_bind.specs.Bindings.{binding_of, IsBindgen}
 use Rattle.wit_bind.specs.Comes.{ExportIsGained, ImportIsGained, InlineComes, InlineIsGained, InterfaceComes, OwnerComes, OwnerIsGained, OwnerIsShown, OwnerStands, SomethingComes, SomethingIsGained, TypeComes, TypeIsGained, WorldComes}
-use Rattle.wit_bind.proofs.MatchedPaths.{all-matched, matched-with, none-of-path}
-use Rattle.wit_bind.proofs.NumbersAgree.{united_agree_by_numbers}
+use Rattle.wit_bind.proofs.{MatchedPaths.all-matched, MatchedPaths.matched-with, MatchedPaths.none-of-path, NumbersAgree.united_agree_by_numbers}
 use Rattle.wit_bind.proofs.TooMany.{new-interface, new-world, shown}
-use Rattle.base_lemmas.proofs.Bools.{left_of as first_true, right_of as second_true}
-use Rattle.base_lemmas.proofs.Elements.{get-contains}
-use Rattle.base_lemmas.proofs.Lists.{within_there}
-use Rattle.base_lemmas.proofs.Options.{there as some-of}
-use Rattle.wit_model.proofs.RulesLemmas.{is_id_some as some_id}
-use Rattle.wit_model.proofs.TextLemmas.{text_same as text-same}
+use Rattle.base_lemmas.proofs.{Bools.left_of as first_true, Bools.right_of as second_true, Elements.get-contains, Lists.within_there, Options.there as some-of}
+use Rattle.wit_model.specs.declared.model.TypeOwner.TheVariants as owner
+use Rattle.wit_model.specs.declared.model.WorldKey.TheVariants as key
 
 -- ---- lists
 

@@ -1,24 +1,20 @@
 -- The least key that has two encodings, found one entry after the other; and encodings added to others.
 use Rattle.std.proofs.Common.{◌≡◌, refl, sym, ap, subst, ◌∙◌, ◌⊎◌, inl, inr, Bool, true, false, not, List, [], ◌∷◌, cond, Option, Some, None}
 use mathlib.Core.Bool.{true≢false}
-use Rattle.std.specs.Prelude.{◌≢◌, ◌==◌}
-use Rattle.std.specs.List.{AllByRecursion, IsDistinct}
-use Rattle.std.specs.Map.{keys_of}
-use Rattle.std.specs.Option.{option_map_or}
+use Rattle.std.specs.{Prelude.◌≢◌, Prelude.◌==◌, List.AllByRecursion, List.IsDistinct, Map.keys_of, Option.option_map_or}
 use Rattle.std.proofs.lemmas.Slice.Eq.{bytes_eq-Decides}
 use Rattle.indexmap.specs.IndexMap.{insert_all, insert_entry}
 use Rattle.wit_model.specs.declared.model.StringEncoding.{StringEncoding}
-use Rattle.wit_model.specs.declared.model.StringEncoding.TheVariants as encodings
-use Rattle.wit_model.specs.contracts.model.StringEncodingPartialEq.TheImpl as encoding
 use Rattle.wit_model.specs.Text.{Text, text_eq}
-use Rattle.wit_model.proofs.VersionLaws.{same_text}
+use Rattle.wit_model.proofs.{VersionLaws.same_text, TextLemmas.text_same as text-same}
 use Rattle.bind_meaning.specs.Clash.{Differ, EncodingFault, itself}
 use Rattle.bind_clash.specs.Faults.{IsLeastFault, least_of}
 use Rattle.bind_clash.proofs.LeastFaults.{of_two, one_fault, same_faults}
 use Rattle.wit_bind.specs.Encodings.{Encodings, encoding_at, kept_encodings, number_of_encoding}
 use Rattle.wit_bind.specs.Unions.{conflict_at, Gains, has_another, or_else}
 use Rattle.wit_bind.proofs.Kept.{Entries, kept_at, under, under_put}
-use Rattle.wit_model.proofs.TextLemmas.{text_same as text-same}
+use Rattle.wit_model.specs.declared.model.StringEncoding.TheVariants as encodings
+use Rattle.wit_model.specs.contracts.model.StringEncodingPartialEq.TheImpl as encoding
 
 -- ---- the least of what is left, beside the least so far
 

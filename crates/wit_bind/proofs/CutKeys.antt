@@ -1,8 +1,7 @@
 -- Keys that are compared and hashed by their two parts.
 use Rattle.std.proofs.Common.{◌≡◌, sym, ap, ◌∙◌, Bool, true, false, ◌&&◌}
 use Rattle.wit_model.specs.Text.{Text, text_eq}
-use Rattle.wit_bind.specs.Cuts.{front_of, IsCut, makes_key, name_of}
-use Rattle.wit_bind.specs.CutLaws.{cut_same, front_is, makes_is, name_is}
+use Rattle.wit_bind.specs.{Cuts.front_of, Cuts.IsCut, Cuts.makes_key, Cuts.name_of, CutLaws.cut_same, CutLaws.front_is, CutLaws.makes_is, CutLaws.name_is}
 use Rattle.wit_bind.specs.declared.table.Parts.{Parts}
 
 pub front_found : (key front name : Text) → IsCut key front name → front_of key ≡ front

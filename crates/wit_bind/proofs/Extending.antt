@@ -1,23 +1,15 @@
 -- What is added under new keys comes behind what was there.
 use Rattle.std.proofs.Common.{◌≡◌, refl, sym, ap, ◌∙◌, ◌⊎◌, inl, inr, arith, ℕ, zero, suc, ◌<◌, List, [], ◌∷◌, Some, slice_get, slice_set}
+use Rattle.std.proofs.lemmas.{Bool.cases_order, List.append-nil, Option.same_Some as same-some}
 use Rattle.std.specs.Prelude.{◌≢◌}
-use Rattle.std.proofs.lemmas.Bool.{cases_order}
-use Rattle.std.proofs.lemmas.List.{append-nil}
-use Rattle.wit_model.specs.declared.model.Package.{Package}
-use Rattle.wit_model.specs.declared.model.Resolve.{Resolve}
-use Rattle.wit_model.specs.declared.model.World.{World}
+use Rattle.wit_model.specs.declared.model.{Package.Package, Resolve.Resolve, World.World}
 use Rattle.wit_model.specs.Lookup.{package_at, world_at}
-use Rattle.bind_add.specs.Growth as growth
-use Rattle.bind_add.specs.declared.added.Added.{Added}
-use Rattle.bind_add.specs.declared.added.Names.{Names}
-use Rattle.wit_bind.specs.declared.bindgen.Bindgen.{Bindgen}
-use Rattle.wit_bind.specs.declared.metadata.ModuleMetadata.{ModuleMetadata}
+use Rattle.bind_add.specs.declared.added.{Added.Added, Names.Names}
+use Rattle.wit_bind.specs.declared.{bindgen.Bindgen.Bindgen, metadata.ModuleMetadata.ModuleMetadata}
 use Rattle.bind_carry.specs.Apart.{IsApart}
-use Rattle.wit_bind.specs.Apart.{GrownExtend}
-use Rattle.wit_bind.specs.Extends.{IsGrownPackage, IsGrownWorld}
-use Rattle.wit_bind.specs.Merges.{IsGrownBy}
+use Rattle.wit_bind.specs.{Apart.GrownExtend, Extends.IsGrownPackage, Extends.IsGrownWorld, Merges.IsGrownBy}
 use Rattle.base_lemmas.proofs.Lists.{front_at as front, set_there as put-elsewhere, within_there as element_at}
-use Rattle.std.proofs.lemmas.Option.{same_Some as same-some}
+use Rattle.bind_add.specs.Growth as growth
 
 -- ---- lists
 

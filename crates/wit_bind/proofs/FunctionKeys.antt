@@ -1,29 +1,19 @@
 -- The entries of functions, listed, are exactly those of functions.
 use Rattle.std.proofs.Common.{◌≡◌, refl, sym, ap, subst, ◌∙◌, ◌⊎◌, inl, inr, ℕ, [], Option, Some, None, option_to_list, option_and_then, option_map, Result, Ok, Err, IfOk}
-use Rattle.std.specs.List.{Contains}
-use Rattle.std.specs.Option.{option_map_or}
-use Rattle.std.specs.FinMap.{empty, get-empty}
-use Rattle.wit_model.specs.declared.model.Resolve.{Resolve}
-use Rattle.wit_model.specs.declared.model.Interface.{Interface}
-use Rattle.wit_model.specs.declared.model.StringEncoding.{StringEncoding}
-use Rattle.wit_model.specs.declared.model.WorldItem.{WorldItem}
-use Rattle.wit_model.specs.declared.model.WorldItem.TheVariants as item
-use Rattle.wit_model.specs.declared.model.WorldKey.{WorldKey}
-use Rattle.wit_model.specs.declared.model.WorldKey.TheVariants as key
-use Rattle.wit_model.specs.Text.{Text, text_cmp, text_of}
-use Rattle.wit_model.specs.Lookup.{interface_at}
-use Rattle.wit_model.specs.Uses.{item_interface}
+use Rattle.std.proofs.lemmas.Option.{same_Some as same-some}
+use Rattle.std.specs.{List.Contains, Option.option_map_or, FinMap.empty, FinMap.get-empty}
+use Rattle.wit_model.specs.declared.model.{Resolve.Resolve, Interface.Interface, StringEncoding.StringEncoding, WorldItem.WorldItem, WorldKey.WorldKey}
+use Rattle.wit_model.specs.{Text.Text, Text.text_cmp, Text.text_of, Lookup.interface_at, Uses.item_interface}
 use Rattle.wit_model.proofs.Elements.{none-in, contains-flat, contains-filter_map}
-use Rattle.wit_bind.specs.Keys.{text_under, function_key}
+use Rattle.wit_bind.specs.{Keys.text_under, Keys.function_key, Keys.unversioned_key, OldKeys.IsFunctionOf, OldKeys.itself, OldKeys.member, OldKeys.CarriesOver}
 use Rattle.wit_bind.specs.Encodings.{Encodings, encoding_at}
-use Rattle.bind_meaning.proofs.Listed.{from-flat, from-given}
 use Rattle.wit_bind.specs.Functions.{Items, IsFunctionKey, of_item, of_interface, MapsFunctions}
 use Rattle.wit_bind.specs.KeyLists.{Choice, Entry, entries_of_item, entries_of_items, entry_of, member_entries, Puts}
-use Rattle.wit_bind.specs.OldKeys.{IsFunctionOf, itself, member, CarriesOver}
-use Rattle.wit_bind.specs.Keys.{unversioned_key}
+use Rattle.bind_meaning.proofs.Listed.{from-flat, from-given}
 use Rattle.wit_bind.proofs.Putting.{comes, holds}
 use Rattle.base_lemmas.proofs.Elements.{contains-one, last_of as one-contained}
-use Rattle.std.proofs.lemmas.Option.{same_Some as same-some}
+use Rattle.wit_model.specs.declared.model.WorldItem.TheVariants as item
+use Rattle.wit_model.specs.declared.model.WorldKey.TheVariants as key
 
 -- ---- the entries of functions
 

@@ -1,19 +1,16 @@
 -- What is planned can be added, and what is added is behind what there was.
 use Rattle.std.proofs.Common.{◌≡◌, sym, subst, ℕ, ◌<◌, ◌≤◌, Bool, true, List, length, Result, Ok, Err, OnErr, OnOk}
 use Rattle.std.specs.Prelude.{IfOk}
-use Rattle.wit_model.specs.declared.model.Resolve.{Resolve}
-use Rattle.wit_model.specs.declared.model.WorldKey.{WorldKey}
+use Rattle.wit_model.specs.declared.model.{Resolve.Resolve, WorldKey.WorldKey}
 use Rattle.wit_model.specs.Valid.{key_eq}
 use Rattle.bind_add.specs.Growth.{are_in_range, IsAddable, IsAdded, IsSameResolve}
 use Rattle.bind_add.specs.declared.added.Added.{Added}
-use Rattle.bind_carry.proofs.Addable.{unions_are_addable}
-use Rattle.bind_carry.proofs.Ranges.{is_in_range}
+use Rattle.bind_carry.proofs.{Addable.unions_are_addable, Ranges.is_in_range}
 use Rattle.bind_copy.proofs.Gained.{test_is}
-use Rattle.wit_model.specs.contracts.model.WorldKeyPartialEq.TheImpl as world_key
 use Rattle.wit_bind.specs.declared.bindgen.Bindgen.{Bindgen}
-use Rattle.wit_bind.specs.Bindings.{IsBindgen}
-use Rattle.wit_bind.specs.Merges.{IsPlanOf}
+use Rattle.wit_bind.specs.{Bindings.IsBindgen, Merges.IsPlanOf}
 use Rattle.base_lemmas.proofs.Lists.{within_there as element_at}
+use Rattle.wit_model.specs.contracts.model.WorldKeyPartialEq.TheImpl as world_key
 
 pub plan_addable : (own other : Bindgen) → IsBindgen own → IsBindgen other → (added : Added) (keys : List WorldKey) → IsPlanOf own other added keys → IsAddable own.resolve own.world.0 added
 plan_addable own other o t added keys p =

@@ -1,22 +1,14 @@
 -- A merge adds what comes, and nothing where nothing is new.
 use Rattle.std.proofs.Common.{◌≡◌, ap, ◌∙◌, arith, ℕ, ◌+◌, ◌≤◌, false, List, [], ◌++◌, length, slice_set, unwrap_or, Some}
-use Rattle.wit_model.specs.declared.model.World.{World}
-use Rattle.wit_model.specs.declared.model.WorldKey.{WorldKey}
+use Rattle.wit_model.specs.declared.model.{World.World, WorldKey.WorldKey}
 use Rattle.wit_model.specs.Lookup.{world_at}
 use Rattle.bind_add.specs.declared.added.Added.{Added}
 use Rattle.bind_add.proofs.Gains.{set_length}
-use Rattle.bind_carry.specs.Bound.{bound_interfaces}
-use Rattle.bind_carry.specs.BoundGains.{bound_fates, gained_inline}
-use Rattle.bind_carry.specs.First.{first_fates}
-use Rattle.bind_carry.specs.Numbers.{copied_count}
-use Rattle.bind_carry.specs.Packaged.{IsPackageCarried}
-use Rattle.bind_carry.specs.TooLong.{carried_interfaces, copies_of, gained_fates, CarriedThings, TypeFates}
-use Rattle.bind_carry.specs.Shown.{AreShownBelow}
-use Rattle.bind_carry.specs.Union.{IsUnionOf}
-use Rattle.bind_carry.specs.Whole.{IsInterfaceCarried, IsWorldCarried}
+use Rattle.bind_carry.specs.{Bound.bound_interfaces, First.first_fates, Numbers.copied_count, Union.IsUnionOf}
+use Rattle.bind_carry.specs.{BoundGains.bound_fates, BoundGains.gained_inline, Packaged.IsPackageCarried, Whole.IsInterfaceCarried, Whole.IsWorldCarried}
+use Rattle.bind_carry.specs.{TooLong.carried_interfaces, TooLong.copies_of, TooLong.gained_fates, TooLong.CarriedThings, TooLong.TypeFates, Shown.AreShownBelow}
 use Rattle.bind_carry.proofs.Counting.{carried_all, carried_few, copied_long, inline_all, length_both}
-use Rattle.bind_carry.proofs.Ready.{bound_long, fates_long, numbers_count}
-use Rattle.bind_carry.proofs.SecondMarks.{gained_long}
+use Rattle.bind_carry.proofs.{Ready.bound_long, Ready.fates_long, Ready.numbers_count, SecondMarks.gained_long}
 use Rattle.bind_meaning.specs.Clash.{CanUnite}
 use Rattle.wit_bind.specs.declared.bindgen.Bindgen.{Bindgen}
 use Rattle.wit_bind.specs.Bindings.{binding_of, IsBindgen}

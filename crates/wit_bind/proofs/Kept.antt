@@ -1,21 +1,12 @@
 -- What is kept under keys is a map by their texts.
 use Rattle.std.proofs.Common.{◌≡◌, refl, sym, ap, ◌∙◌, Bool, true, false, List, [], ◌∷◌, cond, Option, Some, None}
-use Rattle.std.specs.Map.{lookup}
-use Rattle.std.specs.Option.{option_map_or}
-use Rattle.std.specs.FinMap.{find, get-from_entries}
-use Rattle.std.proofs.lemmas.Cmp.{nat_list_cmp_total}
-use Rattle.std.proofs.lemmas.Slice.Eq.{bytes_eq-Decides}
+use Rattle.std.proofs.lemmas.{Cmp.nat_list_cmp_total, Slice.Eq.bytes_eq-Decides}
+use Rattle.std.specs.{Map.lookup, Option.option_map_or, FinMap.find, FinMap.get-from_entries}
 use Rattle.indexmap.specs.IndexMap.{insert_entry}
-use Rattle.wit_model.specs.declared.model.Resolve.{Resolve}
-use Rattle.wit_model.specs.declared.model.StringEncoding.{StringEncoding}
-use Rattle.wit_model.specs.declared.model.WorldKey.{WorldKey}
+use Rattle.wit_model.specs.declared.model.{Resolve.Resolve, StringEncoding.StringEncoding, WorldKey.WorldKey}
 use Rattle.wit_model.specs.Text.{Text, text_eq, text_cmp}
-use Rattle.wit_model.proofs.AnyOrder.{same-text}
-use Rattle.wit_bind.specs.Keys.{function_key}
-use Rattle.wit_bind.specs.Encodings.{encoding_at, encoding_under, kept_encodings}
-use Rattle.wit_bind.specs.KeyTests.{is_key_of}
-use Rattle.wit_bind.specs.KeyLists.{Puts}
-use Rattle.wit_model.proofs.TextLemmas.{text_same as text-same}
+use Rattle.wit_model.proofs.{AnyOrder.same-text, TextLemmas.text_same as text-same}
+use Rattle.wit_bind.specs.{Keys.function_key, Encodings.encoding_at, Encodings.encoding_under, Encodings.kept_encodings, KeyTests.is_key_of, KeyLists.Puts}
 
 abbrev pub Entries : Type 0
 Entries = List (Text × StringEncoding)

@@ -1,32 +1,19 @@
 -- Bindings that are as they were stand for the same binding.
 use Rattle.std.proofs.Common.{◌≡◌, ◌∙◌, refl, sym, ap, ℕ, zero, suc, List, [], ◌∷◌, map, filter_map, option_map, option_and_then, slice_get, unwrap_or, Option, Some, None}
-use Rattle.std.specs.List.{cons_option}
-use Rattle.std.specs.Option.{option_map_or}
-use Rattle.std.specs.FinMap.{from_entries}
-use Rattle.std.specs.FinSet.{from_list}
-use Rattle.wit_model.specs.declared.model.Function.{Function}
-use Rattle.wit_model.specs.declared.model.Interface.{Interface}
-use Rattle.wit_model.specs.declared.model.PackageId.{PackageId}
-use Rattle.wit_model.specs.declared.model.Resolve.{Resolve}
-use Rattle.wit_model.specs.declared.model.TypeDef.{TypeDef}
-use Rattle.wit_model.specs.declared.model.«TypeOwner».{TypeOwner}
-use Rattle.wit_model.specs.declared.model.«TypeOwner».TheVariants as owner
-use Rattle.wit_model.specs.declared.model.World.{World}
-use Rattle.wit_model.specs.declared.model.WorldItem.{WorldItem}
-use Rattle.wit_model.specs.declared.model.WorldItem.TheVariants as item
-use Rattle.wit_model.specs.declared.model.WorldKey.{WorldKey}
-use Rattle.wit_model.specs.declared.model.WorldKey.TheVariants as key
-use Rattle.wit_model.specs.Text.{Text, optional_text, text_of}
+use Rattle.std.specs.{List.cons_option, Option.option_map_or, FinMap.from_entries, FinSet.from_list}
+use Rattle.wit_model.specs.declared.model.{Function.Function, Interface.Interface, PackageId.PackageId, «TypeOwner».TypeOwner, World.World, WorldItem.WorldItem}
+use Rattle.wit_model.specs.declared.model.{Resolve.Resolve, TypeDef.TypeDef, WorldKey.WorldKey}
+use Rattle.wit_model.specs.{Text.Text, Text.optional_text, Text.text_of, Names.path_in, Meaning.declares, Meaning.function, Meaning.inline, Meaning.interface}
 use Rattle.wit_model.specs.Tree.{named}
 use Rattle.wit_model.specs.Types.{declared_by, grow, tree_of, tree_of_declaration, tree_of_definition, trees_of}
-use Rattle.wit_model.specs.Names.{path_in}
 use Rattle.wit_model.specs.Lookup.{identity_of, interface_path, is_async, key_text, path_in_package, path_of_interface, path_of_world, place_of, place_of_path, world_at}
-use Rattle.wit_model.specs.Meaning.{declares, function, inline, interface}
 use Rattle.wit_model.specs.Meant.{entries_meaning, entry_meaning, function_meaning, interface_meaning, interface_meaning_at, no_interface, no_type, no_world, signature_of, type_meaning_at, world_meaning, world_meaning_at}
 use Rattle.bind_meaning.specs.Binding.{package_text}
 use Rattle.bind_meaning.specs.ByNumbers.{binding_at, interfaces_by_path, package_texts, world_path_at, worlds_by_path}
-use Rattle.wit_bind.specs.Bindings.{binding_of}
-use Rattle.wit_bind.specs.Extends.{AllPairs, IsSamePackage, IsSameWorld, KeptBindingsAreTheSame}
+use Rattle.wit_bind.specs.{Bindings.binding_of, Extends.AllPairs, Extends.IsSamePackage, Extends.IsSameWorld, Extends.KeptBindingsAreTheSame}
+use Rattle.wit_model.specs.declared.model.«TypeOwner».TheVariants as owner
+use Rattle.wit_model.specs.declared.model.WorldItem.TheVariants as item
+use Rattle.wit_model.specs.declared.model.WorldKey.TheVariants as key
 
 -- ---- lists that are related element by element
 

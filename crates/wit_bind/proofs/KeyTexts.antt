@@ -1,14 +1,10 @@
 -- Keys compared part by part.
 use Rattle.std.proofs.Common.{◌≡◌, refl, sym, ap, ◌∙◌, Bool, true, false, ◌==◌, ◌&&◌, [], ◌∷◌, ◌++◌, append_assoc, cond, Option, Some, None, option_map, option_and_then}
-use Rattle.std.specs.Option.{option_map_or}
-use Rattle.wit_model.specs.Text.{Text, text_eq}
-use Rattle.wit_model.specs.Rules.{after_prefix}
-use Rattle.wit_bind.specs.Keys.{text_under}
-use Rattle.wit_bind.specs.Cuts.{has_slash, IsCut}
-use Rattle.wit_bind.specs.CutLaws.{slash_within}
-use Rattle.wit_bind.specs.KeyTests.{after_slash}
-use Rattle.wit_model.proofs.TextLemmas.{text_same}
 use Rattle.std.proofs.lemmas.Cmp.{nat_list_eq_equiv}
+use Rattle.std.specs.Option.{option_map_or}
+use Rattle.wit_model.specs.{Text.Text, Text.text_eq, Rules.after_prefix}
+use Rattle.wit_bind.specs.{Keys.text_under, Cuts.has_slash, Cuts.IsCut, CutLaws.slash_within, KeyTests.after_slash}
+use Rattle.wit_model.proofs.TextLemmas.{text_same}
 use mathlib.Core.Bool.{true≢false}
 use Rattle.wit_model.proofs.RulesLemmas.{after_both}
 

@@ -1,10 +1,7 @@
 -- The last slash of a text.
 use Rattle.std.proofs.Common.{◌≡◌, refl, sym, ap, ◌∙◌, ℕ, suc, ◌+◌, ◌≤◌, ◌<◌, arith, false, ◌||◌, ◌==◌, List, [], ◌∷◌, ◌++◌, length, take, drop, get_or, Option, Some, None, MatchOption, Bor, take-append-drop, ne_eqb, lit<}
-use Rattle.std.specs.List.{list_any}
-use Rattle.std.specs.Str.Pattern.{RFindsChar}
-use Rattle.std.proofs.lemmas.List.{drop_more}
-use Rattle.std.proofs.lemmas.Str.{len_utf8_ascii}
-use Rattle.std.proofs.lemmas.Str.Pattern.{NoCharPasses-char}
+use Rattle.std.proofs.lemmas.{List.drop_more, Str.len_utf8_ascii, Str.Pattern.NoCharPasses-char}
+use Rattle.std.specs.{List.list_any, Str.Pattern.RFindsChar}
 use Rattle.wit_bind.specs.Cuts.{IsLastSlash}
 
 lacks : (xs : List ℕ) → ((i : ℕ) → i < length xs → get_or xs i 0 ≡ 47 → ⊥) → list_any (λ b. b == 47) xs ≡ false

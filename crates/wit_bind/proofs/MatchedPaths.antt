@@ -1,53 +1,31 @@
 -- Where nothing clashes, what is matched has one path and one sense.
 use Rattle.std.proofs.Common.{◌≡◌, refl, sym, ap, ◌∙◌, ℕ, length, Bool, true, false, List, map, unwrap_or, Option, Some, None, is_none, option_and_then, option_map, slice_get, String}
 use mathlib.Core.Bool.{true≢false}
-use Rattle.std.specs.Prelude.{is_some}
-use Rattle.std.specs.Option.{option_map_or}
-use Rattle.std.specs.FinMap.{get}
-use Rattle.std.specs.HashMap.{get_by_text}
+use Rattle.std.specs.{Prelude.is_some, Option.option_map_or, FinMap.get, HashMap.get_by_text}
 use Rattle.std.specs.declared.alloc.Global.{Global}
-use Rattle.std.proofs.lemmas.List.{length-map}
-use Rattle.wit_model.specs.declared.model.Interface.{Interface}
-use Rattle.wit_model.specs.declared.model.InterfaceId.{InterfaceId}
-use Rattle.wit_model.specs.declared.model.Package.{Package}
-use Rattle.wit_model.specs.declared.model.PackageId.{PackageId}
+use Rattle.std.proofs.lemmas.{List.length-map, Option.same_Some as same-some}
+use Rattle.wit_model.specs.declared.model.{Interface.Interface, InterfaceId.InterfaceId, Package.Package, PackageId.PackageId, World.World, WorldKey.WorldKey}
 use Rattle.wit_model.specs.declared.model.Resolve.{Resolve}
-use Rattle.wit_model.specs.Text.{Text, optional_text, text_of}
+use Rattle.wit_model.specs.{Text.Text, Text.optional_text, Text.text_of, Meant.interface_meaning, Meant.interface_meaning_at, Meant.no_interface}
 use Rattle.wit_model.specs.Lookup.{identity_of, interface_at, interface_path, package_at, path_of_interface}
-use Rattle.wit_model.specs.Meaning.{interface_sense}
-use Rattle.wit_model.specs.Meant.{interface_meaning, interface_meaning_at, no_interface}
-use Rattle.wit_model.specs.Rules.{same_package_name}
-use Rattle.wit_model.specs.Rules as rules
+use Rattle.wit_model.specs.{Meaning.interface_sense, Rules.same_package_name}
 use Rattle.wit_model.proofs.NameLaws.{one_path}
-use Rattle.wit_model.proofs.OnePath.{has-path, named-path, package-name, package-once, path-label}
-use Rattle.wit_model.proofs.VersionLaws.{same_name}
+use Rattle.wit_model.proofs.{OnePath.has-path, OnePath.named-path, OnePath.package-name, OnePath.package-once, OnePath.path-label, VersionLaws.same_name}
 use Rattle.bind_match.specs.declared.matches.Matches.{Matches}
 use Rattle.bind_match.specs.Matching.{given, home_in, interface_in, own_interface_of, own_package_of, own_world_of}
 use Rattle.bind_meaning.specs.Clash.{Agree, CanUnite}
-use Rattle.bind_meaning.proofs.Listed.{given as unpacked}
-use Rattle.bind_meaning.proofs.WorldBindings.{interface-found}
+use Rattle.bind_meaning.proofs.{Listed.given as unpacked, WorldBindings.interface-found}
 use Rattle.bind_clash.specs.Faults.{IsMatched}
 use Rattle.bind_clash.proofs.PathsMatched.{own-interface-has, own-interface-there}
 use Rattle.bind_copy.specs.Copies.{number_under}
-use Rattle.bind_carry.specs.First.{flag_under}
-use Rattle.bind_carry.specs.Listed.{given_interface}
-use Rattle.bind_carry.specs.MatchedSame.{AreMatchedAt, NoneOfPath}
-use Rattle.bind_carry.specs.Numbers.{package_number}
-use Rattle.bind_carry.specs.Renumbered.{is_matched}
+use Rattle.bind_carry.specs.{First.flag_under, Listed.given_interface, MatchedSame.AreMatchedAt, MatchedSame.NoneOfPath, Which.AreMatchedAll, Which.IsNumbered}
+use Rattle.bind_carry.specs.{Numbers.package_number, Renumbered.is_matched, TooLong.CarriedThings, Union.IsUnionOf}
 use Rattle.bind_add.specs.declared.added.Added.{Added}
-use Rattle.bind_carry.specs.TooLong.{CarriedThings}
-use Rattle.bind_carry.specs.Union.{IsUnionOf}
-use Rattle.bind_carry.specs.Which.{AreMatchedAll, IsNumbered}
-use Rattle.wit_model.specs.declared.model.World.{World}
-use Rattle.wit_model.specs.declared.model.WorldKey.{WorldKey}
-use Rattle.bind_carry.proofs.FirstMatched.{uncopied_under}
-use Rattle.bind_carry.proofs.FirstPackages.{found_number, found_own}
+use Rattle.bind_carry.proofs.{FirstMatched.uncopied_under, FirstPackages.found_number, FirstPackages.found_own}
 use Rattle.wit_bind.specs.declared.bindgen.Bindgen.{Bindgen}
-use Rattle.wit_bind.specs.Bindings.{binding_of, IsBindgen}
-use Rattle.wit_bind.specs.MergedLaws.{MatchesHavePaths}
-use Rattle.base_lemmas.proofs.Lists.{get_back as unmapped, mapped_get as mapped_at}
-use Rattle.base_lemmas.proofs.Options.{there as some-of}
-use Rattle.std.proofs.lemmas.Option.{same_Some as same-some}
+use Rattle.wit_bind.specs.{Bindings.binding_of, Bindings.IsBindgen, MergedLaws.MatchesHavePaths}
+use Rattle.base_lemmas.proofs.{Lists.get_back as unmapped, Lists.mapped_get as mapped_at, Options.there as some-of}
+use Rattle.wit_model.specs.Rules as rules
 
 -- where both are known, they agree
 pub agreed : {X S : Type 0} (sense : X → S) (o p : Option X) (x y : X) → Agree sense o p → o ≡ Some x → p ≡ Some y → sense x ≡ sense y

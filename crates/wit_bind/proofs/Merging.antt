@@ -1,60 +1,31 @@
 -- What comes of two bindings that don't clash, once all that the one brings is added to the other.
 use Rattle.std.proofs.Common.{◌≡◌, sym, ap, subst, ◌∙◌, ℕ, ◌≤◌, false, List, [], ◌++◌, length, map, Some, option_and_then, option_map, slice_get, String}
-use Rattle.std.specs.Map.{keys_of}
+use Rattle.std.proofs.lemmas.Option.{same_Some as same-some}
+use Rattle.std.specs.{Map.keys_of, Option.option_map_or}
 use Rattle.std.specs.declared.alloc.Global.{Global}
-use Rattle.std.specs.Option.{option_map_or}
-use Rattle.wit_model.specs.declared.model.Package.{Package}
-use Rattle.wit_model.specs.declared.model.PackageId.{PackageId}
-use Rattle.wit_model.specs.declared.model.PackageName.{PackageName}
-use Rattle.wit_model.specs.declared.model.Resolve.{Resolve}
-use Rattle.wit_model.specs.declared.model.TypeDef.{TypeDef}
-use Rattle.wit_model.specs.declared.model.World.{World}
-use Rattle.wit_model.specs.declared.model.WorldId.{WorldId}
-use Rattle.wit_model.specs.declared.model.WorldKey.{WorldKey}
+use Rattle.wit_model.specs.declared.model.{Package.Package, PackageId.PackageId, PackageName.PackageName, Resolve.Resolve, TypeDef.TypeDef, WorldKey.WorldKey}
+use Rattle.wit_model.specs.declared.model.{World.World, WorldId.WorldId}
 use Rattle.wit_model.specs.Lookup.{identity_of, interface_path, key_text, path_in_package, path_of_interface, type_at, world_at}
-use Rattle.wit_model.specs.Names.{path_in}
-use Rattle.wit_model.specs.Text.{Text, text_of}
-use Rattle.wit_model.proofs.Elements.{contains-get}
-use Rattle.wit_model.proofs.OnePath.{has-path}
+use Rattle.wit_model.specs.{Names.path_in, Text.Text, Text.text_of}
+use Rattle.wit_model.proofs.{Elements.contains-get, OnePath.has-path}
 use Rattle.plan_meaning.specs.Built.{IsBare}
 use Rattle.bind_add.specs.declared.added.Added.{Added}
-use Rattle.bind_carry.specs.AddedApart.{AreMatchedByName}
-use Rattle.bind_carry.specs.AddedKeys.{key_view}
-use Rattle.bind_carry.specs.Apart.{IsApart}
-use Rattle.bind_carry.specs.First.{first_fates}
-use Rattle.bind_carry.specs.FirstPass.{IsFirstPass}
-use Rattle.bind_carry.specs.MatchedSame.{AreMatchedAt, NoneOfPath}
-use Rattle.bind_carry.specs.Renumbered.{first_of}
-use Rattle.bind_carry.specs.SecondPass.{is_left_out, second_pass_of, IsSecondPass}
-use Rattle.bind_carry.specs.Union.{IsUnionOf}
-use Rattle.bind_carry.specs.Which.{AreMatchedAll}
-use Rattle.bind_carry.proofs.FirstOfUnion.{unions_have_the_second}
-use Rattle.bind_carry.proofs.KeysGained.{by_path_apart}
-use Rattle.bind_carry.proofs.NamesMerged.{names_are_merged}
-use Rattle.bind_carry.proofs.MergedUnion.{unions_are_merged}
-use Rattle.bind_carry.proofs.UnionApart.{unions_are_apart}
-use Rattle.bind_carry.proofs.UnionDistinct.{unions_have_distinct_keys}
-use Rattle.bind_carry.proofs.UnionKeys.{exports_come_behind, keys_keep_texts}
+use Rattle.bind_carry.specs.{AddedApart.AreMatchedByName, AddedKeys.key_view, FirstPass.IsFirstPass, Renumbered.first_of, Union.IsUnionOf, Which.AreMatchedAll}
+use Rattle.bind_carry.specs.{Apart.IsApart, First.first_fates}
+use Rattle.bind_carry.specs.{MatchedSame.AreMatchedAt, MatchedSame.NoneOfPath, SecondPass.is_left_out, SecondPass.second_pass_of, SecondPass.IsSecondPass}
+use Rattle.bind_carry.proofs.{FirstOfUnion.unions_have_the_second, KeysGained.by_path_apart, NamesMerged.names_are_merged, UnionApart.unions_are_apart}
+use Rattle.bind_carry.proofs.{MergedUnion.unions_are_merged, UnionDistinct.unions_have_distinct_keys, UnionKeys.exports_come_behind, UnionKeys.keys_keep_texts}
 use Rattle.bind_match.specs.Matching.{is_root_world}
-use Rattle.bind_meaning.specs.Clash.{CanUnite}
-use Rattle.bind_meaning.specs.Union.{union}
-use Rattle.bind_union.proofs.BoundMeanings.{bound_means}
-use Rattle.bind_union.proofs.Valid.{merged_is_valid}
+use Rattle.bind_meaning.specs.{Clash.CanUnite, Union.union}
+use Rattle.bind_union.proofs.{BoundMeanings.bound_means, Valid.merged_is_valid}
 use Rattle.wit_bind.specs.declared.bindgen.Bindgen.{Bindgen}
 use Rattle.wit_bind.specs.Bindings.{binding_of, IsBindgen}
-use Rattle.wit_bind.specs.Brings.{key_texts, BringsEntries, BringsItsOwn, IsTypeOf}
-use Rattle.wit_bind.specs.Extends.{Extends, listed_names, merged_names}
-use Rattle.wit_bind.specs.MergedLaws.{AgreeByNumbers, IsUnited}
-use Rattle.wit_bind.specs.Merges.{export_keys, IsGrownBy, IsPlanOf}
-use Rattle.wit_bind.proofs.Bare.{merged_is_bare}
-use Rattle.wit_bind.proofs.Bringing.{new_interface_copied, new_package_copied, new_world_copied}
+use Rattle.wit_bind.specs.{Brings.key_texts, Brings.BringsEntries, Brings.BringsItsOwn, Brings.IsTypeOf, Merges.export_keys, Merges.IsGrownBy, Merges.IsPlanOf}
+use Rattle.wit_bind.specs.{Extends.Extends, Extends.listed_names, Extends.merged_names, MergedLaws.AgreeByNumbers, MergedLaws.IsUnited}
+use Rattle.wit_bind.proofs.{Bare.merged_is_bare, Extending.grown_extend, MatchedPaths.matches_have_paths, UnionBound.united_are_the_union}
+use Rattle.wit_bind.proofs.{Bringing.new_interface_copied, Bringing.new_package_copied, Bringing.new_world_copied, NumbersAgree.united_agree_by_numbers}
 use Rattle.wit_bind.proofs.Brought.{bound_brought, interface_brought, package_brought, type_brought, world_brought}
-use Rattle.wit_bind.proofs.Extending.{grown_extend}
-use Rattle.wit_bind.proofs.MatchedPaths.{matches_have_paths}
-use Rattle.wit_bind.proofs.NumbersAgree.{united_agree_by_numbers}
-use Rattle.wit_bind.proofs.UnionBound.{united_are_the_union}
 use Rattle.base_lemmas.proofs.Lists.{front_at, within_there as element_at}
-use Rattle.std.proofs.lemmas.Option.{same_Some as same-some}
 
 module _ (own other new : Bindgen) (o : IsBindgen own) (t : IsBindgen other) (can : CanUnite (binding_of own) (binding_of other)) (added : Added) (keys : List WorldKey) (p : IsPlanOf own other added keys) (g : IsGrownBy added other.metadata own new) where
   abbrev r : Resolve

@@ -1,45 +1,24 @@
 -- What is copied keeps its documentation, its stability and its external ids, in its order.
 use Rattle.std.proofs.Common.{◌≡◌, refl, sym, ap, subst, ◌∙◌, ◌⊎◌, inl, inr, arith, ℕ, zero, suc, Bool, true, false, not, cond, List, [], ◌∷◌, ◌++◌, map, Option, Some, None, is_none, option_map, option_to_list, String, Contains}
-use Rattle.std.specs.Prelude.{if◌then◌else◌, unwrap_or, option_and_then}
-use Rattle.std.specs.List.{filter, filter_map, list_all, AllZip}
+use Rattle.std.proofs.lemmas.{List.map-append, Simd.map-map}
+use Rattle.std.proofs.lemmas.{List.Folds.list_all-append, Bool.and_from as both, Map.Keys.any_passes_from_place as any_at, Option.same_Some as same-some}
+use Rattle.std.specs.{Prelude.if◌then◌else◌, Prelude.unwrap_or, Prelude.option_and_then, List.filter, List.filter_map, List.list_all, List.AllZip}
 use Rattle.std.specs.declared.alloc.Global.{Global}
-use Rattle.std.proofs.lemmas.List.{map-append}
-use Rattle.std.proofs.lemmas.List.Folds.{list_all-append}
-use Rattle.std.proofs.lemmas.Simd.{map-map}
-use Rattle.wit_model.specs.declared.model.Function.{Function}
-use Rattle.wit_model.specs.declared.model.Interface.{Interface}
-use Rattle.wit_model.specs.declared.model.PackageId.{PackageId}
-use Rattle.wit_model.specs.declared.model.Resolve.{Resolve}
-use Rattle.wit_model.specs.declared.model.TypeDef.{TypeDef}
-use Rattle.wit_model.specs.declared.model.TypeId.{TypeId}
-use Rattle.wit_model.specs.declared.model.«Type».{«Type» as ValueType}
-use Rattle.wit_model.specs.declared.model.WorldItem.{WorldItem}
-use Rattle.wit_model.specs.declared.model.WorldItem.TheVariants as item
-use Rattle.wit_model.specs.declared.model.WorldKey.{WorldKey}
-use Rattle.wit_model.specs.declared.model.WorldKey.TheVariants as key
-use Rattle.wit_model.specs.Lookup.{interface_at, interface_path, key_text, resource_of, type_at}
-use Rattle.wit_model.specs.Parts.{function_types}
-use Rattle.wit_model.specs.Text.{Text, optional_text, text_of}
-use Rattle.wit_model.specs.Types.{number_of}
-use Rattle.wit_model.specs.Valid.{IsValid}
-use Rattle.wit_model.proofs.Elements.{contains-get}
-use Rattle.wit_model.proofs.VersionLaws.{same_text}
-use Rattle.bind_copy.specs.Copies.{is_new_under, number_under, IsEntryUnder, IsFunctionUnder, IsInterfaceUnder, IsItemUnder}
-use Rattle.bind_copy.specs.Copies.{IsFunctionEntry as IsFunctionEntryUnder}
+use Rattle.wit_model.specs.declared.model.{Function.Function, Interface.Interface, PackageId.PackageId, «Type».«Type» as ValueType, WorldItem.WorldItem}
+use Rattle.wit_model.specs.declared.model.{Resolve.Resolve, TypeDef.TypeDef, TypeId.TypeId, WorldKey.WorldKey}
+use Rattle.wit_model.specs.{Lookup.interface_at, Lookup.interface_path, Lookup.key_text, Lookup.resource_of, Lookup.type_at, Parts.function_types}
+use Rattle.wit_model.specs.{Text.Text, Text.optional_text, Text.text_of, Types.number_of, Valid.IsValid}
+use Rattle.wit_model.proofs.{Elements.contains-get, VersionLaws.same_text}
+use Rattle.bind_copy.specs.Copies.{is_new_under, number_under, IsEntryUnder, IsFunctionUnder, IsInterfaceUnder, IsItemUnder, IsFunctionEntry as IsFunctionEntryUnder}
 use Rattle.bind_union.specs.Carried.{EntryBecomes, IsCarried, IsFunctionCopy, IsFunctionEntry, IsInterface, IsInterfaceCopy, IsType, ItemBecomes, KeyBecomes, Renumbering}
-use Rattle.bind_union.specs.Views.{renamed_type}
-use Rattle.bind_union.specs.Joined.{same_key, none, met, added, Joined}
+use Rattle.bind_union.specs.{Views.renamed_type, Joined.same_key, Joined.none, Joined.met, Joined.added, Joined.Joined}
 use Rattle.bind_carry.specs.ReadyItems.{IsKeyReady}
-use Rattle.bind_carry.proofs.JoinedItems.{new_same}
-use Rattle.bind_carry.proofs.UnionKeys.{carried_path}
+use Rattle.bind_carry.proofs.{JoinedItems.new_same, UnionKeys.carried_path}
 use Rattle.bind_union.proofs.ViewTests.{numbers_under, one_given}
 use Rattle.wit_bind.specs.Brings.{entry_notes, function_notes, function_type_notes, inline_notes, interface_notes, item_notes, type_notes, type_notes_at, unnamed_notes, InterfaceNotes, Notes}
-use Rattle.base_lemmas.proofs.Bools.{left_of as first_true, right_of as second_true}
-use Rattle.base_lemmas.proofs.Elements.{contains-later, zip_map}
-use Rattle.base_lemmas.proofs.Numbers.{same-number}
-use Rattle.std.proofs.lemmas.Bool.{and_from as both}
-use Rattle.std.proofs.lemmas.Map.Keys.{any_passes_from_place as any_at}
-use Rattle.std.proofs.lemmas.Option.{same_Some as same-some}
+use Rattle.base_lemmas.proofs.{Bools.left_of as first_true, Bools.right_of as second_true, Elements.contains-later, Elements.zip_map, Numbers.same-number}
+use Rattle.wit_model.specs.declared.model.WorldItem.TheVariants as item
+use Rattle.wit_model.specs.declared.model.WorldKey.TheVariants as key
 
 -- ---- functions
 

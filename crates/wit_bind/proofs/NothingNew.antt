@@ -1,34 +1,21 @@
 -- Where nothing of the other is new, nothing comes.
 use Rattle.std.proofs.Common.{◌≡◌, inl, inr, refl, sym, ap, subst, ◌∙◌, arith, ℕ, zero, suc, ◌+◌, Bool, true, false, not, ◌&&◌, cond, List, [], ◌∷◌, ◌++◌, length, map, append-nil, Option, Some, None, is_some, option_and_then, slice_get, Contains}
-use Rattle.std.specs.Cmp.Lexicographic.{nat_list_cmp_total}
-use Rattle.std.specs.FinMap.{get, get-from_entries}
-use Rattle.std.specs.Option.{option_map_or}
-use Rattle.wit_model.specs.declared.model.Interface.{Interface}
-use Rattle.wit_model.specs.declared.model.Resolve.{Resolve}
-use Rattle.wit_model.specs.declared.model.TypeOwner.{TypeOwner}
-use Rattle.wit_model.specs.declared.model.TypeOwner.TheVariants as owner
-use Rattle.wit_model.specs.declared.model.World.{World}
-use Rattle.wit_model.specs.declared.model.WorldItem.{WorldItem}
-use Rattle.wit_model.specs.declared.model.WorldKey.{WorldKey}
-use Rattle.wit_model.specs.Lookup.{interface_path, key_text, path_of_interface, path_of_world, world_at}
-use Rattle.wit_model.specs.Text.{Text, text_eq}
+use Rattle.std.specs.{Cmp.Lexicographic.nat_list_cmp_total, FinMap.get, FinMap.get-from_entries, Option.option_map_or}
+use Rattle.wit_model.specs.declared.model.{Interface.Interface, Resolve.Resolve, TypeOwner.TypeOwner, World.World, WorldItem.WorldItem, WorldKey.WorldKey}
+use Rattle.wit_model.specs.{Lookup.interface_path, Lookup.key_text, Lookup.path_of_interface, Lookup.path_of_world, Lookup.world_at, Text.Text, Text.text_eq}
 use Rattle.wit_model.proofs.OnePath.{named-path}
-use Rattle.bind_meaning.specs.ByNumbers.{interfaces_by_path, worlds_by_path}
-use Rattle.bind_meaning.specs.Clash.{carried_worlds, entry_under, CanUnite}
-use Rattle.bind_meaning.specs.Roots.{root_path}
+use Rattle.bind_meaning.specs.{ByNumbers.interfaces_by_path, ByNumbers.worlds_by_path, Clash.carried_worlds, Clash.entry_under, Clash.CanUnite, Roots.root_path}
 use Rattle.bind_meaning.proofs.Maps.{eq_by_text, found_keys, get-without}
 use Rattle.bind_meaning.proofs.WorldBindings.{interface-found, world-found, world-path}
-use Rattle.bind_carry.specs.MadeOf.{Come}
-use Rattle.bind_carry.specs.Numbers.{copied_count}
-use Rattle.bind_carry.proofs.Counting.{length_both}
-use Rattle.bind_carry.proofs.WhatComes.{marked_count}
+use Rattle.bind_carry.specs.{MadeOf.Come, Numbers.copied_count}
+use Rattle.bind_carry.proofs.{Counting.length_both, WhatComes.marked_count}
 use Rattle.bind_union.proofs.Lists.{no_true}
 use Rattle.wit_bind.specs.declared.bindgen.Bindgen.{Bindgen}
 use Rattle.wit_bind.specs.Bindings.{binding_of, IsBindgen}
 use Rattle.wit_bind.specs.Comes.{is_one_of, BringsNothing, ExportIsGained, ImportIsGained, InlineIsGained, InterfaceComes, IsGained, NamedComes, OwnerComes, OwnerIsGained, TypeComes, TypeIsGained, WorldComes}
 use Rattle.wit_bind.proofs.NumbersAgree.{other-export, other-import}
-use Rattle.base_lemmas.proofs.Bools.{left_of as first_true, not-false, right_of as second_true}
-use Rattle.base_lemmas.proofs.Options.{there as some-of}
+use Rattle.base_lemmas.proofs.{Bools.left_of as first_true, Bools.not-false, Bools.right_of as second_true, Options.there as some-of}
+use Rattle.wit_model.specs.declared.model.TypeOwner.TheVariants as owner
 
 -- ---- lists
 

@@ -1,32 +1,20 @@
 -- Bindings that unite, by the entries and the numbers of their `Resolve`s.
 use Rattle.std.proofs.Common.{◌≡◌, ◌≢◌, refl, sym, ap, ◌∙◌, ℕ, Bool, true, false, cond, List, map, Option, Some, None, option_and_then, Contains}
 use mathlib.Core.Bool.{true≢false}
-use Rattle.std.specs.FinMap.{get}
-use Rattle.std.specs.Ordering.{eq_by_cmp}
-use Rattle.std.specs.Option.{option_map_or}
-use Rattle.wit_model.specs.declared.model.Interface.{Interface}
-use Rattle.wit_model.specs.declared.model.Resolve.{Resolve}
-use Rattle.wit_model.specs.declared.model.World.{World}
-use Rattle.wit_model.specs.declared.model.WorldItem.{WorldItem}
-use Rattle.wit_model.specs.declared.model.WorldKey.{WorldKey}
-use Rattle.wit_model.specs.Text.{Text, text_cmp}
-use Rattle.wit_model.specs.Lookup.{interface_at, key_text, path_of_interface, path_of_world, world_at}
-use Rattle.wit_model.specs.Meaning.{Entry, InterfaceMeaning, WorldMeaning, entry_sense}
+use Rattle.std.specs.{FinMap.get, Ordering.eq_by_cmp, Option.option_map_or}
+use Rattle.wit_model.specs.declared.model.{Interface.Interface, Resolve.Resolve, World.World, WorldItem.WorldItem, WorldKey.WorldKey}
+use Rattle.wit_model.specs.{Text.Text, Text.text_cmp, Lookup.interface_at, Lookup.key_text, Lookup.path_of_interface, Lookup.path_of_world, Lookup.world_at}
+use Rattle.wit_model.specs.{Meaning.Entry, Meaning.InterfaceMeaning, Meaning.WorldMeaning, Meaning.entry_sense, Rules.are_distinct}
 use Rattle.wit_model.specs.Meant.{entries_meaning, entry_meaning, interface_meaning_at, no_world, world_meaning, world_meaning_at}
-use Rattle.wit_model.specs.Rules.{are_distinct}
 use Rattle.bind_match.specs.Matching.{is_root_world}
-use Rattle.bind_meaning.specs.Clash.{CanUnite, carried_worlds, entry_under}
-use Rattle.bind_meaning.specs.Roots.{root_path}
+use Rattle.bind_meaning.specs.{Clash.CanUnite, Clash.carried_worlds, Clash.entry_under, Roots.root_path}
 use Rattle.bind_meaning.proofs.Maps.{by_tie, get-without}
 use Rattle.bind_meaning.proofs.WorldBindings.{exports-distinct, imports-distinct, interface-found, world-found}
-use Rattle.bind_clash.proofs.KeysMatched.{found-distinct}
-use Rattle.bind_clash.proofs.PathsMatched.{has-root, world-path-of}
+use Rattle.bind_clash.proofs.{KeysMatched.found-distinct, PathsMatched.has-root, PathsMatched.world-path-of, FaultsMeant.both-stand as known}
 use Rattle.wit_bind.specs.declared.bindgen.Bindgen.{Bindgen}
-use Rattle.wit_bind.specs.Bindings.{binding_of, IsBindgen}
-use Rattle.wit_bind.specs.MergedLaws.{UnitedAgreeByNumbers}
+use Rattle.wit_bind.specs.{Bindings.binding_of, Bindings.IsBindgen, MergedLaws.UnitedAgreeByNumbers}
 use Rattle.wit_bind.proofs.MatchedPaths.{agreed}
 use Rattle.base_lemmas.proofs.Elements.{contains-map}
-use Rattle.bind_clash.proofs.FaultsMeant.{both-stand as known}
 
 -- an entry is found under its key
 entry-found : (r : Resolve) (es : List (WorldKey × WorldItem)) (x : WorldKey × WorldItem) → are_distinct (map (λ (e : Text × Entry InterfaceMeaning). e.0) (entries_meaning r es)) ≡ true

@@ -1,41 +1,23 @@
 -- In a valid `Resolve` functions of a world that share a key shared their key without version.
 use Rattle.std.proofs.Common.{◌≡◌, refl, sym, ap, subst, ◌∙◌, ℕ, true, [], ◌∷◌, ◌++◌, append_assoc, Option, Some, None, option_map, option_and_then, String, Result, Ok, Err, IfOk}
-use Rattle.std.specs.List.{Contains}
-use Rattle.std.specs.Option.{option_map_or}
+use Rattle.std.proofs.lemmas.{List.Elements.Contains-append_left, List.Elements.Contains-append_right, List.append_cancel_right, Option.same_Some as same-some}
+use Rattle.std.specs.{List.Contains, Option.option_map_or}
 use Rattle.std.specs.declared.alloc.Global.{Global}
-use Rattle.std.proofs.lemmas.List.Elements.{Contains-append_left, Contains-append_right}
-use Rattle.std.proofs.lemmas.List.{append_cancel_right}
-use Rattle.wit_model.specs.declared.model.Resolve.{Resolve}
-use Rattle.wit_model.specs.declared.model.Package.{Package}
-use Rattle.wit_model.specs.declared.model.PackageId.{PackageId}
-use Rattle.wit_model.specs.declared.model.PackageName.{PackageName}
-use Rattle.wit_model.specs.declared.model.Interface.{Interface}
-use Rattle.wit_model.specs.declared.model.InterfaceId.{InterfaceId}
-use Rattle.wit_model.specs.declared.model.World.{World}
-use Rattle.wit_model.specs.declared.model.WorldItem.{WorldItem}
-use Rattle.wit_model.specs.declared.model.WorldItem.TheVariants as item
-use Rattle.wit_model.specs.declared.model.WorldKey.{WorldKey}
-use Rattle.wit_model.specs.declared.model.WorldKey.TheVariants as key
-use Rattle.wit_model.specs.Text.{Text, text_of}
-use Rattle.wit_model.specs.Lookup.{canonical_identity_of, interface_at, package_at, world_at}
-use Rattle.wit_model.specs.Paths.{full_name}
-use Rattle.wit_model.specs.Names.{at_version, is_label, path_in}
-use Rattle.wit_model.specs.Rules.{passes}
-use Rattle.wit_model.specs.Valid.{IsValid, labels}
-use Rattle.wit_model.proofs.Elements.{none-in}
-use Rattle.wit_model.proofs.NameLaws.{label_lacks}
-use Rattle.wit_model.proofs.OnePath.{interface-passes, package-name}
-use Rattle.wit_bind.specs.Keys.{function_key, text_under, unversioned, unversioned_key}
-use Rattle.wit_model.specs.declared.model.StringEncoding.{StringEncoding}
-use Rattle.wit_bind.specs.Encodings.{Encodings, encoding_at}
+use Rattle.wit_model.specs.declared.model.{Resolve.Resolve, Package.Package, Interface.Interface, WorldItem.WorldItem, WorldKey.WorldKey}
+use Rattle.wit_model.specs.declared.model.{PackageId.PackageId, PackageName.PackageName, InterfaceId.InterfaceId, World.World, StringEncoding.StringEncoding}
+use Rattle.wit_model.specs.{Text.Text, Text.text_of, Names.at_version, Names.is_label, Names.path_in, Rules.passes}
+use Rattle.wit_model.specs.{Lookup.canonical_identity_of, Lookup.interface_at, Lookup.package_at, Lookup.world_at, Paths.full_name, Valid.IsValid, Valid.labels}
+use Rattle.wit_model.proofs.{Elements.none-in, NameLaws.label_lacks, OnePath.interface-passes, OnePath.package-name}
+use Rattle.wit_bind.specs.{Keys.function_key, Keys.text_under, Keys.unversioned, Keys.unversioned_key, Encodings.Encodings, Encodings.encoding_at}
 use Rattle.wit_bind.specs.Functions.{Items}
-use Rattle.wit_bind.specs.declared.encodings.Side.{Side}
-use Rattle.wit_bind.specs.declared.encodings.Side.TheVariants as sides
 use Rattle.wit_bind.specs.OldKeys.{IsFunctionOf, itself, member, items_of, items_on, CarriesEach, CarriesOver, HadEncoding, OneOldKey}
+use Rattle.wit_bind.specs.declared.encodings.Side.{Side}
 use Rattle.bind_meaning.proofs.KeyNames.{Lacks, colon, goes-on, key_lacks, last_cut, lacks-both, listed_lacks, same_cut, slash}
 use Rattle.wit_bind.proofs.ValidKeys.{canonical-by-name}
 use Rattle.base_lemmas.proofs.Bools.{left_of as first_true, right_of as second_true}
-use Rattle.std.proofs.lemmas.Option.{same_Some as same-some}
+use Rattle.wit_model.specs.declared.model.WorldItem.TheVariants as item
+use Rattle.wit_model.specs.declared.model.WorldKey.TheVariants as key
+use Rattle.wit_bind.specs.declared.encodings.Side.TheVariants as sides
 
 -- ---- paths
 

@@ -1,26 +1,19 @@
 -- Where a union would make a list too long, so would what comes.
 use Rattle.std.proofs.Common.{◌≡◌, inl, inr, refl, ap, ◌∙◌, arith, ℕ, ◌+◌, ◌<◌, ◌≤◌, [], length, Some}
-use Rattle.wit_model.specs.declared.error.Error.{Error}
-use Rattle.wit_model.specs.declared.error.Error.TheVariants as errors
-use Rattle.wit_model.specs.declared.model.World.{World}
+use Rattle.wit_model.specs.declared.{error.Error.Error, model.World.World}
 use Rattle.wit_model.specs.Lookup.{world_at}
 use Rattle.bind_meaning.specs.Clash.{CanUnite}
 use Rattle.bind_clash.specs.Faults.{IsMatched}
 use Rattle.bind_match.specs.declared.matches.Matches.{Matches}
-use Rattle.bind_carry.specs.BoundGains.{gained_inline}
-use Rattle.bind_carry.specs.Fates.{numbers_by}
-use Rattle.bind_carry.specs.First.{first_fates}
-use Rattle.bind_carry.specs.MadeOf.{Come}
-use Rattle.bind_carry.specs.Numbers.{copied_count, IsMemoryOrSize}
-use Rattle.bind_carry.specs.TooLong.{carried_interfaces, copies_of, gained_fates, IsTooLong}
-use Rattle.bind_carry.proofs.CopiesPlaced.{numbers_by_long}
-use Rattle.bind_carry.proofs.Ready.{fates_long}
+use Rattle.bind_carry.specs.{BoundGains.gained_inline, Fates.numbers_by, TooLong.carried_interfaces, TooLong.copies_of, TooLong.gained_fates, TooLong.IsTooLong}
+use Rattle.bind_carry.specs.{First.first_fates, MadeOf.Come, Numbers.copied_count, Numbers.IsMemoryOrSize}
+use Rattle.bind_carry.proofs.{CopiesPlaced.numbers_by_long, Ready.fates_long}
 use Rattle.wit_bind.specs.declared.bindgen.Bindgen.{Bindgen}
-use Rattle.wit_bind.specs.Bindings.{binding_of, IsBindgen}
-use Rattle.wit_bind.specs.Merges.{AreTooMany}
+use Rattle.wit_bind.specs.{Bindings.binding_of, Bindings.IsBindgen, Merges.AreTooMany}
 use Rattle.wit_bind.proofs.Coming.{inline-come, interfaces-are, interfaces-come, types-come, types-gained}
 use Rattle.wit_bind.proofs.TooMany.{packages-few, worlds-few}
 use Rattle.base_lemmas.proofs.Lists.{within_there}
+use Rattle.wit_model.specs.declared.error.Error.TheVariants as errors
 
 none-come : (P : ℕ → Type 0) → Come P 0
 none-come P = record { marks = []; marked = refl; each = λ n e. let wrong : ⊥ = cc in absurd wrong }

@@ -1,19 +1,13 @@
 -- Encodings put under one key after the other.
 use Rattle.std.proofs.Common.{◌≡◌, refl, sym, ap, ◌∙◌, ◌⊎◌, inl, inr, arith, zero, suc, Bool, true, false, List, [], ◌∷◌, ◌++◌, cond, Option, Some, None, option_and_then, option_map, option_to_list, String, subst}
+use Rattle.std.proofs.lemmas.Option.{same_Some as same-some}
 use Rattle.std.specs.List.{Contains, cons_option}
 use Rattle.std.specs.declared.alloc.Global.{Global}
-use Rattle.wit_model.specs.declared.model.Function.{Function}
-use Rattle.wit_model.specs.declared.model.Resolve.{Resolve}
-use Rattle.wit_model.specs.declared.model.StringEncoding.{StringEncoding}
-use Rattle.wit_model.specs.declared.model.WorldKey.{WorldKey}
+use Rattle.wit_model.specs.declared.model.{Function.Function, Resolve.Resolve, StringEncoding.StringEncoding, WorldKey.WorldKey}
 use Rattle.wit_model.specs.Text.{Text, text_eq, text_of}
-use Rattle.wit_model.proofs.Elements.{none-in}
-use Rattle.wit_model.proofs.VersionLaws.{same_text}
-use Rattle.wit_bind.specs.Encodings.{Encodings, encoding_at}
-use Rattle.wit_bind.specs.Keys.{scope_of, text_under}
+use Rattle.wit_model.proofs.{Elements.none-in, VersionLaws.same_text, TextLemmas.text_same as text-same}
+use Rattle.wit_bind.specs.{Encodings.Encodings, Encodings.encoding_at, Keys.scope_of, Keys.text_under}
 use Rattle.wit_bind.specs.KeyLists.{Choice, Entry, entry_of, member_entries, Puts, put_all}
-use Rattle.std.proofs.lemmas.Option.{same_Some as same-some}
-use Rattle.wit_model.proofs.TextLemmas.{text_same as text-same}
 
 abbrev Look : Type 0
 Look = Text → Option StringEncoding

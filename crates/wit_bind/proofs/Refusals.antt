@@ -1,23 +1,17 @@
 -- Why bindings can't be united, or that they can, from what is compared by numbers.
 use Rattle.std.proofs.Common.{◌≡◌, refl, sym, subst, ◌⊎◌, inl, inr, Some, Option, String}
 use Rattle.std.specs.declared.alloc.Global.{Global}
-use Rattle.wit_model.specs.declared.error.Error.{Error}
-use Rattle.wit_model.specs.declared.error.Error.TheVariants as errors
-use Rattle.wit_model.specs.declared.error.ClashKind.{ClashKind}
-use Rattle.wit_model.specs.declared.error.ClashKind.TheVariants as kinds
-use Rattle.wit_model.specs.declared.model.World.{World}
-use Rattle.wit_model.specs.Lookup.{world_at}
-use Rattle.wit_model.specs.Text.{optional_text, text_of}
+use Rattle.wit_model.specs.declared.{error.Error.Error, error.ClashKind.ClashKind, model.World.World}
+use Rattle.wit_model.specs.{Lookup.world_at, Text.optional_text, Text.text_of}
 use Rattle.bind_match.specs.declared.matches.Matches.{Matches}
 use Rattle.bind_meaning.specs.Clash.{EncodingFault, IsClash, NoFault}
-use Rattle.bind_clash.specs.Faults.{HasNoClash, IsClashAt, IsFaultError, IsLeastFault, IsMatched}
-use Rattle.bind_clash.specs.Laws.{AreWorlds}
+use Rattle.bind_clash.specs.{Faults.HasNoClash, Faults.IsClashAt, Faults.IsFaultError, Faults.IsLeastFault, Faults.IsMatched, Laws.AreWorlds}
 use Rattle.bind_clash.proofs.ClashesMeant.{clashes_are_of_bindings, encodings_clash_last}
-use Rattle.wit_bind.specs.declared.bindgen.Bindgen.{Bindgen}
-use Rattle.wit_bind.specs.declared.metadata.ModuleMetadata.{ModuleMetadata}
-use Rattle.wit_bind.specs.Bindings.{binding_of, IsBindgen}
-use Rattle.wit_bind.specs.Merges.{IsEncodingRefusal, IsMergeRefusal}
+use Rattle.wit_bind.specs.declared.{bindgen.Bindgen.Bindgen, metadata.ModuleMetadata.ModuleMetadata}
+use Rattle.wit_bind.specs.{Bindings.binding_of, Bindings.IsBindgen, Merges.IsEncodingRefusal, Merges.IsMergeRefusal}
 use Rattle.base_lemmas.proofs.Lists.{within_there as element_at}
+use Rattle.wit_model.specs.declared.error.Error.TheVariants as errors
+use Rattle.wit_model.specs.declared.error.ClashKind.TheVariants as kinds
 
 -- ---- encodings
 

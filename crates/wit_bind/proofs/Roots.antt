@@ -1,17 +1,12 @@
 -- The `Resolve` of the empty root world is valid, and means it.
 use Rattle.std.proofs.Common.{◌≡◌, ◌∙◌, sym, ap, subst, arith, ℕ, zero, suc, ◌<◌, length, List, [], ◌∷◌, Some, None, string_eq}
+use Rattle.std.proofs.lemmas.Option.{same_Some as some-same}
 use Rattle.std.specs.Prelude.{◌↔◌, option_and_then, option_map, slice_get}
 use Rattle.indexmap.specs.IndexMap.{IsUnique}
-use Rattle.wit_model.specs.declared.model.Interface.{Interface}
-use Rattle.wit_model.specs.declared.model.Package.{Package}
-use Rattle.wit_model.specs.declared.model.Resolve.{Resolve}
-use Rattle.wit_model.specs.declared.model.World.{World}
-use Rattle.wit_model.specs.Lookup.{world_at}
-use Rattle.wit_model.specs.Meaning.{WorldPackage}
-use Rattle.wit_model.specs.Meant.{MeantWorld, package_of_world, world_package}
+use Rattle.wit_model.specs.declared.model.{Interface.Interface, Package.Package, Resolve.Resolve, World.World}
+use Rattle.wit_model.specs.{Lookup.world_at, Meaning.WorldPackage, Meant.MeantWorld, Meant.package_of_world, Meant.world_package}
 use Rattle.wit_model.specs.Valid.{HasDistinctKeys, IsValid, Keeps, key_eq, numbers_in_range, package_names, places, labels, order_of_types, owners, shapes, named_kinds, handles, depths, function_names, world_items, order_of_items, names_in_packages}
 use Rattle.wit_bind.specs.Roots.{IsRootResolve, root_meaning}
-use Rattle.std.proofs.lemmas.Option.{same_Some as some-same}
 
 -- the one entry of a list
 only : {A : Type 0} (xs : List A) (x y : A) (n : ℕ) → xs ≡ x ∷ [] → slice_get xs n ≡ Some y → y ≡ x

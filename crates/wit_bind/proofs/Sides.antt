@@ -1,8 +1,7 @@
 -- A world by its number.
 use Rattle.std.proofs.Common.{◌≡◌, refl, sym, ℕ, ◌<◌, length, Some, get_or}
 use Rattle.std.proofs.lemmas.Option.{slice_get_read}
-use Rattle.wit_model.specs.declared.model.Resolve.{Resolve}
-use Rattle.wit_model.specs.declared.model.World.{World}
+use Rattle.wit_model.specs.declared.model.{Resolve.Resolve, World.World}
 use Rattle.wit_model.specs.Lookup.{world_at}
 
 -- a world that was read from the list is the one of the number

@@ -1,14 +1,10 @@
 -- It can be told whether meanings have the same sense.
 use Rattle.std.proofs.Common.{◌≡◌, ◌∙◌, refl, sym, ap, Bool, true, false, List, [], ◌∷◌, Option, Some, None}
 use mathlib.Core.Logic.{inl, inr}
-use Rattle.std.specs.Prelude.{◌⊎◌, ◌≢◌}
-use Rattle.std.specs.Bool.{Decides}
-use Rattle.std.specs.FinMap.{entries, same_entries_map}
-use Rattle.std.proofs.lemmas.Bool.{true≢false}
-use Rattle.std.proofs.lemmas.Slice.Eq.{bytes_eq-Decides}
-use Rattle.wit_model.specs.Text.{Text, TextMap, text_eq}
+use Rattle.std.specs.{Prelude.◌⊎◌, Prelude.◌≢◌, Bool.Decides, FinMap.entries, FinMap.same_entries_map}
+use Rattle.std.proofs.lemmas.{Bool.true≢false, Slice.Eq.bytes_eq-Decides}
+use Rattle.wit_model.specs.{Text.Text, Text.TextMap, Text.text_eq, Meaning.Entry, Meaning.InterfaceSense, Meaning.Item, Meaning.Signature, Meaning.WorldSense}
 use Rattle.wit_model.specs.Tree.{Declaration}
-use Rattle.wit_model.specs.Meaning.{Entry, InterfaceSense, Item, Signature, WorldSense}
 use Rattle.comp_meaning.specs.Same.{same_declaration, same_function, same_signature, same_type}
 use Rattle.comp_meaning.proofs.SameLaws.{declarations_decide, functions_decide, signatures_decide, types_decide}
 use Rattle.bind_meaning.specs.Laws.{CanTell}

@@ -1,52 +1,27 @@
 -- What is carried by path is new.
 use Rattle.std.proofs.Common.{◌≡◌, refl, sym, ap, ◌∙◌, ℕ, zero, suc, ◌+◌, ◌≤◌, length, Bool, true, false, not, ◌&&◌, ◌==◌, cond, List, [], ◌∷◌, ◌++◌, map, unwrap_or, Option, Some, None, is_none, option_and_then, option_map, slice_get, append-nil, String}
-use Rattle.std.specs.Prelude.{◌||◌, count_by, filter_map, is_some}
-use Rattle.std.proofs.lemmas.List.{length-map}
-use Rattle.std.specs.List.{cons_option, list_all, list_any}
-use Rattle.std.specs.Option.{option_map_or}
+use Rattle.std.proofs.lemmas.{List.length-map, Option.same_Some as same-some}
+use Rattle.std.specs.{Prelude.◌||◌, Prelude.count_by, Prelude.filter_map, Prelude.is_some, List.cons_option, List.list_all, List.list_any, Option.option_map_or}
 use Rattle.std.specs.declared.alloc.Global.{Global}
-use Rattle.wit_model.specs.declared.model.Interface.{Interface}
-use Rattle.wit_model.specs.declared.model.Package.{Package}
-use Rattle.wit_model.specs.declared.model.PackageName.{PackageName}
-use Rattle.wit_model.specs.declared.model.Resolve.{Resolve}
-use Rattle.wit_model.specs.declared.model.World.{World}
-use Rattle.wit_model.specs.declared.model.WorldId.{WorldId}
+use Rattle.wit_model.specs.declared.model.{Interface.Interface, Package.Package, PackageName.PackageName, Resolve.Resolve, World.World, WorldId.WorldId}
 use Rattle.wit_model.specs.Lookup.{identity_of, interface_at, package_at, path_of_interface, path_of_world, world_at}
-use Rattle.wit_model.specs.Meant.{interface_meaning, world_meaning}
-use Rattle.wit_model.specs.Names.{at_version, is_identity}
-use Rattle.wit_model.specs.Rules.{same_package_name}
-use Rattle.wit_model.specs.Text.{Text, text_eq, text_of}
-use Rattle.wit_model.specs.Valid.{IsValid}
-use Rattle.wit_model.proofs.NameLaws.{identity_namespace, label_lacks}
-use Rattle.wit_model.proofs.OnePath.{package-name}
-use Rattle.wit_model.proofs.VersionLaws.{same_name}
-use Rattle.bind_meaning.specs.Binding.{package_text}
-use Rattle.bind_meaning.specs.ByNumbers.{interfaces_by_path, package_texts, worlds_by_path}
-use Rattle.bind_meaning.specs.Roots.{root_path}
+use Rattle.wit_model.specs.{Meant.interface_meaning, Meant.world_meaning, Names.at_version, Names.is_identity, Text.Text, Text.text_eq, Text.text_of}
+use Rattle.wit_model.specs.{Rules.same_package_name, Valid.IsValid}
+use Rattle.wit_model.proofs.{NameLaws.identity_namespace, NameLaws.label_lacks, NameLaws.identity_name as label-of, TextLemmas.text_same as text-same}
+use Rattle.wit_model.proofs.{OnePath.package-name, VersionLaws.same_name}
+use Rattle.bind_meaning.specs.{Binding.package_text, ByNumbers.interfaces_by_path, ByNumbers.package_texts, ByNumbers.worlds_by_path, Roots.root_path}
 use Rattle.bind_meaning.proofs.Listed.{given as unpacked}
 use Rattle.bind_match.specs.declared.matches.Matches.{Matches}
 use Rattle.bind_match.specs.Matching.{interface_in, is_root_world, own_interface_of, own_package_of, own_world_of, package_from}
 use Rattle.bind_clash.specs.Faults.{IsMatched}
 use Rattle.bind_clash.proofs.PathsMatched.{has-root, own-interface-there, world-in-there, world-path-of}
-use Rattle.bind_carry.specs.First.{flag_under}
-use Rattle.bind_carry.specs.Listed.{given_interface}
-use Rattle.bind_carry.specs.Marked.{AreChosen}
-use Rattle.bind_carry.specs.Numbers.{copied_count}
-use Rattle.bind_carry.specs.Renumbered.{is_matched}
-use Rattle.bind_carry.specs.Shown.{AreShownBelow}
-use Rattle.bind_carry.specs.TooLong.{carried_packages, carried_worlds}
-use Rattle.bind_carry.specs.Which.{AreMatchedAll}
-use Rattle.bind_carry.proofs.CountedCopies.{flags_few, worlds_flagged}
+use Rattle.bind_carry.specs.{First.flag_under, Marked.AreChosen, Shown.AreShownBelow, Which.AreMatchedAll}
+use Rattle.bind_carry.specs.{Listed.given_interface, Numbers.copied_count, Renumbered.is_matched, TooLong.carried_packages, TooLong.carried_worlds}
+use Rattle.bind_carry.proofs.{CountedCopies.flags_few, CountedCopies.worlds_flagged, NamesGained.new_world_flag as world_flag}
 use Rattle.bind_carry.proofs.Ranges.{is_in_range, shown_below}
 use Rattle.wit_bind.specs.Comes.{is_new_interface, is_new_package, is_new_world, is_one_of}
 use Rattle.wit_bind.proofs.MatchedPaths.{all-matched}
-use Rattle.base_lemmas.proofs.Bools.{left_of as first_true, right_of as second_true}
-use Rattle.base_lemmas.proofs.Lists.{mapped_get as mapped_at}
-use Rattle.base_lemmas.proofs.Numbers.{same-number}
-use Rattle.std.proofs.lemmas.Option.{same_Some as same-some}
-use Rattle.wit_model.proofs.NameLaws.{identity_name as label-of}
-use Rattle.bind_carry.proofs.NamesGained.{new_world_flag as world_flag}
-use Rattle.wit_model.proofs.TextLemmas.{text_same as text-same}
+use Rattle.base_lemmas.proofs.{Bools.left_of as first_true, Bools.right_of as second_true, Lists.mapped_get as mapped_at, Numbers.same-number}
 
 untrue : {A : Type 0} → false ≡ true → A
 untrue e = let no : ⊥ = cc in absurd no

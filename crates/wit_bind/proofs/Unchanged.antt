@@ -1,14 +1,12 @@
 -- Room for more changes no entry, so bindings are as they were.
 use Rattle.std.proofs.Common.{◌≡◌, refl, sym, subst, ◌∙◌, inl, inr, ℕ, zero, suc, length, List, [], ◌∷◌, Some, slice_get, arith}
+use Rattle.std.proofs.lemmas.{Bool.cases_order, Option.same_Some as same-some}
 use Rattle.std.specs.Prelude.{◌≢◌, ◌<◌, ◌⊎◌}
-use Rattle.std.proofs.lemmas.Bool.{cases_order}
-use Rattle.wit_model.specs.declared.model.Package.{Package}
-use Rattle.wit_model.specs.declared.model.World.{World}
-use Rattle.bind_add.specs.Growth as growth
+use Rattle.wit_model.specs.declared.model.{Package.Package, World.World}
 use Rattle.wit_bind.specs.declared.bindgen.Bindgen.{Bindgen}
 use Rattle.wit_bind.specs.Extends.{AllPairs, IsKept, IsSamePackage, IsSameWorld}
 use Rattle.wit_bind.proofs.AsItWas.{same_world}
-use Rattle.std.proofs.lemmas.Option.{same_Some as same-some}
+use Rattle.bind_add.specs.Growth as growth
 
 -- ---- what is related number by number
 

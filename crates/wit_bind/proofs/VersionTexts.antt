@@ -1,12 +1,10 @@
 -- The pieces of a version's canonical part are its text.
 use Rattle.std.proofs.Common.{◌≡◌, refl, ap, ◌∙◌, ℕ, [], ◌∷◌, ◌++◌, append_assoc, cond, nat_lt, length, false, ◌==◌, Option, Some, None, IfSome}
 use Rattle.std.proofs.lemmas.Bool.{false≢true}
-use Rattle.std.specs.Prelude.{decimal}
-use Rattle.std.specs.Fmt.{digits}
+use Rattle.std.specs.{Prelude.decimal, Fmt.digits}
 use Rattle.semver.specs.declared.Version.{Version}
 use Rattle.semver.specs.Identifiers.{build_text, marked, parts_of, parts_text, pre_text}
-use Rattle.wit_model.specs.Names.{canonical_version}
-use Rattle.wit_model.specs.Text.{Text}
+use Rattle.wit_model.specs.{Names.canonical_version, Text.Text}
 use Rattle.wit_bind.specs.Versions.{canonical_text, identifiers_of, marked_by, numbers_of}
 
 marked_is : (mark : ℕ) (text : Text) → marked_by (mark ∷ []) text ≡ marked mark text

@@ -2,10 +2,8 @@
 use Rattle.std.specs.Prelude.{◌<◌, length}
 use Rattle.bind_add.specs.declared.added.Added.{Added}
 use Rattle.bind_carry.specs.Apart.{IsApart}
-use Rattle.wit_bind.specs.declared.bindgen.Bindgen.{Bindgen}
-use Rattle.wit_bind.specs.declared.metadata.ModuleMetadata.{ModuleMetadata}
-use Rattle.wit_bind.specs.Extends.{Extends}
-use Rattle.wit_bind.specs.Merges.{IsGrownBy}
+use Rattle.wit_bind.specs.declared.{bindgen.Bindgen.Bindgen, metadata.ModuleMetadata.ModuleMetadata}
+use Rattle.wit_bind.specs.{Extends.Extends, Merges.IsGrownBy}
 
 abbrev pub GrownExtend : Type 0
 GrownExtend = (added : Added) (metadata : ModuleMetadata) (old new : Bindgen) → old.world.0 < length old.resolve.worlds.items

@@ -1,23 +1,16 @@
 -- What a merge brings stands here as it stood there: with its documentation, its stability and its external ids, and with functions and types in their order.
 use Rattle.std.specs.Prelude.{◌≡◌, ◌≤◌, ℕ, true, false, is_none, if◌then◌else◌, List, [], length, map, filter_map, Option, Some, None, option_and_then, option_map}
 use Rattle.std.specs.List.{Contains}
-use Rattle.wit_model.specs.declared.model.Function.{Function}
-use Rattle.wit_model.specs.declared.model.Interface.{Interface}
-use Rattle.wit_model.specs.declared.model.Package.{Package}
-use Rattle.wit_model.specs.declared.model.Resolve.{Resolve}
-use Rattle.wit_model.specs.declared.model.TypeDef.{TypeDef}
-use Rattle.wit_model.specs.declared.model.World.{World}
-use Rattle.wit_model.specs.declared.model.WorldItem.{WorldItem}
-use Rattle.wit_model.specs.declared.model.WorldItem.TheVariants as item
-use Rattle.wit_model.specs.declared.model.WorldKey.{WorldKey}
+use Rattle.wit_model.specs.declared.model.{Function.Function, Interface.Interface, Package.Package, Resolve.Resolve, WorldItem.WorldItem, WorldKey.WorldKey}
+use Rattle.wit_model.specs.declared.model.{TypeDef.TypeDef, World.World}
 use Rattle.wit_model.specs.Lookup.{identity_of, interface_at, key_text, path_of_interface, path_of_world, type_at, world_at}
 use Rattle.wit_model.specs.Parts.{function_types, kind_numbers}
-use Rattle.wit_model.specs.Text.{Text, optional_text, text_of}
-use Rattle.wit_model.specs.Types.{declaration_of, number_of, number_tree}
+use Rattle.wit_model.specs.{Text.Text, Text.optional_text, Text.text_of, Types.declaration_of, Types.number_of, Types.number_tree}
 use Rattle.bind_copy.specs.Copies.{member_docs}
 use Rattle.bind_union.specs.Carried.{stability_view, StabilityView}
 use Rattle.wit_bind.specs.declared.bindgen.Bindgen.{Bindgen}
 use Rattle.wit_bind.specs.Comes.{is_new_interface, is_new_package, is_new_world, is_one_of}
+use Rattle.wit_model.specs.declared.model.WorldItem.TheVariants as item
 
 -- ---- what is said of things beside what they mean
 

@@ -3,9 +3,8 @@ use Rattle.std.specs.Prelude.{Some, option_and_then}
 use Rattle.indexmap.specs.IndexMap.{get_by_text}
 use Rattle.wit_model.specs.declared.model.Resolve.{Resolve}
 use Rattle.wit_bind.specs.declared.wanted.Wanted.{Wanted}
+use Rattle.wit_bind.specs.{Keys.unversioned_key, KeyLists.Choice}
 use Rattle.wit_bind.specs.declared.wanted.Wanted.TheVariants as wanted
-use Rattle.wit_bind.specs.Keys.{unversioned_key}
-use Rattle.wit_bind.specs.KeyLists.{Choice}
 
 -- one for all, or the one that stands under the function's key without version
 abbrev pub choice_of : Resolve → Wanted → Choice

@@ -1,28 +1,16 @@
 -- What comes of other bindings when they are merged into own ones: their packages, interfaces, worlds and types, by their numbers there.
 use Rattle.std.specs.Prelude.{◌≡◌, ◌⊎◌, ℕ, ◌+◌, ◌<◌, Bool, true, not, ◌&&◌, is_some, List, [], map, None, Some}
-use Rattle.std.specs.FinMap.{get}
-use Rattle.std.specs.List.{Contains, list_any}
-use Rattle.std.specs.Option.{option_map_or}
-use Rattle.wit_model.specs.declared.model.Interface.{Interface}
-use Rattle.wit_model.specs.declared.model.Package.{Package}
-use Rattle.wit_model.specs.declared.model.Resolve.{Resolve}
-use Rattle.wit_model.specs.declared.model.TypeOwner.{TypeOwner}
-use Rattle.wit_model.specs.declared.model.TypeOwner.TheVariants as owner
+use Rattle.std.specs.{FinMap.get, List.Contains, List.list_any, Option.option_map_or}
+use Rattle.wit_model.specs.declared.model.{Interface.Interface, Package.Package, Resolve.Resolve, TypeOwner.TypeOwner, WorldItem.WorldItem, WorldKey.WorldKey}
 use Rattle.wit_model.specs.declared.model.World.{World}
-use Rattle.wit_model.specs.declared.model.WorldItem.{WorldItem}
-use Rattle.wit_model.specs.declared.model.WorldKey.{WorldKey}
 use Rattle.wit_model.specs.Lookup.{identity_of, interface_at, interface_path, key_text, path_of_interface, path_of_world, world_at}
-use Rattle.wit_model.specs.Rules.{item_type}
-use Rattle.wit_model.specs.Text.{Text, text_eq}
-use Rattle.wit_model.specs.Uses.{item_interface}
-use Rattle.bind_meaning.specs.Binding.{package_text, Binding}
-use Rattle.bind_meaning.specs.ByNumbers.{interfaces_by_path, package_texts, worlds_by_path}
-use Rattle.bind_meaning.specs.Clash.{carried_worlds, entry_under}
-use Rattle.bind_meaning.specs.Roots.{root_path}
-use Rattle.bind_carry.specs.MadeOf.{Come, IsMadeUp, IsOwnedBy}
-use Rattle.bind_carry.specs.Marked.{is_inline_at}
+use Rattle.wit_model.specs.{Rules.item_type, Text.Text, Text.text_eq, Uses.item_interface}
+use Rattle.bind_meaning.specs.{Binding.package_text, Binding.Binding, Roots.root_path}
+use Rattle.bind_meaning.specs.{ByNumbers.interfaces_by_path, ByNumbers.package_texts, ByNumbers.worlds_by_path, Clash.carried_worlds, Clash.entry_under}
+use Rattle.bind_carry.specs.{MadeOf.Come, MadeOf.IsMadeUp, MadeOf.IsOwnedBy, Marked.is_inline_at}
 use Rattle.wit_bind.specs.declared.bindgen.Bindgen.{Bindgen}
 use Rattle.wit_bind.specs.Bindings.{binding_of}
+use Rattle.wit_model.specs.declared.model.TypeOwner.TheVariants as owner
 
 -- ---- by name and by path
 

@@ -2,9 +2,8 @@
 use Rattle.std.proofs.Common.{◌≡◌, refl, sym, ap, subst, ◌∙◌, Bool, true, false, not, ◌==◌, ◌&&◌, ◌||◌, [], ◌∷◌, ◌++◌, cond}
 use mathlib.Core.Bool.{true≢false}
 use Rattle.std.specs.Cmp.{IsEquivalence, IsPartialEquivalence, partial_equiv_from_equiv, first_so, second_so}
-use Rattle.std.proofs.lemmas.Cmp.{and_equiv, nat_list_eq_equiv, on_equiv}
+use Rattle.std.proofs.lemmas.{Cmp.and_equiv, Cmp.nat_list_eq_equiv, Cmp.on_equiv, Slice.Eq.bytes_eq-Decides}
 use Rattle.wit_model.specs.Text.{Text, text_eq}
-use Rattle.std.proofs.lemmas.Slice.Eq.{bytes_eq-Decides}
 use Rattle.wit_bind.specs.Cuts.{front_of, has_slash, IsCut, key_writes, makes_key, name_of, parts_writes, same_parts, text_under, writes_of}
 use Rattle.wit_bind.specs.declared.table.Parts.{Parts}
 

@@ -1,9 +1,8 @@
 -- Keys that are cut in two at their last slash, as a table has them.
 use Rattle.std.specs.Prelude.{◌≡◌, ◌==◌, ◌&&◌, ◌++◌, ◌-◌, not, drop, length, Bool, false, if◌then◌else◌, List, [], ◌∷◌, Option, Some, None}
-use Rattle.std.specs.Hash as fed
-use Rattle.std.specs.List.{list_any}
-use Rattle.std.specs.Borrow.{Bor}
+use Rattle.std.specs.{List.list_any, Borrow.Bor}
 use Rattle.wit_model.specs.Text.{Text, text_eq}
+use Rattle.std.specs.Hash as fed
 pub use Rattle.bind_meaning.specs.Keys.{text_under}
 use Rattle.wit_bind.specs.declared.table.Parts.{Parts}
 

@@ -1,21 +1,13 @@
 -- The functions of a world's imports and of its exports (WIT.md, "Worlds"; documentation of wit-component's `ModuleMetadata`).
 use Rattle.std.specs.Prelude.{◌≡◌, ℕ, List, [], Some, String}
-use Rattle.std.specs.List.{Contains}
-use Rattle.std.specs.Option.{option_map_or}
+use Rattle.std.specs.{List.Contains, Option.option_map_or}
 use Rattle.std.specs.declared.alloc.Global.{Global}
 use Rattle.wit_model.specs.declared.model.Resolve.{Resolve}
-use Rattle.wit_model.specs.declared.model.Interface.{Interface}
-use Rattle.wit_model.specs.declared.model.Function.{Function}
-use Rattle.wit_model.specs.declared.model.StringEncoding.{StringEncoding}
-use Rattle.wit_model.specs.declared.model.WorldItem.{WorldItem}
+use Rattle.wit_model.specs.declared.model.{Interface.Interface, Function.Function, StringEncoding.StringEncoding, WorldItem.WorldItem, WorldKey.WorldKey}
+use Rattle.wit_model.specs.{Text.Text, Text.text_of, Lookup.interface_at, Lookup.world_at, Uses.item_interface}
+use Rattle.wit_bind.specs.{Keys.text_under, Keys.function_key, Encodings.Encodings, Encodings.encoding_at}
 use Rattle.wit_model.specs.declared.model.WorldItem.TheVariants as item
-use Rattle.wit_model.specs.declared.model.WorldKey.{WorldKey}
 use Rattle.wit_model.specs.declared.model.WorldKey.TheVariants as key
-use Rattle.wit_model.specs.Text.{Text, text_of}
-use Rattle.wit_model.specs.Lookup.{interface_at, world_at}
-use Rattle.wit_model.specs.Uses.{item_interface}
-use Rattle.wit_bind.specs.Keys.{text_under, function_key}
-use Rattle.wit_bind.specs.Encodings.{Encodings, encoding_at}
 
 -- imports, or exports
 abbrev pub Items : Type 0

@@ -1,19 +1,10 @@
 -- A law on the keys of functions (WIT.md, "Worlds").
-use Rattle.std.specs.Prelude.{◌≡◌, ℕ, Some, String}
-use Rattle.std.specs.List.{Contains}
+use Rattle.std.specs.{Prelude.◌≡◌, Prelude.ℕ, Prelude.Some, Prelude.String, List.Contains}
 use Rattle.std.specs.declared.alloc.Global.{Global}
-use Rattle.wit_model.specs.declared.model.Resolve.{Resolve}
-use Rattle.wit_model.specs.declared.model.Interface.{Interface}
-use Rattle.wit_model.specs.declared.model.Function.{Function}
-use Rattle.wit_model.specs.declared.model.WorldItem.{WorldItem}
+use Rattle.wit_model.specs.declared.model.{Resolve.Resolve, Interface.Interface, Function.Function, WorldItem.WorldItem, WorldKey.WorldKey}
+use Rattle.wit_model.specs.{Text.Text, Text.text_of, Lookup.interface_at, Uses.item_interface, Valid.IsValid}
+use Rattle.wit_bind.specs.{Keys.text_under, Keys.function_key, Functions.Items, Functions.imports_of, Functions.exports_of, Functions.IsFunctionKey}
 use Rattle.wit_model.specs.declared.model.WorldItem.TheVariants as item
-use Rattle.wit_model.specs.declared.model.WorldKey.{WorldKey}
-use Rattle.wit_model.specs.Text.{Text, text_of}
-use Rattle.wit_model.specs.Lookup.{interface_at}
-use Rattle.wit_model.specs.Uses.{item_interface}
-use Rattle.wit_model.specs.Valid.{IsValid}
-use Rattle.wit_bind.specs.Keys.{text_under, function_key}
-use Rattle.wit_bind.specs.Functions.{Items, imports_of, exports_of, IsFunctionKey}
 
 -- Each function of these items has a key, under its own name.
 pub record HaveKeys (r : Resolve) (items : Items) : Type 0 where

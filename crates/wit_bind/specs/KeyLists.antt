@@ -2,18 +2,11 @@
 use Rattle.std.specs.Prelude.{◌≡◌, List, [], ◌∷◌, flat_map, filter_map, if◌then◌else◌, Option, Some, option_and_then, option_map, option_to_list, String}
 use Rattle.std.specs.Option.{option_map_or}
 use Rattle.std.specs.declared.alloc.Global.{Global}
-use Rattle.wit_model.specs.declared.model.Resolve.{Resolve}
-use Rattle.wit_model.specs.declared.model.Function.{Function}
-use Rattle.wit_model.specs.declared.model.StringEncoding.{StringEncoding}
-use Rattle.wit_model.specs.declared.model.WorldItem.{WorldItem}
+use Rattle.wit_model.specs.declared.model.{Resolve.Resolve, Function.Function, StringEncoding.StringEncoding, WorldItem.WorldItem, WorldKey.WorldKey}
+use Rattle.wit_model.specs.{Text.Text, Text.text_eq, Text.text_of, Lookup.interface_at}
+use Rattle.wit_bind.specs.{Keys.function_key, Encodings.Encodings, Encodings.encoding_at, Functions.Items}
 use Rattle.wit_model.specs.declared.model.WorldItem.TheVariants as item
-use Rattle.wit_model.specs.declared.model.WorldKey.{WorldKey}
 use Rattle.wit_model.specs.declared.model.WorldKey.TheVariants as key
-use Rattle.wit_model.specs.Text.{Text, text_eq, text_of}
-use Rattle.wit_model.specs.Lookup.{interface_at}
-use Rattle.wit_bind.specs.Keys.{function_key}
-use Rattle.wit_bind.specs.Encodings.{Encodings, encoding_at}
-use Rattle.wit_bind.specs.Functions.{Items}
 
 -- ---- in order
 

@@ -1,13 +1,8 @@
 -- Whether a text is the key of a function, part by part.
 use Rattle.std.specs.Prelude.{Bool, false, [], ◌∷◌, ◌++◌, Option, option_and_then}
 use Rattle.std.specs.Option.{option_map_or}
-use Rattle.wit_model.specs.declared.model.Resolve.{Resolve}
-use Rattle.wit_model.specs.declared.model.WorldKey.{WorldKey}
-use Rattle.wit_model.specs.declared.model.PackageName.{PackageName}
-use Rattle.wit_model.specs.Lookup.{canonical_identity_of}
-use Rattle.wit_model.specs.Names.{at_version}
-use Rattle.wit_model.specs.Text.{Text, text_eq, text_of}
-use Rattle.wit_model.specs.Rules.{after_prefix}
+use Rattle.wit_model.specs.declared.model.{Resolve.Resolve, WorldKey.WorldKey, PackageName.PackageName}
+use Rattle.wit_model.specs.{Lookup.canonical_identity_of, Names.at_version, Text.Text, Text.text_eq, Text.text_of, Rules.after_prefix}
 use Rattle.wit_bind.specs.Keys.{scope_of, function_key}
 
 -- what follows a text and a slash

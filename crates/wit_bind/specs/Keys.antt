@@ -1,11 +1,9 @@
 -- The keys under which the encodings of functions are kept (documentation of wit-component's `EncodingMap`; WIT.md, "Package declaration"; Semantic
 -- Versioning 2.0.0).
 use Rattle.std.specs.Prelude.{Option, Some, option_map}
-use Rattle.wit_model.specs.declared.model.Resolve.{Resolve}
-use Rattle.wit_model.specs.declared.model.WorldKey.{WorldKey}
+use Rattle.wit_model.specs.declared.model.{Resolve.Resolve, WorldKey.WorldKey}
+use Rattle.wit_model.specs.{Lookup.canonical_path, Text.Text, Text.text_of}
 use Rattle.wit_model.specs.declared.model.WorldKey.TheVariants as key
-use Rattle.wit_model.specs.Lookup.{canonical_path}
-use Rattle.wit_model.specs.Text.{Text, text_of}
 pub use Rattle.bind_meaning.specs.Keys.{text_under}
 pub use Rattle.wit_compat.specs.Opened.{bare_identity as unversioned, bare_path as unversioned_path}
 

@@ -1,26 +1,15 @@
 -- Encodings that stood under keys without version, under keys with the compatible version (documentation of wit-component's `EncodingMap`).
 use Rattle.std.specs.Prelude.{◌≡◌, ℕ, [], Option, Some, String}
-use Rattle.std.specs.Option.{option_map_or}
-use Rattle.std.specs.List.{Contains}
+use Rattle.std.specs.{Option.option_map_or, List.Contains}
 use Rattle.std.specs.declared.alloc.Global.{Global}
-use Rattle.wit_model.specs.declared.model.Resolve.{Resolve}
-use Rattle.wit_model.specs.declared.model.Interface.{Interface}
-use Rattle.wit_model.specs.declared.model.Function.{Function}
-use Rattle.wit_model.specs.declared.model.StringEncoding.{StringEncoding}
-use Rattle.wit_model.specs.declared.model.World.{World}
-use Rattle.wit_model.specs.declared.model.WorldItem.{WorldItem}
-use Rattle.wit_model.specs.declared.model.WorldItem.TheVariants as item
-use Rattle.wit_model.specs.declared.model.WorldKey.{WorldKey}
-use Rattle.wit_model.specs.declared.model.WorldKey.TheVariants as key
-use Rattle.wit_model.specs.Text.{Text, text_of}
-use Rattle.wit_model.specs.Lookup.{interface_at, world_at}
-use Rattle.wit_model.specs.Uses.{item_interface}
-use Rattle.wit_model.specs.Valid.{IsValid}
+use Rattle.wit_model.specs.declared.model.{Resolve.Resolve, World.World}
+use Rattle.wit_model.specs.declared.model.{Interface.Interface, Function.Function, StringEncoding.StringEncoding, WorldItem.WorldItem, WorldKey.WorldKey}
+use Rattle.wit_model.specs.{Text.Text, Text.text_of, Lookup.interface_at, Lookup.world_at, Uses.item_interface, Valid.IsValid}
 use Rattle.wit_bind.specs.declared.encodings.Side.{Side}
+use Rattle.wit_bind.specs.{Keys.function_key, Keys.unversioned_key, Encodings.Encodings, Encodings.encoding_at, Functions.Items}
+use Rattle.wit_model.specs.declared.model.WorldItem.TheVariants as item
+use Rattle.wit_model.specs.declared.model.WorldKey.TheVariants as key
 use Rattle.wit_bind.specs.declared.encodings.Side.TheVariants as sides
-use Rattle.wit_bind.specs.Keys.{function_key, unversioned_key}
-use Rattle.wit_bind.specs.Encodings.{Encodings, encoding_at}
-use Rattle.wit_bind.specs.Functions.{Items}
 
 -- what a world imports, or exports
 abbrev pub items_of : Side → World → Items

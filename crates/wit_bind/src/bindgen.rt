@@ -1,21 +1,16 @@
 //! What is bound to a core module, and the bindings of a module that carries no world.
 
 ghost use Rattle.std.specs.Prelude.{◌≡◌, map, None, IfErr, IfOk, OnErr, OnOk};
-ghost use Rattle.wit_model.specs.Lookup.{key_text};
-ghost use Rattle.wit_model.specs.Refusals.{IsMemory};
+ghost use Rattle.wit_model.specs.{Lookup.key_text, Refusals.IsMemory};
 ghost use Rattle.plan_meaning.specs.Built.{IsBare};
 ghost use Rattle.bind_add.specs.Growth.{IsAddable};
 ghost use Rattle.bind_clash.specs.Faults.{HaveNoClash, IsMatched};
 ghost use Rattle.bind_match.specs.Matching.{own_package_of};
-ghost use Rattle.bind_meaning.specs.Clash.{CanUnite};
-ghost use Rattle.bind_meaning.specs.Union.{union};
-ghost use Rattle.wit_bind.specs.Bindings.{IsBindgen, binding_of};
-ghost use Rattle.wit_bind.specs.Brings.{BringsItsOwn};
-ghost use Rattle.wit_bind.specs.Extends.{Extends, IsKept, listed_names, merged_names};
-ghost use Rattle.wit_bind.specs.Merged.{ExportsGrowBy, IsMerge};
+ghost use Rattle.bind_meaning.specs.{Clash.CanUnite, Union.union};
+ghost use Rattle.wit_bind.specs.{Bindings.IsBindgen, Bindings.binding_of, Extends.Extends, Extends.IsKept, Extends.listed_names, Extends.merged_names};
+ghost use Rattle.wit_bind.specs.{Brings.BringsItsOwn, Merges.AddsNothing, Merges.GrowsWithin, Merges.IsGrownBy, Merges.IsMergeRefusal, Merges.export_keys};
+ghost use Rattle.wit_bind.specs.{Merged.ExportsGrowBy, Merged.IsMerge, Roots.IsRoot, Roots.IsRootPackage, Roots.IsRootResolve, Roots.IsRootWorld};
 ghost use Rattle.wit_bind.specs.Comes.{BringsNothing};
-ghost use Rattle.wit_bind.specs.Merges.{AddsNothing, GrowsWithin, IsGrownBy, IsMergeRefusal, export_keys};
-ghost use Rattle.wit_bind.specs.Roots.{IsRoot, IsRootPackage, IsRootResolve, IsRootWorld};
 
 use crate::metadata::ModuleMetadata;
 use bind_add::{Added, add, reserve};

@@ -3,17 +3,12 @@
 ghost use Rattle.std.specs.Prelude.{◌≡◌, ◌<◌, [], ◌∷◌, false, length, IfErr, IfOk, OnErr, OnOk};
 ghost use Rattle.std.specs.FinMap.{empty};
 ghost use Rattle.indexmap.specs.IndexMap.{get_by_text};
-ghost use Rattle.wit_model.specs.Text.{optional_text};
-ghost use Rattle.wit_model.specs.Valid.{IsValid};
-ghost use Rattle.wit_model.specs.Refusals.{IsMemory};
-ghost use Rattle.wit_bind.specs.Keys.{function_key};
-ghost use Rattle.wit_bind.specs.Cuts.{has_slash as has_slash_lem, text_under};
-ghost use Rattle.wit_bind.specs.Encodings.{encoding_at, encoding_under};
-ghost use Rattle.wit_bind.specs.KeyLists.{Puts};
+ghost use Rattle.wit_model.specs.{Text.optional_text, Valid.IsValid, Refusals.IsMemory};
+ghost use Rattle.wit_bind.specs.{Keys.function_key, OldKeys.items_of as items_of_lem, OldKeys.items_on, OldKeys.CarriesEach, OldKeys.CarriesOver};
+ghost use Rattle.wit_bind.specs.{Cuts.has_slash as has_slash_lem, Cuts.text_under, Encodings.encoding_at, Encodings.encoding_under, KeyLists.Puts};
+ghost use Rattle.wit_bind.specs.Unions.{conflict_at, Gains};
 ghost use Rattle.bind_clash.specs.Faults.{IsLeastFault};
 ghost use Rattle.bind_meaning.specs.Clash.{EncodingFault};
-ghost use Rattle.wit_bind.specs.Unions.{conflict_at, Gains};
-ghost use Rattle.wit_bind.specs.OldKeys.{items_of as items_of_lem, items_on, CarriesEach, CarriesOver};
 
 use crate::keys::{is_function_key, short_scope};
 use crate::table::{Key, Parts, has_slash};

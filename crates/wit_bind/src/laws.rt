@@ -1,11 +1,7 @@
 //! Laws about the definitions.
 
-ghost use Rattle.wit_bind.specs.Apart.{GrownExtend};
-ghost use Rattle.wit_bind.specs.Bindings.{BindgensAreBindings, RootsAreRoots};
-ghost use Rattle.wit_bind.specs.Extends.{KeptBindingsAreTheSame};
-ghost use Rattle.wit_bind.specs.MergedLaws.{MatchesHavePaths, UnitedAgreeByNumbers, UnitedAreTheUnion};
-ghost use Rattle.wit_bind.specs.KeyLaws.{EachHasAKey};
-ghost use Rattle.wit_bind.specs.OldKeys.{OneOldKey};
+ghost use Rattle.wit_bind.specs.{Apart.GrownExtend, Bindings.BindgensAreBindings, Bindings.RootsAreRoots, KeyLaws.EachHasAKey, OldKeys.OneOldKey};
+ghost use Rattle.wit_bind.specs.{Extends.KeptBindingsAreTheSame, MergedLaws.MatchesHavePaths, MergedLaws.UnitedAgreeByNumbers, MergedLaws.UnitedAreTheUnion};
 
 pub use bind_meaning::laws::both_orders;
 use bind_union::laws::{meanings, merged_is_valid};

@@ -1,9 +1,7 @@
 //! Keys that are cut in two at their last slash.
 
-ghost use Rattle.std.specs.Prelude.{◌≡◌, false, fold, IfOk, IfErr};
-ghost use Rattle.std.specs.Arc.{arc_str_bytes};
-ghost use Rattle.wit_model.specs.Text.{text_eq, text_of};
-ghost use Rattle.wit_model.specs.Refusals.{IsMemory};
+ghost use Rattle.std.specs.{Prelude.◌≡◌, Prelude.false, Prelude.fold, Prelude.IfOk, Prelude.IfErr, Arc.arc_str_bytes};
+ghost use Rattle.wit_model.specs.{Text.text_eq, Text.text_of, Refusals.IsMemory};
 ghost use Rattle.wit_bind.specs.Cuts.{has_slash as has_slash_lem, IsLastSlash, text_under, key_writes, makes_key, parts_writes, same_parts, writes_of, IsCut};
 ghost use Rattle.wit_bind.specs.CutLaws.{key_equiv, key_partial_equiv, key_alike, makes_alike, makes_same, parts_alike, parts_equiv, parts_partial_equiv};
 

@@ -3,8 +3,7 @@
 ghost use Rattle.std.specs.Prelude.{◌≡◌, [], ◌∷◌, ◌++◌, decimal, option_map, IfSome};
 ghost use Rattle.std.specs.Option.{option_copied};
 ghost use Rattle.semver.specs.Identifiers.{parts_of};
-ghost use Rattle.wit_model.specs.Names.{at_version, canonical_version};
-ghost use Rattle.wit_model.specs.Rules.{after_prefix as after_prefix_lem};
+ghost use Rattle.wit_model.specs.{Names.at_version, Names.canonical_version, Rules.after_prefix as after_prefix_lem};
 ghost use Rattle.wit_bind.specs.Versions.{canonical_text, identifiers_of, marked_by, numbers_of};
 
 use arrayvec::ArrayString;

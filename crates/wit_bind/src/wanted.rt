@@ -1,10 +1,8 @@
 //! The encoding that each function of a world is to have, put under its key.
 
 ghost use Rattle.std.specs.Prelude.{◌≡◌, option_to_list, IfErr, IfOk, OnOk, Some};
-ghost use Rattle.std.specs.Arc.{arc_str_bytes};
-ghost use Rattle.std.specs.FinMap.{empty};
-ghost use Rattle.wit_bind.specs.Keys.{scope_of};
-ghost use Rattle.wit_bind.specs.Choices.{choice_of};
+ghost use Rattle.std.specs.{Arc.arc_str_bytes, FinMap.empty};
+ghost use Rattle.wit_bind.specs.{Keys.scope_of, Choices.choice_of};
 ghost use Rattle.wit_bind.specs.KeyLists.{entries_of_item, entries_of_items, entry_of, member_entries, own_entries, Puts};
 ghost use Rattle.wit_model.specs.Refusals.{IsMemory};
 

@@ -1,10 +1,9 @@
 -- What an answer of `check` says.
 use Rattle.std.proofs.Common.{refl, Result, Ok, Err, IfErr, IsOkUnless}
-use Rattle.wit_model.specs.declared.error.Fault.{Fault}
-use Rattle.wit_model.specs.declared.error.Fault.TheVariants as faults
-use Rattle.wit_model.specs.declared.model.Resolve.{Resolve}
+use Rattle.wit_model.specs.declared.{error.Fault.Fault, model.Resolve.Resolve}
 use Rattle.wit_model.specs.Valid.{IsFaultOf, IsValid}
 use Rattle.wit_model.proofs.Entries.{none_breaks}
+use Rattle.wit_model.specs.declared.error.Fault.TheVariants as faults
 
 -- a valid `Resolve` is refused for want of memory alone
 pub no_fault : {A : Type 0} (r : Resolve) (answer : Result A Fault) → IfErr answer (IsFaultOf r) → IsValid r → IsOkUnless answer faults.Memory

@@ -3,8 +3,7 @@
 
 ghost use Rattle.std.specs.Prelude.{OnOk, IfErr, IsOkUnless};
 ghost use Rattle.wit_model.specs.Valid.{IsFaultOf, IsValid};
-ghost use Rattle.wit_model.specs.declared.error.Fault.TheVariants.{Memory as MemoryFault};
-ghost use Rattle.wit_model.specs.declared.model.Resolve.{Resolve as ResolveValue};
+ghost use Rattle.wit_model.specs.declared.{error.Fault.TheVariants.Memory as MemoryFault, model.Resolve.Resolve as ResolveValue};
 
 use check_rules::{check_rules, read_all};
 use std::alloc::Global;

@@ -1,12 +1,9 @@
 -- The beginning of a table is so many different pairs of the walk.
 use Rattle.std.proofs.Common.{arith, ◌≡◌, refl, sym, ap, subst, ◌∙◌, ℕ, zero, suc, ◌≤◌, Bool, true, false, ◌&&◌, ◌⊎◌, inl, inr, List, [], ◌∷◌, take, drop, length, nat_eq, Result, Ok, Err, OnOk, is_ok}
+use Rattle.std.proofs.lemmas.{List.take-append-drop, List.take_all, Bool.eq-eqb}
+use Rattle.std.proofs.lemmas.{List.Elements.Contains-append_left, List.Elements.Contains-append_cases, Map.Keys.IsDistinct-head, Map.Keys.IsDistinct-tail}
 use Rattle.std.specs.List.{Contains, IsDistinct, AllByRecursion}
-use Rattle.std.proofs.lemmas.List.{take-append-drop, take_all}
-use Rattle.std.proofs.lemmas.List.Elements.{Contains-append_left, Contains-append_cases}
-use Rattle.std.proofs.lemmas.Bool.{eq-eqb}
-use Rattle.std.proofs.lemmas.Map.Keys.{IsDistinct-head, IsDistinct-tail}
-use Rattle.wit_model.specs.declared.model.Resolve.{Resolve}
-use Rattle.wit_model.specs.declared.model.World.{World}
+use Rattle.wit_model.specs.declared.model.{Resolve.Resolve, World.World}
 use Rattle.wit_compat.specs.Walk.{Pair, AreDifferent, IsCounted, pairs_of_worlds}
 use Rattle.wit_compat.specs.Table.{AreAmong, AreReached, IsLayered, IsSettled}
 use Rattle.wit_compat.proofs.Alike.{closed}

@@ -1,42 +1,24 @@
 -- What the kinds of two `Resolve`s' types declare.
 use Rattle.std.proofs.Common.{arith, ◌≡◌, ◌↔◌, refl, sym, ap, subst, ◌∙◌, ◌⊎◌, inl, inr, ℕ, Bool, true, false, List, [], ◌∷◌, map, length, Some, None, is_some, unwrap_or, IsTrue, Vec, Result, Ok, Err, IfOk}
-use Rattle.std.specs.declared.alloc.Global.{Global}
-use Rattle.std.specs.declared.alloc.AllocError.{AllocError}
+use Rattle.std.proofs.{Math.ListN.length-map, lemmas.Option.slice_get_within as below_length}
+use Rattle.std.specs.declared.alloc.{Global.Global, AllocError.AllocError}
 use Rattle.std.specs.List.{Contains}
-use Rattle.std.proofs.Math.ListN.{length-map}
-use Rattle.wit_model.specs.declared.model.Resolve.{Resolve}
-use Rattle.wit_model.specs.declared.model.TypeDef.{TypeDef}
-use Rattle.wit_model.specs.declared.model.TypeId.{TypeId}
-use Rattle.wit_model.specs.declared.model.TypeDefKind.{TypeDefKind}
-use Rattle.wit_model.specs.declared.model.TypeDefKind.TheVariants as kind
-use Rattle.wit_model.specs.declared.model.Handle.TheVariants as handle
-use Rattle.wit_model.specs.declared.model.«Type».{«Type» as ValueType}
-use Rattle.wit_model.specs.declared.model.«Type».TheVariants as ty
-use Rattle.wit_model.specs.Lookup.{type_at}
-use Rattle.wit_model.specs.Meaning.{TypeMeaning}
-use Rattle.wit_model.specs.Meant.{no_type, type_meaning, type_meaning_at}
-use Rattle.wit_model.specs.Parts.{kind_numbers}
-use Rattle.wit_model.specs.Rules.{is_named_number, passes, is_resource_itself}
-use Rattle.wit_model.specs.Text.{optional_text}
+use Rattle.wit_model.specs.declared.model.{Resolve.Resolve, TypeDef.TypeDef, TypeId.TypeId, TypeDefKind.TypeDefKind, «Type».«Type» as ValueType}
+use Rattle.wit_model.specs.{Lookup.type_at, Meaning.TypeMeaning, Parts.kind_numbers, Text.optional_text, Uses.alias_target, Valid.IsValid, Valid.named_kinds}
+use Rattle.wit_model.specs.{Meant.no_type, Meant.type_meaning, Meant.type_meaning_at, Rules.is_named_number, Rules.passes, Rules.is_resource_itself}
 use Rattle.wit_model.specs.Tree.{Tree, Form, Declaration, type_, resource, primitive, named, node, children, child_list}
 use Rattle.wit_model.specs.Types.{number_of, type_tree, tree_of, trees_of, no_tree, declared_by, tree_of_declaration}
-use Rattle.wit_model.specs.Uses.{alias_target}
-use Rattle.wit_model.specs.Valid.{IsValid, named_kinds}
-use Rattle.wit_model.proofs.Entries.{each_from_at, lists_pass}
-use Rattle.wit_model.proofs.TreeTable.{kept_numbers}
+use Rattle.wit_model.proofs.{Entries.each_from_at, Entries.lists_pass, TreeTable.kept_numbers, TreeLemmas.child_list_of_children as children_back}
 use Rattle.wit_compat.specs.declared.look.Look.{Look}
-use Rattle.wit_compat.specs.declared.look.Look.TheVariants as look
-use Rattle.wit_compat.specs.Opened.{form_of, places_of}
+use Rattle.wit_compat.specs.{Opened.form_of, Opened.places_of, TwoSides.aliased, TwoSides.IsKindOf, TwoSides.SameDeclared, TwoSides.TellsDeclared}
 use Rattle.wit_compat.specs.Table.{AllInRange, InRange}
-use Rattle.wit_compat.specs.TwoSides.{aliased, IsKindOf, SameDeclared, TellsDeclared}
-use Rattle.wit_compat.proofs.Alike.{below_number, is_below, node_children, node_form}
-use Rattle.wit_compat.proofs.OpenedTable.{opened_built}
+use Rattle.wit_compat.proofs.{Alike.below_number, Alike.is_below, Alike.node_children, Alike.node_form, OpenedTable.opened_built}
 use Rattle.wit_compat.proofs.Sided.{named_is, never, number_case, places_in_range}
-use Rattle.base_lemmas.proofs.Bools.{right_of as second_true}
-use Rattle.base_lemmas.proofs.Elements.{last_of as one-contained}
-use Rattle.base_lemmas.proofs.Lists.{within_there as found_at}
-use Rattle.std.proofs.lemmas.Option.{slice_get_within as below_length}
-use Rattle.wit_model.proofs.TreeLemmas.{child_list_of_children as children_back}
+use Rattle.base_lemmas.proofs.{Bools.right_of as second_true, Elements.last_of as one-contained, Lists.within_there as found_at}
+use Rattle.wit_model.specs.declared.model.TypeDefKind.TheVariants as kind
+use Rattle.wit_model.specs.declared.model.Handle.TheVariants as handle
+use Rattle.wit_model.specs.declared.model.«Type».TheVariants as ty
+use Rattle.wit_compat.specs.declared.look.Look.TheVariants as look
 
 true_false : {P : Type 0} → true ≡ false → P
 true_false e = let wrong : ⊥ = cc in absurd wrong

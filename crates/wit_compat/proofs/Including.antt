@@ -1,15 +1,13 @@
 -- Entries that are found one by one, and the first that isn't.
 use Rattle.std.proofs.Common.{arith, ℕ, ◌≡◌, refl, sym, ap, subst, ◌∙◌, ◌+◌, ◌<◌, Bool, true, false, cond, ◌⊎◌, inl, inr, List, [], ◌∷◌, ◌++◌, map, take, drop, get_or, length, Option, Some, None, option_map}
-use Rattle.std.specs.List.{Contains}
 use Rattle.std.proofs.lemmas.List.{drop_more, map-append, take-append-drop}
 use Rattle.std.proofs.lemmas.List.Elements.{Contains-append_left, Contains-append_right, Contains-append_cases, Contains-push, Contains-push_cases}
-use Rattle.wit_model.specs.declared.model.Resolve.{Resolve}
-use Rattle.wit_model.specs.declared.error.Error.{Error}
+use Rattle.std.specs.List.{Contains}
+use Rattle.wit_model.specs.declared.{model.Resolve.Resolve, error.Error.Error}
 use Rattle.wit_compat.specs.declared.part.Entry.{Entry}
 use Rattle.wit_compat.specs.Compatible.{IsFault, is_missing, is_other, missing, differs, spelled_name, IsMemoryOr, IsEntryFault, IsFaultOf, IsIncluded}
 use Rattle.wit_compat.specs.Flat.{Name, Thing, Shown, all_shown, find_named, same_name, shown}
-use Rattle.wit_compat.specs.Parts.{named_thing, thing_of}
-use Rattle.wit_compat.specs.Walk.{Pair, pairs_of_entry, pairs_shared, Reached, root}
+use Rattle.wit_compat.specs.{Parts.named_thing, Parts.thing_of, Walk.Pair, Walk.pairs_of_entry, Walk.pairs_shared, Walk.Reached, Walk.root}
 use Rattle.wit_compat.specs.Table.{AreAmong, AreReached}
 use Rattle.wit_compat.proofs.Settling.{reached_through}
 use Rattle.base_lemmas.proofs.Elements.{last_of as contains_one, map_from as contains_map}

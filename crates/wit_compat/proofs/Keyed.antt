@@ -1,21 +1,16 @@
 -- Things and their keys: what an item shows is all under its key, and has its key's number.
 use Rattle.std.proofs.Common.{arith, ◌≡◌, refl, sym, ap, subst, ◌∙◌, ◌⊎◌, inl, inr, ℕ, List, [], ◌∷◌, ◌++◌, map, Option, Some, None}
-use Rattle.std.specs.List.{Contains}
-use Rattle.std.specs.Option.{option_map_or}
-use Rattle.std.proofs.lemmas.List.{map-append}
-use Rattle.std.proofs.lemmas.List.Elements.{Contains-append_cases}
-use Rattle.wit_model.specs.declared.model.Resolve.{Resolve}
-use Rattle.wit_model.specs.declared.model.Interface.{Interface}
-use Rattle.wit_model.specs.declared.model.WorldItem.{WorldItem}
-use Rattle.wit_model.specs.declared.model.WorldItem.TheVariants as item
-use Rattle.wit_model.specs.declared.model.«Type».TheVariants as ty
-use Rattle.wit_model.specs.Lookup.{interface_at}
-use Rattle.wit_model.specs.Text.{Text}
+use Rattle.std.proofs.lemmas.{List.map-append, List.Elements.Contains-append_cases}
+use Rattle.std.specs.{List.Contains, Option.option_map_or}
+use Rattle.wit_model.specs.declared.model.{Resolve.Resolve, Interface.Interface, WorldItem.WorldItem}
+use Rattle.wit_model.specs.{Lookup.interface_at, Text.Text}
 use Rattle.wit_compat.specs.declared.part.Entry.{Entry}
 use Rattle.wit_compat.specs.Flat.{Name, Thing, interface, of_type, of_function, function_member, item_things, members, type_member}
 use Rattle.wit_compat.specs.Numbered.{BorrowedTexts, number_in, AreNumbered, KeepsNumbers}
 use Rattle.wit_compat.specs.Parts.{named_thing, numbered_thing, with_number}
 use Rattle.base_lemmas.proofs.Elements.{contains-map as contains_mapped, last_of as contains_one, map_from as contains_map}
+use Rattle.wit_model.specs.declared.model.WorldItem.TheVariants as item
+use Rattle.wit_model.specs.declared.model.«Type».TheVariants as ty
 
 member_key : (k : Text) (i : Interface) (x : Name × Thing) → Contains (members k i) x → x.0.0 ≡ k
 member_key k i x c = by (Contains-append_cases (map (type_member k) i.types.entries) (map (function_member k) i.functions.entries) x c)

@@ -1,16 +1,12 @@
 -- Lists in which the same is found have the same included, the same faults and the same pairs.
 use Rattle.std.proofs.Common.{◌≡◌, refl, sym, ap, subst, ◌∙◌, Bool, inl, inr, List, [], ◌∷◌, ◌++◌, map, option_map, Result, Ok, Err, OnOk, IfErr, MatchResult}
-use Rattle.std.specs.List.{Contains}
-use Rattle.std.specs.Option.{option_map_or}
-use Rattle.wit_model.specs.declared.model.Resolve.{Resolve}
-use Rattle.wit_model.specs.declared.error.Error.{Error}
+use Rattle.std.specs.{List.Contains, Option.option_map_or}
+use Rattle.wit_model.specs.declared.{model.Resolve.Resolve, error.Error.Error}
 use Rattle.wit_compat.specs.declared.part.Entry.{Entry}
 use Rattle.wit_compat.specs.Compatible.{IsFault, IsFaultOf, IsIncluded}
 use Rattle.wit_compat.specs.Flat.{Name, Thing, Shown, all_shown, find_named, shown}
-use Rattle.wit_compat.specs.Parts.{named_thing, EntriesInRange, FoundInRange, ThingInRange}
-use Rattle.wit_compat.specs.Walk.{pairs_between, pairs_shared}
-use Rattle.wit_compat.proofs.Including.{found_shown}
-use Rattle.wit_compat.proofs.Transitive.{found_stands}
+use Rattle.wit_compat.specs.{Parts.named_thing, Parts.EntriesInRange, Parts.FoundInRange, Parts.ThingInRange, Walk.pairs_between, Walk.pairs_shared}
+use Rattle.wit_compat.proofs.{Including.found_shown, Transitive.found_stands}
 use Rattle.base_lemmas.proofs.Elements.{contains-map as contains_mapped}
 
 -- the same is found in both

@@ -1,14 +1,11 @@
 -- What is found under a name, and what two interfaces have by name.
 use Rattle.std.proofs.Common.{◌≡◌, ◌↔◌, sym, ap, ◌∙◌, ℕ, Bool, false, List, Option, Some, None, option_map, IsTrue}
+use Rattle.std.proofs.lemmas.Option.{same_Some as same-some}
 use Rattle.std.specs.List.{Contains, IsAmong}
-use Rattle.wit_model.specs.declared.model.Resolve.{Resolve}
-use Rattle.wit_model.specs.declared.model.Interface.{Interface}
-use Rattle.wit_model.specs.Lookup.{interface_at}
-use Rattle.wit_model.specs.Meaning.{InterfaceSense, interface_sense}
-use Rattle.wit_model.specs.Meant.{interface_meaning, interface_meaning_at}
+use Rattle.wit_model.specs.declared.model.{Resolve.Resolve, Interface.Interface}
+use Rattle.wit_model.specs.{Lookup.interface_at, Meaning.InterfaceSense, Meaning.interface_sense, Meant.interface_meaning, Meant.interface_meaning_at}
 use Rattle.wit_compat.specs.TwoSides.{functions_sense, types_sense}
 use Rattle.wit_compat.proofs.Sided.{never}
-use Rattle.std.proofs.lemmas.Option.{same_Some as same-some}
 use Rattle.wit_model.proofs.MeantLemmas.{meaning_there as interface_there}
 
 pub among_contains : {X : Type 0} (xs : List X) (x : X) → IsAmong xs x → Contains xs x

@@ -1,16 +1,10 @@
 -- What interfaces are called.
 use Rattle.std.proofs.Common.{◌≡◌, refl, sym, ap, flat_map, get_or, append-nil, ◌∙◌, ℕ, zero, suc, ◌+◌, ◌<◌, Bool, true, false, cond, List, [], ◌∷◌, ◌++◌, take, length, arith, Option, Some, None}
+use Rattle.std.proofs.lemmas.{List.take_more, List.Concat.flat_map-append}
 use Rattle.wit_model.specs.Text.{Text}
 use Rattle.std.specs.Option.{option_or}
-use Rattle.wit_model.specs.declared.model.Resolve.{Resolve}
-use Rattle.wit_model.specs.declared.model.Interface.{Interface}
-use Rattle.wit_model.specs.declared.model.WorldKey.{WorldKey}
-use Rattle.wit_model.specs.declared.model.WorldItem.{WorldItem}
-use Rattle.std.proofs.lemmas.List.{take_more}
-use Rattle.std.proofs.lemmas.List.Concat.{flat_map-append}
-use Rattle.wit_model.specs.declared.model.World.{World}
-use Rattle.wit_compat.specs.Opened.{entries_of_world, interface_name, is_item_of, label_among, label_of_key}
-use Rattle.wit_compat.specs.Outline.{names_from}
+use Rattle.wit_model.specs.declared.model.{Resolve.Resolve, Interface.Interface, WorldKey.WorldKey, WorldItem.WorldItem, World.World}
+use Rattle.wit_compat.specs.{Opened.entries_of_world, Opened.interface_name, Opened.is_item_of, Opened.label_among, Opened.label_of_key, Outline.names_from}
 
 chosen : {X : Type 0} (b : Bool) (x : X) (o p : Option X) → cond b (Some x) (option_or o p) ≡ option_or (cond b (Some x) o) p
 chosen true x o p = refl

@@ -1,15 +1,12 @@
 -- Texts by number: a number is one text's, and stays.
 use Rattle.std.proofs.Common.{◌≡◌, refl, sym, ap, ◌∙◌, ℕ, ◌+◌, ◌==◌, suc, ◌↔◌, IsTrue, Bool, true, false, cond, not, ◌||◌, List, [], ◌∷◌, ◌++◌, map, Option, Some, None, option_map, true≢false, arith}
-use Rattle.std.specs.Borrow.{Bor}
-use Rattle.std.specs.List.{list_any, position_or_len}
-use Rattle.std.proofs.lemmas.Bool.{eqb-true, eq-eqb}
-use Rattle.std.proofs.lemmas.List.{map-append}
+use Rattle.std.proofs.lemmas.{Bool.eqb-true, Bool.eq-eqb, List.map-append}
+use Rattle.std.specs.{Borrow.Bor, List.list_any, List.position_or_len}
 use Rattle.wit_model.specs.Text.{Text, text_eq}
-use Rattle.wit_model.proofs.VersionLaws.{same_text}
+use Rattle.wit_model.proofs.{VersionLaws.same_text, TextLemmas.text_same}
 use Rattle.wit_compat.specs.declared.part.Entry.{Entry}
 use Rattle.wit_compat.specs.Numbered.{BorrowedTexts, number_in, KeepsNumbers, AreNumbered, AllNumbersTell}
 use Rattle.base_lemmas.proofs.Options.{some_same}
-use Rattle.wit_model.proofs.TextLemmas.{text_same}
 
 abbrev is_text : Text → Bor (List ℕ) → Bool
 is_text t k = text_eq t k.now

@@ -1,23 +1,17 @@
 -- The four parts of a form tell which form it is.
 use Rattle.std.proofs.Common.{◌≡◌, refl, sym, ap, ◌∙◌, ℕ, ◌+◌, ◌<◌, Bool, true, false, ◌&&◌, List, [], ◌∷◌, map, Option, Some, None, Bor, String, zero, suc, get_or, length, arith}
-use Rattle.std.proofs.Math.Bool.{beq}
+use Rattle.std.proofs.{Math.Bool.beq, lemmas.Slice.Eq.bytes_eq-Decides, Math.ListN.length-map, Math.ListN.get_or-map}
 use Rattle.std.specs.Cmp.Lexicographic.{pointwise}
 use Rattle.std.specs.declared.alloc.Global.{Global}
-use Rattle.std.proofs.lemmas.Slice.Eq.{bytes_eq-Decides}
-use Rattle.std.proofs.Math.ListN.{length-map, get_or-map}
-use Rattle.wit_model.specs.declared.model.Variant.{Variant}
-use Rattle.wit_model.specs.declared.model.Resolve.{Resolve}
-use Rattle.wit_model.specs.declared.model.Interface.{Interface}
-use Rattle.wit_model.specs.declared.model.TypeDefKind.TheVariants as kind
+use Rattle.wit_model.specs.declared.model.{Variant.Variant, Resolve.Resolve, Interface.Interface}
 use Rattle.wit_model.specs.Text.{Text, text_eq, text_of}
 use Rattle.wit_model.specs.Tree.{Form, record_of, variant_of, list_of, fixed_list_of, option_of, own_of, borrow_of, map_of, tuple_of, flags_of, enum_of, result_of, future_of, stream_of}
-use Rattle.wit_compat.specs.Opened.{form_of, interface_name, is_there}
-use Rattle.wit_compat.specs.declared.kinds.Sort.{Sort}
-use Rattle.wit_compat.specs.declared.kinds.Sort.TheVariants as sort
-use Rattle.wit_compat.specs.Numbered.{BorrowedTexts, number_in}
+use Rattle.wit_compat.specs.{Opened.form_of, Opened.interface_name, Opened.is_there, Numbered.BorrowedTexts, Numbered.number_in}
 use Rattle.wit_compat.specs.Outline.{sort_of, labels_of, given_of, count_of, names_from, interface_names}
-use Rattle.base_lemmas.proofs.Bools.{left_of as first_true, right_of as second_true}
-use Rattle.base_lemmas.proofs.Lists.{map_of_map as map_twice}
+use Rattle.wit_compat.specs.declared.kinds.Sort.{Sort}
+use Rattle.base_lemmas.proofs.{Bools.left_of as first_true, Bools.right_of as second_true, Lists.map_of_map as map_twice}
+use Rattle.wit_model.specs.declared.model.TypeDefKind.TheVariants as kind
+use Rattle.wit_compat.specs.declared.kinds.Sort.TheVariants as sort
 
 pub variant_given : (v : Variant) → given_of (form_of (kind.Variant v)) ≡ map (λ c. is_there c.ty) v.cases.items
 variant_given v = let snd : Text × Bool → Bool = λ p. p.1 in map_twice snd (λ c. (text_of c.name, is_there c.ty)) v.cases.items

@@ -1,22 +1,13 @@
 -- What a valid `Resolve` has is in range.
 use Rattle.std.proofs.Common.{◌≡◌, refl, ap, ◌∙◌, sym, ℕ, true, ◌&&◌, length, slice_get, Option, Some, None, option_map, option_and_then}
+use Rattle.std.proofs.lemmas.{Bool.ltb-true as is_below, Option.same_Some as same-some}
 use Rattle.indexmap.specs.IndexMap.{values}
-use Rattle.wit_model.specs.declared.model.Resolve.{Resolve}
-use Rattle.wit_model.specs.declared.model.Interface.{Interface}
-use Rattle.wit_model.specs.declared.model.World.{World}
-use Rattle.wit_model.specs.declared.model.WorldKey.{WorldKey}
-use Rattle.wit_model.specs.declared.model.WorldItem.{WorldItem}
-use Rattle.wit_model.specs.Lookup.{interface_at, world_at}
-use Rattle.wit_model.specs.Rules.{function_in_range, in_list, item_in_range, key_in_range}
+use Rattle.wit_model.specs.declared.model.{Resolve.Resolve, Interface.Interface, World.World, WorldKey.WorldKey, WorldItem.WorldItem}
+use Rattle.wit_model.specs.{Lookup.interface_at, Lookup.world_at, Rules.function_in_range, Rules.in_list, Rules.item_in_range, Rules.key_in_range}
 use Rattle.wit_model.specs.Valid.{IsValid}
-use Rattle.wit_compat.specs.Compatible.{HasItemsInRange}
-use Rattle.wit_compat.specs.Senses.{import_at}
-use Rattle.wit_compat.specs.TwoSides.{HasTypesInRange}
+use Rattle.wit_compat.specs.{Compatible.HasItemsInRange, Senses.import_at, TwoSides.HasTypesInRange}
 use Rattle.wit_compat.proofs.Validity.{function_types_in_range, interface_numbers, world_numbers}
-use Rattle.base_lemmas.proofs.Bools.{right_of as second_true}
-use Rattle.base_lemmas.proofs.Elements.{all-contained as all_contained, get-contains}
-use Rattle.std.proofs.lemmas.Bool.{ltb-true as is_below}
-use Rattle.std.proofs.lemmas.Option.{same_Some as same-some}
+use Rattle.base_lemmas.proofs.{Bools.right_of as second_true, Elements.all-contained as all_contained, Elements.get-contains}
 
 module _ (r : Resolve) (v : IsValid r) where
   pub has_types : (n : ℕ) (i : Interface) → interface_at r n ≡ Some i → HasTypesInRange r i

@@ -1,46 +1,28 @@
 -- A world whose keys stand once shows nothing twice, so it may take its own place.
 use Rattle.std.proofs.Common.{arith, ◌≡◌, refl, sym, ap, subst, ◌∙◌, ◌⊎◌, inl, inr, ℕ, ◌+◌, length, Bool, true, false, ◌&&◌, ◌||◌, not, cond, List, [], ◌∷◌, ◌++◌, map, Option, Some, None, String, option_map}
+use Rattle.std.proofs.lemmas.List.Elements.{Contains-append_left, Contains-append_right, Contains-append_cases, Contains-push}
+use Rattle.std.proofs.lemmas.{Cmp.nat_list_eq_equiv, Slice.Eq.bytes_eq-Decides, Bool.ltb-true as is_below}
 use Rattle.std.specs.declared.alloc.Global.{Global}
 use Rattle.std.specs.List.{AllByRecursion, Contains, IsDistinct, find, list_all, list_any}
-use Rattle.std.specs.Option.{option_map_or}
-use Rattle.std.specs.Prelude.{string_eq}
-use Rattle.std.proofs.lemmas.List.Elements.{Contains-append_left, Contains-append_right, Contains-append_cases, Contains-push}
-use Rattle.std.proofs.lemmas.Cmp.{nat_list_eq_equiv}
-use Rattle.std.proofs.lemmas.Slice.Eq.{bytes_eq-Decides}
+use Rattle.std.specs.{Option.option_map_or, Prelude.string_eq}
 use Rattle.indexmap.specs.IndexMap.{keys, values}
-use Rattle.wit_model.specs.declared.error.EntryList.TheVariants as lists
-use Rattle.wit_model.specs.declared.model.Resolve.{Resolve}
-use Rattle.wit_model.specs.declared.model.Interface.{Interface}
-use Rattle.wit_model.specs.declared.model.World.{World}
-use Rattle.wit_model.specs.declared.model.WorldKey.{WorldKey}
-use Rattle.wit_model.specs.declared.model.WorldItem.{WorldItem}
-use Rattle.wit_model.specs.declared.model.WorldItem.TheVariants as item
-use Rattle.wit_model.specs.declared.model.Function.{Function}
-use Rattle.wit_model.specs.declared.model.FunctionKind.{FunctionKind}
-use Rattle.wit_model.specs.declared.model.FunctionKind.TheVariants as kind
-use Rattle.wit_model.specs.declared.model.TypeDef.{TypeDef}
-use Rattle.wit_model.specs.declared.model.TypeId.{TypeId}
-use Rattle.wit_model.specs.declared.model.TypeOwner.{TypeOwner}
-use Rattle.wit_model.specs.declared.model.«Type».TheVariants as ty
-use Rattle.wit_model.specs.Text.{Text, text_of, text_eq}
-use Rattle.wit_model.specs.Names.{is_label, constructor_name, method_name, static_name}
-use Rattle.wit_model.specs.Lookup.{interface_at, type_at, resource_of}
+use Rattle.wit_model.specs.declared.model.{Resolve.Resolve, World.World, Function.Function, TypeDef.TypeDef, TypeId.TypeId}
+use Rattle.wit_model.specs.declared.model.{Interface.Interface, WorldKey.WorldKey, WorldItem.WorldItem, FunctionKind.FunctionKind, TypeOwner.TypeOwner}
+use Rattle.wit_model.specs.{Text.Text, Text.text_of, Text.text_eq, Lookup.interface_at, Lookup.type_at, Lookup.resource_of}
+use Rattle.wit_model.specs.{Names.is_label, Names.constructor_name, Names.method_name, Names.static_name, Checks.KeepsIn, Checks.has_name, Checks.listings}
 use Rattle.wit_model.specs.Rules.{after_prefix, are_in_order, are_member_labels, constructs, function_labels, in_list, interface_type_numbers, is_freestanding, is_member, is_member_name, is_member_of, is_named_of, is_stability, kind_labels, passes, resource_name, takes_self}
-use Rattle.wit_model.specs.Checks.{KeepsIn, has_name, listings}
 use Rattle.wit_model.specs.Valid.{IsValid, as_interface, functions_of_interface, function_names, labels, order_of_types}
 use Rattle.wit_model.proofs.Entries.{each_from_all, each_from_at, lists_pass, none_breaks}
 use Rattle.wit_model.proofs.Listings.{interface_fits, misnamed_in_interface_breaks}
-use Rattle.wit_compat.specs.Compatible.{Accepts, HasKeysOnce, IsIncluded, bare_keys}
+use Rattle.wit_compat.specs.{Compatible.Accepts, Compatible.HasKeysOnce, Compatible.IsIncluded, Compatible.bare_keys, Opened.bare_key}
 use Rattle.wit_compat.specs.Flat.{Name, Shown, Thing, interface, of_type, of_function, entry_things, find_named, flat, function_member, item_things, members, same_name, shown, things_of, type_member}
-use Rattle.wit_compat.specs.Opened.{bare_key}
-use Rattle.wit_compat.proofs.Including.{found_shown}
-use Rattle.wit_compat.proofs.Indexing.{same_name_is}
-use Rattle.wit_compat.proofs.Keyed.{item_key}
-use Rattle.wit_compat.proofs.Validity.{interface_numbers}
-use Rattle.base_lemmas.proofs.Bools.{left_of as first_true, right_of as second_true}
+use Rattle.wit_compat.proofs.{Including.found_shown, Indexing.same_name_is, Keyed.item_key, Validity.interface_numbers}
+use Rattle.base_lemmas.proofs.{Bools.left_of as first_true, Bools.right_of as second_true, Lists.within_there as found_at}
 use Rattle.base_lemmas.proofs.Elements.{all-contained as all_contained, any-at as any_contained, contains-map as contains_mapped, last_of as contains_one, map_from as contains_map, none_in as none_contained}
-use Rattle.base_lemmas.proofs.Lists.{within_there as found_at}
-use Rattle.std.proofs.lemmas.Bool.{ltb-true as is_below}
+use Rattle.wit_model.specs.declared.error.EntryList.TheVariants as lists
+use Rattle.wit_model.specs.declared.model.WorldItem.TheVariants as item
+use Rattle.wit_model.specs.declared.model.FunctionKind.TheVariants as kind
+use Rattle.wit_model.specs.declared.model.«Type».TheVariants as ty
 
 -- ---- names that are all different
 

@@ -1,10 +1,8 @@
 -- What is refused isn't accepted.
 use Rattle.std.proofs.Common.{◌≡◌, sym, ap, subst, inl, inr, List, [], ◌∷◌, ◌++◌, Option, Some, unwrap_or}
-use Rattle.std.specs.List.{Contains}
 use Rattle.std.proofs.lemmas.List.Elements.{Contains-append_left, Contains-append_right, Contains-push}
-use Rattle.wit_model.specs.declared.model.Resolve.{Resolve}
-use Rattle.wit_model.specs.declared.model.World.{World}
-use Rattle.wit_model.specs.declared.error.Error.{Error}
+use Rattle.std.specs.List.{Contains}
+use Rattle.wit_model.specs.declared.{model.Resolve.Resolve, model.World.World, error.Error.Error}
 use Rattle.wit_compat.specs.Compatible.{Accepts, IsFault, is_missing, is_other, IsFirstFault, IsIncluded, IsMismatch, IsRefused, memory, refused, IsRepeated, Refusal, Refuses, package_name, packages, keys, imports, exports, HasKeysOnce, keys_of_world}
 use Rattle.wit_compat.specs.Flat.{Name, Shown, find_named}
 use Rattle.wit_compat.proofs.Repeating.{both_once, repeated_excludes}

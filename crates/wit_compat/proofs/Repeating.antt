@@ -1,17 +1,13 @@
 -- Texts that stand once, and the first that repeats an earlier one.
 use Rattle.std.proofs.Common.{arith, ◌≡◌, refl, sym, ap, subst, ◌∙◌, ◌⊎◌, inl, inr, true, false, cond, List, [], ◌∷◌, ◌++◌, append_assoc, map, Bor, ℕ, Option, None, Some, MatchOption, Result, Ok, Err, IfOk}
-use Rattle.std.specs.List.{list_any, AllByRecursion, Contains, IsDistinct}
-use Rattle.std.proofs.lemmas.List.{map-append}
+use Rattle.std.proofs.lemmas.{List.map-append, Slice.Eq.bytes_eq-Decides, Bool.or_parts as neither}
 use Rattle.std.proofs.lemmas.List.Elements.{Contains-append_left, Contains-append_right, Contains-append_cases, Contains-push}
-use Rattle.std.proofs.lemmas.Slice.Eq.{bytes_eq-Decides}
-use Rattle.wit_model.specs.declared.model.Resolve.{Resolve}
-use Rattle.wit_model.specs.declared.model.World.{World}
+use Rattle.std.specs.List.{list_any, AllByRecursion, Contains, IsDistinct}
+use Rattle.wit_model.specs.declared.model.{Resolve.Resolve, World.World}
 use Rattle.wit_model.specs.Text.{Text, text_eq}
-use Rattle.wit_model.proofs.Distinct.{text_eq_flip}
+use Rattle.wit_model.proofs.{Distinct.text_eq_flip, TextLemmas.text_there as any_there}
 use Rattle.wit_compat.specs.Compatible.{bare_keys, keys_of_world, HasKeysOnce, IsFirstRepeat, IsRepeatedIn}
 use Rattle.base_lemmas.proofs.Elements.{any_of_map as list_any_mapped, last_of as contains_one}
-use Rattle.std.proofs.lemmas.Bool.{or_parts as neither}
-use Rattle.wit_model.proofs.TextLemmas.{text_there as any_there}
 
 abbrev pub now : List (Bor (List ℕ)) → List Text
 now = map (λ s. s.now)

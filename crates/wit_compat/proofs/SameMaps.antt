@@ -1,18 +1,13 @@
 -- Two maps made of lists of entries are the same where their lists are as long, and each entry of the one is found in the other.
 use Rattle.std.proofs.Common.{◌≡◌, refl, sym, ap, subst, ◌∙◌, arith, ◌≤◌, Bool, true, false, ◌||◌, cond, List, [], ◌∷◌, map, length, Option, Some, None, is_some, IsSome, option_map}
-use Rattle.std.specs.List.{Contains, IsDistinct, list_any}
-use Rattle.std.specs.Map.{keys_of, lookup}
-use Rattle.std.specs.FinMap.{find, from_entries, get-from_entries, same_map, slice_cmp-IsAntisymmetric, nat_cmp-IsAntisymmetric}
 use Rattle.std.proofs.Math.ListN.{length-map}
-use Rattle.std.proofs.lemmas.Cmp.{nat_list_cmp_total, nat_list_eq_equiv}
-use Rattle.std.proofs.lemmas.Map.Keys.{IsDistinct-cons}
-use Rattle.std.proofs.lemmas.Map.Steps.{length-le_from_keys}
+use Rattle.std.proofs.lemmas.{Cmp.nat_list_cmp_total, Cmp.nat_list_eq_equiv, Map.Keys.IsDistinct-cons, Map.Steps.length-le_from_keys}
+use Rattle.std.specs.{List.Contains, List.IsDistinct, List.list_any, Map.keys_of, Map.lookup}
+use Rattle.std.specs.FinMap.{find, from_entries, get-from_entries, same_map, slice_cmp-IsAntisymmetric, nat_cmp-IsAntisymmetric}
 use Rattle.wit_model.specs.Text.{Text, TextMap, text_cmp, text_eq}
-use Rattle.wit_model.proofs.AnyOrder.{same-text, there-found}
+use Rattle.wit_model.proofs.{AnyOrder.same-text, AnyOrder.there-found, TextLemmas.none_of_texts as all_apart, TextLemmas.text_same as text-same}
 use Rattle.wit_model.proofs.Lists.{lookup_any}
-use Rattle.base_lemmas.proofs.Elements.{contains-later, contains-map}
-use Rattle.base_lemmas.proofs.Options.{there as some_there}
-use Rattle.wit_model.proofs.TextLemmas.{none_of_texts as all_apart, text_same as text-same}
+use Rattle.base_lemmas.proofs.{Elements.contains-later, Elements.contains-map, Options.there as some_there}
 
 true_false : {P : Type 0} → true ≡ false → P
 true_false e = let wrong : ⊥ = cc in absurd wrong

@@ -1,15 +1,8 @@
 -- Functions of two `Resolve`s have the same signature where their shapes and the trees of their types are the same.
 use Rattle.std.proofs.Common.{◌≡◌, ◌↔◌, refl, ap, Bool, List, [], ◌∷◌, ◌++◌, map, Option, Some, None, option_map, option_to_list, is_some, IsTrue}
-use Rattle.wit_model.specs.declared.model.Resolve.{Resolve}
-use Rattle.wit_model.specs.declared.model.Function.{Function}
-use Rattle.wit_model.specs.declared.model.Param.{Param}
-use Rattle.wit_model.specs.declared.model.«Type».{«Type» as ValueType}
-use Rattle.wit_model.specs.Meaning.{Signature, FunctionMeaning}
-use Rattle.wit_model.specs.Meant.{function_meaning, signature_of}
-use Rattle.wit_model.specs.Parts.{function_types}
-use Rattle.wit_model.specs.Text.{Text, text_of, optional_text}
-use Rattle.wit_model.specs.Tree.{Tree}
-use Rattle.wit_model.specs.Types.{type_tree}
+use Rattle.wit_model.specs.declared.model.{Resolve.Resolve, Function.Function, Param.Param, «Type».«Type» as ValueType}
+use Rattle.wit_model.specs.{Meaning.Signature, Meaning.FunctionMeaning, Meant.function_meaning, Meant.signature_of, Text.Text, Text.text_of, Text.optional_text}
+use Rattle.wit_model.specs.{Parts.function_types, Tree.Tree, Types.type_tree}
 use Rattle.wit_compat.specs.Walk.{SameShapes}
 use Rattle.base_lemmas.proofs.Lists.{heads_equal, tails_equal}
 

@@ -1,51 +1,30 @@
 -- Types of two `Resolve`s, and the paths of their interfaces.
 use Rattle.std.proofs.Common.{arith, ◌≡◌, ◌↔◌, refl, sym, ap, subst, ◌∙◌, ◌⊎◌, inl, inr, ℕ, ◌+◌, ◌<◌, ◌≤◌, Bool, true, false, not, ◌||◌, cond, List, [], ◌∷◌, ◌++◌, take, map, length, get_or, slice_get, Option, Some, None, option_map, unwrap_or, is_some, IsTrue, String, Vec, Result, Ok, Err, IfOk}
-use Rattle.std.specs.declared.alloc.Global.{Global}
-use Rattle.std.specs.declared.alloc.AllocError.{AllocError}
-use Rattle.std.specs.List.{Contains}
-use Rattle.std.specs.Option.{option_map_or}
-use Rattle.std.proofs.Math.ListN.{length-map}
-use Rattle.std.proofs.lemmas.List.{map-append, take_all}
-use Rattle.std.proofs.lemmas.List.Elements.{Contains-push_cases}
+use Rattle.std.proofs.{Math.ListN.length-map, lemmas.List.map-append, lemmas.List.take_all, lemmas.List.Elements.Contains-push_cases}
 use Rattle.std.proofs.lemmas.Option.{slice_get-get_or, slice_get-map, same_Some as some-same, slice_get_within as below_length}
-use Rattle.wit_model.specs.declared.model.Resolve.{Resolve}
-use Rattle.wit_model.specs.declared.model.TypeDef.{TypeDef}
+use Rattle.std.specs.declared.alloc.{Global.Global, AllocError.AllocError}
+use Rattle.std.specs.{List.Contains, Option.option_map_or}
+use Rattle.wit_model.specs.declared.model.{Resolve.Resolve, TypeDef.TypeDef, TypeDefKind.TypeDefKind, «Type».«Type» as ValueType, PackageName.PackageName}
 use Rattle.wit_model.specs.declared.model.TypeId.{TypeId}
-use Rattle.wit_model.specs.declared.model.TypeDefKind.{TypeDefKind}
-use Rattle.wit_model.specs.declared.model.TypeDefKind.TheVariants as kind
-use Rattle.wit_model.specs.declared.model.Handle.TheVariants as handle
-use Rattle.wit_model.specs.declared.model.«Type».{«Type» as ValueType}
-use Rattle.wit_model.specs.declared.model.«Type».TheVariants as ty
-use Rattle.wit_model.specs.declared.model.PackageName.{PackageName}
-use Rattle.wit_model.specs.Lookup.{identity_of, place_of, type_at}
-use Rattle.wit_model.specs.Names.{is_identity, is_label, is_version, path_in}
-use Rattle.wit_model.specs.Paths.{full_name}
-use Rattle.wit_model.specs.Rules.{is_named_kind, is_named_number, passes, same_package_name}
-use Rattle.wit_model.specs.Text.{Text, text_of}
+use Rattle.wit_model.specs.{Lookup.identity_of, Lookup.place_of, Lookup.type_at, Names.is_identity, Names.is_label, Names.is_version, Names.path_in}
+use Rattle.wit_model.specs.{Paths.full_name, Text.Text, Text.text_of, Uses.alias_target}
+use Rattle.wit_model.specs.{Rules.is_named_kind, Rules.is_named_number, Rules.passes, Rules.same_package_name, Valid.IsValid, Valid.named_kinds}
 use Rattle.wit_model.specs.Tree.{Tree, Trees, Place, Form, node, named, children, child_list, list_of, fixed_list_of, option_of, own_of, borrow_of, map_of, tuple_of, result_of, future_of, stream_of}
 use Rattle.wit_model.specs.Types.{number_of, number_tree, type_tree, tree_of, trees_of, no_tree, declared_by, tree_of_declaration, tree_of_definition}
-use Rattle.wit_model.specs.Uses.{alias_target}
-use Rattle.wit_model.specs.Valid.{IsValid, named_kinds}
-use Rattle.wit_model.proofs.Entries.{each_from_at, lists_pass}
-use Rattle.wit_model.proofs.NameLaws.{one_path}
-use Rattle.wit_model.proofs.OnePath.{has-path, package-name, path-label}
-use Rattle.wit_model.proofs.PathParts.{path_made}
-use Rattle.wit_model.proofs.VersionLaws.{same_name}
-use Rattle.wit_model.proofs.TreeTable.{kept_numbers, kept_trees_at}
-use Rattle.wit_compat.specs.declared.look.Look.{Look}
-use Rattle.wit_compat.specs.declared.look.Look.TheVariants as look
-use Rattle.wit_compat.specs.Opened.{form_of, is_there, opened_kind, places_of}
-use Rattle.wit_compat.specs.Table.{AllInRange, InRange, is_alias}
-use Rattle.wit_compat.specs.declared.side.Path.{Path}
+use Rattle.wit_model.proofs.{Entries.each_from_at, Entries.lists_pass, TreeTable.kept_numbers, TreeTable.kept_trees_at, PathsLemmas.named_in_full}
+use Rattle.wit_model.proofs.{NameLaws.one_path, OnePath.has-path, OnePath.package-name, OnePath.path-label, TreeLemmas.child_list_of_children as children_back}
+use Rattle.wit_model.proofs.{PathParts.path_made, VersionLaws.same_name}
+use Rattle.wit_compat.specs.declared.{look.Look.Look, side.Path.Path}
+use Rattle.wit_compat.specs.{Opened.form_of, Opened.is_there, Opened.opened_kind, Opened.places_of, Table.AllInRange, Table.InRange, Table.is_alias, Walk.Pair}
 use Rattle.wit_compat.specs.TwoSides.{path_text, IsKnown, name_leaf, rank, AllSame, IsParted, SameType, Says}
-use Rattle.wit_compat.specs.Walk.{Pair}
 use Rattle.wit_compat.proofs.Alike.{below_number, is_below, node_children, node_form, places_below, primitive_back, primitive_in, tree_of_number}
 use Rattle.wit_compat.proofs.OpenedTable.{built, opened_built}
-use Rattle.base_lemmas.proofs.Bools.{left_of as first_true, not_or}
-use Rattle.base_lemmas.proofs.Elements.{all-contained as all_contained, get-contains as contains_at}
+use Rattle.base_lemmas.proofs.{Bools.left_of as first_true, Bools.not_or, Elements.all-contained as all_contained, Elements.get-contains as contains_at}
 use Rattle.base_lemmas.proofs.Lists.{take_found as take_more_at, within_there as found_at}
-use Rattle.wit_model.proofs.PathsLemmas.{named_in_full}
-use Rattle.wit_model.proofs.TreeLemmas.{child_list_of_children as children_back}
+use Rattle.wit_model.specs.declared.model.TypeDefKind.TheVariants as kind
+use Rattle.wit_model.specs.declared.model.Handle.TheVariants as handle
+use Rattle.wit_model.specs.declared.model.«Type».TheVariants as ty
+use Rattle.wit_compat.specs.declared.look.Look.TheVariants as look
 
 -- ---- paths
 

@@ -1,11 +1,9 @@
 -- Worlds that may take each other's place in turn.
 use Rattle.std.proofs.Common.{◌≡◌, refl, ap, ◌∙◌, Bool, true, false, cond, sym, subst, List, [], ◌∷◌, Some, unwrap_or}
-use Rattle.std.specs.List.{Contains}
 use Rattle.std.proofs.lemmas.List.Elements.{Contains-append_left, Contains-append_right, Contains-push}
-use Rattle.wit_model.specs.declared.model.Resolve.{Resolve}
-use Rattle.wit_model.specs.declared.model.World.{World}
-use Rattle.wit_compat.specs.Compatible.{Accepts, IsIncluded}
-use Rattle.wit_compat.specs.Flat.{Name, Shown, find_named, same_name}
+use Rattle.std.specs.List.{Contains}
+use Rattle.wit_model.specs.declared.model.{Resolve.Resolve, World.World}
+use Rattle.wit_compat.specs.{Compatible.Accepts, Compatible.IsIncluded, Flat.Name, Flat.Shown, Flat.find_named, Flat.same_name}
 use Rattle.wit_compat.proofs.Indexing.{same_name_is}
 
 -- what is found under a name stands in the list

@@ -1,40 +1,20 @@
 -- What a valid `Resolve` gives for comparing.
 use Rattle.std.proofs.Common.{arith, slice_get, get_or, ◌≤◌, ◌≡◌, refl, sym, ap, subst, ◌∙◌, ℕ, ◌+◌, ◌<◌, true, ◌&&◌, ◌⊎◌, inl, inr, List, [], ◌∷◌, map, filter_map, length, Option, Some, None, option_to_list, unwrap_or}
-use Rattle.std.specs.List.{Contains, list_all}
-use Rattle.std.specs.Option.{option_map_or}
-use Rattle.std.proofs.lemmas.List.Elements.{Contains-append_cases}
+use Rattle.std.proofs.lemmas.{List.Elements.Contains-append_cases, List.Folds.list_all-append, Option.slice_get_cases, Bool.ltb-true as is_below}
+use Rattle.std.specs.{List.Contains, List.list_all, Option.option_map_or}
 use Rattle.indexmap.specs.IndexMap.{values}
-use Rattle.wit_model.specs.declared.model.Resolve.{Resolve}
-use Rattle.wit_model.specs.declared.model.Interface.{Interface}
-use Rattle.wit_model.specs.declared.model.World.{World}
-use Rattle.wit_model.specs.declared.model.WorldKey.{WorldKey}
-use Rattle.wit_model.specs.declared.model.WorldItem.{WorldItem}
-use Rattle.wit_model.specs.declared.model.WorldItem.TheVariants as item
-use Rattle.wit_model.specs.declared.model.Function.{Function}
-use Rattle.wit_model.specs.declared.model.TypeDef.{TypeDef}
-use Rattle.wit_model.specs.declared.model.TypeId.{TypeId}
-use Rattle.wit_model.specs.declared.model.«Type».{«Type» as ValueType}
-use Rattle.wit_model.specs.declared.model.«Type».TheVariants as ty
-use Rattle.wit_model.specs.Text.{Text}
-use Rattle.wit_model.specs.Lookup.{interface_at, type_at, world_at, resource_of}
-use Rattle.wit_model.specs.Types.{number_of}
-use Rattle.wit_model.specs.Parts.{function_types, kind_numbers}
+use Rattle.wit_model.specs.declared.model.{Resolve.Resolve, World.World, TypeDef.TypeDef, TypeId.TypeId}
+use Rattle.wit_model.specs.declared.model.{Interface.Interface, WorldKey.WorldKey, WorldItem.WorldItem, Function.Function, «Type».«Type» as ValueType}
+use Rattle.wit_model.specs.{Text.Text, Types.number_of, Parts.function_types, Parts.kind_numbers}
+use Rattle.wit_model.specs.{Lookup.interface_at, Lookup.type_at, Lookup.world_at, Lookup.resource_of, Valid.IsValid, Valid.is_place, Valid.numbers_in_range}
 use Rattle.wit_model.specs.Rules.{entries_in_range, function_in_range, in_list, item_in_range, key_in_range, owner_in_range, package_number, passes}
-use Rattle.wit_model.specs.Valid.{IsValid, is_place, numbers_in_range}
-use Rattle.wit_model.proofs.Entries.{each_from_at, lists_pass}
-use Rattle.wit_model.proofs.Lists.{list_all_filter_map}
-use Rattle.wit_model.proofs.TreeTable.{kept_numbers}
-use Rattle.std.proofs.lemmas.List.Folds.{list_all-append}
-use Rattle.std.proofs.lemmas.Option.{slice_get_cases}
-use Rattle.wit_compat.specs.Compatible.{HasItemsInRange}
+use Rattle.wit_model.proofs.{Entries.each_from_at, Entries.lists_pass, Lists.list_all_filter_map, TreeTable.kept_numbers}
+use Rattle.wit_compat.specs.{Compatible.HasItemsInRange, Opened.bare_key, Parts.ThingInRange, Table.AllInRange, Table.IsLayered}
 use Rattle.wit_compat.specs.Flat.{Name, Thing, interface, entry_things, function_member, item_things, members, things_of, type_member}
-use Rattle.wit_compat.specs.Opened.{bare_key}
-use Rattle.wit_compat.specs.Parts.{ThingInRange}
-use Rattle.wit_compat.specs.Table.{AllInRange, IsLayered}
-use Rattle.base_lemmas.proofs.Bools.{left_of as first_true, right_of as second_true}
+use Rattle.base_lemmas.proofs.{Bools.left_of as first_true, Bools.right_of as second_true, Numbers.false_true}
 use Rattle.base_lemmas.proofs.Elements.{all-contained as all_contained, contains-map as contains_mapped, last_of as contains_one, map_from as contains_map}
-use Rattle.base_lemmas.proofs.Numbers.{false_true}
-use Rattle.std.proofs.lemmas.Bool.{ltb-true as is_below}
+use Rattle.wit_model.specs.declared.model.WorldItem.TheVariants as item
+use Rattle.wit_model.specs.declared.model.«Type».TheVariants as ty
 
 -- ---- ranges
 

@@ -1,27 +1,16 @@
 -- The contents of a world by the texts of their keys.
 use Rattle.std.proofs.Common.{◌≡◌, ◌↔◌, refl, sym, ap, subst, ◌∙◌, ◌⊎◌, inl, inr, ℕ, Bool, true, false, ◌&&◌, cond, List, [], ◌∷◌, ◌++◌, map, Option, Some, None, is_some, IsSome, option_map, IsTrue, String}
-use Rattle.std.specs.Borrow.{Bor}
+use Rattle.std.proofs.lemmas.{Map.Made.Contains-from_values_of, List.map-append, List.Elements.Contains-push_cases}
+use Rattle.std.specs.{Borrow.Bor, Option.option_copied, Option.option_map_or, FinMap.from_entries, List.Contains, Map.lookup, Map.values_of}
 use Rattle.std.specs.declared.alloc.Global.{Global}
-use Rattle.std.specs.Option.{option_copied, option_map_or}
-use Rattle.std.specs.FinMap.{from_entries}
-use Rattle.std.specs.List.{Contains}
-use Rattle.std.specs.Map.{lookup, values_of}
-use Rattle.std.proofs.lemmas.Map.Made.{Contains-from_values_of}
-use Rattle.std.proofs.lemmas.List.{map-append}
-use Rattle.std.proofs.lemmas.List.Elements.{Contains-push_cases}
-use Rattle.wit_model.specs.declared.model.Resolve.{Resolve}
-use Rattle.wit_model.specs.declared.model.World.{World}
-use Rattle.wit_model.specs.declared.model.WorldKey.{WorldKey}
-use Rattle.wit_model.specs.declared.model.WorldItem.{WorldItem}
+use Rattle.wit_model.specs.declared.model.{Resolve.Resolve, World.World, WorldKey.WorldKey, WorldItem.WorldItem}
 use Rattle.wit_model.specs.Lookup.{key_text, world_at}
 use Rattle.wit_model.specs.Meaning.{Entry, InterfaceSense, WorldSense, entries_sense, entry_sense, world_sense}
 use Rattle.wit_model.specs.Meant.{entries_meaning, entry_meaning, no_world, world_meaning, world_meaning_at}
-use Rattle.wit_model.specs.Rules.{entries_in_range, item_in_range, key_in_range}
-use Rattle.wit_model.specs.Text.{Text, text_cmp, text_eq, text_of}
+use Rattle.wit_model.specs.{Rules.entries_in_range, Rules.item_in_range, Rules.key_in_range, Text.Text, Text.text_cmp, Text.text_eq, Text.text_of}
 use Rattle.wit_compat.specs.TwoSides.{indexed_sense, sense_entry, AllItemsInRange, BorrowedEntry, PutsFirst}
 use Rattle.wit_compat.proofs.SameMaps.{maps_same, under, under_is}
-use Rattle.base_lemmas.proofs.Bools.{left_of as first_true, right_of as second_true}
-use Rattle.base_lemmas.proofs.Options.{there as some-of}
+use Rattle.base_lemmas.proofs.{Bools.left_of as first_true, Bools.right_of as second_true, Options.there as some-of}
 use Rattle.wit_model.proofs.TextLemmas.{text_same as text-same}
 
 -- ---- the first of two answers

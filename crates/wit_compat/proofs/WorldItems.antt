@@ -2,16 +2,13 @@
 use Rattle.std.proofs.Common.{◌≡◌, ◌↔◌, sym, ap, ◌∙◌, ℕ, Bool, false, Option, Some, None, String, IsTrue}
 use Rattle.std.specs.declared.alloc.Global.{Global}
 use Rattle.std.specs.Option.{option_map_or}
-use Rattle.wit_model.specs.declared.model.Resolve.{Resolve}
-use Rattle.wit_model.specs.declared.model.TypeId.{TypeId}
-use Rattle.wit_model.specs.declared.model.WorldItem.{WorldItem}
-use Rattle.wit_model.specs.declared.model.WorldItem.TheVariants as item
+use Rattle.wit_model.specs.declared.model.{Resolve.Resolve, TypeId.TypeId, WorldItem.WorldItem}
 use Rattle.wit_model.specs.Lookup.{interface_path}
 use Rattle.wit_model.specs.Meaning.{Item, Entry, InterfaceSense, TypeMeaning, interface, inline, declares, entry_sense, interface_sense, item_sense}
-use Rattle.wit_model.specs.Meant.{entry_meaning, interface_item, interface_meaning_at, type_meaning_at}
-use Rattle.wit_model.specs.Text.{Text, optional_text}
+use Rattle.wit_model.specs.{Meant.entry_meaning, Meant.interface_item, Meant.interface_meaning_at, Meant.type_meaning_at, Text.Text, Text.optional_text}
 use Rattle.wit_compat.specs.TwoSides.{SameInterfaceEntries}
 use Rattle.wit_compat.proofs.Sided.{never}
+use Rattle.wit_model.specs.declared.model.WorldItem.TheVariants as item
 
 module _ (a b : Resolve) where
   abbrev pub SameEntries : WorldItem → WorldItem → Type 0

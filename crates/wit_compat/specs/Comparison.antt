@@ -1,6 +1,5 @@
 -- A comparison of two `Resolve`s.
-use Rattle.std.specs.Prelude.{refl}
-use Rattle.std.specs.Coded.{Coded, code_by, coded×}
+use Rattle.std.specs.{Prelude.refl, Coded.Coded, Coded.code_by, Coded.coded×}
 use Rattle.wit_model.specs.declared.model.Resolve.{Resolve}
 use Rattle.wit_model.specs.Valid.{IsValid}
 

@@ -1,21 +1,11 @@
 -- When a world may take the place of another, and why not (documentation of `semver_check`).
 use Rattle.std.specs.Prelude.{◌≡◌, ◌⊎◌, true, List, [], ◌∷◌, ◌++◌, map, Option, Some, None, option_map, MatchOption}
-use Rattle.std.specs.Borrow.{Bor}
-use Rattle.std.specs.List.{Contains, IsDistinct}
-use Rattle.wit_model.specs.declared.model.Resolve.{Resolve}
-use Rattle.wit_model.specs.declared.model.World.{World}
-use Rattle.wit_model.specs.declared.model.WorldId.{WorldId}
-use Rattle.wit_model.specs.declared.model.WorldKey.{WorldKey}
-use Rattle.wit_model.specs.declared.model.WorldItem.{WorldItem}
+use Rattle.std.specs.{Borrow.Bor, List.Contains, List.IsDistinct}
+use Rattle.wit_model.specs.declared.model.{Resolve.Resolve, World.World, WorldId.WorldId, WorldKey.WorldKey, WorldItem.WorldItem}
 use Rattle.wit_model.specs.declared.error.Error.{Error}
+use Rattle.wit_model.specs.{Text.Text, Text.text_of, Text.text_eq, Names.PackageIdentity, Rules.entries_in_range, Lookup.world_at, Meant.package_of_world}
+use Rattle.wit_compat.specs.{Opened.bare_identity, Opened.bare_key, Flat.Name, Flat.Shown, Flat.find_named, Flat.flat_imports, Flat.flat_exports}
 use Rattle.wit_model.specs.declared.error.Error.TheVariants as error
-use Rattle.wit_model.specs.Text.{Text, text_of, text_eq}
-use Rattle.wit_model.specs.Names.{PackageIdentity}
-use Rattle.wit_model.specs.Rules.{entries_in_range}
-use Rattle.wit_model.specs.Lookup.{world_at}
-use Rattle.wit_model.specs.Meant.{package_of_world}
-use Rattle.wit_compat.specs.Opened.{bare_identity, bare_key}
-use Rattle.wit_compat.specs.Flat.{Name, Shown, find_named, flat_imports, flat_exports}
 
 -- ---- compatible worlds
 

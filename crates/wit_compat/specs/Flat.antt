@@ -2,21 +2,12 @@
 use Rattle.std.specs.Prelude.{Bool, ◌&&◌, if◌then◌else◌, List, [], ◌∷◌, ◌++◌, map, flat_map, Option, Some, None, String, option_map}
 use Rattle.std.specs.Option.{option_map_or}
 use Rattle.std.specs.declared.alloc.Global.{Global}
-use Rattle.wit_model.specs.declared.model.Resolve.{Resolve}
-use Rattle.wit_model.specs.declared.model.TypeId.{TypeId}
-use Rattle.wit_model.specs.declared.model.Interface.{Interface}
-use Rattle.wit_model.specs.declared.model.World.{World}
-use Rattle.wit_model.specs.declared.model.WorldKey.{WorldKey}
-use Rattle.wit_model.specs.declared.model.WorldItem.{WorldItem}
-use Rattle.wit_model.specs.declared.model.WorldItem.TheVariants as item
-use Rattle.wit_model.specs.declared.model.Function.{Function}
-use Rattle.wit_model.specs.declared.model.«Type».{«Type» as ValueType}
-use Rattle.wit_model.specs.declared.model.«Type».TheVariants as ty
-use Rattle.wit_model.specs.Text.{Text, text_of, text_eq}
-use Rattle.wit_model.specs.Lookup.{interface_at, is_async}
-use Rattle.wit_model.specs.Tree.{Tree}
-use Rattle.wit_model.specs.Meaning.{Signature}
+use Rattle.wit_model.specs.declared.model.{Resolve.Resolve, TypeId.TypeId, World.World}
+use Rattle.wit_model.specs.declared.model.{Interface.Interface, WorldKey.WorldKey, WorldItem.WorldItem, Function.Function, «Type».«Type» as ValueType}
+use Rattle.wit_model.specs.{Text.Text, Text.text_of, Text.text_eq, Lookup.interface_at, Lookup.is_async, Tree.Tree, Meaning.Signature}
 use Rattle.wit_compat.specs.Opened.{bare_key, opened_tree}
+use Rattle.wit_model.specs.declared.model.WorldItem.TheVariants as item
+use Rattle.wit_model.specs.declared.model.«Type».TheVariants as ty
 
 -- ---- what stands where, by numbers
 

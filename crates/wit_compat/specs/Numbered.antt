@@ -1,8 +1,7 @@
 -- Texts by number.
 use Rattle.std.specs.Prelude.{◌≡◌, ℕ, ◌==◌, suc, if◌then◌else◌, List, [], ◌∷◌, map, Option, Some, None, Vec, option_map}
-use Rattle.std.specs.Borrow.{Bor}
+use Rattle.std.specs.{Borrow.Bor, List.Contains}
 use Rattle.std.specs.declared.alloc.Global.{Global}
-use Rattle.std.specs.List.{Contains}
 use Rattle.wit_model.specs.Text.{Text, text_eq}
 use Rattle.wit_compat.specs.declared.part.Entry.{Entry}
 

@@ -1,20 +1,13 @@
 -- What a kind is beside the types in it, in four parts that the code compares one by one.
 use Rattle.std.specs.Prelude.{◌≡◌, ℕ, ◌+◌, ◌<◌, ◌==◌, Bool, List, [], ◌∷◌, map, Option, Some, None, option_map, length}
-use Rattle.std.specs.Borrow.{Bor}
-use Rattle.std.specs.Map.{lookup}
-use Rattle.std.specs.Option.{option_or}
-use Rattle.wit_model.specs.declared.model.Resolve.{Resolve}
-use Rattle.wit_model.specs.declared.model.Interface.{Interface}
-use Rattle.wit_model.specs.declared.model.TypeDef.{TypeDef}
-use Rattle.wit_model.specs.declared.model.InterfaceId.{InterfaceId}
-use Rattle.wit_model.specs.declared.model.TypeOwner.TheVariants as owner
+use Rattle.std.specs.{Borrow.Bor, Map.lookup, Option.option_or}
+use Rattle.wit_model.specs.declared.model.{Resolve.Resolve, Interface.Interface, TypeDef.TypeDef, InterfaceId.InterfaceId}
 use Rattle.wit_model.specs.Text.{Text, text_of}
 use Rattle.wit_model.specs.Tree.{Form, record_of, variant_of, list_of, fixed_list_of, option_of, own_of, borrow_of, map_of, tuple_of, flags_of, enum_of, result_of, future_of, stream_of}
-use Rattle.wit_compat.specs.declared.kinds.Sort.{Sort}
-use Rattle.wit_compat.specs.declared.names.Names.{Names}
+use Rattle.wit_compat.specs.declared.{kinds.Sort.Sort, names.Names.Names}
+use Rattle.wit_compat.specs.{Numbered.AreNumbers, Opened.interface_name}
+use Rattle.wit_model.specs.declared.model.TypeOwner.TheVariants as owner
 use Rattle.wit_compat.specs.declared.kinds.Sort.TheVariants as sort
-use Rattle.wit_compat.specs.Numbered.{AreNumbers}
-use Rattle.wit_compat.specs.Opened.{interface_name}
 
 abbrev pub sort_of : Option Form → Sort
 sort_of None = sort.Named

@@ -3,11 +3,10 @@ use Rattle.std.specs.Prelude.{◌≡◌, ℕ, List, [], ◌∷◌, Some}
 use Rattle.std.specs.List.{Contains}
 use Rattle.wit_model.specs.declared.model.Resolve.{Resolve}
 use Rattle.wit_model.specs.Parts.{function_types}
-use Rattle.wit_compat.specs.declared.part.Part.{Part}
-use Rattle.wit_compat.specs.declared.part.Part.TheVariants as part
-use Rattle.wit_compat.specs.declared.part.Entry.{Entry}
+use Rattle.wit_compat.specs.declared.part.{Part.Part, Entry.Entry}
 use Rattle.wit_compat.specs.Flat.{Name, Thing, interface, of_type, of_function, find_named}
 use Rattle.wit_compat.specs.Table.{AllInRange}
+use Rattle.wit_compat.specs.declared.part.Part.TheVariants as part
 
 abbrev pub thing_of : Part → Thing
 thing_of part.Interface = interface

@@ -1,10 +1,8 @@
 -- The sense of a place: what an interface, a world or an import of a world declares, without order, documentation and stability.
 use Rattle.std.specs.Prelude.{ℕ, Option, option_map, option_and_then, slice_get}
-use Rattle.wit_model.specs.declared.model.Resolve.{Resolve}
-use Rattle.wit_model.specs.declared.model.WorldItem.{WorldItem}
-use Rattle.wit_model.specs.Lookup.{interface_at, world_at}
+use Rattle.wit_model.specs.declared.model.{Resolve.Resolve, WorldItem.WorldItem}
+use Rattle.wit_model.specs.{Lookup.interface_at, Lookup.world_at, Meant.entry_meaning, Meant.interface_meaning, Meant.world_meaning}
 use Rattle.wit_model.specs.Meaning.{Entry, InterfaceSense, WorldSense, entry_sense, interface_sense, world_sense}
-use Rattle.wit_model.specs.Meant.{entry_meaning, interface_meaning, world_meaning}
 use Rattle.wit_compat.specs.declared.place.Place.{Place}
 use Rattle.wit_compat.specs.declared.place.Place.TheVariants as place
 

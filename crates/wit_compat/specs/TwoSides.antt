@@ -1,38 +1,20 @@
 -- Two `Resolve`s side by side: which of their types stand for the same.
 use Rattle.std.specs.Prelude.{◌≡◌, ◌↔◌, ◌⊎◌, ℕ, ◌+◌, ◌<◌, true, List, [], ◌∷◌, ◌++◌, length, map, Option, Some, None, String, IsSome, IsTrue}
-use Rattle.std.specs.Borrow.{Bor}
+use Rattle.std.specs.{Borrow.Bor, FinMap.from_entries, List.Contains, Map.lookup, Option.option_map_or}
 use Rattle.std.specs.declared.alloc.Global.{Global}
-use Rattle.std.specs.FinMap.{from_entries}
-use Rattle.std.specs.List.{Contains}
-use Rattle.std.specs.Map.{lookup}
 use Rattle.indexmap.specs.IndexMap.{values}
-use Rattle.wit_model.specs.declared.model.Resolve.{Resolve}
-use Rattle.wit_model.specs.declared.model.Interface.{Interface}
-use Rattle.wit_model.specs.declared.model.«Type».{«Type» as ValueType}
-use Rattle.wit_model.specs.declared.model.«Type».TheVariants as ty
-use Rattle.wit_model.specs.Lookup.{identity_of, place_of, type_at}
+use Rattle.wit_model.specs.declared.model.{Resolve.Resolve, TypeDef.TypeDef, TypeId.TypeId}
+use Rattle.wit_model.specs.declared.model.{Interface.Interface, «Type».«Type» as ValueType, TypeDefKind.TypeDefKind, Function.Function, WorldItem.WorldItem}
+use Rattle.wit_model.specs.{Lookup.identity_of, Lookup.place_of, Lookup.type_at, Text.Text, Text.TextMap, Text.optional_text, Text.text_eq, Text.text_of}
 use Rattle.wit_model.specs.Names.{is_identity, is_label, is_version, path_in}
-use Rattle.wit_model.specs.Tree.{Tree, named}
-use Rattle.wit_model.specs.declared.model.TypeDef.{TypeDef}
-use Rattle.wit_model.specs.declared.model.TypeDefKind.{TypeDefKind}
-use Rattle.wit_model.specs.declared.model.TypeDefKind.TheVariants as kind
-use Rattle.wit_model.specs.declared.model.TypeId.{TypeId}
-use Rattle.wit_model.specs.declared.model.Function.{Function}
-use Rattle.wit_model.specs.declared.model.WorldItem.{WorldItem}
+use Rattle.wit_model.specs.{Tree.Tree, Tree.named, Parts.function_types, Types.number_tree, Types.type_tree, Types.trees_of, Types.declared_by, Valid.IsValid}
 use Rattle.wit_model.specs.Meaning.{Entry, FunctionMeaning, InterfaceSense, TypeMeaning, entry_sense, item_sense}
-use Rattle.wit_model.specs.Meant.{entry_meaning, function_meaning, interface_item, type_meaning_at}
-use Rattle.wit_model.specs.Parts.{function_types}
-use Rattle.wit_model.specs.Rules.{item_in_range, passes}
-use Rattle.wit_model.specs.Text.{Text, TextMap, optional_text, text_eq, text_of}
-use Rattle.std.specs.Option.{option_map_or}
-use Rattle.wit_model.specs.Types.{number_tree, type_tree, trees_of, declared_by}
-use Rattle.wit_model.specs.Valid.{IsValid}
-use Rattle.wit_compat.specs.declared.side.Path.{Path}
-use Rattle.wit_compat.specs.declared.side.Side.{Side}
-use Rattle.wit_compat.specs.declared.look.Look.{Look}
+use Rattle.wit_model.specs.{Meant.entry_meaning, Meant.function_meaning, Meant.interface_item, Meant.type_meaning_at, Rules.item_in_range, Rules.passes}
+use Rattle.wit_compat.specs.declared.{side.Path.Path, side.Side.Side, look.Look.Look}
+use Rattle.wit_compat.specs.{Table.AllInRange, Walk.Pair}
+use Rattle.wit_model.specs.declared.model.«Type».TheVariants as ty
+use Rattle.wit_model.specs.declared.model.TypeDefKind.TheVariants as kind
 use Rattle.wit_compat.specs.declared.look.Look.TheVariants as look
-use Rattle.wit_compat.specs.Table.{AllInRange}
-use Rattle.wit_compat.specs.Walk.{Pair}
 
 -- ---- paths
 

@@ -1,20 +1,13 @@
 -- Which pairs of type numbers a comparison of two worlds may have to compare, aliases followed.
 use Rattle.std.specs.Prelude.{◌≡◌, ℕ, Bool, true, false, if◌then◌else◌, List, [], ◌∷◌, ◌++◌, length, map, flat_map, Option, Some, option_to_list, is_some, unwrap_or, slice_get}
-use Rattle.std.specs.Option.{option_map_or}
-use Rattle.std.specs.List.{Contains}
-use Rattle.wit_model.specs.declared.model.Resolve.{Resolve}
+use Rattle.std.specs.{Option.option_map_or, List.Contains}
+use Rattle.wit_model.specs.declared.model.{Resolve.Resolve, TypeDef.TypeDef, TypeDefKind.TypeDefKind, Function.Function, «Type».«Type» as ValueType}
 use Rattle.wit_model.specs.declared.model.World.{World}
-use Rattle.wit_model.specs.declared.model.TypeDef.{TypeDef}
-use Rattle.wit_model.specs.declared.model.TypeDefKind.{TypeDefKind}
-use Rattle.wit_model.specs.declared.model.TypeDefKind.TheVariants as kind
-use Rattle.wit_model.specs.declared.model.Function.{Function}
-use Rattle.wit_model.specs.declared.model.«Type».{«Type» as ValueType}
-use Rattle.wit_model.specs.declared.model.«Type».TheVariants as ty
-use Rattle.wit_model.specs.Text.{text_of}
-use Rattle.wit_model.specs.Lookup.{type_at, is_async}
-use Rattle.wit_model.specs.Types.{grow, number_of}
+use Rattle.wit_model.specs.{Text.text_of, Lookup.type_at, Lookup.is_async, Types.grow, Types.number_of}
 use Rattle.wit_compat.specs.Opened.{places_of}
 use Rattle.wit_compat.specs.Flat.{Name, Thing, of_type, of_function, find_named, things_of}
+use Rattle.wit_model.specs.declared.model.TypeDefKind.TheVariants as kind
+use Rattle.wit_model.specs.declared.model.«Type».TheVariants as ty
 
 -- ---- aliases followed
 

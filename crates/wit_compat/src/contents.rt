@@ -2,12 +2,9 @@
 
 ghost use Rattle.std.specs.Prelude.{◌≡◌, ◌↔◌, true, option_map, Some, IfOk, IsTrue, OnOk};
 ghost use Rattle.std.specs.HashMap.{get_by_text};
-ghost use Rattle.wit_model.specs.Meaning.{entries_sense, world_sense};
+ghost use Rattle.wit_model.specs.{Meaning.entries_sense, Meaning.world_sense, Rules.entries_in_range, Rules.item_in_range, Text.text_of};
 ghost use Rattle.wit_model.specs.Meant.{entries_meaning, world_meaning};
-ghost use Rattle.wit_model.specs.Rules.{entries_in_range, item_in_range};
-ghost use Rattle.wit_model.specs.Text.{text_of};
-ghost use Rattle.wit_compat.specs.Senses.{sense_of_item};
-ghost use Rattle.wit_compat.specs.Compatible.{HasItemsInRange};
+ghost use Rattle.wit_compat.specs.{Senses.sense_of_item, Compatible.HasItemsInRange};
 ghost use Rattle.wit_compat.specs.TwoSides.{indexed_sense, AllItemsInRange, AllSame, IsSide, PutsFirst};
 
 use crate::items::same_items;

@@ -1,8 +1,7 @@
 //! Whether named types of two `Resolve`s declare the same.
 
 ghost use Rattle.std.specs.Prelude.{◌≡◌, ◌<◌, ◌↔◌, ◌∷◌, [], None, Some, length, IfOk, IsTrue};
-ghost use Rattle.wit_model.specs.Meant.{type_meaning_at};
-ghost use Rattle.wit_model.specs.Rules.{is_resource_itself};
+ghost use Rattle.wit_model.specs.{Meant.type_meaning_at, Rules.is_resource_itself};
 ghost use Rattle.wit_compat.specs.TwoSides.{aliased, AllSame, IsKindOf, IsSide, SameDeclared, TellsDeclared};
 
 use crate::look::{Look, look_into};

@@ -4,12 +4,9 @@ ghost use Rattle.std.specs.Prelude.{◌≡◌, ◌++◌, ◌≤◌, ◌∷◌, [
 ghost use Rattle.std.specs.List.{Contains};
 ghost use Rattle.wit_model.specs.Text.{text_of};
 ghost use Rattle.wit_compat.specs.Compatible.{differs as differs_lem, missing as missing_lem, spelled_name as spelled_name_lem, IsEntryFault, IsFaultOf, IsIncluded, IsMemoryOr};
-ghost use Rattle.wit_compat.specs.Flat.{all_shown, find_named, shown};
-ghost use Rattle.wit_compat.specs.Index.{indexed, AllToldFrom, IsToldFrom};
-ghost use Rattle.wit_compat.specs.Outline.{AreNames};
-ghost use Rattle.wit_compat.specs.Parts.{named_thing, thing_of, EntriesInRange, FoundInRange, ThingInRange};
-ghost use Rattle.wit_compat.specs.Walk.{heads_of, pairs_between, pairs_of_entry, pairs_shared};
-ghost use Rattle.wit_compat.specs.Table.{AreAmong, AreReached, IsLayered, IsSettled};
+ghost use Rattle.wit_compat.specs.{Flat.all_shown, Flat.find_named, Flat.shown, Walk.heads_of, Walk.pairs_between, Walk.pairs_of_entry, Walk.pairs_shared};
+ghost use Rattle.wit_compat.specs.{Index.indexed, Index.AllToldFrom, Index.IsToldFrom, Table.AreAmong, Table.AreReached, Table.IsLayered, Table.IsSettled};
+ghost use Rattle.wit_compat.specs.{Outline.AreNames, Parts.named_thing, Parts.thing_of, Parts.EntriesInRange, Parts.FoundInRange, Parts.ThingInRange};
 
 use crate::index::{Index, find};
 use crate::names::Names;

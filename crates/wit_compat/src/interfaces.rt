@@ -1,17 +1,13 @@
 //! Whether interfaces of two `Resolve`s have the same sense: the same types and the same functions by name.
 
 ghost use Rattle.std.specs.Prelude.{◌≡◌, ◌<◌, ◌↔◌, length, option_map, Some, IfOk, IsTrue};
-ghost use Rattle.std.specs.HashMap.{get_by_text};
-ghost use Rattle.std.specs.List.{Contains};
+ghost use Rattle.std.specs.{HashMap.get_by_text, List.Contains};
 ghost use Rattle.indexmap.specs.IndexMap.{values};
-ghost use Rattle.wit_model.specs.Meaning.{interface_sense};
-ghost use Rattle.wit_model.specs.Meant.{function_meaning, interface_meaning, interface_meaning_at, type_meaning_at};
-ghost use Rattle.wit_model.specs.Parts.{function_types};
-ghost use Rattle.wit_model.specs.Text.{text_of};
+ghost use Rattle.wit_model.specs.{Meaning.interface_sense, Meant.function_meaning, Meant.interface_meaning, Meant.interface_meaning_at, Meant.type_meaning_at};
+ghost use Rattle.wit_model.specs.{Parts.function_types, Text.text_of};
 ghost use Rattle.wit_compat.specs.TwoSides.{functions_sense, types_sense, AllSame, HasTypesInRange, IsSide};
 ghost use Rattle.wit_compat.specs.Table.{AllInRange};
-ghost use Rattle.wit_model.specs.declared.model.TypeId.{TypeId as TypeNumber};
-ghost use Rattle.wit_model.specs.declared.model.Function.{Function as FunctionModel};
+ghost use Rattle.wit_model.specs.declared.model.{TypeId.TypeId as TypeNumber, Function.Function as FunctionModel};
 
 use crate::declarations::same_type_meanings;
 use crate::pairs::Pairs;

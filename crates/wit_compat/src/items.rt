@@ -1,11 +1,8 @@
 //! Whether items of worlds of two `Resolve`s have the same sense.
 
 ghost use Rattle.std.specs.Prelude.{◌≡◌, ◌<◌, ◌↔◌, true, length, IfOk, IsTrue};
-ghost use Rattle.wit_model.specs.Meaning.{item_sense};
-ghost use Rattle.wit_model.specs.Meant.{interface_item};
-ghost use Rattle.wit_model.specs.Rules.{item_in_range};
-ghost use Rattle.wit_compat.specs.Senses.{sense_of_item};
-ghost use Rattle.wit_compat.specs.TwoSides.{AllSame, IsSide, SameInterfaceEntries};
+ghost use Rattle.wit_model.specs.{Meaning.item_sense, Meant.interface_item, Rules.item_in_range};
+ghost use Rattle.wit_compat.specs.{Senses.sense_of_item, TwoSides.AllSame, TwoSides.IsSide, TwoSides.SameInterfaceEntries};
 
 use crate::declarations::same_type_meanings;
 use crate::interfaces::same_interfaces;

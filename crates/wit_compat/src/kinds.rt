@@ -1,12 +1,11 @@
 //! Kinds of types: the types in them, and what they are beside these.
 
 ghost use Rattle.std.specs.Prelude.{◌≡◌, ◌++◌, ◌∷◌, [], true, false, ◌↔◌, ◌<◌, length, map, filter_map, option_to_list, IfOk, IsTrue, OnOk};
-ghost use Rattle.std.specs.Option.{option_map_or};
+ghost use Rattle.std.specs.{Option.option_map_or, Cmp.Lexicographic.pointwise};
 ghost use Rattle.wit_compat.specs.Opened.{form_of, interface_name, is_there, places_of, resource_leaf, resource_place};
-ghost use Rattle.wit_model.specs.Text.{text_eq, text_of};
-ghost use Rattle.std.specs.Cmp.Lexicographic.{pointwise};
 ghost use Rattle.wit_compat.specs.Outline.{sort_of as sort_of_lem, labels_of as labels_of_lem, given_of as given_of_lem, count_of as count_of_lem, AreNames, OwnerInRange};
 ghost use Rattle.wit_compat.specs.Table.{SameKinds};
+ghost use Rattle.wit_model.specs.Text.{text_eq, text_of};
 
 use crate::labels::{labels, same_labels, same_marks};
 use crate::names::{Names, same_names};

@@ -3,8 +3,7 @@
 ghost use Rattle.std.specs.Prelude.{◌≡◌, ◌<◌, length, is_ok, MatchResult};
 ghost use Rattle.wit_compat.specs.Compatible.{Accepts, HasKeysOnce, IsRefused, OfWorlds, Refusal, Refuses};
 ghost use Rattle.wit_compat.specs.Walk.{IsCounted};
-ghost use Rattle.wit_model.specs.declared.model.Resolve.{Resolve};
-ghost use Rattle.wit_model.specs.declared.model.World.{World};
+ghost use Rattle.wit_model.specs.declared.model.{Resolve.Resolve, World.World};
 ghost use Rattle.wit_model.specs.Valid.{IsValid};
 
 use crate::steps::Steps;

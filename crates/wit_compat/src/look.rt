@@ -2,12 +2,9 @@
 
 ghost use Rattle.std.specs.Prelude.{◌≡◌, ◌<◌, ◌↔◌, Bool, Vec, true, false, length, IfOk, IsTrue};
 ghost use Rattle.std.specs.declared.alloc.Global.{Global};
-ghost use Rattle.wit_model.specs.declared.model.«Type».{«Type» as ValueType};
-ghost use Rattle.wit_model.specs.declared.model.«Type».TheVariants.{Id};
-ghost use Rattle.wit_compat.specs.Opened.{form_of, places_of};
+ghost use Rattle.wit_model.specs.declared.model.{«Type».«Type» as ValueType, «Type».TheVariants.Id};
+ghost use Rattle.wit_compat.specs.{Opened.form_of, Opened.places_of, TwoSides.name_leaf, TwoSides.AllSame, TwoSides.IsSide, TwoSides.Says, Table.InRange};
 ghost use Rattle.wit_compat.specs.declared.look.Look.TheVariants.{Known, Parts};
-ghost use Rattle.wit_compat.specs.TwoSides.{name_leaf, AllSame, IsSide, Says};
-ghost use Rattle.wit_compat.specs.Table.{InRange};
 
 use crate::follow::number_of;
 use crate::kinds::{name_text, places, same_forms};

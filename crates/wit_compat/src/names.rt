@@ -4,8 +4,7 @@ ghost use Rattle.std.specs.Prelude.{◌≡◌, ◌↔◌, ◌<◌, ◌==◌, ℕ
 ghost use Rattle.wit_compat.specs.Numbered.{AreNumbers};
 ghost use Rattle.wit_compat.specs.Opened.{bare_key, bare_path as bare_path_lem, entries_of_world, interface_name as interface_name_lem, is_item_of, label_among, label_of_key};
 ghost use Rattle.wit_compat.specs.Outline.{interface_names as interface_names_lem, label_noted, AreNames, NotesMore};
-ghost use Rattle.wit_model.specs.Rules.{entries_in_range, key_in_range};
-ghost use Rattle.wit_model.specs.Text.{optional_text, text_of};
+ghost use Rattle.wit_model.specs.{Rules.entries_in_range, Rules.key_in_range, Text.optional_text, Text.text_of};
 
 use crate::keys::key_of;
 use indexmap::{IndexMap, IndexSet};

@@ -1,7 +1,6 @@
 //! The places whose senses are compared.
 
-ghost use Rattle.std.specs.Prelude.{◌≡◌, is_some};
-ghost use Rattle.std.specs.Option.{option_copied};
+ghost use Rattle.std.specs.{Prelude.◌≡◌, Prelude.is_some, Option.option_copied};
 ghost use Rattle.wit_compat.specs.Senses.{import_at as import_at_lem, sense_of};
 
 use wit_model::{InterfaceId, Resolve, WorldId, WorldItem};

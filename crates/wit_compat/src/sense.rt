@@ -1,12 +1,8 @@
 //! Whether types of two `Resolve`s stand for the same: named types by place and name, unnamed ones by what they are made of.
 
 ghost use Rattle.std.specs.Prelude.{◌≡◌, ◌↔◌, map, IfOk, IsTrue};
-ghost use Rattle.wit_model.specs.Meant.{function_meaning, signature_of};
-ghost use Rattle.wit_model.specs.Parts.{function_types};
-ghost use Rattle.wit_model.specs.Text.{optional_text};
-ghost use Rattle.wit_model.specs.Types.{type_tree};
-ghost use Rattle.wit_compat.specs.TwoSides.{AllSame, IsSide, SameType};
-ghost use Rattle.wit_compat.specs.Table.{AllInRange, InRange};
+ghost use Rattle.wit_model.specs.{Meant.function_meaning, Meant.signature_of, Parts.function_types, Text.optional_text, Types.type_tree};
+ghost use Rattle.wit_compat.specs.{TwoSides.AllSame, TwoSides.IsSide, TwoSides.SameType, Table.AllInRange, Table.InRange};
 
 use crate::follow::number_of;
 use crate::functions::{same_shapes, value_types};

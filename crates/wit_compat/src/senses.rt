@@ -1,13 +1,8 @@
 //! The senses of places of two `Resolve`s.
 
 ghost use Rattle.std.specs.Prelude.{◌≡◌, ◌<◌, ◌↔◌, true, is_some, length, IfErr, IfOk, IsTrue};
-ghost use Rattle.wit_model.specs.Meaning.{world_sense};
-ghost use Rattle.wit_model.specs.Meant.{world_meaning_at};
-ghost use Rattle.wit_model.specs.Valid.{IsValid};
-ghost use Rattle.wit_model.specs.Refusals.{IsMemory};
-ghost use Rattle.wit_compat.specs.Senses.{sense_of};
-ghost use Rattle.wit_compat.specs.Comparison.{IsReady};
-ghost use Rattle.wit_compat.specs.TwoSides.{AllSame, IsSide};
+ghost use Rattle.wit_model.specs.{Meaning.world_sense, Meant.world_meaning_at, Valid.IsValid, Refusals.IsMemory};
+ghost use Rattle.wit_compat.specs.{Senses.sense_of, Comparison.IsReady, TwoSides.AllSame, TwoSides.IsSide};
 
 use crate::contents::same_worlds;
 use crate::interfaces::same_interfaces;

@@ -2,8 +2,7 @@
 
 ghost use Rattle.std.specs.Prelude.{◌≡◌, ◌↔◌, option_map, IfOk, IfSome, IsTrue};
 ghost use Rattle.wit_compat.specs.TwoSides.{path_text, IsKnown, IsSide};
-ghost use Rattle.wit_model.specs.Lookup.{interface_path, key_text as key_text_lem, place_of, place_of_path};
-ghost use Rattle.wit_model.specs.Rules.{same_package_name};
+ghost use Rattle.wit_model.specs.{Lookup.interface_path, Lookup.key_text as key_text_lem, Lookup.place_of, Lookup.place_of_path, Rules.same_package_name};
 ghost use Rattle.wit_model.specs.Text.{text_of};
 
 use std::alloc::{AllocError, Global};

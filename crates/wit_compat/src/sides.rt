@@ -1,15 +1,9 @@
 //! Compares a list of imports or exports of one world with that of the other.
 
 ghost use Rattle.std.specs.Prelude.{◌≡◌, ◌++◌, ◌≤◌, true, length, map, IfOk, OnOk, IfErr};
-ghost use Rattle.wit_model.specs.Rules.{entries_in_range};
-ghost use Rattle.wit_model.specs.Valid.{IsValid};
-ghost use Rattle.wit_compat.specs.Compatible.{IsFaultOf, IsIncluded};
-ghost use Rattle.wit_compat.specs.Flat.{flat, things_of};
-ghost use Rattle.wit_compat.specs.Index.{AllToldFrom, Indexes};
-ghost use Rattle.wit_compat.specs.Outline.{AreNames};
-ghost use Rattle.wit_compat.specs.Parts.{named_thing};
-ghost use Rattle.wit_compat.specs.Walk.{heads_of, pairs_shared};
-ghost use Rattle.wit_compat.specs.Table.{AreAmong, AreReached, IsSettled};
+ghost use Rattle.wit_model.specs.{Rules.entries_in_range, Valid.IsValid};
+ghost use Rattle.wit_compat.specs.{Compatible.IsFaultOf, Compatible.IsIncluded, Flat.flat, Flat.things_of, Table.AreAmong, Table.AreReached, Table.IsSettled};
+ghost use Rattle.wit_compat.specs.{Index.AllToldFrom, Index.Indexes, Outline.AreNames, Parts.named_thing, Walk.heads_of, Walk.pairs_shared};
 
 use crate::included::included;
 use crate::index::{Index, index};

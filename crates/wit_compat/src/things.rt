@@ -2,12 +2,9 @@
 
 ghost use Rattle.std.specs.Prelude.{◌≡◌, [], ◌∷◌, ◌++◌, true, length, map, IfOk, OnOk};
 ghost use Rattle.std.specs.Option.{option_copied, option_map_or};
-ghost use Rattle.wit_model.specs.Lookup.{interface_at as interface_at_lem};
-ghost use Rattle.wit_model.specs.Rules.{entries_in_range};
-ghost use Rattle.wit_compat.specs.Flat.{function_member, item_things, members, things_of, type_member};
-ghost use Rattle.wit_compat.specs.Numbered.{AreNumbered, KeepsNumbers};
-ghost use Rattle.wit_compat.specs.Outline.{AreNames};
-ghost use Rattle.wit_compat.specs.Parts.{named_thing, numbered_thing, thing_of, with_number};
+ghost use Rattle.wit_model.specs.{Lookup.interface_at as interface_at_lem, Rules.entries_in_range};
+ghost use Rattle.wit_compat.specs.{Flat.function_member, Flat.item_things, Flat.members, Flat.things_of, Flat.type_member, Outline.AreNames};
+ghost use Rattle.wit_compat.specs.{Numbered.AreNumbered, Numbered.KeepsNumbers, Parts.named_thing, Parts.numbered_thing, Parts.thing_of, Parts.with_number};
 
 use crate::keys::{Key, Keys, key_of};
 use crate::names::{Names, key_text};

@@ -3,14 +3,10 @@
 ghost use Rattle.std.specs.Prelude.{◌≡◌, ◌++◌, ◌≤◌, ◌<◌, ◌⊎◌, [], true, false, is_ok, length, map, option_map, MatchResult, None, Some, IfOk, OnOk, IfErr};
 ghost use Rattle.std.specs.Option.{option_copied};
 ghost use Rattle.wit_model.specs.declared.error.Error.TheVariants.{Memory as MemoryError};
-ghost use Rattle.wit_model.specs.Meant.{package_of_world};
-ghost use Rattle.wit_model.specs.Rules.{entries_in_range};
-ghost use Rattle.wit_model.specs.Valid.{IsValid};
+ghost use Rattle.wit_model.specs.{Meant.package_of_world, Rules.entries_in_range, Valid.IsValid};
 ghost use Rattle.wit_compat.specs.Compatible.{package_name, refusal_of, twice_without_version, Accepts, Compatible, HasItemsInRange, HasKeysOnce, IsMismatch, IsRefused, IsRepeated, OfWorlds};
 ghost use Rattle.wit_compat.specs.Opened.{bare_identity};
-ghost use Rattle.wit_compat.specs.Outline.{AreNames};
-ghost use Rattle.wit_compat.specs.Walk.{heads_of, pairs_of_worlds, IsCounted};
-ghost use Rattle.wit_compat.specs.Table.{AreAmong, AreReached, IsSettled};
+ghost use Rattle.wit_compat.specs.{Outline.AreNames, Walk.heads_of, Walk.pairs_of_worlds, Walk.IsCounted, Table.AreAmong, Table.AreReached, Table.IsSettled};
 
 use crate::follow::heads;
 use crate::laws::semver_check_counted;

@@ -1,18 +1,13 @@
 -- Bytes that mean a package show an interface or a world.
 use Rattle.std.proofs.Common.{◌≡◌, ◌<◌, ◌^◌, ◌||◌, refl, sym, ap, subst, ◌∙◌, ℕ, true, List, [], ◌∷◌, length, Some, option_map, arith}
 use Rattle.std.specs.List.{flat_map}
-use Rattle.wit_model.specs.Lookup.{package_at}
-use Rattle.wit_model.specs.Meaning.{PackageMeaning}
-use Rattle.wit_model.specs.Meant.{package_meaning as meaning_of, Meant}
-use Rattle.comp_bytes.specs.Reading.{◌>>=◌}
-use Rattle.comp_bytes.specs.Spelling.{IsComponent, preamble}
-use Rattle.comp_bytes.proofs.ComponentLaws.{one_component}
-use Rattle.comp_bytes.proofs.Readers.{bind_some, when_some}
+use Rattle.wit_model.specs.{Lookup.package_at, Meaning.PackageMeaning, Meant.package_meaning as meaning_of, Meant.Meant}
+use Rattle.comp_bytes.specs.{Reading.◌>>=◌, Spelling.IsComponent, Spelling.preamble}
+use Rattle.comp_bytes.proofs.{ComponentLaws.one_component, Readers.bind_some, Readers.when_some}
 use Rattle.comp_meaning.specs.Follow.{each, is_filled}
 use Rattle.comp_meaning.specs.Reads.{exported_types, interface, interfaces_of, member, package_meaning, package_of_members, world, worlds_of, Member, Part, Reads}
 use Rattle.wit_component.specs.ReadBack.{DecodedHaveMembers}
-use Rattle.base_lemmas.proofs.Bools.{or_true as either_true}
-use Rattle.base_lemmas.proofs.Options.{some_is}
+use Rattle.base_lemmas.proofs.{Bools.or_true as either_true, Options.some_is}
 use Rattle.wit_model.proofs.RulesLemmas.{items_of_map as mapped}
 
 -- ---- the preamble alone

@@ -1,11 +1,9 @@
 -- What is decoded of the bytes of a package means what the package does.
 use Rattle.std.proofs.Common.{◌≡◌, ap, refl, ℕ, Some, option_map}
-use Rattle.wit_model.specs.declared.error.Error.TheVariants as errors
-use Rattle.wit_model.specs.declared.model.Package.{Package}
-use Rattle.wit_model.specs.declared.model.Resolve.{Resolve}
-use Rattle.wit_model.specs.Lookup.{package_at}
-use Rattle.wit_model.specs.Meant.{package_meaning, Meant}
+use Rattle.wit_model.specs.declared.model.{Package.Package, Resolve.Resolve}
+use Rattle.wit_model.specs.{Lookup.package_at, Meant.package_meaning, Meant.Meant}
 use Rattle.wit_component.specs.ReadBack.{DecodingGivesThatMeaning, EncodingKeepsMeaning, MemoryAloneIsRefused}
+use Rattle.wit_model.specs.declared.error.Error.TheVariants as errors
 
 -- a package has its meaning
 pub has_meaning : (r : Resolve) (n : ℕ) (p : Package) → package_at r n ≡ Some p → Meant r n (package_meaning r n p)

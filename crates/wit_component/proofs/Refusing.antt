@@ -1,34 +1,20 @@
 -- What a package is refused for where it is encoded without canonical names and decoded.
 use Rattle.std.proofs.Common.{◌≡◌, ◌<◌, ◌||◌, refl, sym, ap, subst, ◌∙◌, ℕ, Bool, true, false, List, [], ◌∷◌, length, Some, Result, Ok, Err, IfErr, IfOk}
-use Rattle.std.specs.Prelude.{IsErrAnd}
-use Rattle.std.specs.List.{Contains}
-use Rattle.std.proofs.lemmas.Bool.{true≢false}
-use Rattle.std.proofs.lemmas.List.Elements.{Contains-append_left, Contains-append_right}
-use Rattle.wit_model.specs.declared.error.Error.{Error}
-use Rattle.wit_model.specs.declared.error.Error.TheVariants as errors
-use Rattle.wit_model.specs.declared.model.Package.{Package}
-use Rattle.wit_model.specs.declared.model.PackageId.{PackageId}
-use Rattle.wit_model.specs.declared.model.Resolve.{Resolve}
-use Rattle.wit_model.specs.declared.model.World.{World}
-use Rattle.wit_model.specs.Lookup.{package_at}
-use Rattle.wit_model.specs.Meant.{package_meaning}
-use Rattle.wit_model.specs.Valid.{IsValid}
-use Rattle.comp_bytes.specs.Refusal.{IsMemoryOrSize}
-use Rattle.comp_bytes.specs.Spelling.{preamble}
-use Rattle.comp_meaning.specs.Follow.{is_filled}
-use Rattle.comp_meaning.specs.Reads.{Reads}
-use Rattle.comp_read.specs.Decoded.{IsDecoded, RefusesBytes}
-use Rattle.comp_read.specs.Order.{FollowsBytes}
+use Rattle.std.proofs.lemmas.{Bool.true≢false, List.Elements.Contains-append_left, List.Elements.Contains-append_right}
+use Rattle.std.specs.{Prelude.IsErrAnd, List.Contains}
+use Rattle.wit_model.specs.declared.{error.Error.Error, model.Package.Package, model.PackageId.PackageId, model.Resolve.Resolve, model.World.World}
+use Rattle.wit_model.specs.{Lookup.package_at, Meant.package_meaning, Valid.IsValid}
+use Rattle.comp_bytes.specs.{Refusal.IsMemoryOrSize, Spelling.preamble}
+use Rattle.comp_meaning.specs.{Follow.is_filled, Reads.Reads}
+use Rattle.comp_read.specs.{Decoded.IsDecoded, Decoded.RefusesBytes, Order.FollowsBytes}
 use Rattle.encode_names.specs.Clashes.{RefusesNames, RefusesPaths}
 use Rattle.wit_encode.specs.Packages.{HasMembers, HasNoMembers, MeansPackage, RefusesPackage, RefusesWorldAt, SpellsPackageAt}
-use Rattle.wit_encode.specs.Scopes.{RefusesInterface}
-use Rattle.wit_encode.specs.WholeWorlds.{RefusesWorld}
+use Rattle.wit_encode.specs.{Scopes.RefusesInterface, WholeWorlds.RefusesWorld}
 use Rattle.wit_encode.proofs.WholePackages.{are-worlds}
 use Rattle.wit_component.specs.ReadBack.{IsReadBack, IsReadOf, RefusesReadBack}
-use Rattle.wit_component.proofs.Nothing.{preamble_means_nothing}
-use Rattle.wit_component.proofs.ReadBackLaws.{gives_that_meaning, has_meaning}
-use Rattle.base_lemmas.proofs.Elements.{contains-one}
-use Rattle.base_lemmas.proofs.Lists.{within_there as stands}
+use Rattle.wit_component.proofs.{Nothing.preamble_means_nothing, ReadBackLaws.gives_that_meaning, ReadBackLaws.has_meaning}
+use Rattle.base_lemmas.proofs.{Elements.contains-one, Lists.within_there as stands}
+use Rattle.wit_model.specs.declared.error.Error.TheVariants as errors
 
 -- ---- encoding
 

@@ -1,19 +1,12 @@
 -- What is decoded of the bytes of a package (Component Model WIT.md, "Package Format").
 use Rattle.std.specs.Prelude.{◌≡◌, ◌↔◌, ℕ, false, List, Some}
-use Rattle.wit_model.specs.declared.error.Error.{Error}
-use Rattle.wit_model.specs.declared.error.Error.TheVariants as errors
-use Rattle.wit_model.specs.declared.model.Package.{Package}
-use Rattle.wit_model.specs.declared.model.Resolve.{Resolve}
-use Rattle.wit_model.specs.Lookup.{package_at}
-use Rattle.wit_model.specs.Meaning.{PackageMeaning}
-use Rattle.wit_model.specs.Meant.{Meant}
-use Rattle.wit_model.specs.Valid.{IsValid}
+use Rattle.wit_model.specs.declared.{error.Error.Error, model.Package.Package, model.Resolve.Resolve}
+use Rattle.wit_model.specs.{Lookup.package_at, Meaning.PackageMeaning, Meant.Meant, Valid.IsValid}
 use Rattle.comp_meaning.specs.Reads.{Reads}
-use Rattle.plan_meaning.specs.Built.{IsBare}
-use Rattle.plan_meaning.specs.NothingElse.{HoldsPackageAlone}
-use Rattle.comp_read.specs.Decoded.{IsDecoded, RefusesBytes}
-use Rattle.comp_read.specs.Order.{FollowsBytes}
+use Rattle.plan_meaning.specs.{Built.IsBare, NothingElse.HoldsPackageAlone}
+use Rattle.comp_read.specs.{Decoded.IsDecoded, Decoded.RefusesBytes, Order.FollowsBytes}
 use Rattle.wit_encode.specs.Packages.{HasMembers, HasNoMembers, MeansPackage, SpellsPackageAt}
+use Rattle.wit_model.specs.declared.error.Error.TheVariants as errors
 
 -- Package n of r has a meaning, and package k of s has the same and no other.
 pub record MeansTheSame (r : Resolve) (n : ℕ) (s : Resolve) (k : ℕ) : Type 0 where

@@ -1,11 +1,8 @@
 //! Packages as others read them.
 
 ghost use Rattle.std.specs.Prelude.{◌≡◌, ◌<◌, Some, Err, IfErr, IfOk, length};
-ghost use Rattle.wit_model.specs.Lookup.{package_at};
-ghost use Rattle.wit_model.specs.Valid.{IsValid};
-ghost use Rattle.wit_model.specs.Weight.{package_weight};
-ghost use Rattle.wit_model.specs.declared.model.Package.{Package as PackageValue};
-ghost use Rattle.wit_model.specs.declared.error.Error.TheVariants.{Size};
+ghost use Rattle.wit_model.specs.{Lookup.package_at, Valid.IsValid, Weight.package_weight};
+ghost use Rattle.wit_model.specs.declared.{model.Package.Package as PackageValue, error.Error.TheVariants.Size};
 ghost use Rattle.wit_component.specs.ReadBack.{IsReadBack, IsReadOf, RefusesReadBack};
 
 use comp_read::decode;

@@ -1,9 +1,7 @@
 //! Interfaces encoded, one after the other in one component type, and the component types of an interface and of a package.
 
 ghost use Rattle.std.specs.Prelude.{◌≡◌, ◌<◌, is_some, length, true};
-ghost use Rattle.wit_component.specs.Lookup.{interface_path};
-ghost use Rattle.wit_component.specs.Valid.{IsValid};
-ghost use Rattle.wit_component.specs.InterfaceEncoders.{CanEncodeInterfaces, interface_encoder_view};
+ghost use Rattle.wit_component.specs.{Lookup.interface_path, Valid.IsValid, InterfaceEncoders.CanEncodeInterfaces, InterfaceEncoders.interface_encoder_view};
 
 use std::alloc::Global;
 use std::process::Abort;

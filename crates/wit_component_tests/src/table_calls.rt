@@ -1,13 +1,9 @@
 //! Calls of the encoder's functions, one after the other on an encoder over one table, and the slots that they answer.
 
 ghost use Rattle.std.specs.Prelude.{◌≡◌, ◌<◌, true, false, length, map, option_to_list, is_some, Some, IfSome};
-ghost use Rattle.std.specs.Option.{option_map_or};
-ghost use Rattle.std.specs.List.{list_all};
-ghost use Rattle.wit_model.specs.Valid.{IsValid};
-ghost use Rattle.wit_model.specs.Lookup.{interface_at, type_at};
-ghost use Rattle.encode_types.specs.Kinds.{parts_of, has_definition, kind_tree};
-ghost use Rattle.encode_types.specs.Formed.{IsFormed};
-ghost use Rattle.encode_types.specs.Plan.{InRange, AllInRange, foreign_owner};
+ghost use Rattle.std.specs.{Option.option_map_or, List.list_all};
+ghost use Rattle.wit_model.specs.{Valid.IsValid, Lookup.interface_at, Lookup.type_at};
+ghost use Rattle.encode_types.specs.{Kinds.parts_of, Kinds.has_definition, Kinds.kind_tree, Formed.IsFormed, Plan.InRange, Plan.AllInRange, Plan.foreign_owner};
 ghost use Rattle.encode_types.specs.Table.{has_named_owner, is_met_by, table_scope, IsDefined, AllDefined, IsTableOf};
 ghost use Rattle.encode_flat.specs.Flat.{flat_view};
 

@@ -1,31 +1,19 @@
 -- The aliases in the component type of a world, behind each declaration but that of an instance, and in the end.
 use Rattle.std.proofs.Common.{◌≡◌, refl, sym, subst, ap, ◌∙◌, ℕ, ◌+◌, ◌⊎◌, inl, inr, nat_cmp, nat_eq, Bool, true, false, List, [], ◌∷◌, ◌++◌, append_assoc, append-nil, length, length-append, map, flat_map, Option, Some, None, is_some, arith}
-use Rattle.std.specs.BTreeMap.{is_at}
-use Rattle.std.specs.List.{Contains, IsDistinct}
-use Rattle.std.proofs.lemmas.Cmp.{nat_eq_equiv}
-use Rattle.std.proofs.lemmas.List.{map-append}
-use Rattle.std.proofs.lemmas.List.Elements.{Contains-append_cases, Contains-append_left, Contains-append_right}
-use Rattle.std.proofs.lemmas.Map.Keys.{IsDistinct-push}
-use Rattle.std.proofs.Math.Seq.{drop-append_seam, take-append_seam}
-use Rattle.wit_model.specs.declared.model.Resolve.{Resolve}
-use Rattle.wit_model.specs.declared.model.TypeId.{TypeId}
-use Rattle.comp_bytes.specs.Raw.{Alias, Declaration, Declarations, append}
-use Rattle.comp_bytes.specs.Held.{type_slots_of}
+use Rattle.std.proofs.lemmas.{Cmp.nat_eq_equiv, List.Elements.Contains-append_cases, List.Elements.Contains-append_left, List.Elements.Contains-append_right}
+use Rattle.std.proofs.{lemmas.List.map-append, lemmas.Map.Keys.IsDistinct-push, Math.Seq.drop-append_seam, Math.Seq.take-append_seam}
+use Rattle.std.specs.{BTreeMap.is_at, List.Contains, List.IsDistinct}
+use Rattle.wit_model.specs.declared.model.{Resolve.Resolve, TypeId.TypeId}
+use Rattle.comp_bytes.specs.{Raw.Alias, Raw.Declaration, Raw.Declarations, Raw.append, Held.type_slots_of}
 use Rattle.encode_types.specs.Known.{Aliased, AreAliases, Around, IsAlias, ReachesAround, alias_declared, aliased, as_before, known_instance, known_slot, with_alias, with_aliases}
-use Rattle.encode_types.proofs.Lists.{none-in}
-use Rattle.encode_types.proofs.Planning.{lacks-member}
-use Rattle.wit_encode.specs.DependencyAliases.{alias_in, export_alias}
+use Rattle.encode_types.proofs.{Lists.none-in, Planning.lacks-member}
+use Rattle.wit_encode.specs.{DependencyAliases.alias_in, DependencyAliases.export_alias, WrittenNames.instance_name, WrittenNames.instance_names}
 use Rattle.wit_encode.specs.Encoders.{declared_after}
 use Rattle.wit_encode.specs.WorldAliases.{HasAliasesBehind, HasSlot, IsAliasBehind, KeepsAliases, KeepsBehind, KeepsListed, PlacedAlias, aliases_in, in_one_list, interfaces_in, pairs_in, place_and_number, placed_alias, placed_aliases}
-use Rattle.wit_encode.specs.WrittenNames.{instance_name, instance_names}
-use Rattle.wit_encode.proofs.DependencyAliases.{known-kept}
-use Rattle.wit_encode.proofs.Imported.{at-same, other-slot}
-use Rattle.wit_encode.proofs.Importing.{new-slot}
-use Rattle.wit_encode.proofs.Numbers.{apart-behind}
-use Rattle.wit_encode.proofs.WrittenNames.{names-behind, names-more}
+use Rattle.wit_encode.proofs.{DependencyAliases.known-kept, Imported.at-same, Imported.other-slot, WrittenNames.names-behind, WrittenNames.names-more}
+use Rattle.wit_encode.proofs.{Importing.new-slot, Numbers.apart-behind}
 use Rattle.base_lemmas.proofs.Elements.{contains-later, contains-map, contains-one, last_of as one-contained, map_from as from-map}
-use Rattle.base_lemmas.proofs.Lists.{map_of_map}
-use Rattle.base_lemmas.proofs.Numbers.{none-twice}
+use Rattle.base_lemmas.proofs.{Lists.map_of_map, Numbers.none-twice}
 
 -- ---- one declaration more
 

@@ -1,23 +1,16 @@
 -- An instance more in the component type of a world: it is the latest one of its interface, and the aliases stay.
 use Rattle.std.proofs.Common.{◌≡◌, refl, sym, subst, ap, ◌∙◌, ℕ, ◌+◌, ◌≤◌, inl, inr, nat_cmp, Bool, true, false, List, [], ◌∷◌, ◌++◌, length, length-append, Some, arith}
-use Rattle.std.specs.BTreeMap.{insert_entry, is_at}
-use Rattle.std.specs.Ordering.{is_eq}
-use Rattle.std.proofs.lemmas.Cmp.{nat_cmp_total}
-use Rattle.std.proofs.lemmas.Option.{slice_get_within}
+use Rattle.std.proofs.lemmas.{Cmp.nat_cmp_total, Option.slice_get_within}
+use Rattle.std.specs.{BTreeMap.insert_entry, BTreeMap.is_at, Ordering.is_eq}
 use Rattle.wit_model.specs.declared.model.Resolve.{Resolve}
 use Rattle.comp_bytes.specs.Raw.{Declaration, Declarations, append}
 use Rattle.encode_types.specs.Known.{Around, known_instance, known_slot}
 use Rattle.encode_types.proofs.Tables.{equal-self}
-use Rattle.wit_encode.specs.DependencyAliases.{alias_in}
-use Rattle.wit_encode.specs.Encoders.{declared_after}
-use Rattle.wit_encode.specs.WorldAliases.{IsLatest, KeepsBehind, placed_aliases}
+use Rattle.wit_encode.specs.{DependencyAliases.alias_in, Encoders.declared_after, WorldAliases.IsLatest, WorldAliases.KeepsBehind, WorldAliases.placed_aliases}
 use Rattle.wit_encode.specs.WrittenNames.{instance_name, instance_names}
-use Rattle.wit_encode.proofs.AliasesKept.{keeps-inner, placed-plain}
-use Rattle.wit_encode.proofs.Imported.{at-same, behind-cases}
-use Rattle.wit_encode.proofs.LatestInstances.{found-new, found-other}
-use Rattle.wit_encode.proofs.WrittenNames.{names-more}
-use Rattle.base_lemmas.proofs.Lists.{at_last, front_at}
-use Rattle.base_lemmas.proofs.Options.{some_same as one-some}
+use Rattle.wit_encode.proofs.{AliasesKept.keeps-inner, AliasesKept.placed-plain, LatestInstances.found-new, LatestInstances.found-other}
+use Rattle.wit_encode.proofs.{Imported.at-same, Imported.behind-cases, WrittenNames.names-more}
+use Rattle.base_lemmas.proofs.{Lists.at_last, Lists.front_at, Options.some_same as one-some}
 
 -- ---- the latest instances
 

@@ -1,56 +1,31 @@
 -- How many bytes have been declared, call after call.
 use Rattle.std.proofs.Common.{◌≡◌, refl, sym, subst, ap, ◌∙◌, ℕ, zero, suc, ◌+◌, ◌≤◌, ◌<◌, inl, inr, Bool, true, false, nat_eq, is_some, List, [], ◌∷◌, ◌++◌, map, length, length-append, take, get_or, Option, Some, None, String, Result, Ok, Err, OnOk, IfOk, arith}
-use Rattle.std.specs.Prelude.{sum_by}
-use Rattle.std.specs.List.{Contains}
+use Rattle.std.proofs.lemmas.{List.map-append, List.take_all, List.take_more, List.length-map, List.Sums.sum_by-append, List.Sums.sum_by-cons}
+use Rattle.std.proofs.lemmas.Option.{same_Some as some-same}
+use Rattle.std.specs.{Prelude.sum_by, List.Contains}
 use Rattle.std.specs.declared.alloc.Global.{Global}
-use Rattle.std.proofs.lemmas.List.{map-append, take_all, take_more, length-map}
-use Rattle.std.proofs.lemmas.List.Sums.{sum_by-append, sum_by-cons}
 use Rattle.indexmap.specs.IndexMap.{values}
-use Rattle.wit_model.specs.Text.{Text, optional_text}
-use Rattle.wit_model.specs.Lookup.{interface_at, interface_path, type_at, world_at}
-use Rattle.wit_model.specs.Meant.{signature_of}
-use Rattle.wit_model.specs.Uses.{item_interface}
-use Rattle.wit_model.specs.Weight.{interface_weight, whole_instance_weight, world_weight}
-use Rattle.wit_model.specs.Valid.{IsValid}
-use Rattle.wit_model.specs.declared.model.Resolve.{Resolve}
-use Rattle.wit_model.specs.declared.model.Interface.{Interface}
-use Rattle.wit_model.specs.declared.model.InterfaceId.{InterfaceId}
-use Rattle.wit_model.specs.declared.model.Function.{Function}
-use Rattle.wit_model.specs.declared.model.TypeDef.{TypeDef}
-use Rattle.wit_model.specs.declared.model.World.{World}
-use Rattle.wit_model.specs.declared.model.WorldId.{WorldId}
-use Rattle.wit_model.specs.declared.model.WorldKey.{WorldKey}
-use Rattle.wit_model.specs.declared.model.WorldItem.{WorldItem}
-use Rattle.wit_model.specs.declared.model.WorldItem.TheVariants as item
-use Rattle.wit_model.specs.declared.model.TypeId.{TypeId}
-use Rattle.wit_model.specs.declared.model.«Type».{«Type» as ValueType}
+use Rattle.wit_model.specs.{Text.Text, Text.optional_text, Lookup.interface_at, Lookup.interface_path, Lookup.type_at, Lookup.world_at, Uses.item_interface}
+use Rattle.wit_model.specs.{Meant.signature_of, Weight.interface_weight, Weight.whole_instance_weight, Weight.world_weight, Valid.IsValid}
+use Rattle.wit_model.specs.declared.model.{Resolve.Resolve, TypeDef.TypeDef, World.World, WorldId.WorldId, WorldKey.WorldKey, TypeId.TypeId}
+use Rattle.wit_model.specs.declared.model.{Interface.Interface, InterfaceId.InterfaceId, Function.Function, WorldItem.WorldItem, «Type».«Type» as ValueType}
 use Rattle.comp_bytes.specs.Raw.{Alias, ExternName, Declaration, Declarations, append, declaration_count, from_list}
 use Rattle.comp_bytes.specs.Writing.{u32_bytes, declaration_bytes, declarations_bytes}
 use Rattle.encode_types.specs.declared.maps.TypeEncodingMaps.{TypeEncodingMaps}
 use Rattle.encode_types.specs.Extents.{function_extent, given_length, import_extent, known_extent, name_extent, number_extent, signature_extent}
-use Rattle.encode_types.specs.Known.{Around, ReachesAround, alias_declared, as_before, aliased}
+use Rattle.encode_types.specs.{Known.Around, Known.ReachesAround, Known.alias_declared, Known.as_before, Known.aliased, MetKinds.ReachedFrom, MetKinds.referred}
 use Rattle.encode_types.specs.Maps.{IsOnce, LearnsOnly}
-use Rattle.encode_types.specs.MetKinds.{ReachedFrom, referred}
-use Rattle.encode_types.proofs.Lists.{none-in}
-use Rattle.encode_types.proofs.Pairs.{pairs-map}
+use Rattle.encode_types.proofs.{Lists.none-in, Pairs.pairs-map}
 use Rattle.wit_encode.specs.declared.interface.OpenInterface.{OpenInterface}
-use Rattle.wit_encode.specs.Encoders.{declared_after}
-use Rattle.wit_encode.specs.Instance.{declared_extent, extent_in, placed_function}
-use Rattle.wit_encode.specs.Order.{functions_in_order}
-use Rattle.wit_encode.specs.WorldRoom.{IsMetAmong, entries_in}
-use Rattle.wit_encode.specs.Extents.{instance_extent, item_extent}
+use Rattle.wit_encode.specs.{Encoders.declared_after, Order.functions_in_order, WorldRoom.IsMetAmong, WorldRoom.entries_in}
+use Rattle.wit_encode.specs.{Instance.declared_extent, Instance.extent_in, Instance.placed_function, Extents.instance_extent, Extents.item_extent}
 use Rattle.wit_encode.specs.WrittenBytes.{AddsBytes, AddsLearnt, TakesFew, imports_extent, items_extent, types_extent, whole_extent}
 use Rattle.encode_shown.specs.Views.{AreReached}
-use Rattle.encode_names.specs.WorldNames.{name_of_interface, name_of_item}
-use Rattle.encode_names.specs.WorldSteps.{Entry}
-use Rattle.wit_encode.proofs.ComponentExtents.{components-light, import-extent, worlds-light}
-use Rattle.wit_encode.proofs.ImportLoop.{numbers-next}
-use Rattle.wit_encode.proofs.Extents.{bytes-few}
-use Rattle.wit_encode.proofs.ExtentWeighing.{dependencies-light, instances-light}
-use Rattle.wit_encode.proofs.Lengths.{u32-short}
-use Rattle.wit_encode.proofs.Opening.{Placed}
+use Rattle.encode_names.specs.{WorldNames.name_of_interface, WorldNames.name_of_item, WorldSteps.Entry}
+use Rattle.wit_encode.proofs.{ComponentExtents.components-light, ComponentExtents.import-extent, ComponentExtents.worlds-light, ImportLoop.numbers-next}
+use Rattle.wit_encode.proofs.{Extents.bytes-few, ExtentWeighing.dependencies-light, ExtentWeighing.instances-light, Lengths.u32-short, Opening.Placed}
 use Rattle.base_lemmas.proofs.Lists.{map_of_map as map-twice}
-use Rattle.std.proofs.lemmas.Option.{same_Some as some-same}
+use Rattle.wit_model.specs.declared.model.WorldItem.TheVariants as item
 
 -- ---- answers
 

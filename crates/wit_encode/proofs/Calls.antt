@@ -1,39 +1,26 @@
 -- What the calls of an encoder of interfaces do to what it holds.
 use Rattle.std.proofs.Common.{◌≡◌, refl, sym, subst, ap, ◌∙◌, ℕ, true, not, cond, List, [], ◌∷◌, ◌++◌, append-nil, map, option_to_list, Result, Ok, Err, IfOk, OnOk, OnErr, Option, Some, None, slice_get, length, arith}
-use Rattle.std.specs.List.{list_all}
-use Rattle.std.specs.Option.{option_map_or, is_some}
 use Rattle.std.proofs.lemmas.List.{map-append}
-use Rattle.wit_model.specs.Text.{Text}
-use Rattle.wit_model.specs.Tree as tree_of_types
-use Rattle.wit_model.specs.Tree.{Place, Tree, named}
-use Rattle.wit_model.specs.Meaning.{Signature, TypeMeaning}
-use Rattle.wit_model.specs.declared.model.Resolve.{Resolve}
-use Rattle.wit_model.specs.declared.model.InterfaceId.{InterfaceId}
-use Rattle.comp_bytes.specs.declared.forms.ComponentDefinedType.{ComponentDefinedType}
-use Rattle.comp_bytes.specs.declared.forms.ComponentFuncType.{ComponentFuncType}
-use Rattle.comp_bytes.specs.declared.forms.ComponentTypeRef.{ComponentTypeRef}
-use Rattle.comp_bytes.specs.declared.forms.ComponentTypeRef.TheVariants as refs
-use Rattle.comp_bytes.specs.Raw.{Alias, Declaration, Declarations, ExternName}
-use Rattle.comp_bytes.specs.RawOf.{raw_defined, raw_function}
-use Rattle.comp_bytes.specs.Held.{type_slots}
+use Rattle.std.specs.{List.list_all, Option.option_map_or, Option.is_some}
+use Rattle.wit_model.specs.{Text.Text, Tree.Place, Tree.Tree, Tree.named, Meaning.Signature, Meaning.TypeMeaning}
+use Rattle.wit_model.specs.declared.model.{Resolve.Resolve, InterfaceId.InterfaceId}
+use Rattle.comp_bytes.specs.declared.forms.{ComponentDefinedType.ComponentDefinedType, ComponentFuncType.ComponentFuncType, ComponentTypeRef.ComponentTypeRef}
+use Rattle.comp_bytes.specs.{Raw.Alias, Raw.Declaration, Raw.Declarations, Raw.ExternName, RawOf.raw_defined, RawOf.raw_function, Held.type_slots}
 use Rattle.comp_bytes.specs.Reading.{◌>>=◌}
-use Rattle.comp_meaning.specs.Follow as follow
 use Rattle.comp_meaning.specs.Follow.{Slot, InstanceScope, ShownType, new_instance, definition, function_signature, named_type, is_foreign_name, is_simple, show_type, instance_step, in_instance}
 use Rattle.encode_types.specs.Slots.{Standing, tree, function, SlotAdded, SlotsGrow, Follows, FollowsFunction, Defines, DefinesFunction}
-use Rattle.encode_types.specs.Resources.{Names, is_resource_tree}
-use Rattle.encode_types.specs.Scope.{Scope, IsDeclared, DeclaresSlot, DeclaresResource, exported_name}
-use Rattle.encode_types.specs.Formed.{IsFormed, IsFormedSignature, is_formed}
-use Rattle.encode_types.specs.Counts.{one_type_more, one_function_more, ExportsOne}
-use Rattle.encode_types.specs.Distinct.{described_slot, target_of}
-use Rattle.wit_encode.proofs.ValueSlots.{slots-more, targets-more}
-use Rattle.wit_encode.specs.Instance.{standing_at, SlotsStand, is_slot_of, Contents, no_view, outer_slots, inner_scope, inner_contents, is_value_type, is_function_type, place_in, resources_in, scope_with, definitions_with}
-use Rattle.encode_types.specs.Known.{Around}
+use Rattle.encode_types.specs.{Resources.Names, Resources.is_resource_tree, Distinct.described_slot, Distinct.target_of}
+use Rattle.encode_types.specs.{Scope.Scope, Scope.IsDeclared, Scope.DeclaresSlot, Scope.DeclaresResource, Scope.exported_name, Known.Around}
+use Rattle.encode_types.specs.{Formed.IsFormed, Formed.IsFormedSignature, Formed.is_formed, Counts.one_type_more, Counts.one_function_more, Counts.ExportsOne}
+use Rattle.wit_encode.proofs.{ValueSlots.slots-more, ValueSlots.targets-more, Declaring.DeclaredAs, Declaring.declared-slot, Declaring.declared-resource}
 use Rattle.wit_encode.proofs.Strict.{bind, definition-strict, function-strict, follows-once, signature-once}
 use Rattle.wit_encode.proofs.Contents.{IsOf, Grew, grew-adds, grew-grows, same-grows, grew-scope}
-use Rattle.wit_encode.proofs.Declaring.{DeclaredAs, declared-slot, declared-resource}
+use Rattle.wit_encode.specs.Instance.{standing_at, SlotsStand, is_slot_of, Contents, no_view, outer_slots, inner_scope, inner_contents, is_value_type, is_function_type, place_in, resources_in, scope_with, definitions_with}
+use Rattle.base_lemmas.proofs.{Bools.left_of as first_true, Bools.right_of as second_true, Options.there as some-of}
+use Rattle.wit_model.specs.Tree as tree_of_types
+use Rattle.comp_bytes.specs.declared.forms.ComponentTypeRef.TheVariants as refs
+use Rattle.comp_meaning.specs.Follow as follow
 use Rattle.wit_encode.proofs.Steps as steps
-use Rattle.base_lemmas.proofs.Bools.{left_of as first_true, right_of as second_true}
-use Rattle.base_lemmas.proofs.Options.{there as some-of}
 
 -- what a call that adds a slot ensures
 pub record Calls {E : Type 0} (res : Result ℕ E) (s s' : Scope) (c c' : Contents) (P : Standing → Type 0) (counts : Type 0) : Type 0 where

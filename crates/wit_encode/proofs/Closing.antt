@@ -1,29 +1,18 @@
 -- What an instance type that is closed shows: the interface, or its types alone.
 use Rattle.std.proofs.Common.{◌≡◌, sym, ap, ◌∙◌, List, [], ◌∷◌, Option, Some, Result, Ok, Err, ℕ, subst}
-use Rattle.std.specs.Prelude.{IsPermutation, IfOk, map}
-use Rattle.std.specs.Option.{option_map_or}
 use Rattle.std.proofs.lemmas.List.Sorted.{IsPermutation-map, IsPermutation-refl}
+use Rattle.std.specs.{Prelude.IsPermutation, Prelude.IfOk, Prelude.map, Option.option_map_or}
 use Rattle.indexmap.specs.IndexMap.{values}
-use Rattle.wit_model.specs.Lookup.{interface_at}
-use Rattle.wit_model.specs.Valid.{IsValid}
-use Rattle.wit_model.specs.declared.model.Resolve.{Resolve}
-use Rattle.wit_model.specs.declared.model.Interface.{Interface}
-use Rattle.wit_model.specs.declared.model.InterfaceId.{InterfaceId}
-use Rattle.wit_model.specs.declared.model.TypeId.{TypeId}
-use Rattle.comp_bytes.specs.Raw.{Declaration, Declarations, append, from_list}
-use Rattle.comp_bytes.specs.Held.{type_slots_of}
+use Rattle.wit_model.specs.{Lookup.interface_at, Valid.IsValid}
+use Rattle.wit_model.specs.declared.model.{Resolve.Resolve, Interface.Interface, InterfaceId.InterfaceId, TypeId.TypeId}
+use Rattle.comp_bytes.specs.{Raw.Declaration, Raw.Declarations, Raw.append, Raw.from_list, Held.type_slots_of}
 use Rattle.encode_shown.specs.Views.{ShowsInterface, ShowsTypes, functions_of}
 use Rattle.encode_shown.proofs.Interfaces.{interface-means, types-mean}
-use Rattle.encode_types.specs.Distinct.{DefinesKeys, DefinesTypes}
-use Rattle.encode_types.specs.Aliases.{AliasesMet}
-use Rattle.encode_types.specs.MetKinds.{referred}
-use Rattle.encode_types.specs.Known.{Around}
+use Rattle.encode_types.specs.{Distinct.DefinesKeys, Distinct.DefinesTypes, Aliases.AliasesMet, MetKinds.referred, Known.Around}
 use Rattle.wit_encode.specs.declared.interface.Foreign.{Foreign}
-use Rattle.wit_encode.specs.Order.{functions_in_order}
+use Rattle.wit_encode.specs.{Order.functions_in_order, Places.StandInOrder}
 use Rattle.wit_encode.specs.Instance.{stands_inside, around_at, keyed, DeclaresFew, placed_function, meaning_of, EncodesInterface, EncodesDependency, EncodesPart, IsInstance}
-use Rattle.wit_encode.proofs.Counting.{count-keys, permuted-keys}
-use Rattle.wit_encode.proofs.Referring.{permuted-aliases, permuted-few, permuted-types}
-use Rattle.wit_encode.specs.Places.{StandInOrder}
+use Rattle.wit_encode.proofs.{Counting.count-keys, Counting.permuted-keys, Referring.permuted-aliases, Referring.permuted-few, Referring.permuted-types}
 use Rattle.wit_encode.proofs.Opening.{Placed, values-permuted}
 use Rattle.base_lemmas.proofs.Lists.{map_of_map as map-twice}
 

@@ -1,37 +1,26 @@
 -- What is written of the component type of an interface, and of that of a world, is no more in sum than they weigh.
 use Rattle.std.proofs.Common.{◌≡◌, refl, ap, ◌∙◌, ℕ, ◌+◌, ◌≤◌, ◌⊎◌, inl, inr, Bool, List, [], ◌∷◌, ◌++◌, length, Option, Some, None, option_map, option_to_list, String, arith}
-use Rattle.std.specs.Prelude.{sum_by, option_and_then, unwrap_or}
-use Rattle.std.specs.List.{Contains}
-use Rattle.std.specs.declared.alloc.Global.{Global}
 use Rattle.std.proofs.lemmas.List.Sums.{sum_by-cons, sum_by-append}
-use Rattle.wit_model.specs.Text.{Text, text_of, text_eq, optional_text}
-use Rattle.wit_model.specs.Lookup.{interface_at, interface_path, key_text, world_at}
-use Rattle.wit_model.specs.Calls.{implemented, named_interface}
-use Rattle.wit_model.specs.Valid.{IsValid}
-use Rattle.wit_model.specs.Uses.{item_interface}
+use Rattle.std.specs.{Prelude.sum_by, Prelude.option_and_then, Prelude.unwrap_or, List.Contains}
+use Rattle.std.specs.declared.alloc.Global.{Global}
+use Rattle.wit_model.specs.{Text.Text, Text.text_of, Text.text_eq, Text.optional_text, Valid.IsValid, Uses.item_interface}
+use Rattle.wit_model.specs.{Lookup.interface_at, Lookup.interface_path, Lookup.key_text, Lookup.world_at, Calls.implemented, Calls.named_interface}
 use Rattle.wit_model.specs.Weight.{unit_of, path_texts, implemented_texts, item_weight, function_weight, types_instance_weight, number_weight}
-use Rattle.wit_model.specs.declared.model.Resolve.{Resolve}
+use Rattle.wit_model.specs.declared.model.{Resolve.Resolve, WorldId.WorldId, WorldKey.WorldKey, WorldItem.WorldItem, Interface.Interface, Function.Function}
 use Rattle.wit_model.specs.declared.model.World.{World}
-use Rattle.wit_model.specs.declared.model.WorldId.{WorldId}
-use Rattle.wit_model.specs.declared.model.WorldKey.{WorldKey}
-use Rattle.wit_model.specs.declared.model.WorldKey.TheVariants as key
-use Rattle.wit_model.specs.declared.model.WorldItem.{WorldItem}
-use Rattle.wit_model.specs.declared.model.WorldItem.TheVariants as item
-use Rattle.wit_model.specs.declared.model.Interface.{Interface}
-use Rattle.wit_model.specs.declared.model.Function.{Function}
-use Rattle.wit_model.specs.declared.model.TypeOwner.TheVariants as owner
 use Rattle.encode_types.specs.KeyLaws.{text_same}
 use Rattle.encode_names.specs.WorldNames.{written_path, written_suffix, name_of_interface}
 use Rattle.wit_encode.specs.WorldRoom.{entries_in, functions_among, type_ids_among}
 use Rattle.wit_encode.specs.Extents.{given_length, name_extent, number_extent, instance_extent, item_extent, ComponentsAreLight, WorldsAreLight}
-use Rattle.wit_encode.proofs.DependencyWeighing as dependency
 use Rattle.wit_encode.proofs.Extents.{functions-light, given-texts}
-use Rattle.wit_encode.proofs.ExtentWeighing.{each-below, number-light}
-use Rattle.wit_encode.proofs.Weighing.{sum-among}
-use Rattle.wit_encode.proofs.WorldWeighing as world
-use Rattle.wit_encode.proofs.WorldWeighing.{long, written-both}
+use Rattle.wit_encode.proofs.{ExtentWeighing.each-below, ExtentWeighing.number-light, Weighing.sum-among, WorldWeighing.long, WorldWeighing.written-both}
 use Rattle.base_lemmas.proofs.Bools.{left_of as first_true}
 use Rattle.encode_names.proofs.NamesRead.{no-suffix as no-suffix-written}
+use Rattle.wit_model.specs.declared.model.WorldKey.TheVariants as key
+use Rattle.wit_model.specs.declared.model.WorldItem.TheVariants as item
+use Rattle.wit_model.specs.declared.model.TypeOwner.TheVariants as owner
+use Rattle.wit_encode.proofs.DependencyWeighing as dependency
+use Rattle.wit_encode.proofs.WorldWeighing as world
 
 -- ---- paths
 

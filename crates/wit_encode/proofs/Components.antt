@@ -1,20 +1,17 @@
 -- The declarations of a component type, followed one by one.
 use Rattle.std.proofs.Common.{◌≡◌, refl, sym, ap, ◌∙◌, ℕ, ◌+◌, Bool, cond, List, [], ◌∷◌, ◌++◌, count_by, Option, Some, None, slice_get, length, length-append, arith}
+use Rattle.std.proofs.lemmas.Option.{same_Some as some-same}
 use Rattle.comp_bytes.specs.declared.forms.ComponentTypeRef.{ComponentTypeRef}
-use Rattle.comp_bytes.specs.declared.forms.ComponentTypeRef.TheVariants as refs
 use Rattle.comp_bytes.specs.Raw.{Declaration, Declarations, Alias, ExternName, append, from_list}
-use Rattle.comp_bytes.specs.Held.{declaration_slots, type_slots_of}
-use Rattle.comp_bytes.specs.Reading.{◌>>=◌}
+use Rattle.comp_bytes.specs.{Held.declaration_slots, Held.type_slots_of, Reading.◌>>=◌}
 use Rattle.wit_model.specs.Tree.{Place}
-use Rattle.std.specs.Prelude.{not, ◌==◌}
-use Rattle.std.specs.List.{list_any}
+use Rattle.std.specs.{Prelude.not, Prelude.◌==◌, List.list_any}
 use Rattle.encode_types.proofs.Marking.{count-push}
 use Rattle.comp_meaning.specs.Follow.{View, Shown, Key, key_text, interface_of, place_of, used_view, Slot, Scope, Seen, Direction, import_, export_, see, when, definition, function_signature, function_in, named_type, exported_slot, key_of, see_instance, see_function, see_type, in_scope, component_step, component_steps, flat}
 use Rattle.wit_encode.specs.Instance.{count_declared}
 use Rattle.wit_encode.proofs.Steps.{unbind}
-use Rattle.std.proofs.lemmas.Option.{same_Some as some-same}
-use Rattle.comp_meaning.proofs.EntryLaws.{flat_list as flat-list}
-use Rattle.comp_meaning.proofs.FollowLemmas.{provided_is as unprovided}
+use Rattle.comp_meaning.proofs.{EntryLaws.flat_list as flat-list, FollowLemmas.provided_is as unprovided}
+use Rattle.comp_bytes.specs.declared.forms.ComponentTypeRef.TheVariants as refs
 
 pub see-slots : (direction : Direction) (seen : Seen) (s : Scope) → (see direction seen s).slots ≡ s.slots
 see-slots import_ seen s = refl

@@ -1,15 +1,12 @@
 -- What one more declaration adds to what has been declared in a scope.
 use Rattle.std.proofs.Common.{◌≡◌, refl, sym, subst, ap, ◌∙◌, ℕ, zero, suc, ◌+◌, ◌⊎◌, inl, inr, true, ◌&&◌, List, [], ◌∷◌, ◌++◌, Option, Some, length, length-append, arith}
+use Rattle.std.proofs.lemmas.{List.Folds.list_all-append, Bool.and_from as both}
 use Rattle.std.specs.List.{list_all}
-use Rattle.std.proofs.lemmas.List.Folds.{list_all-append}
-use Rattle.wit_model.specs.declared.model.Resolve.{Resolve}
-use Rattle.wit_model.specs.declared.model.InterfaceId.{InterfaceId}
+use Rattle.wit_model.specs.declared.model.{Resolve.Resolve, InterfaceId.InterfaceId}
 use Rattle.comp_meaning.specs.Follow.{Slot}
-use Rattle.encode_types.specs.Slots.{Standing, Adds, SlotAdded, SlotsGrow}
+use Rattle.encode_types.specs.{Slots.Standing, Slots.Adds, Slots.SlotAdded, Slots.SlotsGrow, Known.Around}
 use Rattle.wit_encode.specs.Instance.{standing_at, SlotsStand, is_slot_of, Contents, resources_in, standing_instances, scope_from, scope_with}
-use Rattle.encode_types.specs.Known.{Around}
 use Rattle.base_lemmas.proofs.Bools.{right_of as second_true}
-use Rattle.std.proofs.lemmas.Bool.{and_from as both}
 
 -- ---- one slot more
 

@@ -1,20 +1,14 @@
 -- What stays over the functions of an interface.
 use Rattle.std.proofs.Common.{◌≡◌, sym, subst, ap, ◌∙◌, ℕ, ◌&&◌, List, [], ◌∷◌, ◌++◌, Result, Ok, Err, OnOk, OnErr, Option}
 use Rattle.std.specs.List.{list_all}
-use Rattle.wit_model.specs.Text.{Text}
-use Rattle.wit_model.specs.Meaning.{FunctionMeaning}
-use Rattle.wit_model.specs.declared.model.Resolve.{Resolve}
-use Rattle.wit_model.specs.declared.model.Function.{Function}
-use Rattle.wit_model.specs.declared.model.«Type».{«Type» as ValueType}
+use Rattle.wit_model.specs.{Text.Text, Meaning.FunctionMeaning}
+use Rattle.wit_model.specs.declared.model.{Resolve.Resolve, Function.Function, «Type».«Type» as ValueType}
 use Rattle.comp_bytes.specs.Raw.{Declarations}
 use Rattle.comp_meaning.specs.Follow.{Slot}
 use Rattle.encode_types.specs.declared.maps.TypeEncodingMaps.{TypeEncodingMaps}
 use Rattle.wit_encode.specs.declared.interface.OpenInterface.{OpenInterface}
-use Rattle.encode_types.specs.Maps.{MapsAgree}
-use Rattle.encode_types.specs.Scope.{Scope, IsImportable, IsDeclared}
-use Rattle.encode_types.specs.Fits.{CanEncode}
+use Rattle.encode_types.specs.{Maps.MapsAgree, Scope.Scope, Scope.IsImportable, Scope.IsDeclared, Fits.CanEncode, Known.GrowsAround}
 use Rattle.wit_encode.specs.Instance.{SlotsStand, is_slot_of, resources_in, own_of, around_of, standing_instances, scope_from, contents_of, encoder_scope, ShowsFunction, with_functions, Continues, CanEncodeFunction}
-use Rattle.encode_types.specs.Known.{GrowsAround}
 use Rattle.encode_types.proofs.Around.{around-same, around-trans}
 
 -- ---- what is asked of a scope doesn't hang on the functions

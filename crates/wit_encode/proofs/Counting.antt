@@ -1,62 +1,34 @@
 -- How much is defined for functions, and by an instance type as a whole.
 use Rattle.std.proofs.Common.{◌≡◌, refl, sym, subst, ap, ◌∙◌, ℕ, ◌+◌, ◌<◌, ◌≤◌, Bool, true, false, ◌&&◌, ◌||◌, ◌⊎◌, inl, inr, List, [], ◌∷◌, ◌++◌, length, get_or, take, map, filter, cond, length-append, append_assoc, append-nil, count_by, Result, Ok, Err, OnOk, Option, Some, None, slice_get, arith}
-use Rattle.std.specs.Prelude.{nat_eq, IsPermutation, String}
-use Rattle.std.specs.declared.alloc.Global.{Global}
-use Rattle.std.specs.List.{Contains, IsDistinct, filter_map, cons_option}
-use Rattle.std.specs.Option.{option_map, option_map_or, option_and_then, is_some, is_none}
-use Rattle.std.specs.Set.{is_member, distinct_count}
-use Rattle.std.proofs.lemmas.Bool.{cond-true, or_cases as either-one, or_left as or-first, or_right as or-second}
-use Rattle.std.proofs.lemmas.Cmp.{nat_eq_equiv}
-use Rattle.std.proofs.lemmas.List.{take_more, take_all, map-append, length-map}
-use Rattle.std.proofs.lemmas.List.Elements.{filter_passes, All-contains}
-use Rattle.std.proofs.lemmas.List.Folds.{list_any-append}
-use Rattle.std.proofs.lemmas.List.Kept.{AllPairs-filter}
-use Rattle.std.proofs.lemmas.List.Sums.{length-filter, sum_by-append}
+use Rattle.std.proofs.lemmas.{Bool.cond-true, Bool.or_cases as either-one, Bool.or_left as or-first, Bool.or_right as or-second, Map.Keys.IsDistinct-from_apart}
+use Rattle.std.proofs.lemmas.{Cmp.nat_eq_equiv, List.Folds.list_any-append, List.Kept.AllPairs-filter, List.Sums.length-filter, List.Sums.sum_by-append}
+use Rattle.std.proofs.lemmas.{List.take_more, List.take_all, List.map-append, List.length-map, List.Elements.filter_passes, List.Elements.All-contains}
 use Rattle.std.proofs.lemmas.List.Sorted.{list_any-IsPermutation, IsPermutation-map, length_permutation, sum_by-IsPermutation}
-use Rattle.std.proofs.lemmas.Map.Keys.{IsDistinct-from_apart}
 use Rattle.std.proofs.lemmas.Map.Made.{length-from_keys}
-use Rattle.wit_model.specs.Text.{Text, text_of}
-use Rattle.wit_model.specs.Meaning.{TypeMeaning, FunctionMeaning}
-use Rattle.wit_model.specs.Lookup.{type_at}
-use Rattle.wit_model.specs.declared.model.Resolve.{Resolve}
-use Rattle.wit_model.specs.declared.model.InterfaceId.{InterfaceId}
-use Rattle.wit_model.specs.declared.model.TypeId.{TypeId}
-use Rattle.wit_model.specs.declared.model.TypeDef.{TypeDef}
-use Rattle.wit_model.specs.declared.model.Function.{Function}
+use Rattle.std.specs.{Prelude.nat_eq, Prelude.IsPermutation, Prelude.String, List.Contains, List.IsDistinct, List.filter_map, List.cons_option, Borrow.Bor}
+use Rattle.std.specs.{Option.option_map, Option.option_map_or, Option.option_and_then, Option.is_some, Option.is_none, Set.is_member, Set.distinct_count}
+use Rattle.std.specs.declared.alloc.Global.{Global}
+use Rattle.wit_model.specs.{Text.Text, Text.text_of, Meaning.TypeMeaning, Meaning.FunctionMeaning, Lookup.type_at, Lookup.place_of, Tree.Tree, Tree.Place}
+use Rattle.wit_model.specs.Valid.{IsValid}
+use Rattle.wit_model.specs.declared.model.{Resolve.Resolve, InterfaceId.InterfaceId, TypeId.TypeId, TypeDef.TypeDef, Function.Function}
 use Rattle.comp_bytes.specs.Raw.{Declaration, Declarations, from_list}
 use Rattle.comp_meaning.specs.Follow.{Slot, new_instance}
-use Rattle.wit_model.specs.Tree.{Tree, Place}
-use Rattle.wit_model.specs.Lookup.{place_of}
-use Rattle.wit_model.specs.Valid.{IsValid}
-use Rattle.wit_model.specs.declared.model.TypeOwner.TheVariants as owner
-use Rattle.encode_types.specs.Slots.{Pairs, Standing, tree}
-use Rattle.encode_types.proofs.Marking.{slots-none, slots-then, more-then, same-keys, one-key-more}
-use Rattle.wit_encode.proofs.Calls.{inner-at}
-use Rattle.wit_encode.proofs.ValueSlots.{IsPlain, inner-values, slots-counted}
-use Rattle.wit_encode.proofs.Mapped.{contains-filter, from-filter}
-use Rattle.wit_encode.proofs.DefinedTypes.{HeldKinds, defines-types}
-use Rattle.encode_types.specs.declared.key.FunctionKey.{FunctionKey}
-use Rattle.encode_types.specs.declared.maps.TypeEncodingMaps.{TypeEncodingMaps}
-use Rattle.wit_encode.specs.declared.interface.OpenInterface.{OpenInterface}
-use Rattle.wit_encode.specs.declared.interface.Foreign.{Foreign}
-use Rattle.encode_types.specs.Key.{IsKeyOf}
-use Rattle.encode_types.specs.Kinds.{has_definition}
-use Rattle.encode_types.specs.Plan.{foreign_owner}
-use Rattle.encode_types.specs.Codes.{IsTable, ListKey, names_of, lists_of}
-use Rattle.encode_types.specs.Maps.{IsOnce, IsKnown, LearnsOnly, MapsAgree}
-use Rattle.encode_types.specs.Room.{HoldsFor}
-use Rattle.encode_types.proofs.Lists.{none-in}
-use Rattle.std.specs.Borrow.{Bor}
-use Rattle.encode_types.specs.Scope.{Scope}
-use Rattle.encode_types.specs.MetKinds.{referred, ReachedFrom}
+use Rattle.encode_types.specs.{Slots.Pairs, Slots.Standing, Slots.tree, Kinds.has_definition, Plan.foreign_owner, MetKinds.referred, MetKinds.ReachedFrom}
+use Rattle.encode_types.specs.{Key.IsKeyOf, Room.HoldsFor, Scope.Scope}
+use Rattle.encode_types.specs.{Codes.IsTable, Codes.ListKey, Codes.names_of, Codes.lists_of, Maps.IsOnce, Maps.IsKnown, Maps.LearnsOnly, Maps.MapsAgree}
 use Rattle.encode_types.specs.Counts.{Definitions, names_defined, is_defined_by_name, is_defined_under_name, own_name, name_of_own, Shows, slots_of, named_slots, key_slots, AddsSlots, AddsKey, AddsTypes, AddsFunction}
 use Rattle.encode_types.specs.Distinct.{Key, key_of, key_view, are_same, KnowsKey, defined_under_names, AddsFunctions, DefinesKeys, DefinesTypes, value_slots, function_slots, is_function_type}
-use Rattle.wit_encode.specs.Instance.{own_of, contents_of, inner_contents, outer_slots, standing_at, SlotsStand, stands_inside, encoder_scope, definitions_with, held_in, opened, DeclaresFew, ShowsFunction}
-use Rattle.encode_types.proofs.Pairs.{pairs-map}
-use Rattle.encode_types.proofs.Tables.{kept-in, new-in, one-more-in}
+use Rattle.encode_types.proofs.{Marking.slots-none, Marking.slots-then, Marking.more-then, Marking.same-keys, Marking.one-key-more, Pairs.pairs-map}
+use Rattle.encode_types.proofs.{Lists.none-in, Tables.kept-in, Tables.new-in, Tables.one-more-in}
+use Rattle.wit_encode.proofs.{Calls.inner-at, Mapped.contains-filter, Mapped.from-filter}
+use Rattle.wit_encode.proofs.{ValueSlots.IsPlain, ValueSlots.inner-values, ValueSlots.slots-counted, DefinedTypes.HeldKinds, DefinedTypes.defines-types}
 use Rattle.wit_encode.proofs.HeldKeys.{same_equiv, HasList, alike, grown, shrunk, knows-same, knows-along, knows-none, keyed, stand-for-keys, slots-many}
+use Rattle.encode_types.specs.declared.{key.FunctionKey.FunctionKey, maps.TypeEncodingMaps.TypeEncodingMaps}
+use Rattle.wit_encode.specs.declared.interface.{OpenInterface.OpenInterface, Foreign.Foreign}
+use Rattle.wit_encode.specs.Instance.{own_of, contents_of, inner_contents, outer_slots, standing_at, SlotsStand, stands_inside, encoder_scope, definitions_with, held_in, opened, DeclaresFew, ShowsFunction}
 use Rattle.base_lemmas.proofs.Bools.{both_ways as both-ways, left_of as first_true, or_false as or-none, right_of as second_true}
 use Rattle.base_lemmas.proofs.Elements.{contains-map, map_from as from-map, member-there, there-member}
+use Rattle.wit_model.specs.declared.model.TypeOwner.TheVariants as owner
 
 -- ---- keys
 

@@ -1,14 +1,10 @@
 -- Custom sections behind the types and the exports of a component change nothing of what it exports.
 use Rattle.std.proofs.Common.{◌≡◌, refl, sym, ap, ◌∙◌, Bool, true, false, ◌&&◌, ◌==◌, List, [], ◌∷◌, ◌++◌, length, map, slice_get, Option, Some, None}
-use Rattle.std.specs.List.{list_all}
 use Rattle.std.proofs.lemmas.Bool.{true≢false}
+use Rattle.std.specs.List.{list_all}
 use Rattle.wit_model.specs.Text.{Text}
-use Rattle.comp_bytes.specs.Raw.{Declarations, Section}
-use Rattle.comp_bytes.specs.Reading.{◌>>=◌}
-use Rattle.comp_bytes.specs.Parts.{Part, sections_of_parts, with_part}
-use Rattle.comp_meaning.specs.Follow.{each, when}
-use Rattle.comp_meaning.specs.Reads.{Top, exported_types, steps, top_section}
-use Rattle.comp_meaning.specs.Rules.{distinct}
+use Rattle.comp_bytes.specs.{Raw.Declarations, Raw.Section, Reading.◌>>=◌, Parts.Part, Parts.sections_of_parts, Parts.with_part}
+use Rattle.comp_meaning.specs.{Follow.each, Follow.when, Reads.Top, Reads.exported_types, Reads.steps, Reads.top_section, Rules.distinct}
 use Rattle.wit_encode.specs.Packages.{is_custom}
 
 -- ---- sections

@@ -1,20 +1,15 @@
 -- What a declaration of a place is followed as, where its name is exported or imported.
 use Rattle.std.proofs.Common.{◌≡◌, refl, sym, ap, ◌∙◌, ℕ, true, not, List, Option, Some, None, slice_get}
 use Rattle.std.specs.List.{list_all}
-use Rattle.wit_model.specs.Text.{Text}
-use Rattle.wit_model.specs.Tree as tree_of_types
-use Rattle.wit_model.specs.Tree.{named}
-use Rattle.wit_model.specs.Meaning.{TypeMeaning}
-use Rattle.comp_bytes.specs.Raw.{ExternName}
-use Rattle.comp_bytes.specs.Reading.{◌>>=◌}
+use Rattle.wit_model.specs.{Text.Text, Tree.named, Meaning.TypeMeaning}
+use Rattle.comp_bytes.specs.{Raw.ExternName, Reading.◌>>=◌}
 use Rattle.comp_bytes.specs.declared.forms.ComponentTypeRef.{ComponentTypeRef}
-use Rattle.comp_bytes.specs.declared.forms.ComponentTypeRef.TheVariants as refs
 use Rattle.comp_meaning.specs.Follow.{Slot, declared_by, named_like, named_type}
-use Rattle.encode_types.specs.Slots.{tree}
-use Rattle.encode_types.specs.Resources.{is_resource_tree, is_resource_declaration}
-use Rattle.encode_types.specs.Scope.{Scope, DeclaresSlot, DeclaresResource}
-use Rattle.encode_types.specs.Standing.{SlotsStand, is_slot_of, standing_at}
+use Rattle.encode_types.specs.{Slots.tree, Scope.Scope, Scope.DeclaresSlot, Scope.DeclaresResource}
+use Rattle.encode_types.specs.{Resources.is_resource_tree, Resources.is_resource_declaration, Standing.SlotsStand, Standing.is_slot_of, Standing.standing_at}
 use Rattle.wit_encode.proofs.Strict.{bind, slot-at}
+use Rattle.wit_model.specs.Tree as tree_of_types
+use Rattle.comp_bytes.specs.declared.forms.ComponentTypeRef.TheVariants as refs
 
 -- The slot of the name, in a place with these slots.
 pub record DeclaredAs (scope : Scope) (slots : List Slot) (name : ExternName) (described : ComponentTypeRef) (d : Text × TypeMeaning) : Type 0 where

@@ -1,43 +1,24 @@
 -- Which value types a scope defines, from what has been defined call by call.
 use Rattle.std.proofs.Common.{◌≡◌, refl, sym, ap, subst, ◌∙◌, ℕ, suc, Bool, true, false, List, [], ◌∷◌, ◌++◌, map, Option, Some, None, arith, count_by}
-use Rattle.std.specs.Prelude.{nat_eq, not, cond, filter, IsPermutation, String, ◌||◌}
-use Rattle.std.specs.declared.alloc.Global.{Global}
-use Rattle.std.specs.List.{Contains, AllZip}
-use Rattle.std.specs.Option.{option_map_or, is_some}
-use Rattle.std.specs.Set.{is_member, distinct_count}
 use Rattle.std.proofs.lemmas.List.Elements.{Contains-append_right}
 use Rattle.std.proofs.lemmas.List.Sorted.{IsPermutation-refl, IsPermutation-trans, IsPermutation-sym, IsPermutation-cons, IsPermutation-middle, IsPermutation-append_left, Contains-permutation}
-use Rattle.wit_model.specs.Text.{Text, text_of}
-use Rattle.wit_model.specs.Tree.{Tree, Place, named}
-use Rattle.wit_model.specs.Rules.{is_named_kind, is_named_number, passes}
-use Rattle.wit_model.specs.Uses.{alias_target}
-use Rattle.wit_model.specs.Parts.{kind_numbers}
-use Rattle.wit_model.specs.Lookup.{type_at, place_of}
-use Rattle.wit_model.specs.Types.{number_tree, trees_of, tree_of_declaration, declared_by}
-use Rattle.wit_model.specs.Valid.{IsValid, named_kinds}
-use Rattle.wit_model.specs.declared.model.Resolve.{Resolve}
-use Rattle.wit_model.specs.declared.model.InterfaceId.{InterfaceId}
-use Rattle.wit_model.specs.declared.model.TypeId.{TypeId}
-use Rattle.wit_model.specs.declared.model.TypeDef.{TypeDef}
-use Rattle.wit_model.specs.declared.model.TypeDefKind.{TypeDefKind}
-use Rattle.wit_model.specs.declared.model.«Type».{«Type» as ValueType}
-use Rattle.wit_model.specs.declared.model.Function.{Function}
+use Rattle.std.specs.Prelude.{nat_eq, not, cond, filter, IsPermutation, String, ◌||◌}
+use Rattle.std.specs.{List.Contains, List.AllZip, Option.option_map_or, Option.is_some, Set.is_member, Set.distinct_count}
+use Rattle.std.specs.declared.alloc.Global.{Global}
+use Rattle.wit_model.specs.{Text.Text, Text.text_of, Uses.alias_target, Parts.kind_numbers}
+use Rattle.wit_model.specs.{Tree.Tree, Tree.Place, Tree.named, Types.number_tree, Types.trees_of, Types.tree_of_declaration, Types.declared_by}
+use Rattle.wit_model.specs.{Rules.is_named_kind, Rules.is_named_number, Rules.passes, Lookup.type_at, Lookup.place_of, Valid.IsValid, Valid.named_kinds}
+use Rattle.wit_model.specs.declared.model.{Resolve.Resolve, InterfaceId.InterfaceId, TypeDefKind.TypeDefKind, «Type».«Type» as ValueType, Function.Function}
+use Rattle.wit_model.specs.declared.model.{TypeId.TypeId, TypeDef.TypeDef}
 use Rattle.comp_bytes.specs.Raw.{Declarations}
 use Rattle.encode_types.specs.declared.maps.TypeEncodingMaps.{TypeEncodingMaps}
-use Rattle.encode_types.specs.Codes.{kind_code, lists_of, ListKey}
-use Rattle.encode_types.specs.Kinds.{kind_tree}
-use Rattle.encode_types.specs.Slots.{Pairs, Standing, tree}
-use Rattle.encode_types.specs.Maps.{MapsAgree, by_kind, by_number}
-use Rattle.encode_types.specs.Scope.{Scope}
-use Rattle.encode_types.specs.MetKinds.{AreMetKinds, referred}
+use Rattle.encode_types.specs.{Codes.kind_code, Codes.lists_of, Codes.ListKey, Maps.MapsAgree, Maps.by_kind, Maps.by_number}
+use Rattle.encode_types.specs.{Kinds.kind_tree, Scope.Scope, Distinct.defined_under_names, Distinct.value_slots, Distinct.targets_of, Distinct.DefinesTypes}
+use Rattle.encode_types.specs.{Slots.Pairs, Slots.Standing, Slots.tree, MetKinds.AreMetKinds, MetKinds.referred}
 use Rattle.encode_types.specs.Counts.{Definitions, Marked, slots_of, named_slots, other_slots, kind_slots, names_defined, is_defined_by_name, IsTarget, AddsSlots}
-use Rattle.encode_types.specs.Distinct.{defined_under_names, value_slots, targets_of, DefinesTypes}
 use Rattle.encode_types.proofs.Encoding.{tabled}
-use Rattle.wit_encode.proofs.Validity.{valid-unnamed, valid-layered}
-use Rattle.wit_encode.proofs.Reached.{part-at}
-use Rattle.wit_encode.proofs.ValueSlots.{IsPlain}
-use Rattle.base_lemmas.proofs.Bools.{right_of as second_true}
-use Rattle.base_lemmas.proofs.Elements.{contains-one, member-there as slot-there, there-member as has-slot}
+use Rattle.wit_encode.proofs.{Validity.valid-unnamed, Validity.valid-layered, Reached.part-at, ValueSlots.IsPlain}
+use Rattle.base_lemmas.proofs.{Bools.right_of as second_true, Elements.contains-one, Elements.member-there as slot-there, Elements.there-member as has-slot}
 use Rattle.wit_model.proofs.ValidLemmas.{type_passes}
 
 -- ---- lists of slots

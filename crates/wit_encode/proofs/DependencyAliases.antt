@@ -1,32 +1,23 @@
 -- The aliases in the component type of an interface.
 use Rattle.std.proofs.Common.{◌≡◌, refl, sym, subst, ap, ◌∙◌, ℕ, zero, suc, ◌⊎◌, inl, inr, nat_cmp, nat_eq, Bool, true, false, List, [], ◌∷◌, ◌++◌, append_assoc, append-nil, map, Option, Some, None, slice_get, arith}
-use Rattle.std.specs.BTreeMap.{insert_entry, is_at}
-use Rattle.std.specs.List.{Contains, IsDistinct}
-use Rattle.std.proofs.lemmas.Cmp.{nat_eq_equiv}
-use Rattle.std.proofs.lemmas.List.{map-append}
-use Rattle.std.proofs.lemmas.List.Elements.{Contains-append_cases, Contains-append_left, Contains-append_right}
-use Rattle.std.proofs.lemmas.Map.Keys.{IsDistinct-push}
+use Rattle.std.proofs.lemmas.{Cmp.nat_eq_equiv, List.Elements.Contains-append_cases, List.Elements.Contains-append_left, List.Elements.Contains-append_right}
+use Rattle.std.proofs.lemmas.{List.map-append, Map.Keys.IsDistinct-push}
+use Rattle.std.specs.{BTreeMap.insert_entry, BTreeMap.is_at, List.Contains, List.IsDistinct}
 use Rattle.wit_model.specs.Lookup.{interface_at}
-use Rattle.wit_model.specs.declared.model.Resolve.{Resolve}
-use Rattle.wit_model.specs.declared.model.Interface.{Interface}
-use Rattle.wit_model.specs.declared.model.InterfaceId.{InterfaceId}
-use Rattle.wit_model.specs.declared.model.«Type».{«Type» as ValueType}
+use Rattle.wit_model.specs.declared.model.{Resolve.Resolve, Interface.Interface, InterfaceId.InterfaceId, «Type».«Type» as ValueType}
 use Rattle.wit_model.proofs.Elements.{contains-get, none-in}
-use Rattle.comp_bytes.specs.Raw.{Declaration, Declarations, append, from_list}
-use Rattle.comp_bytes.specs.Held.{type_slots_of}
-use Rattle.comp_bytes.specs.declared.forms.ComponentTypeRef.TheVariants as refs
+use Rattle.comp_bytes.specs.{Raw.Declaration, Raw.Declarations, Raw.append, Raw.from_list, Held.type_slots_of}
 use Rattle.encode_names.specs.WorldNames.{name_of_interface}
 use Rattle.encode_reach.specs.Reach.{reached_in_order}
 use Rattle.encode_types.specs.Aliases.{AliasesMet, IsMetElsewhere}
 use Rattle.encode_types.specs.Known.{Aliased, AreAliases, Around, IsAlias, alias_declared, known_instance, known_slot, with_alias, with_aliases}
 use Rattle.encode_types.proofs.Planning.{lacks-member}
-use Rattle.wit_encode.specs.Dependencies.{HasImported, ImportsTypes, with_export}
+use Rattle.wit_encode.specs.{Dependencies.HasImported, Dependencies.ImportsTypes, Dependencies.with_export, Instance.EncodesInterface}
 use Rattle.wit_encode.specs.DependencyAliases.{HasAliased, HasAliases, IsAliasAmong, IsAskedFor, IsMetAmong, IsMetByWhole, alias_in, aliases_declared, export_alias}
-use Rattle.wit_encode.specs.Instance.{EncodesInterface}
-use Rattle.wit_encode.proofs.Imported.{other-slot, at-same}
-use Rattle.wit_encode.proofs.Importing.{new-slot}
+use Rattle.wit_encode.proofs.{Imported.other-slot, Imported.at-same, Importing.new-slot}
 use Rattle.base_lemmas.proofs.Elements.{contains-later, contains-one, last_of as one-contained, map_from as from-map}
 use Rattle.base_lemmas.proofs.Numbers.{none-twice}
+use Rattle.comp_bytes.specs.declared.forms.ComponentTypeRef.TheVariants as refs
 
 -- ---- one declaration more
 

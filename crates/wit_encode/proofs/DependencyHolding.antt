@@ -1,39 +1,24 @@
 -- The component type of an interface: how much is held and defined after each import, and why a call has no room.
 use Rattle.std.proofs.Common.{◌≡◌, refl, sym, subst, ap, ◌∙◌, ℕ, ◌+◌, ◌≤◌, ◌⊎◌, inl, inr, nat_cmp, Bool, true, false, ◌&&◌, List, [], ◌∷◌, ◌++◌, length, length-append, Some, is_some, arith}
-use Rattle.std.specs.BTreeMap.{insert_entry}
-use Rattle.std.specs.List.{AllZip, Contains}
-use Rattle.wit_model.specs.Lookup.{interface_at}
-use Rattle.wit_model.specs.declared.model.Resolve.{Resolve}
-use Rattle.wit_model.specs.declared.model.Interface.{Interface}
-use Rattle.wit_model.specs.declared.model.InterfaceId.{InterfaceId}
-use Rattle.wit_model.specs.declared.model.Function.{Function}
-use Rattle.wit_model.specs.declared.model.«Type».{«Type» as ValueType}
-use Rattle.wit_model.specs.Text.{Text}
-use Rattle.comp_bytes.specs.Raw.{Declaration, Declarations, ExternName, append, declaration_count, from_list}
-use Rattle.comp_bytes.specs.Held.{fits_counts, type_slots_of}
-use Rattle.comp_bytes.specs.Fits.{fits_name}
-use Rattle.comp_bytes.specs.declared.forms.ComponentTypeRef.TheVariants as refs
-use Rattle.encode_reach.specs.Reach.{reached_in_order}
-use Rattle.encode_types.specs.Distinct.{is_value_type, is_function_type}
-use Rattle.encode_types.specs.Known.{Around, GrowsAround, known_instance}
-use Rattle.encode_types.specs.Room.{limit}
-use Rattle.encode_names.specs.WorldNames.{name_of_interface}
-use Rattle.wit_encode.specs.Dependencies.{HasImported, ImportsTypes, with_export}
-use Rattle.wit_encode.specs.DependencyAliases.{HasImportAliases}
-use Rattle.wit_encode.proofs.DependencyAliases.{export-aliased}
-use Rattle.wit_encode.specs.DependencyCounts.{DefinesComponent, DefinesImports, DefinesTypesOf}
-use Rattle.wit_encode.specs.DependencyRoom.{HoldsImports, LacksImport, its_types, its_path, a_place, ImportsLackRoom, an_interface, a_path, too_many, ComponentLacksRoom, of_imports, of_interface, of_path, TypesLackRoom}
-use Rattle.wit_encode.specs.Encoders.{InterfaceLacksRoom}
-use Rattle.wit_encode.specs.Instance.{EncodesInterface, EncodesPart, LacksInstanceRoom, whole_interface, types_alone_of}
-use Rattle.wit_encode.specs.Worlds.{brought_numbers, instances_declared}
-use Rattle.wit_encode.specs.Places.{are_beside}
-use Rattle.wit_encode.proofs.Places.{part-beside}
 use Rattle.std.proofs.lemmas.Bool.{eq-eqb}
+use Rattle.std.specs.{BTreeMap.insert_entry, List.AllZip, List.Contains}
+use Rattle.wit_model.specs.{Lookup.interface_at, Text.Text}
+use Rattle.wit_model.specs.declared.model.{Resolve.Resolve, Interface.Interface, InterfaceId.InterfaceId, Function.Function, «Type».«Type» as ValueType}
+use Rattle.comp_bytes.specs.Raw.{Declaration, Declarations, ExternName, append, declaration_count, from_list}
+use Rattle.comp_bytes.specs.{Held.fits_counts, Held.type_slots_of, Fits.fits_name}
+use Rattle.encode_reach.specs.Reach.{reached_in_order}
+use Rattle.encode_types.specs.{Distinct.is_value_type, Distinct.is_function_type, Known.Around, Known.GrowsAround, Known.known_instance, Room.limit}
+use Rattle.encode_names.specs.WorldNames.{name_of_interface}
+use Rattle.wit_encode.specs.{Dependencies.HasImported, Dependencies.ImportsTypes, Dependencies.with_export, Worlds.brought_numbers, Worlds.instances_declared}
+use Rattle.wit_encode.specs.{DependencyAliases.HasImportAliases, Places.are_beside}
+use Rattle.wit_encode.specs.{DependencyCounts.DefinesComponent, DependencyCounts.DefinesImports, DependencyCounts.DefinesTypesOf, Encoders.InterfaceLacksRoom}
+use Rattle.wit_encode.specs.DependencyRoom.{HoldsImports, LacksImport, its_types, its_path, a_place, ImportsLackRoom, an_interface, a_path, too_many, ComponentLacksRoom, of_imports, of_interface, of_path, TypesLackRoom}
+use Rattle.wit_encode.specs.Instance.{EncodesInterface, EncodesPart, LacksInstanceRoom, whole_interface, types_alone_of}
+use Rattle.wit_encode.proofs.{DependencyAliases.export-aliased, Refusing.counts-refused, Refusing.outer-slots-few, WorldHolding.brought-some}
+use Rattle.wit_encode.proofs.Places.{part-beside}
 use Rattle.wit_encode.proofs.PlacedInstances.{grown-few, grown-listed, one-behind, placed-counted, placed-few, placed-instances}
-use Rattle.wit_encode.proofs.Refusing.{counts-refused, outer-slots-few}
-use Rattle.wit_encode.proofs.WorldHolding.{brought-some}
-use Rattle.base_lemmas.proofs.Elements.{zip-append}
-use Rattle.base_lemmas.proofs.Options.{there as some-of}
+use Rattle.base_lemmas.proofs.{Elements.zip-append, Options.there as some-of}
+use Rattle.comp_bytes.specs.declared.forms.ComponentTypeRef.TheVariants as refs
 
 -- ---- one import more
 

@@ -1,50 +1,29 @@
 -- An interface that has no room in a component type of its own weighs more than the largest number of 32 bits.
 use Rattle.std.proofs.Common.{◌≡◌, refl, sym, subst, ap, ℕ, zero, suc, ◌+◌, ◌<◌, ◌≤◌, ◌==◌, inl, inr, Bool, true, false, not, nat_lt, List, [], ◌∷◌, Option, Some, None, is_some, arith}
-use Rattle.std.specs.Prelude.{sum_by, AllPairs, flat_map}
-use Rattle.std.specs.List.{AllByRecursion, Contains, IsDistinct, filter}
-use Rattle.std.specs.Option.{option_map_or}
-use Rattle.std.proofs.lemmas.Bool.{ltb-true, ltb-false}
+use Rattle.std.proofs.lemmas.{Bool.ltb-true, Bool.ltb-false, List.Filters.sum_by-filter_both, List.Kept.AllPairs-cons, List.Kept.AllPairs-filter}
 use Rattle.std.proofs.lemmas.List.Elements.{Contains-append_left, Contains-get_or, All-contains, filter_passes}
-use Rattle.std.proofs.lemmas.List.Filters.{sum_by-filter_both}
-use Rattle.std.proofs.lemmas.List.Kept.{AllPairs-cons, AllPairs-filter}
 use Rattle.std.proofs.lemmas.List.Sums.{sum_by-cons}
+use Rattle.std.specs.{Prelude.sum_by, Prelude.AllPairs, Prelude.flat_map, List.AllByRecursion, List.Contains, List.IsDistinct, List.filter}
+use Rattle.std.specs.Option.{option_map_or}
 use Rattle.indexmap.specs.IndexMap.{values}
-use Rattle.wit_model.specs.Lookup.{interface_at, interface_path, type_at}
-use Rattle.wit_model.specs.Parts.{same_owner}
-use Rattle.wit_model.specs.Rules.{interface_type_numbers, owner_in_range}
-use Rattle.wit_model.specs.Uses.{has, direct_deps, once}
-use Rattle.wit_model.specs.Valid.{IsValid, as_interface, numbers_in_range}
+use Rattle.wit_model.specs.{Lookup.interface_at, Lookup.interface_path, Lookup.type_at, Valid.IsValid, Valid.as_interface, Valid.numbers_in_range}
+use Rattle.wit_model.specs.{Parts.same_owner, Rules.interface_type_numbers, Rules.owner_in_range, Uses.has, Uses.direct_deps, Uses.once}
 use Rattle.wit_model.specs.Weight.{unit_of, number_weight, function_weight, instance_numbers, instance_weight, types_instance_weight, whole_instance_weight, brought_into, path_texts, imports_of_interface, interface_weight}
-use Rattle.wit_model.specs.declared.model.Resolve.{Resolve}
-use Rattle.wit_model.specs.declared.model.Interface.{Interface}
-use Rattle.wit_model.specs.declared.model.InterfaceId.{InterfaceId}
-use Rattle.wit_model.specs.declared.model.TypeDef.{TypeDef}
-use Rattle.wit_model.specs.declared.model.TypeId.{TypeId}
-use Rattle.wit_model.specs.declared.model.TypeOwner.{TypeOwner}
-use Rattle.wit_model.specs.declared.model.TypeOwner.TheVariants as owner
+use Rattle.wit_model.specs.declared.model.{Resolve.Resolve, Interface.Interface, InterfaceId.InterfaceId, TypeDef.TypeDef, TypeId.TypeId, TypeOwner.TypeOwner}
 use Rattle.comp_bytes.specs.Fits.{fits_name}
 use Rattle.encode_shown.specs.Views.{AreReached, AreUsed}
-use Rattle.encode_shown.proofs.Reach.{Chain, chain-reached, further, used-chain}
-use Rattle.encode_types.specs.MetKinds.{ReachedFrom, referred}
-use Rattle.encode_types.specs.Room.{IsUnfit, LacksOne, a_type, a_request, limit}
-use Rattle.encode_types.proofs.Rooms.{are-different, counts-few}
-use Rattle.encode_types.proofs.Lists.{none-in}
-use Rattle.wit_model.proofs.OnePath.{found-in}
+use Rattle.encode_shown.proofs.{Reach.Chain, Reach.chain-reached, Reach.further, Reach.used-chain, Dependencies.distinct-front}
+use Rattle.encode_types.specs.{MetKinds.ReachedFrom, MetKinds.referred, Room.IsUnfit, Room.LacksOne, Room.a_type, Room.a_request, Room.limit}
+use Rattle.encode_types.proofs.{Rooms.are-different, Rooms.counts-few, Lists.none-in}
+use Rattle.wit_model.proofs.{OnePath.found-in, Elements.has-contains, Elements.contains-has, ValidLemmas.type_passes}
 use Rattle.encode_names.specs.WorldNames.{name_of_interface}
 use Rattle.wit_encode.specs.DependencyRoom.{TypesLackRoom, ImportsLackRoom, an_interface, a_path, too_many, ComponentLacksRoom, of_imports, of_interface, of_path, LackingComponentsAreHeavy}
 use Rattle.wit_encode.specs.WorldRoom.{IsNamedTypeOf}
-use Rattle.wit_encode.proofs.Mapped.{from-filter}
-use Rattle.wit_encode.proofs.ImportLoop.{path-in-range}
-use Rattle.wit_encode.proofs.Reached.{IsOwner, interface-owner}
-use Rattle.wit_encode.proofs.UsedPaths.{used-path}
+use Rattle.wit_encode.proofs.{Mapped.from-filter, ImportLoop.path-in-range, Reached.IsOwner, Reached.interface-owner, UsedPaths.used-path}
 use Rattle.wit_encode.proofs.Weighing.{Differ, at-least, contains-once, counted-least, counted-once, lacking-heavy, one-of, part-heavy-of, sum-among}
 use Rattle.wit_encode.proofs.WorldWeighing.{each, each-least, long, name-fits, number-least, suffix-long, written-long}
-use Rattle.wit_model.proofs.Elements.{has-contains, contains-has}
-use Rattle.encode_shown.proofs.Dependencies.{distinct-front}
-use Rattle.base_lemmas.proofs.Bools.{right_of as second_true}
-use Rattle.base_lemmas.proofs.Elements.{contains-map}
-use Rattle.base_lemmas.proofs.Numbers.{same-number}
-use Rattle.wit_model.proofs.ValidLemmas.{type_passes}
+use Rattle.base_lemmas.proofs.{Bools.right_of as second_true, Elements.contains-map, Numbers.same-number}
+use Rattle.wit_model.specs.declared.model.TypeOwner.TheVariants as owner
 
 -- ---- what is reached
 

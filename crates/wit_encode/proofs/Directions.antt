@@ -1,29 +1,20 @@
 -- Imports and exports of a component type, in order: what declarations add to them, and that no import stands behind an export.
 use Rattle.std.proofs.Common.{◌≡◌, refl, sym, subst, ap, ◌∙◌, append-nil, append_assoc, ℕ, zero, suc, ◌+◌, ◌⊎◌, inl, inr, List, [], ◌∷◌, ◌++◌, map, Option, Some, None, slice_get, length, length-append, arith}
-use Rattle.std.specs.Prelude.{not, ◌==◌}
-use Rattle.std.specs.List.{list_any}
-use Rattle.std.proofs.lemmas.List.{map-append}
-use Rattle.std.proofs.lemmas.Option.{same_Some as some-same}
+use Rattle.std.proofs.lemmas.{List.map-append, Option.same_Some as some-same}
+use Rattle.std.specs.{Prelude.not, Prelude.◌==◌, List.list_any}
 use Rattle.wit_model.specs.Tree.{Place}
-use Rattle.wit_model.specs.declared.model.Resolve.{Resolve}
-use Rattle.wit_model.specs.declared.model.World.{World}
+use Rattle.wit_model.specs.declared.model.{Resolve.Resolve, World.World}
 use Rattle.comp_bytes.specs.declared.forms.ComponentTypeRef.{ComponentTypeRef}
-use Rattle.comp_bytes.specs.declared.forms.ComponentTypeRef.TheVariants as refs
-use Rattle.comp_bytes.specs.Raw.{Alias, Declaration, Declarations, ExternName, append}
-use Rattle.comp_bytes.specs.Reading.{◌>>=◌}
+use Rattle.comp_bytes.specs.{Raw.Alias, Raw.Declaration, Raw.Declarations, Raw.ExternName, Raw.append, Reading.◌>>=◌}
 use Rattle.comp_meaning.specs.Follow.{Direction, import_, export_, Key, Scope, Seen, Shown, Slot, View, component_step, component_steps, definition, exported_slot, flat, function_in, function_signature, in_scope, interface_of, key_of, key_text, named_type, place_of, see, see_function, see_instance, see_type, used_view, when}
 use Rattle.comp_meaning.proofs.FollowLemmas.{provided_is as unprovided}
-use Rattle.encode_types.specs.Known.{Around}
-use Rattle.encode_types.specs.View.{Told}
+use Rattle.encode_types.specs.{Known.Around, View.Told}
 use Rattle.encode_names.specs.WorldSteps.{Entry, Entries, declared_towards, with_entry}
-use Rattle.wit_encode.specs.Encoders.{declared_after}
-use Rattle.wit_encode.specs.Places.{GrowsBy}
-use Rattle.wit_encode.specs.WholeWorlds.{direction_of, directions_of, imports_first}
-use Rattle.wit_encode.specs.WorldAliases.{KeepsListed}
-use Rattle.wit_encode.specs.WorldItems.{IsNext}
-use Rattle.wit_encode.specs.Worlds.{BeginsWith, KeepsTold, direction_at}
+use Rattle.wit_encode.specs.{Encoders.declared_after, WholeWorlds.direction_of, WholeWorlds.directions_of, WholeWorlds.imports_first, WorldAliases.KeepsListed}
+use Rattle.wit_encode.specs.{Places.GrowsBy, WorldItems.IsNext, Worlds.BeginsWith, Worlds.KeepsTold, Worlds.direction_at}
 use Rattle.wit_encode.proofs.Steps.{unbind}
 use Rattle.base_lemmas.proofs.Lists.{map_of_map}
+use Rattle.comp_bytes.specs.declared.forms.ComponentTypeRef.TheVariants as refs
 
 -- ---- one declaration more
 

@@ -1,57 +1,30 @@
 -- An interface meets types of its own, and types of interfaces that it uses: where these stand around, all of it can be encoded.
 use Rattle.std.proofs.Common.{◌≡◌, refl, sym, subst, ap, ◌∙◌, ℕ, suc, Bool, true, false, not, cond, ◌&&◌, ◌||◌, ◌==◌, List, [], ◌∷◌, map, length, option_to_list, Option, Some, None, String, is_some, arith}
-use Rattle.std.proofs.lemmas.Bool.{lt-ltb, and_from as both}
-use Rattle.std.proofs.lemmas.Simd.{map-map}
+use Rattle.std.proofs.lemmas.{Bool.lt-ltb, Bool.and_from as both, Simd.map-map, Option.same_Some as some-same}
 use Rattle.std.specs.declared.alloc.Global.{Global}
-use Rattle.std.specs.List.{Contains, list_all}
-use Rattle.std.specs.Option.{option_map_or}
+use Rattle.std.specs.{List.Contains, List.list_all, Option.option_map_or, Prelude.option_map, Prelude.option_and_then, Str.bytes_eq, HashMap.get_by_text}
 use Rattle.std.specs.Map.{lookup}
-use Rattle.std.specs.Prelude.{option_map, option_and_then}
-use Rattle.std.specs.Str.{bytes_eq}
-use Rattle.std.specs.HashMap.{get_by_text}
 use Rattle.indexmap.specs.IndexMap.{values}
-use Rattle.wit_model.specs.Text.{Text, text_of}
-use Rattle.wit_model.specs.Lookup.{type_at, interface_at}
+use Rattle.wit_model.specs.{Text.Text, Text.text_of, Valid.IsValid, Valid.numbers_in_range, Valid.order_of_types, Valid.is_place, Valid.functions_of_interface}
+use Rattle.wit_model.specs.{Lookup.type_at, Lookup.interface_at, Parts.same_owner}
 use Rattle.wit_model.specs.Meant.{type_meaning, type_meaning_at, interface_meaning, interface_meaning_at, no_interface, no_type}
 use Rattle.wit_model.specs.Uses.{alias_target, owner_interface, used_interface, interface_used_by, direct_deps, has}
-use Rattle.wit_model.specs.Parts.{same_owner}
 use Rattle.wit_model.specs.Rules.{in_list, is_id, is_listed, is_listed_in_interface, is_named_of, is_use, passes, package_number, interface_type_numbers, function_in_range}
-use Rattle.wit_model.specs.Valid.{IsValid, numbers_in_range, order_of_types, is_place, functions_of_interface}
-use Rattle.wit_model.specs.declared.model.Resolve.{Resolve}
-use Rattle.wit_model.specs.declared.model.Interface.{Interface}
-use Rattle.wit_model.specs.declared.model.InterfaceId.{InterfaceId}
-use Rattle.wit_model.specs.declared.model.Function.{Function}
-use Rattle.wit_model.specs.declared.model.TypeDef.{TypeDef}
-use Rattle.wit_model.specs.declared.model.TypeId.{TypeId}
+use Rattle.wit_model.specs.declared.model.{Resolve.Resolve, TypeDef.TypeDef, TypeId.TypeId}
+use Rattle.wit_model.specs.declared.model.{Interface.Interface, InterfaceId.InterfaceId, Function.Function, TypeOwner.TypeOwner, «Type».«Type» as ValueType}
 use Rattle.wit_encode.specs.declared.interface.Foreign.{Foreign}
-use Rattle.wit_model.specs.declared.model.TypeOwner.{TypeOwner}
+use Rattle.wit_model.proofs.{Shown.deps_pass, OnePath.found-in, OnePath.interface-passes as interface_passes, Elements.contains-has, Elements.has-contains}
+use Rattle.wit_model.proofs.PartsLemmas.{owner_same as same-owner}
+use Rattle.comp_bytes.specs.Raw.{Declarations}
+use Rattle.encode_types.specs.{KeyLaws.text_same, Resources.is_met_owner, Fits.CanEncode, Scope.Scope, Known.UsedStand, Plan.Reaches, Plan.itself, Plan.through}
+use Rattle.wit_encode.specs.Instance.{CanEncodeFunction, CanEncodeInterface, encoder_scope, opened, keyed, standing_instances, around_at}
+use Rattle.wit_encode.specs.OwnerScope.{IsScopeOf, IsUsedBy, UsesStand, IsTypeOf, InterfaceUses, functions_of}
+use Rattle.wit_encode.proofs.{Naming.one-home, Naming.valid-listed, Naming.names-agree, Opening.opened-sound, Opening.opened-around}
+use Rattle.wit_encode.proofs.{OwnerScope.types_encode, OwnerScope.types_use, OwnerScope.functions_encode, OwnerScope.functions_use, Validity.valid-layered}
+use Rattle.base_lemmas.proofs.{Bools.left_of as first_true, Bools.right_of as second_true, Options.there as some-of}
+use Rattle.base_lemmas.proofs.{Elements.all-contained, Elements.contains-map, Elements.last_of as one-contained, Numbers.equal as equal-numbers}
 use Rattle.wit_model.specs.declared.model.TypeOwner.TheVariants as owner
 use Rattle.wit_model.specs.declared.model.«Type».TheVariants as ty
-use Rattle.wit_model.proofs.Shown.{deps_pass}
-use Rattle.comp_bytes.specs.Raw.{Declarations}
-use Rattle.encode_types.specs.KeyLaws.{text_same}
-use Rattle.encode_types.specs.Resources.{is_met_owner}
-use Rattle.encode_types.specs.Fits.{CanEncode}
-use Rattle.encode_types.specs.Scope.{Scope}
-use Rattle.encode_types.specs.Known.{UsedStand}
-use Rattle.wit_encode.specs.Instance.{CanEncodeFunction, CanEncodeInterface, encoder_scope, opened, keyed, standing_instances, around_at}
-use Rattle.wit_model.specs.declared.model.«Type».{«Type» as ValueType}
-use Rattle.encode_types.specs.Plan.{Reaches, itself, through}
-use Rattle.wit_model.proofs.OnePath.{found-in}
-use Rattle.wit_encode.proofs.Naming.{one-home, valid-listed}
-use Rattle.wit_encode.specs.OwnerScope.{IsScopeOf, IsUsedBy, UsesStand, IsTypeOf, InterfaceUses, functions_of}
-use Rattle.wit_encode.proofs.OwnerScope.{types_encode, types_use, functions_encode, functions_use}
-use Rattle.wit_encode.proofs.Naming.{names-agree}
-use Rattle.wit_encode.proofs.Opening.{opened-sound, opened-around}
-use Rattle.wit_encode.proofs.Validity.{valid-layered}
-use Rattle.base_lemmas.proofs.Bools.{left_of as first_true, right_of as second_true}
-use Rattle.base_lemmas.proofs.Elements.{all-contained, contains-map, last_of as one-contained}
-use Rattle.base_lemmas.proofs.Numbers.{equal as equal-numbers}
-use Rattle.base_lemmas.proofs.Options.{there as some-of}
-use Rattle.std.proofs.lemmas.Option.{same_Some as some-same}
-use Rattle.wit_model.proofs.Elements.{contains-has, has-contains}
-use Rattle.wit_model.proofs.OnePath.{interface-passes as interface_passes}
-use Rattle.wit_model.proofs.PartsLemmas.{owner_same as same-owner}
 
 -- ---- look-ups
 

@@ -1,60 +1,35 @@
 -- The types that are exported as those of an interface are encoded, one for each, in order.
 use Rattle.std.proofs.Common.{◌≡◌, refl, sym, subst, ap, ◌∙◌, ℕ, zero, suc, ◌+◌, ◌<◌, ◌≤◌, ◌⊎◌, inl, inr, Bool, true, false, ◌&&◌, cond, ◌==◌, nat_eq, List, [], ◌∷◌, ◌++◌, append-nil, take, length, get_or, map, filter_map, slice_get, Some, None, String, string_eq, string_bytes, nat_lt, option_map, option_and_then, option_to_list, arith}
-use Rattle.std.specs.declared.alloc.Global.{Global}
-use Rattle.std.specs.Prelude.{AllPairs, is_none, IsPermutation}
-use Rattle.std.specs.List.{Contains, IsDistinct, AllByRecursion, list_all}
-use Rattle.std.specs.Str.{bytes_eq}
-use Rattle.std.specs.Map.{keys_of}
-use Rattle.std.specs.Option.{option_map_or}
-use Rattle.std.proofs.lemmas.Cmp.{nat_list_eq_equiv, nat_eq_equiv}
-use Rattle.std.proofs.lemmas.List.Sorted.{IsPermutation-sym, Contains-permutation}
-use Rattle.std.proofs.lemmas.Option.{slice_get_within, get_or_from_slice_get, same_Some as same-some}
-use Rattle.std.proofs.lemmas.List.{take_more, take_all, take-map, length-map}
+use Rattle.std.proofs.lemmas.{Cmp.nat_list_eq_equiv, Cmp.nat_eq_equiv, Option.slice_get_within, Option.get_or_from_slice_get, Option.same_Some as same-some}
+use Rattle.std.proofs.lemmas.{List.Sorted.IsPermutation-sym, List.Sorted.Contains-permutation, List.take_more, List.take_all, List.take-map, List.length-map}
 use Rattle.std.proofs.Math.ListN.{get_or-map}
 use Rattle.std.proofs.lemmas.List.Elements.{Contains-append_left, Contains-append_right, Contains-append_cases, Contains-push, Contains-push_cases}
+use Rattle.std.specs.declared.alloc.Global.{Global}
+use Rattle.std.specs.{Prelude.AllPairs, Prelude.is_none, Prelude.IsPermutation, List.Contains, List.IsDistinct, List.AllByRecursion, List.list_all, Map.keys_of}
+use Rattle.std.specs.{Str.bytes_eq, Option.option_map_or}
 use Rattle.indexmap.specs.IndexMap.{values}
 use Rattle.wit_model.specs.Text.{Text, text_of, text_eq}
-use Rattle.wit_model.specs.Lookup.{type_at, interface_at}
-use Rattle.wit_model.specs.Types.{number_of}
-use Rattle.wit_model.specs.Meaning.{TypeMeaning}
-use Rattle.wit_model.specs.Meant.{interface_meaning, interface_meaning_at, no_interface, type_meaning_at}
+use Rattle.wit_model.specs.{Lookup.type_at, Lookup.interface_at, Lookup.resource_of, Rules.interface_type_numbers, Rules.function_stays, Rules.is_member}
+use Rattle.wit_model.specs.{Types.number_of, Meant.interface_meaning, Meant.interface_meaning_at, Meant.no_interface, Meant.type_meaning_at, Uses.direct_deps}
+use Rattle.wit_model.specs.{Meaning.TypeMeaning, Valid.IsValid, Valid.as_interface, Valid.functions_of_interface, Valid.function_names, Valid.owners}
 use Rattle.wit_model.specs.Parts.{function_types, function_numbers, met_by, met_of, used_by_function, has_owner}
-use Rattle.wit_model.specs.Uses.{direct_deps}
-use Rattle.wit_model.specs.Lookup.{resource_of}
-use Rattle.wit_model.specs.Rules.{interface_type_numbers, function_stays, is_member}
-use Rattle.wit_model.specs.Valid.{IsValid, as_interface, functions_of_interface, function_names, owners}
-use Rattle.wit_model.specs.declared.model.Resolve.{Resolve}
-use Rattle.wit_model.specs.declared.model.Interface.{Interface}
-use Rattle.wit_model.specs.declared.model.InterfaceId.{InterfaceId}
-use Rattle.wit_model.specs.declared.model.Function.{Function}
-use Rattle.wit_model.specs.declared.model.TypeDef.{TypeDef}
-use Rattle.wit_model.specs.declared.model.TypeId.{TypeId}
-use Rattle.wit_model.specs.declared.model.«Type».{«Type» as ValueType}
-use Rattle.wit_model.specs.declared.model.«Type».TheVariants as ty
-use Rattle.wit_model.specs.declared.model.TypeOwner.{TypeOwner}
-use Rattle.wit_model.proofs.Owners.{function_home}
+use Rattle.wit_model.specs.declared.model.{Resolve.Resolve, TypeDef.TypeDef, TypeId.TypeId}
+use Rattle.wit_model.specs.declared.model.{Interface.Interface, InterfaceId.InterfaceId, Function.Function, «Type».«Type» as ValueType, TypeOwner.TypeOwner}
+use Rattle.wit_model.proofs.{Owners.function_home, Elements.contains-filter_map, Elements.contains-get, Elements.contains-flat, Elements.has-contains}
+use Rattle.wit_model.proofs.{OnePath.interface-passes as interface_passes, PartsLemmas.owner_same as same-owner}
 use Rattle.encode_types.specs.declared.maps.TypeEncodingMaps.{TypeEncodingMaps}
-use Rattle.encode_types.specs.Kinds.{parts_of}
+use Rattle.encode_types.specs.{Kinds.parts_of, Plan.foreign_owner, Plan.Meets, Plan.at_once, Plan.further, Plan.MetFrom, Scope.Scope}
 use Rattle.encode_types.specs.Maps.{IsKnown, IsReady, IsOnce, MapsGrow, LearnsOnly, by_number}
-use Rattle.encode_types.specs.Plan.{foreign_owner, Meets, at_once, further, MetFrom}
-use Rattle.encode_types.specs.Scope.{Scope}
 use Rattle.encode_types.specs.Counts.{Definitions, Shows, own_name, name_of_own}
-use Rattle.wit_encode.specs.Instance.{declarations_in}
-use Rattle.wit_encode.specs.Exports.{AreTypesOf, ShowsFirst, AllKnown, KnowsUsed, UsesListed}
-use Rattle.encode_types.proofs.Lists.{none-in}
+use Rattle.wit_encode.specs.{Instance.declarations_in, Exports.AreTypesOf, Exports.ShowsFirst, Exports.AllKnown, Exports.KnowsUsed, Exports.UsesListed}
+use Rattle.encode_types.proofs.{Lists.none-in, Pairs.pairs-across, Pairs.pairs-right, Tables.pairs-permuted}
 use Rattle.wit_encode.proofs.Numbers.{once-before, gives-none, gives-one, one-mapped}
 use Rattle.wit_encode.proofs.ListedTypes.{IsListedType, numbers, owned-listed, listed-type, type-there, number-there, listed-once, listed-key, uses-before}
 use Rattle.wit_encode.proofs.Meeting.{AllMeetKnown, part-uses, meets-unnamed}
-use Rattle.encode_types.proofs.Pairs.{pairs-across, pairs-right}
-use Rattle.encode_types.proofs.Tables.{pairs-permuted}
-use Rattle.wit_model.proofs.Elements.{contains-filter_map, contains-get, contains-flat, has-contains}
 use Rattle.encode_shown.proofs.Basics.{valid-references}
-use Rattle.base_lemmas.proofs.Bools.{left_of as first_true, right_of as second_true}
+use Rattle.base_lemmas.proofs.{Bools.left_of as first_true, Bools.right_of as second_true, Lists.nothing-mapped, Numbers.equal, Numbers.same-number}
 use Rattle.base_lemmas.proofs.Elements.{all-contained, contains-map, contains-one, last_of as one-contained, map_from as contains-mapped}
-use Rattle.base_lemmas.proofs.Lists.{nothing-mapped}
-use Rattle.base_lemmas.proofs.Numbers.{equal, same-number}
-use Rattle.wit_model.proofs.OnePath.{interface-passes as interface_passes}
-use Rattle.wit_model.proofs.PartsLemmas.{owner_same as same-owner}
+use Rattle.wit_model.specs.declared.model.«Type».TheVariants as ty
 
 -- ---- what is learnt
 

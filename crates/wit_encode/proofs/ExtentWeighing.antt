@@ -1,32 +1,18 @@
 -- What the parts of an instance type take in sum is no more than its interface weighs.
 use Rattle.std.proofs.Common.{◌≡◌, refl, ap, ◌∙◌, ℕ, suc, ◌+◌, ◌≤◌, Bool, true, false, if◌then◌else◌, List, [], ◌∷◌, map, length, Option, Some, None, option_to_list, is_some, arith}
-use Rattle.std.specs.Prelude.{sum_by}
-use Rattle.std.specs.List.{Contains}
-use Rattle.std.specs.Option.{option_map_or}
 use Rattle.std.proofs.lemmas.List.Sums.{sum_by-cons, sum_by-append}
-use Rattle.wit_model.specs.Text.{Text, text_of, optional_text}
-use Rattle.wit_model.specs.Lookup.{type_at}
-use Rattle.wit_model.specs.Valid.{IsValid}
+use Rattle.std.specs.{Prelude.sum_by, List.Contains, Option.option_map_or}
+use Rattle.wit_model.specs.{Text.Text, Text.text_of, Text.optional_text, Lookup.type_at, Valid.IsValid, Valid.functions_of_interface}
 use Rattle.wit_model.specs.Weight.{unit_of, name_texts, definition_weight, is_brought, number_weight, instance_numbers}
-use Rattle.wit_model.specs.Valid.{functions_of_interface}
-use Rattle.wit_model.specs.declared.model.Resolve.{Resolve}
-use Rattle.wit_model.specs.declared.model.InterfaceId.{InterfaceId}
-use Rattle.wit_model.specs.declared.model.Function.{Function}
-use Rattle.wit_model.specs.declared.model.TypeDef.{TypeDef}
-use Rattle.wit_model.specs.declared.model.TypeId.{TypeId}
-use Rattle.wit_model.specs.declared.model.TypeOwner.{TypeOwner}
-use Rattle.wit_model.specs.declared.model.TypeOwner.TheVariants as owner
+use Rattle.wit_model.specs.declared.model.{Resolve.Resolve, InterfaceId.InterfaceId, Function.Function, TypeDef.TypeDef, TypeId.TypeId, TypeOwner.TypeOwner}
 use Rattle.indexmap.specs.IndexMap.{values}
-use Rattle.encode_types.specs.Kinds.{kind_tree}
-use Rattle.encode_types.specs.MetKinds.{ReachedFrom, referred}
-use Rattle.encode_types.specs.Plan.{foreign_owner}
-use Rattle.encode_types.specs.Table.{interface_of_owner}
+use Rattle.encode_types.specs.{Kinds.kind_tree, MetKinds.ReachedFrom, MetKinds.referred, Plan.foreign_owner, Table.interface_of_owner}
 use Rattle.wit_encode.specs.Order.{functions_in_order}
 use Rattle.wit_encode.specs.Extents.{own_name_extent, import_extent, number_extent, function_extent, tree_extent, InstancesAreLight, DependenciesAreLight}
 use Rattle.wit_encode.proofs.Extents.{functions-light, types-light, given-texts}
-use Rattle.wit_encode.proofs.Reached.{IsOwner}
+use Rattle.wit_encode.proofs.{Reached.IsOwner, Weighing.counted, Weighing.own-weight, Weighing.sum-among, Weighing.keyed-weight}
+use Rattle.wit_model.specs.declared.model.TypeOwner.TheVariants as owner
 use Rattle.wit_encode.proofs.Weighing as weighing
-use Rattle.wit_encode.proofs.Weighing.{counted, own-weight, sum-among, keyed-weight}
 use Rattle.wit_encode.proofs.DependencyWeighing as dependency
 
 pub each-below : {X : Type 0} (f g : X → ℕ) (xs : List X) → ((x : X) → Contains xs x → f x ≤ g x) → sum_by f xs ≤ sum_by g xs

@@ -1,57 +1,32 @@
 -- How many bytes are written at most of a definition, of the type of a function and of a name, and that types and functions weigh no less.
 use Rattle.std.proofs.Common.{◌≡◌, refl, sym, subst, ap, ◌∙◌, ◌||◌, ℕ, ◌+◌, ◌*◌, ◌≤◌, Bool, true, not, arith, List, [], ◌∷◌, ◌++◌, map, length, length-append, flat_map, Option, Some, None, option_map, option_to_list, is_some, String}
-use Rattle.std.specs.Prelude.{sum_by}
-use Rattle.std.specs.List.{AllZip, Contains}
-use Rattle.std.specs.Option.{option_map_or}
-use Rattle.std.specs.Borrow.{Bor}
+use Rattle.std.proofs.{lemmas.List.Sums.sum_by-cons, lemmas.List.Sums.sum_by-append, Math.ListN.length-map}
+use Rattle.std.specs.{Prelude.sum_by, List.AllZip, List.Contains, Option.option_map_or, Borrow.Bor}
 use Rattle.std.specs.declared.alloc.Global.{Global}
-use Rattle.std.proofs.lemmas.List.Sums.{sum_by-cons, sum_by-append}
-use Rattle.std.proofs.Math.ListN.{length-map}
-use Rattle.wit_model.specs.Text.{Text, text_of, optional_text}
-use Rattle.wit_model.specs.Tree.{Tree, children, child_list, is_given}
-use Rattle.wit_model.specs.Meaning.{Signature}
-use Rattle.wit_model.specs.Meant.{type_meaning}
-use Rattle.wit_model.specs.Lookup.{type_at, place_of}
-use Rattle.wit_model.specs.Types.{trees_of, tree_of, number_tree, declared_by, tree_of_declaration}
-use Rattle.wit_model.specs.Uses.{alias_target}
-use Rattle.wit_model.specs.Parts.{kind_numbers}
-use Rattle.wit_model.specs.Rules.{passes, is_named_number, is_named_kind}
-use Rattle.wit_model.specs.Valid.{IsValid, named_kinds}
-use Rattle.wit_model.specs.Weight.{unit_of, members_of, name_texts, definition_weight}
-use Rattle.wit_model.specs.declared.model.Resolve.{Resolve}
-use Rattle.wit_model.specs.declared.model.Param.{Param}
-use Rattle.wit_model.specs.declared.model.TypeDef.{TypeDef}
-use Rattle.wit_model.specs.declared.model.TypeDefKind.{TypeDefKind}
-use Rattle.wit_model.specs.declared.model.TypeDefKind.TheVariants as kind
-use Rattle.wit_model.specs.declared.model.Handle.TheVariants as handle
-use Rattle.wit_model.specs.declared.model.«Type».{«Type» as ValueType}
-use Rattle.wit_model.specs.declared.model.«Type».TheVariants as ty
-use Rattle.comp_bytes.specs.declared.forms.ComponentDefinedType.{ComponentDefinedType}
-use Rattle.comp_bytes.specs.declared.forms.ComponentDefinedType.TheVariants as form
-use Rattle.comp_bytes.specs.declared.forms.ComponentFuncType.{ComponentFuncType}
-use Rattle.comp_bytes.specs.declared.forms.ComponentValType.{ComponentValType}
-use Rattle.comp_bytes.specs.declared.forms.ComponentValType.TheVariants as values
+use Rattle.wit_model.specs.{Text.Text, Text.text_of, Text.optional_text, Weight.unit_of, Weight.members_of, Weight.name_texts, Weight.definition_weight}
+use Rattle.wit_model.specs.{Tree.Tree, Tree.children, Tree.child_list, Tree.is_given, Rules.passes, Rules.is_named_number, Rules.is_named_kind}
+use Rattle.wit_model.specs.{Meaning.Signature, Meant.type_meaning, Lookup.type_at, Lookup.place_of, Uses.alias_target, Parts.kind_numbers}
+use Rattle.wit_model.specs.{Types.trees_of, Types.tree_of, Types.number_tree, Types.declared_by, Types.tree_of_declaration, Valid.IsValid, Valid.named_kinds}
+use Rattle.wit_model.specs.declared.model.{Resolve.Resolve, Param.Param, TypeDef.TypeDef, TypeDefKind.TypeDefKind, «Type».«Type» as ValueType}
+use Rattle.comp_bytes.specs.declared.forms.{ComponentDefinedType.ComponentDefinedType, ComponentFuncType.ComponentFuncType, ComponentValType.ComponentValType}
 use Rattle.comp_bytes.specs.declared.forms.ComponentTypeRef.{ComponentTypeRef}
-use Rattle.comp_bytes.specs.declared.forms.ComponentTypeRef.TheVariants as refs
 use Rattle.comp_bytes.specs.Raw.{Declaration, ExternName}
-use Rattle.comp_bytes.specs.RawOf.{raw_defined, raw_function, labeled, text_of as raw_text}
-use Rattle.comp_bytes.specs.Spelling.{attribute, attributes}
+use Rattle.comp_bytes.specs.{RawOf.raw_defined, RawOf.raw_function, RawOf.labeled, RawOf.text_of as raw_text, Spelling.attribute, Spelling.attributes}
 use Rattle.comp_bytes.specs.Writing.{u32_bytes, type_index_bytes, name_bytes, value_bytes, optional_bytes, field_bytes, case_bytes, vector_bytes, result_list_bytes, attribute_bytes, attributed_bytes, extern_name_bytes, description_bytes, declaration_bytes}
 use Rattle.encode_types.specs.Slots.{Pairs, StandsFor, NamedStands, CaseStands, Follows, FollowsFunction, texts}
-use Rattle.encode_types.specs.Kinds.{kind_tree}
-use Rattle.encode_types.specs.Scope.{exported_name}
-use Rattle.encode_types.specs.Standing.{SlotsStand}
+use Rattle.encode_types.specs.{Kinds.kind_tree, Scope.exported_name, Standing.SlotsStand}
 use Rattle.encode_types.proofs.Encoding.{tabled}
 use Rattle.wit_encode.specs.Extents.{labels_extent, tree_extent, signature_extent, given_length, name_extent, own_name_extent, BytesAreFew, TypesAreLight, FunctionsAreLight}
-use Rattle.wit_encode.proofs.Lengths.{u32-short, name-short, vector-short}
-use Rattle.wit_encode.proofs.Reached.{part-at}
-use Rattle.wit_encode.proofs.Validity.{valid-layered}
-use Rattle.base_lemmas.proofs.Bools.{right_of as second_true}
-use Rattle.base_lemmas.proofs.Elements.{contains-one, zip_long as zip-length}
-use Rattle.base_lemmas.proofs.Lists.{map_of_map as map-twice}
+use Rattle.wit_encode.proofs.{Lengths.u32-short, Lengths.name-short, Lengths.vector-short, Reached.part-at, Validity.valid-layered}
+use Rattle.base_lemmas.proofs.{Bools.right_of as second_true, Elements.contains-one, Elements.zip_long as zip-length, Lists.map_of_map as map-twice}
 use Rattle.comp_bytes.proofs.IndexWrites.{length_within as positive-short}
-use Rattle.wit_model.proofs.TreeLemmas.{child_list_of_children as listed}
-use Rattle.wit_model.proofs.ValidLemmas.{type_passes}
+use Rattle.wit_model.proofs.{TreeLemmas.child_list_of_children as listed, ValidLemmas.type_passes}
+use Rattle.wit_model.specs.declared.model.TypeDefKind.TheVariants as kind
+use Rattle.wit_model.specs.declared.model.Handle.TheVariants as handle
+use Rattle.wit_model.specs.declared.model.«Type».TheVariants as ty
+use Rattle.comp_bytes.specs.declared.forms.ComponentDefinedType.TheVariants as form
+use Rattle.comp_bytes.specs.declared.forms.ComponentValType.TheVariants as values
+use Rattle.comp_bytes.specs.declared.forms.ComponentTypeRef.TheVariants as refs
 
 -- ---- parts
 

@@ -1,27 +1,19 @@
 -- The trees of valid kinds are well formed, where the names stand for resources as their types do.
 use Rattle.std.proofs.Common.{◌≡◌, refl, ap, ◌∙◌, suc, true, not, nat_le, List, [], ◌∷◌, ◌++◌, map, filter_map, Option, Some, None, option_map, option_to_list, arith}
+use Rattle.std.proofs.lemmas.Bool.{and_from as both}
 use Rattle.std.specs.List.{Contains, list_all, cons_option}
-use Rattle.wit_model.specs.Text.{Text, text_of}
-use Rattle.wit_model.specs.Tree.{Tree, child_list, children, given, is_given}
-use Rattle.wit_model.specs.Types.{type_tree, declared_by, trees_of}
-use Rattle.wit_model.specs.Parts.{member_types, handled, is_resource, is_resource_type, is_resource_kind}
+use Rattle.wit_model.specs.{Text.Text, Text.text_of, Parts.member_types, Parts.handled, Parts.is_resource, Parts.is_resource_type, Parts.is_resource_kind}
+use Rattle.wit_model.specs.{Tree.Tree, Tree.child_list, Tree.children, Tree.given, Tree.is_given, Types.type_tree, Types.declared_by, Types.trees_of}
 use Rattle.wit_model.specs.Rules.{has_shape, has_items, is_map_key, passes}
-use Rattle.wit_model.specs.declared.model.Resolve.{Resolve}
-use Rattle.wit_model.specs.declared.model.Field.{Field}
-use Rattle.wit_model.specs.declared.model.Case.{Case}
-use Rattle.wit_model.specs.declared.model.TypeDefKind.{TypeDefKind}
-use Rattle.wit_model.specs.declared.model.TypeDefKind.TheVariants as kind
-use Rattle.wit_model.specs.declared.model.Handle.TheVariants as handle
-use Rattle.wit_model.specs.declared.model.«Type».{«Type» as ValueType}
-use Rattle.wit_model.specs.declared.model.«Type».TheVariants as ty
+use Rattle.wit_model.specs.declared.model.{Resolve.Resolve, Field.Field, Case.Case, TypeDefKind.TypeDefKind, «Type».«Type» as ValueType}
 use Rattle.comp_meaning.specs.Follow.{is_key, is_filled}
 use Rattle.encode_types.specs.Kinds.{parts_of, has_definition, kind_tree}
-use Rattle.encode_types.specs.Resources.{Names, is_resource_tree, is_resource_declaration}
-use Rattle.encode_types.specs.Formed.{are_values, is_formed}
+use Rattle.encode_types.specs.{Resources.Names, Resources.is_resource_tree, Resources.is_resource_declaration, Formed.are_values, Formed.is_formed}
 use Rattle.base_lemmas.proofs.Bools.{left_of as first_true, right_of as second_true}
-use Rattle.std.proofs.lemmas.Bool.{and_from as both}
-use Rattle.wit_model.proofs.TreeLemmas.{child_list_of_children as children-list}
-use Rattle.wit_model.proofs.RulesLemmas.{items_of_map as filled-map}
+use Rattle.wit_model.proofs.{TreeLemmas.child_list_of_children as children-list, RulesLemmas.items_of_map as filled-map}
+use Rattle.wit_model.specs.declared.model.TypeDefKind.TheVariants as kind
+use Rattle.wit_model.specs.declared.model.Handle.TheVariants as handle
+use Rattle.wit_model.specs.declared.model.«Type».TheVariants as ty
 
 -- ---- children
 

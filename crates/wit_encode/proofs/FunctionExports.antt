@@ -2,20 +2,12 @@
 use Rattle.std.proofs.Common.{◌≡◌, sym, subst, ap, ◌∙◌, ℕ, map, List, String, Option, Result, Ok, Err, OnOk}
 use Rattle.std.specs.List.{Contains}
 use Rattle.std.specs.declared.alloc.Global.{Global}
-use Rattle.wit_model.specs.Text.{Text}
-use Rattle.wit_model.specs.Meaning.{TypeMeaning, FunctionMeaning}
-use Rattle.wit_model.specs.Parts.{function_types}
-use Rattle.wit_model.specs.Valid.{IsValid}
-use Rattle.wit_model.specs.declared.model.Resolve.{Resolve}
-use Rattle.wit_model.specs.declared.model.Function.{Function}
-use Rattle.wit_model.specs.declared.model.TypeId.{TypeId}
+use Rattle.wit_model.specs.{Text.Text, Meaning.TypeMeaning, Meaning.FunctionMeaning, Parts.function_types, Valid.IsValid}
+use Rattle.wit_model.specs.declared.model.{Resolve.Resolve, Function.Function, TypeId.TypeId}
 use Rattle.comp_bytes.specs.Raw.{Declarations}
 use Rattle.encode_types.specs.declared.maps.TypeEncodingMaps.{TypeEncodingMaps}
 use Rattle.wit_encode.specs.declared.interface.OpenInterface.{OpenInterface}
-use Rattle.encode_types.specs.Maps.{IsKnown, IsOnce, MapsGrow, LearnsOnly, by_number}
-use Rattle.encode_types.specs.Plan.{MetFrom}
-use Rattle.encode_types.specs.Scope.{Scope}
-use Rattle.encode_types.specs.Counts.{Shows}
+use Rattle.encode_types.specs.{Maps.IsKnown, Maps.IsOnce, Maps.MapsGrow, Maps.LearnsOnly, Maps.by_number, Plan.MetFrom, Scope.Scope, Counts.Shows}
 use Rattle.wit_encode.specs.Exports.{AllKnown, KnowsUsed, UsesListed}
 use Rattle.wit_encode.specs.Instance.{keyed, own_of, contents_of, encoder_scope, definitions_with, ShowsFunction, exports_in}
 use Rattle.wit_encode.proofs.Exporting.{shows-nothing, function-unnamed}

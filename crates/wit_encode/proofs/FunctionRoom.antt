@@ -1,31 +1,19 @@
 -- Which functions of an interface have no room, call after call.
 use Rattle.std.proofs.Common.{◌≡◌, refl, sym, subst, ap, ◌∙◌, ℕ, ◌+◌, ◌≤◌, ◌⊎◌, inl, inr, Bool, true, false, cond, ◌||◌, List, [], ◌∷◌, ◌++◌, map, length, length-append, Option, arith}
-use Rattle.std.specs.Cmp.{IsEquivalence}
-use Rattle.std.specs.List.{Contains, IsDistinct, list_any}
-use Rattle.std.specs.Set.{is_member, unique_keys, distinct_count}
-use Rattle.std.proofs.lemmas.List.{length-map}
-use Rattle.std.proofs.lemmas.List.Elements.{Contains-append_cases, Contains-append_left, Contains-append_right}
-use Rattle.std.proofs.lemmas.Map.Keys.{IsDistinct-push}
-use Rattle.std.proofs.lemmas.Map.Made.{length-le_from_is_member}
-use Rattle.wit_model.specs.Text.{Text}
-use Rattle.wit_model.specs.Parts.{function_types}
-use Rattle.wit_model.specs.Meant.{signature_of}
-use Rattle.wit_model.specs.declared.model.Resolve.{Resolve}
-use Rattle.wit_model.specs.declared.model.Function.{Function}
-use Rattle.wit_model.specs.declared.model.InterfaceId.{InterfaceId}
-use Rattle.wit_model.specs.declared.model.«Type».{«Type» as ValueType}
+use Rattle.std.proofs.lemmas.{List.length-map, List.Elements.Contains-append_cases, List.Elements.Contains-append_left, List.Elements.Contains-append_right}
+use Rattle.std.proofs.lemmas.Map.{Keys.IsDistinct-push, Made.length-le_from_is_member}
+use Rattle.std.specs.{Cmp.IsEquivalence, List.Contains, List.IsDistinct, List.list_any, Set.is_member, Set.unique_keys, Set.distinct_count}
+use Rattle.wit_model.specs.{Text.Text, Parts.function_types, Meant.signature_of}
+use Rattle.wit_model.specs.declared.model.{Resolve.Resolve, Function.Function, InterfaceId.InterfaceId, «Type».«Type» as ValueType}
 use Rattle.wit_model.proofs.Elements.{contains-flat}
 use Rattle.encode_types.specs.declared.maps.TypeEncodingMaps.{TypeEncodingMaps}
-use Rattle.encode_types.specs.Maps.{IsOnce, LearnsOnly, MapsGrow}
+use Rattle.encode_types.specs.{Maps.IsOnce, Maps.LearnsOnly, Maps.MapsGrow, Distinct.Key, Distinct.key_of, Distinct.are_same, Distinct.KnowsKey, Codes.ListKey}
 use Rattle.encode_types.specs.MetKinds.{ReachedFrom}
-use Rattle.encode_types.specs.Distinct.{Key, key_of, are_same, KnowsKey}
 use Rattle.encode_types.specs.Room.{Request, Refusals, HoldsFor, FindsNoRoom, function_type, export_name, function_name, function_requests}
-use Rattle.encode_types.proofs.Lists.{none-in}
-use Rattle.encode_types.proofs.Rooms.{lacks-request, room-more, room-after}
+use Rattle.encode_types.proofs.{Lists.none-in, Rooms.lacks-request, Rooms.room-more, Rooms.room-after}
 use Rattle.wit_encode.specs.FunctionRoom.{LacksFunctions}
 use Rattle.wit_encode.proofs.HeldKeys.{same_equiv, keyed}
 use Rattle.base_lemmas.proofs.Elements.{any-at, any-contains as any-found, contains-map, last_of as one-contained, map_from as from-map}
-use Rattle.encode_types.specs.Codes.{ListKey}
 
 -- ---- how many keys
 

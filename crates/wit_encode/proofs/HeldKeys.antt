@@ -1,36 +1,20 @@
 -- The keys of functions whose lists maps hold.
 use Rattle.std.proofs.Common.{◌≡◌, refl, sym, subst, ap, ◌∙◌, ℕ, zero, suc, ◌<◌, Bool, true, false, ◌&&◌, List, [], ◌∷◌, ◌++◌, map, length, get_or, arith}
-use Rattle.std.specs.Prelude.{AllPairs, IsPermutation}
-use Rattle.std.specs.Borrow.{Bor}
-use Rattle.std.specs.List.{Contains, IsDistinct, AllZip}
-use Rattle.std.proofs.lemmas.List.Sorted.{length_permutation}
-use Rattle.std.specs.Option.{option_eq}
-use Rattle.std.specs.Set.{is_member}
-use Rattle.std.specs.Cmp.{IsEquivalence, bool_eq_equiv}
-use Rattle.std.specs.Cmp.Lexicographic.{pointwise, options_equiv}
-use Rattle.std.proofs.lemmas.Cmp.{on_equiv, and_equiv, lists_equiv}
-use Rattle.std.proofs.lemmas.Map.Keys.{IsDistinct-from_apart}
+use Rattle.std.proofs.lemmas.{List.Sorted.length_permutation, Cmp.on_equiv, Cmp.and_equiv, Cmp.lists_equiv, Map.Keys.IsDistinct-from_apart}
+use Rattle.std.specs.{Prelude.AllPairs, Prelude.IsPermutation, Set.is_member, Cmp.IsEquivalence, Cmp.bool_eq_equiv}
+use Rattle.std.specs.{Borrow.Bor, List.Contains, List.IsDistinct, List.AllZip, Option.option_eq, Cmp.Lexicographic.pointwise, Cmp.Lexicographic.options_equiv}
 use mathlib.Core.Bool.{beq}
 use Rattle.wit_model.specs.Text.{Text, text_of, text_eq}
-use Rattle.wit_model.specs.declared.model.Param.{Param}
-use Rattle.encode_types.specs.declared.key.FunctionKey.{FunctionKey}
-use Rattle.encode_types.specs.declared.maps.TypeEncodingMaps.{TypeEncodingMaps}
-use Rattle.encode_types.specs.Key.{same_type, same_param}
-use Rattle.encode_types.specs.KeyLaws.{type_equiv, param_equiv, text_same}
+use Rattle.wit_model.specs.declared.model.{Param.Param, Resolve.Resolve}
+use Rattle.encode_types.specs.declared.{key.FunctionKey.FunctionKey, maps.TypeEncodingMaps.TypeEncodingMaps}
+use Rattle.encode_types.specs.{Key.same_type, Key.same_param, Maps.IsSomeKeyList, Maps.IsOnce, Maps.NamesGrow, Maps.MapsAgree, Maps.by_key, Counts.key_slots}
+use Rattle.encode_types.specs.{KeyLaws.type_equiv, KeyLaws.param_equiv, KeyLaws.text_same, Slots.Pairs, Slots.function}
 use Rattle.encode_types.specs.Codes.{type_code, optional_code, Names, IsTable, AreListed, IsListed, names_of, lists_of, ListKey}
-use Rattle.encode_types.specs.Maps.{IsSomeKeyList, IsOnce, NamesGrow, MapsAgree, by_key}
-use Rattle.encode_types.specs.Counts.{key_slots}
-use Rattle.encode_types.specs.Slots.{Pairs, function}
 use Rattle.encode_types.specs.Distinct.{Key, key_view, are_same, KnowsKey, signature_of_key, function_slots, StandForKeys}
 use Rattle.comp_bytes.specs.Raw.{Declarations}
-use Rattle.wit_model.specs.declared.model.Resolve.{Resolve}
-use Rattle.encode_types.proofs.Lists.{none-in}
-use Rattle.encode_types.proofs.KindLaws.{same_types, optional_same}
-use Rattle.encode_types.proofs.EqualLists.{keys-of-lists, lists-of-keys, key-shrink}
-use Rattle.encode_types.proofs.Tables.{key-grow}
-use Rattle.base_lemmas.proofs.Bools.{left_of as first_true, right_of as second_true}
-use Rattle.base_lemmas.proofs.Elements.{any-at, any-contains as any-found}
-use Rattle.encode_types.proofs.EqualLists.{async-same as async-alike}
+use Rattle.encode_types.proofs.{Lists.none-in, EqualLists.keys-of-lists, EqualLists.lists-of-keys, EqualLists.key-shrink, EqualLists.async-same as async-alike}
+use Rattle.encode_types.proofs.{KindLaws.same_types, KindLaws.optional_same, Tables.key-grow}
+use Rattle.base_lemmas.proofs.{Bools.left_of as first_true, Bools.right_of as second_true, Elements.any-at, Elements.any-contains as any-found}
 
 -- ---- keys and their lists
 

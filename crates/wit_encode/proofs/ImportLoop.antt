@@ -1,40 +1,22 @@
 -- Interfaces imported one after the other, in the order in which they are reached.
 use Rattle.std.proofs.Common.{◌≡◌, refl, sym, subst, ap, ◌∙◌, ℕ, zero, suc, ◌+◌, ◌<◌, ◌≤◌, ◌==◌, nat_lt, Bool, true, false, not, map, get_or, option_map, List, [], ◌∷◌, ◌++◌, length, take, append_assoc, Option, Some, None, slice_get, is_some, option_and_then, arith}
+use Rattle.std.proofs.{lemmas.List.Elements.Contains-append_left, Math.ListN.length-map, lemmas.List.take_all, lemmas.Map.Steps.length-le_from_distinct_below}
+use Rattle.std.proofs.lemmas.{Option.slice_get_within, Option.slice_get-map, Option.slice_get-get_or, Option.same_Some as same-some, Bool.ltb-false}
 use Rattle.std.specs.List.{AllByRecursion, Contains, IsDistinct, list_any}
-use Rattle.std.proofs.lemmas.List.Elements.{Contains-append_left}
-use Rattle.std.proofs.lemmas.Option.{slice_get_within, slice_get-map, slice_get-get_or, same_Some as same-some}
-use Rattle.std.proofs.Math.ListN.{length-map}
-use Rattle.std.proofs.lemmas.List.{take_all}
-use Rattle.std.proofs.lemmas.Bool.{ltb-false}
-use Rattle.std.proofs.lemmas.Map.Steps.{length-le_from_distinct_below}
-use Rattle.wit_model.specs.Lookup.{interface_at, interface_path, path_of_interface}
+use Rattle.wit_model.specs.{Lookup.interface_at, Lookup.interface_path, Lookup.path_of_interface, Valid.IsValid, Valid.is_place, Valid.numbers_in_range}
 use Rattle.wit_model.specs.Uses.{direct_deps}
-use Rattle.wit_model.specs.Valid.{IsValid, is_place, numbers_in_range}
-use Rattle.wit_model.specs.declared.model.Resolve.{Resolve}
-use Rattle.wit_model.specs.declared.model.Interface.{Interface}
-use Rattle.wit_model.specs.declared.model.InterfaceId.{InterfaceId}
-use Rattle.wit_model.proofs.Elements.{none-in}
+use Rattle.wit_model.specs.declared.model.{Resolve.Resolve, Interface.Interface, InterfaceId.InterfaceId}
+use Rattle.wit_model.proofs.{Elements.none-in, OnePath.found-in, OnePath.interface-passes as interface_passes}
 use Rattle.encode_shown.specs.Views.{AreReached, AreUsed, UseEarlier}
 use Rattle.encode_types.specs.Known.{Around, UsedStand, known_instance, standing_instances}
-use Rattle.wit_model.proofs.OnePath.{found-in}
 use Rattle.comp_bytes.specs.Raw.{Declarations}
 use Rattle.wit_encode.specs.Dependencies.{AreImportable, HasImported, ImportsTypes, with_import}
-use Rattle.wit_encode.specs.DependencyCounts.{DefinesImports}
-use Rattle.wit_encode.specs.DependencyAliases.{HasImportAliases}
-use Rattle.wit_encode.proofs.DependencyAliases.{import-aliased}
-use Rattle.wit_encode.specs.DependencyRoom.{HoldsImports, ImportsLackRoom, LacksImport}
-use Rattle.wit_encode.specs.WrittenNames.{NamesInterfaces}
-use Rattle.wit_encode.proofs.DependencyHolding.{import-defines, import-few, next-lacks}
-use Rattle.wit_encode.proofs.Imported.{imports_grow}
-use Rattle.wit_encode.proofs.ImportsStand.{imports_stand}
-use Rattle.wit_encode.proofs.UsedPaths.{used-path}
-use Rattle.wit_encode.proofs.WrittenNames.{imports-named}
+use Rattle.wit_encode.specs.{DependencyCounts.DefinesImports, WrittenNames.NamesInterfaces}
+use Rattle.wit_encode.specs.{DependencyAliases.HasImportAliases, DependencyRoom.HoldsImports, DependencyRoom.ImportsLackRoom, DependencyRoom.LacksImport}
+use Rattle.wit_encode.proofs.{DependencyAliases.import-aliased, DependencyHolding.import-defines, DependencyHolding.import-few, DependencyHolding.next-lacks}
+use Rattle.wit_encode.proofs.{Imported.imports_grow, ImportsStand.imports_stand, UsedPaths.used-path, WrittenNames.imports-named}
 use Rattle.encode_shown.proofs.Dependencies.{distinct-front}
-use Rattle.base_lemmas.proofs.Bools.{left_of as first_true}
-use Rattle.base_lemmas.proofs.Elements.{any-contains}
-use Rattle.base_lemmas.proofs.Numbers.{equal, same-number}
-use Rattle.base_lemmas.proofs.Options.{there as some-of}
-use Rattle.wit_model.proofs.OnePath.{interface-passes as interface_passes}
+use Rattle.base_lemmas.proofs.{Bools.left_of as first_true, Elements.any-contains, Numbers.equal, Numbers.same-number, Options.there as some-of}
 
 -- ---- lists
 

@@ -1,34 +1,17 @@
 -- What a component type has imported, after aliases, and after one instance type more and the import or export that uses it.
 use Rattle.std.proofs.Common.{◌≡◌, ◌⊎◌, inl, inr, refl, sym, subst, ap, ◌∙◌, ℕ, zero, suc, ◌+◌, ◌<◌, ◌==◌, nat_lt, nat_cmp, Ordering, Bool, true, false, cond, List, [], ◌∷◌, ◌++◌, length, length-append, Some, None, slice_get, arith}
+use Rattle.std.proofs.{Math.Seq.take-append_seam, lemmas.List.map-append, lemmas.List.Elements.Contains-append_left, lemmas.List.Elements.Contains-append_right}
+use Rattle.std.proofs.lemmas.{Bool.cond-true, Bool.cond-false, Bool.lt-ltb, Bool.and_from as both, List.Folds.list_all-append, Option.same_Some as same-some}
 use Rattle.std.specs.List.{Contains, list_all}
-use Rattle.std.specs.Option.{option_map_or}
-use Rattle.std.specs.BTreeMap.{insert_entry, is_at}
-use Rattle.std.specs.FinMap.{nat_cmp-IsAntisymmetric}
-use Rattle.std.specs.Ordering.{is_eq, match_ordering}
+use Rattle.std.specs.{Option.option_map_or, BTreeMap.insert_entry, BTreeMap.is_at, FinMap.nat_cmp-IsAntisymmetric, Ordering.is_eq, Ordering.match_ordering}
 use Rattle.std.specs.declared.cmp.Ordering.TheVariants.{Less, Equal, Greater}
-use Rattle.std.proofs.Math.Seq.{take-append_seam}
-use Rattle.std.proofs.lemmas.Bool.{cond-true, cond-false, lt-ltb, and_from as both}
-use Rattle.std.proofs.lemmas.List.{map-append}
-use Rattle.std.proofs.lemmas.List.Elements.{Contains-append_left, Contains-append_right}
-use Rattle.std.proofs.lemmas.List.Folds.{list_all-append}
-use Rattle.wit_model.specs.Text.{Text}
-use Rattle.wit_model.specs.Lookup.{interface_path, place_of_path}
-use Rattle.wit_model.specs.Valid.{IsValid}
-use Rattle.wit_model.specs.declared.model.Resolve.{Resolve}
-use Rattle.wit_model.specs.declared.model.Interface.{Interface}
-use Rattle.wit_model.specs.declared.model.InterfaceId.{InterfaceId}
-use Rattle.wit_model.specs.declared.model.Function.{Function}
+use Rattle.wit_model.specs.{Text.Text, Lookup.interface_path, Lookup.place_of_path, Valid.IsValid}
+use Rattle.wit_model.specs.declared.model.{Resolve.Resolve, Interface.Interface, InterfaceId.InterfaceId, Function.Function}
 use Rattle.wit_model.proofs.Elements.{zip-push}
-use Rattle.comp_bytes.specs.Raw.{Declarations, append}
-use Rattle.comp_bytes.specs.Held.{type_slots_of}
-use Rattle.comp_bytes.specs.Reading.{◌>>=◌}
-use Rattle.comp_bytes.specs.declared.forms.ComponentTypeRef.TheVariants as refs
-use Rattle.comp_meaning.specs.Follow as follow
+use Rattle.comp_bytes.specs.{Raw.Declarations, Raw.append, Raw.ExternName, Held.type_slots_of, Reading.◌>>=◌}
 use Rattle.comp_meaning.specs.Follow.{Direction, import_, export_, Key, Scope, Slot, View, component_scope, component_step, in_scope, instance_types, instance_view, is_foreign_name, new_scope, provided, see, used_view}
-use Rattle.comp_bytes.specs.Raw.{ExternName}
 use Rattle.encode_shown.specs.Views.{ShowsImport}
-use Rattle.encode_names.specs.WorldNames.{name_of_interface}
-use Rattle.encode_names.specs.WorldSteps.{declared_towards, seen_instance, with_instance}
+use Rattle.encode_names.specs.{WorldNames.name_of_interface, WorldSteps.declared_towards, WorldSteps.seen_instance, WorldSteps.with_instance}
 use Rattle.encode_names.proofs.PathsRead.{path-key}
 use Rattle.encode_names.proofs.WorldSteps.{below-more, instance-step, slot-behind, types-appended, unused}
 use Rattle.encode_types.specs.Known.{Aliased, AreAliases, Around, IsAlias, are_right, known_instance, known_slot, outer_scope, outer_slots, with_alias, with_aliases}
@@ -37,10 +20,9 @@ use Rattle.wit_encode.specs.Instance.{EncodesPart}
 use Rattle.wit_encode.specs.Dependencies.{AliasesLeaveImports, ExportsEnd, HasImported, ImportsGrow, NothingIsImported, imported_instance, seen_import, with_export, with_import}
 use Rattle.wit_encode.proofs.Components.{steps-count, steps-instance, steps-more}
 use Rattle.wit_encode.proofs.Importing.{new-slot, right-more, stands, still-right, wide}
-use Rattle.base_lemmas.proofs.Bools.{left_of as first_true}
-use Rattle.base_lemmas.proofs.Elements.{contains-one}
-use Rattle.base_lemmas.proofs.Numbers.{same-number}
-use Rattle.std.proofs.lemmas.Option.{same_Some as same-some}
+use Rattle.base_lemmas.proofs.{Bools.left_of as first_true, Elements.contains-one, Numbers.same-number}
+use Rattle.comp_bytes.specs.declared.forms.ComponentTypeRef.TheVariants as refs
+use Rattle.comp_meaning.specs.Follow as follow
 
 pub nothing_is_imported : NothingIsImported
 nothing_is_imported r = record {

@@ -1,48 +1,26 @@
 -- A type of another interface whose instance stands around is reached by an alias there.
 use Rattle.std.proofs.Common.{◌≡◌, refl, sym, subst, ap, ◌∙◌, ℕ, zero, suc, ◌+◌, nat_cmp, Ordering, Bool, true, false, not, ◌&&◌, ◌||◌, if◌then◌else◌, List, [], ◌∷◌, length, Option, Some, None, String, slice_get, is_some, ◌++◌, Result, Ok, Err, IfOk, OnErr, OnOk, arith}
-use Rattle.std.specs.List.{Contains, list_all, list_any, filter}
-use Rattle.std.specs.Option.{option_map_or}
-use Rattle.std.specs.declared.alloc.Global.{Global}
-use Rattle.std.specs.declared.cmp.Ordering.TheVariants.{Less, Equal, Greater}
-use Rattle.std.specs.Ordering.{is_eq, match_ordering}
-use Rattle.std.specs.Map.{remove_entry}
-use Rattle.std.specs.BTreeMap.{BTreeMap, insert_entry, is_at}
-use Rattle.std.proofs.lemmas.Bool.{cond-true, cond-false, and_from as both}
-use Rattle.std.proofs.lemmas.List.Elements.{All-contains, filter_passes}
-use Rattle.wit_model.specs.Text.{Text, text_eq, text_of}
+use Rattle.std.proofs.lemmas.{Bool.cond-true, Bool.cond-false, Bool.and_from as both, List.Elements.All-contains, List.Elements.filter_passes}
+use Rattle.std.specs.{List.Contains, List.list_all, List.list_any, List.filter, Option.option_map_or, BTreeMap.BTreeMap, BTreeMap.insert_entry, BTreeMap.is_at}
+use Rattle.std.specs.{Ordering.is_eq, Ordering.match_ordering, Map.remove_entry}
+use Rattle.std.specs.declared.{alloc.Global.Global, cmp.Ordering.TheVariants.Less, cmp.Ordering.TheVariants.Equal, cmp.Ordering.TheVariants.Greater}
+use Rattle.wit_model.specs.{Text.Text, Text.text_eq, Text.text_of, Lookup.interface_path, Lookup.place_of, Lookup.place_of_path, Lookup.type_at, Rules.text_is}
 use Rattle.wit_model.specs.Tree.{Tree, Place, here, of_interface, named, primitive, node}
-use Rattle.wit_model.specs.Types.{number_tree}
-use Rattle.wit_model.specs.Lookup.{interface_path, place_of, place_of_path, type_at}
-use Rattle.wit_model.specs.Rules.{text_is}
-use Rattle.wit_model.specs.Parts.{is_resource, same_owner, numbered_from}
-use Rattle.wit_model.specs.declared.model.Resolve.{Resolve}
-use Rattle.wit_model.specs.declared.model.InterfaceId.{InterfaceId}
-use Rattle.wit_model.specs.declared.model.TypeId.{TypeId}
-use Rattle.wit_model.specs.declared.model.TypeDef.{TypeDef}
-use Rattle.wit_model.specs.declared.model.TypeOwner.{TypeOwner}
-use Rattle.wit_model.specs.declared.model.TypeOwner.TheVariants as owner
-use Rattle.comp_bytes.specs.Held.{type_slots, type_slots_of}
-use Rattle.comp_bytes.specs.Raw.{Alias, Declaration, Declarations, append}
-use Rattle.comp_meaning.specs.Same.{same_place}
-use Rattle.comp_meaning.specs.Follow.{Slot, Instance, find_type, is_foreign_name}
-use Rattle.encode_types.specs.KeyLaws.{text_same}
-use Rattle.wit_encode.specs.declared.interface.OpenInterface.{OpenInterface}
-use Rattle.wit_encode.specs.declared.interface.Foreign.{Foreign}
-use Rattle.encode_types.specs.Slots.{tree, Keeps, SlotAdded}
-use Rattle.encode_types.specs.Resources.{is_named_interface, named_resources}
+use Rattle.wit_model.specs.{Types.number_tree, Parts.is_resource, Parts.same_owner, Parts.numbered_from}
+use Rattle.wit_model.specs.declared.model.{Resolve.Resolve, InterfaceId.InterfaceId, TypeId.TypeId, TypeDef.TypeDef, TypeOwner.TypeOwner}
+use Rattle.comp_bytes.specs.{Held.type_slots, Held.type_slots_of, Raw.Alias, Raw.Declaration, Raw.Declarations, Raw.append}
+use Rattle.comp_meaning.specs.{Same.same_place, Follow.Slot, Follow.Instance, Follow.find_type, Follow.is_foreign_name}
+use Rattle.encode_types.specs.{KeyLaws.text_same, Slots.tree, Slots.Keeps, Slots.SlotAdded, Resources.is_named_interface, Resources.named_resources}
 use Rattle.encode_types.specs.Known.{Around, Aliased, alias_declared, with_alias, with_aliases, IsAlias, AreAliases, IsSource, ReachesAround, as_before, aliased, known_slot, known_instance, is_name_slot, is_slot_for, is_named_of, is_instance_of, shows_type, is_standing, stands_around, are_right, below}
 use Rattle.encode_types.specs.Scope.{Scope, IsImportable}
+use Rattle.wit_encode.specs.declared.interface.{OpenInterface.OpenInterface, Foreign.Foreign}
 use Rattle.wit_encode.specs.Instance.{standing_at, SlotsStand, is_slot_of, outer_slots, outer_instances, is_owner_in, resources_in, is_sound_in, place_in, Contents, standing_instances, scope_from, scope_with, inner_contents, contents_of, around_at, encoder_scope, definitions_with}
 use Rattle.encode_types.proofs.Tables.{at-some, number-found}
-use Rattle.wit_encode.proofs.Contents.{slots-kept}
-use Rattle.wit_encode.proofs.Calls.{Calls, alias-inside}
-use Rattle.wit_encode.proofs.Wider.{Widened, widened, contents-wider}
+use Rattle.wit_encode.proofs.{Contents.slots-kept, Calls.Calls, Calls.alias-inside, Wider.Widened, Wider.widened, Wider.contents-wider, LatestInstances.own-key}
 use Rattle.wit_encode.proofs.Within.{CallsTo}
-use Rattle.base_lemmas.proofs.Bools.{left_of as first_true, right_of as second_true}
-use Rattle.base_lemmas.proofs.Elements.{all-contained}
-use Rattle.base_lemmas.proofs.Lists.{front_more as get-left}
+use Rattle.base_lemmas.proofs.{Bools.left_of as first_true, Bools.right_of as second_true, Elements.all-contained, Lists.front_more as get-left}
 use Rattle.base_lemmas.proofs.Numbers.{same-number}
-use Rattle.wit_encode.proofs.LatestInstances.{own-key}
+use Rattle.wit_model.specs.declared.model.TypeOwner.TheVariants as owner
 
 -- ---- lists
 

@@ -1,38 +1,24 @@
 -- Instances of the interfaces that have been imported stand.
 use Rattle.std.proofs.Common.{◌≡◌, refl, sym, subst, ap, ◌∙◌, ℕ, zero, suc, ◌+◌, ◌<◌, nat_lt, Bool, true, false, not, ◌||◌, if◌then◌else◌, List, [], ◌∷◌, length, Option, Some, None, String, slice_get, is_some, map, option_map, option_and_then, arith}
-use Rattle.std.specs.List.{AllZip, Contains, filter, list_all}
-use Rattle.std.specs.Option.{option_map_or}
+use Rattle.std.proofs.lemmas.{Bool.ltb-true, Bool.ltb-false, Bool.and_from as both, Bool.or_right as or-second, List.Sorted.IsPermutation-refl}
+use Rattle.std.proofs.lemmas.{Cmp.nat_list_eq_equiv, Option.slice_get-map, Option.slice_get_within, Option.same_Some as same-some}
+use Rattle.std.specs.{List.AllZip, List.Contains, List.filter, List.list_all, Option.option_map_or}
 use Rattle.std.specs.declared.alloc.Global.{Global}
-use Rattle.std.proofs.lemmas.Bool.{ltb-true, ltb-false, and_from as both, or_right as or-second}
-use Rattle.std.proofs.lemmas.Cmp.{nat_list_eq_equiv}
-use Rattle.std.proofs.lemmas.List.Sorted.{IsPermutation-refl}
-use Rattle.std.proofs.lemmas.Option.{slice_get-map, slice_get_within, same_Some as same-some}
-use Rattle.wit_model.specs.Text.{Text, text_of}
-use Rattle.wit_model.specs.Tree.{named, of_interface}
-use Rattle.wit_model.specs.Types.{number_tree}
+use Rattle.wit_model.specs.{Text.Text, Text.text_of, Tree.named, Tree.of_interface, Types.number_tree, Parts.is_resource, Parts.numbered_from, Parts.same_owner}
 use Rattle.wit_model.specs.Lookup.{interface_at, interface_path, path_of_interface, place_of, place_of_path, type_at}
-use Rattle.wit_model.specs.Parts.{is_resource, numbered_from, same_owner}
 use Rattle.wit_model.specs.Valid.{IsValid}
-use Rattle.wit_model.specs.declared.model.Resolve.{Resolve}
-use Rattle.wit_model.specs.declared.model.Interface.{Interface}
-use Rattle.wit_model.specs.declared.model.InterfaceId.{InterfaceId}
-use Rattle.wit_model.specs.declared.model.TypeDef.{TypeDef}
-use Rattle.wit_model.specs.declared.model.TypeOwner.{TypeOwner}
-use Rattle.wit_model.specs.declared.model.TypeOwner.TheVariants as owner
-use Rattle.wit_model.proofs.Elements.{contains-get}
+use Rattle.wit_model.specs.declared.model.{Resolve.Resolve, Interface.Interface, InterfaceId.InterfaceId, TypeDef.TypeDef, TypeOwner.TypeOwner}
+use Rattle.wit_model.proofs.{Elements.contains-get, PartsLemmas.owner_same as same-owner}
 use Rattle.comp_meaning.specs.Follow.{View, find_type}
 use Rattle.encode_shown.specs.Views.{ShowsImport, ShowsInterface, functions_of, home_of, name_slot}
-use Rattle.encode_shown.proofs.Parts.{named-tree}
+use Rattle.encode_shown.proofs.Parts.{named-tree, place-alike}
 use Rattle.encode_names.proofs.TypesFound.{types_are_found}
 use Rattle.encode_types.specs.Resources.{is_named_interface, named_resources}
 use Rattle.encode_types.specs.Known.{Around, below, is_instance_of, is_known_as, is_named_of, is_slot_for, is_standing, outer_instances, shows_type, standing_instances, stands_around}
 use Rattle.wit_encode.proofs.Naming.{HaveHomes, names-agree, one-home}
 use Rattle.wit_encode.specs.Dependencies.{HasImported, ImportsStand, imported_instance}
-use Rattle.base_lemmas.proofs.Bools.{left_of as first_true, right_of as second_true}
-use Rattle.base_lemmas.proofs.Elements.{filter_keeps as contains-filter}
-use Rattle.base_lemmas.proofs.Options.{there as some-of}
-use Rattle.encode_shown.proofs.Parts.{place-alike}
-use Rattle.wit_model.proofs.PartsLemmas.{owner_same as same-owner}
+use Rattle.base_lemmas.proofs.{Bools.left_of as first_true, Bools.right_of as second_true, Elements.filter_keeps as contains-filter, Options.there as some-of}
+use Rattle.wit_model.specs.declared.model.TypeOwner.TheVariants as owner
 
 -- ---- lists
 

@@ -1,21 +1,15 @@
 -- One instance more, which is listed as that of its interface.
 use Rattle.std.proofs.Common.{◌≡◌, refl, sym, subst, ap, ◌∙◌, ℕ, ◌<◌, nat_cmp, Ordering, Bool, true, false, cond, if◌then◌else◌, List, [], ◌∷◌, ◌++◌, length, Option, Some, None, slice_get}
-use Rattle.std.specs.BTreeMap.{insert_entry, is_at}
-use Rattle.std.specs.FinMap.{nat_cmp-IsAntisymmetric}
+use Rattle.std.proofs.lemmas.{Bool.cond-true, Bool.cond-false, Cmp.nat_cmp_total}
+use Rattle.std.specs.{BTreeMap.insert_entry, BTreeMap.is_at, FinMap.nat_cmp-IsAntisymmetric, Option.option_map_or, Ordering.is_eq, Ordering.match_ordering}
 use Rattle.std.specs.List.{Contains, filter}
-use Rattle.std.specs.Option.{option_map_or}
-use Rattle.std.specs.Ordering.{is_eq, match_ordering}
 use Rattle.std.specs.declared.cmp.Ordering.TheVariants.{Less, Equal, Greater}
-use Rattle.std.proofs.lemmas.Bool.{cond-true, cond-false}
-use Rattle.std.proofs.lemmas.Cmp.{nat_cmp_total}
 use Rattle.wit_model.specs.declared.model.Resolve.{Resolve}
 use Rattle.comp_meaning.specs.Follow.{Instance}
 use Rattle.encode_types.specs.Known.{Around, are_right, below, is_standing, known_instance, outer_instances, outer_slots, standing_instances, stands_around}
 use Rattle.encode_types.proofs.Tables.{equal-is, equal-self}
-use Rattle.wit_encode.proofs.ImportsStand.{below-there}
-use Rattle.wit_encode.proofs.WorldFunctions.{at-length}
-use Rattle.base_lemmas.proofs.Elements.{filter_keeps as contains-filter, filter_kept as filter-contains}
-use Rattle.base_lemmas.proofs.Lists.{front_more as get-left}
+use Rattle.wit_encode.proofs.{ImportsStand.below-there, WorldFunctions.at-length}
+use Rattle.base_lemmas.proofs.{Elements.filter_keeps as contains-filter, Elements.filter_kept as filter-contains, Lists.front_more as get-left}
 
 -- ---- one entry in an ordered map, new or not
 

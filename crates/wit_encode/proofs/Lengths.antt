@@ -1,16 +1,13 @@
 -- How long the bytes of parts of a component are at most.
 use Rattle.std.proofs.Common.{◌≡◌, ℕ, ◌+◌, ◌<◌, ◌≤◌, ◌^◌, nat_lt, Bool, true, false, ◌&&◌, List, [], ◌∷◌, ◌++◌, length, refl, ap, arith, length-append, append-nil, subst}
+use Rattle.std.proofs.lemmas.{List.Sums.sum_by-cons, List.Sums.sum_by-append, Bool.lt-ltb, Bool.ltb-true, Bool.ltb-false, Bool.true≢false}
 use Rattle.std.specs.List.{flat_map}
-use Rattle.std.proofs.lemmas.List.Sums.{sum_by-cons, sum_by-append}
-use Rattle.std.proofs.lemmas.Bool.{lt-ltb, ltb-true, ltb-false, true≢false}
-use Rattle.comp_bytes.specs.Raw.{Section}
+use Rattle.comp_bytes.specs.{Raw.Section, Parts.Part, Parts.with_part, Parts.sections_of_parts, Parts.fits_component}
 use Rattle.comp_bytes.specs.Writing.{u32_bytes, name_bytes, vector_bytes, top_type_bytes, top_export_bytes, framed, section_bytes, component_bytes}
-use Rattle.comp_bytes.specs.Parts.{Part, with_part, sections_of_parts, fits_component}
 use Rattle.encode_types.specs.Room.{limit}
 use Rattle.wit_encode.specs.PackageRoom.{part_extent, parts_extent}
 use Rattle.base_lemmas.proofs.Numbers.{same_number as same}
-use Rattle.comp_bytes.proofs.BuiltSizes.{framed_longer as framed-long, vector_longer as vector-long}
-use Rattle.comp_bytes.proofs.Writes.{length_within as unsigned-short}
+use Rattle.comp_bytes.proofs.{BuiltSizes.framed_longer as framed-long, BuiltSizes.vector_longer as vector-long, Writes.length_within as unsigned-short}
 
 -- ---- numbers and names
 

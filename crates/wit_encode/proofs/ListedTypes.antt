@@ -1,44 +1,22 @@
 -- The types of an interface in valid packages: each stands in the list once, under its name, behind those of the list that it uses.
 use Rattle.std.proofs.Common.{◌≡◌, refl, sym, subst, ap, ◌∙◌, ℕ, ◌⊎◌, inl, inr, Bool, true, false, not, ◌&&◌, ◌||◌, ◌==◌, nat_lt, List, [], take, count_by, slice_get, Option, Some, None, is_some, String, string_bytes, option_map}
-use Rattle.std.specs.declared.alloc.Global.{Global}
-use Rattle.std.specs.Prelude.{is_none}
-use Rattle.std.specs.List.{Contains, list_all}
-use Rattle.std.specs.Option.{option_map_or}
-use Rattle.std.specs.Str.{bytes_eq}
-use Rattle.std.specs.HashMap.{get_by_text}
 use Rattle.std.proofs.lemmas.Option.{slice_get-map}
+use Rattle.std.specs.declared.alloc.Global.{Global}
+use Rattle.std.specs.{Prelude.is_none, List.Contains, List.list_all, Option.option_map_or, Str.bytes_eq, HashMap.get_by_text}
 use Rattle.indexmap.specs.IndexMap.{values}
-use Rattle.wit_model.specs.Text.{Text, text_of}
-use Rattle.wit_model.specs.Lookup.{type_at, interface_at}
-use Rattle.wit_model.specs.Uses.{has, owner_interface}
-use Rattle.wit_model.specs.Parts.{kind_numbers, used_by_type, same_owner, has_owner}
+use Rattle.wit_model.specs.{Text.Text, Text.text_of, Uses.has, Uses.owner_interface, Parts.kind_numbers, Parts.used_by_type, Parts.same_owner, Parts.has_owner}
+use Rattle.wit_model.specs.{Lookup.type_at, Lookup.interface_at, Valid.IsValid, Valid.as_interface, Valid.numbers_in_range, Valid.order_of_types}
 use Rattle.wit_model.specs.Rules.{passes, in_list, is_listed, is_listed_in_interface, is_named_of, is_use, interface_type_numbers, used_by_number, are_in_order}
-use Rattle.wit_model.specs.Valid.{IsValid, as_interface, numbers_in_range, order_of_types}
-use Rattle.wit_model.specs.declared.model.Resolve.{Resolve}
-use Rattle.wit_model.specs.declared.model.Interface.{Interface}
-use Rattle.wit_model.specs.declared.model.TypeDef.{TypeDef}
-use Rattle.wit_model.specs.declared.model.TypeId.{TypeId}
-use Rattle.wit_model.specs.declared.model.TypeOwner.{TypeOwner}
+use Rattle.wit_model.specs.declared.model.{Resolve.Resolve, Interface.Interface, TypeDef.TypeDef, TypeId.TypeId, TypeOwner.TypeOwner}
+use Rattle.wit_model.proofs.{Listed.misfit, InOrder.found_stands, Elements.has-contains, PartsLemmas.owner_same as same-owner, ValidLemmas.type_passes}
+use Rattle.wit_model.proofs.{Listings.given_all, Listings.given_found, OnePath.given-test, OnePath.found-in, OnePath.interface-passes as interface_passes}
+use Rattle.encode_types.specs.{KeyLaws.text_same, Kinds.parts_of, Plan.foreign_owner, Table.interface_of_owner}
+use Rattle.wit_encode.proofs.{Owned.alias-part, Owned.own-interface, Owned.owner-kept as kept-of-owner, Numbers.after-at}
+use Rattle.encode_shown.proofs.Basics.{or-cases}
+use Rattle.base_lemmas.proofs.{Bools.left_of as first_true, Bools.not-false, Bools.right_of as second_true, Elements.all-contained, Elements.get-contains}
+use Rattle.base_lemmas.proofs.Numbers.{same-number}
 use Rattle.wit_model.specs.declared.model.TypeOwner.TheVariants as owner
 use Rattle.wit_model.specs.declared.model.«Type».TheVariants as ty
-use Rattle.wit_model.proofs.Listed.{misfit}
-use Rattle.wit_model.proofs.Listings.{given_all, given_found}
-use Rattle.wit_model.proofs.InOrder.{found_stands}
-use Rattle.encode_types.specs.KeyLaws.{text_same}
-use Rattle.encode_types.specs.Kinds.{parts_of}
-use Rattle.encode_types.specs.Plan.{foreign_owner}
-use Rattle.encode_types.specs.Table.{interface_of_owner}
-use Rattle.wit_encode.proofs.Owned.{alias-part, own-interface, owner-kept as kept-of-owner}
-use Rattle.wit_model.proofs.OnePath.{given-test, found-in}
-use Rattle.wit_encode.proofs.Numbers.{after-at}
-use Rattle.wit_model.proofs.Elements.{has-contains}
-use Rattle.encode_shown.proofs.Basics.{or-cases}
-use Rattle.base_lemmas.proofs.Bools.{left_of as first_true, not-false, right_of as second_true}
-use Rattle.base_lemmas.proofs.Elements.{all-contained, get-contains}
-use Rattle.base_lemmas.proofs.Numbers.{same-number}
-use Rattle.wit_model.proofs.OnePath.{interface-passes as interface_passes}
-use Rattle.wit_model.proofs.PartsLemmas.{owner_same as same-owner}
-use Rattle.wit_model.proofs.ValidLemmas.{type_passes}
 
 -- a type of an interface's list
 pub record IsListedType (r : Resolve) (i : ℕ) (e : String Global × TypeId) : Type 0 where

@@ -1,30 +1,16 @@
 -- Named types that are met through unnamed ones: where all of them are known, no named type of the place is met by way of unknown numbers.
 use Rattle.std.proofs.Common.{◌≡◌, refl, sym, subst, ap, ◌∙◌, ℕ, cond, List, [], ◌∷◌, Option, Some, None, String, option_map, option_and_then}
 use Rattle.std.specs.declared.alloc.Global.{Global}
-use Rattle.std.specs.Prelude.{is_none}
-use Rattle.std.specs.List.{Contains}
-use Rattle.std.specs.Option.{option_map_or}
-use Rattle.wit_model.specs.Text.{text_of}
-use Rattle.wit_model.specs.Lookup.{type_at}
-use Rattle.wit_model.specs.Parts.{kind_numbers, met_by, met_of, used_by_type}
-use Rattle.wit_model.specs.Checks.{references}
-use Rattle.wit_model.specs.Valid.{Keeps}
-use Rattle.wit_model.specs.declared.model.Resolve.{Resolve}
-use Rattle.wit_model.specs.declared.model.TypeDef.{TypeDef}
-use Rattle.wit_model.specs.declared.model.TypeId.{TypeId}
-use Rattle.wit_model.specs.declared.model.InterfaceId.{InterfaceId}
-use Rattle.wit_model.specs.declared.model.«Type».{«Type» as ValueType}
-use Rattle.wit_model.specs.declared.model.«Type».TheVariants as ty
-use Rattle.wit_model.proofs.Owners.{met_step}
+use Rattle.std.specs.{Prelude.is_none, List.Contains, Option.option_map_or}
+use Rattle.wit_model.specs.{Text.text_of, Lookup.type_at, Parts.kind_numbers, Parts.met_by, Parts.met_of, Parts.used_by_type, Checks.references, Valid.Keeps}
+use Rattle.wit_model.specs.declared.model.{Resolve.Resolve, TypeDef.TypeDef, TypeId.TypeId, InterfaceId.InterfaceId, «Type».«Type» as ValueType}
+use Rattle.wit_model.proofs.{Owners.met_step, Elements.contains-flat}
 use Rattle.encode_types.specs.declared.maps.TypeEncodingMaps.{TypeEncodingMaps}
-use Rattle.encode_types.specs.Kinds.{parts_of}
-use Rattle.encode_types.specs.Maps.{IsKnown}
-use Rattle.encode_types.specs.Plan.{foreign_owner, Meets, at_once, further}
+use Rattle.encode_types.specs.{Kinds.parts_of, Maps.IsKnown, Plan.foreign_owner, Plan.Meets, Plan.at_once, Plan.further, Counts.own_name, Counts.name_of_own}
 use Rattle.encode_types.specs.Scope.{Scope}
-use Rattle.encode_types.specs.Counts.{own_name, name_of_own}
 use Rattle.encode_types.proofs.Planning.{part-number}
-use Rattle.wit_model.proofs.Elements.{contains-flat}
 use Rattle.base_lemmas.proofs.Elements.{contains-one}
+use Rattle.wit_model.specs.declared.model.«Type».TheVariants as ty
 
 module _ (r : Resolve) (below : Keeps references r) where
   -- a named type meets itself

@@ -1,27 +1,14 @@
 -- Maps that began empty hold the kinds of the unnamed types that are met, each once.
 use Rattle.std.proofs.Common.{◌≡◌, refl, sym, subst, ap, ◌∙◌, ℕ, zero, suc, ◌<◌, ◌⊎◌, inl, inr, Bool, true, false, List, [], ◌∷◌, map, length, get_or, arith, Option}
-use Rattle.std.specs.Prelude.{AllPairs}
-use Rattle.std.specs.List.{Contains}
-use Rattle.std.specs.Cmp.Lexicographic.{pointwise}
-use Rattle.wit_model.specs.Text.{text_of, text_eq}
-use Rattle.wit_model.specs.Rules.{is_named_kind}
-use Rattle.wit_model.specs.Valid.{IsValid}
-use Rattle.wit_model.specs.declared.model.Resolve.{Resolve}
-use Rattle.wit_model.specs.declared.model.Param.{Param}
-use Rattle.wit_model.specs.declared.model.TypeDefKind.{TypeDefKind}
-use Rattle.wit_model.specs.declared.model.InterfaceId.{InterfaceId}
-use Rattle.wit_model.specs.declared.model.«Type».{«Type» as ValueType}
+use Rattle.std.specs.{Prelude.AllPairs, List.Contains, Cmp.Lexicographic.pointwise}
+use Rattle.wit_model.specs.{Text.text_of, Text.text_eq, Rules.is_named_kind, Valid.IsValid}
+use Rattle.wit_model.specs.declared.model.{Resolve.Resolve, Param.Param, TypeDefKind.TypeDefKind, InterfaceId.InterfaceId, «Type».«Type» as ValueType}
 use Rattle.encode_types.specs.declared.maps.TypeEncodingMaps.{TypeEncodingMaps}
-use Rattle.encode_types.specs.Key.{same_type, same_param}
-use Rattle.encode_types.specs.Codes.{kind_code, lists_of, ListKey}
+use Rattle.encode_types.specs.{Key.same_type, Key.same_param, Codes.kind_code, Codes.lists_of, Codes.ListKey, Plan.Reaches, Plan.itself, Plan.through}
 use Rattle.encode_types.specs.Maps.{same_kind, IsKnown, IsReady, AllReady, IsOnce, LearnsOnly}
-use Rattle.encode_types.specs.Plan.{Reaches, itself, through}
 use Rattle.encode_types.specs.MetKinds.{ReachedFrom, IsMetKind, HasSame, AreMetKinds, IsKnownKind, IsHeld, Learns, MetKindsAreHeld}
-use Rattle.encode_types.proofs.Lists.{none-in}
-use Rattle.encode_types.proofs.EqualLists.{kinds-of-lists, lists-of-kinds}
-use Rattle.encode_types.proofs.KindLaws.{same_types}
-use Rattle.wit_encode.proofs.OwnerScope.{unnamed-home}
-use Rattle.wit_encode.proofs.Validity.{valid-unnamed}
+use Rattle.encode_types.proofs.{Lists.none-in, EqualLists.kinds-of-lists, EqualLists.lists-of-kinds, KindLaws.same_types}
+use Rattle.wit_encode.proofs.{OwnerScope.unnamed-home, Validity.valid-unnamed}
 use Rattle.base_lemmas.proofs.Bools.{left_of as first_true, right_of as second_true}
 
 -- ---- empty maps

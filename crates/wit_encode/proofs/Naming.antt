@@ -1,33 +1,21 @@
 -- A name in a place is that of one type among those that are met, so the names of resources are those of the types that are resources.
 use Rattle.std.proofs.Common.{◌≡◌, refl, sym, subst, ap, ◌∙◌, ℕ, zero, suc, ◌+◌, Bool, true, false, ◌&&◌, ◌||◌, nat_lt, List, [], ◌∷◌, slice_get, Option, Some, None, String, option_map, option_and_then, arith}
+use Rattle.std.proofs.lemmas.{Cmp.nat_list_eq_equiv, Bool.and_from as both, Bool.or_left as or-first, Bool.or_right as or-second}
 use Rattle.std.specs.declared.alloc.Global.{Global}
-use Rattle.std.specs.Prelude.{is_some}
-use Rattle.std.specs.List.{list_all, list_any}
-use Rattle.std.specs.Option.{option_map_or}
-use Rattle.std.specs.HashMap.{get_by, get_by_text}
-use Rattle.std.proofs.lemmas.Cmp.{nat_list_eq_equiv}
-use Rattle.wit_model.specs.Text.{Text, text_of, text_eq}
-use Rattle.wit_model.specs.Tree.{Place, here, of_interface}
+use Rattle.std.specs.{Prelude.is_some, List.list_all, List.list_any, Option.option_map_or, HashMap.get_by, HashMap.get_by_text}
+use Rattle.wit_model.specs.{Text.Text, Text.text_of, Text.text_eq, Uses.owner_interface, Valid.IsValid, Valid.numbers_in_range, Valid.order_of_types}
+use Rattle.wit_model.specs.{Tree.Place, Tree.here, Tree.of_interface, Parts.kind_numbers, Parts.numbered_from, Parts.same_owner, Parts.is_resource}
 use Rattle.wit_model.specs.Lookup.{type_at, interface_at, world_at, place_of, place_of_path, interface_path}
-use Rattle.wit_model.specs.Uses.{owner_interface}
-use Rattle.wit_model.specs.Parts.{kind_numbers, numbered_from, same_owner, is_resource}
 use Rattle.wit_model.specs.Rules.{passes, is_id, is_listed, is_listed_in_interface, is_listed_in_world, is_name_key, item_type, owner_in_range, text_is}
-use Rattle.wit_model.specs.Valid.{IsValid, numbers_in_range, order_of_types}
-use Rattle.wit_model.specs.declared.model.Resolve.{Resolve}
-use Rattle.wit_model.specs.declared.model.InterfaceId.{InterfaceId}
-use Rattle.wit_model.specs.declared.model.TypeDef.{TypeDef}
-use Rattle.wit_model.specs.declared.model.TypeOwner.{TypeOwner}
-use Rattle.wit_model.specs.declared.model.TypeOwner.TheVariants as owner
-use Rattle.wit_model.proofs.Entries.{each_from_at, lists_pass}
+use Rattle.wit_model.specs.declared.model.{Resolve.Resolve, InterfaceId.InterfaceId, TypeDef.TypeDef, TypeOwner.TypeOwner}
+use Rattle.wit_model.proofs.{Entries.each_from_at, Entries.lists_pass, PartsLemmas.owner_same as same-owner}
+use Rattle.wit_model.proofs.OnePath.{found-in, given-test, one-number, named-path, path-once}
 use Rattle.comp_meaning.specs.Same.{same_place}
 use Rattle.encode_types.specs.KeyLaws.{text_same}
-use Rattle.encode_types.specs.Resources.{is_named_interface, is_resource_entry, resource_names}
-use Rattle.encode_types.specs.Table.{is_met_owner, has_named_owner}
-use Rattle.wit_model.proofs.OnePath.{found-in, given-test, one-number, named-path, path-once}
+use Rattle.encode_types.specs.{Resources.is_named_interface, Resources.is_resource_entry, Resources.resource_names, Table.is_met_owner, Table.has_named_owner}
 use Rattle.base_lemmas.proofs.Bools.{both_ways as either_way, left_of as first_true, right_of as second_true}
-use Rattle.std.proofs.lemmas.Bool.{and_from as both, or_left as or-first, or_right as or-second}
 use Rattle.encode_shown.proofs.Parts.{place-alike}
-use Rattle.wit_model.proofs.PartsLemmas.{owner_same as same-owner}
+use Rattle.wit_model.specs.declared.model.TypeOwner.TheVariants as owner
 
 -- ---- numbered lists
 

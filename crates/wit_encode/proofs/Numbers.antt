@@ -1,19 +1,12 @@
 -- Lists of numbers: what stands before a place, what stands once, and what is given by one element alone.
 use Rattle.std.proofs.Common.{◌≡◌, refl, sym, subst, ap, ◌∙◌, ℕ, zero, suc, ◌+◌, ◌≤◌, Bool, true, false, cond, ◌||◌, ◌==◌, ◌⊎◌, inl, inr, nat_eq, List, [], ◌∷◌, ◌++◌, append_assoc, append-nil, take, map, filter_map, count_by, slice_get, Option, Some, None, arith}
-use Rattle.std.specs.Prelude.{AllPairs}
-use Rattle.std.specs.List.{Contains, IsDistinct, cons_option}
-use Rattle.std.proofs.lemmas.List.Elements.{Contains-append_cases, Contains-append_right}
-use Rattle.std.proofs.lemmas.List.Sums.{sum_by-cons}
-use Rattle.wit_model.specs.Uses.{has}
-use Rattle.wit_model.specs.Rules.{each_after}
-use Rattle.encode_types.proofs.Pairs.{pairs-head, pairs-tail}
-use Rattle.encode_types.proofs.Lists.{none-in}
+use Rattle.std.proofs.lemmas.{List.Elements.Contains-append_cases, List.Elements.Contains-append_right, List.Sums.sum_by-cons, Option.same_Some as same-some}
+use Rattle.std.specs.{Prelude.AllPairs, List.Contains, List.IsDistinct, List.cons_option}
+use Rattle.wit_model.specs.{Uses.has, Rules.each_after}
+use Rattle.encode_types.proofs.{Pairs.pairs-head, Pairs.pairs-tail, Lists.none-in}
 use Rattle.wit_model.proofs.Elements.{contains-has}
-use Rattle.base_lemmas.proofs.Bools.{left_of as first_true, right_of as second_true}
-use Rattle.base_lemmas.proofs.Elements.{all_at, contains-later, last_of}
-use Rattle.base_lemmas.proofs.Lists.{nothing-mapped}
-use Rattle.base_lemmas.proofs.Numbers.{equal, same-number}
-use Rattle.std.proofs.lemmas.Option.{same_Some as same-some}
+use Rattle.base_lemmas.proofs.{Bools.left_of as first_true, Bools.right_of as second_true, Elements.all_at, Elements.contains-later, Elements.last_of}
+use Rattle.base_lemmas.proofs.{Lists.nothing-mapped, Numbers.equal, Numbers.same-number}
 
 -- ---- what stands once
 

@@ -1,51 +1,26 @@
 -- An interface that is opened, encoded and closed again.
-use Rattle.std.proofs.Common.{◌≡◌, refl, sym, ap, ◌∙◌, true, List, [], ◌++◌, Option, Some, None, Result, Ok, Err, ℕ, ◌∷◌, Contains, subst}
-use Rattle.std.proofs.lemmas.Map.Views.{All-map-IsPermutation}
-use Rattle.std.proofs.lemmas.List.Elements.{All-contains_itself, All-contains}
-use Rattle.std.specs.Prelude.{IsPermutation, IfOk, map, String}
-use Rattle.std.specs.Borrow.{Bor}
+use Rattle.std.proofs.Common.{◌≡◌, refl, sym, ap, ◌∙◌, true, List, [], ◌++◌, Option, Some, None, Result, Ok, Err, ℕ, ◌∷◌, Contains, subst, Bool, false, OnErr, if◌then◌else◌, filter, length, slice_get, arith}
+use Rattle.std.proofs.lemmas.{Map.Views.All-map-IsPermutation, List.Elements.All-contains_itself, List.Elements.All-contains, List.Elements.filter_passes}
+use Rattle.std.proofs.lemmas.{List.Sorted.IsPermutation-map, Option.same_Some as some-same}
+use Rattle.std.specs.{Prelude.IsPermutation, Prelude.IfOk, Prelude.map, Prelude.String, Borrow.Bor, List.list_all, Option.option_map_or}
 use Rattle.std.specs.declared.alloc.Global.{Global}
-use Rattle.std.proofs.lemmas.List.Sorted.{IsPermutation-map}
-use Rattle.wit_model.specs.declared.model.Interface.{Interface}
-use Rattle.wit_model.specs.declared.model.Function.{Function}
-use Rattle.comp_bytes.specs.Held.{type_slots_of}
-use Rattle.std.specs.List.{list_all}
-use Rattle.std.specs.Option.{option_map_or}
-use Rattle.wit_model.specs.Text.{Text}
-use Rattle.wit_model.specs.Tree.{Place}
-use Rattle.wit_model.specs.Meaning.{FunctionMeaning}
-use Rattle.wit_model.specs.Meant.{interface_meaning_at}
-use Rattle.wit_model.specs.Lookup.{place_of, interface_at}
-use Rattle.wit_model.specs.Valid.{IsValid}
-use Rattle.wit_model.specs.declared.model.Resolve.{Resolve}
-use Rattle.wit_model.specs.declared.model.InterfaceId.{InterfaceId}
-use Rattle.wit_model.specs.declared.model.TypeId.{TypeId}
-use Rattle.wit_model.specs.declared.model.TypeOwner.TheVariants as owner
-use Rattle.comp_bytes.specs.Raw.{Declaration, Declarations, append, from_list}
-use Rattle.comp_bytes.specs.Reading.{◌>>=◌}
-use Rattle.comp_meaning.specs.Follow.{View, instance_view}
+use Rattle.wit_model.specs.declared.model.{Interface.Interface, Function.Function, Resolve.Resolve, InterfaceId.InterfaceId, TypeId.TypeId}
+use Rattle.comp_bytes.specs.{Held.type_slots_of, Raw.Declaration, Raw.Declarations, Raw.append, Raw.from_list, Reading.◌>>=◌}
+use Rattle.wit_model.specs.{Text.Text, Tree.Place, Meaning.FunctionMeaning, Meant.interface_meaning_at, Lookup.place_of, Lookup.interface_at, Valid.IsValid}
+use Rattle.comp_meaning.specs.Follow.{View, instance_view, Slot, new_scope, in_scope}
 use Rattle.encode_types.specs.declared.maps.TypeEncodingMaps.{TypeEncodingMaps}
-use Rattle.wit_encode.specs.declared.interface.OpenInterface.{OpenInterface}
-use Rattle.wit_encode.specs.declared.interface.Foreign.{Foreign}
-use Rattle.std.proofs.Common.{Bool, false, OnErr, if◌then◌else◌, filter, length, slice_get, arith}
-use Rattle.std.proofs.lemmas.List.Elements.{filter_passes}
-use Rattle.comp_meaning.specs.Follow as follow
-use Rattle.comp_meaning.specs.Follow.{Slot, new_scope, in_scope}
+use Rattle.wit_encode.specs.declared.interface.{OpenInterface.OpenInterface, Foreign.Foreign}
 use Rattle.encode_types.specs.Known.{Around, GrowsAround, known_instance, is_standing, stands_around, are_right, below, outer_scope, outer_instances}
-use Rattle.wit_encode.proofs.Components.{steps-instance}
-use Rattle.encode_types.specs.Scope.{Scope}
+use Rattle.encode_types.specs.{Scope.Scope, Slots.Keeps}
+use Rattle.wit_encode.proofs.{Components.steps-instance, Outside.instance-keeps}
+use Rattle.wit_encode.proofs.{ShownSlots.interface-shown, Calls.InnerAt, Calls.inner-at, Importing.grown-keeps, Importing.grown-stands, Importing.right-more}
 use Rattle.wit_encode.specs.Exports.{AreTypesOf}
-use Rattle.indexmap.specs.IndexMap.{values}
-use Rattle.wit_encode.proofs.ShownSlots.{interface-shown}
 use Rattle.wit_encode.specs.Instance.{is_slot_of, no_view, outer_slots, inner_contents, outer_contents, stands_in, SlotsStand, own_of, around_at, around_of, standing_instances, resources_in, contents_of, encoder_scope, opened, keyed, placed_function, is_sound_in, IsInstance, Continues, definitions_with}
-use Rattle.encode_types.specs.Slots.{Keeps}
-use Rattle.wit_encode.proofs.Calls.{InnerAt, inner-at}
-use Rattle.wit_encode.proofs.Outside.{instance-keeps}
-use Rattle.wit_encode.proofs.Importing.{grown-keeps, grown-stands, right-more}
-use Rattle.base_lemmas.proofs.Bools.{left_of as first_true, right_of as second_true}
+use Rattle.indexmap.specs.IndexMap.{values}
+use Rattle.base_lemmas.proofs.{Bools.left_of as first_true, Bools.right_of as second_true, Lists.identity as map-itself, Lists.map_of_map as map-twice}
 use Rattle.base_lemmas.proofs.Elements.{contains-map}
-use Rattle.base_lemmas.proofs.Lists.{identity as map-itself, map_of_map as map-twice}
-use Rattle.std.proofs.lemmas.Option.{same_Some as some-same}
+use Rattle.wit_model.specs.declared.model.TypeOwner.TheVariants as owner
+use Rattle.comp_meaning.specs.Follow as follow
 
 pub opened-sound : (r : Resolve) (outer : Declarations) (i : InterfaceId) (known : Foreign) → (encoder_scope r outer (opened i known)).is_sound ≡ true
 unfolding inner_contents

@@ -1,28 +1,16 @@
 -- Functions that are sorted by the places of their resources.
 use Rattle.std.proofs.Common.{◌≡◌, refl, sym, subst, ap, ◌∙◌, ℕ, zero, suc, ◌+◌, ◌<◌, ◌≤◌, Bool, true, false, cond, ◌⊎◌, inl, inr, List, [], ◌∷◌, ◌++◌, length, get_or, filter, map, nat_cmp, is_lt, Option, Some, None, arith, suc-le-suc, zero-le}
+use Rattle.std.proofs.lemmas.{Iterator.Adapters.position_from-zero, List.Sums.prefix_len-le-length, Bool.Decides.nat_tests, List.nil_from_length as no-more}
+use Rattle.std.proofs.lemmas.Bool.{eqb-true, true≢false, not_from_false as opposite, not_from_true as negated, cond-true, cond-false, cases_Bool}
+use Rattle.std.proofs.lemmas.List.{Elements.filter_agree, Elements.All-head, Elements.All-tail, Sorted.length_permutation, Sorted.All-permutation}
 use Rattle.std.specs.Prelude.{not, nat_eq, nat_lt, All, IsPermutation, String}
-use Rattle.std.specs.Borrow.{Bor}
+use Rattle.std.specs.{Borrow.Bor, Option.option_map_or, Option.is_some, BTreeMap.BTreeMap, BTreeMap.get, BTreeMap.Updates}
+use Rattle.std.specs.{List.position, List.position_from, List.position_or_len, List.Sorted.ties, List.Sorted.IsNonDecreasingBy, List.Sorted.IsStableByKey}
 use Rattle.std.specs.declared.alloc.Global.{Global}
-use Rattle.std.specs.Option.{option_map_or, is_some}
-use Rattle.std.specs.List.{position, position_from, position_or_len}
-use Rattle.std.specs.BTreeMap.{BTreeMap, get, Updates}
-use Rattle.std.proofs.lemmas.Iterator.Adapters.{position_from-zero}
-use Rattle.std.proofs.lemmas.Bool.{eqb-true, true≢false, not_from_false as opposite, not_from_true as negated}
-use Rattle.std.proofs.lemmas.List.Sums.{prefix_len-le-length}
-use Rattle.std.specs.List.Sorted.{ties, IsNonDecreasingBy, IsStableByKey}
-use Rattle.std.proofs.lemmas.Bool.{cond-true, cond-false, cases_Bool}
-use Rattle.std.proofs.lemmas.Bool.Decides.{nat_tests}
-use Rattle.std.proofs.lemmas.List.Elements.{filter_agree, All-head, All-tail}
-use Rattle.std.proofs.lemmas.List.Sorted.{length_permutation, All-permutation}
-use Rattle.wit_model.specs.Text.{Text}
-use Rattle.wit_model.specs.Lookup.{resource_of}
-use Rattle.wit_model.specs.declared.model.TypeId.{TypeId}
-use Rattle.wit_model.specs.declared.model.Function.{Function}
-use Rattle.wit_encode.specs.Instance.{placed_function}
-use Rattle.wit_encode.specs.Order.{any_of_resource, is_function_of, by_resource, place_among, ArePlaces}
-use Rattle.base_lemmas.proofs.Bools.{first_false, second_false}
-use Rattle.base_lemmas.proofs.Lists.{filter_all as filter-all}
-use Rattle.std.proofs.lemmas.List.{nil_from_length as no-more}
+use Rattle.wit_model.specs.{Text.Text, Lookup.resource_of}
+use Rattle.wit_model.specs.declared.model.{TypeId.TypeId, Function.Function}
+use Rattle.wit_encode.specs.{Instance.placed_function, Order.any_of_resource, Order.is_function_of, Order.by_resource, Order.place_among, Order.ArePlaces}
+use Rattle.base_lemmas.proofs.{Bools.first_false, Bools.second_false, Lists.filter_all as filter-all}
 
 -- ---- lists that rise
 

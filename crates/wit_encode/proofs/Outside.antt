@@ -1,30 +1,20 @@
 -- What the calls of an encoder of interfaces do between interfaces: then what is defined stands in the component type.
 use Rattle.encode_types.specs.Distinct.{target_of, targets_of}
-use Rattle.wit_encode.proofs.ValueSlots.{slots-next, targets-push}
-use Rattle.std.proofs.Common.{◌≡◌, refl, sym, subst, ap, ◌∙◌, ℕ, true, cond, [], ◌∷◌, ◌++◌, append-nil, option_to_list, List, Result, Ok, Err, IfOk, OnErr, Option, Some, None, length, arith}
-use Rattle.std.specs.List.{list_all}
-use Rattle.std.specs.Option.{option_map_or, is_some}
-use Rattle.wit_model.specs.Tree.{Tree}
-use Rattle.wit_model.specs.Meaning.{Signature}
-use Rattle.wit_model.specs.declared.model.Resolve.{Resolve}
-use Rattle.comp_bytes.specs.declared.forms.ComponentDefinedType.{ComponentDefinedType}
-use Rattle.comp_bytes.specs.declared.forms.ComponentFuncType.{ComponentFuncType}
-use Rattle.comp_bytes.specs.Raw.{Declaration, Declarations, append, from_list}
-use Rattle.comp_bytes.specs.RawOf.{raw_defined, raw_function}
-use Rattle.comp_bytes.specs.Held.{type_slots_of}
-use Rattle.comp_meaning.specs.Follow as follow
-use Rattle.comp_meaning.specs.Follow.{Slot, new_scope, definition, function_signature, component_step, in_scope}
 use Rattle.encode_types.specs.Slots.{Standing, Keeps, Follows, FollowsFunction, Defines, DefinesFunction}
-use Rattle.encode_types.specs.Formed.{IsFormed, IsFormedSignature}
-use Rattle.encode_types.specs.Known.{no_around}
-use Rattle.encode_types.specs.Counts.{one_type_more, one_function_more}
-use Rattle.wit_encode.specs.Instance.{SlotsStand, is_slot_of, Contents, outer_scope, outer_contents, is_value_type, is_function_type, resources_in, scope_with, definitions_with}
+use Rattle.encode_types.specs.{Formed.IsFormed, Formed.IsFormedSignature, Known.no_around, Counts.one_type_more, Counts.one_function_more}
+use Rattle.wit_encode.proofs.{ValueSlots.slots-next, ValueSlots.targets-push, Components.steps-count, Components.steps-more, Components.steps-instance}
 use Rattle.wit_encode.proofs.Strict.{bind, definition-strict, function-strict}
-use Rattle.wit_encode.proofs.Contents.{Grew, slots-kept}
-use Rattle.wit_encode.proofs.Components.{steps-count, steps-more, steps-instance}
-use Rattle.wit_encode.proofs.Calls.{Calls, calls-from, defines-of, function-of, formed-value}
-use Rattle.base_lemmas.proofs.Bools.{left_of as first_true, right_of as second_true}
-use Rattle.base_lemmas.proofs.Options.{there as some-of}
+use Rattle.wit_encode.proofs.{Contents.Grew, Contents.slots-kept, Calls.Calls, Calls.calls-from, Calls.defines-of, Calls.function-of, Calls.formed-value}
+use Rattle.std.proofs.Common.{◌≡◌, refl, sym, subst, ap, ◌∙◌, ℕ, true, cond, [], ◌∷◌, ◌++◌, append-nil, option_to_list, List, Result, Ok, Err, IfOk, OnErr, Option, Some, None, length, arith}
+use Rattle.std.specs.{List.list_all, Option.option_map_or, Option.is_some}
+use Rattle.wit_model.specs.{Tree.Tree, Meaning.Signature}
+use Rattle.wit_model.specs.declared.model.Resolve.{Resolve}
+use Rattle.comp_bytes.specs.declared.forms.{ComponentDefinedType.ComponentDefinedType, ComponentFuncType.ComponentFuncType}
+use Rattle.comp_bytes.specs.{Raw.Declaration, Raw.Declarations, Raw.append, Raw.from_list, RawOf.raw_defined, RawOf.raw_function, Held.type_slots_of}
+use Rattle.comp_meaning.specs.Follow.{Slot, new_scope, definition, function_signature, component_step, in_scope}
+use Rattle.wit_encode.specs.Instance.{SlotsStand, is_slot_of, Contents, outer_scope, outer_contents, is_value_type, is_function_type, resources_in, scope_with, definitions_with}
+use Rattle.base_lemmas.proofs.{Bools.left_of as first_true, Bools.right_of as second_true, Options.there as some-of}
+use Rattle.comp_meaning.specs.Follow as follow
 
 -- no slot stands for anything
 nothing-stands : (i : ℕ) (m : Standing) → SlotsStand [] i m → ⊥

@@ -1,36 +1,22 @@
 -- What is met from a type of an owner is of that owner, but for what its aliases of types of other interfaces name.
 use Rattle.std.proofs.Common.{◌≡◌, refl, sym, subst, ◌∙◌, ℕ, ◌+◌, Bool, true, false, ◌||◌, ◌==◌, cond, T, eqb→eq, Option, Some, None, is_some, nat_eq, nat_lt, String, arith}
-use Rattle.std.specs.declared.alloc.Global.{Global}
 use Rattle.std.proofs.Math.Dec.{eqb_refl}
-use Rattle.std.specs.Prelude.{is_none}
-use Rattle.std.specs.List.{Contains, list_all}
-use Rattle.std.specs.Option.{option_map_or}
-use Rattle.wit_model.specs.Lookup.{type_at}
-use Rattle.wit_model.specs.Uses.{alias_target, owner_interface}
+use Rattle.std.specs.declared.alloc.Global.{Global}
+use Rattle.std.specs.{Prelude.is_none, List.Contains, List.list_all, Option.option_map_or}
+use Rattle.wit_model.specs.{Lookup.type_at, Uses.alias_target, Uses.owner_interface}
 use Rattle.wit_model.specs.Parts.{kind_numbers, met_by, met_of, used_by_type, same_owner, has_owner}
-use Rattle.wit_model.specs.Text.{Text, text_of}
-use Rattle.wit_model.specs.Rules.{is_use, is_listed, type_stays}
-use Rattle.wit_model.specs.Valid.{IsValid, order_of_types, owners}
-use Rattle.wit_model.specs.declared.model.Resolve.{Resolve}
-use Rattle.wit_model.specs.declared.model.TypeDef.{TypeDef}
-use Rattle.wit_model.specs.declared.model.TypeDefKind.{TypeDefKind}
-use Rattle.wit_model.specs.declared.model.TypeDefKind.TheVariants as kind
-use Rattle.wit_model.specs.declared.model.TypeOwner.{TypeOwner}
-use Rattle.wit_model.specs.declared.model.TypeOwner.TheVariants as owner
+use Rattle.wit_model.specs.{Text.Text, Text.text_of, Rules.is_use, Rules.is_listed, Rules.type_stays, Valid.IsValid, Valid.order_of_types, Valid.owners}
+use Rattle.wit_model.specs.declared.model.{Resolve.Resolve, TypeDef.TypeDef, TypeDefKind.TypeDefKind, TypeOwner.TypeOwner, «Type».«Type» as ValueType}
 use Rattle.wit_model.specs.declared.model.TypeId.{TypeId}
-use Rattle.wit_model.specs.declared.model.«Type».{«Type» as ValueType}
-use Rattle.wit_model.specs.declared.model.«Type».TheVariants as ty
-use Rattle.wit_model.proofs.Entries.{each_from_at, lists_pass}
-use Rattle.wit_model.proofs.Functions.{all_flat}
-use Rattle.wit_model.proofs.Owners.{named_met, unnamed_met, owned_stays}
-use Rattle.encode_types.specs.Kinds.{parts_of}
-use Rattle.encode_types.specs.Plan.{foreign_owner}
-use Rattle.encode_types.specs.Table.{interface_of_owner}
+use Rattle.wit_model.proofs.{Entries.each_from_at, Entries.lists_pass, Functions.all_flat, Owners.named_met, Owners.unnamed_met, Owners.owned_stays}
+use Rattle.wit_model.proofs.PartsLemmas.{owner_same as same-owner}
+use Rattle.encode_types.specs.{Kinds.parts_of, Plan.foreign_owner, Table.interface_of_owner}
 use Rattle.encode_types.proofs.Planning.{part-number}
 use Rattle.encode_shown.proofs.Basics.{valid-references, or-cases}
-use Rattle.base_lemmas.proofs.Bools.{right_of as second_true}
-use Rattle.base_lemmas.proofs.Elements.{all-contained, last_of as one-contained}
-use Rattle.wit_model.proofs.PartsLemmas.{owner_same as same-owner}
+use Rattle.base_lemmas.proofs.{Bools.right_of as second_true, Elements.all-contained, Elements.last_of as one-contained}
+use Rattle.wit_model.specs.declared.model.TypeDefKind.TheVariants as kind
+use Rattle.wit_model.specs.declared.model.TypeOwner.TheVariants as owner
+use Rattle.wit_model.specs.declared.model.«Type».TheVariants as ty
 
 -- ---- owners
 

@@ -2,63 +2,34 @@
 -- uses stands. It is of the owner, or of such an interface.
 use Rattle.std.proofs.Common.{◌≡◌, refl, sym, subst, ap, ◌∙◌, ℕ, ◌<◌, ◌⊎◌, inl, inr, Bool, true, false, not, cond, ◌&&◌, ◌==◌, eq-eqb, List, [], ◌∷◌, length, option_to_list, Option, Some, None, String, unwrap_or, is_some, arith}
 use Rattle.std.proofs.lemmas.Bool.{ltb-true, and_from as both, not-true, or_left as or-first, or_right as or-second}
-use Rattle.std.proofs.lemmas.List.Folds.{list_all-append}
+use Rattle.std.proofs.lemmas.{List.Folds.list_all-append, Option.slice_get_within, Option.same_Some as some-same, List.Elements.Contains-append_left}
 use Rattle.std.specs.declared.alloc.Global.{Global}
-use Rattle.std.specs.List.{Contains, list_all}
-use Rattle.std.specs.Option.{option_map_or}
-use Rattle.std.specs.Prelude.{map, option_and_then, filter_map}
-use Rattle.std.proofs.lemmas.Option.{slice_get_within, same_Some as some-same}
-use Rattle.std.proofs.lemmas.List.Elements.{Contains-append_left}
+use Rattle.std.specs.{List.Contains, List.list_all, Option.option_map_or, Prelude.map, Prelude.option_and_then, Prelude.filter_map}
 use Rattle.indexmap.specs.IndexMap.{values}
-use Rattle.wit_model.specs.Text.{text_of}
-use Rattle.wit_model.specs.Types.{number_of}
+use Rattle.wit_model.specs.{Text.text_of, Types.number_of, Meant.type_meaning, Uses.alias_target, Uses.owner_interface, Uses.used_interface, Uses.items_of}
 use Rattle.wit_model.specs.Lookup.{type_at, interface_at, world_at, place_of, resource_of, is_async}
-use Rattle.wit_model.specs.Meant.{type_meaning}
-use Rattle.wit_model.specs.Uses.{alias_target, owner_interface, used_interface, items_of}
 use Rattle.wit_model.specs.Parts.{met_by, met_of, same_owner, has_owner, function_types, function_numbers, kind_numbers, is_resource_type}
 use Rattle.wit_model.specs.Rules.{in_list, is_use, owner_in_range, passes, package_number, function_in_range, function_stays, item_in_range, key_in_range, entries_in_range}
 use Rattle.wit_model.specs.Valid.{IsValid, numbers_in_range, owners, handles, is_place, functions_of_interface, functions_of_world, item_function}
-use Rattle.wit_model.specs.declared.model.Resolve.{Resolve}
-use Rattle.wit_model.specs.declared.model.Interface.{Interface}
-use Rattle.wit_model.specs.declared.model.World.{World}
-use Rattle.wit_model.specs.declared.model.WorldId.{WorldId}
-use Rattle.wit_model.specs.declared.model.WorldKey.{WorldKey}
-use Rattle.wit_model.specs.declared.model.WorldItem.{WorldItem}
-use Rattle.wit_model.specs.declared.model.WorldItem.TheVariants as item
-use Rattle.wit_model.specs.declared.model.InterfaceId.{InterfaceId}
-use Rattle.wit_model.specs.declared.model.Function.{Function}
-use Rattle.wit_model.specs.declared.model.TypeDef.{TypeDef}
-use Rattle.wit_model.specs.declared.model.TypeDefKind.{TypeDefKind}
-use Rattle.wit_model.specs.declared.model.TypeId.{TypeId}
-use Rattle.wit_model.specs.declared.model.TypeOwner.{TypeOwner}
-use Rattle.wit_model.specs.declared.model.TypeOwner.TheVariants as owner
-use Rattle.wit_model.specs.declared.model.«Type».{«Type» as ValueType}
-use Rattle.wit_model.specs.declared.model.«Type».TheVariants as ty
-use Rattle.wit_model.proofs.Lists.{list_all_filter_map}
+use Rattle.wit_model.specs.declared.model.{Resolve.Resolve, WorldId.WorldId, WorldItem.WorldItem, Function.Function, TypeDef.TypeDef, TypeOwner.TypeOwner}
+use Rattle.wit_model.specs.declared.model.{Interface.Interface, WorldKey.WorldKey, InterfaceId.InterfaceId, TypeDefKind.TypeDefKind, «Type».«Type» as ValueType}
+use Rattle.wit_model.specs.declared.model.{World.World, TypeId.TypeId}
+use Rattle.wit_model.proofs.{Lists.list_all_filter_map, Functions.all_flat, Elements.contains-filter_map, OnePath.interface-passes as interface_passes}
 use Rattle.wit_model.proofs.Owners.{named_met}
-use Rattle.wit_model.proofs.Functions.{all_flat}
-use Rattle.encode_types.specs.Kinds.{parts_of}
-use Rattle.encode_types.specs.Plan.{foreign_owner, AllInRange, Reaches, itself, through}
-use Rattle.encode_types.specs.Resources.{is_named_interface, is_met_owner}
+use Rattle.wit_model.proofs.{PartsLemmas.owner_itself as owner-itself, PartsLemmas.owner_same as same-owner, ValidLemmas.type_passes, ValidLemmas.world_passes}
+use Rattle.encode_types.specs.{Kinds.parts_of, Resources.is_named_interface, Resources.is_met_owner, Table.interface_of_owner, Table.has_named_owner}
+use Rattle.encode_types.specs.{Plan.foreign_owner, Plan.AllInRange, Plan.Reaches, Plan.itself, Plan.through, Scope.Scope, Scope.IsDeclared, Scope.IsImportable}
 use Rattle.encode_types.specs.Fits.{FitsScope, CanEncode}
-use Rattle.encode_types.specs.Scope.{Scope, IsDeclared, IsImportable}
-use Rattle.encode_types.specs.Table.{interface_of_owner, has_named_owner}
 use Rattle.wit_encode.specs.OwnerScope.{IsScopeOf, IsMet, IsOfInstance, NamesStand, InstancesStand, IsUsedBy, UsesStand, IsTypeOf, functions_of, NamesEncode, TypesEncode, FunctionsEncode, TypesUse, FunctionsUse, TableScope, TableUsesStand}
-use Rattle.wit_encode.proofs.Forming.{Agree}
-use Rattle.wit_encode.proofs.Owned.{stays, part-met, own-interface, alias-part}
-use Rattle.wit_encode.proofs.Naming.{one-home, named-owner, names-agree}
+use Rattle.wit_encode.proofs.{Forming.Agree, ImportsStand.below-there}
+use Rattle.wit_encode.proofs.{Owned.stays, Owned.part-met, Owned.own-interface, Owned.alias-part, Naming.one-home, Naming.named-owner, Naming.names-agree}
 use Rattle.wit_encode.proofs.Validity.{OwnersMet, valid-layered, valid-unnamed, valid-ownerless, valid-formed, signature-formed, has-name, named-agree, named-parts, named-alike, foreign-interface, declared-there}
-use Rattle.wit_model.proofs.Elements.{contains-filter_map}
 use Rattle.encode_shown.proofs.Basics.{valid-references}
-use Rattle.base_lemmas.proofs.Bools.{left_of as first_true, right_of as second_true}
-use Rattle.base_lemmas.proofs.Elements.{all-contained, contains-one, last_of as one-contained}
-use Rattle.base_lemmas.proofs.Lists.{given-some}
-use Rattle.base_lemmas.proofs.Numbers.{equal as equal-numbers}
-use Rattle.base_lemmas.proofs.Options.{there as some-of}
-use Rattle.wit_model.proofs.OnePath.{interface-passes as interface_passes}
-use Rattle.wit_model.proofs.PartsLemmas.{owner_itself as owner-itself, owner_same as same-owner}
-use Rattle.wit_model.proofs.ValidLemmas.{type_passes, world_passes}
-use Rattle.wit_encode.proofs.ImportsStand.{below-there}
+use Rattle.base_lemmas.proofs.{Bools.left_of as first_true, Bools.right_of as second_true, Lists.given-some, Options.there as some-of}
+use Rattle.base_lemmas.proofs.{Elements.all-contained, Elements.contains-one, Elements.last_of as one-contained, Numbers.equal as equal-numbers}
+use Rattle.wit_model.specs.declared.model.WorldItem.TheVariants as item
+use Rattle.wit_model.specs.declared.model.TypeOwner.TheVariants as owner
+use Rattle.wit_model.specs.declared.model.«Type».TheVariants as ty
 
 -- ---- owners
 

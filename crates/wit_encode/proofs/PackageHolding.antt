@@ -1,22 +1,14 @@
 -- Component types for which a component has no room.
 use Rattle.std.proofs.Common.{◌≡◌, ◌<◌, ◌≤◌, ◌+◌, inl, inr, refl, sym, ap, subst, ◌∙◌, Bool, false, ◌&&◌, List, [], ◌∷◌, ◌++◌, append_assoc, Some}
-use Rattle.wit_model.specs.Text.{Text, text_of}
-use Rattle.wit_model.specs.Names.{PackageIdentity}
-use Rattle.wit_model.specs.Lookup.{interface_path, world_at}
-use Rattle.wit_model.specs.declared.model.Resolve.{Resolve}
-use Rattle.wit_model.specs.declared.model.World.{World}
-use Rattle.comp_bytes.specs.Raw.{Declarations, TopType}
-use Rattle.comp_bytes.specs.Parts.{Part, fits_component, plain_export, top_slots}
+use Rattle.wit_model.specs.{Text.Text, Text.text_of, Names.PackageIdentity, Lookup.interface_path, Lookup.world_at, Weight.interface_weight}
+use Rattle.wit_model.specs.declared.model.{Resolve.Resolve, World.World}
+use Rattle.comp_bytes.specs.{Raw.Declarations, Raw.TopType, Parts.Part, Parts.fits_component, Parts.plain_export, Parts.top_slots}
 use Rattle.encode_exports.specs.ExportedParts.{one_exported}
 use Rattle.encode_exports.proofs.Exports.{one_more}
 use Rattle.encode_types.specs.Room.{limit}
-use Rattle.wit_model.specs.Weight.{interface_weight}
-use Rattle.wit_encode.specs.Dependencies.{ShowsComponent}
-use Rattle.wit_encode.specs.DependencyCounts.{DefinesComponent}
-use Rattle.wit_encode.specs.Instance.{declared_extent}
+use Rattle.wit_encode.specs.{Dependencies.ShowsComponent, Instance.declared_extent, WrittenNames.WritesPaths}
+use Rattle.wit_encode.specs.{DependencyCounts.DefinesComponent, Packages.HoldsMembers, Packages.Listed, Packages.ListedWorld, Packages.WrapsWorld}
 use Rattle.wit_encode.specs.PackageRoom.{InterfacesLackRoom, LacksInterface, LacksWorld, WorldsLackRoom, parts_extent}
-use Rattle.wit_encode.specs.Packages.{HoldsMembers, Listed, ListedWorld, WrapsWorld}
-use Rattle.wit_encode.specs.WrittenNames.{WritesPaths}
 use Rattle.wit_encode.proofs.Lengths.{long-parts}
 use Rattle.wit_encode.proofs.Packages.{IsBegun, WorldsBegun, next-listed, next-world, type-added, world-added}
 

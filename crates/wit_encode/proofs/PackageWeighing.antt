@@ -1,24 +1,15 @@
 -- A component in which the component types of a package have no room: the package is too heavy.
 use Rattle.std.proofs.Common.{◌≡◌, ◌≤◌, ◌<◌, ◌+◌, refl, sym, ap, subst, ◌∙◌, ℕ, zero, suc, Bool, false, List, [], ◌∷◌, ◌++◌, append-nil, length, length-append, option_map, option_to_list, Option, Some, arith}
-use Rattle.std.specs.Prelude.{option_and_then, sum_by}
-use Rattle.std.specs.List.{AllZip, Contains}
-use Rattle.std.specs.Option.{option_map_or}
 use Rattle.std.proofs.lemmas.Bool.{lt-ltb}
-use Rattle.std.proofs.lemmas.List.Elements.{Contains-append_left, Contains-append_right}
-use Rattle.std.proofs.lemmas.List.Sums.{sum_by-cons, sum_by-append}
-use Rattle.wit_model.specs.Text.{Text, text_of}
-use Rattle.wit_model.specs.Names.{path_in}
-use Rattle.wit_model.specs.Lookup.{identity_of, package_at, path_in_package, path_of_world, world_at}
-use Rattle.wit_model.specs.Valid.{IsValid}
+use Rattle.std.proofs.lemmas.List.{Elements.Contains-append_left, Elements.Contains-append_right, Sums.sum_by-cons, Sums.sum_by-append}
+use Rattle.std.specs.{Prelude.option_and_then, Prelude.sum_by, List.AllZip, List.Contains, Option.option_map_or}
+use Rattle.wit_model.specs.{Text.Text, Text.text_of, Lookup.identity_of, Lookup.package_at, Lookup.path_in_package, Lookup.path_of_world, Lookup.world_at}
+use Rattle.wit_model.specs.{Names.path_in, Valid.IsValid}
 use Rattle.wit_model.specs.Weight.{exported_weight, interface_weight, package_weight, unit_of, world_weight, wrapped_weight}
-use Rattle.wit_model.specs.declared.model.Resolve.{Resolve}
-use Rattle.wit_model.specs.declared.model.Package.{Package}
-use Rattle.wit_model.specs.declared.model.PackageId.{PackageId}
-use Rattle.wit_model.specs.declared.model.World.{World}
+use Rattle.wit_model.specs.declared.model.{Resolve.Resolve, Package.Package, PackageId.PackageId, World.World}
 use Rattle.wit_model.proofs.OnePath.{found-in}
-use Rattle.comp_bytes.specs.Raw.{Declarations, TopType, declaration_count}
+use Rattle.comp_bytes.specs.{Raw.Declarations, Raw.TopType, Raw.declaration_count, Writing.u32_bytes, Writing.name_bytes, Writing.declarations_bytes}
 use Rattle.comp_bytes.specs.Parts.{Part, fits_component, plain_export}
-use Rattle.comp_bytes.specs.Writing.{u32_bytes, name_bytes, declarations_bytes}
 use Rattle.encode_exports.specs.ExportedParts.{exporting_from, one_exported}
 use Rattle.encode_shown.proofs.Owning.{own-world}
 use Rattle.encode_shown.specs.PackageTypes.{wrapper}
@@ -26,9 +17,8 @@ use Rattle.encode_types.specs.Room.{limit}
 use Rattle.wit_encode.specs.Instance.{declared_extent}
 use Rattle.wit_encode.specs.PackageRoom.{AreLong, InterfacesLackRoom, WorldsLackRoom, part_extent, parts_extent}
 use Rattle.wit_encode.specs.Packages.{HoldsInterfaces, HoldsMembers, HoldsPackage, IsTypeOf, IsWrapperOf, Listed, ListedWorld}
-use Rattle.wit_encode.proofs.Lengths.{long-component, name-short, u32-short}
+use Rattle.wit_encode.proofs.{Lengths.long-component, Lengths.name-short, Lengths.u32-short, WholePackages.are-worlds, WholePackages.no-worlds_yet}
 use Rattle.wit_encode.proofs.Weighing.{one-of}
-use Rattle.wit_encode.proofs.WholePackages.{are-worlds, no-worlds_yet}
 use Rattle.base_lemmas.proofs.Elements.{contains-one}
 
 -- ---- component types and their exports

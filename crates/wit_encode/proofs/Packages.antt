@@ -1,27 +1,15 @@
 -- Component types that are added one after the other.
 use Rattle.std.proofs.Common.{◌≡◌, refl, sym, ap, subst, ◌∙◌, ℕ, Bool, true, List, [], ◌∷◌, ◌++◌, append_assoc, append-nil, Some, Result, Ok, Err, IfErr, OnOk, ◌⊎◌, inl, inr, ◌≤◌}
-use Rattle.std.specs.Prelude.{IsErrAnd}
-use Rattle.std.specs.List.{Contains}
 use Rattle.std.proofs.lemmas.List.Elements.{Contains-append_cases, Contains-append_left, Contains-append_right}
-use Rattle.wit_model.specs.Text.{Text, text_of}
-use Rattle.wit_model.specs.Names.{PackageIdentity}
-use Rattle.wit_model.specs.Lookup.{interface_path, world_at}
-use Rattle.wit_model.specs.declared.model.World.{World}
-use Rattle.wit_model.specs.declared.error.Error.{Error}
-use Rattle.wit_model.specs.declared.model.Resolve.{Resolve}
+use Rattle.std.specs.{Prelude.IsErrAnd, List.Contains}
+use Rattle.wit_model.specs.{Text.Text, Text.text_of, Names.PackageIdentity, Lookup.interface_path, Lookup.world_at, Weight.interface_weight}
+use Rattle.wit_model.specs.declared.{model.World.World, error.Error.Error, model.Resolve.Resolve}
 use Rattle.wit_model.proofs.Elements.{none-in, zip-push}
-use Rattle.comp_bytes.specs.Raw.{Declarations}
-use Rattle.comp_bytes.specs.Parts.{Part}
-use Rattle.comp_bytes.specs.Refusal.{IsMemoryOrSize}
+use Rattle.comp_bytes.specs.{Raw.Declarations, Parts.Part, Refusal.IsMemoryOrSize}
 use Rattle.encode_exports.specs.ExportedParts.{exporting}
-use Rattle.wit_encode.specs.Dependencies.{ShowsComponent}
-use Rattle.wit_encode.specs.DependencyCounts.{DefinesComponent}
-use Rattle.wit_encode.specs.Scopes.{HasNoEqualPaths, RefusesInterface}
-use Rattle.wit_encode.specs.WholeWorlds.{RefusesWorld}
+use Rattle.wit_encode.specs.{Dependencies.ShowsComponent, DependencyCounts.DefinesComponent, Scopes.HasNoEqualPaths, Scopes.RefusesInterface}
+use Rattle.wit_encode.specs.{WholeWorlds.RefusesWorld, Instance.declared_extent, WrittenNames.WritesPaths}
 use Rattle.wit_encode.specs.Packages.{AddsInterface, AddsWorld, AddsWorlds, HasNoClashAt, HaveNoClash, HaveNoEqualPaths, HoldsInterfaces, IsTypeOf, IsWrapperOf, Listed, ListedWorld, RefusesInterfaces, RefusesWorldAt, RefusesWorlds, WrapsWorld}
-use Rattle.wit_model.specs.Weight.{interface_weight}
-use Rattle.wit_encode.specs.Instance.{declared_extent}
-use Rattle.wit_encode.specs.WrittenNames.{WritesPaths}
 use Rattle.base_lemmas.proofs.Elements.{contains-one, last_of as one-contained}
 
 pub on-ok : {X E A B : Type 0} (given : Result X E) → OnOk given A → (A → B) → OnOk given B

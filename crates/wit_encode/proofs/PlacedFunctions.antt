@@ -1,34 +1,24 @@
 -- The declarations of an instance type stand in order: after its types, and after each function.
 use Rattle.std.proofs.Common.{◌≡◌, refl, sym, ap, subst, ◌∙◌, ℕ, ◌+◌, ◌⊎◌, inl, inr, Bool, true, false, not, cond, List, [], ◌∷◌, ◌++◌, append-nil, append_assoc, Option, Some, None, slice_get, length, length-append, Result, Ok, Err, IfOk, OnErr, IsSome, arith}
-use Rattle.std.specs.List.{list_all}
-use Rattle.std.specs.Option.{option_map_or}
-use Rattle.std.specs.Cmp.Derive.{both_true}
-use Rattle.std.proofs.lemmas.Bool.{eq-eqb}
-use Rattle.std.proofs.lemmas.List.Folds.{list_all-append}
-use Rattle.base_lemmas.proofs.Bools.{left_of}
-use Rattle.base_lemmas.proofs.Elements.{all_weaker}
-use Rattle.base_lemmas.proofs.Lists.{length_of_map}
-use Rattle.wit_model.specs.Tree.{Place}
-use Rattle.wit_model.specs.Lookup.{place_of}
+use Rattle.std.proofs.lemmas.{Bool.eq-eqb, List.Folds.list_all-append}
+use Rattle.std.specs.{List.list_all, Option.option_map_or, Cmp.Derive.both_true}
+use Rattle.base_lemmas.proofs.{Bools.left_of, Elements.all_weaker, Lists.length_of_map}
+use Rattle.wit_model.specs.{Tree.Place, Lookup.place_of}
 use Rattle.wit_model.specs.declared.model.Resolve.{Resolve}
-use Rattle.wit_model.specs.declared.model.TypeOwner.TheVariants as owner
 use Rattle.comp_bytes.specs.declared.forms.ComponentTypeRef.{ComponentTypeRef}
-use Rattle.comp_bytes.specs.declared.forms.ComponentTypeRef.TheVariants as refs
-use Rattle.comp_bytes.specs.Raw.{Alias, Declaration, Declarations, ExternName, from_list}
-use Rattle.comp_bytes.specs.Held.{type_slots}
+use Rattle.comp_bytes.specs.{Raw.Alias, Raw.Declaration, Raw.Declarations, Raw.ExternName, Raw.from_list, Held.type_slots}
 use Rattle.comp_bytes.proofs.HeldLaws.{from_list-push}
 use Rattle.comp_meaning.specs.Follow.{Slot, InstanceScope, is_simple, definition, function_signature, function_in, named_type, show_type, show_function, new_instance, instance_step, instance_steps}
 use Rattle.comp_meaning.proofs.FollowLemmas.{provided_is as unprovided}
-use Rattle.encode_types.specs.Distinct.{function_slots}
-use Rattle.encode_types.specs.View.{Told}
+use Rattle.encode_types.specs.{Distinct.function_slots, View.Told}
 use Rattle.wit_encode.specs.declared.interface.OpenInterface.{OpenInterface}
 use Rattle.wit_encode.specs.Encoders.{DeclaresInside, declared_inside, KeepsInside}
 use Rattle.wit_encode.specs.Instance.{inner_contents, is_slot_of, resources_in, contents_of, defined_in, encoder_scope, exports_in, own_of, no_view, outer_slots, slots_in}
 use Rattle.wit_encode.specs.Places.{describes, is_function, is_type, are_beside, takes_index, GrowsBy, StandInOrder}
-use Rattle.wit_encode.proofs.Calls.{InnerAt, inner-at, inner-index}
+use Rattle.wit_encode.proofs.{Calls.InnerAt, Calls.inner-at, Calls.inner-index, ValueSlots.list-slots, Steps.unbind, Steps.unwhen}
 use Rattle.wit_encode.proofs.Places.{DefinesAtLast, function-beside, grows-more, grows-none, list-both, one-list, types-beside}
-use Rattle.wit_encode.proofs.ValueSlots.{list-slots}
-use Rattle.wit_encode.proofs.Steps.{unbind, unwhen}
+use Rattle.wit_model.specs.declared.model.TypeOwner.TheVariants as owner
+use Rattle.comp_bytes.specs.declared.forms.ComponentTypeRef.TheVariants as refs
 
 -- ---- what a call leaves behind what had been declared
 

@@ -1,33 +1,19 @@
 -- An instance type that is declared in a component type behind aliases, and imported or exported there: how much is declared by then, and what of it
 -- defines types.
 use Rattle.std.proofs.Common.{◌≡◌, refl, sym, subst, ap, ◌∙◌, ℕ, zero, suc, ◌+◌, ◌≤◌, ◌⊎◌, inl, inr, nat_cmp, Bool, true, false, ◌&&◌, List, [], ◌∷◌, ◌++◌, length, Option, Some, None, is_some, arith}
-use Rattle.std.specs.BTreeMap.{insert_entry, is_at}
-use Rattle.std.specs.List.{Contains, filter}
-use Rattle.std.specs.Option.{option_map_or}
-use Rattle.std.proofs.lemmas.Bool.{cases_Bool, cond-true, cond-false, and_from as both}
-use Rattle.std.proofs.lemmas.Option.{slice_get_within}
-use Rattle.wit_model.specs.Lookup.{type_at}
-use Rattle.wit_model.specs.Uses.{owner_interface}
-use Rattle.wit_model.specs.declared.model.Resolve.{Resolve}
-use Rattle.wit_model.specs.declared.model.TypeDef.{TypeDef}
-use Rattle.wit_model.specs.declared.model.TypeOwner.{TypeOwner}
-use Rattle.comp_bytes.specs.Raw.{Declaration, Declarations, append, declaration_count}
-use Rattle.comp_bytes.specs.Held.{type_slots_of}
+use Rattle.std.proofs.lemmas.{Bool.cases_Bool, Bool.cond-true, Bool.cond-false, Bool.and_from as both, Option.slice_get_within}
+use Rattle.std.specs.{BTreeMap.insert_entry, BTreeMap.is_at, List.Contains, List.filter, Option.option_map_or}
+use Rattle.wit_model.specs.{Lookup.type_at, Uses.owner_interface}
+use Rattle.wit_model.specs.declared.model.{Resolve.Resolve, TypeDef.TypeDef, TypeOwner.TypeOwner}
+use Rattle.comp_bytes.specs.{Raw.Declaration, Raw.Declarations, Raw.append, Raw.declaration_count, Held.type_slots_of}
 use Rattle.encode_types.specs.Known.{Aliased, AreAliases, Around, GrowsAround, IsAlias, alias_declared, below, known_instance, known_slot, with_alias, with_aliases}
-use Rattle.encode_types.proofs.Lists.{none-in}
-use Rattle.wit_encode.specs.Encoders.{declared_after}
-use Rattle.wit_encode.specs.Instance.{count_declared}
 use Rattle.encode_types.specs.Distinct.{target_of, targets_of, slots_from}
+use Rattle.encode_types.proofs.Lists.{none-in}
+use Rattle.wit_encode.specs.{Encoders.declared_after, Worlds.brought_numbers, Worlds.instances_declared, Worlds.is_brought, Worlds.is_of_listed}
+use Rattle.wit_encode.specs.Instance.{count_declared}
 use Rattle.wit_encode.proofs.ValueSlots.{instances-behind, instances-kept, targets-instance, targets-kept, slots-instance, slots-kept}
-use Rattle.wit_encode.specs.Worlds.{brought_numbers, instances_declared, is_brought, is_of_listed}
-use Rattle.wit_encode.proofs.Components.{count-instance}
-use Rattle.wit_encode.proofs.Imported.{at-same}
-use Rattle.wit_encode.proofs.Importing.{new-slot}
-use Rattle.wit_encode.proofs.ImportsStand.{below-there}
-use Rattle.wit_encode.proofs.LatestInstances.{found-new, found-other}
-use Rattle.wit_encode.proofs.Refusing.{one-appended}
-use Rattle.wit_encode.proofs.WorldBrought.{brought-kept, filters-more}
-use Rattle.wit_encode.proofs.WorldCounting.{counts-declared}
+use Rattle.wit_encode.proofs.{Components.count-instance, Imported.at-same, ImportsStand.below-there, Refusing.one-appended, WorldCounting.counts-declared}
+use Rattle.wit_encode.proofs.{Importing.new-slot, LatestInstances.found-new, LatestInstances.found-other, WorldBrought.brought-kept, WorldBrought.filters-more}
 use Rattle.base_lemmas.proofs.Bools.{left_of as first_true, right_of as second_true}
 
 -- ---- aliases

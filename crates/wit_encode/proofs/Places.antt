@@ -1,30 +1,22 @@
 -- Where declarations stand: the type of a function and an instance type just before the import or export that has it, types before functions.
 use Rattle.std.proofs.Common.{◌≡◌, refl, sym, ap, subst, ◌∙◌, ℕ, ◌+◌, ◌⊎◌, inl, inr, Bool, true, false, not, ◌&&◌, ◌||◌, cond, List, [], ◌∷◌, ◌++◌, append-nil, append_assoc, arith}
-use Rattle.std.specs.List.{list_all}
-use Rattle.std.specs.Cmp.Derive.{both_true}
-use Rattle.std.proofs.lemmas.Bool.{eqb-true, eq-eqb}
-use Rattle.std.proofs.lemmas.List.{append_cancel_left}
-use Rattle.std.proofs.lemmas.List.Folds.{list_all-append}
-use Rattle.base_lemmas.proofs.Bools.{left_of, right_of}
-use Rattle.base_lemmas.proofs.Numbers.{no-slot}
+use Rattle.std.proofs.lemmas.{Bool.eqb-true, Bool.eq-eqb, List.append_cancel_left, List.Folds.list_all-append}
+use Rattle.std.specs.{List.list_all, Cmp.Derive.both_true}
+use Rattle.base_lemmas.proofs.{Bools.left_of, Bools.right_of, Numbers.no-slot}
 use Rattle.wit_model.specs.Text.{Text}
-use Rattle.wit_model.specs.declared.model.Resolve.{Resolve}
-use Rattle.wit_model.specs.declared.model.Interface.{Interface}
-use Rattle.wit_model.specs.declared.model.InterfaceId.{InterfaceId}
-use Rattle.wit_model.specs.declared.model.Function.{Function}
+use Rattle.wit_model.specs.declared.model.{Resolve.Resolve, Interface.Interface, InterfaceId.InterfaceId, Function.Function}
 use Rattle.comp_bytes.specs.declared.forms.ComponentTypeRef.{ComponentTypeRef}
-use Rattle.comp_bytes.specs.declared.forms.ComponentTypeRef.TheVariants as refs
 use Rattle.comp_bytes.specs.Raw.{Declaration, Declarations, ExternName, append, from_list}
 use Rattle.comp_bytes.specs.Held.{declaration_slots, type_slots, type_slots_of}
 use Rattle.comp_bytes.proofs.HeldLaws.{from_list-push}
 use Rattle.encode_types.specs.Distinct.{is_function_type, function_slots, slots_from}
-use Rattle.comp_meaning.specs.Follow.{Direction, import_, export_}
 use Rattle.encode_types.specs.Known.{Aliased, Around, alias_declared, with_alias, with_aliases}
+use Rattle.comp_meaning.specs.Follow.{Direction, import_, export_}
 use Rattle.encode_names.specs.WorldSteps.{declared_towards}
-use Rattle.wit_encode.specs.Encoders.{declared_after}
-use Rattle.wit_encode.specs.Instance.{EncodesPart}
-use Rattle.wit_encode.proofs.ValueSlots.{append-none, append-twice, list-slots}
+use Rattle.wit_encode.specs.{Encoders.declared_after, Instance.EncodesPart}
 use Rattle.wit_encode.specs.Places.{describes, is_function_of, is_instance_at, begins_with, are_beside, takes_index, GrowsBy, StaysBeside}
+use Rattle.wit_encode.proofs.ValueSlots.{append-none, append-twice, list-slots}
+use Rattle.comp_bytes.specs.declared.forms.ComponentTypeRef.TheVariants as refs
 
 -- ---- declarations behind others
 

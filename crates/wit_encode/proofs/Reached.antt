@@ -1,59 +1,32 @@
 -- What is met from the types and functions of an interface, or of a world, is counted in its weight.
 use Rattle.std.proofs.Common.{inl, inr, ◌≡◌, refl, sym, subst, ap, ◌∙◌, ℕ, zero, suc, ◌+◌, ◌<◌, Bool, true, false, not, ◌&&◌, nat_lt, if◌then◌else◌, List, [], ◌∷◌, ◌++◌, map, flat_map, take, slice_get, unwrap_or, Option, Some, None, is_some, String, option_and_then, arith}
+use Rattle.std.proofs.lemmas.{Bool.ltb-true, List.Elements.Contains-append_left, List.Elements.Contains-append_right, List.Elements.Contains-append_cases}
+use Rattle.std.proofs.lemmas.Option.{same_Some as same-some, slice_get_within as within}
 use Rattle.std.specs.declared.alloc.Global.{Global}
-use Rattle.std.specs.List.{Contains}
-use Rattle.std.specs.HashMap.{get_by}
-use Rattle.std.specs.Option.{option_map_or}
-use Rattle.std.proofs.lemmas.Bool.{ltb-true}
-use Rattle.std.proofs.lemmas.List.Elements.{Contains-append_left, Contains-append_right, Contains-append_cases}
+use Rattle.std.specs.{List.Contains, HashMap.get_by, Option.option_map_or}
 use Rattle.indexmap.specs.IndexMap.{values}
-use Rattle.wit_model.specs.Lookup.{type_at, interface_at, world_at}
-use Rattle.wit_model.specs.Text.{text_of}
-use Rattle.wit_model.specs.Uses.{owner_interface, items_of}
+use Rattle.wit_model.specs.{Lookup.type_at, Lookup.interface_at, Lookup.world_at, Weight.inside_at, Weight.inside_of, Weight.inside_number, Weight.inside_kind}
+use Rattle.wit_model.specs.{Text.text_of, Uses.owner_interface, Uses.items_of, Valid.IsValid, Valid.functions_of_interface, Valid.functions_of_world}
 use Rattle.wit_model.specs.Parts.{kind_numbers, function_types, function_numbers, numbered_from, met_by, same_owner}
 use Rattle.wit_model.specs.Rules.{passes, in_list, is_id, is_use, is_listed, is_listed_in_world, is_name_key, item_type, interface_type_numbers, world_type_numbers}
-use Rattle.wit_model.specs.Valid.{IsValid, functions_of_interface, functions_of_world}
-use Rattle.wit_model.specs.Weight.{inside_at, inside_of, inside_number, inside_kind}
-use Rattle.wit_model.specs.declared.model.Resolve.{Resolve}
-use Rattle.wit_model.specs.declared.model.Interface.{Interface}
-use Rattle.wit_model.specs.declared.model.World.{World}
-use Rattle.wit_model.specs.declared.model.WorldId.{WorldId}
-use Rattle.wit_model.specs.declared.model.WorldItem.{WorldItem}
-use Rattle.wit_model.specs.declared.model.WorldItem.TheVariants as item
-use Rattle.wit_model.specs.declared.model.Function.{Function}
-use Rattle.wit_model.specs.declared.model.TypeDef.{TypeDef}
-use Rattle.wit_model.specs.declared.model.TypeId.{TypeId}
-use Rattle.wit_model.specs.declared.model.InterfaceId.{InterfaceId}
-use Rattle.wit_model.specs.declared.model.TypeOwner.{TypeOwner}
-use Rattle.wit_model.specs.declared.model.TypeOwner.TheVariants as owner
-use Rattle.wit_model.specs.declared.model.«Type».{«Type» as ValueType}
-use Rattle.wit_model.specs.declared.model.«Type».TheVariants as ty
-use Rattle.wit_model.proofs.Tables.{grow_at}
-use Rattle.wit_model.proofs.Checks.{below_at}
-use Rattle.wit_model.proofs.InOrder.{found_stands}
-use Rattle.wit_model.proofs.Owners.{named_met}
+use Rattle.wit_model.specs.declared.model.{Resolve.Resolve, World.World, WorldId.WorldId, Function.Function, TypeDef.TypeDef, TypeId.TypeId}
+use Rattle.wit_model.specs.declared.model.{Interface.Interface, WorldItem.WorldItem, InterfaceId.InterfaceId, TypeOwner.TypeOwner, «Type».«Type» as ValueType}
+use Rattle.wit_model.proofs.{Tables.grow_at, Checks.below_at, InOrder.found_stands, OnePath.found-in, PartsLemmas.owner_same as same-owner}
+use Rattle.wit_model.proofs.{Owners.named_met, Owners.numbered_at as numbered-at, Elements.contains-get, Elements.contains-flat, Elements.has-contains}
 use Rattle.encode_types.specs.Kinds.{parts_of}
-use Rattle.encode_types.specs.Plan.{foreign_owner, Reaches, itself, through}
-use Rattle.encode_types.specs.MetKinds.{ReachedFrom, referred}
-use Rattle.encode_types.specs.Table.{interface_of_owner}
-use Rattle.encode_shown.proofs.Items.{typed-item}
-use Rattle.encode_shown.proofs.Zips.{given-contains}
+use Rattle.encode_types.specs.{Plan.foreign_owner, Plan.Reaches, Plan.itself, Plan.through, MetKinds.ReachedFrom, MetKinds.referred, Table.interface_of_owner}
+use Rattle.encode_shown.proofs.{Items.typed-item, Zips.given-contains, Basics.valid-references}
 use Rattle.wit_encode.specs.OwnerScope.{IsTypeOf, functions_of}
-use Rattle.encode_types.proofs.Lists.{none-in}
-use Rattle.encode_types.proofs.Planning.{part-number}
-use Rattle.wit_model.proofs.OnePath.{found-in}
+use Rattle.encode_types.proofs.{Lists.none-in, Planning.part-number}
 use Rattle.wit_encode.proofs.Owned.{stays, part-met, own-interface, alias-part, named-listed}
 use Rattle.wit_encode.proofs.ListedTypes.{owned-listed, listed-type}
-use Rattle.wit_encode.proofs.OwnerScope.{function-ranges, function-refers, type-stays, types-stay}
-use Rattle.wit_encode.proofs.WorldUses.{own-type}
-use Rattle.wit_model.proofs.Elements.{contains-get, contains-flat, has-contains}
-use Rattle.encode_shown.proofs.Basics.{valid-references}
+use Rattle.wit_encode.proofs.{OwnerScope.function-ranges, OwnerScope.function-refers, OwnerScope.type-stays, OwnerScope.types-stay, WorldUses.own-type}
 use Rattle.base_lemmas.proofs.Bools.{left_of as first_true, not-false, right_of as second_true}
 use Rattle.base_lemmas.proofs.Elements.{all-contained, contains-one, flat-same, last_of as one-contained, map_from as from-map}
 use Rattle.base_lemmas.proofs.Lists.{slice_take as get-take, within_there as there-at}
-use Rattle.std.proofs.lemmas.Option.{same_Some as same-some, slice_get_within as within}
-use Rattle.wit_model.proofs.Owners.{numbered_at as numbered-at}
-use Rattle.wit_model.proofs.PartsLemmas.{owner_same as same-owner}
+use Rattle.wit_model.specs.declared.model.WorldItem.TheVariants as item
+use Rattle.wit_model.specs.declared.model.TypeOwner.TheVariants as owner
+use Rattle.wit_model.specs.declared.model.«Type».TheVariants as ty
 
 -- ---- lists
 

@@ -1,53 +1,30 @@
 -- What the types and functions of an interface meet, and what maps learn of it, type by type and function by function.
-use Rattle.encode_types.specs.Aliases.{AliasesMet}
-use Rattle.encode_types.specs.Known.{Around}
+use Rattle.encode_types.specs.{Aliases.AliasesMet, Known.Around}
 use Rattle.encode_types.proofs.Aliasing.{met-more}
 use Rattle.std.proofs.Common.{◌≡◌, refl, sym, subst, ap, ◌∙◌, ℕ, suc, ◌+◌, ◌<◌, ◌≤◌, true, ◌&&◌, inl, inr, List, [], ◌∷◌, ◌++◌, map, take, length, get_or, Option, option_to_list, Result, Ok, Err, OnOk, arith}
-use Rattle.std.specs.Prelude.{IsPermutation, flat_map}
-use Rattle.std.specs.List.{Contains}
-use Rattle.std.specs.Option.{option_eq}
-use Rattle.std.specs.Cmp.Lexicographic.{pointwise}
-use Rattle.std.specs.Set.{is_member}
 use Rattle.std.proofs.lemmas.Grind.{flat_map-append}
-use Rattle.std.proofs.lemmas.List.{take_more, take_all, map-append}
+use Rattle.std.proofs.lemmas.{List.take_more, List.take_all, List.map-append, List.Sorted.IsPermutation-sym, List.Sorted.length_permutation}
 use Rattle.std.proofs.lemmas.List.Elements.{Contains-append_left, Contains-append_right, Contains-append_cases}
-use Rattle.std.proofs.lemmas.List.Sorted.{IsPermutation-sym, length_permutation}
+use Rattle.std.specs.{Prelude.IsPermutation, Prelude.flat_map, List.Contains, Option.option_eq, Cmp.Lexicographic.pointwise, Set.is_member}
 use mathlib.Core.Bool.{beq}
-use Rattle.wit_model.specs.Parts.{function_types}
-use Rattle.wit_model.specs.Valid.{IsValid}
-use Rattle.wit_model.specs.declared.model.Resolve.{Resolve}
-use Rattle.wit_model.specs.declared.model.Function.{Function}
-use Rattle.wit_model.specs.declared.model.TypeDefKind.{TypeDefKind}
+use Rattle.wit_model.specs.{Parts.function_types, Valid.IsValid}
+use Rattle.wit_model.specs.declared.model.{Resolve.Resolve, Function.Function, TypeDefKind.TypeDefKind, InterfaceId.InterfaceId, «Type».«Type» as ValueType}
 use Rattle.wit_model.specs.declared.model.TypeId.{TypeId}
-use Rattle.wit_model.specs.declared.model.InterfaceId.{InterfaceId}
-use Rattle.wit_model.specs.declared.model.«Type».{«Type» as ValueType}
-use Rattle.wit_model.specs.declared.model.«Type».TheVariants as ty
 use Rattle.comp_bytes.specs.Raw.{Declaration, Declarations}
-use Rattle.wit_encode.specs.Instance.{DeclaresFew}
-use Rattle.encode_types.specs.Slots.{Pairs}
-use Rattle.encode_types.specs.declared.key.FunctionKey.{FunctionKey}
-use Rattle.encode_types.specs.declared.maps.TypeEncodingMaps.{TypeEncodingMaps}
-use Rattle.encode_types.specs.Plan.{Reaches}
-use Rattle.encode_types.specs.Scope.{Scope}
-use Rattle.encode_types.specs.Counts.{Definitions}
-use Rattle.encode_types.specs.Key.{same_type, same_param}
-use Rattle.encode_types.specs.Maps.{IsKnown, AllReady, IsOnce}
-use Rattle.wit_encode.specs.Exports.{AllKnown}
-use Rattle.encode_types.specs.Codes.{names_of, ListKey}
-use Rattle.encode_types.specs.Distinct.{key_of, key_view, are_same, AddsFunctions, DefinesTypes}
+use Rattle.wit_encode.specs.{Instance.DeclaresFew, Exports.AllKnown}
+use Rattle.encode_types.specs.{Slots.Pairs, Scope.Scope}
+use Rattle.encode_types.specs.{Plan.Reaches, Key.same_type, Key.same_param, Maps.IsKnown, Maps.AllReady, Maps.IsOnce, Codes.names_of, Codes.ListKey}
+use Rattle.encode_types.specs.{Counts.Definitions, Distinct.key_of, Distinct.key_view, Distinct.are_same, Distinct.AddsFunctions, Distinct.DefinesTypes}
 use Rattle.encode_types.specs.MetKinds.{referred, IsMetKind, AreMetKinds, LearnsMet, LearnsFrom, key_types}
+use Rattle.encode_types.specs.declared.{key.FunctionKey.FunctionKey, maps.TypeEncodingMaps.TypeEncodingMaps}
 use Rattle.encode_types.proofs.Lists.{none-in}
-use Rattle.encode_types.proofs.KindLaws.{optional_same}
-use Rattle.encode_types.proofs.Encoding.{meets-reaches, learns-nothing}
-use Rattle.wit_encode.proofs.HeldKeys.{same_equiv, alike}
+use Rattle.encode_types.proofs.{KindLaws.optional_same, Encoding.meets-reaches, Encoding.learns-nothing, Learning.learns-none, Learning.learns-then}
+use Rattle.wit_encode.proofs.{HeldKeys.same_equiv, HeldKeys.alike, DefinedTypes.HeldKinds, MetKinds.met-kinds, MetKinds.params-same, Opening.permuted-contains}
 use Rattle.wit_encode.proofs.Counting.{Began}
-use Rattle.wit_encode.proofs.DefinedTypes.{HeldKinds}
-use Rattle.encode_types.proofs.Learning.{learns-none, learns-then}
-use Rattle.wit_encode.proofs.MetKinds.{met-kinds, params-same}
-use Rattle.wit_encode.proofs.Opening.{permuted-contains}
 use Rattle.wit_model.proofs.Elements.{contains-flat}
 use Rattle.base_lemmas.proofs.Bools.{left_of as first_true, right_of as second_true}
 use Rattle.base_lemmas.proofs.Elements.{any-at, contains-map, map_from as from-map}
+use Rattle.wit_model.specs.declared.model.«Type».TheVariants as ty
 
 -- ---- what is learnt
 

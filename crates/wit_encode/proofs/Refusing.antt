@@ -1,24 +1,12 @@
 -- What has no room in an encoder of interfaces, where a call has refused it.
 use Rattle.std.proofs.Common.{◌≡◌, refl, sym, subst, ap, ◌∙◌, ◌&&◌, ℕ, ◌+◌, ◌<◌, ◌≤◌, ◌^◌, ◌⊎◌, inl, inr, suc, Bool, true, false, nat_lt, arith, List, [], ◌∷◌, ◌++◌, map, length, length-append, Result, Ok, Err, OnOk, OnErr, IfErr, Option, Some, None, String}
-use Rattle.std.specs.List.{list_all, AllZip, flat_map}
-use Rattle.std.specs.Set.{distinct_count}
-use Rattle.std.specs.Borrow.{Bor}
-use Rattle.std.specs.declared.alloc.Global.{Global}
 use Rattle.std.proofs.lemmas.Bool.{lt-ltb, ltb-true, ltb-false}
-use Rattle.wit_model.specs.Text.{Text, optional_text, text_of as text_at}
-use Rattle.wit_model.specs.Tree.{Tree}
-use Rattle.wit_model.specs.Meaning.{Signature}
+use Rattle.std.specs.{List.list_all, List.AllZip, List.flat_map, Set.distinct_count, Borrow.Bor}
+use Rattle.std.specs.declared.alloc.Global.{Global}
+use Rattle.wit_model.specs.{Text.Text, Text.optional_text, Text.text_of as text_at, Tree.Tree, Meaning.Signature, Meant.type_meaning}
 use Rattle.wit_model.specs.declared.error.Error.{Error}
-use Rattle.wit_model.specs.declared.error.Error.TheVariants as errors
-use Rattle.wit_model.specs.declared.model.Resolve.{Resolve}
-use Rattle.wit_model.specs.declared.model.Function.{Function}
-use Rattle.wit_model.specs.declared.model.InterfaceId.{InterfaceId}
-use Rattle.wit_model.specs.declared.model.«Type».{«Type» as ValueType}
-use Rattle.comp_bytes.specs.declared.forms.ComponentDefinedType.{ComponentDefinedType}
-use Rattle.comp_bytes.specs.declared.forms.ComponentDefinedType.TheVariants as form
-use Rattle.comp_bytes.specs.declared.forms.ComponentFuncType.{ComponentFuncType}
-use Rattle.comp_bytes.specs.declared.forms.ComponentTypeRef.{ComponentTypeRef}
-use Rattle.comp_bytes.specs.declared.forms.ComponentTypeRef.TheVariants as refs
+use Rattle.wit_model.specs.declared.model.{Resolve.Resolve, Function.Function, InterfaceId.InterfaceId, «Type».«Type» as ValueType, TypeId.TypeId}
+use Rattle.comp_bytes.specs.declared.forms.{ComponentDefinedType.ComponentDefinedType, ComponentFuncType.ComponentFuncType, ComponentTypeRef.ComponentTypeRef}
 use Rattle.comp_bytes.specs.Raw.{Alias, Declaration, Declarations, ExternName, Labeled, append, declaration_count}
 use Rattle.comp_bytes.specs.RawOf.{raw_defined, raw_function, labeled, text_of}
 use Rattle.comp_bytes.specs.Held.{described_slots, declaration_slots, type_slots, type_slots_of, fits_counts, fits_next, fits_added}
@@ -27,19 +15,14 @@ use Rattle.wit_encode.specs.declared.interface.OpenInterface.{OpenInterface}
 use Rattle.encode_types.specs.declared.maps.TypeEncodingMaps.{TypeEncodingMaps}
 use Rattle.encode_types.specs.Slots.{Pairs, StandsFor, NamedStands, CaseStands, Follows, FollowsFunction, texts}
 use Rattle.encode_types.specs.Room.{Request, IsUnfit, LacksRoomBehind, its_definition, its_name, its_import, LacksOne, a_type, a_request, HasNoRoom, fits_tree, fits_type_name, limit, value_type, function_type, export_name, import_of, function_name, function_requests}
-use Rattle.wit_model.specs.declared.model.TypeId.{TypeId}
-use Rattle.wit_model.specs.Meant.{type_meaning}
-use Rattle.encode_types.specs.Scope.{exported_name}
-use Rattle.encode_types.specs.Kinds.{kind_tree}
-use Rattle.encode_types.specs.MetKinds.{referred}
-use Rattle.encode_types.specs.Distinct.{are_same, key_of}
-use Rattle.wit_encode.specs.FunctionRoom.{LacksFunctions}
-use Rattle.wit_encode.proofs.FunctionRoom.{keys-few}
-use Rattle.wit_encode.proofs.HeldKeys.{knows-none}
-use Rattle.wit_encode.specs.Instance.{held_in, lacks_room_in, placed_function}
-use Rattle.base_lemmas.proofs.Elements.{zip_long as zip-length}
-use Rattle.base_lemmas.proofs.Lists.{map_of_map as map-twice}
+use Rattle.encode_types.specs.{Scope.exported_name, Kinds.kind_tree, MetKinds.referred, Distinct.are_same, Distinct.key_of}
+use Rattle.wit_encode.specs.{FunctionRoom.LacksFunctions, Instance.held_in, Instance.lacks_room_in, Instance.placed_function}
+use Rattle.wit_encode.proofs.{FunctionRoom.keys-few, HeldKeys.knows-none}
+use Rattle.base_lemmas.proofs.{Elements.zip_long as zip-length, Lists.map_of_map as map-twice}
 use Rattle.wit_model.proofs.TreeLemmas.{child_list_of_children as listed}
+use Rattle.wit_model.specs.declared.error.Error.TheVariants as errors
+use Rattle.comp_bytes.specs.declared.forms.ComponentDefinedType.TheVariants as form
+use Rattle.comp_bytes.specs.declared.forms.ComponentTypeRef.TheVariants as refs
 
 pub on-size : {A : Type 0} (res : Result A Error) (P : Type 0) → OnErr res P → res ≡ Err errors.Size → P
 on-size (Ok x) P p h = absurd (let z : ⊥ = cc in z)

@@ -1,13 +1,11 @@
 -- What the paths of imports are refused for, the component type of the interface is refused for.
 use Rattle.std.proofs.Common.{◌≡◌, sym, ap, subst, ◌∙◌, ℕ, Bool, List, map, Result, Ok, Err, IfErr}
 use Rattle.std.specs.Prelude.{IsErrAnd}
-use Rattle.wit_model.specs.declared.error.Error.{Error}
-use Rattle.wit_model.specs.declared.error.Error.TheVariants as errors
-use Rattle.wit_model.specs.declared.model.Resolve.{Resolve}
-use Rattle.wit_model.specs.declared.model.InterfaceId.{InterfaceId}
+use Rattle.wit_model.specs.declared.{error.Error.Error, model.Resolve.Resolve, model.InterfaceId.InterfaceId}
 use Rattle.encode_reach.specs.Reach.{reached_in_order}
 use Rattle.encode_names.specs.Clashes.{RefusesPaths}
 use Rattle.wit_encode.specs.Scopes.{RefusesInterface}
+use Rattle.wit_model.specs.declared.error.Error.TheVariants as errors
 
 abbrev numbers : List InterfaceId → List ℕ
 numbers xs = map (λ (id : InterfaceId). id.0) xs

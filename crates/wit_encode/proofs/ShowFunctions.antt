@@ -1,24 +1,18 @@
 -- A function that is exported from an instance type.
 use Rattle.std.proofs.Common.{◌≡◌, sym, subst, ap, ◌∙◌, ℕ, true, List, [], ◌∷◌, ◌++◌, append-nil, Result, Ok, Err, OnOk, Option, Some, None, slice_get}
-use Rattle.std.specs.List.{list_all}
-use Rattle.std.specs.Option.{option_map_or, is_some}
-use Rattle.wit_model.specs.Text.{Text}
-use Rattle.wit_model.specs.Tree.{Place}
-use Rattle.wit_model.specs.Meaning.{Signature, FunctionMeaning}
+use Rattle.std.specs.{List.list_all, Option.option_map_or, Option.is_some}
+use Rattle.wit_model.specs.{Text.Text, Tree.Place, Meaning.Signature, Meaning.FunctionMeaning}
 use Rattle.wit_model.specs.declared.model.Resolve.{Resolve}
-use Rattle.comp_bytes.specs.declared.forms.ComponentTypeRef.TheVariants as refs
 use Rattle.comp_bytes.specs.Raw.{Declaration, Declarations, ExternName, from_list}
-use Rattle.comp_meaning.specs.Follow as follow
 use Rattle.comp_meaning.specs.Follow.{Slot, InstanceScope, new_instance, is_simple, function_in, show_function, instance_step}
 use Rattle.wit_encode.specs.declared.interface.OpenInterface.{OpenInterface}
-use Rattle.encode_types.specs.Slots.{function}
+use Rattle.encode_types.specs.{Slots.function, Distinct.is_value_type, Distinct.value_slots, Distinct.function_slots, Distinct.targets_of}
 use Rattle.wit_encode.specs.Instance.{standing_at, SlotsStand, is_slot_of, no_view, outer_slots, inner_contents, is_function_type, resources_in, contents_of, encoder_scope, ShowsFunction}
-use Rattle.encode_types.specs.Distinct.{is_value_type, value_slots, function_slots, targets_of}
-use Rattle.wit_encode.proofs.ValueSlots.{slots-more, targets-more}
-use Rattle.wit_encode.proofs.Strict.{bind}
-use Rattle.wit_encode.proofs.Calls.{inner-at}
-use Rattle.wit_encode.proofs.Steps as steps
+use Rattle.wit_encode.proofs.{ValueSlots.slots-more, ValueSlots.targets-more, Strict.bind, Calls.inner-at}
 use Rattle.base_lemmas.proofs.Bools.{left_of as first_true}
+use Rattle.comp_bytes.specs.declared.forms.ComponentTypeRef.TheVariants as refs
+use Rattle.comp_meaning.specs.Follow as follow
+use Rattle.wit_encode.proofs.Steps as steps
 
 function-there : (slots : List Slot) (i : ℕ) (s : Signature) → SlotsStand slots i (function s) → function_in (slice_get slots i) ≡ Some s
 function-there slots i s h = go (slice_get slots i) h

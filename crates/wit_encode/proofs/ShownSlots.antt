@@ -1,41 +1,25 @@
 -- What the slots of the types stand for that an instance type shows: each for the name of its type, and for that of a resource exactly where the
 -- name is one.
 use Rattle.std.proofs.Common.{◌≡◌, ◌⊎◌, inl, inr, refl, sym, subst, ap, ◌∙◌, Bool, true, false, not, List, [], ◌∷◌, ◌++◌, map, Option, Some, String, slice_get}
-use Rattle.std.specs.List.{Contains, list_all}
-use Rattle.std.specs.Option.{option_map_or}
-use Rattle.std.specs.declared.alloc.Global.{Global}
 use Rattle.std.proofs.lemmas.List.Elements.{Contains-append_left, Contains-append_right, Contains-append_cases}
-use Rattle.wit_model.specs.Text.{Text, text_of}
-use Rattle.wit_model.specs.Tree.{Place, named}
-use Rattle.wit_model.specs.Tree as tree
-use Rattle.wit_model.specs.Lookup.{interface_at, place_of}
-use Rattle.wit_model.specs.Parts.{is_resource, same_owner}
-use Rattle.wit_model.specs.Meaning.{TypeMeaning}
-use Rattle.wit_model.specs.Meant.{type_meaning_at, interface_meaning, interface_meaning_at, no_interface}
-use Rattle.wit_model.specs.Valid.{IsValid}
-use Rattle.wit_model.specs.declared.model.Resolve.{Resolve}
-use Rattle.wit_model.specs.declared.model.TypeId.{TypeId}
-use Rattle.wit_model.specs.declared.model.Interface.{Interface}
-use Rattle.wit_model.specs.declared.model.InterfaceId.{InterfaceId}
-use Rattle.wit_model.specs.declared.model.TypeOwner.{TypeOwner}
-use Rattle.wit_model.specs.declared.model.TypeOwner.TheVariants as owner
-use Rattle.wit_model.proofs.Elements.{none-in, contains-get}
+use Rattle.std.proofs.lemmas.{Bool.or_left as or-first, Option.same_Some as some-same}
+use Rattle.std.specs.{List.Contains, List.list_all, Option.option_map_or}
+use Rattle.std.specs.declared.alloc.Global.{Global}
+use Rattle.wit_model.specs.{Text.Text, Text.text_of, Tree.Place, Tree.named, Lookup.interface_at, Lookup.place_of, Meaning.TypeMeaning, Valid.IsValid}
+use Rattle.wit_model.specs.{Parts.is_resource, Parts.same_owner, Meant.type_meaning_at, Meant.interface_meaning, Meant.interface_meaning_at, Meant.no_interface}
+use Rattle.wit_model.specs.declared.model.{Resolve.Resolve, TypeId.TypeId, Interface.Interface, InterfaceId.InterfaceId, TypeOwner.TypeOwner}
+use Rattle.wit_model.proofs.{Elements.none-in, Elements.contains-get, PartsLemmas.owner_same as same-owner}
 use Rattle.comp_bytes.specs.declared.forms.ComponentTypeRef.{ComponentTypeRef}
-use Rattle.comp_bytes.specs.declared.forms.ComponentTypeRef.TheVariants as refs
 use Rattle.comp_bytes.specs.Raw.{Declaration, Alias, ExternName}
 use Rattle.comp_meaning.specs.Follow.{Slot, ShownType, InstanceScope, is_simple, in_instance, definition, function_signature, function_in, declared_by, named_like, named_type, show_type, show_function, instance_step, instance_steps, new_instance}
 use Rattle.encode_shown.specs.Views.{name_slot, shown_type, types_of}
-use Rattle.encode_types.specs.Resources.{Names, is_met_owner, resource_names}
-use Rattle.encode_types.specs.Standing.{is_slot_of}
-use Rattle.wit_encode.proofs.Steps.{unbind, unwhen}
-use Rattle.wit_encode.proofs.Naming.{one-home, names-agree}
-use Rattle.wit_encode.proofs.ListedTypes.{listed-type, listed-key}
-use Rattle.base_lemmas.proofs.Elements.{all-contained, contains-later, contains-one, last_of as one-contained}
-use Rattle.base_lemmas.proofs.Numbers.{same-number}
-use Rattle.std.proofs.lemmas.Bool.{or_left as or-first}
-use Rattle.std.proofs.lemmas.Option.{same_Some as some-same}
+use Rattle.encode_types.specs.{Resources.Names, Resources.is_met_owner, Resources.resource_names, Standing.is_slot_of}
+use Rattle.wit_encode.proofs.{Steps.unbind, Steps.unwhen, Naming.one-home, Naming.names-agree, ListedTypes.listed-type, ListedTypes.listed-key}
+use Rattle.base_lemmas.proofs.{Elements.all-contained, Elements.contains-later, Elements.contains-one, Elements.last_of as one-contained, Numbers.same-number}
 use Rattle.comp_meaning.proofs.FollowLemmas.{provided_is as unprovided}
-use Rattle.wit_model.proofs.PartsLemmas.{owner_same as same-owner}
+use Rattle.wit_model.specs.Tree as tree
+use Rattle.wit_model.specs.declared.model.TypeOwner.TheVariants as owner
+use Rattle.comp_bytes.specs.declared.forms.ComponentTypeRef.TheVariants as refs
 
 module _ (place : Place) where
   -- ---- slots of names

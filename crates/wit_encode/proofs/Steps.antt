@@ -1,13 +1,11 @@
 -- The declarations of an instance type, followed one by one.
 use Rattle.std.proofs.Common.{◌≡◌, refl, sym, ap, ◌∙◌, ◌+◌, Bool, true, false, List, [], ◌∷◌, ◌++◌, Option, Some, None, slice_get, length, length-append, arith}
 use Rattle.comp_bytes.specs.declared.forms.ComponentTypeRef.{ComponentTypeRef}
-use Rattle.comp_bytes.specs.declared.forms.ComponentTypeRef.TheVariants as refs
-use Rattle.comp_bytes.specs.Raw.{Declaration, Alias, ExternName}
-use Rattle.comp_bytes.specs.Held.{declaration_slots, type_slots}
-use Rattle.comp_bytes.specs.Reading.{◌>>=◌}
+use Rattle.comp_bytes.specs.{Raw.Declaration, Raw.Alias, Raw.ExternName, Held.declaration_slots, Held.type_slots, Reading.◌>>=◌}
 use Rattle.wit_model.specs.Tree.{Place}
 use Rattle.comp_meaning.specs.Follow.{Slot, InstanceScope, when, is_simple, definition, function_signature, function_in, named_type, show_type, show_function, instance_step, instance_steps}
 use Rattle.comp_meaning.proofs.FollowLemmas.{provided_is as unprovided}
+use Rattle.comp_bytes.specs.declared.forms.ComponentTypeRef.TheVariants as refs
 
 -- ---- a way back through a step
 

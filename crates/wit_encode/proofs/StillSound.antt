@@ -1,23 +1,17 @@
 -- A component type whose declarations can be followed, each resource in a slot of its kind, stays so behind aliases and an instance type.
 use Rattle.std.proofs.Common.{◌≡◌, refl, sym, subst, ap, ◌∙◌, ℕ, true, ◌&&◌, List, [], ◌∷◌, ◌++◌, Result, Ok, Err, IfOk, OnErr, Option, Some, None, length}
-use Rattle.std.specs.List.{list_all}
-use Rattle.std.specs.Option.{option_map_or, is_some}
-use Rattle.std.proofs.lemmas.List.Folds.{list_all-append}
+use Rattle.std.proofs.lemmas.{List.Folds.list_all-append, Bool.and_from as both}
+use Rattle.std.specs.{List.list_all, Option.option_map_or, Option.is_some}
 use Rattle.wit_model.specs.declared.model.Resolve.{Resolve}
-use Rattle.comp_bytes.specs.Raw.{Declaration, Declarations, append, from_list}
-use Rattle.comp_bytes.specs.Held.{type_slots_of}
-use Rattle.comp_meaning.specs.Follow as follow
+use Rattle.comp_bytes.specs.{Raw.Declaration, Raw.Declarations, Raw.append, Raw.from_list, Held.type_slots_of}
 use Rattle.comp_meaning.specs.Follow.{Slot, in_scope, is_foreign_name, new_scope}
 use Rattle.encode_types.specs.Known.{Around, Aliased, AreAliases, GrowsAround, IsAlias, with_alias, with_aliases}
 use Rattle.encode_types.specs.Resources.{named_resources}
-use Rattle.wit_encode.specs.declared.interface.Foreign.{Foreign}
-use Rattle.wit_encode.specs.declared.interface.OpenInterface.{OpenInterface}
+use Rattle.wit_encode.specs.declared.interface.{Foreign.Foreign, OpenInterface.OpenInterface}
 use Rattle.wit_encode.specs.Instance.{around_at, encoder_scope, is_slot_of, is_sound_in, outer_contents, outer_scope, outer_slots, resources_in}
-use Rattle.wit_encode.proofs.Components.{steps-instance}
-use Rattle.wit_encode.proofs.Importing.{stands, wide}
-use Rattle.wit_encode.proofs.Outside.{OuterAt, outer-at}
+use Rattle.wit_encode.proofs.{Components.steps-instance, Importing.stands, Importing.wide, Outside.OuterAt, Outside.outer-at}
 use Rattle.base_lemmas.proofs.Bools.{left_of as first_true, right_of as second_true}
-use Rattle.std.proofs.lemmas.Bool.{and_from as both}
+use Rattle.comp_meaning.specs.Follow as follow
 
 -- what is sound, in parts
 abbrev pub IsSound : Resolve → Declarations → Type 0

@@ -1,28 +1,22 @@
 -- A definition that can be followed stands for one tree alone, and where that is well formed it can be followed strictly.
 use Rattle.std.proofs.Common.{◌≡◌, refl, sym, ap, ◌∙◌, ℕ, zero, suc, Bool, true, false, not, ◌&&◌, List, [], ◌∷◌, map, Option, Some, None, slice_get, option_to_list, nat_le}
-use Rattle.std.specs.List.{AllZip, list_all}
-use Rattle.std.specs.Borrow.{Bor}
-use Rattle.wit_model.specs.Text.{Text}
+use Rattle.std.proofs.lemmas.Bool.{not-true as not-false}
+use Rattle.std.specs.{List.AllZip, List.list_all, Borrow.Bor}
+use Rattle.wit_model.specs.{Text.Text, Meaning.Signature}
 use Rattle.wit_model.specs.Tree.{Tree, primitive, named, children, child_list, given, is_given, record_tree, variant_tree, flags_tree, enum_tree, tuple_tree, list_tree, fixed_list_tree, map_tree, option_tree, result_tree, own_tree, borrow_tree, future_tree, stream_tree}
-use Rattle.wit_model.specs.Meaning.{Signature}
-use Rattle.comp_bytes.specs.declared.forms.PrimitiveValType.{PrimitiveValType}
-use Rattle.comp_bytes.specs.declared.forms.PrimitiveValType.TheVariants as p
+use Rattle.comp_bytes.specs.declared.forms.{PrimitiveValType.PrimitiveValType, ComponentDefinedType.ComponentDefinedType, ComponentFuncType.ComponentFuncType}
 use Rattle.comp_bytes.specs.declared.forms.ComponentValType.{ComponentValType}
-use Rattle.comp_bytes.specs.declared.forms.ComponentValType.TheVariants as v
-use Rattle.comp_bytes.specs.declared.forms.ComponentDefinedType.{ComponentDefinedType}
-use Rattle.comp_bytes.specs.declared.forms.ComponentDefinedType.TheVariants as form
-use Rattle.comp_bytes.specs.declared.forms.ComponentFuncType.{ComponentFuncType}
-use Rattle.comp_bytes.specs.RawOf.{labeled, raw_defined, raw_function}
-use Rattle.comp_bytes.specs.Reading.{◌>>=◌}
-use Rattle.comp_meaning.specs.Follow as follow
+use Rattle.comp_bytes.specs.{RawOf.labeled, RawOf.raw_defined, RawOf.raw_function, Reading.◌>>=◌}
 use Rattle.comp_meaning.specs.Follow.{Slot, each, provided, primitive_of_type, value_in, resource_in, value_type, field_type, case_type, definition, function_signature, is_key, is_filled}
 use Rattle.encode_types.specs.Slots.{tree, primitive_of, StandsFor, StandsForOptional, NamedStands, CaseStands, texts, Follows, FollowsFunction}
-use Rattle.encode_types.specs.Resources.{Names, is_resource_tree}
-use Rattle.encode_types.specs.Formed.{are_values, is_formed}
+use Rattle.encode_types.specs.{Resources.Names, Resources.is_resource_tree, Formed.are_values, Formed.is_formed}
 use Rattle.wit_encode.specs.Instance.{standing_at, SlotsStand, is_slot_of}
 use Rattle.base_lemmas.proofs.Bools.{left_of as first_true, right_of as second_true}
-use Rattle.std.proofs.lemmas.Bool.{not-true as not-false}
 use Rattle.wit_model.proofs.TreeLemmas.{child_list_of_children as children-list}
+use Rattle.comp_bytes.specs.declared.forms.PrimitiveValType.TheVariants as p
+use Rattle.comp_bytes.specs.declared.forms.ComponentValType.TheVariants as v
+use Rattle.comp_bytes.specs.declared.forms.ComponentDefinedType.TheVariants as form
+use Rattle.comp_meaning.specs.Follow as follow
 
 primitive-same : (x : PrimitiveValType) → primitive_of x ≡ primitive_of_type x
 primitive-same p.Bool = refl

@@ -1,45 +1,25 @@
 -- An encoder of an interface of valid packages over one table: what can be encoded in it, and that it stays one.
 use Rattle.std.proofs.Common.{◌⊎◌, ◌≡◌, refl, sym, subst, ap, ◌∙◌, ℕ, suc, ◌+◌, ◌<◌, Bool, true, false, not, ◌&&◌, ◌||◌, is_some, List, [], ◌∷◌, ◌++◌, inl, inr, map, take, length, get_or, Some, arith}
-use Rattle.std.proofs.lemmas.List.{take_more, map-append}
-use Rattle.std.proofs.lemmas.List.Elements.{Contains-append_cases}
+use Rattle.std.proofs.lemmas.{List.take_more, List.map-append, List.Elements.Contains-append_cases, Bool.lt-ltb, Bool.and_from as both}
 use Rattle.std.specs.List.{Contains, list_all}
-use Rattle.std.proofs.lemmas.Bool.{lt-ltb, and_from as both}
-use Rattle.wit_model.specs.Lookup.{type_at, is_async}
-use Rattle.wit_model.specs.Meant.{signature_of}
-use Rattle.wit_model.specs.Parts.{function_types, is_resource, is_resource_kind, is_resource_type}
-use Rattle.wit_model.specs.Valid.{IsValid}
-use Rattle.wit_model.specs.declared.model.Resolve.{Resolve}
-use Rattle.wit_model.specs.declared.model.TypeDef.{TypeDef}
-use Rattle.wit_model.specs.declared.model.Param.{Param}
-use Rattle.wit_model.specs.declared.model.Function.{Function}
-use Rattle.wit_model.specs.declared.model.TypeDefKind.{TypeDefKind}
-use Rattle.wit_model.specs.declared.model.TypeDefKind.TheVariants as kind
-use Rattle.wit_model.specs.declared.model.«Type».TheVariants as ty
-use Rattle.wit_model.specs.declared.model.TypeOwner.{TypeOwner}
-use Rattle.wit_model.specs.declared.model.TypeOwner.TheVariants as owner
-use Rattle.wit_model.specs.declared.model.InterfaceId.{InterfaceId}
-use Rattle.wit_model.specs.declared.model.«Type».{«Type» as ValueType}
+use Rattle.wit_model.specs.{Lookup.type_at, Lookup.is_async, Valid.IsValid}
+use Rattle.wit_model.specs.{Meant.signature_of, Parts.function_types, Parts.is_resource, Parts.is_resource_kind, Parts.is_resource_type, Parts.same_owner}
+use Rattle.wit_model.specs.declared.model.{Resolve.Resolve, TypeDef.TypeDef, Param.Param}
+use Rattle.wit_model.specs.declared.model.{Function.Function, TypeDefKind.TypeDefKind, TypeOwner.TypeOwner, InterfaceId.InterfaceId, «Type».«Type» as ValueType}
 use Rattle.encode_types.specs.declared.maps.TypeEncodingMaps.{TypeEncodingMaps}
-use Rattle.encode_types.specs.View.{Grows, View}
-use Rattle.encode_types.specs.Fits.{CanEncode}
-use Rattle.encode_types.specs.Kinds.{parts_of, has_definition, kind_tree}
-use Rattle.encode_types.specs.Formed.{IsFormed, IsFormedSignature}
-use Rattle.encode_types.specs.Plan.{InRange, AllInRange, foreign_owner}
-use Rattle.encode_types.specs.Maps.{MapsAgree}
-use Rattle.encode_types.specs.Scope.{Scope, IsImportable}
-use Rattle.encode_types.specs.Leaves.{Leaves}
+use Rattle.encode_types.specs.{View.Grows, View.View, Kinds.parts_of, Kinds.has_definition, Kinds.kind_tree, Plan.InRange, Plan.AllInRange, Plan.foreign_owner}
+use Rattle.encode_types.specs.{Fits.CanEncode, Formed.IsFormed, Formed.IsFormedSignature, Maps.MapsAgree, Scope.Scope, Scope.IsImportable, Leaves.Leaves}
 use Rattle.encode_types.specs.Table.{table_scope, interface_of_owner, is_met_by, has_named_owner, AllMetBy, IsTableOf, IsDefined, AllDefined}
-use Rattle.wit_model.proofs.OnePath.{found-in}
+use Rattle.wit_model.proofs.{OnePath.found-in, PartsLemmas.owner_same as same-owner}
 use Rattle.encode_types.proofs.Planning.{part-smaller}
 use Rattle.wit_encode.proofs.Validity.{valid-layered, valid-resource, valid-formed, signature-formed, table-agree, all-met, named-met, foreign-interface, importable}
+use Rattle.wit_encode.proofs.{OwnerScope.names_encode, OwnerScope.table_is_scope, Naming.named-owner}
 use Rattle.wit_encode.specs.OwnerScope.{NamesStand, IsOfInstance}
-use Rattle.wit_encode.proofs.OwnerScope.{names_encode, table_is_scope}
-use Rattle.wit_encode.proofs.Naming.{named-owner}
-use Rattle.wit_model.specs.Parts.{same_owner}
-use Rattle.base_lemmas.proofs.Bools.{left_of as first_true, right_of as second_true}
-use Rattle.base_lemmas.proofs.Elements.{all_get as all-at, last_of as one-contained}
+use Rattle.base_lemmas.proofs.{Bools.left_of as first_true, Bools.right_of as second_true, Elements.all_get as all-at, Elements.last_of as one-contained}
 use Rattle.base_lemmas.proofs.Options.{there as some-of}
-use Rattle.wit_model.proofs.PartsLemmas.{owner_same as same-owner}
+use Rattle.wit_model.specs.declared.model.TypeDefKind.TheVariants as kind
+use Rattle.wit_model.specs.declared.model.«Type».TheVariants as ty
+use Rattle.wit_model.specs.declared.model.TypeOwner.TheVariants as owner
 
 module _ (r : Resolve) (own : InterfaceId) (valid : IsValid r) where
   -- each name that is met is of the owner, or of another interface, which has a name

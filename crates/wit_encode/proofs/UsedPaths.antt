@@ -1,38 +1,23 @@
 -- An interface that another uses has a path.
 use Rattle.std.proofs.Common.{◌≡◌, refl, sym, subst, ap, ◌∙◌, ℕ, ◌==◌, Bool, true, false, not, ◌&&◌, ◌||◌, [], ◌∷◌, Option, Some, None, String, is_some, option_and_then}
+use Rattle.std.proofs.lemmas.Option.{same_Some as some-same}
 use Rattle.std.specs.declared.alloc.Global.{Global}
-use Rattle.std.specs.Prelude.{is_none}
-use Rattle.std.specs.List.{Contains, list_all}
-use Rattle.std.specs.Option.{option_map_or}
+use Rattle.std.specs.{Prelude.is_none, List.Contains, List.list_all, Option.option_map_or}
 use Rattle.indexmap.specs.IndexMap.{values}
-use Rattle.wit_model.specs.Lookup.{interface_at, interface_path, type_at}
+use Rattle.wit_model.specs.{Lookup.interface_at, Lookup.interface_path, Lookup.type_at, Rules.is_named_kind, Rules.is_named_number, Rules.is_use, Rules.passes}
 use Rattle.wit_model.specs.Uses.{alias_target, direct_deps, interface_used_by, interfaces_used_by, once, owner_interface, used_interface}
 use Rattle.wit_model.specs.Parts.{has_owner, kind_numbers, met_by, met_of, same_owner, used_by_type}
-use Rattle.wit_model.specs.Rules.{is_named_kind, is_named_number, is_use, passes}
 use Rattle.wit_model.specs.Valid.{IsValid, named_kinds}
-use Rattle.wit_model.specs.declared.model.Resolve.{Resolve}
-use Rattle.wit_model.specs.declared.model.Interface.{Interface}
-use Rattle.wit_model.specs.declared.model.TypeDef.{TypeDef}
-use Rattle.wit_model.specs.declared.model.TypeDefKind.{TypeDefKind}
+use Rattle.wit_model.specs.declared.model.{Resolve.Resolve, Interface.Interface, TypeDef.TypeDef, TypeDefKind.TypeDefKind, TypeId.TypeId}
+use Rattle.wit_model.proofs.{Elements.contains-flat, Elements.contains-get, Elements.none-in, OnePath.named-path, ValidLemmas.type_passes as type-passes}
+use Rattle.wit_model.proofs.PartsLemmas.{owner_same as same-owner}
+use Rattle.encode_shown.proofs.{Basics.valid-references, Basics.or-cases, Reach.once_from, Zips.given-contains}
+use Rattle.wit_encode.proofs.{ListedTypes.listed-type, Meeting.named-meets, Owned.owner-kept}
+use Rattle.base_lemmas.proofs.{Bools.right_of as second_true, Numbers.same-number, Options.there as some-of}
+use Rattle.base_lemmas.proofs.Elements.{all-contained, contains-one, filter_kept as filter-contains, map_from as contains-mapped}
 use Rattle.wit_model.specs.declared.model.TypeDefKind.TheVariants as kind
-use Rattle.wit_model.specs.declared.model.TypeId.{TypeId}
 use Rattle.wit_model.specs.declared.model.«Type».TheVariants as ty
 use Rattle.wit_model.specs.declared.model.TypeOwner.TheVariants as owner
-use Rattle.wit_model.proofs.Elements.{contains-flat, contains-get, none-in}
-use Rattle.encode_shown.proofs.Basics.{valid-references, or-cases}
-use Rattle.encode_shown.proofs.Reach.{once_from}
-use Rattle.encode_shown.proofs.Zips.{given-contains}
-use Rattle.wit_model.proofs.OnePath.{named-path}
-use Rattle.wit_encode.proofs.ListedTypes.{listed-type}
-use Rattle.wit_encode.proofs.Meeting.{named-meets}
-use Rattle.wit_encode.proofs.Owned.{owner-kept}
-use Rattle.base_lemmas.proofs.Bools.{right_of as second_true}
-use Rattle.base_lemmas.proofs.Elements.{all-contained, contains-one, filter_kept as filter-contains, map_from as contains-mapped}
-use Rattle.base_lemmas.proofs.Numbers.{same-number}
-use Rattle.base_lemmas.proofs.Options.{there as some-of}
-use Rattle.std.proofs.lemmas.Option.{same_Some as some-same}
-use Rattle.wit_model.proofs.PartsLemmas.{owner_same as same-owner}
-use Rattle.wit_model.proofs.ValidLemmas.{type_passes as type-passes}
 
 abbrev is_named_at : Resolve → ℕ → Bool
 is_named_at r k = option_map_or (λ (other : Interface). is_some other.name) (interface_at r k) false

@@ -1,60 +1,36 @@
 -- What a valid `Resolve` gives for encoding.
 use Rattle.std.proofs.Common.{◌≡◌, refl, sym, subst, ap, ◌∙◌, ℕ, zero, suc, ◌+◌, ◌<◌, ◌⊎◌, inl, inr, Bool, true, false, cond, not, ◌&&◌, ◌||◌, T, nat_lt, ltb→lt, List, [], ◌∷◌, length, flat_map, slice_get, unwrap_or, Option, Some, None, String, arith, ◌++◌, map, option_map, option_to_list}
-use Rattle.std.specs.declared.alloc.Global.{Global}
-use Rattle.std.specs.Prelude.{is_some, is_none}
-use Rattle.std.specs.List.{Contains, list_all}
-use Rattle.std.specs.Option.{option_map_or}
-use Rattle.std.proofs.lemmas.Bool.{or_left as or-first, or_right as or-second}
+use Rattle.std.proofs.lemmas.{Bool.or_left as or-first, Bool.or_right as or-second, Bool.lt-ltb, List.Folds.list_all-append, Option.slice_get_within}
 use Rattle.std.proofs.lemmas.List.Elements.{Contains-append_left, Contains-append_right}
-use Rattle.wit_model.specs.Text.{text_of, Text}
-use Rattle.wit_model.specs.Lookup.{type_at, place_of, interface_at, is_async}
-use Rattle.wit_model.specs.Meant.{type_meaning, signature_of}
+use Rattle.std.specs.declared.alloc.Global.{Global}
+use Rattle.std.specs.{Prelude.is_some, Prelude.is_none, List.Contains, List.list_all, Option.option_map_or}
+use Rattle.wit_model.specs.{Text.text_of, Text.Text, Rules.is_named_kind, Rules.is_named_number, Rules.is_listed, Rules.owner_in_range, Rules.passes, Tree.Tree}
+use Rattle.wit_model.specs.{Lookup.type_at, Lookup.place_of, Lookup.interface_at, Lookup.is_async, Meant.type_meaning, Meant.signature_of, Uses.alias_target}
 use Rattle.wit_model.specs.Parts.{kind_numbers, same_owner, member_types, handled, function_types, is_resource, is_resource_kind, is_resource_type}
-use Rattle.wit_model.specs.Uses.{alias_target}
-use Rattle.wit_model.specs.Rules.{is_named_kind, is_named_number, is_listed, owner_in_range, passes}
 use Rattle.wit_model.specs.Valid.{IsValid, named_kinds, order_of_types, shapes, handles, functions_of_interface}
-use Rattle.std.proofs.lemmas.List.Folds.{list_all-append}
-use Rattle.wit_model.specs.Tree.{Tree}
 use Rattle.wit_model.specs.Types.{type_tree, number_tree, no_tree, trees_of, tree_of_definition, declaration_of}
 use Rattle.wit_model.specs.Meaning.{Signature}
-use Rattle.wit_model.specs.declared.model.Resolve.{Resolve}
-use Rattle.wit_model.specs.declared.model.Interface.{Interface}
-use Rattle.wit_model.specs.declared.model.Function.{Function}
-use Rattle.wit_model.specs.declared.model.Param.{Param}
-use Rattle.wit_model.specs.declared.model.TypeDef.{TypeDef}
-use Rattle.wit_model.specs.declared.model.TypeOwner.{TypeOwner}
-use Rattle.wit_model.specs.declared.model.TypeId.{TypeId}
-use Rattle.wit_model.specs.declared.model.InterfaceId.{InterfaceId}
-use Rattle.wit_model.specs.declared.model.«Type».{«Type» as ValueType}
-use Rattle.wit_model.proofs.Entries.{each_from_at, lists_pass}
-use Rattle.wit_model.proofs.TreeTable.{kept_numbers, kept_trees_at}
-use Rattle.std.proofs.lemmas.Option.{slice_get_within}
-use Rattle.std.proofs.lemmas.Bool.{lt-ltb}
-use Rattle.wit_model.specs.declared.model.TypeDefKind.{TypeDefKind}
-use Rattle.wit_model.specs.declared.model.TypeDefKind.TheVariants as kind
-use Rattle.wit_model.specs.declared.model.Handle.TheVariants as handle
+use Rattle.wit_model.specs.declared.model.{Resolve.Resolve, Param.Param, TypeDef.TypeDef, TypeOwner.TypeOwner, TypeId.TypeId}
+use Rattle.wit_model.specs.declared.model.{Interface.Interface, Function.Function, InterfaceId.InterfaceId, «Type».«Type» as ValueType, TypeDefKind.TypeDefKind}
+use Rattle.wit_model.proofs.{Entries.each_from_at, Entries.lists_pass, Resources.resource_step, PartsLemmas.owner_same as same-owner, ValidLemmas.type_passes}
+use Rattle.wit_model.proofs.{TreeTable.kept_numbers, TreeTable.kept_trees_at, OnePath.found-in, OnePath.interface-passes as interface_passes}
 use Rattle.encode_types.specs.Plan.{IsLayered, InRange, AllInRange, Reaches, itself, foreign_owner, is_interface}
 use Rattle.encode_types.specs.Scope.{IsImportable, Scope}
-use Rattle.wit_encode.specs.OwnerScope.{NamesAgree}
 use Rattle.encode_types.specs.Table.{table_scope, interface_of_owner, declaration_in, named_declaration, is_met_by, is_met_owner, has_named_owner, AllMetBy}
-use Rattle.encode_types.proofs.Planning.{part-smaller}
-use Rattle.wit_model.proofs.OnePath.{found-in}
-use Rattle.wit_encode.proofs.Naming.{HaveHomes, named-owner, valid-owner_in_range, one-home, names-agree}
-use Rattle.wit_model.proofs.Resources.{resource_step}
-use Rattle.encode_types.specs.Kinds.{parts_of, has_definition, kind_tree}
+use Rattle.encode_types.specs.{Kinds.parts_of, Kinds.has_definition, Kinds.kind_tree, Formed.is_formed, Formed.are_values, Formed.IsFormedSignature}
 use Rattle.encode_types.specs.Resources.{Names, is_resource_tree, is_resource_declaration, is_named_interface, resource_names}
-use Rattle.encode_types.specs.Formed.{is_formed, are_values, IsFormedSignature}
+use Rattle.wit_encode.specs.OwnerScope.{NamesAgree}
+use Rattle.encode_types.proofs.Planning.{part-smaller}
+use Rattle.wit_encode.proofs.Naming.{HaveHomes, named-owner, valid-owner_in_range, one-home, names-agree}
 use Rattle.wit_encode.proofs.Forming.{Agree, kind-formed, kind-alike, values-of, optional-values}
+use Rattle.wit_encode.proofs.ImportsStand.{below-there as below-contains}
+use Rattle.encode_shown.proofs.Basics.{valid-references}
+use Rattle.base_lemmas.proofs.{Bools.left_of as first_true, Bools.not_or as unnamed-of, Bools.right_of as second_true, Options.nameless}
+use Rattle.base_lemmas.proofs.Elements.{all-contained, contains-one}
+use Rattle.wit_model.specs.declared.model.TypeDefKind.TheVariants as kind
+use Rattle.wit_model.specs.declared.model.Handle.TheVariants as handle
 use Rattle.wit_model.specs.declared.model.TypeOwner.TheVariants as owner
 use Rattle.wit_model.specs.declared.model.«Type».TheVariants as ty
-use Rattle.encode_shown.proofs.Basics.{valid-references}
-use Rattle.base_lemmas.proofs.Bools.{left_of as first_true, not_or as unnamed-of, right_of as second_true}
-use Rattle.base_lemmas.proofs.Elements.{all-contained, contains-one}
-use Rattle.base_lemmas.proofs.Options.{nameless}
-use Rattle.wit_model.proofs.OnePath.{interface-passes as interface_passes}
-use Rattle.wit_encode.proofs.ImportsStand.{below-there as below-contains}
-use Rattle.wit_model.proofs.PartsLemmas.{owner_same as same-owner}
-use Rattle.wit_model.proofs.ValidLemmas.{type_passes}
 
 abbrev signature_like : Resolve → Bool → List Param → Option ValueType → Signature
 signature_like r a ps o = record { is_async = a; params = map (λ p. (text_of p.name, type_tree r p.ty)) ps; result = option_map (type_tree r) o }

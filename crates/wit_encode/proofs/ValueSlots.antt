@@ -1,37 +1,26 @@
 -- The slots in which value types are defined: which they are, and that each stands for a type without a name. The instance types of a
 -- component type, as it grows.
 use Rattle.std.proofs.Common.{◌≡◌, refl, sym, ap, subst, ◌∙◌, ℕ, zero, suc, ◌+◌, Bool, true, false, cond, List, [], ◌∷◌, ◌++◌, inl, inr, append_assoc, append-nil, Option, Some, None, option_to_list, slice_get, length, length-append, count_by, arith}
-use Rattle.std.specs.List.{Contains}
-use Rattle.std.proofs.lemmas.List.Elements.{Contains-append_cases}
+use Rattle.std.proofs.lemmas.{List.Elements.Contains-append_cases, List.Sums.sum_by-append, Option.same_Some as some-same}
+use Rattle.std.specs.{List.Contains, List.list_any, Option.option_map_or, Prelude.not, Prelude.nat_le, Prelude.◌==◌}
 use Rattle.comp_bytes.specs.declared.forms.ComponentTypeRef.{ComponentTypeRef}
-use Rattle.comp_bytes.specs.declared.forms.ComponentTypeRef.TheVariants as refs
 use Rattle.comp_bytes.specs.Raw.{Declaration, Declarations, DefinedType, Alias, ExternName, append, from_list}
-use Rattle.comp_bytes.specs.Held.{declaration_slots, type_slots, type_slots_of}
-use Rattle.comp_bytes.specs.Reading.{◌>>=◌}
-use Rattle.wit_model.specs.Tree as trees
-use Rattle.wit_model.specs.Tree.{Place, Tree, primitive, named, node}
-use Rattle.std.specs.Option.{option_map_or}
-use Rattle.wit_model.specs.Text.{Text}
-use Rattle.comp_meaning.specs.Follow as follow
-use Rattle.comp_meaning.specs.Follow.{Slot, InstanceScope, provided, when, each, given, is_filled, is_key, field_type, case_type, value_type, resource_in, is_simple, definition, function_signature, function_in, named_type, show_type, instance_step, instance_steps}
-use Rattle.comp_meaning.specs.Follow.{Scope, Direction, Seen, import_, export_, see, in_scope, key_of, interface_of, place_of, used_view, exported_slot, see_instance, see_function, see_type, component_step, component_steps, flat}
-use Rattle.std.specs.Prelude.{not, nat_le, ◌==◌}
-use Rattle.std.specs.List.{list_any}
-use Rattle.std.proofs.lemmas.List.Sums.{sum_by-append}
+use Rattle.comp_bytes.specs.{Held.declaration_slots, Held.type_slots, Held.type_slots_of, Reading.◌>>=◌}
+use Rattle.wit_model.specs.{Tree.Place, Tree.Tree, Tree.primitive, Tree.named, Tree.node, Text.Text}
+use Rattle.comp_meaning.specs.Follow.{Slot, InstanceScope, provided, when, each, given, is_filled, is_key, field_type, case_type, value_type, resource_in, is_simple, definition, function_signature, function_in, named_type, show_type, instance_step, instance_steps, Scope, Direction, Seen, import_, export_, see, in_scope, key_of, interface_of, place_of, used_view, exported_slot, see_instance, see_function, see_type, component_step, component_steps, flat}
 use Rattle.encode_types.specs.Distinct.{is_value_type, target_of, targets_of, slots_from}
-use Rattle.encode_types.proofs.Marking.{count-push}
-use Rattle.wit_encode.specs.Instance.{count_declared}
-use Rattle.encode_types.proofs.Lists.{none-in}
-use Rattle.wit_encode.specs.Worlds.{instances_from, instances_declared}
+use Rattle.encode_types.proofs.{Marking.count-push, Lists.none-in}
+use Rattle.wit_encode.specs.{Instance.count_declared, Worlds.instances_from, Worlds.instances_declared}
 use Rattle.wit_encode.proofs.Steps.{unbind, unwhen}
-use Rattle.wit_encode.proofs.Steps as steps
-use Rattle.wit_encode.proofs.Components as components
-use Rattle.base_lemmas.proofs.Elements.{last_of as one-contained}
-use Rattle.base_lemmas.proofs.Numbers.{no-slot as add-nothing}
-use Rattle.std.proofs.lemmas.Option.{same_Some as some-same}
+use Rattle.base_lemmas.proofs.{Elements.last_of as one-contained, Numbers.no-slot as add-nothing}
 use Rattle.comp_bytes.proofs.HeldLaws.{from_list-push as list-push}
 use Rattle.encode_names.proofs.WorldSteps.{slot-behind as get-end}
 use Rattle.comp_meaning.proofs.FollowLemmas.{provided_is as unprovided}
+use Rattle.comp_bytes.specs.declared.forms.ComponentTypeRef.TheVariants as refs
+use Rattle.wit_model.specs.Tree as trees
+use Rattle.comp_meaning.specs.Follow as follow
+use Rattle.wit_encode.proofs.Steps as steps
+use Rattle.wit_encode.proofs.Components as components
 
 -- ---- which they are
 

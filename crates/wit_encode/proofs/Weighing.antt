@@ -1,69 +1,34 @@
 -- An interface that has no room in an instance type weighs more than the largest number of 32 bits.
 use Rattle.std.proofs.Common.{◌≡◌, refl, sym, subst, ap, ◌∙◌, ℕ, zero, suc, ◌+◌, ◌*◌, ◌<◌, ◌≤◌, ◌^◌, ◌||◌, inl, inr, Bool, true, false, not, ◌&&◌, ◌==◌, nat_eq, nat_lt, List, [], ◌∷◌, ◌++◌, map, filter, flat_map, length, Option, Some, None, option_to_list, option_map, is_some, String, arith}
-use Rattle.std.specs.Prelude.{sum_by, AllPairs, if◌then◌else◌}
+use Rattle.std.proofs.lemmas.{Bool.lt-ltb, Bool.ltb-true, Bool.ltb-false, Bool.and_from as both-true, Map.Made.distinct_count-le}
+use Rattle.std.proofs.{lemmas.List.Sums.sum_by-cons, lemmas.List.Sums.sum_by-append, lemmas.List.Sums.get_or-le-sum_by, Math.ListN.length-map}
+use Rattle.std.proofs.lemmas.List.{Elements.Contains-append_left, Elements.Contains-append_right, Elements.Contains-append_cases, Filters.sum_by-filter_both}
+use Rattle.std.specs.{Prelude.sum_by, Prelude.AllPairs, Prelude.if◌then◌else◌, List.Contains, List.list_all, Option.option_map_or}
 use Rattle.std.specs.declared.alloc.Global.{Global}
-use Rattle.std.specs.List.{Contains, list_all}
-use Rattle.std.specs.Option.{option_map_or}
-use Rattle.std.proofs.lemmas.Bool.{lt-ltb, ltb-true, ltb-false, and_from as both-true}
-use Rattle.std.proofs.lemmas.List.Sums.{sum_by-cons, sum_by-append}
-use Rattle.std.proofs.lemmas.List.Elements.{Contains-append_left, Contains-append_right, Contains-append_cases}
-use Rattle.std.proofs.Math.ListN.{length-map}
 use Rattle.indexmap.specs.IndexMap.{values}
-use Rattle.wit_model.specs.Text.{Text, text_of, optional_text}
-use Rattle.wit_model.specs.Tree.{Tree, is_given, children, child_list}
-use Rattle.wit_model.specs.Lookup.{type_at, interface_at, place_of}
-use Rattle.wit_model.specs.Types.{trees_of, tree_of, number_tree, declared_by, tree_of_declaration}
-use Rattle.wit_model.specs.Uses.{once, alias_target}
-use Rattle.wit_model.specs.Parts.{same_owner, kind_numbers}
-use Rattle.wit_model.specs.Meant.{signature_of}
-use Rattle.wit_model.specs.Rules.{passes, is_named_number, is_named_kind, interface_type_numbers}
-use Rattle.wit_model.specs.Valid.{IsValid, as_interface, functions_of_interface, named_kinds}
+use Rattle.wit_model.specs.{Text.Text, Text.text_of, Text.optional_text, Text.text_eq, Tree.Tree, Tree.is_given, Tree.children, Tree.child_list}
+use Rattle.wit_model.specs.{Lookup.type_at, Lookup.interface_at, Lookup.place_of, Parts.same_owner, Parts.kind_numbers}
+use Rattle.wit_model.specs.{Types.trees_of, Types.tree_of, Types.number_tree, Types.declared_by, Types.tree_of_declaration, Uses.once, Uses.alias_target}
+use Rattle.wit_model.specs.{Meant.signature_of, Valid.IsValid, Valid.as_interface, Valid.functions_of_interface, Valid.named_kinds, Valid.function_names}
+use Rattle.wit_model.specs.Rules.{passes, is_named_number, is_named_kind, interface_type_numbers, is_member}
 use Rattle.wit_model.specs.Weight.{unit_of, members_of, name_texts, definition_weight, is_brought, number_weight, function_weight, numbers_of, instance_numbers, instance_weight, whole_instance_weight}
-use Rattle.wit_model.specs.declared.model.Resolve.{Resolve}
-use Rattle.wit_model.specs.declared.model.Interface.{Interface}
-use Rattle.wit_model.specs.declared.model.Function.{Function}
-use Rattle.wit_model.specs.declared.model.Param.{Param}
-use Rattle.wit_model.specs.declared.model.TypeDef.{TypeDef}
-use Rattle.wit_model.specs.declared.model.TypeDefKind.{TypeDefKind}
-use Rattle.wit_model.specs.declared.model.TypeDefKind.TheVariants as kind
-use Rattle.wit_model.specs.declared.model.TypeId.{TypeId}
-use Rattle.wit_model.specs.declared.model.InterfaceId.{InterfaceId}
-use Rattle.wit_model.specs.declared.model.«Type».{«Type» as ValueType}
-use Rattle.wit_model.specs.declared.model.«Type».TheVariants as ty
+use Rattle.wit_model.specs.declared.model.{Resolve.Resolve, Param.Param, TypeDef.TypeDef, TypeId.TypeId, TypeOwner.TypeOwner}
+use Rattle.wit_model.specs.declared.model.{Interface.Interface, Function.Function, TypeDefKind.TypeDefKind, InterfaceId.InterfaceId, «Type».«Type» as ValueType}
 use Rattle.comp_bytes.specs.Fits.{fits_length, fits_names, fits_given, fits_name}
-use Rattle.encode_types.specs.Kinds.{kind_tree}
-use Rattle.wit_encode.specs.Order.{is_function_of, by_resource, functions_in_order}
+use Rattle.encode_types.specs.{Kinds.kind_tree, KeyLaws.text_same}
 use Rattle.encode_types.specs.Room.{Request, IsUnfit, LacksPart, its_definition, its_name, its_import, LacksOne, a_type, a_request, fits_tree, fits_request, limit, function_type, function_name, function_requests}
-use Rattle.wit_encode.specs.Encoders.{InterfaceLacksRoom}
-use Rattle.wit_model.specs.declared.model.Handle.TheVariants as handle
-use Rattle.std.proofs.lemmas.List.Sums.{get_or-le-sum_by}
-use Rattle.wit_model.specs.declared.model.TypeOwner.{TypeOwner}
-use Rattle.wit_model.specs.declared.model.TypeOwner.TheVariants as owner
-use Rattle.wit_model.specs.Text.{text_eq}
-use Rattle.wit_model.specs.Rules.{is_member}
-use Rattle.wit_model.specs.Valid.{function_names}
-use Rattle.std.proofs.lemmas.List.Filters.{sum_by-filter_both}
-use Rattle.encode_types.specs.KeyLaws.{text_same}
-use Rattle.encode_types.specs.Plan.{foreign_owner}
-use Rattle.encode_types.specs.Table.{interface_of_owner}
-use Rattle.encode_types.specs.MetKinds.{ReachedFrom, referred}
-use Rattle.wit_encode.specs.RoomLaws.{LackingInterfacesAreHeavy}
-use Rattle.wit_encode.proofs.Validity.{valid-layered}
-use Rattle.encode_types.proofs.Encoding.{tabled}
-use Rattle.wit_encode.proofs.Mapped.{contains-filter, from-filter}
-use Rattle.encode_types.proofs.Lists.{none-in}
-use Rattle.std.proofs.lemmas.Map.Made.{distinct_count-le}
-use Rattle.encode_types.specs.Distinct.{are_same, key_of}
-use Rattle.encode_types.proofs.Rooms.{are-different, counts-few}
+use Rattle.encode_types.specs.{Plan.foreign_owner, Table.interface_of_owner, MetKinds.ReachedFrom, MetKinds.referred, Distinct.are_same, Distinct.key_of}
+use Rattle.wit_encode.specs.{Order.is_function_of, Order.by_resource, Order.functions_in_order, Encoders.InterfaceLacksRoom, RoomLaws.LackingInterfacesAreHeavy}
+use Rattle.wit_encode.proofs.{Validity.valid-layered, Mapped.contains-filter, Mapped.from-filter}
 use Rattle.wit_encode.proofs.Reached.{from-flat, part-at, IsOwner, IsCounted, Stays, met-counted, counted-in, named-own, all-numbers, interface-owner}
-use Rattle.encode_types.proofs.Pairs.{pairs-head, pairs-tail}
-use Rattle.base_lemmas.proofs.Bools.{left_of as first_true, right_of as second_true}
+use Rattle.encode_types.proofs.{Encoding.tabled, Lists.none-in, Rooms.are-different, Rooms.counts-few, Pairs.pairs-head, Pairs.pairs-tail}
+use Rattle.base_lemmas.proofs.{Bools.left_of as first_true, Bools.right_of as second_true, Lists.map_of_map as map-twice, Numbers.equal, Numbers.same-number}
 use Rattle.base_lemmas.proofs.Elements.{all-contained, contains-later, contains-map, contains-one, map_from as from-map}
-use Rattle.base_lemmas.proofs.Lists.{map_of_map as map-twice}
-use Rattle.base_lemmas.proofs.Numbers.{equal, same-number}
-use Rattle.wit_model.proofs.OnePath.{interface-passes as interface_passes}
-use Rattle.wit_model.proofs.TreeLemmas.{child_list_of_children as listed}
-use Rattle.wit_model.proofs.ValidLemmas.{type_passes}
+use Rattle.wit_model.proofs.{OnePath.interface-passes as interface_passes, TreeLemmas.child_list_of_children as listed, ValidLemmas.type_passes}
+use Rattle.wit_model.specs.declared.model.TypeDefKind.TheVariants as kind
+use Rattle.wit_model.specs.declared.model.«Type».TheVariants as ty
+use Rattle.wit_model.specs.declared.model.Handle.TheVariants as handle
+use Rattle.wit_model.specs.declared.model.TypeOwner.TheVariants as owner
 
 -- ---- texts that don't fit are long
 

@@ -1,35 +1,21 @@
 -- A component with the component types of a package means the package.
 use Rattle.std.proofs.Common.{◌≡◌, ◌||◌, ◌&&◌, refl, sym, ap, subst, ◌∙◌, ℕ, Bool, true, false, List, [], ◌∷◌, ◌++◌, append-nil, length, Some, Result, Ok, Err, IfErr, is_some}
-use Rattle.std.specs.Prelude.{IsErrAnd}
-use Rattle.std.specs.List.{AllZip, Contains, list_all}
-use Rattle.std.proofs.lemmas.Bool.{true≢false, ltb-true}
-use Rattle.std.proofs.lemmas.List.Elements.{Contains-append_left, Contains-append_right}
-use Rattle.wit_model.specs.Text.{Text}
-use Rattle.wit_model.specs.Lookup.{package_at, identity_of}
-use Rattle.wit_model.specs.Rules.{in_list}
-use Rattle.wit_model.specs.Valid.{is_place, numbers_in_range}
+use Rattle.std.proofs.lemmas.{Bool.true≢false, Bool.ltb-true, List.Elements.Contains-append_left, List.Elements.Contains-append_right}
+use Rattle.std.specs.{Prelude.IsErrAnd, List.AllZip, List.Contains, List.list_all}
+use Rattle.wit_model.specs.{Text.Text, Lookup.package_at, Lookup.identity_of, Rules.in_list, Valid.is_place, Valid.numbers_in_range, Valid.IsValid}
 use Rattle.wit_model.proofs.OnePath.{package-passes}
-use Rattle.wit_model.specs.Valid.{IsValid}
-use Rattle.wit_model.specs.declared.error.Error.{Error}
-use Rattle.wit_model.specs.declared.model.Resolve.{Resolve}
-use Rattle.wit_model.specs.declared.model.Package.{Package}
-use Rattle.wit_model.specs.declared.model.InterfaceId.{InterfaceId}
-use Rattle.wit_model.specs.declared.model.WorldId.{WorldId}
+use Rattle.wit_model.specs.declared.{error.Error.Error, model.Resolve.Resolve, model.Package.Package, model.InterfaceId.InterfaceId, model.WorldId.WorldId}
 use Rattle.indexmap.specs.IndexMap.{values}
-use Rattle.comp_bytes.specs.Raw.{Declarations}
-use Rattle.comp_bytes.specs.Parts.{Part, sections_of_parts}
-use Rattle.comp_bytes.specs.Spelling.{IsComponent, preamble}
-use Rattle.comp_bytes.specs.Refusal.{IsMemoryOrSize}
+use Rattle.comp_bytes.specs.{Raw.Declarations, Parts.Part, Parts.sections_of_parts, Spelling.IsComponent, Spelling.preamble, Refusal.IsMemoryOrSize}
 use Rattle.comp_meaning.specs.Follow.{is_filled}
 use Rattle.encode_exports.specs.ExportedParts.{exporting}
 use Rattle.encode_exports.proofs.Exports.{all_exported}
 use Rattle.encode_shown.specs.PackageTypes.{ArePackageTypes, IsInterfaceType, IsListedWorldType}
 use Rattle.encode_shown.proofs.Owning.{own-path}
-use Rattle.encode_shown.proofs.PackageTypes as shown
 use Rattle.wit_encode.proofs.CustomSections.{exported-behind}
 use Rattle.wit_encode.specs.Packages.{AddsWorlds, AreNamed, AreWorlds, HasMembers, HasNoClashes, HasNoMembers, HaveNoEqualPaths, HoldsInterfaces, HoldsMembers, HoldsPackage, IsTypeOf, IsWrapperOf, Listed, ListedWorld, MeansPackage, PartsMean, RefusesInterfaces, RefusesPackage, RefusesPackageAt, RefusesWorlds}
-use Rattle.base_lemmas.proofs.Bools.{right_of as second_true}
-use Rattle.base_lemmas.proofs.Elements.{all-contained, contains-map, contains-one}
+use Rattle.base_lemmas.proofs.{Bools.right_of as second_true, Elements.all-contained, Elements.contains-map, Elements.contains-one}
+use Rattle.encode_shown.proofs.PackageTypes as shown
 
 -- ---- what stands in a package
 

@@ -1,22 +1,16 @@
 -- A component type in which all imports and exports of a world are shown is that of the world.
 use Rattle.std.proofs.Common.{◌≡◌, sym, subst, ℕ, Bool, true, Some}
 use Rattle.std.specs.Prelude.{IfErr, IsErrAnd, OnOk, Result, Ok, Err}
-use Rattle.wit_model.specs.Lookup.{world_at}
-use Rattle.wit_model.specs.Valid.{IsValid}
-use Rattle.wit_model.specs.declared.error.Error.{Error}
-use Rattle.wit_model.specs.declared.error.Error.TheVariants as errors
-use Rattle.wit_model.specs.declared.model.Resolve.{Resolve}
-use Rattle.wit_model.specs.declared.model.World.{World}
+use Rattle.wit_model.specs.{Lookup.world_at, Valid.IsValid}
+use Rattle.wit_model.specs.declared.{error.Error.Error, model.Resolve.Resolve, model.World.World}
 use Rattle.comp_bytes.specs.Refusal.{IsMemoryOrSize}
 use Rattle.comp_meaning.specs.Follow.{export_}
-use Rattle.encode_shown.proofs.Worlds.{world-obeys}
-use Rattle.encode_shown.proofs.WorldMeans.{world-means, world-package-means}
+use Rattle.encode_shown.proofs.{Worlds.world-obeys, WorldMeans.world-means, WorldMeans.world-package-means}
 use Rattle.encode_names.specs.Clashes.{HasNoClash, RefusesNames}
 use Rattle.encode_names.proofs.WorldSteps.{worlds_are_shown}
-use Rattle.wit_encode.specs.Packages.{RefusesWorldAt}
-use Rattle.wit_encode.specs.WholeWorlds.{RefusesWorld, ShowsWorldType}
-use Rattle.wit_encode.specs.WorldItems.{HasShown, ended}
+use Rattle.wit_encode.specs.{Packages.RefusesWorldAt, WholeWorlds.RefusesWorld, WholeWorlds.ShowsWorldType, WorldItems.HasShown, WorldItems.ended}
 use Rattle.wit_encode.specs.Worlds.{WorldEncoder}
+use Rattle.wit_model.specs.declared.error.Error.TheVariants as errors
 
 pub world-shown : (r : Resolve) → IsValid r → (w : World) (e : WorldEncoder) → HasShown r w e (ended export_ w) → ShowsWorldType r w e.outer
 world-shown r v w e h =

@@ -1,19 +1,15 @@
 -- One alias more in a component type: what it shows, and what an instance type in it reads.
 use Rattle.std.proofs.Common.{◌≡◌, refl, sym, ap, ◌∙◌, ◌+◌, List, [], ◌∷◌, ◌++◌, Option, Some, None, slice_get, length, true, arith}
+use Rattle.std.proofs.lemmas.Option.{same_Some as some-same}
 use Rattle.std.specs.Option.{option_map_or, is_some}
 use Rattle.wit_model.specs.Tree.{Place}
-use Rattle.comp_bytes.specs.Raw.{Alias, Declaration}
-use Rattle.comp_bytes.specs.Held.{type_slots_of}
-use Rattle.comp_meaning.specs.Follow as follow
+use Rattle.comp_bytes.specs.{Raw.Alias, Raw.Declaration, Held.type_slots_of}
 use Rattle.comp_meaning.specs.Follow.{Slot, Instance, InstanceScope, new_instance, new_scope, provided, in_scope, find_type, exported_slot, component_step, instance_step, instance_steps}
 use Rattle.encode_types.specs.Known.{Around, Aliased, alias_declared, with_alias}
 use Rattle.wit_encode.specs.Instance.{no_view, outer_scope, outer_slots, outer_instances, inner_scope, inner_contents}
-use Rattle.wit_encode.proofs.Strict.{bind}
-use Rattle.wit_encode.proofs.Steps.{unbind}
-use Rattle.wit_encode.proofs.Components.{steps-count, steps-more}
-use Rattle.wit_encode.proofs.Calls.{inner-at}
+use Rattle.wit_encode.proofs.{Strict.bind, Steps.unbind, Components.steps-count, Components.steps-more, Calls.inner-at}
 use Rattle.base_lemmas.proofs.Lists.{at_last as get-last, front_more as get-left}
-use Rattle.std.proofs.lemmas.Option.{same_Some as some-same}
+use Rattle.comp_meaning.specs.Follow as follow
 
 -- ---- an instance type, with one slot more around
 

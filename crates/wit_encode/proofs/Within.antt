@@ -1,23 +1,18 @@
 -- The calls of an encoder of interfaces, by whether it is encoding one.
 use Rattle.std.proofs.Common.{◌≡◌, sym, ap, subst, ◌∙◌, ℕ, List, [], ◌∷◌, ◌++◌, length, Result, Ok, Err, IfOk, OnOk, OnErr, Option, Some, None}
-use Rattle.wit_model.specs.Tree.{Tree, named}
-use Rattle.wit_model.specs.Meaning.{Signature}
+use Rattle.wit_model.specs.{Tree.Tree, Tree.named, Meaning.Signature}
 use Rattle.wit_model.specs.declared.model.Resolve.{Resolve}
-use Rattle.comp_bytes.specs.declared.forms.ComponentDefinedType.{ComponentDefinedType}
-use Rattle.comp_bytes.specs.declared.forms.ComponentFuncType.{ComponentFuncType}
-use Rattle.comp_bytes.specs.declared.forms.ComponentTypeRef.TheVariants as refs
-use Rattle.comp_bytes.specs.Raw.{Declaration, Declarations, ExternName, append}
-use Rattle.comp_bytes.specs.RawOf.{raw_defined, raw_function}
+use Rattle.comp_bytes.specs.declared.forms.{ComponentDefinedType.ComponentDefinedType, ComponentFuncType.ComponentFuncType}
+use Rattle.comp_bytes.specs.{Raw.Declaration, Raw.Declarations, Raw.ExternName, Raw.append, RawOf.raw_defined, RawOf.raw_function}
 use Rattle.comp_bytes.specs.Held.{type_slots, type_slots_of}
 use Rattle.wit_encode.specs.declared.interface.OpenInterface.{OpenInterface}
-use Rattle.encode_types.specs.Counts.{Definitions}
+use Rattle.encode_types.specs.{Counts.Definitions, Counts.one_type_more, Counts.one_function_more, Counts.ExportsOne, Formed.IsFormed, Formed.IsFormedSignature}
 use Rattle.encode_types.specs.Slots.{Standing, Pairs, SlotAdded, tree, Follows, FollowsFunction, Defines, DefinesFunction}
 use Rattle.encode_types.specs.Scope.{DeclaresSlot, DeclaresResource}
-use Rattle.encode_types.specs.Formed.{IsFormed, IsFormedSignature}
-use Rattle.encode_types.specs.Counts.{one_type_more, one_function_more, ExportsOne}
 use Rattle.wit_encode.specs.Instance.{SlotsStand, around_at, contents_of, encoder_scope, definitions_with}
 use Rattle.wit_encode.proofs.Calls.{Calls, defined-inside, function-inside, type-inside, resource-inside}
 use Rattle.wit_encode.proofs.Outside.{defined-outside, function-outside}
+use Rattle.comp_bytes.specs.declared.forms.ComponentTypeRef.TheVariants as refs
 
 -- a call that takes the encoder from one state to another
 abbrev pub CallsTo : {E : Type 0} → Result ℕ E → Resolve → Declarations → Option OpenInterface → Declarations → Option OpenInterface → (Standing → Type 0) → Type 0 → Type 0

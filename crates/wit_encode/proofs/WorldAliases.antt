@@ -1,32 +1,19 @@
 -- Aliases that are made in the component type of a world leave what has been shown.
 use Rattle.std.proofs.Common.{◌≡◌, refl, sym, subst, ap, ◌∙◌, append-nil, ℕ, ◌≤◌, inl, inr, Bool, true, if◌then◌else◌, List, [], ◌∷◌, ◌++◌, length, arith}
 use Rattle.std.specs.List.{Contains}
-use Rattle.wit_model.specs.declared.model.Resolve.{Resolve}
-use Rattle.wit_model.specs.declared.model.World.{World}
-use Rattle.wit_model.specs.declared.model.WorldId.{WorldId}
+use Rattle.wit_model.specs.declared.model.{Resolve.Resolve, World.World, WorldId.WorldId}
 use Rattle.comp_bytes.specs.Raw.{Declarations}
 use Rattle.encode_types.specs.declared.maps.TypeEncodingMaps.{TypeEncodingMaps}
 use Rattle.encode_types.specs.Known.{Aliased, AreAliases, alias_declared, Around, GrowsAround, IsAlias, aliased, outer_slots, standing_instances, with_alias, with_aliases}
-use Rattle.encode_types.specs.Scope.{Scope, IsImportable}
-use Rattle.encode_types.specs.Slots.{Keeps}
-use Rattle.encode_types.specs.Standing.{SlotsStand}
-use Rattle.encode_types.specs.View.{Grows}
+use Rattle.encode_types.specs.{Scope.Scope, Scope.IsImportable, Slots.Keeps, Standing.SlotsStand, View.Grows}
 use Rattle.encode_types.proofs.Around.{around-same}
 use Rattle.encode_names.specs.WorldSteps.{Entry, Entries}
 use Rattle.wit_encode.specs.declared.interface.Foreign.{Foreign}
-use Rattle.wit_encode.specs.Instance.{around_at}
+use Rattle.wit_encode.specs.{Instance.around_at, WholeWorlds.directions_of, WrittenNames.instance_declarations, Places.GrowsBy}
 use Rattle.wit_encode.specs.Worlds.{WorldEncoder, is_sound_outside, world_around, world_definitions, world_scope, world_view_of}
-use Rattle.wit_encode.specs.WorldAliases.{KeepsListed, aliases_in, interfaces_in}
-use Rattle.wit_encode.specs.WholeWorlds.{directions_of}
-use Rattle.wit_encode.specs.WrittenNames.{instance_declarations}
-use Rattle.wit_encode.proofs.AliasesKept.{keeps-aliases}
-use Rattle.wit_encode.specs.Places.{GrowsBy}
-use Rattle.wit_encode.proofs.Places.{grows-more}
-use Rattle.wit_encode.proofs.Directions.{directions-more, keeps-both}
-use Rattle.wit_encode.specs.WorldItems.{HasShown, types_among}
-use Rattle.wit_encode.proofs.WrittenNames.{instances-left}
-use Rattle.wit_encode.proofs.WorldCalls.{world-imports}
-use Rattle.wit_encode.proofs.WorldShown.{types-shown}
+use Rattle.wit_encode.specs.{WorldAliases.KeepsListed, WorldAliases.aliases_in, WorldAliases.interfaces_in, WorldItems.HasShown, WorldItems.types_among}
+use Rattle.wit_encode.proofs.{AliasesKept.keeps-aliases, Directions.directions-more, Directions.keeps-both, WrittenNames.instances-left, WorldShown.types-shown}
+use Rattle.wit_encode.proofs.{Places.grows-more, WorldCalls.world-imports}
 
 -- from what stands around an encoder of a world to the next: the same is shown, and nothing has been defined
 pub record Leaves (r : Resolve) (w : WorldId) (count : ℕ) (a a' : Around) : Type 0 where

@@ -1,20 +1,13 @@
 -- Which types of listed interfaces have an alias in a component type, and how much it holds beside them.
 use Rattle.std.proofs.Common.{◌≡◌, ap, ◌∙◌, ℕ, ◌+◌, ◌≤◌, inl, inr, Bool, true, false, List, [], ◌∷◌, length, None, is_some, arith}
-use Rattle.std.specs.List.{filter}
-use Rattle.std.specs.Option.{option_map_or}
-use Rattle.std.specs.BTreeMap.{is_at, insert_entry}
-use Rattle.std.specs.Ordering.{nat_cmp}
 use Rattle.std.proofs.lemmas.Bool.{cases_Bool, cond-true, cond-false, and_from as both}
+use Rattle.std.specs.{List.filter, Option.option_map_or, BTreeMap.is_at, BTreeMap.insert_entry, Ordering.nat_cmp}
 use Rattle.wit_model.specs.Lookup.{type_at}
-use Rattle.wit_model.specs.declared.model.Resolve.{Resolve}
-use Rattle.wit_model.specs.declared.model.TypeId.{TypeId}
-use Rattle.comp_bytes.specs.Raw.{Declarations, declaration_count}
-use Rattle.comp_bytes.specs.Held.{type_slots_of}
+use Rattle.wit_model.specs.declared.model.{Resolve.Resolve, TypeId.TypeId}
+use Rattle.comp_bytes.specs.{Raw.Declarations, Raw.declaration_count, Held.type_slots_of}
 use Rattle.encode_types.specs.Known.{Aliased, Around, IsAlias, ReachesAround, as_before, aliased, below, known_slot, with_alias}
 use Rattle.wit_encode.specs.Worlds.{brought_numbers, held_beside, is_brought, is_of_listed}
-use Rattle.wit_encode.proofs.Imported.{at-same, other-slot}
-use Rattle.wit_encode.proofs.Importing.{new-slot}
-use Rattle.wit_encode.proofs.WorldCalls.{reached-held}
+use Rattle.wit_encode.proofs.{Imported.at-same, Imported.other-slot, Importing.new-slot, WorldCalls.reached-held}
 use Rattle.base_lemmas.proofs.Bools.{left_of as first_true, right_of as second_true}
 
 -- what passes one test passes the other

@@ -1,7 +1,6 @@
 -- How many bytes an import or an export of a world takes.
 use Rattle.std.proofs.Common.{◌≤◌, length}
-use Rattle.comp_bytes.specs.Raw.{ExternName}
-use Rattle.comp_bytes.specs.Writing.{declaration_bytes}
+use Rattle.comp_bytes.specs.{Raw.ExternName, Writing.declaration_bytes}
 use Rattle.comp_bytes.specs.declared.forms.ComponentTypeRef.{ComponentTypeRef}
 use Rattle.comp_meaning.specs.Follow.{Direction, import_, export_}
 use Rattle.encode_names.specs.WorldSteps.{declared_towards}

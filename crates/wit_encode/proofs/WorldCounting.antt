@@ -1,61 +1,36 @@
 -- How much the component type of a world defines after each item.
 use Rattle.std.proofs.Common.{◌≡◌, refl, sym, subst, ap, ◌∙◌, ℕ, ◌+◌, inl, inr, Bool, true, false, ◌⊎◌, List, [], ◌∷◌, ◌++◌, map, flat_map, append-nil, append_assoc, length, None, is_some, slice_get, arith}
-use Rattle.std.specs.Prelude.{nat_eq, cond}
-use Rattle.std.specs.List.{AllZip, Contains}
-use Rattle.std.specs.Set.{is_member, distinct_count}
-use Rattle.std.proofs.lemmas.List.{map-append}
+use Rattle.std.proofs.lemmas.{List.map-append, List.Concat.flat_map-append}
 use Rattle.std.proofs.lemmas.List.Elements.{Contains-append_left, Contains-append_right, Contains-append_cases, filter_map-append}
-use Rattle.std.proofs.lemmas.List.Concat.{flat_map-append}
-use Rattle.wit_model.specs.Parts.{function_types}
-use Rattle.wit_model.specs.Valid.{IsValid}
-use Rattle.wit_model.specs.declared.model.Resolve.{Resolve}
-use Rattle.wit_model.specs.declared.model.World.{World}
-use Rattle.wit_model.specs.declared.model.WorldKey.{WorldKey}
-use Rattle.wit_model.specs.declared.model.WorldItem.{WorldItem}
-use Rattle.wit_model.specs.declared.model.WorldItem.TheVariants as item
-use Rattle.wit_model.specs.declared.model.Function.{Function}
+use Rattle.std.specs.{Prelude.nat_eq, Prelude.cond, List.AllZip, List.Contains, Set.is_member, Set.distinct_count, Option.option_map_or}
+use Rattle.wit_model.specs.{Parts.function_types, Valid.IsValid, Tree.Tree}
+use Rattle.wit_model.specs.declared.model.{Resolve.Resolve, World.World, WorldKey.WorldKey, WorldItem.WorldItem, Function.Function, «Type».«Type» as ValueType}
 use Rattle.wit_model.specs.declared.model.TypeId.{TypeId}
-use Rattle.wit_model.specs.declared.model.«Type».{«Type» as ValueType}
-use Rattle.wit_model.specs.declared.model.«Type».TheVariants as ty
 use Rattle.comp_bytes.specs.Raw.{Declaration, Declarations, ExternName}
 use Rattle.comp_bytes.specs.declared.forms.ComponentTypeRef.{ComponentTypeRef}
-use Rattle.comp_bytes.specs.declared.forms.ComponentTypeRef.TheVariants as refs
 use Rattle.comp_meaning.specs.Follow.{Direction, import_, export_, new_scope}
-use Rattle.wit_model.specs.Tree.{Tree}
-use Rattle.std.specs.Option.{option_map_or}
-use Rattle.encode_types.specs.Slots.{tree}
-use Rattle.encode_types.specs.declared.key.FunctionKey.{FunctionKey}
-use Rattle.encode_types.specs.declared.maps.TypeEncodingMaps.{TypeEncodingMaps}
-use Rattle.encode_types.specs.Aliases.{NumbersMet}
-use Rattle.encode_types.specs.Known.{Around, known_slot}
-use Rattle.encode_types.specs.Counts.{AddsTypes, AddsFunction, names_defined}
+use Rattle.encode_types.specs.{Slots.tree, Aliases.NumbersMet, Known.Around, Known.known_slot, Key.IsKeyOf, Scope.Scope}
+use Rattle.encode_types.specs.{Counts.AddsTypes, Counts.AddsFunction, Counts.names_defined, Maps.IsKnown, Maps.IsOnce, MetKinds.LearnsFrom, MetKinds.LearnsMet}
 use Rattle.encode_types.specs.Distinct.{key_of, are_same, is_value_type, is_function_type, described_slot, target_of, targets_of, value_slots, function_slots, StandForKeys, defined_under_names, AddsFunctions}
-use Rattle.encode_types.specs.Key.{IsKeyOf}
-use Rattle.encode_types.specs.Maps.{IsKnown, IsOnce}
-use Rattle.encode_types.specs.MetKinds.{LearnsFrom, LearnsMet}
-use Rattle.encode_types.specs.Scope.{Scope}
+use Rattle.encode_types.specs.declared.{key.FunctionKey.FunctionKey, maps.TypeEncodingMaps.TypeEncodingMaps}
 use Rattle.encode_types.proofs.Rooms.{only-more}
 use Rattle.encode_names.specs.WorldSteps.{Entry, Entries, declared_towards, interfaces_among}
-use Rattle.wit_encode.specs.Places.{are_beside}
-use Rattle.wit_encode.specs.Encoders.{declared_after}
-use Rattle.wit_encode.specs.Instance.{count_declared, SlotsStand, outer_slots, standing_at}
+use Rattle.wit_encode.specs.{Places.are_beside, Encoders.declared_after, WorldRoom.functions_among, WorldRoom.referred_among, WorldRoom.type_ids_among}
+use Rattle.wit_encode.specs.{Instance.count_declared, Instance.SlotsStand, Instance.outer_slots, Instance.standing_at, DependencyAliases.alias_in}
 use Rattle.wit_encode.specs.WorldItems.{HasShown, all_done, types_among}
-use Rattle.wit_encode.specs.DependencyAliases.{alias_in}
 use Rattle.wit_encode.specs.WorldAliases.{KeepsAliases, KeepsBehind, KeepsListed, PlacedAlias, place_and_number}
 use Rattle.wit_encode.specs.WorldCounts.{DefinesInterface, DefinesOnce, HasDefined, IsAskedBehind, IsAskedBy, no_interface, nothing_defined}
-use Rattle.wit_encode.specs.WorldRoom.{functions_among, referred_among, type_ids_among}
 use Rattle.wit_encode.specs.Worlds.{WorldEncoder, instances_declared, world_around, world_definitions, world_view_of}
 use Rattle.wit_encode.proofs.AliasesKept.{alias-new, aliases-in-end, keeps-nothing, keeps-plain, keeps-told, none-since, slot-there, there-slot}
-use Rattle.wit_encode.proofs.WrittenNames.{no-function-name}
-use Rattle.wit_encode.proofs.Components.{count-more}
+use Rattle.wit_encode.proofs.{WrittenNames.no-function-name, HeldKeys.Keyed, HeldKeys.keyed, HeldKeys.knows-none, HeldKeys.stand-for-keys, HeldKeys.slots-many}
+use Rattle.wit_encode.proofs.{Components.count-more, DefinedTypes.HeldKinds, DefinedTypes.defines-types}
 use Rattle.wit_encode.proofs.ValueSlots.{IsPlain, slots-kept, slots-declared, targets-kept, instances-kept, outer-values}
-use Rattle.wit_encode.proofs.DefinedTypes.{HeldKinds, defines-types}
-use Rattle.wit_encode.proofs.WorldScope.{sound-outside}
+use Rattle.wit_encode.proofs.{WorldScope.sound-outside, Referring.from-met, Referring.from-none, Referring.from-then, Referring.interface-kinds}
 use Rattle.wit_encode.proofs.Counting.{slots-once, adds-alike, adds-function, adds-nothing, adds-trans, adds-types, exact-names}
-use Rattle.wit_encode.proofs.HeldKeys.{Keyed, keyed, knows-none, stand-for-keys, slots-many}
-use Rattle.wit_encode.proofs.Referring.{from-met, from-none, from-then, interface-kinds}
-use Rattle.base_lemmas.proofs.Bools.{both_ways as both-ways}
-use Rattle.base_lemmas.proofs.Elements.{contains-map, map_from as from-map}
+use Rattle.base_lemmas.proofs.{Bools.both_ways as both-ways, Elements.contains-map, Elements.map_from as from-map}
+use Rattle.wit_model.specs.declared.model.WorldItem.TheVariants as item
+use Rattle.wit_model.specs.declared.model.«Type».TheVariants as ty
+use Rattle.comp_bytes.specs.declared.forms.ComponentTypeRef.TheVariants as refs
 
 -- ---- entries
 

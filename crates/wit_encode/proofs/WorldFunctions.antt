@@ -1,60 +1,32 @@
 -- A function of a world, imported or exported behind what has been.
 use Rattle.std.proofs.Common.{◌≡◌, refl, sym, subst, ap, ◌∙◌, append-nil, append_assoc, ℕ, zero, ◌≤◌, inl, inr, Bool, true, List, [], ◌∷◌, ◌++◌, map, filter_map, slice_get, take, Option, Some, None, option_to_list, length, arith}
-use Rattle.std.specs.List.{Contains, cons_option, filter, list_all}
-use Rattle.std.specs.Option.{option_map_or}
-use Rattle.std.specs.Prelude.{if◌then◌else◌}
 use Rattle.std.proofs.lemmas.List.{map-append}
-use Rattle.std.proofs.lemmas.List.Concat.{flat_map-append}
-use Rattle.std.proofs.lemmas.List.Elements.{Contains-append_left, Contains-append_right, filter_map-append}
+use Rattle.std.proofs.lemmas.List.{Concat.flat_map-append, Elements.Contains-append_left, Elements.Contains-append_right, Elements.filter_map-append}
+use Rattle.std.specs.{List.Contains, List.cons_option, List.filter, List.list_all, Option.option_map_or, Prelude.if◌then◌else◌}
 use Rattle.indexmap.specs.IndexMap.{values}
-use Rattle.wit_model.specs.Lookup.{world_at}
-use Rattle.wit_model.specs.Meaning.{Signature}
-use Rattle.wit_model.specs.Meant.{signature_of}
-use Rattle.wit_model.specs.Parts.{function_types}
-use Rattle.wit_model.specs.Rules.{item_type}
-use Rattle.wit_model.specs.Uses.{item_interface, items_of}
+use Rattle.wit_model.specs.{Lookup.world_at, Meaning.Signature, Meant.signature_of, Parts.function_types, Rules.item_type, Uses.item_interface, Uses.items_of}
 use Rattle.wit_model.specs.Valid.{IsValid}
-use Rattle.wit_model.specs.declared.model.Resolve.{Resolve}
-use Rattle.wit_model.specs.declared.model.World.{World}
-use Rattle.wit_model.specs.declared.model.WorldId.{WorldId}
-use Rattle.wit_model.specs.declared.model.WorldKey.{WorldKey}
-use Rattle.wit_model.specs.declared.model.WorldItem.{WorldItem}
-use Rattle.wit_model.specs.declared.model.WorldItem.TheVariants as item
-use Rattle.wit_model.specs.declared.model.Function.{Function}
-use Rattle.wit_model.specs.declared.model.TypeOwner.TheVariants as owner
+use Rattle.wit_model.specs.declared.model.{Resolve.Resolve, World.World, WorldId.WorldId, WorldKey.WorldKey, WorldItem.WorldItem, Function.Function}
 use Rattle.comp_bytes.specs.Raw.{Declarations}
-use Rattle.comp_bytes.specs.declared.forms.ComponentTypeRef.TheVariants as refs
-use Rattle.comp_meaning.specs.Follow as follow
 use Rattle.comp_meaning.specs.Follow.{Direction, import_, export_, Seen, Slot, function_in, new_scope, see}
-use Rattle.encode_types.specs.Counts.{Shows, own_name}
+use Rattle.encode_types.specs.{Counts.Shows, Counts.own_name, Leaves.Leaves, Plan.MetFrom, View.Agrees}
 use Rattle.encode_types.specs.Known.{Around, are_right, below, outer_instances, outer_scope, outer_slots, standing_instances, stands_around}
-use Rattle.encode_types.specs.Leaves.{Leaves}
-use Rattle.encode_types.specs.Maps.{IsKnown, LearnsOnly, MapsAgree, by_number}
-use Rattle.encode_types.specs.Plan.{MetFrom}
-use Rattle.encode_types.specs.Slots.{function}
-use Rattle.encode_types.specs.Standing.{SlotsStand, standing_at}
+use Rattle.encode_types.specs.{Maps.IsKnown, Maps.LearnsOnly, Maps.MapsAgree, Maps.by_number, Slots.function, Standing.SlotsStand, Standing.standing_at}
 use Rattle.encode_names.specs.WorldNames.{name_of_item}
 use Rattle.encode_names.specs.WorldSteps.{Entry, Entries, IsEntryOf, declared_towards, interfaces_among, seen_function, with_entry}
 use Rattle.encode_names.proofs.WorldSteps.{functions_are_shown, nothing_is_shown}
 use Rattle.encode_types.proofs.Lists.{none-in}
-use Rattle.encode_types.specs.View.{Agrees}
-use Rattle.wit_encode.specs.Encoders.{declared_after}
-use Rattle.wit_encode.specs.Instance.{CanEncodeFunction}
-use Rattle.wit_encode.specs.OwnerScope.{IsScopeOf}
-use Rattle.wit_encode.specs.WholeWorlds.{directions_of}
-use Rattle.wit_encode.specs.WorldItems.{HasShown, IsNext, all_done, types_among}
-use Rattle.wit_encode.specs.WorldUses.{StandBefore}
+use Rattle.wit_encode.specs.{Encoders.declared_after, OwnerScope.IsScopeOf, WholeWorlds.directions_of, WorldUses.StandBefore}
+use Rattle.wit_encode.specs.{Instance.CanEncodeFunction, WorldItems.HasShown, WorldItems.IsNext, WorldItems.all_done, WorldItems.types_among}
 use Rattle.wit_encode.specs.Worlds.{WorldEncoder, is_sound_outside, world_around, world_definitions, world_encoder_view, world_view_of}
-use Rattle.wit_encode.proofs.Components.{steps-more}
-use Rattle.wit_encode.proofs.Directions.{order-next}
-use Rattle.wit_encode.proofs.Exporting.{shows-nothing}
-use Rattle.wit_encode.proofs.Meeting.{meets-unnamed}
-use Rattle.wit_encode.proofs.OwnerScope.{functions_encode, table_is_scope}
-use Rattle.wit_encode.proofs.WorldScope.{sound-again, sound-outside}
-use Rattle.wit_encode.proofs.WorldShown.{types-shown}
-use Rattle.wit_encode.proofs.WorldUses.{function-listed, function-there, items_meet_standing}
+use Rattle.wit_encode.proofs.{Components.steps-more, Components.see-slots, WorldUses.function-listed, WorldUses.function-there, WorldUses.items_meet_standing}
+use Rattle.wit_encode.proofs.{Directions.order-next, Meeting.meets-unnamed, WorldShown.types-shown}
+use Rattle.wit_encode.proofs.{Exporting.shows-nothing, OwnerScope.functions_encode, OwnerScope.table_is_scope, WorldScope.sound-again, WorldScope.sound-outside}
 use Rattle.encode_shown.proofs.Basics.{valid-references}
-use Rattle.wit_encode.proofs.Components.{see-slots}
+use Rattle.wit_model.specs.declared.model.WorldItem.TheVariants as item
+use Rattle.wit_model.specs.declared.model.TypeOwner.TheVariants as owner
+use Rattle.comp_bytes.specs.declared.forms.ComponentTypeRef.TheVariants as refs
+use Rattle.comp_meaning.specs.Follow as follow
 
 -- ---- nothing has been encoded
 

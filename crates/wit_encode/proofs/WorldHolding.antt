@@ -1,62 +1,32 @@
 -- How much an encoder of a world holds after each item, and why a call has no room.
 use Rattle.std.proofs.Common.{◌≡◌, refl, sym, subst, ap, ◌∙◌, ℕ, zero, suc, ◌+◌, ◌*◌, ◌≤◌, inl, inr, Bool, true, false, ◌&&◌, List, [], ◌∷◌, ◌++◌, map, length, length-append, append_assoc, append-nil, Option, Some, None, is_some, arith}
-use Rattle.std.specs.Prelude.{nat_eq, AllPairs}
-use Rattle.std.specs.List.{Contains}
-use Rattle.std.specs.Option.{option_map_or}
-use Rattle.std.proofs.lemmas.Bool.{eqb-true}
-use Rattle.std.proofs.lemmas.List.{length-map}
-use Rattle.std.proofs.lemmas.List.Concat.{flat_map-append}
+use Rattle.std.proofs.lemmas.{Bool.eqb-true, List.length-map, List.Concat.flat_map-append, List.Kept.AllPairs-filter}
 use Rattle.std.proofs.lemmas.List.Elements.{All-contains, Contains-append_cases, Contains-append_left, Contains-append_right, filter_map-append, filter_passes}
-use Rattle.std.proofs.lemmas.List.Kept.{AllPairs-filter}
-use Rattle.wit_model.specs.Lookup.{type_at}
-use Rattle.wit_model.specs.Text.{text_of}
-use Rattle.wit_model.specs.Meant.{signature_of, type_meaning}
-use Rattle.wit_model.specs.Parts.{function_types}
-use Rattle.wit_model.specs.Uses.{owner_interface}
-use Rattle.wit_model.specs.declared.model.Resolve.{Resolve}
-use Rattle.wit_model.specs.declared.model.World.{World}
-use Rattle.wit_model.specs.declared.model.WorldKey.{WorldKey}
-use Rattle.wit_model.specs.declared.model.WorldItem.{WorldItem}
-use Rattle.wit_model.specs.declared.model.WorldItem.TheVariants as item
-use Rattle.wit_model.specs.declared.model.Function.{Function}
-use Rattle.wit_model.specs.declared.model.TypeDef.{TypeDef}
-use Rattle.wit_model.specs.declared.model.TypeId.{TypeId}
-use Rattle.wit_model.specs.declared.model.TypeOwner.{TypeOwner}
-use Rattle.wit_model.specs.declared.model.TypeOwner.TheVariants as owner
-use Rattle.wit_model.specs.declared.model.«Type».{«Type» as ValueType}
-use Rattle.wit_model.specs.declared.model.«Type».TheVariants as ty
+use Rattle.std.specs.{Prelude.nat_eq, Prelude.AllPairs, List.Contains, Option.option_map_or}
+use Rattle.wit_model.specs.{Lookup.type_at, Text.text_of, Meant.signature_of, Meant.type_meaning, Parts.function_types, Uses.owner_interface}
+use Rattle.wit_model.specs.declared.model.{Resolve.Resolve, World.World, TypeDef.TypeDef, TypeId.TypeId}
+use Rattle.wit_model.specs.declared.model.{WorldKey.WorldKey, WorldItem.WorldItem, Function.Function, TypeOwner.TypeOwner, «Type».«Type» as ValueType}
 use Rattle.comp_bytes.specs.Raw.{Declarations, ExternName, declaration_count}
-use Rattle.comp_bytes.specs.Held.{declaration_slots, fits_added, fits_counts, type_slots_of}
-use Rattle.comp_bytes.specs.Fits.{fits_declaration, fits_name}
+use Rattle.comp_bytes.specs.{Held.declaration_slots, Held.fits_added, Held.fits_counts, Held.type_slots_of, Fits.fits_declaration, Fits.fits_name}
 use Rattle.comp_bytes.specs.declared.forms.ComponentTypeRef.{ComponentTypeRef}
-use Rattle.comp_bytes.specs.declared.forms.ComponentTypeRef.TheVariants as refs
 use Rattle.comp_meaning.specs.Follow.{Direction, import_, export_}
-use Rattle.encode_types.specs.declared.maps.TypeEncodingMaps.{TypeEncodingMaps}
-use Rattle.encode_types.specs.declared.key.FunctionKey.{FunctionKey}
-use Rattle.encode_types.specs.Counts.{Definitions, AddsFunction}
-use Rattle.encode_types.proofs.Defining.{lists-longer}
-use Rattle.encode_types.specs.Known.{Around, below, known_instance}
-use Rattle.encode_types.specs.Maps.{IsKnown, IsOnce}
-use Rattle.encode_types.specs.MetKinds.{LearnsMet, ReachedFrom}
+use Rattle.encode_types.specs.declared.{maps.TypeEncodingMaps.TypeEncodingMaps, key.FunctionKey.FunctionKey}
+use Rattle.encode_types.specs.{Counts.Definitions, Counts.AddsFunction, Maps.IsKnown, Maps.IsOnce, Kinds.kind_tree, Codes.ListKey}
+use Rattle.encode_types.specs.{Known.Around, Known.below, Known.known_instance, MetKinds.LearnsMet, MetKinds.ReachedFrom, Scope.Scope, Scope.exported_name}
 use Rattle.encode_types.specs.Room.{Request, IsUnfit, LacksPart, its_definition, its_name, its_import, LacksOne, a_type, a_request, FindsNoRoom, HoldsFor, LacksRoomBehind, value_type, export_name, import_of, function_type, limit}
-use Rattle.encode_types.specs.Kinds.{kind_tree}
-use Rattle.encode_types.specs.Scope.{Scope, exported_name}
-use Rattle.encode_types.proofs.Lists.{none-in}
-use Rattle.encode_types.proofs.Pairs.{pairs-map}
-use Rattle.encode_types.proofs.Rooms.{only-reached, pairs-both, holds-few, are-different, counts-few}
-use Rattle.encode_names.specs.WorldNames.{name_of_item}
-use Rattle.encode_names.specs.WorldSteps.{Entry, Entries, declared_towards, interfaces_among}
-use Rattle.wit_encode.specs.Encoders.{declared_after}
-use Rattle.wit_encode.specs.WorldCounts.{HasDefined}
-use Rattle.wit_encode.specs.WorldHolds.{HoldsFew}
-use Rattle.wit_encode.specs.WorldItems.{IsNext, all_done}
+use Rattle.encode_types.proofs.{Defining.lists-longer, Rooms.only-reached, Rooms.pairs-both, Rooms.holds-few, Rooms.are-different, Rooms.counts-few}
+use Rattle.encode_types.proofs.{Lists.none-in, Pairs.pairs-map}
+use Rattle.encode_names.specs.{WorldNames.name_of_item, WorldSteps.Entry, WorldSteps.Entries, WorldSteps.declared_towards, WorldSteps.interfaces_among}
+use Rattle.wit_encode.specs.{Encoders.declared_after, WorldCounts.HasDefined, WorldHolds.HoldsFew, WorldItems.IsNext, WorldItems.all_done}
 use Rattle.wit_encode.specs.WorldRoom.{functions_among, referred_among, IsMetAmong, IsNamedTypeOf, IsTypeAmong, AreSome, count_among, entries_in, WorldLacksRoom, a_name, a_type as a_met_type, a_function, too_many}
 use Rattle.wit_encode.specs.Worlds.{WorldEncoder, brought_numbers, held_beside, is_brought, is_of_listed, world_around}
 use Rattle.wit_encode.proofs.Refusing.{counts-refused, outer-pushed, outer-slots-few}
 use Rattle.wit_encode.proofs.WorldCounting.{referred-front, referred-behind, function-referred, type-referred}
-use Rattle.base_lemmas.proofs.Bools.{left_of as first_true, right_of as second_true}
-use Rattle.base_lemmas.proofs.Elements.{last_of as one-contained, map_from as from-map}
-use Rattle.encode_types.specs.Codes.{ListKey}
+use Rattle.base_lemmas.proofs.{Bools.left_of as first_true, Bools.right_of as second_true, Elements.last_of as one-contained, Elements.map_from as from-map}
+use Rattle.wit_model.specs.declared.model.WorldItem.TheVariants as item
+use Rattle.wit_model.specs.declared.model.TypeOwner.TheVariants as owner
+use Rattle.wit_model.specs.declared.model.«Type».TheVariants as ty
+use Rattle.comp_bytes.specs.declared.forms.ComponentTypeRef.TheVariants as refs
 
 -- ---- how many entries
 

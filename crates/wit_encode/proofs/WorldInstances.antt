@@ -1,51 +1,32 @@
 -- An interface of a world, imported or exported: what its instance type defines, how much is held behind it, and why there is no room for it.
 use Rattle.std.proofs.Common.{◌≡◌, refl, sym, subst, ap, ◌∙◌, ℕ, ◌+◌, ◌≤◌, ◌⊎◌, inl, inr, nat_cmp, Bool, true, false, ◌&&◌, List, [], ◌∷◌, ◌++◌, length, map, Some, None, is_some, arith}
-use Rattle.std.specs.BTreeMap.{insert_entry}
-use Rattle.std.specs.List.{AllZip, Contains}
-use Rattle.std.proofs.lemmas.List.{length-map}
-use Rattle.std.proofs.lemmas.List.Elements.{Contains-append_left, Contains-append_right}
-use Rattle.wit_model.specs.Lookup.{interface_at}
-use Rattle.wit_model.specs.Rules.{item_type}
-use Rattle.wit_model.specs.Uses.{item_interface}
-use Rattle.wit_model.specs.declared.model.Resolve.{Resolve}
-use Rattle.wit_model.specs.declared.model.World.{World}
-use Rattle.wit_model.specs.declared.model.WorldItem.TheVariants as item
-use Rattle.wit_model.specs.declared.model.Interface.{Interface}
-use Rattle.wit_model.specs.declared.model.InterfaceId.{InterfaceId}
+use Rattle.std.proofs.lemmas.{List.length-map, List.Elements.Contains-append_left, List.Elements.Contains-append_right}
+use Rattle.std.specs.{BTreeMap.insert_entry, List.AllZip, List.Contains}
+use Rattle.wit_model.specs.{Lookup.interface_at, Rules.item_type, Uses.item_interface}
+use Rattle.wit_model.specs.declared.model.{Resolve.Resolve, World.World, Interface.Interface, InterfaceId.InterfaceId}
 use Rattle.comp_bytes.specs.Raw.{Declaration, Declarations, ExternName, append, declaration_count, from_list}
-use Rattle.comp_bytes.specs.Held.{fits_counts, type_slots_of}
-use Rattle.comp_bytes.specs.Fits.{fits_name}
-use Rattle.comp_bytes.specs.declared.forms.ComponentTypeRef.TheVariants as refs
+use Rattle.comp_bytes.specs.{Held.fits_counts, Held.type_slots_of, Fits.fits_name}
 use Rattle.comp_meaning.specs.Follow.{Direction, import_, export_}
 use Rattle.encode_types.specs.declared.maps.TypeEncodingMaps.{TypeEncodingMaps}
-use Rattle.encode_types.specs.Aliases.{IsMetElsewhere}
-use Rattle.encode_types.specs.Known.{Around, GrowsAround, known_instance, known_slot}
-use Rattle.encode_types.specs.Maps.{IsOnce}
-use Rattle.encode_types.specs.MetKinds.{LearnsFrom}
-use Rattle.encode_types.specs.Room.{limit}
+use Rattle.encode_types.specs.{Aliases.IsMetElsewhere, Maps.IsOnce, MetKinds.LearnsFrom, Room.limit}
+use Rattle.encode_types.specs.{Known.Around, Known.GrowsAround, Known.known_instance, Known.known_slot, Distinct.is_value_type, Distinct.is_function_type}
 use Rattle.encode_types.proofs.Lists.{none-in}
-use Rattle.encode_names.specs.WorldNames.{name_of_item}
-use Rattle.encode_names.specs.WorldSteps.{Entry, Entries, declared_towards, interfaces_among}
+use Rattle.encode_names.specs.{WorldNames.name_of_item, WorldSteps.Entry, WorldSteps.Entries, WorldSteps.declared_towards, WorldSteps.interfaces_among}
 use Rattle.wit_encode.specs.Encoders.{InterfaceLacksRoom, declared_after}
-use Rattle.encode_types.specs.Distinct.{is_value_type, is_function_type}
-use Rattle.wit_encode.specs.Instance.{EncodesInterface, LacksInstanceRoom, whole_interface}
-use Rattle.wit_encode.specs.WorldAliases.{KeepsBehind, place_and_number}
+use Rattle.wit_encode.specs.{Instance.EncodesInterface, Instance.LacksInstanceRoom, Instance.whole_interface, WorldHolds.HoldsFew, WorldHolds.LacksDeclaration}
+use Rattle.wit_encode.specs.{WorldAliases.KeepsBehind, WorldAliases.place_and_number, WorldItems.IsNext, WorldItems.ListsInstance, WorldItems.all_done}
 use Rattle.wit_encode.specs.WorldCounts.{DefinesInterface, HasDefined, IsAskedBy, no_interface}
-use Rattle.wit_encode.specs.WorldHolds.{HoldsFew, LacksDeclaration}
-use Rattle.wit_encode.specs.WorldItems.{IsNext, ListsInstance, all_done}
 use Rattle.wit_encode.specs.WorldRoom.{functions_among, count_among, entries_in, WorldLacksRoom, an_interface, a_name}
 use Rattle.wit_encode.specs.Worlds.{WorldEncoder, brought_numbers, instances_declared, world_around, world_definitions}
-use Rattle.wit_encode.proofs.Counting.{adds-alike, adds-nothing}
+use Rattle.wit_encode.proofs.{Counting.adds-alike, Counting.adds-nothing, AliasesPlaced.keeps-instance, WrittenNames.interface-name, WorldInterfaces.among-one}
 use Rattle.wit_encode.proofs.PlacedInstances.{grown-few, grown-listed, listed-cases, one-behind, placed-few, placed-instances, placed-targets, placed-slots}
 use Rattle.wit_encode.proofs.Referring.{from-none}
-use Rattle.wit_encode.proofs.Refusing.{counts-refused, outer-slots-few}
-use Rattle.wit_encode.proofs.AliasesKept.{keeps-aliases, known-among, none-since}
-use Rattle.wit_encode.proofs.AliasesPlaced.{keeps-instance}
-use Rattle.wit_encode.proofs.WrittenNames.{interface-name}
+use Rattle.wit_encode.proofs.{Refusing.counts-refused, Refusing.outer-slots-few, AliasesKept.keeps-aliases, AliasesKept.known-among, AliasesKept.none-since}
 use Rattle.wit_encode.proofs.WorldCounting.{defines-behind, interfaces-more, towards-alias, towards-function, towards-target, towards-value}
 use Rattle.wit_encode.proofs.WorldHolding.{count-both, full, known-number, known-numbers, known-once, met-before, next-among}
-use Rattle.wit_encode.proofs.WorldInterfaces.{among-one}
 use Rattle.base_lemmas.proofs.Elements.{zip-append}
+use Rattle.wit_model.specs.declared.model.WorldItem.TheVariants as item
+use Rattle.comp_bytes.specs.declared.forms.ComponentTypeRef.TheVariants as refs
 
 -- ---- one interface among the entries
 

@@ -1,64 +1,36 @@
 -- An interface of a world, imported or exported behind what has been: its instance type shows it, and from then on its instance stands.
 use Rattle.std.proofs.Common.{◌≡◌, refl, sym, subst, ap, ◌∙◌, ℕ, zero, suc, ◌+◌, ◌<◌, ◌⊎◌, inl, inr, nat_cmp, Bool, true, false, ◌&&◌, List, [], ◌∷◌, ◌++◌, length, length-append, Option, Some, option_to_list, arith}
-use Rattle.std.specs.BTreeMap.{insert_entry, is_at}
-use Rattle.std.specs.Ordering.{is_eq}
-use Rattle.std.specs.List.{Contains, list_all}
-use Rattle.std.specs.Option.{option_map_or}
-use Rattle.std.proofs.lemmas.Cmp.{nat_cmp_total}
-use Rattle.std.proofs.lemmas.List.Concat.{flat_map-append}
+use Rattle.std.proofs.lemmas.{Cmp.nat_cmp_total, List.Concat.flat_map-append, Slice.Zip.AllZip-long, Bool.and_from as both}
 use Rattle.std.proofs.lemmas.List.Elements.{Contains-append_cases, Contains-append_left, Contains-append_right, filter_map-append}
-use Rattle.std.proofs.lemmas.Slice.Zip.{AllZip-long}
-use Rattle.wit_model.specs.Text.{Text}
-use Rattle.wit_model.specs.Lookup.{interface_at, interface_path}
-use Rattle.wit_model.specs.Rules.{entries_in_range, item_in_range, key_in_range}
-use Rattle.wit_model.specs.Uses.{item_interface}
-use Rattle.wit_model.specs.Valid.{IsValid}
-use Rattle.wit_model.specs.declared.model.Resolve.{Resolve}
-use Rattle.wit_model.specs.declared.model.World.{World}
-use Rattle.wit_model.specs.declared.model.WorldKey.{WorldKey}
-use Rattle.wit_model.specs.declared.model.WorldKey.TheVariants as key
-use Rattle.wit_model.specs.declared.model.WorldItem.TheVariants as item
-use Rattle.wit_model.specs.declared.model.Interface.{Interface}
-use Rattle.wit_model.specs.declared.model.InterfaceId.{InterfaceId}
-use Rattle.comp_bytes.specs.Raw.{Declaration, Declarations, append, from_list}
-use Rattle.comp_bytes.specs.Held.{type_slots_of}
-use Rattle.comp_bytes.specs.declared.forms.ComponentTypeRef.TheVariants as refs
-use Rattle.comp_meaning.specs.Follow as follow
+use Rattle.std.specs.{BTreeMap.insert_entry, BTreeMap.is_at, Ordering.is_eq, List.Contains, List.list_all, Option.option_map_or}
+use Rattle.wit_model.specs.{Text.Text, Valid.IsValid}
+use Rattle.wit_model.specs.{Lookup.interface_at, Lookup.interface_path, Rules.entries_in_range, Rules.item_in_range, Rules.key_in_range, Uses.item_interface}
+use Rattle.wit_model.specs.declared.model.{Resolve.Resolve, World.World, WorldKey.WorldKey, Interface.Interface, InterfaceId.InterfaceId}
+use Rattle.comp_bytes.specs.{Raw.Declaration, Raw.Declarations, Raw.append, Raw.from_list, Held.type_slots_of}
 use Rattle.comp_meaning.specs.Follow.{Direction, import_, export_, Instance, Key, Seen, Slot, View, in_scope, instance_view, interface_of, new_scope, see}
 use Rattle.encode_shown.specs.Views.{ShowsInterface, home_of, instance_key}
 use Rattle.encode_types.specs.Known.{Around, GrowsAround, UsedStand, are_right, is_standing, outer_instances, outer_scope, outer_slots, standing_instances}
-use Rattle.encode_types.specs.Maps.{standing_of}
-use Rattle.encode_types.specs.Standing.{SlotsStand, is_slot_of}
+use Rattle.encode_types.specs.{Maps.standing_of, Standing.SlotsStand, Standing.is_slot_of}
 use Rattle.encode_types.proofs.Tables.{equal-self}
 use Rattle.encode_names.specs.WorldNames.{name_of_item}
 use Rattle.encode_names.specs.WorldSteps.{Entry, Entries, IsTurnOf, StandsAs, StepsTo, declared_towards, interfaces_among, seen_instance, with_entry, with_instance}
-use Rattle.encode_names.proofs.InstancesStand.{instances_stand}
-use Rattle.encode_names.proofs.WorldSteps.{interfaces_are_shown}
+use Rattle.encode_names.proofs.{InstancesStand.instances_stand, WorldSteps.interfaces_are_shown}
 use Rattle.wit_encode.specs.declared.interface.Foreign.{Foreign}
-use Rattle.wit_encode.specs.Encoders.{declared_after}
-use Rattle.wit_encode.specs.Instance.{EncodesInterface, around_at}
-use Rattle.wit_encode.specs.Worlds.{WorldEncoder, is_sound_outside, world_around, world_resources}
-use Rattle.wit_encode.specs.WholeWorlds.{directions_of}
+use Rattle.wit_encode.specs.{Encoders.declared_after, Instance.EncodesInterface, Instance.around_at}
+use Rattle.wit_encode.specs.{Worlds.WorldEncoder, Worlds.is_sound_outside, Worlds.world_around, Worlds.world_resources, WholeWorlds.directions_of}
 use Rattle.wit_encode.specs.WorldItems.{DefinesInstance, HasShown, IsNext, ListsInstance, all_done, types_among}
-use Rattle.wit_encode.proofs.Components.{steps-count, steps-instance, steps-more}
-use Rattle.wit_encode.proofs.Contents.{slots-kept}
-use Rattle.wit_encode.proofs.Directions.{directions-around, order-next}
-use Rattle.wit_encode.proofs.Importing.{importable-stands, right-more}
-use Rattle.wit_encode.proofs.ImportLoop.{path-in-range}
-use Rattle.wit_encode.proofs.ImportsStand.{instance-stands}
-use Rattle.wit_encode.proofs.LatestInstances.{stands-then}
-use Rattle.wit_encode.proofs.UsedPaths.{used-path}
-use Rattle.wit_encode.proofs.WorldAliases.{aliases-shown, with_outer}
+use Rattle.wit_encode.proofs.{Components.steps-count, Components.steps-instance, Components.steps-more, Components.see-slots, ImportsStand.instance-stands}
+use Rattle.wit_encode.proofs.{Contents.slots-kept, WorldAliases.aliases-shown, WorldAliases.with_outer, WorldUses.entries-range, WorldUses.interfaces-ready}
+use Rattle.wit_encode.proofs.{Directions.directions-around, Directions.order-next, WorldScope.SoundOutside, WorldScope.sound-again, WorldScope.sound-outside}
+use Rattle.wit_encode.proofs.{Importing.importable-stands, Importing.right-more, ImportLoop.path-in-range, LatestInstances.stands-then, UsedPaths.used-path}
 use Rattle.wit_encode.proofs.WorldFunctions.{done_items, next-entry, next-place, nothing-brought, see-instances, stand-before}
-use Rattle.wit_encode.proofs.WorldScope.{SoundOutside, sound-again, sound-outside}
-use Rattle.wit_encode.proofs.WorldUses.{entries-range, interfaces-ready}
-use Rattle.base_lemmas.proofs.Bools.{left_of as first_true, right_of as second_true}
-use Rattle.base_lemmas.proofs.Elements.{all-contained}
-use Rattle.base_lemmas.proofs.Options.{there as some-of}
-use Rattle.std.proofs.lemmas.Bool.{and_from as both}
+use Rattle.base_lemmas.proofs.{Bools.left_of as first_true, Bools.right_of as second_true, Elements.all-contained, Options.there as some-of}
 use Rattle.encode_shown.proofs.PackageSights.{interface-uses as uses-of}
-use Rattle.wit_encode.proofs.Components.{see-slots}
 use Rattle.wit_model.proofs.UsesLemmas.{interface_in_range as interface-range}
+use Rattle.wit_model.specs.declared.model.WorldKey.TheVariants as key
+use Rattle.wit_model.specs.declared.model.WorldItem.TheVariants as item
+use Rattle.comp_bytes.specs.declared.forms.ComponentTypeRef.TheVariants as refs
+use Rattle.comp_meaning.specs.Follow as follow
 
 -- ---- the interface of an item
 

@@ -1,20 +1,14 @@
 -- The imports of a world, or its exports, one after the other.
-use Rattle.std.proofs.Common.{◌≡◌, refl, sym, subst, ap, ◌∙◌, append-nil, append_assoc, Bool, List, [], ◌∷◌, ◌++◌, Option, Some}
-use Rattle.wit_model.specs.declared.model.Resolve.{Resolve}
-use Rattle.wit_model.specs.declared.model.World.{World}
+use Rattle.std.proofs.Common.{◌≡◌, refl, sym, subst, ap, ◌∙◌, append-nil, append_assoc, Bool, List, [], ◌∷◌, ◌++◌, Option, Some, arith}
+use Rattle.std.proofs.lemmas.List.Sums.{sum_by-append}
+use Rattle.wit_model.specs.declared.model.{Resolve.Resolve, World.World}
 use Rattle.comp_meaning.specs.Follow.{Direction, import_, export_}
 use Rattle.encode_names.specs.WorldSteps.{Entry, Entries, with_entry}
-use Rattle.wit_encode.specs.Worlds.{WorldEncoder}
-use Rattle.wit_encode.specs.WrittenNames.{NamesMore}
-use Rattle.wit_encode.specs.WorldCounts.{DefinesAll, HasDefined}
-use Rattle.wit_encode.specs.WorldHolds.{HoldsAll, HoldsFew, LacksRoomTowards}
+use Rattle.wit_encode.specs.{Worlds.WorldEncoder, WrittenNames.NamesMore, WorldCounts.DefinesAll, WorldCounts.HasDefined, WorldRoom.WorldLacksRoom}
+use Rattle.wit_encode.specs.{WorldHolds.HoldsAll, WorldHolds.HoldsFew, WorldHolds.LacksRoomTowards, WrittenBytes.AddsLearnt, WrittenBytes.items_extent}
 use Rattle.wit_encode.specs.WorldItems.{AwaitsAll, EncodesAll, HasShown, IsNext, all_done, begun, ended, entries_of}
-use Rattle.wit_encode.specs.WorldRoom.{WorldLacksRoom}
-use Rattle.wit_encode.proofs.WrittenNames.{names-nothing, names-then}
-use Rattle.std.proofs.Common.{arith}
-use Rattle.std.proofs.lemmas.List.Sums.{sum_by-append}
 use Rattle.wit_encode.specs.Extents.{item_extent}
-use Rattle.wit_encode.specs.WrittenBytes.{AddsLearnt, items_extent}
+use Rattle.wit_encode.proofs.WrittenNames.{names-nothing, names-then}
 use Rattle.wit_encode.proofs.BytesWritten.{learnt-most, learnt-nothing, learnt-then}
 
 -- where these are done

@@ -1,29 +1,20 @@
 -- What one declaration more leaves of the scope of a world's component type.
 use Rattle.std.proofs.Common.{◌≡◌, refl, sym, subst, ap, ◌∙◌, ℕ, true, ◌&&◌, if◌then◌else◌, List, [], ◌∷◌, ◌++◌, append-nil, filter_map, Result, Ok, Err, IfOk, OnOk, OnErr, Some, length, arith}
-use Rattle.std.specs.List.{filter, list_all}
-use Rattle.std.proofs.lemmas.List.Elements.{filter_map-append}
-use Rattle.std.specs.Option.{option_map_or, is_some}
-use Rattle.std.proofs.lemmas.List.Folds.{list_all-append}
-use Rattle.wit_model.specs.declared.model.Resolve.{Resolve}
-use Rattle.wit_model.specs.declared.model.WorldId.{WorldId}
-use Rattle.comp_meaning.specs.Follow as follow
+use Rattle.std.proofs.lemmas.{List.Elements.filter_map-append, List.Folds.list_all-append, Bool.and_from as both}
+use Rattle.std.specs.{List.filter, List.list_all, Option.option_map_or, Option.is_some}
+use Rattle.wit_model.specs.declared.model.{Resolve.Resolve, WorldId.WorldId}
 use Rattle.comp_meaning.specs.Follow.{Seen, Slot, in_scope, instance_types}
 use Rattle.encode_types.specs.declared.maps.TypeEncodingMaps.{TypeEncodingMaps}
-use Rattle.encode_types.specs.Slots.{Standing}
+use Rattle.encode_types.specs.{Slots.Standing, Standing.is_slot_of, View.Told, View.View, View.AddsSlot, View.Grows}
 use Rattle.encode_types.specs.Known.{Around, are_right, below, outer_instances, outer_scope, outer_slots, standing_instances, stands_around}
-use Rattle.encode_types.specs.Standing.{is_slot_of}
-use Rattle.encode_types.specs.View.{Told, View, AddsSlot, Grows}
 use Rattle.encode_types.proofs.Around.{around-same}
 use Rattle.encode_names.specs.Rebuilt.{is_type_shown, others_seen}
-use Rattle.encode_names.proofs.Rebuilt.{others-before}
-use Rattle.encode_names.proofs.WorldSteps.{types-appended}
-use Rattle.wit_encode.specs.Instance.{Contents, no_view}
-use Rattle.wit_encode.specs.WrittenNames.{instance_declarations, instances_around}
+use Rattle.encode_names.proofs.{Rebuilt.others-before, WorldSteps.types-appended}
+use Rattle.wit_encode.specs.{Instance.Contents, Instance.no_view, WrittenNames.instance_declarations, WrittenNames.instances_around}
 use Rattle.wit_encode.specs.Worlds.{KeepsTold, declared_type, is_sound_outside, others_of, seen_imports, world_resources, world_scope, world_view, instances_declared}
 use Rattle.wit_encode.proofs.Contents.{IsOf, Grew, grew-adds, grew-grows}
-use Rattle.base_lemmas.proofs.Bools.{left_of as first_true, right_of as second_true}
-use Rattle.base_lemmas.proofs.Options.{there as some-of}
-use Rattle.std.proofs.lemmas.Bool.{and_from as both}
+use Rattle.base_lemmas.proofs.{Bools.left_of as first_true, Bools.right_of as second_true, Options.there as some-of}
+use Rattle.comp_meaning.specs.Follow as follow
 
 -- ---- one slot more
 

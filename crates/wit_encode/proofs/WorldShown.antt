@@ -1,30 +1,20 @@
 -- What an encoder of a world shows after a call that defines, imports and reaches types.
 use Rattle.std.proofs.Common.{◌≡◌, refl, sym, subst, ap, ◌∙◌, append-nil, ℕ, zero, suc, ◌⊎◌, true, if◌then◌else◌, List, [], ◌∷◌, ◌++◌, map, filter_map, None, length, arith}
-use Rattle.std.specs.List.{AllZip, Contains}
-use Rattle.std.specs.Option.{option_map_or}
-use Rattle.std.proofs.lemmas.List.{map-append}
-use Rattle.std.proofs.lemmas.List.Concat.{flat_map-append}
-use Rattle.wit_model.specs.Text.{Text}
-use Rattle.wit_model.specs.Meaning.{TypeMeaning}
-use Rattle.wit_model.specs.Lookup.{world_at}
-use Rattle.wit_model.specs.declared.model.Resolve.{Resolve}
-use Rattle.wit_model.specs.declared.model.World.{World}
+use Rattle.std.proofs.lemmas.{List.map-append, List.Concat.flat_map-append}
+use Rattle.std.specs.{List.AllZip, List.Contains, Option.option_map_or}
+use Rattle.wit_model.specs.{Text.Text, Meaning.TypeMeaning, Lookup.world_at}
+use Rattle.wit_model.specs.declared.model.{Resolve.Resolve, World.World}
 use Rattle.comp_meaning.specs.Follow.{Seen, Shown, instance_types, new_scope}
 use Rattle.encode_shown.specs.Views.{ShowsItem}
-use Rattle.encode_types.specs.Counts.{own_name}
-use Rattle.encode_types.specs.Known.{outer_slots, standing_instances}
+use Rattle.encode_types.specs.{Counts.own_name, Known.outer_slots, Known.standing_instances, Scope.Others, Scope.Scope, View.Told, View.Agrees, View.Grows}
 use Rattle.encode_types.specs.Maps.{IsKnown}
-use Rattle.encode_types.specs.Scope.{Others, Scope}
-use Rattle.encode_types.specs.View.{Told, Agrees, Grows}
 use Rattle.encode_names.specs.Rebuilt.{others_seen, types_seen}
 use Rattle.encode_names.specs.WorldSteps.{AddsTypes, Entry, Entries, ShowsEntries, interfaces_among}
 use Rattle.encode_names.proofs.EntriesRebuilt.{entries_are_rebuilt}
 use Rattle.wit_encode.specs.Worlds.{WorldEncoder, declared_type, is_sound_outside, seen_imports, world_around, world_definitions, world_view_of}
 use Rattle.wit_encode.specs.WorldItems.{HasShown, all_done, types_among}
-use Rattle.wit_encode.proofs.Directions.{begins-here, numbers_of, order-then}
-use Rattle.wit_encode.proofs.WorldScope.{SoundOutside, sound-outside}
-use Rattle.base_lemmas.proofs.Elements.{zip_long}
-use Rattle.base_lemmas.proofs.Options.{some_same as one-some}
+use Rattle.wit_encode.proofs.{Directions.begins-here, Directions.numbers_of, Directions.order-then, WorldScope.SoundOutside, WorldScope.sound-outside}
+use Rattle.base_lemmas.proofs.{Elements.zip_long, Options.some_same as one-some}
 
 -- ---- the types that have been imported are known from what has been exported
 

@@ -1,60 +1,34 @@
 -- A type of a world, imported behind what has been: nothing else that is named in the world is learnt with it.
 use Rattle.std.proofs.Common.{◌≡◌, refl, sym, subst, ap, ◌∙◌, append-nil, ℕ, ◌⊎◌, inl, inr, Bool, true, false, ◌==◌, cond, List, [], ◌∷◌, ◌++◌, map, filter_map, slice_get, take, option_map, option_and_then, Option, Some, None, String, count_by, length, nat_eq}
-use Rattle.std.specs.Prelude.{is_none}
-use Rattle.std.specs.declared.alloc.Global.{Global}
-use Rattle.std.specs.List.{Contains}
-use Rattle.std.specs.Option.{option_map_or}
 use Rattle.std.proofs.lemmas.List.Elements.{Contains-append_left, Contains-append_right, Contains-append_cases, filter_map-append}
-use Rattle.wit_model.specs.Text.{Text, text_of}
-use Rattle.wit_model.specs.Meaning.{TypeMeaning}
-use Rattle.wit_model.specs.Meant.{no_type, type_meaning, type_meaning_at}
-use Rattle.wit_model.specs.Lookup.{key_text, type_at}
-use Rattle.wit_model.specs.Parts.{same_owner}
-use Rattle.wit_model.specs.Rules.{is_id, is_listed, is_listed_in_world, item_type, passes, world_type_numbers}
-use Rattle.wit_model.specs.Uses.{items_of}
-use Rattle.wit_model.specs.Valid.{IsValid}
-use Rattle.wit_model.specs.declared.model.Resolve.{Resolve}
-use Rattle.wit_model.specs.declared.model.World.{World}
-use Rattle.wit_model.specs.declared.model.WorldKey.{WorldKey}
-use Rattle.wit_model.specs.declared.model.WorldItem.{WorldItem}
-use Rattle.wit_model.specs.declared.model.WorldItem.TheVariants as item
-use Rattle.wit_model.specs.declared.model.TypeDef.{TypeDef}
-use Rattle.wit_model.specs.declared.model.TypeId.{TypeId}
-use Rattle.wit_model.specs.declared.model.TypeOwner.{TypeOwner}
-use Rattle.wit_model.specs.declared.model.TypeOwner.TheVariants as owner
-use Rattle.wit_model.specs.declared.model.«Type».{«Type» as ValueType}
-use Rattle.wit_model.specs.declared.model.«Type».TheVariants as ty
-use Rattle.comp_meaning.specs.Follow.{Direction, import_, export_, Shown, View}
-use Rattle.encode_shown.proofs.Used.{contains-flat-from}
-use Rattle.encode_types.specs.Counts.{Shows, own_name, name_of_own}
-use Rattle.encode_types.specs.Kinds.{parts_of}
-use Rattle.encode_types.specs.Leaves.{Leaves}
-use Rattle.encode_types.specs.Maps.{IsKnown, IsReady, LearnsOnly, by_number}
-use Rattle.encode_types.specs.Plan.{foreign_owner, Meets, at_once, further, MetFrom}
-use Rattle.encode_types.specs.Fits.{CanEncode}
-use Rattle.encode_types.specs.Table.{declaration_in, named_declaration}
-use Rattle.encode_types.proofs.Lists.{none-in}
-use Rattle.encode_types.proofs.Pairs.{pairs-right}
-use Rattle.encode_names.specs.WorldSteps.{Entry, Entries, with_entry}
-use Rattle.wit_encode.specs.OwnerScope.{IsTypeOf}
-use Rattle.wit_encode.specs.WorldItems.{HasShown, IsNext, all_done, types_among}
-use Rattle.wit_encode.specs.Worlds.{WorldEncoder, world_definitions, world_encoder_view, world_view_of}
-use Rattle.wit_encode.proofs.Exporting.{learnt-apart, learnt-one, was-or-learnt}
-use Rattle.wit_encode.proofs.Meeting.{AllMeetKnown, meets-unnamed}
-use Rattle.wit_encode.proofs.Numbers.{gives-one, once-before, one-mapped}
-use Rattle.wit_encode.proofs.Owned.{named-listed}
-use Rattle.wit_encode.proofs.OwnerScope.{types_encode}
-use Rattle.wit_encode.proofs.WorldFunctions.{at-length, before-next, done_items, next-entry, next-place, scope-of, second, stand-before, taken-front, types-given}
-use Rattle.wit_encode.proofs.WorldShown.{type_seen, types-shown}
-use Rattle.wit_encode.proofs.WorldUses.{items_meet_standing, no-type-exported, own-type, parts-listed, type-key}
-use Rattle.wit_model.proofs.Elements.{contains-get}
-use Rattle.encode_shown.proofs.Basics.{valid-references}
-use Rattle.base_lemmas.proofs.Bools.{left_of as first_true, right_of as second_true}
-use Rattle.base_lemmas.proofs.Elements.{contains-one, first-contained as contains-first, last_of as one-contained}
-use Rattle.base_lemmas.proofs.Numbers.{equal, same-number}
-use Rattle.base_lemmas.proofs.Options.{there as some-of}
 use Rattle.std.proofs.lemmas.Option.{same_Some as same-some}
-use Rattle.wit_model.proofs.PartsLemmas.{owner_same as same-owner}
+use Rattle.std.specs.{Prelude.is_none, List.Contains, Option.option_map_or}
+use Rattle.std.specs.declared.alloc.Global.{Global}
+use Rattle.wit_model.specs.{Text.Text, Text.text_of, Meant.no_type, Meant.type_meaning, Meant.type_meaning_at, Lookup.key_text, Lookup.type_at, Uses.items_of}
+use Rattle.wit_model.specs.{Meaning.TypeMeaning, Parts.same_owner, Valid.IsValid}
+use Rattle.wit_model.specs.Rules.{is_id, is_listed, is_listed_in_world, item_type, passes, world_type_numbers}
+use Rattle.wit_model.specs.declared.model.{Resolve.Resolve, WorldKey.WorldKey, WorldItem.WorldItem, TypeOwner.TypeOwner, «Type».«Type» as ValueType}
+use Rattle.wit_model.specs.declared.model.{World.World, TypeDef.TypeDef, TypeId.TypeId}
+use Rattle.comp_meaning.specs.Follow.{Direction, import_, export_, Shown, View}
+use Rattle.encode_shown.proofs.{Used.contains-flat-from, Basics.valid-references}
+use Rattle.encode_types.specs.{Counts.Shows, Counts.own_name, Counts.name_of_own, Plan.foreign_owner, Plan.Meets, Plan.at_once, Plan.further, Plan.MetFrom}
+use Rattle.encode_types.specs.{Kinds.parts_of, Maps.IsKnown, Maps.IsReady, Maps.LearnsOnly, Maps.by_number, Table.declaration_in, Table.named_declaration}
+use Rattle.encode_types.specs.{Leaves.Leaves, Fits.CanEncode}
+use Rattle.encode_types.proofs.{Lists.none-in, Pairs.pairs-right}
+use Rattle.encode_names.specs.WorldSteps.{Entry, Entries, with_entry}
+use Rattle.wit_encode.specs.{OwnerScope.IsTypeOf, Worlds.WorldEncoder, Worlds.world_definitions, Worlds.world_encoder_view, Worlds.world_view_of}
+use Rattle.wit_encode.specs.WorldItems.{HasShown, IsNext, all_done, types_among}
+use Rattle.wit_encode.proofs.{Exporting.learnt-apart, Exporting.learnt-one, Exporting.was-or-learnt, Numbers.gives-one, Numbers.once-before, Numbers.one-mapped}
+use Rattle.wit_encode.proofs.{Meeting.AllMeetKnown, Meeting.meets-unnamed, OwnerScope.types_encode, WorldShown.type_seen, WorldShown.types-shown}
+use Rattle.wit_encode.proofs.Owned.{named-listed}
+use Rattle.wit_encode.proofs.WorldFunctions.{at-length, before-next, done_items, next-entry, next-place, scope-of, second, stand-before, taken-front, types-given}
+use Rattle.wit_encode.proofs.WorldUses.{items_meet_standing, no-type-exported, own-type, parts-listed, type-key}
+use Rattle.wit_model.proofs.{Elements.contains-get, PartsLemmas.owner_same as same-owner}
+use Rattle.base_lemmas.proofs.{Bools.left_of as first_true, Bools.right_of as second_true, Numbers.equal, Numbers.same-number}
+use Rattle.base_lemmas.proofs.{Elements.contains-one, Elements.first-contained as contains-first, Elements.last_of as one-contained, Options.there as some-of}
+use Rattle.wit_model.specs.declared.model.WorldItem.TheVariants as item
+use Rattle.wit_model.specs.declared.model.TypeOwner.TheVariants as owner
+use Rattle.wit_model.specs.declared.model.«Type».TheVariants as ty
 
 module _ (r : Resolve) (v : IsValid r) (w : World) (e : WorldEncoder) (done : Entries) (h : HasShown r w e done) (k : WorldKey) (id : TypeId) (n : IsNext r w import_ done (k, item.Type_ id)) where
   abbrev entry : Entry

@@ -1,60 +1,33 @@
 -- What an item of a world meets is of the world, and stands before it, or is of an interface that stands before it.
 use Rattle.std.proofs.Common.{◌≡◌, refl, sym, subst, ap, ◌∙◌, ℕ, zero, suc, ◌<◌, ◌≤◌, ◌⊎◌, inl, inr, true, false, ◌&&◌, List, [], ◌∷◌, filter_map, slice_get, take, option_to_list, Option, Some, None, String, is_some, arith}
+use Rattle.std.proofs.lemmas.{List.Elements.Contains-append_cases, Option.same_Some as some-same}
 use Rattle.std.specs.declared.alloc.Global.{Global}
-use Rattle.std.specs.List.{Contains, list_all}
-use Rattle.std.specs.Option.{option_map_or}
-use Rattle.std.specs.Prelude.{option_and_then}
-use Rattle.std.proofs.lemmas.List.Elements.{Contains-append_cases}
+use Rattle.std.specs.{List.Contains, List.list_all, Option.option_map_or, Prelude.option_and_then}
 use Rattle.indexmap.specs.IndexMap.{values}
-use Rattle.wit_model.specs.Lookup.{key_text, type_at, world_at}
+use Rattle.wit_model.specs.{Lookup.key_text, Lookup.type_at, Lookup.world_at, Text.Text, Text.text_of}
 use Rattle.wit_model.specs.Parts.{met_by, met_of, same_owner, function_types, function_numbers, has_owner, used_by_type, used_by_function}
-use Rattle.wit_model.specs.Text.{Text, text_of}
 use Rattle.wit_model.specs.Rules.{is_use, in_list, passes, package_number, text_is, key_in_range, item_in_range, entries_in_range, item_type, uses_stand_before, used_interfaces, used_types, used_by_number, import_stands, export_stands}
 use Rattle.wit_model.specs.Uses.{alias_target, owner_interface, used_interface, interface_used_by, has, item_interface, items_of}
 use Rattle.wit_model.specs.Valid.{IsValid, numbers_in_range, order_of_items, world_items, is_place, functions_of_world, item_function}
-use Rattle.wit_model.specs.declared.model.Resolve.{Resolve}
-use Rattle.wit_model.specs.declared.model.World.{World}
-use Rattle.wit_model.specs.declared.model.WorldId.{WorldId}
-use Rattle.wit_model.specs.declared.model.WorldKey.{WorldKey}
-use Rattle.wit_model.specs.declared.model.WorldKey.TheVariants as key
-use Rattle.wit_model.specs.declared.model.WorldItem.{WorldItem}
-use Rattle.wit_model.specs.declared.model.WorldItem.TheVariants as item
-use Rattle.wit_model.specs.declared.model.Function.{Function}
-use Rattle.wit_model.specs.declared.model.InterfaceId.{InterfaceId}
-use Rattle.wit_model.specs.declared.model.TypeDef.{TypeDef}
-use Rattle.wit_model.specs.declared.model.TypeId.{TypeId}
-use Rattle.wit_model.specs.declared.model.TypeOwner.{TypeOwner}
-use Rattle.wit_model.specs.declared.model.TypeOwner.TheVariants as owner
-use Rattle.wit_model.specs.declared.model.«Type».{«Type» as ValueType}
-use Rattle.wit_model.specs.declared.model.«Type».TheVariants as ty
-use Rattle.wit_model.proofs.Owners.{met_step}
-use Rattle.encode_shown.proofs.Items.{typed-item}
-use Rattle.encode_shown.proofs.Zips.{given-contains}
-use Rattle.encode_types.specs.Kinds.{parts_of}
-use Rattle.encode_types.specs.Resources.{is_named_interface}
-use Rattle.encode_types.specs.Plan.{foreign_owner, Reaches, itself, through}
-use Rattle.encode_types.specs.KeyLaws.{text_same}
+use Rattle.wit_model.specs.declared.model.{Resolve.Resolve, World.World, WorldId.WorldId, Function.Function, TypeDef.TypeDef, TypeId.TypeId}
+use Rattle.wit_model.specs.declared.model.{WorldKey.WorldKey, WorldItem.WorldItem, InterfaceId.InterfaceId, TypeOwner.TypeOwner, «Type».«Type» as ValueType}
+use Rattle.wit_model.proofs.{Owners.met_step, OnePath.found-in, PartsLemmas.owner_same as same-owner}
+use Rattle.wit_model.proofs.{Elements.contains-filter_map, Elements.contains-get, Elements.contains-flat, Elements.has-contains, ValidLemmas.world_passes}
+use Rattle.encode_shown.proofs.{Items.typed-item, Zips.given-contains, Basics.valid-references}
+use Rattle.encode_types.specs.{Kinds.parts_of, Resources.is_named_interface, Plan.foreign_owner, Plan.Reaches, Plan.itself, Plan.through, KeyLaws.text_same}
 use Rattle.encode_types.specs.Scope.{Scope}
 use Rattle.encode_types.proofs.Lists.{none-in}
-use Rattle.wit_model.proofs.OnePath.{found-in}
 use Rattle.wit_encode.specs.OwnerScope.{IsScopeOf, InstancesStand, IsTypeOf, functions_of}
 use Rattle.wit_encode.specs.WorldUses.{item_types, interfaces_before, StandBefore, ItemsMeetStanding}
-use Rattle.wit_encode.proofs.Mapped.{contains-filter}
-use Rattle.wit_encode.proofs.Meeting.{named-meets, unnamed-meets, part-uses}
-use Rattle.wit_encode.proofs.Naming.{named-owner}
-use Rattle.wit_encode.proofs.Numbers.{after-at}
-use Rattle.wit_encode.proofs.Owned.{part-met}
+use Rattle.wit_encode.proofs.{Mapped.contains-filter, Meeting.named-meets, Meeting.unnamed-meets, Meeting.part-uses, Numbers.after-at, Validity.valid-ownerless}
+use Rattle.wit_encode.proofs.{Naming.named-owner, Owned.part-met}
 use Rattle.wit_encode.proofs.OwnerScope.{AllStay, IsUse, Stay, function-refers, named-stays, target-is, type-stays, types-stay, use-at, use-foreign}
-use Rattle.wit_encode.proofs.Validity.{valid-ownerless}
-use Rattle.wit_model.proofs.Elements.{contains-filter_map, contains-get, contains-flat, has-contains}
-use Rattle.encode_shown.proofs.Basics.{valid-references}
-use Rattle.base_lemmas.proofs.Bools.{left_of as first_true, right_of as second_true}
+use Rattle.base_lemmas.proofs.{Bools.left_of as first_true, Bools.right_of as second_true, Lists.given-some, Options.there as some-of}
 use Rattle.base_lemmas.proofs.Elements.{all-contained, contains-one, get-contains, last_of as one-contained, map_from as contains-mapped}
-use Rattle.base_lemmas.proofs.Lists.{given-some}
-use Rattle.base_lemmas.proofs.Options.{there as some-of}
-use Rattle.std.proofs.lemmas.Option.{same_Some as some-same}
-use Rattle.wit_model.proofs.PartsLemmas.{owner_same as same-owner}
-use Rattle.wit_model.proofs.ValidLemmas.{world_passes}
+use Rattle.wit_model.specs.declared.model.WorldKey.TheVariants as key
+use Rattle.wit_model.specs.declared.model.WorldItem.TheVariants as item
+use Rattle.wit_model.specs.declared.model.TypeOwner.TheVariants as owner
+use Rattle.wit_model.specs.declared.model.«Type».TheVariants as ty
 
 -- ---- beginnings of lists
 

@@ -1,63 +1,37 @@
 -- A world that has no room in a component type weighs more than the largest number of 32 bits.
 use Rattle.std.proofs.Common.{◌≡◌, refl, sym, subst, ap, ◌∙◌, ℕ, zero, suc, ◌+◌, ◌*◌, ◌<◌, ◌≤◌, ◌⊎◌, inl, inr, Bool, true, false, not, ◌&&◌, nat_lt, List, [], ◌∷◌, ◌++◌, filter_map, flat_map, length, length-append, Option, Some, None, option_to_list, option_map, String, arith}
-use Rattle.std.specs.Prelude.{sum_by, AllPairs, if◌then◌else◌, option_and_then, unwrap_or}
-use Rattle.std.specs.declared.alloc.Global.{Global}
-use Rattle.std.specs.List.{Contains, filter}
-use Rattle.std.specs.Option.{option_map_or}
-use Rattle.std.proofs.lemmas.Bool.{ltb-true, ltb-false, and_from as both-true}
+use Rattle.std.proofs.lemmas.{Bool.ltb-true, Bool.ltb-false, Bool.and_from as both-true, List.Sums.sum_by-cons, List.Sums.sum_by-append}
 use Rattle.std.proofs.lemmas.List.Elements.{Contains-append_left, Contains-append_right, Contains-append_cases, All-contains, filter_passes}
-use Rattle.std.proofs.lemmas.List.Filters.{sum_by-filter_both}
-use Rattle.std.proofs.lemmas.List.Kept.{AllPairs-filter}
-use Rattle.std.proofs.lemmas.List.Sums.{sum_by-cons, sum_by-append}
+use Rattle.std.proofs.lemmas.List.{Filters.sum_by-filter_both, Kept.AllPairs-filter}
+use Rattle.std.specs.{Prelude.sum_by, Prelude.AllPairs, Prelude.if◌then◌else◌, Prelude.option_and_then, Prelude.unwrap_or, List.Contains, List.filter}
+use Rattle.std.specs.Option.{option_map_or}
+use Rattle.std.specs.declared.alloc.Global.{Global}
 use Rattle.indexmap.specs.IndexMap.{values}
-use Rattle.wit_model.specs.Text.{Text, text_of, text_eq, optional_text}
+use Rattle.wit_model.specs.{Text.Text, Text.text_of, Text.text_eq, Text.optional_text, Names.path_in, Uses.has, Uses.item_interface, Uses.items_of, Uses.once}
 use Rattle.wit_model.specs.Lookup.{canonical_identity_of, interface_at, interface_path, canonical_path, canonical_suffix, package_of_interface, key_text, type_at, world_at}
-use Rattle.wit_model.specs.Calls.{implemented, named_interface}
-use Rattle.wit_model.specs.Meant.{item_external_id}
-use Rattle.wit_model.specs.Names.{path_in}
-use Rattle.wit_model.specs.Parts.{same_owner}
+use Rattle.wit_model.specs.{Calls.implemented, Calls.named_interface, Meant.item_external_id, Parts.same_owner}
 use Rattle.wit_model.specs.Rules.{passes, is_member, is_name_key, item_type, interface_type_numbers, world_type_numbers, owner_in_range}
-use Rattle.wit_model.specs.Uses.{has, item_interface, items_of, once}
 use Rattle.wit_model.specs.Valid.{IsValid, as_interface, as_world, function_names, functions_of_interface, functions_of_world, item_function, numbers_in_range}
 use Rattle.wit_model.specs.Weight.{unit_of, name_texts, definition_weight, is_brought, number_weight, function_weight, instance_numbers, instance_weight, whole_instance_weight, implemented_texts, item_weight, brought_into, world_numbers, world_weight}
-use Rattle.wit_model.specs.declared.model.Resolve.{Resolve}
-use Rattle.wit_model.specs.declared.model.Package.{Package}
-use Rattle.wit_model.specs.declared.model.World.{World}
-use Rattle.wit_model.specs.declared.model.WorldId.{WorldId}
-use Rattle.wit_model.specs.declared.model.WorldKey.{WorldKey}
-use Rattle.wit_model.specs.declared.model.WorldKey.TheVariants as key
-use Rattle.wit_model.specs.declared.model.WorldItem.{WorldItem}
-use Rattle.wit_model.specs.declared.model.WorldItem.TheVariants as item
-use Rattle.wit_model.specs.declared.model.Interface.{Interface}
-use Rattle.wit_model.specs.declared.model.InterfaceId.{InterfaceId}
-use Rattle.wit_model.specs.declared.model.Function.{Function}
-use Rattle.wit_model.specs.declared.model.TypeDef.{TypeDef}
-use Rattle.wit_model.specs.declared.model.TypeId.{TypeId}
-use Rattle.wit_model.specs.declared.model.TypeOwner.{TypeOwner}
-use Rattle.wit_model.specs.declared.model.TypeOwner.TheVariants as owner
-use Rattle.wit_model.proofs.PathParts.{canonical_paths_join}
-use Rattle.encode_shown.proofs.Items.{typed-item}
-use Rattle.encode_shown.proofs.Zips.{given-contains}
-use Rattle.comp_bytes.specs.Raw.{ExternName}
-use Rattle.comp_bytes.specs.Fits.{fits_name}
-use Rattle.encode_types.specs.KeyLaws.{text_same}
-use Rattle.encode_types.specs.Room.{limit}
+use Rattle.wit_model.specs.declared.model.{Resolve.Resolve, Package.Package, World.World, WorldId.WorldId, Function.Function, TypeDef.TypeDef, TypeId.TypeId}
+use Rattle.wit_model.specs.declared.model.{WorldKey.WorldKey, WorldItem.WorldItem, Interface.Interface, InterfaceId.InterfaceId, TypeOwner.TypeOwner}
+use Rattle.wit_model.proofs.{PathParts.canonical_paths_join, OnePath.found-in}
+use Rattle.wit_model.proofs.{Elements.contains-filter_map, Elements.has-contains, Elements.contains-has, ValidLemmas.type_passes, ValidLemmas.world_passes}
+use Rattle.encode_shown.proofs.{Items.typed-item, Zips.given-contains}
+use Rattle.comp_bytes.specs.{Raw.ExternName, Fits.fits_name}
+use Rattle.encode_types.specs.{KeyLaws.text_same, Room.limit}
 use Rattle.encode_types.proofs.Lists.{none-in}
-use Rattle.wit_model.proofs.OnePath.{found-in}
-use Rattle.encode_names.specs.WorldNames.{written_path, written_suffix, name_of_item}
-use Rattle.encode_names.specs.WorldSteps.{Entry, interfaces_among}
+use Rattle.encode_names.specs.{WorldNames.written_path, WorldNames.written_suffix, WorldNames.name_of_item, WorldSteps.Entry, WorldSteps.interfaces_among}
 use Rattle.wit_encode.specs.WorldItems.{types_among}
 use Rattle.wit_encode.specs.WorldRoom.{functions_among, type_ids_among, IsMetAmong, IsTypeAmong, count_among, entries_in, WorldLacksRoom, an_interface, a_name, a_type, a_function, too_many, LackingWorldsAreHeavy}
-use Rattle.wit_encode.proofs.Mapped.{from-filter}
-use Rattle.wit_encode.proofs.Reached.{from-flat, IsOwner, interface-owner, world-owner}
+use Rattle.wit_encode.proofs.{Mapped.from-filter, Reached.from-flat, Reached.IsOwner, Reached.interface-owner, Reached.world-owner, WorldUses.no-type-exported}
 use Rattle.wit_encode.proofs.Weighing.{fits-text, given-fits, Differ, sum-among, contains-once, at-least, one-of, type-heavy, counted-once, counted-least, part-heavy-of, lacking-heavy}
-use Rattle.wit_encode.proofs.WorldUses.{no-type-exported}
-use Rattle.wit_model.proofs.Elements.{contains-filter_map, has-contains, contains-has}
-use Rattle.base_lemmas.proofs.Bools.{left_of as first_true, right_of as second_true}
+use Rattle.base_lemmas.proofs.{Bools.left_of as first_true, Bools.right_of as second_true, Numbers.same-number}
 use Rattle.base_lemmas.proofs.Elements.{all-contained, contains-later, contains-map, contains-one, map_from as from-map}
-use Rattle.base_lemmas.proofs.Numbers.{same-number}
 use Rattle.encode_names.proofs.NamesRead.{no-suffix as no-suffix-written}
-use Rattle.wit_model.proofs.ValidLemmas.{type_passes, world_passes}
+use Rattle.wit_model.specs.declared.model.WorldKey.TheVariants as key
+use Rattle.wit_model.specs.declared.model.WorldItem.TheVariants as item
+use Rattle.wit_model.specs.declared.model.TypeOwner.TheVariants as owner
 
 -- ---- names that don't fit are long
 

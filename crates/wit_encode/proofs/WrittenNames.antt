@@ -1,26 +1,17 @@
 -- The names under which instances have been imported and exported stay, but for that of a new one.
 use Rattle.std.proofs.Common.{◌≡◌, refl, sym, ap, ◌∙◌, append-nil, append_assoc, ℕ, Bool, if◌then◌else◌, is_some, List, [], ◌∷◌, ◌++◌, map, Option, Some, None}
-use Rattle.std.proofs.lemmas.List.{map-append}
-use Rattle.std.proofs.lemmas.List.Concat.{flat_map-append}
-use Rattle.wit_model.specs.Text.{Text}
-use Rattle.wit_model.specs.Uses.{item_interface}
-use Rattle.wit_model.specs.declared.model.Resolve.{Resolve}
-use Rattle.wit_model.specs.declared.model.Interface.{Interface}
-use Rattle.wit_model.specs.declared.model.InterfaceId.{InterfaceId}
-use Rattle.wit_model.specs.declared.model.WorldItem.TheVariants as item
-use Rattle.wit_model.specs.declared.model.Function.{Function}
-use Rattle.wit_model.specs.declared.model.TypeId.{TypeId}
+use Rattle.std.proofs.lemmas.{List.map-append, List.Concat.flat_map-append}
+use Rattle.wit_model.specs.{Text.Text, Uses.item_interface}
+use Rattle.wit_model.specs.declared.model.{Resolve.Resolve, Interface.Interface, InterfaceId.InterfaceId, Function.Function, TypeId.TypeId}
 use Rattle.comp_bytes.specs.Raw.{Declaration, Declarations, ExternName, append}
-use Rattle.comp_bytes.specs.declared.forms.ComponentTypeRef.TheVariants as refs
 use Rattle.comp_meaning.specs.Follow.{Direction, import_, export_}
 use Rattle.encode_types.specs.Known.{Aliased, AreAliases, Around, GrowsAround, with_alias, with_aliases}
 use Rattle.encode_reach.specs.Reach.{reached_in_order}
-use Rattle.encode_names.specs.WorldNames.{name_of_interface, name_of_item}
-use Rattle.encode_names.specs.WorldSteps.{Entry, declared_towards}
-use Rattle.wit_encode.specs.Encoders.{declared_after}
-use Rattle.wit_encode.specs.Dependencies.{ImportsTypes}
-use Rattle.wit_encode.specs.Instance.{EncodesInterface, EncodesPart}
+use Rattle.encode_names.specs.{WorldNames.name_of_interface, WorldNames.name_of_item, WorldSteps.Entry, WorldSteps.declared_towards}
+use Rattle.wit_encode.specs.{Encoders.declared_after, Dependencies.ImportsTypes, Instance.EncodesInterface, Instance.EncodesPart}
 use Rattle.wit_encode.specs.WrittenNames.{NamesInterfaces, NamesMore, WritesPaths, if_named, instance_declarations, instance_name, instance_names, instances_around, names_among}
+use Rattle.wit_model.specs.declared.model.WorldItem.TheVariants as item
+use Rattle.comp_bytes.specs.declared.forms.ComponentTypeRef.TheVariants as refs
 
 -- ---- one declaration more
 

@@ -1,23 +1,16 @@
 -- The component type of an interface: it imports the types of each interface that it reaches, and exports itself, all by their paths
 -- (Component Model WIT.md, "Package Format").
 use Rattle.std.specs.Prelude.{ℕ, ◌≡◌, ◌==◌, Bool, true, is_some, List, [], ◌∷◌, ◌++◌, length, map, Some, None, slice_get, nat_lt}
-use Rattle.std.specs.List.{AllZip, Contains, IsDistinct, list_all}
-use Rattle.std.specs.BTreeMap.{insert_entry}
-use Rattle.std.specs.Ordering.{nat_cmp}
-use Rattle.wit_model.specs.Text.{Text}
-use Rattle.wit_model.specs.Lookup.{interface_at, interface_path}
-use Rattle.wit_model.specs.Uses.{direct_deps}
-use Rattle.wit_model.specs.Valid.{IsValid}
-use Rattle.wit_model.specs.declared.model.Resolve.{Resolve}
-use Rattle.wit_model.specs.declared.model.Interface.{Interface}
-use Rattle.wit_model.specs.declared.model.InterfaceId.{InterfaceId}
+use Rattle.std.specs.{List.AllZip, List.Contains, List.IsDistinct, List.list_all, BTreeMap.insert_entry, Ordering.nat_cmp}
+use Rattle.wit_model.specs.{Text.Text, Lookup.interface_at, Lookup.interface_path, Uses.direct_deps, Valid.IsValid}
+use Rattle.wit_model.specs.declared.model.{Resolve.Resolve, Interface.Interface, InterfaceId.InterfaceId}
 use Rattle.comp_bytes.specs.Raw.{Declaration, Declarations, append}
-use Rattle.comp_bytes.specs.declared.forms.ComponentTypeRef.TheVariants as refs
 use Rattle.comp_meaning.specs.Follow.{Instance, Key, Scope, Seen, Shown, View, component_scope, instance_types}
 use Rattle.encode_shown.specs.Views.{AreReached, ShowsDependencies, ShowsImport, UseEarlier}
 use Rattle.encode_names.specs.WorldNames.{name_of_interface}
 use Rattle.encode_types.specs.Known.{Around, GrowsAround, UsedStand, are_right, known_instance, no_around, outer_scope, outer_slots, standing_instances}
 use Rattle.wit_encode.specs.Instance.{EncodesDependency, EncodesInterface}
+use Rattle.comp_bytes.specs.declared.forms.ComponentTypeRef.TheVariants as refs
 
 -- an interface that is imported by its path, with this view
 abbrev pub seen_import : Text × View → Seen

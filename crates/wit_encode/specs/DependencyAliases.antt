@@ -2,18 +2,13 @@
 use Rattle.std.specs.Prelude.{ℕ, ◌≡◌, ◌⊎◌, nat_eq, List, [], ◌∷◌, ◌++◌, map, Some, None, String, slice_get}
 use Rattle.std.specs.List.{Contains, IsDistinct}
 use Rattle.std.specs.declared.alloc.Global.{Global}
-use Rattle.wit_model.specs.Text.{text_of}
-use Rattle.wit_model.specs.Lookup.{interface_at, type_at}
-use Rattle.wit_model.specs.declared.model.Resolve.{Resolve}
-use Rattle.wit_model.specs.declared.model.TypeDef.{TypeDef}
-use Rattle.wit_model.specs.declared.model.Interface.{Interface}
-use Rattle.wit_model.specs.declared.model.InterfaceId.{InterfaceId}
-use Rattle.wit_model.specs.declared.model.TypeOwner.TheVariants as owner
+use Rattle.wit_model.specs.{Text.text_of, Lookup.interface_at, Lookup.type_at}
+use Rattle.wit_model.specs.declared.model.{Resolve.Resolve, TypeDef.TypeDef, Interface.Interface, InterfaceId.InterfaceId}
 use Rattle.comp_bytes.specs.Raw.{Alias, Declaration, Declarations}
 use Rattle.encode_reach.specs.Reach.{reached_in_order}
-use Rattle.encode_types.specs.Aliases.{IsMetElsewhere}
-use Rattle.encode_types.specs.Known.{Aliased, Around, known_slot}
+use Rattle.encode_types.specs.{Aliases.IsMetElsewhere, Known.Aliased, Known.Around, Known.known_slot}
 use Rattle.wit_encode.specs.Instance.{whole_interface, types_alone_of}
+use Rattle.wit_model.specs.declared.model.TypeOwner.TheVariants as owner
 
 -- ---- what stands there
 

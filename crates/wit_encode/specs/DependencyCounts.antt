@@ -4,16 +4,12 @@ use Rattle.std.specs.Prelude.{ℕ, ◌≡◌, true, List, [], ◌∷◌, ◌++�
 use Rattle.std.specs.List.{AllZip}
 use Rattle.indexmap.specs.IndexMap.{values}
 use Rattle.wit_model.specs.Lookup.{interface_at}
-use Rattle.wit_model.specs.declared.model.Resolve.{Resolve}
-use Rattle.wit_model.specs.declared.model.Interface.{Interface}
+use Rattle.wit_model.specs.declared.model.{Resolve.Resolve, Interface.Interface}
 use Rattle.comp_bytes.specs.Raw.{Declaration, Declarations, from_list}
 use Rattle.encode_reach.specs.Reach.{reached_in_order}
 use Rattle.encode_types.specs.Distinct.{is_value_type, is_function_type, DefinesTypes}
-use Rattle.wit_encode.specs.DependencyAliases.{HasAliases, IsAskedFor}
-use Rattle.wit_encode.specs.Instance.{DeclaresFew, IsInstance, count_declared, stands_inside}
-use Rattle.wit_encode.specs.Places.{StandInOrder, are_beside}
-use Rattle.wit_encode.specs.Worlds.{instances_declared}
-use Rattle.wit_encode.specs.WorldCounts.{DefinesInterface}
+use Rattle.wit_encode.specs.{DependencyAliases.HasAliases, DependencyAliases.IsAskedFor, Worlds.instances_declared, WorldCounts.DefinesInterface}
+use Rattle.wit_encode.specs.{Instance.DeclaresFew, Instance.IsInstance, Instance.count_declared, Instance.stands_inside, Places.StandInOrder, Places.are_beside}
 
 -- An instance type shows the types of its interface in order, and no function. It defines what these types ask for, each once, and no type of a
 -- function. It has no more declarations than these types take: so no more outer aliases than types of other interfaces that are met.

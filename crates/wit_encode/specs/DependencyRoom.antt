@@ -3,23 +3,13 @@
 use Rattle.std.specs.Prelude.{ℕ, ◌≡◌, ◌≤◌, ◌<◌, ◌+◌, ◌*◌, Bool, true, false, List, [], length, Some, is_some}
 use Rattle.std.specs.List.{Contains}
 use Rattle.indexmap.specs.IndexMap.{values}
-use Rattle.wit_model.specs.Lookup.{interface_at, interface_path}
-use Rattle.wit_model.specs.Valid.{IsValid}
-use Rattle.wit_model.specs.Weight.{interface_weight}
-use Rattle.wit_model.specs.declared.model.Resolve.{Resolve}
-use Rattle.wit_model.specs.declared.model.Interface.{Interface}
-use Rattle.wit_model.specs.declared.model.InterfaceId.{InterfaceId}
-use Rattle.comp_bytes.specs.Fits.{fits_name}
-use Rattle.comp_bytes.specs.Raw.{declaration_count}
+use Rattle.wit_model.specs.{Lookup.interface_at, Lookup.interface_path, Valid.IsValid, Weight.interface_weight}
+use Rattle.wit_model.specs.declared.model.{Resolve.Resolve, Interface.Interface, InterfaceId.InterfaceId}
+use Rattle.comp_bytes.specs.{Fits.fits_name, Raw.declaration_count}
 use Rattle.encode_shown.specs.Views.{AreReached}
-use Rattle.encode_types.specs.Known.{Around}
-use Rattle.encode_types.specs.MetKinds.{referred}
-use Rattle.encode_types.specs.Room.{HasNoRoom, limit}
+use Rattle.encode_types.specs.{Known.Around, MetKinds.referred, Room.HasNoRoom, Room.limit}
 use Rattle.encode_names.specs.WorldNames.{name_of_interface}
-use Rattle.wit_encode.specs.Encoders.{InterfaceLacksRoom}
-use Rattle.wit_encode.specs.Instance.{AliasesForTypes}
-use Rattle.wit_encode.specs.WorldRoom.{AreSome, IsNamedTypeOf}
-use Rattle.wit_encode.specs.Worlds.{brought_numbers}
+use Rattle.wit_encode.specs.{Encoders.InterfaceLacksRoom, Instance.AliasesForTypes, WorldRoom.AreSome, WorldRoom.IsNamedTypeOf, Worlds.brought_numbers}
 
 -- ---- between two imports
 

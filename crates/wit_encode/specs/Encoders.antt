@@ -1,40 +1,19 @@
 -- An encoder of interfaces as one value, and what its calls ask and leave.
 use Rattle.std.specs.Prelude.{ℕ, ◌≡◌, ◌⊎◌, ◌++◌, false, ◌∷◌, [], List, String, map, nat_eq, IsSome, Option, Some, None}
-use Rattle.std.specs.List.{Contains}
-use Rattle.std.specs.Set.{distinct_count}
-use Rattle.std.specs.Borrow.{Bor}
+use Rattle.std.specs.{List.Contains, Set.distinct_count, Borrow.Bor}
 use Rattle.std.specs.declared.alloc.Global.{Global}
-use Rattle.wit_model.specs.Text.{Text}
-use Rattle.wit_model.specs.Meaning.{Signature, FunctionMeaning}
-use Rattle.wit_model.specs.Lookup.{interface_at}
-use Rattle.wit_model.specs.declared.model.Resolve.{Resolve}
-use Rattle.wit_model.specs.declared.model.Interface.{Interface}
-use Rattle.wit_model.specs.declared.model.InterfaceId.{InterfaceId}
-use Rattle.comp_bytes.specs.Raw.{ExternName, Declaration, Declarations, append, from_list}
-use Rattle.comp_bytes.specs.Held.{type_slots, type_slots_of}
-use Rattle.comp_bytes.specs.declared.forms.ComponentTypeRef.TheVariants as refs
-use Rattle.wit_model.specs.Valid.{IsValid}
+use Rattle.wit_model.specs.{Text.Text, Meaning.Signature, Meaning.FunctionMeaning, Lookup.interface_at, Valid.IsValid}
+use Rattle.wit_model.specs.declared.model.{Resolve.Resolve, Interface.Interface, InterfaceId.InterfaceId, Function.Function, «Type».«Type» as ValueType}
 use Rattle.wit_model.specs.declared.model.TypeId.{TypeId}
-use Rattle.wit_model.specs.declared.model.Function.{Function}
-use Rattle.wit_model.specs.declared.model.«Type».{«Type» as ValueType}
-use Rattle.encode_types.specs.Counts.{names_defined}
-use Rattle.encode_types.specs.Distinct.{defined_under_names}
-use Rattle.wit_encode.specs.Exports.{AreTypesOf}
-use Rattle.wit_encode.specs.FunctionRoom.{LacksFunctions}
-use Rattle.encode_types.specs.MetKinds.{LearnsFrom}
-use Rattle.wit_encode.specs.Order.{functions_in_order}
-use Rattle.encode_types.specs.declared.maps.TypeEncodingMaps.{TypeEncodingMaps}
-use Rattle.wit_encode.specs.declared.interface.InstanceEncoderOf.{InstanceEncoderOf}
-use Rattle.wit_encode.specs.declared.interface.OpenInterface.{OpenInterface}
-use Rattle.wit_encode.specs.Places.{GrowsBy, StandInOrder}
-use Rattle.encode_types.specs.Aliases.{AliasesMet}
-use Rattle.encode_types.specs.Known.{Around, UsedStand}
-use Rattle.encode_types.specs.Scope.{Scope}
-use Rattle.encode_types.specs.Room.{HasNoRoom}
-use Rattle.encode_types.specs.MetKinds.{referred}
-use Rattle.indexmap.specs.IndexMap.{values}
-use Rattle.encode_types.specs.View.{Told, View, Agrees, HoldsLearnt, WritesLearnt}
+use Rattle.comp_bytes.specs.{Raw.ExternName, Raw.Declaration, Raw.Declarations, Raw.append, Raw.from_list, Held.type_slots, Held.type_slots_of}
+use Rattle.encode_types.specs.{Counts.names_defined, Distinct.defined_under_names, Aliases.AliasesMet, Known.Around, Known.UsedStand, Scope.Scope}
+use Rattle.encode_types.specs.{MetKinds.LearnsFrom, MetKinds.referred, Room.HasNoRoom, View.Told, View.View, View.Agrees, View.HoldsLearnt, View.WritesLearnt}
+use Rattle.wit_encode.specs.{Exports.AreTypesOf, FunctionRoom.LacksFunctions, Order.functions_in_order, Places.GrowsBy, Places.StandInOrder}
 use Rattle.wit_encode.specs.Instance.{own_of, ShowsFunction, placed_function, meaning_of, Contents, contents_of, encoder_scope, around_of, around_at, slots_in, stands_in, defined_in, opened, standing_instances, Continues, EncodesInterface, EncodesDependency, EncodesPart, AliasesFor, AliasesForTypes, whole_interface, types_alone_of, held_in, extent_in, lacks_room_in, LacksInstanceRoom}
+use Rattle.encode_types.specs.declared.maps.TypeEncodingMaps.{TypeEncodingMaps}
+use Rattle.wit_encode.specs.declared.interface.{InstanceEncoderOf.InstanceEncoderOf, OpenInterface.OpenInterface}
+use Rattle.indexmap.specs.IndexMap.{values}
+use Rattle.comp_bytes.specs.declared.forms.ComponentTypeRef.TheVariants as refs
 
 abbrev pub InstanceEncoder : Type 0
 InstanceEncoder = InstanceEncoderOf TypeEncodingMaps

@@ -2,17 +2,10 @@
 use Rattle.std.specs.Prelude.{ℕ, ◌≡◌, ◌⊎◌, List, Option, Some, None, take, map}
 use Rattle.std.specs.List.{Contains}
 use Rattle.indexmap.specs.IndexMap.{values}
-use Rattle.wit_model.specs.Lookup.{interface_at}
-use Rattle.wit_model.specs.Parts.{used_by_function}
-use Rattle.wit_model.specs.declared.model.Resolve.{Resolve}
-use Rattle.wit_model.specs.declared.model.Interface.{Interface}
-use Rattle.wit_model.specs.declared.model.InterfaceId.{InterfaceId}
-use Rattle.wit_model.specs.declared.model.TypeId.{TypeId}
-use Rattle.wit_model.specs.declared.model.Function.{Function}
+use Rattle.wit_model.specs.{Lookup.interface_at, Parts.used_by_function}
+use Rattle.wit_model.specs.declared.model.{Resolve.Resolve, Interface.Interface, InterfaceId.InterfaceId, TypeId.TypeId, Function.Function}
 use Rattle.encode_types.specs.declared.maps.TypeEncodingMaps.{TypeEncodingMaps}
-use Rattle.encode_types.specs.Maps.{IsKnown}
-use Rattle.encode_types.specs.Scope.{Scope}
-use Rattle.encode_types.specs.Counts.{Definitions, own_name}
+use Rattle.encode_types.specs.{Maps.IsKnown, Scope.Scope, Counts.Definitions, Counts.own_name}
 
 -- the types of the interface, in the order of its list
 pub record AreTypesOf (r : Resolve) (interface : Option InterfaceId) (types : List TypeId) : Type 0 where

@@ -3,39 +3,20 @@
 use Rattle.std.specs.Prelude.{ℕ, ◌≡◌, ◌≤◌, ◌+◌, Bool, true, false, nat_eq, List, [], map, length, sum_by, Some, None, is_some}
 use Rattle.std.specs.List.{AllPairs, Contains}
 use Rattle.indexmap.specs.IndexMap.{values}
-use Rattle.wit_model.specs.Text.{Text, text_of}
-use Rattle.wit_model.specs.Tree.{Tree}
-use Rattle.wit_model.specs.Meaning.{Signature}
-use Rattle.wit_model.specs.Meant.{signature_of}
-use Rattle.wit_model.specs.Lookup.{type_at, interface_at, interface_path, world_at}
-use Rattle.wit_model.specs.Valid.{IsValid}
+use Rattle.wit_model.specs.{Text.Text, Text.text_of, Tree.Tree, Meant.signature_of, Lookup.type_at, Lookup.interface_at, Lookup.interface_path, Lookup.world_at}
+use Rattle.wit_model.specs.{Meaning.Signature, Valid.IsValid}
 use Rattle.wit_model.specs.Weight.{definition_weight, function_weight, interface_weight, types_instance_weight, whole_instance_weight, world_weight}
-use Rattle.wit_model.specs.declared.model.Resolve.{Resolve}
-use Rattle.wit_model.specs.declared.model.TypeDef.{TypeDef}
-use Rattle.wit_model.specs.declared.model.Function.{Function}
-use Rattle.wit_model.specs.declared.model.Interface.{Interface}
-use Rattle.wit_model.specs.declared.model.InterfaceId.{InterfaceId}
-use Rattle.wit_model.specs.declared.model.World.{World}
-use Rattle.wit_model.specs.declared.model.WorldId.{WorldId}
-use Rattle.wit_model.specs.declared.model.WorldKey.{WorldKey}
-use Rattle.wit_model.specs.declared.model.WorldItem.{WorldItem}
-use Rattle.wit_model.specs.declared.model.WorldItem.TheVariants as item
-use Rattle.comp_bytes.specs.declared.forms.ComponentDefinedType.{ComponentDefinedType}
-use Rattle.comp_bytes.specs.declared.forms.ComponentFuncType.{ComponentFuncType}
-use Rattle.comp_bytes.specs.declared.forms.ComponentTypeRef.{ComponentTypeRef}
-use Rattle.comp_bytes.specs.Raw.{Alias, Declaration, ExternName}
-use Rattle.comp_bytes.specs.RawOf.{raw_defined, raw_function}
-use Rattle.comp_bytes.specs.Writing.{declaration_bytes}
+use Rattle.wit_model.specs.declared.model.{Resolve.Resolve, TypeDef.TypeDef, WorldId.WorldId}
+use Rattle.wit_model.specs.declared.model.{Function.Function, Interface.Interface, InterfaceId.InterfaceId, World.World, WorldKey.WorldKey, WorldItem.WorldItem}
+use Rattle.comp_bytes.specs.declared.forms.{ComponentDefinedType.ComponentDefinedType, ComponentFuncType.ComponentFuncType, ComponentTypeRef.ComponentTypeRef}
+use Rattle.comp_bytes.specs.{Raw.Alias, Raw.Declaration, Raw.ExternName, RawOf.raw_defined, RawOf.raw_function, Writing.declaration_bytes}
 use Rattle.comp_meaning.specs.Follow.{Slot}
-use Rattle.encode_types.specs.Slots.{Follows, FollowsFunction}
-use Rattle.encode_types.specs.Standing.{SlotsStand}
+use Rattle.encode_types.specs.{Slots.Follows, Slots.FollowsFunction, Standing.SlotsStand, MetKinds.ReachedFrom, MetKinds.referred, Room.function_name}
+use Rattle.encode_types.specs.Kinds.{kind_tree}
 use Rattle.encode_shown.specs.Views.{AreReached}
 use Rattle.encode_names.specs.WorldNames.{name_of_interface, name_of_item}
-use Rattle.wit_encode.specs.Order.{functions_in_order}
-use Rattle.wit_encode.specs.WorldRoom.{entries_in, IsMetAmong}
-use Rattle.encode_types.specs.Kinds.{kind_tree}
-use Rattle.encode_types.specs.MetKinds.{ReachedFrom, referred}
-use Rattle.encode_types.specs.Room.{function_name}
+use Rattle.wit_encode.specs.{Order.functions_in_order, WorldRoom.entries_in, WorldRoom.IsMetAmong}
+use Rattle.wit_model.specs.declared.model.WorldItem.TheVariants as item
 pub use Rattle.encode_types.specs.Extents.{labels_extent, tree_extent, signature_extent, given_length, name_extent, own_name_extent, import_extent, number_extent, function_extent}
 
 -- ---- laws

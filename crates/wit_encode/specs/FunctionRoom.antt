@@ -1,15 +1,10 @@
 -- Which functions of an interface have no room, behind what has been learnt.
 use Rattle.std.specs.Prelude.{ℕ, ◌≡◌, ◌+◌, ◌⊎◌, true, List, map, flat_map, length, Option}
-use Rattle.std.specs.List.{IsDistinct}
-use Rattle.std.specs.Set.{is_member}
+use Rattle.std.specs.{List.IsDistinct, Set.is_member}
 use Rattle.wit_model.specs.Text.{Text}
-use Rattle.wit_model.specs.declared.model.Resolve.{Resolve}
-use Rattle.wit_model.specs.declared.model.Function.{Function}
-use Rattle.wit_model.specs.declared.model.InterfaceId.{InterfaceId}
-use Rattle.wit_model.specs.declared.model.«Type».{«Type» as ValueType}
+use Rattle.wit_model.specs.declared.model.{Resolve.Resolve, Function.Function, InterfaceId.InterfaceId, «Type».«Type» as ValueType}
 use Rattle.encode_types.specs.declared.maps.TypeEncodingMaps.{TypeEncodingMaps}
-use Rattle.encode_types.specs.Distinct.{Key, key_of, are_same, KnowsKey}
-use Rattle.encode_types.specs.Room.{Refusals, function_requests, FindsNoRoom}
+use Rattle.encode_types.specs.{Distinct.Key, Distinct.key_of, Distinct.are_same, Distinct.KnowsKey, Room.Refusals, Room.function_requests, Room.FindsNoRoom}
 
 -- A part of a type that is met from these, or one of these functions, has no room. What is held is less than a sum. It adds up what was held,
 -- what some type numbers take that are met and were new, one for each key of a function that wasn't known, and one for each function.

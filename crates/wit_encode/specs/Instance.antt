@@ -1,56 +1,34 @@
 -- What an encoder of interfaces holds: the component type around, and in it the instance type of the interface that it is encoding.
 -- What has been declared is followed, so each slot stands for what the bytes say.
-use Rattle.std.specs.Prelude.{length, ℕ, ◌≡◌, ◌≤◌, ◌⊎◌, ◌+◌, ◌++◌, Bool, false, ◌&&◌, List, [], ◌∷◌, map, count_by, Option, Some, None, is_some}
-use Rattle.std.specs.Option.{option_map_or}
-use Rattle.std.specs.List.{list_all}
-use Rattle.std.specs.Set.{distinct_count}
-use Rattle.std.specs.Prelude.{String, if◌then◌else◌}
-use Rattle.std.specs.Borrow.{Bor}
+use Rattle.std.specs.Prelude.{length, ℕ, ◌≡◌, ◌≤◌, ◌⊎◌, ◌+◌, ◌++◌, Bool, false, ◌&&◌, List, [], ◌∷◌, map, count_by, Option, Some, None, is_some, String, if◌then◌else◌}
+use Rattle.std.specs.{Option.option_map_or, List.list_all, List.Contains, Set.distinct_count, Borrow.Bor}
 use Rattle.std.specs.declared.alloc.Global.{Global}
-use Rattle.wit_model.specs.Text.{Text, text_of}
-use Rattle.wit_model.specs.Tree.{Place, here}
-use Rattle.wit_model.specs.Meaning.{TypeMeaning, FunctionMeaning}
-use Rattle.wit_model.specs.Meant.{interface_meaning_at, types_alone}
-use Rattle.wit_model.specs.Lookup.{interface_at, place_of}
-use Rattle.wit_model.specs.declared.model.Resolve.{Resolve}
-use Rattle.wit_model.specs.declared.model.InterfaceId.{InterfaceId}
-use Rattle.wit_model.specs.declared.model.TypeOwner.{TypeOwner}
-use Rattle.wit_model.specs.declared.model.TypeOwner.TheVariants as owner
-use Rattle.comp_bytes.specs.Raw.{Declaration, Declarations, append, declaration_count, from_list}
+use Rattle.wit_model.specs.{Text.Text, Text.text_of, Tree.Place, Tree.here}
+use Rattle.wit_model.specs.{Meaning.TypeMeaning, Meaning.FunctionMeaning, Meant.interface_meaning_at, Meant.types_alone, Lookup.interface_at, Lookup.place_of}
+use Rattle.wit_model.specs.declared.model.{Resolve.Resolve, InterfaceId.InterfaceId, TypeOwner.TypeOwner, Interface.Interface, «Type».«Type» as ValueType}
+use Rattle.wit_model.specs.declared.model.TypeId.{TypeId}
+use Rattle.comp_bytes.specs.{Raw.Declaration, Raw.Declarations, Raw.append, Raw.declaration_count, Raw.from_list, Held.type_slots_of, Held.fits_added}
 use Rattle.comp_bytes.specs.Writing.{declarations_bytes}
 use Rattle.comp_meaning.specs.Reads.{interface_meaning}
 use Rattle.comp_meaning.specs.Follow.{Slot, View, InstanceScope, instance_view, instance_steps, new_instance}
 use Rattle.encode_shown.specs.Views.{ShowsInterface, ShowsTypes, types_of}
-use Rattle.wit_encode.specs.declared.interface.OpenInterface.{OpenInterface}
-use Rattle.wit_encode.specs.declared.interface.Foreign.{Foreign}
-use Rattle.std.specs.List.{Contains}
+use Rattle.wit_encode.specs.declared.interface.{OpenInterface.OpenInterface, Foreign.Foreign}
 use Rattle.indexmap.specs.IndexMap.{values}
-use Rattle.wit_model.specs.declared.model.Interface.{Interface}
-use Rattle.wit_model.specs.declared.model.TypeId.{TypeId}
-use Rattle.wit_model.specs.declared.model.«Type».{«Type» as ValueType}
-use Rattle.wit_model.specs.declared.model.«Type».TheVariants as ty
-use Rattle.comp_bytes.specs.Held.{type_slots_of, fits_added}
-use Rattle.encode_types.specs.Slots.{Pairs}
+use Rattle.encode_types.specs.{Slots.Pairs, Resources.Names, Resources.is_met_owner, Resources.is_named_interface, Resources.resource_names}
 use Rattle.encode_types.specs.Room.{Refusals, value_type, function_type, export_name, import_of, LacksRoomBehind, AreApart, numbers_count}
-use Rattle.encode_types.specs.Resources.{Names, is_met_owner, is_named_interface, resource_names}
+use Rattle.wit_model.specs.declared.model.TypeOwner.TheVariants as owner
+use Rattle.wit_model.specs.declared.model.«Type».TheVariants as ty
 pub use Rattle.encode_types.specs.Standing.{standing_at, SlotsStand, is_slot_of}
 use Rattle.encode_types.specs.Known.{Around, GrowsAround, no_around}
 pub use Rattle.encode_types.specs.Known.{outer_scope, outer_slots, outer_instances, standing_instances}
 use Rattle.wit_model.specs.declared.model.Function.{Function}
-use Rattle.wit_model.specs.Meant.{signature_of, function_meaning}
-use Rattle.wit_model.specs.Parts.{function_types}
+use Rattle.wit_model.specs.{Meant.signature_of, Meant.function_meaning, Parts.function_types}
 use Rattle.encode_types.specs.declared.maps.TypeEncodingMaps.{TypeEncodingMaps}
-use Rattle.encode_types.specs.Maps.{MapsAgree}
-use Rattle.encode_types.specs.Formed.{IsFormedSignature}
-use Rattle.encode_types.specs.Fits.{CanEncode}
-use Rattle.encode_types.specs.Scope.{Scope, no_others}
-use Rattle.wit_encode.specs.Order.{functions_in_order}
-use Rattle.wit_encode.specs.Places.{StandInOrder}
+use Rattle.encode_types.specs.{Maps.MapsAgree, Formed.IsFormedSignature, Fits.CanEncode, Scope.Scope, Scope.no_others}
+use Rattle.wit_encode.specs.{Order.functions_in_order, Places.StandInOrder}
 pub use Rattle.encode_types.specs.Distinct.{is_value_type, is_function_type}
 use Rattle.encode_types.specs.Distinct.{key_of, are_same, value_slots, function_slots, targets_of, DefinesKeys, DefinesTypes}
-use Rattle.encode_types.specs.Counts.{Definitions}
-use Rattle.encode_types.specs.Aliases.{AliasesMet}
-use Rattle.encode_types.specs.MetKinds.{referred, ReachedFrom}
+use Rattle.encode_types.specs.{Counts.Definitions, Aliases.AliasesMet, MetKinds.referred, MetKinds.ReachedFrom}
 
 -- ---- what has been declared in a scope
 

@@ -1,16 +1,10 @@
 -- The order of the functions of an interface.
 use Rattle.std.specs.Prelude.{ℕ, ◌≡◌, Bool, false, not, nat_eq, List, [], ◌∷◌, ◌++◌, filter, map}
-use Rattle.std.specs.Option.{option_map_or, is_some}
-use Rattle.std.specs.List.{list_any, position, position_or_len}
-use Rattle.std.specs.BTreeMap.{BTreeMap, get}
+use Rattle.std.specs.{Option.option_map_or, Option.is_some, List.list_any, List.position, List.position_or_len, BTreeMap.BTreeMap, BTreeMap.get}
 use Rattle.std.specs.Ordering.{nat_cmp}
 use Rattle.indexmap.specs.IndexMap.{values}
-use Rattle.wit_model.specs.Text.{Text, text_of}
-use Rattle.wit_model.specs.Lookup.{resource_of}
-use Rattle.wit_model.specs.declared.model.TypeId.{TypeId}
-use Rattle.wit_model.specs.declared.model.Function.{Function}
-use Rattle.wit_model.specs.declared.model.FunctionKind.{FunctionKind}
-use Rattle.wit_model.specs.declared.model.Interface.{Interface}
+use Rattle.wit_model.specs.{Text.Text, Text.text_of, Lookup.resource_of}
+use Rattle.wit_model.specs.declared.model.{TypeId.TypeId, Function.Function, FunctionKind.FunctionKind, Interface.Interface}
 
 -- whether a kind of function is a constructor, a method or a static function of this resource
 abbrev pub is_kind_of : FunctionKind → TypeId → Bool

@@ -1,32 +1,18 @@
 -- The scope of an owner of types and functions: an interface with a name, an inline interface, or a world
 -- (WIT.md, "Interfaces: use" and "Worlds"; Component Model Binary.md, "Index Spaces").
 use Rattle.std.specs.Prelude.{ℕ, ◌≡◌, ◌<◌, ◌⊎◌, length, Bool, true, List, [], ◌∷◌, Some, String, is_some}
-use Rattle.std.specs.List.{Contains}
-use Rattle.std.specs.Option.{option_map_or}
+use Rattle.std.specs.{List.Contains, Option.option_map_or}
 use Rattle.std.specs.declared.alloc.Global.{Global}
-use Rattle.wit_model.specs.Text.{text_of}
-use Rattle.wit_model.specs.Lookup.{type_at, interface_at, world_at, place_of}
-use Rattle.wit_model.specs.Meant.{type_meaning}
-use Rattle.wit_model.specs.Parts.{is_resource, function_types}
+use Rattle.wit_model.specs.{Text.text_of, Uses.used_interface, Uses.direct_deps, Valid.IsValid, Valid.functions_of_interface, Valid.functions_of_world}
+use Rattle.wit_model.specs.{Lookup.type_at, Lookup.interface_at, Lookup.world_at, Lookup.place_of, Meant.type_meaning, Parts.is_resource, Parts.function_types}
 use Rattle.wit_model.specs.Rules.{is_use}
-use Rattle.wit_model.specs.Uses.{used_interface, direct_deps}
-use Rattle.wit_model.specs.Valid.{IsValid, functions_of_interface, functions_of_world}
-use Rattle.wit_model.specs.declared.model.Resolve.{Resolve}
-use Rattle.wit_model.specs.declared.model.TypeDef.{TypeDef}
-use Rattle.wit_model.specs.declared.model.TypeId.{TypeId}
-use Rattle.wit_model.specs.declared.model.Function.{Function}
-use Rattle.wit_model.specs.declared.model.InterfaceId.{InterfaceId}
-use Rattle.wit_model.specs.declared.model.TypeOwner.{TypeOwner}
-use Rattle.wit_model.specs.declared.model.TypeOwner.TheVariants as owner
-use Rattle.wit_model.specs.declared.model.«Type».{«Type» as ValueType}
-use Rattle.wit_model.specs.declared.model.«Type».TheVariants as ty
-use Rattle.encode_types.specs.Scope.{Scope}
-use Rattle.encode_types.specs.Plan.{AllInRange, foreign_owner}
-use Rattle.encode_types.specs.MetKinds.{ReachedFrom}
-use Rattle.encode_types.specs.Resources.{Names, is_named_interface, is_met_owner}
-use Rattle.encode_types.specs.Fits.{CanEncode}
+use Rattle.wit_model.specs.declared.model.{Resolve.Resolve, Function.Function, InterfaceId.InterfaceId, TypeOwner.TypeOwner, «Type».«Type» as ValueType}
+use Rattle.wit_model.specs.declared.model.{TypeDef.TypeDef, TypeId.TypeId}
+use Rattle.encode_types.specs.{Scope.Scope, Resources.Names, Resources.is_named_interface, Resources.is_met_owner, Table.interface_of_owner, Table.table_scope}
+use Rattle.encode_types.specs.{Plan.AllInRange, Plan.foreign_owner, MetKinds.ReachedFrom, Fits.CanEncode}
 use Rattle.wit_encode.specs.Instance.{CanEncodeFunction}
-use Rattle.encode_types.specs.Table.{interface_of_owner, table_scope}
+use Rattle.wit_model.specs.declared.model.TypeOwner.TheVariants as owner
+use Rattle.wit_model.specs.declared.model.«Type».TheVariants as ty
 
 -- The names of the types of owners that are met stand for resources exactly where the types are resources.
 abbrev pub NamesAgree : Resolve → Names → (TypeOwner → Bool) → Type 0

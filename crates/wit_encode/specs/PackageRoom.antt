@@ -3,14 +3,9 @@
 -- "Component Definitions" and the numbers of "Core WebAssembly").
 use Rattle.std.specs.Prelude.{ℕ, ◌≡◌, ◌<◌, ◌+◌, ◌⊎◌, Bool, List, [], ◌∷◌, ◌++◌, length, sum_by, Some}
 use Rattle.std.specs.List.{Contains}
-use Rattle.wit_model.specs.Text.{text_of}
-use Rattle.wit_model.specs.Names.{PackageIdentity, path_in}
-use Rattle.wit_model.specs.Lookup.{world_at}
-use Rattle.wit_model.specs.Weight.{interface_weight, world_weight}
-use Rattle.wit_model.specs.declared.model.Resolve.{Resolve}
-use Rattle.wit_model.specs.declared.model.World.{World}
-use Rattle.comp_bytes.specs.Parts.{Part}
-use Rattle.comp_bytes.specs.Writing.{top_type_bytes, top_export_bytes}
+use Rattle.wit_model.specs.{Text.text_of, Names.PackageIdentity, Names.path_in, Lookup.world_at, Weight.interface_weight, Weight.world_weight}
+use Rattle.wit_model.specs.declared.model.{Resolve.Resolve, World.World}
+use Rattle.comp_bytes.specs.{Parts.Part, Writing.top_type_bytes, Writing.top_export_bytes}
 use Rattle.encode_types.specs.Room.{limit}
 use Rattle.wit_encode.specs.Packages.{HoldsInterfaces, HoldsMembers, Listed, ListedWorld}
 

@@ -3,36 +3,19 @@
 use Rattle.std.specs.Prelude.{◌≡◌, ◌<◌, ◌≤◌, ◌↔◌, ◌||◌, ℕ, Bool, false, true, is_some, List, [], ◌∷◌, ◌++◌, length, Some, String}
 use Rattle.std.specs.List.{AllZip, Contains, list_all}
 use Rattle.std.specs.declared.alloc.Global.{Global}
-use Rattle.wit_model.specs.Text.{Text, text_of}
-use Rattle.wit_model.specs.Names.{PackageIdentity, path_in}
-use Rattle.wit_model.specs.Lookup.{identity_of, interface_path, package_at, world_at}
-use Rattle.wit_model.specs.declared.error.Error.{Error}
-use Rattle.wit_model.specs.declared.model.Resolve.{Resolve}
-use Rattle.wit_model.specs.declared.model.InterfaceId.{InterfaceId}
-use Rattle.wit_model.specs.declared.model.Package.{Package}
+use Rattle.wit_model.specs.{Text.Text, Text.text_of, Names.PackageIdentity, Names.path_in, Meant.Meant, Meaning.PackageMeaning}
+use Rattle.wit_model.specs.{Lookup.identity_of, Lookup.interface_path, Lookup.package_at, Lookup.world_at, Weight.interface_weight, Weight.world_weight}
+use Rattle.wit_model.specs.declared.{error.Error.Error, model.Resolve.Resolve, model.InterfaceId.InterfaceId, model.Package.Package, model.WorldId.WorldId}
 use Rattle.wit_model.specs.declared.model.World.{World}
-use Rattle.wit_model.specs.declared.model.WorldId.{WorldId}
 use Rattle.comp_bytes.specs.Raw.{Declarations}
-use Rattle.comp_bytes.specs.Refusal.{IsMemoryOrSize}
-use Rattle.comp_bytes.specs.Parts.{Part, sections_of_parts}
-use Rattle.comp_bytes.specs.Spelling.{IsComponent, preamble}
-use Rattle.comp_bytes.specs.Writing.{component_bytes}
-use Rattle.wit_model.specs.Meant.{Meant}
-use Rattle.wit_model.specs.Meaning.{PackageMeaning}
-use Rattle.comp_meaning.specs.Follow.{is_filled}
-use Rattle.comp_meaning.specs.Reads.{Reads}
+use Rattle.comp_bytes.specs.{Refusal.IsMemoryOrSize, Parts.Part, Parts.sections_of_parts, Spelling.IsComponent, Spelling.preamble, Writing.component_bytes}
+use Rattle.comp_meaning.specs.{Follow.is_filled, Reads.Reads}
 use Rattle.encode_shown.specs.PackageTypes.{ArePackageTypes, wrapper}
 use Rattle.encode_names.specs.Clashes.{HasNoClash}
 use Rattle.encode_exports.specs.ExportedParts.{exporting}
-use Rattle.wit_model.specs.Weight.{interface_weight, world_weight}
-use Rattle.wit_encode.specs.Dependencies.{ShowsComponent}
-use Rattle.wit_encode.specs.DependencyCounts.{DefinesComponent}
-use Rattle.wit_encode.specs.Instance.{declared_extent}
-use Rattle.wit_encode.specs.Scopes.{HasNoEqualPaths, RefusesInterface}
-use Rattle.wit_encode.specs.WholeWorlds.{RefusesWorld, ShowsWorldType}
-use Rattle.wit_encode.specs.WorldCounts.{DefinesOnce}
-use Rattle.wit_encode.specs.WorldRoom.{entries_in}
-use Rattle.wit_encode.specs.WrittenNames.{WritesNames, WritesPaths}
+use Rattle.wit_encode.specs.{Dependencies.ShowsComponent, DependencyCounts.DefinesComponent, Scopes.HasNoEqualPaths, Scopes.RefusesInterface}
+use Rattle.wit_encode.specs.{Instance.declared_extent, WholeWorlds.RefusesWorld, WholeWorlds.ShowsWorldType, WrittenNames.WritesNames, WrittenNames.WritesPaths}
+use Rattle.wit_encode.specs.{WorldCounts.DefinesOnce, WorldRoom.entries_in}
 
 -- an interface of a package, by its name
 abbrev pub Listed : Type 0

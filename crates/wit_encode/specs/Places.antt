@@ -1,13 +1,11 @@
 -- Where declarations stand (Component Model Binary.md, "Import and Export Definitions"). Types stand before functions, and the type of a
 -- function just before the first import or export of one that has it. An instance type stands just before the import or export of its instance.
 use Rattle.std.specs.Prelude.{ℕ, ◌≡◌, ◌+◌, ◌++◌, nat_eq, Bool, true, false, not, ◌&&◌, ◌||◌, List, Option, Some, None}
-use Rattle.std.specs.List.{list_all}
-use Rattle.std.specs.Option.{option_map_or}
+use Rattle.std.specs.{List.list_all, Option.option_map_or}
 use Rattle.comp_bytes.specs.declared.forms.ComponentTypeRef.{ComponentTypeRef}
-use Rattle.comp_bytes.specs.declared.forms.ComponentTypeRef.TheVariants as refs
-use Rattle.comp_bytes.specs.Raw.{Declaration, Declarations, append, from_list}
-use Rattle.comp_bytes.specs.Held.{declaration_slots}
+use Rattle.comp_bytes.specs.{Raw.Declaration, Raw.Declarations, Raw.append, Raw.from_list, Held.declaration_slots}
 use Rattle.encode_types.specs.Distinct.{is_function_type}
+use Rattle.comp_bytes.specs.declared.forms.ComponentTypeRef.TheVariants as refs
 
 -- ---- what a declaration imports or exports
 

@@ -1,11 +1,7 @@
 -- Which interfaces have no room in an instance type.
 use Rattle.std.specs.Prelude.{◌≡◌, ◌<◌, Some}
-use Rattle.wit_model.specs.Lookup.{interface_at}
-use Rattle.wit_model.specs.Valid.{IsValid}
-use Rattle.wit_model.specs.Weight.{whole_instance_weight}
-use Rattle.wit_model.specs.declared.model.Resolve.{Resolve}
-use Rattle.wit_model.specs.declared.model.Interface.{Interface}
-use Rattle.wit_model.specs.declared.model.InterfaceId.{InterfaceId}
+use Rattle.wit_model.specs.{Lookup.interface_at, Valid.IsValid, Weight.whole_instance_weight}
+use Rattle.wit_model.specs.declared.model.{Resolve.Resolve, Interface.Interface, InterfaceId.InterfaceId}
 use Rattle.encode_types.specs.Room.{limit}
 use Rattle.wit_encode.specs.Encoders.{InterfaceLacksRoom}
 

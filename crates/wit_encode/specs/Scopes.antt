@@ -1,7 +1,6 @@
 -- Which canonical names clash in the component type of an interface: those of its imports, for it has one export.
 use Rattle.std.specs.Prelude.{◌≡◌, ℕ, Bool, true}
-use Rattle.wit_model.specs.declared.error.Error.{Error}
-use Rattle.wit_model.specs.declared.model.Resolve.{Resolve}
+use Rattle.wit_model.specs.declared.{error.Error.Error, model.Resolve.Resolve}
 use Rattle.comp_bytes.specs.Refusal.{IsMemoryOrSize}
 use Rattle.encode_reach.specs.Reach.{reached_in_order}
 use Rattle.encode_names.specs.Clashes.{canonical_paths_of, AreDifferent, RefusesPaths}

@@ -1,22 +1,14 @@
 -- The component type of a world: it imports what the world imports, and exports what the world exports (Component Model WIT.md, "Package
 -- Format").
 use Rattle.std.specs.Prelude.{◌≡◌, ◌++◌, Bool, true, List, [], ◌∷◌, map, Some}
-use Rattle.wit_model.specs.Text.{text_of}
-use Rattle.wit_model.specs.Lookup.{identity_of}
-use Rattle.wit_model.specs.Meant as meant
-use Rattle.wit_model.specs.Meant.{package_of_world}
-use Rattle.wit_model.specs.declared.error.Error.{Error}
-use Rattle.wit_model.specs.declared.model.Package.{Package}
-use Rattle.wit_model.specs.declared.model.Resolve.{Resolve}
-use Rattle.wit_model.specs.declared.model.World.{World}
-use Rattle.comp_bytes.specs.Raw.{Declaration, Declarations}
-use Rattle.comp_bytes.specs.Refusal.{IsMemoryOrSize}
-use Rattle.comp_meaning.specs.Follow.{Direction, import_, export_, Scope, component_scope}
-use Rattle.comp_meaning.specs.Reads.{world_meaning, world_with}
+use Rattle.wit_model.specs.{Text.text_of, Lookup.identity_of, Meant.package_of_world}
+use Rattle.wit_model.specs.declared.{error.Error.Error, model.Package.Package, model.Resolve.Resolve, model.World.World}
+use Rattle.comp_bytes.specs.{Raw.Declaration, Raw.Declarations, Refusal.IsMemoryOrSize}
+use Rattle.comp_meaning.specs.{Follow.Direction, Follow.import_, Follow.export_, Follow.Scope, Follow.component_scope, Reads.world_meaning, Reads.world_with}
 use Rattle.comp_meaning.specs.Rules.{is_world}
 use Rattle.encode_shown.specs.Views.{ShowsWorld}
-use Rattle.encode_names.specs.Clashes.{HasNoClash, RefusesNames}
-use Rattle.encode_names.specs.WorldSteps.{Entry}
+use Rattle.encode_names.specs.{Clashes.HasNoClash, Clashes.RefusesNames, WorldSteps.Entry}
+use Rattle.wit_model.specs.Meant as meant
 
 -- an import or an export, if a declaration is one
 abbrev pub direction_of : Declaration → List Direction

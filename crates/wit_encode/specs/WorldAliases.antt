@@ -3,16 +3,12 @@
 use Rattle.std.specs.Prelude.{ℕ, ◌≡◌, ◌≤◌, ◌<◌, ◌+◌, nat_eq, List, [], ◌∷◌, ◌++◌, map, flat_map, length, take, drop, Some, None, String, slice_get}
 use Rattle.std.specs.List.{Contains, IsDistinct}
 use Rattle.std.specs.declared.alloc.Global.{Global}
-use Rattle.wit_model.specs.Text.{text_of}
-use Rattle.wit_model.specs.Lookup.{type_at}
-use Rattle.wit_model.specs.declared.model.Resolve.{Resolve}
-use Rattle.wit_model.specs.declared.model.TypeDef.{TypeDef}
-use Rattle.wit_model.specs.declared.model.InterfaceId.{InterfaceId}
-use Rattle.wit_model.specs.declared.model.TypeOwner.TheVariants as owner
+use Rattle.wit_model.specs.{Text.text_of, Lookup.type_at}
+use Rattle.wit_model.specs.declared.model.{Resolve.Resolve, TypeDef.TypeDef, InterfaceId.InterfaceId}
 use Rattle.comp_bytes.specs.Raw.{Alias, Declarations}
 use Rattle.encode_types.specs.Known.{Aliased, Around, known_instance, known_slot}
-use Rattle.wit_encode.specs.DependencyAliases.{alias_in, export_alias}
-use Rattle.wit_encode.specs.WrittenNames.{instance_name, instance_names}
+use Rattle.wit_encode.specs.{DependencyAliases.alias_in, DependencyAliases.export_alias, WrittenNames.instance_name, WrittenNames.instance_names}
+use Rattle.wit_model.specs.declared.model.TypeOwner.TheVariants as owner
 
 -- ---- what stands there
 

@@ -1,33 +1,21 @@
 -- What the component type of a world defines: each key of a function and each unnamed kind once, and the same in each instance type, which shows
 -- its interface in order.
 use Rattle.std.specs.Prelude.{ℕ, ◌≡◌, ◌⊎◌, true, List, [], ◌∷◌, ◌++◌, map, length, Some, None}
-use Rattle.std.specs.List.{AllZip, Contains, IsDistinct}
-use Rattle.std.specs.Set.{is_member}
+use Rattle.std.specs.{List.AllZip, List.Contains, List.IsDistinct, Set.is_member}
 use Rattle.indexmap.specs.IndexMap.{values}
-use Rattle.wit_model.specs.Lookup.{interface_at}
-use Rattle.wit_model.specs.Uses.{item_interface}
-use Rattle.wit_model.specs.Valid.{functions_of_interface}
-use Rattle.wit_model.specs.declared.model.Resolve.{Resolve}
-use Rattle.wit_model.specs.declared.model.Interface.{Interface}
-use Rattle.wit_model.specs.declared.model.TypeOwner.TheVariants as owner
+use Rattle.wit_model.specs.{Lookup.interface_at, Uses.item_interface, Valid.functions_of_interface}
+use Rattle.wit_model.specs.declared.model.{Resolve.Resolve, Interface.Interface}
 use Rattle.comp_bytes.specs.Raw.{Declaration, Declarations, from_list}
 use Rattle.encode_types.specs.declared.maps.TypeEncodingMaps.{TypeEncodingMaps}
-use Rattle.encode_types.specs.Aliases.{IsMetElsewhere}
-use Rattle.encode_types.specs.Counts.{Definitions}
+use Rattle.encode_types.specs.{Aliases.IsMetElsewhere, Counts.Definitions, MetKinds.LearnsFrom, Scope.Scope, Table.table_scope}
 use Rattle.encode_types.specs.Distinct.{Key, key_of, are_same, is_function_type, AddsFunctions, DefinesKeys, StandForKeys, DefinesTypes}
-use Rattle.encode_types.specs.MetKinds.{LearnsFrom}
-use Rattle.encode_types.specs.Scope.{Scope}
-use Rattle.encode_types.specs.Table.{table_scope}
 use Rattle.encode_names.specs.WorldSteps.{Entry, interfaces_among}
 use Rattle.wit_encode.specs.declared.world.Placed.{Placed}
-use Rattle.wit_encode.specs.DependencyAliases.{IsMetByWhole}
-use Rattle.wit_encode.specs.WorldAliases.{HasAliasesBehind, KeepsAliases, PlacedAlias}
+use Rattle.wit_encode.specs.{DependencyAliases.IsMetByWhole, Worlds.WorldEncoder, Worlds.world_around, Worlds.world_definitions, Worlds.instances_declared}
+use Rattle.wit_encode.specs.{WorldAliases.HasAliasesBehind, WorldAliases.KeepsAliases, WorldAliases.PlacedAlias, Places.StandInOrder, Places.are_beside}
 use Rattle.wit_encode.specs.Instance.{DeclaresFew, IsInstance, count_declared, meaning_of, stands_inside, SlotsStand, outer_slots}
-use Rattle.wit_encode.specs.Order.{functions_in_order}
-use Rattle.wit_encode.specs.Places.{StandInOrder, are_beside}
-use Rattle.wit_encode.specs.WorldItems.{entry_of}
-use Rattle.wit_encode.specs.WorldRoom.{functions_among, referred_among, type_ids_among}
-use Rattle.wit_encode.specs.Worlds.{WorldEncoder, world_around, world_definitions, instances_declared}
+use Rattle.wit_encode.specs.{Order.functions_in_order, WorldItems.entry_of, WorldRoom.functions_among, WorldRoom.referred_among, WorldRoom.type_ids_among}
+use Rattle.wit_model.specs.declared.model.TypeOwner.TheVariants as owner
 
 -- ---- what is defined
 

@@ -2,24 +2,15 @@
 use Rattle.std.specs.Prelude.{ℕ, ◌≡◌, ◌≤◌, ◌+◌, ◌*◌, ◌&&◌, true, false, ◌⊎◌, List, [], ◌∷◌, ◌++◌, length, Some, is_some}
 use Rattle.std.specs.List.{Contains}
 use Rattle.wit_model.specs.Lookup.{interface_at}
-use Rattle.wit_model.specs.declared.model.Resolve.{Resolve}
-use Rattle.wit_model.specs.declared.model.Interface.{Interface}
-use Rattle.wit_model.specs.declared.model.InterfaceId.{InterfaceId}
-use Rattle.wit_model.specs.declared.model.World.{World}
-use Rattle.comp_bytes.specs.Fits.{fits_declaration}
-use Rattle.comp_bytes.specs.Held.{declaration_slots, fits_added}
-use Rattle.comp_bytes.specs.Raw.{Declaration, Declarations, declaration_count}
+use Rattle.wit_model.specs.declared.model.{Resolve.Resolve, Interface.Interface, InterfaceId.InterfaceId, World.World}
+use Rattle.comp_bytes.specs.{Fits.fits_declaration, Held.declaration_slots, Held.fits_added, Raw.Declaration, Raw.Declarations, Raw.declaration_count}
 use Rattle.comp_meaning.specs.Follow.{Direction}
-use Rattle.encode_types.specs.Known.{known_instance}
-use Rattle.encode_types.specs.Room.{HasNoRoom}
+use Rattle.encode_types.specs.{Known.known_instance, Room.HasNoRoom}
 use Rattle.encode_names.specs.WorldSteps.{Entry, Entries, interfaces_among}
 use Rattle.wit_encode.specs.declared.world.Placed.{Placed}
-use Rattle.wit_encode.specs.Encoders.{InterfaceLacksRoom}
-use Rattle.wit_encode.specs.Instance.{LacksInstanceRoom, whole_interface, types_alone_of}
-use Rattle.wit_encode.specs.WorldCounts.{HasDefined}
+use Rattle.wit_encode.specs.{Encoders.InterfaceLacksRoom, WorldCounts.HasDefined, Worlds.WorldEncoder, Worlds.brought_numbers, Worlds.world_around}
+use Rattle.wit_encode.specs.{Instance.LacksInstanceRoom, Instance.whole_interface, Instance.types_alone_of, WorldRoom.WorldLacksRoom, WorldRoom.count_among}
 use Rattle.wit_encode.specs.WorldItems.{HasShown, IsNext, all_done, begun, entry_of, towards}
-use Rattle.wit_encode.specs.WorldRoom.{WorldLacksRoom, count_among}
-use Rattle.wit_encode.specs.Worlds.{WorldEncoder, brought_numbers, world_around}
 
 -- There are at most two declarations for each type number that is known in the component type, and one for each named type of a
 -- listed interface that has an alias there. To these come at most two for each function and interface of these imports and

@@ -1,27 +1,16 @@
 -- What an encoder of a world has encoded: imports and exports of the world, in order, each seen as such when every index is followed.
 use Rattle.std.specs.Prelude.{ℕ, ◌≡◌, ◌≤◌, ◌⊎◌, ◌+◌, true, List, [], ◌∷◌, ◌++◌, length, filter_map, is_some, Some, None}
-use Rattle.std.specs.BTreeMap.{insert_entry}
-use Rattle.std.specs.List.{Contains}
-use Rattle.std.specs.Ordering.{nat_cmp}
-use Rattle.wit_model.specs.Lookup.{interface_at, interface_path, world_at}
-use Rattle.wit_model.specs.Rules.{item_type}
-use Rattle.wit_model.specs.declared.model.Resolve.{Resolve}
-use Rattle.wit_model.specs.declared.model.World.{World}
-use Rattle.wit_model.specs.declared.model.Interface.{Interface}
-use Rattle.wit_model.specs.declared.model.InterfaceId.{InterfaceId}
-use Rattle.comp_meaning.specs.Follow as follow
+use Rattle.std.specs.{BTreeMap.insert_entry, List.Contains, Ordering.nat_cmp}
+use Rattle.wit_model.specs.{Lookup.interface_at, Lookup.interface_path, Lookup.world_at, Rules.item_type}
+use Rattle.wit_model.specs.declared.model.{Resolve.Resolve, World.World, Interface.Interface, InterfaceId.InterfaceId}
 use Rattle.comp_meaning.specs.Follow.{Direction, import_, export_}
-use Rattle.encode_types.specs.Counts.{own_name}
-use Rattle.encode_types.specs.Known.{outer_scope, standing_instances}
-use Rattle.encode_types.specs.Maps.{IsKnown}
-use Rattle.encode_types.specs.View.{Agrees}
+use Rattle.encode_types.specs.{Counts.own_name, Known.outer_scope, Known.standing_instances, Maps.IsKnown, View.Agrees}
 use Rattle.encode_names.specs.WorldSteps.{Entry, Entries, ShowsEntries, interfaces_among, with_entry}
-use Rattle.wit_encode.specs.declared.world.Direction.{Direction as RustDirection}
-use Rattle.wit_encode.specs.declared.world.Direction.TheVariants as directions
-use Rattle.wit_encode.specs.declared.world.Placed.{Placed}
-use Rattle.wit_encode.specs.Instance.{EncodesDependency, EncodesInterface}
-use Rattle.wit_encode.specs.WholeWorlds.{directions_of, imports_first}
+use Rattle.wit_encode.specs.declared.world.{Direction.Direction as RustDirection, Placed.Placed}
+use Rattle.wit_encode.specs.{Instance.EncodesDependency, Instance.EncodesInterface, WholeWorlds.directions_of, WholeWorlds.imports_first}
 use Rattle.wit_encode.specs.Worlds.{WorldEncoder, is_sound_outside, world_around, world_view_of}
+use Rattle.comp_meaning.specs.Follow as follow
+use Rattle.wit_encode.specs.declared.world.Direction.TheVariants as directions
 
 -- the numbers of the types among entries, in order
 abbrev pub types_among : List Entry → List ℕ

@@ -2,28 +2,15 @@
 -- (Component Model Binary.md, "vec" and the numbers of "Core WebAssembly").
 use Rattle.std.specs.Prelude.{ℕ, ◌≡◌, ◌≤◌, ◌<◌, ◌+◌, ◌*◌, Bool, true, false, nat_eq, List, ◌++◌, map, filter_map, length, Some, None, is_some}
 use Rattle.std.specs.List.{Contains, AllPairs}
-use Rattle.wit_model.specs.Lookup.{world_at, interface_at, type_at}
-use Rattle.wit_model.specs.Meant.{signature_of}
+use Rattle.wit_model.specs.{Lookup.world_at, Lookup.interface_at, Lookup.type_at, Meant.signature_of, Valid.IsValid, Valid.item_function, Weight.world_weight}
 use Rattle.wit_model.specs.Rules.{item_type}
-use Rattle.wit_model.specs.Valid.{IsValid, item_function}
-use Rattle.wit_model.specs.Weight.{world_weight}
-use Rattle.wit_model.specs.declared.model.Resolve.{Resolve}
-use Rattle.wit_model.specs.declared.model.World.{World}
-use Rattle.wit_model.specs.declared.model.WorldId.{WorldId}
-use Rattle.wit_model.specs.declared.model.Interface.{Interface}
-use Rattle.wit_model.specs.declared.model.InterfaceId.{InterfaceId}
-use Rattle.wit_model.specs.declared.model.Function.{Function}
-use Rattle.wit_model.specs.declared.model.TypeDef.{TypeDef}
-use Rattle.wit_model.specs.declared.model.TypeId.{TypeId}
-use Rattle.wit_model.specs.declared.model.TypeOwner.TheVariants as owner
-use Rattle.wit_model.specs.declared.model.«Type».{«Type» as ValueType}
+use Rattle.wit_model.specs.declared.model.{Resolve.Resolve, Interface.Interface, InterfaceId.InterfaceId, Function.Function, «Type».«Type» as ValueType}
+use Rattle.wit_model.specs.declared.model.{World.World, WorldId.WorldId, TypeDef.TypeDef, TypeId.TypeId}
 use Rattle.comp_bytes.specs.Fits.{fits_name}
-use Rattle.encode_types.specs.MetKinds.{ReachedFrom, referred}
-use Rattle.encode_types.specs.Room.{function_type, IsUnfit, LacksPart, limit}
-use Rattle.encode_names.specs.WorldNames.{name_of_item}
-use Rattle.encode_names.specs.WorldSteps.{Entry, interfaces_among}
-use Rattle.wit_encode.specs.Encoders.{InterfaceLacksRoom}
-use Rattle.wit_encode.specs.WorldItems.{types_among}
+use Rattle.encode_types.specs.{MetKinds.ReachedFrom, MetKinds.referred, Room.function_type, Room.IsUnfit, Room.LacksPart, Room.limit}
+use Rattle.encode_names.specs.{WorldNames.name_of_item, WorldSteps.Entry, WorldSteps.interfaces_among}
+use Rattle.wit_encode.specs.{Encoders.InterfaceLacksRoom, WorldItems.types_among}
+use Rattle.wit_model.specs.declared.model.TypeOwner.TheVariants as owner
 
 -- ---- what entries meet
 

@@ -1,20 +1,13 @@
 -- What an item of a world meets stands before it (WIT.md, "Worlds: use").
 use Rattle.std.specs.Prelude.{ℕ, ◌≡◌, true, List, [], ◌∷◌, Some, filter_map, is_some, slice_get, take}
 use Rattle.std.specs.List.{Contains}
-use Rattle.wit_model.specs.Lookup.{interface_path, world_at}
-use Rattle.wit_model.specs.Parts.{function_types}
-use Rattle.wit_model.specs.Uses.{item_interface, items_of}
-use Rattle.wit_model.specs.Valid.{IsValid}
-use Rattle.wit_model.specs.declared.model.Resolve.{Resolve}
-use Rattle.wit_model.specs.declared.model.World.{World}
-use Rattle.wit_model.specs.declared.model.WorldId.{WorldId}
-use Rattle.wit_model.specs.declared.model.WorldItem.{WorldItem}
-use Rattle.wit_model.specs.declared.model.WorldItem.TheVariants as item
-use Rattle.wit_model.specs.declared.model.TypeOwner.TheVariants as owner
-use Rattle.wit_model.specs.declared.model.«Type».{«Type» as ValueType}
-use Rattle.wit_model.specs.declared.model.«Type».TheVariants as ty
+use Rattle.wit_model.specs.{Lookup.interface_path, Lookup.world_at, Parts.function_types, Uses.item_interface, Uses.items_of, Valid.IsValid}
+use Rattle.wit_model.specs.declared.model.{Resolve.Resolve, World.World, WorldId.WorldId, WorldItem.WorldItem, «Type».«Type» as ValueType}
 use Rattle.encode_types.specs.Scope.{Scope}
 use Rattle.wit_encode.specs.OwnerScope.{IsScopeOf, InstancesStand}
+use Rattle.wit_model.specs.declared.model.WorldItem.TheVariants as item
+use Rattle.wit_model.specs.declared.model.TypeOwner.TheVariants as owner
+use Rattle.wit_model.specs.declared.model.«Type».TheVariants as ty
 
 -- the types that an item refers to in the scope of its world
 abbrev pub item_types : WorldItem → List ValueType

@@ -1,36 +1,21 @@
 -- What an encoder of a world holds: a component type, in whose scope the types of the world are imported (Component Model WIT.md, "Package Format").
 use Rattle.std.specs.Prelude.{ℕ, ◌≡◌, ◌-◌, ◌++◌, Bool, false, ◌&&◌, if◌then◌else◌, List, [], ◌∷◌, Option, Some, None, length, map, filter_map, is_some}
 use Prim.Native.Nat.{zero, suc}
-use Rattle.std.specs.Option.{option_map_or}
-use Rattle.std.specs.List.{filter, list_all}
-use Rattle.wit_model.specs.Text.{Text}
-use Rattle.wit_model.specs.Tree.{Declaration}
-use Rattle.wit_model.specs.Lookup.{type_at}
-use Rattle.wit_model.specs.Meaning.{TypeMeaning}
-use Rattle.wit_model.specs.Uses.{owner_interface}
-use Rattle.wit_model.specs.declared.model.Resolve.{Resolve}
-use Rattle.wit_model.specs.declared.model.TypeDef.{TypeDef}
-use Rattle.wit_model.specs.declared.model.WorldId.{WorldId}
-use Rattle.wit_model.specs.declared.model.TypeOwner.TheVariants as owner
+use Rattle.std.specs.{Option.option_map_or, List.filter, List.list_all}
+use Rattle.wit_model.specs.{Text.Text, Tree.Declaration, Lookup.type_at, Meaning.TypeMeaning, Uses.owner_interface}
+use Rattle.wit_model.specs.declared.model.{Resolve.Resolve, TypeDef.TypeDef, WorldId.WorldId}
 use Rattle.comp_bytes.specs.Raw.{Declarations, append, declaration_count}
 use Rattle.comp_meaning.specs.Follow.{Direction, import_, export_, Seen, Shown, instance_types}
 use Rattle.encode_types.specs.declared.maps.TypeEncodingMaps.{TypeEncodingMaps}
-use Rattle.encode_types.specs.Counts.{Definitions}
-use Rattle.encode_types.specs.Distinct.{value_slots, function_slots, targets_of}
+use Rattle.encode_types.specs.{Counts.Definitions, Distinct.value_slots, Distinct.function_slots, Distinct.targets_of, Standing.SlotsStand, Standing.is_slot_of}
 use Rattle.encode_types.specs.Known.{Around, are_right, below, known_instance, known_slot, outer_instances, outer_scope, outer_slots, standing_instances}
-use Rattle.encode_types.specs.Resources.{Names, resource_names, is_met_owner}
-use Rattle.encode_types.specs.Room.{LacksRoomBehind}
-use Rattle.encode_types.specs.Scope.{Others, Scope}
-use Rattle.encode_types.specs.Standing.{SlotsStand, is_slot_of}
-use Rattle.encode_types.specs.Table.{table_scope}
-use Rattle.encode_types.specs.View.{Told, View}
+use Rattle.encode_types.specs.{Resources.Names, Resources.resource_names, Resources.is_met_owner, Room.LacksRoomBehind, Scope.Others, Scope.Scope}
+use Rattle.encode_types.specs.{Table.table_scope, View.Told, View.View}
 use Rattle.encode_names.specs.Rebuilt.{others_seen}
-use Rattle.wit_encode.specs.Instance.{around_at, declared_extent}
+use Rattle.wit_encode.specs.{Instance.around_at, Instance.declared_extent, WholeWorlds.directions_of, WorldAliases.KeepsListed, WrittenNames.instances_around}
 use Rattle.wit_encode.specs.Places.{GrowsBy}
-use Rattle.wit_encode.specs.WholeWorlds.{directions_of}
-use Rattle.wit_encode.specs.WorldAliases.{KeepsListed}
-use Rattle.wit_encode.specs.WrittenNames.{instances_around}
 use Rattle.wit_encode.specs.declared.world.WorldEncoderOf.{WorldEncoderOf}
+use Rattle.wit_model.specs.declared.model.TypeOwner.TheVariants as owner
 
 -- an encoder of a world, with the maps of the code
 abbrev pub WorldEncoder : Type 0

@@ -2,22 +2,14 @@
 -- (Component Model Binary.md, "Type Definitions").
 use Rattle.std.specs.Prelude.{ℕ, ◌≡◌, ◌≤◌, ◌+◌, Bool, false, nat_eq, List, map, sum_by, Some, None}
 use Rattle.std.specs.List.{AllPairs, Contains}
-use Rattle.wit_model.specs.Text.{Text}
-use Rattle.wit_model.specs.Weight.{types_instance_weight, whole_instance_weight}
-use Rattle.wit_model.specs.declared.model.Resolve.{Resolve}
-use Rattle.wit_model.specs.declared.model.Function.{Function}
-use Rattle.wit_model.specs.declared.model.InterfaceId.{InterfaceId}
-use Rattle.wit_model.specs.declared.model.TypeId.{TypeId}
-use Rattle.wit_model.specs.declared.model.«Type».{«Type» as ValueType}
+use Rattle.wit_model.specs.{Text.Text, Weight.types_instance_weight, Weight.whole_instance_weight}
+use Rattle.wit_model.specs.declared.model.{Resolve.Resolve, Function.Function, InterfaceId.InterfaceId, TypeId.TypeId, «Type».«Type» as ValueType}
 use Rattle.comp_bytes.specs.Raw.{Declaration, Declarations, from_list}
-use Rattle.encode_types.specs.Extents.{function_extent, known_extent, number_extent}
-use Rattle.encode_types.specs.MetKinds.{ReachedFrom, referred}
+use Rattle.encode_types.specs.{Extents.function_extent, Extents.known_extent, Extents.number_extent, MetKinds.ReachedFrom, MetKinds.referred}
 use Rattle.encode_types.specs.declared.maps.TypeEncodingMaps.{TypeEncodingMaps}
-use Rattle.encode_names.specs.WorldNames.{name_of_interface}
-use Rattle.encode_names.specs.WorldSteps.{Entry}
+use Rattle.encode_names.specs.{WorldNames.name_of_interface, WorldSteps.Entry}
 use Rattle.wit_encode.specs.Extents.{instance_extent, item_extent}
-use Rattle.wit_encode.specs.Instance.{declared_extent, placed_function}
-use Rattle.wit_encode.specs.Encoders.{InstanceEncoder, Placed, plain}
+use Rattle.wit_encode.specs.{Instance.declared_extent, Instance.placed_function, Encoders.InstanceEncoder, Encoders.Placed, Encoders.plain}
 
 -- at most so many bytes more
 pub record AddsBytes (n : ℕ) (outer outer' : Declarations) : Type 0 where

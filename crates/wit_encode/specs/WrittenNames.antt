@@ -2,15 +2,13 @@
 -- Whether they are canonical can't be told from what they mean.
 use Rattle.std.specs.Prelude.{◌≡◌, Bool, if◌then◌else◌, is_some, ℕ, List, [], ◌∷◌, ◌++◌, flat_map, map}
 use Rattle.wit_model.specs.Uses.{item_interface}
-use Rattle.wit_model.specs.declared.model.Resolve.{Resolve}
-use Rattle.wit_model.specs.declared.model.World.{World}
+use Rattle.wit_model.specs.declared.model.{Resolve.Resolve, World.World}
 use Rattle.comp_bytes.specs.Raw.{Declaration, Declarations, ExternName}
 use Rattle.comp_bytes.specs.declared.forms.ComponentTypeRef.{ComponentTypeRef}
-use Rattle.comp_bytes.specs.declared.forms.ComponentTypeRef.TheVariants as refs
 use Rattle.encode_types.specs.Known.{Around}
-use Rattle.encode_names.specs.WorldNames.{name_of_interface, name_of_item}
+use Rattle.encode_names.specs.{WorldNames.name_of_interface, WorldNames.name_of_item, WorldSteps.Entry}
 use Rattle.encode_reach.specs.Reach.{reached_in_order}
-use Rattle.encode_names.specs.WorldSteps.{Entry}
+use Rattle.comp_bytes.specs.declared.forms.ComponentTypeRef.TheVariants as refs
 
 -- the name of an import or an export, if that is an instance
 abbrev pub described_name : ExternName → ComponentTypeRef → List ExternName

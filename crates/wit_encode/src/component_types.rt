@@ -2,23 +2,15 @@
 
 ghost use Rattle.std.specs.Prelude.{◌≡◌, ◌<◌, ◌≤◌, [], false, true, None, Some, Err, IfErr, IfOk, OnOk, is_some, length, map};
 ghost use Rattle.std.specs.List.{Contains};
-ghost use Rattle.comp_bytes.specs.RawOf.{raw_name};
-ghost use Rattle.comp_bytes.specs.Refusal.{IsMemoryOrSize};
-ghost use Rattle.wit_model.specs.Lookup.{interface_path};
+ghost use Rattle.comp_bytes.specs.{RawOf.raw_name, Refusal.IsMemoryOrSize};
+ghost use Rattle.wit_model.specs.{Lookup.interface_path, Valid.IsValid, Weight.interface_weight, Weight.types_instance_weight};
 ghost use Rattle.wit_model.specs.declared.error.Error.TheVariants.{Size};
-ghost use Rattle.wit_model.specs.Valid.{IsValid};
-ghost use Rattle.wit_model.specs.Weight.{interface_weight, types_instance_weight};
 ghost use Rattle.encode_names.specs.WorldNames.{name_of_interface};
-ghost use Rattle.wit_encode.specs.Encoders.{outside, UsedAround};
+ghost use Rattle.wit_encode.specs.{Encoders.outside, Encoders.UsedAround, Extents.instance_extent, Instance.declared_extent};
 ghost use Rattle.wit_encode.specs.Dependencies.{AreImportable, HasImported, ImportsTypes, ShowsComponentAt};
-ghost use Rattle.wit_encode.specs.DependencyAliases.{HasImportAliases};
-ghost use Rattle.wit_encode.specs.DependencyCounts.{DefinesComponent, DefinesImports};
-ghost use Rattle.wit_encode.specs.DependencyRoom.{HoldsImports, ImportsLackRoom, LacksImport};
-ghost use Rattle.wit_encode.specs.Extents.{instance_extent};
-ghost use Rattle.wit_encode.specs.Instance.{declared_extent};
-ghost use Rattle.wit_encode.specs.Scopes.{HasNoEqualPaths, RefusesInterface};
-ghost use Rattle.wit_encode.specs.WrittenBytes.{AddsBytes, imports_extent};
-ghost use Rattle.wit_encode.specs.WrittenNames.{NamesInterfaces, WritesPaths};
+ghost use Rattle.wit_encode.specs.{DependencyAliases.HasImportAliases, DependencyRoom.HoldsImports, DependencyRoom.ImportsLackRoom, DependencyRoom.LacksImport};
+ghost use Rattle.wit_encode.specs.{DependencyCounts.DefinesComponent, DependencyCounts.DefinesImports, WrittenNames.NamesInterfaces, WrittenNames.WritesPaths};
+ghost use Rattle.wit_encode.specs.{Scopes.HasNoEqualPaths, Scopes.RefusesInterface, WrittenBytes.AddsBytes, WrittenBytes.imports_extent};
 
 use crate::interface::{InstanceEncoder, InstanceEncoderOf};
 use comp_bytes::{ComponentType, ComponentTypeRef};

@@ -2,20 +2,15 @@
 
 ghost use Rattle.std.proofs.Common.{refl};
 ghost use Rattle.std.specs.Prelude.{◌≡◌, ◌≤◌, ◌+◌, ◌*◌, ◌&&◌, false, Err, ◌++◌, ◌∷◌, [], Some, None, ◌<◌, true, length, map, IfOk, OnOk, OnErr, IsSome, IfErr};
-ghost use Rattle.std.specs.List.{Contains};
-ghost use Rattle.std.specs.BTreeMap.{insert_entry};
-ghost use Rattle.std.specs.Ordering.{nat_cmp};
+ghost use Rattle.std.specs.{List.Contains, BTreeMap.insert_entry, Ordering.nat_cmp};
 ghost use Rattle.comp_bytes.specs.Raw.{Alias as RawAlias, Declaration, Declarations, append, declaration_count, from_list};
-ghost use Rattle.encode_types.specs.Known.{known_slot, known_instance, IsSource, ReachesAround};
+ghost use Rattle.comp_bytes.specs.{RawOf.raw_defined, RawOf.raw_function, RawOf.raw_name, Held.type_slots, Held.type_slots_of, Held.fits_next, Held.fits_added};
+ghost use Rattle.comp_bytes.specs.{Fits.fits_declaration, Refusal.IsMemoryOrSize};
+ghost use Rattle.encode_types.specs.{Known.known_slot, Known.known_instance, Known.IsSource, Known.ReachesAround, Room.fits_type_name};
 ghost use Rattle.wit_encode.specs.Instance.{around_at, around_of};
 ghost use Rattle.wit_encode.specs.Encoders.{declared_after, DeclaresInside, DeclaresOutside, AddsInstance};
-ghost use Rattle.encode_types.specs.Room.{fits_type_name};
 ghost use Rattle.wit_model.specs.Text.{text_of};
-ghost use Rattle.comp_bytes.specs.RawOf.{raw_defined, raw_function, raw_name};
-ghost use Rattle.comp_bytes.specs.Held.{type_slots, type_slots_of, fits_next, fits_added};
-ghost use Rattle.comp_bytes.specs.Fits.{fits_declaration};
 ghost use Rattle.wit_model.specs.declared.error.Error.TheVariants.{Size};
-ghost use Rattle.comp_bytes.specs.Refusal.{IsMemoryOrSize};
 
 use crate::order::{functions_in_order, types_in_order};
 use comp_bytes::{

@@ -1,12 +1,10 @@
 //! Laws of the scopes in which types and functions are encoded, for whoever brings an encoder of their own.
 
 ghost use Rattle.encode_types.specs.MetKinds.{MetKindsAreHeld};
-ghost use Rattle.wit_encode.specs.RoomLaws.{LackingInterfacesAreHeavy};
+ghost use Rattle.wit_encode.specs.{RoomLaws.LackingInterfacesAreHeavy, WorldRoom.LackingWorldsAreHeavy, WorldUses.ItemsMeetStanding};
 ghost use Rattle.wit_encode.specs.Dependencies.{AliasesLeaveImports, ExportsEnd, ImportsGrow, ImportsStand, NothingIsImported};
 ghost use Rattle.wit_encode.specs.Extents.{BytesAreFew, ComponentsAreLight, DependenciesAreLight, FunctionsAreLight, InstancesAreLight, TypesAreLight, WorldsAreLight};
 ghost use Rattle.wit_encode.specs.OwnerScope.{FunctionsEncode, FunctionsUse, InterfaceUses, NamesEncode, TableScope, TableUsesStand, TypesEncode, TypesUse};
-ghost use Rattle.wit_encode.specs.WorldRoom.{LackingWorldsAreHeavy};
-ghost use Rattle.wit_encode.specs.WorldUses.{ItemsMeetStanding};
 
 pub use encode_types::laws::equal_lists;
 

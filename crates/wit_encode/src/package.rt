@@ -2,10 +2,7 @@
 
 ghost use Rattle.std.specs.Prelude.{◌≡◌, ◌<◌, [], List, true, Err, IfErr, IfOk, OnOk, is_some, length};
 ghost use Rattle.comp_bytes.specs.Refusal.{IsMemoryOrSize};
-ghost use Rattle.wit_model.specs.Lookup.{identity_of, interface_path};
-ghost use Rattle.wit_model.specs.Names.{path_in};
-ghost use Rattle.wit_model.specs.Valid.{IsValid};
-ghost use Rattle.wit_model.specs.Weight.{package_weight};
+ghost use Rattle.wit_model.specs.{Lookup.identity_of, Lookup.interface_path, Names.path_in, Valid.IsValid, Weight.package_weight};
 ghost use Rattle.wit_model.specs.declared.error.Error.TheVariants.{Size};
 ghost use Rattle.encode_shown.specs.PackageTypes.{wrapper};
 ghost use Rattle.wit_encode.specs.Scopes.{HasNoEqualPaths, RefusesInterface};

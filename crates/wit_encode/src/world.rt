@@ -2,32 +2,20 @@
 
 ghost use Rattle.std.proofs.Common.{refl};
 ghost use Rattle.std.specs.Prelude.{◌≡◌, ◌<◌, ◌≤◌, ◌+◌, ◌&&◌, length, [], ◌∷◌, true, false, Err, Some, IfOk, IfErr, OnOk, OnErr};
-ghost use Rattle.wit_model.specs.declared.error.Error.TheVariants.{Size};
-ghost use Rattle.comp_bytes.specs.Raw.{Declaration, Declarations, declaration_count};
-ghost use Rattle.comp_bytes.specs.RawOf.{raw_name};
-ghost use Rattle.comp_bytes.specs.Held.{fits_added, type_slots_of};
-ghost use Rattle.comp_bytes.specs.Fits.{fits_declaration};
-ghost use Rattle.comp_bytes.specs.Refusal.{IsMemoryOrSize};
-ghost use Rattle.wit_model.specs.Lookup.{world_at};
-ghost use Rattle.wit_model.specs.Uses.{item_interface};
-ghost use Rattle.wit_model.specs.Valid.{IsValid};
-ghost use Rattle.wit_model.specs.Weight.{world_weight};
-ghost use Rattle.wit_model.specs.declared.model.World.{World as WorldValue};
-ghost use Rattle.wit_model.specs.declared.model.WorldItem.TheVariants as item_kinds;
-ghost use Rattle.wit_model.specs.Refusals.{IsMemory};
+ghost use Rattle.wit_model.specs.declared.{error.Error.TheVariants.Size, model.World.World as WorldValue};
+ghost use Rattle.comp_bytes.specs.{Raw.Declaration, Raw.Declarations, Raw.declaration_count, Held.fits_added, Held.type_slots_of, Refusal.IsMemoryOrSize};
+ghost use Rattle.comp_bytes.specs.{RawOf.raw_name, Fits.fits_declaration};
+ghost use Rattle.wit_model.specs.{Lookup.world_at, Uses.item_interface, Valid.IsValid, Weight.world_weight, Refusals.IsMemory};
 ghost use Rattle.encode_names.specs.WorldSteps.{declared_towards};
-ghost use Rattle.encode_types.specs.Known.{standing_instances, UsedStand};
-ghost use Rattle.encode_types.specs.View.{Agrees};
-ghost use Rattle.wit_encode.specs.Encoders.{declared_after, DeclaresOutside};
-ghost use Rattle.wit_encode.specs.WorldCounts.{Defines, DefinesAll, HasDefined};
+ghost use Rattle.encode_types.specs.{Known.standing_instances, Known.UsedStand, View.Agrees};
+ghost use Rattle.wit_encode.specs.{Encoders.declared_after, Encoders.DeclaresOutside, Instance.AliasesFor, Instance.AliasesForTypes, Instance.declared_extent};
+ghost use Rattle.wit_encode.specs.{WorldCounts.Defines, WorldCounts.DefinesAll, WorldCounts.HasDefined, Worlds.world_around, Worlds.world_view_of};
 ghost use Rattle.wit_encode.specs.WorldHolds.{HoldsAll, HoldsFew, HoldsOn, LacksDeclaration, LacksDependencyHere, LacksInstanceHere, LacksRoomTowards, LacksWorldRoom};
 ghost use Rattle.wit_encode.specs.Packages.{DefinesWorldOnce, HasNoClashAt, RefusesWorldAt, ShowsWorldAt, WritesNamesAt};
 ghost use Rattle.wit_encode.specs.WorldItems.{entry_of, towards, AwaitsAll, AwaitsNext, DefinesDependency, DefinesInstance, Encodes, EncodesAll, HasShown, ListsInstance};
-ghost use Rattle.wit_encode.specs.Worlds.{world_around, world_view_of};
-ghost use Rattle.wit_encode.specs.Instance.{AliasesFor, AliasesForTypes, declared_extent};
-ghost use Rattle.wit_encode.specs.Places.{StaysBeside};
+ghost use Rattle.wit_encode.specs.{Places.StaysBeside, WrittenNames.NamesMore};
 ghost use Rattle.wit_encode.specs.WrittenBytes.{AddsBytes, AddsLearnt, items_extent, types_extent, whole_extent};
-ghost use Rattle.wit_encode.specs.WrittenNames.{NamesMore};
+ghost use Rattle.wit_model.specs.declared.model.WorldItem.TheVariants as item_kinds;
 
 use crate::interface::{
     Foreign, InstanceEncoderOf, define_function_outside, define_outside, no_foreign, reach,

@@ -1,30 +1,22 @@
 -- What the calls of an encoder of interfaces leave, and what they add.
 use Rattle.std.proofs.Common.{◌≡◌, refl, sym, subst, ap, ◌∙◌, ℕ, ◌+◌, ◌<◌, nat_cmp, true, false, List, length, Result, Ok, Err, IfOk, OnErr, Option, Some, None, is_some}
-use Rattle.std.specs.BTreeMap.{insert_entry}
-use Rattle.std.specs.List.{Contains}
-use Rattle.wit_model.specs.Text.{Text}
-use Rattle.wit_model.specs.Lookup.{interface_at, interface_path}
-use Rattle.wit_model.specs.declared.model.Resolve.{Resolve}
-use Rattle.wit_model.specs.declared.model.Interface.{Interface}
-use Rattle.wit_model.specs.declared.model.InterfaceId.{InterfaceId}
-use Rattle.comp_bytes.specs.Raw.{Declaration, Declarations, ExternName}
-use Rattle.comp_bytes.specs.Held.{type_slots_of}
-use Rattle.comp_bytes.specs.declared.forms.ComponentTypeRef.TheVariants as refs
+use Rattle.std.proofs.lemmas.Bool.{lt-ltb}
+use Rattle.std.specs.{BTreeMap.insert_entry, List.Contains}
+use Rattle.wit_model.specs.{Text.Text, Lookup.interface_at, Lookup.interface_path}
+use Rattle.wit_model.specs.declared.model.{Resolve.Resolve, Interface.Interface, InterfaceId.InterfaceId}
+use Rattle.comp_bytes.specs.{Raw.Declaration, Raw.Declarations, Raw.ExternName, Held.type_slots_of}
 use Rattle.encode_names.specs.WorldNames.{name_of_interface}
 use Rattle.encode_types.specs.Known.{Around, GrowsAround, UsedStand, known_instance, standing_instances}
 use Rattle.wit_encode.specs.declared.interface.Foreign.{Foreign}
-use Rattle.wit_encode.specs.Dependencies.{with_import}
+use Rattle.wit_encode.specs.{Dependencies.with_import, Worlds.WorldEncoder, Worlds.is_sound_outside, Worlds.world_around, Worlds.world_scope}
 use Rattle.wit_encode.specs.Encoders.{declared_after}
-use Rattle.wit_encode.specs.Instance.{AliasesFor, EncodesDependency, EncodesInterface, around_at}
-use Rattle.wit_encode.specs.Worlds.{WorldEncoder, is_sound_outside, world_around, world_scope}
-use Rattle.wit_encode.proofs.Importing.{importable-stands}
-use Rattle.wit_encode.specs.WorldItems.{DefinesInstance}
-use Rattle.wit_encode.proofs.PlacedInstances.{grown-listed}
-use Rattle.std.proofs.lemmas.Bool.{lt-ltb}
+use Rattle.wit_encode.specs.{Instance.AliasesFor, Instance.EncodesDependency, Instance.EncodesInterface, Instance.around_at, WorldItems.DefinesInstance}
+use Rattle.wit_encode.proofs.{Importing.importable-stands, PlacedInstances.grown-listed}
 use Rattle.wit_model.proofs.OnePath.{found-in}
 use Rattle.wit_interfaces.specs.InterfaceEncoders.{CanEncodeInterfaces, Imports, InterfaceEncoder, LeavesInterfaces, component_of, has_listed, imported, interface_encoder_view}
 use Rattle.wit_interfaces.proofs.Leaving.{GoesOn, aliases-go-on, part-goes-on, whole-goes-on, whole-room, whole-stands}
 use Rattle.base_lemmas.proofs.Options.{there as some-of}
+use Rattle.comp_bytes.specs.declared.forms.ComponentTypeRef.TheVariants as refs
 
 -- what stands in the scope stands in the component type
 pub used-outside : (e : InterfaceEncoder) (i : ℕ) → UsedStand (interface_encoder_view e).scope.packages (interface_encoder_view e).scope.instances i

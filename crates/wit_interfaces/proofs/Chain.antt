@@ -1,16 +1,13 @@
 -- Interfaces imported one after the other.
 use Rattle.std.proofs.Common.{◌≡◌, inl, inr, refl, sym, subst, ap, ◌∙◌, ℕ, zero, suc, ◌+◌, ◌<◌, ◌≤◌, true, List, [], ◌∷◌, ◌++◌, length, take, drop, Some, slice_get, is_some, arith}
+use Rattle.std.proofs.lemmas.{List.Elements.Contains-append_cases, Option.same_Some as same-some}
 use Rattle.std.specs.List.{Contains}
-use Rattle.std.proofs.lemmas.List.Elements.{Contains-append_cases}
-use Rattle.wit_model.specs.Lookup.{interface_path}
-use Rattle.wit_model.specs.Uses.{direct_deps}
-use Rattle.wit_model.specs.declared.model.Resolve.{Resolve}
-use Rattle.wit_model.specs.declared.model.InterfaceId.{InterfaceId}
+use Rattle.wit_model.specs.{Lookup.interface_path, Uses.direct_deps}
+use Rattle.wit_model.specs.declared.model.{Resolve.Resolve, InterfaceId.InterfaceId}
 use Rattle.encode_types.specs.Known.{UsedStand}
 use Rattle.wit_encode.specs.Dependencies.{AreImportable}
 use Rattle.wit_encode.proofs.ImportLoop.{earlier-at, item, number-at, numbers, take-next}
 use Rattle.wit_interfaces.specs.InterfaceEncoders.{InterfaceEncoder, Imports, ImportsAll, ImportsInPart, ImportsSome, ImportsUpTo, LacksOneImport, LacksRoomToImport, LeavesInterfaces, interface_encoder_view}
-use Rattle.std.proofs.lemmas.Option.{same_Some as same-some}
 
 pub leaves-both : (e m e' : InterfaceEncoder) → LeavesInterfaces e m → LeavesInterfaces m e' → LeavesInterfaces e e'
 leaves-both e m e' first second = record {

@@ -1,53 +1,30 @@
 -- What an encoder of interfaces leaves: behind aliases, an instance type, and an import that uses it, it can be used on.
 use Rattle.std.proofs.Common.{◌≡◌, refl, sym, subst, ap, ◌∙◌, ℕ, zero, suc, ◌+◌, ◌≤◌, ◌<◌, nat_lt, nat_cmp, Bool, true, false, ◌&&◌, if◌then◌else◌, List, [], ◌∷◌, ◌++◌, length, length-append, Some, slice_get, is_some, arith}
-use Rattle.std.specs.BTreeMap.{insert_entry, is_at}
-use Rattle.std.specs.Ordering.{is_eq}
-use Rattle.std.proofs.lemmas.Cmp.{nat_cmp_total}
-use Rattle.std.specs.List.{Contains, filter, list_all}
-use Rattle.std.specs.Option.{option_map_or}
-use Rattle.std.proofs.Math.Seq.{take-append_seam}
-use Rattle.std.proofs.lemmas.Bool.{lt-ltb, and_from as both}
-use Rattle.std.proofs.lemmas.List.Folds.{list_all-append}
-use Rattle.wit_model.specs.Text.{Text}
-use Rattle.wit_model.specs.Lookup.{interface_path, place_of, place_of_path}
-use Rattle.wit_model.specs.Valid.{IsValid}
-use Rattle.wit_model.specs.declared.model.Resolve.{Resolve}
-use Rattle.wit_model.specs.declared.model.Interface.{Interface}
-use Rattle.wit_model.specs.declared.model.InterfaceId.{InterfaceId}
-use Rattle.wit_model.specs.declared.model.WorldId.{WorldId}
-use Rattle.wit_model.specs.declared.model.Function.{Function}
-use Rattle.wit_model.specs.declared.model.TypeOwner.TheVariants as owner
-use Rattle.comp_bytes.specs.Raw.{Declaration, Declarations, ExternName, append, from_list}
-use Rattle.comp_bytes.specs.Held.{type_slots_of}
-use Rattle.comp_bytes.specs.declared.forms.ComponentTypeRef.TheVariants as refs
-use Rattle.comp_meaning.specs.Follow as follow
+use Rattle.std.proofs.{lemmas.Cmp.nat_cmp_total, Math.Seq.take-append_seam, lemmas.Bool.lt-ltb, lemmas.Bool.and_from as both, lemmas.List.Folds.list_all-append}
+use Rattle.std.specs.{BTreeMap.insert_entry, BTreeMap.is_at, Ordering.is_eq, List.Contains, List.filter, List.list_all, Option.option_map_or}
+use Rattle.wit_model.specs.{Text.Text, Lookup.interface_path, Lookup.place_of, Lookup.place_of_path, Valid.IsValid}
+use Rattle.wit_model.specs.declared.model.{Resolve.Resolve, Interface.Interface, InterfaceId.InterfaceId, WorldId.WorldId, Function.Function}
+use Rattle.comp_bytes.specs.{Raw.Declaration, Raw.Declarations, Raw.ExternName, Raw.append, Raw.from_list, Held.type_slots_of}
 use Rattle.comp_meaning.specs.Follow.{import_, Key, Slot, View as InstanceView, component_step, in_scope, instance_types, instance_view, new_scope, see, used_view}
 use Rattle.encode_shown.specs.Views.{ShowsTypes}
-use Rattle.encode_names.specs.WorldNames.{name_of_interface}
-use Rattle.encode_names.specs.WorldSteps.{declared_towards, seen_instance, with_instance}
+use Rattle.encode_names.specs.{WorldNames.name_of_interface, WorldSteps.declared_towards, WorldSteps.seen_instance, WorldSteps.with_instance}
 use Rattle.encode_names.proofs.PathsRead.{path-key}
 use Rattle.encode_names.proofs.WorldSteps.{below-more, instance-step, slot-behind, types-appended, unused}
 use Rattle.encode_types.specs.declared.maps.TypeEncodingMaps.{TypeEncodingMaps}
 use Rattle.encode_types.specs.Known.{Around, GrowsAround, no_around, are_right, below, is_standing, known_instance, outer_instances, outer_scope, outer_slots, standing_instances, stands_around}
-use Rattle.encode_types.specs.Scope.{Scope}
-use Rattle.encode_types.specs.Slots.{Keeps}
-use Rattle.encode_types.specs.Standing.{SlotsStand, is_slot_of}
-use Rattle.encode_types.specs.View.{View}
+use Rattle.encode_types.specs.{Scope.Scope, Slots.Keeps, Standing.SlotsStand, Standing.is_slot_of, View.View}
 use Rattle.encode_types.proofs.Tables.{equal-self}
 use Rattle.wit_encode.specs.Dependencies.{imported_instance, with_import}
-use Rattle.wit_encode.specs.Instance.{EncodesPart}
-use Rattle.wit_encode.specs.Worlds.{is_sound_outside, used_types, world_resources, world_scope, world_view}
-use Rattle.wit_encode.proofs.Components.{steps-count, steps-instance, steps-more}
-use Rattle.wit_encode.proofs.Contents.{slots-kept}
-use Rattle.wit_encode.proofs.Imported.{at-same}
-use Rattle.wit_encode.proofs.Importing.{importable-stands, right-more}
-use Rattle.wit_encode.proofs.ImportLoop.{path-in-range}
-use Rattle.wit_encode.proofs.ImportsStand.{instance-stands}
-use Rattle.wit_encode.proofs.LatestInstances.{found-other, stands-then}
-use Rattle.wit_encode.proofs.WorldAliases.{Leaves, aliases-leave}
-use Rattle.wit_encode.proofs.WorldScope.{SoundOutside, sound-again, sound-outside}
+use Rattle.wit_encode.specs.{Instance.EncodesPart, Worlds.is_sound_outside, Worlds.used_types, Worlds.world_resources, Worlds.world_scope, Worlds.world_view}
+use Rattle.wit_encode.proofs.{Components.steps-count, Components.steps-instance, Components.steps-more, WorldAliases.Leaves, WorldAliases.aliases-leave}
+use Rattle.wit_encode.proofs.{Contents.slots-kept, Imported.at-same}
+use Rattle.wit_encode.proofs.{Importing.importable-stands, Importing.right-more, WorldScope.SoundOutside, WorldScope.sound-again, WorldScope.sound-outside}
+use Rattle.wit_encode.proofs.{ImportLoop.path-in-range, ImportsStand.instance-stands, LatestInstances.found-other, LatestInstances.stands-then}
 use Rattle.wit_interfaces.specs.InterfaceEncoders.{CanEncodeInterfaces}
 use Rattle.base_lemmas.proofs.Elements.{filter_kept as filter-contains}
+use Rattle.wit_model.specs.declared.model.TypeOwner.TheVariants as owner
+use Rattle.comp_bytes.specs.declared.forms.ComponentTypeRef.TheVariants as refs
+use Rattle.comp_meaning.specs.Follow as follow
 
 -- ---- lists
 

@@ -1,25 +1,15 @@
 -- An encoder of interfaces as its users see it: what it holds, what its calls ask and leave.
 use Rattle.std.specs.Prelude.{ℕ, ◌≡◌, ◌≤◌, ◌⊎◌, Bool, true, false, List, [], ◌∷◌, ◌++◌, length, map, nat_lt, Some, is_some}
 use Rattle.std.specs.List.{Contains, list_all}
-use Rattle.wit_model.specs.Lookup.{interface_at}
-use Rattle.wit_model.specs.Valid.{IsValid}
-use Rattle.wit_model.specs.declared.model.Interface.{Interface}
-use Rattle.wit_model.specs.declared.model.InterfaceId.{InterfaceId}
-use Rattle.wit_model.specs.declared.model.Resolve.{Resolve}
-use Rattle.wit_model.specs.declared.model.TypeOwner.{TypeOwner}
-use Rattle.wit_model.specs.declared.model.TypeOwner.TheVariants as owner
+use Rattle.wit_model.specs.{Lookup.interface_at, Valid.IsValid}
+use Rattle.wit_model.specs.declared.model.{Interface.Interface, InterfaceId.InterfaceId, Resolve.Resolve, TypeOwner.TypeOwner}
 use Rattle.encode_reach.specs.Reach.{reached_in_order}
-use Rattle.encode_types.specs.Known.{Around, known_instance}
-use Rattle.encode_types.specs.Slots.{Keeps}
-use Rattle.encode_types.specs.View.{Grows, View}
+use Rattle.encode_types.specs.{Known.Around, Known.known_instance, Slots.Keeps, View.Grows, View.View}
 use Rattle.wit_interfaces.specs.declared.encoder.InterfaceEncoderOf.{InterfaceEncoderOf}
-use Rattle.wit_encode.specs.Dependencies.{ImportsTypes}
-use Rattle.wit_encode.specs.DependencyRoom.{LacksImport}
-use Rattle.wit_encode.specs.Encoders.{InterfaceLacksRoom}
+use Rattle.wit_encode.specs.{Dependencies.ImportsTypes, DependencyRoom.LacksImport, Encoders.InterfaceLacksRoom, OwnerScope.IsScopeOf}
 use Rattle.wit_encode.specs.Instance.{AliasesFor, AliasesForTypes, EncodesDependency, EncodesInterface, LacksInstanceRoom, whole_interface}
-use Rattle.wit_encode.specs.OwnerScope.{IsScopeOf}
-use Rattle.wit_encode.specs.Worlds.{WorldEncoder, world_around, world_encoder_view}
-use Rattle.wit_encode.specs.WrittenBytes.{AddsBytes, whole_extent}
+use Rattle.wit_encode.specs.{Worlds.WorldEncoder, Worlds.world_around, Worlds.world_encoder_view, WrittenBytes.AddsBytes, WrittenBytes.whole_extent}
+use Rattle.wit_model.specs.declared.model.TypeOwner.TheVariants as owner
 
 -- an encoder of an interface, over an encoder of a world
 abbrev pub InterfaceEncoder : Type 0

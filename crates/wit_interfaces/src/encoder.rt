@@ -2,22 +2,14 @@
 
 ghost use Rattle.std.proofs.Common.{refl};
 ghost use Rattle.std.specs.Prelude.{◌≡◌, ◌<◌, [], true, false, None, Some, Err, IfErr, IfOk, OnErr, OnOk, is_some, length, ℕ};
-ghost use Rattle.std.specs.List.{Contains};
-ghost use Rattle.std.specs.BTreeMap.{insert_entry};
-ghost use Rattle.std.specs.Ordering.{nat_cmp};
-ghost use Rattle.comp_bytes.specs.Raw.{Declaration};
-ghost use Rattle.comp_bytes.specs.RawOf.{raw_name};
-ghost use Rattle.comp_bytes.specs.Refusal.{IsMemoryOrSize};
-ghost use Rattle.comp_bytes.specs.declared.forms.ComponentTypeRef.TheVariants as refs;
-ghost use Rattle.wit_model.specs.Lookup.{interface_path};
-ghost use Rattle.wit_model.specs.Valid.{IsValid};
+ghost use Rattle.std.specs.{List.Contains, BTreeMap.insert_entry, Ordering.nat_cmp};
+ghost use Rattle.comp_bytes.specs.{Raw.Declaration, RawOf.raw_name, Refusal.IsMemoryOrSize};
+ghost use Rattle.wit_model.specs.{Lookup.interface_path, Valid.IsValid};
 ghost use Rattle.wit_model.specs.declared.error.Error.TheVariants.{Size};
-ghost use Rattle.encode_types.specs.Known.{UsedStand, known_instance, no_around};
-ghost use Rattle.encode_types.specs.View.{Agrees};
-ghost use Rattle.wit_encode.specs.Dependencies.{AreImportable};
-ghost use Rattle.wit_encode.specs.Encoders.{declared_after};
+ghost use Rattle.encode_types.specs.{Known.UsedStand, Known.known_instance, Known.no_around, View.Agrees};
+ghost use Rattle.wit_encode.specs.{Dependencies.AreImportable, Encoders.declared_after, WorldHolds.LacksDeclaration};
 ghost use Rattle.wit_interfaces.specs.InterfaceEncoders.{AddsAliases, AddsInterfaceBytes, CanEncodeInterfaces, EncodesInterfaceAs, has_listed, Imports, ImportsAll, ImportsInPart, ImportsReached, ImportsReachedInPart, ImportsSome, LacksOneImport, LacksReached, LacksRoomFor, LacksRoomToImport, LeavesInterfaces, component_of, has_canonical_names, interface_encoder_view, numbers_of, packages_of, standing_in};
-ghost use Rattle.wit_encode.specs.WorldHolds.{LacksDeclaration};
+ghost use Rattle.comp_bytes.specs.declared.forms.ComponentTypeRef.TheVariants as refs;
 
 use comp_bytes::{
     ComponentDefinedType, ComponentExternName, ComponentFuncType, ComponentType, ComponentTypeRef,

@@ -1,9 +1,8 @@
 -- Tokens added one after another.
 use Rattle.std.proofs.Common.{◌≡◌, ◌∙◌, sym, ap, subst, refl, ℕ, ◌+◌, ◌<◌, ◌≤◌, List, [], ◌∷◌, ◌++◌, drop, get_or, length, append-nil, append_assoc, Result, Ok, Err, OnOk}
-use Rattle.std.specs.List.{flat_map}
 use Rattle.std.proofs.lemmas.List.{drop_more, drop_all}
-use Rattle.json.specs.Token.{Token}
-use Rattle.json.specs.Written.{Written, Writes}
+use Rattle.std.specs.List.{flat_map}
+use Rattle.json.specs.{Token.Token, Written.Written, Written.Writes}
 use Rattle.wit_json.specs.Adds.{Adds}
 
 -- one token

@@ -1,7 +1,6 @@
 -- Parts, and a last token behind them.
 use Rattle.std.proofs.Common.{◌≡◌, List, [], ◌∷◌, ◌++◌, Result, Ok, Err, OnOk}
-use Rattle.json.specs.Token.{Token}
-use Rattle.json.specs.Written.{Written, Writes}
+use Rattle.json.specs.{Token.Token, Written.Written, Written.Writes}
 use Rattle.wit_json.specs.Adds.{Adds}
 use Rattle.wit_json.proofs.Adding.{added, adds4}
 

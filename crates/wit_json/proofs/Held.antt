@@ -1,39 +1,24 @@
 -- The numbers of a valid `Resolve` are of 32 bits.
 use Rattle.std.proofs.Common.{◌≡◌, ◌∙◌, sym, refl, ℕ, suc, ◌≤◌, Bool, true, ◌&&◌, List, [], ◌∷◌, ◌++◌, map, filter_map, length, slice_get, option_to_list, Option, Some, None, arith, nat_lt, inl, inr}
+use Rattle.std.proofs.lemmas.{Bool.ltb-true, Bool.false≢true, Bool.and_from, List.Folds.list_all-append, List.Folds.list_all-map, Option.slice_get_cases}
 use Rattle.std.specs.List.{AllByRecursion, list_all}
-use Rattle.std.proofs.lemmas.Bool.{ltb-true, false≢true, and_from}
-use Rattle.std.proofs.lemmas.List.Folds.{list_all-append, list_all-map}
-use Rattle.std.proofs.lemmas.Option.{slice_get_cases}
 use Rattle.indexmap.specs.IndexMap.{values}
 use Rattle.base_lemmas.proofs.Bools.{left_of as first_true, right_of as second_true}
-use Rattle.wit_model.specs.declared.model.Resolve.{Resolve}
-use Rattle.wit_model.specs.declared.model.Package.{Package}
-use Rattle.wit_model.specs.declared.model.PackageId.{PackageId}
-use Rattle.wit_model.specs.declared.model.Interface.{Interface}
+use Rattle.wit_model.specs.declared.model.{Resolve.Resolve, PackageId.PackageId, TypeDefKind.TypeDefKind, «Type».«Type» as ValueType, FunctionKind.FunctionKind}
+use Rattle.wit_model.specs.declared.model.{Package.Package, Interface.Interface, WorldItem.WorldItem, TypeDef.TypeDef, TypeOwner.TypeOwner, Function.Function}
 use Rattle.wit_model.specs.declared.model.World.{World}
-use Rattle.wit_model.specs.declared.model.WorldItem.{WorldItem}
+use Rattle.wit_model.specs.{Types.number_of, Uses.alias_target, Valid.IsValid, Valid.is_place, Valid.numbers_in_range, Valid.shapes}
+use Rattle.wit_model.specs.{Parts.function_numbers, Parts.function_types, Parts.handled, Parts.kind_numbers, Parts.member_types, Lookup.resource_of}
+use Rattle.wit_model.specs.Rules.{entries_in_range, function_in_range, has_shape, in_list, item_in_range, key_in_range, owner_in_range, package_number, passes}
+use Rattle.wit_model.proofs.{Lists.list_all_filter_map, Lists.list_all_given, Lists.list_all_mapped, ValidLemmas.type_passes, ValidLemmas.world_passes}
+use Rattle.wit_model.proofs.OnePath.{interface-passes, package-passes}
+use Rattle.wit_json.specs.Small.{HasSmallFunction, HasSmallInterface, HasSmallItem, HasSmallPackage, HasSmallType, HasSmallWorld, IsSmall, IsSmallFunctionKind, IsSmallHome, IsSmallKind, IsSmallOwner, IsSmallType, ValidAreSmall}
 use Rattle.wit_model.specs.declared.model.WorldItem.TheVariants as item
-use Rattle.wit_model.specs.declared.model.TypeDef.{TypeDef}
-use Rattle.wit_model.specs.declared.model.TypeDefKind.{TypeDefKind}
 use Rattle.wit_model.specs.declared.model.TypeDefKind.TheVariants as kind
-use Rattle.wit_model.specs.declared.model.TypeOwner.{TypeOwner}
 use Rattle.wit_model.specs.declared.model.TypeOwner.TheVariants as owner
-use Rattle.wit_model.specs.declared.model.«Type».{«Type» as ValueType}
 use Rattle.wit_model.specs.declared.model.«Type».TheVariants as ty
 use Rattle.wit_model.specs.declared.model.Handle.TheVariants as handle
-use Rattle.wit_model.specs.declared.model.Function.{Function}
-use Rattle.wit_model.specs.declared.model.FunctionKind.{FunctionKind}
 use Rattle.wit_model.specs.declared.model.FunctionKind.TheVariants as call
-use Rattle.wit_model.specs.Types.{number_of}
-use Rattle.wit_model.specs.Uses.{alias_target}
-use Rattle.wit_model.specs.Parts.{function_numbers, function_types, handled, kind_numbers, member_types}
-use Rattle.wit_model.specs.Rules.{entries_in_range, function_in_range, has_shape, in_list, item_in_range, key_in_range, owner_in_range, package_number, passes}
-use Rattle.wit_model.specs.Lookup.{resource_of}
-use Rattle.wit_model.specs.Valid.{IsValid, is_place, numbers_in_range, shapes}
-use Rattle.wit_model.proofs.Lists.{list_all_filter_map, list_all_given, list_all_mapped}
-use Rattle.wit_model.proofs.OnePath.{interface-passes, package-passes}
-use Rattle.wit_model.proofs.ValidLemmas.{type_passes, world_passes}
-use Rattle.wit_json.specs.Small.{HasSmallFunction, HasSmallInterface, HasSmallItem, HasSmallPackage, HasSmallType, HasSmallWorld, IsSmall, IsSmallFunctionKind, IsSmallHome, IsSmallKind, IsSmallOwner, IsSmallType, ValidAreSmall}
 
 -- ---- lists
 

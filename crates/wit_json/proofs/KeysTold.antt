@@ -1,50 +1,26 @@
 -- In a valid `Resolve` the keys of maps are told by what they lead to.
 use Rattle.std.proofs.Common.{◌≡◌, ◌∙◌, sym, ap, refl, ℕ, suc, Bool, true, false, ◌&&◌, ◌||◌, not, ◌==◌, cond, nat_lt, List, [], ◌∷◌, map, count_by, slice_get, Some, option_map, option_and_then, unwrap_or, is_some, eq-eqb, String, string_bytes}
+use Rattle.std.proofs.lemmas.{Bool.true≢false, List.Folds.list_any-append}
 use Rattle.std.specs.declared.alloc.Global.{Global}
-use Rattle.std.specs.List.{list_all, list_any}
-use Rattle.std.specs.Map.{keys_of, values_of}
-use Rattle.std.specs.Option.{option_map_or}
-use Rattle.std.specs.Str.{bytes_eq}
-use Rattle.std.specs.HashMap.{get_by_text}
-use Rattle.std.proofs.lemmas.Bool.{true≢false}
-use Rattle.std.proofs.lemmas.List.Folds.{list_any-append}
+use Rattle.std.specs.{List.list_all, List.list_any, Map.keys_of, Map.values_of, Option.option_map_or, Str.bytes_eq, HashMap.get_by_text}
 use Rattle.indexmap.specs.IndexMap.{values}
-use Rattle.base_lemmas.proofs.Bools.{left_of as first_true, right_of as second_true}
-use Rattle.base_lemmas.proofs.Elements.{all_get, not_all}
-use Rattle.base_lemmas.proofs.Lists.{map_of_map, mapped_get}
-use Rattle.base_lemmas.proofs.Numbers.{equal as equal-numbers}
-use Rattle.base_lemmas.proofs.Options.{there as some-of}
-use Rattle.wit_model.specs.declared.model.Resolve.{Resolve}
-use Rattle.wit_model.specs.declared.model.Package.{Package}
-use Rattle.wit_model.specs.declared.model.Interface.{Interface}
-use Rattle.wit_model.specs.declared.model.InterfaceId.{InterfaceId}
-use Rattle.wit_model.specs.declared.model.World.{World}
-use Rattle.wit_model.specs.declared.model.WorldId.{WorldId}
-use Rattle.wit_model.specs.declared.model.WorldKey.{WorldKey}
-use Rattle.wit_model.specs.declared.model.WorldKey.TheVariants as key
-use Rattle.wit_model.specs.declared.model.WorldItem.{WorldItem}
-use Rattle.wit_model.specs.declared.model.WorldItem.TheVariants as item
-use Rattle.wit_model.specs.declared.model.TypeId.{TypeId}
-use Rattle.wit_model.specs.declared.model.«TypeOwner».{TypeOwner}
-use Rattle.wit_model.specs.declared.model.«TypeOwner».TheVariants as owner
-use Rattle.wit_model.specs.declared.model.Function.{Function}
-use Rattle.wit_model.specs.Text.{Text, text_of, text_eq}
-use Rattle.wit_model.specs.Names.{is_label}
-use Rattle.wit_model.specs.Lookup.{interface_at, interface_path, world_at}
+use Rattle.base_lemmas.proofs.{Bools.left_of as first_true, Bools.right_of as second_true, Elements.all_get, Elements.not_all, Numbers.equal as equal-numbers}
+use Rattle.base_lemmas.proofs.{Lists.map_of_map, Lists.mapped_get, Options.there as some-of}
+use Rattle.wit_model.specs.declared.model.{Resolve.Resolve, Package.Package, World.World, WorldId.WorldId, TypeId.TypeId, Function.Function}
+use Rattle.wit_model.specs.declared.model.{Interface.Interface, InterfaceId.InterfaceId, WorldKey.WorldKey, WorldItem.WorldItem, «TypeOwner».TypeOwner}
+use Rattle.wit_model.specs.{Text.Text, Text.text_of, Text.text_eq, Names.is_label, Lookup.interface_at, Lookup.interface_path, Lookup.world_at}
 use Rattle.wit_model.specs.Parts.{kind_numbers, same_owner}
 use Rattle.wit_model.specs.Rules.{entries_in_range, entries_labels, export_stands, import_stands, in_list, interface_type_numbers, is_id, is_interface_key, is_listed, is_listed_in_interface, is_member, is_named_of, is_stability, item_in_range, item_labels, key_in_range, key_label, package_number, passes, text_is}
 use Rattle.wit_model.specs.Valid.{IsValid, as_interface, function_names, is_place, labels, names_in_packages, numbers_in_range, order_of_types, world_items}
-use Rattle.wit_model.proofs.Listed.{misfit}
+use Rattle.wit_model.proofs.{Listed.misfit, TextLemmas.text_named, TextLemmas.text_same, ValidLemmas.type_passes, ValidLemmas.world_passes}
 use Rattle.wit_model.proofs.Listings.{given_all, given_found}
-use Rattle.wit_model.proofs.NameLaws.{label_lacks}
-use Rattle.wit_model.proofs.OnePath.{found-in, has-path, interface-passes, named-path, package-passes}
-use Rattle.wit_model.proofs.TextLemmas.{text_named, text_same}
-use Rattle.wit_model.proofs.ValidLemmas.{type_passes, world_passes}
+use Rattle.wit_model.proofs.{NameLaws.label_lacks, OnePath.found-in, OnePath.has-path, OnePath.interface-passes, OnePath.named-path, OnePath.package-passes}
 use Rattle.wit_json.specs.Bare.{bare, bare_entry, bare_function, bare_interface, bare_item, bare_package, bare_type, bare_world}
 use Rattle.wit_json.specs.Keys.{BareKey, KeysAreTold, MapKeys, ValidTextsTell, bare_key, interface_key, interface_name, is_path, name_key, told_key, told_keys, type_name, world_name}
-use Rattle.wit_json.proofs.Codes.{cons_same, pair_same}
-use Rattle.wit_json.proofs.Held.{valid_are_small}
-use Rattle.wit_json.proofs.Told.{texts_tell}
+use Rattle.wit_json.proofs.{Codes.cons_same, Codes.pair_same, Held.valid_are_small, Told.texts_tell}
+use Rattle.wit_model.specs.declared.model.WorldKey.TheVariants as key
+use Rattle.wit_model.specs.declared.model.WorldItem.TheVariants as item
+use Rattle.wit_model.specs.declared.model.«TypeOwner».TheVariants as owner
 
 -- ---- lists
 

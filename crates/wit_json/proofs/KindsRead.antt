@@ -1,20 +1,15 @@
 -- What types are, told from their tokens.
 use Rattle.std.proofs.Common.{◌≡◌, ◌∙◌, ap, ℕ, ◌<◌, ◌^◌, List, [], ◌∷◌, ◌++◌, map, append_assoc, refl, Option, Some, None, arith, codes, Bool, ◌||◌}
-use Rattle.std.specs.Prelude.{if◌then◌else◌}
-use Rattle.std.specs.List.{flat_map, AllByRecursion}
-use Rattle.std.specs.Fmt.{decimal}
-use Rattle.std.specs.Str.Parse.{digits_value}
 use Rattle.std.proofs.lemmas.Fmt.{decimal_is_IsNumeral}
+use Rattle.std.specs.{Prelude.if◌then◌else◌, List.flat_map, List.AllByRecursion, Fmt.decimal, Str.Parse.digits_value}
 use Rattle.json.specs.Token.{Token, begin_object, end_object, begin_array, end_array, key, string, number}
-use Rattle.wit_model.specs.declared.model.TypeDefKind.{TypeDefKind}
+use Rattle.wit_model.specs.declared.model.{TypeDefKind.TypeDefKind, «Type».«Type» as ValueType}
+use Rattle.wit_model.specs.Text.{Text, text_of, text_eq}
+use Rattle.wit_json.specs.{Bare.BareKind, Bare.bare_kind, Bare.with_members, Bare.with_types, Small.IsSmall, Small.IsSmallKind, Small.IsSmallType}
+use Rattle.wit_json.specs.Listed.{kind_tokens, name_object, type_or_null, type_token, typed_object}
 use Rattle.wit_model.specs.declared.model.TypeDefKind.TheVariants as kind
-use Rattle.wit_model.specs.declared.model.«Type».{«Type» as ValueType}
 use Rattle.wit_model.specs.declared.model.«Type».TheVariants as ty
 use Rattle.wit_model.specs.declared.model.Handle.TheVariants as handle
-use Rattle.wit_model.specs.Text.{Text, text_of, text_eq}
-use Rattle.wit_json.specs.Bare.{BareKind, bare_kind, with_members, with_types}
-use Rattle.wit_json.specs.Listed.{kind_tokens, name_object, type_or_null, type_token, typed_object}
-use Rattle.wit_json.specs.Small.{IsSmall, IsSmallKind, IsSmallType}
 
 -- ---- numbers and types
 

@@ -1,40 +1,22 @@
 -- Entries, told from their tokens.
 use Rattle.std.proofs.Common.{◌≡◌, ◌∙◌, sym, ap, ℕ, List, [], ◌∷◌, ◌++◌, map, refl, codes, Option, Some, None, option_map}
-use Rattle.std.specs.Prelude.{if◌then◌else◌, ⊤}
-use Rattle.std.specs.List.{AllByRecursion}
-use Rattle.std.specs.Str.Parse.{digits_value}
-use Rattle.std.proofs.lemmas.Bool.{true≢false}
-use Rattle.std.proofs.lemmas.Fmt.{decimal_injective}
+use Rattle.std.proofs.lemmas.{Bool.true≢false, Fmt.decimal_injective}
+use Rattle.std.specs.{Prelude.if◌then◌else◌, Prelude.⊤, List.AllByRecursion, Str.Parse.digits_value}
 use Rattle.indexmap.specs.IndexMap.{values}
 use Rattle.json.specs.Token.{Token, begin_object, end_object, begin_array, end_array, key, string, number, null}
-use Rattle.wit_model.specs.declared.model.Resolve.{Resolve}
-use Rattle.wit_model.specs.declared.model.Package.{Package}
-use Rattle.wit_model.specs.declared.model.PackageId.{PackageId}
-use Rattle.wit_model.specs.declared.model.PackageName.{PackageName}
-use Rattle.wit_model.specs.declared.model.Interface.{Interface}
-use Rattle.wit_model.specs.declared.model.InterfaceId.{InterfaceId}
-use Rattle.wit_model.specs.declared.model.World.{World}
-use Rattle.wit_model.specs.declared.model.WorldId.{WorldId}
-use Rattle.wit_model.specs.declared.model.WorldKey.{WorldKey}
-use Rattle.wit_model.specs.declared.model.WorldItem.{WorldItem}
-use Rattle.wit_model.specs.declared.model.WorldItem.TheVariants as item
-use Rattle.wit_model.specs.declared.model.TypeDef.{TypeDef}
-use Rattle.wit_model.specs.declared.model.TypeId.{TypeId}
-use Rattle.wit_model.specs.declared.model.TypeOwner.{TypeOwner}
-use Rattle.wit_model.specs.declared.model.TypeOwner.TheVariants as owner
-use Rattle.wit_model.specs.declared.model.«Type».{«Type» as ValueType}
-use Rattle.wit_model.specs.declared.model.Function.{Function}
-use Rattle.wit_model.specs.declared.model.FunctionKind.{FunctionKind}
-use Rattle.wit_model.specs.declared.model.FunctionKind.TheVariants as call
-use Rattle.wit_model.specs.declared.model.Param.{Param}
-use Rattle.wit_model.specs.Text.{Text, text_of, text_eq, optional_text}
-use Rattle.wit_model.specs.Lookup.{key_text, optional_version_text}
+use Rattle.wit_model.specs.declared.model.{Resolve.Resolve, Package.Package, WorldId.WorldId, TypeDef.TypeDef, Function.Function, Param.Param}
+use Rattle.wit_model.specs.declared.model.{PackageId.PackageId, Interface.Interface, WorldKey.WorldKey, WorldItem.WorldItem, TypeId.TypeId, TypeOwner.TypeOwner}
+use Rattle.wit_model.specs.declared.model.{PackageName.PackageName, InterfaceId.InterfaceId, World.World, «Type».«Type» as ValueType, FunctionKind.FunctionKind}
+use Rattle.wit_model.specs.{Text.Text, Text.text_of, Text.text_eq, Text.optional_text, Lookup.key_text, Lookup.optional_version_text}
 use Rattle.wit_json.specs.Bare.{BareFunction, BareInterface, BareItem, BareKind, BarePackage, BareResolve, BareType, BareWorld, bare_entry, bare_function, bare_interface, bare_item, bare_kind, bare_package, bare_type, bare_world}
 use Rattle.wit_json.specs.Bare.BareItem.{interface, function, type_}
 use Rattle.wit_json.specs.Listed.{entry_tokens, external_member, function_kind_tokens, function_tokens, interface_tokens, item_tokens, kind_tokens, listed, member, number_entry, number_or_null, number_token, owner_tokens, package_name_tokens, package_tokens, param_tokens, text_or_null, tokens_of, type_or_null, type_tokens, world_tokens}
 use Rattle.wit_json.specs.Small.{HasSmallFunction, HasSmallInterface, HasSmallItem, HasSmallNumbers, HasSmallPackage, HasSmallType, HasSmallWorld, IsSmall, IsSmallFunctionKind, IsSmallHome, IsSmallKind, IsSmallOwner, IsSmallType, NothingElseIsLost, TextsTell}
 use Rattle.wit_json.proofs.Codes.{Begins, Tells, TellsToken, begins_object, tells_all, tells_as, tells_before, tells_behind, tells_of, tells_read, tells_token, tells_two}
 use Rattle.wit_json.proofs.KindsRead.{kind_read, kind_told, number_told, read_type, type_told, wide}
+use Rattle.wit_model.specs.declared.model.WorldItem.TheVariants as item
+use Rattle.wit_model.specs.declared.model.TypeOwner.TheVariants as owner
+use Rattle.wit_model.specs.declared.model.FunctionKind.TheVariants as call
 
 -- ---- single tokens
 

@@ -1,17 +1,12 @@
 -- The keys of the maps of a `Resolve`, which a listing leaves out, and how they are told from what it says: an entry's key is the name of what it leads to.
 use Rattle.std.specs.Prelude.{◌≡◌, ℕ, Bool, ◌==◌, List, [], map, if◌then◌else◌, option_and_then, unwrap_or, slice_get}
-use Rattle.std.specs.List.{list_any}
-use Rattle.std.specs.Option.{option_map_or}
+use Rattle.std.specs.{List.list_any, Option.option_map_or}
 use Rattle.indexmap.specs.IndexMap.{keys}
-use Rattle.wit_model.specs.declared.model.Resolve.{Resolve}
-use Rattle.wit_model.specs.declared.model.WorldKey.{WorldKey}
-use Rattle.wit_model.specs.declared.model.WorldKey.TheVariants as key
-use Rattle.wit_model.specs.Text.{Text, text_of}
-use Rattle.wit_model.specs.Valid.{IsValid}
-use Rattle.wit_json.specs.Listed.{member, number_token, whole_listing}
-use Rattle.wit_json.specs.Spelled.{Spells}
-use Rattle.wit_json.specs.Bare.{BareResolve, BareItem, interface, bare}
+use Rattle.wit_model.specs.declared.model.{Resolve.Resolve, WorldKey.WorldKey}
+use Rattle.wit_model.specs.{Text.Text, Text.text_of, Valid.IsValid}
+use Rattle.wit_json.specs.{Listed.member, Listed.number_token, Listed.whole_listing, Spelled.Spells, Bare.BareResolve, Bare.BareItem, Bare.interface, Bare.bare}
 use Rattle.wit_json.specs.Small.{IsSmall}
+use Rattle.wit_model.specs.declared.model.WorldKey.TheVariants as key
 
 -- The key of an import or an export: a name, or the number of an interface.
 pub data BareKey : Type 0 where

@@ -2,30 +2,17 @@
 use Rattle.std.specs.Prelude.{◌≡◌, ℕ, ◌<◌, ◌^◌, Option, Some, None, ⊤}
 use Rattle.std.specs.List.{AllByRecursion}
 use Rattle.indexmap.specs.IndexMap.{values}
-use Rattle.wit_model.specs.declared.model.Resolve.{Resolve}
-use Rattle.wit_model.specs.declared.model.Package.{Package}
-use Rattle.wit_model.specs.declared.model.PackageId.{PackageId}
-use Rattle.wit_model.specs.declared.model.Interface.{Interface}
-use Rattle.wit_model.specs.declared.model.World.{World}
-use Rattle.wit_model.specs.declared.model.WorldItem.{WorldItem}
+use Rattle.wit_model.specs.declared.model.{Resolve.Resolve, PackageId.PackageId, TypeDefKind.TypeDefKind, «Type».«Type» as ValueType, FunctionKind.FunctionKind}
+use Rattle.wit_model.specs.declared.model.{Package.Package, Interface.Interface, WorldItem.WorldItem, TypeDef.TypeDef, TypeOwner.TypeOwner, Function.Function}
+use Rattle.wit_model.specs.declared.model.{World.World, Handle.Handle}
+use Rattle.wit_model.specs.{Text.Text, Valid.IsValid}
+use Rattle.wit_json.specs.{Listed.member, Listed.number_token, Listed.tokens_of, Listed.whole_listing, Spelled.Spells, Bare.bare}
 use Rattle.wit_model.specs.declared.model.WorldItem.TheVariants as item
-use Rattle.wit_model.specs.declared.model.TypeDef.{TypeDef}
-use Rattle.wit_model.specs.declared.model.TypeDefKind.{TypeDefKind}
 use Rattle.wit_model.specs.declared.model.TypeDefKind.TheVariants as kind
-use Rattle.wit_model.specs.declared.model.TypeOwner.{TypeOwner}
 use Rattle.wit_model.specs.declared.model.TypeOwner.TheVariants as owner
-use Rattle.wit_model.specs.declared.model.«Type».{«Type» as ValueType}
 use Rattle.wit_model.specs.declared.model.«Type».TheVariants as ty
-use Rattle.wit_model.specs.declared.model.Handle.{Handle}
 use Rattle.wit_model.specs.declared.model.Handle.TheVariants as handle
-use Rattle.wit_model.specs.declared.model.Function.{Function}
-use Rattle.wit_model.specs.declared.model.FunctionKind.{FunctionKind}
 use Rattle.wit_model.specs.declared.model.FunctionKind.TheVariants as call
-use Rattle.wit_model.specs.Text.{Text}
-use Rattle.wit_model.specs.Valid.{IsValid}
-use Rattle.wit_json.specs.Listed.{member, number_token, tokens_of, whole_listing}
-use Rattle.wit_json.specs.Spelled.{Spells}
-use Rattle.wit_json.specs.Bare.{bare}
 
 -- a number of 32 bits
 abbrev pub IsSmall : ℕ → Type 0

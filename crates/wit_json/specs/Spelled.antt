@@ -1,9 +1,6 @@
 -- A text that spells tokens of JSON.
-use Rattle.std.specs.Prelude.{◌≡◌, List}
-use Rattle.std.specs.Str.{IsUtf8}
-use Rattle.json.specs.Lex.{tokens}
-use Rattle.json.specs.Print.{print}
-use Rattle.json.specs.Token.{Token}
+use Rattle.std.specs.{Prelude.◌≡◌, Prelude.List, Str.IsUtf8}
+use Rattle.json.specs.{Lex.tokens, Print.print, Token.Token}
 use Rattle.wit_model.specs.Text.{Text}
 
 -- The text is printed of these tokens, and reads back as them and no others.

@@ -3,8 +3,7 @@
 
 ghost use Rattle.std.specs.Prelude.{◌≡◌, ◌∷◌, ◌++◌, [], codes, OnOk};
 ghost use Rattle.json.specs.Token.{begin_object, key as key_token, string};
-ghost use Rattle.wit_model.specs.Lookup.{key_text};
-ghost use Rattle.wit_model.specs.Text.{text_of};
+ghost use Rattle.wit_model.specs.{Lookup.key_text, Text.text_of};
 ghost use Rattle.wit_json.specs.Adds.{Adds};
 ghost use Rattle.wit_json.specs.Listed.{entry_tokens, home_member, item_tokens, listed, member, world_tokens};
 

@@ -1,7 +1,6 @@
 //! Laws about the definitions.
 
-ghost use Rattle.wit_json.specs.Keys.{KeysAreTold, ValidTextsTell};
-ghost use Rattle.wit_json.specs.Small.{NothingElseIsLost, TextsTell, ValidAreSmall};
+ghost use Rattle.wit_json.specs.{Keys.KeysAreTold, Keys.ValidTextsTell, Small.NothingElseIsLost, Small.TextsTell, Small.ValidAreSmall};
 
 /// What a listing keeps: two `Resolve`s whose listings are of the same tokens, or of the same text, are the same by `bare`. That leaves out documentation,
 /// stability, and the keys of the maps of packages and interfaces: of such a map it has where the entries lead. Numbers are to be of 32 bits, as those of a

@@ -2,11 +2,9 @@
 #![tactic(auto, using(crate::proofs::Adding::adding))]
 
 ghost use Rattle.std.specs.Prelude.{◌≡◌, ◌∷◌, ◌++◌, [], codes, IfErr, IfOk, OnOk};
-ghost use Rattle.wit_model.specs.Refusals.{IsMemory};
-ghost use Rattle.wit_model.specs.Text.{text_of};
-ghost use Rattle.wit_json.specs.Adds.{Adds};
+ghost use Rattle.wit_model.specs.{Refusals.IsMemory, Text.text_of};
+ghost use Rattle.wit_json.specs.{Adds.Adds, Spelled.Spells};
 ghost use Rattle.wit_json.specs.Listed.{listing_begun, member, number_token, package_listing_tokens, whole_listing, world_listing_tokens};
-ghost use Rattle.wit_json.specs.Spelled.{Spells};
 
 use crate::lists::put_each_list;
 use crate::values::put_number;

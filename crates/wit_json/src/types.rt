@@ -3,8 +3,7 @@
 
 ghost use Rattle.std.specs.Prelude.{◌≡◌, ◌∷◌, ◌++◌, [], codes, OnOk};
 ghost use Rattle.json.specs.Token.{key};
-ghost use Rattle.wit_json.specs.Adds.{Adds};
-ghost use Rattle.wit_json.specs.Listed.{kind_tokens, owner_tokens, type_tokens};
+ghost use Rattle.wit_json.specs.{Adds.Adds, Listed.kind_tokens, Listed.owner_tokens, Listed.type_tokens};
 
 use crate::kinds::put_kind;
 use crate::values::{put_external_id, put_only_number, put_optional_text};

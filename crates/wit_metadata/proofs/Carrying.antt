@@ -1,21 +1,12 @@
 -- A component with a world's wrapper behind a custom section means the world.
 use Rattle.std.proofs.Common.{◌≡◌, ◌∙◌, refl, ap, subst, ℕ, Bool, List, [], ◌∷◌, ◌++◌, Some}
-use Rattle.wit_model.specs.Text.{Text, text_of}
-use Rattle.wit_model.specs.Lookup.{identity_of, world_at}
-use Rattle.wit_model.specs.Valid.{IsValid}
-use Rattle.wit_model.specs.declared.model.PackageName.{PackageName}
-use Rattle.wit_model.specs.declared.model.Resolve.{Resolve}
-use Rattle.wit_model.specs.declared.model.StringEncoding.{StringEncoding}
-use Rattle.wit_model.specs.declared.model.World.{World}
-use Rattle.comp_bytes.specs.Raw.{Declarations}
-use Rattle.comp_bytes.specs.Parts.{Part, sections_of_parts, top_slots}
-use Rattle.comp_bytes.specs.Spelling.{IsComponent}
-use Rattle.comp_bytes.specs.Writing.{component_bytes}
+use Rattle.wit_model.specs.{Text.Text, Text.text_of, Lookup.identity_of, Lookup.world_at, Valid.IsValid}
+use Rattle.wit_model.specs.declared.model.{PackageName.PackageName, Resolve.Resolve, StringEncoding.StringEncoding, World.World}
+use Rattle.comp_bytes.specs.{Raw.Declarations, Parts.Part, Parts.sections_of_parts, Parts.top_slots, Spelling.IsComponent, Writing.component_bytes}
 use Rattle.encode_exports.specs.ExportedParts.{one_exported}
 use Rattle.encode_exports.proofs.Exports.{all_exported}
 use Rattle.encode_shown.specs.PackageTypes.{IsWorldType}
-use Rattle.encode_shown.proofs.PackageTypes.{world-bytes-mean}
-use Rattle.encode_shown.proofs.WorldMeans.{world-label}
+use Rattle.encode_shown.proofs.{PackageTypes.world-bytes-mean, WorldMeans.world-label}
 use Rattle.wit_encode.specs.Packages.{WrapsWorld}
 use Rattle.wit_metadata.specs.Carried.{CarriesEncoding, CarriesWorld, HasHome, MeansWorld, encoding_part}
 use Rattle.wit_metadata.specs.Encodings.{code_of, section_name}

@@ -1,20 +1,13 @@
 -- The package of a world.
 use Rattle.std.proofs.Common.{◌≡◌, ◌∙◌, sym, subst, ap, ℕ, ◌<◌, Some, length}
-use Rattle.std.specs.Prelude.{is_some, option_and_then}
 use Rattle.std.proofs.lemmas.Option.{slice_get_within, same_Some as some-same}
-use Rattle.wit_model.specs.Lookup.{package_at, world_at}
-use Rattle.wit_model.specs.Meant.{package_of_world}
-use Rattle.wit_model.specs.Rules.{in_list, passes, package_number}
-use Rattle.wit_model.specs.Valid.{IsValid, is_place, numbers_in_range, places}
-use Rattle.wit_model.specs.declared.model.Package.{Package}
-use Rattle.wit_model.specs.declared.model.PackageId.{PackageId}
-use Rattle.wit_model.specs.declared.model.Resolve.{Resolve}
-use Rattle.wit_model.specs.declared.model.World.{World}
-use Rattle.wit_model.proofs.OnePath.{found-in}
+use Rattle.std.specs.Prelude.{is_some, option_and_then}
+use Rattle.wit_model.specs.{Lookup.package_at, Lookup.world_at, Meant.package_of_world}
+use Rattle.wit_model.specs.{Rules.in_list, Rules.passes, Rules.package_number, Valid.IsValid, Valid.is_place, Valid.numbers_in_range, Valid.places}
+use Rattle.wit_model.specs.declared.model.{Package.Package, PackageId.PackageId, Resolve.Resolve, World.World}
+use Rattle.wit_model.proofs.{OnePath.found-in, ValidLemmas.world_passes as world-passes}
 use Rattle.wit_metadata.specs.Carried.{HasHome}
-use Rattle.base_lemmas.proofs.Bools.{left_of as first_true, right_of as second_true}
-use Rattle.base_lemmas.proofs.Options.{there as some-of}
-use Rattle.wit_model.proofs.ValidLemmas.{world_passes as world-passes}
+use Rattle.base_lemmas.proofs.{Bools.left_of as first_true, Bools.right_of as second_true, Options.there as some-of}
 
 pub world-home : (r : Resolve) → IsValid r → (n : ℕ) (w : World) → world_at r n ≡ Some w → HasHome r w
 unfolding places numbers_in_range

@@ -1,25 +1,15 @@
 -- Sections in front of bytes, those behind them, and those that carry no world.
 use Rattle.std.proofs.Common.{◌≡◌, ◌≤◌, ◌<◌, ◌∙◌, ◌+◌, refl, sym, ap, subst, ℕ, suc, nat_eq, Bool, true, false, List, [], ◌∷◌, ◌++◌, append_assoc, append-nil, length, drop, Option, Some, None, Ok, Err, arith}
-use Rattle.std.specs.Prelude.{◌-◌}
-use Rattle.std.specs.Borrow.{Bor}
-use Rattle.std.specs.List.{AllByRecursion, flat_map, starts_with}
-use Rattle.std.proofs.lemmas.Bool.{true≢false}
-use Rattle.std.proofs.lemmas.Bool.Decides.{Decides-eqb}
-use Rattle.std.proofs.lemmas.Slice.Eq.{starts_is}
-use Rattle.std.proofs.lemmas.List.{length-append}
+use Rattle.std.proofs.lemmas.{Bool.true≢false, Bool.Decides.Decides-eqb, Slice.Eq.starts_is, List.length-append, Option.same_Some as some-same}
 use Rattle.std.proofs.Math.Seq.{drop-append_seam}
+use Rattle.std.specs.{Prelude.◌-◌, Borrow.Bor, List.AllByRecursion, List.flat_map, List.starts_with}
 use Rattle.wit_model.specs.declared.error.Error.{Error}
-use Rattle.wit_model.specs.declared.error.Error.TheVariants as errors
 use Rattle.comp_bytes.specs.Form.{Sequence}
-use Rattle.comp_bytes.specs.Answer.{Refuses}
-use Rattle.comp_bytes.specs.Frames.{IsCustom, IsFrame, ReadsCustom}
-use Rattle.comp_bytes.specs.Reading.{frame_at, name_at}
-use Rattle.comp_bytes.specs.Writing.{framed}
-use Rattle.comp_bytes.proofs.ComponentLaws.{frame_law}
-use Rattle.comp_bytes.proofs.PartLaws.{name_law}
+use Rattle.comp_bytes.specs.{Answer.Refuses, Frames.IsCustom, Frames.IsFrame, Frames.ReadsCustom, Reading.frame_at, Reading.name_at, Writing.framed}
+use Rattle.comp_bytes.proofs.{ComponentLaws.frame_law, PartLaws.name_law}
 use Rattle.wit_metadata.specs.Modules.{AreOthers, Carries, Framed, HasData, IsFrontData, IsFrontless, IsInFront, IsModule, IsNamed, IsStripped, IsUnbound, RefusesModule, TellsCarrying, carrying_name, module_bytes, module_preamble}
 use Rattle.base_lemmas.proofs.Lists.{is-nothing as no-bytes}
-use Rattle.std.proofs.lemmas.Option.{same_Some as some-same}
+use Rattle.wit_model.specs.declared.error.Error.TheVariants as errors
 
 -- ---- one section
 

@@ -1,24 +1,15 @@
 -- What the custom sections of a component say, section by section.
 use Rattle.std.proofs.Common.{◌≡◌, ◌∙◌, refl, sym, ap, subst, ℕ, suc, Bool, true, false, List, [], ◌∷◌, ◌++◌, append_assoc, append-nil, length, drop, Option, Some, None, Ok, option_map, arith}
-use Rattle.std.specs.Prelude.{◌<◌, ◌-◌, slice_get}
-use Rattle.std.specs.Borrow.{Bor}
-use Rattle.std.proofs.lemmas.Grind.{flat_map-append}
-use Rattle.std.proofs.lemmas.List.{length-append}
-use Rattle.std.proofs.Math.Seq.{drop-append_seam}
+use Rattle.std.proofs.{lemmas.Grind.flat_map-append, lemmas.List.length-append, Math.Seq.drop-append_seam}
+use Rattle.std.specs.{Prelude.◌<◌, Prelude.◌-◌, Prelude.slice_get, Borrow.Bor}
 use Rattle.wit_model.specs.Text.{Text, text_eq}
-use Rattle.wit_model.proofs.VersionLaws.{same_text}
+use Rattle.wit_model.proofs.{VersionLaws.same_text, TextLemmas.text_same}
 use Rattle.wit_model.specs.declared.model.StringEncoding.{StringEncoding}
-use Rattle.wit_model.specs.declared.model.StringEncoding.TheVariants as encodings
-use Rattle.comp_bytes.specs.Form.{Sequence}
-use Rattle.comp_bytes.specs.Frames.{IsCustom, IsFrame}
-use Rattle.comp_bytes.specs.Raw.{Section}
-use Rattle.comp_bytes.specs.Spelling.{IsComponent, IsSection, preamble}
+use Rattle.comp_bytes.specs.{Form.Sequence, Frames.IsCustom, Frames.IsFrame, Raw.Section, Spelling.IsComponent, Spelling.IsSection, Spelling.preamble}
 use Rattle.wit_metadata.specs.Carried.{contents_under, last_of}
-use Rattle.wit_metadata.specs.Encodings.{contents_of, section_name}
-use Rattle.wit_metadata.specs.Modules.{Framed}
-use Rattle.wit_metadata.specs.Said.{EncodingsAreReadBack, IsSaidIn, said_by}
+use Rattle.wit_metadata.specs.{Encodings.contents_of, Encodings.section_name, Modules.Framed, Said.EncodingsAreReadBack, Said.IsSaidIn, Said.said_by}
 use Rattle.wit_metadata.proofs.ModuleLaws.{one-custom, one-frame}
-use Rattle.wit_model.proofs.TextLemmas.{text_same}
+use Rattle.wit_model.specs.declared.model.StringEncoding.TheVariants as encodings
 
 -- no frame stands in front of these bytes
 abbrev pub IsFrameless : List ℕ → Type 0

@@ -1,27 +1,17 @@
 -- A component in which a world has no room: the world, carried so, is too heavy.
 use Rattle.std.proofs.Common.{◌≡◌, ◌≤◌, ◌<◌, ◌+◌, ◌&&◌, ◌⊎◌, inl, inr, ◌∙◌, ap, ℕ, Bool, false, List, [], ◌∷◌, length, option_map, option_to_list, Option, Some, arith, refl}
-use Rattle.std.specs.Prelude.{option_and_then}
-use Rattle.std.specs.Option.{option_map_or}
-use Rattle.std.proofs.lemmas.List.Sums.{sum_by-cons, sum_by-append}
-use Rattle.wit_model.specs.Text.{Text, text_of}
-use Rattle.wit_model.specs.Names.{path_in}
-use Rattle.wit_model.specs.Lookup.{identity_of, path_in_package, path_of_world, world_at}
-use Rattle.wit_model.specs.Weight.{exported_weight, unit_of, world_package_weight, world_weight, wrapped_weight}
-use Rattle.wit_model.specs.declared.model.Package.{Package}
-use Rattle.wit_model.specs.declared.model.PackageId.{PackageId}
-use Rattle.wit_model.specs.declared.model.Resolve.{Resolve}
-use Rattle.wit_model.specs.declared.model.World.{World}
-use Rattle.comp_bytes.specs.Raw.{Declarations, TopType}
-use Rattle.comp_bytes.specs.Parts.{Part, fits_component}
+use Rattle.std.proofs.lemmas.{List.Sums.sum_by-cons, List.Sums.sum_by-append, Bool.and_cases as either-false}
+use Rattle.std.specs.{Prelude.option_and_then, Option.option_map_or}
+use Rattle.wit_model.specs.{Text.Text, Text.text_of, Lookup.identity_of, Lookup.path_in_package, Lookup.path_of_world, Lookup.world_at}
+use Rattle.wit_model.specs.{Names.path_in, Weight.exported_weight, Weight.unit_of, Weight.world_package_weight, Weight.world_weight, Weight.wrapped_weight}
+use Rattle.wit_model.specs.declared.model.{Package.Package, PackageId.PackageId, Resolve.Resolve, World.World, StringEncoding.StringEncoding}
+use Rattle.comp_bytes.specs.{Raw.Declarations, Raw.TopType, Parts.Part, Parts.fits_component}
 use Rattle.encode_exports.specs.ExportedParts.{one_exported}
 use Rattle.encode_types.specs.Room.{limit}
-use Rattle.wit_encode.specs.PackageRoom.{IsHeavyWorld, part_extent, parts_extent}
-use Rattle.wit_encode.specs.Packages.{WrapsWorld}
+use Rattle.wit_encode.specs.{PackageRoom.IsHeavyWorld, PackageRoom.part_extent, PackageRoom.parts_extent, Packages.WrapsWorld}
 use Rattle.wit_encode.proofs.Lengths.{long-component}
 use Rattle.wit_encode.proofs.PackageWeighing.{extent-is, one-short, type-extent, wrapper-short}
 use Rattle.wit_metadata.specs.Carried.{HasHome, encoding_part}
-use Rattle.wit_model.specs.declared.model.StringEncoding.{StringEncoding}
-use Rattle.std.proofs.lemmas.Bool.{and_cases as either-false}
 
 -- the custom section in front
 says-extent : (e : StringEncoding) → part_extent (encoding_part e) ≡ 35

@@ -1,19 +1,10 @@
 -- What a component says that a module carries: a world, and how its strings pass (wit-component README, "Custom Section Format").
 use Rattle.std.specs.Prelude.{◌≡◌, ◌↔◌, ◌-◌, ℕ, Bool, if◌then◌else◌, List, [], ◌∷◌, length, Option, Some, slice_get}
 use Rattle.std.specs.List.{flat_map}
-use Rattle.wit_model.specs.declared.model.Package.{Package}
-use Rattle.wit_model.specs.declared.model.PackageId.{PackageId}
-use Rattle.wit_model.specs.declared.model.Resolve.{Resolve}
-use Rattle.wit_model.specs.declared.model.World.{World}
-use Rattle.wit_model.specs.Lookup.{identity_of, package_at, world_at}
-use Rattle.wit_model.specs.declared.model.StringEncoding.{StringEncoding}
-use Rattle.wit_model.specs.Meaning.{WorldPackage}
+use Rattle.wit_model.specs.declared.model.{Package.Package, PackageId.PackageId, Resolve.Resolve, World.World, StringEncoding.StringEncoding}
+use Rattle.wit_model.specs.{Lookup.identity_of, Lookup.package_at, Lookup.world_at, Meaning.WorldPackage, Text.Text, Text.text_eq, Text.text_of}
 use Rattle.wit_model.specs.Meant.{MeantWorld}
-use Rattle.wit_model.specs.Text.{Text, text_eq, text_of}
-use Rattle.comp_bytes.specs.Parts.{Part, sections_of_parts}
-use Rattle.comp_bytes.specs.Raw.{Declarations, Section}
-use Rattle.comp_bytes.specs.Spelling.{IsComponent}
-use Rattle.comp_bytes.specs.Writing.{component_bytes}
+use Rattle.comp_bytes.specs.{Parts.Part, Parts.sections_of_parts, Raw.Declarations, Raw.Section, Spelling.IsComponent, Writing.component_bytes}
 use Rattle.comp_meaning.specs.Reads.{ReadsWorld}
 use Rattle.encode_exports.specs.ExportedParts.{one_exported}
 use Rattle.wit_encode.specs.Packages.{WrapsWorld}

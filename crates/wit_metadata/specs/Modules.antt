@@ -1,16 +1,13 @@
 -- The sections of a core module, and a module without those that carry worlds (core specification, "Binary Format", "Modules" and "Custom
 -- Section"; wit-component README, "Custom Section Format").
 use Rattle.std.specs.Prelude.{◌≡◌, ◌≢◌, ◌<◌, ◌+◌, ℕ, nat_eq, Bool, true, false, List, [], ◌∷◌, ◌++◌, codes, length, Option, Some, None, Result, Ok, Err, Vec}
-use Rattle.std.specs.List.{AllByRecursion, flat_map, starts_with}
-use Rattle.std.specs.Borrow.{Bor}
+use Rattle.std.specs.{List.AllByRecursion, List.flat_map, List.starts_with, Borrow.Bor}
 use Rattle.std.specs.declared.alloc.Global.{Global}
 use Rattle.wit_model.specs.declared.error.Error.{Error}
-use Rattle.wit_model.specs.declared.error.Error.TheVariants as errors
 use Rattle.wit_model.specs.Text.{Text}
-use Rattle.comp_bytes.specs.Form.{Sequence}
-use Rattle.comp_bytes.specs.Frames.{IsCustom, IsFrame}
-use Rattle.comp_bytes.specs.Writing.{framed}
+use Rattle.comp_bytes.specs.{Form.Sequence, Frames.IsCustom, Frames.IsFrame, Writing.framed}
 use Rattle.comp_bytes.specs.declared.frames.Section.{Section}
+use Rattle.wit_model.specs.declared.error.Error.TheVariants as errors
 
 -- the bytes with which a core module begins
 abbrev pub module_preamble : List ℕ

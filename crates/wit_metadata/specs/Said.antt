@@ -1,15 +1,10 @@
 -- The encoding that a component says (wit-component README, "Custom Section Format").
 use Rattle.std.specs.Prelude.{◌≡◌, ◌==◌, if◌then◌else◌, ℕ, List, [], ◌∷◌, Option, Some, None, option_map, Result, Ok, Err}
 use Rattle.std.specs.Borrow.{Bor}
-use Rattle.wit_model.specs.declared.error.Error.{Error}
+use Rattle.wit_model.specs.declared.{error.Error.Error, model.StringEncoding.StringEncoding}
+use Rattle.comp_bytes.specs.{Frames.IsCustom, Raw.Section, Spelling.IsComponent}
+use Rattle.wit_metadata.specs.{Carried.CarriesEncoding, Carried.contents_under, Carried.last_of, Encodings.encoding_at, Encodings.section_name, Modules.Framed}
 use Rattle.wit_model.specs.declared.error.Error.TheVariants as errors
-use Rattle.wit_model.specs.declared.model.StringEncoding.{StringEncoding}
-use Rattle.comp_bytes.specs.Frames.{IsCustom}
-use Rattle.comp_bytes.specs.Raw.{Section}
-use Rattle.comp_bytes.specs.Spelling.{IsComponent}
-use Rattle.wit_metadata.specs.Carried.{CarriesEncoding, contents_under, last_of}
-use Rattle.wit_metadata.specs.Encodings.{encoding_at, section_name}
-use Rattle.wit_metadata.specs.Modules.{Framed}
 
 -- what a code says, if it stands for an encoding
 abbrev pub said_by_code : ℕ → Option StringEncoding → Result StringEncoding Error

@@ -1,7 +1,6 @@
 //! Laws of string encodings.
 
-ghost use Rattle.wit_metadata.specs.Encodings.{CodesAreRead};
-ghost use Rattle.wit_metadata.specs.Said.{EncodingsAreReadBack};
+ghost use Rattle.wit_metadata.specs.{Encodings.CodesAreRead, Said.EncodingsAreReadBack};
 
 /// The byte of an encoding stands for it, and no byte above 2 stands for one.
 pub fn codes_are_read()

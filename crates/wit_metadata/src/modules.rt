@@ -1,8 +1,7 @@
 //! Core modules, and the sections of them that carry worlds.
 
 ghost use Rattle.std.specs.Prelude.{◌≡◌, ◌≤◌, ◌^◌, ◌++◌, length, Err, None, IfErr, IfOk, OnOk};
-ghost use Rattle.comp_bytes.specs.Refusal.{IsMemoryOrSize};
-ghost use Rattle.comp_bytes.specs.Writing.{framed};
+ghost use Rattle.comp_bytes.specs.{Refusal.IsMemoryOrSize, Writing.framed};
 ghost use Rattle.wit_model.specs.declared.error.Error.TheVariants.{BadModule, NotAModule, Size};
 ghost use Rattle.wit_metadata.specs.Modules.{HasData, IsFrontData, IsFrontless, IsFrontSection, IsNoModule, RefusesModule, StripsModule, TellsCarrying, module_preamble};
 

@@ -1,11 +1,8 @@
 //! A world as the component that a module carries.
 
 ghost use Rattle.std.specs.Prelude.{◌≡◌, ◌<◌, true, Some, Err, IfErr, IfOk, OnOk, length};
-ghost use Rattle.wit_model.specs.Lookup.{world_at};
-ghost use Rattle.wit_model.specs.Valid.{IsValid};
-ghost use Rattle.wit_model.specs.Weight.{world_package_weight};
-ghost use Rattle.wit_model.specs.declared.error.Error.TheVariants.{Size};
-ghost use Rattle.wit_model.specs.declared.model.World.{World as WorldValue};
+ghost use Rattle.wit_model.specs.{Lookup.world_at, Valid.IsValid, Weight.world_package_weight};
+ghost use Rattle.wit_model.specs.declared.{error.Error.TheVariants.Size, model.World.World as WorldValue};
 ghost use Rattle.wit_encode.specs.Packages.{HasNoClashAt, RefusesWorldAt};
 ghost use Rattle.wit_metadata.specs.Carried.{CarriesEncoding, CarriesWorld, HasHome, MeansWorld};
 

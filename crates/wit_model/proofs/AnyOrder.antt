@@ -1,15 +1,10 @@
 -- Entries whose names differ make the same finite map in any order.
 use Rattle.std.proofs.Common.{◌≡◌, refl, sym, ap, ◌∙◌, zero, suc, Bool, true, false, cond, List, [], ◌∷◌, map, Option, Some, None, String, unwrap_or, arith}
-use Rattle.std.specs.Prelude.{IsPermutation}
-use Rattle.std.specs.List.{Contains, AllByRecursion, IsDistinct}
-use Rattle.std.specs.Ordering.{eq_by_cmp}
-use Rattle.std.specs.String.{string_eq}
+use Rattle.std.proofs.lemmas.{Cmp.nat_list_cmp_total, Cmp.nat_list_eq_equiv, Map.Text.is_eq-slice_cmp}
+use Rattle.std.proofs.lemmas.{Map.Keys.IsDistinct-IsPermutation, List.Sorted.IsPermutation-map, List.Sorted.IsPermutation-sym, List.Sorted.Contains-permutation}
+use Rattle.std.specs.{Prelude.IsPermutation, List.Contains, List.AllByRecursion, List.IsDistinct, Ordering.eq_by_cmp, String.string_eq}
 use Rattle.std.specs.FinMap.{find, from_entries, get-from_entries, same_map, slice_cmp-IsAntisymmetric, nat_cmp-IsAntisymmetric}
 use Rattle.std.specs.declared.alloc.Global.{Global}
-use Rattle.std.proofs.lemmas.Cmp.{nat_list_cmp_total, nat_list_eq_equiv}
-use Rattle.std.proofs.lemmas.Map.Text.{is_eq-slice_cmp}
-use Rattle.std.proofs.lemmas.Map.Keys.{IsDistinct-IsPermutation}
-use Rattle.std.proofs.lemmas.List.Sorted.{IsPermutation-map, IsPermutation-sym, Contains-permutation}
 use Rattle.wit_model.specs.Text.{Text, TextMap, text_of, text_eq, text_cmp}
 use Rattle.base_lemmas.proofs.Elements.{contains-map}
 use Rattle.wit_model.proofs.TextLemmas.{text_same as text-same}

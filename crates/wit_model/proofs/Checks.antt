@@ -1,18 +1,14 @@
 -- A list keeps a rule where each number of it passes, and a rule is kept where its four lists keep it.
 use Rattle.std.proofs.Common.{◌≡◌, refl, sym, ap, subst, ◌∙◌, ℕ, zero, suc, ◌+◌, ◌<◌, ◌≤◌, Bool, true, false, List, [], ◌∷◌, ◌++◌, Some, None, Option, slice_get, unwrap_or, option_map, length, nat_lt, T, ltb→lt, lit≤, arith}
-use Rattle.std.specs.List.{list_all}
 use Rattle.std.proofs.lemmas.Option.{slice_get_within, slice_get_past, same_Some as some_same}
-use Rattle.wit_model.specs.declared.error.EntryList.TheVariants as lists
-use Rattle.wit_model.specs.declared.model.Resolve.{Resolve}
-use Rattle.wit_model.specs.declared.model.TypeDef.{TypeDef}
-use Rattle.wit_model.specs.Lookup.{type_at}
-use Rattle.wit_model.specs.Parts.{kind_numbers}
-use Rattle.wit_model.specs.Rules.{each_from}
+use Rattle.std.proofs.lemmas.Bool.{and_from as both_true, and_left as fails_first}
+use Rattle.std.specs.List.{list_all}
+use Rattle.wit_model.specs.declared.model.{Resolve.Resolve, TypeDef.TypeDef}
+use Rattle.wit_model.specs.{Lookup.type_at, Parts.kind_numbers, Rules.each_from, Checks.KeepsIn, Checks.references, Checks.flags, Checks.entry_of}
 use Rattle.wit_model.specs.Valid.{Rule, Keeps, Breaks, free, entry_keeps, order_of_types}
-use Rattle.wit_model.specs.Checks.{KeepsIn, references, flags, entry_of}
 use Rattle.wit_model.proofs.Entries.{each_from_all, each_from_at, lists_pass, free_passes}
 use Rattle.base_lemmas.proofs.Lists.{at_last as get_last}
-use Rattle.std.proofs.lemmas.Bool.{and_from as both_true, and_left as fails_first}
+use Rattle.wit_model.specs.declared.error.EntryList.TheVariants as lists
 
 -- each number of the list passes the test
 all_pass : {A : Type 0} (test : ℕ → A → Bool) (xs : List A) → ((n : ℕ) → n < length xs → option_map (test n) (slice_get xs n) ≡ Some true) → each_from test 0 xs ≡ true

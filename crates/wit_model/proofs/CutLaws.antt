@@ -1,10 +1,7 @@
 -- A text is cut at the first place of a character.
 use Rattle.std.proofs.Common.{◌≡◌, refl, sym, ap, ◌∙◌, ℕ, suc, ◌+◌, ◌<◌, arith, Bool, true, false, cond, eqb, ◌==◌, List, [], ◌∷◌, length, Option, Some, None, option_map, not, take, drop}
-use Rattle.std.specs.Prelude.{MatchOption}
-use Rattle.std.specs.Borrow.{Bor}
-use Rattle.std.specs.List.{before_first, after_first, position_or_len}
-use Rattle.wit_model.specs.Names.{cut}
-use Rattle.wit_model.specs.Text.{Text}
+use Rattle.std.specs.{Prelude.MatchOption, Borrow.Bor, List.before_first, List.after_first, List.position_or_len}
+use Rattle.wit_model.specs.{Names.cut, Text.Text}
 
 cut_more : (c x : ℕ) (xs : Text) (b : Bool) → (x == c) ≡ b → cut c (x ∷ xs) ≡ cond b (Some ([], xs)) (option_map (λ p. (x ∷ p.0, p.1)) (cut c xs))
 unfolding cut

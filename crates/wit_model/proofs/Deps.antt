@@ -1,9 +1,8 @@
 -- A walk that lists each interface where it is first used, and none twice.
 use Rattle.std.proofs.Common.{◌≡◌, refl, sym, ap, subst, ◌∙◌, ℕ, Bool, true, false, ◌&&◌, ◌||◌, not, cond, ◌==◌, T, eqb→eq, map, List, [], ◌∷◌, ◌++◌, filter, arith}
-use Rattle.wit_model.specs.Uses.{once}
 use Rattle.std.proofs.lemmas.Bool.Decides.{nat_tests}
+use Rattle.wit_model.specs.{Uses.once, DirectDeps.number_of_interface, DirectDeps.yet_unlisted}
 use Rattle.wit_model.specs.declared.model.InterfaceId.{InterfaceId}
-use Rattle.wit_model.specs.DirectDeps.{number_of_interface, yet_unlisted}
 
 -- one filter after another
 filter_twice : (p q : ℕ → Bool) (ns : List ℕ) → filter p (filter q ns) ≡ filter (λ m. q m && p m) ns

@@ -1,14 +1,10 @@
 -- Nothing stands twice in a list exactly where each is new when it is added to those before it.
 use Rattle.std.proofs.Common.{◌≡◌, refl, sym, ap, ◌∙◌, ℕ, ◌+◌, ◌<◌, ◌≤◌, Bool, true, false, ◌&&◌, ◌||◌, not, cond, List, [], ◌∷◌, ◌++◌, map, drop, take, length, get_or}
-use Rattle.std.proofs.Math.ListN.{drop_of_length-le}
-use Rattle.std.proofs.lemmas.List.{drop-map, drop_more, map-append, take-map, take_more}
+use Rattle.std.proofs.{Math.ListN.drop_of_length-le, lemmas.Slice.Eq.bytes_eq-Decides}
+use Rattle.std.proofs.lemmas.{List.drop-map, List.drop_more, List.map-append, List.take-map, List.take_more, List.Folds.list_any-append}
 use Rattle.std.specs.List.{list_all, list_any}
-use Rattle.std.proofs.lemmas.List.Folds.{list_any-append}
-use Rattle.std.proofs.lemmas.Slice.Eq.{bytes_eq-Decides}
-use Rattle.wit_model.specs.Text.{Text, text_eq}
-use Rattle.wit_model.specs.Rules.{are_distinct}
-use Rattle.base_lemmas.proofs.Bools.{both_ways as either_way}
-use Rattle.base_lemmas.proofs.Elements.{any_of_map as list_any_mapped}
+use Rattle.wit_model.specs.{Text.Text, Text.text_eq, Rules.are_distinct}
+use Rattle.base_lemmas.proofs.{Bools.both_ways as either_way, Elements.any_of_map as list_any_mapped}
 
 pub not_is : (a b : Bool) → not a ≡ b → a ≡ not b
 not_is true b e = ap not e

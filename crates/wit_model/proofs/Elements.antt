@@ -1,15 +1,10 @@
 -- Lists, element by element.
 use Rattle.std.proofs.Common.{◌≡◌, refl, sym, ap, ◌∙◌, subst, ℕ, zero, suc, ◌+◌, ◌<◌, List, [], ◌∷◌, ◌++◌, map, filter_map, option_to_list, length, get_or, take, arith, Option, Some, None, Bool, true, false, ◌||◌, ◌==◌, flat_map, slice_get}
-use Rattle.std.proofs.lemmas.Option.{slice_get-get_or}
-use Rattle.std.specs.List.{Contains, AllZip, cons_option}
-use Rattle.wit_model.specs.Uses.{has}
-use Rattle.std.specs.Option.{is_some}
-use Rattle.std.specs.Prelude.{IfSome}
+use Rattle.std.proofs.lemmas.{Option.slice_get-get_or, List.Elements.filter_map-append, List.Elements.Contains-append_left, List.Elements.Contains-append_right}
 use Rattle.std.proofs.lemmas.List.{take_more, get_or_default}
-use Rattle.std.proofs.lemmas.List.Elements.{filter_map-append, Contains-append_left, Contains-append_right}
-use Rattle.base_lemmas.proofs.Bools.{or_true as or-true}
-use Rattle.base_lemmas.proofs.Elements.{contains-later}
-use Rattle.base_lemmas.proofs.Numbers.{equal, same-number}
+use Rattle.std.specs.{List.Contains, List.AllZip, List.cons_option, Option.is_some, Prelude.IfSome}
+use Rattle.wit_model.specs.Uses.{has}
+use Rattle.base_lemmas.proofs.{Bools.or_true as or-true, Elements.contains-later, Numbers.equal, Numbers.same-number}
 
 pub filter_map_one : {X Y : Type 0} (h : X → Option Y) (x : X) → filter_map h (x ∷ []) ≡ option_to_list (h x)
 filter_map_one h x = elim (h x) as (λ o. filter_map (λ y. o) (x ∷ []) ≡ option_to_list o) [ None ↦ refl | Some y ↦ refl ]

@@ -1,17 +1,10 @@
 -- The functions of a world are those of its imports and those of its exports.
 use Rattle.std.proofs.Common.{◌≡◌, ◌∙◌, refl, ap, ℕ, Bool, ◌&&◌, List, [], ◌∷◌, ◌++◌, filter_map, flat_map, option_to_list}
+use Rattle.std.proofs.lemmas.List.{Elements.filter_map-append, Folds.list_all-append, Concat.flat_map-append as flat_append}
 use Rattle.std.specs.List.{list_all}
-use Rattle.std.proofs.lemmas.List.Elements.{filter_map-append}
-use Rattle.std.proofs.lemmas.List.Folds.{list_all-append}
-use Rattle.wit_model.specs.declared.model.Function.{Function}
-use Rattle.wit_model.specs.declared.model.WorldItem.{WorldItem}
-use Rattle.wit_model.specs.declared.model.«Type».{«Type» as ValueType}
-use Rattle.wit_model.specs.Types.{number_of}
-use Rattle.wit_model.specs.Parts.{function_types}
-use Rattle.wit_model.specs.Checks.{values_of, all_values}
-use Rattle.wit_model.specs.Valid.{item_function}
+use Rattle.wit_model.specs.declared.model.{Function.Function, WorldItem.WorldItem, «Type».«Type» as ValueType}
+use Rattle.wit_model.specs.{Types.number_of, Parts.function_types, Checks.values_of, Checks.all_values, Valid.item_function}
 use Rattle.wit_model.proofs.Lists.{list_all_filter_map}
-use Rattle.std.proofs.lemmas.List.Concat.{flat_map-append as flat_append}
 
 pub of_items : (f : Function → List ℕ) (xs ys : List WorldItem)
     → flat_map f (filter_map item_function (xs ++ ys)) ≡ flat_map f (filter_map item_function xs) ++ flat_map f (filter_map item_function ys)

@@ -1,12 +1,8 @@
 -- What a type of an owner's list uses stands before it exactly where its place is smaller.
 use Rattle.std.proofs.Common.{◌≡◌, refl, sym, ap, ◌∙◌, ℕ, zero, suc, ◌+◌, ◌<◌, max, Bool, true, false, ◌&&◌, ◌||◌, not, cond, nat_lt, nat_le, List, [], ◌∷◌, take, length, filter_map, option_and_then, position, Some, None, Option, arith}
-use Rattle.std.specs.List.{list_all, cons_option, position_or_len}
-use Rattle.std.specs.Option.{option_map_or}
-use Rattle.std.specs.Map.{lookup, keys_of, values_of}
 use Rattle.std.proofs.lemmas.Bool.Decides.{nat_tests}
-use Rattle.wit_model.specs.Uses.{has}
-use Rattle.wit_model.specs.Rules.{is_id}
-use Rattle.wit_model.specs.Checks.{highest}
+use Rattle.std.specs.{List.list_all, List.cons_option, List.position_or_len, Option.option_map_or, Map.lookup, Map.keys_of, Map.values_of}
+use Rattle.wit_model.specs.{Uses.has, Rules.is_id, Checks.highest}
 use Rattle.base_lemmas.proofs.Bools.{left_of as first_true, right_of as second_true}
 
 zero_within : (p : ℕ) → nat_le 0 p ≡ true

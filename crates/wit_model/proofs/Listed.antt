@@ -1,12 +1,9 @@
 -- A number that a map finds under one key, and holds under no other, stands in the map's numbers once.
 use Rattle.std.proofs.Common.{◌≡◌, refl, sym, ap, subst, ◌∙◌, ℕ, zero, suc, ◌+◌, ◌≤◌, Bool, true, false, ◌&&◌, ◌||◌, not, cond, ◌==◌, List, [], ◌∷◌, filter_map, count_by, option_and_then, Some, None, Option, slice_get, arith}
-use Rattle.std.specs.List.{list_all, cons_option, find, IsDistinct, AllByRecursion}
-use Rattle.std.specs.Map.{lookup, keys_of, values_of}
-use Rattle.std.proofs.lemmas.Bool.Decides.{nat_tests}
-use Rattle.std.proofs.lemmas.List.Sums.{sum_by-cons}
+use Rattle.std.proofs.lemmas.{Bool.Decides.nat_tests, List.Sums.sum_by-cons, Option.same_Some as some_same}
+use Rattle.std.specs.{List.list_all, List.cons_option, List.find, List.IsDistinct, List.AllByRecursion, Map.lookup, Map.keys_of, Map.values_of}
 use Rattle.wit_model.specs.Rules.{is_id}
 use Rattle.base_lemmas.proofs.Bools.{left_of as first_true, right_of as second_true}
-use Rattle.std.proofs.lemmas.Option.{same_Some as some_same}
 
 no_some : {A B : Type 0} (x : A) → None ≡ Some x → B
 no_some x e = let wrong : ⊥ = cc in absurd wrong

@@ -1,38 +1,22 @@
 -- Owners' lists and types that name each other.
 use Rattle.std.proofs.Common.{◌≡◌, refl, sym, ap, subst, ◌∙◌, ℕ, ◌+◌, Bool, true, false, ◌&&◌, ◌||◌, not, ◌==◌, T, eqb→eq, List, [], ◌∷◌, map, filter_map, count_by, option_map, option_and_then, Some, None, Option, slice_get, is_some, lit≤, eq-eqb, option_to_list, arith, String, string_eq, string_bytes}
+use Rattle.std.proofs.lemmas.{Cmp.nat_list_eq_equiv, List.Folds.list_all-map}
+use Rattle.std.proofs.lemmas.{Bool.and_left as first_false, Bool.and_right as second_false, Bool.not-true as not_true, Option.same_Some as some_same}
 use Rattle.std.specs.declared.alloc.Global.{Global}
-use Rattle.std.specs.List.{list_all, find}
-use Rattle.std.specs.Option.{option_map_or}
-use Rattle.std.specs.Str.{bytes_eq}
-use Rattle.std.specs.Map.{values_of}
-use Rattle.std.specs.HashMap.{get_by, get_by_text}
-use Rattle.std.proofs.lemmas.Cmp.{nat_list_eq_equiv}
-use Rattle.std.proofs.lemmas.List.Folds.{list_all-map}
+use Rattle.std.specs.{List.list_all, List.find, Option.option_map_or, Str.bytes_eq, Map.values_of, HashMap.get_by, HashMap.get_by_text}
 use Rattle.indexmap.specs.IndexMap.{IsUnique}
-use Rattle.wit_model.specs.declared.error.EntryList.TheVariants as lists
-use Rattle.wit_model.specs.declared.model.Resolve.{Resolve}
-use Rattle.wit_model.specs.declared.model.Interface.{Interface}
-use Rattle.wit_model.specs.declared.model.World.{World}
-use Rattle.wit_model.specs.declared.model.WorldKey.{WorldKey}
-use Rattle.wit_model.specs.declared.model.WorldKey.TheVariants as key
-use Rattle.wit_model.specs.declared.model.WorldItem.{WorldItem}
-use Rattle.wit_model.specs.declared.model.TypeDef.{TypeDef}
-use Rattle.wit_model.specs.declared.model.TypeId.{TypeId}
-use Rattle.wit_model.specs.declared.model.TypeOwner.{TypeOwner}
-use Rattle.wit_model.specs.declared.model.TypeOwner.TheVariants as owner
-use Rattle.wit_model.specs.Text.{Text, text_of, text_eq}
-use Rattle.wit_model.specs.Lookup.{type_at, interface_at, world_at}
-use Rattle.wit_model.specs.Parts.{same_owner}
+use Rattle.wit_model.specs.declared.model.{Resolve.Resolve, Interface.Interface, WorldKey.WorldKey, WorldItem.WorldItem, TypeDef.TypeDef, TypeOwner.TypeOwner}
+use Rattle.wit_model.specs.declared.model.{World.World, TypeId.TypeId}
+use Rattle.wit_model.specs.{Text.Text, Text.text_of, Text.text_eq, Lookup.type_at, Lookup.interface_at, Lookup.world_at, Parts.same_owner}
 use Rattle.wit_model.specs.Rules.{passes, is_id, is_name_key, item_type, is_named_of, is_listed, is_listed_in_interface, is_listed_in_world, interface_type_numbers, world_type_numbers}
 use Rattle.wit_model.specs.Valid.{Keeps, Breaks, HasDistinctKeys, key_eq, entry_keeps, as_interface, as_world, order_of_types}
 use Rattle.wit_model.specs.Checks.{KeepsIn, listings, names_fit, has_name, key_fits, is_found}
 use Rattle.wit_model.proofs.Lists.{list_all_filter_map}
-use Rattle.wit_model.proofs.Entries.{each_from_at, lists_pass}
-use Rattle.wit_model.proofs.Listed.{misfit, fit_once, place_of_found, none_found}
-use Rattle.base_lemmas.proofs.Bools.{left_of as first_true, right_of as second_true}
-use Rattle.base_lemmas.proofs.Elements.{all_get as all_at, all_weaker as all_imply}
-use Rattle.std.proofs.lemmas.Bool.{and_left as first_false, and_right as second_false, not-true as not_true}
-use Rattle.std.proofs.lemmas.Option.{same_Some as some_same}
+use Rattle.wit_model.proofs.{Entries.each_from_at, Entries.lists_pass, Listed.misfit, Listed.fit_once, Listed.place_of_found, Listed.none_found}
+use Rattle.base_lemmas.proofs.{Bools.left_of as first_true, Bools.right_of as second_true, Elements.all_get as all_at, Elements.all_weaker as all_imply}
+use Rattle.wit_model.specs.declared.error.EntryList.TheVariants as lists
+use Rattle.wit_model.specs.declared.model.WorldKey.TheVariants as key
+use Rattle.wit_model.specs.declared.model.TypeOwner.TheVariants as owner
 
 -- the list of an interface's types, as one of what each gives
 pub given_all : (ids : List TypeId) → filter_map (λ id. Some id.0) ids ≡ map (λ id. id.0) ids

@@ -1,14 +1,10 @@
 -- Entries that stand more than once, or in another order, make the same map.
 use Rattle.std.proofs.Common.{◌≡◌, refl, sym, ap, ◌∙◌, zero, suc, arith, Bool, true, false, cond, List, [], ◌∷◌, Option, Some, None, unwrap_or}
-use Rattle.std.specs.List.{Contains}
-use Rattle.std.specs.Ordering.{eq_by_cmp}
+use Rattle.std.proofs.lemmas.{Cmp.nat_list_cmp_total, Cmp.nat_list_eq_equiv, Slice.Eq.bytes_eq-Decides}
+use Rattle.std.specs.{List.Contains, Ordering.eq_by_cmp}
 use Rattle.std.specs.FinMap.{find, from_entries, get-from_entries, same_map, slice_cmp-IsAntisymmetric, nat_cmp-IsAntisymmetric}
-use Rattle.std.proofs.lemmas.Cmp.{nat_list_cmp_total, nat_list_eq_equiv}
-use Rattle.std.proofs.lemmas.Slice.Eq.{bytes_eq-Decides}
-use Rattle.wit_model.specs.Text.{Text, TextMap, text_cmp}
-use Rattle.wit_model.specs.Maps.{HaveSameEntries}
-use Rattle.wit_model.proofs.AnyOrder.{same-text as same_order}
-use Rattle.wit_model.proofs.AnyOrder.{found-there as found_there}
+use Rattle.wit_model.specs.{Text.Text, Text.TextMap, Text.text_cmp, Maps.HaveSameEntries}
+use Rattle.wit_model.proofs.AnyOrder.{same-text as same_order, found-there as found_there}
 
 module _ {X : Type 0} where
   pub there_some : (es : List (Text × X)) (q : Text) (x : X) → Contains es (q, x) → (y : X) × (find text_cmp q es ≡ Some y)

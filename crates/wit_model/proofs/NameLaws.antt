@@ -1,10 +1,7 @@
 -- What is spelled as a path reads back, and what reads as one is spelled so.
 use Rattle.std.proofs.Common.{◌≡◌, refl, sym, ap, subst, ◌∙◌, ℕ, Bool, true, false, ◌&&◌, ◌||◌, ◌==◌, not, cond, List, [], ◌∷◌, ◌++◌, Option, Some, None, option_map, option_and_then, is_some, T, eqb→eq, eq-eqb, append_assoc, append-nil, nat_lt, length}
-use Rattle.std.specs.Option.{option_map_or}
-use Rattle.std.specs.List.{list_all, join_with_byte}
-use Rattle.std.proofs.lemmas.Bool.{and_from, or_left, or_right, not-true}
-use Rattle.std.proofs.lemmas.Option.{some_pair_parts}
-use Rattle.std.proofs.lemmas.List.Folds.{list_all-append}
+use Rattle.std.proofs.lemmas.{Bool.and_from, Bool.or_left, Bool.or_right, Bool.not-true, Option.some_pair_parts, List.Folds.list_all-append}
+use Rattle.std.specs.{Option.option_map_or, List.list_all, List.join_with_byte}
 use Rattle.wit_model.specs.Text.{Text}
 use Rattle.wit_model.specs.Names.{is_lower_byte, is_upper_byte, is_fragment, is_label, IsLabel, PackageIdentity, path_in, at_version, is_identity, IsPath, cut, versioned, known_path, read_path, without_version}
 use Rattle.wit_model.specs.NameLaws.{IsSpelled, SpelledPathReads, ReadPathIsSpelled, PathGrammar, OnePath, PathWithoutVersion}

@@ -1,33 +1,18 @@
 -- What is met at a number may be summed up along the list of types, where each refers to smaller numbers alone.
 use Rattle.std.proofs.Common.{◌≡◌, refl, sym, ap, subst, ◌∙◌, ℕ, zero, suc, ◌+◌, ◌<◌, ◌≤◌, Bool, true, false, ◌&&◌, ◌||◌, not, cond, ◌==◌, nat_lt, nat_le, T, ltb→lt, eqb→eq, List, [], ◌∷◌, ◌++◌, length, take, filter, flat_map, option_to_list, option_and_then, if◌then◌else◌, Some, None, Option, unwrap_or, slice_get, is_some, arith, String}
+use Rattle.std.proofs.lemmas.{Option.slice_get_past, List.Folds.list_all-append, Bool.Decides.nat_tests, List.Concat.flat_map-append as flat_append}
 use Rattle.std.specs.declared.alloc.Global.{Global}
-use Rattle.std.specs.List.{list_all}
-use Rattle.std.specs.Option.{option_map_or}
-use Rattle.std.proofs.lemmas.Option.{slice_get_past}
-use Rattle.std.proofs.lemmas.List.Folds.{list_all-append}
-use Rattle.std.proofs.lemmas.Bool.Decides.{nat_tests}
+use Rattle.std.specs.{List.list_all, Option.option_map_or}
 use Rattle.indexmap.specs.IndexMap.{values}
-use Rattle.wit_model.specs.declared.model.Resolve.{Resolve}
-use Rattle.wit_model.specs.declared.model.Interface.{Interface}
-use Rattle.wit_model.specs.declared.model.TypeDef.{TypeDef}
-use Rattle.wit_model.specs.declared.model.TypeOwner.{TypeOwner}
-use Rattle.wit_model.specs.declared.model.Function.{Function}
-use Rattle.wit_model.specs.Lookup.{type_at, interface_at, resource_of}
+use Rattle.wit_model.specs.declared.model.{Resolve.Resolve, Interface.Interface, TypeDef.TypeDef, TypeOwner.TypeOwner, Function.Function}
+use Rattle.wit_model.specs.{Lookup.type_at, Lookup.interface_at, Lookup.resource_of, Text.optional_text}
 use Rattle.wit_model.specs.Parts.{kind_numbers, met_by, met_at, met_of, numbered_from, used_by_type, used_by_values, used_by_function, same_owner, has_owner}
-use Rattle.wit_model.specs.Uses.{once, interface_used_by, interfaces_used_by, direct_deps}
-use Rattle.wit_model.specs.declared.model.TypeOwner.TheVariants as owner
-use Rattle.wit_model.specs.Text.{optional_text}
+use Rattle.wit_model.specs.{Uses.once, Uses.interface_used_by, Uses.interfaces_used_by, Uses.direct_deps, Valid.Keeps, Checks.references, Checks.values_of}
 use Rattle.wit_model.specs.Rules.{passes, function_stays, type_stays, is_use, is_member, is_member_of, is_resource_itself, resource_name}
-use Rattle.wit_model.specs.Valid.{Keeps}
-use Rattle.wit_model.specs.Checks.{references, values_of}
-use Rattle.wit_model.proofs.Lists.{list_all_filter_map}
-use Rattle.wit_model.proofs.Tables.{grow_at, grow_keeps}
-use Rattle.wit_model.proofs.Checks.{below_at}
-use Rattle.wit_model.proofs.Functions.{all_flat}
-use Rattle.base_lemmas.proofs.Bools.{and-true, left_of as first_true, right_of as second_true}
-use Rattle.base_lemmas.proofs.Elements.{flat-same as flat_same}
+use Rattle.wit_model.proofs.{Lists.list_all_filter_map, Tables.grow_at, Tables.grow_keeps, Checks.below_at, Functions.all_flat}
+use Rattle.base_lemmas.proofs.{Bools.and-true, Bools.left_of as first_true, Bools.right_of as second_true, Elements.flat-same as flat_same}
 use Rattle.base_lemmas.proofs.Lists.{slice_take as get_take}
-use Rattle.std.proofs.lemmas.List.Concat.{flat_map-append as flat_append}
+use Rattle.wit_model.specs.declared.model.TypeOwner.TheVariants as owner
 
 pub numbered_at : {A : Type 0} (k : ℕ) (xs : List A) (n : ℕ) (x : A) → slice_get xs n ≡ Some x → slice_get (numbered_from k xs) n ≡ Some (k + n, x)
 numbered_at k [] n x e = absurd (none_some e)

@@ -1,21 +1,13 @@
 -- Paths are made of full names; a canonical path joined with its suffix is the plain path.
 use Rattle.std.proofs.Common.{◌≡◌, refl, sym, ap, ◌∙◌, ℕ, cond, eq-eqb, List, [], ◌∷◌, ◌++◌, length, drop, Option, Some, None, option_map, option_and_then, unwrap_or, append_assoc, append-nil, String}
-use Rattle.std.specs.declared.alloc.Global.{Global}
 use Rattle.std.proofs.Math.Seq.{drop-append_seam}
+use Rattle.std.specs.declared.alloc.Global.{Global}
 use Rattle.semver.specs.declared.Version.{Version}
-use Rattle.semver.specs.Identifiers.{parts_of, parts_text}
-use Rattle.semver.specs.Parse.{Parts}
-use Rattle.wit_model.specs.declared.model.Resolve.{Resolve}
-use Rattle.wit_model.specs.declared.model.Package.{Package}
-use Rattle.wit_model.specs.declared.model.PackageId.{PackageId}
-use Rattle.wit_model.specs.declared.model.PackageName.{PackageName}
-use Rattle.wit_model.specs.declared.model.Interface.{Interface}
-use Rattle.wit_model.specs.Text.{Text, text_of}
-use Rattle.wit_model.specs.Names.{path_in, canonical_version, version_suffix, some_text}
+use Rattle.semver.specs.{Identifiers.parts_of, Identifiers.parts_text, Parse.Parts}
+use Rattle.wit_model.specs.declared.model.{Resolve.Resolve, Package.Package, PackageId.PackageId, PackageName.PackageName, Interface.Interface}
+use Rattle.wit_model.specs.{Text.Text, Text.text_of, Rules.after_prefix, Calls.CanonicalPathsJoin}
+use Rattle.wit_model.specs.{Names.path_in, Names.canonical_version, Names.version_suffix, Names.some_text, Paths.full_name, Paths.suffix_after}
 use Rattle.wit_model.specs.Lookup.{package_at, interface_at, path_of_interface, path_in_package, interface_path, identity_of, canonical_identity_of, canonical_path, canonical_suffix, package_of_interface}
-use Rattle.wit_model.specs.Paths.{full_name, suffix_after}
-use Rattle.wit_model.specs.Rules.{after_prefix}
-use Rattle.wit_model.specs.Calls.{CanonicalPathsJoin}
 use Rattle.wit_model.proofs.Versions.{canonical_front, canonical_joined}
 
 abbrev path_of : PackageName × String Global → Text

@@ -1,11 +1,8 @@
 -- What stands after a prefix.
 use Rattle.std.proofs.Common.{◌≡◌, refl, sym, ap, ◌∙◌, Bool, true, false, ◌==◌, [], ◌∷◌, ◌++◌, drop, cond, Option, Some, None, MatchOption}
-use Rattle.std.specs.Option.{option_copied}
-use Rattle.std.specs.Str.Pattern.{FindsTextPrefix, StripsPrefix}
-use Rattle.std.specs.Borrow.{Bor}
 use Rattle.std.proofs.lemmas.Option.{same_Some}
-use Rattle.wit_model.specs.Text.{Text}
-use Rattle.wit_model.specs.Rules.{after_prefix}
+use Rattle.std.specs.{Option.option_copied, Str.Pattern.FindsTextPrefix, Str.Pattern.StripsPrefix, Borrow.Bor}
+use Rattle.wit_model.specs.{Text.Text, Rules.after_prefix}
 use Rattle.base_lemmas.proofs.Numbers.{equal as same_byte}
 use Rattle.wit_model.proofs.PathParts.{after-itself as after_complete}
 

@@ -3,11 +3,9 @@ use Rattle.base_lemmas.proofs.Numbers.{turned as number_flip}
 use Rattle.semver.specs.Identifiers.{parts_of}
 use Rattle.semver.specs.declared.Version.{Version}
 use Rattle.std.proofs.Common.{Bool, List, None, Option, Some, [], ap, arith, cond, false, map, option_and_then, refl, slice_get, subst, sym, true, ℕ, ◌&&◌, ◌++◌, ◌+◌, ◌==◌, ◌∙◌, ◌∷◌, ◌≡◌}
-use Rattle.std.proofs.lemmas.Bool.{eqb-true}
-use Rattle.std.proofs.lemmas.List.{map-append}
+use Rattle.std.proofs.lemmas.{Bool.eqb-true, List.map-append}
 use Rattle.std.specs.Option.{option_eq}
-use Rattle.wit_model.proofs.Distinct.{text_eq_flip}
-use Rattle.wit_model.proofs.Entries.{each_from_all, each_from_at}
+use Rattle.wit_model.proofs.{Distinct.text_eq_flip, Entries.each_from_all, Entries.each_from_at}
 use Rattle.wit_model.specs.Rules.{after_prefix, each_after, each_from, has_items, is_id, same_package_name, same_version}
 use Rattle.wit_model.specs.Text.{Text, text_of}
 use Rattle.wit_model.specs.declared.model.PackageName.{PackageName}

@@ -1,20 +1,13 @@
 -- Which interfaces stand before an item, item by item.
 use Rattle.std.proofs.Common.{◌≡◌, refl, sym, ap, ◌∙◌, ℕ, Bool, true, false, ◌&&◌, ◌||◌, not, ◌==◌, List, [], ◌∷◌, ◌++◌, filter, filter_map, option_to_list, Some, None, Option, append_assoc, append-nil}
-use Rattle.std.specs.List.{list_all, list_any, cons_option}
-use Rattle.std.specs.Option.{option_map_or}
-use Rattle.std.proofs.lemmas.List.Elements.{filter_map-append}
-use Rattle.std.proofs.lemmas.List.Folds.{list_any-append}
+use Rattle.std.proofs.lemmas.List.{Elements.filter_map-append, Folds.list_any-append}
+use Rattle.std.specs.{List.list_all, List.list_any, List.cons_option, Option.option_map_or}
 use Rattle.indexmap.specs.IndexMap.{values}
-use Rattle.wit_model.specs.declared.model.Resolve.{Resolve}
-use Rattle.wit_model.specs.declared.model.Interface.{Interface}
-use Rattle.wit_model.specs.declared.model.World.{World}
-use Rattle.wit_model.specs.declared.model.WorldItem.{WorldItem}
+use Rattle.wit_model.specs.declared.model.{Resolve.Resolve, Interface.Interface, World.World, WorldItem.WorldItem}
 use Rattle.wit_model.specs.Lookup.{interface_at}
 use Rattle.wit_model.specs.Uses.{has, once, item_interface, interface_used_by, interfaces_used_by, direct_deps, items_of}
-use Rattle.wit_model.specs.Rules.{is_id, each_after, used_interfaces}
-use Rattle.wit_model.specs.ItemOrders.{shown_with, shown_after, uses_are_shown}
-use Rattle.wit_model.proofs.Lists.{list_all_filter_map}
-use Rattle.wit_model.proofs.Owners.{all_filter, all_once}
+use Rattle.wit_model.specs.{Rules.is_id, Rules.each_after, Rules.used_interfaces, ItemOrders.shown_with, ItemOrders.shown_after, ItemOrders.uses_are_shown}
+use Rattle.wit_model.proofs.{Lists.list_all_filter_map, Owners.all_filter, Owners.all_once}
 use Rattle.base_lemmas.proofs.Bools.{and_assoc, exchange as and_swap}
 
 -- ---- tests of each element with those before it

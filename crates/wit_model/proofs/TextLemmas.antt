@@ -1,15 +1,10 @@
 -- Lemmas on texts: when two are equal, and what an optional one is.
-use Rattle.base_lemmas.proofs.Elements.{contains-later}
-use Rattle.base_lemmas.proofs.Numbers.{turned}
+use Rattle.base_lemmas.proofs.{Elements.contains-later, Numbers.turned}
 use Rattle.std.proofs.Common.{Bool, List, None, Option, Some, String, [], ap, arith, cond, false, refl, sym, true, ◌&&◌, ◌++◌, ◌==◌, ◌||◌, ◌∙◌, ◌∷◌, ◌≡◌}
 use Rattle.std.proofs.lemmas.Cmp.{nat_list_eq_equiv}
-use Rattle.std.specs.Cmp.Lexicographic.{same_text}
-use Rattle.std.specs.List.{AllByRecursion, Contains, list_any}
-use Rattle.std.specs.Option.{option_map_or}
-use Rattle.std.specs.Prelude.{String, is_some}
+use Rattle.std.specs.{Cmp.Lexicographic.same_text, List.AllByRecursion, List.Contains, List.list_any, Option.option_map_or, Prelude.String, Prelude.is_some}
 use Rattle.std.specs.declared.alloc.Global.{Global}
-use Rattle.wit_model.specs.Rules.{after_prefix, text_is}
-use Rattle.wit_model.specs.Text.{Text, optional_text, text_eq, text_of}
+use Rattle.wit_model.specs.{Rules.after_prefix, Rules.text_is, Text.Text, Text.optional_text, Text.text_eq, Text.text_of}
 
 pub text_alike : (t : Text) → text_eq t t ≡ true
 text_alike t = nat_list_eq_equiv.refl t

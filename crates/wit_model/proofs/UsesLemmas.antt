@@ -1,23 +1,13 @@
 -- Lemmas on lists of numbers, and on what a type or an item leads to.
 use Rattle.wit_model.specs.declared.model.TypeDefKind.TheVariants as kind
 use Rattle.wit_model.specs.declared.model.WorldItem.TheVariants as item
-use Rattle.base_lemmas.proofs.Elements.{contains-later}
-use Rattle.base_lemmas.proofs.Numbers.{same-number}
+use Rattle.base_lemmas.proofs.{Elements.contains-later, Numbers.same-number}
 use Rattle.std.proofs.Common.{Bool, List, Some, [], ap, arith, cond, false, filter, nat_eq, option_to_list, refl, subst, sym, true, ℕ, ◌==◌, ◌||◌, ◌∙◌, ◌∷◌, ◌≡◌}
-use Rattle.std.proofs.lemmas.Bool.{and_from as both, eqb-true, or_right}
-use Rattle.std.proofs.lemmas.Bool.Decides.{nat_tests}
-use Rattle.std.proofs.lemmas.Option.{same_Some as some-same}
+use Rattle.std.proofs.lemmas.{Bool.and_from as both, Bool.eqb-true, Bool.or_right, Bool.Decides.nat_tests, Option.same_Some as some-same}
 use Rattle.std.specs.List.{list_all, list_any}
-use Rattle.wit_model.proofs.Elements.{contains-has, has-contains}
-use Rattle.wit_model.proofs.OnePath.{found-in}
-use Rattle.wit_model.specs.Lookup.{interface_at}
-use Rattle.wit_model.specs.Parts.{kind_numbers}
-use Rattle.wit_model.specs.Rules.{item_in_range}
-use Rattle.wit_model.specs.Uses.{alias_target, has, item_interface}
-use Rattle.wit_model.specs.declared.model.Interface.{Interface}
-use Rattle.wit_model.specs.declared.model.Resolve.{Resolve}
-use Rattle.wit_model.specs.declared.model.TypeDefKind.{TypeDefKind}
-use Rattle.wit_model.specs.declared.model.WorldItem.{WorldItem}
+use Rattle.wit_model.proofs.{Elements.contains-has, Elements.has-contains, OnePath.found-in}
+use Rattle.wit_model.specs.{Lookup.interface_at, Parts.kind_numbers, Rules.item_in_range, Uses.alias_target, Uses.has, Uses.item_interface}
+use Rattle.wit_model.specs.declared.model.{Interface.Interface, Resolve.Resolve, TypeDefKind.TypeDefKind, WorldItem.WorldItem}
 
 pub all_from_has : (p : ℕ → Bool) (ns : List ℕ) → ((n : ℕ) → has ns n ≡ true → p n ≡ true) → list_all p ns ≡ true
 all_from_has p [] h = refl

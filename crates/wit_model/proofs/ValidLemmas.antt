@@ -1,11 +1,8 @@
 -- What a rule that holds of a `Resolve` says of each entry.
 use Rattle.std.proofs.Common.{Some, arith, subst, true, ℕ, ◌+◌, ◌≡◌}
 use Rattle.wit_model.proofs.Entries.{each_from_at, lists_pass}
-use Rattle.wit_model.specs.Lookup.{type_at, world_at}
-use Rattle.wit_model.specs.Valid.{Keeps, Rule}
-use Rattle.wit_model.specs.declared.model.Resolve.{Resolve}
-use Rattle.wit_model.specs.declared.model.TypeDef.{TypeDef}
-use Rattle.wit_model.specs.declared.model.World.{World}
+use Rattle.wit_model.specs.{Lookup.type_at, Lookup.world_at, Valid.Keeps, Valid.Rule}
+use Rattle.wit_model.specs.declared.model.{Resolve.Resolve, TypeDef.TypeDef, World.World}
 
 pub world_passes : (rule : Rule) (r : Resolve) → Keeps rule r → (n : ℕ) (w : World) → world_at r n ≡ Some w → rule.world_ r n w ≡ true
 world_passes rule r k n w at = let here : 0 + n ≡ n = omega arith in subst (λ (m : ℕ). rule.world_ r m w ≡ true) here (each_from_at (rule.world_ r) 0 r.worlds.items n w (lists_pass rule r k).2 at)

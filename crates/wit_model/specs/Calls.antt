@@ -1,20 +1,13 @@
 -- What is asked of interfaces, keys, items and functions by their calls (WIT.md; Binary.md, "Import and Export Definitions").
 use Rattle.std.specs.Prelude.{◌≡◌, ℕ, Bool, false, ◌++◌, ◌==◌, [], codes, Option, Some, None, option_map, option_and_then, unwrap_or}
-use Rattle.std.specs.List.{after_first}
-use Rattle.std.specs.Option.{option_map_or}
+use Rattle.std.specs.{List.after_first, Option.option_map_or}
 use Rattle.wit_model.specs.declared.model.Resolve.{Resolve}
-use Rattle.wit_model.specs.declared.model.WorldKey.{WorldKey}
+use Rattle.wit_model.specs.declared.model.{WorldKey.WorldKey, WorldItem.WorldItem, Stability.Stability, Function.Function, FunctionKind.FunctionKind}
+use Rattle.wit_model.specs.{Text.Text, Text.text_of, Lookup.interface_at, Lookup.type_at, Lookup.interface_path, Lookup.canonical_path, Lookup.canonical_suffix}
+use Rattle.wit_model.specs.{Uses.item_interface, Rules.is_own_of, Rules.type_is}
 use Rattle.wit_model.specs.declared.model.WorldKey.TheVariants as key
-use Rattle.wit_model.specs.declared.model.WorldItem.{WorldItem}
 use Rattle.wit_model.specs.declared.model.WorldItem.TheVariants as item
-use Rattle.wit_model.specs.declared.model.Stability.{Stability}
-use Rattle.wit_model.specs.declared.model.Function.{Function}
-use Rattle.wit_model.specs.declared.model.FunctionKind.{FunctionKind}
 use Rattle.wit_model.specs.declared.model.FunctionKind.TheVariants as kind
-use Rattle.wit_model.specs.Text.{Text, text_of}
-use Rattle.wit_model.specs.Lookup.{interface_at, type_at, interface_path, canonical_path, canonical_suffix}
-use Rattle.wit_model.specs.Uses.{item_interface}
-use Rattle.wit_model.specs.Rules.{is_own_of, type_is}
 
 -- ---- keys and items
 

@@ -1,8 +1,7 @@
 -- Uses of interfaces, one after the other (WIT.md, "Interfaces: use").
 use Rattle.std.specs.Prelude.{◌≡◌, ◌<◌, ℕ, zero, suc, true, List}
 use Rattle.wit_model.specs.declared.model.Resolve.{Resolve}
-use Rattle.wit_model.specs.Uses.{has, direct_deps, reached}
-use Rattle.wit_model.specs.Valid.{IsValid}
+use Rattle.wit_model.specs.{Uses.has, Uses.direct_deps, Uses.reached, Valid.IsValid}
 
 -- so many uses lead from the first interface to the second
 abbrev pub Chain : Resolve → ℕ → ℕ → ℕ → Type 0

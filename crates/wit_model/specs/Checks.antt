@@ -1,25 +1,15 @@
 -- Words of the checks: what one list of a `Resolve` keeps, and tables by number.
 use Rattle.std.specs.Prelude.{◌≡◌, ℕ, ◌+◌, min, max, Bool, true, false, ◌||◌, nat_lt, nat_le, position, string_bytes, List, [], ◌∷◌, unwrap_or, slice_get, filter_map, flat_map, option_map, option_and_then}
-use Rattle.std.specs.List.{list_all}
-use Rattle.std.specs.Option.{option_map_or}
-use Rattle.std.specs.HashMap.{keys, get_by, get_by_text}
-use Rattle.std.specs.Str.{bytes_eq}
-use Rattle.wit_model.specs.declared.error.EntryList.{EntryList}
-use Rattle.wit_model.specs.declared.error.EntryList.TheVariants as lists
-use Rattle.wit_model.specs.declared.model.Resolve.{Resolve}
-use Rattle.wit_model.specs.declared.model.WorldKey.{WorldKey}
-use Rattle.wit_model.specs.declared.model.TypeOwner.{TypeOwner}
-use Rattle.wit_model.specs.declared.model.TypeOwner.TheVariants as owner
-use Rattle.wit_model.specs.declared.model.Function.{Function}
-use Rattle.wit_model.specs.declared.model.TypeDef.{TypeDef}
-use Rattle.wit_model.specs.declared.model.TypeDefKind.{TypeDefKind}
-use Rattle.wit_model.specs.declared.model.TypeDefKind.TheVariants as kind
-use Rattle.wit_model.specs.Text.{Text, text_of, text_eq}
-use Rattle.wit_model.specs.Lookup.{type_at, interface_at, world_at}
-use Rattle.wit_model.specs.Types.{number_of}
-use Rattle.wit_model.specs.Parts.{kind_numbers, function_types, same_owner, met_by, met_of}
+use Rattle.std.specs.{List.list_all, Option.option_map_or, HashMap.keys, HashMap.get_by, HashMap.get_by_text, Str.bytes_eq}
+use Rattle.wit_model.specs.declared.{error.EntryList.EntryList, model.WorldKey.WorldKey, model.TypeOwner.TypeOwner, model.TypeDefKind.TypeDefKind}
+use Rattle.wit_model.specs.declared.model.{Resolve.Resolve, Function.Function, TypeDef.TypeDef}
+use Rattle.wit_model.specs.{Text.Text, Text.text_of, Text.text_eq, Parts.kind_numbers, Parts.function_types, Parts.same_owner, Parts.met_by, Parts.met_of}
+use Rattle.wit_model.specs.{Lookup.type_at, Lookup.interface_at, Lookup.world_at, Types.number_of}
 use Rattle.wit_model.specs.Rules.{each_from, passes, is_id, is_name_key, item_type, is_named_of, interface_type_numbers, world_type_numbers, is_listed, are_in_order, is_use}
 use Rattle.wit_model.specs.Valid.{Rule, Keeps, free, as_interface, as_world, order_of_types, shapes, named_kinds, handles, depths, owners}
+use Rattle.wit_model.specs.declared.error.EntryList.TheVariants as lists
+use Rattle.wit_model.specs.declared.model.TypeOwner.TheVariants as owner
+use Rattle.wit_model.specs.declared.model.TypeDefKind.TheVariants as kind
 
 -- every entry of the list passes the tests of the rule
 abbrev pub KeepsIn : Rule → Resolve → EntryList → Type 0

@@ -1,14 +1,8 @@
 -- Words of the check of the order of a world's items: the interfaces that have been shown, and how far functions reach.
 use Rattle.std.specs.Prelude.{◌≡◌, ℕ, Bool, true, false, ◌&&◌, ◌||◌, not, ◌==◌, nat_eq, nat_le, List, [], ◌∷◌, slice_get}
-use Rattle.std.specs.List.{list_all, list_any}
-use Rattle.std.specs.Option.{option_map_or}
-use Rattle.std.specs.HashSet.{HashSet, contains}
-use Rattle.wit_model.specs.declared.model.Resolve.{Resolve}
-use Rattle.wit_model.specs.declared.model.WorldItem.{WorldItem}
-use Rattle.wit_model.specs.declared.model.Function.{Function}
-use Rattle.wit_model.specs.Uses.{has, direct_deps, interface_used_by, item_interface}
-use Rattle.wit_model.specs.Parts.{function_numbers}
-use Rattle.wit_model.specs.Rules.{is_id, used_interfaces}
+use Rattle.std.specs.{List.list_all, List.list_any, Option.option_map_or, HashSet.HashSet, HashSet.contains}
+use Rattle.wit_model.specs.declared.model.{Resolve.Resolve, WorldItem.WorldItem, Function.Function}
+use Rattle.wit_model.specs.{Uses.has, Uses.direct_deps, Uses.interface_used_by, Uses.item_interface, Parts.function_numbers, Rules.is_id, Rules.used_interfaces}
 use Rattle.wit_model.specs.Checks.{highest}
 
 -- whether a set has a number

@@ -1,7 +1,5 @@
 -- Finite maps that are made of lists of entries.
-use Rattle.std.specs.Prelude.{◌≡◌, List}
-use Rattle.std.specs.List.{Contains}
-use Rattle.std.specs.FinMap.{from_entries}
+use Rattle.std.specs.{Prelude.◌≡◌, Prelude.List, List.Contains, FinMap.from_entries}
 use Rattle.wit_model.specs.Text.{Text, TextMap}
 
 -- Both lists have the same entries, in whatever order and however often, and no name has two values.

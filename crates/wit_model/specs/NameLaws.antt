@@ -3,10 +3,8 @@ use Rattle.std.specs.Prelude.{◌≡◌, ◌↔◌, true, Some, None, is_some}
 use Rattle.semver.specs.declared.Version.{Version}
 use Rattle.semver.specs.Identifiers.{parts_of, version_text}
 use Rattle.wit_model.specs.declared.model.PackageName.{PackageName}
-use Rattle.wit_model.specs.Text.{Text}
+use Rattle.wit_model.specs.{Text.Text, Lookup.identity_of, Rules.passes, Rules.same_package_name}
 use Rattle.wit_model.specs.Names.{PackageIdentity, path_in, is_identity, is_label, is_version, IsPath, read_path, without_version}
-use Rattle.wit_model.specs.Lookup.{identity_of}
-use Rattle.wit_model.specs.Rules.{passes, same_package_name}
 
 -- A path that is spelled reads back.
 abbrev pub SpelledPathReads : Type 0

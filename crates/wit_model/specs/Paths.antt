@@ -1,12 +1,8 @@
 -- The names of which the path of an interface is made, and where its version is split.
 use Rattle.std.specs.Prelude.{ℕ, Option, option_map, option_and_then, String}
 use Rattle.std.specs.declared.alloc.Global.{Global}
-use Rattle.wit_model.specs.declared.model.Resolve.{Resolve}
-use Rattle.wit_model.specs.declared.model.PackageName.{PackageName}
-use Rattle.wit_model.specs.Text.{Text}
-use Rattle.wit_model.specs.Names.{some_text}
-use Rattle.wit_model.specs.Lookup.{interface_at, package_of_interface}
-use Rattle.wit_model.specs.Rules.{after_prefix}
+use Rattle.wit_model.specs.declared.model.{Resolve.Resolve, PackageName.PackageName}
+use Rattle.wit_model.specs.{Text.Text, Names.some_text, Lookup.interface_at, Lookup.package_of_interface, Rules.after_prefix}
 
 -- the name of an interface's package and its own, where it has both
 abbrev pub full_name : Resolve → ℕ → Option (PackageName × String Global)

@@ -2,10 +2,8 @@
 
 ghost use Rattle.std.specs.Prelude.{◌≡◌, ◌||◌, ◌==◌, ℕ, List, false, map, not, option_map, IfErr, IfOk, OnOk};
 ghost use Rattle.std.specs.List.{cons_option};
-ghost use Rattle.wit_model.specs.DirectDeps.{listed_with, number_of_interface, yet_unlisted};
-ghost use Rattle.wit_model.specs.ItemOrders.{holds};
+ghost use Rattle.wit_model.specs.{DirectDeps.listed_with, DirectDeps.number_of_interface, DirectDeps.yet_unlisted, ItemOrders.holds, Refusals.IsMemory};
 ghost use Rattle.wit_model.specs.Uses.{direct_deps as direct_deps_lem, interfaces_used_by};
-ghost use Rattle.wit_model.specs.Refusals.{IsMemory};
 
 use crate::lookup::{interface_at, interface_used_by};
 use crate::{Error, Interface, InterfaceId, Resolve};

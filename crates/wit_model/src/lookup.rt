@@ -1,10 +1,8 @@
 //! What stands under a number, and what a type refers to.
 
-ghost use Rattle.std.specs.Prelude.{◌≡◌, option_map};
-ghost use Rattle.std.specs.Option.{option_copied};
+ghost use Rattle.std.specs.{Prelude.◌≡◌, Prelude.option_map, Option.option_copied};
 ghost use Rattle.wit_model.specs.Lookup.{interface_at as interface_at_lem, package_at as package_at_lem, type_at as type_at_lem, world_at as world_at_lem};
-ghost use Rattle.wit_model.specs.Paths.{full_name as full_name_lem};
-ghost use Rattle.wit_model.specs.Rules.{is_own_kind as is_own_kind_lem, is_own_of as is_own_of_lem, type_is};
+ghost use Rattle.wit_model.specs.{Paths.full_name as full_name_lem, Rules.is_own_kind as is_own_kind_lem, Rules.is_own_of as is_own_of_lem, Rules.type_is};
 ghost use Rattle.wit_model.specs.Types.{number_of as number_of_lem};
 ghost use Rattle.wit_model.specs.Uses.{alias_target as alias_target_lem, interface_used_by as interface_used_by_lem, owner_interface as owner_interface_lem};
 

@@ -5,9 +5,7 @@ ghost use Rattle.std.specs.Option.{option_copied};
 ghost use Rattle.semver.specs.Identifiers.{parts_of};
 ghost use Rattle.wit_model.specs.Lookup.{canonical_identity_of, canonical_path, canonical_suffix, identity_of, interface_path, key_text, path_in_package};
 ghost use Rattle.wit_model.specs.Names.{canonical_version as canonical_version_lem, path_in, version_suffix as version_suffix_lem};
-ghost use Rattle.wit_model.specs.Paths.{full_name as full_name_lem, suffix_after};
-ghost use Rattle.wit_model.specs.Text.{optional_text, text_of};
-ghost use Rattle.wit_model.specs.Refusals.{IsMemory};
+ghost use Rattle.wit_model.specs.{Paths.full_name as full_name_lem, Paths.suffix_after, Text.optional_text, Text.text_of, Refusals.IsMemory};
 
 use crate::lookup::full_name;
 use crate::names::after_prefix;

@@ -1,11 +1,8 @@
 //! What the key and the item of an import or an export say.
 
-ghost use Rattle.std.specs.Prelude.{◌≡◌, option_map, Some, true};
-ghost use Rattle.std.specs.Option.{option_copied};
-ghost use Rattle.wit_model.specs.Calls.{implemented, item_stability, named_interface as named_interface_lem};
-ghost use Rattle.wit_model.specs.Meant.{item_external_id, type_meaning_at};
-ghost use Rattle.wit_model.specs.Rules.{item_in_range};
-ghost use Rattle.wit_model.specs.Text.{optional_text};
+ghost use Rattle.std.specs.{Prelude.◌≡◌, Prelude.option_map, Prelude.Some, Prelude.true, Option.option_copied};
+ghost use Rattle.wit_model.specs.{Calls.implemented, Calls.item_stability, Calls.named_interface as named_interface_lem, Rules.item_in_range};
+ghost use Rattle.wit_model.specs.{Meant.item_external_id, Meant.type_meaning_at, Text.optional_text};
 
 use crate::{InterfaceId, Resolve, Stability, TypeId, WorldItem, WorldKey};
 

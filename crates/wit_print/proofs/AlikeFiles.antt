@@ -1,42 +1,18 @@
 -- Where two `Resolve`s differ in documentation alone, so does what is shown of their packages, and the calls without documentation are the same.
 use Rattle.std.proofs.Common.{◌≡◌, refl, sym, ap, ◌∙◌, subst, ℕ, Bool, true, false, ◌==◌, List, [], ◌∷◌, ◌++◌, map, filter, filter_map, Option, Some, None, option_map, option_and_then, unwrap_or}
-use Rattle.std.specs.Prelude.{String, is_some, if◌then◌else◌}
-use Rattle.std.specs.Option.{option_map_or}
-use Rattle.std.specs.List.{AllZip, cons_option}
+use Rattle.std.specs.{Prelude.String, Prelude.is_some, Prelude.if◌then◌else◌, Option.option_map_or, List.AllZip, List.cons_option}
 use Rattle.std.specs.declared.alloc.Global.{Global}
-use Rattle.wit_model.specs.declared.model.Resolve.{Resolve}
-use Rattle.wit_model.specs.declared.model.Package.{Package}
-use Rattle.wit_model.specs.declared.model.PackageId.{PackageId}
-use Rattle.wit_model.specs.declared.model.Interface.{Interface}
-use Rattle.wit_model.specs.declared.model.InterfaceId.{InterfaceId}
-use Rattle.wit_model.specs.declared.model.World.{World}
-use Rattle.wit_model.specs.declared.model.WorldId.{WorldId}
-use Rattle.wit_model.specs.declared.model.WorldKey.{WorldKey}
-use Rattle.wit_model.specs.declared.model.WorldKey.TheVariants as key
-use Rattle.wit_model.specs.declared.model.WorldItem.{WorldItem as Item}
-use Rattle.wit_model.specs.declared.model.WorldItem.TheVariants as item
-use Rattle.wit_model.specs.declared.model.TypeDef.{TypeDef}
-use Rattle.wit_model.specs.declared.model.TypeDefKind.{TypeDefKind}
-use Rattle.wit_model.specs.declared.model.TypeDefKind.TheVariants as defined
-use Rattle.wit_model.specs.declared.model.TypeId.{TypeId}
-use Rattle.wit_model.specs.declared.model.TypeOwner.{TypeOwner}
-use Rattle.wit_model.specs.declared.model.TypeOwner.TheVariants as owner
-use Rattle.wit_model.specs.declared.model.«Type».{«Type» as ValueType}
-use Rattle.wit_model.specs.declared.model.«Type».TheVariants as value
-use Rattle.wit_model.specs.declared.model.Function.{Function}
-use Rattle.wit_model.specs.Text.{Text, text_of}
-use Rattle.wit_model.specs.Lookup.{package_at, interface_at, world_at, type_at}
-use Rattle.wit_model.specs.Parts.{same_owner}
-use Rattle.wit_model.specs.Rules.{is_freestanding}
+use Rattle.wit_model.specs.declared.model.{Resolve.Resolve, PackageId.PackageId, Interface.Interface, WorldKey.WorldKey, TypeOwner.TypeOwner, Function.Function}
+use Rattle.wit_model.specs.declared.model.{Package.Package, World.World, WorldId.WorldId, TypeDef.TypeDef, TypeId.TypeId}
+use Rattle.wit_model.specs.declared.model.{InterfaceId.InterfaceId, WorldItem.WorldItem as Item, TypeDefKind.TypeDefKind, «Type».«Type» as ValueType}
+use Rattle.wit_model.specs.{Text.Text, Text.text_of, Lookup.package_at, Lookup.interface_at, Lookup.world_at, Lookup.type_at, Rules.is_freestanding}
+use Rattle.wit_model.specs.{Parts.same_owner, Valid.item_function}
 use Rattle.wit_print.specs.Documentation.{AlikeKinds, AlikeTypes, AlikeFunctions, AlikeEntries, AlikeInterfaces, AlikeKeys, AlikeItems, AlikeWorldEntries, AlikeWorlds, AlikePackages, DifferInDocumentation}
 use Rattle.wit_print.specs.Documentation.AlikeKinds.{records, resources, handles, flags, tuples, variants, enums, options, results, lists, maps, fixed_lists, futures, streams, aliases}
-use Rattle.wit_print.specs.Documentation.AlikeKeys.{labels, interfaces}
-use Rattle.wit_print.specs.Documentation.AlikeItems.{interface_items, function_items, type_items}
-use Rattle.print_grammar.specs.Tree.PathTree.{Local, Full}
-use Rattle.print_grammar.specs.Tree.MemberTree.{UseMember, TypeMember, FunctionMember}
-use Rattle.print_grammar.specs.Tree.ExternTree.{Path, NamedFunction, NamedPath, NamedInterface}
+use Rattle.wit_print.specs.Documentation.{AlikeKeys.labels, AlikeKeys.interfaces, AlikeItems.interface_items, AlikeItems.function_items, AlikeItems.type_items}
+use Rattle.print_grammar.specs.Tree.{PathTree.Local, PathTree.Full, ExternTree.Path, ExternTree.NamedFunction, ExternTree.NamedPath, ExternTree.NamedInterface}
+use Rattle.print_grammar.specs.Tree.{MemberTree.UseMember, MemberTree.TypeMember, MemberTree.FunctionMember, ItemTree.InterfaceItem, ItemTree.WorldItem}
 use Rattle.print_grammar.specs.Tree.WorldMember.{WorldUse, WorldType, WorldImport, WorldExport}
-use Rattle.print_grammar.specs.Tree.ItemTree.{InterfaceItem, WorldItem}
 use Rattle.print_grammar.specs.AsRead.{bare_prefix, bare_signature, bare_declared, bare_member, bare_extern, bare_world_member, bare_item, bare_package, bare_file}
 use Rattle.print_grammar.specs.Calls.{file_calls}
 use Rattle.print_items.specs.Shown.{present_name, shown_docs, shown_prefix, shown_gates, full_path, path_from, shown_path, own_name, used_of, grouped, Listed, shown_uses, DeclaredWith, shown_declared, declared_with, shown_declarations, path_from_owner, listed_types, listed_functions, shown_function, shown_interface, shown_extern, extern_prefix, Entry, shown_import, shown_export, is_interface_item, is_freestanding_item, type_of_entry, listed_imports, imported_functions, shown_world_in, shown_world, shown_interface_item, shown_world_item, shown_package_of, no_package, shown_package, shown_file}
@@ -44,7 +20,11 @@ use Rattle.wit_print.proofs.AlikeTypes.{same, Both, at_both, or_alike, then_alik
 use Rattle.wit_print.proofs.UndocumentedCalls.{undocumented_calls}
 use Rattle.base_lemmas.proofs.Lists.{append_of_map as map_joined}
 use Rattle.wit_model.proofs.TextLemmas.{some_alike}
-use Rattle.wit_model.specs.Valid.{item_function}
+use Rattle.wit_model.specs.declared.model.WorldKey.TheVariants as key
+use Rattle.wit_model.specs.declared.model.WorldItem.TheVariants as item
+use Rattle.wit_model.specs.declared.model.TypeDefKind.TheVariants as defined
+use Rattle.wit_model.specs.declared.model.TypeOwner.TheVariants as owner
+use Rattle.wit_model.specs.declared.model.«Type».TheVariants as value
 
 -- ---- lists
 

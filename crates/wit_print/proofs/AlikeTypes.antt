@@ -1,41 +1,23 @@
 -- Where two `Resolve`s differ in documentation alone, what is shown of their types differs in documentation alone.
 use Rattle.std.proofs.Common.{◌≡◌, refl, ap, ◌∙◌, subst, ℕ, zero, suc, Bool, true, false, ◌&&◌, ◌==◌, List, [], ◌∷◌, ◌++◌, map, filter, drop, cond, Option, Some, None, option_map, option_and_then, unwrap_or, slice_get}
-use Rattle.std.specs.Prelude.{String, is_none, if◌then◌else◌}
-use Rattle.std.specs.Option.{option_map_or}
-use Rattle.std.specs.List.{AllZip}
-use Rattle.std.specs.Str.{chars}
+use Rattle.std.specs.{Prelude.String, Prelude.is_none, Prelude.if◌then◌else◌, Option.option_map_or, List.AllZip, Str.chars}
 use Rattle.std.specs.declared.alloc.Global.{Global}
-use Rattle.wit_model.specs.declared.model.Resolve.{Resolve}
-use Rattle.wit_model.specs.declared.model.TypeDef.{TypeDef}
-use Rattle.wit_model.specs.declared.model.TypeDefKind.{TypeDefKind}
-use Rattle.wit_model.specs.declared.model.TypeDefKind.TheVariants as defined
-use Rattle.wit_model.specs.declared.model.TypeId.{TypeId}
-use Rattle.wit_model.specs.declared.model.Handle.TheVariants as handle
-use Rattle.wit_model.specs.declared.model.«Type».{«Type» as ValueType}
-use Rattle.wit_model.specs.declared.model.«Type».TheVariants as value
-use Rattle.wit_model.specs.declared.model.Function.{Function}
-use Rattle.wit_model.specs.declared.model.FunctionKind.{FunctionKind}
-use Rattle.wit_model.specs.declared.model.FunctionKind.TheVariants as call
-use Rattle.wit_model.specs.declared.model.Param.{Param}
-use Rattle.wit_model.specs.declared.model.Field.{Field}
-use Rattle.wit_model.specs.declared.model.Case.{Case}
-use Rattle.wit_model.specs.declared.model.Flag.{Flag}
-use Rattle.wit_model.specs.declared.model.EnumCase.{EnumCase}
-use Rattle.wit_model.specs.declared.model.Stability.{Stability}
-use Rattle.wit_model.specs.Text.{text_of, optional_text}
-use Rattle.wit_model.specs.Lookup.{type_at, is_async, resource_of}
+use Rattle.wit_model.specs.declared.model.{Resolve.Resolve, TypeDefKind.TypeDefKind, «Type».«Type» as ValueType, FunctionKind.FunctionKind, Stability.Stability}
+use Rattle.wit_model.specs.declared.model.{TypeDef.TypeDef, TypeId.TypeId, Function.Function, Param.Param, Field.Field, Case.Case, Flag.Flag, EnumCase.EnumCase}
+use Rattle.wit_model.specs.{Text.text_of, Text.optional_text, Lookup.type_at, Lookup.is_async, Lookup.resource_of, Rules.is_own_of, Rules.is_own_kind}
 use Rattle.wit_model.specs.Calls.{own_name_of}
-use Rattle.wit_model.specs.Rules.{is_own_of, is_own_kind}
 use Rattle.wit_print.specs.Documentation.{AlikeGates, AlikeParams, AlikeFields, AlikeCases, AlikeFlags, AlikeEnumCases, AlikeKinds, AlikeTypes, AlikeFunctions, DifferInDocumentation}
 use Rattle.wit_print.specs.Documentation.AlikeGates.{unknown, stable, unstable}
 use Rattle.wit_print.specs.Documentation.AlikeKinds.{records, resources, handles, flags, tuples, variants, enums, options, results, lists, maps, fixed_lists, futures, streams, aliases}
-use Rattle.print_grammar.specs.Tree.{TypeTree}
-use Rattle.print_grammar.specs.Tree.TypeTree.{Name, TupleOf}
-use Rattle.print_grammar.specs.Tree.Gates.{Since, Unstable}
-use Rattle.print_grammar.specs.Tree.ResourceMember.{Constructor, Method, Static}
+use Rattle.print_grammar.specs.{Tree.TypeTree, Tree.Gates.Since, Tree.Gates.Unstable}
+use Rattle.print_grammar.specs.Tree.{TypeTree.Name, TypeTree.TupleOf, ResourceMember.Constructor, ResourceMember.Method, ResourceMember.Static}
 use Rattle.print_grammar.specs.Tree.Declared.{RecordOf, VariantOf, FlagsOf, EnumOf, AliasOf, ResourceOf}
 use Rattle.print_grammar.specs.AsRead.{bare_prefix, bare_param, bare_field, bare_case, bare_label, bare_signature, bare_resource_member, bare_declared}
 use Rattle.print_items.specs.Shown.{present_name, shown_gates, shown_external_id, type_name, used_type, used_types, result_tree, kind_tree, def_tree, trees_from, type_trees, shown_type, shown_field, shown_case, shown_flag, shown_enum_case, is_method, belongs_to, shown_param, shown_params, shown_signature, constructor_result, function_prefix, shown_resource_member, shown_declared}
+use Rattle.wit_model.specs.declared.model.TypeDefKind.TheVariants as defined
+use Rattle.wit_model.specs.declared.model.Handle.TheVariants as handle
+use Rattle.wit_model.specs.declared.model.«Type».TheVariants as value
+use Rattle.wit_model.specs.declared.model.FunctionKind.TheVariants as call
 
 abbrev pub same : TypeTree → TypeTree
 same ty = ty

@@ -1,26 +1,19 @@
 -- What an interface or a world of valid packages has can be handed in to be printed.
 use Rattle.std.proofs.Common.{◌≡◌, refl, true, ℕ}
 use Rattle.std.specs.List.{list_all}
-use Rattle.wit_model.specs.declared.model.TypeOwner.TheVariants as owner
-use Rattle.wit_model.specs.declared.model.InterfaceId.{InterfaceId}
-use Rattle.wit_model.specs.declared.model.Resolve.{Resolve}
-use Rattle.wit_model.specs.declared.model.WorldItem.{WorldItem}
-use Rattle.wit_model.specs.declared.model.WorldItem.TheVariants as item
-use Rattle.wit_model.specs.declared.model.WorldKey.{WorldKey}
-use Rattle.wit_model.specs.declared.model.WorldKey.TheVariants as key
-use Rattle.wit_model.specs.Rules.{in_list, passes, item_in_range, key_in_range}
-use Rattle.wit_model.specs.Valid.{item_function}
+use Rattle.wit_model.specs.declared.model.{InterfaceId.InterfaceId, Resolve.Resolve, WorldItem.WorldItem, WorldKey.WorldKey}
+use Rattle.wit_model.specs.{Rules.in_list, Rules.passes, Rules.item_in_range, Rules.key_in_range, Valid.item_function}
 use Rattle.print_items.specs.Shown.{Listed, imported_functions, listed_functions, listed_imports, listed_types, type_of_entry}
 use Rattle.print_packages.specs.GivenTypes.{behind}
 use Rattle.print_uses.specs.UseGroups.{is_listed_function, is_listed_type}
 use Rattle.print_uses.proofs.Declarations.{types_listed}
-use Rattle.print_uses.proofs.ValidInterfaces.{interface_functions}
-use Rattle.print_uses.proofs.ValidOwners.{is_known_listed}
-use Rattle.print_uses.proofs.WellLists.{all_both, given_well}
+use Rattle.print_uses.proofs.{ValidInterfaces.interface_functions, ValidOwners.is_known_listed, WellLists.all_both, WellLists.given_well}
 use Rattle.print_packages.proofs.ValidWorlds.{is_known_entry, entry_function_known, world_is_shown}
 use Rattle.wit_print.specs.Given.{FunctionsCanBeGiven, TypesCanBeGiven, WorldFunctionsCanBeGiven, WorldTypesCanBeGiven}
-use Rattle.base_lemmas.proofs.Bools.{left_of as first_true, right_of as second_true}
-use Rattle.base_lemmas.proofs.Elements.{all-contained, all_pass as all-of}
+use Rattle.base_lemmas.proofs.{Bools.left_of as first_true, Bools.right_of as second_true, Elements.all-contained, Elements.all_pass as all-of}
+use Rattle.wit_model.specs.declared.model.TypeOwner.TheVariants as owner
+use Rattle.wit_model.specs.declared.model.WorldItem.TheVariants as item
+use Rattle.wit_model.specs.declared.model.WorldKey.TheVariants as key
 
 pub types_can_be_given : TypesCanBeGiven
 types_can_be_given r id i valid at given are = all-of (is_listed_type r (owner.Interface id)) given

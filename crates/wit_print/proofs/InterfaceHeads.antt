@@ -1,14 +1,8 @@
 -- What stands before the block of an interface of a valid `Resolve`.
 use Rattle.std.proofs.Common.{◌≡◌, sym, ap, ℕ, Bool, true, Some, []}
 use Rattle.std.specs.Option.{option_map_or}
-use Rattle.wit_model.specs.declared.model.Resolve.{Resolve}
-use Rattle.wit_model.specs.declared.model.Interface.{Interface}
-use Rattle.wit_model.specs.declared.model.InterfaceId.{InterfaceId}
-use Rattle.wit_model.specs.Lookup.{interface_at}
-use Rattle.wit_model.specs.Names.{is_label}
-use Rattle.wit_model.specs.Rules.{is_stability, passes}
-use Rattle.wit_model.specs.Text.{Text, text_of}
-use Rattle.wit_model.specs.Valid.{IsValid, labels}
+use Rattle.wit_model.specs.declared.model.{Resolve.Resolve, Interface.Interface, InterfaceId.InterfaceId}
+use Rattle.wit_model.specs.{Lookup.interface_at, Names.is_label, Rules.is_stability, Rules.passes, Text.Text, Text.text_of, Valid.IsValid, Valid.labels}
 use Rattle.wit_model.proofs.Entries.{each_from_at, lists_pass}
 use Rattle.print_packages.specs.Heads.{head_calls, interface_head_calls}
 use Rattle.base_lemmas.proofs.Bools.{left_of as first_true, right_of as second_true}

@@ -1,8 +1,7 @@
 -- What an output holds that was blank before the calls of a file.
 use Rattle.std.proofs.Common.{◌≡◌, ℕ, sym, ap, subst, ◌∙◌, List}
 use Rattle.print_output.proofs.RenderLaws.{Moves-writes}
-use Rattle.print_output.specs.OutputCall.{Moves, OutputCall, View}
-use Rattle.print_output.specs.Render.{Written, blank, render, writes}
+use Rattle.print_output.specs.{OutputCall.Moves, OutputCall.OutputCall, OutputCall.View, Render.Written, Render.blank, Render.render, Render.writes}
 
 -- it is what the calls render to
 pub is-rendered : (calls : List OutputCall) (text : List ℕ) (old new : View Written) → old ≡ blank → Moves writes old calls new → text ≡ new.kept.text → text ≡ render calls

@@ -1,18 +1,16 @@
 -- Without documentation, the calls of a tree are those of the tree that has none.
 use Rattle.std.proofs.Common.{◌≡◌, refl, sym, ap, ◌∙◌, Bool, true, false, ◌&&◌, not, List, [], ◌∷◌, ◌++◌, map, flat_map, codes, Option, Some, None}
 use Rattle.std.specs.Prelude.{option_map}
-use Rattle.print_output.specs.declared.type_kind.TypeKind.TheVariants as kind
-use Rattle.print_grammar.specs.Keyword.{escaped}
-use Rattle.print_output.specs.OutputCall.OutputCall.{IndentStart, IndentEnd, Newline, Keyword, Ty, Str}
+use Rattle.print_grammar.specs.{Keyword.escaped, Tree.ExternTree.Path, Tree.ExternTree.NamedFunction, Tree.ExternTree.NamedPath, Tree.ExternTree.NamedInterface}
 use Rattle.print_grammar.specs.Tree.{TypeTree, ParamTree, CaseTree, SignatureTree, ResourceMember, Declared, MemberTree, ExternTree, WorldMember, ItemTree, PackageTree, FileTree}
-use Rattle.print_grammar.specs.Tree.ResourceMember.{Constructor, Method, Static}
+use Rattle.print_grammar.specs.Tree.{ResourceMember.Constructor, ResourceMember.Method, ResourceMember.Static, ItemTree.InterfaceItem, ItemTree.WorldItem}
 use Rattle.print_grammar.specs.Tree.Declared.{RecordOf, VariantOf, FlagsOf, EnumOf, AliasOf, ResourceOf}
 use Rattle.print_grammar.specs.Tree.MemberTree.{UseMember, TypeMember, FunctionMember}
-use Rattle.print_grammar.specs.Tree.ExternTree.{Path, NamedFunction, NamedPath, NamedInterface}
 use Rattle.print_grammar.specs.Tree.WorldMember.{WorldUse, WorldType, WorldImport, WorldExport}
-use Rattle.print_grammar.specs.Tree.ItemTree.{InterfaceItem, WorldItem}
 use Rattle.print_grammar.specs.AsRead.{bare_param, bare_field, bare_case, bare_label, bare_signature, bare_resource_member, bare_declared, bare_member, bare_extern, bare_world_member, bare_item, bare_package, bare_file}
 use Rattle.print_grammar.specs.Calls.{space, item_calls, gates_calls, block_calls, line_after_calls, package_start_calls, package_end_calls, doc_calls, prefix_calls, field_calls, case_calls, label_calls, resource_member_calls, declared_calls, use_calls, function_calls, members_calls, extern_calls, world_members_calls, interface_outer_calls, package_item_calls, package_outer_calls, package_calls, more_nested_calls, nested_calls, file_calls}
+use Rattle.print_output.specs.OutputCall.OutputCall.{IndentStart, IndentEnd, Newline, Keyword, Ty, Str}
+use Rattle.print_output.specs.declared.type_kind.TypeKind.TheVariants as kind
 
 abbrev same : TypeTree → TypeTree
 same ty = ty

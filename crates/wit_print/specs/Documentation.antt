@@ -1,41 +1,17 @@
 -- When what two `Resolve`s hold differs in documentation alone.
-use Rattle.std.specs.Prelude.{◌≡◌, Option, String}
-use Rattle.std.specs.List.{AllZip}
+use Rattle.std.specs.{Prelude.◌≡◌, Prelude.Option, Prelude.String, List.AllZip}
 use Rattle.std.specs.declared.alloc.Global.{Global}
 use Rattle.semver.specs.declared.Version.{Version}
 use Rattle.semver.specs.Identifiers.{version_text}
-use Rattle.wit_model.specs.declared.model.Resolve.{Resolve}
-use Rattle.wit_model.specs.declared.model.Package.{Package}
-use Rattle.wit_model.specs.declared.model.Interface.{Interface}
-use Rattle.wit_model.specs.declared.model.InterfaceId.{InterfaceId}
-use Rattle.wit_model.specs.declared.model.World.{World}
-use Rattle.wit_model.specs.declared.model.WorldKey.{WorldKey}
+use Rattle.wit_model.specs.declared.model.{Resolve.Resolve, Package.Package, WorldItem.WorldItem, Function.Function, EnumCase.EnumCase, Stability.Stability}
+use Rattle.wit_model.specs.declared.model.{Interface.Interface, InterfaceId.InterfaceId, WorldKey.WorldKey, TypeDefKind.TypeDefKind, «Type».«Type» as ValueType}
+use Rattle.wit_model.specs.declared.model.{World.World, TypeDef.TypeDef, TypeId.TypeId, Handle.Handle, Record.Record, Variant.Variant, Result_.Result_}
+use Rattle.wit_model.specs.declared.model.{Flags.Flags, Enum.Enum, Tuple.Tuple, Param.Param, Field.Field, Case.Case, Flag.Flag, Docs.Docs}
+use Rattle.wit_model.specs.{Text.text_of, Text.optional_text, Lookup.optional_version_text}
 use Rattle.wit_model.specs.declared.model.WorldKey.TheVariants as key
-use Rattle.wit_model.specs.declared.model.WorldItem.{WorldItem}
 use Rattle.wit_model.specs.declared.model.WorldItem.TheVariants as item
-use Rattle.wit_model.specs.declared.model.TypeDef.{TypeDef}
-use Rattle.wit_model.specs.declared.model.TypeDefKind.{TypeDefKind}
 use Rattle.wit_model.specs.declared.model.TypeDefKind.TheVariants as defined
-use Rattle.wit_model.specs.declared.model.TypeId.{TypeId}
-use Rattle.wit_model.specs.declared.model.«Type».{«Type» as ValueType}
-use Rattle.wit_model.specs.declared.model.Handle.{Handle}
-use Rattle.wit_model.specs.declared.model.Record.{Record}
-use Rattle.wit_model.specs.declared.model.Flags.{Flags}
-use Rattle.wit_model.specs.declared.model.Variant.{Variant}
-use Rattle.wit_model.specs.declared.model.Enum.{Enum}
-use Rattle.wit_model.specs.declared.model.Tuple.{Tuple}
-use Rattle.wit_model.specs.declared.model.Result_.{Result_}
-use Rattle.wit_model.specs.declared.model.Function.{Function}
-use Rattle.wit_model.specs.declared.model.Param.{Param}
-use Rattle.wit_model.specs.declared.model.Field.{Field}
-use Rattle.wit_model.specs.declared.model.Case.{Case}
-use Rattle.wit_model.specs.declared.model.Flag.{Flag}
-use Rattle.wit_model.specs.declared.model.EnumCase.{EnumCase}
-use Rattle.wit_model.specs.declared.model.Docs.{Docs}
-use Rattle.wit_model.specs.declared.model.Stability.{Stability}
 use Rattle.wit_model.specs.declared.model.Stability.TheVariants as stability
-use Rattle.wit_model.specs.Text.{text_of, optional_text}
-use Rattle.wit_model.specs.Lookup.{optional_version_text}
 
 -- feature gates with the same texts
 pub data AlikeGates : Stability → Stability → Type 0 where

@@ -1,16 +1,10 @@
 -- Packages that can be printed as a file, and what their text says.
 use Rattle.std.specs.Prelude.{◌≡◌, ◌<◌, Bool, false, true, List, length}
 use Rattle.std.specs.List.{list_all}
-use Rattle.wit_model.specs.Rules.{in_list}
-use Rattle.wit_model.specs.Valid.{IsValid}
-use Rattle.wit_model.specs.declared.model.PackageId.{PackageId}
-use Rattle.wit_model.specs.declared.model.Resolve.{Resolve}
-use Rattle.print_output.specs.OutputCall.{Moves, View}
-use Rattle.print_output.specs.Render.{Written, blank, render, writes}
-use Rattle.print_grammar.specs.AsRead.{file_as_read}
-use Rattle.print_grammar.specs.Calls.{file_calls}
-use Rattle.print_grammar.specs.Reading.{IsOnlyReading}
-use Rattle.print_grammar.specs.Tree.{FileTree}
+use Rattle.wit_model.specs.{Rules.in_list, Valid.IsValid}
+use Rattle.wit_model.specs.declared.model.{PackageId.PackageId, Resolve.Resolve}
+use Rattle.print_output.specs.{OutputCall.Moves, OutputCall.View, Render.Written, Render.blank, Render.render, Render.writes}
+use Rattle.print_grammar.specs.{AsRead.file_as_read, Calls.file_calls, Reading.IsOnlyReading, Tree.FileTree}
 use Rattle.print_items.specs.Shown.{shown_file}
 
 -- Of valid packages one can be printed as a file, with these others nested in it.

@@ -1,21 +1,13 @@
 -- What an interface or a world of valid packages has can be handed in to be printed: its types under their names, and its functions by resource.
-use Rattle.std.specs.Prelude.{◌≡◌, true, List, Some, Vec}
-use Rattle.std.specs.Borrow.{Bor}
-use Rattle.std.specs.List.{Contains, list_all}
+use Rattle.std.specs.{Prelude.◌≡◌, Prelude.true, Prelude.List, Prelude.Some, Prelude.Vec, Borrow.Bor, List.Contains, List.list_all}
 use Rattle.std.specs.declared.alloc.Global.{Global}
-use Rattle.wit_model.specs.Lookup.{interface_at, world_at}
-use Rattle.wit_model.specs.Valid.{IsValid}
-use Rattle.wit_model.specs.declared.model.Function.{Function}
-use Rattle.wit_model.specs.declared.model.Interface.{Interface}
-use Rattle.wit_model.specs.declared.model.InterfaceId.{InterfaceId}
-use Rattle.wit_model.specs.declared.model.Resolve.{Resolve}
-use Rattle.wit_model.specs.declared.model.TypeId.{TypeId}
-use Rattle.wit_model.specs.declared.model.TypeOwner.TheVariants as owner
+use Rattle.wit_model.specs.{Lookup.interface_at, Lookup.world_at, Valid.IsValid}
+use Rattle.wit_model.specs.declared.model.{Function.Function, Interface.Interface, InterfaceId.InterfaceId, Resolve.Resolve, TypeId.TypeId, WorldId.WorldId}
 use Rattle.wit_model.specs.declared.model.World.{World}
-use Rattle.wit_model.specs.declared.model.WorldId.{WorldId}
 use Rattle.print_items.specs.Shown.{Listed, imported_functions, listed_functions, listed_imports, listed_types}
 use Rattle.print_packages.specs.GivenTypes.{Functions, are_functions_of, behind}
 use Rattle.print_uses.specs.UseGroups.{is_listed_type}
+use Rattle.wit_model.specs.declared.model.TypeOwner.TheVariants as owner
 
 -- each of these is a type of the interface, under its name
 abbrev pub AreItsTypes : Interface → List Listed → Type 0

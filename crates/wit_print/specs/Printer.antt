@@ -1,14 +1,9 @@
 -- A printer, and what it prints.
-use Rattle.std.specs.Prelude.{◌≡◌, Bool, true, List}
-use Rattle.std.specs.Borrow.{Bor}
-use Rattle.std.specs.List.{list_all}
+use Rattle.std.specs.{Prelude.◌≡◌, Prelude.Bool, Prelude.true, Prelude.List, Borrow.Bor, List.list_all}
 use Rattle.wit_model.specs.Text.{Text}
-use Rattle.wit_model.specs.declared.model.Resolve.{Resolve}
-use Rattle.wit_model.specs.declared.model.TypeId.{TypeId}
-use Rattle.wit_model.specs.declared.model.TypeOwner.{TypeOwner}
+use Rattle.wit_model.specs.declared.model.{Resolve.Resolve, TypeId.TypeId, TypeOwner.TypeOwner}
 use Rattle.print_output.specs.OutputCall.{Begins, Moves, OutputCall, View}
-use Rattle.print_grammar.specs.Calls.{members_calls, printed_after}
-use Rattle.print_grammar.specs.Tree.{MemberTree}
+use Rattle.print_grammar.specs.{Calls.members_calls, Calls.printed_after, Tree.MemberTree}
 use Rattle.print_items.specs.Shown.{Listed}
 use Rattle.print_uses.specs.UseGroups.{is_listed_type, listed_of}
 use Rattle.wit_print.specs.declared.printer.WitPrinter.{WitPrinter}

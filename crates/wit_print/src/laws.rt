@@ -2,8 +2,7 @@
 
 ghost use Rattle.std.specs.Prelude.{Bool};
 ghost use Rattle.wit_model.specs.declared.model.Resolve.{Resolve};
-ghost use Rattle.wit_print.specs.Documentation.{DifferInDocumentation};
-ghost use Rattle.wit_print.specs.Files.{FileReads, KeptTextReads, OfPrintableFiles, PrintAlike};
+ghost use Rattle.wit_print.specs.{Documentation.DifferInDocumentation, Files.FileReads, Files.KeptTextReads, Files.OfPrintableFiles, Files.PrintAlike};
 ghost use Rattle.wit_print.specs.Given.{FunctionsCanBeGiven, TypesCanBeGiven, WorldFunctionsCanBeGiven, WorldTypesCanBeGiven};
 
 pub use print_grammar::laws::{one_reading, well_named_file_reads};

@@ -1,19 +1,12 @@
 //! The printer.
 
 ghost use Rattle.std.specs.Prelude.{◌≡◌, ◌<◌, true, false, length, OnOk, OnErr, IfErr};
-ghost use Rattle.std.specs.Iterator.{Drains, IsFinite};
-ghost use Rattle.std.specs.List.{list_all};
-ghost use Rattle.wit_model.specs.Text.{text_of};
-ghost use Rattle.wit_model.specs.Names.{is_label, is_version};
-ghost use Rattle.wit_model.specs.Parts.{same_owner};
-ghost use Rattle.wit_model.specs.Rules.{in_list, passes};
-ghost use Rattle.wit_model.specs.Types.{number_of};
-ghost use Rattle.wit_model.specs.Valid.{IsValid};
-ghost use Rattle.wit_model.specs.Refusals.{IsMemory};
+ghost use Rattle.std.specs.{Iterator.Drains, Iterator.IsFinite, List.list_all};
+ghost use Rattle.wit_model.specs.{Text.text_of, Valid.IsValid};
+ghost use Rattle.wit_model.specs.{Names.is_label, Names.is_version, Parts.same_owner, Rules.in_list, Rules.passes, Types.number_of, Refusals.IsMemory};
 ghost use Rattle.print_items.specs.Shown.{shown_file, shown_head, shown_package, shown_type};
 ghost use Rattle.print_grammar.specs.Calls.{file_calls, package_calls, package_outer_calls, type_calls};
-ghost use Rattle.print_packages.specs.GivenTypes.{are_functions_of, given_with};
-ghost use Rattle.print_packages.specs.Heads.{interface_body_calls, interface_head_calls};
+ghost use Rattle.print_packages.specs.{GivenTypes.are_functions_of, GivenTypes.given_with, Heads.interface_body_calls, Heads.interface_head_calls};
 ghost use Rattle.wit_print.specs.Files.{FileReads};
 
 use print_items::{Driver, write_type_name};

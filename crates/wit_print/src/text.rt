@@ -1,14 +1,9 @@
 //! Packages as text.
 
 ghost use Rattle.std.specs.Prelude.{◌≡◌, ◌<◌, true, length, IfOk, IfErr};
-ghost use Rattle.std.specs.List.{list_all};
-ghost use Rattle.std.specs.String.{string_bytes};
-ghost use Rattle.wit_model.specs.Rules.{in_list};
-ghost use Rattle.wit_model.specs.Valid.{IsValid};
-ghost use Rattle.wit_model.specs.Refusals.{IsMemory};
-ghost use Rattle.print_grammar.specs.AsRead.{file_as_read};
-ghost use Rattle.print_grammar.specs.Calls.{file_calls};
-ghost use Rattle.print_grammar.specs.Reading.{IsOnlyReading};
+ghost use Rattle.std.specs.{List.list_all, String.string_bytes};
+ghost use Rattle.wit_model.specs.{Rules.in_list, Valid.IsValid, Refusals.IsMemory};
+ghost use Rattle.print_grammar.specs.{AsRead.file_as_read, Calls.file_calls, Reading.IsOnlyReading};
 ghost use Rattle.print_items.specs.Shown.{shown_file};
 ghost use Rattle.print_output.specs.Render.{render};
 

@@ -1,9 +1,7 @@
 //! Types that an iterator of the caller's gives, printed.
 
-ghost use Rattle.std.specs.Prelude.{◌≡◌, ◌&&◌, true, is_some};
-ghost use Rattle.std.specs.List.{list_all};
-ghost use Rattle.wit_model.specs.Parts.{same_owner};
-ghost use Rattle.wit_model.specs.Valid.{IsValid};
+ghost use Rattle.std.specs.{Prelude.◌≡◌, Prelude.◌&&◌, Prelude.true, Prelude.is_some, List.list_all};
+ghost use Rattle.wit_model.specs.{Parts.same_owner, Valid.IsValid};
 ghost use Rattle.wit_print.specs.UseGroups.{is_listed_type};
 
 use std::alloc::Global;

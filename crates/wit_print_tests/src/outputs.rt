@@ -1,8 +1,7 @@
 //! A package's documentation and name, and the texts of single calls.
 
 ghost use Rattle.std.specs.Prelude.{◌≡◌, true, IsTrue};
-ghost use Rattle.wit_model.specs.Names.{is_version as is_version_lem};
-ghost use Rattle.wit_model.specs.Rules.{passes};
+ghost use Rattle.wit_model.specs.{Names.is_version as is_version_lem, Rules.passes};
 
 use semver::Version;
 use std::alloc::Global;

@@ -1,9 +1,7 @@
 -- Modules that are refused.
 use Rattle.std.proofs.Common.{◌≡◌, List, ℕ, sym, subst, Option}
-use Rattle.wit_model.specs.declared.error.Error.{Error}
-use Rattle.wit_model.specs.declared.error.Error.TheVariants.{Memory}
-use Rattle.witc.specs.Bindings.{RefusesModuleInput, memory, unread}
-use Rattle.witc.specs.Input.{IsUnread}
+use Rattle.wit_model.specs.declared.error.{Error.Error, Error.TheVariants.Memory}
+use Rattle.witc.specs.{Bindings.RefusesModuleInput, Bindings.memory, Bindings.unread, Input.IsUnread}
 use Rattle.witc.specs.declared.refusal.Refusal.{Refusal}
 use Rattle.witc.specs.declared.refusal.Refusal.TheVariants as refusals
 

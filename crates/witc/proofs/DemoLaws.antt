@@ -1,21 +1,13 @@
 -- What the demo's package means.
 use Rattle.std.proofs.Common.{◌≡◌, ℕ, ap, ◌∙◌, List, [], ◌∷◌, ◌++◌, codes, map, filter, filter_map, flat_map, length, slice_get, None, Some, Option, option_map}
-use Rattle.std.specs.Prelude.{String}
-use Rattle.std.specs.FinMap.{from_entries}
-use Rattle.std.specs.Option.{option_map_or}
-use Rattle.std.specs.declared.alloc.Global.{Global}
 use Rattle.std.proofs.lemmas.List.Concat.{flat_map-append}
+use Rattle.std.specs.{Prelude.String, FinMap.from_entries, Option.option_map_or}
+use Rattle.std.specs.declared.alloc.Global.{Global}
 use Rattle.indexmap.specs.IndexMap.{values}
-use Rattle.wit_model.specs.declared.model.Interface.{Interface}
-use Rattle.wit_model.specs.declared.model.InterfaceId.{InterfaceId}
-use Rattle.wit_model.specs.declared.model.Package.{Package}
-use Rattle.wit_model.specs.declared.model.Resolve.{Resolve}
-use Rattle.wit_model.specs.declared.model.World.{World}
-use Rattle.wit_model.specs.declared.model.WorldId.{WorldId}
-use Rattle.wit_model.specs.Lookup.{identity_of, optional_version_text, package_at, world_at}
+use Rattle.wit_model.specs.declared.model.{Interface.Interface, InterfaceId.InterfaceId, Package.Package, Resolve.Resolve, World.World, WorldId.WorldId}
+use Rattle.wit_model.specs.{Lookup.identity_of, Lookup.optional_version_text, Lookup.package_at, Lookup.world_at, Text.Text, Text.TextMap, Text.text_of}
 use Rattle.wit_model.specs.Meaning.{Entry, InterfaceMeaning, PackageIdentity, PackageMeaning, WorldMeaning}
 use Rattle.wit_model.specs.Meant.{Meant, by_path, entries_meaning, foreign_meaning, foreign_of, interface_meaning_at, is_foreign, no_world, package_meaning, world_meaning, world_meaning_at}
-use Rattle.wit_model.specs.Text.{Text, TextMap, text_of}
 use Rattle.wit_model.specs.Uses.{interfaces_of_item, interfaces_of_world, reached, reached_in, worlds_of}
 use Rattle.witc.specs.Demo.{IsFoo, IsOneFunction, demo, foo, nullary}
 

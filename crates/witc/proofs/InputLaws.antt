@@ -1,15 +1,8 @@
 -- What comes of all that a reader gives is what comes of these bytes.
 use Rattle.std.proofs.Common.{◌≡◌, ℕ, List, subst, Option, Some, None, Vec}
 use Rattle.std.specs.declared.alloc.Global.{Global}
-use Rattle.witc.specs.Bindings.{PrintsBindings}
-use Rattle.witc.specs.Input.{ReadsWhole}
-use Rattle.witc.specs.Printed.{PrintsInput}
-use Rattle.witc.specs.Stripped.{StripsInput}
-use Rattle.witc.specs.Worlds.{ComparesInput}
-use Rattle.witc_texts.specs.Bindings.{PrintsModule}
-use Rattle.witc_texts.specs.Printed.{PrintsBytes}
-use Rattle.witc_texts.specs.Stripped.{StripsBytes, StripsTo}
-use Rattle.witc_texts.specs.Worlds.{ComparesBytes}
+use Rattle.witc.specs.{Bindings.PrintsBindings, Input.ReadsWhole, Printed.PrintsInput, Stripped.StripsInput, Worlds.ComparesInput}
+use Rattle.witc_texts.specs.{Bindings.PrintsModule, Printed.PrintsBytes, Stripped.StripsBytes, Stripped.StripsTo, Worlds.ComparesBytes}
 use Rattle.witc_texts.specs.declared.comparison.Compared.{Compared}
 use Rattle.witc_texts.proofs.StrippedLaws.{part-left, whole-left}
 

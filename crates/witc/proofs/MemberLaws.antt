@@ -1,18 +1,14 @@
 -- The demo's package holds a world.
 use Rattle.std.proofs.Common.{◌≡◌, ◌||◌, Bool, true, false, refl, sym, ap, ◌∙◌, List, [], ◌∷◌, codes, map, Some, option_map}
+use Rattle.std.proofs.lemmas.Option.{same_Some as same-some}
 use Rattle.std.specs.declared.alloc.Global.{Global}
 use Rattle.std.specs.Prelude.{String}
 use Rattle.comp_meaning.specs.Follow.{is_filled}
 use Rattle.wit_component.specs.Packages.{HasMembers}
-use Rattle.wit_model.specs.declared.model.Package.{Package}
-use Rattle.wit_model.specs.declared.model.Resolve.{Resolve}
-use Rattle.wit_model.specs.declared.model.WorldId.{WorldId}
+use Rattle.wit_model.specs.declared.model.{Package.Package, Resolve.Resolve, WorldId.WorldId}
 use Rattle.wit_model.specs.Lookup.{package_at}
-use Rattle.wit_model.specs.Meaning.{PackageMeaning, WorldMeaning}
-use Rattle.wit_model.specs.Meant.{Meant, package_meaning, world_meaning_at}
-use Rattle.wit_model.specs.Text.{Text, text_of}
+use Rattle.wit_model.specs.{Meaning.PackageMeaning, Meaning.WorldMeaning, Meant.Meant, Meant.package_meaning, Meant.world_meaning_at, Text.Text, Text.text_of}
 use Rattle.witc.specs.Demo.{demo, foo}
-use Rattle.std.proofs.lemmas.Option.{same_Some as same-some}
 
 -- a package that means the demo's holds a world
 pub holds-world : (r : Resolve) (p : Package) → package_at r 0 ≡ Some p → Meant r 0 demo → HasMembers p

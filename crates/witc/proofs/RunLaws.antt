@@ -1,10 +1,8 @@
 -- What the answers of the commands come to.
 use Rattle.std.proofs.Common.{◌≡◌, ◌≤◌, ℕ, List, refl, sym, subst, Option, Some, None, Result, Ok, Err, IfOk, MatchResult, Vec, arith}
 use Rattle.std.specs.declared.alloc.Global.{Global}
-use Rattle.witc.specs.Answers.{Answers, failed, written}
+use Rattle.witc.specs.{Answers.Answers, Answers.failed, Answers.written, Words.Asked, Words.compat, Worlds.ComparesInput}
 use Rattle.witc.specs.Runs.{AnswersNames, AnswersText, Ends, IsDone, LacksWorld, bad_words, done, lacks_world, no_new, no_prev, refused}
-use Rattle.witc.specs.Words.{Asked, compat}
-use Rattle.witc.specs.Worlds.{ComparesInput}
 use Rattle.witc.specs.declared.refusal.Refusal.{Refusal}
 use Rattle.witc_texts.specs.Lines.{compatible, no_such_world, usage}
 use Rattle.witc_texts.specs.declared.comparison.Compared.{Compared}

@@ -1,13 +1,11 @@
 -- The text of what the core module binds that a reader gives.
 use Rattle.std.specs.Prelude.{◌≡◌, ℕ, List, Option}
-use Rattle.wit_model.specs.declared.error.Error.{Error}
-use Rattle.wit_model.specs.declared.error.Error.TheVariants.{Memory, Size}
-use Rattle.wit_component.specs.Bound.{RefusesBindings}
-use Rattle.wit_component.specs.Reached.{OutgrowsLists}
+use Rattle.wit_model.specs.declared.error.{Error.Error, Error.TheVariants.Memory, Error.TheVariants.Size}
+use Rattle.wit_component.specs.{Bound.RefusesBindings, Reached.OutgrowsLists}
 use Rattle.witc.specs.Input.{ReadsWhole}
 use Rattle.witc.specs.declared.refusal.Refusal.{Refusal}
-use Rattle.witc.specs.declared.refusal.Refusal.TheVariants as refusals
 use Rattle.witc_texts.specs.Bindings.{PrintsModule}
+use Rattle.witc.specs.declared.refusal.Refusal.TheVariants as refusals
 
 -- All that a reader has left is a module that binds something, and the text is of all packages of that.
 pub record PrintsBindings (left rest : Option (List ℕ)) (text : List ℕ) : Type 0 where

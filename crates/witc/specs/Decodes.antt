@@ -1,7 +1,6 @@
 -- Why what a reader gives is refused.
 use Rattle.std.specs.Prelude.{ℕ, List, Option}
-use Rattle.wit_model.specs.declared.error.Error.{Error}
-use Rattle.wit_model.specs.declared.error.Error.TheVariants.{Memory}
+use Rattle.wit_model.specs.declared.error.{Error.Error, Error.TheVariants.Memory}
 use Rattle.wit_component.specs.Decoded.{RefusesBytes}
 use Rattle.witc.specs.Input.{ReadsWhole}
 use Rattle.witc.specs.declared.refusal.Refusal.{Refusal}

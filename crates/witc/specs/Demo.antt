@@ -1,16 +1,9 @@
 -- The package that `witc demo` shows.
 use Rattle.std.specs.Prelude.{◌≡◌, ℕ, false, List, [], ◌∷◌, codes, None, Some, map, flat_map}
 use Rattle.std.specs.FinMap.{from_entries}
-use Rattle.wit_model.specs.declared.model.Package.{Package}
-use Rattle.wit_model.specs.declared.model.Resolve.{Resolve}
-use Rattle.wit_model.specs.declared.model.World.{World}
-use Rattle.wit_model.specs.declared.model.WorldItem.{WorldItem}
-use Rattle.wit_model.specs.declared.model.WorldKey.{WorldKey}
-use Rattle.wit_model.specs.Lookup.{package_at}
-use Rattle.wit_model.specs.Meaning.{Entry, InterfaceMeaning, PackageMeaning, WorldMeaning, function}
-use Rattle.wit_model.specs.Meant.{Meant, entries_meaning, world_meaning}
-use Rattle.wit_model.specs.Text.{Text}
-use Rattle.wit_model.specs.Uses.{interfaces_of_item, interfaces_of_world}
+use Rattle.wit_model.specs.declared.model.{Package.Package, Resolve.Resolve, World.World, WorldItem.WorldItem, WorldKey.WorldKey}
+use Rattle.wit_model.specs.{Lookup.package_at, Meaning.Entry, Meaning.InterfaceMeaning, Meaning.PackageMeaning, Meaning.WorldMeaning, Meaning.function}
+use Rattle.wit_model.specs.{Meant.Meant, Meant.entries_meaning, Meant.world_meaning, Text.Text, Uses.interfaces_of_item, Uses.interfaces_of_world}
 
 -- a function without parameters and result, and without external id
 abbrev pub nullary : Entry InterfaceMeaning

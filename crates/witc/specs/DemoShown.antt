@@ -4,8 +4,7 @@ use Rattle.wit_model.specs.declared.model.Resolve.{Resolve}
 use Rattle.wit_model.specs.Meant.{Meant}
 use Rattle.comp_meaning.specs.Reads.{Reads}
 use Rattle.wit_component.specs.Packages.{SpellsPackageAt}
-use Rattle.witc.specs.Demo.{demo}
-use Rattle.witc.specs.Hex.{hex_text}
+use Rattle.witc.specs.{Demo.demo, Hex.hex_text}
 use Rattle.witc_texts.specs.Printed.{IsTextOf}
 
 -- The text is of a `Resolve` whose first package means the demo's.

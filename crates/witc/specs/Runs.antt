@@ -1,14 +1,10 @@
 -- What a run answers and writes.
 use Rattle.std.specs.Prelude.{◌≡◌, ℕ, List, Option, Some, None, Result, MatchResult, Vec, vec_items}
-use Rattle.std.specs.declared.alloc.Global.{Global}
 use Rattle.std.specs.Io.KnownBytes.{Appends}
+use Rattle.std.specs.declared.alloc.Global.{Global}
 use Rattle.witc.specs.Answers.{Answers}
-use Rattle.witc.specs.Bindings.{PrintsBindings}
-use Rattle.witc.specs.DemoShown.{IsDemoDigits, IsDemoText}
-use Rattle.witc.specs.Printed.{PrintsInput}
-use Rattle.witc.specs.Stripped.{StripsInput}
+use Rattle.witc.specs.{Bindings.PrintsBindings, DemoShown.IsDemoDigits, DemoShown.IsDemoText, Printed.PrintsInput, Stripped.StripsInput, Worlds.ComparesInput}
 use Rattle.witc.specs.Words.{Asked, demo_text, demo_hex, print, module_text, strip, compat}
-use Rattle.witc.specs.Worlds.{ComparesInput}
 use Rattle.witc.specs.declared.refusal.Refusal.{Refusal}
 use Rattle.witc_texts.specs.Lines.{compatible, no_such_world, usage}
 use Rattle.witc_texts.specs.declared.comparison.Compared.{Compared}

@@ -1,8 +1,7 @@
 -- What the words behind the program's name ask for.
 use Rattle.std.specs.Prelude.{ℕ, Bool, ◌&&◌, nat_eq, List, [], ◌∷◌, codes, Vec, Option, Some, None, if◌then◌else◌}
+use Rattle.std.specs.{Cmp.Lexicographic.pointwise, Str.is_utf8}
 use Rattle.std.specs.declared.alloc.Global.{Global}
-use Rattle.std.specs.Cmp.Lexicographic.{pointwise}
-use Rattle.std.specs.Str.{is_utf8}
 
 -- What is asked for. `demo_text` and `demo_hex`: the demo's package as text or as digits. `print`: the text of a package. `module_text`:
 -- the text of what a module binds. `strip`: a module without the sections that carry worlds. `compat`: whether the world of the second name

@@ -1,12 +1,11 @@
 -- Worlds of the package that a reader gives, by their names, compared.
 use Rattle.std.specs.Prelude.{ℕ, List, Option}
 use Rattle.wit_model.specs.declared.error.Error.{Error}
-use Rattle.witc.specs.Decodes.{RefusesInput}
-use Rattle.witc.specs.Input.{ReadsWhole}
+use Rattle.witc.specs.{Decodes.RefusesInput, Input.ReadsWhole}
 use Rattle.witc.specs.declared.refusal.Refusal.{Refusal}
-use Rattle.witc.specs.declared.refusal.Refusal.TheVariants as refusals
 use Rattle.witc_texts.specs.Worlds.{ComparesBytes, RefusesCompared}
 use Rattle.witc_texts.specs.declared.comparison.Compared.{Compared}
+use Rattle.witc.specs.declared.refusal.Refusal.TheVariants as refusals
 
 -- All that a reader has left means a package, and this comes of the names in it.
 pub record ComparesInput (left rest : Option (List ℕ)) (prev new : List ℕ) (c : Compared) : Type 0 where

@@ -1,7 +1,6 @@
 //! What is written at the end of a run, and the exit status.
 
-ghost use Rattle.std.specs.Prelude.{◌≡◌, OnOk};
-ghost use Rattle.std.specs.Io.KnownBytes.{Appends};
+ghost use Rattle.std.specs.{Prelude.◌≡◌, Prelude.OnOk, Io.KnownBytes.Appends};
 ghost use Rattle.witc.specs.Answers.{Answers};
 ghost use Rattle.witc_texts.specs.Lines.{no_such_world};
 

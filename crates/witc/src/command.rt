@@ -1,10 +1,8 @@
 //! What the words behind the program's name ask for.
 
 ghost use Rattle.std.specs.Prelude.{◌≡◌, [], ◌∷◌, true, false, MatchOption};
-ghost use Rattle.std.specs.Option.{option_map};
-ghost use Rattle.std.specs.Str.{is_utf8};
-ghost use Rattle.witc.specs.Asks.{asked_by};
-ghost use Rattle.witc.specs.Words.{asked_of, is_word};
+ghost use Rattle.std.specs.{Option.option_map, Str.is_utf8};
+ghost use Rattle.witc.specs.{Asks.asked_by, Words.asked_of, Words.is_word};
 
 /// What the words ask for.
 #[derive(Clone, Copy)]

@@ -3,8 +3,7 @@
 
 ghost use Rattle.std.specs.Prelude.{IfOk};
 ghost use Rattle.wit_model.specs.Valid.{IsValid};
-ghost use Rattle.witc.specs.Demo.{HoldsDemo, IsFoo, IsOneFunction};
-ghost use Rattle.witc.specs.DemoShown.{IsDemoDigits, IsDemoText};
+ghost use Rattle.witc.specs.{Demo.HoldsDemo, Demo.IsFoo, Demo.IsOneFunction, DemoShown.IsDemoDigits, DemoShown.IsDemoText};
 
 use crate::hex::hex_lines;
 use crate::refusal::Refusal;

@@ -1,8 +1,7 @@
 //! What core modules bind, as text, and modules without the sections that carry worlds.
 
 ghost use Rattle.std.specs.Prelude.{IfErr, IfOk};
-ghost use Rattle.witc.specs.Bindings.{PrintsBindings, RefusesModuleInput};
-ghost use Rattle.witc.specs.Stripped.{StripsInput};
+ghost use Rattle.witc.specs.{Bindings.PrintsBindings, Bindings.RefusesModuleInput, Stripped.StripsInput};
 
 use crate::input::read_whole;
 use crate::refusal::Refusal;

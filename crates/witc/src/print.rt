@@ -1,8 +1,7 @@
 //! Packages as text.
 
 ghost use Rattle.std.specs.Prelude.{IfErr, IfOk};
-ghost use Rattle.witc.specs.Decodes.{RefusesInput};
-ghost use Rattle.witc.specs.Printed.{PrintsInput};
+ghost use Rattle.witc.specs.{Decodes.RefusesInput, Printed.PrintsInput};
 
 use crate::input::read_whole;
 use crate::refusal::Refusal;

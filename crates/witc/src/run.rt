@@ -1,9 +1,7 @@
 //! Every command of the program, over any reader and writer.
 
 ghost use Rattle.std.specs.Prelude.{◌≡◌, ◌≤◌, MatchResult, Some};
-ghost use Rattle.witc.specs.Asks.{asked_by};
-ghost use Rattle.witc.specs.Runs.{AnswersNames, AnswersText, Ends};
-ghost use Rattle.witc.specs.Words.{asked_of};
+ghost use Rattle.witc.specs.{Asks.asked_by, Runs.AnswersNames, Runs.AnswersText, Runs.Ends, Words.asked_of};
 
 use crate::answer::{BAD_WORDS, DONE, answer, answer_no_world, refuse};
 use crate::command::{Command, command_of};

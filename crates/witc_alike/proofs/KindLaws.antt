@@ -1,21 +1,13 @@
 -- What readings tell.
 use Rattle.std.proofs.Common.{◌≡◌, ◌∙◌, sym, subst, ℕ, Bool, true, false, List, Result, Ok, Err, IfOk}
-use Rattle.std.specs.Prelude.{◌↔◌, IfErr, IsTrue}
 use Rattle.std.proofs.lemmas.Bool.{true≢false}
-use Rattle.wit_model.specs.declared.error.Error.{Error}
-use Rattle.wit_model.specs.declared.error.Error.TheVariants as errors
-use Rattle.wit_model.specs.declared.model.PackageId.{PackageId}
-use Rattle.wit_model.specs.declared.model.Resolve.{Resolve}
-use Rattle.wit_model.specs.declared.model.WorldId.{WorldId}
-use Rattle.wit_component.specs.Binding.{Binding}
-use Rattle.wit_component.specs.Bound.{IsBound, IsRefused, RefusesBindings}
-use Rattle.wit_component.specs.BoundLaws.{BoundIsNotRefused}
-use Rattle.wit_component.specs.Decoded.{IsDecoded, RefusesBytes}
-use Rattle.wit_component.specs.DecodedWorlds.{IsDecodedWorld, RefusesWorldBytes}
-use Rattle.wit_component.specs.Meaning.{PackageMeaning, WorldPackage}
-use Rattle.wit_component.specs.Reached.{OutgrowsLists}
-use Rattle.wit_component.specs.Reads.{Reads, ReadsWorld}
+use Rattle.std.specs.Prelude.{◌↔◌, IfErr, IsTrue}
+use Rattle.wit_model.specs.declared.{error.Error.Error, model.PackageId.PackageId, model.Resolve.Resolve, model.WorldId.WorldId}
+use Rattle.wit_component.specs.{Binding.Binding, BoundLaws.BoundIsNotRefused, Reached.OutgrowsLists}
+use Rattle.wit_component.specs.{Bound.IsBound, Bound.IsRefused, Bound.RefusesBindings, DecodedWorlds.IsDecodedWorld, DecodedWorlds.RefusesWorldBytes}
+use Rattle.wit_component.specs.{Decoded.IsDecoded, Decoded.RefusesBytes, Meaning.PackageMeaning, Meaning.WorldPackage, Reads.Reads, Reads.ReadsWorld}
 use Rattle.witc_alike.specs.Kinds.{IsUnknown, TellsRead}
+use Rattle.wit_model.specs.declared.error.Error.TheVariants as errors
 
 -- ---- what is told of a reading that is there, or that is refused
 

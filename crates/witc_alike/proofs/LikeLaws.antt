@@ -1,15 +1,9 @@
 -- Worlds that have a sense, and what comes of two.
 use Rattle.std.proofs.Common.{◌≡◌, ◌∙◌, sym, subst, ap, ℕ, Bool, true, false, List, Option, Some}
-use Rattle.std.specs.Prelude.{◌↔◌, IsTrue, is_some, option_map}
 use Rattle.std.proofs.lemmas.Bool.{true≢false}
-use Rattle.wit_model.specs.declared.error.Error.{Error}
-use Rattle.wit_model.specs.declared.model.Resolve.{Resolve}
-use Rattle.wit_model.specs.declared.model.World.{World}
-use Rattle.wit_model.specs.declared.model.WorldId.{WorldId}
-use Rattle.wit_model.specs.Lookup.{world_at}
-use Rattle.wit_model.specs.Meaning.{world_sense}
-use Rattle.wit_model.specs.Meant.{world_meaning}
-use Rattle.wit_model.specs.Refusals.{IsMemory}
+use Rattle.std.specs.Prelude.{◌↔◌, IsTrue, is_some, option_map}
+use Rattle.wit_model.specs.declared.{error.Error.Error, model.Resolve.Resolve, model.World.World, model.WorldId.WorldId}
+use Rattle.wit_model.specs.{Lookup.world_at, Meaning.world_sense, Meant.world_meaning, Refusals.IsMemory}
 use Rattle.wit_component.specs.Decoded.{RefusesBytes}
 use Rattle.wit_compat.specs.Senses.{of_world, sense_of}
 use Rattle.wit_compat.specs.declared.place.Place.TheVariants as place

@@ -1,16 +1,15 @@
 -- Sections of a module, read one after the other.
 use Rattle.std.proofs.Common.{◌≡◌, ◌∙◌, ◌<◌, ◌≤◌, ◌+◌, ◌-◌, refl, sym, ap, subst, arith, ℕ, zero, suc, List, [], ◌∷◌, ◌++◌, append_assoc, length, Option, Some, None}
-use Rattle.std.specs.Prelude.{Vec, slice_get}
-use Rattle.std.specs.Borrow.{Bor}
-use Rattle.std.specs.declared.alloc.Global.{Global}
 use Rattle.std.proofs.lemmas.List.{length-append}
+use Rattle.std.specs.{Prelude.Vec, Prelude.slice_get, Borrow.Bor}
+use Rattle.std.specs.declared.alloc.Global.{Global}
 use Rattle.wit_model.specs.declared.error.Error.{Error}
-use Rattle.wit_model.specs.declared.error.Error.TheVariants as errors
 use Rattle.wit_metadata.specs.Modules.{Carries, CarriesData, Framed, IsFrontData, IsFrontless, IsInFront, IsNoModule, module_preamble}
 use Rattle.wit_metadata.proofs.ModuleLaws.{named-end, sequence-end}
 use Rattle.wit_component.specs.Bound.{CarryData}
 use Rattle.witc_alike.specs.Carried.{BeginsWith, HasNumber, RefusesWalk}
 use Rattle.base_lemmas.proofs.Lists.{at_last, is-nothing}
+use Rattle.wit_model.specs.declared.error.Error.TheVariants as errors
 
 -- ---- a section more
 

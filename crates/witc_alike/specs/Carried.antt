@@ -2,9 +2,8 @@
 use Rattle.std.specs.Prelude.{◌≡◌, ◌<◌, ◌≤◌, ◌+◌, ◌++◌, ℕ, List, [], Option, Some, None, Vec, length, slice_get}
 use Rattle.std.specs.declared.alloc.Global.{Global}
 use Rattle.wit_model.specs.declared.error.Error.{Error}
+use Rattle.wit_component.specs.{Bound.CarryData, Bound.HasSections, Modules.AreSections, Modules.Framed, Modules.IsFrontless, Modules.module_preamble}
 use Rattle.wit_model.specs.declared.error.Error.TheVariants as errors
-use Rattle.wit_component.specs.Bound.{CarryData, HasSections}
-use Rattle.wit_component.specs.Modules.{AreSections, Framed, IsFrontless, module_preamble}
 
 -- The bytes begin as a module with these sections, in which worlds are carried by these data; and this is what is left behind them.
 pub record BeginsWith (bytes : List ℕ) (data_ : List (List ℕ)) (left : List ℕ) : Type 0 where

@@ -1,12 +1,9 @@
 -- What bytes are.
 use Rattle.std.specs.Prelude.{◌≡◌, ◌↔◌, ◌+◌, ℕ, Bool, true, false, if◌then◌else◌, IsTrue, List, Result, Ok, Err}
 use Rattle.wit_model.specs.declared.error.Error.{Error}
-use Rattle.wit_model.specs.declared.error.Error.TheVariants as errors
-use Rattle.wit_component.specs.Binding.{Binding}
+use Rattle.wit_component.specs.{Binding.Binding, Meaning.PackageMeaning, Meaning.WorldPackage, Reached.OutgrowsLists, Reads.Reads, Reads.ReadsWorld}
 use Rattle.wit_component.specs.Bound.{IsBound}
-use Rattle.wit_component.specs.Meaning.{PackageMeaning, WorldPackage}
-use Rattle.wit_component.specs.Reached.{OutgrowsLists}
-use Rattle.wit_component.specs.Reads.{Reads, ReadsWorld}
+use Rattle.wit_model.specs.declared.error.Error.TheVariants as errors
 
 -- a number where something holds
 abbrev pub bit : Bool → ℕ → ℕ

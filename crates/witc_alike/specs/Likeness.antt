@@ -1,13 +1,10 @@
 -- Whether two worlds of two packages have one sense.
 use Rattle.std.specs.Prelude.{◌≡◌, ◌≢◌, ℕ, List, Some, None}
-use Rattle.wit_model.specs.declared.error.Error.{Error}
-use Rattle.wit_model.specs.declared.model.Resolve.{Resolve}
-use Rattle.wit_model.specs.declared.model.WorldId.{WorldId}
-use Rattle.wit_component.specs.Decoded.{IsDecoded, RefusesBytes}
-use Rattle.wit_component.specs.Senses.{sense_of}
-use Rattle.wit_compat.specs.declared.place.Place.TheVariants as place
+use Rattle.wit_model.specs.declared.{error.Error.Error, model.Resolve.Resolve, model.WorldId.WorldId}
+use Rattle.wit_component.specs.{Decoded.IsDecoded, Decoded.RefusesBytes, Senses.sense_of}
 use Rattle.witc_texts.specs.Named.{NamesWorld}
 use Rattle.witc_alike.specs.declared.likeness.Alike.{Alike}
+use Rattle.wit_compat.specs.declared.place.Place.TheVariants as place
 use Rattle.witc_alike.specs.declared.likeness.Alike.TheVariants as alike
 
 -- The bytes mean a package, and the number is of its world of this name.

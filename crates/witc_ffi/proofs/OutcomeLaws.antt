@@ -1,13 +1,10 @@
 -- What C is given of what comes of a call.
 use Rattle.std.proofs.Common.{◌≡◌, ◌&&◌, ℕ, List, [], Bool, true, false, refl, sym, subst, Option, Some, None, Result, Ok, Err, IfOk, MatchResult}
-use Rattle.std.specs.Prelude.{Vec, IfErr}
-use Rattle.std.specs.Str.{is_utf8}
-use Rattle.std.specs.declared.alloc.AllocError.{AllocError}
-use Rattle.std.specs.declared.alloc.Global.{Global}
 use Rattle.std.proofs.lemmas.Bool.{and_from as both-good}
+use Rattle.std.specs.{Prelude.Vec, Prelude.IfErr, Str.is_utf8}
+use Rattle.std.specs.declared.alloc.{AllocError.AllocError, Global.Global}
 use Rattle.wit_model.specs.declared.error.Error.{Error}
-use Rattle.witc_refusals.specs.Messages.{message_of}
-use Rattle.witc_refusals.specs.Numbers.{plain_why, why_of}
+use Rattle.witc_refusals.specs.{Messages.message_of, Numbers.plain_why, Numbers.why_of}
 use Rattle.witc_refusals.specs.declared.why.Why.{Why}
 use Rattle.witc_ffi.specs.Answers.{Answers, AreAlike, AreTexts, IsCompatible, IsOutcomeIfThere, LacksEither, LacksWorld, RefusesAlike, RefusesWorlds, Tells, bad, done, lacking as answers_lacking, no_such_world, refused, world_why}
 use Rattle.witc_ffi.specs.Outcomes.{HandsOut, IsOutcome, IsOutcomeOf, IsRefusal, handed, lacking}

@@ -1,27 +1,20 @@
 -- What the status of each call, its bytes and its numbers say, of the bytes and names handed in.
-use Rattle.std.specs.Prelude.{◌≡◌, ◌&&◌, ◌++◌, ℕ, nat_eq, nat_lt, Bool, if◌then◌else◌, List, [], codes, length, true, false, Option, Some, None, Result, Ok, Err, Vec}
-use Rattle.std.specs.Prelude.{String}
+use Rattle.std.specs.Prelude.{◌≡◌, ◌&&◌, ◌++◌, ℕ, nat_eq, nat_lt, Bool, if◌then◌else◌, List, [], codes, length, true, false, Option, Some, None, Result, Ok, Err, Vec, String}
 use Rattle.std.specs.Str.{is_utf8}
 use Rattle.std.specs.declared.alloc.Global.{Global}
-use Rattle.wit_model.specs.declared.error.Error.{Error}
-use Rattle.wit_model.specs.declared.error.Error.TheVariants as errors
-use Rattle.wit_model.specs.declared.error.Error.TheVariants.{Size}
-use Rattle.wit_model.specs.declared.model.StringEncoding.{StringEncoding}
-use Rattle.wit_model.specs.declared.model.StringEncoding.TheVariants as encodings
-use Rattle.wit_component.specs.Bound.{RefusesBindings}
-use Rattle.wit_component.specs.Reached.{OutgrowsLists}
-use Rattle.witc_refusals.specs.Messages.{message_of}
-use Rattle.witc_refusals.specs.Numbers.{nowhere, plain_why, why_of}
+use Rattle.wit_model.specs.declared.{error.Error.Error, error.Error.TheVariants.Size, model.StringEncoding.StringEncoding}
+use Rattle.wit_component.specs.{Bound.RefusesBindings, Reached.OutgrowsLists}
+use Rattle.witc_refusals.specs.{Messages.message_of, Numbers.nowhere, Numbers.plain_why, Numbers.why_of}
 use Rattle.witc_refusals.specs.declared.why.Why.{Why}
 use Rattle.witc_texts.specs.Worlds.{ComparesBytes, RefusesCompared}
-use Rattle.witc_texts.specs.declared.comparison.Compared.TheVariants as compared
-use Rattle.witc_alike.specs.Carried.{HasNumber}
-use Rattle.witc_alike.specs.Kinds.{AreKinds, IsUnknown}
-use Rattle.witc_alike.specs.Likeness.{ComparesTwo, RefusesTwo}
-use Rattle.witc_alike.specs.declared.likeness.Alike.TheVariants as alike
+use Rattle.witc_alike.specs.{Carried.HasNumber, Kinds.AreKinds, Kinds.IsUnknown, Likeness.ComparesTwo, Likeness.RefusesTwo}
 use Rattle.witc_written.specs.Carried.{AttachesWorld, EmbedsWorld, HasNoWorld, RefusesAttached, RefusesEmbedded}
 use Rattle.witc_ffi.specs.Outcomes.{IsNoLack, IsOutcome, IsRefusal}
 use Rattle.witc_ffi.specs.declared.outcome.Outcome.{Outcome}
+use Rattle.wit_model.specs.declared.error.Error.TheVariants as errors
+use Rattle.wit_model.specs.declared.model.StringEncoding.TheVariants as encodings
+use Rattle.witc_texts.specs.declared.comparison.Compared.TheVariants as compared
+use Rattle.witc_alike.specs.declared.likeness.Alike.TheVariants as alike
 
 -- A call is done, with bytes of which this is true. Or it is refused with an error of which that is true, and the bytes are its message. Or an
 -- argument is bad, with this text and these numbers. Or memory was wanting, and there are no bytes.

@@ -1,11 +1,8 @@
 -- What comes of a call, and what C is given of it.
 use Rattle.std.specs.Prelude.{◌≡◌, ℕ, List, [], Result, Ok, Err, MatchResult, Vec}
-use Rattle.std.specs.declared.alloc.AllocError.{AllocError}
-use Rattle.std.specs.declared.alloc.Global.{Global}
-use Rattle.wit_model.specs.declared.error.Error.{Error}
-use Rattle.wit_model.specs.declared.error.Error.TheVariants.{Memory}
-use Rattle.witc_refusals.specs.Messages.{message_of}
-use Rattle.witc_refusals.specs.Numbers.{plain_why, why_of}
+use Rattle.std.specs.declared.alloc.{AllocError.AllocError, Global.Global}
+use Rattle.wit_model.specs.declared.error.{Error.Error, Error.TheVariants.Memory}
+use Rattle.witc_refusals.specs.{Messages.message_of, Numbers.plain_why, Numbers.why_of}
 use Rattle.witc_refusals.specs.declared.why.Why.{Why}
 use Rattle.witc_ffi.specs.declared.outcome.Outcome.{Outcome}
 

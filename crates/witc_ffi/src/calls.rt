@@ -1,9 +1,7 @@
 //! What comes of the calls that are more than bytes to bytes.
 
-ghost use Rattle.std.specs.Prelude.{◌≡◌, true, false, IfOk, MatchOption};
-ghost use Rattle.std.specs.Str.{is_utf8};
-ghost use Rattle.witc_ffi.specs.Answers.{AreTexts, IsSection, KindsAnswers, LacksSection, NeverBad, RefusesBound, Tells, TellsAlike, TellsAttached, TellsCompared, TellsEmbedded, is_asked};
-ghost use Rattle.witc_ffi.specs.Answers.{encoding_of as encoding_of_number, no_encoding as no_encoding_text};
+ghost use Rattle.std.specs.{Prelude.◌≡◌, Prelude.true, Prelude.false, Prelude.IfOk, Prelude.MatchOption, Str.is_utf8};
+ghost use Rattle.witc_ffi.specs.Answers.{AreTexts, IsSection, KindsAnswers, LacksSection, NeverBad, RefusesBound, Tells, TellsAlike, TellsAttached, TellsCompared, TellsEmbedded, is_asked, encoding_of as encoding_of_number, no_encoding as no_encoding_text};
 ghost use Rattle.witc_ffi.specs.Outcomes.{IsOutcome};
 ghost use Rattle.witc_alike.specs.Carried.{RefusesWalk};
 ghost use Rattle.witc_refusals.specs.Numbers.{plain_why};

@@ -4,14 +4,11 @@
 #![tactic(auto)]
 
 ghost use Rattle.std.specs.Prelude.{◌≡◌, []};
-ghost use Rattle.wit_component.specs.Decoded.{RefusesBytes};
-ghost use Rattle.wit_component.specs.DecodedWorlds.{RefusesWorldBytes};
+ghost use Rattle.wit_component.specs.{Decoded.RefusesBytes, DecodedWorlds.RefusesWorldBytes};
 ghost use Rattle.witc_alike.specs.Carried.{RefusesWalk};
 ghost use Rattle.witc_ffi.specs.Answers.{Answers, AnswersAlike, AnswersAttached, AnswersCompared, AnswersEmbedded, IsSection, KindsAnswers, LacksSection, NeverBad, RefusesBound, is_asked};
 ghost use Rattle.witc_listed.specs.Listings.{ListsModule, ListsPackage, ListsWorld};
-ghost use Rattle.witc_texts.specs.Bindings.{PrintsModule};
-ghost use Rattle.witc_texts.specs.Printed.{PrintsBytes};
-ghost use Rattle.witc_texts.specs.Stripped.{StripsBytes};
+ghost use Rattle.witc_texts.specs.{Bindings.PrintsModule, Printed.PrintsBytes, Stripped.StripsBytes};
 ghost use Rattle.witc_written.specs.Worlds.{EncodesWorld, PrintsWorld, RefusesEncodedWorld};
 ghost use Rattle.witc_written.specs.Written.{EncodesModule, EncodesPackage, RefusesEncoded, RefusesEncodedModule};
 ghost use denote.RawPtr.{null_ptr};

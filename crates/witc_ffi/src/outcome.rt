@@ -3,8 +3,7 @@
 ghost use Rattle.std.specs.Prelude.{◌≡◌, MatchResult, IfOk};
 ghost use Rattle.witc_ffi.specs.Answers.{IsOutcomeIfThere, no_such_world, world_why};
 ghost use Rattle.witc_ffi.specs.Outcomes.{HandsOut, IsOutcome, IsOutcomeOf, IsRefusal};
-ghost use Rattle.witc_refusals.specs.Messages.{message_of};
-ghost use Rattle.witc_refusals.specs.Numbers.{plain_why, why_of as numbers_of};
+ghost use Rattle.witc_refusals.specs.{Messages.message_of, Numbers.plain_why, Numbers.why_of as numbers_of};
 
 use crate::answer::Answer;
 use std::alloc::{AllocError, Global};

@@ -1,19 +1,11 @@
 -- What bytes mean, as JSON.
 use Rattle.std.specs.Prelude.{ℕ, List, []}
-use Rattle.wit_model.specs.declared.model.PackageId.{PackageId}
-use Rattle.wit_model.specs.declared.model.Resolve.{Resolve}
-use Rattle.wit_model.specs.declared.model.WorldId.{WorldId}
+use Rattle.wit_model.specs.declared.model.{PackageId.PackageId, Resolve.Resolve, WorldId.WorldId}
 use Rattle.wit_bind.specs.declared.bindgen.Bindgen.{Bindgen}
 use Rattle.bind_json.specs.Encodings.{bindgen_listing_tokens}
-use Rattle.wit_component.specs.Bindings.{IsBindgen, binding_of}
-use Rattle.wit_component.specs.Bound.{IsBound}
-use Rattle.wit_component.specs.BoundTo.{BeginsWithRoot}
-use Rattle.wit_component.specs.Decoded.{IsDecoded}
-use Rattle.wit_component.specs.DecodedWorlds.{IsDecodedWorld}
-use Rattle.wit_component.specs.Order.{FollowsBytes}
-use Rattle.wit_component.specs.Reached.{IsReached}
-use Rattle.wit_json.specs.Listed.{package_listing_tokens, world_listing_tokens}
-use Rattle.wit_json.specs.Spelled.{Spells}
+use Rattle.wit_component.specs.{Bindings.IsBindgen, Bindings.binding_of, BoundTo.BeginsWithRoot, DecodedWorlds.IsDecodedWorld, Order.FollowsBytes}
+use Rattle.wit_component.specs.{Bound.IsBound, Decoded.IsDecoded, Reached.IsReached}
+use Rattle.wit_json.specs.{Listed.package_listing_tokens, Listed.world_listing_tokens, Spelled.Spells}
 
 -- The bytes mean a package, which is decoded so, in the order in which they show it, and the text is the listing of it.
 pub record ListsPackage (bytes text : List ℕ) : Type 0 where

@@ -2,10 +2,7 @@
 
 ghost use Rattle.std.specs.Prelude.{◌≡◌, IfErr, IfOk};
 ghost use Rattle.wit_model.specs.declared.error.Error.TheVariants.{Size};
-ghost use Rattle.wit_component.specs.Bound.{RefusesBindings};
-ghost use Rattle.wit_component.specs.Decoded.{RefusesBytes};
-ghost use Rattle.wit_component.specs.DecodedWorlds.{RefusesWorldBytes};
-ghost use Rattle.wit_component.specs.Reached.{OutgrowsLists};
+ghost use Rattle.wit_component.specs.{Bound.RefusesBindings, Decoded.RefusesBytes, DecodedWorlds.RefusesWorldBytes, Reached.OutgrowsLists};
 ghost use Rattle.witc_listed.specs.Listings.{ListsModule, ListsPackage, ListsWorld};
 
 use bind_json::bindgen_listing;

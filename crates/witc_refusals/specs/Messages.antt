@@ -1,11 +1,8 @@
 -- The messages of refusals, without an end of a line.
-use Rattle.std.specs.Fmt.{decimal}
-use Rattle.std.specs.Prelude.{ℕ, List, ◌++◌, codes}
-use Rattle.wit_model.specs.declared.error.Cause.{Cause}
+use Rattle.std.specs.{Fmt.decimal, Prelude.ℕ, Prelude.List, Prelude.◌++◌, Prelude.codes}
+use Rattle.wit_model.specs.declared.error.{Cause.Cause, ClashKind.ClashKind, Error.Error}
 use Rattle.wit_model.specs.declared.error.Cause.TheVariants as causes
-use Rattle.wit_model.specs.declared.error.ClashKind.{ClashKind}
 use Rattle.wit_model.specs.declared.error.ClashKind.TheVariants as kinds
-use Rattle.wit_model.specs.declared.error.Error.{Error}
 use Rattle.wit_model.specs.declared.error.Error.TheVariants as errors
 
 -- what is wrong with bytes that have no reading, in words

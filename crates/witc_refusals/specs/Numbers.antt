@@ -1,12 +1,10 @@
 -- Refusals as numbers: each variant of `Error` in its order, from 1 on, and what is in it.
 use Rattle.std.specs.Prelude.{ℕ, List, [], length}
-use Rattle.wit_model.specs.declared.error.Cause.{Cause}
-use Rattle.wit_model.specs.declared.error.Cause.TheVariants as causes
-use Rattle.wit_model.specs.declared.error.ClashKind.{ClashKind}
-use Rattle.wit_model.specs.declared.error.ClashKind.TheVariants as kinds
-use Rattle.wit_model.specs.declared.error.Error.{Error}
-use Rattle.wit_model.specs.declared.error.Error.TheVariants as errors
+use Rattle.wit_model.specs.declared.error.{Cause.Cause, ClashKind.ClashKind, Error.Error}
 use Rattle.witc_refusals.specs.declared.why.Why.{Why}
+use Rattle.wit_model.specs.declared.error.Cause.TheVariants as causes
+use Rattle.wit_model.specs.declared.error.ClashKind.TheVariants as kinds
+use Rattle.wit_model.specs.declared.error.Error.TheVariants as errors
 
 -- the offset where there is none
 abbrev pub nowhere : ℕ

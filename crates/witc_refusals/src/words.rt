@@ -1,7 +1,6 @@
 //! The messages of refusals.
 
-ghost use Rattle.std.specs.Fmt.{decimal};
-ghost use Rattle.std.specs.Prelude.{◌≡◌, ◌++◌, IfOk};
+ghost use Rattle.std.specs.{Fmt.decimal, Prelude.◌≡◌, Prelude.◌++◌, Prelude.IfOk};
 ghost use Rattle.witc_refusals.specs.Messages.{clash_of, message_of, no_reading_of, words_of_cause, words_of_clash};
 
 use std::alloc::{AllocError, Global};

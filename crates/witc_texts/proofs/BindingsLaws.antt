@@ -1,23 +1,14 @@
 -- Packages by their numbers, and modules that are refused.
 use Rattle.std.proofs.Common.{◌≡◌, ◌≤◌, ◌<◌, ◌+◌, ◌-◌, ◌∙◌, ◌&&◌, refl, sym, ap, subst, ℕ, zero, suc, nat_lt, Bool, true, false, List, [], ◌∷◌, ◌++◌, length, map, Some, arith}
-use Rattle.std.specs.Prelude.{slice_get}
-use Rattle.std.specs.List.{list_all, range_with_len}
-use Rattle.std.proofs.lemmas.Bool.{lt-ltb, ltb-false, ltb-true}
-use Rattle.std.proofs.lemmas.List.FromFn.{map-range_with_len_more}
-use Rattle.wit_model.specs.declared.error.Error.{Error}
-use Rattle.wit_model.specs.declared.error.Error.TheVariants.{Memory, Size}
-use Rattle.wit_model.specs.declared.model.Package.{Package}
-use Rattle.wit_model.specs.declared.model.PackageId.{PackageId}
-use Rattle.wit_model.specs.declared.model.Resolve.{Resolve}
-use Rattle.wit_model.specs.Lookup.{package_at}
-use Rattle.wit_model.specs.Rules.{in_list}
-use Rattle.wit_model.specs.Valid.{IsValid, is_place, numbers_in_range}
+use Rattle.std.proofs.lemmas.{Bool.lt-ltb, Bool.ltb-false, Bool.ltb-true, List.FromFn.map-range_with_len_more}
+use Rattle.std.specs.{Prelude.slice_get, List.list_all, List.range_with_len}
+use Rattle.wit_model.specs.declared.{error.Error.Error, model.Resolve.Resolve}
+use Rattle.wit_model.specs.declared.{error.Error.TheVariants.Memory, error.Error.TheVariants.Size, model.Package.Package, model.PackageId.PackageId}
+use Rattle.wit_model.specs.{Lookup.package_at, Rules.in_list, Valid.IsValid, Valid.is_place, Valid.numbers_in_range}
 use Rattle.wit_model.proofs.OnePath.{package-passes}
-use Rattle.wit_component.specs.Bound.{RefusesBindings}
-use Rattle.wit_component.specs.BoundTo.{BeginsWithRoot}
+use Rattle.wit_component.specs.{Bound.RefusesBindings, BoundTo.BeginsWithRoot}
 use Rattle.witc_texts.specs.Bindings.{other_packages_of}
-use Rattle.base_lemmas.proofs.Bools.{left_of as first_true}
-use Rattle.base_lemmas.proofs.Lists.{within_there as there}
+use Rattle.base_lemmas.proofs.{Bools.left_of as first_true, Lists.within_there as there}
 
 -- ---- how many packages there are
 

@@ -1,19 +1,13 @@
 -- Worlds of a valid `Resolve` by their names.
 use Rattle.std.proofs.Common.{◌≡◌, ◌<◌, ◌≤◌, ◌⊎◌, ℕ, ◌+◌, List, length, slice_get, get_or, nat_lt, ltb→lt, T, true, inl, inr, sym, ap, subst, ◌∙◌, Option, Some, None, option_and_then, IfSome, arith}
-use Rattle.std.specs.HashMap.{get_by_text}
-use Rattle.std.specs.List.{IsAmong, list_all}
 use Rattle.std.proofs.lemmas.Option.{slice_get_cases}
+use Rattle.std.specs.{HashMap.get_by_text, List.IsAmong, List.list_all}
 use Rattle.indexmap.specs.IndexMap.{values}
-use Rattle.wit_model.specs.declared.model.Package.{Package}
-use Rattle.wit_model.specs.declared.model.Resolve.{Resolve}
-use Rattle.wit_model.specs.declared.model.WorldId.{WorldId}
-use Rattle.wit_model.specs.Lookup.{package_at, world_at}
-use Rattle.wit_model.specs.Rules.{in_list}
-use Rattle.wit_model.specs.Valid.{IsValid, is_place, numbers_in_range}
+use Rattle.wit_model.specs.declared.model.{Package.Package, Resolve.Resolve, WorldId.WorldId}
+use Rattle.wit_model.specs.{Lookup.package_at, Lookup.world_at, Rules.in_list, Valid.IsValid, Valid.is_place, Valid.numbers_in_range}
 use Rattle.wit_model.proofs.Entries.{each_from_at, lists_pass}
 use Rattle.witc_texts.specs.Named.{NamesWorld, world_named}
-use Rattle.base_lemmas.proofs.Bools.{right_of as second_true}
-use Rattle.base_lemmas.proofs.Elements.{all-contained}
+use Rattle.base_lemmas.proofs.{Bools.right_of as second_true, Elements.all-contained}
 
 stands : {X : Type 0} (xs : List X) (n : ℕ) → nat_lt n (length xs) ≡ true → (x : X) × (slice_get xs n ≡ Some x)
 stands {X = X} xs n h = by (slice_get_cases xs n).1

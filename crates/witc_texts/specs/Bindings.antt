@@ -1,13 +1,9 @@
 -- The text of what a core module binds.
 use Rattle.std.specs.Prelude.{ℕ, ◌-◌, List, [], map, length}
 use Rattle.std.specs.List.{range_with_len}
-use Rattle.wit_model.specs.declared.model.PackageId.{PackageId}
-use Rattle.wit_model.specs.declared.model.Resolve.{Resolve}
+use Rattle.wit_model.specs.declared.model.{PackageId.PackageId, Resolve.Resolve}
 use Rattle.wit_bind.specs.declared.bindgen.Bindgen.{Bindgen}
-use Rattle.wit_component.specs.Bindings.{IsBindgen, binding_of}
-use Rattle.wit_component.specs.Bound.{IsBound}
-use Rattle.wit_component.specs.BoundTo.{BeginsWithRoot}
-use Rattle.wit_component.specs.Reached.{IsReached}
+use Rattle.wit_component.specs.{Bindings.IsBindgen, Bindings.binding_of, Bound.IsBound, BoundTo.BeginsWithRoot, Reached.IsReached}
 use Rattle.witc_texts.specs.Printed.{IsTextOf}
 
 -- all packages but the first, in order

@@ -1,9 +1,7 @@
 -- Worlds of a package by their names.
 use Rattle.std.specs.Prelude.{◌≡◌, ℕ, List, Option, Some, None, option_and_then}
 use Rattle.std.specs.HashMap.{get_by_text}
-use Rattle.wit_model.specs.declared.model.Resolve.{Resolve}
-use Rattle.wit_model.specs.declared.model.World.{World}
-use Rattle.wit_model.specs.declared.model.WorldId.{WorldId}
+use Rattle.wit_model.specs.declared.model.{Resolve.Resolve, World.World, WorldId.WorldId}
 use Rattle.wit_model.specs.Lookup.{package_at, world_at}
 
 -- the world of this name in the package of this number

@@ -1,13 +1,9 @@
 -- The text of packages (Component Model WIT.md).
 use Rattle.std.specs.Prelude.{◌≡◌, ℕ, List, [], true}
-use Rattle.wit_model.specs.declared.model.PackageId.{PackageId}
-use Rattle.wit_model.specs.declared.model.Resolve.{Resolve}
-use Rattle.print_grammar.specs.AsRead.{file_as_read}
-use Rattle.print_grammar.specs.Calls.{file_calls}
-use Rattle.print_grammar.specs.Reading.{IsOnlyReading}
+use Rattle.wit_model.specs.declared.model.{PackageId.PackageId, Resolve.Resolve}
+use Rattle.print_grammar.specs.{AsRead.file_as_read, Calls.file_calls, Reading.IsOnlyReading}
 use Rattle.print_output.specs.Render.{render}
-use Rattle.wit_component.specs.Decoded.{IsDecoded}
-use Rattle.wit_component.specs.Order.{FollowsBytes}
+use Rattle.wit_component.specs.{Decoded.IsDecoded, Order.FollowsBytes}
 use Rattle.wit_print.specs.Shown.{shown_file}
 
 -- The text is what the package's calls render to, with documentation and these others nested, and its one reading is what is shown of them.

@@ -2,8 +2,7 @@
 use Rattle.std.specs.Prelude.{ℕ, List, Option, Vec}
 use Rattle.std.specs.declared.alloc.Global.{Global}
 use Rattle.bind_meaning.specs.Binding.{Binding}
-use Rattle.wit_component.specs.Bound.{IsBound}
-use Rattle.wit_component.specs.Modules.{IsStripped, IsUnbound, StripsModule}
+use Rattle.wit_component.specs.{Bound.IsBound, Modules.IsStripped, Modules.IsUnbound, Modules.StripsModule}
 
 -- The bytes are a module that binds something, and this is the module without those sections, or none where it has none.
 pub record StripsTo (bytes : List ℕ) (kept : Option (Vec ℕ Global)) : Type 0 where

@@ -1,12 +1,7 @@
 -- Worlds of a package by their names, compared.
 use Rattle.std.specs.Prelude.{◌≡◌, ℕ, List, Some, None}
-use Rattle.wit_model.specs.declared.error.Error.{Error}
-use Rattle.wit_model.specs.declared.error.Error.TheVariants.{Memory}
-use Rattle.wit_model.specs.declared.model.Resolve.{Resolve}
-use Rattle.wit_model.specs.declared.model.World.{World}
-use Rattle.wit_component.specs.Compatible.{Accepts, IsRefused}
-use Rattle.wit_component.specs.Decoded.{IsDecoded, RefusesBytes}
-use Rattle.wit_component.specs.Order.{FollowsBytes}
+use Rattle.wit_model.specs.declared.{error.Error.Error, error.Error.TheVariants.Memory, model.Resolve.Resolve, model.World.World}
+use Rattle.wit_component.specs.{Compatible.Accepts, Compatible.IsRefused, Decoded.IsDecoded, Decoded.RefusesBytes, Order.FollowsBytes}
 use Rattle.witc_texts.specs.Named.{world_named}
 use Rattle.witc_texts.specs.declared.comparison.Compared.{Compared}
 use Rattle.witc_texts.specs.declared.comparison.Compared.TheVariants as compared

@@ -2,12 +2,9 @@
 
 ghost use Rattle.std.specs.Prelude.{◌≡◌, ◌<◌, length, IfErr, IfOk};
 ghost use Rattle.wit_model.specs.declared.error.Error.TheVariants.{Size};
-ghost use Rattle.wit_model.specs.Valid.{IsValid};
-ghost use Rattle.wit_model.specs.Refusals.{IsMemory};
-ghost use Rattle.wit_component.specs.Bound.{RefusesBindings};
-ghost use Rattle.wit_component.specs.Reached.{OutgrowsLists};
-ghost use Rattle.witc_texts.specs.Bindings.{IsWholeText, PrintsModule, other_packages_of};
-ghost use Rattle.witc_texts.specs.Stripped.{StripsTo};
+ghost use Rattle.wit_model.specs.{Valid.IsValid, Refusals.IsMemory};
+ghost use Rattle.wit_component.specs.{Bound.RefusesBindings, Reached.OutgrowsLists};
+ghost use Rattle.witc_texts.specs.{Bindings.IsWholeText, Bindings.PrintsModule, Bindings.other_packages_of, Stripped.StripsTo};
 
 use crate::packages::text_of_package;
 use std::alloc::{AllocError, Global};

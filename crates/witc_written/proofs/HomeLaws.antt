@@ -1,22 +1,14 @@
 -- The package of a world, and all others.
 use Rattle.std.proofs.Common.{◌≡◌, ◌<◌, ◌+◌, ◌++◌, ◌∙◌, sym, ap, ℕ, nat_eq, Bool, true, List, [], ◌∷◌, length, map, Option, Some, None, arith}
-use Rattle.std.specs.Prelude.{filter, is_some, not, cond}
-use Rattle.std.specs.List.{list_all, range_with_len}
-use Rattle.std.proofs.lemmas.Bool.{eq-eqb, ltb-true, ne_eqb}
-use Rattle.std.proofs.lemmas.List.FromFn.{filter_of_map_range_with_len_more}
-use Rattle.wit_model.specs.declared.model.PackageId.{PackageId}
-use Rattle.wit_model.specs.declared.model.Resolve.{Resolve}
-use Rattle.wit_model.specs.declared.model.World.{World}
+use Rattle.std.proofs.lemmas.{Bool.eq-eqb, Bool.ltb-true, Bool.ne_eqb, List.FromFn.filter_of_map_range_with_len_more}
+use Rattle.std.specs.{Prelude.filter, Prelude.is_some, Prelude.not, Prelude.cond, List.list_all, List.range_with_len}
+use Rattle.wit_model.specs.declared.model.{PackageId.PackageId, Resolve.Resolve, World.World}
 use Rattle.wit_model.specs.Lookup.{world_at}
-use Rattle.wit_model.specs.Rules.{in_list, package_number, passes}
-use Rattle.wit_model.specs.Valid.{IsValid, is_place, numbers_in_range, places}
+use Rattle.wit_model.specs.{Rules.in_list, Rules.package_number, Rules.passes, Valid.IsValid, Valid.is_place, Valid.numbers_in_range, Valid.places}
 use Rattle.wit_model.proofs.ValidLemmas.{world_passes}
 use Rattle.witc_texts.proofs.BindingsLaws.{all-there}
 use Rattle.witc_written.specs.Worlds.{other_packages_than}
-use Rattle.base_lemmas.proofs.Bools.{left_of, right_of}
-use Rattle.base_lemmas.proofs.Elements.{all-contained, all_pass, filter_kept}
-use Rattle.base_lemmas.proofs.Lists.{append_none}
-use Rattle.base_lemmas.proofs.Options.{there}
+use Rattle.base_lemmas.proofs.{Bools.left_of, Bools.right_of, Elements.all-contained, Elements.all_pass, Elements.filter_kept, Lists.append_none, Options.there}
 
 -- A world of a valid `Resolve` has a package, which is in range.
 pub home-there : (r : Resolve) → IsValid r → (n : ℕ) (w : World) → world_at r n ≡ Some w → (home : PackageId) × (w.package ≡ Some home) × (home.0 < length r.packages.items)

@@ -2,16 +2,11 @@
 use Rattle.std.proofs.Common.{◌≡◌, ℕ, false, List, sym, subst, ap, Some, Result, Ok, Err, IfOk}
 use Rattle.std.specs.Prelude.{◌<◌, IfErr, Vec}
 use Rattle.std.specs.declared.alloc.Global.{Global}
-use Rattle.wit_model.specs.declared.error.Error.{Error}
-use Rattle.wit_model.specs.declared.error.Error.TheVariants.{Memory, Size}
-use Rattle.wit_model.specs.declared.model.PackageId.{PackageId}
-use Rattle.wit_model.specs.declared.model.Resolve.{Resolve}
-use Rattle.wit_model.specs.declared.model.World.{World}
+use Rattle.wit_model.specs.declared.{error.Error.Error, model.World.World}
+use Rattle.wit_model.specs.declared.{error.Error.TheVariants.Memory, error.Error.TheVariants.Size, model.PackageId.PackageId, model.Resolve.Resolve}
 use Rattle.wit_model.specs.Lookup.{world_at}
 use Rattle.wit_component.specs.DecodedWorlds.{IsDecodedWorld, RefusesWorldBytes}
-use Rattle.wit_component.specs.Order.{FollowsBytes}
-use Rattle.wit_component.specs.Packages.{MeansPackageAt, RefusesPackageAt, SpellsPackageAt}
-use Rattle.wit_component.specs.Weight.{package_weight}
+use Rattle.wit_component.specs.{Order.FollowsBytes, Packages.MeansPackageAt, Packages.RefusesPackageAt, Packages.SpellsPackageAt, Weight.package_weight}
 use Rattle.witc_written.specs.Worlds.{EncodesWorld, HasWorld, RefusesEncodedWorld, unwritten}
 
 -- The world that bytes mean, and its package.

@@ -2,20 +2,11 @@
 use Rattle.std.proofs.Common.{◌≡◌, ℕ, Bool, false, true, List, [], ap, Result, Ok, Err, IfOk}
 use Rattle.std.specs.Prelude.{◌<◌, IfErr, OnOk, Vec}
 use Rattle.std.specs.declared.alloc.Global.{Global}
-use Rattle.wit_model.specs.declared.error.Error.{Error}
-use Rattle.wit_model.specs.declared.error.Error.TheVariants.{Size}
-use Rattle.wit_model.specs.declared.model.PackageId.{PackageId}
-use Rattle.wit_model.specs.declared.model.Resolve.{Resolve}
-use Rattle.wit_component.specs.Decoded.{IsDecoded}
-use Rattle.wit_component.specs.Order.{FollowsBytes}
-use Rattle.wit_component.specs.Packages.{HasNoClashesAt, MeansPackageAt, RefusesPackageAt, SpellsPackageAt}
-use Rattle.wit_component.specs.Reached.{IsReached}
-use Rattle.wit_component.specs.ReadBack.{DecodedHaveMembers, EncodingKeepsMeaning}
-use Rattle.wit_component.specs.Weight.{package_weight}
+use Rattle.wit_model.specs.declared.{error.Error.Error, error.Error.TheVariants.Size, model.PackageId.PackageId, model.Resolve.Resolve}
+use Rattle.wit_component.specs.{Decoded.IsDecoded, Order.FollowsBytes, Reached.IsReached, Bound.IsBound}
+use Rattle.wit_component.specs.{Packages.HasNoClashesAt, Packages.MeansPackageAt, Packages.RefusesPackageAt, Packages.SpellsPackageAt, BoundTo.BeginsWithRoot}
+use Rattle.wit_component.specs.{ReadBack.DecodedHaveMembers, ReadBack.EncodingKeepsMeaning, Weight.package_weight, Bindings.IsBindgen, Bindings.binding_of}
 use Rattle.wit_bind.specs.declared.bindgen.Bindgen.{Bindgen}
-use Rattle.wit_component.specs.Bindings.{IsBindgen, binding_of}
-use Rattle.wit_component.specs.Bound.{IsBound}
-use Rattle.wit_component.specs.BoundTo.{BeginsWithRoot}
 use Rattle.witc_written.specs.Written.{EncodesModule, EncodesPackage, RefusesEncoded, RefusesEncodedModule}
 
 -- what the clauses of `encode` say of a package that was decoded

@@ -2,21 +2,14 @@
 use Rattle.std.specs.Prelude.{◌≡◌, ◌<◌, ◌++◌, ℕ, Bool, true, List, Option, Some, None, Vec, codes, length}
 use Rattle.std.specs.declared.alloc.Global.{Global}
 use Rattle.wit_model.specs.declared.error.Error.{Error}
-use Rattle.wit_model.specs.declared.error.Error.TheVariants as errors
-use Rattle.wit_model.specs.declared.error.Error.TheVariants.{Size}
-use Rattle.wit_model.specs.declared.model.Resolve.{Resolve}
-use Rattle.wit_model.specs.declared.model.StringEncoding.{StringEncoding}
-use Rattle.wit_model.specs.declared.model.WorldId.{WorldId}
+use Rattle.wit_model.specs.declared.{error.Error.TheVariants.Size, model.Resolve.Resolve, model.StringEncoding.StringEncoding, model.WorldId.WorldId}
 use Rattle.comp_bytes.specs.Writing.{framed, name_bytes}
 use Rattle.bind_meaning.specs.Binding.{Binding}
-use Rattle.wit_component.specs.Bound.{IsBound, RefusesBindings}
-use Rattle.wit_component.specs.Carried.{CarriesEncoding, CarriesWorld, MeansWorld}
-use Rattle.wit_component.specs.Decoded.{IsDecoded, RefusesBytes}
-use Rattle.wit_component.specs.Order.{FollowsBytes}
+use Rattle.wit_component.specs.{Bound.IsBound, Bound.RefusesBindings, Decoded.IsDecoded, Decoded.RefusesBytes, Order.FollowsBytes, Weight.world_package_weight}
+use Rattle.wit_component.specs.{Carried.CarriesEncoding, Carried.CarriesWorld, Carried.MeansWorld, Packages.HasNoClashAt, Packages.RefusesWorldAt}
 use Rattle.wit_component.specs.Reached.{OutgrowsLists}
-use Rattle.wit_component.specs.Weight.{world_package_weight}
-use Rattle.wit_component.specs.Packages.{HasNoClashAt, RefusesWorldAt}
 use Rattle.witc_texts.specs.Named.{NamesWorld}
+use Rattle.wit_model.specs.declared.error.Error.TheVariants as errors
 
 -- The bytes mean a package with a world of this name, and the data mean that world by itself and say this encoding. The data carry
 -- the two as they are encoded, in the order in which the bytes show them, with canonical names or without. Where names are

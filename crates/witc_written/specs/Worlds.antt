@@ -1,14 +1,10 @@
 -- Worlds by themselves, as text and as packages (WIT.md, "Worlds"; Component Model WIT.md, "Package Format").
 use Rattle.std.specs.Prelude.{◌≡◌, ℕ, nat_eq, Bool, false, not, List, Some, filter, map, length}
 use Rattle.std.specs.List.{range_with_len}
-use Rattle.wit_model.specs.declared.error.Error.{Error}
-use Rattle.wit_model.specs.declared.model.PackageId.{PackageId}
-use Rattle.wit_model.specs.declared.model.Resolve.{Resolve}
-use Rattle.wit_model.specs.declared.model.World.{World}
-use Rattle.wit_component.specs.DecodedWorlds.{IsDecodedWorld, RefusesWorldBytes}
+use Rattle.wit_model.specs.declared.{error.Error.Error, model.PackageId.PackageId, model.Resolve.Resolve, model.World.World}
+use Rattle.wit_component.specs.{DecodedWorlds.IsDecodedWorld, DecodedWorlds.RefusesWorldBytes, Packages.MeansPackageAt, Packages.SpellsPackageAt}
 use Rattle.wit_component.specs.Order.{FollowsBytes}
 use Rattle.wit_model.specs.Lookup.{world_at}
-use Rattle.wit_component.specs.Packages.{MeansPackageAt, SpellsPackageAt}
 use Rattle.witc_texts.specs.Printed.{IsTextOf}
 use Rattle.witc_written.specs.Written.{RefusesWritten}
 

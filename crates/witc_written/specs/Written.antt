@@ -1,19 +1,9 @@
 -- What bytes are written of what bytes (Component Model WIT.md, "Package Format").
 use Rattle.std.specs.Prelude.{◌≡◌, ◌<◌, ◌↔◌, ℕ, Bool, true, false, List, []}
-use Rattle.wit_model.specs.declared.error.Error.{Error}
-use Rattle.wit_model.specs.declared.error.Error.TheVariants.{Size}
-use Rattle.wit_model.specs.declared.model.PackageId.{PackageId}
-use Rattle.wit_model.specs.declared.model.Resolve.{Resolve}
-use Rattle.wit_component.specs.Bindings.{IsBindgen, binding_of}
-use Rattle.wit_component.specs.Bound.{IsBound, RefusesBindings}
-use Rattle.wit_component.specs.BoundTo.{BeginsWithRoot}
-use Rattle.wit_component.specs.Decoded.{IsDecoded, RefusesBytes}
-use Rattle.wit_component.specs.Meaning.{PackageMeaning}
-use Rattle.wit_component.specs.Order.{FollowsBytes}
-use Rattle.wit_component.specs.Packages.{HasNoClashesAt, MeansPackageAt, RefusesPackageAt, SpellsPackageAt}
-use Rattle.wit_component.specs.Reached.{IsReached, OutgrowsLists}
-use Rattle.wit_component.specs.Reads.{Reads}
-use Rattle.wit_component.specs.Weight.{package_weight}
+use Rattle.wit_model.specs.declared.{error.Error.Error, error.Error.TheVariants.Size, model.PackageId.PackageId, model.Resolve.Resolve}
+use Rattle.wit_component.specs.{Bindings.IsBindgen, Bindings.binding_of, Decoded.IsDecoded, Decoded.RefusesBytes, Reached.IsReached, Reached.OutgrowsLists}
+use Rattle.wit_component.specs.{Bound.IsBound, Bound.RefusesBindings, Meaning.PackageMeaning, Order.FollowsBytes, Reads.Reads, Weight.package_weight}
+use Rattle.wit_component.specs.{BoundTo.BeginsWithRoot, Packages.HasNoClashesAt, Packages.MeansPackageAt, Packages.RefusesPackageAt, Packages.SpellsPackageAt}
 use Rattle.wit_bind.specs.declared.bindgen.Bindgen.{Bindgen}
 
 -- What encoding a package of a `Resolve` is refused for, for size only where it weighs too much.

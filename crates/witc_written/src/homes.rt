@@ -1,8 +1,7 @@
 //! The package of a world, and all others.
 
 ghost use Rattle.std.specs.Prelude.{◌≡◌, ◌<◌, length, IfOk, Some};
-ghost use Rattle.wit_model.specs.Lookup.{world_at};
-ghost use Rattle.wit_model.specs.Valid.{IsValid};
+ghost use Rattle.wit_model.specs.{Lookup.world_at, Valid.IsValid};
 ghost use Rattle.wit_model.specs.declared.model.World.{World};
 ghost use Rattle.witc_written.specs.Worlds.{other_packages_than};
 

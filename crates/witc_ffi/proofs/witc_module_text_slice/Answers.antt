@@ -1,8 +1,6 @@
 use Rattle.std.proofs.Common.{◌≡◌}
-use Rattle.wit_model.specs.declared.error.Error.{Error}
-use Rattle.wit_model.specs.declared.error.Error.TheVariants.{Size}
-use Rattle.wit_component.specs.Bound.{RefusesBindings}
-use Rattle.wit_component.specs.Reached.{OutgrowsLists}
+use Rattle.wit_model.specs.declared.error.{Error.Error, Error.TheVariants.Size}
+use Rattle.wit_component.specs.{Bound.RefusesBindings, Reached.OutgrowsLists}
 use Rattle.witc_texts.specs.Bindings.{PrintsModule}
 use Rattle.witc_ffi.specs.Answers.{NeverBad, RefusesBound}
 use Rattle.witc_ffi.proofs.OutcomeLaws.{both-said, of-bytes, passes}

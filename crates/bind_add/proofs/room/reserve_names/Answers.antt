@@ -1,5 +1,4 @@
-use Rattle.std.proofs.Common.{refl}
-use Rattle.std.proofs.lemmas.Option.{slice_get_read}
+use Rattle.std.proofs.{Common.refl, lemmas.Option.slice_get_read}
 use Rattle.bind_add.proofs.Packages.{others_more, room_end, room_more, same_then}
 use Rattle.bind_add.proofs.room.reserve_names.Goals as goal
 

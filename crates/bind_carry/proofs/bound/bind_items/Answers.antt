@@ -1,17 +1,12 @@
 use Rattle.std.proofs.Common.{rules, arith, ◌≡◌, ◌≤◌, ◌∙◌, ◌+◌, ap, sym, subst, ℕ, List, length}
-use Rattle.wit_model.specs.declared.model.Interface.{Interface}
-use Rattle.wit_model.specs.declared.model.Package.{Package}
-use Rattle.wit_model.specs.declared.model.TypeDef.{TypeDef}
-use Rattle.wit_model.specs.declared.model.World.{World}
+use Rattle.wit_model.specs.declared.model.{Interface.Interface, Package.Package, TypeDef.TypeDef, World.World}
 use Rattle.bind_copy.specs.Copies.{AreNewCopied}
-use Rattle.bind_carry.specs.BoundGains.{bound_fates, gained_inline, AreInlineCopied}
+use Rattle.bind_carry.specs.{BoundGains.bound_fates, BoundGains.gained_inline, BoundGains.AreInlineCopied, Numbers.copied_count, Numbers.numbers_of}
 use Rattle.bind_carry.specs.Fates.{AreCopied}
-use Rattle.bind_carry.specs.Numbers.{copied_count, numbers_of}
 use Rattle.bind_carry.proofs.Counting.{inline_long}
 use Rattle.bind_carry.proofs.Ready.{exports_below, exports_shown, functions_in, imports_below, imports_shown, names_in, numbers_many, on_ok_two, types_shown, world_keys_below}
+use Rattle.base_lemmas.proofs.{Lists.within_there, Options.ok_holds as on_ok}
 use Rattle.bind_carry.proofs.bound.bind_items.Goals as goal
-use Rattle.base_lemmas.proofs.Lists.{within_there}
-use Rattle.base_lemmas.proofs.Options.{ok_holds as on_ok}
 
 pub copied_inline-requires-clause-imports : goal.copied_inline-requires-clause-imports
 copied_inline-requires-clause-imports c v at = imports_shown c.args.bound.own.now c.args.bound.other.now c.args.bound.world.0 c.args.bound.other_world.0 c.args.first.carried.now c.args.first.fates.now

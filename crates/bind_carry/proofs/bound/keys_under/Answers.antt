@@ -1,9 +1,8 @@
 use Rattle.std.proofs.Common.{rules, ◌≡◌, ◌∷◌, ◌∙◌, [], ap, true, length}
-use Rattle.std.specs.Map.Iter.{deref_pair}
 use Rattle.std.proofs.lemmas.Map.Iter.{rest_all, rest_more}
+use Rattle.std.specs.Map.Iter.{deref_pair}
 use Rattle.indexmap.specs.IndexSet.{insert_key}
-use Rattle.wit_model.specs.declared.model.WorldItem.{WorldItem}
-use Rattle.wit_model.specs.declared.model.WorldKey.{WorldKey}
+use Rattle.wit_model.specs.declared.model.{WorldItem.WorldItem, WorldKey.WorldKey}
 use Rattle.bind_copy.proofs.Gained.{test_is}
 use Rattle.bind_carry.specs.Shown.{are_keys_below}
 use Rattle.bind_carry.proofs.KeysCopied.{key_more, keys_all}

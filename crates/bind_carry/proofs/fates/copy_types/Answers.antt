@@ -1,13 +1,10 @@
 use Rattle.std.proofs.Common.{rules, ◌≡◌, ◌∷◌, ◌++◌, [], ◌<◌, ◌≤◌, ◌+◌, ◌∙◌, drop, get_or, length, refl, sym, ap, subst, true}
-use Rattle.std.proofs.lemmas.List.{drop_all, drop_more}
-use Rattle.std.proofs.lemmas.Option.{slice_get_read}
+use Rattle.std.proofs.lemmas.{List.drop_all, List.drop_more, Option.slice_get_read}
 use Rattle.bind_copy.specs.Copies.{all_below}
 use Rattle.bind_union.specs.Views.{kind_view, view_numbers}
-use Rattle.bind_carry.specs.Fates.{AreCopiedSoFar, MeetsFate}
+use Rattle.bind_carry.specs.{Fates.AreCopiedSoFar, Fates.MeetsFate, TooLong.copies_of}
+use Rattle.bind_carry.proofs.{Counting.counted_more, Settling.all_met, Settling.one_more}
 use Rattle.bind_carry.specs.declared.fate.Fate.TheVariants as fate
-use Rattle.bind_carry.specs.TooLong.{copies_of}
-use Rattle.bind_carry.proofs.Counting.{counted_more}
-use Rattle.bind_carry.proofs.Settling.{all_met, one_more}
 use Rattle.bind_carry.proofs.fates.copy_types.Goals as goal
 
 pub loop-number-preserved : goal.loop-number-preserved

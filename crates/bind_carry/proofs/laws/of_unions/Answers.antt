@@ -1,5 +1,4 @@
-use Rattle.bind_carry.proofs.Addable.{unions_are_addable}
-use Rattle.bind_carry.proofs.FirstOfUnion.{unions_have_the_first, unions_have_the_second}
+use Rattle.bind_carry.proofs.{Addable.unions_are_addable, FirstOfUnion.unions_have_the_first, FirstOfUnion.unions_have_the_second}
 use Rattle.bind_carry.proofs.laws.of_unions.Goals as goal
 
 pub returns-clause-first : goal.returns-clause-first

@@ -1,7 +1,5 @@
-use Rattle.bind_carry.proofs.MergedWhole.{passes_are_merged}
-use Rattle.bind_carry.proofs.NothingElse.{interface_from, type_from, world_from}
-use Rattle.bind_carry.proofs.SecondBound.{bound_stands}
-use Rattle.bind_carry.proofs.SecondCarried.{second_is_copied}
+use Rattle.bind_carry.proofs.{MergedWhole.passes_are_merged, SecondBound.bound_stands}
+use Rattle.bind_carry.proofs.{NothingElse.interface_from, NothingElse.type_from, NothingElse.world_from, SecondCarried.second_is_copied}
 use Rattle.bind_carry.proofs.laws.second_pass.Goals as goal
 
 pub returns-clause-copied : goal.returns-clause-copied

@@ -1,12 +1,9 @@
 use Rattle.std.proofs.Common.{arith, ◌≡◌, ◌<◌, ◌≤◌, ◌+◌, ◌∙◌, sym, ap, subst, suc, drop, get_or, length, ◌∷◌, slice_get}
 use Rattle.std.proofs.lemmas.List.{drop_all, drop_more}
 use Rattle.std.specs.Vec.Iter.{into_iter_items}
+use Rattle.bind_carry.specs.{Moved.AreMovedSoFar, Fates.copied_types, Fates.IsCopiedType}
+use Rattle.bind_carry.proofs.{Counting.types_counted, MovedTypes.fate_moved, MovedTypes.fate_room, MovedTypes.no_types, Moving.all_moved, Moving.none_moved}
 use Rattle.bind_carry.specs.declared.fate.Fate.TheVariants as fate
-use Rattle.bind_carry.specs.Moved.{AreMovedSoFar}
-use Rattle.bind_carry.specs.Fates.{copied_types, IsCopiedType}
-use Rattle.bind_carry.proofs.Counting.{types_counted}
-use Rattle.bind_carry.proofs.MovedTypes.{fate_moved, fate_room, no_types}
-use Rattle.bind_carry.proofs.Moving.{all_moved, none_moved}
 use Rattle.bind_carry.proofs.moved.move_types.Goals as goal
 
 pub loop-def-init : goal.loop-def-init

@@ -3,8 +3,7 @@ use Rattle.std.specs.Vec.Iter.{into_iter_items}
 use Rattle.wit_model.specs.declared.model.TypeDef.{TypeDef}
 use Rattle.bind_copy.specs.Copies.{all_below}
 use Rattle.bind_union.specs.Views.{kind_view, view_numbers}
-use Rattle.bind_carry.specs.Fates.{copied_types, IsCopiedType}
-use Rattle.bind_carry.specs.Moved.{AreMovedSoFar}
+use Rattle.bind_carry.specs.{Fates.copied_types, Fates.IsCopiedType, Moved.AreMovedSoFar}
 use Rattle.bind_carry.proofs.moved.move_types.Given as goal
 
 -- those so far that are copied by their fates are in their places

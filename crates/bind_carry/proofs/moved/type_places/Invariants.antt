@@ -1,6 +1,5 @@
 use Rattle.std.proofs.Common.{◌≡◌, ◌+◌, ◌++◌, drop, length}
-use Rattle.bind_carry.specs.Fates.{numbers_by}
-use Rattle.bind_carry.specs.TooLong.{copies_of}
+use Rattle.bind_carry.specs.{Fates.numbers_by, TooLong.copies_of}
 use Rattle.bind_carry.proofs.moved.type_places.Given as goal
 
 -- each type so far has its number, and with those that are left there are as many places as are copied

@@ -1,6 +1,4 @@
-use Rattle.std.proofs.Common.{rules, tests}
-use Rattle.std.proofs.lemmas.Iterator.Search.{all_from_yields_List}
-use Rattle.std.proofs.lemmas.Iterator.{YieldsList-from_slice}
+use Rattle.std.proofs.{Common.rules, Common.tests, lemmas.Iterator.Search.all_from_yields_List, lemmas.Iterator.YieldsList-from_slice}
 use Rattle.bind_union.specs.Views.{optional_numbers}
 use Rattle.bind_carry.specs.Fates.{are_carried}
 use Rattle.bind_carry.proofs.parts.are_cases_carried.Goals as goal

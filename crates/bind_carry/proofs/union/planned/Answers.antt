@@ -1,22 +1,13 @@
 use Rattle.std.proofs.Common.{rules, arith, inl, inr, Some, ◌≡◌, ◌∙◌, ◌+◌, ◌≤◌, [], ap, sym, subst, ℕ, List, length}
-use Rattle.bind_carry.specs.Bound.{IsBoundOver}
-use Rattle.bind_carry.specs.BoundGains.{AreKeysUnder}
-use Rattle.bind_carry.specs.First.{first_fates}
-use Rattle.bind_carry.specs.Over.{IsPlacedOver}
-use Rattle.bind_carry.specs.Packaged.{IsPackageCarried}
-use Rattle.bind_carry.specs.Whole.{IsWorldCarried}
-use Rattle.bind_carry.specs.TooLong.{copies_of, AreTooManyGained, IsTooLong}
+use Rattle.bind_carry.specs.{Bound.IsBoundOver, First.first_fates, Over.IsPlacedOver, Whole.IsWorldCarried}
+use Rattle.bind_carry.specs.{BoundGains.AreKeysUnder, Packaged.IsPackageCarried, TooLong.copies_of, TooLong.AreTooManyGained, TooLong.IsTooLong}
 use Rattle.wit_model.specs.Lookup.{world_at}
-use Rattle.wit_model.specs.declared.error.Error.TheVariants.{Size}
-use Rattle.wit_model.specs.declared.model.World.{World}
+use Rattle.wit_model.specs.declared.{error.Error.TheVariants.Size, model.World.World}
 use Rattle.bind_carry.proofs.Counting.{carried_few}
-use Rattle.bind_carry.proofs.CopiesPlaced.{numbers_by_long}
-use Rattle.bind_carry.proofs.ManyCarried.{gained_by_count}
-use Rattle.bind_carry.proofs.MovedTypes.{numbers_first, places_first}
-use Rattle.bind_carry.proofs.Ranges.{is_in_range, shown_below}
-use Rattle.bind_carry.proofs.Ready.{carried_ready, interface_count, owners_below, world_keys_below}
-use Rattle.bind_carry.proofs.union.planned.Goals as goal
+use Rattle.bind_carry.proofs.{CopiesPlaced.numbers_by_long, ManyCarried.gained_by_count, MovedTypes.numbers_first, MovedTypes.places_first}
+use Rattle.bind_carry.proofs.{Ranges.is_in_range, Ranges.shown_below, Ready.carried_ready, Ready.interface_count, Ready.owners_below, Ready.world_keys_below}
 use Rattle.base_lemmas.proofs.Options.{passed as err_so}
+use Rattle.bind_carry.proofs.union.planned.Goals as goal
 
 pub number_carried-requires-clause-few_packages : goal.number_carried-requires-clause-few_packages
 number_carried-requires-clause-few_packages c = subst (λ (k : ℕ). k ≤ 4294967295) (sym c.requires.matches.packages) (is_in_range c.args.other.now c.requires.other).few_packages

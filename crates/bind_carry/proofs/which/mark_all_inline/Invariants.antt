@@ -1,6 +1,5 @@
 use Rattle.std.proofs.Common.{◌≡◌, length}
-use Rattle.bind_carry.specs.Marked.{mark_items}
-use Rattle.bind_carry.specs.Shown.{AreShownBelow}
+use Rattle.bind_carry.specs.{Marked.mark_items, Shown.AreShownBelow}
 use Rattle.bind_carry.proofs.which.mark_all_inline.Given as goal
 
 -- the flags so far, with what is set for the items that are left, are all

@@ -1,6 +1,5 @@
 use Rattle.std.proofs.Common.{◌≡◌, length}
-use Rattle.bind_carry.specs.Marked.{mark_new_items}
-use Rattle.bind_carry.specs.Shown.{AreNewShownBelow}
+use Rattle.bind_carry.specs.{Marked.mark_new_items, Shown.AreNewShownBelow}
 use Rattle.bind_carry.proofs.which.mark_new_inline.Given as goal
 
 -- the flags so far, with what is set for the items that are left, are all

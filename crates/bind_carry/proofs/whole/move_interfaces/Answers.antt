@@ -1,10 +1,8 @@
 use Rattle.std.proofs.Common.{arith, ◌≡◌, ◌<◌, ◌≤◌, ◌+◌, ◌∙◌, sym, ap, subst, suc, Bool, drop, length, ◌∷◌, slice_get}
 use Rattle.std.proofs.lemmas.List.{drop_all, drop_more}
 use Rattle.std.specs.Vec.Iter.{into_iter_items}
-use Rattle.bind_carry.specs.Moved.{AreMovedSoFar}
-use Rattle.bind_carry.specs.Whole.{kept, IsInterfaceCarried}
-use Rattle.bind_carry.proofs.Counting.{kept_few}
-use Rattle.bind_carry.proofs.Moving.{all_moved, flag_moved, none_moved, place_there}
+use Rattle.bind_carry.specs.{Moved.AreMovedSoFar, Whole.kept, Whole.IsInterfaceCarried}
+use Rattle.bind_carry.proofs.{Counting.kept_few, Moving.all_moved, Moving.flag_moved, Moving.none_moved, Moving.place_there}
 use Rattle.bind_carry.proofs.whole.move_interfaces.Goals as goal
 
 pub loop-interface-init : goal.loop-interface-init

@@ -1,8 +1,7 @@
 use Rattle.std.proofs.Common.{◌≡◌, ◌+◌, ℕ, drop, length, slice_get, Some}
 use Rattle.std.specs.Vec.Iter.{into_iter_items}
 use Rattle.wit_model.specs.declared.model.Interface.{Interface}
-use Rattle.bind_carry.specs.Moved.{AreMovedSoFar, IsInterfaceBelow}
-use Rattle.bind_carry.specs.Whole.{kept, IsInterfaceCarried}
+use Rattle.bind_carry.specs.{Moved.AreMovedSoFar, Moved.IsInterfaceBelow, Whole.kept, Whole.IsInterfaceCarried}
 use Rattle.bind_carry.proofs.whole.move_interfaces.Given as goal
 
 -- those so far whose flags are set are in their places

@@ -4,8 +4,7 @@ use Rattle.bind_union.specs.Views.{renamed_type}
 use Rattle.bind_copy.specs.Copies.{are_params_below, number_under, IsParamUnder}
 use Rattle.wit_model.specs.Text.{text_of}
 use Rattle.wit_model.specs.declared.model.Param.{Param}
-use Rattle.bind_copy.proofs.Members.{params_are, params_later}
-use Rattle.bind_copy.proofs.Written.{all_written, item_written, none_written}
+use Rattle.bind_copy.proofs.{Members.params_are, Members.params_later, Written.all_written, Written.item_written, Written.none_written}
 use Rattle.bind_copy.proofs.functions.renumber_params.Goals as goal
 
 pub loop-param-init : goal.loop-param-init

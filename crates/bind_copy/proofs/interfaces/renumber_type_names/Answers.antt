@@ -1,6 +1,5 @@
 use Rattle.std.proofs.Common.{arith, ◌≡◌, refl, sym, true, length, nat_lt}
-use Rattle.std.proofs.lemmas.Bool.{ltb-true}
-use Rattle.std.proofs.lemmas.Option.{unwrap_or-slice_get}
+use Rattle.std.proofs.lemmas.{Bool.ltb-true, Option.unwrap_or-slice_get}
 use Rattle.bind_copy.specs.Copies.{are_names_below, IsTypeEntry}
 use Rattle.bind_copy.proofs.Members.{names_are, names_later}
 use Rattle.bind_copy.proofs.Written.{all_written, none_written, value_left, value_written, written_long}

@@ -4,8 +4,7 @@ use Rattle.bind_copy.specs.Copies.{are_cases_below, number_under, IsCaseUnder}
 use Rattle.bind_union.specs.Views.{renamed_type}
 use Rattle.wit_model.specs.Text.{optional_text, text_of}
 use Rattle.wit_model.specs.declared.model.Case.{Case}
-use Rattle.bind_copy.proofs.Members.{cases_later, cases_are, case_docs_are}
-use Rattle.bind_copy.proofs.Written.{all_written, item_written, none_written}
+use Rattle.bind_copy.proofs.{Members.cases_later, Members.cases_are, Members.case_docs_are, Written.all_written, Written.item_written, Written.none_written}
 use Rattle.bind_copy.proofs.moved.renumber_cases.Goals as goal
 
 pub loop-case-init : goal.loop-case-init

@@ -4,8 +4,7 @@ use Rattle.bind_copy.specs.Copies.{are_fields_below, number_under, IsFieldUnder}
 use Rattle.bind_union.specs.Views.{renamed_type}
 use Rattle.wit_model.specs.Text.{optional_text, text_of}
 use Rattle.wit_model.specs.declared.model.Field.{Field}
-use Rattle.bind_copy.proofs.Members.{fields_later, fields_are, field_docs_are}
-use Rattle.bind_copy.proofs.Written.{all_written, item_written, none_written}
+use Rattle.bind_copy.proofs.{Members.fields_later, Members.fields_are, Members.field_docs_are, Written.all_written, Written.item_written, Written.none_written}
 use Rattle.bind_copy.proofs.moved.renumber_fields.Goals as goal
 
 pub loop-field-init : goal.loop-field-init

@@ -2,8 +2,7 @@ use Rattle.std.proofs.Common.{◌≡◌, ◌∙◌, ap, refl, subst, sym, [], Op
 use Rattle.std.specs.Option.{option_copied}
 use Rattle.wit_model.specs.declared.model.Interface.{Interface}
 use Rattle.wit_model.specs.Lookup.{interface_at}
-use Rattle.wit_json.specs.Adds.{Adds}
-use Rattle.wit_json.specs.Listed.{number_entry}
+use Rattle.wit_json.specs.{Adds.Adds, Listed.number_entry}
 use Rattle.wit_json.proofs.Adding.{lists_all, lists_none}
 use Rattle.bind_json.specs.Encodings.{interface_encodings}
 use Rattle.bind_json.proofs.encodings.put_interface.Goals as goal

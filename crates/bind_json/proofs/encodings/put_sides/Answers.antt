@@ -1,6 +1,5 @@
 use Rattle.std.proofs.Common.{◌≡◌, ◌∙◌, ap, refl, subst, sym, [], ◌++◌, Option, Some, None, OnOk}
-use Rattle.std.specs.Prelude.{codes}
-use Rattle.std.specs.Option.{option_copied, option_map_or}
+use Rattle.std.specs.{Prelude.codes, Option.option_copied, Option.option_map_or}
 use Rattle.wit_model.specs.declared.model.World.{World}
 use Rattle.wit_model.specs.Lookup.{world_at}
 use Rattle.wit_json.specs.Adds.{Adds}

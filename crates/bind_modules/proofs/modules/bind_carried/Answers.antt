@@ -1,13 +1,12 @@
 use Rattle.std.proofs.Common.{◌≡◌, subst}
 use Rattle.wit_model.specs.declared.error.Error.{Error}
-use Rattle.wit_model.specs.declared.error.Error.TheVariants as errors
 use Rattle.wit_metadata.specs.Modules.{IsFrontData}
-use Rattle.bind_sections.specs.Blamed.{Blames}
-use Rattle.bind_sections.specs.Bound.{RefusesBindings}
+use Rattle.bind_sections.specs.{Blamed.Blames, Bound.RefusesBindings}
 use Rattle.bind_modules.specs.Reached.{OutgrowsLists}
 use Rattle.bind_modules.proofs.BoundTo.{data-in-front, passed}
-use Rattle.bind_modules.proofs.modules.bind_carried.Goals as goal
 use Rattle.encode_names.proofs.Paths.{passed as passed_on}
+use Rattle.wit_model.specs.declared.error.Error.TheVariants as errors
+use Rattle.bind_modules.proofs.modules.bind_carried.Goals as goal
 
 pub returns-in_err-bind_section-in-Some-clause-refuses : goal.returns-in_err-bind_section-in-Some-clause-refuses
 returns-in_err-bind_section-in-Some-clause-refuses c input bytes rest h x =

@@ -1,12 +1,11 @@
 use Rattle.std.proofs.Common.{◌≡◌, ◌∙◌, sym}
 use Rattle.wit_model.specs.declared.error.Error.{Error}
-use Rattle.wit_model.specs.declared.error.Error.TheVariants as errors
-use Rattle.bind_sections.specs.Blamed.{Blames}
-use Rattle.bind_sections.specs.Bound.{RefusesBindings}
+use Rattle.bind_sections.specs.{Blamed.Blames, Bound.RefusesBindings}
 use Rattle.bind_modules.specs.Reached.{OutgrowsLists}
 use Rattle.bind_modules.proofs.BoundTo.{left-over, left-over-blamed}
-use Rattle.bind_modules.proofs.modules.bind_front.Goals as goal
 use Rattle.encode_names.proofs.Paths.{passed as passed_on}
+use Rattle.wit_model.specs.declared.error.Error.TheVariants as errors
+use Rattle.bind_modules.proofs.modules.bind_front.Goals as goal
 
 pub returns-in_err-carried-clause-refuses : goal.returns-in_err-carried-clause-refuses
 returns-in_err-carried-clause-refuses c input at h =

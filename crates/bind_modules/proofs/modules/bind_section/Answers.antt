@@ -1,14 +1,12 @@
 use Rattle.std.proofs.Common.{◌≡◌}
 use Rattle.wit_model.specs.declared.error.Error.{Error}
-use Rattle.wit_model.specs.declared.error.Error.TheVariants as errors
-use Rattle.bind_sections.specs.Blamed.{Blames}
-use Rattle.bind_sections.specs.Bound.{RefusesBindings}
+use Rattle.bind_sections.specs.{Blamed.Blames, Bound.RefusesBindings}
 use Rattle.bind_sections.proofs.DecodeSteps.{merge-blamed, merge-refused, section-blamed, section-refused}
 use Rattle.bind_modules.specs.Reached.{OutgrowsLists}
-use Rattle.bind_modules.proofs.BoundTo.{merged}
-use Rattle.bind_modules.proofs.Reached.{outgrown, section-otherwise}
-use Rattle.bind_modules.proofs.modules.bind_section.Goals as goal
+use Rattle.bind_modules.proofs.{BoundTo.merged, Reached.outgrown, Reached.section-otherwise}
 use Rattle.encode_names.proofs.Paths.{passed as passed_on}
+use Rattle.wit_model.specs.declared.error.Error.TheVariants as errors
+use Rattle.bind_modules.proofs.modules.bind_section.Goals as goal
 
 pub returns-in_err-other-clause-refuses : goal.returns-in_err-other-clause-refuses
 returns-in_err-other-clause-refuses c input bytes rest n h x =

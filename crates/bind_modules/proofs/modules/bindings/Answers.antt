@@ -1,13 +1,12 @@
 use Rattle.std.proofs.Common.{◌≡◌, ◌∙◌, rules, length, subst, sym}
 use Rattle.wit_model.specs.declared.error.Error.{Error}
-use Rattle.wit_model.specs.declared.error.Error.TheVariants as errors
 use Rattle.wit_bind.proofs.RootBindings.{roots_are_roots}
-use Rattle.bind_sections.specs.Blamed.{Blames}
-use Rattle.bind_sections.specs.Bound.{RefusesBindings}
+use Rattle.bind_sections.specs.{Blamed.Blames, Bound.RefusesBindings}
 use Rattle.bind_modules.specs.Reached.{OutgrowsLists}
 use Rattle.bind_modules.proofs.BoundTo.{begins, begins-at, behind-preamble, counted-on, ends, ends-reached, no-module-blamed}
-use Rattle.bind_modules.proofs.modules.bindings.Goals as goal
 use Rattle.encode_names.proofs.Paths.{passed as passed_on}
+use Rattle.wit_model.specs.declared.error.Error.TheVariants as errors
+use Rattle.bind_modules.proofs.modules.bindings.Goals as goal
 
 pub named_by_bytes-requires : goal.named_by_bytes-requires
 named_by_bytes-requires c = (roots_are_roots c.in_ok-bound.bound c.in_ok-bound.ensures.root).0

@@ -1,14 +1,12 @@
 use Rattle.std.proofs.Common.{◌≡◌, []}
 use Rattle.wit_model.specs.declared.error.Error.{Error}
-use Rattle.wit_model.specs.declared.error.Error.TheVariants as errors
 use Rattle.wit_bind.specs.Bindings.{binding_of}
 use Rattle.bind_sections.specs.Bound.{RefusesBindings}
 use Rattle.bind_modules.specs.Reached.{OutgrowsLists}
-use Rattle.bind_modules.proofs.Bare.{reached-bare}
-use Rattle.bind_modules.proofs.BoundTo.{strip-refused}
-use Rattle.bind_modules.proofs.Reached.{strip-otherwise}
-use Rattle.bind_modules.proofs.modules.decode.Goals as goal
+use Rattle.bind_modules.proofs.{Bare.reached-bare, BoundTo.strip-refused, Reached.strip-otherwise}
 use Rattle.encode_names.proofs.Paths.{passed as passed_on}
+use Rattle.wit_model.specs.declared.error.Error.TheVariants as errors
+use Rattle.bind_modules.proofs.modules.decode.Goals as goal
 
 pub returns-in_err-module-clause-refuses : goal.returns-in_err-module-clause-refuses
 returns-in_err-module-clause-refuses c =

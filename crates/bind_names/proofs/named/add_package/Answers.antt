@@ -1,11 +1,10 @@
-use Rattle.std.proofs.Common.{rules, ap, ◌∙◌}
+use Rattle.std.proofs.Common.{rules, ap, ◌∙◌, ◌≡◌, None}
 use Rattle.indexmap.proofs.CallerLemmas.{insert_entry-new}
-use Rattle.std.proofs.Common.{◌≡◌, None}
 use Rattle.bind_match.proofs.SameNames.{absent}
 use Rattle.bind_names.specs.Named.{found_by}
 use Rattle.bind_names.proofs.Names.{copy_behind, gained, lacking, stayed}
-use Rattle.bind_names.proofs.named.add_package.Goals as goal
 use Rattle.bind_names.proofs.named.add_package.Goals.{then-not-contains_key+in_ok-copy+in_ok-insert, else-not-contains_key}
+use Rattle.bind_names.proofs.named.add_package.Goals as goal
 
 pub returns-clause-gains : goal.returns-clause-gains
 returns-clause-gains c =

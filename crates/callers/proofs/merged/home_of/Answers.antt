@@ -1,5 +1,4 @@
-use Rattle.std.proofs.Common.{◌≡◌, Some, refl}
-use Rattle.std.proofs.lemmas.Option.{slice_get_read}
+use Rattle.std.proofs.{Common.◌≡◌, Common.Some, Common.refl, lemmas.Option.slice_get_read}
 use Rattle.wit_component.specs.Lookup.{world_at}
 use Rattle.callers.proofs.Homes.{home-known, no-home}
 use Rattle.callers.proofs.merged.home_of.Goals as goal

@@ -1,12 +1,9 @@
 use Rattle.std.proofs.Common.{◌∙◌, ap, subst}
-use Rattle.wit_component.specs.Binding.{Binding}
-use Rattle.wit_component.specs.Bindings.{binding_of}
-use Rattle.wit_component.specs.Clash.{CanUnite}
-use Rattle.wit_component.specs.Union.{union}
+use Rattle.wit_component.specs.{Binding.Binding, Bindings.binding_of, Clash.CanUnite, Union.union}
 use Rattle.callers.specs.Merged.{RefusesWithRoot}
 use Rattle.callers.proofs.Flows.{root-left}
-use Rattle.callers.proofs.merged.merged_with_root.Goals as goal
 use Rattle.base_lemmas.proofs.Options.{passed}
+use Rattle.callers.proofs.merged.merged_with_root.Goals as goal
 
 pub returns-in_err-other-clause-refused : goal.returns-in_err-other-clause-refused
 returns-in_err-other-clause-refused c =

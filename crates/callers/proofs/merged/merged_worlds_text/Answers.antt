@@ -1,9 +1,8 @@
 use Rattle.std.specs.Prelude.{ℕ, Vec}
 use Rattle.std.specs.declared.alloc.Global.{Global}
-use Rattle.callers.specs.Merged.{PrintsWorlds}
-use Rattle.callers.specs.Printed.{IsTextOf}
-use Rattle.callers.proofs.merged.merged_worlds_text.Goals as goal
+use Rattle.callers.specs.{Merged.PrintsWorlds, Printed.IsTextOf}
 use Rattle.base_lemmas.proofs.Options.{if_ok as if-ok}
+use Rattle.callers.proofs.merged.merged_worlds_text.Goals as goal
 
 pub home_of-requires-clause-valid : goal.home_of-requires-clause-valid
 home_of-requires-clause-valid c = c.in_ok-bound.ensures.merged.bindgen.valid

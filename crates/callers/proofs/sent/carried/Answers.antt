@@ -1,11 +1,9 @@
-use Rattle.wit_model.specs.declared.model.Resolve.{Resolve}
-use Rattle.wit_model.specs.declared.model.WorldId.{WorldId}
-use Rattle.wit_component.specs.DecodedWorlds.{IsDecodedWorld}
-use Rattle.wit_component.specs.Valid.{IsValid}
+use Rattle.wit_model.specs.declared.model.{Resolve.Resolve, WorldId.WorldId}
+use Rattle.wit_component.specs.{DecodedWorlds.IsDecodedWorld, Valid.IsValid}
 use Rattle.callers.specs.Carried.{MeansTheSame}
 use Rattle.callers.proofs.Flows.{same-world, valid-world}
-use Rattle.callers.proofs.sent.carried.Goals as goal
 use Rattle.base_lemmas.proofs.Options.{if_ok as if-ok}
+use Rattle.callers.proofs.sent.carried.Goals as goal
 
 pub returns-clause-same : goal.returns-clause-same
 returns-clause-same c =

@@ -1,7 +1,6 @@
 -- Those so far are listed.
 use Rattle.std.proofs.Common.{◌≡◌, ◌++◌, map}
-use Rattle.wit_component.specs.Text.{text_of}
-use Rattle.wit_component.specs.UseGroups.{listed_of}
+use Rattle.wit_component.specs.{Text.text_of, UseGroups.listed_of}
 use Rattle.callers.proofs.texts.given_types.Given as goal
 
 abbrev pub invariant-loop-name : goal.invariant-loop-name

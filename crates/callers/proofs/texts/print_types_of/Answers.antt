@@ -1,15 +1,11 @@
 use Rattle.std.proofs.Common.{◌≡◌, ◌∙◌, refl, ap, map}
-use Rattle.std.specs.Iterator.{Drains}
-use Rattle.std.specs.List.{list_all}
-use Rattle.std.specs.Vec.Iter.{into_iter_steps}
+use Rattle.std.specs.{Iterator.Drains, List.list_all, Vec.Iter.into_iter_steps}
 use Rattle.indexmap.proofs.CallerLemmas.{Drains-YieldsInOrder}
-use Rattle.wit_model.specs.declared.model.TypeOwner.TheVariants as owner
-use Rattle.wit_component.specs.Printer.{GivenTypes}
-use Rattle.wit_component.specs.Shown.{listed_types}
-use Rattle.wit_component.specs.UseGroups.{is_listed_function, listed_of}
+use Rattle.wit_component.specs.{Printer.GivenTypes, Shown.listed_types, UseGroups.is_listed_function, UseGroups.listed_of}
 use Rattle.callers.proofs.GivenTypes.{all-printed, can-be-given}
-use Rattle.callers.proofs.texts.print_types_of.Goals as goal
 use Rattle.base_lemmas.proofs.Options.{ok_said as on-ok-of}
+use Rattle.wit_model.specs.declared.model.TypeOwner.TheVariants as owner
+use Rattle.callers.proofs.texts.print_types_of.Goals as goal
 
 pub print_types-requires : goal.print_types-requires
 print_types-requires c =

@@ -1,5 +1,4 @@
-use Rattle.std.proofs.Common.{◌∙◌, refl, ap, subst, ℕ}
-use Rattle.std.proofs.lemmas.Option.{slice_get_read}
+use Rattle.std.proofs.{Common.◌∙◌, Common.refl, Common.ap, Common.subst, Common.ℕ, lemmas.Option.slice_get_read}
 use Rattle.std.specs.Prelude.{Vec}
 use Rattle.std.specs.declared.alloc.Global.{Global}
 use Rattle.print_output.specs.OutputCall.{Moves, View}

@@ -1,6 +1,5 @@
 use Rattle.std.proofs.Common.{refl, sym, subst, [], ◌∷◌}
-use Rattle.encode_types.specs.Fits.{CanEncode}
-use Rattle.encode_types.specs.Scope.{Scope}
+use Rattle.encode_types.specs.{Fits.CanEncode, Scope.Scope}
 use Rattle.cases.proofs.encoder.asked.Goals as goal
 
 pub encode_valtype-requires : goal.encode_valtype-requires

@@ -1,5 +1,4 @@
-use Rattle.std.proofs.Common.{rules, refl}
-use Rattle.std.proofs.lemmas.Option.{slice_get_read}
+use Rattle.std.proofs.{Common.rules, Common.refl, lemmas.Option.slice_get_read}
 use Rattle.wit_compat.proofs.Ranges.{has_items}
 use Rattle.cases.proofs.names.put_worlds.Goals as goal
 

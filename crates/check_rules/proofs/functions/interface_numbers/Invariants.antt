@@ -1,6 +1,5 @@
 use Rattle.std.proofs.Common.{◌≡◌, ◌++◌}
-use Rattle.wit_model.specs.Checks.{all_values}
-use Rattle.wit_model.specs.Valid.{functions_of_interface}
+use Rattle.wit_model.specs.{Checks.all_values, Valid.functions_of_interface}
 use Rattle.check_rules.proofs.functions.interface_numbers.Given as goal
 
 abbrev pub invariant-loop-function : goal.invariant-loop-function

@@ -1,7 +1,6 @@
 use Rattle.std.proofs.Common.{◌≡◌, ◌∙◌, sym, ◌++◌, filter_map, rules}
 use Rattle.indexmap.specs.IndexMap.{values}
-use Rattle.wit_model.specs.Checks.{values_of, all_values}
-use Rattle.wit_model.specs.Valid.{item_function}
+use Rattle.wit_model.specs.{Checks.values_of, Checks.all_values, Valid.item_function}
 use Rattle.wit_model.proofs.Functions.{of_items}
 use Rattle.check_rules.proofs.functions.world_numbers.Goals as goal
 

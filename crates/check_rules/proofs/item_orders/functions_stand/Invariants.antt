@@ -1,9 +1,6 @@
 use Rattle.std.proofs.Common.{◌≡◌, ◌+◌, length}
 use Rattle.indexmap.specs.IndexMap.{values, index_map_len}
-use Rattle.wit_model.specs.Rules.{each_from, passes}
-use Rattle.wit_model.specs.Checks.{entry_of}
-use Rattle.wit_model.specs.ItemOrders.{reaches_within}
-use Rattle.wit_model.specs.Valid.{item_function}
+use Rattle.wit_model.specs.{Rules.each_from, Rules.passes, Checks.entry_of, ItemOrders.reaches_within, Valid.item_function}
 use Rattle.check_rules.proofs.item_orders.functions_stand.Given as goal
 
 abbrev pub invariant-loop-item : goal.invariant-loop-item

@@ -1,7 +1,6 @@
 use Rattle.std.proofs.Common.{sym, ap, ◌∙◌}
 use Rattle.std.specs.List.{list_all}
-use Rattle.wit_model.specs.Rules.{used_interfaces}
-use Rattle.wit_model.specs.ItemOrders.{holds}
+use Rattle.wit_model.specs.{Rules.used_interfaces, ItemOrders.holds}
 use Rattle.check_rules.proofs.UsesTable.{entry_ready}
 use Rattle.check_rules.proofs.item_orders.item_is_ready.Goals as goal
 

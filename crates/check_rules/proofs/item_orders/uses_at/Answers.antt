@@ -1,5 +1,4 @@
-use Rattle.std.proofs.Common.{refl, ◌∙◌}
-use Rattle.std.proofs.lemmas.Option.{slice_get_read}
+use Rattle.std.proofs.{Common.refl, Common.◌∙◌, lemmas.Option.slice_get_read}
 use Rattle.check_rules.proofs.UsesTable.{uses_found}
 use Rattle.check_rules.proofs.item_orders.uses_at.Goals as goal
 

@@ -1,6 +1,5 @@
 use Rattle.std.proofs.Common.{◌≡◌, ℕ, ◌<◌, length}
-use Rattle.wit_model.specs.Uses.{has, direct_deps}
-use Rattle.wit_model.specs.ItemOrders.{entry_holds}
+use Rattle.wit_model.specs.{Uses.has, Uses.direct_deps, ItemOrders.entry_holds}
 use Rattle.check_rules.proofs.item_orders.uses_table.Given as goal
 
 abbrev pub invariant-loop-number : goal.invariant-loop-number

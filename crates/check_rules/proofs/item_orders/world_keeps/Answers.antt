@@ -2,9 +2,7 @@ use Rattle.std.proofs.Common.{refl, sym, ap, ◌∙◌, ◌&&◌, false, Some, o
 use Rattle.std.proofs.lemmas.Option.{slice_get_read}
 use Rattle.indexmap.specs.IndexMap.{values}
 use Rattle.wit_model.specs.Uses.{items_of}
-use Rattle.wit_model.specs.Rules.{each_from, passes}
-use Rattle.wit_model.specs.Valid.{item_function, order_of_items}
-use Rattle.wit_model.specs.ItemOrders.{reaches_within, uses_are_shown}
+use Rattle.wit_model.specs.{Rules.each_from, Rules.passes, Valid.item_function, Valid.order_of_items, ItemOrders.reaches_within, ItemOrders.uses_are_shown}
 use Rattle.check_rules.proofs.ItemOrders.{items_stand}
 use Rattle.check_rules.proofs.item_orders.world_keeps.Goals as goal
 

@@ -1,7 +1,6 @@
 use Rattle.std.proofs.Common.{◌≡◌, ℕ, ◌<◌, true, Some}
+use Rattle.wit_model.specs.Valid.{depths, entry_keeps}
 use Rattle.wit_model.specs.declared.error.EntryList.TheVariants as lists
-use Rattle.wit_model.specs.Valid.{depths}
-use Rattle.wit_model.specs.Valid.{entry_keeps}
 use Rattle.check_rules.proofs.levels.check_interfaces.Given as goal
 
 abbrev pub invariant-loop-number : goal.invariant-loop-number

@@ -1,8 +1,7 @@
 use Rattle.std.proofs.Common.{◌≡◌, refl, sym, ap, ◌∙◌, nat_le, Some, option_map}
-use Rattle.std.specs.List.{list_all}
 use Rattle.std.proofs.lemmas.Option.{slice_get_read}
-use Rattle.wit_model.specs.Checks.{entry_of, all_values}
-use Rattle.wit_model.specs.Valid.{depths, functions_of_interface}
+use Rattle.std.specs.List.{list_all}
+use Rattle.wit_model.specs.{Checks.entry_of, Checks.all_values, Valid.depths, Valid.functions_of_interface}
 use Rattle.check_rules.proofs.LevelTable.{shallow_functions}
 use Rattle.check_rules.proofs.levels.interface_keeps.Goals as goal
 

@@ -1,8 +1,6 @@
 use Rattle.std.proofs.Common.{◌≡◌, refl, sym, ap, subst, ◌∙◌, ◌≤◌, ◌<◌, ◌+◌, length, rules, arith, ℕ, [], ◌∷◌, ◌++◌, min}
 use Rattle.std.proofs.lemmas.Option.{slice_get_read}
-use Rattle.wit_model.specs.Checks.{entry_of, capped_levels}
-use Rattle.wit_model.specs.Tree.{levels}
-use Rattle.wit_model.specs.Types.{number_tree}
+use Rattle.wit_model.specs.{Checks.entry_of, Checks.capped_levels, Tree.levels, Types.number_tree}
 use Rattle.wit_model.proofs.Checks.{below_at, entries_more, entries_past, below_or_past}
 use Rattle.check_rules.proofs.LevelTable.{levels_same, levels_step, no_levels}
 use Rattle.check_rules.proofs.levels.level_table.Goals as goal

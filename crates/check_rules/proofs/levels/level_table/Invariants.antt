@@ -1,7 +1,5 @@
 use Rattle.std.proofs.Common.{◌≡◌, ℕ, ◌<◌, length, min}
-use Rattle.wit_model.specs.Checks.{entry_of}
-use Rattle.wit_model.specs.Tree.{levels}
-use Rattle.wit_model.specs.Types.{number_tree}
+use Rattle.wit_model.specs.{Checks.entry_of, Tree.levels, Types.number_tree}
 use Rattle.check_rules.proofs.levels.level_table.Given as goal
 
 abbrev pub invariant-loop-def : goal.invariant-loop-def

@@ -1,10 +1,7 @@
 use Rattle.std.proofs.Common.{◌≡◌, refl, sym, ap, ◌∙◌, nat_le, filter_map, Some, option_map}
-use Rattle.std.specs.List.{list_all}
 use Rattle.std.proofs.lemmas.Option.{slice_get_read}
-use Rattle.wit_model.specs.Parts.{member_types}
-use Rattle.wit_model.specs.Types.{number_of}
-use Rattle.wit_model.specs.Checks.{entry_of}
-use Rattle.wit_model.specs.Valid.{depths}
+use Rattle.std.specs.List.{list_all}
+use Rattle.wit_model.specs.{Parts.member_types, Types.number_of, Checks.entry_of, Valid.depths}
 use Rattle.check_rules.proofs.LevelTable.{shallow_types}
 use Rattle.check_rules.proofs.levels.type_keeps.Goals as goal
 

@@ -1,7 +1,6 @@
 use Rattle.std.proofs.Common.{◌≡◌, ◌+◌, length}
 use Rattle.indexmap.specs.IndexMap.{values, index_map_len}
-use Rattle.wit_model.specs.Rules.{each_from}
-use Rattle.wit_model.specs.Checks.{entry_of, stands_in_order}
+use Rattle.wit_model.specs.{Rules.each_from, Checks.entry_of, Checks.stands_in_order}
 use Rattle.check_rules.proofs.list_orders.interface_in_order.Given as goal
 
 abbrev pub invariant-loop-id : goal.invariant-loop-id

@@ -1,8 +1,7 @@
 use Rattle.std.proofs.Common.{refl, sym, ap, ◌∙◌, Some, option_map}
 use Rattle.std.proofs.lemmas.Option.{slice_get_read}
 use Rattle.indexmap.specs.IndexMap.{values}
-use Rattle.wit_model.specs.Rules.{each_from}
-use Rattle.wit_model.specs.Checks.{list_orders, stands_in_order}
+use Rattle.wit_model.specs.{Rules.each_from, Checks.list_orders, Checks.stands_in_order}
 use Rattle.check_rules.proofs.ListOrders.{interface_order}
 use Rattle.check_rules.proofs.list_orders.interface_keeps.Goals as goal
 

@@ -1,10 +1,8 @@
 use Rattle.std.proofs.Common.{◌≡◌, refl, sym, ap, ◌∙◌, rules, None}
 use Rattle.std.proofs.lemmas.Option.{slice_get_read}
-use Rattle.wit_model.specs.Parts.{kind_numbers}
-use Rattle.wit_model.specs.Checks.{entry_of, highest, reach_of}
+use Rattle.wit_model.specs.{Parts.kind_numbers, Checks.entry_of, Checks.highest, Checks.reach_of}
 use Rattle.wit_model.proofs.Checks.{below_at}
-use Rattle.check_rules.proofs.LevelTable.{highest_same}
-use Rattle.check_rules.proofs.Ordered.{reach_named, reach_unnamed}
+use Rattle.check_rules.proofs.{LevelTable.highest_same, Ordered.reach_named, Ordered.reach_unnamed}
 use Rattle.check_rules.proofs.list_orders.reach_at.Goals as goal
 
 pub returns-in-Some : goal.returns-in-Some

@@ -1,7 +1,6 @@
 use Rattle.std.proofs.Common.{◌≡◌, sym, ap, subst, ◌∙◌, ◌≤◌, ◌<◌, ◌+◌, ℕ, [], ◌∷◌, ◌++◌, length, rules, arith}
 use Rattle.wit_model.specs.Checks.{entry_of, reach_of, highest, rank_of}
-use Rattle.wit_model.proofs.Checks.{below_or_past, entries_more, entries_past}
-use Rattle.wit_model.proofs.Owners.{nothing_past}
+use Rattle.wit_model.proofs.{Checks.below_or_past, Checks.entries_more, Checks.entries_past, Owners.nothing_past}
 use Rattle.check_rules.proofs.list_orders.reach_table.Goals as goal
 
 pub loop-number-preserved : goal.loop-number-preserved

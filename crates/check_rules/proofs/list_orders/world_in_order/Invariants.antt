@@ -1,7 +1,6 @@
 use Rattle.std.proofs.Common.{◌≡◌, ◌+◌, length}
 use Rattle.indexmap.specs.IndexMap.{values, index_map_len}
-use Rattle.wit_model.specs.Rules.{each_from, passes, item_type}
-use Rattle.wit_model.specs.Checks.{entry_of, stands_in_order}
+use Rattle.wit_model.specs.{Rules.each_from, Rules.passes, Rules.item_type, Checks.entry_of, Checks.stands_in_order}
 use Rattle.check_rules.proofs.list_orders.world_in_order.Given as goal
 
 abbrev pub invariant-loop-item : goal.invariant-loop-item

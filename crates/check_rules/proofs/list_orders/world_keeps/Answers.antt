@@ -1,8 +1,7 @@
 use Rattle.std.proofs.Common.{refl, sym, ap, ◌∙◌, Some, option_map}
 use Rattle.std.proofs.lemmas.Option.{slice_get_read}
 use Rattle.indexmap.specs.IndexMap.{values}
-use Rattle.wit_model.specs.Rules.{each_from, passes, item_type}
-use Rattle.wit_model.specs.Checks.{list_orders, stands_in_order}
+use Rattle.wit_model.specs.{Rules.each_from, Rules.passes, Rules.item_type, Checks.list_orders, Checks.stands_in_order}
 use Rattle.check_rules.proofs.ListOrders.{world_order}
 use Rattle.check_rules.proofs.list_orders.world_keeps.Goals as goal
 

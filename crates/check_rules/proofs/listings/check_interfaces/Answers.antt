@@ -1,7 +1,6 @@
 use Rattle.std.proofs.Common.{rules, ◌≤◌, length, arith}
 use Rattle.wit_model.specs.Checks.{listings}
-use Rattle.wit_model.proofs.Checks.{interfaces_pass}
-use Rattle.wit_model.proofs.Listings.{interface_breaks}
+use Rattle.wit_model.proofs.{Checks.interfaces_pass, Listings.interface_breaks}
 use Rattle.check_rules.proofs.listings.check_interfaces.Goals as goal
 
 pub returns-clause-kept : goal.returns-clause-kept

@@ -1,7 +1,6 @@
 use Rattle.std.proofs.Common.{rules, ◌≤◌, length, arith}
 use Rattle.wit_model.specs.Checks.{listings}
-use Rattle.wit_model.proofs.Checks.{types_pass}
-use Rattle.wit_model.proofs.Listings.{type_breaks}
+use Rattle.wit_model.proofs.{Checks.types_pass, Listings.type_breaks}
 use Rattle.check_rules.proofs.listings.check_types.Goals as goal
 
 pub returns-clause-kept : goal.returns-clause-kept

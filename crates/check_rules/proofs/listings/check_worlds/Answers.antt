@@ -1,7 +1,6 @@
 use Rattle.std.proofs.Common.{rules, ◌≤◌, length, arith}
 use Rattle.wit_model.specs.Checks.{listings}
-use Rattle.wit_model.proofs.Checks.{worlds_pass}
-use Rattle.wit_model.proofs.Listings.{world_breaks}
+use Rattle.wit_model.proofs.{Checks.worlds_pass, Listings.world_breaks}
 use Rattle.check_rules.proofs.listings.check_worlds.Goals as goal
 
 pub returns-clause-kept : goal.returns-clause-kept

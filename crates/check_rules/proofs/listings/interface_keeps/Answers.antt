@@ -1,10 +1,7 @@
 use Rattle.std.proofs.Common.{refl, sym, ap, ◌∙◌, Some, option_map}
-use Rattle.std.proofs.lemmas.Option.{slice_get_read}
-use Rattle.std.proofs.lemmas.List.Folds.{list_all-map}
+use Rattle.std.proofs.lemmas.{Option.slice_get_read, List.Folds.list_all-map}
 use Rattle.indexmap.specs.IndexMap.{values}
-use Rattle.wit_model.specs.Rules.{is_named_of}
-use Rattle.wit_model.specs.Valid.{as_interface}
-use Rattle.wit_model.specs.Checks.{listings}
+use Rattle.wit_model.specs.{Rules.is_named_of, Valid.as_interface, Checks.listings}
 use Rattle.check_rules.proofs.listings.interface_keeps.Goals as goal
 
 pub returns : goal.returns

@@ -1,7 +1,6 @@
 use Rattle.std.proofs.Common.{◌≡◌, not}
 use Rattle.std.specs.List.{find}
-use Rattle.wit_model.specs.Text.{text_of, text_eq}
-use Rattle.wit_model.specs.Checks.{has_name}
+use Rattle.wit_model.specs.{Text.text_of, Text.text_eq, Checks.has_name}
 use Rattle.check_rules.proofs.listings.misnamed_in_interface.Given as goal
 
 abbrev pub invariant-loop-key : goal.invariant-loop-key

@@ -1,7 +1,6 @@
 use Rattle.std.proofs.Common.{◌≡◌, not}
 use Rattle.std.specs.List.{find}
-use Rattle.wit_model.specs.Rules.{passes, item_type}
-use Rattle.wit_model.specs.Checks.{has_name, key_fits}
+use Rattle.wit_model.specs.{Rules.passes, Rules.item_type, Checks.has_name, Checks.key_fits}
 use Rattle.check_rules.proofs.listings.misnamed_in_world.Given as goal
 
 abbrev pub invariant-loop-key : goal.invariant-loop-key

@@ -1,12 +1,9 @@
 use Rattle.std.proofs.Common.{refl, sym, ap, ◌∙◌, Some, option_map}
-use Rattle.std.specs.Option.{option_map_or}
 use Rattle.std.proofs.lemmas.Option.{slice_get_read}
-use Rattle.wit_model.specs.declared.model.TypeOwner.TheVariants as owner
-use Rattle.wit_model.specs.Text.{text_of}
-use Rattle.wit_model.specs.Rules.{is_listed}
-use Rattle.wit_model.specs.Parts.{same_owner}
-use Rattle.wit_model.specs.Checks.{listings}
+use Rattle.std.specs.Option.{option_map_or}
+use Rattle.wit_model.specs.{Text.text_of, Rules.is_listed, Parts.same_owner, Checks.listings}
 use Rattle.wit_model.proofs.Listings.{listed_found}
+use Rattle.wit_model.specs.declared.model.TypeOwner.TheVariants as owner
 use Rattle.check_rules.proofs.listings.type_keeps.Goals as goal
 
 pub returns-in_ok-found-in-Some : goal.returns-in_ok-found-in-Some

@@ -1,9 +1,7 @@
 use Rattle.std.proofs.Common.{refl, sym, ap, ◌∙◌, Some, option_map}
 use Rattle.std.proofs.lemmas.Option.{slice_get_read}
 use Rattle.indexmap.specs.IndexMap.{values}
-use Rattle.wit_model.specs.Rules.{is_named_of, item_type}
-use Rattle.wit_model.specs.Valid.{as_world}
-use Rattle.wit_model.specs.Checks.{listings}
+use Rattle.wit_model.specs.{Rules.is_named_of, Rules.item_type, Valid.as_world, Checks.listings}
 use Rattle.wit_model.proofs.Lists.{list_all_filter_map}
 use Rattle.check_rules.proofs.listings.world_keeps.Goals as goal
 

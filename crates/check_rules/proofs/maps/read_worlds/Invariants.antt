@@ -1,8 +1,7 @@
 use Rattle.std.proofs.Common.{◌≡◌, ℕ, ◌<◌, Some}
 use Rattle.indexmap.specs.IndexMap.{IsUnique}
 use Rattle.wit_model.specs.declared.model.World.{World}
-use Rattle.wit_model.specs.Lookup.{world_at}
-use Rattle.wit_model.specs.Valid.{key_eq}
+use Rattle.wit_model.specs.{Lookup.world_at, Valid.key_eq}
 use Rattle.check_rules.proofs.maps.read_worlds.Given as goal
 
 abbrev pub invariant-loop-entry : goal.invariant-loop-entry

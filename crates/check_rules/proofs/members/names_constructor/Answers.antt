@@ -1,9 +1,8 @@
 use Rattle.std.proofs.Common.{◌≡◌, sym, ap, ◌∙◌, false, Some, None}
 use Rattle.std.specs.Option.{option_map_or}
-use Rattle.wit_model.specs.Text.{text_eq}
-use Rattle.wit_model.specs.Rules.{after_prefix}
-use Rattle.check_rules.proofs.members.names_constructor.Goals as goal
+use Rattle.wit_model.specs.{Text.text_eq, Rules.after_prefix}
 use Rattle.wit_model.proofs.TextLemmas.{is_joined}
+use Rattle.check_rules.proofs.members.names_constructor.Goals as goal
 
 pub returns-in-Some : goal.returns-in-Some
 returns-in-Some c =

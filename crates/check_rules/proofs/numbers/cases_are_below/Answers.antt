@@ -1,7 +1,6 @@
 use Rattle.std.proofs.Common.{◌∙◌, sym, rules, tests, ℕ, Bool, nat_lt, option_to_list, filter_map}
+use Rattle.std.proofs.lemmas.{Iterator.YieldsList-from_slice, Iterator.Search.all_from_yields_List}
 use Rattle.std.specs.List.{list_all}
-use Rattle.std.proofs.lemmas.Iterator.{YieldsList-from_slice}
-use Rattle.std.proofs.lemmas.Iterator.Search.{all_from_yields_List}
 use Rattle.wit_model.specs.Types.{number_of}
 use Rattle.check_rules.proofs.Below.{given_cases}
 use Rattle.check_rules.proofs.numbers.cases_are_below.Goals as goal

@@ -1,7 +1,6 @@
 use Rattle.std.proofs.Common.{◌∙◌, sym, rules, tests, ℕ, Bool, nat_lt, option_to_list}
+use Rattle.std.proofs.lemmas.{Iterator.YieldsList-from_slice, Iterator.Search.all_from_yields_List}
 use Rattle.std.specs.List.{list_all}
-use Rattle.std.proofs.lemmas.Iterator.{YieldsList-from_slice}
-use Rattle.std.proofs.lemmas.Iterator.Search.{all_from_yields_List}
 use Rattle.wit_model.specs.Types.{number_of}
 use Rattle.wit_model.proofs.Lists.{list_all_mapped}
 use Rattle.check_rules.proofs.numbers.params_are_below.Goals as goal

@@ -1,11 +1,9 @@
 use Rattle.std.proofs.Common.{◌≡◌, refl, sym, ap, ◌∙◌, ◌&&◌, Some, option_map, nat_le, option_to_list}
-use Rattle.std.specs.List.{list_all}
 use Rattle.std.proofs.lemmas.Option.{slice_get_read}
+use Rattle.std.specs.List.{list_all}
 use Rattle.indexmap.specs.IndexMap.{values}
-use Rattle.wit_model.specs.Uses.{interface_used_by}
+use Rattle.wit_model.specs.{Uses.interface_used_by, Checks.all_values, Valid.owners, Valid.as_interface, Valid.functions_of_interface}
 use Rattle.check_rules.specs.Owners.{stays, met_entry}
-use Rattle.wit_model.specs.Checks.{all_values}
-use Rattle.wit_model.specs.Valid.{owners, as_interface, functions_of_interface}
 use Rattle.wit_model.proofs.Owners.{used_within}
 use Rattle.check_rules.proofs.OwnerTable.{functions_stay}
 use Rattle.check_rules.proofs.owners.interface_keeps.Goals as goal

@@ -1,10 +1,9 @@
 use Rattle.std.proofs.Common.{◌≡◌, refl, ap, ◌∙◌, rules, true, false, is_some}
-use Rattle.std.specs.List.{list_all}
 use Rattle.std.proofs.lemmas.Option.{slice_get_read}
+use Rattle.std.specs.List.{list_all}
 use Rattle.wit_model.specs.Parts.{kind_numbers, has_owner, met_by, met_of}
 use Rattle.check_rules.specs.Owners.{stays, met_entry}
-use Rattle.wit_model.proofs.Checks.{below_at}
-use Rattle.wit_model.proofs.Owners.{named_met, unnamed_met, all_same_below}
+use Rattle.wit_model.proofs.{Checks.below_at, Owners.named_met, Owners.unnamed_met, Owners.all_same_below}
 use Rattle.check_rules.proofs.owners.met_at.Goals as goal
 
 pub returns-then-is_some : goal.returns-then-is_some

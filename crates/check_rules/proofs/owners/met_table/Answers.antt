@@ -1,11 +1,10 @@
 use Rattle.std.proofs.Common.{◌≡◌, sym, ap, ◌∙◌, ◌≤◌, length, rules, arith, unwrap_or}
-use Rattle.std.specs.List.{list_all}
 use Rattle.std.proofs.lemmas.Option.{slice_get_past}
-use Rattle.check_rules.specs.declared.owners.Met.TheVariants as met
+use Rattle.std.specs.List.{list_all}
 use Rattle.wit_model.specs.Parts.{has_owner, met_by, met_of}
 use Rattle.check_rules.specs.Owners.{stays, met_entry}
-use Rattle.wit_model.proofs.Checks.{below_or_past}
-use Rattle.wit_model.proofs.Owners.{nothing_past}
+use Rattle.wit_model.proofs.{Checks.below_or_past, Owners.nothing_past}
+use Rattle.check_rules.specs.declared.owners.Met.TheVariants as met
 use Rattle.check_rules.proofs.owners.met_table.Goals as goal
 
 pub returns : goal.returns

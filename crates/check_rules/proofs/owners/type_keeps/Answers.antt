@@ -1,12 +1,10 @@
 use Rattle.std.proofs.Common.{◌≡◌, refl, sym, ap, ◌∙◌, ◌||◌, Some, ◌&&◌, option_map, is_some}
-use Rattle.std.specs.List.{list_all}
 use Rattle.std.proofs.lemmas.Option.{slice_get_read}
-use Rattle.wit_model.specs.Parts.{kind_numbers, has_owner, same_owner, used_by_type}
-use Rattle.wit_model.specs.declared.model.TypeOwner.TheVariants as owner
-use Rattle.wit_model.specs.Rules.{is_use}
+use Rattle.std.specs.List.{list_all}
+use Rattle.wit_model.specs.{Parts.kind_numbers, Parts.has_owner, Parts.same_owner, Parts.used_by_type, Rules.is_use, Valid.owners}
 use Rattle.check_rules.specs.Owners.{stays, met_entry}
-use Rattle.wit_model.specs.Valid.{owners}
 use Rattle.check_rules.proofs.OwnerTable.{numbers_stay}
+use Rattle.wit_model.specs.declared.model.TypeOwner.TheVariants as owner
 use Rattle.check_rules.proofs.owners.type_keeps.Goals as goal
 
 pub returns : goal.returns

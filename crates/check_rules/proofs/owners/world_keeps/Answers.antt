@@ -1,9 +1,8 @@
 use Rattle.std.proofs.Common.{◌≡◌, refl, sym, ap, ◌∙◌, Some, option_map}
-use Rattle.std.specs.List.{list_all}
 use Rattle.std.proofs.lemmas.Option.{slice_get_read}
+use Rattle.std.specs.List.{list_all}
 use Rattle.check_rules.specs.Owners.{stays, met_entry}
-use Rattle.wit_model.specs.Checks.{all_values}
-use Rattle.wit_model.specs.Valid.{owners, as_world, functions_of_world}
+use Rattle.wit_model.specs.{Checks.all_values, Valid.owners, Valid.as_world, Valid.functions_of_world}
 use Rattle.check_rules.proofs.OwnerTable.{functions_stay}
 use Rattle.check_rules.proofs.owners.world_keeps.Goals as goal
 

@@ -1,7 +1,6 @@
 use Rattle.std.proofs.Common.{rules}
 use Rattle.wit_model.specs.Valid.{places}
-use Rattle.wit_model.proofs.Entries.{free_passes}
-use Rattle.wit_model.proofs.Checks.{keeps_lists}
+use Rattle.wit_model.proofs.{Entries.free_passes, Checks.keeps_lists}
 use Rattle.check_rules.proofs.places.check.Goals as goal
 
 pub returns-clause-kept : goal.returns-clause-kept

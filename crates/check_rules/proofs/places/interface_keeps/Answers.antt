@@ -1,10 +1,7 @@
 use Rattle.std.proofs.Common.{refl, sym, ap, ◌∙◌, ◌&&◌, true, not, Some, option_map, option_and_then, is_some}
-use Rattle.std.specs.Option.{option_map_or}
 use Rattle.std.proofs.lemmas.Option.{slice_get_read}
-use Rattle.wit_model.specs.Text.{text_of}
-use Rattle.wit_model.specs.Lookup.{package_at}
-use Rattle.wit_model.specs.Rules.{interface_is_listed, is_world_name, package_number}
-use Rattle.wit_model.specs.Valid.{places}
+use Rattle.std.specs.Option.{option_map_or}
+use Rattle.wit_model.specs.{Text.text_of, Lookup.package_at, Rules.interface_is_listed, Rules.is_world_name, Rules.package_number, Valid.places}
 use Rattle.check_rules.proofs.places.interface_keeps.Goals as goal
 
 pub returns : goal.returns

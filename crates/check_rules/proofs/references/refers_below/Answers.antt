@@ -1,8 +1,7 @@
 use Rattle.std.proofs.Common.{◌≡◌, refl, sym, ap, ◌∙◌, nat_lt, Some, option_map}
-use Rattle.std.specs.List.{list_all}
 use Rattle.std.proofs.lemmas.Option.{slice_get_read}
-use Rattle.wit_model.specs.Parts.{kind_numbers}
-use Rattle.wit_model.specs.Checks.{references}
+use Rattle.std.specs.List.{list_all}
+use Rattle.wit_model.specs.{Parts.kind_numbers, Checks.references}
 use Rattle.check_rules.proofs.references.refers_below.Goals as goal
 
 pub returns : goal.returns

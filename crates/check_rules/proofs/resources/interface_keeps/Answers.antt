@@ -1,8 +1,7 @@
 use Rattle.std.proofs.Common.{◌≡◌, refl, sym, ap, ◌∙◌, not, Some, option_map}
-use Rattle.std.specs.List.{list_all}
 use Rattle.std.proofs.lemmas.Option.{slice_get_read}
-use Rattle.wit_model.specs.Checks.{flags, all_values}
-use Rattle.wit_model.specs.Valid.{handles, functions_of_interface}
+use Rattle.std.specs.List.{list_all}
+use Rattle.wit_model.specs.{Checks.flags, Checks.all_values, Valid.handles, Valid.functions_of_interface}
 use Rattle.wit_model.proofs.Resources.{marked_functions}
 use Rattle.check_rules.proofs.resources.interface_keeps.Goals as goal
 

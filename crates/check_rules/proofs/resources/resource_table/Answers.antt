@@ -1,7 +1,6 @@
 use Rattle.std.proofs.Common.{◌≡◌, refl, sym, ap, subst, ◌∙◌, ◌≤◌, ◌<◌, ◌+◌, length, rules, arith, ℕ, [], ◌∷◌, ◌++◌}
 use Rattle.std.proofs.lemmas.Option.{slice_get_read}
-use Rattle.wit_model.specs.Checks.{flags}
-use Rattle.wit_model.specs.Parts.{is_resource, is_resource_kind}
+use Rattle.wit_model.specs.{Checks.flags, Parts.is_resource, Parts.is_resource_kind}
 use Rattle.wit_model.proofs.Checks.{below_at, flags_more, flags_past, below_or_past}
 use Rattle.wit_model.proofs.Resources.{kind_same, resource_step, no_resource}
 use Rattle.check_rules.proofs.resources.resource_table.Goals as goal

@@ -1,6 +1,5 @@
 use Rattle.std.proofs.Common.{◌≡◌, ℕ, ◌<◌, length}
-use Rattle.wit_model.specs.Checks.{flags}
-use Rattle.wit_model.specs.Parts.{is_resource}
+use Rattle.wit_model.specs.{Checks.flags, Parts.is_resource}
 use Rattle.check_rules.proofs.resources.resource_table.Given as goal
 
 abbrev pub invariant-loop-def : goal.invariant-loop-def

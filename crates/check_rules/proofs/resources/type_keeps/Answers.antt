@@ -1,11 +1,7 @@
 use Rattle.std.proofs.Common.{◌≡◌, refl, sym, ap, ◌∙◌, ◌&&◌, not, filter_map, Some, option_map}
-use Rattle.std.specs.List.{list_all}
 use Rattle.std.proofs.lemmas.Option.{slice_get_read}
-use Rattle.wit_model.specs.Parts.{member_types, handled}
-use Rattle.wit_model.specs.Rules.{passes}
-use Rattle.wit_model.specs.Types.{number_of}
-use Rattle.wit_model.specs.Checks.{flags}
-use Rattle.wit_model.specs.Valid.{handles}
+use Rattle.std.specs.List.{list_all}
+use Rattle.wit_model.specs.{Parts.member_types, Parts.handled, Rules.passes, Types.number_of, Checks.flags, Valid.handles}
 use Rattle.wit_model.proofs.Resources.{marked_type}
 use Rattle.check_rules.proofs.resources.type_keeps.Goals as goal
 

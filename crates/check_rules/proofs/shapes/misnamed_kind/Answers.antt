@@ -1,7 +1,5 @@
 use Rattle.std.proofs.Common.{rules, ◌≤◌, length, not, ◌||◌, ◌&&◌, is_some}
-use Rattle.wit_model.specs.Valid.{named_kinds}
-use Rattle.wit_model.specs.Rules.{is_named_kind, is_named_number, passes}
-use Rattle.wit_model.specs.Uses.{alias_target}
+use Rattle.wit_model.specs.{Valid.named_kinds, Rules.is_named_kind, Rules.is_named_number, Rules.passes, Uses.alias_target}
 use Rattle.wit_model.proofs.Entries.{types_keep, each_to_end}
 use Rattle.check_rules.proofs.shapes.misnamed_kind.Goals as goal
 

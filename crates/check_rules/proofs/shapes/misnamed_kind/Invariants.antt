@@ -1,6 +1,5 @@
 use Rattle.std.proofs.Common.{◌≡◌, drop, not, ◌||◌, ◌&&◌, is_some}
-use Rattle.wit_model.specs.Rules.{each_from, is_named_kind, is_named_number, passes}
-use Rattle.wit_model.specs.Uses.{alias_target}
+use Rattle.wit_model.specs.{Rules.each_from, Rules.is_named_kind, Rules.is_named_number, Rules.passes, Uses.alias_target}
 use Rattle.check_rules.proofs.shapes.misnamed_kind.Given as goal
 
 abbrev pub invariant-loop-number : goal.invariant-loop-number

@@ -1,6 +1,5 @@
 use Rattle.std.proofs.Common.{rules, ◌≤◌, length}
-use Rattle.wit_model.specs.Valid.{shapes}
-use Rattle.wit_model.specs.Rules.{has_shape}
+use Rattle.wit_model.specs.{Valid.shapes, Rules.has_shape}
 use Rattle.wit_model.proofs.Entries.{types_keep, each_to_end}
 use Rattle.check_rules.proofs.shapes.misshapen.Goals as goal
 

@@ -1,8 +1,7 @@
 use Rattle.std.proofs.Common.{◌≡◌, ℕ, ◌<◌, length}
 use Rattle.std.specs.List.{count_by}
 use Rattle.indexmap.specs.IndexMap.{values}
-use Rattle.wit_model.specs.Rules.{is_id}
-use Rattle.wit_model.specs.Uses.{item_interface}
+use Rattle.wit_model.specs.{Rules.is_id, Uses.item_interface}
 use Rattle.check_rules.specs.Places.{joined, shown_entry, times}
 use Rattle.check_rules.proofs.shown.mark_items.Given as goal
 

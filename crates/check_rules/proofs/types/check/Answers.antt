@@ -1,6 +1,5 @@
 use Rattle.std.proofs.Common.{rules}
-use Rattle.wit_model.specs.Checks.{references, listings, list_orders}
-use Rattle.wit_model.specs.Valid.{Keeps}
+use Rattle.wit_model.specs.{Checks.references, Checks.listings, Checks.list_orders, Valid.Keeps}
 use Rattle.check_rules.proofs.ListOrders.{order_kept}
 use Rattle.check_rules.proofs.types.check.Goals as goal
 

@@ -1,9 +1,6 @@
 use Rattle.std.specs.Cow.{cow_str_bytes}
-use Rattle.comp_bytes.specs.Form.{Name}
-use Rattle.comp_bytes.specs.Writing.{attribute_bytes}
-use Rattle.comp_bytes.specs.Spelling.{Attribute}
-use Rattle.comp_bytes.proofs.Appends.{tagged}
-use Rattle.comp_bytes.proofs.Sequences.{alone}
+use Rattle.comp_bytes.specs.{Form.Name, Writing.attribute_bytes, Spelling.Attribute}
+use Rattle.comp_bytes.proofs.{Appends.tagged, Sequences.alone}
 use Rattle.comp_bytes.proofs.append.append_attribute.Goals as goal
 
 pub returns-in_ok-push-in-Some : goal.returns-in_ok-push-in-Some

@@ -1,6 +1,5 @@
 use Rattle.std.proofs.Common.{arith}
-use Rattle.comp_bytes.specs.RawOf.{raw_name}
-use Rattle.comp_bytes.specs.Spelling.{attributes}
+use Rattle.comp_bytes.specs.{RawOf.raw_name, Spelling.attributes}
 use Rattle.comp_bytes.proofs.NamesWritten.{length-attributes, attributed}
 use Rattle.comp_bytes.proofs.append.append_attributed_name.Goals as goal
 

@@ -1,7 +1,5 @@
 use Rattle.std.proofs.Common.{map}
-use Rattle.comp_bytes.specs.Form.{Vector}
-use Rattle.comp_bytes.specs.Spelling.{Field, Case}
-use Rattle.comp_bytes.specs.RawOf.{labeled}
+use Rattle.comp_bytes.specs.{Form.Vector, Spelling.Field, Spelling.Case, RawOf.labeled}
 use Rattle.comp_bytes.proofs.Appends.{tagged}
 use Rattle.comp_bytes.proofs.append.append_defined_type.Goals as goal
 

@@ -1,10 +1,6 @@
 use Rattle.std.proofs.Common.{arith}
-use Rattle.comp_bytes.specs.Spelling.{Field}
-use Rattle.comp_bytes.specs.Writing.{field_bytes}
-use Rattle.comp_bytes.specs.Fits.{fits_label}
-use Rattle.comp_bytes.specs.RawOf.{labeled}
-use Rattle.comp_bytes.proofs.Sequences.{next_of, stopped_at}
-use Rattle.comp_bytes.proofs.Appends.{passed_on}
+use Rattle.comp_bytes.specs.{Spelling.Field, Writing.field_bytes, Fits.fits_label, RawOf.labeled}
+use Rattle.comp_bytes.proofs.{Sequences.next_of, Sequences.stopped_at, Appends.passed_on}
 use Rattle.comp_bytes.proofs.append.append_each_field.Goals as goal
 
 pub loop-name-preserved : goal.loop-name-preserved

@@ -1,10 +1,6 @@
 use Rattle.std.proofs.Common.{take, map}
 use Rattle.std.specs.List.{flat_map}
-use Rattle.comp_bytes.specs.Form.{Sequence}
-use Rattle.comp_bytes.specs.Spelling.{Field}
-use Rattle.comp_bytes.specs.Writing.{field_bytes}
-use Rattle.comp_bytes.specs.RawOf.{labeled}
-use Rattle.comp_bytes.specs.Appending.{Appended}
+use Rattle.comp_bytes.specs.{Form.Sequence, Spelling.Field, Writing.field_bytes, RawOf.labeled, Appending.Appended}
 use Rattle.comp_bytes.proofs.append.append_each_field.Given as goal
 
 abbrev pub invariant-loop-name : goal.invariant-loop-name

@@ -1,10 +1,6 @@
 use Rattle.std.proofs.Common.{arith}
-use Rattle.comp_bytes.specs.Form.{Name}
-use Rattle.comp_bytes.specs.Writing.{name_bytes}
-use Rattle.comp_bytes.specs.Fits.{fits_length}
-use Rattle.comp_bytes.specs.RawOf.{text_of}
-use Rattle.comp_bytes.proofs.Sequences.{next_of, stopped_at}
-use Rattle.comp_bytes.proofs.Appends.{passed_on}
+use Rattle.comp_bytes.specs.{Form.Name, Writing.name_bytes, Fits.fits_length, RawOf.text_of}
+use Rattle.comp_bytes.proofs.{Sequences.next_of, Sequences.stopped_at, Appends.passed_on}
 use Rattle.comp_bytes.proofs.append.append_each_name.Goals as goal
 
 pub loop-name-preserved : goal.loop-name-preserved

@@ -1,9 +1,6 @@
 use Rattle.std.proofs.Common.{take, map}
 use Rattle.std.specs.List.{flat_map}
-use Rattle.comp_bytes.specs.Form.{Sequence, Name}
-use Rattle.comp_bytes.specs.Writing.{name_bytes}
-use Rattle.comp_bytes.specs.RawOf.{text_of}
-use Rattle.comp_bytes.specs.Appending.{Appended}
+use Rattle.comp_bytes.specs.{Form.Sequence, Form.Name, Writing.name_bytes, RawOf.text_of, Appending.Appended}
 use Rattle.comp_bytes.proofs.append.append_each_name.Given as goal
 
 abbrev pub invariant-loop-name : goal.invariant-loop-name

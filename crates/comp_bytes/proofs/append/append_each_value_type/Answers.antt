@@ -1,6 +1,5 @@
 use Rattle.std.proofs.Common.{arith}
-use Rattle.comp_bytes.specs.Spelling.{ValueType}
-use Rattle.comp_bytes.specs.Writing.{value_bytes}
+use Rattle.comp_bytes.specs.{Spelling.ValueType, Writing.value_bytes}
 use Rattle.comp_bytes.proofs.Sequences.{next}
 use Rattle.comp_bytes.proofs.append.append_each_value_type.Goals as goal
 

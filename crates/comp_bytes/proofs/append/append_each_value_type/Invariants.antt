@@ -1,9 +1,6 @@
 use Rattle.std.proofs.Common.{take}
 use Rattle.std.specs.List.{flat_map}
-use Rattle.comp_bytes.specs.Form.{Sequence}
-use Rattle.comp_bytes.specs.Spelling.{ValueType}
-use Rattle.comp_bytes.specs.Writing.{value_bytes}
-use Rattle.comp_bytes.specs.Appending.{Appended}
+use Rattle.comp_bytes.specs.{Form.Sequence, Spelling.ValueType, Writing.value_bytes, Appending.Appended}
 use Rattle.comp_bytes.proofs.append.append_each_value_type.Given as goal
 
 abbrev pub invariant-loop-ty : goal.invariant-loop-ty

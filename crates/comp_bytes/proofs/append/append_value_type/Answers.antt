@@ -1,6 +1,5 @@
 use Rattle.std.proofs.Common.{◌<◌, ◌^◌, arith}
-use Rattle.comp_bytes.proofs.Appends.{by_memory}
-use Rattle.comp_bytes.proofs.IndexWrites.{spells_index}
+use Rattle.comp_bytes.proofs.{Appends.by_memory, IndexWrites.spells_index}
 use Rattle.comp_bytes.proofs.append.append_value_type.Goals as goal
 
 pub returns-in-Type_ : goal.returns-in-Type_

@@ -1,8 +1,6 @@
 use Rattle.std.proofs.Common.{◌∙◌, ap, sym, arith}
 use Rattle.comp_bytes.specs.Reading.{frame_at}
-use Rattle.comp_bytes.proofs.ComponentLaws.{frame_law}
-use Rattle.comp_bytes.proofs.Readers.{read_err}
-use Rattle.comp_bytes.proofs.FrameLaws.{found_behind, some_left}
+use Rattle.comp_bytes.proofs.{ComponentLaws.frame_law, Readers.read_err, FrameLaws.found_behind, FrameLaws.some_left}
 use Rattle.comp_bytes.proofs.frames.section_at.Goals as goal
 
 pub returns-in-Ok : goal.returns-in-Ok

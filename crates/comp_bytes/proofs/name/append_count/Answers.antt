@@ -1,6 +1,5 @@
 use Rattle.std.proofs.Common.{◌<◌, ◌^◌, arith}
-use Rattle.comp_bytes.proofs.Appends.{by_memory}
-use Rattle.comp_bytes.proofs.Writes.{spells_u32}
+use Rattle.comp_bytes.proofs.{Appends.by_memory, Writes.spells_u32}
 use Rattle.comp_bytes.proofs.name.append_count.Goals as goal
 
 pub returns-in-Ok-clause-appends : goal.returns-in-Ok-clause-appends

@@ -1,5 +1,4 @@
-use Rattle.comp_bytes.proofs.Readers.{read_ok, read_err, read_len}
-use Rattle.comp_bytes.proofs.PartLaws.{name_law}
+use Rattle.comp_bytes.proofs.{Readers.read_ok, Readers.read_err, Readers.read_len, PartLaws.name_law}
 use Rattle.comp_bytes.proofs.name.read_name.Goals as goal
 
 pub overflow_sub-result : goal.overflow_sub-result

@@ -1,16 +1,12 @@
-use Rattle.std.proofs.Common.{◌≤◌, Some, length, refl}
+use Rattle.std.proofs.{Common.◌≤◌, Common.Some, Common.length, Common.refl, lemmas.Result.IfOk-weaker as if_ok}
 use Rattle.comp_meaning.specs.ByLevels.{package_of_pieces}
 use Rattle.read_exports.specs.Members.{homes_in}
 use Rattle.read_rules.specs.Tables.{known_in, numbered_tables}
 use Rattle.plan_meaning.specs.NumberedMembers.{home_at}
-use Rattle.comp_read.specs.Decoded.{HoldsFound}
-use Rattle.comp_read.specs.Order.{FollowsLevels}
-use Rattle.comp_read.specs.Planned.{IsBuiltOf}
-use Rattle.comp_read.proofs.BuildLaws.{few_in_package, package_built}
+use Rattle.comp_read.specs.{Decoded.HoldsFound, Order.FollowsLevels, Planned.IsBuiltOf}
+use Rattle.comp_read.proofs.{BuildLaws.few_in_package, BuildLaws.package_built, ReadOrder.package_in_order}
 use Rattle.comp_read.proofs.ReadLaws.{can_be_built, main_is, may_be_whole, no_package, none_is, plans_mean}
-use Rattle.comp_read.proofs.ReadOrder.{package_in_order}
 use Rattle.comp_read.proofs.packages.package_of_members.Goals as goal
-use Rattle.std.proofs.lemmas.Result.{IfOk-weaker as if_ok}
 
 pub built-requires-clause-whole : goal.built-requires-clause-whole
 built-requires-clause-whole c =

@@ -1,12 +1,9 @@
 use Rattle.std.proofs.Common.{Some, subst, sym, IfOk}
 use Rattle.comp_meaning.specs.ByLevels.{package_of_pieces, world_of_pieces}
 use Rattle.comp_read.specs.declared.wanted.Wanted.{Wanted}
-use Rattle.comp_read.specs.declared.wanted.Wanted.TheVariants as wanted
-use Rattle.comp_read.specs.Decoded.{HoldsFound}
-use Rattle.comp_read.specs.DecodedWorlds.{HoldsWorldFound}
-use Rattle.comp_read.specs.Order.{FollowsLevels}
-use Rattle.comp_read.specs.WantedFound.{HoldsWanted}
+use Rattle.comp_read.specs.{Decoded.HoldsFound, DecodedWorlds.HoldsWorldFound, Order.FollowsLevels, WantedFound.HoldsWanted}
 use Rattle.comp_read.proofs.ReadOrder.{both_ok}
+use Rattle.comp_read.specs.declared.wanted.Wanted.TheVariants as wanted
 use Rattle.comp_read.proofs.reading.wanted_of_members.Goals as goal
 
 pub returns-in-Package-clause-holds : goal.returns-in-Package-clause-holds

@@ -1,8 +1,7 @@
-use Rattle.std.proofs.Common.{◌≤◌, arith, length}
+use Rattle.std.proofs.{Common.◌≤◌, Common.arith, Common.length, lemmas.Result.IfOk-weaker as if_ok}
 use Rattle.read_numbers.specs.NumberedInput.{tables_of}
 use Rattle.comp_read.proofs.FollowedLaws.{are_paths, few_followed}
 use Rattle.comp_read.proofs.reading.wanted_of_parts.Goals as goal
-use Rattle.std.proofs.lemmas.Result.{IfOk-weaker as if_ok}
 
 pub wanted_of_followed-requires-clause-paths : goal.wanted_of_followed-requires-clause-paths
 wanted_of_followed-requires-clause-paths c = are_paths c.args.followed.now c.requires

@@ -1,19 +1,15 @@
 use Rattle.std.proofs.Common.{◌≤◌, Some, ap, subst, sym, ◌∙◌, List, ◌∷◌, length}
+use Rattle.std.proofs.lemmas.Result.{IfOk-weaker as if_ok}
 use Rattle.comp_meaning.specs.ByLevels.{world_of_pieces}
 use Rattle.read_exports.specs.Members.{homes_in}
 use Rattle.read_exports.specs.declared.members.Member.{Member}
 use Rattle.read_rules.specs.Tables.{numbered_tables}
 use Rattle.plan_package.specs.PlanWhole.{MayBeWhole}
 use Rattle.plan_meaning.specs.NumberedMembers.{home_at}
-use Rattle.comp_read.specs.DecodedWorlds.{HoldsWorldFound}
-use Rattle.comp_read.specs.Order.{FollowsLevels}
-use Rattle.comp_read.specs.Planned.{CanBeBuilt, IsBuiltOf}
-use Rattle.comp_read.proofs.WorldLaws.{few_in_world, world_built}
-use Rattle.comp_read.proofs.WorldOrder.{world_packages_rise}
-use Rattle.comp_read.proofs.WorldReadLaws.{world_can_be_built, world_may_be_whole, world_plans_mean}
-use Rattle.comp_read.proofs.ReadOrder.{world_in_order}
+use Rattle.comp_read.specs.{DecodedWorlds.HoldsWorldFound, Order.FollowsLevels, Planned.CanBeBuilt, Planned.IsBuiltOf}
+use Rattle.comp_read.proofs.{WorldLaws.few_in_world, WorldLaws.world_built, ReadOrder.world_in_order}
+use Rattle.comp_read.proofs.{WorldOrder.world_packages_rise, WorldReadLaws.world_can_be_built, WorldReadLaws.world_may_be_whole, WorldReadLaws.world_plans_mean}
 use Rattle.comp_read.proofs.worlds.built_world.Goals as goal
-use Rattle.std.proofs.lemmas.Result.{IfOk-weaker as if_ok}
 
 pub built-requires-clause-whole : goal.built-requires-clause-whole
 built-requires-clause-whole c =

@@ -1,7 +1,6 @@
 use Rattle.std.proofs.Common.{rules, ◌≡◌, ap, ◌∙◌, ◌++◌, ◌∷◌, [], append_assoc}
 use Rattle.wit_model.specs.Text.{Text}
-use Rattle.comp_bytes.specs.Raw.{Declarations, TopType}
-use Rattle.comp_bytes.specs.Parts.{Part, plain_export, top_slots}
+use Rattle.comp_bytes.specs.{Raw.Declarations, Raw.TopType, Parts.Part, Parts.plain_export, Parts.top_slots}
 use Rattle.encode_exports.specs.ExportedParts.{one_exported}
 use Rattle.encode_exports.proofs.Exports.{one_more}
 use Rattle.encode_exports.proofs.export.export_component_type.Goals as goal

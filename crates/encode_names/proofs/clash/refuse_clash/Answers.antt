@@ -1,10 +1,8 @@
 use Rattle.std.proofs.Common.{rules, sym, ap, subst, ◌∙◌, ◌++◌, map, true}
-use Rattle.std.specs.List.{IsDistinct}
-use Rattle.std.specs.Map.Iter.{deref_pair}
 use Rattle.std.proofs.lemmas.Map.Iter.{rest_more}
+use Rattle.std.specs.{List.IsDistinct, Map.Iter.deref_pair}
 use Rattle.wit_model.specs.Text.{text_eq, text_of}
-use Rattle.encode_names.specs.WorldNames.{written_key}
-use Rattle.encode_names.specs.Clashes.{canonical_names_of}
+use Rattle.encode_names.specs.{WorldNames.written_key, Clashes.canonical_names_of}
 use Rattle.encode_names.proofs.Paths.{items_refused, split-on}
 use Rattle.encode_names.proofs.clash.refuse_clash.Goals as goal
 

@@ -3,8 +3,7 @@ use Rattle.wit_model.specs.declared.model.InterfaceId.{InterfaceId}
 use Rattle.wit_model.specs.Uses.{direct_deps}
 use Rattle.encode_shown.specs.Views.{AreReached}
 use Rattle.encode_reach.specs.Walk.{listed_at_end, visits}
-use Rattle.encode_reach.proofs.Steps.{visits-found}
-use Rattle.encode_reach.proofs.InOrder.{in-order}
+use Rattle.encode_reach.proofs.{Steps.visits-found, InOrder.in-order}
 use Rattle.encode_reach.proofs.reach.interfaces_reached.Goals as goal
 
 order : goal.returns-clause-order

@@ -1,5 +1,4 @@
-use Rattle.encode_shown.proofs.Worlds.{world-obeys}
-use Rattle.encode_shown.proofs.WorldMeans.{world-means, world-package-means}
+use Rattle.encode_shown.proofs.{Worlds.world-obeys, WorldMeans.world-means, WorldMeans.world-package-means}
 use Rattle.encode_shown.proofs.laws.worlds_are_meant.Goals as goal
 
 pub returns : goal.returns

@@ -1,7 +1,5 @@
-use Rattle.encode_types.proofs.Defining.{value-stands}
+use Rattle.encode_types.proofs.{Defining.value-stands, Writing.written-none, Agree.on_ok}
 use Rattle.encode_types.proofs.define.define_alias.Goals as goal
-use Rattle.encode_types.proofs.Writing.{written-none}
-use Rattle.encode_types.proofs.Agree.{on_ok}
 
 pub returns-in-Type_-clause-ok : goal.returns-in-Type_-clause-ok
 returns-in-Type_-clause-ok g c = rw c.value_of.ensures.same (value-stands c.args.resolve.now (g.E.ValtypeEncoder.view c.args.enc.now).maps (g.E.ValtypeEncoder.view c.args.enc.now).stands _

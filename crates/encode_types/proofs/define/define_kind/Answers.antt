@@ -1,7 +1,6 @@
 use Rattle.std.proofs.Common.{◌≡◌, refl, ℕ, ap, cond, arith}
-use Rattle.encode_types.proofs.Written.{ready-one}
+use Rattle.encode_types.proofs.{Written.ready-one, Owning.own-definition}
 use Rattle.encode_types.specs.Kinds.{has_definition}
-use Rattle.encode_types.proofs.Owning.{own-definition}
 use Rattle.encode_types.proofs.define.define_kind.Goals as goal
 
 pub define_alias-requires : goal.define_alias-requires

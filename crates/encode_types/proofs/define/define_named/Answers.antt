@@ -1,17 +1,10 @@
 use Rattle.comp_bytes.specs.RawOf.{raw_name}
 use Rattle.std.proofs.Common.{◌≡◌, ◌∙◌, ap, sym, subst, false, Some, inr, arith, rules}
 use Rattle.encode_types.specs.declared.maps.TypeEncodingMaps.{TypeEncodingMaps}
-use Rattle.encode_types.specs.Maps.{LearnsNumber}
-use Rattle.encode_types.specs.Scope.{Scope}
-use Rattle.encode_types.specs.Counts.{Definitions, ExportsOne, IsTarget}
-use Rattle.encode_types.specs.Kinds.{has_definition}
-use Rattle.encode_types.proofs.Owning.{another-name}
-use Rattle.encode_types.proofs.define.define_named.Given.{Over}
-use Rattle.encode_types.proofs.define.define_named.Goals.{In_ok-slot}
-use Rattle.encode_types.proofs.Agree.{on_ok, learnt-one}
-use Rattle.encode_types.proofs.Defining.{counts-named, leaves-kept, leaves-trans}
+use Rattle.encode_types.specs.{Maps.LearnsNumber, Scope.Scope, Counts.Definitions, Counts.ExportsOne, Counts.IsTarget, Kinds.has_definition}
+use Rattle.encode_types.proofs.{Owning.another-name, define.define_named.Given.Over, define.define_named.Goals.In_ok-slot, Agree.on_ok, Agree.learnt-one}
+use Rattle.encode_types.proofs.{Defining.counts-named, Defining.leaves-kept, Defining.leaves-trans, Writing.written-more, Writing.written-on}
 use Rattle.encode_types.proofs.define.define_named.Goals as goal
-use Rattle.encode_types.proofs.Writing.{written-more, written-on}
 
 pub returns-clause-ok : goal.returns-clause-ok
 returns-clause-ok g c = on_ok c.remember_id.result _ _ (λ l. learnt-one (g.E.ValtypeEncoder.view c.args.enc.now).maps _ _ c.args.id _

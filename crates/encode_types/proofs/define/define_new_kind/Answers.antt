@@ -1,11 +1,8 @@
 use Rattle.std.proofs.Common.{refl, sym, ◌∙◌, subst}
 use Rattle.encode_types.specs.declared.maps.TypeEncodingMaps.{TypeEncodingMaps}
-use Rattle.encode_types.specs.Codes.{lists_of}
-use Rattle.encode_types.specs.Maps.{LearnsList, LacksList}
-use Rattle.encode_types.proofs.Learning.{kind-learnt}
-use Rattle.encode_types.proofs.Defining.{leaves-kept, counts-kind, leaves-trans}
+use Rattle.encode_types.specs.{Codes.lists_of, Maps.LearnsList, Maps.LacksList}
+use Rattle.encode_types.proofs.{Learning.kind-learnt, Defining.leaves-kept, Defining.counts-kind, Defining.leaves-trans, Writing.written-on}
 use Rattle.encode_types.proofs.define.define_new_kind.Goals as goal
-use Rattle.encode_types.proofs.Writing.{written-on}
 
 pub define_shape-requires : goal.define_shape-requires
 define_shape-requires g c = λ _. ((refl, tt), (rw c.shape_of.ensures c.requires.ready, (rw c.shape_of.ensures c.requires.formed, c.requires.agree)))

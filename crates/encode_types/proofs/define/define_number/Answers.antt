@@ -1,23 +1,17 @@
 use Rattle.std.proofs.Common.{refl, ◌≡◌, ◌∙◌, sym, Some, None, rules, false, arith, ◌≤◌, ◌+◌}
-use Rattle.std.specs.Prelude.{is_some}
 use Rattle.std.proofs.lemmas.Option.{slice_get_read}
+use Rattle.std.specs.Prelude.{is_some}
 use Rattle.wit_model.specs.Lookup.{type_at}
 use Rattle.wit_model.specs.declared.model.InterfaceId.{InterfaceId}
-use Rattle.encode_types.specs.Plan.{foreign_owner}
-use Rattle.encode_types.specs.Maps.{IsKnown}
+use Rattle.encode_types.specs.{Plan.foreign_owner, Maps.IsKnown, Room.unnamed_kind, Room.its_import}
 use Rattle.encode_types.proofs.Learning.{learns-none, learns-call-foreign}
-use Rattle.encode_types.proofs.Defining.{counts-none}
-use Rattle.encode_types.specs.Room.{unnamed_kind, its_import}
+use Rattle.encode_types.proofs.{Defining.counts-none, Agree.not-known, Writing.writes-nothing, Writing.writes-number, Writing.foreign-extent, Writing.on-three}
 use Rattle.encode_types.proofs.Rooms.{holds-none, holds-number, lacks-number, counts-one, foreign-unkind, none-new, none-has}
-use Rattle.encode_types.proofs.Encoding.{learns-nothing, tabled, foreign-undefined, foreign-unshown}
-use Rattle.encode_types.proofs.Agree.{not-known}
-use Rattle.encode_types.proofs.define.define_number.Given.{Over}
-use Rattle.encode_types.proofs.define.define_number.Goals as goal
-use Rattle.encode_types.proofs.define.define_number.Goals.{After-foreign}
-use Rattle.encode_types.proofs.Writing.{writes-nothing, writes-number, foreign-extent, on-three}
+use Rattle.encode_types.proofs.{Encoding.learns-nothing, Encoding.tabled, Encoding.foreign-undefined, Encoding.foreign-unshown, define.define_number.Given.Over}
+use Rattle.encode_types.proofs.{define.define_number.Goals.After-foreign, Aliasing.met-none, Aliasing.met-one, Aliasing.imports-none, Aliasing.imports-one}
 use Rattle.wit_model.proofs.Elements.{some-from}
-use Rattle.encode_types.proofs.Aliasing.{met-none, met-one, imports-none, imports-one}
 use Rattle.base_lemmas.proofs.Options.{on-both}
+use Rattle.encode_types.proofs.define.define_number.Goals as goal
 
 there : (g : Over) (c : After-foreign g) → type_at c.args.resolve.now c.args.id.0 ≡ Some c.index-def.result.now
 there g c = slice_get_read _ _ _ _ refl c.requires.in_range c.index-def.ensures

@@ -1,24 +1,15 @@
 use Rattle.std.proofs.Common.{refl, ◌≡◌, ◌∙◌, ap, sym, subst, inl, inr, Some, None, arith}
 use Rattle.comp_bytes.specs.RawOf.{raw_name}
-use Rattle.wit_model.specs.Text.{Text, text_of}
-use Rattle.wit_model.specs.Tree.{named}
-use Rattle.wit_model.specs.Types.{number_tree}
-use Rattle.wit_model.specs.Meant.{type_meaning}
-use Rattle.encode_types.specs.Kinds.{has_definition}
-use Rattle.encode_types.specs.Scope.{IsDeclared, exported_name}
-use Rattle.encode_types.specs.Room.{export_name, unnamed_kind, its_definition, its_name}
-use Rattle.encode_types.specs.Extents.{name_extent, own_name_extent}
+use Rattle.wit_model.specs.{Text.Text, Text.text_of, Tree.named, Types.number_tree, Meant.type_meaning}
+use Rattle.encode_types.specs.{Kinds.has_definition, Scope.IsDeclared, Scope.exported_name, Counts.is_defined_by_name, Counts.own_name}
+use Rattle.encode_types.specs.{Room.export_name, Room.unnamed_kind, Room.its_definition, Room.its_name, Extents.name_extent, Extents.own_name_extent}
 use Rattle.encode_types.proofs.Rooms.{on-pair, lacks-number, counts-one, counts-named, named-unkind, none-new, none-has, own-kind, new-kind, holds-unnamed, holds-number}
-use Rattle.encode_types.specs.Counts.{is_defined_by_name, own_name}
 use Rattle.encode_types.proofs.Learning.{learns-call-unnamed, learns-call-named}
-use Rattle.encode_types.proofs.Encoding.{named-defined, named-shown}
-use Rattle.encode_types.proofs.Owning.{exported-as, named-tree, declared-here, resource-here}
-use Rattle.encode_types.proofs.define.define_own.Given.{Over}
-use Rattle.encode_types.proofs.define.define_own.Goals as goal
+use Rattle.encode_types.proofs.{Encoding.named-defined, Encoding.named-shown, Owning.exported-as, Owning.named-tree, Owning.declared-here, Owning.resource-here}
+use Rattle.encode_types.proofs.{define.define_own.Given.Over, Agree.on_ok, Writing.written-most, Writing.own-extent, Writing.name-extent, Writing.on-three}
 use Rattle.encode_types.proofs.define.define_own.Goals.{In-Some, After-name_of-name}
-use Rattle.encode_types.proofs.Agree.{on_ok}
-use Rattle.encode_types.proofs.Writing.{written-most, own-extent, name-extent, on-three}
 use Rattle.base_lemmas.proofs.Options.{on-both}
+use Rattle.encode_types.proofs.define.define_own.Goals as goal
 
 exported : (g : Over) (c : After-name_of-name g) → raw_name c.name_of-name.result ≡ exported_name ((raw_name c.name_of-name.result).text, type_meaning c.args.resolve.now c.args.def.now)
 exported g c = exported-as _ _ (type_meaning c.args.resolve.now c.args.def.now) refl c.name_of-name.ensures.implements c.name_of-name.ensures.version_suffix c.name_of-name.ensures.external_id

@@ -1,22 +1,16 @@
 use Rattle.std.proofs.Common.{refl, ◌≡◌, ◌∙◌, sym, ap, subst, arith, get_or, length, rules}
-use Rattle.encode_types.specs.Scope.{Scope}
-use Rattle.encode_types.specs.Fits.{Fits}
-use Rattle.encode_types.specs.Plan.{IsOrderOf, foreign_owner, Reaches}
-use Rattle.wit_model.specs.declared.model.«Type».{«Type» as ValueType}
-use Rattle.wit_model.specs.declared.model.«Type».TheVariants as ty
 use Rattle.std.proofs.lemmas.List.Elements.{Contains-get_or}
+use Rattle.encode_types.specs.{Scope.Scope, Fits.Fits, Plan.IsOrderOf, Plan.foreign_owner, Plan.Reaches}
+use Rattle.wit_model.specs.declared.model.«Type».{«Type» as ValueType}
 use Rattle.encode_types.proofs.Learning.{learns-none, learns-then}
-use Rattle.encode_types.proofs.Around.{around-same}
-use Rattle.encode_types.proofs.Defining.{leaves-trans, leaves-kept, counts-trans, counts-none}
+use Rattle.encode_types.proofs.{Around.around-same, Defining.leaves-trans, Defining.leaves-kept, Defining.counts-trans, Defining.counts-none, Lists.none-in}
 use Rattle.encode_types.proofs.Encoding.{ready-now, known-more, ready-at-last, reaches-in_range, meets-reaches, learns-more, learns-at-last, learns-nothing}
-use Rattle.encode_types.proofs.Rooms.{holds-none, holds-then, room-after, reaches-then, learns-reached}
-use Rattle.encode_types.proofs.Lists.{none-in}
-use Rattle.encode_types.proofs.define.define_parts.Given.{Over}
-use Rattle.encode_types.proofs.define.define_parts.Goals as goal
-use Rattle.encode_types.proofs.define.define_parts.Goals.{After-deref-n-items}
-use Rattle.encode_types.proofs.Writing.{writes-nothing, writes-then}
+use Rattle.encode_types.proofs.{Rooms.holds-none, Rooms.holds-then, Rooms.room-after, Rooms.reaches-then, Rooms.learns-reached, define.define_parts.Given.Over}
+use Rattle.encode_types.proofs.{define.define_parts.Goals.After-deref-n-items, Writing.writes-nothing, Writing.writes-then}
 use Rattle.encode_types.proofs.Aliasing.{met-none, makes-number, imports-none, imports-number}
 use Rattle.base_lemmas.proofs.Elements.{last_of as one-contained}
+use Rattle.wit_model.specs.declared.model.«Type».TheVariants as ty
+use Rattle.encode_types.proofs.define.define_parts.Goals as goal
 
 ordered : (g : Over) (c : After-deref-n-items g)
     → IsOrderOf c.args.resolve.now (g.E.ValtypeEncoder.view c.args.enc.now).scope.own_interface (g.E.ValtypeEncoder.view c.args.enc.now).maps c.args.types.now c.deref-n-items.result.now

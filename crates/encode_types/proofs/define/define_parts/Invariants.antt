@@ -1,9 +1,7 @@
 use Rattle.std.proofs.Common.{ℕ, take}
 use Rattle.std.specs.List.{Contains}
 use Rattle.encode_types.specs.Maps.{IsKnown, LearnsOnly}
-use Rattle.encode_types.specs.View.{HoldsLearnt, WritesLearnt}
-use Rattle.encode_types.specs.Aliases.{ImportsMet, MakesMet}
-use Rattle.encode_types.specs.Leaves.{Leaves, LearnsParts, CountsTypes}
+use Rattle.encode_types.specs.{View.HoldsLearnt, View.WritesLearnt, Aliases.ImportsMet, Aliases.MakesMet, Leaves.Leaves, Leaves.LearnsParts, Leaves.CountsTypes}
 use Rattle.encode_types.proofs.define.define_parts.Given as goal
 
 abbrev pub invariant-loop-n : goal.invariant-loop-n

@@ -1,12 +1,9 @@
 use Rattle.std.proofs.Common.{◌∙◌, sym, ap, subst, None}
 use Rattle.comp_bytes.specs.RawOf.{raw_name}
 use Rattle.encode_types.specs.declared.maps.TypeEncodingMaps.{TypeEncodingMaps}
-use Rattle.encode_types.specs.Maps.{LearnsNumber}
-use Rattle.encode_types.specs.Counts.{Definitions, ExportsOne}
-use Rattle.encode_types.proofs.Agree.{on_ok, learnt-one}
-use Rattle.encode_types.proofs.Defining.{counts-resource, leaves-kept, leaves-trans}
+use Rattle.encode_types.specs.{Maps.LearnsNumber, Counts.Definitions, Counts.ExportsOne}
+use Rattle.encode_types.proofs.{Agree.on_ok, Agree.learnt-one, Defining.counts-resource, Defining.leaves-kept, Defining.leaves-trans, Writing.written-on}
 use Rattle.encode_types.proofs.define.define_resource.Goals as goal
-use Rattle.encode_types.proofs.Writing.{written-on}
 
 pub returns-clause-ok : goal.returns-clause-ok
 returns-clause-ok g c = on_ok c.remember_id.result _ _ (λ l. learnt-one (g.E.ValtypeEncoder.view c.args.enc.now).maps _ _ c.args.id _

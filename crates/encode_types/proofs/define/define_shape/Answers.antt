@@ -1,11 +1,7 @@
 use Rattle.std.proofs.Common.{refl}
-use Rattle.encode_types.specs.Slots.{Follows, Defines, tree}
-use Rattle.encode_types.specs.Kinds.{kind_tree, kind_of}
-use Rattle.encode_types.proofs.Defining.{definition-stands, adds-ok}
-use Rattle.encode_types.proofs.define.define_shape.Given.{Over}
+use Rattle.encode_types.specs.{Slots.Follows, Slots.Defines, Slots.tree, Kinds.kind_tree, Kinds.kind_of}
+use Rattle.encode_types.proofs.{Defining.definition-stands, Defining.adds-ok, define.define_shape.Given.Over, define.define_shape.Goals.In_ok-def, Agree.on_ok}
 use Rattle.encode_types.proofs.define.define_shape.Goals as goal
-use Rattle.encode_types.proofs.define.define_shape.Goals.{In_ok-def}
-use Rattle.encode_types.proofs.Agree.{on_ok}
 
 followed : (g : Over) (c : In_ok-def g) → Follows (g.E.ValtypeEncoder.view c.definition_of.new.enc).stands c.in_ok-def.def (kind_tree c.args.resolve.now (kind_of c.args.shape))
 followed g c = rw c.definition_of.ensures.same (definition-stands c.args.resolve.now (g.E.ValtypeEncoder.view c.args.enc.now).maps (g.E.ValtypeEncoder.view c.args.enc.now).stands

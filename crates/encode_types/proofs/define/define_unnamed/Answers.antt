@@ -1,11 +1,8 @@
 use Rattle.std.proofs.Common.{◌∙◌, ap, inl, inr, arith}
-use Rattle.encode_types.specs.Scope.{Scope}
-use Rattle.encode_types.specs.Counts.{own_name, is_defined_by_name}
-use Rattle.encode_types.proofs.Learning.{kind-same}
-use Rattle.encode_types.proofs.Agree.{on_ok, learnt-one}
-use Rattle.encode_types.proofs.Defining.{counts-number, counts-trans, leaves-trans}
-use Rattle.encode_types.proofs.define.define_unnamed.Goals as goal
+use Rattle.encode_types.specs.{Scope.Scope, Counts.own_name, Counts.is_defined_by_name}
+use Rattle.encode_types.proofs.{Learning.kind-same, Agree.on_ok, Agree.learnt-one, Defining.counts-number, Defining.counts-trans, Defining.leaves-trans}
 use Rattle.encode_types.proofs.Writing.{written-on}
+use Rattle.encode_types.proofs.define.define_unnamed.Goals as goal
 
 pub returns-clause-ok : goal.returns-clause-ok
 returns-clause-ok g c = on_ok c.remember_id.result _ _ (λ l. learnt-one (g.E.ValtypeEncoder.view c.args.enc.now).maps _ _ c.args.id _ c.in_ok-index.ensures.numbers l) c.remember_id.ensures.ok

@@ -1,14 +1,10 @@
 use Rattle.std.proofs.Common.{refl, subst, ℕ, List, inl, inr, arith}
 use Rattle.std.specs.List.{Contains}
-use Rattle.encode_types.specs.Codes.{lists_of}
-use Rattle.encode_types.specs.Maps.{HasKind, LacksKind, LacksList}
-use Rattle.encode_types.proofs.Learning.{kind-had}
-use Rattle.encode_types.proofs.Defining.{kind-stands, counts-none}
-use Rattle.encode_types.proofs.define.define_unnamed_kind.Given.{Over}
-use Rattle.encode_types.proofs.define.define_unnamed_kind.Goals as goal
-use Rattle.encode_types.proofs.define.define_unnamed_kind.Goals.{In-Some, In_default}
-use Rattle.encode_types.proofs.Writing.{written-none}
+use Rattle.encode_types.specs.{Codes.lists_of, Maps.HasKind, Maps.LacksKind, Maps.LacksList}
+use Rattle.encode_types.proofs.{Learning.kind-had, Defining.kind-stands, Defining.counts-none, Writing.written-none}
+use Rattle.encode_types.proofs.define.define_unnamed_kind.{Given.Over, Goals.In-Some, Goals.In_default}
 use Rattle.base_lemmas.proofs.Options.{at_ok}
+use Rattle.encode_types.proofs.define.define_unnamed_kind.Goals as goal
 
 had : (g : Over) (c : In-Some g) → HasKind (g.E.ValtypeEncoder.view c.args.enc.now).maps c.args.kind.now c.in-Some.index
 had g c = (

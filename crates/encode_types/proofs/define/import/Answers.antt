@@ -1,10 +1,8 @@
 use Rattle.std.proofs.Common.{◌∙◌, ap, subst}
 use Rattle.encode_types.specs.declared.maps.TypeEncodingMaps.{TypeEncodingMaps}
 use Rattle.encode_types.specs.Maps.{LearnsNumber}
-use Rattle.encode_types.proofs.Agree.{on_ok, learnt-one}
-use Rattle.encode_types.proofs.Defining.{counts-number, leaves-kept, leaves-trans}
+use Rattle.encode_types.proofs.{Agree.on_ok, Agree.learnt-one, Defining.counts-number, Defining.leaves-kept, Defining.leaves-trans, Writing.written-on}
 use Rattle.encode_types.proofs.define.import.Goals as goal
-use Rattle.encode_types.proofs.Writing.{written-on}
 
 pub returns-clause-ok : goal.returns-clause-ok
 returns-clause-ok g c = on_ok c.remember_id.result _ _ (λ l. learnt-one (g.E.ValtypeEncoder.view c.args.enc.now).maps _ _ c.args.id _

@@ -1,9 +1,8 @@
-use Rattle.std.proofs.lemmas.List.{take_more}
-use Rattle.std.proofs.lemmas.List.Elements.{Contains-get_or}
-use Rattle.wit_model.specs.declared.model.«Type».TheVariants as ty
+use Rattle.std.proofs.lemmas.{List.take_more, List.Elements.Contains-get_or}
 use Rattle.encode_types.specs.Maps.{IsWritten}
-use Rattle.encode_types.proofs.definition.values_in.Goals as goal
 use Rattle.wit_model.proofs.Elements.{zip-push}
+use Rattle.wit_model.specs.declared.model.«Type».TheVariants as ty
+use Rattle.encode_types.proofs.definition.values_in.Goals as goal
 
 pub value_in-value-requires : goal.value_in-value-requires
 value_in-value-requires c = c.requires _ (Contains-get_or _ _ _ c.loop-ty-test.true)

@@ -1,10 +1,7 @@
-use Rattle.encode_types.proofs.Learning.{met-nothing, ready-none, ready-single}
-use Rattle.encode_types.proofs.Defining.{counts-none}
-use Rattle.encode_types.proofs.encode.encode_optional_valtype.Goals as goal
-use Rattle.encode_types.proofs.Writing.{writes-nothing}
-use Rattle.encode_types.proofs.Rooms.{holds-none}
+use Rattle.encode_types.proofs.{Learning.met-nothing, Learning.ready-none, Learning.ready-single, Rooms.holds-none, Aliasing.met-none, Aliasing.imports-none}
+use Rattle.encode_types.proofs.{Defining.counts-none, Writing.writes-nothing}
 use Rattle.std.proofs.Common.{refl}
-use Rattle.encode_types.proofs.Aliasing.{met-none, imports-none}
+use Rattle.encode_types.proofs.encode.encode_optional_valtype.Goals as goal
 
 pub returns-in_ok-value-in-Some-clause-learns : goal.returns-in_ok-value-in-Some-clause-learns
 returns-in_ok-value-in-Some-clause-learns g c = rw c.in-Some.is c.in_ok-value-in-Some.ensures.learns

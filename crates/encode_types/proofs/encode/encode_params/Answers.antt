@@ -1,7 +1,6 @@
 use Rattle.std.proofs.Common.{refl}
-use Rattle.encode_types.proofs.Defining.{params-stand}
+use Rattle.encode_types.proofs.{Defining.params-stand, Aliasing.met-none, Aliasing.imports-none}
 use Rattle.encode_types.proofs.encode.encode_params.Goals as goal
-use Rattle.encode_types.proofs.Aliasing.{met-none, imports-none}
 
 pub params_of-requires : goal.params_of-requires
 params_of-requires g c = λ _. ((refl, tt), (rw (c.deref.ensures.value, c.in_ok-types.ensures) at c.in_ok-define_parts.ensures.ready))

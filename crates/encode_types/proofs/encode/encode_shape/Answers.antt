@@ -1,25 +1,15 @@
 use Rattle.std.proofs.Common.{◌≡◌, refl, rules, arith, ap, [], length, Result, Ok, Err, IfErr}
 use Rattle.std.specs.Result.{IsErr}
-use Rattle.wit_model.specs.declared.error.Error.{Error}
-use Rattle.wit_model.specs.declared.error.Error.TheVariants.{Size}
-use Rattle.wit_model.specs.declared.model.Resolve.{Resolve}
-use Rattle.wit_model.specs.declared.model.TypeDefKind.{TypeDefKind}
+use Rattle.wit_model.specs.declared.{error.Error.Error, error.Error.TheVariants.Size, model.Resolve.Resolve, model.TypeDefKind.TypeDefKind}
 use Rattle.comp_bytes.specs.Refusal.{IsMemoryOrSize}
 use Rattle.comp_bytes.specs.declared.forms.ComponentValType.{ComponentValType}
-use Rattle.encode_types.specs.Kinds.{parts_of, kind_of, kind_tree}
-use Rattle.encode_types.specs.Scope.{Scope}
-use Rattle.encode_types.specs.Room.{value_type}
-use Rattle.encode_types.specs.View.{View}
-use Rattle.encode_types.specs.Aliases.{ImportsMet, MakesMet}
-use Rattle.encode_types.specs.Leaves.{Leaves, LacksRoom, LearnsFrom, KindLacksRoom, DefinesKind}
-use Rattle.encode_types.proofs.Around.{around-same}
-use Rattle.encode_types.proofs.Aliasing.{met-none, makes-same, imports-none, imports-same}
+use Rattle.encode_types.specs.{Kinds.parts_of, Kinds.kind_of, Kinds.kind_tree, View.View, Aliases.ImportsMet, Aliases.MakesMet}
+use Rattle.encode_types.specs.{Scope.Scope, Room.value_type, Leaves.Leaves, Leaves.LacksRoom, Leaves.LearnsFrom, Leaves.KindLacksRoom, Leaves.DefinesKind}
+use Rattle.encode_types.proofs.{Around.around-same, Aliasing.met-none, Aliasing.makes-same, Aliasing.imports-none, Aliasing.imports-same, Lists.none-in}
 use Rattle.encode_types.proofs.Defining.{leaves-kept, leaves-trans}
-use Rattle.encode_types.proofs.Rooms.{room-more, room-after, only-reached, lacks-request, holds-same}
-use Rattle.encode_types.proofs.encode.encode_shape.Given.{Over}
-use Rattle.encode_types.proofs.encode.encode_shape.Goals as goal
+use Rattle.encode_types.proofs.{Rooms.room-more, Rooms.room-after, Rooms.only-reached, Rooms.lacks-request, Rooms.holds-same, encode.encode_shape.Given.Over}
 use Rattle.encode_types.proofs.encode.encode_shape.Goals.{After-define_parts, In_ok-define_parts, After-branch-index}
-use Rattle.encode_types.proofs.Lists.{none-in}
+use Rattle.encode_types.proofs.encode.encode_shape.Goals as goal
 
 pub define_parts-requires : goal.define_parts-requires
 define_parts-requires g c = λ _. ((refl, tt), (rw (c.deref.ensures.value, c.in_ok-parts.ensures) c.requires.encodable, c.requires.agree))

@@ -1,6 +1,5 @@
 use Rattle.std.proofs.Common.{refl}
-use Rattle.encode_types.proofs.Written.{ready-one}
-use Rattle.encode_types.proofs.Defining.{value-stands}
+use Rattle.encode_types.proofs.{Written.ready-one, Defining.value-stands}
 use Rattle.encode_types.proofs.encode.encode_valtype.Goals as goal
 
 pub value_of-requires : goal.value_of-requires

@@ -1,27 +1,13 @@
-use Rattle.std.proofs.Common.{◌≡◌, refl, ◌∙◌, ◌++◌, ◌∷◌, ℕ, List, sym, subst, ap, [], rules, arith, length}
-use Rattle.wit_model.specs.Parts.{function_types}
-use Rattle.encode_types.specs.Scope.{Scope}
-use Rattle.encode_types.specs.Counts.{Definitions}
-use Rattle.encode_types.specs.Room.{function_type}
-use Rattle.encode_types.proofs.Rooms.{room-more, room-after, only-reached, lacks-request, holds-key}
-use Rattle.wit_model.specs.Meaning.{Signature}
-use Rattle.wit_model.specs.Meant.{signature_of}
+use Rattle.std.proofs.Common.{◌≡◌, refl, ◌∙◌, ◌++◌, ◌∷◌, ℕ, List, sym, subst, ap, [], rules, arith, length, ◌≤◌, ◌+◌}
+use Rattle.wit_model.specs.{Parts.function_types, Meaning.Signature, Meant.signature_of}
+use Rattle.encode_types.specs.{Scope.Scope, Maps.LacksList, Maps.LearnsKeyList, Maps.MapsGrow, Codes.names_of, Codes.lists_of, Codes.ListKey, Codes.IsKeyList}
+use Rattle.encode_types.specs.{Counts.Definitions, Room.function_type, Slots.function, View.WritesLearnt, Extents.signature_extent}
+use Rattle.encode_types.proofs.{Rooms.room-more, Rooms.room-after, Rooms.only-reached, Rooms.lacks-request, Rooms.holds-key, func_type.define_key.Given.Over}
+use Rattle.encode_types.proofs.{Defining.leaves-kept, Defining.leaves-trans, Defining.lists-longer, Lists.none-in, Writing.writes-beside, Writing.writes-most}
+use Rattle.encode_types.proofs.{Learning.met-key, Functions.key-signature, Functions.key-new, Functions.counts-key, Functions.lacks-same, Functions.list-same}
+use Rattle.encode_types.proofs.{func_type.define_key.Goals.In_ok-index, Aliasing.makes-same, Aliasing.imports-same}
 use Rattle.encode_types.specs.declared.maps.TypeEncodingMaps.{TypeEncodingMaps}
-use Rattle.encode_types.specs.Maps.{LacksList, LearnsKeyList, MapsGrow}
-use Rattle.encode_types.specs.Slots.{function}
-use Rattle.encode_types.proofs.Defining.{leaves-kept, leaves-trans, lists-longer}
-use Rattle.encode_types.proofs.Learning.{met-key}
-use Rattle.encode_types.proofs.Functions.{key-signature, key-new, counts-key, lacks-same, list-same}
-use Rattle.encode_types.proofs.func_type.define_key.Given.{Over}
 use Rattle.encode_types.proofs.func_type.define_key.Goals as goal
-use Rattle.encode_types.proofs.func_type.define_key.Goals.{In_ok-index}
-use Rattle.encode_types.proofs.Lists.{none-in}
-use Rattle.encode_types.specs.View.{WritesLearnt}
-use Rattle.encode_types.proofs.Writing.{writes-beside, writes-most}
-use Rattle.std.proofs.Common.{◌≤◌, ◌+◌}
-use Rattle.encode_types.specs.Extents.{signature_extent}
-use Rattle.encode_types.proofs.Aliasing.{makes-same, imports-same}
-use Rattle.encode_types.specs.Codes.{names_of, lists_of, ListKey, IsKeyList}
 
 pub function_of-requires : goal.function_of-requires
 function_of-requires g c = λ _. ((refl, tt), (c.requires.encodable, (c.requires.is_key.async, c.requires.agree)))

@@ -1,27 +1,14 @@
 use Rattle.std.proofs.Common.{◌≡◌, ◌∙◌, ◌+◌, ◌++◌, ◌∷◌, inl, inr, refl, sym, subst, ap, [], length, arith}
-use Rattle.wit_model.specs.Meant.{signature_of}
-use Rattle.wit_model.specs.Parts.{function_types}
-use Rattle.encode_types.specs.Counts.{Definitions}
-use Rattle.encode_types.specs.Extents.{signature_extent}
-use Rattle.encode_types.specs.Fits.{CanEncode}
-use Rattle.encode_types.specs.Formed.{IsFormedSignature}
-use Rattle.encode_types.specs.Scope.{Scope}
-use Rattle.encode_types.specs.Maps.{LacksKey}
-use Rattle.encode_types.specs.Room.{HoldsFor}
-use Rattle.encode_types.specs.View.{WritesLearnt}
-use Rattle.encode_types.proofs.Agree.{on_ok}
-use Rattle.encode_types.proofs.Aliasing.{met-none, makes-then, imports-none, imports-then}
-use Rattle.encode_types.proofs.Defining.{leaves-trans}
-use Rattle.encode_types.proofs.Encoding.{learns-nothing, learns-same}
-use Rattle.encode_types.proofs.Functions.{key-stands, counts-found, counts-behind, knows-more}
-use Rattle.encode_types.proofs.Learning.{met-both, met-names}
-use Rattle.encode_types.proofs.Rooms.{holds-shared, holds-then, room-after}
-use Rattle.encode_types.proofs.Tables.{at-none, key-lacking}
-use Rattle.encode_types.proofs.Writing.{writes-nothing, writes-beside, writes-most, writes-then}
-use Rattle.encode_types.proofs.func_type.encode_func_type.Given.{Over}
-use Rattle.encode_types.proofs.func_type.encode_func_type.Goals as goal
-use Rattle.encode_types.proofs.func_type.encode_func_type.Goals.{In_ok-list, In_default}
 use Rattle.std.proofs.lemmas.Result.{IfOk-weaker as ok-map}
+use Rattle.wit_model.specs.{Meant.signature_of, Parts.function_types}
+use Rattle.encode_types.specs.{Counts.Definitions, Extents.signature_extent, Fits.CanEncode, Formed.IsFormedSignature, Maps.LacksKey, View.WritesLearnt}
+use Rattle.encode_types.specs.{Scope.Scope, Room.HoldsFor}
+use Rattle.encode_types.proofs.{Agree.on_ok, Aliasing.met-none, Aliasing.makes-then, Aliasing.imports-none, Aliasing.imports-then, Defining.leaves-trans}
+use Rattle.encode_types.proofs.{Encoding.learns-nothing, Encoding.learns-same, Rooms.holds-shared, Rooms.holds-then, Rooms.room-after}
+use Rattle.encode_types.proofs.{Functions.key-stands, Functions.counts-found, Functions.counts-behind, Functions.knows-more, Tables.at-none, Tables.key-lacking}
+use Rattle.encode_types.proofs.{Learning.met-both, Learning.met-names, func_type.encode_func_type.Goals.In_ok-list, func_type.encode_func_type.Goals.In_default}
+use Rattle.encode_types.proofs.{Writing.writes-nothing, Writing.writes-beside, Writing.writes-most, Writing.writes-then, func_type.encode_func_type.Given.Over}
+use Rattle.encode_types.proofs.func_type.encode_func_type.Goals as goal
 
 -- ---- names may have been added
 

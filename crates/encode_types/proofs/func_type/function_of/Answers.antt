@@ -1,16 +1,11 @@
 use Rattle.std.proofs.Common.{◌≡◌, ap, refl, map, length, option_to_list, rules, arith, []}
-use Rattle.encode_types.specs.Leaves.{LacksRoom, LearnsFrom}
+use Rattle.encode_types.specs.{Leaves.LacksRoom, Leaves.LearnsFrom, Slots.NamedStands, Scope.Scope, Aliases.ImportsMet, Aliases.MakesMet}
 use Rattle.encode_types.proofs.Rooms.{room-more, room-after, holds-then, only-more, only-reached, reached-left, reached-right}
-use Rattle.encode_types.specs.Slots.{NamedStands}
-use Rattle.encode_types.specs.Scope.{Scope}
-use Rattle.encode_types.proofs.Learning.{met-both, ready-both}
-use Rattle.encode_types.proofs.Functions.{encode-left, encode-right}
-use Rattle.encode_types.proofs.Defining.{leaves-trans, counts-trans, stands-more}
-use Rattle.encode_types.proofs.func_type.function_of.Goals as goal
+use Rattle.encode_types.proofs.{Learning.met-both, Learning.ready-both, Aliasing.met-more, Aliasing.makes-then, Aliasing.imports-more, Aliasing.imports-then}
+use Rattle.encode_types.proofs.{Functions.encode-left, Functions.encode-right, Defining.leaves-trans, Defining.counts-trans, Defining.stands-more}
 use Rattle.encode_types.proofs.Writing.{writes-then}
-use Rattle.encode_types.specs.Aliases.{ImportsMet, MakesMet}
-use Rattle.encode_types.proofs.Aliasing.{met-more, makes-then, imports-more, imports-then}
 use Rattle.base_lemmas.proofs.Elements.{zip-kept}
+use Rattle.encode_types.proofs.func_type.function_of.Goals as goal
 
 pub encode_params-requires : goal.encode_params-requires
 encode_params-requires g c = λ _. (

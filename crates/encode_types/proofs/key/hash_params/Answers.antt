@@ -1,5 +1,4 @@
-use Rattle.std.proofs.Common.{rules}
-use Rattle.std.proofs.Math.Seq.{take_all}
+use Rattle.std.proofs.{Common.rules, Math.Seq.take_all}
 use Rattle.encode_types.specs.Key.{param_writes}
 use Rattle.encode_types.proofs.KeySteps.{each_more}
 use Rattle.encode_types.proofs.key.hash_params.Goals as goal

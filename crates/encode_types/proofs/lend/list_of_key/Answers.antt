@@ -1,7 +1,6 @@
 use Rattle.std.proofs.Common.{◌≡◌, sym, subst, rules}
-use Rattle.encode_types.specs.Maps.{KeepsKnownNames}
+use Rattle.encode_types.specs.{Maps.KeepsKnownNames, View.SameRest}
 use Rattle.encode_types.specs.declared.maps.TypeEncodingMaps.{TypeEncodingMaps}
-use Rattle.encode_types.specs.View.{SameRest}
 use Rattle.encode_types.proofs.Agree.{changes-listed, units-listed, leaves-changed}
 use Rattle.encode_types.proofs.lend.list_of_key.Goals as goal
 

@@ -1,7 +1,6 @@
 use Rattle.std.proofs.Common.{◌≡◌, ◌∙◌, rules, Some, ap}
 use Rattle.encode_types.specs.declared.maps.TypeEncodingMaps.{TypeEncodingMaps}
-use Rattle.encode_types.specs.Maps.{by_unit_future}
-use Rattle.encode_types.specs.View.{SameRest}
+use Rattle.encode_types.specs.{Maps.by_unit_future, View.SameRest}
 use Rattle.encode_types.proofs.Agree.{learns-unit_future, changes-unit, leaves-filled}
 use Rattle.encode_types.proofs.lend.remember_unit_future.Goals as goal
 

@@ -1,7 +1,6 @@
 use Rattle.std.proofs.Common.{◌≡◌, ◌∙◌, rules, Some, ap}
 use Rattle.encode_types.specs.declared.maps.TypeEncodingMaps.{TypeEncodingMaps}
-use Rattle.encode_types.specs.Maps.{by_unit_stream}
-use Rattle.encode_types.specs.View.{SameRest}
+use Rattle.encode_types.specs.{Maps.by_unit_stream, View.SameRest}
 use Rattle.encode_types.proofs.Agree.{learns-unit_stream, changes-unit, leaves-filled}
 use Rattle.encode_types.proofs.lend.remember_unit_stream.Goals as goal
 

@@ -1,5 +1,4 @@
-use Rattle.std.proofs.Common.{sym}
-use Rattle.std.proofs.lemmas.Bool.{ltb-true}
+use Rattle.std.proofs.{Common.sym, lemmas.Bool.ltb-true}
 use Rattle.encode_types.proofs.Ascending.{above-last}
 use Rattle.encode_types.proofs.number_map.is_above.Goals as goal
 

@@ -1,5 +1,4 @@
-use Rattle.std.proofs.Common.{rules}
-use Rattle.std.proofs.lemmas.List.Sorted.{answers_always}
+use Rattle.std.proofs.{Common.rules, lemmas.List.Sorted.answers_always}
 use Rattle.encode_types.proofs.Ascending.{search-found, search-lacks, found-at}
 use Rattle.encode_types.proofs.number_map.searched.Goals as goal
 

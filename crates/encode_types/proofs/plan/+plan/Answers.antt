@@ -1,22 +1,15 @@
 use Rattle.std.proofs.Common.{rules, ◌≡◌, refl, ◌∙◌, arith, inl, ◌+◌, ◌<◌, length, get_or, subst, Some, true, false, List, [], ◌∷◌, sym, ℕ}
-use Rattle.std.proofs.lemmas.Option.{slice_get_read}
-use Rattle.std.proofs.lemmas.List.Elements.{Contains-get_or}
-use Rattle.std.specs.List.{Contains}
-use Rattle.std.specs.Option.{is_some}
+use Rattle.std.proofs.lemmas.{Option.slice_get_read, List.Elements.Contains-get_or}
+use Rattle.std.specs.{List.Contains, Option.is_some}
 use Rattle.wit_model.specs.Lookup.{type_at}
-use Rattle.wit_model.specs.declared.model.«Type».{«Type» as ValueType}
-use Rattle.wit_model.specs.declared.model.«Type».TheVariants as ty
-use Rattle.wit_model.specs.declared.model.TypeId.{TypeId}
-use Rattle.encode_types.specs.Kinds.{parts_of}
-use Rattle.encode_types.specs.Maps.{IsKnown}
-use Rattle.encode_types.specs.Plan.{foreign_owner, rank}
-use Rattle.encode_types.proofs.Agree.{not-known}
-use Rattle.encode_types.proofs.Tables.{at-some}
+use Rattle.wit_model.specs.declared.model.{«Type».«Type» as ValueType, TypeId.TypeId}
+use Rattle.encode_types.specs.{Kinds.parts_of, Maps.IsKnown, Plan.foreign_owner, Plan.rank}
+use Rattle.encode_types.proofs.{Agree.not-known, Tables.at-some, plan.+plan.Goals.In-Some}
 use Rattle.encode_types.proofs.Planning.{planned-there, planned-foreign, planned-own, planned-step, stands-id, part-smaller, rank_below, lacks-now}
-use Rattle.encode_types.proofs.plan.+plan.Goals as goal
-use Rattle.encode_types.proofs.plan.+plan.Goals.{In-Some}
 use Rattle.wit_model.proofs.Elements.{some-from}
 use Rattle.base_lemmas.proofs.Elements.{contains-one}
+use Rattle.wit_model.specs.declared.model.«Type».TheVariants as ty
+use Rattle.encode_types.proofs.plan.+plan.Goals as goal
 
 pub returns-then-is_some : goal.returns-then-is_some
 returns-then-is_some t c =

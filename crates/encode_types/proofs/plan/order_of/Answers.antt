@@ -1,7 +1,6 @@
-use Rattle.std.proofs.Common.{[], refl}
-use Rattle.std.proofs.lemmas.List.Elements.{Contains-get_or}
-use Rattle.wit_model.specs.declared.model.«Type».TheVariants as ty
+use Rattle.std.proofs.{Common.[], Common.refl, lemmas.List.Elements.Contains-get_or}
 use Rattle.encode_types.proofs.Planning.{planned-none, planned-step, order-done}
+use Rattle.wit_model.specs.declared.model.«Type».TheVariants as ty
 use Rattle.encode_types.proofs.plan.order_of.Goals as goal
 
 pub loop-ty-init : goal.loop-ty-init

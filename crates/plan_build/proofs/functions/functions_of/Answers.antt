@@ -5,9 +5,7 @@ use Rattle.wit_model.specs.Text.{text_of, text_eq}
 use Rattle.wit_model.proofs.Distinct.{text_eq_flip}
 use Rattle.plan_meaning.specs.Built.{is_bare_function, planned_function}
 use Rattle.plan_build.specs.PlanOf.{named_function}
-use Rattle.plan_build.proofs.Listing.{all_more}
-use Rattle.plan_build.proofs.Mapping.{entry_more, goes_last, values_more}
-use Rattle.plan_build.proofs.Named.{texts_differ}
+use Rattle.plan_build.proofs.{Listing.all_more, Mapping.entry_more, Mapping.goes_last, Mapping.values_more, Named.texts_differ}
 use Rattle.plan_build.proofs.functions.functions_of.Goals as goal
 
 pub loop-function-preserved : goal.loop-function-preserved

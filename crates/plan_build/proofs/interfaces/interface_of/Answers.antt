@@ -1,17 +1,14 @@
 use Rattle.std.proofs.Common.{◌≡◌, ◌∙◌, ap, refl, true, ◌&&◌, List, map, option_map}
+use Rattle.std.proofs.lemmas.Bool.{and_from as both}
 use Rattle.std.specs.List.{list_all}
 use Rattle.indexmap.specs.IndexMap.{values}
 use Rattle.wit_model.specs.Rules.{are_distinct}
-use Rattle.plan_meaning.specs.PlanRules.{names_of}
-use Rattle.plan_meaning.specs.Built.{is_bare_function, is_undocumented}
-use Rattle.plan_build.specs.Buildable.{interface_differs}
-use Rattle.plan_build.specs.PlanOf.{named_function, stated_interface}
-use Rattle.plan_build.specs.declared.plan.PlannedFunction.{PlannedFunction}
-use Rattle.plan_build.specs.declared.plan.PlannedInterface.{PlannedInterface}
+use Rattle.plan_meaning.specs.{PlanRules.names_of, Built.is_bare_function, Built.is_undocumented}
+use Rattle.plan_build.specs.{Buildable.interface_differs, PlanOf.named_function, PlanOf.stated_interface}
+use Rattle.plan_build.specs.declared.plan.{PlannedFunction.PlannedFunction, PlannedInterface.PlannedInterface}
 use Rattle.plan_build.proofs.Named.{names_apart, numbers_stand}
-use Rattle.plan_build.proofs.interfaces.interface_of.Goals as goal
 use Rattle.base_lemmas.proofs.Bools.{left_of as first_true, right_of as second_true}
-use Rattle.std.proofs.lemmas.Bool.{and_from as both}
+use Rattle.plan_build.proofs.interfaces.interface_of.Goals as goal
 
 type_names : (i : PlannedInterface) → interface_differs (stated_interface i) ≡ true → are_distinct (names_of (stated_interface i).types) ≡ true
 type_names i h = first_true (are_distinct (names_of (stated_interface i).types)) (are_distinct (names_of (stated_interface i).functions)) h

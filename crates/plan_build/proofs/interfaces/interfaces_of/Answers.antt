@@ -1,6 +1,5 @@
 use Rattle.plan_meaning.specs.Built.{is_bare_interface, planned_interface}
-use Rattle.plan_build.specs.Buildable.{interface_differs}
-use Rattle.plan_build.specs.PlanOf.{stated_interface}
+use Rattle.plan_build.specs.{Buildable.interface_differs, PlanOf.stated_interface}
 use Rattle.plan_build.proofs.Listing.{all_more_if, one_more_if}
 use Rattle.plan_build.proofs.interfaces.interfaces_of.Goals as goal
 

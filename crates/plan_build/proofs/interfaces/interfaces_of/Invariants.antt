@@ -1,8 +1,7 @@
 use Rattle.std.proofs.Common.{◌≡◌, true, map, take}
 use Rattle.std.specs.List.{list_all}
 use Rattle.plan_meaning.specs.Built.{is_bare_interface, planned_interface}
-use Rattle.plan_build.specs.Buildable.{interface_differs}
-use Rattle.plan_build.specs.PlanOf.{stated_interface}
+use Rattle.plan_build.specs.{Buildable.interface_differs, PlanOf.stated_interface}
 use Rattle.plan_build.proofs.interfaces.interfaces_of.Given as goal
 
 abbrev pub invariant-loop-interface : goal.invariant-loop-interface

@@ -1,11 +1,9 @@
-use Rattle.std.proofs.Common.{◌∙◌, refl, ap, map}
-use Rattle.std.proofs.lemmas.List.{take_all}
+use Rattle.std.proofs.{Common.◌∙◌, Common.refl, Common.ap, Common.map, lemmas.List.take_all}
 use Rattle.std.specs.Prelude.{string_eq}
 use Rattle.wit_model.specs.Text.{text_of, text_eq}
 use Rattle.wit_model.proofs.Distinct.{text_eq_flip}
 use Rattle.plan_build.specs.PlanOf.{built_number, stated_number}
-use Rattle.plan_build.proofs.Mapping.{entry_more}
-use Rattle.plan_build.proofs.Named.{texts_differ}
+use Rattle.plan_build.proofs.{Mapping.entry_more, Named.texts_differ}
 use Rattle.plan_build.proofs.maps.numbers_of.Goals as goal
 
 pub loop-entry-preserved : goal.loop-entry-preserved

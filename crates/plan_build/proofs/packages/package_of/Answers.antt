@@ -1,12 +1,11 @@
 use Rattle.std.proofs.Common.{◌≡◌, true}
 use Rattle.wit_model.specs.Rules.{are_distinct}
 use Rattle.plan_meaning.specs.PlanRules.{names_of}
-use Rattle.plan_build.specs.Buildable.{package_differs}
-use Rattle.plan_build.specs.PlanOf.{stated_package}
+use Rattle.plan_build.specs.{Buildable.package_differs, PlanOf.stated_package}
 use Rattle.plan_build.specs.declared.plan.PlannedPackage.{PlannedPackage}
 use Rattle.plan_build.proofs.Named.{numbers_stand}
-use Rattle.plan_build.proofs.packages.package_of.Goals as goal
 use Rattle.base_lemmas.proofs.Bools.{left_of as first_true, right_of as second_true}
+use Rattle.plan_build.proofs.packages.package_of.Goals as goal
 
 interface_names : (k : PlannedPackage) → package_differs (stated_package k) ≡ true → are_distinct (names_of (stated_package k).interfaces) ≡ true
 interface_names k h = first_true (are_distinct (names_of (stated_package k).interfaces)) (are_distinct (names_of (stated_package k).worlds)) h

@@ -1,9 +1,7 @@
 use Rattle.std.proofs.Common.{rules}
-use Rattle.wit_model.specs.Names.{is_version}
-use Rattle.wit_model.specs.Rules.{passes}
+use Rattle.wit_model.specs.{Names.is_version, Rules.passes}
 use Rattle.plan_meaning.specs.Built.{is_undocumented, planned_package}
-use Rattle.plan_build.specs.Buildable.{has_version, package_differs}
-use Rattle.plan_build.specs.PlanOf.{stated_package}
+use Rattle.plan_build.specs.{Buildable.has_version, Buildable.package_differs, PlanOf.stated_package}
 use Rattle.plan_build.proofs.Listing.{all_more, one_more_if, passes_here}
 use Rattle.plan_build.proofs.packages.packages_of.Goals as goal
 

@@ -1,10 +1,8 @@
 use Rattle.std.proofs.Common.{◌≡◌, true, map, take}
 use Rattle.std.specs.List.{list_all}
-use Rattle.wit_model.specs.Names.{is_version}
-use Rattle.wit_model.specs.Rules.{passes}
+use Rattle.wit_model.specs.{Names.is_version, Rules.passes}
 use Rattle.plan_meaning.specs.Built.{is_undocumented, planned_package}
-use Rattle.plan_build.specs.Buildable.{package_differs}
-use Rattle.plan_build.specs.PlanOf.{stated_package}
+use Rattle.plan_build.specs.{Buildable.package_differs, PlanOf.stated_package}
 use Rattle.plan_build.proofs.packages.packages_of.Given as goal
 
 abbrev pub invariant-loop-entry : goal.invariant-loop-entry

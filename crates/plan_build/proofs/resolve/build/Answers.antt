@@ -1,7 +1,5 @@
 use Rattle.std.proofs.Common.{rules}
-use Rattle.plan_meaning.proofs.PackageMeans.{package_means}
-use Rattle.plan_meaning.proofs.Valid.{built_is_valid}
-use Rattle.plan_meaning.proofs.WorldAlone.{world_means}
+use Rattle.plan_meaning.proofs.{PackageMeans.package_means, Valid.built_is_valid, WorldAlone.world_means}
 use Rattle.plan_build.specs.PlanOf.{stated_plan}
 use Rattle.plan_build.proofs.BuildableLaws.{plans_are_buildable}
 use Rattle.plan_build.proofs.resolve.build.Goals as goal

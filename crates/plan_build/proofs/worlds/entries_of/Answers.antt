@@ -1,10 +1,8 @@
 use Rattle.indexmap.specs.IndexMap.{values}
-use Rattle.plan_meaning.specs.PlanRules.{same_key}
-use Rattle.plan_meaning.specs.Built.{is_bare_item, planned_item, planned_key}
+use Rattle.plan_meaning.specs.{PlanRules.same_key, Built.is_bare_item, Built.planned_item, Built.planned_key}
 use Rattle.plan_build.specs.PlanOf.{stated_entry}
-use Rattle.plan_build.proofs.Listing.{all_more}
+use Rattle.plan_build.proofs.{Listing.all_more, Named.entries_apart, Named.key_test, Named.same_key_flip, Named.same_keys}
 use Rattle.plan_build.proofs.Mapping.{entry_more, goes_last, values_more}
-use Rattle.plan_build.proofs.Named.{entries_apart, key_test, same_key_flip, same_keys}
 use Rattle.plan_build.proofs.worlds.entries_of.Goals as goal
 
 pub loop-entry-preserved : goal.loop-entry-preserved

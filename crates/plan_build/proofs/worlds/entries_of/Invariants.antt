@@ -1,8 +1,7 @@
 use Rattle.std.proofs.Common.{◌≡◌, true, map, take}
 use Rattle.std.specs.List.{list_all}
 use Rattle.indexmap.specs.IndexMap.{values}
-use Rattle.plan_meaning.specs.PlanRules.{keys_differ}
-use Rattle.plan_meaning.specs.Built.{is_bare_item, planned_entries}
+use Rattle.plan_meaning.specs.{PlanRules.keys_differ, Built.is_bare_item, Built.planned_entries}
 use Rattle.plan_build.specs.PlanOf.{stated_entry}
 use Rattle.plan_build.proofs.worlds.entries_of.Given as goal
 

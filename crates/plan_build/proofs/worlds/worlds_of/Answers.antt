@@ -1,6 +1,5 @@
 use Rattle.plan_meaning.specs.Built.{is_bare_world, planned_world}
-use Rattle.plan_build.specs.Buildable.{world_differs}
-use Rattle.plan_build.specs.PlanOf.{stated_world}
+use Rattle.plan_build.specs.{Buildable.world_differs, PlanOf.stated_world}
 use Rattle.plan_build.proofs.Listing.{all_more_if, one_more_if}
 use Rattle.plan_build.proofs.worlds.worlds_of.Goals as goal
 

@@ -1,8 +1,7 @@
 use Rattle.std.proofs.Common.{◌≡◌, true, map, take}
 use Rattle.std.specs.List.{list_all}
 use Rattle.plan_meaning.specs.Built.{is_bare_world, planned_world}
-use Rattle.plan_build.specs.Buildable.{world_differs}
-use Rattle.plan_build.specs.PlanOf.{stated_world}
+use Rattle.plan_build.specs.{Buildable.world_differs, PlanOf.stated_world}
 use Rattle.plan_build.proofs.worlds.worlds_of.Given as goal
 
 abbrev pub invariant-loop-world : goal.invariant-loop-world

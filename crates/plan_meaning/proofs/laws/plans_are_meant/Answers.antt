@@ -1,5 +1,4 @@
-use Rattle.plan_meaning.proofs.PackageMeans.{package_means}
-use Rattle.plan_meaning.proofs.WorldAlone.{world_means}
+use Rattle.plan_meaning.proofs.{PackageMeans.package_means, WorldAlone.world_means}
 use Rattle.plan_meaning.proofs.laws.plans_are_meant.Goals as goal
 
 pub returns : goal.returns

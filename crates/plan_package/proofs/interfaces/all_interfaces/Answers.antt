@@ -1,8 +1,7 @@
 use Rattle.std.proofs.Common.{map}
 use Rattle.plan_build.specs.PlanOf.{stated_interface}
 use Rattle.read_exports.specs.Members.{homes_alone}
-use Rattle.read_rules.specs.Sights.{numbered_sight}
-use Rattle.read_rules.specs.Tables.{numbered_tables}
+use Rattle.read_rules.specs.{Sights.numbered_sight, Tables.numbered_tables}
 use Rattle.plan_meaning.specs.NumberedMembers.{home_at}
 use Rattle.plan_package.specs.WholeInterfaces.{PlansPlace}
 use Rattle.plan_package.proofs.InterfaceLaws.{zip_more}

@@ -2,11 +2,8 @@ use Rattle.std.proofs.Common.{ap, sym, refl, ◌∙◌, [], map, option_map}
 use Rattle.std.specs.Option.{option_map_or}
 use Rattle.read_homes.specs.Homes.{given_home}
 use Rattle.read_exports.specs.Members.{homes_alone}
-use Rattle.read_rules.specs.Sights.{numbered_sight}
-use Rattle.read_rules.specs.Tables.{numbered_tables}
-use Rattle.read_rules.specs.Views.{numbered_function, numbered_view}
-use Rattle.plan_meaning.specs.NumberedMembers.{home_at}
-use Rattle.plan_meaning.specs.NumberedViews.{NumberedSight, first_at}
+use Rattle.read_rules.specs.{Sights.numbered_sight, Tables.numbered_tables, Views.numbered_function, Views.numbered_view}
+use Rattle.plan_meaning.specs.{NumberedMembers.home_at, NumberedViews.NumberedSight, NumberedViews.first_at}
 use Rattle.read_exports.proofs.WalkLaws.{none_left}
 use Rattle.plan_package.proofs.InterfaceLaws.{is_there, place_planned}
 use Rattle.plan_package.proofs.interfaces.interface_at.Goals as goal

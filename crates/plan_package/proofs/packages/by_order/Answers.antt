@@ -1,6 +1,5 @@
 use Rattle.std.proofs.Common.{refl}
-use Rattle.plan_package.specs.WholePackages.{numbered_world}
-use Rattle.plan_package.specs.WholeWorlds.{labelled}
+use Rattle.plan_package.specs.{WholePackages.numbered_world, WholeWorlds.labelled}
 use Rattle.plan_package.proofs.PackageLaws.{all_numbered, one_numbered}
 use Rattle.plan_package.proofs.packages.by_order.Goals as goal
 

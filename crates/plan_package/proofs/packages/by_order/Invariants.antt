@@ -1,6 +1,5 @@
 use Rattle.std.proofs.Common.{◌≡◌, ◌++◌, map, drop}
-use Rattle.plan_package.specs.WholePackages.{numbered_labels, numbered_world}
-use Rattle.plan_package.specs.WholeWorlds.{labelled}
+use Rattle.plan_package.specs.{WholePackages.numbered_labels, WholePackages.numbered_world, WholeWorlds.labelled}
 use Rattle.plan_package.proofs.packages.by_order.Given as goal
 
 -- those that are numbered, and those that are left, are all

@@ -1,8 +1,7 @@
 use Rattle.std.proofs.Common.{◌≡◌, ◌∙◌, IfOk, List, ap, map, subst}
 use Rattle.wit_model.specs.Text.{Text}
 use Rattle.read_rules.specs.declared.scopes.Scope.{Scope}
-use Rattle.plan_package.specs.WholePackages.{numbered_labels, numbered_world}
-use Rattle.plan_package.specs.WholeWorlds.{labelled}
+use Rattle.plan_package.specs.{WholePackages.numbered_labels, WholePackages.numbered_world, WholeWorlds.labelled}
 use Rattle.plan_package.proofs.packages.exported_worlds.Goals as goal
 
 pub returns : goal.returns

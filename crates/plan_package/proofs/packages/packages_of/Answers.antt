@@ -1,11 +1,10 @@
-use Rattle.std.proofs.Common.{◌∙◌, ap, length, map}
+use Rattle.std.proofs.{Common.◌∙◌, Common.ap, Common.length, Common.map, lemmas.Result.IfOk-weaker as if_ok}
 use Rattle.plan_build.specs.PlanOf.{stated_package}
 use Rattle.read_exports.specs.Members.{homes_alone}
 use Rattle.plan_meaning.specs.NumberedMembers.{home_at}
 use Rattle.plan_package.specs.WholePackages.{listed_at, ArePlanned, PlansPackages}
 use Rattle.plan_package.proofs.PackageLaws.{planned_as}
 use Rattle.plan_package.proofs.packages.packages_of.Goals as goal
-use Rattle.std.proofs.lemmas.Result.{IfOk-weaker as if_ok}
 
 pub all_packages-requires-clause-many : goal.all_packages-requires-clause-many
 all_packages-requires-clause-many c = ap length c.deref_mut.ensures.value ∙ (c.in_ok-lists.ensures.many ∙ c.count.ensures.many)

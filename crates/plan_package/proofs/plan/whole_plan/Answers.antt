@@ -5,17 +5,11 @@ use Rattle.plan_build.specs.PlanOf.{stated_type}
 use Rattle.read_exports.specs.Members.{homes_alone, numbered_members}
 use Rattle.read_rules.specs.declared.scopes.Scope.{Scope}
 use Rattle.read_rules.specs.Tables.{numbered_tables}
-use Rattle.plan_types.specs.FirstShown.{TellsFirst}
-use Rattle.plan_types.specs.Orders.{homes_met}
-use Rattle.plan_types.specs.PlannedTypes.{owner_in}
-use Rattle.plan_types.specs.Showings.{showings_of_members}
+use Rattle.plan_types.specs.{FirstShown.TellsFirst, Orders.homes_met, PlannedTypes.owner_in, Showings.showings_of_members}
 use Rattle.plan_meaning.specs.NumberedMembers.{home_at}
 use Rattle.plan_package.specs.Views.{views_of_members}
-use Rattle.plan_package.specs.WholeInterfaces.{AreSeen}
-use Rattle.plan_package.specs.WholePackages.{interfaces_in, IsPlaced}
-use Rattle.plan_package.specs.WholeWorlds.{worlds_in, WorldIsPlaced}
-use Rattle.plan_package.proofs.PlacedLaws.{exported_are_placed, met_are_seen}
-use Rattle.plan_package.proofs.WholeLaws.{all_may, all_planned, plans_whole}
+use Rattle.plan_package.specs.{WholeInterfaces.AreSeen, WholePackages.interfaces_in, WholePackages.IsPlaced, WholeWorlds.worlds_in, WholeWorlds.WorldIsPlaced}
+use Rattle.plan_package.proofs.{PlacedLaws.exported_are_placed, PlacedLaws.met_are_seen, WholeLaws.all_may, WholeLaws.all_planned, WholeLaws.plans_whole}
 use Rattle.plan_package.proofs.plan.whole_plan.Goals as goal
 
 pub types_of-requires : goal.types_of-requires

@@ -1,6 +1,5 @@
 use Rattle.std.proofs.Common.{◌≡◌, ◌++◌, map, drop}
-use Rattle.read_rules.specs.Reached.{numbered_import}
-use Rattle.read_rules.specs.Sights.{numbered_sight}
+use Rattle.read_rules.specs.{Reached.numbered_import, Sights.numbered_sight}
 use Rattle.plan_package.specs.Views.{types_alone}
 use Rattle.plan_package.proofs.views.add_imports.Given as goal
 

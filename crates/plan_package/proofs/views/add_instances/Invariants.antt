@@ -1,6 +1,5 @@
 use Rattle.std.proofs.Common.{◌≡◌, ◌++◌, map, drop}
-use Rattle.read_rules.specs.Scopes.{numbered_instance}
-use Rattle.read_rules.specs.Sights.{numbered_sight}
+use Rattle.read_rules.specs.{Scopes.numbered_instance, Sights.numbered_sight}
 use Rattle.plan_package.specs.Views.{whole_view}
 use Rattle.plan_package.proofs.views.add_instances.Given as goal
 

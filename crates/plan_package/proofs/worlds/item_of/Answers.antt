@@ -1,6 +1,5 @@
 use Rattle.std.proofs.Common.{◌≤◌, refl, subst}
-use Rattle.plan_parts.specs.Functions.{found_under}
-use Rattle.plan_parts.specs.Kept.{IsKeptPart}
+use Rattle.plan_parts.specs.{Functions.found_under, Kept.IsKeptPart}
 use Rattle.read_rules.specs.Tables.{numbered_tables}
 use Rattle.plan_package.specs.WholeWorlds.{ShownIsKept, ShownIsPlaced, a_function, a_type}
 use Rattle.plan_package.proofs.WorldLaws.{instance_planned}

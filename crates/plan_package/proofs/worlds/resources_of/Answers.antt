@@ -1,8 +1,7 @@
 use Rattle.std.proofs.Common.{◌∙◌, ap, map, subst, sym}
 use Rattle.std.specs.List.{AllByRecursion}
 use Rattle.plan_parts.specs.Interfaces.{IsKeptSlot}
-use Rattle.read_rules.specs.Tables.{numbered_tables}
-use Rattle.read_rules.specs.Views.{numbered_type}
+use Rattle.read_rules.specs.{Tables.numbered_tables, Views.numbered_type}
 use Rattle.plan_package.proofs.WorldLaws.{types_kept}
 use Rattle.plan_package.proofs.worlds.resources_of.Goals as goal
 

@@ -1,5 +1,4 @@
-use Rattle.std.proofs.Common.{sym, map}
-use Rattle.std.proofs.lemmas.List.Folds.{list_all-map}
+use Rattle.std.proofs.{Common.sym, Common.map, lemmas.List.Folds.list_all-map}
 use Rattle.read_rules.specs.Views.{numbered_function}
 use Rattle.plan_parts.specs.Agreement.{is_told, told_function}
 use Rattle.plan_parts.proofs.agreement.are_told.Goals as goal

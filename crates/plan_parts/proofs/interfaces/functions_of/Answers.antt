@@ -1,11 +1,8 @@
 use Rattle.std.proofs.Common.{sym, subst}
 use Rattle.plan_meaning.specs.NumberedViews.{FunctionShape, PartsOf}
 use Rattle.plan_build.specs.PlanOf.{named_function, stated_function}
-use Rattle.read_rules.specs.Tables.{numbered_function_type, numbered_tables}
-use Rattle.read_rules.specs.Views.{numbered_function}
-use Rattle.plan_parts.specs.Functions.{found_under}
-use Rattle.plan_parts.specs.Interfaces.{IsFunctionOver, IsPlannedFunction}
-use Rattle.plan_parts.specs.Kept.{IsKeptPart}
+use Rattle.read_rules.specs.{Tables.numbered_function_type, Tables.numbered_tables, Views.numbered_function}
+use Rattle.plan_parts.specs.{Functions.found_under, Interfaces.IsFunctionOver, Interfaces.IsPlannedFunction, Kept.IsKeptPart}
 use Rattle.plan_parts.proofs.InterfaceLaws.{is_planned, mapped_at, zip_next}
 use Rattle.plan_parts.proofs.interfaces.functions_of.Goals as goal
 

@@ -1,10 +1,8 @@
 use Rattle.std.proofs.Common.{map, take}
 use Rattle.std.specs.List.{AllZip}
 use Rattle.plan_build.specs.PlanOf.{named_function}
-use Rattle.read_rules.specs.Tables.{numbered_tables}
-use Rattle.read_rules.specs.Views.{numbered_function}
-use Rattle.plan_parts.specs.Functions.{found_under}
-use Rattle.plan_parts.specs.Interfaces.{IsPlannedFunction}
+use Rattle.read_rules.specs.{Tables.numbered_tables, Views.numbered_function}
+use Rattle.plan_parts.specs.{Functions.found_under, Interfaces.IsPlannedFunction}
 use Rattle.plan_parts.proofs.interfaces.functions_of.Given as goal
 
 -- so many functions are made

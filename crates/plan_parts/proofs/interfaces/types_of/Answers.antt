@@ -2,9 +2,7 @@ use Rattle.std.proofs.Common.{◌≤◌, ◌+◌, sym, subst, refl, ℕ}
 use Rattle.plan_build.specs.PlanOf.{stated_number}
 use Rattle.read_rules.specs.Views.{numbered_type}
 use Rattle.plan_meaning.specs.Renumbering.{IsPart}
-use Rattle.plan_parts.specs.Functions.{found_under}
-use Rattle.plan_parts.specs.Interfaces.{IsKeptSlot, ListsType}
-use Rattle.plan_parts.specs.Kept.{IsKeptPart}
+use Rattle.plan_parts.specs.{Functions.found_under, Interfaces.IsKeptSlot, Interfaces.ListsType, Kept.IsKeptPart}
 use Rattle.plan_parts.proofs.InterfaceLaws.{mapped_at, resources_next, zip_next}
 use Rattle.plan_parts.proofs.interfaces.types_of.Goals as goal
 

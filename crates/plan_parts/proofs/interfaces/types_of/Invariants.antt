@@ -2,8 +2,7 @@ use Rattle.std.proofs.Common.{map, take}
 use Rattle.std.specs.List.{AllZip}
 use Rattle.plan_build.specs.PlanOf.{stated_number}
 use Rattle.read_rules.specs.Views.{numbered_type}
-use Rattle.plan_parts.specs.Functions.{found_under}
-use Rattle.plan_parts.specs.Interfaces.{AreResources, ListsType}
+use Rattle.plan_parts.specs.{Functions.found_under, Interfaces.AreResources, Interfaces.ListsType}
 use Rattle.plan_parts.proofs.interfaces.types_of.Given as goal
 
 -- so many types are listed

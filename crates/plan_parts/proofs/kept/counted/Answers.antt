@@ -1,7 +1,6 @@
 use Rattle.std.proofs.Common.{rules, ◌≡◌, ◌<◌, [], ◌∷◌, ◌++◌, length, true, false}
-use Rattle.plan_parts.proofs.KeptLaws.{next_shapes, next_numbers}
+use Rattle.plan_parts.proofs.{KeptLaws.next_shapes, KeptLaws.next_numbers, kept.counted.Goals.then-is_kept+in_ok-push-2, kept.counted.Goals.else-is_kept}
 use Rattle.plan_parts.proofs.kept.counted.Goals as goal
-use Rattle.plan_parts.proofs.kept.counted.Goals.{then-is_kept+in_ok-push-2, else-is_kept}
 
 pub loop-shape-preserved : goal.loop-shape-preserved
 loop-shape-preserved c =

@@ -1,7 +1,6 @@
 use Rattle.std.proofs.Common.{map, take}
 use Rattle.std.specs.List.{AllZip}
-use Rattle.plan_meaning.specs.Built.{part_of}
-use Rattle.plan_meaning.specs.Renumbering.{IsPart}
+use Rattle.plan_meaning.specs.{Built.part_of, Renumbering.IsPart}
 use Rattle.plan_parts.proofs.kinds.parts_of.Given as goal
 
 -- so many parts

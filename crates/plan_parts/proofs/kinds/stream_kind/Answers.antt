@@ -1,5 +1,4 @@
-use Rattle.std.proofs.Common.{◌∙◌, ap, sym, ◌==◌, length}
-use Rattle.std.proofs.lemmas.Bool.{eqb-true}
+use Rattle.std.proofs.{Common.◌∙◌, Common.ap, Common.sym, Common.◌==◌, Common.length, lemmas.Bool.eqb-true}
 use Rattle.plan_meaning.specs.Shapes.{one_mark}
 use Rattle.wit_model.specs.Tree.{Form}
 use Rattle.read_rules.specs.Tables.{numbered_shape}

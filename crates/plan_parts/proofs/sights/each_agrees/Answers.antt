@@ -1,5 +1,4 @@
-use Rattle.std.proofs.Common.{sym, map}
-use Rattle.std.proofs.lemmas.List.Folds.{list_all-map}
+use Rattle.std.proofs.{Common.sym, Common.map, lemmas.List.Folds.list_all-map}
 use Rattle.plan_meaning.specs.NumberedViews.{agrees_with_first}
 use Rattle.read_rules.specs.Sights.{numbered_sight}
 use Rattle.plan_parts.proofs.sights.each_agrees.Goals as goal

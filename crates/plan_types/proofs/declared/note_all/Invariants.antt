@@ -1,6 +1,5 @@
 use Rattle.std.proofs.Common.{◌≡◌, map, take, length}
-use Rattle.plan_types.specs.FirstShown.{TellsFirst}
-use Rattle.plan_types.specs.Showings.{numbered_showing}
+use Rattle.plan_types.specs.{FirstShown.TellsFirst, Showings.numbered_showing}
 use Rattle.plan_types.proofs.declared.note_all.Given as goal
 
 -- the first of so many showings

@@ -1,9 +1,7 @@
 use Rattle.std.proofs.Common.{ap, sym, ◌∙◌, option_map}
 use Rattle.read_exports.proofs.WalkLaws.{none_left}
 use Rattle.read_rules.specs.Tables.{name_of, numbered_shape, numbered_tables}
-use Rattle.plan_types.specs.FirstShown.{showing_at}
-use Rattle.plan_types.specs.PlannedTypes.{owner_in}
-use Rattle.plan_types.specs.Showings.{numbered_showing}
+use Rattle.plan_types.specs.{FirstShown.showing_at, PlannedTypes.owner_in, Showings.numbered_showing}
 use Rattle.plan_types.proofs.TypeLaws.{is_shown, named_planned, over_form, shown_declares, unnamed_planned}
 use Rattle.plan_types.proofs.types.planned_type.Goals as goal
 

@@ -2,8 +2,7 @@ use Rattle.std.proofs.Common.{subst, sym}
 use Rattle.std.specs.List.{AllByRecursion}
 use Rattle.plan_parts.proofs.SightLaws.{each_at}
 use Rattle.read_rules.specs.Tables.{numbered_tables}
-use Rattle.plan_types.specs.FirstShown.{showing_at}
-use Rattle.plan_types.specs.PlannedTypes.{owner_in, MayBePlanned}
+use Rattle.plan_types.specs.{FirstShown.showing_at, PlannedTypes.owner_in, PlannedTypes.MayBePlanned}
 use Rattle.plan_types.proofs.TypeLaws.{type_next}
 use Rattle.plan_types.proofs.types.planned_types.Goals as goal
 

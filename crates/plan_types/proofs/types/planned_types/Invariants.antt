@@ -2,8 +2,7 @@ use Rattle.std.proofs.Common.{map, take}
 use Rattle.std.specs.List.{AllZip}
 use Rattle.plan_build.specs.PlanOf.{stated_type}
 use Rattle.read_rules.specs.Tables.{numbered_tables}
-use Rattle.plan_types.specs.FirstShown.{showing_at}
-use Rattle.plan_types.specs.PlannedTypes.{owner_in, PlansType}
+use Rattle.plan_types.specs.{FirstShown.showing_at, PlannedTypes.owner_in, PlannedTypes.PlansType}
 use Rattle.plan_types.proofs.types.planned_types.Given as goal
 
 -- so many types

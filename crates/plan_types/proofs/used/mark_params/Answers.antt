@@ -1,6 +1,5 @@
-use Rattle.std.proofs.Common.{subst}
+use Rattle.std.proofs.Common.{subst, ℕ}
 use Rattle.plan_types.specs.Used.{Marks}
-use Rattle.std.proofs.Common.{ℕ}
 use Rattle.wit_model.specs.Text.{Text}
 use Rattle.read_rules.specs.Tables.{param_of}
 use Rattle.plan_types.proofs.MarkLaws.{marks_none, part_all, part_next, twice_mapped}

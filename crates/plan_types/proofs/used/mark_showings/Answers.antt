@@ -1,10 +1,9 @@
 use Rattle.std.proofs.Common.{subst}
 use Rattle.read_rules.specs.Tables.{numbered_tables}
-use Rattle.plan_types.specs.Showings.{numbered_showing}
-use Rattle.plan_types.specs.Used.{showing_parts, Marks}
+use Rattle.plan_types.specs.{Showings.numbered_showing, Used.showing_parts, Used.Marks}
 use Rattle.plan_types.proofs.MarkLaws.{marks_all, marks_next, marks_none}
-use Rattle.plan_types.proofs.used.mark_showings.Goals as goal
 use Rattle.base_lemmas.proofs.Lists.{flat_mapped}
+use Rattle.plan_types.proofs.used.mark_showings.Goals as goal
 
 pub loop-showing-init : goal.loop-showing-init
 loop-showing-init c = marks_none c.args.marks.now

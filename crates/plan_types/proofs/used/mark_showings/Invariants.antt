@@ -1,8 +1,7 @@
 use Rattle.std.proofs.Common.{take}
 use Rattle.std.specs.List.{flat_map}
 use Rattle.read_rules.specs.Tables.{numbered_tables}
-use Rattle.plan_types.specs.Showings.{numbered_showing}
-use Rattle.plan_types.specs.Used.{showing_parts, Marks}
+use Rattle.plan_types.specs.{Showings.numbered_showing, Used.showing_parts, Used.Marks}
 use Rattle.plan_types.proofs.used.mark_showings.Given as goal
 
 -- the marks of so many

@@ -1,7 +1,5 @@
 use Rattle.std.proofs.Common.{subst, sym, List, ℕ}
-use Rattle.print_grammar.specs.AsRead.{file_as_read}
-use Rattle.print_grammar.specs.Calls.{file_calls}
-use Rattle.print_grammar.specs.Reading.{IsOnlyReading}
+use Rattle.print_grammar.specs.{AsRead.file_as_read, Calls.file_calls, Reading.IsOnlyReading}
 use Rattle.print_items.specs.Shown.{shown_file}
 use Rattle.print_packages.proofs.ValidFiles.{packages_read}
 use Rattle.print_calls.proofs.Rendered.{list-renders}

@@ -1,6 +1,5 @@
 use Rattle.std.proofs.Common.{◌≡◌, ◌++◌, ◌*◌}
-use Rattle.std.specs.Prelude.{replicate}
-use Rattle.std.specs.String.{string_bytes}
+use Rattle.std.specs.{Prelude.replicate, String.string_bytes}
 use Rattle.print_calls.proofs.rendering.push_indentation.Given as goal
 
 abbrev pub invariant-loop : goal.invariant-loop

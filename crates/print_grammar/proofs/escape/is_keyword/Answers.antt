@@ -1,7 +1,5 @@
 use Rattle.std.proofs.Common.{◌≡◌, ◌∙◌, sym, ap, subst, drop}
-use Rattle.std.specs.Prelude.{Some}
-use Rattle.std.specs.List.{list_any, slice_get}
-use Rattle.std.specs.Option.{option_copied}
+use Rattle.std.specs.{Prelude.Some, List.list_any, List.slice_get, Option.option_copied}
 use Rattle.wit_model.specs.Text.{text_eq}
 use Rattle.print_grammar.specs.Keyword.{keyword_texts}
 use Rattle.print_grammar.proofs.Keywords.{is_entry, first_and_rest}

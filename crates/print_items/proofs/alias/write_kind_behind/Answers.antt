@@ -1,8 +1,7 @@
 use Rattle.std.proofs.Common.{ap, ◌∙◌}
 use Rattle.print_output.specs.OutputCall.{lines_begun_after}
 use Rattle.print_items.specs.TypeParts.{kind_calls}
-use Rattle.print_items.proofs.Declared.{kind_stays}
-use Rattle.print_items.proofs.Driven.{line_driven, free_before}
+use Rattle.print_items.proofs.{Declared.kind_stays, Driven.line_driven, Driven.free_before}
 use Rattle.print_items.proofs.alias.write_kind_behind.Goals as goal
 
 pub returns-clause-line : goal.returns-clause-line

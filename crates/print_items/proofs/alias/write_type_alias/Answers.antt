@@ -1,6 +1,5 @@
 use Rattle.print_items.specs.Shown.{shown_type}
-use Rattle.print_items.proofs.Declared.{word_alias}
-use Rattle.print_items.proofs.Driven.{driven3}
+use Rattle.print_items.proofs.{Declared.word_alias, Driven.driven3}
 use Rattle.print_items.proofs.alias.write_type_alias.Goals as goal
 
 pub returns : goal.returns

@@ -1,12 +1,9 @@
 use Rattle.print_items.specs.Shown.{shown_param}
-use Rattle.print_grammar.specs.WellNamed.{is_well_param}
-use Rattle.print_items.proofs.Runs.{passes_at}
+use Rattle.print_grammar.specs.{WellNamed.is_well_param, Calls.param_calls}
+use Rattle.print_items.proofs.{Runs.passes_at, Driven.driven, Driven.one_run, Refusals.run_cut, Refusals.line_refused}
 use Rattle.std.proofs.Common.{◌∷◌, false}
 use Rattle.std.specs.Prelude.{codes}
 use Rattle.print_output.specs.OutputCall.OutputCall.{Str}
-use Rattle.print_grammar.specs.Calls.{param_calls}
-use Rattle.print_items.proofs.Driven.{driven, one_run}
-use Rattle.print_items.proofs.Refusals.{run_cut, line_refused}
 use Rattle.print_items.proofs.function.write_more_params.Goals as goal
 
 pub write_param-requires-clause-well : goal.write_param-requires-clause-well

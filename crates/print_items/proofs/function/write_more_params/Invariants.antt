@@ -1,11 +1,9 @@
 -- The parameters so far are printed.
 use Rattle.std.proofs.Common.{◌∷◌, take, false}
-use Rattle.std.specs.Prelude.{codes}
-use Rattle.std.specs.List.{flat_map}
+use Rattle.std.specs.{Prelude.codes, List.flat_map}
 use Rattle.print_output.specs.OutputCall.{OutputCall}
-use Rattle.print_items.specs.Shown.{shown_param}
+use Rattle.print_items.specs.{Shown.shown_param, Drives.Drives, Drives.LineIs}
 use Rattle.print_grammar.specs.Calls.{param_calls}
-use Rattle.print_items.specs.Drives.{Drives, LineIs}
 use Rattle.print_items.proofs.function.write_more_params.Given as goal
 
 abbrev pub invariant-loop-param : goal.invariant-loop-param

@@ -1,15 +1,12 @@
 use Rattle.std.proofs.Common.{◌≡◌, ap, subst, true, map, ◌∙◌, sym}
-use Rattle.std.specs.Prelude.{codes}
-use Rattle.std.specs.List.{list_all}
 use Rattle.std.proofs.lemmas.List.{nil_from_length}
+use Rattle.std.specs.{Prelude.codes, List.list_all}
 use Rattle.print_output.specs.OutputCall.OutputCall.{Str}
-use Rattle.print_grammar.specs.WellNamed.{is_well_param}
+use Rattle.print_grammar.specs.{WellNamed.is_well_param, Calls.param_calls, Calls.separated}
 use Rattle.print_items.specs.Shown.{shown_param}
-use Rattle.print_grammar.specs.Calls.{param_calls, separated}
-use Rattle.print_items.proofs.Runs.{separated_first}
-use Rattle.print_items.proofs.Driven.{driven_on, driven_as, driven_none}
-use Rattle.print_items.proofs.function.write_params.Goals as goal
+use Rattle.print_items.proofs.{Runs.separated_first, Driven.driven_on, Driven.driven_as, Driven.driven_none}
 use Rattle.base_lemmas.proofs.Bools.{left_of as first_true, right_of as second_true}
+use Rattle.print_items.proofs.function.write_params.Goals as goal
 
 pub write_param-requires-clause-well : goal.write_param-requires-clause-well
 write_param-requires-clause-well g c =

@@ -1,16 +1,13 @@
 use Rattle.std.proofs.Common.{◌≡◌, [], ◌∷◌, ◌++◌, ◌∙◌, ap, sym, subst, append_assoc, true, map}
-use Rattle.std.specs.Prelude.{codes, option_map}
-use Rattle.std.specs.List.{list_all}
 use Rattle.std.proofs.lemmas.List.Folds.{list_all-map}
+use Rattle.std.specs.{Prelude.codes, Prelude.option_map, List.list_all}
 use Rattle.wit_model.specs.Lookup.{is_async}
 use Rattle.print_output.specs.OutputCall.OutputCall.{Keyword}
-use Rattle.print_items.specs.Shown.{shown_param, shown_type}
-use Rattle.print_grammar.specs.Calls.{async_calls, params_calls}
-use Rattle.print_items.specs.ItemCalls.{written_params}
-use Rattle.print_grammar.specs.WellNamed.{is_well_param}
+use Rattle.print_items.specs.{Shown.shown_param, Shown.shown_type, ItemCalls.written_params}
+use Rattle.print_grammar.specs.{Calls.async_calls, Calls.params_calls, WellNamed.is_well_param}
 use Rattle.print_items.proofs.Driven.{driven, driven_on}
-use Rattle.print_items.proofs.function.write_signature.Goals as goal
 use Rattle.base_lemmas.proofs.Bools.{left_of}
+use Rattle.print_items.proofs.function.write_signature.Goals as goal
 
 pub write_params_and_result-requires-clause-params : goal.write_params_and_result-requires-clause-params
 write_params_and_result-requires-clause-params g c =

@@ -1,13 +1,11 @@
 use Rattle.std.proofs.Common.{◌≡◌, ap, sym, subst, true}
 use Rattle.semver.specs.Identifiers.{version_text}
-use Rattle.wit_model.specs.Names.{is_label, is_version_text}
-use Rattle.wit_model.specs.Text.{text_of}
-use Rattle.print_grammar.specs.Calls.{gates_calls}
+use Rattle.wit_model.specs.{Names.is_label, Names.is_version_text, Text.text_of}
+use Rattle.print_grammar.specs.{Calls.gates_calls, WellNamed.is_well_gates}
 use Rattle.print_items.specs.Shown.{shown_gates}
-use Rattle.print_grammar.specs.WellNamed.{is_well_gates}
 use Rattle.print_items.proofs.Driven.{driven_on}
-use Rattle.print_items.proofs.gates.write_gates.Goals as goal
 use Rattle.base_lemmas.proofs.Bools.{right_of as second_true}
+use Rattle.print_items.proofs.gates.write_gates.Goals as goal
 
 pub write_deprecated-requires : goal.write_deprecated-requires
 write_deprecated-requires g c = record { version = second_true (is_version_text (version_text c.in-Stable.since)) _ (subst (λ s. is_well_gates (shown_gates s) ≡ true) c.in-Stable.is c.requires.well) }

@@ -3,13 +3,10 @@ use Rattle.std.specs.List.{list_all}
 use Rattle.wit_model.specs.Names.{is_label}
 use Rattle.print_output.specs.OutputCall.{is_one_line}
 use Rattle.print_items.specs.Shown.{shown_docs, shown_enum_case}
-use Rattle.print_grammar.specs.WellNamed.{is_well_label}
-use Rattle.print_items.proofs.Runs.{passes_at}
-use Rattle.print_grammar.specs.Calls.{label_calls}
-use Rattle.print_items.proofs.Driven.{driven_as, one_run}
-use Rattle.print_items.proofs.Refusals.{run_cut}
-use Rattle.print_items.proofs.labels.write_each_case.Goals as goal
+use Rattle.print_grammar.specs.{WellNamed.is_well_label, Calls.label_calls}
+use Rattle.print_items.proofs.{Runs.passes_at, Driven.driven_as, Driven.one_run, Refusals.run_cut}
 use Rattle.base_lemmas.proofs.Bools.{right_of as second_true}
+use Rattle.print_items.proofs.labels.write_each_case.Goals as goal
 
 pub write_label-requires : goal.write_label-requires
 write_label-requires g c =

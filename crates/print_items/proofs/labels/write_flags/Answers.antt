@@ -1,16 +1,12 @@
 use Rattle.std.proofs.Common.{◌≡◌, sym, subst, true}
-use Rattle.std.specs.Prelude.{codes}
-use Rattle.std.specs.List.{list_all}
-use Rattle.print_items.specs.Shown.{shown_flag}
-use Rattle.print_grammar.specs.Calls.{label_calls}
-use Rattle.print_items.specs.DeclaredCalls.{block_start_calls}
+use Rattle.std.specs.{Prelude.codes, List.list_all}
+use Rattle.print_items.specs.{Shown.shown_flag, DeclaredCalls.block_start_calls}
+use Rattle.print_grammar.specs.{Calls.label_calls, WellNamed.is_well_label}
 use Rattle.print_output.specs.declared.type_kind.TypeKind.TheVariants.{Flags}
 use Rattle.wit_model.specs.Names.{is_label}
-use Rattle.print_grammar.specs.WellNamed.{is_well_label}
-use Rattle.print_items.proofs.Declared.{block_members}
-use Rattle.print_items.proofs.Blocks.{block_driven}
-use Rattle.print_items.proofs.labels.write_flags.Goals as goal
+use Rattle.print_items.proofs.{Declared.block_members, Blocks.block_driven}
 use Rattle.base_lemmas.proofs.Bools.{left_of}
+use Rattle.print_items.proofs.labels.write_flags.Goals as goal
 
 pub write_block_start-requires-clause-label : goal.write_block_start-requires-clause-label
 write_block_start-requires-clause-label g c = left_of _ _ c.requires.well

@@ -1,9 +1,6 @@
 use Rattle.print_items.specs.Shown.{shown_field}
-use Rattle.print_grammar.specs.WellNamed.{is_well_field}
-use Rattle.print_items.proofs.Runs.{passes_at}
-use Rattle.print_grammar.specs.Calls.{field_calls}
-use Rattle.print_items.proofs.Driven.{one_run}
-use Rattle.print_items.proofs.Refusals.{run_cut}
+use Rattle.print_grammar.specs.{WellNamed.is_well_field, Calls.field_calls}
+use Rattle.print_items.proofs.{Runs.passes_at, Driven.one_run, Refusals.run_cut}
 use Rattle.print_items.proofs.record.write_fields.Goals as goal
 
 pub write_field-requires-clause-well : goal.write_field-requires-clause-well

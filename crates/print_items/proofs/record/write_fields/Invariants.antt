@@ -1,9 +1,8 @@
 -- Those so far are printed.
 use Rattle.std.proofs.Common.{take}
 use Rattle.std.specs.List.{flat_map}
-use Rattle.print_items.specs.Shown.{shown_field}
+use Rattle.print_items.specs.{Shown.shown_field, Drives.Drives}
 use Rattle.print_grammar.specs.Calls.{field_calls}
-use Rattle.print_items.specs.Drives.{Drives}
 use Rattle.print_items.proofs.record.write_fields.Given as goal
 
 abbrev pub invariant-loop-field : goal.invariant-loop-field

@@ -1,6 +1,5 @@
-use Rattle.std.proofs.Common.{◌≡◌, sym, subst, ◌∙◌, true}
+use Rattle.std.proofs.{Common.◌≡◌, Common.sym, Common.subst, Common.◌∙◌, Common.true, lemmas.List.Folds.list_all-map}
 use Rattle.std.specs.List.{list_all}
-use Rattle.std.proofs.lemmas.List.Folds.{list_all-map}
 use Rattle.print_items.specs.Shown.{shown_param}
 use Rattle.print_grammar.specs.WellNamed.{is_well_param}
 use Rattle.print_items.proofs.Constructors.{constructor_params}

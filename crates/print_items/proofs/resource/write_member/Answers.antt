@@ -1,9 +1,8 @@
 use Rattle.std.proofs.Common.{ap}
-use Rattle.wit_model.specs.Calls.{item_name}
-use Rattle.wit_model.specs.Names.{is_label}
+use Rattle.wit_model.specs.{Calls.item_name, Names.is_label}
 use Rattle.print_items.proofs.Constructors.{constructor_well, is_constructor, member_named}
-use Rattle.print_items.proofs.resource.write_member.Goals as goal
 use Rattle.base_lemmas.proofs.Bools.{left_of, right_of}
+use Rattle.print_items.proofs.resource.write_member.Goals as goal
 
 pub write_constructor-requires-clause-params : goal.write_constructor-requires-clause-params
 write_constructor-requires-clause-params g c = (constructor_well c.args.resolve.now c.in-Constructor.id c.args.function.now c.in-Constructor.is c.requires.well).0

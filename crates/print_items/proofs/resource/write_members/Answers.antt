@@ -1,9 +1,6 @@
 use Rattle.print_items.specs.Shown.{shown_resource_member}
-use Rattle.print_grammar.specs.WellNamed.{is_well_resource_member}
-use Rattle.print_items.proofs.Runs.{passes_at}
-use Rattle.print_grammar.specs.Calls.{resource_member_calls}
-use Rattle.print_items.proofs.Driven.{one_run}
-use Rattle.print_items.proofs.Refusals.{run_cut}
+use Rattle.print_grammar.specs.{WellNamed.is_well_resource_member, Calls.resource_member_calls}
+use Rattle.print_items.proofs.{Runs.passes_at, Driven.one_run, Refusals.run_cut}
 use Rattle.print_items.proofs.resource.write_members.Goals as goal
 
 pub write_resource_function-requires-clause-well : goal.write_resource_function-requires-clause-well

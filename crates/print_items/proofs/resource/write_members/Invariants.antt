@@ -1,9 +1,8 @@
 -- Those so far are printed.
 use Rattle.std.proofs.Common.{take}
 use Rattle.std.specs.List.{flat_map}
-use Rattle.print_items.specs.Shown.{shown_resource_member}
+use Rattle.print_items.specs.{Shown.shown_resource_member, Drives.Drives}
 use Rattle.print_grammar.specs.Calls.{resource_member_calls}
-use Rattle.print_items.specs.Drives.{Drives}
 use Rattle.print_items.proofs.resource.write_members.Given as goal
 
 abbrev pub invariant-loop-function : goal.invariant-loop-function

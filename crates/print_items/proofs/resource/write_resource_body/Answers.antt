@@ -1,5 +1,4 @@
-use Rattle.print_items.proofs.Constructors.{block_of}
-use Rattle.print_items.proofs.Driven.{driven3}
+use Rattle.print_items.proofs.{Constructors.block_of, Driven.driven3}
 use Rattle.print_items.proofs.resource.write_resource_body.Goals as goal
 
 pub returns : goal.returns

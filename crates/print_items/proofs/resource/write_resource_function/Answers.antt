@@ -1,5 +1,4 @@
-use Rattle.print_items.proofs.Constructors.{member_prefix, member_whole}
-use Rattle.print_items.proofs.Driven.{driven_on}
+use Rattle.print_items.proofs.{Constructors.member_prefix, Constructors.member_whole, Driven.driven_on}
 use Rattle.print_items.proofs.resource.write_resource_function.Goals as goal
 
 pub write_prefix-requires : goal.write_prefix-requires

@@ -1,23 +1,16 @@
 use Rattle.std.proofs.Common.{◌≡◌, ◌++◌, ◌∷◌, [], ◌+◌, ◌*◌, ◌<◌, ◌≤◌, refl, ap, sym, subst, ◌∙◌, drop, Some, true, slice_get, length, arith}
+use Rattle.std.proofs.lemmas.{Bool.ltb-true, Option.slice_get_read}
 use Rattle.std.specs.Prelude.{is_some}
-use Rattle.std.proofs.lemmas.Bool.{ltb-true}
-use Rattle.std.proofs.lemmas.Option.{slice_get_read}
-use Rattle.wit_model.specs.Lookup.{type_at}
-use Rattle.wit_model.specs.Names.{is_label}
-use Rattle.wit_model.specs.Parts.{member_types}
-use Rattle.wit_model.specs.Rules.{in_list, passes}
-use Rattle.wit_model.specs.Types.{number_of}
+use Rattle.wit_model.specs.{Lookup.type_at, Names.is_label, Parts.member_types, Rules.in_list, Rules.passes, Types.number_of}
 use Rattle.print_output.specs.OutputCall.{OutputCall, may_follow}
-use Rattle.print_grammar.specs.Keyword.{escaped}
-use Rattle.print_items.specs.Shown.{shown_type, type_trees}
-use Rattle.print_grammar.specs.Calls.{type_calls}
-use Rattle.print_items.specs.TypeParts.{comma_calls, kind_end, kind_start, types_from}
+use Rattle.print_grammar.specs.{Keyword.escaped, Calls.type_calls}
+use Rattle.print_items.specs.{Shown.shown_type, Shown.type_trees, TypeParts.comma_calls, TypeParts.kind_end, TypeParts.kind_start, TypeParts.types_from}
 use Rattle.print_output.specs.declared.type_kind.TypeKind.TheVariants.{Other}
 use Rattle.print_items.proofs.Driven.{driven, driven_as, driven_on, line_driven, driving_first, driving_next, driving_done}
 use Rattle.print_items.proofs.TypeParts.{rank, end_may_follow, handles_at, kind_at, kind_calls_at, label_at, name_calls_at, part_falls, part_in_range, types_next, types_past, unnamed_at, unnamed_calls_at}
 use Rattle.print_items.proofs.Refusals.{driven_cut, driving_cut}
-use Rattle.print_items.proofs.type_name.+types.Goals as goal
 use Rattle.base_lemmas.proofs.Lists.{within_there as one_there}
+use Rattle.print_items.proofs.type_name.+types.Goals as goal
 
 -- ---- a kind
 

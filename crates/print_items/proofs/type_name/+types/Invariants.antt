@@ -1,10 +1,8 @@
 -- What is printed, and the types that are left, are the whole.
 use Rattle.std.proofs.Common.{◌++◌, ◌+◌, ◌*◌, drop}
 use Rattle.wit_model.specs.Parts.{member_types}
-use Rattle.print_items.specs.Shown.{type_trees}
-use Rattle.print_items.specs.TypeParts.{kind_start, types_from}
-use Rattle.print_items.proofs.Driven.{Driving}
-use Rattle.print_items.proofs.TypeParts.{rank}
+use Rattle.print_items.specs.{Shown.type_trees, TypeParts.kind_start, TypeParts.types_from}
+use Rattle.print_items.proofs.{Driven.Driving, TypeParts.rank}
 use Rattle.print_items.proofs.type_name.+types.Given as goal
 
 abbrev pub decreases-write_type_name : goal.decreases-write_type_name

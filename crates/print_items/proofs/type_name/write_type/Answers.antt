@@ -2,8 +2,7 @@ use Rattle.std.proofs.Common.{ap, ◌∙◌}
 use Rattle.print_output.specs.OutputCall.{lines_begun_after}
 use Rattle.print_items.specs.Shown.{shown_type}
 use Rattle.print_grammar.specs.Calls.{type_calls}
-use Rattle.print_items.proofs.TypeParts.{type_stays, well_in_range}
-use Rattle.print_items.proofs.Driven.{line_driven, free_before}
+use Rattle.print_items.proofs.{TypeParts.type_stays, TypeParts.well_in_range, Driven.line_driven, Driven.free_before}
 use Rattle.print_items.proofs.type_name.write_type.Goals as goal
 
 pub write_type_name-requires-clause-in_range : goal.write_type_name-requires-clause-in_range

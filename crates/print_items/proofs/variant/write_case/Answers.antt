@@ -1,10 +1,9 @@
 use Rattle.std.specs.List.{list_all}
-use Rattle.wit_model.specs.Names.{is_label}
-use Rattle.wit_model.specs.Text.{text_of}
+use Rattle.wit_model.specs.{Names.is_label, Text.text_of}
 use Rattle.print_output.specs.OutputCall.{is_one_line}
 use Rattle.print_items.specs.Shown.{shown_docs}
-use Rattle.print_items.proofs.variant.write_case.Goals as goal
 use Rattle.base_lemmas.proofs.Bools.{right_of}
+use Rattle.print_items.proofs.variant.write_case.Goals as goal
 
 pub write_payload-requires-clause-well : goal.write_payload-requires-clause-well
 write_payload-requires-clause-well g c =

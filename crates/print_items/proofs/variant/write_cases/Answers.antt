@@ -1,9 +1,6 @@
 use Rattle.print_items.specs.Shown.{shown_case}
-use Rattle.print_grammar.specs.WellNamed.{is_well_case}
-use Rattle.print_items.proofs.Runs.{passes_at}
-use Rattle.print_grammar.specs.Calls.{case_calls}
-use Rattle.print_items.proofs.Driven.{one_run}
-use Rattle.print_items.proofs.Refusals.{run_cut}
+use Rattle.print_grammar.specs.{WellNamed.is_well_case, Calls.case_calls}
+use Rattle.print_items.proofs.{Runs.passes_at, Driven.one_run, Refusals.run_cut}
 use Rattle.print_items.proofs.variant.write_cases.Goals as goal
 
 pub write_case-requires-clause-well : goal.write_case-requires-clause-well

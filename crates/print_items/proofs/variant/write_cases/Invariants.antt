@@ -1,9 +1,8 @@
 -- Those so far are printed.
 use Rattle.std.proofs.Common.{take}
 use Rattle.std.specs.List.{flat_map}
-use Rattle.print_items.specs.Shown.{shown_case}
+use Rattle.print_items.specs.{Shown.shown_case, Drives.Drives}
 use Rattle.print_grammar.specs.Calls.{case_calls}
-use Rattle.print_items.specs.Drives.{Drives}
 use Rattle.print_items.proofs.variant.write_cases.Given as goal
 
 abbrev pub invariant-loop-case : goal.invariant-loop-case

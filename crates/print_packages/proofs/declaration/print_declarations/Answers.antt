@@ -1,13 +1,12 @@
-use Rattle.std.proofs.Common.{◌∙◌, ap, refl, sym}
-use Rattle.std.proofs.lemmas.List.{drop_all}
+use Rattle.std.proofs.{Common.◌∙◌, Common.ap, Common.refl, Common.sym, lemmas.List.drop_all}
 use Rattle.print_grammar.specs.Calls.{members_calls, printed_after}
 use Rattle.print_packages.specs.GivenTypes.{given_declarations}
 use Rattle.print_uses.specs.UseGroups.{listed_of}
 use Rattle.print_packages.proofs.GivenSteps.{given_made, given_refused, given_some}
 use Rattle.print_uses.proofs.ListedSteps.{known_after, known_here}
 use Rattle.print_items.proofs.Moves.{going, made_all}
-use Rattle.print_packages.proofs.declaration.print_declarations.Goals as goal
 use Rattle.base_lemmas.proofs.Options.{at_err}
+use Rattle.print_packages.proofs.declaration.print_declarations.Goals as goal
 
 pub loop-listed-init : goal.loop-listed-init
 loop-listed-init g c = record { going = going _ _ _ refl; printed = refl; known = c.requires.known }

@@ -1,15 +1,11 @@
 use Rattle.std.proofs.Common.{◌≡◌, ◌∙◌, Some, ap, map, refl, sym, subst}
-use Rattle.std.proofs.lemmas.Bool.{ltb-true}
-use Rattle.std.proofs.lemmas.Option.{slice_get_read}
-use Rattle.wit_model.specs.Lookup.{type_at}
-use Rattle.wit_model.specs.Rules.{in_list}
-use Rattle.print_output.specs.OutputCall.{Moves, Begins}
-use Rattle.print_output.specs.OutputCall.Moves.{nothing_moved}
+use Rattle.std.proofs.lemmas.{Bool.ltb-true, Option.slice_get_read}
+use Rattle.wit_model.specs.{Lookup.type_at, Rules.in_list}
+use Rattle.print_output.specs.{OutputCall.Moves, OutputCall.Begins, OutputCall.Moves.nothing_moved}
 use Rattle.print_grammar.specs.Calls.{members_calls, printed_after}
 use Rattle.print_uses.proofs.ListedTypes.{declaration_printable, declaration_printed, nothing_declared, something_declared}
+use Rattle.base_lemmas.proofs.{Bools.left_of, Options.at_err}
 use Rattle.print_packages.proofs.declaration.print_listed_type.Goals as goal
-use Rattle.base_lemmas.proofs.Bools.{left_of}
-use Rattle.base_lemmas.proofs.Options.{at_err}
 
 pub returns-then-is_some-clause-ok : goal.returns-then-is_some-clause-ok
 returns-then-is_some-clause-ok g c =

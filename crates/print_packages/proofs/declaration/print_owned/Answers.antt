@@ -1,20 +1,13 @@
 use Rattle.std.proofs.Common.{◌≡◌, [], ◌∷◌, ◌∙◌, ap, filter, map, refl, sym, subst, Some, true}
-use Rattle.std.proofs.lemmas.Bool.{ltb-true}
-use Rattle.std.proofs.lemmas.Option.{slice_get_read}
-use Rattle.wit_model.specs.Lookup.{type_at}
-use Rattle.wit_model.specs.Rules.{in_list}
-use Rattle.print_output.specs.OutputCall.{Moves, Begins}
-use Rattle.print_output.specs.OutputCall.Begins.{nothing_begun}
+use Rattle.std.proofs.lemmas.{Bool.ltb-true, Option.slice_get_read, Result.on_err_weaker as on_err, Result.on_ok_weaker as on_ok}
+use Rattle.wit_model.specs.{Lookup.type_at, Rules.in_list}
+use Rattle.print_output.specs.{OutputCall.Moves, OutputCall.Begins, OutputCall.Begins.nothing_begun}
 use Rattle.print_items.specs.Shown.{belongs_to, declared_of, present_name, shown_declared, shown_prefix, shown_resource_member}
-use Rattle.print_grammar.specs.Tree.MemberTree.{TypeMember}
-use Rattle.print_grammar.specs.Calls.{members_calls}
+use Rattle.print_grammar.specs.{Tree.MemberTree.TypeMember, Calls.members_calls, WellNamed.is_well_declared, WellNamed.is_well_prefix}
 use Rattle.print_uses.specs.Printable.{declaration_of}
-use Rattle.print_grammar.specs.WellNamed.{is_well_declared, is_well_prefix}
 use Rattle.print_uses.proofs.Declarations.{declaration_at, members_shown, printable_at}
+use Rattle.base_lemmas.proofs.{Bools.left_of, Bools.right_of, Options.at_err}
 use Rattle.print_packages.proofs.declaration.print_owned.Goals as goal
-use Rattle.base_lemmas.proofs.Bools.{left_of, right_of}
-use Rattle.base_lemmas.proofs.Options.{at_err}
-use Rattle.std.proofs.lemmas.Result.{on_err_weaker as on_err, on_ok_weaker as on_ok}
 
 pub returns-in_err-members-clause-err : goal.returns-in_err-members-clause-err
 returns-in_err-members-clause-err g c = at_err c.from_residual.result (nothing_begun refl)

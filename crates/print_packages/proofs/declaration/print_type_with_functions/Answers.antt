@@ -1,7 +1,5 @@
 use Rattle.std.proofs.Common.{◌≡◌, ◌==◌, ◌∙◌, [], ap, map, sym, subst, Some, None, true, OnOk, OnErr, IfOk}
-use Rattle.std.specs.List.{list_all}
-use Rattle.std.specs.Map.{lookup}
-use Rattle.std.specs.Option.{option_copied, option_map_or}
+use Rattle.std.specs.{List.list_all, Map.lookup, Option.option_copied, Option.option_map_or}
 use Rattle.print_output.specs.OutputCall.{Moves, Begins}
 use Rattle.print_grammar.specs.Calls.{members_calls, printed_after}
 use Rattle.print_packages.specs.GivenTypes.{behind}

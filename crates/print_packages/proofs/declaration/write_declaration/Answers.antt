@@ -1,7 +1,6 @@
 use Rattle.std.proofs.Common.{◌≡◌, ◌++◌, ◌∙◌, ap, map, sym, subst, append_assoc, true}
 use Rattle.print_items.specs.Shown.{declared_of, present_name, shown_prefix, shown_resource_member}
-use Rattle.print_grammar.specs.Calls.{declared_calls, prefix_calls, line_after_calls}
-use Rattle.print_grammar.specs.WellNamed.{is_well_declared}
+use Rattle.print_grammar.specs.{Calls.declared_calls, Calls.prefix_calls, Calls.line_after_calls, WellNamed.is_well_declared}
 use Rattle.print_uses.proofs.Declarations.{declaration_alone}
 use Rattle.print_items.proofs.Driven.{driven, driven_on}
 use Rattle.print_packages.proofs.declaration.write_declaration.Goals as goal

@@ -1,12 +1,11 @@
 use Rattle.std.proofs.Common.{[], ◌∷◌, ◌++◌, ◌∙◌, false, refl, append_assoc}
+use Rattle.std.proofs.lemmas.Result.{on_err_weaker as on_err, on_ok_weaker as on_ok}
 use Rattle.print_output.specs.OutputCall.OutputCall.{IndentEnd, Keyword}
 use Rattle.print_grammar.specs.Calls.{members_calls, prefix_calls, space}
-use Rattle.print_items.specs.ItemCalls.{inline_start_calls}
-use Rattle.print_items.specs.Shown.{shown_interface, shown_prefix}
+use Rattle.print_items.specs.{ItemCalls.inline_start_calls, Shown.shown_interface, Shown.shown_prefix}
 use Rattle.print_items.proofs.Moves.{going, made_on, made_last, refused_in, refused_last}
-use Rattle.print_packages.proofs.extern_item.print_inline.Goals as goal
 use Rattle.base_lemmas.proofs.Options.{at_err}
-use Rattle.std.proofs.lemmas.Result.{on_err_weaker as on_err, on_ok_weaker as on_ok}
+use Rattle.print_packages.proofs.extern_item.print_inline.Goals as goal
 
 pub returns-in_err-print_inline_start-clause-err : goal.returns-in_err-print_inline_start-clause-err
 returns-in_err-print_inline_start-clause-err g c =

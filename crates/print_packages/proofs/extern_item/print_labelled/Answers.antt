@@ -1,16 +1,12 @@
 use Rattle.std.proofs.Common.{◌≡◌, ◌∙◌, Some, refl, subst, sym, true}
-use Rattle.std.proofs.lemmas.Bool.{ltb-true}
-use Rattle.std.proofs.lemmas.Option.{slice_get_read}
-use Rattle.wit_model.specs.Lookup.{interface_at}
-use Rattle.wit_model.specs.Names.{is_label}
+use Rattle.std.proofs.lemmas.{Bool.ltb-true, Option.slice_get_read, Result.on_err_weaker as on_err, Result.on_ok_weaker as on_ok}
+use Rattle.wit_model.specs.{Lookup.interface_at, Names.is_label}
 use Rattle.print_output.specs.OutputCall.{Moves, Begins}
-use Rattle.print_grammar.specs.Calls.{world_extern_calls}
+use Rattle.print_grammar.specs.{Calls.world_extern_calls, WellNamed.is_well_extern}
 use Rattle.print_items.specs.Shown.{shown_prefix}
-use Rattle.print_grammar.specs.WellNamed.{is_well_extern}
 use Rattle.print_packages.proofs.PrintableItems.{inline_tree, named_tree}
-use Rattle.print_packages.proofs.extern_item.print_labelled.Goals as goal
 use Rattle.base_lemmas.proofs.Bools.{right_of}
-use Rattle.std.proofs.lemmas.Result.{on_err_weaker as on_err, on_ok_weaker as on_ok}
+use Rattle.print_packages.proofs.extern_item.print_labelled.Goals as goal
 
 pub print_labelled_path-requires-clause-path : goal.print_labelled_path-requires-clause-path
 print_labelled_path-requires-clause-path g c =

@@ -1,10 +1,9 @@
-use Rattle.std.proofs.Common.{map}
+use Rattle.std.proofs.{Common.map, lemmas.Result.on_err_weaker as on_err, lemmas.Result.on_ok_weaker as on_ok}
 use Rattle.print_grammar.specs.Calls.{nested_calls}
 use Rattle.print_items.specs.Shown.{shown_package}
 use Rattle.print_items.proofs.Moves.{Moves-append, Begins-append, Begins-more}
-use Rattle.print_packages.proofs.file.print_file.Goals as goal
 use Rattle.base_lemmas.proofs.Options.{at_err}
-use Rattle.std.proofs.lemmas.Result.{on_err_weaker as on_err, on_ok_weaker as on_ok}
+use Rattle.print_packages.proofs.file.print_file.Goals as goal
 
 pub returns-in_err-print_whole_package-clause-err : goal.returns-in_err-print_whole_package-clause-err
 returns-in_err-print_whole_package-clause-err g c =

@@ -1,10 +1,8 @@
-use Rattle.std.proofs.Common.{◌+◌, drop, get_or, refl}
-use Rattle.std.proofs.lemmas.Bool.{ltb-true}
+use Rattle.std.proofs.{Common.◌+◌, Common.drop, Common.get_or, Common.refl, lemmas.Bool.ltb-true}
 use Rattle.wit_model.specs.Rules.{in_list}
-use Rattle.print_items.proofs.Moves.{underway, run_made, run_begun}
-use Rattle.print_items.proofs.Runs.{drop_next, item_same, passes_at}
-use Rattle.print_packages.proofs.file.print_more_packages.Goals as goal
+use Rattle.print_items.proofs.{Moves.underway, Moves.run_made, Moves.run_begun, Runs.drop_next, Runs.item_same, Runs.passes_at}
 use Rattle.base_lemmas.proofs.Options.{at_err}
+use Rattle.print_packages.proofs.file.print_more_packages.Goals as goal
 
 pub loop-id-init : goal.loop-id-init
 loop-id-init g c = underway _ _ _ refl

@@ -1,18 +1,15 @@
 use Rattle.std.proofs.Common.{◌≡◌, ◌∙◌, refl, ap, sym, subst, true, map}
+use Rattle.std.proofs.lemmas.{Bool.ltb-true, Result.on_err_weaker as on_err, Result.on_ok_weaker as on_ok}
 use Rattle.std.specs.List.{list_all, flat_map}
-use Rattle.std.proofs.lemmas.Bool.{ltb-true}
 use Rattle.wit_model.specs.Rules.{in_list}
-use Rattle.print_output.specs.OutputCall.{Moves}
-use Rattle.print_output.specs.OutputCall.Moves.{nothing_moved}
+use Rattle.print_output.specs.{OutputCall.Moves, OutputCall.Moves.nothing_moved}
 use Rattle.print_grammar.specs.Calls.{nested_calls}
 use Rattle.print_uses.specs.Printable.{next_package_calls}
 use Rattle.print_items.specs.Shown.{shown_package}
 use Rattle.print_items.proofs.Moves.{begun_on, begun_first, moved_on}
 use Rattle.print_packages.proofs.PackageCalls.{nested_shown, no_nested}
+use Rattle.base_lemmas.proofs.{Bools.left_of as first_true, Bools.right_of as second_true, Options.at_err}
 use Rattle.print_packages.proofs.file.print_nested_packages.Goals as goal
-use Rattle.base_lemmas.proofs.Bools.{left_of as first_true, right_of as second_true}
-use Rattle.base_lemmas.proofs.Options.{at_err}
-use Rattle.std.proofs.lemmas.Result.{on_err_weaker as on_err, on_ok_weaker as on_ok}
 
 pub print_whole_package-requires-clause-in_range : goal.print_whole_package-requires-clause-in_range
 print_whole_package-requires-clause-in_range g c =

@@ -1,10 +1,9 @@
-use Rattle.std.proofs.Common.{false}
+use Rattle.std.proofs.{Common.false, lemmas.Result.on_err_weaker as on_err, lemmas.Result.on_ok_weaker as on_ok}
 use Rattle.print_grammar.specs.Calls.{package_calls}
 use Rattle.print_items.specs.Shown.{shown_package}
 use Rattle.print_items.proofs.Moves.{Moves-append, Begins-append, Begins-more}
-use Rattle.print_packages.proofs.file.print_next_package.Goals as goal
 use Rattle.base_lemmas.proofs.Options.{at_err}
-use Rattle.std.proofs.lemmas.Result.{on_err_weaker as on_err, on_ok_weaker as on_ok}
+use Rattle.print_packages.proofs.file.print_next_package.Goals as goal
 
 pub returns-in_err-print_two_line_ends-clause-err : goal.returns-in_err-print_two_line_ends-clause-err
 returns-in_err-print_two_line_ends-clause-err g c =

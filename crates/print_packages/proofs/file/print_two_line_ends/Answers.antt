@@ -1,9 +1,8 @@
-use Rattle.std.proofs.Common.{[], ◌∷◌}
+use Rattle.std.proofs.{Common.[], Common.◌∷◌, lemmas.Result.on_err_weaker as on_err, lemmas.Result.on_ok_weaker as on_ok}
 use Rattle.print_output.specs.OutputCall.OutputCall.{Newline}
 use Rattle.print_items.proofs.Moves.{Moves-append, Begins-append, Begins-more}
-use Rattle.print_packages.proofs.file.print_two_line_ends.Goals as goal
 use Rattle.base_lemmas.proofs.Options.{at_err}
-use Rattle.std.proofs.lemmas.Result.{on_err_weaker as on_err, on_ok_weaker as on_ok}
+use Rattle.print_packages.proofs.file.print_two_line_ends.Goals as goal
 
 pub returns-in_err-print_line_end-clause-err : goal.returns-in_err-print_line_end-clause-err
 returns-in_err-print_line_end-clause-err g c = at_err c.from_residual.result (Begins-more g.O.Output.keeps (Newline ∷ []) c.in_err-print_line_end.ensures.err)

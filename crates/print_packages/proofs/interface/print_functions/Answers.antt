@@ -1,15 +1,13 @@
 use Rattle.std.proofs.Common.{◌≡◌, [], ◌∷◌, ◌∙◌, ap, sym, subst, true}
-use Rattle.std.specs.List.{list_all}
-use Rattle.std.specs.Map.Iter.{deref_pair}
 use Rattle.std.proofs.lemmas.Map.Iter.{rest_more}
+use Rattle.std.specs.{List.list_all, Map.Iter.deref_pair}
 use Rattle.print_grammar.specs.Calls.{members_calls}
 use Rattle.print_uses.specs.Printable.{is_printable_function, shown_functions}
 use Rattle.print_items.specs.Shown.{shown_function}
 use Rattle.print_packages.proofs.Functions.{next_shown, printable_member}
 use Rattle.print_items.proofs.Moves.{going, made_on, refused_in}
+use Rattle.base_lemmas.proofs.{Bools.left_of as first_true, Bools.right_of as second_true, Options.at_err}
 use Rattle.print_packages.proofs.interface.print_functions.Goals as goal
-use Rattle.base_lemmas.proofs.Bools.{left_of as first_true, right_of as second_true}
-use Rattle.base_lemmas.proofs.Options.{at_err}
 
 pub loop-key-init : goal.loop-key-init
 loop-key-init g c =

@@ -1,15 +1,13 @@
-use Rattle.std.proofs.Common.{◌++◌, ◌∙◌, ap, false}
-use Rattle.wit_model.specs.declared.model.TypeOwner.TheVariants as owner
+use Rattle.std.proofs.{Common.◌++◌, Common.◌∙◌, Common.ap, Common.false, lemmas.Result.on_err_weaker as on_err, lemmas.Result.on_ok_weaker as on_ok}
 use Rattle.print_grammar.specs.Calls.{members_calls, printed_after}
-use Rattle.print_uses.specs.Printable.{shown_functions}
+use Rattle.print_uses.specs.{Printable.shown_functions, UseGroups.type_members}
 use Rattle.print_items.specs.Shown.{listed_functions, listed_types}
-use Rattle.print_uses.specs.UseGroups.{type_members}
 use Rattle.print_items.proofs.Moves.{begun_first, begun_on, moved_on}
 use Rattle.print_uses.proofs.Declarations.{interface_calls, placed_here}
 use Rattle.print_packages.proofs.Functions.{functions_printable}
-use Rattle.print_packages.proofs.interface.print_interface_body.Goals as goal
 use Rattle.base_lemmas.proofs.Options.{at_err}
-use Rattle.std.proofs.lemmas.Result.{on_err_weaker as on_err, on_ok_weaker as on_ok}
+use Rattle.wit_model.specs.declared.model.TypeOwner.TheVariants as owner
+use Rattle.print_packages.proofs.interface.print_interface_body.Goals as goal
 
 pub returns-in-None-clause-ok : goal.returns-in-None-clause-ok
 returns-in-None-clause-ok g c = absurd (placed_here c.args.resolve.now c.requires.valid c.args.id c.args.interface.now c.requires.at c.in-None.is)

@@ -1,15 +1,12 @@
 use Rattle.std.proofs.Common.{◌≡◌, ◌++◌, ◌∙◌, ap, sym, subst, append_assoc, true}
-use Rattle.wit_model.specs.Names.{is_label}
-use Rattle.wit_model.specs.Text.{text_of}
-use Rattle.print_items.specs.Shown.{function_prefix, shown_signature}
-use Rattle.print_grammar.specs.Calls.{prefix_calls, line_after_calls}
-use Rattle.print_items.specs.ItemCalls.{named_calls}
-use Rattle.print_grammar.specs.WellNamed.{is_well_prefix}
+use Rattle.wit_model.specs.{Names.is_label, Text.text_of}
+use Rattle.print_items.specs.{Shown.function_prefix, Shown.shown_signature, ItemCalls.named_calls}
+use Rattle.print_grammar.specs.{Calls.prefix_calls, Calls.line_after_calls, WellNamed.is_well_prefix}
 use Rattle.print_output.specs.declared.type_kind.TypeKind.TheVariants.{FunctionFreestanding}
 use Rattle.print_packages.proofs.Functions.{function_alone}
 use Rattle.print_items.proofs.Driven.{driven, driven_on}
-use Rattle.print_packages.proofs.interface.write_function.Goals as goal
 use Rattle.base_lemmas.proofs.Bools.{left_of, right_of}
+use Rattle.print_packages.proofs.interface.write_function.Goals as goal
 
 pub write_prefix-requires : goal.write_prefix-requires
 write_prefix-requires g c =

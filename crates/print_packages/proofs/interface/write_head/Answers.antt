@@ -2,9 +2,8 @@ use Rattle.std.proofs.Common.{[], ◌∷◌, ◌++◌, append_assoc}
 use Rattle.std.specs.Prelude.{codes}
 use Rattle.print_output.specs.OutputCall.OutputCall.{Keyword, Ty}
 use Rattle.print_output.specs.declared.type_kind.TypeKind.TheVariants.{InterfaceDeclaration}
-use Rattle.print_grammar.specs.Keyword.{escaped}
+use Rattle.print_grammar.specs.{Keyword.escaped, Calls.doc_calls, Calls.gates_calls, Calls.space}
 use Rattle.print_items.specs.Shown.{shown_docs, shown_gates}
-use Rattle.print_grammar.specs.Calls.{doc_calls, gates_calls, space}
 use Rattle.print_items.proofs.Driven.{driven, driven_on}
 use Rattle.print_packages.proofs.interface.write_head.Goals as goal
 

@@ -1,7 +1,6 @@
 -- The items before those that are left are printed, and these can be.
 use Rattle.std.proofs.Common.{◌≡◌, true}
-use Rattle.std.specs.Prelude.{codes}
-use Rattle.std.specs.List.{list_all}
+use Rattle.std.specs.{Prelude.codes, List.list_all}
 use Rattle.print_uses.specs.Printable.{is_printable_entry, entry_calls}
 use Rattle.print_items.proofs.Moves.{Underway}
 use Rattle.print_packages.proofs.items.print_exports.Given as goal

@@ -1,10 +1,8 @@
 use Rattle.std.proofs.Common.{[], ◌∙◌, refl, subst, sym}
 use Rattle.std.specs.Prelude.{codes, if◌then◌else◌}
-use Rattle.print_output.specs.OutputCall.{Moves}
-use Rattle.print_output.specs.OutputCall.Moves.{nothing_moved}
+use Rattle.print_output.specs.{OutputCall.Moves, OutputCall.Moves.nothing_moved}
 use Rattle.print_uses.specs.Printable.{entry_calls}
-use Rattle.print_packages.proofs.PrintableItems.{import_shown}
-use Rattle.print_packages.proofs.ValidWorlds.{interface_import}
+use Rattle.print_packages.proofs.{PrintableItems.import_shown, ValidWorlds.interface_import}
 use Rattle.print_packages.proofs.items.print_imported_interface.Goals as goal
 
 pub returns-then-not-is_interface-clause-ok : goal.returns-then-not-is_interface-clause-ok

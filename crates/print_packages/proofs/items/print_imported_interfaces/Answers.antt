@@ -1,12 +1,9 @@
-use Rattle.std.proofs.Common.{◌≡◌, sym, subst, true}
-use Rattle.std.specs.List.{list_all}
-use Rattle.std.specs.Map.Iter.{deref_pair}
-use Rattle.std.proofs.lemmas.Map.Iter.{rest_more}
+use Rattle.std.proofs.{Common.◌≡◌, Common.sym, Common.subst, Common.true, lemmas.Map.Iter.rest_more}
+use Rattle.std.specs.{List.list_all, Map.Iter.deref_pair}
 use Rattle.print_uses.specs.Printable.{is_printable_import}
 use Rattle.print_items.proofs.Moves.{underway, run_made, run_begun}
+use Rattle.base_lemmas.proofs.{Bools.left_of as first_true, Bools.right_of as second_true, Options.at_err}
 use Rattle.print_packages.proofs.items.print_imported_interfaces.Goals as goal
-use Rattle.base_lemmas.proofs.Bools.{left_of as first_true, right_of as second_true}
-use Rattle.base_lemmas.proofs.Options.{at_err}
 
 pub loop-key-init : goal.loop-key-init
 loop-key-init g c =

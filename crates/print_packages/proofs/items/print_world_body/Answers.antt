@@ -1,14 +1,13 @@
 use Rattle.std.proofs.Common.{◌++◌, ◌&&◌, ◌∙◌, ap, subst}
-use Rattle.std.specs.Prelude.{codes}
-use Rattle.std.specs.List.{flat_map}
+use Rattle.std.proofs.lemmas.Result.{on_err_weaker as on_err, on_ok_weaker as on_ok}
+use Rattle.std.specs.{Prelude.codes, List.flat_map}
 use Rattle.wit_model.specs.Rules.{has_items}
 use Rattle.print_output.specs.OutputCall.{Moves, Begins}
 use Rattle.print_uses.specs.Printable.{entry_calls, printed_imports}
 use Rattle.print_items.proofs.Moves.{Moves-append, Begins-append, Begins-more}
-use Rattle.print_packages.proofs.items.print_world_body.Goals as goal
 use Rattle.base_lemmas.proofs.Options.{at_err}
-use Rattle.std.proofs.lemmas.Result.{on_err_weaker as on_err, on_ok_weaker as on_ok}
 use Rattle.print_grammar.specs.Calls.{line_after_calls}
+use Rattle.print_packages.proofs.items.print_world_body.Goals as goal
 
 pub returns-in_err-has_imports-clause-err : goal.returns-in_err-has_imports-clause-err
 returns-in_err-has_imports-clause-err g c =

@@ -1,8 +1,7 @@
-use Rattle.std.proofs.Common.{subst}
+use Rattle.std.proofs.{Common.subst, lemmas.Result.on_err_weaker as on_err, lemmas.Result.on_ok_weaker as on_ok}
 use Rattle.print_output.specs.OutputCall.{Moves, Begins}
 use Rattle.print_packages.proofs.PackageCalls.{listed_at, calls_at}
 use Rattle.print_packages.proofs.package.print_listed.Goals as goal
-use Rattle.std.proofs.lemmas.Result.{on_err_weaker as on_err, on_ok_weaker as on_ok}
 
 pub print_world-requires-clause-world : goal.print_world-requires-clause-world
 print_world-requires-clause-world g c =

@@ -1,17 +1,12 @@
 use Rattle.std.proofs.Common.{◌≡◌, subst, sym, Some, refl, true}
-use Rattle.std.proofs.lemmas.Bool.{ltb-true}
-use Rattle.std.proofs.lemmas.Option.{slice_get_read}
-use Rattle.wit_model.specs.Lookup.{interface_at}
-use Rattle.wit_model.specs.Names.{is_label}
-use Rattle.wit_model.specs.Rules.{in_list, passes}
-use Rattle.wit_model.specs.Text.{text_of}
+use Rattle.std.proofs.lemmas.{Bool.ltb-true, Option.slice_get_read, Result.on_err_weaker as on_err, Result.on_ok_weaker as on_ok}
+use Rattle.wit_model.specs.{Lookup.interface_at, Names.is_label, Rules.in_list, Rules.passes, Text.text_of}
 use Rattle.print_output.specs.OutputCall.{Moves, Begins}
 use Rattle.print_items.specs.Shown.{shown_gates, shown_interface_item}
 use Rattle.print_grammar.specs.WellNamed.{is_well_gates, is_well_item}
 use Rattle.print_packages.proofs.PackageCalls.{interface_calls_at, listed_interface_well}
-use Rattle.print_packages.proofs.package.print_listed_interface.Goals as goal
 use Rattle.base_lemmas.proofs.Bools.{left_of, right_of}
-use Rattle.std.proofs.lemmas.Result.{on_err_weaker as on_err, on_ok_weaker as on_ok}
+use Rattle.print_packages.proofs.package.print_listed_interface.Goals as goal
 
 pub print_interface-requires-clause-gates : goal.print_interface-requires-clause-gates
 print_interface-requires-clause-gates g c =

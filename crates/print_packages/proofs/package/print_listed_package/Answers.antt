@@ -1,11 +1,10 @@
-use Rattle.std.proofs.Common.{◌++◌}
+use Rattle.std.proofs.{Common.◌++◌, lemmas.Result.on_err_weaker as on_err, lemmas.Result.on_ok_weaker as on_ok}
 use Rattle.std.specs.List.{flat_map}
 use Rattle.print_uses.specs.Printable.{listed_calls, listed_interface_calls}
 use Rattle.print_grammar.specs.Calls.{package_end_calls}
 use Rattle.print_items.proofs.Moves.{Moves-append, Begins-append, Begins-more}
-use Rattle.print_packages.proofs.package.print_listed_package.Goals as goal
 use Rattle.base_lemmas.proofs.Options.{at_err}
-use Rattle.std.proofs.lemmas.Result.{on_err_weaker as on_err, on_ok_weaker as on_ok}
+use Rattle.print_packages.proofs.package.print_listed_package.Goals as goal
 
 pub returns-in_err-print_package_start-clause-err : goal.returns-in_err-print_package_start-clause-err
 returns-in_err-print_package_start-clause-err g c =

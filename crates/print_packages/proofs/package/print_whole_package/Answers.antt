@@ -1,11 +1,9 @@
-use Rattle.std.proofs.Common.{◌≡◌, subst, Some, refl}
+use Rattle.std.proofs.{Common.◌≡◌, Common.subst, Common.Some, Common.refl, lemmas.Result.on_err_weaker as on_err, lemmas.Result.on_ok_weaker as on_ok}
 use Rattle.std.proofs.lemmas.Option.{slice_get_read}
 use Rattle.wit_model.specs.Lookup.{package_at}
 use Rattle.print_output.specs.OutputCall.{Moves, Begins}
-use Rattle.print_packages.proofs.PackageCalls.{package_shown_at}
-use Rattle.print_packages.proofs.ValidPrintable.{valid_interfaces, valid_name, valid_worlds}
+use Rattle.print_packages.proofs.{PackageCalls.package_shown_at, ValidPrintable.valid_interfaces, ValidPrintable.valid_name, ValidPrintable.valid_worlds}
 use Rattle.print_packages.proofs.package.print_whole_package.Goals as goal
-use Rattle.std.proofs.lemmas.Result.{on_err_weaker as on_err, on_ok_weaker as on_ok}
 
 pub print_listed_package-requires-clause-namespace : goal.print_listed_package-requires-clause-namespace
 print_listed_package-requires-clause-namespace g c =

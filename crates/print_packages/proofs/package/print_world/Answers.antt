@@ -1,10 +1,9 @@
-use Rattle.std.proofs.Common.{[], ◌∷◌, ◌++◌}
+use Rattle.std.proofs.{Common.[], Common.◌∷◌, Common.◌++◌, lemmas.Result.on_err_weaker as on_err, lemmas.Result.on_ok_weaker as on_ok}
 use Rattle.print_output.specs.OutputCall.OutputCall.{IndentEnd}
 use Rattle.print_uses.specs.Printable.{world_body_calls}
 use Rattle.print_items.proofs.Moves.{Moves-append, Begins-append, Begins-more}
-use Rattle.print_packages.proofs.package.print_world.Goals as goal
 use Rattle.base_lemmas.proofs.Options.{at_err}
-use Rattle.std.proofs.lemmas.Result.{on_err_weaker as on_err, on_ok_weaker as on_ok}
+use Rattle.print_packages.proofs.package.print_world.Goals as goal
 
 pub returns-in_err-print_world_start-clause-err : goal.returns-in_err-print_world_start-clause-err
 returns-in_err-print_world_start-clause-err g c =

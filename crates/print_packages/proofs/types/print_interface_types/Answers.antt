@@ -1,16 +1,14 @@
 use Rattle.std.proofs.Common.{◌≡◌, ◌∙◌, ap, false, map, refl, subst, sym, true, IfOk}
+use Rattle.std.proofs.lemmas.Result.{on_err_weaker as on_err, on_ok_weaker as on_ok}
 use Rattle.std.specs.List.{list_all}
-use Rattle.wit_model.specs.declared.model.TypeOwner.TheVariants as owner
-use Rattle.print_output.specs.OutputCall.{Moves, Begins}
-use Rattle.print_output.specs.OutputCall.Begins.{nothing_begun}
+use Rattle.print_output.specs.{OutputCall.Moves, OutputCall.Begins, OutputCall.Begins.nothing_begun}
 use Rattle.print_grammar.specs.Calls.{members_calls, printed_after}
 use Rattle.print_items.specs.Shown.{listed_types}
 use Rattle.print_uses.specs.UseGroups.{is_listed_function, is_listed_type, listed_of, type_members}
-use Rattle.print_uses.proofs.Declarations.{types_listed}
-use Rattle.print_uses.proofs.ValidInterfaces.{interface_functions}
-use Rattle.print_packages.proofs.types.print_interface_types.Goals as goal
+use Rattle.print_uses.proofs.{Declarations.types_listed, ValidInterfaces.interface_functions}
 use Rattle.base_lemmas.proofs.Options.{at_err}
-use Rattle.std.proofs.lemmas.Result.{on_err_weaker as on_err, on_ok_weaker as on_ok}
+use Rattle.wit_model.specs.declared.model.TypeOwner.TheVariants as owner
+use Rattle.print_packages.proofs.types.print_interface_types.Goals as goal
 
 pub returns-in_err-types-clause-err : goal.returns-in_err-types-clause-err
 returns-in_err-types-clause-err g c = at_err c.from_residual.result (nothing_begun refl)

@@ -1,8 +1,7 @@
 use Rattle.std.proofs.Common.{[], ◌∷◌, true, append_assoc}
 use Rattle.print_output.specs.OutputCall.OutputCall.{Keyword}
 use Rattle.print_items.specs.Shown.{shown_path, shown_prefix}
-use Rattle.print_grammar.specs.Tree.ExternTree.{NamedPath}
-use Rattle.print_grammar.specs.Calls.{extern_calls, prefix_calls, space}
+use Rattle.print_grammar.specs.{Tree.ExternTree.NamedPath, Calls.extern_calls, Calls.prefix_calls, Calls.space}
 use Rattle.print_items.proofs.Driven.{driven_on}
 use Rattle.print_packages.proofs.world.write_labelled.Goals as goal
 

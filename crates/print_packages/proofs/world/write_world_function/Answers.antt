@@ -1,9 +1,8 @@
 use Rattle.std.proofs.Common.{[], ◌∷◌, ◌++◌, ◌∙◌, ap, append_assoc}
 use Rattle.print_output.specs.OutputCall.OutputCall.{Keyword}
 use Rattle.print_output.specs.declared.type_kind.TypeKind.TheVariants.{Other}
-use Rattle.print_items.specs.Shown.{function_prefix, shown_signature}
+use Rattle.print_items.specs.{Shown.function_prefix, Shown.shown_signature, ItemCalls.named_calls}
 use Rattle.print_grammar.specs.Calls.{prefix_calls, space}
-use Rattle.print_items.specs.ItemCalls.{named_calls}
 use Rattle.print_items.proofs.Driven.{driven_on}
 use Rattle.print_packages.proofs.world.write_world_function.Goals as goal
 

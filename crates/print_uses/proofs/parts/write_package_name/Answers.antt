@@ -1,6 +1,5 @@
 use Rattle.std.proofs.Common.{ap, ◌∙◌}
-use Rattle.wit_model.specs.Text.{text_of}
-use Rattle.wit_model.specs.Lookup.{optional_version_text}
+use Rattle.wit_model.specs.{Text.text_of, Lookup.optional_version_text}
 use Rattle.print_grammar.specs.Calls.{package_name_calls}
 use Rattle.print_items.proofs.Driven.{driven5}
 use Rattle.print_uses.proofs.parts.write_package_name.Goals as goal

@@ -1,8 +1,7 @@
 use Rattle.std.proofs.Common.{[], ◌∷◌, ◌∙◌, ap, List}
 use Rattle.std.specs.Prelude.{codes}
 use Rattle.wit_model.specs.Text.{text_of}
-use Rattle.print_output.specs.OutputCall.{OutputCall}
-use Rattle.print_output.specs.OutputCall.OutputCall.{Str, Ty}
+use Rattle.print_output.specs.{OutputCall.OutputCall, OutputCall.OutputCall.Str, OutputCall.OutputCall.Ty}
 use Rattle.print_output.specs.declared.type_kind.TypeKind.TheVariants.{NamespacePath, PackageNamePath}
 use Rattle.print_grammar.specs.Keyword.{escaped}
 use Rattle.print_items.proofs.Driven.{driven4}

@@ -1,9 +1,7 @@
 use Rattle.std.proofs.Common.{◌≡◌, Some, ap, refl, subst, sym, true}
-use Rattle.std.proofs.lemmas.Bool.{ltb-true}
-use Rattle.std.proofs.lemmas.Option.{slice_get_read}
+use Rattle.std.proofs.lemmas.{Bool.ltb-true, Option.slice_get_read}
 use Rattle.wit_model.specs.Lookup.{interface_at}
-use Rattle.print_grammar.specs.Calls.{path_calls}
-use Rattle.print_grammar.specs.WellNamed.{is_well_path}
+use Rattle.print_grammar.specs.{Calls.path_calls, WellNamed.is_well_path}
 use Rattle.print_uses.proofs.PathParts.{path_at, placed_at}
 use Rattle.print_items.proofs.Driven.{driven_as}
 use Rattle.print_uses.proofs.path.write_path.Goals as goal

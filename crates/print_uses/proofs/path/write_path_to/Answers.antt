@@ -1,12 +1,11 @@
 use Rattle.std.proofs.Common.{◌≡◌, ap, subst, sym, true, ◌∙◌}
-use Rattle.wit_model.specs.Names.{is_label}
-use Rattle.wit_model.specs.Text.{text_of}
+use Rattle.wit_model.specs.{Names.is_label, Text.text_of}
 use Rattle.print_grammar.specs.Calls.{path_calls}
 use Rattle.print_items.specs.Shown.{full_path, present_name}
 use Rattle.print_uses.proofs.PathParts.{full_path_at, full_path_well}
 use Rattle.print_items.proofs.Driven.{driven_as}
-use Rattle.print_uses.proofs.path.write_path_to.Goals as goal
 use Rattle.base_lemmas.proofs.Bools.{left_of, right_of}
+use Rattle.print_uses.proofs.path.write_path_to.Goals as goal
 
 pub write_full_path-requires-clause-namespace : goal.write_full_path-requires-clause-namespace
 write_full_path-requires-clause-namespace g c =

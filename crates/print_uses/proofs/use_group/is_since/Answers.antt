@@ -1,8 +1,7 @@
 use Rattle.std.proofs.Common.{◌≡◌, subst, true}
-use Rattle.wit_model.specs.Names.{is_version}
-use Rattle.wit_model.specs.Rules.{is_stability}
-use Rattle.print_uses.proofs.use_group.is_since.Goals as goal
+use Rattle.wit_model.specs.{Names.is_version, Rules.is_stability}
 use Rattle.base_lemmas.proofs.Bools.{right_of}
+use Rattle.print_uses.proofs.use_group.is_since.Goals as goal
 
 pub same_optional_version-requires-clause-right : goal.same_optional_version-requires-clause-right
 same_optional_version-requires-clause-right c =

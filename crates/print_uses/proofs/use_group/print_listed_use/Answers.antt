@@ -1,17 +1,13 @@
 use Rattle.std.proofs.Common.{◌≡◌, ◌∙◌, Some, ap, refl, sym, subst}
+use Rattle.std.proofs.lemmas.{Bool.ltb-true, Option.slice_get_read}
 use Rattle.std.specs.Prelude.{option_map, IfSome}
-use Rattle.std.proofs.lemmas.Bool.{ltb-true}
-use Rattle.std.proofs.lemmas.Option.{slice_get_read}
-use Rattle.wit_model.specs.Lookup.{type_at}
-use Rattle.wit_model.specs.Rules.{in_list}
-use Rattle.print_output.specs.OutputCall.{Moves, Begins}
-use Rattle.print_output.specs.OutputCall.Moves.{nothing_moved}
+use Rattle.wit_model.specs.{Lookup.type_at, Rules.in_list}
+use Rattle.print_output.specs.{OutputCall.Moves, OutputCall.Begins, OutputCall.Moves.nothing_moved}
 use Rattle.print_items.specs.Shown.{shown_path}
 use Rattle.print_uses.specs.UseGroups.{listed_use_calls, shown_use, use_after}
 use Rattle.print_uses.proofs.ListedTypes.{listed_use_at, use_printable}
+use Rattle.base_lemmas.proofs.{Bools.left_of, Options.at_err}
 use Rattle.print_uses.proofs.use_group.print_listed_use.Goals as goal
-use Rattle.base_lemmas.proofs.Bools.{left_of}
-use Rattle.base_lemmas.proofs.Options.{at_err}
 
 pub print_use-requires-clause-printable : goal.print_use-requires-clause-printable
 print_use-requires-clause-printable g c =

@@ -1,7 +1,6 @@
 use Rattle.std.proofs.Common.{refl, subst, sym}
 use Rattle.std.specs.Prelude.{option_map}
-use Rattle.print_output.specs.OutputCall.{Moves}
-use Rattle.print_output.specs.OutputCall.Moves.{nothing_moved}
+use Rattle.print_output.specs.{OutputCall.Moves, OutputCall.Moves.nothing_moved}
 use Rattle.print_uses.specs.UseGroups.{open_end_calls, shown_use}
 use Rattle.print_uses.proofs.use_group.print_open_end.Goals as goal
 

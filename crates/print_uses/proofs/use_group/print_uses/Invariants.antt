@@ -1,7 +1,6 @@
 -- The uses before the types that are left are printed.
 use Rattle.std.proofs.Common.{◌≡◌, ◌||◌, None, drop, filter_map, true}
-use Rattle.std.specs.Prelude.{is_some, option_map}
-use Rattle.std.specs.List.{list_all}
+use Rattle.std.specs.{Prelude.is_some, Prelude.option_map, List.list_all}
 use Rattle.wit_model.specs.Rules.{has_items, passes}
 use Rattle.print_items.specs.Shown.{shown_path}
 use Rattle.print_uses.specs.UseGroups.{is_listed_type, is_printable_use, listed_of, listed_use, shown_use, uses_calls}

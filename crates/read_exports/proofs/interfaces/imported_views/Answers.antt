@@ -1,8 +1,7 @@
 use Rattle.std.proofs.Common.{map}
 use Rattle.comp_meaning.specs.Follow.{each}
 use Rattle.plan_meaning.specs.NumberedMembers.{imported_view}
-use Rattle.read_rules.specs.Reached.{numbered_import}
-use Rattle.read_rules.specs.Scopes.{numbered_seen}
+use Rattle.read_rules.specs.{Reached.numbered_import, Scopes.numbered_seen}
 use Rattle.read_exports.proofs.WalkLaws.{none_left, one_found, one_missing}
 use Rattle.read_exports.proofs.interfaces.imported_views.Goals as goal
 

@@ -1,8 +1,7 @@
 use Rattle.std.proofs.Common.{◌≡◌, ◌++◌, map, drop, option_map}
 use Rattle.comp_meaning.specs.Follow.{each}
 use Rattle.plan_meaning.specs.NumberedMembers.{imported_view}
-use Rattle.read_rules.specs.Reached.{numbered_import}
-use Rattle.read_rules.specs.Scopes.{numbered_seen}
+use Rattle.read_rules.specs.{Reached.numbered_import, Scopes.numbered_seen}
 use Rattle.read_exports.proofs.interfaces.imported_views.Given as goal
 
 -- the views so far, before those of the imports that are left

@@ -1,9 +1,7 @@
 use Rattle.std.proofs.Common.{ap, ◌∙◌, [], map}
 use Rattle.std.specs.List.{list_all}
-use Rattle.plan_meaning.specs.NumberedMembers.{are_interfaces}
-use Rattle.plan_meaning.specs.NumberedViews.{agree_with_first_in_numbers}
-use Rattle.read_rules.specs.Sights.{numbered_sight}
-use Rattle.read_rules.specs.Tables.{known_in, numbered_tables}
+use Rattle.plan_meaning.specs.{NumberedMembers.are_interfaces, NumberedViews.agree_with_first_in_numbers}
+use Rattle.read_rules.specs.{Sights.numbered_sight, Tables.known_in, Tables.numbered_tables}
 use Rattle.read_exports.specs.Members.{homes_alone, homes_in, numbered_members, stands_among}
 use Rattle.read_exports.proofs.PackageLaws.{package_decided}
 use Rattle.read_exports.proofs.packages.are_package.Goals as goal

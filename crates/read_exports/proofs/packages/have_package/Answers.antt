@@ -1,5 +1,4 @@
-use Rattle.std.proofs.Common.{sym, ◌==◌}
-use Rattle.std.proofs.lemmas.List.Folds.{list_all-map}
+use Rattle.std.proofs.{Common.sym, Common.◌==◌, lemmas.List.Folds.list_all-map}
 use Rattle.read_exports.specs.Members.{numbered_member}
 use Rattle.read_exports.proofs.packages.have_package.Goals as goal
 

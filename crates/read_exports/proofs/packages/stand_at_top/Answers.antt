@@ -1,5 +1,4 @@
-use Rattle.std.proofs.Common.{sym}
-use Rattle.std.proofs.lemmas.List.Folds.{list_all-map}
+use Rattle.std.proofs.{Common.sym, lemmas.List.Folds.list_all-map}
 use Rattle.read_rules.specs.Sights.{numbered_sight}
 use Rattle.read_exports.specs.Members.{homes_alone, stands_among}
 use Rattle.read_exports.proofs.packages.stand_at_top.Goals as goal

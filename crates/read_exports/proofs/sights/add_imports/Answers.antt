@@ -1,6 +1,5 @@
 use Rattle.std.proofs.Common.{map, refl}
-use Rattle.read_rules.specs.Reached.{numbered_import}
-use Rattle.read_rules.specs.Sights.{numbered_sight}
+use Rattle.read_rules.specs.{Reached.numbered_import, Sights.numbered_sight}
 use Rattle.read_exports.proofs.WalkLaws.{all_mapped, imported_sight, one_mapped}
 use Rattle.read_exports.proofs.sights.add_imports.Goals as goal
 

@@ -1,12 +1,11 @@
 use Rattle.std.proofs.Common.{ap, map, ◌++◌, ◌∙◌}
 use Rattle.std.specs.List.{flat_map}
 use Rattle.plan_meaning.specs.NumberedMembers.{sights_of_part}
-use Rattle.read_rules.specs.Sights.{numbered_sight}
-use Rattle.read_rules.specs.Tables.{numbered_tables}
+use Rattle.read_rules.specs.{Sights.numbered_sight, Tables.numbered_tables}
 use Rattle.read_rules.proofs.SightLaws.{all_added, one_added}
 use Rattle.read_exports.specs.Members.{numbered_member, numbered_part}
-use Rattle.read_exports.proofs.sights.sights_of_members.Goals as goal
 use Rattle.base_lemmas.proofs.Lists.{flat_mapped as along_map}
+use Rattle.read_exports.proofs.sights.sights_of_members.Goals as goal
 
 pub loop-member-init : goal.loop-member-init
 loop-member-init c =

@@ -1,8 +1,7 @@
 use Rattle.std.proofs.Common.{◌≡◌, ◌++◌, map, drop}
 use Rattle.std.specs.List.{flat_map}
 use Rattle.plan_meaning.specs.NumberedMembers.{sights_of_members, sights_of_part}
-use Rattle.read_rules.specs.Sights.{numbered_sight}
-use Rattle.read_rules.specs.Tables.{numbered_tables}
+use Rattle.read_rules.specs.{Sights.numbered_sight, Tables.numbered_tables}
 use Rattle.read_exports.specs.Members.{numbered_members, numbered_part}
 use Rattle.read_exports.proofs.sights.sights_of_members.Given as goal
 

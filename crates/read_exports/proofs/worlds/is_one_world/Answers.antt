@@ -1,10 +1,7 @@
 use Rattle.std.proofs.Common.{ap, ◌∙◌, [], map}
 use Rattle.std.specs.List.{list_any}
-use Rattle.plan_meaning.specs.NumberedMembers.{are_interfaces, is_named_in}
-use Rattle.plan_meaning.specs.NumberedViews.{agree_with_first_in_numbers}
-use Rattle.read_rules.specs.Scopes.{numbered_scope}
-use Rattle.read_rules.specs.Sights.{numbered_sight}
-use Rattle.read_rules.specs.Tables.{known_in, numbered_tables}
+use Rattle.plan_meaning.specs.{NumberedMembers.are_interfaces, NumberedMembers.is_named_in, NumberedViews.agree_with_first_in_numbers}
+use Rattle.read_rules.specs.{Scopes.numbered_scope, Sights.numbered_sight, Tables.known_in, Tables.numbered_tables}
 use Rattle.read_exports.specs.Members.{homes_alone, homes_in}
 use Rattle.read_exports.proofs.PackageLaws.{world_decided}
 use Rattle.read_exports.proofs.worlds.is_one_world.Goals as goal

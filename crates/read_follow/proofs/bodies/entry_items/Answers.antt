@@ -1,9 +1,7 @@
-use Rattle.comp_bytes.specs.Reading.{sequence_at}
-use Rattle.comp_bytes.specs.Levels.{entry_at}
+use Rattle.comp_bytes.specs.{Reading.sequence_at, Levels.entry_at}
 use Rattle.read_follow.specs.Bodies.{behind}
-use Rattle.read_follow.proofs.BodyLaws.{shorter, is_body, body_found, none_found}
+use Rattle.read_follow.proofs.{BodyLaws.shorter, BodyLaws.is_body, BodyLaws.body_found, BodyLaws.none_found, Refusing.refused}
 use Rattle.comp_bytes.proofs.LevelLaws.{entry_law}
-use Rattle.read_follow.proofs.Refusing.{refused}
 use Rattle.read_follow.proofs.bodies.entry_items.Goals as goal
 
 pub cut-requires : goal.cut-requires

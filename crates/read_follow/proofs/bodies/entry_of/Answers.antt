@@ -1,10 +1,7 @@
 use Rattle.std.proofs.Common.{sym, ◌∙◌, Some, None}
-use Rattle.comp_bytes.specs.Levels.{held_at, entry_at}
-use Rattle.comp_bytes.specs.Reading.{declaration_at}
-use Rattle.read_follow.specs.Declares.{raw_declared}
-use Rattle.read_follow.specs.Bodies.{held_declaration_at, items_in}
-use Rattle.read_follow.proofs.EntryLaws.{held_front, plain_front}
-use Rattle.read_follow.proofs.Refusing.{refused}
+use Rattle.comp_bytes.specs.{Levels.held_at, Levels.entry_at, Reading.declaration_at}
+use Rattle.read_follow.specs.{Declares.raw_declared, Bodies.held_declaration_at, Bodies.items_in}
+use Rattle.read_follow.proofs.{EntryLaws.held_front, EntryLaws.plain_front, Refusing.refused}
 use Rattle.read_follow.proofs.bodies.entry_of.Goals as goal
 
 pub returns-in-Ok-clause-found : goal.returns-in-Ok-clause-found

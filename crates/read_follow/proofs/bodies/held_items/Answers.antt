@@ -1,8 +1,6 @@
 use Rattle.comp_bytes.specs.Reading.{sequence_at}
 use Rattle.read_follow.specs.Bodies.{held_declaration_at, behind}
-use Rattle.read_follow.proofs.BodyLaws.{shorter, is_body, body_found, none_found}
-use Rattle.read_follow.proofs.HeldLaws.{held_declaration_law}
-use Rattle.read_follow.proofs.Refusing.{refused}
+use Rattle.read_follow.proofs.{BodyLaws.shorter, BodyLaws.is_body, BodyLaws.body_found, BodyLaws.none_found, HeldLaws.held_declaration_law, Refusing.refused}
 use Rattle.read_follow.proofs.bodies.held_items.Goals as goal
 
 pub cut-requires : goal.cut-requires

@@ -1,8 +1,6 @@
 use Rattle.std.proofs.Common.{Some, None}
-use Rattle.comp_bytes.specs.Levels.{held_at}
-use Rattle.comp_bytes.specs.Reading.{u32_at}
-use Rattle.read_follow.proofs.HeldLaws.{held_behind}
-use Rattle.read_follow.proofs.Refusing.{refused}
+use Rattle.comp_bytes.specs.{Levels.held_at, Reading.u32_at}
+use Rattle.read_follow.proofs.{HeldLaws.held_behind, Refusing.refused}
 use Rattle.read_follow.proofs.bodies.held_of.Goals as goal
 
 pub returns-in-Ok-clause-found : goal.returns-in-Ok-clause-found

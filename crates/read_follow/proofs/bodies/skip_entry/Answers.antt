@@ -1,9 +1,7 @@
 use Rattle.std.proofs.Common.{refl, sym, ap, ◌∙◌}
-use Rattle.comp_bytes.specs.Levels.{held_at, holds, plain}
-use Rattle.comp_bytes.specs.Reading.{declaration_at}
+use Rattle.comp_bytes.specs.{Levels.held_at, Levels.holds, Levels.plain, Reading.declaration_at}
 use Rattle.read_follow.specs.Bodies.{behind}
-use Rattle.read_follow.proofs.EntryLaws.{held_front, plain_front}
-use Rattle.read_follow.proofs.SkipLaws.{behind_as}
+use Rattle.read_follow.proofs.{EntryLaws.held_front, EntryLaws.plain_front, SkipLaws.behind_as}
 use Rattle.read_follow.proofs.bodies.skip_entry.Goals as goal
 
 pub returns-then-starts_with : goal.returns-then-starts_with

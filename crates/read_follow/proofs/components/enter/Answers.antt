@@ -1,13 +1,8 @@
 use Rattle.std.proofs.Common.{◌∙◌, ap, length, subst, List}
-use Rattle.comp_meaning.specs.ByLevels.{entry_step}
-use Rattle.comp_meaning.specs.Follow.{component_step}
-use Rattle.read_follow.specs.declared.bodies.Entry.{Entry}
-use Rattle.read_follow.specs.declared.slots.Slot.{Slot}
-use Rattle.read_follow.specs.Bodies.{raw_entry, IsWhole}
-use Rattle.read_follow.specs.Declares.{raw_declared}
-use Rattle.read_follow.specs.Scopes.{world_of, Stops}
-use Rattle.read_follow.proofs.ComponentLaws.{held_goes, stops_as}
-use Rattle.read_follow.proofs.FollowingLaws.{if_err}
+use Rattle.comp_meaning.specs.{ByLevels.entry_step, Follow.component_step}
+use Rattle.read_follow.specs.declared.{bodies.Entry.Entry, slots.Slot.Slot}
+use Rattle.read_follow.specs.{Bodies.raw_entry, Bodies.IsWhole, Declares.raw_declared, Scopes.world_of, Scopes.Stops}
+use Rattle.read_follow.proofs.{ComponentLaws.held_goes, ComponentLaws.stops_as, FollowingLaws.if_err}
 use Rattle.read_follow.proofs.components.enter.Goals as goal
 
 pub returns-in-Plain-clause-absent : goal.returns-in-Plain-clause-absent

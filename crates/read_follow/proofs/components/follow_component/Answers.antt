@@ -1,10 +1,8 @@
 use Rattle.std.proofs.Common.{◌∙◌, ap, sym, refl, arith, length, List}
 use Rattle.read_follow.specs.declared.slots.Slot.{Slot}
-use Rattle.read_follow.specs.Defining.{IsPlacedBelow}
-use Rattle.read_follow.specs.Scopes.{are_settled, world_of}
+use Rattle.read_follow.specs.{Defining.IsPlacedBelow, Scopes.are_settled, Scopes.world_of}
 use Rattle.plan_meaning.specs.Shapes.{named_shape}
-use Rattle.read_follow.proofs.ComponentLaws.{no_scope, scope_shown}
-use Rattle.read_follow.proofs.DefiningLaws.{all_at}
+use Rattle.read_follow.proofs.{ComponentLaws.no_scope, ComponentLaws.scope_shown, DefiningLaws.all_at}
 use Rattle.read_follow.proofs.components.follow_component.Goals as goal
 
 pub returns-then-are_settled-clause-shown : goal.returns-then-are_settled-clause-shown

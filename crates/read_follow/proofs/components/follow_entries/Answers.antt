@@ -1,11 +1,9 @@
 use Rattle.comp_meaning.specs.ByLevels.{entry_scope}
 use Rattle.comp_bytes.specs.Levels.{entry_at}
-use Rattle.read_follow.specs.Bodies.{items_in, raw_entry}
-use Rattle.read_follow.specs.Scopes.{start_of, world_of}
+use Rattle.read_follow.specs.{Bodies.items_in, Bodies.raw_entry, Scopes.start_of, Scopes.world_of}
 use Rattle.read_follow.proofs.ComponentLaws.{followed_none, followed_on, followed_whole, not_unread, nothing_on}
-use Rattle.read_follow.proofs.NameTableLaws.{no_names}
+use Rattle.read_follow.proofs.{NameTableLaws.no_names, SectionLaws.alike}
 use Rattle.read_follow.proofs.components.follow_entries.Goals as goal
-use Rattle.read_follow.proofs.SectionLaws.{alike}
 
 pub loop-init : goal.loop-init
 loop-init c =

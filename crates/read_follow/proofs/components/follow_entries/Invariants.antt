@@ -1,5 +1,4 @@
-use Rattle.read_follow.specs.Scopes.{start_of, world_of, IsFollowedTo}
-use Rattle.read_follow.specs.NameTables.{AreNamesOf}
+use Rattle.read_follow.specs.{Scopes.start_of, Scopes.world_of, Scopes.IsFollowedTo, NameTables.AreNamesOf}
 use Rattle.read_follow.proofs.components.follow_entries.Given as goal
 
 abbrev pub invariant-loop : goal.invariant-loop

@@ -1,16 +1,11 @@
 use Rattle.std.proofs.Common.{ap, true, false}
-use Rattle.comp_bytes.specs.Raw.{Declaration}
-use Rattle.comp_bytes.specs.RawOf.{raw_alias, raw_defined, raw_function}
+use Rattle.comp_bytes.specs.{Raw.Declaration, RawOf.raw_alias, RawOf.raw_defined, RawOf.raw_function}
 use Rattle.comp_meaning.specs.Follow.{component_step, see_described}
 use Rattle.read_follow.specs.declared.declarations.Declared.{Declared}
-use Rattle.read_follow.specs.Declares.{raw_declared}
-use Rattle.read_follow.specs.Defining.{Grows, IsDefined, IsDefinedFunction, IsUndefined}
-use Rattle.read_follow.specs.ExternNames.{raw_name}
-use Rattle.read_follow.specs.NameTables.{AreNamesOf}
-use Rattle.read_follow.specs.Scopes.{direction, world_of, Goes, Stops}
+use Rattle.read_follow.specs.{Declares.raw_declared, Defining.Grows, Defining.IsDefined, Defining.IsDefinedFunction, Defining.IsUndefined, ExternNames.raw_name}
+use Rattle.read_follow.specs.{NameTables.AreNamesOf, Scopes.direction, Scopes.world_of, Scopes.Goes, Scopes.Stops}
 use Rattle.read_follow.proofs.ComponentLaws.{alias_goes, alias_stops, defined_goes, defined_stops, goes_as, signed_goes, signed_stops, stops_as}
-use Rattle.read_follow.proofs.FollowingLaws.{if_err, on_ok, ranges_of}
-use Rattle.read_follow.proofs.NameTableLaws.{names_grow}
+use Rattle.read_follow.proofs.{FollowingLaws.if_err, FollowingLaws.on_ok, FollowingLaws.ranges_of, NameTableLaws.names_grow}
 use Rattle.read_follow.proofs.components.step.Goals as goal
 
 pub define-requires : goal.define-requires

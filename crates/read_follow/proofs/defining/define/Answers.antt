@@ -1,12 +1,9 @@
 use Rattle.std.proofs.Common.{subst, List, Ok, Err}
 use Rattle.comp_bytes.specs.RawOf.{raw_defined}
-use Rattle.read_follow.specs.declared.definition_keys.Definition.{Definition}
-use Rattle.read_follow.specs.declared.definition_keys.Definition.TheVariants as definitions
-use Rattle.read_follow.specs.declared.refusal.Refusal.{Refusal}
-use Rattle.read_follow.specs.declared.slots.Slot.{Slot}
-use Rattle.read_follow.specs.DefinitionKeys.{IsDefinitionOf}
-use Rattle.read_follow.specs.KeyShapes.{shape_of}
+use Rattle.read_follow.specs.declared.{definition_keys.Definition.Definition, refusal.Refusal.Refusal, slots.Slot.Slot}
+use Rattle.read_follow.specs.{DefinitionKeys.IsDefinitionOf, KeyShapes.shape_of}
 use Rattle.read_follow.proofs.DefiningLaws.{key_defined, key_shaped, part_defined, undefined}
+use Rattle.read_follow.specs.declared.definition_keys.Definition.TheVariants as definitions
 use Rattle.read_follow.proofs.defining.define.Goals as goal
 
 pub number_of-requires : goal.number_of-requires

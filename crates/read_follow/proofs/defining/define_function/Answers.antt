@@ -1,12 +1,9 @@
 use Rattle.std.proofs.Common.{subst, List}
 use Rattle.comp_bytes.specs.RawOf.{raw_function}
-use Rattle.wit_model.specs.Meaning.{Signature}
-use Rattle.wit_model.specs.Tree.{Tree}
+use Rattle.wit_model.specs.{Meaning.Signature, Tree.Tree}
 use Rattle.comp_meaning.specs.Follow.{function_signature}
 use Rattle.read_follow.specs.declared.slots.Slot.{Slot}
-use Rattle.read_follow.specs.Found.{Refuses}
-use Rattle.read_follow.specs.Functions.{function_shape, IsSignatureOf}
-use Rattle.read_follow.specs.Slots.{slots_in}
+use Rattle.read_follow.specs.{Found.Refuses, Functions.function_shape, Functions.IsSignatureOf, Slots.slots_in}
 use Rattle.read_follow.proofs.defining.define_function.Goals as goal
 
 pub returns-in_ok-push-in-Ok-clause-defined : goal.returns-in_ok-push-in-Ok-clause-defined

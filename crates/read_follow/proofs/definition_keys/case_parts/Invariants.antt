@@ -1,13 +1,10 @@
 use Rattle.std.proofs.Common.{ℕ, ◌+◌, ◌<◌, List, map}
 use Rattle.std.specs.List.{AllByRecursion}
-use Rattle.wit_model.specs.Meaning.{Signature}
-use Rattle.wit_model.specs.Tree.{Tree}
+use Rattle.wit_model.specs.{Meaning.Signature, Tree.Tree}
 use Rattle.comp_bytes.specs.RawOf.{labeled}
 use Rattle.comp_meaning.specs.Follow.{case_type}
-use Rattle.read_follow.specs.Rows.{case_labels, case_trees, RowsSoFar}
+use Rattle.read_follow.specs.{Rows.case_labels, Rows.case_trees, Rows.RowsSoFar, KeyShapes.label_of, Slots.slots_in, Slots.AreInRange}
 use Rattle.plan_meaning.specs.Shapes.{part_tree}
-use Rattle.read_follow.specs.KeyShapes.{label_of}
-use Rattle.read_follow.specs.Slots.{slots_in, AreInRange}
 use Rattle.read_follow.proofs.definition_keys.case_parts.Given as goal
 
 abbrev pub invariant-loop-case : goal.invariant-loop-case

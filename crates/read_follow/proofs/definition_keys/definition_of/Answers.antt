@@ -4,8 +4,7 @@ use Rattle.comp_bytes.specs.RawOf.{raw_defined}
 use Rattle.comp_meaning.specs.Follow.{definition}
 use Rattle.plan_meaning.specs.Shapes.{part_tree}
 use Rattle.read_follow.specs.Slots.{primitive_index, slots_in}
-use Rattle.read_follow.proofs.DefinitionKeyLaws.{is_form}
-use Rattle.read_follow.proofs.SlotLaws.{primitive_part, primitive_small}
+use Rattle.read_follow.proofs.{DefinitionKeyLaws.is_form, SlotLaws.primitive_part, SlotLaws.primitive_small}
 use Rattle.read_follow.proofs.definition_keys.definition_of.Goals as goal
 
 pub returns-in-Primitive : goal.returns-in-Primitive

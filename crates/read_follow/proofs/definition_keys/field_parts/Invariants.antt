@@ -1,13 +1,10 @@
 use Rattle.std.proofs.Common.{ℕ, ◌+◌, ◌<◌, List, map}
 use Rattle.std.specs.List.{AllByRecursion}
-use Rattle.wit_model.specs.Meaning.{Signature}
-use Rattle.wit_model.specs.Tree.{Tree}
+use Rattle.wit_model.specs.{Meaning.Signature, Tree.Tree}
 use Rattle.comp_bytes.specs.RawOf.{labeled}
 use Rattle.comp_meaning.specs.Follow.{field_type}
-use Rattle.read_follow.specs.Rows.{field_labels, field_trees, RowsSoFar}
+use Rattle.read_follow.specs.{Rows.field_labels, Rows.field_trees, Rows.RowsSoFar, KeyShapes.label_of, Slots.slots_in, Slots.AreInRange}
 use Rattle.plan_meaning.specs.Shapes.{part_tree}
-use Rattle.read_follow.specs.KeyShapes.{label_of}
-use Rattle.read_follow.specs.Slots.{slots_in, AreInRange}
 use Rattle.read_follow.proofs.definition_keys.field_parts.Given as goal
 
 abbrev pub invariant-loop-field : goal.invariant-loop-field

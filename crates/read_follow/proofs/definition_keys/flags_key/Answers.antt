@@ -1,10 +1,8 @@
 use Rattle.std.proofs.Common.{ap, [], map}
 use Rattle.wit_model.specs.Tree.{Form, flags_tree}
-use Rattle.comp_bytes.specs.Raw.{DefinedType}
-use Rattle.comp_bytes.specs.RawOf.{text_of}
+use Rattle.comp_bytes.specs.{Raw.DefinedType, RawOf.text_of}
 use Rattle.comp_meaning.specs.Follow.{provided}
-use Rattle.read_follow.proofs.DefinitionKeyLaws.{passed}
-use Rattle.read_follow.proofs.RowLaws.{all_filled, items_there}
+use Rattle.read_follow.proofs.{DefinitionKeyLaws.passed, RowLaws.all_filled, RowLaws.items_there}
 use Rattle.read_follow.proofs.definition_keys.flags_key.Goals as goal
 
 pub returns : goal.returns

@@ -1,9 +1,7 @@
 use Rattle.std.proofs.Common.{sym, subst, ℕ, List, map, Option}
 use Rattle.std.specs.Borrow.{Bor}
-use Rattle.comp_bytes.specs.declared.forms.ComponentDefinedType.{ComponentDefinedType}
-use Rattle.comp_bytes.specs.declared.forms.ComponentValType.{ComponentValType}
-use Rattle.comp_bytes.specs.Raw.{DefinedType}
-use Rattle.comp_bytes.specs.RawOf.{labeled, raw_defined, text_of}
+use Rattle.comp_bytes.specs.declared.forms.{ComponentDefinedType.ComponentDefinedType, ComponentValType.ComponentValType}
+use Rattle.comp_bytes.specs.{Raw.DefinedType, RawOf.labeled, RawOf.raw_defined, RawOf.text_of}
 use Rattle.read_follow.specs.DefinitionKeys.{IsKeyOf}
 use Rattle.read_follow.proofs.definition_keys.form_key.Goals as goal
 

@@ -1,11 +1,9 @@
 use Rattle.std.proofs.Common.{ℕ, ◌+◌, ◌<◌, List, [], map}
 use Rattle.std.specs.List.{AllByRecursion}
-use Rattle.wit_model.specs.Meaning.{Signature}
-use Rattle.wit_model.specs.Tree.{Tree}
+use Rattle.wit_model.specs.{Meaning.Signature, Tree.Tree}
 use Rattle.comp_meaning.specs.Follow.{value_type}
-use Rattle.read_follow.specs.Rows.{value_labels, value_trees, RowsSoFar}
+use Rattle.read_follow.specs.{Rows.value_labels, Rows.value_trees, Rows.RowsSoFar, Slots.slots_in, Slots.AreInRange}
 use Rattle.plan_meaning.specs.Shapes.{part_tree}
-use Rattle.read_follow.specs.Slots.{slots_in, AreInRange}
 use Rattle.read_follow.proofs.definition_keys.value_parts.Given as goal
 
 abbrev pub invariant-loop-v : goal.invariant-loop-v

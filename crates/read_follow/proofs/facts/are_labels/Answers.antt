@@ -1,5 +1,4 @@
-use Rattle.std.proofs.Common.{sym, ap, ◌∙◌, ◌&&◌, map}
-use Rattle.std.proofs.lemmas.List.Folds.{list_all-map}
+use Rattle.std.proofs.{Common.sym, Common.ap, Common.◌∙◌, Common.◌&&◌, Common.map, lemmas.List.Folds.list_all-map}
 use Rattle.wit_model.specs.Names.{is_label}
 use Rattle.comp_meaning.specs.Rules.{distinct}
 use Rattle.distinct_names.proofs.NameLaws.{labels_good}

@@ -3,8 +3,7 @@ use Rattle.std.specs.List.{AllByRecursion}
 use Rattle.comp_meaning.specs.Rules.{are_labels}
 use Rattle.read_follow.specs.declared.facts.Fact.{Fact}
 use Rattle.plan_meaning.specs.Shapes.{part_tree, shape_tree}
-use Rattle.read_follow.specs.KeyShapes.{shape_of}
-use Rattle.read_follow.specs.Facts.{Sums, Tells}
+use Rattle.read_follow.specs.{KeyShapes.shape_of, Facts.Sums, Facts.Tells}
 use Rattle.read_follow.proofs.FactLaws.{shape_named, shape_of_form, first_labels}
 use Rattle.read_follow.proofs.facts.labelled_fact.Goals as goal
 

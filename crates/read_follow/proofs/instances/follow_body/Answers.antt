@@ -1,11 +1,9 @@
 use Rattle.comp_meaning.specs.Follow.{instance_view}
-use Rattle.read_follow.specs.Bodies.{held_declaration_at, items_in}
-use Rattle.read_follow.specs.Declares.{raw_declared}
+use Rattle.read_follow.specs.{Bodies.held_declaration_at, Bodies.items_in, Declares.raw_declared, InstanceScopes.state_of, InstanceScopes.tables_of}
 use Rattle.read_follow.specs.Following.{slots_at}
-use Rattle.read_follow.specs.InstanceScopes.{state_of, tables_of}
 use Rattle.read_follow.proofs.StepLaws.{around_in, followed_all, followed_more, followed_none, not_unread, nothing_shown}
-use Rattle.read_follow.proofs.instances.follow_body.Goals as goal
 use Rattle.read_follow.proofs.SectionLaws.{alike}
+use Rattle.read_follow.proofs.instances.follow_body.Goals as goal
 
 pub loop-init : goal.loop-init
 loop-init c =

@@ -1,10 +1,9 @@
 use Rattle.std.proofs.Common.{sym, ◌∙◌, None}
-use Rattle.comp_bytes.specs.Levels.{part_behind_at}
-use Rattle.comp_bytes.specs.Reading.{u32_at}
+use Rattle.comp_bytes.specs.{Levels.part_behind_at, Reading.u32_at}
 use Rattle.read_follow.proofs.PartTypeLaws.{part_counted, wrapper_front, shown_front, both_hold, second_fails, first_fails}
 use Rattle.read_follow.proofs.Refusing.{refused}
-use Rattle.read_follow.proofs.part_types.part_behind_of.Goals as goal
 use Rattle.read_follow.proofs.part_types.part_behind_of.Goals.{else-count-eq2-via-then-count-eq2+else-starts_with, else-count-eq2-via-else-count-eq2}
+use Rattle.read_follow.proofs.part_types.part_behind_of.Goals as goal
 
 pub returns-then-starts_with-clause-found : goal.returns-then-starts_with-clause-found
 returns-then-starts_with-clause-found c = rw (wrapper_front c.args.bytes.now c.in-Ok.count c.in-Ok.items.now c.in-Ok.ensures c.split_at.result.1.now

@@ -1,13 +1,12 @@
 use Rattle.std.proofs.Common.{◌≡◌, ◌==◌, ◌≤◌, ◌+◌, arith, length, ◌∙◌, ap, sym, subst, refl, false, Bool, List, [], ◌∷◌, ◌++◌, ℕ, map, Some}
+use Rattle.std.proofs.{Math.ListN.length-map, lemmas.Bool.not-true}
 use Rattle.std.specs.List.{list_any}
-use Rattle.std.proofs.Math.ListN.{length-map}
-use Rattle.std.proofs.lemmas.Bool.{not-true}
 use Rattle.wit_model.specs.Text.{Text}
 use Rattle.read_follow.specs.Places.{place_shape, ArePlaces}
 use Rattle.read_follow.proofs.JoinLaws.{fresh, grown, joins}
 use Rattle.read_follow.proofs.PlaceLaws.{same_place, place_same, place_again, kept_more, mark_is}
-use Rattle.read_follow.proofs.places.put.Goals as goal
 use Rattle.base_lemmas.proofs.Lists.{mapped_get}
+use Rattle.read_follow.proofs.places.put.Goals as goal
 
 pub returns-then-not-is_new-clause-found : goal.returns-then-not-is_new-clause-found
 returns-then-not-is_new-clause-found c =

@@ -1,5 +1,4 @@
-use Rattle.read_follow.proofs.FrontReaders.{because_of_bytes}
-use Rattle.read_follow.proofs.SectionLaws.{custom_read, custom_refused}
+use Rattle.read_follow.proofs.{FrontReaders.because_of_bytes, SectionLaws.custom_read, SectionLaws.custom_refused}
 use Rattle.read_follow.proofs.sections.custom_of.Goals as goal
 
 pub returns-in-Ok : goal.returns-in-Ok

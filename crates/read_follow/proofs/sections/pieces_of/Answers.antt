@@ -1,11 +1,9 @@
 use Rattle.std.proofs.Common.{map}
 use Rattle.comp_bytes.specs.Levels.{pieces_in}
 use Rattle.read_follow.specs.Pieces.{piece_at, raw_piece, IsWholePiece}
-use Rattle.read_follow.proofs.Refusing.{refused}
-use Rattle.read_follow.proofs.SectionLaws.{piece_read, piece_absent, pieces_ended}
+use Rattle.read_follow.proofs.{Refusing.refused, SectionLaws.piece_read, SectionLaws.piece_absent, SectionLaws.pieces_ended}
+use Rattle.base_lemmas.proofs.{Elements.all_end, Lists.none_left, Lists.some_left}
 use Rattle.read_follow.proofs.sections.pieces_of.Goals as goal
-use Rattle.base_lemmas.proofs.Elements.{all_end}
-use Rattle.base_lemmas.proofs.Lists.{none_left, some_left}
 
 pub loop-rest-preserved : goal.loop-rest-preserved
 loop-rest-preserved c = (

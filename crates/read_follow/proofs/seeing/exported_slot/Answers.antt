@@ -1,9 +1,6 @@
 use Rattle.std.proofs.Common.{sym, ◌∙◌, ap, subst, Option}
-use Rattle.read_follow.specs.declared.scopes.Instance.{Instance}
-use Rattle.read_follow.specs.declared.slots.Slot.{Slot}
-use Rattle.read_follow.specs.Found.{Gives}
-use Rattle.read_follow.specs.NameTables.{marked_slot}
-use Rattle.read_follow.specs.Scopes.{find_slot, slot_of_instance}
+use Rattle.read_follow.specs.declared.{scopes.Instance.Instance, slots.Slot.Slot}
+use Rattle.read_follow.specs.{Found.Gives, NameTables.marked_slot, Scopes.find_slot, Scopes.slot_of_instance}
 use Rattle.read_follow.proofs.NameTableLaws.{names_stay, table_of}
 use Rattle.read_follow.proofs.seeing.exported_slot.Goals as goal
 

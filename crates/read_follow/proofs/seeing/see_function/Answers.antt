@@ -1,10 +1,9 @@
 use Rattle.std.proofs.Common.{◌≡◌, ◌∙◌, sym}
 use Rattle.read_follow.specs.declared.scopes.Seen.{Seen}
-use Rattle.read_follow.specs.declared.scopes.Shown.TheVariants as shown
 use Rattle.comp_meaning.specs.Follow.{see_function}
-use Rattle.read_follow.specs.ExternNames.{raw_name}
-use Rattle.read_follow.specs.Scopes.{direction, world_of, Goes}
+use Rattle.read_follow.specs.{ExternNames.raw_name, Scopes.direction, Scopes.world_of, Scopes.Goes}
 use Rattle.read_follow.proofs.SeeLaws.{added_exports, added_imports, function_goes, function_stops, on_both}
+use Rattle.read_follow.specs.declared.scopes.Shown.TheVariants as shown
 use Rattle.read_follow.proofs.seeing.see_function.Goals as goal
 
 pub returns-then-is_simple-clause-seen : goal.returns-then-is_simple-clause-seen

@@ -3,11 +3,8 @@ use Rattle.wit_model.specs.Tree.{Place}
 use Rattle.comp_bytes.specs.declared.forms.ComponentTypeRef.{ComponentTypeRef}
 use Rattle.comp_meaning.specs.Follow.{InstanceScope as MeantScope, is_simple, show, show_function, show_type, when}
 use Rattle.read_follow.specs.declared.names.ExternName.{ExternName}
-use Rattle.read_follow.specs.ExternNames.{raw_name}
-use Rattle.read_follow.specs.Following.{Halts, Steps}
-use Rattle.read_follow.specs.InstanceScopes.{state_of}
-use Rattle.read_follow.proofs.FollowingLaws.{halts_as, if_err, on_ok, steps_as}
-use Rattle.read_follow.proofs.ShowLaws.{as_type}
+use Rattle.read_follow.specs.{ExternNames.raw_name, Following.Halts, Following.Steps, InstanceScopes.state_of}
+use Rattle.read_follow.proofs.{FollowingLaws.halts_as, FollowingLaws.if_err, FollowingLaws.on_ok, FollowingLaws.steps_as, ShowLaws.as_type}
 use Rattle.read_follow.proofs.shows.show.Goals as goal
 
 -- what the definition does with an export

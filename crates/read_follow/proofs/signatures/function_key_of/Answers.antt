@@ -1,13 +1,10 @@
 use Rattle.std.proofs.Common.{◌≡◌, subst, refl, ℕ, List, Some, map}
 use Rattle.std.specs.Borrow.{Bor}
-use Rattle.wit_model.specs.Meaning.{Signature}
-use Rattle.wit_model.specs.Tree.{Tree}
+use Rattle.wit_model.specs.{Meaning.Signature, Tree.Tree}
 use Rattle.comp_bytes.specs.declared.forms.ComponentValType.{ComponentValType}
 use Rattle.comp_bytes.specs.RawOf.{labeled, raw_function}
 use Rattle.comp_meaning.specs.Follow.{each, field_type}
-use Rattle.read_follow.specs.Found.{Refuses}
-use Rattle.read_follow.specs.Functions.{function_shape, param_of, param_tree}
-use Rattle.read_follow.specs.Slots.{slots_in}
+use Rattle.read_follow.specs.{Found.Refuses, Functions.function_shape, Functions.param_of, Functions.param_tree, Slots.slots_in}
 use Rattle.read_follow.proofs.FunctionKeyLaws.{no_outcome, no_params, outcome_in, signature_is}
 use Rattle.read_follow.proofs.signatures.function_key_of.Goals as goal
 

@@ -1,7 +1,6 @@
 use Rattle.std.proofs.Common.{ℕ, ◌+◌, ◌<◌, map}
 use Rattle.std.specs.List.{AllByRecursion}
-use Rattle.read_follow.specs.Functions.{param_of}
-use Rattle.read_follow.specs.Slots.{AreInRange}
+use Rattle.read_follow.specs.{Functions.param_of, Slots.AreInRange}
 use Rattle.read_follow.proofs.FunctionKeyLaws.{ParamsSoFar}
 use Rattle.read_follow.proofs.signatures.params_of.Given as goal
 

@@ -1,7 +1,6 @@
 use Rattle.comp_bytes.specs.Reading.{sequence_at}
 use Rattle.read_follow.specs.Bodies.{behind}
-use Rattle.read_follow.proofs.Refusing.{refused}
-use Rattle.read_follow.proofs.SkipLaws.{skip_one, skip_none, skip_all}
+use Rattle.read_follow.proofs.{Refusing.refused, SkipLaws.skip_one, SkipLaws.skip_none, SkipLaws.skip_all}
 use Rattle.read_follow.proofs.skips.skip_each.Goals as goal
 
 pub returns-in-Err : goal.returns-in-Err

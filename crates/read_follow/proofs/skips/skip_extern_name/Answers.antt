@@ -1,8 +1,7 @@
 use Rattle.std.proofs.Common.{ap}
 use Rattle.comp_bytes.specs.Reading.{extern_name_at}
 use Rattle.read_follow.specs.Bodies.{behind}
-use Rattle.read_follow.proofs.Refusing.{refused}
-use Rattle.read_follow.proofs.SkipLaws.{plain_skipped}
+use Rattle.read_follow.proofs.{Refusing.refused, SkipLaws.plain_skipped}
 use Rattle.read_follow.proofs.skips.skip_extern_name.Goals as goal
 
 pub returns-then-first-eq0 : goal.returns-then-first-eq0

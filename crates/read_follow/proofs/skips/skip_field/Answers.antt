@@ -1,8 +1,7 @@
 use Rattle.std.proofs.Common.{None, Some}
 use Rattle.comp_bytes.specs.Reading.{field_at, name_at}
 use Rattle.read_follow.specs.Bodies.{behind}
-use Rattle.read_follow.proofs.Refusing.{refused}
-use Rattle.read_follow.proofs.SkipLaws.{field_passed}
+use Rattle.read_follow.proofs.{Refusing.refused, SkipLaws.field_passed}
 use Rattle.read_follow.proofs.skips.skip_field.Goals as goal
 
 pub returns-in-Ok : goal.returns-in-Ok

@@ -1,9 +1,7 @@
 use Rattle.std.proofs.Common.{ap}
-use Rattle.comp_bytes.specs.FirstByte.{function_type_at}
-use Rattle.comp_bytes.specs.Reading.{field_at, result_list_at, vector_at}
+use Rattle.comp_bytes.specs.{FirstByte.function_type_at, Reading.field_at, Reading.result_list_at, Reading.vector_at}
 use Rattle.read_follow.specs.Bodies.{behind}
-use Rattle.read_follow.proofs.Refusing.{refused}
-use Rattle.read_follow.proofs.SkipLaws.{function_cut, function_skipped, function_unended}
+use Rattle.read_follow.proofs.{Refusing.refused, SkipLaws.function_cut, SkipLaws.function_skipped, SkipLaws.function_unended}
 use Rattle.read_follow.proofs.skips.skip_function.Goals as goal
 
 pub returns-in-Ok-result_list_of : goal.returns-in-Ok-result_list_of

@@ -1,8 +1,7 @@
 use Rattle.std.proofs.Common.{◌∙◌, ap, None, Some}
 use Rattle.comp_bytes.specs.Reading.{description_at, extern_name_at, pair_at}
 use Rattle.read_follow.specs.Bodies.{behind}
-use Rattle.read_follow.proofs.Refusing.{refused}
-use Rattle.read_follow.proofs.SkipLaws.{seen_passed}
+use Rattle.read_follow.proofs.{Refusing.refused, SkipLaws.seen_passed}
 use Rattle.read_follow.proofs.skips.skip_seen.Goals as goal
 
 pub returns-in-Ok-description_of : goal.returns-in-Ok-description_of

@@ -1,8 +1,7 @@
 use Rattle.std.proofs.Common.{ap, ◌∙◌, sym, Some, None}
 use Rattle.comp_bytes.specs.Reading.{type_index_at, value_type_at}
 use Rattle.read_follow.specs.Bodies.{behind}
-use Rattle.read_follow.proofs.Refusing.{refused}
-use Rattle.read_follow.proofs.ValueLaws.{no_value, value_primitive, value_index}
+use Rattle.read_follow.proofs.{Refusing.refused, ValueLaws.no_value, ValueLaws.value_primitive, ValueLaws.value_index}
 use Rattle.read_follow.proofs.skips.skip_value.Goals as goal
 
 pub returns-in_default : goal.returns-in_default

@@ -1,8 +1,7 @@
 use Rattle.std.proofs.Common.{ap, Some, None}
 use Rattle.comp_bytes.specs.Reading.{u32_at, vector_at}
 use Rattle.read_follow.specs.Bodies.{behind}
-use Rattle.read_follow.proofs.Refusing.{refused}
-use Rattle.read_follow.proofs.SkipLaws.{vector_found}
+use Rattle.read_follow.proofs.{Refusing.refused, SkipLaws.vector_found}
 use Rattle.read_follow.proofs.skips.skip_vector.Goals as goal
 
 pub returns-in-Ok : goal.returns-in-Ok

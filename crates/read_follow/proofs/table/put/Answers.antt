@@ -1,15 +1,12 @@
 use Rattle.std.proofs.Common.{◌≡◌, ◌∙◌, ap, sym, subst, refl, false, List, [], ◌∷◌, ◌++◌, map, Some}
-use Rattle.std.specs.List.{list_any}
 use Rattle.std.proofs.lemmas.Bool.{not-true}
+use Rattle.std.specs.List.{list_any}
 use Rattle.read_follow.specs.declared.facts.Fact.{Fact}
-use Rattle.read_follow.specs.Facts.{IsKept}
+use Rattle.read_follow.specs.{Facts.IsKept, KeyShapes.shape_of}
 use Rattle.plan_meaning.specs.Shapes.{Shape}
-use Rattle.read_follow.specs.KeyShapes.{shape_of}
-use Rattle.read_follow.proofs.AddLaws.{adds, fresh_key, grown}
-use Rattle.read_follow.proofs.KeyLaws.{same_key, key_same, key_again}
-use Rattle.read_follow.proofs.TableGrowth.{kept_more}
-use Rattle.read_follow.proofs.table.put.Goals as goal
+use Rattle.read_follow.proofs.{AddLaws.adds, AddLaws.fresh_key, AddLaws.grown, KeyLaws.same_key, KeyLaws.key_same, KeyLaws.key_again, TableGrowth.kept_more}
 use Rattle.base_lemmas.proofs.Lists.{mapped_get}
+use Rattle.read_follow.proofs.table.put.Goals as goal
 
 pub returns-then-not-is_new-clause-found : goal.returns-then-not-is_new-clause-found
 returns-then-not-is_new-clause-found c =

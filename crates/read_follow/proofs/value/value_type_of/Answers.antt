@@ -1,7 +1,6 @@
 use Rattle.std.proofs.Common.{◌∙◌, ap, sym, Some, None}
 use Rattle.comp_bytes.specs.Reading.{value_type_at, type_index_at}
-use Rattle.read_follow.proofs.ValueLaws.{no_value, value_primitive, value_index}
-use Rattle.read_follow.proofs.Refusing.{refused}
+use Rattle.read_follow.proofs.{ValueLaws.no_value, ValueLaws.value_primitive, ValueLaws.value_index, Refusing.refused}
 use Rattle.read_follow.proofs.value.value_type_of.Goals as goal
 
 pub returns-in_default : goal.returns-in_default

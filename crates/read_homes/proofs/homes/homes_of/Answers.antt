@@ -1,5 +1,4 @@
-use Rattle.read_homes.proofs.HomeLaws.{all_homes, more_homes, more_in_order, more_reasons}
-use Rattle.read_homes.proofs.PackageLaws.{grows_on}
+use Rattle.read_homes.proofs.{HomeLaws.all_homes, HomeLaws.more_homes, HomeLaws.more_in_order, HomeLaws.more_reasons, PackageLaws.grows_on}
 use Rattle.read_homes.proofs.homes.homes_of.Goals as goal
 
 pub loop-path-preserved : goal.loop-path-preserved

@@ -1,7 +1,6 @@
 use Rattle.std.proofs.Common.{◌≡◌, ◌<◌, ◌∙◌, ap, arith, length, slice_get, unwrap_or, None, rules}
 use Rattle.read_rules.specs.Tables.{given_text}
-use Rattle.read_numbers.proofs.LoopLaws.{made_more}
-use Rattle.read_numbers.proofs.PlaceNumbers.{path_here}
+use Rattle.read_numbers.proofs.{LoopLaws.made_more, PlaceNumbers.path_here}
 use Rattle.read_numbers.proofs.places.paths_of.Goals as goal
 
 pub loop-number-preserved : goal.loop-number-preserved

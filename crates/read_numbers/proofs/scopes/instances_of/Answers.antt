@@ -1,10 +1,8 @@
 use Rattle.std.proofs.Common.{◌∙◌, ap, get_or, map, refl, slice_get, unwrap_or}
 use Rattle.read_rules.specs.declared.scopes.Instance.{Instance}
-use Rattle.read_rules.specs.Scopes.{numbered_instance}
-use Rattle.read_rules.specs.Views.{numbered_view}
+use Rattle.read_rules.specs.{Scopes.numbered_instance, Views.numbered_view}
 use Rattle.read_numbers.specs.NumberedParts.{no_view, numbered_instance as followed_instance}
-use Rattle.read_numbers.proofs.LoopLaws.{made_more}
-use Rattle.read_numbers.proofs.PlaceNumbers.{instance_here}
+use Rattle.read_numbers.proofs.{LoopLaws.made_more, PlaceNumbers.instance_here}
 use Rattle.read_numbers.proofs.scopes.instances_of.Goals as goal
 
 pub loop-number-preserved : goal.loop-number-preserved

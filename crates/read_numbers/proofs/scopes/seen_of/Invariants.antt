@@ -1,8 +1,6 @@
 use Rattle.std.proofs.Common.{◌≡◌, map, take}
 use Rattle.read_rules.specs.Scopes.{numbered_seen}
-use Rattle.read_numbers.specs.ImportParts.{part_followed, part_seen}
-use Rattle.read_numbers.specs.NumberedParts.{numbered_seen as followed_seen}
-use Rattle.read_numbers.specs.OwnedViews.{owned_view}
+use Rattle.read_numbers.specs.{ImportParts.part_followed, ImportParts.part_seen, NumberedParts.numbered_seen as followed_seen, OwnedViews.owned_view}
 use Rattle.read_numbers.proofs.scopes.seen_of.Given as goal
 
 abbrev pub invariant-loop-one : goal.invariant-loop-one

@@ -1,6 +1,5 @@
 use Rattle.std.proofs.Common.{◌≡◌, map, take}
-use Rattle.read_numbers.specs.OwnedViews.{owned_view}
-use Rattle.read_numbers.specs.NumberedParts.{instance_view}
+use Rattle.read_numbers.specs.{OwnedViews.owned_view, NumberedParts.instance_view}
 use Rattle.read_numbers.proofs.views.views_of.Given as goal
 
 abbrev pub invariant-loop-instance : goal.invariant-loop-instance

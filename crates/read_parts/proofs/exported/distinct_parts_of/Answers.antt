@@ -4,8 +4,7 @@ use Rattle.comp_bytes.specs.Levels.{PartType}
 use Rattle.read_follow.specs.Found.{Gives}
 use Rattle.comp_meaning.specs.Follow.{each}
 use Rattle.read_parts.specs.declared.tops.Exported.{Exported}
-use Rattle.read_parts.specs.Exported.{part_under, raw_exported}
-use Rattle.read_parts.specs.Tops.{label_and_number, top_of}
+use Rattle.read_parts.specs.{Exported.part_under, Exported.raw_exported, Tops.label_and_number, Tops.top_of}
 use Rattle.read_parts.proofs.TopLaws.{distinct_is}
 use Rattle.read_parts.proofs.exported.distinct_parts_of.Goals as goal
 

@@ -3,12 +3,10 @@ use Rattle.std.proofs.lemmas.List.{map-append}
 use Rattle.comp_meaning.specs.Follow.{each}
 use Rattle.read_follow.specs.PartTypes.{IsWholePart}
 use Rattle.read_parts.specs.declared.exported.ExportedPart.{ExportedPart}
-use Rattle.read_parts.specs.Exported.{part_under, raw_exported}
-use Rattle.read_parts.specs.Members.{with_front}
-use Rattle.read_parts.specs.Tops.{label_and_number, top_of}
+use Rattle.read_parts.specs.{Exported.part_under, Exported.raw_exported, Members.with_front, Tops.label_and_number, Tops.top_of}
 use Rattle.read_parts.proofs.ExportLaws.{each_more}
-use Rattle.read_parts.proofs.exported.parts_of.Goals as goal
 use Rattle.base_lemmas.proofs.Elements.{all_end}
+use Rattle.read_parts.proofs.exported.parts_of.Goals as goal
 
 pub loop-export-preserved : goal.loop-export-preserved
 loop-export-preserved c =

@@ -2,9 +2,7 @@ use Rattle.std.proofs.Common.{◌≡◌, drop, map}
 use Rattle.std.specs.List.{AllByRecursion}
 use Rattle.comp_meaning.specs.Follow.{each}
 use Rattle.read_follow.specs.PartTypes.{IsWholePart}
-use Rattle.read_parts.specs.Exported.{part_under, raw_exported}
-use Rattle.read_parts.specs.Members.{with_front}
-use Rattle.read_parts.specs.Tops.{label_and_number, top_of}
+use Rattle.read_parts.specs.{Exported.part_under, Exported.raw_exported, Members.with_front, Tops.label_and_number, Tops.top_of}
 use Rattle.read_parts.proofs.exported.parts_of.Given as goal
 
 abbrev pub invariant-loop-export : goal.invariant-loop-export

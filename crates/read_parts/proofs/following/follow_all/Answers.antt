@@ -1,8 +1,7 @@
 use Rattle.std.proofs.Common.{◌∙◌, ap, sym, arith, length, map, List}
 use Rattle.plan_meaning.specs.Shapes.{Shape}
 use Rattle.read_parts.specs.Exported.{raw_exported}
-use Rattle.read_parts.proofs.InputLaws.{some_there}
-use Rattle.read_parts.proofs.MemberLaws.{whole_meant}
+use Rattle.read_parts.proofs.{InputLaws.some_there, MemberLaws.whole_meant}
 use Rattle.read_parts.proofs.following.follow_all.Goals as goal
 
 pub returns-in-Ok-clause-followed : goal.returns-in-Ok-clause-followed

@@ -3,9 +3,7 @@ use Rattle.wit_model.specs.Text.{Text}
 use Rattle.comp_bytes.specs.Levels.{PartType}
 use Rattle.comp_meaning.specs.Follow.{each}
 use Rattle.read_follow.proofs.SectionLaws.{alike}
-use Rattle.read_parts.specs.Exported.{raw_exported}
-use Rattle.read_parts.specs.Followed.{labelled_scope}
-use Rattle.read_parts.specs.Members.{AreFollowedTo, AreNumberedTo}
+use Rattle.read_parts.specs.{Exported.raw_exported, Followed.labelled_scope, Members.AreFollowedTo, Members.AreNumberedTo}
 use Rattle.read_parts.proofs.MemberLaws.{none_followed, one_absent, one_followed}
 use Rattle.read_parts.proofs.NumberedLaws.{none_left, none_numbered, one_numbered}
 use Rattle.read_parts.proofs.following.follow_each.Goals as goal

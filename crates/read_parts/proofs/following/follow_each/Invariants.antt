@@ -1,6 +1,5 @@
 use Rattle.std.proofs.Common.{drop, length, map}
-use Rattle.read_parts.specs.Exported.{raw_exported}
-use Rattle.read_parts.specs.Members.{AreFollowedTo, AreNumberedTo}
+use Rattle.read_parts.specs.{Exported.raw_exported, Members.AreFollowedTo, Members.AreNumberedTo}
 use Rattle.read_parts.proofs.following.follow_each.Given as goal
 
 abbrev pub invariant-loop-exported : goal.invariant-loop-exported

@@ -1,10 +1,7 @@
 use Rattle.std.proofs.Common.{subst, List, map, IfErr, IfOk}
-use Rattle.read_follow.specs.Found.{Refuses}
-use Rattle.read_follow.specs.Pieces.{raw_piece}
+use Rattle.read_follow.specs.{Found.Refuses, Pieces.raw_piece}
 use Rattle.read_parts.specs.declared.exported.ExportedPart.{ExportedPart}
-use Rattle.read_parts.specs.Exported.{raw_exported}
-use Rattle.read_parts.specs.Followed.{scopes_in}
-use Rattle.read_parts.specs.Input.{ArePartsFollowed}
+use Rattle.read_parts.specs.{Exported.raw_exported, Followed.scopes_in, Input.ArePartsFollowed}
 use Rattle.read_parts.proofs.InputLaws.{input_absent, input_followed, parts_absent}
 use Rattle.read_parts.proofs.following.follow_parts.Goals as goal
 

@@ -1,14 +1,10 @@
 use Rattle.std.proofs.Common.{sym, ap, ◌∙◌, subst, Option, Some}
 use Rattle.wit_model.specs.Text.{Text, text_of}
-use Rattle.comp_bytes.specs.Levels.{entry_at}
-use Rattle.comp_bytes.specs.Reading.{◌>>=◌}
-use Rattle.comp_meaning.specs.ByLevels.{entry_scope}
-use Rattle.comp_meaning.specs.Follow.{Scope as MeantScope}
-use Rattle.read_follow.specs.Bodies.{items_in}
-use Rattle.read_follow.specs.PartTypes.{raw_part_type}
+use Rattle.comp_bytes.specs.{Levels.entry_at, Reading.◌>>=◌}
+use Rattle.comp_meaning.specs.{ByLevels.entry_scope, Follow.Scope as MeantScope}
+use Rattle.read_follow.specs.{Bodies.items_in, PartTypes.raw_part_type}
 use Rattle.read_follow.specs.declared.part_types.PartType.{PartType}
-use Rattle.read_parts.specs.Followed.{interface, world}
-use Rattle.read_parts.specs.Members.{IsPartFollowed}
+use Rattle.read_parts.specs.{Followed.interface, Followed.world, Members.IsPartFollowed}
 use Rattle.read_parts.specs.declared.members.FollowedPart.TheVariants as followed
 use Rattle.read_parts.proofs.members.follow_part.Goals as goal
 

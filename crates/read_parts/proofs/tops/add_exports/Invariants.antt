@@ -1,6 +1,5 @@
 use Rattle.std.proofs.Common.{◌≡◌, drop, map}
-use Rattle.comp_meaning.specs.ByLevels.{top_export}
-use Rattle.comp_meaning.specs.Reads.{steps}
+use Rattle.comp_meaning.specs.{ByLevels.top_export, Reads.steps}
 use Rattle.read_follow.specs.Pieces.{raw_export}
 use Rattle.read_parts.specs.Tops.{top_of, AreTops}
 use Rattle.read_parts.proofs.tops.add_exports.Given as goal

@@ -1,6 +1,5 @@
 use Rattle.std.proofs.Common.{◌≡◌, drop, map}
-use Rattle.comp_meaning.specs.ByLevels.{top_part}
-use Rattle.comp_meaning.specs.Reads.{steps}
+use Rattle.comp_meaning.specs.{ByLevels.top_part, Reads.steps}
 use Rattle.read_follow.specs.PartTypes.{raw_part_type}
 use Rattle.read_parts.specs.Tops.{top_of, AreTops}
 use Rattle.read_parts.proofs.tops.add_types.Given as goal

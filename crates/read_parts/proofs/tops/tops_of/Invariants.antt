@@ -1,6 +1,5 @@
 use Rattle.std.proofs.Common.{◌≡◌, drop, map}
-use Rattle.comp_meaning.specs.ByLevels.{top_piece}
-use Rattle.comp_meaning.specs.Reads.{steps}
+use Rattle.comp_meaning.specs.{ByLevels.top_piece, Reads.steps}
 use Rattle.read_follow.specs.Pieces.{raw_piece}
 use Rattle.read_parts.specs.Tops.{empty_top, top_of, AreTops}
 use Rattle.read_parts.proofs.tops.tops_of.Given as goal

@@ -1,8 +1,7 @@
-use Rattle.std.proofs.Common.{sym, ap, ◌∙◌, not, map}
+use Rattle.std.proofs.{Common.sym, Common.ap, Common.◌∙◌, Common.not, Common.map, lemmas.Bool.and_left as first_no}
 use Rattle.read_rules.specs.Tables.{now_of, numbered_function_type}
 use Rattle.read_rules.proofs.FunctionLaws.{all_three, constructor_none, constructor_some, second_no}
 use Rattle.read_rules.proofs.functions.is_constructor.Goals as goal
-use Rattle.std.proofs.lemmas.Bool.{and_left as first_no}
 
 pub returns-then-not-function : goal.returns-then-not-function
 returns-then-not-function c =

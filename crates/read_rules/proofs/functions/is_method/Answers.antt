@@ -1,8 +1,7 @@
-use Rattle.std.proofs.Common.{sym, ◌∙◌, map}
+use Rattle.std.proofs.{Common.sym, Common.◌∙◌, Common.map, lemmas.Bool.and_left as first_no}
 use Rattle.read_rules.specs.Tables.{now_of, numbered_function_type}
 use Rattle.read_rules.proofs.FunctionLaws.{first_yes, method_none, method_some}
 use Rattle.read_rules.proofs.functions.is_method.Goals as goal
-use Rattle.std.proofs.lemmas.Bool.{and_left as first_no}
 
 pub returns-then-is_among : goal.returns-then-is_among
 returns-then-is_among c =

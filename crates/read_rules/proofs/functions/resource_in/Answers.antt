@@ -1,8 +1,7 @@
-use Rattle.std.proofs.Common.{sym, ◌∙◌}
+use Rattle.std.proofs.{Common.sym, Common.◌∙◌, lemmas.Bool.and_right as and_false}
 use Rattle.wit_model.specs.Text.{text_eq}
 use Rattle.read_rules.proofs.MemberNames.{last_dot, no_last_dot, no_mark, and_true}
 use Rattle.read_rules.proofs.functions.resource_in.Goals as goal
-use Rattle.std.proofs.lemmas.Bool.{and_right as and_false}
 
 pub returns-then-is_label : goal.returns-then-is_label
 returns-then-is_label c = λ r.

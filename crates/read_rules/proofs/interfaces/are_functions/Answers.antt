@@ -1,8 +1,5 @@
-use Rattle.std.proofs.Common.{sym, ◌∙◌, map}
-use Rattle.std.proofs.lemmas.List.Folds.{list_all-map}
-use Rattle.read_rules.specs.Interfaces.{may_stand}
-use Rattle.read_rules.specs.Tables.{now_of}
-use Rattle.read_rules.specs.Views.{numbered_function}
+use Rattle.std.proofs.{Common.sym, Common.◌∙◌, Common.map, lemmas.List.Folds.list_all-map}
+use Rattle.read_rules.specs.{Interfaces.may_stand, Tables.now_of, Views.numbered_function}
 use Rattle.read_rules.proofs.AllLaws.{all_pass, one_fails, one_passes}
 use Rattle.read_rules.proofs.interfaces.are_functions.Goals as goal
 

@@ -1,8 +1,6 @@
 use Rattle.std.proofs.Common.{◌≡◌, map, drop}
 use Rattle.std.specs.List.{list_all}
-use Rattle.read_rules.specs.Interfaces.{are_functions, may_stand}
-use Rattle.read_rules.specs.Tables.{now_of}
-use Rattle.read_rules.specs.Views.{numbered_function}
+use Rattle.read_rules.specs.{Interfaces.are_functions, Interfaces.may_stand, Tables.now_of, Views.numbered_function}
 use Rattle.read_rules.proofs.interfaces.are_functions.Given as goal
 
 -- those that are left decide

@@ -1,8 +1,6 @@
-use Rattle.std.proofs.Common.{sym}
-use Rattle.std.proofs.lemmas.List.Folds.{list_all-map}
+use Rattle.std.proofs.{Common.sym, lemmas.List.Folds.list_all-map}
 use Rattle.plan_meaning.specs.NumberedRules.{is_type}
-use Rattle.read_rules.specs.Tables.{known_in, numbered_tables}
-use Rattle.read_rules.specs.Views.{numbered_type}
+use Rattle.read_rules.specs.{Tables.known_in, Tables.numbered_tables, Views.numbered_type}
 use Rattle.read_rules.proofs.AllLaws.{all_pass, one_fails, one_passes}
 use Rattle.read_rules.proofs.interfaces.are_types.Goals as goal
 

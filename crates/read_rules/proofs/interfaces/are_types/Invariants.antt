@@ -1,8 +1,7 @@
 use Rattle.std.proofs.Common.{◌≡◌, map, drop}
 use Rattle.std.specs.List.{list_all}
 use Rattle.plan_meaning.specs.NumberedRules.{is_type}
-use Rattle.read_rules.specs.Tables.{known_in, numbered_tables}
-use Rattle.read_rules.specs.Views.{numbered_type}
+use Rattle.read_rules.specs.{Tables.known_in, Tables.numbered_tables, Views.numbered_type}
 use Rattle.read_rules.proofs.interfaces.are_types.Given as goal
 
 -- those that are left decide

@@ -1,6 +1,5 @@
 use Rattle.std.proofs.Common.{sym, ◌∙◌, map}
-use Rattle.read_rules.specs.Tables.{now_of}
-use Rattle.read_rules.specs.Views.{numbered_view}
+use Rattle.read_rules.specs.{Tables.now_of, Views.numbered_view}
 use Rattle.read_rules.proofs.InterfaceLaws.{functions_fail, names_decide, types_fail}
 use Rattle.read_rules.proofs.interfaces.is_interface.Goals as goal
 

@@ -1,7 +1,5 @@
-use Rattle.std.proofs.Common.{sym, ◌∙◌}
-use Rattle.std.proofs.lemmas.List.Folds.{list_all-map}
-use Rattle.read_rules.specs.Scopes.{numbered_seen}
-use Rattle.read_rules.specs.Worlds.{may_be_exported}
+use Rattle.std.proofs.{Common.sym, Common.◌∙◌, lemmas.List.Folds.list_all-map}
+use Rattle.read_rules.specs.{Scopes.numbered_seen, Worlds.may_be_exported}
 use Rattle.read_rules.proofs.AllLaws.{all_pass, one_fails, one_passes}
 use Rattle.read_rules.proofs.items.are_exports.Goals as goal
 

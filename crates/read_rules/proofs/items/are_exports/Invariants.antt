@@ -1,7 +1,6 @@
 use Rattle.std.proofs.Common.{◌≡◌, map, drop}
 use Rattle.std.specs.List.{list_all}
-use Rattle.read_rules.specs.Scopes.{numbered_seen}
-use Rattle.read_rules.specs.Worlds.{are_exports, may_be_exported}
+use Rattle.read_rules.specs.{Scopes.numbered_seen, Worlds.are_exports, Worlds.may_be_exported}
 use Rattle.read_rules.proofs.items.are_exports.Given as goal
 
 -- those that are left decide

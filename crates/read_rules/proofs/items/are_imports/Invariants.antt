@@ -1,8 +1,6 @@
 use Rattle.std.proofs.Common.{◌≡◌, [], map, drop, take}
 use Rattle.plan_meaning.specs.NumberedWorlds.{are_imports, resources_seen}
-use Rattle.read_rules.specs.Resources.{AreSame}
-use Rattle.read_rules.specs.Scopes.{numbered_seen}
-use Rattle.read_rules.specs.Tables.{known_in, now_of, numbered_tables}
+use Rattle.read_rules.specs.{Resources.AreSame, Scopes.numbered_seen, Tables.known_in, Tables.now_of, Tables.numbered_tables}
 use Rattle.read_rules.proofs.items.are_imports.Given as goal
 
 -- the resources are those that were seen, and the imports that are left decide

@@ -1,6 +1,4 @@
-use Rattle.std.proofs.Common.{sym, ◌∙◌, rules, tests}
-use Rattle.std.proofs.lemmas.Iterator.{YieldsList-from_slice}
-use Rattle.std.proofs.lemmas.Iterator.Search.{all_from_yields_List}
+use Rattle.std.proofs.{Common.sym, Common.◌∙◌, Common.rules, Common.tests, lemmas.Iterator.YieldsList-from_slice, lemmas.Iterator.Search.all_from_yields_List}
 use Rattle.std.proofs.lemmas.List.Folds.{list_all-map}
 use Rattle.plan_meaning.specs.NumberedRules.{is_parameter_type}
 use Rattle.read_rules.specs.Tables.{known_in, param_of}

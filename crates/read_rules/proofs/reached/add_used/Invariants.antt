@@ -1,8 +1,6 @@
 use Rattle.std.proofs.Common.{◌≡◌, ◌||◌, ℕ, map, drop}
 use Rattle.wit_model.specs.Uses.{has}
-use Rattle.read_rules.specs.Reached.{used_by_types}
-use Rattle.read_rules.specs.Tables.{numbered_tables}
-use Rattle.read_rules.specs.Views.{numbered_type}
+use Rattle.read_rules.specs.{Reached.used_by_types, Tables.numbered_tables, Views.numbered_type}
 use Rattle.read_rules.proofs.reached.add_used.Given as goal
 
 -- the places that were added and those that are left are all

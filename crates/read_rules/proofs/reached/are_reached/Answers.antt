@@ -1,6 +1,5 @@
 use Rattle.std.proofs.Common.{◌≡◌, ◌+◌, ◌<◌, ◌-◌, sym, arith, [], length, rules}
-use Rattle.read_rules.specs.Tables.{numbered_tables}
-use Rattle.read_rules.specs.Views.{numbered_view}
+use Rattle.read_rules.specs.{Tables.numbered_tables, Views.numbered_view}
 use Rattle.read_rules.proofs.ReachedLaws.{all_reached, import_missed, import_reached, none_behind}
 use Rattle.read_rules.proofs.reached.are_reached.Goals as goal
 

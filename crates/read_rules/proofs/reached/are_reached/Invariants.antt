@@ -1,9 +1,7 @@
 use Rattle.std.proofs.Common.{◌≡◌, ◌≤◌, ℕ, true, length, map, drop}
 use Rattle.wit_model.specs.Uses.{has}
 use Rattle.plan_meaning.specs.NumberedWorlds.{are_reached}
-use Rattle.read_rules.specs.Reached.{numbered_import}
-use Rattle.read_rules.specs.Tables.{numbered_tables}
-use Rattle.read_rules.specs.Views.{numbered_view}
+use Rattle.read_rules.specs.{Reached.numbered_import, Tables.numbered_tables, Views.numbered_view}
 use Rattle.read_rules.proofs.ReachedLaws.{used_behind}
 use Rattle.read_rules.proofs.reached.are_reached.Given as goal
 

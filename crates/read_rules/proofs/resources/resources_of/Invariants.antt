@@ -2,8 +2,7 @@ use Rattle.std.proofs.Common.{◌≡◌, ◌||◌, Bool, map, drop}
 use Rattle.std.specs.List.{list_any}
 use Rattle.wit_model.specs.Text.{Text}
 use Rattle.plan_meaning.specs.NumberedRules.{resources_of}
-use Rattle.read_rules.specs.Tables.{now_of}
-use Rattle.read_rules.specs.Views.{numbered_type}
+use Rattle.read_rules.specs.{Tables.now_of, Views.numbered_type}
 use Rattle.read_rules.proofs.resources.resources_of.Given as goal
 
 -- those that were seen and those that are left are all

@@ -1,9 +1,7 @@
 use Rattle.std.proofs.Common.{◌≡◌, ◌++◌, map, drop}
 use Rattle.std.specs.List.{flat_map}
 use Rattle.plan_meaning.specs.NumberedWorlds.{sights_of_instance}
-use Rattle.read_rules.specs.Scopes.{numbered_instance}
-use Rattle.read_rules.specs.Sights.{numbered_sight}
-use Rattle.read_rules.specs.Tables.{numbered_tables}
+use Rattle.read_rules.specs.{Scopes.numbered_instance, Sights.numbered_sight, Tables.numbered_tables}
 use Rattle.read_rules.proofs.sights.add_sights.Given as goal
 
 -- those that were added, and those of the instances that are left, are all

@@ -1,5 +1,4 @@
-use Rattle.std.proofs.Common.{sym, ◌∙◌}
-use Rattle.std.proofs.lemmas.List.Folds.{list_all-map}
+use Rattle.std.proofs.{Common.sym, Common.◌∙◌, lemmas.List.Folds.list_all-map}
 use Rattle.read_rules.specs.Sights.{numbered_sight, shows_interface}
 use Rattle.read_rules.proofs.AllLaws.{all_pass, one_fails, one_passes}
 use Rattle.read_rules.proofs.sights.are_interfaces.Goals as goal

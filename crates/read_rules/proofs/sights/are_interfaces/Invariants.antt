@@ -1,8 +1,7 @@
 use Rattle.std.proofs.Common.{◌≡◌, map, drop}
 use Rattle.std.specs.List.{list_all}
 use Rattle.plan_meaning.specs.NumberedMembers.{are_interfaces}
-use Rattle.read_rules.specs.Sights.{numbered_sight, shows_interface}
-use Rattle.read_rules.specs.Tables.{known_in, numbered_tables}
+use Rattle.read_rules.specs.{Sights.numbered_sight, Sights.shows_interface, Tables.known_in, Tables.numbered_tables}
 use Rattle.read_rules.proofs.sights.are_interfaces.Given as goal
 
 -- those that are left decide

@@ -1,7 +1,6 @@
 use Rattle.std.proofs.Common.{◌≡◌, ◌++◌, List, map, drop}
 use Rattle.plan_meaning.specs.NumberedWorlds.{NumberedSeen, stand_earlier}
-use Rattle.read_rules.specs.Scopes.{numbered_seen}
-use Rattle.read_rules.specs.Tables.{numbered_tables}
+use Rattle.read_rules.specs.{Scopes.numbered_seen, Tables.numbered_tables}
 use Rattle.read_rules.proofs.uses.stand_behind.Given as goal
 
 -- whatever comes behind, those that are left decide

@@ -1,6 +1,5 @@
 use Rattle.std.proofs.Common.{◌≡◌, [], map, rules}
-use Rattle.read_rules.specs.Scopes.{numbered_seen}
-use Rattle.read_rules.specs.Tables.{numbered_tables}
+use Rattle.read_rules.specs.{Scopes.numbered_seen, Tables.numbered_tables}
 use Rattle.read_rules.proofs.WorldLaws.{exports_decide, imports_late}
 use Rattle.read_rules.proofs.uses.stand_earlier.Goals as goal
 

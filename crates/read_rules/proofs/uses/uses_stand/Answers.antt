@@ -2,8 +2,7 @@ use Rattle.std.proofs.Common.{sym, ap, ◌∙◌}
 use Rattle.std.specs.List.{list_all}
 use Rattle.wit_model.specs.Uses.{has}
 use Rattle.plan_meaning.specs.NumberedWorlds.{others_than, used_by, uses_of}
-use Rattle.read_rules.specs.Scopes.{numbered_shown}
-use Rattle.read_rules.specs.Tables.{numbered_tables}
+use Rattle.read_rules.specs.{Scopes.numbered_shown, Tables.numbered_tables}
 use Rattle.read_rules.proofs.WorldLaws.{uses_along}
 use Rattle.read_rules.proofs.uses.uses_stand.Goals as goal
 

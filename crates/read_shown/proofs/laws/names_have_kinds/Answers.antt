@@ -1,5 +1,4 @@
-use Rattle.read_shown.proofs.MeaningKinds.{packages_have_kinds, worlds_have_kinds}
-use Rattle.read_shown.proofs.MemberKinds.{have_kinds}
+use Rattle.read_shown.proofs.{MeaningKinds.packages_have_kinds, MeaningKinds.worlds_have_kinds, MemberKinds.have_kinds}
 use Rattle.read_shown.proofs.laws.names_have_kinds.Goals as goal
 
 pub returns : goal.returns

@@ -1,9 +1,6 @@
 use Rattle.wit_bind.specs.Merges.{IsMergeRefusal, IsPlanOf}
-use Rattle.wit_bind.proofs.AsItWas.{kept_itself}
-use Rattle.wit_bind.proofs.Growing.{on_err, plan_addable}
-use Rattle.wit_bind.proofs.Growth.{merged_grows, merged_nothing}
+use Rattle.wit_bind.proofs.{AsItWas.kept_itself, Growing.on_err, Growing.plan_addable, Growth.merged_grows, Growth.merged_nothing, MatchedPaths.all-matched}
 use Rattle.wit_bind.proofs.Merging.{merged_answer, merged_bare, merged_brings, merged_are_the_union, merged_exports, merged_extend, merged_order}
-use Rattle.wit_bind.proofs.MatchedPaths.{all-matched}
 use Rattle.wit_bind.proofs.Outgrown.{refused-so}
 use Rattle.base_lemmas.proofs.Options.{passed as err_is}
 use Rattle.wit_bind.proofs.bindgen.merge_matched.Goals as goal

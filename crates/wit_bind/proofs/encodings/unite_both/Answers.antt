@@ -1,10 +1,8 @@
 use Rattle.std.proofs.Common.{◌≡◌, ap, subst, ◌∙◌}
 use Rattle.indexmap.specs.IndexMap.{insert_all}
 use Rattle.wit_model.specs.Text.{text_eq}
-use Rattle.wit_bind.specs.Encodings.{Encodings, kept_encodings}
-use Rattle.wit_bind.specs.Unions.{Gains}
-use Rattle.wit_bind.proofs.Conflicts.{gains}
-use Rattle.wit_bind.proofs.Kept.{Entries}
+use Rattle.wit_bind.specs.{Encodings.Encodings, Encodings.kept_encodings, Unions.Gains}
+use Rattle.wit_bind.proofs.{Conflicts.gains, Kept.Entries}
 use Rattle.wit_bind.proofs.encodings.unite_both.Goals as goal
 
 pub returns-clause-imports : goal.returns-clause-imports

@@ -1,8 +1,6 @@
 use Rattle.std.proofs.Common.{rules, ◌≡◌, ◌∙◌, None}
 use Rattle.std.specs.Option.{option_copied}
-use Rattle.wit_model.specs.Lookup.{canonical_identity_of}
-use Rattle.wit_model.specs.Names.{at_version}
-use Rattle.wit_model.specs.Text.{Text}
+use Rattle.wit_model.specs.{Lookup.canonical_identity_of, Names.at_version, Text.Text}
 use Rattle.wit_bind.proofs.KeyTexts.{then_none, then_some}
 use Rattle.wit_bind.proofs.keys.after_interface.Goals as goal
 

@@ -1,9 +1,6 @@
 use Rattle.std.proofs.Common.{rules, ◌≡◌, ap, ◌∙◌, None, ◌∷◌, [], ◌++◌}
 use Rattle.std.specs.Option.{option_copied}
-use Rattle.wit_model.specs.Lookup.{canonical_identity_of}
-use Rattle.wit_model.specs.Names.{at_version}
-use Rattle.wit_model.specs.Rules.{after_prefix}
-use Rattle.wit_model.specs.Text.{Text, text_of}
+use Rattle.wit_model.specs.{Lookup.canonical_identity_of, Names.at_version, Rules.after_prefix, Text.Text, Text.text_of}
 use Rattle.wit_bind.proofs.KeyTexts.{path_parts, then_none, then_some}
 use Rattle.wit_bind.proofs.keys.after_path.Goals as goal
 

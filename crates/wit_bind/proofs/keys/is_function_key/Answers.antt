@@ -1,8 +1,7 @@
 use Rattle.std.proofs.Common.{rules, ◌≡◌, sym, ap, ◌∙◌, ◌∷◌, Some, None, false}
 use Rattle.std.specs.Option.{option_map_or}
 use Rattle.wit_model.specs.Text.{text_eq}
-use Rattle.wit_bind.specs.Keys.{scope_of, text_under}
-use Rattle.wit_bind.specs.KeyTests.{after_scope}
+use Rattle.wit_bind.specs.{Keys.scope_of, Keys.text_under, KeyTests.after_scope}
 use Rattle.wit_bind.proofs.KeyTexts.{is_behind}
 use Rattle.wit_bind.proofs.keys.is_function_key.Goals as goal
 

@@ -2,11 +2,9 @@ use Rattle.std.proofs.Common.{rules, ◌≡◌, ap, ◌∙◌, subst, Option, So
 use Rattle.std.specs.Option.{option_copied}
 use Rattle.semver.specs.declared.Version.{Version}
 use Rattle.semver.specs.Identifiers.{parts_of}
-use Rattle.wit_model.specs.Names.{at_version, canonical_version}
-use Rattle.wit_model.specs.Rules.{after_prefix}
+use Rattle.wit_model.specs.{Names.at_version, Names.canonical_version, Rules.after_prefix}
 use Rattle.wit_bind.specs.Versions.{canonical_text}
-use Rattle.wit_bind.proofs.KeyTexts.{then_some}
-use Rattle.wit_bind.proofs.VersionTexts.{canonical_is}
+use Rattle.wit_bind.proofs.{KeyTexts.then_some, VersionTexts.canonical_is}
 use Rattle.wit_bind.proofs.versions.after_at_version.Goals as goal
 
 pub returns-in_ok-rest-in-Some : goal.returns-in_ok-rest-in-Some

@@ -1,6 +1,5 @@
 use Rattle.std.proofs.Common.{rules, ◌≡◌, ◌∙◌, None}
-use Rattle.std.specs.Prelude.{decimal}
-use Rattle.std.specs.Option.{option_copied}
+use Rattle.std.specs.{Prelude.decimal, Option.option_copied}
 use Rattle.wit_bind.proofs.KeyTexts.{then_none, then_some}
 use Rattle.wit_bind.proofs.versions.after_front.Goals as goal
 

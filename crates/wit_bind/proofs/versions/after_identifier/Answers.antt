@@ -1,8 +1,7 @@
 use Rattle.std.proofs.Common.{rules, ◌≡◌, sym, ap, ◌∙◌, None}
 use Rattle.std.specs.Option.{option_copied}
 use Rattle.wit_model.specs.Rules.{after_prefix}
-use Rattle.wit_bind.proofs.KeyTexts.{then_none, then_some}
-use Rattle.wit_bind.proofs.VersionTexts.{marked_filled}
+use Rattle.wit_bind.proofs.{KeyTexts.then_none, KeyTexts.then_some, VersionTexts.marked_filled}
 use Rattle.wit_bind.proofs.versions.after_identifier.Goals as goal
 
 pub returns-in_err-rest : goal.returns-in_err-rest

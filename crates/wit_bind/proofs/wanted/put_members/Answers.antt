@@ -1,6 +1,5 @@
 use Rattle.std.proofs.Common.{rules, ◌≡◌, None}
-use Rattle.wit_bind.specs.Choices.{choice_of}
-use Rattle.wit_bind.specs.Keys.{scope_of}
+use Rattle.wit_bind.specs.{Choices.choice_of, Keys.scope_of}
 use Rattle.wit_bind.proofs.Putting.{puts_no_members}
 use Rattle.wit_bind.proofs.wanted.put_members.Goals as goal
 

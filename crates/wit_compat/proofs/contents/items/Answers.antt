@@ -1,7 +1,5 @@
-use Rattle.std.proofs.Common.{rules, arith, refl, subst}
-use Rattle.std.specs.List.{Contains}
-use Rattle.std.specs.Map.Iter.{deref_pair}
-use Rattle.std.proofs.lemmas.Map.Iter.{rest_all, rest_more}
+use Rattle.std.proofs.{Common.rules, Common.arith, Common.refl, Common.subst, lemmas.Map.Iter.rest_all, lemmas.Map.Iter.rest_more}
+use Rattle.std.specs.{List.Contains, Map.Iter.deref_pair}
 use Rattle.wit_compat.proofs.WorldContents.{all_made, nothing_made, put_in_range, put_split, rest_in_range}
 use Rattle.wit_compat.proofs.contents.items.Goals as goal
 

@@ -1,13 +1,9 @@
 use Rattle.std.proofs.Common.{rules, ◌≡◌, refl, sym, ◌∙◌, length, map}
-use Rattle.std.specs.Borrow.{Bor}
-use Rattle.std.specs.Map.Iter.{deref_pair}
-use Rattle.std.proofs.Math.ListN.{length-map}
-use Rattle.std.proofs.lemmas.Map.Iter.{rest_all, rest_more}
+use Rattle.std.proofs.{Math.ListN.length-map, lemmas.Map.Iter.rest_all, lemmas.Map.Iter.rest_more}
+use Rattle.std.specs.{Borrow.Bor, Map.Iter.deref_pair}
 use Rattle.indexmap.specs.IndexMap.{keys}
 use Rattle.wit_model.specs.declared.model.WorldItem.{WorldItem}
-use Rattle.wit_model.specs.Meaning.{entry_sense}
-use Rattle.wit_model.specs.Meant.{entry_meaning}
-use Rattle.wit_model.specs.Text.{text_of}
+use Rattle.wit_model.specs.{Meaning.entry_sense, Meant.entry_meaning, Text.text_of}
 use Rattle.wit_model.proofs.AnyOrder.{distinct-texts}
 use Rattle.wit_compat.proofs.SameMaps.{at_end, entry, from_start, lengths_differ, next_there, not_found, one_more, under_is}
 use Rattle.wit_compat.proofs.Sided.{never, not_same}

@@ -1,17 +1,11 @@
 use Rattle.std.proofs.Common.{◌≡◌, sym, ap, subst, ◌∙◌, Some, None, IfSome}
-use Rattle.std.specs.Borrow.{Bor}
-use Rattle.std.specs.HashMap.{get_by_text}
-use Rattle.std.specs.List.{IsAmong}
-use Rattle.std.specs.Option.{option_copied}
+use Rattle.std.specs.{Borrow.Bor, HashMap.get_by_text, List.IsAmong, Option.option_copied}
 use Rattle.indexmap.specs.IndexMap.{values}
 use Rattle.wit_model.specs.declared.model.WorldItem.{WorldItem}
-use Rattle.wit_model.specs.Meaning.{entry_sense}
-use Rattle.wit_model.specs.Meant.{entry_meaning}
-use Rattle.wit_model.specs.Text.{text_of}
-use Rattle.wit_compat.proofs.Members.{among_contains, found_exact, missing_exact}
-use Rattle.wit_compat.proofs.WorldContents.{value_in_range}
-use Rattle.wit_compat.proofs.contents.same_item_under.Goals as goal
+use Rattle.wit_model.specs.{Meaning.entry_sense, Meant.entry_meaning, Text.text_of}
+use Rattle.wit_compat.proofs.{Members.among_contains, Members.found_exact, Members.missing_exact, WorldContents.value_in_range}
 use Rattle.base_lemmas.proofs.Options.{if_ok as in_ok}
+use Rattle.wit_compat.proofs.contents.same_item_under.Goals as goal
 
 pub same_items-requires-clause-b : goal.same_items-requires-clause-b
 same_items-requires-clause-b c =

@@ -1,8 +1,7 @@
 use Rattle.std.proofs.Common.{rules}
-use Rattle.wit_compat.proofs.Sided.{never, not_same}
-use Rattle.wit_compat.proofs.WorldContents.{contents_exact, imports_back}
-use Rattle.wit_compat.proofs.contents.same_worlds.Goals as goal
+use Rattle.wit_compat.proofs.{Sided.never, Sided.not_same, WorldContents.contents_exact, WorldContents.imports_back}
 use Rattle.base_lemmas.proofs.Options.{if_ok as in_ok}
+use Rattle.wit_compat.proofs.contents.same_worlds.Goals as goal
 
 pub returns-then-not-branch-clause-exact : goal.returns-then-not-branch-clause-exact
 returns-then-not-branch-clause-exact c =

@@ -1,6 +1,5 @@
 use Rattle.std.proofs.Common.{sym, subst}
-use Rattle.wit_compat.specs.Table.{AllInRange}
-use Rattle.wit_compat.specs.TwoSides.{AreParted, TellsDeclared}
+use Rattle.wit_compat.specs.{Table.AllInRange, TwoSides.AreParted, TwoSides.TellsDeclared}
 use Rattle.wit_compat.proofs.declarations.same_declarations.Goals as goal
 
 pub same_types-requires-clause-xs : goal.same_types-requires-clause-xs

@@ -1,8 +1,7 @@
-use Rattle.std.proofs.Common.{rules, refl}
-use Rattle.std.proofs.lemmas.Option.{slice_get_read}
+use Rattle.std.proofs.{Common.rules, Common.refl, lemmas.Option.slice_get_read}
 use Rattle.wit_compat.proofs.Declared.{meanings}
-use Rattle.wit_compat.proofs.declarations.same_type_meanings.Goals as goal
 use Rattle.base_lemmas.proofs.Options.{if_ok as in_ok}
+use Rattle.wit_compat.proofs.declarations.same_type_meanings.Goals as goal
 
 pub same_declarations-requires-clause-a : goal.same_declarations-requires-clause-a
 same_declarations-requires-clause-a c = (c.args.a.0, c.index-def.result.now, slice_get_read _ _ _ _ refl c.requires.a c.index-def.ensures, refl)

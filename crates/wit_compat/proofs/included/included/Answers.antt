@@ -1,12 +1,7 @@
 use Rattle.std.proofs.Common.{rules, arith, ◌≡◌, sym, ap, subst, ◌∙◌, ◌+◌, ◌<◌, ◌≤◌, ◌++◌, ◌∷◌, [], map, take, drop, length}
+use Rattle.std.proofs.lemmas.{List.take_more, List.take_all, List.Elements.Contains-get_or}
 use Rattle.std.specs.List.{Contains}
-use Rattle.std.proofs.lemmas.List.{take_more, take_all}
-use Rattle.std.proofs.lemmas.List.Elements.{Contains-get_or}
-use Rattle.wit_compat.specs.Compatible.{IsFaultOf}
-use Rattle.wit_compat.specs.Flat.{all_shown}
-use Rattle.wit_compat.specs.Index.{indexed}
-use Rattle.wit_compat.specs.Parts.{named_thing}
-use Rattle.wit_compat.specs.Walk.{pairs_shared}
+use Rattle.wit_compat.specs.{Compatible.IsFaultOf, Flat.all_shown, Index.indexed, Parts.named_thing, Walk.pairs_shared}
 use Rattle.wit_compat.proofs.Including.{AllStand, all_hold, all_included, first_fault, reached_more, split_at, stand_more}
 use Rattle.wit_compat.proofs.Signatures.{reached_none}
 use Rattle.wit_compat.proofs.included.included.Goals as goal

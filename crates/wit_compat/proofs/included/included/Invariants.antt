@@ -1,8 +1,5 @@
 use Rattle.std.proofs.Common.{◌++◌, map, take}
-use Rattle.wit_compat.specs.Index.{indexed}
-use Rattle.wit_compat.specs.Parts.{named_thing}
-use Rattle.wit_compat.specs.Walk.{pairs_shared}
-use Rattle.wit_compat.specs.Table.{AreAmong, AreReached, IsSettled}
+use Rattle.wit_compat.specs.{Index.indexed, Parts.named_thing, Walk.pairs_shared, Table.AreAmong, Table.AreReached, Table.IsSettled}
 use Rattle.wit_compat.proofs.Including.{AllStand}
 use Rattle.wit_compat.proofs.included.included.Given as goal
 

@@ -1,13 +1,10 @@
 use Rattle.std.proofs.Common.{◌≡◌, sym, ap, subst, ◌∙◌, Some, None, IfSome}
-use Rattle.std.specs.HashMap.{get_by_text}
-use Rattle.std.specs.List.{IsAmong}
-use Rattle.std.specs.Option.{option_copied}
+use Rattle.std.specs.{HashMap.get_by_text, List.IsAmong, Option.option_copied}
 use Rattle.indexmap.specs.IndexMap.{values}
-use Rattle.wit_model.specs.Meant.{function_meaning}
-use Rattle.wit_model.specs.Text.{text_of}
+use Rattle.wit_model.specs.{Meant.function_meaning, Text.text_of}
 use Rattle.wit_compat.proofs.Members.{among_contains, found_exact, missing_exact}
-use Rattle.wit_compat.proofs.interfaces.same_function_under.Goals as goal
 use Rattle.base_lemmas.proofs.Options.{if_ok as in_ok}
+use Rattle.wit_compat.proofs.interfaces.same_function_under.Goals as goal
 
 pub same_function_senses-requires-clause-g : goal.same_function_senses-requires-clause-g
 same_function_senses-requires-clause-g c =

@@ -1,9 +1,7 @@
-use Rattle.std.proofs.Common.{refl}
-use Rattle.std.proofs.lemmas.Option.{slice_get_read}
-use Rattle.wit_compat.proofs.Members.{interfaces_exact}
-use Rattle.wit_compat.proofs.Ranges.{has_types}
-use Rattle.wit_compat.proofs.interfaces.same_interfaces.Goals as goal
+use Rattle.std.proofs.{Common.refl, lemmas.Option.slice_get_read}
+use Rattle.wit_compat.proofs.{Members.interfaces_exact, Ranges.has_types}
 use Rattle.base_lemmas.proofs.Options.{if_ok as in_ok}
+use Rattle.wit_compat.proofs.interfaces.same_interfaces.Goals as goal
 
 pub same_members-requires-clause-a : goal.same_members-requires-clause-a
 same_members-requires-clause-a c = has_types c.args.left.now.resolve.now c.requires.left.valid c.args.a.0 c.index-interface.result.now

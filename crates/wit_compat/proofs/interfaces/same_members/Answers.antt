@@ -1,8 +1,7 @@
 use Rattle.std.proofs.Common.{rules}
-use Rattle.wit_compat.proofs.Members.{members_exact, types_back}
-use Rattle.wit_compat.proofs.Sided.{never, not_same}
-use Rattle.wit_compat.proofs.interfaces.same_members.Goals as goal
+use Rattle.wit_compat.proofs.{Members.members_exact, Members.types_back, Sided.never, Sided.not_same}
 use Rattle.base_lemmas.proofs.Options.{if_ok as in_ok}
+use Rattle.wit_compat.proofs.interfaces.same_members.Goals as goal
 
 pub returns-then-not-branch-clause-exact : goal.returns-then-not-branch-clause-exact
 returns-then-not-branch-clause-exact c =

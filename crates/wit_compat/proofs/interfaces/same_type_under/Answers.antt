@@ -1,14 +1,11 @@
 use Rattle.std.proofs.Common.{◌≡◌, sym, ap, subst, ◌∙◌, Some, None, IfSome}
-use Rattle.std.specs.HashMap.{get_by_text}
-use Rattle.std.specs.List.{IsAmong}
-use Rattle.std.specs.Option.{option_copied}
+use Rattle.std.specs.{HashMap.get_by_text, List.IsAmong, Option.option_copied}
 use Rattle.indexmap.specs.IndexMap.{values}
 use Rattle.wit_model.specs.declared.model.TypeId.{TypeId}
-use Rattle.wit_model.specs.Meant.{type_meaning_at}
-use Rattle.wit_model.specs.Text.{text_of}
+use Rattle.wit_model.specs.{Meant.type_meaning_at, Text.text_of}
 use Rattle.wit_compat.proofs.Members.{among_contains, found_exact, missing_exact}
-use Rattle.wit_compat.proofs.interfaces.same_type_under.Goals as goal
 use Rattle.base_lemmas.proofs.Options.{if_ok as in_ok}
+use Rattle.wit_compat.proofs.interfaces.same_type_under.Goals as goal
 
 pub same_type_meanings-requires-clause-b : goal.same_type_meanings-requires-clause-b
 same_type_meanings-requires-clause-b c =

@@ -1,9 +1,7 @@
-use Rattle.std.proofs.Common.{refl, sym, ◌∙◌}
+use Rattle.std.proofs.{Common.refl, Common.sym, Common.◌∙◌, lemmas.Option.slice_get_read}
 use Rattle.std.specs.List.{Contains}
-use Rattle.std.proofs.lemmas.Option.{slice_get_read}
 use Rattle.indexmap.proofs.CallerLemmas.{Contains-list_any}
-use Rattle.wit_compat.proofs.Growing.{same_pair}
-use Rattle.wit_compat.proofs.Sided.{both_named, first_named, second_named, looked, never}
+use Rattle.wit_compat.proofs.{Growing.same_pair, Sided.both_named, Sided.first_named, Sided.second_named, Sided.looked, Sided.never}
 use Rattle.wit_compat.proofs.look.look_up.Goals as goal
 
 pub returns-then-is_some-2 : goal.returns-then-is_some-2

@@ -1,9 +1,8 @@
-use Rattle.std.proofs.Common.{◌≡◌, subst, true, ◌&&◌}
+use Rattle.std.proofs.{Common.◌≡◌, Common.subst, Common.true, Common.◌&&◌, lemmas.Map.Iter.rest_more}
 use Rattle.std.specs.Map.Iter.{deref_pair}
-use Rattle.std.proofs.lemmas.Map.Iter.{rest_more}
 use Rattle.wit_model.specs.Rules.{entries_in_range, item_in_range, key_in_range}
-use Rattle.wit_compat.proofs.names.add_keys.Goals as goal
 use Rattle.base_lemmas.proofs.Bools.{left_of as first_true, right_of as second_true}
+use Rattle.wit_compat.proofs.names.add_keys.Goals as goal
 
 pub key_text-requires-clause-in_range : goal.key_text-requires-clause-in_range
 key_text-requires-clause-in_range c =

@@ -1,8 +1,7 @@
 use Rattle.std.proofs.Common.{rules, arith, ◌≡◌, sym, ap, ◌∙◌, ◌<◌, ◌+◌, suc, ◌++◌, ◌∷◌, [], length, map, take}
 use Rattle.std.proofs.lemmas.List.{map-append}
 use Rattle.wit_model.specs.Text.{text_of}
-use Rattle.wit_compat.specs.Opened.{interface_name}
-use Rattle.wit_compat.specs.Outline.{names_from}
+use Rattle.wit_compat.specs.{Opened.interface_name, Outline.names_from}
 use Rattle.wit_compat.proofs.Naming.{names_more}
 use Rattle.wit_compat.proofs.names.interface_names.Goals as goal
 

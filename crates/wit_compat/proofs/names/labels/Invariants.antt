@@ -1,6 +1,5 @@
 use Rattle.std.proofs.Common.{◌≡◌, ℕ, flat_map, take}
-use Rattle.wit_compat.specs.Opened.{entries_of_world, label_among}
-use Rattle.wit_compat.specs.Outline.{label_noted}
+use Rattle.wit_compat.specs.{Opened.entries_of_world, Opened.label_among, Outline.label_noted}
 use Rattle.wit_compat.proofs.names.labels.Given as goal
 
 -- the labels in the worlds so far

@@ -1,7 +1,6 @@
 use Rattle.std.proofs.Common.{◌≡◌, ℕ}
 use Rattle.std.specs.Option.{option_or}
-use Rattle.wit_compat.specs.Opened.{label_among}
-use Rattle.wit_compat.specs.Outline.{label_noted}
+use Rattle.wit_compat.specs.{Opened.label_among, Outline.label_noted}
 use Rattle.wit_compat.proofs.names.note_labels.Given as goal
 
 -- what is noted, and what is left

@@ -1,7 +1,6 @@
 use Rattle.std.proofs.Common.{sym, ap, ◌∙◌}
 use Rattle.std.specs.Option.{option_or}
-use Rattle.wit_compat.specs.Opened.{label_among}
-use Rattle.wit_compat.specs.Outline.{label_noted}
+use Rattle.wit_compat.specs.{Opened.label_among, Outline.label_noted}
 use Rattle.wit_compat.proofs.Naming.{label_in_two, or_assoc}
 use Rattle.wit_compat.proofs.names.note_world.Goals as goal
 

@@ -1,6 +1,5 @@
 use Rattle.std.proofs.Common.{rules, ◌∙◌, sym, ap, Some}
-use Rattle.wit_compat.proofs.Numbering.{same_numbers}
-use Rattle.wit_compat.proofs.Outlines.{number_at, numbers_length}
+use Rattle.wit_compat.proofs.{Numbering.same_numbers, Outlines.number_at, Outlines.numbers_length}
 use Rattle.wit_compat.proofs.names.same_names.Goals as goal
 
 pub index-requires : goal.index-requires

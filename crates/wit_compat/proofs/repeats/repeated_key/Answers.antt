@@ -1,13 +1,11 @@
 use Rattle.std.proofs.Common.{rules, ◌≡◌, sym, ap, subst, ◌∙◌, ◌∷◌, ◌++◌, [], append_assoc, true, false, ◌&&◌}
-use Rattle.std.specs.List.{list_any, IsDistinct}
-use Rattle.std.specs.Map.Iter.{deref_pair}
 use Rattle.std.proofs.lemmas.Map.Iter.{rest_more}
-use Rattle.wit_model.specs.Rules.{entries_in_range, item_in_range, key_in_range}
-use Rattle.wit_model.specs.Text.{text_eq}
+use Rattle.std.specs.{List.list_any, List.IsDistinct, Map.Iter.deref_pair}
+use Rattle.wit_model.specs.{Rules.entries_in_range, Rules.item_in_range, Rules.key_in_range, Text.text_eq}
 use Rattle.wit_compat.specs.Compatible.{bare_keys}
 use Rattle.wit_compat.proofs.Repeating.{now, now_push, key_there, key_pushed, key_distinct}
-use Rattle.wit_compat.proofs.repeats.repeated_key.Goals as goal
 use Rattle.base_lemmas.proofs.Bools.{left_of as first_true, right_of as second_true}
+use Rattle.wit_compat.proofs.repeats.repeated_key.Goals as goal
 
 pub key_text-text-requires-clause-in_range : goal.key_text-text-requires-clause-in_range
 key_text-text-requires-clause-in_range c =

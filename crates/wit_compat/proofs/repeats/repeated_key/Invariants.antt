@@ -1,7 +1,6 @@
 use Rattle.std.proofs.Common.{◌≡◌, ◌++◌, true}
 use Rattle.std.specs.List.{IsDistinct}
-use Rattle.wit_model.specs.Rules.{entries_in_range}
-use Rattle.wit_model.specs.Text.{text_eq}
+use Rattle.wit_model.specs.{Rules.entries_in_range, Text.text_eq}
 use Rattle.wit_compat.specs.Compatible.{bare_keys}
 use Rattle.wit_compat.proofs.Repeating.{now}
 use Rattle.wit_compat.proofs.repeats.repeated_key.Given as goal

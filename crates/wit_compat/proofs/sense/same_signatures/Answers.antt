@@ -1,10 +1,8 @@
 use Rattle.std.proofs.Common.{rules, ◌≡◌, sym, subst, ◌∙◌, ◌↔◌, IsTrue, List, map}
-use Rattle.wit_model.specs.Parts.{function_types}
-use Rattle.wit_model.specs.Types.{type_tree}
+use Rattle.wit_model.specs.{Parts.function_types, Types.type_tree}
 use Rattle.wit_model.specs.declared.model.«Type».{«Type» as ValueType}
 use Rattle.wit_compat.specs.Table.{AllInRange}
-use Rattle.wit_compat.proofs.SameSignatures.{shapes_same, signatures_exact}
-use Rattle.wit_compat.proofs.Sided.{never}
+use Rattle.wit_compat.proofs.{SameSignatures.shapes_same, SameSignatures.signatures_exact, Sided.never}
 use Rattle.wit_compat.proofs.sense.same_signatures.Goals as goal
 
 pub returns-then-not-branch-clause-exact : goal.returns-then-not-branch-clause-exact

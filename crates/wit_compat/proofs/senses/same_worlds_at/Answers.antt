@@ -1,9 +1,7 @@
-use Rattle.std.proofs.Common.{refl}
-use Rattle.std.proofs.lemmas.Option.{slice_get_read}
-use Rattle.wit_compat.proofs.WorldContents.{worlds_exact}
-use Rattle.wit_compat.proofs.Ranges.{has_items}
-use Rattle.wit_compat.proofs.senses.same_worlds_at.Goals as goal
+use Rattle.std.proofs.{Common.refl, lemmas.Option.slice_get_read}
+use Rattle.wit_compat.proofs.{WorldContents.worlds_exact, Ranges.has_items}
 use Rattle.base_lemmas.proofs.Options.{if_ok as in_ok}
+use Rattle.wit_compat.proofs.senses.same_worlds_at.Goals as goal
 
 pub same_worlds-requires-clause-a : goal.same_worlds-requires-clause-a
 same_worlds-requires-clause-a c = has_items c.args.left.now.resolve.now c.requires.left.valid c.args.a.0 c.index-world.result.now (slice_get_read _ _ _ _ refl c.requires.a c.index-world.ensures)

@@ -1,11 +1,7 @@
 use Rattle.std.proofs.Common.{rules, arith, ◌≡◌, sym, ap, subst, ◌∙◌, ◌++◌, map, append_assoc, Some}
-use Rattle.std.specs.List.{Contains}
-use Rattle.std.specs.Map.Iter.{deref_pair}
 use Rattle.std.proofs.lemmas.Map.Iter.{rest_more}
-use Rattle.wit_compat.specs.Flat.{item_things, things_of}
-use Rattle.wit_compat.specs.Numbered.{number_in}
-use Rattle.wit_compat.specs.Opened.{bare_key}
-use Rattle.wit_compat.specs.Parts.{named_thing}
+use Rattle.std.specs.{List.Contains, Map.Iter.deref_pair}
+use Rattle.wit_compat.specs.{Flat.item_things, Flat.things_of, Numbered.number_in, Opened.bare_key, Parts.named_thing}
 use Rattle.wit_compat.proofs.Keyed.{item_key, numbered_more, things_more}
 use Rattle.wit_compat.proofs.things.things.Goals as goal
 

@@ -1,8 +1,6 @@
 use Rattle.std.proofs.Common.{rules, ◌≡◌, subst, is_ok, ◌++◌, [], List}
-use Rattle.wit_compat.specs.Walk.{Pair, pairs_of_worlds}
-use Rattle.wit_compat.specs.Table.{AreReached}
-use Rattle.wit_compat.proofs.Counting.{counted, ok_holds}
-use Rattle.wit_compat.proofs.Validity.{layered}
+use Rattle.wit_compat.specs.{Walk.Pair, Walk.pairs_of_worlds, Table.AreReached}
+use Rattle.wit_compat.proofs.{Counting.counted, Counting.ok_holds, Validity.layered}
 use Rattle.wit_compat.proofs.worlds.compare_anew.Goals as goal
 
 pub returns-clause-counted : goal.returns-clause-counted

@@ -1,9 +1,7 @@
-use Rattle.std.proofs.Common.{true, false}
-use Rattle.wit_compat.specs.Flat.{things_of}
-use Rattle.wit_compat.specs.Walk.{pairs_shared}
+use Rattle.std.proofs.{Common.true, Common.false, lemmas.Result.on_ok_weaker as ok_then}
+use Rattle.wit_compat.specs.{Flat.things_of, Walk.pairs_shared}
 use Rattle.wit_compat.proofs.Signatures.{among_two, reached_first, reached_two}
 use Rattle.wit_compat.proofs.worlds.compare_contents.Goals as goal
-use Rattle.std.proofs.lemmas.Result.{on_ok_weaker as ok_then}
 
 pub returns-in-Err-clause-reached : goal.returns-in-Err-clause-reached
 returns-in-Err-clause-reached c =

@@ -1,10 +1,7 @@
 use Rattle.wit_compat.specs.Compatible.{Accepts, IsRefused, memory}
-use Rattle.wit_compat.proofs.Matching.{by_result}
-use Rattle.wit_compat.proofs.Refusing.{mismatch_refused, repeated_refused}
-use Rattle.wit_compat.proofs.Validity.{types_fit}
+use Rattle.wit_compat.proofs.{Matching.by_result, Refusing.mismatch_refused, Refusing.repeated_refused, Validity.types_fit}
+use Rattle.std.proofs.lemmas.Result.{on_ok_weaker as ok_then, IfErr-weaker}
 use Rattle.wit_compat.proofs.worlds.compare_named.Goals as goal
-use Rattle.std.proofs.lemmas.Result.{on_ok_weaker as ok_then}
-use Rattle.std.proofs.lemmas.Result.{IfErr-weaker}
 
 pub returns-in-Err-clause-accepts : goal.returns-in-Err-clause-accepts
 returns-in-Err-clause-accepts c = repeated_refused c.args.resolve.now c.args.prev.now c.args.new.now c.requires.packages c.in-Err.error c.in-Err.ensures.refuses

@@ -1,5 +1,4 @@
-use Rattle.std.proofs.Common.{subst, map, List}
-use Rattle.std.proofs.lemmas.List.{take_all}
+use Rattle.std.proofs.{Common.subst, Common.map, Common.List, lemmas.List.take_all}
 use Rattle.wit_model.specs.declared.model.Param.{Param}
 use Rattle.encode_types.specs.Table.{AllDefined}
 use Rattle.wit_encode.proofs.Tables.{more-defined, none-defined}

@@ -1,8 +1,7 @@
 use Rattle.encode_flat.specs.Flat.{flat_view}
 use Rattle.std.proofs.Common.{refl, subst, List, map}
 use Rattle.wit_model.specs.declared.model.Param.{Param}
-use Rattle.encode_types.specs.Plan.{AllInRange}
-use Rattle.encode_types.specs.Table.{AllDefined}
+use Rattle.encode_types.specs.{Plan.AllInRange, Table.AllDefined}
 use Rattle.wit_encode.proofs.Tables.{all-may-be-met, table-encodes, table-signature, both-in_range, both-defined}
 use Rattle.wit_component_tests.proofs.table_calls.call_function.Goals as goal
 

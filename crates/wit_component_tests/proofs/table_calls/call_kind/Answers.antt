@@ -1,6 +1,5 @@
 use Rattle.encode_flat.specs.Flat.{flat_view}
-use Rattle.std.proofs.Common.{refl}
-use Rattle.std.proofs.lemmas.Option.{slice_get_read}
+use Rattle.std.proofs.{Common.refl, lemmas.Option.slice_get_read}
 use Rattle.wit_encode.proofs.Tables.{all-may-be-met, table-parts, table-formed}
 use Rattle.wit_component_tests.proofs.table_calls.call_kind.Goals as goal
 

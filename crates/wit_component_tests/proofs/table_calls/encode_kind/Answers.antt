@@ -1,15 +1,9 @@
 use Rattle.encode_flat.specs.Flat.{flat_view}
-use Rattle.encode_types.specs.Kinds.{parts_of}
-use Rattle.encode_types.specs.Plan.{AllInRange}
+use Rattle.encode_types.specs.{Kinds.parts_of, Plan.AllInRange, Fits.CanEncode, Table.IsTableOf, Table.is_met_by, View.View}
 use Rattle.wit_encode.proofs.Tables.{all-may-be-met, table-encodes, formed-as}
-use Rattle.encode_types.specs.Fits.{CanEncode}
-use Rattle.encode_types.specs.Table.{IsTableOf, is_met_by}
-use Rattle.encode_types.specs.View.{View}
 use Rattle.std.specs.List.{list_all}
 use Rattle.std.proofs.Common.{◌≡◌, refl, subst, ap, true, List}
-use Rattle.wit_model.specs.declared.model.InterfaceId.{InterfaceId}
-use Rattle.wit_model.specs.declared.model.Resolve.{Resolve}
-use Rattle.wit_model.specs.declared.model.«Type».{«Type» as ValueType}
+use Rattle.wit_model.specs.declared.model.{InterfaceId.InterfaceId, Resolve.Resolve, «Type».«Type» as ValueType}
 use Rattle.wit_model.specs.declared.model.TypeOwner.TheVariants as owner
 use Rattle.wit_component_tests.proofs.table_calls.encode_kind.Goals as goal
 

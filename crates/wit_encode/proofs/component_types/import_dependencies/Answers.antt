@@ -1,12 +1,9 @@
 use Rattle.std.proofs.Common.{append-nil, refl, sym, subst, ◌∙◌, ◌+◌, map, take, rules}
-use Rattle.wit_model.specs.declared.model.Resolve.{Resolve}
-use Rattle.wit_model.specs.declared.model.InterfaceId.{InterfaceId}
-use Rattle.wit_encode.specs.Encoders.{outside}
-use Rattle.wit_encode.specs.Dependencies.{HasImported}
-use Rattle.wit_encode.specs.WrittenNames.{instance_names}
+use Rattle.wit_model.specs.declared.model.{Resolve.Resolve, InterfaceId.InterfaceId}
+use Rattle.wit_encode.specs.{Encoders.outside, Dependencies.HasImported, WrittenNames.instance_names}
 use Rattle.wit_encode.proofs.ImportLoop.{aliases-next, all-aliased, all-defined, all-held, all-imported, defines-next, held-next, is-next, named-next, named-whole, next-refused}
-use Rattle.wit_encode.proofs.component_types.import_dependencies.Goals as goal
 use Rattle.wit_encode.proofs.BytesWritten.{adds-nothing, imports-next, imports-whole}
+use Rattle.wit_encode.proofs.component_types.import_dependencies.Goals as goal
 
 pub loop-number-init : goal.loop-number-init
 loop-number-init c = record {

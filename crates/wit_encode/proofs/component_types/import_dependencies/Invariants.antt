@@ -1,11 +1,6 @@
 use Rattle.std.proofs.Common.{◌≡◌, None, [], map, take}
-use Rattle.wit_encode.specs.Encoders.{outside}
-use Rattle.wit_encode.specs.Dependencies.{HasImported}
-use Rattle.wit_encode.specs.DependencyCounts.{DefinesImports}
-use Rattle.wit_encode.specs.DependencyAliases.{HasImportAliases}
-use Rattle.wit_encode.specs.DependencyRoom.{HoldsImports}
-use Rattle.wit_encode.specs.WrittenBytes.{AddsBytes, imports_extent}
-use Rattle.wit_encode.specs.WrittenNames.{NamesInterfaces}
+use Rattle.wit_encode.specs.{Encoders.outside, Dependencies.HasImported, DependencyRoom.HoldsImports, WrittenNames.NamesInterfaces}
+use Rattle.wit_encode.specs.{DependencyCounts.DefinesImports, DependencyAliases.HasImportAliases, WrittenBytes.AddsBytes, WrittenBytes.imports_extent}
 use Rattle.wit_encode.proofs.component_types.import_dependencies.Given as goal
 
 abbrev pub invariant-loop-number : goal.invariant-loop-number

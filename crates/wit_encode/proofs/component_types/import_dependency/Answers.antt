@@ -1,17 +1,15 @@
 use Rattle.std.proofs.Common.{◌≡◌, ap, ◌∙◌, ℕ, length, [], Result, Err, rules}
 use Rattle.std.proofs.lemmas.Bool.{lt-ltb}
 use Rattle.wit_model.specs.declared.error.Error.{Error}
-use Rattle.wit_model.specs.declared.error.Error.TheVariants as errors
 use Rattle.comp_bytes.specs.Raw.{Declaration, Declarations, append}
-use Rattle.comp_bytes.specs.declared.forms.ComponentTypeRef.TheVariants as refs
 use Rattle.wit_model.proofs.OnePath.{found-in}
 use Rattle.wit_encode.specs.Encoders.{outside}
-use Rattle.wit_encode.proofs.DependencyHolding.{import-lacks, slot-lacks}
-use Rattle.wit_encode.proofs.component_types.import_dependency.Goals as goal
-use Rattle.wit_encode.proofs.BytesWritten.{adds-described}
-use Rattle.wit_encode.proofs.Extents.{bytes-few}
+use Rattle.wit_encode.proofs.{DependencyHolding.import-lacks, DependencyHolding.slot-lacks, BytesWritten.adds-described, Extents.bytes-few}
 use Rattle.encode_names.specs.WorldNames.{name_of_interface}
 use Rattle.wit_model.specs.Weight.{types_instance_weight}
+use Rattle.wit_model.specs.declared.error.Error.TheVariants as errors
+use Rattle.comp_bytes.specs.declared.forms.ComponentTypeRef.TheVariants as refs
+use Rattle.wit_encode.proofs.component_types.import_dependency.Goals as goal
 
 pub returns-clause-imports : goal.returns-clause-imports
 returns-clause-imports c =

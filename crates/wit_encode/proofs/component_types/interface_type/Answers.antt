@@ -1,36 +1,23 @@
 use Rattle.std.proofs.Common.{◌≡◌, ◌≤◌, ◌<◌, ◌⊎◌, ℕ, sym, subst, ap, ◌∙◌, length, map, List, [], Result, Err, arith, rules}
-use Rattle.std.proofs.Math.ListN.{length-map}
-use Rattle.std.proofs.lemmas.Bool.{lt-ltb}
-use Rattle.wit_model.specs.Lookup.{interface_at}
-use Rattle.wit_model.specs.declared.error.Error.{Error}
-use Rattle.wit_model.specs.declared.error.Error.TheVariants as errors
-use Rattle.wit_model.specs.declared.model.Resolve.{Resolve}
-use Rattle.wit_model.specs.declared.model.InterfaceId.{InterfaceId}
+use Rattle.std.proofs.{Math.ListN.length-map, lemmas.Bool.lt-ltb}
+use Rattle.wit_model.specs.{Lookup.interface_at, Weight.whole_instance_weight}
+use Rattle.wit_model.specs.declared.{error.Error.Error, model.Resolve.Resolve, model.InterfaceId.InterfaceId}
 use Rattle.comp_bytes.specs.Raw.{Declaration, Declarations, append}
-use Rattle.comp_bytes.specs.declared.forms.ComponentTypeRef.TheVariants as refs
 use Rattle.encode_types.specs.Known.{Around, UsedStand, standing_instances}
 use Rattle.wit_model.proofs.OnePath.{found-in}
-use Rattle.wit_encode.specs.DependencyAliases.{HasImportAliases, IsMetAmong}
-use Rattle.wit_encode.proofs.DependencyAliases.{nothing-aliased}
-use Rattle.wit_encode.specs.DependencyCounts.{DefinesImports}
-use Rattle.wit_encode.specs.DependencyRoom.{ImportsLackRoom, of_imports}
-use Rattle.wit_encode.specs.Encoders.{InterfaceLacksRoom, outside}
-use Rattle.wit_encode.specs.Instance.{EncodesInterface, LacksInstanceRoom, whole_interface}
-use Rattle.wit_encode.specs.Dependencies.{AreImportable, HasImported, ShowsComponent}
+use Rattle.wit_encode.specs.{DependencyAliases.HasImportAliases, DependencyAliases.IsMetAmong, DependencyRoom.ImportsLackRoom, DependencyRoom.of_imports}
+use Rattle.wit_encode.specs.{DependencyCounts.DefinesImports, Instance.EncodesInterface, Instance.LacksInstanceRoom, Instance.whole_interface}
+use Rattle.wit_encode.specs.{Encoders.InterfaceLacksRoom, Encoders.outside, Dependencies.AreImportable, Dependencies.HasImported, Dependencies.ShowsComponent}
+use Rattle.wit_encode.specs.{WrittenBytes.AddsBytes, WrittenBytes.imports_extent, WrittenNames.NamesInterfaces}
+use Rattle.wit_encode.proofs.{DependencyAliases.nothing-aliased, DependencyWeighing.lacking-components-heavy, Scopes.paths-fit, Scopes.refused-by_paths}
 use Rattle.wit_encode.proofs.DependencyHolding.{export-defines, export-lacks, nothing-defined, nothing-held, own-lacks}
-use Rattle.wit_encode.proofs.DependencyWeighing.{lacking-components-heavy}
-use Rattle.wit_encode.proofs.Imported.{nothing_is_imported, exports_end}
-use Rattle.wit_encode.proofs.ImportsStand.{imports_stand}
+use Rattle.wit_encode.proofs.{Imported.nothing_is_imported, Imported.exports_end, BytesWritten.adds-described, BytesWritten.component-few, Extents.bytes-few}
+use Rattle.wit_encode.proofs.{ImportsStand.imports_stand, WrittenNames.all-named}
 use Rattle.wit_encode.proofs.ImportLoop.{few-importable, moved, moved-held, path-in-range, reached-importable, reached-used}
-use Rattle.wit_encode.proofs.Scopes.{paths-fit, refused-by_paths}
-use Rattle.wit_encode.proofs.component_types.interface_type.Goals as goal
-use Rattle.wit_encode.proofs.BytesWritten.{adds-described, component-few}
-use Rattle.wit_encode.proofs.Extents.{bytes-few}
 use Rattle.encode_names.specs.WorldNames.{name_of_interface}
-use Rattle.wit_encode.specs.WrittenBytes.{AddsBytes, imports_extent}
-use Rattle.wit_encode.specs.WrittenNames.{NamesInterfaces}
-use Rattle.wit_encode.proofs.WrittenNames.{all-named}
-use Rattle.wit_model.specs.Weight.{whole_instance_weight}
+use Rattle.wit_model.specs.declared.error.Error.TheVariants as errors
+use Rattle.comp_bytes.specs.declared.forms.ComponentTypeRef.TheVariants as refs
+use Rattle.wit_encode.proofs.component_types.interface_type.Goals as goal
 
 pub returns-in_err-refuse_equal_paths-clause-refuses : goal.returns-in_err-refuse_equal_paths-clause-refuses
 returns-in_err-refuse_equal_paths-clause-refuses c =

@@ -1,17 +1,14 @@
 use Rattle.std.proofs.Common.{◌≡◌, refl, sym, ap, ◌∙◌, ◌&&◌, true, Option, Some, None}
 use Rattle.std.proofs.lemmas.Option.{slice_get_read}
-use Rattle.wit_model.specs.Lookup.{type_at}
+use Rattle.wit_model.specs.{Lookup.type_at, Text.optional_text}
 use Rattle.wit_model.specs.declared.model.TypeDef.{TypeDef}
-use Rattle.encode_types.specs.Known.{IsAlias, known_slot}
+use Rattle.encode_types.specs.{Known.IsAlias, Known.known_slot, Room.fits_type_name}
 use Rattle.std.specs.Option.{option_map_or}
-use Rattle.wit_model.specs.Text.{optional_text}
-use Rattle.comp_bytes.specs.Held.{fits_added}
-use Rattle.comp_bytes.specs.Fits.{fits_length, fits_given}
-use Rattle.encode_types.specs.Room.{fits_type_name}
+use Rattle.comp_bytes.specs.{Held.fits_added, Fits.fits_length, Fits.fits_given}
 use Rattle.wit_encode.specs.Instance.{around_at}
 use Rattle.wit_encode.proofs.Importing.{source-listed, source-alias, made-slot, made-reaches}
-use Rattle.wit_encode.proofs.interface.reach.Goals as goal
 use Rattle.wit_encode.proofs.interface.reach.Goals.{After-index, After-make_alias}
+use Rattle.wit_encode.proofs.interface.reach.Goals as goal
 
 pub unreachable-requires : goal.unreachable-requires
 unreachable-requires c = source-listed c.args.resolve.now (around_at c.args.outer.now c.args.foreign.now) c.args.interface.0 c.args.id.0 c.requires.source

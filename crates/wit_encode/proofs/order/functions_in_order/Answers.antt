@@ -1,16 +1,11 @@
 use Rattle.std.proofs.Common.{rules, ◌≡◌, ◌∙◌, sym, ℕ, List, map, subst}
-use Rattle.std.specs.Prelude.{All, IsPermutation, String}
-use Rattle.std.specs.Borrow.{Bor}
+use Rattle.std.proofs.lemmas.{Fn.always_returns_same, Result.IfOk-weaker, List.Sorted.IsPermutation-map, List.Sorted.IsNonDecreasingBy-from_sort_by_key}
+use Rattle.std.specs.{Prelude.All, Prelude.IsPermutation, Prelude.String, Borrow.Bor}
 use Rattle.std.specs.declared.alloc.Global.{Global}
-use Rattle.std.proofs.lemmas.Fn.{always_returns_same}
-use Rattle.std.proofs.lemmas.Result.{IfOk-weaker}
-use Rattle.std.proofs.lemmas.List.Sorted.{IsPermutation-map, IsNonDecreasingBy-from_sort_by_key}
 use Rattle.wit_model.specs.Text.{Text}
-use Rattle.wit_model.specs.declared.model.TypeId.{TypeId}
-use Rattle.wit_model.specs.declared.model.Function.{Function}
+use Rattle.wit_model.specs.declared.model.{TypeId.TypeId, Function.Function}
 use Rattle.indexmap.specs.IndexMap.{values}
-use Rattle.wit_encode.specs.Instance.{keyed, placed_function}
-use Rattle.wit_encode.specs.Order.{by_resource, place_among}
+use Rattle.wit_encode.specs.{Instance.keyed, Instance.placed_function, Order.by_resource, Order.place_among}
 use Rattle.wit_encode.proofs.Ordering.{in-list-order, sorted-in-order}
 use Rattle.wit_encode.proofs.order.functions_in_order.Goals as goal
 

@@ -1,6 +1,5 @@
 use Rattle.std.proofs.Common.{◌≡◌, map}
-use Rattle.wit_encode.specs.Instance.{keyed}
-use Rattle.wit_encode.specs.Order.{any_of_resource}
+use Rattle.wit_encode.specs.{Instance.keyed, Order.any_of_resource}
 use Rattle.wit_encode.proofs.order.has_resource.Given as goal
 
 abbrev pub invariant-loop-name : goal.invariant-loop-name

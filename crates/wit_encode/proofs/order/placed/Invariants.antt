@@ -1,7 +1,6 @@
 use Rattle.std.proofs.Common.{◌≡◌, ◌++◌, map}
 use Rattle.std.specs.Prelude.{All}
-use Rattle.wit_encode.specs.Instance.{keyed, placed_function}
-use Rattle.wit_encode.specs.Order.{place_among}
+use Rattle.wit_encode.specs.{Instance.keyed, Instance.placed_function, Order.place_among}
 use Rattle.wit_encode.proofs.order.placed.Given as goal
 
 abbrev pub invariant-loop-name : goal.invariant-loop-name

@@ -1,13 +1,11 @@
 use Rattle.std.proofs.Common.{◌≡◌, sym, subst, ◌∙◌, ℕ, ◌++◌, ◌∷◌, [], false, Some, arith, List, length, take, get_or}
-use Rattle.std.specs.Option.{is_some}
-use Rattle.std.specs.BTreeMap.{get, Updates}
-use Rattle.std.specs.Ordering.{nat_cmp}
 use Rattle.std.proofs.lemmas.List.{take_more, length-take}
+use Rattle.std.specs.{Option.is_some, BTreeMap.get, BTreeMap.Updates, Ordering.nat_cmp}
 use Rattle.wit_model.specs.declared.model.TypeId.{TypeId}
 use Rattle.wit_encode.specs.Order.{ArePlaces}
 use Rattle.wit_encode.proofs.Ordering.{places-same, places-more}
-use Rattle.wit_encode.proofs.order.places_of.Goals as goal
 use Rattle.wit_encode.proofs.order.places_of.Goals.{then-not-contains_key+in_ok-insert, else-not-contains_key}
+use Rattle.wit_encode.proofs.order.places_of.Goals as goal
 
 pub loop-place-preserved : goal.loop-place-preserved
 loop-place-preserved c =

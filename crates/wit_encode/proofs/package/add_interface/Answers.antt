@@ -1,10 +1,8 @@
 use Rattle.std.proofs.Common.{◌≡◌, ◌++◌, ◌∷◌, [], subst, List, false, ◌&&◌, inl, rules}
 use Rattle.wit_model.specs.Text.{Text}
-use Rattle.comp_bytes.specs.Raw.{Declarations, TopType}
+use Rattle.comp_bytes.specs.{Raw.Declarations, Raw.TopType, Parts.Part, Parts.fits_component, Parts.top_slots}
 use Rattle.encode_exports.specs.ExportedParts.{exporting, one_exported}
-use Rattle.wit_encode.proofs.Packages.{type-added, on-ok}
-use Rattle.comp_bytes.specs.Parts.{Part, fits_component, top_slots}
-use Rattle.wit_encode.proofs.PackageHolding.{interface-long}
+use Rattle.wit_encode.proofs.{Packages.type-added, Packages.on-ok, PackageHolding.interface-long}
 use Rattle.wit_encode.proofs.package.add_interface.Goals as goal
 
 pub returns-clause-adds : goal.returns-clause-adds

@@ -1,13 +1,10 @@
 use Rattle.std.proofs.Common.{◌≡◌, ◌++◌, ◌∷◌, [], subst, List, length, false, ◌&&◌, inl, rules}
 use Rattle.std.proofs.lemmas.Bool.{lt-ltb}
-use Rattle.wit_model.specs.Text.{Text}
-use Rattle.wit_model.specs.Lookup.{identity_of}
+use Rattle.wit_model.specs.{Text.Text, Lookup.identity_of}
 use Rattle.wit_model.proofs.OnePath.{found-in}
-use Rattle.comp_bytes.specs.Raw.{Declarations, TopType}
+use Rattle.comp_bytes.specs.{Raw.Declarations, Raw.TopType, Parts.Part, Parts.fits_component, Parts.top_slots}
 use Rattle.encode_exports.specs.ExportedParts.{exporting, one_exported}
-use Rattle.wit_encode.proofs.Packages.{on-ok, world-added}
-use Rattle.comp_bytes.specs.Parts.{Part, fits_component, top_slots}
-use Rattle.wit_encode.proofs.PackageHolding.{world-long}
+use Rattle.wit_encode.proofs.{Packages.on-ok, Packages.world-added, PackageHolding.world-long}
 use Rattle.wit_encode.proofs.package.add_world.Goals as goal
 
 pub returns-clause-adds : goal.returns-clause-adds

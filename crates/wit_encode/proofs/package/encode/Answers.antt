@@ -1,18 +1,13 @@
-use Rattle.std.proofs.Common.{◌≡◌, Some, rules}
-use Rattle.std.proofs.lemmas.Result.{IfOk-weaker}
+use Rattle.std.proofs.{Common.◌≡◌, Common.Some, Common.rules, Common.length, lemmas.Result.IfOk-weaker, lemmas.Bool.lt-ltb}
 use Rattle.wit_model.specs.Lookup.{package_at}
 use Rattle.wit_model.specs.declared.model.Package.{Package}
-use Rattle.comp_bytes.specs.Parts.{sections_of_parts}
-use Rattle.comp_bytes.specs.Spelling.{IsComponent, preamble}
-use Rattle.comp_bytes.specs.Writing.{component_bytes}
+use Rattle.comp_bytes.specs.{Parts.sections_of_parts, Spelling.IsComponent, Spelling.preamble, Writing.component_bytes}
 use Rattle.wit_encode.specs.Packages.{HasMembers, HasNoMembers, MeansPackage, SpellsPackageAt}
 use Rattle.wit_encode.proofs.WholePackages.{bytes-empty, bytes-mean, package-at, package-passed, room-refused}
 use Rattle.wit_encode.proofs.PackageWeighing.{all-lack}
-use Rattle.wit_encode.proofs.package.encode.Goals as goal
-use Rattle.std.proofs.Common.{length}
-use Rattle.std.proofs.lemmas.Bool.{lt-ltb}
 use Rattle.wit_model.proofs.OnePath.{found-in}
 use Rattle.base_lemmas.proofs.Options.{both-of}
+use Rattle.wit_encode.proofs.package.encode.Goals as goal
 
 pub returns-clause-means : goal.returns-clause-means
 returns-clause-means c =

@@ -1,8 +1,6 @@
 use Rattle.std.specs.Map.Iter.{deref_pair}
-use Rattle.std.proofs.lemmas.Map.Iter.{rest_more}
-use Rattle.wit_encode.proofs.Packages.{next-done, next-refused}
-use Rattle.wit_encode.proofs.PackageHolding.{next-lacks}
-use Rattle.std.proofs.Common.{rules}
+use Rattle.std.proofs.{lemmas.Map.Iter.rest_more, Common.rules}
+use Rattle.wit_encode.proofs.{Packages.next-done, Packages.next-refused, PackageHolding.next-lacks}
 use Rattle.wit_encode.proofs.package.interfaces_component.Goals as goal
 
 pub loop-name-preserved : goal.loop-name-preserved

@@ -1,14 +1,10 @@
 use Rattle.std.proofs.Common.{◌≡◌, ◌∙◌, sym, ap, refl, Some, ◌<◌, length, subst, arith, rules}
-use Rattle.std.proofs.lemmas.Option.{slice_get_read, same_Some as some-same}
-use Rattle.std.proofs.lemmas.Result.{IfOk-weaker}
-use Rattle.wit_model.specs.Text.{text_of, Text}
-use Rattle.wit_model.specs.Names.{path_in}
-use Rattle.wit_model.specs.Lookup.{identity_of, world_at}
+use Rattle.std.proofs.lemmas.{Option.slice_get_read, Option.same_Some as some-same, Result.IfOk-weaker}
+use Rattle.wit_model.specs.{Text.text_of, Text.Text, Names.path_in, Lookup.identity_of, Lookup.world_at, Weight.world_weight}
 use Rattle.wit_model.specs.declared.model.World.{World}
 use Rattle.encode_shown.specs.PackageTypes.{wrapper}
 use Rattle.wit_encode.specs.Packages.{WrapsWorld}
 use Rattle.wit_encode.proofs.Packages.{world-passed}
-use Rattle.wit_model.specs.Weight.{world_weight}
 use Rattle.wit_encode.proofs.package.wrapped_world.Goals as goal
 
 pub returns-in_err-component-clause-refuses : goal.returns-in_err-component-clause-refuses

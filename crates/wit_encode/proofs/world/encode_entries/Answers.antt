@@ -1,24 +1,14 @@
-use Rattle.std.proofs.Common.{◌≡◌, ◌∙◌, ◌++◌, true, append-nil, refl, subst, sym, Some, [], rules}
-use Rattle.std.proofs.lemmas.Option.{slice_get_read, same_Some as some-same}
+use Rattle.std.proofs.Common.{◌≡◌, ◌∙◌, ◌++◌, true, append-nil, refl, subst, sym, Some, [], rules, arith}
+use Rattle.std.proofs.lemmas.{Option.slice_get_read, Option.same_Some as some-same, List.Sums.sum_by-append}
 use Rattle.wit_model.specs.Lookup.{world_at}
 use Rattle.wit_model.specs.declared.model.World.{World}
 use Rattle.comp_bytes.specs.Raw.{Declarations}
 use Rattle.comp_meaning.specs.Follow.{export_}
-use Rattle.wit_encode.specs.Places.{are_beside}
-use Rattle.wit_encode.specs.WorldCounts.{HasDefined}
-use Rattle.wit_encode.specs.WorldHolds.{HoldsFew}
-use Rattle.wit_encode.specs.WorldItems.{ended}
-use Rattle.wit_encode.specs.WrittenNames.{NamesMore, WritesNames}
-use Rattle.wit_encode.proofs.WorldCounting.{defines-once}
-use Rattle.wit_encode.proofs.WorldWeighing.{lacking-worlds-heavy}
-use Rattle.wit_encode.proofs.WrittenNames.{names-then}
-use Rattle.wit_encode.proofs.WholeWorlds.{world-shown}
+use Rattle.wit_encode.specs.{Places.are_beside, WorldItems.ended}
+use Rattle.wit_encode.specs.{WorldCounts.HasDefined, WorldHolds.HoldsFew, WrittenNames.NamesMore, WrittenNames.WritesNames, Extents.item_extent}
+use Rattle.wit_encode.proofs.{WorldCounting.defines-once, WorldWeighing.lacking-worlds-heavy, WrittenNames.names-then, WholeWorlds.world-shown}
+use Rattle.wit_encode.proofs.{world.encode_entries.Goals.After-index-def, BytesWritten.learnt-most, BytesWritten.learnt-then, BytesWritten.world-few}
 use Rattle.wit_encode.proofs.world.encode_entries.Goals as goal
-use Rattle.wit_encode.proofs.world.encode_entries.Goals.{After-index-def}
-use Rattle.std.proofs.Common.{arith}
-use Rattle.std.proofs.lemmas.List.Sums.{sum_by-append}
-use Rattle.wit_encode.specs.Extents.{item_extent}
-use Rattle.wit_encode.proofs.BytesWritten.{learnt-most, learnt-then, world-few}
 
 there : (c : After-index-def) → world_at c.args.resolve.now c.args.world.0 ≡ Some c.index-def.result.now
 there c = slice_get_read _ _ _ _ refl c.requires.in_range c.index-def.ensures

@@ -1,6 +1,5 @@
 use Rattle.std.proofs.Common.{ap, ◌∙◌, ℕ, List, nat_cmp}
-use Rattle.std.specs.Map.{remove_entry}
-use Rattle.std.specs.BTreeMap.{is_at}
+use Rattle.std.specs.{Map.remove_entry, BTreeMap.is_at}
 use Rattle.wit_encode.proofs.Importing.{taken-back}
 use Rattle.wit_interfaces.proofs.encoder.import_instance.Goals as goal
 

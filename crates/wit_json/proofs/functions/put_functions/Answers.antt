@@ -1,6 +1,5 @@
-use Rattle.std.proofs.Common.{refl}
+use Rattle.std.proofs.{Common.refl, lemmas.Map.Iter.rest_all, lemmas.Map.Iter.rest_more}
 use Rattle.std.specs.Map.Iter.{deref}
-use Rattle.std.proofs.lemmas.Map.Iter.{rest_all, rest_more}
 use Rattle.indexmap.specs.IndexMap.{values}
 use Rattle.wit_json.specs.Listed.{function_tokens}
 use Rattle.wit_json.proofs.Adding.{adds2, lists_all, lists_more, then_token}

@@ -1,5 +1,4 @@
-use Rattle.wit_json.proofs.Held.{valid_are_small}
-use Rattle.wit_json.proofs.Told.{nothing_else, texts_tell}
+use Rattle.wit_json.proofs.{Held.valid_are_small, Told.nothing_else, Told.texts_tell}
 use Rattle.wit_json.proofs.laws.nothing_else_is_lost.Goals as goal
 
 pub returns-clause-tokens : goal.returns-clause-tokens

@@ -1,11 +1,10 @@
 use Rattle.std.proofs.Common.{◌∙◌, sym, ap, subst, List, ℕ}
 use Rattle.std.proofs.lemmas.Bool.{true≢false}
-use Rattle.wit_model.proofs.VersionLaws.{same_text}
+use Rattle.wit_model.proofs.{VersionLaws.same_text, TextLemmas.text_same}
 use Rattle.comp_bytes.specs.Frames.{IsCustom}
 use Rattle.wit_metadata.specs.Encodings.{section_name}
 use Rattle.wit_metadata.proofs.ModuleLaws.{name-refused, one-custom}
 use Rattle.wit_metadata.proofs.said.said_in.Goals as goal
-use Rattle.wit_model.proofs.TextLemmas.{text_same}
 
 pub returns-then-eq : goal.returns-then-eq
 returns-then-eq c = (

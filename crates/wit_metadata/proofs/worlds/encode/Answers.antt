@@ -1,21 +1,16 @@
 use Rattle.std.proofs.Common.{◌≡◌, ◌&&◌, false, subst, refl, List, [], ◌∷◌, ◌++◌, Some, rules}
-use Rattle.std.proofs.lemmas.Option.{slice_get_read}
-use Rattle.std.proofs.lemmas.Result.{IfOk-weaker}
-use Rattle.wit_model.specs.Lookup.{identity_of, world_at}
-use Rattle.wit_model.specs.Text.{Text, text_of}
+use Rattle.std.proofs.lemmas.{Option.slice_get_read, Result.IfOk-weaker}
+use Rattle.wit_model.specs.{Lookup.identity_of, Lookup.world_at, Text.Text, Text.text_of}
 use Rattle.wit_model.specs.declared.model.PackageName.{PackageName}
-use Rattle.comp_bytes.specs.Parts.{Part, fits_component, sections_of_parts, top_slots}
+use Rattle.comp_bytes.specs.{Parts.Part, Parts.fits_component, Parts.sections_of_parts, Parts.top_slots, Spelling.IsComponent, Writing.component_bytes}
 use Rattle.comp_bytes.specs.Raw.{TopType}
-use Rattle.comp_bytes.specs.Spelling.{IsComponent}
-use Rattle.comp_bytes.specs.Writing.{component_bytes}
 use Rattle.encode_exports.specs.ExportedParts.{one_exported}
 use Rattle.wit_encode.specs.PackageRoom.{IsHeavyWorld}
 use Rattle.wit_metadata.specs.Carried.{CarriesEncoding, CarriesWorld, MeansWorld, encoding_part}
 use Rattle.wit_metadata.proofs.Carrying.{built, encoding-carried, said, world-carried, world-meant, wrapped-at}
-use Rattle.wit_metadata.proofs.Homes.{world-home}
-use Rattle.wit_metadata.proofs.Weighing.{heavy-world, long-export, long-whole, says-fits}
-use Rattle.wit_metadata.proofs.worlds.encode.Goals as goal
+use Rattle.wit_metadata.proofs.{Homes.world-home, Weighing.heavy-world, Weighing.long-export, Weighing.long-whole, Weighing.says-fits}
 use Rattle.base_lemmas.proofs.Options.{both-of}
+use Rattle.wit_metadata.proofs.worlds.encode.Goals as goal
 
 pub returns-in_err-component-clause-size : goal.returns-in_err-component-clause-size
 returns-in_err-component-clause-size c = λ h.

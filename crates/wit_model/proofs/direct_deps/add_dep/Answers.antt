@@ -1,7 +1,6 @@
 use Rattle.std.proofs.Common.{◌≡◌, sym, ap, ◌∙◌, ◌++◌, ◌==◌, [], ◌∷◌, true, false, map, option_map, rules}
 use Rattle.std.specs.List.{cons_option}
-use Rattle.wit_model.specs.ItemOrders.{holds}
-use Rattle.wit_model.specs.DirectDeps.{number_of_interface, yet_unlisted}
+use Rattle.wit_model.specs.{ItemOrders.holds, DirectDeps.number_of_interface, DirectDeps.yet_unlisted}
 use Rattle.wit_model.proofs.Deps.{own_skipped, listed_skipped, new_listed, pushed_first}
 use Rattle.wit_model.proofs.direct_deps.add_dep.Goals as goal
 

@@ -1,7 +1,5 @@
 use Rattle.std.proofs.Common.{◌≡◌, ◌++◌, false, map, filter_map}
-use Rattle.wit_model.specs.Uses.{interface_used_by, interfaces_used_by}
-use Rattle.wit_model.specs.ItemOrders.{holds}
-use Rattle.wit_model.specs.DirectDeps.{number_of_interface, yet_unlisted}
+use Rattle.wit_model.specs.{Uses.interface_used_by, Uses.interfaces_used_by, ItemOrders.holds, DirectDeps.number_of_interface, DirectDeps.yet_unlisted}
 use Rattle.wit_model.proofs.direct_deps.deps_of.Given as goal
 
 abbrev pub invariant-loop-id : goal.invariant-loop-id

@@ -1,6 +1,5 @@
 use Rattle.std.proofs.Common.{◌≡◌, sym, ap, ◌∙◌, Some, option_and_then, rules}
-use Rattle.wit_model.specs.Names.{some_text}
-use Rattle.wit_model.specs.Rules.{after_prefix}
+use Rattle.wit_model.specs.{Names.some_text, Rules.after_prefix}
 use Rattle.wit_model.proofs.Versions.{some_long, some_empty}
 use Rattle.wit_model.proofs.paths.suffix_of.Goals as goal
 

@@ -1,7 +1,6 @@
 use Rattle.std.proofs.Common.{◌≡◌, ap, ◌∙◌, Some, rules}
 use Rattle.semver.specs.Identifiers.{parts_of, parts_text}
-use Rattle.wit_model.specs.Names.{canonical_version}
-use Rattle.wit_model.specs.Paths.{suffix_after}
+use Rattle.wit_model.specs.{Names.canonical_version, Paths.suffix_after}
 use Rattle.wit_model.proofs.PathParts.{suffix_follows}
 use Rattle.wit_model.proofs.paths.version_suffix.Goals as goal
 

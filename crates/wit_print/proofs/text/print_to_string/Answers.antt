@@ -1,10 +1,7 @@
 use Rattle.std.proofs.Common.{◌∙◌, sym, subst, ℕ, Bool, true, List}
 use Rattle.std.specs.String.{string_bytes}
-use Rattle.print_output.specs.OutputCall.{Moves}
-use Rattle.print_output.specs.Render.{writes}
-use Rattle.print_grammar.specs.AsRead.{file_as_read}
-use Rattle.print_grammar.specs.Calls.{file_calls}
-use Rattle.print_grammar.specs.Reading.{IsOnlyReading}
+use Rattle.print_output.specs.{OutputCall.Moves, Render.writes}
+use Rattle.print_grammar.specs.{AsRead.file_as_read, Calls.file_calls, Reading.IsOnlyReading}
 use Rattle.print_items.specs.Shown.{shown_file}
 use Rattle.wit_print.specs.Files.{FileReads}
 use Rattle.wit_print.proofs.PrintedTexts.{is-rendered}

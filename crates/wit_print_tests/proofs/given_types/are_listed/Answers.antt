@@ -1,8 +1,6 @@
-use Rattle.std.proofs.Common.{rules, tests}
-use Rattle.std.proofs.lemmas.Iterator.{YieldsList-from_slice}
-use Rattle.std.proofs.lemmas.Iterator.Search.{all_from_yields_List}
-use Rattle.wit_model.specs.declared.model.TypeOwner.TheVariants as owner
+use Rattle.std.proofs.{Common.rules, Common.tests, lemmas.Iterator.YieldsList-from_slice, lemmas.Iterator.Search.all_from_yields_List}
 use Rattle.wit_print.specs.UseGroups.{is_listed_type}
+use Rattle.wit_model.specs.declared.model.TypeOwner.TheVariants as owner
 use Rattle.wit_print_tests.proofs.given_types.are_listed.Goals as goal
 
 pub returns : goal.returns

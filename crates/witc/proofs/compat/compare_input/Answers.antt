@@ -1,11 +1,10 @@
 use Rattle.std.proofs.Common.{List, ℕ, subst}
 use Rattle.witc.specs.Worlds.{RefusesWorlds, compared, unread}
-use Rattle.witc.specs.declared.refusal.Refusal.TheVariants as refusals
 use Rattle.witc_texts.specs.Worlds.{RefusesCompared}
-use Rattle.witc.proofs.InputLaws.{compares}
-use Rattle.witc.proofs.RefusedLaws.{from-reading}
-use Rattle.witc.proofs.compat.compare_input.Goals as goal
+use Rattle.witc.proofs.{InputLaws.compares, RefusedLaws.from-reading}
 use Rattle.base_lemmas.proofs.Options.{passed}
+use Rattle.witc.specs.declared.refusal.Refusal.TheVariants as refusals
+use Rattle.witc.proofs.compat.compare_input.Goals as goal
 
 pub returns-in_err-bytes-clause-refused : goal.returns-in_err-bytes-clause-refused
 returns-in_err-bytes-clause-refused g c =

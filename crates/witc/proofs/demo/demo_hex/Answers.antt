@@ -1,6 +1,5 @@
 use Rattle.std.proofs.Common.{ap, ◌∙◌}
-use Rattle.witc.specs.Demo.{demo}
-use Rattle.witc.specs.Hex.{hex_text}
+use Rattle.witc.specs.{Demo.demo, Hex.hex_text}
 use Rattle.witc.proofs.MemberLaws.{holds-world}
 use Rattle.witc.proofs.demo.demo_hex.Goals as goal
 

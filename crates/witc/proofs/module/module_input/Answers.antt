@@ -1,13 +1,11 @@
 use Rattle.std.proofs.Common.{◌≡◌, subst}
-use Rattle.wit_component.specs.Bound.{RefusesBindings}
-use Rattle.wit_component.specs.Reached.{OutgrowsLists}
+use Rattle.wit_component.specs.{Bound.RefusesBindings, Reached.OutgrowsLists}
 use Rattle.wit_model.specs.declared.error.Error.TheVariants.{Size}
 use Rattle.witc.specs.Bindings.{RefusesModuleInput, bindings}
-use Rattle.witc.specs.declared.refusal.Refusal.TheVariants as refusals
-use Rattle.witc.proofs.BindingsLaws.{no-reading}
-use Rattle.witc.proofs.InputLaws.{binds}
-use Rattle.witc.proofs.module.module_input.Goals as goal
+use Rattle.witc.proofs.{BindingsLaws.no-reading, InputLaws.binds}
 use Rattle.base_lemmas.proofs.Options.{passed}
+use Rattle.witc.specs.declared.refusal.Refusal.TheVariants as refusals
+use Rattle.witc.proofs.module.module_input.Goals as goal
 
 pub returns-in_err-bytes-clause-refused : goal.returns-in_err-bytes-clause-refused
 returns-in_err-bytes-clause-refused g c =

@@ -1,11 +1,10 @@
 use Rattle.std.proofs.Common.{List, ℕ, subst}
 use Rattle.wit_component.specs.Decoded.{RefusesBytes}
 use Rattle.witc.specs.Decodes.{RefusesInput, bytes}
-use Rattle.witc.specs.declared.refusal.Refusal.TheVariants as refusals
-use Rattle.witc.proofs.InputLaws.{prints}
-use Rattle.witc.proofs.RefusedLaws.{from-reading}
-use Rattle.witc.proofs.print.print_input.Goals as goal
+use Rattle.witc.proofs.{InputLaws.prints, RefusedLaws.from-reading}
 use Rattle.base_lemmas.proofs.Options.{passed}
+use Rattle.witc.specs.declared.refusal.Refusal.TheVariants as refusals
+use Rattle.witc.proofs.print.print_input.Goals as goal
 
 pub returns-in_err-bytes-clause-refused : goal.returns-in_err-bytes-clause-refused
 returns-in_err-bytes-clause-refused g c =

@@ -1,13 +1,11 @@
 use Rattle.std.proofs.Common.{ap, refl, subst, sym, Some}
 use Rattle.std.specs.Prelude.{ℕ, Vec}
 use Rattle.std.specs.declared.alloc.Global.{Global}
-use Rattle.witc.specs.Asks.{asked_by}
-use Rattle.witc.specs.DemoShown.{IsDemoDigits, IsDemoText}
-use Rattle.witc.specs.Runs.{Ends, IsDone}
+use Rattle.witc.specs.{Asks.asked_by, DemoShown.IsDemoDigits, DemoShown.IsDemoText, Runs.Ends, Runs.IsDone}
 use Rattle.witc.specs.Words.{Asked, demo_text, demo_hex, print, module_text, strip}
 use Rattle.witc.proofs.RunLaws.{names-end, text-ends}
-use Rattle.witc.proofs.run.carry_out.Goals as goal
 use Rattle.base_lemmas.proofs.Options.{if_ok as if-ok}
+use Rattle.witc.proofs.run.carry_out.Goals as goal
 
 pub returns-in-DemoText : goal.returns-in-DemoText
 returns-in-DemoText g c =

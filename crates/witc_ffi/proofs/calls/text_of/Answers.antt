@@ -1,6 +1,5 @@
-use Rattle.std.proofs.Common.{refl, true, false, ◌≡◌}
+use Rattle.std.proofs.{Common.refl, Common.true, Common.false, Common.◌≡◌, lemmas.Str.IsUtf8-from_is_utf8, lemmas.Str.is_utf8-from_IsUtf8}
 use Rattle.std.specs.Str.{is_utf8}
-use Rattle.std.proofs.lemmas.Str.{IsUtf8-from_is_utf8, is_utf8-from_IsUtf8}
 use Rattle.witc_ffi.proofs.calls.text_of.Goals as goal
 
 pub returns-in-Ok : goal.returns-in-Ok

@@ -1,8 +1,7 @@
 use Rattle.std.proofs.Common.{sym, ap, subst, ℕ, List}
 use Rattle.std.specs.Prelude.{Vec}
 use Rattle.std.specs.declared.alloc.Global.{Global}
-use Rattle.wit_json.specs.Listed.{package_listing_tokens}
-use Rattle.wit_json.specs.Spelled.{Spells}
+use Rattle.wit_json.specs.{Listed.package_listing_tokens, Spelled.Spells}
 use Rattle.witc_listed.proofs.listings.package_json.Goals as goal
 
 pub returns-clause-listed : goal.returns-clause-listed

@@ -1,9 +1,7 @@
 use Rattle.std.proofs.Common.{◌≡◌, ◌∙◌, ap, subst, ℕ, List}
 use Rattle.base_lemmas.proofs.Options.{passed}
 use Rattle.wit_model.specs.declared.error.Error.TheVariants.{Size}
-use Rattle.wit_component.specs.Bindings.{binding_of}
-use Rattle.wit_component.specs.Bound.{IsBound, RefusesBindings}
-use Rattle.wit_component.specs.Reached.{OutgrowsLists}
+use Rattle.wit_component.specs.{Bindings.binding_of, Bound.IsBound, Bound.RefusesBindings, Reached.OutgrowsLists}
 use Rattle.witc_written.specs.Carried.{EmbedsIfThere, RefusesAttached, RefusesSection, section_name, unbound, unembedded, unjoined, with_section}
 use Rattle.witc_written.proofs.carried.attach.Goals as goal
 

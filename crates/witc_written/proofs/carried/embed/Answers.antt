@@ -1,5 +1,4 @@
-use Rattle.std.proofs.Common.{ap, Err}
-use Rattle.std.proofs.lemmas.Option.{slice_get_within}
+use Rattle.std.proofs.{Common.ap, Common.Err, lemmas.Option.slice_get_within}
 use Rattle.base_lemmas.proofs.Options.{passed}
 use Rattle.witc_written.specs.Carried.{RefusesEmbedded, unread, unwritten}
 use Rattle.witc_written.proofs.carried.embed.Goals as goal

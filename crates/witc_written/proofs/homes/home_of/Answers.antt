@@ -1,8 +1,7 @@
 use Rattle.std.proofs.Common.{◌≡◌, ◌<◌, ◌∙◌, refl, sym, ap, subst, length, Some}
 use Rattle.std.proofs.lemmas.Option.{same_Some, slice_get_read}
 use Rattle.wit_model.specs.Lookup.{world_at}
-use Rattle.wit_model.specs.declared.model.PackageId.{PackageId}
-use Rattle.wit_model.specs.declared.model.World.{World}
+use Rattle.wit_model.specs.declared.model.{PackageId.PackageId, World.World}
 use Rattle.witc_written.proofs.HomeLaws.{home-there, no-home}
 use Rattle.witc_written.proofs.homes.home_of.Goals as goal
 

@@ -1,19 +1,15 @@
 use Rattle.std.proofs.Common.{◌≡◌, ◌∙◌, sym, subst, true, ℕ}
-use Rattle.std.specs.Prelude.{Vec}
-use Rattle.std.specs.List.{list_all}
-use Rattle.std.specs.declared.alloc.Global.{Global}
 use Rattle.std.proofs.lemmas.Option.{slice_get_within}
-use Rattle.wit_model.specs.declared.error.Error.{Error}
-use Rattle.wit_model.specs.declared.error.Error.TheVariants.{Memory}
-use Rattle.wit_model.specs.declared.model.PackageId.{PackageId}
+use Rattle.std.specs.{Prelude.Vec, List.list_all}
+use Rattle.std.specs.declared.alloc.Global.{Global}
+use Rattle.wit_model.specs.declared.{error.Error.Error, error.Error.TheVariants.Memory, model.PackageId.PackageId}
 use Rattle.wit_model.specs.Rules.{in_list}
 use Rattle.wit_component.specs.DecodedWorlds.{RefusesWorldBytes}
 use Rattle.witc_texts.specs.Printed.{IsTextOf}
 use Rattle.witc_written.specs.Worlds.{PrintsWorld}
-use Rattle.witc_written.proofs.HomeLaws.{others-in-range}
-use Rattle.witc_written.proofs.WorldLaws.{has-world, no-memory}
-use Rattle.witc_written.proofs.worlds.world_text.Goals as goal
+use Rattle.witc_written.proofs.{HomeLaws.others-in-range, WorldLaws.has-world, WorldLaws.no-memory}
 use Rattle.base_lemmas.proofs.Options.{err_said, if_ok}
+use Rattle.witc_written.proofs.worlds.world_text.Goals as goal
 
 pub home_of-home-requires-clause-in_range : goal.home_of-home-requires-clause-in_range
 home_of-home-requires-clause-in_range c =

@@ -1,9 +1,6 @@
 use Rattle.std.proofs.Common.{◌++◌, [], false, ◌<◌, ◌^◌, arith}
-use Rattle.comp_bytes.specs.Parts.{Part}
-use Rattle.comp_bytes.specs.Built.{begun, closed_bytes, section_id}
-use Rattle.comp_bytes.specs.Writing.{name_bytes, framed}
-use Rattle.comp_bytes.proofs.BuiltLaws.{Grown, add_custom}
-use Rattle.comp_bytes.proofs.BuiltSizes.{size_passed, custom_refused}
+use Rattle.comp_bytes.specs.{Parts.Part, Built.begun, Built.closed_bytes, Built.section_id, Writing.name_bytes, Writing.framed}
+use Rattle.comp_bytes.proofs.{BuiltLaws.Grown, BuiltLaws.add_custom, BuiltSizes.size_passed, BuiltSizes.custom_refused}
 use Rattle.comp_bytes.proofs.builder.ComponentBuilder.custom_section.Goals as goal
 
 pub returns-in_err-put_custom-clause-size : goal.returns-in_err-put_custom-clause-size

@@ -1,6 +1,5 @@
 use Rattle.std.proofs.Common.{◌<◌, ◌≤◌, ◌^◌, length, arith}
-use Rattle.comp_bytes.proofs.BuiltLaws.{component_spelled}
-use Rattle.comp_bytes.proofs.BuiltSizes.{size_passed, close_refused, length_refused}
+use Rattle.comp_bytes.proofs.{BuiltLaws.component_spelled, BuiltSizes.size_passed, BuiltSizes.close_refused, BuiltSizes.length_refused}
 use Rattle.comp_bytes.proofs.builder.ComponentBuilder.finish.Goals as goal
 
 pub returns-in_err-close-clause-size : goal.returns-in_err-close-clause-size

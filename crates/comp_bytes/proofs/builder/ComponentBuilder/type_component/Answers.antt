@@ -1,10 +1,9 @@
 use Rattle.std.proofs.Common.{◌≡◌, true, ◌<◌, refl, arith}
-use Rattle.comp_bytes.specs.Raw.{TopType}
-use Rattle.comp_bytes.specs.Parts.{Part}
+use Rattle.comp_bytes.specs.{Raw.TopType, Parts.Part}
 use Rattle.comp_bytes.proofs.BuiltLaws.{join_type_at, type_apart, start_type}
 use Rattle.comp_bytes.proofs.BuiltSizes.{size_passed, types_refused, count_refused, start_refused}
-use Rattle.comp_bytes.proofs.builder.ComponentBuilder.type_component.Goals as goal
 use Rattle.comp_bytes.proofs.builder.ComponentBuilder.type_component.Goals.{else-self-gt0-via-then-self-gt0+else-not-self, else-self-gt0-via-else-self-gt0}
+use Rattle.comp_bytes.proofs.builder.ComponentBuilder.type_component.Goals as goal
 
 pub returns-in_err-types-clause-size : goal.returns-in_err-types-clause-size
 returns-in_err-types-clause-size c _ = rw (← c.self.view_is) (types_refused c.self.inside.done.items c.self.inside.items.items c.self.inside.count c.self.inside.exports c.self.inside.types

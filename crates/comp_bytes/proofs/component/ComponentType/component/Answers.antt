@@ -1,7 +1,5 @@
 use Rattle.std.proofs.Common.{◌∷◌, ◌<◌, ◌^◌, arith}
-use Rattle.comp_bytes.specs.Raw.{Declarations}
-use Rattle.comp_bytes.specs.Held.{nested_in}
-use Rattle.comp_bytes.specs.Writing.{body_bytes}
+use Rattle.comp_bytes.specs.{Raw.Declarations, Held.nested_in, Writing.body_bytes}
 use Rattle.comp_bytes.proofs.HeldLaws.{Added, add, component_type_held}
 use Rattle.comp_bytes.proofs.component.ComponentType.component.Goals as goal
 

@@ -1,5 +1,4 @@
-use Rattle.comp_bytes.specs.Raw.{Declaration}
-use Rattle.comp_bytes.specs.RawOf.{raw_name}
+use Rattle.comp_bytes.specs.{Raw.Declaration, RawOf.raw_name}
 use Rattle.comp_bytes.proofs.HeldLaws.{add_declaration, declaration_refused}
 use Rattle.comp_bytes.proofs.component.ComponentType.export.Goals as goal
 

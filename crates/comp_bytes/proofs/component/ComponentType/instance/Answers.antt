@@ -1,7 +1,5 @@
 use Rattle.std.proofs.Common.{◌∷◌, ◌<◌, ◌^◌, arith}
-use Rattle.comp_bytes.specs.Raw.{Declarations, from_list}
-use Rattle.comp_bytes.specs.Held.{declarations_in}
-use Rattle.comp_bytes.specs.Writing.{body_bytes}
+use Rattle.comp_bytes.specs.{Raw.Declarations, Raw.from_list, Held.declarations_in, Writing.body_bytes}
 use Rattle.comp_bytes.proofs.HeldLaws.{Added, add, instance_type_held}
 use Rattle.comp_bytes.proofs.component.ComponentType.instance.Goals as goal
 

@@ -1,6 +1,5 @@
 use Rattle.std.proofs.Common.{refl}
-use Rattle.comp_bytes.specs.Raw.{Declaration}
-use Rattle.comp_bytes.specs.RawOf.{raw_defined}
+use Rattle.comp_bytes.specs.{Raw.Declaration, RawOf.raw_defined}
 use Rattle.comp_bytes.proofs.HeldLaws.{push, counts_refused}
 use Rattle.comp_bytes.proofs.instance.InstanceType.defined.Goals as goal
 

@@ -1,6 +1,5 @@
 use Rattle.std.proofs.Common.{rules, tests, ◌∙◌}
-use Rattle.std.proofs.lemmas.Iterator.{YieldsList-from_slice, YieldsList-from_zip}
-use Rattle.std.proofs.lemmas.Iterator.Search.{all_from_yields_List}
+use Rattle.std.proofs.lemmas.{Iterator.YieldsList-from_slice, Iterator.YieldsList-from_zip, Iterator.Search.all_from_yields_List}
 use Rattle.encode_types.specs.Key.{same_param}
 use Rattle.encode_types.proofs.KeySteps.{zipped}
 use Rattle.encode_types.proofs.key.ParamSignaturesPartialEq.eq.Goals as goal

@@ -1,6 +1,5 @@
 use Rattle.std.proofs.Common.{◌≡◌, [], ◌∷◌, length}
-use Rattle.encode_types.specs.Codes.{names_of, async_code, AddsParams, HaveNumbers}
-use Rattle.encode_types.specs.Maps.{AddsNames}
+use Rattle.encode_types.specs.{Codes.names_of, Codes.async_code, Codes.AddsParams, Codes.HaveNumbers, Maps.AddsNames}
 use Rattle.encode_types.proofs.maps.TypeEncodingMaps.list_of_key.Given as goal
 
 abbrev pub invariant-loop-i : goal.invariant-loop-i

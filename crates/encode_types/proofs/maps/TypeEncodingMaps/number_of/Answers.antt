@@ -1,8 +1,7 @@
 use Rattle.std.proofs.Common.{refl, ap, map}
 use Rattle.encode_types.specs.Codes.{names_of}
-use Rattle.encode_types.proofs.Tables.{LearnsName, name-learnt, names-same}
+use Rattle.encode_types.proofs.{Tables.LearnsName, Tables.name-learnt, Tables.names-same, maps.TypeEncodingMaps.number_of.Goals.In_ok-number}
 use Rattle.encode_types.proofs.maps.TypeEncodingMaps.number_of.Goals as goal
-use Rattle.encode_types.proofs.maps.TypeEncodingMaps.number_of.Goals.{In_ok-number}
 
 learnt : (c : In_ok-number) → LearnsName c.args.self.now.names.entries c.number_in.new.names.entries c.args.name c.in_ok-number.number
 learnt c = name-learnt c.args.self.now.names.entries c.number_in.new.names.entries c.args.name c.in_ok-number.number

@@ -1,10 +1,8 @@
 use Rattle.std.proofs.Common.{ℕ, sym, subst, ◌++◌, ◌∷◌, []}
-use Rattle.std.specs.Prelude.{IsPermutation}
-use Rattle.std.specs.List.{Contains}
 use Rattle.std.proofs.lemmas.List.Elements.{Contains-append_right}
+use Rattle.std.specs.{Prelude.IsPermutation, List.Contains}
 use Rattle.encode_types.specs.NumberMaps.{NumberEntries}
-use Rattle.encode_types.proofs.Tables.{number-inserted}
-use Rattle.encode_types.proofs.Ascending.{ascending-push, pushed-first, pushed-second}
+use Rattle.encode_types.proofs.{Tables.number-inserted, Ascending.ascending-push, Ascending.pushed-first, Ascending.pushed-second}
 use Rattle.encode_types.proofs.number_map.NumberMap.insert.Goals as goal
 
 pub invariant_of-self : goal.invariant_of-self

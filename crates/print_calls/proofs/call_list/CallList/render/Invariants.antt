@@ -1,8 +1,6 @@
 use Rattle.std.proofs.Common.{◌≡◌, ◌≤◌, drop}
-use Rattle.print_output.specs.OutputCall.{after_all}
-use Rattle.print_output.specs.Render.{blank, writes}
-use Rattle.print_calls.specs.Listed.{calls_of}
-use Rattle.print_calls.specs.Rendered.{written}
+use Rattle.print_output.specs.{OutputCall.after_all, Render.blank, Render.writes}
+use Rattle.print_calls.specs.{Listed.calls_of, Rendered.written}
 use Rattle.print_calls.proofs.call_list.CallList.render.Given as goal
 
 abbrev pub invariant-loop-call : goal.invariant-loop-call

@@ -1,6 +1,5 @@
 use Rattle.std.proofs.Common.{refl, ◌++◌}
-use Rattle.std.specs.Prelude.{codes}
-use Rattle.std.specs.Fmt.{decimal}
+use Rattle.std.specs.{Prelude.codes, Fmt.decimal}
 use Rattle.print_output.specs.OutputCall.OutputCall.{Str}
 use Rattle.print_items.proofs.Driven.{spelled_made, call_passed}
 use Rattle.print_items.proofs.driver.Driver.length.Goals as goal

@@ -2,8 +2,7 @@ use Rattle.std.proofs.Common.{refl}
 use Rattle.semver.specs.Identifiers.{version_text}
 use Rattle.print_output.specs.OutputCall.OutputCall.{Ty}
 use Rattle.print_output.specs.declared.type_kind.TypeKind.TheVariants.{VersionAnnotation}
-use Rattle.print_items.proofs.OneLine.{plain_version_may_stand}
-use Rattle.print_items.proofs.Driven.{spelled_made, call_passed}
+use Rattle.print_items.proofs.{OneLine.plain_version_may_stand, Driven.spelled_made, Driven.call_passed}
 use Rattle.print_items.proofs.driver.Driver.plain_version.Goals as goal
 
 pub print_plain_version-requires : goal.print_plain_version-requires

@@ -1,8 +1,7 @@
 use Rattle.std.proofs.Common.{refl, ◌∷◌}
 use Rattle.semver.specs.Identifiers.{version_text}
 use Rattle.print_output.specs.OutputCall.OutputCall.{Ty}
-use Rattle.print_items.proofs.OneLine.{version_may_stand}
-use Rattle.print_items.proofs.Driven.{spelled_made, call_passed}
+use Rattle.print_items.proofs.{OneLine.version_may_stand, Driven.spelled_made, Driven.call_passed}
 use Rattle.print_items.proofs.driver.Driver.version.Goals as goal
 
 pub print_marked_version-requires : goal.print_marked_version-requires

@@ -1,5 +1,4 @@
-use Rattle.std.proofs.Common.{◌∙◌, ap, sym, length, map}
-use Rattle.std.proofs.Math.ListN.{length-map}
+use Rattle.std.proofs.{Common.◌∙◌, Common.ap, Common.sym, Common.length, Common.map, Math.ListN.length-map}
 use Rattle.read_follow.specs.Places.{path_in, place_shape}
 use Rattle.read_follow.proofs.places.Places.len.Goals as goal
 

@@ -1,5 +1,4 @@
-use Rattle.std.proofs.Common.{◌∙◌, ap, true, false, Some}
-use Rattle.std.proofs.lemmas.Bool.{eq-eqb}
+use Rattle.std.proofs.{Common.◌∙◌, Common.ap, Common.true, Common.false, Common.Some, lemmas.Bool.eq-eqb}
 use Rattle.read_follow.proofs.PlaceLaws.{not_zero, path_at, path_nowhere}
 use Rattle.read_follow.proofs.places.Places.path.Goals as goal
 

@@ -1,8 +1,7 @@
 use Rattle.std.proofs.Common.{◌≡◌, ◌<◌, ◌+◌, ap, sym, subst, ◌∙◌, arith, List, length, map}
 use Rattle.read_follow.specs.declared.facts.Fact.{Fact}
-use Rattle.read_follow.specs.Facts.{fact_at, Tells}
+use Rattle.read_follow.specs.{Facts.fact_at, Facts.Tells, KeyShapes.shape_of}
 use Rattle.plan_meaning.specs.Shapes.{Shape, part_tree, shape_trees}
-use Rattle.read_follow.specs.KeyShapes.{shape_of}
 use Rattle.read_follow.proofs.FactLaws.{tells_part}
 use Rattle.read_follow.proofs.table.Table.fact.Goals as goal
 

@@ -1,5 +1,4 @@
-use Rattle.std.proofs.Common.{◌∙◌, ap, sym, length}
-use Rattle.std.proofs.Math.ListN.{length-map}
+use Rattle.std.proofs.{Common.◌∙◌, Common.ap, Common.sym, Common.length, Math.ListN.length-map}
 use Rattle.read_follow.specs.KeyShapes.{shape_of}
 use Rattle.read_follow.proofs.table.Table.len.Goals as goal
 

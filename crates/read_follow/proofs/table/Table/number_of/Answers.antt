@@ -1,8 +1,7 @@
 use Rattle.std.proofs.Common.{◌∙◌, ap, sym, subst, ℕ, List, length, map}
 use Rattle.read_follow.specs.declared.facts.Fact.{Fact}
-use Rattle.read_follow.specs.Facts.{FactsHold}
+use Rattle.read_follow.specs.{Facts.FactsHold, KeyShapes.shape_of}
 use Rattle.plan_meaning.specs.Shapes.{Shape, shape_trees, IsShape}
-use Rattle.read_follow.specs.KeyShapes.{shape_of}
 use Rattle.read_follow.proofs.table.Table.number_of.Goals as goal
 
 pub put-requires-clause-shape : goal.put-requires-clause-shape

@@ -1,8 +1,7 @@
 use Rattle.std.proofs.Common.{refl}
 use Rattle.wit_model.specs.Valid.{key_eq}
 use Rattle.bind_add.proofs.Roomed.{same_then_added}
-use Rattle.wit_bind.proofs.Growing.{addable_with_room, added_by_key, on_err}
-use Rattle.wit_bind.proofs.Unchanged.{kept_with_room}
+use Rattle.wit_bind.proofs.{Growing.addable_with_room, Growing.added_by_key, Growing.on_err, Unchanged.kept_with_room}
 use Rattle.wit_bind.proofs.bindgen.Bindgen.grow.Goals as goal
 
 pub add-requires-clause-addable : goal.add-requires-clause-addable

@@ -1,9 +1,8 @@
 use Rattle.bind_clash.specs.Faults.{IsMatched}
 use Rattle.wit_bind.specs.Merges.{IsMergeRefusal}
-use Rattle.wit_bind.proofs.Refusals.{clash_is, encodings_are}
-use Rattle.wit_bind.proofs.Uniting.{unite}
-use Rattle.wit_bind.proofs.bindgen.Bindgen.matched.Goals as goal
+use Rattle.wit_bind.proofs.{Refusals.clash_is, Refusals.encodings_are, Uniting.unite}
 use Rattle.base_lemmas.proofs.Options.{passed as err_is}
+use Rattle.wit_bind.proofs.bindgen.Bindgen.matched.Goals as goal
 
 pub refuse_clash-requires-clause-matches : goal.refuse_clash-requires-clause-matches
 refuse_clash-requires-clause-matches c = record { packages = c.in_ok-matches.ensures.packages; interfaces = c.in_ok-matches.ensures.interfaces; worlds = c.in_ok-matches.ensures.worlds }

@@ -1,9 +1,8 @@
 use Rattle.std.proofs.Common.{◌≤◌, List, length, subst, sym}
 use Rattle.wit_model.specs.declared.model.Package.{Package}
-use Rattle.wit_bind.proofs.AsItWas.{kept_itself}
-use Rattle.wit_bind.proofs.Growing.{few_bound, on_err, so_ok}
-use Rattle.wit_bind.proofs.bindgen.Bindgen.merge.Goals as goal
+use Rattle.wit_bind.proofs.{AsItWas.kept_itself, Growing.few_bound, Growing.on_err, Growing.so_ok}
 use Rattle.base_lemmas.proofs.Options.{if_ok}
+use Rattle.wit_bind.proofs.bindgen.Bindgen.merge.Goals as goal
 
 pub matched_packages-requires : goal.matched_packages-requires
 matched_packages-requires c = subst (λ (packages : List Package). length packages ≤ 4294967295) (sym c.deref.ensures.value) (few_bound c.args.self.now c.requires.own)

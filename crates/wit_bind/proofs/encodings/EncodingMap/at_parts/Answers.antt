@@ -1,8 +1,7 @@
 use Rattle.std.proofs.Common.{◌≡◌, sym, ap, ◌∙◌, not, ◌&&◌}
 use Rattle.std.specs.Map.{lookup}
 use Rattle.wit_model.specs.Text.{Text, text_eq}
-use Rattle.wit_bind.specs.Cuts.{text_under}
-use Rattle.wit_bind.specs.Encodings.{encoding_at}
+use Rattle.wit_bind.specs.{Cuts.text_under, Encodings.encoding_at}
 use Rattle.wit_bind.proofs.Kept.{kept_at}
 use Rattle.wit_bind.proofs.encodings.EncodingMap.at_parts.Goals as goal
 

@@ -1,6 +1,5 @@
 use Rattle.std.proofs.Common.{◌∷◌, [], subst}
-use Rattle.wit_bind.specs.Encodings.{kept_encodings}
-use Rattle.wit_bind.specs.KeyLists.{Puts}
+use Rattle.wit_bind.specs.{Encodings.kept_encodings, KeyLists.Puts}
 use Rattle.wit_bind.proofs.Kept.{puts}
 use Rattle.wit_bind.proofs.encodings.EncodingMap.put.Goals as goal
 

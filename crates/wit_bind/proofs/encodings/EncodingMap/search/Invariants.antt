@@ -1,6 +1,5 @@
 use Rattle.std.proofs.Common.{◌≡◌}
-use Rattle.wit_bind.specs.Keys.{function_key}
-use Rattle.wit_bind.specs.Encodings.{encoding_under}
+use Rattle.wit_bind.specs.{Keys.function_key, Encodings.encoding_under}
 use Rattle.wit_bind.proofs.Kept.{among}
 use Rattle.wit_bind.proofs.encodings.EncodingMap.search.Given as goal
 

@@ -1,25 +1,16 @@
 use Rattle.std.proofs.Common.{◌≡◌, inl, inr, refl, sym, subst, ap, ◌∙◌, List, [], Some}
+use Rattle.std.proofs.lemmas.{Option.slice_get_read, Option.same_Some as some-same, Result.IfOk-weaker as ok-then, Result.on_err_weaker as err-then}
 use Rattle.std.specs.List.{Contains}
-use Rattle.std.proofs.lemmas.Option.{slice_get_read, same_Some as some-same}
 use Rattle.wit_model.specs.Lookup.{interface_at}
-use Rattle.wit_model.specs.declared.model.TypeId.{TypeId}
-use Rattle.wit_encode.specs.Encoders.{outside}
-use Rattle.wit_encode.specs.Instance.{CanEncodeInterface, EncodesDependency, EncodesPart}
+use Rattle.wit_model.specs.declared.model.{TypeId.TypeId, Interface.Interface}
+use Rattle.wit_encode.specs.{Encoders.outside, Instance.CanEncodeInterface, Instance.EncodesDependency, Instance.EncodesPart, Instance.AliasesForTypes}
 use Rattle.indexmap.specs.IndexMap.{values}
-use Rattle.wit_model.specs.declared.model.Interface.{Interface}
-use Rattle.wit_encode.proofs.Refusing.{room-listed}
-use Rattle.wit_encode.proofs.Encodable.{valid-encodable}
-use Rattle.wit_encode.proofs.Closing.{types-alone}
-use Rattle.wit_encode.proofs.interface.InstanceEncoderOf+TypeEncodingMaps.encode_dependency.Goals as goal
-use Rattle.wit_encode.proofs.interface.InstanceEncoderOf+TypeEncodingMaps.encode_dependency.Goals.{After-index-def}
-use Rattle.wit_encode.proofs.BytesWritten.{types-few}
-use Rattle.encode_types.proofs.Agree.{on_ok}
-use Rattle.encode_types.specs.Aliases.{AliasesMet}
-use Rattle.encode_types.specs.MetKinds.{referred}
-use Rattle.wit_encode.specs.Instance.{AliasesForTypes}
-use Rattle.encode_types.proofs.Aliasing.{met-none}
+use Rattle.wit_encode.proofs.{Refusing.room-listed, Closing.types-alone, BytesWritten.types-few}
+use Rattle.wit_encode.proofs.{Encodable.valid-encodable, interface.InstanceEncoderOf+TypeEncodingMaps.encode_dependency.Goals.After-index-def}
+use Rattle.encode_types.proofs.{Agree.on_ok, Aliasing.met-none}
+use Rattle.encode_types.specs.{Aliases.AliasesMet, MetKinds.referred}
 use Rattle.base_lemmas.proofs.Options.{at_err as when-err}
-use Rattle.std.proofs.lemmas.Result.{IfOk-weaker as ok-then, on_err_weaker as err-then}
+use Rattle.wit_encode.proofs.interface.InstanceEncoderOf+TypeEncodingMaps.encode_dependency.Goals as goal
 
 there : (c : After-index-def) → interface_at c.args.self.now.resolve.now c.args.interface.0 ≡ Some c.index-def.result.now
 there c = slice_get_read _ _ _ _ refl c.requires.in_range c.index-def.ensures

@@ -1,35 +1,17 @@
-use Rattle.std.proofs.Common.{◌≡◌, refl, sym, subst, ap, ◌∙◌, OnOk, inl, inr}
-use Rattle.base_lemmas.proofs.Options.{on-both}
+use Rattle.std.proofs.Common.{◌≡◌, refl, sym, subst, ap, ◌∙◌, OnOk, inl, inr, rules, arith, ◌≤◌, ◌+◌}
+use Rattle.base_lemmas.proofs.Options.{on-both, at_ok as on-any}
 use Rattle.wit_encode.proofs.PlacedFunctions.{function-in-order, open-still}
+use Rattle.wit_encode.proofs.{Referring.from-met, Continuing.Showed, Continuing.function-showed, Continuing.after-types, Refusing.function-named}
+use Rattle.wit_encode.proofs.{Counting.adds-function, Counting.function-counted, Counting.function-names, FunctionRoom.lacks-type, FunctionRoom.lacks-name}
+use Rattle.wit_encode.proofs.{FunctionExports.function-stays, interface.InstanceEncoderOf+TypeEncodingMaps.encode_function.Goals.After-export_function}
 use Rattle.wit_model.specs.declared.model.Resolve.{Resolve}
-use Rattle.encode_types.specs.Scope.{Scope}
-use Rattle.wit_encode.specs.Instance.{encoder_scope, exports_in}
+use Rattle.encode_types.specs.{Scope.Scope, Maps.MapsGrow, MetKinds.LearnsFrom, Room.export_name, Room.function_name, Extents.name_extent}
+use Rattle.wit_encode.specs.{Instance.encoder_scope, Instance.exports_in, Instance.own_of, Encoders.encoder_view}
 use Rattle.encode_types.specs.declared.maps.TypeEncodingMaps.{TypeEncodingMaps}
-use Rattle.encode_types.specs.Maps.{MapsGrow}
-use Rattle.wit_model.specs.Text.{text_of}
-use Rattle.wit_model.specs.Meant.{signature_of, function_meaning}
+use Rattle.wit_model.specs.{Text.text_of, Meant.signature_of, Meant.function_meaning, Parts.function_types}
 use Rattle.comp_bytes.specs.RawOf.{raw_name}
-use Rattle.encode_types.specs.MetKinds.{LearnsFrom}
-use Rattle.wit_encode.proofs.Referring.{from-met}
-use Rattle.wit_model.specs.Parts.{function_types}
-use Rattle.wit_encode.specs.Instance.{own_of}
-use Rattle.wit_encode.proofs.Continuing.{Showed, function-showed, after-types}
-use Rattle.wit_encode.proofs.Counting.{adds-function, function-counted, function-names}
-use Rattle.wit_encode.proofs.FunctionExports.{function-stays}
-use Rattle.std.proofs.Common.{rules, arith}
-use Rattle.wit_encode.specs.Encoders.{encoder_view}
-use Rattle.encode_types.proofs.Rooms.{holds-same, only-reached}
-use Rattle.wit_encode.proofs.FunctionRoom.{lacks-type, lacks-name}
-use Rattle.encode_types.specs.Room.{export_name, function_name}
-use Rattle.wit_encode.proofs.Refusing.{function-named}
+use Rattle.encode_types.proofs.{Rooms.holds-same, Rooms.only-reached, Agree.on_ok, Writing.writes-beside, Aliasing.makes-same}
 use Rattle.wit_encode.proofs.interface.InstanceEncoderOf+TypeEncodingMaps.encode_function.Goals as goal
-use Rattle.wit_encode.proofs.interface.InstanceEncoderOf+TypeEncodingMaps.encode_function.Goals.{After-export_function}
-use Rattle.encode_types.proofs.Agree.{on_ok}
-use Rattle.encode_types.proofs.Writing.{writes-beside}
-use Rattle.encode_types.specs.Extents.{name_extent}
-use Rattle.std.proofs.Common.{◌≤◌, ◌+◌}
-use Rattle.encode_types.proofs.Aliasing.{makes-same}
-use Rattle.base_lemmas.proofs.Options.{at_ok as on-any}
 
 pub encode_func_type-requires : goal.encode_func_type-requires
 encode_func_type-requires c = λ _. ((refl, tt), rw c.requires.open.packages_ (c.requires.encodable.types, (c.requires.encodable.formed, c.requires.open.agree)))

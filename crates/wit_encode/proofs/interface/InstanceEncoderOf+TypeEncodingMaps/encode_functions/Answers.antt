@@ -1,29 +1,19 @@
 use Rattle.std.proofs.Common.{rules, refl, sym, subst, arith, ℕ, String, Global, List, take, ◌∙◌, ap, ◌++◌, map}
-use Rattle.std.specs.List.{Contains}
-use Rattle.wit_model.specs.Text.{Text}
-use Rattle.std.specs.Borrow.{Bor}
-use Rattle.std.proofs.lemmas.Grind.{common_steps}
+use Rattle.std.proofs.{lemmas.Grind.common_steps, lemmas.List.take_all, Math.ListN.length-map}
+use Rattle.std.specs.{List.Contains, Borrow.Bor}
+use Rattle.wit_model.specs.{Text.Text, Parts.function_types}
 use Rattle.wit_model.specs.declared.model.Function.{Function}
-use Rattle.wit_encode.specs.Instance.{own_of}
-use Rattle.wit_encode.proofs.Referring.{from-function, from-functions}
-use Rattle.wit_encode.proofs.Counting.{adds-nothing, functions-counted, functions-all, names-after}
-use Rattle.wit_encode.proofs.Continuing.{function-continues, continues-trans}
-use Rattle.std.proofs.lemmas.List.{take_all}
-use Rattle.wit_encode.specs.Instance.{placed_function, meaning_of, contents_of, definitions_with, encoder_scope}
-use Rattle.wit_encode.proofs.FunctionExports.{used-kept}
-use Rattle.std.proofs.Math.ListN.{length-map}
-use Rattle.wit_model.specs.Parts.{function_types}
-use Rattle.encode_types.proofs.Rooms.{holds-none, holds-most, holds-then, only-more, flat-taken, map-taken}
-use Rattle.wit_encode.proofs.FunctionRoom.{next-lacks}
-use Rattle.wit_encode.proofs.interface.InstanceEncoderOf+TypeEncodingMaps.encode_functions.Goals as goal
-use Rattle.wit_encode.proofs.BytesWritten.{functions-next, functions-whole}
-use Rattle.encode_types.proofs.Writing.{writes-along, writes-most, writes-nothing}
-use Rattle.encode_types.specs.Extents.{function_extent}
+use Rattle.wit_encode.specs.Instance.{own_of, placed_function, meaning_of, contents_of, definitions_with, encoder_scope}
 use Rattle.wit_encode.specs.Encoders.{encoder_view}
+use Rattle.wit_encode.proofs.{Referring.from-function, Referring.from-functions, FunctionRoom.next-lacks}
+use Rattle.wit_encode.proofs.{Counting.adds-nothing, Counting.functions-counted, Counting.functions-all, Counting.names-after, FunctionExports.used-kept}
+use Rattle.wit_encode.proofs.{Continuing.function-continues, Continuing.continues-trans, BytesWritten.functions-next, BytesWritten.functions-whole}
+use Rattle.encode_types.proofs.Rooms.{holds-none, holds-most, holds-then, only-more, flat-taken, map-taken}
+use Rattle.encode_types.proofs.{Writing.writes-along, Writing.writes-most, Writing.writes-nothing, Aliasing.met-none, Aliasing.met-more, Aliasing.makes-then}
+use Rattle.encode_types.specs.Extents.{function_extent}
 use Rattle.wit_model.proofs.Elements.{contains-flat}
-use Rattle.encode_types.proofs.Aliasing.{met-none, met-more, makes-then}
-use Rattle.base_lemmas.proofs.Elements.{contains-at, contains-map}
-use Rattle.base_lemmas.proofs.Lists.{map_of_map as map-twice}
+use Rattle.base_lemmas.proofs.{Elements.contains-at, Elements.contains-map, Lists.map_of_map as map-twice}
+use Rattle.wit_encode.proofs.interface.InstanceEncoderOf+TypeEncodingMaps.encode_functions.Goals as goal
 
 pub encode_function-requires-clause-encodable : goal.encode_function-requires-clause-encodable
 encode_function-requires-clause-encodable c = function-continues _ c.loop-entry.invariant.continues

@@ -1,17 +1,10 @@
 use Rattle.std.proofs.Common.{◌≡◌, ◌≤◌, ◌++◌, map, take, length}
-use Rattle.encode_types.specs.View.{HoldsLearnt, WritesLearnt}
-use Rattle.wit_encode.specs.Encoders.{declared_inside, encoder_view}
-use Rattle.wit_encode.specs.Places.{StandInOrder}
-use Rattle.std.specs.List.{flat_map}
-use Rattle.std.specs.Prelude.{sum_by}
-use Rattle.encode_types.specs.Extents.{function_extent}
-use Rattle.wit_model.specs.Parts.{function_types}
-use Rattle.encode_types.specs.Aliases.{AliasesMet}
-use Rattle.encode_types.specs.MetKinds.{LearnsFrom}
-use Rattle.encode_types.specs.Counts.{names_defined}
-use Rattle.encode_types.specs.Distinct.{AddsFunctions}
+use Rattle.encode_types.specs.{View.HoldsLearnt, View.WritesLearnt, Extents.function_extent, MetKinds.LearnsFrom, Counts.names_defined, Distinct.AddsFunctions}
+use Rattle.encode_types.specs.{Aliases.AliasesMet, Maps.MapsGrow}
+use Rattle.wit_encode.specs.{Encoders.declared_inside, Encoders.encoder_view, Places.StandInOrder}
 use Rattle.wit_encode.specs.Instance.{placed_function, meaning_of, own_of, around_of, contents_of, encoder_scope, definitions_with, Continues, exports_in}
-use Rattle.encode_types.specs.Maps.{MapsGrow}
+use Rattle.std.specs.{List.flat_map, Prelude.sum_by}
+use Rattle.wit_model.specs.Parts.{function_types}
 use Rattle.wit_encode.proofs.interface.InstanceEncoderOf+TypeEncodingMaps.encode_functions.Given as goal
 
 abbrev pub invariant-loop-entry : goal.invariant-loop-entry

@@ -1,24 +1,16 @@
 use Rattle.std.proofs.Common.{◌≡◌, sym, subst, ap, ◌∙◌, ◌++◌, ◌∷◌, [], List, map, Option, Some, rules, refl, length}
-use Rattle.wit_model.specs.declared.model.«Type».TheVariants as ty
 use Rattle.wit_model.specs.declared.model.Function.{Function}
 use Rattle.encode_types.specs.declared.maps.TypeEncodingMaps.{TypeEncodingMaps}
 use Rattle.wit_encode.specs.declared.interface.OpenInterface.{OpenInterface}
-use Rattle.encode_types.specs.Fits.{CanEncode}
-use Rattle.encode_types.specs.Maps.{MapsAgree}
-use Rattle.encode_types.specs.Distinct.{AddsFunctions}
+use Rattle.encode_types.specs.{Fits.CanEncode, Maps.MapsAgree, Distinct.AddsFunctions, Aliases.AliasesMet, MetKinds.referred}
 use Rattle.wit_encode.specs.Instance.{Contents, SlotsStand, stands_inside, encoder_scope, contents_of, definitions_with, CanEncodeFunction, Continues, placed_function, meaning_of, exports_in, opened, own_of, around_of, around_at}
-use Rattle.wit_encode.specs.Encoders.{declared_inside}
-use Rattle.wit_encode.specs.Places.{StandInOrder}
-use Rattle.wit_encode.proofs.Referring.{interface-kinds}
-use Rattle.wit_encode.proofs.Opening.{closed, closed-instance, listed-there, opened-exports, opened-with}
-use Rattle.encode_types.specs.Aliases.{AliasesMet}
-use Rattle.encode_types.specs.MetKinds.{referred}
-use Rattle.wit_encode.proofs.Counting.{Began, Counted, closed-counts, declares-few}
-use Rattle.wit_encode.proofs.Refusing.{no-room}
-use Rattle.wit_encode.proofs.interface.InstanceEncoderOf+TypeEncodingMaps.encode_inside.Goals as goal
+use Rattle.wit_encode.specs.{Encoders.declared_inside, Places.StandInOrder}
+use Rattle.wit_encode.proofs.{Referring.interface-kinds, Counting.Began, Counting.Counted, Counting.closed-counts, Counting.declares-few, Refusing.no-room}
+use Rattle.wit_encode.proofs.{Opening.closed, Opening.closed-instance, Opening.listed-there, Opening.opened-exports, Opening.opened-with, BytesWritten.taken}
 use Rattle.wit_encode.proofs.interface.InstanceEncoderOf+TypeEncodingMaps.encode_inside.Goals.{After-new-2, In-Some, In_ok-outcome-in-Some}
-use Rattle.wit_encode.proofs.BytesWritten.{taken}
 use Rattle.base_lemmas.proofs.Bools.{left_of as first_true}
+use Rattle.wit_model.specs.declared.model.«Type».TheVariants as ty
+use Rattle.wit_encode.proofs.interface.InstanceEncoderOf+TypeEncodingMaps.encode_inside.Goals as goal
 
 begun : (c : After-new-2)
     → ◌≡◌ {A = Option OpenInterface} (Some (record { interface = c.args.interface; declared = c.new-2.result; foreign = c.replace-foreign.result })) (opened c.args.interface c.args.self.now.foreign)

@@ -1,37 +1,18 @@
-use Rattle.std.proofs.Common.{◌≡◌, refl, sym, subst, ◌∙◌, List, Some}
-use Rattle.std.specs.List.{Contains}
-use Rattle.std.proofs.lemmas.Option.{slice_get_read}
+use Rattle.std.proofs.Common.{◌≡◌, refl, sym, subst, ◌∙◌, List, Some, inl, inr, ap}
+use Rattle.std.proofs.lemmas.{Option.slice_get_read, Result.IfOk-weaker as ok-then, Result.on_err_weaker as err-then}
+use Rattle.std.specs.{List.Contains, Prelude.map, Prelude.IsPermutation}
 use Rattle.wit_model.specs.Lookup.{interface_at}
-use Rattle.wit_model.specs.declared.model.TypeId.{TypeId}
-use Rattle.wit_encode.specs.Instance.{keyed, EncodesPart, EncodesInterface, CanEncodeInterface}
-use Rattle.std.specs.Prelude.{map, IsPermutation}
+use Rattle.wit_model.specs.declared.model.{TypeId.TypeId, Interface.Interface}
+use Rattle.wit_encode.specs.Instance.{keyed, EncodesPart, EncodesInterface, CanEncodeInterface, placed_function, AliasesFor, whole_interface}
+use Rattle.wit_encode.specs.{Encoders.outside, Exports.UsesListed, Order.functions_in_order}
 use Rattle.indexmap.specs.IndexMap.{values}
-use Rattle.wit_encode.specs.Instance.{placed_function}
-use Rattle.wit_encode.proofs.Encodable.{valid-encodable}
-use Rattle.wit_encode.specs.Encoders.{outside}
-use Rattle.wit_encode.proofs.Closing.{whole}
-use Rattle.wit_encode.proofs.Opening.{permuted-contains}
-use Rattle.wit_encode.specs.Exports.{UsesListed}
-use Rattle.wit_encode.proofs.Exporting.{uses-listed}
-use Rattle.wit_encode.proofs.FunctionExports.{keyed-value}
-use Rattle.std.proofs.Common.{inl, inr, ap}
-use Rattle.wit_model.specs.declared.model.Interface.{Interface}
-use Rattle.wit_encode.specs.Order.{functions_in_order}
-use Rattle.wit_encode.proofs.Refusing.{room-listed}
-use Rattle.wit_encode.proofs.interface.InstanceEncoderOf+TypeEncodingMaps.encode_instance.Goals as goal
+use Rattle.wit_encode.proofs.{Encodable.valid-encodable, Closing.whole, Exporting.uses-listed, BytesWritten.whole-few}
+use Rattle.wit_encode.proofs.{Opening.permuted-contains, Opening.values-permuted, FunctionExports.keyed-value, Refusing.room-listed, Referring.permuted-aliases}
 use Rattle.wit_encode.proofs.interface.InstanceEncoderOf+TypeEncodingMaps.encode_instance.Goals.{After-index-def, After-encode_part}
-use Rattle.wit_encode.proofs.BytesWritten.{whole-few}
-use Rattle.encode_types.proofs.Agree.{on_ok}
-use Rattle.encode_types.specs.Aliases.{AliasesMet}
-use Rattle.encode_types.specs.Known.{Around}
-use Rattle.encode_types.specs.MetKinds.{referred}
-use Rattle.wit_encode.specs.Instance.{AliasesFor, whole_interface}
-use Rattle.wit_encode.proofs.Opening.{values-permuted}
-use Rattle.wit_encode.proofs.Referring.{permuted-aliases}
-use Rattle.encode_types.proofs.Aliasing.{met-none}
-use Rattle.base_lemmas.proofs.Elements.{contains-map}
-use Rattle.base_lemmas.proofs.Options.{at_err as when-err}
-use Rattle.std.proofs.lemmas.Result.{IfOk-weaker as ok-then, on_err_weaker as err-then}
+use Rattle.encode_types.proofs.{Agree.on_ok, Aliasing.met-none}
+use Rattle.encode_types.specs.{Aliases.AliasesMet, Known.Around, MetKinds.referred}
+use Rattle.base_lemmas.proofs.{Elements.contains-map, Options.at_err as when-err}
+use Rattle.wit_encode.proofs.interface.InstanceEncoderOf+TypeEncodingMaps.encode_instance.Goals as goal
 
 there : (c : After-index-def) → interface_at c.args.self.now.resolve.now c.args.interface.0 ≡ Some c.index-def.result.now
 there c = slice_get_read _ _ _ _ refl c.requires.in_range c.index-def.ensures

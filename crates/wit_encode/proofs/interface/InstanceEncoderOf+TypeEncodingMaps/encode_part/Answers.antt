@@ -1,16 +1,14 @@
 use Rattle.std.proofs.Common.{◌≡◌, refl, sym, ap, ◌∙◌, inr, Some, map}
+use Rattle.std.proofs.lemmas.Option.{same_Some as some-same}
 use Rattle.wit_model.specs.Lookup.{interface_at}
 use Rattle.wit_model.specs.declared.model.Interface.{Interface}
 use Rattle.indexmap.specs.IndexMap.{values}
-use Rattle.wit_encode.specs.Instance.{placed_function, EncodesPart}
-use Rattle.wit_encode.specs.Encoders.{outside}
+use Rattle.wit_encode.specs.{Instance.placed_function, Instance.EncodesPart, Encoders.outside}
 use Rattle.wit_encode.proofs.Closing.{closes}
-use Rattle.wit_encode.proofs.StillSound.{closed-sound, grown-sound, sound-closed}
+use Rattle.wit_encode.proofs.{StillSound.closed-sound, StillSound.grown-sound, StillSound.sound-closed, BytesWritten.taken-closed, BytesWritten.when-ok}
 use Rattle.wit_encode.proofs.Opening.{close-each, closed-keeps, closed-stay, grown-stay, listed-there, reached-keeps}
-use Rattle.wit_encode.proofs.interface.InstanceEncoderOf+TypeEncodingMaps.encode_part.Goals as goal
-use Rattle.wit_encode.proofs.BytesWritten.{taken-closed, when-ok}
 use Rattle.comp_bytes.specs.Raw.{from_list}
-use Rattle.std.proofs.lemmas.Option.{same_Some as some-same}
+use Rattle.wit_encode.proofs.interface.InstanceEncoderOf+TypeEncodingMaps.encode_part.Goals as goal
 
 pub returns-clause-ok : goal.returns-clause-ok
 returns-clause-ok c =

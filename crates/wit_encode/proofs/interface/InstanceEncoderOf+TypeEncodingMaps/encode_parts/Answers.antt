@@ -1,24 +1,17 @@
-use Rattle.std.proofs.Common.{refl, sym, subst, map, arith, rules}
+use Rattle.std.proofs.Common.{refl, sym, subst, map, arith, rules, ap}
 use Rattle.std.specs.List.{flat_map}
 use Rattle.wit_model.specs.Parts.{function_types}
-use Rattle.wit_model.specs.declared.model.«Type».TheVariants as ty
-use Rattle.encode_types.proofs.Rooms.{holds-most, holds-then, only-more, reached-left, reached-right}
-use Rattle.wit_encode.proofs.HeldKeys.{knows-along}
-use Rattle.wit_encode.proofs.FunctionRoom.{lacks-types, lacks-behind}
+use Rattle.encode_types.proofs.{Rooms.holds-most, Rooms.holds-then, Rooms.only-more, Rooms.reached-left, Rooms.reached-right, Agree.on_ok, Agree.known-grow}
+use Rattle.encode_types.proofs.{Writing.writes-most, Writing.writes-then, Aliasing.met-more, Aliasing.makes-then}
+use Rattle.wit_encode.proofs.{HeldKeys.knows-along, Referring.from-then}
+use Rattle.wit_encode.proofs.{FunctionRoom.lacks-types, FunctionRoom.lacks-behind, Continuing.same-scope, Continuing.after-types, Continuing.continues-trans}
+use Rattle.wit_encode.proofs.{PlacedFunctions.open-still, PlacedFunctions.types-in-order, FunctionExports.listed-used, FunctionExports.exported-after}
+use Rattle.wit_encode.proofs.{Counting.parts-counted, Counting.parts-named, interface.InstanceEncoderOf+TypeEncodingMaps.encode_parts.Goals.After-encode_types}
 use Rattle.encode_types.specs.Scope.{Scope}
 use Rattle.wit_encode.specs.Instance.{CanEncodeFunction, Continues, own_of, declarations_in, placed_function}
-use Rattle.std.proofs.Common.{ap}
-use Rattle.encode_types.proofs.Agree.{on_ok, known-grow}
-use Rattle.wit_encode.proofs.PlacedFunctions.{open-still, types-in-order}
-use Rattle.wit_encode.proofs.Referring.{from-then}
-use Rattle.wit_encode.proofs.Continuing.{same-scope, after-types, continues-trans}
-use Rattle.wit_encode.proofs.Counting.{parts-counted, parts-named}
-use Rattle.wit_encode.proofs.FunctionExports.{listed-used, exported-after}
-use Rattle.wit_encode.proofs.interface.InstanceEncoderOf+TypeEncodingMaps.encode_parts.Goals as goal
-use Rattle.wit_encode.proofs.interface.InstanceEncoderOf+TypeEncodingMaps.encode_parts.Goals.{After-encode_types}
-use Rattle.encode_types.proofs.Writing.{writes-most, writes-then}
-use Rattle.encode_types.proofs.Aliasing.{met-more, makes-then}
 use Rattle.base_lemmas.proofs.Options.{on-both}
+use Rattle.wit_model.specs.declared.model.«Type».TheVariants as ty
+use Rattle.wit_encode.proofs.interface.InstanceEncoderOf+TypeEncodingMaps.encode_parts.Goals as goal
 
 pub encode_functions-requires-clause-encodable : goal.encode_functions-requires-clause-encodable
 encode_functions-requires-clause-encodable c = λ f h. subst (λ (s : Scope). CanEncodeFunction c.args.resolve.now s f.2.now)

@@ -1,25 +1,18 @@
 use Rattle.std.proofs.Common.{◌≡◌, inl, inr, List, take, refl, sym, subst, ap, arith, [], ◌∷◌, get_or, length, map, rules}
+use Rattle.std.proofs.lemmas.{Option.slice_get-get_or, List.Elements.Contains-get_or, List.take_all}
 use Rattle.wit_encode.specs.Encoders.{encoder_view}
-use Rattle.encode_types.proofs.Rooms.{holds-none, holds-then, room-after, only-more, map-taken}
-use Rattle.std.proofs.lemmas.Option.{slice_get-get_or}
-use Rattle.wit_model.specs.declared.model.Resolve.{Resolve}
-use Rattle.std.proofs.lemmas.List.Elements.{Contains-get_or}
-use Rattle.wit_model.specs.declared.model.«Type».TheVariants as ty
-use Rattle.wit_model.specs.declared.model.TypeId.{TypeId}
-use Rattle.encode_types.specs.Scope.{Scope}
-use Rattle.encode_types.specs.Fits.{CanEncode}
 use Rattle.wit_encode.specs.Instance.{own_of, declarations_in, contents_of, encoder_scope, definitions_with}
+use Rattle.encode_types.proofs.Rooms.{holds-none, holds-then, room-after, only-more, map-taken}
+use Rattle.encode_types.proofs.{Defining.leaves-kept, Defining.leaves-trans, Defining.counts-none, Defining.counts-trans, Around.around-same}
+use Rattle.encode_types.proofs.{Writing.writes-nothing, Writing.writes-then, Aliasing.met-none, Aliasing.met-more, Aliasing.makes-then}
+use Rattle.wit_model.specs.declared.model.{Resolve.Resolve, TypeId.TypeId}
+use Rattle.encode_types.specs.{Scope.Scope, Fits.CanEncode}
 use Rattle.wit_encode.proofs.Referring.{from-none, from-type, from-types}
-use Rattle.encode_types.proofs.Defining.{leaves-kept, leaves-trans, counts-none, counts-trans}
+use Rattle.wit_encode.proofs.{Counting.exact-names, Exporting.exports-start, Exporting.exports-next, Exporting.exports-end}
 use Rattle.std.specs.List.{Contains}
-use Rattle.std.proofs.lemmas.List.{take_all}
-use Rattle.encode_types.proofs.Around.{around-same}
-use Rattle.wit_encode.proofs.Counting.{exact-names}
-use Rattle.wit_encode.proofs.Exporting.{exports-start, exports-next, exports-end}
-use Rattle.wit_encode.proofs.interface.InstanceEncoderOf+TypeEncodingMaps.encode_types.Goals as goal
-use Rattle.encode_types.proofs.Writing.{writes-nothing, writes-then}
-use Rattle.encode_types.proofs.Aliasing.{met-none, met-more, makes-then}
 use Rattle.base_lemmas.proofs.Elements.{contains-map, last_of as one-contained}
+use Rattle.wit_model.specs.declared.model.«Type».TheVariants as ty
+use Rattle.wit_encode.proofs.interface.InstanceEncoderOf+TypeEncodingMaps.encode_types.Goals as goal
 
 pub loop-id-init : goal.loop-id-init
 loop-id-init c = record {

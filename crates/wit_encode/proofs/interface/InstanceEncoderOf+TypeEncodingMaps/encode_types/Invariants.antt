@@ -1,12 +1,7 @@
 use Rattle.std.proofs.Common.{map, take}
+use Rattle.encode_types.specs.{MetKinds.LearnsFrom, Aliases.MakesMet, Leaves.Leaves, Leaves.CountsTypes, View.HoldsLearnt, View.WritesLearnt}
+use Rattle.wit_encode.specs.{Instance.own_of, Exports.ShowsFirst, Encoders.encoder_view}
 use Rattle.wit_model.specs.declared.model.«Type».TheVariants as ty
-use Rattle.encode_types.specs.MetKinds.{LearnsFrom}
-use Rattle.wit_encode.specs.Instance.{own_of}
-use Rattle.encode_types.specs.Aliases.{MakesMet}
-use Rattle.encode_types.specs.Leaves.{Leaves, CountsTypes}
-use Rattle.wit_encode.specs.Exports.{ShowsFirst}
-use Rattle.encode_types.specs.View.{HoldsLearnt, WritesLearnt}
-use Rattle.wit_encode.specs.Encoders.{encoder_view}
 use Rattle.wit_encode.proofs.interface.InstanceEncoderOf+TypeEncodingMaps.encode_types.Given as goal
 
 abbrev pub invariant-loop-id : goal.invariant-loop-id

@@ -1,14 +1,10 @@
-use Rattle.comp_bytes.specs.RawOf.{raw_name}
-use Rattle.wit_encode.proofs.ShowFunctions.{shows-within}
-use Rattle.comp_bytes.specs.declared.forms.ComponentTypeRef.TheVariants as refs
+use Rattle.comp_bytes.specs.{RawOf.raw_name, Raw.Declaration, Held.fits_next}
+use Rattle.wit_encode.proofs.{ShowFunctions.shows-within, Extents.bytes-few}
+use Rattle.wit_encode.proofs.{Refusing.on-size, Refusing.name-inside, Refusing.held-inside, Refusing.kept-inside, Refusing.one-pushed, BytesWritten.inside-more}
 use Rattle.std.proofs.Common.{inl, sym, subst, List, ◌≡◌, false}
-use Rattle.comp_bytes.specs.Raw.{Declaration}
-use Rattle.comp_bytes.specs.Held.{fits_next}
-use Rattle.wit_encode.proofs.Refusing.{on-size, name-inside, held-inside, kept-inside, one-pushed}
-use Rattle.wit_encode.proofs.interface.InstanceEncoderOf+TypeEncodingMaps.export_function.Goals as goal
-use Rattle.wit_encode.proofs.Extents.{bytes-few}
-use Rattle.wit_encode.proofs.BytesWritten.{inside-more}
 use Rattle.encode_types.proofs.Agree.{on_ok}
+use Rattle.comp_bytes.specs.declared.forms.ComponentTypeRef.TheVariants as refs
+use Rattle.wit_encode.proofs.interface.InstanceEncoderOf+TypeEncodingMaps.export_function.Goals as goal
 
 pub returns-clause-ok : goal.returns-clause-ok
 returns-clause-ok c = λ s h. shows-within c.export.result c.args.self.now.resolve.now c.args.self.now.outer c.args.self.now.inner c.in-Some.current c.export.new.self (raw_name c.args.name)

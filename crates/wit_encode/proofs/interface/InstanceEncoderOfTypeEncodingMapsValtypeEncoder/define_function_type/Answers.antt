@@ -1,13 +1,10 @@
 use Rattle.std.proofs.Common.{inl, refl, sym, ap, ◌∙◌}
-use Rattle.wit_encode.proofs.PlacedFunctions.{inside-called}
-use Rattle.wit_encode.specs.Instance.{around_of}
-use Rattle.encode_types.proofs.Around.{slots-grow}
+use Rattle.wit_encode.proofs.{PlacedFunctions.inside-called, Extents.bytes-few, BytesWritten.inside-more, BytesWritten.outside-more, BytesWritten.when-ok}
 use Rattle.wit_encode.proofs.Within.{function-within, function-without, slot-function}
-use Rattle.wit_encode.specs.Instance.{stands_in}
 use Rattle.wit_encode.proofs.Refusing.{function-inside, function-outside, held-inside, held-outside, on-size, kept-inside, kept-outside}
+use Rattle.wit_encode.specs.Instance.{around_of, stands_in}
+use Rattle.encode_types.proofs.Around.{slots-grow}
 use Rattle.wit_encode.proofs.interface.InstanceEncoderOfTypeEncodingMapsValtypeEncoder.define_function_type.Goals as goal
-use Rattle.wit_encode.proofs.Extents.{bytes-few}
-use Rattle.wit_encode.proofs.BytesWritten.{inside-more, outside-more, when-ok}
 
 pub returns-in-Some-clause-ok : goal.returns-in-Some-clause-ok
 returns-in-Some-clause-ok c = (function-within c.define_function_inside.result c.args.self.now.resolve.now c.args.self.now.outer c.args.self.now.inner c.in-Some.current

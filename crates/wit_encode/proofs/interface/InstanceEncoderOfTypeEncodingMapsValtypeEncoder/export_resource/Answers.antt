@@ -1,14 +1,11 @@
 use Rattle.std.proofs.Common.{refl, inl, sym, ap}
-use Rattle.wit_encode.proofs.PlacedFunctions.{inside-called}
+use Rattle.wit_encode.proofs.{PlacedFunctions.inside-called, Refusing.name-inside, Refusing.held-inside, Refusing.on-size, Refusing.kept-inside}
+use Rattle.wit_encode.proofs.{Within.resource-within, Extents.bytes-few, BytesWritten.inside-more, BytesWritten.when-ok}
 use Rattle.wit_encode.specs.Instance.{around_of}
 use Rattle.encode_types.proofs.Around.{slots-grow}
-use Rattle.wit_encode.proofs.Within.{resource-within}
-use Rattle.comp_bytes.specs.declared.forms.ComponentTypeRef.TheVariants as refs
-use Rattle.wit_encode.proofs.Refusing.{name-inside, held-inside, on-size, kept-inside}
 use Rattle.comp_bytes.specs.RawOf.{raw_name}
+use Rattle.comp_bytes.specs.declared.forms.ComponentTypeRef.TheVariants as refs
 use Rattle.wit_encode.proofs.interface.InstanceEncoderOfTypeEncodingMapsValtypeEncoder.export_resource.Goals as goal
-use Rattle.wit_encode.proofs.Extents.{bytes-few}
-use Rattle.wit_encode.proofs.BytesWritten.{inside-more, when-ok}
 
 pub returns-clause-ok : goal.returns-clause-ok
 returns-clause-ok c = (resource-within c.export_inside.result c.args.self.now.resolve.now c.args.self.now.outer c.args.self.now.inner c.in-Some.current c.export_inside.new.inner c.in-Some.is _

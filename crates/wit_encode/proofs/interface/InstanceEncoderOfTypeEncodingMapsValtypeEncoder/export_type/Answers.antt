@@ -1,17 +1,13 @@
 use Rattle.std.proofs.Common.{refl, ◌≡◌, inl, sym, ap, ◌∙◌, ℕ, Result, Ok, Err, Some, rules}
-use Rattle.wit_encode.proofs.PlacedFunctions.{inside-called}
+use Rattle.wit_encode.proofs.{PlacedFunctions.inside-called, Refusing.name-inside, Refusing.held-inside, Refusing.kept-inside, BytesWritten.inside-more}
+use Rattle.wit_encode.proofs.{Within.type-within, Extents.bytes-few}
 use Rattle.wit_model.specs.declared.error.Error.{Error}
 use Rattle.comp_bytes.specs.RawOf.{raw_name}
-use Rattle.wit_encode.specs.Instance.{encoder_scope}
-use Rattle.wit_encode.specs.Instance.{around_of}
+use Rattle.wit_encode.specs.Instance.{encoder_scope, around_of}
 use Rattle.encode_types.proofs.Around.{slots-grow}
-use Rattle.wit_encode.proofs.Within.{type-within}
 use Rattle.comp_bytes.specs.declared.forms.ComponentTypeRef.TheVariants as refs
-use Rattle.wit_encode.proofs.Refusing.{name-inside, held-inside, kept-inside}
 use Rattle.wit_model.specs.declared.error.Error.TheVariants as errors
 use Rattle.wit_encode.proofs.interface.InstanceEncoderOfTypeEncodingMapsValtypeEncoder.export_type.Goals as goal
-use Rattle.wit_encode.proofs.Extents.{bytes-few}
-use Rattle.wit_encode.proofs.BytesWritten.{inside-more}
 
 pub returns-clause-ok : goal.returns-clause-ok
 returns-clause-ok c =

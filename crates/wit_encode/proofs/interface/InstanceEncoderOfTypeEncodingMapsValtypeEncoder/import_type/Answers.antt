@@ -1,16 +1,14 @@
 use Rattle.std.proofs.Common.{inl, sym, ap, ◌∙◌, subst, arith, Option, Some, rules, refl}
-use Rattle.wit_encode.proofs.PlacedFunctions.{inside-called}
 use Rattle.std.proofs.lemmas.Option.{slice_get_within}
-use Rattle.wit_encode.specs.declared.interface.OpenInterface.{OpenInterface}
-use Rattle.encode_types.specs.Scope.{IsImportable}
-use Rattle.encode_types.specs.Known.{Around, GrowsAround, ReachesAround}
-use Rattle.wit_encode.specs.Instance.{encoder_scope, scope_with, inner_contents, place_in, around_at, around_of}
-use Rattle.encode_types.proofs.Around.{reaches-grows}
+use Rattle.wit_encode.proofs.{PlacedFunctions.inside-called, interface.InstanceEncoderOfTypeEncodingMapsValtypeEncoder.import_type.Goals.After-alias_inside}
 use Rattle.wit_encode.proofs.Importing.{ImportsTo, imported, imported-stands, import-source, none-outside}
 use Rattle.wit_encode.proofs.Refusing.{alias-inside, alias-outside, held-inside, on-size, kept-inside}
-use Rattle.wit_encode.proofs.interface.InstanceEncoderOfTypeEncodingMapsValtypeEncoder.import_type.Goals as goal
-use Rattle.wit_encode.proofs.interface.InstanceEncoderOfTypeEncodingMapsValtypeEncoder.import_type.Goals.{After-alias_inside}
 use Rattle.wit_encode.proofs.BytesWritten.{imported-more, when-ok}
+use Rattle.wit_encode.specs.declared.interface.OpenInterface.{OpenInterface}
+use Rattle.encode_types.specs.{Scope.IsImportable, Known.Around, Known.GrowsAround, Known.ReachesAround}
+use Rattle.wit_encode.specs.Instance.{encoder_scope, scope_with, inner_contents, place_in, around_at, around_of}
+use Rattle.encode_types.proofs.Around.{reaches-grows}
+use Rattle.wit_encode.proofs.interface.InstanceEncoderOfTypeEncodingMapsValtypeEncoder.import_type.Goals as goal
 
 pub reach-requires-clause-in_range : goal.reach-requires-clause-in_range
 reach-requires-clause-in_range c = slice_get_within c.args.self.now.resolve.now.types.items c.args.id.0 c.requires.def c.requires.there

@@ -1,14 +1,12 @@
-use Rattle.std.proofs.Common.{◌≡◌, ◌⊎◌, sym, subst, Some, []}
+use Rattle.std.proofs.Common.{◌≡◌, ◌⊎◌, sym, subst, Some, [], OnErr, OnOk}
 use Rattle.std.specs.Prelude.{IfOk}
 use Rattle.wit_model.specs.Lookup.{interface_at}
 use Rattle.wit_model.specs.declared.model.Interface.{Interface}
-use Rattle.encode_types.specs.Known.{Around, UsedStand, standing_instances}
-use Rattle.encode_types.specs.Room.{HasNoRoom}
+use Rattle.encode_types.specs.{Known.Around, Known.UsedStand, Known.standing_instances, Room.HasNoRoom}
 use Rattle.wit_encode.specs.Instance.{EncodesDependency, AliasesForTypes, LacksInstanceRoom, types_alone_of, around_at}
-use Rattle.wit_encode.proofs.world.WorldEncoderOf+TypeEncodingMaps.define_dependency.Goals as goal
-use Rattle.comp_bytes.specs.Raw.{Declarations}
-use Rattle.std.proofs.Common.{OnErr, OnOk}
 use Rattle.wit_encode.specs.WrittenBytes.{AddsBytes, types_extent}
+use Rattle.comp_bytes.specs.Raw.{Declarations}
+use Rattle.wit_encode.proofs.world.WorldEncoderOf+TypeEncodingMaps.define_dependency.Goals as goal
 
 pub encode_dependency-outcome-requires-clause-around : goal.encode_dependency-outcome-requires-clause-around
 encode_dependency-outcome-requires-clause-around c =

@@ -1,14 +1,12 @@
-use Rattle.std.proofs.Common.{◌≡◌, ◌⊎◌, sym, subst, Some}
+use Rattle.std.proofs.Common.{◌≡◌, ◌⊎◌, sym, subst, Some, OnErr, OnOk}
 use Rattle.std.specs.Prelude.{IfOk}
 use Rattle.wit_model.specs.Lookup.{interface_at}
 use Rattle.wit_model.specs.declared.model.Interface.{Interface}
 use Rattle.encode_types.specs.Known.{Around, UsedStand, standing_instances}
-use Rattle.wit_encode.specs.Encoders.{InterfaceLacksRoom}
+use Rattle.wit_encode.specs.{Encoders.InterfaceLacksRoom, WrittenBytes.AddsBytes, WrittenBytes.whole_extent}
 use Rattle.wit_encode.specs.Instance.{EncodesInterface, AliasesFor, LacksInstanceRoom, whole_interface, around_at}
-use Rattle.wit_encode.proofs.world.WorldEncoderOf+TypeEncodingMaps.define_instance.Goals as goal
 use Rattle.comp_bytes.specs.Raw.{Declarations}
-use Rattle.std.proofs.Common.{OnErr, OnOk}
-use Rattle.wit_encode.specs.WrittenBytes.{AddsBytes, whole_extent}
+use Rattle.wit_encode.proofs.world.WorldEncoderOf+TypeEncodingMaps.define_instance.Goals as goal
 
 pub encode_instance-outcome-requires-clause-around : goal.encode_instance-outcome-requires-clause-around
 encode_instance-outcome-requires-clause-around c =

@@ -1,33 +1,19 @@
-use Rattle.std.proofs.Common.{◌≡◌, ◌∙◌, inl, inr, true, ap, sym, subst, refl, ℕ, zero, ◌∷◌, Result, Err, rules}
-use Rattle.encode_types.specs.View.{Told}
-use Rattle.wit_model.specs.declared.error.Error.{Error}
-use Rattle.wit_model.specs.declared.error.Error.TheVariants as errors
-use Rattle.encode_types.specs.Scope.{Scope}
-use Rattle.wit_model.specs.declared.model.WorldItem.{WorldItem}
-use Rattle.comp_bytes.specs.declared.forms.ComponentTypeRef.TheVariants as refs
-use Rattle.encode_names.specs.WorldNames.{name_of_item}
-use Rattle.encode_names.specs.WorldSteps.{declared_towards, with_entry}
-use Rattle.wit_encode.specs.Encoders.{declared_after}
-use Rattle.wit_encode.specs.Worlds.{world_encoder_view}
-use Rattle.wit_encode.specs.WorldItems.{HasShown, IsNext, entry_of, towards}
-use Rattle.wit_model.specs.declared.model.Resolve.{Resolve}
-use Rattle.comp_bytes.specs.Raw.{Declarations}
-use Rattle.wit_encode.specs.Places.{are_beside}
-use Rattle.wit_encode.specs.Worlds.{is_sound_outside, world_around}
-use Rattle.wit_encode.proofs.Places.{function-beside, grows-none, towards-of}
-use Rattle.wit_encode.proofs.WorldCalls.{outer-slots-counted}
-use Rattle.wit_encode.proofs.WorldCounting.{function-defined, towards-function}
-use Rattle.wit_encode.proofs.WorldHolding.{function-few, function-lacks, function-name-lacks, one-key}
-use Rattle.wit_encode.proofs.WrittenNames.{function-names}
-use Rattle.wit_encode.proofs.WorldFunctions.{can-encode, function-encoded}
-use Rattle.wit_encode.proofs.world.WorldEncoderOf+TypeEncodingMaps.encode_function.Goals as goal
-use Rattle.wit_encode.proofs.BytesWritten.{function-item, learnt-more, learnt-most}
-use Rattle.wit_encode.proofs.WorldBytes.{declared-few}
-use Rattle.std.proofs.Common.{arith}
-use Rattle.wit_model.specs.Meant.{signature_of}
-use Rattle.encode_types.specs.Extents.{name_extent, signature_extent}
-use Rattle.wit_encode.specs.WrittenBytes.{AddsLearnt}
+use Rattle.std.proofs.Common.{◌≡◌, ◌∙◌, inl, inr, true, ap, sym, subst, refl, ℕ, zero, ◌∷◌, Result, Err, rules, arith}
 use Rattle.std.proofs.lemmas.Result.{on_ok_weaker as on-each}
+use Rattle.encode_types.specs.{View.Told, Scope.Scope, Extents.name_extent, Extents.signature_extent}
+use Rattle.wit_model.specs.declared.{error.Error.Error, model.WorldItem.WorldItem, model.Resolve.Resolve}
+use Rattle.encode_names.specs.{WorldNames.name_of_item, WorldSteps.declared_towards, WorldSteps.with_entry}
+use Rattle.wit_encode.specs.{Encoders.declared_after, WorldItems.HasShown, WorldItems.IsNext, WorldItems.entry_of, WorldItems.towards, WrittenBytes.AddsLearnt}
+use Rattle.wit_encode.specs.{Worlds.world_encoder_view, Worlds.is_sound_outside, Worlds.world_around, Places.are_beside}
+use Rattle.comp_bytes.specs.Raw.{Declarations}
+use Rattle.wit_encode.proofs.{Places.function-beside, Places.grows-none, Places.towards-of, WorldCounting.function-defined, WorldCounting.towards-function}
+use Rattle.wit_encode.proofs.{WorldCalls.outer-slots-counted, BytesWritten.function-item, BytesWritten.learnt-more, BytesWritten.learnt-most}
+use Rattle.wit_encode.proofs.WorldHolding.{function-few, function-lacks, function-name-lacks, one-key}
+use Rattle.wit_encode.proofs.{WrittenNames.function-names, WorldFunctions.can-encode, WorldFunctions.function-encoded, WorldBytes.declared-few}
+use Rattle.wit_model.specs.Meant.{signature_of}
+use Rattle.wit_model.specs.declared.error.Error.TheVariants as errors
+use Rattle.comp_bytes.specs.declared.forms.ComponentTypeRef.TheVariants as refs
+use Rattle.wit_encode.proofs.world.WorldEncoderOf+TypeEncodingMaps.encode_function.Goals as goal
 
 pub encode_func_type-requires : goal.encode_func_type-requires
 encode_func_type-requires c =

@@ -1,6 +1,5 @@
-use Rattle.std.proofs.Common.{rules}
+use Rattle.std.proofs.{Common.rules, lemmas.Map.Iter.rest_all, lemmas.Map.Iter.rest_more}
 use Rattle.std.specs.Map.Iter.{deref_pair}
-use Rattle.std.proofs.lemmas.Map.Iter.{rest_all, rest_more}
 use Rattle.wit_encode.specs.WorldItems.{towards}
 use Rattle.wit_encode.proofs.WorldLists.{defines-whole, goes-first, goes-lacks, goes-next, goes-on, goes-whole, holds-whole, names-whole, written-whole}
 use Rattle.wit_encode.proofs.world.WorldEncoderOf+TypeEncodingMaps.encode_items.Goals as goal

@@ -1,5 +1,4 @@
-use Rattle.wit_encode.specs.Places.{StaysBeside}
-use Rattle.wit_encode.specs.WorldItems.{towards}
+use Rattle.wit_encode.specs.{Places.StaysBeside, WorldItems.towards}
 use Rattle.wit_encode.proofs.WorldLists.{Goes}
 use Rattle.wit_encode.proofs.world.WorldEncoderOf+TypeEncodingMaps.encode_items.Given as goal
 

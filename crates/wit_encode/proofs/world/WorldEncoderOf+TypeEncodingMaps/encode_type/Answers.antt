@@ -1,20 +1,12 @@
-use Rattle.std.proofs.Common.{◌≡◌, ◌∙◌, ap, refl, zero, ◌∷◌, Result, Err, rules}
-use Rattle.encode_types.specs.View.{Told}
+use Rattle.std.proofs.Common.{◌≡◌, ◌∙◌, ap, refl, zero, ◌∷◌, Result, Err, rules, arith}
+use Rattle.encode_types.specs.{View.Told, Scope.Scope}
 use Rattle.wit_model.specs.declared.error.Error.{Error}
-use Rattle.wit_model.specs.declared.error.Error.TheVariants as errors
 use Rattle.comp_bytes.specs.declared.forms.ComponentValType.{ComponentValType}
-use Rattle.encode_types.specs.Scope.{Scope}
-use Rattle.wit_encode.specs.WorldItems.{entry_of, towards}
-use Rattle.wit_encode.specs.Worlds.{world_encoder_view}
-use Rattle.wit_encode.proofs.WorldCounting.{type-defined}
-use Rattle.wit_encode.proofs.WorldHolding.{type-few, type-lacks}
-use Rattle.wit_encode.proofs.WrittenNames.{type-names}
-use Rattle.wit_encode.proofs.WorldTypes.{type-encodable, type-encoded}
+use Rattle.wit_encode.specs.{WorldItems.entry_of, WorldItems.towards, Worlds.world_encoder_view, WrittenBytes.AddsLearnt}
+use Rattle.wit_encode.proofs.{WorldCounting.type-defined, WorldHolding.type-few, WorldHolding.type-lacks, WorldTypes.type-encodable, WorldTypes.type-encoded}
+use Rattle.wit_encode.proofs.{WrittenNames.type-names, BytesWritten.learnt-most, Places.grows-none, Places.types-beside}
+use Rattle.wit_model.specs.declared.error.Error.TheVariants as errors
 use Rattle.wit_encode.proofs.world.WorldEncoderOf+TypeEncodingMaps.encode_type.Goals as goal
-use Rattle.wit_encode.specs.WrittenBytes.{AddsLearnt}
-use Rattle.wit_encode.proofs.BytesWritten.{learnt-most}
-use Rattle.wit_encode.proofs.Places.{grows-none, types-beside}
-use Rattle.std.proofs.Common.{arith}
 
 pub encode_valtype-requires : goal.encode_valtype-requires
 encode_valtype-requires c =

@@ -1,18 +1,10 @@
 use Rattle.std.proofs.Common.{◌≡◌, refl, None, length}
-use Rattle.wit_encode.proofs.Within.{slot-function}
-use Rattle.encode_types.specs.Known.{outer_slots}
-use Rattle.encode_types.specs.Standing.{SlotsStand}
+use Rattle.wit_encode.proofs.{Within.slot-function, world.WorldEncoderOfTypeEncodingMapsValtypeEncoder.define_function_type.Goals.After-define_function_outside}
+use Rattle.wit_encode.proofs.{WorldBrought.beside-more, WorldBrought.beside-kept, WorldCalls.after_declaring, WorldCalls.defines-function, Extents.bytes-few}
+use Rattle.wit_encode.proofs.{WorldScope.WorldCalls, Refusing.function-outside, Refusing.on-size, BytesWritten.one-more, BytesWritten.when-ok}
+use Rattle.encode_types.specs.{Known.outer_slots, Standing.SlotsStand, Counts.one_function_more, Slots.DefinesFunction}
 use Rattle.wit_encode.specs.Worlds.{world_around, world_definitions, world_encoder_view, world_view}
-use Rattle.wit_encode.proofs.WorldBrought.{beside-more, beside-kept}
-use Rattle.wit_encode.proofs.WorldScope.{WorldCalls}
-use Rattle.encode_types.specs.Counts.{one_function_more}
-use Rattle.encode_types.specs.Slots.{DefinesFunction}
-use Rattle.wit_encode.proofs.Refusing.{function-outside, on-size}
-use Rattle.wit_encode.proofs.WorldCalls.{after_declaring, defines-function}
 use Rattle.wit_encode.proofs.world.WorldEncoderOfTypeEncodingMapsValtypeEncoder.define_function_type.Goals as goal
-use Rattle.wit_encode.proofs.world.WorldEncoderOfTypeEncodingMapsValtypeEncoder.define_function_type.Goals.{After-define_function_outside}
-use Rattle.wit_encode.proofs.Extents.{bytes-few}
-use Rattle.wit_encode.proofs.BytesWritten.{one-more, when-ok}
 
 calls : (c : After-define_function_outside) → WorldCalls c.define_function_outside.result (world_encoder_view c.args.self.now)
     (world_view c.args.self.now.resolve.now c.args.self.now.world c.args.self.now.instances (after_declaring (world_around c.args.self.now) c.define_function_outside.new.outer) c.args.self.now.maps)

@@ -1,18 +1,10 @@
 use Rattle.std.proofs.Common.{◌≡◌, refl, None, length}
-use Rattle.wit_encode.proofs.Within.{slot-defined}
-use Rattle.encode_types.specs.Known.{outer_slots}
-use Rattle.encode_types.specs.Standing.{SlotsStand}
+use Rattle.wit_encode.proofs.{Within.slot-defined, WorldBrought.beside-more, WorldBrought.beside-kept, WorldCalls.after_declaring, WorldCalls.defines-value}
+use Rattle.wit_encode.proofs.{WorldScope.WorldCalls, world.WorldEncoderOfTypeEncodingMapsValtypeEncoder.defined_type.Goals.After-define_outside}
+use Rattle.wit_encode.proofs.{Refusing.value-outside, Refusing.on-size, Extents.bytes-few, BytesWritten.one-more, BytesWritten.when-ok}
+use Rattle.encode_types.specs.{Known.outer_slots, Standing.SlotsStand, Counts.one_type_more, Slots.Defines}
 use Rattle.wit_encode.specs.Worlds.{world_around, world_definitions, world_encoder_view, world_view}
-use Rattle.wit_encode.proofs.WorldBrought.{beside-more, beside-kept}
-use Rattle.wit_encode.proofs.WorldScope.{WorldCalls}
-use Rattle.encode_types.specs.Counts.{one_type_more}
-use Rattle.encode_types.specs.Slots.{Defines}
-use Rattle.wit_encode.proofs.Refusing.{value-outside, on-size}
-use Rattle.wit_encode.proofs.WorldCalls.{after_declaring, defines-value}
 use Rattle.wit_encode.proofs.world.WorldEncoderOfTypeEncodingMapsValtypeEncoder.defined_type.Goals as goal
-use Rattle.wit_encode.proofs.world.WorldEncoderOfTypeEncodingMapsValtypeEncoder.defined_type.Goals.{After-define_outside}
-use Rattle.wit_encode.proofs.Extents.{bytes-few}
-use Rattle.wit_encode.proofs.BytesWritten.{one-more, when-ok}
 
 calls : (c : After-define_outside) → WorldCalls c.define_outside.result (world_encoder_view c.args.self.now)
     (world_view c.args.self.now.resolve.now c.args.self.now.world c.args.self.now.instances (after_declaring (world_around c.args.self.now) c.define_outside.new.outer) c.args.self.now.maps)

@@ -1,18 +1,13 @@
 use Rattle.std.proofs.Common.{◌≡◌, None}
 use Rattle.wit_model.specs.Tree.{here, named}
 use Rattle.comp_bytes.specs.RawOf.{raw_name}
-use Rattle.comp_bytes.specs.declared.forms.ComponentTypeRef.TheVariants as refs
-use Rattle.encode_types.specs.Counts.{ExportsOne}
-use Rattle.encode_types.specs.Slots.{tree}
+use Rattle.encode_types.specs.{Counts.ExportsOne, Slots.tree}
 use Rattle.wit_encode.specs.Worlds.{world_around, world_definitions, world_encoder_view, world_scope, world_view}
-use Rattle.wit_encode.proofs.Refusing.{name-outside, on-size}
-use Rattle.wit_encode.proofs.WorldCalls.{after_declaring, imports-resource}
-use Rattle.wit_encode.proofs.WorldBrought.{beside-more, beside-kept}
-use Rattle.wit_encode.proofs.WorldScope.{WorldCalls}
+use Rattle.wit_encode.proofs.{Refusing.name-outside, Refusing.on-size, BytesWritten.one-more, BytesWritten.when-ok}
+use Rattle.wit_encode.proofs.{WorldCalls.after_declaring, WorldCalls.imports-resource, WorldBrought.beside-more, WorldBrought.beside-kept, Extents.bytes-few}
+use Rattle.wit_encode.proofs.{WorldScope.WorldCalls, world.WorldEncoderOfTypeEncodingMapsValtypeEncoder.export_resource.Goals.After-import_type_outside}
+use Rattle.comp_bytes.specs.declared.forms.ComponentTypeRef.TheVariants as refs
 use Rattle.wit_encode.proofs.world.WorldEncoderOfTypeEncodingMapsValtypeEncoder.export_resource.Goals as goal
-use Rattle.wit_encode.proofs.world.WorldEncoderOfTypeEncodingMapsValtypeEncoder.export_resource.Goals.{After-import_type_outside}
-use Rattle.wit_encode.proofs.Extents.{bytes-few}
-use Rattle.wit_encode.proofs.BytesWritten.{one-more, when-ok}
 
 calls : (c : After-import_type_outside) → WorldCalls c.import_type_outside.result (world_encoder_view c.args.self.now)
     (world_view c.args.self.now.resolve.now c.args.self.now.world c.args.self.now.instances (after_declaring (world_around c.args.self.now) c.import_type_outside.new.outer) c.args.self.now.maps)

@@ -1,23 +1,16 @@
 use Rattle.std.proofs.Common.{◌≡◌, ℕ, Some, Result, Ok, Err, IfOk, OnErr, rules}
-use Rattle.comp_bytes.specs.Raw.{Declaration}
-use Rattle.comp_bytes.specs.Held.{type_slots_of}
+use Rattle.comp_bytes.specs.{Raw.Declaration, Held.type_slots_of, RawOf.raw_name}
 use Rattle.wit_model.specs.Tree.{here, named}
 use Rattle.wit_model.specs.declared.error.Error.{Error}
-use Rattle.wit_model.specs.declared.error.Error.TheVariants as errors
-use Rattle.comp_bytes.specs.RawOf.{raw_name}
-use Rattle.comp_bytes.specs.declared.forms.ComponentTypeRef.TheVariants as refs
-use Rattle.encode_types.specs.Counts.{ExportsOne}
-use Rattle.encode_types.specs.Slots.{tree}
+use Rattle.encode_types.specs.{Counts.ExportsOne, Slots.tree}
 use Rattle.wit_encode.specs.Encoders.{declared_after}
 use Rattle.wit_encode.specs.Worlds.{world_around, world_definitions, world_encoder_view, world_scope, world_view}
-use Rattle.wit_encode.proofs.Refusing.{name-outside, on-size}
-use Rattle.wit_encode.proofs.WorldCalls.{after_declaring, imports-type}
-use Rattle.wit_encode.proofs.WorldBrought.{beside-more, beside-kept}
-use Rattle.wit_encode.proofs.WorldScope.{WorldCalls}
+use Rattle.wit_encode.proofs.{Refusing.name-outside, Refusing.on-size, Extents.bytes-few}
+use Rattle.wit_encode.proofs.{WorldCalls.after_declaring, WorldCalls.imports-type, WorldBrought.beside-more, WorldBrought.beside-kept, BytesWritten.one-more}
+use Rattle.wit_encode.proofs.{WorldScope.WorldCalls, world.WorldEncoderOfTypeEncodingMapsValtypeEncoder.export_type.Goals.After-import_type_outside}
+use Rattle.wit_model.specs.declared.error.Error.TheVariants as errors
+use Rattle.comp_bytes.specs.declared.forms.ComponentTypeRef.TheVariants as refs
 use Rattle.wit_encode.proofs.world.WorldEncoderOfTypeEncodingMapsValtypeEncoder.export_type.Goals as goal
-use Rattle.wit_encode.proofs.world.WorldEncoderOfTypeEncodingMapsValtypeEncoder.export_type.Goals.{After-import_type_outside}
-use Rattle.wit_encode.proofs.Extents.{bytes-few}
-use Rattle.wit_encode.proofs.BytesWritten.{one-more}
 
 calls : (c : After-import_type_outside) (res : Result ℕ Error)
     → IfOk res (λ k. (k ≡ type_slots_of c.args.self.now.outer) × (c.import_type_outside.new.outer ≡ declared_after c.args.self.now.outer

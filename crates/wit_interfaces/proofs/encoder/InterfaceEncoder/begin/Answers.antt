@@ -1,11 +1,9 @@
 use Rattle.std.proofs.Common.{◌≡◌, sym, subst}
 use Rattle.wit_model.specs.Valid.{IsValid}
-use Rattle.encode_types.specs.Known.{no_around}
-use Rattle.encode_types.specs.View.{Agrees}
+use Rattle.encode_types.specs.{Known.no_around, View.Agrees}
 use Rattle.wit_encode.specs.Worlds.{world_around, world_view_of}
-use Rattle.wit_interfaces.proofs.Leaving.{fresh-can, fresh-sound}
+use Rattle.wit_interfaces.proofs.{Leaving.fresh-can, Leaving.fresh-sound, encoder.InterfaceEncoder.begin.Goals.After-new}
 use Rattle.wit_interfaces.proofs.encoder.InterfaceEncoder.begin.Goals as goal
-use Rattle.wit_interfaces.proofs.encoder.InterfaceEncoder.begin.Goals.{After-new}
 
 empty : (c : After-new) → world_around c.new.result ≡ no_around
 empty c = λ j. record { declared = c.new.ensures.empty j; instances = c.new.ensures.unlisted j; known = c.new.ensures.unknown j }

@@ -1,20 +1,17 @@
 use Rattle.std.proofs.Common.{◌≡◌, refl, ℕ, true, length, [], Some, is_some, Result, Ok, Err, OnErr, arith, rules}
-use Rattle.std.specs.Result.{IsErr}
 use Rattle.std.proofs.lemmas.Bool.{lt-ltb}
-use Rattle.wit_model.specs.Lookup.{interface_at, interface_path}
-use Rattle.wit_model.specs.Text.{Text}
-use Rattle.wit_model.specs.declared.error.Error.{Error}
-use Rattle.wit_model.specs.declared.error.Error.TheVariants as errors
-use Rattle.wit_model.specs.declared.model.Interface.{Interface}
+use Rattle.std.specs.Result.{IsErr}
+use Rattle.wit_model.specs.{Lookup.interface_at, Lookup.interface_path, Text.Text}
+use Rattle.wit_model.specs.declared.{error.Error.Error, model.Interface.Interface}
 use Rattle.wit_model.proofs.OnePath.{found-in}
 use Rattle.wit_encode.specs.Worlds.{world_around}
-use Rattle.wit_encode.proofs.DependencyHolding.{import-lacks, slot-lacks}
-use Rattle.wit_encode.proofs.ImportLoop.{path-in-range}
+use Rattle.wit_encode.proofs.{DependencyHolding.import-lacks, DependencyHolding.slot-lacks, ImportLoop.path-in-range}
 use Rattle.wit_interfaces.specs.InterfaceEncoders.{InterfaceEncoder, aliases, component_of, interface_encoder_view, unused}
 use Rattle.wit_interfaces.proofs.Calls.{aliases-leave, first-listed, import-leaves, import-made, import-room, import-stands, part-leaves, part-left, used-outside}
 use Rattle.encode_types.proofs.Aliasing.{met-none}
-use Rattle.wit_interfaces.proofs.encoder.InterfaceEncoder.import_first.Goals as goal
 use Rattle.base_lemmas.proofs.Options.{at_err as on-err, there as some-of}
+use Rattle.wit_model.specs.declared.error.Error.TheVariants as errors
+use Rattle.wit_interfaces.proofs.encoder.InterfaceEncoder.import_first.Goals as goal
 
 there : (e : InterfaceEncoder) (i : ℕ) → is_some (interface_path (interface_encoder_view e).scope.packages i) ≡ true → (def : Interface)
     × (interface_at (interface_encoder_view e).scope.packages i ≡ Some def)

@@ -1,14 +1,12 @@
-use Rattle.std.proofs.Common.{refl, sym, subst, List}
+use Rattle.std.proofs.{Common.refl, Common.sym, Common.subst, Common.List, lemmas.Result.on_err_weaker as each-err, lemmas.Result.on_ok_weaker as on-each}
 use Rattle.std.specs.List.{Contains}
 use Rattle.wit_model.specs.Uses.{direct_deps}
-use Rattle.wit_model.specs.declared.model.Resolve.{Resolve}
-use Rattle.wit_model.specs.declared.model.InterfaceId.{InterfaceId}
+use Rattle.wit_model.specs.declared.model.{Resolve.Resolve, InterfaceId.InterfaceId}
 use Rattle.wit_encode.specs.Dependencies.{AreImportable}
 use Rattle.wit_encode.proofs.ImportLoop.{numbers, reached-importable, reached-used}
 use Rattle.wit_interfaces.specs.InterfaceEncoders.{ImportsSome, LacksOneImport, some, unchanged}
-use Rattle.wit_interfaces.proofs.encoder.InterfaceEncoder.import_used.Goals as goal
 use Rattle.base_lemmas.proofs.Options.{at_err as on-err}
-use Rattle.std.proofs.lemmas.Result.{on_err_weaker as each-err, on_ok_weaker as on-each}
+use Rattle.wit_interfaces.proofs.encoder.InterfaceEncoder.import_used.Goals as goal
 
 pub import_all-requires-clause-importable : goal.import_all-requires-clause-importable
 import_all-requires-clause-importable c = subst (λ (xs : List InterfaceId). AreImportable c.args.self.now.encoder.resolve.now (numbers xs)) (sym c.deref.ensures.value)

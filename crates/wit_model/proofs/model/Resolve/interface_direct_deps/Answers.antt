@@ -1,7 +1,6 @@
 use Rattle.std.proofs.Common.{◌≡◌, ap, ◌∙◌, ◌==◌, not, [], filter, Some}
 use Rattle.std.specs.Option.{option_map_or}
-use Rattle.wit_model.specs.Lookup.{interface_at}
-use Rattle.wit_model.specs.Uses.{once, interfaces_used_by}
+use Rattle.wit_model.specs.{Lookup.interface_at, Uses.once, Uses.interfaces_used_by}
 use Rattle.wit_model.proofs.Deps.{none_listed}
 use Rattle.wit_model.proofs.model.Resolve.interface_direct_deps.Goals as goal
 

@@ -1,11 +1,10 @@
-use Rattle.std.proofs.Common.{◌≡◌, subst, Some, refl}
+use Rattle.std.proofs.{Common.◌≡◌, Common.subst, Common.Some, Common.refl, lemmas.Result.on_err_weaker as on_err, lemmas.Result.on_ok_weaker as on_ok}
 use Rattle.std.proofs.lemmas.Option.{slice_get_read}
 use Rattle.wit_model.specs.Lookup.{interface_at}
 use Rattle.print_output.specs.OutputCall.{Moves, Begins}
 use Rattle.wit_print.proofs.InterfaceHeads.{interface_gates, head_at}
 use Rattle.print_items.proofs.ShownWell.{gates_well}
 use Rattle.wit_print.proofs.printer.WitPrinter.print_interface_outer.Goals as goal
-use Rattle.std.proofs.lemmas.Result.{on_err_weaker as on_err, on_ok_weaker as on_ok}
 
 pub print_head-requires-clause-gates : goal.print_head-requires-clause-gates
 print_head-requires-clause-gates g c =
