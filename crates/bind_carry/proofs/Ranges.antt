@@ -44,12 +44,7 @@ numbers_append (x ∷ xs) ys =
 
 call_is : (k : FunctionKind) → option_to_list (resource_of k) ≡ call_numbers k
 call_is call.Freestanding = refl
-call_is call.AsyncFreestanding = refl
-call_is (call.Method id) = refl
-call_is (call.AsyncMethod id) = refl
-call_is (call.Static id) = refl
-call_is (call.AsyncStatic id) = refl
-call_is (call.Constructor id) = refl
+call_is _ = refl
 
 module _ (r : Resolve) where
   abbrev types : ℕ

@@ -20,20 +20,7 @@ module _ (f g : ℕ → ℕ) (count : ℕ) (agree : (n : ℕ) → n < count → 
 
   type_agrees : (t : ValueType) → all_below count (type_numbers t) ≡ true → renamed_type f t ≡ renamed_type g t
   type_agrees (ty.Id id) h = ap (λ n. ty.Id (record { 0 = n })) (below id.0 [] h)
-  type_agrees ty.Bool h = refl
-  type_agrees ty.U8 h = refl
-  type_agrees ty.U16 h = refl
-  type_agrees ty.U32 h = refl
-  type_agrees ty.U64 h = refl
-  type_agrees ty.S8 h = refl
-  type_agrees ty.S16 h = refl
-  type_agrees ty.S32 h = refl
-  type_agrees ty.S64 h = refl
-  type_agrees ty.F32 h = refl
-  type_agrees ty.F64 h = refl
-  type_agrees ty.Char h = refl
-  type_agrees ty.String h = refl
-  type_agrees ty.ErrorContext h = refl
+  type_agrees _ h = refl
 
   split : (xs ys : List ℕ) → all_below count (xs ++ ys) ≡ true → (all_below count xs ≡ true) × (all_below count ys ≡ true)
   split xs ys h = let both = sym (list_all-append (λ n. nat_lt n count) xs ys) ∙ h in
@@ -60,10 +47,7 @@ module _ (f g : ℕ → ℕ) (count : ℕ) (agree : (n : ℕ) → n < count → 
   view_agrees : (v : KindView) → all_below count (view_numbers v) ≡ true → renamed f v ≡ renamed g v
   view_agrees (record_view fields) h = ap record_view (fields_agree fields h)
   view_agrees (variant_view cases) h = ap variant_view (cases_agree cases h)
-  view_agrees (flags_view names) h = refl
-  view_agrees (enum_view names) h = refl
   view_agrees (tuple_view ts) h = ap tuple_view (types_agree ts h)
-  view_agrees resource_view h = refl
   view_agrees (own_view n) h = ap own_view (below n [] h)
   view_agrees (borrow_view n) h = ap borrow_view (below n [] h)
   view_agrees (option_view t) h = ap option_view (type_agrees t h)
@@ -74,6 +58,7 @@ module _ (f g : ℕ → ℕ) (count : ℕ) (agree : (n : ℕ) → n < count → 
   view_agrees (future_view t) h = ap future_view (option_agrees t h)
   view_agrees (stream_view t) h = ap stream_view (option_agrees t h)
   view_agrees (alias_view t) h = ap alias_view (type_agrees t h)
+  view_agrees _ h = refl
 
 -- ---- more numbers behind
 

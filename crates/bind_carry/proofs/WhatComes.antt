@@ -241,8 +241,7 @@ module _ (own other : Resolve) (valid_own : IsValid own) (valid_other : IsValid 
 
   left_beside : (f : Fate) (n : ℕ) → copies (beside_first f n) ≡ false
   left_beside fate.Left n = refl
-  left_beside (fate.Stands k) n = refl
-  left_beside (fate.Copied home) n = refl
+  left_beside _ n = refl
 
   stands_left : (k : ℕ) (f : Fate) → fate.Stands k ≡ f → copies f ≡ true → ⊥
   stands_left k f e h = no_true (ap copies e ∙ h)

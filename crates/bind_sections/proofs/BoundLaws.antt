@@ -64,8 +64,7 @@ one-data (f ∷ fs) ds es (CarryData.other _ _ cs never rest) (CarryData.other _
 
 said-itself : (e : StringEncoding) → (let x : Result StringEncoding Error = Ok e in x) ≡ said_by (Some (contents_of e))
 said-itself encodings.UTF8 = refl
-said-itself encodings.UTF16 = refl
-said-itself encodings.CompactUTF16 = refl
+said-itself _ = refl
 
 pub carries-answers : (e : StringEncoding) (d : List ℕ) → CarriesEncoding e d → AnswersSaid d (Ok e)
 carries-answers e d carries sections component =

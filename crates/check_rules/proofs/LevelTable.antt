@@ -26,20 +26,7 @@ module _ (trees : List Tree) where
   -- a type at the front of a list
   type_head : (t : ValueType) (x : ℕ) (ns : List ℕ) → x ≡ highest of_number ns → max (levels (tree_of trees t)) x ≡ highest of_number (cons_option (number_of t) ns)
   type_head (ty.Id id) x ns e = ap (max (of_number id.0)) e
-  type_head ty.Bool x ns e = max-zero x ∙ e
-  type_head ty.U8 x ns e = max-zero x ∙ e
-  type_head ty.U16 x ns e = max-zero x ∙ e
-  type_head ty.U32 x ns e = max-zero x ∙ e
-  type_head ty.U64 x ns e = max-zero x ∙ e
-  type_head ty.S8 x ns e = max-zero x ∙ e
-  type_head ty.S16 x ns e = max-zero x ∙ e
-  type_head ty.S32 x ns e = max-zero x ∙ e
-  type_head ty.S64 x ns e = max-zero x ∙ e
-  type_head ty.F32 x ns e = max-zero x ∙ e
-  type_head ty.F64 x ns e = max-zero x ∙ e
-  type_head ty.Char x ns e = max-zero x ∙ e
-  type_head ty.String x ns e = max-zero x ∙ e
-  type_head ty.ErrorContext x ns e = max-zero x ∙ e
+  type_head _ x ns e = max-zero x ∙ e
 
   of_types : (ts : List ValueType) → deepest (children (map (tree_of trees) ts)) ≡ highest of_number (filter_map number_of ts)
   of_types [] = refl
@@ -99,9 +86,7 @@ module _ (trees : List Tree) where
   declared_levels (kind.Stream t) = plainly _ (filter_map number_of (option_to_list t)) (one_option t)
   declared_levels (kind.Handle h) = handled_levels h
   declared_levels (kind.Type_ t) = aliased t
-  declared_levels kind.Resource = refl
-  declared_levels (kind.Flags x) = refl
-  declared_levels (kind.Enum x) = refl
+  declared_levels _ = refl
 
 -- ---- the cap
 
@@ -121,19 +106,7 @@ cap_same h = omega arith
 cap_kind : (h : ℕ) (k : TypeDefKind) → min 101 (levels_above (min 101 h) k) ≡ min 101 (levels_above h k)
 cap_kind h kind.Resource = refl
 cap_kind h (kind.Type_ t) = cap_same h
-cap_kind h (kind.Record x) = cap_above h
-cap_kind h (kind.Handle x) = cap_above h
-cap_kind h (kind.Flags x) = cap_above h
-cap_kind h (kind.Tuple x) = cap_above h
-cap_kind h (kind.Variant x) = cap_above h
-cap_kind h (kind.Enum x) = cap_above h
-cap_kind h (kind.Option x) = cap_above h
-cap_kind h (kind.Result x) = cap_above h
-cap_kind h (kind.List x) = cap_above h
-cap_kind h (kind.Map x y) = cap_above h
-cap_kind h (kind.FixedLengthList x y) = cap_above h
-cap_kind h (kind.Future x) = cap_above h
-cap_kind h (kind.Stream x) = cap_above h
+cap_kind h _ = cap_above h
 
 pub highest_same : (f g : ℕ → ℕ) (n : ℕ) (ns : List ℕ) → ((m : ℕ) → m < n → f m ≡ g m) → list_all (λ m. nat_lt m n) ns ≡ true → highest f ns ≡ highest g ns
 highest_same f g n [] same h = refl
@@ -177,20 +150,7 @@ cap_shallow n = grind arith
 module _ (r : Resolve) (f : ℕ → ℕ) (same : (n : ℕ) → f n ≡ min 101 (levels (number_tree r n))) where
   shallow : (t : ValueType) → list_all (λ n. nat_le (f n) 100) (option_to_list (number_of t)) ≡ is_shallow r t
   shallow (ty.Id id) = and-true (nat_le (f id.0) 100) ∙ (ap (λ x. nat_le x 100) (same id.0) ∙ cap_shallow (levels (number_tree r id.0)))
-  shallow ty.Bool = refl
-  shallow ty.U8 = refl
-  shallow ty.U16 = refl
-  shallow ty.U32 = refl
-  shallow ty.U64 = refl
-  shallow ty.S8 = refl
-  shallow ty.S16 = refl
-  shallow ty.S32 = refl
-  shallow ty.S64 = refl
-  shallow ty.F32 = refl
-  shallow ty.F64 = refl
-  shallow ty.Char = refl
-  shallow ty.String = refl
-  shallow ty.ErrorContext = refl
+  shallow _ = refl
 
   pub shallow_types : (ts : List ValueType) → list_all (λ n. nat_le (f n) 100) (filter_map number_of ts) ≡ list_all (is_shallow r) ts
   shallow_types ts = types_test (λ n. nat_le (f n) 100) (is_shallow r) shallow ts

@@ -12,8 +12,7 @@ use Rattle.check_rules.specs.declared.shown.Shown.TheVariants as shown
 
 pub joined_never : (a : Shown) → joined a shown.Never ≡ a
 joined_never shown.Never = refl
-joined_never (shown.Once home) = refl
-joined_never shown.Often = refl
+joined_never _ = refl
 
 pub joined_assoc : (a b c : Shown) → joined (joined a b) c ≡ joined a (joined b c)
 joined_assoc shown.Never b c = refl

@@ -33,26 +33,11 @@ long_sections ps sections e le =
 
 defined_filled : (d : DefinedType) → 1 ≤ length (defined_type_bytes d)
 defined_filled (DefinedType.primitive p) = omega arith
-defined_filled (DefinedType.record_of x) = omega arith
-defined_filled (DefinedType.variant_of x) = omega arith
-defined_filled (DefinedType.list_of x) = omega arith
-defined_filled (DefinedType.fixed_length_list_of x n) = omega arith
-defined_filled (DefinedType.tuple_of x) = omega arith
-defined_filled (DefinedType.flags_of x) = omega arith
-defined_filled (DefinedType.enum_of x) = omega arith
-defined_filled (DefinedType.option_of x) = omega arith
-defined_filled (DefinedType.result_of x y) = omega arith
-defined_filled (DefinedType.own_of n) = omega arith
-defined_filled (DefinedType.borrow_of n) = omega arith
-defined_filled (DefinedType.stream_of x) = omega arith
-defined_filled (DefinedType.future_of x) = omega arith
-defined_filled (DefinedType.map_of x y) = omega arith
+defined_filled _ = omega arith
 
 type_filled : (t : TopType) → 1 ≤ length (top_type_bytes t)
 type_filled (TopType.defined d) = defined_filled d
-type_filled (TopType.function f) = omega arith
-type_filled (TopType.component ds) = omega arith
-type_filled (TopType.instance ds) = omega arith
+type_filled _ = omega arith
 
 export_filled : (e : TopExport) → 1 ≤ length (top_export_bytes e)
 export_filled e = omega (arith, length-append (extern_name_bytes e.exported_as) (3 ∷ (u32_bytes e.type_index ++ 0 ∷ [])))

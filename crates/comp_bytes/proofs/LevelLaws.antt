@@ -141,14 +141,7 @@ part_out (wraps es name) text s =
 exported_world : (d : Declaration) (name : ExternName) → world_export d ≡ Some name → d ≡ Declaration.exported name (refs.Component 0)
 exported_world (Declaration.exported name (refs.Component zero)) other e = let same : name ≡ other = cc in ap (λ (n : ExternName). Declaration.exported n (refs.Component 0)) same
 exported_world (Declaration.exported name (refs.Component (suc n))) other e = absurd cc
-exported_world (Declaration.exported name (refs.Func n)) other e = absurd cc
-exported_world (Declaration.exported name (refs.TypeEq n)) other e = absurd cc
-exported_world (Declaration.exported name refs.SubResource) other e = absurd cc
-exported_world (Declaration.exported name (refs.Instance n)) other e = absurd cc
-exported_world (Declaration.defined d) other e = absurd cc
-exported_world (Declaration.function f) other e = absurd cc
-exported_world (Declaration.alias_of a) other e = absurd cc
-exported_world (Declaration.imported name described) other e = absurd cc
+exported_world _ other e = absurd cc
 
 world_export_law : IsReadBy (λ name. IsDeclaration (Declaration.exported name (refs.Component 0))) world_export_at
 unfolding world_export_at

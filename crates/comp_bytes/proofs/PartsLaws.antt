@@ -105,8 +105,7 @@ parts_of-join (Section.exports es) (Part.top_type t) = simp append-nil
 parts_of-join (Section.exports es) (Part.top_export e) = simp (map-append, append-nil)
 parts_of-join (Section.exports es) (Part.custom name contents) = simp append-nil
 parts_of-join (Section.custom n c) (Part.top_type t) = refl
-parts_of-join (Section.custom n c) (Part.top_export e) = refl
-parts_of-join (Section.custom n c) (Part.custom name contents) = refl
+parts_of-join (Section.custom n c) _ = refl
 
 parts_of-put_behind : (sections : List Section) (p : Part) → parts_of (put_behind sections p) ≡ parts_of sections ++ p ∷ []
 parts_of-put_behind [] (Part.top_type t) = refl

@@ -27,10 +27,8 @@ steps_keep P step h (x ∷ xs) s end e k =
 -- ---- as many uses as instance types
 
 abbrev is_instance : Slot → Bool
-is_instance (Slot.value t) = false
-is_instance (Slot.resource place name) = false
-is_instance (Slot.function f) = false
 is_instance (Slot.instance ds n) = true
+is_instance _ = false
 
 abbrev self : ℕ → ℕ
 self n = n

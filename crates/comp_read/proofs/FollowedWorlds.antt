@@ -182,9 +182,7 @@ import_bare s i e = by s.shown e
         let w = when_some (is_none s.external_id && not (is_filled v.functions)) (Some pair) i f in
         subst (λ (z : Placed). z.1.functions ≡ []) (same-some pair i w.1) (nothing_filled v.functions (second_true (is_none s.external_id) (not (is_filled v.functions)) w.0))
     by (worlds.instance (worlds.label l p) v) f = no_view f
-    by (worlds.instance (worlds.implementing l p) v) f = no_view f
-    by (worlds.function n) f = no_view f
-    by (worlds.declares d) f = no_view f
+    by _ f = no_view f
 
 imports_bare : (ss : List NumberedSeen) (is : List Placed) → AllZip (λ s i. imported_view s ≡ Some i) ss is → AllByRecursion (λ (i : Placed). i.1.functions ≡ []) is
 imports_bare [] [] all = tt

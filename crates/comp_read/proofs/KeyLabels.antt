@@ -91,9 +91,7 @@ described_seen export_ name (refs.Func n) scope next e h = function_seen export_
 described_seen import_ name (refs.TypeEq n) scope next e h = type_seen name (refs.TypeEq n) scope next e h
 described_seen import_ name refs.SubResource scope next e h = type_seen name refs.SubResource scope next e h
 described_seen import_ name (refs.Component n) scope next e h = type_seen name (refs.Component n) scope next e h
-described_seen export_ name (refs.TypeEq n) scope next e h = absurd cc
-described_seen export_ name refs.SubResource scope next e h = absurd cc
-described_seen export_ name (refs.Component n) scope next e h = absurd cc
+described_seen export_ name _ scope next e h = absurd cc
 
 step_seen : (scope next : Scope) (d : raw.Declaration) → component_step scope d ≡ Some next → HaveLabels scope → HaveLabels next
 step_seen scope next (raw.Declaration.defined d) e h =

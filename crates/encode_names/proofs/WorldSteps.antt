@@ -155,9 +155,7 @@ functions_are_shown r canonical direction done scope k f n v is h e =
 
 no-instance-like : (slot : Slot) (place : Place) (name : Text) → instance_types (named_like slot place name ∷ []) ≡ 0
 no-instance-like (Slot.value t) place name = refl
-no-instance-like (Slot.resource p t) place name = refl
-no-instance-like (Slot.function f) place name = refl
-no-instance-like (Slot.instance ds n) place name = refl
+no-instance-like _ place name = refl
 
 abbrev named-as : Place → Text → Slot → tree.Declaration → Option (tree.Declaration × Slot)
 named-as place name slot d = Some (d, named_like slot place name)
@@ -175,9 +173,7 @@ named-slot slots place name (refs.TypeEq n) d x e = at (slice_get slots n) e
     at None q = let wrong : ⊥ = cc in absurd wrong
     at (Some slot) q = of slot (declared_by slot) q
 named-slot slots place name refs.SubResource d x e = ap (λ y. instance_types (y ∷ [])) (sym (some_pair_parts tree.Declaration.resource d (Slot.resource place name) x e).1)
-named-slot slots place name (refs.Func n) d x e = let wrong : ⊥ = cc in absurd wrong
-named-slot slots place name (refs.Instance n) d x e = let wrong : ⊥ = cc in absurd wrong
-named-slot slots place name (refs.Component n) d x e = let wrong : ⊥ = cc in absurd wrong
+named-slot slots place name _ d x e = let wrong : ⊥ = cc in absurd wrong
 
 abbrev seen_next : ExternName → Scope → tree.Declaration × Slot → Option Scope
 seen_next name scope found = provided (is_simple name) (see import_ (seen_type name found.0) (in_scope found.1 scope))
@@ -191,9 +187,7 @@ pub type-step : (name : ExternName) (described : ComponentTypeRef) (scope : Scop
     → component_step scope (Declaration.imported name described) ≡ Some (see import_ (seen_type name d) (in_scope x scope))
 type-step name (refs.TypeEq n) scope d x e simple = type-seen name (refs.TypeEq n) scope d x e simple
 type-step name refs.SubResource scope d x e simple = type-seen name refs.SubResource scope d x e simple
-type-step name (refs.Func n) scope d x e simple = let wrong : ⊥ = cc in absurd wrong
-type-step name (refs.Instance n) scope d x e simple = let wrong : ⊥ = cc in absurd wrong
-type-step name (refs.Component n) scope d x e simple = let wrong : ⊥ = cc in absurd wrong
+type-step name _ scope d x e simple = let wrong : ⊥ = cc in absurd wrong
 
 pub types_are_shown : TypesAreShown
 types_are_shown r canonical done scope k id described x v is h e =

@@ -87,10 +87,8 @@ one_part kept (k ∷ []) new e p = (p, tt)
 one_part kept (k ∷ l ∷ ks) new e p = absurd (omega (arith, e))
 
 pub two_parts : (kept : List ℕ) (ks : List ℕ) (a b : ℕ) → length ks ≡ 2 → IsPart kept (get_or ks 0 0) a → IsPart kept (get_or ks 1 0) b → AllZip (IsPart kept) ks (a ∷ b ∷ [])
-two_parts kept [] a b e p q = absurd (omega (arith, e))
-two_parts kept (k ∷ []) a b e p q = absurd (omega (arith, e))
 two_parts kept (k ∷ l ∷ []) a b e p q = (p, (q, tt))
-two_parts kept (k ∷ l ∷ m ∷ ks) a b e p q = absurd (omega (arith, e))
+two_parts kept _ a b e p q = absurd (omega (arith, e))
 
 pub no_parts : (kept : List ℕ) (ks : List ℕ) → length ks ≡ 0 → AllZip (IsPart kept) ks []
 no_parts kept [] e = tt

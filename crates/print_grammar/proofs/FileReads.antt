@@ -145,22 +145,10 @@ first_indents (call ∷ calls) = indents call
 
 -- Without indentation it is the same whether a line has just begun.
 first_line : (calls : List OutputCall) → first_indents calls ≡ true → text_of true 0 calls ≡ text_of false 0 calls
-first_line [] h = refl
 first_line (PushStr text ∷ calls) h = absurd cc
 first_line (IndentStart ∷ calls) h = absurd cc
 first_line (Newline ∷ calls) h = absurd cc
-first_line (IndentIfNeeded ∷ calls) h = refl
-first_line (IndentEnd ∷ calls) h = refl
-first_line (IndentAndPrint text ∷ calls) h = refl
-first_line (Keyword text ∷ calls) h = refl
-first_line (Ty text kind ∷ calls) h = refl
-first_line (Param text ∷ calls) h = refl
-first_line (Case text ∷ calls) h = refl
-first_line (GenericArgsStart ∷ calls) h = refl
-first_line (GenericArgsEnd ∷ calls) h = refl
-first_line (Doc line ∷ calls) h = refl
-first_line (Semicolon ∷ calls) h = refl
-first_line (Str text ∷ calls) h = refl
+first_line _ h = refl
 
 file_begins : (emits_docs : Bool) (file : FileTree) → first_indents (file_calls emits_docs file) ≡ true
 file_begins false file = refl

@@ -25,12 +25,7 @@ use_or_id (use_names p m) i = no_id_key i
 
 declared_or_id : {t : Token} {x y : List Token} {d : Declared} {l : List ℕ} → ReadsDeclared (t ∷ x) d y → IsId t l → ⊥
 declared_or_id (record_ j m) i = no_id_key i
-declared_or_id (variant j m) i = no_id_key i
-declared_or_id (flags j m) i = no_id_key i
-declared_or_id (enum j m) i = no_id_key i
-declared_or_id (alias j a) i = no_id_key i
-declared_or_id (resource j) i = no_id_key i
-declared_or_id (resource_with j m) i = no_id_key i
+declared_or_id _ i = no_id_key i
 
 -- ---- interfaces
 

@@ -244,9 +244,4 @@ use_no_at (use_names p l) = refl
 
 pub declared_no_at : {before after : List Token} {d : Declared} → ReadsDeclared before d after → begins_with_at before ≡ false
 declared_no_at (record_ i l) = refl
-declared_no_at (variant i l) = refl
-declared_no_at (flags i l) = refl
-declared_no_at (enum i l) = refl
-declared_no_at (alias i a) = refl
-declared_no_at (resource i) = refl
-declared_no_at (resource_with i l) = refl
+declared_no_at _ = refl

@@ -99,13 +99,7 @@ pub data Prints : OutputCall → List ℕ → Type 0 where
 
 pub printed_text : {call : OutputCall} {text : List ℕ} → Prints call text → (level : ℕ) (more : List OutputCall) → text_of false level (call ∷ more) ≡ text ++ text_of false level more
 printed_text by_keyword level more = refl
-printed_text by_type level more = refl
-printed_text by_param level more = refl
-printed_text by_case level more = refl
-printed_text by_str level more = refl
-printed_text by_push level more = refl
-printed_text by_start level more = refl
-printed_text by_end level more = refl
+printed_text _ level more = refl
 
 -- a call, by what its text is with any text behind it
 pub call_is : {call : OutputCall} {text : List ℕ} {more : List OutputCall} {ts : List Token} → Prints call text → ((level : ℕ) → Tokens (text ++ text_of false level more) ts)

@@ -21,35 +21,11 @@ use Rattle.print_output.specs.declared.type_kind.TypeKind.TheVariants as kind
 
 primitive_spelled : (p : Primitive) → spelled (primitive_text p) ≡ Some (Key (Keyword.PrimitiveWord p))
 primitive_spelled Bool_ = refl
-primitive_spelled U8 = refl
-primitive_spelled U16 = refl
-primitive_spelled U32 = refl
-primitive_spelled U64 = refl
-primitive_spelled S8 = refl
-primitive_spelled S16 = refl
-primitive_spelled S32 = refl
-primitive_spelled S64 = refl
-primitive_spelled F32 = refl
-primitive_spelled F64 = refl
-primitive_spelled Char = refl
-primitive_spelled String = refl
-primitive_spelled ErrorContext = refl
+primitive_spelled _ = refl
 
 primitive_letter : (p : Primitive) → begins_with_letter (primitive_text p) ≡ true
 primitive_letter Bool_ = refl
-primitive_letter U8 = refl
-primitive_letter U16 = refl
-primitive_letter U32 = refl
-primitive_letter U64 = refl
-primitive_letter S8 = refl
-primitive_letter S16 = refl
-primitive_letter S32 = refl
-primitive_letter S64 = refl
-primitive_letter F32 = refl
-primitive_letter F64 = refl
-primitive_letter Char = refl
-primitive_letter String = refl
-primitive_letter ErrorContext = refl
+primitive_letter _ = refl
 
 named_reads : (t : Token) (label : List ℕ) (after : List Token) → IsId t label → ReadsType (t ∷ after) (Name label) after
 named_reads _ label after IsId.plain = ReadsType.named

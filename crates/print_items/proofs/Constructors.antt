@@ -71,12 +71,7 @@ module _ (r : Resolve) (f : Function) (well : is_well_resource_member (shown_res
     where
       go : (k : FunctionKind) → is_well_resource_member (shown_resource_member r (record f { kind = k })) ≡ true → is_well_prefix (function_prefix f) ≡ true
       go (call.Constructor id) h = left_of _ _ h
-      go (call.Static id) h = left_of _ _ h
-      go (call.AsyncStatic id) h = left_of _ _ h
-      go (call.Method id) h = left_of _ _ h
-      go (call.AsyncMethod id) h = left_of _ _ h
-      go call.Freestanding h = left_of _ _ h
-      go call.AsyncFreestanding h = left_of _ _ h
+      go _ h = left_of _ _ h
 
   -- with what stands in front of it
   pub member_whole : (emits : Bool) → prefix_calls emits (function_prefix f) ++ bare_member_calls (shown_resource_member r f) ≡ resource_member_calls emits (shown_resource_member r f)

@@ -25,22 +25,8 @@ module _ {Kept : Type 0} (keeps : View Kept → OutputCall → Kept) where
 
   -- whether a line has just begun is the same, however the call counts
   line_after_body : (call : OutputCall) (u : View Kept) → (after_all keeps u (body_calls call)).line_begun ≡ line_begun_after call u.line_begun
-  line_after_body (PushStr text) u = refl
-  line_after_body IndentIfNeeded u = refl
-  line_after_body IndentStart u = refl
-  line_after_body IndentEnd u = refl
-  line_after_body Newline u = refl
-  line_after_body (IndentAndPrint text) u = refl
-  line_after_body (Keyword text) u = refl
-  line_after_body (Ty text kind) u = refl
-  line_after_body (Param text) u = refl
-  line_after_body (Case text) u = refl
-  line_after_body GenericArgsStart u = refl
-  line_after_body GenericArgsEnd u = refl
-  line_after_body (Doc []) u = refl
   line_after_body (Doc (c ∷ cs)) u = refl
-  line_after_body Semicolon u = refl
-  line_after_body (Str text) u = refl
+  line_after_body _ u = refl
 
   pub Counts-line : (u : View Kept) (call : OutputCall) (v : View Kept) → Counts keeps u call v → v.line_begun ≡ line_begun_after call u.line_begun
   Counts-line u call v h = elim h [ inl e ↦ ap (λ x. x.line_begun) e | inr e ↦ ap (λ x. x.line_begun) e ∙ line_after_body call u ]

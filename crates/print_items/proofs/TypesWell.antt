@@ -44,21 +44,8 @@ module _ (trees : List TypeTree) (well : list_all is_well_type trees ≡ true) w
       subst (λ o. is_well_type (unwrap_or o (Name [])) ≡ true) (sym there.1) (all_get is_well_type trees m there.0 well there.1)
 
   pub used_well : (t : ValueType) → is_below (length trees) t ≡ true → is_well_type (used_type trees t) ≡ true
-  used_well value.Bool h = refl
-  used_well value.U8 h = refl
-  used_well value.U16 h = refl
-  used_well value.U32 h = refl
-  used_well value.U64 h = refl
-  used_well value.S8 h = refl
-  used_well value.S16 h = refl
-  used_well value.S32 h = refl
-  used_well value.S64 h = refl
-  used_well value.F32 h = refl
-  used_well value.F64 h = refl
-  used_well value.Char h = refl
-  used_well value.String h = refl
-  used_well value.ErrorContext h = refl
   used_well (value.Id id) h = number_well id.0 h
+  used_well _ h = refl
 
   more_well : (ts : List ValueType) → list_all (is_below (length trees)) ts ≡ true → are_well_more (used_types trees ts) ≡ true
   more_well [] h = refl
@@ -98,12 +85,7 @@ module _ (trees : List TypeTree) (well : list_all is_well_type trees ≡ true) w
   kind_well r (defined.FixedLengthList t m) b s n h = both (is_well_type (used_type trees t)) _ (used_well t (left_of _ _ (below_of_numbers (length trees) (t ∷ []) [] b))) (short_length m s)
   kind_well r (defined.Future o) b s n h = future_well o (below_of_numbers (length trees) (option_to_list o) [] b)
   kind_well r (defined.Stream o) b s n h = stream_well o (below_of_numbers (length trees) (option_to_list o) [] b)
-  kind_well r (defined.Type_ t) b s n h = absurd cc
-  kind_well r (defined.Record x) b s n h = absurd cc
-  kind_well r (defined.Flags x) b s n h = absurd cc
-  kind_well r (defined.Variant x) b s n h = absurd cc
-  kind_well r (defined.Enum x) b s n h = absurd cc
-  kind_well r defined.Resource b s n h = absurd cc
+  kind_well r _ b s n h = absurd cc
 
 -- What is known of a type number that is shown.
 pub record IsShownType (r : Resolve) (n : ℕ) (def : TypeDef) : Type 0 where
@@ -169,19 +151,11 @@ module _ (r : Resolve) (valid : IsValid r) where
   resource_kind : (test : ℕ → Bool) (k : TypeDefKind) → is_resource_kind test k ≡ true → is_named_kind k ≡ true
   resource_kind test defined.Resource h = refl
   resource_kind test (defined.Type_ t) h = refl
-  resource_kind test (defined.Handle x) h = absurd cc
-  resource_kind test (defined.Tuple x) h = absurd cc
-  resource_kind test (defined.Option x) h = absurd cc
-  resource_kind test (defined.Result x) h = absurd cc
-  resource_kind test (defined.List x) h = absurd cc
-  resource_kind test (defined.Map x y) h = absurd cc
-  resource_kind test (defined.FixedLengthList x y) h = absurd cc
-  resource_kind test (defined.Future x) h = absurd cc
-  resource_kind test (defined.Stream x) h = absurd cc
   resource_kind test (defined.Record x) h = refl
   resource_kind test (defined.Flags x) h = refl
   resource_kind test (defined.Variant x) h = refl
   resource_kind test (defined.Enum x) h = refl
+  resource_kind test _ h = absurd cc
 
   -- A resource's name is a label.
   pub resource_label : (steps n : ℕ) → ends_in_resource r steps n ≡ true → is_label (type_name r (record { 0 = n })) ≡ true

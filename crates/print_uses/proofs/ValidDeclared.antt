@@ -89,11 +89,7 @@ module _ (r : Resolve) (valid : IsValid r) where
           (both (list_all is_well_param (shown_params r (record f { kind = call.Constructor id }))) _ (left_of _ _ signature)
           (constructor_well id f.result (right_of (list_all is_well_param (shown_params r (record f { kind = call.Constructor id }))) _ signature)))
       go (call.Static id) prefix name signature = both _ _ prefix (both _ _ name signature)
-      go (call.AsyncStatic id) prefix name signature = both _ _ prefix (both _ _ name signature)
-      go (call.Method id) prefix name signature = both _ _ prefix (both _ _ name signature)
-      go (call.AsyncMethod id) prefix name signature = both _ _ prefix (both _ _ name signature)
-      go call.Freestanding prefix name signature = both _ _ prefix (both _ _ name signature)
-      go call.AsyncFreestanding prefix name signature = both _ _ prefix (both _ _ name signature)
+      go _ prefix name signature = both _ _ prefix (both _ _ name signature)
 
   members_well : (o : TypeOwner) (id : TypeId) (fs : List Function) → list_all (is_known_function r o) fs ≡ true
       → list_all is_well_resource_member (map (shown_resource_member r) (filter (belongs_to id) fs)) ≡ true
@@ -129,11 +125,4 @@ module _ (r : Resolve) (valid : IsValid r) where
       go (defined.Handle (handle.Own x)) l b s h u = both (is_label (present_name def.name)) _ name h
       go (defined.Handle (handle.Borrow x)) l b s h u = both (is_label (present_name def.name)) _ name h
       go (defined.Type_ t) l b s h u = both (is_label (present_name def.name)) _ name (alias_well t b)
-      go (defined.Tuple x) l b s h u = both (is_label (present_name def.name)) _ name (u refl)
-      go (defined.Option x) l b s h u = both (is_label (present_name def.name)) _ name (u refl)
-      go (defined.Result x) l b s h u = both (is_label (present_name def.name)) _ name (u refl)
-      go (defined.List x) l b s h u = both (is_label (present_name def.name)) _ name (u refl)
-      go (defined.Map x y) l b s h u = both (is_label (present_name def.name)) _ name (u refl)
-      go (defined.FixedLengthList x y) l b s h u = both (is_label (present_name def.name)) _ name (u refl)
-      go (defined.Future x) l b s h u = both (is_label (present_name def.name)) _ name (u refl)
-      go (defined.Stream x) l b s h u = both (is_label (present_name def.name)) _ name (u refl)
+      go _ l b s h u = both (is_label (present_name def.name)) _ name (u refl)

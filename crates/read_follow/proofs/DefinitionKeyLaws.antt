@@ -184,17 +184,4 @@ module _ (ss : List Slot) where
 
 pub is_form : (d : ComponentDefinedType) → ((p : PrimitiveValType) → d ≡ forms.Primitive p → ⊥) → IsForm d
 is_form (forms.Primitive p) other = other p refl
-is_form (forms.Record fields) other = tt
-is_form (forms.Variant cases) other = tt
-is_form (forms.List v) other = tt
-is_form (forms.FixedLengthList v n) other = tt
-is_form (forms.Map k v) other = tt
-is_form (forms.Tuple vs) other = tt
-is_form (forms.Flags names) other = tt
-is_form (forms.Enum names) other = tt
-is_form (forms.Option v) other = tt
-is_form (forms.Result ok err) other = tt
-is_form (forms.Own n) other = tt
-is_form (forms.Borrow n) other = tt
-is_form (forms.Stream v) other = tt
-is_form (forms.Future v) other = tt
+is_form _ other = tt

@@ -179,35 +179,13 @@ first_labels (l ∷ ls) = ap (λ rest. l.0.now ∷ rest) (first_labels ls)
 
 named_by_sort : (f : Form) → is_named_sort (form_code f).sort ≡ is_named_form f
 named_by_sort (Form.record_of ls) = refl
-named_by_sort (Form.variant_of cases) = refl
-named_by_sort Form.list_of = refl
-named_by_sort (Form.fixed_list_of n) = refl
-named_by_sort Form.option_of = refl
-named_by_sort Form.own_of = refl
-named_by_sort Form.borrow_of = refl
-named_by_sort Form.map_of = refl
-named_by_sort Form.tuple_of = refl
-named_by_sort (Form.flags_of ls) = refl
-named_by_sort (Form.enum_of ls) = refl
-named_by_sort (Form.result_of ok err) = refl
-named_by_sort (Form.future_of some) = refl
-named_by_sort (Form.stream_of some) = refl
+named_by_sort _ = refl
 
 labels_by_code : (f : Form) → map (λ l. l.0) (form_code f).labels ≡ form_labels f
 labels_by_code (Form.record_of ls) = first_marked true ls
-labels_by_code (Form.variant_of cases) = refl
-labels_by_code Form.list_of = refl
-labels_by_code (Form.fixed_list_of n) = refl
-labels_by_code Form.option_of = refl
-labels_by_code Form.own_of = refl
-labels_by_code Form.borrow_of = refl
-labels_by_code Form.map_of = refl
-labels_by_code Form.tuple_of = refl
 labels_by_code (Form.flags_of ls) = first_marked false ls
 labels_by_code (Form.enum_of ls) = first_marked false ls
-labels_by_code (Form.result_of ok err) = refl
-labels_by_code (Form.future_of some) = refl
-labels_by_code (Form.stream_of some) = refl
+labels_by_code _ = refl
 
 name_tells : (p : ℕ) (name : Text) → Tells (name_fact p) (λ place. Tree.named (place p) name)
 name_tells p name = record {

@@ -165,12 +165,9 @@ module _ (P : Place → Type 0) where
         first d slot h same = subst (λ (x : tree.Declaration × Meant). DeclarationOver P x.0) (some_is (d, slot) found same) h
 
         by : (o : Option Meant) → slice_get slots n ≡ o → (o >>= λ slot. declared_by slot >>= λ d. Some (d, named_like slot place name)) ≡ Some found → DeclarationOver P found.0
-        by None at h = absurd cc
         by (Some (value u)) at h = first (tree.Declaration.type_ u) (named_like (value u) place name) (all_at (SlotOver P) slots n (value u) all at) h
         by (Some (resource q x)) at h = first (tree.Declaration.type_ (Tree.named q x)) (named_like (resource q x) place name) (name_over q x (all_at (SlotOver P) slots n (resource q x) all at)) h
         by (Some (function f)) at h = absurd cc
-        by (Some (instance ds around)) at h = absurd cc
+        by _ at h = absurd cc
     named_over place name refs.SubResource found e = subst (λ (x : tree.Declaration × Meant). DeclarationOver P x.0) (some_is (tree.Declaration.resource, resource place name) found e) tt
-    named_over place name (refs.Func n) found e = absurd cc
-    named_over place name (refs.Component n) found e = absurd cc
-    named_over place name (refs.Instance n) found e = absurd cc
+    named_over place name _ found e = absurd cc

@@ -228,10 +228,7 @@ module _ (marks : List Bool) (old : State) (st : IsState (length marks) old) (na
 shows_type : (kind : ComponentTypeRef) → ((n : ℕ) → kind ≡ refs.Func n → ⊥) → (place : Place) (name : RawName) (scope : MeantScope)
     → follow.show place name kind scope ≡ show_type place name kind scope
 shows_type (refs.Func n) other place name scope = absurd (other n refl)
-shows_type (refs.TypeEq n) other place name scope = refl
-shows_type refs.SubResource other place name scope = refl
-shows_type (refs.Component n) other place name scope = refl
-shows_type (refs.Instance n) other place name scope = refl
+shows_type _ other place name scope = refl
 
 pub as_type : (kind other : ComponentTypeRef) → ((n : ℕ) → kind ≡ refs.Func n → ⊥) → kind ≡ other → (place : Place) (name : RawName) (scope : MeantScope) → follow.is_simple name ≡ true
     → follow.when (follow.is_simple name) (follow.show place name kind scope) ≡ show_type place name other scope

@@ -14,35 +14,11 @@ use Rattle.read_follow.specs.declared.slots.Slot.TheVariants as slots
 pub primitive_part : (T : List Tree) (p : PrimitiveValType) → Tree.primitive (primitive_of_type p) ≡ part_tree T (primitive_index p)
 unfolding part_tree
 primitive_part T primitives.Bool = refl
-primitive_part T primitives.U8 = refl
-primitive_part T primitives.U16 = refl
-primitive_part T primitives.U32 = refl
-primitive_part T primitives.U64 = refl
-primitive_part T primitives.S8 = refl
-primitive_part T primitives.S16 = refl
-primitive_part T primitives.S32 = refl
-primitive_part T primitives.S64 = refl
-primitive_part T primitives.F32 = refl
-primitive_part T primitives.F64 = refl
-primitive_part T primitives.Char = refl
-primitive_part T primitives.String = refl
-primitive_part T primitives.ErrorContext = refl
+primitive_part T _ = refl
 
 pub primitive_small : (p : PrimitiveValType) (n : ℕ) → primitive_index p < 14 + n
 primitive_small primitives.Bool n = omega arith
-primitive_small primitives.U8 n = omega arith
-primitive_small primitives.U16 n = omega arith
-primitive_small primitives.U32 n = omega arith
-primitive_small primitives.U64 n = omega arith
-primitive_small primitives.S8 n = omega arith
-primitive_small primitives.S16 n = omega arith
-primitive_small primitives.S32 n = omega arith
-primitive_small primitives.S64 n = omega arith
-primitive_small primitives.F32 n = omega arith
-primitive_small primitives.F64 n = omega arith
-primitive_small primitives.Char n = omega arith
-primitive_small primitives.String n = omega arith
-primitive_small primitives.ErrorContext n = omega arith
+primitive_small _ n = omega arith
 
 pub mapped_none : {A B : Type 0} (f : A → B) (xs : List A) (n : ℕ) → slice_get xs n ≡ None → slice_get (map f xs) n ≡ None
 mapped_none f [] n e = refl
@@ -51,8 +27,7 @@ mapped_none f (y ∷ ys) (suc n) e = mapped_none f ys n e
 
 no_value : (t : Tree) → value_in (Some (resource_slot t)) ≡ None
 no_value (Tree.primitive p) = refl
-no_value (Tree.named place name) = refl
-no_value (Tree.node f ts) = refl
+no_value _ = refl
 
 named_resource : (t : Tree) → IsName t → resource_in (Some (resource_slot t)) ≡ Some t
 named_resource (Tree.primitive p) h = absurd h
@@ -76,8 +51,7 @@ name_at T (slots.Instance b m ∷ ss) (suc n) part e h = name_at T ss n part e h
 
 pub no_function : (t : Tree) → function_in (Some (resource_slot t)) ≡ None
 no_function (Tree.primitive p) = refl
-no_function (Tree.named place name) = refl
-no_function (Tree.node f ts) = refl
+no_function _ = refl
 
 module _ (ss : List Slot) (n : ℕ) (T : List Tree) (F : List Signature) where
   -- what the slot of an index stands for

@@ -30,8 +30,7 @@ use Rattle.read_parts.specs.Members as followed
 
 key_place : (key : InstanceKey) → place_of_key (numbered_key key) ≡ place_number key
 key_place (keys.Path p) = refl
-key_place (keys.Label l p) = refl
-key_place (keys.Implementing l p) = refl
+key_place _ = refl
 
 module _ (shapes : List Shape) (fs : List FunctionShape) (paths : List (Option Text)) (tables : AreTables (length paths) shapes fs) where
   abbrev t : Tables

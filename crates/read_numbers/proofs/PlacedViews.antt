@@ -25,9 +25,7 @@ use Rattle.read_follow.specs.declared.slots.Slot.TheVariants as slots
 
 pub slot_number : (s : Slot) → part_of (numbered_slot s) ≡ slot_part s
 slot_number (slots.Value part) = refl
-slot_number (slots.Resource part) = refl
-slot_number (slots.Function n) = refl
-slot_number (slots.Instance b n) = refl
+slot_number _ = refl
 
 module _ (shapes : List Shape) (fs : List FunctionShape) (paths : List (Option Text)) (place : ℕ) where
   abbrev t : Tables

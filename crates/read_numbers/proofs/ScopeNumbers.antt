@@ -37,8 +37,7 @@ text_back (Some path) = refl
 
 same_resource : (t : Tree) → resource_slot t ≡ views.resource_slot t
 same_resource (Tree.primitive p) = refl
-same_resource (Tree.named place name) = refl
-same_resource (Tree.node form ts) = refl
+same_resource _ = refl
 
 module _ (shapes : List Shape) (fs : List FunctionShape) (paths : List (Option Text)) where
   abbrev t : Tables

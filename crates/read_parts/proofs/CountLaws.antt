@@ -21,10 +21,7 @@ long_joined text front rest e = ap length e ∙ length-append front rest
 
 declaration_long : (d : Declaration) (text : List ℕ) → IsDeclaration d text → 1 ≤ length text
 declaration_long (Declaration.defined d) text s = let long : length text ≡ suc (length s.0) = ap length s.1 in omega (arith, long)
-declaration_long (Declaration.function f) text s = let long : length text ≡ suc (length s.0) = ap length s.1 in omega (arith, long)
-declaration_long (Declaration.alias_of a) text s = let long : length text ≡ suc (length s.0) = ap length s.1 in omega (arith, long)
-declaration_long (Declaration.imported name described) text s = let long : length text ≡ suc (length s.0) = ap length s.1 in omega (arith, long)
-declaration_long (Declaration.exported name described) text s = let long : length text ≡ suc (length s.0) = ap length s.1 in omega (arith, long)
+declaration_long _ text s = let long : length text ≡ suc (length s.0) = ap length s.1 in omega (arith, long)
 
 declarations_long : (ds : List Declaration) (text : List ℕ) → Sequence IsDeclaration ds text → length ds ≤ length text
 declarations_long [] text s = omega arith
@@ -96,8 +93,7 @@ piece_long (types ps) text s =
 
 piece_first : (p : Piece) (ps : List Piece) → pieces_weight (p ∷ ps) ≡ pieces_weight (p ∷ []) + pieces_weight ps
 piece_first (custom name contents) ps = omega arith
-piece_first (exports es) ps = omega arith
-piece_first (types ts) ps = omega arith
+piece_first _ ps = omega arith
 
 pieces_long : (ps : List Piece) (text : List ℕ) → Sequence IsSection (map raw_piece ps) text → pieces_weight ps ≤ length text
 pieces_long [] text s = omega arith

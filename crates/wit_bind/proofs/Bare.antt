@@ -81,17 +81,7 @@ members_bare (kind.Record record_) = docs_none (λ f. f.docs) record_.fields.ite
 members_bare (kind.Variant variant) = docs_none (λ c. c.docs) variant.cases.items
 members_bare (kind.Flags flags) = docs_none (λ f. f.docs) flags.flags.items
 members_bare (kind.Enum enum) = docs_none (λ c. c.docs) enum.cases.items
-members_bare kind.Resource = refl
-members_bare (kind.Handle h) = refl
-members_bare (kind.Tuple tuple) = refl
-members_bare (kind.Option t) = refl
-members_bare (kind.Result result) = refl
-members_bare (kind.List t) = refl
-members_bare (kind.Map k v) = refl
-members_bare (kind.FixedLengthList t n) = refl
-members_bare (kind.Future t) = refl
-members_bare (kind.Stream t) = refl
-members_bare (kind.Type_ t) = refl
+members_bare _ = refl
 
 -- a type with the notes of a bare one is bare
 type_bare : (old new : TypeDef) → type_notes new ≡ type_notes old → is_bare_type old ≡ true → is_bare_type new ≡ true
@@ -130,11 +120,10 @@ item_bare interfaces types (item.Interface a d e x) (item.Interface b g k y) is 
 item_bare interfaces types (item.Function g) (item.Function k) is h = function_bare types g k is h
 item_bare interfaces types (item.Type_ a) (item.Type_ b) is h = refl
 item_bare interfaces types (item.Interface a d e x) (item.Function g) is h = absurd is
-item_bare interfaces types (item.Interface a d e x) (item.Type_ b) is h = refl
 item_bare interfaces types (item.Function g) (item.Interface b d e x) is h = absurd is
-item_bare interfaces types (item.Function g) (item.Type_ b) is h = refl
 item_bare interfaces types (item.Type_ a) (item.Interface b d e x) is h = absurd is
 item_bare interfaces types (item.Type_ a) (item.Function g) is h = absurd is
+item_bare interfaces types _ (item.Type_ b) is h = refl
 
 abbrev items : List (WorldKey × WorldItem) → List WorldItem
 items es = map (λ (e : WorldKey × WorldItem). e.1) es

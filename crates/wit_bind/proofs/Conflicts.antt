@@ -59,8 +59,7 @@ of_all m P so_far (e ∷ es) h =
 
 itself_is : (e : StringEncoding) → not (number_of_encoding e == number_of_encoding e) ≡ false
 itself_is encodings.UTF8 = refl
-itself_is encodings.UTF16 = refl
-itself_is encodings.CompactUTF16 = refl
+itself_is _ = refl
 
 is_another : (f e : StringEncoding) → f ≢ e → not (number_of_encoding f == number_of_encoding e) ≡ true
 is_another encodings.UTF8 encodings.UTF8 h = absurd (h refl)

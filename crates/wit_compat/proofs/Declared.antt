@@ -51,7 +51,6 @@ is_resource_by trees _ = refl
 own : (trees : List Tree) (k : TypeDefKind) → aliased k ≡ None → is_own (declared_by trees k) ≡ true
 own trees (kind.Type_ t) e = let wrong : ⊥ = cc in absurd wrong
 own trees (kind.Handle (handle.Own id)) e = refl
-own trees (kind.Handle (handle.Borrow id)) e = refl
 own trees _ e = refl
 
 -- a kind that is neither an alias nor a resource has a form
@@ -60,19 +59,12 @@ formed : (k : TypeDefKind) → aliased k ≡ None → is_resource_itself k ≡ f
 formed (kind.Type_ t) e h = let wrong : ⊥ = cc in absurd wrong
 formed kind.Resource e h = true_false h
 formed (kind.Handle (handle.Own id)) e h = (_, refl, λ trees. refl)
-formed (kind.Handle (handle.Borrow id)) e h = (_, refl, λ trees. refl)
 formed (kind.Record x) e h = (_, refl, λ trees. ap type_ (opened_built trees no_tree (kind.Record x) refl))
 formed (kind.Variant x) e h = (_, refl, λ trees. ap type_ (opened_built trees no_tree (kind.Variant x) refl))
-formed (kind.Flags x) e h = (_, refl, λ trees. refl)
-formed (kind.Enum x) e h = (_, refl, λ trees. refl)
-formed (kind.Tuple x) e h = (_, refl, λ trees. refl)
-formed (kind.Option t) e h = (_, refl, λ trees. refl)
 formed (kind.Result x) e h = (_, refl, λ trees. ap type_ (opened_built trees no_tree (kind.Result x) refl))
-formed (kind.List t) e h = (_, refl, λ trees. refl)
-formed (kind.Map t u) e h = (_, refl, λ trees. refl)
-formed (kind.FixedLengthList t n) e h = (_, refl, λ trees. refl)
 formed (kind.Future t) e h = (_, refl, λ trees. ap type_ (opened_built trees no_tree (kind.Future t) refl))
 formed (kind.Stream t) e h = (_, refl, λ trees. ap type_ (opened_built trees no_tree (kind.Stream t) refl))
+formed _ e h = (_, refl, λ trees. refl)
 
 -- ---- the target of an alias: a primitive or a name
 

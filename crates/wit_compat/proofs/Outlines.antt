@@ -55,21 +55,9 @@ zipped_back [] = refl
 zipped_back (c ∷ cs) = λ i. (c.0, c.1) ∷ zipped_back cs i
 
 form_back : (f : Option Form) → form_from (sort_of f) (labels_of f) (given_of f) (count_of f) ≡ f
-form_back None = refl
 form_back (Some (record_of ls)) = refl
 form_back (Some (variant_of cs)) = λ i. Some (variant_of (zipped_back cs i))
-form_back (Some list_of) = refl
-form_back (Some (fixed_list_of n)) = refl
-form_back (Some option_of) = refl
-form_back (Some own_of) = refl
-form_back (Some borrow_of) = refl
-form_back (Some map_of) = refl
-form_back (Some tuple_of) = refl
-form_back (Some (flags_of ls)) = refl
-form_back (Some (enum_of ls)) = refl
-form_back (Some (result_of a b)) = refl
-form_back (Some (future_of a)) = refl
-form_back (Some (stream_of a)) = refl
+form_back _ = refl
 
 -- Forms of the same parts are the same.
 pub same_forms : (f g : Option Form) → sort_of f ≡ sort_of g → labels_of f ≡ labels_of g → given_of f ≡ given_of g → count_of f ≡ count_of g → f ≡ g

@@ -75,12 +75,6 @@ no_rank _ e = refl
 -- an unnamed kind has a form
 form_there : (k : TypeDefKind) → is_named_kind k ≡ false → (f : Form) × (form_of k ≡ Some f)
     × ((leaf : Tree) (trees : List Tree) → tree_of_declaration (declared_by trees k) ≡ opened_kind leaf trees k) × (is_alias k ≡ false)
-form_there (kind.Record x) h = absurd (let z : ⊥ = cc in z)
-form_there (kind.Variant x) h = absurd (let z : ⊥ = cc in z)
-form_there (kind.Flags x) h = absurd (let z : ⊥ = cc in z)
-form_there (kind.Enum x) h = absurd (let z : ⊥ = cc in z)
-form_there kind.Resource h = absurd (let z : ⊥ = cc in z)
-form_there (kind.Type_ t) h = absurd (let z : ⊥ = cc in z)
 form_there (kind.Tuple x) h = (tuple_of, refl, λ leaf trees. refl, refl)
 form_there (kind.Option t) h = (option_of, refl, λ leaf trees. refl, refl)
 form_there (kind.Result x) h = (result_of (is_there x.ok) (is_there x.err), refl, λ leaf trees. refl, refl)
@@ -91,6 +85,7 @@ form_there (kind.Future t) h = (future_of (is_there t), refl, λ leaf trees. ref
 form_there (kind.Stream t) h = (stream_of (is_there t), refl, λ leaf trees. refl, refl)
 form_there (kind.Handle (handle.Own id)) h = (own_of, refl, λ leaf trees. refl, refl)
 form_there (kind.Handle (handle.Borrow id)) h = (borrow_of, refl, λ leaf trees. refl, refl)
+form_there _ h = absurd (let z : ⊥ = cc in z)
 
 module _ (r : Resolve) (v : IsValid r) (n : ℕ) (def : TypeDef) (at : type_at r n ≡ Some def) where
   tree_is : number_tree r n ≡ tree_of_definition r (trees_of r) def

@@ -27,20 +27,7 @@ gives_that_meaning r n p bytes is means s k decoded = record {
 pub memory_alone : MemoryAloneIsRefused
 memory_alone r n p bytes is means errors.Memory refused = refl
 memory_alone r n p bytes is means (errors.NoReading cause offset) refused = absurd (refused.1 (package_meaning r n p) ((means (package_meaning r n p)).0 (has_meaning r n p is)))
-memory_alone r n p bytes is means errors.Size refused = absurd refused
-memory_alone r n p bytes is means (errors.CanonicalClash name) refused = absurd refused
-memory_alone r n p bytes is means errors.EncodingMissing refused = absurd refused
-memory_alone r n p bytes is means errors.EncodingUnknownFormat refused = absurd refused
-memory_alone r n p bytes is means (errors.EncodingVersion version) refused = absurd refused
-memory_alone r n p bytes is means (errors.BadStringEncoding byte) refused = absurd refused
-memory_alone r n p bytes is means errors.Historical refused = absurd refused
-memory_alone r n p bytes is means errors.NotAModule refused = absurd refused
-memory_alone r n p bytes is means (errors.BadModule offset) refused = absurd refused
-memory_alone r n p bytes is means (errors.Clash what key) refused = absurd refused
-memory_alone r n p bytes is means errors.OtherPackage refused = absurd refused
-memory_alone r n p bytes is means (errors.TwiceWithoutVersion name) refused = absurd refused
-memory_alone r n p bytes is means (errors.Missing name) refused = absurd refused
-memory_alone r n p bytes is means (errors.Differs name) refused = absurd refused
+memory_alone r n p bytes is means _ refused = absurd refused
 
 pub encoding_keeps : EncodingKeepsMeaning
 encoding_keeps bytes again s k decoded means m = (

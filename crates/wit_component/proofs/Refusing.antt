@@ -51,20 +51,7 @@ handed_on e (Err d) same refused = let size : d ≡ errors.Size = cc in ap Err (
 pub refused_encoding : (p : Package) (e : Error) → IsMemoryOrSize e → RefusesReadBack p e
 refused_encoding p errors.Memory h = tt
 refused_encoding p errors.Size h = tt
-refused_encoding p (errors.NoReading cause offset) h = absurd h
-refused_encoding p (errors.CanonicalClash name) h = absurd h
-refused_encoding p errors.EncodingMissing h = absurd h
-refused_encoding p errors.EncodingUnknownFormat h = absurd h
-refused_encoding p (errors.EncodingVersion version) h = absurd h
-refused_encoding p (errors.BadStringEncoding byte) h = absurd h
-refused_encoding p errors.Historical h = absurd h
-refused_encoding p errors.NotAModule h = absurd h
-refused_encoding p (errors.BadModule offset) h = absurd h
-refused_encoding p (errors.Clash what key) h = absurd h
-refused_encoding p errors.OtherPackage h = absurd h
-refused_encoding p (errors.TwiceWithoutVersion name) h = absurd h
-refused_encoding p (errors.Missing name) h = absurd h
-refused_encoding p (errors.Differs name) h = absurd h
+refused_encoding p _ h = absurd h
 
 -- ---- decoding
 
@@ -80,19 +67,7 @@ module _ (r : Resolve) (n : ℕ) (p : Package) (bytes : List ℕ) (at : package_
       (λ some. let m = package_meaning r n p in absurd (h.1 m ((means some m).0 (has_meaning r n p at))))
       (λ none. none)
   refused_decoding errors.Size h = absurd h
-  refused_decoding (errors.CanonicalClash name) h = absurd h
-  refused_decoding errors.EncodingMissing h = absurd h
-  refused_decoding errors.EncodingUnknownFormat h = absurd h
-  refused_decoding (errors.EncodingVersion version) h = absurd h
-  refused_decoding (errors.BadStringEncoding byte) h = absurd h
-  refused_decoding errors.Historical h = absurd h
-  refused_decoding errors.NotAModule h = absurd h
-  refused_decoding (errors.BadModule offset) h = absurd h
-  refused_decoding (errors.Clash what key) h = absurd h
-  refused_decoding errors.OtherPackage h = absurd h
-  refused_decoding (errors.TwiceWithoutVersion name) h = absurd h
-  refused_decoding (errors.Missing name) h = absurd h
-  refused_decoding (errors.Differs name) h = absurd h
+  refused_decoding _ h = absurd h
 
   pub read_back : (HasNoMembers p → bytes ≡ preamble) → (s : Resolve) (k : ℕ) → IsDecoded bytes s k → IsReadBack r n s k
   read_back empty s k decoded =

@@ -63,12 +63,9 @@ step-count s s' (Declaration.imported name (refs.Instance n)) e = instance-seen 
 step-count s s' (Declaration.imported name (refs.Func n)) e = function-seen import_ name n s s' e
 step-count s s' (Declaration.imported name (refs.TypeEq n)) e = type-seen name (refs.TypeEq n) s s' e
 step-count s s' (Declaration.imported name refs.SubResource) e = type-seen name refs.SubResource s s' e
-step-count s s' (Declaration.imported name (refs.Component n)) e = absurd (let z : ⊥ = cc in z)
 step-count s s' (Declaration.exported name (refs.Instance n)) e = instance-seen export_ name n s s' e
 step-count s s' (Declaration.exported name (refs.Func n)) e = function-seen export_ name n s s' e
-step-count s s' (Declaration.exported name (refs.TypeEq n)) e = absurd (let z : ⊥ = cc in z)
-step-count s s' (Declaration.exported name refs.SubResource) e = absurd (let z : ⊥ = cc in z)
-step-count s s' (Declaration.exported name (refs.Component n)) e = absurd (let z : ⊥ = cc in z)
+step-count s s' _ e = absurd (let z : ⊥ = cc in z)
 
 pub steps-count : (s s' : Scope) (ds : Declarations) → component_steps s ds ≡ Some s' → length s'.slots ≡ length s.slots + type_slots_of ds
 steps-count s s' Declarations.no_more e = none-more s s' (ap (λ (z : Scope). z.slots) (some-same s s' e))

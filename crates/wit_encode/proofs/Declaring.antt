@@ -50,8 +50,7 @@ module _ (scope : Scope) (slots : List Slot) (sound : list_all (is_slot_of scope
             stands = refl;
           }
       go (Some (Slot.function x)) at q = absurd (let z : ⊥ = cc in z)
-      go (Some (Slot.instance xs n)) at q = absurd (let z : ⊥ = cc in z)
-      go None at q = absurd (let z : ⊥ = cc in z)
+      go _ at q = absurd (let z : ⊥ = cc in z)
 
   pub declared-resource : (s : DeclaresResource scope name) → DeclaredAs scope slots name refs.SubResource s.declaration
   declared-resource s = record {

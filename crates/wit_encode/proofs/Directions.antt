@@ -162,12 +162,9 @@ step-seen s s' (Declaration.imported name (refs.Instance n)) e = instance-seen i
 step-seen s s' (Declaration.imported name (refs.Func n)) e = function-seen import_ name n s s' e
 step-seen s s' (Declaration.imported name (refs.TypeEq n)) e = type-seen name (refs.TypeEq n) s s' e
 step-seen s s' (Declaration.imported name refs.SubResource) e = type-seen name refs.SubResource s s' e
-step-seen s s' (Declaration.imported name (refs.Component n)) e = absurd (let z : ⊥ = cc in z)
 step-seen s s' (Declaration.exported name (refs.Instance n)) e = instance-seen export_ name n s s' e
 step-seen s s' (Declaration.exported name (refs.Func n)) e = function-seen export_ name n s s' e
-step-seen s s' (Declaration.exported name (refs.TypeEq n)) e = absurd (let z : ⊥ = cc in z)
-step-seen s s' (Declaration.exported name refs.SubResource) e = absurd (let z : ⊥ = cc in z)
-step-seen s s' (Declaration.exported name (refs.Component n)) e = absurd (let z : ⊥ = cc in z)
+step-seen s s' _ e = absurd (let z : ⊥ = cc in z)
 
 -- one after the other
 steps-seen : (s s' : Scope) (ds : Declarations) → component_steps s ds ≡ Some s' → Sees s s' (directions_of ds)

@@ -236,17 +236,9 @@ light ts (kind.Tuple x) alias =
     let b : length (members_of (kind.Tuple x)) ≡ length x.types.items = length-map x.types.items (λ t. []) in
     let many = as-many (members_of (kind.Tuple x)) in
     omega arith
-light ts kind.Resource alias = omega arith
 light ts (kind.Handle (handle.Own id)) alias = omega arith
-light ts (kind.Handle (handle.Borrow id)) alias = omega arith
-light ts (kind.Option t) alias = omega arith
-light ts (kind.Result x) alias = omega arith
-light ts (kind.List t) alias = omega arith
-light ts (kind.Map k t) alias = omega arith
-light ts (kind.FixedLengthList t n) alias = omega arith
-light ts (kind.Future t) alias = omega arith
-light ts (kind.Stream t) alias = omega arith
 light ts (kind.Type_ t) alias = let h = alias t refl in omega arith
+light ts _ alias = omega arith
 
 module _ (r : Resolve) (v : IsValid r) where
   -- what another name stands for is a primitive or a name

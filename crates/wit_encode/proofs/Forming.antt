@@ -112,36 +112,10 @@ module _ (r : Resolve) (resources : Names) where
   kind-formed (kind.Handle (handle.Borrow id)) d s v h a = both _ _ (agree-first (ty.Id id) [] a ∙ h) refl
   kind-formed kind.Resource d s v h a = absurd (let z : ⊥ = cc in z)
   kind-formed (kind.Type_ (ty.Id id)) d s v h a = absurd (let z : ⊥ = cc in z)
-  kind-formed (kind.Type_ ty.Bool) d s v h a = refl
-  kind-formed (kind.Type_ ty.U8) d s v h a = refl
-  kind-formed (kind.Type_ ty.U16) d s v h a = refl
-  kind-formed (kind.Type_ ty.U32) d s v h a = refl
-  kind-formed (kind.Type_ ty.U64) d s v h a = refl
-  kind-formed (kind.Type_ ty.S8) d s v h a = refl
-  kind-formed (kind.Type_ ty.S16) d s v h a = refl
-  kind-formed (kind.Type_ ty.S32) d s v h a = refl
-  kind-formed (kind.Type_ ty.S64) d s v h a = refl
-  kind-formed (kind.Type_ ty.F32) d s v h a = refl
-  kind-formed (kind.Type_ ty.F64) d s v h a = refl
-  kind-formed (kind.Type_ ty.Char) d s v h a = refl
-  kind-formed (kind.Type_ ty.String) d s v h a = refl
-  kind-formed (kind.Type_ ty.ErrorContext) d s v h a = refl
+  kind-formed _ d s v h a = refl
 
   -- a name stands for a resource exactly where its type is one
   pub kind-alike : (k : TypeDefKind) → Agree r resources (parts_of k) → is_resource_declaration resources (declared_by (trees_of r) k) ≡ is_resource_kind (is_resource r) k
-  kind-alike kind.Resource a = refl
   kind-alike (kind.Type_ t) a = agree-first t [] a
   kind-alike (kind.Handle (handle.Own id)) a = refl
-  kind-alike (kind.Handle (handle.Borrow id)) a = refl
-  kind-alike (kind.Record q) a = refl
-  kind-alike (kind.Flags q) a = refl
-  kind-alike (kind.Tuple q) a = refl
-  kind-alike (kind.Variant q) a = refl
-  kind-alike (kind.Enum q) a = refl
-  kind-alike (kind.Option t) a = refl
-  kind-alike (kind.Result q) a = refl
-  kind-alike (kind.List t) a = refl
-  kind-alike (kind.Map k t) a = refl
-  kind-alike (kind.FixedLengthList t n) a = refl
-  kind-alike (kind.Future t) a = refl
-  kind-alike (kind.Stream t) a = refl
+  kind-alike _ a = refl

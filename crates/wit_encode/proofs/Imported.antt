@@ -43,10 +43,8 @@ nothing_is_imported r = record {
 -- ---- aliases
 
 no-instance : (x : Slot) → is_foreign_name x ≡ true → instance_types (x ∷ []) ≡ 0
-no-instance (Slot.value t) h = refl
-no-instance (Slot.resource p t) h = refl
-no-instance (Slot.function f) h = refl
 no-instance (Slot.instance ds n) h = let wrong : ⊥ = cc in absurd wrong
+no-instance _ h = refl
 
 alias-leaves : (r : Resolve) (a : Around) (al : Aliased) (ns : List ℕ) → HasImported r a ns → IsAlias r a al → HasImported r (with_alias a al) ns
 alias-leaves r a al ns h is =

@@ -84,11 +84,7 @@ kept-alike : (r : Resolve) (i : InterfaceId) (slot : Slot) → is_foreign_name s
 kept-alike r i (Slot.value (named (of_interface p) x)) f h = ap not (resources-alike r i p x) ∙ h
 kept-alike r i (Slot.resource (of_interface p) x) f h = resources-alike r i p x ∙ h
 kept-alike r i (Slot.value (named here x)) f h = absurd (let z : ⊥ = cc in z)
-kept-alike r i (Slot.value (primitive q)) f h = absurd (let z : ⊥ = cc in z)
-kept-alike r i (Slot.value (node q ts)) f h = absurd (let z : ⊥ = cc in z)
-kept-alike r i (Slot.resource here x) f h = absurd (let z : ⊥ = cc in z)
-kept-alike r i (Slot.function s) f h = absurd (let z : ⊥ = cc in z)
-kept-alike r i (Slot.instance ds n) f h = absurd (let z : ⊥ = cc in z)
+kept-alike r i _ f h = absurd (let z : ⊥ = cc in z)
 
 -- ---- the slot around
 

@@ -44,20 +44,7 @@ alias-part test (kind.Type_ t) id h c = go t h (one-contained t (ty.Id id) c)
   where
     go : (t : ValueType) → option_map_or test (alias_target (kind.Type_ t)) false ≡ true → t ≡ ty.Id id → test id.0 ≡ true
     go t h e = subst (λ (x : ValueType). option_map_or test (alias_target (kind.Type_ x)) false ≡ true) e h
-alias-part test (kind.Record x) id h c = let wrong : ⊥ = cc in absurd wrong
-alias-part test kind.Resource id h c = let wrong : ⊥ = cc in absurd wrong
-alias-part test (kind.Handle x) id h c = let wrong : ⊥ = cc in absurd wrong
-alias-part test (kind.Flags x) id h c = let wrong : ⊥ = cc in absurd wrong
-alias-part test (kind.Tuple x) id h c = let wrong : ⊥ = cc in absurd wrong
-alias-part test (kind.Variant x) id h c = let wrong : ⊥ = cc in absurd wrong
-alias-part test (kind.Enum x) id h c = let wrong : ⊥ = cc in absurd wrong
-alias-part test (kind.Option x) id h c = let wrong : ⊥ = cc in absurd wrong
-alias-part test (kind.Result x) id h c = let wrong : ⊥ = cc in absurd wrong
-alias-part test (kind.List x) id h c = let wrong : ⊥ = cc in absurd wrong
-alias-part test (kind.Map x y) id h c = let wrong : ⊥ = cc in absurd wrong
-alias-part test (kind.FixedLengthList x n) id h c = let wrong : ⊥ = cc in absurd wrong
-alias-part test (kind.Future x) id h c = let wrong : ⊥ = cc in absurd wrong
-alias-part test (kind.Stream x) id h c = let wrong : ⊥ = cc in absurd wrong
+alias-part test _ id h c = let wrong : ⊥ = cc in absurd wrong
 
 some-of : {A B : Type 0} (f : A → B → Bool) (o : Option A) (b : B) → option_map_or (λ a. f a b) o false ≡ true → is_some o ≡ true
 some-of f None b h = let wrong : ⊥ = cc in absurd wrong

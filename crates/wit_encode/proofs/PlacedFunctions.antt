@@ -129,19 +129,10 @@ open-still (Some a) (Some b) e some = refl
 -- ---- after the types
 
 taken-no-function : (d : Declaration) → takes_index d ≡ true → not (describes is_function d) ≡ true
-taken-no-function (Declaration.defined q) e = refl
-taken-no-function (Declaration.function q) e = refl
-taken-no-function (Declaration.alias_of a) e = refl
 taken-no-function (Declaration.imported name (refs.Func n)) e = absurd (let z : ⊥ = cc in z)
 taken-no-function (Declaration.imported name (refs.TypeEq n)) e = refl
-taken-no-function (Declaration.imported name refs.SubResource) e = refl
-taken-no-function (Declaration.imported name (refs.Component n)) e = refl
-taken-no-function (Declaration.imported name (refs.Instance n)) e = refl
 taken-no-function (Declaration.exported name (refs.Func n)) e = absurd (let z : ⊥ = cc in z)
-taken-no-function (Declaration.exported name (refs.TypeEq n)) e = refl
-taken-no-function (Declaration.exported name refs.SubResource) e = refl
-taken-no-function (Declaration.exported name (refs.Component n)) e = refl
-taken-no-function (Declaration.exported name (refs.Instance n)) e = refl
+taken-no-function _ e = refl
 
 pub types-in-order : (r r' : Resolve) (outer outer' : Declarations) (inner inner' : Option OpenInterface) → IsSome inner → IsSome inner' → declared_inside inner ≡ []
     → ((told : Told) → KeepsInside inner told → KeepsInside inner' told) → (defined_in r' outer' inner').functions ≡ (defined_in r outer inner).functions

@@ -70,10 +70,8 @@ or-more true y z h more = refl
 or-more false y z h more = more h
 
 begins-more : (test : ComponentTypeRef → Bool) (a b : Declarations) → begins_with test a ≡ true → begins_with test (append a b) ≡ true
-begins-more test Declarations.no_more b h = absurd (let z : ⊥ = cc in z)
 begins-more test (Declarations.declares d rest) b h = h
-begins-more test (Declarations.component inner rest) b h = absurd (let z : ⊥ = cc in z)
-begins-more test (Declarations.instance inner rest) b h = absurd (let z : ⊥ = cc in z)
+begins-more test _ b h = absurd (let z : ⊥ = cc in z)
 
 pub beside-both : (n : ℕ) (a b : Declarations) → are_beside n a ≡ true → are_beside (n + type_slots_of a) b ≡ true → are_beside n (append a b) ≡ true
 beside-both n Declarations.no_more b h k = subst (λ (m : ℕ). are_beside m b ≡ true) (no-slot n) k

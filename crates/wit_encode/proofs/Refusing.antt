@@ -36,17 +36,12 @@ never-size (Err e) h refused = absurd (let z : ⊥ = cc in z)
 
 described-one : (d : ComponentTypeRef) → described_slots d ≤ 1
 described-one (refs.TypeEq n) = omega arith
-described-one refs.SubResource = omega arith
-described-one (refs.Func n) = omega arith
-described-one (refs.Component n) = omega arith
-described-one (refs.Instance n) = omega arith
+described-one _ = omega arith
 
 slots-one : (d : Declaration) → declaration_slots d ≤ 1
-slots-one (Declaration.defined d) = omega arith
-slots-one (Declaration.function f) = omega arith
-slots-one (Declaration.alias_of a) = omega arith
 slots-one (Declaration.imported name described) = described-one described
 slots-one (Declaration.exported name described) = described-one described
+slots-one _ = omega arith
 
 slots-few : (ds : List Declaration) → type_slots ds ≤ length ds
 slots-few [] = omega arith
@@ -125,18 +120,12 @@ tree-fits S (form.Primitive x) t h = ap fits_tree (sym h)
 tree-fits S (form.Record fields) t h = labels-fit (NamedStands S) (λ f. f.0) (λ x f w. w.0) fields.items h.0 h.1 ∙ ap fits_tree (sym h.2)
 tree-fits S (form.Variant cases) t h = labels-fit (CaseStands S) (λ c. c.0) (λ x c w. w.0) cases.items h.0 h.1 ∙ ap fits_names (sym (map-twice (λ (c : Text × Bool). c.0) _ h.0)) ∙ ap
     fits_tree (sym h.2)
-tree-fits S (form.List x) t h = ap fits_tree (sym h.2)
-tree-fits S (form.FixedLengthList x n) t h = ap fits_tree (sym h.2)
 tree-fits S (form.Map x y) t h = ap fits_tree (sym h.4)
 tree-fits S (form.Tuple xs) t h = ap (λ n. nat_lt n (2 ^ 32)) (zip-length (StandsFor S) xs.items h.0 h.1) ∙ ap fits_length (sym (listed h.0)) ∙ ap fits_tree (sym h.2)
 tree-fits S (form.Flags names) t h = ap fits_tree (sym h)
 tree-fits S (form.Enum names) t h = ap fits_tree (sym h)
-tree-fits S (form.Option x) t h = ap fits_tree (sym h.2)
 tree-fits S (form.Result x y) t h = ap fits_tree (sym h.4)
-tree-fits S (form.Own i) t h = ap fits_tree (sym h.2)
-tree-fits S (form.Borrow i) t h = ap fits_tree (sym h.2)
-tree-fits S (form.Stream x) t h = ap fits_tree (sym h.2)
-tree-fits S (form.Future x) t h = ap fits_tree (sym h.2)
+tree-fits S _ t h = ap fits_tree (sym h.2)
 
 pub signature-fits : (S : Pairs) (f : ComponentFuncType) (s : Signature) → FollowsFunction S f s → fits_labels (raw_function f).parameters ≡ fits_names (map (λ p. p.0) s.params)
 signature-fits S f s h = labels-fit (NamedStands S) (λ p. p.0) (λ x p w. w.0) f.params.items s.params h.params

@@ -28,10 +28,8 @@ module _ (place : Place) where
   IsNameSlot name slot = (slot ≡ Slot.value (named place name)) ⊎ (slot ≡ Slot.resource place name)
 
   like-name : (slot : Slot) (name : Text) → IsNameSlot name (named_like slot place name)
-  like-name (Slot.value t) name = inl refl
   like-name (Slot.resource p x) name = inr refl
-  like-name (Slot.function s) name = inl refl
-  like-name (Slot.instance ds n) name = inl refl
+  like-name _ name = inl refl
 
   named-slot : (slots : List Slot) (name : Text) (described : ComponentTypeRef) (found : tree.Declaration × Slot) → named_type slots place name described ≡ Some found → IsNameSlot name found.1
   named-slot slots name (refs.TypeEq n) found e =
@@ -39,9 +37,7 @@ module _ (place : Place) where
       let d = unbind (declared_by slot.item) _ found slot.then in
       subst (IsNameSlot name) (ap (λ f. f.1) (some-same _ found d.then)) (like-name slot.item name)
   named-slot slots name refs.SubResource found e = inr (ap (λ f. f.1) (sym (some-same _ found e)))
-  named-slot slots name (refs.Instance n) found e = absurd (let z : ⊥ = cc in z)
-  named-slot slots name (refs.Func n) found e = absurd (let z : ⊥ = cc in z)
-  named-slot slots name (refs.Component n) found e = absurd (let z : ⊥ = cc in z)
+  named-slot slots name _ found e = absurd (let z : ⊥ = cc in z)
 
   -- ---- each type that is shown has a slot of its name
 

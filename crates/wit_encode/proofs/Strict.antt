@@ -20,19 +20,7 @@ use Rattle.comp_meaning.specs.Follow as follow
 
 primitive-same : (x : PrimitiveValType) → primitive_of x ≡ primitive_of_type x
 primitive-same p.Bool = refl
-primitive-same p.U8 = refl
-primitive-same p.U16 = refl
-primitive-same p.U32 = refl
-primitive-same p.U64 = refl
-primitive-same p.S8 = refl
-primitive-same p.S16 = refl
-primitive-same p.S32 = refl
-primitive-same p.S64 = refl
-primitive-same p.F32 = refl
-primitive-same p.F64 = refl
-primitive-same p.Char = refl
-primitive-same p.String = refl
-primitive-same p.ErrorContext = refl
+primitive-same _ = refl
 
 pub bind : {A B : Type 0} (o : Option A) (x : A) (f : A → Option B) → o ≡ Some x → (o >>= f) ≡ f x
 bind o x f e = ap (λ z. z >>= f) e
@@ -261,14 +249,13 @@ module _ (slots : List Slot) where
   follows-once (form.FixedLengthList x n) t u (a, z, e) (b, y, q) = e ∙ ap (λ c. fixed_list_tree c n) (part-once x a b z y) ∙ sym q
   follows-once (form.Map x w) t u (a, c, z, s, e) (b, d, y, r, q) = e ∙ (λ i. map_tree (part-once x a b z y i) (part-once w c d s r i)) ∙ sym q
   follows-once (form.Tuple xs) t u (a, z, e) (b, y, q) = e ∙ ap tuple_tree (zip-once (StandsFor (SlotsStand slots)) part-once xs.items a b z y) ∙ sym q
-  follows-once (form.Flags names) t u h k = h ∙ sym k
-  follows-once (form.Enum names) t u h k = h ∙ sym k
   follows-once (form.Option x) t u (a, z, e) (b, y, q) = e ∙ ap option_tree (part-once x a b z y) ∙ sym q
   follows-once (form.Result x w) t u (a, c, z, s, e) (b, d, y, r, q) = e ∙ (λ i. result_tree (optional-once x a b z y i) (optional-once w c d s r i)) ∙ sym q
   follows-once (form.Own n) t u (a, z, e) (b, y, q) = e ∙ ap own_tree (stands-once n a b z y) ∙ sym q
   follows-once (form.Borrow n) t u (a, z, e) (b, y, q) = e ∙ ap borrow_tree (stands-once n a b z y) ∙ sym q
   follows-once (form.Stream x) t u (a, z, e) (b, y, q) = e ∙ ap stream_tree (optional-once x a b z y) ∙ sym q
   follows-once (form.Future x) t u (a, z, e) (b, y, q) = e ∙ ap future_tree (optional-once x a b z y) ∙ sym q
+  follows-once _ t u h k = h ∙ sym k
 
   pub signature-once : (f : ComponentFuncType) (s r : Signature) → FollowsFunction (SlotsStand slots) f s → FollowsFunction (SlotsStand slots) f r → s ≡ r
   signature-once f s r h k = λ i. record {

@@ -130,7 +130,6 @@ unnamed-kind : (r : Resolve) (resources : Names) (f : ℕ → Bool) (k : TypeDef
 unnamed-kind r resources f kind.Resource e = let wrong : ⊥ = cc in absurd wrong
 unnamed-kind r resources f (kind.Type_ t) e = let wrong : ⊥ = cc in absurd wrong
 unnamed-kind r resources f (kind.Handle (handle.Own id)) e = refl
-unnamed-kind r resources f (kind.Handle (handle.Borrow id)) e = refl
 unnamed-kind r resources f _ e = refl
 
 or-right : (a b : Bool) → a ≡ false → (a || b) ≡ true → b ≡ true

@@ -266,9 +266,7 @@ inner-new place outer s m (Declaration.defined q) i e c =
       plain = defined-plain s.slots q b.item b.is;
     }
 inner-new place outer s m (Declaration.function q) i e c = none-in i c
-inner-new place outer s m (Declaration.alias_of a) i e c = none-in i c
-inner-new place outer s m (Declaration.imported name described) i e c = none-in i c
-inner-new place outer s m (Declaration.exported name described) i e c = none-in i c
+inner-new place outer s m _ i e c = none-in i c
 
 pub inner-values : (place : Place) (outer : List Slot) (s s' : InstanceScope) (ds : List Declaration) (i : ℕ) → instance_steps place outer s ds ≡ Some s'
     → Contains (slots_from is_value_type (length s.slots) (from_list ds)) i → HoldsPlain s'.slots i
@@ -314,12 +312,9 @@ outer-front s s' (Declaration.imported name (refs.Instance n)) e = instance-fron
 outer-front s s' (Declaration.imported name (refs.Func n)) e = function-front import_ name n s s' e
 outer-front s s' (Declaration.imported name (refs.TypeEq n)) e = type-front name (refs.TypeEq n) s s' e
 outer-front s s' (Declaration.imported name refs.SubResource) e = type-front name refs.SubResource s s' e
-outer-front s s' (Declaration.imported name (refs.Component n)) e = absurd (let z : ⊥ = cc in z)
 outer-front s s' (Declaration.exported name (refs.Instance n)) e = instance-front export_ name n s s' e
 outer-front s s' (Declaration.exported name (refs.Func n)) e = function-front export_ name n s s' e
-outer-front s s' (Declaration.exported name (refs.TypeEq n)) e = absurd (let z : ⊥ = cc in z)
-outer-front s s' (Declaration.exported name refs.SubResource) e = absurd (let z : ⊥ = cc in z)
-outer-front s s' (Declaration.exported name (refs.Component n)) e = absurd (let z : ⊥ = cc in z)
+outer-front s s' _ e = absurd (let z : ⊥ = cc in z)
 
 outer-fronts : (s s' : Scope) (ds : Declarations) → component_steps s ds ≡ Some s' → Front s.slots s'.slots
 outer-fronts s s' Declarations.no_more e = same-front s.slots s'.slots (ap (λ (z : Scope). z.slots) (some-same s s' e))
@@ -343,9 +338,7 @@ outer-new s m (Declaration.defined q) i e c =
       plain = defined-plain s.slots q b.item b.is;
     }
 outer-new s m (Declaration.function q) i e c = none-in i c
-outer-new s m (Declaration.alias_of a) i e c = none-in i c
-outer-new s m (Declaration.imported name described) i e c = none-in i c
-outer-new s m (Declaration.exported name described) i e c = none-in i c
+outer-new s m _ i e c = none-in i c
 
 pub outer-values : (s s' : Scope) (ds : Declarations) (i : ℕ) → component_steps s ds ≡ Some s' → Contains (slots_from is_value_type (length s.slots) ds) i → HoldsPlain s'.slots i
 outer-values s s' Declarations.no_more i e c = none-in i c

@@ -97,17 +97,9 @@ heavy ts (kind.Tuple x) alias e = over (members-weight (kind.Tuple x)) _
     (λ low. fits-text (child_list (children (map (tree_of ts) x.types.items))) (let many = as-many (members_of (kind.Tuple x)) in
     let is : length (child_list (children (map (tree_of ts) x.types.items))) ≡ length (map (tree_of ts) x.types.items) = ap length (listed (map (tree_of ts) x.types.items)) in
     let a = length-map x.types.items (tree_of ts) in let b : length (members_of (kind.Tuple x)) ≡ length x.types.items = length-map x.types.items (λ t. []) in omega arith)) e
-heavy ts kind.Resource alias e = absurd (let z : ⊥ = cc in z)
 heavy ts (kind.Handle (handle.Own id)) alias e = absurd (let z : ⊥ = cc in z)
-heavy ts (kind.Handle (handle.Borrow id)) alias e = absurd (let z : ⊥ = cc in z)
-heavy ts (kind.Option t) alias e = absurd (let z : ⊥ = cc in z)
-heavy ts (kind.Result x) alias e = absurd (let z : ⊥ = cc in z)
-heavy ts (kind.List t) alias e = absurd (let z : ⊥ = cc in z)
-heavy ts (kind.Map k t) alias e = absurd (let z : ⊥ = cc in z)
-heavy ts (kind.FixedLengthList t n) alias e = absurd (let z : ⊥ = cc in z)
-heavy ts (kind.Future t) alias e = absurd (let z : ⊥ = cc in z)
-heavy ts (kind.Stream t) alias e = absurd (let z : ⊥ = cc in z)
 heavy ts (kind.Type_ t) alias e = let h = alias t refl in absurd (let z : ⊥ = cc in z)
+heavy ts _ alias e = absurd (let z : ⊥ = cc in z)
 
 module _ (r : Resolve) (v : IsValid r) where
   -- what another name stands for is a primitive or a name

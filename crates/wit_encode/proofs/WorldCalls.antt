@@ -263,20 +263,14 @@ foreign-slot r w n x h = record {
 }
   where
     plain-name : (x : Slot) → is_foreign_name x ≡ true → instance_types (x ∷ []) ≡ 0
-    plain-name (Slot.value t) f = refl
-    plain-name (Slot.resource p t) f = refl
-    plain-name (Slot.function s) f = refl
     plain-name (Slot.instance ds k) f = absurd (let z : ⊥ = cc in z)
+    plain-name _ f = refl
 
     kept-alike : (slot : Slot) → is_foreign_name slot ≡ true → is_slot_of (named_resources r) slot ≡ true → is_slot_of (world_resources r w) slot ≡ true
     kept-alike (Slot.value (named (of_interface p) x)) f h = ap not (resources-alike r w p x) ∙ h
     kept-alike (Slot.resource (of_interface p) x) f h = resources-alike r w p x ∙ h
     kept-alike (Slot.value (named here x)) f h = absurd (let z : ⊥ = cc in z)
-    kept-alike (Slot.value (primitive q)) f h = absurd (let z : ⊥ = cc in z)
-    kept-alike (Slot.value (node q ts)) f h = absurd (let z : ⊥ = cc in z)
-    kept-alike (Slot.resource here x) f h = absurd (let z : ⊥ = cc in z)
-    kept-alike (Slot.function s) f h = absurd (let z : ⊥ = cc in z)
-    kept-alike (Slot.instance ds n) f h = absurd (let z : ⊥ = cc in z)
+    kept-alike _ f h = absurd (let z : ⊥ = cc in z)
 
 slot-stands : (r : Resolve) (w : WorldId) (n : ℕ) (o : Option Slot) → is_slot_for r n o ≡ true → standing_at o ≡ Some (tree (number_tree r n))
 slot-stands r w n None h = absurd (let z : ⊥ = cc in z)

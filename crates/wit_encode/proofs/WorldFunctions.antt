@@ -176,9 +176,7 @@ nothing-brought given split export_ done x none =
 signature-at : (o : Option Slot) (s : Signature) → standing_at o ≡ Some (function s) → function_in o ≡ Some s
 signature-at (Some (Slot.function q)) s h = let same : q ≡ s = cc in ap Some same
 signature-at (Some (Slot.value t)) s h = absurd (let z : ⊥ = cc in z)
-signature-at (Some (Slot.resource p t)) s h = absurd (let z : ⊥ = cc in z)
-signature-at (Some (Slot.instance ds n)) s h = absurd (let z : ⊥ = cc in z)
-signature-at None s h = absurd (let z : ⊥ = cc in z)
+signature-at _ s h = absurd (let z : ⊥ = cc in z)
 
 pub function-behind : (r : Resolve) → IsValid r → (w : World) (e : WorldEncoder) (done : Entries) → HasShown r w e done
     → (direction : Direction) (canonical : Bool) (k : WorldKey) (f : Function) (n : ℕ) (outer : Declarations)

@@ -57,21 +57,8 @@ module _ {A : Type 0} (T : List A) (short : length T ≤ 4294967295) where
   one_small n e = below n (first_true (in_list T n) true e)
 
   type_small : (t : ValueType) → list_all (in_list T) (option_to_list (number_of t)) ≡ true → IsSmallType (Some t)
-  type_small ty.Bool e = tt
-  type_small ty.U8 e = tt
-  type_small ty.U16 e = tt
-  type_small ty.U32 e = tt
-  type_small ty.U64 e = tt
-  type_small ty.S8 e = tt
-  type_small ty.S16 e = tt
-  type_small ty.S32 e = tt
-  type_small ty.S64 e = tt
-  type_small ty.F32 e = tt
-  type_small ty.F64 e = tt
-  type_small ty.Char e = tt
-  type_small ty.String e = tt
-  type_small ty.ErrorContext e = tt
   type_small (ty.Id id) e = one_small id.0 e
+  type_small _ e = tt
 
   optional_small : (t : Option ValueType) → list_all (λ y. list_all (in_list T) (option_to_list (number_of y))) (option_to_list t) ≡ true → IsSmallType t
   optional_small None e = tt
@@ -111,14 +98,11 @@ module _ {A : Type 0} (T : List A) (short : length T ≤ 4294967295) where
   kind_small : (k : TypeDefKind) → list_all (in_list T) (kind_numbers k) ≡ true → has_shape k ≡ true → IsSmallKind k
   kind_small (kind.Record record_) e s = all_of _ (λ f h. type_small f.ty h) record_.fields.items
       (sym (list_all_mapped (in_list T) number_of (λ f. f.ty) record_.fields.items) ∙ members_of (kind.Record record_) e)
-  kind_small kind.Resource e s = tt
   kind_small (kind.Handle (handle.Own id)) e s = one_small id.0 (others_of (kind.Handle (handle.Own id)) e)
   kind_small (kind.Handle (handle.Borrow id)) e s = one_small id.0 (others_of (kind.Handle (handle.Borrow id)) e)
-  kind_small (kind.Flags flags) e s = tt
   kind_small (kind.Tuple tuple) e s = all_of _ type_small tuple.types.items (by_types tuple.types.items (members_of (kind.Tuple tuple) e))
   kind_small (kind.Variant variant) e s = all_of _ (λ c h. optional_small c.ty h) variant.cases.items
       (sym (list_all_given (in_list T) number_of (λ c. c.ty) variant.cases.items) ∙ members_of (kind.Variant variant) e)
-  kind_small (kind.Enum enum) e s = tt
   kind_small (kind.Option t) e s = first_of t [] (members_of (kind.Option t) e)
   kind_small (kind.Result result) e s = sides result.ok result.err (members_of (kind.Result result) e)
   kind_small (kind.List t) e s = first_of t [] (members_of (kind.List t) e)
@@ -127,6 +111,7 @@ module _ {A : Type 0} (T : List A) (short : length T ≤ 4294967295) where
   kind_small (kind.Future t) e s = side_of t (members_of (kind.Future t) e)
   kind_small (kind.Stream t) e s = side_of t (members_of (kind.Stream t) e)
   kind_small (kind.Type_ t) e s = type_small t (others_of (kind.Type_ t) e)
+  kind_small _ e s = tt
 
   call_small : (k : FunctionKind) → list_all (in_list T) (option_to_list (resource_of k)) ≡ true → IsSmallFunctionKind k
   call_small call.Freestanding e = tt

@@ -45,22 +45,8 @@ read_type _ = None
 
 pub type_told : (t : Option ValueType) → IsSmallType t → read_type (type_or_null t) ≡ t
 unfolding type_token read_word
-type_told None h = refl
-type_told (Some ty.Bool) h = refl
-type_told (Some ty.U8) h = refl
-type_told (Some ty.U16) h = refl
-type_told (Some ty.U32) h = refl
-type_told (Some ty.U64) h = refl
-type_told (Some ty.S8) h = refl
-type_told (Some ty.S16) h = refl
-type_told (Some ty.S32) h = refl
-type_told (Some ty.S64) h = refl
-type_told (Some ty.F32) h = refl
-type_told (Some ty.F64) h = refl
-type_told (Some ty.Char) h = refl
-type_told (Some ty.String) h = refl
-type_told (Some ty.ErrorContext) h = refl
 type_told (Some (ty.Id id)) h = ap (λ n. Some (ty.Id (record { 0 = n }))) (number_told id.0 h)
+type_told _ h = refl
 
 -- ---- members
 
@@ -96,21 +82,8 @@ read_types ts = ([], ts)
 -- a type is a word or a number
 type_cases : (P : Token → Type 0) → ((w : Text) → P (string w)) → ((n : List ℕ) → P (number n)) → (t : ValueType) → P (type_token t)
 unfolding type_token
-type_cases P w n ty.Bool = w _
-type_cases P w n ty.U8 = w _
-type_cases P w n ty.U16 = w _
-type_cases P w n ty.U32 = w _
-type_cases P w n ty.U64 = w _
-type_cases P w n ty.S8 = w _
-type_cases P w n ty.S16 = w _
-type_cases P w n ty.S32 = w _
-type_cases P w n ty.S64 = w _
-type_cases P w n ty.F32 = w _
-type_cases P w n ty.F64 = w _
-type_cases P w n ty.Char = w _
-type_cases P w n ty.String = w _
-type_cases P w n ty.ErrorContext = w _
 type_cases P w n (ty.Id id) = n _
+type_cases P w n _ = w _
 
 type_first : (t : ValueType) (ts : List Token) (us : List (Option ValueType)) (vs : List Token) → IsSmallType (Some t) → read_types ts ≡ (us, vs) → read_types (type_token t ∷ ts) ≡ (Some t ∷ us, vs)
 unfolding read_types

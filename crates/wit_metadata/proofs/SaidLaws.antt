@@ -160,8 +160,7 @@ all-read bytes rest last h empty sections component = go known.more refl known.s
 
 contents-say : (e : StringEncoding) → said_by (Some (contents_of e)) ≡ Ok e
 contents-say encodings.UTF8 = refl
-contents-say encodings.UTF16 = refl
-contents-say encodings.CompactUTF16 = refl
+contents-say _ = refl
 
 pub read-back : EncodingsAreReadBack
 read-back e bytes answer carried answers = answers carried.sections carried.spelled ∙ (ap said_by carried.says ∙ contents-say e)

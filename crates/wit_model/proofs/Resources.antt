@@ -13,34 +13,7 @@ use Rattle.wit_model.specs.declared.model.«Type».TheVariants as ty
 -- whether a kind is a resource hangs on smaller numbers alone
 pub kind_same : (f g : ℕ → Bool) (n : ℕ) (k : TypeDefKind) → ((m : ℕ) → m < n → f m ≡ g m) → list_all (λ m. nat_lt m n) (kind_numbers k) ≡ true → is_resource_kind f k ≡ is_resource_kind g k
 kind_same f g n (kind.Type_ (ty.Id id)) same h = same id.0 (ltb→lt id.0 n (subst T (sym (first_true _ _ h)) tt))
-kind_same f g n (kind.Type_ ty.Bool) same h = refl
-kind_same f g n (kind.Type_ ty.U8) same h = refl
-kind_same f g n (kind.Type_ ty.U16) same h = refl
-kind_same f g n (kind.Type_ ty.U32) same h = refl
-kind_same f g n (kind.Type_ ty.U64) same h = refl
-kind_same f g n (kind.Type_ ty.S8) same h = refl
-kind_same f g n (kind.Type_ ty.S16) same h = refl
-kind_same f g n (kind.Type_ ty.S32) same h = refl
-kind_same f g n (kind.Type_ ty.S64) same h = refl
-kind_same f g n (kind.Type_ ty.F32) same h = refl
-kind_same f g n (kind.Type_ ty.F64) same h = refl
-kind_same f g n (kind.Type_ ty.Char) same h = refl
-kind_same f g n (kind.Type_ ty.String) same h = refl
-kind_same f g n (kind.Type_ ty.ErrorContext) same h = refl
-kind_same f g n kind.Resource same h = refl
-kind_same f g n (kind.Record x) same h = refl
-kind_same f g n (kind.Handle x) same h = refl
-kind_same f g n (kind.Flags x) same h = refl
-kind_same f g n (kind.Tuple x) same h = refl
-kind_same f g n (kind.Variant x) same h = refl
-kind_same f g n (kind.Enum x) same h = refl
-kind_same f g n (kind.Option x) same h = refl
-kind_same f g n (kind.Result x) same h = refl
-kind_same f g n (kind.List x) same h = refl
-kind_same f g n (kind.Map x y) same h = refl
-kind_same f g n (kind.FixedLengthList x y) same h = refl
-kind_same f g n (kind.Future x) same h = refl
-kind_same f g n (kind.Stream x) same h = refl
+kind_same f g n _ same h = refl
 
 module _ (r : Resolve) (below : Keeps references r) where
   -- one more step changes nothing, where there were more than the number

@@ -15,20 +15,7 @@ all_from_has p (n ∷ ns) h = both _ _ (h n (ap (λ b. b || has ns n) (same-numb
 
 pub alias_numbers : (k : TypeDefKind) (t : ℕ) → alias_target k ≡ Some t → kind_numbers k ≡ t ∷ []
 alias_numbers (kind.Type_ ty) t e = ap option_to_list e
-alias_numbers kind.Resource t e = let wrong : ⊥ = cc in absurd wrong
-alias_numbers (kind.Record x) t e = let wrong : ⊥ = cc in absurd wrong
-alias_numbers (kind.Handle x) t e = let wrong : ⊥ = cc in absurd wrong
-alias_numbers (kind.Flags x) t e = let wrong : ⊥ = cc in absurd wrong
-alias_numbers (kind.Tuple x) t e = let wrong : ⊥ = cc in absurd wrong
-alias_numbers (kind.Variant x) t e = let wrong : ⊥ = cc in absurd wrong
-alias_numbers (kind.Enum x) t e = let wrong : ⊥ = cc in absurd wrong
-alias_numbers (kind.Option x) t e = let wrong : ⊥ = cc in absurd wrong
-alias_numbers (kind.Result x) t e = let wrong : ⊥ = cc in absurd wrong
-alias_numbers (kind.List x) t e = let wrong : ⊥ = cc in absurd wrong
-alias_numbers (kind.Map x y) t e = let wrong : ⊥ = cc in absurd wrong
-alias_numbers (kind.FixedLengthList x y) t e = let wrong : ⊥ = cc in absurd wrong
-alias_numbers (kind.Future x) t e = let wrong : ⊥ = cc in absurd wrong
-alias_numbers (kind.Stream x) t e = let wrong : ⊥ = cc in absurd wrong
+alias_numbers _ t e = let wrong : ⊥ = cc in absurd wrong
 
 pub interface_in_range : (r : Resolve) (i : WorldItem) (n : ℕ) → item_interface i ≡ Some n → item_in_range r i ≡ true → (def : Interface) × (interface_at r n ≡ Some def)
 interface_in_range r (item.Interface id stability docs external_id) n e h =

@@ -69,8 +69,7 @@ types_bare_in (d ∷ ds) = ap (λ ms. WorldType (bare_prefix same d.prefix) (bar
 
 interface_item_alike : (x y : Item) → AlikeItems x y → is_interface_item x ≡ is_interface_item y
 interface_item_alike x y (interface_items g e) = refl
-interface_item_alike x y (function_items h) = refl
-interface_item_alike x y type_items = refl
+interface_item_alike x y _ = refl
 
 freestanding_item_alike : (x y : Item) → AlikeItems x y → is_freestanding_item x ≡ is_freestanding_item y
 freestanding_item_alike x y (interface_items g e) = refl

@@ -109,20 +109,7 @@ none_alike (Some s) (Some t) h = refl
 
 own_kind_alike : (n : ℕ) (k l : TypeDefKind) → AlikeKinds k l → is_own_kind n k ≡ is_own_kind n l
 own_kind_alike n k l (records h) = refl
-own_kind_alike n k l resources = refl
-own_kind_alike n k l handles = refl
-own_kind_alike n k l (flags h) = refl
-own_kind_alike n k l (tuples h) = refl
-own_kind_alike n k l (variants h) = refl
-own_kind_alike n k l (enums h) = refl
-own_kind_alike n k l options = refl
-own_kind_alike n k l (results h g) = refl
-own_kind_alike n k l lists = refl
-own_kind_alike n k l maps = refl
-own_kind_alike n k l fixed_lists = refl
-own_kind_alike n k l futures = refl
-own_kind_alike n k l streams = refl
-own_kind_alike n k l aliases = refl
+own_kind_alike n k l _ = refl
 
 module _ (a b : Resolve) (alike : DifferInDocumentation a b) where
   -- ---- types
@@ -134,22 +121,11 @@ module _ (a b : Resolve) (alike : DifferInDocumentation a b) where
   type_name_alike id = or_alike AlikeTypes (λ d. present_name d.name) (λ d. present_name d.name) [] (λ x y h. name_alike x.name y.name h.name) (type_at a id.0) (type_at b id.0) (types_at id.0)
 
   kind_alike : (trees : List TypeTree) (k l : TypeDefKind) → AlikeKinds k l → kind_tree a trees k ≡ kind_tree b trees l
-  kind_alike trees k l (records h) = refl
-  kind_alike trees k l resources = refl
   kind_alike trees k l (handles {h = handle.Own id}) = ap TypeTree.Handle (type_name_alike id)
   kind_alike trees k l (handles {h = handle.Borrow id}) = ap TypeTree.Borrow (type_name_alike id)
-  kind_alike trees k l (flags h) = refl
   kind_alike trees k l (tuples h) = ap (λ types. TupleOf (used_types trees types)) h
-  kind_alike trees k l (variants h) = refl
-  kind_alike trees k l (enums h) = refl
-  kind_alike trees k l options = refl
   kind_alike trees k l (results h g) = λ i. result_tree (option_map (used_type trees) (h i)) (option_map (used_type trees) (g i))
-  kind_alike trees k l lists = refl
-  kind_alike trees k l maps = refl
-  kind_alike trees k l fixed_lists = refl
-  kind_alike trees k l futures = refl
-  kind_alike trees k l streams = refl
-  kind_alike trees k l aliases = refl
+  kind_alike trees k l _ = refl
 
   def_alike : (trees : List TypeTree) (d e : TypeDef) → AlikeTypes d e → def_tree a trees d ≡ def_tree b trees e
   def_alike trees d e h = go d.name e.name h.name

@@ -41,6 +41,4 @@ module _ (left rest old new : Option (List ℕ)) where
   -- no other status
   pub status-le : (words : Option Asked) (status : ℕ) → Ends words left rest old new status → status ≤ 2
   status-le words _ (done what text asked is appended) = omega arith
-  status-le words _ refused = omega arith
-  status-le words _ (bad_words none same appended) = omega arith
-  status-le words _ (lacks_world what name asked is appended) = omega arith
+  status-le words _ _ = omega arith
