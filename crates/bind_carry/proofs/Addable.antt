@@ -13,8 +13,8 @@ use Rattle.bind_match.proofs.SameNames.{name_same}
 use Rattle.bind_carry.specs.First.{flag_under}
 use Rattle.bind_carry.specs.{FirstPass.UnionsAreAddable, Numbers.numbers_of, Numbers.package_number, Packaged.grown_packages, Packaged.IsGained}
 use Rattle.bind_carry.specs.declared.plan.Carried.{Carried}
-use Rattle.bind_carry.proofs.{CopiesPlaced.nothing_there, CopiesPlaced.some_same, FirstMatched.uncopied_under}
-use Rattle.bind_carry.proofs.FirstPackages.{found_number, found_own, unflagged_found, IsFound}
+use Rattle.bind_carry.proofs.{CopiesPlaced.nothing_there, CopiesPlaced.some_same, FirstNumbers.uncopied_under}
+use Rattle.bind_carry.proofs.FirstOfUnion.{found_number, found_own, unflagged_found, IsFound}
 use Rattle.base_lemmas.proofs.{Elements.all_by_number as all_of, Lists.mapped_get as mapped_at}
 
 -- how many flags in front of a place aren't set

@@ -10,16 +10,10 @@ use Rattle.wit_model.proofs.{Elements.has-contains, OnePath.path-once}
 use Rattle.bind_copy.specs.Copies.{number_under}
 use Rattle.bind_union.specs.{Carried.IsInterface, Carried.Renumbering, Carried.Rises, Merged.BeginsWith}
 use Rattle.bind_union.proofs.{Homes.apart, Lists.no_true, MatchedStand.numbers_rise}
-use Rattle.bind_carry.specs.{CarriedParts.is_function_carried, MatchedSame.AreMatchedAt, MatchedSame.NoneOfPath, Numbers.interface_number, Numbers.numbers_of}
-use Rattle.bind_carry.specs.{Fates.copies, Fates.is_carried, Fates.numbers_by, Fates.stood, First.adds_any, First.fate_of, First.first_fates, First.flag_under}
-use Rattle.bind_carry.specs.{FirstPass.FirstIsCarried, Marked.AreChosen, InRange.IsInRange, Which.AreMatchedAll, Which.IsNumbered}
-use Rattle.bind_carry.specs.{Renumbered.first_of, Renumbered.is_copied, Renumbered.is_matched, Whole.home_under, Whole.kept, Whole.IsInterfaceCarried}
+use Rattle.bind_carry.specs.{CarriedParts.is_function_carried, MatchedSame.AreMatchedAt, MatchedSame.NoneOfPath, Numbers.interface_number, Numbers.numbers_of, Fates.copies, Fates.is_carried, Fates.numbers_by, Fates.stood, First.adds_any, First.fate_of, First.first_fates, First.flag_under, FirstPass.FirstIsCarried, Marked.AreChosen, InRange.IsInRange, Which.AreMatchedAll, Which.IsNumbered, Renumbered.first_of, Renumbered.is_copied, Renumbered.is_matched, Whole.home_under, Whole.kept, Whole.IsInterfaceCarried}
 use Rattle.bind_carry.specs.declared.{fate.Fate.Fate, plan.Carried.Carried}
-use Rattle.bind_carry.proofs.{CopiesPlaced.flag_is_copied, CopiesPlaced.numbers_by_long, FirstNumbers.worlds_apart, Marking.are_chosen, Marking.AreWorldsBelow}
-use Rattle.bind_carry.proofs.{FirstInterfaces.home_number, FirstInterfaces.interface_copy, FirstInterfaces.type_numbers_under, FirstPackages.packages_hold}
-use Rattle.bind_carry.proofs.FirstMatched.{interface_is, interface_stands, names, type_low, types_carried, types_copied, types_hold}
-use Rattle.bind_carry.proofs.{FirstTypes.adds_interface, FirstTypes.copied_carried, FirstTypes.parts_of, KeptPlaced.kept_placed, KeptPlaced.IsKeptAt}
-use Rattle.bind_carry.proofs.{Ranges.is_in_range, Ranges.shown_below, SettledParts.settled_long}
+use Rattle.bind_carry.proofs.{CopiesPlaced.flag_is_copied, CopiesPlaced.numbers_by_long, FirstNumbers.worlds_apart, Marking.are_chosen, Marking.AreWorldsBelow, FirstInterfaces.home_number, FirstInterfaces.interface_copy, FirstInterfaces.type_numbers_under, FirstOfUnion.packages_hold, FirstInterfaces.adds_interface, FirstInterfaces.copied_carried, FirstInterfaces.parts_of, KeptPlaced.kept_placed, KeptPlaced.IsKeptAt, Ranges.is_in_range, Ranges.shown_below, SettledParts.settled_long}
+use Rattle.bind_carry.proofs.FirstNumbers.{interface_is, interface_stands, names, type_low, types_carried, types_copied, types_hold}
 use Rattle.base_lemmas.proofs.{Elements.all-contained, Lists.within_there, Numbers.equal, Numbers.same-number, Options.there as some_of}
 
 -- a number of a mapped list is that of one of the list

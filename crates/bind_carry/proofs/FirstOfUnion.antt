@@ -1,11 +1,192 @@
 -- What a union adds, once it is added, has all that is carried by path.
-use Rattle.std.proofs.Common.{◌≡◌, refl, sym, ap, subst, ◌∙◌, ℕ, zero, suc, List, [], ◌∷◌, ◌++◌, length}
-use Rattle.std.specs.{Prelude.slice_get, Prelude.slice_set, Prelude.Some, List.AllZip}
-use Rattle.wit_model.specs.declared.model.{TypeDef.TypeDef, World.World}
+use Rattle.std.proofs.Common.{◌≡◌, ◌⊎◌, inl, inr, refl, sym, ap, subst, ◌∙◌, ℕ, zero, suc, ◌+◌, ◌<◌, arith, Bool, true, false, ◌&&◌, ◌==◌, cond, List, [], ◌∷◌, ◌++◌, length, map, Option, Some, None, is_none, option_map, slice_get, unwrap_or, append-nil}
+use Rattle.std.proofs.lemmas.{Bool.eq-eqb, List.length-map, Option.slice_get_within as within_list}
+use Rattle.std.specs.{List.AllZip, Option.option_eq, Prelude.slice_set}
+use Rattle.semver.specs.declared.Version.{Version}
+use Rattle.semver.specs.Identifiers.{parts_of}
+use Rattle.wit_model.specs.declared.model.{Package.Package, PackageId.PackageId, PackageName.PackageName, Resolve.Resolve, TypeDef.TypeDef, World.World}
+use Rattle.wit_model.specs.{Lookup.package_at, Rules.same_package_name, Rules.same_version, Text.text_eq, Text.text_of}
+use Rattle.bind_add.specs.Growth.{GainsNone, HaveGained}
 use Rattle.bind_add.specs.declared.added.Names.{Names}
-use Rattle.bind_carry.specs.{BoundGains.bound_fates, FirstPass.UnionsHaveTheFirst, Packaged.grown_packages, Packaged.IsGained, SecondPass.UnionsHaveTheSecond}
-use Rattle.bind_carry.specs.{Fates.AreCopied, First.first_fates}
-use Rattle.base_lemmas.proofs.{Lists.front_at, Numbers.differ}
+use Rattle.bind_copy.specs.Copies.{number_under}
+use Rattle.bind_match.specs.Matching.{own_package_of, package_from}
+use Rattle.bind_union.specs.Carried.{IsSameName}
+use Rattle.bind_union.proofs.Lists.{no_true}
+use Rattle.bind_carry.specs.{First.flag_under, First.first_fates, BoundGains.bound_fates, FirstPass.UnionsHaveTheFirst, SecondPass.UnionsHaveTheSecond}
+use Rattle.bind_carry.specs.{Numbers.numbers_of, Numbers.package_number, Packaged.IsPackageCarried, Packaged.grown_packages, Packaged.IsGained, Fates.AreCopied}
+use Rattle.bind_carry.specs.Whole.{kept}
+use Rattle.bind_carry.specs.declared.plan.Carried.{Carried}
+use Rattle.bind_carry.proofs.{FirstNumbers.uncopied_under, KeptPlaced.kept_placed, KeptPlaced.IsKeptAt}
+use Rattle.base_lemmas.proofs.{Bools.left_of as first_true, Bools.right_of as second_true, Lists.front_at, Lists.mapped_get as mapped_at}
+use Rattle.base_lemmas.proofs.Numbers.{equal, differ}
+use Rattle.wit_model.proofs.{VersionLaws.same_versions as version_parts, TextLemmas.text_same}
+
+-- ---- Each package of the other stands in one of its name: in a new one, or in the own one that was found.
+
+-- ---- names
+
+optional_parts : (a b : Option Version) → option_eq same_version a b ≡ true → option_map parts_of b ≡ option_map parts_of a
+optional_parts None None h = refl
+optional_parts (Some a) (Some b) h = ap Some (sym (version_parts a b h))
+optional_parts None (Some b) h = no_true h
+optional_parts (Some a) None h = no_true h
+
+-- names that are the same have the same parts
+pub same_parts : (a b : PackageName) → same_package_name a b ≡ true → IsSameName a b
+same_parts a b h = record {
+  namespace = sym (text_same (text_of a.namespace) (text_of b.namespace)
+      (first_true (text_eq (text_of a.namespace) (text_of b.namespace)) (text_eq (text_of a.name) (text_of b.name) && option_eq same_version a.version b.version) h));
+  name = sym (text_same (text_of a.name) (text_of b.name) (first_true (text_eq (text_of a.name) (text_of b.name)) (option_eq same_version a.version b.version) rest));
+  version = optional_parts a.version b.version (second_true (text_eq (text_of a.name) (text_of b.name)) (option_eq same_version a.version b.version) rest);
+}
+  where
+    rest : (text_eq (text_of a.name) (text_of b.name) && option_eq same_version a.version b.version) ≡ true
+    rest = second_true (text_eq (text_of a.namespace) (text_of b.namespace)) (text_eq (text_of a.name) (text_of b.name) && option_eq same_version a.version b.version) h
+
+-- ---- the own package that was found
+
+-- It stands at its number, and has the name.
+pub record IsFound (name : PackageName) (own : List Package) (k : ℕ) : Type 0 where
+  pub there : Package
+  pub at_there : slice_get own k ≡ Some there
+  pub same : same_package_name name there.name ≡ true
+
+none_given : {A : Type 0} (id : PackageId) → ◌≡◌ {A = Option PackageId} None (Some id) → A
+none_given id e = let wrong : ⊥ = cc in absurd wrong
+
+found_from : (name : PackageName) (n : ℕ) (ps : List Package) (id : PackageId) → package_from name n ps ≡ Some id → (k : ℕ) × (id.0 ≡ n + k) × IsFound name ps k
+found_from name n [] id e = none_given id e
+found_from name n (p ∷ ps) id e = go (same_package_name name p.name) refl e (found_from name (n + 1) ps id)
+  where
+    go : (b : Bool) → same_package_name name p.name ≡ b → cond b (Some (record { 0 = n })) (package_from name (n + 1) ps) ≡ Some id
+        → (package_from name (n + 1) ps ≡ Some id → (k : ℕ) × (id.0 ≡ (n + 1) + k) × IsFound name ps k) → (k : ℕ) × (id.0 ≡ n + k) × IsFound name (p ∷ ps) k
+    go true q h more =
+        let number : n ≡ id.0 = ap (λ (o : Option PackageId). unwrap_or (option_map (λ i. i.0) o) 0) h in
+        let place : id.0 ≡ n + 0 = omega (arith, number) in
+        (0, place, record { there = p; at_there = refl; same = q })
+    go false q h more =
+        let r = more h in
+        let place : id.0 ≡ n + suc r.0 = (let far = r.1 in omega (arith, far)) in
+        (suc r.0, place, record { there = r.2.there; at_there = r.2.at_there; same = r.2.same })
+
+pub found_own : (own : List Package) (p : Package) (id : PackageId) → own_package_of own p ≡ Some id → IsFound p.name own id.0
+found_own own p id e =
+    let r = found_from p.name 0 own id e in
+    let place : r.0 ≡ id.0 = (let far = r.1 in omega (arith, far)) in
+    subst (IsFound p.name own) place r.2
+
+-- ---- own packages, grown or not
+
+not_both : true ≡ false → ⊥
+not_both h = cc
+
+-- one more that is of another package changes nothing
+later : (n : Names) (ns : List Names) (k : ℕ) → (n.«package».0 == k) ≡ false → GainsNone ns k → GainsNone (n ∷ ns) k
+later n ns k e none zero g at same =
+    let first : n ≡ g = ap (λ (o : Option Names). unwrap_or o n) at in
+    not_both (sym (eq-eqb n.«package».0 k (ap (λ (x : Names). x.«package».0) first ∙ same)) ∙ e)
+later n ns k e none (suc i) g at same = none i g at same
+
+-- the place of the names that a package gains, if it gains any
+pub some_gains : (ns : List Names) (k : ℕ) → ((i : ℕ) × (g : Names) × (slice_get ns i ≡ Some g) × (g.«package».0 ≡ k)) ⊎ GainsNone ns k
+some_gains [] k = inr (λ i g at same. let wrong : ⊥ = cc in wrong)
+some_gains (n ∷ ns) k = go (n.«package».0 == k) refl (some_gains ns k)
+  where
+    go : (b : Bool) → (n.«package».0 == k) ≡ b → ((i : ℕ) × (g : Names) × (slice_get ns i ≡ Some g) × (g.«package».0 ≡ k)) ⊎ GainsNone ns k
+        → ((i : ℕ) × (g : Names) × (slice_get (n ∷ ns) i ≡ Some g) × (g.«package».0 ≡ k)) ⊎ GainsNone (n ∷ ns) k
+    go true e rest = inl (0, n, refl, equal n.«package».0 k e)
+    go false e (inl found) = inl (suc found.0, found.1, found.2, found.3)
+    go false e (inr none) = inr (later n ns k e none)
+
+-- an own package keeps its name
+pub grown_name : (ns : List Names) (own ps : List Package) → HaveGained ns own ps → (k : ℕ) (q : Package) → slice_get own k ≡ Some q → (x : Package) × (slice_get ps k ≡ Some x) × (x.name ≡ q.name)
+grown_name ns own ps h k q at = go (some_gains ns k)
+  where
+    go : ((i : ℕ) × (g : Names) × (slice_get ns i ≡ Some g) × (g.«package».0 ≡ k)) ⊎ GainsNone ns k → (x : Package) × (slice_get ps k ≡ Some x) × (x.name ≡ q.name)
+    go (inl found) =
+        let x = h.gained found.0 found.1 q found.2 (ap (slice_get own) found.3 ∙ at) in
+        (x.0, ap (slice_get ps) (sym found.3) ∙ x.1, x.2.name)
+    go (inr none) = (q, h.others k none ∙ at, refl)
+
+-- ---- packages of the other
+
+-- whether a thing that isn't flagged was found: flags say of each whether it was
+pub unflagged_found : (ms : List (Option PackageId)) (n : ℕ) → n < length ms → flag_under (map is_none ms) n ≡ false → (id : PackageId) × (slice_get ms n ≡ Some (Some id))
+unflagged_found [] n l h = absurd (omega (arith, l))
+unflagged_found (None ∷ ms) zero l h = no_true (sym h)
+unflagged_found (Some id ∷ ms) zero l h = (id, refl)
+unflagged_found (m ∷ ms) (suc n) l h = unflagged_found ms n (omega (arith, l)) h
+
+pub found_number : (ms : List (Option PackageId)) (n : ℕ) (id : PackageId) → slice_get ms n ≡ Some (Some id) → number_under (map package_number ms) n ≡ id.0
+found_number [] n id e = let wrong : ⊥ = cc in absurd wrong
+found_number (m ∷ ms) zero id e = ap (λ (o : Option (Option PackageId)). package_number (unwrap_or o m)) e
+found_number (m ∷ ms) (suc n) id e = found_number ms n id e
+
+module _ (own other merged : Resolve) (c : Carried) (ms : List (Option PackageId)) (matched : ms ≡ map (own_package_of own.packages.items) other.packages.items)
+    (flags : c.new_packages.items ≡ map is_none ms)
+    (numbers : c.packages.items ≡ numbers_of (length own.packages.items) c.new_packages.items (map package_number ms))
+    (gains : List Names) (grown more : List Package) (gained : HaveGained gains own.packages.items grown) (copies : AllZip (IsPackageCarried c) (kept c.new_packages.items other.packages.items) more)
+    (here : merged.packages.items ≡ grown ++ more) where
+  long : length c.new_packages.items ≡ length (map package_number ms)
+  long = ap length flags ∙ (length-map ms is_none ∙ sym (length-map ms package_number))
+
+  -- A package that is new is copied.
+  pub new_package : (n : ℕ) (p : Package) → package_at other n ≡ Some p → flag_under c.new_packages.items n ≡ true
+      → IsKeptAt (IsPackageCarried c) p merged.packages.items (number_under c.packages.items n)
+  new_package n p at set =
+      let place = kept_placed (IsPackageCarried c) c.new_packages.items (map package_number ms) other.packages.items more copies long (length own.packages.items) grown [] (sym gained.count)
+      n p set at in
+      record {
+        image = place.image;
+        at_image = ap (λ l. slice_get l (number_under c.packages.items n)) (here ∙ ap (λ l. grown ++ l) (sym (append-nil more)))
+            ∙ (ap (λ l. slice_get (grown ++ (more ++ [])) (number_under l n)) numbers ∙ place.at_image);
+        is = place.is;
+      }
+
+  -- One that isn't has an own one of its name.
+  pub record IsOwnFound (n : ℕ) (p : Package) : Type 0 where
+    pub number : ℕ
+    pub number_is : number_under c.packages.items n ≡ number
+    pub found : IsFound p.name own.packages.items number
+    pub image : Package
+    pub at_image : package_at merged number ≡ Some image
+    pub same : image.name ≡ found.there.name
+
+  pub own_found : (n : ℕ) (p : Package) → package_at other n ≡ Some p → flag_under c.new_packages.items n ≡ false → IsOwnFound n p
+  own_found n p at bare =
+      let inside : n < length ms = (let w = within_list other.packages.items n p at in let q = ap length matched ∙ length-map other.packages.items (own_package_of own.packages.items) in
+      omega (arith, w, q)) in
+      let id = unflagged_found ms n inside (ap (λ l. flag_under l n) (sym flags) ∙ bare) in
+      let is : own_package_of own.packages.items p ≡ Some id.0 = found_same_id
+      (sym (mapped_at (own_package_of own.packages.items) other.packages.items n p at) ∙ (ap (λ l. slice_get l n) (sym matched) ∙ id.1)) in
+      let found = found_own own.packages.items p id.0 is in
+      let x = grown_name gains own.packages.items grown gained id.0.0 found.there found.at_there in
+      record {
+        number = id.0.0;
+        number_is = ap (λ l. number_under l n) numbers ∙ (uncopied_under (length own.packages.items) c.new_packages.items (map package_number ms) n long bare ∙ found_number ms n id.0 id.1);
+        found = found;
+        image = x.0;
+        at_image = ap (λ l. slice_get l id.0.0) here ∙ front_at grown more id.0.0 x.0 x.1;
+        same = x.2;
+      }
+    where
+      found_same_id : {X : Type 0} {a b : X} → ◌≡◌ {A = Option X} (Some a) (Some b) → a ≡ b
+      found_same_id {X} {a} {b} e = ap (λ (o : Option X). unwrap_or o a) e
+
+  pub packages_hold : (f : ℕ → ℕ) → f ≡ number_under c.packages.items → (n : ℕ) (p : Package) → package_at other n ≡ Some p → (image : Package) × (package_at merged (f n) ≡ Some image)
+      × IsSameName p.name image.name
+  packages_hold f by n p at = go (flag_under c.new_packages.items n) refl
+    where
+      place : package_at merged (f n) ≡ package_at merged (number_under c.packages.items n)
+      place = ap (λ g. package_at merged (g n)) by
+
+      go : (b : Bool) → flag_under c.new_packages.items n ≡ b → (image : Package) × (package_at merged (f n) ≡ Some image) × IsSameName p.name image.name
+      go true set = let x = new_package n p at set in (x.image, place ∙ x.at_image, x.is.name)
+      go false bare =
+          let x = own_found n p at bare in
+          (x.image, place ∙ (ap (package_at merged) x.number_is ∙ x.at_image), subst (IsSameName p.name) (sym x.same) (same_parts p.name x.found.there.name x.found.same))
+
+-- ---- what the page is for
 
 pub set_count : (ws : List World) (n : ℕ) (v : World) → length (slice_set ws n v) ≡ length ws
 set_count [] n v = refl

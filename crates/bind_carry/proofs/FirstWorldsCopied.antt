@@ -5,8 +5,7 @@ use Rattle.wit_model.specs.declared.model.{InterfaceId.InterfaceId, TypeDef.Type
 use Rattle.wit_model.specs.Lookup.{world_at}
 use Rattle.bind_copy.specs.Copies.{number_under}
 use Rattle.bind_carry.specs.{FirstPass.FirstWorldsAreCopied, Marked.AreChosen, Numbers.world_number}
-use Rattle.bind_carry.proofs.{FirstCarried.chosen_so, FirstCarried.flag_within, FirstCarried.interfaces_once, FirstCopies.copied_behind, FirstMatched.names}
-use Rattle.bind_carry.proofs.{Ranges.is_in_range, WorldsCopied.world_copy}
+use Rattle.bind_carry.proofs.{FirstCarried.chosen_so, FirstCarried.flag_within, FirstCarried.interfaces_once, FirstWorlds.copied_behind, FirstNumbers.names, Ranges.is_in_range, WorldsCopied.world_copy}
 use Rattle.base_lemmas.proofs.Lists.{within_there}
 
 pub first_worlds_are_copied : FirstWorldsAreCopied

@@ -1,24 +1,106 @@
 -- Keys of the other's bound world stay apart under both numberings, and what is gained of them comes behind what was there.
-use Rattle.std.proofs.Common.{◌≡◌, refl, sym, ap, ◌∙◌, ℕ, ◌+◌, Bool, true, false, ◌||◌, List, [], ◌∷◌, ◌++◌, length, arith, Option, Some, None, is_none, is_some}
-use Rattle.std.proofs.lemmas.{Map.Made.IsDistinct-keys_filter, Bool.and_from as both}
-use Rattle.std.specs.{List.filter, List.list_all, List.Contains, List.IsDistinct, Map.keys_of, Option.option_map_or}
-use Rattle.indexmap.specs.IndexMap.{insert_all}
-use Rattle.wit_model.specs.declared.model.{Interface.Interface, InterfaceId.InterfaceId, Resolve.Resolve, World.World, WorldItem.WorldItem, WorldKey.WorldKey}
+use Rattle.std.proofs.Common.{◌≡◌, refl, sym, ap, subst, ◌∙◌, ℕ, false, ◌||◌, List, [], ◌∷◌, ◌++◌, append-nil, append_assoc, if◌then◌else◌, Bool, true, ◌==◌, ◌+◌, length, arith, Option, Some, None, is_none, is_some}
+use Rattle.std.proofs.lemmas.{List.Elements.AllZip-push, Map.Made.IsDistinct-keys_filter, Bool.and_from as both}
+use Rattle.std.specs.List.{list_any, AllZip, IsDistinct, list_all, AllByRecursion, filter, Contains}
+use Rattle.std.specs.{Map.keys_of, Option.option_map_or}
+use Rattle.indexmap.specs.{IndexSet.insert_key, IndexMap.insert_all}
+use Rattle.wit_model.specs.declared.model.{WorldItem.WorldItem, WorldKey.WorldKey, Interface.Interface, InterfaceId.InterfaceId, Resolve.Resolve, World.World}
 use Rattle.wit_model.specs.declared.model.TypeDef.{TypeDef}
-use Rattle.wit_model.specs.{Lookup.interface_at, Lookup.world_at, Valid.IsValid, Valid.key_eq}
+use Rattle.wit_model.specs.{Valid.key_eq, Valid.IsValid, Lookup.interface_at, Lookup.world_at}
+use Rattle.bind_copy.specs.Copies.{become_one, IsKeyUnder, number_under, is_new_under}
+use Rattle.bind_copy.proofs.{Copied.at_middle, Gained.same_images}
+use Rattle.bind_carry.specs.{BoundGains.AreKeysUnder, InRange.IsInRange, Renumbered.is_matched, Shown.AreShownBelow, Union.IsUnionOf, Which.AreMatchedAll}
+use Rattle.bind_carry.specs.{First.flag_under, First.is_named_at, Marked.is_inline_at, Marked.AreChosen, MatchedSame.AreMatchedAt, MatchedSame.NoneOfPath}
+use Rattle.base_lemmas.proofs.{Bools.left_of as first_true, Bools.right_of as second_true, Numbers.equal, Numbers.same-number, Options.nameless as none_of}
+use Rattle.base_lemmas.proofs.Elements.{contains-later}
 use Rattle.bind_add.specs.declared.added.Added.{Added}
-use Rattle.bind_copy.specs.Copies.{become_one, is_new_under, number_under}
 use Rattle.bind_match.specs.declared.matches.Matches.{Matches}
 use Rattle.bind_union.proofs.Lists.{no_true}
-use Rattle.bind_carry.specs.{First.flag_under, First.is_named_at, Marked.is_inline_at, Marked.AreChosen, MatchedSame.AreMatchedAt, MatchedSame.NoneOfPath}
-use Rattle.bind_carry.specs.{InRange.IsInRange, Renumbered.is_matched, Shown.AreShownBelow, Union.IsUnionOf, Which.AreMatchedAll}
 use Rattle.bind_carry.specs.declared.plan.Carried.{Carried}
 use Rattle.bind_carry.proofs.{FirstCarried.chosen_so, FirstCarried.interfaces_once, Ready.interface_count, WorldEntries.export_keyed, WorldEntries.import_keyed}
-use Rattle.bind_carry.proofs.{FirstMatched.uncopied_under, KeysApart.is_key_carried, KeysApart.keys_apart, Ranges.is_in_range, Ranges.shown_below}
-use Rattle.bind_carry.proofs.FirstTypes.{excluded}
-use Rattle.bind_carry.proofs.{InsertedBehind.all_behind, InsertedBehind.filter_passes, SecondMarks.gained_inline_alone, SecondMarks.gained_long}
-use Rattle.base_lemmas.proofs.{Elements.contains-later, Options.nameless as none_of}
+use Rattle.bind_carry.proofs.{FirstNumbers.uncopied_under, Ranges.is_in_range, Ranges.shown_below, FirstInterfaces.excluded}
+use Rattle.bind_carry.proofs.{InsertedBehind.all_behind, InsertedBehind.filter_passes, SecondInitial.gained_inline_alone, SecondInitial.gained_long}
 use Rattle.wit_model.specs.declared.model.WorldKey.TheVariants as key
+
+-- ---- Keys that are put into a set one behind the other, under new numbers.
+
+module _ (interfaces : List ℕ) where
+  -- the keys in front of those that are left are in the set, in their order
+  abbrev pub KeysSoFar : List (WorldKey × WorldItem) → List (WorldKey × WorldItem) → List WorldKey → Type 0
+  KeysSoFar whole left done = IsDistinct (become_one interfaces) (keys_of whole) → (front : List WorldKey) × (front ++ keys_of left ≡ keys_of whole) × AllZip (IsKeyUnder interfaces) front done
+
+  pub no_keys : (whole : List (WorldKey × WorldItem)) → KeysSoFar whole whole []
+  no_keys whole apart = ([], refl, tt)
+
+  absent : (front done rest : List WorldKey) (k n : WorldKey) → IsKeyUnder interfaces k n → AllZip (IsKeyUnder interfaces) front done → IsDistinct (become_one interfaces) (front ++ k ∷ rest)
+      → list_any (key_eq n) done ≡ false
+  unfolding IsDistinct
+  absent [] [] rest k n r zip d = refl
+  absent [] (u ∷ us) rest k n r zip d = absurd zip
+  absent (x ∷ xs) [] rest k n r zip d = absurd zip
+  absent (x ∷ xs) (u ∷ us) rest k n r zip d =
+      let one : key_eq n u ≡ false = same_images interfaces x k u n zip.0 r ∙ at_middle (become_one interfaces) x k xs rest d.0 in
+      let more : list_any (key_eq n) us ≡ false = absent xs us rest k n r zip.1 d.1 in
+      λ i. one i || more i
+
+  pub key_more : (whole left rest : List (WorldKey × WorldItem)) (done new : List WorldKey) (e : WorldKey × WorldItem) (n : WorldKey) → left ≡ e ∷ rest → IsKeyUnder interfaces e.0 n
+      → new ≡ insert_key key_eq done n → KeysSoFar whole left done → KeysSoFar whole rest new
+  key_more whole left rest done new e n step is added before apart =
+      let so = before apart in
+      let all : so.0 ++ e.0 ∷ keys_of rest ≡ keys_of whole = ap (λ l. so.0 ++ keys_of l) (sym step) ∙ so.1 in
+      let none : list_any (key_eq n) done ≡ false = absent so.0 done (keys_of rest) e.0 n is so.2 (subst (IsDistinct (become_one interfaces)) (sym all) apart) in
+      let last : new ≡ done ++ n ∷ [] = added ∙ ap (λ b. if b then done else done ++ n ∷ []) none in (
+        so.0 ++ e.0 ∷ [],
+        append_assoc so.0 (e.0 ∷ []) (keys_of rest) ∙ all,
+        subst (AllZip (IsKeyUnder interfaces) (so.0 ++ e.0 ∷ [])) (sym last) (AllZip-push (IsKeyUnder interfaces) so.0 done e.0 n so.2 is),
+      )
+
+  pub keys_all : (whole left : List (WorldKey × WorldItem)) (done : List WorldKey) → left ≡ [] → KeysSoFar whole left done → AreKeysUnder interfaces whole done
+  keys_all whole left done ended before apart =
+      let so = before apart in
+      let all : so.0 ≡ keys_of whole = sym (append-nil so.0) ∙ (ap (λ l. so.0 ++ keys_of l) (sym ended) ∙ so.1) in
+      subst (λ l. AllZip (IsKeyUnder interfaces) l done) all so.2
+
+-- ---- Keys of a world stay apart under the new numbers of interfaces that are carried.
+
+abbrev pub is_key_carried : (ℕ → Bool) → WorldKey → Bool
+is_key_carried carried (key.Name name) = true
+is_key_carried carried (key.Interface id) = carried id.0
+
+no_false : {A : Type 0} → true ≡ false → A
+no_false e = let wrong : ⊥ = cc in absurd wrong
+
+module _ (numbers : List ℕ) (carried : ℕ → Bool) (once : (m n : ℕ) → carried m ≡ true → carried n ≡ true → number_under numbers m ≡ number_under numbers n → m ≡ n) where
+  one_apart : (k y : WorldKey) → is_key_carried carried k ≡ true → is_key_carried carried y ≡ true → key_eq k y ≡ false → become_one numbers k y ≡ false
+  one_apart (key.Name a) (key.Name b) c d h = h
+  one_apart (key.Name a) (key.Interface b) c d h = refl
+  one_apart (key.Interface a) (key.Name b) c d h = refl
+  one_apart (key.Interface a) (key.Interface b) c d h = go (number_under numbers b.0 == number_under numbers a.0) refl
+    where
+      go : (t : Bool) → (number_under numbers b.0 == number_under numbers a.0) ≡ t → (number_under numbers b.0 == number_under numbers a.0) ≡ false
+      go false e = e
+      go true e =
+          let same : b.0 ≡ a.0 = once b.0 a.0 d c (equal (number_under numbers b.0) (number_under numbers a.0) e) in
+          no_false (sym (same-number a.0) ∙ (ap (λ (m : ℕ). a.0 == m) (sym same) ∙ h))
+
+  all_apart : (k : WorldKey) (ks : List WorldKey) → is_key_carried carried k ≡ true → list_all (is_key_carried carried) ks ≡ true → AllByRecursion (λ y. key_eq k y ≡ false) ks
+      → AllByRecursion (λ y. become_one numbers k y ≡ false) ks
+  all_apart k [] c d h = tt
+  all_apart k (y ∷ ys) c d h = (
+    one_apart k y c (first_true (is_key_carried carried y) (list_all (is_key_carried carried) ys) d) h.0,
+    all_apart k ys c (second_true (is_key_carried carried y) (list_all (is_key_carried carried) ys) d) h.1,
+  )
+
+  -- keys that differ don't become one
+  pub keys_apart : (ks : List WorldKey) → list_all (is_key_carried carried) ks ≡ true → IsDistinct key_eq ks → IsDistinct (become_one numbers) ks
+  unfolding IsDistinct
+  keys_apart [] d h = tt
+  keys_apart (k ∷ ks) d h = (
+    all_apart k ks (first_true (is_key_carried carried k) (list_all (is_key_carried carried) ks) d) (second_true (is_key_carried carried k) (list_all (is_key_carried carried) ks) d) h.0,
+    keys_apart ks (second_true (is_key_carried carried k) (list_all (is_key_carried carried) ks) d) h.1,
+  )
+
+-- ---- what the page is for
 
 -- keys of a list whose interfaces pass
 pub keys_pass : (p : ℕ → Bool) (es : List (WorldKey × WorldItem)) → ((e : WorldKey × WorldItem) → Contains es e → (id : InterfaceId) → e.0 ≡ key.Interface id → p id.0 ≡ true)

@@ -15,13 +15,10 @@ use Rattle.bind_copy.specs.Copies.{number_under}
 use Rattle.bind_match.specs.Matching.{given, interface_in, is_root_world, own_interface_of, own_package_of, own_world_of, world_in}
 use Rattle.bind_match.specs.declared.matches.Matches.{Matches}
 use Rattle.bind_union.proofs.Lists.{no_true}
-use Rattle.bind_carry.specs.{AddedApart.AreMatchedByName, InRange.IsInRange, Numbers.package_number as number_of_package, Which.new_worlds, Which.IsNumbered}
-use Rattle.bind_carry.specs.{First.flag_under, Listed.given_interface, Marked.AreChosen, Packaged.grown_packages}
+use Rattle.bind_carry.specs.{AddedApart.AreMatchedByName, InRange.IsInRange, Numbers.package_number as number_of_package, Which.new_worlds, Which.IsNumbered, First.flag_under, Listed.given_interface, Marked.AreChosen, Packaged.grown_packages}
 use Rattle.bind_carry.specs.declared.plan.Carried.{Carried}
-use Rattle.bind_carry.proofs.{CopiesPlaced.some_same, Ranges.is_in_range}
-use Rattle.bind_carry.proofs.{FirstMatched.uncopied_under, FirstPackages.found_number, FirstPackages.unflagged_found, InsertedBehind.none_more}
-use Rattle.base_lemmas.proofs.{Bools.left_of as first_true, Bools.right_of as second_true, Elements.all-contained, Elements.contains-later, Numbers.equal}
-use Rattle.base_lemmas.proofs.{Lists.mapped_get as mapped_at, Options.none_not_some}
+use Rattle.bind_carry.proofs.{CopiesPlaced.some_same, Ranges.is_in_range, FirstNumbers.uncopied_under, FirstOfUnion.found_number, FirstOfUnion.unflagged_found, InsertedBehind.none_more}
+use Rattle.base_lemmas.proofs.{Bools.left_of as first_true, Bools.right_of as second_true, Elements.all-contained, Elements.contains-later, Numbers.equal, Lists.mapped_get as mapped_at, Options.none_not_some}
 
 -- ---- lists
 

@@ -6,11 +6,9 @@ use Rattle.wit_model.specs.Valid.{IsValid}
 use Rattle.bind_copy.specs.Copies.{number_under, IsInterfaceUnder}
 use Rattle.bind_match.specs.declared.matches.Matches.{Matches}
 use Rattle.bind_union.specs.{Carried.Renumbering, Merged.IsCopyUnder}
-use Rattle.bind_carry.specs.{Fates.copied_types, Fates.IsCopiedType, First.flag_under, FirstPass.IsFirstPass, SecondPass.IsSecondPass}
-use Rattle.bind_carry.specs.{Numbers.interface_number, Numbers.numbers_of, Numbers.world_number, Whole.kept, Whole.IsInterfaceCarried, Whole.IsWorldCarried}
+use Rattle.bind_carry.specs.{Fates.copied_types, Fates.IsCopiedType, First.flag_under, FirstPass.IsFirstPass, SecondPass.IsSecondPass, Numbers.interface_number, Numbers.numbers_of, Numbers.world_number, Whole.kept, Whole.IsInterfaceCarried, Whole.IsWorldCarried}
 use Rattle.bind_carry.specs.declared.{fate.Fate.Fate, plan.Carried.Carried}
-use Rattle.bind_carry.proofs.{CopiesPlaced.copied_from, SecondInterfaces.carried_number, SecondInterfaces.copied_carries}
-use Rattle.bind_carry.proofs.{SecondAgreed.before_fates, SecondAgreed.fates, SecondAgreed.first, SecondAgreed.second, SecondKnown.copied_long, SecondKnown.long}
+use Rattle.bind_carry.proofs.{CopiesPlaced.copied_from, SecondInterfaces.carried_number, SecondInterfaces.copied_carries, SecondInterfaces.before_fates, SecondInterfaces.fates, SecondInterfaces.first, SecondInterfaces.second, SecondKnown.copied_long, SecondKnown.long}
 use Rattle.base_lemmas.proofs.Numbers.{equal_or_past}
 
 -- each number from the first on, as far as those go whose flags are set, is one's

@@ -9,10 +9,9 @@ use Rattle.bind_add.specs.declared.added.Names.{Names}
 use Rattle.bind_copy.specs.Copies.{number_under}
 use Rattle.bind_match.specs.declared.matches.Matches.{Matches}
 use Rattle.bind_union.specs.Merged.{IsKeptPackage, IsPackageOf}
-use Rattle.bind_carry.specs.{First.first_fates, Renumbered.first_of}
-use Rattle.bind_carry.specs.{FirstPass.IsFirstPass, Numbers.package_number, Packaged.grown_packages, Packaged.IsGained, Packaged.IsPackageCarried, Whole.kept}
+use Rattle.bind_carry.specs.{First.first_fates, Renumbered.first_of, FirstPass.IsFirstPass, Numbers.package_number, Packaged.grown_packages, Packaged.IsGained, Packaged.IsPackageCarried, Whole.kept}
 use Rattle.bind_carry.specs.declared.plan.Carried.{Carried}
-use Rattle.bind_carry.proofs.{CopiesPlaced.some_same, FirstCarried.flag_within, FirstPackages.some_gains, NothingElse.kept_from}
+use Rattle.bind_carry.proofs.{CopiesPlaced.some_same, FirstCarried.flag_within, FirstOfUnion.some_gains, NothingElse.kept_from}
 use Rattle.base_lemmas.proofs.{Elements.zip_at_right as zip_at, Lists.front_at, Lists.within_there}
 
 -- what a gain is of is a package of the other, under its number

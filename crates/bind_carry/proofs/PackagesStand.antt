@@ -16,14 +16,10 @@ use Rattle.bind_match.specs.declared.matches.Matches.{Matches}
 use Rattle.bind_union.specs.Carried.{Renumbering}
 use Rattle.bind_union.specs.Merged.{brought, grown, interface_names, is_name, world_names, IsJoinedPackage, PackageStands}
 use Rattle.bind_union.proofs.{Listed.under_text, Lists.no_true, PackageNames.interfaces_by_name, PackageNames.worlds_by_name}
-use Rattle.bind_carry.specs.{First.first_fates, First.flag_under, MergedUnion.NoOwnInterfaceAtPath, MergedUnion.NoOwnWorldAtPath, Numbers.package_number}
-use Rattle.bind_carry.specs.{FirstPass.IsFirstPass, Renumbered.first_of, SecondPass.is_left_out}
+use Rattle.bind_carry.specs.{First.first_fates, First.flag_under, MergedUnion.NoOwnInterfaceAtPath, MergedUnion.NoOwnWorldAtPath, Numbers.package_number, FirstPass.IsFirstPass, Renumbered.first_of, SecondPass.is_left_out}
 use Rattle.bind_carry.specs.Packaged.{grown_packages, is_copied_interface, is_copied_world, IsGained, IsInterfaceName, IsPackageCarried, IsWorldName}
 use Rattle.bind_carry.specs.declared.plan.Carried.{Carried}
-use Rattle.bind_carry.proofs.{CopiesPlaced.nothing_there, CopiesPlaced.some_same, NamesListed.listed_interface, NamesListed.listed_world}
-use Rattle.bind_carry.proofs.{FirstCopies.copied_behind, FirstPackages.found_number, FirstPackages.found_own, FirstPackages.new_package, FirstPackages.IsFound}
-use Rattle.bind_carry.proofs.{FirstMatched.uncopied_under, NamesBehind.name_entry, NamesBehind.names_behind}
-use Rattle.bind_carry.proofs.{KeptPlaced.IsKeptAt, NamesReady.interfaces_join, NamesReady.interfaces_ready, NamesReady.worlds_join, NamesReady.worlds_ready}
+use Rattle.bind_carry.proofs.{CopiesPlaced.nothing_there, CopiesPlaced.some_same, NamesCopied.listed_interface, NamesCopied.listed_world, FirstWorlds.copied_behind, FirstOfUnion.found_number, FirstOfUnion.found_own, FirstOfUnion.new_package, FirstOfUnion.IsFound, FirstNumbers.uncopied_under, NamesCopied.name_entry, NamesCopied.names_behind, KeptPlaced.IsKeptAt, NamesCopied.interfaces_join, NamesCopied.interfaces_ready, NamesCopied.worlds_join, NamesCopied.worlds_ready}
 use Rattle.base_lemmas.proofs.Lists.{front_at, mapped_get as mapped_at}
 
 -- ---- packages by name

@@ -10,7 +10,7 @@ use Rattle.bind_union.proofs.{Carrying.references_of, Carrying.refers_below, Ima
 use Rattle.bind_carry.specs.{CarriedParts.AreCarriedByOwner, CarriedParts.PartsOfOwners, Initial.IsInitial, Renumbered.is_copied}
 use Rattle.bind_carry.specs.Fates.{are_carried, carries, copies, is_carried, settled, settled_from, AreCopied, FallBelow}
 use Rattle.bind_carry.specs.declared.fate.Fate.{Fate}
-use Rattle.bind_carry.proofs.{CopiesPlaced.copy_placed, CopiesPlaced.IsPlaced, FirstTypes.copied_carried, PartsCarried.no_home, PartsCarried.parts_are_carried}
+use Rattle.bind_carry.proofs.{CopiesPlaced.copy_placed, CopiesPlaced.IsPlaced, FirstInterfaces.copied_carried, PartsCarried.no_home, PartsCarried.parts_are_carried}
 use Rattle.bind_carry.proofs.SettledParts.{copied_still, settled_all, stands_still, unnamed_carried, unnamed_parts}
 use Rattle.base_lemmas.proofs.Options.{nameless as some_none, none_some}
 use Rattle.bind_carry.specs.declared.fate.Fate.TheVariants as fate

@@ -7,13 +7,10 @@ use Rattle.wit_model.specs.declared.model.{Interface.Interface, Resolve.Resolve,
 use Rattle.wit_model.specs.declared.model.World.{World}
 use Rattle.bind_copy.specs.Copies.{are_names_below, AreEntriesBelow, AreFunctionsBelow}
 use Rattle.bind_match.specs.declared.matches.Matches.{Matches}
-use Rattle.bind_carry.specs.{Bound.IsBoundReady, Fates.AreCopied, InRange.IsInRange, Numbers.numbers_of, Which.AreMatchedAll, Which.IsNumbered}
+use Rattle.bind_carry.specs.{Bound.IsBoundReady, Fates.AreCopied, InRange.IsInRange, Numbers.numbers_of, Which.AreMatchedAll, Which.IsNumbered, First.adds_any, First.fate_of, First.first_fates, First.second_from, First.IsHomeIn, Shown.are_keys_below, Shown.AreNewShownBelow, Listed.are_interfaces_below, Listed.are_worlds_below, Listed.IsHomeBelow, Listed.IsOwnerBelow, Over.IsCarriedReady}
 use Rattle.bind_carry.specs.BoundGains.{are_types_below, bound_fates, gains_any, unified, AreWorldKeysBelow}
-use Rattle.bind_carry.specs.{First.adds_any, First.fate_of, First.first_fates, First.second_from, First.IsHomeIn, Shown.are_keys_below, Shown.AreNewShownBelow}
-use Rattle.bind_carry.specs.{Listed.are_interfaces_below, Listed.are_worlds_below, Listed.IsHomeBelow, Listed.IsOwnerBelow, Over.IsCarriedReady}
 use Rattle.bind_carry.specs.declared.{fate.Fate.Fate, plan.Carried.Carried}
-use Rattle.bind_carry.proofs.{CopiesPlaced.numbers_by_long, Numbering.numbers_long, SettledParts.settled_long}
-use Rattle.bind_carry.proofs.{Ranges.keys_below, Ranges.new_shown_below, Ranges.types_below, SecondTypes.second_long, SecondTypes.unified_long}
+use Rattle.bind_carry.proofs.{CopiesPlaced.numbers_by_long, Numbering.numbers_long, SettledParts.settled_long, Ranges.keys_below, Ranges.new_shown_below, Ranges.types_below, SecondInitial.second_long, SecondInitial.unified_long}
 use Rattle.wit_model.specs.declared.model.TypeOwner.TheVariants as owner
 
 -- an owner's interface is in range, where the owner is

@@ -7,14 +7,11 @@ use Rattle.bind_copy.specs.Copies.{is_new_under, number_under}
 use Rattle.bind_match.specs.declared.matches.Matches.{Matches}
 use Rattle.bind_union.specs.{Carried.IsCarried, Carried.Renumbering, Carried.Rises, Merged.AreCopies}
 use Rattle.bind_union.proofs.{Lists.no_true, MatchedStand.numbers_rise}
-use Rattle.bind_carry.specs.{Fates.copies, Fates.is_carried, Fates.numbers_by, Fates.stood, Marked.is_inline_at, Marked.is_shown_in, SecondPass.IsSecondPass}
-use Rattle.bind_carry.specs.{First.flag_under, FirstPass.IsFirstPass, Numbers.numbers_of, Renumbered.is_copied, Shown.AreShownBelow}
+use Rattle.bind_carry.specs.{Fates.copies, Fates.is_carried, Fates.numbers_by, Fates.stood, Marked.is_inline_at, Marked.is_shown_in, SecondPass.IsSecondPass, First.flag_under, FirstPass.IsFirstPass, Numbers.numbers_of, Renumbered.is_copied, Shown.AreShownBelow}
 use Rattle.bind_carry.specs.declared.{fate.Fate.Fate, plan.Carried.Carried}
 use Rattle.bind_carry.proofs.CopiesPlaced.{copied_home, copied_past, copy_placed, flag_is_copied, some_same}
-use Rattle.bind_carry.proofs.{FirstCopies.copied_behind, FirstCopies.one_shows, FirstCopies.some_count, FirstCopies.times_of, FirstTypes.copied_carried}
-use Rattle.bind_carry.proofs.{FirstMatched.type_low, SecondMarks.gained_flag, SecondMarks.is_gained, SecondMarks.is_shown_new, SecondStands.stood_how}
-use Rattle.bind_carry.proofs.SecondAgreed.{before_fates, by_path, fates, first, met_type, same_types, second, type_there, types_hold}
-use Rattle.bind_carry.proofs.SecondInterfaces.{carried_number, copied_carries, interfaces_hold, interfaces_rise, uncopied_named}
+use Rattle.bind_carry.proofs.{FirstWorlds.copied_behind, FirstWorlds.one_shows, FirstWorlds.some_count, FirstWorlds.times_of, FirstInterfaces.copied_carried, FirstNumbers.type_low, SecondInitial.gained_flag, SecondInitial.is_gained, SecondInitial.is_shown_new, SecondMet.stood_how}
+use Rattle.bind_carry.proofs.SecondInterfaces.{before_fates, by_path, fates, first, met_type, same_types, second, type_there, types_hold, carried_number, copied_carries, interfaces_hold, interfaces_rise, uncopied_named}
 use Rattle.bind_carry.proofs.SecondKnown.{chosen, copied_long, exports_shown, imports_shown, long}
 use Rattle.base_lemmas.proofs.{Bools.right_of as second_true, Numbers.equal, Numbers.same-number}
 

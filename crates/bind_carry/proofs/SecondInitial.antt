@@ -1,21 +1,273 @@
 -- The pass over what the bound world gains begins as it should: what it copies is of the bound world, or of an inline interface that is gained.
-use Rattle.std.proofs.Common.{◌≡◌, inl, inr, refl, sym, ap, ◌∙◌, ℕ, zero, suc, ◌<◌, arith, Bool, true, false, ◌&&◌, ◌||◌, ◌==◌, List, [], ◌∷◌, length, Option, Some, is_some, slice_get, unwrap_or, if◌then◌else◌}
-use Rattle.std.proofs.lemmas.Bool.{or_left, or_right}
-use Rattle.std.specs.Option.{option_map_or}
-use Rattle.wit_model.specs.declared.model.{Interface.Interface, InterfaceId.InterfaceId, TypeOwner.TypeOwner, WorldItem.WorldItem, WorldKey.WorldKey}
-use Rattle.wit_model.specs.declared.model.{Resolve.Resolve, TypeDef.TypeDef, WorldId.WorldId}
-use Rattle.wit_model.specs.{Lookup.interface_at, Lookup.type_at, Parts.same_owner, Valid.IsValid, Valid.as_interface}
-use Rattle.bind_copy.specs.Copies.{number_under}
-use Rattle.bind_union.specs.Carried.{carries_owner, copies_owner, owner_under, Renumbering}
+use Rattle.std.proofs.Common.{◌≡◌, refl, sym, ap, subst, ◌∙◌, ℕ, zero, suc, Bool, true, false, ◌&&◌, ◌||◌, List, [], ◌∷◌, length, replicate, if◌then◌else◌, ◌⊎◌, inl, inr, ◌<◌, arith, ◌==◌, Option, Some, None, slice_get, slice_set, unwrap_or, is_some}
+use Rattle.std.proofs.lemmas.{List.length-replicate, Bool.or_left, Bool.or_right}
+use Rattle.std.specs.{List.list_any, Option.option_map_or}
+use Rattle.wit_model.specs.declared.model.{Resolve.Resolve, World.World, TypeDef.TypeDef, TypeId.TypeId, WorldId.WorldId}
+use Rattle.wit_model.specs.declared.model.{WorldItem.WorldItem, WorldKey.WorldKey, Interface.Interface, InterfaceId.InterfaceId, TypeOwner.TypeOwner}
+use Rattle.wit_model.specs.{Rules.is_id, Uses.item_interface, Lookup.interface_at, Lookup.type_at, Parts.same_owner, Valid.IsValid, Valid.as_interface}
+use Rattle.bind_copy.specs.Copies.{is_new_under, number_under}
 use Rattle.bind_union.proofs.Lists.{no_true}
-use Rattle.bind_carry.specs.{BoundGains.unified, First.beside_first, First.flag_under, First.is_named_at, First.second_from, First.second_in, Initial.IsInitial}
-use Rattle.bind_carry.specs.{Fates.carries, Renumbered.is_matched, Renumbered.met_under, Renumbered.second_of}
+use Rattle.bind_carry.specs.{BoundGains.gained_inline, BoundGains.gains_any, BoundGains.type_under_key, BoundGains.unified, BoundGains.unify_one, Fates.carries}
+use Rattle.bind_carry.specs.{First.flag_under, First.beside_first, First.second_from, First.second_in, First.is_named_at, Initial.IsInitial}
+use Rattle.bind_carry.specs.{Marked.is_inline_at, Marked.mark_item, Marked.mark_new_items, Renumbered.is_matched, Renumbered.met_under, Renumbered.second_of}
+use Rattle.bind_carry.specs.Shown.{any_new, AreShownBelow, type_in}
+use Rattle.bind_carry.proofs.{Marking.joins, Marking.mark_item_long, Marking.mark_one, Marking.no_more, PassedTypes.fate_there, PassedTypes.type_within}
+use Rattle.bind_carry.proofs.PartsCarried.{has_home, no_home}
+use Rattle.base_lemmas.proofs.{Bools.left_of as first_true, Bools.right_of as second_true, Numbers.differ, Numbers.equal}
 use Rattle.bind_carry.specs.declared.{fate.Fate.Fate, plan.Carried.Carried}
-use Rattle.bind_carry.proofs.{PartsCarried.has_home, PartsCarried.no_home, PassedTypes.fate_there, PassedTypes.type_within}
-use Rattle.bind_carry.proofs.SecondTypes.{second_at, second_long, unified_at, unified_long, IsUnified}
-use Rattle.base_lemmas.proofs.Numbers.{equal}
-use Rattle.wit_model.specs.declared.model.TypeOwner.TheVariants as owner
+use Rattle.bind_union.specs.Carried.{carries_owner, copies_owner, owner_under, Renumbering}
 use Rattle.bind_carry.specs.declared.fate.Fate.TheVariants as fate
+use Rattle.wit_model.specs.declared.model.TypeOwner.TheVariants as owner
+
+-- ---- Which inline interfaces the bound world gains, and that something is gained with each.
+
+unset_flag : (count n : ℕ) → flag_under (replicate count false) n ≡ false
+unset_flag zero n = refl
+unset_flag (suc count) zero = refl
+unset_flag (suc count) (suc n) = unset_flag count n
+
+module _ (r : Resolve) (interfaces : List ℕ) (here : List (WorldKey × WorldItem)) where
+  -- whether some item whose key is new is the interface
+  abbrev pub is_shown_new : List (WorldKey × WorldItem) → ℕ → Bool
+  is_shown_new es n = list_any (λ (e : WorldKey × WorldItem). is_new_under interfaces here e.0 && is_id n (item_interface e.1)) es
+
+  new_marks_long : (es : List (WorldKey × WorldItem)) (marks : List Bool) → length (mark_new_items r interfaces here marks es) ≡ length marks
+  new_marks_long [] marks = refl
+  new_marks_long (e ∷ es) marks = go (is_new_under interfaces here e.0) (new_marks_long es (mark_item r marks e.1)) (new_marks_long es marks)
+    where
+      go : (b : Bool) → length (mark_new_items r interfaces here (mark_item r marks e.1) es) ≡ length (mark_item r marks e.1) → length (mark_new_items r interfaces here marks es) ≡ length marks
+          → length (mark_new_items r interfaces here (if b then mark_item r marks e.1 else marks) es) ≡ length marks
+      go true set unset = set ∙ mark_item_long r marks e.1
+      go false set unset = unset
+
+  abbrev FlagIs : List (WorldKey × WorldItem) → List Bool → ℕ → Type 0
+  FlagIs es marks n = flag_under (mark_new_items r interfaces here marks es) n ≡ (flag_under marks n || (is_inline_at r n && is_shown_new es n))
+
+  new_marks_in : (es : List (WorldKey × WorldItem)) (marks : List Bool) (n : ℕ) → AreShownBelow (length marks) es → FlagIs es marks n
+  new_marks_in [] marks n below = no_more (flag_under marks n) (is_inline_at r n)
+  new_marks_in (e ∷ es) marks n below =
+      go (is_new_under interfaces here e.0) (new_marks_in es (mark_item r marks e.1) n (subst (λ (k : ℕ). AreShownBelow k es) (sym (mark_item_long r marks e.1)) below.1))
+      (new_marks_in es marks n below.1)
+    where
+      go : (b : Bool) → FlagIs es (mark_item r marks e.1) n → FlagIs es marks n
+          → flag_under (mark_new_items r interfaces here (if b then mark_item r marks e.1 else marks) es) n
+          ≡ (flag_under marks n || (is_inline_at r n && ((b && is_id n (item_interface e.1)) || is_shown_new es n)))
+      go true set unset =
+          set
+          ∙ (ap (λ b. b || (is_inline_at r n && is_shown_new es n)) (mark_one r marks e.1 n below.0)
+          ∙ joins (flag_under marks n) (is_inline_at r n) (is_id n (item_interface e.1)) (is_shown_new es n))
+      go false set unset = unset
+
+  -- so some key is new
+  shown_any : (es : List (WorldKey × WorldItem)) (n : ℕ) → is_shown_new es n ≡ true → any_new interfaces here es ≡ true
+  shown_any [] n h = no_true h
+  shown_any (e ∷ es) n h = go (is_new_under interfaces here e.0) h (shown_any es n)
+    where
+      go : (b : Bool) → ((b && is_id n (item_interface e.1)) || is_shown_new es n) ≡ true → (is_shown_new es n ≡ true → any_new interfaces here es ≡ true) → (b || any_new interfaces here es) ≡ true
+      go true k rest = refl
+      go false k rest = rest k
+
+module _ (other : Resolve) (interfaces : List ℕ) (w v : World) (imports_below : AreShownBelow (length other.interfaces.items) v.imports.entries) (exports_below : AreShownBelow (length other.interfaces.items) v.exports.entries) where
+  abbrev pub is_gained : ℕ → Bool
+  is_gained n = is_shown_new other interfaces w.imports.entries v.imports.entries n || is_shown_new other interfaces w.exports.entries v.exports.entries n
+
+  -- the flag is set of the inline ones that new items show
+  pub gained_flag : (n : ℕ) → flag_under (gained_inline other interfaces w v) n ≡ (is_inline_at other n && is_gained n)
+  gained_flag n =
+      new_marks_in other interfaces w.exports.entries v.exports.entries first n (subst (λ (k : ℕ). AreShownBelow k v.exports.entries) (sym long_first) exports_below)
+      ∙ (ap (λ b. b || (is_inline_at other n && is_shown_new other interfaces w.exports.entries v.exports.entries n)) one
+      ∙ joins false (is_inline_at other n) (is_shown_new other interfaces w.imports.entries v.imports.entries n) (is_shown_new other interfaces w.exports.entries v.exports.entries n))
+    where
+      none : List Bool
+      none = replicate (length other.interfaces.items) false
+
+      first : List Bool
+      first = mark_new_items other interfaces w.imports.entries none v.imports.entries
+
+      long_none : length none ≡ length other.interfaces.items
+      long_none = length-replicate (length other.interfaces.items) false
+
+      long_first : length first ≡ length other.interfaces.items
+      long_first = new_marks_long other interfaces w.imports.entries v.imports.entries none ∙ long_none
+
+      one : flag_under first n ≡ (false || (is_inline_at other n && is_shown_new other interfaces w.imports.entries v.imports.entries n))
+      one =
+          new_marks_in other interfaces w.imports.entries v.imports.entries none n (subst (λ (k : ℕ). AreShownBelow k v.imports.entries) (sym long_none) imports_below)
+          ∙ ap (λ b. b || (is_inline_at other n && is_shown_new other interfaces w.imports.entries v.imports.entries n)) (unset_flag (length other.interfaces.items) n)
+
+  pub gained_long : length (gained_inline other interfaces w v) ≡ length other.interfaces.items
+  gained_long =
+      new_marks_long other interfaces w.exports.entries v.exports.entries (mark_new_items other interfaces w.imports.entries (replicate (length other.interfaces.items) false) v.imports.entries)
+      ∙ (new_marks_long other interfaces w.imports.entries v.imports.entries (replicate (length other.interfaces.items) false) ∙ length-replicate (length other.interfaces.items) false)
+
+  -- it has no name, and something is gained
+  pub gained_inline_alone : (n : ℕ) → flag_under (gained_inline other interfaces w v) n ≡ true → is_inline_at other n ≡ true
+  gained_inline_alone n h = first_true (is_inline_at other n) (is_gained n) (sym (gained_flag n) ∙ h)
+
+  pub gained_adds : (n : ℕ) → flag_under (gained_inline other interfaces w v) n ≡ true → gains_any interfaces w v ≡ true
+  gained_adds n h = go (is_shown_new other interfaces w.imports.entries v.imports.entries n) refl (second_true (is_inline_at other n) (is_gained n) (sym (gained_flag n) ∙ h))
+    where
+      or_more : (a b : Bool) → b ≡ true → (a || b) ≡ true
+      or_more true b e = refl
+      or_more false b e = e
+
+      or_first : (a b : Bool) → a ≡ true → (a || b) ≡ true
+      or_first true b e = refl
+      or_first false b e = no_true e
+
+      go : (b : Bool) → is_shown_new other interfaces w.imports.entries v.imports.entries n ≡ b → (b || is_shown_new other interfaces w.exports.entries v.exports.entries n) ≡ true
+          → gains_any interfaces w v ≡ true
+      go true e k = or_first (any_new interfaces w.imports.entries v.imports.entries) (any_new interfaces w.exports.entries v.exports.entries)
+          (shown_any other interfaces w.imports.entries v.imports.entries n e)
+      go false e k = or_more (any_new interfaces w.imports.entries v.imports.entries) (any_new interfaces w.exports.entries v.exports.entries)
+          (shown_any other interfaces w.exports.entries v.exports.entries n k)
+
+-- ---- What becomes of types in what the bound world gains, before those without a name have their fates.
+
+-- ---- by owners
+
+module _ (other : Resolve) (world other_world : ℕ) (copied : List Bool) (interfaces : List ℕ) where
+  pub second_at : (ts : List TypeDef) (fs : List Fate) (ns : List ℕ) (n : ℕ) (t : TypeDef) (g : Fate) (m : ℕ) → slice_get ts n ≡ Some t → slice_get fs n ≡ Some g → slice_get ns n ≡ Some m
+      → slice_get (second_from other world other_world copied interfaces ts fs ns) n ≡ Some (second_in other world other_world copied interfaces t.owner (beside_first g m))
+  second_at [] fs ns n t g m at_t at_g at_m = let wrong : ⊥ = cc in absurd wrong
+  second_at (u ∷ us) [] ns n t g m at_t at_g at_m = let wrong : ⊥ = cc in absurd wrong
+  second_at (u ∷ us) (h ∷ hs) [] n t g m at_t at_g at_m = let wrong : ⊥ = cc in absurd wrong
+  second_at (u ∷ us) (h ∷ hs) (k ∷ ks) zero t g m at_t at_g at_m =
+      let type_same : u ≡ t = ap (λ o. unwrap_or o u) at_t in
+      let fate_same : h ≡ g = ap (λ o. unwrap_or o h) at_g in
+      let number_same : k ≡ m = ap (λ o. unwrap_or o k) at_m in
+      λ i. Some (second_in other world other_world copied interfaces (type_same i).owner (beside_first (fate_same i) (number_same i)))
+  second_at (u ∷ us) (h ∷ hs) (k ∷ ks) (suc n) t g m at_t at_g at_m = second_at us hs ks n t g m at_t at_g at_m
+
+  pub second_long : (ts : List TypeDef) (fs : List Fate) (ns : List ℕ) → length fs ≡ length ts → length ns ≡ length ts
+      → length (second_from other world other_world copied interfaces ts fs ns) ≡ length ts
+  second_long [] fs ns long_fates long_numbers = refl
+  second_long (u ∷ us) [] ns long_fates long_numbers = absurd (omega (arith, long_fates))
+  second_long (u ∷ us) (h ∷ hs) [] long_fates long_numbers = absurd (omega (arith, long_numbers))
+  second_long (u ∷ us) (h ∷ hs) (k ∷ ks) long_fates long_numbers = ap suc (second_long us hs ks (omega (arith, long_fates)) (omega (arith, long_numbers)))
+
+-- ---- own types under the same keys
+
+set_long : (fs : List Fate) (k : ℕ) (g : Fate) → length (slice_set fs k g) ≡ length fs
+set_long [] k g = refl
+set_long (f ∷ fs) zero g = refl
+set_long (f ∷ fs) (suc k) g = ap suc (set_long fs k g)
+
+set_here : (fs : List Fate) (k : ℕ) (g h : Fate) → slice_get fs k ≡ Some h → slice_get (slice_set fs k g) k ≡ Some g
+set_here [] k g h e = let wrong : ⊥ = cc in absurd wrong
+set_here (f ∷ fs) zero g h e = refl
+set_here (f ∷ fs) (suc k) g h e = set_here fs k g h e
+
+set_there : (fs : List Fate) (k n : ℕ) (g : Fate) → (k ≡ n → ⊥) → slice_get (slice_set fs k g) n ≡ slice_get fs n
+set_there [] k n g h = refl
+set_there (f ∷ fs) zero zero g h = absurd (h refl)
+set_there (f ∷ fs) zero (suc n) g h = refl
+set_there (f ∷ fs) (suc k) zero g h = refl
+set_there (f ∷ fs) (suc k) (suc n) g h = set_there fs k n g (λ e. h (ap suc e))
+
+no_false : {A : Type 0} → true ≡ false → A
+no_false e = let wrong : ⊥ = cc in absurd wrong
+
+module _ (here : List (WorldKey × WorldItem)) where
+  -- A type stands for the own one under its key.
+  pub record IsUnified (es : List (WorldKey × WorldItem)) (final : List Fate) (n : ℕ) : Type 0 where
+    pub place : ℕ
+    pub entry : WorldKey × WorldItem
+    pub at_place : slice_get es place ≡ Some entry
+    pub id : TypeId
+    pub is_type : type_in entry.1 ≡ Some id
+    pub number : id.0 ≡ n
+    pub own : TypeId
+    pub there : type_under_key here entry.0 ≡ Some own
+    pub stands : slice_get final n ≡ Some (fate.Stands own.0)
+
+  later : (e : WorldKey × WorldItem) (es : List (WorldKey × WorldItem)) (final : List Fate) (n : ℕ) → IsUnified es final n → IsUnified (e ∷ es) final n
+  later e es final n u = record { place = suc u.place; entry = u.entry; at_place = u.at_place; id = u.id; is_type = u.is_type; number = u.number; own = u.own; there = u.there; stands = u.stands }
+
+  pub unified_long : (es : List (WorldKey × WorldItem)) (fs : List Fate) → length (unified here es fs) ≡ length fs
+  unified_long [] fs = refl
+  unified_long (e ∷ es) fs = unified_long es (unify_one fs (type_in e.1) (type_under_key here e.0)) ∙ one_long (type_in e.1) (type_under_key here e.0)
+    where
+      one_long : (a b : Option TypeId) → length (unify_one fs a b) ≡ length fs
+      one_long (Some id) (Some own) = set_long fs id.0 (fate.Stands own.0)
+      one_long (Some id) None = refl
+      one_long None b = refl
+
+  -- what a fate is when some entries are left
+  abbrev Left : List (WorldKey × WorldItem) → ℕ → Fate → List Fate → Type 0
+  Left es n h gs = (slice_get (unified here es gs) n ≡ Some h) ⊎ IsUnified es (unified here es gs) n
+
+  abbrev Whole : WorldKey × WorldItem → List (WorldKey × WorldItem) → ℕ → Fate → List Fate → Type 0
+  Whole e es n h gs = (slice_get (unified here es gs) n ≡ Some h) ⊎ IsUnified (e ∷ es) (unified here es gs) n
+
+  -- what each fate is in the end: what it was, or that of an own type
+  pub unified_at : (es : List (WorldKey × WorldItem)) (fs : List Fate) (n : ℕ) (g : Fate) → slice_get fs n ≡ Some g → (slice_get (unified here es fs) n ≡ Some g) ⊎ IsUnified es (unified here es fs) n
+  unified_at [] fs n g at = inl at
+  unified_at (e ∷ es) fs n g at = go (type_in e.1) refl (type_under_key here e.0) refl (λ gs h there. unified_at es gs n h there)
+    where
+      keeps : (gs : List Fate) → Left es n g gs → Whole e es n g gs
+      keeps gs (inl same) = inl same
+      keeps gs (inr u) = inr (later e es (unified here es gs) n u)
+
+      set : (id own : TypeId) → type_in e.1 ≡ Some id → type_under_key here e.0 ≡ Some own → (gs : List Fate) → id.0 ≡ n → Left es n (fate.Stands own.0) gs → Whole e es n g gs
+      set id own p q gs number (inl same) = inr (record { place = zero; entry = e; at_place = refl; id = id; is_type = p; number = number; own = own; there = q; stands = same })
+      set id own p q gs number (inr u) = inr (later e es (unified here es gs) n u)
+
+      by : (id own : TypeId) → type_in e.1 ≡ Some id → type_under_key here e.0 ≡ Some own → ((gs : List Fate) (h : Fate) → slice_get gs n ≡ Some h → Left es n h gs)
+          → (b : Bool) → (id.0 == n) ≡ b → Whole e es n g (slice_set fs id.0 (fate.Stands own.0))
+      by id own p q more true e_ =
+          let number = equal id.0 n e_ in
+          set id own p q (slice_set fs id.0 (fate.Stands own.0)) number
+          (more (slice_set fs id.0 (fate.Stands own.0)) (fate.Stands own.0) (ap (λ (m : ℕ). slice_get (slice_set fs id.0 (fate.Stands own.0)) m) (sym number) ∙ set_here fs id.0 (fate.Stands own.0) g
+          (ap (slice_get fs) number ∙ at)))
+      by id own p q more false e_ = keeps (slice_set fs id.0 (fate.Stands own.0)) (more (slice_set fs id.0 (fate.Stands own.0)) g (set_there fs id.0 n (fate.Stands own.0) (differ id.0 n e_) ∙ at))
+
+      go : (a : Option TypeId) → type_in e.1 ≡ a → (b : Option TypeId) → type_under_key here e.0 ≡ b
+          → ((gs : List Fate) (h : Fate) → slice_get gs n ≡ Some h → Left es n h gs) → Whole e es n g (unify_one fs a b)
+      go (Some id) p (Some own) q more = by id own p q more (id.0 == n) refl
+      go (Some id) p None q more = keeps fs (more fs g at)
+      go None p b q more = keeps fs (more fs g at)
+
+  -- a type that some item is stands for the own one of its key
+  pub unified_set : (es : List (WorldKey × WorldItem)) (fs : List Fate) (k : ℕ) (e : WorldKey × WorldItem) (id own : TypeId) → slice_get es k ≡ Some e → type_in e.1 ≡ Some id
+      → type_under_key here e.0 ≡ Some own → id.0 < length fs
+      → IsUnified es (unified here es fs) id.0
+  unified_set [] fs k e id own at p q less = let wrong : ⊥ = cc in absurd wrong
+  unified_set (x ∷ xs) fs zero e id own at p q less =
+      subst (λ (gs : List Fate). IsUnified (x ∷ xs) gs id.0) (sym step) (elim (unified_at xs set id.0 (fate.Stands own.0) (set_here fs id.0 (fate.Stands own.0) there.0 there.1)) [
+        | inl same ↦ record { place = zero; entry = x; at_place = refl; id = id; is_type = is_type; number = refl; own = own; there = under; stands = same }
+        | inr u ↦ later x xs (unified here xs set) id.0 u
+      ])
+    where
+      same_entry : x ≡ e
+      same_entry = ap (λ o. unwrap_or o x) at
+
+      is_type : type_in x.1 ≡ Some id
+      is_type = ap (λ (y : WorldKey × WorldItem). type_in y.1) same_entry ∙ p
+
+      under : type_under_key here x.0 ≡ Some own
+      under = ap (λ (y : WorldKey × WorldItem). type_under_key here y.0) same_entry ∙ q
+
+      set : List Fate
+      set = slice_set fs id.0 (fate.Stands own.0)
+
+      there : (g : Fate) × (slice_get fs id.0 ≡ Some g)
+      there = fate_there fs id.0 less
+
+      step : unified here (x ∷ xs) fs ≡ unified here xs set
+      step = (λ i. unified here xs (unify_one fs (is_type i) (under i)))
+  unified_set (x ∷ xs) fs (suc k) e id own at p q less =
+      later x xs (unified here xs gs) id.0 (unified_set xs gs k e id own at p q (subst (λ (n : ℕ). id.0 < n) (sym (one_same (type_in x.1) (type_under_key here x.0))) less))
+    where
+      gs : List Fate
+      gs = unify_one fs (type_in x.1) (type_under_key here x.0)
+
+      one_same : (a b : Option TypeId) → length (unify_one fs a b) ≡ length fs
+      one_same (Some i) (Some o) = set_long fs i.0 (fate.Stands o.0)
+      one_same (Some i) None = refl
+      one_same None b = refl
+
+-- ---- what the page is for
 
 number_there : (ns : List ℕ) (n : ℕ) → n < length ns → (m : ℕ) × (slice_get ns n ≡ Some m)
 number_there [] n l = absurd (omega (arith, l))

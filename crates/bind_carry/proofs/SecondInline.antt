@@ -4,9 +4,7 @@ use Rattle.std.proofs.lemmas.{List.Sums.sum_by-cons, Option.slice_get-map, Map.K
 use Rattle.std.specs.{Prelude.String, Prelude.sum_by, List.Contains, Map.lookup, Option.option_map_or}
 use Rattle.std.specs.declared.alloc.Global.{Global}
 use Rattle.wit_model.specs.declared.model.{Interface.Interface, Resolve.Resolve, World.World, WorldItem.WorldItem, WorldKey.WorldKey}
-use Rattle.wit_model.specs.{Lookup.interface_at, Lookup.interface_path, Lookup.key_text, Lookup.world_at, Meant.interface_item, Meant.item_meaning}
-use Rattle.wit_model.specs.{Meaning.item_sense, Meaning.Entry, Meaning.InterfaceSense, Rules.is_id, Rules.item_in_range, Rules.key_in_range, Rules.times_shown}
-use Rattle.wit_model.specs.{Text.text_of, Uses.item_interface, Valid.IsValid, Valid.key_eq}
+use Rattle.wit_model.specs.{Lookup.interface_at, Lookup.interface_path, Lookup.key_text, Lookup.world_at, Meant.interface_item, Meant.item_meaning, Meaning.item_sense, Meaning.Entry, Meaning.InterfaceSense, Rules.is_id, Rules.item_in_range, Rules.key_in_range, Rules.times_shown, Text.text_of, Uses.item_interface, Valid.IsValid, Valid.key_eq}
 use Rattle.wit_model.proofs.{Elements.contains-get, OnePath.named-path, UsesLemmas.interface_in_range as interface_there}
 use Rattle.bind_copy.specs.Copies.{is_new_under, number_under}
 use Rattle.bind_match.specs.declared.matches.Matches.{Matches}
@@ -14,10 +12,8 @@ use Rattle.bind_union.proofs.{Lists.no_true, WorldNamesakes.path_is, WorldNamesa
 use Rattle.bind_carry.specs.{First.flag_under, First.is_named_at, FirstPass.IsFirstPass, Marked.is_inline_at, Marked.is_shown_in, SecondPass.IsSecondPass}
 use Rattle.bind_carry.specs.Renumbered.{met_under}
 use Rattle.bind_carry.specs.declared.plan.Carried.{Carried}
-use Rattle.bind_carry.proofs.{CopiesPlaced.some_same, WorldEntries.any_place, WorldEntries.import_keyed, WorldEntries.import_range, WorldEntries.label_new}
-use Rattle.bind_carry.proofs.FirstCopies.{count, count_front, inline_once, shown_count, sum_two}
-use Rattle.bind_carry.proofs.{LabelsFound.label_held, SecondStands.second}
-use Rattle.bind_carry.proofs.{SecondKnown.exports_shown, SecondKnown.imports_shown, SecondMarks.gained_flag, SecondMarks.is_gained, SecondMarks.is_shown_new}
+use Rattle.bind_carry.proofs.{CopiesPlaced.some_same, WorldEntries.any_place, WorldEntries.import_keyed, WorldEntries.import_range, WorldEntries.label_new, LabelsFound.label_held, SecondMet.second, SecondKnown.exports_shown, SecondKnown.imports_shown, SecondInitial.gained_flag, SecondInitial.is_gained, SecondInitial.is_shown_new}
+use Rattle.bind_carry.proofs.FirstWorlds.{count, count_front, inline_once, shown_count, sum_two}
 use Rattle.base_lemmas.proofs.{Bools.left_of as first_true, Bools.right_of as second_true, Numbers.equal, Numbers.same-number}
 use Rattle.wit_model.specs.declared.model.WorldItem.TheVariants as item
 use Rattle.wit_model.specs.declared.model.WorldKey.TheVariants as key

@@ -3,25 +3,17 @@ use Rattle.std.proofs.Common.{◌≡◌, refl, sym, ap, ◌∙◌, ℕ, ◌+◌,
 use Rattle.std.proofs.lemmas.{Bool.or_left, Option.slice_get_within, Map.Keys.any_passes_from_place as any_at}
 use Rattle.std.specs.{Prelude.String, List.Contains, Map.lookup, Option.option_map_or}
 use Rattle.std.specs.declared.alloc.Global.{Global}
-use Rattle.wit_model.specs.declared.model.{Interface.Interface, InterfaceId.InterfaceId, TypeOwner.TypeOwner, WorldItem.WorldItem, WorldKey.WorldKey}
-use Rattle.wit_model.specs.declared.model.{Resolve.Resolve, TypeDef.TypeDef, TypeId.TypeId, World.World}
-use Rattle.wit_model.specs.{Lookup.interface_at, Lookup.key_text, Lookup.type_at, Lookup.world_at, Meaning.item_sense, Meaning.Entry, Meaning.InterfaceSense}
-use Rattle.wit_model.specs.{Meant.item_meaning, Rules.item_type, Text.text_of, Valid.IsValid, Valid.as_interface, Valid.as_world, Valid.key_eq}
+use Rattle.wit_model.specs.declared.model.{Interface.Interface, InterfaceId.InterfaceId, TypeOwner.TypeOwner, WorldItem.WorldItem, WorldKey.WorldKey, Resolve.Resolve, TypeDef.TypeDef, TypeId.TypeId, World.World}
+use Rattle.wit_model.specs.{Lookup.interface_at, Lookup.key_text, Lookup.type_at, Lookup.world_at, Meaning.item_sense, Meaning.Entry, Meaning.InterfaceSense, Meant.item_meaning, Rules.item_type, Text.text_of, Valid.IsValid, Valid.as_interface, Valid.as_world, Valid.key_eq}
 use Rattle.wit_model.proofs.{Elements.contains-get, TextLemmas.text_same as text-same}
 use Rattle.bind_copy.specs.Copies.{is_new_under, number_under}
 use Rattle.bind_match.specs.declared.matches.Matches.{Matches}
 use Rattle.bind_union.specs.Carried.{carries_owner, Renumbering}
 use Rattle.bind_union.proofs.Lists.{no_true}
 use Rattle.bind_union.proofs.WorldNamesakes.{is_declared, not_declared, type_imported, world_type, IsImported, IsWorldType}
-use Rattle.bind_carry.specs.{BoundGains.gains_any, BoundGains.type_under_key, BoundGains.unified, First.first_fates, First.flag_under, First.second_from}
-use Rattle.bind_carry.specs.{Fates.carries, Fates.is_carried, Fates.settled_from, FirstPass.IsFirstPass, Shown.any_new, Shown.type_in, Shown.AreShownBelow}
-use Rattle.bind_carry.specs.InRange.{IsInRange}
-use Rattle.bind_carry.specs.{Marked.is_inline_at, Marked.AreChosen, Renumbered.first_of, Renumbered.is_matched, SecondPass.DoNotClash, SecondPass.IsSecondPass}
-use Rattle.bind_carry.specs.declared.{fate.Fate.Fate, plan.Carried.Carried}
-use Rattle.bind_carry.proofs.{CopiesPlaced.some_same, Ranges.is_in_range, Ranges.shown_below, Ready.fates_long, Ready.interface_count, Ready.numbers_count}
-use Rattle.bind_carry.proofs.{FirstCarried.chosen_so, PartsCarried.no_home, SecondInitial.IsKnown}
-use Rattle.bind_carry.proofs.{FirstMatched.names, FirstMatched.uncopied_under, SecondTypes.second_long, SecondTypes.unified_set, SecondTypes.IsUnified}
-use Rattle.bind_carry.proofs.{FirstTypes.excluded, FirstTypes.named_carried, SecondMarks.gained_adds, SecondMarks.gained_inline_alone, SecondMarks.gained_long}
+use Rattle.bind_carry.specs.{BoundGains.gains_any, BoundGains.type_under_key, BoundGains.unified, First.first_fates, First.flag_under, First.second_from, Fates.carries, Fates.is_carried, Fates.settled_from, FirstPass.IsFirstPass, Shown.any_new, Shown.type_in, Shown.AreShownBelow, Marked.is_inline_at, Marked.AreChosen, Renumbered.first_of, Renumbered.is_matched, SecondPass.DoNotClash, SecondPass.IsSecondPass}
+use Rattle.bind_carry.specs.{InRange.IsInRange, declared.fate.Fate.Fate, declared.plan.Carried.Carried}
+use Rattle.bind_carry.proofs.{CopiesPlaced.some_same, Ranges.is_in_range, Ranges.shown_below, Ready.fates_long, Ready.interface_count, Ready.numbers_count, FirstCarried.chosen_so, PartsCarried.no_home, SecondInitial.IsKnown, FirstNumbers.names, FirstNumbers.uncopied_under, SecondInitial.second_long, SecondInitial.unified_set, SecondInitial.IsUnified, FirstInterfaces.excluded, FirstInterfaces.named_carried, SecondInitial.gained_adds, SecondInitial.gained_inline_alone, SecondInitial.gained_long}
 use Rattle.bind_carry.proofs.WorldEntries.{any_new_same, export_keyed, import_keyed, label_new, IsNumberedSame}
 use Rattle.base_lemmas.proofs.Elements.{get-contains, lookup_stands}
 use Rattle.wit_model.specs.declared.model.TypeOwner.TheVariants as owner

@@ -10,12 +10,9 @@ use Rattle.bind_copy.specs.Copies.{is_key_under, is_new_under, number_under}
 use Rattle.bind_match.specs.declared.matches.Matches.{Matches}
 use Rattle.bind_union.specs.Carried.{KeyBecomes, Renumbering}
 use Rattle.bind_union.proofs.Lists.{no_true}
-use Rattle.bind_carry.specs.{First.flag_under, Renumbered.is_matched}
-use Rattle.bind_carry.specs.{FirstPass.IsFirstPass, Numbers.interface_number, Numbers.numbers_of, ReadyItems.IsKeyReady, SecondPass.IsSecondPass}
+use Rattle.bind_carry.specs.{First.flag_under, Renumbered.is_matched, FirstPass.IsFirstPass, Numbers.interface_number, Numbers.numbers_of, ReadyItems.IsKeyReady, SecondPass.IsSecondPass}
 use Rattle.bind_carry.specs.declared.plan.Carried.{Carried}
-use Rattle.bind_carry.proofs.{FirstCopies.copied_behind, FirstMatched.interface_is, SecondAgreed.first, SecondAgreed.named_is_carried, SecondAgreed.second}
-use Rattle.bind_carry.proofs.{SecondInterfaces.carried_number, WorldEntries.any_place, WorldEntries.label_new, WorldEntries.IsPlacedIn}
-use Rattle.bind_carry.proofs.{SecondKnown.chosen, SecondKnown.long, SecondKnown.same_label, SecondStands.named_carried_there, SecondStands.second_named}
+use Rattle.bind_carry.proofs.{FirstWorlds.copied_behind, FirstNumbers.interface_is, SecondInterfaces.first, SecondInterfaces.named_is_carried, SecondInterfaces.second, SecondInterfaces.carried_number, WorldEntries.any_place, WorldEntries.label_new, WorldEntries.IsPlacedIn, SecondKnown.chosen, SecondKnown.long, SecondKnown.same_label, SecondMet.named_carried_there, SecondMet.second_named}
 use Rattle.base_lemmas.proofs.{Elements.get-contains, Elements.lookup_stands, Numbers.equal}
 use Rattle.wit_model.proofs.TextLemmas.{text_same as text-same}
 use Rattle.wit_model.specs.declared.model.WorldKey.TheVariants as key

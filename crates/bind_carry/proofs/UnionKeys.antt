@@ -3,8 +3,7 @@ use Rattle.std.proofs.Common.{◌≡◌, refl, sym, ap, ap₂, subst, ◌∙◌,
 use Rattle.std.proofs.lemmas.{List.length-map, List.map-append, Option.slice_get_within, Bool.not-false as not_not}
 use Rattle.std.specs.{Prelude.String, List.filter, List.list_any, List.AllZip, List.Contains, Map.keys_of}
 use Rattle.std.specs.declared.alloc.Global.{Global}
-use Rattle.wit_model.specs.declared.model.{Interface.Interface, InterfaceId.InterfaceId, PackageId.PackageId, WorldItem.WorldItem, WorldKey.WorldKey}
-use Rattle.wit_model.specs.declared.model.{Package.Package, Resolve.Resolve, TypeDef.TypeDef, World.World}
+use Rattle.wit_model.specs.declared.model.{Interface.Interface, InterfaceId.InterfaceId, PackageId.PackageId, WorldItem.WorldItem, WorldKey.WorldKey, Package.Package, Resolve.Resolve, TypeDef.TypeDef, World.World}
 use Rattle.wit_model.specs.Lookup.{identity_of, interface_at, interface_path, key_text, package_at, path_of_interface, world_at}
 use Rattle.wit_model.specs.{Names.path_in, Rules.package_number, Text.optional_text, Text.text_of, Text.Text, Valid.key_eq, Valid.IsValid}
 use Rattle.bind_add.specs.Growth.{HasGainedItems}
@@ -14,11 +13,9 @@ use Rattle.bind_match.specs.declared.matches.Matches.{Matches}
 use Rattle.bind_union.specs.Carried.{IsCarried, IsInterface, Renumbering}
 use Rattle.bind_union.proofs.{Carrying.path_by, Carrying.path_parts, Carrying.same_identity, Lists.no_true}
 use Rattle.bind_carry.specs.AddedKeys.{key_view, labelled, numbered, ExportsAreAdded, ExportsComeBehind, KeysKeepTexts}
-use Rattle.bind_carry.specs.{First.first_fates, First.flag_under, Listed.IsHomeBelow, Renumbered.first_of, Renumbered.is_matched, Union.IsUnionOf}
-use Rattle.bind_carry.specs.{MatchedSame.AreMatchedAt, MatchedSame.NoneOfPath, Numbers.interface_number, Numbers.numbers_of, Which.AreMatchedAll}
+use Rattle.bind_carry.specs.{First.first_fates, First.flag_under, Listed.IsHomeBelow, Renumbered.first_of, Renumbered.is_matched, Union.IsUnionOf, MatchedSame.AreMatchedAt, MatchedSame.NoneOfPath, Numbers.interface_number, Numbers.numbers_of, Which.AreMatchedAll}
 use Rattle.bind_carry.specs.declared.plan.Carried.{Carried}
-use Rattle.bind_carry.proofs.{CopiesPlaced.some_same, WorldEntries.any_place, WorldEntries.export_keyed, WorldEntries.IsNumberedSame, WorldEntries.IsPlacedIn}
-use Rattle.bind_carry.proofs.{FirstCarried.first_is_carried, FirstCopies.copied_behind, FirstMatched.interface_is, FirstOfUnion.unions_have_the_first}
+use Rattle.bind_carry.proofs.{CopiesPlaced.some_same, WorldEntries.any_place, WorldEntries.export_keyed, WorldEntries.IsNumberedSame, WorldEntries.IsPlacedIn, FirstCarried.first_is_carried, FirstWorlds.copied_behind, FirstNumbers.interface_is, FirstOfUnion.unions_have_the_first}
 use Rattle.bind_carry.proofs.KeysGained.{by_path_apart, chosen, export_named, exports_apart, exports_behind, named_carried, named_number}
 use Rattle.bind_carry.proofs.Ranges.{is_in_range}
 use Rattle.base_lemmas.proofs.{Elements.contains-later, Elements.get-contains, Lists.within_there, Numbers.equal}

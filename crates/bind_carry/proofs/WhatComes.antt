@@ -4,20 +4,17 @@ use Rattle.std.proofs.lemmas.{Bool.ltb-true, List.length-map, List.Sums.sum_by-c
 use Rattle.std.specs.{Prelude.String, Prelude.count_by, Prelude.option_and_then, HashMap.get_by_text, List.Contains, Option.option_map_or}
 use Rattle.std.specs.declared.alloc.Global.{Global}
 use Rattle.wit_model.specs.{Lookup.interface_at, Lookup.world_at, Rules.item_type, Text.Text, Text.optional_text, Text.text_of, Valid.IsValid, Valid.as_world}
-use Rattle.wit_model.specs.declared.model.{InterfaceId.InterfaceId, Resolve.Resolve, TypeId.TypeId, TypeOwner.TypeOwner, WorldItem.WorldItem, WorldKey.WorldKey}
-use Rattle.wit_model.specs.declared.model.{TypeDef.TypeDef, World.World, WorldId.WorldId}
+use Rattle.wit_model.specs.declared.model.{InterfaceId.InterfaceId, Resolve.Resolve, TypeId.TypeId, TypeOwner.TypeOwner, WorldItem.WorldItem, WorldKey.WorldKey, TypeDef.TypeDef, World.World, WorldId.WorldId}
 use Rattle.wit_model.proofs.Elements.{contains-get}
 use Rattle.bind_copy.specs.Copies.{is_new_under}
 use Rattle.bind_union.proofs.{Lists.no_true, WorldNamesakes.type_imported, WorldNamesakes.world_type, WorldNamesakes.IsImported}
-use Rattle.bind_carry.specs.{BoundGains.bound_fates, BoundGains.gains_any, BoundGains.type_under_key, BoundGains.unified, Renumbered.is_matched, Shown.type_in}
+use Rattle.bind_carry.specs.{BoundGains.bound_fates, BoundGains.gains_any, BoundGains.type_under_key, BoundGains.unified, Renumbered.is_matched, Shown.type_in, Listed.given_interface, Listed.type_named, Numbers.copied_count, SecondPass.DoNotClash, TooLong.CarriedThings, TooLong.TypeFates}
 use Rattle.bind_carry.specs.Fates.{are_carried, carries, copies, is_carried, settled, settled_from, FallBelow}
 use Rattle.bind_carry.specs.First.{adds_any, beside_first, fate_in, fate_named, fate_of, first_fates, flag_under, is_named_at, second_from, second_in}
-use Rattle.bind_carry.specs.{Listed.given_interface, Listed.type_named, Numbers.copied_count, SecondPass.DoNotClash, TooLong.CarriedThings, TooLong.TypeFates}
 use Rattle.bind_carry.specs.MadeOf.{owned, type_parts, unnamed, IsMadeOf, IsMadeUp, IsOwnedBy}
 use Rattle.bind_carry.specs.declared.fate.Fate.{Fate}
-use Rattle.bind_carry.proofs.{CopiesPlaced.some_same, PartsCarried.no_home, Ranges.is_in_range, FirstTypes.beside_stands, FirstTypes.named_no_copy}
-use Rattle.bind_carry.proofs.{SecondKnown.number_type, SecondKnown.type_number, SecondKnown.unmet_new, SettledParts.settled_all, SettledParts.settled_long}
-use Rattle.bind_carry.proofs.SecondTypes.{second_long, unified_at, unified_long, unified_set, IsUnified}
+use Rattle.bind_carry.proofs.{CopiesPlaced.some_same, PartsCarried.no_home, Ranges.is_in_range, FirstInterfaces.beside_stands, FirstInterfaces.named_no_copy, SecondKnown.number_type, SecondKnown.type_number, SecondKnown.unmet_new, SettledParts.settled_all, SettledParts.settled_long}
+use Rattle.bind_carry.proofs.SecondInitial.{second_long, unified_at, unified_long, unified_set, IsUnified}
 use Rattle.base_lemmas.proofs.{Bools.left_of, Bools.right_of, Elements.all-contained, Elements.get-contains, Lists.within_there, Numbers.equal}
 use Rattle.wit_model.specs.declared.model.TypeOwner.TheVariants as owner
 use Rattle.bind_carry.specs.declared.fate.Fate.TheVariants as fate

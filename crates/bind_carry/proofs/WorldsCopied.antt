@@ -3,16 +3,13 @@ use Rattle.std.proofs.Common.{◌≡◌, refl, sym, ap, ◌∙◌, ℕ, zero, su
 use Rattle.std.proofs.lemmas.{List.length-map, Bool.and_from as both}
 use Rattle.std.specs.{Prelude.String, List.list_all, List.AllZip, List.IsDistinct, Map.keys_of}
 use Rattle.std.specs.declared.alloc.Global.{Global}
-use Rattle.wit_model.specs.declared.model.{InterfaceId.InterfaceId, Resolve.Resolve, TypeDef.TypeDef, WorldId.WorldId, WorldItem.WorldItem, WorldKey.WorldKey}
-use Rattle.wit_model.specs.declared.model.{TypeId.TypeId, World.World}
+use Rattle.wit_model.specs.declared.model.{InterfaceId.InterfaceId, Resolve.Resolve, TypeDef.TypeDef, WorldId.WorldId, WorldItem.WorldItem, WorldKey.WorldKey, TypeId.TypeId, World.World}
 use Rattle.wit_model.specs.{Lookup.type_at, Lookup.world_at, Rules.package_number, Text.text_of, Valid.IsValid, Valid.as_interface}
 use Rattle.bind_copy.specs.Copies.{become_one, number_under}
 use Rattle.bind_union.specs.{Carried.Renumbering, Merged.IsWorldCopy}
-use Rattle.bind_carry.specs.{First.first_fates, First.flag_under, Marked.AreChosen, Numbers.numbers_of, Numbers.world_number, Whole.kept, Whole.IsWorldCarried}
-use Rattle.bind_carry.specs.{Listed.type_named, ReadyItems.AreReady, ReadyItems.IsItemReady, ReadyItems.IsKeyReady, Renumbered.first_of, Renumbered.is_matched}
+use Rattle.bind_carry.specs.{First.first_fates, First.flag_under, Marked.AreChosen, Numbers.numbers_of, Numbers.world_number, Whole.kept, Whole.IsWorldCarried, Listed.type_named, ReadyItems.AreReady, ReadyItems.IsItemReady, ReadyItems.IsKeyReady, Renumbered.first_of, Renumbered.is_matched}
 use Rattle.bind_carry.specs.declared.plan.Carried.{Carried}
-use Rattle.bind_carry.proofs.{FirstInterfaces.home_number, FirstWorlds.export_ready, FirstWorlds.import_ready, KeysApart.is_key_carried, KeysApart.keys_apart}
-use Rattle.bind_carry.proofs.{JoinedItems.items_join, KeptPlaced.kept_placed, KeptPlaced.IsKeptAt}
+use Rattle.bind_carry.proofs.{FirstInterfaces.home_number, FirstWorlds.export_ready, FirstWorlds.import_ready, KeysGained.is_key_carried, KeysGained.keys_apart, Joined.items_join, KeptPlaced.kept_placed, KeptPlaced.IsKeptAt}
 use Rattle.wit_model.specs.declared.model.WorldKey.TheVariants as key
 
 never_false : {A : Type 0} → true ≡ false → A

@@ -4,12 +4,6 @@ pub mod BoundLaws
 pub mod Steps
 -- Which section of a module is refused: one at most, and none where all are bound. Serves laws::one_refused_section.
 pub mod BlamedLaws
--- The packages, interfaces and worlds of a `Resolve` that holds one world and nothing else, by path. Serves BoundWorlds, DecodedKeys, DecodedPackages.
-pub mod DecodedWorlds
--- The keys of the functions of a world, by what it means. Serves BoundWorlds.
-pub mod DecodedKeys
--- The packages and the worlds of a `Resolve` that holds one world and nothing else. Serves BoundWorlds.
-pub mod DecodedPackages
 -- What is bound of the data of a section is the binding of the world that it means. Serves laws::sections_bind_their_worlds.
 pub mod BoundWorlds
 -- What the data of one section binds. Serves laws::one_section_binds.

@@ -3,13 +3,12 @@ use Rattle.std.proofs.Common.{◌≡◌, inl, inr, refl, sym, ap, subst, ◌∙�
 use Rattle.std.proofs.lemmas.{List.length-map, Bool.cases_lt as below_or, Slice.Zip.AllZip-long as zip_length}
 use Rattle.wit_model.specs.declared.model.{Package.Package, Resolve.Resolve}
 use Rattle.wit_model.specs.{Lookup.package_at, Meaning.PackageMeaning, Meant.Meant, Valid.IsValid, Names.PackageIdentity}
-use Rattle.plan_meaning.specs.{Built.IsBuilt, Built.planned_package, Built.planned_type, PlanMeaning.package_meaning, PlanMeaning.plan_meaning, Shapes.Shape}
-use Rattle.plan_meaning.specs.{NumberedViews.Tables, Plan.Plan, Plan.PlannedPackage, Plan.package_in, PlanRules.IsPlan}
+use Rattle.plan_meaning.specs.{Built.IsBuilt, Built.planned_package, Built.planned_type, PlanMeaning.package_meaning, PlanMeaning.plan_meaning, Shapes.Shape, NumberedViews.Tables, Plan.Plan, Plan.PlannedPackage, Plan.package_in, PlanRules.IsPlan}
 use Rattle.plan_meaning.proofs.NothingElse.{package_holds_alone}
 use Rattle.plan_build.specs.{Buildable.IsBuildable, MeansPlan.MeansPlan}
 use Rattle.plan_build.proofs.BuildableLaws.{plans_are_buildable}
 use Rattle.plan_parts.specs.{Kept.AreMarked, Marks.is_marked, Marks.IsUsed, Marks.PartsFall, Marks.marked, Marks.part}
-use Rattle.plan_type_laws.proofs.ShownForms.{mark_there}
+use Rattle.plan_type_laws.proofs.ShownRules.{mark_there}
 use Rattle.read_exports.specs.declared.members.Member.{Member}
 use Rattle.plan_types.specs.{PlannedTypes.PlansType, Used.TypesFall}
 use Rattle.plan_package.specs.{PlanWhole.owners_in, PlanWhole.shown_first, PlanWhole.PlansWhole, WholeInterfaces.Home}

@@ -1,7 +1,6 @@
 -- Numbers each of which stands behind all smaller ones: each once, they count up.
 use Rattle.std.proofs.Common.{◌≡◌, refl, sym, ap, subst, ◌∙◌, ℕ, zero, suc, ◌<◌, ◌≤◌, ◌⊎◌, inl, inr, arith, Bool, true, false, cond, List, [], ◌∷◌, ◌++◌, append_assoc, length, length-append, Some, slice_get}
-use Rattle.std.proofs.lemmas.{Bool.cases_lt, Option.same_Some as same-some}
-use Rattle.std.proofs.lemmas.{List.append-nil, List.Elements.Contains-append_cases, List.Elements.Contains-append_left, List.Elements.Contains-append_right}
+use Rattle.std.proofs.lemmas.{Bool.cases_lt, Option.same_Some as same-some, List.append-nil, List.Elements.Contains-append_cases, List.Elements.Contains-append_left, List.Elements.Contains-append_right}
 use Rattle.std.specs.List.{Contains, flat_map}
 use Rattle.wit_model.specs.Uses.{has, once}
 use Rattle.wit_model.proofs.Elements.{contains-flat, contains-has, has-contains, none-in}

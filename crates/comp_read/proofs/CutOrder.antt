@@ -1,26 +1,271 @@
 -- The types of interfaces that had been shown at a cut have smaller numbers than it, and those of others don't.
-use Rattle.std.proofs.Common.{◌≡◌, sym, ap, subst, ◌∙◌, ℕ, ◌+◌, ◌<◌, ◌≤◌, Bool, List, [], ◌++◌, length, take, Some, slice_get, Option}
-use Rattle.std.specs.List.{AllZip, Contains, flat_map}
-use Rattle.wit_model.specs.Uses.{once}
+use Rattle.std.proofs.Common.{◌≡◌, refl, sym, ap, subst, ◌∙◌, ℕ, zero, suc, ◌+◌, ◌<◌, ◌≤◌, ◌⊎◌, inl, inr, arith, List, [], ◌∷◌, ◌++◌, length, length-append, take, Option, Some, slice_get, true, filter, map, Bool}
+use Rattle.std.proofs.lemmas.{Bool.cases_lt, Option.same_Some as same-some, List.take-map, List.Elements.filter-append}
+use Rattle.std.specs.List.{AllByRecursion, AllZip, flat_map, Contains}
+use Rattle.wit_model.specs.{Text.Text, Meaning.WorldMeaning, Uses.once}
+use Rattle.plan_meaning.specs.NumberedViews.{Tables, AreTables, path_at, NumberedSight, NumberedType, first_at}
+use Rattle.plan_meaning.specs.NumberedWorlds.{declares, NumberedSeen, are_once, NumberedInstance, NumberedScope}
+use Rattle.plan_meaning.specs.{Plan.PlannedItem, Plan.PlannedKey, Plan.PlannedWorld, Plan.PlannedInterface, Plan.numbers_of, Renumbering.IsPart}
+use Rattle.plan_meaning.specs.{Shapes.named_shape, NumberedMembers.Homes, NumberedMembers.IsMember, NumberedMembers.ShowsPart, NumberedRules.Fact}
+use Rattle.read_exports.specs.declared.members.{Member.Member, Part.Part}
+use Rattle.read_rules.specs.Scopes.{numbered_scope, numbered_seen, numbered_shown}
+use Rattle.read_rules.specs.declared.scopes.{Scope.Scope, Seen.Seen, Shown.Shown}
+use Rattle.plan_package.specs.WholeWorlds.{PlansItem, PlansWorld, a_function, a_type, an_instance, world_in_part, worlds_in}
+use Rattle.plan_package.specs.{Views.views_of_members, WholeInterfaces.Home, WholeInterfaces.PlansPlace}
+use Rattle.plan_laws.specs.ShownNames.{DeclaresName}
+use Rattle.comp_read.specs.{Cuts.StandsBefore, Cuts.StandsBehind, Cuts.IsCut, Order.imports_in, Order.once_by_path, ReadInput.IsReadInput, ReadInput.ViewsObey}
+use Rattle.base_lemmas.proofs.Elements.{all_at_too, zip_at_right, contains-map, get-contains, map_from}
+use Rattle.base_lemmas.proofs.Lists.{mapped_get, none_there, append_of_map, length_of_map, get_back, one_item}
+use Rattle.comp_meaning.specs.Reads.{worlds_of}
+use Rattle.plan_type_laws.specs.ShownMarks.{has_no_path}
+use Rattle.plan_laws.proofs.OwnPlaces.{once_first}
+use Rattle.read_exports.specs.Members.{numbered_member, numbered_members, numbered_part}
+use Rattle.comp_read.proofs.{PlanOrder.worlds_meant, ShownOrder.paths_once, Members.instance_shown, ShownScopes.scope_places}
+use Rattle.comp_read.proofs.Cuts.{behind_front, early, first_of, late, of_front, split_flat}
+use Rattle.comp_read.proofs.{WorldOrder.joined_behind, TypeNumbers.same_part, TypeNumbers.shown_at, TypeNumbers.shown_number, TypeNumbers.told_parts}
 use Rattle.wit_model.proofs.Elements.{contains-flat}
 use Rattle.comp_bytes.specs.Levels.{Piece}
-use Rattle.plan_meaning.specs.{NumberedMembers.Homes, NumberedViews.NumberedSight, NumberedViews.NumberedType, NumberedViews.Tables, NumberedViews.first_at}
-use Rattle.plan_meaning.specs.{NumberedRules.Fact, NumberedWorlds.NumberedInstance, NumberedWorlds.NumberedScope, Plan.PlannedInterface, Plan.numbers_of}
-use Rattle.plan_meaning.specs.Renumbering.{IsPart}
 use Rattle.plan_parts.specs.Kept.{AreMarked}
 use Rattle.plan_types.specs.Orders.{joined_all}
-use Rattle.plan_package.specs.{Views.views_of_members, WholeInterfaces.Home, WholeInterfaces.PlansPlace}
-use Rattle.read_exports.specs.Members.{numbered_members}
-use Rattle.read_exports.specs.declared.members.Member.{Member}
 use Rattle.read_parts.specs.declared.following.Followed.{Followed}
 use Rattle.read_numbers.specs.{NumberedInput.tables_of, PlacedNumbers.part_of, PlacedNumbers.IsFirstSeen, PlacedNumbers.IsInstanceAt, PlacedNumbers.scopes_in}
-use Rattle.comp_read.specs.{Cuts.IsCut, ReadInput.IsReadInput, ReadInput.ViewsObey}
-use Rattle.comp_read.proofs.CutPlaces.{behind_front, early, first_of, late, of_front, split_flat}
-use Rattle.comp_read.proofs.{Members.instance_shown, WorldOrder.joined_behind}
-use Rattle.comp_read.proofs.{ShownScopes.scope_places, TypeNumbers.same_part, TypeNumbers.shown_at, TypeNumbers.shown_number, TypeNumbers.told_parts}
-use Rattle.base_lemmas.proofs.Elements.{contains-map, get-contains, map_from, zip_at_right}
-use Rattle.base_lemmas.proofs.Lists.{get_back, mapped_get, one_item}
+use Rattle.plan_meaning.specs.Plan as plan
+use Rattle.read_exports.specs.declared.members.Part.TheVariants as parts
+use Rattle.read_rules.specs.declared.scopes.Shown.TheVariants as shown
+use Rattle.comp_meaning.specs.Follow as follow
 use Rattle.comp_meaning.specs.Reads as reads
+
+-- ---- The types that worlds had imported at a cut have smaller numbers than it, and those of later imports don't.
+
+-- ---- the worlds among members
+
+-- how many worlds are among the first so many members
+abbrev pub worlds_before : List Member → ℕ → ℕ
+worlds_before ms m = length (worlds_in (take m ms))
+
+-- the world of this number is that of a member
+pub record IsWorldOf (ms : List Member) (k : ℕ) (v : Text × Scope) : Type 0 where
+  pub number : ℕ
+  pub member : Member
+  pub at : slice_get ms number ≡ Some member
+  pub is : member.part ≡ parts.World v.1
+  pub count : k ≡ worlds_before ms number
+
+one_more : (l : Text) (a : Part) (w : Scope) → a ≡ parts.World w → (rest : List (Text × Scope)) → length (world_in_part l a ++ rest) ≡ suc (length rest)
+one_more l a w e rest = ap (λ (b : Part). length (world_in_part l b ++ rest)) e
+
+pub world_of : (ms : List Member) (k : ℕ) (v : Text × Scope) → slice_get (worlds_in ms) k ≡ Some v → IsWorldOf ms k v
+world_of [] k v e = absurd (none_there k v e)
+world_of (y ∷ ms) k v e = by y.part refl (subst (λ (a : Part). slice_get (world_in_part y.label.now a ++ worlds_in ms) k ≡ Some v) refl e) (λ j f. world_of ms j v f)
+  where
+    by : (a : Part) → y.part ≡ a → slice_get (world_in_part y.label.now a ++ worlds_in ms) k ≡ Some v → ((j : ℕ) → slice_get (worlds_in ms) j ≡ Some v → IsWorldOf ms j v) → IsWorldOf (y ∷ ms) k v
+    by (parts.World w) e f deeper = at_world k f
+      where
+        at_world : (k : ℕ) → slice_get ((y.label.now, w) ∷ worlds_in ms) k ≡ Some v → IsWorldOf (y ∷ ms) k v
+        at_world zero f = record { number = 0; member = y; at = refl; is = e ∙ ap (λ (z : Text × Scope). parts.World z.1) (same-some (y.label.now, w) v f); count = refl }
+        at_world (suc j) f =
+            let d = deeper j f in
+            record { number = suc d.number; member = d.member; at = d.at; is = d.is; count = ap suc d.count ∙ sym (one_more y.label.now y.part w e (worlds_in (take d.number ms))) }
+    by (parts.Interface p v imports) e f deeper =
+        let d = deeper k f in
+        record {
+          number = suc d.number;
+          member = d.member;
+          at = d.at;
+          is = d.is;
+          count = d.count ∙ sym (ap (λ (a : Part). length (world_in_part y.label.now a ++ worlds_in (take d.number ms))) e);
+        }
+
+fewer : (ms : List Member) (n m : ℕ) → n ≤ m → worlds_before ms n ≤ worlds_before ms m
+fewer [] zero zero le = omega arith
+fewer [] zero (suc m) le = omega arith
+fewer [] (suc n) zero le = omega arith
+fewer [] (suc n) (suc m) le = omega arith
+fewer (y ∷ ms) zero m le = omega arith
+fewer (y ∷ ms) (suc n) zero le = absurd (omega (arith, le))
+fewer (y ∷ ms) (suc n) (suc m) le =
+    let rest = fewer ms n m (omega (arith, le)) in
+    let a = length-append (world_in_part y.label.now y.part) (worlds_in (take n ms)) in
+    let b = length-append (world_in_part y.label.now y.part) (worlds_in (take m ms)) in
+    omega (arith, rest, a, b)
+
+-- a world counts behind itself
+counted : (ms : List Member) (m : ℕ) (y : Member) (w : Scope) → slice_get ms m ≡ Some y → y.part ≡ parts.World w → worlds_before ms (suc m) ≡ suc (worlds_before ms m)
+counted [] m y w e is = absurd (none_there m y e)
+counted (z ∷ ms) zero y w e is = one_more z.label.now z.part w (ap (λ (u : Member). u.part) (same-some z y e) ∙ is) []
+counted (z ∷ ms) (suc m) y w e is =
+    let rest = counted ms m y w e is in
+    let a = length-append (world_in_part z.label.now z.part) (worlds_in (take (suc m) ms)) in
+    let b = length-append (world_in_part z.label.now z.part) (worlds_in (take m ms)) in
+    omega (arith, rest, a, b)
+
+-- ---- where an import stands
+
+module _ (ms : List Member) (m : ℕ) (y : Member) (y_at : slice_get ms m ≡ Some y) (many imports : ℕ) where
+  -- the imports of the member, if it is a world, are so many; else none count
+  pub record Counts : Type 0 where
+    pub world : (w : Scope) → y.part ≡ parts.World w → imports ≡ many
+    pub none : (0 < imports) → (w : Scope) × (y.part ≡ parts.World w)
+
+  module _ (counts : Counts) (k j : ℕ) (v : Text × Scope) (o : IsWorldOf ms k v) where
+    not_less : k ≡ worlds_before ms m → o.number < m → ⊥
+    not_less same low =
+        let more = fewer ms (suc o.number) m (omega (arith, low)) in
+        let one = counted ms o.number o.member v.1 o.at o.is in
+        let count = o.count in
+        omega (arith, more, one, count, same)
+
+    pub before_there : (k < worlds_before ms m) ⊎ ((k ≡ worlds_before ms m) × (j < imports)) → StandsBefore m many o.number j
+    before_there (inl less) = elim (cases_lt o.number m) [
+      | inl low ↦ inl low
+      | inr past ↦ (let more = fewer ms m o.number past in let count = o.count in absurd (omega (arith, less, more, count)))
+    ]
+    before_there (inr (same, low)) = elim (cases_lt o.number m) [
+      | inl less ↦ absurd (not_less same less)
+      | inr past ↦ elim (cases_lt m o.number) [
+        | inl beyond ↦
+            let is = counts.none (omega (arith, low)) in
+            let more = fewer ms (suc m) o.number (omega (arith, beyond)) in
+            let one = counted ms m y is.0 y_at is.1 in
+            let count = o.count in
+            absurd (omega (arith, more, one, count, same))
+        | inr le ↦
+            let here : o.number ≡ m = omega (arith, past, le) in
+            let is = counts.none (omega (arith, low)) in
+            let all = counts.world is.0 is.1 in
+            inr (here, omega (arith, low, all))
+      ]
+    ]
+
+    pub behind_there : (worlds_before ms m < k) ⊎ ((k ≡ worlds_before ms m) × (imports ≤ j)) → StandsBehind m many o.number j
+    behind_there (inl more) = elim (cases_lt m o.number) [
+      | inl past ↦ inl past
+      | inr le ↦ (let few = fewer ms o.number m le in let count = o.count in absurd (omega (arith, few, count, more)))
+    ]
+    behind_there (inr (same, far)) = elim (cases_lt o.number m) [
+      | inl less ↦ absurd (not_less same less)
+      | inr past ↦ elim (cases_lt m o.number) [
+        | inl beyond ↦ inl beyond
+        | inr le ↦
+            let here : o.number ≡ m = omega (arith, past, le) in
+            let one : o.member ≡ y = same-some o.member y (sym o.at ∙ (ap (slice_get ms) here ∙ y_at)) in
+            let all = counts.world v.1 (ap (λ (z : Member). z.part) (sym one) ∙ o.is) in
+            inr (here, omega (arith, far, all))
+      ]
+    ]
+
+-- ---- the type of an import
+
+-- the number of a type that is imported, and the part that is kept for it
+pub record IsImported (t : Tables) (kept : List ℕ) (home : ℕ) (imports : List NumberedSeen) (j a : ℕ) : Type 0 where
+  pub seen : NumberedSeen
+  pub at : slice_get imports j ≡ Some seen
+  pub declared : Option ℕ
+  pub is : seen.shown ≡ declares declared
+  pub number : ℕ
+  pub row : slice_get t.shapes number ≡ Some (named_shape home seen.key)
+  pub kept_ : IsPart kept (14 + number) (14 + a)
+
+module _ (t : Tables) (kept : List ℕ) (places : List ℕ) (n : ℕ) (v : Text × Scope) (p : PlannedWorld) (plans : PlansWorld t kept places n v p) (names : AllByRecursion
+    (DeclaresName t v.1.home) v.1.imports.now) where
+  pub imported : (j a : ℕ) (e : PlannedKey × PlannedItem) → slice_get p.imports j ≡ Some e → e.1 ≡ plan.declares a → IsImported t kept v.1.home (numbered_scope v.1).imports j a
+  imported j a e at is =
+      let u = zip_at_right (PlansItem t kept places plans.find) v.1.imports.now p.imports plans.imports j e at in
+      by u.0 u.1 u.2
+    where
+      by : (s : Seen) → slice_get v.1.imports.now j ≡ Some s → PlansItem t kept places plans.find s e → IsImported t kept v.1.home (numbered_scope v.1).imports j a
+      by s s_at (an_instance key view shows made) =
+          let wrong : plan.interface made.number _ ≡ plan.declares a = sym (ap (λ (x : PlannedKey × PlannedItem). x.1) made.is) ∙ is in absurd cc
+      by s s_at (a_function k shows under made) = let wrong : plan.function made.function ≡ plan.declares a = sym made.is ∙ is in absurd cc
+      by s s_at (a_type part d k shows made keeps) =
+          let same : k ≡ a = same-some k a (ap plan.item_type (sym (ap (λ (x : PlannedKey × PlannedItem). x.1) made) ∙ is)) in
+          let name = named s.shown shows (all_at_too (DeclaresName t v.1.home) v.1.imports.now names j s s_at) in
+          record {
+            seen = numbered_seen s;
+            at = mapped_get numbered_seen v.1.imports.now j s s_at;
+            declared = d;
+            is = ap numbered_shown shows;
+            number = name.0;
+            row = name.2;
+            kept_ = subst (λ (q : ℕ). IsPart kept q (14 + a)) name.1 (subst (λ (q : ℕ). IsPart kept part (14 + q)) same keeps);
+          }
+        where
+          named : (x : Shown) → x ≡ shown.Declares part d → DeclaresName t v.1.home (record s { shown = x })
+              → (number : ℕ) × (part ≡ 14 + number) × (slice_get t.shapes number ≡ Some (named_shape v.1.home s.key.now))
+          named x same given = subst (λ (z : Shown). DeclaresName t v.1.home (record s { shown = z })) same given
+
+-- ---- What had been shown at a cut, in numbers and by the parts and declarations that were read.
+
+-- ---- beginnings of lists
+
+pub zip_take : {A B : Type 0} (R : A → B → Type 0) (m : ℕ) (xs : List A) (ys : List B) → AllZip R xs ys → AllZip R (take m xs) (take m ys)
+zip_take R zero [] [] all = tt
+zip_take R (suc m) [] [] all = tt
+zip_take R m [] (y ∷ ys) all = absurd all
+zip_take R m (x ∷ xs) [] all = absurd all
+zip_take R zero (x ∷ xs) (y ∷ ys) all = tt
+zip_take R (suc m) (x ∷ xs) (y ∷ ys) all = (all.0, zip_take R m xs ys all.1)
+
+pub mapped_zip : {A B C : Type 0} (g : ℕ → C) (f : A → List ℕ) (h : B → List C) (xs : List A) (ys : List B) → AllZip (λ x y. map g (f x) ≡ h y) xs ys → map g (flat_map f xs) ≡ flat_map h ys
+mapped_zip g f h [] [] all = refl
+mapped_zip g f h [] (y ∷ ys) all = absurd all
+mapped_zip g f h (x ∷ xs) [] all = absurd all
+mapped_zip g f h (x ∷ xs) (y ∷ ys) all = append_of_map g (f x) (flat_map f xs) ∙ (λ i. all.0 i ++ mapped_zip g f h xs ys all.1 i)
+
+-- two lists that lie beside a third lie beside each other
+pub chained : {A B C D : Type 0} (R : A → B → Type 0) (Q : D → C → Type 0) (g : B → D) (xs : List A) (ys : List B) (zs : List C) → AllZip R xs ys → AllZip Q (map g ys) zs
+    → AllZip (λ x z. Unit {0}) xs zs
+chained R Q g [] [] [] a b = tt
+chained R Q g [] [] (z ∷ zs) a b = absurd b
+chained R Q g [] (y ∷ ys) zs a b = absurd a
+chained R Q g (x ∷ xs) [] zs a b = absurd a
+chained R Q g (x ∷ xs) (y ∷ ys) [] a b = absurd b
+chained R Q g (x ∷ xs) (y ∷ ys) (z ∷ zs) a b = (tt, chained R Q g xs ys zs a.1 b.1)
+
+pub zip_of_map : {A B C : Type 0} (P : C → B → Type 0) (g : A → C) (xs : List A) (ys : List B) → AllZip (λ x y. P (g x) y) xs ys → AllZip P (map g xs) ys
+zip_of_map P g [] [] all = tt
+zip_of_map P g [] (y ∷ ys) all = absurd all
+zip_of_map P g (x ∷ xs) [] all = absurd all
+zip_of_map P g (x ∷ xs) (y ∷ ys) all = (all.0, zip_of_map P g xs ys all.1)
+
+-- ---- places
+
+module _ (t : Tables) (tables : AreTables t) where
+  -- as many interfaces as paths, where places without one stand once
+  pub many_places : (ps qs : List ℕ) → are_once (filter (has_no_path t) (ps ++ qs)) ≡ true → length (once ps) ≡ length (once_by_path (map (path_at t) ps))
+  many_places ps qs alone =
+      let front = once_first (filter (has_no_path t) ps) (filter (has_no_path t) qs) (ap are_once (sym (filter-append (has_no_path t) ps qs)) ∙ alone) in
+      sym (length_of_map (path_at t) (once ps)) ∙ ap (λ (os : List (Option Text)). length os) (paths_once t tables ps front)
+
+-- ---- worlds
+
+-- as many worlds as are exported
+pub many_worlds : (t : Tables) (h : Homes) (ms : List Member) (members : List reads.Member) → AllZip (IsMember t h) (numbered_members ms) members → (m : ℕ)
+    → worlds_before ms m ≡ length (flat_map worlds_of (take m members))
+many_worlds t h ms members zip m =
+    let shorter = subst (λ ks. AllZip (IsMember t h) ks (take m members)) (take-map numbered_member m ms) (zip_take (IsMember t h) m (numbered_members ms) members zip) in
+    sym (length_of_map (λ (w : Text × Scope). w.0) (worlds_in (take m ms)))
+    ∙ (ap (λ (ts : List Text). length ts) (worlds_meant t h (take m ms) (take m members) shorter) ∙ length_of_map (λ (w : Text × WorldMeaning). w.0) (flat_map worlds_of (take m members)))
+
+-- the imports that count are those of a world
+pub counts_of : (t : Tables) (h : Homes) (ms : List Member) (m : ℕ) (k : Member) (at : slice_get ms m ≡ Some k) (y : reads.Member) → IsMember t h (numbered_member k) y → (scope : follow.Scope)
+    → (many : ℕ) → length scope.imports ≡ many → Counts ms m k at many (imports_in y.part scope)
+counts_of t h ms m k at y is scope many same = record {
+  world = λ w e. world w y.part (subst
+      (λ (a : Part). ShowsPart t h (numbered_member k) (numbered_part a) y.part) e is.part);
+  none = λ low. none k.part y.part is.part low;
+}
+  where
+    world : (w : Scope) (b : reads.Part) → ShowsPart t h (numbered_member k) (numbered_part (parts.World w)) b → imports_in b scope ≡ many
+    world w (reads.Part.world whole) shows = same
+    world w (reads.Part.interface view views) shows = absurd shows
+
+    none : (a : Part) (b : reads.Part) → ShowsPart t h (numbered_member k) (numbered_part a) b → 0 < imports_in b scope → (w : Scope) × (a ≡ parts.World w)
+    none (parts.World w) b shows low = (w, refl)
+    none (parts.Interface p v imports) (reads.Part.world whole) shows low = absurd shows
+    none (parts.Interface p v imports) (reads.Part.interface view views) shows low = absurd (omega (arith, low))
+
+-- ---- what the page is for
 
 module _ (pieces : List Piece) (x : Followed) (h : Homes) (ms : List Member) (members : List reads.Member) (input : IsReadInput pieces x h ms members) (known : ℕ
     → Fact) (obey : ViewsObey (tables_of x) known ms)

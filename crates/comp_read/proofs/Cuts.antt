@@ -1,29 +1,38 @@
--- What was in the table behind some first entries of a part comes before what was not.
-use Rattle.std.proofs.Common.{◌≡◌, refl, sym, ap, subst, ◌∙◌, ℕ, ◌+◌, ◌<◌, ◌≤◌, inl, inr, arith, true, List, [], ◌∷◌, ◌++◌, length, length-append, map, Option, Some, None, slice_get}
-use Rattle.std.proofs.lemmas.{Bool.cases_lt, Option.slice_get_within as found_below}
-use Rattle.std.specs.{Borrow.Bor, List.Contains}
-use Rattle.wit_model.specs.Text.{Text}
-use Rattle.wit_model.proofs.Elements.{contains-get}
+-- The places of a beginning among all places, each where it stands first.
+use Rattle.std.proofs.Common.{◌≡◌, refl, sym, ap, subst, ◌∙◌, ℕ, ◌+◌, ◌<◌, ◌≤◌, inl, inr, arith, true, List, [], ◌∷◌, ◌++◌, length, length-append, map, Option, Some, None, slice_get, take, unwrap_or, zero, suc, ◌==◌, append_assoc, drop}
+use Rattle.std.proofs.lemmas.{Bool.cases_lt, Bool.eqb-true, Option.slice_get_within as found_below, Option.same_Some as same-some, List.take-append-drop}
+use Rattle.std.proofs.Math.{ListN.length-map, Seq.take-append_seam}
+use Rattle.std.proofs.lemmas.List.Elements.{Contains-append_cases, Contains-append_left, Contains-append_right}
+use Rattle.std.specs.{Borrow.Bor, List.Contains, List.flat_map}
+use Rattle.wit_model.specs.{Text.Text, Tree.Place, Uses.has, Uses.once}
+use Rattle.wit_model.proofs.{Elements.contains-get, Elements.contains-flat, Elements.contains-has, Elements.has-contains, Chains.has_once}
 use Rattle.comp_bytes.specs.Levels.{Entry, PartType, Piece}
-use Rattle.comp_meaning.specs.Rules.{distinct}
+use Rattle.comp_meaning.specs.{Rules.distinct, ByLevels.entry_step, Follow.new_scope, Reads.steps}
 use Rattle.comp_meaning.proofs.RulesLemmas.{not_twice}
 use Rattle.plan_meaning.specs.NumberedViews.{NumberedType, Tables, path_at}
 use Rattle.plan_meaning.specs.{NumberedWorlds.NumberedInstance, NumberedWorlds.NumberedScope, NumberedWorlds.NumberedSeen, Shapes.Shape, Shapes.named_shape}
 use Rattle.read_follow.specs.declared.{scopes.Instance.Instance, scopes.Seen.Seen, scopes.Shown.Shown, slots.Slot.Slot, views.ShownType.ShownType}
 use Rattle.read_follow.specs.{Following.IsShownIn, Following.IsSlotIn, Following.IsTypeSlot, Functions.FunctionShape, Placed.IsTypeNamed}
-use Rattle.read_follow.specs.Scopes.{IsImportNamed, IsInstanceIn, IsShownAs, IsShownBy, IsStage, World, by_import, by_instance, world_of}
-use Rattle.read_follow.proofs.{DefiningLaws.all_at, DefiningLaws.longer, PlacedLaws.stands_on, PlacedLaws.stood}
+use Rattle.read_follow.specs.Scopes.{IsImportNamed, IsInstanceIn, IsShownAs, IsShownBy, IsStage, World, by_import, by_instance, world_of, instance_in, meant_at, seen_in, world_signatures, world_trees}
+use Rattle.read_follow.proofs.{DefiningLaws.all_at, DefiningLaws.longer, ComponentLaws.place_in, ComponentLaws.places_are, ComponentLaws.places_before}
+use Rattle.read_follow.proofs.PlacedLaws.{stands_on, stood}
 use Rattle.read_parts.specs.declared.{following.Followed.Followed, members.Member.Member}
 use Rattle.read_parts.specs.{Input.IsFollowed, Members.entries_of, Members.scope_of, Members.IsStagedMember}
 use Rattle.read_numbers.specs.NumberedInput.{tables_of}
 use Rattle.read_numbers.specs.NumberedParts.{instance_view, numbered_instance, numbered_scope, numbered_seen, numbered_shown, numbered_slot, numbered_type}
 use Rattle.read_numbers.specs.PlacedNumbers.{part_of, ArePlacedScopes, IsFirstSeen, IsInstanceAt, scopes_in}
-use Rattle.read_numbers.proofs.PlacedViews.{slot_number}
+use Rattle.read_numbers.proofs.{PlacedViews.slot_number, ScopeNumbers.path_back}
 use Rattle.comp_read.specs.Cuts.{IsCut, StandsBefore, StandsBehind}
-use Rattle.base_lemmas.proofs.{Elements.map_from, Lists.get_back, Lists.heads_equal, Lists.mapped_get, Lists.one_item, Lists.tails_equal}
+use Rattle.base_lemmas.proofs.{Elements.map_from, Elements.get-contains, Numbers.same-number}
+use Rattle.base_lemmas.proofs.Lists.{get_back, heads_equal, mapped_get, one_item, tails_equal, append_of_map, map_of_map, front_at, none_there, slice_front, slice_take}
+use Rattle.plan_laws.proofs.{FirstPlaces.joined_more, Inside.flat_cases, PlaceNumbers.IsOnce, PlaceNumbers.all_once, PlaceNumbers.none_twice}
+use Rattle.comp_read.proofs.{Lists.first_passing, WorldOrder.joined_behind}
 use Rattle.plan_meaning.specs.NumberedWorlds as worlds
 use Rattle.read_follow.specs.declared.scopes.Shown.TheVariants as shown
 use Rattle.read_follow.specs.declared.slots.Slot.TheVariants as slots
+use Rattle.comp_meaning.specs.Follow as follow
+
+-- ---- What was in the table behind some first entries of a part comes before what was not.
 
 -- two beginnings of one length are the same
 one_front : {A : Type 0} (xs ys us vs : List A) → xs ++ ys ≡ us ++ vs → length xs ≡ length us → xs ≡ us
@@ -292,3 +301,193 @@ module _ (pieces : List Piece) (x : Followed) (followed : IsFollowed pieces x) (
 
     pub is_cut : IsCut t ws m (length then.instances) (length then.imports) many
     is_cut = record { views_before = views_before; views_behind = views_behind; types_before = types_before; types_behind = types_behind }
+
+-- ---- A cut behind some first entries of a part, and the scope that these show.
+
+-- the places of the instances of a scope, in order
+abbrev pub places_of_scope : NumberedScope → List ℕ
+places_of_scope w = map (λ (i : NumberedInstance). i.place) w.instances
+
+-- The cut is one where this scope is what the entries in front show.
+pub record IsCutOf (t : Tables) (ws : List NumberedScope) (m : ℕ) (w : NumberedScope) (scope : follow.Scope) : Type 0 where
+  pub instances : ℕ
+  pub imports : ℕ
+  pub many : ℕ
+  pub cut : IsCut t ws m instances imports many
+  pub imports_are : length scope.imports ≡ imports
+  pub paths_are : map (λ i. i.interface) scope.instances ≡ map (path_at t) (take instances (places_of_scope w))
+
+module _ (pieces : List Piece) (x : Followed) (followed : IsFollowed pieces x) (placed : ArePlacedScopes (tables_of x) (scopes_in x))
+    (m : ℕ) (raw : Text × PartType) (at : slice_get followed.parts m ≡ Some raw) (member : Member) (there : slice_get x.members.items m ≡ Some member) (front back : List Entry)
+    (split : entries_of raw.1 ≡ front ++ back) where
+  abbrev was : World
+  was = then pieces x followed placed m raw at member there front back split
+
+  abbrev place : ℕ → Place
+  place = place_in x.places
+
+  abbrev items : List Instance
+  items = (scope_of member.part).instances.items
+
+  meant : steps entry_step new_scope front ≡ Some (meant_at place was)
+  meant =
+      let s = stage pieces x followed placed m raw at member there front back split in
+      ap (steps entry_step new_scope) (sym (same_front pieces x followed placed m raw at member there front back split))
+      ∙ s.follows place (places_before was.paths x.places s.paths_grow place (places_are x.places))
+
+  -- the places of its instances
+  taken_places : take (length was.instances) (places_of_scope (numbered_scope x.places (scope_of member.part))) ≡ map (λ (i : Instance). i.place) was.instances
+  taken_places =
+      let grows = (stage pieces x followed placed m raw at member there front back split).instances_grow in
+      let f : Instance → ℕ = λ i. i.place in
+      ap (take (length was.instances)) (map_of_map (λ (i : NumberedInstance). i.place) numbered_instance items ∙ (ap (map f) grows.is ∙ append_of_map f was.instances grows.more))
+      ∙ (ap (λ (n : ℕ). take n (map f was.instances ++ map f grows.more)) (sym (length-map was.instances f)) ∙ take-append_seam (map f was.instances) (map f grows.more))
+
+  paths_meant : map (λ (i : follow.Instance). i.interface) (meant_at place was).instances ≡ map (path_at (tables_of x)) (map (λ (i : Instance). i.place) was.instances)
+  paths_meant =
+      map_of_map (λ (i : follow.Instance). i.interface) (instance_in place (world_trees place was) (world_signatures place was)) was.instances
+      ∙ ((λ j. map (λ (i : Instance). path_back (unwrap_or (slice_get x.places i.place) None) j) was.instances)
+      ∙ sym (map_of_map (path_at (tables_of x)) (λ (i : Instance). i.place) was.instances))
+
+  pub cut_of : (scope : follow.Scope) → steps entry_step new_scope front ≡ Some scope → IsCutOf (tables_of x) (scopes_in x) m (numbered_scope x.places (scope_of member.part)) scope
+  cut_of scope read =
+      let same : meant_at place was ≡ scope = same-some (meant_at place was) scope (sym meant ∙ read) in
+      record {
+        instances = length was.instances;
+        imports = length was.imports;
+        many = length was.shapes;
+        cut = is_cut pieces x followed placed m raw at member there front back split;
+        imports_are =
+            ap (λ (s : follow.Scope). length s.imports) (sym same)
+            ∙ length-map was.imports (seen_in place (world_trees place was) (world_signatures place was) was.instances);
+        paths_are =
+            ap (λ (s : follow.Scope). map (λ (i : follow.Instance). i.interface) s.instances) (sym same)
+            ∙ (paths_meant ∙ ap (map (path_at (tables_of x))) (sym taken_places));
+      }
+
+-- ---- what the page is for
+
+-- ---- each number once
+
+once_different : (xs : List ℕ) → IsOnce (once xs)
+once_different xs = subst IsOnce (joined_behind [] xs) (all_once [] xs none_twice)
+
+module _ (ps qs : List ℕ) where
+  behind : (more : List ℕ) × (once (ps ++ qs) ≡ once ps ++ more)
+  behind = let m = joined_more (once ps) qs in (m.0, sym (joined_behind ps qs) ∙ m.1)
+
+  -- those of the beginning have the first numbers
+  pub early : (k q : ℕ) → slice_get (once (ps ++ qs)) k ≡ Some q → k < length (once ps) → Contains ps q
+  early k q e low = has-contains ps q (sym (has_once q ps)
+      ∙ contains-has (once ps) q (get-contains (once ps) k q (sym (slice_front (once ps) behind.0 k low) ∙ (ap (λ (zs : List ℕ). slice_get zs k) (sym behind.1) ∙ e))))
+
+  pub late : (k q : ℕ) → slice_get (once (ps ++ qs)) k ≡ Some q → length (once ps) ≤ k → Contains ps q → ⊥
+  late k q e past c =
+      let at = contains-get (once ps) q (has-contains (once ps) q (has_once q ps ∙ contains-has ps q c)) in
+      let low = found_below (once ps) at.0 q at.1 in
+      let there : slice_get (once (ps ++ qs)) at.0 ≡ Some q = ap (λ (zs : List ℕ). slice_get zs at.0) behind.1 ∙ front_at (once ps) behind.0 at.0 q at.1 in
+      let same = once_different (ps ++ qs) at.0 k q there e in
+      omega (arith, low, past, same)
+
+-- ---- beginnings
+
+-- what stands in a beginning has a number among its own
+front_low : {A : Type 0} (xs : List A) (m n : ℕ) (x : A) → slice_get (take m xs) n ≡ Some x → n < m
+front_low [] zero n x e = absurd (none_there n x e)
+front_low [] (suc m) n x e = absurd (none_there n x e)
+front_low (y ∷ xs) zero n x e = absurd (none_there n x e)
+front_low (y ∷ xs) (suc m) zero x e = omega arith
+front_low (y ∷ xs) (suc m) (suc n) x e = let low = front_low xs m n x e in omega (arith, low)
+
+module _ {A : Type 0} (f : A → List ℕ) where
+  pub split_flat : (ws : List A) (m : ℕ) (w : A) → slice_get ws m ≡ Some w → (i : ℕ) → (rest : List ℕ) × (flat_map f ws ≡ (flat_map f (take m ws) ++ take i (f w)) ++ rest)
+  split_flat [] m w e i = absurd (none_there m w e)
+  split_flat (v ∷ ws) zero w e i =
+      let same : v ≡ w = same-some v w e in (
+        drop i (f w) ++ flat_map f ws,
+        ap (λ (zs : List ℕ). zs ++ flat_map f ws) (ap f same ∙ sym (take-append-drop i (f w))) ∙ append_assoc (take i (f w)) (drop i (f w)) (flat_map f ws),
+      )
+  split_flat (v ∷ ws) (suc m) w e i =
+      let more = split_flat ws m w e i in
+      let front = flat_map f (take m ws) in (
+        more.0,
+        ap (λ (zs : List ℕ). f v ++ zs) more.1
+            ∙ (sym (append_assoc (f v) (front ++ take i (f w)) more.0) ∙ ap (λ (zs : List ℕ). zs ++ more.0) (sym (append_assoc (f v) front (take i (f w))))),
+      )
+
+  module _ (ws : List A) where
+    -- a number of the beginning stands in one of the items
+    pub record IsOfFront (m i q : ℕ) : Type 0 where
+      pub number : ℕ
+      pub inner : ℕ
+      pub one : A
+      pub at : slice_get ws number ≡ Some one
+      pub there : slice_get (f one) inner ≡ Some q
+      pub before : StandsBefore m i number inner
+
+    pub of_front : (m : ℕ) (w : A) → slice_get ws m ≡ Some w → (i q : ℕ) → Contains (flat_map f (take m ws) ++ take i (f w)) q → IsOfFront m i q
+    of_front m w e i q c = elim (Contains-append_cases (flat_map f (take m ws)) (take i (f w)) q c) [
+      | inl d ↦
+          let u = flat_cases f (take m ws) q d in
+          let u_at = contains-get (take m ws) u.0 u.1 in
+          let low = front_low ws m u_at.0 u.0 u_at.1 in
+          let q_at = contains-get (f u.0) q u.2 in
+          record { number = u_at.0; inner = q_at.0; one = u.0; at = sym (slice_take ws m u_at.0 low) ∙ u_at.1; there = q_at.1; before = inl low }
+      | inr d ↦
+          let q_at = contains-get (take i (f w)) q d in
+          let low = front_low (f w) i q_at.0 q q_at.1 in
+          record { number = m; inner = q_at.0; one = w; at = e; there = sym (slice_take (f w) i q_at.0 low) ∙ q_at.1; before = inr (refl, low) }
+    ]
+
+    pub in_front : (m : ℕ) (w : A) → slice_get ws m ≡ Some w → (i n j : ℕ) (u : A) (q : ℕ) → slice_get ws n ≡ Some u → slice_get (f u) j ≡ Some q → StandsBefore m i n j
+        → Contains (flat_map f (take m ws) ++ take i (f w)) q
+    in_front m w e i n j u q at there (inl low) =
+        Contains-append_left (flat_map f (take m ws)) (take i (f w)) q
+        (contains-flat f (take m ws) u q (get-contains (take m ws) n u (slice_take ws m n low ∙ at)) (get-contains (f u) j q there))
+    in_front m w e i n j u q at there (inr (same, low)) =
+        let one : u ≡ w = one_item ws m u w (subst (λ (k : ℕ). slice_get ws k ≡ Some u) same at) e in
+        Contains-append_right (flat_map f (take m ws)) (take i (f w)) q
+        (get-contains (take i (f w)) j q (slice_take (f w) i j low ∙ subst (λ (v : A). slice_get (f v) j ≡ Some q) one there))
+
+    -- where a number stands first
+    pub record IsFirstAt (q : ℕ) : Type 0 where
+      pub number : ℕ
+      pub inner : ℕ
+      pub one : A
+      pub at : slice_get ws number ≡ Some one
+      pub there : slice_get (f one) inner ≡ Some q
+      pub items : (k : ℕ) (v : A) → k < number → slice_get ws k ≡ Some v → Contains (f v) q → ⊥
+      pub numbers : (l : ℕ) → l < inner → slice_get (f one) l ≡ Some q → ⊥
+
+    pub first_of : (q : ℕ) → Contains (flat_map f ws) q → IsFirstAt q
+    first_of q c =
+        let u = flat_cases f ws q c in
+        let u_at = contains-get ws u.0 u.1 in
+        let item = first_passing (λ (v : A). has (f v) q) ws u_at.0 u.0 u_at.1 (contains-has (f u.0) q u.2) in
+        let q_at = contains-get (f item.one) q (has-contains (f item.one) q item.passes) in
+        let inner = first_passing (λ (p : ℕ). p == q) (f item.one) q_at.0 q q_at.1 (same-number q) in
+        record {
+          number = item.number;
+          inner = inner.number;
+          one = item.one;
+          at = item.at;
+          there = inner.at ∙ ap Some (eqb-true inner.one q inner.passes);
+          items = λ k v low v_at d. item.before k v low v_at (contains-has (f v) q d);
+          numbers = λ l low l_at. inner.before l q low l_at (same-number q);
+        }
+
+    -- what isn't before stands behind
+    pub behind_front : (m : ℕ) (w : A) → slice_get ws m ≡ Some w → (i q : ℕ) → (Contains (flat_map f (take m ws) ++ take i (f w)) q → ⊥) → (n j : ℕ) (u : A) → slice_get ws n ≡ Some u
+        → slice_get (f u) j ≡ Some q → StandsBehind m i n j
+    behind_front m w e i q none n j u at there = elim (cases_lt n m) [
+      | inl low ↦ absurd (none (in_front m w e i n j u q at there (inl low)))
+      | inr past ↦ elim (cases_lt m n) [
+        | inl more ↦ inl more
+        | inr le ↦
+            let same : n ≡ m = omega (arith, past, le) in
+            elim (cases_lt j i) [
+              | inl low ↦ absurd (none (in_front m w e i n j u q at there (inr (same, low))))
+              | inr far ↦ inr (same, far)
+            ]
+      ]
+    ]

@@ -7,9 +7,8 @@ use Rattle.wit_model.specs.{Lookup.world_at as model_world, Text.Text, Uses.once
 use Rattle.comp_bytes.specs.Levels.{Entry, PartType, Piece}
 use Rattle.comp_bytes.proofs.Readers.{bind_some}
 use Rattle.comp_meaning.specs.{ByLevels.entry_step, Follow.each, Follow.new_scope, Reads.steps, Rules.distinct}
-use Rattle.plan_meaning.specs.{Built.IsBuilt, Built.planned_interface, Built.planned_item, Built.planned_key, Built.planned_world, NumberedRules.Fact}
+use Rattle.plan_meaning.specs.{Built.IsBuilt, Built.planned_interface, Built.planned_item, Built.planned_key, Built.planned_world, NumberedRules.Fact, NumberedViews.NumberedSight, NumberedViews.Tables, NumberedViews.first_at, NumberedViews.path_at, Plan.Plan}
 use Rattle.plan_meaning.specs.NumberedMembers.{Homes, IsMember, NumberedMember}
-use Rattle.plan_meaning.specs.{NumberedViews.NumberedSight, NumberedViews.Tables, NumberedViews.first_at, NumberedViews.path_at, Plan.Plan}
 use Rattle.plan_meaning.specs.NumberedWorlds.{NumberedScope, NumberedSeen, are_once}
 use Rattle.plan_meaning.proofs.TypeOrder.{type_numbers_are}
 use Rattle.plan_parts.specs.Kept.{AreMarked}
@@ -28,11 +27,8 @@ use Rattle.read_rules.specs.Scopes.{numbered_scope}
 use Rattle.read_rules.specs.declared.scopes.Scope.{Scope}
 use Rattle.comp_read.specs.Order.{HowMuch, IsNamedBefore, IsNamedBehind, once_by_path, shown_under, shown_until}
 use Rattle.comp_read.specs.ReadInput.{IsReadInput, ViewsObey}
-use Rattle.comp_read.proofs.{ByScopes.scopes_found, CutScopes.IsCutOf, CutScopes.cut_of, Members.both_at, Members.placed, Members.tables, Members.world_read}
-use Rattle.comp_read.proofs.{CutOrder.IsHigh, CutOrder.IsLow, CutOrder.interface_high, CutOrder.interface_low, PlanOrder.built_at, PlanOrder.world_built_at}
-use Rattle.comp_read.proofs.{CutPlaces.split_flat, Inputs.keys_differ, InterfaceViews.each_beside, Places.world_at, TypeNumbers.kept_less}
-use Rattle.comp_read.proofs.CutShown.{chained, counts_of, many_places, many_worlds, mapped_zip, zip_of_map, zip_take}
-use Rattle.comp_read.proofs.CutWorlds.{Counts, IsImported, IsWorldOf, before_there, behind_there, imported, world_of, worlds_before}
+use Rattle.comp_read.proofs.{ByScopes.scopes_found, Cuts.IsCutOf, Cuts.cut_of, Members.both_at, Members.placed, Members.tables, Members.world_read, CutOrder.IsHigh, CutOrder.IsLow, CutOrder.interface_high, CutOrder.interface_low, PlanOrder.built_at, PlanOrder.world_built_at, Cuts.split_flat, Inputs.keys_differ, InterfaceViews.each_beside, Places.world_at, TypeNumbers.kept_less}
+use Rattle.comp_read.proofs.CutOrder.{chained, counts_of, many_places, many_worlds, mapped_zip, zip_of_map, zip_take, Counts, IsImported, IsWorldOf, before_there, behind_there, imported, world_of, worlds_before}
 use Rattle.comp_read.proofs.ShownScopes.{one_paths, one_stands, part_named, scope_in, scope_places}
 use Rattle.base_lemmas.proofs.{Elements.all_at_too, Elements.get-contains, Elements.zip_at, Elements.zip_at_right, Elements.zip_each, Options.some_is}
 use Rattle.base_lemmas.proofs.Lists.{append_of_map, get_back, mapped_get, one_item}

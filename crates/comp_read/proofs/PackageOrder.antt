@@ -9,9 +9,8 @@ use Rattle.wit_model.proofs.{Chains.has_once, Elements.contains-flat, Elements.c
 use Rattle.comp_bytes.specs.Levels.{Piece}
 use Rattle.comp_meaning.specs.Same.{same_identity}
 use Rattle.comp_meaning.proofs.SameLaws.{identities_decide}
-use Rattle.plan_meaning.specs.{Built.IsBuilt, Built.planned_package, NumberedWorlds.HasPath, NumberedWorlds.NumberedInstance, NumberedWorlds.NumberedScope}
+use Rattle.plan_meaning.specs.{Built.IsBuilt, Built.planned_package, NumberedWorlds.HasPath, NumberedWorlds.NumberedInstance, NumberedWorlds.NumberedScope, NumberedViews.Tables, NumberedViews.path_at, Plan.Plan, Plan.PlannedPackage}
 use Rattle.plan_meaning.specs.NumberedMembers.{Homes, IsMember, NumberedMember, home_at}
-use Rattle.plan_meaning.specs.{NumberedViews.Tables, NumberedViews.path_at, Plan.Plan, Plan.PlannedPackage}
 use Rattle.plan_package.specs.PlanWhole.{PlansWhole, places_in}
 use Rattle.plan_package.specs.{WholeInterfaces.Home, WholePackages.PlansPackage, WholePackages.another, WholePackages.entries_from, WholePackages.the_main}
 use Rattle.plan_laws.specs.WholePlan.{IsOfMember}

@@ -1,48 +1,166 @@
 -- What is decoded stands in the order in which the bytes show it.
-use Rattle.std.proofs.Common.{◌≡◌, refl, sym, ap, subst, ◌∙◌, ℕ, ◌+◌, ◌<◌, true, List, [], ◌∷◌, ◌++◌, append-nil, length, map, IfOk, Option, Some, None, Result, Ok, Err, slice_get}
-use Rattle.std.specs.List.{AllZip, Contains, filter, flat_map}
+use Rattle.std.proofs.Common.{◌≡◌, refl, sym, ap, subst, ◌∙◌, ℕ, arith, Bool, true, false, cond, List, [], ◌∷◌, ◌++◌, map, Option, Some, None, is_none, slice_get, ◌+◌, ◌<◌, append-nil, length, IfOk, Result, Ok, Err}
+use Rattle.std.proofs.lemmas.List.Elements.{filter-append}
+use Rattle.std.specs.List.{AllByRecursion, Contains, filter, flat_map, AllZip}
+use Rattle.wit_model.specs.{Text.Text, Meaning.PackageMeaning, Meaning.WorldPackage}
+use Rattle.wit_model.proofs.Elements.{contains-get, none-in}
+use Rattle.comp_bytes.specs.{Levels.Piece, Levels.PartType, Levels.levels_of, Reading.◌>>=◌, Reading.component_of}
+use Rattle.plan_meaning.specs.{FollowedNumbers.IsPartIn, FollowedNumbers.IsViewIn, KeptTypes.TypesAreKept, Plan.Plan, Plan.PlannedInterface, Plan.numbers_of}
+use Rattle.plan_meaning.specs.NumberedViews.{NumberedView, Tables, path_at, NumberedSight, first_at, place_at}
+use Rattle.plan_meaning.specs.NumberedMembers.{Homes, NumberedMember, NumberedPart, interface, world, HomesStand, IsMember, are_package, home_at}
+use Rattle.plan_meaning.specs.{NumberedWorlds.HasPath, NumberedWorlds.NumberedInstance, NumberedWorlds.NumberedScope, NumberedWorlds.are_once, Built.IsBuilt}
+use Rattle.plan_meaning.specs.{PlanRules.are_rising, PlanRules.IsPlan, Shapes.shape_trees, Shapes.IsTable}
+use Rattle.plan_type_laws.specs.ShownMarks.{has_no_path}
+use Rattle.plan_types.specs.Orders.{places_of_part, joined_all}
+use Rattle.plan_laws.proofs.{OwnPlaces.AreDifferent, OwnPlaces.no_path, OneWorld.one_world}
+use Rattle.plan_laws.proofs.{Planned.first_there, WholeTypes.one_package, WholeTypes.packages_are_ruled, WholeTypes.planned_types_are_whole}
+use Rattle.read_exports.specs.Members.{numbered_members, numbered_part}
+use Rattle.read_exports.specs.declared.members.{Member.Member, Part.Part}
+use Rattle.read_rules.specs.Scopes.{numbered_scope}
+use Rattle.read_parts.specs.declared.{following.Followed.Followed, members.Member.Member as FollowedMember}
+use Rattle.read_numbers.specs.{NumberedInput.tables_of, FactLaws.known_by}
+use Rattle.read_numbers.specs.PlacedNumbers.{IsInstanceAt, scopes_in as numbered_scopes, scopes_in, IsMetFrom}
+use Rattle.comp_read.specs.{ReadInput.IsReadInput, ReadInput.AreHomesOf, ReadInput.ViewsObey, Planned.IsBuiltOf, Planned.PlansMean, Planned.WorldPlansMean}
+use Rattle.comp_read.specs.{MembersRead.AreReadOf, OwnMembers.StandAsShown, TypeOrder.NumbersFollow}
+use Rattle.comp_read.specs.{Order.FollowsBytes, Order.FollowsLevels, Order.NamesFollow, ReadWorlds.AreBeside, ReadWorlds.IsReadWorld, WorldsRead.IsWorldReadOf}
+use Rattle.comp_read.proofs.Lists.{IsOfOne, before_of, filter_flat, of_one, once_different, once_given}
+use Rattle.comp_read.proofs.{Members.IsBoth, Members.numbered_at, Members.placed, Members.tables, WorldReadLaws.is_world, WorldReadLaws.read_world_is_whole}
+use Rattle.comp_read.proofs.{Places.no_place, Places.places_differ, Places.world_at, NumberedOrder.met_apart, NumberedOrder.numbers_follow}
+use Rattle.comp_read.proofs.{PlanOrder.StandAlone, PlanOrder.package_follows, PlanOrder.types_built, PlanOrder.world_follows, PackageOrder.packages_are}
+use Rattle.comp_read.proofs.{ByScopes.members_by_scopes, TypeNumbers.all_rise, TypeNumbers.places_alike, TypeNumbers.world_places, TypeNumbers.world_views}
+use Rattle.comp_read.proofs.{WorldOrder.places_are, ShownScopes.scope_places, ReadPackages.read_members_are_input, ReadPackages.read_packages_have_sources}
+use Rattle.comp_read.proofs.{NamedOrder.named_less, Whole.package_views_obey, Whole.read_is_package_input, WorldInput.views_obey}
+use Rattle.base_lemmas.proofs.Elements.{all_at, filter_kept as filter_from, get-contains, map_from as from_map, contains-map, last_of, zip_long}
+use Rattle.base_lemmas.proofs.Lists.{one_item}
 use Rattle.wit_model.specs.declared.model.Resolve.{Resolve}
-use Rattle.wit_model.specs.{Meaning.PackageMeaning, Meaning.WorldPackage, Text.Text}
-use Rattle.comp_bytes.specs.{Levels.PartType, Levels.Piece, Levels.levels_of, Reading.◌>>=◌, Reading.component_of}
 use Rattle.comp_bytes.proofs.{Readers.bind_some, ComponentLaws.component_takes}
 use Rattle.comp_meaning.specs.{ByLevels.exported_parts, ByLevels.member_by_levels, Follow.each, Reads.exported_types}
 use Rattle.comp_meaning.proofs.Levelled.{levelled}
-use Rattle.plan_meaning.specs.{Built.IsBuilt, KeptTypes.TypesAreKept}
-use Rattle.plan_meaning.specs.NumberedMembers.{Homes, HomesStand, IsMember, are_package, home_at}
-use Rattle.plan_meaning.specs.{NumberedViews.NumberedSight, NumberedViews.Tables, NumberedViews.first_at, NumberedViews.place_at, NumberedWorlds.are_once}
-use Rattle.plan_meaning.specs.{Plan.Plan, Plan.PlannedInterface, Plan.numbers_of, PlanRules.are_rising, PlanRules.IsPlan, Shapes.shape_trees, Shapes.IsTable}
 use Rattle.plan_build.proofs.BuildableLaws.{plans_are_buildable}
-use Rattle.plan_types.specs.Orders.{joined_all}
 use Rattle.plan_package.specs.{PlanWhole.PlansWhole, PlanWhole.places_in, WholeWorlds.PlansWorld, WholeWorlds.world_in_part, WholeWorlds.worlds_in}
 use Rattle.plan_package.specs.Views.{views_of_members}
-use Rattle.plan_type_laws.specs.ShownMarks.{has_no_path}
 use Rattle.plan_laws.specs.{OneWorld.AreOwnInterfaces, ShownNames.PartDeclaresNames, Whole.IsPackageInput}
-use Rattle.plan_laws.proofs.OneWorld.{one_world}
-use Rattle.plan_laws.proofs.{Planned.first_there, WholePlacesTop.one_package, WholeTypes.packages_are_ruled, WholeTypes.planned_types_are_whole}
-use Rattle.base_lemmas.proofs.{Elements.all_at, Elements.contains-map, Elements.last_of, Elements.zip_long, Lists.one_item}
 use Rattle.read_follow.specs.declared.scopes.{Instance.Instance, Scope.Scope as FollowedScope}
 use Rattle.read_follow.specs.{Numbering.bare_parts, Numbering.scoped_trees, Scopes.world_of, Scopes.IsPartOver, Scopes.IsScopedIn, Scopes.World}
 use Rattle.read_follow.proofs.{ComponentLaws.places_are as places_stand, NumberingLaws.count_below}
-use Rattle.read_exports.specs.Members.{numbered_members, numbered_part}
-use Rattle.read_exports.specs.declared.members.{Member.Member, Part.Part}
 use Rattle.read_members.specs.ReadMembers.{AreRead, lent_member}
-use Rattle.read_numbers.specs.{FactLaws.known_by, NumberedInput.tables_of, PlacedNumbers.scopes_in, PlacedNumbers.IsMetFrom}
 use Rattle.read_numbers.proofs.MetNumbers.{met_from}
-use Rattle.read_parts.specs.declared.{following.Followed.Followed, members.Member.Member as FollowedMember}
 use Rattle.read_parts.specs.{Input.IsFollowed, Members.declared_trees, Members.scope_of, Members.DeclaringScope, Members.IsScopedBy}
-use Rattle.read_rules.specs.Scopes.{numbered_scope}
 use Rattle.read_rules.specs.declared.{scopes.Scope.Scope, tables.Fact.Fact as KeptFact}
-use Rattle.comp_read.specs.{MembersRead.AreReadOf, OwnMembers.StandAsShown, TypeOrder.NumbersFollow}
-use Rattle.comp_read.specs.{Order.FollowsBytes, Order.FollowsLevels, Order.NamesFollow, ReadWorlds.AreBeside, ReadWorlds.IsReadWorld, WorldsRead.IsWorldReadOf}
-use Rattle.comp_read.specs.{Planned.IsBuiltOf, Planned.PlansMean, Planned.WorldPlansMean, ReadInput.AreHomesOf, ReadInput.IsReadInput, ReadInput.ViewsObey}
-use Rattle.comp_read.proofs.{ByScopes.members_by_scopes, PlanOrder.StandAlone, PlanOrder.package_follows, PlanOrder.types_built, PlanOrder.world_follows}
-use Rattle.comp_read.proofs.{Members.tables, WorldOrder.places_are}
-use Rattle.comp_read.proofs.{MetPlaces.HavePaths, MetPlaces.all_have, MetPlaces.stand_alone, NumberedOrder.met_apart, NumberedOrder.numbers_follow}
-use Rattle.comp_read.proofs.{NamedOrder.named_less, Whole.package_views_obey, Whole.read_is_package_input, WorldInput.views_obey, WorldReadLaws.is_world}
-use Rattle.comp_read.proofs.{ShownScopes.scope_places, PackageOrder.packages_are, ReadPackages.read_members_are_input, ReadPackages.read_packages_have_sources}
-use Rattle.comp_read.proofs.{TypeNumbers.all_rise, TypeNumbers.places_alike, TypeNumbers.world_places, TypeNumbers.world_views, WorldWhole.read_world_is_whole}
 use Rattle.comp_meaning.specs.Reads as reads
 use Rattle.read_exports.specs.declared.members.Part.TheVariants as parts
+
+-- ---- Each inline interface is met once.
+
+-- the places of an interface and of its imports have a path
+abbrev pub HavePaths : Tables → NumberedPart → Type 0
+HavePaths t (world w) = Unit {0}
+HavePaths t (interface p v imports) = filter (has_no_path t) (places_of_part (interface p v imports)) ≡ []
+
+module _ (t : Tables) where
+  passed_over : (q : ℕ) (qs : List ℕ) → HasPath t q → cond (has_no_path t q) (q ∷ qs) qs ≡ qs
+  passed_over q qs path = ap (λ (o : Option Text). cond (is_none o) (q ∷ qs) qs) path.1
+
+  imports_have : (imports : List (ℕ × NumberedView)) → AllByRecursion (λ (i : ℕ × NumberedView). HasPath t i.0 × IsViewIn t i.0 i.1) imports
+      → filter (has_no_path t) (map (λ (i : ℕ × NumberedView). i.0) imports) ≡ []
+  imports_have [] all = refl
+  imports_have (i ∷ imports) all = passed_over i.0 (filter (has_no_path t) (map (λ (j : ℕ × NumberedView). j.0) imports)) all.0.0 ∙ imports_have imports all.1
+
+  part_has : (a : NumberedPart) → IsPartIn t a → HavePaths t a
+  part_has (world w) is = tt
+  part_has (interface p v imports) is =
+      filter-append (has_no_path t) (map (λ (i : ℕ × NumberedView). i.0) imports) (p ∷ []) ∙ (λ j. imports_have imports is.1 j ++ passed_over p [] is.0.0 j)
+
+  -- so it is where each type that is shown is a name of its place
+  pub all_have : (ms : List NumberedMember) → AllByRecursion (λ (m : NumberedMember). IsPartIn t m.part) ms → AllByRecursion (λ (m : NumberedMember). HavePaths t m.part) ms
+  all_have [] all = tt
+  all_have (m ∷ ms) all = (part_has m.part all.0, all_have ms all.1)
+
+  scope_left : (is : List NumberedInstance) → filter (has_no_path t) (map (λ (i : NumberedInstance). i.place) is) ≡ map (λ (i : NumberedInstance). i.place) (filter (no_path t) is)
+  scope_left [] = refl
+  scope_left (i ∷ is) = by (has_no_path t i.place) (scope_left is)
+    where
+      by : (b : Bool) → filter (has_no_path t) (map (λ (j : NumberedInstance). j.place) is) ≡ map (λ (j : NumberedInstance). j.place) (filter (no_path t) is)
+          → cond b (i.place ∷ filter (has_no_path t) (map (λ (j : NumberedInstance). j.place) is)) (filter (has_no_path t) (map (λ (j : NumberedInstance). j.place) is))
+          ≡ map (λ (j : NumberedInstance). j.place) (cond b (i ∷ filter (no_path t) is) (filter (no_path t) is))
+      by true rest = ap (λ qs. i.place ∷ qs) rest
+      by false rest = rest
+
+module _ (pieces : List Piece) (x : Followed) (h : Homes) (ms : List Member) (members : List reads.Member) (input : IsReadInput pieces x h ms members)
+    (have : AllByRecursion (λ (m : NumberedMember). HavePaths (tables_of x) m.part) (numbered_members ms)) where
+  abbrev t : Tables
+  t = tables_of x
+
+  abbrev ws : List NumberedScope
+  ws = numbered_scopes x
+
+  abbrev left : NumberedMember → List ℕ
+  left y = filter (has_no_path t) (places_of_part y.part)
+
+  -- an instance of the scope of this number has the place
+  record HasInstance (m q : ℕ) : Type 0 where
+    number : ℕ
+    one : NumberedInstance
+    at : IsInstanceAt ws m number one
+    place : one.place ≡ q
+
+  one_owner : (m n q : ℕ) → path_at t q ≡ None → HasInstance m q → HasInstance n q → m ≡ n
+  one_owner m n q none i l = ((placed pieces x h ms members input).inline m n i.number l.number i.one l.one i.at l.at (ap (path_at t) i.place ∙ none) (i.place ∙ sym l.place)).0
+
+  differ : (m : ℕ) (member : Member) → IsBoth pieces x h ms members input m member → (a : Part) → member.part ≡ a → HavePaths t (numbered_part a)
+      → AreDifferent (filter (has_no_path t) (places_of_part (numbered_part a)))
+  differ m member b (parts.World w) e paths =
+      let here = world_at pieces x h ms members input m member b w e in
+      subst (λ (qs : List ℕ). AreDifferent qs) (sym (scope_left t (numbered_scope w).instances))
+      (places_differ t (numbered_scope w).instances (λ j k i l at_j at_k none equal.
+      ((placed pieces x h ms members input).inline m m j k i l (record { scope = numbered_scope w; at = here; instance_at = at_j }) (record { scope = numbered_scope w; at = here; instance_at = at_k })
+      none equal).1))
+  differ m member b (parts.Interface p v imports) e paths = subst (λ (qs : List ℕ). AreDifferent qs) (sym paths) tt
+
+  owns : (m : ℕ) (member : Member) → IsBoth pieces x h ms members input m member → (a : Part) → member.part ≡ a → HavePaths t (numbered_part a)
+      → (q : ℕ) → Contains (filter (has_no_path t) (places_of_part (numbered_part a))) q → HasInstance m q
+  owns m member b (parts.World w) e paths q c =
+      let here = world_at pieces x h ms members input m member b w e in
+      let from = from_map (λ (i : NumberedInstance). i.place) (numbered_scope w).instances q
+      (filter_from (has_no_path t) (map (λ (i : NumberedInstance). i.place) (numbered_scope w).instances) q c).0 in
+      let at = contains-get (numbered_scope w).instances from.0 from.1 in
+      record { number = at.0; one = from.0; at = record { scope = numbered_scope w; at = here; instance_at = at.1 }; place = from.2 }
+  owns m member b (parts.Interface p v imports) e paths q c = none-in q (subst (λ (qs : List ℕ). Contains qs q) paths c)
+
+  paths_at : (m : ℕ) (y : NumberedMember) → slice_get (numbered_members ms) m ≡ Some y → HavePaths t y.part
+  paths_at m y e = all_at (λ (z : NumberedMember). HavePaths t z.part) (numbered_members ms) have y (get-contains (numbered_members ms) m y e)
+
+  owner_at : (m : ℕ) (y : NumberedMember) → slice_get (numbered_members ms) m ≡ Some y → (q : ℕ) → Contains (left y) q → HasInstance m q
+  owner_at m y e q c =
+      let from = numbered_at pieces x h ms members input m y e in
+      owns m from.member from.both from.member.part refl (subst (λ (z : NumberedMember). HavePaths t z.part) (sym from.is) (paths_at m y e)) q
+      (subst (λ (z : NumberedMember). Contains (left z) q) (sym from.is) c)
+
+  differ_at : (m : ℕ) (y : NumberedMember) → slice_get (numbered_members ms) m ≡ Some y → AreDifferent (left y)
+  differ_at m y e =
+      let from = numbered_at pieces x h ms members input m y e in
+      subst (λ (z : NumberedMember). AreDifferent (left z)) from.is (differ m from.member from.both from.member.part refl
+      (subst (λ (z : NumberedMember). HavePaths t z.part) (sym from.is) (paths_at m y e)))
+
+  pub stand_alone : StandAlone t ms
+  stand_alone =
+      ap are_once (filter_flat (has_no_path t) (λ (y : NumberedMember). places_of_part y.part) (numbered_members ms))
+      ∙ once_given (flat_map left (numbered_members ms)) (λ i j q e f. one_of i j q (of_one left (numbered_members ms) i q e) (of_one left (numbered_members ms) j q f))
+    where
+      one_of : (i j q : ℕ) → IsOfOne left (numbered_members ms) i q → IsOfOne left (numbered_members ms) j q → i ≡ j
+      one_of i j q a b =
+          let among = get-contains (left a.one) a.inner q a.there in
+          let none = no_place (path_at t q) (filter_from (has_no_path t) (places_of_part a.one.part) q among).1 in
+          let one : a.number ≡ b.number = one_owner a.number b.number q none (owner_at a.number a.one a.at q among) (owner_at b.number b.one b.at q (get-contains (left b.one) b.inner q b.there)) in
+          let same : a.one ≡ b.one = one_item (numbered_members ms) b.number a.one b.one (subst (λ k. slice_get (numbered_members ms) k ≡ Some a.one) one a.at) b.at in
+          let inner : a.inner ≡ b.inner = once_different (left b.one) (differ_at b.number b.one b.at) a.inner b.inner q
+          (subst (λ (z : NumberedMember). slice_get (left z) a.inner ≡ Some q) same a.there) b.there in
+          let front : before_of left (numbered_members ms) a.number ≡ before_of left (numbered_members ms) b.number = ap (before_of left (numbered_members ms)) one in
+          let ai = a.is in
+          let bi = b.is in
+          omega (arith, front, inner, ai, bi)
+
+-- ---- what the page is for
 
 -- what is exported was read of the sections
 exported : (pieces : List Piece) (x : Followed) (h : Homes) (ms : List Member) (members : List reads.Member) → IsReadInput pieces x h ms members

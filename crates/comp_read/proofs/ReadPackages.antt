@@ -17,12 +17,10 @@ use Rattle.read_numbers.specs.{FactLaws.known_by, KnownScopes.AreKnown, Numbered
 use Rattle.read_members.specs.ReadMembers.{AreMeant, AreRead, IsOfOne, lent_member}
 use Rattle.read_members.proofs.{DecidedLaws.by_members, LentLaws.lent_members_are_members, MeantLaws.read_members_are_meant}
 use Rattle.plan_laws.specs.{Whole.IsPackageInput, WholePlan.IsOfMember, WholePlan.IsWholeInput}
-use Rattle.plan_laws.proofs.{WholeCondition.whole_may_be_planned, WholeMeaning.plan_is_whole, WholePlacesTop.one_package}
+use Rattle.plan_laws.proofs.{WholeCondition.whole_may_be_planned, WholeCondition.plan_is_whole, WholeTypes.one_package}
 use Rattle.comp_read.specs.ReadInput.{IsReadInput}
 use Rattle.comp_read.specs.ReadPackages.{IsPlanOf, IsReadPackage, ReadMayBePlanned, ReadMembersAreInput, ReadPackageIsWhole, ReadPackagesHaveSources, ReadPlansAreMeant}
-use Rattle.comp_read.proofs.{ByScopes.parts_filled, ByScopes.scopes_found, Whole.package_input, Whole.package_views_obey, Whole.read_parts_are_reached}
-use Rattle.comp_read.proofs.{FollowedWorlds.read_imports_are_bare, FollowedWorlds.read_places_are_met, FollowedWorlds.worlds_followed, Labels.read_labels_stand}
-use Rattle.comp_read.proofs.{InterfaceViews.each_beside, Ordered.firsts_rise}
+use Rattle.comp_read.proofs.{ByScopes.parts_filled, ByScopes.scopes_found, Whole.package_input, Whole.package_views_obey, Whole.read_parts_are_reached, Followed.read_imports_are_bare, Followed.read_places_are_met, Followed.worlds_followed, Labels.read_labels_stand, InterfaceViews.each_beside, Ordered.firsts_rise}
 use Rattle.base_lemmas.proofs.Elements.{get-contains, zip_at as zip_there, zip_at_right as zip_at}
 use Rattle.base_lemmas.proofs.Lists.{get_back as at_mapped, map_of_map}
 use Rattle.comp_meaning.specs.Reads as reads

@@ -16,17 +16,14 @@ use Rattle.read_numbers.specs.{FactLaws.known_by, NumberedInput.tables_of}
 use Rattle.plan_type_laws.specs.ShownMarks.{ArePlaced, PartNames, has_no_path, places_of_part}
 use Rattle.read_exports.specs.Members.{numbered_member, numbered_members, numbered_part}
 use Rattle.read_exports.specs.declared.members.{Member.Member, Part.Part}
-use Rattle.read_rules.specs.Scopes.{numbered_scope}
-use Rattle.read_rules.specs.declared.{scopes.Scope.Scope, tables.Fact.Fact as KeptFact}
+use Rattle.read_rules.specs.{Scopes.numbered_scope, declared.scopes.Scope.Scope, declared.tables.Fact.Fact as KeptFact}
 use Rattle.read_members.specs.{DecidedWorlds.IsWorldDecided, ReadMembers.lent_member}
 use Rattle.read_members.proofs.DecidedWorldLaws.{by_members, worlds_are_decided}
 use Rattle.plan_laws.specs.{ShownNames.IsInput, ShownNames.PartDeclaresNames, Whole.IsPackageInput, Whole.PartIsKnown}
 use Rattle.plan_laws.proofs.ShownRules.{all_of}
 use Rattle.comp_read.specs.{ReadInput.IsReadInput, ReadInput.ViewsObey, ReadWorlds.AreBeside, ReadWorlds.IsReadWorld}
 use Rattle.comp_read.proofs.Inputs.{is_input}
-use Rattle.comp_read.proofs.{Members.members_stand, OwnTrees.own_members, OwnTrees.own_tree, OwnTrees.world_members_stand, OwnTrees.world_names_have_kinds}
-use Rattle.comp_read.proofs.{Ordered.parts_known, Ordered.sights_known, WorldPackage.agree, WorldPackage.interfaces, WorldPackage.obeys_package}
-use Rattle.comp_read.proofs.{Places.are_placed, ReadPackages.read_members_are_input, Whole.alone, Whole.lengths_fit, OwnViews.own_at, OwnViews.sight_among}
+use Rattle.comp_read.proofs.{Members.members_stand, OwnTrees.own_members, OwnTrees.own_tree, OwnTrees.world_members_stand, OwnTrees.world_names_have_kinds, Ordered.parts_known, Ordered.sights_known, WorldOrder.agree, WorldOrder.interfaces, WorldOrder.obeys_package, Places.are_placed, ReadPackages.read_members_are_input, Whole.alone, Whole.lengths_fit, OwnViews.own_at, OwnViews.sight_among}
 use Rattle.base_lemmas.proofs.Elements.{all_at, contains-map}
 use Rattle.comp_meaning.specs.Follow as follow
 use Rattle.comp_meaning.specs.Reads as reads

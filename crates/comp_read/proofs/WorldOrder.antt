@@ -1,29 +1,159 @@
--- The order of the interfaces of a world's package, in its plan and in what is built of it.
-use Rattle.std.proofs.Common.{◌≡◌, refl, sym, ap, subst, ◌∙◌, ℕ, zero, suc, Bool, true, false, not, ◌&&◌, ◌||◌, ◌==◌, cond, List, [], ◌∷◌, ◌++◌, map, Option, Some, None, slice_get, unwrap_or, option_map}
-use Rattle.std.proofs.lemmas.{Bool.eqb-true, Bool.and_from as both, Option.slice_get-map}
-use Rattle.std.specs.{List.AllByRecursion, List.AllZip, List.filter, List.flat_map, List.list_all, Option.option_map_or}
+-- The labels of a world by itself and of the interfaces of its package that it shows differ.
+use Rattle.std.proofs.Common.{◌≡◌, refl, ap, subst, ◌∙◌, ℕ, suc, ◌+◌, ◌<◌, arith, Bool, true, false, ltb, cond, ◌==◌, List, [], ◌∷◌, ◌++◌, map, Option, Some, None, slice_get, sym, zero, not, ◌&&◌, ◌||◌, unwrap_or, option_map}
+use Rattle.std.proofs.lemmas.{Bool.lt-ltb, Bool.and_from as both, Bool.eqb-true, Option.slice_get-map, Option.same_Some as same-some, List.Folds.find-append}
+use Rattle.std.proofs.lemmas.Map.Keys.{any_passes_from_place as get_any}
+use Rattle.std.specs.List.{AllZip, filter, list_all, AllByRecursion, flat_map, Contains, find, list_any}
+use Rattle.std.specs.Option.{option_map_or, option_or}
+use Rattle.wit_model.specs.{Names.PackageIdentity, Names.is_label, Names.path_in, Text.Text, Text.text_of, Text.text_eq, Lookup.package_at, Uses.has, Uses.once}
+use Rattle.plan_meaning.specs.{Plan.PlannedPackage, Plan.Plan, Built.IsBuilt, Built.planned_package, NumberedRules.Fact, NumberedRules.is_interface}
+use Rattle.plan_meaning.specs.NumberedViews.{NumberedSight, Tables, path_at, agree_in_numbers, agree_with_first_in_numbers, agrees_with_first, first_at, first_whole_at, same_types, same_whole, AreTables}
+use Rattle.plan_meaning.specs.NumberedMembers.{Homes, NumberedMember, NumberedPart, home_at, is_of_package, are_interfaces, are_package, is_interface_of, is_named_in, is_one_world, sights_of_members, stands_at_top, world, HomesStand}
+use Rattle.plan_meaning.specs.NumberedWorlds.{NumberedInstance, sights_of_instance, NumberedScope, sights_of_scope, HasPath, are_once}
+use Rattle.plan_package.specs.{WholeInterfaces.Home, PlanWhole.places_in, PlanWhole.PlansWhole}
+use Rattle.plan_package.specs.WholePackages.{ListsPlace, PlansPackage, another, entries_from, entry_of, the_main, interface_in_part, interfaces_in}
+use Rattle.plan_laws.proofs.{PlaceNumbers.IsOnce, PlaceNumbers.all_once, PlaceNumbers.none_twice, Planned.found_there}
+use Rattle.read_exports.specs.declared.members.{Member.Member, Part.Part}
+use Rattle.comp_read.specs.Order.{rise, ListByNumber, OthersListByNumber, OthersRise, PackagesRise, numbers_in}
+use Rattle.comp_read.specs.{OwnMembers.StandAsShown, OwnMembers.places_of, ReadInput.AreHomesOf}
+use Rattle.plan_package.proofs.ReadPackageLaws.{number_at as number_there}
 use Rattle.wit_model.specs.declared.model.{InterfaceId.InterfaceId, Package.Package, Resolve.Resolve}
-use Rattle.wit_model.specs.{Lookup.package_at, Names.PackageIdentity, Text.Text, Text.text_of, Uses.has, Uses.once}
-use Rattle.wit_model.proofs.Chains.{has_once}
-use Rattle.plan_meaning.specs.{Built.IsBuilt, Built.planned_package, NumberedViews.NumberedSight, NumberedViews.Tables, NumberedViews.path_at, Plan.Plan}
-use Rattle.plan_meaning.specs.NumberedMembers.{Homes, NumberedMember, NumberedPart, home_at, is_of_package}
-use Rattle.plan_meaning.specs.NumberedWorlds.{NumberedInstance, sights_of_instance}
+use Rattle.wit_model.proofs.{Chains.has_once, NameLaws.read_path_is_spelled}
+use Rattle.wit_model.proofs.{Elements.contains-flat, Elements.contains-get, Elements.contains-has, TextLemmas.text_alike as same_text, TextLemmas.text_same}
 use Rattle.plan_types.specs.Orders.{joined, joined_all, places_of_part}
 use Rattle.plan_types.proofs.OrderLaws.{joined_both}
-use Rattle.plan_package.specs.{PlanWhole.places_in, PlanWhole.PlansWhole, WholeInterfaces.Home}
-use Rattle.plan_package.specs.WholePackages.{PlansPackage, another, entries_from, interface_in_part, interfaces_in, the_main}
 use Rattle.plan_laws.specs.OneWorld.{AreOwnInterfaces, IsOwnInterface, place_of_part}
-use Rattle.plan_laws.proofs.PlaceNumbers.{IsOnce, all_once, none_twice}
 use Rattle.read_homes.specs.Homes.{IsHomeOf}
 use Rattle.read_exports.specs.Members.{numbered_members, numbered_part}
-use Rattle.read_exports.specs.declared.members.{Member.Member, Part.Part}
 use Rattle.read_rules.specs.Scopes.{numbered_scope}
 use Rattle.read_rules.specs.declared.scopes.Scope.{Scope}
-use Rattle.comp_read.specs.Order.{ListByNumber, OthersListByNumber, OthersRise, PackagesRise, numbers_in, rise}
-use Rattle.comp_read.specs.{OwnMembers.StandAsShown, OwnMembers.places_of, ReadInput.AreHomesOf}
-use Rattle.comp_read.proofs.{OwnOrder.once_more, Rising.listed_rise, Rising.numbers, Rising.other_rises}
-use Rattle.base_lemmas.proofs.{Lists.map_of_map, Numbers.same-number}
+use Rattle.comp_read.proofs.{OwnOrder.once_more, OwnViews.own_at, OwnViews.scope_sight, OwnViews.sight_among}
+use Rattle.base_lemmas.proofs.{Lists.map_of_map, Numbers.same-number, Bools.left_of as first_true, Bools.right_of as second_true}
+use Rattle.base_lemmas.proofs.Elements.{all-contained, all_pass, contains-later, contains-one, get-contains, map_from as from_map}
+use Rattle.plan_parts.proofs.{FirstAgreement.agree_by_first, SightLaws.all_alike}
+use Rattle.comp_meaning.specs.Rules.{distinct}
+use Rattle.plan_meaning.proofs.Lists.{any_get, no_true}
 use Rattle.read_exports.specs.declared.members.Part.TheVariants as parts
+
+-- ---- Numbers that rise, and what a plan lists in its packages.
+
+-- ---- entries by their numbers
+
+abbrev pub numbers : List (Text × ℕ) → List ℕ
+numbers es = map (λ (e : Text × ℕ). e.1) es
+
+module _ (homes : ℕ → Option Home) (q : ℕ) where
+  -- what holds of the numbers of the others, and with that of the first, holds of all
+  one_more : (P : List ℕ → Type 0) (n p : ℕ) (rest : List (Text × ℕ)) → P (numbers rest) → P (n ∷ numbers rest) → P (numbers (entry_of q n (homes p) ++ rest))
+  one_more P n p rest others all = by (homes p)
+    where
+      chosen : (h : Home) (b : Bool) → P (numbers (cond b ((h.1, n) ∷ []) [] ++ rest))
+      chosen h true = all
+      chosen h false = others
+
+      by : (o : Option Home) → P (numbers (entry_of q n o ++ rest))
+      by None = others
+      by (Some h) = chosen h (h.0 == q)
+
+  above : (m n : ℕ) → m < n → (ps : List ℕ) → list_all (ltb m) (numbers (entries_from homes q n ps)) ≡ true
+  above m n less [] = refl
+  above m n less (p ∷ ps) =
+      let rest = above m (n + 1) (omega (arith, less)) ps in
+      one_more (λ (ns : List ℕ). list_all (ltb m) ns ≡ true) n p (entries_from homes q (n + 1) ps) rest
+      (both (ltb m n) (list_all (ltb m) (numbers (entries_from homes q (n + 1) ps))) (lt-ltb m n less) rest)
+
+  pub entries_rise : (n : ℕ) (ps : List ℕ) → rise (numbers (entries_from homes q n ps)) ≡ true
+  entries_rise n [] = refl
+  entries_rise n (p ∷ ps) =
+      let rest = entries_rise (n + 1) ps in
+      let others = entries_from homes q (n + 1) ps in
+      one_more (λ (ns : List ℕ). rise ns ≡ true) n p others rest (both (list_all (ltb n) (numbers others)) (rise (numbers others)) (above n (n + 1) (omega arith) ps) rest)
+
+-- a package that isn't the main one
+pub other_rises : (packages : List PackageIdentity) (homes : ℕ → Option Home) (main : ℕ) (places : List ℕ) (ms : List Member) (n : ℕ) (k : PlannedPackage) → (n ≡ main → ⊥)
+    → PlansPackage packages main places ms (entries_from homes n 0 places) n k → rise (numbers k.interfaces) ≡ true
+other_rises packages homes main places ms n k other (the_main identity same at is) = absurd (other same)
+other_rises packages homes main places ms n k other (another identity differ at is) = ap (λ (es : List (Text × ℕ)). rise (numbers es)) is.interfaces ∙ entries_rise homes n 0 places
+
+-- ---- those that pass a test, by where they stand
+
+module _ (P : ℕ → Bool) where
+  -- where they stand, if the first has this number
+  indices : ℕ → List ℕ → List ℕ
+  indices n [] = []
+  indices n (p ∷ ps) = cond (P p) (n ∷ indices (n + 1) ps) (indices (n + 1) ps)
+
+  chosen_too : (Q : List ℕ → Type 0) (n p : ℕ) (ps : List ℕ) → Q (indices (n + 1) ps) → Q (n ∷ indices (n + 1) ps) → Q (indices n (p ∷ ps))
+  unfolding indices
+  chosen_too Q n p ps others all = by (P p)
+    where
+      by : (b : Bool) → Q (cond b (n ∷ indices (n + 1) ps) (indices (n + 1) ps))
+      by true = all
+      by false = others
+
+  all_above : (m n : ℕ) → m < n → (ps : List ℕ) → list_all (ltb m) (indices n ps) ≡ true
+  unfolding indices
+  all_above m n less [] = refl
+  all_above m n less (p ∷ ps) =
+      let rest = all_above m (n + 1) (omega (arith, less)) ps in
+      chosen_too (λ (ns : List ℕ). list_all (ltb m) ns ≡ true) n p ps rest (both (ltb m n) (list_all (ltb m) (indices (n + 1) ps)) (lt-ltb m n less) rest)
+
+  indices_rise : (n : ℕ) (ps : List ℕ) → rise (indices n ps) ≡ true
+  unfolding indices
+  indices_rise n [] = refl
+  indices_rise n (p ∷ ps) =
+      let rest = indices_rise (n + 1) ps in
+      chosen_too (λ (ns : List ℕ). rise ns ≡ true) n p ps rest (both (list_all (ltb n) (indices (n + 1) ps)) (rise (indices (n + 1) ps)) (all_above n (n + 1) (omega arith) ps) rest)
+
+  abbrev IsThere : ℕ → List ℕ → ℕ → ℕ → Type 0
+  IsThere n ps q e = (k : ℕ) × (e ≡ n + k) × (slice_get ps k ≡ Some q)
+
+  farther : (n p : ℕ) (ps qs es : List ℕ) → AllZip (IsThere (n + 1) ps) qs es → AllZip (IsThere n (p ∷ ps)) qs es
+  farther n p ps [] [] z = tt
+  farther n p ps (q ∷ qs) (e ∷ es) z = ((suc z.0.0, (let number = z.0.1 in omega (arith, number)), z.0.2), farther n p ps qs es z.1)
+  farther n p ps [] (e ∷ es) z = absurd z
+  farther n p ps (q ∷ qs) [] z = absurd z
+
+  filtered : (n : ℕ) (ps : List ℕ) → AllZip (IsThere n ps) (filter P ps) (indices n ps)
+  unfolding indices
+  filtered n [] = tt
+  filtered n (p ∷ ps) = by (P p) (farther n p ps (filter P ps) (indices (n + 1) ps) (filtered (n + 1) ps))
+    where
+      here : n ≡ n + 0
+      here = omega arith
+
+      by : (b : Bool) → AllZip (IsThere n (p ∷ ps)) (filter P ps) (indices (n + 1) ps)
+          → AllZip (IsThere n (p ∷ ps)) (cond b (p ∷ filter P ps) (filter P ps)) (cond b (n ∷ indices (n + 1) ps) (indices (n + 1) ps))
+      by true rest = ((0, here, refl), rest)
+      by false rest = rest
+
+-- where each is found once, its number is where it stands
+same_numbers : (places : List ℕ) → IsOnce places → (qs es fs : List ℕ) → AllZip (λ q e. slice_get places e ≡ Some q) qs es
+    → AllZip (λ q f. (k : ℕ) × (f ≡ 0 + k) × (slice_get places k ≡ Some q)) qs fs → es ≡ fs
+same_numbers places once [] [] [] a b = refl
+same_numbers places once (q ∷ qs) (e ∷ es) (f ∷ fs) a b =
+    let one : e ≡ b.0.0 = once e b.0.0 q a.0 b.0.2 in
+    let number = b.0.1 in
+    let first : e ≡ f = omega (arith, one, number) in
+    let rest = same_numbers places once qs es fs a.1 b.1 in
+    λ i. first i ∷ rest i
+same_numbers places once [] (e ∷ es) fs a b = absurd a
+same_numbers places once (q ∷ qs) [] fs a b = absurd a
+same_numbers places once [] [] (f ∷ fs) a b = absurd b
+same_numbers places once (q ∷ qs) (e ∷ es) [] a b = absurd b
+
+numbers_there : (places : List ℕ) (xs es : List (Text × ℕ)) → AllZip (ListsPlace places) xs es → AllZip (λ q e. slice_get places e ≡ Some q) (numbers xs) (numbers es)
+numbers_there places [] [] z = tt
+numbers_there places (x ∷ xs) (e ∷ es) z = (number_there places x.1 e.1 z.0.1, numbers_there places xs es z.1)
+numbers_there places [] (e ∷ es) z = absurd z
+numbers_there places (x ∷ xs) [] z = absurd z
+
+-- places that pass a test are listed by their numbers, which rise
+pub listed_rise : (P : ℕ → Bool) (places : List ℕ) → IsOnce places → (xs es : List (Text × ℕ)) → numbers xs ≡ filter P places → AllZip (ListsPlace places) xs es → rise (numbers es) ≡ true
+listed_rise P places once xs es are z =
+    let zipped = subst (λ (qs : List ℕ). AllZip (λ q e. slice_get places e ≡ Some q) qs (numbers es)) are (numbers_there places xs es z) in
+    ap rise (same_numbers places once (filter P places) (numbers es) (indices P 0 places) zipped (filtered P 0 places)) ∙ indices_rise P 0 places
+
+-- ---- The order of the interfaces of a world's package, in its plan and in what is built of it.
 
 -- ---- numbers that pass a test, each once
 
@@ -204,3 +334,166 @@ module _ (p : Plan) (r : Resolve) (built : IsBuilt p r) where
 -- the packages beside the main one
 pub plan_others_rise : (t : Tables) (packages : List PackageIdentity) (homes : ℕ → Option Home) (n : ℕ) (ms : List Member) (p : Plan) → PlansWhole t packages homes n ms p → OthersRise p n
 plan_others_rise t packages homes n ms p planned k q other at = other_rises packages homes n (places_in ms) ms k q other (planned.packages.each k q at)
+
+-- ---- A world by itself and the interfaces of its package that it shows obey the rules on a package.
+
+-- what is found in the front is found in the whole
+found_first : {A : Type 0} (p : A → Bool) (xs ys : List A) (x : A) → Contains xs x → p x ≡ true → find p (xs ++ ys) ≡ find p xs
+found_first {A = A} p xs ys x c h =
+    let there = found_there p xs x c h in
+    find-append p xs ys ∙ (ap (λ (o : Option A). option_or o (find p ys)) there.1 ∙ sym there.1)
+
+module _ (t : Tables) (h : Homes) (known : ℕ → Fact) (n : ℕ) (label : Text) (w : NumberedScope) (obeys : is_one_world t h known n label w ≡ true) (ms : List NumberedMember) (are : AreOwnInterfaces t h n w ms) where
+  abbrev m : NumberedMember
+  m = record { label = label; package_ = n; part = world w }
+
+  abbrev seen : List NumberedSight
+  seen = sights_of_scope t w
+
+  abbrev all_seen : List NumberedSight
+  all_seen = sights_of_members t (m ∷ ms)
+
+  abbrev is_taken : Bool
+  is_taken = list_any (λ (s : NumberedSight). is_named_in h n label s.place) seen
+
+  -- ---- what the world obeys
+
+  pub agree : agree_in_numbers seen ≡ true
+  agree = first_true (agree_in_numbers seen) (are_interfaces t known seen && not is_taken) obeys
+
+  pub interfaces : are_interfaces t known seen ≡ true
+  interfaces = first_true (are_interfaces t known seen) (not is_taken) (second_true (agree_in_numbers seen) (are_interfaces t known seen && not is_taken) obeys)
+
+  pub not_taken : not is_taken ≡ true
+  not_taken = second_true (are_interfaces t known seen) (not is_taken) (second_true (agree_in_numbers seen) (are_interfaces t known seen && not is_taken) obeys)
+
+  -- ---- all views
+
+  all_interfaces : are_interfaces t known all_seen ≡ true
+  all_interfaces = all_pass (λ (s : NumberedSight). is_interface t known s.place s.view) all_seen
+      (λ s c. all-contained (λ (x : NumberedSight). is_interface t known x.place x.view) seen s interfaces (sight_among t h n w ms are label s c))
+
+  each_first : list_all (agrees_with_first seen) seen ≡ true
+  each_first =
+      sym (all_alike [] seen)
+      ∙ first_true (agree_with_first_in_numbers [] seen) (are_interfaces t known seen) (sym (agree_by_first t known seen) ∙ both (agree_in_numbers seen) (are_interfaces t known seen) agree interfaces)
+
+  agrees : (s : NumberedSight) → Contains seen s → agrees_with_first all_seen s ≡ true
+  agrees s c =
+      let whole : s.whole ≡ true = ap (λ (x : NumberedSight). x.whole) (sym (scope_sight t w s c).is) in
+      let more = sights_of_members t ms in
+      let first : first_at s.place all_seen ≡ first_at s.place seen = found_first (λ (x : NumberedSight). s.place == x.place) seen more s c (same-number s.place) in
+      let first_whole : first_whole_at s.place all_seen ≡ first_whole_at s.place seen =
+      found_first (λ (x : NumberedSight). s.place == x.place && x.whole) seen more s c (both (s.place == s.place) s.whole (same-number s.place) whole) in
+      (λ i. option_map_or (λ f. same_types f s) (first i) true && (not s.whole || option_map_or (λ f. same_whole f s) (first_whole i) true)) ∙ all-contained (agrees_with_first seen) seen s
+      each_first c
+
+  all_agree : agree_in_numbers all_seen ≡ true
+  all_agree =
+      let each : list_all (agrees_with_first all_seen) all_seen ≡ true = all_pass (agrees_with_first all_seen) all_seen (λ s c. agrees s (sight_among t h n w ms are label s c)) in
+      first_true (agree_in_numbers all_seen) (are_interfaces t known all_seen)
+      (agree_by_first t known all_seen ∙ both (agree_with_first_in_numbers [] all_seen) (are_interfaces t known all_seen) (all_alike [] all_seen ∙ each) all_interfaces)
+
+  -- ---- the package
+
+  abbrev stands : NumberedSight → Bool
+  stands = stands_at_top h n (m ∷ ms)
+
+  stand : list_all stands all_seen ≡ true
+  stand = all_pass stands all_seen (λ s c. by s (sight_among t h n w ms are label s c) (is_of_package h n s.place) refl)
+    where
+      by : (s : NumberedSight) → Contains seen s → (b : Bool) → is_of_package h n s.place ≡ b → stands s ≡ true
+      by s c true e = ap (λ (o : Bool). not o || list_any (λ (k : NumberedMember). is_interface_of s.place k.part) ms) e ∙ are.all s c e
+      by s c false e = ap (λ (o : Bool). not o || list_any (λ (k : NumberedMember). is_interface_of s.place k.part) ms) e
+
+  packages : list_all (λ (k : NumberedMember). n == k.package_) (m ∷ ms) ≡ true
+  packages =
+      both (n == n) (list_all (λ (k : NumberedMember). n == k.package_) ms) (same-number n)
+      (all_pass (λ (k : NumberedMember). n == k.package_) ms (λ k c. ap (λ (x : ℕ). n == x) (own_at t h n w ms are k c).package_ ∙ same-number n))
+
+  pub obeys_package : are_package t h known n (m ∷ ms) ≡ true
+  obeys_package =
+      both (list_all (λ (k : NumberedMember). n == k.package_) (m ∷ ms)) (list_all stands all_seen && (agree_in_numbers all_seen && are_interfaces t known all_seen)) packages
+      (both (list_all stands all_seen) (agree_in_numbers all_seen && are_interfaces t known all_seen) stand
+      (both (agree_in_numbers all_seen) (are_interfaces t known all_seen) all_agree all_interfaces))
+
+-- ---- what the page is for
+
+-- the text isn't one of these
+not_among : (l : Text) (ls : List Text) → ((x : Text) → Contains ls x → l ≡ x → ⊥) → not (list_any (text_eq l) ls) ≡ true
+not_among l ls none = by (list_any (text_eq l) ls) refl
+  where
+    by : (b : Bool) → list_any (text_eq l) ls ≡ b → not b ≡ true
+    by false e = refl
+    by true e = let found = any_get (text_eq l) ls e in absurd (none found.1 (get-contains ls found.0 found.1 found.2) (text_same l found.1 found.3))
+
+module _ (t : Tables) (tables : AreTables t) (h : Homes) (stand : HomesStand t h) (n : ℕ) where
+  -- what the path of a place is read as, by the place's home
+  pub record IsSpelledAs (p : ℕ) (label : Text) : Type 0 where
+    pub identity : PackageIdentity
+    pub there : slice_get h.packages n ≡ Some identity
+    pub path : path_at t p ≡ Some (path_in identity label)
+    pub label_is : is_label label ≡ true
+
+  pub spelled_as : (p : ℕ) (label : Text) → HasPath t p → home_at h p ≡ Some (n, label) → IsSpelledAs p label
+  spelled_as p label path home =
+      let is = stand.homes p path.0 path.1 in
+      let pair : ◌≡◌ {A = ℕ × Text} (is.package_, is.name) (n, label) = same-some (is.package_, is.name) (n, label) (sym is.home ∙ home) in
+      let name : is.name ≡ label = ap (λ (x : ℕ × Text). x.1) pair in
+      let spelled = read_path_is_spelled path.0 is.identity is.name is.reads in
+      record {
+        identity = is.identity;
+        there = ap (λ (x : ℕ × Text). slice_get h.packages x.0) (sym pair) ∙ is.stands;
+        path = path.1 ∙ ap Some (spelled.spelled ∙ ap (path_in is.identity) name);
+        label_is = ap is_label (sym name) ∙ spelled.label;
+      }
+
+  -- a name is that of one place
+  one_place : (p q : ℕ) (a b : Text) → HasPath t p → HasPath t q → home_at h p ≡ Some (n, a) → home_at h q ≡ Some (n, b) → a ≡ b → p ≡ q
+  one_place p q a b at_p at_q home_p home_q same =
+      let first = spelled_as p a at_p home_p in
+      let second = spelled_as q b at_q home_q in
+      let identity : first.identity ≡ second.identity = same-some first.identity second.identity (sym first.there ∙ second.there) in
+      tables.paths p q (path_in second.identity b) (first.path ∙ (λ i. Some (path_in (identity i) (same i)))) second.path
+
+  module _ (w : NumberedScope) (all : List NumberedMember) (are : AreOwnInterfaces t h n w all) where
+    abbrev labels : List NumberedMember → List Text
+    labels ms = map (λ (k : NumberedMember). k.label) ms
+
+    abbrev places : List NumberedMember → List ℕ
+    places ms = flat_map (λ (k : NumberedMember). place_of_part k.part) ms
+
+    pub own_label : (k : NumberedMember) → Contains all k → is_label k.label ≡ true
+    own_label k c = let is = own_at t h n w all are k c in (spelled_as is.place k.label is.path is.home).label_is
+
+    own_differ : (ms : List NumberedMember) → ((k : NumberedMember) → Contains ms k → Contains all k) → are_once (places ms) ≡ true → distinct (labels ms) ≡ true
+    own_differ [] within once = refl
+    own_differ (k ∷ ms) within once =
+        let is = own_at t h n w all are k (within k (0, omega arith, refl)) in
+        let split : are_once (is.place ∷ places ms) ≡ true = ap (λ (ps : List ℕ). are_once (ps ++ places ms)) (sym (ap place_of_part is.part)) ∙ once in
+        both (not (list_any (text_eq k.label) (labels ms))) (distinct (labels ms))
+        (not_among k.label (labels ms) (λ l c same.
+        let from = from_map (λ (x : NumberedMember). x.label) ms l c in
+        let other = own_at t h n w all are from.0 (within from.0 (contains-later k ms from.0 from.1)) in
+        let one : is.place ≡ other.place = one_place is.place other.place k.label from.0.label is.path other.path is.home other.home (same ∙ sym from.2) in
+        let place : Contains (place_of_part from.0.part) is.place = subst (λ (ps : List ℕ). Contains ps is.place) (sym (ap place_of_part other.part))
+        (subst (λ (p : ℕ). Contains (other.place ∷ []) p) (sym one) (contains-one other.place)) in
+        let there : has (places ms) is.place ≡ true = contains-has (places ms) is.place (contains-flat (λ (x : NumberedMember). place_of_part x.part) ms from.0 is.place from.1 place) in
+        no_true (sym (ap not there) ∙ first_true (not (has (places ms) is.place)) (are_once (places ms)) split)))
+        (own_differ ms (λ x c. within x (contains-later k ms x c)) (second_true (not (has (places ms) is.place)) (are_once (places ms)) split))
+
+    -- the label of the world is none of theirs
+    world_differs : (known : ℕ → Fact) (label : Text) → is_one_world t h known n label w ≡ true → not (list_any (text_eq label) (labels all)) ≡ true
+    world_differs known label obeys =
+        not_among label (labels all) (λ l c same.
+        let from = from_map (λ (x : NumberedMember). x.label) all l c in
+        let is = own_at t h n w all are from.0 from.1 in
+        let named : is_named_in h n label is.place ≡ true =
+        ap (λ o. option_map_or (λ (x : ℕ × Text). x.0 == n && text_eq x.1 label) o false) is.home ∙ both (n == n) (text_eq from.0.label label) (same-number n)
+        (ap (λ (a : Text). text_eq a label) (from.2 ∙ sym same) ∙ same_text label) in
+        let at = contains-get (sights_of_scope t w) (record { place = is.place; view = is.view; whole = true }) is.seen in
+        let taken = get_any (λ (s : NumberedSight). is_named_in h n label s.place) (sights_of_scope t w) at.0 (record { place = is.place; view = is.view; whole = true }) at.1 named in
+        no_true (sym (ap not taken) ∙ not_taken t h known n label w obeys all are))
+
+    pub labels_differ : (known : ℕ → Fact) (label : Text) → is_one_world t h known n label w ≡ true → distinct (label ∷ labels all) ≡ true
+    labels_differ known label obeys = both (not (list_any (text_eq label) (labels all))) (distinct (labels all)) (world_differs known label obeys) (own_differ all (λ k c. c) are.once)

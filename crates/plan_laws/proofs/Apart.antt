@@ -5,8 +5,7 @@ use Rattle.std.proofs.lemmas.List.Elements.{Contains-append_cases, Contains-appe
 use Rattle.std.specs.List.{Contains, flat_map}
 use Rattle.wit_model.specs.{Text.Text, Uses.has}
 use Rattle.wit_model.proofs.{Elements.contains-get, Elements.contains-has, Elements.has-contains, Elements.none-in, UsesLemmas.filter_has}
-use Rattle.plan_meaning.specs.{FollowedNumbers.IsPartIn, FollowedNumbers.IsViewIn, NumberedMembers.Homes, NumberedMembers.NumberedMember}
-use Rattle.plan_meaning.specs.{NumberedRules.Fact, NumberedViews.NumberedSight, NumberedViews.NumberedView, NumberedViews.Tables, NumberedViews.path_at}
+use Rattle.plan_meaning.specs.{FollowedNumbers.IsPartIn, FollowedNumbers.IsViewIn, NumberedMembers.Homes, NumberedMembers.NumberedMember, NumberedRules.Fact, NumberedViews.NumberedSight, NumberedViews.NumberedView, NumberedViews.Tables, NumberedViews.path_at}
 use Rattle.plan_meaning.specs.NumberedWorlds.{HasPath, NumberedInstance, are_once}
 use Rattle.plan_meaning.proofs.Lists.{no_true}
 use Rattle.read_exports.specs.Members.{numbered_member, numbered_members, numbered_part}
@@ -19,8 +18,7 @@ use Rattle.plan_type_laws.specs.ShownMarks.{has_no_path, own_places, places_of_p
 use Rattle.plan_laws.specs.{Apart.WholeStandsApart, Owners.homes_in, ShownRules.ViewObeys, Whole.IsPackageInput, WorldItems.WorldsAreApart}
 use Rattle.plan_laws.proofs.Sources.{view_among, among_mapped, mapped_cases, part_at, IsWorldIn, world_in}
 use Rattle.plan_laws.proofs.PlaceNumbers.{IsOnce, from_joined}
-use Rattle.plan_laws.proofs.{Planned.home_alone, WholePlacesInstances.as_many, WholePlacesInstances.one_of, WorldItems.homes_of_worlds, WorldItems.world_member}
-use Rattle.plan_laws.proofs.{OwnPlaces.different, OwnPlaces.no_longer, OwnPlaces.filtered_there, OwnPlaces.unfiltered_once, WholeTypes.packages_are_ruled}
+use Rattle.plan_laws.proofs.{Planned.home_alone, WholeReasons.as_many, WholeReasons.one_of, WorldKeys.homes_of_worlds, WorldKeys.world_member, OwnPlaces.different, OwnPlaces.no_longer, OwnPlaces.filtered_there, OwnPlaces.unfiltered_once, WholeTypes.packages_are_ruled}
 use Rattle.base_lemmas.proofs.Elements.{all_at, contains-later, contains-map, get-contains, last_of as one-contained, map_from as from_map}
 use Rattle.base_lemmas.proofs.Lists.{append_of_map, front_at as at_front, map_of_map, mapped_get, identity}
 use Rattle.plan_package.proofs.PlacedLaws.{part_placed as places_of_views}

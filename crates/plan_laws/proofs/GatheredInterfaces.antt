@@ -1,13 +1,15 @@
 -- The interfaces of a plan become what each view of their places tells, with the functions of the first that shows some.
-use Rattle.std.proofs.Common.{◌≡◌, refl, sym, ap, subst, ◌∙◌, ℕ, arith, Bool, true, false, not, ◌==◌, cond, List, [], ◌∷◌, ◌++◌, map, Option, Some, None, option_map, slice_get}
+use Rattle.std.proofs.Common.{◌≡◌, sym, ap, subst, ◌∙◌, refl, ℕ, zero, suc, arith, Bool, true, List, [], ◌∷◌, filter_map, Option, Some, None, false, not, ◌==◌, cond, ◌++◌, map, option_map, slice_get}
 use Rattle.std.proofs.lemmas.Option.{same_Some as same-some}
-use Rattle.std.specs.{Prelude.option_and_then, List.AllZip, List.Contains, Option.option_map_or}
-use Rattle.wit_model.specs.{Rules.is_id, Text.Text, Valid.as_interface}
-use Rattle.plan_meaning.specs.{FollowedNumbers.IsPartIn, NumberedWorlds.HasPath, Plan.Plan, Plan.PlannedInterface, Plan.interface_in, Plan.path_of_planned}
-use Rattle.plan_meaning.specs.GatheredPlan.{InterfaceAt, InterfaceBecomes, InterfacesListed, TypeBecomes, TypeListed, foreign_interface, functions_seen, interfaces_listed, under_path}
+use Rattle.std.specs.{List.AllZip, List.Contains, List.cons_option, Prelude.option_and_then, Option.option_map_or}
+use Rattle.wit_model.specs.{Text.Text, Rules.is_id, Valid.as_interface}
+use Rattle.wit_model.proofs.Elements.{none-in}
+use Rattle.plan_meaning.specs.GatheredPlan.{AreChosen, SightBecomes, InterfaceAt, InterfaceBecomes, InterfacesListed, TypeBecomes, TypeListed, foreign_interface, functions_seen, interfaces_listed, under_path}
+use Rattle.plan_meaning.specs.NumberedViews.{NumberedSight, Tables, IsSight, NumberedType, NumberedView, first_at, path_at, path_text}
+use Rattle.plan_meaning.specs.{NumberedWorlds.HasPath, Plan.Plan, Plan.PlannedInterface, Plan.interface_in, Plan.path_of_planned, FollowedNumbers.IsPartIn}
 use Rattle.plan_meaning.specs.NumberedMembers.{Homes, NumberedMember, home_at, is_of_package, sights_of_members}
 use Rattle.plan_meaning.specs.{NumberedRules.Fact, ReadFunctions.Beside}
-use Rattle.plan_meaning.specs.NumberedViews.{IsSight, NumberedSight, NumberedType, NumberedView, Tables, first_at, path_at, path_text}
+use Rattle.base_lemmas.proofs.Elements.{contains-later, all_at, get-contains, zip_each}
 use Rattle.plan_meaning.proofs.{Lists.no_true, NumberedMembers.only_sights, NumberedWorlds.path_is}
 use Rattle.read_exports.specs.Members.{numbered_members, numbered_part}
 use Rattle.read_exports.specs.declared.members.{Member.Member, Part.Part}
@@ -17,16 +19,73 @@ use Rattle.plan_package.specs.{PlanWhole.PlansWhole, PlanWhole.places_in, Views.
 use Rattle.plan_package.specs.{WholeInterfaces.PlansPlace, WholePackages.ListsPlace, WholePackages.interface_in_part, WholePackages.interfaces_in}
 use Rattle.plan_laws.specs.{FirstViews.ViewsAreOrdered, FirstViews.told, ViewedInterfaces.views_read, Whole.IsPackageInput, WholeTypes.IsRuledInput}
 use Rattle.plan_laws.specs.Owners.{owners_of}
-use Rattle.plan_laws.proofs.{FirstTypes.views_told, FirstViews.first_is, Inside.flat_cases, ShownWhole.sight_viewed, WholePlacesTop.sight_of_place}
-use Rattle.plan_laws.proofs.GatheredSights.{IsGatheredFrom, IsGatheredOne, gathered, gathered_from, left_out}
+use Rattle.plan_laws.proofs.{FirstTypes.views_told, FirstViews.first_is, Sources.view_among, Sources.own_sight, Sources.own_there, Sources.part_at}
+use Rattle.plan_laws.proofs.Inside.{flat_cases}
+use Rattle.plan_laws.proofs.{ShownWhole.sight_viewed, WholeTypes.sight_of_place, WholeTypes.packages_are_ruled, WholeTypes.path_planned}
 use Rattle.plan_laws.proofs.{ListedFunctions.functions_listed, ListedFunctions.seen_same, Planned.first_there, Planned.interface_there, Planned.view_met}
-use Rattle.plan_laws.proofs.{Sources.view_among, Sources.own_sight, Sources.own_there, Sources.part_at, WholeTypes.packages_are_ruled, WholeTypes.path_planned}
 use Rattle.plan_laws.proofs.{PlaceNumbers.one_owner, PlaceNumbers.owner_numbered, PlaceNumbers.place_number, Viewed.planned_interfaces_are_viewed}
-use Rattle.base_lemmas.proofs.Elements.{all_at, contains-later, get-contains, zip_each}
 use Rattle.plan_package.proofs.ReadPackageLaws.{number_at as number_there}
 use Rattle.comp_meaning.specs.Reads as reads
 use Rattle.plan_meaning.specs.Plan as plan
 use Rattle.read_exports.specs.declared.members.Part.TheVariants as parts
+
+-- ---- Interfaces of a plan that are gathered from views, each from one of its place.
+
+module _ (t : Tables) (kept : List ℕ) (p : Plan) (seen : List NumberedSight) (wanted : ℕ → Bool) (pick : PlannedInterface → Option (Text × PlannedInterface)) where
+  -- An interface whose place has a path and is wanted is gathered from a view of its place; any other isn't.
+  pub data IsGatheredOne (q : ℕ) (i : PlannedInterface) : Type 0 where
+    left_out : pick i ≡ None → (wanted q ≡ true → HasPath t q → ⊥) → IsGatheredOne q i
+    gathered : (s : NumberedSight) (x : Text × PlannedInterface) → Contains seen s → s.place ≡ q → wanted s.place ≡ true → pick i ≡ Some x → SightBecomes t kept p seen s x → IsGatheredOne q i
+
+  record AreGathered (qs : List ℕ) (is : List PlannedInterface) : Type 0 where
+    chosen : List NumberedSight
+    zip : AllZip (SightBecomes t kept p seen) chosen (filter_map pick is)
+    among : (s : NumberedSight) → Contains chosen s → Contains seen s × (wanted s.place ≡ true)
+    each : (q : ℕ) → Contains qs q → wanted q ≡ true → HasPath t q → (c : NumberedSight) × Contains chosen c × (c.place ≡ q)
+
+  gather : (qs : List ℕ) (is : List PlannedInterface) → AllZip IsGatheredOne qs is → AreGathered qs is
+  gather [] [] zip = record { chosen = []; zip = tt; among = λ s c. none-in s c; each = λ q c. none-in q c }
+  gather (q ∷ qs) (i ∷ is) zip = by zip.0 (gather qs is zip.1)
+    where
+      by : IsGatheredOne q i → AreGathered qs is → AreGathered (q ∷ qs) (i ∷ is)
+      by (left_out none out) rest = record {
+        chosen = rest.chosen;
+        zip = subst (AllZip (SightBecomes t kept p seen) rest.chosen) (ap (λ o. cons_option o (filter_map pick is)) (sym none)) rest.zip;
+        among = rest.among;
+        each = each;
+      }
+        where
+          each : (r : ℕ) → Contains (q ∷ qs) r → wanted r ≡ true → HasPath t r → (c : NumberedSight) × Contains rest.chosen c × (c.place ≡ r)
+          each r (zero, low, same) passes path = absurd (out (ap wanted same ∙ passes) (subst (HasPath t) (sym same) path))
+          each r (suc j, low, same) passes path = rest.each r (j, omega (arith, low), same) passes path
+      by (gathered s x c place passes found becomes) rest = record {
+        chosen = s ∷ rest.chosen;
+        zip = subst (AllZip (SightBecomes t kept p seen) (s ∷ rest.chosen)) (ap (λ o. cons_option o (filter_map pick is)) (sym found)) (becomes, rest.zip);
+        among = among;
+        each = each;
+      }
+        where
+          among : (r : NumberedSight) → Contains (s ∷ rest.chosen) r → Contains seen r × (wanted r.place ≡ true)
+          among r (zero, low, same) = (subst (Contains seen) same c, ap (λ (y : NumberedSight). wanted y.place) (sym same) ∙ passes)
+          among r (suc j, low, same) = rest.among r (j, omega (arith, low), same)
+
+          each : (r : ℕ) → Contains (q ∷ qs) r → wanted r ≡ true → HasPath t r → (d : NumberedSight) × Contains (s ∷ rest.chosen) d × (d.place ≡ r)
+          each r (zero, low, same) allowed path = (s, (0, omega arith, refl), place ∙ same)
+          each r (suc j, low, same) allowed path = let later = rest.each r (j, omega (arith, low), same) allowed path in (later.0, contains-later s rest.chosen later.0 later.1, later.2)
+  gather _ _ zip = absurd zip
+
+  -- All interfaces that are picked are gathered, each from one view of its place.
+  pub record IsGatheredFrom (is : List PlannedInterface) : Type 0 where
+    pub chosen : List NumberedSight
+    pub chosen_are : AreChosen (λ s. wanted s.place) seen chosen
+    pub zip : AllZip (SightBecomes t kept p seen) chosen (filter_map pick is)
+
+  pub gathered_from : (qs : List ℕ) (is : List PlannedInterface) → AllZip IsGatheredOne qs is → ((s : NumberedSight) → Contains seen s → Contains qs s.place × HasPath t s.place) → IsGatheredFrom is
+  gathered_from qs is zip met =
+      let all = gather qs is zip in
+      record { chosen = all.chosen; chosen_are = record { among = all.among; each = λ s c passes. (let there = met s c in all.each s.place there.0 passes there.1) }; zip = all.zip }
+
+-- ---- what the page is for
 
 -- what is told of types alone says what they become
 told_listed : (t : Tables) (kept : List ℕ) (p : Plan) (xs ys : List NumberedType) (es : List (Text × ℕ)) → map told xs ≡ map told ys → AllZip (TypeListed t kept p) xs es

@@ -4,9 +4,7 @@ use Rattle.std.specs.List.{AllZip, Contains, flat_map}
 use Rattle.wit_model.specs.Text.{Text}
 use Rattle.wit_model.specs.declared.model.TypeId.{TypeId}
 use Rattle.plan_meaning.specs.GatheredPlan.{InterfaceAt, SeenBecomes, WorldAt, WorldBecomes, WorldsListed, functions_seen, worlds_listed}
-use Rattle.plan_meaning.specs.{NumberedMembers.Homes, NumberedMembers.home_at, Plan.Plan, Plan.PlannedItem, Plan.PlannedKey, Plan.PlannedWorld}
-use Rattle.plan_meaning.specs.{NumberedRules.Fact, ReadFunctions.Beside}
-use Rattle.plan_meaning.specs.{NumberedViews.NumberedSight, NumberedViews.Tables, NumberedViews.path_at, NumberedViews.path_text, ReadWorlds.is_type_seen}
+use Rattle.plan_meaning.specs.{NumberedMembers.Homes, NumberedMembers.home_at, Plan.Plan, Plan.PlannedItem, Plan.PlannedKey, Plan.PlannedWorld, NumberedRules.Fact, ReadFunctions.Beside, NumberedViews.NumberedSight, NumberedViews.Tables, NumberedViews.path_at, NumberedViews.path_text, ReadWorlds.is_type_seen}
 use Rattle.plan_meaning.specs.NumberedWorlds.{HasPath, KeyStands, NumberedScope, NumberedSeen, place_of_key, shown_of}
 use Rattle.plan_meaning.proofs.{Lists.no_true, NumberedWorlds.path_is}
 use Rattle.plan_parts.specs.Interfaces.{AreResources}
@@ -17,13 +15,10 @@ use Rattle.read_rules.specs.{Scopes.numbered_key, Scopes.numbered_scope, Scopes.
 use Rattle.plan_types.specs.PlannedTypes.{number_in}
 use Rattle.plan_package.specs.{PlanWhole.PlansWhole, PlanWhole.places_in, Views.views_of_members, WholePackages.numbered_labels}
 use Rattle.plan_package.specs.WholeWorlds.{PlansItem, PlansWorld, a_function, a_type, an_instance, planned_key, types_seen, world_in_part, worlds_in}
-use Rattle.plan_laws.specs.{FirstViews.ViewsAreOrdered, WholeTypes.IsRuledInput, WholeTypes.TypesAreWhole, WorldItems.TypesAreRead, WorldItems.WorldsAreApart}
+use Rattle.plan_laws.specs.{FirstViews.ViewsAreOrdered, WholeTypes.IsRuledInput, WholeTypes.TypesAreWhole, WorldItems.TypesAreRead, WorldItems.WorldsAreApart, WholeFunctions.beside_tables, WholeWorlds.IsUnderKey, WholeWorlds.WorldIsFollowed, WholeWorlds.WorldsAreFollowed}
 use Rattle.plan_laws.specs.Whole.{IsPackageInput}
-use Rattle.plan_laws.specs.{WholeFunctions.beside_tables, WholeWorlds.IsUnderKey, WholeWorlds.WorldIsFollowed, WholeWorlds.WorldsAreFollowed}
-use Rattle.plan_laws.proofs.{GatheredInterfaces.interface_at, GatheredInterfaces.path_same, WorldItems.planned_worlds_stand, WorldItems.world_member}
-use Rattle.plan_laws.proofs.{OwnPlaces.a_view, OwnPlaces.frames, OwnPlaces.one_owned, WholePlacesLabels.world_among, WholeReasonsFunctions.first_whole}
+use Rattle.plan_laws.proofs.{GatheredInterfaces.interface_at, GatheredInterfaces.path_same, WorldKeys.planned_worlds_stand, WorldKeys.world_member, OwnPlaces.a_view, OwnPlaces.frames, OwnPlaces.one_owned, WholePlacesLabels.world_among, WholeTypes.first_whole, ShownAlike.view_owned, ShownFrom.view_frame, WholeFunctions.seen_becomes, WholeTypes.packages_are_ruled, WorldKeys.keys_differ}
 use Rattle.plan_laws.proofs.Sources.{Side, seen_sight, side_good, side_is, sight_of, IsWorldIn, world_in}
-use Rattle.plan_laws.proofs.{ShownAlike.view_owned, ShownFrom.view_frame, WholeFunctions.seen_becomes, WholeTypes.packages_are_ruled, WorldKeys.keys_differ}
 use Rattle.base_lemmas.proofs.Elements.{all_at, contains-later, get-contains, zip_at}
 use Rattle.comp_meaning.specs.Reads as reads
 use Rattle.plan_meaning.specs.NumberedWorlds as worlds

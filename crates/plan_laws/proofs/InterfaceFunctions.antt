@@ -7,9 +7,7 @@ use Rattle.wit_model.specs.declared.model.TypeId.{TypeId}
 use Rattle.wit_model.specs.Text.{Text, text_eq}
 use Rattle.wit_model.proofs.Elements.{contains-get}
 use Rattle.comp_meaning.specs.Rules.{distinct}
-use Rattle.plan_meaning.specs.{FollowedNumbers.IsCalledIn, FollowedNumbers.IsMetFrom, FollowedNumbers.IsShownIn, FollowedNumbers.IsViewIn, Shapes.named_shape}
-use Rattle.plan_meaning.specs.{GatheredPlan.FunctionBecomes, NumberedMembers.Homes, NumberedMembers.home_at, ReadFunctions.Beside, ReadFunctions.IsReadFunction}
-use Rattle.plan_meaning.specs.{KeptFunctions.IsResource, NumberedRules.is_no_part, Plan.Plan, Plan.PlannedFunction}
+use Rattle.plan_meaning.specs.{FollowedNumbers.IsCalledIn, FollowedNumbers.IsMetFrom, FollowedNumbers.IsShownIn, FollowedNumbers.IsViewIn, Shapes.named_shape, GatheredPlan.FunctionBecomes, NumberedMembers.Homes, NumberedMembers.home_at, ReadFunctions.Beside, ReadFunctions.IsReadFunction, KeptFunctions.IsResource, NumberedRules.is_no_part, Plan.Plan, Plan.PlannedFunction}
 use Rattle.plan_meaning.specs.NumberedViews.{NumberedFunction, NumberedSight, NumberedType, PartsOf, Tables, declaration_of, function_at, place_at, shown_type, signature_at, view_of}
 use Rattle.plan_parts.specs.Interfaces.{AreResources, IsPlannedFunction, slot_part}
 use Rattle.read_exports.specs.Members.{numbered_members}
@@ -17,7 +15,7 @@ use Rattle.read_exports.specs.declared.members.Member.{Member}
 use Rattle.plan_types.specs.Showings.{showings_of_members}
 use Rattle.plan_package.specs.{PlanWhole.PlansWhole, Views.views_of_members}
 use Rattle.plan_laws.specs.{Owners.owners_of, WholeTypes.IsRuledInput, ShownRules.ViewObeys}
-use Rattle.plan_laws.proofs.{FirstDeclared.shown_alike, ShownRules.function_obeys, ViewsAgree.told, ViewsAgree.views_tell, WholeFunctions.nothing_declared}
+use Rattle.plan_laws.proofs.{FirstPlaces.shown_alike, ShownRules.function_obeys, ViewsAgree.told, ViewsAgree.views_tell, WholeFunctions.nothing_declared}
 use Rattle.plan_laws.proofs.ReadFunction.{function_becomes, read_function, resource_at, told as told_of}
 use Rattle.plan_laws.proofs.Planned.{kept_number}
 use Rattle.base_lemmas.proofs.Elements.{all_at, contains-later, contains-map, get-contains, map_from as from_map}

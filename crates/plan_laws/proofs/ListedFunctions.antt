@@ -1,16 +1,14 @@
 -- The functions of an interface of the plan are those of the first view of its place that shows some.
-use Rattle.plan_laws.proofs.{Sources.member_view_in, Viewed.zip_within, WholeTypes.packages_are_ruled}
-use Rattle.plan_laws.proofs.{FirstViews.first_is, FirstViews.view_names, InterfaceFunctions.view_becomes, Planned.first_there, Planned.interface_there}
+use Rattle.plan_laws.proofs.{Sources.member_view_in, Viewed.zip_within, WholeTypes.packages_are_ruled, FirstViews.first_is, FirstViews.view_names, InterfaceFunctions.view_becomes, Planned.first_there, Planned.interface_there}
 use Rattle.std.proofs.Common.{◌≡◌, refl, sym, ap, subst, ◌∙◌, ℕ, arith, Bool, true, false, ◌==◌, ◌&&◌, cond, List, [], ◌∷◌, ◌++◌, map, Option, Some, None, slice_get}
 use Rattle.std.proofs.lemmas.{Bool.eqb-true, Option.same_Some as same-some}
 use Rattle.std.specs.{List.AllZip, List.Contains, List.flat_map, Option.option_map_or}
 use Rattle.wit_model.specs.Text.{Text}
 use Rattle.wit_model.specs.declared.model.TypeOwner.{TypeOwner}
 use Rattle.wit_model.proofs.Elements.{none-in}
-use Rattle.plan_meaning.specs.{GatheredPlan.FunctionBecomes, GatheredPlan.FunctionListed, GatheredPlan.functions_seen, NumberedRules.Fact}
+use Rattle.plan_meaning.specs.{GatheredPlan.FunctionBecomes, GatheredPlan.FunctionListed, GatheredPlan.functions_seen, NumberedRules.Fact, NumberedWorlds.HasPath, NumberedWorlds.NumberedInstance, NumberedWorlds.sights_of_instance, ReadFunctions.Beside}
 use Rattle.plan_meaning.specs.NumberedMembers.{Homes, NumberedMember, NumberedPart, home_at, interface, sights_of_members, sights_of_part, world}
 use Rattle.plan_meaning.specs.NumberedViews.{NumberedFunction, NumberedSight, Tables, first_at, function_at, path_at}
-use Rattle.plan_meaning.specs.{NumberedWorlds.HasPath, NumberedWorlds.NumberedInstance, NumberedWorlds.sights_of_instance, ReadFunctions.Beside}
 use Rattle.plan_meaning.specs.Plan.{Plan, PlannedFunction, PlannedInterface, interface_in}
 use Rattle.plan_parts.specs.Interfaces.{IsPlannedFunction}
 use Rattle.read_exports.specs.Members.{numbered_members}

@@ -14,7 +14,7 @@ use Rattle.read_rules.specs.Scopes.{numbered_scope}
 use Rattle.plan_package.specs.{PlanWhole.PlansWhole, PlanWhole.places_in, WholeWorlds.PlansWorld, WholeWorlds.world_in_part, WholeWorlds.worlds_in}
 use Rattle.plan_package.specs.Views.{whole_view}
 use Rattle.plan_laws.specs.OneWorld.{AreOwnInterfaces, IsOwnInterface}
-use Rattle.plan_laws.proofs.{FirstViews.first_is, Inside.flat_cases, ShownWhole.view_given, WholePlacesTop.sight_of_place}
+use Rattle.plan_laws.proofs.{FirstViews.first_is, Inside.flat_cases, ShownWhole.view_given, WholeTypes.sight_of_place}
 use Rattle.base_lemmas.proofs.{Elements.all_at, Elements.last_of as one-contained, Numbers.same-number}
 use Rattle.read_exports.specs.declared.members.Part.TheVariants as parts
 

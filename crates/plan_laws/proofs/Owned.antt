@@ -3,10 +3,8 @@ use Rattle.std.proofs.Common.{◌≡◌, refl, sym, ap, subst, ◌∙◌, ℕ, �
 use Rattle.std.proofs.lemmas.{Option.slice_get_within, Option.same_Some as same-some, Slice.Zip.AllZip-long as zip_length}
 use Rattle.std.specs.{List.Contains, Option.option_map_or}
 use Rattle.wit_model.specs.{Text.Text, Valid.as_interface, Valid.as_world, Parts.same_owner, Uses.owner_interface}
-use Rattle.plan_meaning.specs.{FollowedNumbers.IsMetFrom, FollowedNumbers.IsNameOf, Plan.Plan, Plan.PlannedInterface, Plan.PlannedType, Plan.interface_in}
-use Rattle.plan_meaning.specs.{GatheredPlan.DeclaresKind, NumberedMembers.Homes, NumberedMembers.home_at, Shapes.Shape, Shapes.named_shape}
+use Rattle.plan_meaning.specs.{FollowedNumbers.IsMetFrom, FollowedNumbers.IsNameOf, Plan.Plan, Plan.PlannedInterface, Plan.PlannedType, Plan.interface_in, GatheredPlan.DeclaresKind, NumberedMembers.Homes, NumberedMembers.home_at, Shapes.Shape, Shapes.named_shape, NumberedRules.IsSeenFrom, NumberedRules.name_in, NumberedViews.AllOf, NumberedViews.Tables, NumberedViews.itself}
 use Rattle.plan_meaning.specs.KeptOwners.{AreOwned, IsNamedInterface, IsPlaceOf, of_interface, of_name}
-use Rattle.plan_meaning.specs.{NumberedRules.IsSeenFrom, NumberedRules.name_in, NumberedViews.AllOf, NumberedViews.Tables, NumberedViews.itself}
 use Rattle.plan_meaning.specs.NumberedWorlds.{HasPath}
 use Rattle.read_exports.specs.Members.{numbered_members}
 use Rattle.read_exports.specs.declared.members.Member.{Member}
@@ -16,8 +14,7 @@ use Rattle.plan_parts.proofs.DeclaredKinds.{kinds_declared}
 use Rattle.plan_package.specs.{Views.views_of_members, WholeInterfaces.PlansPlace, PlanWhole.PlansWhole, PlanWhole.places_in, PlanWhole.shown_first}
 use Rattle.plan_type_laws.proofs.{FirstFound.firsts_found, KeptKinds.kinds_tell}
 use Rattle.plan_laws.specs.{Owners.PlannedTypesAreOwned, Owners.homes_in, Owners.owners_of, ShownNames.IsInput}
-use Rattle.plan_laws.proofs.{Inside.name_same, Sources.if_given, Planned.home_alone, Planned.name_met, Planned.named_there}
-use Rattle.plan_laws.proofs.{PlaceNumbers.number_given, PlaceNumbers.owner_met, PlaceNumbers.owners_apart, Showings.showings_named, ViewNames.same_place}
+use Rattle.plan_laws.proofs.{Inside.name_same, Sources.if_given, Planned.home_alone, Planned.name_met, Planned.named_there, PlaceNumbers.number_given, PlaceNumbers.owner_met, PlaceNumbers.owners_apart, Showings.showings_named, ViewRules.same_place}
 use Rattle.base_lemmas.proofs.Elements.{get-contains, zip_at_right as zip_get}
 use Rattle.plan_package.proofs.ReadPackageLaws.{number_at as number_there}
 use Rattle.comp_meaning.specs.Reads as reads

@@ -22,7 +22,7 @@ use Rattle.plan_package.specs.Views.{types_alone, views_of_members, views_of_par
 use Rattle.plan_laws.specs.ShownNames.{DeclaresName, ImportsNumber, ShowsNumber}
 use Rattle.plan_laws.proofs.{Inside.IsIn, Inside.name_alone, Inside.name_in, Inside.name_same, MetNames.in_declared, MetNames.in_signature}
 use Rattle.plan_laws.proofs.Sources.{Side, at_mapped, imported_showing, side_good, view_in, import_sights, own_sight}
-use Rattle.plan_laws.proofs.ViewNames.{declared_inside, function_shows, instance_tree, outside_shows, part_of_function, part_shows, path_back, text_of_place}
+use Rattle.plan_laws.proofs.ViewRules.{declared_inside, function_shows, instance_tree, outside_shows, part_of_function, part_shows, path_back, text_of_place}
 use Rattle.base_lemmas.proofs.{Elements.all_at, Elements.get-contains, Lists.append_of_map, Lists.get_back as unmapped_get, Lists.map_of_map, Lists.mapped_get}
 use Rattle.plan_type_laws.proofs.PartPlaces.{parts_weaker, exported_place}
 use Rattle.comp_meaning.specs.Follow as follow

@@ -1,8 +1,6 @@
 -- What is known of a plan that was made of what was followed: where names are shown, and the interface of each place.
-use Rattle.plan_meaning.specs.{Renumbering.IsPart, Renumbering.a_primitive, Renumbering.a_shape, Plan.Plan, Plan.PlannedInterface, Plan.interface_in}
-use Rattle.plan_meaning.specs.{FollowedNumbers.IsPartIn, NumberedViews.NumberedSight, NumberedViews.Tables, NumberedViews.first_at, NumberedViews.path_at}
+use Rattle.plan_meaning.specs.{Renumbering.IsPart, Renumbering.a_primitive, Renumbering.a_shape, Plan.Plan, Plan.PlannedInterface, Plan.interface_in, FollowedNumbers.IsPartIn, NumberedViews.NumberedSight, NumberedViews.Tables, NumberedViews.first_at, NumberedViews.path_at, NumberedWorlds.HasPath, PlanRules.has_name, Shapes.named_shape}
 use Rattle.plan_meaning.specs.NumberedMembers.{Homes, NumberedMember, NumberedPart, home_at, interface, world}
-use Rattle.plan_meaning.specs.{NumberedWorlds.HasPath, PlanRules.has_name, Shapes.named_shape}
 use Rattle.std.proofs.Common.{◌≡◌, refl, sym, ap, subst, ◌∙◌, ℕ, zero, suc, ◌⊎◌, inl, inr, arith, Bool, true, false, ◌==◌, cond, List, [], ◌∷◌, Some, None, option_map, is_some, slice_get, ◌+◌, Option}
 use Rattle.std.specs.{List.Contains, List.find, List.flat_map, Option.option_map_or}
 use Rattle.wit_model.specs.Text.{Text}
@@ -12,7 +10,7 @@ use Rattle.read_exports.specs.declared.members.Member.{Member}
 use Rattle.plan_types.specs.Orders.{home_of_part, places_of_part}
 use Rattle.plan_package.specs.{Views.views_of_members, Views.views_of_part, WholeInterfaces.PlansPlace, PlanWhole.PlansWhole, PlanWhole.places_in}
 use Rattle.read_rules.specs.declared.scopes.Scope.{Scope}
-use Rattle.plan_type_laws.proofs.ShownForms.{mark_there}
+use Rattle.plan_type_laws.proofs.ShownRules.{mark_there}
 use Rattle.plan_laws.specs.{Owners.homes_in, ShownNames.IsInput, ShownNames.IsShownByPart, ShownNames.by_import, ShownNames.by_view}
 use Rattle.plan_laws.proofs.{Inside.flat_cases, PlaceNumbers.all_joined, PlaceNumbers.from_joined, ShownNames.names_are_shown}
 use Rattle.base_lemmas.proofs.Elements.{all_at, contains-map, get-contains, last_of as one-contained, map_from as from_map, zip_at}

@@ -1,22 +1,17 @@
 -- All functions of a whole plan are those that were read, each in its own place.
-use Rattle.plan_laws.proofs.{ListedFunctions.function_of_view, FirstViews.first_is, FirstViews.view_names, WholeFunctions.world_functions_are_read}
-use Rattle.plan_laws.proofs.{InstanceSeen.shown_so, Sources.partner_back, Sources.member_view_in, PlaceNumbers.owner_numbered, PlaceNumbers.place_number}
-use Rattle.plan_laws.proofs.{InterfaceFunctions.view_function, Planned.first_there, ShownRules.all_of, WorldItems.planned_worlds_stand}
+use Rattle.plan_laws.proofs.{ListedFunctions.function_of_view, FirstViews.first_is, FirstViews.view_names, WholeFunctions.world_functions_are_read, InstanceSeen.shown_so, Sources.partner_back, Sources.member_view_in, PlaceNumbers.owner_numbered, PlaceNumbers.place_number, InterfaceFunctions.view_function, Planned.first_there, ShownRules.all_of, WorldKeys.planned_worlds_stand}
 use Rattle.std.proofs.Common.{◌≡◌, refl, sym, ap, subst, ◌∙◌, ℕ, true, false, List, Some}
 use Rattle.std.specs.List.{AllByRecursion, Contains}
 use Rattle.wit_model.specs.{Text.Text, Valid.as_interface, Valid.as_world}
-use Rattle.plan_meaning.specs.{GatheredPlan.functions_seen, NumberedMembers.Homes, NumberedMembers.NumberedMember, NumberedMembers.home_at, NumberedRules.Fact}
+use Rattle.plan_meaning.specs.{GatheredPlan.functions_seen, NumberedMembers.Homes, NumberedMembers.NumberedMember, NumberedMembers.home_at, NumberedRules.Fact, PlanRules.functions_of, PlanRules.world_functions, ReadFunctions.Beside, ReadFunctions.IsReadFunction}
 use Rattle.plan_meaning.specs.NumberedViews.{NumberedFunction, NumberedSight, PartsOf, Tables, function_at}
 use Rattle.plan_meaning.specs.Plan.{Plan, PlannedFunction, PlannedInterface, PlannedWorld, interface_in, world_in}
-use Rattle.plan_meaning.specs.{PlanRules.functions_of, PlanRules.world_functions, ReadFunctions.Beside, ReadFunctions.IsReadFunction}
 use Rattle.plan_parts.specs.Interfaces.{IsPlannedFunction}
 use Rattle.read_exports.specs.Members.{numbered_members}
 use Rattle.read_exports.specs.declared.members.Member.{Member}
 use Rattle.plan_types.specs.Showings.{signatures_of_members}
-use Rattle.plan_package.specs.{PlanWhole.PlansWhole, PlanWhole.places_in, Views.views_of_members}
-use Rattle.plan_package.specs.{WholeInterfaces.PlansInterface, WholeInterfaces.PlansPlace, WholeWorlds.PlansWorld, WholeWorlds.worlds_in}
-use Rattle.plan_laws.specs.{FirstViews.ViewsAreOrdered, Owners.owners_of, ShownRules.ViewObeys, WholeReasons.AreShownAlike, WorldItems.WorldsAreApart}
-use Rattle.plan_laws.specs.{WholeFunctions.PlannedFunctionsAreRead, WholeFunctions.beside_tables, WholeTypes.IsRuledInput, WholeTypes.TypesAreWhole}
+use Rattle.plan_package.specs.{PlanWhole.PlansWhole, PlanWhole.places_in, Views.views_of_members, WholeInterfaces.PlansInterface, WholeInterfaces.PlansPlace, WholeWorlds.PlansWorld, WholeWorlds.worlds_in}
+use Rattle.plan_laws.specs.{FirstViews.ViewsAreOrdered, Owners.owners_of, ShownRules.ViewObeys, WholeReasons.AreShownAlike, WorldItems.WorldsAreApart, WholeFunctions.PlannedFunctionsAreRead, WholeFunctions.beside_tables, WholeTypes.IsRuledInput, WholeTypes.TypesAreWhole}
 use Rattle.base_lemmas.proofs.Elements.{all_at, get-contains, map_from as from_map, zip_at_right as zip_get}
 use Rattle.comp_meaning.specs.Reads as reads
 

@@ -5,8 +5,7 @@ use Rattle.std.specs.List.{Contains, flat_map}
 use Rattle.wit_model.specs.Text.{Text}
 use Rattle.comp_meaning.specs.{Follow.Instance, Reads.Part as MeantPart}
 use Rattle.read_shown.specs.{Scopes.IsShownBefore, Views.ViewStands}
-use Rattle.plan_meaning.specs.{FollowedNumbers.IsViewIn, NumberedViews.NumberedSight, NumberedViews.Tables, NumberedViews.place_at, NumberedViews.view_of}
-use Rattle.plan_meaning.specs.{NumberedMembers.Homes, NumberedMembers.NumberedMember, Shapes.named_shape}
+use Rattle.plan_meaning.specs.{FollowedNumbers.IsViewIn, NumberedViews.NumberedSight, NumberedViews.Tables, NumberedViews.place_at, NumberedViews.view_of, NumberedMembers.Homes, NumberedMembers.NumberedMember, Shapes.named_shape}
 use Rattle.read_rules.specs.declared.scopes.Scope.{Scope}
 use Rattle.read_exports.specs.Members.{numbered_member, numbered_members, numbered_part}
 use Rattle.read_exports.specs.declared.members.{Member.Member, Part.Part}
@@ -22,7 +21,7 @@ use Rattle.comp_meaning.specs.Reads as reads
 use Rattle.read_exports.specs.declared.members.Part.TheVariants as parts
 use Rattle.plan_laws.proofs.Sources as sources
 pub use Rattle.plan_laws.proofs.Sources.{beside}
-use Rattle.plan_laws.proofs.ViewNames.{instance_tree}
+use Rattle.plan_laws.proofs.ViewRules.{instance_tree}
 use Rattle.base_lemmas.proofs.Lists.{mapped_get}
 
 module _ (t : Tables) (h : Homes) (ms : List Member) (members : List reads.Member) (input : IsInput t h ms members) (n q : ℕ) (name : Text)

@@ -1,7 +1,5 @@
 -- The worlds of a plan show what worlds at the top do, and each view shows the types by which its place is read.
-use Rattle.plan_laws.proofs.{ShownFrom.own_once, Inside.flat_cases, InstanceSeen.instance_seen, Planned.found_there}
-use Rattle.plan_laws.proofs.{Sources.Side, Sources.partner, Sources.world_in as world_of, PlaceNumbers.one_owner, PlaceNumbers.owner_numbered}
-use Rattle.plan_laws.proofs.{FirstTypes.views_told, FirstViews.first_is, FirstViews.told_types, WholePlacesLabels.world_among, WholeTypes.packages_are_ruled}
+use Rattle.plan_laws.proofs.{ShownFrom.own_once, Inside.flat_cases, InstanceSeen.instance_seen, Planned.found_there, Sources.Side, Sources.partner, Sources.world_in as world_of, PlaceNumbers.one_owner, PlaceNumbers.owner_numbered, FirstTypes.views_told, FirstViews.first_is, FirstViews.told_types, WholePlacesLabels.world_among, WholeTypes.packages_are_ruled}
 use Rattle.std.proofs.Common.{◌≡◌, refl, sym, ap, subst, ◌∙◌, ℕ, inl, inr, ◌==◌, true, List, [], ◌∷◌, ◌++◌, map, Option, Some, None}
 use Rattle.std.proofs.lemmas.{List.Elements.Contains-append_left, List.Elements.Contains-append_right, Option.same_Some as same-some}
 use Rattle.std.specs.{List.AllByRecursion, List.AllZip, List.Contains, Option.option_map_or, Cmp.Lexicographic.pointwise}
@@ -9,9 +7,7 @@ use Rattle.wit_model.specs.{Text.Text, Valid.as_interface, Valid.as_world}
 use Rattle.wit_model.specs.declared.model.{TypeId.TypeId, TypeOwner.TypeOwner}
 use Rattle.wit_model.proofs.Elements.{contains-flat, contains-get, none-in}
 use Rattle.plan_meaning.specs.NumberedMembers.{Homes, NumberedMember, NumberedPart, home_at, interface, sights_of_members, sights_of_part, world}
-use Rattle.plan_meaning.specs.{NumberedRules.Fact, ReadWholes.IsShownByWorld, ReadWholes.place_shown}
-use Rattle.plan_meaning.specs.{NumberedViews.NumberedSight, NumberedViews.Tables, NumberedViews.path_at, NumberedViews.same_shown, ReadFunctions.Beside}
-use Rattle.plan_meaning.specs.{NumberedWorlds.NumberedInstance, NumberedWorlds.place_of_key, NumberedWorlds.sights_of_instance, ReadPlans.IsReadPlan}
+use Rattle.plan_meaning.specs.{NumberedRules.Fact, ReadWholes.IsShownByWorld, ReadWholes.place_shown, NumberedViews.NumberedSight, NumberedViews.Tables, NumberedViews.path_at, NumberedViews.same_shown, ReadFunctions.Beside, NumberedWorlds.NumberedInstance, NumberedWorlds.place_of_key, NumberedWorlds.sights_of_instance, ReadPlans.IsReadPlan}
 use Rattle.plan_meaning.specs.Plan.{Plan, PlannedItem, PlannedKey, PlannedWorld, item_interface, world_in}
 use Rattle.plan_meaning.specs.ReadWorlds.{IsReadItem, IsReadWorld, ReadItem, a_function, a_type, by_label, by_path, implementing_path}
 use Rattle.read_exports.specs.Members.{numbered_members}

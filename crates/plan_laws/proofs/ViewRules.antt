@@ -1,15 +1,149 @@
 -- What a place is read by obeys the rules on interfaces.
-use Rattle.std.proofs.Common.{◌≡◌, refl, ap, subst, ◌∙◌, ℕ, suc, arith, Bool, true, false, ◌&&◌, ◌==◌, if◌then◌else◌, List, [], ◌∷◌, ◌++◌, map, Option}
+use Rattle.std.proofs.Common.{◌≡◌, refl, sym, ap, subst, ◌∙◌, ℕ, suc, zero, ◌+◌, ◌⊎◌, inl, inr, arith, Bool, true, false, if◌then◌else◌, List, [], ◌∷◌, length, map, Option, Some, None, slice_get, ◌&&◌, ◌==◌, ◌++◌}
 use Rattle.std.proofs.lemmas.{Bool.eqb-true, List.append-nil}
-use Rattle.std.specs.List.{Contains, list_all}
+use Rattle.std.specs.{List.Contains, List.list_all, Option.option_map_or}
 use Rattle.wit_model.specs.{Text.Text, Tree.Place, Meaning.FunctionMeaning, Names.is_label}
-use Rattle.comp_meaning.specs.{Follow.ShownType, Rules.distinct, Rules.is_declared, Rules.is_function, Rules.is_resource, Rules.resources_of}
-use Rattle.plan_meaning.specs.GatheredPlan.{functions_seen}
-use Rattle.plan_meaning.specs.NumberedViews.{NumberedFunction, NumberedSight, NumberedType, Tables, declaration_of, place_at, shown_function, shown_type, view_of}
-use Rattle.plan_laws.specs.FirstViews.{told}
+use Rattle.wit_model.proofs.Elements.{contains-get, none-in, contains-has}
+use Rattle.comp_meaning.specs.Follow.{Instance, ShownType, place_of}
+use Rattle.comp_meaning.specs.Rules.{distinct, is_declared, is_function, is_resource, resources_of}
+use Rattle.read_shown.specs.{Scopes.IsShownBefore, Trees.DeclarationStands}
+use Rattle.read_shown.specs.Views.{IsMetInView, ShowsName, ViewStands, inside as met_inside, outside as met_outside}
+use Rattle.plan_meaning.specs.FollowedNumbers.{IsCalledIn, IsMetFrom, IsNameOf, IsShownIn, IsSlotOf, IsViewIn}
+use Rattle.plan_meaning.specs.{NumberedRules.is_form, NumberedRules.shape_at, Shapes.Shape, Shapes.named_shape, GatheredPlan.functions_seen}
+use Rattle.plan_meaning.specs.NumberedWorlds.{HasPath}
+use Rattle.plan_meaning.specs.NumberedViews.{AllOf, AreTables, FunctionShape, IsPart, NumberedFunction, NumberedSight, NumberedType, PartsOf, Tables, declaration_of, function_at, path_at, place_at, shown_function, shown_type, view_of}
+use Rattle.plan_parts.specs.Interfaces.{slot_part}
+use Rattle.plan_types.specs.Used.{declared_parts, form_parts, signature_parts}
+use Rattle.plan_type_laws.proofs.{ShownRules.numbered_shape, ShownRules.function_part, PartPlaces.parts_weaker, PartPlaces.slot_number}
+use Rattle.plan_laws.specs.{ShownNames.ShowsNumber, FirstViews.told}
+use Rattle.plan_laws.proofs.{Inside.IsIn, Inside.inside, Inside.name_alone, Inside.name_in, Inside.name_same, MetNames.in_declared, MetNames.in_signature}
+use Rattle.base_lemmas.proofs.{Elements.all_at, Elements.get-contains, Elements.last_of as one-contained, Lists.get_back as unmapped_get, Lists.mapped_get}
 use Rattle.base_lemmas.proofs.Bools.{left_of as first_true}
 use Rattle.comp_meaning.specs.Rules as rules
 use Rattle.read_shown.proofs.Agreement as agreement
+
+-- ---- A name that is met in a view was shown in its own place.
+
+-- ---- parts
+
+-- the parts of a function
+pub part_of_function : (P : ℕ → Type 0) (f : FunctionShape) → PartsOf P f → (k : ℕ) → Contains (signature_parts f) k → P k
+part_of_function P f all k c = function_part P f all k (contains-has (signature_parts f) k c)
+
+-- what is declared where one of its parts is used
+pub declared_inside : (t : Tables) (n : ℕ) (d : Option ℕ) (k : ℕ) → Contains (declared_parts t d) k → IsIn t.shapes k n → (j : ℕ) × (d ≡ Some j) × IsIn t.shapes j n
+declared_inside t n None k c found = none-in k c
+declared_inside t n (Some j) k c found = by (is_form t j) c
+  where
+    formed : (o : Option Shape) → shape_at t j ≡ o → Contains (option_map_or (λ (s : Shape). s.parts) o []) k → (i : ℕ) × (Some j ≡ Some i) × IsIn t.shapes i n
+    formed None e among = none-in k among
+    formed (Some s) e among = let at = numbered_shape t j s e in (j, refl, inside j at.0 k n s at.1 at.2 among found)
+
+    by : (b : Bool) → Contains (if b then form_parts t j else j ∷ []) k → (i : ℕ) × (Some j ≡ Some i) × IsIn t.shapes i n
+    by true among = formed (shape_at t j) refl among
+    by false among = (j, refl, subst (λ i. IsIn t.shapes i n) (sym (one-contained j k among)) found)
+
+-- ---- places
+
+abbrev pub text_of_place : Place → Option Text
+text_of_place Place.here = None
+text_of_place (Place.of_interface path) = Some path
+
+pub path_back : (o : Option Text) → text_of_place (place_of o) ≡ o
+path_back None = refl
+path_back (Some path) = refl
+
+module _ (t : Tables) (tables : AreTables t) where
+  abbrev pub instance_tree : NumberedSight → Instance
+  instance_tree s = record { interface = path_at t s.place; view = view_of t s.view }
+
+  pub path_of_place : (q : ℕ) (path : Text) → place_at t q ≡ Place.of_interface path → path_at t q ≡ Some path
+  path_of_place q path e = sym (path_back (path_at t q)) ∙ ap text_of_place e
+
+  -- two numbers of one place with a path
+  pub same_place : (a q : ℕ) → HasPath t q → place_at t a ≡ place_at t q → a ≡ q
+  same_place a q path e = tables.paths a q path.0 (sym (path_back (path_at t a)) ∙ (ap text_of_place e ∙ (path_back (path_at t q) ∙ path.1))) path.1
+
+  module _ (views : List NumberedSight) (good : (s : NumberedSight) → Contains views s → IsViewIn t s.place s.view) (n q : ℕ) (name : Text) (at : slice_get t.shapes n ≡ Some (named_shape q name)) where
+    -- ---- views that show the name
+
+    -- a type that is shown under the name, or under its number
+    pub type_shows : (s : NumberedSight) → Contains views s → (x : NumberedType) → Contains s.view.types x → (is : IsShownIn t s.place x) → is.number ≡ n → s.place ≡ q → ShowsNumber t views q n
+    type_shows s c x there is one same = record {
+      sight = s;
+      among = c;
+      place = same;
+      type_ = x;
+      there = there;
+      named = subst (λ p. IsNameOf t p x.name x.declared n) same (subst (IsNameOf t s.place x.name x.declared) one is.name);
+      slot = subst (IsSlotOf t x.slot) one is.slot;
+    }
+
+    view_shows : (s : NumberedSight) → Contains views s → s.place ≡ q → (count : ℕ) (place : Place) (b : Bool) → ShowsName place (view_of t s.view) count name b → ShowsNumber t views q n
+    view_shows s c same count place b shows =
+        let from = unmapped_get (shown_type t) s.view.types shows.number shows.shown shows.at in
+        let there = get-contains s.view.types shows.number from.0 from.1 in
+        let is = all_at (IsShownIn t s.place) s.view.types (good s c).types from.0 there in
+        let text : from.0.name ≡ name = ap (λ (y : ShownType). y.name) from.2 ∙ shows.named in
+        let one : is.number ≡ n = tables.shapes.apart is.number n (named_shape q name) (is.name.named ∙ (ap (λ p. Some (named_shape p from.0.name)) same ∙ ap (λ x. Some (named_shape q x)) text)) at in
+        type_shows s c from.0 there is one same
+
+    module _ (instances : List Instance) (trees : instances ≡ map instance_tree views) where
+      pub outside_shows : (count : ℕ) (b : Bool) → IsShownBefore instances count (place_at t q) name b → ShowsNumber t views q n
+      outside_shows count b before =
+          let from = unmapped_get instance_tree views before.number before.shown (subst (λ is. slice_get is before.number ≡ Some before.shown) trees before.at) in
+          let path : path_at t from.0.place ≡ Some before.path = ap (λ (i : Instance). i.interface) from.2 ∙ before.of_path in
+          let same : from.0.place ≡ q = tables.paths from.0.place q before.path path (path_of_place q before.path before.stands) in
+          let shows = subst (λ (i : Instance). ShowsName (place_at t q) i.view (length i.view.types) name b) (sym from.2) before.shows in
+          view_shows from.0 (get-contains views before.number from.0 from.1) same (length (view_of t from.0.view).types) (place_at t q) b shows
+
+      module _ (s : NumberedSight) (k : ℕ) (there : slice_get views k ≡ Some s) (stands : ViewStands (IsShownBefore instances k) (place_at t s.place) (view_of t s.view)) where
+        among : Contains views s
+        among = get-contains views k s there
+
+        met_shows : (count : ℕ) (b : Bool) → (q ≡ s.place) ⊎ HasPath t q → IsMetInView (IsShownBefore instances k) (place_at t s.place) (view_of t s.view) count (place_at t q) name b
+            → ShowsNumber t views q n
+        met_shows count b here (met_outside before) = outside_shows k b before
+        met_shows count b (inl same) (met_inside own shows) = view_shows s among (sym same) count (place_at t s.place) b shows
+        met_shows count b (inr path) (met_inside own shows) = view_shows s among (same_place s.place q path (sym own)) count (place_at t s.place) b shows
+
+        -- what a type is declared as
+        declared_shows : (i : ℕ) (x : NumberedType) → slice_get s.view.types i ≡ Some x → (k : ℕ) → x.declared ≡ Some k → IsIn t.shapes k n → ShowsNumber t views q n
+        declared_shows i x e j some found =
+            let is = all_at (IsShownIn t s.place) s.view.types (good s among).types x (get-contains s.view.types i x e) in
+            let met : IsMetFrom t s.place j = subst (AllOf (IsMetFrom t s.place)) some is.name.met in
+            let type_ = stands.types i (shown_type t x) (mapped_get (shown_type t) s.view.types i x e) in
+            let declared = subst (λ d. DeclarationStands (IsMetInView (IsShownBefore instances k) (place_at t s.place) (view_of t s.view) i) (declaration_of t d) type_.is_resource) some
+            type_.declared in
+            let name_met = in_declared t tables (IsMetInView (IsShownBefore instances k) (place_at t s.place) (view_of t s.view) i) n q name at j met.range found type_.is_resource declared in
+            met_shows i name_met.0 (met.names q (name_in t.shapes tables.shapes j n q name found at)) name_met.1
+
+        -- a part of a type that is shown
+        pub part_shows : (x : NumberedType) → Contains s.view.types x → (j : ℕ) → Contains (slot_part x.slot ∷ declared_parts t x.declared) j → IsIn t.shapes j n → ShowsNumber t views q n
+        part_shows x c j (zero, low, e) found =
+            let is = all_at (IsShownIn t s.place) s.view.types (good s among).types x c in
+            let part : j ≡ 14 + is.number = sym e ∙ slot_number t x.slot is.number is.slot in
+            let one : n ≡ is.number = name_alone t.shapes tables.shapes j n is.number s.place x.name part is.name.named found in
+            type_shows s among x c is (sym one) (name_same t.shapes s.place q x.name name is.number n is.name.named at (sym one)).0
+        part_shows x c j (suc i, low, e) found =
+            let there = contains-get s.view.types x c in
+            let inner = declared_inside t n x.declared j (i, omega (arith, low), e) found in
+            declared_shows there.0 x there.1 inner.0 inner.1 inner.2
+
+        -- a part of a function that is shown
+        pub function_shows : (f : Text × NumberedFunction) → Contains s.view.functions f → (j : ℕ) → Contains (signature_parts (function_at t f.1.signature)) j → IsIn t.shapes j n
+            → ShowsNumber t views q n
+        function_shows f c j part found =
+            let there = contains-get s.view.functions f c in
+            let called = all_at (λ (g : Text × NumberedFunction). IsCalledIn t s.place g.1.signature) s.view.functions (good s among).functions f c in
+            let met : IsMetFrom t s.place j = part_of_function (IsMetFrom t s.place) (function_at t f.1.signature) called.parts j part in
+            let Met = IsMetInView (IsShownBefore instances k) (place_at t s.place) (view_of t s.view) (length (view_of t s.view).types) in
+            let signature = stands.functions there.0 (shown_function t f) (mapped_get (shown_function t) s.view.functions there.0 f there.1) in
+            let ranges = parts_weaker (IsMetFrom t s.place) (IsPart t) (λ i m. m.range) (function_at t f.1.signature) called.parts in
+            let name_met = in_signature t tables Met n q name at (function_at t f.1.signature) ranges signature j part found in
+            met_shows (length (view_of t s.view).types) name_met.0 (met.names q (name_in t.shapes tables.shapes j n q name found at)) name_met.1
+
+-- ---- what the page is for
 
 -- ---- the rules look at what is told alone
 

@@ -10,11 +10,10 @@ use Rattle.wit_model.proofs.NameLaws.{read_path_is_spelled}
 use Rattle.comp_meaning.specs.Follow.{Instance}
 use Rattle.read_shown.specs.Scopes.{IsInstanceBefore}
 use Rattle.read_shown.proofs.Uses.{use_stands_before}
-use Rattle.plan_meaning.specs.{FollowedNumbers.IsMetFrom, FollowedNumbers.IsShownIn, Plan.Plan, Plan.PlannedInterface, Plan.interface_in}
+use Rattle.plan_meaning.specs.{FollowedNumbers.IsMetFrom, FollowedNumbers.IsShownIn, Plan.Plan, Plan.PlannedInterface, Plan.interface_in, NumberedWorlds.DeclaresParts, NumberedWorlds.HasPath, NumberedWorlds.used_by_view, ReadFunctions.Beside, Shapes.named_shape}
 use Rattle.plan_meaning.specs.GatheredPlan.{DeclaresKind, TypeListed, functions_seen}
 use Rattle.plan_meaning.specs.NumberedMembers.{Homes, NumberedMember, home_at, sights_of_members}
 use Rattle.plan_meaning.specs.NumberedViews.{AllOf, IsPart, NumberedSight, NumberedType, Tables, agree_in_numbers, first_at, path_at, path_text, place_at, view_of}
-use Rattle.plan_meaning.specs.{NumberedWorlds.DeclaresParts, NumberedWorlds.HasPath, NumberedWorlds.used_by_view, ReadFunctions.Beside, Shapes.named_shape}
 use Rattle.plan_meaning.specs.ReadInterfaces.{HasName, IsKeptAs, IsNamed, IsNumberOf, IsReadInterface}
 use Rattle.plan_meaning.specs.ReadOrder.{InterfacesAreViewed, IsUsedPlace, IsViewedInterface, itself, smaller}
 use Rattle.plan_meaning.proofs.NumberedWorlds.{path_is, view_paths, view_uses}
@@ -26,12 +25,9 @@ use Rattle.plan_package.specs.PlanWhole.{PlansWhole, owners_in, places_in, shown
 use Rattle.plan_package.specs.Views.{views_of_members, views_of_part}
 use Rattle.plan_package.specs.WholeInterfaces.{ListsNumber, PlansInterface, PlansPlace}
 use Rattle.plan_type_laws.specs.MembersStand.{all_instances}
-use Rattle.plan_laws.specs.{FirstViews.IsRisingView, FirstViews.ViewsAreOrdered, ViewedInterfaces.PlannedInterfacesAreViewed, ViewedInterfaces.views_read}
-use Rattle.plan_laws.specs.{Owners.owners_of, ShownNames.IsInput}
-use Rattle.plan_laws.proofs.{FirstPlaces.first_split, FirstPlaces.number_before, FirstTypes.first_told, FirstTypes.views_told, ViewNames.instance_tree}
-use Rattle.plan_laws.proofs.{FirstViews.first_is, Planned.first_there, Planned.kept_number, Sources.if_given, Sources.member_view_in, ViewRules.seen_obeys}
+use Rattle.plan_laws.specs.{FirstViews.IsRisingView, FirstViews.ViewsAreOrdered, ViewedInterfaces.PlannedInterfacesAreViewed, ViewedInterfaces.views_read, Owners.owners_of, ShownNames.IsInput}
+use Rattle.plan_laws.proofs.{FirstPlaces.first_split, FirstPlaces.number_before, FirstTypes.first_told, FirstTypes.views_told, ViewRules.instance_tree, FirstViews.first_is, Planned.first_there, Planned.kept_number, Sources.if_given, Sources.member_view_in, ViewRules.seen_obeys, PartNames.trees_of_all, PlaceNumbers.all_joined, PlaceNumbers.number_given, PlaceNumbers.owner_numbered, PlaceNumbers.place_number}
 use Rattle.plan_laws.proofs.Owned.{planned_name}
-use Rattle.plan_laws.proofs.{PartNames.trees_of_all, PlaceNumbers.all_joined, PlaceNumbers.number_given, PlaceNumbers.owner_numbered, PlaceNumbers.place_number}
 use Rattle.base_lemmas.proofs.Elements.{all_at, contains-map, get-contains, map_from as from_map, zip-kept as zip-weaker, zip_at_right as zip_get}
 use Rattle.base_lemmas.proofs.Lists.{append_of_map, get_back as unmapped_get, mapped_get, middle_get, slice_front as front_get, within_there as slice_there}
 use Rattle.plan_package.proofs.{PlacedLaws.part_placed as places_of_views, ReadPackageLaws.number_at as number_there}

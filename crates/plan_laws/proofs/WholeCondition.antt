@@ -1,18 +1,19 @@
--- A plan can be made of what was followed: all that is shown is over types that are used.
-use Rattle.plan_type_laws.proofs.{PartPlaces.slot_number, InnerForms.name_there, ShownMarks.names_marked, UsedWalk.unnamed_node}
-use Rattle.plan_type_laws.proofs.{FirstFound.firsts_found, ShownForms.form_unnamed, ShownForms.mark_there, ShownForms.numbered_shape, ShownForms.used_form}
+-- A plan that was made of what was followed means what that means.
+use Rattle.plan_type_laws.proofs.{PartPlaces.slot_number, InnerForms.name_there, UsedWalk.unnamed_node, FirstFound.firsts_found}
+use Rattle.plan_type_laws.proofs.{ShownMarks.names_marked, ShownRules.form_unnamed, ShownRules.mark_there, ShownRules.numbered_shape, ShownRules.used_form}
 use Rattle.std.proofs.Common.{◌≡◌, refl, sym, ap, subst, ◌∙◌, ℕ, ◌+◌, ◌-◌, ◌<◌, ◌≤◌, ◌⊎◌, inl, inr, arith, Bool, true, false, ◌==◌, nat_lt, cond, List, [], ◌∷◌, length, map, option_to_list, Option, Some, None, slice_get}
-use Rattle.std.proofs.lemmas.{Bool.eq-eqb, Bool.ltb-false, Bool.ltb-true, List.Elements.Contains-append_left, List.Elements.Contains-append_right}
-use Rattle.std.proofs.{lemmas.Option.slice_get_within, ByRecursion.All-weaker as recursion_weaker}
-use Rattle.std.specs.{Prelude.not, List.AllByRecursion, List.Contains, List.flat_map, Option.option_map_or}
-use Rattle.wit_model.specs.Text.{Text}
+use Rattle.std.proofs.{lemmas.Bool.eq-eqb, lemmas.Bool.ltb-false, lemmas.Bool.ltb-true, ByRecursion.All-weaker as recursion_weaker}
+use Rattle.std.proofs.lemmas.{List.Elements.Contains-append_left, List.Elements.Contains-append_right, Option.slice_get_within, Option.same_Some as same-some}
+use Rattle.std.specs.{Prelude.not, List.AllByRecursion, List.Contains, List.flat_map, List.AllZip, Option.option_map_or}
+use Rattle.wit_model.specs.{Text.Text, Names.PackageIdentity}
 use Rattle.wit_model.proofs.Elements.{contains-flat, contains-get, contains-has}
-use Rattle.plan_meaning.specs.{FollowedNumbers.IsMetFrom, FollowedNumbers.IsScopeIn, FollowedNumbers.IsShownIn, Renumbering.a_primitive, Renumbering.a_shape}
-use Rattle.plan_meaning.specs.{KeptResources.FormIsMarked, NumberedWorlds.place_of_key}
-use Rattle.plan_meaning.specs.{NumberedMembers.Homes, NumberedMembers.NumberedMember, Shapes.IsShape, Shapes.Shape, Shapes.named_shape}
+use Rattle.plan_meaning.specs.{FollowedNumbers.IsMetFrom, FollowedNumbers.IsScopeIn, FollowedNumbers.IsShownIn, Plan.Plan, Plan.PlannedPackage, Plan.package_in}
+use Rattle.plan_meaning.specs.{Renumbering.a_primitive, Renumbering.a_shape, GatheredPlan.IsGathered, GatheredPlan.WorldsListed, GatheredPlan.worlds_listed}
+use Rattle.plan_meaning.specs.{KeptResources.FormIsMarked, NumberedWorlds.place_of_key, PlanMeaning.plan_meaning, ReadFunctions.Beside}
+use Rattle.plan_meaning.specs.{NumberedMembers.Homes, NumberedMembers.NumberedMember, NumberedMembers.home_at, Shapes.IsShape, Shapes.Shape, Shapes.named_shape}
 use Rattle.plan_meaning.specs.NumberedRules.{Fact, is_form, name_at, name_in, shape_at}
 use Rattle.plan_meaning.specs.NumberedViews.{AllOf, FunctionShape, IsPart, NumberedSight, NumberedType, NumberedView, PartsOf, Tables, function_at}
-use Rattle.plan_meaning.proofs.Lists.{no_true}
+use Rattle.plan_meaning.proofs.{Lists.no_true, GatheredPlan.gathered_package_is_meant, KeptTypes.kept_types_pass, ReadWholes.read_package_plan_stands}
 use Rattle.plan_parts.specs.{Interfaces.IsFunctionOver, Interfaces.IsKeptSlot, Interfaces.slot_part, Marks.IsUsed, Marks.is_marked, Marks.marked, Marks.part}
 use Rattle.plan_parts.specs.{Kept.IsKeptPart, Kinds.MayBeDeclared, Kinds.a_part, Kinds.nothing, Kinds.over_parts}
 use Rattle.read_exports.specs.Members.{numbered_member, numbered_members, numbered_part}
@@ -22,23 +23,30 @@ use Rattle.read_rules.specs.{Reached.numbered_import, Scopes.numbered_instance, 
 use Rattle.plan_types.specs.PlannedTypes.{MayBePlanned, a_form, a_name}
 use Rattle.plan_types.specs.Showings.{NumberedShowing, showing_of, showings_of_members, showings_of_shown, signatures_of_members, signatures_of_shown}
 use Rattle.plan_types.specs.Used.{declared_parts, form_parts, function_parts, showing_parts, signature_parts, used_parts}
-use Rattle.plan_package.specs.PlanWhole.{AreKeptFor, IsKeptWhole, MayBeWhole, places_in, shown_first}
+use Rattle.plan_package.specs.PlanWhole.{AreKeptFor, IsKeptWhole, MayBeWhole, places_in, shown_first, PlansWhole}
 use Rattle.plan_package.specs.{Views.types_alone, Views.views_of_members, Views.views_of_part, Views.whole_view, WholeInterfaces.ViewIsKept}
 use Rattle.plan_package.specs.WholeWorlds.{SeenIsKept, SeenIsPlaced, ShownIsKept, ShownIsPlaced, WorldIsKept, WorldIsPlaced, worlds_in}
+use Rattle.plan_package.specs.WholePackages.{IsMainPackage, PlansPackage, another, entries_from, the_main}
 use Rattle.plan_type_laws.specs.{ShownForms.EachForm, ShownMarks.MarksStand, UsedParts.SignatureObeys}
-use Rattle.plan_laws.specs.{ShownNames.IsShownByPart, ShownNames.by_import, ShownNames.by_view, ShownRules.TypeObeys, Whole.IsPackageInput}
-use Rattle.plan_laws.specs.{WholeCondition.ImportsAreBare, WholeCondition.PartIsBare, WholeCondition.WholeMayBePlanned, WholeTypes.IsRuledInput}
-use Rattle.plan_laws.proofs.{FormCounts.HasCount, FormCounts.form_over, FormCounts.forms_count, Planned.found_there, Planned.view_met, WorldItems.world_member}
-use Rattle.plan_laws.proofs.{Inside.flat_cases, Inside.within, ShownAlike.functions_alike, WholeTypes.packages_are_ruled, ViewNames.part_of_function as part_of}
+use Rattle.plan_laws.specs.{ShownNames.IsShownByPart, ShownNames.by_import, ShownNames.by_view, WholeTypes.IsRuledInput, WholeTypes.TypesAreWhole}
+use Rattle.plan_laws.specs.{ShownRules.TypeObeys, Whole.IsPackageInput}
+use Rattle.plan_laws.specs.{WholeCondition.ImportsAreBare, WholeCondition.PartIsBare, WholeCondition.WholeMayBePlanned, WholeFunctions.beside_tables}
+use Rattle.plan_laws.specs.{FirstViews.ViewsAreOrdered, ViewedInterfaces.views_read, WholePlan.IsWholeInput, WholePlan.PlanIsWhole, WorldItems.WorldsAreApart}
+use Rattle.plan_laws.proofs.{FormCounts.HasCount, FormCounts.form_over, FormCounts.forms_count, ShownAlike.functions_alike, WholeReasons.there_marked}
+use Rattle.plan_laws.proofs.{Planned.found_there, Planned.view_met, WholeTypes.packages_are_ruled, WholeTypes.planned_types_are_whole}
+use Rattle.plan_laws.proofs.{WorldKeys.world_member, ViewRules.part_of_function as part_of, GatheredInterfaces.foreign_gathered, GatheredInterfaces.top_listed}
+use Rattle.plan_laws.proofs.{Inside.flat_cases, Inside.within, ShownNames.names_are_shown, Apart.whole_stands_apart, GatheredWorlds.worlds_are_listed}
 use Rattle.plan_laws.proofs.{InstanceSeen.seen_showing, InstanceSeen.seen_signature, InstanceSeen.shown_so, ViewsAgree.told, ViewsAgree.views_tell}
 use Rattle.plan_laws.proofs.Sources.{Side, at_mapped, interface_views, mapped_cases, own_sight, seen_sight, sight_of, view_among, world_in, member_view_in}
-use Rattle.plan_laws.proofs.{ShownNames.names_are_shown, ShownRules.all_of, WholeReasons.there_marked}
+use Rattle.plan_laws.proofs.{ShownRules.all_of, WholePlan.plan_read}
 use Rattle.base_lemmas.proofs.Elements.{all_at, contains-map, contains-one, map_from as from_map}
 use Rattle.base_lemmas.proofs.Lists.{get_back as unmapped_get, mapped_get, within_there as slice_there}
 use Rattle.comp_meaning.specs.Reads as reads
 use Rattle.plan_meaning.specs.Shapes as shapes
 use Rattle.read_exports.specs.declared.members.Part.TheVariants as parts
 use Rattle.read_rules.specs.declared.scopes.Shown.TheVariants as shown
+
+-- ---- A plan can be made of what was followed: all that is shown is over types that are used.
 
 -- ---- parts of functions
 
@@ -343,3 +351,62 @@ module _ (t : Tables) (h : Homes) (known : ℕ → Fact) (n : ℕ) (ms : List Me
 
 pub whole_may_be_planned : WholeMayBePlanned
 whole_may_be_planned t h known n ms members given bare = may_be_whole t h known n ms members given bare
+
+-- ---- what the page is for
+
+module _ (t : Tables) (h : Homes) (known : ℕ → Fact) (n : ℕ) (ms : List Member) (members : List reads.Member) (given : IsPackageInput t h known n ms members) (input : IsWholeInput t h n ms) (p : Plan)
+    (planned : PlansWhole t h.packages (home_at h) n ms p) (whole : TypesAreWhole t planned.kept ms p) where
+  -- views in order, and worlds in places of their own
+  apart : ViewsAreOrdered t ms × WorldsAreApart ms
+  apart = whole_stands_apart t h known n ms members given input.rise
+
+  abbrev b : Beside
+  b = beside_tables known whole.marks.marks ms
+
+  -- the package itself, and what it lists
+  pub record IsMain : Type 0 where
+    pub package_ : PlannedPackage
+    pub there : package_in p n ≡ Some package_
+    pub made : IsMainPackage input.identity (places_in ms) ms package_
+
+  pub main : IsMain
+  main =
+      let low : n < length p.packages = (let within = slice_get_within h.packages n input.identity input.stands in let many = planned.packages.many in omega (arith, within, many)) in
+      let found = slice_there p.packages n low in
+      by found.0 found.1 (planned.packages.each n found.0 found.1)
+    where
+      by : (k : PlannedPackage) → package_in p n ≡ Some k → PlansPackage h.packages n (places_in ms) ms (entries_from (home_at h) n 0 (places_in ms)) n k → IsMain
+      by k at (the_main identity own there made) =
+          record { package_ = k; there = at; made = subst (λ (i : PackageIdentity). IsMainPackage i (places_in ms) ms k) (same-some identity input.identity (sym there ∙ input.stands)) made }
+      by k at (another identity other there made) = absurd (other refl)
+
+  gathered : IsGathered t h n (numbered_members ms) p
+  gathered = let foreign = foreign_gathered t h known n ms members given apart.0 p planned b refl in record {
+    kept = planned.kept;
+    keeps = (kept_types_pass t given.input.tables planned.kept p whole.types).0;
+    main = main.package_;
+    stands = ap (slice_get p.packages) planned.main ∙ main.there;
+    identity = input.stands ∙ ap Some (sym main.made.is);
+    interfaces = top_listed t h known n ms members given apart.0 p planned b refl main.package_.interfaces main.made.interfaces;
+    worlds = subst (AllZip (WorldsListed t planned.kept p) (worlds_listed (numbered_members ms))) (sym main.made.worlds)
+        (worlds_are_listed t h known n ms members given apart.0 apart.1 input.followed p planned whole);
+    chosen = foreign.chosen;
+    chosen_are = foreign.chosen_are;
+    foreign = foreign.zip;
+  }
+
+  pub plan_meant : plan_meaning p ≡ reads.package_with input.identity members
+  plan_meant =
+      gathered_package_is_meant t given.input.tables h given.input.homes known n (numbered_members ms) members given.input.shown given.sights given.obeys p gathered
+      ∙ ap (λ (i : PackageIdentity). reads.package_with i members) (same-some gathered.main.identity input.identity (sym gathered.identity ∙ input.stands))
+
+pub plan_is_whole : PlanIsWhole
+plan_is_whole t h known n ms members given input p planned fits =
+    let whole = planned_types_are_whole t h ms members (packages_are_ruled t h known n ms members given) n p planned in
+    let read = plan_read t h known n ms members given input p planned fits whole in
+    record {
+      whole = whole;
+      read = read;
+      plan = read_package_plan_stands t given.input.tables h given.input.homes planned.kept p (beside_tables known whole.marks.marks ms) (views_read ms) read;
+      means = plan_meant t h known n ms members given input p planned whole;
+    }

@@ -1,10 +1,7 @@
 -- The functions of a whole plan are those that were read.
 use Rattle.plan_type_laws.proofs.{PartPlaces.slot_number, FirstFound.firsts_found}
 use Rattle.plan_laws.proofs.Sources.{Side, partner_back, side_good, side_shows, world_in, IsWorldIn}
-use Rattle.plan_laws.proofs.{ShownRules.IsItemAmong, ShownRules.IsResourceIn, ShownRules.item_obeys, WorldItems.world_member as world_there}
-use Rattle.plan_laws.proofs.{Inside.flat_cases, Inside.name_same, Planned.kept_number}
-use Rattle.plan_laws.proofs.{ReadFunction.function_becomes, ReadFunction.read_function, ReadFunction.resource_at, ReadFunction.told, Showings.import_named}
-use Rattle.plan_laws.proofs.{ShownFrom.IsFrom, ShownFrom.of_import, ShownFrom.of_view, ShownFrom.shown_from, WorldKeys.by_imports, WorldKeys.view_apart}
+use Rattle.plan_laws.proofs.{ShownRules.IsItemAmong, ShownRules.IsResourceIn, ShownRules.item_obeys, WorldKeys.world_member as world_there, Inside.flat_cases, Inside.name_same, Planned.kept_number, ReadFunction.function_becomes, ReadFunction.read_function, ReadFunction.resource_at, ReadFunction.told, Showings.import_named, ShownFrom.IsFrom, ShownFrom.of_import, ShownFrom.of_view, ShownFrom.shown_from, WorldKeys.by_imports, WorldKeys.view_apart}
 use Rattle.std.proofs.Common.{◌≡◌, refl, sym, ap, subst, ◌∙◌, ℕ, zero, ◌+◌, ◌⊎◌, inl, inr, arith, Bool, true, false, filter_map, List, [], ◌∷◌, map, Option, Some, None, slice_get}
 use Rattle.std.proofs.lemmas.{List.Elements.Contains-append_cases, Option.same_Some as same-some}
 use Rattle.std.specs.List.{AllByRecursion, AllZip, Contains, cons_option, flat_map}
@@ -12,9 +9,7 @@ use Rattle.wit_model.specs.declared.model.{TypeId.TypeId, TypeOwner.TypeOwner}
 use Rattle.wit_model.specs.{Text.Text, Tree.Declaration}
 use Rattle.wit_model.proofs.Elements.{contains-flat, contains-get, none-in}
 use Rattle.comp_meaning.specs.Follow.{place_of}
-use Rattle.plan_meaning.specs.{FollowedNumbers.IsCalledIn, FollowedNumbers.IsNameOf, FollowedNumbers.IsShownIn, NumberedWorlds.seen_of, NumberedWorlds.shown_of}
-use Rattle.plan_meaning.specs.{GatheredPlan.FunctionBecomes, NumberedMembers.Homes, NumberedMembers.home_at, ReadFunctions.Beside, ReadFunctions.IsReadFunction}
-use Rattle.plan_meaning.specs.{KeptFunctions.IsResource, NumberedRules.Fact, NumberedRules.is_no_part, PlanRules.world_functions, Shapes.named_shape}
+use Rattle.plan_meaning.specs.{FollowedNumbers.IsCalledIn, FollowedNumbers.IsNameOf, FollowedNumbers.IsShownIn, NumberedWorlds.seen_of, NumberedWorlds.shown_of, GatheredPlan.FunctionBecomes, NumberedMembers.Homes, NumberedMembers.home_at, ReadFunctions.Beside, ReadFunctions.IsReadFunction, KeptFunctions.IsResource, NumberedRules.Fact, NumberedRules.is_no_part, PlanRules.world_functions, Shapes.named_shape}
 use Rattle.plan_meaning.specs.NumberedViews.{NumberedType, PartsOf, Tables, value, function_at, place_at, signature_at}
 use Rattle.plan_meaning.specs.Plan.{Plan, PlannedFunction, PlannedItem, PlannedKey, PlannedWorld, item_function, items_of}
 use Rattle.plan_parts.specs.Interfaces.{AreResources, IsPlannedFunction, slot_part}
@@ -24,8 +19,7 @@ use Rattle.read_rules.specs.{Scopes.numbered_seen, Scopes.numbered_shown, Tables
 use Rattle.plan_types.specs.Showings.{NumberedShowing, showings_of_members, signatures_of_members, signatures_of_part, signatures_of_seen, signatures_of_shown}
 use Rattle.plan_package.specs.PlanWhole.{PlansWhole, places_in, shown_first}
 use Rattle.plan_package.specs.WholeWorlds.{PlansItem, a_function, a_type, an_instance, types_seen, types_shown}
-use Rattle.plan_laws.specs.{Owners.owners_of, ShownNames.IsInput}
-use Rattle.plan_laws.specs.{WholeFunctions.WorldFunctionsAreRead, WholeFunctions.beside_tables, WholeTypes.IsRuledInput, WholeTypes.TypesAreWhole}
+use Rattle.plan_laws.specs.{Owners.owners_of, ShownNames.IsInput, WholeFunctions.WorldFunctionsAreRead, WholeFunctions.beside_tables, WholeTypes.IsRuledInput, WholeTypes.TypesAreWhole}
 use Rattle.base_lemmas.proofs.Elements.{all_at, contains-later, contains-one, get-contains, last_of as one-contained, map_from as from_map}
 use Rattle.comp_meaning.specs.Follow as follow
 use Rattle.comp_meaning.specs.Reads as reads

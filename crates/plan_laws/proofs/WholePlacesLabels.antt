@@ -12,7 +12,7 @@ use Rattle.plan_meaning.proofs.Lists.{any_get}
 use Rattle.read_rules.specs.declared.{reached.ImportedView.ImportedView, scopes.Scope.Scope, views.View.View}
 use Rattle.read_exports.specs.declared.members.{Member.Member, Part.Part}
 use Rattle.plan_package.specs.{WholePackages.interface_in_part, WholePackages.interfaces_in, WholeWorlds.world_in_part, WholeWorlds.worlds_in}
-use Rattle.plan_laws.proofs.{Sources.one_under, WorldItems.world_member, Inside.flat_cases}
+use Rattle.plan_laws.proofs.{Sources.one_under, WorldKeys.world_member, Inside.flat_cases}
 use Rattle.read_exports.specs.declared.members.Part.TheVariants as parts
 
 -- ---- texts of which none stands twice

@@ -1,18 +1,20 @@
--- Unnamed types stand in a plan as parts of others or of functions, and packages for the places whose homes they are.
-use Rattle.plan_type_laws.proofs.{UsedParts.has_form, FirstFound.firsts_found, ShownForms.mark_there}
-use Rattle.std.proofs.Common.{◌≡◌, refl, sym, ap, subst, ◌∙◌, ℕ, zero, suc, ◌+◌, ◌⊎◌, inl, inr, arith, Bool, true, false, cond, List, [], ◌∷◌, ◌++◌, length, map, Option, Some, None, slice_get}
+-- Each instance of a world whose place has no path is one that is imported or exported.
+use Rattle.plan_type_laws.proofs.{UsedParts.has_form, FirstFound.firsts_found, ShownRules.mark_there}
+use Rattle.std.proofs.Common.{◌≡◌, refl, sym, ap, subst, ◌∙◌, ℕ, zero, suc, ◌+◌, ◌⊎◌, inl, inr, arith, Bool, true, false, cond, List, [], ◌∷◌, ◌++◌, length, map, Option, Some, None, slice_get, filter}
 use Rattle.std.proofs.lemmas.{List.Elements.Contains-append_cases, List.Elements.Contains-append_left, Option.slice_get_within, Option.same_Some as same-some}
 use Rattle.std.proofs.lemmas.Slice.Zip.{AllZip-long as zip_length}
-use Rattle.std.specs.{Prelude.is_some, Prelude.unwrap_or, List.Contains, List.flat_map, Option.option_map_or}
+use Rattle.std.specs.{Prelude.is_some, Prelude.unwrap_or, List.Contains, List.flat_map, List.AllByRecursion, Option.option_map_or}
 use Rattle.wit_model.specs.declared.model.TypeOwner.{TypeOwner}
 use Rattle.wit_model.specs.{Text.Text, Uses.has, Valid.as_interface, Valid.as_world}
 use Rattle.wit_model.proofs.Elements.{contains-flat, contains-has, has-contains, none-in}
 use Rattle.read_homes.specs.Homes.{HasPlace}
 use Rattle.plan_meaning.specs.GatheredPlan.{DeclaresKind, a_form, a_name, a_resource}
-use Rattle.plan_meaning.specs.{NumberedMembers.Homes, NumberedMembers.home_at, Plan.Plan, Plan.PlannedPackage, Plan.PlannedType, Plan.package_in}
+use Rattle.plan_meaning.specs.{NumberedMembers.Homes, NumberedMembers.home_at, NumberedMembers.world, ReadFunctions.Beside, ReadFunctions.FunctionsAreRead}
+use Rattle.plan_meaning.specs.{Plan.Plan, Plan.PlannedPackage, Plan.PlannedType, Plan.package_in, NumberedViews.Tables, NumberedViews.path_at}
 use Rattle.plan_meaning.specs.NumberedRules.{Fact, is_form, name_in, shape_at}
-use Rattle.plan_meaning.specs.{NumberedViews.Tables, ReadWholes.HasHomes, ReadWholes.IsKeptForReasons, ReadWholes.IsPartOfKept, ReadWholes.of_type}
-use Rattle.plan_meaning.specs.{ReadFunctions.Beside, ReadFunctions.FunctionsAreRead, Shapes.IsShape, Shapes.Shape, Shapes.named_shape, Shapes.node_shape}
+use Rattle.plan_meaning.specs.ReadWholes.{HasHomes, IsKeptForReasons, IsPartOfKept, of_type}
+use Rattle.plan_meaning.specs.{Shapes.IsShape, Shapes.Shape, Shapes.named_shape, Shapes.node_shape, FollowedNumbers.IsOneOf, FollowedNumbers.IsScopeIn}
+use Rattle.plan_meaning.specs.NumberedWorlds.{NumberedInstance, NumberedScope, NumberedSeen, NumberedShown, Shows, are_once, instance, place_of_key}
 use Rattle.plan_meaning.proofs.{Lists.no_true, NumberedRules.no_name, NumberedRules.shape_there}
 use Rattle.plan_parts.specs.{Kinds.shape_form, Marks.IsUsed, Marks.is_marked, Marks.marked, Marks.part}
 use Rattle.plan_parts.proofs.DeclaredKinds.{parts_become}
@@ -22,12 +24,19 @@ use Rattle.plan_types.specs.Showings.{NumberedShowing, showings_of_members, sign
 use Rattle.plan_types.specs.Used.{declared_parts, form_parts, function_parts, showing_parts, used_parts}
 use Rattle.plan_package.specs.PlanWhole.{PlansWhole, owners_in, places_in, shown_first}
 use Rattle.plan_laws.specs.{Owners.homes_in, Owners.owners_of, Whole.IsPackageInput, WholeReasons.AreShownAlike, WholeReasons.HavePlaces}
-use Rattle.plan_laws.proofs.{Inside.flat_cases, Owned.planned_name, PlaceNumbers.number_given}
-use Rattle.plan_laws.proofs.{Planned.interface_there, Planned.path_given, Showings.IsNamed, Showings.showings_named, WholeReasonsFunctions.by_function}
-use Rattle.base_lemmas.proofs.{Elements.last_of as one-contained, Elements.zip_at, Elements.zip_at_right as zip_get, Lists.get_back as unmapped_get}
+use Rattle.plan_laws.proofs.{Inside.flat_cases, PlaceNumbers.number_given}
+use Rattle.plan_laws.proofs.{Owned.planned_name, OwnPlaces.all_inline, OwnPlaces.inline_many, OwnPlaces.inline_seen, OwnPlaces.no_path, OwnPlaces.places_are}
+use Rattle.plan_laws.proofs.{Planned.interface_there, Planned.path_given, Showings.IsNamed, Showings.showings_named, WholeTypes.by_function}
+use Rattle.base_lemmas.proofs.Elements.{last_of as one-contained, zip_at, zip_at_right as zip_get, all_at, contains-map, filter_kept, map_from as from_map}
+use Rattle.base_lemmas.proofs.Lists.{get_back as unmapped_get, length_of_map}
 use Rattle.plan_package.proofs.ReadPackageLaws.{number_at as number_there}
+use Rattle.comp_meaning.specs.Follow.{Scope}
+use Rattle.read_shown.specs.Instances.{InstancesAreSeen}
+use Rattle.plan_type_laws.specs.ShownMarks.{has_no_path, places_of_seen, places_of_shown, places_of_part}
 use Rattle.comp_meaning.specs.Reads as reads
 use Rattle.plan_meaning.specs.Shapes as shapes
+
+-- ---- Unnamed types stand in a plan as parts of others or of functions, and packages for the places whose homes they are.
 
 pub there_marked : (marks : List Bool) (n : ℕ) → is_marked marks n ≡ true → slice_get marks n ≡ Some true
 there_marked [] n e = no_true e
@@ -204,3 +213,53 @@ module _ (t : Tables) (h : Homes) (known : ℕ → Fact) (n : ℕ) (ms : List Me
 
     pub kept_for_reasons : IsKeptForReasons t h kept p b
     kept_for_reasons = record { types = types_kept; ids = no_id; packages = packages_kept }
+
+-- ---- what the page is for
+
+module _ (t : Tables) where
+  instances_many : (is : List NumberedInstance) → length (filter (has_no_path t) (map (λ (i : NumberedInstance). i.place) is)) ≡ length (filter (no_path t) is)
+  instances_many [] = refl
+  instances_many (i ∷ is) = by (no_path t i) (instances_many is)
+    where
+      by : (b : Bool) → length (filter (has_no_path t) (map (λ (x : NumberedInstance). x.place) is)) ≡ length (filter (no_path t) is)
+          → length (cond b (i.place ∷ filter (has_no_path t) (map (λ (x : NumberedInstance). x.place) is)) (filter (has_no_path t) (map (λ (x : NumberedInstance). x.place) is)))
+          ≡ length (cond b (i ∷ filter (no_path t) is) (filter (no_path t) is))
+      by true e = ap suc e
+      by false e = e
+
+  -- the places of what is seen are those of instances
+  seen_there : (instances : List NumberedInstance) (ss : List NumberedSeen) → AllByRecursion (λ (s : NumberedSeen). IsOneOf t instances s.shown) ss → (q : ℕ) → Contains (places_of_seen ss) q
+      → Contains (map (λ (i : NumberedInstance). i.place) instances) q
+  seen_there instances ss all q c =
+      let from = flat_cases (λ (s : NumberedSeen). places_of_shown s.shown) ss q c in
+      by from.0.shown (all_at (λ (s : NumberedSeen). IsOneOf t instances s.shown) ss all from.0 from.1) from.2
+    where
+      by : (x : NumberedShown) → IsOneOf t instances x → Contains (places_of_shown x) q → Contains (map (λ (i : NumberedInstance). i.place) instances) q
+      by (instance k v) is there =
+          subst (Contains (map (λ (i : NumberedInstance). i.place) instances)) (one-contained (place_of_key k) q there)
+          (contains-map (λ (i : NumberedInstance). i.place) instances (record { place = place_of_key k; view = v }) is)
+      by _ is there = none-in q there
+
+  module _ (w : NumberedScope) (scope : Scope) (is : IsScopeIn t w) (shows : Shows t w scope) (seen : InstancesAreSeen scope) where
+    abbrev pub shown_places : List ℕ
+    shown_places = places_of_seen w.imports ++ places_of_seen w.exports
+
+    abbrev instance_places : List ℕ
+    instance_places = map (λ (i : NumberedInstance). i.place) w.instances
+
+    pub as_many : length (filter (has_no_path t) instance_places) ≡ length (filter (has_no_path t) shown_places)
+    as_many = instances_many w.instances ∙ (inline_many t w is scope shows seen
+        ∙ (sym (length_of_map (λ (i : NumberedInstance). i.place) (all_inline t w is)) ∙ ap length (places_are t w is)))
+
+    pub one_of : (q : ℕ) → Contains shown_places q → Contains instance_places q
+    one_of q c = by (Contains-append_cases (places_of_seen w.imports) (places_of_seen w.exports) q c)
+      where
+        by : Contains (places_of_seen w.imports) q ⊎ Contains (places_of_seen w.exports) q → Contains instance_places q
+        by (inl among) = seen_there w.instances w.imports is.imported q among
+        by (inr among) = seen_there w.instances w.exports is.exported q among
+
+    pub own_shown : are_once (filter (has_no_path t) (places_of_part (world w))) ≡ true → (q : ℕ) → path_at t q ≡ None → Contains instance_places q → Contains shown_places q
+    own_shown once q none c =
+        let i = from_map (λ (x : NumberedInstance). x.place) w.instances q c in
+        let there = contains-map (λ (x : NumberedInstance). x.place) (all_inline t w is) i.0 (inline_seen t w is scope shows seen once i.0 i.1 (ap (path_at t) i.2 ∙ none)) in
+        subst (Contains shown_places) i.2 (filter_kept (has_no_path t) shown_places i.0.place (subst (λ ps. Contains ps i.0.place) (places_are t w is) there)).0

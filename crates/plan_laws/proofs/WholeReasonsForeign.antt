@@ -21,7 +21,7 @@ use Rattle.plan_laws.specs.Owners.{owners_of}
 use Rattle.plan_laws.specs.{Whole.IsPackageInput, WholeReasonsForeign.HasForeignReasons, WholeReasonsForeign.IsShownWhole, WholeReasonsForeign.PartIsReached}
 use Rattle.plan_laws.proofs.Sources.{all_of, at_mapped, import_there, interface_views, mapped_cases, own_sight, own_there}
 use Rattle.plan_laws.proofs.{Inside.flat_cases, PlaceNumbers.number_given, PlaceNumbers.owner_numbered, PlaceNumbers.place_number, PlaceNumbers.one_owner}
-use Rattle.plan_laws.proofs.{Planned.interface_there, Planned.view_met, WholePlacesTop.interface_home, WholePlacesTop.sight_of_place}
+use Rattle.plan_laws.proofs.{Planned.interface_there, Planned.view_met, WholeTypes.interface_home, WholeTypes.sight_of_place}
 use Rattle.base_lemmas.proofs.Elements.{contains-map, get-contains, last_of as one-contained, map_from as from_map, zip_at_right as zip_get}
 use Rattle.plan_package.proofs.ReadPackageLaws.{number_at as number_there}
 use Rattle.comp_meaning.specs.Reads as reads

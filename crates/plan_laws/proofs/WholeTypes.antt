@@ -1,30 +1,52 @@
--- The types of a whole plan are those that were read.
-use Rattle.plan_laws.specs.{Whole.IsPackageInput, Owners.homes_in, Owners.owners_of, ShownRules.TypeObeys}
+-- What is exported at the top of a package: its interfaces, by the homes of their places.
+use Rattle.plan_laws.specs.{Whole.IsPackageInput, Owners.homes_in, Owners.owners_of, ShownRules.TypeObeys, WholeReasons.AreShownAlike}
 use Rattle.plan_laws.specs.{ShownNames.IsInput, WholeTypes.IsRuledInput, WholeTypes.PackagesAreRuled, WholeTypes.PlannedTypesAreWhole, WholeTypes.TypesAreWhole}
-use Rattle.plan_meaning.specs.{NumberedRules.Fact, FollowedNumbers.IsMetFrom}
-use Rattle.plan_meaning.specs.NumberedMembers.{Homes, NumberedMember, are_interfaces, home_at, sights_of_members, stands_at_top}
-use Rattle.plan_meaning.specs.NumberedViews.{AllOf, IsPart, Tables, agree_in_numbers, declaration_of, path_at, place_at}
-use Rattle.plan_meaning.specs.Plan.{Plan, PlannedInterface, PlannedPackage, package_in, path_of_planned, place_in}
-use Rattle.std.proofs.Common.{◌≡◌, refl, sym, ap, subst, ◌∙◌, ℕ, ◌+◌, ◌<◌, ◌⊎◌, inl, inr, arith, true, ◌&&◌, ◌==◌, List, length, Option, Some, None, option_map, slice_get, Bool}
-use Rattle.std.proofs.lemmas.Option.{slice_get_within, same_Some as same-some}
-use Rattle.std.specs.{Prelude.option_and_then, List.Contains, List.list_all, Option.option_map_or}
+use Rattle.plan_meaning.specs.{NumberedRules.Fact, ReadFunctions.Beside, ReadFunctions.FunctionsAreRead, ReadFunctions.IsReadFunction}
+use Rattle.plan_meaning.specs.{FollowedNumbers.IsMetFrom, FollowedNumbers.IsPartIn, FollowedNumbers.IsViewIn, PlanRules.functions_of, PlanRules.world_functions}
+use Rattle.plan_meaning.specs.NumberedMembers.{Homes, NumberedMember, are_interfaces, home_at, sights_of_members, stands_at_top, ShowsPart, is_interface_of, is_of_package}
+use Rattle.plan_meaning.specs.NumberedViews.{AllOf, IsPart, Tables, agree_in_numbers, declaration_of, path_at, place_at, FunctionShape, NumberedFunction, NumberedSight, function_at, NumberedView}
+use Rattle.plan_meaning.specs.Plan.{Plan, PlannedInterface, PlannedPackage, package_in, path_of_planned, place_in, PlannedFunction, PlannedItem, PlannedKey, PlannedWorld, interface_in, item_function, items_of, world_in}
+use Rattle.plan_meaning.specs.GatheredPlan.{BecomesIfGiven, FunctionBecomes, ParamBecomes, functions_seen}
+use Rattle.plan_meaning.specs.ReadWholes.{IsPartOfFunction, IsPartOfKept, a_parameter, a_result, of_interface, of_world}
+use Rattle.plan_meaning.specs.NumberedWorlds.{HasPath, NumberedInstance}
+use Rattle.std.proofs.Common.{◌≡◌, refl, sym, ap, subst, ◌∙◌, ℕ, ◌+◌, ◌<◌, ◌⊎◌, inl, inr, arith, true, ◌&&◌, ◌==◌, List, length, Option, Some, None, option_map, slice_get, Bool, zero, suc, false, cond, [], ◌∷◌, map, option_to_list, not, ◌||◌}
+use Rattle.std.proofs.lemmas.{Option.slice_get_within, Option.same_Some as same-some, Bool.eqb-true, Bool.eq-eqb}
+use Rattle.std.proofs.lemmas.List.Elements.{Contains-append_cases, Contains-append_left, Contains-append_right}
+use Rattle.std.specs.{Prelude.option_and_then, List.Contains, List.list_all, List.AllZip, List.flat_map, List.list_any, Option.option_map_or, Borrow.Bor}
 use Rattle.wit_model.specs.{Lookup.place_of_path, Names.PackageIdentity, Names.is_label, Names.path_in, Text.Text, Valid.as_interface, Valid.as_world}
-use Rattle.wit_model.proofs.NameLaws.{read_path_is_spelled}
+use Rattle.wit_model.proofs.{NameLaws.read_path_is_spelled, Elements.contains-filter_map, Elements.contains-get, Elements.none-in}
 use Rattle.comp_meaning.specs.Follow.{place_of}
-use Rattle.read_exports.specs.Members.{numbered_members}
-use Rattle.read_exports.specs.declared.members.Member.{Member}
-use Rattle.plan_types.specs.{PlannedTypes.number_in, Showings.NumberedShowing, Showings.showings_of_members, Showings.signatures_of_members}
+use Rattle.read_exports.specs.Members.{numbered_members, numbered_member, numbered_part}
+use Rattle.read_exports.specs.declared.members.{Member.Member, Part.Part}
+use Rattle.plan_types.specs.PlannedTypes.{number_in}
+use Rattle.plan_types.specs.{Showings.NumberedShowing, Showings.showings_of_members, Showings.signatures_of_members, Used.function_parts, Used.signature_parts}
 use Rattle.plan_package.specs.PlanWhole.{PlansWhole, owners_in, places_in, shown_first}
-use Rattle.plan_package.specs.{WholeInterfaces.Home, WholePackages.PlansPackage, WholePackages.another, WholePackages.entries_from, WholePackages.the_main}
+use Rattle.plan_package.specs.{WholeInterfaces.Home, WholeInterfaces.PlansInterface, Views.views_of_members, Views.views_of_part}
+use Rattle.plan_package.specs.WholePackages.{PlansPackage, another, entries_from, the_main}
+use Rattle.plan_package.specs.WholeWorlds.{PlansItem, PlansWorld, a_function, a_type, an_instance, worlds_in}
 use Rattle.plan_type_laws.specs.{PlanTypes.NamesObey, ShownForms.FindsShown, ShownMarks.MarksStand, UsedParts.ShowingObeys}
 use Rattle.plan_type_laws.proofs.{FirstFound.firsts_found, FormsObeyed.forms_obeyed, InnerForms.name_there, PlanTypes.types_are_kept, ShownMarks.names_marked}
-use Rattle.plan_type_laws.proofs.KeptMarks.{marks_kept}
-use Rattle.plan_laws.proofs.{PlaceNumbers.number_given, PlaceNumbers.owner_met, ShownNames.names_are_shown, Inside.name_same, Sources.if_given}
-use Rattle.plan_laws.proofs.{Planned.first_there, Planned.home_alone, Planned.interface_there, Planned.shown_met, ShownRules.all_of, ShownRules.rules_obeyed}
-use Rattle.base_lemmas.proofs.{Elements.all_at, Lists.within_there as slice_there}
+use Rattle.plan_type_laws.proofs.{KeptMarks.marks_kept, KeptKinds.one_old}
+use Rattle.plan_laws.proofs.{PlaceNumbers.number_given, PlaceNumbers.owner_met, PlaceNumbers.from_joined, ShownRules.all_of, ShownRules.rules_obeyed}
+use Rattle.plan_laws.proofs.{ShownNames.names_are_shown, Inside.name_same, Inside.flat_cases, WholePlacesLabels.world_among, FirstViews.sight_there}
+use Rattle.plan_laws.proofs.Sources.{if_given, partner, signed, view_among, mapped_cases, member_there, part_at}
+use Rattle.plan_laws.proofs.Planned.{first_there, home_alone, interface_there, shown_met, view_met, place_seen}
+use Rattle.base_lemmas.proofs.Elements.{all_at, contains-later, contains-map, contains-one, get-contains, last_of as one-contained, map_from as from_map, zip_at, zip_at_right as zip_get, all-contained}
+use Rattle.base_lemmas.proofs.{Lists.within_there as slice_there, Lists.get_back, Numbers.same-number}
 use Rattle.plan_package.proofs.ReadPackageLaws.{number_at as number_there}
+use Rattle.wit_model.specs.declared.model.TypeId.{TypeId}
+use Rattle.plan_parts.specs.{Functions.KeptIfGiven, Functions.KeptParam, Functions.TakesAndGives, Interfaces.IsPlannedFunction}
+use Rattle.read_rules.specs.declared.{scopes.Scope.Scope, scopes.Seen.Seen, scopes.Shown.Shown, reached.ImportedView.ImportedView, views.View.View}
+use Rattle.plan_meaning.proofs.Lists.{any_get, no_true}
+use Rattle.read_rules.specs.{Reached.numbered_import, Scopes.numbered_scope}
 use Rattle.comp_meaning.specs.Reads as reads
 use Rattle.comp_meaning.specs.Rules as rules
+use Rattle.read_exports.specs.declared.members.Part.TheVariants as parts
+use Rattle.read_rules.specs.declared.scopes.Shown.TheVariants as shown
+use Rattle.plan_laws.proofs.Sources as sources
+use Rattle.plan_types.specs.Orders as orders
+
+-- ---- The types of a whole plan are those that were read.
 
 -- ---- what is shown
 
@@ -172,3 +194,266 @@ packages_are_ruled t h known n ms members is = let tests = tests_hold t h known 
   rules = rules_obeyed t is.input.tables h ms members is.input known is.sights tests.3;
   agree = tests.2;
 }
+
+-- ---- A part of a function that is shown is one of a function of the plan.
+
+-- ---- parts of functions
+
+module _ (t : Tables) (kept : List ℕ) (p : Plan) where
+  -- a part of one is a part of the other, where both become this function
+  same_part : (f shape : FunctionShape) (id : Option Text) (g : PlannedFunction) → TakesAndGives kept f g → FunctionBecomes t kept p shape id g → (old : ℕ) → Contains (signature_parts f) old
+      → IsPartOfFunction shape old
+  same_part f shape id g takes becomes old c = by (Contains-append_cases (map (λ (x : Text × ℕ). x.1) f.params) (option_to_list f.result) old c)
+    where
+      given : (a b d : Option ℕ) → shape.result ≡ d → KeptIfGiven kept a b → BecomesIfGiven t kept p d b → Contains (option_to_list a) old → IsPartOfFunction shape old
+      given None b d e x y there = none-in old there
+      given (Some k) None d e x y there = absurd x
+      given (Some k) (Some m) None e x y there = absurd y
+      given (Some k) (Some m) (Some l) e x y there = a_result (e ∙ ap Some (one_old kept l k m y.part x ∙ one-contained k old there))
+
+      by : Contains (map (λ (x : Text × ℕ). x.1) f.params) old ⊎ Contains (option_to_list f.result) old → IsPartOfFunction shape old
+      by (inl among) =
+          let x = from_map (λ (x : Text × ℕ). x.1) f.params old among in
+          let j = contains-get f.params x.0 x.1 in
+          let y = zip_at (KeptParam kept) f.params g.params takes.params j.0 x.0 j.1 in
+          let z = zip_get (ParamBecomes t kept p) shape.params g.params becomes.params j.0 y.0 y.1 in
+          let same : z.0.1 ≡ old = one_old kept z.0.1 x.0.1 y.0.1 z.2.1.part y.2.1 ∙ x.2 in
+          a_parameter z.0.0 (subst (λ (n : ℕ). Contains shape.params (z.0.0, n)) same (get-contains shape.params j.0 z.0 z.1))
+      by (inr last) = given f.result g.result shape.result refl takes.result becomes.result last
+
+abbrev planned_item : PlannedKey × PlannedItem → PlannedItem
+planned_item e = e.1
+
+-- the functions of a place are those of a whole view of it
+pub record IsFirstWhole (q : ℕ) (seen : List NumberedSight) : Type 0 where
+  pub sight : NumberedSight
+  pub among : Contains seen sight
+  pub place : sight.place ≡ q
+  pub whole : sight.whole ≡ true
+  pub functions : functions_seen q seen ≡ sight.view.functions
+
+pub first_whole : (q : ℕ) (seen : List NumberedSight) (s : NumberedSight) → Contains seen s → s.place ≡ q → s.whole ≡ true → IsFirstWhole q seen
+first_whole q [] s c place whole = none-in s c
+first_whole q (r ∷ seen) s c place whole = by (r.place == q) refl r.whole refl c (λ later. first_whole q seen s later place whole)
+  where
+    further : (r.place == q && r.whole) ≡ false → IsFirstWhole q seen → IsFirstWhole q (r ∷ seen)
+    further e found = record {
+      sight = found.sight;
+      among = contains-later r seen found.sight found.among;
+      place = found.place;
+      whole = found.whole;
+      functions = ap (λ b. cond b r.view.functions (functions_seen q seen)) e ∙ found.functions;
+    }
+
+    past : (r.place == q && r.whole) ≡ false → Contains (r ∷ seen) s → Contains seen s
+    past e (zero, low, same) =
+        let own : (s.place == q) ≡ true = ap (λ k. k == q) place ∙ same-number q in
+        let passes : (s.place == q && s.whole) ≡ true = λ i. own i && whole i in
+        let first : (r.place == q && r.whole) ≡ (s.place == q && s.whole) = ap (λ (x : NumberedSight). x.place == q && x.whole) same in
+        let wrong : false ≡ true = sym e ∙ (first ∙ passes) in
+        absurd cc
+    past e (suc i, low, same) = (i, omega (arith, low), same)
+
+    by : (a : Bool) → (r.place == q) ≡ a → (b : Bool) → r.whole ≡ b → Contains (r ∷ seen) s → (Contains seen s → IsFirstWhole q seen) → IsFirstWhole q (r ∷ seen)
+    by true e true f c later = record {
+      sight = r;
+      among = get-contains (r ∷ seen) 0 r refl;
+      place = eqb-true r.place q e;
+      whole = f;
+      functions = (λ i. cond (e i && f i) r.view.functions (functions_seen q seen));
+    }
+    by true e false f c later = let none : (r.place == q && r.whole) ≡ false = λ i. e i && f i in further none (later (past none c))
+    by false e b f c later = let none : (r.place == q && r.whole) ≡ false = ap (λ a. a && r.whole) e in further none (later (past none c))
+
+module _ (t : Tables) (h : Homes) (known : ℕ → Fact) (n : ℕ) (ms : List Member) (members : List reads.Member) (given : IsPackageInput t h known n ms members) (alike : AreShownAlike ms) (p : Plan)
+    (planned : PlansWhole t h.packages (home_at h) n ms p) (b : Beside) (read : FunctionsAreRead t planned.kept p b) where
+  abbrev kept : List ℕ
+  kept = planned.kept
+
+  abbrev numbered : List NumberedMember
+  numbered = numbered_members ms
+
+  abbrev views : List NumberedSight
+  views = views_of_members numbered
+
+  abbrev Kept : ℕ → Type 0
+  Kept old = IsPartOfKept t h kept p b old
+
+  -- ---- functions of views
+
+  module _ (old : ℕ) where
+    of_planned : (find : Text → Option TypeId) (m : ℕ) (i : PlannedInterface) (g : Text × NumberedFunction) → interface_in p m ≡ Some i → (e : Text × PlannedFunction) → Contains i.functions e
+        → IsPlannedFunction t kept find g e
+        → Contains (function_parts t g.1.signature) old → Kept old
+    of_planned find m i g there e c is part =
+        let among = contains-map (λ (x : Text × PlannedFunction). x.1) i.functions e c in
+        let f = all_at (IsReadFunction t kept p b (as_interface m)) (functions_of i) (read.of_interfaces m i there) e.1 among in
+        of_interface m i f.shape f.external_id e.1 there among f.kept_function.becomes
+        (same_part t kept p (function_at t g.1.signature) f.shape f.external_id e.1 is.parts f.kept_function.becomes old part)
+
+    by_view : (s : NumberedSight) → Contains views s → s.whole ≡ true → (f : Text × NumberedFunction) → Contains s.view.functions f → Contains (function_parts t f.1.signature) old → Kept old
+    by_view s c whole f there part =
+        let from = flat_cases (λ (m : NumberedMember). views_of_part m.part) numbered s c in
+        let met = view_met ms from.0 from.1 s from.2 in
+        let number = number_given (places_in ms) s.place met in
+        let m = number.0 in
+        let at = number_there (places_in ms) s.place m number.1 in
+        let i = interface_there t h ms members given.input n p planned m s.place at in
+        let first = first_there t h ms members given.input n p planned m s.place at in
+        with_view m i.0 i.1 first.0 (i.2 first.0 first.1)
+      where
+        with_function : (m : ℕ) (i : PlannedInterface) → interface_in p m ≡ Some i → (find : Text → Option TypeId) → AllZip (IsPlannedFunction t kept find) (functions_seen s.place views) i.functions
+            → IsFirstWhole s.place views → Kept old
+        with_function m i at find zip first =
+            let g = alike.functions s first.sight c first.among (sym first.place) whole first.whole f there in
+            let among : Contains (functions_seen s.place views) g.0 = subst (λ fs. Contains fs g.0) (sym first.functions) g.1 in
+            let e = partner (IsPlannedFunction t kept find) (functions_seen s.place views) i.functions zip g.0 among in
+            of_planned find m i g.0 at e.0 e.1 e.2 (subst (λ k. Contains (function_parts t k) old) (sym g.2) part)
+
+        with_view : (m : ℕ) (i : PlannedInterface) → interface_in p m ≡ Some i → (r : NumberedSight) → PlansInterface t kept n (home_at h s.place) r.view (functions_seen s.place views) i → Kept old
+        with_view m i at r is = with_function m i at is.find is.functions (first_whole s.place views s c refl whole)
+
+    -- ---- functions of worlds
+
+    by_world : (m : Member) → Contains ms m → (w : Scope) → m.part ≡ parts.World w → (s : Seen) → Contains w.imports.now s ⊎ Contains w.exports.now s → (k : ℕ) → s.shown ≡ shown.Function k
+        → Contains (function_parts t k) old → Kept old
+    by_world m c w is s side k shows part =
+        let j = contains-get (worlds_in ms) (m.label.now, w) (world_among ms m c w is) in
+        let x = zip_at (PlansWorld t kept (places_in ms) n) (worlds_in ms) p.worlds planned.worlds j.0 (m.label.now, w) j.1 in
+        in_world j.0 x.0 x.1 x.2 side
+      where
+        same_function : (a : ℕ) → shown.Function k ≡ shown.Function a → k ≡ a
+        same_function a e = ap number e
+          where
+            number : Shown → ℕ
+            number (shown.Function z) = z
+            number _ = k
+
+        of_item : (j : ℕ) (x : PlannedWorld) → world_in p j ≡ Some x → (find : Text → Option TypeId) (e : PlannedKey × PlannedItem) → Contains (items_of x) e.1
+            → PlansItem t kept (places_in ms) find s e → Kept old
+        of_item j x at find e there (an_instance key v other found) = let wrong : shown.Function k ≡ shown.Instance key v = sym shows ∙ other in absurd cc
+        of_item j x at find e there (a_type d q l other entry is_part) = let wrong : shown.Function k ≡ shown.Declares d q = sym shows ∙ other in absurd cc
+        of_item j x at find e there (a_function a other key f) =
+            let g = f.function in
+            let among : Contains (world_functions x) g = contains-filter_map item_function (items_of x) e.1 g there
+            (subst (λ i. Contains (option_to_list (item_function i)) g) (sym f.is) (contains-one g)) in
+            let r = all_at (IsReadFunction t kept p b (as_world j)) (world_functions x) (read.of_worlds j x at) g among in
+            of_world j x r.shape r.external_id g at among r.kept_function.becomes
+            (same_part t kept p (function_at t a) r.shape r.external_id g f.planned.parts r.kept_function.becomes old
+            (subst (λ z. Contains (function_parts t z) old) (same_function a (sym shows ∙ other)) part))
+
+        in_world : (j : ℕ) (x : PlannedWorld) → world_in p j ≡ Some x → PlansWorld t kept (places_in ms) n (m.label.now, w) x → Contains w.imports.now s ⊎ Contains w.exports.now s → Kept old
+        in_world j x at is (inl among) =
+            let e = partner (PlansItem t kept (places_in ms) is.find) w.imports.now x.imports is.imports s among in
+            of_item j x at is.find e.0 (Contains-append_left (map planned_item x.imports) (map planned_item x.exports) e.0.1 (contains-map planned_item x.imports e.0 e.1)) e.2
+        in_world j x at is (inr among) =
+            let e = partner (PlansItem t kept (places_in ms) is.find) w.exports.now x.exports is.exports s among in
+            of_item j x at is.find e.0 (Contains-append_right (map planned_item x.imports) (map planned_item x.exports) e.0.1 (contains-map planned_item x.exports e.0 e.1)) e.2
+
+    -- ---- all functions
+
+    pub by_function : (k : ℕ) → Contains (signatures_of_members ms) k → Contains (function_parts t k) old → Kept old
+    by_function k calls part = let from = signed t h ms members given.input k calls in by from.0 from.1 from.2
+      where
+        by : (m : Member) → Contains ms m → sources.IsSignedIn m.part k → Kept old
+        by m c (sources.by_whole s there whole g among same) = by_view s (view_among ms m c s there) whole g among (subst (λ z. Contains (function_parts t z) old) (sym same) part)
+        by m c (sources.by_world w is s side shows) = by_world m c w is s side k shows part
+
+-- ---- what the page is for
+
+-- ---- views of places that have a path
+
+module _ (t : Tables) where
+  pub sight_of_place : (ms : List Member) (q : ℕ) → Contains (places_in ms) q → HasPath t q → (s : NumberedSight) × Contains (sights_of_members t (numbered_members ms)) s × (s.place ≡ q)
+  sight_of_place ms q c path =
+      let seen = place_seen ms q c in
+      (seen.0, sight_there t (numbered_members ms) seen.0 seen.1 (path.0, ap (path_at t) seen.2 ∙ path.1), seen.2)
+
+module _ (t : Tables) (h : Homes) (known : ℕ → Fact) (n : ℕ) (ms : List Member) (members : List reads.Member) (given : IsPackageInput t h known n ms members) where
+  abbrev sights : List NumberedSight
+  sights = sights_of_members t (numbered_members ms)
+
+  -- ---- members
+
+  pub one_package : (m : Member) → Contains ms m → m.package_number ≡ n
+  one_package m c = sym (eqb-true n m.package_number (all-contained (λ (x : NumberedMember). n == x.package_) (numbered_members ms) (numbered_member m)
+      (tests_hold t h known n ms members given).0 (contains-map numbered_member ms m c)))
+
+  -- the package has an identity
+  pub main_identity : (m : Member) → Contains ms m → (identity : PackageIdentity) × (slice_get h.packages n ≡ Some identity)
+  main_identity m c =
+      let there = member_there t h ms members given.input m c in
+      (there.0.package_, ap (slice_get h.packages) (sym (one_package m c)) ∙ there.2.package_)
+
+  -- an interface is under its path, whose home is the package under the label
+  pub interface_home : (m : Member) → Contains ms m → (q : ℕ) (v : View) (imports : Bor (List ImportedView)) → m.part ≡ parts.Interface q v imports → HasPath t q
+      × (home_at h q ≡ Some (n, m.label.now))
+  interface_home m c q v imports is =
+      let there = member_there t h ms members given.input m c in
+      by there.0.part (subst (λ a. ShowsPart t h (numbered_member m) (numbered_part a) there.0.part) is there.2.part)
+    where
+      by : (b : reads.Part) → ShowsPart t h (numbered_member m) (numbered_part (parts.Interface q v imports)) b → HasPath t q × (home_at h q ≡ Some (n, m.label.now))
+      by (reads.Part.world scope) shows = absurd shows
+      by (reads.Part.interface view views) shows = (shows.path, shows.home ∙ ap (λ k. Some (k, m.label.now)) (one_package m c))
+
+  -- ---- the package's own
+
+  -- an interface of the package that is seen is exported at the top
+  pub record IsAtTop (q : ℕ) : Type 0 where
+    pub member : Member
+    pub among : Contains ms member
+    pub view : View
+    pub imports : Bor (List ImportedView)
+    pub is : member.part ≡ parts.Interface q view imports
+
+  pub at_top : (q : ℕ) (name : Text) → Contains (places_in ms) q → HasPath t q → home_at h q ≡ Some (n, name) → IsAtTop q
+  at_top q name c path home =
+      let seen = sight_of_place t ms q c path in
+      let stands : stands_at_top h n (numbered_members ms) seen.0 ≡ true = all-contained (stands_at_top h n (numbered_members ms)) sights seen.0 (tests_hold t h known n ms members given).1 seen.1 in
+      let own : is_of_package h n q ≡ true = ap (λ o. option_map_or (λ (x : ℕ × Text). x.0 == n) o false) home ∙ eq-eqb n n refl in
+      let any : list_any (λ (m : NumberedMember). is_interface_of q m.part) (numbered_members ms) ≡ true =
+      ap (λ b. not b || list_any (λ (m : NumberedMember). is_interface_of q m.part) (numbered_members ms)) (sym own)
+      ∙ subst (λ (x : ℕ). (not (is_of_package h n x) || list_any (λ (m : NumberedMember). is_interface_of x m.part) (numbered_members ms)) ≡ true) seen.2 stands in
+      let found = any_get (λ (m : NumberedMember). is_interface_of q m.part) (numbered_members ms) any in
+      chosen found.0 found.1 found.2 found.3
+    where
+      by : (m : Member) → Contains ms m → (a : Part) → m.part ≡ a → is_interface_of q (numbered_part a) ≡ true → IsAtTop q
+      by m among (parts.World w) is e = no_true e
+      by m among (parts.Interface p v imports) is e = record { member = m; among = among; view = v; imports = imports; is = is ∙ ap (λ x. parts.Interface x v imports) (sym (eqb-true q p e)) }
+
+      chosen : (k : ℕ) (m : NumberedMember) → slice_get (numbered_members ms) k ≡ Some m → is_interface_of q m.part ≡ true → IsAtTop q
+      chosen k m at e =
+          let back = get_back numbered_member ms k m at in
+          by back.0 (get-contains ms k back.0 back.1) back.0.part refl (ap (λ (x : NumberedMember). is_interface_of q x.part) back.2 ∙ e)
+
+  -- ---- places without a path
+
+  -- an instance of a world, in this place
+  pub record IsOwnInstance (q : ℕ) : Type 0 where
+    pub member : Member
+    pub among : Contains ms member
+    pub world : Scope
+    pub is : member.part ≡ parts.World world
+    pub instance : Contains (map (λ (i : NumberedInstance). i.place) (numbered_scope world).instances) q
+
+  pub own_instance : (q : ℕ) → Contains (places_in ms) q → path_at t q ≡ None → IsOwnInstance q
+  own_instance q c none = by (from_joined [] (flat_map (λ (x : NumberedMember). orders.places_of_part x.part) (numbered_members ms)) q c)
+    where
+      wrong : {A : Type 0} (p : ℕ) → p ≡ q → HasPath t p → A
+      wrong p same path = let no : None ≡ Some path.0 = sym none ∙ (ap (path_at t) (sym same) ∙ path.1) in absurd cc
+
+      of_part : (m : Member) → Contains ms m → (a : Part) → m.part ≡ a → IsPartIn t (numbered_part a) → Contains (orders.places_of_part (numbered_part a)) q → IsOwnInstance q
+      of_part m among (parts.World w) is good there = record { member = m; among = among; world = w; is = is; instance = there }
+      of_part m among (parts.Interface p v imports) is good there = case (Contains-append_cases (map (λ (i : ℕ × NumberedView). i.0) (map numbered_import imports.now)) (p ∷ []) q there)
+        where
+          case : Contains (map (λ (i : ℕ × NumberedView). i.0) (map numbered_import imports.now)) q ⊎ Contains (p ∷ []) q → IsOwnInstance q
+          case (inl among) =
+              let from = from_map (λ (i : ℕ × NumberedView). i.0) (map numbered_import imports.now) q among in
+              wrong from.0.0 from.2 (all_at (λ (i : ℕ × NumberedView). HasPath t i.0 × IsViewIn t i.0 i.1) (map numbered_import imports.now) good.1 from.0 from.1).0
+          case (inr last) = wrong p (one-contained p q last) good.0.0
+
+      by : Contains [] q ⊎ Contains (flat_map (λ (x : NumberedMember). orders.places_of_part x.part) (numbered_members ms)) q → IsOwnInstance q
+      by (inl no_place) = none-in q no_place
+      by (inr among) =
+          let m = mapped_cases (λ (x : NumberedMember). orders.places_of_part x.part) numbered_member ms q among in
+          of_part m.0 m.1 m.0.part refl (part_at t ms given.input.numbers m.0 m.1) m.2

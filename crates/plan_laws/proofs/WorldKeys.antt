@@ -1,26 +1,237 @@
 -- The imports of a world stand under keys that differ, and a world has a place of its own.
+use Rattle.std.proofs.lemmas.Bool.{false_from_ne_true}
+use Rattle.std.proofs.Common.{◌≡◌, refl, sym, ap, subst, ◌∙◌, ℕ, ◌+◌, arith, true, false, cond, List, [], ◌∷◌, ◌++◌, length, map, Option, Some, None, slice_get, Bool}
+use Rattle.std.proofs.lemmas.{List.append-nil, List.append_assoc, Option.slice_get_within, Option.same_Some as same-some, Slice.Zip.AllZip-long as zip_length}
+use Rattle.plan_type_laws.proofs.{PartPlaces.slot_number, FirstFound.firsts_found}
+use Rattle.std.specs.{Cmp.Lexicographic.pointwise, List.Contains, List.flat_map, List.list_all, Option.option_map_or}
+use Rattle.wit_model.specs.declared.model.TypeOwner.{TypeOwner}
+use Rattle.wit_model.specs.{Text.Text, Uses.has, Valid.as_interface, Valid.as_world}
+use Rattle.wit_model.proofs.Elements.{contains-flat, contains-get, has-contains, none-in}
+use Rattle.plan_meaning.specs.{FollowedNumbers.IsPartIn, FollowedNumbers.IsShownIn, GatheredPlan.DeclaresKind, Shapes.named_shape, ReadFunctions.Beside}
+use Rattle.plan_meaning.specs.NumberedWorlds.{place_of_key, NumberedScope, NumberedSeen, NumberedShown, are_once, seen_of}
+use Rattle.plan_meaning.specs.{NumberedMembers.Homes, NumberedMembers.NumberedMember, NumberedMembers.home_at, NumberedMembers.sights_of_members, Plan.Plan}
+use Rattle.plan_meaning.specs.NumberedViews.{NumberedSight, Tables, agree_in_numbers, same_shown, path_at}
+use Rattle.read_exports.specs.Members.{numbered_members, numbered_part}
+use Rattle.read_exports.specs.declared.members.{Member.Member, Part.Part}
+use Rattle.read_rules.specs.{Scopes.numbered_key, Scopes.numbered_scope, Scopes.numbered_seen, Scopes.numbered_shown, Tables.given_text, Views.numbered_view}
+use Rattle.read_rules.specs.declared.scopes.{Scope.Scope, Seen.Seen, Shown.Shown}
+use Rattle.plan_types.specs.Orders.{home_of_part, joined_all}
+use Rattle.plan_types.specs.{PlannedTypes.PlansType, PlannedTypes.number_in, Showings.NumberedShowing, Showings.showings_of_members}
+use Rattle.plan_package.specs.{PlanWhole.PlansWhole, PlanWhole.owners_in, PlanWhole.places_in, PlanWhole.shown_first, Views.views_of_members}
+use Rattle.plan_package.specs.WholeWorlds.{world_in_part, worlds_in}
+use Rattle.plan_laws.specs.{FirstViews.ViewsAreOrdered, Owners.homes_in, Owners.owners_of, ShownNames.IsInput}
+use Rattle.plan_laws.specs.WorldItems.{InstancesAreRead, KeysAreApart, PlannedWorldsStand, TypesAreRead, WorldsAreApart}
+use Rattle.plan_laws.proofs.{FirstTypes.views_told, PlaceNumbers.IsOnce, PlaceNumbers.number_given, ShownFrom.home_frame, ShownFrom.view_frame}
+use Rattle.plan_laws.proofs.{Inside.flat_cases, Inside.name_same, OwnPlaces.Owned, OwnPlaces.a_view, OwnPlaces.a_world, OwnPlaces.frames, OwnPlaces.one_owned}
+use Rattle.plan_laws.proofs.{Showings.import_named, Owned.planned_name}
+use Rattle.plan_laws.proofs.{FirstViews.first_is, FirstViews.told_types, Planned.first_there, Planned.interface_there, Planned.kept_number, Planned.place_seen}
+use Rattle.plan_laws.proofs.Sources.{origin, seen_sight, sight_of, view_among, world_in, member_view_in, one_under, IsWorldIn}
+use Rattle.base_lemmas.proofs.Elements.{all_at, contains-one, get-contains, last_of as one-contained, contains-map}
+use Rattle.base_lemmas.proofs.Lists.{front_at as at_front, get_back as unmapped_get, mapped_get, middle_get, within_there as slice_there, map_of_map}
+use Rattle.base_lemmas.proofs.Bools.{third_of}
+use Rattle.plan_package.proofs.ReadPackageLaws.{number_at as number_there}
 use Rattle.read_shown.proofs.Lists.{one_place}
-use Rattle.plan_laws.specs.{WorldItems.KeysAreApart, ShownNames.IsInput}
-use Rattle.base_lemmas.proofs.{Elements.contains-map, Bools.third_of, Lists.map_of_map, Lists.mapped_get}
-use Rattle.read_rules.specs.declared.scopes.{Seen.Seen, Scope.Scope}
-use Rattle.plan_package.specs.Views.{views_of_members}
-use Rattle.plan_laws.proofs.{Showings.import_named, OwnPlaces.Owned, OwnPlaces.a_view, OwnPlaces.a_world, OwnPlaces.frames, OwnPlaces.one_owned}
-use Rattle.plan_laws.proofs.{Inside.name_same, Sources.one_under, Sources.IsWorldIn, Sources.world_in, ShownFrom.home_frame, ShownFrom.view_frame}
-use Rattle.std.proofs.Common.{◌≡◌, sym, ap, subst, ◌∙◌, ℕ, Bool, true, false, List, [], ◌++◌, map, Option, arith, Some}
-use Rattle.std.specs.List.{Contains, list_all}
 use Rattle.comp_meaning.specs.Rules.{distinct}
-use Rattle.plan_meaning.specs.{NumberedMembers.Homes, NumberedViews.Tables, NumberedViews.NumberedSight, NumberedViews.path_at}
-use Rattle.plan_meaning.specs.NumberedWorlds.{NumberedScope, NumberedSeen, NumberedShown, are_once, seen_of}
-use Rattle.read_exports.specs.Members.{numbered_members}
-use Rattle.read_exports.specs.declared.members.Member.{Member}
-use Rattle.read_rules.specs.Scopes.{numbered_scope, numbered_seen, numbered_shown}
 use Rattle.plan_type_laws.specs.ShownMarks.{own_places}
-use Rattle.read_rules.specs.declared.scopes.Shown.TheVariants as shown
-use Rattle.comp_meaning.specs.Follow as follow
 use Rattle.comp_meaning.specs.Reads as reads
+use Rattle.read_exports.specs.declared.members.Part.TheVariants as parts
+use Rattle.read_rules.specs.declared.scopes.Shown.TheVariants as shown
+use Rattle.plan_laws.proofs.Sources as origins
+use Rattle.comp_meaning.specs.Follow as follow
 use Rattle.comp_meaning.specs.Rules as rules
 use Rattle.plan_meaning.specs.NumberedWorlds as worlds
-use Rattle.read_exports.specs.declared.members.Part.TheVariants as parts
+
+-- ---- What the worlds of a plan import and export, beside functions, is as it was followed.
+
+declared_of : Shown → Option ℕ
+declared_of (shown.Declares g o) = o
+declared_of _ = None
+
+same_declared : (k l : ℕ) (a c : Option ℕ) → shown.Declares k a ≡ shown.Declares l c → a ≡ c
+unfolding declared_of
+same_declared k l a c e = ap declared_of e
+
+-- ---- places that are all new
+
+once_front : (p : ℕ) (met ps : List ℕ) → IsOnce (met ++ p ∷ ps) → has met p ≡ false
+once_front p met ps once = false_from_ne_true (has met p) (λ e.
+    let there = contains-get met p (has-contains met p e) in
+    let low = slice_get_within met there.0 p there.1 in
+    let same : there.0 ≡ length met = once there.0 (length met) p (at_front met (p ∷ ps) there.0 p there.1) (middle_get met p ps) in
+    omega (arith, low, same))
+
+all_new : (met ps : List ℕ) → IsOnce (met ++ ps) → joined_all met ps ≡ met ++ ps
+all_new met [] once = sym (append-nil met)
+all_new met (p ∷ ps) once =
+    let same : (met ++ p ∷ []) ++ ps ≡ met ++ p ∷ ps = append_assoc met (p ∷ []) ps in
+    ap (λ b. joined_all (cond b met (met ++ p ∷ [])) ps) (once_front p met ps once) ∙ (all_new (met ++ p ∷ []) ps (subst IsOnce (sym same) once) ∙ same)
+
+abbrev pub home_of_world : Text × Scope → ℕ
+home_of_world w = w.1.home
+
+pub homes_of_worlds : (ms : List Member) → flat_map (λ (m : NumberedMember). home_of_part m.part) (numbered_members ms) ≡ map home_of_world (worlds_in ms)
+homes_of_worlds [] = refl
+homes_of_worlds (m ∷ ms) = by m.part (homes_of_worlds ms)
+  where
+    by : (a : Part) → flat_map (λ (x : NumberedMember). home_of_part x.part) (numbered_members ms) ≡ map home_of_world (worlds_in ms)
+        → home_of_part (numbered_part a) ++ flat_map (λ (x : NumberedMember). home_of_part x.part) (numbered_members ms) ≡ map home_of_world (world_in_part m.label.now a ++ worlds_in ms)
+    by (parts.World w) rest = ap (λ hs. w.home ∷ hs) rest
+    by (parts.Interface p v imports) rest = rest
+
+-- the member that a world is of
+pub world_member : (ms : List Member) (w : Text × Scope) → Contains (worlds_in ms) w → (m : Member) × Contains ms m × (m.part ≡ parts.World w.1) × (m.label.now ≡ w.0)
+world_member ms w c =
+    let from = flat_cases (λ (m : Member). world_in_part m.label.now m.part) ms w c in
+    let is = of_part from.0.label.now from.0.part from.2 in
+    (from.0, from.1, is.0, is.1)
+  where
+    of_part : (l : Text) (a : Part) → Contains (world_in_part l a) w → (a ≡ parts.World w.1) × (l ≡ w.0)
+    of_part l (parts.World x) among = let same = one-contained (l, x) w among in (ap (λ (y : Text × Scope). parts.World y.1) same, ap (λ (y : Text × Scope). y.0) same)
+    of_part l (parts.Interface p v imports) among = none-in w among
+
+module _ (t : Tables) (h : Homes) (ms : List Member) (members : List reads.Member) (input : IsInput t h ms members) (agreed : agree_in_numbers (sights_of_members t (numbered_members ms)) ≡ true)
+    (ordered : ViewsAreOrdered t ms) (worlds_apart : WorldsAreApart ms)
+    (n : ℕ) (p : Plan) (planned : PlansWhole t h.packages (home_at h) n ms p) (b : Beside) (beside_owners : b.owners ≡ owners_of ms) where
+  abbrev views : List NumberedSight
+  views = views_of_members (numbered_members ms)
+
+  abbrev places : List ℕ
+  places = places_in ms
+
+  abbrev homes : List ℕ
+  homes = homes_in ms
+
+  -- ---- owners
+
+  worlds_once : IsOnce (map home_of_world (worlds_in ms))
+  worlds_once i j q at_i at_j =
+      let w = unmapped_get home_of_world (worlds_in ms) i q at_i in
+      let v = unmapped_get home_of_world (worlds_in ms) j q at_j in
+      worlds_apart i j w.0 v.0 w.1 v.1 (w.2 ∙ sym v.2)
+
+  homes_are : homes ≡ map home_of_world (worlds_in ms)
+  homes_are = ap (joined_all []) (homes_of_worlds ms) ∙ all_new [] (map home_of_world (worlds_in ms)) worlds_once
+
+  no_place : (q : ℕ) → Contains homes q → number_in places q ≡ None
+  no_place q c = by (number_in places q) refl
+    where
+      by : (o : Option ℕ) → number_in places q ≡ o → o ≡ None
+      by None e = refl
+      by (Some k) e =
+          let seen = place_seen ms q (get-contains places k q (number_there places q k e)) in
+          absurd (ordered.apart seen.0 seen.1 (subst (Contains homes) (sym seen.2) c))
+
+  module _ (m : ℕ) (w : Text × Scope) (at : slice_get (worlds_in ms) m ≡ Some w) where
+    home_there : slice_get homes m ≡ Some w.1.home
+    home_there = ap (λ hs. slice_get hs m) homes_are ∙ mapped_get home_of_world (worlds_in ms) m w at
+
+    home_number : number_in homes w.1.home ≡ Some m
+    home_number =
+        let given = number_given homes w.1.home (get-contains homes m w.1.home home_there) in
+        given.1 ∙ ap Some (subst IsOnce (sym homes_are) worlds_once given.0 m w.1.home (number_there homes w.1.home given.0 given.1) home_there)
+
+    owned : b.owners w.1.home ≡ as_world m
+    owned =
+        ap (λ (o : ℕ → TypeOwner). o w.1.home) beside_owners
+        ∙ (ap (λ o. option_map_or as_interface o (option_map_or as_world (number_in homes w.1.home) (as_interface (length places + w.1.home))))
+        (no_place w.1.home (get-contains homes m w.1.home home_there))
+        ∙ ap (λ o. option_map_or as_world o (as_interface (length places + w.1.home))) home_number)
+
+    -- ---- the member
+
+    member : (x : Member) × Contains ms x × (x.part ≡ parts.World w.1) × (x.label.now ≡ w.0)
+    member = world_member ms w (get-contains (worlds_in ms) m w at)
+
+    good : IsPartIn t (numbered_part (parts.World w.1))
+    good = (world_in t h ms members input member.0 member.1 w.1 member.2).good
+
+    -- ---- instances
+
+    instances_read : InstancesAreRead t ms planned.kept p b m w.1
+    instances_read s c key v e u number =
+        let q = place_of_key (numbered_key key) in
+        let there = number_there places q u number in
+        let found = interface_there t h ms members input n p planned u q there in
+        let first = first_there t h ms members input n p planned u q there in
+        let is = first_is q views first.0 first.1 in
+        let same = views_told t h ms members input agreed ordered first.0 (sight_of key v) is.0 (seen_sight t ms member.0 member.1 w.1 member.2 good s c key v e) is.1 in
+        record {
+          owned = ap (λ (o : ℕ → TypeOwner). o q) beside_owners ∙ ap (λ o. option_map_or as_interface o (option_map_or as_world (number_in homes q) (as_interface (length places + q)))) number;
+          interface = found.0;
+          there = found.1;
+          agrees = ap (λ o. pointwise same_shown (option_map_or (λ (x : NumberedSight). x.view.types) o []) (numbered_view v).types) first.1 ∙ told_types first.0.view.types
+              (numbered_view v).types same;
+        }
+
+    -- ---- types
+
+    -- a world of this place is this one
+    same_world : (x : Member) → Contains ms x → (v : Scope) → x.part ≡ parts.World v → v.home ≡ w.1.home → v ≡ w.1
+    same_world x x_there v world home =
+        let here : Contains (world_in_part x.label.now x.part) (x.label.now, v) = subst (λ a. Contains (world_in_part x.label.now a) (x.label.now, v)) (sym world) (contains-one (x.label.now, v)) in
+        let there = contains-get (worlds_in ms) (x.label.now, v) (contains-flat (λ (y : Member). world_in_part y.label.now y.part) ms x (x.label.now, v) x_there here) in
+        let one : there.0 ≡ m = worlds_apart there.0 m (x.label.now, v) w there.1 at home in
+        ap (λ (y : Text × Scope). y.1) (same-some (x.label.now, v) w (sym there.1 ∙ (ap (slice_get (worlds_in ms)) one ∙ at)))
+
+    module _ (keys : KeysAreApart w.1) where
+      -- what is shown of the type first is this import
+      import_first : (s : Seen) → Contains w.1.imports.now s → (part : ℕ) (d : Option ℕ) → s.shown ≡ shown.Declares part d → (k : ℕ) → slice_get t.shapes k ≡ Some (named_shape w.1.home s.key.now)
+          → (y : NumberedShowing) → shown_first ms k ≡ Some y
+          → (y.declared ≡ d) × (y.external_id ≡ given_text s.external_id)
+      import_first s c part d e k shape y first =
+          let found = (firsts_found (showings_of_members ms)).0 k y first in
+          let from = origin t h ms members input y found.0 in
+          by from.0 from.1 from.2 found.1
+        where
+          by : (x : Member) → Contains ms x → origins.IsShownIn x.part y → y.part ≡ 14 + k → (y.declared ≡ d) × (y.external_id ≡ given_text s.external_id)
+          by x x_there (origins.in_view u u_there z z_there same) number =
+              let among = view_among ms x x_there u u_there in
+              let is = all_at (IsShownIn t u.place) u.view.types (member_view_in t ms input.numbers u among).types z z_there in
+              let slot = slot_number t z.slot is.number is.slot in
+              let equal : is.number ≡ k = (let a = ap (λ (g : NumberedShowing). g.part) same in omega (arith, a, number, slot)) in
+              let here = name_same t.shapes u.place w.1.home z.name s.key.now is.number k is.name.named shape equal in
+              absurd (ordered.apart u among (subst (Contains homes) (sym here.0) (get-contains homes m w.1.home home_there)))
+          by x x_there (origins.of_world v world other other_there kk dd declares same) number =
+              let name = import_named t input.tables h ms members input x x_there v world other other_there kk dd declares in
+              let equal : name.0 ≡ k = (let a = ap (λ (g : NumberedShowing). g.part) same in let u = name.1 in omega (arith, a, number, u)) in
+              let here = name_same t.shapes v.home w.1.home other.key.now s.key.now name.0 k name.2.named shape equal in
+              let one = same_world x x_there v world here.0 in
+              let at_s = contains-get w.1.imports.now s c in
+              let at_other = contains-get w.1.imports.now other (subst (λ (g : Scope). Contains g.imports.now other) one other_there) in
+              let index : at_other.0 ≡ at_s.0 = keys at_other.0 at_s.0 other s at_other.1 at_s.1 here.1 in
+              let equal_seen : other ≡ s = same-some other s (sym at_other.1 ∙ (ap (slice_get w.1.imports.now) index ∙ at_s.1)) in
+              let shown_same : shown.Declares kk dd ≡ shown.Declares part d = sym declares ∙ (ap (λ (g : Seen). g.shown) equal_seen ∙ e) in
+              let declared : dd ≡ d = same_declared kk part dd d shown_same in
+              (ap (λ (g : NumberedShowing). g.declared) (sym same) ∙ declared, ap (λ (g : NumberedShowing). g.external_id) (sym same) ∙ ap (λ (g : Seen). given_text g.external_id) equal_seen)
+
+      types_read : TypesAreRead t ms planned.kept p b w.1
+      types_read s c part d e j is =
+          let name = import_named t input.tables h ms members input member.0 member.1 w.1 member.2 s c part d e in
+          let kept_there = kept_number planned.kept part name.0 j name.1 is in
+          let many = zip_length (PlansType t planned.kept (shown_first ms) (owners_in ms)) planned.kept p.types planned.types in
+          let low = slice_get_within planned.kept j name.0 kept_there in
+          let type_ = slice_there p.types j (omega (arith, many, low)) in
+          let is_named = planned_name t h ms members input n p planned j name.0 type_.0 w.1.home s.key.now type_.1 kept_there name.2.named in
+          let tells = import_first s c part d e name.0 name.2.named is_named.showing is_named.first in (
+            name.0,
+            kept_there,
+            name.2.named,
+            record {
+              type_ = type_.0;
+              stands = type_.1;
+              kind = subst (λ o. DeclaresKind t planned.kept p o type_.0.kind) tells.0 is_named.kind;
+              same_id = is_named.same_id ∙ tells.1;
+            },
+          )
+
+pub planned_worlds_stand : PlannedWorldsStand
+planned_worlds_stand t h ms members input agreed ordered apart n p planned b owners m w at = record {
+  owned = owned t h ms members input agreed ordered apart n p planned b owners m w at;
+  instances = instances_read t h ms members input agreed ordered apart n p planned b owners m w at;
+  types = types_read t h ms members input agreed ordered apart n p planned b owners m w at;
+}
+
+-- ---- what the page is for
 
 -- the import of a key is one
 pub one_key : (ss : List NumberedSeen) → distinct (map (λ (s : NumberedSeen). s.key) ss) ≡ true → (a b : NumberedSeen) → Contains ss a → Contains ss b → a.key ≡ b.key → a ≡ b

@@ -5,9 +5,8 @@ use Rattle.std.specs.List.{AllByRecursion}
 use Rattle.wit_model.specs.Names.{PackageIdentity, path_in, read_path}
 use Rattle.wit_model.proofs.NameLaws.{read_path_is_spelled, spelled_path_reads}
 use Rattle.comp_meaning.specs.Reads.{world_with}
-use Rattle.plan_meaning.specs.{GatheredPlan.IsGatheredWorld, GatheredPlan.WorldBecomes, GatheredPlan.under_path, NumberedWorlds.sights_of_scope}
+use Rattle.plan_meaning.specs.{GatheredPlan.IsGatheredWorld, GatheredPlan.WorldBecomes, GatheredPlan.under_path, NumberedWorlds.sights_of_scope, NumberedRules.Fact, NumberedViews.NumberedSight, NumberedViews.Tables, Plan.Plan, Plan.world_in, PlanMeaning.plan_world_meaning}
 use Rattle.plan_meaning.specs.NumberedMembers.{Homes, IsKnownSight, home_at, sights_of_members}
-use Rattle.plan_meaning.specs.{NumberedRules.Fact, NumberedViews.NumberedSight, NumberedViews.Tables, Plan.Plan, Plan.world_in, PlanMeaning.plan_world_meaning}
 use Rattle.plan_meaning.specs.ReadFunctions.{Beside}
 use Rattle.plan_meaning.proofs.{GatheredPlan.gathered_world_is_meant, KeptTypes.kept_types_pass, ReadWholes.read_world_plan_stands}
 use Rattle.plan_type_laws.proofs.Walks.{all_split}
@@ -15,10 +14,8 @@ use Rattle.read_exports.specs.Members.{numbered_members}
 use Rattle.read_exports.specs.declared.members.Member.{Member}
 use Rattle.read_rules.specs.Scopes.{numbered_scope}
 use Rattle.plan_package.specs.PlanWhole.{PlansWhole}
-use Rattle.plan_laws.specs.{FirstViews.ViewsAreOrdered, Whole.IsPackageInput, WholeTypes.TypesAreWhole, WorldItems.WorldsAreApart}
-use Rattle.plan_laws.specs.{OneWorld.IsWorldInput, OneWorld.WorldPlanIsWhole, ViewedInterfaces.views_read, WholeFunctions.beside_tables, WholePlan.IsWholeInput}
-use Rattle.plan_laws.proofs.{Apart.whole_stands_apart, GatheredWorlds.world_at, WholeMeaning.main, WorldPlan.world_plan_read}
-use Rattle.plan_laws.proofs.{GatheredInterfaces.all_gathered, GatheredSights.IsGatheredFrom, WholeTypes.packages_are_ruled, WholeTypes.planned_types_are_whole}
+use Rattle.plan_laws.specs.{FirstViews.ViewsAreOrdered, Whole.IsPackageInput, WholeTypes.TypesAreWhole, WorldItems.WorldsAreApart, OneWorld.IsWorldInput, OneWorld.WorldPlanIsWhole, ViewedInterfaces.views_read, WholeFunctions.beside_tables, WholePlan.IsWholeInput}
+use Rattle.plan_laws.proofs.{Apart.whole_stands_apart, GatheredWorlds.world_at, WholeCondition.main, WorldPlan.world_plan_read, GatheredInterfaces.all_gathered, GatheredInterfaces.IsGatheredFrom, WholeTypes.packages_are_ruled, WholeTypes.planned_types_are_whole}
 use Rattle.plan_laws.proofs.OneWorld.{functions_shown, one_world, place_shown, planned_alone, shown_among, views_first}
 use Rattle.comp_meaning.specs.Follow as follow
 use Rattle.comp_meaning.specs.Reads as reads

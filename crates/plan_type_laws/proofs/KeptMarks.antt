@@ -2,10 +2,9 @@
 use Rattle.std.proofs.Common.{◌≡◌, sym, ap, subst, ◌∙◌, ℕ, ◌+◌, List, Option, Some}
 use Rattle.std.proofs.ByRecursion.{All-weaker as recursion_weaker}
 use Rattle.wit_model.specs.Text.{Text}
-use Rattle.plan_meaning.specs.{GatheredPlan.DeclaresKind, GatheredPlan.a_form, GatheredPlan.a_name, GatheredPlan.a_resource, Plan.Plan, Plan.PlannedKind}
-use Rattle.plan_meaning.specs.{KeptResources.FormIsMarked, KeptResources.MarkedBy, NumberedRules.name_at, NumberedViews.Tables}
+use Rattle.plan_meaning.specs.{GatheredPlan.DeclaresKind, GatheredPlan.a_form, GatheredPlan.a_name, GatheredPlan.a_resource, Plan.Plan, Plan.PlannedKind, KeptResources.FormIsMarked, KeptResources.MarkedBy, NumberedRules.name_at, NumberedViews.Tables}
 use Rattle.plan_types.specs.Showings.{NumberedShowing}
-use Rattle.plan_type_laws.proofs.{KeptKinds.one_old, ShownForms.kept_forms, ShownForms.shown_kind}
+use Rattle.plan_type_laws.proofs.{KeptKinds.one_old, ShownRules.kept_forms, ShownRules.shown_kind}
 use Rattle.plan_type_laws.specs.{KeptMarks.MarksAreKept, ShownMarks.IsMarkedAs, ShownMarks.MarksStand, ShownMarks.ShowingIsMarked}
 use Rattle.base_lemmas.proofs.Elements.{all_at}
 

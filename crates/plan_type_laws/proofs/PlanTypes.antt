@@ -5,13 +5,11 @@ use Rattle.std.specs.List.{AllByRecursion, AllZip}
 use Rattle.wit_model.specs.declared.model.TypeOwner.{TypeOwner}
 use Rattle.wit_model.specs.Text.{Text}
 use Rattle.plan_meaning.proofs.ShapeLaws.{form_back}
-use Rattle.plan_meaning.specs.{GatheredPlan.Becomes, Plan.Plan, Plan.PlannedType, Plan.formed, Plan.place_in, PlanRules.is_form}
-use Rattle.plan_meaning.specs.{KeptTypes.IsKeptType, KeptTypes.declared, KeptTypes.unnamed as kept_unnamed, NumberedRules.name_at, NumberedRules.name_in}
-use Rattle.plan_meaning.specs.{NumberedViews.AreTables, NumberedViews.Tables, Shapes.Shape, Shapes.IsShape, Shapes.a_name, Shapes.a_node, Shapes.named_shape}
+use Rattle.plan_meaning.specs.{GatheredPlan.Becomes, Plan.Plan, Plan.PlannedType, Plan.formed, Plan.place_in, PlanRules.is_form, KeptTypes.IsKeptType, KeptTypes.declared, KeptTypes.unnamed as kept_unnamed, NumberedRules.name_at, NumberedRules.name_in, NumberedViews.AreTables, NumberedViews.Tables, Shapes.Shape, Shapes.IsShape, Shapes.a_name, Shapes.a_node, Shapes.named_shape}
 use Rattle.plan_parts.proofs.DeclaredKinds.{kinds_declared, parts_become}
 use Rattle.plan_parts.specs.{Kept.AreMarked, Kinds.shape_form, Marks.is_marked}
 use Rattle.plan_types.specs.{PlannedTypes.PlansType, PlannedTypes.named, PlannedTypes.unnamed, Showings.NumberedShowing, Used.used_parts, Used.AreUsed}
-use Rattle.plan_type_laws.proofs.{ShownForms.kept_forms, ShownForms.mark_there, UsedWalk.unnamed_node, UsedParts.used_are_fine}
+use Rattle.plan_type_laws.proofs.{ShownRules.kept_forms, ShownRules.mark_there, UsedWalk.unnamed_node, UsedParts.used_are_fine}
 use Rattle.plan_type_laws.specs.{PlanTypes.NamesObey, PlanTypes.PlannedTypesAreKept, UsedParts.ShowingObeys, UsedParts.SignatureObeys}
 use Rattle.base_lemmas.proofs.Elements.{zip_at_right as zip_get}
 

@@ -1,19 +1,55 @@
 -- A list of tokens is at most one file, and a text at most one.
-use Rattle.std.proofs.Common.{◌≡◌, List, [], ◌∷◌, ℕ, refl, ap, sym, subst, Bool, true, false}
-use Rattle.print_grammar.specs.{Keyword.Keyword, Token.Token.Punctuation, Token.Token.Key, Grammar.ReadsItem.interface_item, Grammar.ReadsItem.world_item}
-use Rattle.print_grammar.specs.{Token.Token, Token.Mark, Grammar.ReadsUse.use_names, Grammar.ReadsNested.nested_package, Reading.IsReading, Reading.OneReading}
-use Rattle.print_grammar.specs.{Token.Mark.Colon, Token.Mark.Semi, Token.Mark.OpenBrace, Token.Mark.CloseBrace, Grammar.ReadsPath.local, Grammar.ReadsPath.full}
+use Rattle.std.proofs.Common.{◌≡◌, List, ℕ, refl, subst, [], ◌∷◌, ap, sym, Bool, true, false}
+use Rattle.print_grammar.specs.{Token.Token, Token.Tokens, Token.Front, Token.Mark, Grammar.ReadsUse.use_names, Grammar.ReadsPath.local, Grammar.ReadsPath.full}
+use Rattle.print_grammar.specs.{Token.Front.Ended, Token.Front.Skipped, Token.Front.Found, Grammar.ReadsSignature.func, Grammar.ReadsSignature.async_func}
+use Rattle.print_grammar.specs.Token.{Tokens.no_tokens, Tokens.skip, Tokens.token, Mark.Colon, Mark.Semi, Mark.OpenBrace, Mark.CloseBrace}
+use Rattle.print_grammar.specs.{Keyword.Keyword, Grammar.ReadsFile.file}
+use Rattle.print_grammar.specs.{Token.Token.Punctuation, Token.Token.Key, Grammar.ReadsNested.nested_package, Reading.IsReading, Reading.OneReading}
+use Rattle.print_grammar.specs.Grammar.{ReadsItem.interface_item, ReadsItem.world_item, ReadsHead.head, ReadsAllNested.nested_end, ReadsAllNested.next_nested}
 use Rattle.print_grammar.specs.Tree.{SignatureTree, Gates, PathTree, UsedName, Declared, ExternTree, ItemTree, PackageHead, PackageTree, FileTree}
 use Rattle.print_grammar.specs.Grammar.{IsId, Repeated, ReadsGates, ReadsPath, ReadsUse, ReadsDeclared, ReadsSignature, ReadsMember, ReadsExtern, ReadsWorldMember, ReadsItem, ReadsItems, ReadsHead, ReadsNested, ReadsAllNested, ReadsFile}
 use Rattle.print_grammar.specs.Grammar.ReadsDeclared.{record_, variant, flags, enum, alias, resource, resource_with}
-use Rattle.print_grammar.specs.Grammar.{ReadsSignature.func, ReadsSignature.async_func, ReadsHead.head, ReadsAllNested.nested_end, ReadsAllNested.next_nested}
 use Rattle.print_grammar.specs.Grammar.{ReadsMember.member_use, ReadsMember.member_type, ReadsMember.member_function, ReadsItems.no_items, ReadsItems.next_item}
 use Rattle.print_grammar.specs.Grammar.ReadsExtern.{extern_path, extern_function, extern_named_path, extern_interface}
 use Rattle.print_grammar.specs.Grammar.ReadsWorldMember.{world_use, world_type, world_import, world_export}
-use Rattle.print_grammar.specs.Grammar.ReadsFile.{file}
-use Rattle.print_grammar.proofs.{TokensUnique.tokens-unique, TypeUnique.id-unique, TypeUnique.tail_same, TypeUnique.begins_with_at}
+use Rattle.print_grammar.proofs.TypeTokens.{id-unique, tail_same, begins_with_at}
 use Rattle.print_grammar.proofs.ListsUnique.{Same, Unique, Never, head_same, repeated-unique, no_id_key, signature-unique}
 use Rattle.print_grammar.proofs.PrefixUnique.{use_no_at, declared_no_at, id_no_at, version-unique, gates-unique, prefix-unique, all_prefix, no_prefix, path-unique, use-unique, function-unique, declared-unique, mark_or_id}
+
+-- ---- A text has at most one list of tokens.
+
+same_skip : (f : Front) (a b : List ℕ) → f ≡ Skipped a → f ≡ Skipped b → b ≡ a
+same_skip f a b p q = cc
+
+same_rest : (f : Front) (s t : Token) (a b : List ℕ) → f ≡ Found s a → f ≡ Found t b → b ≡ a
+same_rest f s t a b p q = cc
+
+same_token : (f : Front) (s t : Token) (a b : List ℕ) → f ≡ Found s a → f ≡ Found t b → s ≡ t
+same_token f s t a b p q = cc
+
+skip_no_end : (f : Front) (a : List ℕ) → f ≡ Skipped a → f ≡ Ended → ⊥
+skip_no_end f a p q = cc
+
+found_no_end : (f : Front) (t : Token) (a : List ℕ) → f ≡ Found t a → f ≡ Ended → ⊥
+found_no_end f t a p q = cc
+
+found_no_skip : (f : Front) (t : Token) (a b : List ℕ) → f ≡ Found t a → f ≡ Skipped b → ⊥
+found_no_skip f t a b p q = cc
+
+pub tokens-unique : {text : List ℕ} {xs ys : List Token} → Tokens text xs → Tokens text ys → xs ≡ ys
+tokens-unique (no_tokens p) (no_tokens q) = refl
+tokens-unique (no_tokens p) (skip q b) = absurd (skip_no_end _ _ q p)
+tokens-unique (no_tokens p) (token q b) = absurd (found_no_end _ _ _ q p)
+tokens-unique (skip p a) (no_tokens q) = absurd (skip_no_end _ _ p q)
+tokens-unique (skip p a) (skip {tokens = ts} q b) = tokens-unique a (subst (λ x. Tokens x ts) (same_skip _ _ _ p q) b)
+tokens-unique (skip p a) (token q b) = absurd (found_no_skip _ _ _ _ q p)
+tokens-unique (token p a) (no_tokens q) = absurd (found_no_end _ _ _ p q)
+tokens-unique (token p a) (skip q b) = absurd (found_no_skip _ _ _ _ p q)
+tokens-unique (token p a) (token {tokens = ts} q b) =
+    let h = tokens-unique a (subst (λ x. Tokens x ts) (same_rest _ _ _ _ _ p q) b) in
+    let e = same_token _ _ _ _ _ p q in cc
+
+-- ---- what the page is for
 
 -- ---- which of two things stands there
 

@@ -4,30 +4,24 @@ pub mod ByteTests
 mod DeclaredExamples
 -- The text that calls append, from the front on. Serves FileReads, PathReads, PrefixReads, Printing and 2 more.
 pub mod TextOf
--- Which token begins a text, and where it ends. Serves DeclaredReads, FileReads, MemberReads, PathReads and 6 more.
+-- Which token begins a text, and where it ends. Serves DeclaredReads, FileReads, MemberReads, PathReads and 5 more.
 pub mod TokenFacts
 -- Calls whose text begins with tokens: one call, and then what follows it. Serves DeclaredReads, FileReads, MemberReads, PathReads and 3 more.
 pub mod Printing
--- The escaped characters of a string between quotation marks are one token. Serves PrefixReads.
-pub mod StringReads
--- The text of a version is one token. Serves PathReads, PrefixReads, TypeReads.
+-- The text of a version is one token. Serves PathReads, PrefixReads, TypeTokens.
 pub mod VersionFacts
 -- What is printed in front of an item is read as it: documentation, gates. Serves DeclaredReads, FileReads, MemberReads.
 pub mod PrefixReads
--- What is printed of a type is read as it. Serves DeclaredReads, SignatureReads.
-pub mod TypeReads
+-- A list of tokens begins with at most one type, where what follows doesn't go on with it. Serves DeclaredReads, GrammarUnique, ListsUnique, PrefixUnique and 1 more.
+pub mod TypeTokens
 -- What is printed of a signature is read as it: lists with commas between, parameters, results. Serves DeclaredReads, FileReads, MemberReads, PathReads.
 pub mod SignatureReads
 -- What is printed of a declared type is read as it. Serves FileReads, MemberReads.
 pub mod DeclaredReads
--- A list of tokens begins with at most one type, where what follows doesn't go on with it. Serves GrammarUnique, ListsUnique, PrefixUnique.
-pub mod TypeUnique
 -- A list of tokens begins with at most one list, parameter list, result or signature. Serves GrammarUnique, PrefixUnique.
 pub mod ListsUnique
 -- A list of tokens begins with at most one prefix, path, use or declared type. Serves GrammarUnique.
 pub mod PrefixUnique
--- A text has at most one list of tokens. Serves GrammarUnique.
-pub mod TokensUnique
 -- A list of tokens is at most one file, and a text at most one. Serves laws::one_reading.
 pub mod GrammarUnique
 -- What is printed of a path and of a use is read as it. Serves FileReads, MemberReads.

@@ -5,7 +5,7 @@ use Rattle.print_grammar.specs.{Token.Token.Punctuation, Token.Token.Key, Gramma
 use Rattle.print_grammar.specs.{Token.Mark.Comma, Token.Mark.CloseParen, Token.Mark.CloseBrace, Grammar.ReadsSignature.func, Grammar.ReadsSignature.async_func}
 use Rattle.print_grammar.specs.Grammar.{IsId, Listed, Repeated, ReadsParam, ReadsParams, ReadsResult, ReadsSignature}
 use Rattle.print_grammar.specs.Grammar.{Listed.last, Listed.last_with_comma, Listed.next, ReadsParam.param, ReadsResult.no_result, ReadsResult.with_result}
-use Rattle.print_grammar.proofs.TypeUnique.{id-unique, tail_same, type-unique, stops, no_less}
+use Rattle.print_grammar.proofs.TypeTokens.{id-unique, tail_same, type-unique, stops, no_less}
 
 -- the same tree, and the same tokens after it
 abbrev pub Same : {X : Type 0} → X → X → List Token → List Token → Type 0

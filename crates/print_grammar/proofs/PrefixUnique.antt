@@ -12,7 +12,7 @@ use Rattle.print_grammar.specs.Grammar.{ReadsGates.no_gates, ReadsGates.since, R
 use Rattle.print_grammar.specs.Grammar.{ReadsPrefix.prefix, ReadsResourceMember.constructor_, ReadsResourceMember.method, ReadsResourceMember.static}
 use Rattle.print_grammar.specs.Grammar.{ReadsUsedName.same_name, ReadsUsedName.other_name, ReadsUse.use_names, ReadsCase.case_alone, ReadsCase.case_of}
 use Rattle.print_grammar.specs.Grammar.ReadsDeclared.{record_, variant, flags, enum, alias, resource, resource_with}
-use Rattle.print_grammar.proofs.TypeUnique.{id-unique, tail_same, type-unique, begins_with_at, no_less}
+use Rattle.print_grammar.proofs.TypeTokens.{id-unique, tail_same, type-unique, begins_with_at, no_less}
 use Rattle.print_grammar.proofs.ListsUnique.{Same, Unique, UniqueBefore, Never, head_same, listed-unique, repeated-unique, no_id_mark, no_id_key, arguments-unique, signature-unique}
 
 -- ---- gates and external ids

@@ -8,7 +8,7 @@ use Rattle.print_grammar.specs.{Tree.MemberTree, Tree.MemberTree.TypeMember}
 use Rattle.print_items.specs.Shown.{DeclaredWith, Listed, belongs_to, declared_of, present_name, shown_prefix, shown_resource_member, used_of}
 use Rattle.print_packages.specs.GivenTypes.{Functions, functions_under, given_declarations}
 use Rattle.print_uses.specs.UseGroups.{declared_members, listed_declaration}
-use Rattle.print_uses.proofs.ListedTypes.{next_declarations}
+use Rattle.print_uses.proofs.Listed.{next_declarations}
 use Rattle.base_lemmas.proofs.Bools.{left_of, right_of}
 
 module _ {X : Type 0} (test : X → Bool) where

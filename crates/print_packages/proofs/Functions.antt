@@ -10,7 +10,7 @@ use Rattle.print_grammar.specs.WellNamed.{is_well_member}
 use Rattle.print_items.specs.{Shown.function_prefix, Shown.listed_functions, Shown.shown_function, Shown.shown_signature, ItemCalls.named_calls}
 use Rattle.print_uses.specs.Printable.{is_printable_function, shown_functions}
 use Rattle.print_output.specs.declared.type_kind.TypeKind.TheVariants.{FunctionFreestanding}
-use Rattle.print_uses.proofs.{ValidDeclared.is_known_function, ValidInterfaces.function_well, ValidInterfaces.interface_functions}
+use Rattle.print_uses.proofs.{Valid.is_known_function, Valid.function_well, Valid.interface_functions}
 use Rattle.base_lemmas.proofs.Elements.{all_weaker as weaker_all}
 use Rattle.wit_model.specs.declared.model.TypeOwner.TheVariants as owner
 

@@ -5,14 +5,12 @@ use Rattle.std.specs.{Prelude.String, Prelude.option_map, Option.option_map_or, 
 use Rattle.std.specs.declared.alloc.Global.{Global}
 use Rattle.wit_model.specs.declared.model.{Resolve.Resolve, Package.Package, PackageId.PackageId, Interface.Interface, InterfaceId.InterfaceId, WorldId.WorldId}
 use Rattle.wit_model.specs.declared.model.World.{World}
-use Rattle.wit_model.specs.{Text.Text, Text.text_of, Text.text_eq, Names.is_label, Rules.in_list, Rules.passes, Rules.is_stability, Rules.text_is}
-use Rattle.wit_model.specs.{Lookup.package_at, Lookup.interface_at, Lookup.world_at, Valid.IsValid, Valid.package_names, Valid.labels, Valid.names_in_packages}
+use Rattle.wit_model.specs.{Text.Text, Text.text_of, Text.text_eq, Names.is_label, Rules.in_list, Rules.passes, Rules.is_stability, Rules.text_is, Lookup.package_at, Lookup.interface_at, Lookup.world_at, Valid.IsValid, Valid.package_names, Valid.labels, Valid.names_in_packages}
 use Rattle.wit_model.proofs.{OnePath.package-passes, OnePath.interface-passes, TextLemmas.text_same}
 use Rattle.print_output.specs.{OutputCall.View, OutputCall.Moves, OutputCall.is_one_line, Render.Written, Render.render, Render.writes, Render.blank}
-use Rattle.print_grammar.specs.{Calls.file_calls, AsRead.file_as_read, Tree.ItemTree.InterfaceItem, Tree.ItemTree.WorldItem}
-use Rattle.print_grammar.specs.{Reading.IsOnlyReading, WellNamed.is_well_gates, WellNamed.is_well_item, WellNamed.is_well_package, WellNamed.is_well_file}
+use Rattle.print_grammar.specs.{Calls.file_calls, AsRead.file_as_read, Tree.ItemTree.InterfaceItem, Tree.ItemTree.WorldItem, Reading.IsOnlyReading, WellNamed.is_well_gates, WellNamed.is_well_item, WellNamed.is_well_package, WellNamed.is_well_file}
 use Rattle.print_items.specs.Shown.{shown_docs, shown_gates, shown_interface, shown_interface_item, shown_world, shown_world_item, shown_package_of, no_package, shown_package, shown_file}
-use Rattle.print_uses.proofs.{WellLists.each_well, WellLists.given_well, ValidOwners.world_rule, ValidInterfaces.interface_well}
+use Rattle.print_uses.proofs.{WellLists.each_well, WellLists.given_well, Valid.world_rule, Valid.interface_well}
 use Rattle.print_output.proofs.RenderLaws.{Moves-writes}
 use Rattle.print_grammar.proofs.FileReads.{file_reads_only}
 use Rattle.print_items.proofs.ShownWell.{docs_well, gates_well, optional_version}

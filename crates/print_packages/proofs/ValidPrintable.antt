@@ -15,7 +15,7 @@ use Rattle.print_uses.specs.Printable.{is_printable_import, is_shown_item, is_pr
 use Rattle.print_uses.specs.UseGroups.{is_listed_function, is_listed_type}
 use Rattle.print_grammar.specs.WellNamed.{is_well_item}
 use Rattle.print_items.specs.Shown.{Listed, imported_functions, listed_imports, shown_interface_item, type_of_entry}
-use Rattle.print_uses.proofs.{WellLists.all_both, WellLists.given_well, ValidOwners.is_known_listed}
+use Rattle.print_uses.proofs.{WellLists.all_both, WellLists.given_well, Valid.is_known_listed}
 use Rattle.print_packages.proofs.ValidWorlds.{is_known_entry, entry_function_known, extern_well, world_is_shown}
 use Rattle.print_packages.proofs.ValidFiles.{interface_item_well}
 use Rattle.print_items.proofs.ShownWell.{gates_well, optional_version}

@@ -3,22 +3,18 @@ use Rattle.std.proofs.Common.{◌≡◌, refl, sym, ◌∙◌, subst, Bool, true
 use Rattle.std.proofs.lemmas.{Bool.ltb-true, Bool.and_from as both, List.Folds.list_all-append}
 use Rattle.std.specs.{Prelude.String, Prelude.is_some, Prelude.if◌then◌else◌, Option.option_map_or, List.list_all, List.cons_option, Map.values_of}
 use Rattle.std.specs.declared.alloc.Global.{Global}
-use Rattle.wit_model.specs.declared.model.{Function.Function, TypeId.TypeId, Resolve.Resolve, WorldId.WorldId, WorldKey.WorldKey, Stability.Stability}
-use Rattle.wit_model.specs.declared.model.{Interface.Interface, InterfaceId.InterfaceId, PackageId.PackageId, WorldItem.WorldItem as Item, TypeOwner.TypeOwner}
-use Rattle.wit_model.specs.declared.model.{World.World, Docs.Docs}
+use Rattle.wit_model.specs.declared.model.{Function.Function, TypeId.TypeId, Resolve.Resolve, WorldId.WorldId, WorldKey.WorldKey, Stability.Stability, Interface.Interface, InterfaceId.InterfaceId, PackageId.PackageId, WorldItem.WorldItem as Item, TypeOwner.TypeOwner, World.World, Docs.Docs}
 use Rattle.wit_model.specs.{Text.Text, Text.text_of, Names.is_label, Lookup.interface_at, Lookup.world_at}
 use Rattle.wit_model.specs.Rules.{in_list, passes, is_id, package_number, is_stability, function_labels, key_in_range, item_in_range, entries_in_range, key_label, item_labels, entries_labels, item_type, is_name_key, is_named_of, is_member, is_interface_key, import_stands, export_stands, is_export_item}
 use Rattle.wit_model.specs.Valid.{IsValid, is_place, item_function, numbers_in_range, labels, order_of_types, function_names, world_items}
 use Rattle.print_output.specs.OutputCall.{is_one_line}
-use Rattle.print_grammar.specs.Tree.{ExternTree.NamedPath, ExternTree.NamedInterface, WorldMember.WorldUse, WorldMember.WorldType}
-use Rattle.print_grammar.specs.Tree.{WorldMember}
+use Rattle.print_grammar.specs.Tree.{ExternTree.NamedPath, ExternTree.NamedInterface, WorldMember.WorldUse, WorldMember.WorldType, WorldMember}
 use Rattle.print_grammar.specs.WellNamed.{is_well_gates, is_well_prefix, is_well_path, is_well_member, is_well_extern, is_well_world_member}
 use Rattle.print_items.specs.Shown.{Entry, Used, shown_docs, shown_gates, shown_path, shown_uses, shown_declarations, shown_interface, function_prefix, extern_docs, extern_prefix, shown_extern, shown_import, shown_export, is_interface_item, is_freestanding_item, type_of_entry, listed_imports, imported_functions, shown_world_in, shown_world}
 use Rattle.print_uses.proofs.WellLists.{all_both, each_well, kept_well, given_well}
 use Rattle.print_uses.proofs.FunctionsWell.{signature_well, function_prefix_well}
-use Rattle.print_uses.proofs.{ValidDeclared.is_known_function, ValidOwners.is_named_interface, ValidOwners.is_known_listed, ValidOwners.world_rule}
-use Rattle.print_uses.proofs.ValidUses.{is_known_use, is_well_declared_with, path_well, uses_known, declarations_well}
-use Rattle.print_uses.proofs.ValidInterfaces.{freestanding_label, interface_well}
+use Rattle.print_uses.proofs.Valid.{is_known_function, is_named_interface, is_known_listed, world_rule}
+use Rattle.print_uses.proofs.Valid.{is_known_use, is_well_declared_with, path_well, uses_known, declarations_well, freestanding_label, interface_well}
 use Rattle.print_items.proofs.ShownWell.{docs_well, gates_well, external_id_well}
 use Rattle.base_lemmas.proofs.{Bools.left_of, Bools.right_of, Elements.all_weaker as weaker_all, Elements.joined_well, Lists.within_there as one_there}
 use Rattle.wit_model.specs.declared.model.WorldKey.TheVariants as key

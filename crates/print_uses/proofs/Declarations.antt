@@ -13,7 +13,7 @@ use Rattle.print_items.specs.Shown.{Listed, listed_functions, listed_types, path
 use Rattle.print_uses.specs.Printable.{declaration_of, is_printable_type, shown_functions}
 use Rattle.print_uses.specs.UseGroups.{declared_members, is_listed_type, type_members}
 use Rattle.print_output.specs.declared.type_kind.TypeKind.TheVariants.{FunctionFreestanding}
-use Rattle.print_uses.proofs.{ValidInterfaces.in_package, ValidInterfaces.interface_range, ValidInterfaces.interface_types, ValidOwners.is_known_listed}
+use Rattle.print_uses.proofs.{Valid.in_package, Valid.interface_range, Valid.interface_types, Valid.is_known_listed}
 use Rattle.print_uses.proofs.WellLists.{all_both}
 use Rattle.base_lemmas.proofs.Bools.{right_of}
 use Rattle.wit_model.specs.declared.model.TypeOwner.TheVariants as owner

@@ -1,5 +1,7 @@
 -- A key that is put into a table is put there once. Serves table::put.
 pub mod AddLaws
+-- A body has all the bytes of its items. Serves bodies::entry_items, bodies::held_items.
+pub mod BodyLaws
 -- Parts that are declared one after the other, each there already or the next one. Serves ComponentLaws, DefiningLaws, FollowingLaws, ScopeLaws and 4 more; crates above.
 pub mod NumberingLaws
 -- Facts about types, by those about their parts. Serves facts::labelled_fact, facts::summary_of, table::fact; crates above.
@@ -8,7 +10,7 @@ pub mod FactLaws
 pub mod TableGrowth
 -- Types of values and of functions in tables that grow. Serves components::follow_component, defining::define, laws::one_function_number; crates above.
 pub mod DefiningLaws
--- What a definition stands for is over the places that the slots are over. Serves AliasLaws, ComponentLaws, FollowingLaws, PlacedScopes and 3 more.
+-- What a definition stands for is over the places that the slots are over. Serves ComponentLaws, FollowingLaws, PlacedScopes, ScopedLaws and 3 more.
 pub mod OverLaws
 -- Names stay in their places as a scope goes on. Serves ComponentLaws, FollowingLaws, PlacedScopes, ScopeLaws and 4 more; crates above.
 pub mod PlacedLaws
@@ -16,10 +18,6 @@ pub mod PlacedLaws
 pub mod Refusing
 -- A scope of an instance type in tables that grow, and what each declaration does to it. Serves components::enter, components::see, components::step, instances::step and 2 more; crates above.
 pub mod FollowingLaws
--- Which slots are names of interfaces with a path. Serves StepLaws.
-pub mod AliasLaws
--- A body has all the bytes of its items. Serves bodies::entry_items, bodies::held_items.
-pub mod BodyLaws
 -- What is put into a list of things that each stand once. Serves functions::put, places::put.
 pub mod JoinLaws
 -- What the slots of a scope stand for, by number. Serves definition_keys::definition_of, shows::declared_by, signatures::function_in, slots::resource_in and 1 more; crates above.

@@ -4,8 +4,7 @@ use Rattle.std.proofs.lemmas.{List.length-map, Option.slice_get_within}
 use Rattle.std.specs.{Prelude.String, List.list_any, Option.option_map_or}
 use Rattle.std.specs.declared.alloc.Global.{Global}
 use Rattle.wit_model.specs.declared.model.{Interface.Interface, Resolve.Resolve, TypeOwner.TypeOwner, World.World, WorldItem.WorldItem, WorldKey.WorldKey}
-use Rattle.wit_model.specs.{Lookup.interface_at, Lookup.interface_path, Lookup.key_text, Lookup.world_at, Meaning.WorldMeaning, Text.Text, Text.text_eq}
-use Rattle.wit_model.specs.{Meant.entries_meaning, Meant.no_world, Meant.world_meaning, Rules.is_id, Uses.item_interface}
+use Rattle.wit_model.specs.{Lookup.interface_at, Lookup.interface_path, Lookup.key_text, Lookup.world_at, Meaning.WorldMeaning, Text.Text, Text.text_eq, Meant.entries_meaning, Meant.no_world, Meant.world_meaning, Rules.is_id, Uses.item_interface}
 use Rattle.wit_model.proofs.{OnePath.named-path, RulesLemmas.is_id_some as some_id, TextLemmas.text_same as text-same}
 use Rattle.bind_meaning.specs.Clash.{entry_under, CanUnite}
 use Rattle.bind_meaning.proofs.WorldBindings.{export-key, import-key, keys-apart, IsKey}
@@ -14,15 +13,8 @@ use Rattle.bind_clash.proofs.KeysMatched.{no-entry}
 use Rattle.bind_copy.specs.Copies.{is_key_under, is_new_under, number_under}
 use Rattle.bind_match.specs.declared.matches.Matches.{Matches}
 use Rattle.bind_union.proofs.Lists.{no_true}
-use Rattle.bind_carry.specs.{Bound.bound_interfaces, Shown.any_new, Shown.AreShownBelow, Which.new_interfaces, Which.AreMatchedAll, Which.IsNumbered}
-use Rattle.bind_carry.specs.{BoundGains.bound_fates, BoundGains.gained_inline, BoundGains.gains_any, MadeOf.Come, MadeOf.IsMadeUp, MadeOf.IsOwnedBy, Whole.kept}
-use Rattle.bind_carry.specs.{Fates.copies, TooLong.carried_interfaces, TooLong.carried_worlds, TooLong.copies_of, TooLong.CarriedThings, TooLong.TypeFates}
-use Rattle.bind_carry.specs.{First.adds_any, First.first_fates, First.flag_under, First.is_named_at, Numbers.copied_count, Numbers.interface_number}
-use Rattle.bind_carry.specs.{Marked.is_inline_at, Marked.is_shown_in, Marked.mark_worlds, Marked.AreChosen, MatchedSame.AreMatchedAt, MatchedSame.NoneOfPath}
-use Rattle.bind_carry.specs.{Renumbered.is_matched, SecondPass.DoNotClash}
-use Rattle.bind_carry.proofs.{FirstMatched.matched_under, FirstMatched.named_of_path, FirstMatched.uncopied_under, Ready.fates_long, Ready.interface_count}
-use Rattle.bind_carry.proofs.{Marking.are_chosen, WorldEntries.any_place, WorldEntries.export_keyed, WorldEntries.import_keyed, WorldEntries.new_under_same}
-use Rattle.bind_carry.proofs.{Ranges.is_in_range, SecondMarks.gained_flag, SecondMarks.gained_long, SecondMarks.is_gained, SecondMarks.is_shown_new}
+use Rattle.bind_carry.specs.{Bound.bound_interfaces, Shown.any_new, Shown.AreShownBelow, Which.new_interfaces, Which.AreMatchedAll, Which.IsNumbered, BoundGains.bound_fates, BoundGains.gained_inline, BoundGains.gains_any, MadeOf.Come, MadeOf.IsMadeUp, MadeOf.IsOwnedBy, Whole.kept, Fates.copies, TooLong.carried_interfaces, TooLong.carried_worlds, TooLong.copies_of, TooLong.CarriedThings, TooLong.TypeFates, First.adds_any, First.first_fates, First.flag_under, First.is_named_at, Numbers.copied_count, Numbers.interface_number, Marked.is_inline_at, Marked.is_shown_in, Marked.mark_worlds, Marked.AreChosen, MatchedSame.AreMatchedAt, MatchedSame.NoneOfPath, Renumbered.is_matched, SecondPass.DoNotClash}
+use Rattle.bind_carry.proofs.{FirstNumbers.matched_under, FirstNumbers.named_of_path, FirstNumbers.uncopied_under, Ready.fates_long, Ready.interface_count, Marking.are_chosen, WorldEntries.any_place, WorldEntries.export_keyed, WorldEntries.import_keyed, WorldEntries.new_under_same, Ranges.is_in_range, SecondInitial.gained_flag, SecondInitial.gained_long, SecondInitial.is_gained, SecondInitial.is_shown_new}
 use Rattle.bind_carry.proofs.WhatComes.{first_comes, marked_count, second_comes, IsNewImport}
 use Rattle.bind_carry.proofs.CountedCopies.{interfaces_flagged, worlds_flagged}
 use Rattle.wit_bind.specs.declared.bindgen.Bindgen.{Bindgen}

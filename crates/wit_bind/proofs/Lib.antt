@@ -1,13 +1,9 @@
 -- What hasn't changed is kept. Serves bindgen::merge, bindgen::merge_matched.
 pub mod AsItWas
--- Where there is no documentation and no known stability on either side, there is none in what is merged. Serves Merging.
-pub mod Bare
 -- What stands under the number of a world that means something by itself. Serves RootBindings; crates above.
 pub mod BoundWorlds
 -- What is new by name or path is copied. Serves Merging.
 pub mod Bringing
--- What is copied keeps its documentation, its stability and its external ids, in its order. Serves Brought.
-pub mod Notes
 -- What both passes copy has its own documentation, stability and external ids in what is merged. Serves Merging.
 pub mod Brought
 -- Where nothing clashes, what is matched has one path and one sense. Serves bindgen::merge_matched, laws::matches_have_paths.
@@ -32,8 +28,6 @@ pub mod Putting
 pub mod FunctionKeys
 -- What is planned can be added, and what is added is behind what there was. Serves bindgen::grow, bindgen::merge, bindgen::merge_matched; crates above.
 pub mod Growing
--- Where nothing of the other is new, nothing comes. Serves Growth.
-pub mod NothingNew
 -- A merge adds what comes, and nothing where nothing is new. Serves bindgen::merge_matched.
 pub mod Growth
 -- Bindings that are as they were stand for the same binding. Serves laws::kept_bindings_are_the_same.

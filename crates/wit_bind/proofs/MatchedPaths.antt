@@ -6,9 +6,8 @@ use Rattle.std.specs.declared.alloc.Global.{Global}
 use Rattle.std.proofs.lemmas.{List.length-map, Option.same_Some as same-some}
 use Rattle.wit_model.specs.declared.model.{Interface.Interface, InterfaceId.InterfaceId, Package.Package, PackageId.PackageId, World.World, WorldKey.WorldKey}
 use Rattle.wit_model.specs.declared.model.Resolve.{Resolve}
-use Rattle.wit_model.specs.{Text.Text, Text.optional_text, Text.text_of, Meant.interface_meaning, Meant.interface_meaning_at, Meant.no_interface}
+use Rattle.wit_model.specs.{Text.Text, Text.optional_text, Text.text_of, Meant.interface_meaning, Meant.interface_meaning_at, Meant.no_interface, Meaning.interface_sense, Rules.same_package_name}
 use Rattle.wit_model.specs.Lookup.{identity_of, interface_at, interface_path, package_at, path_of_interface}
-use Rattle.wit_model.specs.{Meaning.interface_sense, Rules.same_package_name}
 use Rattle.wit_model.proofs.NameLaws.{one_path}
 use Rattle.wit_model.proofs.{OnePath.has-path, OnePath.named-path, OnePath.package-name, OnePath.package-once, OnePath.path-label, VersionLaws.same_name}
 use Rattle.bind_match.specs.declared.matches.Matches.{Matches}
@@ -18,10 +17,9 @@ use Rattle.bind_meaning.proofs.{Listed.given as unpacked, WorldBindings.interfac
 use Rattle.bind_clash.specs.Faults.{IsMatched}
 use Rattle.bind_clash.proofs.PathsMatched.{own-interface-has, own-interface-there}
 use Rattle.bind_copy.specs.Copies.{number_under}
-use Rattle.bind_carry.specs.{First.flag_under, Listed.given_interface, MatchedSame.AreMatchedAt, MatchedSame.NoneOfPath, Which.AreMatchedAll, Which.IsNumbered}
-use Rattle.bind_carry.specs.{Numbers.package_number, Renumbered.is_matched, TooLong.CarriedThings, Union.IsUnionOf}
+use Rattle.bind_carry.specs.{First.flag_under, Listed.given_interface, MatchedSame.AreMatchedAt, MatchedSame.NoneOfPath, Which.AreMatchedAll, Which.IsNumbered, Numbers.package_number, Renumbered.is_matched, TooLong.CarriedThings, Union.IsUnionOf}
 use Rattle.bind_add.specs.declared.added.Added.{Added}
-use Rattle.bind_carry.proofs.{FirstMatched.uncopied_under, FirstPackages.found_number, FirstPackages.found_own}
+use Rattle.bind_carry.proofs.{FirstNumbers.uncopied_under, FirstOfUnion.found_number, FirstOfUnion.found_own}
 use Rattle.wit_bind.specs.declared.bindgen.Bindgen.{Bindgen}
 use Rattle.wit_bind.specs.{Bindings.binding_of, Bindings.IsBindgen, MergedLaws.MatchesHavePaths}
 use Rattle.base_lemmas.proofs.{Lists.get_back as unmapped, Lists.mapped_get as mapped_at, Options.there as some-of}

@@ -1,31 +1,314 @@
 -- What comes of two bindings that don't clash, once all that the one brings is added to the other.
-use Rattle.std.proofs.Common.{◌≡◌, sym, ap, subst, ◌∙◌, ℕ, ◌≤◌, false, List, [], ◌++◌, length, map, Some, option_and_then, option_map, slice_get, String}
-use Rattle.std.proofs.lemmas.Option.{same_Some as same-some}
-use Rattle.std.specs.{Map.keys_of, Option.option_map_or}
+use Rattle.std.proofs.Common.{◌≡◌, refl, sym, ap, ◌∙◌, inl, inr, arith, ℕ, zero, suc, ◌≤◌, Bool, true, false, ◌&&◌, List, [], ◌∷◌, ◌++◌, length, map, Option, Some, None, is_none, slice_get, slice_set, String, Contains, subst, option_and_then, option_map}
+use Rattle.std.proofs.lemmas.{Bool.and_from as both, Bool.cases_lt as either, List.map-append, Option.slice_get_within, Option.same_Some as same-some}
+use Rattle.std.specs.{List.filter, List.list_all, List.AllZip, List.IsDistinct, Map.keys_of, String.string_eq, Option.option_map_or}
 use Rattle.std.specs.declared.alloc.Global.{Global}
-use Rattle.wit_model.specs.declared.model.{Package.Package, PackageId.PackageId, PackageName.PackageName, Resolve.Resolve, TypeDef.TypeDef, WorldKey.WorldKey}
-use Rattle.wit_model.specs.declared.model.{World.World, WorldId.WorldId}
-use Rattle.wit_model.specs.Lookup.{identity_of, interface_path, key_text, path_in_package, path_of_interface, type_at, world_at}
-use Rattle.wit_model.specs.{Names.path_in, Text.Text, Text.text_of}
+use Rattle.indexmap.specs.IndexMap.{values, IsUnique}
+use Rattle.wit_model.specs.declared.model.{Docs.Docs, World.World, WorldId.WorldId}
+use Rattle.wit_model.specs.declared.model.{Function.Function, Package.Package, Resolve.Resolve, TypeDef.TypeDef, WorldKey.WorldKey, WorldItem.WorldItem}
+use Rattle.wit_model.specs.declared.model.{Interface.Interface, PackageId.PackageId, Stability.Stability, TypeDefKind.TypeDefKind, PackageName.PackageName}
+use Rattle.wit_model.specs.Lookup.{type_at, world_at, identity_of, interface_path, key_text, path_in_package, path_of_interface}
+use Rattle.wit_model.specs.{Text.Text, Text.optional_text, Text.text_of, Valid.key_eq, Valid.IsValid, Names.path_in}
 use Rattle.wit_model.proofs.{Elements.contains-get, OnePath.has-path}
-use Rattle.plan_meaning.specs.Built.{IsBare}
+use Rattle.plan_meaning.specs.Built.{is_bare, is_bare_function, is_bare_interface, is_bare_item, is_bare_kind, is_bare_type, is_bare_world, is_undocumented, is_unknown, IsBare}
+use Rattle.bind_add.specs.Growth.{HasGainedItems, IsAdded}
 use Rattle.bind_add.specs.declared.added.Added.{Added}
-use Rattle.bind_carry.specs.{AddedApart.AreMatchedByName, AddedKeys.key_view, FirstPass.IsFirstPass, Renumbered.first_of, Union.IsUnionOf, Which.AreMatchedAll}
-use Rattle.bind_carry.specs.{Apart.IsApart, First.first_fates}
+use Rattle.bind_copy.specs.Copies.{become_one, is_new_under, member_docs, IsEntryUnder, IsFunctionUnder, IsInterfaceUnder, IsItemUnder, IsFunctionEntry as IsFunctionEntryUnder}
+use Rattle.bind_match.specs.declared.matches.Matches.{Matches}
+use Rattle.bind_union.specs.Carried.{stability_view}
+use Rattle.bind_union.proofs.{Lists.no_true, BoundMeanings.bound_means, Valid.merged_is_valid}
 use Rattle.bind_carry.specs.{MatchedSame.AreMatchedAt, MatchedSame.NoneOfPath, SecondPass.is_left_out, SecondPass.second_pass_of, SecondPass.IsSecondPass}
-use Rattle.bind_carry.proofs.{FirstOfUnion.unions_have_the_second, KeysGained.by_path_apart, NamesMerged.names_are_merged, UnionApart.unions_are_apart}
-use Rattle.bind_carry.proofs.{MergedUnion.unions_are_merged, UnionDistinct.unions_have_distinct_keys, UnionKeys.exports_come_behind, UnionKeys.keys_keep_texts}
+use Rattle.bind_carry.specs.{Which.AreMatchedAll, TooLong.CarriedThings, AddedKeys.key_view, FirstPass.IsFirstPass, Renumbered.first_of, First.first_fates}
+use Rattle.bind_carry.specs.{Whole.kept, Whole.IsInterfaceCarried, Whole.IsWorldCarried, Packaged.IsPackageCarried, AddedApart.AreMatchedByName, Apart.IsApart}
+use Rattle.bind_carry.specs.Union.{IsUnionOf}
+use Rattle.bind_carry.proofs.KeysGained.{by_path_apart, exports_apart, exports_behind, imports_apart, imports_behind}
+use Rattle.bind_carry.proofs.{FirstOfUnion.unions_have_the_second, NamesMerged.names_are_merged, Merged.unions_are_merged}
+use Rattle.bind_carry.proofs.{UnionDistinct.unions_are_apart, UnionDistinct.unions_have_distinct_keys, UnionKeys.exports_come_behind, UnionKeys.keys_keep_texts}
+use Rattle.wit_bind.specs.Brings.{type_notes, Notes, key_texts, BringsEntries, BringsItsOwn, IsTypeOf}
+use Rattle.wit_bind.specs.{Extends.Extends, Extends.listed_names, Extends.merged_names, Merges.export_keys, Merges.IsGrownBy, Merges.IsPlanOf}
+use Rattle.wit_bind.specs.{Bindings.binding_of, Bindings.IsBindgen, MergedLaws.AgreeByNumbers, MergedLaws.IsUnited}
+use Rattle.base_lemmas.proofs.{Bools.left_of as first_true, Bools.right_of as second_true, Lists.front_at, Lists.within_there as element_at}
+use Rattle.base_lemmas.proofs.Elements.{all-contained, all_by_number as all_by, all_get as at_all, contains-later, contains-map, filter_kept as from-filter, joined_well as joined_all}
 use Rattle.bind_match.specs.Matching.{is_root_world}
 use Rattle.bind_meaning.specs.{Clash.CanUnite, Union.union}
-use Rattle.bind_union.proofs.{BoundMeanings.bound_means, Valid.merged_is_valid}
 use Rattle.wit_bind.specs.declared.bindgen.Bindgen.{Bindgen}
-use Rattle.wit_bind.specs.Bindings.{binding_of, IsBindgen}
-use Rattle.wit_bind.specs.{Brings.key_texts, Brings.BringsEntries, Brings.BringsItsOwn, Brings.IsTypeOf, Merges.export_keys, Merges.IsGrownBy, Merges.IsPlanOf}
-use Rattle.wit_bind.specs.{Extends.Extends, Extends.listed_names, Extends.merged_names, MergedLaws.AgreeByNumbers, MergedLaws.IsUnited}
-use Rattle.wit_bind.proofs.{Bare.merged_is_bare, Extending.grown_extend, MatchedPaths.matches_have_paths, UnionBound.united_are_the_union}
+use Rattle.wit_bind.proofs.{Extending.grown_extend, MatchedPaths.matches_have_paths, UnionBound.united_are_the_union}
 use Rattle.wit_bind.proofs.{Bringing.new_interface_copied, Bringing.new_package_copied, Bringing.new_world_copied, NumbersAgree.united_agree_by_numbers}
 use Rattle.wit_bind.proofs.Brought.{bound_brought, interface_brought, package_brought, type_brought, world_brought}
-use Rattle.base_lemmas.proofs.Lists.{front_at, within_there as element_at}
+use Rattle.wit_model.specs.declared.model.Stability.TheVariants as stability
+use Rattle.wit_model.specs.declared.model.TypeDefKind.TheVariants as kind
+use Rattle.wit_model.specs.declared.model.WorldItem.TheVariants as item
+
+-- ---- Where there is no documentation and no known stability on either side, there is none in what is merged.
+
+-- ---- documentation and stability
+
+none_same : (old new : Option (String Global)) → optional_text new ≡ optional_text old → is_none old ≡ true → is_none new ≡ true
+none_same None None e h = refl
+none_same (Some x) o e h = no_true h
+none_same None (Some y) e h = let wrong : ⊥ = cc in absurd wrong
+
+unknown_same : (old new : Stability) → stability_view new ≡ stability_view old → is_unknown old ≡ true → is_unknown new ≡ true
+unknown_same stability.Unknown stability.Unknown e h = refl
+unknown_same stability.Unknown (stability.Stable since deprecated) e h = let wrong : ⊥ = cc in absurd wrong
+unknown_same stability.Unknown (stability.Unstable feature deprecated) e h = let wrong : ⊥ = cc in absurd wrong
+unknown_same (stability.Stable since deprecated) new e h = no_true h
+unknown_same (stability.Unstable feature deprecated) new e h = no_true h
+
+bare_same : (d e : Docs) (s t : Stability) → optional_text e.contents ≡ optional_text d.contents → stability_view t ≡ stability_view s → is_bare d s ≡ true → is_bare e t ≡ true
+bare_same d e s t docs view h = both (is_undocumented e) (is_unknown t) (none_same d.contents e.contents docs (first_true (is_undocumented d) (is_unknown s) h))
+    (unknown_same s t view (second_true (is_undocumented d) (is_unknown s) h))
+
+-- ---- lists
+
+zip_all : {X Y : Type 0} (R : X → Y → Type 0) (q : Y → Bool) (xs : List X) (ys : List Y) → ((x : X) (y : Y) → Contains xs x → R x y → q y ≡ true) → AllZip R xs ys → list_all q ys ≡ true
+zip_all R q [] [] f zip = refl
+zip_all R q [] (y ∷ ys) f zip = absurd zip
+zip_all R q (x ∷ xs) [] f zip = refl
+zip_all R q (x ∷ xs) (y ∷ ys) f zip = both (q y) (list_all q ys) (f x y (0, omega arith, refl) zip.0) (zip_all R q xs ys (λ a b c r. f a b (contains-later x xs a c) r) zip.1)
+
+set_all : {X : Type 0} (p : X → Bool) (xs : List X) (n : ℕ) (x : X) → list_all p xs ≡ true → p x ≡ true → list_all p (slice_set xs n x) ≡ true
+set_all p [] n x h k = refl
+set_all p (y ∷ ys) zero x h k = both (p x) (list_all p ys) k (second_true (p y) (list_all p ys) h)
+set_all p (y ∷ ys) (suc n) x h k = both (p y) (list_all p (slice_set ys n x)) (first_true (p y) (list_all p ys) h) (set_all p ys n x (second_true (p y) (list_all p ys) h) k)
+
+kept_from : {X : Type 0} (flags : List Bool) (xs : List X) (x : X) → Contains (kept flags xs) x → Contains xs x
+kept_from [] xs x h = let k = contains-get [] x h in let wrong : ⊥ = cc in absurd wrong
+kept_from (b ∷ bs) [] x h = let k = contains-get [] x h in let wrong : ⊥ = cc in absurd wrong
+kept_from (false ∷ bs) (y ∷ ys) x h = contains-later y ys x (kept_from bs ys x h)
+kept_from (true ∷ bs) (y ∷ ys) x (zero, l, e) = (0, omega arith, e)
+kept_from (true ∷ bs) (y ∷ ys) x (suc n, l, e) = contains-later y ys x (kept_from bs ys x (n, omega (arith, l), e))
+
+-- ---- types
+
+abbrev has_none : Option Text → Bool
+has_none o = is_none o
+
+text_none : (o : Option (String Global)) → is_none o ≡ is_none (optional_text o)
+text_none None = refl
+text_none (Some x) = refl
+
+docs_none : {X : Type 0} (docs : X → Docs) (xs : List X) → list_all (λ x. is_undocumented (docs x)) xs ≡ list_all has_none (map (λ x. optional_text (docs x).contents) xs)
+docs_none docs [] = refl
+docs_none docs (x ∷ xs) = λ i. text_none (docs x).contents i && docs_none docs xs i
+
+members_bare : (k : TypeDefKind) → is_bare_kind k ≡ list_all has_none (member_docs k)
+members_bare (kind.Record record_) = docs_none (λ f. f.docs) record_.fields.items
+members_bare (kind.Variant variant) = docs_none (λ c. c.docs) variant.cases.items
+members_bare (kind.Flags flags) = docs_none (λ f. f.docs) flags.flags.items
+members_bare (kind.Enum enum) = docs_none (λ c. c.docs) enum.cases.items
+members_bare _ = refl
+
+-- a type with the notes of a bare one is bare
+type_bare : (old new : TypeDef) → type_notes new ≡ type_notes old → is_bare_type old ≡ true → is_bare_type new ≡ true
+type_bare old new is h =
+    both (is_bare new.docs new.stability) (is_bare_kind new.kind)
+    (bare_same old.docs new.docs old.stability new.stability (ap (λ (n : Notes). n.docs) is) (ap (λ (n : Notes). n.stability) is)
+    (first_true (is_bare old.docs old.stability) (is_bare_kind old.kind) h))
+    (members_bare new.kind ∙ (ap (λ (n : Notes). list_all has_none n.of_members) is ∙ (sym (members_bare old.kind) ∙ second_true (is_bare old.docs old.stability) (is_bare_kind old.kind) h)))
+
+-- ---- interfaces
+
+function_bare : (numbers : List ℕ) (old new : Function) → IsFunctionUnder numbers old new → is_bare_function old ≡ true → is_bare_function new ≡ true
+function_bare numbers old new is h = bare_same old.docs new.docs old.stability new.stability is.docs is.stability h
+
+functions_bare : (numbers : List ℕ) (olds news : List (String Global × Function)) → AllZip (IsFunctionEntryUnder numbers) olds news
+    → list_all is_bare_function (map (λ (e : String Global × Function). e.1) olds) ≡ true → list_all is_bare_function (map (λ (e : String Global × Function). e.1) news) ≡ true
+functions_bare numbers [] [] zip h = refl
+functions_bare numbers [] (y ∷ ys) zip h = absurd zip
+functions_bare numbers (x ∷ xs) [] zip h = refl
+functions_bare numbers (x ∷ xs) (y ∷ ys) zip h =
+    both (is_bare_function y.1) (list_all is_bare_function (map (λ (e : String Global × Function). e.1) ys))
+    (function_bare numbers x.1 y.1 zip.0.1 (first_true (is_bare_function x.1) (list_all is_bare_function (map (λ (e : String Global × Function). e.1) xs)) h))
+    (functions_bare numbers xs ys zip.1 (second_true (is_bare_function x.1) (list_all is_bare_function (map (λ (e : String Global × Function). e.1) xs)) h))
+
+interface_bare : (numbers : List ℕ) (home : Option PackageId) (old new : Interface) → IsInterfaceUnder numbers home old new → IsUnique string_eq old.functions → is_bare_interface old ≡ true
+    → is_bare_interface new ≡ true
+interface_bare numbers home old new is unique h =
+    both (is_bare new.docs new.stability) (list_all is_bare_function (values new.functions))
+    (bare_same old.docs new.docs old.stability new.stability is.docs is.stability (first_true (is_bare old.docs old.stability) (list_all is_bare_function (values old.functions)) h))
+    (functions_bare numbers old.functions.entries new.functions.entries (is.functions unique) (second_true (is_bare old.docs old.stability) (list_all is_bare_function (values old.functions)) h))
+
+-- ---- items
+
+item_bare : (interfaces types : List ℕ) (i j : WorldItem) → IsItemUnder interfaces types i j → is_bare_item i ≡ true → is_bare_item j ≡ true
+item_bare interfaces types (item.Interface a d e x) (item.Interface b g k y) is h = bare_same e k d g is.2 is.1 h
+item_bare interfaces types (item.Function g) (item.Function k) is h = function_bare types g k is h
+item_bare interfaces types (item.Type_ a) (item.Type_ b) is h = refl
+item_bare interfaces types (item.Interface a d e x) (item.Function g) is h = absurd is
+item_bare interfaces types (item.Function g) (item.Interface b d e x) is h = absurd is
+item_bare interfaces types (item.Type_ a) (item.Interface b d e x) is h = absurd is
+item_bare interfaces types (item.Type_ a) (item.Function g) is h = absurd is
+item_bare interfaces types _ (item.Type_ b) is h = refl
+
+abbrev items : List (WorldKey × WorldItem) → List WorldItem
+items es = map (λ (e : WorldKey × WorldItem). e.1) es
+
+items_bare : (interfaces types : List ℕ) (olds news : List (WorldKey × WorldItem)) → AllZip (IsEntryUnder interfaces types) olds news
+    → ((e : WorldKey × WorldItem) → Contains olds e → is_bare_item e.1 ≡ true) → list_all is_bare_item (items news) ≡ true
+items_bare interfaces types [] [] zip h = refl
+items_bare interfaces types [] (y ∷ ys) zip h = absurd zip
+items_bare interfaces types (x ∷ xs) [] zip h = refl
+items_bare interfaces types (x ∷ xs) (y ∷ ys) zip h =
+    both (is_bare_item y.1) (list_all is_bare_item (items ys)) (item_bare interfaces types x.1 y.1 zip.0.1 (h x (0, omega arith, refl)))
+    (items_bare interfaces types xs ys zip.1 (λ e held. h e (contains-later x xs e held)))
+
+-- those of a list that pass a test, where all items of the list are bare
+chosen_bare : (interfaces types : List ℕ) (test : WorldKey × WorldItem → Bool) (olds news : List (WorldKey × WorldItem)) → AllZip (IsEntryUnder interfaces types) (filter test olds) news
+    → list_all is_bare_item (items olds) ≡ true → list_all is_bare_item (items news) ≡ true
+chosen_bare interfaces types test olds news zip h =
+    items_bare interfaces types (filter test olds) news zip
+    (λ e held. all-contained is_bare_item (items olds) e.1 h (contains-map (λ (x : WorldKey × WorldItem). x.1) olds e (from-filter test olds e held).0))
+
+-- ---- worlds
+
+abbrev own_bare : World → Bool
+own_bare w = is_bare w.docs w.stability
+
+abbrev both_bare : World → Bool
+both_bare w = list_all is_bare_item (values w.imports) && list_all is_bare_item (values w.exports)
+
+module _ (w : World) (h : is_bare_world w ≡ true) where
+  own_is : own_bare w ≡ true
+  own_is = first_true (own_bare w) (both_bare w) h
+
+  imports_are : list_all is_bare_item (values w.imports) ≡ true
+  imports_are = first_true (list_all is_bare_item (values w.imports)) (list_all is_bare_item (values w.exports)) (second_true (own_bare w) (both_bare w) h)
+
+  exports_are : list_all is_bare_item (values w.exports) ≡ true
+  exports_are = second_true (list_all is_bare_item (values w.imports)) (list_all is_bare_item (values w.exports)) (second_true (own_bare w) (both_bare w) h)
+
+world_bare : (c : CarriedThings) (types : List ℕ) (old new : World) → IsWorldCarried c types old new
+    → IsDistinct (become_one c.interfaces.items) (keys_of old.imports.entries) × IsDistinct (become_one c.interfaces.items) (keys_of old.exports.entries) → is_bare_world old ≡ true
+    → is_bare_world new ≡ true
+world_bare c types old new is apart h =
+    both (own_bare new) (both_bare new) (bare_same old.docs new.docs old.stability new.stability is.docs is.stability (own_is old h))
+    (both (list_all is_bare_item (values new.imports)) (list_all is_bare_item (values new.exports))
+    (chosen_bare c.interfaces.items types (λ (e : WorldKey × WorldItem). is_new_under c.interfaces.items [] e.0) old.imports.entries new.imports.entries (is.imports apart.0) (imports_are old h))
+    (chosen_bare c.interfaces.items types (λ (e : WorldKey × WorldItem). is_new_under c.interfaces.items [] e.0) old.exports.entries new.exports.entries (is.exports apart.1) (exports_are old h)))
+
+module _ (own other merged : Resolve) (valid_own : IsValid own) (valid_other : IsValid other) (world k : ℕ) (m : Matches) (w v : World) (added : Added) (keys : List WorldKey)
+    (u : IsUnionOf own other world k m w v added keys) (a : IsAdded key_eq world added own merged)
+    (at_own : world_at own world ≡ Some w) (at : world_at other k ≡ Some v) (all : AreMatchedAll other m) (same : AreMatchedAt own other m.interfaces.items u.carried.packages.items)
+    (none : NoneOfPath own other m.interfaces.items)
+    (grown : Extends own merged world) (sourced : (n : ℕ) (y : TypeDef) → length own.types.items ≤ n → type_at merged n ≡ Some y → (k : ℕ) × (def : TypeDef) × (type_at other k ≡ Some def)
+    × (type_notes y ≡ type_notes def)) (ours : IsBare own) (theirs : IsBare other) where
+  abbrev c : CarriedThings
+  c = u.carried
+
+  -- ---- packages
+
+  abbrev test : Package → Bool
+  test p = is_undocumented p.docs
+
+  own_packages : list_all test a.packages.0 ≡ true
+  own_packages = all_by test a.packages.0 one
+    where
+      one : (n : ℕ) (q : Package) → slice_get a.packages.0 n ≡ Some q → test q ≡ true
+      one n q at_q =
+          let within = slice_get_within a.packages.0 n q at_q in
+          let count = a.packages.1.count in
+          let p = element_at own.packages.items n (omega (arith, within, count)) in
+          let x = grown.packages n p.0 p.1 in
+          let here : q ≡ x.0 = same-some q x.0 (sym (ap (λ l. slice_get l n) a.packages.2 ∙ front_at a.packages.0 added.packages.items n q at_q) ∙ x.1) in
+          ap test here ∙ (ap is_undocumented x.2.docs ∙ at_all test own.packages.items n p.0 ours.packages p.1)
+
+  new_packages : list_all test added.packages.items ≡ true
+  new_packages =
+      ap (list_all test) u.second.packages
+      ∙ zip_all (IsPackageCarried c) test (kept c.new_packages.items other.packages.items) u.before.packages.items
+      (λ x y held is. none_same x.docs.contents y.docs.contents is.docs (all-contained test other.packages.items x theirs.packages (kept_from c.new_packages.items other.packages.items x held)))
+      u.first.packages
+
+  -- ---- interfaces
+
+  abbrev Inline : List Interface → Type 0
+  Inline is = list_all is_bare_interface is ≡ true
+
+  one_interface : (flags : List Bool) (numbers : List ℕ) (home : Option PackageId) (x y : Interface) → Contains (kept flags other.interfaces.items) x → IsInterfaceUnder numbers home x y
+      → is_bare_interface y ≡ true
+  one_interface flags numbers home x y held is =
+      let there = kept_from flags other.interfaces.items x held in
+      let place = contains-get other.interfaces.items x there in
+      interface_bare numbers home x y is (valid_other.distinct_keys.interfaces place.0 x place.1).1 (all-contained is_bare_interface other.interfaces.items x theirs.interfaces there)
+
+  new_interfaces : Inline added.interfaces.items
+  new_interfaces =
+      ap (list_all is_bare_interface) u.second.inline_copied.behind
+      ∙ joined_all is_bare_interface u.before.interfaces.items u.second.inline_copied.more
+      (zip_all (IsInterfaceCarried c u.types) is_bare_interface (kept c.copied_interfaces.items other.interfaces.items) u.before.interfaces.items
+      (λ x y held is. one_interface c.copied_interfaces.items u.types _ x y held is) u.first.interfaces)
+      (zip_all (IsInterfaceUnder u.second.types w.«package») is_bare_interface (kept u.second.copied other.interfaces.items) u.second.inline_copied.more
+      (λ x y held is. one_interface u.second.copied u.second.types w.«package» x y held is) u.second.inline_copied.copies)
+
+  -- ---- types
+
+  new_types : list_all is_bare_type merged.types.items ≡ true
+  new_types = all_by is_bare_type merged.types.items one
+    where
+      one : (n : ℕ) (y : TypeDef) → type_at merged n ≡ Some y → is_bare_type y ≡ true
+      one n y at_y = elim (either n (length own.types.items)) [
+        | inl low ↦ (let t = element_at own.types.items n low in let here : y ≡ t.0 =
+            same-some y t.0 (sym at_y ∙ (ap (λ l. slice_get l n) a.types ∙ front_at own.types.items added.types.items n t.0 t.1)) in
+            ap is_bare_type here ∙ at_all is_bare_type own.types.items n t.0 ours.types t.1)
+        | inr high ↦ (let x = sourced n y high at_y in type_bare x.1 y x.3 (at_all is_bare_type other.types.items x.0 x.1 theirs.types x.2))
+      ]
+
+  -- ---- worlds
+
+  abbrev x : World
+  x = (a.worlds w at_own).0
+
+  gained : HasGainedItems key_eq added.imports.entries added.exports.entries w x
+  gained = (a.worlds w at_own).1
+
+  own_world : is_bare_world w ≡ true
+  own_world = at_all is_bare_world own.worlds.items world w ours.worlds at_own
+
+  other_world : is_bare_world v ≡ true
+  other_world = at_all is_bare_world other.worlds.items k v theirs.worlds at
+
+  behind : (whole here more : List (WorldKey × WorldItem)) → whole ≡ here ++ more → list_all is_bare_item (items here) ≡ true → list_all is_bare_item (items more) ≡ true
+      → list_all is_bare_item (items whole) ≡ true
+  behind whole here more is h l =
+      ap (λ es. list_all is_bare_item (items es)) is
+      ∙ (ap (list_all is_bare_item) (map-append (λ (e : WorldKey × WorldItem). e.1) here more) ∙ joined_all is_bare_item (items here) (items more) h l)
+
+  bound_world : is_bare_world x ≡ true
+  bound_world =
+      both (own_bare x) (both_bare x) ((λ i. is_bare (gained.docs i) (gained.stability i)) ∙ own_is w own_world)
+      (both (list_all is_bare_item (values x.imports)) (list_all is_bare_item (values x.exports))
+      (behind x.imports.entries w.imports.entries added.imports.entries (gained.imports ∙ imports_behind own other valid_own valid_other world k m w v added keys u at all same none)
+      (imports_are w own_world)
+      (chosen_bare u.second.interfaces u.second.types (λ (e : WorldKey × WorldItem). is_new_under u.second.interfaces w.imports.entries e.0) v.imports.entries added.imports.entries
+      (u.second.imports (imports_apart own other valid_own valid_other world k m w v added keys u at all same none)) (imports_are v other_world)))
+      (behind x.exports.entries w.exports.entries added.exports.entries (gained.exports ∙ exports_behind own other valid_own valid_other world k m w v added keys u at all same none)
+      (exports_are w own_world)
+      (chosen_bare u.second.interfaces u.second.types (λ (e : WorldKey × WorldItem). is_new_under u.second.interfaces w.exports.entries e.0) v.exports.entries added.exports.entries
+      (u.second.exports (exports_apart own other valid_own valid_other world k m w v added keys u at all same none)) (exports_are v other_world))))
+
+  new_worlds : list_all is_bare_world added.worlds.items ≡ true
+  new_worlds =
+      ap (list_all is_bare_world) u.second.worlds
+      ∙ zip_all (IsWorldCarried c u.types) is_bare_world (kept c.copied_worlds.items other.worlds.items) u.before.worlds.items one u.first.worlds
+    where
+      one : (y z : World) → Contains (kept c.copied_worlds.items other.worlds.items) y → IsWorldCarried c u.types y z → is_bare_world z ≡ true
+      one y z held is =
+          let there = kept_from c.copied_worlds.items other.worlds.items y held in
+          let place = contains-get other.worlds.items y there in
+          world_bare c u.types y z is (by_path_apart own other valid_own valid_other world k m w v added keys u at all same none place.0 y place.1)
+          (all-contained is_bare_world other.worlds.items y theirs.worlds there)
+
+  pub merged_is_bare : IsBare merged
+  merged_is_bare = record {
+    packages = ap (list_all test) a.packages.2 ∙ joined_all test a.packages.0 added.packages.items own_packages new_packages;
+    interfaces = ap (list_all is_bare_interface) a.interfaces ∙ joined_all is_bare_interface own.interfaces.items added.interfaces.items ours.interfaces new_interfaces;
+    worlds = ap (list_all is_bare_world) (a.worlds w at_own).2
+        ∙ joined_all is_bare_world (slice_set own.worlds.items world x) added.worlds.items (set_all is_bare_world own.worlds.items world x ours.worlds bound_world) new_worlds;
+    types = new_types;
+  }
+
+-- ---- what the page is for
 
 module _ (own other new : Bindgen) (o : IsBindgen own) (t : IsBindgen other) (can : CanUnite (binding_of own) (binding_of other)) (added : Added) (keys : List WorldKey) (p : IsPlanOf own other added keys) (g : IsGrownBy added other.metadata own new) where
   abbrev r : Resolve

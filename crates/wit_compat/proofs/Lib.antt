@@ -1,7 +1,5 @@
--- The opened tree of a type number is made of those of the numbers in it. Serves Alike, Declared, Heads, Sided.
+-- The opened tree of a type number is made of those of the numbers in it. Serves Alike, Declared, Sided.
 pub mod OpenedTable
--- What a type number is, aliases followed. Serves Alike.
-pub mod Heads
 -- Two numbers have the same opened tree exactly where their kinds are the same and what stands at equal places has the same tree. Serves types::same_all.
 pub mod Alike
 -- A table that grows by pairs. Serves look::look_up, pairs::meet, pairs::meet_all.
@@ -48,13 +46,9 @@ pub mod Repeating
 -- What is refused isn't accepted. Serves laws::refusals_are_exact, worlds::compare_named.
 pub mod Refusing
 -- Two maps made of lists of entries are the same where their lists are as long, and each entry of the one is found in the other. Serves contents::same_indexed, interfaces::same_functions,
--- interfaces::same_named_types.
+-- interfaces::same_named_types, sense::same_signatures.
 pub mod SameMaps
--- Functions of two `Resolve`s have the same signature where their shapes and the trees of their types are the same. Serves sense::same_signatures.
-pub mod SameSignatures
 -- Two functions have the same opened signature exactly where its parts are the same. Serves functions::same_functions, included, included::check_entry, part::same_parts and 2 more.
 pub mod Signatures
--- The contents of a world by the texts of their keys. Serves contents::items, contents::put, contents::same_item_under, contents::same_lists and 2 more.
+-- Items of worlds of two `Resolve`s. Serves contents::items, contents::put, contents::same_item_under, contents::same_lists and 5 more.
 pub mod WorldContents
--- Items of worlds of two `Resolve`s. Serves items::same_interface_entries, items::same_interface_items, items::same_items.
-pub mod WorldItems

@@ -1,17 +1,20 @@
--- The contents of a world by the texts of their keys.
+-- Items of worlds of two `Resolve`s.
 use Rattle.std.proofs.Common.{◌≡◌, ◌↔◌, refl, sym, ap, subst, ◌∙◌, ◌⊎◌, inl, inr, ℕ, Bool, true, false, ◌&&◌, cond, List, [], ◌∷◌, ◌++◌, map, Option, Some, None, is_some, IsSome, option_map, IsTrue, String}
 use Rattle.std.proofs.lemmas.{Map.Made.Contains-from_values_of, List.map-append, List.Elements.Contains-push_cases}
 use Rattle.std.specs.{Borrow.Bor, Option.option_copied, Option.option_map_or, FinMap.from_entries, List.Contains, Map.lookup, Map.values_of}
 use Rattle.std.specs.declared.alloc.Global.{Global}
-use Rattle.wit_model.specs.declared.model.{Resolve.Resolve, World.World, WorldKey.WorldKey, WorldItem.WorldItem}
-use Rattle.wit_model.specs.Lookup.{key_text, world_at}
-use Rattle.wit_model.specs.Meaning.{Entry, InterfaceSense, WorldSense, entries_sense, entry_sense, world_sense}
-use Rattle.wit_model.specs.Meant.{entries_meaning, entry_meaning, no_world, world_meaning, world_meaning_at}
-use Rattle.wit_model.specs.{Rules.entries_in_range, Rules.item_in_range, Rules.key_in_range, Text.Text, Text.text_cmp, Text.text_eq, Text.text_of}
-use Rattle.wit_compat.specs.TwoSides.{indexed_sense, sense_entry, AllItemsInRange, BorrowedEntry, PutsFirst}
-use Rattle.wit_compat.proofs.SameMaps.{maps_same, under, under_is}
+use Rattle.wit_model.specs.declared.model.{Resolve.Resolve, World.World, WorldKey.WorldKey, WorldItem.WorldItem, TypeId.TypeId}
+use Rattle.wit_model.specs.{Lookup.key_text, Lookup.world_at, Lookup.interface_path, Text.Text, Text.text_cmp, Text.text_eq, Text.text_of, Text.optional_text}
+use Rattle.wit_model.specs.Meaning.{Entry, InterfaceSense, WorldSense, entries_sense, entry_sense, world_sense, Item, TypeMeaning, interface, inline, declares, interface_sense, item_sense}
+use Rattle.wit_model.specs.Meant.{entries_meaning, entry_meaning, no_world, world_meaning, world_meaning_at, interface_item, interface_meaning_at, type_meaning_at}
+use Rattle.wit_model.specs.Rules.{entries_in_range, item_in_range, key_in_range}
+use Rattle.wit_compat.specs.TwoSides.{indexed_sense, sense_entry, AllItemsInRange, BorrowedEntry, PutsFirst, SameInterfaceEntries}
+use Rattle.wit_compat.proofs.{SameMaps.maps_same, SameMaps.under, SameMaps.under_is, Sided.never}
 use Rattle.base_lemmas.proofs.{Bools.left_of as first_true, Bools.right_of as second_true, Options.there as some-of}
 use Rattle.wit_model.proofs.TextLemmas.{text_same as text-same}
+use Rattle.wit_model.specs.declared.model.WorldItem.TheVariants as item
+
+-- ---- The contents of a world by the texts of their keys.
 
 -- ---- the first of two answers
 
@@ -155,3 +158,62 @@ worlds_exact a b n m v w vat wat y h =
     let left = ap world_sense (world_there a n v vat) in
     let right = ap world_sense (world_there b m w wat) in
     (λ t. left ∙ h.0 t ∙ sym right, λ same. h.1 (sym left ∙ same ∙ right))
+
+-- ---- what the page is for
+
+module _ (a b : Resolve) where
+  abbrev pub SameEntries : WorldItem → WorldItem → Type 0
+  SameEntries i j = entry_sense (entry_meaning a i) ≡ entry_sense (entry_meaning b j)
+
+  pub type_items : (n m : TypeId) (y : Bool) → (IsTrue y ↔ (type_meaning_at a n.0 ≡ type_meaning_at b m.0)) → IsTrue y ↔ SameEntries (item.Type_ n) (item.Type_ m)
+  type_items n m y h = (
+    λ t. ap (λ (x : TypeMeaning). record { item = declares x.declaration; external_id = x.external_id }) (h.0 t),
+    λ same. h.1 (ap type_of same),
+  )
+    where
+      declaration_in : Item InterfaceSense → Rattle.wit_model.specs.Tree.Declaration
+      declaration_in (declares declaration) = declaration
+      declaration_in _ = (type_meaning_at a n.0).declaration
+
+      type_of : Entry InterfaceSense → TypeMeaning
+      type_of e = record { declaration = declaration_in e.item; external_id = e.external_id }
+
+  -- ---- interfaces
+
+  module _ (n m : ℕ) where
+    abbrev pub SameInterfaceItems : Type 0
+    SameInterfaceItems = item_sense (interface_item a n) ≡ item_sense (interface_item b m)
+
+    at_path : (r : Resolve) (k : ℕ) (p : Text) → interface_path r k ≡ Some p → item_sense (interface_item r k) ≡ interface p
+    at_path r k p e = ap (λ o. item_sense (option_map_or interface o (inline (interface_meaning_at r k)))) e
+
+    without_path : (r : Resolve) (k : ℕ) → interface_path r k ≡ None → item_sense (interface_item r k) ≡ inline (interface_sense (interface_meaning_at r k))
+    without_path r k e = ap (λ o. item_sense (option_map_or interface o (inline (interface_meaning_at r k)))) e
+
+    abbrev path_in : Text → Item InterfaceSense → Text
+    path_in d (interface path) = path
+    path_in d _ = d
+
+    abbrev sense_in : InterfaceSense → Item InterfaceSense → InterfaceSense
+    sense_in d (inline i) = i
+    sense_in d _ = d
+
+    pub both_paths : (p q : Text) (y : Bool) → interface_path a n ≡ Some p → interface_path b m ≡ Some q → (IsTrue y ↔ (p ≡ q)) → IsTrue y ↔ SameInterfaceItems
+    both_paths p q y e f h = (λ t. at_path a n p e ∙ ap interface (h.0 t) ∙ sym (at_path b m q f), λ same. h.1 (ap (path_in p) (sym (at_path a n p e) ∙ same ∙ at_path b m q f)))
+
+    pub both_inline : (y : Bool) → interface_path a n ≡ None → interface_path b m ≡ None
+        → (IsTrue y ↔ (interface_sense (interface_meaning_at a n) ≡ interface_sense (interface_meaning_at b m))) → IsTrue y ↔ SameInterfaceItems
+    both_inline y e f h = (
+      λ t. without_path a n e ∙ ap inline (h.0 t) ∙ sym (without_path b m f),
+      λ same. h.1 (ap (sense_in (interface_sense (interface_meaning_at a n))) (sym (without_path a n e) ∙ same ∙ without_path b m f)),
+    )
+
+    pub first_inline : (q : Text) → interface_path a n ≡ None → interface_path b m ≡ Some q → IsTrue false ↔ SameInterfaceItems
+    first_inline q e f = never _ (λ same. let wrong : inline (interface_sense (interface_meaning_at a n)) ≡ interface q = sym (without_path a n e) ∙ same ∙ at_path b m q f in let z : ⊥ = cc in z)
+
+    pub second_inline : (p : Text) → interface_path a n ≡ Some p → interface_path b m ≡ None → IsTrue false ↔ SameInterfaceItems
+    second_inline p e f = never _ (λ same. let wrong : interface p ≡ inline (interface_sense (interface_meaning_at b m)) = sym (at_path a n p e) ∙ same ∙ without_path b m f in let z : ⊥ = cc in z)
+
+    module _ (i j : Option (String Global)) where
+      pub interface_entries : (y : Bool) → optional_text i ≡ optional_text j → (IsTrue y ↔ SameInterfaceItems) → IsTrue y ↔ SameInterfaceEntries a b n m i j
+      interface_entries y ids h = (λ t. let items = h.0 t in λ k. record { item = items k; external_id = ids k }, λ same. h.1 (ap (λ (e : Entry InterfaceSense). e.item) same))

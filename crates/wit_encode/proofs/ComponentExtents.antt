@@ -13,14 +13,14 @@ use Rattle.encode_names.specs.WorldNames.{written_path, written_suffix, name_of_
 use Rattle.wit_encode.specs.WorldRoom.{entries_in, functions_among, type_ids_among}
 use Rattle.wit_encode.specs.Extents.{given_length, name_extent, number_extent, instance_extent, item_extent, ComponentsAreLight, WorldsAreLight}
 use Rattle.wit_encode.proofs.Extents.{functions-light, given-texts}
-use Rattle.wit_encode.proofs.{ExtentWeighing.each-below, ExtentWeighing.number-light, Weighing.sum-among, WorldWeighing.long, WorldWeighing.written-both}
+use Rattle.wit_encode.proofs.{ExtentWeighing.each-below, ExtentWeighing.number-light, Weighing.sum-among, WorldFunctions.long, WorldFunctions.written-both}
 use Rattle.base_lemmas.proofs.Bools.{left_of as first_true}
 use Rattle.encode_names.proofs.NamesRead.{no-suffix as no-suffix-written}
 use Rattle.wit_model.specs.declared.model.WorldKey.TheVariants as key
 use Rattle.wit_model.specs.declared.model.WorldItem.TheVariants as item
 use Rattle.wit_model.specs.declared.model.TypeOwner.TheVariants as owner
 use Rattle.wit_encode.proofs.DependencyWeighing as dependency
-use Rattle.wit_encode.proofs.WorldWeighing as world
+use Rattle.wit_encode.proofs.WorldFunctions as world
 
 -- ---- paths
 

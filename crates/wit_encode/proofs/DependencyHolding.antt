@@ -9,14 +9,12 @@ use Rattle.comp_bytes.specs.{Held.fits_counts, Held.type_slots_of, Fits.fits_nam
 use Rattle.encode_reach.specs.Reach.{reached_in_order}
 use Rattle.encode_types.specs.{Distinct.is_value_type, Distinct.is_function_type, Known.Around, Known.GrowsAround, Known.known_instance, Room.limit}
 use Rattle.encode_names.specs.WorldNames.{name_of_interface}
-use Rattle.wit_encode.specs.{Dependencies.HasImported, Dependencies.ImportsTypes, Dependencies.with_export, Worlds.brought_numbers, Worlds.instances_declared}
-use Rattle.wit_encode.specs.{DependencyAliases.HasImportAliases, Places.are_beside}
-use Rattle.wit_encode.specs.{DependencyCounts.DefinesComponent, DependencyCounts.DefinesImports, DependencyCounts.DefinesTypesOf, Encoders.InterfaceLacksRoom}
+use Rattle.wit_encode.specs.{Dependencies.HasImported, Dependencies.ImportsTypes, Dependencies.with_export, Worlds.brought_numbers, Worlds.instances_declared, DependencyAliases.HasImportAliases, Places.are_beside, DependencyCounts.DefinesComponent, DependencyCounts.DefinesImports, DependencyCounts.DefinesTypesOf, Encoders.InterfaceLacksRoom}
 use Rattle.wit_encode.specs.DependencyRoom.{HoldsImports, LacksImport, its_types, its_path, a_place, ImportsLackRoom, an_interface, a_path, too_many, ComponentLacksRoom, of_imports, of_interface, of_path, TypesLackRoom}
 use Rattle.wit_encode.specs.Instance.{EncodesInterface, EncodesPart, LacksInstanceRoom, whole_interface, types_alone_of}
 use Rattle.wit_encode.proofs.{DependencyAliases.export-aliased, Refusing.counts-refused, Refusing.outer-slots-few, WorldHolding.brought-some}
 use Rattle.wit_encode.proofs.Places.{part-beside}
-use Rattle.wit_encode.proofs.PlacedInstances.{grown-few, grown-listed, one-behind, placed-counted, placed-few, placed-instances}
+use Rattle.wit_encode.proofs.Placed.{grown-few, grown-listed, one-behind, placed-counted, placed-few, placed-instances}
 use Rattle.base_lemmas.proofs.{Elements.zip-append, Options.there as some-of}
 use Rattle.comp_bytes.specs.declared.forms.ComponentTypeRef.TheVariants as refs
 

@@ -21,7 +21,7 @@ use Rattle.wit_encode.specs.DependencyRoom.{TypesLackRoom, ImportsLackRoom, an_i
 use Rattle.wit_encode.specs.WorldRoom.{IsNamedTypeOf}
 use Rattle.wit_encode.proofs.{Mapped.from-filter, ImportLoop.path-in-range, Reached.IsOwner, Reached.interface-owner, UsedPaths.used-path}
 use Rattle.wit_encode.proofs.Weighing.{Differ, at-least, contains-once, counted-least, counted-once, lacking-heavy, one-of, part-heavy-of, sum-among}
-use Rattle.wit_encode.proofs.WorldWeighing.{each, each-least, long, name-fits, number-least, suffix-long, written-long}
+use Rattle.wit_encode.proofs.WorldFunctions.{each, each-least, long, name-fits, number-least, suffix-long, written-long}
 use Rattle.base_lemmas.proofs.{Bools.right_of as second_true, Elements.contains-map, Numbers.same-number}
 use Rattle.wit_model.specs.declared.model.TypeOwner.TheVariants as owner
 

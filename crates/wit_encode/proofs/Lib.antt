@@ -1,6 +1,6 @@
--- The declarations of an instance type, followed one by one. Serves Calls, Components, Directions, PlacedFunctions and 4 more.
+-- The declarations of an instance type, followed one by one. Serves Calls, Components, Directions, Placed and 4 more.
 pub mod Steps
--- The declarations of a component type, followed one by one. Serves Imported, Opening, Outside, PlacedInstances and 7 more; crates above.
+-- The declarations of a component type, followed one by one. Serves Imported, Opening, Outside, Placed and 7 more; crates above.
 pub mod Components
 -- What one more declaration adds to what has been declared in a scope. Serves Calls, Importing, Outside, WorldCalls and 2 more; crates above.
 pub mod Contents
@@ -8,7 +8,7 @@ pub mod Contents
 pub mod Strict
 -- What a declaration of a place is followed as, where its name is exported or imported. Serves Calls, WorldCalls.
 pub mod Declaring
--- The slots in which value types are defined: which they are, and that each stands for a type without a name. Serves Calls, Counting, DefinedTypes, Outside and 6 more.
+-- The slots in which value types are defined: which they are, and that each stands for a type without a name. Serves Calls, Counting, DefinedTypes, Outside and 5 more.
 pub mod ValueSlots
 -- What the calls of an encoder of interfaces do to what it holds. Serves Counting, Importing, Opening, Outside and 5 more.
 pub mod Calls
@@ -17,20 +17,21 @@ pub mod Calls
 pub mod Naming
 -- Instances of the interfaces that have been imported stand. Serves component_types::interface_type, laws::imports_stand; crates above.
 pub mod ImportsStand
--- Imports and exports of a component type, in order: what declarations add to them, and that no import stands behind an export. Serves WorldAliases, WorldCalls, WorldFunctions, WorldInterfaces and 1
--- more.
+-- Imports and exports of a component type, in order: what declarations add to them, and that no import stands behind an export. Serves WorldCalls, WorldFunctions, WorldInterfaces, WorldShown.
 pub mod Directions
--- Lists of numbers: what stands before a place, what stands once, and what is given by one element alone. Serves AliasesKept, Exporting, ListedTypes, WorldTypes and 1 more.
+-- Lists of numbers: what stands before a place, what stands once, and what is given by one element alone. Serves Aliases, Exporting, ListedTypes, WorldLists and 1 more.
 pub mod Numbers
 -- What is met from a type of an owner is of that owner, but for what its aliases of types of other interfaces name. Serves ListedTypes, OwnerScope, Reached, UsedPaths and 2 more.
 pub mod Owned
 -- The types of an interface in valid packages: each stands in the list once, under its name, behind those of the list that it uses. Serves Exporting, Reached, ShownSlots, UsedPaths.
 pub mod ListedTypes
--- Named types that are met through unnamed ones: where all of them are known, no named type of the place is met by way of unknown numbers. Serves Exporting, UsedPaths, WorldFunctions, WorldTypes and
+-- Named types that are met through unnamed ones: where all of them are known, no named type of the place is met by way of unknown numbers. Serves Exporting, UsedPaths, WorldFunctions, WorldLists and
 -- 1 more.
 pub mod Meeting
 -- The types that are exported as those of an interface are encoded, one for each, in order. Serves interface::encode_instance, interface::encode_types.
 pub mod Exporting
+-- How long the bytes of parts of a component are at most. Serves BytesWritten, Extents, PackageRoom; crates above.
+pub mod Lengths
 -- The trees of valid kinds are well formed, where the names stand for resources as their types do. Serves OwnerScope, Validity.
 pub mod Forming
 -- What a valid `Resolve` gives for encoding. Serves DefinedTypes, Encodable, Extents, MetKinds and 4 more.
@@ -38,17 +39,22 @@ pub mod Validity
 -- All that is met from the types and functions of an owner can be encoded in its scope, where an instance of each interface that it uses stands. Serves laws::functions_encode, laws::names_encode,
 -- laws::table_scope_is_of_owner, laws::types_encode; crates above.
 pub mod OwnerScope
--- What one declaration more leaves of the scope of a world's component type. Serves world::define_function_type, world::defined_type, world::export_resource, world::export_type; crates above.
-pub mod WorldScope
--- What an encoder of a world shows after a call that defines, imports and reaches types. Serves WorldAliases, WorldFunctions, WorldTypes.
-pub mod WorldShown
--- What stands in a list that was mapped or filtered. Serves Counting, DependencyWeighing, Weighing, WorldUses and 1 more.
+-- What stands in a list that was mapped or filtered. Serves Counting, DependencyWeighing, Weighing, WorldFunctions and 1 more.
 pub mod Mapped
--- What an item of a world meets is of the world, and stands before it, or is of an interface that stands before it. Serves laws::items_meet_standing.
-pub mod WorldUses
--- A function of a world, imported or exported behind what has been. Serves world::encode_function, world::new.
+-- What an encoder of a world shows after a call that defines, imports and reaches types. Serves laws::items_meet_standing, world::define_function_type, world::defined_type, world::export_resource and
+-- 1 more; crates above.
+pub mod WorldShown
+-- What is met from the types and functions of an interface, or of a world, is counted in its weight. Serves DefinedTypes, DependencyWeighing, ExtentWeighing, Extents and 2 more.
+pub mod Reached
+-- How many bytes are written at most of a definition, of the type of a function and of a name, and that types and functions weigh no less. Serves component_types::import_dependency,
+-- component_types::interface_type, interface::define_function_type, interface::defined_type and 8 more.
+pub mod Extents
+-- An interface that has no room in an instance type weighs more than the largest number of 32 bits. Serves laws::lacking_interfaces_are_heavy.
+pub mod Weighing
+-- A world that has no room in a component type weighs more than the largest number of 32 bits. Serves laws::lacking_worlds_are_heavy, world::encode_entries, world::encode_function,
+-- world::encode_interface and 1 more.
 pub mod WorldFunctions
--- One instance more, which is listed as that of its interface. Serves AliasesPlaced, Importing, PlacedInstances, WorldInterfaces; crates above.
+-- One instance more, which is listed as that of its interface. Serves Aliases, Importing, Placed, WorldInterfaces; crates above.
 pub mod LatestInstances
 -- One alias more in a component type: what it shows, and what an instance type in it reads. Serves Importing, WorldCalls.
 pub mod Wider
@@ -66,10 +72,11 @@ pub mod DependencyAliases
 -- The names under which instances have been imported and exported stay, but for that of a new one. Serves component_types::interface_type, world::encode_entries, world::encode_function,
 -- world::encode_interface and 1 more.
 pub mod WrittenNames
--- The aliases in the component type of a world, behind each declaration but that of an instance, and in the end. Serves world::import_type.
-pub mod AliasesKept
--- An instance more in the component type of a world: it is the latest one of its interface, and the aliases stay. Serves WorldInstances.
-pub mod AliasesPlaced
+-- An instance more in the component type of a world: it is the latest one of its interface, and the aliases stay. Serves world::import_type.
+pub mod Aliases
+-- Where declarations stand: the type of a function and an instance type just before the import or export that has it, types before functions. Serves world::encode_function, world::encode_interface,
+-- world::encode_type.
+pub mod Places
 -- The keys of functions whose lists maps hold. Serves interface::encode_parts.
 pub mod HeldKeys
 -- Which functions of an interface have no room, call after call. Serves interface::encode_function, interface::encode_functions, interface::encode_parts.
@@ -77,17 +84,7 @@ pub mod FunctionRoom
 -- What has no room in an encoder of interfaces, where a call has refused it. Serves interface::define_function_outside, interface::define_function_type, interface::define_outside,
 -- interface::defined_type and 15 more.
 pub mod Refusing
--- Where declarations stand: the type of a function and an instance type just before the import or export that has it, types before functions. Serves world::encode_function, world::encode_interface,
--- world::encode_type.
-pub mod Places
--- What the calls of an encoder of a world do to its component type. Serves world::define_function_type, world::defined_type, world::encode_function, world::export_resource and 2 more.
-pub mod WorldCalls
--- Which types of listed interfaces have an alias in a component type, and how much it holds beside them. Serves world::define_function_type, world::defined_type, world::export_resource,
--- world::export_type and 1 more.
-pub mod WorldBrought
--- What is met from the types and functions of an interface, or of a world, is counted in its weight. Serves DefinedTypes, DependencyWeighing, ExtentWeighing, Extents and 2 more.
-pub mod Reached
--- Which value types a scope defines, from what has been defined call by call. Serves Counting, Referring, WorldCounting.
+-- Which value types a scope defines, from what has been defined call by call. Serves Counting, Referring, WorldHolding.
 pub mod DefinedTypes
 -- How much is defined for functions, and by an instance type as a whole. Serves interface::encode_function, interface::encode_functions, interface::encode_inside, interface::encode_parts and 1 more.
 pub mod Counting
@@ -100,13 +97,14 @@ pub mod Opening
 -- What the types and functions of an interface meet, and what maps learn of it, type by type and function by function. Serves interface::encode_function, interface::encode_functions,
 -- interface::encode_inside, interface::encode_instance and 2 more.
 pub mod Referring
--- How much the component type of a world defines after each item. Serves world::encode_entries, world::encode_function, world::encode_interface, world::encode_type and 1 more.
-pub mod WorldCounting
--- An instance type that is declared in a component type behind aliases, and imported or exported there: how much is declared by then, and what of it defines types. Serves DependencyHolding,
--- WorldInstances; crates above.
-pub mod PlacedInstances
--- How much an encoder of a world holds after each item, and why a call has no room. Serves world::encode_function, world::encode_type, world::new.
+-- What the calls of an encoder of a world do to its component type. Serves world::define_function_type, world::defined_type, world::encode_function, world::export_resource and 2 more.
+pub mod WorldCalls
+-- Which types of listed interfaces have an alias in a component type, and how much it holds beside them. Serves world::define_function_type, world::defined_type, world::encode_entries,
+-- world::encode_function and 6 more.
 pub mod WorldHolding
+-- An instance type that is declared in a component type behind aliases, and imported or exported there: how much is declared by then, and what of it defines types. Serves
+-- interface::define_function_type, interface::defined_type, interface::encode_function, interface::encode_parts and 3 more; crates above.
+pub mod Placed
 -- The component type of an interface: how much is held and defined after each import, and why a call has no room. Serves component_types::import_dependency, component_types::interface_type; crates
 -- above.
 pub mod DependencyHolding
@@ -114,17 +112,8 @@ pub mod DependencyHolding
 pub mod UsedPaths
 -- Interfaces imported one after the other, in the order in which they are reached. Serves component_types::import_dependencies, component_types::interface_type; crates above.
 pub mod ImportLoop
--- An interface that has no room in an instance type weighs more than the largest number of 32 bits. Serves laws::lacking_interfaces_are_heavy.
-pub mod Weighing
--- A world that has no room in a component type weighs more than the largest number of 32 bits. Serves laws::lacking_worlds_are_heavy, world::encode_entries.
-pub mod WorldWeighing
 -- An interface that has no room in a component type of its own weighs more than the largest number of 32 bits. Serves component_types::interface_type.
 pub mod DependencyWeighing
--- How long the bytes of parts of a component are at most. Serves BytesWritten, Extents, PackageHolding, PackageWeighing; crates above.
-pub mod Lengths
--- How many bytes are written at most of a definition, of the type of a function and of a name, and that types and functions weigh no less. Serves component_types::import_dependency,
--- component_types::interface_type, interface::define_function_type, interface::defined_type and 8 more.
-pub mod Extents
 -- What the parts of an instance type take in sum is no more than its interface weighs. Serves laws::types_and_functions_are_light.
 pub mod ExtentWeighing
 -- What is written of the component type of an interface, and of that of a world, is no more in sum than they weigh. Serves laws::types_and_functions_are_light.
@@ -136,8 +125,6 @@ pub mod BytesWritten
 pub mod Closing
 -- What stays over the functions of an interface. Serves interface::encode_function, interface::encode_functions, interface::encode_parts.
 pub mod Continuing
--- Custom sections behind the types and the exports of a component change nothing of what it exports. Serves WholePackages.
-pub mod CustomSections
 -- An interface meets types of its own, and types of interfaces that it uses: where these stand around, all of it can be encoded. Serves interface::encode_dependency, interface::encode_instance,
 -- laws::interface_uses_dependencies; crates above.
 pub mod Encodable
@@ -147,15 +134,11 @@ pub mod FunctionExports
 pub mod Ordering
 -- Component types that are added one after the other. Serves package::add_interface, package::add_world, package::add_worlds, package::interfaces_component and 1 more.
 pub mod Packages
--- Component types for which a component has no room. Serves package::add_interface, package::add_world, package::add_worlds, package::interfaces_component.
-pub mod PackageHolding
 -- A component with the component types of a package means the package. Serves package::encode, package::encode_component; crates above.
 pub mod WholePackages
--- A component in which the component types of a package have no room: the package is too heavy. Serves package::encode, package::encode_component; crates above.
-pub mod PackageWeighing
--- The declarations of an instance type stand in order: after its types, and after each function. Serves interface::define_function_type, interface::defined_type, interface::encode_function,
--- interface::encode_parts and 3 more.
-pub mod PlacedFunctions
+-- A component in which the component types of a package have no room: the package is too heavy. Serves package::add_interface, package::add_world, package::add_worlds, package::encode and 2 more;
+-- crates above.
+pub mod PackageRoom
 -- What the paths of imports are refused for, the component type of the interface is refused for. Serves component_types::interface_type.
 pub mod Scopes
 -- A function that is exported from an instance type. Serves interface::export_function.
@@ -166,15 +149,7 @@ pub mod StillSound
 pub mod Tables
 -- A component type in which all imports and exports of a world are shown is that of the world. Serves world::encode_entries, world::encode_world.
 pub mod WholeWorlds
--- Aliases that are made in the component type of a world leave what has been shown. Serves WorldInterfaces; crates above.
-pub mod WorldAliases
--- How many bytes an import or an export of a world takes. Serves world::encode_function, world::encode_interface.
-pub mod WorldBytes
--- An interface of a world, imported or exported behind what has been: its instance type shows it, and from then on its instance stands. Serves world::encode_interface.
+-- An interface of a world, imported or exported behind what has been: its instance type shows it, and from then on its instance stands. Serves world::encode_interface; crates above.
 pub mod WorldInterfaces
--- An interface of a world, imported or exported: what its instance type defines, how much is held behind it, and why there is no room for it. Serves world::encode_interface.
-pub mod WorldInstances
--- The imports of a world, or its exports, one after the other. Serves world::encode_items.
+-- A type of a world, imported behind what has been: nothing else that is named in the world is learnt with it. Serves world::encode_interface, world::encode_items, world::encode_type.
 pub mod WorldLists
--- A type of a world, imported behind what has been: nothing else that is named in the world is learnt with it. Serves world::encode_type.
-pub mod WorldTypes

@@ -5,14 +5,11 @@ use Rattle.std.proofs.lemmas.Option.{same_Some as same-some, slice_get_within as
 use Rattle.std.specs.declared.alloc.Global.{Global}
 use Rattle.std.specs.{List.Contains, HashMap.get_by, Option.option_map_or}
 use Rattle.indexmap.specs.IndexMap.{values}
-use Rattle.wit_model.specs.{Lookup.type_at, Lookup.interface_at, Lookup.world_at, Weight.inside_at, Weight.inside_of, Weight.inside_number, Weight.inside_kind}
-use Rattle.wit_model.specs.{Text.text_of, Uses.owner_interface, Uses.items_of, Valid.IsValid, Valid.functions_of_interface, Valid.functions_of_world}
+use Rattle.wit_model.specs.{Lookup.type_at, Lookup.interface_at, Lookup.world_at, Weight.inside_at, Weight.inside_of, Weight.inside_number, Weight.inside_kind, Text.text_of, Uses.owner_interface, Uses.items_of, Valid.IsValid, Valid.functions_of_interface, Valid.functions_of_world}
 use Rattle.wit_model.specs.Parts.{kind_numbers, function_types, function_numbers, numbered_from, met_by, same_owner}
 use Rattle.wit_model.specs.Rules.{passes, in_list, is_id, is_use, is_listed, is_listed_in_world, is_name_key, item_type, interface_type_numbers, world_type_numbers}
-use Rattle.wit_model.specs.declared.model.{Resolve.Resolve, World.World, WorldId.WorldId, Function.Function, TypeDef.TypeDef, TypeId.TypeId}
-use Rattle.wit_model.specs.declared.model.{Interface.Interface, WorldItem.WorldItem, InterfaceId.InterfaceId, TypeOwner.TypeOwner, «Type».«Type» as ValueType}
-use Rattle.wit_model.proofs.{Tables.grow_at, Checks.below_at, InOrder.found_stands, OnePath.found-in, PartsLemmas.owner_same as same-owner}
-use Rattle.wit_model.proofs.{Owners.named_met, Owners.numbered_at as numbered-at, Elements.contains-get, Elements.contains-flat, Elements.has-contains}
+use Rattle.wit_model.specs.declared.model.{Resolve.Resolve, World.World, WorldId.WorldId, Function.Function, TypeDef.TypeDef, TypeId.TypeId, Interface.Interface, WorldItem.WorldItem, InterfaceId.InterfaceId, TypeOwner.TypeOwner, «Type».«Type» as ValueType}
+use Rattle.wit_model.proofs.{Tables.grow_at, Checks.below_at, InOrder.found_stands, OnePath.found-in, PartsLemmas.owner_same as same-owner, Owners.named_met, Owners.numbered_at as numbered-at, Elements.contains-get, Elements.contains-flat, Elements.has-contains}
 use Rattle.encode_types.specs.Kinds.{parts_of}
 use Rattle.encode_types.specs.{Plan.foreign_owner, Plan.Reaches, Plan.itself, Plan.through, MetKinds.ReachedFrom, MetKinds.referred, Table.interface_of_owner}
 use Rattle.encode_shown.proofs.{Items.typed-item, Zips.given-contains, Basics.valid-references}
@@ -20,7 +17,7 @@ use Rattle.wit_encode.specs.OwnerScope.{IsTypeOf, functions_of}
 use Rattle.encode_types.proofs.{Lists.none-in, Planning.part-number}
 use Rattle.wit_encode.proofs.Owned.{stays, part-met, own-interface, alias-part, named-listed}
 use Rattle.wit_encode.proofs.ListedTypes.{owned-listed, listed-type}
-use Rattle.wit_encode.proofs.{OwnerScope.function-ranges, OwnerScope.function-refers, OwnerScope.type-stays, OwnerScope.types-stay, WorldUses.own-type}
+use Rattle.wit_encode.proofs.{OwnerScope.function-ranges, OwnerScope.function-refers, OwnerScope.type-stays, OwnerScope.types-stay, WorldShown.own-type}
 use Rattle.base_lemmas.proofs.Bools.{left_of as first_true, not-false, right_of as second_true}
 use Rattle.base_lemmas.proofs.Elements.{all-contained, contains-one, flat-same, last_of as one-contained, map_from as from-map}
 use Rattle.base_lemmas.proofs.Lists.{slice_take as get-take, within_there as there-at}

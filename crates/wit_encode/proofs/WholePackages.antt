@@ -1,21 +1,85 @@
 -- A component with the component types of a package means the package.
-use Rattle.std.proofs.Common.{◌≡◌, ◌||◌, ◌&&◌, refl, sym, ap, subst, ◌∙◌, ℕ, Bool, true, false, List, [], ◌∷◌, ◌++◌, append-nil, length, Some, Result, Ok, Err, IfErr, is_some}
+use Rattle.std.proofs.Common.{◌≡◌, refl, sym, ap, ◌∙◌, Bool, true, false, ◌&&◌, ◌==◌, List, [], ◌∷◌, ◌++◌, length, map, slice_get, Option, Some, None, ◌||◌, subst, ℕ, append-nil, Result, Ok, Err, IfErr, is_some}
 use Rattle.std.proofs.lemmas.{Bool.true≢false, Bool.ltb-true, List.Elements.Contains-append_left, List.Elements.Contains-append_right}
-use Rattle.std.specs.{Prelude.IsErrAnd, List.AllZip, List.Contains, List.list_all}
+use Rattle.std.specs.{List.list_all, List.AllZip, List.Contains, Prelude.IsErrAnd}
 use Rattle.wit_model.specs.{Text.Text, Lookup.package_at, Lookup.identity_of, Rules.in_list, Valid.is_place, Valid.numbers_in_range, Valid.IsValid}
+use Rattle.comp_bytes.specs.{Raw.Declarations, Raw.Section, Parts.Part, Parts.sections_of_parts, Parts.with_part, Spelling.IsComponent, Spelling.preamble}
+use Rattle.comp_bytes.specs.{Reading.◌>>=◌, Refusal.IsMemoryOrSize}
+use Rattle.comp_meaning.specs.{Follow.each, Follow.when, Follow.is_filled, Reads.Top, Reads.exported_types, Reads.steps, Reads.top_section, Rules.distinct}
+use Rattle.wit_encode.specs.Packages.{is_custom, AddsWorlds, AreNamed, AreWorlds, HasMembers, HasNoClashes, HasNoMembers, HaveNoEqualPaths, HoldsInterfaces, HoldsMembers, HoldsPackage, IsTypeOf, IsWrapperOf, Listed, ListedWorld, MeansPackage, PartsMean, RefusesInterfaces, RefusesPackage, RefusesPackageAt, RefusesWorlds}
 use Rattle.wit_model.proofs.OnePath.{package-passes}
 use Rattle.wit_model.specs.declared.{error.Error.Error, model.Resolve.Resolve, model.Package.Package, model.InterfaceId.InterfaceId, model.WorldId.WorldId}
 use Rattle.indexmap.specs.IndexMap.{values}
-use Rattle.comp_bytes.specs.{Raw.Declarations, Parts.Part, Parts.sections_of_parts, Spelling.IsComponent, Spelling.preamble, Refusal.IsMemoryOrSize}
-use Rattle.comp_meaning.specs.Follow.{is_filled}
 use Rattle.encode_exports.specs.ExportedParts.{exporting}
 use Rattle.encode_exports.proofs.Exports.{all_exported}
 use Rattle.encode_shown.specs.PackageTypes.{ArePackageTypes, IsInterfaceType, IsListedWorldType}
 use Rattle.encode_shown.proofs.Owning.{own-path}
-use Rattle.wit_encode.proofs.CustomSections.{exported-behind}
-use Rattle.wit_encode.specs.Packages.{AddsWorlds, AreNamed, AreWorlds, HasMembers, HasNoClashes, HasNoMembers, HaveNoEqualPaths, HoldsInterfaces, HoldsMembers, HoldsPackage, IsTypeOf, IsWrapperOf, Listed, ListedWorld, MeansPackage, PartsMean, RefusesInterfaces, RefusesPackage, RefusesPackageAt, RefusesWorlds}
 use Rattle.base_lemmas.proofs.{Bools.right_of as second_true, Elements.all-contained, Elements.contains-map, Elements.contains-one}
 use Rattle.encode_shown.proofs.PackageTypes as shown
+
+-- ---- Custom sections behind the types and the exports of a component change nothing of what it exports.
+
+-- ---- sections
+
+abbrev is_custom_section : Section → Bool
+is_custom_section (Section.types ts) = false
+is_custom_section (Section.exports es) = false
+is_custom_section (Section.custom name contents) = true
+
+customs-are : (ps : List Part) → list_all is_custom ps ≡ true → list_all is_custom_section (sections_of_parts ps) ≡ true
+customs-are [] h = refl
+customs-are (Part.top_type t ∷ ps) h = absurd (true≢false (sym h))
+customs-are (Part.top_export e ∷ ps) h = absurd (true≢false (sym h))
+customs-are (Part.custom name contents ∷ ps) h = customs-are ps h
+
+part-behind : (p : Part) (ss cs : List Section) → list_all is_custom_section cs ≡ true → with_part p (ss ++ cs) ≡ with_part p ss ++ cs
+part-behind (Part.top_type t) [] [] h = refl
+part-behind (Part.top_type t) [] (Section.types ts ∷ cs) h = absurd (true≢false (sym h))
+part-behind (Part.top_type t) [] (Section.exports es ∷ cs) h = absurd (true≢false (sym h))
+part-behind (Part.top_type t) [] (Section.custom name contents ∷ cs) h = refl
+part-behind (Part.top_type t) (Section.types ts ∷ ss) cs h = refl
+part-behind (Part.top_type t) (Section.exports es ∷ ss) cs h = refl
+part-behind (Part.top_type t) (Section.custom name contents ∷ ss) cs h = refl
+part-behind (Part.top_export e) [] [] h = refl
+part-behind (Part.top_export e) [] (Section.types ts ∷ cs) h = absurd (true≢false (sym h))
+part-behind (Part.top_export e) [] (Section.exports es ∷ cs) h = absurd (true≢false (sym h))
+part-behind (Part.top_export e) [] (Section.custom name contents ∷ cs) h = refl
+part-behind (Part.top_export e) (Section.types ts ∷ ss) cs h = refl
+part-behind (Part.top_export e) (Section.exports es ∷ ss) cs h = refl
+part-behind (Part.top_export e) (Section.custom name contents ∷ ss) cs h = refl
+part-behind (Part.custom name contents) ss cs h = refl
+
+parts-behind : (ps more : List Part) → list_all is_custom more ≡ true → sections_of_parts (ps ++ more) ≡ sections_of_parts ps ++ sections_of_parts more
+parts-behind [] more h = refl
+parts-behind (p ∷ ps) more h = ap (with_part p) (parts-behind ps more h) ∙ part-behind p (sections_of_parts ps) (sections_of_parts more) (customs-are more h)
+
+-- ---- what they export
+
+customs-pass : (top : Top) (cs : List Section) → list_all is_custom_section cs ≡ true → steps top_section top cs ≡ Some top
+customs-pass top [] h = refl
+customs-pass top (Section.types ts ∷ cs) h = absurd (true≢false (sym h))
+customs-pass top (Section.exports es ∷ cs) h = absurd (true≢false (sym h))
+customs-pass top (Section.custom name contents ∷ cs) h = customs-pass top cs h
+
+same-then : (o : Option Top) (f g : Top → Option Top) → ((next : Top) → f next ≡ g next) → (o >>= f) ≡ (o >>= g)
+same-then None f g same = refl
+same-then (Some top) f g same = same top
+
+steps-behind : (top : Top) (ss cs : List Section) → list_all is_custom_section cs ≡ true → steps top_section top (ss ++ cs) ≡ steps top_section top ss
+steps-behind top [] cs h = customs-pass top cs h
+steps-behind top (s ∷ ss) cs h = same-then (top_section top s) (λ next. steps top_section next (ss ++ cs)) (λ next. steps top_section next ss) (λ next. steps-behind next ss cs h)
+
+abbrev exported-at : Top → Option (List (Text × Declarations))
+exported-at top =
+    when (length top.exported == length top.types && distinct (map (λ x. x.0) top.exported))
+    (each (λ x. slice_get top.types x.1 >>= λ ds. Some (x.0, ds)) top.exported)
+
+pub exported-behind : (ps more : List Part) → list_all is_custom more ≡ true → exported_types (sections_of_parts (ps ++ more)) ≡ exported_types (sections_of_parts ps)
+exported-behind ps more h =
+    ap exported_types (parts-behind ps more h)
+    ∙ ap (λ (o : Option Top). o >>= exported-at) (steps-behind (record { types = []; slots = []; exported = [] }) (sections_of_parts ps) (sections_of_parts more) (customs-are more h))
+
+-- ---- what the page is for
 
 -- ---- what stands in a package
 

@@ -1,9 +1,8 @@
 -- What the calls of an encoder of a world do to its component type.
 use Rattle.std.proofs.Common.{◌≡◌, refl, sym, subst, ap, ◌∙◌, ℕ, ◌+◌, Bool, true, false, not, ◌&&◌, ◌||◌, cond, List, [], ◌∷◌, ◌++◌, append-nil, option_to_list, filter_map, Result, Ok, Err, IfOk, OnErr, Option, Some, None, slice_get, length, arith}
 use Rattle.std.specs.{List.list_all, List.list_any, Option.option_map_or, Prelude.◌≤◌}
-use Rattle.wit_model.specs.{Text.Text, Lookup.place_of}
+use Rattle.wit_model.specs.{Text.Text, Lookup.place_of, Types.number_tree, Meaning.Signature, Meaning.TypeMeaning, Parts.is_resource, Parts.numbered_from, Parts.same_owner, Rules.text_is}
 use Rattle.wit_model.specs.Tree.{Tree, here, of_interface, named, primitive, node}
-use Rattle.wit_model.specs.{Types.number_tree, Meaning.Signature, Meaning.TypeMeaning, Parts.is_resource, Parts.numbered_from, Parts.same_owner, Rules.text_is}
 use Rattle.wit_model.specs.declared.model.{Resolve.Resolve, TypeId.TypeId, TypeOwner.TypeOwner, WorldId.WorldId}
 use Rattle.comp_bytes.specs.declared.forms.{ComponentDefinedType.ComponentDefinedType, ComponentFuncType.ComponentFuncType, ComponentTypeRef.ComponentTypeRef}
 use Rattle.comp_bytes.specs.{Raw.Declaration, Raw.Declarations, Raw.ExternName, Raw.declaration_count, RawOf.raw_defined, RawOf.raw_function}
@@ -12,23 +11,17 @@ use Rattle.comp_meaning.specs.Same.{same_place}
 use Rattle.comp_meaning.specs.Follow.{import_, Seen, Slot, component_step, definition, function_signature, in_scope, instance_types, is_foreign_name, is_simple, named_type, new_scope, see}
 use Rattle.encode_types.specs.declared.maps.TypeEncodingMaps.{TypeEncodingMaps}
 use Rattle.encode_types.specs.Slots.{Standing, tree, Follows, FollowsFunction, Defines, DefinesFunction}
-use Rattle.encode_types.specs.{Resources.is_met_owner, Resources.is_named_interface, Resources.named_resources, Formed.IsFormed, Formed.IsFormedSignature}
+use Rattle.encode_types.specs.{Resources.is_met_owner, Resources.is_named_interface, Resources.named_resources, Formed.IsFormed, Formed.IsFormedSignature, Distinct.is_value_type, Distinct.is_function_type, Distinct.described_slot, Distinct.target_of, View.View, View.Grows}
 use Rattle.encode_types.specs.Scope.{Scope, IsDeclared, DeclaresSlot, DeclaresResource, IsImportable, exported_name}
 use Rattle.encode_types.specs.Counts.{one_type_more, one_function_more, ExportsOne}
-use Rattle.encode_types.specs.{Distinct.is_value_type, Distinct.is_function_type, Distinct.described_slot, Distinct.target_of, View.View, View.Grows}
 use Rattle.encode_types.specs.Known.{Around, Aliased, IsAlias, IsSource, ReachesAround, as_before, aliased, alias_declared, are_right, is_slot_for, known_slot, outer_scope, outer_slots, standing_instances, with_alias}
 use Rattle.encode_types.specs.Standing.{SlotsStand, is_slot_of, standing_at}
-use Rattle.wit_encode.specs.{DependencyAliases.alias_in, WrittenNames.described_name, WrittenNames.instance_declarations, WrittenNames.instance_name}
+use Rattle.wit_encode.specs.{DependencyAliases.alias_in, WrittenNames.described_name, WrittenNames.instance_declarations, WrittenNames.instance_name, Encoders.declared_after, WholeWorlds.direction_of, WholeWorlds.directions_of, WorldAliases.aliases_in, WorldAliases.interfaces_in}
 use Rattle.wit_encode.specs.Places.{takes_index}
-use Rattle.wit_encode.specs.{Encoders.declared_after, WholeWorlds.direction_of, WholeWorlds.directions_of, WorldAliases.aliases_in, WorldAliases.interfaces_in}
 use Rattle.wit_encode.specs.Worlds.{declared_type, is_sound_outside, world_definitions, world_resources, world_scope, world_view, instances_declared}
-use Rattle.wit_encode.proofs.{AliasesKept.keeps-alias, AliasesKept.keeps-plain, ValueSlots.slots-next, ValueSlots.targets-push, ValueSlots.instances-kept}
-use Rattle.wit_encode.proofs.{Places.grows-more, Components.steps-count, Components.steps-more, Contents.IsOf, Contents.slots-kept, WrittenNames.instances-left}
-use Rattle.wit_encode.proofs.{Directions.directions-more, Directions.keeps-both, Declaring.DeclaredAs, Declaring.declared-slot, Declaring.declared-resource}
-use Rattle.wit_encode.proofs.{Calls.defines-of, Calls.formed-value, Calls.function-of, Strict.bind, Strict.definition-strict, Strict.function-strict}
+use Rattle.wit_encode.proofs.{Aliases.keeps-alias, Aliases.keeps-plain, ValueSlots.slots-next, ValueSlots.targets-push, ValueSlots.instances-kept, Places.grows-more, Components.steps-count, Components.steps-more, Contents.IsOf, Contents.slots-kept, WrittenNames.instances-left, Directions.directions-more, Directions.keeps-both, Declaring.DeclaredAs, Declaring.declared-slot, Declaring.declared-resource, Calls.defines-of, Calls.formed-value, Calls.function-of, Strict.bind, Strict.definition-strict, Strict.function-strict, Refusing.outer-pushed, Wider.alias-step}
 use Rattle.wit_encode.proofs.Importing.{Stands, cut-short, importable-sound, importable-stands, known-right, named-slot, right-more, stands, still-right}
-use Rattle.wit_encode.proofs.{Refusing.outer-pushed, Wider.alias-step}
-use Rattle.wit_encode.proofs.WorldScope.{Extends, SoundOutside, Widens, WorldCalls, exports-more, scope-stays, slot-extends, slots-more, sound-outside, world-calls}
+use Rattle.wit_encode.proofs.WorldShown.{Extends, SoundOutside, Widens, WorldCalls, exports-more, scope-stays, slot-extends, slots-more, sound-outside, world-calls}
 use Rattle.encode_types.proofs.Around.{around-same}
 use Rattle.encode_names.specs.WorldSteps.{seen_type}
 use Rattle.encode_names.proofs.WorldSteps.{named-slot as named-plain, type-step}

@@ -1,32 +1,320 @@
--- How much an encoder of a world holds after each item, and why a call has no room.
-use Rattle.std.proofs.Common.{◌≡◌, refl, sym, subst, ap, ◌∙◌, ℕ, zero, suc, ◌+◌, ◌*◌, ◌≤◌, inl, inr, Bool, true, false, ◌&&◌, List, [], ◌∷◌, ◌++◌, map, length, length-append, append_assoc, append-nil, Option, Some, None, is_some, arith}
-use Rattle.std.proofs.lemmas.{Bool.eqb-true, List.length-map, List.Concat.flat_map-append, List.Kept.AllPairs-filter}
-use Rattle.std.proofs.lemmas.List.Elements.{All-contains, Contains-append_cases, Contains-append_left, Contains-append_right, filter_map-append, filter_passes}
-use Rattle.std.specs.{Prelude.nat_eq, Prelude.AllPairs, List.Contains, Option.option_map_or}
-use Rattle.wit_model.specs.{Lookup.type_at, Text.text_of, Meant.signature_of, Meant.type_meaning, Parts.function_types, Uses.owner_interface}
-use Rattle.wit_model.specs.declared.model.{Resolve.Resolve, World.World, TypeDef.TypeDef, TypeId.TypeId}
-use Rattle.wit_model.specs.declared.model.{WorldKey.WorldKey, WorldItem.WorldItem, Function.Function, TypeOwner.TypeOwner, «Type».«Type» as ValueType}
-use Rattle.comp_bytes.specs.Raw.{Declarations, ExternName, declaration_count}
+-- Which types of listed interfaces have an alias in a component type, and how much it holds beside them.
+use Rattle.std.proofs.Common.{◌≡◌, refl, sym, subst, ap, ◌∙◌, ℕ, ◌+◌, inl, inr, Bool, true, false, ◌⊎◌, List, [], ◌∷◌, ◌++◌, map, flat_map, append-nil, append_assoc, length, None, is_some, slice_get, arith, zero, suc, ◌*◌, ◌≤◌, ◌&&◌, length-append, Option, Some}
+use Rattle.std.proofs.lemmas.{List.map-append, List.length-map, Bool.eqb-true, Bool.cases_Bool, Bool.cond-true, Bool.cond-false, Bool.and_from as both}
+use Rattle.std.proofs.lemmas.List.{Concat.flat_map-append, Kept.AllPairs-filter}
+use Rattle.std.proofs.lemmas.List.Elements.{Contains-append_left, Contains-append_right, Contains-append_cases, filter_map-append, All-contains, filter_passes}
+use Rattle.std.specs.{Prelude.nat_eq, Prelude.cond, Prelude.AllPairs, List.AllZip, List.Contains, List.filter, BTreeMap.is_at, BTreeMap.insert_entry}
+use Rattle.std.specs.{Set.is_member, Set.distinct_count, Option.option_map_or, Ordering.nat_cmp}
+use Rattle.wit_model.specs.{Parts.function_types, Valid.IsValid, Lookup.type_at, Text.text_of, Meant.signature_of, Meant.type_meaning, Uses.owner_interface}
+use Rattle.wit_model.specs.Tree.{Tree}
+use Rattle.wit_model.specs.declared.model.{Resolve.Resolve, World.World, TypeId.TypeId, TypeDef.TypeDef}
+use Rattle.wit_model.specs.declared.model.{WorldKey.WorldKey, WorldItem.WorldItem, Function.Function, «Type».«Type» as ValueType, TypeOwner.TypeOwner}
+use Rattle.comp_bytes.specs.Raw.{Declaration, Declarations, ExternName, declaration_count}
 use Rattle.comp_bytes.specs.{Held.declaration_slots, Held.fits_added, Held.fits_counts, Held.type_slots_of, Fits.fits_declaration, Fits.fits_name}
 use Rattle.comp_bytes.specs.declared.forms.ComponentTypeRef.{ComponentTypeRef}
-use Rattle.comp_meaning.specs.Follow.{Direction, import_, export_}
-use Rattle.encode_types.specs.declared.{maps.TypeEncodingMaps.TypeEncodingMaps, key.FunctionKey.FunctionKey}
-use Rattle.encode_types.specs.{Counts.Definitions, Counts.AddsFunction, Maps.IsKnown, Maps.IsOnce, Kinds.kind_tree, Codes.ListKey}
-use Rattle.encode_types.specs.{Known.Around, Known.below, Known.known_instance, MetKinds.LearnsMet, MetKinds.ReachedFrom, Scope.Scope, Scope.exported_name}
+use Rattle.comp_meaning.specs.Follow.{Direction, import_, export_, new_scope}
+use Rattle.encode_types.specs.{Slots.tree, Key.IsKeyOf}
+use Rattle.encode_types.specs.{Aliases.NumbersMet, Maps.IsKnown, Maps.IsOnce, MetKinds.LearnsFrom, MetKinds.LearnsMet, MetKinds.ReachedFrom, Kinds.kind_tree}
+use Rattle.encode_types.specs.Known.{Around, known_slot, below, known_instance, Aliased, IsAlias, ReachesAround, as_before, aliased, with_alias}
+use Rattle.encode_types.specs.{Scope.Scope, Scope.exported_name, Counts.AddsTypes, Counts.AddsFunction, Counts.names_defined, Counts.Definitions, Codes.ListKey}
+use Rattle.encode_types.specs.Distinct.{key_of, are_same, is_value_type, is_function_type, described_slot, target_of, targets_of, value_slots, function_slots, StandForKeys, defined_under_names, AddsFunctions}
 use Rattle.encode_types.specs.Room.{Request, IsUnfit, LacksPart, its_definition, its_name, its_import, LacksOne, a_type, a_request, FindsNoRoom, HoldsFor, LacksRoomBehind, value_type, export_name, import_of, function_type, limit}
-use Rattle.encode_types.proofs.{Defining.lists-longer, Rooms.only-reached, Rooms.pairs-both, Rooms.holds-few, Rooms.are-different, Rooms.counts-few}
-use Rattle.encode_types.proofs.{Lists.none-in, Pairs.pairs-map}
-use Rattle.encode_names.specs.{WorldNames.name_of_item, WorldSteps.Entry, WorldSteps.Entries, WorldSteps.declared_towards, WorldSteps.interfaces_among}
-use Rattle.wit_encode.specs.{Encoders.declared_after, WorldCounts.HasDefined, WorldHolds.HoldsFew, WorldItems.IsNext, WorldItems.all_done}
-use Rattle.wit_encode.specs.WorldRoom.{functions_among, referred_among, IsMetAmong, IsNamedTypeOf, IsTypeAmong, AreSome, count_among, entries_in, WorldLacksRoom, a_name, a_type as a_met_type, a_function, too_many}
-use Rattle.wit_encode.specs.Worlds.{WorldEncoder, brought_numbers, held_beside, is_brought, is_of_listed, world_around}
-use Rattle.wit_encode.proofs.Refusing.{counts-refused, outer-pushed, outer-slots-few}
-use Rattle.wit_encode.proofs.WorldCounting.{referred-front, referred-behind, function-referred, type-referred}
-use Rattle.base_lemmas.proofs.{Bools.left_of as first_true, Bools.right_of as second_true, Elements.last_of as one-contained, Elements.map_from as from-map}
+use Rattle.encode_types.specs.declared.{key.FunctionKey.FunctionKey, maps.TypeEncodingMaps.TypeEncodingMaps}
+use Rattle.encode_types.proofs.Rooms.{only-more, only-reached, pairs-both, holds-few, are-different, counts-few}
+use Rattle.encode_types.proofs.{Defining.lists-longer, Lists.none-in, Pairs.pairs-map}
+use Rattle.encode_names.specs.{WorldSteps.Entry, WorldSteps.Entries, WorldSteps.declared_towards, WorldSteps.interfaces_among, WorldNames.name_of_item}
+use Rattle.wit_encode.specs.Places.{are_beside}
+use Rattle.wit_encode.specs.{Encoders.declared_after, WorldItems.HasShown, WorldItems.all_done, WorldItems.types_among, WorldItems.IsNext, WorldHolds.HoldsFew}
+use Rattle.wit_encode.specs.WorldRoom.{functions_among, referred_among, type_ids_among, IsMetAmong, IsNamedTypeOf, IsTypeAmong, AreSome, count_among, entries_in, WorldLacksRoom, a_name, a_type as a_met_type, a_function, too_many}
+use Rattle.wit_encode.specs.{Instance.count_declared, Instance.SlotsStand, Instance.outer_slots, Instance.standing_at, DependencyAliases.alias_in}
+use Rattle.wit_encode.specs.WorldAliases.{KeepsAliases, KeepsBehind, KeepsListed, PlacedAlias, place_and_number}
+use Rattle.wit_encode.specs.WorldCounts.{DefinesInterface, DefinesOnce, HasDefined, IsAskedBehind, IsAskedBy, no_interface, nothing_defined}
+use Rattle.wit_encode.specs.Worlds.{WorldEncoder, instances_declared, world_around, world_definitions, world_view_of, brought_numbers, held_beside, is_brought, is_of_listed}
+use Rattle.wit_encode.proofs.Aliases.{alias-new, aliases-in-end, keeps-nothing, keeps-plain, keeps-told, none-since, slot-there, there-slot}
+use Rattle.wit_encode.proofs.{WrittenNames.no-function-name, HeldKeys.Keyed, HeldKeys.keyed, HeldKeys.knows-none, HeldKeys.stand-for-keys, HeldKeys.slots-many}
+use Rattle.wit_encode.proofs.{Components.count-more, WorldShown.sound-outside, Importing.new-slot, WorldCalls.reached-held}
+use Rattle.wit_encode.proofs.{DefinedTypes.HeldKinds, DefinedTypes.defines-types, Refusing.counts-refused, Refusing.outer-pushed, Refusing.outer-slots-few}
+use Rattle.wit_encode.proofs.ValueSlots.{IsPlain, slots-kept, slots-declared, targets-kept, instances-kept, outer-values}
+use Rattle.wit_encode.proofs.{Referring.from-met, Referring.from-none, Referring.from-then, Referring.interface-kinds, Imported.at-same, Imported.other-slot}
+use Rattle.wit_encode.proofs.Counting.{slots-once, adds-alike, adds-function, adds-nothing, adds-trans, adds-types, exact-names}
+use Rattle.base_lemmas.proofs.Bools.{both_ways as both-ways, left_of as first_true, right_of as second_true}
+use Rattle.base_lemmas.proofs.Elements.{contains-map, map_from as from-map, last_of as one-contained}
 use Rattle.wit_model.specs.declared.model.WorldItem.TheVariants as item
-use Rattle.wit_model.specs.declared.model.TypeOwner.TheVariants as owner
 use Rattle.wit_model.specs.declared.model.«Type».TheVariants as ty
 use Rattle.comp_bytes.specs.declared.forms.ComponentTypeRef.TheVariants as refs
+use Rattle.wit_model.specs.declared.model.TypeOwner.TheVariants as owner
+
+-- ---- How much the component type of a world defines after each item.
+
+-- ---- entries
+
+functions-more : (es fs : List Entry) → functions_among (es ++ fs) ≡ functions_among es ++ functions_among fs
+functions-more es fs = filter_map-append _ es fs
+
+pub interfaces-more : (es fs : List Entry) → interfaces_among (es ++ fs) ≡ interfaces_among es ++ interfaces_among fs
+interfaces-more es fs = flat_map-append _ es fs
+
+types-more : (es fs : List Entry) → type_ids_among (es ++ fs) ≡ type_ids_among es ++ type_ids_among fs
+types-more es fs = ap (map _) (filter_map-append _ es fs) ∙ map-append _ (types_among es) (types_among fs)
+
+-- what some of them refer to
+pub referred-front : (es fs : List Entry) (t : ValueType) → Contains (referred_among es) t → Contains (referred_among (es ++ fs)) t
+referred-front es fs t c = elim (Contains-append_cases (map (λ x. ty.Id x) (type_ids_among es)) (flat_map function_types (functions_among es)) t c) [
+  | inl a ↦ Contains-append_left (map (λ x. ty.Id x) (type_ids_among (es ++ fs))) _ t
+      (subst (λ xs. Contains xs t) (sym (ap (map (λ x. ty.Id x)) (types-more es fs) ∙ map-append (λ x. ty.Id x) (type_ids_among es) (type_ids_among fs)))
+      (Contains-append_left (map (λ x. ty.Id x) (type_ids_among es)) (map (λ x. ty.Id x) (type_ids_among fs)) t a))
+  | inr b ↦ Contains-append_right (map (λ x. ty.Id x) (type_ids_among (es ++ fs))) _ t
+      (subst (λ xs. Contains xs t) (sym (ap (flat_map function_types) (functions-more es fs) ∙ flat_map-append function_types (functions_among es) (functions_among fs)))
+      (Contains-append_left (flat_map function_types (functions_among es)) (flat_map function_types (functions_among fs)) t b))
+]
+
+pub referred-behind : (es fs : List Entry) (t : ValueType) → Contains (referred_among fs) t → Contains (referred_among (es ++ fs)) t
+referred-behind es fs t c = elim (Contains-append_cases (map (λ x. ty.Id x) (type_ids_among fs)) (flat_map function_types (functions_among fs)) t c) [
+  | inl a ↦ Contains-append_left (map (λ x. ty.Id x) (type_ids_among (es ++ fs))) _ t
+      (subst (λ xs. Contains xs t) (sym (ap (map (λ x. ty.Id x)) (types-more es fs) ∙ map-append (λ x. ty.Id x) (type_ids_among es) (type_ids_among fs)))
+      (Contains-append_right (map (λ x. ty.Id x) (type_ids_among es)) (map (λ x. ty.Id x) (type_ids_among fs)) t a))
+  | inr b ↦ Contains-append_right (map (λ x. ty.Id x) (type_ids_among (es ++ fs))) _ t
+      (subst (λ xs. Contains xs t) (sym (ap (flat_map function_types) (functions-more es fs) ∙ flat_map-append function_types (functions_among es) (functions_among fs)))
+      (Contains-append_right (flat_map function_types (functions_among es)) (flat_map function_types (functions_among fs)) t b))
+]
+
+pub function-referred : (k : WorldKey) (f : Function) (t : ValueType) → Contains (function_types f) t → Contains (referred_among ((k, item.Function f) ∷ [])) t
+function-referred k f t c = Contains-append_left (function_types f) [] t c
+
+pub type-referred : (k : WorldKey) (id : TypeId) (t : ValueType) → Contains (ty.Id id ∷ []) t → Contains (referred_among ((k, item.Type_ id) ∷ [])) t
+type-referred k id t c = c
+
+-- what some of them ask for, where they do
+asked-front : (r : Resolve) (es fs : List Entry) (n t : ℕ) → IsAskedBehind r es n t → IsAskedBehind r (es ++ fs) n t
+asked-front r es fs n t a = record {
+  before = a.before;
+  entry = a.entry;
+  behind = a.behind ++ fs;
+  are = ap (λ (xs : List Entry). xs ++ fs) a.are ∙ append_assoc a.before (a.entry ∷ a.behind) fs;
+  place = a.place;
+  asked = a.asked;
+}
+
+-- the aliases behind one entry more: the new ones are of types that it asks for
+asked-more : {r : Resolve} {count count' : ℕ} {a a' : Around} {ms : List ℕ} (es : List Entry) (x : Entry) (k : KeepsAliases r count a (interfaces_among es))
+    (b : KeepsBehind r count' a' ms (map place_and_number k.has.made) (length (interfaces_among es)))
+    → ((y : PlacedAlias) → Contains k.has.made y → IsAskedBehind r es y.0 y.1.number.0)
+    → ((t : ℕ) → is_some (known_slot a'.known t) ≡ true → (is_some (known_slot a.known t) ≡ true) ⊎ IsAskedBy r x t)
+    → (y : PlacedAlias) → Contains b.keeps.has.made y → IsAskedBehind r (es ++ x ∷ []) y.0 y.1.number.0
+asked-more {r} {a = a} {a' = a'} es x k b old new y c =
+    elim (Contains-append_cases (map place_and_number k.has.made) b.more (place_and_number y)
+    (subst (λ (zs : List (ℕ × ℕ)). Contains zs (place_and_number y)) b.are (contains-map place_and_number b.keeps.has.made y c))) [
+      | inl front ↦ (let z = from-map place_and_number k.has.made (place_and_number y) front in
+          subst (λ (p : ℕ × ℕ). IsAskedBehind r (es ++ x ∷ []) p.0 p.1) z.2 (asked-front r es (x ∷ []) z.0.0 z.0.1.number.0 (old z.0 z.1)))
+      | inr back ↦ elim (new y.1.number.0 (slot-there (known_slot a'.known y.1.number.0) (b.keeps.has.asked y c))) [
+        | inl known ↦ absurd (alias-new k b (place_and_number y) back (there-slot (known_slot a.known y.1.number.0) known))
+        | inr asked ↦ record { before = es; entry = x; behind = []; are = refl; place = sym (b.placed (place_and_number y) back); asked = asked }
+      ]
+    ]
+
+from-wider : {r : Resolve} {ts us : List ValueType} {m m' : TypeEncodingMaps} → ((t : ValueType) → Contains ts t → Contains us t) → LearnsFrom r None ts m m' → LearnsFrom r None us m m'
+from-wider h l = record { only = only-more (λ n x. (x.0, h x.0 x.1, x.2)) l.only; learns = l.learns }
+
+-- ---- one item more
+
+module _ (r : Resolve) (e e' : WorldEncoder) (es : List Entry) (h : HasDefined r e es) (x : Entry) (fs : List Function) (ts : List ValueType)
+    (brings : functions_among (x ∷ []) ≡ fs) (refers : (t : ValueType) → Contains ts t → Contains (referred_among (x ∷ [])) t) where
+  learns-more : LearnsFrom r None ts e.maps e'.maps → LearnsFrom r None (referred_among (es ++ x ∷ [])) h.began e'.maps
+  learns-more l = from-wider (λ t c. elim (Contains-append_cases (referred_among es) ts t c) [ inl a ↦ referred-front es (x ∷ []) t a | inr b ↦ referred-behind es (x ∷ []) t (refers t b) ])
+      (from-then refl h.learns l)
+
+  -- an item, with the instance type of its interface, if it is one
+  pub defines-behind : AddsFunctions r (no_interface r) e.maps e'.maps (world_definitions e.outer) (world_definitions e'.outer) fs → LearnsFrom r None ts e.maps e'.maps
+      → AllZip (DefinesInterface r) (interfaces_among (es ++ x ∷ [])) (instances_declared e'.outer)
+      → KeepsBehind r e'.instances (world_around e') (interfaces_among (es ++ x ∷ [])) (map place_and_number h.keeps.has.made) (length (interfaces_among es))
+      → ((t : ℕ) → is_some (known_slot e'.foreign.known.entries t) ≡ true → (is_some (known_slot e.foreign.known.entries t) ≡ true) ⊎ IsAskedBy r x t) → HasDefined r e' (es ++ x ∷ [])
+  defines-behind a l inside keeps new = record {
+    began = h.began;
+    no_numbers = h.no_numbers;
+    no_kinds = h.no_kinds;
+    no_keys = h.no_keys;
+    adds = subst (AddsFunctions r (no_interface r) h.began e'.maps nothing_defined (world_definitions e'.outer)) (sym (functions-more es (x ∷ []) ∙ ap (λ gs. functions_among es ++ gs) brings))
+        (adds-trans (functions_among es) fs refl h.adds a);
+    learns = learns-more l;
+    inside = inside;
+    keeps = keeps.keeps;
+    asked = asked-more es x h.keeps keeps h.asked new;
+  }
+
+  -- the aliases of an item without an interface
+  asks-more : NumbersMet r None ts (λ n. is_some (known_slot e.foreign.known.entries n)) (λ n. is_some (known_slot e'.foreign.known.entries n)) → (t : ℕ)
+      → is_some (known_slot e'.foreign.known.entries t) ≡ true → (is_some (known_slot e.foreign.known.entries t) ≡ true) ⊎ IsAskedBy r x t
+  asks-more m t known = elim (m.each t known) [
+    | inl old ↦ inl old
+    | inr new ↦ inr (inl (record {
+      met = (new.met.0, refers new.met.0 new.met.1, new.met.2);
+      def = new.def;
+      there = new.there;
+      interface = new.interface;
+      foreign =
+          new.foreign;
+    }))
+  ]
+
+  -- an item without an interface
+  pub defines-more : AddsFunctions r (no_interface r) e.maps e'.maps (world_definitions e.outer) (world_definitions e'.outer) fs → LearnsFrom r None ts e.maps e'.maps
+      → interfaces_among (x ∷ []) ≡ [] → instances_declared e'.outer ≡ instances_declared e.outer
+      → KeepsBehind r e'.instances (world_around e') (interfaces_among es) (map place_and_number h.keeps.has.made) (length (interfaces_among es))
+      → NumbersMet r None ts (λ n. is_some (known_slot e.foreign.known.entries n)) (λ n. is_some (known_slot e'.foreign.known.entries n)) → HasDefined r e' (es ++ x ∷ [])
+  defines-more a l none stays keeps met =
+      let same : interfaces_among (es ++ x ∷ []) ≡ interfaces_among es = interfaces-more es (x ∷ []) ∙ (ap (λ is. interfaces_among es ++ is) none ∙ append-nil (interfaces_among es)) in
+      defines-behind a l
+      (subst (λ (is : List ℕ). AllZip (DefinesInterface r) is (instances_declared e'.outer)) (sym same) (subst (AllZip (DefinesInterface r) (interfaces_among es)) (sym stays) h.inside))
+      (subst (λ (is : List ℕ). KeepsBehind r e'.instances (world_around e') is (map place_and_number h.keeps.has.made) (length (interfaces_among es))) (sym same) keeps) (asks-more met)
+
+-- an import or an export of an item is no definition
+pub towards-value : (direction : Direction) (name : ExternName) (described : ComponentTypeRef) → is_value_type (declared_towards direction name described) ≡ false
+towards-value import_ name described = refl
+towards-value export_ name described = refl
+
+pub towards-target : (direction : Direction) (name : ExternName) (described : ComponentTypeRef) → described_slot described ≡ None → target_of (declared_towards direction name described) ≡ None
+towards-target import_ name described e = e
+towards-target export_ name described e = e
+
+pub towards-function : (direction : Direction) (name : ExternName) (described : ComponentTypeRef) → is_function_type (declared_towards direction name described) ≡ false
+towards-function import_ name described = refl
+towards-function export_ name described = refl
+
+pub counts-declared : (test : Declaration → Bool) (outer : Declarations) (d : Declaration) → test d ≡ false → count_declared test (declared_after outer d) ≡ count_declared test outer
+counts-declared test outer d e = count-more test outer d ∙ none (count_declared test outer) (test d) e
+  where
+    none : (n : ℕ) (b : Bool) → b ≡ false → n + cond b 1 0 ≡ n
+    none n false q = omega arith
+    none n true q = absurd (let z : ⊥ = cc in z)
+
+pub towards-alias : (direction : Direction) (name : ExternName) (described : ComponentTypeRef) → alias_in (declared_towards direction name described) ≡ []
+towards-alias import_ name described = refl
+towards-alias export_ name described = refl
+
+-- ---- the calls
+
+-- what a call of the generic functions leaves of aliases: the packages are these, what is kept of aliases is kept, and new ones are of types that are met
+pub record GoesOnMet (r : Resolve) (e e' : WorldEncoder) (ts : List ValueType) : Type 0 where
+  pub packages_ : e.resolve.now ≡ r
+  pub packages_stay : e'.resolve.now ≡ e.resolve.now
+  pub keeps : (ns : List ℕ) → KeepsListed e.resolve.now e.instances (world_around e) ns → KeepsListed e'.resolve.now e'.instances (world_around e') ns
+  pub imports : NumbersMet r None ts (λ n. is_some (known_slot e.foreign.known.entries n)) (λ n. is_some (known_slot e'.foreign.known.entries n))
+
+keeps-on : (r : Resolve) (e e' : WorldEncoder) (ts : List ValueType) → GoesOnMet r e e' ts → (ns : List ℕ) (k : KeepsAliases r e.instances (world_around e) ns)
+    → KeepsBehind r e'.instances (world_around e') ns (map place_and_number k.has.made) (length ns)
+keeps-on r e e' ts g ns k = keeps-told listed ns (map place_and_number k.has.made) (none-since k)
+  where
+    listed : (xs : List ℕ) → KeepsListed r e.instances (world_around e) xs → KeepsListed r e'.instances (world_around e') xs
+    listed xs l = subst (λ (q : Resolve). KeepsListed q e'.instances (world_around e') xs) (g.packages_stay ∙ g.packages_)
+        (g.keeps xs (subst (λ (q : Resolve). KeepsListed q e.instances (world_around e) xs) (sym g.packages_) l))
+
+-- a function: its type, and then its import or export
+pub function-defined : (r : Resolve) (e e' : WorldEncoder) (es : List Entry) (scope : Scope) → scope.own_interface ≡ None → (k : WorldKey) (i : WorldItem) (f : Function) → i ≡ item.Function f
+    → (key : FunctionKey) (n : ℕ)
+    → (direction : Direction) (name : ExternName) (outer : Declarations) → HasDefined r e es → IsOnce e.maps → IsKeyOf key f
+    → AddsFunction r scope e.maps e'.maps (world_definitions e.outer) (world_definitions e'.outer) key n → LearnsMet r None (function_types f) e.maps e'.maps
+    → instances_declared e'.outer ≡ instances_declared e.outer → outer ≡ declared_after e'.outer (declared_towards direction name (refs.Func n)) → GoesOnMet r e e' (function_types f)
+    → HasDefined r (record e' { outer = outer }) (es ++ (k, i) ∷ [])
+function-defined r e e' es scope own k i f is key n direction name outer h once is_key a learns stays made goes =
+    let x : Entry = (k, item.Function f) in
+    let next : WorldEncoder = record e' { outer = outer } in
+    let d = declared_towards direction name (refs.Func n) in
+    let values_ : value_slots outer ≡ value_slots e'.outer = ap value_slots made ∙ slots-kept is_value_type e'.outer d (towards-value direction name (refs.Func n)) in
+    let targets_ : targets_of outer ≡ targets_of e'.outer = ap targets_of made ∙ targets-kept e'.outer d (towards-target direction name (refs.Func n) refl) in
+    let functions_ : function_slots outer ≡ function_slots e'.outer = ap function_slots made ∙ slots-kept is_function_type e'.outer d (towards-function direction name (refs.Func n)) in
+    subst (λ (j : WorldItem). HasDefined r next (es ++ (k, j) ∷ [])) (sym is)
+    (defines-more r e next es h x (f ∷ []) (function_types f) refl (function-referred k f)
+    (adds-alike (sym own) refl refl refl refl values_ targets_ functions_ (adds-function key n f is_key once a))
+    (from-met r None (function_types f) e.maps e'.maps learns) refl (ap instances_declared made ∙ (instances-kept e'.outer d ∙ stays))
+    (keeps-plain r e'.instances (interfaces_among es) (map place_and_number h.keeps.has.made) (world_around e') outer d made (towards-alias direction name (refs.Func n))
+    (no-function-name direction name n)
+    (keeps-on r e e' (function_types f) goes (interfaces_among es) h.keeps)) goes.imports)
+
+-- a type
+pub type-defined : (r : Resolve) (e e' : WorldEncoder) (es : List Entry) (scope : Scope) → scope.own_interface ≡ None → (k : WorldKey) (i : WorldItem) (id : TypeId) → i ≡ item.Type_ id
+    → HasDefined r e es
+    → AddsTypes r scope e.maps e'.maps (world_definitions e.outer) (world_definitions e'.outer) → LearnsMet r None (ty.Id id ∷ []) e.maps e'.maps
+    → instances_declared e'.outer ≡ instances_declared e.outer
+    → GoesOnMet r e e' (ty.Id id ∷ []) → HasDefined r e' (es ++ (k, i) ∷ [])
+type-defined r e e' es scope own k i id is h a learns stays goes =
+    subst (λ (j : WorldItem). HasDefined r e' (es ++ (k, j) ∷ [])) (sym is)
+    (defines-more r e e' es h (k, item.Type_ id) [] (ty.Id id ∷ []) refl (type-referred k id) (adds-alike (sym own) refl refl refl refl refl refl refl (adds-types a))
+    (from-met r None (ty.Id id ∷ []) e.maps e'.maps learns) refl stays
+    (keeps-on r e e' (ty.Id id ∷ []) goes (interfaces_among es) h.keeps) goes.imports)
+
+-- nothing has been defined by a new encoder
+pub none-defined : (r : Resolve) (e : WorldEncoder) → e.outer ≡ Declarations.no_more → e.maps.id_to_index.entries ≡ [] → e.maps.def_to_index.entries ≡ [] → e.maps.func_type_map.entries ≡ []
+    → e.instances ≡ 0 → e.foreign.instances.entries ≡ [] → e.foreign.known.entries ≡ [] → HasDefined r e []
+none-defined r e o a b c count unlisted unknown =
+    let k : KeepsAliases r e.instances (world_around e) [] = keeps-nothing r e.instances (world_around e) o unlisted unknown count in
+    record {
+      began = e.maps;
+      no_numbers = a;
+      no_kinds = b;
+      no_keys = c;
+      adds = adds-alike refl refl refl refl refl (ap value_slots o) (ap targets_of o) (ap function_slots o) (adds-nothing r (no_interface r) e.maps nothing_defined);
+      learns = from-none r None [] e.maps;
+      inside = subst (λ (z : Declarations). AllZip (DefinesInterface r) [] (instances_declared z)) (sym o) tt;
+      keeps = k;
+      asked = λ x there. absurd (k.has.asked x there (ap (λ ks. known_slot ks x.1.number.0) unknown));
+    }
+
+-- ---- what has been defined in the end
+
+pub defines-once : (r : Resolve) → IsValid r → (w : World) (e : WorldEncoder) (done : Entries) → HasShown r w e done → HasDefined r e (all_done done)
+    → are_beside 0 e.outer ≡ true → DefinesOnce r e.outer (all_done done)
+defines-once r v w e done s h places = record {
+  keys = k.keys;
+  function_types =
+      (let a = slots-declared is_function_type 0 e.outer in
+      let b = slots-many r (SlotsStand (outer_slots e.outer)) e.maps k e.outer slots in
+      omega (arith, a, b));
+  different = k.different;
+  same = λ q. both-ways (is_member are_same k.keys q) (is_member are_same (map key_of (functions_among es)) q)
+      (λ m. elim (h.adds.known q (k.known q m)) [ inl c ↦ absurd (knows-none h.began q h.no_keys c) | inr c ↦ c ])
+      (λ m. k.all q (h.adds.learnt q m));
+  slots = slots;
+  value_types = defines-types r v None (no_interface r) (SlotsStand (outer_slots e.outer)) h.began e.maps nothing_defined (world_definitions e.outer) (type_ids_among es) (functions_among es) e.outer
+      h.adds.slots s.agree (slots-once (outer_slots e.outer)) plain h.adds.slots.types h.adds.slots.exported h.no_numbers h.no_kinds held names;
+  inside = h.inside;
+  aliases = aliases-in-end r e.instances (world_around e) (interfaces_among es) (IsAskedBehind r es) h.keeps h.asked;
+  places = places;
+}
+  where
+    es : List Entry
+    es = all_done done
+
+    once : IsOnce e.maps
+    once = s.agree.once
+
+    k : Keyed e.maps
+    k = keyed e.maps once
+
+    slots : StandForKeys r (SlotsStand (outer_slots e.outer)) k.keys e.outer
+    slots = stand-for-keys r (SlotsStand (outer_slots e.outer)) h.began e.maps k e.outer s.agree h.no_keys h.adds.types_added h.adds.functions_ h.adds.keys_
+
+    number : ℕ → TypeId
+    number n = record { 0 = n }
+
+    known : (t : TypeId) → Contains (type_ids_among es) t → IsKnown e.maps t.0
+    known t c = let x = from-map number (types_among es) t c in subst (λ (m : ℕ). IsKnown e.maps m) (ap (λ (t : TypeId). t.0) x.2) (s.known x.0 x.1)
+
+    held : HeldKinds r None (referred_among es) e.maps
+    held = interface-kinds r (no_interface r) None h.began e.maps nothing_defined (world_definitions e.outer) (type_ids_among es) (functions_among es)
+        (record { numbers = h.no_numbers; kinds = h.no_kinds; keys = h.no_keys }) h.adds h.learns known once v
+
+    names : names_defined r (no_interface r) e.maps ≡ distinct_count nat_eq (defined_under_names r None (type_ids_among es))
+    names = exact-names r (world_view_of r e).scope e.maps (type_ids_among es) once known
+        (λ t i c. elim (s.alone t.0 (i, c)) [ inl none ↦ inl none | inr there ↦ inr (contains-map number (types_among es) t.0 there) ])
+
+    -- where a value type is defined stands a type without a name
+    plain : (i : ℕ) → Contains (value_slots e.outer) i → (t : Tree) × SlotsStand (outer_slots e.outer) i (tree t) × IsPlain t
+    plain i c =
+        let there = sound-outside r e.world (world_around e) s.sound in
+        let p = outer-values new_scope there.scope e.outer i there.followed c in
+        (p.type_there, ap (λ o. standing_at (slice_get (option_map_or (λ z. z.slots) o []) i)) there.followed ∙ ap standing_at p.there, p.plain)
+
+-- ---- How much an encoder of a world holds after each item, and why a call has no room.
 
 -- ---- how many entries
 
@@ -354,3 +642,51 @@ pub type-lacks : (r p p' : Resolve) (w : World) (e e' : WorldEncoder) (done : En
 type-lacks r p p' w e e' done direction k i id is n d h same once q q' lacks =
     let m : IsNext r w direction done (k, item.Type_ id) = subst (λ (j : WorldItem). IsNext r w direction done (k, j)) is n in
     call-lacks r w e done direction (k, item.Type_ id) m d h e' same once p p' q q' (ty.Id id ∷ []) (type-referred k id) [] 0 (omega arith) (λ a c u. none-in a c) lacks
+
+-- ---- what the page is for
+
+-- what passes one test passes the other
+pub filters-more : {X : Type 0} (p q : X → Bool) → ((x : X) → p x ≡ true → q x ≡ true) → (xs : List X) → length (filter p xs) ≤ length (filter q xs)
+filters-more p q h [] = omega arith
+filters-more p q h (x ∷ xs) = elim (cases_Bool (p x)) [
+  | inl e ↦ (let rest = filters-more p q h xs in let a = ap length (cond-true (p x) (x ∷ filter p xs) (filter p xs) e) in let b = ap length (cond-true (q x) (x ∷ filter q xs) (filter q xs) (h x e)) in
+      omega (arith, rest, a, b))
+  | inr e ↦ (let rest = filters-more p q h xs in let a = ap length (cond-false (p x) (x ∷ filter p xs) (filter p xs) e) in elim (cases_Bool (q x)) [
+    | inl f ↦ (let b = ap length (cond-true (q x) (x ∷ filter q xs) (filter q xs) f) in omega (arith, rest, a, b))
+    | inr f ↦ (let b = ap length (cond-false (q x) (x ∷ filter q xs) (filter q xs) f) in omega (arith, rest, a, b))
+  ])
+]
+
+-- a type that has an alias keeps one
+known-kept : (n t m : ℕ) (es : List (ℕ × ℕ)) → known_slot es n ≡ None → is_some (known_slot es m) ≡ true → is_some (known_slot (insert_entry nat_cmp es n t) m) ≡ true
+known-kept n t m es none there = elim (cases_Bool (is_at (nat_cmp m) n)) [
+  | inl same ↦ (let one : m ≡ n = at-same m n same in ap is_some (ap (known_slot (insert_entry nat_cmp es n t)) one ∙ new-slot n t es none))
+  | inr other ↦ ap is_some (other-slot n t m es other none) ∙ there
+]
+
+pub brought-kept : (r : Resolve) (a : Around) (x : Aliased) → IsAlias r a x → (m : ℕ) → is_brought r a m ≡ true → is_brought r (with_alias a x) m ≡ true
+brought-kept r a x is m h =
+    both (is_some (known_slot (with_alias a x).known m)) (option_map_or (is_of_listed a.instances) (type_at r m) false)
+    (known-kept x.number.0 (type_slots_of a.declared) m a.known is.first (first_true (is_some (known_slot a.known m)) _ h))
+    (second_true (is_some (known_slot a.known m)) _ h)
+
+-- a call that makes one alias at most
+pub reached-beside : {r : Resolve} {id : TypeId} {a a' : Around} → ReachesAround r id a a' → held_beside r a' ≤ held_beside r a + 1
+reached-beside {r} {id} {a} {a'} (as_before e) = let same = ap (held_beside r) e in omega (arith, same)
+reached-beside {r} {id} {a} {a'} (aliased x is n e) =
+    let held : declaration_count a'.declared ≤ declaration_count a.declared + 1 = reached-held (aliased x is n e) in
+    let more : length (brought_numbers r a) ≤ length (brought_numbers r (with_alias a x)) =
+    filters-more (is_brought r a) (is_brought r (with_alias a x)) (brought-kept r a x is) (below (length r.types.items)) in
+    let same : length (brought_numbers r a') ≡ length (brought_numbers r (with_alias a x)) = ap (λ z. length (brought_numbers r z)) e in
+    omega (arith, held, more, same)
+
+-- one declaration more at most, and the same aliases
+-- what a call leaves that has declared nothing
+pub reached-kept : (r : Resolve) (a a' : Around) → a' ≡ a → held_beside r a' ≤ held_beside r a
+reached-kept r a a' e = let same = ap (held_beside r) e in omega (arith, same)
+
+pub beside-kept : (r : Resolve) (a : Around) (outer : Declarations) → outer ≡ a.declared → held_beside r (record a { declared = outer }) ≤ held_beside r a
+beside-kept r a outer e = let same : held_beside r (record a { declared = outer }) ≡ held_beside r a = ap (λ (o : Declarations). held_beside r (record a { declared = o })) e in omega (arith, same)
+
+pub beside-more : (r : Resolve) (a : Around) (outer : Declarations) → declaration_count outer ≤ declaration_count a.declared + 1 → held_beside r (record a { declared = outer }) ≤ held_beside r a + 1
+beside-more r a outer h = omega (arith, h)

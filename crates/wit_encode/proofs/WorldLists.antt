@@ -1,15 +1,242 @@
--- The imports of a world, or its exports, one after the other.
-use Rattle.std.proofs.Common.{◌≡◌, refl, sym, subst, ap, ◌∙◌, append-nil, append_assoc, Bool, List, [], ◌∷◌, ◌++◌, Option, Some, arith}
-use Rattle.std.proofs.lemmas.List.Sums.{sum_by-append}
-use Rattle.wit_model.specs.declared.model.{Resolve.Resolve, World.World}
-use Rattle.comp_meaning.specs.Follow.{Direction, import_, export_}
-use Rattle.encode_names.specs.WorldSteps.{Entry, Entries, with_entry}
-use Rattle.wit_encode.specs.{Worlds.WorldEncoder, WrittenNames.NamesMore, WorldCounts.DefinesAll, WorldCounts.HasDefined, WorldRoom.WorldLacksRoom}
-use Rattle.wit_encode.specs.{WorldHolds.HoldsAll, WorldHolds.HoldsFew, WorldHolds.LacksRoomTowards, WrittenBytes.AddsLearnt, WrittenBytes.items_extent}
-use Rattle.wit_encode.specs.WorldItems.{AwaitsAll, EncodesAll, HasShown, IsNext, all_done, begun, ended, entries_of}
-use Rattle.wit_encode.specs.Extents.{item_extent}
-use Rattle.wit_encode.proofs.WrittenNames.{names-nothing, names-then}
-use Rattle.wit_encode.proofs.BytesWritten.{learnt-most, learnt-nothing, learnt-then}
+-- A type of a world, imported behind what has been: nothing else that is named in the world is learnt with it.
+use Rattle.std.proofs.Common.{◌≡◌, refl, sym, subst, ap, ◌∙◌, ℕ, ◌+◌, ◌≤◌, ◌⊎◌, inl, inr, nat_cmp, Bool, true, false, ◌&&◌, List, [], ◌∷◌, ◌++◌, length, map, Some, None, is_some, arith, append-nil, append_assoc, Option, ◌==◌, cond, filter_map, slice_get, take, option_map, option_and_then, String, count_by, nat_eq}
+use Rattle.std.proofs.lemmas.{List.length-map, List.Sums.sum_by-append, Option.same_Some as same-some}
+use Rattle.std.proofs.lemmas.List.Elements.{Contains-append_left, Contains-append_right, Contains-append_cases, filter_map-append}
+use Rattle.std.specs.{BTreeMap.insert_entry, List.AllZip, List.Contains, Prelude.is_none, Option.option_map_or}
+use Rattle.wit_model.specs.{Lookup.interface_at, Lookup.key_text, Lookup.type_at, Meant.no_type, Meant.type_meaning, Meant.type_meaning_at, Meaning.TypeMeaning}
+use Rattle.wit_model.specs.Rules.{item_type, is_id, is_listed, is_listed_in_world, passes, world_type_numbers}
+use Rattle.wit_model.specs.{Uses.item_interface, Uses.items_of, Text.Text, Text.text_of, Parts.same_owner, Valid.IsValid}
+use Rattle.wit_model.specs.declared.model.{Resolve.Resolve, World.World, WorldKey.WorldKey, TypeDef.TypeDef, TypeId.TypeId}
+use Rattle.wit_model.specs.declared.model.{Interface.Interface, InterfaceId.InterfaceId, WorldItem.WorldItem, TypeOwner.TypeOwner, «Type».«Type» as ValueType}
+use Rattle.comp_bytes.specs.Raw.{Declaration, Declarations, ExternName, append, declaration_count, from_list}
+use Rattle.comp_bytes.specs.{Held.fits_counts, Held.type_slots_of, Fits.fits_name}
+use Rattle.comp_meaning.specs.Follow.{Direction, import_, export_, Shown, View}
+use Rattle.encode_types.specs.declared.maps.TypeEncodingMaps.{TypeEncodingMaps}
+use Rattle.encode_types.specs.{Aliases.IsMetElsewhere, MetKinds.LearnsFrom, Room.limit, Kinds.parts_of, Leaves.Leaves, Fits.CanEncode}
+use Rattle.encode_types.specs.{Maps.IsOnce, Maps.IsKnown, Maps.IsReady, Maps.LearnsOnly, Maps.by_number, Distinct.is_value_type, Distinct.is_function_type}
+use Rattle.encode_types.specs.{Known.Around, Known.GrowsAround, Known.known_instance, Known.known_slot, Table.declaration_in, Table.named_declaration}
+use Rattle.encode_types.specs.{Counts.Shows, Counts.own_name, Counts.name_of_own, Plan.foreign_owner, Plan.Meets, Plan.at_once, Plan.further, Plan.MetFrom}
+use Rattle.encode_types.proofs.{Lists.none-in, Pairs.pairs-right}
+use Rattle.encode_names.specs.WorldNames.{name_of_item}
+use Rattle.encode_names.specs.WorldSteps.{Entry, Entries, declared_towards, interfaces_among, with_entry}
+use Rattle.wit_encode.specs.{Encoders.InterfaceLacksRoom, Encoders.declared_after, WorldAliases.KeepsBehind, WorldAliases.place_and_number}
+use Rattle.wit_encode.specs.{Instance.EncodesInterface, Instance.LacksInstanceRoom, Instance.whole_interface, Extents.item_extent, OwnerScope.IsTypeOf}
+use Rattle.wit_encode.specs.{WorldHolds.HoldsFew, WorldHolds.LacksDeclaration, WorldHolds.HoldsAll, WorldHolds.LacksRoomTowards, WrittenNames.NamesMore}
+use Rattle.wit_encode.specs.WorldItems.{IsNext, ListsInstance, all_done, AwaitsAll, EncodesAll, HasShown, begun, ended, entries_of, types_among}
+use Rattle.wit_encode.specs.WorldCounts.{DefinesInterface, HasDefined, IsAskedBy, no_interface, DefinesAll}
+use Rattle.wit_encode.specs.WorldRoom.{functions_among, count_among, entries_in, WorldLacksRoom, an_interface, a_name}
+use Rattle.wit_encode.specs.Worlds.{WorldEncoder, brought_numbers, instances_declared, world_around, world_definitions, world_encoder_view, world_view_of}
+use Rattle.wit_encode.specs.WrittenBytes.{AddsLearnt, items_extent}
+use Rattle.wit_encode.proofs.{Counting.adds-alike, Counting.adds-nothing, BytesWritten.learnt-most, BytesWritten.learnt-nothing, BytesWritten.learnt-then}
+use Rattle.wit_encode.proofs.{Aliases.keeps-instance, Aliases.keeps-aliases, Aliases.known-among, Aliases.none-since, WorldInterfaces.among-one}
+use Rattle.wit_encode.proofs.{WrittenNames.interface-name, WrittenNames.names-nothing, WrittenNames.names-then, Meeting.AllMeetKnown, Meeting.meets-unnamed}
+use Rattle.wit_encode.proofs.Placed.{grown-few, grown-listed, listed-cases, one-behind, placed-few, placed-instances, placed-targets, placed-slots}
+use Rattle.wit_encode.proofs.{Referring.from-none, Refusing.counts-refused, Refusing.outer-slots-few, OwnerScope.types_encode, Owned.named-listed}
+use Rattle.wit_encode.proofs.WorldHolding.{defines-behind, interfaces-more, towards-alias, towards-function, towards-target, towards-value, count-both, full, known-number, known-numbers, known-once, met-before, next-among}
+use Rattle.wit_encode.proofs.{Exporting.learnt-apart, Exporting.learnt-one, Exporting.was-or-learnt, Numbers.gives-one, Numbers.once-before, Numbers.one-mapped}
+use Rattle.wit_encode.proofs.WorldShown.{type_seen, types-shown, items_meet_standing, no-type-exported, own-type, parts-listed, type-key}
+use Rattle.wit_encode.proofs.WorldFunctions.{at-length, before-next, done_items, next-entry, next-place, scope-of, second, stand-before, taken-front, types-given}
+use Rattle.base_lemmas.proofs.Elements.{zip-append, contains-one, first-contained as contains-first, last_of as one-contained}
+use Rattle.base_lemmas.proofs.{Bools.left_of as first_true, Bools.right_of as second_true, Numbers.equal, Numbers.same-number, Options.there as some-of}
+use Rattle.std.specs.declared.alloc.Global.{Global}
+use Rattle.encode_shown.proofs.{Used.contains-flat-from, Basics.valid-references}
+use Rattle.wit_model.proofs.{Elements.contains-get, PartsLemmas.owner_same as same-owner}
+use Rattle.wit_model.specs.declared.model.WorldItem.TheVariants as item
+use Rattle.comp_bytes.specs.declared.forms.ComponentTypeRef.TheVariants as refs
+use Rattle.wit_model.specs.declared.model.TypeOwner.TheVariants as owner
+use Rattle.wit_model.specs.declared.model.«Type».TheVariants as ty
+
+-- ---- An interface of a world, imported or exported: what its instance type defines, how much is held behind it, and why there is no room for it.
+
+-- ---- one interface among the entries
+
+no-function : (x : Entry) (n : ℕ) → item_interface x.1 ≡ Some n → functions_among (x ∷ []) ≡ []
+no-function (k, item.Interface id stability docs external_id) n e = refl
+no-function (k, item.Function f) n e = absurd (let z : ⊥ = cc in z)
+no-function (k, item.Type_ id) n e = absurd (let z : ⊥ = cc in z)
+
+no-type : (x : Entry) (n : ℕ) → item_interface x.1 ≡ Some n → item_type x.1 ≡ None
+no-type (k, item.Interface id stability docs external_id) n e = refl
+no-type (k, item.Function f) n e = absurd (let z : ⊥ = cc in z)
+no-type (k, item.Type_ id) n e = absurd (let z : ⊥ = cc in z)
+
+count-one : (x : Entry) (n : ℕ) → item_interface x.1 ≡ Some n → count_among (x ∷ []) ≡ 1
+count-one x n e =
+    let a : length (functions_among (x ∷ [])) ≡ 0 = ap length (no-function x n e) in
+    let b : length (interfaces_among (x ∷ [])) ≡ 1 = ap length (among-one x n e) in
+    omega (arith, a, b)
+
+-- ---- the instance type and its import or export, listed
+
+module _ (r : Resolve) (e e' e'' : WorldEncoder) (x : Entry) (i : InterfaceId) (def : Interface) (k : ℕ) (direction : Direction) (name : ExternName) (outer : Declarations)
+    (is : item_interface x.1 ≡ Some i.0) (there : interface_at r i.0 ≡ Some def)
+    (rest : e' ≡ record e { outer = e'.outer; foreign = e'.foreign }) (encodes : EncodesInterface r (world_around e) (world_around e') i def k)
+    (made : outer ≡ declared_after e'.outer (declared_towards direction name (refs.Instance k))) (lists : ListsInstance (record e' { outer = outer }) e'' i) where
+  abbrev before : Around
+  before = encodes.part.before
+
+  abbrev inner : Declarations
+  inner = from_list encodes.part.declared
+
+  abbrev described : Declaration
+  described = declared_towards direction name (refs.Instance k)
+
+  same-maps : e''.maps ≡ e.maps
+  same-maps = ap (λ (z : WorldEncoder). z.maps) lists.rest ∙ ap (λ (z : WorldEncoder). z.maps) rest
+
+  outer-then : e''.outer ≡ declared_after (append before.declared (Declarations.instance inner Declarations.no_more)) described
+  outer-then = ap (λ (z : WorldEncoder). z.outer) lists.rest ∙ made ∙ ap (λ (z : Around). declared_after z.declared described) encodes.part.one_more
+
+  known-then : e''.foreign.known.entries ≡ before.known
+  known-then = ap (λ (z : WorldEncoder). z.foreign.known.entries) lists.rest ∙ ap (λ (z : Around). z.known) encodes.part.one_more
+
+  listed-then : e''.foreign.instances.entries ≡ insert_entry nat_cmp e.foreign.instances.entries i.0 e'.instances
+  listed-then = lists.listed ∙ ap (λ (es : List (ℕ × ℕ)). insert_entry nat_cmp es i.0 e'.instances)
+      (ap (λ (z : Around). z.instances) encodes.part.one_more ∙ grown-listed r (world_around e) before encodes.part.aliases.grown)
+
+  instances-then : instances_declared e''.outer ≡ instances_declared e.outer ++ (before.declared, inner) ∷ []
+  instances-then = placed-instances r (world_around e) before encodes.part.aliases.grown inner described e''.outer outer-then
+
+  -- nothing is defined beside the instance type
+  pub interface-defined : (es : List Entry) → HasDefined r e es → HasDefined r e'' (es ++ x ∷ [])
+  interface-defined es h = defines-behind r e e'' es h x [] [] (no-function x i.0 is) (λ t c. none-in t c)
+      (adds-alike refl same-maps refl refl refl (placed-slots r (world_around e) before encodes.part.aliases.grown inner described e''.outer outer-then is_value_type (λ a. refl)
+      (towards-value direction name (refs.Instance k)))
+      (placed-targets r (world_around e) before encodes.part.aliases.grown inner described e''.outer outer-then (towards-target direction name (refs.Instance k) refl))
+      (placed-slots r (world_around e) before encodes.part.aliases.grown inner described e''.outer outer-then is_function_type (λ a. refl) (towards-function direction name (refs.Instance k)))
+      (adds-nothing r (no_interface r) e.maps (world_definitions e.outer)))
+      (subst (λ (m : TypeEncodingMaps). LearnsFrom r None [] e.maps m) (sym same-maps) (from-none r None [] e.maps))
+      (subst (λ (ns : List ℕ). AllZip (DefinesInterface r) ns (instances_declared e''.outer)) (sym (interfaces-more es (x ∷ []) ∙ ap (λ (ns : List ℕ). interfaces_among es ++ ns) (among-one x i.0 is)))
+      (subst (AllZip (DefinesInterface r) (interfaces_among es ++ i.0 ∷ [])) (sym instances-then)
+      (zip-append (DefinesInterface r) (interfaces_among es) (instances_declared e.outer) (i.0 ∷ []) ((before.declared, inner) ∷ []) h.inside (one, tt))))
+      (subst (λ (ns : List ℕ). KeepsBehind r e''.instances (world_around e'') ns (map place_and_number h.keeps.has.made) (length (interfaces_among es))) (sym among-then) keeps-then) asked-then
+    where
+      among-then : interfaces_among (es ++ x ∷ []) ≡ interfaces_among es ++ i.0 ∷ []
+      among-then = interfaces-more es (x ∷ []) ∙ ap (λ (ns : List ℕ). interfaces_among es ++ ns) (among-one x i.0 is)
+
+      counted : e'.instances ≡ e.instances
+      counted = ap (λ (z : WorldEncoder). z.instances) rest
+
+      keeps-before : KeepsBehind r e.instances before (interfaces_among es) (map place_and_number h.keeps.has.made) (length (interfaces_among es))
+      keeps-before = subst (λ (z : Around). KeepsBehind r e.instances z (interfaces_among es) (map place_and_number h.keeps.has.made) (length (interfaces_among es)))
+          (sym encodes.part.aliases.grown.is)
+          (keeps-aliases r e.instances (interfaces_among es) (map place_and_number h.keeps.has.made) (world_around e)
+          encodes.part.aliases.grown.made encodes.part.aliases.grown.are (none-since h.keeps))
+
+      keeps-then : KeepsBehind r e''.instances (world_around e'') (interfaces_among es ++ i.0 ∷ []) (map place_and_number h.keeps.has.made) (length (interfaces_among es))
+      keeps-then = subst (λ (n : ℕ). KeepsBehind r n (world_around e'') (interfaces_among es ++ i.0 ∷ []) (map place_and_number h.keeps.has.made) (length (interfaces_among es)))
+          (sym (ap (λ (z : WorldEncoder). z.instances) lists.rest ∙ ap (λ n. n + 1) counted))
+          (keeps-instance r e.instances (interfaces_among es) i.0 (map place_and_number h.keeps.has.made) before (world_around e'')
+          inner described outer-then (towards-alias direction name (refs.Instance k))
+          (ap length (interface-name direction name k))
+          (listed-then ∙ (λ j. insert_entry nat_cmp (sym (grown-listed r (world_around e) before encodes.part.aliases.grown) j) i.0 (counted j))) known-then keeps-before)
+
+      asked-then : (t : ℕ) → is_some (known_slot e''.foreign.known.entries t) ≡ true → (is_some (known_slot e.foreign.known.entries t) ≡ true) ⊎ IsAskedBy r x t
+      asked-then t known =
+          elim (known-among (world_around e) encodes.part.aliases.grown.made r encodes.part.aliases.grown.are t
+          (ap (λ (z : Around). is_some (known_slot z.known t)) (sym encodes.part.aliases.grown.is) ∙ ap (λ ks. is_some (known_slot ks t)) (sym known-then) ∙ known)) [
+            | inl known ↦ inl known
+            | inr new ↦ inr (inr (
+              i.0,
+              is,
+              record { def = def; there = there; met = subst (λ (m : ℕ). IsMetElsewhere r (Some i) (whole_interface def) m) new.2 (encodes.part.aliases.met new.0 new.1) },
+            ))
+          ]
+
+      one : DefinesInterface r i.0 (before.declared, inner)
+      one = record {
+        def = def;
+        there = there;
+        declarations = encodes.part.declared;
+        is = refl;
+        ordered = encodes.part.is_instance;
+        function_types = encodes.part.function_types;
+        value_types =
+            encodes.part.value_types;
+        few = encodes.part.few;
+        places = encodes.part.places;
+      }
+
+  pub interface-few : (es : List Entry) → HoldsFew r e es → HoldsFew r e'' (es ++ x ∷ [])
+  interface-few es h = record {
+    listed = λ j f. elim (listed-cases i.0 e'.instances e.foreign.instances.entries j (ap (λ xs. is_some (known_instance xs j)) (sym listed-then) ∙ f)) [
+      | inl same ↦ subst (λ (m : ℕ). Contains (interfaces_among (es ++ x ∷ [])) m) (sym same) here
+      | inr old ↦ subst (λ (ns : List ℕ). Contains ns j) (sym (interfaces-more es (x ∷ []))) (Contains-append_left (interfaces_among es) (interfaces_among (x ∷ [])) j (h.listed j old))
+    ];
+    held =
+        (let few = h.held in
+        let a : declaration_count e''.outer + length (brought_numbers r (world_around e)) ≤ declaration_count e.outer + (length (brought_numbers r (world_around e'')) + 2) =
+        placed-few r (world_around e) before encodes.part.aliases.grown inner described e''.outer outer-then i.0 e'.instances e''.foreign.instances.entries e''.foreign.known.entries listed-then
+        known-then in
+        let o : length e''.maps.id_to_index.entries ≡ length e.maps.id_to_index.entries = ap (λ (z : TypeEncodingMaps). length z.id_to_index.entries) same-maps in
+        let p = count-both es (x ∷ []) in
+        let q = count-one x i.0 is in
+        omega (arith, few, a, o, p, q));
+  }
+    where
+      here : Contains (interfaces_among (es ++ x ∷ [])) i.0
+      here = subst (λ (ns : List ℕ). Contains ns i.0) (sym (interfaces-more es (x ∷ []))) (Contains-append_right (interfaces_among es) (interfaces_among (x ∷ [])) i.0
+          (subst (λ (ns : List ℕ). Contains ns i.0) (sym (among-one x i.0 is)) (0, omega arith, refl)))
+
+-- ---- no room
+
+module _ (r : Resolve) (w : World) (e : WorldEncoder) (done : Entries) (direction : Direction) (x : Entry) (n : IsNext r w direction done x) (d : HasDefined r e (all_done done))
+    (h : HoldsFew r e (all_done done))
+    (once : IsOnce e.maps) (i : InterfaceId) (is : item_interface x.1 ≡ Some i.0) where
+  abbrev known : List ℕ
+  known = known-numbers e.maps
+
+  -- behind aliases, and one declaration more, the component type is full
+  over-behind : (a : Around) → GrowsAround r (world_around e) a → (more : Declarations) → declaration_count more ≤ declaration_count a.declared + 1 → limit ≤ declaration_count more
+      → WorldLacksRoom r w
+  over-behind a g more one over =
+      full r w e done direction x n d h (record a { declared = more }) (grown-listed r (world_around e) a g) known (known-once e.maps once)
+      (λ m c. met-before r w e done direction x n d h m (known-number e.maps m c))
+      (let few = h.held in
+      let f = grown-few r (world_around e) a g in
+      let o : length known ≡ length e.maps.id_to_index.entries = length-map e.maps.id_to_index.entries (λ (y : ℕ × ℕ). y.0) in
+      let q = count-one x i.0 is in
+      let same : length (brought_numbers r (record a { declared = more })) ≡ length (brought_numbers r a) = refl in
+      omega (arith, few, f, o, q, one, same))
+      over
+
+  among : (rest : List Entry) × (entries_in w ≡ all_done done ++ x ∷ rest)
+  among = next-among r w direction done x n
+
+  -- the instance type has none, or there is none for it
+  pub instance-lacks : (def : Interface) → interface_at r i.0 ≡ Some def → InterfaceLacksRoom r i def ⊎ LacksInstanceRoom r i (whole_interface def) (world_around e) → WorldLacksRoom r w
+  instance-lacks def there (inl l) = an_interface i def (subst (λ (es : List Entry). Contains (interfaces_among es) i.0) (sym among.1) (here (all_done done) among.0)) there l
+    where
+      here : (es rest : List Entry) → Contains (interfaces_among (es ++ x ∷ rest)) i.0
+      here es rest = subst (λ (ns : List ℕ). Contains ns i.0) (sym (interfaces-more es (x ∷ rest))) (Contains-append_right (interfaces_among es) (interfaces_among (x ∷ rest)) i.0
+          (subst (λ (ns : List ℕ). Contains ns i.0) (sym (interfaces-more (x ∷ []) rest)) (Contains-append_left (interfaces_among (x ∷ [])) (interfaces_among rest) i.0
+          (subst (λ (ns : List ℕ). Contains ns i.0) (sym (among-one x i.0 is)) (0, omega arith, refl)))))
+  instance-lacks def there (inr l) =
+      let few = outer-slots-few l.after.declared in
+      over-behind l.after l.grown.grown l.after.declared (omega arith) (counts-refused (declaration_count l.after.declared) (type_slots_of l.after.declared + 1) (omega (arith, few)) l.full)
+
+  -- its import or export has none
+  pub placed-lacks : (canonical : Bool) (name : ExternName) (k : ℕ) (a : Around) (def : Interface) → EncodesInterface r (world_around e) a i def k → name ≡ name_of_item r canonical x
+      → LacksDeclaration a.declared (declared_towards direction name (refs.Instance k)) → WorldLacksRoom r w
+  placed-lacks canonical name k a def encodes named refused = by (fits_name name) refl (towards direction refused)
+    where
+      there : (es rest : List Entry) → Contains (es ++ x ∷ rest) x
+      there es rest = Contains-append_right es (x ∷ rest) x (0, omega arith, refl)
+
+      towards : (direction : Direction) → LacksDeclaration a.declared (declared_towards direction name (refs.Instance k))
+          → (fits_name name && fits_counts (declaration_count a.declared + 1) (type_slots_of a.declared + 0)) ≡ false
+      towards import_ g = g
+      towards export_ g = g
+
+      by : (b : Bool) → fits_name name ≡ b → (b && fits_counts (declaration_count a.declared + 1) (type_slots_of a.declared + 0)) ≡ false → WorldLacksRoom r w
+      by false u g = a_name canonical x (subst (λ (es : List Entry). Contains es x) (sym among.1) (there (all_done done) among.0)) (no-type x i.0 is) (ap fits_name (sym named) ∙ u)
+      by true u g =
+          let few = outer-slots-few a.declared in
+          over-behind encodes.part.before encodes.part.aliases.grown a.declared
+          (one-behind encodes.part.before (from_list encodes.part.declared) a.declared (ap (λ (z : Around). z.declared) encodes.part.one_more))
+          (counts-refused (declaration_count a.declared) (type_slots_of a.declared + 0) (omega (arith, few)) g)
+
+-- ---- The imports of a world, or its exports, one after the other.
 
 -- where these are done
 abbrev pub so_far : Direction → World → List Entry → Entries
@@ -129,3 +356,215 @@ pub written-whole : (r : Resolve) (canonical : Bool) (e e' : WorldEncoder) (dire
 written-whole r canonical e e' direction entries rest g none =
     subst (λ (es : List Entry). AddsLearnt r (items_extent r canonical es) e.maps e'.maps e.outer e'.outer)
     (sym (g.split ∙ ap (λ (xs : List Entry). g.front ++ xs) none ∙ append-nil g.front)) g.written
+
+-- ---- what the page is for
+
+module _ (r : Resolve) (v : IsValid r) (w : World) (e : WorldEncoder) (done : Entries) (h : HasShown r w e done) (k : WorldKey) (id : TypeId) (n : IsNext r w import_ done (k, item.Type_ id)) where
+  abbrev entry : Entry
+  entry = (k, item.Type_ id)
+
+  abbrev place : ℕ
+  place = length (done_items done)
+
+  abbrev home : TypeOwner
+  home = owner.World e.world
+
+  at : slice_get (items_of w) place ≡ Some (item.Type_ id)
+  at = next-place r w import_ done entry n
+
+  own : IsTypeOf r home id
+  own = own-type r v e.world w h.world_ place id at
+
+  found : (x : String Global) × (own.def.name ≡ Some x)
+  found = some-of own.def.name own.named_
+
+  abbrev name : String Global
+  name = found.0
+
+  name-is : own.def.name ≡ Some name
+  name-is = found.1
+
+  -- ---- it can be encoded
+
+  pub can-encode-type : CanEncode r (world_view_of r e).scope (ty.Id id ∷ [])
+  can-encode-type = types_encode r home (world_view_of r e).scope id v (scope-of r v w e done h import_ entry n) own
+      (items_meet_standing r e.world w place (item.Type_ id) (world_view_of r e).scope v h.world_ at (scope-of r v w e done h import_ entry n) (stand-before r v w e done h import_ entry n))
+
+  -- ---- it is listed once, and alone under its name
+
+  listed-at : (m : ℕ) (def : TypeDef) (x : String Global) → type_at r m ≡ Some def → def.name ≡ Some x → def.owner ≡ home → is_listed_in_world m (text_of x) w ≡ true
+  listed-at m def x there named owned =
+      let listed : is_listed r m (text_of x) home ≡ true = sym (λ i. option_map_or (λ y. is_listed r m (text_of y) (owned i)) (named i) (same_owner (owned i) owner.None)) ∙ named-listed r v m
+      def there in
+      subst (λ (o : Option World). passes (is_listed_in_world m (text_of x)) o ≡ true) h.world_ listed
+
+  two-ids : (a b : ℕ) (o : Option ℕ) → is_id a o ≡ true → is_id b o ≡ true → a ≡ b
+  two-ids a b None p q = absurd (let z : ⊥ = cc in z)
+  two-ids a b (Some x) p q = sym (equal x a p) ∙ equal x b q
+
+  -- a declaration of the world under this name is that of the type
+  declared-alone : (y : Text × TypeMeaning) → Contains (world_view_of r e).scope.declarations y → y.0 ≡ text_of name → y ≡ (text_of name, type_meaning r own.def)
+  declared-alone y c same =
+      let found = contains-flat-from (declaration_in r home) r.types.items y c in
+      let spot = contains-get r.types.items found.0 found.1 in
+      by-owner found.0 spot.0 spot.1 (same_owner home found.0.owner) refl found.2
+    where
+      by-name : (def : TypeDef) (m : ℕ) → type_at r m ≡ Some def → def.owner ≡ home → (o : Option (String Global)) → def.name ≡ o → Contains (named_declaration r o def) y
+          → y ≡ (text_of name, type_meaning r own.def)
+      by-name def m there owned None named c = none-in y c
+      by-name def m there owned (Some x) named c =
+          let is : (text_of x, type_meaning r def) ≡ y = one-contained (text_of x, type_meaning r def) y c in
+          let text : text_of x ≡ text_of name = ap (λ (z : Text × TypeMeaning). z.0) is ∙ same in
+          let theirs : is_listed_in_world m (text_of name) w ≡ true = subst (λ (t : Text). is_listed_in_world m t w ≡ true) text (listed-at m def x there named owned) in
+          let ours : is_listed_in_world id.0 (text_of name) w ≡ true = listed-at id.0 own.def name own.there name-is own.owned in
+          let one : m ≡ id.0 = two-ids m id.0 _ (first_true (is_id m _) _ theirs) (first_true (is_id id.0 _) _ ours) in
+          let def_same : def ≡ own.def = same-some def own.def (sym there ∙ ap (type_at r) one ∙ own.there) in
+          sym is ∙ (λ i. (text i, type_meaning r (def_same i)))
+
+      by-owner : (def : TypeDef) (m : ℕ) → type_at r m ≡ Some def → (b : Bool) → same_owner home def.owner ≡ b → Contains (cond b (named_declaration r def.name def) []) y
+          → y ≡ (text_of name, type_meaning r own.def)
+      by-owner def m there false q c = none-in y c
+      by-owner def m there true q c = by-name def m there (sym (same-owner home def.owner q)) def.name refl c
+
+  -- ---- it isn't known yet, and nothing else of the world is met that isn't known
+
+  named : own_name r (world_view_of r e).scope id.0 ≡ Some (text_of name)
+  named =
+      let at_home : foreign_owner None own.def.owner ≡ None = ap (foreign_owner None) own.owned in
+      ap (option_and_then (name_of_own (world_view_of r e).scope)) own.there ∙ (λ i. cond (is_none (at_home i)) (option_map text_of (name-is i)) None)
+
+  types-of-world : world_type_numbers w ≡ types_among done.0 ++ (id.0 ∷ types_among n.rest)
+  types-of-world = ap (λ (es : List Entry). filter_map item_type (map second es)) n.next ∙ types-given (done.0 ++ entry ∷ n.rest) ∙ filter_map-append _ done.0 (entry ∷ n.rest)
+
+  fresh : IsKnown e.maps id.0 → ⊥
+  fresh q = elim (h.alone id.0 q) [
+    | inl none ↦ (let wrong : Some (text_of name) ≡ None = sym named ∙ none in let z : ⊥ = cc in z)
+    | inr c ↦ (let ours = listed-at id.0 own.def name own.there name-is own.owned in
+        let once : (count_by (λ m. m == id.0) (world_type_numbers w) == 1) ≡ true = second_true (is_id id.0 _) _ ours in
+        let before : Contains (types_among done.0) id.0 = subst (λ (es : List Entry). Contains (types_among es) id.0) (ap (λ (es : List Entry). done.0 ++ es) n.begun ∙ append-nil done.0) c in
+        once-before (world_type_numbers w) (length (types_among done.0)) id.0
+        (ap (λ ns. slice_get ns (length (types_among done.0))) types-of-world ∙ at-length (types_among done.0) (types_among n.rest) id.0) once
+        (subst (λ (ns : List ℕ). Contains ns id.0) (sym (ap (take (length (types_among done.0))) types-of-world ∙ taken-front (types_among done.0) (id.0 ∷ types_among n.rest))) before))
+  ]
+
+  meets-no-other : (t : ValueType) (m : ℕ) → t ≡ ty.Id id → Meets r None e.maps t m → (m ≡ id.0 → ⊥) → own_name r (world_view_of r e).scope m ≡ None
+  meets-no-other _ _ q (at_once id' lacks) other = let same : id' ≡ id = cc in absurd (other (ap (λ (y : TypeId). y.0) same))
+  meets-no-other _ _ q (further id' def t m lacks there f c more) other = meets-unnamed r (valid-references r v) (world_view_of r e).scope e.maps t m parts more
+    where
+      same : id' ≡ id
+      same = cc
+
+      its : def ≡ own.def
+      its = same-some def own.def (sym there ∙ ap (λ (y : TypeId). type_at r y.0) same ∙ own.there)
+
+      parts : AllMeetKnown r (valid-references r v) (world_view_of r e).scope e.maps t
+      parts part q' def' at' at_home y met = h.known y (subst (λ (ns : List ℕ). Contains ns y) (ap (filter_map item_type) (before-next r w import_ done entry n) ∙ types-given (all_done done))
+          (parts-listed r v e.world w h.world_ place id at own part (subst (λ (z : TypeDef). Contains (parts_of z.kind) (ty.Id part)) its
+          (subst (λ (u : ValueType). Contains (parts_of def.kind) u) q' c)) def' at' at_home y met))
+
+  met-no-other : (m : ℕ) → MetFrom r None e.maps (ty.Id id ∷ []) m → (m ≡ id.0 → ⊥) → own_name r (world_view_of r e).scope m ≡ None
+  met-no-other m (t, c, met) other = meets-no-other t m (sym (one-contained (ty.Id id) t c)) met other
+
+  -- ---- what a call learns
+
+  module _ (e' : WorldEncoder) (leaves : Leaves r (world_encoder_view e) (world_encoder_view e')) (only : LearnsOnly (MetFrom r None e.maps (ty.Id id ∷ [])) e.maps e'.maps)
+      (shows : Shows r (world_encoder_view e).scope e.maps e'.maps (world_definitions e.outer) (world_definitions e'.outer)) (ready : IsReady e'.maps (ty.Id id)) where
+    itself : Contains shows.learnt (id.0, (ready id refl).0)
+    itself = elim (was-or-learnt e.maps e'.maps shows.learnt shows.numbers (id.0, (ready id refl).0) (ready id refl).1) [
+      | inl q ↦ absurd (fresh ((ready id refl).0, q))
+      | inr q ↦ q
+    ]
+
+    one-name : filter_map (λ y. own_name r (world_view_of r e).scope y.0) shows.learnt ≡ text_of name ∷ []
+    one-name = gives-one (λ (y : ℕ × ℕ). y.0) (λ y. own_name r (world_view_of r e).scope y.0) id.0 (text_of name) shows.learnt
+        (pairs-right (λ (a b : ℕ × ℕ). nat_eq a.0 b.0 ≡ false) e.maps.id_to_index.entries shows.learnt (learnt-apart e.maps e'.maps shows.learnt leaves.agree.once shows.numbers))
+        (λ y q. ap (own_name r (world_view_of r e).scope) q ∙ named)
+        (λ y c other. met-no-other y.0 (learnt-one (MetFrom r None e.maps (ty.Id id ∷ [])) e.maps e'.maps shows.learnt leaves.agree.once shows.numbers only y c) other)
+        (id.0, (ready id refl).0) itself refl
+
+    one-shown : shows.shown ≡ (text_of name, type_meaning r own.def) ∷ []
+    one-shown =
+        let one = one-mapped (λ (y : Text × TypeMeaning). y.0) shows.shown (text_of name) (shows.names ∙ one-name) in
+        let declared : Contains (world_view_of r e).scope.declarations one.0 = subst (λ (z : Resolve). Contains (world_view_of z e).scope.declarations one.0) h.packages_
+        (shows.declared one.0 (subst (λ (ys : List (Text × TypeMeaning)). Contains ys one.0) (sym one.1) (contains-one one.0))) in
+        one.1 ∙ ap (λ y. y ∷ []) (declared-alone one.0 declared one.2)
+
+    imported : Contains w.imports.entries entry
+    imported = elim (Contains-append_cases w.imports.entries w.exports.entries entry (next-entry r w import_ done entry n)) [
+      | inl c ↦ c
+      | inr c ↦ absurd (no-type-exported r v e.world w h.world_ k id c)
+    ]
+
+    seen-right : type_seen (text_of name, type_meaning r own.def) ≡ record
+        { key = key_text r k; shown = Shown.declares (type_meaning_at r id.0).declaration; external_id = (type_meaning_at r id.0).external_id }
+    seen-right =
+        let meaning : type_meaning r own.def ≡ type_meaning_at r id.0 = ap (λ (o : Option TypeDef). option_map_or (type_meaning r) o no_type) (sym own.there) in
+        let text : text_of name ≡ key_text r k = type-key r v e.world w h.world_ k id imported own name name-is in
+        λ i. type_seen (text i, meaning i)
+
+    abbrev nothing_viewed : View
+    nothing_viewed = record { types = []; functions = [] }
+
+    old-or-new : (es : List Entry) → types_among (es ++ entry ∷ []) ≡ types_among es ++ (id.0 ∷ [])
+    old-or-new es = filter_map-append _ es (entry ∷ [])
+
+    done-same : all_done (done.0 ++ entry ∷ [], done.1) ≡ all_done done ++ entry ∷ []
+    done-same =
+        let none : done.1 ≡ [] = n.begun in
+        ap (λ (es : List Entry). (done.0 ++ entry ∷ []) ++ es) none ∙ append-nil (done.0 ++ entry ∷ [])
+        ∙ ap (λ (es : List Entry). es ++ entry ∷ []) (sym (append-nil done.0) ∙ ap (λ (es : List Entry). done.0 ++ es) (sym none))
+
+    types-then : types_among (all_done (done.0 ++ entry ∷ [], done.1)) ≡ types_among (all_done done) ++ (id.0 ∷ [])
+    types-then = ap types_among done-same ∙ old-or-new (all_done done)
+
+    pub type-imported : HasShown r w e' (done.0 ++ entry ∷ [], done.1)
+    type-imported = types-shown r w e e' done h leaves.scope_stays leaves.grows ((text_of name, type_meaning r own.def) ∷ [])
+        (shows.exports ∙ ap (λ ys. (world_definitions e.outer).exports ++ ys) one-shown)
+        (entry ∷ []) (record { view = nothing_viewed; is_view = tt; is = seen-right }, tt) refl (inl n.begun) leaves.agree
+        (λ m c. elim (Contains-append_cases (types_among (all_done done)) (id.0 ∷ []) m (subst (λ (ns : List ℕ). Contains ns m) types-then c)) [
+          | inl q ↦ (let old = h.known m q in (old.0, leaves.maps_grow.keeps (by_number m) old.0 old.1))
+          | inr q ↦ subst (λ (x : ℕ). IsKnown e'.maps x) (one-contained id.0 m q) (ready id refl)
+        ])
+        (λ m q. elim (only.each m q.0 q.1) [
+          | inl old ↦ elim (h.alone m (q.0, old)) [
+            | inl nothing ↦ inl nothing
+            | inr c ↦
+                inr (subst (λ (ns : List ℕ). Contains ns m) (sym types-then) (Contains-append_left (types_among (all_done done)) (id.0 ∷ []) m c))
+          ]
+          | inr met ↦ by-number m met (m == id.0) refl
+        ])
+      where
+        by-number : (m : ℕ) → MetFrom r None e.maps (ty.Id id ∷ []) m → (b : Bool) → (m == id.0) ≡ b → (own_name r (world_view_of r e).scope m ≡ None)
+            ⊎ Contains (types_among (all_done (done.0 ++ entry ∷ [], done.1))) m
+        by-number m met true q = inr (subst (λ (ns : List ℕ). Contains ns m) (sym types-then)
+            (Contains-append_right (types_among (all_done done)) (id.0 ∷ []) m (subst (λ (x : ℕ). Contains (id.0 ∷ []) x) (sym (equal m id.0 q)) (contains-one id.0))))
+        by-number m met false q = inl (met-no-other m met (λ same. let wrong : true ≡ false = sym (subst (λ (x : ℕ). (m == x) ≡ true) same (same-number m)) ∙ q in let z : ⊥ = cc in z))
+
+-- ---- the call, by the item and the list that it stands in
+
+-- a type is no export
+type-next : (r : Resolve) → IsValid r → (w : World) (e : WorldEncoder) (done : Entries) → HasShown r w e done → (k : WorldKey) (id : TypeId) (direction : Direction)
+    → IsNext r w direction done (k, item.Type_ id) → direction ≡ import_
+type-next r v w e done h k id import_ n = refl
+type-next r v w e done h k id export_ n = absurd (no-type-exported r v e.world w h.world_ k id
+    (subst (λ (es : List Entry). Contains es (k, item.Type_ id)) (sym n.next)
+    (Contains-append_right done.1 ((k, item.Type_ id) ∷ n.rest) (k, item.Type_ id) (contains-first (k, item.Type_ id) n.rest))))
+
+pub type-encodable : (r : Resolve) → IsValid r → (w : World) (e : WorldEncoder) (done : Entries) → HasShown r w e done → (k : WorldKey) (id : TypeId) (i : WorldItem) → i ≡ item.Type_ id
+    → (direction : Direction) → IsNext r w direction done (k, i)
+    → CanEncode r (world_view_of r e).scope (ty.Id id ∷ [])
+type-encodable r v w e done h k id i is direction n =
+    let m : IsNext r w direction done (k, item.Type_ id) = subst (λ (j : WorldItem). IsNext r w direction done (k, j)) is n in
+    can-encode-type r v w e done h k id (subst (λ (z : Direction). IsNext r w z done (k, item.Type_ id)) (type-next r v w e done h k id direction m) m)
+
+pub type-encoded : (r : Resolve) → IsValid r → (w : World) (e e' : WorldEncoder) (done : Entries) → HasShown r w e done → (k : WorldKey) (id : TypeId) (i : WorldItem) → i ≡ item.Type_ id
+    → (direction : Direction) → IsNext r w direction done (k, i)
+    → Leaves r (world_encoder_view e) (world_encoder_view e') → LearnsOnly (MetFrom r None e.maps (ty.Id id ∷ [])) e.maps e'.maps
+    → Shows r (world_encoder_view e).scope e.maps e'.maps (world_definitions e.outer) (world_definitions e'.outer)
+    → IsReady e'.maps (ty.Id id) → HasShown r w e' (with_entry direction done (k, i))
+type-encoded r v w e e' done h k id i is direction n leaves only shows ready =
+    let m : IsNext r w direction done (k, item.Type_ id) = subst (λ (j : WorldItem). IsNext r w direction done (k, j)) is n in
+    let d : direction ≡ import_ = type-next r v w e done h k id direction m in
+    let made : HasShown r w e' (with_entry import_ done (k, item.Type_ id)) =
+    type-imported r v w e done h k id (subst (λ (z : Direction). IsNext r w z done (k, item.Type_ id)) d m) e' leaves only shows ready in
+    subst (λ (j : WorldItem). HasShown r w e' (with_entry direction done (k, j))) (sym is) (subst (λ (z : Direction). HasShown r w e' (with_entry z done (k, item.Type_ id))) (sym d) made)

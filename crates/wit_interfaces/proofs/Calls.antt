@@ -8,10 +8,9 @@ use Rattle.comp_bytes.specs.{Raw.Declaration, Raw.Declarations, Raw.ExternName, 
 use Rattle.encode_names.specs.WorldNames.{name_of_interface}
 use Rattle.encode_types.specs.Known.{Around, GrowsAround, UsedStand, known_instance, standing_instances}
 use Rattle.wit_encode.specs.declared.interface.Foreign.{Foreign}
-use Rattle.wit_encode.specs.{Dependencies.with_import, Worlds.WorldEncoder, Worlds.is_sound_outside, Worlds.world_around, Worlds.world_scope}
+use Rattle.wit_encode.specs.{Dependencies.with_import, Worlds.WorldEncoder, Worlds.is_sound_outside, Worlds.world_around, Worlds.world_scope, Instance.AliasesFor, Instance.EncodesDependency, Instance.EncodesInterface, Instance.around_at, WorldItems.DefinesInstance}
 use Rattle.wit_encode.specs.Encoders.{declared_after}
-use Rattle.wit_encode.specs.{Instance.AliasesFor, Instance.EncodesDependency, Instance.EncodesInterface, Instance.around_at, WorldItems.DefinesInstance}
-use Rattle.wit_encode.proofs.{Importing.importable-stands, PlacedInstances.grown-listed}
+use Rattle.wit_encode.proofs.{Importing.importable-stands, Placed.grown-listed}
 use Rattle.wit_model.proofs.OnePath.{found-in}
 use Rattle.wit_interfaces.specs.InterfaceEncoders.{CanEncodeInterfaces, Imports, InterfaceEncoder, LeavesInterfaces, component_of, has_listed, imported, interface_encoder_view}
 use Rattle.wit_interfaces.proofs.Leaving.{GoesOn, aliases-go-on, part-goes-on, whole-goes-on, whole-room, whole-stands}

@@ -16,10 +16,7 @@ use Rattle.encode_types.specs.{Scope.Scope, Slots.Keeps, Standing.SlotsStand, St
 use Rattle.encode_types.proofs.Tables.{equal-self}
 use Rattle.wit_encode.specs.Dependencies.{imported_instance, with_import}
 use Rattle.wit_encode.specs.{Instance.EncodesPart, Worlds.is_sound_outside, Worlds.used_types, Worlds.world_resources, Worlds.world_scope, Worlds.world_view}
-use Rattle.wit_encode.proofs.{Components.steps-count, Components.steps-instance, Components.steps-more, WorldAliases.Leaves, WorldAliases.aliases-leave}
-use Rattle.wit_encode.proofs.{Contents.slots-kept, Imported.at-same}
-use Rattle.wit_encode.proofs.{Importing.importable-stands, Importing.right-more, WorldScope.SoundOutside, WorldScope.sound-again, WorldScope.sound-outside}
-use Rattle.wit_encode.proofs.{ImportLoop.path-in-range, ImportsStand.instance-stands, LatestInstances.found-other, LatestInstances.stands-then}
+use Rattle.wit_encode.proofs.{Components.steps-count, Components.steps-instance, Components.steps-more, WorldInterfaces.Leaves, WorldInterfaces.aliases-leave, Contents.slots-kept, Imported.at-same, Importing.importable-stands, Importing.right-more, WorldShown.SoundOutside, WorldShown.sound-again, WorldShown.sound-outside, ImportLoop.path-in-range, ImportsStand.instance-stands, LatestInstances.found-other, LatestInstances.stands-then}
 use Rattle.wit_interfaces.specs.InterfaceEncoders.{CanEncodeInterfaces}
 use Rattle.base_lemmas.proofs.Elements.{filter_kept as filter-contains}
 use Rattle.wit_model.specs.declared.model.TypeOwner.TheVariants as owner

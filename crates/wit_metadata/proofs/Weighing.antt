@@ -2,15 +2,13 @@
 use Rattle.std.proofs.Common.{◌≡◌, ◌≤◌, ◌<◌, ◌+◌, ◌&&◌, ◌⊎◌, inl, inr, ◌∙◌, ap, ℕ, Bool, false, List, [], ◌∷◌, length, option_map, option_to_list, Option, Some, arith, refl}
 use Rattle.std.proofs.lemmas.{List.Sums.sum_by-cons, List.Sums.sum_by-append, Bool.and_cases as either-false}
 use Rattle.std.specs.{Prelude.option_and_then, Option.option_map_or}
-use Rattle.wit_model.specs.{Text.Text, Text.text_of, Lookup.identity_of, Lookup.path_in_package, Lookup.path_of_world, Lookup.world_at}
-use Rattle.wit_model.specs.{Names.path_in, Weight.exported_weight, Weight.unit_of, Weight.world_package_weight, Weight.world_weight, Weight.wrapped_weight}
+use Rattle.wit_model.specs.{Text.Text, Text.text_of, Lookup.identity_of, Lookup.path_in_package, Lookup.path_of_world, Lookup.world_at, Names.path_in, Weight.exported_weight, Weight.unit_of, Weight.world_package_weight, Weight.world_weight, Weight.wrapped_weight}
 use Rattle.wit_model.specs.declared.model.{Package.Package, PackageId.PackageId, Resolve.Resolve, World.World, StringEncoding.StringEncoding}
 use Rattle.comp_bytes.specs.{Raw.Declarations, Raw.TopType, Parts.Part, Parts.fits_component}
 use Rattle.encode_exports.specs.ExportedParts.{one_exported}
 use Rattle.encode_types.specs.Room.{limit}
 use Rattle.wit_encode.specs.{PackageRoom.IsHeavyWorld, PackageRoom.part_extent, PackageRoom.parts_extent, Packages.WrapsWorld}
-use Rattle.wit_encode.proofs.Lengths.{long-component}
-use Rattle.wit_encode.proofs.PackageWeighing.{extent-is, one-short, type-extent, wrapper-short}
+use Rattle.wit_encode.proofs.{Lengths.long-component, PackageRoom.extent-is, PackageRoom.one-short, PackageRoom.type-extent, PackageRoom.wrapper-short}
 use Rattle.wit_metadata.specs.Carried.{HasHome, encoding_part}
 
 -- the custom section in front

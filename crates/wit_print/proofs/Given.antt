@@ -7,7 +7,7 @@ use Rattle.print_items.specs.Shown.{Listed, imported_functions, listed_functions
 use Rattle.print_packages.specs.GivenTypes.{behind}
 use Rattle.print_uses.specs.UseGroups.{is_listed_function, is_listed_type}
 use Rattle.print_uses.proofs.Declarations.{types_listed}
-use Rattle.print_uses.proofs.{ValidInterfaces.interface_functions, ValidOwners.is_known_listed, WellLists.all_both, WellLists.given_well}
+use Rattle.print_uses.proofs.{Valid.interface_functions, Valid.is_known_listed, WellLists.all_both, WellLists.given_well}
 use Rattle.print_packages.proofs.ValidWorlds.{is_known_entry, entry_function_known, world_is_shown}
 use Rattle.wit_print.specs.Given.{FunctionsCanBeGiven, TypesCanBeGiven, WorldFunctionsCanBeGiven, WorldTypesCanBeGiven}
 use Rattle.base_lemmas.proofs.{Bools.left_of as first_true, Bools.right_of as second_true, Elements.all-contained, Elements.all_pass as all-of}

@@ -1,4 +1,4 @@
-use Rattle.bind_carry.proofs.UnionApart.{unions_are_apart}
+use Rattle.bind_carry.proofs.UnionDistinct.{unions_are_apart}
 use Rattle.bind_carry.proofs.added_laws.added_apart.Goals as goal
 
 pub returns : goal.returns

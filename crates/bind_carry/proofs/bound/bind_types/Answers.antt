@@ -1,6 +1,6 @@
 use Rattle.std.proofs.Common.{◌≡◌, ◌∙◌, ap, arith, length, ℕ}
 use Rattle.bind_carry.specs.BoundGains.{are_types_below}
-use Rattle.bind_carry.proofs.SecondTypes.{second_long}
+use Rattle.bind_carry.proofs.SecondInitial.{second_long}
 use Rattle.bind_carry.proofs.bound.bind_types.Goals as goal
 
 pub unify_types-requires-clause-types : goal.unify_types-requires-clause-types

@@ -5,7 +5,7 @@ use Rattle.indexmap.specs.IndexSet.{insert_key}
 use Rattle.wit_model.specs.declared.model.{WorldItem.WorldItem, WorldKey.WorldKey}
 use Rattle.bind_copy.proofs.Gained.{test_is}
 use Rattle.bind_carry.specs.Shown.{are_keys_below}
-use Rattle.bind_carry.proofs.KeysCopied.{key_more, keys_all}
+use Rattle.bind_carry.proofs.KeysGained.{key_more, keys_all}
 use Rattle.bind_carry.proofs.bound.keys_under.Goals as goal
 
 pub loop-key-preserved : goal.loop-key-preserved

@@ -1,6 +1,6 @@
 use Rattle.std.proofs.Common.{◌≡◌, true, length}
 use Rattle.bind_carry.specs.Shown.{are_keys_below}
-use Rattle.bind_carry.proofs.KeysCopied.{KeysSoFar}
+use Rattle.bind_carry.proofs.KeysGained.{KeysSoFar}
 use Rattle.bind_carry.proofs.bound.keys_under.Given as goal
 
 -- the keys in front of those that are left are in the set

@@ -1,4 +1,4 @@
-use Rattle.comp_read.proofs.FollowedWorlds.{read_places_are_met}
+use Rattle.comp_read.proofs.Followed.{read_places_are_met}
 use Rattle.comp_read.proofs.laws.read_places_are_met.Goals as goal
 
 pub returns : goal.returns

@@ -1,7 +1,7 @@
 use Rattle.std.proofs.Common.{refl}
 use Rattle.read_exports.specs.Members.{numbered_members}
 use Rattle.read_rules.specs.Sights.{numbered_sight}
-use Rattle.comp_read.proofs.OwnLaws.{adds_new, adds_none}
+use Rattle.comp_read.proofs.OwnViews.{adds_new, adds_none}
 use Rattle.comp_read.proofs.own.add_interface.Goals as goal
 
 pub returns-in_ok-push : goal.returns-in_ok-push

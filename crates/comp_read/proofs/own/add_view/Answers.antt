@@ -1,7 +1,7 @@
 use Rattle.read_exports.specs.Members.{homes_alone, numbered_members}
 use Rattle.read_rules.specs.Sights.{numbered_sight}
 use Rattle.comp_read.specs.OwnMembers.{another}
-use Rattle.comp_read.proofs.OwnLaws.{adds_own}
+use Rattle.comp_read.proofs.OwnViews.{adds_own}
 use Rattle.comp_read.proofs.own.add_view.Goals as goal
 
 pub returns-in-Some : goal.returns-in-Some

@@ -1,7 +1,7 @@
 use Rattle.std.proofs.Common.{ap, map}
 use Rattle.read_exports.specs.Members.{homes_alone, numbered_members}
 use Rattle.read_rules.specs.Sights.{numbered_sight}
-use Rattle.comp_read.proofs.OwnLaws.{more_gathered, none_gathered, own_gathered}
+use Rattle.comp_read.proofs.OwnViews.{more_gathered, none_gathered, own_gathered}
 use Rattle.comp_read.proofs.own.interfaces_among.Goals as goal
 
 pub loop-sight-init : goal.loop-sight-init

@@ -1,7 +1,7 @@
 use Rattle.std.proofs.Common.{map, take}
 use Rattle.read_exports.specs.Members.{homes_alone, numbered_members}
 use Rattle.read_rules.specs.Sights.{numbered_sight}
-use Rattle.comp_read.proofs.OwnLaws.{IsGathered}
+use Rattle.comp_read.proofs.OwnViews.{IsGathered}
 use Rattle.comp_read.proofs.own.interfaces_among.Given as goal
 
 -- what is gathered of so many views

@@ -1,6 +1,6 @@
 use Rattle.std.proofs.{Common.◌≤◌, Common.arith, Common.length, lemmas.Result.IfOk-weaker as if_ok}
 use Rattle.read_numbers.specs.NumberedInput.{tables_of}
-use Rattle.comp_read.proofs.FollowedLaws.{are_paths, few_followed}
+use Rattle.comp_read.proofs.Followed.{are_paths, few_followed}
 use Rattle.comp_read.proofs.reading.wanted_of_parts.Goals as goal
 
 pub wanted_of_followed-requires-clause-paths : goal.wanted_of_followed-requires-clause-paths

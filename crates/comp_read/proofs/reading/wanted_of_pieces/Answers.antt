@@ -1,6 +1,6 @@
 use Rattle.std.proofs.Common.{map}
 use Rattle.read_follow.specs.Pieces.{raw_piece}
-use Rattle.comp_read.proofs.FollowedLaws.{none_followed}
+use Rattle.comp_read.proofs.Followed.{none_followed}
 use Rattle.comp_read.proofs.reading.wanted_of_pieces.Goals as goal
 
 pub returns-in-Err-clause-absent : goal.returns-in-Err-clause-absent

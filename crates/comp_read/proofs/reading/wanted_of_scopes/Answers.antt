@@ -4,7 +4,7 @@ use Rattle.read_rules.specs.Tables.{numbered_tables}
 use Rattle.plan_meaning.specs.NumberedViews.{Tables}
 use Rattle.read_numbers.specs.NumberedInput.{tables_of}
 use Rattle.read_members.proofs.PackageLaws.{none_meant}
-use Rattle.comp_read.proofs.{FollowedLaws.none_read, ReadLaws.are_read_of}
+use Rattle.comp_read.proofs.{Followed.none_read, ReadLaws.are_read_of}
 use Rattle.comp_read.proofs.reading.wanted_of_scopes.Goals as goal
 
 pub wanted_of_read-requires-clause-read : goal.wanted_of_read-requires-clause-read

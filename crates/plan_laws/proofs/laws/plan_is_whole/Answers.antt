@@ -1,4 +1,4 @@
-use Rattle.plan_laws.proofs.WholeMeaning as lemmas
+use Rattle.plan_laws.proofs.WholeCondition as lemmas
 use Rattle.plan_laws.proofs.laws.plan_is_whole.Goals as goal
 
 pub returns : goal.returns

@@ -1,4 +1,4 @@
-use Rattle.plan_laws.proofs.WholePlaces.{places_read}
+use Rattle.plan_laws.proofs.WholePlan.{places_read}
 use Rattle.plan_laws.proofs.laws.whole_places_are_read.Goals as goal
 
 pub returns : goal.returns

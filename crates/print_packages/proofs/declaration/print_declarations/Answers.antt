@@ -3,7 +3,7 @@ use Rattle.print_grammar.specs.Calls.{members_calls, printed_after}
 use Rattle.print_packages.specs.GivenTypes.{given_declarations}
 use Rattle.print_uses.specs.UseGroups.{listed_of}
 use Rattle.print_packages.proofs.GivenSteps.{given_made, given_refused, given_some}
-use Rattle.print_uses.proofs.ListedSteps.{known_after, known_here}
+use Rattle.print_uses.proofs.Listed.{known_after, known_here}
 use Rattle.print_items.proofs.Moves.{going, made_all}
 use Rattle.base_lemmas.proofs.Options.{at_err}
 use Rattle.print_packages.proofs.declaration.print_declarations.Goals as goal

@@ -3,7 +3,7 @@ use Rattle.std.proofs.lemmas.{Bool.ltb-true, Option.slice_get_read}
 use Rattle.wit_model.specs.{Lookup.type_at, Rules.in_list}
 use Rattle.print_output.specs.{OutputCall.Moves, OutputCall.Begins, OutputCall.Moves.nothing_moved}
 use Rattle.print_grammar.specs.Calls.{members_calls, printed_after}
-use Rattle.print_uses.proofs.ListedTypes.{declaration_printable, declaration_printed, nothing_declared, something_declared}
+use Rattle.print_uses.proofs.Listed.{declaration_printable, declaration_printed, nothing_declared, something_declared}
 use Rattle.base_lemmas.proofs.{Bools.left_of, Options.at_err}
 use Rattle.print_packages.proofs.declaration.print_listed_type.Goals as goal
 

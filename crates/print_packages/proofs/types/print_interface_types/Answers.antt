@@ -5,7 +5,7 @@ use Rattle.print_output.specs.{OutputCall.Moves, OutputCall.Begins, OutputCall.B
 use Rattle.print_grammar.specs.Calls.{members_calls, printed_after}
 use Rattle.print_items.specs.Shown.{listed_types}
 use Rattle.print_uses.specs.UseGroups.{is_listed_function, is_listed_type, listed_of, type_members}
-use Rattle.print_uses.proofs.{Declarations.types_listed, ValidInterfaces.interface_functions}
+use Rattle.print_uses.proofs.{Declarations.types_listed, Valid.interface_functions}
 use Rattle.base_lemmas.proofs.Options.{at_err}
 use Rattle.wit_model.specs.declared.model.TypeOwner.TheVariants as owner
 use Rattle.print_packages.proofs.types.print_interface_types.Goals as goal

@@ -5,7 +5,7 @@ use Rattle.wit_model.specs.{Lookup.type_at, Rules.in_list}
 use Rattle.print_output.specs.{OutputCall.Moves, OutputCall.Begins, OutputCall.Moves.nothing_moved}
 use Rattle.print_items.specs.Shown.{shown_path}
 use Rattle.print_uses.specs.UseGroups.{listed_use_calls, shown_use, use_after}
-use Rattle.print_uses.proofs.ListedTypes.{listed_use_at, use_printable}
+use Rattle.print_uses.proofs.Listed.{listed_use_at, use_printable}
 use Rattle.base_lemmas.proofs.{Bools.left_of, Options.at_err}
 use Rattle.print_uses.proofs.use_group.print_listed_use.Goals as goal
 

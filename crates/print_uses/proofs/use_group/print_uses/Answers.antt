@@ -5,8 +5,7 @@ use Rattle.wit_model.specs.Rules.{has_items}
 use Rattle.print_items.specs.Shown.{shown_path}
 use Rattle.print_uses.specs.UseGroups.{listed_of, listed_use, open_end_calls, shown_use, uses_calls}
 use Rattle.print_output.specs.OutputCall.{Moves, Begins}
-use Rattle.print_uses.proofs.ListedTypes.{all_printed, all_uses, some_mapped}
-use Rattle.print_uses.proofs.ListedSteps.{known_after, known_here, use_made, use_refused, uses_some}
+use Rattle.print_uses.proofs.Listed.{all_printed, all_uses, some_mapped, known_after, known_here, use_made, use_refused, uses_some}
 use Rattle.print_items.proofs.Moves.{going, made_all, made_on, refused_in}
 use Rattle.base_lemmas.proofs.{Bools.or_false, Options.at_err}
 use Rattle.print_uses.proofs.use_group.print_uses.Goals as goal

@@ -1,5 +1,5 @@
 use Rattle.std.proofs.Common.{rules}
-use Rattle.wit_compat.proofs.WorldItems.{interface_entries}
+use Rattle.wit_compat.proofs.WorldContents.{interface_entries}
 use Rattle.wit_compat.proofs.items.same_interface_entries.Goals as goal
 use Rattle.base_lemmas.proofs.Options.{if_ok as in_ok}
 

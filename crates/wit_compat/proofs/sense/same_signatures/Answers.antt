@@ -2,7 +2,7 @@ use Rattle.std.proofs.Common.{rules, ◌≡◌, sym, subst, ◌∙◌, ◌↔◌
 use Rattle.wit_model.specs.{Parts.function_types, Types.type_tree}
 use Rattle.wit_model.specs.declared.model.«Type».{«Type» as ValueType}
 use Rattle.wit_compat.specs.Table.{AllInRange}
-use Rattle.wit_compat.proofs.{SameSignatures.shapes_same, SameSignatures.signatures_exact, Sided.never}
+use Rattle.wit_compat.proofs.{SameMaps.shapes_same, SameMaps.signatures_exact, Sided.never}
 use Rattle.wit_compat.proofs.sense.same_signatures.Goals as goal
 
 pub returns-then-not-branch-clause-exact : goal.returns-then-not-branch-clause-exact

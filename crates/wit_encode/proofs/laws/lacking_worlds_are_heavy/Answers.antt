@@ -1,4 +1,4 @@
-use Rattle.wit_encode.proofs.WorldWeighing as lemmas
+use Rattle.wit_encode.proofs.WorldFunctions as lemmas
 use Rattle.wit_encode.proofs.laws.lacking_worlds_are_heavy.Goals as goal
 
 pub returns : goal.returns

@@ -2,7 +2,7 @@ use Rattle.std.proofs.Common.{◌≡◌, ◌++◌, ◌∷◌, [], subst, List, f
 use Rattle.wit_model.specs.Text.{Text}
 use Rattle.comp_bytes.specs.{Raw.Declarations, Raw.TopType, Parts.Part, Parts.fits_component, Parts.top_slots}
 use Rattle.encode_exports.specs.ExportedParts.{exporting, one_exported}
-use Rattle.wit_encode.proofs.{Packages.type-added, Packages.on-ok, PackageHolding.interface-long}
+use Rattle.wit_encode.proofs.{Packages.type-added, Packages.on-ok, PackageRoom.interface-long}
 use Rattle.wit_encode.proofs.package.add_interface.Goals as goal
 
 pub returns-clause-adds : goal.returns-clause-adds

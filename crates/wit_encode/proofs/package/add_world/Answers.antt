@@ -4,7 +4,7 @@ use Rattle.wit_model.specs.{Text.Text, Lookup.identity_of}
 use Rattle.wit_model.proofs.OnePath.{found-in}
 use Rattle.comp_bytes.specs.{Raw.Declarations, Raw.TopType, Parts.Part, Parts.fits_component, Parts.top_slots}
 use Rattle.encode_exports.specs.ExportedParts.{exporting, one_exported}
-use Rattle.wit_encode.proofs.{Packages.on-ok, Packages.world-added, PackageHolding.world-long}
+use Rattle.wit_encode.proofs.{Packages.on-ok, Packages.world-added, PackageRoom.world-long}
 use Rattle.wit_encode.proofs.package.add_world.Goals as goal
 
 pub returns-clause-adds : goal.returns-clause-adds

@@ -1,7 +1,7 @@
 use Rattle.std.proofs.{Common.rules, lemmas.Map.Iter.rest_more}
 use Rattle.std.specs.Map.Iter.{deref_pair}
 use Rattle.wit_model.specs.Lookup.{identity_of}
-use Rattle.wit_encode.proofs.{Packages.all-worlds_apart, Packages.next-world, Packages.world-done, Packages.world-refused, PackageHolding.next-world_lacks}
+use Rattle.wit_encode.proofs.{Packages.all-worlds_apart, Packages.next-world, Packages.world-done, Packages.world-refused, PackageRoom.next-world_lacks}
 use Rattle.wit_encode.proofs.package.add_worlds.Goals as goal
 
 pub add_world-requires-clause-in_range : goal.add_world-requires-clause-in_range

@@ -4,7 +4,7 @@ use Rattle.wit_model.specs.declared.model.Package.{Package}
 use Rattle.comp_bytes.specs.{Parts.sections_of_parts, Spelling.IsComponent, Spelling.preamble, Writing.component_bytes}
 use Rattle.wit_encode.specs.Packages.{HasMembers, HasNoMembers, MeansPackage, SpellsPackageAt}
 use Rattle.wit_encode.proofs.WholePackages.{bytes-empty, bytes-mean, package-at, package-passed, room-refused}
-use Rattle.wit_encode.proofs.PackageWeighing.{all-lack}
+use Rattle.wit_encode.proofs.PackageRoom.{all-lack}
 use Rattle.wit_model.proofs.OnePath.{found-in}
 use Rattle.base_lemmas.proofs.Options.{both-of}
 use Rattle.wit_encode.proofs.package.encode.Goals as goal

@@ -4,7 +4,7 @@ use Rattle.wit_model.specs.Lookup.{package_at}
 use Rattle.wit_model.specs.declared.model.Package.{Package}
 use Rattle.wit_encode.specs.Packages.{HasNoClashes, HaveNoEqualPaths, HoldsPackage, RefusesInterfaces, RefusesWorlds}
 use Rattle.wit_encode.proofs.WholePackages.{are-named, are-worlds, interfaces-refused, package-at, package-held, parts-mean, worlds-refused}
-use Rattle.wit_encode.proofs.PackageWeighing.{interfaces-lack, worlds-lack}
+use Rattle.wit_encode.proofs.PackageRoom.{interfaces-lack, worlds-lack}
 use Rattle.wit_encode.proofs.package.encode_component.Goals as goal
 
 pub interfaces_component-requires-clause-named : goal.interfaces_component-requires-clause-named

@@ -1,6 +1,6 @@
 use Rattle.std.specs.Map.Iter.{deref_pair}
 use Rattle.std.proofs.{lemmas.Map.Iter.rest_more, Common.rules}
-use Rattle.wit_encode.proofs.{Packages.next-done, Packages.next-refused, PackageHolding.next-lacks}
+use Rattle.wit_encode.proofs.{Packages.next-done, Packages.next-refused, PackageRoom.next-lacks}
 use Rattle.wit_encode.proofs.package.interfaces_component.Goals as goal
 
 pub loop-name-preserved : goal.loop-name-preserved

@@ -4,10 +4,8 @@ use Rattle.wit_model.specs.Lookup.{world_at}
 use Rattle.wit_model.specs.declared.model.World.{World}
 use Rattle.comp_bytes.specs.Raw.{Declarations}
 use Rattle.comp_meaning.specs.Follow.{export_}
-use Rattle.wit_encode.specs.{Places.are_beside, WorldItems.ended}
-use Rattle.wit_encode.specs.{WorldCounts.HasDefined, WorldHolds.HoldsFew, WrittenNames.NamesMore, WrittenNames.WritesNames, Extents.item_extent}
-use Rattle.wit_encode.proofs.{WorldCounting.defines-once, WorldWeighing.lacking-worlds-heavy, WrittenNames.names-then, WholeWorlds.world-shown}
-use Rattle.wit_encode.proofs.{world.encode_entries.Goals.After-index-def, BytesWritten.learnt-most, BytesWritten.learnt-then, BytesWritten.world-few}
+use Rattle.wit_encode.specs.{Places.are_beside, WorldItems.ended, WorldCounts.HasDefined, WorldHolds.HoldsFew, WrittenNames.NamesMore, WrittenNames.WritesNames, Extents.item_extent}
+use Rattle.wit_encode.proofs.{WorldHolding.defines-once, WorldFunctions.lacking-worlds-heavy, WrittenNames.names-then, WholeWorlds.world-shown, world.encode_entries.Goals.After-index-def, BytesWritten.learnt-most, BytesWritten.learnt-then, BytesWritten.world-few}
 use Rattle.wit_encode.proofs.world.encode_entries.Goals as goal
 
 there : (c : After-index-def) → world_at c.args.resolve.now c.args.world.0 ≡ Some c.index-def.result.now

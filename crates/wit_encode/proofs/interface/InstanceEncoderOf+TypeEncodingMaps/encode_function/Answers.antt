@@ -1,9 +1,7 @@
 use Rattle.std.proofs.Common.{◌≡◌, refl, sym, subst, ap, ◌∙◌, OnOk, inl, inr, rules, arith, ◌≤◌, ◌+◌}
 use Rattle.base_lemmas.proofs.Options.{on-both, at_ok as on-any}
-use Rattle.wit_encode.proofs.PlacedFunctions.{function-in-order, open-still}
-use Rattle.wit_encode.proofs.{Referring.from-met, Continuing.Showed, Continuing.function-showed, Continuing.after-types, Refusing.function-named}
-use Rattle.wit_encode.proofs.{Counting.adds-function, Counting.function-counted, Counting.function-names, FunctionRoom.lacks-type, FunctionRoom.lacks-name}
-use Rattle.wit_encode.proofs.{FunctionExports.function-stays, interface.InstanceEncoderOf+TypeEncodingMaps.encode_function.Goals.After-export_function}
+use Rattle.wit_encode.proofs.Placed.{function-in-order, open-still}
+use Rattle.wit_encode.proofs.{Referring.from-met, Continuing.Showed, Continuing.function-showed, Continuing.after-types, Refusing.function-named, Counting.adds-function, Counting.function-counted, Counting.function-names, FunctionRoom.lacks-type, FunctionRoom.lacks-name, FunctionExports.function-stays, interface.InstanceEncoderOf+TypeEncodingMaps.encode_function.Goals.After-export_function}
 use Rattle.wit_model.specs.declared.model.Resolve.{Resolve}
 use Rattle.encode_types.specs.{Scope.Scope, Maps.MapsGrow, MetKinds.LearnsFrom, Room.export_name, Room.function_name, Extents.name_extent}
 use Rattle.wit_encode.specs.{Instance.encoder_scope, Instance.exports_in, Instance.own_of, Encoders.encoder_view}

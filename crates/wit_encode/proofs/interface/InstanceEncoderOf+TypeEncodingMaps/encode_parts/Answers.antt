@@ -1,12 +1,8 @@
 use Rattle.std.proofs.Common.{refl, sym, subst, map, arith, rules, ap}
 use Rattle.std.specs.List.{flat_map}
 use Rattle.wit_model.specs.Parts.{function_types}
-use Rattle.encode_types.proofs.{Rooms.holds-most, Rooms.holds-then, Rooms.only-more, Rooms.reached-left, Rooms.reached-right, Agree.on_ok, Agree.known-grow}
-use Rattle.encode_types.proofs.{Writing.writes-most, Writing.writes-then, Aliasing.met-more, Aliasing.makes-then}
-use Rattle.wit_encode.proofs.{HeldKeys.knows-along, Referring.from-then}
-use Rattle.wit_encode.proofs.{FunctionRoom.lacks-types, FunctionRoom.lacks-behind, Continuing.same-scope, Continuing.after-types, Continuing.continues-trans}
-use Rattle.wit_encode.proofs.{PlacedFunctions.open-still, PlacedFunctions.types-in-order, FunctionExports.listed-used, FunctionExports.exported-after}
-use Rattle.wit_encode.proofs.{Counting.parts-counted, Counting.parts-named, interface.InstanceEncoderOf+TypeEncodingMaps.encode_parts.Goals.After-encode_types}
+use Rattle.encode_types.proofs.{Rooms.holds-most, Rooms.holds-then, Rooms.only-more, Rooms.reached-left, Rooms.reached-right, Agree.on_ok, Agree.known-grow, Writing.writes-most, Writing.writes-then, Aliasing.met-more, Aliasing.makes-then}
+use Rattle.wit_encode.proofs.{HeldKeys.knows-along, Referring.from-then, FunctionRoom.lacks-types, FunctionRoom.lacks-behind, Continuing.same-scope, Continuing.after-types, Continuing.continues-trans, Placed.open-still, Placed.types-in-order, FunctionExports.listed-used, FunctionExports.exported-after, Counting.parts-counted, Counting.parts-named, interface.InstanceEncoderOf+TypeEncodingMaps.encode_parts.Goals.After-encode_types}
 use Rattle.encode_types.specs.Scope.{Scope}
 use Rattle.wit_encode.specs.Instance.{CanEncodeFunction, Continues, own_of, declarations_in, placed_function}
 use Rattle.base_lemmas.proofs.Options.{on-both}

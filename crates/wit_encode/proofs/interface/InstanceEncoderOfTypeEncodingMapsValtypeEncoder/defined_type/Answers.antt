@@ -1,5 +1,5 @@
 use Rattle.std.proofs.Common.{inl, refl, sym, ap, ◌∙◌}
-use Rattle.wit_encode.proofs.{PlacedFunctions.inside-called, Extents.bytes-few, BytesWritten.inside-more, BytesWritten.outside-more, BytesWritten.when-ok}
+use Rattle.wit_encode.proofs.{Placed.inside-called, Extents.bytes-few, BytesWritten.inside-more, BytesWritten.outside-more, BytesWritten.when-ok}
 use Rattle.wit_encode.proofs.Within.{defined-within, defined-without, slot-defined}
 use Rattle.wit_encode.proofs.Refusing.{value-inside, value-outside, held-inside, held-outside, on-size, kept-inside, kept-outside}
 use Rattle.wit_encode.specs.Instance.{around_of, stands_in}

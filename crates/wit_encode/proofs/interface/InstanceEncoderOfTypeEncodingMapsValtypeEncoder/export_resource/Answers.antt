@@ -1,6 +1,5 @@
 use Rattle.std.proofs.Common.{refl, inl, sym, ap}
-use Rattle.wit_encode.proofs.{PlacedFunctions.inside-called, Refusing.name-inside, Refusing.held-inside, Refusing.on-size, Refusing.kept-inside}
-use Rattle.wit_encode.proofs.{Within.resource-within, Extents.bytes-few, BytesWritten.inside-more, BytesWritten.when-ok}
+use Rattle.wit_encode.proofs.{Placed.inside-called, Refusing.name-inside, Refusing.held-inside, Refusing.on-size, Refusing.kept-inside, Within.resource-within, Extents.bytes-few, BytesWritten.inside-more, BytesWritten.when-ok}
 use Rattle.wit_encode.specs.Instance.{around_of}
 use Rattle.encode_types.proofs.Around.{slots-grow}
 use Rattle.comp_bytes.specs.RawOf.{raw_name}

@@ -1,6 +1,5 @@
 use Rattle.std.proofs.Common.{refl, ◌≡◌, inl, sym, ap, ◌∙◌, ℕ, Result, Ok, Err, Some, rules}
-use Rattle.wit_encode.proofs.{PlacedFunctions.inside-called, Refusing.name-inside, Refusing.held-inside, Refusing.kept-inside, BytesWritten.inside-more}
-use Rattle.wit_encode.proofs.{Within.type-within, Extents.bytes-few}
+use Rattle.wit_encode.proofs.{Placed.inside-called, Refusing.name-inside, Refusing.held-inside, Refusing.kept-inside, BytesWritten.inside-more, Within.type-within, Extents.bytes-few}
 use Rattle.wit_model.specs.declared.error.Error.{Error}
 use Rattle.comp_bytes.specs.RawOf.{raw_name}
 use Rattle.wit_encode.specs.Instance.{encoder_scope, around_of}

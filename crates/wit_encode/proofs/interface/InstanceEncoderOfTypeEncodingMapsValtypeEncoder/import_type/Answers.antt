@@ -1,6 +1,6 @@
 use Rattle.std.proofs.Common.{inl, sym, ap, ◌∙◌, subst, arith, Option, Some, rules, refl}
 use Rattle.std.proofs.lemmas.Option.{slice_get_within}
-use Rattle.wit_encode.proofs.{PlacedFunctions.inside-called, interface.InstanceEncoderOfTypeEncodingMapsValtypeEncoder.import_type.Goals.After-alias_inside}
+use Rattle.wit_encode.proofs.{Placed.inside-called, interface.InstanceEncoderOfTypeEncodingMapsValtypeEncoder.import_type.Goals.After-alias_inside}
 use Rattle.wit_encode.proofs.Importing.{ImportsTo, imported, imported-stands, import-source, none-outside}
 use Rattle.wit_encode.proofs.Refusing.{alias-inside, alias-outside, held-inside, on-size, kept-inside}
 use Rattle.wit_encode.proofs.BytesWritten.{imported-more, when-ok}

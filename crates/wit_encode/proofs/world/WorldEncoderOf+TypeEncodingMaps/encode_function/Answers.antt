@@ -1,16 +1,12 @@
 use Rattle.std.proofs.Common.{◌≡◌, ◌∙◌, inl, inr, true, ap, sym, subst, refl, ℕ, zero, ◌∷◌, Result, Err, rules, arith}
 use Rattle.std.proofs.lemmas.Result.{on_ok_weaker as on-each}
 use Rattle.encode_types.specs.{View.Told, Scope.Scope, Extents.name_extent, Extents.signature_extent}
-use Rattle.wit_model.specs.declared.{error.Error.Error, model.WorldItem.WorldItem, model.Resolve.Resolve}
+use Rattle.wit_model.specs.{declared.error.Error.Error, declared.model.WorldItem.WorldItem, declared.model.Resolve.Resolve, Meant.signature_of}
 use Rattle.encode_names.specs.{WorldNames.name_of_item, WorldSteps.declared_towards, WorldSteps.with_entry}
-use Rattle.wit_encode.specs.{Encoders.declared_after, WorldItems.HasShown, WorldItems.IsNext, WorldItems.entry_of, WorldItems.towards, WrittenBytes.AddsLearnt}
-use Rattle.wit_encode.specs.{Worlds.world_encoder_view, Worlds.is_sound_outside, Worlds.world_around, Places.are_beside}
+use Rattle.wit_encode.specs.{Encoders.declared_after, WorldItems.HasShown, WorldItems.IsNext, WorldItems.entry_of, WorldItems.towards, WrittenBytes.AddsLearnt, Worlds.world_encoder_view, Worlds.is_sound_outside, Worlds.world_around, Places.are_beside}
 use Rattle.comp_bytes.specs.Raw.{Declarations}
-use Rattle.wit_encode.proofs.{Places.function-beside, Places.grows-none, Places.towards-of, WorldCounting.function-defined, WorldCounting.towards-function}
-use Rattle.wit_encode.proofs.{WorldCalls.outer-slots-counted, BytesWritten.function-item, BytesWritten.learnt-more, BytesWritten.learnt-most}
+use Rattle.wit_encode.proofs.{Places.function-beside, Places.grows-none, Places.towards-of, WorldHolding.function-defined, WorldHolding.towards-function, WorldCalls.outer-slots-counted, BytesWritten.function-item, BytesWritten.learnt-more, BytesWritten.learnt-most, WrittenNames.function-names, WorldFunctions.can-encode, WorldFunctions.function-encoded, WorldFunctions.declared-few}
 use Rattle.wit_encode.proofs.WorldHolding.{function-few, function-lacks, function-name-lacks, one-key}
-use Rattle.wit_encode.proofs.{WrittenNames.function-names, WorldFunctions.can-encode, WorldFunctions.function-encoded, WorldBytes.declared-few}
-use Rattle.wit_model.specs.Meant.{signature_of}
 use Rattle.wit_model.specs.declared.error.Error.TheVariants as errors
 use Rattle.comp_bytes.specs.declared.forms.ComponentTypeRef.TheVariants as refs
 use Rattle.wit_encode.proofs.world.WorldEncoderOf+TypeEncodingMaps.encode_function.Goals as goal

@@ -1,18 +1,15 @@
 use Rattle.std.proofs.Common.{◌≡◌, ◌∙◌, ◌<◌, ◌⊎◌, ℕ, true, ap, sym, subst, length, [], ◌∷◌, Result, Err, rules, arith}
 use Rattle.std.proofs.lemmas.{Option.slice_get_within, Result.on_ok_weaker as on-each}
-use Rattle.wit_model.specs.declared.{error.Error.Error, model.Resolve.Resolve}
+use Rattle.wit_model.{specs.declared.error.Error.Error, specs.declared.model.Resolve.Resolve, specs.Lookup.interface_at, specs.Weight.whole_instance_weight}
 use Rattle.comp_bytes.specs.Raw.{Declarations}
-use Rattle.wit_encode.specs.{Places.are_beside, Encoders.InterfaceLacksRoom, Encoders.declared_after, WorldItems.entry_of, WorldItems.towards}
-use Rattle.wit_encode.specs.{Instance.EncodesInterface, Instance.LacksInstanceRoom, Instance.whole_interface, Worlds.WorldEncoder, Worlds.world_around}
-use Rattle.wit_encode.specs.{WrittenNames.NamesMore, WrittenBytes.AddsBytes, WrittenBytes.AddsLearnt, WrittenBytes.items_extent, WrittenBytes.whole_extent}
-use Rattle.wit_encode.proofs.{Places.part-beside, Places.towards-instance, WorldCounting.towards-function, WrittenNames.interface-names, Refusing.never-size}
-use Rattle.wit_encode.proofs.WorldInstances.{instance-lacks, interface-defined, interface-few, placed-lacks}
+use Rattle.wit_encode.specs.{Places.are_beside, Encoders.InterfaceLacksRoom, Encoders.declared_after, WorldItems.entry_of, WorldItems.towards, Instance.EncodesInterface, Instance.LacksInstanceRoom, Instance.whole_interface, Worlds.WorldEncoder, Worlds.world_around, WrittenNames.NamesMore, WrittenBytes.AddsBytes, WrittenBytes.AddsLearnt, WrittenBytes.items_extent, WrittenBytes.whole_extent}
+use Rattle.wit_encode.proofs.{Places.part-beside, Places.towards-instance, WorldHolding.towards-function, WrittenNames.interface-names, Refusing.never-size}
+use Rattle.wit_encode.proofs.WorldLists.{instance-lacks, interface-defined, interface-few, placed-lacks}
 use Rattle.wit_encode.proofs.WorldInterfaces.{interface-encoded, interface-there, room, used-stand}
 use Rattle.wit_encode.proofs.BytesWritten.{adds-described, interface-item, learnt-beside, learnt-most}
-use Rattle.wit_encode.proofs.WorldBytes.{declared-few}
+use Rattle.wit_encode.proofs.WorldFunctions.{declared-few}
 use Rattle.encode_names.specs.{WorldSteps.declared_towards, WorldNames.name_of_item}
 use Rattle.encode_types.specs.Known.{UsedStand, standing_instances}
-use Rattle.wit_model.specs.{Lookup.interface_at, Weight.whole_instance_weight}
 use Rattle.wit_model.specs.declared.error.Error.TheVariants as errors
 use Rattle.comp_bytes.specs.declared.forms.ComponentTypeRef.TheVariants as refs
 use Rattle.wit_encode.proofs.world.WorldEncoderOf+TypeEncodingMaps.encode_interface.Goals as goal

@@ -3,8 +3,7 @@ use Rattle.encode_types.specs.{View.Told, Scope.Scope}
 use Rattle.wit_model.specs.declared.error.Error.{Error}
 use Rattle.comp_bytes.specs.declared.forms.ComponentValType.{ComponentValType}
 use Rattle.wit_encode.specs.{WorldItems.entry_of, WorldItems.towards, Worlds.world_encoder_view, WrittenBytes.AddsLearnt}
-use Rattle.wit_encode.proofs.{WorldCounting.type-defined, WorldHolding.type-few, WorldHolding.type-lacks, WorldTypes.type-encodable, WorldTypes.type-encoded}
-use Rattle.wit_encode.proofs.{WrittenNames.type-names, BytesWritten.learnt-most, Places.grows-none, Places.types-beside}
+use Rattle.wit_encode.proofs.{WorldHolding.type-defined, WorldHolding.type-few, WorldHolding.type-lacks, WorldLists.type-encodable, WorldLists.type-encoded, WrittenNames.type-names, BytesWritten.learnt-most, Places.grows-none, Places.types-beside}
 use Rattle.wit_model.specs.declared.error.Error.TheVariants as errors
 use Rattle.wit_encode.proofs.world.WorldEncoderOf+TypeEncodingMaps.encode_type.Goals as goal
 

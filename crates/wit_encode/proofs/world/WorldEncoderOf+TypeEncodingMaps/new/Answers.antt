@@ -1,6 +1,6 @@
 use Rattle.std.proofs.Common.{refl}
 use Rattle.encode_types.proofs.Agree.{empty-agrees}
-use Rattle.wit_encode.proofs.{WorldCounting.none-defined, WorldHolding.none-held, WorldFunctions.starts}
+use Rattle.wit_encode.proofs.{WorldHolding.none-defined, WorldHolding.none-held, WorldFunctions.starts}
 use Rattle.wit_encode.proofs.world.WorldEncoderOf+TypeEncodingMaps.new.Goals as goal
 
 pub returns-clause-starts : goal.returns-clause-starts

@@ -1,7 +1,5 @@
 use Rattle.std.proofs.Common.{◌≡◌, refl, None, length}
-use Rattle.wit_encode.proofs.{Within.slot-function, world.WorldEncoderOfTypeEncodingMapsValtypeEncoder.define_function_type.Goals.After-define_function_outside}
-use Rattle.wit_encode.proofs.{WorldBrought.beside-more, WorldBrought.beside-kept, WorldCalls.after_declaring, WorldCalls.defines-function, Extents.bytes-few}
-use Rattle.wit_encode.proofs.{WorldScope.WorldCalls, Refusing.function-outside, Refusing.on-size, BytesWritten.one-more, BytesWritten.when-ok}
+use Rattle.wit_encode.proofs.{Within.slot-function, world.WorldEncoderOfTypeEncodingMapsValtypeEncoder.define_function_type.Goals.After-define_function_outside, WorldHolding.beside-more, WorldHolding.beside-kept, WorldCalls.after_declaring, WorldCalls.defines-function, Extents.bytes-few, WorldShown.WorldCalls, Refusing.function-outside, Refusing.on-size, BytesWritten.one-more, BytesWritten.when-ok}
 use Rattle.encode_types.specs.{Known.outer_slots, Standing.SlotsStand, Counts.one_function_more, Slots.DefinesFunction}
 use Rattle.wit_encode.specs.Worlds.{world_around, world_definitions, world_encoder_view, world_view}
 use Rattle.wit_encode.proofs.world.WorldEncoderOfTypeEncodingMapsValtypeEncoder.define_function_type.Goals as goal

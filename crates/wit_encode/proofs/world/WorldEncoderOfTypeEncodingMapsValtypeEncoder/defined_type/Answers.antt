@@ -1,7 +1,5 @@
 use Rattle.std.proofs.Common.{◌≡◌, refl, None, length}
-use Rattle.wit_encode.proofs.{Within.slot-defined, WorldBrought.beside-more, WorldBrought.beside-kept, WorldCalls.after_declaring, WorldCalls.defines-value}
-use Rattle.wit_encode.proofs.{WorldScope.WorldCalls, world.WorldEncoderOfTypeEncodingMapsValtypeEncoder.defined_type.Goals.After-define_outside}
-use Rattle.wit_encode.proofs.{Refusing.value-outside, Refusing.on-size, Extents.bytes-few, BytesWritten.one-more, BytesWritten.when-ok}
+use Rattle.wit_encode.proofs.{Within.slot-defined, WorldHolding.beside-more, WorldHolding.beside-kept, WorldCalls.after_declaring, WorldCalls.defines-value, WorldShown.WorldCalls, world.WorldEncoderOfTypeEncodingMapsValtypeEncoder.defined_type.Goals.After-define_outside, Refusing.value-outside, Refusing.on-size, Extents.bytes-few, BytesWritten.one-more, BytesWritten.when-ok}
 use Rattle.encode_types.specs.{Known.outer_slots, Standing.SlotsStand, Counts.one_type_more, Slots.Defines}
 use Rattle.wit_encode.specs.Worlds.{world_around, world_definitions, world_encoder_view, world_view}
 use Rattle.wit_encode.proofs.world.WorldEncoderOfTypeEncodingMapsValtypeEncoder.defined_type.Goals as goal

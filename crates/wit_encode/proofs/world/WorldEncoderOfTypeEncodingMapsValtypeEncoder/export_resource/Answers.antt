@@ -3,9 +3,7 @@ use Rattle.wit_model.specs.Tree.{here, named}
 use Rattle.comp_bytes.specs.RawOf.{raw_name}
 use Rattle.encode_types.specs.{Counts.ExportsOne, Slots.tree}
 use Rattle.wit_encode.specs.Worlds.{world_around, world_definitions, world_encoder_view, world_scope, world_view}
-use Rattle.wit_encode.proofs.{Refusing.name-outside, Refusing.on-size, BytesWritten.one-more, BytesWritten.when-ok}
-use Rattle.wit_encode.proofs.{WorldCalls.after_declaring, WorldCalls.imports-resource, WorldBrought.beside-more, WorldBrought.beside-kept, Extents.bytes-few}
-use Rattle.wit_encode.proofs.{WorldScope.WorldCalls, world.WorldEncoderOfTypeEncodingMapsValtypeEncoder.export_resource.Goals.After-import_type_outside}
+use Rattle.wit_encode.proofs.{Refusing.name-outside, Refusing.on-size, BytesWritten.one-more, BytesWritten.when-ok, WorldCalls.after_declaring, WorldCalls.imports-resource, WorldHolding.beside-more, WorldHolding.beside-kept, Extents.bytes-few, WorldShown.WorldCalls, world.WorldEncoderOfTypeEncodingMapsValtypeEncoder.export_resource.Goals.After-import_type_outside}
 use Rattle.comp_bytes.specs.declared.forms.ComponentTypeRef.TheVariants as refs
 use Rattle.wit_encode.proofs.world.WorldEncoderOfTypeEncodingMapsValtypeEncoder.export_resource.Goals as goal
 

@@ -5,9 +5,7 @@ use Rattle.wit_model.specs.declared.error.Error.{Error}
 use Rattle.encode_types.specs.{Counts.ExportsOne, Slots.tree}
 use Rattle.wit_encode.specs.Encoders.{declared_after}
 use Rattle.wit_encode.specs.Worlds.{world_around, world_definitions, world_encoder_view, world_scope, world_view}
-use Rattle.wit_encode.proofs.{Refusing.name-outside, Refusing.on-size, Extents.bytes-few}
-use Rattle.wit_encode.proofs.{WorldCalls.after_declaring, WorldCalls.imports-type, WorldBrought.beside-more, WorldBrought.beside-kept, BytesWritten.one-more}
-use Rattle.wit_encode.proofs.{WorldScope.WorldCalls, world.WorldEncoderOfTypeEncodingMapsValtypeEncoder.export_type.Goals.After-import_type_outside}
+use Rattle.wit_encode.proofs.{Refusing.name-outside, Refusing.on-size, Extents.bytes-few, WorldCalls.after_declaring, WorldCalls.imports-type, WorldHolding.beside-more, WorldHolding.beside-kept, BytesWritten.one-more, WorldShown.WorldCalls, world.WorldEncoderOfTypeEncodingMapsValtypeEncoder.export_type.Goals.After-import_type_outside}
 use Rattle.wit_model.specs.declared.error.Error.TheVariants as errors
 use Rattle.comp_bytes.specs.declared.forms.ComponentTypeRef.TheVariants as refs
 use Rattle.wit_encode.proofs.world.WorldEncoderOfTypeEncodingMapsValtypeEncoder.export_type.Goals as goal

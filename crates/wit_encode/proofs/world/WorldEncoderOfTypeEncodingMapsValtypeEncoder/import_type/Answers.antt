@@ -2,9 +2,8 @@ use Rattle.std.proofs.Common.{ℕ, Result, Ok, Err, IfOk, OnOk, arith}
 use Rattle.std.proofs.lemmas.Option.{slice_get_within}
 use Rattle.encode_types.specs.Known.{as_before}
 use Rattle.wit_encode.specs.{Instance.around_at, Worlds.world_around, Worlds.world_encoder_view, Worlds.world_view}
-use Rattle.wit_encode.proofs.{AliasesKept.known-reached, WorldCalls.WorldImports, WorldCalls.world-imports, WorldCalls.world-source, BytesWritten.reached-more}
-use Rattle.wit_encode.proofs.{Refusing.alias-behind, Refusing.on-size, world.WorldEncoderOfTypeEncodingMapsValtypeEncoder.import_type.Goals.After-reach}
-use Rattle.wit_encode.proofs.WorldBrought.{reached-beside, reached-kept}
+use Rattle.wit_encode.proofs.{Aliases.known-reached, WorldCalls.WorldImports, WorldCalls.world-imports, WorldCalls.world-source, BytesWritten.reached-more, Refusing.alias-behind, Refusing.on-size, world.WorldEncoderOfTypeEncodingMapsValtypeEncoder.import_type.Goals.After-reach}
+use Rattle.wit_encode.proofs.WorldHolding.{reached-beside, reached-kept}
 use Rattle.wit_encode.proofs.world.WorldEncoderOfTypeEncodingMapsValtypeEncoder.import_type.Goals as goal
 
 imports : (c : After-reach)

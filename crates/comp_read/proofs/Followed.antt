@@ -1,21 +1,31 @@
 -- Instances of worlds stand under their keys, imports are counted, and what interfaces import is bare.
-use Rattle.std.proofs.Common.{◌≡◌, ap, ◌∙◌, refl, sym, subst, ℕ, arith, true, false, not, ◌&&◌, List, [], ◌∷◌, map, Some, None, is_none, slice_get}
+use Rattle.std.proofs.Common.{◌≡◌, ap, ◌∙◌, ℕ, ◌≤◌, arith, List, length, Some, None, refl, sym, subst, true, false, not, ◌&&◌, [], ◌∷◌, map, is_none, slice_get}
 use Rattle.std.proofs.lemmas.Option.{slice_get_within, same_Some as same-some}
-use Rattle.std.specs.List.{AllByRecursion, AllZip, Contains, flat_map}
-use Rattle.wit_model.specs.Text.{Text}
-use Rattle.comp_bytes.specs.{Levels.PartType, Levels.Piece, Levels.shows, Levels.wraps, Reading.◌>>=◌}
-use Rattle.comp_bytes.proofs.Readers.{bind_some, when_some}
-use Rattle.comp_meaning.specs.{ByLevels.entry_scope, Follow.is_filled}
-use Rattle.plan_meaning.specs.NumberedMembers.{Homes, NumberedMember, imported_view}
-use Rattle.plan_meaning.specs.NumberedViews.{NumberedView, Tables}
-use Rattle.plan_meaning.specs.NumberedWorlds.{NumberedScope, NumberedSeen, NumberedShown, Shows, seen_of, shown_of}
-use Rattle.read_follow.specs.declared.scopes.{Seen.Seen as FollowedSeen, Shown.Shown as FollowedShown}
+use Rattle.wit_model.specs.{Names.read_path, Text.Text}
+use Rattle.comp_bytes.specs.{Levels.Piece, Levels.levels_of, Levels.PartType, Levels.shows, Levels.wraps, Reading.◌>>=◌}
+use Rattle.read_follow.specs.declared.{refusal.Refusal.Refusal, scopes.Seen.Seen as FollowedSeen, scopes.Shown.Shown as FollowedShown}
+use Rattle.read_follow.specs.Found.{Refuses}
 use Rattle.read_parts.specs.declared.{following.Followed.Followed, members.FollowedPart.FollowedPart, members.Member.Member as FollowedMember}
-use Rattle.read_parts.specs.{Followed.PartScope, Followed.labelled_scope, Followed.part_scope, Followed.world_path, Members.scope_of}
-use Rattle.read_members.specs.PartMembers.{IsMemberOf, IsPartOf}
+use Rattle.comp_meaning.specs.{Follow.each, Follow.is_filled, Reads.package_of_members, Reads.world_of_members, ByLevels.entry_scope}
+use Rattle.read_parts.specs.Followed.{member_of_scope, scopes_of, PartScope, labelled_scope, part_scope, world_path}
+use Rattle.read_parts.specs.{Input.IsFollowed, Members.scope_of}
+use Rattle.read_parts.proofs.CountLaws.{parts_fit}
 use Rattle.read_numbers.specs.NumberedInput.{tables_of, MemberShown, PartShown}
 use Rattle.read_numbers.specs.NumberedParts.{instance_view, numbered_scope as followed_scope, numbered_seen as followed_seen, numbered_shown as followed_shown, name_in}
 use Rattle.read_numbers.specs.PlacedNumbers.{IsCountedItem, IsPlacedScope}
+use Rattle.read_members.specs.{ReadMembers.Because, ReadMembers.members_meant, PartMembers.IsMemberOf, PartMembers.IsPartOf}
+use Rattle.read_members.proofs.{DecidedLaws.by_members as package_by_members, DecidedWorldLaws.by_members as world_by_members}
+use Rattle.read_homes.specs.Homes.{ArePaths}
+use Rattle.comp_read.specs.declared.wanted.Wanted.{Wanted}
+use Rattle.comp_read.specs.{SomeFollowed.IsSomeFollowed, ReadInput.IsReadInput}
+use Rattle.comp_read.specs.{WantedFound.MeansNone, FollowedWorlds.ReadImportsAreBare, FollowedWorlds.ReadPlacesAreMet, FollowedWorlds.ReadWorldsAreFollowed}
+use Rattle.base_lemmas.proofs.{Options.there, Elements.contains-map, Elements.get-contains, Elements.zip_at as zip_there, Elements.zip_at_right as zip_at}
+use Rattle.base_lemmas.proofs.{Bools.right_of as second_true, Lists.within_there as slice_there}
+use Rattle.std.specs.List.{AllByRecursion, AllZip, Contains, flat_map}
+use Rattle.comp_bytes.proofs.Readers.{bind_some, when_some}
+use Rattle.plan_meaning.specs.NumberedMembers.{Homes, NumberedMember, imported_view}
+use Rattle.plan_meaning.specs.NumberedViews.{NumberedView, Tables}
+use Rattle.plan_meaning.specs.NumberedWorlds.{NumberedScope, NumberedSeen, NumberedShown, Shows, seen_of, shown_of}
 use Rattle.read_numbers.proofs.{ImportOrder.imports_come_last, InputNumbers.input_in_numbers}
 use Rattle.read_exports.specs.{Interfaces.Placed, Members.numbered_member, Members.numbered_part}
 use Rattle.read_exports.specs.declared.members.{Member.Member, Part.Part}
@@ -26,12 +36,11 @@ use Rattle.plan_type_laws.proofs.Walks.{all_flat}
 use Rattle.plan_laws.proofs.{Planned.view_met, Showings.all_given}
 use Rattle.plan_laws.specs.WholeCondition.{PartIsBare}
 use Rattle.plan_laws.specs.WholeWorlds.{ImportsAreCounted, IsCounted, IsUnderKey, WorldIsFollowed}
-use Rattle.comp_read.specs.{FollowedWorlds.ReadImportsAreBare, FollowedWorlds.ReadPlacesAreMet, FollowedWorlds.ReadWorldsAreFollowed, ReadInput.IsReadInput}
 use Rattle.comp_read.proofs.{ByScopes.scopes_found, Inputs.keys_differ, Lists.all_beside, Places.world_at}
 use Rattle.comp_read.proofs.{InterfaceViews.each_beside, InterfaceViews.shown_as, KeyLabels.HasLabel, KeyLabels.HaveLabels, KeyLabels.entry_labels}
 use Rattle.comp_read.proofs.Members.{IsBoth, IsWorldRead, both_at, both_there, part_viewed, placed, scope_in, world_read, world_scope}
-use Rattle.base_lemmas.proofs.{Bools.right_of as second_true, Lists.within_there as slice_there}
-use Rattle.base_lemmas.proofs.Elements.{contains-map, get-contains, zip_at as zip_there, zip_at_right as zip_at}
+use Rattle.read_follow.specs.declared.refusal.Refusal.TheVariants as refusals
+use Rattle.comp_read.specs.declared.wanted.Wanted.TheVariants as wanted
 use Rattle.comp_meaning.specs.Follow as follow
 use Rattle.comp_meaning.specs.Reads as reads
 use Rattle.plan_meaning.specs.NumberedWorlds as worlds
@@ -40,6 +49,34 @@ use Rattle.read_follow.specs.declared.scopes.Shown.TheVariants as shown
 use Rattle.read_parts.specs.declared.members.FollowedPart.TheVariants as followed
 use Rattle.read_parts.specs.Followed as scopes
 use Rattle.read_exports.specs.declared.members.Part.TheVariants as parts
+
+-- ---- What was followed of the sections of an input.
+
+-- each path is one
+pub are_paths : (x : Followed) → IsSomeFollowed x → ArePaths x.places
+are_paths x is = λ p path at. there (read_path path) (is.followed.followed.paths_read p path at)
+
+-- there are no more types than bytes
+pub few_followed : (bytes : List ℕ) (pieces : List Piece) (x : Followed) → IsFollowed pieces x → levels_of bytes ≡ Some pieces → length (tables_of x).shapes ≤ length bytes
+few_followed bytes pieces x is read =
+    let fit = parts_fit bytes pieces is.parts read is.exported in
+    let count = is.followed.count in
+    omega (arith, fit, count)
+
+-- where nothing was followed, and where no members are meant, there is no package and no world
+pub none_meant : (wanted : Wanted) (pieces : List Piece) → members_meant pieces ≡ None → MeansNone wanted (Some pieces)
+none_meant wanted.Package pieces none = package_by_members pieces ∙ ap (λ o. o >>= package_of_members) none
+none_meant wanted.World pieces none = world_by_members pieces ∙ ap (λ o. o >>= world_of_members) none
+
+pub none_followed : (wanted : Wanted) (pieces : List Piece) (e : Refusal) → Refuses e (scopes_of pieces) → Because e (MeansNone wanted (Some pieces))
+none_followed w pieces refusals.Memory none = tt
+none_followed w pieces (refusals.Absent cause left) none = none_meant w pieces (ap (λ o. o >>= each member_of_scope) none)
+
+pub none_read : (wanted : Wanted) (pieces : List Piece) (e : Refusal) (fact : Type 0) → (fact → members_meant pieces ≡ None) → Because e fact → Because e (MeansNone wanted (Some pieces))
+none_read w pieces refusals.Memory fact none is = tt
+none_read w pieces (refusals.Absent cause left) fact none is = none_meant w pieces (none is)
+
+-- ---- what the page is for
 
 -- ---- keys
 

@@ -1,18 +1,22 @@
--- Items that are copied where their keys are new join those that were there.
-use Rattle.std.proofs.Common.{◌≡◌, refl, sym, ap, ap₂, ◌∙◌, ℕ, zero, suc, Bool, true, false, not, ◌==◌, ◌||◌, cond, List, [], ◌∷◌, map, option_map}
+-- Names that a package gains join those that it had.
+use Rattle.std.proofs.Common.{◌≡◌, refl, sym, ap, ap₂, ◌∙◌, ℕ, zero, suc, Bool, true, false, not, ◌==◌, ◌||◌, cond, List, [], ◌∷◌, map, option_map, ◌⊎◌, inl, inr, subst, Some, slice_get}
 use Rattle.std.proofs.lemmas.Simd.{map-map}
-use Rattle.std.specs.List.{filter, list_all, list_any, AllZip}
+use Rattle.std.specs.{List.filter, List.list_all, List.list_any, List.AllZip, List.Contains, Prelude.String}
 use Rattle.wit_model.specs.declared.model.{Function.Function, FunctionKind.FunctionKind, «Type».«Type» as ValueType, WorldItem.WorldItem, WorldKey.WorldKey}
 use Rattle.wit_model.specs.declared.model.Param.{Param}
 use Rattle.wit_model.specs.{Parts.function_numbers, Text.Text, Text.text_of}
 use Rattle.bind_copy.specs.Copies.{is_key_under, is_new_under, number_under, IsEntryUnder, IsFunctionUnder, IsItemUnder, IsKeyUnder, call_under as call_under_numbers}
 use Rattle.bind_union.specs.{Carried.call_under, Carried.ItemBecomes, Carried.IsFunctionCopy, Carried.KeyBecomes, Carried.Renumbering, Views.renamed_type}
-use Rattle.bind_union.specs.Joined.{is_new, same_key, Joined}
+use Rattle.bind_union.specs.{Joined.is_new, Joined.same_key, Joined.Joined, Merged.is_name, Merged.JoinedNames}
 use Rattle.bind_carry.specs.ReadyItems.{AreReady, IsItemReady, IsKeyReady}
+use Rattle.std.specs.declared.alloc.Global.{Global}
 use Rattle.wit_model.specs.declared.model.FunctionKind.TheVariants as call
 use Rattle.wit_model.specs.declared.model.WorldItem.TheVariants as item
 use Rattle.wit_model.specs.declared.model.WorldKey.TheVariants as key
 use Rattle.bind_union.specs.Joined as joined
+use Rattle.bind_union.specs.Merged as names
+
+-- ---- Items that are copied where their keys are new join those that were there.
 
 module _ (f : Renumbering) (types : List ℕ) (by_type : number_under types ≡ f.types) where
   -- ---- functions
@@ -96,3 +100,43 @@ module _ (f : Renumbering) (interfaces types : List ℕ) (by_interface : (n : �
             let r = ready.new_ready zero e refl q in
             joined.added e x es xs (sym (new_same own e.0 r.0) ∙ q) (key_becomes e.0 x.0 zip.0.0 r.0, item_becomes e.1 x.1 zip.0.1 r.1) (more xs zip.1)
         go false q xs zip more = let m = ready.met zero e refl q in joined.met e m.there es xs m.in_own m.becomes m.stands (more xs zip)
+
+-- ---- what the page is for
+
+module _ {V : Type 0} (id_of : V → ℕ) (number : ℕ → ℕ) (copies left_out : ℕ → Bool) (p : String Global × V → Bool) (own : List (Text × ℕ)) where
+  abbrev named : List (String Global × V) → List (Text × ℕ)
+  named es = map (λ (e : String Global × V). (text_of e.0, id_of e.1)) es
+
+  -- a name with the number that it has from now on
+  abbrev pub IsNameUnder : String Global × V → String Global × V → Type 0
+  IsNameUnder old new = (text_of new.0 ≡ text_of old.0) × (id_of new.1 ≡ number (id_of old.1))
+
+  -- What passes is copied, and under a name that wasn't there; the rest was there, or is left out.
+  pub record AreNamesReady (es : List (String Global × V)) : Type 0 where
+    pub added : (n : ℕ) (e : String Global × V) → slice_get es n ≡ Some e → p e ≡ true → (copies (id_of e.1) ≡ true) × (left_out (id_of e.1) ≡ false) × (is_name (text_of e.0) own ≡ false)
+    pub there : (n : ℕ) (e : String Global × V) → slice_get es n ≡ Some e → p e ≡ false → Contains own (text_of e.0, number (id_of e.1)) ⊎ (left_out (id_of e.1) ≡ true)
+
+  later : (e : String Global × V) (es : List (String Global × V)) → AreNamesReady (e ∷ es) → AreNamesReady es
+  later e es ready = record { added = λ n x at. ready.added (suc n) x at; there = λ n x at. ready.there (suc n) x at }
+
+  pub names_join : (es news : List (String Global × V)) → AllZip IsNameUnder (filter p es) news → AreNamesReady es → JoinedNames number copies left_out own (named es) (named news)
+  names_join [] [] zip ready = names.none
+  names_join [] (x ∷ xs) zip ready = absurd zip
+  names_join (e ∷ es) news zip ready = go (p e) refl news zip (λ xs rest. names_join es xs rest (later e es ready))
+    where
+      go : (b : Bool) → p e ≡ b → (xs : List (String Global × V)) → AllZip IsNameUnder (cond b (e ∷ filter p es) (filter p es)) xs
+          → ((ys : List (String Global × V)) → AllZip IsNameUnder (filter p es) ys → JoinedNames number copies left_out own (named es) (named ys))
+          → JoinedNames number copies left_out own (named (e ∷ es)) (named xs)
+      go true q [] zip more = absurd zip
+      go true q (x ∷ xs) zip more =
+          let a = ready.added zero e refl q in
+          let text : text_of e.0 ≡ text_of x.0 = sym zip.0.0 in
+          let same : number (id_of e.1) ≡ id_of x.1 = sym zip.0.1 in
+          subst (λ (y : Text × ℕ). JoinedNames number copies left_out own (named (e ∷ es)) (y ∷ named xs)) (λ i. (text i, same i))
+          (names.added (text_of e.0) (id_of e.1) (named es) (named xs) a.0 a.1 a.2 (more xs zip.1))
+      go false q xs zip more =
+          elim (ready.there zero e refl q) [
+            | inl c ↦ names.met (text_of e.0) (id_of e.1) (named es) (named xs) c (more xs zip)
+            | inr l ↦
+                names.left (text_of e.0) (id_of e.1) (named es) (named xs) l (more xs zip)
+          ]

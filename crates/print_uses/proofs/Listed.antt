@@ -1,24 +1,26 @@
--- The types that stand in an owner's list, as uses and as declarations.
-use Rattle.std.proofs.Common.{◌≡◌, refl, sym, ap, subst, ◌∙◌, ℕ, Bool, true, false, ◌&&◌, ◌||◌, List, [], ◌∷◌, ◌++◌, map, filter_map, Option, Some, None, option_and_then, if◌then◌else◌}
-use Rattle.std.proofs.lemmas.{Bool.lt-ltb, Bool.and_from as both, Option.slice_get_within}
-use Rattle.std.specs.{Prelude.is_some, Prelude.option_map, Option.option_map_or, List.list_all, List.cons_option}
+-- One type of an owner's list after the other is printed.
+use Rattle.std.proofs.Common.{◌≡◌, refl, sym, ap, subst, ◌∙◌, ℕ, Bool, true, false, ◌&&◌, ◌||◌, List, [], ◌∷◌, ◌++◌, map, filter_map, Option, Some, None, option_and_then, if◌then◌else◌, ◌+◌, ◌<◌, length, drop, get_or}
+use Rattle.std.proofs.lemmas.{Bool.lt-ltb, Bool.and_from as both, Option.slice_get_within, List.drop_more}
+use Rattle.std.specs.{Prelude.is_some, Prelude.option_map, Option.option_map_or, List.list_all, List.cons_option, Borrow.Bor}
 use Rattle.wit_model.specs.declared.model.{Resolve.Resolve, TypeDef.TypeDef, TypeId.TypeId}
 use Rattle.wit_model.specs.declared.model.{Interface.Interface, InterfaceId.InterfaceId, PackageId.PackageId, Function.Function, TypeOwner.TypeOwner}
 use Rattle.wit_model.specs.{Names.is_label, Parts.same_owner, Text.Text, Text.text_of}
 use Rattle.wit_model.specs.{Lookup.interface_at, Lookup.type_at, Rules.has_items, Rules.in_list, Rules.is_stability, Rules.passes, Valid.IsValid, Valid.labels}
-use Rattle.print_output.specs.OutputCall.{OutputCall}
+use Rattle.print_output.specs.OutputCall.{OutputCall, View, Moves, Begins}
 use Rattle.print_grammar.specs.{Tree.MemberTree, Tree.PathTree, Tree.MemberTree.TypeMember, Calls.members_calls, Calls.printed_after}
 use Rattle.print_grammar.specs.WellNamed.{are_well_some, is_well_declared, is_well_gates, is_well_prefix, is_well_used}
 use Rattle.print_items.specs.Shown.{DeclaredWith, Listed, Used, declared_with, shown_declarations, shown_declared, shown_gates, shown_path, shown_prefix, used_of}
 use Rattle.print_uses.specs.Printable.{declaration_of, is_printable_type}
-use Rattle.print_uses.specs.UseGroups.{declared_members, is_listed_type, is_printable_use, listed_declaration, listed_use, listed_use_calls, shown_use, use_after, use_members, uses_calls}
+use Rattle.print_uses.specs.UseGroups.{declared_members, is_listed_type, is_printable_use, listed_declaration, listed_use, listed_use_calls, shown_use, use_after, use_members, uses_calls, listed_of}
 use Rattle.print_uses.specs.declared.use_group.Use.{Use}
-use Rattle.print_uses.proofs.{Declarations.declaration_at, ValidOwners.is_named_interface}
+use Rattle.print_uses.proofs.Declarations.{declaration_at}
+use Rattle.print_uses.proofs.Valid.{is_named_interface, declared_well, is_known_function, is_known_use, path_well, use_known}
 use Rattle.print_uses.proofs.UseGroups.{listed_plain, next_some, next_use, uses_grouped, uses_printed}
-use Rattle.print_uses.proofs.{ValidDeclared.declared_well, ValidDeclared.is_known_function, ValidUses.is_known_use, ValidUses.path_well, ValidUses.use_known}
-use Rattle.print_items.proofs.{ShownWell.shown_prefix_well, TypesWell.name_well, TypesWell.type_rule}
-use Rattle.base_lemmas.proofs.Bools.{left_of, right_of}
+use Rattle.print_items.proofs.{ShownWell.shown_prefix_well, TypesWell.name_well, TypesWell.type_rule, Moves.Going, Moves.made_on, Moves.refused_in}
+use Rattle.base_lemmas.proofs.{Bools.left_of, Bools.right_of, Lists.within_there as one_there}
 use Rattle.wit_model.specs.declared.model.TypeOwner.TheVariants as owner
+
+-- ---- The types that stand in an owner's list, as uses and as declarations.
 
 module _ (r : Resolve) where
   -- ---- a use that can be printed
@@ -132,3 +134,57 @@ module _ (r : Resolve) where
 pub some_mapped : (u : Option Use) → is_some (option_map shown_use u) ≡ is_some u
 some_mapped None = refl
 some_mapped (Some u) = refl
+
+-- ---- what the page is for
+
+-- a type under its name
+abbrev entry : Bor Text × TypeId → Listed
+entry t = record { name = t.0.now; id = t.1 }
+
+module _ (ts : List (Bor Text × TypeId)) (i : ℕ) (d : Bor Text × TypeId) (within : i < length ts) where
+  at_place : listed_of (drop i ts) ≡ entry (get_or ts i d) ∷ listed_of (drop (i + 1) ts)
+  at_place = ap listed_of (drop_more ts i d within)
+
+  module _ (r : Resolve) (o : TypeOwner) where
+    pub known_here : list_all (is_listed_type r o) (listed_of (drop i ts)) ≡ true → is_listed_type r o (entry (get_or ts i d)) ≡ true
+    known_here h = left_of _ _ (subst (λ ls. list_all (is_listed_type r o) ls ≡ true) at_place h)
+
+    known_then : list_all (is_listed_type r o) (listed_of (drop i ts)) ≡ true → list_all (is_listed_type r o) (listed_of (drop (i + 1) ts)) ≡ true
+    known_then h = right_of (is_listed_type r o (entry (get_or ts i d))) _ (subst (λ ls. list_all (is_listed_type r o) ls ≡ true) at_place h)
+
+    -- ---- uses
+
+    module _ (path : InterfaceId → PathTree) (before : Option Used) where
+      uses_next : uses_calls path before (filter_map (listed_use r o) (listed_of (drop i ts)))
+          ≡ listed_use_calls path before (listed_use r o (entry (get_or ts i d))) ++ uses_calls path (use_after before (listed_use r o (entry (get_or ts i d))))
+          (filter_map (listed_use r o) (listed_of (drop (i + 1) ts)))
+      uses_next = ap (λ ls. uses_calls path before (filter_map (listed_use r o) ls)) at_place ∙ next_listed_use r o path before (entry (get_or ts i d)) (listed_of (drop (i + 1) ts))
+
+      pub use_made : {Kept : Type 0} {keeps : View Kept → OutputCall → Kept} {all : List OutputCall} {old now new : View Kept} (after : Option Used)
+          → Going keeps (uses_calls path before (filter_map (listed_use r o) (listed_of (drop i ts)))) all old now
+          → after ≡ use_after before (listed_use r o (entry (get_or ts i d)))
+          → Moves keeps now (listed_use_calls path before (listed_use r o (entry (get_or ts i d)))) new
+          → Going keeps (uses_calls path after (filter_map (listed_use r o) (listed_of (drop (i + 1) ts)))) all old new
+      use_made after g e m =
+          made_on (listed_use_calls path before (listed_use r o (entry (get_or ts i d)))) (uses_calls path after (filter_map (listed_use r o) (listed_of (drop (i + 1) ts)))) g
+          (uses_next ∙ ap (λ b. listed_use_calls path before (listed_use r o (entry (get_or ts i d))) ++ uses_calls path b (filter_map (listed_use r o) (listed_of (drop (i + 1) ts)))) (sym e)) m
+
+      pub use_refused : {Kept : Type 0} {keeps : View Kept → OutputCall → Kept} {all : List OutputCall} {old now new : View Kept}
+          → Going keeps (uses_calls path before (filter_map (listed_use r o) (listed_of (drop i ts)))) all old now
+          → Begins keeps now (listed_use_calls path before (listed_use r o (entry (get_or ts i d)))) new
+          → Begins keeps old all new
+      use_refused g b =
+          refused_in (listed_use_calls path before (listed_use r o (entry (get_or ts i d))))
+          (uses_calls path (use_after before (listed_use r o (entry (get_or ts i d)))) (filter_map (listed_use r o) (listed_of (drop (i + 1) ts)))) g uses_next b
+
+    pub uses_some : (before after : Option Used) (all : Bool) → (is_some before || has_items (filter_map (listed_use r o) (listed_of (drop i ts)))) ≡ all
+        → after ≡ use_after before (listed_use r o (entry (get_or ts i d))) → (is_some after || has_items (filter_map (listed_use r o) (listed_of (drop (i + 1) ts)))) ≡ all
+    uses_some before after all h e =
+        ap (λ b. is_some b || has_items (filter_map (listed_use r o) (listed_of (drop (i + 1) ts)))) e
+        ∙ sym (next_listed_some r o before (entry (get_or ts i d)) (listed_of (drop (i + 1) ts)))
+        ∙ ap (λ ls. is_some before || has_items (filter_map (listed_use r o) ls)) (sym at_place)
+        ∙ h
+
+pub known_after : (ts : List (Bor Text × TypeId)) (i : ℕ) → i < length ts → (r : Resolve) (o : TypeOwner) → list_all (is_listed_type r o) (listed_of (drop i ts)) ≡ true
+    → list_all (is_listed_type r o) (listed_of (drop (i + 1) ts)) ≡ true
+known_after ts i within r o h = let there = one_there ts i within in known_then ts i there.0 within r o h

@@ -1,22 +1,25 @@
--- Both passes together are a merge, where packages stand and no list is too long.
-use Rattle.std.proofs.Common.{◌≡◌, refl, sym, ap, subst, ◌∙◌, ℕ, zero, suc, ◌+◌, ◌<◌, arith, Bool, true, false, not, ◌||◌, List, [], ◌∷◌, ◌++◌, length, map, Option, Some, None, is_none, is_some, option_map, slice_get}
-use Rattle.std.proofs.lemmas.{Bool.or_left, List.length-map}
-use Rattle.std.specs.{Prelude.String, Option.option_map_or}
+-- What a union adds, once it is added, is merged.
+use Rattle.std.proofs.Common.{◌≡◌, refl, sym, ap, subst, ◌∙◌, ℕ, zero, suc, ◌+◌, ◌<◌, arith, Bool, true, false, not, ◌||◌, List, [], ◌∷◌, ◌++◌, length, map, Option, Some, None, is_none, is_some, option_map, slice_get, ◌≤◌}
+use Rattle.std.proofs.lemmas.{Bool.or_left, List.length-map, List.length-append}
+use Rattle.std.specs.{Prelude.String, Prelude.slice_set, Option.option_map_or}
 use Rattle.std.specs.declared.alloc.Global.{Global}
 use Rattle.wit_model.specs.declared.model.{Interface.Interface, PackageName.PackageName, Resolve.Resolve, World.World, WorldId.WorldId}
 use Rattle.wit_model.specs.{Lookup.interface_at, Rules.package_number}
 use Rattle.bind_copy.specs.Copies.{number_under}
-use Rattle.bind_match.specs.Matching.{is_root_world}
+use Rattle.bind_match.specs.Matching.{is_root_world, own_interface_of, own_package_of, own_world_of}
 use Rattle.bind_union.specs.{Carried.IsInterface, Carried.IsSameName, Joined.IsJoined, Merged.AreCopies}
 use Rattle.bind_union.proofs.Lists.{no_true}
-use Rattle.bind_carry.specs.{First.first_fates, First.flag_under, Renumbered.first_of, Renumbered.is_matched, Which.new_worlds}
-use Rattle.bind_carry.specs.{Numbers.interface_number, Numbers.numbers_of, SecondPass.second_pass_of, SecondPass.PassesAreMerged, Whole.IsInterfaceCarried}
-use Rattle.bind_carry.proofs.{CopiesPlaced.some_same, KeptPlaced.kept_placed}
-use Rattle.bind_carry.proofs.{FirstCopies.copied_behind, FirstCopies.first_is_copied, NothingElse.interface_from, NothingElse.type_from, NothingElse.world_from}
-use Rattle.bind_carry.proofs.{FirstInterfaces.home_number, FirstPackages.grown_name, PackagesFrom.package_from, SecondBound.bound_stands}
-use Rattle.bind_carry.proofs.{FirstWorldsCopied.first_worlds_are_copied, SecondCarried.second_is_copied, SecondKnown.copied_long, SecondKnown.long}
+use Rattle.bind_carry.specs.{First.first_fates, First.flag_under, Renumbered.first_of, Renumbered.is_matched, Which.new_worlds, Which.AreMatchedAll}
+use Rattle.bind_carry.specs.{Numbers.interface_number, Numbers.numbers_of, SecondPass.second_pass_of, SecondPass.PassesAreMerged, MergedUnion.UnionsAreMerged}
+use Rattle.bind_carry.specs.Whole.{IsInterfaceCarried}
+use Rattle.bind_carry.proofs.{CopiesPlaced.some_same, KeptPlaced.kept_placed, FirstInterfaces.home_number, PackagesFrom.package_from}
+use Rattle.bind_carry.proofs.{FirstWorlds.copied_behind, FirstWorlds.first_is_copied, NothingElse.interface_from, NothingElse.type_from, NothingElse.world_from}
+use Rattle.bind_carry.proofs.{FirstOfUnion.grown_name, FirstOfUnion.set_count, FirstOfUnion.unions_have_the_second, FirstWorldsCopied.first_worlds_are_copied}
+use Rattle.bind_carry.proofs.{SecondBound.bound_stands, SecondCarried.second_is_copied, SecondKnown.copied_long, SecondKnown.long, PackagesStand.package_stands}
 use Rattle.bind_carry.proofs.SecondInterfaces.{carried_number, copied_carries, copied_there, inline_at, inline_place, path_low}
 use Rattle.base_lemmas.proofs.{Bools.right_of as second_true, Lists.front_at, Numbers.equal}
+
+-- ---- Both passes together are a merge, where packages stand and no list is too long.
 
 -- a world that is copied isn't left out
 not_root : (r : Resolve) (ms : List (Option WorldId)) (ws : List World) (n : ℕ) → flag_under (new_worlds r ms ws) n ≡ true → option_map_or (is_root_world r) (slice_get ws n) false ≡ false
@@ -121,3 +124,26 @@ passes_are_merged own other merged world other_world w v m c first_numbers p cop
         let place = inline_place own other merged valid_own valid_other world other_world w v m c first_numbers p copied interfaces types s k x.old x.found set in
         let at_place = inline_at own other merged valid_own valid_other world other_world w v m c first_numbers p copied interfaces types s k x.old x.found set in
         ap (λ (y : Interface). package_number y.«package») (some_same x.image place.image (sym x.at_image ∙ at_place)) ∙ ap package_number place.is.in_package
+
+-- ---- what the page is for
+
+-- as long as two lists together
+both_long : {X : Type 0} (merged own front added : List X) → merged ≡ front ++ added → length front ≡ length own → length own + length added ≤ 4294967295 → length merged ≤ 4294967295
+both_long merged own front added e same few = subst (λ (k : ℕ). k ≤ 4294967295) (sym (ap length e ∙ (length-append front added ∙ ap (λ k. k + length added) same))) few
+
+pub unions_are_merged : UnionsAreMerged
+unions_are_merged own other merged world other_world m w v added keys u valid_own valid_other a few at other_at by_name interfaces_by worlds_by same none agree no_world no_interface =
+    let all : AreMatchedAll other m = record {
+      packages = ap length by_name ∙ length-map other.packages.items (own_package_of own.packages.items);
+      interfaces = ap length interfaces_by ∙ length-map other.interfaces.items (own_interface_of own m.packages.items);
+      worlds = ap length worlds_by ∙ length-map other.worlds.items (own_world_of own m.packages.items);
+    } in
+    let passes = unions_have_the_second own other merged world other_world m w v added keys u a at other_at agree all by_name same none in
+    passes_are_merged own other merged world other_world w v m u.carried u.types passes.0 u.second.copied u.second.interfaces u.second.types valid_own valid_other passes.1 (record {
+      few_packages = both_long merged.packages.items own.packages.items a.packages.0 added.packages.items a.packages.2 a.packages.1.count few.packages;
+      few_interfaces = both_long merged.interfaces.items own.interfaces.items own.interfaces.items added.interfaces.items a.interfaces refl few.interfaces;
+      few_worlds = both_long merged.worlds.items own.worlds.items (slice_set own.worlds.items world (a.worlds w at).0) added.worlds.items (a.worlds w at).2
+          (set_count own.worlds.items world (a.worlds w at).0) few.worlds;
+      few_types = both_long merged.types.items own.types.items own.types.items added.types.items a.types refl few.types;
+      packages_stand = package_stands own other merged valid_own valid_other m u.carried u.types passes.0 passes.1.names interfaces_by worlds_by no_world no_interface;
+    })

@@ -1,25 +1,84 @@
 -- A component in which the component types of a package have no room: the package is too heavy.
-use Rattle.std.proofs.Common.{◌≡◌, ◌≤◌, ◌<◌, ◌+◌, refl, sym, ap, subst, ◌∙◌, ℕ, zero, suc, Bool, false, List, [], ◌∷◌, ◌++◌, append-nil, length, length-append, option_map, option_to_list, Option, Some, arith}
+use Rattle.std.proofs.Common.{◌≡◌, ◌<◌, ◌≤◌, ◌+◌, inl, inr, refl, sym, ap, subst, ◌∙◌, Bool, false, ◌&&◌, List, [], ◌∷◌, ◌++◌, append_assoc, Some, ℕ, zero, suc, append-nil, length, length-append, option_map, option_to_list, Option, arith}
 use Rattle.std.proofs.lemmas.Bool.{lt-ltb}
 use Rattle.std.proofs.lemmas.List.{Elements.Contains-append_left, Elements.Contains-append_right, Sums.sum_by-cons, Sums.sum_by-append}
+use Rattle.wit_model.specs.{Text.Text, Text.text_of, Names.PackageIdentity, Names.path_in, Valid.IsValid}
+use Rattle.wit_model.specs.Lookup.{interface_path, world_at, identity_of, package_at, path_in_package, path_of_world}
+use Rattle.wit_model.specs.Weight.{interface_weight, exported_weight, package_weight, unit_of, world_weight, wrapped_weight}
+use Rattle.wit_model.specs.declared.model.{Resolve.Resolve, World.World, Package.Package, PackageId.PackageId}
+use Rattle.comp_bytes.specs.{Raw.Declarations, Raw.TopType, Raw.declaration_count, Parts.Part, Parts.fits_component, Parts.plain_export, Parts.top_slots}
+use Rattle.comp_bytes.specs.Writing.{u32_bytes, name_bytes, declarations_bytes}
+use Rattle.encode_exports.specs.ExportedParts.{one_exported, exporting_from}
+use Rattle.encode_exports.proofs.Exports.{one_more}
+use Rattle.encode_types.specs.Room.{limit}
+use Rattle.wit_encode.specs.{Dependencies.ShowsComponent, Instance.declared_extent, WrittenNames.WritesPaths, DependencyCounts.DefinesComponent}
+use Rattle.wit_encode.specs.Packages.{HoldsMembers, Listed, ListedWorld, WrapsWorld, HoldsInterfaces, HoldsPackage, IsTypeOf, IsWrapperOf}
+use Rattle.wit_encode.specs.PackageRoom.{InterfacesLackRoom, LacksInterface, LacksWorld, WorldsLackRoom, parts_extent, AreLong, part_extent}
+use Rattle.wit_encode.proofs.{Lengths.long-parts, Lengths.long-component, Lengths.name-short, Lengths.u32-short, Weighing.one-of}
+use Rattle.wit_encode.proofs.Packages.{IsBegun, WorldsBegun, next-listed, next-world, type-added, world-added}
+use Rattle.wit_encode.proofs.WholePackages.{are-worlds, no-worlds_yet}
 use Rattle.std.specs.{Prelude.option_and_then, Prelude.sum_by, List.AllZip, List.Contains, Option.option_map_or}
-use Rattle.wit_model.specs.{Text.Text, Text.text_of, Lookup.identity_of, Lookup.package_at, Lookup.path_in_package, Lookup.path_of_world, Lookup.world_at}
-use Rattle.wit_model.specs.{Names.path_in, Valid.IsValid}
-use Rattle.wit_model.specs.Weight.{exported_weight, interface_weight, package_weight, unit_of, world_weight, wrapped_weight}
-use Rattle.wit_model.specs.declared.model.{Resolve.Resolve, Package.Package, PackageId.PackageId, World.World}
 use Rattle.wit_model.proofs.OnePath.{found-in}
-use Rattle.comp_bytes.specs.{Raw.Declarations, Raw.TopType, Raw.declaration_count, Writing.u32_bytes, Writing.name_bytes, Writing.declarations_bytes}
-use Rattle.comp_bytes.specs.Parts.{Part, fits_component, plain_export}
-use Rattle.encode_exports.specs.ExportedParts.{exporting_from, one_exported}
 use Rattle.encode_shown.proofs.Owning.{own-world}
 use Rattle.encode_shown.specs.PackageTypes.{wrapper}
-use Rattle.encode_types.specs.Room.{limit}
-use Rattle.wit_encode.specs.Instance.{declared_extent}
-use Rattle.wit_encode.specs.PackageRoom.{AreLong, InterfacesLackRoom, WorldsLackRoom, part_extent, parts_extent}
-use Rattle.wit_encode.specs.Packages.{HoldsInterfaces, HoldsMembers, HoldsPackage, IsTypeOf, IsWrapperOf, Listed, ListedWorld}
-use Rattle.wit_encode.proofs.{Lengths.long-component, Lengths.name-short, Lengths.u32-short, WholePackages.are-worlds, WholePackages.no-worlds_yet}
-use Rattle.wit_encode.proofs.Weighing.{one-of}
 use Rattle.base_lemmas.proofs.Elements.{contains-one}
+
+-- ---- Component types for which a component has no room.
+
+-- ---- one component type more
+
+module _ (old : List Part) (x : Text × Declarations) where
+  abbrev typed : Part
+  typed = Part.top_type (TopType.component x.1)
+
+  abbrev export : Part
+  export = Part.top_export (plain_export x.0 (top_slots old))
+
+  whole : (old ++ typed ∷ []) ++ export ∷ [] ≡ old ++ one_exported (top_slots old) x
+  whole = append_assoc old (typed ∷ []) (export ∷ [])
+
+  long-export : (fits_component (old ++ typed ∷ []) && fits_component (old ++ one_exported (top_slots old) x)) ≡ false → limit < 8 + parts_extent (old ++ one_exported (top_slots old) x)
+  long-export e = subst (λ (ps : List Part). limit < 8 + parts_extent ps) whole
+      (long-parts (old ++ typed ∷ []) (export ∷ []) (ap (λ (ps : List Part). fits_component (old ++ typed ∷ []) && fits_component ps) whole ∙ e))
+
+pub interface-long : (r : Resolve) (canonical : Bool) (e : Listed) (declared : Declarations) (old : List Part)
+    → ((path : Text) → interface_path r e.1.0 ≡ Some path → ShowsComponent r e.1.0 path declared) → WritesPaths r canonical e.1.0 declared → DefinesComponent r e.1.0 declared
+    → declared_extent declared ≤ interface_weight r e.1.0
+    → (fits_component (old ++ Part.top_type (TopType.component declared) ∷ []) && fits_component (old ++ one_exported (top_slots old) (text_of e.0, declared))) ≡ false
+    → LacksInterface r canonical e old
+interface-long r canonical e declared old shows names once light long = inr (λ entries h. record {
+  parts = old ++ one_exported (top_slots old) (text_of e.0, declared);
+  hold = type-added r canonical e declared old _ shows names once light (λ types is. one_more old _ types (text_of e.0, declared) refl is) entries h;
+  long = long-export old (text_of e.0, declared) long;
+})
+
+pub world-long : (r : Resolve) (canonical : Bool) (p : PackageIdentity) (e : ListedWorld) (w : World) (declared : Declarations) (old : List Part) → world_at r e.1.0 ≡ Some w
+    → WrapsWorld r canonical p e.1.0 w declared
+    → (fits_component (old ++ Part.top_type (TopType.component declared) ∷ []) && fits_component (old ++ one_exported (top_slots old) (text_of e.0, declared))) ≡ false → LacksWorld r canonical p e old
+world-long r canonical p e w declared old there wraps long = inr (λ interfaces worlds h. record {
+  parts = old ++ one_exported (top_slots old) (text_of e.0, declared);
+  hold = world-added r canonical p e w declared old _ there wraps (λ types is. one_more old _ types (text_of e.0, declared) refl is) interfaces worlds h;
+  long = long-export old (text_of e.0, declared) long;
+})
+
+-- ---- one after the other
+
+pub next-lacks : (r : Resolve) (canonical : Bool) (entries left rest : List Listed) (parts : List Part) (e : Listed) → IsBegun r canonical entries left parts → left ≡ e ∷ rest
+    → LacksInterface r canonical e parts
+    → InterfacesLackRoom r canonical entries
+next-lacks r canonical entries left rest parts e h is (inl heavy) = InterfacesLackRoom.too_heavy e (next-listed r canonical entries left rest parts e h is) heavy
+next-lacks r canonical entries left rest parts e h is (inr long) =
+    InterfacesLackRoom.too_long (h.done ++ e ∷ []) rest (h.split ∙ ap (λ (es : List Listed). h.done ++ es) is ∙ sym (append_assoc h.done (e ∷ []) rest)) (long h.done h.holds)
+
+pub next-world_lacks : (r : Resolve) (p : PackageIdentity) (canonical : Bool) (entries left rest : List ListedWorld) (parts middle : List Part) (e : ListedWorld)
+    → WorldsBegun r p canonical entries left parts middle
+    → left ≡ e ∷ rest → LacksWorld r canonical p e middle → (interfaces : List Listed) → HoldsMembers r canonical p interfaces [] parts → WorldsLackRoom r canonical p interfaces entries
+next-world_lacks r p canonical entries left rest parts middle e h is (inl heavy) = λ interfaces held. WorldsLackRoom.too_heavy e (next-world r p canonical entries left rest parts middle e h is) heavy
+next-world_lacks r p canonical entries left rest parts middle e h is (inr long) = λ interfaces held.
+    WorldsLackRoom.too_long (h.done ++ e ∷ []) rest (h.split ∙ ap (λ (es : List ListedWorld). h.done ++ es) is ∙ sym (append_assoc h.done (e ∷ []) rest))
+    (long interfaces h.done (h.adds interfaces held))
+
+-- ---- what the page is for
 
 -- ---- component types and their exports
 
