@@ -37,6 +37,7 @@ borrow_is n (kind.Handle (handle.Borrow id)) = ap (is_id n) (behind id.0)
 borrow_is n _ = refl
 
 resource_itself : (k : TypeDefKind) → planned.is_resource_kind (planned_kind k) ≡ rules.is_resource_itself k
+resource_itself kind.Resource = refl
 resource_itself (kind.Handle (handle.Own id)) = refl
 resource_itself _ = refl
 

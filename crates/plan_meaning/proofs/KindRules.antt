@@ -34,6 +34,7 @@ shape_is (kind.Map k v) = key_is k
 shape_is _ = refl
 
 named_is : (k : TypeDefKind) → planned.is_named_kind (planned_kind k) ≡ rules.is_named_kind k
+named_is (kind.Record record_) = refl
 named_is (kind.Handle (handle.Own id)) = refl
 named_is _ = refl
 

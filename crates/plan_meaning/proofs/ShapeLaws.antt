@@ -22,6 +22,10 @@ unfolding form_of
 form_back (Form.record_of names) = ap Form.record_of (first_marked true names)
 form_back (Form.flags_of names) = ap Form.flags_of (first_marked false names)
 form_back (Form.enum_of names) = ap Form.enum_of (first_marked false names)
+form_back (Form.result_of false false) = refl
+form_back (Form.result_of true false) = refl
+form_back (Form.future_of false) = refl
+form_back (Form.stream_of false) = refl
 form_back _ = refl
 
 by_form : (place : ℕ → Place) (T : List Tree) (f : Form) (ks : List ℕ) → shape_tree place T (node_shape f ks) ≡ Tree.node (form_of (form_code f)) (children (map (part_tree T) ks))

@@ -19,9 +19,11 @@ in_flat f (x ∷ xs) y c = elim (in_either (f x) (flat_map f xs) y c) [ inl here
 -- ---- what a view uses
 
 name_used : (path : Text) (d : Declaration) → Contains (used_by d) path → (name : Text) × (d ≡ Declaration.type_ (Tree.named (Place.of_interface path) name))
+name_used path Declaration.resource c = none-in path c
 name_used path (Declaration.type_ (Tree.primitive p)) c = none-in path c
+name_used path (Declaration.type_ (Tree.named Place.here name)) c = none-in path c
+name_used path (Declaration.type_ (Tree.node form ts)) c = none-in path c
 name_used path (Declaration.type_ (Tree.named (Place.of_interface q) name)) c = (name, ap (λ r. Declaration.type_ (Tree.named (Place.of_interface r) name)) (one-contained q path c))
-name_used path _ c = none-in path c
 
 pub path_once : (p q : Text) → Place.of_interface p ≡ Place.of_interface q → p ≡ q
 path_once p q e = cc
