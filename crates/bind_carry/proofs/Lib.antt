@@ -83,7 +83,7 @@ pub mod SecondBound
 -- What the bound world gains is carried and copied as the laws on unions ask for it. Serves laws::second_pass; crates above.
 pub mod SecondCarried
 -- What a union adds, once it is added, is merged. Serves laws::second_pass, merged::merged_unions; crates above.
-pub mod Merged
+pub mod MergedUnion
 -- Things that are moved one after the other to the places that were made for them. Serves moved::move_types, whole::move_interfaces.
 pub mod Moving
 -- Types that get numbers and places one after the other, and are moved there. Serves moved::move_types, moved::type_places, union::planned, union::union_of.

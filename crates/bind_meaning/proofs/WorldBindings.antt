@@ -1,5 +1,5 @@
 -- A world of a valid `Resolve`, bound, is a binding.
-use Rattle.std.proofs.Common.{slice_get, filter_map, ◌≡◌, refl, sym, ap, subst, ◌∙◌, ℕ, true, false, not, ◌&&◌, ◌||◌, ◌==◌, List, [], ◌∷◌, map, length, Option, Some, option_map, option_and_then, unwrap_or, String, Contains}
+use Rattle.std.proofs.Common.{rules as std_rules, slice_get, filter_map, ◌≡◌, refl, sym, ap, subst, ◌∙◌, ℕ, true, false, not, ◌&&◌, ◌||◌, ◌==◌, List, [], ◌∷◌, map, length, Option, Some, option_map, option_and_then, unwrap_or, String, Contains}
 use Rattle.std.proofs.lemmas.{Bool.false_from_ne_true, Bool.lt-ltb, List.Elements.Contains-append_left, List.Elements.Contains-append_right}
 use Rattle.std.specs.{Prelude.is_some, Prelude.option_to_list, Map.keys_of, Option.option_map_or, Cmp.Lexicographic.nat_list_cmp_total}
 use Rattle.std.specs.{List.AllByRecursion, List.IsDistinct, List.list_all, List.list_any, FinMap.find, FinMap.from_entries, FinMap.get, FinMap.get-from_entries}
@@ -123,9 +123,7 @@ module _ (r : Resolve) (v : IsValid r) where
   unlike s t never = false_from_ne_true _ (λ e. never (text-same s t e))
 
   name-apart : (name : String Global) (m : ℕ) (path : Text) → Lacks 58 (text_of name) → interface_path r m ≡ Some path → text_of name ≡ path → ⊥
-  name-apart name m path lacks is same =
-      let h = has-path r m path is in
-      goes-on 58 (text_of h.package_.name.namespace) _ (subst (Lacks 58) (same ∙ h.spelled) lacks)
+  name-apart name m path lacks is same = search (std_rules, has-path, goes-on, Lacks)
 
   pub keys-apart : (a b : WorldKey) → IsKey a → IsKey b → key_eq a b ≡ false → text_eq (key_text r a) (key_text r b) ≡ false
   keys-apart (key.Name a) (key.Name b) h g e = e

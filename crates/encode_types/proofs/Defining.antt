@@ -34,19 +34,21 @@ optional-more S S' k (Some x) None h = h
 optional-more S S' k (Some x) (Some t) h = stands-more S S' k x t h
 
 pub follows-more : (S S' : Pairs) → Keeps S S' → (d : ComponentDefinedType) (t : Tree) → Follows S d t → Follows S' d t
+follows-more S S' k (form.Primitive p) t h = h
 follows-more S S' k (form.Record fields) t h = (h.0, zip-kept (NamedStands S) (NamedStands S') (λ x f w. (w.0, stands-more S S' k x.1 f.1 w.1)) _ _ h.1, h.2)
 follows-more S S' k (form.Variant cases) t h = (h.0, zip-kept (CaseStands S) (CaseStands S') (λ x c w. (w.0, optional-more S S' k x.1 c.1 w.1)) _ _ h.1, h.2)
 follows-more S S' k (form.List x) t h = (h.0, stands-more S S' k x h.0 h.1, h.2)
 follows-more S S' k (form.FixedLengthList x n) t h = (h.0, stands-more S S' k x h.0 h.1, h.2)
 follows-more S S' k (form.Map x y) t h = (h.0, h.1, stands-more S S' k x h.0 h.2, stands-more S S' k y h.1 h.3, h.4)
 follows-more S S' k (form.Tuple xs) t h = (h.0, zip-kept (StandsFor S) (StandsFor S') (λ x u w. stands-more S S' k x u w) _ _ h.1, h.2)
+follows-more S S' k (form.Flags names) t h = h
+follows-more S S' k (form.Enum names) t h = h
 follows-more S S' k (form.Option x) t h = (h.0, stands-more S S' k x h.0 h.1, h.2)
 follows-more S S' k (form.Result x y) t h = (h.0, h.1, optional-more S S' k x h.0 h.2, optional-more S S' k y h.1 h.3, h.4)
 follows-more S S' k (form.Own i) t h = (h.0, k i (tree h.0) h.1, h.2)
 follows-more S S' k (form.Borrow i) t h = (h.0, k i (tree h.0) h.1, h.2)
 follows-more S S' k (form.Stream x) t h = (h.0, optional-more S S' k x h.0 h.1, h.2)
 follows-more S S' k (form.Future x) t h = (h.0, optional-more S S' k x h.0 h.1, h.2)
-follows-more S S' k _ t h = h
 
 -- ---- with maps that agree
 

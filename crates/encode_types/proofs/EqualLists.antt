@@ -26,7 +26,19 @@ type_at_code n = get_or primitives n (ty.Id (record { 0 = n - 14 }))
 
 code-back : (t : ValueType) → type_at_code (type_code t) ≡ t
 code-back ty.Bool = refl
-code-back _ = refl
+code-back ty.U8 = refl
+code-back ty.U16 = refl
+code-back ty.U32 = refl
+code-back ty.U64 = refl
+code-back ty.S8 = refl
+code-back ty.S16 = refl
+code-back ty.S32 = refl
+code-back ty.S64 = refl
+code-back ty.F32 = refl
+code-back ty.F64 = refl
+code-back ty.Char = refl
+code-back ty.String = refl
+code-back ty.ErrorContext = refl
 code-back (ty.Id id) =
     let e : (14 + id.0) - 14 ≡ id.0 = omega arith in
     let l : 14 ≤ 14 + id.0 = omega arith in
@@ -98,6 +110,7 @@ case_in l = cond (nat_eq (get_or l 0 99) 1) 0 (get_or l 0 99)
 
 in-list : (k : TypeDefKind) → case_in (kind_code k) ≡ case_number k
 in-list (kind.Handle (handle.Own id)) = refl
+in-list (kind.Handle (handle.Borrow id)) = refl
 in-list _ = refl
 
 other-case : (a b : TypeDefKind) → nat_eq (case_number a) (case_number b) ≡ false → kind_code a ≡ kind_code b → ⊥
@@ -137,9 +150,11 @@ pub lists-of-kinds : (a b : TypeDefKind) → is_named_kind a ≡ false → same_
 lists-of-kinds (kind.Option a) (kind.Option b) n e = let h : same_type a b ≡ true = search rules in ap (λ t. kind_code (kind.Option t)) (same_types a b h)
 lists-of-kinds (kind.Option a) other n e = absurd (true≢false (sym e))
 lists-of-kinds (kind.List a) (kind.List b) n e = let h : same_type a b ≡ true = search rules in ap (λ t. kind_code (kind.List t)) (same_types a b h)
+lists-of-kinds (kind.List a) other n e = absurd (true≢false (sym e))
 lists-of-kinds (kind.Handle a) (kind.Handle b) n e = let h : kind.Handle a ≡ kind.Handle b = search rules in ap kind_code h
+lists-of-kinds (kind.Handle a) other n e = absurd (true≢false (sym e))
 lists-of-kinds (kind.Tuple a) (kind.Tuple b) n e = let h : pointwise same_type a.types.items b.types.items ≡ true = search rules in ap (λ xs. 2 ∷ map type_code xs) (types_same _ _ h)
-lists-of-kinds _ other n e = absurd (true≢false (sym e))
+lists-of-kinds (kind.Tuple a) other n e = absurd (true≢false (sym e))
 lists-of-kinds (kind.Result a) (kind.Result b) n e =
     let h = optional_same a.ok b.ok (first_true (option_eq same_type a.ok b.ok) (option_eq same_type a.err b.err) e) in
     let k = optional_same a.err b.err (second_true (option_eq same_type a.ok b.ok) (option_eq same_type a.err b.err) e) in

@@ -34,9 +34,11 @@ pub same_tree : (ts : List Tree) (a b : TypeDefKind) → is_named_kind a ≡ fal
 same_tree ts (kind.Option a) (kind.Option b) n e = let h : same_type a b ≡ true = search rules in ap (λ t. declared_by ts (kind.Option t)) (same_types a b h)
 same_tree ts (kind.Option a) other n e = absurd (true≢false (sym e))
 same_tree ts (kind.List a) (kind.List b) n e = let h : same_type a b ≡ true = search rules in ap (λ t. declared_by ts (kind.List t)) (same_types a b h)
+same_tree ts (kind.List a) other n e = absurd (true≢false (sym e))
 same_tree ts (kind.Handle a) (kind.Handle b) n e = let h : kind.Handle a ≡ kind.Handle b = search rules in ap (declared_by ts) h
+same_tree ts (kind.Handle a) other n e = absurd (true≢false (sym e))
 same_tree ts (kind.Tuple a) (kind.Tuple b) n e = let h : pointwise same_type a.types.items b.types.items ≡ true = search rules in ap (λ xs. type_ (tuple_tree (map (tree_of ts) xs))) (types_same _ _ h)
-same_tree ts _ other n e = absurd (true≢false (sym e))
+same_tree ts (kind.Tuple a) other n e = absurd (true≢false (sym e))
 same_tree ts (kind.Result a) (kind.Result b) n e =
     let h = optional_same a.ok b.ok (first_true (option_eq same_type a.ok b.ok) (option_eq same_type a.err b.err) e) in
     let k = optional_same a.err b.err (second_true (option_eq same_type a.ok b.ok) (option_eq same_type a.err b.err) e) in

@@ -30,8 +30,21 @@ table r done (def ∷ defs) = table r (done ++ def_tree r done def ∷ []) defs
 
 module _ (n : ℕ) (trees : List TypeTree) where
   used_same : (t : ValueType) → is_below n t ≡ true → used_type (take n trees) t ≡ used_type trees t
+  used_same value.Bool h = refl
+  used_same value.U8 h = refl
+  used_same value.U16 h = refl
+  used_same value.U32 h = refl
+  used_same value.U64 h = refl
+  used_same value.S8 h = refl
+  used_same value.S16 h = refl
+  used_same value.S32 h = refl
+  used_same value.S64 h = refl
+  used_same value.F32 h = refl
+  used_same value.F64 h = refl
+  used_same value.Char h = refl
+  used_same value.String h = refl
+  used_same value.ErrorContext h = refl
   used_same (value.Id id) h = ap (λ o. unwrap_or o (Name [])) (slice_get-take trees n id.0 (ltb-true id.0 n h))
-  used_same _ h = refl
 
   all_same : (ts : List ValueType) → list_all (is_below n) ts ≡ true → used_types (take n trees) ts ≡ used_types trees ts
   all_same [] h = refl
@@ -64,7 +77,12 @@ module _ (n : ℕ) (trees : List TypeTree) where
   kind_same r (defined.FixedLengthList t m) u h = ap (λ x. FixedListOf x m) (used_same t (left_of _ _ h))
   kind_same r (defined.Future o) u h = ap future_tree (payload_same o h)
   kind_same r (defined.Stream o) u h = ap stream_tree (payload_same o h)
-  kind_same r _ u h = absurd cc
+  kind_same r (defined.Type_ t) u h = absurd cc
+  kind_same r (defined.Record x) u h = absurd cc
+  kind_same r (defined.Flags x) u h = absurd cc
+  kind_same r (defined.Variant x) u h = absurd cc
+  kind_same r (defined.Enum x) u h = absurd cc
+  kind_same r defined.Resource u h = absurd cc
 
 -- ---- the calls for a kind
 
@@ -79,17 +97,24 @@ then_stays xs ys h = begun-append false xs ys ∙ ap (λ b. lines_begun_after b 
 -- calls for a type that begin inside a line end inside it
 mutual
   pub type_stays : (t : TypeTree) → lines_begun_after false (type_calls t) ≡ false
+  type_stays (PrimitiveType p) = refl
+  type_stays (Name name) = refl
+  type_stays (Handle resource) = refl
+  type_stays (Own resource) = refl
+  type_stays (Borrow resource) = refl
   type_stays (TupleOf types) = then_stays (types_calls types) _ (types_stay types)
   type_stays (OptionOf ty) = then_stays (type_calls ty) _ (type_stays ty)
   type_stays (ListOf ty) = then_stays (type_calls ty) _ (type_stays ty)
   type_stays (FixedListOf ty length) = then_stays (type_calls ty) _ (type_stays ty)
   type_stays (MapOf key value) = then_stays (type_calls key) _ (type_stays key) ∙ then_stays (type_calls value) _ (type_stays value)
+  type_stays Result = refl
   type_stays (ResultOk ok) = then_stays (type_calls ok) _ (type_stays ok)
   type_stays (ResultErr err) = then_stays (type_calls err) _ (type_stays err)
   type_stays (ResultOf ok err) = then_stays (type_calls ok) _ (type_stays ok) ∙ then_stays (type_calls err) _ (type_stays err)
+  type_stays Future = refl
   type_stays (FutureOf ty) = then_stays (type_calls ty) _ (type_stays ty)
+  type_stays Stream = refl
   type_stays (StreamOf ty) = then_stays (type_calls ty) _ (type_stays ty)
-  type_stays _ = refl
 
   types_stay : (ts : TypeTrees) → lines_begun_after false (types_calls ts) ≡ false
   types_stay NoTypes = refl
@@ -146,7 +171,12 @@ module _ (r : Resolve) (trees : List TypeTree) where
   kind_whole (defined.FixedLengthList t n) u = one_part (kind_start r (defined.FixedLengthList t n)) (type_calls (used_type trees t)) (kind_end (defined.FixedLengthList t n))
   kind_whole (defined.Future o) u = future_whole o
   kind_whole (defined.Stream o) u = stream_whole o
-  kind_whole _ u = absurd cc
+  kind_whole (defined.Type_ t) u = absurd cc
+  kind_whole (defined.Record x) u = absurd cc
+  kind_whole (defined.Flags x) u = absurd cc
+  kind_whole (defined.Variant x) u = absurd cc
+  kind_whole (defined.Enum x) u = absurd cc
+  kind_whole defined.Resource u = absurd cc
 
   parts_stay : (n : ℕ) (ts : List ValueType) → lines_begun_after false (types_from trees n ts) ≡ false
   parts_stay n [] = refl
@@ -169,8 +199,17 @@ module _ (r : Resolve) (trees : List TypeTree) where
   end_may_follow b (defined.List t) = not_begun _ (parts_stay 0 (t ∷ []))
   end_may_follow b (defined.Map k v) = not_begun _ (parts_stay 0 (k ∷ v ∷ []))
   end_may_follow b (defined.FixedLengthList t n) = not_begun _ (parts_stay 0 (t ∷ []))
+  end_may_follow b (defined.Future None) = refl
   end_may_follow b (defined.Future (Some t)) = refl
-  end_may_follow b _ = refl
+  end_may_follow b (defined.Stream None) = refl
+  end_may_follow b (defined.Stream (Some t)) = refl
+  end_may_follow b (defined.Handle h) = refl
+  end_may_follow b (defined.Type_ t) = refl
+  end_may_follow b (defined.Record x) = refl
+  end_may_follow b (defined.Flags x) = refl
+  end_may_follow b (defined.Variant x) = refl
+  end_may_follow b (defined.Enum x) = refl
+  end_may_follow b defined.Resource = refl
 
 -- ---- a type number of a valid `Resolve`
 
@@ -181,7 +220,20 @@ rank ty = 0
 
 pub rank_below : (n : ℕ) (t : ValueType) → is_below n t ≡ true → rank t < n + 1
 rank_below n (value.Id id) h = (let l : id.0 < n = ltb-true id.0 n h in omega arith)
-rank_below n _ h = omega arith
+rank_below n value.Bool h = omega arith
+rank_below n value.U8 h = omega arith
+rank_below n value.U16 h = omega arith
+rank_below n value.U32 h = omega arith
+rank_below n value.U64 h = omega arith
+rank_below n value.S8 h = omega arith
+rank_below n value.S16 h = omega arith
+rank_below n value.S32 h = omega arith
+rank_below n value.S64 h = omega arith
+rank_below n value.F32 h = omega arith
+rank_below n value.F64 h = omega arith
+rank_below n value.Char h = omega arith
+rank_below n value.String h = omega arith
+rank_below n value.ErrorContext h = omega arith
 
 below_more : (n m : ℕ) → n < m → (o : Option ℕ) → passes (λ k. nat_lt k n) o ≡ true → passes (λ k. nat_lt k m) o ≡ true
 below_more n m less None h = refl
@@ -206,7 +258,20 @@ module _ (r : Resolve) (valid : IsValid r) (id : TypeId) (def : TypeDef) (at : t
       go : (k : TypeDefKind) → list_all (λ m. nat_lt m id.0) (kind_numbers k) ≡ true → passes (λ m. is_label (type_name r (record { 0 = m }))) (handled k) ≡ true → handles_label r k ≡ true
       go (defined.Handle h) b l = both (in_list r.types.items (handle_target h)) _
           (lt-ltb _ _ (let m : handle_target h < id.0 = ltb-true _ _ (left_of _ _ b) in let n : id.0 < length r.types.items = within in omega arith)) l
-      go _ b l = refl
+      go (defined.Tuple x) b l = refl
+      go (defined.Option x) b l = refl
+      go (defined.Result x) b l = refl
+      go (defined.List x) b l = refl
+      go (defined.Map x y) b l = refl
+      go (defined.FixedLengthList x y) b l = refl
+      go (defined.Future x) b l = refl
+      go (defined.Stream x) b l = refl
+      go (defined.Type_ t) b l = refl
+      go (defined.Record x) b l = refl
+      go (defined.Flags x) b l = refl
+      go (defined.Variant x) b l = refl
+      go (defined.Enum x) b l = refl
+      go defined.Resource b l = refl
 
   members_below : list_all (is_below id.0) (member_types def.kind) ≡ true
   members_below = below_of_numbers id.0 (member_types def.kind) (option_to_list (handled def.kind) ++ option_to_list (alias_target def.kind)) known.below
@@ -291,4 +356,16 @@ well_in_range r (value.Id id) h = go (nat_lt id.0 (length r.types.items)) refl
         let past : length (type_trees r) ≤ id.0 = (let l : length r.types.items ≤ id.0 = ltb-false id.0 (length r.types.items) e in omega (arith, count)) in
         let wrong : is_well_type (Name []) ≡ true = subst (λ o. is_well_type (unwrap_or o (Name [])) ≡ true) (slice_get_past (type_trees r) id.0 past) h in absurd cc
 well_in_range r value.Bool h = refl
-well_in_range r _ h = refl
+well_in_range r value.U8 h = refl
+well_in_range r value.U16 h = refl
+well_in_range r value.U32 h = refl
+well_in_range r value.U64 h = refl
+well_in_range r value.S8 h = refl
+well_in_range r value.S16 h = refl
+well_in_range r value.S32 h = refl
+well_in_range r value.S64 h = refl
+well_in_range r value.F32 h = refl
+well_in_range r value.F64 h = refl
+well_in_range r value.Char h = refl
+well_in_range r value.String h = refl
+well_in_range r value.ErrorContext h = refl

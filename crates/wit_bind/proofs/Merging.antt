@@ -22,7 +22,7 @@ use Rattle.bind_carry.specs.{Which.AreMatchedAll, TooLong.CarriedThings, AddedKe
 use Rattle.bind_carry.specs.{Whole.kept, Whole.IsInterfaceCarried, Whole.IsWorldCarried, Packaged.IsPackageCarried, AddedApart.AreMatchedByName, Apart.IsApart}
 use Rattle.bind_carry.specs.Union.{IsUnionOf}
 use Rattle.bind_carry.proofs.KeysGained.{by_path_apart, exports_apart, exports_behind, imports_apart, imports_behind}
-use Rattle.bind_carry.proofs.{FirstOfUnion.unions_have_the_second, NamesMerged.names_are_merged, Merged.unions_are_merged}
+use Rattle.bind_carry.proofs.{FirstOfUnion.unions_have_the_second, NamesMerged.names_are_merged, MergedUnion.unions_are_merged}
 use Rattle.bind_carry.proofs.{UnionDistinct.unions_are_apart, UnionDistinct.unions_have_distinct_keys, UnionKeys.exports_come_behind, UnionKeys.keys_keep_texts}
 use Rattle.wit_bind.specs.Brings.{type_notes, Notes, key_texts, BringsEntries, BringsItsOwn, IsTypeOf}
 use Rattle.wit_bind.specs.{Extends.Extends, Extends.listed_names, Extends.merged_names, Merges.export_keys, Merges.IsGrownBy, Merges.IsPlanOf}

@@ -29,18 +29,18 @@ module _ (a b : Resolve) where
   right_param p = (text_of p.name, right p.ty)
 
   -- parameters and what follows them
-  same_lists : (ps qs : List Param) (o p : Option ValueType) → map (λ x. text_of x.name) ps ≡ map (λ x. text_of x.name) qs → is_some o ≡ is_some p
+  same_parameters : (ps qs : List Param) (o p : Option ValueType) → map (λ x. text_of x.name) ps ≡ map (λ x. text_of x.name) qs → is_some o ≡ is_some p
       → map left (map (λ x. x.ty) ps ++ option_to_list o) ≡ map right (map (λ x. x.ty) qs ++ option_to_list p) → (map left_param ps ≡ map right_param qs) × (option_map left o ≡ option_map right p)
-  same_lists [] [] None None n s e = (refl, refl)
-  same_lists [] [] None (Some u) n s e = absurd (let z : ⊥ = cc in z)
-  same_lists [] [] (Some t) None n s e = absurd (let z : ⊥ = cc in z)
-  same_lists [] [] (Some t) (Some u) n s e = (refl, ap Some (heads_equal _ _ _ _ e))
-  same_lists [] (q ∷ qs) o p n s e = absurd (let z : ⊥ = cc in z)
-  same_lists (q ∷ qs) [] o p n s e = absurd (let z : ⊥ = cc in z)
-  same_lists (x ∷ ps) (y ∷ qs) o p n s e =
+  same_parameters [] [] None None n s e = (refl, refl)
+  same_parameters [] [] None (Some u) n s e = absurd (let z : ⊥ = cc in z)
+  same_parameters [] [] (Some t) None n s e = absurd (let z : ⊥ = cc in z)
+  same_parameters [] [] (Some t) (Some u) n s e = (refl, ap Some (heads_equal _ _ _ _ e))
+  same_parameters [] (q ∷ qs) o p n s e = absurd (let z : ⊥ = cc in z)
+  same_parameters (q ∷ qs) [] o p n s e = absurd (let z : ⊥ = cc in z)
+  same_parameters (x ∷ ps) (y ∷ qs) o p n s e =
       let name = heads_equal _ _ _ _ n in
       let tree = heads_equal _ _ _ _ e in
-      let rest = same_lists ps qs o p (tails_equal _ _ _ _ n) s (tails_equal _ _ _ _ e) in
+      let rest = same_parameters ps qs o p (tails_equal _ _ _ _ n) s (tails_equal _ _ _ _ e) in
       (λ i. (name i, tree i) ∷ rest.0 i, rest.1)
 
   lists_back : (ps qs : List Param) (o p : Option ValueType) → map left_param ps ≡ map right_param qs → option_map left o ≡ option_map right p
@@ -93,7 +93,7 @@ module _ (a b : Resolve) where
       where
         there : IsTrue y → Same
         there t =
-            let w = same_lists f.params.items g.params.items f.result g.result s.names s.results (h.0 t) in
+            let w = same_parameters f.params.items g.params.items f.result g.result s.names s.results (h.0 t) in
             λ i. record { is_async = s.asyncs i; params = w.0 i; result = w.1 i }
 
     pub senses_exact : (y : Bool) → optional_text f.external_id ≡ optional_text g.external_id → (IsTrue y ↔ Same) → IsTrue y ↔ (function_meaning a f ≡ function_meaning b g)

@@ -1,5 +1,5 @@
 -- Numbers fall along uses, so what a chain of uses leads to is reached.
-use Rattle.std.proofs.Common.{◌≡◌, refl, sym, ap, subst, ◌∙◌, ℕ, zero, suc, ◌+◌, ◌≤◌, arith, Bool, true, false, ◌||◌, not, ◌==◌, List, [], ◌∷◌, ◌++◌, length, filter, Option, Some, None}
+use Rattle.std.proofs.Common.{rules as std_rules, ◌≡◌, refl, sym, ap, subst, ◌∙◌, ℕ, zero, suc, ◌+◌, ◌≤◌, arith, Bool, true, false, ◌||◌, not, ◌==◌, List, [], ◌∷◌, ◌++◌, length, filter, Option, Some, None}
 use Rattle.std.proofs.lemmas.{Bool.eqb-true, Bool.eq-eqb, Bool.ltb-true, Bool.or_left, Bool.or_right, List.Folds.list_any-append, Option.slice_get_within}
 use Rattle.std.specs.{Prelude.flat_map, Prelude.nat_lt, List.list_all, Option.option_map_or}
 use Rattle.wit_model.specs.declared.model.{Resolve.Resolve, Interface.Interface}
@@ -45,11 +45,7 @@ all_has p (x ∷ ns) n all h = by (all_has p ns n (second_true (p x) (list_all p
 -- what is used, by the interface that stands under the number
 uses_fall_at : (r : Resolve) → IsValid r → (n : ℕ) (i : Interface) → interface_at r n ≡ Some i → list_all (λ m. nat_lt m n) (direct_deps r n) ≡ true
 unfolding owners
-uses_fall_at r v n i is =
-    let interfaces = first_true (each_from (owners.interface_ r) 0 r.interfaces.items) _ (second_true (each_from (owners.package_ r) 0 r.packages.items) _ v.rules.owners) in
-    let here : 0 + n ≡ n = omega arith in
-    let passes : owners.interface_ r n i ≡ true = subst (λ m. owners.interface_ r m i ≡ true) here (each_from_at (owners.interface_ r) 0 r.interfaces.items n i interfaces is) in
-    second_true (list_all (function_stays r (as_interface n)) (functions_of_interface i)) (list_all (λ m. nat_lt m n) (direct_deps r n)) passes
+uses_fall_at r v n i is = search (std_rules, first_true, second_true, each_from_at)
 
 -- only an interface that stands there uses any
 pub user_stands : (r : Resolve) (n m : ℕ) → has (direct_deps r n) m ≡ true → (i : Interface) × (interface_at r n ≡ Some i)
@@ -61,9 +57,7 @@ user_stands r n m h = by (interface_at r n) refl
         sym (ap (λ o. has (filter (λ k. not (k == n)) (once (option_map_or (interfaces_used_by r) o []))) m) none) ∙ h in cc)
 
 pub uses_fall : UsesFall
-uses_fall r v n m h =
-    let user = user_stands r n m h in
-    ltb-true m n (all_has (λ k. nat_lt k n) (direct_deps r n) m (uses_fall_at r v n user.0 user.1) h)
+uses_fall r v n m h = grind (arith, user_stands, ltb-true, all_has, uses_fall_at)
 
 -- ---- chains
 
@@ -103,17 +97,10 @@ module _ (r : Resolve) where
   short v (suc k) n m c = let rest = short v k c.0 m c.2 in let one = uses_fall r v n c.0 c.1 in omega (arith, rest, one)
 
   no_longer : IsValid r → (k n m : ℕ) → Chain r k n m → k ≤ length r.interfaces.items
-  no_longer v zero n m c = omega arith
-  no_longer v (suc k) n m c =
-      let user = user_stands r n c.0 c.1 in
-      let low = slice_get_within r.interfaces.items n user.0 user.1 in
-      let le = short v (suc k) n m c in
-      omega (arith, low, le)
+  no_longer v x n m c = grind (arith, user_stands, slice_get_within, short)
 
 pub reached_by_chains : ReachedByChains
-reached_by_chains r ns m h =
-    let led = led_to r (length r.interfaces.items) (once ns) m h in
-    (led.0, led.1, sym (has_once led.0 ns) ∙ led.2, led.3)
+reached_by_chains r ns m h = search (std_rules, led_to, has_once)
 
 pub chains_reach : ChainsReach
 chains_reach r v ns n k m h c = reach r (length r.interfaces.items) (once ns) n k m (has_once n ns ∙ h) (no_longer r v k n m c) c

@@ -1,5 +1,5 @@
 -- A list keeps a rule where each number of it passes, and a rule is kept where its four lists keep it.
-use Rattle.std.proofs.Common.{◌≡◌, refl, sym, ap, subst, ◌∙◌, ℕ, zero, suc, ◌+◌, ◌<◌, ◌≤◌, Bool, true, false, List, [], ◌∷◌, ◌++◌, Some, None, Option, slice_get, unwrap_or, option_map, length, nat_lt, T, ltb→lt, lit≤, arith}
+use Rattle.std.proofs.Common.{rules as std_rules, ◌≡◌, refl, sym, ap, subst, ◌∙◌, ℕ, zero, suc, ◌+◌, ◌<◌, ◌≤◌, Bool, true, false, List, [], ◌∷◌, ◌++◌, Some, None, Option, slice_get, unwrap_or, option_map, length, nat_lt, T, ltb→lt, lit≤, arith}
 use Rattle.std.proofs.lemmas.Option.{slice_get_within, slice_get_past, same_Some as some_same}
 use Rattle.std.proofs.lemmas.Bool.{and_from as both_true, and_left as fails_first}
 use Rattle.std.specs.List.{list_all}
@@ -12,9 +12,7 @@ use Rattle.wit_model.specs.declared.error.EntryList.TheVariants as lists
 
 -- each number of the list passes the test
 all_pass : {A : Type 0} (test : ℕ → A → Bool) (xs : List A) → ((n : ℕ) → n < length xs → option_map (test n) (slice_get xs n) ≡ Some true) → each_from test 0 xs ≡ true
-all_pass test xs all = each_from_all test 0 xs (λ n x e.
-    let here : n ≡ 0 + n = omega arith in
-    subst (λ m. test m x ≡ true) here (some_same _ _ (sym (ap (option_map (test n)) e) ∙ all n (slice_get_within xs n x e))))
+all_pass test xs all = search (std_rules, each_from_all, some_same, slice_get_within)
 
 pub packages_pass : (rule : Rule) (r : Resolve) → ((n : ℕ) → n < length r.packages.items → entry_keeps rule r lists.Packages n ≡ Some true) → KeepsIn rule r lists.Packages
 packages_pass rule r all = all_pass (rule.package_ r) r.packages.items all
@@ -48,9 +46,7 @@ references_kept r ts = keeps_lists references r (free_passes r 0 r.packages.item
 -- a type refers to smaller numbers alone
 pub below_at : (r : Resolve) → Keeps references r → (n : ℕ) (def : TypeDef) → type_at r n ≡ Some def → list_all (λ m. nat_lt m n) (kind_numbers def.kind) ≡ true
 unfolding references
-below_at r h n def is =
-    let here : 0 + n ≡ n = omega arith in
-    subst (λ m. references.type_ r m def ≡ true) here (each_from_at (references.type_ r) 0 r.types.items n def (lists_pass references r h).3 is)
+below_at r h n def is = search (std_rules, each_from_at, lists_pass)
 
 -- a type that refers to a number that isn't smaller breaks the rule on the order of types
 pub reference_breaks : (r : Resolve) (n : ℕ) → entry_keeps references r lists.Types n ≡ Some false → Breaks r 5 lists.Types n
@@ -79,14 +75,7 @@ get_before (y ∷ ys) x (suc n) h = get_before ys x n (omega (arith, h))
 -- One more entry of a table that holds what f says of each number. The default d stands past the end.
 pub table_more : {X : Type 0} (d : X) (f : ℕ → X) (xs : List X) (x : X) (k : ℕ) → length xs ≡ k → ((n : ℕ) → n < k → unwrap_or (slice_get xs n) d ≡ f n) → x ≡ f k → (n : ℕ) → n < k + 1
     → unwrap_or (slice_get (xs ++ x ∷ []) n) d ≡ f n
-table_more d f xs x k len all last n h =
-    below_or_past (λ m. m < k + 1 → unwrap_or (slice_get (xs ++ x ∷ []) m) d ≡ f m) k
-    (λ m low within. ap (λ o. unwrap_or o d) (get_before xs x m (omega (arith, len, low))) ∙ all m low)
-    (λ m high within.
-    let here : k ≡ m = omega (arith, high, within) in
-    subst (λ j. unwrap_or (slice_get (xs ++ x ∷ []) j) d ≡ f j) here
-    (subst (λ j. unwrap_or (slice_get (xs ++ x ∷ []) j) d ≡ f k) len (ap (λ o. unwrap_or o d) (get_last xs x) ∙ last)))
-    n h
+table_more d f xs x k len all last n h = search (std_rules, below_or_past, unwrap_or, get_before, get_last)
 
 pub flags_more : (f : ℕ → Bool) (xs : List Bool) (x : Bool) (k : ℕ) → length xs ≡ k → ((n : ℕ) → n < k → flags xs n ≡ f n) → x ≡ f k → (n : ℕ) → n < k + 1 → flags (xs ++ x ∷ []) n ≡ f n
 flags_more f xs x k len all last n h = table_more false f xs x k len all last n h

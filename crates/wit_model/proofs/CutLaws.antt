@@ -1,5 +1,5 @@
 -- A text is cut at the first place of a character.
-use Rattle.std.proofs.Common.{◌≡◌, refl, sym, ap, ◌∙◌, ℕ, suc, ◌+◌, ◌<◌, arith, Bool, true, false, cond, eqb, ◌==◌, List, [], ◌∷◌, length, Option, Some, None, option_map, not, take, drop}
+use Rattle.std.proofs.Common.{rules as std_rules, ◌≡◌, refl, sym, ap, ◌∙◌, ℕ, suc, ◌+◌, ◌<◌, arith, Bool, true, false, cond, eqb, ◌==◌, List, [], ◌∷◌, length, Option, Some, None, option_map, not, take, drop}
 use Rattle.std.specs.{Prelude.MatchOption, Borrow.Bor, List.before_first, List.after_first, List.position_or_len}
 use Rattle.wit_model.specs.{Names.cut, Text.Text}
 
@@ -17,12 +17,10 @@ one_behind : (k : ℕ) → 1 + k + 1 ≡ suc (k + 1)
 one_behind k = omega arith
 
 before_more : (c x : ℕ) (xs : Text) (b : Bool) → (x == c) ≡ b → before_first (λ y. eqb y c) (x ∷ xs) ≡ cond b [] (x ∷ before_first (λ y. eqb y c) xs)
-before_more c x xs true e = ap (λ v. take (cond (not v) (1 + position_or_len (λ y. eqb y c) xs) 0) (x ∷ xs)) e
-before_more c x xs false e = ap (λ v. take (cond (not v) (1 + position_or_len (λ y. eqb y c) xs) 0) (x ∷ xs)) e ∙ ap (λ n. take n (x ∷ xs)) (one_more (position_or_len (λ y. eqb y c) xs))
+before_more c x xs z e = search std_rules
 
 after_more : (c x : ℕ) (xs : Text) (b : Bool) → (x == c) ≡ b → after_first (λ y. eqb y c) (x ∷ xs) ≡ cond b xs (after_first (λ y. eqb y c) xs)
-after_more c x xs true e = ap (λ v. drop (cond (not v) (1 + position_or_len (λ y. eqb y c) xs) 0 + 1) (x ∷ xs)) e
-after_more c x xs false e = ap (λ v. drop (cond (not v) (1 + position_or_len (λ y. eqb y c) xs) 0 + 1) (x ∷ xs)) e ∙ ap (λ n. drop n (x ∷ xs)) (one_behind (position_or_len (λ y. eqb y c) xs))
+after_more c x xs z e = search std_rules
 
 cut_found : (c : ℕ) (xs : Text) → position_or_len (λ y. eqb y c) xs < length xs → cut c xs ≡ Some (before_first (λ y. eqb y c) xs, after_first (λ y. eqb y c) xs)
 cut_found c [] h = absurd (omega (arith, h))
@@ -52,8 +50,4 @@ pub split_cuts : (c : ℕ) (text : Text) (r : Option (Bor (List ℕ) × Bor (Lis
     → MatchOption r (position_or_len (λ b. eqb b c) text ≡ length text) (λ x. (position_or_len (λ b. eqb b c) text < length text) × (x.0.now ≡ before_first (λ b. eqb b c) text)
     × (x.1.now ≡ after_first (λ b. eqb b c) text))
     → option_map (λ x. (x.0.now, x.1.now)) r ≡ cut c text
-split_cuts c text None h = sym (cut_nowhere c text h)
-split_cuts c text (Some x) h =
-    let before = h.1 in
-    let after = h.2 in
-    (λ i. Some (before i, after i)) ∙ sym (cut_found c text h.0)
+split_cuts c text x h = search (std_rules, cut_nowhere, cut_found)

@@ -1,5 +1,5 @@
 -- Nothing stands twice in a list exactly where each is new when it is added to those before it.
-use Rattle.std.proofs.Common.{◌≡◌, refl, sym, ap, ◌∙◌, ℕ, ◌+◌, ◌<◌, ◌≤◌, Bool, true, false, ◌&&◌, ◌||◌, not, cond, List, [], ◌∷◌, ◌++◌, map, drop, take, length, get_or}
+use Rattle.std.proofs.Common.{rules as std_rules, ◌≡◌, refl, sym, ap, ◌∙◌, ℕ, ◌+◌, ◌<◌, ◌≤◌, Bool, true, false, ◌&&◌, ◌||◌, not, cond, List, [], ◌∷◌, ◌++◌, map, drop, take, length, get_or}
 use Rattle.std.proofs.{Math.ListN.drop_of_length-le, lemmas.Slice.Eq.bytes_eq-Decides}
 use Rattle.std.proofs.lemmas.{List.drop-map, List.drop_more, List.map-append, List.take-map, List.take_more, List.Folds.list_any-append}
 use Rattle.std.specs.List.{list_all, list_any}
@@ -7,22 +7,16 @@ use Rattle.wit_model.specs.{Text.Text, Text.text_eq, Rules.are_distinct}
 use Rattle.base_lemmas.proofs.{Bools.both_ways as either_way, Elements.any_of_map as list_any_mapped}
 
 pub not_is : (a b : Bool) → not a ≡ b → a ≡ not b
-not_is true b e = ap not e
-not_is false b e = ap not e
+not_is x b e = search std_rules
 
 pub text_eq_flip : (a b : Text) → text_eq a b ≡ text_eq b a
 text_eq_flip a b = either_way (text_eq a b) (text_eq b a) (λ h. (bytes_eq-Decides b a).1 (sym ((bytes_eq-Decides a b).0 h))) (λ h. (bytes_eq-Decides a b).1 (sym ((bytes_eq-Decides b a).0 h)))
 
 regroup : (a b c d : Bool) → (not a && ((c && not b) && d)) ≡ ((not a && c) && (not b && d))
-regroup true b c d = refl
-regroup false b true d = refl
-regroup false b false d = refl
+regroup x b c d = search std_rules
 
 one_more : (a b c e : Bool) → (not (a || (b || false)) && (c && not e)) ≡ ((not a && c) && not (b || e))
-one_more true b c e = refl
-one_more false true true e = refl
-one_more false true false e = refl
-one_more false false c e = refl
+one_more x b c e = search std_rules
 
 module _ {K : Type 0} (same : K → K → Bool) where
   -- whether each is new in turn, after those before

@@ -1,5 +1,5 @@
 -- Lists, element by element.
-use Rattle.std.proofs.Common.{◌≡◌, refl, sym, ap, ◌∙◌, subst, ℕ, zero, suc, ◌+◌, ◌<◌, List, [], ◌∷◌, ◌++◌, map, filter_map, option_to_list, length, get_or, take, arith, Option, Some, None, Bool, true, false, ◌||◌, ◌==◌, flat_map, slice_get}
+use Rattle.std.proofs.Common.{rules as std_rules, ◌≡◌, refl, sym, ap, ◌∙◌, subst, ℕ, zero, suc, ◌+◌, ◌<◌, List, [], ◌∷◌, ◌++◌, map, filter_map, option_to_list, length, get_or, take, arith, Option, Some, None, Bool, true, false, ◌||◌, ◌==◌, flat_map, slice_get}
 use Rattle.std.proofs.lemmas.{Option.slice_get-get_or, List.Elements.filter_map-append, List.Elements.Contains-append_left, List.Elements.Contains-append_right}
 use Rattle.std.proofs.lemmas.List.{take_more, get_or_default}
 use Rattle.std.specs.{List.Contains, List.AllZip, List.cons_option, Option.is_some, Prelude.IfSome}
@@ -18,9 +18,7 @@ filter_map_more h xs i x l e =
 -- ---- elements
 
 pub given-here : {Y : Type 0} (o : Option Y) (ys : List Y) (y : Y) → Contains (option_to_list o) y → Contains (cons_option o ys) y
-given-here None ys y (i, l, e) = absurd (omega (arith, l))
-given-here (Some z) ys y (zero, l, e) = (0, omega arith, e)
-given-here (Some z) ys y (suc i, l, e) = absurd (omega (arith, l))
+given-here x ys y z = search std_rules
 
 pub given-later : {Y : Type 0} (o : Option Y) (ys : List Y) (y : Y) → Contains ys y → Contains (cons_option o ys) y
 given-later None ys y c = c
@@ -42,8 +40,7 @@ zip-push R (a ∷ xs) (b ∷ ys) x y h r = (h.0, zip-push R xs ys x y h.1 r)
 -- the loop over the second list
 pub zip-more : {A B : Type 0} (R : A → B → Type 0) (xs : List A) (ys : List B) (i : ℕ) (x : A) (y : B) → i < length ys → y ≡ get_or ys i y → AllZip R xs (take i ys) → R x y
     → AllZip R (xs ++ x ∷ []) (take (i + 1) ys)
-zip-more R xs ys i x y l e h r =
-    subst (λ (zs : List _). AllZip R (xs ++ x ∷ []) zs) (ap (λ z. take i ys ++ z ∷ []) e ∙ sym (take_more ys i y l)) (zip-push R xs (take i ys) x y h r)
+zip-more R xs ys i x y l e h r = search (std_rules, take_more, zip-push)
 
 pub zip-along : {A B C : Type 0} (R : A → B → Type 0) (Q : A → C → Type 0) (f : B → C) → ((a : A) (b : B) → R a b → Q a (f b)) → (xs : List A) (ys : List B) → AllZip R xs ys → AllZip Q xs (map f ys)
 zip-along R Q f k [] [] h = tt
@@ -57,8 +54,7 @@ pub item-at : {X : Type 0} (xs ys : List X) (i : ℕ) (x d : X) → xs ≡ ys �
 item-at xs ys i x d s l e = ap (λ zs. get_or zs i d) (sym s) ∙ get_or_default xs i d x l ∙ sym e
 
 pub some-from : {X : Type 0} (P : X → Type 0) (o : Option X) → is_some o ≡ true → IfSome o P → (x : X) × P x
-some-from P None e h = absurd (let z : ⊥ = cc in z)
-some-from P (Some x) e h = (x, h)
+some-from y u e h = search std_rules
 
 -- ---- elements
 

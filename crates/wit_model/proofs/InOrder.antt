@@ -1,5 +1,5 @@
 -- What a type of an owner's list uses stands before it exactly where its place is smaller.
-use Rattle.std.proofs.Common.{◌≡◌, refl, sym, ap, ◌∙◌, ℕ, zero, suc, ◌+◌, ◌<◌, max, Bool, true, false, ◌&&◌, ◌||◌, not, cond, nat_lt, nat_le, List, [], ◌∷◌, take, length, filter_map, option_and_then, position, Some, None, Option, arith}
+use Rattle.std.proofs.Common.{rules as std_rules, ◌≡◌, refl, sym, ap, ◌∙◌, ℕ, zero, suc, ◌+◌, ◌<◌, max, Bool, true, false, ◌&&◌, ◌||◌, not, cond, nat_lt, nat_le, List, [], ◌∷◌, take, length, filter_map, option_and_then, position, Some, None, Option, arith}
 use Rattle.std.proofs.lemmas.Bool.Decides.{nat_tests}
 use Rattle.std.specs.{List.list_all, List.cons_option, List.position_or_len, Option.option_map_or, Map.lookup, Map.keys_of, Map.values_of}
 use Rattle.wit_model.specs.{Uses.has, Rules.is_id, Checks.highest}
@@ -22,12 +22,10 @@ highest_within g p [] = zero_within p
 highest_within g p (n ∷ ns) = max_within (g n) (highest g ns) p ∙ ap (λ b. nat_le (g n) p && b) (highest_within g p ns)
 
 has_given : (m : ℕ) (o : Option ℕ) (ns : List ℕ) → is_id m o ≡ true → has (cons_option o ns) m ≡ true
-has_given m None ns e = let wrong : ⊥ = cc in absurd wrong
-has_given m (Some n) ns e = ap (λ b. b || has ns m) e
+has_given m x ns e = search std_rules
 
 has_other : (m : ℕ) (o : Option ℕ) (ns : List ℕ) → is_id m o ≡ false → has (cons_option o ns) m ≡ has ns m
-has_other m None ns e = refl
-has_other m (Some n) ns e = ap (λ b. b || has ns m) e
+has_other m x ns e = search std_rules
 
 none_below : (n : ℕ) → nat_lt n 0 ≡ false
 none_below n = grind (arith, nat_tests)
@@ -52,8 +50,7 @@ module _ {K V : Type 0} (test : K → Bool) (num : V → Option ℕ) (m : ℕ) w
   place es = position_or_len test (keys_of es)
 
   unfit : (b : Bool) → (not b || false) ≡ true → b ≡ false
-  unfit true h = sym h
-  unfit false h = refl
+  unfit x h = search std_rules
 
   -- a number that is found stands before a place exactly where its own is smaller
   pub before_place : (es : List (K × V)) (p : ℕ) → found es ≡ true → fitting es ≡ true → has (filter_map num (values_of (take p es))) m ≡ nat_lt (place es) p

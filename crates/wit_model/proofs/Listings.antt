@@ -1,5 +1,5 @@
 -- Owners' lists and types that name each other.
-use Rattle.std.proofs.Common.{◌≡◌, refl, sym, ap, subst, ◌∙◌, ℕ, ◌+◌, Bool, true, false, ◌&&◌, ◌||◌, not, ◌==◌, T, eqb→eq, List, [], ◌∷◌, map, filter_map, count_by, option_map, option_and_then, Some, None, Option, slice_get, is_some, lit≤, eq-eqb, option_to_list, arith, String, string_eq, string_bytes}
+use Rattle.std.proofs.Common.{rules as std_rules, ◌≡◌, refl, sym, ap, subst, ◌∙◌, ℕ, ◌+◌, Bool, true, false, ◌&&◌, ◌||◌, not, ◌==◌, T, eqb→eq, List, [], ◌∷◌, map, filter_map, count_by, option_map, option_and_then, Some, None, Option, slice_get, is_some, lit≤, eq-eqb, option_to_list, arith, String, string_eq, string_bytes}
 use Rattle.std.proofs.lemmas.{Cmp.nat_list_eq_equiv, List.Folds.list_all-map}
 use Rattle.std.proofs.lemmas.{Bool.and_left as first_false, Bool.and_right as second_false, Bool.not-true as not_true, Option.same_Some as some_same}
 use Rattle.std.specs.declared.alloc.Global.{Global}
@@ -24,8 +24,7 @@ given_all [] = refl
 given_all (id ∷ ids) = ap (λ ns. id.0 ∷ ns) (given_all ids)
 
 pub given_found : (o : Option TypeId) → option_and_then (λ id. Some id.0) o ≡ option_map (λ id. id.0) o
-given_found None = refl
-given_found (Some id) = refl
+given_found x = search std_rules
 
 -- ---- a type's own entry
 
@@ -41,23 +40,16 @@ module _ (r : Resolve) (n : ℕ) (def : TypeDef) (name : String Global) (is : ty
       go true e = sym (own_name test) ∙ subst (λ k. has_name r test k ≡ true) (eqb→eq m n (subst T (sym e) tt)) h
 
   pub item_entry_fits : (test : Text → Bool) (o : Option ℕ) → passes (has_name r test) o ≡ true → (not (is_id n o) || test (text_of name)) ≡ true
-  item_entry_fits test None h = refl
-  item_entry_fits test (Some m) h = entry_fits test m h
+  item_entry_fits test x h = search std_rules
 
   text_joins : (a b : String Global) → bytes_eq (text_of name) (string_bytes a) ≡ true → bytes_eq (text_of name) (string_bytes b) ≡ true → string_eq a b ≡ true
   text_joins a b ta tb = sym (nat_list_eq_equiv.congr (text_of name) (string_bytes a) (string_bytes b) ta) ∙ tb
 
   key_joins : (a b : WorldKey) → is_name_key (text_of name) a ≡ true → is_name_key (text_of name) b ≡ true → key_eq a b ≡ true
-  key_joins (key.Name a) (key.Name b) ta tb =
-      let back : bytes_eq (text_of name) (string_bytes a) ≡ true = nat_list_eq_equiv.symm (text_of name) (string_bytes a) ∙ ta in
-      let other : bytes_eq (text_of name) (string_bytes b) ≡ true = nat_list_eq_equiv.symm (text_of name) (string_bytes b) ∙ tb in
-      sym (nat_list_eq_equiv.congr (text_of name) (string_bytes a) (string_bytes b) back) ∙ other
-  key_joins (key.Interface a) b ta tb = let wrong : ⊥ = cc in absurd wrong
-  key_joins (key.Name a) (key.Interface b) ta tb = let wrong : ⊥ = cc in absurd wrong
+  key_joins x b ta tb = search std_rules
 
   once_more : (b : Bool) (m : ℕ) → (b ≡ true → m ≡ 1) → b ≡ (b && (m == 1))
-  once_more false m h = refl
-  once_more true m h = sym (ap (λ k. k == 1) (h refl))
+  once_more x m h = search std_rules
 
   listed_in_interface : (i : Interface) → IsUnique string_eq i.types → list_all (λ e. has_name r (λ x. text_eq x (text_of e.0)) e.1.0) i.types.entries ≡ true
       → is_id n (option_map (λ id. id.0) (get_by_text i.types (text_of name))) ≡ is_listed_in_interface n (text_of name) i
@@ -151,10 +143,7 @@ world_fits r w h = go (find fails w.imports.entries) refl h
 
 module _ (r : Resolve) (n : ℕ) (i : Interface) (at : interface_at r n ≡ Some i) where
   not_in_interface : (m : ℕ) (t : Text) (o : TypeOwner) → same_owner o (as_interface n) ≡ true → is_listed_in_interface m t i ≡ false → is_listed r m t o ≡ false
-  not_in_interface m t (owner.Interface id) e h = ap (λ k. passes (is_listed_in_interface m t) (interface_at r k)) (eqb→eq id.0 n (subst T (sym e) tt))
-      ∙ (ap (passes (is_listed_in_interface m t)) at ∙ h)
-  not_in_interface m t (owner.World id) e h = let wrong : ⊥ = cc in absurd wrong
-  not_in_interface m t owner.None e h = let wrong : ⊥ = cc in absurd wrong
+  not_in_interface m t x e h = search std_rules
 
   interface_entry : (q : ℕ) (x : String Global × TypeId) → slice_get i.types.entries q ≡ Some x → (t : Text) → text_eq t (text_of x.0) ≡ false → is_listed_in_interface x.1.0 t i ≡ false
   interface_entry q x place t fails =
@@ -163,12 +152,7 @@ module _ (r : Resolve) (n : ℕ) (i : Interface) (at : interface_at r n ≡ Some
 
   entry_belongs : KeepsIn listings r lists.Interfaces → (q : ℕ) (x : String Global × TypeId) → slice_get i.types.entries q ≡ Some x → is_named_of r (as_interface n) x.1.0 ≡ true
   unfolding listings
-  entry_belongs own q x place =
-      let here : 0 + n ≡ n = omega arith in
-      let all : list_all (is_named_of r (as_interface n)) (interface_type_numbers i) ≡ true =
-      subst (λ m. list_all (is_named_of r (as_interface m)) (interface_type_numbers i) ≡ true) here (each_from_at (listings.interface_ r) 0 r.interfaces.items n i own at) in
-      all_at (λ e. is_named_of r (as_interface n) e.1.0) i.types.entries q x
-      (sym (list_all-map (is_named_of r (as_interface n)) (λ id. id.0) (values_of i.types.entries) ∙ list_all-map (λ id. is_named_of r (as_interface n) id.0) (λ e. e.1) i.types.entries) ∙ all) place
+  entry_belongs own q x place = search (std_rules, each_from_at, all_at, list_all-map)
 
   misnamed_entry : KeepsIn listings r lists.Interfaces → (q : ℕ) (x : String Global × TypeId) → slice_get i.types.entries q ≡ Some x → has_name r (λ name. text_eq name (text_of x.0)) x.1.0 ≡ false
       → Breaks r 5 lists.Types x.1.0
@@ -187,21 +171,11 @@ module _ (r : Resolve) (n : ℕ) (i : Interface) (at : interface_at r n ≡ Some
 
 module _ (r : Resolve) (n : ℕ) (w : World) (at : world_at r n ≡ Some w) where
   not_in_world : (m : ℕ) (t : Text) (o : TypeOwner) → same_owner o (as_world n) ≡ true → is_listed_in_world m t w ≡ false → is_listed r m t o ≡ false
-  not_in_world m t (owner.World id) e h = ap (λ k. passes (is_listed_in_world m t) (world_at r k)) (eqb→eq id.0 n (subst T (sym e) tt)) ∙ (ap (passes (is_listed_in_world m t)) at ∙ h)
-  not_in_world m t (owner.Interface id) e h = let wrong : ⊥ = cc in absurd wrong
-  not_in_world m t owner.None e h = let wrong : ⊥ = cc in absurd wrong
+  not_in_world m t x e h = search std_rules
 
   item_belongs : KeepsIn listings r lists.Worlds → (m q : ℕ) (x : WorldKey × WorldItem) → slice_get w.imports.entries q ≡ Some x → item_type x.1 ≡ Some m → is_named_of r (as_world n) m ≡ true
   unfolding listings
-  item_belongs own m q x place typed =
-      let here : 0 + n ≡ n = omega arith in
-      let p : ℕ → Bool = is_named_of r (as_world n) in
-      let all : list_all p (world_type_numbers w) ≡ true = subst (λ k. list_all (is_named_of r (as_world k)) (world_type_numbers w) ≡ true) here
-      (each_from_at (listings.world_ r) 0 r.worlds.items n w own at) in
-      let one = all_at (λ e. list_all p (option_to_list (item_type e.1))) w.imports.entries q x
-      (sym (list_all_filter_map p item_type (values_of w.imports.entries) ∙ list_all-map (λ i. list_all p (option_to_list (item_type i))) (λ e. e.1) w.imports.entries) ∙ all) place
-      in
-      first_true _ _ (sym (ap (λ o. list_all p (option_to_list o)) typed) ∙ one)
+  item_belongs own m q x place typed = search (std_rules, each_from_at, all_at, list_all_filter_map, list_all-map, first_true)
 
   misnamed_item : KeepsIn listings r lists.Worlds → (m q : ℕ) (x : WorldKey × WorldItem) → slice_get w.imports.entries q ≡ Some x → item_type x.1 ≡ Some m → has_name r (key_fits x.0) m ≡ false
       → Breaks r 5 lists.Types m

@@ -1,5 +1,5 @@
 -- What is spelled as a path reads back, and what reads as one is spelled so.
-use Rattle.std.proofs.Common.{◌≡◌, refl, sym, ap, subst, ◌∙◌, ℕ, Bool, true, false, ◌&&◌, ◌||◌, ◌==◌, not, cond, List, [], ◌∷◌, ◌++◌, Option, Some, None, option_map, option_and_then, is_some, T, eqb→eq, eq-eqb, append_assoc, append-nil, nat_lt, length}
+use Rattle.std.proofs.Common.{rules as std_rules, ◌≡◌, refl, sym, ap, subst, ◌∙◌, ℕ, Bool, true, false, ◌&&◌, ◌||◌, ◌==◌, not, cond, List, [], ◌∷◌, ◌++◌, Option, Some, None, option_map, option_and_then, is_some, T, eqb→eq, eq-eqb, append_assoc, append-nil, nat_lt, length}
 use Rattle.std.proofs.lemmas.{Bool.and_from, Bool.or_left, Bool.or_right, Bool.not-true, Option.some_pair_parts, List.Folds.list_all-append}
 use Rattle.std.specs.{Option.option_map_or, List.list_all, List.join_with_byte}
 use Rattle.wit_model.specs.Text.{Text}
@@ -92,8 +92,7 @@ cut_joins c (x ∷ xs) a b h = go (λ p e. cut_joins c xs p.0 p.1 e) (x == c) re
 -- ---- a name and its version
 
 versioned_at : (name : Text) (version : Option Text) → list_all (is_other 64) name ≡ true → versioned (name ++ at_version version) ≡ (name, version)
-versioned_at name None h = rw (append-nil, cut_none 64 name h) refl
-versioned_at name (Some version) h = rw (cut_at 64 name version h) refl
+versioned_at name x h = search (std_rules, append-nil, cut_none, cut_at)
 
 abbrev name_and_version : Text → Option (Text × Text) → Text × Option Text
 name_and_version text o = option_map_or (λ p. (p.0, Some p.1)) o (text, None)
@@ -117,11 +116,7 @@ known : (p : PackageIdentity) (name : Text) → is_identity p ≡ true → is_la
 known p name h k = rw (h, k) refl
 
 pub spelled_path_reads : SpelledPathReads
-spelled_path_reads p name identity label =
-    let colon = cut_at 58 p.namespace (p.name ++ (47 ∷ (name ++ at_version p.version))) (label_lacks 58 refl p.namespace (identity_namespace p identity)) in
-    let slash = cut_at 47 p.name (name ++ at_version p.version) (label_lacks 47 refl p.name (identity_name p identity)) in
-    let version = versioned_at name p.version (label_lacks 64 refl name label) in
-    rw (colon, slash, version) (known p name identity label)
+spelled_path_reads p name identity label = search (std_rules, cut_at, label_lacks, identity_namespace, identity_name, versioned_at, known)
 
 -- the package and the name that are found
 abbrev found : Text → Text → Text → Option (PackageIdentity × Text)
@@ -178,18 +173,10 @@ one_path p q a b p_known a_label q_known b_label same =
 
 -- the text before the version holds no `@`
 plain_path_lacks : (p : PackageIdentity) (name : Text) → is_identity p ≡ true → is_label name ≡ true → list_all (is_other 64) (p.namespace ++ (58 ∷ (p.name ++ (47 ∷ name)))) ≡ true
-plain_path_lacks p name identity label =
-    let rest : list_all (is_other 64) (p.name ++ (47 ∷ name)) ≡ true =
-    list_all-append (is_other 64) p.name (47 ∷ name) ∙ and_from _ _ (label_lacks 64 refl p.name (identity_name p identity)) (label_lacks 64 refl name label) in
-    list_all-append (is_other 64) p.namespace (58 ∷ (p.name ++ (47 ∷ name))) ∙ and_from _ _ (label_lacks 64 refl p.namespace (identity_namespace p identity)) rest
+plain_path_lacks p name identity label = search (std_rules, list_all-append, and_from, label_lacks, identity_name, identity_namespace)
 
 path_parts : (p : PackageIdentity) (name version : Text) → p.namespace ++ (58 ∷ (p.name ++ (47 ∷ (name ++ version)))) ≡ (p.namespace ++ (58 ∷ (p.name ++ (47 ∷ name)))) ++ version
-path_parts p name version =
-    sym (append_assoc p.namespace (58 ∷ (p.name ++ (47 ∷ name))) version ∙ ap (λ t. p.namespace ++ (58 ∷ t)) (append_assoc p.name (47 ∷ name) version))
+path_parts p name version = search (std_rules, append_assoc)
 
 pub path_without_version : PathWithoutVersion
-path_without_version p name identity label =
-    let front : Text = p.namespace ++ (58 ∷ (p.name ++ (47 ∷ name))) in
-    let cut_front : versioned (front ++ at_version p.version) ≡ (front, p.version) = versioned_at front p.version (plain_path_lacks p name identity label) in
-    ap without_version (path_parts p name (at_version p.version))
-    ∙ (ap (λ r. r.0) cut_front ∙ (sym (append-nil front) ∙ sym (path_parts p name [])))
+path_without_version p name identity label = search (std_rules, versioned_at, plain_path_lacks, path_parts, append-nil)

@@ -1,5 +1,5 @@
 -- An interface is known by its path: in valid packages no two have the same.
-use Rattle.std.proofs.Common.{◌≡◌, refl, sym, subst, ap, ◌∙◌, ℕ, ◌+◌, ◌<◌, zero, suc, Bool, true, false, List, [], ◌∷◌, length, ◌&&◌, ◌||◌, not, ◌==◌, slice_get, Option, Some, None, String, option_map, option_and_then, arith}
+use Rattle.std.proofs.Common.{rules as std_rules, ◌≡◌, refl, sym, subst, ap, ◌∙◌, ℕ, ◌+◌, ◌<◌, zero, suc, Bool, true, false, List, [], ◌∷◌, length, ◌&&◌, ◌||◌, not, ◌==◌, slice_get, Option, Some, None, String, option_map, option_and_then, arith}
 use Rattle.std.proofs.lemmas.{Bool.ltb-true, Bool.lt-ltb, Bool.and_from as both, Option.same_Some as some-same}
 use Rattle.std.specs.declared.alloc.Global.{Global}
 use Rattle.std.specs.{Prelude.is_some, Prelude.is_ok, Option.option_map_or, HashMap.get_by_text}
@@ -15,12 +15,10 @@ use Rattle.wit_model.proofs.{Entries.each_from_at, Entries.lists_pass, NameLaws.
 use Rattle.base_lemmas.proofs.{Bools.left_of as first_true, Bools.right_of as second_true, Numbers.equal as equal-numbers, Options.there as some-of}
 
 pub package-passes : (rule : Rule) (r : Resolve) → Keeps rule r → (n : ℕ) (p : Package) → package_at r n ≡ Some p → rule.package_ r n p ≡ true
-package-passes rule r k n p at = let here : 0 + n ≡ n = omega arith in
-    subst (λ (m : ℕ). rule.package_ r m p ≡ true) here (each_from_at (rule.package_ r) 0 r.packages.items n p (lists_pass rule r k).0 at)
+package-passes rule r k n p at = search (std_rules, each_from_at, lists_pass)
 
 pub interface-passes : (rule : Rule) (r : Resolve) → Keeps rule r → (n : ℕ) (i : Interface) → interface_at r n ≡ Some i → rule.interface_ r n i ≡ true
-interface-passes rule r k n i at = let here : 0 + n ≡ n = omega arith in
-    subst (λ (m : ℕ). rule.interface_ r m i ≡ true) here (each_from_at (rule.interface_ r) 0 r.interfaces.items n i (lists_pass rule r k).1 at)
+interface-passes rule r k n i at = search (std_rules, each_from_at, lists_pass)
 
 version-is : (v : Option Version) → passes is_version v ≡ true → is_optional_version (optional_version_text v) ≡ true
 version-is None h = refl
@@ -45,9 +43,7 @@ package-name r v n p at =
     }
 
 same-or-not : (b c : Bool) → (b || not c) ≡ true → c ≡ true → b ≡ true
-same-or-not true c h e = refl
-same-or-not false true h e = h
-same-or-not false false h e = e
+same-or-not x c h e = search std_rules
 
 -- packages of the same name are one
 pub package-once : (r : Resolve) → IsValid r → (m n : ℕ) (p q : Package) → package_at r m ≡ Some p → package_at r n ≡ Some q → same_package_name p.name q.name ≡ true → n ≡ m
@@ -108,8 +104,7 @@ pub given-test : {A : Type 0} (f : A → Bool) (o : Option A) (d : Bool) (x : A)
 given-test f o d x e h = ap (λ (o : Option _). option_map_or f o d) (sym e) ∙ h
 
 pub one-number : (m n : ℕ) (o : Option ℕ) → is_id m o ≡ true → is_id n o ≡ true → m ≡ n
-one-number m n None e f = let wrong : ⊥ = cc in absurd wrong
-one-number m n (Some k) e f = sym (equal-numbers k m e) ∙ equal-numbers k n f
+one-number m n x e f = search std_rules
 
 module _ (r : Resolve) (v : IsValid r) where
   pub path-label : (n : ℕ) (path : Text) (h : HasPath r n path) → is_label (text_of h.name) ≡ true

@@ -1,5 +1,5 @@
 -- What is met at a number may be summed up along the list of types, where each refers to smaller numbers alone.
-use Rattle.std.proofs.Common.{◌≡◌, refl, sym, ap, subst, ◌∙◌, ℕ, zero, suc, ◌+◌, ◌<◌, ◌≤◌, Bool, true, false, ◌&&◌, ◌||◌, not, cond, ◌==◌, nat_lt, nat_le, T, ltb→lt, eqb→eq, List, [], ◌∷◌, ◌++◌, length, take, filter, flat_map, option_to_list, option_and_then, if◌then◌else◌, Some, None, Option, unwrap_or, slice_get, is_some, arith, String}
+use Rattle.std.proofs.Common.{rules as std_rules, ◌≡◌, refl, sym, ap, subst, ◌∙◌, ℕ, zero, suc, ◌+◌, ◌<◌, ◌≤◌, Bool, true, false, ◌&&◌, ◌||◌, not, cond, ◌==◌, nat_lt, nat_le, T, ltb→lt, eqb→eq, List, [], ◌∷◌, ◌++◌, length, take, filter, flat_map, option_to_list, option_and_then, if◌then◌else◌, Some, None, Option, unwrap_or, slice_get, is_some, arith, String}
 use Rattle.std.proofs.lemmas.{Option.slice_get_past, List.Folds.list_all-append, Bool.Decides.nat_tests, List.Concat.flat_map-append as flat_append}
 use Rattle.std.specs.declared.alloc.Global.{Global}
 use Rattle.std.specs.{List.list_all, Option.option_map_or}
@@ -107,10 +107,7 @@ member_met r below o f h = go (resource_of f.kind) h
 
 -- all that a function uses belongs to its owner
 pub function_home : (r : Resolve) → Keeps references r → (o : TypeOwner) (f : Function) → function_stays r o f ≡ true → is_member r o f ≡ true → list_all (has_owner r o) (used_by_function r f) ≡ true
-function_home r below o f stays belongs =
-    ap (list_all (has_owner r o)) (flat_append (met_by (met_of r)) (values_of f) (option_to_list (resource_of f.kind)))
-    ∙ (list_all-append (has_owner r o) (used_by_values r f) (flat_map (met_by (met_of r)) (option_to_list (resource_of f.kind)))
-    ∙ (λ i. stays i && member_met r below o f belongs i))
+function_home r below o f stays belongs = search (std_rules, flat_append, list_all-append, member_met)
 
 -- what the rule says of a type that has an owner
 pub owned_stays : (r : Resolve) (def : TypeDef) → type_stays r def ≡ true → same_owner def.owner owner.None ≡ false → (list_all (has_owner r def.owner) (used_by_type r def) || is_use r def) ≡ true
@@ -154,10 +151,4 @@ within n m = grind (arith, nat_tests)
 
 pub used_within : (r : Resolve) (n : ℕ) (i : Interface) → interface_at r n ≡ Some i →
     list_all (λ id. list_all (λ m. nat_le m n) (option_to_list (interface_used_by r id.0))) (values i.types) ≡ list_all (λ m. nat_lt m n) (direct_deps r n)
-used_within r n i is =
-    let used = interfaces_used_by r i in
-    sym (list_all_filter_map (λ m. nat_le m n) (λ id. interface_used_by r id.0) (values i.types))
-    ∙ (sym (all_once (λ m. nat_le m n) used)
-    ∙ (ap (λ test. list_all test (once used)) (λ j m. sym (within n m) j)
-    ∙ (sym (all_filter (λ m. nat_lt m n) (λ m. not (m == n)) (once used))
-    ∙ ap (λ o. list_all (λ m. nat_lt m n) (filter (λ m. not (m == n)) (once (option_map_or (interfaces_used_by r) o [])))) (sym is))))
+used_within r n i is = search (std_rules, list_all_filter_map, all_once, within, all_filter)

@@ -1,5 +1,5 @@
 -- Paths are made of full names; a canonical path joined with its suffix is the plain path.
-use Rattle.std.proofs.Common.{◌≡◌, refl, sym, ap, ◌∙◌, ℕ, cond, eq-eqb, List, [], ◌∷◌, ◌++◌, length, drop, Option, Some, None, option_map, option_and_then, unwrap_or, append_assoc, append-nil, String}
+use Rattle.std.proofs.Common.{rules as std_rules, ◌≡◌, refl, sym, ap, ◌∙◌, ℕ, cond, eq-eqb, List, [], ◌∷◌, ◌++◌, length, drop, Option, Some, None, option_map, option_and_then, unwrap_or, append_assoc, append-nil, String}
 use Rattle.std.proofs.Math.Seq.{drop-append_seam}
 use Rattle.std.specs.declared.alloc.Global.{Global}
 use Rattle.semver.specs.declared.Version.{Version}
@@ -115,9 +115,7 @@ suffix_follows p =
 -- ---- the law
 
 path_longer : (n m name c s : Text) → (n ++ (58 ∷ (m ++ (47 ∷ (name ++ (64 ∷ c)))))) ++ s ≡ n ++ (58 ∷ (m ++ (47 ∷ (name ++ (64 ∷ (c ++ s))))))
-path_longer n m name c s =
-    append_assoc n (58 ∷ (m ++ (47 ∷ (name ++ (64 ∷ c))))) s
-    ∙ ap (λ t. n ++ (58 ∷ t)) (append_assoc m (47 ∷ (name ++ (64 ∷ c))) s ∙ ap (λ t. m ++ (47 ∷ t)) (append_assoc name (64 ∷ c) s))
+path_longer n m name c s = search (std_rules, append_assoc)
 
 joined : (p : PackageName) (s : String Global) → path_of (p, s) ≡ canonical_of (p, s) ++ unwrap_or (suffix_of (p, s)) []
 joined p s = go p.version

@@ -1,5 +1,5 @@
 -- What is a resource may be computed along the list of types, where each refers to smaller numbers alone.
-use Rattle.std.proofs.Common.{◌≡◌, refl, sym, ap, subst, ◌∙◌, ℕ, zero, suc, ◌<◌, ◌≤◌, Bool, true, false, ◌&&◌, nat_lt, T, ltb→lt, List, length, Some, None, Option, option_to_list, filter_map, not, arith}
+use Rattle.std.proofs.Common.{rules as std_rules, ◌≡◌, refl, sym, ap, subst, ◌∙◌, ℕ, zero, suc, ◌<◌, ◌≤◌, Bool, true, false, ◌&&◌, nat_lt, T, ltb→lt, List, length, Some, None, Option, option_to_list, filter_map, not, arith}
 use Rattle.std.proofs.lemmas.Option.{slice_get_within, slice_get_past}
 use Rattle.std.specs.{List.list_all, Option.option_map_or}
 use Rattle.wit_model.specs.declared.model.{Resolve.Resolve, TypeDef.TypeDef, TypeDefKind.TypeDefKind, «Type».«Type» as ValueType, Function.Function}
@@ -12,8 +12,7 @@ use Rattle.wit_model.specs.declared.model.«Type».TheVariants as ty
 
 -- whether a kind is a resource hangs on smaller numbers alone
 pub kind_same : (f g : ℕ → Bool) (n : ℕ) (k : TypeDefKind) → ((m : ℕ) → m < n → f m ≡ g m) → list_all (λ m. nat_lt m n) (kind_numbers k) ≡ true → is_resource_kind f k ≡ is_resource_kind g k
-kind_same f g n (kind.Type_ (ty.Id id)) same h = same id.0 (ltb→lt id.0 n (subst T (sym (first_true _ _ h)) tt))
-kind_same f g n _ same h = refl
+kind_same f g n x same h = search std_rules
 
 module _ (r : Resolve) (below : Keeps references r) where
   -- one more step changes nothing, where there were more than the number
@@ -29,10 +28,7 @@ module _ (r : Resolve) (below : Keeps references r) where
 
   step_at : (s n : ℕ) (def : TypeDef) → n < s → type_at r n ≡ Some def → ends_in_resource r s n ≡ is_resource_kind (ends_in_resource r s) def.kind
   unfolding ends_in_resource
-  step_at zero n def h is = absurd (omega (arith, h))
-  step_at (suc s) n def h is =
-      ap (λ o. option_map_or (λ def. is_resource_kind (ends_in_resource r s) def.kind) o false) is
-      ∙ kind_same (ends_in_resource r s) (ends_in_resource r (suc s)) n def.kind (λ m low. stable s m (omega (arith, low, h))) (below_at r below n def is)
+  step_at x n def h is = search (std_rules, kind_same, stable, below_at)
 
   -- a number is a resource where its kind is one, or an alias of one
   pub resource_step : (n : ℕ) (def : TypeDef) → type_at r n ≡ Some def → is_resource r n ≡ is_resource_kind (is_resource r) def.kind

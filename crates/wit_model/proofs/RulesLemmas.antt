@@ -2,7 +2,7 @@
 use Rattle.base_lemmas.proofs.Numbers.{turned as number_flip}
 use Rattle.semver.specs.Identifiers.{parts_of}
 use Rattle.semver.specs.declared.Version.{Version}
-use Rattle.std.proofs.Common.{Bool, List, None, Option, Some, [], ap, arith, cond, false, map, option_and_then, refl, slice_get, subst, sym, true, ℕ, ◌&&◌, ◌++◌, ◌+◌, ◌==◌, ◌∙◌, ◌∷◌, ◌≡◌}
+use Rattle.std.proofs.Common.{rules as std_rules, Bool, List, None, Option, Some, [], ap, arith, cond, false, map, option_and_then, refl, slice_get, subst, sym, true, ℕ, ◌&&◌, ◌++◌, ◌+◌, ◌==◌, ◌∙◌, ◌∷◌, ◌≡◌}
 use Rattle.std.proofs.lemmas.{Bool.eqb-true, List.map-append}
 use Rattle.std.specs.Option.{option_eq}
 use Rattle.wit_model.proofs.{Distinct.text_eq_flip, Entries.each_from_all, Entries.each_from_at}
@@ -21,12 +21,10 @@ after_both (p ∷ ps) qs (b ∷ bs) = go (after_both ps qs bs) (p == b)
     go again false = refl
 
 pub items_of_map : {X Y : Type 0} (g : X → Y) (xs : List X) → has_items (map g xs) ≡ has_items xs
-items_of_map g [] = refl
-items_of_map g (x ∷ xs) = refl
+items_of_map g x = search std_rules
 
 pub is_id_some : (n : ℕ) (o : Option ℕ) → is_id n o ≡ true → o ≡ Some n
-is_id_some n None e = let wrong : false ≡ true = e in absurd cc
-is_id_some n (Some m) e = ap Some (eqb-true m n e)
+is_id_some n x e = search std_rules
 
 pub each_by_number : {A : Type 0} (test : ℕ → A → Bool) (xs : List A) → ((n : ℕ) (x : A) → slice_get xs n ≡ Some x → test n x ≡ true) → each_from test 0 xs ≡ true
 each_by_number test xs all = each_from_all test 0 xs (λ n x e. let here : n ≡ 0 + n = omega arith in subst (λ (k : ℕ). test k x ≡ true) here (all n x e))
@@ -41,11 +39,7 @@ pub each_at : {A : Type 0} (test : ℕ → A → Bool) (xs : List A) (n : ℕ) (
 each_at test xs n x h e = let here : 0 + n ≡ n = omega arith in subst (λ (k : ℕ). test k x ≡ true) here (each_from_at test 0 xs n x h e)
 
 pub version_flip : (a b : Option Version) → option_eq same_version a b ≡ option_eq same_version b a
-version_flip None None = refl
-version_flip None (Some b) = refl
-version_flip (Some a) None = refl
-version_flip (Some a) (Some b) = λ i. number_flip a.major b.major i && (number_flip a.minor b.minor i
-    && (number_flip a.patch b.patch i && (text_eq_flip (parts_of a).3 (parts_of b).3 i && text_eq_flip (parts_of a).4 (parts_of b).4 i)))
+version_flip x y = search std_rules
 
 pub name_flip : (a b : PackageName) → same_package_name a b ≡ same_package_name b a
 name_flip a b = λ i. text_eq_flip (text_of a.namespace) (text_of b.namespace) i && (text_eq_flip (text_of a.name) (text_of b.name) i && version_flip a.version b.version i)

@@ -1,5 +1,5 @@
 -- Which interfaces stand before an item, item by item.
-use Rattle.std.proofs.Common.{◌≡◌, refl, sym, ap, ◌∙◌, ℕ, Bool, true, false, ◌&&◌, ◌||◌, not, ◌==◌, List, [], ◌∷◌, ◌++◌, filter, filter_map, option_to_list, Some, None, Option, append_assoc, append-nil}
+use Rattle.std.proofs.Common.{rules as std_rules, ◌≡◌, refl, sym, ap, ◌∙◌, ℕ, Bool, true, false, ◌&&◌, ◌||◌, not, ◌==◌, List, [], ◌∷◌, ◌++◌, filter, filter_map, option_to_list, Some, None, Option, append_assoc, append-nil}
 use Rattle.std.proofs.lemmas.List.{Elements.filter_map-append, Folds.list_any-append}
 use Rattle.std.specs.{List.list_all, List.list_any, List.cons_option, Option.option_map_or}
 use Rattle.indexmap.specs.IndexMap.{values}
@@ -28,26 +28,16 @@ after_append p before (x ∷ xs) ys =
 -- ---- what is shown
 
 or_turn : (a b c : Bool) → (a || (b || c)) ≡ ((b || a) || c)
-or_turn true true c = refl
-or_turn true false c = refl
-or_turn false true c = refl
-or_turn false false c = refl
+or_turn x y c = search std_rules
 
 or_swap : (a b : Bool) → (a || (b || false)) ≡ (b || a)
-or_swap true true = refl
-or_swap true false = refl
-or_swap false true = refl
-or_swap false false = refl
+or_swap x y = search std_rules
 
 has_one : (ns : List ℕ) (o : Option ℕ) (n : ℕ) → (has ns n || has (cons_option o []) n) ≡ (is_id n o || has ns n)
-has_one ns None n = or_swap (has ns n) false
-has_one ns (Some m) n = or_swap (has ns n) (m == n)
+has_one ns x n = search std_rules
 
 one_more : (before : List WorldItem) (i : WorldItem) (n : ℕ) → has (filter_map item_interface (before ++ i ∷ [])) n ≡ shown_with i (has (filter_map item_interface before)) n
-one_more before i n =
-    ap (λ ns. has ns n) (filter_map-append item_interface before (i ∷ []))
-    ∙ (list_any-append (λ m. m == n) (filter_map item_interface before) (cons_option (item_interface i) [])
-    ∙ has_one (filter_map item_interface before) (item_interface i) n)
+one_more before i n = search (std_rules, filter_map-append, list_any-append, has_one)
 
 -- the test by what stands before is the test by what is shown
 pub interfaces_before : (r : Resolve) (before items : List WorldItem) →
@@ -59,15 +49,11 @@ interfaces_before r before (i ∷ items) =
 
 -- one more item is shown
 pub after_more : (i : WorldItem) (items : List WorldItem) (old new : ℕ → Bool) → ((n : ℕ) → new n ≡ shown_with i old n) → (n : ℕ) → shown_after items new n ≡ shown_after (i ∷ items) old n
-after_more i items old new same n =
-    ap (λ b. list_any (λ x. is_id n (item_interface x)) items || b) (same n)
-    ∙ or_turn (list_any (λ x. is_id n (item_interface x)) items) (is_id n (item_interface i)) (old n)
+after_more i items old new same n = search std_rules
 
 pub ready_more : (r : Resolve) (i : WorldItem) (items : List WorldItem) (old new : ℕ → Bool) → ((n : ℕ) → new n ≡ shown_with i old n) → list_all old (used_interfaces r i) ≡ true
     → uses_are_shown r new items ≡ uses_are_shown r old (i ∷ items)
-ready_more r i items old new same ready =
-    ap (λ shown. uses_are_shown r shown items) (λ j n. same n j)
-    ∙ ap (λ b. b && uses_are_shown r (shown_with i old) items) (sym ready)
+ready_more r i items old new same ready = search std_rules
 
 pub shown_append : (r : Resolve) (shown : ℕ → Bool) (xs ys : List WorldItem) → uses_are_shown r shown (xs ++ ys) ≡ (uses_are_shown r shown xs && uses_are_shown r (shown_after xs shown) ys)
 shown_append r shown [] ys = refl
@@ -79,30 +65,18 @@ shown_append r shown (x ∷ xs) ys =
 
 -- a world whose imports aren't ready isn't either
 pub imports_first : (r : Resolve) (shown : ℕ → Bool) (w : World) → uses_are_shown r shown (values w.imports) ≡ false → uses_are_shown r shown (items_of w) ≡ false
-imports_first r shown w e =
-    shown_append r shown (values w.imports) (values w.exports)
-    ∙ ap (λ b. b && uses_are_shown r (shown_after (values w.imports) shown) (values w.exports)) e
+imports_first r shown w e = search (std_rules, shown_append)
 
 pub exports_next : (r : Resolve) (shown new : ℕ → Bool) (w : World) → uses_are_shown r shown (values w.imports) ≡ true → ((n : ℕ) → new n ≡ shown_after (values w.imports) shown n) →
     uses_are_shown r new (values w.exports) ≡ uses_are_shown r shown (items_of w)
-exports_next r shown new w e same =
-    ap (λ s. uses_are_shown r s (values w.exports)) (λ j n. same n j)
-    ∙ (ap (λ b. b && uses_are_shown r (shown_after (values w.imports) shown) (values w.exports)) (sym e)
-    ∙ sym (shown_append r shown (values w.imports) (values w.exports)))
+exports_next r shown new w e same = search (std_rules, shown_append)
 
 -- ---- what an interface uses
 
 no_not : (b : Bool) → not (not b) ≡ b
-no_not true = refl
-no_not false = refl
+no_not x = search std_rules
 
 -- a test of what an interface uses is a test of its types
 pub deps_pass : (p : ℕ → Bool) (r : Resolve) (n : ℕ) (i : Interface) → interface_at r n ≡ Some i →
     list_all (λ id. list_all (λ m. (m == n) || p m) (option_to_list (interface_used_by r id.0))) (values i.types) ≡ list_all p (direct_deps r n)
-deps_pass p r n i is =
-    let used = interfaces_used_by r i in
-    sym (list_all_filter_map (λ m. (m == n) || p m) (λ id. interface_used_by r id.0) (values i.types))
-    ∙ (sym (all_once (λ m. (m == n) || p m) used)
-    ∙ (ap (λ test. list_all test (once used)) (λ j m. sym (no_not (m == n)) j || p m)
-    ∙ (sym (all_filter p (λ m. not (m == n)) (once used))
-    ∙ ap (λ o. list_all p (filter (λ m. not (m == n)) (once (option_map_or (interfaces_used_by r) o [])))) (sym is))))
+deps_pass p r n i is = search (std_rules, list_all_filter_map, all_once, no_not, all_filter)

@@ -1,6 +1,6 @@
 -- Lemmas on texts: when two are equal, and what an optional one is.
 use Rattle.base_lemmas.proofs.{Elements.contains-later, Numbers.turned}
-use Rattle.std.proofs.Common.{Bool, List, None, Option, Some, String, [], ap, arith, cond, false, refl, sym, true, ◌&&◌, ◌++◌, ◌==◌, ◌||◌, ◌∙◌, ◌∷◌, ◌≡◌}
+use Rattle.std.proofs.Common.{rules as std_rules, Bool, List, None, Option, Some, String, [], ap, arith, cond, false, refl, sym, true, ◌&&◌, ◌++◌, ◌==◌, ◌||◌, ◌∙◌, ◌∷◌, ◌≡◌}
 use Rattle.std.proofs.lemmas.Cmp.{nat_list_eq_equiv}
 use Rattle.std.specs.{Cmp.Lexicographic.same_text, List.AllByRecursion, List.Contains, List.list_any, Option.option_map_or, Prelude.String, Prelude.is_some}
 use Rattle.std.specs.declared.alloc.Global.{Global}
@@ -17,10 +17,7 @@ text_named None t h = let wrong : ⊥ = cc in absurd wrong
 text_named (Some name) t h = (name, refl, text_same (text_of name) t h)
 
 pub some_alike : (x y : Option (String Global)) → optional_text x ≡ optional_text y → is_some x ≡ is_some y
-some_alike None None h = refl
-some_alike None (Some t) h = let wrong : ⊥ = cc in absurd wrong
-some_alike (Some s) None h = let wrong : ⊥ = cc in absurd wrong
-some_alike (Some s) (Some t) h = refl
+some_alike x y h = search std_rules
 
 pub is_joined : (ps qs bs : Text) → text_eq bs (ps ++ qs) ≡ option_map_or (λ rest. text_eq rest qs) (after_prefix ps bs) false
 is_joined [] qs bs = refl
@@ -50,5 +47,4 @@ text_there path (x ∷ xs) e = by (text_eq path x) refl e (text_there path xs)
     by false is h rest = contains-later x xs path (rest h)
 
 pub named_too : (o : Option (String Global)) (t : Text) → text_is o t ≡ true → is_some o ≡ true
-named_too None t h = let wrong : ⊥ = cc in absurd wrong
-named_too (Some s) t h = refl
+named_too x t h = search std_rules

@@ -2,7 +2,7 @@
 use Rattle.wit_model.specs.declared.model.TypeDefKind.TheVariants as kind
 use Rattle.wit_model.specs.declared.model.WorldItem.TheVariants as item
 use Rattle.base_lemmas.proofs.{Elements.contains-later, Numbers.same-number}
-use Rattle.std.proofs.Common.{Bool, List, Some, [], ap, arith, cond, false, filter, nat_eq, option_to_list, refl, subst, sym, true, ℕ, ◌==◌, ◌||◌, ◌∙◌, ◌∷◌, ◌≡◌}
+use Rattle.std.proofs.Common.{rules as std_rules, Bool, List, Some, [], ap, arith, cond, false, filter, nat_eq, option_to_list, refl, subst, sym, true, ℕ, ◌==◌, ◌||◌, ◌∙◌, ◌∷◌, ◌≡◌}
 use Rattle.std.proofs.lemmas.{Bool.and_from as both, Bool.eqb-true, Bool.or_right, Bool.Decides.nat_tests, Option.same_Some as some-same}
 use Rattle.std.specs.List.{list_all, list_any}
 use Rattle.wit_model.proofs.{Elements.contains-has, Elements.has-contains, OnePath.found-in}
@@ -14,14 +14,10 @@ all_from_has p [] h = refl
 all_from_has p (n ∷ ns) h = both _ _ (h n (ap (λ b. b || has ns n) (same-number n))) (all_from_has p ns (λ m c. h m (contains-has (n ∷ ns) m (contains-later n ns m (has-contains ns m c)))))
 
 pub alias_numbers : (k : TypeDefKind) (t : ℕ) → alias_target k ≡ Some t → kind_numbers k ≡ t ∷ []
-alias_numbers (kind.Type_ ty) t e = ap option_to_list e
-alias_numbers _ t e = let wrong : ⊥ = cc in absurd wrong
+alias_numbers x t e = search std_rules
 
 pub interface_in_range : (r : Resolve) (i : WorldItem) (n : ℕ) → item_interface i ≡ Some n → item_in_range r i ≡ true → (def : Interface) × (interface_at r n ≡ Some def)
-interface_in_range r (item.Interface id stability docs external_id) n e h =
-    subst (λ (m : ℕ). (def : Interface) × (interface_at r m ≡ Some def)) (some-same id.0 n e) (found-in r.interfaces.items id.0 h)
-interface_in_range r (item.Function f) n e h = absurd (let z : ⊥ = cc in z)
-interface_in_range r (item.Type_ id) n e h = absurd (let z : ⊥ = cc in z)
+interface_in_range r x n e h = search (std_rules, some-same, found-in)
 
 pub any_is_has : (ns : List ℕ) (q : ℕ) → list_any (nat_eq q) ns ≡ has ns q
 any_is_has [] q = refl

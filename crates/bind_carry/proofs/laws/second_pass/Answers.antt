@@ -1,4 +1,4 @@
-use Rattle.bind_carry.proofs.{Merged.passes_are_merged, SecondBound.bound_stands, NothingElse.interface_from, NothingElse.type_from, NothingElse.world_from, SecondCarried.second_is_copied}
+use Rattle.bind_carry.proofs.{MergedUnion.passes_are_merged, SecondBound.bound_stands, NothingElse.interface_from, NothingElse.type_from, NothingElse.world_from, SecondCarried.second_is_copied}
 use Rattle.bind_carry.proofs.laws.second_pass.Goals as goal
 
 pub returns-clause-copied : goal.returns-clause-copied

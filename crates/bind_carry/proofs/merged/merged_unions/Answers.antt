@@ -1,4 +1,4 @@
-use Rattle.bind_carry.proofs.Merged.{unions_are_merged}
+use Rattle.bind_carry.proofs.MergedUnion.{unions_are_merged}
 use Rattle.bind_carry.proofs.merged.merged_unions.Goals as goal
 
 pub returns : goal.returns
