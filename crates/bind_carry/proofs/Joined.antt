@@ -116,13 +116,13 @@ module _ {V : Type 0} (id_of : V → ℕ) (number : ℕ → ℕ) (copies left_ou
     pub added : (n : ℕ) (e : String Global × V) → slice_get es n ≡ Some e → p e ≡ true → (copies (id_of e.1) ≡ true) × (left_out (id_of e.1) ≡ false) × (is_name (text_of e.0) own ≡ false)
     pub there : (n : ℕ) (e : String Global × V) → slice_get es n ≡ Some e → p e ≡ false → Contains own (text_of e.0, number (id_of e.1)) ⊎ (left_out (id_of e.1) ≡ true)
 
-  later : (e : String Global × V) (es : List (String Global × V)) → AreNamesReady (e ∷ es) → AreNamesReady es
-  later e es ready = record { added = λ n x at. ready.added (suc n) x at; there = λ n x at. ready.there (suc n) x at }
+  names_later : (e : String Global × V) (es : List (String Global × V)) → AreNamesReady (e ∷ es) → AreNamesReady es
+  names_later e es ready = record { added = λ n x at. ready.added (suc n) x at; there = λ n x at. ready.there (suc n) x at }
 
   pub names_join : (es news : List (String Global × V)) → AllZip IsNameUnder (filter p es) news → AreNamesReady es → JoinedNames number copies left_out own (named es) (named news)
   names_join [] [] zip ready = names.none
   names_join [] (x ∷ xs) zip ready = absurd zip
-  names_join (e ∷ es) news zip ready = go (p e) refl news zip (λ xs rest. names_join es xs rest (later e es ready))
+  names_join (e ∷ es) news zip ready = go (p e) refl news zip (λ xs rest. names_join es xs rest (names_later e es ready))
     where
       go : (b : Bool) → p e ≡ b → (xs : List (String Global × V)) → AllZip IsNameUnder (cond b (e ∷ filter p es) (filter p es)) xs
           → ((ys : List (String Global × V)) → AllZip IsNameUnder (filter p es) ys → JoinedNames number copies left_out own (named es) (named ys))
