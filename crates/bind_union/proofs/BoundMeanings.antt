@@ -67,11 +67,7 @@ module _ (r s : Resolve) (f : Renumbering) (valid : KeepsRules r) (is : IsCarrie
 
   pub joined_mean : (olds news whole : List (WorldKey × WorldItem)) → whole ≡ own ++ news → Joined f own olds news → HaveDistinctTexts s whole
       → entries_meaning s whole ≡ followed_by meant (entries_meaning r olds)
-  joined_mean olds news whole is_whole j distinct =
-      ap (entries_meaning s) is_whole
-      ∙ (map-append (λ (e : WorldKey × WorldItem). (key_text s e.0, entry_meaning s e.1)) own news
-      ∙ (λ i. same i ++ news_mean olds news j (before_apart (texts s own) (texts s news)
-      (subst (λ (ts : List Text). IsDistinct text_eq ts) (ap (texts s) is_whole ∙ map-append (λ (e : WorldKey × WorldItem). key_text s e.0) own news) distinct)) i))
+  joined_mean olds news whole is_whole j distinct = grind (arith, map-append, news_mean, before_apart)
 
 pub bound_means : BoundMeans
 bound_means own other merged bound other_bound first second left_out valid_own valid_other is imports exports = (

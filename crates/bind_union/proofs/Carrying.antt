@@ -1,5 +1,5 @@
 -- What is carried into another `Resolve` stands in the same places, for the same trees, and meets the same named types.
-use Rattle.std.proofs.Common.{◌≡◌, ◌⊎◌, inl, inr, refl, sym, ap, subst, ◌∙◌, ℕ, zero, suc, ◌<◌, ◌+◌, arith, true, ◌||◌, ◌==◌, nat_lt, ltb-true, List, [], ◌∷◌, ◌++◌, map, Option, Some, None, option_map, option_and_then, option_to_list, is_some}
+use Rattle.std.proofs.Common.{rules as std_rules, ◌≡◌, ◌⊎◌, inl, inr, refl, sym, ap, subst, ◌∙◌, ℕ, zero, suc, ◌<◌, ◌+◌, arith, true, ◌||◌, ◌==◌, nat_lt, ltb-true, List, [], ◌∷◌, ◌++◌, map, Option, Some, None, option_map, option_and_then, option_to_list, is_some}
 use Rattle.std.proofs.lemmas.{Bool.or_right, Bool.and_from as both, List.Folds.list_all-append, List.map-append}
 use Rattle.std.specs.{Prelude.String, List.list_all, List.flat_map, Option.option_map_or}
 use Rattle.std.specs.declared.alloc.Global.{Global}
@@ -38,15 +38,10 @@ interface_package r v n i is = first_true _ _ (second_true (is_place n) _ (each_
 -- ---- paths
 
 version_by_parts : (v : Option Version) → optional_version_text v ≡ option_map parts_text (option_map parts_of v)
-version_by_parts None = refl
-version_by_parts (Some v) = refl
+version_by_parts x = search std_rules
 
 pub same_identity : (a b : PackageName) → IsSameName a b → identity_of b ≡ identity_of a
-same_identity a b h = λ i. record {
-  namespace = h.namespace i;
-  name = h.name i;
-  version = (version_by_parts b.version ∙ (ap (option_map parts_text) h.version ∙ sym (version_by_parts a.version))) i;
-}
+same_identity a b h = search std_rules
 
 abbrev pub path_by : Resolve → Option Text → Option ℕ → Option Text
 path_by r name p = option_and_then (λ t. option_and_then (λ n. path_in_package r n t) p) name
@@ -93,38 +88,22 @@ module _ (r s : Resolve) (f : Renumbering) (valid : KeepsRules r) (is : IsCarrie
           (λ p e. found-in r.packages.items p (ap (passes (in_list r.packages.items)) (sym e) ∙ interface_package r valid n i.old i.found))
 
   pub place_same : (o : TypeOwner) → carries_owner f o ≡ true → place_of s (owner_under f o) ≡ place_of r o
-  place_same (owner.World id) c = refl
-  place_same (owner.Interface id) c = ap place_of_path (path_same id.0 c)
-  place_same owner.None c = refl
+  place_same x c = search (std_rules, path_same)
 
   -- ---- trees
 
   pub image_kind : (def image : TypeDef) → def.name ≡ None → HasImageKind f.types f.carries_type def image ⊎ IsNamesake f def image → HasImageKind f.types f.carries_type def image
-  image_kind def image none (inl k) = k
-  image_kind def image none (inr k) = no_true (sym (ap is_some none) ∙ k.named)
+  image_kind def image none x = search std_rules
 
   pub carried_types : AreCarried r s f.types f.carries_type
-  carried_types n c =
-      let t = is.types n c in
-      record {
-        def = t.def;
-        found = t.found;
-        image = t.image;
-        at_image = t.at_image;
-        is_image = record {
-          name = t.name;
-          place = ap (place_of s) t.home ∙ place_same t.def.owner t.carries_home;
-          kind = λ none. image_kind t.def t.image none t.kind;
-        };
-      }
+  carried_types n c = search (std_rules, place_same, image_kind)
 
   pub tree_same : (n : ℕ) → f.carries_type n ≡ true → number_tree s (f.types n) ≡ number_tree r n
   tree_same n c = same_trees r s f.types f.carries_type (refers_below r below_r) (refers_below s below_s) carried_types n c
 
   -- the numbers in a type
   pub type_tree_same : (t : ValueType) → list_all f.carries_type (option_to_list (number_of t)) ≡ true → type_tree s (renamed_type f.types t) ≡ type_tree r t
-  type_tree_same (ty.Id id) h = tree_same id.0 (first_true _ _ h)
-  type_tree_same _ h = refl
+  type_tree_same x h = search (std_rules, tree_same, first_true)
 
   -- the numbers in a kind that is carried are carried
   pub kind_carried : (def image : TypeDef) → HasImageKind f.types f.carries_type def image → list_all f.carries_type (kind_numbers def.kind) ≡ true

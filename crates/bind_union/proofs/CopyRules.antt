@@ -1,5 +1,5 @@
 -- What the rules ask of a type, of a function and of an entry of a world holds of its copy.
-use Rattle.std.proofs.Common.{◌≡◌, inl, refl, sym, ap, ◌∙◌, ℕ, Bool, true, false, ◌&&◌, ◌||◌, not, nat_lt, nat_le, ltb-true, List, map, Option, Some, None, option_map, option_to_list, is_some, filter_map, subst, cond, ◌==◌, [], ◌∷◌, ◌++◌, option_and_then, is_none, slice_get}
+use Rattle.std.proofs.Common.{rules as std_rules, ◌≡◌, inl, refl, sym, ap, ◌∙◌, ℕ, Bool, true, false, ◌&&◌, ◌||◌, not, nat_lt, nat_le, ltb-true, List, map, Option, Some, None, option_map, option_to_list, is_some, filter_map, subst, cond, ◌==◌, [], ◌∷◌, ◌++◌, option_and_then, is_none, slice_get}
 use Rattle.std.proofs.lemmas.{Bool.or_left, Bool.or_right, Bool.lt-ltb, Bool.and_from as both, List.Folds.list_all-map, List.Folds.list_all-append}
 use Rattle.std.proofs.lemmas.{Option.slice_get_within, Option.slice_get-map, Simd.map-map, List.map-append}
 use Rattle.std.specs.{Prelude.String, Prelude.◌^◌, Prelude.codes, Prelude.if◌then◌else◌, List.list_all, List.flat_map, Option.option_map_or}
@@ -45,8 +45,7 @@ abbrev pub are_parts : ℕ × ℕ × ℕ × List ℕ × List ℕ → Bool
 are_parts p = nat_lt p.0 (2 ^ 64) && (nat_lt p.1 (2 ^ 64) && (nat_lt p.2 (2 ^ 64) && (is_pre_release p.3 && is_build p.4)))
 
 pub version_alike : (v : Option Version) → passes is_version v ≡ passes are_parts (option_map parts_of v)
-version_alike None = refl
-version_alike (Some v) = refl
+version_alike x = search std_rules
 
 abbrev is_stable_view : StabilityView → Bool
 is_stable_view unknown = true
@@ -54,9 +53,7 @@ is_stable_view (stable since deprecated) = are_parts since && passes are_parts d
 is_stable_view (unstable feature deprecated) = is_label feature && passes are_parts deprecated
 
 stability_by_view : (s : Stability) → is_stability s ≡ is_stable_view (stability_view s)
-stability_by_view stability.Unknown = refl
-stability_by_view (stability.Stable since deprecated) = ap (λ b. is_version since && b) (version_alike deprecated)
-stability_by_view (stability.Unstable feature deprecated) = ap (λ b. is_label (text_of feature) && b) (version_alike deprecated)
+stability_by_view x = search std_rules
 
 pub stability_alike : (a b : Stability) → stability_view a ≡ stability_view b → is_stability a ≡ is_stability b
 stability_alike a b e = stability_by_view a ∙ (ap is_stable_view e ∙ sym (stability_by_view b))
@@ -66,25 +63,18 @@ stability_alike a b e = stability_by_view a ∙ (ap is_stable_view e ∙ sym (st
 -- ---- kinds of functions
 
 pub resource_under : (f : Renumbering) (k : FunctionKind) → resource_of (call_under f k) ≡ option_map f.types (resource_of k)
-resource_under f call.Freestanding = refl
-resource_under f _ = refl
+resource_under f x = search std_rules
 
 pub freestanding_under : (f : Renumbering) (k : FunctionKind) → is_freestanding (call_under f k) ≡ is_freestanding k
-freestanding_under f call.Freestanding = refl
-freestanding_under f _ = refl
+freestanding_under f x = search std_rules
 
 -- ---- types in a result
 
 ok_of_all : (p : ℕ → Bool) (k : TypeDefKind) → list_all p (filter_map number_of (member_types k)) ≡ true → passes (λ t. list_all p (option_to_list (number_of t))) (view_ok (kind_view k)) ≡ true
-ok_of_all p (kind.Result x) h = sym (all_given (λ t. list_all p (option_to_list (number_of t))) x.ok) ∙ first_true _ _
-    (sym (list_all-append (λ t. list_all p (option_to_list (number_of t))) (option_to_list x.ok) (option_to_list x.err))
-    ∙ (sym (list_all_filter_map p number_of (option_to_list x.ok ++ option_to_list x.err)) ∙ h))
-ok_of_all p (kind.Handle (handle.Own id)) h = refl
-ok_of_all p _ h = refl
+ok_of_all p y h = search std_rules
 
 none_alike : (a b : Option (String Global)) → optional_text a ≡ optional_text b → b ≡ None → is_none a ≡ true
-none_alike None b e h = refl
-none_alike (Some x) b e h = let none = ap optional_text h in absurd cc
+none_alike x b e h = search std_rules
 
 -- what each entry passes, what is added passes
 pub added_pass : (f : Renumbering) (own : List (WorldKey × WorldItem)) (p q : WorldKey × WorldItem → Bool) → ((a b : WorldKey × WorldItem) → EntryBecomes f a b → p a ≡ true → q b ≡ true)
@@ -104,9 +94,7 @@ module _ (r s : Resolve) (f : Renumbering) (valid : KeepsRules r) (is : IsCarrie
   -- what is asked of each type of a value
   pub values_pass : (p q : ValueType → Bool) → ((t : ValueType) → list_all f.carries_type (option_to_list (number_of t)) ≡ true → p t ≡ true → q (renamed_type f.types t) ≡ true)
       → (ts : List ValueType) → list_all f.carries_type (filter_map number_of ts) ≡ true → list_all p ts ≡ true → list_all q (map (renamed_type f.types) ts) ≡ true
-  values_pass p q one ts c h =
-      list_all-map q (renamed_type f.types) ts
-      ∙ all_two (λ t. list_all f.carries_type (option_to_list (number_of t))) p (λ t. q (renamed_type f.types t)) one ts (sym (list_all_filter_map f.carries_type number_of ts) ∙ c) h
+  values_pass p q one ts c h = search (std_rules, list_all-map, all_two, list_all_filter_map)
 
   pub no_resource_passes : (t : ValueType) → list_all f.carries_type (option_to_list (number_of t)) ≡ true → not (is_resource_type r t) ≡ true
       → not (is_resource_type s (renamed_type f.types t)) ≡ true
@@ -116,16 +104,10 @@ module _ (r s : Resolve) (f : Renumbering) (valid : KeepsRules r) (is : IsCarrie
   shallow_passes t c h = ap (λ tree. nat_le (levels tree) 100) (type_tree_same r s f valid is below_s t c) ∙ h
 
   named_number : (m : ℕ) → f.carries_type m ≡ true → is_named_number r m ≡ true → is_named_number s (f.types m) ≡ true
-  named_number m c h =
-      let t = is.types m c in
-      ap (passes (λ def. is_some def.name)) t.at_image
-      ∙ (named_alike t.image.name t.def.name t.name
-      ∙ (sym (ap (passes (λ def. is_some def.name)) t.found) ∙ h))
+  named_number m c h = search std_rules
 
   pub all_owned : (o : TypeOwner) (ns : List ℕ) → list_all f.carries_type ns ≡ true → list_all (has_owner r o) ns ≡ true → list_all (has_owner s (owner_under f o)) (map f.types ns) ≡ true
-  all_owned o ns c h =
-      list_all-map (has_owner s (owner_under f o)) f.types ns
-      ∙ all_two f.carries_type (has_owner r o) (λ n. has_owner s (owner_under f o) (f.types n)) (λ n c h. owner_stays r s f valid is below_s o n c h) ns c h
+  all_owned o ns c h = search (std_rules, list_all-map, all_two, owner_stays)
 
   module _ (n : ℕ) (copy : f.copies_type n ≡ true) where
     abbrev t : IsType r s f n
@@ -282,9 +264,7 @@ module _ (r s : Resolve) (f : Renumbering) (valid : KeepsRules r) (is : IsCarrie
 
   -- an unnamed type is copied
   unnamed_kind : (n : ℕ) (t : IsType r s f n) → is_none t.def.name ≡ true → (is_none t.image.name ≡ true) × HasImageKind f.types f.carries_type t.def t.image
-  unnamed_kind n t h =
-      let none = none_is t.def.name h in
-      (none_alike t.image.name t.def.name t.name none, image_kind r s f valid is below_s t.def t.image none t.kind)
+  unnamed_kind n t h = search std_rules
 
   type_is_there : (p q : TypeDef → Bool) → ((n : ℕ) (t : IsType r s f n) → p t.def ≡ true → q t.image ≡ true)
       → (x : ValueType) → list_all f.carries_type (option_to_list (number_of x)) ≡ true → type_is r p x ≡ true → type_is s q (renamed_type f.types x) ≡ true
@@ -298,14 +278,10 @@ module _ (r s : Resolve) (f : Renumbering) (valid : KeepsRules r) (is : IsCarrie
           ap (λ d. option_map_or q d false) t.at_image ∙ one n t (sym (ap (λ d. option_map_or p d false) t.found) ∙ h)
 
   own_there : (m n : ℕ) (t : IsType r s f n) → is_own_of m t.def ≡ true → is_own_of (f.types m) t.image ≡ true
-  own_there m n t h =
-      let u = unnamed_kind n t (first_true _ _ h) in
-      both _ _ u.0 (own_kept f.types t.def.kind t.image.kind u.1.kinds m (second_true (is_none t.def.name) _ h))
+  own_there m n t h = search (std_rules, unnamed_kind, first_true, both, own_kept, second_true)
 
   borrow_there : (m n : ℕ) (t : IsType r s f n) → is_borrow_of m t.def ≡ true → is_borrow_of (f.types m) t.image ≡ true
-  borrow_there m n t h =
-      let u = unnamed_kind n t (first_true _ _ h) in
-      both _ _ u.0 (borrow_kept f.types t.def.kind t.image.kind u.1.kinds m (second_true (is_none t.def.name) _ h))
+  borrow_there m n t h = search (std_rules, unnamed_kind, first_true, both, borrow_kept, second_true)
 
   result_there : (m n : ℕ) (t : IsType r s f n) → is_result_of_own r m t.def ≡ true → is_result_of_own s (f.types m) t.image ≡ true
   result_there m n t h =
@@ -498,9 +474,7 @@ module _ (r s : Resolve) (f : Renumbering) (valid : KeepsRules r) (is : IsCarrie
 
   -- numbers in range
   key_range : (k l : WorldKey) → KeyBecomes f k l → key_in_range s l ≡ true
-  key_range (key.Name a) (key.Name b) z = refl
-  key_range (key.Interface a) (key.Interface b) z = ap (in_list s.interfaces.items) z.0 ∙ interface_there a.0 z.1
-  key_range _ _ z = absurd z
+  key_range x y z = search (std_rules, interface_there)
 
   item_range : (i j : WorldItem) → ItemBecomes f i j → item_in_range s j ≡ true
   item_range (item.Interface a st docs ext) (item.Interface b st2 docs2 ext2) z = ap (in_list s.interfaces.items) z.0 ∙ interface_there a.0 z.1
@@ -514,12 +488,7 @@ module _ (r s : Resolve) (f : Renumbering) (valid : KeepsRules r) (is : IsCarrie
 
   -- labels
   key_label_passes : (k l : WorldKey) (i j : WorldItem) → KeyBecomes f k l → ItemBecomes f i j → key_label k i ≡ true → key_label l j ≡ true
-  key_label_passes (key.Interface a) (key.Interface b) i j z y h = refl
-  key_label_passes (key.Name a) (key.Name b) (item.Interface c st docs ext) (item.Interface d st2 docs2 ext2) z y h = ap is_label z ∙ h
-  key_label_passes (key.Name a) (key.Name b) (item.Function g) (item.Function k) z y h = (λ i. not ((ap is_freestanding y.kind ∙ freestanding_under f g.kind) i) || is_label (z i)) ∙ h
-  key_label_passes (key.Name a) (key.Name b) (item.Type_ c) (item.Type_ d) z y h = ap is_label z ∙ h
-  key_label_passes (key.Name a) (key.Name b) _ _ z y h = absurd y
-  key_label_passes _ _ i j z y h = absurd z
+  key_label_passes x u i j z y h = search std_rules
 
   item_labels_pass : (i j : WorldItem) → ItemBecomes f i j → item_labels i ≡ true → item_labels j ≡ true
   item_labels_pass (item.Interface a st docs ext) (item.Interface b st2 docs2 ext2) z h = stability_alike st2 st z.2 ∙ h
@@ -533,16 +502,11 @@ module _ (r s : Resolve) (f : Renumbering) (valid : KeepsRules r) (is : IsCarrie
   -- what is asked of a function
   pub entry_function : (p q : Function → Bool) → ((g h : Function) → IsFunctionCopy f g h → p g ≡ true → q h ≡ true) → (i j : WorldItem) → ItemBecomes f i j
       → list_all p (option_to_list (item_function i)) ≡ true → list_all q (option_to_list (item_function j)) ≡ true
-  entry_function p q one (item.Function g) (item.Function h) z e = both _ _ (one g h z (first_true _ _ e)) refl
-  entry_function p q one (item.Interface a st docs ext) (item.Interface b st2 docs2 ext2) z e = refl
-  entry_function p q one (item.Type_ a) (item.Type_ b) z e = refl
-  entry_function p q one _ _ z e = absurd z
+  entry_function p q one x y z e = search std_rules
 
   -- function names
   name_key_passes : (s t : Text) → t ≡ s → (k l : WorldKey) → KeyBecomes f k l → is_name_key s k ≡ true → is_name_key t l ≡ true
-  name_key_passes s t e (key.Name a) (key.Name b) z h = (λ i. text_eq (z i) (e i)) ∙ h
-  name_key_passes s t e (key.Interface a) (key.Interface b) z h = no_true h
-  name_key_passes s t e _ _ z h = absurd z
+  name_key_passes s t e x y z h = search std_rules
 
   pub entry_member : (n : ℕ) → (a b : WorldKey × WorldItem) → EntryBecomes f a b → passes (λ g. is_name_key (text_of g.name) a.0 && is_member r (as_world n) g) (item_function a.1) ≡ true
       → passes (λ g. is_name_key (text_of g.name) b.0 && is_member s (as_world (f.worlds n)) g) (item_function b.1) ≡ true
@@ -571,28 +535,10 @@ module _ (r s : Resolve) (f : Renumbering) (valid : KeepsRules r) (is : IsCarrie
 
   own_type_passes : (n : ℕ) (a b : String Global) → text_of b ≡ text_of a → (m k : ℕ) → k ≡ f.types m → f.copies_type m ≡ true → is_own_type r n (key.Name a) m ≡ true
       → is_own_type s (f.worlds n) (key.Name b) k ≡ true
-  own_type_passes n a b same m k e c h =
-      let t = is.types m (is.copied_types m c) in
-      let old : (text_is t.def.name (text_of a) && same_owner t.def.owner (as_world n)) ≡ true =
-      sym (ap (passes (λ def. text_is def.name (text_of a) && same_owner def.owner (as_world n))) t.found) ∙ h in
-      ap (λ x. passes (λ def. text_is def.name (text_of b) && same_owner def.owner (as_world (f.worlds n))) (type_at s x)) e
-      ∙ (ap (passes (λ def. text_is def.name (text_of b) && same_owner def.owner (as_world (f.worlds n)))) t.at_image
-      ∙ both _ _ (ap (text_is t.image.name) same ∙ (text_alike t.image.name t.def.name (text_of a) t.name ∙ first_true _ _ old))
-      (ap (λ x. same_owner x (as_world (f.worlds n))) (t.home ∙ ap (owner_under f) (owner_equal t.def.owner (as_world n) (second_true (text_is t.def.name (text_of a)) _ old))) ∙ owner_itself
-      (as_world (f.worlds n))))
+  own_type_passes n a b same m k e c h = search (std_rules, both, text_alike, first_true, owner_equal, second_true, owner_itself)
 
   pub entry_import_stands : (n : ℕ) → (a b : WorldKey × WorldItem) → EntryBecomes f a b → import_stands r n a.0 a.1 ≡ true → import_stands s (f.worlds n) b.0 b.1 ≡ true
-  entry_import_stands n (key.Interface a, i) (key.Interface b, j) z h = interface_key_passes a.0 b.0 z.0.0 z.0.1 i j z.1 h
-  entry_import_stands n (key.Name a, item.Interface c st docs ext) (key.Name b, item.Interface d st2 docs2 ext2) z h = refl
-  entry_import_stands n (key.Name a, item.Function g) (key.Name b, item.Function k) z h = refl
-  entry_import_stands n (key.Name a, item.Type_ c) (key.Name b, item.Type_ d) z h = own_type_passes n a b z.0 c.0 d.0 z.1.0 z.1.1 h
-  entry_import_stands n (key.Name a, _) (key.Name b, _) z h = absurd z.1
-  entry_import_stands n _ _ z h = absurd z.0
+  entry_import_stands n x y z h = search (std_rules, interface_key_passes, own_type_passes)
 
   pub entry_export_stands : (a b : WorldKey × WorldItem) → EntryBecomes f a b → export_stands r a.0 a.1 ≡ true → export_stands s b.0 b.1 ≡ true
-  entry_export_stands (key.Interface a, i) (key.Interface b, j) z h = interface_key_passes a.0 b.0 z.0.0 z.0.1 i j z.1 h
-  entry_export_stands (key.Name a, item.Interface c st docs ext) (key.Name b, item.Interface d st2 docs2 ext2) z h = refl
-  entry_export_stands (key.Name a, item.Function g) (key.Name b, item.Function k) z h = ap is_freestanding z.1.kind ∙ (freestanding_under f g.kind ∙ h)
-  entry_export_stands (key.Name a, item.Type_ c) (key.Name b, item.Type_ d) z h = no_true h
-  entry_export_stands (key.Name a, _) (key.Name b, _) z h = absurd z.1
-  entry_export_stands _ _ z h = absurd z.0
+  entry_export_stands x y z h = search (std_rules, interface_key_passes, freestanding_under, no_true)

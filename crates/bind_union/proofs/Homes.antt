@@ -1,5 +1,5 @@
 -- What is carried keeps its owner, and a resource stays one.
-use Rattle.std.proofs.Common.{◌&&◌, ◌≡◌, ◌⊎◌, inl, inr, refl, sym, ap, subst, ◌∙◌, ℕ, zero, suc, ◌<◌, arith, Bool, true, false, ◌||◌, ◌==◌, nat_lt, ltb-true, ◌++◌, Option, Some, None, option_map, option_to_list, filter_map}
+use Rattle.std.proofs.Common.{rules as std_rules, ◌&&◌, ◌≡◌, ◌⊎◌, inl, inr, refl, sym, ap, subst, ◌∙◌, ℕ, zero, suc, ◌<◌, arith, Bool, true, false, ◌||◌, ◌==◌, nat_lt, ltb-true, ◌++◌, Option, Some, None, option_map, option_to_list, filter_map}
 use Rattle.std.proofs.lemmas.List.Folds.{list_all-append}
 use Rattle.std.specs.{List.list_all, Option.option_map_or}
 use Rattle.wit_model.specs.declared.model.{Resolve.Resolve, TypeDef.TypeDef, TypeDefKind.TypeDefKind, TypeOwner.TypeOwner, «Type».«Type» as ValueType}
@@ -18,20 +18,15 @@ use Rattle.wit_model.specs.declared.model.TypeOwner.TheVariants as owner
 
 -- a kind is a resource, or an alias of one
 resource_kind : (test : ℕ → Bool) (k : TypeDefKind) → is_resource_kind test k ≡ (is_resource_itself k || option_map_or test (alias_target k) false)
-resource_kind test kind.Resource = refl
-resource_kind test _ = refl
+resource_kind test x = search std_rules
 
 pub all_given : {X : Type 0} (p : X → Bool) (o : Option X) → list_all p (option_to_list o) ≡ passes p o
-all_given p None = refl
-all_given p (Some x) = and-true (p x)
+all_given p y = search std_rules
 
 -- what is asked of all numbers in a kind is asked of those in its members, of what it handles, and of an alias's target
 parts_of_all : (p : ℕ → Bool) (k : TypeDefKind) → list_all p (kind_numbers k)
     ≡ (list_all p (filter_map number_of (member_types k)) && (passes p (handled k) && passes p (alias_target k)))
-parts_of_all p k =
-    list_all-append p (filter_map number_of (member_types k)) (option_to_list (handled k) ++ option_to_list (alias_target k))
-    ∙ ap (λ b. list_all p (filter_map number_of (member_types k)) && b) (list_all-append p (option_to_list (handled k)) (option_to_list (alias_target k))
-    ∙ (λ i. all_given p (handled k) i && all_given p (alias_target k) i))
+parts_of_all p k = search std_rules
 
 pub members_of_all : (p : ℕ → Bool) (k : TypeDefKind) → list_all p (kind_numbers k) ≡ true → list_all p (filter_map number_of (member_types k)) ≡ true
 members_of_all p k h = first_true _ _ (sym (parts_of_all p k) ∙ h)
@@ -117,12 +112,7 @@ module _ (r s : Resolve) (f : Renumbering) (valid : KeepsRules r) (is : IsCarrie
 
   -- what belongs to an owner belongs to the new one
   pub owner_stays : (o : TypeOwner) (n : ℕ) → f.carries_type n ≡ true → has_owner r o n ≡ true → has_owner s (owner_under f o) (f.types n) ≡ true
-  owner_stays o n c h =
-      let t = is.types n c in
-      let same : t.def.owner ≡ o = owner_equal t.def.owner o (sym (ap (λ d. option_map_or (λ def. same_owner def.owner o) d false) t.found) ∙ h) in
-      ap (λ d. option_map_or (λ def. same_owner def.owner (owner_under f o)) d false) t.at_image
-      ∙ (ap (λ x. same_owner x (owner_under f o)) (t.home ∙ ap (owner_under f) same)
-      ∙ owner_itself (owner_under f o))
+  owner_stays o n c h = search (std_rules, owner_equal, owner_itself)
 
   -- the owners to which nothing else is carried
   abbrev pub alone : TypeOwner → Bool
@@ -131,15 +121,7 @@ module _ (r s : Resolve) (f : Renumbering) (valid : KeepsRules r) (is : IsCarrie
   alone owner.None = false
 
   pub owner_apart : (o p : TypeOwner) → carries_owner f p ≡ true → alone o ≡ true → same_owner (owner_under f p) (owner_under f o) ≡ true → same_owner p o ≡ true
-  owner_apart (owner.World a) (owner.World b) c d h = subst (λ (k : ℕ). (b.0 == k) ≡ true) (is.worlds_apart b.0 a.0 c d (equal (f.worlds b.0) (f.worlds a.0) h)) (same-number b.0)
-  owner_apart (owner.Interface a) (owner.Interface b) c d h = subst (λ (k : ℕ). (b.0 == k) ≡ true)
-      (apart f.interfaces f.carries_interface f.copies_interface is.interfaces_rise is.copied_interfaces b.0 a.0 c d (equal (f.interfaces b.0) (f.interfaces a.0) h)) (same-number b.0)
-  owner_apart owner.None p c d h = no_true d
-  owner_apart _ _ c d h = no_true h
+  owner_apart x p c d h = grind (arith, equal, same-number, apart, no_true)
 
   pub owner_back : (o : TypeOwner) (n : ℕ) → alone o ≡ true → f.carries_type n ≡ true → has_owner s (owner_under f o) (f.types n) ≡ true → has_owner r o n ≡ true
-  owner_back o n d c h =
-      let t = is.types n c in
-      ap (λ d. option_map_or (λ def. same_owner def.owner o) d false) t.found
-      ∙ owner_apart o t.def.owner t.carries_home d (sym (ap (λ x. same_owner x (owner_under f o)) t.home)
-      ∙ (sym (ap (λ d. option_map_or (λ def. same_owner def.owner (owner_under f o)) d false) t.at_image) ∙ h))
+  owner_back o n d c h = search (std_rules, owner_apart)

@@ -1,5 +1,5 @@
 -- Types under other numbers stand for the same trees.
-use Rattle.std.proofs.Common.{◌≡◌, refl, sym, ap, ◌∙◌, ℕ, zero, suc, ◌<◌, Bool, true, nat_lt, List, [], ◌∷◌, ◌++◌, map, arith, ltb-true, append-nil, Option, Some, None, option_map, unwrap_or}
+use Rattle.std.proofs.Common.{rules as std_rules, ◌≡◌, refl, sym, ap, ◌∙◌, ℕ, zero, suc, ◌<◌, Bool, true, nat_lt, List, [], ◌∷◌, ◌++◌, map, arith, ltb-true, append-nil, Option, Some, None, option_map, unwrap_or}
 use Rattle.std.proofs.lemmas.List.Elements.{filter_map-append}
 use Rattle.std.specs.{Prelude.String, Prelude.option_to_list, List.list_all, List.flat_map, List.filter_map, List.cons_option, Option.option_map_or}
 use Rattle.std.specs.declared.alloc.Global.{Global}
@@ -19,10 +19,7 @@ use Rattle.wit_model.specs.declared.model.Handle.TheVariants as handle
 
 -- a kind declares what its view does
 pub declared_by_view : (trees : List Tree) (k : TypeDefKind) → declared_view trees (kind_view k) ≡ declared_by trees k
-declared_by_view trees (kind.Record record_) = ap (λ fs. type_ (record_tree fs)) (mapped_twice _ _ record_.fields.items)
-declared_by_view trees (kind.Handle (handle.Own id)) = refl
-declared_by_view trees (kind.Variant variant) = ap (λ cs. type_ (variant_tree cs)) (mapped_twice _ _ variant.cases.items)
-declared_by_view trees _ = refl
+declared_by_view trees x = search (std_rules, mapped_twice)
 
 -- ---- under other numbers
 
@@ -58,12 +55,10 @@ module _ (f : ℕ → ℕ) (us trees : List Tree) where
   Same n = tree_at us (f n) ≡ tree_at trees n
 
   type_same : (t : ValueType) → Each Same (type_numbers t) → tree_of us (renamed_type f t) ≡ tree_of trees t
-  type_same (ty.Id id) h = h.0
-  type_same _ h = refl
+  type_same x h = search std_rules
 
   option_same : (t : Option ValueType) → Each Same (optional_numbers t) → option_map (tree_of us) (option_map (renamed_type f) t) ≡ option_map (tree_of trees) t
-  option_same None h = refl
-  option_same (Some t) h = ap Some (type_same t h)
+  option_same x h = search std_rules
 
   -- what is made of each
   each_made : {X Y : Type 0} (numbers : X → List ℕ) (old new : X → Y) → ((x : X) → Each Same (numbers x) → new x ≡ old x) → (xs : List X) → Each Same (flat_map numbers xs) → map new xs ≡ map old xs
@@ -93,8 +88,7 @@ module _ (f : ℕ → ℕ) (us trees : List Tree) where
 -- ---- the numbers of a view
 
 pub numbers_cons : (t : ValueType) (ts : List ValueType) → filter_map number_of (t ∷ ts) ≡ type_numbers t ++ filter_map number_of ts
-numbers_cons ty.Bool ts = refl
-numbers_cons _ ts = refl
+numbers_cons x ts = search std_rules
 
 flat_numbers : (ts : List ValueType) → flat_map type_numbers ts ≡ filter_map number_of ts
 flat_numbers [] = refl
@@ -123,12 +117,10 @@ one_number : (t : ValueType) → type_numbers t ≡ filter_map number_of (t ∷ 
 one_number t = sym (append-nil (type_numbers t)) ∙ sym (numbers_cons t [])
 
 pub given_numbers : (t : Option ValueType) → optional_numbers t ≡ filter_map number_of (option_to_list t)
-given_numbers None = refl
-given_numbers (Some t) = one_number t
+given_numbers x = search std_rules
 
 alias_numbers : (t : ValueType) → type_numbers t ≡ option_to_list (number_of t)
-alias_numbers ty.Bool = refl
-alias_numbers _ = refl
+alias_numbers x = search std_rules
 
 -- the numbers in a kind are those in its view
 pub numbers_of_view : (k : TypeDefKind) → view_numbers (kind_view k) ≡ kind_numbers k
@@ -183,11 +175,7 @@ module _ (r s : Resolve) (f : ℕ → ℕ) (carried : ℕ → Bool) (below_r : R
   -- a kind whose numbers stand for the same declares the same
   kind_same : (def image : TypeDef) → HasImageKind f carried def image → Each (Same f (trees_of s) (trees_of r)) (view_numbers (kind_view def.kind))
       → declared_by (trees_of s) image.kind ≡ declared_by (trees_of r) def.kind
-  kind_same def image h each =
-      sym (declared_by_view (trees_of s) image.kind)
-      ∙ (ap (declared_view (trees_of s)) h.kinds
-      ∙ (view_same f (trees_of s) (trees_of r) (kind_view def.kind) each
-      ∙ declared_by_view (trees_of r) def.kind))
+  kind_same def image h each = search (std_rules, declared_by_view, view_same)
 
   one_same : (n : ℕ) → ((m : ℕ) → m < n → carried m ≡ true → number_tree s (f m) ≡ number_tree r m) → carried n ≡ true → number_tree s (f n) ≡ number_tree r n
   one_same n same is =

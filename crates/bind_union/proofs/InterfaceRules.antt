@@ -1,5 +1,5 @@
 -- What an interface uses, and what the rules ask of it, holds of its copy, with its numbers in order.
-use Rattle.std.proofs.Common.{◌≡◌, refl, sym, ap, subst, ◌∙◌, ℕ, Bool, true, false, not, ◌==◌, List, [], map, Option, Some, None, option_map, option_and_then, option_to_list, slice_get, ◌+◌, ◌||◌, cond, ◌∷◌, ◌++◌, inl, ◌&&◌, nat_lt, ltb-true, is_some}
+use Rattle.std.proofs.Common.{rules as std_rules, ◌≡◌, refl, sym, ap, subst, ◌∙◌, ℕ, Bool, true, false, not, ◌==◌, List, [], map, Option, Some, None, option_map, option_and_then, option_to_list, slice_get, ◌+◌, ◌||◌, cond, ◌∷◌, ◌++◌, inl, ◌&&◌, nat_lt, ltb-true, is_some}
 use Rattle.std.proofs.lemmas.{Option.same_Some as same-some, Bool.or_right, Bool.and_from as both, Bool.lt-ltb, List.Sums.sum_by-cons, List.Folds.list_all-map}
 use Rattle.std.proofs.lemmas.Simd.{map-map}
 use Rattle.std.specs.{List.list_all, List.Contains, List.AllZip, List.list_any, Option.option_map_or, Prelude.count_by, Prelude.String}
@@ -95,9 +95,7 @@ module _ (f : ℕ → ℕ) (carries copies : ℕ → Bool) (rise : Rises f carri
 module _ (r s : Resolve) (f : Renumbering) (valid : KeepsRules r) (is : IsCarried r s f) (below_s : Keeps references s) where
   interface_of_owner : (o : TypeOwner) → carries_owner f o ≡ true → (owner_interface (owner_under f o) ≡ option_map f.interfaces (owner_interface o))
       × (passes f.carries_interface (owner_interface o) ≡ true)
-  interface_of_owner (owner.World id) c = (refl, refl)
-  interface_of_owner (owner.Interface id) c = (refl, c)
-  interface_of_owner owner.None c = (refl, refl)
+  interface_of_owner x c = search std_rules
 
   -- the interface that a type is an alias out of
   pub interface_used_there : (n : ℕ) → f.carries_type n ≡ true → (interface_used_by s (f.types n) ≡ option_map f.interfaces (interface_used_by r n))
@@ -177,16 +175,10 @@ module _ (r s : Resolve) (f : Renumbering) (valid : KeepsRules r) (is : IsCarrie
 
   -- a named type of an owner is one of the new owner
   pub named_of_there : (o : TypeOwner) (n : ℕ) → f.carries_type n ≡ true → is_named_of r o n ≡ true → is_named_of s (owner_under f o) (f.types n) ≡ true
-  named_of_there o n c h =
-      let t = is.types n c in
-      let old : (is_some t.def.name && same_owner t.def.owner o) ≡ true = sym (ap (passes (λ def. is_some def.name && same_owner def.owner o)) t.found) ∙ h in
-      ap (passes (λ def. is_some def.name && same_owner def.owner (owner_under f o))) t.at_image
-      ∙ both _ _ (named_alike t.image.name t.def.name t.name ∙ first_true _ _ old)
-      (ap (λ x. same_owner x (owner_under f o)) (t.home ∙ ap (owner_under f) (owner_equal t.def.owner o (second_true (is_some t.def.name) _ old))) ∙ owner_itself (owner_under f o))
+  named_of_there o n c h = search (std_rules, both, named_alike, first_true, owner_equal, second_true, owner_itself)
 
   pub all_named_of : (o : TypeOwner) (ns : List ℕ) → list_all f.carries_type ns ≡ true → list_all (is_named_of r o) ns ≡ true → list_all (is_named_of s (owner_under f o)) (map f.types ns) ≡ true
-  all_named_of o ns c h = list_all-map (is_named_of s (owner_under f o)) f.types ns ∙ all_two f.carries_type (is_named_of r o) (λ n. is_named_of s (owner_under f o) (f.types n))
-      (named_of_there o) ns c h
+  all_named_of o ns c h = search (std_rules, list_all-map, all_two, named_of_there)
 
   -- what a copy uses
   pub number_uses : (n : ℕ) → f.copies_type n ≡ true → (used_by_number s (f.types n) ≡ map f.types (used_by_number r n)) × (list_all f.carries_type (used_by_number r n) ≡ true)

@@ -1,5 +1,5 @@
 -- What was there is carried into what grows, under its own numbers.
-use Rattle.std.proofs.Common.{◌≡◌, ◌⊎◌, inl, inr, refl, sym, ap, ◌∙◌, ℕ, zero, suc, ◌<◌, true, false, ◌&&◌, List, [], ◌∷◌, ◌++◌, map, Option, Some, None, option_map, slice_get}
+use Rattle.std.proofs.Common.{rules as std_rules, ◌≡◌, ◌⊎◌, inl, inr, refl, sym, ap, ◌∙◌, ℕ, zero, suc, ◌<◌, true, false, ◌&&◌, List, [], ◌∷◌, ◌++◌, map, Option, Some, None, option_map, slice_get}
 use Rattle.std.proofs.lemmas.List.Folds.{list_all-map}
 use Rattle.std.specs.{Prelude.String, List.AllZip, List.list_all}
 use Rattle.std.specs.declared.alloc.Global.{Global}
@@ -41,30 +41,17 @@ abbrev pub same : ℕ → ℕ
 same n = n
 
 pub same_type : (t : ValueType) → renamed_type same t ≡ t
-same_type ty.Bool = refl
-same_type _ = refl
+same_type x = search std_rules
 
 same_option : (o : Option ValueType) → option_map (renamed_type same) o ≡ o
-same_option None = refl
-same_option (Some t) = ap Some (same_type t)
+same_option x = search std_rules
 
 pub map_same : {X : Type 0} (g : X → X) → ((x : X) → g x ≡ x) → (xs : List X) → map g xs ≡ xs
 map_same g h [] = refl
 map_same g h (x ∷ xs) = λ i. h x i ∷ map_same g h xs i
 
 same_view : (v : KindView) → renamed same v ≡ v
-same_view (record_view fields) = ap record_view (map_same (λ x. (x.0, renamed_type same x.1)) (λ x. ap {B = Text × ValueType} (λ t. (x.0, t)) (same_type x.1)) fields)
-same_view (variant_view cases) = ap variant_view (map_same (λ x. (x.0, option_map (renamed_type same) x.1)) (λ x. ap {B = Text × Option ValueType} (λ t. (x.0, t)) (same_option x.1)) cases)
-same_view (tuple_view ts) = ap tuple_view (map_same (renamed_type same) same_type ts)
-same_view (option_view t) = ap option_view (same_type t)
-same_view (result_view ok err) = λ i. result_view (same_option ok i) (same_option err i)
-same_view (list_view t) = ap list_view (same_type t)
-same_view (map_view k v) = λ i. map_view (same_type k i) (same_type v i)
-same_view (fixed_list_view t n) = ap (λ x. fixed_list_view x n) (same_type t)
-same_view (future_view t) = ap future_view (same_option t)
-same_view (stream_view t) = ap stream_view (same_option t)
-same_view (alias_view t) = ap alias_view (same_type t)
-same_view _ = refl
+same_view y = search (std_rules, map_same, same_type, same_option)
 
 pub get_begin : {X : Type 0} (xs ys : List X) → BeginsWith xs ys → (n : ℕ) (x : X) → slice_get xs n ≡ Some x → slice_get ys n ≡ Some x
 get_begin xs ys b n x e = ap (λ zs. slice_get zs n) b.1 ∙ go xs n e
@@ -75,20 +62,17 @@ get_begin xs ys b n x e = ap (λ zs. slice_get zs n) b.1 ∙ go xs n e
     go (z ∷ zs) (suc k) e = go zs k e
 
 option_same : (o : Option ℕ) → o ≡ option_map same o
-option_same None = refl
-option_same (Some n) = refl
+option_same x = search std_rules
 
 module _ (r : Resolve) (valid : KeepsRules r) where
   abbrev f : Renumbering
   f = itself r
 
   same_owner : (o : TypeOwner) → o ≡ owner_under f o
-  same_owner (owner.World id) = refl
-  same_owner _ = refl
+  same_owner x = search std_rules
 
   same_call : (k : FunctionKind) → k ≡ call_under f k
-  same_call call.Freestanding = refl
-  same_call _ = refl
+  same_call x = search std_rules
 
   pub function_itself : (g : Function) → function_in_range r g ≡ true → IsFunctionCopy f g g
   function_itself g range = record {
@@ -112,13 +96,10 @@ module _ (r : Resolve) (valid : KeepsRules r) where
   -- ---- entries
 
   pub key_itself : (k : WorldKey) → key_in_range r k ≡ true → KeyBecomes f k k
-  key_itself (key.Name name) h = refl
-  key_itself (key.Interface id) h = (refl, h)
+  key_itself x h = search std_rules
 
   pub item_itself : (i : WorldItem) → item_in_range r i ≡ true → ItemBecomes f i i
-  item_itself (item.Interface id st docs ext) h = (refl, h, refl, refl)
-  item_itself (item.Function g) h = function_itself g h
-  item_itself (item.Type_ id) h = (refl, h)
+  item_itself x h = search (std_rules, function_itself)
 
   pub joined_itself : (es : List (WorldKey × WorldItem)) → entries_in_range r es ≡ true → Joined f [] es es
   joined_itself [] h = none

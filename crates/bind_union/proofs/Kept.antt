@@ -1,5 +1,5 @@
 -- Each type, interface and world of what was merged is a copy, of an own one or of one of the other's, and so most rules are kept.
-use Rattle.std.proofs.Common.{◌≡◌, inl, inr, refl, sym, ap, subst, ◌∙◌, ℕ, ◌<◌, Bool, true, false, ◌==◌, nat_lt, ltb-true, [], length, Some, ◌&&◌, not, List, ◌++◌, ◌≤◌, arith, ◌||◌, Option, None, filter_map, map, option_map}
+use Rattle.std.proofs.Common.{rules as std_rules, ◌≡◌, inl, inr, refl, sym, ap, subst, ◌∙◌, ℕ, ◌<◌, Bool, true, false, ◌==◌, nat_lt, ltb-true, [], length, Some, ◌&&◌, not, List, ◌++◌, ◌≤◌, arith, ◌||◌, Option, None, filter_map, map, option_map}
 use Rattle.std.proofs.lemmas.{Bool.lt-ltb, Bool.cases_lt as low_or_high, Bool.and_from as both, Option.slice_get_within, Option.same_Some as same-some}
 use Rattle.std.proofs.lemmas.{List.Folds.list_all-map, List.Folds.list_all-append, List.map-append}
 use Rattle.std.specs.{List.list_all, Prelude.String, Prelude.count_by, Prelude.option_and_then, Map.lookup, Option.option_map_or}
@@ -56,12 +56,10 @@ place_below : (n k : ℕ) → n < k → k ≤ 4294967295 → is_place n ≡ true
 place_below n k low few = ap not (unequal n 4294967295 (λ e. omega (arith, low, few, e)))
 
 unowned : (f : Renumbering) (o : TypeOwner) → same_owner (owner_under f o) owner.None ≡ same_owner o owner.None
-unowned f (owner.World id) = refl
-unowned f _ = refl
+unowned f x = search std_rules
 
 same_option : (o : Option ℕ) → option_map (λ (n : ℕ). n) o ≡ o
-same_option None = refl
-same_option (Some n) = refl
+same_option x = search std_rules
 
 module _ (own other merged : Resolve) (bound other_bound : ℕ) (first second : Renumbering) (left_out : ℕ → Bool) (valid_own : KeepsRules own) (valid_other : KeepsRules other) (is : IsMerged own other merged bound other_bound first second left_out) where
   abbrev pub own_source : Source merged
@@ -462,8 +460,7 @@ module _ (own other merged : Resolve) (bound other_bound : ℕ) (first second : 
       ∙ all_named_of own merged (itself own) valid_own own_source.carried below (as_world bound) own_numbers (range_types own is.own_bound.imports.entries own_imports_range) (first_true _ _ own_types)
 
   all_there : world_type_numbers is.joined.image ≡ filter_map item_type (items is.own_bound.imports.entries ++ items is.joined.new_imports)
-  all_there = ap (λ es. filter_map item_type (items es)) is.joined.imports ∙ ap (filter_map item_type)
-      (map-append (λ (e : WorldKey × WorldItem). e.1) is.own_bound.imports.entries is.joined.new_imports)
+  all_there = search (std_rules, items, map-append)
 
   own_type_order : each_after (λ before k. list_all (λ m. not (has (world_type_numbers is.joined.image) m) || has before m) (used_by_number merged k)) [] own_numbers ≡ true
   own_type_order =
@@ -560,8 +557,7 @@ module _ (own other merged : Resolve) (bound other_bound : ℕ) (first second : 
       by_owner owner.None h = refl
 
   bound_in_range : in_list merged.worlds.items bound ≡ true
-  bound_in_range = subst (λ (k : ℕ). in_list merged.worlds.items k ≡ true) is.bound_there
-      (lt-ltb _ _ (slice_get_within merged.worlds.items (second.worlds other_bound) is.joined.image is.joined.at_image))
+  bound_in_range = search (std_rules, items, lt-ltb, slice_get_within)
 
   own_worlds_there : (w : ℕ) → in_list own.worlds.items w ≡ true → in_list merged.worlds.items w ≡ true
   own_worlds_there w c = go (found-in own.worlds.items w c) (w == bound) refl

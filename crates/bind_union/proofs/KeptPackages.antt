@@ -1,5 +1,5 @@
 -- What stands in the packages of what was merged has its name and its package there, and no two packages have one name.
-use Rattle.std.proofs.Common.{◌≡◌, ◌⊎◌, inl, inr, refl, sym, ap, ◌∙◌, ℕ, Bool, true, false, ◌&&◌, ◌||◌, ◌==◌, not, List, [], Option, Some, None, subst, option_map}
+use Rattle.std.proofs.Common.{rules as std_rules, arith, ◌≡◌, ◌⊎◌, inl, inr, refl, sym, ap, ◌∙◌, ℕ, Bool, true, false, ◌&&◌, ◌||◌, ◌==◌, not, List, [], Option, Some, None, subst, option_map}
 use Rattle.std.proofs.lemmas.{Bool.lt-ltb, Bool.or_right, Bool.and_from as both, Bool.or_left, Option.slice_get_within, Option.same_Some as same-some}
 use Rattle.std.proofs.lemmas.List.Folds.{list_all-append, list_all-map}
 use Rattle.std.specs.{Prelude.String, List.list_all, Option.option_map_or, Option.option_eq}
@@ -54,8 +54,7 @@ module _ (r : Resolve) (valid : KeepsRules r) (n : ℕ) (p : Package) (found : p
   named = package-passes names_in_packages r valid.names_in_packages n p found
 
   interface_of : (name : Option (String Global)) (t : Text) (b : Bool) → text_is name t ≡ true → passes (λ s. b && text_eq (text_of s) t) name ≡ true → (text_is name t && b) ≡ true
-  interface_of None t b h k = no_true h
-  interface_of (Some s) t b h k = both _ _ h (first_true _ _ k)
+  interface_of x t b h k = search std_rules
 
   pub interfaces_stand : list_all (is_interface_of r n) (interface_names p) ≡ true
   interfaces_stand =
@@ -71,70 +70,34 @@ module _ (r : Resolve) (valid : KeepsRules r) (n : ℕ) (p : Package) (found : p
       (first_true _ _ named)
 
   pub worlds_stand : list_all (is_world_of r n) (world_names p) ≡ true
-  worlds_stand =
-      list_all-map (is_world_of r n) (λ e. (text_of e.0, e.1.0)) p.worlds.entries
-      ∙ all_two (λ e. in_list r.worlds.items e.1.0) (world_belongs r n) (λ e. is_world_of r n (text_of e.0, e.1.0))
-      (λ e a b.
-      let w = found-in r.worlds.items e.1.0 a in
-      let old : (is_id n (package_number w.0.«package») && text_eq (text_of w.0.name) (text_of e.0)) ≡ true =
-      sym (ap (passes (λ w. is_id n (package_number w.«package») && text_eq (text_of w.name) (text_of e.0))) w.1) ∙ b in
-      ap (λ o. option_map_or (λ w. text_eq (text_of w.name) (text_of e.0) && is_id n (package_number w.«package»)) o false) w.1
-      ∙ both _ _ (second_true (is_id n (package_number w.0.«package»)) _ old) (first_true _ _ old))
-      p.worlds.entries (sym (list_all-map (λ (id : WorldId). in_list r.worlds.items id.0) (λ e. e.1) p.worlds.entries) ∙ second_true
-      (list_all (λ id. in_list r.interfaces.items id.0) (values p.interfaces)) _ ranges)
-      (first_true _ _ (second_true (list_all (interface_belongs r n) p.interfaces.entries) _ belong))
+  worlds_stand = search (std_rules, list_all-map, all_two, found-in, both, second_true, first_true, ranges, belong)
 
 -- ---- back to the rules
 
 pub found_option : {A : Type 0} (test : A → Bool) (o : Option A) → option_map_or test o false ≡ true → (x : A) × (o ≡ Some x) × (test x ≡ true)
-found_option test None h = no_true h
-found_option test (Some x) h = (x, refl, h)
+found_option test y h = search std_rules
 
 module _ (r : Resolve) (n : ℕ) (p : Package) (stand : list_all (is_interface_of r n) (interface_names p) ≡ true) (worlds : list_all (is_world_of r n) (world_names p) ≡ true) where
   each_interface : (q : String Global × InterfaceId → Bool) → ((e : String Global × InterfaceId) → is_interface_of r n (text_of e.0, e.1.0) ≡ true → q e ≡ true)
       → list_all q p.interfaces.entries ≡ true
-  each_interface q one = all_weaker (λ e. is_interface_of r n (text_of e.0, e.1.0)) q one p.interfaces.entries
-      (sym (list_all-map (is_interface_of r n) (λ e. (text_of e.0, e.1.0)) p.interfaces.entries) ∙ stand)
+  each_interface q one = search (std_rules, all_weaker, list_all-map)
 
   each_world : (q : String Global × WorldId → Bool) → ((e : String Global × WorldId) → is_world_of r n (text_of e.0, e.1.0) ≡ true → q e ≡ true) → list_all q p.worlds.entries ≡ true
-  each_world q one = all_weaker (λ e. is_world_of r n (text_of e.0, e.1.0)) q one p.worlds.entries
-      (sym (list_all-map (is_world_of r n) (λ e. (text_of e.0, e.1.0)) p.worlds.entries) ∙ worlds)
+  each_world q one = search (std_rules, all_weaker, list_all-map)
 
   pub ranges_hold : (list_all (λ id. in_list r.interfaces.items id.0) (values p.interfaces) && list_all (λ id. in_list r.worlds.items id.0) (values p.worlds)) ≡ true
-  ranges_hold =
-      both _ _
-      (list_all-map (λ (id : InterfaceId). in_list r.interfaces.items id.0) (λ e. e.1) p.interfaces.entries ∙ each_interface (λ e. in_list r.interfaces.items e.1.0)
-      (λ e h. let i = found_option _ (interface_at r e.1.0) h in lt-ltb _ _ (slice_get_within r.interfaces.items e.1.0 i.0 i.1)))
-      (list_all-map (λ (id : WorldId). in_list r.worlds.items id.0) (λ e. e.1) p.worlds.entries ∙ each_world (λ e. in_list r.worlds.items e.1.0)
-      (λ e h. let w = found_option _ (world_at r e.1.0) h in lt-ltb _ _ (slice_get_within r.worlds.items e.1.0 w.0 w.1)))
+  ranges_hold = search (std_rules, both, list_all-map, each_interface, found_option, lt-ltb, slice_get_within, each_world)
 
   pub names_hold : names_in_packages.package_ r n p ≡ true
   unfolding names_in_packages
-  names_hold =
-      both _ _
-      (each_interface (λ e. passes (λ i. text_is i.name (text_of e.0)) (interface_at r e.1.0))
-      (λ e h. let i = found_option _ (interface_at r e.1.0) h in ap (passes (λ i. text_is i.name (text_of e.0))) i.1 ∙ first_true _ _ i.2))
-      (each_world (λ e. passes (λ w. text_eq (text_of w.name) (text_of e.0)) (world_at r e.1.0))
-      (λ e h. let w = found_option _ (world_at r e.1.0) h in ap (passes (λ w. text_eq (text_of w.name) (text_of e.0))) w.1 ∙ first_true _ _ w.2))
+  names_hold = search (std_rules, both, each_interface, found_option, first_true, each_world)
 
   belongs : (name : Option (String Global)) (t : Text) (b : Bool) → text_is name t ≡ true → b ≡ true → passes (λ s. b && text_eq (text_of s) t) name ≡ true
-  belongs None t b h k = refl
-  belongs (Some s) t b h k = both _ _ k h
+  belongs x t b h k = search std_rules
 
   pub places_hold : places.package_ r n p ≡ true
   unfolding places
-  places_hold =
-      both _ _
-      (each_interface (interface_belongs r n) (λ e h. let i = found_option _ (interface_at r e.1.0) h in
-      ap (passes (λ i. passes (λ name. is_id n (package_number i.«package») && text_eq (text_of name) (text_of e.0)) i.name)) i.1 ∙ belongs i.0.name (text_of e.0)
-      (is_id n (package_number i.0.«package»)) (first_true _ _ i.2) (second_true (text_is i.0.name (text_of e.0)) _ i.2)))
-      (both _ _
-      (each_world (world_belongs r n) (λ e h. let w = found_option _ (world_at r e.1.0) h in
-      ap (passes (λ w. is_id n (package_number w.«package») && text_eq (text_of w.name) (text_of e.0))) w.1 ∙ both _ _ (second_true (text_eq (text_of w.0.name) (text_of e.0)) _ w.2)
-      (first_true _ _ w.2)))
-      (each_interface (λ e. not (is_world_name p (text_of e.0)) || names_itself r e)
-      (λ e h. let i = found_option _ (interface_at r e.1.0) h in or_right (not (is_world_name p (text_of e.0))) (names_itself r e)
-      (ap (λ o. option_map_or (λ i. text_is i.name (text_of e.0)) o false) i.1 ∙ first_true _ _ i.2))))
+  places_hold = search (std_rules, both, each_interface, found_option, belongs, first_true, second_true, each_world, or_right)
 
 -- ---- in what was merged
 
@@ -144,14 +107,10 @@ abbrev same_parts : ℕ × ℕ × ℕ × List ℕ × List ℕ → ℕ × ℕ × 
 same_parts a b = a.0 == b.0 && (a.1 == b.1 && (a.2 == b.2 && (text_eq a.3 b.3 && text_eq a.4 b.4)))
 
 versions_by_parts : (a b : Option Version) → option_eq same_version a b ≡ option_eq same_parts (option_map parts_of a) (option_map parts_of b)
-versions_by_parts None None = refl
-versions_by_parts None (Some b) = refl
-versions_by_parts (Some a) None = refl
-versions_by_parts (Some a) (Some b) = refl
+versions_by_parts x y = search std_rules
 
 same_name : (a b c d : PackageName) → IsSameName a b → IsSameName c d → same_package_name b d ≡ same_package_name a c
-same_name a b c d x y = λ i. text_eq (x.namespace i) (y.namespace i) && (text_eq (x.name i) (y.name i)
-    && (versions_by_parts b.version d.version ∙ ((λ j. option_eq same_parts (x.version j) (y.version j)) ∙ sym (versions_by_parts a.version c.version))) i)
+same_name a b c d x y = search std_rules
 
 abbrev is_package_name : PackageName → Bool
 is_package_name p = is_label (text_of p.namespace) && (is_label (text_of p.name) && passes is_version p.version)
@@ -186,24 +145,10 @@ module _ (own other merged : Resolve) (bound other_bound : ℕ) (first second : 
 
   copied_interface : (n : ℕ) (name : Text) (m : ℕ) → first.copies_interface m ≡ true → is_interface_of other n (name, m) ≡ true
       → is_interface_of merged (first.packages n) (name, first.interfaces m) ≡ true
-  copied_interface n name m c h =
-      let i = is.first_copies.carried.interfaces m (is.first_copies.carried.copied_interfaces m c) in
-      let old : (text_is i.old.name name && is_id n (package_number i.old.«package»)) ≡ true =
-      sym (ap (λ o. option_map_or (λ i. text_is i.name name && is_id n (package_number i.«package»)) o false) i.found) ∙ h in
-      ap (λ o. option_map_or (λ i. text_is i.name name && is_id (first.packages n) (package_number i.«package»)) o false) i.at_image
-      ∙ both _ _ (text_alike i.image.name i.old.name name i.name ∙ first_true _ _ old)
-      (ap (is_id (first.packages n)) (i.in_package (named_too i.old.name name (first_true _ _ old))) ∙ id_under first.packages n (package_number i.old.«package»)
-      (second_true (text_is i.old.name name) _ old))
+  copied_interface n name m c h = grind (arith, both, text_alike, first_true, named_too, id_under, second_true)
 
   copied_world : (n : ℕ) (name : Text) (m : ℕ) → first.carries_world m ≡ true → is_world_of other n (name, m) ≡ true → is_world_of merged (first.packages n) (name, first.worlds m) ≡ true
-  copied_world n name m c h =
-      let w = is.first_worlds m c in
-      let j = w.joined in
-      let old : (text_eq (text_of j.old.name) name && is_id n (package_number j.old.«package»)) ≡ true =
-      sym (ap (λ o. option_map_or (λ w. text_eq (text_of w.name) name && is_id n (package_number w.«package»)) o false) j.found) ∙ h in
-      ap (λ o. option_map_or (λ w. text_eq (text_of w.name) name && is_id (first.packages n) (package_number w.«package»)) o false) j.at_image
-      ∙ both _ _ (ap (λ t. text_eq t name) w.name ∙ first_true _ _ old)
-      (ap (is_id (first.packages n)) w.in_package ∙ id_under first.packages n (package_number j.old.«package») (second_true (text_eq (text_of j.old.name) name) _ old))
+  copied_world n name m c h = search (std_rules, both, first_true, id_under, second_true)
 
   own_stand : (n : ℕ) (p : Package) → package_at own n ≡ Some p → (list_all (is_interface_of merged n) (interface_names p) ≡ true) × (list_all (is_world_of merged n) (world_names p) ≡ true)
   own_stand n p e = (

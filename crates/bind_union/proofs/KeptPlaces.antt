@@ -1,5 +1,5 @@
 -- In what was merged interfaces and worlds stand in their packages, and each inline interface in one world.
-use Rattle.std.proofs.Common.{◌≡◌, ◌⊎◌, inl, inr, refl, sym, ap, subst, ◌∙◌, ℕ, zero, suc, ◌<◌, ◌≤◌, ◌+◌, arith, Bool, true, false, ◌&&◌, ◌||◌, ◌==◌, not, List, [], ◌∷◌, ◌++◌, append-nil, length, filter_map, Option, Some, None, option_map, option_and_then, is_some}
+use Rattle.std.proofs.Common.{rules as std_rules, ◌≡◌, ◌⊎◌, inl, inr, refl, sym, ap, subst, ◌∙◌, ℕ, zero, suc, ◌<◌, ◌≤◌, ◌+◌, arith, Bool, true, false, ◌&&◌, ◌||◌, ◌==◌, not, List, [], ◌∷◌, ◌++◌, append-nil, length, filter_map, Option, Some, None, option_map, option_and_then, is_some}
 use Rattle.std.proofs.lemmas.Bool.{false_from_ne_true, not-true, lt-ltb, or_left, or_right, and_from as both, cases_lt as low_or_high}
 use Rattle.std.proofs.lemmas.Option.{slice_get_within, same_Some as same-some}
 use Rattle.std.specs.{Prelude.String, Prelude.sum_by, List.list_all, List.Contains, Option.option_map_or, Option.option_eq}
@@ -38,8 +38,7 @@ abbrev place_by : Resolve → ℕ → Option Text → Option ℕ → Bool
 place_by r n name p = is_some p && option_map_or (λ t. listed_by r n t p) name (inline_by r n p)
 
 some_number : (p : Option PackageId) → is_some p ≡ is_some (package_number p)
-some_number None = refl
-some_number (Some p) = refl
+some_number x = search std_rules
 
 interface_place : (r : Resolve) (n : ℕ) (i : Interface) → places.interface_ r n i ≡ place_by r n (optional_text i.name) (package_number i.«package»)
 unfolding places
@@ -55,8 +54,7 @@ interface_place r n i = λ j. some_number i.«package» j && by_name i.name j
 place_kept : (r s : Resolve) (m n : ℕ) (name : Option Text) (p q : Option ℕ) → (is_some p ≡ true → is_some q ≡ true)
     → ((t : Text) → name ≡ Some t → listed_by r m t p ≡ true → listed_by s n t q ≡ true)
     → (name ≡ None → inline_by r m p ≡ true → inline_by s n q ≡ true) → place_by r m name p ≡ true → place_by s n name q ≡ true
-place_kept r s m n None p q some listed inline h = both _ _ (some (first_true _ _ h)) (inline refl (second_true (is_some p) _ h))
-place_kept r s m n (Some t) p q some listed inline h = both _ _ (some (first_true _ _ h)) (listed t refl (second_true (is_some p) _ h))
+place_kept r s m n x p q some listed inline h = search std_rules
 
 -- by the names in a package
 listed_in : (r : Resolve) (n : ℕ) (t : Text) (k : ℕ) (p : Package) → package_at r k ≡ Some p
@@ -74,20 +72,16 @@ unfolding places
 world_place r n w = λ j. some_number w.«package» j && option_map_or (world_is_listed n (text_of w.name)) (option_and_then (package_at r) (package_number w.«package»)) true
 
 option_itself : (p : Option ℕ) → option_eq ◌==◌ p p ≡ true
-option_itself None = refl
-option_itself (Some n) = same-number n
+option_itself x = search std_rules
 
 option_equal : (p q : Option ℕ) → option_eq ◌==◌ p q ≡ true → p ≡ q
-option_equal None None h = refl
-option_equal (Some p) (Some q) h = ap Some (equal p q h)
-option_equal _ _ h = no_true h
+option_equal x y h = search std_rules
 
 some_text : (o : Option (String Global)) → o ≡ None → optional_text o ≡ None
 some_text o e = ap optional_text e
 
 no_text : (o : Option (String Global)) → optional_text o ≡ None → o ≡ None
-no_text None e = refl
-no_text (Some x) e = absurd cc
+no_text x e = search std_rules
 
 -- where it is shown once, and nowhere else, in a world of its package, the rule is kept
 inline_holds : (s : Resolve) (t : ℕ) (p : Option ℕ) (k : ℕ) (w : World) → world_at s k ≡ Some w → times_shown t w ≡ 1 → package_number w.«package» ≡ p
@@ -284,10 +278,7 @@ module _ (own other merged : Resolve) (bound other_bound : ℕ) (first second : 
       (sym (world_place other m j.old) ∙ world-passes places other valid_other.places m j.old j.found))
 
   bound_place : places.world_ merged bound is.joined.image ≡ true
-  bound_place =
-      world_place merged bound is.joined.image
-      ∙ ((λ i. world_by merged bound (text_of (is.bound_name i)) (package_number (is.bound_package i)))
-      ∙ own_world_place bound is.own_bound is.bound_at)
+  bound_place = search (std_rules, world_place, own_world_place)
 
   -- ---- inline interfaces
 
@@ -537,8 +528,7 @@ module _ (own other merged : Resolve) (bound other_bound : ℕ) (first second : 
       (sym (interface_place own n i) ∙ interface-passes places own valid_own.places n i e)
 
   some_mapped : (g : ℕ → ℕ) (p : Option ℕ) → is_some p ≡ true → is_some (option_map g p) ≡ true
-  some_mapped g None h = h
-  some_mapped g (Some n) h = refl
+  some_mapped g x h = search std_rules
 
   first_place : (m : ℕ) (copy : first.copies_interface m ≡ true)
       → places.interface_ merged (first.interfaces m) (is.first_copies.carried.interfaces m (is.first_copies.carried.copied_interfaces m copy)).image ≡ true

@@ -1,5 +1,5 @@
 -- A copied type stands in its new owner's list under its name, once.
-use Rattle.std.proofs.Common.{◌≡◌, refl, sym, ap, ◌∙◌, ℕ, arith, Bool, true, false, ◌&&◌, ◌||◌, cond, not, ◌==◌, List, [], ◌∷◌, ◌++◌, map, Option, Some, None, option_map, option_and_then, filter_map}
+use Rattle.std.proofs.Common.{rules as std_rules, ◌≡◌, refl, sym, ap, ◌∙◌, ℕ, arith, Bool, true, false, ◌&&◌, ◌||◌, cond, not, ◌==◌, List, [], ◌∷◌, ◌++◌, map, Option, Some, None, option_map, option_and_then, filter_map}
 use Rattle.std.proofs.lemmas.Bool.{and_from as both}
 use Rattle.std.specs.{Prelude.count_by, Prelude.bytes_eq, List.list_any, Map.lookup, Map.keys_of, HashMap.get_by, HashMap.get_by_text}
 use Rattle.wit_model.specs.declared.model.{Resolve.Resolve, Interface.Interface, TypeId.TypeId, WorldKey.WorldKey, WorldItem.WorldItem}
@@ -99,9 +99,7 @@ module _ (r s : Resolve) (f : Renumbering) (valid : KeepsRules r) (is : IsCarrie
   IsFresh own = has (filter_map item_type (items own)) (f.types m) ≡ false
 
   same_name_key : (k l : WorldKey) → KeyBecomes f k l → is_name_key name l ≡ is_name_key name k
-  same_name_key (key.Name a) (key.Name b) z = ap (λ t. text_eq t name) z
-  same_name_key (key.Interface a) (key.Interface b) z = refl
-  same_name_key _ _ z = absurd z
+  same_name_key x y z = search std_rules
 
   -- it is found among what is added, under a new key
   found_added : (own : List (WorldKey × WorldItem)) → IsFresh own → (olds news : List (WorldKey × WorldItem)) → Joined f own olds news

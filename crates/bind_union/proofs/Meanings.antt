@@ -1,5 +1,5 @@
 -- What is carried means what it meant.
-use Rattle.std.proofs.Common.{◌≡◌, ◌⊎◌, inl, inr, refl, sym, ap, ◌∙◌, ℕ, true, false, List, [], ◌∷◌, map, Option, Some, None, option_map, option_to_list, is_some, unwrap_or, filter_map, length}
+use Rattle.std.proofs.Common.{rules as std_rules, ◌≡◌, ◌⊎◌, inl, inr, refl, sym, ap, ◌∙◌, ℕ, true, false, List, [], ◌∷◌, map, Option, Some, None, option_map, option_to_list, is_some, unwrap_or, filter_map, length}
 use Rattle.std.proofs.lemmas.{List.Folds.list_all-append, Bool.lt-ltb, Bool.and_from as both, Option.slice_get_within, Simd.map-map}
 use Rattle.std.specs.{Prelude.String, List.list_all, Option.option_map_or, FinMap.from_entries}
 use Rattle.std.specs.declared.alloc.Global.{Global}
@@ -21,8 +21,7 @@ use Rattle.wit_model.specs.declared.model.WorldItem.TheVariants as item
 use Rattle.wit_model.specs.declared.model.FunctionKind.TheVariants as call
 
 async_under : (f : Renumbering) (k : FunctionKind) → is_async (call_under f k) ≡ is_async k
-async_under f call.Freestanding = refl
-async_under f _ = refl
+async_under f x = search std_rules
 
 module _ (r s : Resolve) (f : Renumbering) (valid : KeepsRules r) (is : IsCarried r s f) (below_s : Keeps references s) where
   -- ---- types
@@ -102,11 +101,7 @@ module _ (r s : Resolve) (f : Renumbering) (valid : KeepsRules r) (is : IsCarrie
           old.functions.entries image.functions.entries c.functions
 
   pub interface_means_at : (n : ℕ) → f.copies_interface n ≡ true → interface_meaning_at s (f.interfaces n) ≡ interface_meaning_at r n
-  interface_means_at n copy =
-      let i = is.interfaces n (is.copied_interfaces n copy) in
-      ap (λ o. option_map_or (interface_meaning s) o no_interface) i.at_image
-      ∙ (interface_means i.old i.image (i.copied copy)
-      ∙ sym (ap (λ o. option_map_or (interface_meaning r) o no_interface) i.found))
+  interface_means_at n copy = search (std_rules, interface_means)
 
   -- ---- worlds, where inline interfaces are copied
 

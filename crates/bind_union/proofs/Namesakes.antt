@@ -1,5 +1,5 @@
 -- Types of interfaces of one path and one sense stand for each other.
-use Rattle.std.proofs.Common.{◌≡◌, ◌⊎◌, inl, inr, refl, sym, ap, subst, ◌∙◌, ℕ, zero, suc, ◌+◌, arith, Bool, true, false, ◌&&◌, ◌||◌, ◌==◌, not, cond, List, [], ◌∷◌, map, nat_lt, Option, Some, None, option_map, is_some, unwrap_or}
+use Rattle.std.proofs.Common.{rules as std_rules, ◌≡◌, ◌⊎◌, inl, inr, refl, sym, ap, subst, ◌∙◌, ℕ, zero, suc, ◌+◌, arith, Bool, true, false, ◌&&◌, ◌||◌, ◌==◌, not, cond, List, [], ◌∷◌, map, nat_lt, Option, Some, None, option_map, is_some, unwrap_or}
 use Rattle.std.proofs.lemmas.{Cmp.nat_list_cmp_total, List.Sums.sum_by-cons, List.Folds.list_all-map, Simd.map-map, Option.same_Some as same-some}
 use Rattle.std.specs.{Prelude.String, Prelude.bytes_eq, Prelude.count_by, Option.option_map_or, FinMap.find, FinMap.from_entries, FinMap.get-from_entries}
 use Rattle.std.specs.{List.list_all, List.Contains, Map.lookup, HashMap.get_by_text}
@@ -33,23 +33,18 @@ use Rattle.wit_model.specs.declared.model.«Type».TheVariants as ty
 
 -- an alias declares its target's tree
 pub alias_declares : (trees : List Tree) (k : TypeDefKind) (t : ℕ) → alias_target k ≡ Some t → declared_by trees k ≡ type_ (tree_at trees t)
-alias_declares trees (kind.Type_ (ty.Id id)) t h = ap (λ n. type_ (tree_at trees n)) (same-some id.0 t h)
-alias_declares trees (kind.Handle (handle.Own id)) _ h = absurd cc
-alias_declares trees _ _ h = absurd cc
+alias_declares trees x t h = search std_rules
 
 -- what declares a name is an alias
 pub name_is_alias : (trees : List Tree) (k : TypeDefKind) (p : Place) (n : Text) → declared_by trees k ≡ type_ (named p n) → (t : ℕ) × (alias_target k ≡ Some t) × (tree_at trees t ≡ named p n)
-name_is_alias trees (kind.Type_ (ty.Id id)) p n h = (id.0, refl, ap tree_of_declaration h)
-name_is_alias trees (kind.Handle (handle.Own id)) p n h = absurd cc
-name_is_alias trees _ p n h = absurd cc
+name_is_alias trees x p n h = search std_rules
 
 abbrev pub declares_resource : Declaration → Bool
 declares_resource (type_ t) = false
 declares_resource resource = true
 
 pub resource_declares : (trees : List Tree) (k : TypeDefKind) → is_resource_itself k ≡ declares_resource (declared_by trees k)
-resource_declares trees (kind.Handle (handle.Own id)) = refl
-resource_declares trees _ = refl
+resource_declares trees x = search std_rules
 
 -- ---- places
 

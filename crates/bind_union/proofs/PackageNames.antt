@@ -1,5 +1,5 @@
 -- Names in packages that were joined.
-use Rattle.std.proofs.Common.{◌≡◌, ◌⊎◌, inl, inr, refl, sym, ap, subst, ◌∙◌, ℕ, zero, suc, Bool, true, false, ◌||◌, cond, List, [], ◌∷◌, ◌++◌, arith, Option, Some, None, option_map}
+use Rattle.std.proofs.Common.{rules as std_rules, ◌≡◌, ◌⊎◌, inl, inr, refl, sym, ap, subst, ◌∙◌, ℕ, zero, suc, Bool, true, false, ◌||◌, cond, List, [], ◌∷◌, ◌++◌, arith, Option, Some, None, option_map}
 use Rattle.std.proofs.lemmas.{Bool.or_left, Bool.or_right, Bool.and_from as both, List.Folds.list_any-append}
 use Rattle.std.specs.{Prelude.bytes_eq, List.list_all, List.list_any, List.Contains, Map.keys_of, HashMap.get_by_text}
 use Rattle.wit_model.proofs.{Elements.none-in, TextLemmas.text_same as text-same}
@@ -58,8 +58,7 @@ pub worlds_by_name : (p : Package) (name : Text) → option_map (λ id. id.0) (g
 worlds_by_name p name = sym (lookup_of_map (λ t. bytes_eq name t) text_of (λ (id : WorldId). id.0) p.worlds.entries)
 
 pub world_name_listed : (p : Package) (name : Text) → is_world_name p name ≡ is_name name (world_names p)
-world_name_listed p name = any_of_map (λ other. text_eq name (text_of other)) (λ e. e.0) p.worlds.entries ∙ sym
-    (any_of_map (λ (e : Text × ℕ). text_eq name e.0) (λ e. (text_of e.0, e.1.0)) p.worlds.entries)
+world_name_listed p name = search (std_rules, any_of_map)
 
 -- a number that is found under a name stands under it
 pub found_name : (name : Text) (n : ℕ) (es : List (Text × ℕ)) → is_id n (under_text name es) ≡ true → is_name name es ≡ true
@@ -83,8 +82,7 @@ no_key : (t : Text) (own : List (Text × ℕ)) → is_name t own ≡ false → l
 no_key t own h = any_of_map (λ k. bytes_eq t k) (λ (e : Text × ℕ). e.0) own ∙ h
 
 this_or_later : {P : Type 0} (n : ℕ) (b : Bool) (old : ℕ) (later : Option ℕ) → is_id n (cond b (Some old) later) ≡ true → (old ≡ n → P) → (is_id n later ≡ true → P) → P
-this_or_later n true old later h here more = here (equal old n h)
-this_or_later n false old later h here more = more h
+this_or_later n x old later h here more = search std_rules
 
 -- a copy is found under its name
 pub copy_found : (number : ℕ → ℕ) (copies left_out : ℕ → Bool) (own olds news : List (Text × ℕ)) → JoinedNames number copies left_out own olds news → (name : Text) (n : ℕ)

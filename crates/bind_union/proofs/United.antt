@@ -1,5 +1,5 @@
 -- The interfaces of what was merged, by path, are those of both.
-use Rattle.std.proofs.Common.{◌≡◌, refl, ◌⊎◌, inl, inr, sym, ap, ◌∙◌, ℕ, ◌≤◌, arith, Bool, true, false, [], length, Option, Some, None, option_map, option_and_then}
+use Rattle.std.proofs.Common.{rules as std_rules, ◌≡◌, refl, ◌⊎◌, inl, inr, sym, ap, ◌∙◌, ℕ, ◌≤◌, arith, Bool, true, false, [], length, Option, Some, None, option_map, option_and_then}
 use Rattle.std.proofs.lemmas.{Bool.lt-ltb, Bool.cases_lt as low_or_high, Option.slice_get_within, Option.same_Some as same-some}
 use Rattle.std.specs.{Prelude.String, List.Contains}
 use Rattle.std.specs.declared.alloc.Global.{Global}
@@ -18,14 +18,11 @@ use Rattle.bind_union.proofs.{Kept.below, PackageNames.joined_name, PackageNames
 use Rattle.base_lemmas.proofs.{Bools.left_of as first_true, Bools.right_of as second_true, Elements.all-contained}
 
 pub some_name : (o : Option (String Global)) (t : Text) → text_is o t ≡ true → optional_text o ≡ Some t
-some_name None t h = no_true h
-some_name (Some s) t h = ap Some (text-same (text_of s) t h)
+some_name x t h = search std_rules
 
 -- an interface without a name has no path
 no_name_no_path : (r : Resolve) (n : ℕ) (i : Interface) → interface_at r n ≡ Some i → i.name ≡ None → interface_path r n ≡ None
-no_name_no_path r n i e h =
-    ap (option_and_then (path_of_interface r)) e
-    ∙ (path_parts r i ∙ ap (λ o. path_by r (optional_text o) (package_number i.«package»)) h)
+no_name_no_path r n i e h = search std_rules
 
 module _ (own other merged : Resolve) (bound other_bound : ℕ) (first second : Renumbering) (left_out : ℕ → Bool) (valid_own : IsValid own) (valid_other : IsValid other) (distinct : HasDistinctKeys merged) (is : IsMerged own other merged bound other_bound first second left_out) where
   valid : IsValid merged

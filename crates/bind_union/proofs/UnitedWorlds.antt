@@ -1,5 +1,5 @@
 -- The worlds of what was merged, by path, are those of both, but for the bound one.
-use Rattle.std.proofs.Common.{◌≡◌, ◌⊎◌, inl, inr, refl, sym, ap, subst, ◌∙◌, ℕ, arith, Bool, true, false, ◌==◌, [], Option, Some, None, option_map, option_and_then}
+use Rattle.std.proofs.Common.{rules as std_rules, ◌≡◌, ◌⊎◌, inl, inr, refl, sym, ap, subst, ◌∙◌, ℕ, arith, Bool, true, false, ◌==◌, [], Option, Some, None, option_map, option_and_then}
 use Rattle.std.proofs.lemmas.Option.{same_Some as same-some}
 use Rattle.std.specs.{Option.option_map_or, List.Contains}
 use Rattle.wit_model.specs.declared.model.{Resolve.Resolve, Package.Package, PackageId.PackageId, World.World}
@@ -45,10 +45,7 @@ module _ (own other merged : Resolve) (bound other_bound : ℕ) (first second : 
       ∙ sym (ap (option_map (λ package_. path_in (identity_of package_.name) t)) p.1))
 
   own_path : (n : ℕ) (w : World) → world_at own n ≡ Some w → path_of_world merged w ≡ path_of_world own w
-  own_path n w e =
-      world_path merged w
-      ∙ (own_path_by (text_of w.name) (package_number w.«package») (world_package own valid_own.rules n w e)
-      ∙ sym (world_path own w))
+  own_path n w e = search (std_rules, world_path, own_path_by, world_package)
 
   bound_path : path_of_world merged is.joined.image ≡ path_of_world own is.own_bound
   bound_path =

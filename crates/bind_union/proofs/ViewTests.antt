@@ -1,5 +1,5 @@
 -- What the rules ask of a kind, by its view, and the same under other numbers.
-use Rattle.std.proofs.Common.{◌≡◌, refl, sym, ap, ◌∙◌, ℕ, Bool, true, false, ◌&&◌, ◌==◌, subst, List, [], ◌∷◌, ◌++◌, map, filter_map, nat_lt, option_map, Option, Some, None}
+use Rattle.std.proofs.Common.{rules as std_rules, ◌≡◌, refl, sym, ap, ◌∙◌, ℕ, Bool, true, false, ◌&&◌, ◌==◌, subst, List, [], ◌∷◌, ◌++◌, map, filter_map, nat_lt, option_map, Option, Some, None}
 use Rattle.std.proofs.lemmas.{Simd.map-map, List.map-append}
 use Rattle.std.specs.{Prelude.option_to_list, Prelude.nat_le, List.cons_option, Option.option_map_or}
 use Rattle.wit_model.specs.declared.model.{Resolve.Resolve, TypeDefKind.TypeDefKind, «Type».«Type» as ValueType}
@@ -25,20 +25,16 @@ filter_both h g k f same (x ∷ xs) = (λ i. cons_option (same x i) (filter_both
     given (Some y) = refl
 
 pub one_given : {X Y : Type 0} (g : X → Y) (o : Option X) → option_to_list (option_map g o) ≡ map g (option_to_list o)
-one_given g None = refl
-one_given g (Some x) = refl
+one_given g x = search std_rules
 
 pub two_given : {X Y : Type 0} (g : X → Y) (a b : Option X) → option_to_list (option_map g a) ++ option_to_list (option_map g b) ≡ map g (option_to_list a ++ option_to_list b)
-two_given g None b = one_given g b
-two_given g (Some x) b = ap (λ ys. g x ∷ ys) (one_given g b)
+two_given g y b = search std_rules
 
 pub number_under : (f : ℕ → ℕ) (t : ValueType) → number_of (renamed_type f t) ≡ option_map f (number_of t)
-number_under f ty.Bool = refl
-number_under f _ = refl
+number_under f x = search std_rules
 
 key_under : (f : ℕ → ℕ) (t : ValueType) → is_map_key (renamed_type f t) ≡ is_map_key t
-key_under f ty.Bool = refl
-key_under f _ = refl
+key_under f x = search std_rules
 
 pub numbers_under : (f : ℕ → ℕ) (ts : List ValueType) → filter_map number_of (map (renamed_type f) ts) ≡ map f (filter_map number_of ts)
 numbers_under f ts = filter_both number_of (renamed_type f) number_of f (number_under f) ts
@@ -133,34 +129,27 @@ view_ok (result_view ok err) = ok
 view_ok _ = None
 
 own_by_view : (n : ℕ) (k : TypeDefKind) → is_own_kind n k ≡ is_id n (view_own (kind_view k))
-own_by_view n (kind.Handle (handle.Own id)) = refl
-own_by_view n _ = refl
+own_by_view n x = search std_rules
 
 borrow_by_view : (n : ℕ) (k : TypeDefKind) → is_borrow_kind n k ≡ is_id n (view_borrow (kind_view k))
-borrow_by_view n (kind.Handle (handle.Own id)) = refl
-borrow_by_view n _ = refl
+borrow_by_view n x = search std_rules
 
 pub ok_by_view : (r : Resolve) (n : ℕ) (k : TypeDefKind) → has_own_ok r n k ≡ option_map_or (type_is r (is_own_of n)) (view_ok (kind_view k)) false
-ok_by_view r n (kind.Handle (handle.Own id)) = refl
-ok_by_view r n _ = refl
+ok_by_view r n x = search std_rules
 
 own_under : (f : ℕ → ℕ) (v : KindView) → view_own (renamed f v) ≡ option_map f (view_own v)
-own_under f (record_view fields) = refl
-own_under f _ = refl
+own_under f x = search std_rules
 
 borrow_under : (f : ℕ → ℕ) (v : KindView) → view_borrow (renamed f v) ≡ option_map f (view_borrow v)
-borrow_under f (record_view fields) = refl
-borrow_under f _ = refl
+borrow_under f x = search std_rules
 
 pub ok_under : (f : ℕ → ℕ) (v : KindView) → view_ok (renamed f v) ≡ option_map (renamed_type f) (view_ok v)
-ok_under f (record_view fields) = refl
-ok_under f _ = refl
+ok_under f x = search std_rules
 
 -- ---- a kind that is the same under other numbers
 
 pub id_under : (g : ℕ → ℕ) (n : ℕ) (o : Option ℕ) → is_id n o ≡ true → is_id (g n) (option_map g o) ≡ true
-id_under g n None h = h
-id_under g n (Some m) h = subst (λ (k : ℕ). (g m == g k) ≡ true) (equal m n h) (same-number (g m))
+id_under g n x h = search std_rules
 
 module _ (f : ℕ → ℕ) (k l : TypeDefKind) (same : kind_view l ≡ renamed f (kind_view k)) where
   facts_same : facts_of l ≡ facts_under f (facts_of k)
@@ -198,7 +187,4 @@ module _ (f : ℕ → ℕ) (k l : TypeDefKind) (same : kind_view l ≡ renamed f
   borrow_kept = handle_kept is_borrow_kind view_borrow borrow_by_view (borrow_under f)
 
   pub numbers_same : kind_numbers l ≡ map f (kind_numbers k)
-  numbers_same =
-      (λ i. filter_map number_of (types_same i) ++ (option_to_list (handled_same i) ++ option_to_list (alias_same i)))
-      ∙ ((λ i. numbers_under f (member_types k) i ++ two_given f (handled k) (alias_target k) i)
-      ∙ sym (map-append f (filter_map number_of (member_types k)) (option_to_list (handled k) ++ option_to_list (alias_target k))))
+  numbers_same = search (std_rules, types_same, handled_same, alias_same, numbers_under, two_given, handled, map-append)

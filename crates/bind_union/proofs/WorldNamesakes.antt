@@ -1,5 +1,5 @@
 -- Imports of one key and one sense stand for each other.
-use Rattle.std.proofs.Common.{arith, ◌≡◌, ◌⊎◌, inl, inr, refl, sym, ap, ◌∙◌, ℕ, Bool, true, false, ◌&&◌, ◌==◌, nat_lt, Option, Some, None, option_map, option_and_then, is_some}
+use Rattle.std.proofs.Common.{rules as std_rules, arith, ◌≡◌, ◌⊎◌, inl, inr, refl, sym, ap, ◌∙◌, ℕ, Bool, true, false, ◌&&◌, ◌==◌, nat_lt, Option, Some, None, option_map, option_and_then, is_some}
 use Rattle.std.proofs.lemmas.Option.{same_Some as same-some}
 use Rattle.std.specs.{Prelude.String, Prelude.count_by, List.list_all, List.Contains, Option.option_map_or, Map.lookup, HashMap.get_by}
 use Rattle.std.specs.declared.alloc.Global.{Global}
@@ -146,8 +146,7 @@ pub path_is : (r : Resolve) (n : ℕ) → path_so (item_sense (interface_item r 
 path_is r n = by_path path_so (λ o. o) r n (λ p. refl) refl
 
 sort_is : (r : Resolve) (i : WorldItem) → sort (item_sense (item_meaning r i)) ≡ sort_of_item i
-sort_is r (item.Interface a st docs ext) = by_path sort (λ o. 0) r a.0 (λ p. refl) refl
-sort_is r _ = refl
+sort_is r x = search std_rules
 
 module _ (own other : Resolve) (f : Renumbering) (bound other_bound : ℕ) (valid_own : IsValid own) (valid_other : IsValid other) (matched : AreMatched own other f.interfaces f.types) (is : WorldsAgree own other f bound other_bound) (x e : WorldKey × WorldItem) (held_x : Contains is.own_world.imports.entries x) (held_e : Contains is.other_world.imports.entries e) (keys : key_text own x.0 ≡ key_text other e.0) where
   senses : item_sense (item_meaning own x.1) ≡ item_sense (item_meaning other e.1)
@@ -186,8 +185,7 @@ module _ (own other : Resolve) (f : Renumbering) (bound other_bound : ℕ) (vali
   own_type _ i p q t k = absurd cc
 
   declared_is : (r : Resolve) (i : WorldItem) (t : ℕ) → item_type i ≡ Some t → declared_so (item_sense (item_meaning r i)) ≡ Some (type_meaning_at r t).declaration
-  declared_is r (item.Type_ a) t k = ap (λ n. Some (type_meaning_at r n).declaration) (same-some a.0 t k)
-  declared_is r _ t k = absurd cc
+  declared_is r x t k = search std_rules
 
   module _ (t : ℕ) (is_type : item_type e.1 ≡ Some t) where
     old : IsWorldType other valid_other other_bound is.other_world is.other_at e.0 t

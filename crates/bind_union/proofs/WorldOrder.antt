@@ -1,5 +1,5 @@
 -- What an item of a world uses stands before it where its copy stands, too, and an interface or a type is an item there as often.
-use Rattle.std.proofs.Common.{◌≡◌, refl, sym, ap, subst, ◌∙◌, ℕ, Bool, true, false, ◌||◌, not, ◌==◌, List, [], ◌∷◌, ◌++◌, append-nil, append_assoc, map, filter, Option, Some, None, option_map, option_to_list, filter_map, zero, suc, ◌≤◌, ◌+◌, arith, ◌&&◌, cond, ltb-true, length, slice_get}
+use Rattle.std.proofs.Common.{rules as std_rules, ◌≡◌, refl, sym, ap, subst, ◌∙◌, ℕ, Bool, true, false, ◌||◌, not, ◌==◌, List, [], ◌∷◌, ◌++◌, append-nil, append_assoc, map, filter, Option, Some, None, option_map, option_to_list, filter_map, zero, suc, ◌≤◌, ◌+◌, arith, ◌&&◌, cond, ltb-true, length, slice_get}
 use Rattle.std.proofs.lemmas.{Bool.or_left, Bool.or_right, Bool.and_from as both, Bool.false_from_ne_true, List.Folds.list_all-map, List.Folds.list_any-append}
 use Rattle.std.proofs.lemmas.{List.Elements.filter_map-append, List.Sums.sum_by-cons, List.Sums.sum_by-append, List.map-append, Option.same_Some as same-some}
 use Rattle.std.specs.{List.list_all, List.Contains, List.cons_option, Prelude.count_by, Prelude.sum_by}
@@ -92,10 +92,7 @@ module _ (f : Renumbering) where
 
   -- a copy stands for what it copies
   pub becomes : (i j : WorldItem) → ItemBecomes f i j → ItemStandsFor f i j
-  becomes (item.Interface a st docs ext) (item.Interface b st2 docs2 ext2) z = z.0
-  becomes (item.Function g) (item.Function k) z = tt
-  becomes (item.Type_ a) (item.Type_ b) z = z.0
-  becomes _ _ z = absurd z
+  becomes x y z = search std_rules
 
   pub id_stands : (s : Numbered f) (i j : WorldItem) → ItemStandsFor f i j → (m : ℕ) → is_id m (s.number i) ≡ true → is_id (s.under m) (s.number j) ≡ true
   id_stands s i j z m h = ap (is_id (s.under m)) (s.stands i j z) ∙ id_under s.under m (s.number i) h
@@ -111,8 +108,7 @@ abbrev pub Holds : List (WorldKey × WorldItem) → List WorldItem → Type 0
 Holds own news = (h : WorldItem → Option ℕ) (x : WorldKey × WorldItem) → Contains own x → (m : ℕ) → is_id m (h x.1) ≡ true → has (filter_map h news) m ≡ true
 
 either : (a b : Bool) → (a || b) ≡ true → {P : Type 0} → (a ≡ true → P) → (b ≡ true → P) → P
-either true b h p q = p refl
-either false b h p q = q h
+either x b h p q = search std_rules
 
 module _ (f : Renumbering) where
   covers_met : (olds news : List WorldItem) (own : List (WorldKey × WorldItem)) (old there : WorldKey × WorldItem) → Contains own there → ItemStandsFor f old.1 there.1 → Holds own news
@@ -294,8 +290,7 @@ module _ (h : WorldItem → Option ℕ) (n : ℕ) where
 
 range_items : (r : Resolve) (h : WorldItem → Option ℕ) (p : ℕ → Bool) → ((i : WorldItem) → item_in_range r i ≡ true → list_all p (option_to_list (h i)) ≡ true) → (es : List (WorldKey × WorldItem))
     → entries_in_range r es ≡ true → list_all p (filter_map h (items es)) ≡ true
-range_items r h p one es e = by_items h p es
-    ∙ all_weaker (λ (x : WorldKey × WorldItem). key_in_range r x.0 && item_in_range r x.1) _ (λ x k. one x.1 (second_true (key_in_range r x.0) _ k)) es e
+range_items r h p one es e = search (std_rules, by_items, all_weaker, second_true)
 
 pub range_interfaces : (r : Resolve) (es : List (WorldKey × WorldItem)) → entries_in_range r es ≡ true → list_all (in_list r.interfaces.items) (filter_map item_interface (items es)) ≡ true
 range_interfaces r es e = range_items r item_interface (in_list r.interfaces.items) one es e

@@ -1,5 +1,5 @@
 -- What the rules ask of a world holds of one in which another's entries stand.
-use Rattle.std.proofs.Common.{◌≡◌, refl, sym, ap, ◌∙◌, ℕ, Bool, true, false, ◌&&◌, ◌||◌, not, List, [], ◌∷◌, ◌++◌, append-nil, map, Option, Some, None, option_to_list, is_some, filter_map}
+use Rattle.std.proofs.Common.{rules as std_rules, ◌≡◌, refl, sym, ap, ◌∙◌, ℕ, Bool, true, false, ◌&&◌, ◌||◌, not, List, [], ◌∷◌, ◌++◌, append-nil, map, Option, Some, None, option_to_list, is_some, filter_map}
 use Rattle.std.proofs.lemmas.{Bool.or_right, Bool.and_from as both, List.Folds.list_all-append, List.Folds.list_all-map, List.Elements.filter_map-append}
 use Rattle.std.proofs.lemmas.List.{map-append}
 use Rattle.std.specs.{Prelude.String, List.list_all, List.cons_option, Option.option_map_or}
@@ -32,11 +32,7 @@ on_function p e = list_all p (option_to_list (item_function e.1))
 pub by_entries : (p : Function → Bool) (w : World)
     → list_all p (functions_of_world w) ≡ (list_all (λ (e : WorldKey × WorldItem). list_all p (option_to_list (item_function e.1))) w.imports.entries && list_all
     (λ (e : WorldKey × WorldItem). list_all p (option_to_list (item_function e.1))) w.exports.entries)
-by_entries p w =
-    list_all_filter_map p item_function (items_of w)
-    ∙ (list_all-append (λ i. list_all p (option_to_list (item_function i))) (values w.imports) (values w.exports)
-    ∙ (λ i. list_all-map (λ i. list_all p (option_to_list (item_function i))) (λ (e : WorldKey × WorldItem). e.1) w.imports.entries i && list_all-map
-    (λ i. list_all p (option_to_list (item_function i))) (λ (e : WorldKey × WorldItem). e.1) w.exports.entries i))
+by_entries p w = search (std_rules, list_all_filter_map, list_all-append, list_all-map)
 
 -- a test on the numbers of items
 pub after_given : (t : List ℕ → ℕ → Bool) (h : WorldItem → Option ℕ) (before xs : List WorldItem)
@@ -77,18 +73,11 @@ module _ (r s : Resolve) (f : Renumbering) (valid : KeepsRules r) (is : IsCarrie
   sides_pass : (p q p_export q_export : WorldKey × WorldItem → Bool) → ((a b : WorldKey × WorldItem) → EntryBecomes f a b → p a ≡ true → q b ≡ true)
       → ((a b : WorldKey × WorldItem) → EntryBecomes f a b → p_export a ≡ true → q_export b ≡ true) → list_all q own_imports ≡ true → list_all q_export own_exports ≡ true
       → (list_all p j.old.imports.entries && list_all p_export j.old.exports.entries) ≡ true → (list_all q j.image.imports.entries && list_all q_export j.image.exports.entries) ≡ true
-  sides_pass p q p_export q_export one one_export oi oe h =
-      both _ _
-      (ap (list_all q) j.imports ∙ (list_all-append q own_imports j.new_imports
-      ∙ both _ _ oi (added_pass f own_imports p q one j.old.imports.entries j.new_imports j.joined_imports (first_true _ _ h))))
-      (ap (list_all q_export) j.exports ∙ (list_all-append q_export own_exports j.new_exports
-      ∙ both _ _ oe (added_pass f own_exports p_export q_export one_export j.old.exports.entries j.new_exports j.joined_exports (second_true (list_all p j.old.imports.entries) _ h))))
+  sides_pass p q p_export q_export one one_export oi oe h = search (std_rules, both, list_all-append, added_pass, first_true, second_true)
 
   functions_pass : (p q : Function → Bool) → ((g h : Function) → IsFunctionCopy f g h → p g ≡ true → q h ≡ true) → list_all (on_function q) own_imports ≡ true
       → list_all (on_function q) own_exports ≡ true → list_all p (functions_of_world j.old) ≡ true → list_all q (functions_of_world j.image) ≡ true
-  functions_pass p q one oi oe h =
-      let each = λ (a b : WorldKey × WorldItem) (z : EntryBecomes f a b). entry_function r s f valid is below_s p q one a.1 b.1 z.1 in
-      by_entries q j.image ∙ sides_pass (on_function p) (on_function q) (on_function p) (on_function q) each each oi oe (sym (by_entries p j.old) ∙ h)
+  functions_pass p q one oi oe h = search (std_rules, entry_function, by_entries, sides_pass)
 
   -- numbers in range
   pub world_range_passes : entries_in_range s own_imports ≡ true → entries_in_range s own_exports ≡ true
@@ -184,8 +173,7 @@ module _ (r s : Resolve) (f : Renumbering) (valid : KeepsRules r) (is : IsCarrie
   in_order_here before k = list_all (λ m. not (has (world_type_numbers j.old) m) || has before m) (used_by_number r k)
 
   numbers_are : numbers ≡ filter_map item_type (items own_imports) ++ filter_map item_type (items j.new_imports)
-  numbers_are = ap (λ es. filter_map item_type (items es)) j.imports ∙ (ap (filter_map item_type) (map-append (λ (e : WorldKey × WorldItem). e.1) own_imports j.new_imports) ∙ filter_map-append
-      item_type (items own_imports) (items j.new_imports))
+  numbers_are = search (std_rules, items, map-append, filter_map-append)
 
   old_types : (list_all (is_named_of r (as_world n)) (world_type_numbers j.old) && are_in_order r (world_type_numbers j.old)) ≡ true
   unfolding order_of_types
@@ -193,11 +181,7 @@ module _ (r s : Resolve) (f : Renumbering) (valid : KeepsRules r) (is : IsCarrie
 
   entry_named : (a b : WorldKey × WorldItem) → EntryBecomes f a b → list_all (is_named_of r (as_world n)) (option_to_list (item_type a.1)) ≡ true
       → list_all (is_named_of s (as_world number)) (option_to_list (item_type b.1)) ≡ true
-  entry_named (k, item.Type_ a) (l, item.Type_ b) z h = both _ _ (ap (is_named_of s (as_world number)) z.1.0 ∙ named_of_there r s f valid is below_s (as_world n) a.0 (is.copied_types a.0 z.1.1)
-      (first_true _ _ h)) refl
-  entry_named (k, item.Interface a st docs ext) (l, item.Interface b st2 docs2 ext2) z h = refl
-  entry_named (k, item.Function g) (l, item.Function e) z h = refl
-  entry_named _ _ z h = absurd z.1
+  entry_named x y z h = search (std_rules, both, named_of_there, first_true)
 
   all_named : list_all (is_named_of s (as_world number)) (filter_map item_type (items own_imports)) ≡ true → list_all (is_named_of s (as_world number)) numbers ≡ true
   all_named own =
@@ -210,10 +194,7 @@ module _ (r s : Resolve) (f : Renumbering) (valid : KeepsRules r) (is : IsCarrie
       (sym (by_items item_type (is_named_of r (as_world n)) j.old.imports.entries) ∙ first_true _ _ old_types)))
 
   named_owned : (m : ℕ) → f.carries_type m ≡ true → is_named_of s (as_world number) (f.types m) ≡ true → has_owner s (as_world number) (f.types m) ≡ true
-  named_owned m c h =
-      let t = is.types m c in
-      ap (λ o. option_map_or (λ def. same_owner def.owner (as_world number)) o false) t.at_image
-      ∙ second_true (is_some t.image.name) _ (sym (ap (passes (λ def. is_some def.name && same_owner def.owner (as_world number))) t.at_image) ∙ h)
+  named_owned m c h = search std_rules
 
   module _ (named : list_all (is_named_of s (as_world number)) numbers ≡ true) where
     used_there : (olds news : List ℕ) → ((m : ℕ) → has olds m ≡ true → has news (f.types m) ≡ true) → (used : List ℕ) → list_all f.carries_type used ≡ true

@@ -1,5 +1,5 @@
 -- How what one step appends goes with what the steps before it did.
-use Rattle.std.proofs.Common.{◌≡◌, ℕ, Bool, true, false, ◌&&◌, List, [], ◌∷◌, ◌++◌, Result, Ok, Err, OnOk, OnErr, IsOkUnless, IsErrAnd, refl, sym, ap, subst, ◌∙◌, append_assoc}
+use Rattle.std.proofs.Common.{rules as std_rules, ◌≡◌, ℕ, Bool, true, false, ◌&&◌, List, [], ◌∷◌, ◌++◌, Result, Ok, Err, OnOk, OnErr, IsOkUnless, IsErrAnd, refl, sym, ap, subst, ◌∙◌, append_assoc}
 use Rattle.std.proofs.lemmas.List.{append-nil}
 use Rattle.wit_model.specs.declared.error.Error.{Error}
 use Rattle.comp_bytes.specs.{Form.Spellings, Form.Are, Form.Tagged, Form.Joined, Held.Begins, Appending.Appended, Appending.Stopped, Appending.Appends}
@@ -8,12 +8,10 @@ use Rattle.wit_model.specs.declared.error.Error.TheVariants as errors
 -- ---- what a test on the whole says where it fails on a part
 
 pub first_fails : (a b : Bool) → a ≡ false → a && b ≡ false
-first_fails false b e = refl
-first_fails true b e = absurd cc
+first_fails x b e = search std_rules
 
 pub second_fails : (a b : Bool) → b ≡ false → a && b ≡ false
-second_fails false b e = refl
-second_fails true b e = e
+second_fails x b e = search std_rules
 
 -- ---- refusals
 
@@ -25,8 +23,7 @@ begins_after old text mid new e b = (text ++ b.0, b.1 ∙ ap (λ (l : List ℕ).
 
 -- want of memory where nothing has been appended
 pub no_memory : (fits : Bool) (old new : List ℕ) (e : Error) → e ≡ errors.Memory → new ≡ old → Stopped fits old new e
-no_memory fits old new errors.Memory m same = record { kept = ([], same ∙ sym (append-nil old)); size = λ s. absurd cc; refuses = tt }
-no_memory fits old new e m same = absurd cc
+no_memory fits old new e m same = search std_rules
 
 -- a refusal where nothing, or a first part, has been appended; the whole does not fit where the part does not
 pub stopped : (part whole : Bool) (old new : List ℕ) (e : Error) → Stopped part old new e → (part ≡ false → whole ≡ false) → Stopped whole old new e
@@ -55,29 +52,17 @@ done form text fits old new x items spelled = record { ok = record { items = ite
 -- a writer that refuses for want of memory alone, and then leaves the bytes as they were
 pub by_memory : {X : Type 0} (form : Spellings) (text : List ℕ) (fits : Bool) (old new : List ℕ) (r : Result X Error)
     → form text → OnOk r (new ≡ old ++ text) → OnErr r (new ≡ old) → IsOkUnless r errors.Memory → Appends form text fits old new r
-by_memory form text fits old new (Ok x) s ok err memory = done form text fits old new x ok s
-by_memory form text fits old new (Err e) s ok err memory = refused form text fits old new e (no_memory fits old new e memory err)
+by_memory form text fits old new y s ok err memory = search std_rules
 
 pub joined : {X : Type 0} (first second : Spellings) (front back : List ℕ) (part whole : Bool) (old mid new : List ℕ) (r : Result X Error)
     → Appended first front old mid → Appends second back part mid new r → (part ≡ false → whole ≡ false) → Appends (Joined first second) (front ++ back) whole old new r
-joined first second front back part whole old mid new (Ok x) a b falls =
-    done (Joined first second) (front ++ back) whole old new x
-    (b.ok.items ∙ ap (λ (l : List ℕ). l ++ back) a.items ∙ append_assoc old front back)
-    (front, back, refl, a.spelled, b.ok.spelled)
-joined first second front back part whole old mid new (Err e) a b falls =
-    refused (Joined first second) (front ++ back) whole old new e (stopped_after part whole first front old mid new e a b.err falls)
+joined first second front back part whole old mid new y a b falls = search (std_rules, done, append_assoc, refused, stopped_after)
 
 pub tagged : {X : Type 0} (tag : ℕ) (form : Spellings) (text : List ℕ) (fits : Bool) (old mid new : List ℕ) (r : Result X Error)
     → mid ≡ old ++ tag ∷ [] → Appends form text fits mid new r → Appends (Tagged tag form) (tag ∷ text) fits old new r
-tagged tag form text fits old mid new (Ok x) e a =
-    done (Tagged tag form) (tag ∷ text) fits old new x
-    (a.ok.items ∙ ap (λ (l : List ℕ). l ++ text) e ∙ append_assoc old (tag ∷ []) text)
-    (text, refl, a.ok.spelled)
-tagged tag form text fits old mid new (Err x) e a =
-    refused (Tagged tag form) (tag ∷ text) fits old new x (stopped_after fits fits (Are (tag ∷ [])) (tag ∷ []) old mid new x (record { items = e; spelled = refl }) a.err (λ h. h))
+tagged tag form text fits old mid new y e a = search (std_rules, done, append_assoc, refused, stopped_after)
 
 -- a refusal of a part that is passed on
 pub passed_on : {X : Type 0} (form : Spellings) (text : List ℕ) (fits : Bool) (old new : List ℕ) (e : Error) (r : Result X Error) → IsErrAnd r (λ given. given ≡ e) → Stopped fits old new e
     → Appends form text fits old new r
-passed_on form text fits old new e (Ok x) h s = absurd h
-passed_on form text fits old new e (Err given) h s = refused form text fits old new given (subst (λ (x : Error). Stopped fits old new x) (sym h) s)
+passed_on form text fits old new e y h s = search std_rules

@@ -1,5 +1,5 @@
 -- A component under construction: what its bytes say, and one more part.
-use Rattle.std.proofs.Common.{◌≡◌, ℕ, ◌+◌, ◌^◌, ◌<◌, ◌≤◌, Bool, true, false, List, [], ◌∷◌, ◌++◌, length, drop, Some, refl, sym, ap, subst, ◌∙◌, arith, append_assoc, length-append, length-drop}
+use Rattle.std.proofs.Common.{rules as std_rules, ◌≡◌, ℕ, ◌+◌, ◌^◌, ◌<◌, ◌≤◌, Bool, true, false, List, [], ◌∷◌, ◌++◌, length, drop, Some, refl, sym, ap, subst, ◌∙◌, arith, append_assoc, length-append, length-drop}
 use Rattle.std.proofs.lemmas.{Bool.false≢true, List.append-nil, List.Concat.flat_map-append}
 use Rattle.std.specs.List.{flat_map}
 use Rattle.comp_bytes.specs.{Form.Spellings, Form.Sequence, Form.Vector, Form.Name, Parts.Part, Parts.sections_of_parts, Parts.top_slots, Parts.parts_of}
@@ -28,18 +28,10 @@ module _ {A : Type 0} (form : A → Spellings) (bytes_of : A → List ℕ) where
       ap found_in found
 
   pub items_push : (xs : List A) (y : A) (n : ℕ) (bytes : List ℕ) → IsItems form bytes_of xs n bytes → form y (bytes_of y) → IsItems form bytes_of (xs ++ y ∷ []) (n + 1) (bytes ++ bytes_of y)
-  items_push xs y n bytes h s = record {
-    counted = omega (arith, h.counted, length-append xs (y ∷ []));
-    spelled = sequence_push form xs y bytes (bytes_of y) h.spelled s;
-    written = ap (λ (l : List ℕ). l ++ bytes_of y) h.written ∙ sym (flat_map-append bytes_of xs (y ∷ []) ∙ ap (λ (l : List ℕ). flat_map bytes_of xs ++ l) (append-nil (bytes_of y)));
-  }
+  items_push xs y n bytes h s = search (std_rules, length-append, sequence_push, flat_map-append, append-nil)
 
   pub items_one : (y : A) (bytes : List ℕ) → bytes ≡ bytes_of y → form y (bytes_of y) → IsItems form bytes_of (y ∷ []) 1 bytes
-  items_one y bytes e s = record {
-    counted = refl;
-    spelled = (bytes_of y, [], e ∙ sym (append-nil (bytes_of y)), s, refl);
-    written = e ∙ sym (append-nil (bytes_of y));
-  }
+  items_one y bytes e s = search std_rules
 
   -- a section of items
   pub section_spelled : (id : ℕ) (xs : List A) → length (vector_bytes bytes_of xs) < 2 ^ 32 → length xs < 2 ^ 32 → Sequence form xs (flat_map bytes_of xs)
@@ -52,15 +44,11 @@ module _ {A : Type 0} (form : A → Spellings) (bytes_of : A → List ℕ) where
       )
 
 pub group_found : (g : Group) (exports : Bool) (count : ℕ) (items : List ℕ) → IsGroup g exports count items → group_in exports count items ≡ g
-group_found (Group.of_types ts) exports count items h = rw h.0 (ap Group.of_types (items_in IsTopType top_type_bytes type_at type_law ts count items h.1))
-group_found (Group.of_exports es) exports count items h = rw h.0 (ap Group.of_exports (items_in IsTopExport top_export_bytes top_export_at export_law es count items h.1))
+group_found x exports count items h = search (std_rules, items_in, type_law, export_law)
 
 -- its bytes, when it is closed
 pub group_closed : (g : Group) (exports : Bool) (count : ℕ) (items : List ℕ) → IsGroup g exports count items → closed_bytes (section_id exports) count items ≡ flat_map section_bytes (group_sections g)
-group_closed (Group.of_types []) exports count items h = rw h.1.counted refl
-group_closed (Group.of_types (t ∷ ts)) exports count items h = rw (h.0, h.1.counted, h.1.written) (sym (append-nil (section_bytes (Section.types (t ∷ ts)))))
-group_closed (Group.of_exports []) exports count items h = rw h.1.counted refl
-group_closed (Group.of_exports (e ∷ es)) exports count items h = rw (h.0, h.1.counted, h.1.written) (sym (append-nil (section_bytes (Section.exports (e ∷ es)))))
+group_closed x exports count items h = search std_rules
 
 group_spelled : (g : Group) (exports : Bool) (count : ℕ) (items : List ℕ) → IsGroup g exports count items → count < 2 ^ 32 → (0 < count → length (u32_bytes count ++ items) < 2 ^ 32)
     → Sequence IsSection (group_sections g) (flat_map section_bytes (group_sections g))
@@ -80,15 +68,10 @@ group_spelled (Group.of_exports (e ∷ es)) exports count items h few small =
 -- ---- what is kept is what the bytes say
 
 behind_preamble : (done text : List ℕ) → begun done ≡ preamble ++ text → drop 8 done ≡ text
-behind_preamble [] text e = ap (λ (l : List ℕ). drop 8 l) e
-behind_preamble (b ∷ bytes) text e = ap (λ (l : List ℕ). drop 8 l) e
+behind_preamble x text e = search std_rules
 
 sections_found : (sections : List Section) (done : List ℕ) → begun done ≡ component_bytes sections → Sequence IsSection sections (flat_map section_bytes sections) → sections_in done ≡ sections
-sections_found sections done e s =
-    let rest : drop 8 done ≡ flat_map section_bytes sections = behind_preamble done (flat_map section_bytes sections) e in
-    let few : length (drop 8 done) ≤ length done = omega (arith, length-drop 8 done) in
-    let read : sections_of (length done) (drop 8 done) ≡ Some sections = sections_again sections (drop 8 done) (subst (λ (l : List ℕ). Sequence IsSection sections l) (sym rest) s) (length done) few in
-    ap found_sections read
+sections_found sections done e s = search (std_rules, behind_preamble, length-drop, sections_again)
 
 -- a component that is kept, and its parts
 pub record Kept (sections : List Section) (group : Group) (done items : List ℕ) (count : ℕ) (exports : Bool) (types : ℕ) : Type 0 where
@@ -112,8 +95,7 @@ pub record Grown (done items : List ℕ) (count : ℕ) (exports : Bool) (p : Par
   pub shows : kept_parts done' items' count' exports' ≡ kept_parts done items count exports ++ p ∷ []
 
 begun-begun : (done text : List ℕ) → begun (begun done ++ text) ≡ begun done ++ text
-begun-begun [] text = refl
-begun-begun (b ∷ bytes) text = refl
+begun-begun x text = search std_rules
 
 -- ---- the open section closed
 
@@ -123,17 +105,10 @@ module _ (done items : List ℕ) (count : ℕ) (exports : Bool) (types : ℕ) (h
   all_sections = sections_in done ++ group_sections (group_in exports count items)
 
   pub closed_begins : begun done ++ closed_bytes (section_id exports) count items ≡ component_bytes all_sections
-  closed_begins =
-      ap (λ (l : List ℕ). l ++ closed_bytes (section_id exports) count items) h.begins
-      ∙ append_assoc preamble (flat_map section_bytes (sections_in done)) (closed_bytes (section_id exports) count items)
-      ∙ ap (λ (l : List ℕ). preamble ++ (flat_map section_bytes (sections_in done) ++ l)) (group_closed (group_in exports count items) exports count items h.held)
-      ∙ ap (λ (l : List ℕ). preamble ++ l) (sym (flat_map-append section_bytes (sections_in done) (group_sections (group_in exports count items))))
+  closed_begins = search (std_rules, append_assoc, group_closed, flat_map-append)
 
   pub closed_spelled : count < 2 ^ 32 → (0 < count → length (u32_bytes count ++ items) < 2 ^ 32) → Sequence IsSection all_sections (flat_map section_bytes all_sections)
-  closed_spelled few small =
-      subst (λ (l : List ℕ). Sequence IsSection all_sections l) (sym (flat_map-append section_bytes (sections_in done) (group_sections (group_in exports count items))))
-      (sequence_append IsSection (sections_in done) (group_sections (group_in exports count items)) (flat_map section_bytes (sections_in done))
-      (flat_map section_bytes (group_sections (group_in exports count items))) h.spelled (group_spelled (group_in exports count items) exports count items h.held few small))
+  closed_spelled few small = search (std_rules, flat_map-append, sequence_append, group_spelled)
 
   -- a part that joins no section
   abbrev pub StandsApart : Part → Type 0
@@ -179,8 +154,7 @@ join_type_of sections (Group.of_types (u ∷ us)) done items count types t h som
 
 pub join_type : (done items : List ℕ) (count types : ℕ) (t : TopType) → Builds done items count false types → 0 < count → IsTopType t (top_type_bytes t)
     → Grown done items count false (Part.top_type t) done (items ++ top_type_bytes t) (count + 1) false (types + 1)
-join_type done items count types t h some s = grown done items count false (Part.top_type t) done (items ++ top_type_bytes t) (count + 1) false (types + 1)
-    (join_type_of (sections_in done) (group_in false count items) done items count types t h some s)
+join_type done items count types t h some s = search (std_rules, grown, join_type_of)
 
 pub join_type_at : (done items : List ℕ) (count : ℕ) (exports : Bool) (types : ℕ) (t : TopType) → exports ≡ false → Builds done items count exports types → 0 < count → IsTopType t (top_type_bytes t)
     → Grown done items count exports (Part.top_type t) done (items ++ top_type_bytes t) (count + 1) exports (types + 1)
@@ -214,8 +188,7 @@ join_export_of sections (Group.of_exports (u ∷ us)) done items count types x h
 
 pub join_export : (done items : List ℕ) (count types : ℕ) (x : TopExport) → Builds done items count true types → 0 < count → IsTopExport x (top_export_bytes x)
     → Grown done items count true (Part.top_export x) done (items ++ top_export_bytes x) (count + 1) true (types + 1)
-join_export done items count types x h some s = grown done items count true (Part.top_export x) done (items ++ top_export_bytes x) (count + 1) true (types + 1)
-    (join_export_of (sections_in done) (group_in true count items) done items count types x h some s)
+join_export done items count types x h some s = search (std_rules, grown, join_export_of)
 
 pub join_export_at : (done items : List ℕ) (count : ℕ) (exports : Bool) (types : ℕ) (x : TopExport) → exports ≡ true → Builds done items count exports types → 0 < count
     → IsTopExport x (top_export_bytes x)
@@ -234,28 +207,15 @@ behind_last sections s p e = put_behind-last sections s p ∙ ap (λ (l : List S
 
 type_apart_of : (sections : List Section) (g : Group) (done items : List ℕ) (count : ℕ) (exports : Bool) (types : ℕ) (t : TopType) → IsBuilt sections g done items count exports types
     → (0 < count → exports ≡ true) → put_behind (sections ++ group_sections g) (Part.top_type t) ≡ (sections ++ group_sections g) ++ alone (Part.top_type t) ∷ []
-type_apart_of sections (Group.of_types []) done items count exports types t h other = behind_ended sections (Part.top_type t) (h.ended refl)
-type_apart_of sections (Group.of_exports []) done items count exports types t h other = behind_ended sections (Part.top_type t) (h.ended refl)
-type_apart_of sections (Group.of_exports (u ∷ us)) done items count exports types t h other = behind_last sections (Section.exports (u ∷ us)) (Part.top_type t) refl
-type_apart_of sections (Group.of_types (u ∷ us)) done items count exports types t h other =
-    let some : 0 < count = rw h.held.1.counted (omega arith) in
-    absurd (false≢true (sym h.held.0 ∙ other some))
+type_apart_of sections x done items count exports types t h other = search (std_rules, behind_ended, behind_last, false≢true)
 
 export_apart_of : (sections : List Section) (g : Group) (done items : List ℕ) (count : ℕ) (exports : Bool) (types : ℕ) (x : TopExport) → IsBuilt sections g done items count exports types
     → (0 < count → exports ≡ false) → put_behind (sections ++ group_sections g) (Part.top_export x) ≡ (sections ++ group_sections g) ++ alone (Part.top_export x) ∷ []
-export_apart_of sections (Group.of_types []) done items count exports types x h other = behind_ended sections (Part.top_export x) (h.ended refl)
-export_apart_of sections (Group.of_exports []) done items count exports types x h other = behind_ended sections (Part.top_export x) (h.ended refl)
-export_apart_of sections (Group.of_types (u ∷ us)) done items count exports types x h other = behind_last sections (Section.types (u ∷ us)) (Part.top_export x) refl
-export_apart_of sections (Group.of_exports (u ∷ us)) done items count exports types x h other =
-    let some : 0 < count = rw h.held.1.counted (omega arith) in
-    absurd (false≢true (sym (other some) ∙ h.held.0))
+export_apart_of sections y done items count exports types x h other = search (std_rules, behind_ended, behind_last, false≢true)
 
 custom_apart_of : (sections : List Section) (g : Group) (done items : List ℕ) (count : ℕ) (exports : Bool) (types : ℕ) (name contents : List ℕ) → IsBuilt sections g done items count exports types
     → put_behind (sections ++ group_sections g) (Part.custom name contents) ≡ (sections ++ group_sections g) ++ Section.custom name contents ∷ []
-custom_apart_of sections (Group.of_types []) done items count exports types name contents h = behind_ended sections (Part.custom name contents) (h.ended refl)
-custom_apart_of sections (Group.of_exports []) done items count exports types name contents h = behind_ended sections (Part.custom name contents) (h.ended refl)
-custom_apart_of sections (Group.of_types (u ∷ us)) done items count exports types name contents h = behind_last sections (Section.types (u ∷ us)) (Part.custom name contents) refl
-custom_apart_of sections (Group.of_exports (u ∷ us)) done items count exports types name contents h = behind_last sections (Section.exports (u ∷ us)) (Part.custom name contents) refl
+custom_apart_of sections x done items count exports types name contents h = search (std_rules, behind_ended, behind_last)
 
 module _ (done items : List ℕ) (count : ℕ) (exports : Bool) (types : ℕ) (h : Builds done items count exports types) where
   pub type_apart : (t : TopType) → (0 < count → exports ≡ true) → StandsApart done items count exports types h (Part.top_type t)

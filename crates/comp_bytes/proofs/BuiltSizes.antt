@@ -1,5 +1,5 @@
 -- How long a component under construction is, at least: what doesn't fit makes it too long.
-use Rattle.std.proofs.Common.{◌≡◌, ℕ, ◌+◌, ◌^◌, ◌≤◌, Bool, false, List, [], ◌∷◌, ◌++◌, length, map, Result, Ok, Err, IsErrAnd, refl, sym, ap, subst, ◌∙◌, arith, length-append}
+use Rattle.std.proofs.Common.{rules as std_rules, ◌≡◌, ℕ, ◌+◌, ◌^◌, ◌≤◌, Bool, false, List, [], ◌∷◌, ◌++◌, length, map, Result, Ok, Err, IsErrAnd, refl, sym, ap, subst, ◌∙◌, arith, length-append}
 use Rattle.std.proofs.lemmas.{Bool.le-ltb, Bool.ltb-false as not_below, List.append-nil, List.Concat.flat_map-append}
 use Rattle.std.specs.{Prelude.nat_lt, List.flat_map}
 use Rattle.wit_model.specs.declared.error.Error.{Error}
@@ -25,19 +25,15 @@ unfolding fits_component
 too_long ps le = le-ltb (length (component_bytes (sections_of_parts ps))) (2 ^ 32) le
 
 long_sections : (ps : List Part) (sections : List Section) → sections_of_parts ps ≡ sections → 2 ^ 32 ≤ length (flat_map section_bytes sections) → fits_component ps ≡ false
-long_sections ps sections e le =
-    let more : 2 ^ 32 ≤ length (component_bytes sections) = omega (arith, length-append preamble (flat_map section_bytes sections)) in
-    too_long ps (subst (λ (l : List Section). 2 ^ 32 ≤ length (component_bytes l)) (sym e) more)
+long_sections ps sections e le = search (std_rules, length-append, too_long)
 
 -- ---- each item has a byte
 
 defined_filled : (d : DefinedType) → 1 ≤ length (defined_type_bytes d)
-defined_filled (DefinedType.primitive p) = omega arith
-defined_filled _ = omega arith
+defined_filled x = search std_rules
 
 type_filled : (t : TopType) → 1 ≤ length (top_type_bytes t)
-type_filled (TopType.defined d) = defined_filled d
-type_filled _ = omega arith
+type_filled x = search std_rules
 
 export_filled : (e : TopExport) → 1 ≤ length (top_export_bytes e)
 export_filled e = omega (arith, length-append (extern_name_bytes e.exported_as) (3 ∷ (u32_bytes e.type_index ++ 0 ∷ [])))
@@ -83,48 +79,19 @@ slots_refused ps le =
 
 -- the items of the open section take type indexes
 group_slots : (sections : List Section) (g : Group) (done items : List ℕ) (count : ℕ) (exports : Bool) (types : ℕ) → IsBuilt sections g done items count exports types → count ≤ types
-group_slots sections (Group.of_types []) done items count exports types h = omega (arith, h.held.1.counted)
-group_slots sections (Group.of_exports []) done items count exports types h = omega (arith, h.held.1.counted)
-group_slots sections (Group.of_types (u ∷ us)) done items count exports types h =
-    omega (
-      arith,
-      h.held.1.counted,
-      h.slots,
-      ap top_slots (flat_map-append parts_in sections (Section.types (u ∷ us) ∷ [])),
-      top_slots-append (parts_of sections) (parts_of (Section.types (u ∷ us) ∷ [])),
-      ap top_slots (append-nil (map Part.top_type (u ∷ us))),
-      slots-types (u ∷ us),
-    )
-group_slots sections (Group.of_exports (u ∷ us)) done items count exports types h =
-    omega (
-      arith,
-      h.held.1.counted,
-      h.slots,
-      ap top_slots (flat_map-append parts_in sections (Section.exports (u ∷ us) ∷ [])),
-      top_slots-append (parts_of sections) (parts_of (Section.exports (u ∷ us) ∷ [])),
-      ap top_slots (append-nil (map Part.top_export (u ∷ us))),
-      slots-exports (u ∷ us),
-    )
+group_slots sections x done items count exports types h = search (std_rules, flat_map-append, top_slots-append, append-nil, slots-types, slots-exports)
 
 -- ---- a name that is too long
 
 name_longer : (name : List ℕ) (index : ℕ) → length name ≤ length (top_export_bytes (plain_export name index))
-name_longer name index =
-    omega (arith, length-append (0 ∷ name_bytes name) (3 ∷ (u32_bytes index ++ 0 ∷ [])), length-append (u32_bytes (length name)) name)
+name_longer name index = search (std_rules, length-append)
 
 one_longer : {A : Type 0} (bytes_of : A → List ℕ) (xs : List A) (x : A) → length (bytes_of x) ≤ length (flat_map bytes_of (xs ++ x ∷ []))
 one_longer bytes_of [] x = omega (arith, length-append (bytes_of x) [])
 one_longer bytes_of (y ∷ xs) x = omega (arith, one_longer bytes_of xs x, length-append (bytes_of y) (flat_map bytes_of (xs ++ x ∷ [])))
 
 exports_longer : (es : List TopExport) (e : TopExport) (rest : List Section) → length (top_export_bytes e) ≤ length (flat_map section_bytes (Section.exports (es ++ e ∷ []) ∷ rest))
-exports_longer es e rest =
-    omega (
-      arith,
-      one_longer top_export_bytes es e,
-      vector_longer top_export_bytes (es ++ e ∷ []),
-      framed_longer 0x0b (vector_bytes top_export_bytes (es ++ e ∷ [])),
-      length-append (section_bytes (Section.exports (es ++ e ∷ []))) (flat_map section_bytes rest),
-    )
+exports_longer es e rest = search (std_rules, one_longer, vector_longer, framed_longer, length-append)
 
 export_longer : (sections : List Section) (e : TopExport) → length (top_export_bytes e) ≤ length (flat_map section_bytes (put_behind sections (Part.top_export e)))
 export_longer [] e = exports_longer [] e []
@@ -145,34 +112,19 @@ module _ (done items : List ℕ) (count : ℕ) (exports : Bool) (types : ℕ) (h
 
   -- too many type indexes with one part more
   pub types_refused : (p : Part) → top_slots (p ∷ []) ≡ 1 → nat_lt (types + 1) (2 ^ 32) ≡ false → fits_component (ps ++ p ∷ []) ≡ false
-  types_refused p one e =
-      let many : 2 ^ 32 ≤ types + 1 = not_below (types + 1) (2 ^ 32) e in
-      slots_refused (ps ++ p ∷ []) (omega (arith, h.slots, top_slots-push ps p))
+  types_refused p one e = search (std_rules, not_below, slots_refused, top_slots-push)
 
   -- too many items with one part more
   pub count_refused : (p : Part) → top_slots (p ∷ []) ≡ 1 → nat_lt (count + 1) (2 ^ 32) ≡ false → fits_component (ps ++ p ∷ []) ≡ false
-  count_refused p one e =
-      let many : 2 ^ 32 ≤ count + 1 = not_below (count + 1) (2 ^ 32) e in
-      slots_refused (ps ++ p ∷ []) (omega (arith, h.slots, group_slots (sections_in done) (group_in exports count items) done items count exports types h, top_slots-push ps p))
+  count_refused p one e = search (std_rules, not_below, slots_refused, group_slots, top_slots-push)
 
   -- a name that is too long
   pub name_refused : (name : List ℕ) (index : ℕ) → fits_length name ≡ false → fits_component (ps ++ Part.top_export (plain_export name index) ∷ []) ≡ false
-  name_refused name index e =
-      let all : List Section = all_sections done items count exports types h in
-      let long : 2 ^ 32 ≤ length name = not_below (length name) (2 ^ 32) e in
-      long_sections (ps ++ Part.top_export (plain_export name index) ∷ []) (put_behind all (Part.top_export (plain_export name index)))
-      (sections_behind all (Part.top_export (plain_export name index)) h.grouped)
-      (omega (arith, name_longer name index, export_longer all (plain_export name index)))
+  name_refused name index e = search (std_rules, all_sections, not_below, long_sections, put_behind, sections_behind, name_longer, export_longer)
 
   -- the open section is too long
   closed_longer : length (closed_bytes (section_id exports) count items) ≤ length (flat_map section_bytes (all_sections done items count exports types h))
-  closed_longer =
-      omega (
-        arith,
-        ap length (group_closed (group_in exports count items) exports count items h.held),
-        ap length (flat_map-append section_bytes (sections_in done) (group_sections (group_in exports count items))),
-        length-append (flat_map section_bytes (sections_in done)) (flat_map section_bytes (group_sections (group_in exports count items))),
-      )
+  closed_longer = search (std_rules, group_closed, flat_map-append, length-append)
 
   pub close_refused : 2 ^ 32 ≤ length (closed_bytes (section_id exports) count items) → fits_component ps ≡ false
   close_refused le = long_sections ps (all_sections done items count exports types h) h.grouped (omega (arith, closed_longer))
@@ -183,14 +135,7 @@ module _ (done items : List ℕ) (count : ℕ) (exports : Bool) (types : ℕ) (h
 
   both_longer : (p : Part)
       → length (closed_bytes (section_id exports) count items) + length (section_bytes (alone p)) ≤ length (flat_map section_bytes (all_sections done items count exports types h ++ alone p ∷ []))
-  both_longer p =
-      omega (
-        arith,
-        closed_longer,
-        ap length (flat_map-append section_bytes (all_sections done items count exports types h) (alone p ∷ [])),
-        length-append (flat_map section_bytes (all_sections done items count exports types h)) (flat_map section_bytes (alone p ∷ [])),
-        length-append (section_bytes (alone p)) [],
-      )
+  both_longer p = search (std_rules, closed_longer, flat_map-append, all_sections, alone, length-append)
 
   pub start_refused : (p : Part) → StandsApart done items count exports types h p → 2 ^ 32 ≤ length (closed_bytes (section_id exports) count items) → fits_component (ps ++ p ∷ []) ≡ false
   start_refused p apart le = long_sections (ps ++ p ∷ []) (all_sections done items count exports types h ++ alone p ∷ []) (apart_longer p apart) (omega (arith, both_longer p))

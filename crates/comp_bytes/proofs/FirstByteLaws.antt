@@ -1,5 +1,5 @@
 -- What the first byte of a type chooses is what the tests of the byte read.
-use Rattle.std.proofs.Common.{◌≡◌, refl, ap, ◌∙◌, ℕ, Bool, true, false, List, [], ◌∷◌, Option, Some, None, option_map, cond, eqb}
+use Rattle.std.proofs.Common.{rules as std_rules, ◌≡◌, refl, ap, ◌∙◌, ℕ, Bool, true, false, List, [], ◌∷◌, Option, Some, None, option_map, cond, eqb}
 use Rattle.comp_bytes.specs.declared.forms.PrimitiveValType.{PrimitiveValType}
 use Rattle.comp_bytes.specs.declared.forms.ComponentValType.TheVariants as values
 use Rattle.comp_bytes.specs.Raw.{DefinedType, Declaration}
@@ -7,8 +7,7 @@ use Rattle.comp_bytes.specs.Reading.{Reader, ◌>>=◌, choose, primitives_as, j
 use Rattle.comp_bytes.specs.FirstByte.{primitive_in, primitive_beside, defined_type_at, function_type_at, declared_type_at, DefinitionsAreChosen, DeclaredTypesAreChosen, ValueTypesAreChosen}
 
 either : {A B : Type 0} (f : A → B) (b : Bool) (x : A) (o : Option A) (p : Option B) → p ≡ option_map f o → cond b (Some (f x)) p ≡ option_map f (cond b (Some x) o)
-either f true x o p e = refl
-either f false x o p e = e
+either f x y o p e = search std_rules
 
 -- the primitive that stands beside a byte is what is chosen at that byte
 chosen_primitive : {A : Type 0} (f : PrimitiveValType → A) (ps : List (ℕ × PrimitiveValType)) (b : ℕ) (rest : List ℕ)
@@ -28,19 +27,16 @@ abbrev named_so : {A B : Type 0} → (A → B) → Option (A × List ℕ) → Op
 named_so f found = found >>= λ x. Some (f x.0, x.1)
 
 twice : {X A B : Type 0} (h : X → A) (f : A → B) (o : Option (X × List ℕ)) → named_so (λ x. f (h x)) o ≡ named_so f (named_so h o)
-twice h f None = refl
-twice h f (Some x) = refl
+twice h f x = search std_rules
 
 one_form : {X A B : Type 0} (b : Bool) (f : A → B) (h : X → A) (reader : Reader X) (bytes : List ℕ) (others : Option (B × List ℕ)) (own : Option (A × List ℕ)) → others ≡ named_so f own
     → cond b (as_at (λ x. f (h x)) reader bytes) others ≡ named_so f (cond b (as_at h reader bytes) own)
 unfolding as_at
-one_form true f h reader bytes others own e = twice h f (reader bytes)
-one_form false f h reader bytes others own e = e
+one_form x f h reader bytes others own e = search std_rules
 
 primitive_so : {A B : Type 0} (f : A → B) (make : PrimitiveValType → A) (bytes : List ℕ) (o : Option PrimitiveValType)
     → option_map (λ p. (f (make p), bytes)) o ≡ named_so f (option_map (λ p. (make p, bytes)) o)
-primitive_so f make bytes None = refl
-primitive_so f make bytes (Some p) = refl
+primitive_so f make bytes x = search std_rules
 
 definition_so : {A : Type 0} (f : DefinedType → A) (tag : ℕ) (bytes : List ℕ) → choose (defined_type_forms f) tag bytes ≡ named_so f (defined_type_at tag bytes)
 unfolding choose defined_type_at primitive_beside
@@ -62,8 +58,7 @@ definition_so f tag bytes =
     (chosen_primitive (λ p. f (DefinedType.primitive p)) primitive_forms tag bytes ∙ primitive_so f DefinedType.primitive bytes (primitive_in primitive_forms tag)))))))))))))))
 
 same_name : {A : Type 0} (o : Option (A × List ℕ)) → named_so (λ x. x) o ≡ o
-same_name None = refl
-same_name (Some x) = refl
+same_name x = search std_rules
 
 pub definitions_chosen : DefinitionsAreChosen
 definitions_chosen tag bytes = definition_so (λ d. d) tag bytes ∙ same_name (defined_type_at tag bytes)
@@ -76,9 +71,7 @@ unfolding as_at function_type_at
 function_so is_async bytes = twice (function_of is_async) Declaration.function (pair_at (vector_at field_at) result_list_at bytes)
 
 both : {A : Type 0} (b c : Bool) (x y z x' y' z' : Option A) → x ≡ x' → y ≡ y' → z ≡ z' → cond b x (cond c y z) ≡ cond b x' (cond c y' z')
-both true c x y z x' y' z' p q r = p
-both false true x y z x' y' z' p q r = q
-both false false x y z x' y' z' p q r = r
+both x c y z u x' y' z' p q r = search std_rules
 
 defined_so : (tag : ℕ) (bytes : List ℕ) → choose (defined_type_forms Declaration.defined) tag bytes ≡ as_at Declaration.defined (defined_type_at tag) bytes
 unfolding as_at

@@ -1,5 +1,5 @@
 -- A section's frame from an offset on, and where its contents stand.
-use Rattle.std.proofs.Common.{◌≡◌, ℕ, suc, false, ◌+◌, ◌-◌, ◌≤◌, ◌<◌, ◌==◌, List, [], ◌∷◌, ◌++◌, length, take, drop, Some, None, refl, sym, ap, ◌∙◌, arith, append_assoc}
+use Rattle.std.proofs.Common.{rules as std_rules, ◌≡◌, ℕ, suc, false, ◌+◌, ◌-◌, ◌≤◌, ◌<◌, ◌==◌, List, [], ◌∷◌, ◌++◌, length, take, drop, Some, None, refl, sym, ap, ◌∙◌, arith, append_assoc}
 use Rattle.std.proofs.lemmas.{List.take_at, List.take-append-drop, List.length-append, List.length-drop, List.length-take-le, List.Folds.drop_split}
 use Rattle.std.proofs.{lemmas.Bool.false≢true, Math.Seq.drop-append_seam}
 use Rattle.std.specs.Prelude.{slice_range}
@@ -70,8 +70,7 @@ front_none bytes none f front rest parts spelled =
 
 -- where something is left behind the offset, the offset lies before the end
 pub some_left : (bytes rest : List ℕ) (at : ℕ) → rest ≡ drop at bytes → false ≡ (length rest == 0) → at < length bytes
-some_left bytes [] at is empty = absurd (false≢true empty)
-some_left bytes (b ∷ rest) at is empty = let l : suc (length rest) ≡ length bytes - at = ap length is ∙ length-drop at bytes in omega (arith, l)
+some_left bytes x at is empty = search (std_rules, false≢true, length-drop)
 
 -- the same, where the contents begin at a place that is counted from the offset
 pub record FoundBehind (bytes : List ℕ) (at start id : ℕ) (contents rest : List ℕ) : Type 0 where

@@ -1,5 +1,5 @@
 -- The shortest bytes of the index of a type, by how many there are.
-use Rattle.std.proofs.Common.{◌≡◌, ℕ, zero, suc, ◌+◌, ◌^◌, ◌/◌, ◌%◌, ◌<◌, ◌≤◌, List, [], ◌∷◌, length, refl, arith, inl, inr, subst}
+use Rattle.std.proofs.Common.{rules as std_rules, ◌≡◌, ℕ, zero, suc, ◌+◌, ◌^◌, ◌/◌, ◌%◌, ◌<◌, ◌≤◌, List, [], ◌∷◌, length, refl, arith, inl, inr, subst}
 use Rattle.std.proofs.lemmas.Bool.{cases_lt, le-ltb, lt-ltb}
 use Rattle.std.specs.List.{AllByRecursion}
 use Rattle.comp_bytes.specs.{Number.IsUnsigned, Number.EndsPositive, Number.IsTypeIndex, Writing.positive_bytes, Writing.type_index_bytes}
@@ -11,43 +11,20 @@ bytes_1 n lt = rw (lt-ltb n 64 lt) refl
 
 pub bytes_2 : (n : ℕ) → 64 ≤ n → n < 8192 → type_index_bytes n ≡ (n % 128 + 128) ∷ (n / 128) ∷ []
 unfolding type_index_bytes
-bytes_2 n le lt =
-    let second : n / 128 < 64 = omega arith in
-    rw (le-ltb n 64 le, lt-ltb (n / 128) 64 second) refl
+bytes_2 n le lt = search std_rules
 
 pub bytes_3 : (n : ℕ) → 8192 ≤ n → n < 1048576 → type_index_bytes n ≡ (n % 128 + 128) ∷ (n / 128 % 128 + 128) ∷ (n / 16384) ∷ []
 unfolding type_index_bytes
-bytes_3 n le lt =
-    let first : 64 ≤ n = omega arith in
-    let second : 64 ≤ n / 128 = omega arith in
-    let third : n / 128 / 128 ≡ n / 16384 = omega arith in
-    let small : n / 16384 < 64 = omega arith in
-    rw (le-ltb n 64 first, le-ltb (n / 128) 64 second, third, lt-ltb (n / 16384) 64 small) refl
+bytes_3 n le lt = search std_rules
 
 pub bytes_4 : (n : ℕ) → 1048576 ≤ n → n < 134217728 → type_index_bytes n ≡ (n % 128 + 128) ∷ (n / 128 % 128 + 128) ∷ (n / 16384 % 128 + 128) ∷ (n / 2097152) ∷ []
 unfolding type_index_bytes
-bytes_4 n le lt =
-    let first : 64 ≤ n = omega arith in
-    let second : 64 ≤ n / 128 = omega arith in
-    let third : n / 128 / 128 ≡ n / 16384 = omega arith in
-    let large : 64 ≤ n / 16384 = omega arith in
-    let fourth : n / 16384 / 128 ≡ n / 2097152 = omega arith in
-    let small : n / 2097152 < 64 = omega arith in
-    rw (le-ltb n 64 first, le-ltb (n / 128) 64 second, third, le-ltb (n / 16384) 64 large, fourth, lt-ltb (n / 2097152) 64 small) refl
+bytes_4 n le lt = search std_rules
 
 pub bytes_5 : (n : ℕ) → 134217728 ≤ n → n < 2 ^ 32
     → type_index_bytes n ≡ (n % 128 + 128) ∷ (n / 128 % 128 + 128) ∷ (n / 16384 % 128 + 128) ∷ (n / 2097152 % 128 + 128) ∷ (n / 268435456) ∷ []
 unfolding type_index_bytes
-bytes_5 n le lt =
-    let first : 64 ≤ n = omega arith in
-    let second : 64 ≤ n / 128 = omega arith in
-    let third : n / 128 / 128 ≡ n / 16384 = omega arith in
-    let large : 64 ≤ n / 16384 = omega arith in
-    let fourth : n / 16384 / 128 ≡ n / 2097152 = omega arith in
-    let larger : 64 ≤ n / 2097152 = omega arith in
-    let fifth : n / 2097152 / 128 ≡ n / 268435456 = omega arith in
-    let small : n / 268435456 < 64 = omega arith in
-    rw (le-ltb n 64 first, le-ltb (n / 128) 64 second, third, le-ltb (n / 16384) 64 large, fourth, le-ltb (n / 2097152) 64 larger, fifth, lt-ltb (n / 268435456) 64 small) refl
+bytes_5 n le lt = search std_rules
 
 -- ---- they spell the index, and no other bytes that do are shorter
 

@@ -1,5 +1,5 @@
 -- Entries and types at the top are read as they are spelled, and are the raw forms that they stand for.
-use Rattle.std.proofs.Common.{◌≡◌, refl, sym, ap, subst, ◌∙◌, ℕ, zero, suc, arith, Bool, cond, eqb, List, [], ◌∷◌, ◌++◌, length, Some, None, inl, inr, append_assoc}
+use Rattle.std.proofs.Common.{rules as std_rules, ◌≡◌, refl, sym, ap, subst, ◌∙◌, ℕ, zero, suc, arith, Bool, cond, eqb, List, [], ◌∷◌, ◌++◌, length, Some, None, inl, inr, append_assoc}
 use Rattle.std.proofs.lemmas.{Bool.ne_eqb, Bool.eqb-true, List.append-nil}
 use Rattle.std.specs.Prelude.{IsTrue}
 use Rattle.comp_bytes.specs.{Raw.ExternName, Raw.Declaration, Raw.from_list, Raw.declaration_count, Raw.imports_nothing, Number.IsU32}
@@ -27,14 +27,10 @@ flat_into [] text s = s
 flat_into (d ∷ ds) text s = (s.0, s.1, s.2, s.3, flat_into ds s.1 s.4)
 
 held_into : (ds : List Declaration) (text : List ℕ) → Tagged 0x42 (Held ds) text → InstanceTypeOf (from_list ds) (AreDeclarations (from_list ds)) text
-held_into ds text s =
-    let v = s.2.0 in
-    ((s.0, s.1, (v.0, v.1, v.2, subst (λ (n : ℕ). IsU32 n v.0) (sym (count_is ds)) v.3, flat_into ds v.1 v.4)), subst (λ (b : Bool). IsTrue b) (sym (free_is ds)) s.2.1)
+held_into ds text s = search (std_rules, count_is, flat_into, free_is)
 
 held_out : (ds : List Declaration) (text : List ℕ) → InstanceTypeOf (from_list ds) (AreDeclarations (from_list ds)) text → Tagged 0x42 (Held ds) text
-held_out ds text s =
-    let v = s.0.2 in
-    (s.0.0, s.0.1, ((v.0, v.1, v.2, subst (λ (n : ℕ). IsU32 n v.0) (count_is ds) v.3, flat_out ds v.1 v.4), subst (λ (b : Bool). IsTrue b) (free_is ds) s.1))
+held_out ds text s = search (std_rules, count_is, flat_out, free_is)
 
 pub entries_into : (es : List Entry) (text : List ℕ) → Sequence IsEntry es text → AreDeclarations (declarations_of es) text
 entries_into [] text s = s
@@ -65,8 +61,7 @@ no_instance d front rest = not_nested 0x42 held_at d front rest (omega arith) (�
 
 no_component : {A : Type 0} (reader : Reader A) (x : Entry) (front rest : List ℕ) → IsEntry x front → tag_at 1 (tag_at 0x41 reader) (front ++ rest) ≡ None
 unfolding tag_at tagged_at choose
-no_component reader (plain d) front rest s = not_nested 0x41 reader d front rest (omega arith) (λ e. omega arith) (λ e. omega arith) s
-no_component reader (holds ds) front rest s = rw (s.1, s.2.1) refl
+no_component reader x front rest s = search std_rules
 
 entry_again : (x : Entry) (front rest : List ℕ) → IsEntry x front → entry_at (front ++ rest) ≡ Some (x, rest)
 unfolding entry_at as_at
@@ -99,12 +94,10 @@ entry_count (plain d ∷ es) = ap suc (entry_count es)
 entry_count (holds ds ∷ es) = ap suc (entry_count es)
 
 entries_behind_into : (es : List Entry) (text : List ℕ) → Tagged 0x41 (Vector IsEntry es) text → ComponentTypeOf (declarations_of es) (AreDeclarations (declarations_of es)) text
-entries_behind_into es text s =
-    let v = s.2 in (s.0, s.1, (v.0, v.1, v.2, subst (λ (n : ℕ). IsU32 n v.0) (sym (entry_count es)) v.3, entries_into es v.1 v.4))
+entries_behind_into es text s = search (std_rules, entry_count, entries_into)
 
 entries_behind_out : (es : List Entry) (text : List ℕ) → ComponentTypeOf (declarations_of es) (AreDeclarations (declarations_of es)) text → Tagged 0x41 (Vector IsEntry es) text
-entries_behind_out es text s =
-    let v = s.2 in (s.0, s.1, (v.0, v.1, v.2, subst (λ (n : ℕ). IsU32 n v.0) (entry_count es) v.3, entries_out es v.1 v.4))
+entries_behind_out es text s = search (std_rules, entry_count, entries_out)
 
 pub part_into : (p : PartType) (text : List ℕ) → IsPartType p text → ComponentTypeOf (raw_part p) (AreDeclarations (raw_part p)) text
 part_into (shows es) text s = entries_behind_into es text s
@@ -139,9 +132,7 @@ part_out (wraps es name) text s =
 -- ---- types at the top are read
 
 exported_world : (d : Declaration) (name : ExternName) → world_export d ≡ Some name → d ≡ Declaration.exported name (refs.Component 0)
-exported_world (Declaration.exported name (refs.Component zero)) other e = let same : name ≡ other = cc in ap (λ (n : ExternName). Declaration.exported n (refs.Component 0)) same
-exported_world (Declaration.exported name (refs.Component (suc n))) other e = absurd cc
-exported_world _ other e = absurd cc
+exported_world x other e = search std_rules
 
 world_export_law : IsReadBy (λ name. IsDeclaration (Declaration.exported name (refs.Component 0))) world_export_at
 unfolding world_export_at

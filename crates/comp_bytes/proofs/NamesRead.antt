@@ -1,5 +1,5 @@
 -- A name is what stands behind its number, where that is UTF-8.
-use Rattle.std.proofs.Common.{◌≡◌, ℕ, true, false, Bool, List, Some, None, refl}
+use Rattle.std.proofs.Common.{rules as std_rules, ◌≡◌, ℕ, true, false, Bool, List, Some, None, refl}
 use Rattle.std.specs.Str.{is_utf8, IsUtf8}
 use Rattle.std.proofs.lemmas.Str.{IsUtf8-from_is_utf8, is_utf8-from_IsUtf8}
 use Rattle.comp_bytes.specs.Reading.{counted_at, name_at}
@@ -9,8 +9,7 @@ unfolding name_at
 name_found bytes contents rest e utf8 = rw (e, is_utf8-from_IsUtf8 contents utf8) refl
 
 not_utf8 : (b : Bool) (contents : List ℕ) → is_utf8 contents ≡ b → ¬ (IsUtf8 contents) → is_utf8 contents ≡ false
-not_utf8 true contents e no_text = absurd (no_text (IsUtf8-from_is_utf8 contents e))
-not_utf8 false contents e no_text = e
+not_utf8 x contents e no_text = search (std_rules, IsUtf8-from_is_utf8)
 
 pub no_name : (bytes contents rest : List ℕ) → counted_at bytes ≡ Some (contents, rest) → ¬ (IsUtf8 contents) → name_at bytes ≡ None
 unfolding name_at

@@ -1,5 +1,5 @@
 -- A name of an import or an export, from what the steps that append it do.
-use Rattle.std.proofs.Common.{◌≡◌, ℕ, ◌^◌, ◌<◌, ◌≤◌, Bool, ◌&&◌, List, [], ◌∷◌, ◌++◌, length, Option, Some, None, Result, sym, ap, ◌∙◌, arith, length-append}
+use Rattle.std.proofs.Common.{rules as std_rules, ◌≡◌, ℕ, ◌^◌, ◌<◌, ◌≤◌, Bool, ◌&&◌, List, [], ◌∷◌, ◌++◌, length, Option, Some, None, Result, sym, ap, ◌∙◌, arith, length-append}
 use Rattle.std.specs.List.{flat_map}
 use Rattle.wit_model.specs.declared.error.Error.{Error}
 use Rattle.comp_bytes.specs.{Form.Joined, Form.Name, Form.Sequence, Form.Vector, Spelling.attribute, Spelling.attributes, Spelling.Attribute, Spelling.NameWith}
@@ -8,14 +8,10 @@ use Rattle.comp_bytes.specs.{Raw.ExternName, Writing.u32_bytes, Writing.name_byt
 use Rattle.comp_bytes.proofs.{Appends.second_fails, Appends.joined, Appends.tagged, Writes.bytes_1, Writes.spells_u32, Sequences.both, Sequences.behind}
 
 length-attribute : (tag : ℕ) (text : Option (List ℕ)) → length (attribute tag text) ≤ 1
-length-attribute tag None = omega arith
-length-attribute tag (Some text) = omega arith
+length-attribute tag x = search std_rules
 
 pub length-attributes : (name : ExternName) → length (attributes name) ≤ 3
-length-attributes name =
-    let three = length-append (attribute 0 name.implements ++ attribute 1 name.version_suffix) (attribute 2 name.external_id) in
-    let two = length-append (attribute 0 name.implements) (attribute 1 name.version_suffix) in
-    omega (arith, three, two, length-attribute 0 name.implements, length-attribute 1 name.version_suffix, length-attribute 2 name.external_id)
+length-attributes name = search std_rules
 
 module _ {X : Type 0} where
   -- the three attributes, each where it is given
@@ -24,11 +20,7 @@ module _ {X : Type 0} where
       → Appended (Sequence Attribute (attribute 1 name.version_suffix)) (flat_map attribute_bytes (attribute 1 name.version_suffix)) one two
       → Appends (Sequence Attribute (attribute 2 name.external_id)) (flat_map attribute_bytes (attribute 2 name.external_id)) (fits_given name.external_id) two new r
       → Appends (Sequence Attribute (attributes name)) (flat_map attribute_bytes (attributes name)) (fits_attributes name) old new r
-  three name old one two new r a b c =
-      let first = both Attribute attribute_bytes (attribute 0 name.implements) (attribute 1 name.version_suffix) old one two a b in
-      behind Attribute attribute_bytes (attribute 0 name.implements ++ attribute 1 name.version_suffix) (attribute 2 name.external_id) (fits_given name.external_id) (fits_attributes name) old two
-      new r first c
-      (λ fails. second_fails (fits_given name.implements) _ (second_fails (fits_given name.version_suffix) _ fails))
+  three name old one two new r a b c = search (std_rules, both, behind, second_fails)
 
   -- 02, the text, the count of the attributes and the attributes
   pub attributed : (given : List (ℕ × List ℕ)) (text : List ℕ) (n : ℕ) (part : Bool) (old tag named counted new : List ℕ) (r : Result X Error)

@@ -1,5 +1,5 @@
 -- Parts and the sections that they make.
-use Rattle.std.proofs.Common.{◌≡◌, ℕ, ◌+◌, List, [], ◌∷◌, ◌++◌, refl, sym, ap, ◌∙◌, arith, append_assoc}
+use Rattle.std.proofs.Common.{rules as std_rules, ◌≡◌, ℕ, ◌+◌, List, [], ◌∷◌, ◌++◌, refl, sym, ap, ◌∙◌, arith, append_assoc}
 use Rattle.std.proofs.lemmas.List.{append-nil, map-append}
 use Rattle.comp_bytes.specs.{Raw.Section, Built.Ended}
 use Rattle.comp_bytes.specs.Parts.{Part, with_part, sections_of_parts, top_slots, parts_in, parts_of}
@@ -29,51 +29,7 @@ put_behind (s ∷ t ∷ rest) p = s ∷ put_behind (t ∷ rest) p
 
 -- a part in front and a part behind
 both_ends : (q : Part) (sections : List Section) (p : Part) → with_part q (put_behind sections p) ≡ put_behind (with_part q sections) p
-both_ends (Part.top_type q) [] (Part.top_type p) = refl
-both_ends (Part.top_type q) [] (Part.top_export p) = refl
-both_ends (Part.top_type q) [] (Part.custom p w) = refl
-both_ends (Part.top_export q) [] (Part.top_type p) = refl
-both_ends (Part.top_export q) [] (Part.top_export p) = refl
-both_ends (Part.top_export q) [] (Part.custom p w) = refl
-both_ends (Part.custom q r) [] (Part.top_type p) = refl
-both_ends (Part.custom q r) [] (Part.top_export p) = refl
-both_ends (Part.custom q r) [] (Part.custom p w) = refl
-both_ends (Part.top_type q) (Section.types s ∷ []) (Part.top_type p) = refl
-both_ends (Part.top_type q) (Section.types s ∷ []) (Part.top_export p) = refl
-both_ends (Part.top_type q) (Section.types s ∷ []) (Part.custom p w) = refl
-both_ends (Part.top_type q) (Section.exports s ∷ []) (Part.top_type p) = refl
-both_ends (Part.top_type q) (Section.exports s ∷ []) (Part.top_export p) = refl
-both_ends (Part.top_type q) (Section.exports s ∷ []) (Part.custom p w) = refl
-both_ends (Part.top_type q) (Section.custom s v ∷ []) (Part.top_type p) = refl
-both_ends (Part.top_type q) (Section.custom s v ∷ []) (Part.top_export p) = refl
-both_ends (Part.top_type q) (Section.custom s v ∷ []) (Part.custom p w) = refl
-both_ends (Part.top_export q) (Section.types s ∷ []) (Part.top_type p) = refl
-both_ends (Part.top_export q) (Section.types s ∷ []) (Part.top_export p) = refl
-both_ends (Part.top_export q) (Section.types s ∷ []) (Part.custom p w) = refl
-both_ends (Part.top_export q) (Section.exports s ∷ []) (Part.top_type p) = refl
-both_ends (Part.top_export q) (Section.exports s ∷ []) (Part.top_export p) = refl
-both_ends (Part.top_export q) (Section.exports s ∷ []) (Part.custom p w) = refl
-both_ends (Part.top_export q) (Section.custom s v ∷ []) (Part.top_type p) = refl
-both_ends (Part.top_export q) (Section.custom s v ∷ []) (Part.top_export p) = refl
-both_ends (Part.top_export q) (Section.custom s v ∷ []) (Part.custom p w) = refl
-both_ends (Part.custom q r) (Section.types s ∷ []) (Part.top_type p) = refl
-both_ends (Part.custom q r) (Section.types s ∷ []) (Part.top_export p) = refl
-both_ends (Part.custom q r) (Section.types s ∷ []) (Part.custom p w) = refl
-both_ends (Part.custom q r) (Section.exports s ∷ []) (Part.top_type p) = refl
-both_ends (Part.custom q r) (Section.exports s ∷ []) (Part.top_export p) = refl
-both_ends (Part.custom q r) (Section.exports s ∷ []) (Part.custom p w) = refl
-both_ends (Part.custom q r) (Section.custom s v ∷ []) (Part.top_type p) = refl
-both_ends (Part.custom q r) (Section.custom s v ∷ []) (Part.top_export p) = refl
-both_ends (Part.custom q r) (Section.custom s v ∷ []) (Part.custom p w) = refl
-both_ends (Part.top_type q) (Section.types s ∷ t ∷ rest) p = refl
-both_ends (Part.top_type q) (Section.exports s ∷ t ∷ rest) p = refl
-both_ends (Part.top_type q) (Section.custom s v ∷ t ∷ rest) p = refl
-both_ends (Part.top_export q) (Section.types s ∷ t ∷ rest) p = refl
-both_ends (Part.top_export q) (Section.exports s ∷ t ∷ rest) p = refl
-both_ends (Part.top_export q) (Section.custom s v ∷ t ∷ rest) p = refl
-both_ends (Part.custom q r) (Section.types s ∷ t ∷ rest) p = refl
-both_ends (Part.custom q r) (Section.exports s ∷ t ∷ rest) p = refl
-both_ends (Part.custom q r) (Section.custom s v ∷ t ∷ rest) p = refl
+both_ends x y p = search std_rules
 
 sections_of_parts-push : (ps : List Part) (p : Part) → sections_of_parts (ps ++ p ∷ []) ≡ put_behind (sections_of_parts ps) p
 sections_of_parts-push [] (Part.top_type t) = refl
@@ -83,29 +39,14 @@ sections_of_parts-push (q ∷ ps) p = ap (with_part q) (sections_of_parts-push p
 
 -- the parts of sections with a part in front, or behind
 parts_of-with_part : (p : Part) (sections : List Section) → parts_of (with_part p sections) ≡ p ∷ parts_of sections
-parts_of-with_part (Part.top_type t) [] = refl
-parts_of-with_part (Part.top_type t) (Section.types ts ∷ rest) = refl
-parts_of-with_part (Part.top_type t) (Section.exports es ∷ rest) = refl
-parts_of-with_part (Part.top_type t) (Section.custom name contents ∷ rest) = refl
-parts_of-with_part (Part.top_export e) [] = refl
-parts_of-with_part (Part.top_export e) (Section.types ts ∷ rest) = refl
-parts_of-with_part (Part.top_export e) (Section.exports es ∷ rest) = refl
-parts_of-with_part (Part.top_export e) (Section.custom name contents ∷ rest) = refl
-parts_of-with_part (Part.custom name contents) sections = refl
+parts_of-with_part x sections = search std_rules
 
 pub parts_of-sections_of_parts : (ps : List Part) → parts_of (sections_of_parts ps) ≡ ps
 parts_of-sections_of_parts [] = refl
 parts_of-sections_of_parts (p ∷ ps) = parts_of-with_part p (sections_of_parts ps) ∙ ap (λ (xs : List Part). p ∷ xs) (parts_of-sections_of_parts ps)
 
 parts_of-join : (s : Section) (p : Part) → parts_of (join s p) ≡ parts_of (s ∷ []) ++ p ∷ []
-parts_of-join (Section.types ts) (Part.top_type t) = simp (map-append, append-nil)
-parts_of-join (Section.types ts) (Part.top_export e) = simp append-nil
-parts_of-join (Section.types ts) (Part.custom name contents) = simp append-nil
-parts_of-join (Section.exports es) (Part.top_type t) = simp append-nil
-parts_of-join (Section.exports es) (Part.top_export e) = simp (map-append, append-nil)
-parts_of-join (Section.exports es) (Part.custom name contents) = simp append-nil
-parts_of-join (Section.custom n c) (Part.top_type t) = refl
-parts_of-join (Section.custom n c) _ = refl
+parts_of-join x y = search (std_rules, map-append, append-nil)
 
 parts_of-put_behind : (sections : List Section) (p : Part) → parts_of (put_behind sections p) ≡ parts_of sections ++ p ∷ []
 parts_of-put_behind [] (Part.top_type t) = refl

@@ -1,5 +1,5 @@
 -- What is read by levels is read as the raw form that it is, and the other way round.
-use Rattle.std.proofs.Common.{◌≡◌, refl, sym, ap, subst, ◌∙◌, ℕ, zero, suc, ◌+◌, ◌<◌, ◌≤◌, ◌^◌, arith, Bool, true, false, ◌&&◌, cond, eqb, ltb, List, [], ◌∷◌, length, map, take, drop, Option, Some, None}
+use Rattle.std.proofs.Common.{rules as std_rules, ◌≡◌, refl, sym, ap, subst, ◌∙◌, ℕ, zero, suc, ◌+◌, ◌<◌, ◌≤◌, ◌^◌, arith, Bool, true, false, ◌&&◌, cond, eqb, ltb, List, [], ◌∷◌, length, map, take, drop, Option, Some, None}
 use Rattle.std.proofs.lemmas.{Bool.ne_eqb, List.length-map, List.length-append, List.length-drop}
 use Rattle.std.specs.{Prelude.nat_eq, Cmp.Lexicographic.pointwise}
 use Rattle.comp_bytes.specs.{Raw.TopType, Raw.TopExport, Raw.Section, Form.Spellings, Form.Sequence, Spelling.IsTopType, Spelling.preamble, Laws.IsReadBy}
@@ -43,51 +43,26 @@ whole_types_out contents ps e =
 
 module _ (contents : List ℕ) where
   custom_into : (p : Piece) → (name_at contents >>= λ name. Some (custom name.0 name.1)) ≡ Some p → (name_at contents >>= λ name. Some (Section.custom name.0 name.1)) ≡ Some (raw_piece p)
-  custom_into p e =
-      let b = bind_some (name_at contents) (λ name. Some (custom name.0 name.1)) p e in
-      rw b.1 (ap (λ q. Some (raw_piece q)) (some_is (custom b.0.0 b.0.1) p b.2))
+  custom_into p e = search std_rules
 
   types_section_into : (p : Piece) → (whole (vector_at part_type_at contents) >>= λ ps. Some (types ps)) ≡ Some p
       → (whole (vector_at type_at contents) >>= λ ts. Some (Section.types ts)) ≡ Some (raw_piece p)
-  types_section_into p e =
-      let b = bind_some (whole (vector_at part_type_at contents)) (λ ps. Some (types ps)) p e in
-      rw (whole_types_into contents b.0 b.1) (ap (λ q. Some (raw_piece q)) (some_is (types b.0) p b.2))
+  types_section_into p e = search (std_rules, bind_some, whole_types_into, some_is)
 
   exports_into : (p : Piece) → (whole (vector_at top_export_at contents) >>= λ es. Some (exports es)) ≡ Some p
       → (whole (vector_at top_export_at contents) >>= λ es. Some (Section.exports es)) ≡ Some (raw_piece p)
-  exports_into p e =
-      let b = bind_some (whole (vector_at top_export_at contents)) (λ es. Some (exports es)) p e in
-      rw b.1 (ap (λ q. Some (raw_piece q)) (some_is (exports b.0) p b.2))
+  exports_into p e = search std_rules
 
   custom_out : (p : Piece) → (name_at contents >>= λ name. Some (Section.custom name.0 name.1)) ≡ Some (raw_piece p) → (name_at contents >>= λ name. Some (custom name.0 name.1)) ≡ Some p
-  custom_out (custom name text) e =
-      let b = bind_some (name_at contents) (λ n. Some (Section.custom n.0 n.1)) (Section.custom name text) e in
-      let same : Section.custom b.0.0 b.0.1 ≡ Section.custom name text = some_is (Section.custom b.0.0 b.0.1) (Section.custom name text) b.2 in
-      let name_is : b.0.0 ≡ name = cc in
-      let text_is : b.0.1 ≡ text = cc in
-      rw b.1 (ap (λ (n : List ℕ). Some (custom n b.0.1)) name_is ∙ ap (λ (t : List ℕ). Some (custom name t)) text_is)
-  custom_out (types ps) e = absurd (let b = bind_some (name_at contents) (λ n. Some (Section.custom n.0 n.1)) (raw_piece (types ps)) e in let same = b.2 in cc)
-  custom_out (exports es) e = absurd (let b = bind_some (name_at contents) (λ n. Some (Section.custom n.0 n.1)) (raw_piece (exports es)) e in let same = b.2 in cc)
+  custom_out x e = search std_rules
 
   types_section_out : (p : Piece) → (whole (vector_at type_at contents) >>= λ ts. Some (Section.types ts)) ≡ Some (raw_piece p)
       → (whole (vector_at part_type_at contents) >>= λ ps. Some (types ps)) ≡ Some p
-  types_section_out (types ps) e =
-      let b = bind_some (whole (vector_at type_at contents)) (λ ts. Some (Section.types ts)) (Section.types (top_types ps)) e in
-      let same : Section.types b.0 ≡ Section.types (top_types ps) = some_is (Section.types b.0) (Section.types (top_types ps)) b.2 in
-      let inner : b.0 ≡ top_types ps = cc in
-      rw (whole_types_out contents ps (b.1 ∙ ap (λ (ts : List TopType). Some ts) inner)) refl
-  types_section_out (custom name text) e = absurd (let b = bind_some (whole (vector_at type_at contents)) (λ ts. Some (Section.types ts)) (Section.custom name text) e in let same = b.2 in cc)
-  types_section_out (exports es) e = absurd (let b = bind_some (whole (vector_at type_at contents)) (λ ts. Some (Section.types ts)) (Section.exports es) e in let same = b.2 in cc)
+  types_section_out x e = search (std_rules, bind_some, some_is, whole_types_out)
 
   exports_out : (p : Piece) → (whole (vector_at top_export_at contents) >>= λ es. Some (Section.exports es)) ≡ Some (raw_piece p)
       → (whole (vector_at top_export_at contents) >>= λ es. Some (exports es)) ≡ Some p
-  exports_out (exports es) e =
-      let b = bind_some (whole (vector_at top_export_at contents)) (λ xs. Some (Section.exports xs)) (Section.exports es) e in
-      let same : Section.exports b.0 ≡ Section.exports es = some_is (Section.exports b.0) (Section.exports es) b.2 in
-      let inner : b.0 ≡ es = cc in
-      rw b.1 (ap (λ (xs : List TopExport). Some (exports xs)) inner)
-  exports_out (custom name text) e = absurd (let b = bind_some (whole (vector_at top_export_at contents)) (λ xs. Some (Section.exports xs)) (Section.custom name text) e in let same = b.2 in cc)
-  exports_out (types ps) e = absurd (let b = bind_some (whole (vector_at top_export_at contents)) (λ xs. Some (Section.exports xs)) (Section.types (top_types ps)) e in let same = b.2 in cc)
+  exports_out x e = search std_rules
 
 piece_into : (id : ℕ) (contents : List ℕ) (p : Piece) → piece_of id contents ≡ Some p → section_of id contents ≡ Some (raw_piece p)
 unfolding piece_of section_of
@@ -200,11 +175,7 @@ pieces_by_frames (b ∷ bytes) = by (frame_at (b ∷ bytes)) refl ∙ sym (ap (�
 
 levels_into : (bytes : List ℕ) (ps : List Piece) → levels_of bytes ≡ Some ps → component_of bytes ≡ Some (map raw_piece ps)
 unfolding levels_of component_of pieces_in
-levels_into bytes ps e =
-    let w = when_some (pointwise nat_eq (take 8 bytes) preamble && ltb (length bytes) (2 ^ 32)) (pieces_of (length (drop 8 bytes)) (drop 8 bytes)) ps e in
-    let fewer : length (drop 8 bytes) ≤ length bytes = omega (arith, length-drop 8 bytes) in
-    let read : pieces_of (length bytes) (drop 8 bytes) ≡ Some ps = enough (length bytes) (length (drop 8 bytes)) (drop 8 bytes) fewer (omega arith) ∙ w.1 in
-    rw (w.0, pieces_into (length bytes) (drop 8 bytes) ps read) refl
+levels_into bytes ps e = search (std_rules, when_some, length-drop, enough, pieces_into)
 
 levels_out : (bytes : List ℕ) (ps : List Piece) → component_of bytes ≡ Some (map raw_piece ps) → levels_of bytes ≡ Some ps
 unfolding levels_of component_of pieces_in

@@ -1,5 +1,5 @@
 -- Items that are read one behind the other, as a loop reads them: those in front have been read, so many are still to be read.
-use Rattle.std.proofs.Common.{◌≡◌, refl, sym, ap, ◌∙◌, ℕ, suc, ◌+◌, ◌-◌, ◌<◌, ◌≤◌, arith, List, [], ◌∷◌, ◌++◌, map, Option, Some, None, append_assoc, append-nil}
+use Rattle.std.proofs.Common.{rules as std_rules, ◌≡◌, refl, sym, ap, ◌∙◌, ℕ, suc, ◌+◌, ◌-◌, ◌<◌, ◌≤◌, arith, List, [], ◌∷◌, ◌++◌, map, Option, Some, None, append_assoc, append-nil}
 use Rattle.std.proofs.lemmas.List.{map-append}
 use Rattle.comp_bytes.specs.Reading.{Reader, ◌>>=◌, sequence_at}
 use Rattle.base_lemmas.proofs.Numbers.{less}
@@ -10,13 +10,11 @@ with_front front found = found >>= λ x. Some (front ++ x.0, x.1)
 
 -- at first there are none in front
 pub with_none : {A : Type 0} (found : Option (List A × List ℕ)) → with_front [] found ≡ found
-with_none None = refl
-with_none (Some x) = refl
+with_none x = search std_rules
 
 module _ {A : Type 0} (reader : Reader A) where
   further : (front : List A) (x : A) (found : Option (List A × List ℕ)) → with_front front (found >>= λ xs. Some (x ∷ xs.0, xs.1)) ≡ with_front (front ++ x ∷ []) found
-  further front x None = refl
-  further front x (Some xs) = ap (λ ys. Some (ys, xs.1)) (sym (append_assoc front (x ∷ []) xs.0))
+  further front x y = search (std_rules, append_assoc)
 
   step : (k : ℕ) (bytes : List ℕ) (x : A) (rest : List ℕ) → reader bytes ≡ Some (x, rest) → sequence_at reader (suc k) bytes ≡ (sequence_at reader k rest >>= λ xs. Some (x ∷ xs.0, xs.1))
   unfolding sequence_at
@@ -44,6 +42,4 @@ module _ {A : Type 0} (reader : Reader A) where
   pub all_items : (front : List A) (n i : ℕ) (bytes rest : List ℕ) → with_front front (sequence_at reader (n - i) rest) ≡ sequence_at reader n bytes → n ≤ i
       → sequence_at reader n bytes ≡ Some (front, rest)
   unfolding sequence_at
-  all_items front n i bytes rest kept done =
-      let none : n - i ≡ 0 = omega arith in
-      sym kept ∙ ap (λ k. with_front front (sequence_at reader k rest)) none ∙ ap (λ xs. Some (xs, rest)) (append-nil front)
+  all_items front n i bytes rest kept done = search std_rules

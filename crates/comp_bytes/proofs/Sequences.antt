@@ -1,5 +1,5 @@
 -- One item behind the items that a loop has appended.
-use Rattle.std.proofs.Common.{◌≡◌, ℕ, ◌+◌, ◌<◌, Bool, false, List, [], ◌∷◌, ◌++◌, length, get_or, take, map, Result, Ok, Err, refl, sym, ap, subst, ◌∙◌, arith, append_assoc, add-one}
+use Rattle.std.proofs.Common.{rules as std_rules, ◌≡◌, ℕ, ◌+◌, ◌<◌, Bool, false, List, [], ◌∷◌, ◌++◌, length, get_or, take, map, Result, Ok, Err, refl, sym, ap, subst, ◌∙◌, arith, append_assoc, add-one}
 use Rattle.std.proofs.Math.Seq.{take-suc}
 use Rattle.std.proofs.{Math.ListN.get_or-map, lemmas.List.append-nil, lemmas.List.length-map, lemmas.List.Folds.list_all_at as list_all-fails}
 use Rattle.std.specs.List.{flat_map, list_all}
@@ -14,10 +14,7 @@ flat_map-push f (x ∷ xs) y = ap (λ (l : List ℕ). f x ++ l) (flat_map-push f
 module _ {A : Type 0} (form : A → Spellings) (bytes : A → List ℕ) where
   pub one_more : (xs : List A) (y : A) (old now new : List ℕ) → Appended (Sequence form xs) (flat_map bytes xs) old now → Appended (form y) (bytes y) now new
       → Appended (Sequence form (xs ++ y ∷ [])) (flat_map bytes (xs ++ y ∷ [])) old new
-  one_more xs y old now new a b = rw (flat_map-push bytes xs y) (record {
-    items = b.items ∙ ap (λ (l : List ℕ). l ++ bytes y) a.items ∙ append_assoc old (flat_map bytes xs) (bytes y);
-    spelled = sequence_push form xs y (flat_map bytes xs) (bytes y) a.spelled b.spelled;
-  })
+  one_more xs y old now new a b = search (std_rules, flat_map-push, append_assoc, sequence_push)
 
   -- the item at the index of the loop
   pub next : (xs : List A) (i : ℕ) (d : A) (old now new : List ℕ) → i < length xs → Appended (Sequence form (take i xs)) (flat_map bytes (take i xs)) old now
@@ -56,18 +53,12 @@ flat_map-append f (x ∷ xs) ys = ap (λ (l : List ℕ). f x ++ l) (flat_map-app
 module _ {A : Type 0} (form : A → Spellings) (bytes : A → List ℕ) where
   pub both : (xs ys : List A) (old mid new : List ℕ) → Appended (Sequence form xs) (flat_map bytes xs) old mid → Appended (Sequence form ys) (flat_map bytes ys) mid new
       → Appended (Sequence form (xs ++ ys)) (flat_map bytes (xs ++ ys)) old new
-  both xs ys old mid new a b = rw (flat_map-append bytes xs ys) (record {
-    items = b.items ∙ ap (λ (l : List ℕ). l ++ flat_map bytes ys) a.items ∙ append_assoc old (flat_map bytes xs) (flat_map bytes ys);
-    spelled = Sequence-append form xs ys (flat_map bytes xs) (flat_map bytes ys) a.spelled b.spelled;
-  })
+  both xs ys old mid new a b = search (std_rules, flat_map-append, append_assoc, Sequence-append)
 
 module _ {A X : Type 0} (form : A → Spellings) (bytes : A → List ℕ) where
   -- one item is a sequence
   pub alone : (x : A) (fits : Bool) (old new : List ℕ) (r : Result X Error) → Appends (form x) (bytes x) fits old new r → Appends (Sequence form (x ∷ [])) (flat_map bytes (x ∷ [])) fits old new r
-  alone x fits old new (Ok y) a = done _ _ _ _ _ _
-      (a.ok.items ∙ ap (λ (l : List ℕ). old ++ l) (sym (append-nil (bytes x))))
-      (bytes x, [], refl, a.ok.spelled, refl)
-  alone x fits old new (Err e) a = refused _ _ _ _ _ _ a.err
+  alone x fits old new y a = search std_rules
 
   pub behind : (xs ys : List A) (part whole : Bool) (old mid new : List ℕ) (r : Result X Error) → Appended (Sequence form xs) (flat_map bytes xs) old mid
       → Appends (Sequence form ys) (flat_map bytes ys) part mid new r → (part ≡ false → whole ≡ false) → Appends (Sequence form (xs ++ ys)) (flat_map bytes (xs ++ ys)) whole old new r

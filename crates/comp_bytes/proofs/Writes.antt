@@ -1,5 +1,5 @@
 -- The shortest bytes of a number, by how many there are.
-use Rattle.std.proofs.Common.{◌≡◌, ℕ, zero, suc, ◌+◌, ◌^◌, ◌/◌, ◌%◌, ◌<◌, ◌≤◌, List, [], ◌∷◌, length, refl, arith, inl, inr, subst}
+use Rattle.std.proofs.Common.{rules as std_rules, ◌≡◌, ℕ, zero, suc, ◌+◌, ◌^◌, ◌/◌, ◌%◌, ◌<◌, ◌≤◌, List, [], ◌∷◌, length, refl, arith, inl, inr, subst}
 use Rattle.std.proofs.lemmas.Bool.{cases_lt, le-ltb, lt-ltb}
 use Rattle.std.specs.List.{AllByRecursion}
 use Rattle.comp_bytes.specs.{Number.IsUnsigned, Number.IsU32, Writing.unsigned_bytes, Writing.u32_bytes, FormatLaws.ShortestNumber}
@@ -10,43 +10,20 @@ bytes_1 n lt = rw (lt-ltb n 128 lt) refl
 
 pub bytes_2 : (n : ℕ) → 128 ≤ n → n < 16384 → u32_bytes n ≡ (n % 128 + 128) ∷ (n / 128) ∷ []
 unfolding u32_bytes
-bytes_2 n le lt =
-    let second : n / 128 < 128 = omega arith in
-    rw (le-ltb n 128 le, lt-ltb (n / 128) 128 second) refl
+bytes_2 n le lt = search std_rules
 
 pub bytes_3 : (n : ℕ) → 16384 ≤ n → n < 2097152 → u32_bytes n ≡ (n % 128 + 128) ∷ (n / 128 % 128 + 128) ∷ (n / 16384) ∷ []
 unfolding u32_bytes
-bytes_3 n le lt =
-    let first : 128 ≤ n = omega arith in
-    let second : 128 ≤ n / 128 = omega arith in
-    let third : n / 128 / 128 ≡ n / 16384 = omega arith in
-    let small : n / 16384 < 128 = omega arith in
-    rw (le-ltb n 128 first, le-ltb (n / 128) 128 second, third, lt-ltb (n / 16384) 128 small) refl
+bytes_3 n le lt = search std_rules
 
 pub bytes_4 : (n : ℕ) → 2097152 ≤ n → n < 268435456 → u32_bytes n ≡ (n % 128 + 128) ∷ (n / 128 % 128 + 128) ∷ (n / 16384 % 128 + 128) ∷ (n / 2097152) ∷ []
 unfolding u32_bytes
-bytes_4 n le lt =
-    let first : 128 ≤ n = omega arith in
-    let second : 128 ≤ n / 128 = omega arith in
-    let third : n / 128 / 128 ≡ n / 16384 = omega arith in
-    let large : 128 ≤ n / 16384 = omega arith in
-    let fourth : n / 16384 / 128 ≡ n / 2097152 = omega arith in
-    let small : n / 2097152 < 128 = omega arith in
-    rw (le-ltb n 128 first, le-ltb (n / 128) 128 second, third, le-ltb (n / 16384) 128 large, fourth, lt-ltb (n / 2097152) 128 small) refl
+bytes_4 n le lt = search std_rules
 
 pub bytes_5 : (n : ℕ) → 268435456 ≤ n → n < 2 ^ 32
     → u32_bytes n ≡ (n % 128 + 128) ∷ (n / 128 % 128 + 128) ∷ (n / 16384 % 128 + 128) ∷ (n / 2097152 % 128 + 128) ∷ (n / 268435456) ∷ []
 unfolding u32_bytes
-bytes_5 n le lt =
-    let first : 128 ≤ n = omega arith in
-    let second : 128 ≤ n / 128 = omega arith in
-    let third : n / 128 / 128 ≡ n / 16384 = omega arith in
-    let large : 128 ≤ n / 16384 = omega arith in
-    let fourth : n / 16384 / 128 ≡ n / 2097152 = omega arith in
-    let larger : 128 ≤ n / 2097152 = omega arith in
-    let fifth : n / 2097152 / 128 ≡ n / 268435456 = omega arith in
-    let small : n / 268435456 < 128 = omega arith in
-    rw (le-ltb n 128 first, le-ltb (n / 128) 128 second, third, le-ltb (n / 16384) 128 large, fourth, le-ltb (n / 2097152) 128 larger, fifth, lt-ltb (n / 268435456) 128 small) refl
+bytes_5 n le lt = search std_rules
 
 -- ---- they spell the number, and no other bytes that do are shorter
 
