@@ -94,12 +94,4 @@ module _ (own other : Resolve) (valid : IsValid other) (c : Carried) (ms : List 
 
 -- What a union adds can be added.
 pub unions_are_addable : UnionsAreAddable
-unions_are_addable own other world other_world m w v added keys valid u inside by_name =
-    let gs : AllZip (IsGained u.carried) (grown_packages u.carried.new_packages.items u.carried.packages.items other.packages.items) added.names.items =
-    subst (AllZip (IsGained u.carried) (grown_packages u.carried.new_packages.items u.carried.packages.items other.packages.items)) (sym u.second.names) u.first.names
-    in
-    record {
-      in_range = gains_in_range own other valid u.carried m.packages.items by_name u.numbered.new_packages u.numbered.packages added.names.items gs;
-      different = gains_different own other valid u.carried m.packages.items by_name u.numbered.new_packages u.numbered.packages added.names.items gs;
-      in_worlds = inside;
-    }
+unions_are_addable own other world other_world m w v added keys valid u inside by_name = grind (arith, gains_in_range, gains_different)

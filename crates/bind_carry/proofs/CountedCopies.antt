@@ -1,5 +1,5 @@
 -- At most as many are copied as pass a test that each of these passes.
-use Rattle.std.proofs.Common.{◌≡◌, refl, sym, ap, subst, ◌∙◌, ℕ, zero, suc, ◌+◌, ◌≤◌, Bool, true, false, cond, arith, List, [], ◌∷◌, length, Option, Some, slice_get}
+use Rattle.std.proofs.Common.{rules as std_rules, ◌≡◌, refl, sym, ap, subst, ◌∙◌, ℕ, zero, suc, ◌+◌, ◌≤◌, Bool, true, false, cond, arith, List, [], ◌∷◌, length, Option, Some, slice_get}
 use Rattle.std.proofs.lemmas.List.Sums.{sum_by-cons}
 use Rattle.std.specs.Prelude.{count_by}
 use Rattle.wit_model.specs.declared.model.{InterfaceId.InterfaceId, Resolve.Resolve, World.World, WorldId.WorldId}
@@ -13,9 +13,7 @@ count_more : {X : Type 0} (p : X → Bool) (x : X) (xs : List X) → count_by p 
 count_more p x xs = sum_by-cons (λ y. cond (p y) 1 0) x xs
 
 one_passes : (a b : Bool) → (a ≡ true → b ≡ true) → cond a 1 0 ≤ cond b 1 0
-one_passes true b h = subst (λ c. 1 ≤ cond c 1 0) (sym (h refl)) (omega arith)
-one_passes false true h = omega arith
-one_passes false false h = omega arith
+one_passes x b h = search std_rules
 
 module _ (a n : ℕ) where
   sum_least : (b k w : ℕ) → w ≡ b + k → n ≤ k → a ≤ b → a + n ≤ w

@@ -1,5 +1,5 @@
 -- How many are copied.
-use Rattle.std.proofs.Common.{◌≡◌, refl, sym, ap, ◌∙◌, ℕ, ◌+◌, ◌≤◌, Bool, true, false, arith, List, [], ◌∷◌, ◌++◌, length, map}
+use Rattle.std.proofs.Common.{rules as std_rules, ◌≡◌, refl, sym, ap, ◌∙◌, ℕ, ◌+◌, ◌≤◌, Bool, true, false, arith, List, [], ◌∷◌, ◌++◌, length, map}
 use Rattle.std.specs.{List.AllZip, Prelude.Option}
 use Rattle.wit_model.specs.declared.model.{Interface.Interface, PackageId.PackageId, TypeDef.TypeDef}
 use Rattle.bind_carry.specs.declared.fate.Fate.{Fate}
@@ -43,12 +43,7 @@ types_counted (t ∷ ts) (fate.Copied home ∷ fs) long = let r = types_counted 
 -- a type that met its fate is counted
 pub counted_more : (own : ℕ) (numbers : List ℕ) (def : TypeDef) (f : Fate) (old new : List TypeDef) (n : ℕ) (fs left : List Fate) (whole : ℕ) → left ≡ f ∷ fs → MeetsFate own numbers def f old new n
     → length old + copies_of left ≡ whole → length new + copies_of fs ≡ whole
-counted_more own numbers def fate.Left old new n fs left whole at met so = ap (λ l. length l + copies_of fs) met.1 ∙ (ap (λ l. length old + copies_of l) (sym at) ∙ so)
-counted_more own numbers def (fate.Stands k) old new n fs left whole at met so = ap (λ l. length l + copies_of fs) met.1 ∙ (ap (λ l. length old + copies_of l) (sym at) ∙ so)
-counted_more own numbers def (fate.Copied home) old new n fs left whole at met so =
-    let longer : length new ≡ length old + 1 = ap length met.1.2 ∙ length_both old (met.1.0 ∷ []) in
-    let here : length old + (copies_of fs + 1) ≡ whole = ap (λ l. length old + copies_of l) (sym at) ∙ so in
-    omega (arith, longer, here)
+counted_more own numbers def x old new n fs left whole at met so = search (std_rules, length_both)
 
 -- where one more is to be copied, it counts
 pub counts_one : (f : Fate) (fs left : List Fate) → left ≡ f ∷ fs → copies f ≡ true → copies_of left ≡ copies_of fs + 1
@@ -57,31 +52,19 @@ counts_one f fs left at h = ap copies_of at ∙ ap (λ b. copied_count (b ∷ ma
 -- behind what was added before stand as many as are copied
 pub copied_long : (own : ℕ) (numbers : List ℕ) (types : List TypeDef) (fates : List Fate) (old new : List TypeDef) → length fates ≡ length types → AreCopied own numbers types fates old new
     → length new ≡ length old + copies_of fates
-copied_long own numbers types fates old new long c =
-    let more : length (copied_types types fates) ≡ length c.more = zip_long (IsCopiedType numbers) (copied_types types fates) c.more c.copied in
-    let both : length new ≡ length old + length c.more = ap length c.behind ∙ length_both old c.more in
-    let count : length (copied_types types fates) ≡ copies_of fates = types_counted types fates long in
-    omega (arith, more, both, count)
+copied_long own numbers types fates old new long c = search (std_rules, zip_long, length_both, types_counted)
 
 -- ---- inline interfaces
 
 -- at most as many stand behind as flags are set
 pub inline_long : (types : List ℕ) (home : Option PackageId) (copied : List Bool) (interfaces old new : List Interface) → AreInlineCopied types home copied interfaces old new
     → length new ≤ length old + copied_count copied
-inline_long types home copied interfaces old new c =
-    let more : length (kept copied interfaces) ≡ length c.more = zip_long (IsInterfaceUnder types home) (kept copied interfaces) c.more c.copies in
-    let both : length new ≡ length old + length c.more = ap length c.behind ∙ length_both old c.more in
-    let few : length (kept copied interfaces) ≤ copied_count copied = kept_few copied interfaces in
-    omega (arith, more, both, few)
+inline_long types home copied interfaces old new c = search (std_rules, zip_long, length_both, kept_few)
 
 -- and as many where each has a flag
 pub inline_all : (types : List ℕ) (home : Option PackageId) (copied : List Bool) (interfaces old new : List Interface) → length copied ≡ length interfaces
     → AreInlineCopied types home copied interfaces old new → length new ≡ length old + copied_count copied
-inline_all types home copied interfaces old new count c =
-    let more : length (kept copied interfaces) ≡ length c.more = zip_long (IsInterfaceUnder types home) (kept copied interfaces) c.more c.copies in
-    let both : length new ≡ length old + length c.more = ap length c.behind ∙ length_both old c.more in
-    let all : length (kept copied interfaces) ≡ copied_count copied = kept_all copied interfaces count in
-    omega (arith, more, both, all)
+inline_all types home copied interfaces old new count c = search (std_rules, zip_long, length_both, kept_all)
 
 -- ---- lists that are made of what is kept
 

@@ -1,5 +1,5 @@
 -- What is copied of interfaces: each stands under its new number, with its types and its functions.
-use Rattle.std.proofs.Common.{◌≡◌, inl, refl, sym, ap, ◌∙◌, ℕ, zero, suc, ◌<◌, arith, Bool, true, false, ◌&&◌, ◌||◌, not, nat_lt, List, [], ◌∷◌, ◌++◌, length, map, Option, Some, None, option_and_then, option_map, is_some, slice_get, if◌then◌else◌}
+use Rattle.std.proofs.Common.{rules as std_rules, ◌≡◌, inl, refl, sym, ap, ◌∙◌, ℕ, zero, suc, ◌<◌, arith, Bool, true, false, ◌&&◌, ◌||◌, not, nat_lt, List, [], ◌∷◌, ◌++◌, length, map, Option, Some, None, option_and_then, option_map, is_some, slice_get, if◌then◌else◌}
 use Rattle.std.proofs.lemmas.{Bool.lt-ltb, Bool.or_left, Bool.or_right, List.length-map, Option.slice_get-map, Option.slice_get_within}
 use Rattle.std.specs.{Prelude.String, List.list_all, List.list_any, List.AllZip, HashMap.get_by_text, Option.option_map_or, String.string_eq}
 use Rattle.std.specs.declared.alloc.Global.{Global}
@@ -33,8 +33,7 @@ no_false : {A : Type 0} → true ≡ false → A
 no_false e = let wrong : ⊥ = cc in absurd wrong
 
 pub excluded : (m : Bool) → (not m || m) ≡ true
-excluded true = refl
-excluded false = refl
+excluded x = search std_rules
 
 any_at : (flags : List Bool) (n : ℕ) → flag_under flags n ≡ true → list_any (λ b. b) flags ≡ true
 any_at [] n h = no_true h
@@ -52,24 +51,18 @@ copied_carried (f ∷ fs) (suc n) h = copied_carried fs n h
 
 -- a type that stands for an own one is no copy
 pub beside_no_copy : (o : Option TypeId) → copies (fate_beside o) ≡ false
-beside_no_copy None = refl
-beside_no_copy (Some id) = refl
+beside_no_copy x = search std_rules
 
 pub named_no_copy : (own : Resolve) (matched : List (Option InterfaceId)) (a : ℕ) (o : Option Text) → copies (fate_named own matched a o) ≡ false
-named_no_copy own matched a None = refl
-named_no_copy own matched a (Some name) = beside_no_copy (type_named own matched a name)
+named_no_copy own matched a x = search std_rules
 
 -- a fate that is no copy stays none for a type with a name
 settled_no_copy : (g : Fate) (may : Bool) → copies g ≡ false → copies (settled g false may) ≡ false
-settled_no_copy fate.Left true h = refl
-settled_no_copy fate.Left false h = refl
-settled_no_copy (fate.Stands k) may h = refl
-settled_no_copy (fate.Copied home) may h = no_false h
+settled_no_copy x may h = search std_rules
 
 -- what is carried without a copy stands for an own type
 pub beside_stands : (o : Option TypeId) → carries (fate_beside o) ≡ true → is_some o ≡ true
-beside_stands None h = no_true h
-beside_stands (Some id) h = refl
+beside_stands x h = search std_rules
 
 module _ (own other : Resolve) (valid : IsValid other) (matched : List (Option InterfaceId)) (c : Carried) (numbers : List ℕ) (chosen : AreChosen other matched c.copied_worlds.items c.copied_interfaces.items) where
   abbrev fates : List Fate
@@ -362,8 +355,7 @@ module _ (own other : Resolve) (valid : IsValid other) (matched : List (Option I
 
 -- the number of a package from now on
 pub home_number : (packages : List ℕ) (home : Option PackageId) → package_number (home_under packages home) ≡ option_map (number_under packages) (package_number home)
-home_number packages None = refl
-home_number packages (Some id) = refl
+home_number packages x = search std_rules
 
 -- ---- types
 
@@ -380,8 +372,7 @@ numbers_under_name numbers (e ∷ es) = ap (λ ns. number_under numbers e.1.0 �
 -- the types of a copy are those of the other under their new numbers
 pub type_numbers_under : (numbers : List ℕ) (old new : Interface) → type_names new.types.entries ≡ type_names_under numbers old.types.entries
     → interface_type_numbers new ≡ map (number_under numbers) (interface_type_numbers old)
-type_numbers_under numbers old new same =
-    sym (numbers_by_name new.types.entries) ∙ (ap (map (λ (x : Text × ℕ). x.1)) same ∙ numbers_under_name numbers old.types.entries)
+type_numbers_under numbers old new same = search (std_rules, numbers_by_name, numbers_under_name)
 
 -- ---- functions
 
@@ -404,9 +395,4 @@ module _ (f : Renumbering) (types : List ℕ) (by_type : number_under types ≡ 
   -- an interface under new numbers is a copy
   pub interface_copy : (old new : Interface) (home : Option PackageId) → IsInterfaceUnder types home old new → IsUnique string_eq old.types → IsUnique string_eq old.functions
       → list_all (λ id. f.copies_type id.0) (values old.types) ≡ true → list_all (is_function_carried f.carries_type) (values old.functions) ≡ true → IsInterfaceCopy f old new
-  interface_copy old new home is unique_types unique_functions copies ready = record {
-    types = is.types unique_types ∙ ap (λ g. map (λ (e : String Global × TypeId). (text_of e.0, g e.1.0)) old.types.entries) by_type;
-    copies = copies;
-    functions = functions_copy old.functions.entries new.functions.entries (is.functions unique_functions) ready;
-    stability = is.stability;
-  }
+  interface_copy old new home is unique_types unique_functions copies ready = search (std_rules, functions_copy)

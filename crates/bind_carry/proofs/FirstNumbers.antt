@@ -1,5 +1,5 @@
 -- Worlds that are carried by path have numbers of their own, and packages stand in packages of their names.
-use Rattle.std.proofs.Common.{◌≡◌, ◌⊎◌, inl, inr, refl, sym, ap, subst, ◌∙◌, ℕ, zero, suc, ◌+◌, ◌<◌, arith, Bool, true, false, not, ◌&&◌, ◌||◌, List, [], ◌∷◌, ◌++◌, length, map, Option, Some, None, is_some, option_and_then, option_map, slice_get, unwrap_or}
+use Rattle.std.proofs.Common.{rules as std_rules, ◌≡◌, ◌⊎◌, inl, inr, refl, sym, ap, subst, ◌∙◌, ℕ, zero, suc, ◌+◌, ◌<◌, arith, Bool, true, false, not, ◌&&◌, ◌||◌, List, [], ◌∷◌, ◌++◌, length, map, Option, Some, None, is_some, option_and_then, option_map, slice_get, unwrap_or}
 use Rattle.std.proofs.lemmas.{List.length-map, Option.slice_get_within, List.Folds.list_all-map}
 use Rattle.std.specs.{Prelude.String, HashMap.get_by_text, List.list_all, List.Contains}
 use Rattle.std.specs.declared.alloc.Global.{Global}
@@ -67,9 +67,7 @@ module _ (own other : Resolve) (valid_other : IsValid other) (matched : List (Op
 
   -- so it is named as the code looks for it
   pub found_named : (name : Text) → type_named own matched n name ≡ get_by_text is.image.types name
-  found_named name =
-      ap (option_and_then (λ id. option_and_then (λ i. get_by_text i.types name) (interface_at own id.0))) is.given
-      ∙ ap (option_and_then (λ i. get_by_text i.types name)) is.at_image
+  found_named name = search std_rules
 
   pub type_there : (t : ℕ) (def : TypeDef) (s : String Global) → type_at other t ≡ Some def → def.name ≡ Some s → def.owner ≡ as_interface n → (id : TypeId)
       × (type_named own matched n (text_of s) ≡ Some id)

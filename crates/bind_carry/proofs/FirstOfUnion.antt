@@ -1,5 +1,5 @@
 -- What a union adds, once it is added, has all that is carried by path.
-use Rattle.std.proofs.Common.{◌≡◌, ◌⊎◌, inl, inr, refl, sym, ap, subst, ◌∙◌, ℕ, zero, suc, ◌+◌, ◌<◌, arith, Bool, true, false, ◌&&◌, ◌==◌, cond, List, [], ◌∷◌, ◌++◌, length, map, Option, Some, None, is_none, option_map, slice_get, unwrap_or, append-nil}
+use Rattle.std.proofs.Common.{rules as std_rules, ◌≡◌, ◌⊎◌, inl, inr, refl, sym, ap, subst, ◌∙◌, ℕ, zero, suc, ◌+◌, ◌<◌, arith, Bool, true, false, ◌&&◌, ◌==◌, cond, List, [], ◌∷◌, ◌++◌, length, map, Option, Some, None, is_none, option_map, slice_get, unwrap_or, append-nil}
 use Rattle.std.proofs.lemmas.{Bool.eq-eqb, List.length-map, Option.slice_get_within as within_list}
 use Rattle.std.specs.{List.AllZip, Option.option_eq, Prelude.slice_set}
 use Rattle.semver.specs.declared.Version.{Version}
@@ -26,10 +26,7 @@ use Rattle.wit_model.proofs.{VersionLaws.same_versions as version_parts, TextLem
 -- ---- names
 
 optional_parts : (a b : Option Version) → option_eq same_version a b ≡ true → option_map parts_of b ≡ option_map parts_of a
-optional_parts None None h = refl
-optional_parts (Some a) (Some b) h = ap Some (sym (version_parts a b h))
-optional_parts None (Some b) h = no_true h
-optional_parts (Some a) None h = no_true h
+optional_parts x y h = search std_rules
 
 -- names that are the same have the same parts
 pub same_parts : (a b : PackageName) → same_package_name a b ≡ true → IsSameName a b
@@ -82,10 +79,7 @@ not_both h = cc
 
 -- one more that is of another package changes nothing
 later : (n : Names) (ns : List Names) (k : ℕ) → (n.«package».0 == k) ≡ false → GainsNone ns k → GainsNone (n ∷ ns) k
-later n ns k e none zero g at same =
-    let first : n ≡ g = ap (λ (o : Option Names). unwrap_or o n) at in
-    not_both (sym (eq-eqb n.«package».0 k (ap (λ (x : Names). x.«package».0) first ∙ same)) ∙ e)
-later n ns k e none (suc i) g at same = none i g at same
+later n ns k e none y g at same = search std_rules
 
 -- the place of the names that a package gains, if it gains any
 pub some_gains : (ns : List Names) (k : ℕ) → ((i : ℕ) × (g : Names) × (slice_get ns i ≡ Some g) × (g.«package».0 ≡ k)) ⊎ GainsNone ns k
@@ -194,32 +188,7 @@ set_count (w ∷ ws) zero v = refl
 set_count (w ∷ ws) (suc n) v = ap suc (set_count ws n v)
 
 pub unions_have_the_first : UnionsHaveTheFirst
-unions_have_the_first own other merged world other_world m w v added keys u a at all by_name same none = record {
-  numbered = u.numbered;
-  all = all;
-  by_name = by_name;
-  same = same;
-  none = none;
-  new_types = u.defs;
-  types = u.types_copied;
-  more_types = u.second.types_copied.more;
-  types_here = a.types ∙ ap (λ l. own.types.items ++ l) (u.second.types_copied.behind ∙ ap (λ l. l ++ u.second.types_copied.more) u.first.type_defs);
-  new_interfaces = u.before.interfaces.items;
-  interfaces = u.first.interfaces;
-  more_interfaces = u.second.inline_copied.more;
-  interfaces_here = a.interfaces ∙ ap (λ l. own.interfaces.items ++ l) u.second.inline_copied.behind;
-  gains = added.names.items;
-  grown = a.packages.0;
-  gained = a.packages.1;
-  new_packages = u.before.packages.items;
-  packages = u.first.packages;
-  packages_here = a.packages.2 ∙ ap (λ l. a.packages.0 ++ l) u.second.packages;
-  own_worlds = slice_set own.worlds.items world (a.worlds w at).0;
-  own_count = set_count own.worlds.items world (a.worlds w at).0;
-  new_worlds = u.before.worlds.items;
-  worlds = u.first.worlds;
-  worlds_here = (a.worlds w at).2 ∙ ap (λ l. slice_set own.worlds.items world (a.worlds w at).0 ++ l) u.second.worlds;
-}
+unions_have_the_first own other merged world other_world m w v added keys u a at all by_name same none = search std_rules
 
 set_at : (ws more : List World) (n : ℕ) (w v : World) → slice_get ws n ≡ Some w → slice_get (slice_set ws n v ++ more) n ≡ Some v
 set_at [] more n w v e = let wrong : ⊥ = cc in absurd wrong

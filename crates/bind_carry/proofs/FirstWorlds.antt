@@ -1,5 +1,5 @@
 -- Worlds that are copied: all that their items name is carried, so each is a copy as the laws on unions ask for it.
-use Rattle.std.proofs.Common.{◌≡◌, refl, sym, ap, subst, ◌∙◌, ℕ, zero, suc, ◌+◌, ◌≤◌, arith, Bool, true, false, ◌&&◌, ◌||◌, not, ◌==◌, cond, List, [], ◌∷◌, ◌++◌, length, map, filter_map, Option, Some, None, is_some, slice_get, option_to_list, unwrap_or}
+use Rattle.std.proofs.Common.{rules as std_rules, ◌≡◌, refl, sym, ap, subst, ◌∙◌, ℕ, zero, suc, ◌+◌, ◌≤◌, arith, Bool, true, false, ◌&&◌, ◌||◌, not, ◌==◌, cond, List, [], ◌∷◌, ◌++◌, length, map, filter_map, Option, Some, None, is_some, slice_get, option_to_list, unwrap_or}
 use Rattle.std.proofs.lemmas.List.{length-map}
 use Rattle.std.proofs.lemmas.{List.Sums.sum_by-append, List.Sums.sum_by-cons, Bool.or_left, Bool.or_right, Map.Keys.any_passes_from_place as any_of_at}
 use Rattle.std.specs.{Prelude.count_by, Prelude.sum_by, Prelude.option_and_then, Prelude.String, Option.option_eq, Option.option_map_or}
@@ -273,10 +273,7 @@ module _ (own other : Resolve) (valid : IsValid other) (matched : List (Option I
   -- ---- entries
 
   key_ready : (k : WorldKey) → key_in_range other k ≡ true → ((id : InterfaceId) → k ≡ key.Interface id → passes (λ i. is_some i.name) (interface_at other id.0) ≡ true) → IsKeyReady f k
-  key_ready (key.Name name) range named = tt
-  key_ready (key.Interface id) range named =
-      let i = found-in other.interfaces.items id.0 range in
-      named_ready id.0 i.0 i.1 (sym (ap (passes (λ j. is_some j.name)) i.1) ∙ named id refl)
+  key_ready x range named = search (std_rules, found-in, named_ready)
 
   item_ready : (i : WorldItem) → item_in_range other i ≡ true → ((id : TypeId) → i ≡ item.Type_ id → passes (λ def. same_owner def.owner (as_world n)) (type_at other id.0) ≡ true)
       → ((m : ℕ) → is_id m (item_interface i) ≡ true → is_shown m ≡ true)
@@ -291,10 +288,7 @@ module _ (own other : Resolve) (valid : IsValid other) (matched : List (Option I
       world_owned_copied own other valid matched c numbers chosen id.0 d.0 d.1 (record { 0 = n }) home set
 
   entry_ready : (e : WorldKey × WorldItem) → EntryFacts e → IsKeyReady f e.0 × IsItemReady f e.1
-  entry_ready e facts = (
-    key_ready e.0 (first_true (key_in_range other e.0) (item_in_range other e.1) facts.range) facts.key_named,
-    item_ready e.1 (second_true (key_in_range other e.0) (item_in_range other e.1) facts.range) facts.type_owned facts.shown facts.functions,
-  )
+  entry_ready e facts = search (std_rules, key_ready, first_true, item_ready, second_true)
 
   -- ---- imports and exports
 

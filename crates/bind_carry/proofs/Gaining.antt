@@ -1,5 +1,5 @@
 -- What packages gain, one after the other.
-use Rattle.std.proofs.Common.{◌≡◌, refl, sym, subst, ℕ, Bool, true, false, List, [], ◌∷◌, ◌++◌, append_assoc, append-nil}
+use Rattle.std.proofs.Common.{rules as std_rules, ◌≡◌, refl, sym, subst, ℕ, Bool, true, false, List, [], ◌∷◌, ◌++◌, append_assoc, append-nil}
 use Rattle.std.specs.List.{AllZip}
 use Rattle.wit_model.specs.declared.model.Package.{Package}
 use Rattle.bind_add.specs.declared.added.Names.{Names}
@@ -17,17 +17,12 @@ module _ (c : Carried) (packages : List Package) where
   pub one_gained : (flags fs : List Bool) (numbers ns : List ℕ) (left ps : List Package) (n : ℕ) (p : Package) (g : Names) (done new : List Names) → flags ≡ false ∷ fs → numbers ≡ n ∷ ns
       → left ≡ p ∷ ps → IsGained c (n, p) g → new ≡ done ++ g ∷ []
       → GainedSoFar c packages flags numbers left done → GainedSoFar c packages fs ns ps new
-  one_gained flags fs numbers ns left ps n p g done new at_flag at_number at_package is added so later z =
-      subst (λ l. Whole (l ++ later)) (sym added)
-      (subst Whole (sym (append_assoc done (g ∷ []) later))
-      (so (g ∷ later) (subst (λ l. Left l numbers left (g ∷ later)) (sym at_flag)
-      (subst (λ l. Left (false ∷ fs) l left (g ∷ later)) (sym at_number) (subst (λ l. Left (false ∷ fs) (n ∷ ns) l (g ∷ later)) (sym at_package) (is, z))))))
+  one_gained flags fs numbers ns left ps n p g done new at_flag at_number at_package is added so later z = search (std_rules, append_assoc)
 
   -- a new one is passed over
   pub one_brought : (flags fs : List Bool) (numbers ns : List ℕ) (left ps : List Package) (n : ℕ) (p : Package) (done : List Names) → flags ≡ true ∷ fs → numbers ≡ n ∷ ns → left ≡ p ∷ ps
       → GainedSoFar c packages flags numbers left done → GainedSoFar c packages fs ns ps done
-  one_brought flags fs numbers ns left ps n p done at_flag at_number at_package so later z =
-      so later (subst (λ l. Left l numbers left later) (sym at_flag) (subst (λ l. Left (true ∷ fs) l left later) (sym at_number) (subst (λ l. Left (true ∷ fs) (n ∷ ns) l later) (sym at_package) z)))
+  one_brought flags fs numbers ns left ps n p done at_flag at_number at_package so later z = search std_rules
 
   -- a package of either kind
   pub one_passed : (flags fs : List Bool) (numbers ns : List ℕ) (left ps : List Package) (b : Bool) (n : ℕ) (p : Package) (done new : List Names) → flags ≡ b ∷ fs → numbers ≡ n ∷ ns → left ≡ p ∷ ps

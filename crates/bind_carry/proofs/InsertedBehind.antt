@@ -1,5 +1,5 @@
 -- Entries whose keys are new stand behind those that were there.
-use Rattle.std.proofs.Common.{◌≡◌, refl, sym, ap, ◌∙◌, ℕ, Bool, true, false, not, ◌||◌, ◌==◌, cond, List, [], ◌∷◌, ◌++◌, append-nil, append_assoc, if◌then◌else◌}
+use Rattle.std.proofs.Common.{rules as std_rules, ◌≡◌, refl, sym, ap, ◌∙◌, ℕ, Bool, true, false, not, ◌||◌, ◌==◌, cond, List, [], ◌∷◌, ◌++◌, append-nil, append_assoc, if◌then◌else◌}
 use Rattle.std.proofs.lemmas.{Slice.Eq.bytes_eq-Decides, Bool.and_from as both}
 use Rattle.std.specs.List.{filter, list_all, list_any, AllByRecursion, AllZip, IsDistinct}
 use Rattle.std.specs.Map.{keys_of}
@@ -38,21 +38,11 @@ none_more p (x ∷ xs) y h k = go (p x) h (λ rest. none_more p xs y rest k)
 module _ (interfaces types : List ℕ) where
   -- a key's copy is what the key is under its new number
   under_test : (k y x : WorldKey) → IsKeyUnder interfaces k y → key_eq y x ≡ is_key_under interfaces k x
-  under_test (key.Name a) (key.Name b) (key.Name t) is = ap (λ z. text_eq z (text_of t)) is
-  under_test (key.Name a) (key.Name b) (key.Interface j) is = refl
-  under_test (key.Interface a) (key.Interface b) (key.Interface j) is = ap (λ (n : ℕ). n == j.0) is
-  under_test (key.Interface a) (key.Interface b) (key.Name t) is = refl
-  under_test (key.Name a) (key.Interface b) x is = absurd is
-  under_test (key.Interface a) (key.Name b) x is = absurd is
+  under_test x y u is = search std_rules
 
   -- and it isn't that of a key that doesn't become one with it
   copy_apart : (k l y : WorldKey) → IsKeyUnder interfaces k y → become_one interfaces k l ≡ false → is_key_under interfaces l y ≡ false
-  copy_apart (key.Name a) (key.Name b) (key.Name t) is h = ap (text_eq (text_of b)) is ∙ text_apart (text_of a) (text_of b) h
-  copy_apart (key.Name a) (key.Interface b) (key.Name t) is h = refl
-  copy_apart (key.Interface a) (key.Interface b) (key.Interface j) is h = ap (λ (n : ℕ). number_under interfaces b.0 == n) is ∙ h
-  copy_apart (key.Interface a) (key.Name b) (key.Interface j) is h = refl
-  copy_apart (key.Name a) l (key.Interface j) is h = absurd is
-  copy_apart (key.Interface a) l (key.Name t) is h = absurd is
+  copy_apart x l y is h = search std_rules
 
   insert_new : (es : List (WorldKey × WorldItem)) (k y : WorldKey) (i : WorldItem) → IsKeyUnder interfaces k y → is_new_under interfaces es k ≡ true → insert_entry key_eq es y i ≡ es ++ (y, i) ∷ []
   insert_new [] k y i is new = refl

@@ -1,5 +1,5 @@
 -- Names that a package gains join those that it had.
-use Rattle.std.proofs.Common.{◌≡◌, refl, sym, ap, ap₂, ◌∙◌, ℕ, zero, suc, Bool, true, false, not, ◌==◌, ◌||◌, cond, List, [], ◌∷◌, map, option_map, ◌⊎◌, inl, inr, subst, Some, slice_get}
+use Rattle.std.proofs.Common.{rules as std_rules, ◌≡◌, refl, sym, ap, ap₂, ◌∙◌, ℕ, zero, suc, Bool, true, false, not, ◌==◌, ◌||◌, cond, List, [], ◌∷◌, map, option_map, ◌⊎◌, inl, inr, subst, Some, slice_get}
 use Rattle.std.proofs.lemmas.Simd.{map-map}
 use Rattle.std.specs.{List.filter, List.list_all, List.list_any, List.AllZip, List.Contains, Prelude.String}
 use Rattle.wit_model.specs.declared.model.{Function.Function, FunctionKind.FunctionKind, «Type».«Type» as ValueType, WorldItem.WorldItem, WorldKey.WorldKey}
@@ -22,53 +22,23 @@ module _ (f : Renumbering) (types : List ℕ) (by_type : number_under types ≡ 
   -- ---- functions
 
   call_same : (k : FunctionKind) → call_under_numbers (number_under types) k ≡ call_under f k
-  call_same call.Freestanding = refl
-  call_same call.AsyncFreestanding = refl
-  call_same (call.Method id) = λ i. call.Method (record { 0 = by_type i id.0 })
-  call_same (call.AsyncMethod id) = λ i. call.AsyncMethod (record { 0 = by_type i id.0 })
-  call_same (call.Static id) = λ i. call.Static (record { 0 = by_type i id.0 })
-  call_same (call.AsyncStatic id) = λ i. call.AsyncStatic (record { 0 = by_type i id.0 })
-  call_same (call.Constructor id) = λ i. call.Constructor (record { 0 = by_type i id.0 })
+  call_same x = search std_rules
 
   pub function_copy : (old new : Function) → IsFunctionUnder types old new → list_all f.carries_type (function_numbers old) ≡ true → IsFunctionCopy f old new
-  function_copy old new is parts = record {
-    name = is.name;
-    kind = is.kind ∙ call_same old.kind;
-    params = is.params
-        ∙ (map-map (λ (x : Text × ValueType). (x.0, renamed_type (number_under types) x.1)) (λ (p : Param). (text_of p.name, p.ty)) old.params.items
-        ∙ ap (λ g. map (λ (p : Param). (text_of p.name, renamed_type g p.ty)) old.params.items) by_type);
-    result = is.result ∙ ap (λ g. option_map (renamed_type g) old.result) by_type;
-    parts = parts;
-    stability = is.stability;
-    external_id = is.external_id;
-  }
+  function_copy old new is parts = search (std_rules, call_same, map-map)
 
 -- What is carried has the numbers that were handed on.
 module _ (f : Renumbering) (interfaces types : List ℕ) (by_interface : (n : ℕ) → f.carries_interface n ≡ true → number_under interfaces n ≡ f.interfaces n) (by_type : number_under types ≡ f.types) where
   -- ---- keys
 
   key_becomes : (old new : WorldKey) → IsKeyUnder interfaces old new → IsKeyReady f old → KeyBecomes f old new
-  key_becomes (key.Name old) (key.Name new) is ready = is
-  key_becomes (key.Interface old) (key.Interface new) is ready = (is ∙ by_interface old.0 ready, ready)
-  key_becomes (key.Name old) (key.Interface new) is ready = absurd is
-  key_becomes (key.Interface old) (key.Name new) is ready = absurd is
+  key_becomes x y is ready = search std_rules
 
   item_becomes : (old new : WorldItem) → IsItemUnder interfaces types old new → IsItemReady f old → ItemBecomes f old new
-  item_becomes (item.Interface old s d x) (item.Interface new t e y) is ready = (is.0 ∙ by_interface old.0 ready, ready, is.1, is.3)
-  item_becomes (item.Function old) (item.Function new) is ready = function_copy f types by_type old new is ready
-  item_becomes (item.Type_ old) (item.Type_ new) is ready = (is ∙ ap (λ g. g old.0) by_type, ready)
-  item_becomes (item.Interface old s d x) (item.Function new) is ready = absurd is
-  item_becomes (item.Interface old s d x) (item.Type_ new) is ready = absurd is
-  item_becomes (item.Function old) (item.Interface new t e y) is ready = absurd is
-  item_becomes (item.Function old) (item.Type_ new) is ready = absurd is
-  item_becomes (item.Type_ old) (item.Interface new t e y) is ready = absurd is
-  item_becomes (item.Type_ old) (item.Function new) is ready = absurd is
+  item_becomes x y is ready = search (std_rules, function_copy)
 
   same_test : (k x : WorldKey) → IsKeyReady f k → is_key_under interfaces k x ≡ same_key f k x
-  same_test (key.Name old) (key.Name new) ready = refl
-  same_test (key.Interface old) (key.Interface new) ready = ap (λ (n : ℕ). n == new.0) (by_interface old.0 ready)
-  same_test (key.Name old) (key.Interface new) ready = refl
-  same_test (key.Interface old) (key.Name new) ready = refl
+  same_test x y ready = search std_rules
 
   any_same : (k : WorldKey) → IsKeyReady f k → (own : List (WorldKey × WorldItem))
       → list_any (λ (x : WorldKey × WorldItem). is_key_under interfaces k x.0) own ≡ list_any (λ (x : WorldKey × WorldItem). same_key f k x.0) own

@@ -1,5 +1,5 @@
 -- Keys of the other's bound world stay apart under both numberings, and what is gained of them comes behind what was there.
-use Rattle.std.proofs.Common.{◌≡◌, refl, sym, ap, subst, ◌∙◌, ℕ, false, ◌||◌, List, [], ◌∷◌, ◌++◌, append-nil, append_assoc, if◌then◌else◌, Bool, true, ◌==◌, ◌+◌, length, arith, Option, Some, None, is_none, is_some}
+use Rattle.std.proofs.Common.{rules as std_rules, ◌≡◌, refl, sym, ap, subst, ◌∙◌, ℕ, false, ◌||◌, List, [], ◌∷◌, ◌++◌, append-nil, append_assoc, if◌then◌else◌, Bool, true, ◌==◌, ◌+◌, length, arith, Option, Some, None, is_none, is_some}
 use Rattle.std.proofs.lemmas.{List.Elements.AllZip-push, Map.Made.IsDistinct-keys_filter, Bool.and_from as both}
 use Rattle.std.specs.List.{list_any, AllZip, IsDistinct, list_all, AllByRecursion, filter, Contains}
 use Rattle.std.specs.{Map.keys_of, Option.option_map_or}
@@ -56,10 +56,7 @@ module _ (interfaces : List ℕ) where
       )
 
   pub keys_all : (whole left : List (WorldKey × WorldItem)) (done : List WorldKey) → left ≡ [] → KeysSoFar whole left done → AreKeysUnder interfaces whole done
-  keys_all whole left done ended before apart =
-      let so = before apart in
-      let all : so.0 ≡ keys_of whole = sym (append-nil so.0) ∙ (ap (λ l. so.0 ++ keys_of l) (sym ended) ∙ so.1) in
-      subst (λ l. AllZip (IsKeyUnder interfaces) l done) all so.2
+  keys_all whole left done ended before apart = search std_rules
 
 -- ---- Keys of a world stay apart under the new numbers of interfaces that are carried.
 
@@ -162,9 +159,7 @@ module _ (own other : Resolve) (valid_own : IsValid own) (valid_other : IsValid 
 
   -- one with a name has one number in both
   pub named_number : (n : ℕ) (i : Interface) → interface_at other n ≡ Some i → is_some i.name ≡ true → number_under in_gains n ≡ number_under by_path n
-  named_number n i there named =
-      ap (λ (l : List ℕ). number_under l n) u.second.interfaces_are
-      ∙ uncopied_under (length own.interfaces.items + length u.before.interfaces.items) u.second.copied c.interfaces.items n copied_long (named_stays n i there named)
+  named_number n i there named = search (std_rules, uncopied_under, copied_long, named_stays)
 
   -- and is carried
   pub named_carried : (n : ℕ) (i : Interface) → interface_at other n ≡ Some i → is_some i.name ≡ true → (flag_under c.copied_interfaces.items n || is_matched m.interfaces.items n) ≡ true
@@ -189,10 +184,7 @@ module _ (own other : Resolve) (valid_own : IsValid own) (valid_other : IsValid 
       j n (named_carried j a.0 a.1 a.2) (named_carried n b.0 b.1 b.2) e
 
   gained_once : (j n : ℕ) → is_named_at other j ≡ true → is_named_at other n ≡ true → number_under in_gains j ≡ number_under in_gains n → j ≡ n
-  gained_once j n h k e =
-      let a = is_named j h in
-      let b = is_named n k in
-      once j n h k (sym (named_number j a.0 a.1 a.2) ∙ (e ∙ named_number n b.0 b.1 b.2))
+  gained_once j n h k e = search (std_rules, is_named, once, named_number)
 
   -- ---- keys
 

@@ -1,5 +1,5 @@
 -- What a look-up of a label finds in a map: what stands under a label of its text.
-use Rattle.std.proofs.Common.{◌≡◌, refl, sym, ap, ◌∙◌, ℕ, zero, suc, Bool, true, false, cond, List, [], ◌∷◌, Some, slice_get, unwrap_or}
+use Rattle.std.proofs.Common.{rules as std_rules, ◌≡◌, refl, sym, ap, ◌∙◌, ℕ, zero, suc, Bool, true, false, cond, List, [], ◌∷◌, Some, slice_get, unwrap_or}
 use Rattle.std.proofs.lemmas.Slice.Eq.{bytes_eq-Decides}
 use Rattle.std.specs.{Prelude.String, List.AllByRecursion, List.IsDistinct, Map.keys_of, Map.lookup}
 use Rattle.std.specs.declared.alloc.Global.{Global}
@@ -9,8 +9,7 @@ use Rattle.bind_union.proofs.Lists.{no_true}
 use Rattle.wit_model.specs.declared.model.WorldKey.TheVariants as key
 
 label_test : (a b : String Global) → text_of a ≡ text_of b → (k : WorldKey) → key_eq (key.Name a) k ≡ key_eq (key.Name b) k
-label_test a b e (key.Name s) = ap (λ t. text_eq t (text_of s)) e
-label_test a b e (key.Interface id) = refl
+label_test a b e x = search std_rules
 
 -- labels of one text find the same
 pub label_found : (a b : String Global) → text_of a ≡ text_of b → (es : List (WorldKey × WorldItem)) → lookup (key_eq (key.Name a)) es ≡ lookup (key_eq (key.Name b)) es

@@ -1,5 +1,5 @@
 -- With what the bound world gains, behind what is carried by path.
-use Rattle.std.proofs.Common.{◌≡◌, subst, ℕ, List, length}
+use Rattle.std.proofs.Common.{rules as std_rules, ◌≡◌, subst, ℕ, List, length}
 use Rattle.wit_model.specs.declared.model.{Resolve.Resolve, World.World}
 use Rattle.bind_add.specs.declared.added.Added.{Added}
 use Rattle.bind_match.specs.declared.matches.Matches.{Matches}
@@ -15,7 +15,4 @@ module _ (own other : Resolve) (m : Matches) (c : Carried) (types : List ℕ)
   -- that is too much with what is numbered
   pub gained_by_count : (world other_world : ℕ) (w v : World) → AreTooManyGained own other world other_world w v c fates types (length before.interfaces.items) (length before.types.items)
       → AreTooManyGained own other world other_world w v c fates (numbers_by (length own.types.items) fates) (copied_count c.copied_interfaces.items) (copies_of fates)
-  gained_by_count world other_world w v h =
-      subst (λ (l : List ℕ). AreTooManyGained own other world other_world w v c fates l (copied_count c.copied_interfaces.items) (copies_of fates)) numbers_are
-      (subst (λ (k : ℕ). AreTooManyGained own other world other_world w v c fates types k (copies_of fates)) first.places
-      (subst (λ (k : ℕ). AreTooManyGained own other world other_world w v c fates types (length before.interfaces.items) k) first.type_places h))
+  gained_by_count world other_world w v h = search std_rules

@@ -1,5 +1,5 @@
 -- What flags say that are set one after the other for the inline interfaces that are shown.
-use Rattle.std.proofs.Common.{◌≡◌, refl, sym, ap, subst, ◌∙◌, ℕ, zero, suc, ◌<◌, arith, Bool, true, false, ◌&&◌, ◌||◌, not, ◌==◌, List, [], ◌∷◌, length, Option, Some, None, is_none, is_some, slice_get, slice_set, unwrap_or, if◌then◌else◌}
+use Rattle.std.proofs.Common.{rules as std_rules, ◌≡◌, refl, sym, ap, subst, ◌∙◌, ℕ, zero, suc, ◌<◌, arith, Bool, true, false, ◌&&◌, ◌||◌, not, ◌==◌, List, [], ◌∷◌, length, Option, Some, None, is_none, is_some, slice_get, slice_set, unwrap_or, if◌then◌else◌}
 use Rattle.std.specs.{Option.option_map_or, Prelude.String}
 use Rattle.std.specs.declared.alloc.Global.{Global}
 use Rattle.wit_model.specs.declared.model.{Interface.Interface, InterfaceId.InterfaceId, Resolve.Resolve, World.World, WorldItem.WorldItem, WorldKey.WorldKey}
@@ -12,15 +12,10 @@ use Rattle.wit_model.specs.declared.model.WorldItem.TheVariants as item
 -- ---- tests
 
 pub no_more : (a b : Bool) → a ≡ (a || (b && false))
-no_more true b = refl
-no_more false true = refl
-no_more false false = refl
+no_more x b = search std_rules
 
 pub joins : (a i x y : Bool) → ((a || (i && x)) || (i && y)) ≡ (a || (i && (x || y)))
-joins true i x y = refl
-joins false true true y = refl
-joins false true false y = refl
-joins false false x y = refl
+joins x i y z = search std_rules
 
 -- ---- one flag
 

@@ -1,5 +1,5 @@
 -- Things that are moved one after the other to the places that were made for them.
-use Rattle.std.proofs.Common.{◌≡◌, refl, sym, ap, subst, ◌∙◌, ℕ, ◌+◌, ◌≤◌, ◌<◌, arith, Bool, true, false, List, [], ◌∷◌, ◌++◌, length, drop, set, append_assoc, append-nil}
+use Rattle.std.proofs.Common.{rules as std_rules, ◌≡◌, refl, sym, ap, subst, ◌∙◌, ℕ, ◌+◌, ◌≤◌, ◌<◌, arith, Bool, true, false, List, [], ◌∷◌, ◌++◌, length, drop, set, append_assoc, append-nil}
 use Rattle.std.proofs.{lemmas.List.drop_more, lemmas.List.length-append, lemmas.List.length-drop, Math.Seq.set-append_seam}
 use Rattle.std.specs.List.{AllZip}
 use Rattle.bind_carry.specs.{Moved.AreMoved, Moved.AreMovedSoFar, Whole.kept}
@@ -15,12 +15,7 @@ module _ {X Y : Type 0} (P : X → Y → Type 0) (xs : List X) where
 
   -- and the list of places is as long as it was
   pub place_there : (left rest : List X) (old now : List Y) (place : ℕ) (x : X) → left ≡ x ∷ rest → AreMovedSoFar P xs left old now place → place < length now
-  place_there left rest old now place x at s =
-      let there = has_place left rest old now place x at s in
-      let count = s.count in
-      let long : length now ≡ length s.moved + length (drop place old) = ap length s.placed ∙ length-append s.moved (drop place old) in
-      let behind = length-drop place old in
-      omega (arith, there, count, long, behind)
+  place_there left rest old now place x at s = search (std_rules, has_place, length-append, length-drop)
 
   -- one more is moved
   pub one_moved : (left rest : List X) (old now new : List Y) (place : ℕ) (x : X) (y : Y) → left ≡ x ∷ rest → P x y → new ≡ set now place y → AreMovedSoFar P xs left old now place
@@ -48,10 +43,4 @@ module _ {X Y : Type 0} (P : X → Y → Type 0) (xs : List X) where
   pub flag_moved : (b : Bool) (fs : List Bool) (x : X) (ns left : List X) (old now new : List Y) (place next : ℕ) → left ≡ kept (b ∷ fs) (x ∷ ns)
       → (b ≡ true → (y : Y) × P x y × (new ≡ set now place y) × (next ≡ place + 1)) → (b ≡ false → (new ≡ now) × (next ≡ place)) → AreMovedSoFar P xs left old now place
       → AreMovedSoFar P xs (kept fs ns) old new next
-  flag_moved true fs x ns left old now new place next at moved stays s =
-      let m = moved refl in
-      subst (λ (k : ℕ). AreMovedSoFar P xs (kept fs ns) old new k) (sym m.3) (one_moved left (kept fs ns) old now new place x m.0 at m.1 m.2 s)
-  flag_moved false fs x ns left old now new place next at moved stays s =
-      let m = stays refl in
-      subst (λ (k : ℕ). AreMovedSoFar P xs (kept fs ns) old new k) (sym m.1)
-      (subst (λ l. AreMovedSoFar P xs (kept fs ns) old l place) (sym m.0) (subst (λ l. AreMovedSoFar P xs l old now place) at s))
+  flag_moved y fs x ns left old now new place next at moved stays s = search (std_rules, one_moved)

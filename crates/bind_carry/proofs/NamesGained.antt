@@ -1,5 +1,5 @@
 -- Names that a package gains weren't there, so they come behind what was.
-use Rattle.std.proofs.Common.{◌≡◌, refl, sym, ap, ◌∙◌, ℕ, zero, suc, ◌<◌, arith, Bool, true, false, not, ◌&&◌, ◌||◌, cond, List, [], ◌∷◌, ◌++◌, length, map, append-nil, append_assoc, Option, Some, None, is_none, is_some, option_and_then, slice_get, string_eq, if◌then◌else◌}
+use Rattle.std.proofs.Common.{rules as std_rules, ◌≡◌, refl, sym, ap, ◌∙◌, ℕ, zero, suc, ◌<◌, arith, Bool, true, false, not, ◌&&◌, ◌||◌, cond, List, [], ◌∷◌, ◌++◌, length, map, append-nil, append_assoc, Option, Some, None, is_none, is_some, option_and_then, slice_get, string_eq, if◌then◌else◌}
 use Rattle.std.proofs.lemmas.{List.length-map, Bool.and_from as both, Option.slice_get_within as within_list}
 use Rattle.std.specs.{Prelude.String, Map.keys_of, Map.lookup, HashMap.get_by_text}
 use Rattle.std.specs.List.{filter, list_all, list_any, AllByRecursion, AllZip, Contains, IsDistinct}
@@ -124,8 +124,7 @@ pub record IsWorldOf (r : Resolve) (n : ℕ) (e : String Global × WorldId) : Ty
   pub here : home.0 ≡ n
 
 pub home_is : (n : ℕ) (o : Option PackageId) → is_id n (package_number o) ≡ true → (home : PackageId) × (o ≡ Some home) × (home.0 ≡ n)
-home_is n None h = no_true h
-home_is n (Some id) h = (id, refl, equal id.0 n h)
+home_is n x h = search std_rules
 
 module _ (r : Resolve) (valid : IsValid r) (n : ℕ) (p : Package) (at : package_at r n ≡ Some p) where
   pub interface_of : (e : String Global × InterfaceId) → Contains p.interfaces.entries e → IsInterfaceOf r n e
@@ -222,15 +221,7 @@ module _ (own other : Resolve) (valid_other : IsValid other) (m : Matches) (c : 
   IsHome k n = (id : PackageId) × (slice_get m.packages.items k ≡ Some (Some id)) × (id.0 ≡ n)
 
   pub home_of : (k n : ℕ) (q : Package) → package_at other k ≡ Some q → flag_under c.new_packages.items k ≡ false → number_under c.packages.items k ≡ n → IsHome k n
-  home_of k n q at bare number =
-      let inside : k < length m.packages.items = (let a = within_list other.packages.items k q at in let b =
-      ap length by_name.packages ∙ length-map other.packages.items (own_package_of own.packages.items) in omega (arith, a, b)) in
-      let id = unflagged_found m.packages.items k inside (ap (λ l. flag_under l k) (sym numbered.new_packages) ∙ bare) in (
-        id.0,
-        id.1,
-        sym (found_number m.packages.items k id.0 id.1) ∙ (sym (uncopied_under (length own.packages.items) c.new_packages.items (map number_of_package m.packages.items) k long bare)
-            ∙ (sym (ap (λ l. number_under l k) numbered.packages) ∙ number)),
-      )
+  home_of k n q at bare number = grind (arith, within_list, length-map, unflagged_found, found_number, uncopied_under, long)
 
   module _ (k n : ℕ) (q p : Package) (at : package_at other k ≡ Some q) (home : IsHome k n) (at_own : package_at own n ≡ Some p) where
     -- an interface is copied where its name is new in the own package

@@ -1,5 +1,5 @@
 -- The names in packages once all is added: own ones, each package's followed by what is new in it, and then those of new packages.
-use Rattle.std.proofs.Common.{◌≡◌, refl, sym, ap, ◌∙◌, ℕ, true, false, ◌&&◌, ◌==◌, not, [], ◌∷◌, ◌++◌, Option, Some, None, ◌⊎◌, inl, inr, ap₂, subst, zero, suc, ◌+◌, arith, Bool, cond, List, length, map, is_some, option_and_then, slice_get, string_eq, unwrap_or}
+use Rattle.std.proofs.Common.{rules as std_rules, ◌≡◌, refl, sym, ap, ◌∙◌, ℕ, true, false, ◌&&◌, ◌==◌, not, [], ◌∷◌, ◌++◌, Option, Some, None, ◌⊎◌, inl, inr, ap₂, subst, zero, suc, ◌+◌, arith, Bool, cond, List, length, map, is_some, option_and_then, slice_get, string_eq, unwrap_or}
 use Rattle.std.proofs.lemmas.{Bool.and_from as both, List.length-map, List.map-append}
 use Rattle.std.specs.{Prelude.codes, Prelude.is_none, Prelude.String, List.list_all, List.filter, List.list_any, List.AllZip, List.Contains, Ordering.eq_by_cmp}
 use Rattle.std.specs.{Cmp.Lexicographic.texts_ties, Option.option_map_or, FinMap.find, HashMap.get_by_text}
@@ -58,15 +58,11 @@ cut_same c (x ∷ xs) (y ∷ ys) rs ss h k e =
     ((λ i. first i ∷ r.0 i), r.1)
 
 versions : (v u : Option Text) → at_version v ≡ at_version u → v ≡ u
-versions None None e = refl
-versions (Some a) (Some b) e = ap Some (tails 64 64 a b e)
-versions None (Some b) e = let wrong : ⊥ = cc in absurd wrong
-versions (Some a) None e = let wrong : ⊥ = cc in absurd wrong
+versions x y e = search std_rules
 
 -- a text isn't followed by nothing, or by a version, where it holds `@`
 begins : {A : Type 0} (v : Option Text) (y : ℕ) (ys : Text) → at_version v ≡ y ∷ ys → not (y == 64) ≡ true → A
-begins None y ys e h = let wrong : ⊥ = cc in absurd wrong
-begins (Some a) y ys e h = differs 64 y (sym (heads 64 y a ys e)) h
+begins x y ys e h = search std_rules
 
 end_same : (xs ys : Text) (v u : Option Text) → Lacks 64 xs → Lacks 64 ys → xs ++ at_version v ≡ ys ++ at_version u → (xs ≡ ys) × (v ≡ u)
 end_same [] [] v u h k e = (refl, versions v u e)
@@ -148,8 +144,7 @@ joined p None = p
 joined p (Some q) = record { interfaces = texts_followed_by p.interfaces q.interfaces; worlds = texts_followed_by p.worlds q.worlds }
 
 grown_is : (others : List (Text × PackageNames)) (p : Text × PackageNames) (o : Option PackageNames) → find text_cmp p.0 others ≡ o → grown_names others p ≡ (p.0, joined p.1 o)
-grown_is others p None e = rw e refl
-grown_is others p (Some q) e = rw e refl
+grown_is others p x e = search std_rules
 
 -- ---- lists
 

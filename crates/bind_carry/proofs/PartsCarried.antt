@@ -1,5 +1,5 @@
 -- With its owner, all that a type or a function refers to is carried: by the rule on owners, from the smaller numbers on.
-use Rattle.std.proofs.Common.{◌≡◌, refl, sym, ap, ◌∙◌, ℕ, zero, suc, ◌<◌, arith, Bool, true, false, ◌&&◌, ◌||◌, not, nat_lt, ltb-true, List, [], ◌∷◌, ◌++◌, flat_map, Option, Some, None, option_to_list, is_some, length}
+use Rattle.std.proofs.Common.{rules as std_rules, ◌≡◌, refl, sym, ap, ◌∙◌, ℕ, zero, suc, ◌<◌, arith, Bool, true, false, ◌&&◌, ◌||◌, not, nat_lt, ltb-true, List, [], ◌∷◌, ◌++◌, flat_map, Option, Some, None, option_to_list, is_some, length}
 use Rattle.std.proofs.lemmas.{Bool.lt-ltb, Bool.and_from as both, List.Folds.list_all-append, List.Folds.list_all-map, Option.slice_get_within}
 use Rattle.std.specs.{Prelude.String, List.list_all, Option.option_map_or}
 use Rattle.std.specs.declared.alloc.Global.{Global}
@@ -105,8 +105,7 @@ module _ (r : Resolve) (carried : ℕ → Bool) (owned : TypeOwner → Bool) (va
   is_named_home a = option_map_or (λ i. option_map_or (λ other. is_some other.name) (interface_at r i) false) a false
 
   home_carried : (a : ℕ) (i : Option Interface) → interface_at r a ≡ i → option_map_or (λ other. is_some other.name) i false ≡ true → owned (as_interface a) ≡ true
-  home_carried a None e h = no_true h
-  home_carried a (Some i) e h = by.with_path a i e h
+  home_carried a x e h = search std_rules
 
   -- the target of a use is carried, since its interface is
   target_carried : (o : TypeOwner) (u : ℕ) (x : Option TypeDef) → type_at r u ≡ x → passes (λ d. is_some d.name) x ≡ true
@@ -222,8 +221,4 @@ module _ (r : Resolve) (carried : ℕ → Bool) (owned : TypeOwner → Bool) (va
 
 -- With the owners that are carried, parts of their types and types of their functions are.
 pub parts_are_carried : PartsAreCarried
-parts_are_carried r carried owned valid by = record {
-  types = type_parts r carried owned valid by;
-  of_interfaces = interface_functions r carried owned valid by;
-  of_worlds = world_functions r carried owned valid by;
-}
+parts_are_carried r carried owned valid by = search (std_rules, type_parts, interface_functions, world_functions)

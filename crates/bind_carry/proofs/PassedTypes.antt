@@ -1,5 +1,5 @@
 -- Types that a pass copies: each stands under its new number, and all its parts are carried. Both passes are so.
-use Rattle.std.proofs.Common.{◌≡◌, inl, refl, sym, ap, ◌∙◌, ℕ, zero, suc, ◌<◌, arith, Bool, true, false, ◌&&◌, nat_lt, List, [], ◌∷◌, ◌++◌, length, Some, is_some, slice_get}
+use Rattle.std.proofs.Common.{rules as std_rules, ◌≡◌, inl, refl, sym, ap, ◌∙◌, ℕ, zero, suc, ◌<◌, arith, Bool, true, false, ◌&&◌, nat_lt, List, [], ◌∷◌, ◌++◌, length, Some, is_some, slice_get}
 use Rattle.std.specs.{List.list_all, Option.option_map_or}
 use Rattle.wit_model.specs.declared.model.{Resolve.Resolve, TypeDef.TypeDef}
 use Rattle.wit_model.specs.{Lookup.type_at, Parts.kind_numbers, Valid.IsValid}
@@ -34,9 +34,7 @@ module _ (other : Resolve) (valid : IsValid other) (f : Renumbering) (adds : Boo
 
   -- a fate at first that carries carries in the end
   pub carried_if : (n : ℕ) (def : TypeDef) (g : Fate) → type_at other n ≡ Some def → slice_get initial n ≡ Some g → carries g ≡ true → is_carried fates n ≡ true
-  carried_if n def fate.Left at e h = no_true h
-  carried_if n def (fate.Stands k) at e h = ap (λ o. option_map_or carries o false) (stands_still adds other.types.items initial falls n def at k e)
-  carried_if n def (fate.Copied home) at e h = ap (λ o. option_map_or carries o false) (copied_still adds other.types.items initial falls n def at home e)
+  carried_if n def x at e h = search (std_rules, no_true, stands_still, falls, copied_still)
 
   by_owner : adds ≡ true → AreCarriedByOwner other (is_carried fates) (carries_owner f)
   by_owner add = record {

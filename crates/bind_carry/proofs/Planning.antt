@@ -1,5 +1,5 @@
 -- What a union adds, once what is moved is in its places.
-use Rattle.std.proofs.Common.{◌≡◌, refl, sym, ap, subst, ◌∙◌, ℕ, ◌+◌, ◌≤◌, ◌<◌, true, arith, nat_lt, List, [], ◌∷◌, ◌++◌, length, drop, slice_get, Some}
+use Rattle.std.proofs.Common.{rules as std_rules, ◌≡◌, refl, sym, ap, subst, ◌∙◌, ℕ, ◌+◌, ◌≤◌, ◌<◌, true, arith, nat_lt, List, [], ◌∷◌, ◌++◌, length, drop, slice_get, Some}
 use Rattle.std.proofs.lemmas.{List.with_items_is, Bool.lt-ltb, Bool.ltb-true}
 use Rattle.std.specs.{List.AllZip, Vec.with_items}
 use Rattle.wit_model.specs.declared.model.{Interface.Interface, Resolve.Resolve, TypeDef.TypeDef, World.World}
@@ -28,10 +28,7 @@ behind_front {X} xs ys n is = ap (λ k. drop k (xs ++ ys)) is ∙ go xs
 module _ (own other : Resolve) (world other_world : ℕ) (m : Matches) (w v : World) (p : Planned) (s : IsPlanned own other world other_world m w v p) where
   -- there is a place for each interface that is carried
   pub places_there : copied_count p.carried.copied_interfaces.items ≤ length p.added.interfaces.items
-  places_there =
-      let places = s.first.places in
-      let all = ap length s.second.inline_copied.behind ∙ length_both s.before.interfaces.items s.second.inline_copied.more in
-      omega (arith, places, all)
+  places_there = search (std_rules, length_both)
 
   types_count : length p.types.items ≡ length other.types.items
   types_count = ap length s.types_are ∙ (numbers_by_long (length own.types.items) (first_fates own other m.interfaces.items p.carried) ∙ fates_long own other m p.carried)
@@ -42,11 +39,7 @@ module _ (own other : Resolve) (world other_world : ℕ) (m : Matches) (w v : Wo
 
   -- and each that is copied has a place
   pub type_places_there : copies_of p.fates.items ≤ length p.added.types.items
-  type_places_there =
-      let copied = ap copies_of s.fates_are in
-      let places = s.first.type_places in
-      let all = ap length s.second.types_copied.behind ∙ length_both s.before.types.items s.second.types_copied.more in
-      omega (arith, copied, places, all)
+  type_places_there = search (std_rules, length_both)
 
   -- the types in front of it have new numbers
   pub types_below : IsInRange other → (types : List ℕ) → types ≡ p.types.items → (n : ℕ) (def : TypeDef) → slice_get other.types.items n ≡ Some def
@@ -61,9 +54,7 @@ module _ (own other : Resolve) (world other_world : ℕ) (m : Matches) (w v : Wo
   -- its package and its types have new numbers
   pub interfaces_below : IsInRange other → AreMatchedAll other m → (types : List ℕ) → types ≡ p.types.items → (n : ℕ) (i : Interface) → slice_get other.interfaces.items n ≡ Some i
       → IsInterfaceBelow (length p.carried.packages.items) (length types) i
-  interfaces_below range all types same n i at =
-      let ready = carried_ready own other m p.carried range all s.numbered (length types) (ap length same ∙ types_count) in
-      record { home = ready.interface_homes n i at; names = ready.type_names n i at; functions = ready.functions n i at }
+  interfaces_below range all types same n i at = search (std_rules, carried_ready, types_count)
 
 -- ---- once it is moved
 
@@ -74,34 +65,22 @@ module _ (own other : Resolve) (world other_world : ℕ) (m : Matches) (w v : Wo
   many = carried_all (IsInterfaceCarried p.carried p.types.items) p.carried.copied_interfaces.items other.interfaces.items are.moved s.numbered.interface_count are.each ∙ sym s.first.places
 
   here : now ≡ are.moved ++ s.second.inline_copied.more
-  here = are.placed ∙ ap (λ l. are.moved ++ l) (ap (λ l. drop (length are.moved) l) s.second.inline_copied.behind
-      ∙ behind_front s.before.interfaces.items s.second.inline_copied.more (length are.moved) many)
+  here = search (std_rules, behind_front, many)
 
   -- no place is added, and none is lost
   pub as_long : length now ≡ length p.added.interfaces.items
-  as_long =
-      let there = ap length here ∙ length_both are.moved s.second.inline_copied.more in
-      let before = ap length s.second.inline_copied.behind ∙ length_both s.before.interfaces.items s.second.inline_copied.more in
-      let same = many in
-      omega (arith, there, before, same)
+  as_long = search (std_rules, here, length_both, many)
 
   -- ---- types
 
   types_many : length types_are.moved ≡ length s.before.types.items
-  types_many =
-      sym (zip_long (IsCopiedType p.types.items) (copied_types other.types.items p.fates.items) types_are.moved types_are.each)
-      ∙ (types_counted other.types.items p.fates.items (ap length s.fates_are ∙ fates_long own other m p.carried) ∙ (ap copies_of s.fates_are ∙ sym s.first.type_places))
+  types_many = search (std_rules, zip_long, types_counted, fates_long)
 
   types_here : defs ≡ types_are.moved ++ s.second.types_copied.more
-  types_here = types_are.placed ∙ ap (λ l. types_are.moved ++ l) (ap (λ l. drop (length types_are.moved) l) s.second.types_copied.behind
-      ∙ behind_front s.before.types.items s.second.types_copied.more (length types_are.moved) types_many)
+  types_here = search (std_rules, behind_front, types_many)
 
   pub types_as_long : length defs ≡ length p.added.types.items
-  types_as_long =
-      let there = ap length types_here ∙ length_both types_are.moved s.second.types_copied.more in
-      let before = ap length s.second.types_copied.behind ∙ length_both s.before.types.items s.second.types_copied.more in
-      let same = types_many in
-      omega (arith, there, before, same)
+  types_as_long = search (std_rules, types_here, length_both, types_many)
 
   -- ---- all
 
@@ -125,24 +104,12 @@ module _ (own other : Resolve) (world other_world : ℕ) (m : Matches) (w v : Wo
   none_before = omega arith
 
   types_whole : AreCopied (length own.types.items) p.types.items other.types.items (first_fates own other m.interfaces.items p.carried) [] types_are.moved
-  types_whole = record {
-    numbers_are = s.types_are ∙ ap (λ (k : ℕ). numbers_by k (first_fates own other m.interfaces.items p.carried)) none_before;
-    more = types_are.moved;
-    behind = refl;
-    copied = subst (λ l. AllZip (IsCopiedType p.types.items) (copied_types other.types.items l) types_are.moved) s.fates_are types_are.each;
-  }
+  types_whole = search std_rules
 
   gained_types : (new : List TypeDef) → new ≡ defs
       → AreCopied (length own.types.items) s.second.types other.types.items
       (bound_fates other world other_world w v s.second.copied s.second.interfaces (first_fates own other m.interfaces.items p.carried) p.types.items) first.types.items new
-  gained_types new items = record {
-    numbers_are = s.second.types_copied.numbers_are
-        ∙ ap (λ (k : ℕ). numbers_by (length own.types.items + k)
-        (bound_fates other world other_world w v s.second.copied s.second.interfaces (first_fates own other m.interfaces.items p.carried) p.types.items)) (sym same_type_number);
-    more = s.second.types_copied.more;
-    behind = items ∙ (types_here ∙ ap (λ l. l ++ s.second.types_copied.more) (sym first_types));
-    copied = s.second.types_copied.copied;
-  }
+  gained_types new items = search (std_rules, same_type_number, types_here, first_types)
 
   pub whole_union : (added : Added) → added ≡ record p.added { interfaces = added.interfaces; types = added.types } → added.interfaces.items ≡ now → added.types.items ≡ defs
       → IsUnionOf own other world other_world m w v added p.keys.keys

@@ -1,5 +1,5 @@
 -- A valid `Resolve` is in range.
-use Rattle.std.proofs.Common.{◌≡◌, refl, sym, ap, ◌∙◌, ℕ, ◌≤◌, Bool, true, false, ◌&&◌, nat_lt, ltb-true, List, [], ◌∷◌, ◌++◌, length, map, filter_map, Option, Some, None, option_to_list, slice_get}
+use Rattle.std.proofs.Common.{rules as std_rules, ◌≡◌, refl, sym, ap, ◌∙◌, ℕ, ◌≤◌, Bool, true, false, ◌&&◌, nat_lt, ltb-true, List, [], ◌∷◌, ◌++◌, length, map, filter_map, Option, Some, None, option_to_list, slice_get}
 use Rattle.std.proofs.lemmas.{List.Folds.list_all-append, List.Folds.list_all-map, Bool.lt-ltb, Bool.ltb-false}
 use Rattle.std.specs.{Prelude.String, List.list_all, Option.option_map_or}
 use Rattle.std.specs.declared.alloc.Global.{Global}
@@ -43,8 +43,7 @@ numbers_append (x ∷ xs) ys =
     append_three (n ∷ a) b c = ap (λ l. n ∷ l) (append_three a b c)
 
 call_is : (k : FunctionKind) → option_to_list (resource_of k) ≡ call_numbers k
-call_is call.Freestanding = refl
-call_is _ = refl
+call_is x = search std_rules
 
 module _ (r : Resolve) where
   abbrev types : ℕ
@@ -85,13 +84,10 @@ module _ (r : Resolve) where
   -- ---- items
 
   key_below : (k : WorldKey) → key_in_range r k ≡ true → all_below (length r.interfaces.items) (key_numbers k) ≡ true
-  key_below (key.Name name) h = refl
-  key_below (key.Interface id) h = ap (λ b. b && true) h
+  key_below x h = search std_rules
 
   item_below : (i : WorldItem) → item_in_range r i ≡ true → IsItemBelow (length r.interfaces.items) types i
-  item_below (item.Interface id stability docs external_id) h = ltb-true id.0 (length r.interfaces.items) h
-  item_below (item.Function f) h = function_below f h
-  item_below (item.Type_ id) h = ltb-true id.0 types h
+  item_below x h = search (std_rules, ltb-true, function_below)
 
   entries_below : (es : List (WorldKey × WorldItem)) → entries_in_range r es ≡ true → AreEntriesBelow (length r.interfaces.items) types es
   entries_below [] h = tt
@@ -103,13 +99,10 @@ module _ (r : Resolve) where
   -- ---- homes
 
   home_below : (p : Option PackageId) → passes (in_list r.packages.items) (package_number p) ≡ true → IsHomeBelow (length r.packages.items) p
-  home_below None h = tt
-  home_below (Some id) h = ltb-true id.0 (length r.packages.items) h
+  home_below x h = search std_rules
 
   owner_below : (o : TypeOwner) → owner_in_range r o ≡ true → IsOwnerBelow (length r.interfaces.items) (length r.worlds.items) o
-  owner_below (owner.World id) h = ltb-true id.0 (length r.worlds.items) h
-  owner_below (owner.Interface id) h = ltb-true id.0 (length r.interfaces.items) h
-  owner_below owner.None h = tt
+  owner_below x h = search std_rules
 
 -- ---- lengths
 
@@ -266,9 +259,7 @@ module _ (interfaces types : ℕ) where
   keys_below (e ∷ es) h = (λ i. h.0 i && keys_below es h.1.1 i)
 
   shown_one : (i : WorldItem) → IsItemBelow interfaces types i → IsShownBelow interfaces i
-  shown_one (item.Interface id stability docs external_id) h = h
-  shown_one (item.Function f) h = tt
-  shown_one (item.Type_ id) h = tt
+  shown_one x h = search std_rules
 
   pub shown_below : (es : List (WorldKey × WorldItem)) → AreEntriesBelow interfaces types es → AreShownBelow interfaces es
   shown_below [] h = tt
@@ -279,9 +270,7 @@ module _ (interfaces types : ℕ) where
   new_shown_below (e ∷ es) h = (h.0, (shown_one e.1 h.1.0, new_shown_below es h.1.1))
 
   type_one : (i : WorldItem) → IsItemBelow interfaces types i → option_map_or (λ id. nat_lt id.0 types) (type_in i) true ≡ true
-  type_one (item.Interface id stability docs external_id) h = refl
-  type_one (item.Function f) h = refl
-  type_one (item.Type_ id) h = lt-ltb id.0 types h
+  type_one x h = search std_rules
 
   pub types_below : (es : List (WorldKey × WorldItem)) → AreEntriesBelow interfaces types es → are_types_below types es ≡ true
   types_below [] h = refl

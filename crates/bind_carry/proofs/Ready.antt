@@ -1,5 +1,5 @@
 -- What is carried of a `Resolve` in range can be copied, and so can what the bound world gains.
-use Rattle.std.proofs.Common.{◌≡◌, sym, ap, subst, ◌∙◌, ℕ, ◌+◌, Bool, true, List, length, map, is_none, Some}
+use Rattle.std.proofs.Common.{rules as std_rules, ◌≡◌, sym, ap, subst, ◌∙◌, ℕ, ◌+◌, Bool, true, List, length, map, is_none, Some}
 use Rattle.std.proofs.lemmas.List.{length-map}
 use Rattle.std.specs.Prelude.{Err, Ok, OnOk, Result}
 use Rattle.wit_model.specs.Lookup.{interface_at, type_at, world_at}
@@ -15,9 +15,7 @@ use Rattle.wit_model.specs.declared.model.TypeOwner.TheVariants as owner
 
 -- an owner's interface is in range, where the owner is
 pub home_in : (interfaces worlds : ℕ) (o : TypeOwner) → IsOwnerBelow interfaces worlds o → IsHomeIn interfaces o
-home_in interfaces worlds (owner.Interface id) h = h
-home_in interfaces worlds (owner.World id) h = tt
-home_in interfaces worlds owner.None h = tt
+home_in interfaces worlds x h = search std_rules
 
 module _ (own other : Resolve) (m : Matches) (c : Carried) (range : IsInRange other) (all : AreMatchedAll other m) (is : IsNumbered own other m c) where
   package_count : length other.packages.items ≡ length c.packages.items
@@ -30,9 +28,7 @@ module _ (own other : Resolve) (m : Matches) (c : Carried) (range : IsInRange ot
   world_count = sym is.whole.worlds ∙ is.world_count
 
   pub owners_below : (n : ℕ) (def : TypeDef) → type_at other n ≡ Some def → IsOwnerBelow (length c.copied_interfaces.items) (length c.copied_worlds.items) def.owner
-  owners_below n def at =
-      subst (λ (k : ℕ). IsOwnerBelow k (length c.copied_worlds.items) def.owner) (sym is.interface_count)
-      (subst (λ (k : ℕ). IsOwnerBelow (length other.interfaces.items) k def.owner) (sym is.world_count) (range.owners n def at))
+  owners_below n def at = search std_rules
 
   pub carried_ready : (types : ℕ) → types ≡ length other.types.items → IsCarriedReady other c types
   carried_ready types count = record {
@@ -68,10 +64,7 @@ numbers_count own numbers types fates old new is = ap length is.numbers_are ∙ 
 
 -- the keys of a world of what is in range
 pub world_keys_below : (other : Resolve) → IsInRange other → (n : ℕ) (v : World) → world_at other n ≡ Some v → (count : ℕ) → count ≡ length other.interfaces.items → AreWorldKeysBelow count v
-world_keys_below other range n v at count e = record {
-  imports = ap (λ (k : ℕ). are_keys_below k v.imports.entries) e ∙ keys_below (length other.interfaces.items) (length other.types.items) v.imports.entries (range.imports n v at);
-  exports = ap (λ (k : ℕ). are_keys_below k v.exports.entries) e ∙ keys_below (length other.interfaces.items) (length other.types.items) v.exports.entries (range.exports n v at);
-}
+world_keys_below other range n v at count e = search (std_rules, keys_below)
 
 -- ---- what the bound world gains
 
@@ -111,10 +104,7 @@ module _ (own other : Resolve) (world other_world : ℕ) (c : Carried) (fates : 
 pub bound_long : (other : Resolve) (world other_world : ℕ) (w v : World) (copied : List Bool) (interfaces : List ℕ) (fates : List Fate) (numbers : List ℕ) → length fates ≡ length other.types.items
     → length numbers ≡ length other.types.items
     → length (bound_fates other world other_world w v copied interfaces fates numbers) ≡ length other.types.items
-bound_long other world other_world w v copied interfaces fates numbers long_fates long_numbers =
-    let second = second_from other world other_world copied interfaces other.types.items fates numbers in
-    settled_long (gains_any interfaces w v) other.types.items (unified w.imports.entries v.imports.entries second)
-    (unified_long w.imports.entries v.imports.entries second ∙ second_long other world other_world copied interfaces other.types.items fates numbers long_fates long_numbers)
+bound_long other world other_world w v copied interfaces fates numbers long_fates long_numbers = search (std_rules, settled_long, unified_long, second_long)
 
 -- each has a number
 pub numbers_many : (first : ℕ) (flags : List Bool) (others numbers : List ℕ) (n : ℕ) → numbers ≡ numbers_of first flags others → length flags ≡ n → length others ≡ n → length numbers ≡ n
@@ -122,5 +112,4 @@ numbers_many first flags others numbers n e p q = ap length e ∙ (sym (numbers_
 
 -- what follows of two things that hold where an answer is there
 pub on_ok_two : {A E P Q R : Type 0} → (P → Q → R) → (r : Result A E) → OnOk r P → OnOk r Q → OnOk r R
-on_ok_two f (Ok a) p q = f p q
-on_ok_two f (Err e) p q = p
+on_ok_two f x p q = search std_rules

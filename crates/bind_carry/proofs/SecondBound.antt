@@ -1,5 +1,5 @@
 -- The bound world stands as it was, with what it gains behind what it had.
-use Rattle.std.proofs.Common.{◌≡◌, inl, inr, refl, sym, ap, ◌∙◌, ℕ, ◌+◌, Bool, true, false, not, ◌&&◌, ◌||◌, List, [], length, Option, Some, None, is_none, is_some, option_and_then, option_to_list, slice_get, if◌then◌else◌, ◌++◌}
+use Rattle.std.proofs.Common.{rules as std_rules, ◌≡◌, inl, inr, refl, sym, ap, ◌∙◌, ℕ, ◌+◌, Bool, true, false, not, ◌&&◌, ◌||◌, List, [], length, Option, Some, None, is_none, is_some, option_and_then, option_to_list, slice_get, if◌then◌else◌, ◌++◌}
 use Rattle.std.proofs.lemmas.{Bool.or_left, Bool.or_right, Bool.and_from as both, Map.Keys.any_passes_from_place as any_at, Map.Made.IsDistinct-keys_filter}
 use Rattle.std.specs.{Prelude.String, List.list_all, List.Contains, List.IsDistinct, List.filter, Map.keys_of, Map.lookup, Option.option_map_or}
 use Rattle.std.specs.declared.alloc.Global.{Global}
@@ -33,8 +33,7 @@ use Rattle.bind_carry.specs.declared.fate.Fate.TheVariants as fate
 -- ---- The bound world gains the items whose keys it hasn't, one by one, and own ones stand for the others.
 
 not_some : {X : Type 0} (o : Option X) → not (is_some o) ≡ true → o ≡ None
-not_some None h = refl
-not_some (Some x) h = no_true h
+not_some x h = search std_rules
 
 -- keys of a list whose interfaces pass
 

@@ -1,5 +1,5 @@
 -- The pass over what the bound world gains begins as it should: what it copies is of the bound world, or of an inline interface that is gained.
-use Rattle.std.proofs.Common.{◌≡◌, refl, sym, ap, subst, ◌∙◌, ℕ, zero, suc, Bool, true, false, ◌&&◌, ◌||◌, List, [], ◌∷◌, length, replicate, if◌then◌else◌, ◌⊎◌, inl, inr, ◌<◌, arith, ◌==◌, Option, Some, None, slice_get, slice_set, unwrap_or, is_some}
+use Rattle.std.proofs.Common.{rules as std_rules, ◌≡◌, refl, sym, ap, subst, ◌∙◌, ℕ, zero, suc, Bool, true, false, ◌&&◌, ◌||◌, List, [], ◌∷◌, length, replicate, if◌then◌else◌, ◌⊎◌, inl, inr, ◌<◌, arith, ◌==◌, Option, Some, None, slice_get, slice_set, unwrap_or, is_some}
 use Rattle.std.proofs.lemmas.{List.length-replicate, Bool.or_left, Bool.or_right}
 use Rattle.std.specs.{List.list_any, Option.option_map_or}
 use Rattle.wit_model.specs.declared.model.{Resolve.Resolve, World.World, TypeDef.TypeDef, TypeId.TypeId, WorldId.WorldId}
@@ -96,9 +96,7 @@ module _ (other : Resolve) (interfaces : List ℕ) (w v : World) (imports_below 
           ∙ ap (λ b. b || (is_inline_at other n && is_shown_new other interfaces w.imports.entries v.imports.entries n)) (unset_flag (length other.interfaces.items) n)
 
   pub gained_long : length (gained_inline other interfaces w v) ≡ length other.interfaces.items
-  gained_long =
-      new_marks_long other interfaces w.exports.entries v.exports.entries (mark_new_items other interfaces w.imports.entries (replicate (length other.interfaces.items) false) v.imports.entries)
-      ∙ (new_marks_long other interfaces w.imports.entries v.imports.entries (replicate (length other.interfaces.items) false) ∙ length-replicate (length other.interfaces.items) false)
+  gained_long = search (std_rules, new_marks_long, length-replicate)
 
   -- it has no name, and something is gained
   pub gained_inline_alone : (n : ℕ) → flag_under (gained_inline other interfaces w v) n ≡ true → is_inline_at other n ≡ true

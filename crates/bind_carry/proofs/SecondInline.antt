@@ -1,5 +1,5 @@
 -- Inline interfaces of the other's bound world that stand for own ones: each has the number of the own interface under its label.
-use Rattle.std.proofs.Common.{◌≡◌, refl, sym, ap, ◌∙◌, ℕ, zero, suc, ◌+◌, ◌≤◌, arith, Bool, true, false, not, ◌&&◌, ◌||◌, ◌==◌, cond, List, [], ◌∷◌, map, Option, Some, None, is_some, option_and_then, option_map, slice_get, unwrap_or, if◌then◌else◌}
+use Rattle.std.proofs.Common.{rules as std_rules, ◌≡◌, refl, sym, ap, ◌∙◌, ℕ, zero, suc, ◌+◌, ◌≤◌, arith, Bool, true, false, not, ◌&&◌, ◌||◌, ◌==◌, cond, List, [], ◌∷◌, map, Option, Some, None, is_some, option_and_then, option_map, slice_get, unwrap_or, if◌then◌else◌}
 use Rattle.std.proofs.lemmas.{List.Sums.sum_by-cons, Option.slice_get-map, Map.Keys.any_passes_from_place as any_at}
 use Rattle.std.specs.{Prelude.String, Prelude.sum_by, List.Contains, Map.lookup, Option.option_map_or}
 use Rattle.std.specs.declared.alloc.Global.{Global}
@@ -27,9 +27,7 @@ sum_least f (x ∷ xs) (suc n) b at = let r = sum_least f xs n b at in let total
 
 -- what an item is that shows an interface
 interface_is : (r : Resolve) (y : WorldItem) (i : ℕ) → item_interface y ≡ Some i → item_meaning r y ≡ interface_item r i
-interface_is r (item.Interface id s d x) i e = ap (interface_item r) (some_same id.0 i e)
-interface_is r (item.Function g) i e = let wrong : ⊥ = cc in absurd wrong
-interface_is r (item.Type_ id) i e = let wrong : ⊥ = cc in absurd wrong
+interface_is r x i e = search std_rules
 
 is_shown : (y : WorldItem) (i : ℕ) → item_interface y ≡ Some i → is_id i (item_interface y) ≡ true
 is_shown y i e = ap (is_id i) e ∙ same-number i

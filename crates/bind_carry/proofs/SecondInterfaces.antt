@@ -1,5 +1,5 @@
 -- What the bound world gains is carried as the laws on unions ask for it: interfaces, and how numbers rise.
-use Rattle.std.proofs.Common.{◌≡◌, inl, inr, refl, sym, ap, subst, ◌∙◌, ℕ, zero, suc, ◌+◌, ◌<◌, arith, Bool, true, false, List, [], ◌∷◌, ◌++◌, append-nil, length, Option, Some, None, is_some, option_and_then, slice_get, if◌then◌else◌, ◌&&◌, ◌||◌, ◌==◌, append_assoc, map, is_none, unwrap_or}
+use Rattle.std.proofs.Common.{rules as std_rules, ◌≡◌, inl, inr, refl, sym, ap, subst, ◌∙◌, ℕ, zero, suc, ◌+◌, ◌<◌, arith, Bool, true, false, List, [], ◌∷◌, ◌++◌, append-nil, length, Option, Some, None, is_some, option_and_then, slice_get, if◌then◌else◌, ◌&&◌, ◌||◌, ◌==◌, append_assoc, map, is_none, unwrap_or}
 use Rattle.std.proofs.lemmas.{Bool.or_left, Bool.and_from as both, List.length-append, List.length-map, List.Folds.list_all-map, Option.slice_get_within}
 use Rattle.std.specs.{Prelude.String, List.Contains, List.list_all, Map.lookup, Option.option_map_or, String.string_eq}
 use Rattle.std.specs.declared.alloc.Global.{Global}
@@ -38,12 +38,10 @@ use Rattle.bind_carry.specs.declared.fate.Fate.TheVariants as fate
 -- ---- What is carried of types into what the bound world gains: each has its image under its new number.
 
 named_text : (o : Option (String Global)) (t : Text) → optional_text o ≡ Some t → is_some o ≡ true
-named_text None t h = let wrong : ⊥ = cc in absurd wrong
-named_text (Some x) t h = refl
+named_text x t h = search std_rules
 
 found_some : {A B : Type 0} (f : A → Option B) (o : Option A) (b : B) → option_and_then f o ≡ Some b → (a : A) × (o ≡ Some a)
-found_some f None b h = let wrong : ⊥ = cc in absurd wrong
-found_some f (Some a) b h = (a, refl)
+found_some f x b h = search std_rules
 
 fate_within : (fs : List Fate) (n : ℕ) → is_carried fs n ≡ true → n < length fs
 fate_within [] n h = no_true h
@@ -78,9 +76,7 @@ module _ (own other merged : Resolve) (valid_own : IsValid own) (valid_other : I
   second = second_of other matched c world other_world w.imports.entries v.imports.entries copied interfaces fates types
 
   pub fates_many : length fates ≡ length other.types.items
-  fates_many = bound_long other world other_world w v copied interfaces before_fates first_numbers
-      (fates_count own other merged valid_own valid_other world other_world w v m c first_numbers p copied interfaces types s)
-      (numbers_are_many own other merged valid_own valid_other world other_world w v m c first_numbers p copied interfaces types s)
+  fates_many = search (std_rules, bound_long, fates_count, numbers_are_many)
 
   -- a type that is carried is there
   pub type_there : (n : ℕ) → is_carried fates n ≡ true → (def : TypeDef) × (type_at other n ≡ Some def)
@@ -142,10 +138,7 @@ module _ (own other merged : Resolve) (valid_own : IsValid own) (valid_other : I
   -- ---- what is matched, and what agrees
 
   first_matched : AreMatched own other first.interfaces first.types
-  first_matched = are_matched own other valid_own valid_other matched c first_numbers
-      (chosen own other merged valid_own valid_other world other_world w v m c first_numbers p copied interfaces types s) p.same p.none
-      (long own other merged valid_own valid_other world other_world w v m c first_numbers p copied interfaces types s) p.numbered.interfaces (length own.types.items + length {A = TypeDef} [])
-      p.types.numbers_are
+  first_matched = search (std_rules, are_matched, chosen, long)
 
   pub second_matched : AreMatched own other second.interfaces second.types
   second_matched n path = elim (first_matched n path) [ inl x ↦ inl (again x) | inr none ↦ inr none ]
@@ -174,15 +167,7 @@ module _ (own other merged : Resolve) (valid_own : IsValid own) (valid_other : I
               (same_types t y.def n x.old y.found (named_text y.def.name name y.name_is) y.home x.found has_name).0
 
   pub worlds_agree : WorldsAgree own other second world other_world
-  worlds_agree = record {
-    own_world = w;
-    own_at = s.own_at;
-    other_world = v;
-    other_at = s.other_at;
-    senses = s.agree.imports;
-    types = types_agree own other merged valid_own valid_other world other_world w v m c first_numbers p copied interfaces types s;
-    inline = inline_agree own other merged valid_own valid_other world other_world w v m c first_numbers p copied interfaces types s;
-  }
+  worlds_agree = search (std_rules, types_agree, inline_agree)
 
   -- an own import stands for the other one of its key
   pub import_stands_for : (x e : WorldKey × WorldItem) → Contains w.imports.entries x → Contains v.imports.entries e → key_text own x.0 ≡ key_text other e.0 → ItemStandsFor second e.1 x.1
@@ -344,10 +329,7 @@ module _ (own other merged : Resolve) (valid_own : IsValid own) (valid_other : I
 
   each_type : (n : ℕ) (i : Interface) → interface_at other n ≡ Some i → (q : ℕ → Bool)
       → ((t : ℕ) (def : TypeDef) → type_at other t ≡ Some def → is_some def.name ≡ true → def.owner ≡ as_interface n → q t ≡ true) → list_all q (interface_type_numbers i) ≡ true
-  each_type = types_are own other valid_own valid_other m.interfaces.items c first_numbers
-      (chosen own other merged valid_own valid_other world other_world w v m c first_numbers p copied interfaces types s) p.same p.none
-      (long own other merged valid_own valid_other world other_world w v m c first_numbers p copied interfaces types s) p.numbered.interfaces (length own.types.items + length {A = TypeDef} [])
-      p.types.numbers_are
+  each_type = search (std_rules, types_are, chosen, long)
 
   pub types_carried : (n : ℕ) (i : Interface) → f.carries_interface n ≡ true → interface_at other n ≡ Some i → list_all f.carries_type (interface_type_numbers i) ≡ true
   types_carried n i h there = each_type n i there f.carries_type (λ t def at named home. named_carried own other merged valid_own valid_other world other_world w v m c first_numbers p copied
@@ -356,15 +338,11 @@ module _ (own other merged : Resolve) (valid_own : IsValid own) (valid_other : I
   -- ---- interfaces that are copied
 
   inline_here : merged.interfaces.items ≡ (own.interfaces.items ++ p.new_interfaces) ++ (s.inline_copied.more ++ [])
-  inline_here =
-      s.interfaces_here
-      ∙ (ap (λ l. own.interfaces.items ++ l) (s.inline_copied.behind ∙ ap (λ l. p.new_interfaces ++ l) (sym (append-nil s.inline_copied.more)))
-      ∙ sym (append_assoc own.interfaces.items p.new_interfaces (s.inline_copied.more ++ [])))
+  inline_here = search (std_rules, append-nil, append_assoc)
 
   pub inline_place : (n : ℕ) (i : Interface) → interface_at other n ≡ Some i → flag_under copied n ≡ true
       → IsKeptAt (IsInterfaceUnder types w.«package») i ((own.interfaces.items ++ p.new_interfaces) ++ (s.inline_copied.more ++ [])) (number_under (numbers_of behind copied c.interfaces.items) n)
-  inline_place n i there set = kept_placed (IsInterfaceUnder types w.«package») copied c.interfaces.items other.interfaces.items s.inline_copied.more s.inline_copied.copies flags_long behind
-      (own.interfaces.items ++ p.new_interfaces) [] (sym (length-append own.interfaces.items p.new_interfaces)) n i set there
+  inline_place n i there set = search (std_rules, kept_placed, flags_long, length-append)
 
   pub copied_carries : (n : ℕ) → flag_under copied n ≡ true → f.carries_interface n ≡ true
   copied_carries n set = or_left (flag_under copied n) (is_named_at other n && (flag_under c.copied_interfaces.items n || is_matched m.interfaces.items n)) set

@@ -1,5 +1,5 @@
 -- What the second pass begins with is known: from validity, from the first pass, and since the two worlds don't clash.
-use Rattle.std.proofs.Common.{◌≡◌, refl, sym, ap, ◌∙◌, ℕ, ◌+◌, ◌<◌, arith, Bool, true, false, not, ◌||◌, List, [], length, Option, Some, None, is_some, is_none, option_and_then, slice_get}
+use Rattle.std.proofs.Common.{rules as std_rules, ◌≡◌, refl, sym, ap, ◌∙◌, ℕ, ◌+◌, ◌<◌, arith, Bool, true, false, not, ◌||◌, List, [], length, Option, Some, None, is_some, is_none, option_and_then, slice_get}
 use Rattle.std.proofs.lemmas.{Bool.or_left, Option.slice_get_within, Map.Keys.any_passes_from_place as any_at}
 use Rattle.std.specs.{Prelude.String, List.Contains, Map.lookup, Option.option_map_or}
 use Rattle.std.specs.declared.alloc.Global.{Global}
@@ -24,14 +24,10 @@ use Rattle.bind_carry.specs.declared.fate.Fate.TheVariants as fate
 -- ---- items that are types
 
 pub type_number : (i : WorldItem) (id : TypeId) → type_in i ≡ Some id → item_type i ≡ Some id.0
-type_number (item.Type_ a) id e = ap (λ o. option_and_then (λ (x : TypeId). Some x.0) o) e
-type_number (item.Interface a s d x) id e = let wrong : ⊥ = cc in absurd wrong
-type_number (item.Function g) id e = let wrong : ⊥ = cc in absurd wrong
+type_number y id e = search std_rules
 
 pub number_type : (i : WorldItem) (t : ℕ) → item_type i ≡ Some t → (id : TypeId) × (type_in i ≡ Some id) × (id.0 ≡ t)
-number_type (item.Type_ a) t e = (a, refl, some_same a.0 t e)
-number_type (item.Interface a s d x) t e = let wrong : ⊥ = cc in absurd wrong
-number_type (item.Function g) t e = let wrong : ⊥ = cc in absurd wrong
+number_type x t e = search std_rules
 
 -- what declares is a type
 declared_type : (r : Resolve) (i : WorldItem) → is_declared (item_sense (item_meaning r i)) ≡ true → (id : TypeId) × (type_in i ≡ Some id)
@@ -40,13 +36,10 @@ declared_type r (item.Interface a s d x) h = no_true (sym (not_declared r a.0) �
 declared_type r (item.Function g) h = no_true h
 
 type_declared : (r : Resolve) (i : WorldItem) (id : TypeId) → type_in i ≡ Some id → is_declared (item_sense (item_meaning r i)) ≡ true
-type_declared r (item.Type_ a) id e = refl
-type_declared r (item.Interface a s d x) id e = let wrong : ⊥ = cc in absurd wrong
-type_declared r (item.Function g) id e = let wrong : ⊥ = cc in absurd wrong
+type_declared r x id e = search std_rules
 
 pub same_label : (r : Resolve) (label : String Global) (k : WorldKey) → key_eq (key.Name label) k ≡ true → key_text r k ≡ text_of label
-same_label r label (key.Name s) h = sym (text-same (text_of label) (text_of s) h)
-same_label r label (key.Interface id) h = no_true h
+same_label r label x h = search std_rules
 
 -- ---- the two worlds
 
@@ -146,9 +139,7 @@ module _ (own other merged : Resolve) (valid_own : IsValid own) (valid_other : I
 
   -- and has the number that it has by path
   pub named_number : (n : ℕ) (i : Interface) → interface_at other n ≡ Some i → is_some i.name ≡ true → number_under interfaces n ≡ number_under c.interfaces.items n
-  named_number n i at named =
-      ap (λ (l : List ℕ). number_under l n) s.interfaces_are
-      ∙ uncopied_under (length own.interfaces.items + length p.new_interfaces) copied c.interfaces.items n copied_long (named_stays n i at named)
+  named_number n i at named = search (std_rules, uncopied_under, copied_long, named_stays)
 
   pub import_same : (e : WorldKey × WorldItem) → Contains v.imports.entries e → IsNumberedSame interfaces c.interfaces.items e.0
   import_same e held id is = let k = import_keyed other valid_other other_world v s.other_at e held id is in named_number id.0 k.def k.found k.named

@@ -1,5 +1,5 @@
 -- Types of the other's bound world that stand for own ones: each has the number of the own type under its key.
-use Rattle.std.proofs.Common.{◌≡◌, ◌⊎◌, inl, inr, refl, sym, ap, ◌∙◌, ℕ, ◌+◌, Bool, true, false, ◌&&◌, ◌||◌, ◌==◌, List, [], length, Option, Some, None, is_some, option_map, slice_get, unwrap_or, if◌then◌else◌, ◌<◌, arith, option_and_then}
+use Rattle.std.proofs.Common.{rules as std_rules, ◌≡◌, ◌⊎◌, inl, inr, refl, sym, ap, ◌∙◌, ℕ, ◌+◌, Bool, true, false, ◌&&◌, ◌||◌, ◌==◌, List, [], length, Option, Some, None, is_some, option_map, slice_get, unwrap_or, if◌then◌else◌, ◌<◌, arith, option_and_then}
 use Rattle.std.proofs.lemmas.{Bool.or_right, Option.slice_get_within}
 use Rattle.std.specs.{List.list_all, List.Contains, Option.option_map_or, Map.lookup}
 use Rattle.wit_model.specs.declared.model.{Interface.Interface, InterfaceId.InterfaceId, TypeOwner.TypeOwner, WorldItem.WorldItem, WorldKey.WorldKey}
@@ -96,8 +96,7 @@ module _ (own other merged : Resolve) (valid_own : IsValid own) (valid_other : I
 
   -- and is carried
   pub named_carried_there : (a : ℕ) (i : Interface) → interface_at other a ≡ Some i → is_some i.name ≡ true → second.carries_interface a ≡ true
-  named_carried_there a i there named =
-      or_right (flag_under copied a) (is_named_at other a && (flag_under c.copied_interfaces.items a || is_matched matched a)) (λ j. is_named_there a i there named j && known.names a i there named j)
+  named_carried_there a i there named = search (std_rules, or_right, is_named_there, known)
 
   -- ---- types of interfaces with a name
 
@@ -228,12 +227,7 @@ module _ (own other merged : Resolve) (valid_own : IsValid own) (valid_other : I
   alias_there : (def image : TypeDef) → HasImageKind first.types first.carries_type def image ⊎ IsNamesake first def image
       → (alias_target image.kind ≡ option_map first.types (alias_target def.kind)) × (passes first.carries_type (alias_target def.kind) ≡ true)
       × (is_resource_itself image.kind ≡ is_resource_itself def.kind)
-  alias_there def image (inl k) = (
-    alias_same first.types def.kind image.kind k.kinds,
-    alias_of_all first.carries_type def.kind (sym (ap (list_all first.carries_type) (numbers_of_view def.kind)) ∙ k.parts),
-    resource_same first.types def.kind image.kind k.kinds,
-  )
-  alias_there def image (inr k) = (k.alias, k.target, k.resource)
+  alias_there def image x = search (std_rules, alias_same, alias_of_all, numbers_of_view, resource_same)
 
   -- what stands by path stands there as a namesake: types without a name are copied anew
   pub path_stands : (n : ℕ) (t : IsType other merged first n) → StandsByPath n t.def → IsType other merged second n

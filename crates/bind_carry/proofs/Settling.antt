@@ -1,5 +1,5 @@
 -- Types that meet their fates one by one.
-use Rattle.std.proofs.Common.{◌≡◌, refl, sym, ap, subst, ◌∙◌, ℕ, ◌+◌, ◌<◌, true, arith, List, [], ◌∷◌, ◌++◌, length, map, nat_lt, Option, Some, None, option_map, zero, suc, append_assoc, append-nil}
+use Rattle.std.proofs.Common.{rules as std_rules, ◌≡◌, refl, sym, ap, subst, ◌∙◌, ℕ, ◌+◌, ◌<◌, true, arith, List, [], ◌∷◌, ◌++◌, length, map, nat_lt, Option, Some, None, option_map, zero, suc, append_assoc, append-nil}
 use Rattle.std.proofs.lemmas.{Bool.ltb-true, List.Folds.list_all-append}
 use Rattle.std.specs.List.{flat_map, AllZip}
 use Rattle.wit_model.specs.Text.{Text}
@@ -19,16 +19,13 @@ module _ (f g : ℕ → ℕ) (count : ℕ) (agree : (n : ℕ) → n < count → 
   below x xs h = agree x (ltb-true x count (first_true (nat_lt x count) (all_below count xs) h))
 
   type_agrees : (t : ValueType) → all_below count (type_numbers t) ≡ true → renamed_type f t ≡ renamed_type g t
-  type_agrees (ty.Id id) h = ap (λ n. ty.Id (record { 0 = n })) (below id.0 [] h)
-  type_agrees _ h = refl
+  type_agrees x h = search std_rules
 
   split : (xs ys : List ℕ) → all_below count (xs ++ ys) ≡ true → (all_below count xs ≡ true) × (all_below count ys ≡ true)
-  split xs ys h = let both = sym (list_all-append (λ n. nat_lt n count) xs ys) ∙ h in
-      (first_true (all_below count xs) (all_below count ys) both, second_true (all_below count xs) (all_below count ys) both)
+  split xs ys h = search (std_rules, list_all-append, first_true, second_true)
 
   option_agrees : (t : Option ValueType) → all_below count (optional_numbers t) ≡ true → option_map (renamed_type f) t ≡ option_map (renamed_type g) t
-  option_agrees None h = refl
-  option_agrees (Some t) h = ap Some (type_agrees t h)
+  option_agrees x h = search std_rules
 
   types_agree : (ts : List ValueType) → all_below count (flat_map type_numbers ts) ≡ true → map (renamed_type f) ts ≡ map (renamed_type g) ts
   types_agree [] h = refl
@@ -70,15 +67,7 @@ in_front (x ∷ xs) ys (suc n) l = in_front xs ys n (omega (arith, l))
 -- a copy by the numbers so far is one by all numbers
 with_more : (xs ys : List ℕ) (home : TypeOwner) (old new : TypeDef) → all_below (length xs) (view_numbers (kind_view old.kind)) ≡ true → IsTypeUnder xs home old new
     → IsTypeUnder (xs ++ ys) home old new
-with_more xs ys home old new small is = record {
-  name = is.name;
-  kind = is.kind ∙ view_agrees (number_under xs) (number_under (xs ++ ys)) (length xs) (in_front xs ys) (kind_view old.kind) small;
-  of_members = is.of_members;
-  in_owner = is.in_owner;
-  docs = is.docs;
-  stability = is.stability;
-  external_id = is.external_id;
-}
+with_more xs ys home old new small is = search (std_rules, view_agrees, in_front)
 
 -- ---- one type after the other
 
@@ -98,38 +87,13 @@ module _ (own : ℕ) (types : List TypeDef) (fates : List Fate) (old : List Type
 
   one_met : (numbers : List ℕ) (t : TypeDef) (ts : List TypeDef) (f : Fate) (fs : List Fate) (now new : List TypeDef) (n : ℕ) → all_below (length numbers) (view_numbers (kind_view t.kind)) ≡ true
       → MeetsFate own numbers t f now new n → SoFar numbers (t ∷ ts) (f ∷ fs) now → SoFar (numbers ++ n ∷ []) ts fs new
-  one_met numbers t ts fate.Left fs now new n small met so = record {
-    numbers_are = append_assoc numbers (n ∷ []) (numbers_by (own + length new) fs) ∙ ((λ j. numbers ++ met.0 j ∷ numbers_by (own + length (met.1 j)) fs) ∙ so.numbers_are);
-    more = so.more;
-    behind = met.1 ∙ so.behind;
-    copied = so.copied;
-  }
-  one_met numbers t ts (fate.Stands k) fs now new n small met so = record {
-    numbers_are = append_assoc numbers (n ∷ []) (numbers_by (own + length new) fs) ∙ ((λ j. numbers ++ met.0 j ∷ numbers_by (own + length (met.1 j)) fs) ∙ so.numbers_are);
-    more = so.more;
-    behind = met.1 ∙ so.behind;
-    copied = so.copied;
-  }
-  one_met numbers t ts (fate.Copied home) fs now new n small met so =
-      let c : TypeDef = met.1.0 in
-      let is : IsTypeUnder numbers home t c = met.1.1 in
-      let last : new ≡ now ++ c ∷ [] = met.1.2 in
-      let size : own + length new ≡ (own + length now) + 1 = ap (λ l. own + length l) last ∙ (let r = length_one now c in omega (arith, r)) in
-      let rest : List ℕ = numbers_by ((own + length now) + 1) fs in
-      let all : IsTypeUnder N home t c = subst (λ l. IsTypeUnder l home t c) so.numbers_are (with_more numbers ((own + length now) ∷ rest) home t c small is) in
-      record {
-        numbers_are = append_assoc numbers (n ∷ []) (numbers_by (own + length new) fs) ∙ ((λ j. numbers ++ met.0 j ∷ numbers_by (size j) fs) ∙ so.numbers_are);
-        more = so.more ++ c ∷ [];
-        behind = last ∙ (ap (λ l. l ++ c ∷ []) so.behind ∙ append_assoc old so.more (c ∷ []));
-        copied = λ later z. subst (AllZip (IsCopiedType N) (copied_types types fates)) (sym (append_assoc so.more (c ∷ []) later)) (so.copied (c ∷ later) (all, z));
-      }
+  one_met numbers t ts x fs now new n small met so = search (std_rules, append_assoc, length_one, with_more)
 
   -- the same where what is left is known by another name
   pub one_more : (numbers : List ℕ) (left_types : List TypeDef) (left_fates : List Fate) (t : TypeDef) (ts : List TypeDef) (f : Fate) (fs : List Fate) (now new : List TypeDef) (n : ℕ)
       → left_types ≡ t ∷ ts → left_fates ≡ f ∷ fs
       → all_below (length numbers) (view_numbers (kind_view t.kind)) ≡ true → MeetsFate own numbers t f now new n → SoFar numbers left_types left_fates now → SoFar (numbers ++ n ∷ []) ts fs new
-  one_more numbers left_types left_fates t ts f fs now new n at_t at_f small met so =
-      one_met numbers t ts f fs now new n small met (subst (λ l. SoFar numbers (t ∷ ts) l now) at_f (subst (λ l. SoFar numbers l left_fates now) at_t so))
+  one_more numbers left_types left_fates t ts f fs now new n at_t at_f small met so = search (std_rules, one_met)
 
   pub all_met : (numbers : List ℕ) (left_types : List TypeDef) (left_fates : List Fate) (new : List TypeDef) → left_types ≡ [] → left_fates ≡ [] → SoFar numbers left_types left_fates new
       → AreCopied own numbers types fates old new

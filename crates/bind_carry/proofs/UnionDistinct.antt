@@ -1,5 +1,5 @@
 -- No map of what was merged has a key twice: what is inserted keeps keys apart, and copies have the names of what they are of.
-use Rattle.std.proofs.Common.{◌≡◌, sym, ap, subst, ◌∙◌, ℕ, Bool, not, List, ◌++◌, length, Some, slice_get, string_eq, ◌⊎◌, inl, inr, refl, zero, suc, arith, true, false, [], ◌∷◌, map, Option, slice_set, if◌then◌else◌}
+use Rattle.std.proofs.Common.{rules as std_rules, ◌≡◌, sym, ap, subst, ◌∙◌, ℕ, Bool, not, List, ◌++◌, length, Some, slice_get, string_eq, ◌⊎◌, inl, inr, refl, zero, suc, arith, true, false, [], ◌∷◌, map, Option, slice_set, if◌then◌else◌}
 use Rattle.std.proofs.lemmas.{List.length-map, Map.Made.IsDistinct-keys_filter, Option.slice_get_within}
 use Rattle.std.specs.{Prelude.String, List.filter, List.AllZip, List.AllByRecursion, List.IsDistinct, Map.keys_of}
 use Rattle.std.specs.declared.alloc.Global.{Global}
@@ -29,11 +29,7 @@ use Rattle.wit_model.specs.declared.model.WorldKey.TheVariants as key
 
 -- the tables are as long as what they are of
 pub matched_all : (own other : Resolve) (m : Matches) → AreMatchedByName own other m → AreMatchedAll other m
-matched_all own other m by_name = record {
-  packages = ap length by_name.packages ∙ length-map other.packages.items (own_package_of own.packages.items);
-  interfaces = ap length by_name.interfaces ∙ length-map other.interfaces.items (own_interface_of own m.packages.items);
-  worlds = ap length by_name.worlds ∙ length-map other.worlds.items (own_world_of own m.packages.items);
-}
+matched_all own other m by_name = search (std_rules, length-map)
 
 module _ (own other : Resolve) (valid_other : IsValid other) (m : Matches) (c : Carried) (by_name : AreMatchedByName own other m) (numbered : IsNumbered own other m c)
     (are : AreChosen other m.interfaces.items c.copied_worlds.items c.copied_interfaces.items)
@@ -117,10 +113,7 @@ unions_are_apart own other world other_world m w v added keys u valid_own valid_
 -- ---- keys the other way round
 
 pub key_flip : (a b : WorldKey) → key_eq a b ≡ key_eq b a
-key_flip (key.Name a) (key.Name b) = text_eq_flip (text_of a) (text_of b)
-key_flip (key.Name a) (key.Interface b) = refl
-key_flip (key.Interface a) (key.Name b) = refl
-key_flip (key.Interface a) (key.Interface b) = number_flip a.0 b.0
+key_flip x y = search std_rules
 
 string_flip : (a b : String Global) → string_eq a b ≡ string_eq b a
 string_flip a b = text_eq_flip (text_of a) (text_of b)
@@ -232,10 +225,7 @@ kept_at (false ∷ bs) (y ∷ ys) k x e = let r = kept_at bs ys k x e in (suc r.
 -- what a copy is of
 copy_of : {X Y : Type 0} (R : X → Y → Type 0) (flags : List Bool) (xs : List X) (ys : List Y) → AllZip R (kept flags xs) ys → (k : ℕ) (y : Y) → slice_get ys k ≡ Some y → (j : ℕ) × (x : X)
     × (slice_get xs j ≡ Some x) × R x y
-copy_of R flags xs ys zip k y at =
-    let x = zip_at R (kept flags xs) ys zip k y at in
-    let j = kept_at flags xs k x.0 x.1 in
-    (j.0, x.0, j.1, x.2)
+copy_of R flags xs ys zip k y at = search (std_rules, zip_at, kept_at)
 
 set_cases : {X : Type 0} (ws : List X) (k n : ℕ) (v x : X) → slice_get (slice_set ws k v) n ≡ Some x → (v ≡ x) ⊎ (slice_get ws n ≡ Some x)
 set_cases [] k n v x e = inr e
@@ -258,10 +248,7 @@ module _ (own other merged : Resolve) (world other_world : ℕ) (m : Matches) (w
   IsDistinctPackage p = IsUnique string_eq p.interfaces × IsUnique string_eq p.worlds
 
   grown_distinct : (g : Names) (p q : Package) → HasGained g p q → IsDistinctPackage p → IsDistinctPackage q
-  grown_distinct g p q h d = (
-    subst (λ es. IsDistinct string_eq (keys_of es)) (sym h.interfaces) (all_apart string_eq string_flip p.interfaces.entries g.interfaces.entries d.0),
-    subst (λ es. IsDistinct string_eq (keys_of es)) (sym h.worlds) (all_apart string_eq string_flip p.worlds.entries g.worlds.entries d.1),
-  )
+  grown_distinct g p q h d = search (std_rules, all_apart, string_flip)
 
   own_package : (n : ℕ) (p : Package) → slice_get a.packages.0 n ≡ Some p → IsDistinctPackage p
   own_package n p at = go (some_gains added.names.items n)

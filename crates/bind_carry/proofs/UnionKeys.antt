@@ -1,5 +1,5 @@
 -- All exports of the other's bound world are added, under the keys that are answered.
-use Rattle.std.proofs.Common.{◌≡◌, refl, sym, ap, ap₂, subst, ◌∙◌, ℕ, zero, suc, ◌++◌, slice_get, slice_set, ◌+◌, arith, Bool, true, false, ◌||◌, cond, List, [], ◌∷◌, length, map, Option, Some, None, option_map, option_and_then, unwrap_or, is_some}
+use Rattle.std.proofs.Common.{rules as std_rules, ◌≡◌, refl, sym, ap, ap₂, subst, ◌∙◌, ℕ, zero, suc, ◌++◌, slice_get, slice_set, ◌+◌, arith, Bool, true, false, ◌||◌, cond, List, [], ◌∷◌, length, map, Option, Some, None, option_map, option_and_then, unwrap_or, is_some}
 use Rattle.std.proofs.lemmas.{List.length-map, List.map-append, Option.slice_get_within, Bool.not-false as not_not}
 use Rattle.std.specs.{Prelude.String, List.filter, List.list_any, List.AllZip, List.Contains, Map.keys_of}
 use Rattle.std.specs.declared.alloc.Global.{Global}
@@ -32,12 +32,7 @@ filter_whole p (x ∷ xs) each = ap (λ b. cond b (x ∷ filter p xs) (filter p 
 
 module _ (a b : List ℕ) where
   one_view : (k x y : WorldKey) → IsKeyUnder a k x → IsKeyUnder b k y → IsNumberedSame a b k → key_view x ≡ key_view y
-  one_view (key.Name k) (key.Name x) (key.Name y) r s same = ap labelled (r ∙ sym s)
-  one_view (key.Interface k) (key.Interface x) (key.Interface y) r s same = ap numbered (r ∙ (same k refl ∙ sym s))
-  one_view (key.Name k) (key.Interface x) y r s same = absurd r
-  one_view (key.Interface k) (key.Name x) y r s same = absurd r
-  one_view (key.Name k) (key.Name x) (key.Interface y) r s same = absurd s
-  one_view (key.Interface k) (key.Interface x) (key.Name y) r s same = absurd s
+  one_view x y z r s same = search std_rules
 
   views_same : (types : List ℕ) (es news : List (WorldKey × WorldItem)) (keys : List WorldKey) → AllZip (IsEntryUnder a types) es news → AllZip (IsKeyUnder b) (keys_of es) keys
       → ((e : WorldKey × WorldItem) → Contains es e → IsNumberedSame a b e.0)
@@ -149,8 +144,7 @@ module _ (own other : Resolve) (valid_own : IsValid own) (valid_other : IsValid 
       ap (λ g. interface_path merged (g id.0)) (sym by) ∙ paths id.0 (named_carried own other valid_own valid_other world other_world m w v added keys u at all same none id.0 i.0 i.1 i.2))
 
 pub exports_are_added : ExportsAreAdded
-exports_are_added own other world other_world m w v added keys u valid_own valid_other at_own at all same none apart =
-    views_added own other valid_own valid_other world other_world m w v added keys u at_own at all same none apart
+exports_are_added own other world other_world m w v added keys u valid_own valid_other at_own at all same none apart = search (std_rules, views_added)
 
 -- ---- paths under new numbers
 

@@ -1,5 +1,5 @@
 -- What is copied of types: those whose owners are, types that new imports are, and types without a name that are made of what is carried.
-use Rattle.std.proofs.Common.{◌≡◌, ◌⊎◌, inl, inr, refl, sym, ap, subst, ◌∙◌, ℕ, zero, suc, ◌<◌, arith, Bool, true, false, ◌&&◌, ◌==◌, ◌+◌, cond, nat_lt, List, [], ◌∷◌, length, map, Option, Some, None, is_none, is_some, option_map, slice_get, if◌then◌else◌}
+use Rattle.std.proofs.Common.{rules as std_rules, ◌≡◌, ◌⊎◌, inl, inr, refl, sym, ap, subst, ◌∙◌, ℕ, zero, suc, ◌<◌, arith, Bool, true, false, ◌&&◌, ◌==◌, ◌+◌, cond, nat_lt, List, [], ◌∷◌, length, map, Option, Some, None, is_none, is_some, option_map, slice_get, if◌then◌else◌}
 use Rattle.std.proofs.lemmas.{Bool.ltb-true, List.length-map, List.Sums.sum_by-cons, Option.slice_get-map, Option.slice_get_within}
 use Rattle.std.specs.{Prelude.String, Prelude.count_by, Prelude.option_and_then, HashMap.get_by_text, List.Contains, Option.option_map_or}
 use Rattle.std.specs.declared.alloc.Global.{Global}
@@ -28,30 +28,18 @@ marked_count (true ∷ bs) = let r = marked_count bs in let one : count_by (λ b
 marked_count (false ∷ bs) = let r = marked_count bs in let one : count_by (λ b. b) (false ∷ bs) ≡ 0 + count_by (λ b. b) bs = sum_by-cons (λ (b : Bool). cond b 1 0) false bs in omega (arith, r, one)
 
 mapped_some : (p : Fate → Bool) (o : Option Fate) → option_map p o ≡ Some true → (f : Fate) × (o ≡ Some f) × (p f ≡ true)
-mapped_some p None h = let wrong : ⊥ = cc in absurd wrong
-mapped_some p (Some f) h = (f, refl, some_same (p f) true h)
+mapped_some p x h = search std_rules
 
 given_some : (p : Fate → Bool) (o : Option Fate) → option_map_or p o false ≡ true → (f : Fate) × (o ≡ Some f) × (p f ≡ true)
-given_some p None h = no_true h
-given_some p (Some f) h = (f, refl, h)
+given_some p x h = search std_rules
 
 -- ---- fates in the end
 
 copied_how : (f : Fate) (none may : Bool) → copies (settled f none may) ≡ true → (copies f ≡ true) ⊎ ((none ≡ true) × (may ≡ true))
-copied_how fate.Left true true h = inr (refl, refl)
-copied_how fate.Left true false h = no_true h
-copied_how fate.Left false true h = no_true h
-copied_how fate.Left false false h = no_true h
-copied_how (fate.Stands k) none may h = no_true h
-copied_how (fate.Copied home) none may h = inl refl
+copied_how x none may h = search std_rules
 
 carried_how : (f : Fate) (none may : Bool) → carries (settled f none may) ≡ true → (carries f ≡ true) ⊎ ((none ≡ true) × (may ≡ true))
-carried_how fate.Left true true h = inr (refl, refl)
-carried_how fate.Left true false h = no_true h
-carried_how fate.Left false true h = no_true h
-carried_how fate.Left false false h = no_true h
-carried_how (fate.Stands k) none may h = inl refl
-carried_how (fate.Copied home) none may h = inl refl
+carried_how x none may h = search std_rules
 
 module _ (adds : Bool) (types : List TypeDef) (fates : List Fate) (falls : FallBelow types) (long : length fates ≡ length types) where
   abbrev final : List Fate
@@ -237,8 +225,7 @@ module _ (own other : Resolve) (valid_own : IsValid own) (valid_other : IsValid 
       by (inr u) = inr u
 
   left_beside : (f : Fate) (n : ℕ) → copies (beside_first f n) ≡ false
-  left_beside fate.Left n = refl
-  left_beside _ n = refl
+  left_beside x n = search std_rules
 
   stands_left : (k : ℕ) (f : Fate) → fate.Stands k ≡ f → copies f ≡ true → ⊥
   stands_left k f e h = no_true (ap copies e ∙ h)

@@ -1,5 +1,5 @@
 -- What validity says of the keys of a world, and when a key is new under other numbers.
-use Rattle.std.proofs.Common.{◌≡◌, refl, sym, ap, ap₂, ◌∙◌, ℕ, zero, suc, arith, Bool, true, false, not, ◌&&◌, ◌||◌, ◌==◌, cond, List, [], ◌∷◌, Some, is_some, slice_get}
+use Rattle.std.proofs.Common.{rules as std_rules, ◌≡◌, refl, sym, ap, ap₂, ◌∙◌, ℕ, zero, suc, arith, Bool, true, false, not, ◌&&◌, ◌||◌, ◌==◌, cond, List, [], ◌∷◌, Some, is_some, slice_get}
 use Rattle.std.specs.{Prelude.String, List.list_all, List.list_any, List.Contains, Map.lookup}
 use Rattle.std.specs.declared.alloc.Global.{Global}
 use Rattle.wit_model.specs.declared.model.{Interface.Interface, InterfaceId.InterfaceId, Resolve.Resolve, World.World, WorldItem.WorldItem, WorldKey.WorldKey}
@@ -66,14 +66,7 @@ module _ (r : Resolve) (valid : IsValid r) (n : ℕ) (w : World) (at : world_at 
   export_so e c = all-contained (λ (x : WorldKey × WorldItem). export_stands r x.0 x.1) w.exports.entries e (second_true _ _ stand) c
 
   keyed : (id : InterfaceId) (i : WorldItem) → in_list r.interfaces.items id.0 ≡ true → is_interface_key r id.0 i ≡ true → IsKeyed id.0 i
-  keyed id i range is =
-      let d = found-in r.interfaces.items id.0 range in
-      record {
-        def = d.0;
-        found = d.1;
-        named = sym (ap (passes (λ j. is_some j.name)) d.1) ∙ second_true (is_id id.0 (item_interface i)) (passes (λ j. is_some j.name) (interface_at r id.0)) is;
-        is_item = some_id id.0 (item_interface i) (first_true (is_id id.0 (item_interface i)) (passes (λ j. is_some j.name) (interface_at r id.0)) is);
-      }
+  keyed id i range is = search (std_rules, found-in, second_true, some_id, first_true)
 
   pub import_keyed : (e : WorldKey × WorldItem) → Contains w.imports.entries e → (id : InterfaceId) → e.0 ≡ key.Interface id → IsKeyed id.0 e.1
   import_keyed e c id is =
@@ -90,10 +83,7 @@ abbrev pub IsNumberedSame : List ℕ → List ℕ → WorldKey → Type 0
 IsNumberedSame a b k = (id : InterfaceId) → k ≡ key.Interface id → number_under a id.0 ≡ number_under b id.0
 
 key_test_same : (a b : List ℕ) (k x : WorldKey) → IsNumberedSame a b k → is_key_under a k x ≡ is_key_under b k x
-key_test_same a b (key.Name s) (key.Name t) same = refl
-key_test_same a b (key.Name s) (key.Interface j) same = refl
-key_test_same a b (key.Interface i) (key.Name t) same = refl
-key_test_same a b (key.Interface i) (key.Interface j) same = ap (λ (m : ℕ). m == j.0) (same i refl)
+key_test_same a b x y same = search std_rules
 
 pub new_under_same : (a b : List ℕ) (here : List (WorldKey × WorldItem)) (k : WorldKey) → IsNumberedSame a b k → is_new_under a here k ≡ is_new_under b here k
 new_under_same a b here k same = ap not (go here)

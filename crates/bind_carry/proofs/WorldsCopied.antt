@@ -1,5 +1,5 @@
 -- Worlds that are copied whole, as the laws on unions ask for them.
-use Rattle.std.proofs.Common.{◌≡◌, refl, sym, ap, ◌∙◌, ℕ, zero, suc, true, false, List, [], ◌∷◌, ◌++◌, length, map, Option, Some, slice_get}
+use Rattle.std.proofs.Common.{rules as std_rules, ◌≡◌, refl, sym, ap, ◌∙◌, ℕ, zero, suc, true, false, List, [], ◌∷◌, ◌++◌, length, map, Option, Some, slice_get}
 use Rattle.std.proofs.lemmas.{List.length-map, Bool.and_from as both}
 use Rattle.std.specs.{Prelude.String, List.list_all, List.AllZip, List.IsDistinct, Map.keys_of}
 use Rattle.std.specs.declared.alloc.Global.{Global}
@@ -17,8 +17,7 @@ never_false e = let wrong : ⊥ = cc in absurd wrong
 
 module _ (f : Renumbering) where
   key_test : (k : WorldKey) → IsKeyReady f k → is_key_carried f.carries_interface k ≡ true
-  key_test (key.Name name) h = refl
-  key_test (key.Interface id) h = h
+  key_test x h = search std_rules
 
   -- keys of entries that are ready are carried
   pub keys_carried : (es : List (WorldKey × WorldItem)) → ((k : ℕ) (e : WorldKey × WorldItem) → slice_get es k ≡ Some e → IsKeyReady f e.0)
@@ -30,10 +29,7 @@ module _ (f : Renumbering) where
   -- where nothing was there, all entries are new
   pub all_new : (interfaces : List ℕ) (es : List (WorldKey × WorldItem)) → ((k : ℕ) (e : WorldKey × WorldItem) → slice_get es k ≡ Some e → IsKeyReady f e.0 × IsItemReady f e.1)
       → AreReady f interfaces [] es
-  all_new interfaces es ready = record {
-    new_ready = λ n e at h. ready n e at;
-    met = λ n e at h. never_false h;
-  }
+  all_new interfaces es ready = search std_rules
 
 module _ (own other : Resolve) (valid : IsValid other) (matched : List (Option InterfaceId)) (c : Carried) (numbers : List ℕ)
     (chosen : AreChosen other matched c.copied_worlds.items c.copied_interfaces.items)

@@ -1,5 +1,5 @@
 -- Views that agree with the first of their path agree with each other, since to show the same is to show what is equal.
-use Rattle.std.proofs.Common.{◌≡◌, refl, sym, ap, subst, ◌∙◌, suc, arith, Bool, true, false, not, ◌&&◌, ◌||◌, cond, List, [], ◌∷◌, ◌++◌, map, Option, Some, None, inl, inr}
+use Rattle.std.proofs.Common.{rules as std_rules, ◌≡◌, refl, sym, ap, subst, ◌∙◌, suc, arith, Bool, true, false, not, ◌&&◌, ◌||◌, cond, List, [], ◌∷◌, ◌++◌, map, Option, Some, None, inl, inr}
 use Rattle.std.proofs.lemmas.List.{Folds.find-append, Elements.Contains-append_left, Elements.Contains-append_right, Elements.Contains-append_cases}
 use Rattle.std.proofs.lemmas.Bool.{and_from}
 use Rattle.std.specs.{List.Contains, List.find, List.list_all, List.list_any, Option.option_map_or, Option.option_or}
@@ -16,8 +16,7 @@ abbrev pub Implies : Bool → Bool → Type 0
 Implies a b = a ≡ true → b ≡ true
 
 pub implied : (a b : Bool) → Implies a b → (not a || b) ≡ true
-implied true b h = h refl
-implied false b h = refl
+implied x b h = search std_rules
 
 -- ---- one view and another
 -- no function stands twice
@@ -34,30 +33,20 @@ abbrev same_in_functions : Sight → Sight → Bool
 same_in_functions a b = same_functions a.view.functions b.view.functions
 
 function_join : (f a b : Sight) → IsOnce f → IsOnce a → IsOnce b → same_in_functions f a ≡ true → same_in_functions f b ≡ true → same_in_functions a b ≡ true
-function_join f a b one two three p q =
-    (functions_make_one_map a.view.functions b.view.functions two three).1
-    (sym ((functions_make_one_map f.view.functions a.view.functions one two).0 p) ∙ (functions_make_one_map f.view.functions b.view.functions one three).0 q)
+function_join f a b one two three p q = search (std_rules, functions_make_one_map)
 
 function_itself : (a : Sight) → IsOnce a → same_in_functions a a ≡ true
 function_itself a one = (functions_make_one_map a.view.functions a.view.functions one one).1 refl
 
 -- what agreement says, and what says it
 agree_types : (a b : Sight) → agree a b ≡ true → a.path ≡ b.path → same_types a b ≡ true
-agree_types a b h e =
-    first_true (same_types a b) (not (a.whole && b.whole) || same_in_functions a b)
-    (sym (ap (λ c. not c || (same_types a b && (not (a.whole && b.whole) || same_in_functions a b))) (same_text a.path b.path e)) ∙ h)
+agree_types a b h e = search std_rules
 
 agree_functions : (a b : Sight) → agree a b ≡ true → a.path ≡ b.path → a.whole ≡ true → b.whole ≡ true → same_in_functions a b ≡ true
-agree_functions a b h e p q =
-    let rest = second_true (same_types a b) (not (a.whole && b.whole) || same_in_functions a b)
-    (sym (ap (λ c. not c || (same_types a b && (not (a.whole && b.whole) || same_in_functions a b))) (same_text a.path b.path e)) ∙ h) in
-    sym (ap (λ c. not c || same_in_functions a b) (and_from a.whole b.whole p q)) ∙ rest
+agree_functions a b h e p q = search std_rules
 
 agree_from : (a b : Sight) → (a.path ≡ b.path → same_types a b ≡ true) → (a.path ≡ b.path → a.whole ≡ true → b.whole ≡ true → same_in_functions a b ≡ true) → agree a b ≡ true
-agree_from a b types functions = implied (text_eq a.path b.path) _ (λ e.
-    let path = text_same a.path b.path e in
-    and_from (same_types a b) (not (a.whole && b.whole) || same_in_functions a b) (types path)
-    (implied (a.whole && b.whole) _ (λ w. functions path (first_true a.whole b.whole w) (second_true a.whole b.whole w))))
+agree_from a b types functions = search std_rules
 
 -- ---- look-ups
 
@@ -104,14 +93,10 @@ record Known (earlier : List Sight) : Type 0 where
 
 module _ (earlier : List Sight) (s : Sight) (known : Known earlier) (one : IsOnce s) (agrees : agrees_with_first earlier s ≡ true) where
   with_types : (f : Sight) → first_of s.path earlier ≡ Some f → same_types f s ≡ true
-  with_types f e =
-      sym (ap (λ o. option_map_or (λ f. same_types f s) o true) e)
-      ∙ first_true (option_map_or (λ f. same_types f s) (first_of s.path earlier) true) (not s.whole || option_map_or (λ f. same_in_functions f s) (first_whole s.path earlier) true) agrees
+  with_types f e = search std_rules
 
   with_functions : s.whole ≡ true → (f : Sight) → first_whole s.path earlier ≡ Some f → same_in_functions f s ≡ true
-  with_functions w f e =
-      sym (ap (λ b. not b || option_map_or (λ f. same_in_functions f s) (first_whole s.path earlier) true) w ∙ ap (λ o. option_map_or (λ f. same_in_functions f s) o true) e)
-      ∙ second_true (option_map_or (λ f. same_types f s) (first_of s.path earlier) true) (not s.whole || option_map_or (λ f. same_in_functions f s) (first_whole s.path earlier) true) agrees
+  with_functions w f e = search std_rules
 
   -- it agrees with each of them
   with_each : (x : Sight) → Contains earlier x → agree x s ≡ true

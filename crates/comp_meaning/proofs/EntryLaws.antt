@@ -1,5 +1,5 @@
 -- The declarations of a world or an interface, followed as entries, stand for the scope that they stand for as raw forms.
-use Rattle.std.proofs.Common.{◌≡◌, refl, sym, ap, subst, ◌∙◌, ℕ, suc, Bool, true, false, ◌&&◌, eqb, List, [], ◌∷◌, length, map, Option, Some, None, option_map}
+use Rattle.std.proofs.Common.{rules as std_rules, ◌≡◌, refl, sym, ap, subst, ◌∙◌, ℕ, suc, Bool, true, false, ◌&&◌, eqb, List, [], ◌∷◌, length, map, Option, Some, None, option_map}
 use Rattle.std.proofs.lemmas.{List.map-append, Option.slice_get-map}
 use Rattle.std.specs.{Prelude.slice_get, List.list_any}
 use Rattle.wit_model.specs.Tree.{Place}
@@ -13,8 +13,7 @@ use Rattle.base_lemmas.proofs.Options.{some_is}
 
 -- two ways to go on that agree
 pub bind_same : {A B : Type 0} (o : Option A) (f g : A → Option B) → ((x : A) → f x ≡ g x) → (o >>= f) ≡ (o >>= g)
-bind_same None f g h = refl
-bind_same (Some x) f g h = h x
+bind_same y f g h = search std_rules
 
 -- what each step keeps stays to the end
 pub steps_keep : {S A : Type 0} (P : S → Type 0) (step : S → A → Option S) → ((s next : S) (x : A) → step s x ≡ Some next → P s → P next) → (xs : List A) (s end : S) → steps step s xs ≡ Some end
@@ -52,8 +51,7 @@ abbrev IsKept : Scope → Type 0
 IsKept scope = Counted self scope.used (map is_instance scope.slots)
 
 kept_slot : (scope : Scope) (slot : Slot) → IsKept scope → IsKept (in_scope slot scope)
-kept_slot scope slot k = subst (λ fs. Counted self scope.used fs) (sym (map-append is_instance scope.slots (slot ∷ [])))
-    (one_mark_more self scope.used (map is_instance scope.slots) (is_instance slot) k)
+kept_slot scope slot k = search (std_rules, Counted, map-append, one_mark_more)
 
 kept_seen : (direction : Direction) (seen : Seen) (scope : Scope) → IsKept scope → IsKept (see direction seen scope)
 kept_seen import_ seen scope k = k
@@ -85,8 +83,7 @@ new_kept = record { below = λ n h. absurd cc; count = refl }
 
 -- none is left unused exactly where there are as many uses as instance types
 none_unused : (scope : Scope) → IsKept scope → eqb (length scope.used) (instance_types scope.slots) ≡ all_used scope.used 0 scope.slots
-none_unused scope k =
-    ap (λ n. eqb (length scope.used) n) (instances_marked scope.slots) ∙ exact self scope.used (map is_instance scope.slots) k ∙ sym (used_marked scope.used 0 scope.slots)
+none_unused scope k = search (std_rules, instances_marked, exact, used_marked)
 
 -- ---- entries are followed as declarations
 
@@ -131,6 +128,4 @@ entries_only (Declarations.instance inner rest) scope next e =
     (holds b.0 ∷ more.0, ap (λ ds. Declarations.instance ds rest) (flat_only inner b.0 b.1) ∙ ap (Declarations.instance (from_list b.0)) more.1)
 
 pub followed_only : (ds : Declarations) (scope : Scope) → component_scope ds ≡ Some scope → (es : List Entry) × (ds ≡ declarations_of es)
-followed_only ds scope e =
-    let b = bind_some (component_steps new_scope ds) _ scope e in
-    entries_only ds new_scope b.0 b.1
+followed_only ds scope e = search (std_rules, bind_some, entries_only)

@@ -1,6 +1,6 @@
 -- Functions of two lists without a repeated name: where one list has as many as the other and all of its functions stand in the other, both
 -- have the same functions, and make one map.
-use Rattle.std.proofs.Common.{◌≡◌, refl, sym, ap, subst, ◌∙◌, ℕ, zero, suc, ◌+◌, ◌<◌, ◌≤◌, arith, Bool, true, false, not, ◌&&◌, ◌||◌, eqb, cond, List, [], ◌∷◌, length, map, Option, Some}
+use Rattle.std.proofs.Common.{rules as std_rules, ◌≡◌, refl, sym, ap, subst, ◌∙◌, ℕ, zero, suc, ◌+◌, ◌<◌, ◌≤◌, arith, Bool, true, false, not, ◌&&◌, ◌||◌, eqb, cond, List, [], ◌∷◌, length, map, Option, Some}
 use Rattle.std.proofs.lemmas.{Bool.false_from_ne_true, Bool.eqb-true, Bool.eq-eqb, Bool.and_from, Bool.not-true, Bool.Decides.Decides-at}
 use Rattle.std.proofs.lemmas.Cmp.{nat_list_cmp_total}
 use Rattle.std.specs.{Prelude.slice_get, List.Contains, List.list_any, Bool.Decides, FinMap.find, FinMap.from_entries, FinMap.get, FinMap.get-from_entries}
@@ -74,12 +74,7 @@ module _ {X : Type 0} where
       by false e more = more (sym (ap (λ b. b || is_named gs k) e) ∙ h)
 
   position_one : (gs : List (Text × X)) (k l : Text) → is_named gs k ≡ true → is_named gs l ≡ true → position k gs ≡ position l gs → k ≡ l
-  position_one gs k l h g e =
-      let a = position_at gs k h in
-      let b = position_at gs l g in
-      let same : ◌≡◌ {A = Option (Text × X)} (Some a.0) (Some b.0) = sym a.1 ∙ (ap (slice_get gs) e ∙ b.1) in
-      let one : a.0 ≡ b.0 = cc in
-      a.2 ∙ (ap (λ z. z.0) one ∙ sym b.2)
+  position_one gs k l h g e = search (std_rules, position_at)
 
   -- one of these has the same position
   position_among : (gs fs : List (Text × X)) (n : ℕ) → list_any (λ f. eqb (position f.0 gs) n) fs ≡ true → (f : Text × X) × Contains fs f × (position f.0 gs ≡ n)

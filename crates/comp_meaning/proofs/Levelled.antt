@@ -1,5 +1,5 @@
 -- What has a meaning nests no deeper than the levels do, and means the same by levels.
-use Rattle.std.proofs.Common.{◌≡◌, ◌⊎◌, refl, sym, ap, subst, ◌∙◌, ℕ, zero, suc, ◌<◌, ◌+◌, arith, Bool, true, false, not, ◌&&◌, ◌||◌, eqb, List, [], ◌∷◌, ◌++◌, length, map, Option, Some, None, option_map, inl, inr, length-append}
+use Rattle.std.proofs.Common.{rules as std_rules, ◌≡◌, ◌⊎◌, refl, sym, ap, subst, ◌∙◌, ℕ, zero, suc, ◌<◌, ◌+◌, arith, Bool, true, false, not, ◌&&◌, ◌||◌, eqb, List, [], ◌∷◌, ◌++◌, length, map, Option, Some, None, option_map, inl, inr, length-append}
 use Rattle.std.proofs.lemmas.{Bool.eqb-true, Bool.and_parts, Bool.not-true, List.map-append, Option.slice_get_within}
 use Rattle.std.specs.{Prelude.slice_get, Prelude.is_none, List.list_any}
 use Rattle.wit_model.specs.{Text.Text, Names.PackageIdentity, Names.is_label}
@@ -28,16 +28,11 @@ IsLevelled ds = (p : PartType) × (ds ≡ raw_part p)
 wrapped_or : (ds : Declarations)
     → ((inner : Declarations) × (name : ExternName) × (ds ≡ Declarations.component inner (Declarations.declares (Declaration.exported name (refs.Component 0)) Declarations.no_more)))
     ⊎ (wrapped ds ≡ None)
-wrapped_or (Declarations.component inner (Declarations.declares (Declaration.exported name (refs.Component zero)) Declarations.no_more)) = inl (inner, name, refl)
-wrapped_or _ = inr refl
+wrapped_or x = search std_rules
 
 -- the world of a wrapper that is read has been followed
 world_scope : (label : Text) (inner : Declarations) (name : ExternName) (p : PackageIdentity × Part) → world_part label (inner, name) ≡ Some p → (scope : Scope) × (component_scope inner ≡ Some scope)
-world_scope label inner name p e =
-    let path = bind_some (when (is_none name.implements && is_none name.external_id) (complete_path name.text name.version_suffix)) _ p e in
-    let package_ = bind_some (labelled_path label path.0) _ p path.2 in
-    let scope = bind_some (component_scope inner) _ p package_.2 in
-    (scope.0, scope.1)
+world_scope label inner name p e = search std_rules
 
 interface_scope : (label : Text) (ds : Declarations) (p : PackageIdentity × Part) → interface_part label ds ≡ Some p → (scope : Scope) × (component_scope ds ≡ Some scope)
 interface_scope label ds p e = by (component_scope ds) refl
@@ -149,17 +144,10 @@ abbrev Stands : ℕ → Declarations → reads.Top → Type 0
 Stands n ds top = slice_get top.types n ≡ Some ds
 
 type_stays : (n : ℕ) (ds : Declarations) (top next : reads.Top) (t : TopType) → top_type top t ≡ Some next → Stands n ds top → Stands n ds next
-type_stays n ds top next (TopType.component inner) e h =
-    subst (Stands n ds) (some_is (record { types = top.types ++ inner ∷ []; slots = top.slots ++ length top.types ∷ []; exported = top.exported }) next e)
-    (get_before top.types inner n (slice_get_within top.types n ds h) ∙ h)
-type_stays n ds top next _ e h = absurd cc
+type_stays n ds top next x e h = search (std_rules, some_is, get_before, slice_get_within)
 
 export_stays : (n : ℕ) (ds : Declarations) (top next : reads.Top) (x : TopExport) → reads.top_export top x ≡ Some next → Stands n ds top → Stands n ds next
-export_stays n ds top next x e h =
-    let b = bind_some (slice_get top.slots x.type_index) _ next e in
-    let after : reads.Top = record { types = top.types; slots = top.slots ++ b.0 ∷ []; exported = top.exported ++ (x.exported_as.text, b.0) ∷ [] } in
-    let w = when_some (is_bare x.exported_as && (is_label x.exported_as.text && not (list_any (λ y. eqb y.1 b.0) top.exported))) (Some after) next b.2 in
-    subst (Stands n ds) (some_is after next w.1) h
+export_stays n ds top next x e h = search std_rules
 
 section_stays : (n : ℕ) (ds : Declarations) (top next : reads.Top) (s : Section) → top_section top s ≡ Some next → Stands n ds top → Stands n ds next
 section_stays n ds top next (Section.custom name contents) e h = subst (Stands n ds) (some_is top next e) h

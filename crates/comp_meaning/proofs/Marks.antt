@@ -1,5 +1,5 @@
 -- Numbers that stand for marks of a list, each once: they are as many as the marks exactly where each mark's number is among them.
-use Rattle.std.proofs.Common.{◌≡◌, refl, sym, ap, subst, ◌∙◌, ℕ, zero, suc, ◌+◌, ◌<◌, ◌≤◌, arith, Bool, true, false, ◌&&◌, ◌||◌, cond, eqb, List, [], ◌∷◌, ◌++◌, length, map, Some, length-append}
+use Rattle.std.proofs.Common.{rules as std_rules, ◌≡◌, refl, sym, ap, subst, ◌∙◌, ℕ, zero, suc, ◌+◌, ◌<◌, ◌≤◌, arith, Bool, true, false, ◌&&◌, ◌||◌, cond, eqb, List, [], ◌∷◌, ◌++◌, length, map, Some, length-append}
 use Rattle.std.proofs.lemmas.{Bool.eqb-true, Bool.eq-eqb, Bool.ne_eqb, Bool.false_from_ne_true as absent, List.Folds.list_any-append, Option.slice_get_within}
 use Rattle.std.specs.{Prelude.slice_get, List.list_any}
 use Rattle.base_lemmas.proofs.Bools.{both_ways, left_of as first_true, or_true, or_false as or_none, right_of as second_true}
@@ -21,8 +21,7 @@ all_marked [] = refl
 all_marked (x ∷ xs) = ap suc (all_marked xs)
 
 or_flip : (a b : Bool) → (a || b) ≡ (b || a)
-or_flip true b = sym (or_true b)
-or_flip false b = sym (or_none b)
+or_flip x b = search std_rules
 
 same_number : (a b : ℕ) → eqb (suc a) (suc b) ≡ eqb a b
 same_number a b = both_ways (eqb (suc a) (suc b)) (eqb a b) (λ e. let same = eqb-true (suc a) (suc b) e in eq-eqb a b (omega (arith, same))) (λ e. eq-eqb (suc a) (suc b) (ap suc (eqb-true a b e)))
@@ -74,8 +73,7 @@ module _ {A : Type 0} (key : A → ℕ) where
   taken_past xs x zs more n (false ∷ fs) h = taken_past xs x zs more (suc n) fs (omega (arith, h))
 
   one_more : (b : Bool) (k : ℕ) → cond b (suc (suc k)) (suc k) ≡ suc (cond b (suc k) k)
-  one_more true k = refl
-  one_more false k = refl
+  one_more x k = search std_rules
 
   taken_more : (xs : List A) (x : A) (zs : List A) → HasOneMore xs x zs → (n k : ℕ) (fs : List Bool) → key x ≡ n + k → list_any (λ y. eqb (key y) (key x)) xs ≡ false → slice_get fs k ≡ Some true
       → taken zs n fs ≡ suc (taken xs n fs)
@@ -96,10 +94,7 @@ module _ {A : Type 0} (key : A → ℕ) where
   -- ---- what is kept
 
   pub one_mark_more : (xs : List A) (fs : List Bool) (f : Bool) → Counted xs fs → Counted xs (fs ++ f ∷ [])
-  one_mark_more xs fs f c = record {
-    below = λ n h. let low = c.below n h in omega (arith, low, length-append fs (f ∷ []));
-    count = c.count ∙ sym (taken_mark xs 0 (length fs) fs f (omega arith) (absent (list_any (λ x. eqb (key x) (length fs)) xs) (λ h. let low = c.below (length fs) h in omega (arith, low))));
-  }
+  one_mark_more xs fs f c = search (std_rules, length-append, taken_mark, absent)
 
   grown : (xs : List A) (x : A) (zs : List A) → HasOneMore xs x zs → length zs ≡ suc (length xs) → (fs : List Bool) → Counted xs fs → list_any (λ y. eqb (key y) (key x)) xs ≡ false
       → slice_get fs (key x) ≡ Some true → Counted zs fs

@@ -1,5 +1,5 @@
 -- What a declaration of a world does to its scope: one more slot, or one more that is seen.
-use Rattle.std.proofs.Common.{◌≡◌, subst, ℕ, false, not, ◌==◌, [], ◌∷◌, ◌++◌, Option, Some, slice_get}
+use Rattle.std.proofs.Common.{rules as std_rules, arith, ◌≡◌, subst, ℕ, false, not, ◌==◌, [], ◌∷◌, ◌++◌, Option, Some, slice_get}
 use Rattle.std.proofs.lemmas.Bool.{not-true}
 use Rattle.std.specs.List.{list_any}
 use Rattle.wit_model.specs.{Text.Text, Tree.Tree, Tree.Place, Meaning.Signature}
@@ -34,13 +34,7 @@ pub data StepOf (scope : Scope) : Scope → Type 0 where
       → used_view scope.slots (place_of (interface_of key)) (slice_get scope.slots n) ≡ Some view → StepOf scope (see direction (seen_instance name key view) (with_instance scope n key view))
 
 instance_step : (direction : Direction) (name : ExternName) (n : ℕ) (scope next : Scope) → see_instance direction name n scope ≡ Some next → StepOf scope next
-instance_step direction name n scope next e =
-    let of_key : Key → Option View = λ key. when (not (list_any (λ m. m == n) scope.used)) (used_view scope.slots (place_of (interface_of key)) (slice_get scope.slots n)) in
-    let after : Key → View → Scope = λ key view. see direction (seen_instance name key view) (with_instance scope n key view) in
-    let k = bind_some (key_of name) _ next e in
-    let v = bind_some (of_key k.0) _ next k.2 in
-    let w = when_some (not (list_any (λ m. m == n) scope.used)) (used_view scope.slots (place_of (interface_of k.0)) (slice_get scope.slots n)) v.0 v.1 in
-    subst (StepOf scope) (some_is (after k.0 v.0) next v.2) (sees_instance direction name n k.0 v.0 (not-true (list_any (λ m. m == n) scope.used) w.0) w.1)
+instance_step direction name n scope next e = grind (arith, bind_some, when_some, some_is, sees_instance, not-true)
 
 described_step : (direction : Direction) (name : ExternName) (described : ComponentTypeRef) (scope next : Scope) → see_described direction name described scope ≡ Some next → StepOf scope next
 described_step direction name (refs.Instance n) scope next e = instance_step direction name n scope next e
@@ -56,15 +50,4 @@ described_step import_ name described scope next e =
 described_step export_ name _ scope next e = absurd cc
 
 pub step_of : (scope next : Scope) (d : Declaration) → component_step scope d ≡ Some next → StepOf scope next
-step_of scope next (Declaration.defined d) e =
-    let b = bind_some (definition scope.slots d) _ next e in
-    subst (StepOf scope) (some_is (in_scope (Slot.value b.0) scope) next b.2) (defines d b.0 b.1)
-step_of scope next (Declaration.function f) e =
-    let b = bind_some (function_signature scope.slots f) _ next e in
-    subst (StepOf scope) (some_is (in_scope (Slot.function b.0) scope) next b.2) (signs f b.0 b.1)
-step_of scope next (Declaration.alias_of (Alias.of_export m name)) e =
-    let b = bind_some (exported_slot name (slice_get scope.instances m)) _ next e in
-    subst (StepOf scope) (some_is (in_scope b.0 scope) next b.2) (aliases m name b.0 b.1)
-step_of scope next (Declaration.alias_of (Alias.of_outer scopes n)) e = absurd cc
-step_of scope next (Declaration.imported name described) e = described_step import_ name described scope next e
-step_of scope next (Declaration.exported name described) e = described_step export_ name described scope next e
+step_of scope next x e = search (std_rules, bind_some, some_is, defines, signs, aliases, described_step)

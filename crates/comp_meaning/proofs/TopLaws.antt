@@ -1,5 +1,5 @@
 -- The top of a component, followed by levels, is the top as its raw form is followed.
-use Rattle.std.proofs.Common.{◌≡◌, refl, sym, ap, ◌∙◌, ℕ, Bool, true, false, not, ◌&&◌, eqb, List, [], ◌∷◌, ◌++◌, length, map, Option, Some, None, option_map}
+use Rattle.std.proofs.Common.{rules as std_rules, ◌≡◌, refl, sym, ap, ◌∙◌, ℕ, Bool, true, false, not, ◌&&◌, eqb, List, [], ◌∷◌, ◌++◌, length, map, Option, Some, None, option_map}
 use Rattle.std.proofs.lemmas.{List.map-append, List.length-map, List.map-id, Option.slice_get-map}
 use Rattle.std.specs.{Prelude.slice_get, List.list_any}
 use Rattle.wit_model.specs.{Text.Text, Names.is_label}
@@ -39,13 +39,10 @@ raw_top top = record { types = map raw_part top.types; slots = top.slots; export
 
 top_at : (types types' : List Declarations) (n m : ℕ) (slots : List ℕ) (exported : List (Text × ℕ)) → types ≡ types' → n ≡ m
     → ◌≡◌ {A = reads.Top} (record { types = types; slots = slots ++ n ∷ []; exported = exported }) (record { types = types'; slots = slots ++ m ∷ []; exported = exported })
-top_at types types' n m slots exported p q =
-    ap (λ ts. record { types = ts; slots = slots ++ n ∷ []; exported = exported }) p ∙ ap (λ k. record { types = types'; slots = slots ++ k ∷ []; exported = exported }) q
+top_at types types' n m slots exported p q = search std_rules
 
 part_along : (top : Top) (p : PartType) → reads.top_type (raw_top top) (TopType.component (raw_part p)) ≡ option_map raw_top (top_part top p)
-part_along top p =
-    ap (λ (t : reads.Top). Some t) (top_at (map raw_part top.types ++ raw_part p ∷ []) (map raw_part (top.types ++ p ∷ [])) (length (map raw_part top.types)) (length top.types) top.slots top.exported
-    (sym (map-append raw_part top.types (p ∷ []))) (length-map top.types raw_part))
+part_along top p = search (std_rules, top_at, map-append, length-map)
 
 export_along : (top : Top) (e : TopExport) → reads.top_export (raw_top top) e ≡ option_map raw_top (top_export top e)
 export_along top e = by (slice_get top.slots e.type_index)
@@ -85,8 +82,7 @@ abbrev part_exports : Top → Option (List (Text × PartType))
 part_exports top = when (eqb (length top.exported) (length top.types) && distinct (map (λ x. x.0) top.exported)) (each (λ x. part_found x (slice_get top.types x.1)) top.exported)
 
 found_along : (x : Text × ℕ) (o : Option PartType) → raw_found x (option_map raw_part o) ≡ option_map labelled (part_found x o)
-found_along x None = refl
-found_along x (Some p) = refl
+found_along x y = search std_rules
 
 each_exported : (types : List PartType) (exported : List (Text × ℕ))
     → each (λ x. raw_found x (slice_get (map raw_part types) x.1)) exported ≡ option_map (map labelled) (each (λ x. part_found x (slice_get types x.1)) exported)
@@ -96,8 +92,7 @@ each_exported types exported =
     (λ x. ap (raw_found x) (slice_get-map raw_part types x.1) ∙ found_along x (slice_get types x.1)) exported
 
 when_along : {A B : Type 0} (f : A → B) (b : Bool) (x : Option A) (y : Option B) → y ≡ option_map f x → when b y ≡ option_map f (when b x)
-when_along f true x y e = e
-when_along f false x y e = refl
+when_along f x y z e = search std_rules
 
 exports_along : (top : Top) → raw_exports (raw_top top) ≡ option_map (map labelled) (part_exports top)
 exports_along top =

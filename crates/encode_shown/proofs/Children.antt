@@ -1,5 +1,5 @@
 -- What stands in a declared form: its labels, and the trees of the parts of the kind.
-use Rattle.std.proofs.Common.{◌≡◌, refl, sym, ap, ◌∙◌, ℕ, Bool, true, false, not, ◌||◌, nat_le, max, List, [], ◌∷◌, ◌++◌, append-nil, map, Option, Some, None, option_map, option_to_list}
+use Rattle.std.proofs.Common.{rules as std_rules, ◌≡◌, refl, sym, ap, ◌∙◌, ℕ, Bool, true, false, not, ◌||◌, nat_le, max, List, [], ◌∷◌, ◌++◌, append-nil, map, Option, Some, None, option_map, option_to_list}
 use Rattle.std.proofs.lemmas.{Simd.map-map, Bool.and_from as both}
 use Rattle.std.specs.{Prelude.filter_map, List.list_all, List.cons_option}
 use Rattle.wit_model.specs.Text.{Text, text_of}
@@ -33,8 +33,7 @@ is_alias _ = false
 -- what is given, listed
 given-one : (f : ValueType → Tree) (o : Option ValueType) (os : List (Option Tree)) (ts : List ValueType) → child_list (given os) ≡ map f ts
     → child_list (given (option_map f o ∷ os)) ≡ map f (cons_option o ts)
-given-one f None os ts e = e
-given-one f (Some t) os ts e = ap (λ us. f t ∷ us) e
+given-one f x os ts e = search std_rules
 
 cases-listed : (trees : List Tree) (cs : List Case)
     → child_list (given (map (λ c. c.1) (map {B = Text × Option Tree} (λ c. (text_of c.name, option_map (tree_of trees) c.ty)) cs))) ≡ map (tree_of trees) (filter_map (λ c. c.ty) cs)
@@ -42,42 +41,22 @@ cases-listed trees [] = refl
 cases-listed trees (c ∷ cs) = given-one (tree_of trees) c.ty _ _ (cases-listed trees cs)
 
 one-listed : (trees : List Tree) (o : Option ValueType) → child_list (given (option_map (tree_of trees) o ∷ [])) ≡ map (tree_of trees) (option_to_list o) ++ []
-one-listed trees None = refl
-one-listed trees (Some t) = refl
+one-listed trees x = search std_rules
 
 two-listed : (trees : List Tree) (o e : Option ValueType)
     → child_list (given (option_map (tree_of trees) o ∷ option_map (tree_of trees) e ∷ [])) ≡ map (tree_of trees) (option_to_list o ++ option_to_list e) ++ []
-two-listed trees None None = refl
-two-listed trees None (Some u) = refl
-two-listed trees (Some t) None = refl
-two-listed trees (Some t) (Some u) = refl
+two-listed trees x y = search std_rules
 
 -- The children are the trees of the members, and that of what a handle is of.
 pub children-are : (trees : List Tree) (k : TypeDefKind) → is_alias k ≡ false
     → child_trees (declared_by trees k) ≡ map (tree_of trees) (member_types k) ++ map (tree_at trees) (option_to_list (handled k))
-children-are trees (kind.Record x) e = listed _ ∙ map-map (λ f. f.1) (λ f. (text_of f.name, tree_of trees f.ty)) x.fields.items ∙ sym (map-map (tree_of trees) (λ f. f.ty) x.fields.items) ∙ sym
-    (append-nil _)
-children-are trees (kind.Tuple x) e = listed _ ∙ sym (append-nil _)
-children-are trees (kind.Variant x) e = cases-listed trees x.cases.items ∙ sym (append-nil _)
-children-are trees (kind.Result x) e = two-listed trees x.ok x.err
-children-are trees (kind.Future o) e = one-listed trees o
-children-are trees (kind.Stream o) e = one-listed trees o
-children-are trees (kind.Type_ t) e = absurd cc
-children-are trees (kind.Handle (handle.Own id)) e = refl
-children-are trees _ e = refl
+children-are trees y e = search (std_rules, listed, map-map, append-nil, cases-listed, two-listed, one-listed)
 
 pub labels-are : (trees : List Tree) (k : TypeDefKind) → is_alias k ≡ false → declared_labels (declared_by trees k) ≡ kind_labels k
-labels-are trees (kind.Record x) e = map-map (λ f. f.0) (λ f. (text_of f.name, tree_of trees f.ty)) x.fields.items
-labels-are trees (kind.Variant x) e =
-    map-map (λ c. c.0) (λ c. (c.0, is_given c.1)) (map {B = Text × Option Tree} (λ c. (text_of c.name, option_map (tree_of trees) c.ty)) x.cases.items)
-    ∙ map-map (λ c. c.0) (λ c. (text_of c.name, option_map (tree_of trees) c.ty)) x.cases.items
-labels-are trees (kind.Type_ t) e = absurd cc
-labels-are trees (kind.Handle (handle.Own id)) e = refl
-labels-are trees _ e = refl
+labels-are trees y e = search (std_rules, map-map)
 
 pub form-unnamed : (trees : List Tree) (k : TypeDefKind) → (is_named_kind k || is_unnamed_form (declared_by trees k)) ≡ true
-form-unnamed trees (kind.Handle (handle.Own id)) = refl
-form-unnamed trees _ = refl
+form-unnamed trees x = search std_rules
 
 -- ---- tests of all children
 
@@ -95,5 +74,4 @@ deepest-from (child t ts) h = max-within (levels t) (deepest ts) 100 (first_true
 -- A declared form may stand where its labels and its parts may.
 pub declared-from : (place : Place) (d : Declaration) → are_labels (declared_labels d) ≡ true → list_all (is_part place) (child_trees d) ≡ true
     → list_all (λ t. nat_le (levels t) 100) (child_trees d) ≡ true → is_declared place d ≡ true
-declared-from place (type_ (node form ts)) l p s = both _ _ (both (are_labels (form_labels form)) (are_parts place ts) l (parts-from place ts p)) (deepest-from ts s)
-declared-from place _ l p s = refl
+declared-from place x l p s = search (std_rules, both, parts-from, deepest-from)

@@ -1,5 +1,5 @@
 -- The component type of an interface of a valid `Resolve`, and the wrapper of a world, are read as parts of their package.
-use Rattle.std.proofs.Common.{◌≡◌, refl, sym, subst, ap, ◌∙◌, ℕ, zero, suc, true, false, not, ◌&&◌, ◌==◌, List, [], ◌∷◌, ◌++◌, map, Option, Some, None, String, arith}
+use Rattle.std.proofs.Common.{rules as std_rules, ◌≡◌, refl, sym, subst, ap, ◌∙◌, ℕ, zero, suc, true, false, not, ◌&&◌, ◌==◌, List, [], ◌∷◌, ◌++◌, map, Option, Some, None, String, arith}
 use Rattle.std.proofs.lemmas.List.Elements.{Contains-append_left, Contains-append_right, Contains-append_cases}
 use Rattle.std.proofs.{lemmas.Cmp.nat_list_eq_equiv, Math.Logic.⊎_elim}
 use Rattle.std.proofs.lemmas.{Map.Views.list_any-from_Contains, Bool.and_from as both, Bool.both_ways, Bool.false_from_ne_true, Option.same_Some as same-some}
@@ -128,8 +128,7 @@ module _ (r : Resolve) (v : IsValid r) where
   imports-read _ _ z = absurd z
 
   labelled : (p : PackageIdentity) (name label : Text) → Rattle.wit_model.specs.Names.is_identity p ≡ true → is_label name ≡ true → name ≡ label → labelled_path label (path_in p name) ≡ Some p
-  labelled p name label h l e = ap (λ (o : Option (PackageIdentity × Text)). o >>= λ q. provided (text_eq q.1 label) q.0) (spelled_path_reads p name h l)
-      ∙ ap (λ b. provided b p) (ap (λ t. text_eq t label) e ∙ text-alike label)
+  labelled p name label h l e = search (std_rules, spelled_path_reads, text-alike)
 
   module _ (n : ℕ) (p : Package) (at : package_at r n ≡ Some p) where
     pub own-label : (e : String Global × InterfaceId) → Contains p.interfaces.entries e → is_label (text_of e.0) ≡ true

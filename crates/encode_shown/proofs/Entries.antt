@@ -1,5 +1,5 @@
 -- What validity says of an import and of an export of a world.
-use Rattle.std.proofs.Common.{◌≡◌, refl, sym, ap, ◌∙◌, ℕ, Bool, true, false, ◌&&◌, List, ◌++◌, Option, Some, None}
+use Rattle.std.proofs.Common.{rules as std_rules, ◌≡◌, refl, sym, ap, ◌∙◌, ℕ, Bool, true, false, ◌&&◌, List, ◌++◌, Option, Some, None}
 use Rattle.std.proofs.lemmas.List.Elements.{Contains-append_left, Contains-append_right}
 use Rattle.std.specs.{Prelude.is_some, Prelude.option_to_list, List.Contains, List.list_all, Option.option_map_or}
 use Rattle.indexmap.specs.IndexMap.{values}
@@ -29,33 +29,25 @@ pub record IsEntry (r : Resolve) (n : ℕ) (e : WorldKey × WorldItem) : Type 0 
   pub typed : passes (is_own_type r n e.0) (item_type e.1) ≡ true
 
 given-list : {A : Type 0} (p : A → Bool) (o : Option A) → list_all p (option_to_list o) ≡ true → passes p o ≡ true
-given-list p None h = refl
-given-list p (Some x) h = first_true _ _ h
+given-list p x h = search std_rules
 
 -- an interface is no type
 interface-item : (k : ℕ) (i : WorldItem) → is_id k (item_interface i) ≡ true → item_type i ≡ None
-interface-item k (item.Type_ id) h = absurd cc
-interface-item k _ h = refl
+interface-item k x h = search std_rules
 
 import-keyed : (r : Resolve) (n : ℕ) (k : WorldKey) (i : WorldItem) → import_stands r n k i ≡ true → key_stands r k i ≡ true
-import-keyed r n (key.Interface id) i h = h
-import-keyed r n (key.Name name) i h = refl
+import-keyed r n x i h = search std_rules
 
 import-typed : (r : Resolve) (n : ℕ) (k : WorldKey) (i : WorldItem) → import_stands r n k i ≡ true → passes (is_own_type r n k) (item_type i) ≡ true
-import-typed r n (key.Interface id) i h = ap (passes (is_own_type r n (key.Interface id))) (interface-item id.0 i (first_true (is_id id.0 (item_interface i)) _ h))
-import-typed r n (key.Name name) i h = h
+import-typed r n x i h = search std_rules
 
 -- what may be exported may be imported
 export-import : (r : Resolve) (n : ℕ) (k : WorldKey) (i : WorldItem) → export_stands r k i ≡ true → import_stands r n k i ≡ true
-export-import r n (key.Interface id) i h = h
-export-import r n (key.Name name) (item.Type_ id) h = absurd cc
-export-import r n (key.Name name) _ h = refl
+export-import r n x i h = search std_rules
 
 -- an exported function is of no resource
 export-free : (r : Resolve) (k : WorldKey) (i : WorldItem) → export_stands r k i ≡ true → passes (λ f. is_freestanding f.kind) (item_function i) ≡ true
-export-free r (key.Name name) (item.Function f) h = h
-export-free r (key.Interface id) (item.Function f) h = absurd cc
-export-free r k _ h = refl
+export-free r k x h = search std_rules
 
 module _ (r : Resolve) (v : IsValid r) (n : ℕ) (w : World) (there : world_at r n ≡ Some w) where
   -- what holds of each function of the world
@@ -117,7 +109,4 @@ module _ (r : Resolve) (v : IsValid r) (n : ℕ) (w : World) (there : world_at r
 -- a key that is an interface has a path
 pub interface-key-path : (r : Resolve) → IsValid r → (n : ℕ) (e : WorldKey × WorldItem) → IsEntry r n e → (k : ℕ) → is_interface_key r k e.1 ≡ true → in_list r.interfaces.items k ≡ true
     → is_some (interface_path r k) ≡ true
-interface-key-path r v n e is k h inside =
-    let found = found-in r.interfaces.items k inside in
-    named-path r v k (ap (λ o. option_map_or (λ other. is_some other.name) o false) found.1
-    ∙ (ap (passes (λ other. is_some other.name)) (sym found.1) ∙ second_true (is_id k (item_interface e.1)) _ h))
+interface-key-path r v n e is k h inside = search (std_rules, found-in, named-path, second_true)

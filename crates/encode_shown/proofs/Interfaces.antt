@@ -1,5 +1,5 @@
 -- What shows an interface of a valid `Resolve` obeys the rules of interfaces, and means the interface.
-use Rattle.std.proofs.Common.{◌≡◌, refl, sym, subst, ap, ◌∙◌, ℕ, Bool, true, false, not, ◌&&◌, List, [], ◌∷◌, ◌++◌, append-nil, map, Option, Some, None, String, cond, arith}
+use Rattle.std.proofs.Common.{rules as std_rules, ◌≡◌, refl, sym, subst, ap, ◌∙◌, ℕ, Bool, true, false, not, ◌&&◌, List, [], ◌∷◌, ◌++◌, append-nil, map, Option, Some, None, String, cond, arith}
 use Rattle.std.proofs.lemmas.{Simd.map-map, Cmp.nat_list_eq_equiv, List.Folds.list_all-map, Bool.and_from as both, Bool.not-true as no-longer}
 use Rattle.std.proofs.lemmas.List.Sorted.{length_permutation, IsPermutation-map, IsPermutation-sym, Contains-permutation, list_any-IsPermutation}
 use Rattle.std.specs.declared.alloc.Global.{Global}
@@ -39,8 +39,7 @@ resource-listed (x ∷ ts) t (Prim.Native.Nat.suc k, l, e) h =
     one-more-resource (is_resource x.meaning.declaration) x.name (resources_of ts) t.name (resource-listed ts t (k, omega (arith, l), e) h)
 
 itself-declared : (r : Resolve) (k : TypeDefKind) → is_resource_itself k ≡ true → is_resource (declared_by (trees_of r) k) ≡ true
-itself-declared r kind.Resource h = refl
-itself-declared r _ h = absurd cc
+itself-declared r x h = search std_rules
 
 -- a resource itself is declared as one
 pub resource-declared : (r : Resolve) (n : ℕ) (def : TypeDef) → type_at r n ≡ Some def → is_resource_itself def.kind ≡ true → is_resource (type_meaning_at r n).declaration ≡ true
@@ -169,8 +168,7 @@ types-obey r n view shows v = (λ j. is_interface (home_of r n) (record { types 
 
 types-meant : (r : Resolve) (n : ℕ) (o : Option Interface)
     → map (λ t. (t.name, t.meaning)) (option_map_or (types_of r n) o []) ≡ (option_map_or (meant.interface_meaning r) o no_interface).types
-types-meant r n None = refl
-types-meant r n (Some i) = map-map (λ (t : ShownType). (t.name, t.meaning)) (shown_type r (home_of r n)) i.types.entries
+types-meant r n x = search (std_rules, map-map)
 
 pub types-mean : (r : Resolve) (n : ℕ) (view : View) → ShowsTypes r n view → interface_meaning view view.functions ≡ meant.types_alone (interface_meaning_at r n)
 types-mean r n view shows = λ j. record { types = (ap (map (λ t. (t.name, t.meaning))) shows.types ∙ types-meant r n (interface_at r n)) j; functions = from_entries (shows.functions j) }
@@ -183,7 +181,4 @@ functions-meant r v n None e fs p = same-map [] fs p tt
 functions-meant r v n (Some i) e fs p = same-map (functions_of r i) fs p (functions-distinct r v n i e)
 
 pub interface-means : (r : Resolve) → IsValid r → (n : ℕ) (view : View) → ShowsInterface r n view → interface_meaning view view.functions ≡ interface_meaning_at r n
-interface-means r v n view shows = λ j. record {
-  types = (ap (map (λ t. (t.name, t.meaning))) shows.types ∙ types-meant r n (interface_at r n)) j;
-  functions = functions-meant r v n (interface_at r n) refl view.functions shows.functions j;
-}
+interface-means r v n view shows = search (std_rules, types-meant, functions-meant)

@@ -1,5 +1,5 @@
 -- What shows an import or an export of a valid world obeys the rules of items.
-use Rattle.std.proofs.Common.{◌≡◌, refl, sym, subst, ap, ◌∙◌, ℕ, zero, suc, Bool, true, false, ◌&&◌, cond, List, [], ◌∷◌, map, Option, Some, None, arith}
+use Rattle.std.proofs.Common.{rules as std_rules, ◌≡◌, refl, sym, subst, ap, ◌∙◌, ℕ, zero, suc, Bool, true, false, ◌&&◌, cond, List, [], ◌∷◌, map, Option, Some, None, arith}
 use Rattle.std.proofs.lemmas.{List.Elements.Contains-append_right, Option.same_Some as same-some}
 use Rattle.std.specs.{Prelude.is_some, Prelude.option_to_list, Prelude.filter_map, List.AllZip, List.Contains, List.list_all, Option.option_map_or}
 use Rattle.wit_model.specs.{Text.Text, Text.text_of, Uses.has, Uses.item_interface, Meant.type_meaning_at, Meant.signature_of, Valid.IsValid, Valid.as_world}
@@ -32,18 +32,13 @@ has_home (key.Interface id) o = is_some o
 has_home (key.Name name) o = true
 
 pub instance-home : (k : WorldKey) (o : Option Text) → has_home k o ≡ true → interface_of (instance_key k o) ≡ o
-instance-home (key.Interface id) None h = absurd cc
-instance-home (key.Interface id) (Some path) h = refl
-instance-home (key.Name name) None h = refl
-instance-home (key.Name name) (Some path) h = refl
+instance-home x y h = search std_rules
 
 pub path-home : (o : Option Text) → follow.place_of o ≡ place_of_path o
-path-home None = refl
-path-home (Some path) = refl
+path-home x = search std_rules
 
 pub typed-item : (i : WorldItem) (m : ℕ) → item_type i ≡ Some m → (id : TypeId) × (i ≡ item.Type_ id) × (id.0 ≡ m)
-typed-item (item.Type_ id) m e = (id, refl, same-some id.0 m e)
-typed-item _ m e = absurd cc
+typed-item x m e = search std_rules
 
 -- a resource that is seen
 pub resource-among : (ss : List Seen) (s : Seen) (d : tree.Declaration) → Contains ss s → s.shown ≡ Shown.declares d → is_resource d ≡ true → Contains (resources_seen ss) s.key
@@ -61,10 +56,7 @@ resource-among (x ∷ ss) s d (suc k, l, q) e h = later x.shown (resource-among 
 module _ (r : Resolve) (v : IsValid r) (n : ℕ) where
   -- an interface under a key that is an interface has a path
   pub entry-home : (k : WorldKey) (i : WorldItem) → IsEntry r n (k, i) → (m : ℕ) → item_interface i ≡ Some m → has_home k (interface_path r m) ≡ true
-  entry-home (key.Name name) i is m e = refl
-  entry-home (key.Interface id) i is m e =
-      let same : m ≡ id.0 = equal m id.0 (ap (is_id id.0) (sym e) ∙ first_true (is_id id.0 (item_interface i)) _ is.keyed) in
-      ap (λ j. is_some (interface_path r j)) same ∙ interface-key-path r v n (key.Interface id, i) is id.0 is.keyed is.key_range
+  entry-home x i is m e = search (std_rules, equal, first_true, interface-key-path)
 
   -- a type of a world is a named type of the world, under its name
   pub world-type : (k : WorldKey) (id : TypeId) → IsEntry r n (k, item.Type_ id) → IsNamedType r (as_world n) id.0 (key_text r k)

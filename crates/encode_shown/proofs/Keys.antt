@@ -1,5 +1,5 @@
 -- The keys of the imports, and of the exports, of a world are texts of which none stands twice.
-use Rattle.std.proofs.Common.{◌≡◌, ◌⊎◌, inl, inr, refl, sym, ap, ◌∙◌, ℕ, Bool, true, false, not, ◌&&◌, ◌||◌, ◌==◌, cond, List, [], ◌∷◌, ◌++◌, map, drop, Option, Some, None, String, unwrap_or, arith}
+use Rattle.std.proofs.Common.{rules as std_rules, ◌≡◌, ◌⊎◌, inl, inr, refl, sym, ap, ◌∙◌, ℕ, Bool, true, false, not, ◌&&◌, ◌||◌, ◌==◌, cond, List, [], ◌∷◌, ◌++◌, map, drop, Option, Some, None, String, unwrap_or, arith}
 use Rattle.std.proofs.lemmas.{Cmp.nat_list_eq_equiv, Bool.both_ways, Bool.false_from_ne_true}
 use Rattle.std.specs.declared.alloc.Global.{Global}
 use Rattle.std.specs.{Prelude.is_some, Prelude.is_none, Char.is_ascii_alphabetic, List.Contains, List.AllByRecursion, List.IsDistinct, List.list_all}
@@ -26,8 +26,7 @@ IsKey r (key.Name name) = (is_label (text_of name) ≡ true) ⊎ (begins_with_le
 -- ---- first bytes
 
 front-letter : (xs ys : Text) → begins_with_letter xs ≡ true → begins_with_letter (xs ++ ys) ≡ true
-front-letter [] ys h = absurd cc
-front-letter (x ∷ xs) ys h = h
+front-letter x ys h = search std_rules
 
 prefix-first : (p : ℕ) (ps bs : Text) → is_ascii_alphabetic p ≡ false → option_map_or is_label (after_prefix (p ∷ ps) bs) false ≡ true → begins_with_letter bs ≡ false
 prefix-first p ps [] e h = refl
@@ -43,12 +42,7 @@ colon-there (x ∷ xs) ys = ap (λ c. not (x == 58) && c) (colon-there xs ys) �
 
 -- the name of a function of a resource is no label
 member-first : (r : Resolve) (m : ℕ) (name : Text) (f : Function) (k : FunctionKind) → is_some (resource_of k) ≡ true → is_member_of r m name f k ≡ true → begins_with_letter (text_of f.name) ≡ false
-member-first r m name f (call.Method id) s h = prefix-first 91 (drop 1 (method_name name [])) (text_of f.name) refl (first_true (is_member_name (method_name name []) f) _ h)
-member-first r m name f (call.AsyncMethod id) s h = prefix-first 91 (drop 1 (method_name name [])) (text_of f.name) refl (first_true (is_member_name (method_name name []) f) _ h)
-member-first r m name f (call.Static id) s h = prefix-first 91 (drop 1 (static_name name [])) (text_of f.name) refl h
-member-first r m name f (call.AsyncStatic id) s h = prefix-first 91 (drop 1 (static_name name [])) (text_of f.name) refl h
-member-first r m name f (call.Constructor id) s h = ap begins_with_letter (text-same (text_of f.name) (constructor_name name) (first_true (text_eq (text_of f.name) (constructor_name name)) _ h))
-member-first r m name f _ s h = absurd cc
+member-first r m name f x s h = search std_rules
 
 -- a key that is a name is this one
 pub named-key : (k : WorldKey) (t : Text) → is_name_key t k ≡ true → (name : String Global) × (k ≡ key.Name name) × (text_of name ≡ t)
@@ -100,17 +94,7 @@ module _ (r : Resolve) (v : IsValid r) (n : ℕ) where
   paths-apart a b p q e f d = false_from_ne_true (text_eq p q) (λ h. differ a b d (path-once r v a b p e (f ∙ ap Some (sym (text-same p q h)))))
 
   keys-apart : (a b : WorldKey) → IsKey r a → IsKey r b → key_eq a b ≡ false → text_eq (key_text r a) (key_text r b) ≡ false
-  keys-apart (key.Name a) (key.Name b) h g e = e
-  keys-apart (key.Name a) (key.Interface b) h g e =
-      let path = some-of (interface_path r b.0) g in
-      ap (λ o. text_eq (text_of a) (unwrap_or o [])) path.1 ∙ name-apart a b.0 path.0 h path.1
-  keys-apart (key.Interface a) (key.Name b) h g e =
-      let path = some-of (interface_path r a.0) h in
-      ap (λ o. text_eq (unwrap_or o []) (text_of b)) path.1 ∙ nat_list_eq_equiv.symm path.0 (text_of b) ∙ name-apart b a.0 path.0 g path.1
-  keys-apart (key.Interface a) (key.Interface b) h g e =
-      let p = some-of (interface_path r a.0) h in
-      let q = some-of (interface_path r b.0) g in
-      (λ j. text_eq (unwrap_or (p.1 j) []) (unwrap_or (q.1 j) [])) ∙ paths-apart a.0 b.0 p.0 q.0 p.1 q.1 e
+  keys-apart x y h g e = search (std_rules, some-of, unwrap_or, name-apart, nat_list_eq_equiv, paths-apart)
 
   all-apart : (k : WorldKey) (ks : List WorldKey) → IsKey r k → ((l : WorldKey) → Contains ks l → IsKey r l) → AllByRecursion (λ l. key_eq k l ≡ false) ks
       → AllByRecursion (λ y. text_eq (key_text r k) y ≡ false) (map (key_text r) ks)

@@ -1,5 +1,5 @@
 -- The types of an interface's list: each is a named type of the interface, under its name, and they are all of those.
-use Rattle.std.proofs.Common.{◌≡◌, refl, sym, ap, ◌∙◌, ℕ, true, false, ◌&&◌, ◌==◌, nat_lt, List, Option, count_by, Some, None, String, string_bytes, option_map}
+use Rattle.std.proofs.Common.{rules as std_rules, ◌≡◌, refl, sym, ap, ◌∙◌, ℕ, true, false, ◌&&◌, ◌==◌, nat_lt, List, Option, count_by, Some, None, String, string_bytes, option_map}
 use Rattle.std.proofs.lemmas.Bool.{both_ways, true_from_ne_false}
 use Rattle.std.specs.declared.alloc.Global.{Global}
 use Rattle.std.specs.{Prelude.is_some, List.Contains, List.list_all, Option.option_map_or, Map.lookup, Str.bytes_eq, HashMap.get_by_text}
@@ -18,8 +18,7 @@ use Rattle.wit_model.specs.declared.model.TypeOwner.TheVariants as owner
 
 -- what has this number
 pub numbered-as : {V : Type 0} (number : V → ℕ) (n : ℕ) (o : Option V) → is_id n (option_map number o) ≡ true → Given o (λ x. number x ≡ n)
-numbered-as number n None h = absurd cc
-numbered-as number n (Some x) h = (x, refl, equal (number x) n h)
+numbered-as number n y h = search std_rules
 
 -- what a look-up by text finds
 pub found-entry : {V : Type 0} (number : V → ℕ) (es : List (String Global × V)) (n : ℕ) (t : Text) → is_id n (option_map number (lookup (λ k. bytes_eq t (text_of k)) es)) ≡ true

@@ -1,5 +1,5 @@
 -- What is seen in the members of a package: of each interface that the package reaches, and of no other.
-use Rattle.std.proofs.Common.{◌≡◌, ◌⊎◌, inl, inr, refl, sym, subst, ap, ◌∙◌, ℕ, zero, suc, ◌<◌, Bool, true, false, ◌&&◌, List, [], ◌∷◌, ◌++◌, map, length, Option, Some, None, String, arith}
+use Rattle.std.proofs.Common.{rules as std_rules, ◌≡◌, ◌⊎◌, inl, inr, refl, sym, subst, ap, ◌∙◌, ℕ, zero, suc, ◌<◌, Bool, true, false, ◌&&◌, List, [], ◌∷◌, ◌++◌, map, length, Option, Some, None, String, arith}
 use Rattle.std.proofs.lemmas.{Bool.ltb-true, Bool.both_ways, Bool.and_from as both, Option.slice_get_within, Option.same_Some as same-some}
 use Rattle.std.proofs.lemmas.List.Elements.{Contains-append_left, Contains-append_right, Contains-append_cases}
 use Rattle.std.proofs.Math.Logic.{⊎_elim}
@@ -36,18 +36,14 @@ after-item q before (z ∷ xs) x h (suc k, l, e) =
 
 -- an interface item is its interface
 item-is : (r : Resolve) (i : WorldItem) (m : ℕ) → item_interface i ≡ Some m → Contains (interfaces_of_item r i) m
-item-is r (item.Interface id stability docs external_id) m e = (0, omega arith, same-some id.0 m e)
-item-is r _ m e = absurd cc
+item-is r x m e = search std_rules
 
 -- what an item is or uses
 item-from : (r : Resolve) (i : WorldItem) (m : ℕ) → Contains (interfaces_of_item r i) m → (item_interface i ≡ Some m) ⊎ Contains (used_interfaces r i) m
-item-from r (item.Interface id stability docs external_id) m c = inl (ap Some (one-contained id.0 m c))
-item-from r (item.Function f) m c = none-in m c
-item-from r (item.Type_ id) m c = inr c
+item-from r x m c = search std_rules
 
 pub interface-uses : (r : Resolve) (i : WorldItem) (m k : ℕ) → item_interface i ≡ Some m → Contains (direct_deps r m) k → Contains (used_interfaces r i) k
-interface-uses r (item.Interface id stability docs external_id) m k e c = subst (λ (j : ℕ). Contains (direct_deps r j) k) (sym (same-some id.0 m e)) c
-interface-uses r _ m k e c = absurd cc
+interface-uses r x m k e c = search std_rules
 
 -- what has a path is in range
 path-within : (r : Resolve) (m : ℕ) (path : Text) → interface_path r m ≡ Some path → m < length r.interfaces.items

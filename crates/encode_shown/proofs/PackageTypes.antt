@@ -1,5 +1,5 @@
 -- The sections of a component that exports the component types of a package, or of one world, mean it.
-use Rattle.std.proofs.Common.{◌≡◌, ◌↔◌, map, option_map, refl, sym, subst, ap, ◌∙◌, ℕ, true, List, [], ◌∷◌, ◌++◌, Option, Some, String, arith}
+use Rattle.std.proofs.Common.{rules as std_rules, ◌≡◌, ◌↔◌, map, option_map, refl, sym, subst, ap, ◌∙◌, ℕ, true, List, [], ◌∷◌, ◌++◌, Option, Some, String, arith}
 use Rattle.std.proofs.lemmas.{Simd.map-map, List.map-append, List.Elements.Contains-append_cases, Option.same_Some as same-some}
 use Rattle.std.proofs.Math.Logic.{⊎_elim}
 use Rattle.std.specs.declared.alloc.Global.{Global}
@@ -34,8 +34,7 @@ each-append f (x ∷ xs) ys us vs e h =
 
 -- a component type that is followed is no wrapper
 part-of-interface : (label : Text) (ds : Declarations) (scope : Scope) → component_scope ds ≡ Some scope → part_of label ds ≡ interface_part label ds
-part-of-interface label (Declarations.component inner rest) scope e = absurd cc
-part-of-interface label _ scope e = refl
+part-of-interface label x scope e = search std_rules
 
 abbrev as_member : Text → Option (PackageIdentity × Part) → Option Member
 as_member label o = o >>= λ p. Some (record { label = label; package_ = p.0; part = p.1 })
@@ -75,11 +74,7 @@ module _ (r : Resolve) (v : IsValid r) (n : ℕ) (p : Package) (at : package_at 
   wrapper-read m label x is name = ap member is.is ∙ ap (as_member label) (world-read r v n p at m is.world is.there label name is.inner is.scope is.follows is.shows)
 
   filled-read : (xs : List (Text × Declarations)) (ms : List Member) → each member xs ≡ Some ms → is_filled xs ≡ true → is_filled ms ≡ true
-  filled-read [] ms e h = absurd cc
-  filled-read (x ∷ xs) ms e h =
-      let y = bind_some (member x) _ ms e in
-      let ys = bind_some (each member xs) _ ms y.2 in
-      ap is_filled (sym (same-some (y.0 ∷ ys.0) ms ys.2))
+  filled-read z ms e h = search std_rules
 
   pub sections-mean : (xs : List (Text × Declarations)) (sections : List Section) → ArePackageTypes r p xs → is_filled xs ≡ true → exported_types sections ≡ Some xs
       → reads.package_meaning sections ≡ Some (meant.package_meaning r n p)
@@ -100,13 +95,10 @@ module _ (r : Resolve) (v : IsValid r) (n : ℕ) (p : Package) (at : package_at 
 
 module _ (r : Resolve) (v : IsValid r) (n : ℕ) (p : Package) (at : package_at r n ≡ Some p) (xs : List (Text × Declarations)) (types : ArePackageTypes r p xs) where
   interface-names : map (λ x. x.0) types.interface_types ≡ map text_of (keys p.interfaces)
-  interface-names = zip-same (IsInterfaceType r p) (λ e. text_of e.0) (λ (x : Text × Declarations). x.0) (λ e x is. is.label) p.interfaces.entries types.interface_types types.interfaces
-      ∙ sym (map-map text_of (λ e. e.0) p.interfaces.entries)
+  interface-names = grind (arith, zip-same, map-map)
 
   world-names : map (λ x. x.0) types.world_types ≡ map text_of (keys p.worlds)
-  world-names = zip-same (IsListedWorldType r p) (λ e. text_of e.0) (λ (x : Text × Declarations). x.0) (λ e x is. ap (λ (y : Text × Declarations). y.0) is.is) p.worlds.entries types.world_types
-      types.worlds
-      ∙ sym (map-map text_of (λ e. e.0) p.worlds.entries)
+  world-names = grind (arith, zip-same, map-map)
 
   names-are : map (λ x. x.0) xs ≡ map text_of (keys p.interfaces) ++ map text_of (keys p.worlds)
   names-are = ap (map (λ x. x.0)) types.are ∙ map-append (λ (x : Text × Declarations). x.0) types.interface_types types.world_types ∙ (λ j. interface-names j ++ world-names j)
@@ -145,10 +137,7 @@ world-sections-mean r v n w p there home x sections is e =
 
 meant-is : (r : Resolve) (n : ℕ) (p : Package) (m : PackageMeaning) → package_at r n ≡ Some p → Meant r n m ↔ (meant.package_meaning r n p ≡ m)
 unfolding Meant
-meant-is r n p m at = (
-  λ h. same-some (meant.package_meaning r n p) m (ap (option_map (meant.package_meaning r n)) (sym at) ∙ h),
-  λ e. ap (option_map (meant.package_meaning r n)) at ∙ ap Some e,
-)
+meant-is r n p m at = search std_rules
 
 -- The bytes mean what the package means, and nothing else.
 pub bytes-mean : (r : Resolve) → IsValid r → (n : ℕ) (p : Package) → package_at r n ≡ Some p → (xs : List (Text × Declarations)) (sections : List Section) (bytes : List ℕ) → ArePackageTypes r p xs
@@ -163,12 +152,7 @@ bytes-mean r v n p at xs sections bytes types some e spelled m =
 
 world-meant-is : (r : Resolve) (n : ℕ) (w : World) (p : Package) (m : WorldPackage) → world_at r n ≡ Some w → package_of_world r w ≡ Some p → MeantWorld r n m ↔ (meant.world_package r p w ≡ m)
 unfolding MeantWorld
-world-meant-is r n w p m at home =
-    let is : option_and_then (λ w. option_map (λ p. meant.world_package r p w) (package_of_world r w)) (world_at r n) ≡ Some (meant.world_package r p w) =
-    ap (option_and_then (λ w. option_map (λ p. meant.world_package r p w) (package_of_world r w))) at ∙ ap (option_map (λ p. meant.world_package r p w)) home in (
-      λ h. same-some (meant.world_package r p w) m (sym is ∙ h),
-      λ e. is ∙ ap Some e,
-    )
+world-meant-is r n w p m at home = search std_rules
 
 pub world-bytes-mean : (r : Resolve) → IsValid r → (n : ℕ) (w : World) (p : Package) → world_at r n ≡ Some w → package_of_world r w ≡ Some p
     → (x : Text × Declarations) (sections : List Section) (bytes : List ℕ) → IsWorldType r p n (text_of w.name) x

@@ -1,5 +1,5 @@
 -- The members that show a package of a valid `Resolve` mean the package.
-use Rattle.std.proofs.Common.{◌≡◌, refl, sym, subst, ap, ◌∙◌, ℕ, Bool, true, false, not, ◌&&◌, List, [], ◌∷◌, ◌++◌, append-nil, map, filter, Some, String, unwrap_or, arith}
+use Rattle.std.proofs.Common.{rules as std_rules, ◌≡◌, refl, sym, subst, ap, ◌∙◌, ℕ, Bool, true, false, not, ◌&&◌, List, [], ◌∷◌, ◌++◌, append-nil, map, filter, Some, String, unwrap_or, arith}
 use Rattle.std.proofs.lemmas.{Grind.flat_map-append, List.Elements.Contains-append_cases, Bool.and_from as both, Bool.not-true as not-false}
 use Rattle.std.proofs.Math.Logic.{⊎_elim}
 use Rattle.std.specs.declared.alloc.Global.{Global}
@@ -80,24 +80,13 @@ module _ (r : Resolve) (v : IsValid r) (n : ℕ) (p : Package) (at : package_at 
   no-world e m shown = ap worlds_of shown.is
 
   world-meant : (e : String Global × WorldId) (m : Member) → ShowsWorldMember r named e m → worlds_of m ≡ world_named e ∷ []
-  world-meant e m shown = ap worlds_of shown.is ∙ (λ j. (
-    text_of e.0,
-    (world-means r v e.1.0 shown.world shown.there shown.scope shown.shows ∙ sym
-        (ap (λ o. option_map_or (meant.world_meaning r) o meant.no_world) shown.there)) j,
-  ) ∷ [])
+  world-meant e m shown = search (std_rules, world-means)
 
   interfaces-meant : flat_map interfaces_of members ≡ map interface_named p.interfaces.entries
-  interfaces-meant =
-      ap (flat_map interfaces_of) shows.are ∙ flat_map-append interfaces_of shows.interface_members shows.world_members
-      ∙ (λ j. zip-flat (ShowsInterfaceMember r named) interface_named interfaces_of interface-meant p.interfaces.entries shows.interface_members shows.interfaces j
-      ++ zip-empty (ShowsWorldMember r named) interfaces_of no-interface p.worlds.entries shows.world_members shows.worlds j)
-      ∙ append-nil (map interface_named p.interfaces.entries)
+  interfaces-meant = grind (arith, flat_map-append, zip-flat, interface-meant, zip-empty, no-interface, append-nil)
 
   worlds-meant : flat_map worlds_of members ≡ map world_named p.worlds.entries
-  worlds-meant =
-      ap (flat_map worlds_of) shows.are ∙ flat_map-append worlds_of shows.interface_members shows.world_members
-      ∙ (λ j. zip-empty (ShowsInterfaceMember r named) worlds_of no-world p.interfaces.entries shows.interface_members shows.interfaces j
-      ++ zip-flat (ShowsWorldMember r named) world_named worlds_of world-meant p.worlds.entries shows.world_members shows.worlds j)
+  worlds-meant = grind (arith, flat_map-append, zip-empty, no-world, zip-flat, world-meant)
 
   -- ---- interfaces of other packages
 

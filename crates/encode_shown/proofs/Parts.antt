@@ -1,5 +1,5 @@
 -- The types of an owner, as parts of others: the names in them are of the owner's place.
-use Rattle.std.proofs.Common.{◌≡◌, refl, sym, subst, ap, ◌∙◌, ℕ, zero, suc, ◌<◌, Bool, true, false, not, ◌&&◌, ◌||◌, nat_lt, nat_le, List, map, length, unwrap_or, Option, Some, None, String, option_to_list, arith}
+use Rattle.std.proofs.Common.{rules as std_rules, ◌≡◌, refl, sym, subst, ap, ◌∙◌, ℕ, zero, suc, ◌<◌, Bool, true, false, not, ◌&&◌, ◌||◌, nat_lt, nat_le, List, map, length, unwrap_or, Option, Some, None, String, option_to_list, arith}
 use Rattle.std.proofs.lemmas.{Bool.ltb-true, Bool.lt-ltb, Bool.and_from as both, Bool.both_ways, Bool.false_from_ne_true, Option.slice_get_within}
 use Rattle.std.proofs.lemmas.List.{Folds.list_all-append, Folds.list_all-map, Elements.Contains-append_left, Elements.Contains-append_right}
 use Rattle.std.specs.declared.alloc.Global.{Global}
@@ -31,17 +31,14 @@ place-alike a = (places_decide a a).1 refl
 -- ---- unnamed kinds
 
 form-part : (place : Place) (d : Declaration) → is_unnamed_form d ≡ true → list_all (is_part place) (child_trees d) ≡ true → is_part place (tree_of_declaration d) ≡ true
-form-part place (type_ (node form ts)) n h = both _ _ n (parts-from place ts h)
-form-part place _ n h = absurd cc
+form-part place x n h = search (std_rules, both, parts-from)
 
 unnamed-alias : (k : TypeDefKind) → is_named_kind k ≡ false → is_alias k ≡ false
-unnamed-alias (kind.Type_ t) e = absurd cc
-unnamed-alias _ e = refl
+unnamed-alias x e = search std_rules
 
 -- a resource, or an alias of one, has a name
 resource-named : (f : ℕ → Bool) (k : TypeDefKind) → (is_named_kind k || not (is_resource_kind f k)) ≡ true
-resource-named f kind.Resource = refl
-resource-named f _ = refl
+resource-named f x = search std_rules
 
 -- labels that keep the rule
 pub labels-from : (ts : List Text) → are_member_labels ts ≡ true → are_labels ts ≡ true
@@ -193,8 +190,7 @@ module _ (r : Resolve) (v : IsValid r) where
       (λ e. or-cases (list_all (has_owner r def.owner) (used_by_type r def)) (is_some def.name && is_use r def) e (λ h. h) (λ h. absurd (both_ways _ plain (second_true (is_some def.name) _ h))))
 
   no-use : (def : TypeDef) (k : TypeDefKind) → def.kind ≡ k → is_alias k ≡ false → is_use r def ≡ false
-  no-use def (kind.Type_ t) e f = absurd cc
-  no-use def _ e f = false_from_ne_true (is_use r def) (λ h. let some = (passed _ (alias_target def.kind) h).1 in let none : alias_target def.kind ≡ None = ap alias_target e in cc)
+  no-use def x e f = search std_rules
 
   -- a name of an owner is declared as what it may be, in the owner's place
   pub number-declared : (n : ℕ) (def : TypeDef) → type_at r n ≡ Some def → same_owner def.owner owner.None ≡ false → is_declared (place_of r def.owner) (declaration_of r def) ≡ true

@@ -1,5 +1,5 @@
 -- Which interfaces are reached: what a chain of uses leads to, and no others.
-use Rattle.std.proofs.Common.{◌≡◌, ◌⊎◌, inl, inr, refl, sym, subst, ap, ◌∙◌, ℕ, zero, suc, ◌<◌, ◌≤◌, arith, Bool, true, false, ◌||◌, not, nat_lt, List, [], ◌∷◌, ◌++◌, length, filter, nat_eq, Option}
+use Rattle.std.proofs.Common.{rules as std_rules, ◌≡◌, ◌⊎◌, inl, inr, refl, sym, subst, ap, ◌∙◌, ℕ, zero, suc, ◌<◌, ◌≤◌, arith, Bool, true, false, ◌||◌, not, nat_lt, List, [], ◌∷◌, ◌++◌, length, filter, nat_eq, Option}
 use Rattle.std.proofs.lemmas.{Bool.both_ways, Bool.eqb-true, Bool.ltb-true, Bool.or_left as or-first, Bool.or_right as or-second, List.Folds.list_any-append}
 use Rattle.std.proofs.{lemmas.List.Elements.Contains-append_cases, lemmas.Map.Views.any-filter_same, Math.Logic.⊎_elim}
 use Rattle.std.specs.{Prelude.flat_map, List.Contains, List.list_all}
@@ -46,8 +46,7 @@ module _ (r : Resolve) where
   stays_in ns n h = has_once n (ns ++ flat_map (direct_deps r) ns) (list_any-append (λ k. nat_eq k n) ns (flat_map (direct_deps r) ns) ∙ or-first (has ns n) _ h)
 
   comes_in : (ns : List ℕ) (n m : ℕ) → has ns n ≡ true → has (direct_deps r n) m ≡ true → has (once (ns ++ flat_map (direct_deps r) ns)) m ≡ true
-  comes_in ns n m h g = has_once m (ns ++ flat_map (direct_deps r) ns) (list_any-append (λ k. nat_eq k m) ns (flat_map (direct_deps r) ns) ∙ or-second (has ns m) _
-      (has_flat (direct_deps r) n m ns h g))
+  comes_in ns n m h g = search (std_rules, has_once, list_any-append, or-second, has_flat)
 
   reach : (steps : ℕ) (ns : List ℕ) (n k m : ℕ) → has ns n ≡ true → k ≤ steps → Chain r k n m → has (reached_in r steps ns) m ≡ true
   unfolding reached_in
@@ -71,9 +70,7 @@ module _ (r : Resolve) where
 
   -- what a chain from one of these leads to is reached
   pub chain-reached : IsValid r → (ns : List ℕ) (s k m : ℕ) → Contains ns s → s < length r.interfaces.items → Chain r k s m → Contains (reached r ns) m
-  chain-reached v ns s k m h within c =
-      let le = short (deps-fall v) k s m c in
-      has-contains (reached r ns) m (reach (length r.interfaces.items) (once ns) s k m (has_once s ns (contains-has ns s h)) (omega (arith, le, within)) c)
+  chain-reached v ns s k m h within c = search (std_rules, short, deps-fall, has-contains, reach, has_once, contains-has)
 
   -- What holds of these, and with an interface of all that it uses, holds of all that is reached.
   module _ (P : ℕ → Type 0) (closed : (n m : ℕ) → P n → Contains (direct_deps r n) m → P m) where

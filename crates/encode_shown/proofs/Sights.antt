@@ -1,5 +1,5 @@
 -- Sights of interfaces of a valid `Resolve` agree, obey the rules, and together mean the interfaces.
-use Rattle.std.proofs.Common.{◌≡◌, refl, sym, subst, ap, ◌∙◌, ℕ, Bool, true, false, ◌&&◌, ◌||◌, cond, List, [], ◌∷◌, map, length, Some}
+use Rattle.std.proofs.Common.{rules as std_rules, ◌≡◌, refl, sym, subst, ap, ◌∙◌, ℕ, Bool, true, false, ◌&&◌, ◌||◌, cond, List, [], ◌∷◌, map, length, Some}
 use Rattle.std.proofs.lemmas.Bool.{eq-eqb, and_from as both}
 use Rattle.std.proofs.lemmas.List.{Folds.list_any_at, Sorted.IsPermutation-sym, Sorted.Contains-permutation, Sorted.length_permutation}
 use Rattle.std.specs.{Prelude.IsPermutation, Prelude.if◌then◌else◌, Option.option_map_or, List.AllZip, List.Contains, List.list_any}
@@ -29,12 +29,10 @@ its_functions r n = option_map_or (views.functions_of r) (interface_at r n) []
 
 module _ (r : Resolve) where
   sight-types : (n : ℕ) (whole : Bool) (view : View) → ShowsAs r n whole view → view.types ≡ option_map_or (views.types_of r n) (interface_at r n) []
-  sight-types n true view shows = shows.types
-  sight-types n false view shows = shows.types
+  sight-types n x view shows = search std_rules
 
   sight-functions : (n : ℕ) (whole : Bool) (view : View) → ShowsAs r n whole view → whole ≡ true → IsPermutation (its_functions r n) view.functions
-  sight-functions n true view shows e = shows.functions
-  sight-functions n false view shows e = absurd cc
+  sight-functions n x view shows e = search std_rules
 
   stands-in : (xs ys : List (Text × FunctionMeaning)) → ((x : Text × FunctionMeaning) → Contains xs x → Contains ys x) → stand_in same_function xs ys ≡ true
   stands-in xs ys h = all-from (λ x. list_any (λ y. text_eq x.0 y.0 && same_function x.1 y.1) ys) xs (λ x c.

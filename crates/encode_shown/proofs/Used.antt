@@ -1,5 +1,5 @@
 -- The paths that a declaration uses are those of the interfaces that it uses.
-use Rattle.std.proofs.Common.{◌≡◌, ◌⊎◌, inl, inr, refl, sym, subst, ap, ◌∙◌, ℕ, suc, zero, Bool, true, false, ◌&&◌, ◌||◌, ◌==◌, cond, List, [], ◌∷◌, Option, Some, None, String, arith}
+use Rattle.std.proofs.Common.{rules as std_rules, ◌≡◌, ◌⊎◌, inl, inr, refl, sym, subst, ap, ◌∙◌, ℕ, suc, zero, Bool, true, false, ◌&&◌, ◌||◌, ◌==◌, cond, List, [], ◌∷◌, Option, Some, None, String, arith}
 use Rattle.std.proofs.{lemmas.Bool.both_ways, lemmas.Cmp.nat_list_eq_equiv, Math.Logic.⊎_elim}
 use Rattle.std.specs.declared.alloc.Global.{Global}
 use Rattle.std.specs.{Prelude.option_and_then, Prelude.option_to_list, Prelude.flat_map, List.Contains, List.list_all, Option.option_map_or}
@@ -28,9 +28,7 @@ pub record UsesPath (r : Resolve) (used : Option ℕ) (path : Text) : Type 0 whe
   pub has_path : interface_path r number ≡ Some path
 
 nothing-used : (trees : List Tree) (k : TypeDefKind) → is_alias k ≡ false → used_by (declared_by trees k) ≡ []
-nothing-used trees (kind.Type_ t) e = absurd cc
-nothing-used trees (kind.Handle (handle.Own id)) e = refl
-nothing-used trees _ e = refl
+nothing-used trees x e = search std_rules
 
 pub contains-flat-from : {A B : Type 0} (f : A → List B) (xs : List A) (y : B) → Contains (flat_map f xs) y → (x : A) × Contains xs x × Contains (f x) y
 contains-flat-from f [] y c = none-in y c

@@ -21,7 +21,7 @@ use Rattle.plan_meaning.specs.NumberedMembers.{Homes, HomesStand, IsMember, Show
 use Rattle.plan_meaning.specs.NumberedWorlds.{HasPath, Shows, key_of, place_of_key, seen_of, shown_of}
 use Rattle.plan_parts.proofs.DeclaredKinds.{kinds_declared}
 use Rattle.plan_parts.specs.{Kept.AreMarked, Marks.is_marked, Interfaces.slot_part}
-use Rattle.plan_types.specs.PlannedTypes.{PlansType, named, unnamed}
+use Rattle.plan_types.specs.PlannedTypes.{PlansType, named as named_type, unnamed}
 use Rattle.plan_types.specs.Showings.{NumberedShowing, showing_of, showings_of_import, showings_of_members, showings_of_part, showings_of_seen, showings_of_shown, showings_of_view, signatures_of_members, signatures_of_part, signatures_of_seen, signatures_of_shown, signatures_of_view}
 use Rattle.plan_types.specs.Used.{declared_parts, form_parts, function_parts, showing_parts, signature_parts, used_parts, AreUsed}
 use Rattle.plan_type_laws.specs.ShownForms.{EachForm, FindsShown, FormsHold, itself, inside}
@@ -138,7 +138,7 @@ module _ (t : Tables) (tables : AreTables t) (P : Form → List ℕ → Type 0) 
           at_number (unnamed s s_at no_name a b c formed) =
               let same : s ≡ named_shape q name = same-some s (named_shape q name) (sym s_at ∙ there) in
               let wrong : ◌≡◌ {A = Option (ℕ × Text)} None (Some (q, name)) = sym no_name ∙ ap name_in same in absurd cc
-          at_number (named s r other y s_at is first a b c kind) = (y, first, kinds_declared t tables kept p many y.declared x.kind kind)
+          at_number (named_type s r other y s_at is first a b c kind) = (y, first, kinds_declared t tables kept p many y.declared x.kind kind)
 
           by : (m : ℕ) × (slice_get kept j ≡ Some m) × PlansType t kept find owners m x → (y : NumberedShowing) × (find n ≡ Some y) × DeclaresKind t kept p y.declared x.kind
           by found = at_number (subst (λ m. PlansType t kept find owners m x) (same-some found.0 n (sym found.1 ∙ stands)) found.2)

@@ -333,8 +333,10 @@ module _ (old : World) (st : IsWorld old) (more : List Shape) (more_fs : List Fu
 -- ---- what waits
 
 abbrev pub waits : Slot → ℕ
+waits (slots.Value part) = 0
+waits (slots.Resource part) = 0
+waits (slots.Function f) = 0
 waits (slots.Instance b around) = b.count
-waits _ = 0
 
 pub waiting_push : (used : List ℕ) (n : ℕ) (ss : List Slot) (s : Slot) → waiting used n (ss ++ s ∷ []) ≤ waiting used n ss + waits s
 waiting_push used n [] (slots.Value part) = omega arith
@@ -389,7 +391,8 @@ waiting_used used zero n (x ∷ ss) s at unused = here x (let same : x ≡ s = c
 
     here : (x : Slot) → x ≡ s → waiting (used ++ (n + 0) ∷ []) n (x ∷ ss) + waits s ≤ waiting used n (x ∷ ss)
     here (slots.Value part) e = let none = ap waits (sym e) in let rest = waiting_fewer used (n + 0) (suc n) ss in omega (arith, none, rest)
-    here _ e = let none = ap waits (sym e) in let rest = waiting_fewer used (n + 0) (suc n) ss in omega (arith, none, rest)
+    here (slots.Resource part) e = let none = ap waits (sym e) in let rest = waiting_fewer used (n + 0) (suc n) ss in omega (arith, none, rest)
+    here (slots.Function f) e = let none = ap waits (sym e) in let rest = waiting_fewer used (n + 0) (suc n) ss in omega (arith, none, rest)
     here (slots.Instance b around) e =
         let count = ap waits (sym e) in
         let rest = waiting_fewer used (n + 0) (suc n) ss in

@@ -1,5 +1,5 @@
 -- The beginning of a table is so many different pairs of the walk.
-use Rattle.std.proofs.Common.{arith, ◌≡◌, refl, sym, ap, subst, ◌∙◌, ℕ, zero, suc, ◌≤◌, Bool, true, false, ◌&&◌, ◌⊎◌, inl, inr, List, [], ◌∷◌, take, drop, length, nat_eq, Result, Ok, Err, OnOk, is_ok}
+use Rattle.std.proofs.Common.{rules as std_rules, arith, ◌≡◌, refl, sym, ap, subst, ◌∙◌, ℕ, zero, suc, ◌≤◌, Bool, true, false, ◌&&◌, ◌⊎◌, inl, inr, List, [], ◌∷◌, take, drop, length, nat_eq, Result, Ok, Err, OnOk, is_ok}
 use Rattle.std.proofs.lemmas.{List.take-append-drop, List.take_all, Bool.eq-eqb}
 use Rattle.std.proofs.lemmas.{List.Elements.Contains-append_left, List.Elements.Contains-append_cases, Map.Keys.IsDistinct-head, Map.Keys.IsDistinct-tail}
 use Rattle.std.specs.List.{Contains, IsDistinct, AllByRecursion}
@@ -51,14 +51,7 @@ counted r l prev new keys n all d w within settled = record {
 
 -- nothing has been compared
 pub none_counted : (r : Resolve) (prev new : World) (n : ℕ) → n ≡ 0 → IsCounted r prev new n false
-none_counted r prev new n e = record {
-  pairs = [];
-  different = tt;
-  walked = λ p c. absurd (let z = c.1 in omega (arith, z));
-  counted = sym e;
-  every = λ f. absurd (let z : ⊥ = cc in z);
-}
+none_counted r prev new n e = search std_rules
 
 pub ok_holds : {X E P : Type 0} (x : Result X E) → is_ok x ≡ true → OnOk x P → P
-ok_holds (Ok v) b p = p
-ok_holds (Err e) b p = absurd (let z : ⊥ = cc in z)
+ok_holds x b p = search std_rules

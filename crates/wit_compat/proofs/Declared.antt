@@ -1,5 +1,5 @@
 -- What the kinds of two `Resolve`s' types declare.
-use Rattle.std.proofs.Common.{arith, ◌≡◌, ◌↔◌, refl, sym, ap, subst, ◌∙◌, ◌⊎◌, inl, inr, ℕ, Bool, true, false, List, [], ◌∷◌, map, length, Some, None, is_some, unwrap_or, IsTrue, Vec, Result, Ok, Err, IfOk}
+use Rattle.std.proofs.Common.{rules as std_rules, arith, ◌≡◌, ◌↔◌, refl, sym, ap, subst, ◌∙◌, ◌⊎◌, inl, inr, ℕ, Bool, true, false, List, [], ◌∷◌, map, length, Some, None, is_some, unwrap_or, IsTrue, Vec, Result, Ok, Err, IfOk}
 use Rattle.std.proofs.{Math.ListN.length-map, lemmas.Option.slice_get_within as below_length}
 use Rattle.std.specs.declared.alloc.{Global.Global, AllocError.AllocError}
 use Rattle.std.specs.List.{Contains}
@@ -37,21 +37,16 @@ is_resource_declaration resource = true
 is_resource_declaration (type_ t) = false
 
 alias_kind : (k : TypeDefKind) (t : ValueType) → aliased k ≡ Some t → k ≡ kind.Type_ t
-alias_kind (kind.Type_ u) t e = ap (λ o. kind.Type_ (unwrap_or o u)) e
-alias_kind _ t e = let wrong : ⊥ = cc in absurd wrong
+alias_kind x t e = search std_rules
 
 resource_kind : (k : TypeDefKind) → is_resource_itself k ≡ true → k ≡ kind.Resource
-resource_kind kind.Resource e = refl
-resource_kind _ e = true_false (sym e)
+resource_kind x e = search std_rules
 
 is_resource_by : (trees : List Tree) (k : TypeDefKind) → is_resource_declaration (declared_by trees k) ≡ is_resource_itself k
-is_resource_by trees kind.Resource = refl
-is_resource_by trees _ = refl
+is_resource_by trees x = search std_rules
 
 own : (trees : List Tree) (k : TypeDefKind) → aliased k ≡ None → is_own (declared_by trees k) ≡ true
-own trees (kind.Type_ t) e = let wrong : ⊥ = cc in absurd wrong
-own trees (kind.Handle (handle.Own id)) e = refl
-own trees _ e = refl
+own trees x e = search std_rules
 
 -- a kind that is neither an alias nor a resource has a form
 formed : (k : TypeDefKind) → aliased k ≡ None → is_resource_itself k ≡ false → (f : Form) × (form_of k ≡ Some f)
@@ -79,9 +74,7 @@ module _ (r : Resolve) (v : IsValid r) where
 
   number_named : (n : ℕ) (def : TypeDef) → type_at r n ≡ Some def → (t : ValueType) → def.kind ≡ kind.Type_ t → passes (is_named_number r) (number_of t) ≡ true
   unfolding named_kinds
-  number_named n def at t is =
-      ap (λ k. passes (is_named_number r) (alias_target k)) (sym is)
-      ∙ second_true _ _ (each_from_at (named_kinds.type_ r) 0 r.types.items n def (lists_pass named_kinds r v.rules.named_kinds).3 at)
+  number_named n def at t is = search (std_rules, second_true, each_from_at, lists_pass)
 
   target_named : (k : TypeDefKind) → IsKindOf r k → (t : ValueType) → aliased k ≡ Some t → is_own (type_ (type_tree r t)) ≡ false
   target_named k w t e = by (number_case t)
@@ -132,14 +125,10 @@ module _ (d e : TypeDefKind) where
 
   -- a resource is a resource alone
   pub resource_first : (y : Bool) → is_resource_itself d ≡ true → y ≡ is_resource_itself e → TellsDeclared d e (look.Known y)
-  resource_first y p q a b va vb dk ek = (
-    λ t. ap (declared_by (trees_of a)) (resource_kind d p) ∙ sym (ap (declared_by (trees_of b)) (resource_kind e (sym q ∙ t))),
-    λ same. q ∙ sym (is_resource_by (trees_of b) e) ∙ ap is_resource_declaration (sym same) ∙ is_resource_by (trees_of a) d ∙ p,
-  )
+  resource_first y p q a b va vb dk ek = search std_rules
 
   pub resource_second : is_resource_itself d ≡ false → is_resource_itself e ≡ true → TellsDeclared d e (look.Known false)
-  resource_second p q a b va vb dk ek =
-      never _ (λ same. true_false (sym q ∙ sym (is_resource_by (trees_of b) e) ∙ ap is_resource_declaration (sym same) ∙ is_resource_by (trees_of a) d ∙ p))
+  resource_second p q a b va vb dk ek = search std_rules
 
   module _ (da : aliased d ≡ None) (ea : aliased e ≡ None) (dr : is_resource_itself d ≡ false) (er : is_resource_itself e ≡ false) where
     module _ (a b : Resolve) where
@@ -185,7 +174,4 @@ module _ (a b : Resolve) (n m : ℕ) (d e : TypeDef) (dat : type_at a n ≡ Some
   meaning_right = ap (λ o. Rattle.std.specs.Option.option_map_or (type_meaning b) o no_type) eat
 
   pub meanings : optional_text d.external_id ≡ optional_text e.external_id → (y : Bool) → (IsTrue y ↔ SameDeclared a b d.kind e.kind) → IsTrue y ↔ (type_meaning_at a n ≡ type_meaning_at b m)
-  meanings ids y h = (
-    λ t. let s = h.0 t in meaning_left ∙ (λ i. record { declaration = s i; external_id = ids i }) ∙ sym meaning_right,
-    λ same. h.1 (ap (λ (x : TypeMeaning). x.declaration) (sym meaning_left ∙ same ∙ meaning_right)),
-  )
+  meanings ids y h = search std_rules

@@ -1,5 +1,5 @@
 -- Entries that are found one by one, and the first that isn't.
-use Rattle.std.proofs.Common.{arith, ℕ, ◌≡◌, refl, sym, ap, subst, ◌∙◌, ◌+◌, ◌<◌, Bool, true, false, cond, ◌⊎◌, inl, inr, List, [], ◌∷◌, ◌++◌, map, take, drop, get_or, length, Option, Some, None, option_map}
+use Rattle.std.proofs.Common.{rules as std_rules, arith, ℕ, ◌≡◌, refl, sym, ap, subst, ◌∙◌, ◌+◌, ◌<◌, Bool, true, false, cond, ◌⊎◌, inl, inr, List, [], ◌∷◌, ◌++◌, map, take, drop, get_or, length, Option, Some, None, option_map}
 use Rattle.std.proofs.lemmas.List.{drop_more, map-append, take-append-drop}
 use Rattle.std.proofs.lemmas.List.Elements.{Contains-append_left, Contains-append_right, Contains-append_cases, Contains-push, Contains-push_cases}
 use Rattle.std.specs.List.{Contains}
@@ -15,8 +15,7 @@ use Rattle.base_lemmas.proofs.Elements.{last_of as contains_one, map_from as con
 -- ---- look-ups
 
 chosen : {X Y : Type 0} (f : X → Y) (b : Bool) (x : X) (o : Option X) → option_map f (cond b (Some x) o) ≡ cond b (Some (f x)) (option_map f o)
-chosen f true x o = refl
-chosen f false x o = refl
+chosen f x y o = search std_rules
 
 pub found_shown : (r : Resolve) (name : Name) (xs : List (Name × Thing)) → find_named name (all_shown r xs) ≡ option_map (shown r) (find_named name xs)
 found_shown r name [] = refl

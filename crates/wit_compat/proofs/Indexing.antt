@@ -1,5 +1,5 @@
 -- An index finds what its list has.
-use Rattle.std.proofs.Common.{◌≡◌, refl, sym, ap, ◌∙◌, ℕ, ◌+◌, ◌<◌, ◌==◌, subst, ◌⊎◌, inl, inr, Bool, true, false, ◌&&◌, cond, List, [], ◌∷◌, ◌++◌, map, take, length, get_or, Option, Some, None, option_map}
+use Rattle.std.proofs.Common.{rules as std_rules, ◌≡◌, refl, sym, ap, ◌∙◌, ℕ, ◌+◌, ◌<◌, ◌==◌, subst, ◌⊎◌, inl, inr, Bool, true, false, ◌&&◌, cond, List, [], ◌∷◌, ◌++◌, map, take, length, get_or, Option, Some, None, option_map}
 use Rattle.std.proofs.lemmas.{List.take_more, List.map-append, Slice.Eq.bytes_eq-Decides}
 use Rattle.std.proofs.lemmas.List.Elements.{Contains-append_left, Contains-append_right, Contains-push, Contains-push_cases}
 use Rattle.std.specs.{Borrow.Bor, List.Contains, Map.lookup, Option.is_none, Option.option_copied}
@@ -16,8 +16,7 @@ abbrev names_test : Entry → NumberedName → Bool
 names_test d k = (d.key.number == k.0) && text_eq d.name.now k.1.now
 
 either : (e : Entry) (x : Option Entry) (y : Option Thing) (b : Bool) → option_map thing_in x ≡ y → option_map thing_in (cond b (Some e) x) ≡ cond b (Some (thing_in e)) y
-either e x y true h = refl
-either e x y false h = h
+either e x y z h = search std_rules
 
 -- what is found by a key's number is what its text finds
 pub lookup_is : (d : Entry) (es : List (NumberedName × Entry)) → IsToldFrom d es → option_map thing_in (lookup (names_test d) es) ≡ find_named (named_thing d).0 (indexed es)
@@ -37,8 +36,7 @@ or_last (Some y) b x = Some y
 or_last None b x = cond b (Some x) None
 
 cond_last : {X : Type 0} (b c : Bool) (y x : X) (o : Option X) (f : Option X) → f ≡ or_last o c x → cond b (Some y) f ≡ or_last (cond b (Some y) o) c x
-cond_last true c y x o f h = refl
-cond_last false c y x o f h = h
+cond_last x c y z o f h = search std_rules
 
 find_last : {X : Type 0} (q : Name) (es : List (Name × X)) (e : Name × X) → find_named q (es ++ e ∷ []) ≡ or_last (find_named q es) (same_name q e.0) e.1
 find_last q [] e = refl
@@ -49,10 +47,7 @@ indexed-push [] e = refl
 indexed-push (d ∷ ds) e = ap (λ xs. ((d.1.key.text.now, d.0.1.now), thing_of d.1.part) ∷ xs) (indexed-push ds e)
 
 pub same_name_is : (a b : Name) → same_name a b ≡ true → a ≡ b
-same_name_is a b h =
-    let x = (bytes_eq-Decides a.0 b.0).0 (first_true (text_eq a.0 b.0) (text_eq a.1 b.1) h) in
-    let y = (bytes_eq-Decides a.1 b.1).0 (second_true (text_eq a.0 b.0) (text_eq a.1 b.1) h) in
-    λ i. (x i, y i)
+same_name_is a b h = search std_rules
 
 -- a name that is there already stays as it is
 stays : {X : Type 0} (q : Name) (es : List (Name × X)) (n : Name) (y x : X) → find_named n es ≡ Some y → or_last (find_named q es) (same_name q n) x ≡ find_named q es
@@ -68,16 +63,10 @@ module _ (es : List Entry) (i : ℕ) (e : Entry) (old : List (NumberedName × En
   more = ap (map named_thing) (take_more es i e lt) ∙ map-append named_thing (take i es) (get_or es i e ∷ []) ∙ ap (λ x. map named_thing (take i es) ++ named_thing x ∷ []) (sym is)
 
   pub index_more : (new : List (NumberedName × Entry)) → new ≡ old ++ ((e.key.number, e.name), e) ∷ [] → Indexes new (map named_thing (take (i + 1) es))
-  index_more new n q =
-      ap (λ x. find_named q (indexed x)) n ∙ ap (find_named q) (indexed-push old ((e.key.number, e.name), e))
-      ∙ find_last q (indexed old) (named_thing e)
-      ∙ ap (λ o. or_last o (same_name q (named_thing e).0) (named_thing e).1) (h q)
-      ∙ sym (find_last q (map named_thing (take i es)) (named_thing e)) ∙ ap (find_named q) (sym more)
+  index_more new n q = search (std_rules, indexed-push, find_last, more)
 
   pub index_stays : (y : Thing) → find_named (named_thing e).0 (indexed old) ≡ Some y → Indexes old (map named_thing (take (i + 1) es))
-  index_stays y f q =
-      h q ∙ sym (stays q (map named_thing (take i es)) (named_thing e).0 y (named_thing e).1 (sym (h (named_thing e).0) ∙ f))
-      ∙ sym (find_last q (map named_thing (take i es)) (named_thing e)) ∙ ap (find_named q) (sym more)
+  index_stays y f q = search (std_rules, stays, find_last, more)
 
 -- one entry more under its number
 pub come_more : (es : List Entry) (e : Entry) (old new : List (NumberedName × Entry)) → Contains es e → ComeFrom old es → new ≡ old ++ ((e.key.number, e.name), e) ∷ [] → ComeFrom new es
@@ -88,8 +77,7 @@ come_more es e old new at from n x c = by (Contains-push_cases old ((e.key.numbe
     by (inr q) = subst (λ (y : NumberedName × Entry). Contains es y.1 × (y.0.0 ≡ y.1.key.number)) q (at, refl)
 
 pub copied_none : {A : Type 0} (o : Option (Bor A)) → is_none o ≡ true → option_copied o ≡ None
-copied_none None e = refl
-copied_none (Some x) e = absurd (let z : ⊥ = cc in z)
+copied_none x e = search std_rules
 
 pub copied_some : {A : Type 0} (o : Option (Bor A)) → is_none o ≡ false → (x : A) × (option_copied o ≡ Some x)
 copied_some None e = absurd (let z : ⊥ = cc in z)

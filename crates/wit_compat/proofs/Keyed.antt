@@ -1,5 +1,5 @@
 -- Things and their keys: what an item shows is all under its key, and has its key's number.
-use Rattle.std.proofs.Common.{arith, ◌≡◌, refl, sym, ap, subst, ◌∙◌, ◌⊎◌, inl, inr, ℕ, List, [], ◌∷◌, ◌++◌, map, Option, Some, None}
+use Rattle.std.proofs.Common.{rules as std_rules, arith, ◌≡◌, refl, sym, ap, subst, ◌∙◌, ◌⊎◌, inl, inr, ℕ, List, [], ◌∷◌, ◌++◌, map, Option, Some, None}
 use Rattle.std.proofs.lemmas.{List.map-append, List.Elements.Contains-append_cases}
 use Rattle.std.specs.{List.Contains, Option.option_map_or}
 use Rattle.wit_model.specs.declared.model.{Resolve.Resolve, Interface.Interface, WorldItem.WorldItem}
@@ -52,9 +52,7 @@ things_of_entries (e ∷ es) = ap (λ ys. named_thing e ∷ ys) (things_of_entri
 -- more entries, all of one number
 module _ (old new : List Entry) (n : ℕ) (xs : List (Name × Thing)) (h : map numbered_thing new ≡ map numbered_thing old ++ map (with_number n) xs) where
   pub things_more : map named_thing new ≡ map named_thing old ++ xs
-  things_more =
-      sym (things_of_entries new) ∙ ap (map thing_in) h ∙ map-append thing_in (map numbered_thing old) (map (with_number n) xs)
-      ∙ (λ i. things_of_entries old i ++ things_in n xs i)
+  things_more = search (std_rules, things_of_entries, map-append, things_in)
 
   pub numbered_more : (ks js : BorrowedTexts) → KeepsNumbers ks js → AreNumbered ks old → ((x : Name × Thing) → Contains xs x → number_in js x.0.0 ≡ Some n) → AreNumbered js new
   numbered_more ks js kept before own e c =

@@ -1,5 +1,5 @@
 -- Lists in which the same is found have the same included, the same faults and the same pairs.
-use Rattle.std.proofs.Common.{◌≡◌, refl, sym, ap, subst, ◌∙◌, Bool, inl, inr, List, [], ◌∷◌, ◌++◌, map, option_map, Result, Ok, Err, OnOk, IfErr, MatchResult}
+use Rattle.std.proofs.Common.{rules as std_rules, ◌≡◌, refl, sym, ap, subst, ◌∙◌, Bool, inl, inr, List, [], ◌∷◌, ◌++◌, map, option_map, Result, Ok, Err, OnOk, IfErr, MatchResult}
 use Rattle.std.specs.{List.Contains, Option.option_map_or}
 use Rattle.wit_model.specs.declared.{model.Resolve.Resolve, error.Error.Error}
 use Rattle.wit_compat.specs.declared.part.Entry.{Entry}
@@ -48,5 +48,4 @@ entries_in_range_by r es xs is k e c = k (named_thing e) (subst (λ ys. Contains
 
 -- a result by its two cases
 pub by_result : {X E : Type 0} (P : Type 0) (Q : E → Type 0) (x : Result X E) → OnOk x P → IfErr x Q → MatchResult x (λ u. P) Q
-by_result P Q (Ok v) p q = p
-by_result P Q (Err e) p q = q
+by_result x y z p q = search std_rules

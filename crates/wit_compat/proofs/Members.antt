@@ -1,5 +1,5 @@
 -- What is found under a name, and what two interfaces have by name.
-use Rattle.std.proofs.Common.{◌≡◌, ◌↔◌, sym, ap, ◌∙◌, ℕ, Bool, false, List, Option, Some, None, option_map, IsTrue}
+use Rattle.std.proofs.Common.{rules as std_rules, ◌≡◌, ◌↔◌, sym, ap, ◌∙◌, ℕ, Bool, false, List, Option, Some, None, option_map, IsTrue}
 use Rattle.std.proofs.lemmas.Option.{same_Some as same-some}
 use Rattle.std.specs.List.{Contains, IsAmong}
 use Rattle.wit_model.specs.declared.model.{Resolve.Resolve, Interface.Interface}
@@ -34,7 +34,4 @@ module _ (a b : Resolve) where
   pub interfaces_exact : (n m : ℕ) (i j : Interface) (y : Bool) → interface_at a n ≡ Some i → interface_at b m ≡ Some j
       → (IsTrue y ↔ (interface_sense (interface_meaning a i) ≡ interface_sense (interface_meaning b j))) → IsTrue y
       ↔ (interface_sense (interface_meaning_at a n) ≡ interface_sense (interface_meaning_at b m))
-  interfaces_exact n m i j y iat jat h =
-      let left = ap interface_sense (interface_there a n i iat) in
-      let right = ap interface_sense (interface_there b m j jat) in
-      (λ t. left ∙ h.0 t ∙ sym right, λ same. h.1 (sym left ∙ same ∙ right))
+  interfaces_exact n m i j y iat jat h = search std_rules

@@ -1,5 +1,5 @@
 -- What interfaces are called.
-use Rattle.std.proofs.Common.{◌≡◌, refl, sym, ap, flat_map, get_or, append-nil, ◌∙◌, ℕ, zero, suc, ◌+◌, ◌<◌, Bool, true, false, cond, List, [], ◌∷◌, ◌++◌, take, length, arith, Option, Some, None}
+use Rattle.std.proofs.Common.{rules as std_rules, ◌≡◌, refl, sym, ap, flat_map, get_or, append-nil, ◌∙◌, ℕ, zero, suc, ◌+◌, ◌<◌, Bool, true, false, cond, List, [], ◌∷◌, ◌++◌, take, length, arith, Option, Some, None}
 use Rattle.std.proofs.lemmas.{List.take_more, List.Concat.flat_map-append}
 use Rattle.wit_model.specs.Text.{Text}
 use Rattle.std.specs.Option.{option_or}
@@ -7,8 +7,7 @@ use Rattle.wit_model.specs.declared.model.{Resolve.Resolve, Interface.Interface,
 use Rattle.wit_compat.specs.{Opened.entries_of_world, Opened.interface_name, Opened.is_item_of, Opened.label_among, Opened.label_of_key, Outline.names_from}
 
 chosen : {X : Type 0} (b : Bool) (x : X) (o p : Option X) → cond b (Some x) (option_or o p) ≡ option_or (cond b (Some x) o) p
-chosen true x o p = refl
-chosen false x o p = refl
+chosen x y o p = search std_rules
 
 -- the label in two lists is that in the first, or else in the second
 pub label_in_two : (n : ℕ) (xs ys : List (WorldKey × WorldItem)) → label_among n (xs ++ ys) ≡ option_or (label_among n xs) (label_among n ys)
@@ -34,8 +33,7 @@ label_more n e es None = by (is_item_of n e.1)
     by false = refl
 
 pub or_assoc : {X : Type 0} (a b c : Option X) → option_or (option_or a b) c ≡ option_or a (option_or b c)
-or_assoc (Some x) b c = refl
-or_assoc None b c = refl
+or_assoc x b c = search std_rules
 
 -- the entries of one world more
 pub worlds_more : (ws : List World) (i : ℕ) (w : World) → i < length ws → w ≡ get_or ws i w → flat_map entries_of_world (take (i + 1) ws) ≡ flat_map entries_of_world (take i ws) ++ entries_of_world w

@@ -1,5 +1,5 @@
 -- Texts by number: a number is one text's, and stays.
-use Rattle.std.proofs.Common.{◌≡◌, refl, sym, ap, ◌∙◌, ℕ, ◌+◌, ◌==◌, suc, ◌↔◌, IsTrue, Bool, true, false, cond, not, ◌||◌, List, [], ◌∷◌, ◌++◌, map, Option, Some, None, option_map, true≢false, arith}
+use Rattle.std.proofs.Common.{rules as std_rules, ◌≡◌, refl, sym, ap, ◌∙◌, ℕ, ◌+◌, ◌==◌, suc, ◌↔◌, IsTrue, Bool, true, false, cond, not, ◌||◌, List, [], ◌∷◌, ◌++◌, map, Option, Some, None, option_map, true≢false, arith}
 use Rattle.std.proofs.lemmas.{Bool.eqb-true, Bool.eq-eqb, List.map-append}
 use Rattle.std.specs.{Borrow.Bor, List.list_any, List.position_or_len}
 use Rattle.wit_model.specs.Text.{Text, text_eq}
@@ -12,8 +12,7 @@ abbrev is_text : Text → Bor (List ℕ) → Bool
 is_text t k = text_eq t k.now
 
 some_suc : (o : Option ℕ) (n : ℕ) → option_map suc o ≡ Some n → (m : ℕ) × (o ≡ Some m) × (suc m ≡ n)
-some_suc None n h = absurd (let z : ⊥ = cc in z)
-some_suc (Some m) n h = (m, refl, (let w : suc m ≡ n = cc in w))
+some_suc x n h = search std_rules
 
 -- ---- a text more
 
@@ -28,8 +27,7 @@ number-append (k ∷ ks) ls t n h = by (text_eq t k.now) h (number-append ks ls 
     by false e later = let w = some_suc (number_in ks t) n e in ap (option_map suc) (later w.0 w.1) ∙ ap Some w.2
 
 step : (b : Bool) (o : Option ℕ) (m : ℕ) → (b ≡ false → o ≡ Some m) → cond b (Some 0) (option_map suc o) ≡ Some (cond (not b) (1 + m) 0)
-step true o m h = refl
-step false o m h = ap (option_map suc) (h refl) ∙ ap Some (let e : suc m ≡ 1 + m = omega arith in e)
+step x o m h = search std_rules
 
 placed : (t : Text) (ks : BorrowedTexts) → list_any (is_text t) ks ≡ true → number_in ks t ≡ Some (position_or_len (is_text t) ks)
 placed t [] h = absurd (true≢false (sym h))
@@ -70,8 +68,7 @@ numbers_stay ks js (t ∷ ts) (n ∷ ns) kept h =
 -- the number of one text more
 pub numbers_more : (ks js : BorrowedTexts) (ts : List Text) (ns : List ℕ) (t : Text) (n : ℕ) → KeepsNumbers ks js → map (number_in ks) ts ≡ map Some ns → number_in js t ≡ Some n
     → map (number_in js) (ts ++ t ∷ []) ≡ map Some (ns ++ n ∷ [])
-numbers_more ks js ts ns t n kept h g =
-    map-append (number_in js) ts (t ∷ []) ∙ (λ i. numbers_stay ks js ts ns kept h i ++ g i ∷ []) ∙ sym (map-append Some ns (n ∷ []))
+numbers_more ks js ts ns t n kept h g = search (std_rules, map-append, numbers_stay)
 
 -- ---- one number, one text
 

@@ -1,5 +1,5 @@
 -- The four parts of a form tell which form it is.
-use Rattle.std.proofs.Common.{◌≡◌, refl, sym, ap, ◌∙◌, ℕ, ◌+◌, ◌<◌, Bool, true, false, ◌&&◌, List, [], ◌∷◌, map, Option, Some, None, Bor, String, zero, suc, get_or, length, arith}
+use Rattle.std.proofs.Common.{rules as std_rules, ◌≡◌, refl, sym, ap, ◌∙◌, ℕ, ◌+◌, ◌<◌, Bool, true, false, ◌&&◌, List, [], ◌∷◌, map, Option, Some, None, Bor, String, zero, suc, get_or, length, arith}
 use Rattle.std.proofs.{Math.Bool.beq, lemmas.Slice.Eq.bytes_eq-Decides, Math.ListN.length-map, Math.ListN.get_or-map}
 use Rattle.std.specs.Cmp.Lexicographic.{pointwise}
 use Rattle.std.specs.declared.alloc.Global.{Global}
@@ -55,9 +55,7 @@ zipped_back [] = refl
 zipped_back (c ∷ cs) = λ i. (c.0, c.1) ∷ zipped_back cs i
 
 form_back : (f : Option Form) → form_from (sort_of f) (labels_of f) (given_of f) (count_of f) ≡ f
-form_back (Some (record_of ls)) = refl
-form_back (Some (variant_of cs)) = λ i. Some (variant_of (zipped_back cs i))
-form_back _ = refl
+form_back x = search (std_rules, zipped_back)
 
 -- Forms of the same parts are the same.
 pub same_forms : (f g : Option Form) → sort_of f ≡ sort_of g → labels_of f ≡ labels_of g → given_of f ≡ given_of g → count_of f ≡ count_of g → f ≡ g
@@ -117,8 +115,7 @@ mapped_at f r k (i ∷ is) (suc n) d h = mapped_at f r (k + 1) is n d (omega (ar
 
 module _ (r : Resolve) (keys : BorrowedTexts) (numbers : List ℕ) (e : map (number_in keys) (interface_names r) ≡ map Some numbers) where
   pub numbers_length : length numbers ≡ length r.interfaces.items
-  numbers_length =
-      sym (length-map numbers Some) ∙ ap length (sym e) ∙ length-map (interface_names r) (number_in keys) ∙ length-names r 0 r.interfaces.items
+  numbers_length = search (std_rules, length-map, length-names)
 
   pub number_at : (n d : ℕ) → n < length r.interfaces.items → number_in keys (interface_name r n) ≡ Some (get_or numbers n d)
   number_at n d h =

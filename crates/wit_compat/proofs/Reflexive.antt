@@ -1,5 +1,5 @@
 -- A world whose keys stand once shows nothing twice, so it may take its own place.
-use Rattle.std.proofs.Common.{arith, ◌≡◌, refl, sym, ap, subst, ◌∙◌, ◌⊎◌, inl, inr, ℕ, ◌+◌, length, Bool, true, false, ◌&&◌, ◌||◌, not, cond, List, [], ◌∷◌, ◌++◌, map, Option, Some, None, String, option_map}
+use Rattle.std.proofs.Common.{rules as std_rules, arith, ◌≡◌, refl, sym, ap, subst, ◌∙◌, ◌⊎◌, inl, inr, ℕ, ◌+◌, length, Bool, true, false, ◌&&◌, ◌||◌, not, cond, List, [], ◌∷◌, ◌++◌, map, Option, Some, None, String, option_map}
 use Rattle.std.proofs.lemmas.List.Elements.{Contains-append_left, Contains-append_right, Contains-append_cases, Contains-push}
 use Rattle.std.proofs.lemmas.{Cmp.nat_list_eq_equiv, Slice.Eq.bytes_eq-Decides, Bool.ltb-true as is_below}
 use Rattle.std.specs.declared.alloc.Global.{Global}
@@ -96,36 +96,15 @@ no_label t h e = let wrong : false ≡ true = ap is_label (sym e) ∙ h in cc
 
 -- a function of a resource has a name that begins with its kind
 member_not_empty : (r : Resolve) (n : ℕ) (name : Text) (f : Function) (k : FunctionKind) → is_freestanding k ≡ false → is_member_of r n name f k ≡ true → text_of f.name ≡ [] → ⊥
-member_not_empty r n name f kind.Freestanding o h e = let z : ⊥ = cc in z
-member_not_empty r n name f kind.AsyncFreestanding o h e = let z : ⊥ = cc in z
-member_not_empty r n name f (kind.Constructor id) o h e =
-    let same : text_eq (text_of f.name) (constructor_name name) ≡ true = first_true (text_eq (text_of f.name) (constructor_name name)) (constructs r n f) h in
-    let wrong : false ≡ true = ap (λ (x : Text). text_eq x (constructor_name name)) (sym e) ∙ same in cc
-member_not_empty r n name f (kind.Method id) o h e =
-    let same : is_member_name (method_name name []) f ≡ true = first_true (is_member_name (method_name name []) f) (takes_self r n f) h in
-    let wrong : false ≡ true = ap (λ (x : Text). option_map_or is_label (after_prefix (method_name name []) x) false) (sym e) ∙ same in cc
-member_not_empty r n name f (kind.AsyncMethod id) o h e =
-    let same : is_member_name (method_name name []) f ≡ true = first_true (is_member_name (method_name name []) f) (takes_self r n f) h in
-    let wrong : false ≡ true = ap (λ (x : Text). option_map_or is_label (after_prefix (method_name name []) x) false) (sym e) ∙ same in cc
-member_not_empty r n name f (kind.Static id) o h e =
-    let wrong : false ≡ true = ap (λ (x : Text). option_map_or is_label (after_prefix (static_name name []) x) false) (sym e) ∙ h in cc
-member_not_empty r n name f (kind.AsyncStatic id) o h e =
-    let wrong : false ≡ true = ap (λ (x : Text). option_map_or is_label (after_prefix (static_name name []) x) false) (sym e) ∙ h in cc
+member_not_empty r n name f y o h e = search std_rules
 
 found_member : (r : Resolve) (n : ℕ) (f : Function) (k : FunctionKind) (name : Option Text) → is_freestanding k ≡ false → option_map_or (λ t. is_member_of r n t f k) name false ≡ true
     → text_of f.name ≡ [] → ⊥
-found_member r n f k None o h e = let z : ⊥ = cc in z
-found_member r n f k (Some name) o h e = member_not_empty r n name f k o h e
+found_member r n f k x o h e = search std_rules
 
 function_not_empty : (r : Resolve) (o : TypeOwner) (f : Function) (k : FunctionKind) → passes (λ n. option_map_or (λ t. is_member_of r n t f k) (resource_name r o n) false) (resource_of k) ≡ true
     → (not (is_freestanding k) || is_label (text_of f.name)) ≡ true → text_of f.name ≡ [] → ⊥
-function_not_empty r o f kind.Freestanding m l e = no_label (text_of f.name) l e
-function_not_empty r o f kind.AsyncFreestanding m l e = no_label (text_of f.name) l e
-function_not_empty r o f (kind.Constructor id) m l e = found_member r id.0 f (kind.Constructor id) (resource_name r o id.0) refl m e
-function_not_empty r o f (kind.Method id) m l e = found_member r id.0 f (kind.Method id) (resource_name r o id.0) refl m e
-function_not_empty r o f (kind.AsyncMethod id) m l e = found_member r id.0 f (kind.AsyncMethod id) (resource_name r o id.0) refl m e
-function_not_empty r o f (kind.Static id) m l e = found_member r id.0 f (kind.Static id) (resource_name r o id.0) refl m e
-function_not_empty r o f (kind.AsyncStatic id) m l e = found_member r id.0 f (kind.AsyncStatic id) (resource_name r o id.0) refl m e
+function_not_empty r o f x m l e = search std_rules
 
 -- ---- lists
 
@@ -134,9 +113,7 @@ module _ (r : Resolve) (v : IsValid r) where
 
   kept_listings : KeepsIn listings r lists.Interfaces
   unfolding listings order_of_types
-  kept_listings = each_from_all (listings.interface_ r) 0 r.interfaces.items (λ n x at.
-      first_true (list_all (is_named_of r (as_interface (0 + n))) (interface_type_numbers x)) (are_in_order r (interface_type_numbers x))
-      (each_from_at (order_of_types.interface_ r) 0 r.interfaces.items n x (lists_pass order_of_types r v.rules.order_of_types).1 at))
+  kept_listings = search (std_rules, each_from_all, first_true, each_from_at, lists_pass)
 
   module _ (n : ℕ) (i : Interface) (at : interface_at r n ≡ Some i) where
     abbrev misnamed : String Global × TypeId → Bool
@@ -227,9 +204,7 @@ module _ (r : Resolve) (v : IsValid r) where
   optional_apart k n (Some i) at = (members_not_empty n i at k, interface_members_apart n i at k)
 
   item_apart : (k : Text) (i : WorldItem) → AreApart (item_things r k i)
-  item_apart k (item.Function f) = one_apart ((k, []), of_function f)
-  item_apart k (item.Type_ id) = one_apart ((k, []), of_type (ty.Id id))
-  item_apart k (item.Interface id stability docs external_id) = optional_apart k id.0 (interface_at r id.0) refl
+  item_apart k x = search (std_rules, one_apart, optional_apart)
 
   entry_key : (es : List (WorldKey × WorldItem)) (x : Name × Thing) → Contains (things_of r es) x → (e : WorldKey × WorldItem) × Contains es e × (x.0.0 ≡ bare_key r e.0)
   entry_key [] x c = absurd (none_contained x c)
@@ -263,7 +238,4 @@ module _ (r : Resolve) (v : IsValid r) where
       (found_shown r w.0.0 (things_of r es) ∙ ap (option_map (shown r)) (stands_once (things_of r es) (things_apart es d) w.0 w.1))
 
   pub accepts_itself : (w : World) → HasKeysOnce r w → Accepts r w w
-  accepts_itself w h = record {
-    comparable = record { packages = refl; prev_keys = h; new_keys = h };
-    compatible = record { imports = included_in_itself w.imports.entries h.imports; exports = included_in_itself w.exports.entries h.exports };
-  }
+  accepts_itself w h = search (std_rules, included_in_itself)

@@ -1,5 +1,5 @@
 -- Texts that stand once, and the first that repeats an earlier one.
-use Rattle.std.proofs.Common.{arith, ◌≡◌, refl, sym, ap, subst, ◌∙◌, ◌⊎◌, inl, inr, true, false, cond, List, [], ◌∷◌, ◌++◌, append_assoc, map, Bor, ℕ, Option, None, Some, MatchOption, Result, Ok, Err, IfOk}
+use Rattle.std.proofs.Common.{rules as std_rules, arith, ◌≡◌, refl, sym, ap, subst, ◌∙◌, ◌⊎◌, inl, inr, true, false, cond, List, [], ◌∷◌, ◌++◌, append_assoc, map, Bor, ℕ, Option, None, Some, MatchOption, Result, Ok, Err, IfOk}
 use Rattle.std.proofs.lemmas.{List.map-append, Slice.Eq.bytes_eq-Decides, Bool.or_parts as neither}
 use Rattle.std.proofs.lemmas.List.Elements.{Contains-append_left, Contains-append_right, Contains-append_cases, Contains-push}
 use Rattle.std.specs.List.{list_any, AllByRecursion, Contains, IsDistinct}
@@ -81,14 +81,7 @@ repeated_first ts rest t f = record {
 }
 
 pub repeated_in_front : (xs ys : List (List Text)) (t : Text) → IsRepeatedIn xs t → IsRepeatedIn (xs ++ ys) t
-repeated_in_front xs ys t f = record {
-  front = f.front;
-  list = f.list;
-  rest = f.rest ++ ys;
-  split = ap (λ zs. zs ++ ys) f.split ∙ append_assoc f.front (f.list ∷ f.rest) ys;
-  before = f.before;
-  repeats = f.repeats;
-}
+repeated_in_front xs ys t f = search (std_rules, append_assoc)
 
 pub repeated_behind : (xs ys : List (List Text)) (t : Text) → ((ts : List Text) → Contains xs ts → IsDistinct text_eq ts) → IsRepeatedIn ys t → IsRepeatedIn (xs ++ ys) t
 repeated_behind xs ys t all f = record {
@@ -132,10 +125,8 @@ pub none_given : {X : Type 0} (P : Type 0) (Q : X → Type 0) (o : Option X) →
 none_given P Q o m e = subst (λ p. MatchOption p P Q) e m
 
 either_way : {X : Type 0} (P P' : Type 0) (Q Q' : X → Type 0) (o : Option X) → (P → P') → ((x : X) → Q x → Q' x) → MatchOption o P Q → MatchOption o P' Q'
-either_way P P' Q Q' None f g m = f m
-either_way P P' Q Q' (Some x) f g m = g x m
+either_way y z u v w f g m = search std_rules
 
 pub ok_either_way : {X E : Type 0} (P P' : Type 0) (Q Q' : X → Type 0) (r : Result (Option X) E) → (P → P') → ((x : X) → Q x → Q' x) → IfOk r (λ o. MatchOption o P Q)
     → IfOk r (λ o. MatchOption o P' Q')
-ok_either_way P P' Q Q' (Ok o) f g m = either_way P P' Q Q' o f g m
-ok_either_way P P' Q Q' (Err e) f g m = tt
+ok_either_way x y z u v f g m = search std_rules

@@ -1,5 +1,5 @@
 -- Two maps made of lists of entries are the same where their lists are as long, and each entry of the one is found in the other.
-use Rattle.std.proofs.Common.{◌≡◌, ◌↔◌, refl, ap, Bool, List, [], ◌∷◌, ◌++◌, map, Option, Some, None, option_map, option_to_list, is_some, IsTrue, sym, subst, ◌∙◌, arith, ◌≤◌, true, false, ◌||◌, cond, length, IsSome}
+use Rattle.std.proofs.Common.{rules as std_rules, ◌≡◌, ◌↔◌, refl, ap, Bool, List, [], ◌∷◌, ◌++◌, map, Option, Some, None, option_map, option_to_list, is_some, IsTrue, sym, subst, ◌∙◌, arith, ◌≤◌, true, false, ◌||◌, cond, length, IsSome}
 use Rattle.std.proofs.Math.ListN.{length-map}
 use Rattle.std.proofs.lemmas.{Cmp.nat_list_cmp_total, Cmp.nat_list_eq_equiv, Map.Keys.IsDistinct-cons, Map.Steps.length-le_from_keys}
 use Rattle.wit_model.specs.declared.model.{Resolve.Resolve, Function.Function, Param.Param, «Type».«Type» as ValueType}
@@ -66,10 +66,7 @@ module _ (a b : Resolve) where
       λ i. name i ∷ rest i
 
   given_back : (o p : Option ValueType) → option_map left o ≡ option_map right p → is_some o ≡ is_some p
-  given_back None None e = refl
-  given_back None (Some u) e = absurd (let z : ⊥ = cc in z)
-  given_back (Some t) None e = absurd (let z : ⊥ = cc in z)
-  given_back (Some t) (Some u) e = refl
+  given_back x y e = search std_rules
 
   module _ (f g : Function) where
     abbrev Same : Type 0
@@ -245,7 +242,4 @@ module _ {K A X : Type 0} (text : K → Text) (meaning : A → X) where
 module _ {K L A B X : Type 0} (text : K → Text) (other : L → Text) (f : A → X) (g : B → X) (es : List (K × A)) (fs : List (L × B)) where
   pub lengths_differ : IsDistinct text_eq (map text (keys_of es)) → IsDistinct text_eq (map other (keys_of fs)) → (length es ≡ length fs → ⊥)
       → from_entries (map (entry text f) es) ≡ from_entries {R = text_cmp} (map (entry other g) fs) → ⊥
-  lengths_differ d e differ same =
-      differ (sym (length-map es (entry text f))
-      ∙ as_long (map (entry text f) es) (map (entry other g) fs) (subst (IsDistinct text_eq) (sym (keys_are text f es)) d) (subst (IsDistinct text_eq) (sym (keys_are other g fs)) e) same
-      ∙ length-map fs (entry other g))
+  lengths_differ d e differ same = search (std_rules, length-map, as_long, keys_are)

@@ -1,5 +1,5 @@
 -- Types of two `Resolve`s, and the paths of their interfaces.
-use Rattle.std.proofs.Common.{arith, ◌≡◌, ◌↔◌, refl, sym, ap, subst, ◌∙◌, ◌⊎◌, inl, inr, ℕ, ◌+◌, ◌<◌, ◌≤◌, Bool, true, false, not, ◌||◌, cond, List, [], ◌∷◌, ◌++◌, take, map, length, get_or, slice_get, Option, Some, None, option_map, unwrap_or, is_some, IsTrue, String, Vec, Result, Ok, Err, IfOk}
+use Rattle.std.proofs.Common.{rules as std_rules, arith, ◌≡◌, ◌↔◌, refl, sym, ap, subst, ◌∙◌, ◌⊎◌, inl, inr, ℕ, ◌+◌, ◌<◌, ◌≤◌, Bool, true, false, not, ◌||◌, cond, List, [], ◌∷◌, ◌++◌, take, map, length, get_or, slice_get, Option, Some, None, option_map, unwrap_or, is_some, IsTrue, String, Vec, Result, Ok, Err, IfOk}
 use Rattle.std.proofs.{Math.ListN.length-map, lemmas.List.map-append, lemmas.List.take_all, lemmas.List.Elements.Contains-push_cases}
 use Rattle.std.proofs.lemmas.Option.{slice_get-get_or, slice_get-map, same_Some as some-same, slice_get_within as below_length}
 use Rattle.std.specs.declared.alloc.{Global.Global, AllocError.AllocError}
@@ -48,16 +48,10 @@ module _ (p q : Path) (known : IsKnown p) (known' : IsKnown q) where
       one_path (identity_of p.home.now) (identity_of q.home.now) (text_of p.name.now) (text_of q.name.now) known.identity known.label known'.identity known'.label same
 
   pub other_homes : (b : Bool) → b ≡ same_package_name p.home.now q.home.now → b ≡ false → IsTrue false ↔ (path_text p ≡ path_text q)
-  other_homes b is differ = (
-    λ t. let wrong : ⊥ = cc in absurd wrong,
-    λ same. sym differ ∙ is ∙ (same_name p.home.now q.home.now known.version known'.version).1 (parts_back same).0,
-  )
+  other_homes b is differ = search (std_rules, same_name, parts_back)
 
   pub one_home : (b : Bool) → b ≡ same_package_name p.home.now q.home.now → b ≡ true → (y : Bool) → (IsTrue y ↔ (text_of p.name.now ≡ text_of q.name.now)) → IsTrue y ↔ (path_text p ≡ path_text q)
-  one_home b is equal y h = (
-    λ t. let home = (same_name p.home.now q.home.now known.version known'.version).0 (sym is ∙ equal) in let name = h.0 t in λ i. path_in (home i) (name i),
-    λ same. h.1 (parts_back same).1,
-  )
+  one_home b is equal y h = search (std_rules, same_name, parts_back)
 
 -- ---- trees
 
@@ -65,12 +59,10 @@ no_some : {A B : Type 0} (x : A) → None ≡ Some x → B
 no_some x e = let wrong : ⊥ = cc in absurd wrong
 
 pub number_case : (u : ValueType) → (number_of u ≡ None) ⊎ ((id : TypeId) × (u ≡ ty.Id id))
-number_case (ty.Id id) = inr (id, refl)
-number_case _ = inl refl
+number_case x = search std_rules
 
 no_rank : (t : ValueType) → number_of t ≡ None → rank t ≡ 0
-no_rank (ty.Id id) e = no_some id.0 (sym e)
-no_rank _ e = refl
+no_rank x e = search std_rules
 
 -- an unnamed kind has a form
 form_there : (k : TypeDefKind) → is_named_kind k ≡ false → (f : Form) × (form_of k ≡ Some f)
@@ -102,10 +94,7 @@ module _ (r : Resolve) (v : IsValid r) (n : ℕ) (def : TypeDef) (at : type_at r
 
   unnamed_kind : is_some def.name ≡ false → is_named_kind def.kind ≡ false
   unfolding named_kinds
-  unnamed_kind e = not_or (is_named_kind def.kind) (is_some def.name)
-      (first_true (not (is_named_kind def.kind) || is_some def.name) (passes (is_named_number r) (alias_target def.kind))
-      (each_from_at (named_kinds.type_ r) 0 r.types.items n def (lists_pass named_kinds r v.rules.named_kinds).3 at))
-      e
+  unnamed_kind e = search (std_rules, not_or, first_true, each_from_at, lists_pass)
 
   -- an unnamed type is a form over what stands at its places
   pub unnamed_is : is_some def.name ≡ false → (f : Form) × (form_of def.kind ≡ Some f) × (number_tree r n ≡ node f (children (map (type_tree r) (places_of def.kind))))
@@ -149,8 +138,7 @@ module _ (r : Resolve) (v : IsValid r) (n : ℕ) (def : TypeDef) (at : type_at r
 -- ---- two types
 
 primitive_trees : (t : ValueType) → number_of t ≡ None → (trees more : List Tree) → tree_of trees t ≡ tree_of more t
-primitive_trees (ty.Id id) e trees more = no_some id.0 (sym e)
-primitive_trees _ e trees more = refl
+primitive_trees x e trees more = search std_rules
 
 name_no_node : (p : Place) (name : Text) (f : Form) (ts : Trees) → named p name ≡ node f ts → ⊥
 name_no_node p name f ts e = cc
@@ -275,9 +263,7 @@ module _ (a b : Resolve) (t u : ValueType) (xs ys : List ValueType) (w : IsParte
         ∙ sym (ap (map (type_tree b)) (take_more_at ys i y yat) ∙ map-append (type_tree b) (take i ys) (y ∷ []))
 
   pub all_parts : (i : ℕ) → length xs ≤ i → map (type_tree a) (take i xs) ≡ map (type_tree b) (take i ys) → SameType a b t u
-  all_parts i past e =
-      let l = w.alike in
-      w.same (ap (map (type_tree a)) (sym (take_all i xs past)) ∙ e ∙ ap (map (type_tree b)) (take_all i ys (omega (arith, past, l))))
+  all_parts i past e = search (std_rules, take_all)
 
 pub not_same : {P : Type 0} (y : Bool) → (IsTrue y ↔ P) → y ≡ false → P → ⊥
 not_same y h e p = let wrong : true ≡ false = sym (h.1 p) ∙ e in cc

@@ -1,5 +1,5 @@
 -- Worlds that may take each other's place in turn.
-use Rattle.std.proofs.Common.{◌≡◌, refl, ap, ◌∙◌, Bool, true, false, cond, sym, subst, List, [], ◌∷◌, Some, unwrap_or}
+use Rattle.std.proofs.Common.{rules as std_rules, ◌≡◌, refl, ap, ◌∙◌, Bool, true, false, cond, sym, subst, List, [], ◌∷◌, Some, unwrap_or}
 use Rattle.std.proofs.lemmas.List.Elements.{Contains-append_left, Contains-append_right, Contains-push}
 use Rattle.std.specs.List.{Contains}
 use Rattle.wit_model.specs.declared.model.{Resolve.Resolve, World.World}
@@ -23,10 +23,4 @@ module _ (r : Resolve) where
   found_included xs ys zs p q e c = q e (found_stands e.0 e.1 ys (p e c))
 
   pub accepts_through : (a b c : World) → Accepts r a b → Accepts r b c → Accepts r a c
-  accepts_through a b c p q = record {
-    comparable = record { packages = p.comparable.packages ∙ q.comparable.packages; prev_keys = p.comparable.prev_keys; new_keys = q.comparable.new_keys };
-    compatible = record {
-      imports = found_included _ _ _ p.compatible.imports q.compatible.imports;
-      exports = found_included _ _ _ q.compatible.exports p.compatible.exports;
-    };
-  }
+  accepts_through a b c p q = search (std_rules, found_included)

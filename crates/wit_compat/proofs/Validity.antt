@@ -1,5 +1,5 @@
 -- What a valid `Resolve` gives for comparing.
-use Rattle.std.proofs.Common.{arith, slice_get, get_or, ◌≤◌, ◌≡◌, refl, sym, ap, subst, ◌∙◌, ℕ, ◌+◌, ◌<◌, true, ◌&&◌, ◌⊎◌, inl, inr, List, [], ◌∷◌, map, filter_map, length, Option, Some, None, option_to_list, unwrap_or}
+use Rattle.std.proofs.Common.{rules as std_rules, arith, slice_get, get_or, ◌≤◌, ◌≡◌, refl, sym, ap, subst, ◌∙◌, ℕ, ◌+◌, ◌<◌, true, ◌&&◌, ◌⊎◌, inl, inr, List, [], ◌∷◌, map, filter_map, length, Option, Some, None, option_to_list, unwrap_or}
 use Rattle.std.proofs.lemmas.{List.Elements.Contains-append_cases, List.Folds.list_all-append, Option.slice_get_cases, Bool.ltb-true as is_below}
 use Rattle.std.specs.{List.Contains, List.list_all, Option.option_map_or}
 use Rattle.indexmap.specs.IndexMap.{values}
@@ -38,10 +38,7 @@ module _ (r : Resolve) where
       (sym (list_all-append (in_list r.types.items) (filter_map number_of (function_types f)) (option_to_list (resource_of f.kind))) ∙ h))
 
   number_in_range : (id : TypeId) → in_list r.types.items id.0 ≡ true → AllInRange r (ty.Id id ∷ [])
-  number_in_range id h t c other is =
-      let same : ty.Id id ≡ ty.Id other = contains_one (ty.Id id) t c ∙ is in
-      let number : id.0 ≡ other.0 = ap (λ x. unwrap_or (number_of x) 0) same in
-      subst (λ n. n < length r.types.items) number (is_below id.0 (length r.types.items) h)
+  number_in_range id h t c other is = search std_rules
 
   module _ (v : IsValid r) where
     pub interface_numbers : (n : ℕ) (i : Interface) → interface_at r n ≡ Some i → (list_all (λ id. in_list r.types.items id.0) (values i.types) ≡ true)

@@ -1,5 +1,5 @@
 -- Items of worlds of two `Resolve`s.
-use Rattle.std.proofs.Common.{◌≡◌, ◌↔◌, refl, sym, ap, subst, ◌∙◌, ◌⊎◌, inl, inr, ℕ, Bool, true, false, ◌&&◌, cond, List, [], ◌∷◌, ◌++◌, map, Option, Some, None, is_some, IsSome, option_map, IsTrue, String}
+use Rattle.std.proofs.Common.{rules as std_rules, ◌≡◌, ◌↔◌, refl, sym, ap, subst, ◌∙◌, ◌⊎◌, inl, inr, ℕ, Bool, true, false, ◌&&◌, cond, List, [], ◌∷◌, ◌++◌, map, Option, Some, None, is_some, IsSome, option_map, IsTrue, String}
 use Rattle.std.proofs.lemmas.{Map.Made.Contains-from_values_of, List.map-append, List.Elements.Contains-push_cases}
 use Rattle.std.specs.{Borrow.Bor, Option.option_copied, Option.option_map_or, FinMap.from_entries, List.Contains, Map.lookup, Map.values_of}
 use Rattle.std.specs.declared.alloc.Global.{Global}
@@ -46,17 +46,14 @@ module _ {X : Type 0} where
       by None p true s = let wrong : None ≡ Some y = sym p ∙ ap (λ k. under k es) (text-same q e.0 s) ∙ h in let z : ⊥ = cc in absurd z
 
 none_over : {X : Type 0} (o : Option X) → or_first o None ≡ o
-none_over None = refl
-none_over (Some x) = refl
+none_over x = search std_rules
 
 -- what a copy of what was lent is
 pub copied_there : {A : Type 0} (o : Option (Bor A)) → is_some o ≡ true → is_some (option_copied o) ≡ true
-copied_there None h = h
-copied_there (Some x) h = refl
+copied_there x h = search std_rules
 
 pub copied_missing : {A : Type 0} (o : Option (Bor A)) → is_some o ≡ false → option_copied o ≡ None
-copied_missing None h = refl
-copied_missing (Some x) h = let wrong : ⊥ = cc in absurd wrong
+copied_missing x h = search std_rules
 
 -- ---- the items of a list by their keys
 
@@ -76,10 +73,7 @@ module _ (r : Resolve) where
   nothing_made made rest all m e q = ap (λ es. or_first (under q (map (sense_entry r) es)) (under q (map key_entry rest))) m ∙ ap (λ es. under q (map key_entry es)) e
 
   pub all_made : (made : List BorrowedEntry) (rest all : List (WorldKey × WorldItem)) → IsSplit made rest all → rest ≡ [] → indexed_sense r made ≡ entries_sense (entries_meaning r all)
-  all_made made rest all s e =
-      maps_same (map (sense_entry r) made) (map key_entry all) (λ q. sym (none_over (under q (map (sense_entry r) made))) ∙ ap
-      (λ es. or_first (under q (map (sense_entry r) made)) (under q (map key_entry es))) (sym e) ∙ s q)
-      ∙ ap (from_entries {R = text_cmp}) (sym (senses_are all))
+  all_made made rest all s e = search (std_rules, maps_same, none_over, under, senses_are)
 
   module _ (made : List BorrowedEntry) (rest next all : List (WorldKey × WorldItem)) (k : WorldKey) (i : WorldItem) (s : IsSplit made rest all) (split : rest ≡ (k, i) ∷ next) where
     opened : (q : Text) → or_first (under q (map (sense_entry r) made)) (cond (text_eq q (key_text r k)) (Some (key_entry (k, i)).1) (under q (map key_entry next))) ≡ under q (map key_entry all)
@@ -154,10 +148,7 @@ world_there r n w at = ap (λ o. option_map_or (world_meaning r) o no_world) at
 
 pub worlds_exact : (a b : Resolve) (n m : ℕ) (v w : World) → world_at a n ≡ Some v → world_at b m ≡ Some w → (y : Bool)
     → (IsTrue y ↔ (world_sense (world_meaning a v) ≡ world_sense (world_meaning b w))) → IsTrue y ↔ (world_sense (world_meaning_at a n) ≡ world_sense (world_meaning_at b m))
-worlds_exact a b n m v w vat wat y h =
-    let left = ap world_sense (world_there a n v vat) in
-    let right = ap world_sense (world_there b m w wat) in
-    (λ t. left ∙ h.0 t ∙ sym right, λ same. h.1 (sym left ∙ same ∙ right))
+worlds_exact a b n m v w vat wat y h = search std_rules
 
 -- ---- what the page is for
 
