@@ -11,15 +11,6 @@ there xs ys same n q at =
     let within : n < length xs = subst (λ m. n < m) same (slice_get_within ys n q at) in
     (get_or xs n q, slice_get-get_or xs n q within)
 
-pub same_first : (xs : List Package) → ArePackages IsSameWithRoom xs xs
-same_first xs = record {
-  count = refl;
-  each = λ n p q at_p at_q. same n p q (sym at_p ∙ at_q);
-}
-  where
-    some : (p q : Package) → Some p ≡ Some q → p ≡ q
-    some p q e = cc
-
     same : (n : ℕ) (p q : Package) → Some p ≡ Some q → IsSameWithRoom p q
     same n p q e = subst (λ z. IsSameWithRoom p z) (some p q e) (record { name = refl; docs = refl; interfaces = refl; worlds = refl }, record { interfaces = omega arith; worlds = omega arith })
 
@@ -40,9 +31,6 @@ same_then xs ys zs a b = record {
 -- those in front have room
 abbrev pub HaveRoomBefore : ℕ → List Names → List Package → Type 0
 HaveRoomBefore i names packages = (k : ℕ) (n : Names) (p : Package) → k < i → slice_get names k ≡ Some n → slice_get packages n.«package».0 ≡ Some p → HasRoom n p
-
-pub room_first : (names : List Names) (packages : List Package) → HaveRoomBefore 0 names packages
-room_first names packages k n p before at_n at_p = absurd (omega (arith, before))
 
 still : (n : Names) (p q : Package) → HasRoom n p → IsSameWithRoom p q → HasRoom n q
 still n p q h s = record { interfaces = omega (arith, h.interfaces, s.1.interfaces); worlds = omega (arith, h.worlds, s.1.worlds) }

@@ -1,11 +1,10 @@
 -- How many are copied.
-use Rattle.std.proofs.Common.{rules as std_rules, ◌≡◌, refl, sym, ap, ◌∙◌, ℕ, ◌+◌, ◌≤◌, Bool, true, false, arith, List, [], ◌∷◌, ◌++◌, length, map}
+use Rattle.std.proofs.Common.{rules as std_rules, ◌≡◌, refl, ℕ, ◌+◌, ◌≤◌, Bool, true, false, arith, List, [], ◌∷◌, ◌++◌, length}
 use Rattle.std.specs.{List.AllZip, Prelude.Option}
 use Rattle.wit_model.specs.declared.model.{Interface.Interface, PackageId.PackageId, TypeDef.TypeDef}
 use Rattle.bind_carry.specs.declared.fate.Fate.{Fate}
-use Rattle.bind_carry.specs.{Fates.copied_types, Fates.copies, Fates.AreCopied, Fates.IsCopiedType, Fates.MeetsFate, BoundGains.AreInlineCopied, Whole.kept}
+use Rattle.bind_carry.specs.{Fates.copied_types, Fates.AreCopied, Fates.MeetsFate, BoundGains.AreInlineCopied, Whole.kept}
 use Rattle.bind_carry.specs.{Numbers.copied_count, TooLong.copies_of}
-use Rattle.bind_copy.specs.Copies.{IsInterfaceUnder}
 use Rattle.base_lemmas.proofs.Elements.{zip_long}
 use Rattle.bind_carry.specs.declared.fate.Fate.TheVariants as fate
 
@@ -44,10 +43,6 @@ types_counted (t ∷ ts) (fate.Copied home ∷ fs) long = let r = types_counted 
 pub counted_more : (own : ℕ) (numbers : List ℕ) (def : TypeDef) (f : Fate) (old new : List TypeDef) (n : ℕ) (fs left : List Fate) (whole : ℕ) → left ≡ f ∷ fs → MeetsFate own numbers def f old new n
     → length old + copies_of left ≡ whole → length new + copies_of fs ≡ whole
 counted_more own numbers def x old new n fs left whole at met so = search (std_rules, length_both)
-
--- where one more is to be copied, it counts
-pub counts_one : (f : Fate) (fs left : List Fate) → left ≡ f ∷ fs → copies f ≡ true → copies_of left ≡ copies_of fs + 1
-counts_one f fs left at h = ap copies_of at ∙ ap (λ b. copied_count (b ∷ map copies fs)) h
 
 -- behind what was added before stand as many as are copied
 pub copied_long : (own : ℕ) (numbers : List ℕ) (types : List TypeDef) (fates : List Fate) (old new : List TypeDef) → length fates ≡ length types → AreCopied own numbers types fates old new

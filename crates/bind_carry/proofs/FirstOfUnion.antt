@@ -1,6 +1,6 @@
 -- What a union adds, once it is added, has all that is carried by path.
 use Rattle.std.proofs.Common.{rules as std_rules, ◌≡◌, ◌⊎◌, inl, inr, refl, sym, ap, subst, ◌∙◌, ℕ, zero, suc, ◌+◌, ◌<◌, arith, Bool, true, false, ◌&&◌, ◌==◌, cond, List, [], ◌∷◌, ◌++◌, length, map, Option, Some, None, is_none, option_map, slice_get, unwrap_or, append-nil}
-use Rattle.std.proofs.lemmas.{Bool.eq-eqb, List.length-map, Option.slice_get_within as within_list}
+use Rattle.std.proofs.lemmas.{List.length-map, Option.slice_get_within as within_list}
 use Rattle.std.specs.{List.AllZip, Option.option_eq, Prelude.slice_set}
 use Rattle.semver.specs.declared.Version.{Version}
 use Rattle.semver.specs.Identifiers.{parts_of}
@@ -19,7 +19,7 @@ use Rattle.bind_carry.specs.declared.plan.Carried.{Carried}
 use Rattle.bind_carry.proofs.{FirstNumbers.uncopied_under, KeptPlaced.kept_placed, KeptPlaced.IsKeptAt}
 use Rattle.base_lemmas.proofs.{Bools.left_of as first_true, Bools.right_of as second_true, Lists.front_at, Lists.mapped_get as mapped_at}
 use Rattle.base_lemmas.proofs.Numbers.{equal, differ}
-use Rattle.wit_model.proofs.{VersionLaws.same_versions as version_parts, TextLemmas.text_same}
+use Rattle.wit_model.proofs.{TextLemmas.text_same}
 
 -- ---- Each package of the other stands in one of its name: in a new one, or in the own one that was found.
 

@@ -1,15 +1,14 @@
 -- Entries whose keys are new stand behind those that were there.
-use Rattle.std.proofs.Common.{rules as std_rules, ◌≡◌, refl, sym, ap, ◌∙◌, ℕ, Bool, true, false, not, ◌||◌, ◌==◌, cond, List, [], ◌∷◌, ◌++◌, append-nil, append_assoc, if◌then◌else◌}
-use Rattle.std.proofs.lemmas.{Slice.Eq.bytes_eq-Decides, Bool.and_from as both}
+use Rattle.std.proofs.Common.{rules as std_rules, ◌≡◌, refl, sym, ap, ◌∙◌, ℕ, Bool, true, false, not, ◌||◌, cond, List, [], ◌∷◌, ◌++◌, append-nil, append_assoc, if◌then◌else◌}
+use Rattle.std.proofs.lemmas.{Bool.and_from as both}
 use Rattle.std.specs.List.{filter, list_all, list_any, AllByRecursion, AllZip, IsDistinct}
 use Rattle.std.specs.Map.{keys_of}
 use Rattle.indexmap.specs.IndexMap.{insert_all, insert_entry}
-use Rattle.wit_model.specs.{Text.Text, Text.text_eq, Text.text_of, Valid.key_eq}
+use Rattle.wit_model.specs.{Valid.key_eq}
 use Rattle.wit_model.specs.declared.model.{WorldItem.WorldItem, WorldKey.WorldKey}
-use Rattle.bind_copy.specs.Copies.{become_one, is_key_under, is_new_under, number_under, IsEntryUnder, IsKeyUnder}
+use Rattle.bind_copy.specs.Copies.{become_one, is_key_under, is_new_under, IsEntryUnder, IsKeyUnder}
 use Rattle.bind_union.proofs.Lists.{no_true}
 use Rattle.base_lemmas.proofs.Bools.{left_of as first_true, right_of as second_true}
-use Rattle.wit_model.specs.declared.model.WorldKey.TheVariants as key
 
 -- what a filter leaves passes
 pub filter_passes : {X : Type 0} (p : X → Bool) (xs : List X) → list_all p (filter p xs) ≡ true
@@ -19,13 +18,6 @@ filter_passes p (x ∷ xs) = go (p x) refl (filter_passes p xs)
     go : (b : Bool) → p x ≡ b → list_all p (filter p xs) ≡ true → list_all p (cond b (x ∷ filter p xs) (filter p xs)) ≡ true
     go true e rest = both (p x) (list_all p (filter p xs)) e rest
     go false e rest = rest
-
-text_apart : (a b : Text) → text_eq a b ≡ false → text_eq b a ≡ false
-text_apart a b h = go (text_eq b a) refl
-  where
-    go : (t : Bool) → text_eq b a ≡ t → text_eq b a ≡ false
-    go false e = e
-    go true e = no_true (sym h ∙ (bytes_eq-Decides a b).1 (sym ((bytes_eq-Decides b a).0 e)))
 
 pub none_more : {X : Type 0} (p : X → Bool) (xs : List X) (y : X) → not (list_any p xs) ≡ true → p y ≡ false → not (list_any p (xs ++ y ∷ [])) ≡ true
 none_more p [] y h k = ap (λ b. not (b || false)) k

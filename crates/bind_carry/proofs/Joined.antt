@@ -1,18 +1,14 @@
 -- Names that a package gains join those that it had.
-use Rattle.std.proofs.Common.{rules as std_rules, ◌≡◌, refl, sym, ap, ap₂, ◌∙◌, ℕ, zero, suc, Bool, true, false, not, ◌==◌, ◌||◌, cond, List, [], ◌∷◌, map, option_map, ◌⊎◌, inl, inr, subst, Some, slice_get}
+use Rattle.std.proofs.Common.{rules as std_rules, ◌≡◌, refl, sym, ap, ap₂, ◌∙◌, ℕ, zero, suc, Bool, true, false, not, ◌||◌, cond, List, [], ◌∷◌, map, ◌⊎◌, inl, inr, subst, Some, slice_get}
 use Rattle.std.proofs.lemmas.Simd.{map-map}
 use Rattle.std.specs.{List.filter, List.list_all, List.list_any, List.AllZip, List.Contains, Prelude.String}
-use Rattle.wit_model.specs.declared.model.{Function.Function, FunctionKind.FunctionKind, «Type».«Type» as ValueType, WorldItem.WorldItem, WorldKey.WorldKey}
-use Rattle.wit_model.specs.declared.model.Param.{Param}
+use Rattle.wit_model.specs.declared.model.{Function.Function, FunctionKind.FunctionKind, WorldItem.WorldItem, WorldKey.WorldKey}
 use Rattle.wit_model.specs.{Parts.function_numbers, Text.Text, Text.text_of}
 use Rattle.bind_copy.specs.Copies.{is_key_under, is_new_under, number_under, IsEntryUnder, IsFunctionUnder, IsItemUnder, IsKeyUnder, call_under as call_under_numbers}
-use Rattle.bind_union.specs.{Carried.call_under, Carried.ItemBecomes, Carried.IsFunctionCopy, Carried.KeyBecomes, Carried.Renumbering, Views.renamed_type}
+use Rattle.bind_union.specs.{Carried.call_under, Carried.ItemBecomes, Carried.IsFunctionCopy, Carried.KeyBecomes, Carried.Renumbering}
 use Rattle.bind_union.specs.{Joined.is_new, Joined.same_key, Joined.Joined, Merged.is_name, Merged.JoinedNames}
 use Rattle.bind_carry.specs.ReadyItems.{AreReady, IsItemReady, IsKeyReady}
 use Rattle.std.specs.declared.alloc.Global.{Global}
-use Rattle.wit_model.specs.declared.model.FunctionKind.TheVariants as call
-use Rattle.wit_model.specs.declared.model.WorldItem.TheVariants as item
-use Rattle.wit_model.specs.declared.model.WorldKey.TheVariants as key
 use Rattle.bind_union.specs.Joined as joined
 use Rattle.bind_union.specs.Merged as names
 

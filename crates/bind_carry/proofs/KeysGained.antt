@@ -1,5 +1,5 @@
 -- Keys of the other's bound world stay apart under both numberings, and what is gained of them comes behind what was there.
-use Rattle.std.proofs.Common.{rules as std_rules, ◌≡◌, refl, sym, ap, subst, ◌∙◌, ℕ, false, ◌||◌, List, [], ◌∷◌, ◌++◌, append-nil, append_assoc, if◌then◌else◌, Bool, true, ◌==◌, ◌+◌, length, arith, Option, Some, None, is_none, is_some}
+use Rattle.std.proofs.Common.{rules as std_rules, ◌≡◌, refl, sym, ap, subst, ◌∙◌, ℕ, false, ◌||◌, List, [], ◌∷◌, ◌++◌, append_assoc, if◌then◌else◌, Bool, true, ◌==◌, ◌+◌, length, arith, Option, Some, None, is_none, is_some}
 use Rattle.std.proofs.lemmas.{List.Elements.AllZip-push, Map.Made.IsDistinct-keys_filter, Bool.and_from as both}
 use Rattle.std.specs.List.{list_any, AllZip, IsDistinct, list_all, AllByRecursion, filter, Contains}
 use Rattle.std.specs.{Map.keys_of, Option.option_map_or}

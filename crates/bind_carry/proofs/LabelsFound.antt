@@ -3,7 +3,7 @@ use Rattle.std.proofs.Common.{rules as std_rules, ◌≡◌, refl, sym, ap, ◌�
 use Rattle.std.proofs.lemmas.Slice.Eq.{bytes_eq-Decides}
 use Rattle.std.specs.{Prelude.String, List.AllByRecursion, List.IsDistinct, Map.keys_of, Map.lookup}
 use Rattle.std.specs.declared.alloc.Global.{Global}
-use Rattle.wit_model.specs.{Text.text_eq, Text.text_of, Valid.key_eq}
+use Rattle.wit_model.specs.{Text.text_of, Valid.key_eq}
 use Rattle.wit_model.specs.declared.model.{WorldItem.WorldItem, WorldKey.WorldKey}
 use Rattle.bind_union.proofs.Lists.{no_true}
 use Rattle.wit_model.specs.declared.model.WorldKey.TheVariants as key

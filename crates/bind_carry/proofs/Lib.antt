@@ -11,7 +11,8 @@ pub mod SettledParts
 pub mod FirstInterfaces
 -- Worlds that are carried by path have numbers of their own, and packages stand in packages of their names. Serves Addable, FirstCarried, FirstOfUnion, FirstWorlds and 11 more; crates above.
 pub mod FirstNumbers
--- Where copies of things stand whose flags are set, under the numbers that are given to them one behind the other. Serves FirstCarried, FirstOfUnion, Merged, PackagesStand and 2 more; crates above.
+-- Where copies of things stand whose flags are set, under the numbers that are given to them one behind the other. Serves FirstCarried, FirstOfUnion, MergedUnion, PackagesStand and 2 more; crates
+-- above.
 pub mod KeptPlaced
 -- What a union adds, once it is added, has all that is carried by path. Serves laws::of_unions; crates above.
 pub mod FirstOfUnion
@@ -57,24 +58,25 @@ pub mod Keeping
 pub mod LabelsFound
 -- With what the bound world gains, behind what is carried by path. Serves union::planned.
 pub mod ManyCarried
--- What the second pass begins with is known: from validity, from the first pass, and since the two worlds don't clash. Serves Merged, NothingElse, SecondBound, SecondCarried and 5 more; crates above.
+-- What the second pass begins with is known: from validity, from the first pass, and since the two worlds don't clash. Serves MergedUnion, NothingElse, SecondBound, SecondCarried and 5 more; crates
+-- above.
 pub mod SecondKnown
 -- Types of the other's bound world that stand for own ones: each has the number of the own type under its key. Serves SecondBound, SecondCarried, SecondInline, SecondInterfaces and 1 more; crates
 -- above.
 pub mod SecondMet
 -- Inline interfaces of the other's bound world that stand for own ones: each has the number of the own interface under its label. Serves SecondInterfaces.
 pub mod SecondInline
--- What the bound world gains is carried as the laws on unions ask for it: interfaces, and how numbers rise. Serves Merged, NothingElse, SecondBound, SecondCarried and 1 more; crates above.
+-- What the bound world gains is carried as the laws on unions ask for it: interfaces, and how numbers rise. Serves MergedUnion, NothingElse, SecondBound, SecondCarried and 1 more; crates above.
 pub mod SecondInterfaces
 -- Nothing else is added: each type, interface and world behind own ones is a copy of one of the passes. Serves laws::second_pass; crates above.
 pub mod NothingElse
--- Each package that is merged is an own one to which nothing comes, or one of the other stands in it. Serves Merged.
+-- Each package that is merged is an own one to which nothing comes, or one of the other stands in it. Serves MergedUnion.
 pub mod PackagesFrom
 -- Names that a package gains weren't there, so they come behind what was. Serves NamesCopied, NamesMerged, UnionDistinct; crates above.
 pub mod NamesGained
 -- Names that are copied into a map one behind the other, those that a test passes. Serves packages::interface_names, packages::world_names.
 pub mod NamesCopied
--- Each package of the other stands in one of what is merged: in a new one with all its names, or in the own one of its name, behind the names that were there. Serves Merged.
+-- Each package of the other stands in one of what is merged: in a new one with all its names, or in the own one of its name, behind the names that were there. Serves MergedUnion.
 pub mod PackagesStand
 -- Entries of the other's bound world: those whose keys are new are ready to be copied, and an own one stands for each of the others. Serves SecondBound.
 pub mod SecondReady

@@ -1,5 +1,5 @@
 -- With what the bound world gains, behind what is carried by path.
-use Rattle.std.proofs.Common.{rules as std_rules, ◌≡◌, subst, ℕ, List, length}
+use Rattle.std.proofs.Common.{rules as std_rules, ◌≡◌, ℕ, List, length}
 use Rattle.wit_model.specs.declared.model.{Resolve.Resolve, World.World}
 use Rattle.bind_add.specs.declared.added.Added.{Added}
 use Rattle.bind_match.specs.declared.matches.Matches.{Matches}

@@ -1,5 +1,5 @@
 -- Types that get numbers and places one after the other, and are moved there.
-use Rattle.std.proofs.Common.{rules as std_rules, ◌≡◌, refl, sym, ap, subst, ◌∙◌, ℕ, ◌+◌, ◌<◌, true, arith, List, [], ◌∷◌, ◌++◌, length, append_assoc}
+use Rattle.std.proofs.Common.{rules as std_rules, ◌≡◌, refl, sym, ap, ◌∙◌, ℕ, ◌+◌, ◌<◌, true, List, [], ◌∷◌, ◌++◌, length, append_assoc}
 use Rattle.wit_model.specs.declared.model.{TypeDef.TypeDef, TypeOwner.TypeOwner}
 use Rattle.bind_union.proofs.Lists.{no_true}
 use Rattle.bind_carry.specs.{Fates.copied_types, Fates.copies, Fates.numbers_by, Fates.IsCopiedType, TooLong.copies_of}

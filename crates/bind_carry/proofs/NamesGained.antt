@@ -1,5 +1,5 @@
 -- Names that a package gains weren't there, so they come behind what was.
-use Rattle.std.proofs.Common.{rules as std_rules, ◌≡◌, refl, sym, ap, ◌∙◌, ℕ, zero, suc, ◌<◌, arith, Bool, true, false, not, ◌&&◌, ◌||◌, cond, List, [], ◌∷◌, ◌++◌, length, map, append-nil, append_assoc, Option, Some, None, is_none, is_some, option_and_then, slice_get, string_eq, if◌then◌else◌}
+use Rattle.std.proofs.Common.{rules as std_rules, ◌≡◌, refl, sym, ap, ◌∙◌, ℕ, zero, suc, arith, Bool, true, false, not, ◌&&◌, ◌||◌, cond, List, [], ◌∷◌, ◌++◌, length, map, append-nil, append_assoc, Option, Some, is_none, is_some, option_and_then, slice_get, string_eq, if◌then◌else◌}
 use Rattle.std.proofs.lemmas.{List.length-map, Bool.and_from as both, Option.slice_get_within as within_list}
 use Rattle.std.specs.{Prelude.String, Map.keys_of, Map.lookup, HashMap.get_by_text}
 use Rattle.std.specs.List.{filter, list_all, list_any, AllByRecursion, AllZip, Contains, IsDistinct}
@@ -12,13 +12,13 @@ use Rattle.wit_model.specs.Rules.{interface_belongs, is_id, names_itself, passes
 use Rattle.wit_model.specs.Text.{Text, text_eq, text_of}
 use Rattle.wit_model.proofs.{Distinct.text_eq_flip, OnePath.found-in, OnePath.package-passes, TextLemmas.text_named as label_is, TextLemmas.text_same}
 use Rattle.bind_copy.specs.Copies.{number_under}
-use Rattle.bind_match.specs.Matching.{given, interface_in, is_root_world, own_interface_of, own_package_of, own_world_of, world_in}
+use Rattle.bind_match.specs.Matching.{given, interface_in, is_root_world, own_interface_of, own_world_of, world_in}
 use Rattle.bind_match.specs.declared.matches.Matches.{Matches}
 use Rattle.bind_union.proofs.Lists.{no_true}
 use Rattle.bind_carry.specs.{AddedApart.AreMatchedByName, InRange.IsInRange, Numbers.package_number as number_of_package, Which.new_worlds, Which.IsNumbered, First.flag_under, Listed.given_interface, Marked.AreChosen, Packaged.grown_packages}
 use Rattle.bind_carry.specs.declared.plan.Carried.{Carried}
 use Rattle.bind_carry.proofs.{CopiesPlaced.some_same, Ranges.is_in_range, FirstNumbers.uncopied_under, FirstOfUnion.found_number, FirstOfUnion.unflagged_found, InsertedBehind.none_more}
-use Rattle.base_lemmas.proofs.{Bools.left_of as first_true, Bools.right_of as second_true, Elements.all-contained, Elements.contains-later, Numbers.equal, Lists.mapped_get as mapped_at, Options.none_not_some}
+use Rattle.base_lemmas.proofs.{Bools.left_of as first_true, Bools.right_of as second_true, Elements.all-contained, Elements.contains-later, Lists.mapped_get as mapped_at, Options.none_not_some}
 
 -- ---- lists
 

@@ -17,7 +17,6 @@ use Rattle.wit_model.proofs.{Owners.function_home, Owners.named_met, Owners.owne
 use Rattle.bind_union.proofs.{Carrying.references_of, Lists.no_true, WorldRules.by_entries}
 use Rattle.bind_carry.specs.CarriedParts.{AreCarriedByOwner, PartsAreCarried, is_function_carried}
 use Rattle.base_lemmas.proofs.{Bools.left_of as first_true, Bools.right_of as second_true, Elements.all_three, Elements.all_two, Elements.all_weaker}
-use Rattle.wit_model.specs.declared.model.TypeDefKind.TheVariants as kind
 use Rattle.wit_model.specs.declared.model.TypeOwner.TheVariants as owner
 use Rattle.wit_model.specs.declared.model.WorldItem.TheVariants as item
 

@@ -8,7 +8,7 @@ use Rattle.bind_match.specs.declared.matches.Matches.{Matches}
 use Rattle.bind_copy.specs.Copies.{all_below}
 use Rattle.bind_union.specs.Views.{kind_view, view_numbers}
 use Rattle.bind_carry.specs.{Bound.bound_interfaces, BoundGains.bound_fates, Numbers.copied_count, Which.AreMatchedAll, Whole.kept, Whole.IsInterfaceCarried}
-use Rattle.bind_carry.specs.{Fates.copied_types, Fates.numbers_by, Fates.AreCopied, Fates.IsCopiedType, Moved.AreMoved, Moved.IsInterfaceBelow, Union.IsUnionOf}
+use Rattle.bind_carry.specs.{Fates.copied_types, Fates.AreCopied, Fates.IsCopiedType, Moved.AreMoved, Moved.IsInterfaceBelow, Union.IsUnionOf}
 use Rattle.bind_carry.specs.{First.first_fates, InRange.IsInRange, Planned.IsPlanned, TooLong.copies_of}
 use Rattle.bind_carry.specs.declared.plan.Planned.{Planned}
 use Rattle.base_lemmas.proofs.Elements.{all_weaker, zip_long}

@@ -1,6 +1,6 @@
 -- A valid `Resolve` is in range.
-use Rattle.std.proofs.Common.{rules as std_rules, ◌≡◌, refl, sym, ap, ◌∙◌, ℕ, ◌≤◌, Bool, true, false, ◌&&◌, nat_lt, ltb-true, List, [], ◌∷◌, ◌++◌, length, map, filter_map, Option, Some, None, option_to_list, slice_get}
-use Rattle.std.proofs.lemmas.{List.Folds.list_all-append, List.Folds.list_all-map, Bool.lt-ltb, Bool.ltb-false}
+use Rattle.std.proofs.Common.{rules as std_rules, ◌≡◌, refl, sym, ap, ◌∙◌, ℕ, ◌≤◌, Bool, true, false, ◌&&◌, nat_lt, ltb-true, List, [], ◌∷◌, ◌++◌, length, map, filter_map, Option, Some, option_to_list, slice_get}
+use Rattle.std.proofs.lemmas.{List.Folds.list_all-append, List.Folds.list_all-map, Bool.ltb-false}
 use Rattle.std.specs.{Prelude.String, List.list_all, Option.option_map_or}
 use Rattle.std.specs.declared.alloc.Global.{Global}
 use Rattle.indexmap.specs.IndexMap.{values}
@@ -17,10 +17,6 @@ use Rattle.bind_union.proofs.{Carrying.references_of, Carrying.refers_below, Ima
 use Rattle.bind_carry.specs.{Fates.FallBelow, InRange.IsInRange, Listed.are_interfaces_below, Listed.are_worlds_below, Listed.IsHomeBelow, Listed.IsOwnerBelow}
 use Rattle.bind_carry.specs.{BoundGains.are_types_below, Shown.are_keys_below, Shown.type_in, Shown.AreNewShownBelow, Shown.AreShownBelow, Shown.IsShownBelow}
 use Rattle.base_lemmas.proofs.{Bools.left_of as first_true, Bools.right_of as second_true, Lists.within_there as there}
-use Rattle.wit_model.specs.declared.model.FunctionKind.TheVariants as call
-use Rattle.wit_model.specs.declared.model.TypeOwner.TheVariants as owner
-use Rattle.wit_model.specs.declared.model.WorldItem.TheVariants as item
-use Rattle.wit_model.specs.declared.model.WorldKey.TheVariants as key
 
 -- ---- functions
 

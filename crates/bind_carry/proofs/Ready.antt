@@ -1,17 +1,16 @@
 -- What is carried of a `Resolve` in range can be copied, and so can what the bound world gains.
 use Rattle.std.proofs.Common.{rules as std_rules, ◌≡◌, sym, ap, subst, ◌∙◌, ℕ, ◌+◌, Bool, true, List, length, map, is_none, Some}
 use Rattle.std.proofs.lemmas.List.{length-map}
-use Rattle.std.specs.Prelude.{Err, Ok, OnOk, Result}
+use Rattle.std.specs.Prelude.{OnOk, Result}
 use Rattle.wit_model.specs.Lookup.{interface_at, type_at, world_at}
 use Rattle.wit_model.specs.declared.model.{Interface.Interface, Resolve.Resolve, TypeDef.TypeDef, TypeOwner.TypeOwner, WorldItem.WorldItem, WorldKey.WorldKey}
 use Rattle.wit_model.specs.declared.model.World.{World}
 use Rattle.bind_copy.specs.Copies.{are_names_below, AreEntriesBelow, AreFunctionsBelow}
 use Rattle.bind_match.specs.declared.matches.Matches.{Matches}
-use Rattle.bind_carry.specs.{Bound.IsBoundReady, Fates.AreCopied, InRange.IsInRange, Numbers.numbers_of, Which.AreMatchedAll, Which.IsNumbered, First.adds_any, First.fate_of, First.first_fates, First.second_from, First.IsHomeIn, Shown.are_keys_below, Shown.AreNewShownBelow, Listed.are_interfaces_below, Listed.are_worlds_below, Listed.IsHomeBelow, Listed.IsOwnerBelow, Over.IsCarriedReady}
-use Rattle.bind_carry.specs.BoundGains.{are_types_below, bound_fates, gains_any, unified, AreWorldKeysBelow}
+use Rattle.bind_carry.specs.{Bound.IsBoundReady, Fates.AreCopied, InRange.IsInRange, Numbers.numbers_of, Which.AreMatchedAll, Which.IsNumbered, First.adds_any, First.fate_of, First.first_fates, First.IsHomeIn, Shown.AreNewShownBelow, Listed.are_interfaces_below, Listed.are_worlds_below, Listed.IsHomeBelow, Listed.IsOwnerBelow, Over.IsCarriedReady}
+use Rattle.bind_carry.specs.BoundGains.{are_types_below, bound_fates, AreWorldKeysBelow}
 use Rattle.bind_carry.specs.declared.{fate.Fate.Fate, plan.Carried.Carried}
 use Rattle.bind_carry.proofs.{CopiesPlaced.numbers_by_long, Numbering.numbers_long, SettledParts.settled_long, Ranges.keys_below, Ranges.new_shown_below, Ranges.types_below, SecondInitial.second_long, SecondInitial.unified_long}
-use Rattle.wit_model.specs.declared.model.TypeOwner.TheVariants as owner
 
 -- an owner's interface is in range, where the owner is
 pub home_in : (interfaces worlds : ℕ) (o : TypeOwner) → IsOwnerBelow interfaces worlds o → IsHomeIn interfaces o

@@ -15,7 +15,6 @@ use Rattle.bind_carry.specs.declared.plan.Carried.{Carried}
 use Rattle.bind_carry.proofs.{CopiesPlaced.some_same, WorldEntries.any_place, WorldEntries.import_keyed, WorldEntries.import_range, WorldEntries.label_new, LabelsFound.label_held, SecondMet.second, SecondKnown.exports_shown, SecondKnown.imports_shown, SecondInitial.gained_flag, SecondInitial.is_gained, SecondInitial.is_shown_new}
 use Rattle.bind_carry.proofs.FirstWorlds.{count, count_front, inline_once, shown_count, sum_two}
 use Rattle.base_lemmas.proofs.{Bools.left_of as first_true, Bools.right_of as second_true, Numbers.equal, Numbers.same-number}
-use Rattle.wit_model.specs.declared.model.WorldItem.TheVariants as item
 use Rattle.wit_model.specs.declared.model.WorldKey.TheVariants as key
 
 -- ---- lists

@@ -5,7 +5,7 @@ use Rattle.std.specs.{Prelude.String, List.Contains, Map.lookup, Option.option_m
 use Rattle.std.specs.declared.alloc.Global.{Global}
 use Rattle.wit_model.specs.declared.model.{Interface.Interface, InterfaceId.InterfaceId, TypeOwner.TypeOwner, WorldItem.WorldItem, WorldKey.WorldKey, Resolve.Resolve, TypeDef.TypeDef, TypeId.TypeId, World.World}
 use Rattle.wit_model.specs.{Lookup.interface_at, Lookup.key_text, Lookup.type_at, Lookup.world_at, Meaning.item_sense, Meaning.Entry, Meaning.InterfaceSense, Meant.item_meaning, Rules.item_type, Text.text_of, Valid.IsValid, Valid.as_interface, Valid.as_world, Valid.key_eq}
-use Rattle.wit_model.proofs.{Elements.contains-get, TextLemmas.text_same as text-same}
+use Rattle.wit_model.proofs.{Elements.contains-get}
 use Rattle.bind_copy.specs.Copies.{is_new_under, number_under}
 use Rattle.bind_match.specs.declared.matches.Matches.{Matches}
 use Rattle.bind_union.specs.Carried.{carries_owner, Renumbering}

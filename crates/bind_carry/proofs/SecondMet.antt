@@ -1,7 +1,7 @@
 -- Types of the other's bound world that stand for own ones: each has the number of the own type under its key.
 use Rattle.std.proofs.Common.{rules as std_rules, ◌≡◌, ◌⊎◌, inl, inr, refl, sym, ap, ◌∙◌, ℕ, ◌+◌, Bool, true, false, ◌&&◌, ◌||◌, ◌==◌, List, [], length, Option, Some, None, is_some, option_map, slice_get, unwrap_or, if◌then◌else◌, ◌<◌, arith, option_and_then}
 use Rattle.std.proofs.lemmas.{Bool.or_right, Option.slice_get_within}
-use Rattle.std.specs.{List.list_all, List.Contains, Option.option_map_or, Map.lookup}
+use Rattle.std.specs.{List.Contains, Option.option_map_or, Map.lookup}
 use Rattle.wit_model.specs.declared.model.{Interface.Interface, InterfaceId.InterfaceId, TypeOwner.TypeOwner, WorldItem.WorldItem, WorldKey.WorldKey}
 use Rattle.wit_model.specs.declared.model.{Resolve.Resolve, TypeDef.TypeDef, WorldId.WorldId, World.World, TypeId.TypeId}
 use Rattle.wit_model.specs.{Lookup.interface_at, Lookup.interface_path, Lookup.type_at, Lookup.key_text, Valid.IsValid, Valid.as_interface, Valid.key_eq}
@@ -16,7 +16,7 @@ use Rattle.bind_union.proofs.{Images.numbers_of_view, Namesakes.target_home, Nam
 use Rattle.bind_carry.specs.{BoundGains.gains_any, BoundGains.unified, BoundGains.type_under_key, FirstPass.IsFirstPass, SecondPass.IsSecondPass, Shown.type_in}
 use Rattle.bind_carry.specs.Fates.{are_carried, carries, copies, is_carried, settled, settled_from, FallBelow}
 use Rattle.bind_carry.specs.First.{beside_first, first_fates, flag_under, is_named_at, second_from, second_in}
-use Rattle.bind_carry.specs.{Initial.IsInitial, Renumbered.first_of, Renumbered.is_copied, Renumbered.is_matched, Renumbered.met_under, Renumbered.second_of}
+use Rattle.bind_carry.specs.{Initial.IsInitial, Renumbered.first_of, Renumbered.is_copied, Renumbered.met_under, Renumbered.second_of}
 use Rattle.bind_carry.specs.declared.{fate.Fate.Fate, plan.Carried.Carried}
 use Rattle.bind_carry.proofs.{CopiesPlaced.stands_under, CopiesPlaced.some_same, FirstNumbers.named_of_path, FirstNumbers.there_of_path}
 use Rattle.bind_carry.proofs.SecondInitial.{before_at, second_starts, IsBefore, IsKnown, unified_at, IsUnified, second_long, unified_set}

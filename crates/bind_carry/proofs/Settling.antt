@@ -1,16 +1,14 @@
 -- Types that meet their fates one by one.
-use Rattle.std.proofs.Common.{rules as std_rules, ◌≡◌, refl, sym, ap, subst, ◌∙◌, ℕ, ◌+◌, ◌<◌, true, arith, List, [], ◌∷◌, ◌++◌, length, map, nat_lt, Option, Some, None, option_map, zero, suc, append_assoc, append-nil}
+use Rattle.std.proofs.Common.{rules as std_rules, ◌≡◌, refl, sym, ap, subst, ◌∙◌, ℕ, ◌+◌, ◌<◌, true, arith, List, [], ◌∷◌, ◌++◌, length, map, nat_lt, Option, option_map, zero, suc, append_assoc, append-nil}
 use Rattle.std.proofs.lemmas.{Bool.ltb-true, List.Folds.list_all-append}
 use Rattle.std.specs.List.{flat_map, AllZip}
 use Rattle.wit_model.specs.Text.{Text}
 use Rattle.wit_model.specs.declared.model.{TypeDef.TypeDef, TypeOwner.TypeOwner, «Type».«Type» as ValueType}
 use Rattle.bind_copy.specs.Copies.{all_below, number_under, IsTypeUnder}
-use Rattle.bind_union.specs.Views.{kind_view, optional_numbers, renamed, renamed_type, type_numbers, view_numbers, KindView, record_view, variant_view, flags_view, enum_view, tuple_view, resource_view, own_view, borrow_view, option_view, result_view, list_view, map_view, fixed_list_view, future_view, stream_view, alias_view}
+use Rattle.bind_union.specs.Views.{kind_view, optional_numbers, renamed, renamed_type, type_numbers, view_numbers, KindView, record_view, variant_view, tuple_view, own_view, borrow_view, option_view, result_view, list_view, map_view, fixed_list_view, future_view, stream_view, alias_view}
 use Rattle.bind_carry.specs.declared.fate.Fate.{Fate}
 use Rattle.bind_carry.specs.Fates.{copied_types, numbers_by, AreCopied, AreCopiedSoFar, IsCopiedType, MeetsFate}
 use Rattle.base_lemmas.proofs.Bools.{left_of as first_true, right_of as second_true}
-use Rattle.wit_model.specs.declared.model.«Type».TheVariants as ty
-use Rattle.bind_carry.specs.declared.fate.Fate.TheVariants as fate
 
 -- ---- numbers that agree below a bound
 

@@ -1,5 +1,5 @@
 -- No map of what was merged has a key twice: what is inserted keeps keys apart, and copies have the names of what they are of.
-use Rattle.std.proofs.Common.{rules as std_rules, ◌≡◌, sym, ap, subst, ◌∙◌, ℕ, Bool, not, List, ◌++◌, length, Some, slice_get, string_eq, ◌⊎◌, inl, inr, refl, zero, suc, arith, true, false, [], ◌∷◌, map, Option, slice_set, if◌then◌else◌}
+use Rattle.std.proofs.Common.{rules as std_rules, ◌≡◌, sym, ap, subst, ◌∙◌, ℕ, Bool, not, List, ◌++◌, Some, slice_get, string_eq, ◌⊎◌, inl, inr, refl, zero, suc, arith, true, false, [], ◌∷◌, map, Option, slice_set, if◌then◌else◌}
 use Rattle.std.proofs.lemmas.{List.length-map, Map.Made.IsDistinct-keys_filter, Option.slice_get_within}
 use Rattle.std.specs.{Prelude.String, List.filter, List.AllZip, List.AllByRecursion, List.IsDistinct, Map.keys_of}
 use Rattle.std.specs.declared.alloc.Global.{Global}
@@ -8,7 +8,7 @@ use Rattle.wit_model.specs.declared.model.{InterfaceId.InterfaceId, Interface.In
 use Rattle.wit_model.specs.declared.model.{Package.Package, Resolve.Resolve, World.World, WorldId.WorldId, TypeId.TypeId}
 use Rattle.wit_model.specs.{Lookup.package_at, Lookup.interface_at, Lookup.world_at, Valid.IsValid, Valid.key_eq, Text.Text, Text.text_eq, Text.text_of}
 use Rattle.bind_add.specs.declared.added.{Names.Names, Added.Added}
-use Rattle.bind_match.specs.Matching.{is_root_world, own_interface_of, own_package_of, own_world_of}
+use Rattle.bind_match.specs.Matching.{is_root_world}
 use Rattle.bind_match.specs.declared.matches.Matches.{Matches}
 use Rattle.bind_carry.specs.{AddedApart.AreMatchedByName, AddedApart.UnionsAreApart, Marked.AreChosen, Which.AreMatchedAll, Which.IsNumbered, Union.IsUnionOf}
 use Rattle.bind_carry.specs.Packaged.{grown_packages, is_copied_interface, is_copied_world, IsGained, IsInterfaceName, IsWorldName, IsPackageCarried}
@@ -18,12 +18,11 @@ use Rattle.bind_carry.specs.declared.plan.Carried.{Carried}
 use Rattle.bind_carry.proofs.CopiesPlaced.{some_same}
 use Rattle.bind_carry.proofs.{KeysGained.chosen, KeysGained.exports_behind, KeysGained.imports_behind, KeysGained.by_path_apart, FirstOfUnion.some_gains}
 use Rattle.bind_carry.proofs.NamesGained.{copied_interface, copied_world, distinct_along, fresh_along, fresh_behind, grown_of, home_of, is_fresh, passes_of_filter, world_of, IsGrownOf, IsHome}
-use Rattle.base_lemmas.proofs.{Bools.left_of as first_true, Elements.zip_at_right as zip_at, Lists.within_there, Numbers.turned as number_flip}
+use Rattle.base_lemmas.proofs.{Bools.left_of as first_true, Elements.zip_at_right as zip_at, Lists.within_there}
 use Rattle.wit_model.proofs.Distinct.{text_eq_flip}
 use Rattle.bind_add.specs.Growth.{GainsNone, HasGained, HasGainedItems, IsAdded}
 use Rattle.bind_copy.specs.Copies.{become_one, is_new_under, names_in, type_names, AreNewCopied, IsEntryUnder, IsFunctionEntry, IsInterfaceUnder, IsKeyUnder}
 use Rattle.bind_copy.proofs.{Gained.same_images, CopiesLemmas.names_alone_under}
-use Rattle.wit_model.specs.declared.model.WorldKey.TheVariants as key
 
 -- ---- What a union adds stands under keys that weren't there.
 

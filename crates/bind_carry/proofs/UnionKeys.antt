@@ -12,7 +12,7 @@ use Rattle.bind_copy.specs.Copies.{is_key_under, is_new_under, number_under, IsE
 use Rattle.bind_match.specs.declared.matches.Matches.{Matches}
 use Rattle.bind_union.specs.Carried.{IsCarried, IsInterface, Renumbering}
 use Rattle.bind_union.proofs.{Carrying.path_by, Carrying.path_parts, Carrying.same_identity, Lists.no_true}
-use Rattle.bind_carry.specs.AddedKeys.{key_view, labelled, numbered, ExportsAreAdded, ExportsComeBehind, KeysKeepTexts}
+use Rattle.bind_carry.specs.AddedKeys.{key_view, ExportsAreAdded, ExportsComeBehind, KeysKeepTexts}
 use Rattle.bind_carry.specs.{First.first_fates, First.flag_under, Listed.IsHomeBelow, Renumbered.first_of, Renumbered.is_matched, Union.IsUnionOf, MatchedSame.AreMatchedAt, MatchedSame.NoneOfPath, Numbers.interface_number, Numbers.numbers_of, Which.AreMatchedAll}
 use Rattle.bind_carry.specs.declared.plan.Carried.{Carried}
 use Rattle.bind_carry.proofs.{CopiesPlaced.some_same, WorldEntries.any_place, WorldEntries.export_keyed, WorldEntries.IsNumberedSame, WorldEntries.IsPlacedIn, FirstCarried.first_is_carried, FirstWorlds.copied_behind, FirstNumbers.interface_is, FirstOfUnion.unions_have_the_first}

@@ -1,10 +1,10 @@
 -- What validity says of the keys of a world, and when a key is new under other numbers.
-use Rattle.std.proofs.Common.{rules as std_rules, ◌≡◌, refl, sym, ap, ap₂, ◌∙◌, ℕ, zero, suc, arith, Bool, true, false, not, ◌&&◌, ◌||◌, ◌==◌, cond, List, [], ◌∷◌, Some, is_some, slice_get}
+use Rattle.std.proofs.Common.{rules as std_rules, ◌≡◌, refl, sym, ap, ap₂, ◌∙◌, ℕ, zero, suc, arith, Bool, true, false, not, ◌&&◌, ◌||◌, cond, List, [], ◌∷◌, Some, is_some, slice_get}
 use Rattle.std.specs.{Prelude.String, List.list_all, List.list_any, List.Contains, Map.lookup}
 use Rattle.std.specs.declared.alloc.Global.{Global}
 use Rattle.wit_model.specs.declared.model.{Interface.Interface, InterfaceId.InterfaceId, Resolve.Resolve, World.World, WorldItem.WorldItem, WorldKey.WorldKey}
 use Rattle.wit_model.specs.{Lookup.interface_at, Lookup.world_at, Valid.IsValid, Valid.is_place, Valid.key_eq, Valid.numbers_in_range, Valid.world_items}
-use Rattle.wit_model.specs.Rules.{entries_in_range, export_stands, import_stands, in_list, is_id, is_interface_key, item_in_range, key_in_range, package_number, passes}
+use Rattle.wit_model.specs.Rules.{entries_in_range, export_stands, import_stands, in_list, is_interface_key, item_in_range, key_in_range, package_number, passes}
 use Rattle.wit_model.specs.Uses.{item_interface}
 use Rattle.wit_model.proofs.{OnePath.found-in, RulesLemmas.is_id_some as some_id, ValidLemmas.world_passes as world-passes}
 use Rattle.bind_union.proofs.Lists.{no_true}

@@ -1,5 +1,5 @@
 -- Worlds that are copied whole, as the laws on unions ask for them.
-use Rattle.std.proofs.Common.{rules as std_rules, ◌≡◌, refl, sym, ap, ◌∙◌, ℕ, zero, suc, true, false, List, [], ◌∷◌, ◌++◌, length, map, Option, Some, slice_get}
+use Rattle.std.proofs.Common.{rules as std_rules, ◌≡◌, refl, sym, ap, ◌∙◌, ℕ, zero, suc, true, List, [], ◌∷◌, ◌++◌, length, map, Option, Some, slice_get}
 use Rattle.std.proofs.lemmas.{List.length-map, Bool.and_from as both}
 use Rattle.std.specs.{Prelude.String, List.list_all, List.AllZip, List.IsDistinct, Map.keys_of}
 use Rattle.std.specs.declared.alloc.Global.{Global}
@@ -10,10 +10,6 @@ use Rattle.bind_union.specs.{Carried.Renumbering, Merged.IsWorldCopy}
 use Rattle.bind_carry.specs.{First.first_fates, First.flag_under, Marked.AreChosen, Numbers.numbers_of, Numbers.world_number, Whole.kept, Whole.IsWorldCarried, Listed.type_named, ReadyItems.AreReady, ReadyItems.IsItemReady, ReadyItems.IsKeyReady, Renumbered.first_of, Renumbered.is_matched}
 use Rattle.bind_carry.specs.declared.plan.Carried.{Carried}
 use Rattle.bind_carry.proofs.{FirstInterfaces.home_number, FirstWorlds.export_ready, FirstWorlds.import_ready, KeysGained.is_key_carried, KeysGained.keys_apart, Joined.items_join, KeptPlaced.kept_placed, KeptPlaced.IsKeptAt}
-use Rattle.wit_model.specs.declared.model.WorldKey.TheVariants as key
-
-never_false : {A : Type 0} → true ≡ false → A
-never_false e = let wrong : ⊥ = cc in absurd wrong
 
 module _ (f : Renumbering) where
   key_test : (k : WorldKey) → IsKeyReady f k → is_key_carried f.carries_interface k ≡ true

@@ -4,7 +4,7 @@ use Rattle.std.specs.declared.alloc.Global.{Global}
 use Rattle.wit_model.specs.declared.{error.ClashKind.ClashKind, error.Error.Error, model.Resolve.Resolve, model.World.World}
 use Rattle.wit_model.specs.Text.{Text, text_of}
 use Rattle.bind_meaning.specs.{Binding.Binding, ByNumbers.binding_at, Encodings.Encodings, Laws.SomeClash}
-use Rattle.bind_meaning.specs.Clash.{CanUnite, EncodingFault, ExportFault, ImportFault, InterfaceFault, IsClash, IsLeast, NoFault, WorldFault}
+use Rattle.bind_meaning.specs.Clash.{CanUnite, EncodingFault, InterfaceFault, IsClash, IsLeast, NoFault, WorldFault}
 use Rattle.bind_meaning.proofs.Searches.{unite_or_clash}
 use Rattle.bind_match.specs.declared.matches.Matches.{Matches}
 use Rattle.bind_clash.specs.Faults.{HasNoClash, InterfaceFaultIn, IsClashAt, WorldFaultIn}

@@ -30,9 +30,6 @@ value_passes p test (d ∷ es) x h e = by (test d.0) refl e (λ g. value_passes 
     by true t g rest = ap p (sym (same-some d.1 x g)) ∙ first_true (p d.1) _ h
     by false t g rest = rest g
 
-pub is_true : (b : Bool) → b ≡ true → IsTrue b
-is_true b e = e
-
 pub not_true : (b : Bool) → b ≡ false → IsTrue b → ⊥
 not_true b e h = let w : true ≡ false = sym h ∙ e in let q : ⊥ = cc in q
 

@@ -1,7 +1,7 @@
 -- Items that are copied into a map one behind the other, where their keys are new.
-use Rattle.std.proofs.Common.{◌≡◌, refl, sym, ap, ap₂, subst, ◌∙◌, ℕ, Bool, true, false, not, ◌==◌, ◌||◌, List, [], ◌∷◌, Option, is_some}
+use Rattle.std.proofs.Common.{◌≡◌, refl, sym, ap, ap₂, subst, ◌∙◌, ℕ, Bool, true, false, not, ◌==◌, ◌||◌, List, [], ◌∷◌, is_some}
 use Rattle.std.proofs.lemmas.Map.Made.{is_some-lookup}
-use Rattle.std.specs.{List.filter, List.list_any, List.AllZip, List.IsDistinct, Map.keys_of, Map.lookup, Prelude.String}
+use Rattle.std.specs.{List.list_any, List.IsDistinct, Map.keys_of, Map.lookup, Prelude.String}
 use Rattle.indexmap.specs.IndexMap.{get_by, insert_entry, IndexMap}
 use Rattle.wit_model.proofs.Distinct.{text_eq_flip}
 use Rattle.wit_model.specs.{Text.text_eq, Text.text_of, Valid.key_eq}

@@ -5,7 +5,7 @@ use Rattle.wit_model.specs.declared.error.Error.{Error}
 use Rattle.wit_model.specs.Text.{text_of}
 use Rattle.bind_meaning.specs.{Clash.CanUnite, Clash.IsClash, Union.union}
 use Rattle.wit_bind.specs.declared.bindgen.Bindgen.{Bindgen}
-use Rattle.wit_bind.specs.{Bindings.IsBindgen, Bindings.binding_of, Merges.IsMergeRefusal}
+use Rattle.wit_bind.specs.{Bindings.binding_of, Merges.IsMergeRefusal}
 use Rattle.bind_sections.specs.{SectionBindings.IsBoundBy, SectionBindings.RefusesSection, Steps.IsCountedTo, Steps.IsDataInFront, Steps.IsReadTo}
 use Rattle.bind_sections.specs.{Bound.IsRefused, Bound.RefusesBindings, Blamed.Blames}
 use Rattle.bind_sections.proofs.{BoundWorlds.sections_bind_their_worlds, SectionWorlds.bound_sections_mean, Steps.refusals_end, Steps.world-counted}
@@ -17,10 +17,6 @@ pub let-through : (input : List ℕ) (e : Error) → IsRefused input e → Refus
 let-through input errors.Memory x = tt
 let-through input errors.Size x = tt
 let-through input _ x = x
-
--- the data is that of bindings which may be merged
-pub may-be-merged : (d : List ℕ) (b : Bindgen) → IsBoundBy d b → IsBindgen b
-may-be-merged d b bound = let means = bound_sections_mean d b bound in (sections_bind_their_worlds d b means.0 means.1 bound means.2).0
 
 module _ (input bytes rest d : List ℕ) (own : Bindgen) (h : IsReadTo input (binding_of own) bytes) (x : IsDataInFront bytes d rest) where
   -- `decode_section` refused the data

@@ -1,24 +1,20 @@
 -- What is carried into another `Resolve` stands in the same places, for the same trees, and meets the same named types.
-use Rattle.std.proofs.Common.{rules as std_rules, ◌≡◌, ◌⊎◌, inl, inr, refl, sym, ap, subst, ◌∙◌, ℕ, zero, suc, ◌<◌, ◌+◌, arith, true, ◌||◌, ◌==◌, nat_lt, ltb-true, List, [], ◌∷◌, ◌++◌, map, Option, Some, None, option_map, option_and_then, option_to_list, is_some}
+use Rattle.std.proofs.Common.{rules as std_rules, ◌≡◌, ◌⊎◌, refl, sym, ap, subst, ◌∙◌, ℕ, zero, suc, ◌<◌, ◌+◌, arith, true, ◌||◌, ◌==◌, nat_lt, ltb-true, List, [], ◌∷◌, ◌++◌, map, Option, Some, None, option_map, option_and_then, option_to_list, is_some}
 use Rattle.std.proofs.lemmas.{Bool.or_right, Bool.and_from as both, List.Folds.list_all-append, List.map-append}
 use Rattle.std.specs.{Prelude.String, List.list_all, List.flat_map, Option.option_map_or}
 use Rattle.std.specs.declared.alloc.Global.{Global}
-use Rattle.semver.specs.declared.Version.{Version}
-use Rattle.semver.specs.Identifiers.{parts_of, parts_text}
 use Rattle.wit_model.specs.declared.model.{Resolve.Resolve, Package.Package, TypeDef.TypeDef}
 use Rattle.wit_model.specs.declared.model.{PackageId.PackageId, PackageName.PackageName, Interface.Interface, TypeOwner.TypeOwner, «Type».«Type» as ValueType}
 use Rattle.wit_model.specs.{Text.Text, Text.text_of, Text.optional_text, Names.path_in, Checks.references}
-use Rattle.wit_model.specs.Lookup.{package_at, interface_at, identity_of, path_in_package, path_of_interface, interface_path, place_of_path, place_of, optional_version_text}
+use Rattle.wit_model.specs.Lookup.{package_at, interface_at, identity_of, path_in_package, path_of_interface, interface_path, place_of}
 use Rattle.wit_model.specs.{Types.number_of, Types.number_tree, Types.type_tree, Valid.is_place, Valid.Keeps, Valid.KeepsRules, Valid.numbers_in_range}
 use Rattle.wit_model.specs.{Parts.kind_numbers, Parts.met_by, Parts.met_of, Parts.used_by_type, Uses.has, Rules.passes, Rules.in_list, Rules.package_number}
 use Rattle.wit_model.proofs.{Entries.each_from_all, Entries.lists_pass, Entries.types_keep, TreeTable.kept_numbers, Elements.has-contains, RulesLemmas.each_at}
 use Rattle.wit_model.proofs.{Checks.below_at, Owners.met_step, OnePath.found-in}
 use Rattle.bind_union.specs.{Views.renamed_type, Images.HasImageKind, Images.AreCarried, Images.RefersBelow}
 use Rattle.bind_union.specs.Carried.{Renumbering, owner_under, carries_owner, IsSameName, IsNamesake, IsType, IsInterface, IsCarried}
-use Rattle.bind_union.proofs.{Lists.no_true, Images.same_trees, Images.numbers_of_view, ViewTests.numbers_same}
+use Rattle.bind_union.proofs.{Images.same_trees, Images.numbers_of_view, ViewTests.numbers_same}
 use Rattle.base_lemmas.proofs.{Bools.left_of as first_true, Bools.right_of as second_true, Elements.all-contained, Numbers.same-number}
-use Rattle.wit_model.specs.declared.model.TypeOwner.TheVariants as owner
-use Rattle.wit_model.specs.declared.model.«Type».TheVariants as ty
 
 -- ---- rules of a valid one
 
@@ -36,9 +32,6 @@ unfolding numbers_in_range
 interface_package r v n i is = first_true _ _ (second_true (is_place n) _ (each_at (numbers_in_range.interface_ r) r.interfaces.items n i (lists_pass numbers_in_range r v.numbers_in_range).1 is))
 
 -- ---- paths
-
-version_by_parts : (v : Option Version) → optional_version_text v ≡ option_map parts_text (option_map parts_of v)
-version_by_parts x = search std_rules
 
 pub same_identity : (a b : PackageName) → IsSameName a b → identity_of b ≡ identity_of a
 same_identity a b h = search std_rules

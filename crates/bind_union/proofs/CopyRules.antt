@@ -1,5 +1,5 @@
 -- What the rules ask of a type, of a function and of an entry of a world holds of its copy.
-use Rattle.std.proofs.Common.{rules as std_rules, ◌≡◌, inl, refl, sym, ap, ◌∙◌, ℕ, Bool, true, false, ◌&&◌, ◌||◌, not, nat_lt, nat_le, ltb-true, List, map, Option, Some, None, option_map, option_to_list, is_some, filter_map, subst, cond, ◌==◌, [], ◌∷◌, ◌++◌, option_and_then, is_none, slice_get}
+use Rattle.std.proofs.Common.{rules as std_rules, ◌≡◌, refl, sym, ap, ◌∙◌, ℕ, Bool, true, false, ◌&&◌, ◌||◌, not, nat_lt, nat_le, List, map, Option, Some, None, option_map, option_to_list, is_some, filter_map, subst, cond, ◌==◌, [], ◌∷◌, ◌++◌, option_and_then, is_none, slice_get}
 use Rattle.std.proofs.lemmas.{Bool.or_left, Bool.or_right, Bool.lt-ltb, Bool.and_from as both, List.Folds.list_all-map, List.Folds.list_all-append}
 use Rattle.std.proofs.lemmas.{Option.slice_get_within, Option.slice_get-map, Simd.map-map, List.map-append}
 use Rattle.std.specs.{Prelude.String, Prelude.◌^◌, Prelude.codes, Prelude.if◌then◌else◌, List.list_all, List.flat_map, Option.option_map_or}
@@ -15,20 +15,16 @@ use Rattle.wit_model.specs.Parts.{kind_numbers, member_types, handled, met_by, m
 use Rattle.wit_model.specs.Rules.{passes, is_stability, are_member_labels, is_named_kind, is_named_number, is_shallow, is_use, in_list, is_id, is_freestanding, function_labels, function_stays, function_in_range, is_resource_itself, resource_name, is_own_of, is_borrow_of, type_is, is_result_of_own, constructs, takes_self, after_prefix, is_member_name, is_member_of, is_member, text_is, key_in_range, item_in_range, key_label, item_labels, is_name_key, is_interface_key, is_own_type, import_stands, export_stands}
 use Rattle.wit_model.specs.Valid.{Keeps, KeepsRules, labels, owners, shapes, named_kinds, handles, depths, as_world, item_function}
 use Rattle.wit_model.proofs.{Lists.list_all_filter_map, TextLemmas.some_alike as named_alike, PartsLemmas.owner_itself, PartsLemmas.owner_same as owner_equal}
-use Rattle.wit_model.proofs.{Checks.below_at, ValidLemmas.type_passes}
+use Rattle.wit_model.proofs.{ValidLemmas.type_passes}
 use Rattle.bind_union.specs.{Views.renamed_type, Views.kind_view, Images.HasImageKind, Joined.Joined, Joined.none, Joined.met, Joined.added}
 use Rattle.bind_union.specs.Carried.{Renumbering, StabilityView, unknown, stable, unstable, stability_view, owner_under, carries_owner, copies_owner, IsType, IsTypeCopy, IsCarried, call_under, IsFunctionCopy, KeyBecomes, ItemBecomes, EntryBecomes, IsInterface}
-use Rattle.bind_union.proofs.{Lists.no_true, Carrying.references_of, Carrying.kind_carried, Carrying.type_tree_same, Carrying.used_same, Carrying.image_kind}
+use Rattle.bind_union.proofs.{Lists.no_true, Carrying.kind_carried, Carrying.type_tree_same, Carrying.used_same}
 use Rattle.bind_union.proofs.ViewTests.{types_same, handled_same, alias_same, labels_same, shape_same, named_same, numbers_same, view_ok, ok_by_view, ok_under, own_kept, borrow_kept, numbers_under, number_under, one_given}
 use Rattle.bind_union.proofs.Homes.{alias_of_all, handled_of_all, members_of_all, resource_same_at, resource_type_same, owner_stays, owner_apart, alias_there, all_given}
 use Rattle.base_lemmas.proofs.{Bools.left_of as first_true, Bools.right_of as second_true, Elements.all_two, Numbers.equal, Numbers.same-number}
-use Rattle.base_lemmas.proofs.Options.{none_is}
 use Rattle.wit_model.specs.declared.model.TypeOwner.TheVariants as owner
-use Rattle.wit_model.specs.declared.model.Stability.TheVariants as stability
 use Rattle.bind_union.proofs.Homes as homes
-use Rattle.wit_model.specs.declared.model.TypeDefKind.TheVariants as kind
 use Rattle.wit_model.specs.declared.model.FunctionKind.TheVariants as call
-use Rattle.wit_model.specs.declared.model.Handle.TheVariants as handle
 use Rattle.wit_model.specs.declared.model.WorldKey.TheVariants as key
 use Rattle.wit_model.specs.declared.model.WorldItem.TheVariants as item
 
@@ -171,16 +167,6 @@ module _ (r s : Resolve) (f : Renumbering) (valid : KeepsRules r) (is : IsCarrie
         (λ i. label_alike t.image.name t.def.name t.name i && (stability_alike t.image.stability t.def.stability k.stability i && are_member_labels
         (labels_same f.types t.def.kind t.image.kind k.kind.kinds i)))
         ∙ type_passes labels r valid.labels n t.def t.found
-
-    -- the first part of the rule on order of types
-    pub copy_refers_below : references.type_ s (f.types n) t.image ≡ true
-    unfolding references
-    copy_refers_below =
-        ap (list_all (λ m. nat_lt m (f.types n))) (numbers_same f.types t.def.kind t.image.kind k.kind.kinds)
-        ∙ (list_all-map (λ m. nat_lt m (f.types n)) f.types (kind_numbers t.def.kind)
-        ∙ all_two f.carries_type (λ m. nat_lt m n) (λ m. nat_lt (f.types m) (f.types n)) (λ m c h. lt-ltb (f.types m) (f.types n) (is.types_rise m n c copy (inl (ltb-true m n h))))
-        (kind_numbers t.def.kind) parts
-        (below_at r (references_of r valid) n t.def t.found))
 
     -- owners
     pub used : list_all f.carries_type (used_by_type r t.def) ≡ true

@@ -1,6 +1,5 @@
 -- What is carried keeps its owner, and a resource stays one.
-use Rattle.std.proofs.Common.{rules as std_rules, ◌&&◌, ◌≡◌, ◌⊎◌, inl, inr, refl, sym, ap, subst, ◌∙◌, ℕ, zero, suc, ◌<◌, arith, Bool, true, false, ◌||◌, ◌==◌, nat_lt, ltb-true, ◌++◌, Option, Some, None, option_map, option_to_list, filter_map}
-use Rattle.std.proofs.lemmas.List.Folds.{list_all-append}
+use Rattle.std.proofs.Common.{rules as std_rules, ◌&&◌, ◌≡◌, ◌⊎◌, inl, inr, refl, sym, ap, ◌∙◌, ℕ, zero, suc, ◌<◌, arith, Bool, true, false, ◌||◌, nat_lt, ltb-true, Option, Some, None, option_map, option_to_list, filter_map}
 use Rattle.std.specs.{List.list_all, Option.option_map_or}
 use Rattle.wit_model.specs.declared.model.{Resolve.Resolve, TypeDef.TypeDef, TypeDefKind.TypeDefKind, TypeOwner.TypeOwner, «Type».«Type» as ValueType}
 use Rattle.wit_model.specs.{Types.number_of, Uses.alias_target, Rules.passes, Rules.is_resource_itself, Valid.Keeps, Valid.KeepsRules, Checks.references}
@@ -10,8 +9,7 @@ use Rattle.bind_union.specs.{Views.renamed_type, Images.HasImageKind}
 use Rattle.bind_union.specs.Carried.{Renumbering, Rises, owner_under, carries_owner, IsNamesake, IsType, IsCarried}
 use Rattle.bind_union.proofs.Lists.{no_true}
 use Rattle.bind_union.proofs.{ViewTests.alias_same, ViewTests.resource_same, ViewTests.number_under, Carrying.references_of, Carrying.kind_carried}
-use Rattle.base_lemmas.proofs.{Bools.left_of as first_true, Bools.right_of as second_true, Bools.and-true, Numbers.equal, Numbers.same-number}
-use Rattle.wit_model.specs.declared.model.TypeDefKind.TheVariants as kind
+use Rattle.base_lemmas.proofs.{Bools.left_of as first_true, Bools.right_of as second_true, Numbers.equal, Numbers.same-number}
 use Rattle.wit_model.specs.declared.model.TypeOwner.TheVariants as owner
 
 -- ---- kinds

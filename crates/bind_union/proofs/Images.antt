@@ -12,7 +12,6 @@ use Rattle.bind_union.specs.Views.{KindView, record_view, variant_view, tuple_vi
 use Rattle.bind_union.specs.Images.{HasImageKind, IsCarriedType, AreCarried, RefersBelow, SameTrees, SameDeclarations}
 use Rattle.base_lemmas.proofs.{Bools.left_of as first_true, Bools.right_of as second_true, Lists.map_of_map as mapped_twice}
 use Rattle.wit_model.specs.declared.model.TypeDefKind.TheVariants as kind
-use Rattle.wit_model.specs.declared.model.«Type».TheVariants as ty
 use Rattle.wit_model.specs.declared.model.Handle.TheVariants as handle
 
 -- ---- by the view

@@ -1,5 +1,5 @@
 -- What an interface uses, and what the rules ask of it, holds of its copy, with its numbers in order.
-use Rattle.std.proofs.Common.{rules as std_rules, ◌≡◌, refl, sym, ap, subst, ◌∙◌, ℕ, Bool, true, false, not, ◌==◌, List, [], map, Option, Some, None, option_map, option_and_then, option_to_list, slice_get, ◌+◌, ◌||◌, cond, ◌∷◌, ◌++◌, inl, ◌&&◌, nat_lt, ltb-true, is_some}
+use Rattle.std.proofs.Common.{rules as std_rules, ◌≡◌, refl, sym, ap, subst, ◌∙◌, ℕ, Bool, true, false, not, ◌==◌, List, [], map, Option, Some, None, option_map, option_and_then, option_to_list, slice_get, ◌+◌, ◌||◌, cond, ◌∷◌, ◌++◌, inl, ◌&&◌, nat_lt, ltb-true}
 use Rattle.std.proofs.lemmas.{Option.same_Some as same-some, Bool.or_right, Bool.and_from as both, Bool.lt-ltb, List.Sums.sum_by-cons, List.Folds.list_all-map}
 use Rattle.std.proofs.lemmas.Simd.{map-map}
 use Rattle.std.specs.{List.list_all, List.Contains, List.AllZip, List.list_any, Option.option_map_or, Prelude.count_by, Prelude.String}
@@ -9,7 +9,7 @@ use Rattle.wit_model.specs.{Lookup.interface_at, Lookup.type_at, Checks.referenc
 use Rattle.wit_model.specs.Uses.{has, once, alias_target, owner_interface, used_interface, interface_used_by, interfaces_used_by, direct_deps}
 use Rattle.wit_model.specs.Rules.{passes, interface_type_numbers, each_after, is_stability, function_labels, is_named_of, used_by_number, are_in_order, function_stays, is_shallow, is_member}
 use Rattle.wit_model.specs.Valid.{Keeps, KeepsRules, as_interface, functions_of_interface, labels, order_of_types, owners, handles, depths, function_names}
-use Rattle.wit_model.specs.{Text.Text, Text.text_of, Text.text_eq, Parts.function_types, Parts.is_resource_type, Parts.same_owner, Parts.used_by_type}
+use Rattle.wit_model.specs.{Text.Text, Text.text_of, Text.text_eq, Parts.function_types, Parts.is_resource_type, Parts.used_by_type}
 use Rattle.wit_model.proofs.{Elements.has-contains, Elements.contains-has, Elements.contains-filter_map, Chains.has_once, Chains.all_has as passes_at}
 use Rattle.wit_model.proofs.{UsesLemmas.has_filter, UsesLemmas.filter_has, UsesLemmas.all_from_has, TextLemmas.some_alike as named_alike}
 use Rattle.wit_model.proofs.{RulesLemmas.after_of_map, OnePath.interface-passes, PartsLemmas.owner_itself, PartsLemmas.owner_same as owner_equal}
@@ -20,7 +20,6 @@ use Rattle.bind_union.proofs.CopyRules.{label_alike, stability_alike, used, used
 use Rattle.base_lemmas.proofs.Elements.{contains-map, contains-one, filter_map_from, get-contains, all_two, any_of_map as list_any_mapped, zip_map}
 use Rattle.base_lemmas.proofs.{Numbers.equal, Numbers.same-number, Bools.left_of as first_true, Bools.right_of as second_true}
 use Rattle.std.specs.declared.alloc.Global.{Global}
-use Rattle.wit_model.specs.declared.model.TypeOwner.TheVariants as owner
 
 -- what each number of a list passes, all pass
 

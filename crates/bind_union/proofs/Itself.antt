@@ -1,5 +1,5 @@
 -- What was there is carried into what grows, under its own numbers.
-use Rattle.std.proofs.Common.{rules as std_rules, ◌≡◌, ◌⊎◌, inl, inr, refl, sym, ap, ◌∙◌, ℕ, zero, suc, ◌<◌, true, false, ◌&&◌, List, [], ◌∷◌, ◌++◌, map, Option, Some, None, option_map, slice_get}
+use Rattle.std.proofs.Common.{rules as std_rules, ◌≡◌, ◌⊎◌, inl, inr, refl, sym, ap, ◌∙◌, ℕ, zero, suc, ◌<◌, true, false, ◌&&◌, List, [], ◌∷◌, ◌++◌, map, Option, Some, option_map, slice_get}
 use Rattle.std.proofs.lemmas.List.Folds.{list_all-map}
 use Rattle.std.specs.{Prelude.String, List.AllZip, List.list_all}
 use Rattle.std.specs.declared.alloc.Global.{Global}
@@ -11,16 +11,12 @@ use Rattle.wit_model.specs.Parts.{kind_numbers}
 use Rattle.wit_model.specs.Rules.{passes, in_list, package_number, interface_type_numbers, function_in_range, owner_in_range, key_in_range, item_in_range, entries_in_range}
 use Rattle.wit_model.proofs.{OnePath.found-in, OnePath.interface-passes, ValidLemmas.type_passes, ValidLemmas.world_passes as world-passes}
 use Rattle.wit_model.proofs.Chains.{all_has as passes_at}
-use Rattle.bind_union.specs.Views.{KindView, record_view, variant_view, tuple_view, option_view, result_view, list_view, map_view, fixed_list_view, future_view, stream_view, alias_view, kind_view, renamed_type, renamed}
+use Rattle.bind_union.specs.Views.{KindView, kind_view, renamed_type, renamed}
 use Rattle.bind_union.specs.{Images.HasImageKind, Joined.Joined, Joined.none, Joined.added, Merged.BeginsWith}
 use Rattle.bind_union.specs.Carried.{Renumbering, IsSameName, owner_under, carries_owner, copies_owner, call_under, IsFunctionCopy, IsFunctionEntry, IsType, IsInterface, IsCarried, KeyBecomes, ItemBecomes}
 use Rattle.bind_union.proofs.{Lists.no_true, Images.numbers_of_view}
 use Rattle.base_lemmas.proofs.Bools.{left_of as first_true, right_of as second_true}
 use Rattle.wit_model.specs.declared.model.TypeOwner.TheVariants as owner
-use Rattle.wit_model.specs.declared.model.FunctionKind.TheVariants as call
-use Rattle.wit_model.specs.declared.model.WorldKey.TheVariants as key
-use Rattle.wit_model.specs.declared.model.WorldItem.TheVariants as item
-use Rattle.wit_model.specs.declared.model.«Type».TheVariants as ty
 
 abbrev pub itself : Resolve → Renumbering
 itself r = record {

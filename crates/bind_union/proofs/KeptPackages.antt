@@ -1,24 +1,21 @@
 -- What stands in the packages of what was merged has its name and its package there, and no two packages have one name.
-use Rattle.std.proofs.Common.{rules as std_rules, arith, ◌≡◌, ◌⊎◌, inl, inr, refl, sym, ap, ◌∙◌, ℕ, Bool, true, false, ◌&&◌, ◌||◌, ◌==◌, not, List, [], Option, Some, None, subst, option_map}
+use Rattle.std.proofs.Common.{rules as std_rules, arith, ◌≡◌, ◌⊎◌, inl, inr, refl, sym, ap, ◌∙◌, ℕ, Bool, true, false, ◌&&◌, ◌||◌, ◌==◌, not, List, [], Option, Some, subst}
 use Rattle.std.proofs.lemmas.{Bool.lt-ltb, Bool.or_right, Bool.and_from as both, Bool.or_left, Option.slice_get_within, Option.same_Some as same-some}
 use Rattle.std.proofs.lemmas.List.Folds.{list_all-append, list_all-map}
-use Rattle.std.specs.{Prelude.String, List.list_all, Option.option_map_or, Option.option_eq}
+use Rattle.std.specs.{Prelude.String, List.list_all, Option.option_map_or}
 use Rattle.std.specs.declared.alloc.Global.{Global}
 use Rattle.indexmap.specs.IndexMap.{values}
 use Rattle.wit_model.specs.declared.model.{Resolve.Resolve, Package.Package, InterfaceId.InterfaceId, WorldId.WorldId, World.World, PackageName.PackageName}
 use Rattle.wit_model.specs.{Text.Text, Text.text_of, Text.text_eq, Lookup.package_at, Lookup.interface_at, Lookup.world_at, Names.is_label, Names.is_version}
-use Rattle.wit_model.specs.Rules.{each_from, passes, in_list, is_id, text_is, package_number, interface_belongs, world_belongs, names_itself, is_world_name, same_version, same_package_name}
+use Rattle.wit_model.specs.Rules.{each_from, passes, in_list, is_id, text_is, package_number, interface_belongs, world_belongs, names_itself, is_world_name, same_package_name}
 use Rattle.wit_model.specs.Valid.{Rule, Keeps, KeepsRules, is_place, numbers_in_range, places, names_in_packages, package_names}
 use Rattle.wit_model.proofs.{Entries.free_passes, TextLemmas.named_too}
 use Rattle.wit_model.proofs.{OnePath.found-in, OnePath.package-passes, RulesLemmas.each_by_number, RulesLemmas.each_at, RulesLemmas.name_flip}
 use Rattle.bind_union.specs.Carried.{Renumbering, IsSameName}
 use Rattle.bind_union.specs.Merged.{interface_names, world_names, IsJoinedPackage, PackageStands, grown, brought, IsKeptPackage, IsPackageOf, IsMerged}
-use Rattle.bind_union.proofs.Lists.{no_true}
 use Rattle.bind_union.proofs.{CopyRules.text_alike, CopyRules.version_alike, CopyRules.are_parts, ViewTests.id_under, Itself.get_begin, PackageNames.names_pass}
 use Rattle.base_lemmas.proofs.{Bools.left_of as first_true, Bools.right_of as second_true, Elements.all_three, Elements.all_weaker, Elements.all_two}
 use Rattle.base_lemmas.proofs.Numbers.{equal, same-number}
-use Rattle.semver.specs.declared.Version.{Version}
-use Rattle.semver.specs.Identifiers.{parts_of}
 
 pub kept : (rule : Rule) (s : Resolve) → each_from (rule.package_ s) 0 s.packages.items ≡ true → each_from (rule.interface_ s) 0 s.interfaces.items ≡ true
     → each_from (rule.world_ s) 0 s.worlds.items ≡ true → each_from (rule.type_ s) 0 s.types.items ≡ true → Keeps rule s
@@ -105,9 +102,6 @@ module _ (r : Resolve) (n : ℕ) (p : Package) (stand : list_all (is_interface_o
 
 abbrev same_parts : ℕ × ℕ × ℕ × List ℕ × List ℕ → ℕ × ℕ × ℕ × List ℕ × List ℕ → Bool
 same_parts a b = a.0 == b.0 && (a.1 == b.1 && (a.2 == b.2 && (text_eq a.3 b.3 && text_eq a.4 b.4)))
-
-versions_by_parts : (a b : Option Version) → option_eq same_version a b ≡ option_eq same_parts (option_map parts_of a) (option_map parts_of b)
-versions_by_parts x y = search std_rules
 
 same_name : (a b c d : PackageName) → IsSameName a b → IsSameName c d → same_package_name b d ≡ same_package_name a c
 same_name a b c d x y = search std_rules

@@ -4,7 +4,7 @@ use Rattle.wit_model.specs.{Text.text_of, Text.Text, Lookup.interface_path, Uses
 use Rattle.wit_model.proofs.{OnePath.has-path, Chains.all_has as passes_at}
 use Rattle.bind_union.specs.Carried.{owner_under, carries_owner, IsType, IsInterface, Renumbering}
 use Rattle.bind_union.specs.Matching.{type_names, AreNamesakes, MatchedStand, numbers_of, NumbersRise, StepsKeep}
-use Rattle.bind_union.specs.{Joined.Joined, Joined.ItemStandsFor, Joined.is_new, Merged.JoinedNames, Merged.is_name}
+use Rattle.bind_union.specs.{Joined.Joined, Merged.JoinedNames}
 use Rattle.bind_union.proofs.{Lists.no_true, Itself.get_begin}
 use Rattle.bind_union.proofs.Namesakes.{under_contains, number_listed, numbers_are, home_listed, target_named, target_home, matches_are_namesakes, matches_are_onto}
 use Rattle.base_lemmas.proofs.Options.{there as some_of}

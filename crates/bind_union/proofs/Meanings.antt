@@ -8,7 +8,7 @@ use Rattle.wit_model.specs.declared.model.{Interface.Interface, WorldKey.WorldKe
 use Rattle.wit_model.specs.{Text.Text, Text.text_of, Tree.Tree, Meaning.TypeMeaning, Meaning.FunctionMeaning, Meaning.Item, Meaning.interface, Meaning.inline}
 use Rattle.wit_model.specs.{Lookup.interface_at, Lookup.interface_path, Lookup.key_text, Lookup.is_async, Lookup.resource_of, Types.number_of, Types.type_tree}
 use Rattle.wit_model.specs.{Parts.function_types, Valid.Keeps, Valid.KeepsRules, Valid.IsValid, Checks.references}
-use Rattle.wit_model.specs.Meant.{signature_of, function_meaning, type_meaning, type_meaning_at, no_type, interface_meaning, interface_meaning_at, no_interface, interface_item, entry_meaning, entries_meaning, world_meaning, world_meaning_at, no_world}
+use Rattle.wit_model.specs.Meant.{signature_of, function_meaning, type_meaning, type_meaning_at, no_type, interface_meaning, interface_meaning_at, interface_item, entry_meaning, entries_meaning, world_meaning, world_meaning_at, no_world}
 use Rattle.wit_model.proofs.{Lists.list_all_filter_map, Elements.none-in, OnePath.named-path}
 use Rattle.bind_union.specs.{Views.renamed_type, Meanings.OwnMeansTheSame, Meanings.CopiesMeanTheSame, Meanings.MergedMeans}
 use Rattle.bind_union.specs.Carried.{Renumbering, call_under, IsFunctionCopy, IsFunctionEntry, IsInterfaceCopy, KeyBecomes, ItemBecomes, IsCarried}
@@ -18,7 +18,6 @@ use Rattle.bind_union.proofs.{Images.same_declarations, Itself.itself, Itself.ca
 use Rattle.base_lemmas.proofs.{Bools.left_of as first_true, Bools.right_of as second_true, Elements.zip_map, Numbers.unequal}
 use Rattle.wit_model.specs.declared.model.WorldKey.TheVariants as key
 use Rattle.wit_model.specs.declared.model.WorldItem.TheVariants as item
-use Rattle.wit_model.specs.declared.model.FunctionKind.TheVariants as call
 
 async_under : (f : Renumbering) (k : FunctionKind) → is_async (call_under f k) ≡ is_async k
 async_under f x = search std_rules

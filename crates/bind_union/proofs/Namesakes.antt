@@ -24,10 +24,7 @@ use Rattle.bind_union.specs.Matching.{type_names, IsMatch, AreMatched, AreNamesa
 use Rattle.bind_union.proofs.{Lists.no_true, Carrying.references_of, Homes.alias_of_all, Listed.under_text, Listed.found_by_text}
 use Rattle.base_lemmas.proofs.{Bools.left_of as first_true, Bools.right_of as second_true, Elements.contains-later, Elements.contains-map, Maps.lookup_of_map}
 use Rattle.base_lemmas.proofs.Numbers.{equal, same-number}
-use Rattle.wit_model.specs.declared.model.TypeDefKind.TheVariants as kind
 use Rattle.wit_model.specs.declared.model.TypeOwner.TheVariants as owner
-use Rattle.wit_model.specs.declared.model.Handle.TheVariants as handle
-use Rattle.wit_model.specs.declared.model.«Type».TheVariants as ty
 
 -- ---- kinds
 

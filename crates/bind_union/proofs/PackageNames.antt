@@ -8,7 +8,6 @@ use Rattle.wit_model.specs.{Text.Text, Text.text_of, Text.text_eq, Rules.is_id, 
 use Rattle.bind_union.specs.Merged.{interface_names, world_names, is_name, JoinedNames, none, met, left, added}
 use Rattle.bind_union.proofs.{Lists.no_true, ViewTests.id_under, Listed.under_text, Listed.lookup_append, Listed.lookup_first}
 use Rattle.base_lemmas.proofs.{Bools.left_of as first_true, Bools.right_of as second_true, Elements.any_of_map, Elements.contains-later, Maps.lookup_of_map}
-use Rattle.base_lemmas.proofs.Numbers.{equal}
 
 -- what each name passes, what is added passes
 pub names_pass : (number : ℕ → ℕ) (copies left_out : ℕ → Bool) (own : List (Text × ℕ)) (p q : Text × ℕ → Bool)

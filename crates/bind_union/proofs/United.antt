@@ -7,12 +7,12 @@ use Rattle.wit_model.specs.declared.model.{Resolve.Resolve, Interface.Interface}
 use Rattle.wit_model.specs.{Text.Text, Text.text_of, Text.optional_text, Checks.references}
 use Rattle.wit_model.specs.{Names.path_in, Lookup.interface_at, Lookup.interface_path, Lookup.path_of_interface, Lookup.identity_of, Meant.interface_meaning_at}
 use Rattle.wit_model.specs.{Meaning.InterfaceMeaning, Rules.is_id, Rules.text_is, Rules.package_number, Valid.Keeps, Valid.IsValid, Valid.HasDistinctKeys}
-use Rattle.wit_model.proofs.{Elements.none-in, TextLemmas.text_same as text-same}
+use Rattle.wit_model.proofs.{Elements.none-in}
 use Rattle.wit_model.proofs.{OnePath.HasPath, OnePath.has-path, OnePath.path-listed, OnePath.path-once, OnePath.found-in, RulesLemmas.is_id_some as some_id}
 use Rattle.bind_union.specs.Carried.{Renumbering}
 use Rattle.bind_union.specs.Merged.{interface_names, PackageStands, grown, brought, IsCopyUnder, IsMerged}
 use Rattle.bind_union.specs.Meanings.{OwnMeansTheSame, CopiesMeanTheSame, Shows, ShowsNone, InterfacesAreUnited}
-use Rattle.bind_union.proofs.{Lists.no_true, KeptPackages.is_interface_of, KeptPackages.interfaces_stand, KeptPackages.found_option, Namesakes.under_contains}
+use Rattle.bind_union.proofs.{KeptPackages.is_interface_of, KeptPackages.interfaces_stand, KeptPackages.found_option, Namesakes.under_contains}
 use Rattle.bind_union.proofs.{Carrying.path_parts, Carrying.path_by, Carrying.same_identity, Carrying.path_same, Meanings.merged_means, Valid.merged_is_valid}
 use Rattle.bind_union.proofs.{Kept.below, PackageNames.joined_name, PackageNames.interfaces_by_name, Listed.under_text}
 use Rattle.base_lemmas.proofs.{Bools.left_of as first_true, Bools.right_of as second_true, Elements.all-contained}

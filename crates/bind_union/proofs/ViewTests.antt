@@ -1,15 +1,14 @@
 -- What the rules ask of a kind, by its view, and the same under other numbers.
-use Rattle.std.proofs.Common.{rules as std_rules, ◌≡◌, refl, sym, ap, ◌∙◌, ℕ, Bool, true, false, ◌&&◌, ◌==◌, subst, List, [], ◌∷◌, ◌++◌, map, filter_map, nat_lt, option_map, Option, Some, None}
+use Rattle.std.proofs.Common.{rules as std_rules, ◌≡◌, refl, sym, ap, ◌∙◌, ℕ, Bool, true, false, ◌&&◌, List, [], ◌∷◌, ◌++◌, map, filter_map, nat_lt, option_map, Option, Some, None}
 use Rattle.std.proofs.lemmas.{Simd.map-map, List.map-append}
 use Rattle.std.specs.{Prelude.option_to_list, Prelude.nat_le, List.cons_option, Option.option_map_or}
 use Rattle.wit_model.specs.declared.model.{Resolve.Resolve, TypeDefKind.TypeDefKind, «Type».«Type» as ValueType}
 use Rattle.wit_model.specs.{Text.Text, Text.text_of, Types.number_of, Uses.alias_target, Parts.kind_numbers, Parts.member_types, Parts.handled}
 use Rattle.wit_model.specs.Rules.{is_id, has_items, is_map_key, has_shape, is_named_kind, is_resource_itself, is_own_kind, is_borrow_kind, is_own_of, type_is, has_own_ok, kind_labels}
 use Rattle.bind_union.specs.Views.{KindView, record_view, variant_view, flags_view, enum_view, tuple_view, resource_view, own_view, borrow_view, option_view, result_view, list_view, map_view, fixed_list_view, future_view, stream_view, alias_view, kind_view, renamed_type, renamed}
-use Rattle.base_lemmas.proofs.{Lists.filter_of_map, Numbers.equal, Numbers.same-number}
+use Rattle.base_lemmas.proofs.{Lists.filter_of_map}
 use Rattle.wit_model.proofs.RulesLemmas.{items_of_map}
 use Rattle.wit_model.specs.declared.model.TypeDefKind.TheVariants as kind
-use Rattle.wit_model.specs.declared.model.«Type».TheVariants as ty
 use Rattle.wit_model.specs.declared.model.Handle.TheVariants as handle
 
 -- ---- lists

@@ -1,12 +1,11 @@
 -- What the rules ask of a world holds of one in which another's entries stand.
-use Rattle.std.proofs.Common.{rules as std_rules, ◌≡◌, refl, sym, ap, ◌∙◌, ℕ, Bool, true, false, ◌&&◌, ◌||◌, not, List, [], ◌∷◌, ◌++◌, append-nil, map, Option, Some, None, option_to_list, is_some, filter_map}
+use Rattle.std.proofs.Common.{rules as std_rules, ◌≡◌, refl, sym, ap, ◌∙◌, ℕ, Bool, true, false, ◌&&◌, ◌||◌, not, List, [], ◌∷◌, ◌++◌, append-nil, map, Option, Some, None, option_to_list, filter_map}
 use Rattle.std.proofs.lemmas.{Bool.or_right, Bool.and_from as both, List.Folds.list_all-append, List.Folds.list_all-map, List.Elements.filter_map-append}
 use Rattle.std.proofs.lemmas.List.{map-append}
 use Rattle.std.specs.{Prelude.String, List.list_all, List.cons_option, Option.option_map_or}
 use Rattle.std.specs.declared.alloc.Global.{Global}
-use Rattle.indexmap.specs.IndexMap.{values}
 use Rattle.wit_model.specs.declared.model.{Resolve.Resolve, World.World, TypeDef.TypeDef, Function.Function, WorldKey.WorldKey, WorldItem.WorldItem}
-use Rattle.wit_model.specs.{Text.text_of, Names.is_label, Uses.has, Uses.items_of}
+use Rattle.wit_model.specs.{Text.text_of, Names.is_label, Uses.has}
 use Rattle.wit_model.specs.{Lookup.type_at, Lookup.world_at, Parts.has_owner, Parts.same_owner, Parts.function_types, Parts.is_resource_type, Checks.references}
 use Rattle.wit_model.specs.Rules.{passes, each_after, key_in_range, item_in_range, entries_in_range, key_label, item_labels, entries_labels, is_stability, is_name_key, item_type, world_type_numbers, is_named_of, is_listed, is_listed_in_world, used_by_number, are_in_order, function_stays, is_shallow, is_member, import_stands, export_stands, uses_stand_before}
 use Rattle.wit_model.specs.Valid.{Keeps, KeepsRules, as_world, item_function, functions_of_world, labels, order_of_types, owners, handles, depths, function_names, world_items, order_of_items}

@@ -14,7 +14,6 @@ use Rattle.wit_model.proofs.{Owners.met_step, Owners.owned_stays, PartsLemmas.ow
 use Rattle.check_rules.proofs.Ordered.{highest_flat}
 use Rattle.base_lemmas.proofs.Bools.{left_of as first_true, right_of as second_true}
 use Rattle.wit_model.specs.declared.model.TypeOwner.TheVariants as owner
-use Rattle.wit_model.specs.declared.model.TypeDefKind.TheVariants as kind
 
 -- ---- a walk over the list with places is a walk with what stands before
 

@@ -5,11 +5,11 @@ use Rattle.std.proofs.lemmas.Option.{same_Some as some_same}
 use Rattle.std.specs.List.{list_any}
 use Rattle.semver.specs.declared.Version.{Version}
 use Rattle.semver.specs.Identifiers.{pre_text, build_text}
-use Rattle.wit_model.specs.declared.model.{Resolve.Resolve, Package.Package, PackageName.PackageName}
-use Rattle.wit_model.specs.{Text.text_of, Lookup.package_at, Checks.KeepsIn}
+use Rattle.wit_model.specs.declared.model.{Resolve.Resolve, Package.Package}
+use Rattle.wit_model.specs.{Lookup.package_at, Checks.KeepsIn}
 use Rattle.wit_model.specs.{Rules.each_from, Rules.same_package_name, Rules.same_version, Valid.Breaks, Valid.Keeps, Valid.entry_keeps, Valid.package_names}
 use Rattle.check_rules.specs.PackageNames.{distinct_names, is_package_name, well_named}
-use Rattle.wit_model.proofs.{Entries.each_from_all, Entries.packages_keep, RulesLemmas.version_flip as optional_flip, RulesLemmas.name_flip}
+use Rattle.wit_model.proofs.{Entries.each_from_all, Entries.packages_keep, RulesLemmas.name_flip}
 use Rattle.wit_model.proofs.Distinct.{adds_new, adds_apart, are_apart, not_is, text_eq_flip}
 use Rattle.base_lemmas.proofs.Bools.{both_same, left_of as first_true, right_of as second_true}
 use Rattle.base_lemmas.proofs.Numbers.{unequal as differ, turned as number_flip}

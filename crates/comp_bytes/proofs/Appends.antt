@@ -1,8 +1,8 @@
 -- How what one step appends goes with what the steps before it did.
-use Rattle.std.proofs.Common.{rules as std_rules, ◌≡◌, ℕ, Bool, true, false, ◌&&◌, List, [], ◌∷◌, ◌++◌, Result, Ok, Err, OnOk, OnErr, IsOkUnless, IsErrAnd, refl, sym, ap, subst, ◌∙◌, append_assoc}
+use Rattle.std.proofs.Common.{rules as std_rules, ◌≡◌, ℕ, Bool, false, ◌&&◌, List, [], ◌∷◌, ◌++◌, Result, Ok, Err, OnOk, OnErr, IsOkUnless, IsErrAnd, sym, ap, ◌∙◌, append_assoc}
 use Rattle.std.proofs.lemmas.List.{append-nil}
 use Rattle.wit_model.specs.declared.error.Error.{Error}
-use Rattle.comp_bytes.specs.{Form.Spellings, Form.Are, Form.Tagged, Form.Joined, Held.Begins, Appending.Appended, Appending.Stopped, Appending.Appends}
+use Rattle.comp_bytes.specs.{Form.Spellings, Form.Tagged, Form.Joined, Held.Begins, Appending.Appended, Appending.Stopped, Appending.Appends}
 use Rattle.wit_model.specs.declared.error.Error.TheVariants as errors
 
 -- ---- what a test on the whole says where it fails on a part
@@ -21,14 +21,6 @@ begins_same old = ([], sym (append-nil old))
 pub begins_after : (old text mid new : List ℕ) → mid ≡ old ++ text → Begins mid new → Begins old new
 begins_after old text mid new e b = (text ++ b.0, b.1 ∙ ap (λ (l : List ℕ). l ++ b.0) e ∙ append_assoc old text b.0)
 
--- want of memory where nothing has been appended
-pub no_memory : (fits : Bool) (old new : List ℕ) (e : Error) → e ≡ errors.Memory → new ≡ old → Stopped fits old new e
-no_memory fits old new e m same = search std_rules
-
--- a refusal where nothing, or a first part, has been appended; the whole does not fit where the part does not
-pub stopped : (part whole : Bool) (old new : List ℕ) (e : Error) → Stopped part old new e → (part ≡ false → whole ≡ false) → Stopped whole old new e
-stopped part whole old new e s falls = record { kept = s.kept; size = λ is. falls (s.size is); refuses = s.refuses }
-
 pub stopped_after : (part whole : Bool) (form : Spellings) (text old mid new : List ℕ) (e : Error) → Appended form text old mid → Stopped part mid new e → (part ≡ false → whole ≡ false)
     → Stopped whole old new e
 stopped_after part whole form text old mid new e a s falls = record {
@@ -36,9 +28,6 @@ stopped_after part whole form text old mid new e a s falls = record {
   size = λ is. falls (s.size is);
   refuses = s.refuses;
 }
-
-pub no_memory_after : (fits : Bool) (form : Spellings) (text old mid new : List ℕ) (e : Error) → Appended form text old mid → e ≡ errors.Memory → new ≡ mid → Stopped fits old new e
-no_memory_after fits form text old mid new e a m same = stopped_after fits fits form text old mid new e a (no_memory fits mid new e m same) (λ h. h)
 
 -- as an answer
 pub refused : {X : Type 0} (form : Spellings) (text : List ℕ) (fits : Bool) (old new : List ℕ) (e : Error) → Stopped fits old new e → Appends {X = X} form text fits old new (Err e)

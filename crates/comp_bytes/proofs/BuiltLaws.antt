@@ -1,13 +1,13 @@
 -- A component under construction: what its bytes say, and one more part.
-use Rattle.std.proofs.Common.{rules as std_rules, ◌≡◌, ℕ, ◌+◌, ◌^◌, ◌<◌, ◌≤◌, Bool, true, false, List, [], ◌∷◌, ◌++◌, length, drop, Some, refl, sym, ap, subst, ◌∙◌, arith, append_assoc, length-append, length-drop}
+use Rattle.std.proofs.Common.{rules as std_rules, ◌≡◌, ℕ, ◌+◌, ◌^◌, ◌<◌, Bool, true, false, List, [], ◌∷◌, ◌++◌, length, drop, Some, refl, sym, ap, subst, ◌∙◌, arith, append_assoc, length-append, length-drop}
 use Rattle.std.proofs.lemmas.{Bool.false≢true, List.append-nil, List.Concat.flat_map-append}
 use Rattle.std.specs.List.{flat_map}
 use Rattle.comp_bytes.specs.{Form.Spellings, Form.Sequence, Form.Vector, Form.Name, Parts.Part, Parts.sections_of_parts, Parts.top_slots, Parts.parts_of}
 use Rattle.comp_bytes.specs.Raw.{TopType, TopExport, Section}
 use Rattle.comp_bytes.specs.Spelling.{IsTopType, IsTopExport, IsSectionOf, IsSection, IsComponent, preamble}
-use Rattle.comp_bytes.specs.{Reading.Reader, Reading.sequence_at, Reading.type_at, Reading.top_export_at, Reading.sections_of, Laws.IsReadBy, Held.found_in}
+use Rattle.comp_bytes.specs.{Reading.Reader, Reading.sequence_at, Laws.IsReadBy, Held.found_in}
 use Rattle.comp_bytes.specs.Writing.{u32_bytes, name_bytes, vector_bytes, top_type_bytes, top_export_bytes, framed, section_bytes, component_bytes}
-use Rattle.comp_bytes.specs.Built.{Group, group_sections, group_in, found_sections, sections_in, begun, section_id, closed_bytes, kept_parts, IsItems, IsGroup, Ended, IsBuilt, Builds}
+use Rattle.comp_bytes.specs.Built.{Group, group_sections, group_in, sections_in, begun, section_id, closed_bytes, kept_parts, IsItems, IsGroup, Ended, IsBuilt, Builds}
 use Rattle.comp_bytes.proofs.Writes.{spells_u32}
 use Rattle.comp_bytes.proofs.{PartLaws.sequence_again, HeldLaws.sequence_push, ComponentLaws.type_law, ComponentLaws.export_law, ComponentLaws.sections_again}
 use Rattle.comp_bytes.proofs.PartsLaws.{alone, join, put_behind, put_behind-last, put_behind-ended, Ended-custom, grouped_behind, top_slots-push}
@@ -341,6 +341,3 @@ module _ (done items : List ℕ) (count : ℕ) (exports : Bool) (types : ℕ) (h
         short,
       ) in
       subst (λ (l : List Section). IsComponent l bytes) (sym h.grouped) whole
-
-  pub component_written : (bytes : List ℕ) → bytes ≡ begun done ++ closed_bytes (section_id exports) count items → bytes ≡ component_bytes (sections_of_parts (kept_parts done items count exports))
-  component_written bytes is = is ∙ closed_begins done items count exports types h ∙ ap component_bytes (sym h.grouped)

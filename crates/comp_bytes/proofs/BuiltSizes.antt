@@ -3,10 +3,10 @@ use Rattle.std.proofs.Common.{rules as std_rules, ◌≡◌, ℕ, ◌+◌, ◌^�
 use Rattle.std.proofs.lemmas.{Bool.le-ltb, Bool.ltb-false as not_below, List.append-nil, List.Concat.flat_map-append}
 use Rattle.std.specs.{Prelude.nat_lt, List.flat_map}
 use Rattle.wit_model.specs.declared.error.Error.{Error}
-use Rattle.comp_bytes.specs.{Raw.DefinedType, Raw.TopType, Raw.TopExport, Raw.Section, Spelling.preamble, Fits.fits_length}
-use Rattle.comp_bytes.specs.Writing.{u32_bytes, name_bytes, vector_bytes, extern_name_bytes, defined_type_bytes, top_type_bytes, top_export_bytes, framed, section_bytes, component_bytes}
+use Rattle.comp_bytes.specs.{Raw.TopType, Raw.TopExport, Raw.Section, Fits.fits_length}
+use Rattle.comp_bytes.specs.Writing.{u32_bytes, name_bytes, vector_bytes, extern_name_bytes, top_type_bytes, top_export_bytes, framed, section_bytes, component_bytes}
 use Rattle.comp_bytes.specs.Parts.{Part, plain_export, sections_of_parts, top_slots, parts_in, parts_of, fits_component}
-use Rattle.comp_bytes.specs.Built.{Group, group_sections, group_in, sections_in, begun, section_id, closed_bytes, kept_parts, IsBuilt, Builds}
+use Rattle.comp_bytes.specs.Built.{Group, begun, section_id, closed_bytes, kept_parts, IsBuilt, Builds}
 use Rattle.comp_bytes.proofs.PartsLaws.{alone, put_behind, parts_of-sections_of_parts, sections_behind, top_slots-append, top_slots-push}
 use Rattle.comp_bytes.proofs.BuiltLaws.{all_sections, closed_begins, group_closed, StandsApart, custom_apart}
 use Rattle.wit_model.specs.declared.error.Error.TheVariants as errors
@@ -28,9 +28,6 @@ long_sections : (ps : List Part) (sections : List Section) → sections_of_parts
 long_sections ps sections e le = search (std_rules, length-append, too_long)
 
 -- ---- each item has a byte
-
-defined_filled : (d : DefinedType) → 1 ≤ length (defined_type_bytes d)
-defined_filled x = search std_rules
 
 type_filled : (t : TopType) → 1 ≤ length (top_type_bytes t)
 type_filled x = search std_rules

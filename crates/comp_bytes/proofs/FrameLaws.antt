@@ -1,5 +1,5 @@
 -- A section's frame from an offset on, and where its contents stand.
-use Rattle.std.proofs.Common.{rules as std_rules, ◌≡◌, ℕ, suc, false, ◌+◌, ◌-◌, ◌≤◌, ◌<◌, ◌==◌, List, [], ◌∷◌, ◌++◌, length, take, drop, Some, None, refl, sym, ap, ◌∙◌, arith, append_assoc}
+use Rattle.std.proofs.Common.{rules as std_rules, ◌≡◌, ℕ, false, ◌+◌, ◌-◌, ◌≤◌, ◌<◌, ◌==◌, List, ◌∷◌, ◌++◌, length, take, drop, Some, None, refl, sym, ap, ◌∙◌, arith, append_assoc}
 use Rattle.std.proofs.lemmas.{List.take_at, List.take-append-drop, List.length-append, List.length-drop, List.length-take-le, List.Folds.drop_split}
 use Rattle.std.proofs.{lemmas.Bool.false≢true, Math.Seq.drop-append_seam}
 use Rattle.std.specs.Prelude.{slice_range}

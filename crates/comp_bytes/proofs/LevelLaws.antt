@@ -1,7 +1,6 @@
 -- Entries and types at the top are read as they are spelled, and are the raw forms that they stand for.
-use Rattle.std.proofs.Common.{rules as std_rules, ◌≡◌, refl, sym, ap, subst, ◌∙◌, ℕ, zero, suc, arith, Bool, cond, eqb, List, [], ◌∷◌, ◌++◌, length, Some, None, inl, inr, append_assoc}
+use Rattle.std.proofs.Common.{rules as std_rules, ◌≡◌, refl, sym, ap, subst, ◌∙◌, ℕ, suc, arith, cond, eqb, List, [], ◌∷◌, ◌++◌, length, Some, None, inl, inr, append_assoc}
 use Rattle.std.proofs.lemmas.{Bool.ne_eqb, Bool.eqb-true, List.append-nil}
-use Rattle.std.specs.Prelude.{IsTrue}
 use Rattle.comp_bytes.specs.{Raw.ExternName, Raw.Declaration, Raw.from_list, Raw.declaration_count, Raw.imports_nothing, Number.IsU32}
 use Rattle.comp_bytes.specs.Form.{Tagged, Joined, Sequence, Vector}
 use Rattle.comp_bytes.specs.{Spelling.IsDeclaration, Spelling.ComponentTypeOf, Spelling.InstanceTypeOf, Spelling.AreDeclarations, Laws.IsReadBy, Laws.Taken}

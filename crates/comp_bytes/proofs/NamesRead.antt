@@ -1,5 +1,5 @@
 -- A name is what stands behind its number, where that is UTF-8.
-use Rattle.std.proofs.Common.{rules as std_rules, ◌≡◌, ℕ, true, false, Bool, List, Some, None, refl}
+use Rattle.std.proofs.Common.{rules as std_rules, ◌≡◌, ℕ, false, Bool, List, Some, None, refl}
 use Rattle.std.specs.Str.{is_utf8, IsUtf8}
 use Rattle.std.proofs.lemmas.Str.{IsUtf8-from_is_utf8, is_utf8-from_IsUtf8}
 use Rattle.comp_bytes.specs.Reading.{counted_at, name_at}

@@ -2,7 +2,7 @@
 use Rattle.std.proofs.Common.{rules as std_rules, ◌≡◌, refl, sym, ap, subst, ◌∙◌, ℕ, zero, suc, ◌+◌, ◌<◌, ◌≤◌, ◌^◌, arith, Bool, true, false, ◌&&◌, cond, eqb, ltb, List, [], ◌∷◌, length, map, take, drop, Option, Some, None}
 use Rattle.std.proofs.lemmas.{Bool.ne_eqb, List.length-map, List.length-append, List.length-drop}
 use Rattle.std.specs.{Prelude.nat_eq, Cmp.Lexicographic.pointwise}
-use Rattle.comp_bytes.specs.{Raw.TopType, Raw.TopExport, Raw.Section, Form.Spellings, Form.Sequence, Spelling.IsTopType, Spelling.preamble, Laws.IsReadBy}
+use Rattle.comp_bytes.specs.{Raw.TopType, Raw.Section, Form.Spellings, Form.Sequence, Spelling.IsTopType, Spelling.preamble, Laws.IsReadBy}
 use Rattle.comp_bytes.specs.Number.{IsU32}
 use Rattle.comp_bytes.specs.Reading.{Reader, ◌>>=◌, name_at, vector_at, declaration_at, type_at, top_export_at, whole, frame_at, section_of, sections_of, component_of}
 use Rattle.comp_bytes.specs.Levels.{Entry, plain, holds, PartType, wraps, shows, IsEntry, IsPartType, Piece, custom, types, exports, raw_part, raw_piece, entry_at, part_type_at, piece_of, pieces_of, pieces_in, levels_of, LevelsAreSections, PiecesByFrames, TakesBytes}

@@ -1,5 +1,5 @@
 -- Items that are read one behind the other, as a loop reads them: those in front have been read, so many are still to be read.
-use Rattle.std.proofs.Common.{rules as std_rules, ◌≡◌, refl, sym, ap, ◌∙◌, ℕ, suc, ◌+◌, ◌-◌, ◌<◌, ◌≤◌, arith, List, [], ◌∷◌, ◌++◌, map, Option, Some, None, append_assoc, append-nil}
+use Rattle.std.proofs.Common.{rules as std_rules, ◌≡◌, sym, ap, ◌∙◌, ℕ, suc, ◌+◌, ◌-◌, ◌<◌, ◌≤◌, List, [], ◌∷◌, ◌++◌, map, Option, Some, None, append_assoc}
 use Rattle.std.proofs.lemmas.List.{map-append}
 use Rattle.comp_bytes.specs.Reading.{Reader, ◌>>=◌, sequence_at}
 use Rattle.base_lemmas.proofs.Numbers.{less}

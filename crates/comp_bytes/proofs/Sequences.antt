@@ -5,7 +5,7 @@ use Rattle.std.proofs.{Math.ListN.get_or-map, lemmas.List.append-nil, lemmas.Lis
 use Rattle.std.specs.List.{flat_map, list_all}
 use Rattle.wit_model.specs.declared.error.Error.{Error}
 use Rattle.comp_bytes.specs.{Form.Spellings, Form.Sequence, Appending.Appended, Appending.Stopped, Appending.Appends}
-use Rattle.comp_bytes.proofs.{HeldLaws.sequence_push, Appends.stopped_after, Appends.refused, Appends.done, BuiltLaws.sequence_append as Sequence-append}
+use Rattle.comp_bytes.proofs.{HeldLaws.sequence_push, Appends.stopped_after, Appends.refused, BuiltLaws.sequence_append as Sequence-append}
 
 flat_map-push : {A : Type 0} (f : A → List ℕ) (xs : List A) (y : A) → flat_map f (xs ++ y ∷ []) ≡ flat_map f xs ++ f y
 flat_map-push f [] y = append-nil (f y)

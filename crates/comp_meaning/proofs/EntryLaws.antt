@@ -1,5 +1,5 @@
 -- The declarations of a world or an interface, followed as entries, stand for the scope that they stand for as raw forms.
-use Rattle.std.proofs.Common.{rules as std_rules, ◌≡◌, refl, sym, ap, subst, ◌∙◌, ℕ, suc, Bool, true, false, ◌&&◌, eqb, List, [], ◌∷◌, length, map, Option, Some, None, option_map}
+use Rattle.std.proofs.Common.{rules as std_rules, ◌≡◌, refl, ap, subst, ◌∙◌, ℕ, suc, Bool, true, false, ◌&&◌, eqb, List, [], ◌∷◌, length, map, Option, Some, None, option_map}
 use Rattle.std.proofs.lemmas.{List.map-append, Option.slice_get-map}
 use Rattle.std.specs.{Prelude.slice_get, List.list_any}
 use Rattle.wit_model.specs.Tree.{Place}

@@ -1,15 +1,15 @@
 -- What has a meaning nests no deeper than the levels do, and means the same by levels.
 use Rattle.std.proofs.Common.{rules as std_rules, ◌≡◌, ◌⊎◌, refl, sym, ap, subst, ◌∙◌, ℕ, zero, suc, ◌<◌, ◌+◌, arith, Bool, true, false, not, ◌&&◌, ◌||◌, eqb, List, [], ◌∷◌, ◌++◌, length, map, Option, Some, None, option_map, inl, inr, length-append}
 use Rattle.std.proofs.lemmas.{Bool.eqb-true, Bool.and_parts, Bool.not-true, List.map-append, Option.slice_get_within}
-use Rattle.std.specs.{Prelude.slice_get, Prelude.is_none, List.list_any}
+use Rattle.std.specs.{Prelude.slice_get, List.list_any}
 use Rattle.wit_model.specs.{Text.Text, Names.PackageIdentity, Names.is_label}
 use Rattle.wit_model.proofs.Checks.{get_before}
 use Rattle.comp_bytes.specs.Raw.{ExternName, Declaration, Declarations, TopType, TopExport, Section}
 use Rattle.comp_bytes.specs.Reading.{◌>>=◌, component_of}
 use Rattle.comp_bytes.specs.Levels.{plain, holds, PartType, wraps, shows, Piece, raw_part, raw_piece, levels_of}
 use Rattle.comp_bytes.proofs.{Readers.bind_some, Readers.when_some, PieceLaws.levels_are_sections}
-use Rattle.comp_meaning.specs.{Follow.each, Follow.when, Follow.complete_path, Follow.Scope, Follow.component_scope, Rules.distinct}
-use Rattle.comp_meaning.specs.Reads.{steps, is_bare, top_type, top_section, exported_types, wrapped, labelled_path, world_part, interface_part, part_of, Part, Member, member, package_of_members, world_of_members}
+use Rattle.comp_meaning.specs.{Follow.each, Follow.Scope, Follow.component_scope, Rules.distinct}
+use Rattle.comp_meaning.specs.Reads.{steps, is_bare, top_type, top_section, exported_types, wrapped, world_part, interface_part, part_of, Part, Member, member, package_of_members, world_of_members}
 use Rattle.comp_meaning.specs.ByLevels.{member_by_levels, exported_parts, package_of_pieces, world_of_pieces, PackageByLevels, WorldByLevels}
 use Rattle.comp_meaning.proofs.Marks.{all_taken, Counted, one_mark_more, one_number_more, exact, taken_at, true_mark, all_marked}
 use Rattle.comp_meaning.proofs.{EntryLaws.steps_keep, EntryLaws.scope_is, EntryLaws.followed_only, TopLaws.labelled, TopLaws.raw_found, TopLaws.parts_along}

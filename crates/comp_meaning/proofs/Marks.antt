@@ -2,7 +2,7 @@
 use Rattle.std.proofs.Common.{rules as std_rules, ◌≡◌, refl, sym, ap, subst, ◌∙◌, ℕ, zero, suc, ◌+◌, ◌<◌, ◌≤◌, arith, Bool, true, false, ◌&&◌, ◌||◌, cond, eqb, List, [], ◌∷◌, ◌++◌, length, map, Some, length-append}
 use Rattle.std.proofs.lemmas.{Bool.eqb-true, Bool.eq-eqb, Bool.ne_eqb, Bool.false_from_ne_true as absent, List.Folds.list_any-append, Option.slice_get_within}
 use Rattle.std.specs.{Prelude.slice_get, List.list_any}
-use Rattle.base_lemmas.proofs.Bools.{both_ways, left_of as first_true, or_true, or_false as or_none, right_of as second_true}
+use Rattle.base_lemmas.proofs.Bools.{both_ways, left_of as first_true, or_false as or_none, right_of as second_true}
 
 -- how many marks there are
 abbrev pub marks : List Bool → ℕ

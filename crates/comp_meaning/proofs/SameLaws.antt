@@ -96,9 +96,6 @@ form_itself (Form.future_of a) = (bools_decide a a).1 refl
 form_itself (Form.stream_of a) = (bools_decide a a).1 refl
 form_itself _ = refl
 
-forms_decide : DecidesEquality same_form
-forms_decide f g = (form_is f g, λ e. subst (λ (x : Form). same_form f x ≡ true) e (form_itself f))
-
 mutual
   tree_is : (t u : Tree) → same_tree t u ≡ true → t ≡ u
   tree_is (Tree.primitive p) (Tree.primitive q) e = ap Tree.primitive ((primitives_decide p q).0 e)

@@ -1,12 +1,12 @@
 -- What a declaration of a world does to its scope: one more slot, or one more that is seen.
-use Rattle.std.proofs.Common.{rules as std_rules, arith, ◌≡◌, subst, ℕ, false, not, ◌==◌, [], ◌∷◌, ◌++◌, Option, Some, slice_get}
+use Rattle.std.proofs.Common.{rules as std_rules, arith, ◌≡◌, subst, ℕ, false, ◌==◌, [], ◌∷◌, ◌++◌, Some, slice_get}
 use Rattle.std.proofs.lemmas.Bool.{not-true}
 use Rattle.std.specs.List.{list_any}
 use Rattle.wit_model.specs.{Text.Text, Tree.Tree, Tree.Place, Meaning.Signature}
 use Rattle.comp_bytes.specs.declared.forms.ComponentTypeRef.{ComponentTypeRef}
-use Rattle.comp_bytes.specs.Raw.{Alias, DefinedType, ExternName, FunctionType, Declaration}
+use Rattle.comp_bytes.specs.Raw.{DefinedType, ExternName, FunctionType, Declaration}
 use Rattle.comp_bytes.proofs.Readers.{bind_some, when_some}
-use Rattle.comp_meaning.specs.Follow.{Slot, Scope, Seen, Shown, Key, View, Direction, import_, export_, when, provided, in_scope, see, key_of, key_text, place_of, interface_of, used_view, see_instance, see_described, named_type, is_simple, function_in, definition, function_signature, exported_slot, component_step}
+use Rattle.comp_meaning.specs.Follow.{Slot, Scope, Seen, Shown, Key, View, Direction, import_, export_, provided, in_scope, see, key_text, place_of, interface_of, used_view, see_instance, see_described, named_type, is_simple, function_in, definition, function_signature, exported_slot, component_step}
 use Rattle.base_lemmas.proofs.Options.{some_is}
 use Rattle.wit_model.specs.Tree as tree
 use Rattle.comp_bytes.specs.declared.forms.ComponentTypeRef.TheVariants as refs

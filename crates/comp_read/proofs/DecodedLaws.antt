@@ -11,7 +11,7 @@ use Rattle.read_members.specs.ReadMembers.{Because}
 use Rattle.comp_read.specs.declared.wanted.Wanted.{Wanted}
 use Rattle.comp_read.specs.Decoded.{error_from, HoldsFound, IsDecoded, MeansNothing, RefusesBytes}
 use Rattle.comp_read.specs.DecodedWorlds.{HoldsWorldFound, IsDecodedWorld, MeansNoWorld, RefusesWorldBytes}
-use Rattle.comp_read.specs.WantedFound.{HoldsWanted, MeansNone}
+use Rattle.comp_read.specs.WantedFound.{MeansNone}
 use Rattle.read_follow.specs.declared.refusal.Refusal.TheVariants as refusals
 use Rattle.comp_read.specs.declared.wanted.Wanted.TheVariants as wanted
 
@@ -79,12 +79,6 @@ module _ (bytes : List ℕ) where
   refuses_world (refusals.Absent cause left) none = (omega arith, no_world none)
 
 -- ---- levels that were read
-
-pub over_levels : (wanted : Wanted) (o : Option (List Piece)) (pieces : List Piece) → o ≡ Some pieces → (r : Resolve) (n : ℕ) → HoldsWanted wanted (Some pieces) r n → HoldsWanted wanted o r n
-over_levels wanted o pieces e r n = subst (λ (l : Option (List Piece)). HoldsWanted wanted l r n) (sym e)
-
-pub none_over_levels : (wanted : Wanted) (o : Option (List Piece)) (pieces : List Piece) → o ≡ Some pieces → (e : Refusal) → Because e (MeansNone wanted (Some pieces)) → Because e (MeansNone wanted o)
-none_over_levels wanted o pieces same e = subst (λ (l : Option (List Piece)). Because e (MeansNone wanted l)) (sym same)
 
 -- where there are no levels, nothing is meant
 pub no_levels : (wanted : Wanted) (o : Option (List Piece)) (e : Refusal) → Refuses e o → Because e (MeansNone wanted o)

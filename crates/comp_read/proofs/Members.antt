@@ -3,7 +3,6 @@ use Rattle.std.proofs.Common.{◌≡◌, ap, subst, ◌∙◌, ℕ, true, List, 
 use Rattle.std.specs.List.{AllByRecursion, Contains}
 use Rattle.wit_model.proofs.Elements.{contains-flat, contains-get}
 use Rattle.comp_bytes.specs.Levels.{Piece}
-use Rattle.comp_meaning.specs.Follow.{each}
 use Rattle.read_shown.specs.Parts.{MemberStands, PartStands, WorldStands}
 use Rattle.read_shown.proofs.ByLevels.{members_by_levels_stand}
 use Rattle.plan_meaning.specs.NumberedMembers.{Homes, IsMember, NumberedMember, ShowsPart, interface, world}

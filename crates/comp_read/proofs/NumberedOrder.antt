@@ -1,16 +1,16 @@
 -- Types are numbered in the order in which they are declared.
-use Rattle.std.proofs.Common.{◌≡◌, refl, sym, ap, subst, ◌∙◌, ℕ, zero, suc, ◌+◌, ◌-◌, ◌<◌, arith, cond, List, ◌∷◌, [], take, Option, Some, None, slice_get, unwrap_or, ◌≤◌, ◌⊎◌, inl, inr, Bool, true, false, ◌&&◌, ◌++◌, length, map, option_and_then, option_to_list}
+use Rattle.std.proofs.Common.{◌≡◌, refl, sym, ap, subst, ◌∙◌, ℕ, zero, suc, ◌+◌, ◌-◌, ◌<◌, arith, cond, List, ◌∷◌, [], take, Option, Some, None, slice_get, unwrap_or, ◌≤◌, ◌⊎◌, inl, inr, true, ◌++◌, length, map, option_and_then, option_to_list}
 use Rattle.std.proofs.lemmas.{Bool.lt-ltb, Bool.cases_lt, Bool.le-ltb, List.Elements.Contains-append_left, List.Elements.Contains-append_right}
 use Rattle.std.proofs.lemmas.Option.{same_Some as same-some, slice_get_within as found_below}
 use Rattle.std.specs.{List.Contains, List.flat_map, List.AllZip, Option.option_map_or}
 use Rattle.wit_model.specs.Parts.{met_by, numbered_from, met_of}
-use Rattle.wit_model.specs.{Text.Text, Tree.Form, Tree.Place, Tree.Tree, Tree.Trees, Tree.children, Types.no_tree, Types.number_tree, Types.trees_of, Uses.once}
+use Rattle.wit_model.specs.{Text.Text, Tree.Form, Tree.Place, Tree.Tree, Tree.children, Types.no_tree, Types.number_tree, Types.trees_of, Uses.once}
 use Rattle.plan_meaning.specs.{GatheredPlan.Becomes, Renumbering.IsPart, Renumbering.a_primitive, Renumbering.a_shape}
 use Rattle.plan_meaning.specs.{KeptTypes.IsKeptType, KeptTypes.unnamed, KeptTypes.declared, KeptTypes.TypesAreKept, Built.IsBuilt, Built.planned_type}
 use Rattle.plan_meaning.specs.Shapes.{named_shape, node_shape, Shape, part_tree, shape_tree, shape_trees}
 use Rattle.plan_meaning.specs.NumberedViews.{AreTables, HasNameIn, itself, inside, Tables, AreApart, IsOutside, path_at, place_at, tree_at}
 use Rattle.plan_meaning.specs.Plan.{Plan, PlannedKind, PlannedType, kind_numbers, met_at, met_in, part_number, trees_in}
-use Rattle.wit_model.proofs.{Owners.numbered_at, Tables.grow_at, Elements.contains-flat, Elements.contains-get, Elements.none-in}
+use Rattle.wit_model.proofs.{Owners.numbered_at, Tables.grow_at, Elements.contains-flat, Elements.none-in}
 use Rattle.plan_meaning.proofs.{KeptTypes.parts_before, KeptTypes.kept_types_pass, Words.behind, Words.met_are, Words.trees_are, Renumbering.trees_are_kept}
 use Rattle.plan_meaning.proofs.ShapeLaws.{name_tree, node_tree, one_number_apart, part_behind, split_part, tree_at_number}
 use Rattle.plan_laws.proofs.{Inside.flat_cases, PlaceNumbers.number_given}
@@ -27,7 +27,7 @@ use Rattle.read_numbers.specs.PlacedNumbers.{IsMetPart}
 use Rattle.read_numbers.proofs.MetNumbers.{met_parts_are_seen}
 use Rattle.read_parts.specs.Members.{DeclaringScope}
 use Rattle.comp_read.specs.TypeOrder.{are_pathed, is_pathed, numbers_below, HasNumber, NumbersFollow}
-use Rattle.comp_read.proofs.CountedUp.{Any, IsOfSmaller, StandBehind, behind_mapped, below, counted_up}
+use Rattle.comp_read.proofs.CountedUp.{IsOfSmaller, StandBehind, behind_mapped, below, counted_up}
 use Rattle.comp_read.proofs.PlanOrder.{is_plan}
 
 -- ---- The named types that a type of the plan meets are names in the part that is kept for it.

@@ -1,5 +1,5 @@
 -- What one more addition says of the slots of a flat encoder.
-use Rattle.std.proofs.Common.{◌≡◌, sym, subst, ◌∙◌, refl, ap, ℕ, Bool, true, false, cond, List, [], ◌∷◌, ◌++◌, inl, inr, arith, Result, Ok, Err, IfOk, OnErr, OnOk, Option, Some, None, nat_eq, is_some, ◌||◌, ◌⊎◌, option_to_list, find}
+use Rattle.std.proofs.Common.{◌≡◌, sym, subst, ◌∙◌, refl, ap, ℕ, Bool, true, false, cond, List, [], ◌∷◌, ◌++◌, inl, inr, Result, Ok, Err, IfOk, OnErr, OnOk, Option, Some, None, nat_eq, is_some, ◌||◌, ◌⊎◌, option_to_list, find}
 use Rattle.std.proofs.lemmas.{Bool.eqb-true, List.reverse-append, Option.none-some as not-none, Option.same_Some as some-is}
 use Rattle.std.specs.{Prelude.reverse, List.Contains}
 use Rattle.wit_model.specs.{Text.Text, Tree.Place, Tree.named, Types.number_tree, Meaning.TypeMeaning}
@@ -9,7 +9,7 @@ use Rattle.comp_bytes.specs.declared.forms.ComponentFuncType.{ComponentFuncType}
 use Rattle.comp_bytes.specs.RawOf.{raw_name}
 use Rattle.encode_types.specs.declared.maps.TypeEncodingMaps.{TypeEncodingMaps}
 use Rattle.encode_types.specs.{Scope.Scope, Scope.exported_name, Counts.Definitions, Counts.ExportsOne, Counts.one_type_more, Counts.one_function_more}
-use Rattle.encode_types.specs.Slots.{Adds, SlotAdded, NameAdded, SlotsGrow, Standing, tree}
+use Rattle.encode_types.specs.Slots.{Adds, SlotAdded, NameAdded, Standing, tree}
 use Rattle.encode_flat.specs.declared.{forms.Form.Form, marks.Mark.Mark, encoder.FlatEncoderOf.FlatEncoderOf}
 use Rattle.encode_flat.specs.Marked.{Imports, import_slot, slot_count}
 use Rattle.encode_flat.specs.Flat.{FlatReads, ImportsOnce, ReadsAs, exports_more, flat_definitions, flat-in_range, is_name_of}
@@ -46,11 +46,6 @@ module _ (r : Resolve) (place : Place) (ks : List Mark) (old : List Form) (x : F
       }))
   form-ok (Err e) ks' new h = h
 
-  pub form-grows : {E : Type 0} (res : Result ℕ E) (ks' : List Mark) (new : List Form) → IfOk res (AddsForm ks old x ks' new) → OnErr res (ks' ≡ ks) → OnErr res (new ≡ old)
-      → SlotsGrow (FlatReads r place ks (reverse old)) (FlatReads r place ks' (reverse new)) (slot_count ks) (slot_count ks')
-  form-grows (Ok i) ks' new h g f = rw h.1 (rw (reversed old new x h.2) (record { kept = λ i m q. inl q; more = omega arith }))
-  form-grows (Err e) ks' new h g f = rw g (rw f (record { kept = λ i m q. q; more = omega arith }))
-
 pub definition-added : {E : Type 0} (res : Result ℕ E) (declarations : List (Text × TypeMeaning)) (ks ks' : List Mark) (old new : List Form) (def : ComponentDefinedType)
     → IfOk res (AddsForm ks old (form.Definition def) ks' new)
     → IfOk res (λ i. flat_definitions declarations ks' (reverse new) ≡ one_type_more i (flat_definitions declarations ks (reverse old)))
@@ -81,12 +76,6 @@ name-added r place ks ks' old new i name m h e f =
         only = λ j m q. elim q [ inl a ↦ inl a | inr b ↦ inr (b.0, b.2) ];
       },
     ))
-
-pub name-grows : {T E : Type 0} (res : Result T E) (r : Resolve) (place : Place) (ks ks' : List Mark) (old new : List Form) (i : ℕ) (name : ComponentExternName) → OnOk res (ks' ≡ mark.Name i ∷ ks)
-    → OnOk res (new ≡ old ++ form.Export i name ∷ []) → OnErr res (ks' ≡ ks) → OnErr res (new ≡ old)
-    → SlotsGrow (FlatReads r place ks (reverse old)) (FlatReads r place ks' (reverse new)) (slot_count ks) (slot_count ks')
-name-grows (Ok u) r place ks ks' old new i name e f g h = rw e (rw (reversed old new (form.Export i name) f) (record { kept = λ j m q. inl q; more = omega arith }))
-name-grows (Err y) r place ks ks' old new i name e f g h = rw g (rw h (record { kept = λ j m q. q; more = omega arith }))
 
 -- what is exported is one declaration more
 exports-one : (scope : Scope) (before : Definitions) (slot : Option ℕ) (name : ComponentExternName) (d : Text × TypeMeaning) → Contains scope.declarations d → raw_name name ≡ exported_name d

@@ -1,12 +1,10 @@
 -- Lists of texts in which none stands twice.
 use Rattle.std.proofs.Common.{◌≡◌, refl, ap, ◌∙◌, true, false, not, ◌||◌, List, [], ◌∷◌, ◌++◌, arith}
-use Rattle.std.proofs.lemmas.{Map.Keys.IsDistinct-IsPermutation, List.Folds.list_any-append, Bool.and_from as both, Bool.not-true as no-longer}
-use Rattle.std.proofs.lemmas.Cmp.{nat_list_eq_equiv}
-use Rattle.std.specs.{Prelude.IsPermutation, List.Contains, List.AllByRecursion, List.IsDistinct, List.list_any}
+use Rattle.std.proofs.lemmas.{List.Folds.list_any-append, Bool.and_from as both, Bool.not-true as no-longer}
+use Rattle.std.specs.{List.Contains, List.AllByRecursion, List.IsDistinct, List.list_any}
 use Rattle.wit_model.specs.Text.{Text, text_eq}
 use Rattle.comp_meaning.specs.Rules.{distinct}
 use Rattle.base_lemmas.proofs.{Bools.left_of as first_true, Bools.right_of as second_true, Elements.contains-later}
-use Rattle.wit_model.proofs.TextLemmas.{none_of_texts as any-none}
 
 none-any : (t : Text) (ts : List Text) → AllByRecursion (λ y. text_eq t y ≡ false) ts → list_any (text_eq t) ts ≡ false
 none-any t [] h = refl
@@ -16,15 +14,6 @@ pub distinct-from : (ts : List Text) → IsDistinct text_eq ts → distinct ts �
 unfolding IsDistinct
 distinct-from [] d = refl
 distinct-from (t ∷ ts) d = both _ _ (ap not (none-any t ts d.0)) (distinct-from ts d.1)
-
-pub from-distinct : (ts : List Text) → distinct ts ≡ true → IsDistinct text_eq ts
-unfolding IsDistinct
-from-distinct [] h = tt
-from-distinct (t ∷ ts) h = (any-none t ts (no-longer (list_any (text_eq t) ts) (first_true _ _ h)), from-distinct ts (second_true (not (list_any (text_eq t) ts)) _ h))
-
--- so it is in another order
-pub distinct-permuted : (xs ys : List Text) → IsPermutation xs ys → distinct xs ≡ true → distinct ys ≡ true
-distinct-permuted xs ys p h = distinct-from ys (IsDistinct-IsPermutation text_eq nat_list_eq_equiv.symm xs ys p (from-distinct xs h))
 
 -- two lists, none of whose texts are the same
 pub distinct-both : (xs ys : List Text) → distinct xs ≡ true → distinct ys ≡ true → ((x : Text) → Contains xs x → list_any (text_eq x) ys ≡ false) → distinct (xs ++ ys) ≡ true

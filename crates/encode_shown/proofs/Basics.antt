@@ -1,5 +1,5 @@
 -- What a rule that is kept says of an entry, and owners.
-use Rattle.std.proofs.Common.{rules as std_rules, ◌≡◌, refl, subst, ◌+◌, Bool, true, false, ◌||◌, Option, Some, None, arith}
+use Rattle.std.proofs.Common.{rules as std_rules, ◌≡◌, subst, ◌+◌, Bool, true, false, ◌||◌, Option, Some, None, arith}
 use Rattle.std.specs.{Prelude.option_and_then, Option.option_map_or}
 use Rattle.wit_model.specs.{Checks.references, Valid.IsValid, Valid.Keeps}
 use Rattle.wit_model.specs.declared.model.Resolve.{Resolve}

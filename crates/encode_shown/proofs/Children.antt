@@ -1,16 +1,15 @@
 -- What stands in a declared form: its labels, and the trees of the parts of the kind.
-use Rattle.std.proofs.Common.{rules as std_rules, ◌≡◌, refl, sym, ap, ◌∙◌, ℕ, Bool, true, false, not, ◌||◌, nat_le, max, List, [], ◌∷◌, ◌++◌, append-nil, map, Option, Some, None, option_map, option_to_list}
+use Rattle.std.proofs.Common.{rules as std_rules, ◌≡◌, refl, ◌∙◌, ℕ, Bool, true, false, not, ◌||◌, nat_le, max, List, [], ◌∷◌, ◌++◌, append-nil, map, Option, option_map, option_to_list}
 use Rattle.std.proofs.lemmas.{Simd.map-map, Bool.and_from as both}
 use Rattle.std.specs.{Prelude.filter_map, List.list_all, List.cons_option}
 use Rattle.wit_model.specs.Text.{Text, text_of}
-use Rattle.wit_model.specs.Tree.{Tree, Trees, Place, Declaration, type_, node, no_children, child, child_list, given, is_given, levels, deepest}
+use Rattle.wit_model.specs.Tree.{Tree, Trees, Place, Declaration, type_, node, no_children, child, child_list, given, levels, deepest}
 use Rattle.wit_model.specs.{Types.declared_by, Types.tree_of, Types.tree_at, Parts.member_types, Parts.handled, Rules.kind_labels, Rules.is_named_kind}
 use Rattle.wit_model.specs.declared.model.{Case.Case, TypeDefKind.TypeDefKind, «Type».«Type» as ValueType}
 use Rattle.comp_meaning.specs.Rules.{is_part, are_parts, is_declared, is_named_form, form_labels, are_labels}
 use Rattle.base_lemmas.proofs.Bools.{left_of as first_true, right_of as second_true}
 use Rattle.wit_model.proofs.TreeLemmas.{child_list_of_children as listed}
 use Rattle.wit_model.specs.declared.model.TypeDefKind.TheVariants as kind
-use Rattle.wit_model.specs.declared.model.Handle.TheVariants as handle
 
 abbrev pub child_trees : Declaration → List Tree
 child_trees (type_ (node form ts)) = child_list ts

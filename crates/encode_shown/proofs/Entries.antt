@@ -1,7 +1,7 @@
 -- What validity says of an import and of an export of a world.
-use Rattle.std.proofs.Common.{rules as std_rules, ◌≡◌, refl, sym, ap, ◌∙◌, ℕ, Bool, true, false, ◌&&◌, List, ◌++◌, Option, Some, None}
+use Rattle.std.proofs.Common.{rules as std_rules, ◌≡◌, sym, ◌∙◌, ℕ, Bool, true, ◌&&◌, List, ◌++◌, Option, Some, None}
 use Rattle.std.proofs.lemmas.List.Elements.{Contains-append_left, Contains-append_right}
-use Rattle.std.specs.{Prelude.is_some, Prelude.option_to_list, List.Contains, List.list_all, Option.option_map_or}
+use Rattle.std.specs.{Prelude.is_some, Prelude.option_to_list, List.Contains, List.list_all}
 use Rattle.indexmap.specs.IndexMap.{values}
 use Rattle.wit_model.specs.{Text.text_of, Names.is_label, Lookup.world_at, Lookup.interface_path, Parts.function_types, Uses.items_of, Uses.item_interface}
 use Rattle.wit_model.specs.Rules.{passes, in_list, is_id, key_in_range, item_in_range, entries_in_range, key_label, item_labels, entries_labels, is_name_key, is_member, is_stability, function_stays, is_shallow, is_interface_key, is_own_type, item_type, import_stands, export_stands, is_freestanding, package_number}
@@ -10,7 +10,6 @@ use Rattle.wit_model.specs.declared.model.{Resolve.Resolve, World.World, WorldKe
 use Rattle.wit_model.proofs.{Lists.list_all_filter_map, OnePath.found-in, OnePath.named-path, ValidLemmas.world_passes as world-passes}
 use Rattle.base_lemmas.proofs.{Bools.left_of as first_true, Bools.right_of as second_true, Elements.all-contained, Elements.contains-map}
 use Rattle.wit_model.specs.declared.model.WorldKey.TheVariants as key
-use Rattle.wit_model.specs.declared.model.WorldItem.TheVariants as item
 
 -- a key that is an interface is that of the item
 abbrev pub key_stands : Resolve → WorldKey → WorldItem → Bool

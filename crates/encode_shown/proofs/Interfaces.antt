@@ -21,7 +21,6 @@ use Rattle.encode_shown.proofs.{Parts.number-declared, Members.IsNamedType, Memb
 use Rattle.base_lemmas.proofs.Bools.{left_of as first_true, right_of as second_true}
 use Rattle.base_lemmas.proofs.Elements.{all-contained, all_pass as all-from, contains-later, contains-map, map_from as contains-mapped}
 use Rattle.wit_model.specs.Meant as meant
-use Rattle.wit_model.specs.declared.model.TypeDefKind.TheVariants as kind
 use Rattle.wit_model.specs.declared.model.TypeOwner.TheVariants as owner
 
 -- what stands in a list stands in one with a resource more

@@ -1,12 +1,12 @@
 -- What shows an import or an export of a valid world obeys the rules of items.
-use Rattle.std.proofs.Common.{rules as std_rules, ◌≡◌, refl, sym, subst, ap, ◌∙◌, ℕ, zero, suc, Bool, true, false, ◌&&◌, cond, List, [], ◌∷◌, map, Option, Some, None, arith}
+use Rattle.std.proofs.Common.{rules as std_rules, ◌≡◌, refl, sym, subst, ap, ◌∙◌, ℕ, zero, suc, Bool, true, false, ◌&&◌, cond, List, [], ◌∷◌, map, Option, Some, arith}
 use Rattle.std.proofs.lemmas.{List.Elements.Contains-append_right, Option.same_Some as same-some}
 use Rattle.std.specs.{Prelude.is_some, Prelude.option_to_list, Prelude.filter_map, List.AllZip, List.Contains, List.list_all, Option.option_map_or}
 use Rattle.wit_model.specs.{Text.Text, Text.text_of, Uses.has, Uses.item_interface, Meant.type_meaning_at, Meant.signature_of, Valid.IsValid, Valid.as_world}
 use Rattle.wit_model.specs.{Tree.Place, Types.number_of}
-use Rattle.wit_model.specs.Lookup.{type_at, interface_path, key_text, place_of, place_of_path, resource_of}
+use Rattle.wit_model.specs.Lookup.{type_at, interface_path, key_text, place_of_path, resource_of}
 use Rattle.wit_model.specs.Parts.{same_owner, has_owner, met_by, met_of, used_by_function, used_by_type, function_types, function_numbers}
-use Rattle.wit_model.specs.Rules.{passes, text_is, is_id, is_name_key, item_type, used_types, used_interfaces, uses_stand_before}
+use Rattle.wit_model.specs.Rules.{passes, text_is, is_name_key, item_type, used_types, used_interfaces, uses_stand_before}
 use Rattle.wit_model.specs.declared.model.{Resolve.Resolve, TypeDef.TypeDef, TypeId.TypeId, WorldKey.WorldKey, WorldItem.WorldItem, Function.Function}
 use Rattle.wit_model.proofs.{Owners.met_step, TextLemmas.text_named as text-named}
 use Rattle.wit_model.proofs.{Elements.contains-flat, Elements.none-in, Elements.has-contains, OnePath.found-in, PartsLemmas.owner_same as same-owner}
@@ -19,7 +19,6 @@ use Rattle.encode_shown.proofs.Interfaces.{interface-obeys, resource-declared, n
 use Rattle.base_lemmas.proofs.Bools.{left_of as first_true, right_of as second_true}
 use Rattle.base_lemmas.proofs.{Elements.all-contained, Elements.contains-one, Elements.filter_keeps as contains-filter, Numbers.equal}
 use Rattle.wit_model.specs.Tree as tree
-use Rattle.wit_model.specs.declared.model.TypeOwner.TheVariants as owner
 use Rattle.wit_model.specs.declared.model.WorldKey.TheVariants as key
 use Rattle.wit_model.specs.declared.model.WorldItem.TheVariants as item
 use Rattle.comp_meaning.specs.Follow as follow

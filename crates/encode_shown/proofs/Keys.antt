@@ -1,22 +1,21 @@
 -- The keys of the imports, and of the exports, of a world are texts of which none stands twice.
-use Rattle.std.proofs.Common.{rules as std_rules, ◌≡◌, ◌⊎◌, inl, inr, refl, sym, ap, ◌∙◌, ℕ, Bool, true, false, not, ◌&&◌, ◌||◌, ◌==◌, cond, List, [], ◌∷◌, ◌++◌, map, drop, Option, Some, None, String, unwrap_or, arith}
+use Rattle.std.proofs.Common.{rules as std_rules, ◌≡◌, ◌⊎◌, inl, inr, refl, sym, ap, ◌∙◌, ℕ, Bool, true, false, not, ◌&&◌, ◌||◌, ◌==◌, List, [], ◌∷◌, ◌++◌, map, Option, Some, None, String, unwrap_or, arith}
 use Rattle.std.proofs.lemmas.{Cmp.nat_list_eq_equiv, Bool.both_ways, Bool.false_from_ne_true}
 use Rattle.std.specs.declared.alloc.Global.{Global}
-use Rattle.std.specs.{Prelude.is_some, Prelude.is_none, Char.is_ascii_alphabetic, List.Contains, List.AllByRecursion, List.IsDistinct, List.list_all}
+use Rattle.std.specs.{Prelude.is_some, Prelude.is_none, List.Contains, List.AllByRecursion, List.IsDistinct, List.list_all}
 use Rattle.std.specs.Option.{option_map_or}
 use Rattle.wit_model.specs.Text.{Text, text_of, text_eq}
-use Rattle.wit_model.specs.Names.{is_label, begins_with_letter, constructor_name, method_name, static_name}
+use Rattle.wit_model.specs.Names.{is_label, begins_with_letter}
 use Rattle.wit_model.specs.{Lookup.interface_path, Lookup.key_text, Lookup.resource_of, Valid.IsValid, Valid.key_eq, Valid.as_world}
-use Rattle.wit_model.specs.Rules.{passes, after_prefix, is_name_key, is_freestanding, is_member, is_member_of, is_member_name, resource_name}
+use Rattle.wit_model.specs.Rules.{passes, is_name_key, is_freestanding, is_member, is_member_of, resource_name}
 use Rattle.wit_model.specs.declared.model.{Resolve.Resolve, WorldKey.WorldKey, WorldItem.WorldItem, Function.Function, FunctionKind.FunctionKind}
 use Rattle.wit_model.proofs.{NameLaws.label_lacks, NameLaws.identity_namespace, OnePath.has-path, OnePath.package-name, OnePath.path-once}
 use Rattle.wit_model.proofs.TextLemmas.{text_same as text-same}
 use Rattle.encode_shown.proofs.{Entries.IsEntry, Entries.interface-key-path, Basics.passed}
-use Rattle.base_lemmas.proofs.{Bools.left_of as first_true, Bools.right_of as second_true, Bools.no-and, Elements.contains-later, Numbers.equal, Numbers.differ}
+use Rattle.base_lemmas.proofs.{Bools.left_of as first_true, Bools.right_of as second_true, Bools.no-and, Elements.contains-later, Numbers.differ}
 use Rattle.base_lemmas.proofs.Options.{there as some-of}
 use Rattle.wit_model.specs.declared.model.WorldKey.TheVariants as key
 use Rattle.wit_model.specs.declared.model.WorldItem.TheVariants as item
-use Rattle.wit_model.specs.declared.model.FunctionKind.TheVariants as call
 
 -- a key is a path, or a label, or the name of a function of a resource
 abbrev pub IsKey : Resolve → WorldKey → Type 0
@@ -27,14 +26,6 @@ IsKey r (key.Name name) = (is_label (text_of name) ≡ true) ⊎ (begins_with_le
 
 front-letter : (xs ys : Text) → begins_with_letter xs ≡ true → begins_with_letter (xs ++ ys) ≡ true
 front-letter x ys h = search std_rules
-
-prefix-first : (p : ℕ) (ps bs : Text) → is_ascii_alphabetic p ≡ false → option_map_or is_label (after_prefix (p ∷ ps) bs) false ≡ true → begins_with_letter bs ≡ false
-prefix-first p ps [] e h = refl
-prefix-first p ps (b ∷ bs) e h = go (p == b) refl h
-  where
-    go : (c : Bool) → (p == b) ≡ c → option_map_or is_label (cond c (after_prefix ps bs) None) false ≡ true → is_ascii_alphabetic b ≡ false
-    go true q h = ap is_ascii_alphabetic (sym (equal p b q)) ∙ e
-    go false q h = absurd cc
 
 colon-there : (xs ys : Text) → list_all (λ b. not (b == 58)) (xs ++ (58 ∷ ys)) ≡ false
 colon-there [] ys = refl

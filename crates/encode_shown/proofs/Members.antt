@@ -1,5 +1,5 @@
 -- The types of an interface's list: each is a named type of the interface, under its name, and they are all of those.
-use Rattle.std.proofs.Common.{rules as std_rules, ◌≡◌, refl, sym, ap, ◌∙◌, ℕ, true, false, ◌&&◌, ◌==◌, nat_lt, List, Option, count_by, Some, None, String, string_bytes, option_map}
+use Rattle.std.proofs.Common.{rules as std_rules, ◌≡◌, sym, ap, ◌∙◌, ℕ, true, false, ◌&&◌, ◌==◌, nat_lt, List, Option, count_by, Some, String, string_bytes, option_map}
 use Rattle.std.proofs.lemmas.Bool.{both_ways, true_from_ne_false}
 use Rattle.std.specs.declared.alloc.Global.{Global}
 use Rattle.std.specs.{Prelude.is_some, List.Contains, List.list_all, Option.option_map_or, Map.lookup, Str.bytes_eq, HashMap.get_by_text}
@@ -13,7 +13,7 @@ use Rattle.wit_model.proofs.{Listed.misfit, PartsLemmas.owner_same as same-owner
 use Rattle.wit_model.proofs.{Listings.given_all, Listings.given_found, Elements.contains-get, OnePath.found-in, OnePath.given-test, OnePath.interface-passes}
 use Rattle.encode_shown.proofs.Basics.{Given}
 use Rattle.base_lemmas.proofs.{Bools.left_of as first_true, Bools.right_of as second_true, Options.there as some-of}
-use Rattle.base_lemmas.proofs.{Elements.all-contained, Elements.contains-map, Elements.lookup_stands, Numbers.equal, Numbers.same-number}
+use Rattle.base_lemmas.proofs.{Elements.all-contained, Elements.contains-map, Elements.lookup_stands, Numbers.same-number}
 use Rattle.wit_model.specs.declared.model.TypeOwner.TheVariants as owner
 
 -- what has this number

@@ -10,7 +10,7 @@ use Rattle.wit_model.specs.{Text.Text, Text.text_of, Text.text_eq, Rules.each_af
 use Rattle.wit_model.specs.{Names.PackageIdentity, Names.path_in, Valid.IsValid, Valid.order_of_items}
 use Rattle.wit_model.specs.Lookup.{package_at, world_at, interface_at, interface_path, path_of_interface, identity_of}
 use Rattle.wit_model.specs.Uses.{has, items_of, item_interface, interfaces_of_item, interfaces_of_world, shown_by, worlds_of, reached_by_package, is_shown_in, direct_deps}
-use Rattle.wit_model.specs.declared.model.{Resolve.Resolve, Package.Package, Interface.Interface, InterfaceId.InterfaceId, WorldId.WorldId, WorldItem.WorldItem}
+use Rattle.wit_model.specs.declared.model.{Resolve.Resolve, Package.Package, InterfaceId.InterfaceId, WorldId.WorldId, WorldItem.WorldItem}
 use Rattle.wit_model.specs.declared.model.World.{World}
 use Rattle.wit_model.proofs.{NameLaws.spelled_path_reads, OnePath.path-once}
 use Rattle.wit_model.proofs.Elements.{contains-flat, contains-filter_map, none-in, has-contains, contains-has}
@@ -23,7 +23,6 @@ use Rattle.encode_shown.proofs.{WorldMeans.IsWhole, WorldMeans.seen-whole, Sight
 use Rattle.comp_meaning.proofs.SameLaws.{identities_decide}
 use Rattle.base_lemmas.proofs.Bools.{left_of as first_true, right_of as second_true}
 use Rattle.base_lemmas.proofs.Elements.{all-contained, any-at, any-contains, contains-map, contains-one, filter_keeps as contains-filter, filter_kept as filter-contains, last_of as one-contained, map_from as contains-mapped}
-use Rattle.wit_model.specs.declared.model.WorldItem.TheVariants as item
 
 -- what stands behind others passes the test behind some of them
 after-item : {A : Type 0} (q : List A → A → Bool) (before xs : List A) (x : A) → each_after q before xs ≡ true → Contains xs x → (front : List A) × (q front x ≡ true)

@@ -1,9 +1,9 @@
 -- The sections of a component that exports the component types of a package, or of one world, mean it.
-use Rattle.std.proofs.Common.{rules as std_rules, ◌≡◌, ◌↔◌, map, option_map, refl, sym, subst, ap, ◌∙◌, ℕ, true, List, [], ◌∷◌, ◌++◌, Option, Some, String, arith}
+use Rattle.std.proofs.Common.{rules as std_rules, ◌≡◌, ◌↔◌, map, refl, sym, subst, ap, ◌∙◌, ℕ, true, List, [], ◌∷◌, ◌++◌, Option, Some, String, arith}
 use Rattle.std.proofs.lemmas.{Simd.map-map, List.map-append, List.Elements.Contains-append_cases, Option.same_Some as same-some}
 use Rattle.std.proofs.Math.Logic.{⊎_elim}
 use Rattle.std.specs.declared.alloc.Global.{Global}
-use Rattle.std.specs.{Prelude.option_and_then, List.AllZip, List.Contains, List.list_all}
+use Rattle.std.specs.{List.AllZip, List.Contains, List.list_all}
 use Rattle.indexmap.specs.IndexMap.{keys}
 use Rattle.wit_model.specs.{Text.Text, Text.text_of, Text.text_eq, Names.PackageIdentity, Names.is_label, Meaning.PackageMeaning, Meaning.WorldPackage}
 use Rattle.wit_model.specs.{Lookup.package_at, Lookup.world_at, Lookup.identity_of, Meant.Meant, Meant.MeantWorld, Meant.package_of_world, Rules.is_world_name}

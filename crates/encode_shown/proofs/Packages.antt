@@ -3,7 +3,7 @@ use Rattle.std.proofs.Common.{rules as std_rules, ◌≡◌, refl, sym, subst, a
 use Rattle.std.proofs.lemmas.{Grind.flat_map-append, List.Elements.Contains-append_cases, Bool.and_from as both, Bool.not-true as not-false}
 use Rattle.std.proofs.Math.Logic.{⊎_elim}
 use Rattle.std.specs.declared.alloc.Global.{Global}
-use Rattle.std.specs.{Prelude.is_some, Prelude.flat_map, Option.option_map_or, FinMap.from_entries, List.AllZip, List.Contains, List.list_all}
+use Rattle.std.specs.{Prelude.is_some, Prelude.flat_map, FinMap.from_entries, List.AllZip, List.Contains, List.list_all}
 use Rattle.wit_model.specs.{Text.Text, Text.TextMap, Text.text_of, Text.text_eq, Lookup.package_at, Lookup.interface_path, Lookup.identity_of}
 use Rattle.wit_model.specs.{Names.PackageIdentity, Names.path_in, Uses.reached_by_package, Uses.is_shown_in, Meaning.InterfaceMeaning, Meaning.WorldMeaning}
 use Rattle.wit_model.specs.{Meant.interface_meaning_at, Meant.world_meaning_at, Meant.foreign_of, Meant.foreign_meaning, Meant.is_foreign, Valid.IsValid}

@@ -1,5 +1,5 @@
 -- Which interfaces are reached: what a chain of uses leads to, and no others.
-use Rattle.std.proofs.Common.{rules as std_rules, ◌≡◌, ◌⊎◌, inl, inr, refl, sym, subst, ap, ◌∙◌, ℕ, zero, suc, ◌<◌, ◌≤◌, arith, Bool, true, false, ◌||◌, not, nat_lt, List, [], ◌∷◌, ◌++◌, length, filter, nat_eq, Option}
+use Rattle.std.proofs.Common.{rules as std_rules, ◌≡◌, ◌⊎◌, inl, inr, refl, sym, subst, ap, ◌∙◌, ℕ, zero, suc, ◌<◌, ◌≤◌, arith, Bool, true, false, ◌||◌, not, nat_lt, List, [], ◌∷◌, ◌++◌, length, filter, nat_eq}
 use Rattle.std.proofs.lemmas.{Bool.both_ways, Bool.eqb-true, Bool.ltb-true, Bool.or_left as or-first, Bool.or_right as or-second, List.Folds.list_any-append}
 use Rattle.std.proofs.{lemmas.List.Elements.Contains-append_cases, lemmas.Map.Views.any-filter_same, Math.Logic.⊎_elim}
 use Rattle.std.specs.{Prelude.flat_map, List.Contains, List.list_all}

@@ -17,7 +17,6 @@ use Rattle.encode_shown.proofs.{Children.is_alias, Basics.bool-cases, Basics.opt
 use Rattle.base_lemmas.proofs.{Bools.left_of as first_true, Numbers.equal}
 use Rattle.base_lemmas.proofs.Elements.{all-contained, all_pass as all-from, contains-later, contains-map, last_of as one-contained, map_from as contains-mapped}
 use Rattle.wit_model.specs.declared.model.TypeDefKind.TheVariants as kind
-use Rattle.wit_model.specs.declared.model.Handle.TheVariants as handle
 use Rattle.wit_model.specs.declared.model.TypeOwner.TheVariants as owner
 use Rattle.wit_model.specs.declared.model.«Type».TheVariants as ty
 

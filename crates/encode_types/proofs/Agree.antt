@@ -73,9 +73,6 @@ changes-names r m m' S s a = record {
   grow = record { keeps = adds-holds m m' s };
 }
 
-pub changes-same : (r : Resolve) (m m' : TypeEncodingMaps) (S : Pairs) → SameMaps m m' → MapsAgree r m S → Changes r m m' S
-changes-same r m m' S s a = changes-names r m m' S (same-adds m m' s) a
-
 -- ---- one entry more
 
 -- The maps know one thing more: what is held now was held before, or stands as the slot does.

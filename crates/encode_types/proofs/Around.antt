@@ -1,5 +1,5 @@
 -- Aliases that are made in the scope around.
-use Rattle.std.proofs.Common.{◌≡◌, refl, subst, ap, ◌∙◌, ℕ, List, [], ◌∷◌, ◌++◌}
+use Rattle.std.proofs.Common.{◌≡◌, refl, subst, ap, ◌∙◌, List, [], ◌∷◌, ◌++◌}
 use Rattle.wit_model.specs.declared.model.{Resolve.Resolve, TypeId.TypeId}
 use Rattle.encode_types.specs.{Slots.SlotsGrow, View.Told, View.View, View.Grows}
 use Rattle.encode_types.specs.Known.{Around, Aliased, with_alias, with_aliases, AreAliases, GrowsAround, ReachesAround, as_before, aliased}

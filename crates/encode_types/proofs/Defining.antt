@@ -2,14 +2,14 @@
 use Rattle.std.proofs.Common.{◌≡◌, refl, sym, subst, ap, ◌∙◌, ℕ, ◌+◌, inl, inr, append_assoc, append-nil, Bool, true, false, List, [], ◌∷◌, ◌++◌, Result, Ok, Err, IfOk, Option, Some, None, length, length-append, arith, map}
 use Rattle.std.proofs.lemmas.List.{map-append, length-map}
 use Rattle.std.proofs.lemmas.List.{Sorted.IsPermutation-refl, Sorted.length_permutation, Elements.Contains-append_cases, Elements.filter_map-append}
-use Rattle.wit_model.specs.{Rules.is_named_kind, Tree.Tree, Types.trees_of, Types.tree_of, Meaning.TypeMeaning, Text.Text, Text.text_of}
+use Rattle.wit_model.specs.{Tree.Tree, Types.trees_of, Types.tree_of, Meaning.TypeMeaning, Text.Text, Text.text_of}
 use Rattle.wit_model.specs.declared.model.{Resolve.Resolve, TypeId.TypeId, TypeDefKind.TypeDefKind, «Type».«Type» as ValueType, Param.Param}
 use Rattle.std.specs.{Borrow.Bor, List.AllZip, List.Contains, List.cons_option, Prelude.IsPermutation}
 use Rattle.comp_bytes.specs.Raw.{ExternName}
 use Rattle.comp_bytes.specs.declared.forms.{ComponentValType.ComponentValType, ComponentDefinedType.ComponentDefinedType}
 use Rattle.encode_types.specs.declared.maps.TypeEncodingMaps.{TypeEncodingMaps}
 use Rattle.encode_types.specs.Slots.{Pairs, Standing, tree, Keeps, SlotAdded, StandsFor, StandsForOptional, NamedStands, CaseStands, Follows}
-use Rattle.encode_types.specs.{Kinds.kind_tree, Kinds.has_form, Scope.Scope, Known.GrowsAround}
+use Rattle.encode_types.specs.{Kinds.kind_tree, Scope.Scope, Known.GrowsAround}
 use Rattle.encode_types.specs.Maps.{Says, Holds, MapsAgree, IsWritten, HasKind, by_kind, LearnsNumber, LearnsList}
 use Rattle.encode_types.specs.{Definition.FollowsKind, Definition.IsWrittenParam, View.View, View.Agrees, View.Grows, Leaves.Leaves, Leaves.LeavesSlots}
 use Rattle.encode_types.specs.Counts.{Definitions, one_type_more, type_more_if, is_defined_by_name, own_name, ExportsOne, Shows, IsTarget, AddsTypes}
@@ -17,7 +17,6 @@ use Rattle.encode_types.proofs.{Lists.none-in, Around.around-trans, Written.writ
 use Rattle.encode_types.proofs.Marking.{more-then, slots-none, slots-then, slots-kind, slots-number, slots-named}
 use Rattle.wit_model.proofs.Elements.{zip-along}
 use Rattle.base_lemmas.proofs.Elements.{last_of as one-contained, zip-kept}
-use Rattle.wit_model.specs.declared.model.TypeDefKind.TheVariants as kind
 use Rattle.comp_bytes.specs.declared.forms.ComponentValType.TheVariants as v
 use Rattle.comp_bytes.specs.declared.forms.ComponentDefinedType.TheVariants as form
 
@@ -72,16 +71,6 @@ adds-ok (Err e) S S' n n' P m h p = h
 -- a kind that is known has the tree
 pub kind-stands : (r : Resolve) (m : TypeEncodingMaps) (S : Pairs) (k : TypeDefKind) (i : ℕ) → MapsAgree r m S → HasKind m k i → S i (tree (kind_tree r k))
 kind-stands r m S k i a h = a.says (by_kind k) i h
-
-pub unnamed-form : (k : TypeDefKind) → is_named_kind k ≡ false → has_form k ≡ true
-unnamed-form kind.Resource n = absurd (let z : ⊥ = cc in z)
-unnamed-form (kind.Type_ t) n = absurd (let z : ⊥ = cc in z)
-unnamed-form _ n = refl
-
-pub own-form : (k : TypeDefKind) → (k ≡ kind.Resource → ⊥) → ((t : ValueType) → k ≡ kind.Type_ t → ⊥) → has_form k ≡ true
-own-form kind.Resource n m = absurd (n refl)
-own-form (kind.Type_ t) n m = absurd (m t refl)
-own-form _ n m = refl
 
 -- ---- counts
 

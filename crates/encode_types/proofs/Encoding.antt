@@ -27,10 +27,6 @@ pub foreign-undefined : (r : Resolve) (scope : Scope) (n : ℕ) (def : TypeDef) 
     → is_defined_by_name r scope n ≡ false
 foreign-undefined r scope n def i at f = defined-at r scope n def at ∙ ap (λ o. is_none o && (is_some def.name && has_definition def.kind)) f
 
-pub unnamed-undefined : (r : Resolve) (scope : Scope) (n : ℕ) (def : TypeDef) → type_at r n ≡ Some def → foreign_owner scope.own_interface def.owner ≡ None → def.name ≡ None
-    → is_defined_by_name r scope n ≡ false
-unnamed-undefined r scope n def at f e = defined-at r scope n def at ∙ ap (λ o. is_none o && (is_some def.name && has_definition def.kind)) f ∙ ap (λ o. is_some o && has_definition def.kind) e
-
 pub named-defined : (r : Resolve) (scope : Scope) (n : ℕ) (def : TypeDef) (name : String Global) → type_at r n ≡ Some def → foreign_owner scope.own_interface def.owner ≡ None → def.name ≡ Some name
     → is_defined_by_name r scope n ≡ has_definition def.kind
 named-defined r scope n def name at f e = defined-at r scope n def at ∙ ap (λ o. is_none o && (is_some def.name && has_definition def.kind)) f ∙ ap (λ o. is_some o && has_definition def.kind) e
@@ -43,9 +39,6 @@ shown-at r scope n def at = ap (option_and_then (name_of_own scope)) at
 pub foreign-unshown : (r : Resolve) (scope : Scope) (n : ℕ) (def : TypeDef) (i : InterfaceId) → type_at r n ≡ Some def → foreign_owner scope.own_interface def.owner ≡ Some i
     → own_name r scope n ≡ None
 foreign-unshown r scope n def i at f = shown-at r scope n def at ∙ ap (λ o. cond (is_none o) (option_map text_of def.name) None) f
-
-pub unnamed-unshown : (r : Resolve) (scope : Scope) (n : ℕ) (def : TypeDef) → type_at r n ≡ Some def → foreign_owner scope.own_interface def.owner ≡ None → def.name ≡ None → own_name r scope n ≡ None
-unnamed-unshown r scope n def at f e = shown-at r scope n def at ∙ ap (λ o. cond (is_none o) (option_map text_of def.name) None) f ∙ ap (option_map text_of) e
 
 pub named-shown : (r : Resolve) (scope : Scope) (n : ℕ) (def : TypeDef) (name : String Global) → type_at r n ≡ Some def → foreign_owner scope.own_interface def.owner ≡ None → def.name ≡ Some name
     → own_name r scope n ≡ Some (text_of name)

@@ -83,9 +83,6 @@ optional-alone (Some a) (Some b) e = same-refl a b (type-of-code a b (head-same 
 
 -- ---- kinds
 
-codes-of-types : (xs ys : List ValueType) → pointwise same_type xs ys ≡ true → map type_code xs ≡ map type_code ys
-codes-of-types xs ys e = ap (map type_code) (types_same xs ys e)
-
 one-number : (n m a b : ℕ) (xs ys : List ℕ) → n ∷ a ∷ xs ≡ m ∷ b ∷ ys → a ≡ b
 one-number n m a b xs ys e = head-same _ _ _ _ (tail-same _ _ _ _ e)
 

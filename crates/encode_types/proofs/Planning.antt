@@ -3,7 +3,7 @@ use Rattle.std.proofs.Common.{◌≡◌, refl, sym, subst, ap, ◌∙◌, ℕ, �
 use Rattle.std.proofs.{lemmas.Bool.eq-eqb, lemmas.Bool.Decides.Decides-eqb, Math.Seq.get_or-append_seam}
 use Rattle.std.proofs.lemmas.{Cmp.nat_cmp_total, Cmp.nat_eq_equiv, Map.Lookups.exact_unsigned, Map.Keys.IsDistinct-push, Map.Made.is_member-Decides}
 use Rattle.std.proofs.lemmas.List.Elements.{Contains-append_right, Contains-append_cases, Contains-append_left, Contains-push_cases, Contains-push}
-use Rattle.std.proofs.lemmas.List.{take_more, take_all, take-append-le, take_at, get_or_append_left, take-append-drop, drop_all, drop-append-le}
+use Rattle.std.proofs.lemmas.List.{take_more, take_all, take-append-le, take_at, get_or_append_left, take-append-drop, drop-append-le}
 use Rattle.std.specs.{Prelude.slice_index, Prelude.option_to_list, List.Contains, List.IsDistinct, List.list_any, Ordering.nat_cmp, Ordering.is_eq}
 use Rattle.std.specs.{Option.is_some, Set.is_member, BTreeSet.contains, BTreeMap.is_at}
 use Rattle.encode_types.proofs.{Tables.equal-is, Tables.equal-self, Lists.none-in}
@@ -82,15 +82,6 @@ met-decides order front n met is lacks = (
     | inl a ↦ absurd (let e : list_any (λ y. nat_eq y n) front ≡ true = found-first front n (subst (λ xs. Contains xs n) (sym is) a) in let z : ⊥ = cc in z)
     | inr b ↦ (met n).1 b
   ],
-)
-
--- a number more: among the first, or met
-pub met-few : (order after : Order) (n : ℕ) → AreMet order → after.numbers.items ≡ order.numbers.items ++ n ∷ [] → length after.numbers.items ≤ 8 → after.met ≡ order.met → AreMet after
-met-few order after n met is few same q = (
-  λ h. let c = (met q).0 (ap (λ s. contains nat_cmp s q) (sym same) ∙ h) in
-      none-in q (subst (λ xs. Contains xs q) (drop_all 8 order.numbers.items
-      (let l = length-append order.numbers.items (n ∷ []) in let e : length after.numbers.items ≡ length (order.numbers.items ++ n ∷ []) = ap length is in omega (arith, few, l, e))) c),
-  λ c. none-in q (subst (λ xs. Contains xs q) (drop_all 8 after.numbers.items few) c),
 )
 
 pub met-more : (order after : Order) (n : ℕ) → AreMet order → after.numbers.items ≡ order.numbers.items ++ n ∷ [] → 8 < length after.numbers.items

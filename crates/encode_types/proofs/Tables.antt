@@ -154,10 +154,6 @@ pub some-where : {X : Type 0} (o : Option X) (P : X → Type 0) → IfNone o ((x
 some-where None P h k = absurd (h k.0 k.1)
 some-where (Some x) P h k = refl
 
-some-or : {X : Type 0} (o : Option X) → (o ≡ None → ⊥) → IsSome o
-some-or None f = absurd (f refl)
-some-or (Some v) f = refl
-
 none-or : {X : Type 0} (o : Option X) → ((v : X) → o ≡ Some v → ⊥) → o ≡ None
 none-or None f = refl
 none-or (Some v) f = absurd (f v refl)
@@ -182,9 +178,6 @@ at-none o Q e h = rw e at h
 
 pub number-found : (es : List (ℕ × ℕ)) (n : ℕ) (o : Option ℕ) → o ≡ lookup (is_at (nat_cmp n)) es → IfSome o (λ i. Contains es (n, i))
 number-found es n o q = some-when o _ (λ v e. let f = found (is_at (nat_cmp n)) es v (sym q ∙ e) in subst (λ k. Contains es (k, v)) (sym (exact_unsigned n f.0 (equal-is _ f.2))) f.1)
-
-pub number-known : (es : List (ℕ × ℕ)) (n : ℕ) (o : Option ℕ) → o ≡ lookup (is_at (nat_cmp n)) es → (i : ℕ) → Contains es (n, i) → IsSome o
-number-known es n o q i c = some-or o (λ e. absent (is_at (nat_cmp n)) es (sym q ∙ e) n i c (ap is_eq (equal-self nat_cmp_total n)))
 
 pub number-inserted : (es fs : List (ℕ × ℕ)) (n i : ℕ) → ((j : ℕ) → Contains es (n, j) → ⊥) → fs ≡ insert_entry nat_cmp es n i → IsPermutation (es ++ (n, i) ∷ []) fs
 number-inserted es fs n i lacks e = inserted nat_cmp n i es fs

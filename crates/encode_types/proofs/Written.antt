@@ -1,15 +1,15 @@
 -- What is written with the indexes of the maps stands for its tree.
-use Rattle.std.proofs.Common.{◌≡◌, refl, sym, subst, ap, ℕ, ◌<◌, List, [], ◌∷◌, ◌++◌, map, filter_map, option_to_list, option_map, length, get_or, Option, Some, None, Vec}
+use Rattle.std.proofs.Common.{◌≡◌, refl, sym, subst, ℕ, ◌<◌, List, [], ◌∷◌, ◌++◌, map, filter_map, option_to_list, option_map, length, get_or, Option, Some, None, Vec}
 use Rattle.std.proofs.lemmas.List.Elements.{Contains-append_left, Contains-append_right}
 use Rattle.std.specs.{List.Contains, List.AllZip, Borrow.Bor}
 use Rattle.std.specs.declared.alloc.Global.{Global}
 use Rattle.wit_model.specs.Text.{Text, text_of}
-use Rattle.wit_model.specs.{Tree.Primitive, Tree.primitive, Tree.flags_tree, Tree.enum_tree, Types.trees_of, Types.tree_of, Types.number_tree}
+use Rattle.wit_model.specs.{Tree.Primitive, Tree.primitive, Types.trees_of, Types.tree_of, Types.number_tree}
 use Rattle.wit_model.specs.declared.model.{Resolve.Resolve, Record.Record, Variant.Variant, Result_.Result_, TypeId.TypeId, «Type».«Type» as ValueType}
-use Rattle.wit_model.specs.declared.model.{Tuple.Tuple, Flags.Flags, Enum.Enum}
+use Rattle.wit_model.specs.declared.model.{Tuple.Tuple}
 use Rattle.comp_bytes.specs.declared.forms.ComponentValType.{ComponentValType}
 use Rattle.encode_types.specs.declared.maps.TypeEncodingMaps.{TypeEncodingMaps}
-use Rattle.encode_types.specs.{Slots.StandsFor, Slots.StandsForOptional, Slots.texts, Maps.Says, Maps.by_number, Maps.IsWritten, Maps.IsReady, Maps.AllReady}
+use Rattle.encode_types.specs.{Slots.StandsFor, Slots.StandsForOptional, Maps.Says, Maps.by_number, Maps.IsWritten, Maps.IsReady, Maps.AllReady}
 use Rattle.encode_types.specs.Definition.{IsWrittenOptional, IsWrittenField, IsWrittenCase, FollowsKind}
 use Rattle.wit_model.proofs.Elements.{contains-filter_map, zip-along}
 use Rattle.base_lemmas.proofs.Elements.{contains-at, contains-map, contains-one}
@@ -71,12 +71,6 @@ module _ (m : TypeEncodingMaps) where
 
   pub tuple-follows : (q : Tuple) (xs : Vec ComponentValType Global) → AllZip (IsWritten m) xs.items q.types.items → FollowsKind m (kind.Tuple q) (form.Tuple xs)
   tuple-follows q xs z r = (_, zip-along (IsWritten m) _ (tree_of (trees_of r)) (λ x t w. written-stands r m x t w) _ _ z, refl)
-
-  pub flags-follows : (q : Flags) (names : Vec (Bor Text) Global) → texts names.items ≡ map (λ f. text_of f.name) q.flags.items → FollowsKind m (kind.Flags q) (form.Flags names)
-  flags-follows q names e r = ap flags_tree (sym e)
-
-  pub enum-follows : (q : Enum) (names : Vec (Bor Text) Global) → texts names.items ≡ map (λ c. text_of c.name) q.cases.items → FollowsKind m (kind.Enum q) (form.Enum names)
-  enum-follows q names e r = ap enum_tree (sym e)
 
   pub option-follows : (t : ValueType) (x : ComponentValType) → IsWritten m x t → FollowsKind m (kind.Option t) (form.Option x)
   option-follows t x w r = (_, written-stands r m x t w, refl)

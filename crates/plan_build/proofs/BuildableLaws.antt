@@ -1,5 +1,5 @@
 -- A plan that was read can be built.
-use Rattle.std.proofs.Common.{◌≡◌, true, ◌&&◌, List, [], ◌++◌}
+use Rattle.std.proofs.Common.{◌≡◌, true, ◌&&◌, List, ◌++◌}
 use Rattle.std.proofs.lemmas.Bool.{and_from as both}
 use Rattle.wit_model.specs.{Text.Text, Names.is_label, Names.is_identity, Names.is_optional_version, Rules.passes, Rules.are_distinct}
 use Rattle.plan_meaning.specs.{Plan.PlannedPackage, Plan.PlannedInterface, PlanRules.names_of, PlanRules.members_differ, PlanRules.interface_labels}

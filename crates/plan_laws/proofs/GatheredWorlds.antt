@@ -5,7 +5,7 @@ use Rattle.wit_model.specs.Text.{Text}
 use Rattle.wit_model.specs.declared.model.TypeId.{TypeId}
 use Rattle.plan_meaning.specs.GatheredPlan.{InterfaceAt, SeenBecomes, WorldAt, WorldBecomes, WorldsListed, functions_seen, worlds_listed}
 use Rattle.plan_meaning.specs.{NumberedMembers.Homes, NumberedMembers.home_at, Plan.Plan, Plan.PlannedItem, Plan.PlannedKey, Plan.PlannedWorld, NumberedRules.Fact, ReadFunctions.Beside, NumberedViews.NumberedSight, NumberedViews.Tables, NumberedViews.path_at, NumberedViews.path_text, ReadWorlds.is_type_seen}
-use Rattle.plan_meaning.specs.NumberedWorlds.{HasPath, KeyStands, NumberedScope, NumberedSeen, place_of_key, shown_of}
+use Rattle.plan_meaning.specs.NumberedWorlds.{HasPath, KeyStands, NumberedScope, NumberedSeen, place_of_key}
 use Rattle.plan_meaning.proofs.{Lists.no_true, NumberedWorlds.path_is}
 use Rattle.plan_parts.specs.Interfaces.{AreResources}
 use Rattle.read_exports.specs.Members.{numbered_members, numbered_part}

@@ -4,7 +4,7 @@ use Rattle.std.proofs.lemmas.{List.Elements.Contains-append_cases, Option.same_S
 use Rattle.std.specs.List.{Contains, flat_map}
 use Rattle.wit_model.specs.Text.{Text}
 use Rattle.wit_model.proofs.Elements.{has-contains, none-in}
-use Rattle.plan_meaning.specs.NumberedViews.{HasNameIn, Tables, NumberedSlot, resource, value}
+use Rattle.plan_meaning.specs.NumberedViews.{HasNameIn, Tables}
 use Rattle.plan_meaning.specs.Shapes.{IsShape, IsTable, Shape, a_name, a_node, named_shape, first_label}
 use Rattle.plan_parts.specs.Marks.{is_marked, IsUsed, marked, part}
 use Rattle.plan_types.specs.Used.{AreUsed}

@@ -5,7 +5,7 @@ use Rattle.std.specs.List.{Contains}
 use Rattle.wit_model.proofs.Elements.{contains-flat, none-in}
 use Rattle.plan_meaning.specs.{FollowedNumbers.IsPartIn, FollowedNumbers.IsViewIn, NumberedMembers.Homes, NumberedMembers.NumberedMember, NumberedMembers.world}
 use Rattle.plan_meaning.specs.NumberedViews.{NumberedSight, NumberedType, NumberedView, Tables, path_at}
-use Rattle.plan_meaning.specs.NumberedWorlds.{HasPath, NumberedInstance, NumberedSeen, NumberedShown, Shows, are_once, place_of_key, shown_of}
+use Rattle.plan_meaning.specs.NumberedWorlds.{HasPath, NumberedInstance, NumberedSeen, NumberedShown, are_once}
 use Rattle.read_exports.specs.Members.{numbered_member, numbered_members, numbered_part}
 use Rattle.read_exports.specs.declared.members.{Member.Member, Part.Part}
 use Rattle.read_rules.specs.declared.{scopes.Scope.Scope, scopes.Seen.Seen, reached.ImportedView.ImportedView}

@@ -3,7 +3,7 @@ use Rattle.std.proofs.Common.{◌≡◌, sym, subst, ℕ, ◌⊎◌, inl, inr, L
 use Rattle.std.proofs.lemmas.List.Elements.{Contains-append_cases}
 use Rattle.std.specs.List.{Contains, flat_map}
 use Rattle.wit_model.specs.Text.{Text}
-use Rattle.comp_meaning.specs.{Follow.Instance, Reads.Part as MeantPart}
+use Rattle.comp_meaning.specs.{Follow.Instance}
 use Rattle.read_shown.specs.{Scopes.IsShownBefore, Views.ViewStands}
 use Rattle.plan_meaning.specs.{FollowedNumbers.IsViewIn, NumberedViews.NumberedSight, NumberedViews.Tables, NumberedViews.place_at, NumberedViews.view_of, NumberedMembers.Homes, NumberedMembers.NumberedMember, Shapes.named_shape}
 use Rattle.read_rules.specs.declared.scopes.Scope.{Scope}
@@ -16,7 +16,7 @@ use Rattle.plan_package.specs.Views.{views_of_members, views_of_part}
 use Rattle.plan_laws.specs.ShownNames.{ImportsNumber, IsInput, IsShownByPart, ShowsNumber, UsedNamesAreShown, by_import, by_view}
 use Rattle.plan_laws.proofs.Inside.{IsIn, flat_cases, used_inside}
 use Rattle.plan_laws.proofs.PartNames.{import_showing, trees_of_all, view_showing, view_signature, world_signature}
-use Rattle.plan_laws.proofs.Sources.{IsSignedIn, IsWorldIn, all_of, mapped_cases, member_view_in, origin, signed, view_among, world_in}
+use Rattle.plan_laws.proofs.Sources.{IsSignedIn, IsWorldIn, mapped_cases, member_view_in, origin, signed, view_among, world_in}
 use Rattle.comp_meaning.specs.Reads as reads
 use Rattle.read_exports.specs.declared.members.Part.TheVariants as parts
 use Rattle.plan_laws.proofs.Sources as sources

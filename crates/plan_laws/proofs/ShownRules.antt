@@ -24,7 +24,7 @@ use Rattle.plan_type_laws.specs.UsedParts.{SignatureObeys}
 use Rattle.plan_laws.specs.ShownNames.{IsInput}
 use Rattle.plan_laws.specs.ShownRules.{PartObeys, RulesAreObeyed, ShownObeysRules, TypeObeys, ViewObeys}
 use Rattle.plan_laws.proofs.{Inside.flat_cases, Showings.import_named}
-use Rattle.plan_laws.proofs.Sources.{IsWorldIn, Side, among_mapped, imported_showing, mapped_cases, member_there, origin, part_at, side_good, signed, view_in, world_in}
+use Rattle.plan_laws.proofs.Sources.{IsWorldIn, Side, among_mapped, imported_showing, mapped_cases, origin, part_at, side_good, signed, view_in, world_in}
 use Rattle.comp_meaning.specs.Follow as follow
 use Rattle.comp_meaning.specs.Reads as reads
 use Rattle.comp_meaning.specs.Rules as rules

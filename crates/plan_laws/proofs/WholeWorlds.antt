@@ -15,7 +15,7 @@ use Rattle.comp_meaning.specs.Rules.{distinct}
 use Rattle.plan_meaning.specs.{FollowedNumbers.IsCalledIn, FollowedNumbers.IsMetFrom, NumberedViews.PartsOf, NumberedViews.Tables, NumberedViews.function_at}
 use Rattle.plan_meaning.specs.KeptFunctions.{IsKindOf, IsResource, a_constructor, a_method, a_static, an_async_method, an_async_static, of_none}
 use Rattle.plan_meaning.specs.{NumberedMembers.Homes, NumberedMembers.NumberedMember, NumberedMembers.home_at, NumberedRules.Fact, NumberedRules.is_function}
-use Rattle.plan_meaning.specs.NumberedWorlds.{KeyStands, NumberedScope, NumberedSeen, NumberedShown, ScopeStands, are_imports, is_item, is_world, place_of_key, resources_seen, shown_of, stand_earlier, are_once}
+use Rattle.plan_meaning.specs.NumberedWorlds.{KeyStands, NumberedScope, NumberedSeen, NumberedShown, ScopeStands, are_imports, is_item, is_world, place_of_key, resources_seen, stand_earlier, are_once}
 use Rattle.plan_meaning.specs.Plan.{Plan, PlannedFunction, PlannedItem, PlannedKey, PlannedWorld, item_function, items_of, world_in, item_interface}
 use Rattle.plan_meaning.specs.PlanRules.{world_functions, has_name}
 use Rattle.plan_meaning.specs.{ReadFunctions.Beside, ReadFunctions.FunctionsAreRead, ReadFunctions.IsReadFunction, Shapes.named_shape, ReadPlaces.inline_shown}

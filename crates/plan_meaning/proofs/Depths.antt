@@ -1,5 +1,5 @@
 -- Types of values have at most so many unnamed levels.
-use Rattle.std.proofs.Common.{◌≡◌, refl, sym, ap, ◌∙◌, ℕ, Bool, true, nat_le}
+use Rattle.std.proofs.Common.{rules as std_rules, ◌≡◌, refl, sym, ap, ◌∙◌, ℕ, Bool, true, nat_le}
 use Rattle.std.specs.List.{list_all}
 use Rattle.wit_model.specs.declared.model.{Resolve.Resolve, TypeOwner.TypeOwner, Function.Function, «Type».«Type» as ValueType}
 use Rattle.wit_model.specs.{Tree.levels, Types.trees_of, Parts.member_types, Parts.function_types, Valid.Keeps, Valid.depths}
@@ -19,8 +19,7 @@ module _ (r : Resolve) (m : ℕ) (is : IsPlan (plan_of r m)) where
   function_shallow o f = list_all (rules.is_shallow r) (function_types f)
 
   function_passes : (o : TypeOwner) (f : Function) → planned.function_is_shallow (plan_of r m) (planned_function f) ≡ true → function_shallow o f ≡ true
-  function_passes o f h = parts_pass (planned.is_shallow (plan_of r m)) (rules.is_shallow r) shallow (function_types f)
-      (ap (list_all (planned.is_shallow (plan_of r m))) (sym (function_parts_are f)) ∙ h)
+  function_passes o f h = search (std_rules, parts_pass, plan_of, shallow, function_parts_are)
 
   as_formed : (k : PlannedKind) → planned.parts_are_shallow (plan_of r m) k ≡ formed_pass (planned.is_shallow (plan_of r m)) k
   as_formed resource = refl

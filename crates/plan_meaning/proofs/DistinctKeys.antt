@@ -1,5 +1,5 @@
 -- No map of a built `Resolve` has a key twice.
-use Rattle.std.proofs.Common.{◌≡◌, refl, sym, ap, ◌∙◌, ℕ, Bool, true, false, ◌&&◌, ◌||◌, not, List, [], ◌∷◌, ◌++◌, map, Some, String}
+use Rattle.std.proofs.Common.{rules as std_rules, ◌≡◌, sym, ◌∙◌, ℕ, Bool, true, false, ◌||◌, not, List, [], ◌∷◌, ◌++◌, map, Some, String}
 use Rattle.std.specs.{Prelude.string_eq, List.list_any, List.IsDistinct, List.AllByRecursion, Map.keys_of}
 use Rattle.std.specs.declared.alloc.Global.{Global}
 use Rattle.indexmap.specs.IndexMap.{IsUnique}
@@ -7,10 +7,9 @@ use Rattle.wit_model.specs.declared.model.{Resolve.Resolve, Package.Package, Int
 use Rattle.wit_model.specs.{Text.Text, Text.text_of, Text.text_eq, Text.optional_text, Names.is_label, Lookup.package_at, Lookup.interface_at, Lookup.world_at}
 use Rattle.wit_model.specs.{Rules.passes, Rules.are_distinct, Valid.HasDistinctKeys, Valid.key_eq}
 use Rattle.plan_meaning.specs.PlanRules.{IsPlan, names_of, members_differ, same_key, keys_differ}
-use Rattle.plan_meaning.specs.Built.{planned_function, planned_package, planned_interface, planned_world, planned_key, planned_entries}
-use Rattle.plan_meaning.proofs.{Lists.no_true, Lists.all_there, Words.plan_of, Labels.names_are, ListedTypes.distinct_front as front_distinct}
+use Rattle.plan_meaning.specs.Built.{planned_function, planned_package, planned_interface, planned_key, planned_entries}
+use Rattle.plan_meaning.proofs.{Lists.all_there, Words.plan_of, Labels.names_are, ListedTypes.distinct_front as front_distinct}
 use Rattle.base_lemmas.proofs.Bools.{left_of as first_true, right_of as second_true}
-use Rattle.wit_model.specs.declared.model.WorldKey.TheVariants as key
 use Rattle.plan_meaning.specs.PlanRules as planned
 
 -- ---- parts of a list whose names differ
@@ -20,8 +19,7 @@ back_distinct [] ys h = h
 back_distinct (x ∷ xs) ys h = back_distinct xs ys (second_true (not (list_any (text_eq x) (xs ++ ys))) _ h)
 
 none_same : (a b : Bool) → not (a || b) ≡ true → (a ≡ false) × (not b ≡ true)
-none_same false b h = (refl, h)
-none_same true b h = no_true h
+none_same x b h = search std_rules
 
 others_differ : (x : String Global) (ks : List (String Global)) → not (list_any (text_eq (text_of x)) (map text_of ks)) ≡ true → AllByRecursion (λ y. string_eq x y ≡ false) ks
 others_differ x [] h = tt
@@ -34,17 +32,12 @@ strings_distinct (k ∷ ks) h = (others_differ k ks (first_true _ _ h), strings_
 
 both_distinct : {A B C D : Type 0} (f : A → C) (g : B → D) (es : List (String Global × A)) (fs : List (String Global × B))
     → are_distinct (names_of (map (λ e. (text_of e.0, f e.1)) es) ++ names_of (map (λ e. (text_of e.0, g e.1)) fs)) ≡ true → IsDistinct string_eq (keys_of es) × IsDistinct string_eq (keys_of fs)
-both_distinct f g es fs h = (
-  strings_distinct (keys_of es) (ap are_distinct (sym (names_are f es)) ∙ front_distinct (names_of (map (λ e. (text_of e.0, f e.1)) es)) (names_of (map (λ e. (text_of e.0, g e.1)) fs)) h),
-  strings_distinct (keys_of fs) (ap are_distinct (sym (names_are g fs)) ∙ back_distinct (names_of (map (λ e. (text_of e.0, f e.1)) es)) (names_of (map (λ e. (text_of e.0, g e.1)) fs)) h),
-)
+both_distinct f g es fs h = search (std_rules, strings_distinct, names_are, front_distinct, back_distinct)
 
 -- ---- keys of worlds
 
 same_key_is : (a b : WorldKey) → same_key (planned_key a) (planned_key b) ≡ key_eq a b
-same_key_is (key.Name a) (key.Name b) = refl
-same_key_is (key.Interface a) (key.Name b) = refl
-same_key_is _ _ = refl
+same_key_is x y = search std_rules
 
 other_keys : (k : WorldKey) (es : List (WorldKey × WorldItem)) → not (list_any (λ other. same_key (planned_key k) other.0) (planned_entries es)) ≡ true
     → AllByRecursion (λ y. key_eq k y ≡ false) (keys_of es)
@@ -70,9 +63,7 @@ module _ (r : Resolve) (m : ℕ) (is : IsPlan (plan_of r m)) where
       (second_true (passes is_label (optional_text i.name)) _ (all_there planned_interface planned.interface_labels r.interfaces.items is.interface_labels n i e))
 
   world_keys : (n : ℕ) (w : World) → world_at r n ≡ Some w → IsUnique key_eq w.imports × IsUnique key_eq w.exports
-  world_keys n w e =
-      let differ = all_there planned_world (λ x. keys_differ x.imports && keys_differ x.exports) r.worlds.items is.keys_differ n w e in
-      (keys_distinct w.imports.entries (first_true _ _ differ), keys_distinct w.exports.entries (second_true (keys_differ (planned_entries w.imports.entries)) _ differ))
+  world_keys n w e = search (std_rules, all_there, keys_distinct, first_true, second_true)
 
   pub keys_are_distinct : HasDistinctKeys r
   keys_are_distinct = record { packages = package_keys; interfaces = interface_keys; worlds = world_keys }

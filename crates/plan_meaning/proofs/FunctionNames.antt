@@ -1,45 +1,35 @@
 -- Functions stand under their names, and those of a resource are named and shaped after it.
-use Rattle.std.proofs.Common.{◌≡◌, refl, sym, ap, ◌∙◌, ℕ, Bool, true, false, ◌&&◌, ◌||◌, [], ◌∷◌, ◌++◌, Option, Some, None, is_none, is_some, String, codes}
+use Rattle.std.proofs.Common.{rules as std_rules, ◌≡◌, refl, sym, ap, ◌∙◌, ℕ, Bool, true, false, ◌&&◌, ◌||◌, [], ◌∷◌, ◌++◌, Option, Some, None, is_none, is_some, String, codes}
 use Rattle.std.proofs.lemmas.{List.Folds.list_all-append, List.Folds.list_all-map, Bool.and_from as both}
-use Rattle.std.specs.{Prelude.if◌then◌else◌, List.list_all, Option.option_map_or}
+use Rattle.std.specs.{List.list_all, Option.option_map_or}
 use Rattle.std.specs.declared.alloc.Global.{Global}
 use Rattle.wit_model.specs.declared.model.{Resolve.Resolve, WorldItem.WorldItem, TypeDefKind.TypeDefKind, «Type».«Type» as ValueType, FunctionKind.FunctionKind}
 use Rattle.wit_model.specs.declared.model.{World.World, WorldKey.WorldKey, TypeDef.TypeDef, TypeOwner.TypeOwner, Param.Param, Function.Function}
 use Rattle.wit_model.specs.{Text.Text, Text.text_of, Text.text_eq, Text.optional_text, Tree.Form, Lookup.type_at, Lookup.resource_of, Lookup.world_at}
-use Rattle.wit_model.specs.{Names.constructor_name, Names.method_name, Rules.passes, Rules.is_id, Rules.is_name_key}
-use Rattle.wit_model.specs.{Types.number_of, Parts.same_owner, Valid.Keeps, Valid.function_names, Valid.as_interface, Valid.as_world, Valid.item_function}
+use Rattle.wit_model.specs.{Rules.passes, Rules.is_name_key}
+use Rattle.wit_model.specs.{Types.number_of, Valid.Keeps, Valid.function_names, Valid.as_interface, Valid.as_world, Valid.item_function}
 use Rattle.wit_model.proofs.{Checks.keeps_two, RulesLemmas.each_by_number}
 use Rattle.plan_meaning.specs.{Plan.PlannedType, Plan.PlannedFunction, Plan.type_in, PlanRules.IsPlan}
 use Rattle.plan_meaning.specs.Built.{part_of, given_parts, planned_kind, planned_type, planned_function, planned_interface, planned_key, planned_item}
-use Rattle.plan_meaning.proofs.Lists.{then_there, or_there, or_of_map, same_or, all_built, no_true, all_there}
-use Rattle.plan_meaning.proofs.{Words.plan_of, Words.behind, Words.number_part, Listed.passes_both}
+use Rattle.plan_meaning.proofs.Lists.{then_there, or_there, or_of_map, same_or, all_built, all_there}
+use Rattle.plan_meaning.proofs.{Words.plan_of, Words.number_part, Listed.passes_both}
 use Rattle.plan_meaning.proofs.FunctionRules.{entries_pass, interface_holds, world_holds, imports_there, exports_there}
-use Rattle.base_lemmas.proofs.{Bools.left_of as first_true, Elements.all_two}
-use Rattle.wit_model.specs.declared.model.WorldKey.TheVariants as key
-use Rattle.wit_model.specs.declared.model.WorldItem.TheVariants as item
-use Rattle.wit_model.specs.declared.model.TypeDefKind.TheVariants as kind
-use Rattle.wit_model.specs.declared.model.Handle.TheVariants as handle
-use Rattle.wit_model.specs.declared.model.FunctionKind.TheVariants as call
+use Rattle.base_lemmas.proofs.{Elements.all_two}
 use Rattle.wit_model.specs.Rules as rules
 use Rattle.plan_meaning.specs.Plan as plan
 use Rattle.plan_meaning.specs.PlanRules as planned
 
 pub unnamed : (o : Option (String Global)) → is_none (optional_text o) ≡ is_none o
-unnamed None = refl
-unnamed (Some s) = refl
+unnamed x = search std_rules
 
 own_is : (n : ℕ) (k : TypeDefKind) → planned.is_own_kind n (planned_kind k) ≡ rules.is_own_kind n k
-own_is n (kind.Handle (handle.Own id)) = ap (is_id n) (behind id.0)
-own_is n _ = refl
+own_is n x = search std_rules
 
 borrow_is : (n : ℕ) (k : TypeDefKind) → planned.is_borrow_kind n (planned_kind k) ≡ rules.is_borrow_kind n k
-borrow_is n (kind.Handle (handle.Borrow id)) = ap (is_id n) (behind id.0)
-borrow_is n _ = refl
+borrow_is n x = search std_rules
 
 resource_itself : (k : TypeDefKind) → planned.is_resource_kind (planned_kind k) ≡ rules.is_resource_itself k
-resource_itself kind.Resource = refl
-resource_itself (kind.Handle (handle.Own id)) = refl
-resource_itself _ = refl
+resource_itself x = search std_rules
 
 own_of_is : (n : ℕ) (def : TypeDef) → planned.is_own_of n (planned_type def) ≡ rules.is_own_of n def
 own_of_is n def = λ i. unnamed def.name i && own_is n def.kind i
@@ -61,9 +51,7 @@ module _ (r : Resolve) (m : ℕ) where
   own_ok n (Some t) err = part_is (planned.is_own_of n) (rules.is_own_of n) (own_of_is n) t
 
   has_own_ok_is : (n : ℕ) (k : TypeDefKind) → planned.has_own_ok (plan_of r m) n (planned_kind k) ≡ rules.has_own_ok r n k
-  has_own_ok_is n (kind.Result result) = own_ok n result.ok result.err
-  has_own_ok_is n (kind.Handle (handle.Own id)) = refl
-  has_own_ok_is n _ = refl
+  has_own_ok_is n x = search (std_rules, own_ok)
 
   result_of_own_is : (n : ℕ) (def : TypeDef) → planned.is_result_of_own (plan_of r m) n (planned_type def) ≡ rules.is_result_of_own r n def
   result_of_own_is n def = λ i. unnamed def.name i && has_own_ok_is n def.kind i
@@ -82,15 +70,10 @@ module _ (r : Resolve) (m : ℕ) where
       (λ x. ap (λ b. text_eq (text_of x.name) (codes "self") && b) (part_is (planned.is_borrow_of n) (rules.is_borrow_of n) (borrow_of_is n) x.ty)) f.params.items 0
 
   member_of_is : (n : ℕ) (name : Text) (f : Function) (k : FunctionKind) → planned.is_member_of (plan_of r m) n name (planned_function f) k ≡ rules.is_member_of r n name f k
-  member_of_is n name f (call.Constructor id) = ap (λ b. text_eq (text_of f.name) (constructor_name name) && b) (constructs_is n f)
-  member_of_is n name f (call.Method id) = ap (λ b. rules.is_member_name (method_name name []) f && b) (takes_self_is n f)
-  member_of_is n name f (call.AsyncMethod id) = ap (λ b. rules.is_member_name (method_name name []) f && b) (takes_self_is n f)
-  member_of_is n name f _ = refl
+  member_of_is n name f x = search (std_rules, constructs_is, takes_self_is)
 
   resource_name_is : (o : TypeOwner) (n : ℕ) → planned.resource_name (plan_of r m) o n ≡ rules.resource_name r o n
-  resource_name_is o = then_there (λ t. if planned.is_resource_kind t.kind && same_owner t.owner o then t.name else None) planned_type
-      (λ def. if rules.is_resource_itself def.kind && same_owner def.owner o then optional_text def.name else None)
-      (λ def. ap (λ b. if b && same_owner def.owner o then optional_text def.name else None) (resource_itself def.kind)) r.types.items
+  resource_name_is o = search (std_rules, then_there, resource_itself)
 
   pub member_is : (o : TypeOwner) (f : Function) → planned.is_member (plan_of r m) o (planned_function f) ≡ rules.is_member r o f
   member_is o f = ap (λ test. passes test (resource_of f.kind)) (λ i n. at n i)
@@ -109,14 +92,10 @@ module _ (r : Resolve) (m : ℕ) where
 
   import_key : (n : ℕ) (k : WorldKey) (x : WorldItem) → planned.import_stands (plan_of r m) n (planned_key k, planned_item x) ≡ true
       → passes (λ f. is_name_key (text_of f.name) k) (item_function x) ≡ true
-  import_key n (key.Interface id) (item.Function f) h = no_true h
-  import_key n (key.Name name) (item.Function f) h = first_true (text_eq (text_of name) (text_of f.name)) _ h
-  import_key n _ _ h = refl
+  import_key n x y h = search std_rules
 
   export_key : (k : WorldKey) (x : WorldItem) → planned.export_stands (plan_of r m) (planned_key k, planned_item x) ≡ true → passes (λ f. is_name_key (text_of f.name) k) (item_function x) ≡ true
-  export_key (key.Interface id) (item.Function f) h = no_true h
-  export_key (key.Name name) (item.Function f) h = first_true (text_eq (text_of name) (text_of f.name)) _ (first_true (planned.is_function_key (text_of name) (planned_function f)) _ h)
-  export_key _ _ h = refl
+  export_key x y h = search std_rules
 
   module _ (is : IsPlan (plan_of r m)) where
     abbrev is_right : ℕ → WorldKey × WorldItem → Bool

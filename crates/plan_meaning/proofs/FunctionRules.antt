@@ -1,27 +1,24 @@
 -- The functions of a plan's interfaces and worlds are those of the `Resolve`, and so are its items.
-use Rattle.std.proofs.Common.{◌≡◌, refl, sym, ap, ◌∙◌, ℕ, Bool, true, ◌&&◌, List, [], ◌∷◌, ◌++◌, map, filter_map, option_to_list, Option, Some, None}
+use Rattle.std.proofs.Common.{rules as std_rules, ◌≡◌, refl, sym, ap, ◌∙◌, ℕ, Bool, true, List, [], ◌∷◌, ◌++◌, map, filter_map, option_to_list, Option, Some}
 use Rattle.std.proofs.lemmas.List.Folds.{list_all-append, list_all-map}
 use Rattle.std.specs.List.{list_all, cons_option}
 use Rattle.indexmap.specs.IndexMap.{values}
 use Rattle.wit_model.specs.declared.model.{Resolve.Resolve, World.World, WorldKey.WorldKey, Function.Function}
 use Rattle.wit_model.specs.declared.model.{Interface.Interface, WorldItem.WorldItem, TypeDefKind.TypeDefKind, TypeOwner.TypeOwner, «Type».«Type» as ValueType}
-use Rattle.wit_model.specs.{Text.Text, Text.text_of, Uses.items_of, Rules.each_from, Rules.passes, Lookup.interface_at, Lookup.world_at}
+use Rattle.wit_model.specs.{Uses.items_of, Rules.each_from, Rules.passes, Lookup.interface_at, Lookup.world_at}
 use Rattle.wit_model.specs.{Parts.member_types, Valid.as_interface, Valid.as_world, Valid.functions_of_interface, Valid.functions_of_world, Valid.item_function}
 use Rattle.wit_model.proofs.{Lists.list_all_filter_map, RulesLemmas.each_by_number}
-use Rattle.plan_meaning.specs.Plan.{PlannedKind, PlannedFunction, resource, alias, formed}
+use Rattle.plan_meaning.specs.Plan.{PlannedKind, PlannedFunction, formed}
 use Rattle.plan_meaning.specs.PlanRules.{FunctionsPass, functions_of, world_functions, IsPlan, import_stands, export_stands}
 use Rattle.plan_meaning.specs.Built.{part_of, given_parts, planned_kind, planned_function, planned_interface, planned_item, planned_entries, planned_world, planned_key}
 use Rattle.plan_meaning.proofs.{Lists.all_built, Lists.same_all, Lists.each_there, Lists.all_there, Words.plan_of, Words.given_all}
-use Rattle.base_lemmas.proofs.{Bools.left_of as first_true, Bools.right_of as second_true, Bools.and-true as and_true, Lists.append_of_map, Lists.map_of_map}
-use Rattle.wit_model.specs.declared.model.WorldItem.TheVariants as item
-use Rattle.wit_model.specs.declared.model.TypeDefKind.TheVariants as kind
+use Rattle.base_lemmas.proofs.{Bools.left_of as first_true, Bools.right_of as second_true, Lists.append_of_map, Lists.map_of_map}
 use Rattle.plan_meaning.specs.Plan as plan
 
 -- ---- functions and items
 
 pub functions_are : (i : Interface) → functions_of (planned_interface i) ≡ map planned_function (functions_of_interface i)
-functions_are i =
-    map_of_map (λ (e : Text × PlannedFunction). e.1) (λ e. (text_of e.0, planned_function e.1)) i.functions.entries ∙ sym (map_of_map planned_function (λ e. e.1) i.functions.entries)
+functions_are i = search (std_rules, map_of_map)
 
 pub values_are : (es : List (WorldKey × WorldItem)) → map (λ e. e.1) (planned_entries es) ≡ map planned_item (map (λ e. e.1) es)
 values_are [] = refl
@@ -31,8 +28,7 @@ pub items_are : (w : World) → plan.items_of (planned_world w) ≡ map planned_
 items_are w = (λ i. values_are w.imports.entries i ++ values_are w.exports.entries i) ∙ sym (append_of_map planned_item (values w.imports) (values w.exports))
 
 picked : (x : WorldItem) (fs : List Function) → cons_option (plan.item_function (planned_item x)) (map planned_function fs) ≡ map planned_function (cons_option (item_function x) fs)
-picked (item.Interface id stability docs external_id) fs = refl
-picked _ fs = refl
+picked x fs = search std_rules
 
 pub item_functions_are : (xs : List WorldItem) → filter_map plan.item_function (map planned_item xs) ≡ map planned_function (filter_map item_function xs)
 item_functions_are [] = refl
@@ -44,13 +40,10 @@ world_functions_are w = ap (filter_map plan.item_function) (items_are w) ∙ ite
 module _ (r : Resolve) (m : ℕ) (test : TypeOwner → PlannedFunction → Bool) (rule : TypeOwner → Function → Bool)
     (weaker : (o : TypeOwner) (f : Function) → test o (planned_function f) ≡ true → rule o f ≡ true) (pass : FunctionsPass (plan_of r m) test) where
   pub interface_holds : (n : ℕ) (i : Interface) → interface_at r n ≡ Some i → list_all (rule (as_interface n)) (functions_of_interface i) ≡ true
-  interface_holds n i e = all_built planned_function (test (as_interface n)) (rule (as_interface n)) (weaker (as_interface n)) (functions_of_interface i)
-      (ap (list_all (test (as_interface n))) (sym (functions_are i))
-      ∙ each_there planned_interface (λ n i. list_all (test (as_interface n)) (functions_of i)) r.interfaces.items pass.of_interfaces n i e)
+  interface_holds n i e = search (std_rules, all_built, functions_are, each_there)
 
   pub world_holds : (n : ℕ) (w : World) → world_at r n ≡ Some w → list_all (rule (as_world n)) (functions_of_world w) ≡ true
-  world_holds n w e = all_built planned_function (test (as_world n)) (rule (as_world n)) (weaker (as_world n)) (functions_of_world w)
-      (ap (list_all (test (as_world n))) (sym (world_functions_are w)) ∙ each_there planned_world (λ n w. list_all (test (as_world n)) (world_functions w)) r.worlds.items pass.of_worlds n w e)
+  world_holds n w e = search (std_rules, all_built, world_functions_are, each_there)
 
   pub interfaces_pass : each_from (λ n i. list_all (rule (as_interface n)) (functions_of_interface i)) 0 r.interfaces.items ≡ true
   interfaces_pass = each_by_number (λ n i. list_all (rule (as_interface n)) (functions_of_interface i)) r.interfaces.items interface_holds
@@ -65,8 +58,7 @@ module _ (r : Resolve) (m : ℕ) (is : IsPlan (plan_of r m)) where
       ∙ each_there planned_world (λ n w. list_all (import_stands (plan_of r m) n) w.imports) r.worlds.items is.imports_stand n w e
 
   pub exports_there : (n : ℕ) (w : World) → world_at r n ≡ Some w → list_all (λ e. export_stands (plan_of r m) (planned_key e.0, planned_item e.1)) w.exports.entries ≡ true
-  exports_there n w e = sym (list_all-map (export_stands (plan_of r m)) (λ e. (planned_key e.0, planned_item e.1)) w.exports.entries)
-      ∙ all_there planned_world (λ w. list_all (export_stands (plan_of r m)) w.exports) r.worlds.items is.exports_stand n w e
+  exports_there n w e = search (std_rules, list_all-map, plan_of, all_there)
 
 -- ---- the parts of a kind
 
@@ -80,41 +72,20 @@ module _ (p : ℕ → Bool) (q : ValueType → Bool) (weaker : (t : ValueType) �
   parts_pass ts h = all_built part_of p q weaker ts h
 
   result_pass : (ok err : Option ValueType) → list_all p (given_parts (ok ∷ err ∷ [])) ≡ true → list_all q (option_to_list ok ++ option_to_list err) ≡ true
-  result_pass None None h = refl
-  result_pass None (Some t) h = parts_pass (t ∷ []) h
-  result_pass (Some s) None h = parts_pass (s ∷ []) h
-  result_pass (Some s) (Some t) h = parts_pass (s ∷ t ∷ []) h
+  result_pass x y h = search std_rules
 
   option_pass : (o : Option ValueType) → list_all p (given_parts (o ∷ [])) ≡ true → list_all q (option_to_list o) ≡ true
-  option_pass None h = refl
-  option_pass (Some t) h = parts_pass (t ∷ []) h
+  option_pass x h = search std_rules
 
   pub members_pass : (k : TypeDefKind) → formed_pass p (planned_kind k) ≡ true → list_all q (member_types k) ≡ true
-  members_pass (kind.Record record_) h = parts_pass (map (λ f. f.ty) record_.fields.items) (ap (list_all p) (map_of_map part_of (λ f. f.ty) record_.fields.items) ∙ h)
-  members_pass (kind.Tuple tuple) h = parts_pass tuple.types.items h
-  members_pass (kind.Variant variant) h = parts_pass (filter_map (λ c. c.ty) variant.cases.items) (ap (list_all p) (sym (given_all (λ c. c.ty) variant.cases.items)) ∙ h)
-  members_pass (kind.Option t) h = parts_pass (t ∷ []) h
-  members_pass (kind.Result result) h = result_pass result.ok result.err h
-  members_pass (kind.List t) h = parts_pass (t ∷ []) h
-  members_pass (kind.Map k v) h = parts_pass (k ∷ v ∷ []) h
-  members_pass (kind.FixedLengthList t n) h = parts_pass (t ∷ []) h
-  members_pass (kind.Future t) h = option_pass t h
-  members_pass (kind.Stream t) h = option_pass t h
-  members_pass _ h = refl
+  members_pass x h = search (std_rules, parts_pass, map_of_map, given_all, result_pass, option_pass)
 
 -- ---- the functions among the entries of a world
 
 module _ (p : Function → Bool) where
   given_passes : (o : Option Function) → list_all p (option_to_list o) ≡ passes p o
-  given_passes None = refl
-  given_passes (Some f) = and_true (p f)
+  given_passes x = search std_rules
 
   pub entries_pass : (w : World) → list_all p (functions_of_world w) ≡ true
       → (list_all (λ e. passes p (item_function e.1)) w.imports.entries ≡ true) × (list_all (λ e. passes p (item_function e.1)) w.exports.entries ≡ true)
-  entries_pass w h =
-      let split : (list_all (λ x. passes p (item_function x)) (values w.imports) && list_all (λ x. passes p (item_function x)) (values w.exports)) ≡ true =
-      sym (list_all-append (λ x. passes p (item_function x)) (values w.imports) (values w.exports)) ∙ (sym (list_all_filter_map p item_function (items_of w)
-      ∙ same_all (λ x. list_all p (option_to_list (item_function x))) (λ x. passes p (item_function x)) (λ x. given_passes (item_function x)) (items_of w)) ∙ h) in (
-        sym (list_all-map (λ x. passes p (item_function x)) (λ e. e.1) w.imports.entries) ∙ first_true _ _ split,
-        sym (list_all-map (λ x. passes p (item_function x)) (λ e. e.1) w.exports.entries) ∙ second_true (list_all (λ x. passes p (item_function x)) (values w.imports)) _ split,
-      )
+  entries_pass w h = search (std_rules, list_all-append, list_all_filter_map, same_all, given_passes, list_all-map, first_true, second_true)

@@ -1,5 +1,5 @@
 -- A plan that is gathered from views in numbers means what they mean.
-use Rattle.std.proofs.Common.{◌≡◌, refl, sym, ap, subst, ◌∙◌, ℕ, ◌+◌, arith, Bool, true, false, not, ◌&&◌, ◌==◌, cond, List, [], ◌∷◌, ◌++◌, map, filter_map, Option, Some, None, option_map, unwrap_or, slice_get, rules}
+use Rattle.std.proofs.Common.{rules as std_rules, ◌≡◌, refl, sym, ap, subst, ◌∙◌, ℕ, ◌+◌, arith, Bool, true, false, not, ◌&&◌, ◌==◌, cond, List, [], ◌∷◌, ◌++◌, map, filter_map, Option, Some, None, option_map, unwrap_or, slice_get, rules}
 use Rattle.std.proofs.lemmas.List.Elements.{Contains-append_right}
 use Rattle.std.specs.{Prelude.option_and_then, Option.option_map_or, FinMap.from_entries}
 use Rattle.std.specs.List.{AllByRecursion, AllZip, Contains, cons_option, filter, flat_map, list_any}
@@ -113,10 +113,7 @@ module _ (t : Tables) (tables : AreTables t) (kept : List ℕ) (p : Plan) (keeps
   item_kept _ id _ h = absurd h
 
   id_kept : (s : NumberedShown) (id : Option Text) (x : PlannedItem) → ItemBecomes t kept p s id x → planned.item_external_id p x ≡ id
-  id_kept (instance key v) id (plan.interface n other) h = h.0
-  id_kept (function m) id (plan.function g) h = h.same_id
-  id_kept (declares d) id (plan.declares n) h = ap (λ (x : TypeMeaning). x.external_id) (type_kept d id n h)
-  id_kept _ id _ h = absurd h
+  id_kept y id z h = search std_rules
 
   entries_kept : (ss : List NumberedSeen) (es : List (PlannedKey × PlannedItem)) → AllZip (SeenBecomes t kept p) ss es → planned.entries_meaning p es ≡ map reads.entry (map (seen_of t) ss)
   entries_kept [] [] z = refl
@@ -125,11 +122,7 @@ module _ (t : Tables) (tables : AreTables t) (kept : List ℕ) (p : Plan) (keeps
   entries_kept _ _ z = absurd z
 
   world_kept : (w : NumberedScope) (x : PlannedWorld) → WorldBecomes t kept p w x → (scope : Scope) → Shows t w scope → planned.world_meaning p x ≡ reads.world_meaning scope
-  world_kept w x b scope shows =
-      λ i. record {
-        imports = (entries_kept w.imports x.imports b.imports ∙ ap (map reads.entry) (sym shows.imports)) i;
-        exports = (entries_kept w.exports x.exports b.exports ∙ ap (map reads.entry) (sym shows.exports)) i;
-      }
+  world_kept w x b scope shows = search (std_rules, entries_kept)
 
   -- ---- interfaces that are seen
 

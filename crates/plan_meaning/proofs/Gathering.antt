@@ -1,11 +1,11 @@
 -- One view of each path is enough.
-use Rattle.std.proofs.Common.{◌≡◌, refl, sym, ap, subst, ◌∙◌, zero, suc, Bool, true, false, ◌&&◌, ◌||◌, not, cond, List, [], ◌∷◌, ◌++◌, map, arith, rules}
+use Rattle.std.proofs.Common.{rules as std_rules, ◌≡◌, refl, sym, ap, subst, ◌∙◌, zero, suc, Bool, true, false, ◌&&◌, cond, List, [], ◌∷◌, ◌++◌, map, arith, rules}
 use Rattle.std.proofs.lemmas.{Bool.and_from, Slice.Eq.bytes_eq-Decides}
-use Rattle.std.specs.{List.Contains, List.list_all, Cmp.Lexicographic.pointwise, FinMap.from_entries}
+use Rattle.std.specs.{List.Contains, List.list_all, FinMap.from_entries}
 use Rattle.wit_model.specs.{Text.Text, Text.TextMap, Text.text_eq, Meaning.FunctionMeaning, Meaning.TypeMeaning, Meaning.InterfaceMeaning, Tree.Place}
 use Rattle.wit_model.proofs.Maps.{one_map}
 use Rattle.comp_meaning.specs.{Follow.ShownType, Rules.distinct, Rules.is_interface, SameLaws.HaveDistinctNames, SameLaws.named_meaning}
-use Rattle.comp_meaning.specs.Reads.{Sight, same_shown, same_functions, agree, all_agree, are_interfaces, functions_of, seen_meaning}
+use Rattle.comp_meaning.specs.Reads.{Sight, same_functions, agree, all_agree, are_interfaces, functions_of, seen_meaning}
 use Rattle.comp_meaning.proofs.{FunctionLists.functions_make_one_map, SameLaws.shown_types_decide, AgreementLaws.distinct_behind}
 use Rattle.plan_meaning.specs.Gathering.{ViewsMeanOne, OneViewIsEnough}
 use Rattle.base_lemmas.proofs.{Bools.left_of as first_true, Bools.right_of as second_true, Elements.all-contained, Elements.contains-map, Elements.map_from}
@@ -15,10 +15,7 @@ abbrev types_of : Sight → List (Text × TypeMeaning)
 types_of s = map named_meaning s.view.types
 
 alike : (s t : Sight) → agree s t ≡ true → s.path ≡ t.path → types_of s ≡ types_of t
-alike s t h e =
-    let same : text_eq s.path t.path ≡ true = (bytes_eq-Decides s.path t.path).1 e in
-    let both = sym (ap (λ b. not b || (pointwise same_shown s.view.types t.view.types && (not (s.whole && t.whole) || same_functions s.view.functions t.view.functions))) same) ∙ h in
-    (shown_types_decide s.view.types t.view.types).0 (first_true (pointwise same_shown s.view.types t.view.types) _ both)
+alike s t h e = search (std_rules, bytes_eq-Decides, shown_types_decide, first_true)
 
 one_types : (all : List Sight) → all_agree all ≡ true → (s t : Sight) → Contains all s → Contains all t → s.path ≡ t.path → types_of s ≡ types_of t
 one_types [] h s t (i, l, e) d p = absurd (omega (arith, l))
@@ -77,9 +74,7 @@ functions_mean_one (x ∷ xs) h i s c whole =
 -- ---- views
 
 pub views_mean_one : ViewsMeanOne
-views_mean_one all h s t c d p =
-    let types = one_types all h s t c d p in
-    λ i. (p i, record { types = types i; functions = from_entries (functions_of (p i) all) })
+views_mean_one all h s t c d p = search (std_rules, one_types)
 
 pub one_view_is_enough : OneViewIsEnough
 one_view_is_enough all chosen shown h among enough = one_map (map (seen_meaning all) chosen) (map (seen_meaning all) shown) (record { one_value = one_value; there = there; here = here })

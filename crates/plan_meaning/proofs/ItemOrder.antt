@@ -1,11 +1,11 @@
 -- What an item of a world uses stands before it.
-use Rattle.std.proofs.Common.{◌≡◌, refl, sym, ap, ◌∙◌, ℕ, ◌&&◌, List, [], map, filter, filter_map, option_to_list, Option}
+use Rattle.std.proofs.Common.{rules as std_rules, ◌≡◌, refl, ap, ◌∙◌, ℕ, ◌&&◌, List, [], map, filter, filter_map, Option}
 use Rattle.std.specs.List.{list_all}
 use Rattle.wit_model.specs.declared.model.{Resolve.Resolve, World.World, WorldItem.WorldItem}
 use Rattle.wit_model.specs.Parts.{used_by_type}
-use Rattle.wit_model.specs.{Uses.has, Uses.items_of, Rules.each_after, Rules.used_by_number, Valid.Keeps, Valid.order_of_items, Valid.as_world}
+use Rattle.wit_model.specs.{Uses.has, Uses.items_of, Rules.each_after, Valid.Keeps, Valid.order_of_items, Valid.as_world}
 use Rattle.wit_model.proofs.{Entries.worlds_keep, RulesLemmas.after_of_map}
-use Rattle.plan_meaning.specs.{Plan.kind_numbers, Plan.used_by_numbers, Plan.type_in, Built.planned_type, Built.planned_world, Built.planned_item}
+use Rattle.plan_meaning.specs.{Plan.kind_numbers, Plan.used_by_numbers, Built.planned_type, Built.planned_world, Built.planned_item}
 use Rattle.plan_meaning.specs.PlanRules.{IsPlan}
 use Rattle.plan_meaning.proofs.{Lists.each_built, Lists.or_there, FunctionRules.items_are, WorldItems.item_interface_is, TypeOrder.item_types_are}
 use Rattle.plan_meaning.proofs.Words.{plan_of, function_numbers_are, has_owner_is, used_are, used_by_kind_is, interface_used_is, direct_uses_are}
@@ -22,9 +22,7 @@ item_interfaces_are xs = filter_of_map plan.item_interface planned_item xs ∙ a
 
 module _ (r : Resolve) (m : ℕ) where
   interfaces_are : (x : WorldItem) → planned.used_interfaces (plan_of r m) (planned_item x) ≡ rules.used_interfaces r x
-  interfaces_are (item.Interface id stability docs external_id) = direct_uses_are r m id.0
-  interfaces_are (item.Function f) = refl
-  interfaces_are (item.Type_ id) = ap option_to_list (interface_used_is r m id.0)
+  interfaces_are x = search (std_rules, direct_uses_are, interface_used_is)
 
   types_are : (w : ℕ) (x : WorldItem) → planned.used_types (plan_of r m) w (planned_item x) ≡ rules.used_types r w x
   types_are w (item.Interface id stability docs external_id) = refl
@@ -45,6 +43,4 @@ module _ (r : Resolve) (m : ℕ) where
 
   pub order_of_items_kept : IsPlan (plan_of r m) → Keeps order_of_items r
   unfolding order_of_items
-  order_of_items_kept is = worlds_keep (λ r n w. each_after (rules.uses_stand_before r n) [] (items_of w)) r
-      (each_built planned_world (λ n w. each_after (planned.uses_stand_before (plan_of r m) n) [] (plan.items_of w)) (λ n w. each_after (rules.uses_stand_before r n) [] (items_of w))
-      (λ n w h. sym (world_is n w) ∙ h) r.worlds.items is.items_in_order)
+  order_of_items_kept is = search (std_rules, worlds_keep, each_built, plan_of, world_is)

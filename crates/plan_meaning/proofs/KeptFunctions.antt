@@ -1,7 +1,7 @@
 -- Functions whose types are those of kept shapes pass the tests on their types and their resource.
 use Rattle.std.proofs.Common.{◌≡◌, inl, inr, refl, sym, ap, subst, ◌∙◌, ℕ, ◌+◌, arith, Bool, true, false, not, ◌&&◌, ◌||◌, ◌==◌, cond, List, [], ◌∷◌, length, map, drop, filter_map, Option, Some, None, option_map, option_to_list, is_none, slice_get, codes, rules as std_rules}
 use Rattle.std.proofs.lemmas.{Bool.eqb-true, Bool.eq-eqb, Bool.lt-ltb, Bool.or_right, Bool.and_from as both, List.Folds.list_all-map}
-use Rattle.std.proofs.lemmas.Option.{slice_get_within, same_Some as same-some}
+use Rattle.std.proofs.lemmas.Option.{slice_get_within}
 use Rattle.std.specs.{Prelude.nat_le, Prelude.nat_eq, Prelude.option_and_then, List.AllZip, List.list_all, List.starts_with, Option.option_map_or}
 use Rattle.wit_model.specs.declared.model.{TypeOwner.TypeOwner, FunctionKind.FunctionKind}
 use Rattle.wit_model.specs.{Text.Text, Text.text_eq, Lookup.resource_of}
@@ -42,24 +42,18 @@ behind_label (p ∷ ps) (b ∷ bs) h = by (p == b) refl (behind_label ps bs) h
 -- ---- forms by their numbers
 
 own_form : (f : Form) → ((form_code f).sort == own_sort) ≡ true → f ≡ Form.own_of
-own_form Form.own_of h = refl
-own_form _ h = no_true h
+own_form x h = search std_rules
 
 borrow_form : (f : Form) → ((form_code f).sort == borrow_sort) ≡ true → f ≡ Form.borrow_of
-borrow_form Form.borrow_of h = refl
-borrow_form _ h = no_true h
+borrow_form x h = search std_rules
 
 -- what is the one number
 only_is : (ks : List ℕ) (k : ℕ) → only_of ks ≡ Some k → ks ≡ k ∷ []
-only_is (l ∷ []) k h = ap (λ x. x ∷ []) (same-some l k h)
-only_is _ k h = absurd cc
+only_is y k h = search std_rules
 
 -- a result that gives something where it succeeds
 result_form : (form : Form) (olds : List ℕ) (i : ℕ) → ok_in (node_shape form olds) ≡ Some i → (err : Bool) × (rest : List ℕ) × (form ≡ Form.result_of true err) × (olds ≡ i ∷ rest)
-result_form (Form.result_of true true) (k ∷ ks) i h = (true, ks, refl, ap (λ x. x ∷ ks) (same-some k i h))
-result_form (Form.result_of true false) (k ∷ ks) i h = (false, ks, refl, ap (λ x. x ∷ ks) (same-some k i h))
-result_form (Form.result_of false true) olds i h = absurd cc
-result_form _ _ i h = absurd cc
+result_form y olds i h = search std_rules
 
 module _ (t : Tables) (tables : AreTables t) (known : ℕ → Fact) (kept : List ℕ) (p : Plan) (are : TypesAreKept t kept p) where
   -- ---- parts

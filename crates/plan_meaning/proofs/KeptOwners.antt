@@ -12,7 +12,7 @@ use Rattle.plan_meaning.specs.Plan.{Plan, PlannedType, PlannedFunction, kind_num
 use Rattle.plan_meaning.specs.{PlanRules.function_stays, PlanRules.has_name, PlanRules.is_use, PlanRules.type_stays, NumberedRules.IsSeenFrom}
 use Rattle.plan_meaning.specs.Renumbering.{IsPart, a_primitive, a_shape}
 use Rattle.plan_meaning.specs.NumberedViews.{FunctionShape, Tables, place_at, tree_at, signature_over, declaration_of, AllOf, PartsOf, AreTables, itself, inside}
-use Rattle.plan_meaning.specs.GatheredPlan.{Becomes, BecomesIfGiven, DeclaresKind, a_resource, a_form, FunctionBecomes, ParamBecomes}
+use Rattle.plan_meaning.specs.GatheredPlan.{Becomes, DeclaresKind, a_resource, a_form, FunctionBecomes}
 use Rattle.plan_meaning.specs.KeptTypes.{IsKeptType, unnamed, declared, TypesAreKept}
 use Rattle.plan_meaning.specs.KeptOwners.{IsNamedInterface, AreOwned, OwnersStand, KeptOwnersStand, of_name}
 use Rattle.plan_meaning.proofs.KeptParts.{shape_parts, all_parts, signature_parts, function_zip, numbers_pass, kept_at}

@@ -8,7 +8,7 @@ use Rattle.plan_meaning.specs.Plan.{Plan, PlannedKind, resource, alias, formed, 
 use Rattle.plan_meaning.specs.{PlanRules.handles_resources, PlanRules.is_handle_form, NumberedViews.Tables, NumberedViews.AreTables, NumberedViews.AllOf}
 use Rattle.plan_meaning.specs.Renumbering.{IsPart, a_primitive, a_shape}
 use Rattle.plan_meaning.specs.{Shapes.named_shape, KeptTypes.alone, KeptTypes.IsKeptType, KeptTypes.unnamed, KeptTypes.declared, KeptTypes.TypesAreKept}
-use Rattle.plan_meaning.specs.GatheredPlan.{Becomes, BecomesIfGiven, DeclaresKind, a_resource, a_form, ParamBecomes}
+use Rattle.plan_meaning.specs.GatheredPlan.{Becomes, DeclaresKind, a_resource, a_form}
 use Rattle.plan_meaning.specs.KeptResources.{MarkedBy, FormIsMarked, AreMarked, ResourcesStand, KeptResourcesStand}
 use Rattle.plan_meaning.proofs.{KeptParts.shape_parts, KeptParts.all_parts, KeptParts.function_zip, KeptParts.numbers_pass, KeptParts.kept_at, Words.behind}
 use Rattle.plan_meaning.proofs.KeptTypes.{form_of_name}

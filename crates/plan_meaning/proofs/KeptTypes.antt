@@ -1,5 +1,5 @@
 -- Types of a plan that are those of kept shapes pass the tests on types.
-use Rattle.std.proofs.Common.{◌≡◌, refl, sym, ap, subst, ◌∙◌, ℕ, ◌+◌, ◌-◌, ◌<◌, ◌≤◌, arith, true, false, not, ◌&&◌, ◌||◌, ◌==◌, cond, List, [], ◌∷◌, length, map, filter_map, Option, Some, None, is_some, slice_get}
+use Rattle.std.proofs.Common.{rules as std_rules, ◌≡◌, refl, sym, ap, subst, ◌∙◌, ℕ, ◌+◌, ◌-◌, ◌<◌, ◌≤◌, arith, true, false, not, ◌&&◌, ◌||◌, cond, List, [], ◌∷◌, length, map, filter_map, Option, Some, None, is_some, slice_get}
 use Rattle.std.proofs.lemmas.{Bool.eq-eqb, Bool.lt-ltb, Bool.le-leb, Bool.leb-true, Bool.and_from as both, Option.slice_get_past as slice_past}
 use Rattle.std.proofs.lemmas.List.Folds.{list_all-map}
 use Rattle.std.specs.{Prelude.nat_le, Prelude.nat_lt, List.AllByRecursion, List.AllZip, List.list_all, Option.option_map_or}
@@ -14,7 +14,7 @@ use Rattle.plan_meaning.specs.NumberedViews.{Tables, place_at, tree_at, declarat
 use Rattle.plan_meaning.specs.GatheredPlan.{Becomes, DeclaresKind, a_resource, a_form, Keeps}
 use Rattle.plan_meaning.specs.KeptTypes.{IsKeptForm, alone, of_name, IsKeptType, unnamed, declared, TypesAreKept, TypesPass, KeptTypesPass}
 use Rattle.plan_meaning.proofs.{KeptParts.numbers_pass, KeptParts.kept_at, Words.behind}
-use Rattle.plan_meaning.proofs.{Lists.no_true, Lists.each_so, GatheredPlan.parts_kept, GatheredPlan.form_tree, NumberedRules.no_name, NumberedRules.shape_there}
+use Rattle.plan_meaning.proofs.{Lists.no_true, Lists.each_so, GatheredPlan.parts_kept, GatheredPlan.form_tree, NumberedRules.no_name}
 use Rattle.base_lemmas.proofs.Bools.{left_of as first_true, right_of as second_true, or_true}
 use Rattle.base_lemmas.proofs.Elements.{all_by_number, zip-kept as zip-weaker, all_at}
 use Rattle.comp_meaning.proofs.RulesLemmas.{distinct_same}
@@ -37,17 +37,11 @@ shallow_parts (x ∷ ts) most h = both (nat_le (levels x) most) (list_all (λ y.
 -- ---- forms
 
 no_labels : (form : Form) → not (is_named_form form) ≡ true → form_labels form ≡ []
-no_labels (Form.record_of names) h = no_true h
-no_labels (Form.variant_of cases) h = no_true h
-no_labels (Form.flags_of names) h = no_true h
-no_labels (Form.enum_of names) h = no_true h
-no_labels _ h = refl
+no_labels x h = search std_rules
 
 module _ (t : Tables) (kept : List ℕ) (p : Plan) where
   items_same : (olds news : List ℕ) → AllZip (Becomes t kept p) olds news → has_items olds ≡ true → has_items news ≡ true
-  items_same [] news z h = no_true h
-  items_same (old ∷ olds) [] z h = absurd z
-  items_same (old ∷ olds) (new ∷ news) z h = refl
+  items_same x news z h = search std_rules
 
   key_part : (old new : ℕ) → IsPart kept old new → is_key_part old ≡ true → is_key_part new ≡ true
   key_part old new (a_primitive low same) h = ap is_key_part same ∙ h
@@ -60,14 +54,7 @@ module _ (t : Tables) (kept : List ℕ) (p : Plan) where
   key_same (old ∷ olds) (new ∷ news) z h = key_part old new z.0.part h
 
   form_same : (form : Form) (olds news : List ℕ) → AllZip (Becomes t kept p) olds news → is_form form olds ≡ true → is_form form news ≡ true
-  form_same Form.tuple_of olds news z h = items_same olds news z h
-  form_same Form.map_of olds news z h = key_same olds news z h
-  form_same (Form.record_of names) olds news z h = h
-  form_same (Form.variant_of cases) olds news z h = h
-  form_same (Form.flags_of names) olds news z h = h
-  form_same (Form.enum_of names) olds news z h = h
-  form_same (Form.fixed_list_of n) olds news z h = h
-  form_same _ olds news z h = refl
+  form_same x olds news z h = search (std_rules, items_same, key_same)
 
 module _ (t : Tables) (tables : AreTables t) (kept : List ℕ) (p : Plan) (are : TypesAreKept t kept p) where
   -- ---- parts stand before
@@ -207,11 +194,7 @@ module _ (t : Tables) (tables : AreTables t) (kept : List ℕ) (p : Plan) (are :
 
   -- the type of a shape that is no form has a name
   named_type : (old n : ℕ) → old ≡ 14 + n → numbered.is_form t old ≡ false → (x : PlannedType) → IsKeptType t kept p n x → is_some x.name ≡ true
-  named_type old n is no_form x (declared q name d there named home kind before good obeys) = ap is_some named
-  named_type old n is no_form x (unnamed place form olds news there z name owner kind part low) =
-      let form_there : numbered.is_form t old ≡ true = ap (λ o. option_map_or (λ (s : Shape). not (s.sort == 0)) o false) (shape_there t old n (node_shape form olds) is there) ∙ ap not
-      (no_name form) in
-      no_true (sym no_form ∙ form_there)
+  named_type old n is no_form x y = search std_rules
 
   alias_named : (old new : ℕ) → numbered.is_form t old ≡ false → Becomes t kept p old new → passes (is_named_number p) (part_number new) ≡ true
   alias_named old new no_form b = by b.part

@@ -1,5 +1,5 @@
 -- Names are labels, and lists of members don't repeat one.
-use Rattle.std.proofs.Common.{◌≡◌, refl, sym, ap, ◌∙◌, ℕ, Bool, true, false, ◌&&◌, ◌||◌, not, List, [], ◌∷◌, ◌++◌, map, option_to_list, Option, Some, None, String}
+use Rattle.std.proofs.Common.{rules as std_rules, ◌≡◌, refl, sym, ap, ◌∙◌, ℕ, Bool, true, ◌&&◌, ◌||◌, not, List, [], ◌∷◌, ◌++◌, map, option_to_list, Option, Some, String}
 use Rattle.std.proofs.lemmas.{List.Folds.list_any-append, List.Folds.list_all-append, List.Folds.list_all-map, Bool.and_from as both}
 use Rattle.std.specs.declared.alloc.Global.{Global}
 use Rattle.std.specs.{List.list_all, List.list_any, Map.keys_of}
@@ -7,28 +7,22 @@ use Rattle.indexmap.specs.IndexMap.{keys}
 use Rattle.wit_model.specs.declared.model.{Resolve.Resolve, World.World, WorldKey.WorldKey, TypeDef.TypeDef, Function.Function, Docs.Docs}
 use Rattle.wit_model.specs.declared.model.{Interface.Interface, WorldItem.WorldItem, TypeDefKind.TypeDefKind, TypeOwner.TypeOwner, Stability.Stability}
 use Rattle.wit_model.specs.{Text.Text, Text.text_of, Text.text_eq, Text.optional_text, Names.is_label}
-use Rattle.wit_model.specs.Rules.{each_from, passes, are_distinct, are_member_labels, is_freestanding, is_stability, key_label, item_labels, entries_labels}
+use Rattle.wit_model.specs.Rules.{passes, are_distinct, are_member_labels, is_stability, key_label, item_labels, entries_labels}
 use Rattle.wit_model.specs.{Valid.Keeps, Valid.labels, Valid.functions_of_interface, Valid.functions_of_world, Valid.item_function, Lookup.world_at}
 use Rattle.wit_model.proofs.{Lists.list_all_filter_map, Checks.keeps_three, RulesLemmas.each_by_number}
 use Rattle.plan_meaning.specs.PlanRules.{IsPlan, names_of}
-use Rattle.plan_meaning.specs.Built.{part_of, planned_kind, planned_type, planned_function, planned_interface, planned_world, planned_key, planned_item, is_unknown, is_undocumented, is_bare, is_bare_type, is_bare_function, is_bare_interface, is_bare_item, is_bare_world, IsBare}
-use Rattle.plan_meaning.proofs.{Lists.all_built, Lists.no_true, Lists.all_there, Words.plan_of}
+use Rattle.plan_meaning.specs.Built.{planned_kind, planned_type, planned_function, planned_interface, planned_world, planned_key, planned_item, is_unknown, is_undocumented, is_bare, is_bare_type, is_bare_function, is_bare_interface, is_bare_item, is_bare_world, IsBare}
+use Rattle.plan_meaning.proofs.{Lists.all_built, Lists.all_there, Words.plan_of}
 use Rattle.plan_meaning.proofs.FunctionRules.{interface_holds, world_holds, imports_there, exports_there}
 use Rattle.base_lemmas.proofs.{Bools.left_of as first_true, Bools.right_of as second_true, Elements.all_two, Elements.any_of_map, Elements.all_get}
 use Rattle.base_lemmas.proofs.Lists.{map_of_map}
-use Rattle.wit_model.specs.declared.model.WorldKey.TheVariants as key
-use Rattle.wit_model.specs.declared.model.WorldItem.TheVariants as item
-use Rattle.wit_model.specs.declared.model.TypeDefKind.TheVariants as kind
-use Rattle.wit_model.specs.declared.model.Handle.TheVariants as handle
-use Rattle.wit_model.specs.declared.model.Stability.TheVariants as stability
 use Rattle.wit_model.specs.Rules as rules
 use Rattle.plan_meaning.specs.PlanRules as planned
 
 -- ---- stabilities
 
 unknown_is : (s : Stability) → is_unknown s ≡ true → is_stability s ≡ true
-unknown_is stability.Unknown h = refl
-unknown_is _ h = no_true h
+unknown_is x h = search std_rules
 
 bare_stability : (d : Docs) (s : Stability) → is_bare d s ≡ true → is_stability s ≡ true
 bare_stability d s h = unknown_is s (second_true (is_undocumented d) (is_unknown s) h)
@@ -36,33 +30,22 @@ bare_stability d s h = unknown_is s (second_true (is_undocumented d) (is_unknown
 -- ---- labels
 
 name_is : (o : Option (String Global)) → passes is_label (optional_text o) ≡ passes (λ name. is_label (text_of name)) o
-name_is None = refl
-name_is (Some s) = refl
+name_is x = search std_rules
 
 kind_labels_are : (k : TypeDefKind) → planned.kind_labels (planned_kind k) ≡ rules.kind_labels k
-kind_labels_are (kind.Handle (handle.Own id)) = refl
-kind_labels_are (kind.Variant x) = map_of_map (λ (c : Text × Bool). c.0) _ x.cases.items
-kind_labels_are _ = refl
+kind_labels_are y = search (std_rules, map_of_map)
 
 type_passes : (def : TypeDef) → planned.type_labels (planned_type def) ≡ true → is_bare_type def ≡ true
     → (passes (λ name. is_label (text_of name)) def.name && (is_stability def.stability && are_member_labels (rules.kind_labels def.kind))) ≡ true
-type_passes def h bare =
-    both _ _ (sym (name_is def.name) ∙ first_true (passes is_label (optional_text def.name)) _ h)
-    (both _ _ (bare_stability def.docs def.stability (first_true (is_bare def.docs def.stability) _ bare))
-    (ap are_member_labels (sym (kind_labels_are def.kind)) ∙ second_true (passes is_label (optional_text def.name)) _ h))
+type_passes def h bare = search (std_rules, both, name_is, first_true, bare_stability, kind_labels_are, second_true)
 
 function_passes : (f : Function) → planned.function_labels (planned_function f) ≡ true → is_bare_function f ≡ true → rules.function_labels f ≡ true
-function_passes f h bare =
-    both _ _ (first_true (not (is_freestanding f.kind) || is_label (text_of f.name)) _ h)
-    (both _ _ (ap are_member_labels (sym (map_of_map (λ (x : Text × ℕ). x.0) (λ x. (text_of x.name, part_of x.ty)) f.params.items)) ∙ second_true
-    (not (is_freestanding f.kind) || is_label (text_of f.name)) _ h)
-    (bare_stability f.docs f.stability bare))
+function_passes f h bare = search (std_rules, both, first_true, map_of_map, second_true, bare_stability)
 
 -- ---- names that differ
 
 missed : (a b : Bool) → not (a || b) ≡ true → not b ≡ true
-missed false b h = h
-missed true b h = no_true h
+missed x b h = search std_rules
 
 -- no name of the first list stands in the second
 pub apart : (xs ys : List Text) → are_distinct (xs ++ ys) ≡ true → list_all (λ x. not (list_any (text_eq x) ys)) xs ≡ true
@@ -100,21 +83,13 @@ module _ (r : Resolve) (m : ℕ) (is : IsPlan (plan_of r m)) (bare : IsBare r) w
   -- ---- items
 
   import_key : (n : ℕ) (k : WorldKey) (x : WorldItem) → planned.import_stands (plan_of r m) n (planned_key k, planned_item x) ≡ true → key_label k x ≡ true
-  import_key n (key.Interface id) x h = refl
-  import_key n (key.Name name) (item.Function f) h = second_true (text_eq (text_of name) (text_of f.name)) _ h
-  import_key n (key.Name name) _ h = first_true (is_label (text_of name)) _ h
+  import_key n x y h = search std_rules
 
   export_key : (k : WorldKey) (x : WorldItem) → planned.export_stands (plan_of r m) (planned_key k, planned_item x) ≡ true → key_label k x ≡ true
-  export_key (key.Interface id) x h = refl
-  export_key (key.Name name) (item.Interface id stability docs external_id) h = first_true (is_label (text_of name)) _ h
-  export_key (key.Name name) (item.Function f) h =
-      second_true (text_eq (text_of name) (text_of f.name)) _ (first_true (text_eq (text_of name) (text_of f.name) && (not (is_freestanding f.kind) || is_label (text_of name))) _ h)
-  export_key (key.Name name) (item.Type_ id) h = no_true h
+  export_key x y h = search std_rules
 
   item_passes : (x : WorldItem) → list_all (λ f. planned.function_labels (planned_function f)) (option_to_list (item_function x)) ≡ true → is_bare_item x ≡ true → item_labels x ≡ true
-  item_passes (item.Interface id stability docs external_id) h bare = bare_stability docs stability bare
-  item_passes (item.Function f) h bare = function_passes f (first_true _ true h) bare
-  item_passes (item.Type_ id) h bare = refl
+  item_passes x h bare = search (std_rules, bare_stability, function_passes, first_true)
 
   abbrev labelled_item : WorldItem → Bool
   labelled_item x = list_all (λ f. planned.function_labels (planned_function f)) (option_to_list (item_function x))

@@ -1,4 +1,4 @@
--- Lists and options that are made entry by entry of others. Serves Depths, DistinctKeys, FunctionNames, FunctionRules and 35 more; crates above.
+-- Lists and options that are made entry by entry of others. Serves Depths, DistinctKeys, FunctionNames, FunctionRules and 33 more; crates above.
 pub mod Lists
 -- In a table of shapes each number has a tree, and no tree has two numbers. Serves laws::shapes_are_trees; crates above.
 pub mod ShapeLaws
@@ -12,14 +12,14 @@ pub mod Depths
 pub mod Labels
 -- What holds of the parts of a list, of the numbers that they become; the parts of a function in one list. Serves KeptFunctions, KeptOwners, KeptResources, KeptTypes and 4 more.
 pub mod KeptParts
--- Each rule of reading on types, functions and interfaces has the same answer in numbers. Serves laws::rules_in_numbers; crates above.
-pub mod NumberedRules
 -- Interfaces that are read pass the tests of a plan on each interface by itself. Serves laws::read_interfaces_pass.
 pub mod ReadInterfaces
 -- Lists in which no number or no name stands twice. Serves ListedTypes, ReadOrder, ReadPlaces, ReadWholes and 2 more; crates above.
 pub mod ReadLists
 -- What a package lists is in range, of the package, and under its own name; packages are apart. Serves FunctionNames, NumbersInRange, Places, ReadPlaces and 4 more.
 pub mod Listed
+-- Each rule of reading on types, functions and interfaces has the same answer in numbers. Serves laws::rules_in_numbers; crates above.
+pub mod NumberedRules
 -- Worlds that are read pass the tests of a plan on each world by itself. Serves laws::read_worlds_pass.
 pub mod ReadWorlds
 -- Each named type of a plan that is read stands in its owner's list. Serves DistinctKeys, ReadOrder; crates above.

@@ -1,5 +1,5 @@
 -- What a package lists is in range, of the package, and under its own name; packages are apart.
-use Rattle.std.proofs.Common.{◌≡◌, refl, sym, ap, ◌∙◌, ℕ, Bool, true, false, ◌&&◌, ◌||◌, not, ◌==◌, List, length, map, option_map, Option, Some, None, slice_get, is_some, String}
+use Rattle.std.proofs.Common.{rules as std_rules, ◌≡◌, refl, sym, ap, ◌∙◌, ℕ, Bool, true, false, ◌&&◌, ◌||◌, not, ◌==◌, List, length, map, option_map, Option, Some, slice_get, is_some, String}
 use Rattle.std.proofs.lemmas.{Option.slice_get_within, Option.slice_get-map as get_of_map, Bool.and_from as both, Bool.lt-ltb}
 use Rattle.std.specs.declared.alloc.Global.{Global}
 use Rattle.std.specs.{List.list_all, Option.option_map_or}
@@ -12,42 +12,34 @@ use Rattle.comp_meaning.specs.Same.{same_identity}
 use Rattle.comp_meaning.proofs.SameLaws.{identities_decide}
 use Rattle.plan_meaning.specs.PlanRules.{IsPlan, bears, lists_interface, lists_world, lists_members, is_alone}
 use Rattle.plan_meaning.specs.Built.{planned_interface, planned_world, planned_package}
-use Rattle.plan_meaning.proofs.{Lists.all_built, Lists.each_built, Lists.no_true, Lists.each_there, Lists.all_there, Words.plan_of}
+use Rattle.plan_meaning.proofs.{Lists.all_built, Lists.each_built, Lists.each_there, Lists.all_there, Words.plan_of}
 use Rattle.base_lemmas.proofs.{Bools.left_of as first_true, Bools.right_of as second_true, Elements.all_get, Options.there as some-of}
 
 -- ---- a name that stands there
 
 pub bears_is : (name : Option (String Global)) (t : Text) → bears t (optional_text name) ≡ text_is name t
-bears_is None t = refl
-bears_is (Some s) t = refl
+bears_is x t = search std_rules
 
 -- what is asked of an entry that has to stand there is asked of one that does
 pub there : {A B : Type 0} (g : A → B) (test : B → Bool) (o : Option A) → option_map_or test (option_map g o) false ≡ true → passes (λ x. test (g x)) o ≡ true
-there g test None h = no_true h
-there g test (Some x) h = h
+there g test x h = search std_rules
 
 pub some_there : {A B : Type 0} (g : A → B) (test : B → Bool) (o : Option A) → option_map_or test (option_map g o) false ≡ true → is_some o ≡ true
-some_there g test None h = no_true h
-some_there g test (Some x) h = refl
+some_there g test x h = search std_rules
 
 pub in_range : {A : Type 0} (xs : List A) (n : ℕ) → is_some (slice_get xs n) ≡ true → in_list xs n ≡ true
 in_range xs n h = let found = some-of (slice_get xs n) h in lt-ltb n (length xs) (slice_get_within xs n found.0 found.1)
 
 pub passes_weaker : {A : Type 0} (p q : A → Bool) → ((x : A) → p x ≡ true → q x ≡ true) → (o : Option A) → passes p o ≡ true → passes q o ≡ true
-passes_weaker p q weaker None h = refl
-passes_weaker p q weaker (Some x) h = weaker x h
+passes_weaker p q weaker y h = search std_rules
 
 pub passes_both : {A : Type 0} (p q s : A → Bool) → ((x : A) → p x ≡ true → q x ≡ true → s x ≡ true) → (o : Option A) → passes p o ≡ true → passes q o ≡ true → passes s o ≡ true
-passes_both p q s make None h k = refl
-passes_both p q s make (Some x) h k = make x h k
+passes_both p q s make y h k = search std_rules
 
 -- what is asked of an entry of a list that is made of another
 asked : {A B : Type 0} (g : A → B) (test : B → Bool) (p q : A → Bool) → ((x : A) → test (g x) ≡ true → p x ≡ true) → ((x : A) → test (g x) ≡ true → q x ≡ true) → (xs : List A) (n : ℕ)
     → option_map_or test (slice_get (map g xs) n) false ≡ true → (in_list xs n ≡ true) × (passes p (slice_get xs n) ≡ true) × (passes q (slice_get xs n) ≡ true)
-asked g test p q one two xs n h =
-    let found = sym (ap (λ o. option_map_or test o false) (get_of_map g xs n)) ∙ h in
-    let kept = there g test (slice_get xs n) found in
-    (in_range xs n (some_there g test (slice_get xs n) found), passes_weaker (λ x. test (g x)) p one (slice_get xs n) kept, passes_weaker (λ x. test (g x)) q two (slice_get xs n) kept)
+asked g test p q one two xs n h = search (std_rules, get_of_map, there, in_range, some_there, passes_weaker)
 
 module _ (r : Resolve) (m : ℕ) (is : IsPlan (plan_of r m)) where
   -- an interface that a package lists, and a world

@@ -1,5 +1,5 @@
 -- Each named type of a plan that is read stands in its owner's list.
-use Rattle.std.proofs.Common.{◌≡◌, refl, sym, ap, subst, ◌∙◌, ℕ, zero, suc, ◌+◌, arith, Bool, true, false, not, ◌||◌, cond, List, [], ◌∷◌, ◌++◌, Some, option_and_then, slice_get}
+use Rattle.std.proofs.Common.{rules as std_rules, ◌≡◌, refl, sym, ap, subst, ◌∙◌, ℕ, zero, suc, ◌+◌, arith, Bool, true, false, not, ◌||◌, cond, List, [], ◌∷◌, ◌++◌, Some, option_and_then, slice_get}
 use Rattle.std.proofs.lemmas.{Bool.or_right, Bool.and_from as both, Bool.not-true as not_true, List.Folds.list_any-append, Option.same_Some as same-some}
 use Rattle.std.specs.{List.AllZip, List.Contains, List.list_any, Option.option_map_or, Map.lookup}
 use Rattle.wit_model.specs.{Text.Text, Text.text_eq, Rules.are_distinct, Rules.each_from, Rules.is_id, Rules.passes, Valid.as_interface, Valid.as_world}
@@ -36,8 +36,7 @@ no_key key name item h (x ∷ es) (suc i, low, e) = or_right (same_key key x.0) 
     (no_key key name item h es (i, omega (arith, low), e))
 
 under_same : (name : Text) (key : PlannedKey) → is_under_label name key ≡ true → same_key key (plan.label name) ≡ true
-under_same name (plan.label l) h = h
-under_same name (plan.path_of n) h = no_true h
+under_same name x h = search std_rules
 
 -- what stands under a label where keys differ
 pub key_there : (name : Text) (item : PlannedItem) (es : List (PlannedKey × PlannedItem)) → keys_differ es ≡ true → Contains es (plan.label name, item) → lookup (is_under_label name) es ≡ Some item

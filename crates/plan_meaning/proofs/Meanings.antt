@@ -1,16 +1,14 @@
 -- What a plan means, part by part, is what the `Resolve` means that is built from it.
-use Rattle.std.proofs.Common.{◌≡◌, refl, ap, ◌∙◌, ℕ, List, [], map, option_map, Option, Some, None, unwrap_or, String}
+use Rattle.std.proofs.Common.{rules as std_rules, ◌≡◌, ap, ◌∙◌, ℕ, List, map, option_map, Option, unwrap_or, String}
 use Rattle.std.specs.declared.alloc.Global.{Global}
-use Rattle.wit_model.specs.declared.model.{TypeId.TypeId, Resolve.Resolve, World.World, TypeDef.TypeDef, Param.Param}
+use Rattle.wit_model.specs.declared.model.{TypeId.TypeId, Resolve.Resolve, World.World, TypeDef.TypeDef}
 use Rattle.wit_model.specs.declared.model.{Interface.Interface, WorldKey.WorldKey, WorldItem.WorldItem, «Type».«Type» as ValueType, Function.Function}
-use Rattle.std.specs.{Option.option_map_or, FinMap.from_entries}
+use Rattle.std.specs.{FinMap.from_entries}
 use Rattle.wit_model.specs.{Text.Text, Text.text_of, Text.optional_text, Types.trees_of, Types.type_tree, Meant.no_type, Meant.no_interface, Meant.no_world}
-use Rattle.wit_model.specs.{Lookup.interface_at, Lookup.world_at, Lookup.type_at, Lookup.is_async, Meaning.FunctionMeaning, Meaning.TypeMeaning, Meaning.Item}
-use Rattle.plan_meaning.specs.{Shapes.part_tree, Plan.PlannedFunction, Plan.PlannedKey, Plan.PlannedItem, Plan.trees_in, Plan.declared_as}
-use Rattle.plan_meaning.specs.Built.{part_of, planned_kind, planned_type, planned_function, planned_interface, planned_world, planned_key, planned_item, planned_entries}
+use Rattle.wit_model.specs.{Meaning.FunctionMeaning}
+use Rattle.plan_meaning.specs.{Shapes.part_tree, Plan.PlannedFunction, Plan.trees_in}
+use Rattle.plan_meaning.specs.Built.{part_of, planned_type, planned_function, planned_interface, planned_world, planned_key, planned_item, planned_entries}
 use Rattle.plan_meaning.proofs.{Lists.map_there, Lists.or_there, Words.plan_of, Words.part_tree_is, Words.trees_are, Words.declared_is, Words.path_is}
-use Rattle.wit_model.specs.declared.model.WorldKey.TheVariants as key
-use Rattle.wit_model.specs.declared.model.WorldItem.TheVariants as item
 use Rattle.wit_model.specs.Lookup as lookup
 use Rattle.wit_model.specs.Meant as meant
 use Rattle.plan_meaning.specs.PlanMeaning as planned
@@ -25,23 +23,16 @@ module _ (r : Resolve) (m : ℕ) where
   part_is t = ap (λ trees. part_tree trees (part_of t)) (trees_are r m) ∙ part_tree_is (trees_of r) t
 
   result_is : (o : Option ValueType) → option_map (part_tree (trees_in (plan_of r m))) (option_map part_of o) ≡ option_map (type_tree r) o
-  result_is None = refl
-  result_is (Some t) = ap Some (part_is t)
+  result_is x = search (std_rules, part_is)
 
   pub signature_is : (f : Function) → planned.signature_of (plan_of r m) (planned_function f) ≡ meant.signature_of r f
-  signature_is f =
-      let params = map_there (λ (x : Text × ℕ). (x.0, part_tree (trees_in (plan_of r m)) x.1)) (λ (p : Param). (text_of p.name, part_of p.ty)) (λ p. (text_of p.name, type_tree r p.ty))
-      (λ p i. (text_of p.name, part_is p.ty i)) f.params.items in
-      λ i. record { is_async = is_async f.kind; params = params i; result = result_is f.result i }
+  signature_is f = search (std_rules, map_there, plan_of, part_is, result_is)
 
   pub function_is : (f : Function) → planned.function_meaning (plan_of r m) (planned_function f) ≡ meant.function_meaning r f
   function_is f = λ i. record { signature = signature_is f i; external_id = optional_text f.external_id }
 
   type_is : (def : TypeDef) → planned.type_meaning (plan_of r m) (planned_type def) ≡ meant.type_meaning r def
-  type_is def = λ i. record {
-    declaration = (ap (λ trees. declared_as trees (planned_kind def.kind)) (trees_are r m) ∙ declared_is (trees_of r) def.kind) i;
-    external_id = optional_text def.external_id;
-  }
+  type_is def = search (std_rules, trees_are, declared_is)
 
   pub type_at_is : (n : ℕ) → planned.type_meaning_in (plan_of r m) n ≡ meant.type_meaning_at r n
   type_at_is = or_there (planned.type_meaning (plan_of r m)) planned_type (meant.type_meaning r) no_type type_is r.types.items
@@ -68,23 +59,16 @@ module _ (r : Resolve) (m : ℕ) where
   -- ---- worlds
 
   item_is : (x : WorldItem) → planned.item_meaning (plan_of r m) (planned_item x) ≡ meant.item_meaning r x
-  item_is (item.Interface id stability docs external_id) = λ i. option_map_or Item.interface (path_is r m id.0 i) (Item.inline (interface_at_is id.0 i))
-  item_is (item.Function f) = ap Item.function (signature_is f)
-  item_is (item.Type_ id) = ap (λ (t : TypeMeaning). Item.declares t.declaration) (type_at_is id.0)
+  item_is x = search (std_rules, path_is, interface_at_is, signature_is, type_at_is)
 
   external_is : (x : WorldItem) → planned.item_external_id (plan_of r m) (planned_item x) ≡ meant.item_external_id r x
-  external_is (item.Type_ id) = ap (λ (t : TypeMeaning). t.external_id) (type_at_is id.0)
-  external_is _ = refl
+  external_is x = search (std_rules, type_at_is)
 
   key_is : (k : WorldKey) → planned.key_text (plan_of r m) (planned_key k) ≡ lookup.key_text r k
-  key_is (key.Name name) = refl
-  key_is (key.Interface id) = ap (λ o. unwrap_or o []) (path_is r m id.0)
+  key_is x = search (std_rules, unwrap_or, path_is)
 
   entries_are : (es : List (WorldKey × WorldItem)) → planned.entries_meaning (plan_of r m) (planned_entries es) ≡ meant.entries_meaning r es
-  entries_are = map_there
-      (λ (e : PlannedKey × PlannedItem). (planned.key_text (plan_of r m) e.0, record { item = planned.item_meaning (plan_of r m) e.1; external_id = planned.item_external_id (plan_of r m) e.1 }))
-      (λ (e : WorldKey × WorldItem). (planned_key e.0, planned_item e.1)) (λ e. (lookup.key_text r e.0, meant.entry_meaning r e.1))
-      (λ e i. (key_is e.0 i, record { item = item_is e.1 i; external_id = external_is e.1 i }))
+  entries_are = search (std_rules, map_there, plan_of, key_is, item_is, external_is)
 
   pub world_is : (w : World) → planned.world_meaning (plan_of r m) (planned_world w) ≡ meant.world_meaning r w
   world_is w = λ i. record { imports = entries_are w.imports.entries i; exports = entries_are w.exports.entries i }

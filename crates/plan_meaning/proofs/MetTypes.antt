@@ -1,5 +1,5 @@
 -- The named types that numbers of a plan use are under no larger numbers.
-use Rattle.std.proofs.Common.{◌≡◌, ◌⊎◌, inl, inr, refl, ap, ◌∙◌, ◌<◌, ℕ, zero, suc, arith, true, List, [], ◌∷◌, length, take, flat_map, Option, Some, None, unwrap_or, ◌+◌, slice_get}
+use Rattle.std.proofs.Common.{rules as std_rules, ◌≡◌, ◌⊎◌, inl, inr, refl, ap, ◌∙◌, ◌<◌, ℕ, zero, suc, arith, true, List, [], ◌∷◌, length, take, flat_map, Option, Some, None, unwrap_or, ◌+◌, slice_get}
 use Rattle.std.proofs.lemmas.{Bool.Decides.nat_tests, List.Elements.Contains-append_cases, Bool.and_from as both, Bool.ltb-true as less_than}
 use Rattle.std.specs.{Prelude.nat_le, Prelude.nat_lt, List.Contains, List.list_all, Option.option_map_or}
 use Rattle.wit_model.specs.{Text.Text, Parts.met_by, Parts.numbered_from, Rules.each_from}
@@ -27,11 +27,7 @@ module _ (p : Plan) (fall : each_from (λ n x. list_all (λ m. nat_lt m n) (kind
   IsLow n ns = list_all (λ m. nat_le m n) ns ≡ true
 
   within : (n : ℕ) (ns : List ℕ) → ((j : ℕ) → j < n → IsLow j (met_by (take n (met_in p)) j)) → list_all (λ j. nat_lt j n) ns ≡ true → IsLow n (flat_map (met_by (take n (met_in p))) ns)
-  within n ns small h =
-      all_flat (λ m. nat_le m n) (met_by (take n (met_in p))) ns
-      ∙ all_weaker (λ j. nat_lt j n) (λ j. list_all (λ m. nat_le m n) (met_by (take n (met_in p)) j))
-      (λ j less. all_weaker (λ m. nat_le m j) (λ m. nat_le m n) (λ m le. let l = less_than j n less in grind (arith, nat_tests, l, le)) (met_by (take n (met_in p)) j)
-      (small j (less_than j n less))) ns h
+  within n ns small h = search (std_rules, all_flat, all_weaker, less_than, nat_tests)
 
   at_type : (n : ℕ) (x : PlannedType) → list_all (λ j. nat_lt j n) (kind_numbers x.kind) ≡ true → ((j : ℕ) → j < n → IsLow j (met_by (take n (met_in p)) j))
       → IsLow n (met_at (take n (met_in p)) (n, x))

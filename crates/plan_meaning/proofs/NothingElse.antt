@@ -1,14 +1,14 @@
 -- Nothing stands in what is built from a plan but what the plan means.
-use Rattle.std.proofs.Common.{◌≡◌, refl, sym, ap, ◌∙◌, ℕ, Bool, true, false, ◌&&◌, ◌||◌, ◌==◌, List, [], ◌∷◌, map, filter_map, option_map, option_and_then, Option, Some, None, slice_get, unwrap_or, zero, suc, is_some, is_none, subst, String}
+use Rattle.std.proofs.Common.{rules as std_rules, ◌≡◌, refl, sym, ap, ◌∙◌, ℕ, Bool, true, false, ◌&&◌, ◌||◌, ◌==◌, List, [], ◌∷◌, map, filter_map, option_map, option_and_then, Option, Some, None, slice_get, unwrap_or, zero, suc, is_some, subst, String}
 use Rattle.std.proofs.lemmas.Option.{slice_get-map as get_of_map}
 use Rattle.std.specs.{Prelude.sum_by, List.list_all, List.list_any, Option.option_map_or, Option.option_eq}
 use Rattle.std.specs.declared.alloc.Global.{Global}
 use Rattle.wit_model.specs.declared.model.{Resolve.Resolve, Package.Package, Interface.Interface, World.World, Function.Function}
-use Rattle.wit_model.specs.{Text.Text, Text.text_of, Text.optional_text, Uses.has, Uses.items_of, Rules.is_id, Rules.in_list, Rules.has_items}
+use Rattle.wit_model.specs.{Text.Text, Text.optional_text, Uses.has, Uses.items_of, Rules.is_id, Rules.in_list}
 use Rattle.wit_model.specs.{Lookup.package_at, Lookup.interface_at, Lookup.world_at, Valid.IsValid, Valid.functions_of_interface, Valid.functions_of_world}
 use Rattle.plan_meaning.specs.Plan.{Plan, PlannedWorld, number_under, package_in}
 use Rattle.plan_meaning.specs.PlanRules.{HoldsNoMore, IsPackagePlan, IsWorldPlan}
-use Rattle.plan_meaning.specs.Built.{IsBuilt, planned_kind, planned_type, planned_function, planned_interface, planned_world, planned_package}
+use Rattle.plan_meaning.specs.Built.{IsBuilt, planned_function, planned_interface, planned_world, planned_package}
 use Rattle.plan_meaning.specs.NothingElse.{is_part_of, TypesAreUsed, PackagesAreUsed, HoldsPackageAlone, HoldsWorldAlone}
 use Rattle.plan_meaning.proofs.{Lists.any_get, Lists.each_there, FunctionRules.functions_are, FunctionRules.world_functions_are, PackageMeans.no_functions}
 use Rattle.plan_meaning.proofs.{Words.plan_of, Words.kind_numbers_are, Words.function_numbers_are, KindRules.has_text, FunctionNames.unnamed as lacks_text}
@@ -27,37 +27,24 @@ module _ (r : Resolve) (m : ℕ) where
   same_any p q same xs = ap (λ test. list_any test xs) (λ i x. same x i)
 
   functions_have : (n : ℕ) (fs : List Function) → list_any (λ f. has (plan.function_numbers f) n) (map planned_function fs) ≡ list_any (λ f. has (parts.function_numbers f) n) fs
-  functions_have n fs =
-      any_of_map (λ f. has (plan.function_numbers f) n) planned_function fs
-      ∙ same_any (λ f. has (plan.function_numbers (planned_function f)) n) (λ f. has (parts.function_numbers f) n) (λ f. ap (λ ns. has ns n) (function_numbers_are f)) fs
+  functions_have n fs = search (std_rules, any_of_map, same_any, function_numbers_are)
 
   interfaces_have : (n : ℕ) → list_any (λ i. list_any (λ f. has (plan.function_numbers f) n) (planned.functions_of i)) (map planned_interface r.interfaces.items)
       ≡ list_any (λ i. list_any (λ f. has (parts.function_numbers f) n) (functions_of_interface i)) r.interfaces.items
-  interfaces_have n =
-      any_of_map (λ i. list_any (λ f. has (plan.function_numbers f) n) (planned.functions_of i)) planned_interface r.interfaces.items
-      ∙ same_any (λ i. list_any (λ f. has (plan.function_numbers f) n) (planned.functions_of (planned_interface i))) (λ i. list_any (λ f. has (parts.function_numbers f) n) (functions_of_interface i))
-      (λ i. ap (list_any (λ f. has (plan.function_numbers f) n)) (functions_are i) ∙ functions_have n (functions_of_interface i)) r.interfaces.items
+  interfaces_have n = search (std_rules, any_of_map, same_any, functions_are, functions_have)
 
   worlds_have : (n : ℕ) → list_any (λ w. list_any (λ f. has (plan.function_numbers f) n) (planned.world_functions w)) (map planned_world r.worlds.items)
       ≡ list_any (λ w. list_any (λ f. has (parts.function_numbers f) n) (functions_of_world w)) r.worlds.items
-  worlds_have n =
-      any_of_map (λ w. list_any (λ f. has (plan.function_numbers f) n) (planned.world_functions w)) planned_world r.worlds.items
-      ∙ same_any (λ w. list_any (λ f. has (plan.function_numbers f) n) (planned.world_functions (planned_world w))) (λ w. list_any (λ f. has (parts.function_numbers f) n) (functions_of_world w))
-      (λ w. ap (list_any (λ f. has (plan.function_numbers f) n)) (world_functions_are w) ∙ functions_have n (functions_of_world w)) r.worlds.items
+  worlds_have n = search (std_rules, any_of_map, same_any, world_functions_are, functions_have)
 
   part_is : (n : ℕ) → planned.is_part (plan_of r m) n ≡ is_part_of r n
-  part_is n = λ i. (any_of_map (λ t. has (plan.kind_numbers t.kind) n) planned_type r.types.items ∙ same_any (λ def. has (plan.kind_numbers (planned_kind def.kind)) n)
-      (λ def. has (parts.kind_numbers def.kind) n) (λ def. ap (λ ns. has ns n) (kind_numbers_are def.kind)) r.types.items) i || (interfaces_have n i || worlds_have n i)
+  part_is n = search (std_rules, any_of_map, same_any, kind_numbers_are, interfaces_have, worlds_have)
 
   pub types_used : HoldsNoMore (plan_of r m) → TypesAreUsed r
-  types_used more k def e =
-      (λ i. sym (has_text def.name) i || (sym (part_is k) i && sym (lacks_text def.external_id) i))
-      ∙ each_there planned_type (λ n t. is_some t.name || (planned.is_part (plan_of r m) n && is_none t.external_id)) r.types.items more.types k def e
+  types_used more k def e = search (std_rules, has_text, part_is, lacks_text, each_there, plan_of)
 
   pub packages_used : HoldsNoMore (plan_of r m) → PackagesAreUsed r m
-  packages_used more k q e =
-      ap (λ b. (k == m) || b) (sym (some_items (λ x. (text_of x.0, x.1.0)) q.interfaces.entries))
-      ∙ each_there planned_package (λ n x. (n == m) || has_items x.interfaces) r.packages.items more.packages k q e
+  packages_used more k q e = search (std_rules, some_items, each_there)
 
   -- ---- one world
 
@@ -95,13 +82,7 @@ module _ (r : Resolve) (m : ℕ) where
     world_alone = record { one = one_world; interfaces = is_item; packages = packages_used is.no_more; types = types_used is.no_more }
 
 package_alone : (r : Resolve) (m : ℕ) → IsPackagePlan (plan_of r m) → IsValid r → (q : Package) → package_at r m ≡ Some q → HoldsPackageAlone r m q
-package_alone r m is v q at = record {
-  interfaces = all_reached r m is.plan v q at is.worlds is.wanted;
-  worlds = world_among r m is.plan v q at is.worlds;
-  functions = no_functions r m is v q at;
-  packages = packages_used r m is.no_more;
-  types = types_used r m is.no_more;
-}
+package_alone r m is v q at = search (std_rules, all_reached, world_among, no_functions, packages_used, types_used)
 
 pub package_holds_alone : (p : Plan) (r : Resolve) → IsPackagePlan p → IsBuilt p r → (q : Package) → package_at r p.main ≡ Some q → HoldsPackageAlone r p.main q
 package_holds_alone p r is built = package_alone r p.main (subst IsPackagePlan (sym (plan_is p r built)) is) (built_is_valid p r is.plan built)

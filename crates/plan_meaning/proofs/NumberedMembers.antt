@@ -1,5 +1,5 @@
 -- Members are a package, and a world stands alone, exactly where their numbers are.
-use Rattle.std.proofs.Common.{◌≡◌, refl, sym, ap, ◌∙◌, ℕ, Bool, true, false, not, ◌&&◌, ◌||◌, ◌==◌, List, [], ◌∷◌, ◌++◌, map, Option, Some, None, option_map, is_none, slice_get}
+use Rattle.std.proofs.Common.{rules as std_rules, ◌≡◌, refl, sym, ap, ◌∙◌, ℕ, Bool, true, false, not, ◌&&◌, ◌||◌, ◌==◌, List, [], ◌∷◌, ◌++◌, map, Option, Some, None, option_map, is_none, slice_get}
 use Rattle.std.proofs.lemmas.{Bool.eqb-true, Bool.eq-eqb, Bool.and_from as both, Option.same_Some as same-some}
 use Rattle.std.specs.{List.AllByRecursion, List.AllZip, List.flat_map, List.list_all, List.list_any, Option.option_map_or}
 use Rattle.wit_model.specs.{Text.Text, Text.text_eq, Names.PackageIdentity, Names.path_in, Names.read_path, Tree.Place}
@@ -85,15 +85,7 @@ module _ (t : Tables) (tables : AreTables t) (h : Homes) (stand : HomesStand t h
 
   part_sights : (m : NumberedMember) (x : Member) → slice_get h.packages m.package_ ≡ Some x.package_ → x.label ≡ m.label → (a : NumberedPart) (b : Part) → ShowsPart t h m a b
       → reads.sights (record { label = x.label; package_ = x.package_; part = b }) ≡ map (sight_of t) (sights_of_part t a)
-  part_sights m x package_ under (world w) (Part.world scope) is = sights_in_numbers t w scope is
-  part_sights m x package_ under (interface p v imports) (Part.interface view views) is =
-      let front : map imported_sight views ≡ map (sight_of t) (map (λ i. record { place = i.0; view = i.1; whole = false }) imports) =
-      ap (map imported_sight) is.imported
-      ∙ (map_of_map imported_sight (λ (i : ℕ × NumberedView). (path_text t i.0, view_of t i.1)) imports
-      ∙ sym (map_of_map (sight_of t) (λ (i : ℕ × NumberedView). record { place = i.0; view = i.1; whole = false }) imports)) in
-      (λ i. front i ++ record { path = exported_path m x package_ under p v imports view views is i; view = is.shown i; whole = true } ∷ [])
-      ∙ sym (append_of_map (sight_of t) (map (λ (i : ℕ × NumberedView). record { place = i.0; view = i.1; whole = false }) imports) (record { place = p; view = v; whole = true } ∷ []))
-  part_sights m x package_ under _ _ is = absurd is
+  part_sights m x package_ under y z is = search (std_rules, sights_in_numbers, map_of_map, exported_path, append_of_map)
 
   pub all_sights : (ms : List NumberedMember) (members : List Member) → AllZip (IsMember t h) ms members → flat_map reads.sights members ≡ map (sight_of t) (sights_of_members t ms)
   all_sights [] [] z = refl
@@ -170,8 +162,7 @@ module _ (t : Tables) (tables : AreTables t) (h : Homes) (stand : HomesStand t h
 -- ---- the component type of an interface
 
 provided_map : {A B : Type 0} (f : A → B) (b : Bool) (x : A) → provided b (f x) ≡ option_map f (provided b x)
-provided_map f true x = refl
-provided_map f false x = refl
+provided_map f x y = search std_rules
 
 import_same : (t : Tables) (s : NumberedSeen) → reads.imported_view (seen_of t s) ≡ option_map (shown_view t) (imported_view s)
 import_same t s = by s.shown

@@ -1,15 +1,15 @@
 -- Each rule of reading on types, functions and interfaces has the same answer in numbers.
-use Rattle.std.proofs.Common.{◌≡◌, refl, sym, ap, ◌∙◌, ℕ, ◌+◌, ◌-◌, ◌<◌, min, Bool, true, false, not, ◌&&◌, ◌||◌, ◌==◌, cond, List, [], ◌∷◌, ◌++◌, map, Option, Some, None, option_map, slice_get, codes, rules as std_rules}
+use Rattle.std.proofs.Common.{◌≡◌, refl, sym, ap, ◌∙◌, ℕ, ◌+◌, ◌-◌, ◌<◌, min, Bool, true, false, not, ◌&&◌, ◌||◌, ◌==◌, cond, List, [], ◌∷◌, map, Option, Some, None, option_map, slice_get, codes, rules as std_rules}
 use Rattle.std.proofs.lemmas.Bool.{eqb-true, eq-eqb, lt-ltb}
-use Rattle.std.specs.{Prelude.option_and_then, Prelude.nat_le, List.AllByRecursion, List.Contains, List.list_all, List.list_any, Option.option_map_or}
-use Rattle.wit_model.specs.{Text.Text, Text.text_eq, Names.is_label, Names.constructor_name, Names.method_name, Names.static_name, Meaning.FunctionMeaning}
+use Rattle.std.specs.{Prelude.option_and_then, Prelude.nat_le, List.AllByRecursion, List.Contains, List.list_any, Option.option_map_or}
+use Rattle.wit_model.specs.{Text.Text, Text.text_eq, Names.is_label, Names.constructor_name, Names.method_name, Names.static_name}
 use Rattle.wit_model.specs.Tree.{Place, Form, Tree, Trees, Declaration, children, deepest, levels, Primitive}
-use Rattle.comp_meaning.specs.{Follow.ShownType, Same.same_place, Same.same_tree, Same.same_trees, Same.same_form}
-use Rattle.comp_meaning.specs.Rules.{are_labels, distinct, form_labels, is_label_behind, most_levels, are_parts, own_name, borrow_name}
+use Rattle.comp_meaning.specs.{Same.same_place, Same.same_tree, Same.same_trees, Same.same_form}
+use Rattle.comp_meaning.specs.Rules.{are_labels, form_labels, is_label_behind, most_levels, are_parts, own_name, borrow_name}
 use Rattle.comp_meaning.proofs.SameLaws.{places_decide}
 use Rattle.plan_meaning.specs.Shapes.{Shape, form_code, first_label, named_shape, node_shape, IsTable}
-use Rattle.plan_meaning.specs.NumberedViews.{FunctionShape, Tables, place_at, tree_at, function_at, signature_over, IsPart, AllOf, PartsOf, itself, inside, NumberedType, NumberedView, view_of, declaration_of, shown_type, shown_function, TypePasses, FunctionPasses, ViewPasses}
-use Rattle.plan_meaning.specs.NumberedRules.{Fact, most_counted, shape_at, name_in, only_of, held_in, own_sort, borrow_sort, ok_in, is_parameter_type, is_declared_form, is_declared, is_result_type, is_signature, is_name, is_handle, begins_with_self, constructs, is_function_of, is_function, is_type, is_no_part, resources_of, is_interface, IsSeenFrom, IsKnown, EachRuleInNumbers}
+use Rattle.plan_meaning.specs.NumberedViews.{FunctionShape, Tables, place_at, tree_at, signature_over, IsPart, AllOf, PartsOf, itself, inside, NumberedType, NumberedView, view_of, declaration_of, shown_type, ViewPasses}
+use Rattle.plan_meaning.specs.NumberedRules.{Fact, most_counted, shape_at, name_in, only_of, held_in, own_sort, borrow_sort, ok_in, is_parameter_type, is_declared_form, is_declared, is_result_type, is_signature, is_name, is_handle, begins_with_self, constructs, is_function_of, is_function, is_no_part, resources_of, is_interface, IsSeenFrom, IsKnown, EachRuleInNumbers}
 use Rattle.plan_meaning.proofs.{ShapeLaws.PartView, ShapeLaws.is_primitive, ShapeLaws.is_name as is_named, ShapeLaws.is_node, ShapeLaws.viewed, Lists.all_same}
 use Rattle.plan_meaning.proofs.Words.{behind}
 use Rattle.base_lemmas.proofs.{Bools.and-true as and_true, Bools.both_ways as either_way, Bools.no-and as and_false, Elements.get-contains, Elements.all_at}
@@ -21,22 +21,16 @@ use Rattle.comp_meaning.specs.Rules as rules
 most_levels_counted : (n : ℕ) → nat_le (min most_counted n) most_levels ≡ nat_le n most_levels
 most_levels_counted n = search std_rules
 
-one_level_more : (n : ℕ) → nat_le (min most_counted (n + 1)) (most_levels + 1) ≡ nat_le n most_levels
-one_level_more n = search std_rules
-
 -- ---- forms by their numbers
 
 own_by_sort : (f : Form) → same_form f Form.own_of ≡ ((form_code f).sort == own_sort)
-own_by_sort Form.own_of = refl
-own_by_sort _ = refl
+own_by_sort x = search std_rules
 
 borrow_by_sort : (f : Form) → same_form f Form.borrow_of ≡ ((form_code f).sort == borrow_sort)
-borrow_by_sort Form.borrow_of = refl
-borrow_by_sort _ = refl
+borrow_by_sort x = search std_rules
 
 pub no_name : (f : Form) → ((form_code f).sort == 0) ≡ false
-no_name Form.own_of = refl
-no_name _ = refl
+no_name x = search std_rules
 
 -- ---- what stands at a number
 
@@ -96,14 +90,10 @@ module _ (t : Tables) (table : IsTable t.shapes) (known : ℕ → Fact) (p : ℕ
   -- ---- signatures
 
   result_same : (r : Option ℕ) → AllOf Known r → rules.is_result_type here (option_map (tree_at t) r) ≡ is_result_type t known p r
-  result_same None h = refl
-  result_same (Some k) h = parameter_same k h
+  result_same x h = search std_rules
 
   pub signature_same : (f : FunctionShape) → PartsOf Known f → rules.is_signature here (signature_over (tree_at t) f) ≡ is_signature t known p f
-  signature_same f h =
-      let params = all_same (λ (x : Text × ℕ). Known x.1) (λ (x : Text × Tree). rules.is_parameter_type here x.1) (λ x. (x.0, tree_at t x.1)) (λ x. is_parameter_type p (known x.1))
-      (λ x k. parameter_same x.1 k) f.params h.0 in
-      λ i. are_labels (map_of_map (λ (x : Text × Tree). x.0) (λ (x : Text × ℕ). (x.0, tree_at t x.1)) f.params i) && params i && result_same f.result h.1 i
+  signature_same f h = search (std_rules, all_same, parameter_same, map_of_map, result_same)
 
   -- ---- resources
 
@@ -186,21 +176,7 @@ module _ (t : Tables) (table : IsTable t.shapes) (known : ℕ → Fact) (p : ℕ
   -- ---- interfaces
 
   pub interface_same : (v : NumberedView) → ViewPasses t Known v → rules.is_interface here (view_of t v) ≡ is_interface t known p v
-  interface_same v h =
-      let names : (map (λ x. x.name) (map (shown_type t) v.types) ++ map (λ f. f.0) (map (shown_function t) v.functions)) ≡ (map (λ x. x.name) v.types ++ map (λ f. f.0) v.functions) =
-      λ i. map_of_map (λ (x : ShownType). x.name) (shown_type t) v.types i ++ map_of_map (λ (f : Text × FunctionMeaning). f.0) (shown_function t) v.functions i in
-      let types = all_same (TypePasses Known) (λ x. is_label x.name && rules.is_declared here x.meaning.declaration) (shown_type t) (is_type t known p)
-      (λ x k i. is_label x.name && declared_same x.declared k i) v.types h.types in
-      let functions = ap (λ resources. list_all (λ f. rules.is_function here resources f.0 f.1.signature) (map (shown_function t) v.functions)) (resources_same t v.types)
-      ∙ all_same (FunctionPasses t Known) (λ f. rules.is_function here (resources_of v.types) f.0 f.1.signature) (shown_function t)
-      (λ f. is_function t known p (resources_of v.types) f.0 (function_at t f.1.signature))
-      (λ f k. function_same (resources_of v.types) f.0 (function_at t f.1.signature) k.1) v.functions h.functions in
-      λ i. types i && functions i && distinct (names i)
+  interface_same v h = search (std_rules, map_of_map, all_same, declared_same, resources_same, function_same)
 
 pub each_rule_in_numbers : EachRuleInNumbers
-each_rule_in_numbers t table known p = record {
-  declared = declared_same t table known p;
-  signature = signature_same t table known p;
-  function = function_same t table known p;
-  interface = interface_same t table known p;
-}
+each_rule_in_numbers t table known p = search (std_rules, declared_same, signature_same, function_same, interface_same)

@@ -1,12 +1,12 @@
 -- Equal numbers are equal trees and equal types of functions, so views agree where their numbers do.
-use Rattle.std.proofs.Common.{◌≡◌, refl, sym, ap, ◌∙◌, ℕ, ◌<◌, Bool, true, false, not, ◌&&◌, ◌||◌, ◌==◌, cond, List, [], ◌∷◌, ◌++◌, length, map, Option, Some, None, option_map, unwrap_or, slice_get, rules}
+use Rattle.std.proofs.Common.{rules as std_rules, arith, ◌≡◌, refl, sym, ap, ◌∙◌, ℕ, ◌<◌, Bool, true, false, not, ◌&&◌, ◌||◌, ◌==◌, cond, List, [], ◌∷◌, ◌++◌, length, map, Option, Some, None, option_map, unwrap_or, slice_get, rules}
 use Rattle.std.proofs.lemmas.Bool.{eqb-true, eq-eqb}
 use Rattle.std.specs.{List.AllByRecursion, List.list_any, List.find, Option.option_map_or, Cmp.Lexicographic.pointwise}
 use Rattle.wit_model.specs.{Text.Text, Text.text_eq, Tree.Tree, Meaning.Signature}
-use Rattle.comp_meaning.specs.{Follow.place_of, Agreement.first_of, Agreement.first_whole, Agreement.agree_with_first}
+use Rattle.comp_meaning.specs.{Follow.place_of, Agreement.agree_with_first}
 use Rattle.comp_meaning.specs.{Same.same_option, Same.same_tree, Same.same_declaration, Same.same_signature, Same.stand_in, Reads.Sight, Reads.all_agree}
 use Rattle.comp_meaning.proofs.SameLaws.{trees_decide, signatures_decide}
-use Rattle.plan_meaning.specs.NumberedViews.{FunctionShape, Tables, path_text, place_at, tree_at, signature_over, function_at, no_function, signature_at, IsPart, AllOf, PartsOf, AreTables, AreApart, IsOutside, NumberedType, NumberedFunction, declaration_of, shown_type, shown_function, NumberedSight, sight_of, same_number, same_shown, same_function, same_functions, same_types, same_whole, agree, agree_in_numbers, first_at, first_whole_at, agrees_with_first, agree_with_first_in_numbers, TypePasses, FunctionPasses, IsOutsidePart, IsSight, NumbersTell, EachNumberTells, ViewsAgreeInNumbers, FirstViewsAgreeInNumbers}
+use Rattle.plan_meaning.specs.NumberedViews.{FunctionShape, Tables, path_text, place_at, tree_at, signature_over, function_at, no_function, signature_at, IsPart, AllOf, PartsOf, AreTables, AreApart, IsOutside, NumberedType, NumberedFunction, declaration_of, shown_type, shown_function, NumberedSight, sight_of, same_number, same_shown, same_function, same_functions, same_types, same_whole, agree, agree_in_numbers, agrees_with_first, agree_with_first_in_numbers, TypePasses, FunctionPasses, IsOutsidePart, IsSight, NumbersTell, EachNumberTells, ViewsAgreeInNumbers, FirstViewsAgreeInNumbers}
 use Rattle.plan_meaning.proofs.{ShapeLaws.one_number_apart, Lists.all_same, NumberedWorlds.path_number}
 use Rattle.base_lemmas.proofs.{Bools.both_ways as either_way, Lists.append_of_map, Lists.length_of_map, Lists.within_there as slice_there, Elements.all_end}
 use Rattle.base_lemmas.proofs.Numbers.{turned}
@@ -35,10 +35,7 @@ module _ (t : Tables) (tables : AreTables t) where
   outside_apart a b ha hb p q hp hq e = search rules
 
   tree_number : (a b : ℕ) → IsPart t a → IsPart t b → AreApart (place_at t) t.shapes a b → same_tree (tree_at t a) (tree_at t b) ≡ (a == b)
-  tree_number a b ha hb apart =
-      either_way (same_tree (tree_at t a) (tree_at t b)) (a == b)
-      (λ h. eq-eqb a b (one_number_apart (place_at t) t.shapes tables.shapes a b ha hb apart ((trees_decide (tree_at t a) (tree_at t b)).0 h)))
-      (λ h. (trees_decide (tree_at t a) (tree_at t b)).1 (ap (tree_at t) (eqb-true a b h)))
+  tree_number a b ha hb apart = grind (arith, either_way, eq-eqb, one_number_apart, trees_decide, eqb-true)
 
   one_outside : (a b : ℕ) → IsOutsidePart t a → IsOutsidePart t b → tree_at t a ≡ tree_at t b → a ≡ b
   one_outside a b ha hb e = one_number_apart (place_at t) t.shapes tables.shapes a b ha.0 hb.0 (outside_apart a b ha.1 hb.1) e
@@ -61,9 +58,7 @@ module _ (t : Tables) (tables : AreTables t) where
   one_params _ _ hp hq e = absurd cc
 
   one_result : (a b : Option ℕ) → AllOf (IsOutsidePart t) a → AllOf (IsOutsidePart t) b → option_map (tree_at t) a ≡ option_map (tree_at t) b → a ≡ b
-  one_result None None ha hb e = refl
-  one_result (Some a) (Some b) ha hb e = let trees : tree_at t a ≡ tree_at t b = cc in ap Some (one_outside a b ha hb trees)
-  one_result _ _ ha hb e = absurd cc
+  one_result x y ha hb e = search (std_rules, one_outside)
 
   one_function : (f g : FunctionShape) → PartsOf (IsOutsidePart t) f → PartsOf (IsOutsidePart t) g → signature_over (tree_at t) f ≡ signature_over (tree_at t) g → f ≡ g
   one_function f g hf hg e =
@@ -93,9 +88,7 @@ module _ (t : Tables) (tables : AreTables t) where
   -- ---- types that are shown
 
   declared_number : (a b : Option ℕ) → AllOf (IsOutsidePart t) a → AllOf (IsOutsidePart t) b → same_declaration (declaration_of t a) (declaration_of t b) ≡ same_number a b
-  declared_number (Some a) (Some b) ha hb = tree_number a b ha.0 hb.0 (outside_apart a b ha.1 hb.1)
-  declared_number None None ha hb = refl
-  declared_number _ _ ha hb = refl
+  declared_number x y ha hb = search (std_rules, tree_number, outside_apart)
 
   types_numbers : (xs ys : List NumberedType) → AllByRecursion (TypePasses (IsOutsidePart t)) xs → AllByRecursion (TypePasses (IsOutsidePart t)) ys
       → pointwise reads.same_shown (map (shown_type t) xs) (map (shown_type t) ys) ≡ pointwise same_shown xs ys
@@ -160,17 +153,7 @@ module _ (t : Tables) (tables : AreTables t) where
 
   first_alike : (earlier : List NumberedSight) (s : NumberedSight) → AllByRecursion (IsSight t) earlier → IsSight t s
       → agreement.agrees_with_first (map (sight_of t) earlier) (sight_of t s) ≡ agrees_with_first earlier s
-  first_alike earlier s h hs =
-      let types : option_map_or (λ f. agreement.same_types f (sight_of t s)) (first_of (path_text t s.place) (map (sight_of t) earlier)) true ≡ option_map_or (λ f. same_types f s)
-      (first_at s.place earlier) true =
-      found_alike (λ f. text_eq (path_text t s.place) f.path) (λ f. s.place == f.place) (λ f. agreement.same_types f (sight_of t s)) (λ f. same_types f s)
-      (λ f hf. path_number_of s f hs hf) (λ f hf. same_in_types f s hf hs) earlier h in
-      let functions : option_map_or (λ f. reads.same_functions f.view.functions (sight_of t s).view.functions) (first_whole (path_text t s.place) (map (sight_of t) earlier)) true ≡ option_map_or
-      (λ f. same_whole f s) (first_whole_at s.place earlier) true =
-      found_alike (λ f. text_eq (path_text t s.place) f.path && f.whole) (λ f. s.place == f.place && f.whole) (λ f. reads.same_functions f.view.functions (sight_of t s).view.functions)
-      (λ f. same_whole f s)
-      (λ f hf. ap (λ b. b && f.whole) (path_number_of s f hs hf)) (λ f hf. same_in_functions f s hf hs) earlier h in
-      λ i. types i && (not s.whole || functions i)
+  first_alike earlier s h hs = grind (arith, found_alike, path_number_of, same_in_types, same_in_functions)
 
   pub first_agree_in_numbers : (earlier seen : List NumberedSight) → AllByRecursion (IsSight t) earlier → AllByRecursion (IsSight t) seen
       → agree_with_first (map (sight_of t) earlier) (map (sight_of t) seen) ≡ agree_with_first_in_numbers earlier seen

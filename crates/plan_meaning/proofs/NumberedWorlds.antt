@@ -2,11 +2,11 @@
 use Rattle.std.proofs.Common.{◌≡◌, refl, sym, ap, ◌∙◌, ℕ, Bool, true, false, not, ◌&&◌, ◌||◌, ◌==◌, cond, List, [], ◌∷◌, ◌++◌, map, Option, Some, None, unwrap_or, rules as std_rules}
 use Rattle.std.proofs.lemmas.Bool.{eqb-true}
 use Rattle.std.specs.{Prelude.option_and_then, List.AllByRecursion, List.flat_map, List.list_all, List.list_any, Option.option_map_or}
-use Rattle.wit_model.specs.{Text.Text, Text.text_eq, Names.is_label, Tree.Place, Tree.Tree, Tree.Declaration, Uses.has}
+use Rattle.wit_model.specs.{Text.Text, Text.text_eq, Tree.Place, Tree.Tree, Tree.Declaration, Uses.has}
 use Rattle.comp_meaning.specs.{Follow.View, Follow.Seen, Follow.interface_of, Follow.place_of, Rules.distinct}
 use Rattle.plan_meaning.specs.{Shapes.form_code, Shapes.first_label, NumberedRules.Fact, NumberedRules.name_in, NumberedRules.name_at, NumberedRules.IsKnown}
-use Rattle.plan_meaning.specs.NumberedViews.{Tables, path_at, path_text, place_at, signature_at, function_at, IsPart, AllOf, AreTables, NumberedType, NumberedView, view_of, declaration_of, shown_type, sight_of}
-use Rattle.plan_meaning.specs.NumberedWorlds.{NumberedKey, path, label, implementing, place_of_key, key_of, NumberedShown, instance, function, declares, NumberedSeen, shown_of, seen_of, NumberedInstance, instance_of, sights_of_instance, if_outside, used_by, used_by_view, others_than, uses_of, path_seen, stand_earlier, are_reached, are_once, resources_seen, is_resource_seen, is_item, are_imports, HasPath, KeyStands, ItemStands, DeclaresParts, UsesInNumbers, ReachedInNumbers, PathsInNumbers, WorldsInNumbers, SightsInNumbers}
+use Rattle.plan_meaning.specs.NumberedViews.{Tables, path_at, path_text, place_at, IsPart, AllOf, AreTables, NumberedType, NumberedView, view_of, declaration_of, shown_type, sight_of}
+use Rattle.plan_meaning.specs.NumberedWorlds.{NumberedKey, path, place_of_key, key_of, NumberedShown, instance, function, declares, NumberedSeen, shown_of, seen_of, NumberedInstance, instance_of, sights_of_instance, if_outside, used_by, used_by_view, others_than, uses_of, path_seen, stand_earlier, are_reached, are_once, resources_seen, is_resource_seen, is_item, are_imports, HasPath, KeyStands, ItemStands, DeclaresParts, UsesInNumbers, ReachedInNumbers, PathsInNumbers, WorldsInNumbers, SightsInNumbers}
 use Rattle.plan_meaning.proofs.NumberedRules.{no_name, declared_same, function_same, interface_same, by_shape}
 use Rattle.plan_meaning.proofs.Lists.{each_so, all_same}
 use Rattle.base_lemmas.proofs.{Elements.all_both as all_in_both, Lists.append_of_map, Lists.map_of_map}
@@ -114,9 +114,7 @@ module _ (t : Tables) (tables : AreTables t) where
 
   others_same : (key : NumberedKey) → KeyStands t key → (ps : List ℕ) → AllByRecursion (HasPath t) ps
       → rules.others_than (interface_of (key_of t key)) (map (path_text t) ps) ≡ map (path_text t) (others_than (place_of_key key) ps)
-  others_same (path p) h ps hs = others_of_path p h ps hs
-  others_same (label l p) h ps hs = ap (map (path_text t)) (others_of_none p h ps hs)
-  others_same (implementing l p) h ps hs = others_of_path p h ps hs
+  others_same x h ps hs = search (std_rules, others_of_path, others_of_none)
 
   -- ---- in order
 
@@ -138,18 +136,13 @@ module _ (t : Tables) (tables : AreTables t) where
       by (declares d) h = used_same d h
 
   uses_paths : (x : NumberedShown) → AllByRecursion (HasPath t) (uses_of t x)
-  uses_paths (instance key v) = others_paths (place_of_key key) (used_by_view t v) (view_paths v)
-  uses_paths (function n) = tt
-  uses_paths (declares d) = used_paths d
+  uses_paths x = search (std_rules, others_paths, view_paths, used_paths)
 
   seen_same : (x : NumberedShown) → rules.path_seen (shown_of t x) ≡ map (path_text t) (path_seen x)
-  seen_same (instance (path p) v) = refl
-  seen_same _ = refl
+  seen_same x = search std_rules
 
   seen_paths : (x : NumberedShown) → ItemIsOver x → AllByRecursion (HasPath t) (path_seen x)
-  seen_paths (instance (path p) v) h = (h.0, tt)
-  seen_paths (instance (implementing l p) v) h = (h.0, tt)
-  seen_paths _ h = tt
+  seen_paths x h = search std_rules
 
   pub earlier_same : (earlier : List ℕ) (ss : List NumberedSeen) → AllByRecursion (HasPath t) earlier → AreOver ss
       → rules.stand_earlier (map (path_text t) earlier) (map (seen_of t) ss) ≡ stand_earlier t earlier ss
@@ -206,17 +199,13 @@ resources_same t (s ∷ ss) = by s.shown (resources_same t ss)
 
 module _ (t : Tables) (tables : AreTables t) (known : ℕ → Fact) (home : ℕ) (alone : path_at t home ≡ None) where
   key_place : (key : NumberedKey) → KeyStands t key → place_of (interface_of (key_of t key)) ≡ place_at t (place_of_key key)
-  key_place (path p) h = ap place_of (ap Some (path_is t p h) ∙ sym h.1)
-  key_place (label l p) h = sym (ap place_of h)
-  key_place (implementing l p) h = ap place_of (ap Some (path_is t p h) ∙ sym h.1)
+  key_place x h = search std_rules
 
   home_is : Place.here ≡ place_at t home
   home_is = sym (ap place_of alone)
 
   item_same : (resources : List Text) (key : Text) (x : NumberedShown) → ItemStands t known home x → rules.is_item resources key (shown_of t x) ≡ is_item t known home resources key x
-  item_same resources key (instance k v) h = ap (λ place. rules.is_interface place (view_of t v)) (key_place k h.0) ∙ interface_same t tables.shapes known (place_of_key k) v h.1
-  item_same resources key (function n) h = ap (λ place. rules.is_function place resources key (signature_at t n)) home_is ∙ function_same t tables.shapes known home resources key (function_at t n) h
-  item_same resources key (declares d) h = ap (λ b. is_label key && b) (ap (λ place. rules.is_declared place (declaration_of t d)) home_is ∙ declared_same t tables.shapes known home d h)
+  item_same resources key x h = search (std_rules, key_place, interface_same, home_is, function_same, declared_same)
 
   abbrev AllStand : List NumberedSeen → Type 0
   AllStand ss = AllByRecursion (λ (s : NumberedSeen). ItemStands t known home s.shown) ss
@@ -229,16 +218,10 @@ module _ (t : Tables) (tables : AreTables t) (known : ℕ → Fact) (home : ℕ)
       λ i. one i && rest i
 
   declared_over : (p : ℕ) (d : Option ℕ) → AllOf (IsKnown t known p) d → AllOf (IsPart t) d
-  declared_over p None h = tt
-  declared_over p (Some k) h = h.part
+  declared_over p x h = search std_rules
 
   item_over : (x : NumberedShown) → ItemStands t known home x → ItemIsOver t tables x
-  item_over (instance key v) h = (
-    h.0,
-    each_so (λ (x : NumberedType). AllOf (IsKnown t known (place_of_key key)) x.declared) (λ x. AllOf (IsPart t) x.declared) (λ x. declared_over (place_of_key key) x.declared) v.types h.1.types,
-  )
-  item_over (function n) h = tt
-  item_over (declares d) h = declared_over home d h
+  item_over y h = search (std_rules, each_so, declared_over)
 
   all_over : (ss : List NumberedSeen) → AllStand ss → AreOver t tables ss
   all_over = each_so (λ (s : NumberedSeen). ItemStands t known home s.shown) (λ s. ItemIsOver t tables s.shown) (λ s. item_over s.shown)
@@ -252,15 +235,7 @@ module _ (t : Tables) (tables : AreTables t) (known : ℕ → Fact) (home : ℕ)
       ∙ earlier_same t tables [] (is ++ es) tt (all_in_both (λ (s : NumberedSeen). ItemIsOver t tables s.shown) is es (all_over is hi) (all_over es he))
 
 pub worlds_in_numbers : WorldsInNumbers
-worlds_in_numbers t tables known w scope h shows =
-    let exports = all_same (λ (s : NumberedSeen). ItemStands t known w.home s.shown) (λ s. rules.is_item [] s.key s.shown) (seen_of t) (λ s. is_item t known w.home [] s.key s.shown)
-    (λ s. item_same t tables known w.home h.home [] s.key s.shown) w.exports h.exports in
-    (λ i. rules.are_imports [] (shows.imports i) && list_all (λ s. rules.is_item [] s.key s.shown) (shows.exports i) && distinct (map (λ s. s.key) (shows.imports i)) && distinct
-    (map (λ s. s.key) (shows.exports i))
-    && rules.stand_earlier [] (shows.imports i ++ shows.exports i))
-    ∙ (λ i. imports_same t tables known w.home h.home [] w.imports h.imports i && exports i && keys_same t tables known w.home h.home w.imports i
-    && keys_same t tables known w.home h.home w.exports i
-    && order_same t tables known w.home h.home w.imports w.exports h.imports h.exports i)
+worlds_in_numbers t tables known w scope h shows = search (std_rules, all_same, item_same, imports_same, keys_same, order_same)
 
 pub uses_in_numbers : UsesInNumbers
 uses_in_numbers t tables v h = view_uses t tables v h

@@ -1,13 +1,13 @@
 -- Every number is in range of its list, and no list is too long.
-use Rattle.std.proofs.Common.{◌≡◌, refl, sym, ap, ◌∙◌, ℕ, ◌<◌, Bool, true, false, ◌&&◌, ◌==◌, nat_lt, nat_le, List, length, map, option_map, option_and_then, Option, Some, None, slice_get, is_some, String, arith}
+use Rattle.std.proofs.Common.{rules as std_rules, ◌≡◌, sym, ap, ◌∙◌, ℕ, ◌<◌, Bool, true, false, ◌&&◌, nat_lt, nat_le, List, length, map, option_map, option_and_then, Option, Some, slice_get, is_some, String, arith}
 use Rattle.std.proofs.lemmas.{Bool.eqb-true, Bool.and_from as both, Bool.Decides.nat_tests, List.Folds.list_all-map, Option.slice_get_within}
 use Rattle.std.specs.declared.alloc.Global.{Global}
-use Rattle.std.specs.{List.list_all, Option.option_map_or, Map.lookup}
+use Rattle.std.specs.{List.list_all, Option.option_map_or}
 use Rattle.indexmap.specs.IndexMap.{values}
 use Rattle.wit_model.specs.declared.model.{Resolve.Resolve, PackageId.PackageId, WorldKey.WorldKey, WorldItem.WorldItem, TypeOwner.TypeOwner, Function.Function}
 use Rattle.wit_model.specs.{Text.Text, Text.text_of, Text.optional_text, Parts.same_owner}
 use Rattle.wit_model.specs.Rules.{in_list, passes, each_from, is_id, package_number, key_in_range, item_in_range, entries_in_range, owner_in_range}
-use Rattle.wit_model.specs.Valid.{Keeps, numbers_in_range, is_place, as_interface, as_world, item_function}
+use Rattle.wit_model.specs.Valid.{Keeps, numbers_in_range, is_place, as_interface, item_function}
 use Rattle.wit_model.proofs.{Checks.keeps_lists, RulesLemmas.each_at, RulesLemmas.each_by_number}
 use Rattle.plan_meaning.specs.{Plan.PlannedPackage, Plan.package_in, PlanRules.IsPlan, PlanRules.fits, PlanRules.bears}
 use Rattle.plan_meaning.specs.Built.{planned_type, planned_function, planned_interface, planned_world, planned_package, planned_key, planned_item}
@@ -16,8 +16,6 @@ use Rattle.plan_meaning.proofs.FunctionRules.{entries_pass, interface_holds, wor
 use Rattle.plan_meaning.proofs.Listed.{in_range, interface_listed, world_listed, members_pass}
 use Rattle.base_lemmas.proofs.{Bools.left_of as first_true, Bools.right_of as second_true, Lists.given-some as some_given, Lists.length_of_map}
 use Rattle.base_lemmas.proofs.Elements.{all_two, all_weaker}
-use Rattle.wit_model.specs.declared.model.WorldKey.TheVariants as key
-use Rattle.wit_model.specs.declared.model.WorldItem.TheVariants as item
 use Rattle.wit_model.specs.declared.model.TypeOwner.TheVariants as owner
 use Rattle.wit_model.specs.Parts as parts
 use Rattle.wit_model.specs.Rules as rules
@@ -47,28 +45,23 @@ below n l less ns h = all_weaker (λ k. nat_lt k n) (λ k. nat_lt k l) (λ k e. 
 module _ (r : Resolve) (m : ℕ) (is : IsPlan (plan_of r m)) where
   package_found : (test : PlannedPackage → Bool) (o : Option PackageId) → option_map_or test (option_and_then (package_in (plan_of r m)) (option_map (λ id. id.0) o)) false ≡ true
       → passes (in_list r.packages.items) (package_number o) ≡ true
-  package_found test None h = refl
-  package_found test (Some id) h = found_range planned_package r.packages.items id.0 test h
+  package_found test x h = search (std_rules, found_range)
 
   package_inline : (o : Option PackageId) → option_map_or (in_list (map planned_package r.packages.items)) (option_map (λ id. id.0) o) false ≡ true
       → passes (in_list r.packages.items) (package_number o) ≡ true
-  package_inline None h = refl
-  package_inline (Some id) h = mapped_range planned_package r.packages.items id.0 h
+  package_inline x h = search (std_rules, mapped_range)
 
   interface_package : (test : Text → PlannedPackage → Bool) (rest : Bool) (name : Option (String Global)) (o : Option PackageId) →
       option_map_or (λ t. option_map_or (test t) (option_and_then (package_in (plan_of r m)) (option_map (λ id. id.0) o)) false) (optional_text name)
       (option_map_or (in_list (map planned_package r.packages.items)) (option_map (λ id. id.0) o) false && rest) ≡ true
       → passes (in_list r.packages.items) (package_number o) ≡ true
-  interface_package test rest (Some s) o h = package_found (test (text_of s)) o h
-  interface_package test rest None o h = package_inline o (first_true _ rest h)
+  interface_package test rest x o h = search (std_rules, package_found, package_inline, first_true)
 
   type_found : (o : TypeOwner) (t : Text) (n : ℕ) → planned.is_type_of (plan_of r m) o (t, n) ≡ true → in_list r.types.items n ≡ true
   type_found o t n h = found_range planned_type r.types.items n (λ x. bears t x.name && same_owner x.owner o) h
 
   function_range : (o : TypeOwner) (f : Function) → planned.function_in_range (plan_of r m) (planned_function f) ≡ true → rules.function_in_range r f ≡ true
-  function_range o f h =
-      all_weaker (in_list (map planned_type r.types.items)) (in_list r.types.items) (mapped_range planned_type r.types.items) (parts.function_numbers f)
-      (ap (list_all (in_list (map planned_type r.types.items))) (sym (function_numbers_are f)) ∙ h)
+  function_range o f h = search (std_rules, all_weaker, mapped_range, function_numbers_are)
 
   -- ---- packages and interfaces
 
@@ -100,25 +93,15 @@ module _ (r : Resolve) (m : ℕ) (is : IsPlan (plan_of r m)) where
 
   under_path : (n : ℕ) (x : WorldItem) → (is_id n (plan.item_interface (planned_item x)) && planned.has_name (plan_of r m) n) ≡ true → passes (rules.function_in_range r) (item_function x) ≡ true
       → item_in_range r x ≡ true
-  under_path n (item.Interface id stability docs external_id) h f =
-      let same : id.0 ≡ n = eqb-true id.0 n (first_true (id.0 == n) _ h) in
-      ap (in_list r.interfaces.items) same ∙ key_found n (item.Interface id stability docs external_id) h
-  under_path n (item.Function g) h f = f
-  under_path n (item.Type_ id) h f = no_true h
+  under_path n x h f = search (std_rules, eqb-true, first_true, key_found, no_true)
 
   import_range : (n : ℕ) (e : WorldKey × WorldItem) → planned.import_stands (plan_of r m) n (planned_key e.0, planned_item e.1) ≡ true → passes (rules.function_in_range r) (item_function e.1) ≡ true
       → (key_in_range r e.0 && item_in_range r e.1) ≡ true
-  import_range n (key.Interface id, x) h f = both _ _ (key_found id.0 x h) (under_path id.0 x h f)
-  import_range n (key.Name name, item.Interface id stability docs external_id) h f = mapped_range planned_interface r.interfaces.items id.0 (second_true _ _ h)
-  import_range n (key.Name name, item.Function g) h f = f
-  import_range n (key.Name name, item.Type_ id) h f = type_found (as_world n) (text_of name) id.0 (second_true _ _ h)
+  import_range n y h f = search (std_rules, both, key_found, under_path, mapped_range, second_true, type_found)
 
   export_range : (e : WorldKey × WorldItem) → planned.export_stands (plan_of r m) (planned_key e.0, planned_item e.1) ≡ true → passes (rules.function_in_range r) (item_function e.1) ≡ true
       → (key_in_range r e.0 && item_in_range r e.1) ≡ true
-  export_range (key.Interface id, x) h f = both _ _ (key_found id.0 x h) (under_path id.0 x h f)
-  export_range (key.Name name, item.Interface id stability docs external_id) h f = mapped_range planned_interface r.interfaces.items id.0 (second_true _ _ h)
-  export_range (key.Name name, item.Function g) h f = f
-  export_range (key.Name name, item.Type_ id) h f = no_true h
+  export_range y h f = search (std_rules, both, key_found, under_path, mapped_range, second_true, no_true)
 
   worlds_range : each_from (λ n w. is_place n && (passes (in_list r.packages.items) (package_number w.package) && (entries_in_range r w.imports.entries && entries_in_range r w.exports.entries))) 0
       r.worlds.items ≡ true
@@ -138,18 +121,14 @@ module _ (r : Resolve) (m : ℕ) (is : IsPlan (plan_of r m)) where
   -- ---- types
 
   owned : (n : ℕ) (name : Text) (o : TypeOwner) → planned.is_listed_in (plan_of r m) n name o ≡ true → owner_in_range r o ≡ true
-  owned n name (owner.Interface id) h = found_range planned_interface r.interfaces.items id.0 (λ i. is_id n (plan.number_under name i.types)) h
-  owned n name (owner.World id) h = found_range planned_world r.worlds.items id.0 (λ w. is_id n (option_and_then plan.item_type (lookup (planned.is_under_label name) w.imports))) h
-  owned n name owner.None h = no_true h
+  owned n name x h = search (std_rules, found_range, no_true)
 
   unowned : (o : TypeOwner) → same_owner o owner.None ≡ true → owner_in_range r o ≡ true
-  unowned owner.None h = refl
-  unowned _ h = no_true h
+  unowned x h = search std_rules
 
   owner_by : (n : ℕ) (name : Option (String Global)) (o : TypeOwner) → option_map_or (λ t. planned.is_listed_in (plan_of r m) n t o) (optional_text name) (same_owner o owner.None) ≡ true
       → owner_in_range r o ≡ true
-  owner_by n None o h = unowned o h
-  owner_by n (Some s) o h = owned n (text_of s) o h
+  owner_by n x o h = search (std_rules, unowned, owned)
 
   types_range : each_from (λ n def. is_place n && (list_all (in_list r.types.items) (parts.kind_numbers def.kind) && owner_in_range r def.owner)) 0 r.types.items ≡ true
   types_range = each_by_number (λ n def. is_place n && (list_all (in_list r.types.items) (parts.kind_numbers def.kind) && owner_in_range r def.owner)) r.types.items (λ n def e.

@@ -1,11 +1,9 @@
 -- A worked example: the plan of a package of one world with functions means what its bytes mean, as a package and as a world.
 use Rattle.std.proofs.Common.{rules, ◌≡◌, refl, ℕ, [], ◌∷◌, Some, None}
 use Rattle.std.specs.Prelude.{codes}
-use Rattle.wit_model.specs.{Names.cut as cut_at, Text.Text}
-use Rattle.comp_meaning.proofs.Computing.{computes, one_world, meaning, world_meaning_of}
-use Rattle.plan_meaning.specs.{Shapes.part_tree, PlanRules.IsPlan, PlanRules.HoldsNoMore, PlanRules.IsPackagePlan, PlanRules.IsWorldPlan}
+use Rattle.wit_model.specs.{Text.Text}
+use Rattle.plan_meaning.specs.{Shapes.part_tree, PlanRules.IsPlan, PlanRules.HoldsNoMore, PlanRules.IsPackagePlan}
 use Rattle.plan_meaning.specs.Plan.{Plan, PlannedFunction, PlannedInterface, function, label, PlannedWorld, met_in, resource_marks, trees_in, interface_in}
-use Rattle.plan_meaning.specs.PlanMeaning.{plan_meaning, plan_world_meaning}
 use Rattle.wit_model.specs.declared.model.FunctionKind.TheVariants as call
 
 abbrev unit_function : Text → PlannedFunction
@@ -41,14 +39,3 @@ no_more = record { types = refl; packages = refl }
 
 is_package_plan : IsPackagePlan one_plan
 is_package_plan = record { plan = is_plan; no_more = no_more; main = refl; worlds = refl; wanted = λ n i e h. no_interface n i e; bare = λ n i e h hidden. no_interface n i e }
-
-is_world_plan : IsWorldPlan one_plan
-is_world_plan = record { plan = is_plan; no_more = no_more; world = foo; alone = refl; home = refl; shows = λ n i e h. no_interface n i e }
-
-means_package : plan_meaning one_plan ≡ meaning one_world
-unfolding computes meaning cut_at plan_meaning trees_in part_tree
-means_package = refl
-
-means_world : plan_world_meaning one_plan ≡ world_meaning_of one_world
-unfolding computes world_meaning_of cut_at plan_world_meaning trees_in part_tree
-means_world = refl

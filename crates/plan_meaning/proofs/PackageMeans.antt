@@ -1,6 +1,6 @@
 -- A package that is built from a plan of it means what the plan means.
-use Rattle.std.proofs.Common.{◌≡◌, refl, sym, ap, ◌∙◌, ℕ, Bool, true, false, ◌&&◌, not, ◌==◌, List, [], map, filter_map, option_map, option_and_then, option_to_list, Option, Some, None, unwrap_or, is_some, subst, String}
-use Rattle.std.proofs.lemmas.{Bool.and_from as both, Bool.not-true as not_true, Option.same_Some as same-some, Option.slice_get-map as get_of_map}
+use Rattle.std.proofs.Common.{rules as std_rules, ◌≡◌, refl, sym, ap, ◌∙◌, ℕ, Bool, true, false, ◌&&◌, not, ◌==◌, List, [], map, filter_map, option_map, option_and_then, option_to_list, Option, Some, None, unwrap_or, is_some, subst, String}
+use Rattle.std.proofs.lemmas.{Bool.and_from as both, Option.same_Some as same-some, Option.slice_get-map as get_of_map}
 use Rattle.std.specs.{Prelude.if◌then◌else◌, Prelude.◌↔◌, List.Contains, List.list_any, Option.option_map_or, FinMap.from_entries}
 use Rattle.std.specs.declared.alloc.Global.{Global}
 use Rattle.wit_model.specs.declared.model.{Resolve.Resolve, Package.Package, PackageId.PackageId, Interface.Interface, InterfaceId.InterfaceId, WorldId.WorldId}
@@ -16,7 +16,7 @@ use Rattle.plan_meaning.specs.Built.{IsBuilt, planned_function, planned_interfac
 use Rattle.plan_meaning.proofs.Lists.{any_get}
 use Rattle.plan_meaning.proofs.{Words.plan_of, Words.path_of_planned_is, Reaching.shown_in, Reaching.all_reached, Valid.plan_is, Valid.built_is_valid}
 use Rattle.plan_meaning.proofs.Meanings.{named_means, planned_function_entry, meant_function_entry, interface_is, interface_at_is, world_at_is, functions_are}
-use Rattle.base_lemmas.proofs.{Bools.left_of as first_true, Bools.right_of as second_true, Lists.get_back, Lists.nothing-mapped as none_mapped}
+use Rattle.base_lemmas.proofs.{Bools.left_of as first_true, Lists.get_back, Lists.nothing-mapped as none_mapped}
 use Rattle.base_lemmas.proofs.Elements.{contains-map, contains-one, filter_map_from, get-contains, map_from}
 use Rattle.base_lemmas.proofs.Options.{there as some-of}
 use Rattle.wit_model.specs.Meant as meant
@@ -29,8 +29,7 @@ pub path_there : (r : Resolve) (n : ℕ) (i : Interface) → interface_at r n �
 path_there r n i e = ap (option_and_then (path_of_interface r)) e
 
 pub some_path : {A : Type 0} (o : Option Text) (f : Text → A) (x : A) → option_map f o ≡ Some x → (path : Text) × (o ≡ Some path) × (f path ≡ x)
-some_path None f x e = absurd (let wrong : ⊥ = cc in wrong)
-some_path (Some path) f x e = (path, refl, same-some _ _ e)
+some_path x f y e = search std_rules
 
 -- an interface with a path has a name
 pub named : (r : Resolve) (i : Interface) (k : Text) → path_of_interface r i ≡ Some k → is_some (planned_interface i).name ≡ true
@@ -73,8 +72,7 @@ module _ (r : Resolve) (m : ℕ) where
   foreign_is n i e = ap (λ o. is_some (interface_path r n) && not (option_map_or (λ x. option_map_or (λ id. id.0 == m) x.package false) o false)) e
 
   same_test : (o : Option PackageId) → option_map_or (λ id. id.0 == m) o false ≡ is_id m (package_number o)
-  same_test None = refl
-  same_test (Some id) = refl
+  same_test x = search std_rules
 
 -- Entries that a plan gives for some interfaces, by their paths, and those of numbers: one map, where the numbers are those of these interfaces.
 module _ (r : Resolve) (v : IsValid r) (given : PlannedInterface → Option (Text × InterfaceMeaning)) (Passes : Interface → Type 0)
@@ -180,8 +178,7 @@ module _ (r : Resolve) (m : ℕ) (is : IsPackagePlan (plan_of r m)) (v : IsValid
   is_other n i e k path other = both _ _ (named r i k path) (ap not other)
 
   other_package : (n : ℕ) (i : Interface) → interface_at r n ≡ Some i → is_foreign r m n ≡ true → is_id m (package_number i.package) ≡ false
-  other_package n i e foreign =
-      sym (same_test r m i.package) ∙ not_true (option_map_or (λ id. id.0 == m) i.package false) (second_true (is_some (interface_path r n)) _ (sym (foreign_is r m n i e) ∙ foreign))
+  other_package n i e foreign = search std_rules
 
   pub no_functions : (n : ℕ) (i : Interface) → interface_at r n ≡ Some i → is_foreign r m n ≡ true → is_shown_in r p n ≡ false → i.functions.entries ≡ []
   no_functions n i e foreign hidden =

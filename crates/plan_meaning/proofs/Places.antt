@@ -1,24 +1,23 @@
 -- Interfaces and worlds stand in the places that they say.
-use Rattle.std.proofs.Common.{◌≡◌, refl, sym, ap, ◌∙◌, ℕ, ◌+◌, Bool, true, false, ◌&&◌, ◌||◌, ◌==◌, not, cond, List, [], ◌∷◌, ◌++◌, map, option_map, option_and_then, Option, Some, None, is_some, String}
+use Rattle.std.proofs.Common.{rules as std_rules, ◌≡◌, refl, sym, ap, ◌∙◌, ℕ, ◌+◌, Bool, true, false, ◌&&◌, ◌||◌, ◌==◌, not, cond, List, [], ◌∷◌, ◌++◌, map, option_map, option_and_then, Option, Some, None, is_some, String}
 use Rattle.std.proofs.lemmas.{List.Folds.list_all-map, List.Folds.fold-map as fold_of_map, Bool.and_from as both, Bool.or_left as or_first}
 use Rattle.std.proofs.lemmas.{Slice.Eq.bytes_eq-Decides, Option.slice_get-map as get_of_map}
 use Rattle.std.specs.{Prelude.fold, Prelude.sum_by, List.list_all, List.list_any, Option.option_map_or, Option.option_eq, HashMap.get_by_text}
 use Rattle.std.specs.declared.alloc.Global.{Global}
 use Rattle.indexmap.specs.IndexMap.{keys}
-use Rattle.wit_model.specs.declared.model.{Resolve.Resolve, Package.Package, PackageId.PackageId, InterfaceId.InterfaceId, WorldId.WorldId, WorldItem.WorldItem}
+use Rattle.wit_model.specs.declared.model.{Resolve.Resolve, Package.Package, PackageId.PackageId, InterfaceId.InterfaceId, WorldId.WorldId}
 use Rattle.wit_model.specs.declared.model.World.{World}
-use Rattle.wit_model.specs.{Text.Text, Text.text_of, Text.text_eq, Text.optional_text, Lookup.package_at, Lookup.interface_at, Lookup.world_at, Uses.items_of}
+use Rattle.wit_model.specs.{Text.Text, Text.text_of, Text.text_eq, Text.optional_text, Lookup.package_at, Lookup.interface_at, Lookup.world_at}
 use Rattle.wit_model.specs.Rules.{each_from, passes, is_id, package_number, text_is, are_distinct, interface_belongs, world_belongs, interface_is_listed, world_is_listed, names_itself, is_world_name}
 use Rattle.wit_model.specs.Valid.{Keeps, places}
 use Rattle.wit_model.proofs.{Entries.free_passes, Checks.keeps_lists, RulesLemmas.each_at, RulesLemmas.each_by_number}
-use Rattle.plan_meaning.specs.{Plan.number_under, Plan.package_in, Built.planned_interface, Built.planned_world, Built.planned_package, Built.planned_item}
+use Rattle.plan_meaning.specs.{Plan.number_under, Plan.package_in, Built.planned_world, Built.planned_package}
 use Rattle.plan_meaning.specs.PlanRules.{IsPlan, names_of, members_differ}
 use Rattle.plan_meaning.proofs.{Lists.all_of_map, Lists.each_built, Lists.no_true, Lists.all_there, Labels.apart, Labels.names_are, Labels.keys_apart}
 use Rattle.plan_meaning.proofs.{Words.plan_of, FunctionRules.items_are}
 use Rattle.plan_meaning.proofs.{Listed.interface_listed, Listed.world_listed, Listed.members_pass, Listed.passes_both, WorldItems.item_interface_is}
 use Rattle.base_lemmas.proofs.{Bools.left_of as first_true, Bools.right_of as second_true, Elements.any_of_map, Elements.all_weaker, Maps.lookup_of_map}
 use Rattle.wit_model.specs.Rules as rules
-use Rattle.plan_meaning.specs.Plan as plan
 use Rattle.plan_meaning.specs.PlanRules as planned
 
 -- ---- what stands under a name
@@ -51,17 +50,13 @@ no_world p name n h is =
 -- ---- how often an interface is shown
 
 times_are : (n : ℕ) (w : World) → planned.times_shown n (planned_world w) ≡ rules.times_shown n w
-times_are n w =
-    ap (fold (λ a x. a + cond (is_id n (plan.item_interface x)) 1 0) 0) (items_are w)
-    ∙ (fold_of_map (λ a x. a + cond (is_id n (plan.item_interface x)) 1 0) planned_item 0 (items_of w)
-    ∙ ap (λ (h : WorldItem → Option ℕ). fold (λ a x. a + cond (is_id n (h x)) 1 0) 0 (items_of w)) (λ i x. item_interface_is x i))
+times_are n w = search (std_rules, items_are, fold_of_map, item_interface_is)
 
 module _ (r : Resolve) (m : ℕ) (is : IsPlan (plan_of r m)) where
   -- ---- packages
 
   name_belongs : (name : Option (String Global)) (t : Text) (b : Bool) → text_is name t ≡ true → b ≡ true → passes (λ s. b && text_eq (text_of s) t) name ≡ true
-  name_belongs None t b h k = refl
-  name_belongs (Some s) t b h k = both _ _ k h
+  name_belongs x t b h k = search std_rules
 
   interface_there : (n : ℕ) (e : String Global × InterfaceId) → planned.lists_interface (plan_of r m) n (text_of e.0, e.1.0) ≡ true → interface_belongs r n e ≡ true
   interface_there n e h =
@@ -109,8 +104,7 @@ module _ (r : Resolve) (m : ℕ) (is : IsPlan (plan_of r m)) where
           ∙ (both _ _ (ap (is_id n) (sym (interface_number p name)) ∙ h) (no_world p name n ((all_there planned_package members_differ r.packages.items is.members_differ) id.0 p e) h))
 
   some_package : (o : Option PackageId) (test : ℕ → Bool) → option_map_or test (option_map (λ id. id.0) o) false ≡ true → is_some o ≡ true
-  some_package None test h = no_true h
-  some_package (Some id) test h = refl
+  some_package x test h = search std_rules
 
   abbrev shown_once : ℕ → Option PackageId → Bool
   shown_once n o = (sum_by (rules.times_shown n) r.worlds.items == 1) && list_all (λ w. (rules.times_shown n w == 0) || option_eq ◌==◌ (package_number w.package) (package_number o)) r.worlds.items
@@ -149,7 +143,4 @@ module _ (r : Resolve) (m : ℕ) (is : IsPlan (plan_of r m)) where
 
   pub places_kept : Keeps places r
   unfolding places
-  places_kept = keeps_lists places r packages_placed
-      (each_built planned_interface (planned.is_placed (plan_of r m)) (λ n i. places.interface_ r n i) (λ n i h. interface_by n i.name i.package h) r.interfaces.items is.interfaces_placed)
-      (each_built planned_world (planned.is_world_placed (plan_of r m)) (λ n w. places.world_ r n w) (λ n w h. world_by n (text_of w.name) w.package h) r.worlds.items is.worlds_placed)
-      (free_passes r 0 r.types.items)
+  places_kept = search (std_rules, keeps_lists, packages_placed, each_built, plan_of, interface_by, world_by, free_passes)

@@ -1,5 +1,5 @@
 -- Each interface of a plan of a package is reached from the package.
-use Rattle.std.proofs.Common.{◌≡◌, ◌⊎◌, inl, inr, refl, sym, ap, ◌∙◌, ℕ, zero, suc, ◌+◌, ◌≤◌, Bool, true, false, ◌&&◌, ◌||◌, ◌==◌, not, cond, List, [], ◌∷◌, ◌++◌, length, map, filter_map, flat_map, count_by, option_map, option_and_then, option_to_list, Option, Some, None, slice_get, is_some, String, subst, arith}
+use Rattle.std.proofs.Common.{rules as std_rules, ◌≡◌, ◌⊎◌, inl, inr, refl, sym, ap, ◌∙◌, ℕ, zero, suc, ◌+◌, ◌≤◌, Bool, true, false, ◌&&◌, ◌||◌, ◌==◌, not, cond, List, [], ◌∷◌, ◌++◌, length, map, filter_map, flat_map, count_by, option_map, option_and_then, option_to_list, Option, Some, None, slice_get, is_some, String, subst, arith}
 use Rattle.std.proofs.lemmas.{Bool.eqb-true, Bool.or_left, Bool.or_right, Bool.or_parts as neither, Option.slice_get_within, Option.slice_get-map as get_of_map}
 use Rattle.std.proofs.lemmas.{List.Folds.list_any-append, List.Sums.sum_by-cons, Map.Keys.any_passes_from_place as get_any}
 use Rattle.std.specs.{Prelude.sum_by, List.Contains, List.list_all, List.list_any, List.cons_option, Option.option_map_or, Option.option_eq}
@@ -8,7 +8,7 @@ use Rattle.indexmap.specs.IndexMap.{values}
 use Rattle.wit_model.specs.declared.model.{Resolve.Resolve, PackageId.PackageId, Interface.Interface, InterfaceId.InterfaceId, World.World, WorldItem.WorldItem}
 use Rattle.wit_model.specs.declared.model.{Package.Package, WorldId.WorldId}
 use Rattle.wit_model.specs.{Text.Text, Text.text_of, Text.optional_text, Lookup.package_at, Lookup.interface_at, Lookup.world_at, Lookup.interface_path}
-use Rattle.wit_model.specs.Uses.{has, once, items_of, direct_deps, interfaces_of_item, interfaces_of_world, worlds_of, reached, reached_by_package, shown_by, is_shown_in}
+use Rattle.wit_model.specs.Uses.{has, items_of, direct_deps, interfaces_of_item, interfaces_of_world, worlds_of, reached_by_package, shown_by, is_shown_in}
 use Rattle.wit_model.specs.{Rules.is_id, Rules.in_list, Valid.IsValid, Chains.Chain}
 use Rattle.wit_model.proofs.Elements.{contains-filter_map, contains-flat, has-contains, contains-has, contains-get}
 use Rattle.wit_model.proofs.{Chains.uses_fall, Chains.chains_reach, Chains.user_stands, UsesLemmas.has_filter}
@@ -33,8 +33,7 @@ further r (suc k) n m j c h = (c.0, c.1, further r k c.0 m j c.2 h)
 -- ---- what is shown once is shown somewhere
 
 times_more : (n : ℕ) (o : Option ℕ) (ns : List ℕ) (t : ℕ) → (has ns n ≡ false → t ≡ 0) → has (cons_option o ns) n ≡ false → cond (is_id n o) 1 0 + t ≡ 0
-times_more n None ns t rest h = let none = rest h in omega (arith, none)
-times_more n (Some k) ns t rest h = let split = neither (k == n) (has ns n) h in let none = rest split.1 in ap (λ b. cond b 1 0 + t) split.0 ∙ omega (arith, none)
+times_more n x ns t rest h = search std_rules
 
 times_none : (n : ℕ) (xs : List PlannedItem) → has (filter_map plan.item_interface xs) n ≡ false → count_by (λ x. is_id n (plan.item_interface x)) xs ≡ 0
 times_none n [] h = refl
@@ -78,21 +77,14 @@ shows_is n w = ap (λ xs. has (filter_map plan.item_interface xs) n) (items_are 
 -- the number under a name is one of those that a list of a package holds
 listed_number : {A : Type 0} (number : A → ℕ) (es : List (String Global × A)) (name : Text) (n : ℕ) → is_id n (number_under name (map (λ e. (text_of e.0, number e.1)) es)) ≡ true
     → has (map number (map (λ e. e.1) es)) n ≡ true
-listed_number number es name n h =
-    ap (λ ns. has ns n) (map_of_map number (λ e. e.1) es ∙ sym (map_of_map (λ (e : Text × ℕ). e.1) (λ e. (text_of e.0, number e.1)) es))
-    ∙ under_has name n (map (λ e. (text_of e.0, number e.1)) es) h
+listed_number number es name n h = search (std_rules, map_of_map, under_has)
 
 module _ (r : Resolve) (m : ℕ) (is : IsPlan (plan_of r m)) (v : IsValid r) (p : Package) (at : package_at r m ≡ Some p)
     (home : list_all (λ w. is_id m w.package_) (map planned_world r.worlds.items) ≡ true) where
   -- what stands in the main package
   main_package : (test : PlannedPackage → Bool) (o : Option PackageId) → is_id m (option_map (λ id. id.0) o) ≡ true
       → option_map_or test (option_and_then (package_in (plan_of r m)) (option_map (λ id. id.0) o)) false ≡ true → test (planned_package p) ≡ true
-  main_package test None same h = no_true same
-  main_package test (Some id) same h =
-      let number : id.0 ≡ m = eqb-true id.0 m same in
-      let there : slice_get (map planned_package r.packages.items) id.0 ≡ Some (planned_package p) =
-      ap (slice_get (map planned_package r.packages.items)) number ∙ (get_of_map planned_package r.packages.items m ∙ ap (option_map planned_package) at) in
-      ap (λ o. option_map_or test o false) (sym there) ∙ h
+  main_package test x same h = search (std_rules, no_true, eqb-true, get_of_map)
 
   pub world_among : (j : ℕ) (w : World) → world_at r j ≡ Some w → Contains (worlds_of r p) w
   world_among j w e =
@@ -123,9 +115,7 @@ module _ (r : Resolve) (m : ℕ) (is : IsPlan (plan_of r m)) (v : IsValid r) (p 
 
   -- a plan's world that shows the interface
   planned_starts : (n j : ℕ) (x : PlannedWorld) → slice_get (map planned_world r.worlds.items) j ≡ Some x → planned.is_shown_in x n ≡ true → has starts n ≡ true
-  planned_starts n j x e h =
-      let w = get_back planned_world r.worlds.items j x e in
-      shown_starts n j w.0 w.1 (sym (shows_is n w.0) ∙ (ap (λ y. planned.is_shown_in y n) w.2 ∙ h))
+  planned_starts n j x e h = search (std_rules, get_back, shown_starts, shows_is)
 
   -- an interface with a path that a world shows is shown in the package
   pub shown_in : (n j : ℕ) (x : PlannedWorld) → slice_get (map planned_world r.worlds.items) j ≡ Some x → planned.is_shown_in x n ≡ true → is_some (interface_path r n) ≡ true

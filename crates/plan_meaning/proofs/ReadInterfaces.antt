@@ -1,18 +1,18 @@
 -- Interfaces that are read pass the tests of a plan on each interface by itself.
-use Rattle.std.proofs.Common.{◌≡◌, refl, sym, ap, subst, ◌∙◌, ℕ, ◌<◌, true, false, ◌&&◌, T, ltb→lt, List, [], ◌∷◌, ◌++◌, map, Some, slice_get}
-use Rattle.std.proofs.lemmas.{Bool.eq-eqb, Bool.lt-ltb, Bool.and_from as both, Option.same_Some as same-some, List.Folds.list_all-map}
+use Rattle.std.proofs.Common.{rules as std_rules, ◌≡◌, refl, sym, ap, ◌∙◌, ℕ, true, false, ◌&&◌, List, [], ◌∷◌, ◌++◌, map, Some, slice_get}
+use Rattle.std.proofs.lemmas.{Bool.lt-ltb, Bool.and_from as both, List.Folds.list_all-map}
 use Rattle.std.specs.{Prelude.nat_lt, List.AllZip, List.list_all, Option.option_map_or}
 use Rattle.wit_model.specs.{Text.Text, Text.text_eq, Meaning.FunctionMeaning, Parts.same_owner, Rules.are_distinct, Rules.passes, Valid.as_interface}
 use Rattle.wit_model.specs.Names.{is_label}
 use Rattle.wit_model.proofs.{VersionLaws.same_text, PartsLemmas.owner_itself, RulesLemmas.each_by_number}
 use Rattle.comp_meaning.specs.{Follow.ShownType, Rules.distinct}
-use Rattle.plan_meaning.specs.{Shapes.Shape, Shapes.first_label, Shapes.form_code, Shapes.named_shape, Shapes.node_shape, ReadFunctions.Beside}
+use Rattle.plan_meaning.specs.{Shapes.named_shape, ReadFunctions.Beside}
 use Rattle.plan_meaning.specs.Plan.{Plan, PlannedType, PlannedFunction, PlannedInterface, numbers_of}
 use Rattle.plan_meaning.specs.{PlanRules.are_rising, PlanRules.bears, PlanRules.interface_labels, PlanRules.is_type_of, PlanRules.names_of, KeptOwners.AreOwned}
 use Rattle.plan_meaning.specs.NumberedViews.{Tables, place_at, NumberedType, NumberedFunction, view_of, shown_type, shown_function}
-use Rattle.plan_meaning.specs.KeptTypes.{IsKeptType, unnamed, declared, TypesAreKept}
+use Rattle.plan_meaning.specs.KeptTypes.{IsKeptType, TypesAreKept}
 use Rattle.plan_meaning.specs.ReadInterfaces.{IsNumberOf, IsKeptAs, HasName, IsNamed, IsReadInterface, ReadInterfacesPass}
-use Rattle.plan_meaning.proofs.{Lists.no_true, NumberedRules.no_name, KeptParts.kept_at}
+use Rattle.plan_meaning.proofs.{KeptParts.kept_at}
 use Rattle.base_lemmas.proofs.Bools.{left_of as first_true, right_of as second_true}
 use Rattle.base_lemmas.proofs.{Elements.all_by_number, Elements.all_get, Elements.zip_at_right, Elements.zip_map, Lists.map_of_map}
 use Rattle.comp_meaning.proofs.RulesLemmas.{distinct_same}
@@ -23,10 +23,7 @@ module _ (t : Tables) (kept : List ℕ) (p : Plan) (are : TypesAreKept t kept p)
 
   later_rise : (n : ℕ) (e : Text × ℕ) → slice_get kept e.1 ≡ Some n → (ns : List ℕ) (es : List (Text × ℕ)) → AllZip (IsKeptAs kept p) ns es → list_all (nat_lt n) ns ≡ true
       → list_all (nat_lt e.1) (numbers_of es) ≡ true
-  later_rise n e at ns es z h = list_all-map (nat_lt e.1) (λ (x : Text × ℕ). x.1) es ∙ all_by_number (λ x. nat_lt e.1 x.1) es (λ j x f.
-      let from = zip_at_right (IsKeptAs kept p) ns es z j x f in
-      let less : n < from.0 = ltb→lt n from.0 (subst T (sym (all_get (nat_lt n) ns j from.0 h from.1)) tt) in
-      lt-ltb e.1 x.1 (are.rise e.1 x.1 n from.0 at from.2.0 less))
+  later_rise n e at ns es z h = search (std_rules, list_all-map, all_by_number, zip_at_right, all_get, lt-ltb)
 
   all_rise : (ns : List ℕ) (es : List (Text × ℕ)) → AllZip (IsKeptAs kept p) ns es → are_rising ns ≡ true → are_rising (numbers_of es) ≡ true
   all_rise [] [] z h = refl
@@ -38,13 +35,7 @@ module _ (t : Tables) (kept : List ℕ) (p : Plan) (are : TypesAreKept t kept p)
   -- ---- types
 
   pub bears_name : (q n : ℕ) (name : Text) (u : PlannedType) → slice_get t.shapes n ≡ Some (named_shape q name) → IsKeptType t kept p n u → bears name u.name ≡ true
-  bears_name q n name u there (declared r other d at called home_u kind before good obeys) =
-      let one : named_shape r other ≡ named_shape q name = same-some (named_shape r other) (named_shape q name) (sym at ∙ there) in
-      ap (λ o. option_map_or (λ x. text_eq x name) o false) called ∙ same_text other name (ap (λ (s : Shape). first_label s.labels) one)
-  bears_name q n name u there (unnamed place form olds news at z none unowned kind part low) =
-      let one : node_shape form olds ≡ named_shape q name = same-some (node_shape form olds) (named_shape q name) (sym at ∙ there) in
-      let sort : (form_code form).sort ≡ 0 = ap (λ (s : Shape). s.sort) one in
-      no_true (sym (no_name form) ∙ eq-eqb (form_code form).sort 0 sort)
+  bears_name q n name u there y = search std_rules
 
   module _ (b : Beside) (owned : AreOwned t kept p b.owners) (m q : ℕ) (home : b.owners q ≡ as_interface m) where
     type_is : (x : NumberedType) (n : ℕ) (e : Text × ℕ) → IsNumberOf t q x n → IsKeptAs kept p n e → HasName x e → is_type_of p (as_interface m) e ≡ true

@@ -1,5 +1,5 @@
 -- Lists in which no number or no name stands twice.
-use Rattle.std.proofs.Common.{◌≡◌, refl, sym, ap, ◌∙◌, ℕ, zero, suc, ◌+◌, arith, Bool, true, false, not, ◌||◌, ◌==◌, cond, List, [], ◌∷◌, ◌++◌, filter, filter_map, count_by, Option, Some, None, option_map}
+use Rattle.std.proofs.Common.{rules as std_rules, ◌≡◌, refl, sym, ap, ◌∙◌, ℕ, zero, suc, ◌+◌, arith, Bool, true, false, not, ◌||◌, ◌==◌, cond, List, [], ◌∷◌, ◌++◌, filter, filter_map, count_by, Option, Some, None, option_map}
 use Rattle.std.proofs.lemmas.{Bool.eqb-true, Bool.and_from as both, Bool.not-true as not_true, Bool.or_from as neither, Option.slice_get-map as get_of_map}
 use Rattle.std.proofs.lemmas.{List.Folds.list_any-append, List.Sums.sum_by-append, List.Sums.sum_by-cons, Map.Keys.any_passes_from_place as get_any}
 use Rattle.std.proofs.lemmas.Slice.Eq.{bytes_eq-Decides}
@@ -97,5 +97,4 @@ distinct_both (x ∷ xs) ys d e apart =
     (distinct_both xs ys (second_true (not (list_any (text_eq x) xs)) (are_distinct xs) d) e (second_true (not (list_any (text_eq x) ys)) (list_all (λ y. not (list_any (text_eq y) ys)) xs) apart))
 
 pub or_nothing : (a : Bool) → (a || false) ≡ true → a ≡ true
-or_nothing true h = refl
-or_nothing false h = h
+or_nothing x h = search std_rules

@@ -1,5 +1,5 @@
 -- What is read stands in the order that a plan asks for.
-use Rattle.std.proofs.Common.{◌≡◌, ◌⊎◌, inl, inr, refl, sym, ap, subst, ◌∙◌, ◌<◌, ◌≤◌, ℕ, zero, suc, ◌+◌, arith, Bool, true, false, not, ◌&&◌, ◌||◌, ◌==◌, cond, List, [], ◌∷◌, ◌++◌, length, map, filter, filter_map, flat_map, Option, Some, None, option_and_then, option_to_list, slice_get, T, ltb→lt}
+use Rattle.std.proofs.Common.{rules as std_rules, ◌≡◌, ◌⊎◌, inl, inr, refl, sym, ap, subst, ◌∙◌, ◌<◌, ◌≤◌, ℕ, zero, suc, ◌+◌, arith, Bool, true, false, not, ◌&&◌, ◌||◌, ◌==◌, cond, List, [], ◌∷◌, ◌++◌, length, map, filter, filter_map, flat_map, Option, Some, None, option_and_then, option_to_list, slice_get, T, ltb→lt}
 use Rattle.std.proofs.lemmas.Bool.{eqb-true, eq-eqb, leb-true, ltb-false, or_right, and_from as both, not-true as not_true}
 use Rattle.std.proofs.lemmas.{Bool.Decides.nat_tests, List.Elements.Contains-append_cases, List.Elements.Contains-append_left, List.Elements.filter_map-append}
 use Rattle.std.proofs.lemmas.Option.{slice_get_within, same_Some as same-some}
@@ -39,9 +39,7 @@ others_have q r (x ∷ ps) apart h = go (x == q) refl (x == r) refl (others_have
     go false e false f rest = or_right (x == r) (has (others_than q ps) r) (rest (sym (ap (λ v. v || has ps r) f) ∙ h))
 
 pub same_declared : (a c : Option ℕ) → same_number a c ≡ true → a ≡ c
-same_declared None None h = refl
-same_declared (Some x) (Some y) h = ap Some (eqb-true x y h)
-same_declared _ _ h = no_true h
+same_declared z u h = search std_rules
 
 pub same_uses : (t : Tables) (xs ys : List NumberedType) → pointwise same_shown xs ys ≡ true
     → flat_map (λ (x : NumberedType). used_by t x.declared) xs ≡ flat_map (λ (x : NumberedType). used_by t x.declared) ys
@@ -434,8 +432,4 @@ module _ (t : Tables) (tables : AreTables t) (kept : List ℕ) (p : Plan) (are :
   world_items = each_by_number (λ n w. each_after (uses_stand_before p n) [] (items_of w)) p.worlds world_in_order
 
 pub read_order_passes : ReadOrderPasses
-read_order_passes t tables kept p are b owned views read = record {
-  types_listed = types_are_listed t tables kept p are b owned views read;
-  uses_fall = uses_are_low t tables kept p are b owned views read.interfaces;
-  items_in_order = world_items t tables kept p are b owned views read;
-}
+read_order_passes t tables kept p are b owned views read = search (std_rules, types_are_listed, uses_are_low, world_items)

@@ -1,5 +1,5 @@
 -- Nothing stands without a reason in a plan that is read as a package or as one world.
-use Rattle.std.proofs.Common.{◌≡◌, ◌⊎◌, inl, inr, refl, sym, ap, subst, ◌∙◌, ℕ, zero, suc, ◌+◌, arith, Bool, true, false, not, ◌&&◌, ◌||◌, ◌==◌, cond, List, [], ◌∷◌, ◌++◌, map, filter_map, flat_map, Option, Some, None, option_to_list, is_some, is_none, slice_get, rules}
+use Rattle.std.proofs.Common.{rules as std_rules, ◌≡◌, ◌⊎◌, inl, inr, refl, sym, ap, subst, ◌∙◌, ℕ, zero, suc, ◌+◌, arith, Bool, true, false, not, ◌&&◌, ◌||◌, ◌==◌, cond, List, [], ◌∷◌, ◌++◌, map, filter_map, flat_map, Option, Some, None, option_to_list, is_some, is_none, slice_get, rules}
 use Rattle.std.proofs.lemmas.{Bool.eqb-true, Bool.eq-eqb, Bool.or_right, Bool.not-true as not_true, Option.same_Some as same-some}
 use Rattle.std.proofs.lemmas.List.Elements.{Contains-append_cases, Contains-append_left, Contains-append_right}
 use Rattle.std.specs.{List.AllZip, List.Contains, List.list_any, Option.option_map_or}
@@ -16,10 +16,10 @@ use Rattle.plan_meaning.specs.{NumberedWorlds.HasPath, NumberedWorlds.are_once, 
 use Rattle.plan_meaning.specs.{NumberedMembers.Homes, NumberedMembers.HomesStand, NumberedMembers.home_at, NumberedMembers.is_of_package, ReadFunctions.Beside}
 use Rattle.plan_meaning.specs.GatheredPlan.{Becomes, FunctionBecomes, FunctionListed, functions_seen}
 use Rattle.plan_meaning.specs.ReadPlaces.{IsPlacedInterface, under_path, inline}
-use Rattle.plan_meaning.specs.ReadWorlds.{ReadItem, IsReadItem, by_path, by_label, implementing_path, a_function, a_type}
+use Rattle.plan_meaning.specs.ReadWorlds.{ReadItem, IsReadItem}
 use Rattle.plan_meaning.specs.ReadWholes.{IsPartOfFunction, a_parameter, a_result, IsPartOfKept, of_type, of_interface, of_world, HasHomes, IsKeptForReasons, place_shown, IsShownByWorld, IsViewOf, IsSeenFor, in_world, in_member, ForeignIsRead, IsReadWorldPlan, ReadPackagePlanStands, ReadWorldPlanStands}
 use Rattle.plan_meaning.proofs.{KeptParts.shape_parts, KeptParts.function_zip, ReadLists.never, ReadPlans.read_plan_stands, UsedInterfaces.interface_uses_back}
-use Rattle.plan_meaning.proofs.{Lists.no_true, MetTypes.flat_among, ReadOrder.same_uses, ReadPlaces.one_interface, Words.behind}
+use Rattle.plan_meaning.proofs.{Lists.no_true, MetTypes.flat_among, ReadOrder.same_uses, Words.behind}
 use Rattle.base_lemmas.proofs.Bools.{first_false as none_first, left_of as first_true, right_of as second_true, second_false as none_second}
 use Rattle.base_lemmas.proofs.Elements.{all_at, all_both, all_by_number, any-at as contains_any, contains-later, contains-map, get-contains, last_of as one-contained, zip_at as zip_there}
 use Rattle.base_lemmas.proofs.{Lists.append_of_map, Numbers.same-number}
@@ -122,17 +122,7 @@ module _ (t : Tables) (tables : AreTables t) (h : Homes) (homes : HomesStand t h
 
   item_shows : (o : TypeOwner) (home : ℕ) (q n : ℕ) → b.owners q ≡ as_interface n → (x : ReadItem) → IsReadItem t kept p b views o home x → place_shown x.seen.shown ≡ Some q
       → item_interface x.entry.1 ≡ Some n
-  item_shows o home q n at x (by_path r m v id path shows key entry is) e =
-      let place : r ≡ q = same-some r q (sym (ap place_shown shows) ∙ e) in
-      ap (λ (z : PlannedKey × PlannedItem). item_interface z.1) entry ∙ ap Some (one_interface m n (sym is.owned ∙ (ap b.owners place ∙ at)))
-  item_shows o home q n at x (by_label r m v id shows good entry is) e =
-      let place : r ≡ q = same-some r q (sym (ap place_shown shows) ∙ e) in
-      ap (λ (z : PlannedKey × PlannedItem). item_interface z.1) entry ∙ ap Some (one_interface m n (sym is.owned ∙ (ap b.owners place ∙ at)))
-  item_shows o home q n at x (implementing_path r m v id path shows good entry is) e =
-      let place : r ≡ q = same-some r q (sym (ap place_shown shows) ∙ e) in
-      ap (λ (z : PlannedKey × PlannedItem). item_interface z.1) entry ∙ ap Some (one_interface m n (sym is.owned ∙ (ap b.owners place ∙ at)))
-  item_shows o home q n at x (a_function f g shows entry is) e = no_true (ap is_some (sym (ap place_shown shows) ∙ e))
-  item_shows o home q n at x (a_type d m shows entry is) e = no_true (ap is_some (sym (ap place_shown shows) ∙ e))
+  item_shows o home q n at x y e = search std_rules
 
   world_shows : (q n : ℕ) → b.owners q ≡ as_interface n → (is : IsShownByWorld t h kept p b views read q) → is_shown_in is.world n ≡ true
   world_shows q n at is =
@@ -262,9 +252,7 @@ module _ (t : Tables) (tables : AreTables t) (h : Homes) (homes : HomesStand t h
       go _ e _ f more = more
 
   zip_nothing : {A B : Type 0} (R : A → B → Type 0) (xs : List A) (ys : List B) → xs ≡ [] → AllZip R xs ys → ys ≡ []
-  zip_nothing R [] [] e z = refl
-  zip_nothing R [] (y ∷ ys) e z = absurd z
-  zip_nothing R (x ∷ xs) ys e z = no_true (ap has_items (sym e))
+  zip_nothing x y ys e z = search std_rules
 
   module _ (seen : List NumberedSight) (foreign_read : ForeignIsRead t h kept p b views read seen) where
     wanted : (n : ℕ) (i : PlannedInterface) → interface_in p n ≡ Some i → is_foreign p i ≡ true → IsWanted p n

@@ -1,22 +1,21 @@
 -- The types of a plan stand for the trees of the shapes that they are made of.
-use Rattle.std.proofs.Common.{◌≡◌, refl, sym, ap, ◌∙◌, ℕ, zero, suc, ◌+◌, ◌<◌, Bool, true, nat_lt, List, [], ◌∷◌, length, map, take, filter_map, Option, Some, None, slice_get, unwrap_or, arith}
+use Rattle.std.proofs.Common.{rules as std_rules, ◌≡◌, refl, sym, ap, ◌∙◌, ℕ, zero, suc, ◌+◌, ◌<◌, Bool, true, nat_lt, List, [], ◌∷◌, length, map, take, filter_map, Option, Some, slice_get, unwrap_or, arith}
 use Rattle.std.proofs.lemmas.{Bool.ltb-true as less_than, Option.same_Some as same-some}
-use Rattle.std.specs.{List.AllZip, List.list_all, List.cons_option, Option.option_map_or}
-use Rattle.wit_model.specs.{Tree.Place, Tree.Tree, Tree.node, Tree.children, Tree.named, Types.no_tree, Types.tree_of_declaration, Rules.each_from}
+use Rattle.std.specs.{List.AllZip, List.list_all, List.cons_option}
+use Rattle.wit_model.specs.{Tree.Place, Tree.Tree, Types.no_tree, Rules.each_from}
 use Rattle.wit_model.proofs.{Tables.grow_at, RulesLemmas.each_at}
-use Rattle.plan_meaning.specs.Shapes.{Shape, primitives, part_tree, shape_tree, shape_trees, IsTable}
-use Rattle.plan_meaning.specs.Plan.{Plan, PlannedType, PlannedKind, part_number, kind_numbers, declared_as, tree_of_planned, place_in, trees_in}
-use Rattle.plan_meaning.specs.Renumbering.{IsPart, a_primitive, a_shape, IsTypeOf, of_form, of_name, AreKept, TreesAreKept}
+use Rattle.plan_meaning.specs.Shapes.{Shape, part_tree, shape_tree, shape_trees, IsTable}
+use Rattle.plan_meaning.specs.Plan.{Plan, PlannedType, part_number, kind_numbers, tree_of_planned, trees_in}
+use Rattle.plan_meaning.specs.Renumbering.{IsPart, IsTypeOf, AreKept, TreesAreKept}
 use Rattle.plan_meaning.proofs.{ShapeLaws.node_tree, ShapeLaws.name_tree, ShapeLaws.part_behind, ShapeLaws.part_front, ShapeLaws.tree_at_number, Words.behind}
-use Rattle.base_lemmas.proofs.{Bools.left_of as first_true, Bools.right_of as second_true, Lists.slice_take, Lists.within_there as slice_there}
+use Rattle.base_lemmas.proofs.{Bools.left_of as first_true, Lists.slice_take, Lists.within_there as slice_there}
 
 -- what comes first, and what follows
 head_passes : (p : ℕ → Bool) (n : ℕ) (o : Option ℕ) (ns : List ℕ) → o ≡ Some n → list_all p (cons_option o ns) ≡ true → p n ≡ true
 head_passes p n o ns e h = first_true (p n) (list_all p ns) (ap (λ x. list_all p (cons_option x ns)) (sym e) ∙ h)
 
 rest_passes : (p : ℕ → Bool) (o : Option ℕ) (ns : List ℕ) → list_all p (cons_option o ns) ≡ true → list_all p ns ≡ true
-rest_passes p None ns h = h
-rest_passes p (Some n) ns h = second_true (p n) (list_all p ns) h
+rest_passes p x ns h = search std_rules
 
 -- the tree of a number of a table
 abbrev tree_of_number : List Tree → ℕ → Tree
@@ -33,15 +32,7 @@ module _ (place : ℕ → Place) (shapes : List Shape) (kept : List ℕ) (p : Pl
 
   part_kept : (j : ℕ) → Smaller j → (old new : ℕ) → IsPart kept old new → (ns : List ℕ) → list_all (λ k. nat_lt k j) (cons_option (part_number new) ns) ≡ true
       → part_tree (take j (trees_in p)) new ≡ part_tree old_trees old
-  part_kept j small old new (a_primitive low same) ns h =
-      let new_low : new < 14 = omega (arith, low, same) in
-      part_front (take j (trees_in p)) new new_low ∙ (ap (λ k. unwrap_or (slice_get (map Tree.primitive primitives) k) no_tree) same ∙ sym (part_front old_trees old low))
-  part_kept j small old new (a_shape n i from stands to) ns h =
-      let low : i < j = less_than i j (head_passes (λ k. nat_lt k j) i (part_number new) ns (ap part_number to ∙ behind i) h) in
-      ap (part_tree (take j (trees_in p))) to
-      ∙ (part_behind (take j (trees_in p)) i
-      ∙ (ap (λ o. unwrap_or o no_tree) (slice_take (trees_in p) j i low)
-      ∙ (small i n low stands ∙ (sym (part_behind old_trees n) ∙ ap (part_tree old_trees) (sym from)))))
+  part_kept j small old new x ns h = search (std_rules, part_front, unwrap_or, less_than, head_passes, behind, part_behind, slice_take)
 
   parts_kept : (j : ℕ) → Smaller j → (old new : List ℕ) → AllZip (IsPart kept) old new → list_all (λ k. nat_lt k j) (filter_map part_number new) ≡ true
       → map (part_tree (take j (trees_in p))) new ≡ map (part_tree old_trees) old
@@ -54,15 +45,7 @@ module _ (place : ℕ → Place) (shapes : List Shape) (kept : List ℕ) (p : Pl
 
   made_tree : (j : ℕ) → Smaller j → (t : PlannedType) (s : Shape) → list_all (λ k. nat_lt k j) (kind_numbers t.kind) ≡ true → IsTypeOf place kept p s t
       → tree_of_planned p (take j (trees_in p)) t ≡ shape_tree place old_trees s
-  made_tree j small t s h (of_name q name is named_ home) =
-      ap (λ o. option_map_or (λ x. named (place_in p t.owner) x) o (tree_of_declaration (declared_as (take j (trees_in p)) t.kind))) named_
-      ∙ (ap (λ x. named x name) home ∙ (sym (name_tree place old_trees q name) ∙ ap (shape_tree place old_trees) (sym is)))
-  made_tree j small t s h (of_form form old new is zip unnamed made) =
-      let low : list_all (λ k. nat_lt k j) (filter_map part_number new) ≡ true = ap (λ (k : PlannedKind). list_all (λ n. nat_lt n j) (kind_numbers k)) (sym made) ∙ h in
-      ap (λ o. option_map_or (λ x. named (place_in p t.owner) x) o (tree_of_declaration (declared_as (take j (trees_in p)) t.kind))) unnamed
-      ∙ (ap (λ (k : PlannedKind). tree_of_declaration (declared_as (take j (trees_in p)) k)) made
-      ∙ (ap (λ ts. node form (children ts)) (parts_kept j small old new zip low)
-      ∙ (sym (node_tree place old_trees form old) ∙ ap (shape_tree place old_trees) (sym is))))
+  made_tree j small t s h y = search (std_rules, name_tree, parts_kept, node_tree)
 
   planned_tree : (j : ℕ) (t : PlannedType) → slice_get p.types j ≡ Some t → slice_get (trees_in p) j ≡ Some (tree_of_planned p (take j (trees_in p)) t)
   unfolding trees_in
@@ -83,13 +66,7 @@ module _ (place : ℕ → Place) (shapes : List Shape) (kept : List ℕ) (p : Pl
   numbers_kept (suc fuel) j n h low stands = number_kept j n (λ i k less there. numbers_kept fuel i k (omega (arith, less, h)) (omega (arith, less, low)) there) low stands
 
   kept_tree : (old new : ℕ) → IsPart kept old new → new < 14 + length p.types → part_tree (trees_in p) new ≡ part_tree old_trees old
-  kept_tree old new (a_primitive low same) h =
-      let new_low : new < 14 = omega (arith, low, same) in
-      part_front (trees_in p) new new_low ∙ (ap (λ k. unwrap_or (slice_get (map Tree.primitive primitives) k) no_tree) same ∙ sym (part_front old_trees old low))
-  kept_tree old new (a_shape n j from stands to) h =
-      let low : j < length p.types = omega (arith, h, to) in
-      ap (part_tree (trees_in p)) to
-      ∙ (part_behind (trees_in p) j ∙ (numbers_kept (suc j) j n (omega arith) low stands ∙ (sym (part_behind old_trees n) ∙ ap (part_tree old_trees) (sym from))))
+  kept_tree old new x h = search (std_rules, part_front, unwrap_or, part_behind, numbers_kept)
 
 pub trees_are_kept : TreesAreKept
 trees_are_kept place shapes kept p table are falls old new part h = kept_tree place shapes kept p table are falls old new part h

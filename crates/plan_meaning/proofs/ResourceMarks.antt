@@ -1,5 +1,5 @@
 -- Which numbers are resources: the marks along a plan's types say what following aliases finds.
-use Rattle.std.proofs.Common.{◌≡◌, refl, sym, ap, subst, ◌∙◌, ℕ, zero, suc, ◌+◌, ◌<◌, ◌≤◌, Bool, true, false, ◌&&◌, not, nat_lt, T, ltb→lt, List, [], ◌∷◌, length, map, take, filter_map, option_map, option_to_list, Option, Some, None, slice_get, unwrap_or, arith}
+use Rattle.std.proofs.Common.{rules as std_rules, ◌≡◌, refl, sym, ap, subst, ◌∙◌, ℕ, zero, suc, ◌+◌, ◌<◌, ◌≤◌, Bool, true, false, ◌&&◌, not, nat_lt, T, ltb→lt, List, [], ◌∷◌, length, map, take, filter_map, option_map, option_to_list, Option, Some, None, slice_get, unwrap_or, arith}
 use Rattle.std.proofs.lemmas.{Option.slice_get_past, Option.slice_get-map as get_of_map, Bool.and_from as both}
 use Rattle.std.specs.{List.list_all, List.cons_option, Option.option_map_or}
 use Rattle.wit_model.specs.declared.model.{Resolve.Resolve, TypeDefKind.TypeDefKind, «Type».«Type» as ValueType, TypeOwner.TypeOwner, Function.Function}
@@ -80,8 +80,7 @@ module _ (r : Resolve) (m : ℕ) (below : Keeps references r) where
 module _ (r : Resolve) (m : ℕ) (is : IsPlan (plan_of r m)) where
   pub references_hold : Keeps references r
   unfolding references
-  references_hold = references_kept r (each_built planned_type (λ n t. list_all (λ j. nat_lt j n) (plan.kind_numbers t.kind)) (λ n def. list_all (λ j. nat_lt j n) (parts.kind_numbers def.kind))
-      (λ n def h. ap (list_all (λ j. nat_lt j n)) (sym (kind_numbers_are def.kind)) ∙ h) r.types.items is.types_fall)
+  references_hold = search (std_rules, references_kept, each_built, kind_numbers_are)
 
   abbrev no_resource_at : ℕ → Bool
   no_resource_at n = not (plan.is_resource (plan_of r m) n)
@@ -112,9 +111,7 @@ module _ (r : Resolve) (m : ℕ) (is : IsPlan (plan_of r m)) where
   -- a kind that is no handle
   of_values : (k : TypeDefKind) (ks : List ℕ) → formed_pass value_part (planned_kind k) ≡ list_all value_part ks → handled k ≡ None → list_all no_resource_at (filter_map part_number ks) ≡ true
       → (list_all (λ t. not (is_resource_type r t)) (member_types k) && passes (parts.is_resource r) (handled k)) ≡ true
-  of_values k ks same none h =
-      both _ _ (members_pass value_part (λ t. not (is_resource_type r t)) value_passes k (same ∙ (sym (list_all_filter_map no_resource_at part_number ks) ∙ h)))
-      (ap (passes (parts.is_resource r)) none)
+  of_values k ks same none h = search (std_rules, both, members_pass, value_passes, list_all_filter_map)
 
   of_handle : (n : ℕ) → list_all (plan.is_resource (plan_of r m)) (filter_map part_number ((14 + n) ∷ [])) ≡ true → parts.is_resource r n ≡ true
   of_handle n h = sym (resource_is r m references_hold n) ∙ first_true _ true (ap (λ o. list_all (plan.is_resource (plan_of r m)) (cons_option o [])) (sym (behind n)) ∙ h)

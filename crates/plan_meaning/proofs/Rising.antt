@@ -1,5 +1,5 @@
 -- Lists of rising numbers: none stands twice, and what a number uses, being smaller, stands before it.
-use Rattle.std.proofs.Common.{◌≡◌, refl, sym, ap, ◌∙◌, ℕ, ◌<◌, Bool, true, false, ◌||◌, ◌==◌, not, nat_lt, List, [], ◌∷◌, ◌++◌, Option, Some, None, arith, map, ◌≤◌}
+use Rattle.std.proofs.Common.{rules as std_rules, ◌≡◌, refl, sym, ap, ◌∙◌, ℕ, ◌<◌, Bool, true, false, ◌||◌, ◌==◌, not, nat_lt, List, [], ◌∷◌, ◌++◌, Option, Some, None, arith, map, ◌≤◌}
 use Rattle.std.proofs.lemmas.{Bool.Decides.nat_tests, Bool.and_from as both, Bool.ltb-true as less_than, Bool.leb-true, Bool.lt-ltb, List.Folds.list_any-append}
 use Rattle.std.proofs.lemmas.Option.{slice_get_within}
 use Rattle.std.specs.{List.list_all, List.Contains, Option.option_map_or}
@@ -7,7 +7,7 @@ use Rattle.wit_model.specs.declared.model.{Resolve.Resolve, TypeDef.TypeDef}
 use Rattle.wit_model.specs.{Lookup.type_at, Parts.used_by_type, Uses.has, Rules.each_after, Rules.used_by_number, Rules.each_from}
 use Rattle.plan_meaning.specs.{PlanRules.are_rising, NumberedWorlds.are_once, Built.planned_type, Built.planned_kind}
 use Rattle.plan_meaning.proofs.{Lists.each_there, ReadLists.times, ReadLists.times_once, Words.plan_of, Words.used_by_kind_is, MetTypes.used_among}
-use Rattle.base_lemmas.proofs.{Bools.left_of as first_true, Bools.right_of as second_true, Bools.or_true, Lists.length_of_map}
+use Rattle.base_lemmas.proofs.{Bools.left_of as first_true, Bools.right_of as second_true, Lists.length_of_map}
 use Rattle.base_lemmas.proofs.Elements.{all_weaker, all_pass, all-contained}
 use Rattle.plan_meaning.specs.Plan as plan
 
@@ -34,13 +34,10 @@ absent_here : (m n : ℕ) (ns : List ℕ) → m < n → list_all (nat_lt n) ns �
 absent_here m n ns less h = let other : (n == m) ≡ false = grind (arith, nat_tests, less) in ap (λ b. b || has ns m) other ∙ absent m n ns (omega (arith, less)) h
 
 covered : (a b c : Bool) → a ≡ (b || c) → c ≡ false → (not a || b) ≡ true
-covered a true c e f = or_true (not a)
-covered a false c e f = ap (λ x. not x || false) (e ∙ f)
+covered a y c e f = search std_rules
 
 grouped : (a b c : Bool) → (a || (b || c)) ≡ ((a || (b || false)) || c)
-grouped true b c = refl
-grouped false true c = refl
-grouped false false c = refl
+grouped x b c = search std_rules
 
 pub in_order : (used : ℕ → List ℕ) → ((n : ℕ) → list_all (λ m. nat_lt m n) (used n) ≡ true) → (all before rest : List ℕ) → ((m : ℕ) → has all m ≡ (has before m || has rest m)) → are_rising rest ≡ true
     → each_after (λ b n. list_all (λ m. not (has all m) || has b m) (used n)) before rest ≡ true

@@ -1,5 +1,5 @@
 -- In a table of shapes each number has a tree, and no tree has two numbers.
-use Rattle.std.proofs.Common.{◌≡◌, ◌⊎◌, inl, inr, refl, sym, ap, ◌∙◌, ℕ, zero, suc, ◌+◌, ◌-◌, ◌<◌, arith, Bool, true, false, List, [], ◌∷◌, ◌++◌, map, take, length, Some, slice_get, unwrap_or, option_map}
+use Rattle.std.proofs.Common.{rules as std_rules, ◌≡◌, ◌⊎◌, inl, inr, refl, sym, ap, ◌∙◌, ℕ, zero, suc, ◌+◌, ◌-◌, ◌<◌, arith, Bool, List, [], ◌∷◌, ◌++◌, map, take, length, Some, slice_get, unwrap_or, option_map}
 use Rattle.std.proofs.lemmas.{Bool.cases_lt as below_or, Option.slice_get-map as get_of_map}
 use Rattle.std.specs.List.{AllByRecursion, Contains}
 use Rattle.wit_model.specs.{Text.Text, Types.grow, Types.no_tree}
@@ -19,19 +19,11 @@ first_marked b (l ∷ ls) = ap (λ rest. l ∷ rest) (first_marked b ls)
 
 pub form_back : (f : Form) → form_of (form_code f) ≡ f
 unfolding form_of
-form_back (Form.record_of names) = ap Form.record_of (first_marked true names)
-form_back (Form.flags_of names) = ap Form.flags_of (first_marked false names)
-form_back (Form.enum_of names) = ap Form.enum_of (first_marked false names)
-form_back (Form.result_of false false) = refl
-form_back (Form.result_of true false) = refl
-form_back (Form.future_of false) = refl
-form_back (Form.stream_of false) = refl
-form_back _ = refl
+form_back x = search (std_rules, first_marked)
 
 by_form : (place : ℕ → Place) (T : List Tree) (f : Form) (ks : List ℕ) → shape_tree place T (node_shape f ks) ≡ Tree.node (form_of (form_code f)) (children (map (part_tree T) ks))
 unfolding shape_tree
-by_form place T (Form.record_of names) ks = refl
-by_form place T _ ks = refl
+by_form place x y ks = search std_rules
 
 -- the tree of the shape of a form
 pub node_tree : (place : ℕ → Place) (T : List Tree) (f : Form) (ks : List ℕ) → shape_tree place T (node_shape f ks) ≡ Tree.node f (children (map (part_tree T) ks))
@@ -75,8 +67,7 @@ numbered_at o (p ∷ ps) n zero h = n.0 ∙ omega arith
 numbered_at o (p ∷ ps) n (suc k) h = numbered_at (o + 1) ps n.1 k (omega (arith, h)) ∙ omega arith
 
 primitive_at : (T : List Tree) (k : ℕ) → k < 14 → number_in (part_tree T k) ≡ k
-primitive_at T k h = ap number_in (part_front T k h) ∙ (numbered_at 0 primitives (refl, (refl, (refl, (refl, (refl, (refl, (refl, (refl, (refl, (refl, (refl, (refl, (refl, (refl, tt)))))))))))))) k h
-    ∙ omega arith)
+primitive_at T k h = search (std_rules, part_front, numbered_at)
 
 -- ---- the tree of a number
 
@@ -94,10 +85,7 @@ module _ (T : List Tree) (n : ℕ) where
   parts_same (k ∷ ks) h = λ i. part_same k h.0 i ∷ parts_same ks h.1 i
 
   shape_same : (place : ℕ → Place) (s : Shape) → IsShape n s → shape_tree place (take n T) s ≡ shape_tree place T s
-  shape_same place s (a_name p x is) = ap (shape_tree place (take n T)) is ∙ (name_tree place (take n T) p x ∙ (sym (name_tree place T p x) ∙ ap (shape_tree place T) (sym is)))
-  shape_same place s (a_node f ks is below) =
-      ap (shape_tree place (take n T)) is ∙ (node_tree place (take n T) f ks
-      ∙ (ap (λ ts. Tree.node f (children ts)) (parts_same ks below) ∙ (sym (node_tree place T f ks) ∙ ap (shape_tree place T) (sym is))))
+  shape_same place s y = search (std_rules, name_tree, node_tree, parts_same)
 
 pub tree_at_number : (place : ℕ → Place) (ss : List Shape) → IsTable ss → (n : ℕ) (s : Shape) → slice_get ss n ≡ Some s
     → slice_get (shape_trees place ss) n ≡ Some (shape_tree place (shape_trees place ss) s)

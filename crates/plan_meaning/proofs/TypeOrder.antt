@@ -1,5 +1,5 @@
 -- Types refer to smaller ones, and stand with their owners in order.
-use Rattle.std.proofs.Common.{◌≡◌, refl, sym, ap, ◌∙◌, ℕ, Bool, true, false, ◌&&◌, ◌||◌, ◌==◌, cond, nat_lt, List, [], ◌∷◌, map, filter_map, option_map, option_and_then, option_to_list, Option, Some, None, is_some, String}
+use Rattle.std.proofs.Common.{rules as std_rules, ◌≡◌, refl, sym, ap, ◌∙◌, ℕ, Bool, true, false, ◌&&◌, ◌||◌, ◌==◌, cond, nat_lt, List, [], ◌∷◌, map, filter_map, option_map, option_and_then, option_to_list, Option, Some, None, is_some, String}
 use Rattle.std.proofs.lemmas.{Bool.or_left, Bool.or_right, Bool.and_from as both, List.Folds.list_all-map, Option.slice_get-map as get_of_map}
 use Rattle.std.specs.declared.alloc.Global.{Global}
 use Rattle.std.specs.{List.list_all, Option.option_map_or, Map.lookup, HashMap.get_by}
@@ -17,8 +17,6 @@ use Rattle.plan_meaning.proofs.{Words.plan_of, Words.kind_numbers_are, FunctionR
 use Rattle.plan_meaning.proofs.{Listed.passes_weaker, WorldItems.own_type}
 use Rattle.base_lemmas.proofs.{Bools.left_of as first_true, Bools.right_of as second_true, Lists.filter_of_map, Lists.map_of_map, Maps.lookup_of_map}
 use Rattle.base_lemmas.proofs.Elements.{all_get}
-use Rattle.wit_model.specs.declared.model.WorldKey.TheVariants as key
-use Rattle.wit_model.specs.declared.model.WorldItem.TheVariants as item
 use Rattle.wit_model.specs.declared.model.TypeOwner.TheVariants as owner
 use Rattle.wit_model.specs.Rules as rules
 use Rattle.plan_meaning.specs.Plan as plan
@@ -30,8 +28,7 @@ pub type_numbers_are : (i : Interface) → numbers_of (planned_interface i).type
 type_numbers_are i = map_of_map (λ (e : Text × ℕ). e.1) (λ e. (text_of e.0, e.1.0)) i.types.entries ∙ sym (map_of_map (λ (id : TypeId). id.0) (λ e. e.1) i.types.entries)
 
 pub item_type_is : (x : WorldItem) → plan.item_type (planned_item x) ≡ rules.item_type x
-item_type_is (item.Interface id stability docs external_id) = refl
-item_type_is _ = refl
+item_type_is x = search std_rules
 
 pub item_types_are : (xs : List WorldItem) → filter_map plan.item_type (map planned_item xs) ≡ filter_map rules.item_type xs
 item_types_are xs = filter_of_map plan.item_type planned_item xs ∙ ap (λ h. filter_map h xs) (λ i x. item_type_is x i)
@@ -49,8 +46,7 @@ under_has name n (e ∷ es) h = go (text_eq name e.0) h (under_has name n es)
     go false h rest = or_right (e.1 == n) (has (numbers_of es) n) (rest h)
 
 key_is : (name : Text) (k : WorldKey) → is_under_label name (planned_key k) ≡ is_name_key name k
-key_is name (key.Name s) = refl
-key_is name (key.Interface id) = refl
+key_is name x = search std_rules
 
 module _ (r : Resolve) (m : ℕ) (is : IsPlan (plan_of r m)) where
   named_of : (o : TypeOwner) (t : Text) (n : ℕ) → planned.is_type_of (plan_of r m) o (t, n) ≡ true → is_named_of r o n ≡ true
@@ -66,19 +62,11 @@ module _ (r : Resolve) (m : ℕ) (is : IsPlan (plan_of r m)) where
   interface_passes : (n : ℕ) (i : Interface) → list_all (planned.is_type_of (plan_of r m) (as_interface n)) (planned_interface i).types ≡ true
       → are_rising (numbers_of (planned_interface i).types) ≡ true
       → (list_all (is_named_of r (as_interface n)) (interface_type_numbers i) && are_in_order r (interface_type_numbers i)) ≡ true
-  interface_passes n i own rise =
-      both _ _
-      (list_all-map (is_named_of r (as_interface n)) (λ id. id.0) (values i.types)
-      ∙ (list_all-map (λ id. is_named_of r (as_interface n) id.0) (λ e. e.1) i.types.entries
-      ∙ all_built (λ e. (text_of e.0, e.1.0)) (planned.is_type_of (plan_of r m) (as_interface n)) (λ e. is_named_of r (as_interface n) e.1.0) (λ e k. named_of (as_interface n) (text_of e.0) e.1.0 k)
-      i.types.entries own))
-      (ordered (interface_type_numbers i) (ap are_rising (sym (type_numbers_are i)) ∙ rise))
+  interface_passes n i own rise = search (std_rules, both, list_all-map, all_built, plan_of, named_of, ordered, type_numbers_are)
 
   import_named : (n : ℕ) (e : WorldKey × WorldItem) → planned.import_stands (plan_of r m) n (planned_key e.0, planned_item e.1) ≡ true
       → list_all (is_named_of r (as_world n)) (option_to_list (rules.item_type e.1)) ≡ true
-  import_named n (key.Interface id, item.Type_ other) h = no_true h
-  import_named n (key.Name name, item.Type_ id) h = both _ _ (named_of (as_world n) (text_of name) id.0 (second_true _ _ h)) refl
-  import_named n _ h = refl
+  import_named n x h = search (std_rules, no_true, both, named_of, second_true)
 
   world_passes : (n : ℕ) (w : World) → list_all (planned.import_stands (plan_of r m) n) (planned_world w).imports ≡ true → are_rising (plan.world_types (planned_world w)) ≡ true
       → (list_all (is_named_of r (as_world n)) (world_type_numbers w) && are_in_order r (world_type_numbers w)) ≡ true
@@ -137,8 +125,7 @@ module _ (r : Resolve) (m : ℕ) (is : IsPlan (plan_of r m)) where
 
   listed_by : (n : ℕ) (name : Option (String Global)) (o : TypeOwner) → option_map_or (λ t. planned.is_listed_in (plan_of r m) n t o) (optional_text name) (same_owner o owner.None) ≡ true
       → option_map_or (λ s. rules.is_listed r n (text_of s) o) name (same_owner o owner.None) ≡ true
-  listed_by n None o h = h
-  listed_by n (Some s) o h = listed_in n (text_of s) o h
+  listed_by n x o h = search (std_rules, listed_in)
 
   pub order_of_types_kept : Keeps order_of_types r
   unfolding order_of_types

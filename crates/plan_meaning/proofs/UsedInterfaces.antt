@@ -1,6 +1,6 @@
 -- The interfaces that types of a plan use are those of the places that what was read uses.
-use Rattle.std.proofs.Common.{◌≡◌, ◌⊎◌, inl, inr, refl, sym, ap, subst, ◌∙◌, ℕ, ◌+◌, ◌-◌, arith, true, false, not, ◌==◌, cond, List, [], ◌∷◌, Option, Some, None, option_and_then, option_to_list, is_some, slice_get, rules}
-use Rattle.std.proofs.lemmas.{Bool.le-leb, Bool.lt-ltb, Option.same_Some as same-some}
+use Rattle.std.proofs.Common.{rules as std_rules, ◌≡◌, ◌⊎◌, inl, inr, refl, sym, ap, subst, ◌∙◌, ℕ, ◌+◌, ◌-◌, arith, true, false, not, ◌==◌, cond, List, [], ◌∷◌, Option, Some, None, option_and_then, option_to_list, is_some, slice_get, rules}
+use Rattle.std.proofs.lemmas.{Bool.le-leb, Bool.lt-ltb}
 use Rattle.std.specs.{Prelude.nat_le, List.Contains, List.list_all, Option.option_map_or}
 use Rattle.wit_model.specs.declared.model.TypeOwner.{TypeOwner}
 use Rattle.wit_model.specs.{Text.Text, Uses.owner_interface, Rules.each_from, Valid.as_interface}
@@ -17,7 +17,6 @@ use Rattle.plan_meaning.proofs.{MetTypes.flat_among, NumberedRules.no_name, Numb
 use Rattle.plan_meaning.proofs.{Lists.no_true, Words.behind, KeptParts.kept_at}
 use Rattle.base_lemmas.proofs.Elements.{all_pass as all_among, contains-map, filter_map_from, get-contains, last_of as one-contained, zip_at as zip_there, zip_at_right as zip_at}
 use Rattle.base_lemmas.proofs.Lists.{get_back}
-use Rattle.wit_model.specs.declared.model.TypeOwner.TheVariants as owner
 use Rattle.plan_meaning.specs.Plan as plan
 use Rattle.plan_meaning.specs.NumberedRules as numbered
 use Rattle.plan_meaning.specs.GatheredPlan as gathered
@@ -26,8 +25,7 @@ use Rattle.plan_meaning.specs.GatheredPlan as gathered
 
 -- an owner that is an interface
 pub owned_by : (o : TypeOwner) (u : ℕ) → owner_interface o ≡ Some u → o ≡ as_interface u
-owned_by (owner.Interface id) u e = ap as_interface (same-some id.0 u e)
-owned_by _ u e = no_true (ap is_some e)
+owned_by x u e = search std_rules
 
 module _ (t : Tables) (tables : AreTables t) (kept : List ℕ) (p : Plan) (are : TypesAreKept t kept p) (b : Beside) (owned : AreOwned t kept p b.owners) where
   -- The interface whose type a type is another name for: none, that of its own place, or that of a place that it uses.

@@ -1,14 +1,14 @@
 -- The worked plan of two packages, built: valid, and of the plan's meaning. Where values lie in memory is left open.
-use Rattle.std.proofs.Common.{◌≡◌, ℕ, ◌<◌, ◌^◌, List, [], ◌∷◌, length, refl, codes, Vec, String, arith, lit<, Some, None, Option, rules}
+use Rattle.std.proofs.Common.{ℕ, ◌<◌, ◌^◌, List, [], ◌∷◌, length, refl, codes, Vec, String, arith, lit<, Some, None, Option, rules}
 use Rattle.std.specs.declared.{alloc.Global.Global, hash.FoldHasher.FoldHasher, hash.BuildHasherDefault.BuildHasherDefault}
 use denote.RawPtr.{null_ptr}
-use Rattle.std.specs.{Str.IsUtf8, Prelude.◌↔◌}
+use Rattle.std.specs.{Str.IsUtf8}
 use Rattle.indexmap.specs.{IndexMap.IndexMap, Layout.hash_map}
 use Rattle.wit_model.specs.declared.model.{Resolve.Resolve, Interface.Interface, TypeDefKind.TypeDefKind, «Type».«Type» as ValueType, FunctionKind.FunctionKind}
 use Rattle.wit_model.specs.declared.model.{TypeId.TypeId, TypeDef.TypeDef, TypeOwner.TypeOwner, Function.Function, World.World, WorldItem.WorldItem, Docs.Docs}
-use Rattle.wit_model.specs.{Valid.IsValid, Meant.Meant, Meaning.PackageMeaning}
-use Rattle.plan_meaning.specs.{PlanMeaning.plan_meaning, Built.IsBuilt}
-use Rattle.plan_meaning.proofs.{Valid.built_is_valid, PackageMeans.package_means, WholePlan.whole_plan, WholePlan.is_plan, WholePlan.is_package_plan}
+use Rattle.wit_model.specs.{Valid.IsValid}
+use Rattle.plan_meaning.specs.{Built.IsBuilt}
+use Rattle.plan_meaning.proofs.{Valid.built_is_valid, WholePlan.whole_plan, WholePlan.is_plan}
 use Rattle.base_lemmas.proofs.Numbers.{utf8-a, utf8-b, utf8-constructor, utf8-f, utf8-h, utf8-i, utf8-j, utf8-k, utf8-method, utf8-p, utf8-pkg, utf8-r, utf8-s, utf8-self, utf8-t, utf8-w, utf8-x}
 use Rattle.wit_model.specs.declared.model.TypeDefKind.TheVariants as kind
 use Rattle.wit_model.specs.declared.model.TypeOwner.TheVariants as owner
@@ -139,6 +139,3 @@ module _ (alloc : Global) (hasher : BuildHasherDefault FoldHasher) where
 
   is_valid : IsValid whole
   is_valid = built_is_valid whole_plan whole is_plan is_built
-
-  is_meant : (m : PackageMeaning) → Meant whole 1 m ↔ (plan_meaning whole_plan ≡ Some m)
-  is_meant = package_means whole_plan whole is_package_plan is_built

@@ -1,15 +1,13 @@
 -- A worked example: the plan of two packages, with uses across them. It has a resource, an inline interface, a type of a world, an
 -- interface under a label, an external id, and an interface of the other package that no world shows.
-use Rattle.std.proofs.Common.{rules as std_rules, ◌≡◌, refl, sym, ap, ℕ, zero, suc, Bool, true, false, List, [], ◌∷◌, Option, Some, None, subst}
-use Rattle.std.proofs.lemmas.Option.{same_Some as same-some}
-use Rattle.std.specs.{Prelude.codes, List.list_any, FinMap.from_entries}
+use Rattle.std.proofs.Common.{rules as std_rules, ◌≡◌, refl, ℕ, zero, suc, true, false, List, [], ◌∷◌, Option, Some, None}
+use Rattle.std.specs.{Prelude.codes, List.list_any}
 use Rattle.wit_model.specs.declared.model.{TypeOwner.TypeOwner, FunctionKind.FunctionKind}
-use Rattle.wit_model.specs.{Text.Text, Meaning.FunctionMeaning, Meaning.TypeMeaning, Meaning.Item}
-use Rattle.wit_model.specs.Tree.{Tree, Primitive, Place, Form, list_tree, own_tree, borrow_tree, result_tree}
+use Rattle.wit_model.specs.{Text.Text, Meaning.TypeMeaning}
+use Rattle.wit_model.specs.Tree.{Tree, Place, Form}
 use Rattle.plan_meaning.specs.Shapes.{part_tree}
 use Rattle.plan_meaning.specs.Plan.{Plan, PlannedKind, resource, alias, formed, PlannedType, PlannedFunction, PlannedInterface, interface, function, declares, label, path_of, PlannedWorld, met_in, resource_marks, trees_in, interface_in}
-use Rattle.plan_meaning.specs.{PlanMeaning.plan_meaning, PlanRules.IsPlan, PlanRules.IsPackagePlan, PlanRules.IsWanted, PlanRules.shown, PlanRules.used}
-use Rattle.plan_meaning.proofs.Lists.{no_true}
+use Rattle.plan_meaning.specs.{PlanRules.IsPlan, PlanRules.IsPackagePlan, PlanRules.IsWanted, PlanRules.shown, PlanRules.used}
 use Rattle.wit_model.specs.declared.model.TypeOwner.TheVariants as owner
 use Rattle.wit_model.specs.declared.model.FunctionKind.TheVariants as call
 use Rattle.wit_model.specs.Tree as tree
@@ -94,10 +92,7 @@ is_plan = search std_rules
 
 -- interface i is of the package itself
 own_interface : (i : PlannedInterface) → interface_in whole_plan 2 ≡ Some i → rules.is_foreign whole_plan i ≡ true → ⊥
-own_interface i e h =
-    let same = same-some _ i e in
-    let wrong : false ≡ true = subst (λ (x : PlannedInterface). rules.is_foreign whole_plan x ≡ true) (sym same) h in
-    no_true wrong
+own_interface i e h = search std_rules
 
 wanted : (n : ℕ) (i : PlannedInterface) → interface_in whole_plan n ≡ Some i → rules.is_foreign whole_plan i ≡ true → IsWanted whole_plan n
 wanted (suc zero) i e h = used 2 refl
@@ -107,10 +102,7 @@ wanted _ i e h = shown 0 planned_world refl refl
 
 bare : (n : ℕ) (i : PlannedInterface) → interface_in whole_plan n ≡ Some i → rules.is_foreign whole_plan i ≡ true → list_any (λ w. rules.is_shown_in w n) (planned_world ∷ []) ≡ false
     → i.functions ≡ []
-bare (suc zero) i e h hidden = ap (λ (x : PlannedInterface). x.functions) (sym (same-some _ i e))
-bare (suc (suc zero)) i e h hidden = absurd (own_interface i e h)
-bare (suc (suc (suc (suc (suc n))))) i e h hidden = absurd (let wrong : ⊥ = cc in wrong)
-bare _ i e h hidden = no_true (sym hidden)
+bare y i e h hidden = search std_rules
 
 -- It is the plan of a package.
 pub is_package_plan : IsPackagePlan whole_plan
@@ -124,51 +116,5 @@ tree-jt = Tree.named (Place.of_interface (codes "s:r/j")) (codes "t")
 tree-r : Tree
 tree-r = Tree.named (Place.of_interface (codes "a:b/s")) (codes "r")
 
-meant_plain : Bool → List ℕ × Tree → Option Tree → FunctionMeaning
-meant_plain is_async param result = record { signature = record { is_async = is_async; params = param ∷ []; result = result }; external_id = None }
-
 alias-of : Tree → Option (List ℕ) → List (List ℕ × TypeMeaning)
 alias-of t id = (codes "t", record { declaration = tree.type_ t; external_id = id }) ∷ []
-
-whole_means : plan_meaning whole_plan ≡ Some (record {
-  identity = record { namespace = codes "a"; name = codes "b"; version = None };
-  interfaces = (
-    codes "i",
-    record {
-      types = alias-of (Tree.named (Place.of_interface (codes "s:r/k")) (codes "t")) None;
-      functions = from_entries ((codes "f", meant_plain false (codes "x", list_tree (Tree.named (Place.of_interface (codes "a:b/i")) (codes "t"))) None) ∷ []);
-    },
-  )
-      ∷ (
-        codes "s",
-        record {
-          types = (codes "r", record { declaration = tree.resource; external_id = None }) ∷ (codes "h", record { declaration = tree.type_ (own_tree tree-r); external_id = None }) ∷ [];
-          functions = from_entries (
-              (codes "[constructor]r", meant_plain false (codes "x", Tree.primitive Primitive.u8) (Some (result_tree (Some (own_tree tree-r)) None)))
-              ∷ (codes "[method]r.m", meant_plain true (codes "self", borrow_tree tree-r) None) ∷ []);
-        },
-      ) ∷ [];
-  worlds = (
-    codes "w",
-    record {
-      imports = (codes "p", record { item = Item.interface (codes "s:r/j"); external_id = None })
-          ∷ (codes "t", record { item = Item.declares (tree.type_ tree-jt); external_id = None })
-          ∷ (codes "f", record { item = Item.function (meant_plain false (codes "x", Tree.named Place.here (codes "t")) None).signature; external_id = None }) ∷ [];
-      exports = (
-        codes "h",
-        record {
-          item = Item.inline (record { types = alias-of tree-jt None; functions = from_entries ((codes "f", meant_plain true (codes "x", Tree.named Place.here (codes "t")) None) ∷ []) });
-          external_id = None;
-        },
-      )
-          ∷ (codes "t", record { item = Item.function (meant_plain false (codes "x", Tree.named Place.here (codes "t")) None).signature; external_id = None })
-          ∷ (codes "x", record { item = Item.interface (codes "a:b/s"); external_id = None })
-          ∷ (codes "a:b/s", record { item = Item.interface (codes "a:b/s"); external_id = None }) ∷ [];
-    },
-  ) ∷ [];
-  foreign = from_entries (
-      (codes "s:r/j", record { types = alias-of (Tree.primitive Primitive.u32) (Some (codes "pkg")); functions = from_entries ((codes "f", meant_plain false (codes "x", tree-jt) None) ∷ []) })
-      ∷ (codes "s:r/k", record { types = alias-of tree-jt None; functions = from_entries [] }) ∷ []);
-})
-unfolding plan_meaning trees_in part_tree tree-jt tree-r meant_plain alias-of
-whole_means = refl

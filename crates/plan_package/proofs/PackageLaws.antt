@@ -11,7 +11,7 @@ use Rattle.read_exports.specs.declared.members.Member.{Member}
 use Rattle.plan_build.specs.declared.plan.PlannedPackage.{PlannedPackage as CodePackage}
 use Rattle.plan_build.specs.PlanOf.{stated_package}
 use Rattle.plan_meaning.specs.Plan.{PlannedPackage}
-use Rattle.base_lemmas.proofs.Lists.{append_none, front_or_end, none_there}
+use Rattle.base_lemmas.proofs.Lists.{append_none, front_or_end}
 
 below_none : (k : ℕ) → k < 0 → ⊥
 below_none k h = omega (arith, h)
@@ -99,9 +99,6 @@ main_planned packages main places ms es n (Ok k) identity own at is = the_main i
 main_planned packages main places ms es n (Err e) identity own at is = tt
 
 module _ (packages : List PackageIdentity) (main : ℕ) (places : List ℕ) (ms : List Member) (listed : ℕ → List (Text × ℕ)) where
-  pub none_planned : (old : List CodePackage) → old ≡ [] → ArePlanned packages main places ms listed 0 (map stated_package old)
-  none_planned old none = subst (λ (l : List CodePackage). ArePlanned packages main places ms listed 0 (map stated_package l)) (sym none)
-      (record { many = refl; each = λ n k e. absurd (none_there n k e) })
 
   pub one_planned : (count : ℕ) (old new : List CodePackage) (y : CodePackage) → new ≡ old ++ y ∷ [] → PlansPackage packages main places ms (listed count) count (stated_package y)
       → ArePlanned packages main places ms listed count (map stated_package old)

@@ -21,15 +21,8 @@ module _ {A B : Type 0} (E : B → B → Bool) (g : A → B) (xs ys : List A) (i
         sym (ap (λ us. pointwise E (map g us) (map g (get_or ys i e ∷ drop (i + 1) ys))) (drop_more xs i d more))
         ∙ (sym (ap (λ bs. pointwise E (map g (drop i xs)) (map g bs)) (drop_more ys i e more_too)) ∙ kept)
 
-    pub pair_differs : E (g (get_or xs i d)) (g (get_or ys i e)) ≡ false → false ≡ v
-    pair_differs differs = sym (ap (λ b. b && pointwise E (map g (drop (i + 1) xs)) (map g (drop (i + 1) ys))) differs) ∙ here
-
     pub pair_same : E (g (get_or xs i d)) (g (get_or ys i e)) ≡ true → pointwise E (map g (drop (i + 1) xs)) (map g (drop (i + 1) ys)) ≡ v
     pair_same same = sym (ap (λ b. b && pointwise E (map g (drop (i + 1) xs)) (map g (drop (i + 1) ys))) same) ∙ here
-
-  pub pairs_end : length xs ≤ i → length ys ≤ i → true ≡ v
-  pairs_end past past_too =
-      sym (ap (λ us. pointwise E (map g us) (map g [])) (drop_of_length-le xs past)) ∙ (sym (ap (λ bs. pointwise E (map g (drop i xs)) (map g bs)) (drop_of_length-le ys past_too)) ∙ kept)
 
 -- ---- functions that are told
 

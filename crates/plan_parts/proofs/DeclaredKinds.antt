@@ -2,7 +2,6 @@
 use Rattle.std.proofs.Common.{◌≡◌, refl, sym, ap, subst, ◌∙◌, ℕ, ◌+◌, ◌-◌, arith, Bool, true, false, not, ◌==◌, nat_lt, if◌then◌else◌, List, [], ◌∷◌, length, Option, Some, None, option_and_then, slice_get}
 use Rattle.std.proofs.lemmas.Bool.{ltb-false}
 use Rattle.std.specs.{List.AllZip, Option.option_map_or}
-use Rattle.wit_model.specs.Tree.{Form}
 use Rattle.plan_meaning.proofs.ShapeLaws.{form_back}
 use Rattle.plan_meaning.specs.GatheredPlan.{Becomes, DeclaresKind, a_resource as declares_resource, a_name as declares_name, a_form as declares_form}
 use Rattle.plan_meaning.specs.{NumberedRules.shape_at, Plan.Plan, Plan.PlannedKind, Plan.formed as formed_kind, Renumbering.IsPart}

@@ -1,6 +1,6 @@
 -- Views that are each compared with the first of their place.
 use Rattle.std.proofs.Common.{◌≡◌, refl, sym, ap, subst, ◌∙◌, ℕ, zero, suc, ◌+◌, ◌<◌, arith, Bool, true, false, not, ◌&&◌, ◌||◌, ◌==◌, cond, List, [], ◌∷◌, ◌++◌, map, take, length, get_or, Option, Some, None, Result, Ok, Err, IfOk, eq-eqb, append_assoc, ◌≤◌}
-use Rattle.std.proofs.lemmas.{List.map-append, List.take_more, Bool.and_from as both}
+use Rattle.std.proofs.lemmas.{List.take_more, Bool.and_from as both}
 use Rattle.std.specs.{Cmp.Lexicographic.pointwise, List.AllByRecursion, List.find, List.list_all, List.list_any, Option.option_map_or}
 use Rattle.wit_model.specs.Text.{Text, text_eq}
 use Rattle.comp_meaning.specs.Same.{stand_in}
@@ -17,15 +17,6 @@ each_at P (x ∷ xs) zero d h all = all.0
 each_at P (x ∷ xs) (suc i) d h all = each_at P xs i d (omega (arith, h)) all.1
 
 -- ---- places
-
-pub sighted_more : (xs : List Sight) (i : ℕ) (d : Sight) (old new : List Sighted) (y : Sighted) → i < length xs → new ≡ old ++ y ∷ [] → sighted y ≡ in_numbers (numbered_sight (get_or xs i d))
-    → map sighted old ≡ map in_numbers (map numbered_sight (take i xs)) → map sighted new ≡ map in_numbers (map numbered_sight (take (i + 1) xs))
-sighted_more xs i d old new y within added is before =
-    let x = get_or xs i d in
-    ap (map sighted) added ∙ (map-append sighted old (y ∷ [])
-    ∙ (ap (λ l. l ++ sighted y ∷ []) before ∙ (ap (λ s. map in_numbers (map numbered_sight (take i xs)) ++ s ∷ []) is
-    ∙ (sym (map-append in_numbers (map numbered_sight (take i xs)) (numbered_sight x ∷ []))
-    ∙ (ap (map in_numbers) (sym (map-append numbered_sight (take i xs) (x ∷ []))) ∙ ap (λ l. map in_numbers (map numbered_sight l)) (sym (take_more xs i d within)))))))
 
 -- ---- what is the same as itself
 

@@ -1,7 +1,7 @@
 -- Forms of what was followed are as definitions have them.
 use Rattle.std.proofs.Common.{◌≡◌, refl, sym, ap, subst, ◌∙◌, ℕ, Bool, true, false, ◌&&◌, ◌==◌, List, [], ◌∷◌, map, length, Option, Some, None, option_map, slice_get, unwrap_or}
 use Rattle.std.proofs.lemmas.{Bool.lt-ltb, Bool.and_from as both, List.Elements.Contains-append_left, List.Elements.Contains-append_right}
-use Rattle.std.proofs.{ByRecursion.All-map as all_mapped, ByRecursion.All-weaker as recursion_weaker, lemmas.Option.slice_get-map as get_of_map}
+use Rattle.std.proofs.{ByRecursion.All-map as all_mapped, lemmas.Option.slice_get-map as get_of_map}
 use Rattle.std.specs.{Prelude.nat_le, Prelude.nat_lt, List.AllByRecursion, List.AllZip, List.Contains, List.flat_map, Option.option_map_or}
 use Rattle.wit_model.specs.{Text.Text, Types.no_tree}
 use Rattle.wit_model.specs.{Tree.Declaration, Tree.Form, Tree.Place, Tree.Tree, Meaning.FunctionMeaning, Names.PackageIdentity, Names.path_in, Rules.has_items}

@@ -11,10 +11,10 @@ use Rattle.comp_meaning.specs.Follow.{place_of}
 use Rattle.read_shown.specs.{Kinds.OfKind, Kinds.kind_at, Trees.DeclarationStands, Trees.PartsStand, Trees.SignatureStands, Trees.TreeStands, Trees.is_handle}
 use Rattle.plan_meaning.proofs.{Lists.no_true, ShapeLaws.PartView, ShapeLaws.is_name, ShapeLaws.is_node, ShapeLaws.is_primitive}
 use Rattle.plan_meaning.proofs.NumberedRules.{no_shape, shape_there}
-use Rattle.plan_meaning.specs.FollowedNumbers.{IsCalledIn, IsMetFrom, IsShownIn, IsSlotOf}
+use Rattle.plan_meaning.specs.FollowedNumbers.{IsCalledIn, IsMetFrom, IsShownIn}
 use Rattle.plan_meaning.specs.{KeptResources.FormIsMarked, Shapes.named_shape, Shapes.node_shape, PlanRules.is_handle_form, NumberedMembers.NumberedMember}
 use Rattle.plan_meaning.specs.{NumberedRules.name_at, NumberedRules.name_in, NumberedWorlds.HasPath, NumberedWorlds.are_once, NumberedWorlds.place_of_key}
-use Rattle.plan_meaning.specs.NumberedViews.{AllOf, AreTables, HasNameIn, IsPart, NumberedFunction, NumberedSlot, NumberedType, NumberedView, PartsOf, Tables, declaration_of, function_at, inside, itself, place_at, resource, signature_at, tree_at, value, path_at}
+use Rattle.plan_meaning.specs.NumberedViews.{AllOf, AreTables, HasNameIn, IsPart, NumberedFunction, NumberedType, NumberedView, PartsOf, Tables, declaration_of, function_at, inside, itself, place_at, signature_at, tree_at, path_at}
 use Rattle.plan_parts.specs.Interfaces.{slot_part}
 use Rattle.plan_types.specs.Showings.{NumberedShowing, showing_of, showings_of_view, signatures_of_view, showings_of_import, showings_of_members, showings_of_part, showings_of_seen, showings_of_shown, signatures_of_members, signatures_of_part, signatures_of_seen, signatures_of_shown}
 use Rattle.plan_type_laws.specs.ShownForms.{EachForm, HasNumberIn}

@@ -15,12 +15,12 @@ use Rattle.plan_meaning.proofs.NumberedRules.{shape_there}
 use Rattle.plan_meaning.specs.{GatheredPlan.DeclaresKind, Shapes.Shape, Shapes.first_label, Shapes.named_shape, Shapes.node_shape}
 use Rattle.plan_meaning.specs.KeptTypes.{IsKeptForm, alone, of_name}
 use Rattle.plan_meaning.specs.{NumberedRules.is_form, NumberedRules.name_at, NumberedRules.name_in, NumberedRules.shape_at, Plan.Plan, Plan.PlannedType}
-use Rattle.plan_meaning.specs.NumberedViews.{AllOf, AreTables, FunctionShape, PartsOf, Tables, function_at, IsPart, NumberedFunction, NumberedSlot, NumberedType, NumberedView, declaration_of, path_at, path_text, place_at, resource, shown_function, shown_type, signature_at, value, view_of}
-use Rattle.plan_meaning.specs.FollowedNumbers.{AreMembersIn, IsCalledIn, IsMetFrom, IsPartIn, IsScopeIn, IsSeenIn, IsShownIn, IsSlotOf, IsViewIn}
+use Rattle.plan_meaning.specs.NumberedViews.{AllOf, AreTables, FunctionShape, PartsOf, Tables, function_at, IsPart, NumberedFunction, NumberedType, NumberedView, declaration_of, path_at, path_text, place_at, shown_function, shown_type, signature_at, view_of}
+use Rattle.plan_meaning.specs.FollowedNumbers.{AreMembersIn, IsCalledIn, IsMetFrom, IsPartIn, IsScopeIn, IsSeenIn, IsShownIn, IsViewIn}
 use Rattle.plan_meaning.specs.NumberedMembers.{Homes, HomesStand, IsMember, ShowsPart}
 use Rattle.plan_meaning.specs.NumberedWorlds.{HasPath, Shows, key_of, place_of_key, seen_of, shown_of}
 use Rattle.plan_parts.proofs.DeclaredKinds.{kinds_declared}
-use Rattle.plan_parts.specs.{Kept.AreMarked, Marks.is_marked, Interfaces.slot_part}
+use Rattle.plan_parts.specs.{Kept.AreMarked, Marks.is_marked}
 use Rattle.plan_types.specs.PlannedTypes.{PlansType, named as named_type, unnamed}
 use Rattle.plan_types.specs.Showings.{NumberedShowing, showing_of, showings_of_import, showings_of_members, showings_of_part, showings_of_seen, showings_of_shown, showings_of_view, signatures_of_members, signatures_of_part, signatures_of_seen, signatures_of_shown, signatures_of_view}
 use Rattle.plan_types.specs.Used.{declared_parts, form_parts, function_parts, showing_parts, signature_parts, used_parts, AreUsed}

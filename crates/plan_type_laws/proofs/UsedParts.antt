@@ -1,13 +1,13 @@
 -- Types that are used, where what is shown obeys the rules.
-use Rattle.plan_meaning.proofs.{NumberedRules.shape_there, NumberedRules.no_shape, Words.behind as part_number_of}
+use Rattle.plan_meaning.proofs.{NumberedRules.shape_there, NumberedRules.no_shape}
 use Rattle.plan_meaning.proofs.ShapeLaws.{PartView, is_name, is_node, is_primitive, viewed}
-use Rattle.std.proofs.Common.{◌≡◌, refl, sym, ap, subst, ◌∙◌, ℕ, ◌+◌, ◌-◌, ◌<◌, ◌≤◌, arith, Bool, true, false, not, ◌&&◌, ◌||◌, ◌==◌, nat_le, if◌then◌else◌, List, [], ◌∷◌, map, Option, Some, None, option_and_then, option_map, option_to_list, slice_get}
-use Rattle.std.proofs.lemmas.{Bool.eqb-true, Bool.le-leb, Bool.leb-true, Bool.lt-ltb, Option.slice_get_within, Option.same_Some as same-some}
+use Rattle.std.proofs.Common.{◌≡◌, refl, sym, ap, subst, ◌∙◌, ℕ, ◌+◌, ◌-◌, ◌<◌, ◌≤◌, arith, Bool, true, false, not, ◌&&◌, ◌==◌, nat_le, if◌then◌else◌, List, [], ◌∷◌, map, Option, Some, None, option_and_then, option_map, option_to_list, slice_get}
+use Rattle.std.proofs.lemmas.{Bool.le-leb, Bool.leb-true, Option.slice_get_within, Option.same_Some as same-some}
 use Rattle.std.specs.{List.AllByRecursion, List.flat_map, List.list_all, Option.option_map_or}
 use Rattle.wit_model.specs.{Text.Text, Uses.has}
 use Rattle.wit_model.specs.Tree.{Declaration, Form, Place, Tree, children, deepest, levels}
 use Rattle.comp_meaning.specs.Rules.{are_labels, are_parts, form_labels, is_named_form, most_levels}
-use Rattle.plan_meaning.specs.NumberedRules.{is_form, name_at, name_in, shape_at}
+use Rattle.plan_meaning.specs.NumberedRules.{is_form, name_at, name_in}
 use Rattle.plan_meaning.specs.NumberedViews.{AllOf, AreTables, IsPart, Tables, declaration_of, function_at, place_at, signature_at, tree_at}
 use Rattle.plan_meaning.specs.Shapes.{Shape, first_label, named_shape, node_shape, part_tree, shape_trees}
 use Rattle.plan_types.specs.{Showings.NumberedShowing, Used.declared_parts, Used.form_parts, Used.function_parts, Used.showing_parts}

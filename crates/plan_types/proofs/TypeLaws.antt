@@ -14,9 +14,6 @@ use Rattle.plan_types.specs.Showings.{NumberedShowing}
 use Rattle.wit_model.specs.declared.model.TypeOwner.TheVariants as owner
 
 module _ (t : Tables) (kept : List ℕ) (find : ℕ → Option NumberedShowing) (n : ℕ) where
-  pub in_table : MayBePlanned t kept find n → (s : Shape) × (slice_get t.shapes n ≡ Some s)
-  in_table (a_form s at no_name over) = (s, at)
-  in_table (a_name s q name x at is shown may) = (s, at)
 
   module _ (s : Shape) (at : slice_get t.shapes n ≡ Some s) where
     pub over_form : MayBePlanned t kept find n → name_in s ≡ None → IsFormOver kept s

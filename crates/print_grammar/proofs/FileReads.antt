@@ -1,5 +1,5 @@
 -- What is printed of a file is read as it.
-use Rattle.std.proofs.Common.{◌≡◌, refl, sym, ap, ◌∙◌, subst, ℕ, Bool, true, false, List, [], ◌∷◌, ◌++◌, append_assoc, codes, map}
+use Rattle.std.proofs.Common.{rules as std_rules, ◌≡◌, refl, sym, ap, ◌∙◌, subst, ℕ, Bool, true, false, List, [], ◌∷◌, ◌++◌, append_assoc, codes, map}
 use Rattle.std.specs.List.{list_all, flat_map}
 use Rattle.wit_model.specs.Names.{is_label}
 use Rattle.print_grammar.specs.{Keyword.Keyword as WordKey, Keyword.escaped, AsRead.type_as_read, AsRead.bare_item, AsRead.bare_package, AsRead.file_as_read}
@@ -10,7 +10,7 @@ use Rattle.print_grammar.specs.{Tree.ItemTree, Tree.PackageHead, Tree.PackageTre
 use Rattle.print_grammar.specs.Grammar.{ReadsItem, ReadsItems, ReadsHead, ReadsNested, ReadsAllNested, ReadsFile}
 use Rattle.print_grammar.specs.WellNamed.{is_well_gates, is_well_item, is_well_head, is_well_package, is_well_file}
 use Rattle.print_output.specs.{OutputCall.OutputCall, OutputCall.is_one_line, Render.render}
-use Rattle.print_output.specs.OutputCall.OutputCall.{PushStr, IndentIfNeeded, IndentAndPrint, Keyword, Ty, Param, Case, GenericArgsStart, GenericArgsEnd, Doc, Str, Semicolon, IndentStart, IndentEnd, Newline}
+use Rattle.print_output.specs.OutputCall.OutputCall.{Keyword, Ty, Str, Semicolon, IndentStart, IndentEnd, Newline}
 use Rattle.print_grammar.proofs.{GrammarUnique.reading-unique, TextOf.text_of, TextOf.rendered, PrefixReads.docs_read, PrefixReads.gates_read}
 use Rattle.print_grammar.proofs.{TokenFacts.id_token, TokenFacts.id_is, MemberReads.empty_line, MemberReads.members_read, MemberReads.world_members_read}
 use Rattle.print_grammar.proofs.Printing.{Follows, Printed, EndsWord, relist, word_call, id_call, line_begins, indents, semicolon_call, three_lists as four_lists}
@@ -24,8 +24,7 @@ five_lists : (a b c d e : List OutputCall) → (((a ++ b) ++ c) ++ d) ++ e ≡ a
 five_lists a b c d e = simp append_assoc
 
 line_after : (is_main : Bool) {more : List OutputCall} {ts : List Token} → Follows true more ts → Follows true (line_after_calls is_main ++ more) ts
-line_after true f = empty_line f
-line_after false f = f
+line_after x f = search (std_rules, empty_line)
 
 module _ (emits_docs : Bool) where
   -- ---- items
@@ -145,10 +144,7 @@ first_indents (call ∷ calls) = indents call
 
 -- Without indentation it is the same whether a line has just begun.
 first_line : (calls : List OutputCall) → first_indents calls ≡ true → text_of true 0 calls ≡ text_of false 0 calls
-first_line (PushStr text ∷ calls) h = absurd cc
-first_line (IndentStart ∷ calls) h = absurd cc
-first_line (Newline ∷ calls) h = absurd cc
-first_line _ h = refl
+first_line x h = search std_rules
 
 file_begins : (emits_docs : Bool) (file : FileTree) → first_indents (file_calls emits_docs file) ≡ true
 file_begins false file = refl
@@ -174,6 +170,4 @@ file_reads emits_docs file h =
 
 -- It is read as nothing else.
 pub file_reads_only : (emits_docs : Bool) (file : FileTree) → is_well_file file ≡ true → IsOnlyReading (render (file_calls emits_docs file)) (file_as_read file)
-file_reads_only emits_docs file h =
-    let reading = file_reads emits_docs file h in
-    record { reading = reading; only = λ other r. reading-unique (render (file_calls emits_docs file)) (file_as_read file) other reading r }
+file_reads_only emits_docs file h = search (std_rules, file_reads, reading-unique)

@@ -1,14 +1,13 @@
 -- A list of tokens is at most one file, and a text at most one.
-use Rattle.std.proofs.Common.{◌≡◌, List, ℕ, refl, subst, [], ◌∷◌, ap, sym, Bool, true, false}
-use Rattle.print_grammar.specs.{Token.Token, Token.Tokens, Token.Front, Token.Mark, Grammar.ReadsUse.use_names, Grammar.ReadsPath.local, Grammar.ReadsPath.full}
-use Rattle.print_grammar.specs.{Token.Front.Ended, Token.Front.Skipped, Token.Front.Found, Grammar.ReadsSignature.func, Grammar.ReadsSignature.async_func}
+use Rattle.std.proofs.Common.{rules as std_rules, ◌≡◌, List, ℕ, refl, subst, [], ◌∷◌, ap, sym, Bool, true, false}
+use Rattle.print_grammar.specs.{Token.Token, Token.Tokens, Token.Front, Token.Mark, Grammar.ReadsUse.use_names, Grammar.ReadsPath.full}
+use Rattle.print_grammar.specs.{Token.Front.Ended, Token.Front.Skipped, Token.Front.Found, Grammar.ReadsSignature.func}
 use Rattle.print_grammar.specs.Token.{Tokens.no_tokens, Tokens.skip, Tokens.token, Mark.Colon, Mark.Semi, Mark.OpenBrace, Mark.CloseBrace}
 use Rattle.print_grammar.specs.{Keyword.Keyword, Grammar.ReadsFile.file}
 use Rattle.print_grammar.specs.{Token.Token.Punctuation, Token.Token.Key, Grammar.ReadsNested.nested_package, Reading.IsReading, Reading.OneReading}
 use Rattle.print_grammar.specs.Grammar.{ReadsItem.interface_item, ReadsItem.world_item, ReadsHead.head, ReadsAllNested.nested_end, ReadsAllNested.next_nested}
-use Rattle.print_grammar.specs.Tree.{SignatureTree, Gates, PathTree, UsedName, Declared, ExternTree, ItemTree, PackageHead, PackageTree, FileTree}
-use Rattle.print_grammar.specs.Grammar.{IsId, Repeated, ReadsGates, ReadsPath, ReadsUse, ReadsDeclared, ReadsSignature, ReadsMember, ReadsExtern, ReadsWorldMember, ReadsItem, ReadsItems, ReadsHead, ReadsNested, ReadsAllNested, ReadsFile}
-use Rattle.print_grammar.specs.Grammar.ReadsDeclared.{record_, variant, flags, enum, alias, resource, resource_with}
+use Rattle.print_grammar.specs.Tree.{SignatureTree, PathTree, UsedName, Declared, ExternTree, ItemTree, PackageHead, PackageTree, FileTree}
+use Rattle.print_grammar.specs.Grammar.{IsId, Repeated, ReadsPath, ReadsUse, ReadsDeclared, ReadsSignature, ReadsMember, ReadsExtern, ReadsWorldMember, ReadsItem, ReadsItems, ReadsHead, ReadsNested, ReadsAllNested, ReadsFile}
 use Rattle.print_grammar.specs.Grammar.{ReadsMember.member_use, ReadsMember.member_type, ReadsMember.member_function, ReadsItems.no_items, ReadsItems.next_item}
 use Rattle.print_grammar.specs.Grammar.ReadsExtern.{extern_path, extern_function, extern_named_path, extern_interface}
 use Rattle.print_grammar.specs.Grammar.ReadsWorldMember.{world_use, world_type, world_import, world_export}
@@ -60,8 +59,7 @@ use_or_id : {t : Token} {x y : List Token} {p : PathTree} {names : List UsedName
 use_or_id (use_names p m) i = no_id_key i
 
 declared_or_id : {t : Token} {x y : List Token} {d : Declared} {l : List ℕ} → ReadsDeclared (t ∷ x) d y → IsId t l → ⊥
-declared_or_id (record_ j m) i = no_id_key i
-declared_or_id _ i = no_id_key i
+declared_or_id x i = search std_rules
 
 -- ---- interfaces
 
@@ -96,19 +94,15 @@ mark_declared : {mark : Mark} {x y : List Token} {d : Declared} → ReadsDeclare
 mark_declared a = elim a [ ]
 
 member-never : Never ReadsMember (Punctuation CloseBrace)
-member-never _ _ _ (member_use {after = rest} {path = path} {names = names} p a) = mark_use (subst (λ x. ReadsUse x path names rest) (sym (all_prefix p)) a)
-member-never _ _ _ (member_type {after = rest} {declared = d} p a) = mark_declared (subst (λ x. ReadsDeclared x d rest) (sym (all_prefix p)) a)
-member-never _ _ _ (member_function p i a) = no_prefix p (λ e. mark_or_id e i)
+member-never y z u v = search (std_rules, mark_use, all_prefix, mark_declared, no_prefix, mark_or_id)
 
 -- ---- imports and exports
 
 key_path : {keyword : Keyword} {x y : List Token} {p : PathTree} → ReadsPath (Key keyword ∷ x) p y → ⊥
-key_path (local i) = no_id_key i
-key_path (full i j k v) = no_id_key i
+key_path x = search std_rules
 
 path_or_signature : {x y z : List Token} {p : PathTree} {s : SignatureTree} → ReadsPath x p y → ReadsSignature x s z → ⊥
-path_or_signature p (func a r) = key_path p
-path_or_signature p (async_func a r) = key_path p
+path_or_signature p x = search (std_rules, key_path)
 
 -- a path with a colon isn't a name and a colon before a signature, a path or an interface
 colon_signature : {t : Token} {x y z : List Token} {p : PathTree} {s : SignatureTree} → ReadsPath (t ∷ Punctuation Colon ∷ x) p (Punctuation Semi ∷ y) → ReadsSignature x s z → ⊥
@@ -196,10 +190,7 @@ world_member-unique _ _ _ _ _ (world_export p a) (world_export {after = rest} {e
     let e = h.0 in let f = k.0 in (cc, k.1)
 
 world_member-never : Never ReadsWorldMember (Punctuation CloseBrace)
-world_member-never _ _ _ (world_use {after = rest} {path = path} {names = names} p a) = mark_use (subst (λ x. ReadsUse x path names rest) (sym (all_prefix p)) a)
-world_member-never _ _ _ (world_type {after = rest} {declared = d} p a) = mark_declared (subst (λ x. ReadsDeclared x d rest) (sym (all_prefix p)) a)
-world_member-never _ _ _ (world_import p a) = no_prefix p (λ e. cc e)
-world_member-never _ _ _ (world_export p a) = no_prefix p (λ e. cc e)
+world_member-never y z u v = search (std_rules, mark_use, all_prefix, mark_declared, no_prefix)
 
 -- ---- items
 
@@ -218,29 +209,8 @@ item-unique _ _ _ _ _ (world_item {label = k} g i l) (world_item {after = rest} 
     let n = repeated-unique world_member-unique world_member-never l (subst (λ x. Repeated ReadsWorldMember (Punctuation CloseBrace) x ms rest) (sym (tail_same (tail_same (tail_same e.1)))) m) in
     let f = e.0 in let id = id-unique (subst (λ x. IsId x k) (head_same (tail_same e.1)) i) j in let o = n.0 in (cc, n.1)
 
-gates_at_brace : {k : Keyword} {x y : List Token} {g : Gates} → ReadsGates (Punctuation CloseBrace ∷ x) g (Key k ∷ y) → ⊥
-gates_at_brace g = elim g [ ]
-
-gates_at_end : {k : Keyword} {y : List Token} {g : Gates} → ReadsGates [] g (Key k ∷ y) → ⊥
-gates_at_end g = elim g [ ]
-
-interface_after_package : {x y : List Token} {g : Gates} → ReadsGates (Key Keyword.Package ∷ x) g (Key Keyword.Interface ∷ y) → ⊥
-interface_after_package g = elim g [ ]
-
-world_after_package : {x y : List Token} {g : Gates} → ReadsGates (Key Keyword.Package ∷ x) g (Key Keyword.World ∷ y) → ⊥
-world_after_package g = elim g [ ]
-
 item-never : Never ReadsItem (Punctuation CloseBrace)
-item-never _ _ _ (interface_item g i l) = gates_at_brace g
-item-never _ _ _ (world_item g i l) = gates_at_brace g
-
-no_item_at_end : {i : ItemTree} {x : List Token} → ReadsItem [] i x → ⊥
-no_item_at_end (interface_item g i l) = gates_at_end g
-no_item_at_end (world_item g i l) = gates_at_end g
-
-no_item_at_package : {i : ItemTree} {x y : List Token} → ReadsItem (Key Keyword.Package ∷ x) i y → ⊥
-no_item_at_package (interface_item g i l) = interface_after_package g
-no_item_at_package (world_item g i l) = world_after_package g
+item-never x y z u = search std_rules
 
 -- whether no more items may stand here
 abbrev ends_items : List Token → Bool
@@ -249,9 +219,7 @@ ends_items (Key Keyword.Package ∷ tokens) = true
 ends_items tokens = false
 
 no_item_there : (before : List Token) {i : ItemTree} {x : List Token} → ends_items before ≡ true → ReadsItem before i x → ⊥
-no_item_there [] h a = no_item_at_end a
-no_item_there (Key Keyword.Package ∷ before) h a = no_item_at_package a
-no_item_there _ h a = absurd cc
+no_item_there x h a = search std_rules
 
 -- Items are determined where a nested package or the end follows them.
 items-unique : {before after rest : List Token} {a b : List ItemTree} → ends_items after ≡ true → ends_items rest ≡ true → ReadsItems before a after → ReadsItems before b rest → Same a b after rest

@@ -1,8 +1,8 @@
 -- A list of tokens begins with at most one list, parameter list, result or signature.
-use Rattle.std.proofs.Common.{◌≡◌, List, [], ◌∷◌, ℕ, refl, ap, sym, subst, true, Option, Some}
+use Rattle.std.proofs.Common.{rules as std_rules, ◌≡◌, List, [], ◌∷◌, ℕ, refl, ap, sym, subst, true, Option, Some}
 use Rattle.print_grammar.specs.{Token.Token, Tree.TypeTree, Tree.ParamTree, Tree.SignatureTree, Grammar.ReadsParams.no_params, Grammar.ReadsParams.params}
 use Rattle.print_grammar.specs.{Token.Token.Punctuation, Token.Token.Key, Grammar.Repeated.closed, Grammar.Repeated.again}
-use Rattle.print_grammar.specs.{Token.Mark.Comma, Token.Mark.CloseParen, Token.Mark.CloseBrace, Grammar.ReadsSignature.func, Grammar.ReadsSignature.async_func}
+use Rattle.print_grammar.specs.{Token.Mark.Comma, Token.Mark.CloseParen}
 use Rattle.print_grammar.specs.Grammar.{IsId, Listed, Repeated, ReadsParam, ReadsParams, ReadsResult, ReadsSignature}
 use Rattle.print_grammar.specs.Grammar.{Listed.last, Listed.last_with_comma, Listed.next, ReadsParam.param, ReadsResult.no_result, ReadsResult.with_result}
 use Rattle.print_grammar.proofs.TypeTokens.{id-unique, tail_same, type-unique, stops, no_less}
@@ -27,9 +27,7 @@ abbrev pub Never : {X : Type 0} → (List Token → X → List Token → Type 0)
 Never {X} Reads t = (after : List Token) (x : X) (rest : List Token) → Reads (t ∷ after) x rest → ⊥
 
 never_listed : {X : Type 0} {Reads : List Token → X → List Token → Type 0} {close t : Token} {after rest : List Token} {xs : List X} → Never Reads t → Listed Reads close (t ∷ after) xs rest → ⊥
-never_listed never (last a) = never _ _ _ a
-never_listed never (last_with_comma a) = never _ _ _ a
-never_listed never (next a l) = never _ _ _ a
+never_listed never x = search std_rules
 
 never_at : {X : Type 0} {Reads : List Token → X → List Token → Type 0} {close t : Token} {before after rest : List Token} {xs : List X} → Never Reads t → t ∷ after ≡ before
     → Listed Reads close before xs rest → ⊥
@@ -107,5 +105,4 @@ arguments-unique {rest = rest} {t = t} e f a c b d =
 
 pub signature-unique : {before after rest : List Token} {a b : SignatureTree} → stops after ≡ true → stops rest ≡ true → ReadsSignature before a after → ReadsSignature before b rest
     → Same a b after rest
-signature-unique s t (func a c) (func b d) = let h = arguments-unique s t a c b d in let e = h.0 in let f = h.1 in (cc, h.2)
-signature-unique s t (async_func a c) (async_func b d) = let h = arguments-unique s t a c b d in let e = h.0 in let f = h.1 in (cc, h.2)
+signature-unique s t x y = search (std_rules, arguments-unique)

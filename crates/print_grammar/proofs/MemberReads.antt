@@ -1,5 +1,5 @@
 -- What is printed of what interfaces and worlds have is read as it.
-use Rattle.std.proofs.Common.{◌≡◌, refl, ap, subst, ℕ, Bool, true, false, ◌&&◌, not, List, [], ◌∷◌, ◌++◌, append_assoc, codes, Some, map}
+use Rattle.std.proofs.Common.{rules as std_rules, ◌≡◌, refl, ap, subst, ℕ, Bool, true, false, ◌&&◌, not, List, [], ◌∷◌, ◌++◌, append_assoc, codes, Some, map}
 use Rattle.std.specs.List.{list_all}
 use Rattle.wit_model.specs.Names.{is_label, begins_with_letter}
 use Rattle.print_grammar.specs.{Keyword.Keyword as WordKey, Keyword.escaped, Token.Token, Token.spelled}
@@ -27,8 +27,7 @@ empty_line f = record { at = λ level. line_feed (f.at level) }
 
 -- an empty line before an item is no token
 pub item_reads : (printed : Bool) (calls more : List OutputCall) {P : List Token → Type 0} → Printed true (calls ++ more) P → Printed true (item_calls printed calls ++ more) P
-item_reads true calls more p = (p.0, empty_line p.1, p.2)
-item_reads false calls more p = p
+item_reads x calls more p = search (std_rules, empty_line)
 
 module _ (emits_docs : Bool) where
   -- what stands in front, and what follows it

@@ -1,5 +1,5 @@
 -- What is printed of a path and of a use is read as it.
-use Rattle.std.proofs.Common.{◌≡◌, refl, ap, subst, ℕ, true, false, nat_lt, length, List, [], ◌∷◌, ◌++◌, codes, Option, Some, None, map}
+use Rattle.std.proofs.Common.{rules as std_rules, ◌≡◌, refl, ap, subst, ℕ, true, false, nat_lt, length, List, [], ◌∷◌, ◌++◌, codes, Option, Some, None, map}
 use Rattle.wit_model.specs.{Names.is_label, Names.is_version_text, Rules.passes}
 use Rattle.print_grammar.specs.{Keyword.escaped, Token.Token, WellNamed.is_well_path, WellNamed.is_well_used, WellNamed.is_well_use, WellNamed.are_well_some}
 use Rattle.print_grammar.specs.{Keyword.Keyword.As, Keyword.Keyword.Use, Token.Token.Punctuation, Token.Token.Key, Token.Token.VersionText}
@@ -29,8 +29,7 @@ version_reads (Some version) of_kind h {more} {ts} f ends =
     (Punctuation At ∷ VersionText version ∷ ts, record { at = λ level. at_sign (version_at version (text_of false level more) h (ends level) (f.at level)) }, ReadsVersion.with_version)
 
 pub version_ends_word : (version : Option (List ℕ)) (of_kind : TypeKind) (more : List OutputCall) → EndsWord more → EndsWord (version_calls version of_kind ++ more)
-version_ends_word None of_kind more ends = ends
-version_ends_word (Some version) of_kind more ends = λ level. refl
+version_ends_word x of_kind more ends = search std_rules
 
 -- an id, a colon and more
 pub colon_id_call : (label : List ℕ) (of_kind : TypeKind) {more : List OutputCall} {ts : List Token} → is_label label ≡ true → Follows false more ts

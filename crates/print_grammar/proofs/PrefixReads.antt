@@ -1,9 +1,9 @@
 -- What is printed in front of an item is read as it: documentation, gates.
-use Rattle.std.proofs.Common.{◌≡◌, refl, sym, ap, ◌∙◌, subst, ℕ, ◌+◌, ◌*◌, ◌/◌, ◌%◌, ◌^◌, ◌<◌, true, false, ◌&&◌, ◌==◌, List, [], ◌∷◌, ◌++◌, append-nil, append_assoc, Option, Some, None, inl, inr, arith, zero, suc, ◌≤◌, nat_le}
-use Rattle.std.specs.{List.list_all, List.flat_map, Option.option_map, Char.is_ascii_digit, Fmt.digits, Fmt.digits_onto, Fmt.digit_glyph}
+use Rattle.std.proofs.Common.{rules as std_rules, ◌≡◌, refl, sym, ap, ◌∙◌, subst, ℕ, ◌+◌, ◌*◌, ◌/◌, ◌%◌, ◌^◌, ◌<◌, true, false, ◌==◌, List, [], ◌∷◌, ◌++◌, append-nil, append_assoc, Option, Some, None, inl, inr, arith, zero, suc}
+use Rattle.std.specs.{List.list_all, List.flat_map, Option.option_map, Fmt.digits, Fmt.digits_onto, Fmt.digit_glyph}
 use lib.Utf8.{scalar}
-use Rattle.std.proofs.lemmas.Bool.{cases_Bool, cases_lt, eqb-true, eq-eqb, lt-ltb, le-ltb, false_from_ne_true as refuted}
-use Rattle.std.proofs.{Math.Nat.pow-suc, Math.Utf8.scalar_fits, lemmas.Bool.Decides.nat_tests, Common.Bool, Common.not, Common.codes, Common.map}
+use Rattle.std.proofs.lemmas.Bool.{cases_Bool, eqb-true, eq-eqb, false_from_ne_true as refuted}
+use Rattle.std.proofs.{Math.Nat.pow-suc, Math.Utf8.scalar_fits, Common.Bool, Common.not, Common.codes, Common.map}
 use Rattle.print_grammar.specs.Calls.{is_plain, escaped_character, prefix_calls, external_id_calls, character_call, doc_calls, gates_calls, deprecated_calls}
 use Rattle.print_grammar.specs.Token.{Token, Tokens, spelled, StringState, string_step, string_characters, hexadecimal, after_comment}
 use Rattle.print_grammar.specs.Token.{StringState.Between, StringState.AfterBrace, StringState.InCode, StringStep.Goes, StringStep.Reads, Front.Skipped}
@@ -39,46 +39,17 @@ plain_step c h = rw (plain_other c 34 refl h, plain_other c 92 refl h, h) refl
 
 -- ---- codes
 
-small_glyph : (d : ℕ) → d < 10 → digit_glyph false d ≡ 48 + d
-small_glyph d h = rw (lt-ltb d 10 h) refl
-
-large_glyph : (d : ℕ) → 10 ≤ d → digit_glyph false d ≡ 87 + d
-large_glyph d h = rw (le-ltb d 10 h) refl
-
-small_value : (d : ℕ) → d < 10 → hexadecimal (48 + d) ≡ Some d
-small_value d h =
-    let e : is_ascii_digit (48 + d) ≡ true = grind (arith, nat_tests) in
-    rw e (ap (λ n. Some n) (omega arith))
-
-large_value : (d : ℕ) → 10 ≤ d → d < 16 → hexadecimal (87 + d) ≡ Some d
-large_value d g h =
-    let e : is_ascii_digit (87 + d) ≡ false = grind (arith, nat_tests) in
-    let f : (nat_le 97 (87 + d) && nat_le (87 + d) 102) ≡ true = grind (arith, nat_tests) in
-    rw (e, f) (ap (λ n. Some n) (omega arith))
-
 glyph_value : (d : ℕ) → d < 16 → hexadecimal (digit_glyph false d) ≡ Some d
-glyph_value d h = elim (cases_lt d 10) [
-  | inl small ↦ ap hexadecimal (small_glyph d small) ∙ small_value d small
-  | inr large ↦ ap hexadecimal (large_glyph d large) ∙ large_value d large h
-]
+glyph_value d h = search std_rules
 
 glyph_no_end : (d : ℕ) → d < 16 → (digit_glyph false d == 125) ≡ false
-glyph_no_end d h = elim (cases_lt d 10) [
-  | inl small ↦ ap (λ c. c == 125) (small_glyph d small) ∙ grind (arith, nat_tests)
-  | inr large ↦ ap (λ c. c == 125) (large_glyph d large) ∙ grind (arith, nat_tests)
-]
-
-first_digit : (d : ℕ) → d < 16 → string_step AfterBrace (digit_glyph false d) ≡ Goes (InCode d)
-first_digit d h = rw (glyph_value d h) (ap (λ n. Goes (InCode n)) (omega arith))
+glyph_no_end d h = search std_rules
 
 next_digit : (front d : ℕ) → d < 16 → string_step (InCode front) (digit_glyph false d) ≡ Goes (InCode (16 * front + d))
 next_digit front d h = rw (glyph_no_end d h, glyph_value d h) refl
 
 last_digit : (k n : ℕ) (rest : List ℕ) → n / 16 ≡ 0 → (n / 16 == 0) ≡ true → string_characters AfterBrace (digits_onto (suc k) 16 false n rest) ≡ string_characters (InCode n) rest
-last_digit k n rest z low =
-    let small : n % 16 < 16 = omega arith in
-    let same : n % 16 ≡ n = omega arith in
-    rw low (goes_step AfterBrace (digit_glyph false (n % 16)) rest (InCode (n % 16)) (first_digit (n % 16) small) ∙ ap (λ m. string_characters (InCode m) rest) same)
+last_digit k n rest z low = search std_rules
 
 -- the digits of a code, and what follows them
 code_reads : (k n : ℕ) (rest : List ℕ) → n < 16 ^ suc k → string_characters AfterBrace (digits_onto (suc k) 16 false n rest) ≡ string_characters (InCode n) rest
@@ -124,33 +95,13 @@ special : (c d : ℕ) (rest : List ℕ) → (c == d) ≡ true → ReadsBack d re
 special c d rest e h = subst (λ x. ReadsBack x rest) (sym (eqb-true c d e)) h
 
 pub character_reads : (c : ℕ) (rest : List ℕ) → scalar c ≡ true → ReadsBack c rest
-character_reads c rest h = elim (cases_Bool (is_plain c)) [
-  | inl plain ↦ rw plain (reads_step Between c rest c (plain_step c plain))
-  | inr other ↦ elim (cases_Bool (c == 92)) [
-    | inl e ↦ special c 92 rest e refl
-    | inr a ↦ elim (cases_Bool (c == 34)) [
-      | inl e ↦ special c 34 rest e refl
-      | inr b ↦ elim (cases_Bool (c == 10)) [
-        | inl e ↦ special c 10 rest e refl
-        | inr d ↦ elim (cases_Bool (c == 13)) [
-          | inl e ↦ special c 13 rest e refl
-          | inr f ↦ elim (cases_Bool (c == 9)) [
-            | inl e ↦ special c 9 rest e refl
-            | inr g ↦ rw (other, a, b, d, f, g) (ap (string_characters AfterBrace) (append_assoc (digits 16 false c) (125 ∷ []) rest) ∙ character_code c rest h)
-          ]
-        ]
-      ]
-    ]
-  ]
-]
+character_reads c rest h = search (std_rules, cases_Bool, reads_step, plain_step, special, append_assoc, character_code)
 
 both_maps : (c : ℕ) (cs : List ℕ) (o : Option (List ℕ)) → option_map (λ xs. c ∷ xs) (option_map (λ xs. cs ++ xs) o) ≡ option_map (λ xs. c ∷ cs ++ xs) o
-both_maps c cs None = refl
-both_maps c cs (Some x) = refl
+both_maps c cs x = search std_rules
 
 no_map : (o : Option (List ℕ)) → o ≡ option_map (λ xs. [] ++ xs) o
-no_map None = refl
-no_map (Some x) = refl
+no_map x = search std_rules
 
 pub characters_read : (cs rest : List ℕ) → list_all scalar cs ≡ true → string_characters Between (flat_map escaped_character cs ++ rest) ≡ option_map (λ xs. cs ++ xs) (string_characters Between rest)
 characters_read [] rest h = no_map (string_characters Between rest)
@@ -173,9 +124,7 @@ three_parts : (xs : List ℕ) (d : ℕ) (more : List ℕ) → ((xs ++ (34 ∷ []
 three_parts xs d more = simp append_assoc
 
 quoted_ends : (cs text : List ℕ) → list_all scalar cs ≡ true → EndsToken (34 ∷ (body cs ++ (34 ∷ []))) text
-quoted_ends cs [] h = tt
-quoted_ends cs (d ∷ ds) h =
-    ends_by (34 ∷ (body cs ++ (34 ∷ []))) d ds (λ more. ap (λ o. option_map Quoted o) (ap (string_characters Between) (three_parts (body cs) d more) ∙ characters_read cs (34 ∷ d ∷ more) h))
+quoted_ends cs x h = search (std_rules, ends_by, three_parts, characters_read)
 
 -- The escaped characters of a string between quotation marks are one token.
 pub quoted_at : (cs rest : List ℕ) {ts : List Token} → list_all scalar cs ≡ true → Tokens rest ts → Tokens (34 ∷ (body cs ++ (34 ∷ rest))) (Quoted cs ∷ ts)

@@ -1,5 +1,5 @@
 -- A list of tokens begins with at most one prefix, path, use or declared type.
-use Rattle.std.proofs.Common.{◌≡◌, List, ◌∷◌, ℕ, refl, ap, sym, subst, ◌∙◌, Bool, true, false, Option, Some, codes}
+use Rattle.std.proofs.Common.{rules as std_rules, ◌≡◌, List, ◌∷◌, ℕ, refl, ap, sym, subst, ◌∙◌, Bool, true, false, Option, Some, codes}
 use Rattle.std.proofs.lemmas.{Bool.Decides.Decides-eqb, Slice.Eq.slice_eq-Decides}
 use Rattle.wit_model.specs.Text.{text_eq}
 use Rattle.print_grammar.specs.{Keyword.Keyword, Token.Token, Token.Mark}
@@ -40,8 +40,7 @@ abbrev NoGates : List Token → Type 0
 NoGates ts = (begins_with_attribute (codes "deprecated") ts ≡ false) × (begins_with_attribute (codes "since") ts ≡ false) × (begins_with_attribute (codes "unstable") ts ≡ false)
 
 no_attribute : (text : List ℕ) (ts : List Token) → begins_with_at ts ≡ false → begins_with_attribute text ts ≡ false
-no_attribute text (Punctuation At ∷ ts) h = absurd cc
-no_attribute text _ h = refl
+no_attribute text x h = search std_rules
 
 no_gates_on : (ts : List Token) → begins_with_at ts ≡ false → NoGates ts
 no_gates_on ts h = (no_attribute (codes "deprecated") ts h, no_attribute (codes "since") ts h, no_attribute (codes "unstable") ts h)
@@ -94,15 +93,11 @@ external_id-unique e f (external_id l) (external_id m) = (refl, refl)
 -- What stands in front of an item is determined where no `@` follows it.
 pub prefix-unique : {before after rest : List Token} {a b : Prefix} → begins_with_at after ≡ false → begins_with_at rest ≡ false → ReadsPrefix before a after → ReadsPrefix before b rest
     → Same a b after rest
-prefix-unique n o (prefix g a) (prefix {after = rest} {external_id = x} h b) =
-    let e = gates_before (no_gates_at_id n a) (no_gates_at_id o b) g h in
-    let k = external_id-unique n o a (subst (λ t. ReadsExternalId t x rest) (sym e.1) b) in
-    let f = e.0 in let i = k.0 in (cc, k.1)
+prefix-unique n o (prefix g a) (prefix {after = rest} {external_id = x} h b) = search (std_rules, gates_before, no_gates_at_id, external_id-unique)
 
 -- no id is `@`
 pub id_no_at : {t : Token} {l : List ℕ} (ts : List Token) → IsId t l → begins_with_at (t ∷ ts) ≡ false
-id_no_at ts IsId.plain = refl
-id_no_at ts IsId.with_percent = refl
+id_no_at ts x = search std_rules
 
 -- Where another token than `@` stands, nothing stands in front: what follows is those tokens.
 pub no_gates_before : {mark : Mark} {before after : List Token} {g : Gates} → (mark ≡ At → ⊥) → ReadsGates (Punctuation mark ∷ before) g after → Punctuation mark ∷ before ≡ after
@@ -116,9 +111,7 @@ no_id_before other (external_id l) = absurd (other refl)
 
 -- nothing stands in front of a closing brace
 pub all_prefix : {before after : List Token} {p : Prefix} → ReadsPrefix (Punctuation CloseBrace ∷ before) p after → Punctuation CloseBrace ∷ before ≡ after
-all_prefix (prefix {after = rest} {external_id = x} g a) =
-    let e = no_gates_before (λ f. cc f) g in
-    no_id_before (λ f. cc f) (subst (λ z. ReadsExternalId z x rest) (sym e) a)
+all_prefix (prefix {after = rest} {external_id = x} g a) = search (std_rules, no_gates_before, no_id_before)
 
 pub no_prefix : {before after : List Token} {t : Token} {p : Prefix} → ReadsPrefix (Punctuation CloseBrace ∷ before) p (t ∷ after) → (Punctuation CloseBrace ≡ t → ⊥) → ⊥
 no_prefix p other = other (head_same (all_prefix p))
@@ -132,8 +125,7 @@ ends_path (Punctuation Dot ∷ tokens) = true
 ends_path tokens = false
 
 path_no_at : (ts : List Token) → ends_path ts ≡ true → begins_with_at ts ≡ false
-path_no_at (Punctuation At ∷ ts) h = absurd cc
-path_no_at _ h = refl
+path_no_at x h = search std_rules
 
 -- A path is determined where `;` or `.` follows it.
 pub path-unique : {before after rest : List Token} {a b : PathTree} → ends_path after ≡ true → ends_path rest ≡ true → ReadsPath before a after → ReadsPath before b rest → Same a b after rest
@@ -151,8 +143,7 @@ used-unique _ _ _ _ _ s t (other_name i k) (same_name j) = absurd (cc t)
 used-unique _ _ _ _ _ s t (other_name i k) (other_name j l) = let g = id-unique i j in let h = id-unique k l in (cc, refl)
 
 used-never : Never ReadsUsedName (Punctuation CloseBrace)
-used-never _ _ _ (same_name i) = no_id_mark i
-used-never _ _ _ (other_name i k) = no_id_mark i
+used-never x y z u = search std_rules
 
 pub use-unique : {before after rest : List Token} {a b : PathTree} {xs ys : List UsedName} → ReadsUse before a xs after → ReadsUse before b ys rest → (a ≡ b) × (xs ≡ ys) × (after ≡ rest)
 use-unique (use_names p l) (use_names {after = rest} {names = ys} q m) =
@@ -176,8 +167,7 @@ case-unique _ _ _ _ _ s t (case_of i a) (case_alone j) = absurd (cc t)
 case-unique _ _ _ _ _ s t (case_of i a) (case_of j b) = let h = type-unique refl refl a b in let e = id-unique i j in let f = h.0 in (cc, tail_same h.1)
 
 case-never : Never ReadsCase (Punctuation CloseBrace)
-case-never _ _ _ (case_alone i) = no_id_mark i
-case-never _ _ _ (case_of i a) = no_id_mark i
+case-never x y z u = search std_rules
 
 label-unique : UniqueBefore ReadsLabel
 label-unique _ _ _ _ _ s t (label i) (label j) = let h = id-unique i j in (cc, refl)
@@ -225,9 +215,7 @@ resource_member-unique _ _ _ _ _ (static {label = k} p i a) (static {after = res
     let e = h.0 in let f = id-unique (subst (λ x. IsId x k) (head_same h.1) i) j in let g = m.0 in (cc, tail_same m.1)
 
 resource_member-never : Never ReadsResourceMember (Punctuation CloseBrace)
-resource_member-never _ _ _ (constructor_ p a r) = no_prefix p (λ e. cc e)
-resource_member-never _ _ _ (method p i a) = no_prefix p (λ e. mark_or_id e i)
-resource_member-never _ _ _ (static p i a) = no_prefix p (λ e. mark_or_id e i)
+resource_member-never x y z u = search (std_rules, no_prefix, mark_or_id)
 
 pub declared-unique : {before after rest : List Token} {a b : Declared} → ReadsDeclared before a after → ReadsDeclared before b rest → Same a b after rest
 declared-unique (record_ i l) (record_ j m) = let h = listed-unique field-unique (λ ts. refl) (λ e. cc e) field-never l m in let e = id-unique i j in let f = h.0 in (cc, h.1)
@@ -243,5 +231,4 @@ pub use_no_at : {before after : List Token} {p : PathTree} {names : List UsedNam
 use_no_at (use_names p l) = refl
 
 pub declared_no_at : {before after : List Token} {d : Declared} → ReadsDeclared before d after → begins_with_at before ≡ false
-declared_no_at (record_ i l) = refl
-declared_no_at _ = refl
+declared_no_at x = search std_rules

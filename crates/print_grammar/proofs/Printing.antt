@@ -1,5 +1,5 @@
 -- Calls whose text begins with tokens: one call, and then what follows it.
-use Rattle.std.proofs.Common.{◌≡◌, refl, sym, ap, ◌∙◌, subst, ℕ, ◌-◌, ◌*◌, Bool, true, false, not, List, [], ◌∷◌, ◌++◌, append_assoc, codes, Some}
+use Rattle.std.proofs.Common.{rules as std_rules, ◌≡◌, refl, sym, ap, ◌∙◌, subst, ℕ, ◌-◌, Bool, true, false, not, List, [], ◌∷◌, ◌++◌, append_assoc, codes, Some}
 use Rattle.wit_model.specs.Names.{is_label, begins_with_letter}
 use Rattle.print_grammar.specs.{Keyword.escaped, Token.Token, Token.Tokens, Token.spelled, Token.Token.Punctuation}
 use Rattle.print_grammar.specs.Token.Mark.{OpenBrace, CloseBrace, OpenParen, CloseParen, Less, Greater, Colon, Semi, Comma, Dot, Equals, At, Arrow}
@@ -24,9 +24,6 @@ EndsWord calls = (level : ℕ) → ends_word (text_of false level calls) ≡ tru
 -- the same calls, put together otherwise
 pub relist : {begun : Bool} {P : List Token → Type 0} {calls others : List OutputCall} → calls ≡ others → Printed begun others P → Printed begun calls P
 relist {begun} {P} e p = subst (λ x. Printed begun x P) (sym e) p
-
-pub printed_as : {begun : Bool} {calls : List OutputCall} {P Q : List Token → Type 0} → ((tokens : List Token) → P tokens → Q tokens) → Printed begun calls P → Printed begun calls Q
-printed_as f p = (p.0, p.1, f p.0 p.2)
 
 -- two lists, with a call between and more behind
 pub two_lists : (first : List OutputCall) (call : OutputCall) (second third more : List OutputCall) → (first ++ (call ∷ (second ++ third))) ++ more ≡ first ++ (call ∷ (second ++ (third ++ more)))
@@ -132,8 +129,7 @@ indents Newline = false
 indents call = true
 
 blanks_in_front : (begun : Bool) (level : ℕ) {rest : List ℕ} {ts : List Token} → Tokens rest ts → Tokens (front_of begun level ++ rest) ts
-blanks_in_front true level more = blanks_at (2 * level) more
-blanks_in_front false level more = more
+blanks_in_front x level more = search (std_rules, blanks_at)
 
 -- The same tokens where a line has just begun.
 pub line_begins : (call : OutputCall) {more : List OutputCall} {ts : List Token} → indents call ≡ true → Follows false (call ∷ more) ts → Follows true (call ∷ more) ts

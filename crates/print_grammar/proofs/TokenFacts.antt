@@ -1,5 +1,5 @@
 -- Which token begins a text, and where it ends.
-use Rattle.std.proofs.Common.{◌≡◌, refl, sym, ap, ◌∙◌, subst, ℕ, Bool, true, false, ◌||◌, ◌==◌, not, List, [], ◌∷◌, ◌++◌, Option, Some, None, append-nil, append_assoc, arith, zero, suc, replicate}
+use Rattle.std.proofs.Common.{rules as std_rules, ◌≡◌, refl, sym, ap, ◌∙◌, subst, ℕ, Bool, true, false, ◌||◌, ◌==◌, not, List, [], ◌∷◌, ◌++◌, Option, Some, None, append-nil, append_assoc, arith, zero, suc, replicate}
 use Rattle.std.proofs.lemmas.{Bool.Decides.nat_tests, Bool.false_from_ne_true as refuted, Bool.not-true as not_true}
 use Rattle.std.specs.{Char.is_ascii_alphabetic, Char.is_ascii_digit, List.list_all, List.slice_split}
 use Rattle.wit_model.specs.Names.{is_label, is_fragment, is_lower_byte, is_upper_byte, begins_with_letter}
@@ -36,8 +36,7 @@ pub ends_by_two : (front : List ℕ) (c d : ℕ) (cs : List ℕ) → spelled (fr
 ends_by_two front c d cs s h = rw (longest-none ((front ++ c ∷ []) ++ d ∷ []) cs h, s) refl
 
 longest-stops : (front rest : List ℕ) (t : Token) → spelled front ≡ Some t → EndsToken front rest → longest front rest ≡ Some (record { token = t; rest = rest })
-longest-stops front [] t s h = rw s refl
-longest-stops front (c ∷ cs) t s h = rw (h, s) refl
+longest-stops front x t s h = search std_rules
 
 longest-goes : (front text rest : List ℕ) (t : Token) → spelled (front ++ text) ≡ Some t → EndsToken (front ++ text) rest → longest front (text ++ rest) ≡ Some (record { token = t; rest = rest })
 longest-goes front [] rest t s h =
@@ -77,14 +76,10 @@ upper_alphanumeric : (b : ℕ) → is_upper_byte b ≡ true → (is_ascii_alphab
 upper_alphanumeric b h = grind (arith, nat_tests)
 
 either : (a b c : Bool) → (a || b) ≡ true → (a ≡ true → c ≡ true) → (b ≡ true → c ≡ true) → c ≡ true
-either true b c e f g = f refl
-either false b c e f g = g e
+either x b c e f g = search std_rules
 
 fragment_bytes : (text : List ℕ) → is_fragment text ≡ true → list_all (λ b. is_ascii_alphabetic b || is_ascii_digit b) text ≡ true
-fragment_bytes text h =
-    either (list_all is_lower_byte text) (list_all is_upper_byte text) _ (right_of _ _ h)
-    (weaker_all is_lower_byte _ lower_alphanumeric text)
-    (weaker_all is_upper_byte _ upper_alphanumeric text)
+fragment_bytes text h = search (std_rules, either, right_of, weaker_all, lower_alphanumeric, upper_alphanumeric)
 
 pub label_bytes : (text : List ℕ) → is_label text ≡ true → list_all is_label_byte text ≡ true
 label_bytes text h =
@@ -115,15 +110,12 @@ word_ends c cs (d ∷ ds) letter ends = ends_by (c ∷ cs) d ds (λ more. rw (le
 
 -- A word, with what is no part of a word behind it.
 pub word_at : (text rest : List ℕ) (t : Token) {ts : List Token} → begins_with_letter text ≡ true → spelled text ≡ Some t → ends_word rest ≡ true → Tokens rest ts → Tokens (text ++ rest) (t ∷ ts)
-word_at [] rest t letter s ends more = absurd cc
-word_at (c ∷ cs) rest t letter s ends more =
-    token_at c cs rest t (letter_no_blank c letter) (no_comment c (cs ++ rest) (letter_no_slash c letter)) s (word_ends c cs rest letter ends) more
+word_at x rest t letter s ends more = search (std_rules, token_at, letter_no_blank, no_comment, letter_no_slash, word_ends)
 
 -- ---- ids
 
 percent_ends : (label rest : List ℕ) → ends_word rest ≡ true → EndsToken (37 ∷ label) rest
-percent_ends label [] ends = tt
-percent_ends label (d ∷ ds) ends = ends_by (37 ∷ label) d ds (λ more. rw (no_label label d more (not_true _ ends)) refl)
+percent_ends label x ends = search (std_rules, ends_by, no_label, not_true)
 
 -- A label after `%` is a token.
 escaped_at : (label rest : List ℕ) {ts : List Token} → is_label label ≡ true → ends_word rest ≡ true → Tokens rest ts → Tokens (37 ∷ (label ++ rest)) (Token.Escaped label ∷ ts)
@@ -131,10 +123,7 @@ escaped_at label rest h ends more = token_at 37 label rest (Token.Escaped label)
 
 -- A label that is no keyword is a word.
 spelled_word : (label : List ℕ) → is_label label ≡ true → keyword_of label ≡ None → spelled label ≡ Some (Token.Word label)
-spelled_word [] h none = absurd cc
-spelled_word (c ∷ cs) h none =
-    let letter : is_ascii_alphabetic c ≡ true = left_of _ _ h in
-    rw (letter, h, none, spelled) refl
+spelled_word x h none = search std_rules
 
 -- the token of an id
 abbrev token_of_id : List ℕ → Option Keyword → Token

@@ -3,7 +3,7 @@ use Rattle.std.proofs.Common.{◌≡◌, refl, sym, ap, ◌∙◌, subst, ℕ, t
 use Rattle.std.proofs.lemmas.Bool.{ltb-true}
 use Rattle.wit_model.specs.Names.{is_label, begins_with_letter}
 use Rattle.print_grammar.specs.{Keyword.Keyword, Keyword.Primitive, Keyword.primitive_text, Keyword.escaped, WellNamed.is_well_type, WellNamed.are_well_types}
-use Rattle.print_grammar.specs.Keyword.Primitive.{Bool_, U8, U16, U32, U64, S8, S16, S32, S64, F32, F64, Char, String, ErrorContext}
+use Rattle.print_grammar.specs.Keyword.Primitive.{Bool_}
 use Rattle.print_grammar.specs.{Calls.type_calls, Calls.types_calls, AsRead.type_as_read, AsRead.types_as_read, Tree.TypeTree, Tree.TypeTrees}
 use Rattle.print_grammar.specs.{Tree.TypeTrees.NoTypes, Tree.TypeTrees.AndTypes, Grammar.ReadsType, Grammar.ReadsTypes, Grammar.IsId, Keyword.Keyword.As}
 use Rattle.print_grammar.specs.{Token.Token, Token.Tokens, Token.spelled, Token.Mark, Token.Token.Punctuation, Token.Token.Key, Token.Token.Digits}

@@ -1,5 +1,5 @@
 -- The text of a version is one token.
-use Rattle.std.proofs.Common.{◌≡◌, refl, sym, ap, ◌∙◌, subst, ℕ, ◌<◌, ◌^◌, Bool, true, false, ◌&&◌, ◌||◌, ◌==◌, not, List, [], ◌∷◌, ◌++◌, length, Option, Some, None, append-nil, append_assoc, inl, inr, arith, zero, suc, get_or, Ok, Err, Result, nat_lt, unwrap_or}
+use Rattle.std.proofs.Common.{rules as std_rules, ◌≡◌, refl, sym, ap, ◌∙◌, subst, ℕ, ◌<◌, ◌^◌, Bool, true, false, ◌&&◌, ◌||◌, ◌==◌, not, List, [], ◌∷◌, ◌++◌, length, Option, Some, None, append-nil, append_assoc, inl, inr, arith, suc, get_or, Ok, Err, Result, nat_lt, unwrap_or}
 use Rattle.std.proofs.lemmas.Bool.{cases_Bool, eqb-true, lt-ltb, and_from as both, and_right as and_false, false_from_ne_true as refuted, not-true as not_true, or_left}
 use Rattle.std.proofs.lemmas.{Bool.Decides.nat_tests, List.Folds.list_all-append}
 use Rattle.std.proofs.lemmas.{Fmt.decimal_is_IsNumeral, Fmt.decimal_nonempty, Fmt.first_decimal, Fmt.decimal_digit, List.Sums.AllPass-from_list_all}
@@ -76,14 +76,7 @@ numeral_bytes : (text : List ℕ) → is_numeral text ≡ true → list_all is_i
 numeral_bytes text h = weaker_all is_ascii_digit _ digit_byte text (left_of (is_numeric text) _ (right_of (nat_lt 0 (length text)) _ h))
 
 numerals_bytes : (texts : List (List ℕ)) → are_three_numerals texts ≡ true → list_all (list_all is_identifier_byte) texts ≡ true
-numerals_bytes [] h = refl
-numerals_bytes (a ∷ []) h = absurd cc
-numerals_bytes (a ∷ b ∷ []) h = absurd cc
-numerals_bytes (a ∷ b ∷ c ∷ []) h =
-    both _ _ (numeral_bytes a (left_of _ _ h))
-    (both _ _ (numeral_bytes b (left_of _ _ (right_of (is_numeral a) _ h)))
-    (both _ _ (numeral_bytes c (right_of (is_numeral b) _ (right_of (is_numeral a) _ h))) refl))
-numerals_bytes (a ∷ b ∷ c ∷ d ∷ more) h = absurd cc
+numerals_bytes x h = grind (arith, both, numeral_bytes, left_of, right_of)
 
 core_bytes : (text : List ℕ) → is_version_core text ≡ true → list_all is_version_byte text ≡ true
 core_bytes text h =
@@ -128,17 +121,13 @@ decimal_digits : (n : ℕ) → n < 2 ^ 64 → is_numeric (decimal n) ≡ true
 decimal_digits n h = all_digits (decimal n) (decimal_is_IsNumeral n h).0.1
 
 no_zero_first : (text : List ℕ) → 48 < get_or text 0 0 → has_leading_zero text ≡ false
-no_zero_first [] h = refl
-no_zero_first (c ∷ cs) h = let e : (c == 48) ≡ false = grind (arith, nat_tests) in rw e refl
+no_zero_first x h = search std_rules
 
 no_leading_zero : (n : ℕ) → n < 2 ^ 64 → has_leading_zero (decimal n) ≡ false
-no_leading_zero zero h = ap has_leading_zero (decimal_digit 0 (omega arith))
-no_leading_zero (suc n) h = no_zero_first (decimal (suc n)) (first_decimal (suc n) (omega arith) h)
+no_leading_zero x h = search (std_rules, decimal_digit, no_zero_first, first_decimal)
 
 decimal_numeral : (n : ℕ) → n < 2 ^ 64 → is_numeral (decimal n) ≡ true
-decimal_numeral n h =
-    let some : nat_lt 0 (length (decimal n)) ≡ true = lt-ltb _ _ (decimal_nonempty n h) in
-    both _ _ some (both _ _ (decimal_digits n h) (ap not (no_leading_zero n h)))
+decimal_numeral n h = search (std_rules, lt-ltb, decimal_nonempty, both, decimal_digits, no_leading_zero)
 
 none_is : (c : ℕ) (p : ℕ → Bool) → ((b : ℕ) → p b ≡ true → (b == c) ≡ false) → (text : List ℕ) → list_all p text ≡ true → All (λ b. (b == c) ≡ false) text
 none_is c p apart text h = λ k d below. apart _ (AllPass-from_list_all p text h k d below)
@@ -151,14 +140,10 @@ abbrev core_text : Parts → List ℕ
 core_text p = decimal p.0 ++ (46 ∷ (decimal p.1 ++ (46 ∷ decimal p.2)))
 
 core_parts : (p : Parts) → IsValid p → parts (core_text p) ≡ decimal p.0 ∷ decimal p.1 ∷ decimal p.2 ∷ []
-core_parts p v =
-    slice_split_at (λ b. b == 46) (decimal p.0) 46 (decimal p.1 ++ (46 ∷ decimal p.2)) (none_is 46 is_ascii_digit digit_no_dot _ (decimal_digits p.0 v.0)) refl
-    ∙ (ap (λ rest. decimal p.0 ∷ rest) (slice_split_at (λ b. b == 46) (decimal p.1) 46 (decimal p.2) (none_is 46 is_ascii_digit digit_no_dot _ (decimal_digits p.1 v.1)) refl)
-    ∙ ap (λ rest. decimal p.0 ∷ decimal p.1 ∷ rest) (slice_split_none (λ b. b == 46) (decimal p.2) (none_is 46 is_ascii_digit digit_no_dot _ (decimal_digits p.2 v.2))))
+core_parts p v = search (std_rules, slice_split_at, none_is, digit_no_dot, decimal_digits, slice_split_none)
 
 core_is_core : (p : Parts) → IsValid p → is_version_core (core_text p) ≡ true
-core_is_core p v =
-    ap are_three_numerals (core_parts p v) ∙ both _ _ (decimal_numeral p.0 v.0) (both _ _ (decimal_numeral p.1 v.1) (decimal_numeral p.2 v.2))
+core_is_core p v = search (std_rules, core_parts, both, decimal_numeral)
 
 digit_no_mark : (b : ℕ) → is_ascii_digit b ≡ true → (not (b == 45) && not (b == 43)) ≡ true
 digit_no_mark b h = grind (arith, nat_tests)
@@ -251,8 +236,7 @@ onto_first_after x (part ∷ ps) = refl
 
 fewer_parts : (P : List ℕ → Bool) (ps : List (List ℕ)) → list_all P ps ≡ true → list_all P (after_first_part ps) ≡ true
 unfolding after_first_part
-fewer_parts P [] h = refl
-fewer_parts P (part ∷ ps) h = right_of (P part) _ h
+fewer_parts x y h = search std_rules
 
 -- the part after a dot at the end is empty
 last_part : (P : List ℕ → Bool) (text : List ℕ) → list_all P (after_first_part (parts (text ++ 46 ∷ []))) ≡ true → P [] ≡ true
@@ -272,11 +256,7 @@ no_empty_last : (P : List ℕ → Bool) (text : List ℕ) → P [] ≡ false →
 no_empty_last P text e h = let f = last_part P text (fewer_parts P (parts (text ++ 46 ∷ [])) h) in cc
 
 three_pass : (texts : List (List ℕ)) → are_three_numerals texts ≡ true → list_all is_numeral texts ≡ true
-three_pass [] h = refl
-three_pass (a ∷ []) h = absurd cc
-three_pass (a ∷ b ∷ []) h = absurd cc
-three_pass (a ∷ b ∷ c ∷ []) h = both _ _ (left_of _ _ h) (both _ _ (left_of _ _ (right_of (is_numeral a) _ h)) (both _ _ (right_of (is_numeral b) _ (right_of (is_numeral a) _ h)) refl))
-three_pass (a ∷ b ∷ c ∷ d ∷ more) h = absurd cc
+three_pass x h = search std_rules
 
 core_no_dot : (text : List ℕ) → is_version_core (text ++ 46 ∷ []) ≡ false
 core_no_dot text = refuted _ (λ h. no_empty_last is_numeral text refl (three_pass (parts (text ++ 46 ∷ [])) h))
@@ -296,8 +276,7 @@ with_dot p = (p.0, p.1 ++ 46 ∷ [])
 moved_in : (x : ℕ) (o : Option (List ℕ × List ℕ))
     → option_map (λ (p : List ℕ × List ℕ). (x ∷ p.0, p.1)) (option_map with_dot o) ≡ option_map with_dot (option_map (λ (p : List ℕ × List ℕ). (x ∷ p.0, p.1)) o)
 unfolding with_dot
-moved_in x None = refl
-moved_in x (Some p) = refl
+moved_in x y = search std_rules
 
 cut_dot : (c : ℕ) (text : List ℕ) → (46 == c) ≡ false → cut c (text ++ 46 ∷ []) ≡ option_map with_dot (cut c text)
 unfolding cut with_dot
@@ -380,20 +359,15 @@ begins_with_digit [] = false
 begins_with_digit (c ∷ cs) = is_ascii_digit c
 
 digits_first : (text more : List ℕ) → is_numeral text ≡ true → begins_with_digit (text ++ more) ≡ true
-digits_first [] more h = absurd cc
-digits_first (c ∷ cs) more h = left_of _ _ (left_of _ _ (right_of (nat_lt 0 (length (c ∷ cs))) _ h))
+digits_first x more h = search std_rules
 
 -- a text that is a version, with what ends it behind it
 digits_at : (text rest : List ℕ) {ts : List Token} → begins_with_digit text ≡ true → is_numeric text ≡ false → is_semantic_version text ≡ true → ends_version rest ≡ true → Tokens rest ts
     → Tokens (text ++ rest) (Token.VersionText text ∷ ts)
-digits_at [] rest digit e f ends more = absurd cc
-digits_at (c ∷ cs) rest digit e f ends more =
-    token_at c cs rest (Token.VersionText (c ∷ cs)) (digit_no_blank c digit) (no_comment c (cs ++ rest) (digit_no_slash c digit))
-    (number_spelled c cs digit ∙ version_token (c ∷ cs) e f) (number_ends c cs rest digit ends) more
+digits_at x rest digit e f ends more = search (std_rules, token_at, digit_no_blank, no_comment, digit_no_slash, number_spelled, version_token, number_ends)
 
 parts_at : (p : Parts) (rest : List ℕ) {ts : List Token} → IsValid p → ends_version rest ≡ true → Tokens rest ts → Tokens (parts_text p ++ rest) (Token.VersionText (parts_text p) ∷ ts)
-parts_at p rest v ends more =
-    digits_at (parts_text p) rest (digits_first (decimal p.0) _ (decimal_numeral p.0 v.0)) (dot_no_digit (decimal p.0) _) (parts_are_version p v) ends more
+parts_at p rest v ends more = search (std_rules, digits_at, digits_first, decimal_numeral, dot_no_digit, parts_are_version)
 
 -- The text of a version, with what is no part of a version behind it, is one token.
 pub version_at : (text rest : List ℕ) {ts : List Token} → is_version_text text ≡ true → ends_version rest ≡ true → Tokens rest ts → Tokens (text ++ rest) (Token.VersionText text ∷ ts)
@@ -421,11 +395,3 @@ number_at n rest {ts} h ends more = go (decimal n) (first (decimal n) (decimal_n
     go (c ∷ cs) digit s =
         token_at c cs rest (Token.Digits n) (digit_no_blank c digit) (no_comment c (cs ++ rest) (digit_no_slash c digit))
         (number_spelled c cs digit ∙ s) (number_ends c cs rest digit ends) more
-
--- A version of numbers below 2 ^ 64 is a version.
-pub version_is_semantic : (text : List ℕ) → is_version_text text ≡ true → is_semantic_version text ≡ true
-version_is_semantic text h = go (version_parts text) refl h
-  where
-    go : (r : Result Parts Error) → version_parts text ≡ r → is_ok r ≡ true → is_semantic_version text ≡ true
-    go (Err e) f g = absurd cc
-    go (Ok p) f g = let s = version_parts-sound text p f in subst (λ x. is_semantic_version x ≡ true) s.0 (parts_are_version p s.1)

@@ -3,7 +3,7 @@ use Rattle.std.proofs.Common.{◌≡◌, refl, sym, ap, subst, Bool, true, false
 use Rattle.std.proofs.lemmas.List.Folds.{flat_map-map}
 use Rattle.std.specs.{Prelude.option_map, Prelude.if◌then◌else◌, Borrow.Bor, List.flat_map, List.list_all, Option.option_map_or}
 use Rattle.wit_model.specs.declared.model.{Resolve.Resolve, Function.Function, FunctionKind.FunctionKind, TypeId.TypeId, «Type».«Type» as ValueType}
-use Rattle.wit_model.specs.{Calls.is_constructor_shorthand, Calls.is_shorthand, Calls.item_name, Names.is_label, Rules.is_own_of, Rules.type_is, Rules.passes}
+use Rattle.wit_model.specs.{Calls.item_name, Names.is_label, Rules.is_own_of, Rules.type_is, Rules.passes}
 use Rattle.print_grammar.specs.{Tree.TypeTree, Calls.prefix_calls, Calls.resource_body_calls, Calls.resource_member_calls}
 use Rattle.print_grammar.specs.WellNamed.{is_well_param, is_well_prefix, is_well_resource_member, is_well_signature, is_well_type}
 use Rattle.print_items.specs.Shown.{constructor_result, function_prefix, is_method, shown_param, shown_params, shown_resource_member, shown_signature, shown_type}
@@ -23,14 +23,6 @@ module _ (r : Resolve) (id : TypeId) where
   other None h = refl
   other (Some (value.Id n)) h = sym (ap (λ b. let t : Option TypeTree = if b then None else Some (shown_type r (value.Id n)) in t) h)
   other (Some t) h = refl
-
-  -- nothing, where it is the resource
-  pub result_left_out : (f : Function) → f.kind ≡ call.Constructor id → is_constructor_shorthand r f ≡ true → None ≡ constructor_result r id f.result
-  result_left_out f k h = sym (owned f.result (subst (λ x. is_shorthand r f x ≡ true) k h))
-
-  -- and else as it is
-  pub result_written : (f : Function) → f.kind ≡ call.Constructor id → is_constructor_shorthand r f ≡ false → option_map (shown_type r) f.result ≡ constructor_result r id f.result
-  result_written f k h = other f.result (subst (λ x. is_shorthand r f x ≡ false) k h)
 
   -- its parameters are all written
   pub constructor_params : (f : Function) → f.kind ≡ call.Constructor id → shown_params r f ≡ map (shown_param r) f.params.items

@@ -1,7 +1,7 @@
 -- Declared types, part by part.
 use Rattle.std.proofs.Common.{◌≡◌, refl, sym, ap, subst, ◌∙◌, Bool, true, false, ◌&&◌, ◌||◌, not, List, [], map, Option, Some, None}
 use Rattle.std.proofs.lemmas.{List.Folds.list_all-map, Bool.lt-ltb, Bool.ltb-true, Option.slice_get_within}
-use Rattle.std.specs.{Prelude.codes, Prelude.String, Prelude.is_some, Option.option_map_or, List.list_all}
+use Rattle.std.specs.{Prelude.String, Prelude.is_some, Option.option_map_or, List.list_all}
 use Rattle.std.specs.declared.alloc.Global.{Global}
 use Rattle.wit_model.specs.declared.model.{Resolve.Resolve, TypeDef.TypeDef, TypeId.TypeId, Handle.Handle, «Type».«Type» as ValueType}
 use Rattle.wit_model.specs.{Lookup.type_at, Parts.handle_target, Uses.alias_target}
@@ -9,9 +9,9 @@ use Rattle.wit_model.specs.{Rules.in_list, Rules.is_named_kind, Rules.is_named_n
 use Rattle.print_output.specs.OutputCall.{lines_begun_after}
 use Rattle.print_grammar.specs.{Tree.TypeTree, Calls.declared_calls, Calls.type_calls}
 use Rattle.print_grammar.specs.{Tree.TypeTree.PrimitiveType, Tree.TypeTree.Name, Tree.Declared.AliasOf, WellNamed.are_well_some, WellNamed.is_well_type}
-use Rattle.print_items.specs.Shown.{future_tree, kind_tree, shown_type, stream_tree, type_trees}
-use Rattle.print_items.specs.DeclaredCalls.{alias_calls, carrier_calls, is_word}
-use Rattle.print_items.specs.TypeParts.{handles_label, is_labelled, kind_calls, may_be_unnamed}
+use Rattle.print_items.specs.Shown.{kind_tree, shown_type, type_trees}
+use Rattle.print_items.specs.DeclaredCalls.{alias_calls, is_word}
+use Rattle.print_items.specs.TypeParts.{handles_label, is_labelled, kind_calls}
 use Rattle.print_items.proofs.{TypesWell.type_rule, TypeParts.handles_at, TypeParts.shown_at, TypeParts.type_stays, TypeParts.well_in_range}
 use Rattle.base_lemmas.proofs.{Bools.right_of, Lists.within_there as one_there}
 use Rattle.wit_model.specs.declared.model.TypeDefKind.TheVariants as defined
@@ -30,23 +30,6 @@ word_alias name (PrimitiveType p) h = refl
 word_alias name (Name text) h = refl
 word_alias name t h = absurd cc
 
--- a future or a stream
-pub future_alias : (name : Text) (o : Option TypeTree) → alias_calls name kind.Future (carrier_calls (codes "future") o) ≡ declared_calls true (AliasOf name (future_tree o))
-future_alias name None = refl
-future_alias name (Some t) = refl
-
-pub stream_alias : (name : Text) (o : Option TypeTree) → alias_calls name kind.Stream (carrier_calls (codes "stream") o) ≡ declared_calls true (AliasOf name (stream_tree o))
-stream_alias name None = refl
-stream_alias name (Some t) = refl
-
-pub future_payload : (o : Option TypeTree) → is_well_type (future_tree o) ≡ true → passes is_well_type o ≡ true
-future_payload None h = refl
-future_payload (Some t) h = h
-
-pub stream_payload : (o : Option TypeTree) → is_well_type (stream_tree o) ≡ true → passes is_well_type o ≡ true
-stream_payload None h = refl
-stream_payload (Some t) h = h
-
 -- a kind behind other text leaves its line as it is
 pub kind_stays : (r : Resolve) (id : TypeId) → lines_begun_after false (kind_calls r id) ≡ false
 kind_stays r id = go (type_at r id.0)
@@ -62,9 +45,6 @@ module _ (r : Resolve) (id : TypeId) (def : TypeDef) (at : type_at r id.0 ≡ So
   -- the kind of a type number
   pub kind_of : kind_calls r id ≡ type_calls (kind_tree r (type_trees r) def.kind)
   kind_of = ap (λ o. option_map_or (λ d. type_calls (kind_tree r (type_trees r) d.kind)) o []) at
-
-  pub needs_no_name : is_named_kind def.kind ≡ false → may_be_unnamed r id ≡ true
-  needs_no_name h = ap (λ o. option_map_or (λ d. not (is_named_kind d.kind)) o false) at ∙ ap not h
 
   module _ (valid : IsValid r) where
     -- a handle's resource has a label

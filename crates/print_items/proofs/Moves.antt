@@ -1,9 +1,9 @@
 -- How calls in turn move a view: one call and then the others, some calls and then some more.
 use Rattle.std.proofs.Common.{◌≡◌, List, [], ◌∷◌, ◌++◌, refl, sym, inl, inr, ◌∙◌, ap, subst, append-nil, append_assoc}
 use Rattle.std.specs.List.{flat_map}
-use Rattle.print_output.specs.OutputCall.{OutputCall, View, after, after_all, body_calls, line_begun_after, Counts, Moves, Begins}
+use Rattle.print_output.specs.OutputCall.{OutputCall, View, after_all, body_calls, line_begun_after, Counts, Moves, Begins}
 use Rattle.print_output.specs.OutputCall.{Moves.nothing_moved, Moves.then_moved, Begins.nothing_begun, Begins.begun_in, Begins.then_begun}
-use Rattle.print_output.specs.OutputCall.OutputCall.{PushStr, IndentIfNeeded, IndentStart, IndentEnd, Newline, IndentAndPrint, Keyword, Ty, Param, Case, GenericArgsStart, GenericArgsEnd, Doc, Semicolon, Str}
+use Rattle.print_output.specs.OutputCall.OutputCall.{Doc}
 use Rattle.base_lemmas.proofs.Options.{at_err}
 
 module _ {Kept : Type 0} (keeps : View Kept → OutputCall → Kept) where
@@ -79,11 +79,6 @@ module _ {Kept X : Type 0} {keeps : View Kept → OutputCall → Kept} {run : X 
   run_begun {old = old} {new = new} x others u e b =
       let both : u.made ++ (run x ++ flat_map run others) ≡ flat_map run _ = ap (λ xs. u.made ++ flat_map run xs) (sym e) ∙ u.whole in
       subst (λ calls. Begins keeps old calls new) both (Begins-append keeps u.moved (Begins-more keeps (flat_map run others) b))
-
-  -- all runs
-  pub runs_made : {all left : List X} {old now : View Kept} → Underway keeps run all left old now → left ≡ [] → Moves keeps old (flat_map run all) now
-  runs_made {old = old} {now = now} u e =
-      subst (λ calls. Moves keeps old calls now) (sym (append-nil u.made) ∙ ap (λ xs. u.made ++ flat_map run xs) (sym e) ∙ u.whole) u.moved
 
 -- ---- calls after calls
 

@@ -35,10 +35,6 @@ module _ (emits printed : Bool) (r : Resolve) (e : String Global × Function) (e
       → members_calls emits printed (shown_functions r (e ∷ es)) ≡ members_calls emits printed (shown_function r e.1 ∷ []) ++ members_calls emits true (shown_functions r es)
   next_shown h = rw h (one_and_more emits printed r e.1 (shown_functions r es))
 
-  -- a function of a resource is left out
-  pub next_left_out : is_freestanding e.1.kind ≡ false → members_calls emits printed (shown_functions r (e ∷ es)) ≡ members_calls emits printed (shown_functions r es)
-  next_left_out h = rw h refl
-
 pub printable_member : (r : Resolve) (f : Function) → is_printable_function r f ≡ true → is_freestanding f.kind ≡ true → is_well_member (shown_function r f) ≡ true
 printable_member r f h free = go (is_freestanding f.kind) (is_well_member (shown_function r f)) free h
   where

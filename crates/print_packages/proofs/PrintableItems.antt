@@ -5,11 +5,11 @@ use Rattle.std.specs.declared.alloc.Global.{Global}
 use Rattle.wit_model.specs.declared.model.{Resolve.Resolve, Docs.Docs, Function.Function, WorldKey.WorldKey}
 use Rattle.wit_model.specs.declared.model.{Interface.Interface, InterfaceId.InterfaceId, PackageId.PackageId, Stability.Stability, WorldItem.WorldItem}
 use Rattle.wit_model.specs.{Lookup.interface_at, Text.Text, Text.text_of, Rules.in_list, Rules.is_export_item, Rules.item_in_range, Rules.key_in_range}
-use Rattle.print_grammar.specs.{Tree.Prefix, Tree.ExternTree.NamedFunction, Tree.ExternTree.NamedInterface, Tree.ExternTree.NamedPath, Tree.ExternTree.Path}
+use Rattle.print_grammar.specs.{Tree.ExternTree.NamedFunction, Tree.ExternTree.NamedInterface, Tree.ExternTree.NamedPath}
 use Rattle.print_grammar.specs.Calls.{world_extern_calls}
 use Rattle.print_grammar.specs.WellNamed.{is_well_extern, is_well_path, is_well_prefix, is_well_world_member}
 use Rattle.print_items.specs.ItemCalls.{labelled_tree}
-use Rattle.print_items.specs.Shown.{extern_docs, extern_prefix, function_prefix, shown_docs, shown_external_id, shown_gates, shown_import, shown_interface, shown_path, shown_prefix, shown_signature}
+use Rattle.print_items.specs.Shown.{extern_docs, extern_prefix, function_prefix, shown_docs, shown_import, shown_interface, shown_path, shown_signature}
 use Rattle.print_uses.specs.Printable.{entry_calls, is_printable_entry, is_printable_import, is_shown_item}
 use Rattle.base_lemmas.proofs.Bools.{left_of, right_of}
 use Rattle.wit_model.specs.declared.model.WorldKey.TheVariants as key
@@ -34,25 +34,6 @@ module _ (r : Resolve) (here : PackageId) where
 
     -- the documentation that is shown is that of this
     module _ (given : Docs) (same : shown_docs given ≡ extern_docs r k id docs) where
-      pub prefix_is : shown_prefix given gates external_id ≡ extern_prefix r k (item.Interface id gates docs external_id)
-      prefix_is = ap (λ lines. let p : Prefix = record { docs = lines; gates = shown_gates gates; external_id = shown_external_id external_id } in p) same
-
-      pub prefix_well : is_well_prefix (shown_prefix given gates external_id) ≡ true
-      prefix_well = subst (λ p. is_well_prefix p ≡ true) (sym prefix_is) (left_of _ _ (well_of k (item.Interface id gates docs external_id) known))
-
-      pub keyed_calls : (emits : Bool) (word : Text) (m : InterfaceId) → k ≡ key.Interface m
-          → world_extern_calls emits (shown_prefix given gates external_id) word (Path (shown_path r here m)) ≡ entry_calls emits r here word (k, i)
-      keyed_calls emits word m e =
-          ap (λ p. world_extern_calls emits p word (Path (shown_path r here m))) (prefix_is ∙ ap (λ l. extern_prefix r l (item.Interface id gates docs external_id)) e)
-          ∙ sym (ap (λ l. entry_calls emits r here word (l, item.Interface id gates docs external_id)) e)
-          ∙ sym (ap (λ j. entry_calls emits r here word (k, j)) is)
-
-      pub labelled_calls : (emits : Bool) (word : Text) (s : String Global) → k ≡ key.Name s
-          → world_extern_calls emits (shown_prefix given gates external_id) word (labelled_tree r here (text_of s) id) ≡ entry_calls emits r here word (k, i)
-      labelled_calls emits word s e =
-          ap (λ p. world_extern_calls emits p word (labelled_tree r here (text_of s) id)) (prefix_is ∙ ap (λ l. extern_prefix r l (item.Interface id gates docs external_id)) e)
-          ∙ sym (ap (λ l. entry_calls emits r here word (l, item.Interface id gates docs external_id)) e)
-          ∙ sym (ap (λ j. entry_calls emits r here word (k, j)) is)
 
     pub key_there : (m : InterfaceId) → k ≡ key.Interface m → in_list r.interfaces.items m.0 ≡ true
     key_there m e = let whole = subst (λ l. is_printable_entry r here (l, item.Interface id gates docs external_id) ≡ true) e known in

@@ -3,7 +3,7 @@ use Rattle.std.proofs.Common.{◌≡◌, refl, sym, ◌∙◌, subst, Bool, true
 use Rattle.std.proofs.lemmas.{Bool.ltb-true, Bool.and_from as both, List.Folds.list_all-append}
 use Rattle.std.specs.{Prelude.String, Prelude.is_some, Prelude.if◌then◌else◌, Option.option_map_or, List.list_all, List.cons_option, Map.values_of}
 use Rattle.std.specs.declared.alloc.Global.{Global}
-use Rattle.wit_model.specs.declared.model.{Function.Function, TypeId.TypeId, Resolve.Resolve, WorldId.WorldId, WorldKey.WorldKey, Stability.Stability, Interface.Interface, InterfaceId.InterfaceId, PackageId.PackageId, WorldItem.WorldItem as Item, TypeOwner.TypeOwner, World.World, Docs.Docs}
+use Rattle.wit_model.specs.declared.model.{Function.Function, Resolve.Resolve, WorldId.WorldId, WorldKey.WorldKey, Stability.Stability, Interface.Interface, InterfaceId.InterfaceId, PackageId.PackageId, WorldItem.WorldItem as Item, TypeOwner.TypeOwner, World.World, Docs.Docs}
 use Rattle.wit_model.specs.{Text.Text, Text.text_of, Names.is_label, Lookup.interface_at, Lookup.world_at}
 use Rattle.wit_model.specs.Rules.{in_list, passes, is_id, package_number, is_stability, function_labels, key_in_range, item_in_range, entries_in_range, key_label, item_labels, entries_labels, item_type, is_name_key, is_named_of, is_member, is_interface_key, import_stands, export_stands, is_export_item}
 use Rattle.wit_model.specs.Valid.{IsValid, is_place, item_function, numbers_in_range, labels, order_of_types, function_names, world_items}
@@ -40,14 +40,6 @@ entry_member r n k f h =
     right_of (is_name_key (text_of f.name) k) _
     (left_of (is_own_entry r n (k, item.Function f)) _
     (right_of (key_label k (item.Function f) && item_labels (item.Function f)) _ (right_of (key_in_range r k && item_in_range r (item.Function f)) _ h)))
-
--- a type doesn't stand under an interface
-pub keyed_type : (r : Resolve) (n : ℕ) (m : InterfaceId) (id : TypeId) → is_known_entry r n (key.Interface m, item.Type_ id) ≡ true → ⊥
-keyed_type r n m id h =
-    let under = right_of (is_own_entry r n (key.Interface m, item.Type_ id)) _
-    (right_of (key_label (key.Interface m) (item.Type_ id) && item_labels (item.Type_ id)) _ (right_of (key_in_range r (key.Interface m) && item_in_range r (item.Type_ id)) _ h)) in
-    let wrong : false ≡ true = left_of false (passes (λ other. is_some other.name) (interface_at r m.0)) under in
-    cc
 
 import_under : (r : Resolve) (n : ℕ) (k : WorldKey) (i : Item) → import_stands r n k i ≡ true → stands_under r k i ≡ true
 import_under r n (key.Interface id) i h = h

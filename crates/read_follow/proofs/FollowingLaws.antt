@@ -14,7 +14,7 @@ use Rattle.read_follow.specs.Slots.{no_signature, resource_slot, slot_in, slots_
 use Rattle.plan_meaning.specs.Shapes.{Shape, named_shape, part_tree, shape_trees, IsTable}
 use Rattle.plan_meaning.proofs.ShapeLaws.{name_tree, part_behind, tree_at_number}
 use Rattle.read_follow.proofs.DefiningLaws.{functions_grown, longer, no_shapes, one_longer, part_grown, same_list}
-use Rattle.read_follow.proofs.{NumberingLaws.count_pushed, OverLaws.definition_over, OverLaws.signature_over, PlacedLaws.same_types, TableGrowth.no_types}
+use Rattle.read_follow.proofs.{NumberingLaws.count_pushed, OverLaws.definition_over, OverLaws.signature_over, PlacedLaws.same_types}
 use Rattle.read_follow.proofs.Refusing.{refused}
 use Rattle.base_lemmas.proofs.{Elements.all_end, Lists.mapped_get, Lists.slice_front}
 use Rattle.wit_model.specs.Tree as tree
@@ -56,10 +56,6 @@ slot_counted shapes fs (slots.Function n) h = refl
 slot_counted shapes fs (slots.Instance b n) h = refl
 
 -- ---- empty tables
-
-pub no_tables : (m : ℕ) (shapes : List Shape) (fs : List FunctionShape) → shapes ≡ [] → fs ≡ [] → AreTables m shapes fs
-no_tables m shapes fs es ef =
-    subst (λ (ss : List Shape). AreTables m ss fs) (sym es) (subst (λ (gs : List FunctionShape). AreTables m [] gs) (sym ef) (record { table = no_types.table; placed = tt; signatures = tt }))
 
 -- ---- tables that grow
 

@@ -3,7 +3,7 @@ use Rattle.std.proofs.Common.{◌≡◌, inl, inr, refl, sym, ap, ◌∙◌, sub
 use Rattle.std.specs.List.{list_any}
 use Rattle.std.proofs.lemmas.List.{map-append}
 use Rattle.read_follow.specs.Functions.{AreApart, Joins, stays, comes}
-use Rattle.base_lemmas.proofs.Lists.{last_or, none_there as nothing_at}
+use Rattle.base_lemmas.proofs.Lists.{last_or}
 
 module _ {X : Type 0} (old : List X) (x : X) (apart : AreApart old) where
   apart_more : ((n : ℕ) → slice_get old n ≡ Some x → ⊥) → AreApart (old ++ x ∷ [])
@@ -22,9 +22,6 @@ module _ {X : Type 0} (old : List X) (x : X) (apart : AreApart old) where
   pub joined_apart : (new : List X) → Joins old x new → AreApart new
   joined_apart new stays = apart
   joined_apart new (comes fresh) = apart_more fresh
-
-pub none_apart : {X : Type 0} → AreApart {X = X} []
-none_apart n m x en em = absurd (nothing_at n x en)
 
 module _ {K S : Type 0} (shape : K → S) (eq : K → K → Bool) (again : (a b : K) → shape a ≡ shape b → eq a b ≡ true) where
   either_true : (a b : Bool) → b ≡ true → (a || b) ≡ true

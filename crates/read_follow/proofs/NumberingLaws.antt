@@ -1,12 +1,12 @@
 -- Parts that are declared one after the other, each there already or the next one.
-use Rattle.std.proofs.Common.{◌≡◌, refl, sym, ap, ◌∙◌, subst, ℕ, ◌+◌, ◌<◌, ◌≤◌, arith, inl, inr, List, [], ◌∷◌, ◌++◌, map, length, length-append, drop, append_assoc, Some, None, slice_get}
+use Rattle.std.proofs.Common.{◌≡◌, refl, sym, ap, ◌∙◌, subst, ℕ, ◌+◌, ◌<◌, ◌≤◌, arith, inl, inr, List, [], ◌∷◌, ◌++◌, map, length, length-append, drop, Some, None, slice_get}
 use Rattle.std.proofs.lemmas.{Grind.flat_map-append, List.append-nil, Option.slice_get_within as found_below}
 use Rattle.std.specs.List.{AllByRecursion, flat_map}
 use Rattle.wit_model.specs.{Meaning.Signature, Tree.Tree}
 use Rattle.comp_meaning.specs.Follow.{Instance as MeantInstance, Scope as MeantScope, Seen as MeantSeen, Slot as Meant}
 use Rattle.read_follow.specs.declared.slots.Slot.{Slot}
 use Rattle.read_follow.specs.Numbering.{all_in, bare_parts, parts_in, scoped_trees, slot_parts, slot_trees, trees_since, used_trees, CountUp, IsNext}
-use Rattle.read_follow.specs.Slots.{resource_slot, slot_in, slots_in, AreNames, IsName}
+use Rattle.read_follow.specs.Slots.{resource_slot, slots_in, AreNames, IsName}
 use Rattle.plan_meaning.specs.Shapes.{Shape, part_tree, Adds, stays, comes}
 use Rattle.base_lemmas.proofs.Lists.{append_of_map, last_or}
 use Rattle.read_follow.specs.declared.slots.Slot.TheVariants as slots

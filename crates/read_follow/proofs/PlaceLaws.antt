@@ -1,12 +1,12 @@
 -- Places that are put into a table, each once.
 use Rattle.std.proofs.Common.{◌≡◌, inl, inr, refl, sym, ap, ◌∙◌, subst, ℕ, zero, suc, ◌+◌, ◌<◌, ◌≤◌, arith, Bool, true, false, ◌&&◌, ◌==◌, cond, List, [], ◌∷◌, ◌++◌, map, length, Option, Some, None, is_some, slice_get, unwrap_or, IfOk, Result, Ok, Err}
 use Rattle.std.proofs.{Math.ListN.length-map, lemmas.Slice.Eq.bytes_eq-Decides}
-use Rattle.std.proofs.lemmas.{Bool.eqb-true, Bool.eq-eqb, Bool.and_from as both, List.append-nil, List.map-append, Option.slice_get_within as found_below}
+use Rattle.std.proofs.lemmas.{Bool.eqb-true, Bool.eq-eqb, Bool.and_from as both, List.map-append, Option.slice_get_within as found_below}
 use Rattle.wit_model.specs.{Names.read_path, Text.Text, Text.text_eq, Text.text_of}
 use Rattle.comp_bytes.specs.Reading.{◌>>=◌}
 use Rattle.comp_meaning.specs.Follow.{complete_path, completed, provided}
 use Rattle.read_follow.specs.declared.{refusal.Refusal.Refusal, places.PlaceKey.PlaceKey}
-use Rattle.read_follow.specs.{Defining.Grows, Functions.Joins, Functions.stays, Functions.comes}
+use Rattle.read_follow.specs.{Functions.Joins, Functions.stays, Functions.comes}
 use Rattle.read_follow.specs.Places.{path_in, place_shape, has_path, ArePathsApart, ArePlaces, IsOnlyNew, IsReadIfGiven}
 use Rattle.read_follow.proofs.{JoinLaws.joined_apart, SlotLaws.mapped_none}
 use Rattle.base_lemmas.proofs.{Bools.left_of as first_true, Bools.right_of as second_true, Lists.last_or, Lists.mapped_get}
@@ -56,10 +56,6 @@ kept_more shapes marks x kept few given fresh = record {
 }
 
 -- ---- their paths
-
-pub joined_paths : (shapes new : List (Text × ℕ)) (x : Text × ℕ) → Joins shapes x new → Grows (map path_in shapes) (map path_in new)
-joined_paths shapes new x stays = record { more = []; is = sym (append-nil (map path_in shapes)) }
-joined_paths shapes new x (comes fresh) = record { more = path_in x ∷ []; is = map-append path_in shapes (x ∷ []) }
 
 -- where a place joins the others, no other is new
 pub only_joined : (shapes new : List (Text × ℕ)) (x : Text × ℕ) (n : ℕ) → Joins shapes x new → slice_get new n ≡ Some x → IsOnlyNew (map path_in shapes) n (map path_in new)

@@ -1,6 +1,6 @@
 -- Names stay in their places as a scope of a component type goes on.
 use Rattle.std.proofs.Common.{◌≡◌, ◌⊎◌, inl, inr, refl, sym, ap, ◌∙◌, subst, ℕ, zero, suc, ◌+◌, ◌<◌, ◌≤◌, arith, Bool, true, false, cond, List, [], ◌∷◌, ◌++◌, map, length, length-append, Option, Some, None, IfSome, slice_get, unwrap_or, append_assoc}
-use Rattle.std.proofs.lemmas.{Bool.cases_lt, Bool.false≢true, List.append-nil, List.map-append, Option.slice_get_within as found_below}
+use Rattle.std.proofs.lemmas.{Bool.cases_lt, Bool.false≢true, List.append-nil, Option.slice_get_within as found_below}
 use Rattle.std.specs.List.{AllByRecursion}
 use Rattle.wit_model.specs.{Meaning.FunctionMeaning, Meaning.Signature, Text.Text, Text.text_eq, Tree.Form, Tree.Place, Tree.Tree}
 use Rattle.comp_meaning.specs.Follow.{Scope as MeantScope, Seen as MeantSeen, Shown as MeantShown, Slot as Meant, ShownType as MeantType, View as MeantView}

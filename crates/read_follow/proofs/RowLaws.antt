@@ -30,8 +30,6 @@ none_dropped [] = refl
 none_dropped (x ∷ xs) = refl
 
 module _ {A Y : Type 0} (f : A → Option Y) (labs : Y → List (Text × Bool)) (trees : Y → List Tree) (rows : List A) where
-  pub rows_start : RowsSoFar f labs trees rows 0 [] []
-  rows_start = record { ys = []; kept = behind_none (each f (drop 0 rows)) ∙ ap (each f) (none_dropped rows); labels_are = refl; trees_are = refl }
 
   module _ (i : ℕ) (labels : List (Text × Bool)) (ts : List Tree) (so_far : RowsSoFar f labs trees rows i labels ts) where
     module _ (x : A) (at : drop i rows ≡ x ∷ drop (i + 1) rows) where

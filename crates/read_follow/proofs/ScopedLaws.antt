@@ -1,5 +1,5 @@
 -- The scopes of types: a type is over names of its scope's place and of places with a path.
-use Rattle.std.proofs.Common.{◌≡◌, inl, inr, sym, ap, ◌∙◌, subst, ℕ, ◌+◌, ◌<◌, List, [], ◌∷◌, ◌++◌, map, length, Option, Some, None, slice_get}
+use Rattle.std.proofs.Common.{◌≡◌, sym, ap, ◌∙◌, subst, ℕ, ◌+◌, ◌<◌, List, [], ◌∷◌, ◌++◌, map, length, Option, Some, None, slice_get}
 use Rattle.std.proofs.lemmas.List.{append-nil}
 use Rattle.std.specs.List.{AllByRecursion, Contains, flat_map}
 use Rattle.wit_model.specs.{Meaning.Signature, Text.Text, Tree.Place, Tree.Tree}
@@ -7,7 +7,7 @@ use Rattle.read_follow.specs.declared.{scopes.Instance.Instance, scopes.Seen.See
 use Rattle.read_follow.specs.{Defining.Grows, Facts.places}
 use Rattle.read_follow.specs.{Following.AreTables, Following.IsSlotIn, Placed.apart, Placed.MayMeet, Placed.SlotOver, Placed.TreeOver, Places.has_path}
 use Rattle.read_follow.specs.{Functions.functions_in, Functions.FunctionShape, Slots.resource_slot, Slots.slot_in, Slots.slots_in, Slots.AreNames, Slots.IsName}
-use Rattle.read_follow.specs.Numbering.{all_in, bare_parts, parts_in, scoped_trees, slot_parts, slot_trees, CountUp}
+use Rattle.read_follow.specs.Numbering.{all_in, bare_parts, parts_in, slot_parts, slot_trees, CountUp}
 use Rattle.read_follow.specs.Scopes.{meant_at, AreScopedIn, IsPartOver, IsScopedIn, IsWorld, World}
 use Rattle.plan_meaning.specs.Shapes.{Shape, part_tree, shape_trees}
 use Rattle.read_follow.proofs.{DefiningLaws.part_grown, FollowingLaws.names_of, OverLaws.name_over, ScopeLaws.extended, ScopeLaws.IsNumbered}

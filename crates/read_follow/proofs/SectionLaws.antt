@@ -49,10 +49,6 @@ alike (refusals.Absent cause left) refusals.Memory found a r = absurd a
 abbrev pub with_pieces : List Piece → Option (List Piece) → Option (List Piece)
 with_pieces front found = found >>= λ ps. Some (front ++ ps)
 
-pub with_no_pieces : (found : Option (List Piece)) → with_pieces [] found ≡ found
-with_no_pieces None = refl
-with_no_pieces (Some ps) = refl
-
 module _ (bytes : List ℕ) (filled : length bytes ≡ 0 → ⊥) where
   framed : (o : Option ((ℕ × List ℕ) × List ℕ)) → (o >>= λ frame. piece_of frame.0.0 frame.0.1 >>= λ first. pieces_in frame.1 >>= λ others. Some (first ∷ others))
       ≡ ((o >>= λ frame. piece_of frame.0.0 frame.0.1 >>= λ p. let q : Piece × List ℕ = (p, frame.1) in Some q) >>= λ p. with_pieces (p.0 ∷ []) (pieces_in p.1))

@@ -2,7 +2,7 @@
 use Rattle.std.proofs.Common.{◌≡◌, inl, inr, refl, sym, ap, ◌∙◌, subst, ℕ, zero, suc, ◌+◌, ◌<◌, arith, List, [], ◌∷◌, ◌++◌, length, Some, slice_get, unwrap_or, length-append}
 use Rattle.wit_model.specs.{Tree.Place, Tree.Tree, Types.grow, Types.no_tree}
 use Rattle.wit_model.proofs.Tables.{grow_keeps}
-use Rattle.plan_meaning.specs.Shapes.{Shape, part_tree, shape_tree, shape_trees, IsShape, IsTable, Adds, stays, comes}
+use Rattle.plan_meaning.specs.Shapes.{Shape, part_tree, shape_tree, shape_trees, IsShape, IsTable}
 use Rattle.read_follow.specs.declared.facts.Fact.{Fact}
 use Rattle.read_follow.specs.Facts.{IsKept, Tells}
 use Rattle.read_follow.proofs.FactLaws.{tells_along}
@@ -28,10 +28,6 @@ table_more ss s table shape fresh = record {
     ]
   ];
 }
-
-pub table_adds : (old new : List Shape) (s : Shape) → IsTable old → IsShape (length old) s → Adds old s new → IsTable new
-table_adds old new s table shape stays = table
-table_adds old new s table shape (comes fresh) = table_more old s table shape fresh
 
 -- ---- its trees
 

@@ -1,8 +1,7 @@
 -- The least key that has two encodings, found one entry after the other; and encodings added to others.
-use Rattle.std.proofs.Common.{◌≡◌, refl, sym, ap, subst, ◌∙◌, ◌⊎◌, inl, inr, Bool, true, false, not, List, [], ◌∷◌, cond, Option, Some, None}
+use Rattle.std.proofs.Common.{◌≡◌, refl, sym, ap, subst, ◌∙◌, ◌⊎◌, inl, inr, Bool, true, false, not, [], ◌∷◌, cond, Option, Some, None}
 use mathlib.Core.Bool.{true≢false}
 use Rattle.std.specs.{Prelude.◌≢◌, Prelude.◌==◌, List.AllByRecursion, List.IsDistinct, Map.keys_of, Option.option_map_or}
-use Rattle.std.proofs.lemmas.Slice.Eq.{bytes_eq-Decides}
 use Rattle.indexmap.specs.IndexMap.{insert_all, insert_entry}
 use Rattle.wit_model.specs.declared.model.StringEncoding.{StringEncoding}
 use Rattle.wit_model.specs.Text.{Text, text_eq}

@@ -43,9 +43,6 @@ module _ (r : Resolve) (scope : WorldKey) (function : Text) where
   pub first_is : (k : Text) (e : StringEncoding) (es : Entries) → is_key_of r scope function k ≡ true → among ((k, e) ∷ es) ≡ Some e
   first_is k e es h = ap (λ b. cond b (Some e) (among es)) h
 
-  pub first_isnt : (k : Text) (e : StringEncoding) (es : Entries) → is_key_of r scope function k ≡ false → among ((k, e) ∷ es) ≡ among es
-  first_isnt k e es h = ap (λ b. cond b (Some e) (among es)) h
-
 -- ---- put
 
 module _ (q : Text) (k : Text) (v : StringEncoding) where

@@ -79,16 +79,3 @@ pub is_behind : (scope : Option Text) (function key front name : Text) → IsCut
     ≡ option_map_or (λ rest. text_eq (47 ∷ function) (text_under rest name)) (option_and_then (λ s. after_prefix s front) scope) false
 is_behind None function key front name cut = refl
 is_behind (Some s) function key front name cut = ap (text_eq (text_under s function)) cut.is ∙ behind_scope s function front name cut.bare
-
--- what is left is nothing, or begins with a slash
-pub nothing_left : (rest function name : Text) → rest ≡ [] → text_eq function name ≡ text_eq (47 ∷ function) (text_under rest name)
-nothing_left rest function name none = ap (λ r. text_eq (47 ∷ function) (text_under r name)) (sym none)
-
-pub more_left : (rest function name : Text) → (rest ≡ [] → ⊥)
-    → text_eq (47 ∷ function) (text_under rest name) ≡ option_map_or (λ front. text_eq function (text_under front name)) (after_prefix (47 ∷ []) rest) false
-more_left [] function name some = absurd (some refl)
-more_left (b ∷ rest) function name some = by (47 == b)
-  where
-    by : (v : Bool) → (v && text_eq function (text_under rest name)) ≡ option_map_or (λ front. text_eq function (text_under front name)) (cond v (Some rest) None) false
-    by true = refl
-    by false = refl

@@ -87,17 +87,6 @@ entry_is r w scope name front o at is =
     ap (option_map (λ e. (text_under front name, e))) is
     ∙ ap (λ s. option_and_then (λ k. option_map (λ e. (k, e)) (w scope name)) (option_map (λ t. text_under t name) s)) (sym at)
 
--- what is put under it
-pub puts_entry : (r : Resolve) (w : Choice) (scope : WorldKey) (name front key : Text) (e : StringEncoding) (old new : Encodings) → scope_of r scope ≡ Some front
-    → Some e ≡ w scope name → key ≡ text_under front name → Puts ((key, e) ∷ []) old new → Puts (option_to_list (entry_of r w scope name)) old new
-puts_entry r w scope name front key e old new at is made puts =
-    subst (λ (es : List Entry). Puts es old new) ((λ i. (made i, e) ∷ []) ∙ ap option_to_list (entry_is r w scope name front (Some e) at is)) puts
-
--- nothing is put for a function that is to have none
-pub puts_none : (r : Resolve) (w : Choice) (scope : WorldKey) (name front : Text) (m : Encodings) → scope_of r scope ≡ Some front → None ≡ w scope name
-    → Puts (option_to_list (entry_of r w scope name)) m m
-puts_none r w scope name front m at is = subst (λ (es : List Entry). Puts es m m) (ap option_to_list (entry_is r w scope name front None at is)) (λ k. refl)
-
 -- functions without a scope have no entries
 no_members : (r : Resolve) (w : Choice) (scope : WorldKey) (fs : List (String Global × Function)) → None ≡ scope_of r scope → [] ≡ member_entries r w scope fs
 no_members r w scope [] none = refl

@@ -1,41 +1,18 @@
 -- Why bindings can't be united, or that they can, from what is compared by numbers.
-use Rattle.std.proofs.Common.{◌≡◌, refl, sym, subst, ◌⊎◌, inl, inr, Some, Option, String}
+use Rattle.std.proofs.Common.{◌≡◌, sym, subst, ◌⊎◌, inl, inr, Some, String}
 use Rattle.std.specs.declared.alloc.Global.{Global}
 use Rattle.wit_model.specs.declared.{error.Error.Error, error.ClashKind.ClashKind, model.World.World}
-use Rattle.wit_model.specs.{Lookup.world_at, Text.optional_text, Text.text_of}
+use Rattle.wit_model.specs.{Lookup.world_at, Text.text_of}
 use Rattle.bind_match.specs.declared.matches.Matches.{Matches}
-use Rattle.bind_meaning.specs.Clash.{EncodingFault, IsClash, NoFault}
-use Rattle.bind_clash.specs.{Faults.HasNoClash, Faults.IsClashAt, Faults.IsFaultError, Faults.IsLeastFault, Faults.IsMatched, Laws.AreWorlds}
+use Rattle.bind_meaning.specs.Clash.{IsClash}
+use Rattle.bind_clash.specs.{Faults.HasNoClash, Faults.IsClashAt, Faults.IsMatched, Laws.AreWorlds}
 use Rattle.bind_clash.proofs.ClashesMeant.{clashes_are_of_bindings, encodings_clash_last}
-use Rattle.wit_bind.specs.declared.{bindgen.Bindgen.Bindgen, metadata.ModuleMetadata.ModuleMetadata}
+use Rattle.wit_bind.specs.declared.{bindgen.Bindgen.Bindgen}
 use Rattle.wit_bind.specs.{Bindings.binding_of, Bindings.IsBindgen, Merges.IsEncodingRefusal, Merges.IsMergeRefusal}
 use Rattle.base_lemmas.proofs.Lists.{within_there as element_at}
 use Rattle.wit_model.specs.declared.error.Error.TheVariants as errors
-use Rattle.wit_model.specs.declared.error.ClashKind.TheVariants as kinds
 
 -- ---- encodings
-
--- a fault of imported encodings is the refusal
-pub imported_refused : (own other : ModuleMetadata) (f : Option (String Global)) (e : Error) → IsFaultError kinds.Encoding f e
-    → IsLeastFault (EncodingFault own.import_encodings other.import_encodings) (optional_text f) → IsEncodingRefusal own other e
-imported_refused own other f e h p =
-    subst (IsEncodingRefusal own other) (sym h.2) (refl, inl (subst (λ (o : Option (String Global)). IsLeastFault (EncodingFault own.import_encodings other.import_encodings) (optional_text o)) h.1 p))
-
--- and so is one of exported ones, where imported ones have none
-pub exported_refused : (own other : ModuleMetadata) (f : Option (String Global)) (e : Error) → NoFault (EncodingFault own.import_encodings other.import_encodings) → IsFaultError kinds.Encoding f e
-    → IsLeastFault (EncodingFault own.export_encodings other.export_encodings) (optional_text f) → IsEncodingRefusal own other e
-exported_refused own other f e none h p =
-    subst (IsEncodingRefusal own other) (sym h.2) (
-      refl,
-      inr (
-        none,
-        subst
-            (λ (o : Option (String Global)). IsLeastFault (EncodingFault own.export_encodings other.export_encodings) (optional_text o)) h.1 p,
-      ),
-    )
-
-pub memory_refused : (own other : ModuleMetadata) (e : Error) → e ≡ errors.Memory → IsEncodingRefusal own other e
-memory_refused own other e h = subst (IsEncodingRefusal own other) (sym h) tt
 
 -- ---- bindings
 
@@ -51,9 +28,6 @@ module _ (own other : Bindgen) (o : IsBindgen own) (t : IsBindgen other) (m : Ma
 
   pub worlds : AreWorlds own.resolve other.resolve m own.world.0 other.world.0 own_world.0 other_world.0
   worlds = record { own_valid = o.valid; other_valid = t.valid; matched = matched; own_at = own_world.1; other_at = other_world.1 }
-
-  pub memory_is : (e : Error) → e ≡ errors.Memory → IsMergeRefusal own other e
-  memory_is e h = subst (IsMergeRefusal own other) (sym h) tt
 
   -- what clashes by numbers is the refusal
   pub clash_is : (e : Error)

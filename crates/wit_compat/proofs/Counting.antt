@@ -1,5 +1,5 @@
 -- The beginning of a table is so many different pairs of the walk.
-use Rattle.std.proofs.Common.{rules as std_rules, arith, ◌≡◌, refl, sym, ap, subst, ◌∙◌, ℕ, zero, suc, ◌≤◌, Bool, true, false, ◌&&◌, ◌⊎◌, inl, inr, List, [], ◌∷◌, take, drop, length, nat_eq, Result, Ok, Err, OnOk, is_ok}
+use Rattle.std.proofs.Common.{rules as std_rules, arith, ◌≡◌, refl, sym, ap, subst, ◌∙◌, ℕ, zero, suc, ◌≤◌, Bool, true, false, ◌&&◌, ◌⊎◌, inl, inr, List, [], ◌∷◌, take, drop, length, nat_eq, Result, OnOk, is_ok}
 use Rattle.std.proofs.lemmas.{List.take-append-drop, List.take_all, Bool.eq-eqb}
 use Rattle.std.proofs.lemmas.{List.Elements.Contains-append_left, List.Elements.Contains-append_cases, Map.Keys.IsDistinct-head, Map.Keys.IsDistinct-tail}
 use Rattle.std.specs.List.{Contains, IsDistinct, AllByRecursion}

@@ -4,8 +4,8 @@ use Rattle.std.proofs.{Math.ListN.length-map, lemmas.Option.slice_get_within as 
 use Rattle.std.specs.declared.alloc.{Global.Global, AllocError.AllocError}
 use Rattle.std.specs.List.{Contains}
 use Rattle.wit_model.specs.declared.model.{Resolve.Resolve, TypeDef.TypeDef, TypeId.TypeId, TypeDefKind.TypeDefKind, «Type».«Type» as ValueType}
-use Rattle.wit_model.specs.{Lookup.type_at, Meaning.TypeMeaning, Parts.kind_numbers, Text.optional_text, Uses.alias_target, Valid.IsValid, Valid.named_kinds}
-use Rattle.wit_model.specs.{Meant.no_type, Meant.type_meaning, Meant.type_meaning_at, Rules.is_named_number, Rules.passes, Rules.is_resource_itself}
+use Rattle.wit_model.specs.{Lookup.type_at, Parts.kind_numbers, Text.optional_text, Valid.IsValid, Valid.named_kinds}
+use Rattle.wit_model.specs.{Meant.type_meaning_at, Rules.is_named_number, Rules.passes, Rules.is_resource_itself}
 use Rattle.wit_model.specs.Tree.{Tree, Form, Declaration, type_, resource, primitive, named, node, children, child_list}
 use Rattle.wit_model.specs.Types.{number_of, type_tree, tree_of, trees_of, no_tree, declared_by, tree_of_declaration}
 use Rattle.wit_model.proofs.{Entries.each_from_at, Entries.lists_pass, TreeTable.kept_numbers, TreeLemmas.child_list_of_children as children_back}
@@ -41,9 +41,6 @@ alias_kind x t e = search std_rules
 
 resource_kind : (k : TypeDefKind) → is_resource_itself k ≡ true → k ≡ kind.Resource
 resource_kind x e = search std_rules
-
-is_resource_by : (trees : List Tree) (k : TypeDefKind) → is_resource_declaration (declared_by trees k) ≡ is_resource_itself k
-is_resource_by trees x = search std_rules
 
 own : (trees : List Tree) (k : TypeDefKind) → aliased k ≡ None → is_own (declared_by trees k) ≡ true
 own trees x e = search std_rules
@@ -167,11 +164,6 @@ module _ (d e : TypeDefKind) where
 -- ---- two types under their names
 
 module _ (a b : Resolve) (n m : ℕ) (d e : TypeDef) (dat : type_at a n ≡ Some d) (eat : type_at b m ≡ Some e) where
-  meaning_left : type_meaning_at a n ≡ type_meaning a d
-  meaning_left = ap (λ o. Rattle.std.specs.Option.option_map_or (type_meaning a) o no_type) dat
-
-  meaning_right : type_meaning_at b m ≡ type_meaning b e
-  meaning_right = ap (λ o. Rattle.std.specs.Option.option_map_or (type_meaning b) o no_type) eat
 
   pub meanings : optional_text d.external_id ≡ optional_text e.external_id → (y : Bool) → (IsTrue y ↔ SameDeclared a b d.kind e.kind) → IsTrue y ↔ (type_meaning_at a n ≡ type_meaning_at b m)
   meanings ids y h = search std_rules

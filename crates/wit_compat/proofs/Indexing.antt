@@ -1,13 +1,12 @@
 -- An index finds what its list has.
 use Rattle.std.proofs.Common.{rules as std_rules, ◌≡◌, refl, sym, ap, ◌∙◌, ℕ, ◌+◌, ◌<◌, ◌==◌, subst, ◌⊎◌, inl, inr, Bool, true, false, ◌&&◌, cond, List, [], ◌∷◌, ◌++◌, map, take, length, get_or, Option, Some, None, option_map}
-use Rattle.std.proofs.lemmas.{List.take_more, List.map-append, Slice.Eq.bytes_eq-Decides}
+use Rattle.std.proofs.lemmas.{List.take_more, List.map-append}
 use Rattle.std.proofs.lemmas.List.Elements.{Contains-append_left, Contains-append_right, Contains-push, Contains-push_cases}
 use Rattle.std.specs.{Borrow.Bor, List.Contains, Map.lookup, Option.is_none, Option.option_copied}
 use Rattle.wit_model.specs.Text.{text_eq}
 use Rattle.wit_compat.specs.declared.part.Entry.{Entry}
 use Rattle.wit_compat.specs.{Flat.Name, Flat.Thing, Flat.find_named, Flat.same_name, Parts.thing_of, Parts.named_thing, Numbered.AllNumbersTell}
 use Rattle.wit_compat.specs.Index.{NumberedName, indexed, AllToldFrom, ComeFrom, Indexes, IsToldFrom}
-use Rattle.base_lemmas.proofs.Bools.{left_of as first_true, right_of as second_true}
 
 abbrev thing_in : Entry → Thing
 thing_in e = thing_of e.part

@@ -1,5 +1,5 @@
 -- Lists in which the same is found have the same included, the same faults and the same pairs.
-use Rattle.std.proofs.Common.{rules as std_rules, ◌≡◌, refl, sym, ap, subst, ◌∙◌, Bool, inl, inr, List, [], ◌∷◌, ◌++◌, map, option_map, Result, Ok, Err, OnOk, IfErr, MatchResult}
+use Rattle.std.proofs.Common.{rules as std_rules, ◌≡◌, refl, sym, ap, subst, ◌∙◌, Bool, inl, inr, List, [], ◌∷◌, ◌++◌, map, option_map, Result, OnOk, IfErr, MatchResult}
 use Rattle.std.specs.{List.Contains, Option.option_map_or}
 use Rattle.wit_model.specs.declared.{model.Resolve.Resolve, error.Error.Error}
 use Rattle.wit_compat.specs.declared.part.Entry.{Entry}

@@ -6,7 +6,6 @@ use Rattle.wit_model.specs.declared.model.{Resolve.Resolve, Interface.Interface}
 use Rattle.wit_model.specs.{Lookup.interface_at, Meaning.InterfaceSense, Meaning.interface_sense, Meant.interface_meaning, Meant.interface_meaning_at}
 use Rattle.wit_compat.specs.TwoSides.{functions_sense, types_sense}
 use Rattle.wit_compat.proofs.Sided.{never}
-use Rattle.wit_model.proofs.MeantLemmas.{meaning_there as interface_there}
 
 pub among_contains : {X : Type 0} (xs : List X) (x : X) → IsAmong xs x → Contains xs x
 among_contains xs x (i, h) = (i, h.0, sym h.1)

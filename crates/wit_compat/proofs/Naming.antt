@@ -1,7 +1,6 @@
 -- What interfaces are called.
-use Rattle.std.proofs.Common.{rules as std_rules, ◌≡◌, refl, sym, ap, flat_map, get_or, append-nil, ◌∙◌, ℕ, zero, suc, ◌+◌, ◌<◌, Bool, true, false, cond, List, [], ◌∷◌, ◌++◌, take, length, arith, Option, Some, None}
+use Rattle.std.proofs.Common.{rules as std_rules, ◌≡◌, refl, sym, ap, flat_map, get_or, append-nil, ◌∙◌, ℕ, zero, suc, ◌+◌, ◌<◌, Bool, cond, List, [], ◌∷◌, ◌++◌, take, length, arith, Option, Some}
 use Rattle.std.proofs.lemmas.{List.take_more, List.Concat.flat_map-append}
-use Rattle.wit_model.specs.Text.{Text}
 use Rattle.std.specs.Option.{option_or}
 use Rattle.wit_model.specs.declared.model.{Resolve.Resolve, Interface.Interface, WorldKey.WorldKey, WorldItem.WorldItem, World.World}
 use Rattle.wit_compat.specs.{Opened.entries_of_world, Opened.interface_name, Opened.is_item_of, Opened.label_among, Opened.label_of_key, Outline.names_from}
@@ -21,16 +20,6 @@ names_more r k (i ∷ is) zero h = ap (λ m. interface_name r m ∷ []) (omega a
 names_more r k (i ∷ is) (suc n) h =
     ap (λ xs. interface_name r k ∷ xs) (names_more r (k + 1) is n (omega (arith, h)))
     ∙ ap (λ m. interface_name r k ∷ (names_from r (k + 1) (take n is) ++ interface_name r m ∷ [])) (omega arith)
-
--- the label of one item more
-pub label_more : (n : ℕ) (e : WorldKey × WorldItem) (es : List (WorldKey × WorldItem)) (o : Option Text)
-    → option_or (option_or o (cond (is_item_of n e.1) (Some (label_of_key e.0)) None)) (label_among n es) ≡ option_or o (label_among n (e ∷ es))
-label_more n e es (Some t) = refl
-label_more n e es None = by (is_item_of n e.1)
-  where
-    by : (b : Bool) → option_or (cond b (Some (label_of_key e.0)) None) (label_among n es) ≡ cond b (Some (label_of_key e.0)) (label_among n es)
-    by true = refl
-    by false = refl
 
 pub or_assoc : {X : Type 0} (a b c : Option X) → option_or (option_or a b) c ≡ option_or a (option_or b c)
 or_assoc x b c = search std_rules

@@ -61,9 +61,6 @@ form_back x = search (std_rules, zipped_back)
 pub same_forms : (f g : Option Form) → sort_of f ≡ sort_of g → labels_of f ≡ labels_of g → given_of f ≡ given_of g → count_of f ≡ count_of g → f ≡ g
 same_forms f g s l b n = sym (form_back f) ∙ (λ i. form_from (s i) (l i) (b i) (n i)) ∙ form_back g
 
-pub named_form : (f : Option Form) → sort_of f ≡ sort.Named → f ≡ None
-named_form f e = sym (form_back f) ∙ ap (λ s. form_from s (labels_of f) (given_of f) (count_of f)) e
-
 -- lists of borrowed texts
 pub pointwise_now : (xs ys : List (Bor (List ℕ))) → pointwise (λ a b. text_eq a.now b.now) xs ys ≡ pointwise text_eq (map (λ s. s.now) xs) (map (λ s. s.now) ys)
 pointwise_now [] [] = refl

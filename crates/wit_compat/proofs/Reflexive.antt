@@ -9,8 +9,8 @@ use Rattle.indexmap.specs.IndexMap.{keys, values}
 use Rattle.wit_model.specs.declared.model.{Resolve.Resolve, World.World, Function.Function, TypeDef.TypeDef, TypeId.TypeId}
 use Rattle.wit_model.specs.declared.model.{Interface.Interface, WorldKey.WorldKey, WorldItem.WorldItem, FunctionKind.FunctionKind, TypeOwner.TypeOwner}
 use Rattle.wit_model.specs.{Text.Text, Text.text_of, Text.text_eq, Lookup.interface_at, Lookup.type_at, Lookup.resource_of}
-use Rattle.wit_model.specs.{Names.is_label, Names.constructor_name, Names.method_name, Names.static_name, Checks.KeepsIn, Checks.has_name, Checks.listings}
-use Rattle.wit_model.specs.Rules.{after_prefix, are_in_order, are_member_labels, constructs, function_labels, in_list, interface_type_numbers, is_freestanding, is_member, is_member_name, is_member_of, is_named_of, is_stability, kind_labels, passes, resource_name, takes_self}
+use Rattle.wit_model.specs.{Names.is_label, Checks.KeepsIn, Checks.has_name, Checks.listings}
+use Rattle.wit_model.specs.Rules.{are_member_labels, function_labels, in_list, is_freestanding, is_member, is_member_of, is_stability, kind_labels, passes, resource_name}
 use Rattle.wit_model.specs.Valid.{IsValid, as_interface, functions_of_interface, function_names, labels, order_of_types}
 use Rattle.wit_model.proofs.Entries.{each_from_all, each_from_at, lists_pass, none_breaks}
 use Rattle.wit_model.proofs.Listings.{interface_fits, misnamed_in_interface_breaks}
@@ -20,8 +20,6 @@ use Rattle.wit_compat.proofs.{Including.found_shown, Indexing.same_name_is, Keye
 use Rattle.base_lemmas.proofs.{Bools.left_of as first_true, Bools.right_of as second_true, Lists.within_there as found_at}
 use Rattle.base_lemmas.proofs.Elements.{all-contained as all_contained, any-at as any_contained, contains-map as contains_mapped, last_of as contains_one, map_from as contains_map, none_in as none_contained}
 use Rattle.wit_model.specs.declared.error.EntryList.TheVariants as lists
-use Rattle.wit_model.specs.declared.model.WorldItem.TheVariants as item
-use Rattle.wit_model.specs.declared.model.FunctionKind.TheVariants as kind
 use Rattle.wit_model.specs.declared.model.«Type».TheVariants as ty
 
 -- ---- names that are all different
@@ -93,14 +91,6 @@ module _ {V : Type 0} (k : Text) (of : V → Thing) where
 
 no_label : (t : Text) → is_label t ≡ true → t ≡ [] → ⊥
 no_label t h e = let wrong : false ≡ true = ap is_label (sym e) ∙ h in cc
-
--- a function of a resource has a name that begins with its kind
-member_not_empty : (r : Resolve) (n : ℕ) (name : Text) (f : Function) (k : FunctionKind) → is_freestanding k ≡ false → is_member_of r n name f k ≡ true → text_of f.name ≡ [] → ⊥
-member_not_empty r n name f y o h e = search std_rules
-
-found_member : (r : Resolve) (n : ℕ) (f : Function) (k : FunctionKind) (name : Option Text) → is_freestanding k ≡ false → option_map_or (λ t. is_member_of r n t f k) name false ≡ true
-    → text_of f.name ≡ [] → ⊥
-found_member r n f k x o h e = search std_rules
 
 function_not_empty : (r : Resolve) (o : TypeOwner) (f : Function) (k : FunctionKind) → passes (λ n. option_map_or (λ t. is_member_of r n t f k) (resource_name r o n) false) (resource_of k) ≡ true
     → (not (is_freestanding k) || is_label (text_of f.name)) ≡ true → text_of f.name ≡ [] → ⊥

@@ -1,5 +1,5 @@
 -- Texts that stand once, and the first that repeats an earlier one.
-use Rattle.std.proofs.Common.{rules as std_rules, arith, ◌≡◌, refl, sym, ap, subst, ◌∙◌, ◌⊎◌, inl, inr, true, false, cond, List, [], ◌∷◌, ◌++◌, append_assoc, map, Bor, ℕ, Option, None, Some, MatchOption, Result, Ok, Err, IfOk}
+use Rattle.std.proofs.Common.{rules as std_rules, arith, ◌≡◌, refl, sym, ap, subst, ◌∙◌, ◌⊎◌, inl, inr, true, false, cond, List, [], ◌∷◌, ◌++◌, append_assoc, map, Bor, ℕ, Option, None, Some, MatchOption, Result, IfOk}
 use Rattle.std.proofs.lemmas.{List.map-append, Slice.Eq.bytes_eq-Decides, Bool.or_parts as neither}
 use Rattle.std.proofs.lemmas.List.Elements.{Contains-append_left, Contains-append_right, Contains-append_cases, Contains-push}
 use Rattle.std.specs.List.{list_any, AllByRecursion, Contains, IsDistinct}

@@ -93,9 +93,6 @@ module _ (a b : Resolve) where
             let w = same_parameters f.params.items g.params.items f.result g.result s.names s.results (h.0 t) in
             λ i. record { is_async = s.asyncs i; params = w.0 i; result = w.1 i }
 
-    pub senses_exact : (y : Bool) → optional_text f.external_id ≡ optional_text g.external_id → (IsTrue y ↔ Same) → IsTrue y ↔ (function_meaning a f ≡ function_meaning b g)
-    senses_exact y e h = (λ t. let s = h.0 t in λ i. record { signature = s i; external_id = e i }, λ m. h.1 (ap (λ (z : FunctionMeaning). z.signature) m))
-
     pub ids_same : function_meaning a f ≡ function_meaning b g → optional_text f.external_id ≡ optional_text g.external_id
     ids_same m = ap (λ (z : FunctionMeaning). z.external_id) m
 

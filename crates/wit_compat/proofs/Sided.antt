@@ -1,5 +1,5 @@
 -- Types of two `Resolve`s, and the paths of their interfaces.
-use Rattle.std.proofs.Common.{rules as std_rules, arith, ◌≡◌, ◌↔◌, refl, sym, ap, subst, ◌∙◌, ◌⊎◌, inl, inr, ℕ, ◌+◌, ◌<◌, ◌≤◌, Bool, true, false, not, ◌||◌, cond, List, [], ◌∷◌, ◌++◌, take, map, length, get_or, slice_get, Option, Some, None, option_map, unwrap_or, is_some, IsTrue, String, Vec, Result, Ok, Err, IfOk}
+use Rattle.std.proofs.Common.{rules as std_rules, arith, ◌≡◌, ◌↔◌, refl, sym, ap, subst, ◌∙◌, ◌⊎◌, inl, inr, ℕ, ◌+◌, ◌<◌, ◌≤◌, Bool, true, false, cond, List, [], ◌∷◌, ◌++◌, take, map, length, get_or, slice_get, Option, Some, None, option_map, unwrap_or, is_some, IsTrue, String, Vec, Result, Ok, Err, IfOk}
 use Rattle.std.proofs.{Math.ListN.length-map, lemmas.List.map-append, lemmas.List.take_all, lemmas.List.Elements.Contains-push_cases}
 use Rattle.std.proofs.lemmas.Option.{slice_get-get_or, slice_get-map, same_Some as some-same, slice_get_within as below_length}
 use Rattle.std.specs.declared.alloc.{Global.Global, AllocError.AllocError}
@@ -7,8 +7,8 @@ use Rattle.std.specs.{List.Contains, Option.option_map_or}
 use Rattle.wit_model.specs.declared.model.{Resolve.Resolve, TypeDef.TypeDef, TypeDefKind.TypeDefKind, «Type».«Type» as ValueType, PackageName.PackageName}
 use Rattle.wit_model.specs.declared.model.TypeId.{TypeId}
 use Rattle.wit_model.specs.{Lookup.identity_of, Lookup.place_of, Lookup.type_at, Names.is_identity, Names.is_label, Names.is_version, Names.path_in}
-use Rattle.wit_model.specs.{Paths.full_name, Text.Text, Text.text_of, Uses.alias_target}
-use Rattle.wit_model.specs.{Rules.is_named_kind, Rules.is_named_number, Rules.passes, Rules.same_package_name, Valid.IsValid, Valid.named_kinds}
+use Rattle.wit_model.specs.{Paths.full_name, Text.Text, Text.text_of}
+use Rattle.wit_model.specs.{Rules.is_named_kind, Rules.passes, Rules.same_package_name, Valid.IsValid, Valid.named_kinds}
 use Rattle.wit_model.specs.Tree.{Tree, Trees, Place, Form, node, named, children, child_list, list_of, fixed_list_of, option_of, own_of, borrow_of, map_of, tuple_of, result_of, future_of, stream_of}
 use Rattle.wit_model.specs.Types.{number_of, number_tree, type_tree, tree_of, trees_of, no_tree, declared_by, tree_of_declaration, tree_of_definition}
 use Rattle.wit_model.proofs.{Entries.each_from_at, Entries.lists_pass, TreeTable.kept_numbers, TreeTable.kept_trees_at, PathsLemmas.named_in_full}

@@ -1,5 +1,5 @@
 -- Worlds that may take each other's place in turn.
-use Rattle.std.proofs.Common.{rules as std_rules, ◌≡◌, refl, ap, ◌∙◌, Bool, true, false, cond, sym, subst, List, [], ◌∷◌, Some, unwrap_or}
+use Rattle.std.proofs.Common.{rules as std_rules, ◌≡◌, refl, ap, Bool, true, false, cond, sym, subst, List, [], ◌∷◌, Some, unwrap_or}
 use Rattle.std.proofs.lemmas.List.Elements.{Contains-append_left, Contains-append_right, Contains-push}
 use Rattle.std.specs.List.{Contains}
 use Rattle.wit_model.specs.declared.model.{Resolve.Resolve, World.World}

@@ -1,5 +1,5 @@
 -- What a valid `Resolve` gives for comparing.
-use Rattle.std.proofs.Common.{rules as std_rules, arith, slice_get, get_or, ◌≤◌, ◌≡◌, refl, sym, ap, subst, ◌∙◌, ℕ, ◌+◌, ◌<◌, true, ◌&&◌, ◌⊎◌, inl, inr, List, [], ◌∷◌, map, filter_map, length, Option, Some, None, option_to_list, unwrap_or}
+use Rattle.std.proofs.Common.{rules as std_rules, arith, slice_get, get_or, ◌≤◌, ◌≡◌, refl, sym, ap, subst, ◌∙◌, ℕ, ◌+◌, ◌<◌, true, ◌&&◌, ◌⊎◌, inl, inr, List, [], ◌∷◌, map, filter_map, length, Option, Some, None, option_to_list}
 use Rattle.std.proofs.lemmas.{List.Elements.Contains-append_cases, List.Folds.list_all-append, Option.slice_get_cases, Bool.ltb-true as is_below}
 use Rattle.std.specs.{List.Contains, List.list_all, Option.option_map_or}
 use Rattle.indexmap.specs.IndexMap.{values}

@@ -1,10 +1,10 @@
 -- Items of worlds of two `Resolve`s.
 use Rattle.std.proofs.Common.{rules as std_rules, ◌≡◌, ◌↔◌, refl, sym, ap, subst, ◌∙◌, ◌⊎◌, inl, inr, ℕ, Bool, true, false, ◌&&◌, cond, List, [], ◌∷◌, ◌++◌, map, Option, Some, None, is_some, IsSome, option_map, IsTrue, String}
 use Rattle.std.proofs.lemmas.{Map.Made.Contains-from_values_of, List.map-append, List.Elements.Contains-push_cases}
-use Rattle.std.specs.{Borrow.Bor, Option.option_copied, Option.option_map_or, FinMap.from_entries, List.Contains, Map.lookup, Map.values_of}
+use Rattle.std.specs.{Borrow.Bor, Option.option_copied, Option.option_map_or, List.Contains, Map.lookup, Map.values_of}
 use Rattle.std.specs.declared.alloc.Global.{Global}
 use Rattle.wit_model.specs.declared.model.{Resolve.Resolve, World.World, WorldKey.WorldKey, WorldItem.WorldItem, TypeId.TypeId}
-use Rattle.wit_model.specs.{Lookup.key_text, Lookup.world_at, Lookup.interface_path, Text.Text, Text.text_cmp, Text.text_eq, Text.text_of, Text.optional_text}
+use Rattle.wit_model.specs.{Lookup.key_text, Lookup.world_at, Lookup.interface_path, Text.Text, Text.text_eq, Text.text_of, Text.optional_text}
 use Rattle.wit_model.specs.Meaning.{Entry, InterfaceSense, WorldSense, entries_sense, entry_sense, world_sense, Item, TypeMeaning, interface, inline, declares, interface_sense, item_sense}
 use Rattle.wit_model.specs.Meant.{entries_meaning, entry_meaning, no_world, world_meaning, world_meaning_at, interface_item, interface_meaning_at, type_meaning_at}
 use Rattle.wit_model.specs.Rules.{entries_in_range, item_in_range, key_in_range}

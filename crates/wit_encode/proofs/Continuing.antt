@@ -115,9 +115,5 @@ after-types r r₀ r₁ o₀ o₁ i₀ i₁ m₀ m₁ e s agree grown =
     let first : Continues r₀ r₁ o₀ o₁ i₀ i₁ m₀ m₁ = continues-kept s (subst (λ (z : Resolve). MapsAgree z m₁ (SlotsStand (contents_of r₁ o₁ i₁).slots)) (sym e) agree) grown in
     subst (λ (z : Resolve). Continues z r o₀ o₁ i₀ i₁ m₀ m₁) e (subst (λ (z : Resolve). Continues r₀ z o₀ o₁ i₀ i₁ m₀ m₁) (e₁ ∙ e) first)
 
-pub shows-after : {A E : Type 0} (res : Result A E) (a b c more : List (Text × FunctionMeaning)) → OnOk res (c ≡ b ++ more) → b ≡ a → OnOk res (c ≡ a ++ more)
-shows-after (Ok x) a b c more h e = h ∙ ap (λ z. z ++ more) e
-shows-after (Err x) a b c more h e = h
-
 pub same-scope : (r r₀ r₁ : Resolve) (o₀ o₁ : Declarations) (i₀ i₁ : Option OpenInterface) → r₀ ≡ r → encoder_scope r₁ o₁ i₁ ≡ encoder_scope r₀ o₀ i₀ → encoder_scope r₀ o₀ i₀ ≡ encoder_scope r o₁ i₁
 same-scope r r₀ r₁ o₀ o₁ i₀ i₁ e s = sym s ∙ ap (λ (z : Resolve). encoder_scope z o₁ i₁) (ap (λ (z : Scope). z.packages) s ∙ e)

@@ -1,5 +1,5 @@
 -- What a declaration of a place is followed as, where its name is exported or imported.
-use Rattle.std.proofs.Common.{◌≡◌, refl, sym, ap, ◌∙◌, ℕ, true, not, List, Option, Some, None, slice_get}
+use Rattle.std.proofs.Common.{◌≡◌, refl, sym, ap, ◌∙◌, ℕ, true, not, List, Option, Some, slice_get}
 use Rattle.std.specs.List.{list_all}
 use Rattle.wit_model.specs.{Text.Text, Tree.named, Meaning.TypeMeaning}
 use Rattle.comp_bytes.specs.{Raw.ExternName, Reading.◌>>=◌}

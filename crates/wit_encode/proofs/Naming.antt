@@ -77,9 +77,6 @@ other-met false b e h = let wrong : ⊥ = cc in absurd wrong
 abbrev pub HaveHomes : Resolve → (TypeOwner → Bool) → Type 0
 HaveHomes r met = (a b : TypeOwner) → met a ≡ true → met b ≡ true → same_place (place_of r a) (place_of r b) ≡ true → a ≡ b
 
-pub one-owner : (r : Resolve) (o : TypeOwner) → HaveHomes r (same_owner o)
-one-owner r o a b h k e = sym (same-owner o a h) ∙ same-owner o b k
-
 module _ (r : Resolve) (v : IsValid r) where
   pub named-owner : (def : TypeDef) → has_named_owner r def ≡ true → is_named_interface r def.owner ≡ true
   named-owner def h = go def.owner h

@@ -15,7 +15,7 @@ use Rattle.encode_types.specs.{Scope.Scope, Slots.Keeps}
 use Rattle.wit_encode.proofs.{Components.steps-instance, Outside.instance-keeps}
 use Rattle.wit_encode.proofs.{ShownSlots.interface-shown, Calls.InnerAt, Calls.inner-at, Importing.grown-keeps, Importing.grown-stands, Importing.right-more}
 use Rattle.wit_encode.specs.Exports.{AreTypesOf}
-use Rattle.wit_encode.specs.Instance.{is_slot_of, no_view, outer_slots, inner_contents, outer_contents, stands_in, SlotsStand, own_of, around_at, around_of, standing_instances, resources_in, contents_of, encoder_scope, opened, keyed, placed_function, is_sound_in, IsInstance, Continues, definitions_with}
+use Rattle.wit_encode.specs.Instance.{is_slot_of, no_view, outer_slots, inner_contents, outer_contents, stands_in, SlotsStand, own_of, around_at, standing_instances, resources_in, contents_of, encoder_scope, opened, keyed, placed_function, is_sound_in, IsInstance, Continues, definitions_with}
 use Rattle.indexmap.specs.IndexMap.{values}
 use Rattle.base_lemmas.proofs.{Bools.left_of as first_true, Bools.right_of as second_true, Lists.identity as map-itself, Lists.map_of_map as map-twice}
 use Rattle.base_lemmas.proofs.Elements.{contains-map}
@@ -91,12 +91,6 @@ closed-instance r v outer outer' i def there known inner' current m m' fs is own
 -- the interface whose types are listed
 pub listed-there : (r : Resolve) (i : InterfaceId) (types : List TypeId) (h : AreTypesOf r (Some i) types) → interface_at r i.0 ≡ Some h.def
 listed-there r i types h = ap (λ (x : InterfaceId). interface_at r x.0) (some-same i h.id h.is) ∙ h.there
-
--- around it, nothing has been declared but aliases
-pub closed-around : (r : Resolve) (outer outer' : Declarations) (i : InterfaceId) (known : Foreign) (inner' : Option OpenInterface) (current : OpenInterface) (m m' : TypeEncodingMaps)
-    → inner' ≡ Some current → Continues r r outer outer' (opened i known) inner' m m'
-    → GrowsAround r (around_at outer known) (around_at outer' current.foreign)
-closed-around r outer outer' i known inner' current m m' is c = subst (λ (o : Option OpenInterface). GrowsAround r (around_at outer known) (around_of outer' o)) is c.around_
 
 -- an interface is opened with what is known
 pub opened-with : (i : InterfaceId) (ds : List Declaration) (known known' : Foreign) → ds ≡ [] → known ≡ known'

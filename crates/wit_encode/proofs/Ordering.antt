@@ -247,13 +247,6 @@ position-push p xs y =
     ∙ (let n : 0 + length xs ≡ length xs = omega arith in (λ i. cond (is_some (sym (position_from-zero p xs) i)) (sym (position_from-zero p xs) i)
     (cond (p y) (Some (n i)) None)))
 
-pub position-some : {X : Type 0} (p : X → Bool) (xs : List X) (i : ℕ) → position p xs ≡ Some i → i ≡ position_or_len p xs
-position-some p xs i h =
-    elim (cases_Bool (nat_lt (position_or_len p xs) (length xs))) [
-      | inl e ↦ let z : Some (position_or_len p xs) ≡ Some i = sym (cond-true _ _ _ e) ∙ h in cc
-      | inr e ↦ absurd (let z : None ≡ Some i = sym (cond-false _ _ _ e) ∙ h in let w : ⊥ = cc in w)
-    ]
-
 pub position-none : {X : Type 0} (p : X → Bool) (xs : List X) → position p xs ≡ None → length xs ≡ position_or_len p xs
 position-none p xs h =
     elim (cases_Bool (nat_lt (position_or_len p xs) (length xs))) [
@@ -307,9 +300,6 @@ module _ (ts : List TypeId) (places : BTreeMap ℕ ℕ) (t : TypeId) (h : ArePla
 -- ---- the place of a function
 
 module _ (ts : List TypeId) (places : BTreeMap ℕ ℕ) (f : Function) (h : ArePlaces ts places) where
-  pub place-found : (n i : ℕ) → resource_of f.kind ≡ Some n → get nat_cmp places n ≡ Some i → i ≡ place_among ts f
-  place-found n i e g = position-some (λ t. nat_eq n t.0) ts i (sym (h.at n) ∙ g)
-      ∙ ap (λ o. position_or_len (λ (t : TypeId). option_map_or (λ k. nat_eq k t.0) o false) ts) (sym e)
 
   pub place-missing : (n : ℕ) → resource_of f.kind ≡ Some n → get nat_cmp places n ≡ None → length ts ≡ place_among ts f
   place-missing n e g = position-none (λ t. nat_eq n t.0) ts (sym (h.at n) ∙ g)

@@ -4,11 +4,11 @@ use Rattle.std.proofs.lemmas.List.Elements.{Contains-append_cases, Contains-appe
 use Rattle.std.specs.{Prelude.IsErrAnd, List.Contains}
 use Rattle.wit_model.specs.{Text.Text, Text.text_of, Names.PackageIdentity, Lookup.interface_path, Lookup.world_at, Weight.interface_weight}
 use Rattle.wit_model.specs.declared.{model.World.World, error.Error.Error, model.Resolve.Resolve}
-use Rattle.wit_model.proofs.Elements.{none-in, zip-push}
+use Rattle.wit_model.proofs.Elements.{zip-push}
 use Rattle.comp_bytes.specs.{Raw.Declarations, Parts.Part, Refusal.IsMemoryOrSize}
 use Rattle.encode_exports.specs.ExportedParts.{exporting}
 use Rattle.wit_encode.specs.{Dependencies.ShowsComponent, DependencyCounts.DefinesComponent, Scopes.HasNoEqualPaths, Scopes.RefusesInterface}
-use Rattle.wit_encode.specs.{WholeWorlds.RefusesWorld, Instance.declared_extent, WrittenNames.WritesPaths}
+use Rattle.wit_encode.specs.{Instance.declared_extent, WrittenNames.WritesPaths}
 use Rattle.wit_encode.specs.Packages.{AddsInterface, AddsWorld, AddsWorlds, HasNoClashAt, HaveNoClash, HaveNoEqualPaths, HoldsInterfaces, IsTypeOf, IsWrapperOf, Listed, ListedWorld, RefusesInterfaces, RefusesWorldAt, RefusesWorlds, WrapsWorld}
 use Rattle.base_lemmas.proofs.Elements.{contains-one, last_of as one-contained}
 
@@ -53,14 +53,6 @@ pub record IsBegun (r : Resolve) (canonical : Bool) (entries left : List Listed)
   pub holds : HoldsInterfaces r canonical done parts
   pub differ : canonical ≡ true → HaveNoEqualPaths r done
 
-pub nothing-done : (r : Resolve) (canonical : Bool) (entries : List Listed) (parts : List Part) → parts ≡ [] → IsBegun r canonical entries entries parts
-nothing-done r canonical entries parts none = record {
-  done = [];
-  split = refl;
-  holds = record { types = []; are = tt; is = none };
-  differ = λ is e c. absurd (none-in e c);
-}
-
 pub next-listed : (r : Resolve) (canonical : Bool) (entries left rest : List Listed) (parts : List Part) (e : Listed) → IsBegun r canonical entries left parts → left ≡ e ∷ rest → Contains entries e
 next-listed r canonical entries left rest parts e h is =
     subst (λ (es : List Listed). Contains es e) (sym (h.split ∙ ap (λ (es : List Listed). h.done ++ es) is))
@@ -84,9 +76,6 @@ pub all-held : (r : Resolve) (canonical : Bool) (entries left : List Listed) (pa
 all-held r canonical entries left parts h is = subst (λ (es : List Listed). HoldsInterfaces r canonical es parts)
     (sym (h.split ∙ ap (λ (es : List Listed). h.done ++ es) is ∙ append-nil h.done)) h.holds
 
-pub all-differ : (r : Resolve) (canonical : Bool) (entries left : List Listed) (parts : List Part) → IsBegun r canonical entries left parts → left ≡ [] → canonical ≡ true → HaveNoEqualPaths r entries
-all-differ r canonical entries left parts h is asked = subst (HaveNoEqualPaths r) (sym (h.split ∙ ap (λ (es : List Listed). h.done ++ es) is ∙ append-nil h.done)) (h.differ asked)
-
 -- ---- worlds
 
 pub world-added : (r : Resolve) (canonical : Bool) (p : PackageIdentity) (e : ListedWorld) (w : World) (declared : Declarations) (old new : List Part) → world_at r e.1.0 ≡ Some w
@@ -100,11 +89,6 @@ world-added r canonical p e w declared old new there wraps more = λ interfaces 
   is = more (h.interface_types ++ h.world_types) h.is ∙ ap exporting (append_assoc h.interface_types h.world_types ((text_of e.0, declared) ∷ []));
 }
 
-pub world-room_refused : {X : Type 0} (r : Resolve) (n : ℕ) (canonical : Bool) (given : Result X Error) → (canonical ≡ true → HasNoClashAt r n) → IfErr given IsMemoryOrSize
-    → IfErr given (RefusesWorldAt r n canonical)
-world-room_refused r n canonical (Ok x) differ h = tt
-world-room_refused r n canonical (Err e) differ h = λ w there. RefusesWorld.of_room (λ asked. differ asked w there) h
-
 pub world-passed : {X : Type 0} (r : Resolve) (n : ℕ) (canonical : Bool) (e : Error) (given : Result X Error) → RefusesWorldAt r n canonical e → IsErrAnd given (λ d. d ≡ e)
     → IfErr given (RefusesWorldAt r n canonical)
 world-passed r n canonical e (Ok x) h same = tt
@@ -116,14 +100,6 @@ pub record WorldsBegun (r : Resolve) (p : PackageIdentity) (canonical : Bool) (e
   pub split : entries ≡ done ++ left
   pub adds : AddsWorlds r canonical p done parts parts'
   pub differ : canonical ≡ true → HaveNoClash r done
-
-pub no-world_done : (r : Resolve) (p : PackageIdentity) (canonical : Bool) (entries : List ListedWorld) (parts : List Part) → WorldsBegun r p canonical entries entries parts parts
-no-world_done r p canonical entries parts = record {
-  done = [];
-  split = refl;
-  adds = λ interfaces h. h;
-  differ = λ asked e c. absurd (none-in e c);
-}
 
 pub next-world : (r : Resolve) (p : PackageIdentity) (canonical : Bool) (entries left rest : List ListedWorld) (parts parts' : List Part) (e : ListedWorld)
     → WorldsBegun r p canonical entries left parts parts'
@@ -156,11 +132,6 @@ world-refused r p canonical entries left rest parts middle e error (Ok x) h is r
 world-refused r p canonical entries left rest parts middle e error (Err d) h is refuses same =
     subst (RefusesWorlds r entries canonical) (sym same)
     (record { before = h.done; refused = e; after = rest; are = h.split ∙ ap (λ (es : List ListedWorld). h.done ++ es) is; differ = h.differ; refuses = refuses })
-
-pub all-added : (r : Resolve) (p : PackageIdentity) (canonical : Bool) (entries left : List ListedWorld) (parts parts' : List Part) → WorldsBegun r p canonical entries left parts parts' → left ≡ []
-    → AddsWorlds r canonical p entries parts parts'
-all-added r p canonical entries left parts parts' h is =
-    subst (λ (es : List ListedWorld). AddsWorlds r canonical p es parts parts') (sym (h.split ∙ ap (λ (es : List ListedWorld). h.done ++ es) is ∙ append-nil h.done)) h.adds
 
 pub all-worlds_apart : (r : Resolve) (p : PackageIdentity) (canonical : Bool) (entries left : List ListedWorld) (parts parts' : List Part)
     → WorldsBegun r p canonical entries left parts parts' → left ≡ []

@@ -8,12 +8,12 @@ use Rattle.wit_model.specs.declared.error.Error.{Error}
 use Rattle.wit_model.specs.declared.model.{Resolve.Resolve, Function.Function, InterfaceId.InterfaceId, «Type».«Type» as ValueType, TypeId.TypeId}
 use Rattle.comp_bytes.specs.declared.forms.{ComponentDefinedType.ComponentDefinedType, ComponentFuncType.ComponentFuncType, ComponentTypeRef.ComponentTypeRef}
 use Rattle.comp_bytes.specs.Raw.{Alias, Declaration, Declarations, ExternName, Labeled, append, declaration_count}
-use Rattle.comp_bytes.specs.RawOf.{raw_defined, raw_function, labeled, text_of}
+use Rattle.comp_bytes.specs.RawOf.{raw_defined, raw_function, labeled}
 use Rattle.comp_bytes.specs.Held.{described_slots, declaration_slots, type_slots, type_slots_of, fits_counts, fits_next, fits_added}
 use Rattle.comp_bytes.specs.Fits.{fits_length, fits_label, fits_labels, fits_names, fits_defined, fits_declaration}
 use Rattle.wit_encode.specs.declared.interface.OpenInterface.{OpenInterface}
 use Rattle.encode_types.specs.declared.maps.TypeEncodingMaps.{TypeEncodingMaps}
-use Rattle.encode_types.specs.Slots.{Pairs, StandsFor, NamedStands, CaseStands, Follows, FollowsFunction, texts}
+use Rattle.encode_types.specs.Slots.{Pairs, StandsFor, NamedStands, CaseStands, Follows, FollowsFunction}
 use Rattle.encode_types.specs.Room.{Request, IsUnfit, LacksRoomBehind, its_definition, its_name, its_import, LacksOne, a_type, a_request, HasNoRoom, fits_tree, fits_type_name, limit, value_type, function_type, export_name, import_of, function_name, function_requests}
 use Rattle.encode_types.specs.{Scope.exported_name, Kinds.kind_tree, MetKinds.referred, Distinct.are_same, Distinct.key_of}
 use Rattle.wit_encode.specs.{FunctionRoom.LacksFunctions, Instance.held_in, Instance.lacks_room_in, Instance.placed_function}
@@ -80,15 +80,6 @@ pub behind-outer : (r : Resolve) (outer : Declarations) (d : Declaration) (reque
 behind-outer r outer d request unfit e = refused-by r (fits_declaration d) (declaration_count outer) (type_slots_of outer + 1) request (let a = outer-slots-few outer in omega arith) unfit e
 
 -- ---- forms and trees have the same labels
-
-text-names : (xs : List (Bor Text)) → fits_names (map text_of xs) ≡ fits_names (texts xs)
-text-names xs = refl
-
-all-fit : {A B : Type 0} (f : A → Bool) (g : B → Bool) (xs : List A) (ys : List B) → AllZip (λ x y. f x ≡ g y) xs ys → list_all f xs ≡ list_all g ys
-all-fit f g [] [] h = refl
-all-fit f g [] (y ∷ ys) h = absurd h
-all-fit f g (x ∷ xs) [] h = absurd h
-all-fit f g (x ∷ xs) (y ∷ ys) h = λ i. h.0 i && all-fit f g xs ys h.1 i
 
 -- labels that are the same texts
 labels-fit : {T B : Type 0} (R : Bor Text × T → B → Type 0) (label : B → Text) → ((x : Bor Text × T) (y : B) → R x y → x.0.now ≡ label y) → (xs : List (Bor Text × T)) (ys : List B) → AllZip R xs ys

@@ -6,9 +6,8 @@ use Rattle.wit_model.specs.{Lookup.type_at, Lookup.is_async, Valid.IsValid}
 use Rattle.wit_model.specs.{Meant.signature_of, Parts.function_types, Parts.is_resource, Parts.is_resource_kind, Parts.is_resource_type, Parts.same_owner}
 use Rattle.wit_model.specs.declared.model.{Resolve.Resolve, TypeDef.TypeDef, Param.Param}
 use Rattle.wit_model.specs.declared.model.{Function.Function, TypeDefKind.TypeDefKind, TypeOwner.TypeOwner, InterfaceId.InterfaceId, «Type».«Type» as ValueType}
-use Rattle.encode_types.specs.declared.maps.TypeEncodingMaps.{TypeEncodingMaps}
-use Rattle.encode_types.specs.{View.Grows, View.View, Kinds.parts_of, Kinds.has_definition, Kinds.kind_tree, Plan.InRange, Plan.AllInRange, Plan.foreign_owner}
-use Rattle.encode_types.specs.{Fits.CanEncode, Formed.IsFormed, Formed.IsFormedSignature, Maps.MapsAgree, Scope.Scope, Scope.IsImportable, Leaves.Leaves}
+use Rattle.encode_types.specs.{View.View, Kinds.parts_of, Kinds.has_definition, Kinds.kind_tree, Plan.InRange, Plan.AllInRange, Plan.foreign_owner}
+use Rattle.encode_types.specs.{Fits.CanEncode, Formed.IsFormed, Formed.IsFormedSignature, Scope.Scope, Scope.IsImportable}
 use Rattle.encode_types.specs.Table.{table_scope, interface_of_owner, is_met_by, has_named_owner, AllMetBy, IsTableOf, IsDefined, AllDefined}
 use Rattle.wit_model.proofs.{OnePath.found-in, PartsLemmas.owner_same as same-owner}
 use Rattle.encode_types.proofs.Planning.{part-smaller}
@@ -47,18 +46,6 @@ all-may-be-met r o met ts n def m is = all-at (is_met_by r o) r.types.items n de
 
 pub table-encodes : (r : Resolve) (own : InterfaceId) (v : View) → IsTableOf r own v → (ts : List ValueType) → AllInRange r ts → AllMetBy r (owner.Interface own) ts → CanEncode r v.scope ts
 table-encodes r own v t ts inside met = subst (λ (s : Scope). CanEncode r s ts) (sym t.scope_) (encodes r own t.valid ts inside met)
-
--- what it is after a call
-pub table-leaves : (r : Resolve) (own : InterfaceId) (v v' : View) → IsTableOf r own v → Leaves r v v' → IsTableOf r own v'
-table-leaves r own v v' t l = record { valid = t.valid; scope_ = l.scope_stays ∙ t.scope_; agree = l.agree }
-
--- after a call that learns nothing
-pub table-grows : (r : Resolve) (own : InterfaceId) (v v' : View) → IsTableOf r own v → v'.scope ≡ v.scope → v'.maps ≡ v.maps → Grows v v' → IsTableOf r own v'
-table-grows r own v v' t scope maps g = record {
-  valid = t.valid;
-  scope_ = scope ∙ t.scope_;
-  agree = subst (λ (m : TypeEncodingMaps). MapsAgree r m v'.stands) (sym maps) (record { says = λ k j h. g.kept j _ (t.agree.says k j h); once = t.agree.once });
-}
 
 -- a type of another interface can be imported into a table
 pub table-imports : (r : Resolve) (own : InterfaceId) (v : View) → IsTableOf r own v → (n : ℕ) (def : TypeDef) (i : InterfaceId) → type_at r n ≡ Some def

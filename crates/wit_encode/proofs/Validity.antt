@@ -5,15 +5,15 @@ use Rattle.std.proofs.lemmas.List.Elements.{Contains-append_left, Contains-appen
 use Rattle.std.specs.declared.alloc.Global.{Global}
 use Rattle.std.specs.{Prelude.is_some, Prelude.is_none, List.Contains, List.list_all, Option.option_map_or}
 use Rattle.wit_model.specs.{Text.text_of, Text.Text, Rules.is_named_kind, Rules.is_named_number, Rules.is_listed, Rules.owner_in_range, Rules.passes, Tree.Tree}
-use Rattle.wit_model.specs.{Lookup.type_at, Lookup.place_of, Lookup.interface_at, Lookup.is_async, Meant.type_meaning, Meant.signature_of, Uses.alias_target}
-use Rattle.wit_model.specs.Parts.{kind_numbers, same_owner, member_types, handled, function_types, is_resource, is_resource_kind, is_resource_type}
-use Rattle.wit_model.specs.Valid.{IsValid, named_kinds, order_of_types, shapes, handles, functions_of_interface}
+use Rattle.wit_model.specs.{Lookup.type_at, Lookup.place_of, Lookup.is_async, Meant.type_meaning, Uses.alias_target}
+use Rattle.wit_model.specs.Parts.{kind_numbers, same_owner, member_types, handled, is_resource, is_resource_kind, is_resource_type}
+use Rattle.wit_model.specs.Valid.{IsValid, named_kinds, order_of_types, shapes, handles}
 use Rattle.wit_model.specs.Types.{type_tree, number_tree, no_tree, trees_of, tree_of_definition, declaration_of}
 use Rattle.wit_model.specs.Meaning.{Signature}
 use Rattle.wit_model.specs.declared.model.{Resolve.Resolve, Param.Param, TypeDef.TypeDef, TypeOwner.TypeOwner, TypeId.TypeId}
-use Rattle.wit_model.specs.declared.model.{Interface.Interface, Function.Function, InterfaceId.InterfaceId, «Type».«Type» as ValueType, TypeDefKind.TypeDefKind}
+use Rattle.wit_model.specs.declared.model.{InterfaceId.InterfaceId, «Type».«Type» as ValueType, TypeDefKind.TypeDefKind}
 use Rattle.wit_model.proofs.{Entries.each_from_at, Entries.lists_pass, Resources.resource_step, PartsLemmas.owner_same as same-owner, ValidLemmas.type_passes}
-use Rattle.wit_model.proofs.{TreeTable.kept_numbers, TreeTable.kept_trees_at, OnePath.found-in, OnePath.interface-passes as interface_passes}
+use Rattle.wit_model.proofs.{TreeTable.kept_numbers, TreeTable.kept_trees_at, OnePath.found-in}
 use Rattle.encode_types.specs.Plan.{IsLayered, InRange, AllInRange, Reaches, itself, foreign_owner, is_interface}
 use Rattle.encode_types.specs.Scope.{IsImportable, Scope}
 use Rattle.encode_types.specs.Table.{table_scope, interface_of_owner, declaration_in, named_declaration, is_met_by, is_met_owner, has_named_owner, AllMetBy}
@@ -26,7 +26,7 @@ use Rattle.wit_encode.proofs.Forming.{Agree, kind-formed, kind-alike, values-of,
 use Rattle.wit_encode.proofs.ImportsStand.{below-there as below-contains}
 use Rattle.encode_shown.proofs.Basics.{valid-references}
 use Rattle.base_lemmas.proofs.{Bools.left_of as first_true, Bools.not_or as unnamed-of, Bools.right_of as second_true, Options.nameless}
-use Rattle.base_lemmas.proofs.Elements.{all-contained, contains-one}
+use Rattle.base_lemmas.proofs.Elements.{contains-one}
 use Rattle.wit_model.specs.declared.model.TypeDefKind.TheVariants as kind
 use Rattle.wit_model.specs.declared.model.Handle.TheVariants as handle
 use Rattle.wit_model.specs.declared.model.TypeOwner.TheVariants as owner
@@ -85,15 +85,6 @@ valid-formed r resources v n def at agree d =
 pub valid-alike : (r : Resolve) (resources : Names) → IsValid r → (n : ℕ) (def : TypeDef) → type_at r n ≡ Some def → Agree r resources (parts_of def.kind)
     → is_resource_declaration resources (declaration_of r def) ≡ is_resource r n
 valid-alike r resources v n def at agree = kind-alike r resources def.kind agree ∙ sym (valid-resource r v n def at)
-
--- a function of an interface takes and gives no resource by itself
-pub valid-signature : (r : Resolve) (scope : Scope) → IsValid r → scope.is_sound ≡ true → (n : ℕ) (i : Interface) (f : Function) → interface_at r n ≡ Some i → Contains (functions_of_interface i) f
-    → Agree r scope.resources (function_types f) → IsFormedSignature scope (signature_of r f)
-unfolding handles
-valid-signature r scope v sound n i f at c agree =
-    let of_all : list_all (λ t. not (is_resource_type r t)) (function_types f) ≡ true =
-    all-contained (λ f. list_all (λ t. not (is_resource_type r t)) (function_types f)) (functions_of_interface i) f (interface_passes handles r v.rules.handles n i at) c in
-    signature-formed r scope f.params.items f.result sound (is_async f.kind) of_all agree
 
 -- ---- the table of an owner
 
@@ -184,13 +175,6 @@ module _ (r : Resolve) (v : IsValid r) (names : Names) (met : TypeOwner → Bool
 module _ (r : Resolve) (v : IsValid r) (met : TypeOwner → Bool) (homes : HaveHomes r met) where
   pub met-agree : (ts : List ValueType) → AllInRange r ts → OwnersMet r met ts → Agree r (resource_names r met) ts
   met-agree = named-agree r v (resource_names r met) met (names-agree r v met homes)
-
-  pub parts-agree : (n : ℕ) (def : TypeDef) → type_at r n ≡ Some def → OwnersMet r met (parts_of def.kind) → Agree r (resource_names r met) (parts_of def.kind)
-  parts-agree = named-parts r v (resource_names r met) met (names-agree r v met homes)
-
-  pub declared-alike : (n : ℕ) (def : TypeDef) → type_at r n ≡ Some def → (name : String Global) → def.name ≡ Some name → met def.owner ≡ true → OwnersMet r met (parts_of def.kind)
-      → resource_names r met (place_of r def.owner) (text_of name) ≡ is_resource_declaration (resource_names r met) (declaration_of r def)
-  declared-alike = named-alike r v (resource_names r met) met (names-agree r v met homes)
 
 module _ (r : Resolve) (v : IsValid r) (o : TypeOwner) where
   -- a type of another interface can be imported

@@ -210,9 +210,6 @@ module _ {X : Type 0} (r : Resolve) (p : Package) (canonical : Bool) (e : Error)
       → IfErr given (RefusesPackage r p canonical)
   worlds-refused differ h same = passed (RefusesPackage.of_worlds differ h) same
 
-  pub component-refused : RefusesPackage r p canonical e → IsErrAnd given (λ d. d ≡ e) → IfErr given (RefusesPackage r p canonical)
-  component-refused = passed
-
 -- the same of the package of a number
 pub package-at : {X : Type 0} (r : Resolve) (n : ℕ) (canonical : Bool) (given : Result X Error) → ((p : Package) → package_at r n ≡ Some p → IfErr given (RefusesPackage r p canonical))
     → IfErr given (RefusesPackageAt r n canonical)

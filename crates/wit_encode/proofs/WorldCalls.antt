@@ -2,7 +2,7 @@
 use Rattle.std.proofs.Common.{◌≡◌, refl, sym, subst, ap, ◌∙◌, ℕ, ◌+◌, Bool, true, false, not, ◌&&◌, ◌||◌, cond, List, [], ◌∷◌, ◌++◌, append-nil, option_to_list, filter_map, Result, Ok, Err, IfOk, OnErr, Option, Some, None, slice_get, length, arith}
 use Rattle.std.specs.{List.list_all, List.list_any, Option.option_map_or, Prelude.◌≤◌}
 use Rattle.wit_model.specs.{Text.Text, Lookup.place_of, Types.number_tree, Meaning.Signature, Meaning.TypeMeaning, Parts.is_resource, Parts.numbered_from, Parts.same_owner, Rules.text_is}
-use Rattle.wit_model.specs.Tree.{Tree, here, of_interface, named, primitive, node}
+use Rattle.wit_model.specs.Tree.{Tree, here, of_interface, named}
 use Rattle.wit_model.specs.declared.model.{Resolve.Resolve, TypeId.TypeId, TypeOwner.TypeOwner, WorldId.WorldId}
 use Rattle.comp_bytes.specs.declared.forms.{ComponentDefinedType.ComponentDefinedType, ComponentFuncType.ComponentFuncType, ComponentTypeRef.ComponentTypeRef}
 use Rattle.comp_bytes.specs.{Raw.Declaration, Raw.Declarations, Raw.ExternName, Raw.declaration_count, RawOf.raw_defined, RawOf.raw_function}

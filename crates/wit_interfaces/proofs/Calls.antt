@@ -1,5 +1,5 @@
 -- What the calls of an encoder of interfaces leave, and what they add.
-use Rattle.std.proofs.Common.{◌≡◌, refl, sym, subst, ap, ◌∙◌, ℕ, ◌+◌, ◌<◌, nat_cmp, true, false, List, length, Result, Ok, Err, IfOk, OnErr, Option, Some, None, is_some}
+use Rattle.std.proofs.Common.{◌≡◌, refl, sym, subst, ap, ◌∙◌, ℕ, ◌+◌, ◌<◌, nat_cmp, false, List, length, Result, Ok, Err, IfOk, OnErr, Option, Some, None, is_some}
 use Rattle.std.proofs.lemmas.Bool.{lt-ltb}
 use Rattle.std.specs.{BTreeMap.insert_entry, List.Contains}
 use Rattle.wit_model.specs.{Text.Text, Lookup.interface_at, Lookup.interface_path}
@@ -14,7 +14,6 @@ use Rattle.wit_encode.proofs.{Importing.importable-stands, Placed.grown-listed}
 use Rattle.wit_model.proofs.OnePath.{found-in}
 use Rattle.wit_interfaces.specs.InterfaceEncoders.{CanEncodeInterfaces, Imports, InterfaceEncoder, LeavesInterfaces, component_of, has_listed, imported, interface_encoder_view}
 use Rattle.wit_interfaces.proofs.Leaving.{GoesOn, aliases-go-on, part-goes-on, whole-goes-on, whole-room, whole-stands}
-use Rattle.base_lemmas.proofs.Options.{there as some-of}
 use Rattle.comp_bytes.specs.declared.forms.ComponentTypeRef.TheVariants as refs
 
 -- what stands in the scope stands in the component type
@@ -38,9 +37,6 @@ module _ (e : InterfaceEncoder) (h : CanEncodeInterfaces (interface_encoder_view
 
   pub interface-leaves : (i : InterfaceId) (def : Interface) (k : ℕ) → EncodesInterface r (component_of e) (world_around d) i def k → LeavesInterfaces e (record e { encoder = d })
   interface-leaves i def k is = leaves-of (part-goes-on r e.encoder.world e.encoder.maps count (component_of e) (world_around d) h i def _ _ k is.part)
-
-  pub types-leave : (i : InterfaceId) (def : Interface) (k : ℕ) → EncodesDependency r (component_of e) (world_around d) i def k → LeavesInterfaces e (record e { encoder = d })
-  types-leave i def k is = leaves-of (part-goes-on r e.encoder.world e.encoder.maps count (component_of e) (world_around d) h i def _ _ k is.part)
 
   module _ (i : InterfaceId) (def : Interface) (k : ℕ) (there : interface_at r i.0 ≡ Some def) (is : EncodesDependency r (component_of e) (world_around d) i def k) (path : Text) (at : interface_path r i.0 ≡ Some path) where
     -- the import and its listing
@@ -101,10 +97,6 @@ module _ (e : InterfaceEncoder) (h : CanEncodeInterfaces (interface_encoder_view
         let g = part-goes-on r e.encoder.world e.encoder.maps count (component_of e) (around_at outer foreign) h i def _ _ k (part-left outer foreign o l n).part in
         subst (λ (z : WorldEncoder). LeavesInterfaces e (record e { encoder = z })) (λ j. record (sym rest j) { outer = outer; foreign = foreign })
         (record { packages_ = refl; names = refl; maps_ = refl; stands = g.kept; instances = g.stand; can = g.can })
-
--- an interface that is listed stands
-pub listed-stands : (e : InterfaceEncoder) (i : ℕ) → CanEncodeInterfaces (interface_encoder_view e) → has_listed e i ≡ true → Contains (interface_encoder_view e).scope.instances i
-listed-stands e i h l = let found = some-of (known_instance (component_of e).instances i) l in h.listed i found.0 found.1
 
 -- nothing has changed
 pub stays-as-it-is : (e : InterfaceEncoder) → CanEncodeInterfaces (interface_encoder_view e) → LeavesInterfaces e e

@@ -50,9 +50,6 @@ module _ {A : Type 0} (T : List A) (short : length T ≤ 4294967295) where
   home_small None e = tt
   home_small (Some id) e = below id.0 e
 
-  number_passes : ValueType → Bool
-  number_passes t = list_all (in_list T) (option_to_list (number_of t))
-
   one_small : (n : ℕ) → list_all (in_list T) (n ∷ []) ≡ true → IsSmall n
   one_small n e = below n (first_true (in_list T n) true e)
 

@@ -7,7 +7,7 @@ use Rattle.wit_model.specs.declared.error.Error.{Error}
 use Rattle.comp_bytes.specs.Form.{Sequence}
 use Rattle.comp_bytes.specs.{Answer.Refuses, Frames.IsCustom, Frames.IsFrame, Frames.ReadsCustom, Reading.frame_at, Reading.name_at, Writing.framed}
 use Rattle.comp_bytes.proofs.{ComponentLaws.frame_law, PartLaws.name_law}
-use Rattle.wit_metadata.specs.Modules.{AreOthers, Carries, Framed, HasData, IsFrontData, IsFrontless, IsInFront, IsModule, IsNamed, IsStripped, IsUnbound, RefusesModule, TellsCarrying, carrying_name, module_bytes, module_preamble}
+use Rattle.wit_metadata.specs.Modules.{AreOthers, Carries, Framed, HasData, IsFrontData, IsFrontless, IsInFront, IsModule, IsNamed, RefusesModule, TellsCarrying, carrying_name, module_bytes, module_preamble}
 use Rattle.base_lemmas.proofs.Lists.{is-nothing as no-bytes}
 use Rattle.wit_model.specs.declared.error.Error.TheVariants as errors
 
@@ -138,19 +138,6 @@ module _ (bytes rest kept : List ℕ) (bound : Bool) (h : IsRead bytes rest kept
 module _ (bytes rest kept : List ℕ) (empty : length rest ≡ 0) where
   all-read : (bound : Bool) (h : IsRead bytes rest kept bound) → IsModule h.sections bytes
   all-read bound h = (h.front, h.parts ∙ ap (λ (t : List ℕ). module_preamble ++ t) (ap (λ (t : List ℕ). h.front ++ t) (no-bytes rest empty) ∙ append-nil h.front), (h.spelled, h.named_))
-
-  pub unbound-read : IsRead bytes rest kept false → IsUnbound bytes
-  unbound-read h = record { sections = h.sections; is = all-read false h; others = subst (λ (os : List Framed). AreOthers h.sections os) h.told h.are }
-
-  pub stripped-read : IsRead bytes rest kept true → IsStripped bytes kept
-  stripped-read h = record {
-    sections = h.sections;
-    is = all-read true h;
-    others = h.others;
-    are = h.are;
-    fewer = h.told;
-    kept_are = h.kept_are;
-  }
 
 -- ---- refusals
 

@@ -1,7 +1,7 @@
 -- What the custom sections of a component say, section by section.
 use Rattle.std.proofs.Common.{◌≡◌, ◌∙◌, refl, sym, ap, subst, ℕ, suc, Bool, true, false, List, [], ◌∷◌, ◌++◌, append_assoc, append-nil, length, drop, Option, Some, None, Ok, option_map, arith}
 use Rattle.std.proofs.{lemmas.Grind.flat_map-append, lemmas.List.length-append, Math.Seq.drop-append_seam}
-use Rattle.std.specs.{Prelude.◌<◌, Prelude.◌-◌, Prelude.slice_get, Borrow.Bor}
+use Rattle.std.specs.{Prelude.◌-◌, Prelude.slice_get, Borrow.Bor}
 use Rattle.wit_model.specs.Text.{Text, text_eq}
 use Rattle.wit_model.proofs.{VersionLaws.same_text, TextLemmas.text_same}
 use Rattle.wit_model.specs.declared.model.StringEncoding.{StringEncoding}
@@ -93,12 +93,6 @@ none-read bytes rest is sections ((front, text, parts, begins, spelled), short) 
     let whole : bytes ≡ preamble ++ text = parts ∙ ap (λ (t : List ℕ). t ++ text) begins in
     let same : rest ≡ text = is ∙ (ap (drop 8) whole ∙ drop-append_seam preamble text) in
     record { done = []; more = sections; are = refl; spelled = subst (Sequence IsSection sections) (sym same) spelled; says = refl }
-
-pub too-short : (bytes : List ℕ) → length bytes < 8 → (sections : List Section) → IsComponent sections bytes → ⊥
-too-short bytes less sections ((front, text, parts, begins, spelled), short) =
-    let whole = ap length (parts ∙ ap (λ (t : List ℕ). t ++ text) begins) in
-    let long = length-append preamble text in
-    omega (arith, less, whole, long)
 
 -- what is known after a section in which this was found
 abbrev pub later : Option (Bor (List ℕ)) → Option (Bor (List ℕ)) → Option (Bor (List ℕ))

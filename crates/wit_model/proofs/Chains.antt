@@ -1,10 +1,10 @@
 -- Numbers fall along uses, so what a chain of uses leads to is reached.
-use Rattle.std.proofs.Common.{rules as std_rules, ◌≡◌, refl, sym, ap, subst, ◌∙◌, ℕ, zero, suc, ◌+◌, ◌≤◌, arith, Bool, true, false, ◌||◌, not, ◌==◌, List, [], ◌∷◌, ◌++◌, length, filter, Option, Some, None}
+use Rattle.std.proofs.Common.{rules as std_rules, ◌≡◌, refl, sym, ap, ◌∙◌, ℕ, zero, suc, ◌+◌, ◌≤◌, arith, Bool, true, false, ◌||◌, not, ◌==◌, List, [], ◌∷◌, ◌++◌, length, filter, Option, Some, None}
 use Rattle.std.proofs.lemmas.{Bool.eqb-true, Bool.eq-eqb, Bool.ltb-true, Bool.or_left, Bool.or_right, List.Folds.list_any-append, Option.slice_get_within}
 use Rattle.std.specs.{Prelude.flat_map, Prelude.nat_lt, List.list_all, Option.option_map_or}
 use Rattle.wit_model.specs.declared.model.{Resolve.Resolve, Interface.Interface}
-use Rattle.wit_model.specs.{Lookup.interface_at, Valid.IsValid, Valid.owners, Valid.as_interface, Valid.functions_of_interface}
-use Rattle.wit_model.specs.{Uses.has, Uses.once, Uses.interfaces_used_by, Uses.direct_deps, Uses.reached_in, Rules.each_from, Rules.function_stays}
+use Rattle.wit_model.specs.{Lookup.interface_at, Valid.IsValid, Valid.owners}
+use Rattle.wit_model.specs.{Uses.has, Uses.once, Uses.interfaces_used_by, Uses.direct_deps, Uses.reached_in}
 use Rattle.wit_model.specs.Chains.{Chain, UsesFall, ChainsReach, ReachedByChains}
 use Rattle.wit_model.proofs.{Entries.each_from_at, Owners.all_once}
 use Rattle.base_lemmas.proofs.{Bools.left_of as first_true, Bools.right_of as second_true, Elements.not_all as any_by_all}

@@ -14,9 +14,6 @@ use Rattle.wit_model.specs.declared.error.EntryList.TheVariants as lists
 all_pass : {A : Type 0} (test : ℕ → A → Bool) (xs : List A) → ((n : ℕ) → n < length xs → option_map (test n) (slice_get xs n) ≡ Some true) → each_from test 0 xs ≡ true
 all_pass test xs all = search (std_rules, each_from_all, some_same, slice_get_within)
 
-pub packages_pass : (rule : Rule) (r : Resolve) → ((n : ℕ) → n < length r.packages.items → entry_keeps rule r lists.Packages n ≡ Some true) → KeepsIn rule r lists.Packages
-packages_pass rule r all = all_pass (rule.package_ r) r.packages.items all
-
 pub interfaces_pass : (rule : Rule) (r : Resolve) → ((n : ℕ) → n < length r.interfaces.items → entry_keeps rule r lists.Interfaces n ≡ Some true) → KeepsIn rule r lists.Interfaces
 interfaces_pass rule r all = all_pass (rule.interface_ r) r.interfaces.items all
 

@@ -1,5 +1,5 @@
 -- A text is cut at the first place of a character.
-use Rattle.std.proofs.Common.{rules as std_rules, ◌≡◌, refl, sym, ap, ◌∙◌, ℕ, suc, ◌+◌, ◌<◌, arith, Bool, true, false, cond, eqb, ◌==◌, List, [], ◌∷◌, length, Option, Some, None, option_map, not, take, drop}
+use Rattle.std.proofs.Common.{rules as std_rules, ◌≡◌, refl, sym, ap, ◌∙◌, ℕ, suc, ◌+◌, ◌<◌, arith, Bool, true, false, cond, eqb, ◌==◌, List, [], ◌∷◌, length, Option, Some, None, option_map, not}
 use Rattle.std.specs.{Prelude.MatchOption, Borrow.Bor, List.before_first, List.after_first, List.position_or_len}
 use Rattle.wit_model.specs.{Names.cut, Text.Text}
 

@@ -1,5 +1,5 @@
 -- Owners' lists and types that name each other.
-use Rattle.std.proofs.Common.{rules as std_rules, ◌≡◌, refl, sym, ap, subst, ◌∙◌, ℕ, ◌+◌, Bool, true, false, ◌&&◌, ◌||◌, not, ◌==◌, T, eqb→eq, List, [], ◌∷◌, map, filter_map, count_by, option_map, option_and_then, Some, None, Option, slice_get, is_some, lit≤, eq-eqb, option_to_list, arith, String, string_eq, string_bytes}
+use Rattle.std.proofs.Common.{rules as std_rules, ◌≡◌, refl, sym, ap, subst, ◌∙◌, ℕ, Bool, true, false, ◌&&◌, ◌||◌, not, ◌==◌, T, eqb→eq, List, [], ◌∷◌, map, filter_map, count_by, option_map, option_and_then, Some, None, Option, slice_get, is_some, lit≤, eq-eqb, String, string_eq, string_bytes}
 use Rattle.std.proofs.lemmas.{Cmp.nat_list_eq_equiv, List.Folds.list_all-map}
 use Rattle.std.proofs.lemmas.{Bool.and_left as first_false, Bool.and_right as second_false, Bool.not-true as not_true, Option.same_Some as some_same}
 use Rattle.std.specs.declared.alloc.Global.{Global}
@@ -15,7 +15,6 @@ use Rattle.wit_model.proofs.Lists.{list_all_filter_map}
 use Rattle.wit_model.proofs.{Entries.each_from_at, Entries.lists_pass, Listed.misfit, Listed.fit_once, Listed.place_of_found, Listed.none_found}
 use Rattle.base_lemmas.proofs.{Bools.left_of as first_true, Bools.right_of as second_true, Elements.all_get as all_at, Elements.all_weaker as all_imply}
 use Rattle.wit_model.specs.declared.error.EntryList.TheVariants as lists
-use Rattle.wit_model.specs.declared.model.WorldKey.TheVariants as key
 use Rattle.wit_model.specs.declared.model.TypeOwner.TheVariants as owner
 
 -- the list of an interface's types, as one of what each gives

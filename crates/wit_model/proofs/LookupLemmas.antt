@@ -1,6 +1,6 @@
 -- Lemmas on what stands under a number.
 use Rattle.semver.specs.declared.Version.{Version}
-use Rattle.std.proofs.Common.{rules as std_rules, None, Option, Some, refl, true, ◌≡◌}
+use Rattle.std.proofs.Common.{rules as std_rules, None, Option, true, ◌≡◌}
 use Rattle.std.specs.Prelude.{is_none}
 use Rattle.wit_model.specs.Lookup.{optional_version_text}
 

@@ -1,6 +1,6 @@
 -- Entries that stand more than once, or in another order, make the same map.
-use Rattle.std.proofs.Common.{◌≡◌, refl, sym, ap, ◌∙◌, zero, suc, arith, Bool, true, false, cond, List, [], ◌∷◌, Option, Some, None, unwrap_or}
-use Rattle.std.proofs.lemmas.{Cmp.nat_list_cmp_total, Cmp.nat_list_eq_equiv, Slice.Eq.bytes_eq-Decides}
+use Rattle.std.proofs.Common.{◌≡◌, refl, sym, ap, ◌∙◌, zero, suc, arith, Bool, true, false, cond, List, [], ◌∷◌, Option, Some, None}
+use Rattle.std.proofs.lemmas.{Cmp.nat_list_cmp_total, Cmp.nat_list_eq_equiv}
 use Rattle.std.specs.{List.Contains, Ordering.eq_by_cmp}
 use Rattle.std.specs.FinMap.{find, from_entries, get-from_entries, same_map, slice_cmp-IsAntisymmetric, nat_cmp-IsAntisymmetric}
 use Rattle.wit_model.specs.{Text.Text, Text.TextMap, Text.text_cmp, Maps.HaveSameEntries}

@@ -3,7 +3,7 @@ use Rattle.std.proofs.Common.{rules as std_rules, ◌≡◌, refl, sym, ap, subs
 use Rattle.std.proofs.lemmas.{Bool.and_from, Bool.or_left, Bool.or_right, Bool.not-true, Option.some_pair_parts, List.Folds.list_all-append}
 use Rattle.std.specs.{Option.option_map_or, List.list_all, List.join_with_byte}
 use Rattle.wit_model.specs.Text.{Text}
-use Rattle.wit_model.specs.Names.{is_lower_byte, is_upper_byte, is_fragment, is_label, IsLabel, PackageIdentity, path_in, at_version, is_identity, IsPath, cut, versioned, known_path, read_path, without_version}
+use Rattle.wit_model.specs.Names.{is_lower_byte, is_upper_byte, is_fragment, is_label, IsLabel, PackageIdentity, path_in, at_version, is_identity, IsPath, cut, versioned, known_path, read_path}
 use Rattle.wit_model.specs.NameLaws.{IsSpelled, SpelledPathReads, ReadPathIsSpelled, PathGrammar, OnePath, PathWithoutVersion}
 use Rattle.wit_model.proofs.Labels.{label_of_test}
 use Rattle.base_lemmas.proofs.Bools.{left_of as first_true, right_of as second_true}

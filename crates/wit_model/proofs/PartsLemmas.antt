@@ -1,7 +1,5 @@
 -- Owners of types are the same exactly where the test of it passes.
-use Rattle.wit_model.specs.declared.model.TypeOwner.TheVariants as owner
-use Rattle.base_lemmas.proofs.Numbers.{same-number}
-use Rattle.std.proofs.Common.{rules as std_rules, T, ap, eqb→eq, refl, subst, sym, true, ◌≡◌}
+use Rattle.std.proofs.Common.{rules as std_rules, true, ◌≡◌}
 use Rattle.wit_model.specs.Parts.{same_owner}
 use Rattle.wit_model.specs.declared.model.TypeOwner.{TypeOwner}
 

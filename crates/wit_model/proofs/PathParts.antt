@@ -79,8 +79,6 @@ module _ (r : Resolve) where
       by_interface (Some i) q = by_name q i.name
 
   module _ (n : ℕ) (p : PackageName) (s : String Global) (is : full_name r n ≡ Some (p, s)) where
-    pub path_found : interface_path r n ≡ Some (path_in (identity_of p) (text_of s))
-    path_found = path_made n ∙ ap (option_map path_of) is
 
     pub canonical_found : canonical_path r n ≡ Some (path_in (canonical_identity_of p) (text_of s))
     canonical_found = canonical_made n ∙ ap (option_map canonical_of) is
@@ -89,14 +87,6 @@ module _ (r : Resolve) where
     suffix_found = suffix_made n ∙ ap (option_and_then suffix_of) is
 
   module _ (n : ℕ) (is : full_name r n ≡ None) where
-    pub path_missing : interface_path r n ≡ None
-    path_missing = path_made n ∙ ap (option_map path_of) is
-
-    pub canonical_missing : canonical_path r n ≡ None
-    canonical_missing = canonical_made n ∙ ap (option_map canonical_of) is
-
-    pub suffix_missing : canonical_suffix r n ≡ None
-    suffix_missing = suffix_made n ∙ ap (option_and_then suffix_of) is
 
 -- ---- the suffix of a version
 

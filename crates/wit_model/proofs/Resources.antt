@@ -1,14 +1,12 @@
 -- What is a resource may be computed along the list of types, where each refers to smaller numbers alone.
-use Rattle.std.proofs.Common.{rules as std_rules, ◌≡◌, refl, sym, ap, subst, ◌∙◌, ℕ, zero, suc, ◌<◌, ◌≤◌, Bool, true, false, ◌&&◌, nat_lt, T, ltb→lt, List, length, Some, None, Option, option_to_list, filter_map, not, arith}
+use Rattle.std.proofs.Common.{rules as std_rules, ◌≡◌, refl, ap, ◌∙◌, ℕ, zero, suc, ◌<◌, ◌≤◌, Bool, true, false, ◌&&◌, nat_lt, List, length, Some, None, Option, option_to_list, filter_map, not, arith}
 use Rattle.std.proofs.lemmas.Option.{slice_get_within, slice_get_past}
 use Rattle.std.specs.{List.list_all, Option.option_map_or}
 use Rattle.wit_model.specs.declared.model.{Resolve.Resolve, TypeDef.TypeDef, TypeDefKind.TypeDefKind, «Type».«Type» as ValueType, Function.Function}
 use Rattle.wit_model.specs.{Lookup.type_at, Types.number_of, Rules.passes, Valid.Keeps, Checks.references, Checks.all_values}
 use Rattle.wit_model.specs.Parts.{kind_numbers, member_types, handled, function_types, is_resource, is_resource_type, is_resource_kind, ends_in_resource}
 use Rattle.wit_model.proofs.{Checks.below_at, Functions.types_test, Functions.functions_test}
-use Rattle.base_lemmas.proofs.Bools.{and-true, left_of as first_true}
-use Rattle.wit_model.specs.declared.model.TypeDefKind.TheVariants as kind
-use Rattle.wit_model.specs.declared.model.«Type».TheVariants as ty
+use Rattle.base_lemmas.proofs.Bools.{and-true}
 
 -- whether a kind is a resource hangs on smaller numbers alone
 pub kind_same : (f g : ℕ → Bool) (n : ℕ) (k : TypeDefKind) → ((m : ℕ) → m < n → f m ≡ g m) → list_all (λ m. nat_lt m n) (kind_numbers k) ≡ true → is_resource_kind f k ≡ is_resource_kind g k

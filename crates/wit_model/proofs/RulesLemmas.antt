@@ -1,9 +1,7 @@
 -- Lemmas on the words that the rules of validity are said with.
-use Rattle.base_lemmas.proofs.Numbers.{turned as number_flip}
-use Rattle.semver.specs.Identifiers.{parts_of}
 use Rattle.semver.specs.declared.Version.{Version}
 use Rattle.std.proofs.Common.{rules as std_rules, Bool, List, None, Option, Some, [], ap, arith, cond, false, map, option_and_then, refl, slice_get, subst, sym, true, ℕ, ◌&&◌, ◌++◌, ◌+◌, ◌==◌, ◌∙◌, ◌∷◌, ◌≡◌}
-use Rattle.std.proofs.lemmas.{Bool.eqb-true, List.map-append}
+use Rattle.std.proofs.lemmas.{List.map-append}
 use Rattle.std.specs.Option.{option_eq}
 use Rattle.wit_model.proofs.{Distinct.text_eq_flip, Entries.each_from_all, Entries.each_from_at}
 use Rattle.wit_model.specs.Rules.{after_prefix, each_after, each_from, has_items, is_id, same_package_name, same_version}

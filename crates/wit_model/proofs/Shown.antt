@@ -1,11 +1,11 @@
 -- Which interfaces stand before an item, item by item.
-use Rattle.std.proofs.Common.{rules as std_rules, ◌≡◌, refl, sym, ap, ◌∙◌, ℕ, Bool, true, false, ◌&&◌, ◌||◌, not, ◌==◌, List, [], ◌∷◌, ◌++◌, filter, filter_map, option_to_list, Some, None, Option, append_assoc, append-nil}
+use Rattle.std.proofs.Common.{rules as std_rules, ◌≡◌, refl, sym, ap, ◌∙◌, ℕ, Bool, true, false, ◌&&◌, ◌||◌, not, ◌==◌, List, [], ◌∷◌, ◌++◌, filter_map, option_to_list, Some, Option, append_assoc, append-nil}
 use Rattle.std.proofs.lemmas.List.{Elements.filter_map-append, Folds.list_any-append}
-use Rattle.std.specs.{List.list_all, List.list_any, List.cons_option, Option.option_map_or}
+use Rattle.std.specs.{List.list_all, List.cons_option}
 use Rattle.indexmap.specs.IndexMap.{values}
 use Rattle.wit_model.specs.declared.model.{Resolve.Resolve, Interface.Interface, World.World, WorldItem.WorldItem}
 use Rattle.wit_model.specs.Lookup.{interface_at}
-use Rattle.wit_model.specs.Uses.{has, once, item_interface, interface_used_by, interfaces_used_by, direct_deps, items_of}
+use Rattle.wit_model.specs.Uses.{has, item_interface, interface_used_by, direct_deps, items_of}
 use Rattle.wit_model.specs.{Rules.is_id, Rules.each_after, Rules.used_interfaces, ItemOrders.shown_with, ItemOrders.shown_after, ItemOrders.uses_are_shown}
 use Rattle.wit_model.proofs.{Lists.list_all_filter_map, Owners.all_filter, Owners.all_once}
 use Rattle.base_lemmas.proofs.Bools.{and_assoc, exchange as and_swap}
@@ -30,9 +30,6 @@ after_append p before (x ∷ xs) ys =
 or_turn : (a b c : Bool) → (a || (b || c)) ≡ ((b || a) || c)
 or_turn x y c = search std_rules
 
-or_swap : (a b : Bool) → (a || (b || false)) ≡ (b || a)
-or_swap x y = search std_rules
-
 has_one : (ns : List ℕ) (o : Option ℕ) (n : ℕ) → (has ns n || has (cons_option o []) n) ≡ (is_id n o || has ns n)
 has_one ns x n = search std_rules
 
@@ -50,10 +47,6 @@ interfaces_before r before (i ∷ items) =
 -- one more item is shown
 pub after_more : (i : WorldItem) (items : List WorldItem) (old new : ℕ → Bool) → ((n : ℕ) → new n ≡ shown_with i old n) → (n : ℕ) → shown_after items new n ≡ shown_after (i ∷ items) old n
 after_more i items old new same n = search std_rules
-
-pub ready_more : (r : Resolve) (i : WorldItem) (items : List WorldItem) (old new : ℕ → Bool) → ((n : ℕ) → new n ≡ shown_with i old n) → list_all old (used_interfaces r i) ≡ true
-    → uses_are_shown r new items ≡ uses_are_shown r old (i ∷ items)
-ready_more r i items old new same ready = search std_rules
 
 pub shown_append : (r : Resolve) (shown : ℕ → Bool) (xs ys : List WorldItem) → uses_are_shown r shown (xs ++ ys) ≡ (uses_are_shown r shown xs && uses_are_shown r (shown_after xs shown) ys)
 shown_append r shown [] ys = refl

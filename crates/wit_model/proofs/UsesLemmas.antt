@@ -1,8 +1,6 @@
 -- Lemmas on lists of numbers, and on what a type or an item leads to.
-use Rattle.wit_model.specs.declared.model.TypeDefKind.TheVariants as kind
-use Rattle.wit_model.specs.declared.model.WorldItem.TheVariants as item
 use Rattle.base_lemmas.proofs.{Elements.contains-later, Numbers.same-number}
-use Rattle.std.proofs.Common.{rules as std_rules, Bool, List, Some, [], ap, arith, cond, false, filter, nat_eq, option_to_list, refl, subst, sym, true, ℕ, ◌==◌, ◌||◌, ◌∙◌, ◌∷◌, ◌≡◌}
+use Rattle.std.proofs.Common.{rules as std_rules, Bool, List, Some, [], ap, arith, cond, false, filter, nat_eq, refl, sym, true, ℕ, ◌==◌, ◌||◌, ◌∙◌, ◌∷◌, ◌≡◌}
 use Rattle.std.proofs.lemmas.{Bool.and_from as both, Bool.eqb-true, Bool.or_right, Bool.Decides.nat_tests, Option.same_Some as some-same}
 use Rattle.std.specs.List.{list_all, list_any}
 use Rattle.wit_model.proofs.{Elements.contains-has, Elements.has-contains, OnePath.found-in}

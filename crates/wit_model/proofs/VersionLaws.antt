@@ -1,14 +1,13 @@
 -- A version is known by its text, and a package by its name in paths.
-use Rattle.std.proofs.Common.{rules as std_rules, ◌≡◌, refl, sym, ap, ◌∙◌, ◌^◌, Bool, true, ◌&&◌, ◌==◌, nat_lt, Option, Some, None, Result, Ok}
-use Rattle.std.proofs.lemmas.{Bool.and_parts, Bool.and_from, Bool.eqb-true, Bool.ltb-true, Option.same_Some, Slice.Eq.bytes_eq-Decides}
+use Rattle.std.proofs.Common.{rules as std_rules, ◌≡◌, sym, ap, ◌∙◌, Bool, true, ◌&&◌, Option, Result, Ok}
+use Rattle.std.proofs.lemmas.{Bool.and_parts, Bool.and_from, Bool.ltb-true, Option.same_Some, Slice.Eq.bytes_eq-Decides}
 use Rattle.std.specs.{Option.option_eq, Result.result_unwrap_or}
 use Rattle.semver.specs.declared.{error.Error.Error, Version.Version}
-use Rattle.semver.specs.Identifiers.{parts_of, version_text, parts_text, pre_text, build_text}
-use Rattle.semver.specs.{Grammar.is_pre_release, Grammar.is_build, Grammar.IsValid, Parse.Parts, Parse.version_parts}
+use Rattle.semver.specs.Identifiers.{parts_of, parts_text}
+use Rattle.semver.specs.{Grammar.IsValid, Parse.Parts, Parse.version_parts}
 use Rattle.semver.proofs.Grammar.{version_parts-complete}
 use Rattle.wit_model.specs.{Text.Text, Text.text_of, Text.text_eq, NameLaws.OneVersion, NameLaws.SameName}
 use Rattle.wit_model.specs.{Names.is_version, Lookup.identity_of, Lookup.optional_version_text, Rules.passes, Rules.same_version, Rules.same_package_name}
-use Rattle.base_lemmas.proofs.Numbers.{same_count as same_number}
 use Rattle.wit_model.proofs.TextLemmas.{text_same}
 
 five_parts : (a b c d e : Bool) → (a && (b && (c && (d && e)))) ≡ true → (a ≡ true) × (b ≡ true) × (c ≡ true) × (d ≡ true) × (e ≡ true)

@@ -1,8 +1,8 @@
 -- What an interface or a world of valid packages has can be handed in to be printed.
 use Rattle.std.proofs.Common.{◌≡◌, refl, true, ℕ}
 use Rattle.std.specs.List.{list_all}
-use Rattle.wit_model.specs.declared.model.{InterfaceId.InterfaceId, Resolve.Resolve, WorldItem.WorldItem, WorldKey.WorldKey}
-use Rattle.wit_model.specs.{Rules.in_list, Rules.passes, Rules.item_in_range, Rules.key_in_range, Valid.item_function}
+use Rattle.wit_model.specs.declared.model.{Resolve.Resolve, WorldItem.WorldItem, WorldKey.WorldKey}
+use Rattle.wit_model.specs.{Rules.in_list, Rules.passes, Rules.key_in_range, Valid.item_function}
 use Rattle.print_items.specs.Shown.{Listed, imported_functions, listed_functions, listed_imports, listed_types, type_of_entry}
 use Rattle.print_packages.specs.GivenTypes.{behind}
 use Rattle.print_uses.specs.UseGroups.{is_listed_function, is_listed_type}

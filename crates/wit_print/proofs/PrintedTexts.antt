@@ -1,5 +1,5 @@
 -- What an output holds that was blank before the calls of a file.
-use Rattle.std.proofs.Common.{◌≡◌, ℕ, sym, ap, subst, ◌∙◌, List}
+use Rattle.std.proofs.Common.{◌≡◌, ℕ, ap, subst, ◌∙◌, List}
 use Rattle.print_output.proofs.RenderLaws.{Moves-writes}
 use Rattle.print_output.specs.{OutputCall.Moves, OutputCall.OutputCall, OutputCall.View, Render.Written, Render.blank, Render.render, Render.writes}
 

@@ -3,7 +3,6 @@ use Rattle.std.proofs.Common.{◌≡◌, List, ℕ, sym, subst, Option}
 use Rattle.wit_model.specs.declared.error.{Error.Error, Error.TheVariants.Memory}
 use Rattle.witc.specs.{Decodes.RefusesInput, Decodes.memory, Decodes.unread, Input.IsUnread}
 use Rattle.witc.specs.declared.refusal.Refusal.{Refusal}
-use Rattle.base_lemmas.proofs.Options.{passed}
 use Rattle.witc.specs.declared.refusal.Refusal.TheVariants as refusals
 
 -- what is true of the refusal is true of the answer that passes it on

@@ -1,5 +1,5 @@
 -- What the answers of the commands come to.
-use Rattle.std.proofs.Common.{◌≡◌, ◌≤◌, ℕ, List, refl, sym, subst, Option, Some, None, Result, Ok, Err, IfOk, MatchResult, Vec, arith}
+use Rattle.std.proofs.Common.{◌≡◌, ℕ, List, refl, sym, subst, Option, Some, None, Result, Ok, Err, IfOk, MatchResult, Vec}
 use Rattle.std.specs.declared.alloc.Global.{Global}
 use Rattle.witc.specs.{Answers.Answers, Answers.failed, Answers.written, Words.Asked, Words.compat, Worlds.ComparesInput}
 use Rattle.witc.specs.Runs.{AnswersNames, AnswersText, Ends, IsDone, LacksWorld, bad_words, done, lacks_world, no_new, no_prev, refused}
@@ -37,8 +37,3 @@ module _ (left rest old new : Option (List ℕ)) where
   pub usage-ends : (words : Option Asked) (status : ℕ) → words ≡ None → rest ≡ left → Answers old new usage 2 status → Ends words left rest old new status
   usage-ends words _ none same failed = refused
   usage-ends words _ none same (written appended) = bad_words none same appended
-
-  -- no other status
-  pub status-le : (words : Option Asked) (status : ℕ) → Ends words left rest old new status → status ≤ 2
-  status-le words _ (done what text asked is appended) = omega arith
-  status-le words _ _ = omega arith

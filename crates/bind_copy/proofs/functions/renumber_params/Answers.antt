@@ -1,4 +1,4 @@
-use Rattle.std.proofs.Common.{rules, ◌≡◌, ◌<◌, ◌∙◌, ap, sym, refl, true, length, ℕ, List, ◌∷◌, slice_get, Some}
+use Rattle.std.proofs.Common.{rules, ◌≡◌, ◌<◌, ◌∙◌, ap, sym, refl, true, length, slice_get, Some}
 use Rattle.std.proofs.lemmas.Option.{slice_get_read}
 use Rattle.bind_union.specs.Views.{renamed_type}
 use Rattle.bind_copy.specs.Copies.{are_params_below, number_under, IsParamUnder}

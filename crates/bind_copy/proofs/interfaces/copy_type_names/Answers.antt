@@ -1,8 +1,8 @@
-use Rattle.std.proofs.Common.{rules, ◌≡◌, refl, sym, ap, ◌∷◌, ◌∙◌, ◌++◌, length, true}
+use Rattle.std.proofs.Common.{rules, ◌≡◌, sym, ap, ◌∷◌, ◌∙◌, ◌++◌, length, true}
 use Rattle.std.proofs.lemmas.{Option.unwrap_or-slice_get, Map.Iter.rest_more}
 use Rattle.std.specs.{Prelude.String, Map.Iter.deref_pair}
 use Rattle.std.specs.declared.alloc.Global.{Global}
-use Rattle.bind_copy.specs.Copies.{are_names_below, number_under, type_names, type_names_under}
+use Rattle.bind_copy.specs.Copies.{are_names_below, type_names, type_names_under}
 use Rattle.wit_model.specs.declared.model.TypeId.{TypeId}
 use Rattle.bind_copy.proofs.Entries.{names_apart, names_more}
 use Rattle.bind_copy.proofs.interfaces.copy_type_names.Goals as goal

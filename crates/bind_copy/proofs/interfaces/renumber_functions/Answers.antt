@@ -1,4 +1,4 @@
-use Rattle.std.proofs.Common.{rules, arith, refl, length}
+use Rattle.std.proofs.Common.{arith, refl, length}
 use Rattle.bind_copy.specs.Copies.{AreFunctionsBelow, IsFunctionEntry}
 use Rattle.bind_copy.proofs.Members.{functions_later}
 use Rattle.bind_copy.proofs.Written.{all_written, none_written, value_left, value_written, written_long}

@@ -1,4 +1,3 @@
-use Rattle.std.proofs.Common.{refl}
 use Rattle.cases.proofs.Unnamed.{asked}
 use Rattle.cases.proofs.encoder.asked_thrice.Goals as goal
 

@@ -1,7 +1,5 @@
-use Rattle.std.proofs.Common.{◌<◌, ◌∙◌, ap, sym, subst, ℕ, List, length, map}
+use Rattle.std.proofs.Common.{◌<◌, sym, subst, List}
 use Rattle.std.specs.List.{AllByRecursion}
-use Rattle.read_rules.specs.declared.sights.Sight.{Sight}
-use Rattle.read_rules.specs.Sights.{numbered_sight}
 use Rattle.plan_parts.specs.declared.views.Sighted.{Sighted}
 use Rattle.plan_parts.proofs.SightLaws.{places_kept}
 use Rattle.plan_parts.proofs.sights.first_tables.Goals as goal

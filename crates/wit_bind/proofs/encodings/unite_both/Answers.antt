@@ -1,4 +1,4 @@
-use Rattle.std.proofs.Common.{◌≡◌, ap, subst, ◌∙◌}
+use Rattle.std.proofs.Common.{ap, subst, ◌∙◌}
 use Rattle.indexmap.specs.IndexMap.{insert_all}
 use Rattle.wit_model.specs.Text.{text_eq}
 use Rattle.wit_bind.specs.{Encodings.Encodings, Encodings.kept_encodings, Unions.Gains}

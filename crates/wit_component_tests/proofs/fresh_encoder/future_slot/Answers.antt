@@ -1,4 +1,4 @@
-use Rattle.std.proofs.Common.{◌≡◌, refl, sym, subst}
+use Rattle.std.proofs.Common.{refl, sym, subst}
 use Rattle.wit_model.specs.declared.model.Resolve.{Resolve}
 use Rattle.encode_types.specs.View.{Agrees}
 use Rattle.wit_component.specs.InterfaceEncoders.{interface_encoder_view}

@@ -1,4 +1,4 @@
-use Rattle.std.proofs.Common.{◌∙◌, refl, sym, ap, subst, Bool, true, false, ◌≡◌}
+use Rattle.std.proofs.Common.{◌∙◌, refl, sym, subst, true, false, ◌≡◌}
 use Rattle.std.specs.Str.{IsUtf8, is_utf8}
 use Rattle.std.proofs.lemmas.Str.{IsUtf8-from_is_utf8, is_utf8-from_IsUtf8}
 use Rattle.witc.proofs.command.text_of.Goals as goal

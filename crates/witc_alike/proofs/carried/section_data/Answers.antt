@@ -1,6 +1,6 @@
 use Rattle.std.proofs.Common.{◌≡◌, ◌-◌, Some, rules}
 use Rattle.witc_alike.specs.Carried.{RefusesWalk}
-use Rattle.witc_alike.proofs.WalkLaws.{fewer, found-walked, no-module, none-left, nothing-walked, one-less, other-walked, passed-over, stuck, taken, within}
+use Rattle.witc_alike.proofs.WalkLaws.{found-walked, no-module, nothing-walked, one-less, other-walked, passed-over}
 use Rattle.witc_alike.proofs.carried.section_data.Goals as goal
 use Rattle.base_lemmas.proofs.Options.{passed}
 

@@ -1,8 +1,8 @@
 use Rattle.std.proofs.Common.{◌≡◌, ◌+◌}
 use Rattle.wit_model.specs.declared.error.{Error.Error, Error.TheVariants.Size}
-use Rattle.wit_component.specs.{Bindings.binding_of, Decoded.RefusesBytes, DecodedWorlds.RefusesWorldBytes, Reached.OutgrowsLists}
+use Rattle.wit_component.specs.{Bindings.binding_of, Decoded.RefusesBytes, Reached.OutgrowsLists}
 use Rattle.witc_alike.specs.Kinds.{IsUnknown}
-use Rattle.witc_alike.proofs.KindLaws.{module-told, open-told, package-fits, package-told, world-fits, world-told}
+use Rattle.witc_alike.proofs.KindLaws.{module-told, open-told, package-fits, package-told, world-told}
 use Rattle.base_lemmas.proofs.Options.{err_said, passed}
 use Rattle.witc_alike.proofs.kinds.kinds_of.Goals as goal
 

@@ -1,4 +1,4 @@
-use Rattle.std.proofs.Common.{◌≡◌, sym, ap, ◌∙◌, not, ◌&&◌}
+use Rattle.std.proofs.Common.{sym, ap, ◌∙◌, not, ◌&&◌}
 use Rattle.std.specs.Map.{lookup}
 use Rattle.wit_model.specs.Text.{Text, text_eq}
 use Rattle.wit_bind.specs.{Cuts.text_under, Encodings.encoding_at}

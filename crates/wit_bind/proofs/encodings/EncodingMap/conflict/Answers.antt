@@ -3,7 +3,7 @@ use Rattle.std.specs.{List.IsDistinct, Map.keys_of}
 use Rattle.bind_meaning.specs.Clash.{EncodingFault}
 use Rattle.bind_clash.specs.Faults.{IsLeastFault}
 use Rattle.wit_model.specs.Text.{text_eq}
-use Rattle.wit_bind.specs.Encodings.{Encodings, kept_encodings}
+use Rattle.wit_bind.specs.Encodings.{Encodings}
 use Rattle.wit_bind.proofs.{Conflicts.least_from, Conflicts.least_is, Kept.Entries}
 use Rattle.wit_bind.proofs.encodings.EncodingMap.conflict.Goals as goal
 
