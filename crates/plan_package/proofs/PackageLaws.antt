@@ -99,7 +99,6 @@ main_planned packages main places ms es n (Ok k) identity own at is = the_main i
 main_planned packages main places ms es n (Err e) identity own at is = tt
 
 module _ (packages : List PackageIdentity) (main : ℕ) (places : List ℕ) (ms : List Member) (listed : ℕ → List (Text × ℕ)) where
-
   pub one_planned : (count : ℕ) (old new : List CodePackage) (y : CodePackage) → new ≡ old ++ y ∷ [] → PlansPackage packages main places ms (listed count) count (stated_package y)
       → ArePlanned packages main places ms listed count (map stated_package old)
       → ArePlanned packages main places ms listed (count + 1) (map stated_package new)

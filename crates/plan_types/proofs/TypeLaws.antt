@@ -14,7 +14,6 @@ use Rattle.plan_types.specs.Showings.{NumberedShowing}
 use Rattle.wit_model.specs.declared.model.TypeOwner.TheVariants as owner
 
 module _ (t : Tables) (kept : List ℕ) (find : ℕ → Option NumberedShowing) (n : ℕ) where
-
   module _ (s : Shape) (at : slice_get t.shapes n ≡ Some s) where
     pub over_form : MayBePlanned t kept find n → name_in s ≡ None → IsFormOver kept s
     over_form (a_form r there no_name over) none = subst (IsFormOver kept) (same-some r s (sym there ∙ at)) over

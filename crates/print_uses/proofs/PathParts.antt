@@ -11,7 +11,6 @@ use Rattle.print_grammar.specs.{WellNamed.is_well_path, Tree.PathTree, Tree.Path
 use Rattle.base_lemmas.proofs.Bools.{left_of, right_of}
 
 module _ (r : Resolve) (here : PackageId) (i : Interface) where
-
   pub own_path : (p : PackageId) → i.«package» ≡ Some p → (p.0 == here.0) ≡ true → path_from r here i ≡ Local (present_name i.name)
   own_path p e same =
       subst (λ o. path_from r here (record i { «package» = o }) ≡ Local (present_name i.name)) (sym e)

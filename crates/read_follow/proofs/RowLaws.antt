@@ -30,7 +30,6 @@ none_dropped [] = refl
 none_dropped (x ∷ xs) = refl
 
 module _ {A Y : Type 0} (f : A → Option Y) (labs : Y → List (Text × Bool)) (trees : Y → List Tree) (rows : List A) where
-
   module _ (i : ℕ) (labels : List (Text × Bool)) (ts : List Tree) (so_far : RowsSoFar f labs trees rows i labels ts) where
     module _ (x : A) (at : drop i rows ≡ x ∷ drop (i + 1) rows) where
       pub rows_more : (y : Y) (more_labels : List (Text × Bool)) (more_ts : List Tree) → f x ≡ Some y → more_labels ≡ labels ++ labs y → more_ts ≡ ts ++ trees y

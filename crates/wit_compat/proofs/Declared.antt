@@ -164,6 +164,5 @@ module _ (d e : TypeDefKind) where
 -- ---- two types under their names
 
 module _ (a b : Resolve) (n m : ℕ) (d e : TypeDef) (dat : type_at a n ≡ Some d) (eat : type_at b m ≡ Some e) where
-
   pub meanings : optional_text d.external_id ≡ optional_text e.external_id → (y : Bool) → (IsTrue y ↔ SameDeclared a b d.kind e.kind) → IsTrue y ↔ (type_meaning_at a n ≡ type_meaning_at b m)
   meanings ids y h = search std_rules

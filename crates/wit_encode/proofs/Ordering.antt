@@ -300,7 +300,6 @@ module _ (ts : List TypeId) (places : BTreeMap ℕ ℕ) (t : TypeId) (h : ArePla
 -- ---- the place of a function
 
 module _ (ts : List TypeId) (places : BTreeMap ℕ ℕ) (f : Function) (h : ArePlaces ts places) where
-
   pub place-missing : (n : ℕ) → resource_of f.kind ≡ Some n → get nat_cmp places n ≡ None → length ts ≡ place_among ts f
   place-missing n e g = position-none (λ t. nat_eq n t.0) ts (sym (h.at n) ∙ g)
       ∙ ap (λ o. position_or_len (λ (t : TypeId). option_map_or (λ k. nat_eq k t.0) o false) ts) (sym e)

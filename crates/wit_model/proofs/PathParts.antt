@@ -79,7 +79,6 @@ module _ (r : Resolve) where
       by_interface (Some i) q = by_name q i.name
 
   module _ (n : ℕ) (p : PackageName) (s : String Global) (is : full_name r n ≡ Some (p, s)) where
-
     pub canonical_found : canonical_path r n ≡ Some (path_in (canonical_identity_of p) (text_of s))
     canonical_found = canonical_made n ∙ ap (option_map canonical_of) is
 
