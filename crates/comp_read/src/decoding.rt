@@ -19,7 +19,7 @@ fn wanted_in(alloc: Global, wanted: Wanted, bytes: &[u8]) -> Result<(Resolve, Pa
     ensures absent { IfErr result (λ e. Because e (MeansNone wanted (levels_of bytes.now))) }
 {
     match component_of(alloc, bytes) {
-        Ok(pieces) => wanted_of_pieces(alloc, wanted, &pieces),
+        Ok(pieces) => wanted_of_pieces(alloc, wanted, pieces),
         Err(refusal) => Err(refusal),
     }
 }

@@ -3,8 +3,8 @@
 ghost use Rattle.std.specs.List.{AllByRecursion};
 ghost use Rattle.std.specs.Prelude.{◌≡◌, ◌≤◌, ℕ, List, length, map, Some, IfErr, IfOk};
 ghost use Rattle.comp_bytes.specs.Levels.{levels_of, Piece as RawPiece};
-ghost use Rattle.read_follow.specs.Pieces.{raw_piece, IsWholePiece};
-ghost use Rattle.read_parts.specs.Input.{IsFollowed};
+ghost use Rattle.read_follow.specs.{Found.Refuses, Pieces.raw_piece, Pieces.IsWholePiece};
+ghost use Rattle.read_parts.specs.{Followed.scopes_of as scopes_of_lem, Input.IsFollowed};
 ghost use Rattle.read_numbers.specs.{KnownScopes.AreKnown, NumberedInput.tables_of as tables_of_lem};
 ghost use Rattle.read_homes.specs.Homes.{ArePaths};
 ghost use Rattle.read_exports.specs.Members.{homes_in};
@@ -186,19 +186,28 @@ fn wanted_of_parts(
     wanted_of_followed(alloc, wanted, followed)
 }
 
+/// What is followed of the pieces, which are freed afterwards.
+fn followed_of<'a>(alloc: Global, pieces: Vec<Piece<'a>>) -> Result<Followed<'a>, Refusal>
+    requires { AllByRecursion IsWholePiece pieces.items }
+    ensures followed { IfOk result (IsFollowed (map raw_piece pieces.entry.items)) }
+    ensures absent { IfErr result (λ e. Refuses e (scopes_of_lem (map raw_piece pieces.entry.items))) }
+{
+    follow_parts(alloc, &pieces)
+}
+
 /// The package, or the one world, that the sections of a component mean, and the number of the package. It has no more types than the bytes that they
 /// are read of.
 pub(crate) fn wanted_of_pieces(
     alloc: Global,
     wanted: Wanted,
-    pieces: &[Piece<'_>],
+    pieces: Vec<Piece<'_>>,
 ) -> Result<(Resolve, PackageId), Refusal>
-    requires { AllByRecursion IsWholePiece pieces.now }
-    ensures holds { IfOk result (λ x. HoldsWanted wanted (Some (map raw_piece pieces.now)) x.0 x.1.0) }
-    ensures few { (bytes : List ℕ) → levels_of bytes ≡ Some (map raw_piece pieces.now) → IfOk result (λ x. length x.0.types.items ≤ length bytes) }
-    ensures absent { IfErr result (λ e. Because e (MeansNone wanted (Some (map raw_piece pieces.now)))) }
+    requires { AllByRecursion IsWholePiece pieces.items }
+    ensures holds { IfOk result (λ x. HoldsWanted wanted (Some (map raw_piece pieces.entry.items)) x.0 x.1.0) }
+    ensures few { (bytes : List ℕ) → levels_of bytes ≡ Some (map raw_piece pieces.entry.items) → IfOk result (λ x. length x.0.types.items ≤ length bytes) }
+    ensures absent { IfErr result (λ e. Because e (MeansNone wanted (Some (map raw_piece pieces.entry.items)))) }
 {
-    match follow_parts(alloc, pieces) {
+    match followed_of(alloc, pieces) {
         Ok(followed) => wanted_of_parts(alloc, wanted, &followed),
         Err(refusal) => Err(refusal),
     }

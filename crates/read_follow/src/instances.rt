@@ -163,6 +163,18 @@ fn follow_body<'a>(
     Ok(scope)
 }
 
+/// What the scope shows, in lists with no more room than it takes.
+fn shown_by<'a>(scope: InstanceScope<'a>) -> View<'a>
+    ensures types { result.types.items ≡ scope.entry.types.items }
+    ensures functions { result.functions.items ≡ scope.entry.functions.items }
+{
+    let mut types = scope.types;
+    types.shrink_to_fit();
+    let mut functions = scope.functions;
+    functions.shrink_to_fit();
+    View { types, functions }
+}
+
 /// What an instance type shows of the interface whose names stand in the place of this number, followed declaration by declaration.
 ///
 /// The slots stand around it, and the marks say of each place whether it is that of an interface with a path. The tables grow by a type for
@@ -188,10 +200,7 @@ pub fn follow_instance<'a>(
     ensures absent { IfErr result (λ e. ShowsNothing marks.now here (tables_of table.old functions.old) outer.now body.entry e) }
 {
     match follow_body(alloc, table, functions, marks, here, outer, body) {
-        Ok(scope) => Ok(View {
-            types: scope.types,
-            functions: scope.functions,
-        }),
+        Ok(scope) => Ok(shown_by(scope)),
         Err(refusal) => Err(refusal),
     }
 }

@@ -69,7 +69,7 @@ pub(crate) fn name_number<'a>(
     ensures table { OnOk result (IsTable table.old × IsTable table.new) }
     ensures memory { IsOkUnless result refusals.Memory }
 {
-    let mut labels = Vec::new(alloc);
+    let mut labels = Vec::with_capacity(alloc, 1)?;
     labels.push((name, false))?;
     let key = Key {
         sort: 0,

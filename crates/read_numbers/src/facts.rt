@@ -40,7 +40,7 @@ pub fn facts_of(alloc: Global, table: &Table<'_>) -> Result<Vec<Fact>, AllocErro
     ensures many { IfOk result (λ facts. length facts.items ≡ length table.now) }
     ensures tell { IfOk result (λ facts. FactsHold (map followed_fact facts.items) (λ place. shape_trees place table.now)) }
 {
-    let mut facts = Vec::new(alloc);
+    let mut facts = Vec::with_capacity(alloc, table.len())?;
     for number in 0..table.len() {
         facts.push(fact_at(table, number))?;
     }

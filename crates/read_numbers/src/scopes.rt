@@ -122,7 +122,7 @@ pub fn instances_of<'a>(
     requires { map owned_view views.now ≡ map instance_view instances.now }
     ensures { IfOk result (λ all. map numbered_instance all.items ≡ map followed_instance instances.now) }
 {
-    let mut all = Vec::new(alloc);
+    let mut all = Vec::with_capacity(alloc, instances.len())?;
     for number in 0..instances.len() {
         all.push(Instance {
             place: instances[number].place,

@@ -28,7 +28,7 @@ fn shape_at<'a>(table: &'a Table<'a>, number: usize) -> TypeShape<'a>
 pub fn shapes_of<'a>(alloc: Global, table: &'a Table<'a>) -> Result<Vec<TypeShape<'a>>, AllocError>
     ensures { IfOk result (λ shapes. map numbered_shape shapes.items ≡ table.entry.now) }
 {
-    let mut shapes = Vec::new(alloc);
+    let mut shapes = Vec::with_capacity(alloc, table.len())?;
     for number in 0..table.len() {
         shapes.push(shape_at(table, number))?;
     }
@@ -57,7 +57,7 @@ pub fn functions_of<'a>(
 ) -> Result<Vec<FunctionType<'a>>, AllocError>
     ensures { IfOk result (λ types. map numbered_function_type types.items ≡ map numbered_function functions.entry.now) }
 {
-    let mut types = Vec::new(alloc);
+    let mut types = Vec::with_capacity(alloc, functions.len())?;
     for number in 0..functions.len() {
         types.push(function_at(functions, number))?;
     }

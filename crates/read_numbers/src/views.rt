@@ -52,7 +52,7 @@ fn function_of<'a>(shown: ShownFunction<'a>) -> ViewFunction<'a>
 fn types_of<'a>(alloc: Global, shown: &[ShownType<'a>]) -> Result<Vec<ViewType<'a>>, AllocError>
     ensures { IfOk result (λ types. map numbered_type types.items ≡ map shown_type shown.now) }
 {
-    let mut types = Vec::new(alloc);
+    let mut types = Vec::with_capacity(alloc, shown.len())?;
     for ty in shown {
         types.push(type_of(*ty))?;
     }
@@ -65,7 +65,7 @@ fn functions_of<'a>(
 ) -> Result<Vec<ViewFunction<'a>>, AllocError>
     ensures { IfOk result (λ functions. map numbered_function functions.items ≡ map numbered_shown_function shown.now) }
 {
-    let mut functions = Vec::new(alloc);
+    let mut functions = Vec::with_capacity(alloc, shown.len())?;
     for function in shown {
         functions.push(function_of(*function))?;
     }
@@ -88,7 +88,7 @@ pub fn views_of<'a>(
 ) -> Result<Vec<OwnedView<'a>>, AllocError>
     ensures { IfOk result (λ views. map owned_view views.items ≡ map (λ i. numbered_view i.view) instances.now) }
 {
-    let mut views = Vec::new(alloc);
+    let mut views = Vec::with_capacity(alloc, instances.len())?;
     for instance in instances {
         let view = view_of(alloc, &instance.view)?;
         views.push(view)?;
