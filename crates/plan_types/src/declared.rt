@@ -35,7 +35,7 @@ fn none_shown<'a>(alloc: Global, count: usize) -> Result<Vec<Option<Showing<'a>>
     ensures many { IfOk result (λ table. length table.items ≡ count) }
     ensures none { IfOk result (λ table. (n : ℕ) → showing_at table.items n ≡ None) }
 {
-    let mut table = Vec::new(alloc);
+    let mut table = Vec::with_capacity(alloc, count)?;
     for _ in 0..count {
         table.push(None)?;
     }

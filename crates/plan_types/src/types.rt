@@ -157,7 +157,7 @@ pub fn planned_types<'a>(
     requires { AllByRecursion (MayBePlanned (numbered_tables tables.now) kept.now (showing_at first.now)) kept.now }
     ensures { IfOk result (λ types. PlansTypes (numbered_tables tables.now) kept.now first.now (owner_in places.now.keys homes.now.keys) types.items) }
 {
-    let mut types = Vec::new(alloc);
+    let mut types = Vec::with_capacity(alloc, kept.shapes().len())?;
     for number in kept.shapes() {
         types.push(planned_type(alloc, tables, kept, first, places, homes, *number)?)?;
     }

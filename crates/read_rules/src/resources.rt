@@ -40,11 +40,13 @@ pub(crate) fn is_resource(declared: Option<usize>) -> bool
     }
 }
 
-/// The hash that is keyed by the names of the types. Takes time linear in the names, and no memory.
+/// The hash that is keyed by the names of the types that are resources. Takes time linear in the types and in these names, and no memory.
 pub fn hash_of(types: &[ViewType<'_>]) -> KeyedHash {
     let mut digest = Digest::new();
     for ty in types {
-        digest.add(ty.name.as_bytes());
+        if is_resource(ty.declared) {
+            digest.add(ty.name.as_bytes());
+        }
     }
     digest.hash()
 }

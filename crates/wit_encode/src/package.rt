@@ -2,7 +2,8 @@
 
 ghost use Rattle.std.specs.Prelude.{◌≡◌, ◌<◌, [], List, true, Err, IfErr, IfOk, OnOk, is_some, length};
 ghost use Rattle.comp_bytes.specs.Refusal.{IsMemoryOrSize};
-ghost use Rattle.wit_model.specs.{Lookup.identity_of, Lookup.interface_path, Names.path_in, Valid.IsValid, Weight.package_weight};
+ghost use Rattle.wit_model.specs.{Lookup.identity_of, Lookup.interface_path, Names.path_in, Refusals.IsMemory, Text.text_of, Valid.IsValid};
+ghost use Rattle.wit_model.specs.Weight.{package_weight};
 ghost use Rattle.wit_model.specs.declared.error.Error.TheVariants.{Size};
 ghost use Rattle.encode_shown.specs.PackageTypes.{wrapper};
 ghost use Rattle.wit_encode.specs.Scopes.{HasNoEqualPaths, RefusesInterface};
@@ -17,6 +18,25 @@ use std::alloc::Global;
 use std::borrow::CowStr;
 use wit_model::{Error, InterfaceId, Map, PackageId, PackageName, Resolve, WorldId};
 
+// The path of a world of a package by its name. Where the package has no version, room for the whole path is made at once.
+fn world_path(alloc: Global, package: &PackageName, world: &str) -> Result<String, Error>
+    ensures ok { IfOk result (λ path. text_of path ≡ path_in (identity_of «package».now) world.now) }
+    ensures refuses { IfErr result IsMemory }
+{
+    if package.version.is_some() {
+        return package.interface_id(alloc, world);
+    }
+    let (namespace, name) = (package.namespace.as_str(), package.name.as_str());
+    let length = namespace.len().saturating_add(name.len());
+    let mut path = String::with_capacity(alloc, length.saturating_add(world.len() + 2))?;
+    path.push_str(namespace)?;
+    path.push(':')?;
+    path.push_str(name)?;
+    path.push('/')?;
+    path.push_str(world)?;
+    Ok(path)
+}
+
 // A component type in which this one is defined and exported, under the path of a world by its name.
 fn wrapper_of(
     alloc: Global,
@@ -28,7 +48,7 @@ fn wrapper_of(
     ensures size { result ≡ Err Size → 4294967295 < length (path_in (identity_of «package».now) world.now) }
     ensures refuses { IfErr result IsMemoryOrSize }
 {
-    let path = package.interface_id(alloc, world)?;
+    let path = world_path(alloc, package, world)?;
     let name = ComponentExternName {
         name: CowStr::Borrowed(path.as_str()),
         implements: None,
