@@ -32,9 +32,6 @@ module _ (r : Resolve) (here : PackageId) where
     pub item_there : in_list r.interfaces.items id.0 ≡ true
     item_there = right_of (key_in_range r k) _ (left_of _ _ known)
 
-    -- the documentation that is shown is that of this
-    module _ (given : Docs) (same : shown_docs given ≡ extern_docs r k id docs) where
-
     pub key_there : (m : InterfaceId) → k ≡ key.Interface m → in_list r.interfaces.items m.0 ≡ true
     key_there m e = let whole = subst (λ l. is_printable_entry r here (l, item.Interface id gates docs external_id) ≡ true) e known in
         left_of _ _ (left_of (in_list r.interfaces.items m.0 && in_list r.interfaces.items id.0) _ whole)

@@ -85,8 +85,6 @@ module _ (r : Resolve) where
     pub suffix_found : canonical_suffix r n ≡ option_and_then (λ version. version_suffix (parts_of version)) p.version
     suffix_found = suffix_made n ∙ ap (option_and_then suffix_of) is
 
-  module _ (n : ℕ) (is : full_name r n ≡ None) where
-
 -- ---- the suffix of a version
 
 pub after-itself : (front rest : Text) → after_prefix front (front ++ rest) ≡ Some rest
