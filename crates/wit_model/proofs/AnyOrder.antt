@@ -1,5 +1,5 @@
 -- Entries whose names differ make the same finite map in any order.
-use Rattle.std.proofs.Common.{◌≡◌, refl, sym, ap, ◌∙◌, zero, suc, Bool, true, false, cond, List, [], ◌∷◌, map, Option, Some, None, String, unwrap_or, arith}
+use Rattle.std.proofs.Common.{rules as std_rules, ◌≡◌, refl, sym, ap, ◌∙◌, zero, suc, Bool, true, false, cond, List, [], ◌∷◌, map, Option, Some, None, String, unwrap_or, arith}
 use Rattle.std.proofs.lemmas.{Cmp.nat_list_cmp_total, Cmp.nat_list_eq_equiv, Map.Text.is_eq-slice_cmp}
 use Rattle.std.proofs.lemmas.{Map.Keys.IsDistinct-IsPermutation, List.Sorted.IsPermutation-map, List.Sorted.IsPermutation-sym, List.Sorted.Contains-permutation}
 use Rattle.std.specs.{Prelude.IsPermutation, List.Contains, List.AllByRecursion, List.IsDistinct, Ordering.eq_by_cmp, String.string_eq}
@@ -35,9 +35,7 @@ module _ {X : Type 0} where
   pub there-found : (es : List (Text × X)) (q : Text) (x : X) → IsDistinct text_eq (map (λ e. e.0) es) → Contains es (q, x) → find text_cmp q es ≡ Some x
   unfolding IsDistinct
   there-found [] q x d (j, l, h) = absurd (omega (arith, l))
-  there-found (e ∷ es) q x d (zero, l, h) =
-      let same : eq_by_cmp text_cmp q e.0 ≡ true = ap (λ z. eq_by_cmp text_cmp q z.0) h ∙ (same-text q q ∙ nat_list_eq_equiv.refl q) in
-      ap (λ b. cond b (Some e.1) (find text_cmp q es)) same ∙ ap (λ z. Some z.1) h
+  there-found (e ∷ es) q x d (zero, l, h) = search (std_rules, same-text, nat_list_eq_equiv)
   there-found (e ∷ es) q x d (suc j, l, h) =
       let rest : Contains es (q, x) = (j, omega (arith, l), h) in
       let other : text_eq e.0 q ≡ false = apart-from e.0 (map (λ e. e.0) es) q d.0 (contains-map (λ e. e.0) es (q, x) rest) in

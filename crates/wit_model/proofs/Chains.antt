@@ -1,10 +1,10 @@
 -- Numbers fall along uses, so what a chain of uses leads to is reached.
-use Rattle.std.proofs.Common.{rules as std_rules, ◌≡◌, refl, sym, ap, ◌∙◌, ℕ, zero, suc, ◌+◌, ◌≤◌, arith, Bool, true, false, ◌||◌, not, ◌==◌, List, [], ◌∷◌, ◌++◌, length, filter, Option, Some, None}
+use Rattle.std.proofs.Common.{rules as std_rules, ◌≡◌, refl, sym, ap, ◌∙◌, ℕ, zero, suc, ◌+◌, ◌≤◌, arith, Bool, true, false, ◌||◌, not, ◌==◌, List, [], ◌∷◌, ◌++◌, length, Some}
 use Rattle.std.proofs.lemmas.{Bool.eqb-true, Bool.eq-eqb, Bool.ltb-true, Bool.or_left, Bool.or_right, List.Folds.list_any-append, Option.slice_get_within}
-use Rattle.std.specs.{Prelude.flat_map, Prelude.nat_lt, List.list_all, Option.option_map_or}
+use Rattle.std.specs.{Prelude.flat_map, Prelude.nat_lt, List.list_all}
 use Rattle.wit_model.specs.declared.model.{Resolve.Resolve, Interface.Interface}
 use Rattle.wit_model.specs.{Lookup.interface_at, Valid.IsValid, Valid.owners}
-use Rattle.wit_model.specs.{Uses.has, Uses.once, Uses.interfaces_used_by, Uses.direct_deps, Uses.reached_in}
+use Rattle.wit_model.specs.{Uses.has, Uses.once, Uses.direct_deps, Uses.reached_in}
 use Rattle.wit_model.specs.Chains.{Chain, UsesFall, ChainsReach, ReachedByChains}
 use Rattle.wit_model.proofs.{Entries.each_from_at, Owners.all_once}
 use Rattle.base_lemmas.proofs.{Bools.left_of as first_true, Bools.right_of as second_true, Elements.not_all as any_by_all}
@@ -49,12 +49,7 @@ uses_fall_at r v n i is = search (std_rules, first_true, second_true, each_from_
 
 -- only an interface that stands there uses any
 pub user_stands : (r : Resolve) (n m : ℕ) → has (direct_deps r n) m ≡ true → (i : Interface) × (interface_at r n ≡ Some i)
-user_stands r n m h = by (interface_at r n) refl
-  where
-    by : (o : Option Interface) → interface_at r n ≡ o → (i : Interface) × (interface_at r n ≡ Some i)
-    by (Some i) is = (i, is)
-    by None none = absurd (let nothing : has (filter (λ k. not (k == n)) (once [])) m ≡ true =
-        sym (ap (λ o. has (filter (λ k. not (k == n)) (once (option_map_or (interfaces_used_by r) o []))) m) none) ∙ h in cc)
+user_stands r n m h = search std_rules
 
 pub uses_fall : UsesFall
 uses_fall r v n m h = grind (arith, user_stands, ltb-true, all_has, uses_fall_at)

@@ -1,7 +1,7 @@
 -- A list keeps a rule where each number of it passes, and a rule is kept where its four lists keep it.
-use Rattle.std.proofs.Common.{rules as std_rules, ◌≡◌, refl, sym, ap, subst, ◌∙◌, ℕ, zero, suc, ◌+◌, ◌<◌, ◌≤◌, Bool, true, false, List, [], ◌∷◌, ◌++◌, Some, None, Option, slice_get, unwrap_or, option_map, length, nat_lt, T, ltb→lt, lit≤, arith}
+use Rattle.std.proofs.Common.{rules as std_rules, ◌≡◌, refl, ap, ◌∙◌, ℕ, zero, suc, ◌+◌, ◌<◌, ◌≤◌, Bool, true, false, List, [], ◌∷◌, ◌++◌, Some, slice_get, unwrap_or, option_map, length, nat_lt, arith}
 use Rattle.std.proofs.lemmas.Option.{slice_get_within, slice_get_past, same_Some as some_same}
-use Rattle.std.proofs.lemmas.Bool.{and_from as both_true, and_left as fails_first}
+use Rattle.std.proofs.lemmas.Bool.{and_from as both_true}
 use Rattle.std.specs.List.{list_all}
 use Rattle.wit_model.specs.declared.model.{Resolve.Resolve, TypeDef.TypeDef}
 use Rattle.wit_model.specs.{Lookup.type_at, Parts.kind_numbers, Rules.each_from, Checks.KeepsIn, Checks.references, Checks.flags, Checks.entry_of}
@@ -48,19 +48,11 @@ below_at r h n def is = search (std_rules, each_from_at, lists_pass)
 -- a type that refers to a number that isn't smaller breaks the rule on the order of types
 pub reference_breaks : (r : Resolve) (n : ℕ) → entry_keeps references r lists.Types n ≡ Some false → Breaks r 5 lists.Types n
 unfolding references order_of_types
-reference_breaks r n e = (lit≤ tt, go (type_at r n) e)
-  where
-    go : (o : Option TypeDef) → option_map (references.type_ r n) o ≡ Some false → option_map (order_of_types.type_ r n) o ≡ Some false
-    go None h = cc
-    go (Some def) h = ap Some (fails_first _ _ (some_same _ _ h))
+reference_breaks r n e = search std_rules
 
 -- a fact on every number, below a limit and from it on
 pub below_or_past : (P : ℕ → Type 0) (k : ℕ) → ((n : ℕ) → n < k → P n) → ((n : ℕ) → k ≤ n → P n) → (n : ℕ) → P n
-below_or_past P k low high n = go (nat_lt n k) refl
-  where
-    go : (b : Bool) → nat_lt n k ≡ b → P n
-    go true e = low n (ltb→lt n k (subst T (sym e) tt))
-    go false e = let past : k ≤ n = grind (arith, e) in high n past
+below_or_past P k low high n = search std_rules
 
 -- ---- tables that are made by pushing
 

@@ -1,5 +1,5 @@
 -- A walk that lists each interface where it is first used, and none twice.
-use Rattle.std.proofs.Common.{◌≡◌, refl, sym, ap, subst, ◌∙◌, ℕ, Bool, true, false, ◌&&◌, ◌||◌, not, cond, ◌==◌, T, eqb→eq, map, List, [], ◌∷◌, ◌++◌, filter, arith}
+use Rattle.std.proofs.Common.{rules as std_rules, ◌≡◌, refl, sym, ap, subst, ◌∙◌, ℕ, Bool, true, false, ◌&&◌, ◌||◌, not, ◌==◌, T, eqb→eq, map, List, [], ◌∷◌, ◌++◌, filter, arith}
 use Rattle.std.proofs.lemmas.Bool.Decides.{nat_tests}
 use Rattle.wit_model.specs.{Uses.once, DirectDeps.number_of_interface, DirectDeps.yet_unlisted}
 use Rattle.wit_model.specs.declared.model.InterfaceId.{InterfaceId}
@@ -7,37 +7,18 @@ use Rattle.wit_model.specs.declared.model.InterfaceId.{InterfaceId}
 -- one filter after another
 filter_twice : (p q : ℕ → Bool) (ns : List ℕ) → filter p (filter q ns) ≡ filter (λ m. q m && p m) ns
 filter_twice p q [] = refl
-filter_twice p q (n ∷ ns) = go (filter_twice p q ns) (q n)
-  where
-    go : filter p (filter q ns) ≡ filter (λ m. q m && p m) ns → (b : Bool)
-        → filter p (cond b (n ∷ filter q ns) (filter q ns)) ≡ cond (b && p n) (n ∷ filter (λ m. q m && p m) ns) (filter (λ m. q m && p m) ns)
-    go rest true = ap (λ xs. cond (p n) (n ∷ xs) xs) rest
-    go rest false = rest
+filter_twice p q (n ∷ ns) = search (std_rules, filter_twice p q ns)
 
 same_filter : (p q : ℕ → Bool) → ((m : ℕ) → p m ≡ q m) → (ns : List ℕ) → filter p ns ≡ filter q ns
 same_filter p q same ns = ap (λ test. filter test ns) (λ i m. same m i)
 
 -- what doesn't pass isn't missed
 unlisted-skip : (p : ℕ → Bool) (n : ℕ) → p n ≡ false → (ns : List ℕ) → filter p (once (n ∷ ns)) ≡ filter p (once ns)
-unlisted-skip p n fails ns =
-    ap (λ b. cond b (n ∷ rest) rest) fails
-    ∙ (filter_twice p (λ m. not (m == n)) (once ns) ∙ same_filter (λ m. not (m == n) && p m) p (λ m. go m (m == n) refl) (once ns))
-  where
-    rest : List ℕ
-    rest = filter p (filter (λ m. not (m == n)) (once ns))
-
-    go : (m : ℕ) (b : Bool) → (m == n) ≡ b → (not b && p m) ≡ p m
-    go m true e = sym (ap p (eqb→eq m n (subst T (sym e) tt)) ∙ fails)
-    go m false e = refl
+unlisted-skip p n fails ns = search (std_rules, filter_twice, same_filter)
 
 -- what passes stands in front, and passes no longer
 unlisted-take : (p q : ℕ → Bool) (n : ℕ) → p n ≡ true → ((m : ℕ) → q m ≡ (not (m == n) && p m)) → (ns : List ℕ) → filter p (once (n ∷ ns)) ≡ n ∷ filter q (once ns)
-unlisted-take p q n passes less ns =
-    ap (λ b. cond b (n ∷ rest) rest) passes
-    ∙ ap (λ xs. n ∷ xs) (filter_twice p (λ m. not (m == n)) (once ns) ∙ same_filter (λ m. not (m == n) && p m) q (λ m. sym (less m)) (once ns))
-  where
-    rest : List ℕ
-    rest = filter p (filter (λ m. not (m == n)) (once ns))
+unlisted-take p q n passes less ns = search (std_rules, filter_twice, same_filter)
 
 module _ (own : ℕ) (held : ℕ → Bool) (n : ℕ) where
   -- the user itself, and what is listed already, add nothing
@@ -77,11 +58,3 @@ module _ (own : ℕ) (held : ℕ → Bool) (n : ℕ) where
 pub pushed_first : (deps : List InterfaceId) (id : InterfaceId) (rest : List ℕ) → map number_of_interface (deps ++ id ∷ []) ++ rest ≡ map number_of_interface deps ++ (id.0 ∷ rest)
 pushed_first [] id rest = refl
 pushed_first (d ∷ deps) id rest = ap (λ ns. d.0 ∷ ns) (pushed_first deps id rest)
-
--- at first nothing is listed
-pub none_listed : (own : ℕ) (ns : List ℕ) → yet_unlisted own (λ n. false) ns ≡ filter (λ m. not (m == own)) (once ns)
-none_listed own ns = same_filter (λ m. not (m == own) && not false) (λ m. not (m == own)) (λ m. and_true (not (m == own))) (once ns)
-  where
-    and_true : (b : Bool) → (b && true) ≡ b
-    and_true true = refl
-    and_true false = refl

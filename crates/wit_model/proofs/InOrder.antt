@@ -1,5 +1,5 @@
 -- What a type of an owner's list uses stands before it exactly where its place is smaller.
-use Rattle.std.proofs.Common.{rules as std_rules, ◌≡◌, refl, sym, ap, ◌∙◌, ℕ, zero, suc, ◌+◌, ◌<◌, max, Bool, true, false, ◌&&◌, ◌||◌, not, cond, nat_lt, nat_le, List, [], ◌∷◌, take, length, filter_map, option_and_then, position, Some, None, Option, arith}
+use Rattle.std.proofs.Common.{rules as std_rules, ◌≡◌, refl, sym, ap, ◌∙◌, ℕ, zero, suc, ◌+◌, ◌<◌, max, Bool, true, false, ◌&&◌, ◌||◌, not, cond, nat_lt, nat_le, List, [], ◌∷◌, take, length, filter_map, option_and_then, position, Some, Option, arith}
 use Rattle.std.proofs.lemmas.Bool.Decides.{nat_tests}
 use Rattle.std.specs.{List.list_all, List.cons_option, List.position_or_len, Option.option_map_or, Map.lookup, Map.keys_of, Map.values_of}
 use Rattle.wit_model.specs.{Uses.has, Rules.is_id, Checks.highest}
@@ -9,12 +9,7 @@ zero_within : (p : ℕ) → nat_le 0 p ≡ true
 zero_within p = grind (arith, nat_tests)
 
 pub max_within : (a b p : ℕ) → nat_le (max a b) p ≡ (nat_le a p && nat_le b p)
-max_within a b p = go (nat_le a p) (nat_le b p) refl refl
-  where
-    go : (x y : Bool) → nat_le a p ≡ x → nat_le b p ≡ y → nat_le (max a b) p ≡ (x && y)
-    go true true e f = grind (arith, nat_tests, e, f)
-    go true false e f = grind (arith, nat_tests, e, f)
-    go false y e f = grind (arith, nat_tests, e)
+max_within a b p = search std_rules
 
 -- the greatest is within where each is
 pub highest_within : (g : ℕ → ℕ) (p : ℕ) (ns : List ℕ) → nat_le (highest g ns) p ≡ list_all (λ n. nat_le (g n) p) ns
@@ -96,11 +91,4 @@ module _ {K V : Type 0} (test : K → Bool) (num : V → Option ℕ) (m : ℕ) w
   -- whether a used number of the list stands before, by its place counted from 1
   pub used_place : (es : List (K × V)) (p : ℕ) → found es ≡ true → fitting es ≡ true →
       (not (has (filter_map num (values_of es)) m) || has (filter_map num (values_of (take p es))) m) ≡ nat_le (option_map_or (λ k. k + 1) (position test (keys_of es)) 0) p
-  used_place es p f fit =
-      ap (λ b. not b || has (filter_map num (values_of (take p es))) m) (found_stands es f)
-      ∙ (before_place es p f fit
-      ∙ (sym (within_next (place es) p)
-      ∙ ap (λ b. nat_le (option_map_or (λ k. k + 1) (cond b (Some (place es)) None) 0) p) (sym inside)))
-    where
-      inside : nat_lt (place es) (length (keys_of es)) ≡ true
-      inside = let h = found_place es f in grind (arith, nat_tests, h)
+  used_place es p f fit = search (std_rules, found_stands, before_place, within_next, found_place, nat_tests)

@@ -1,5 +1,5 @@
 -- A number that a map finds under one key, and holds under no other, stands in the map's numbers once.
-use Rattle.std.proofs.Common.{◌≡◌, refl, sym, ap, subst, ◌∙◌, ℕ, zero, suc, ◌+◌, ◌≤◌, Bool, true, false, ◌&&◌, ◌||◌, not, cond, ◌==◌, List, [], ◌∷◌, filter_map, count_by, option_and_then, Some, None, Option, slice_get, arith}
+use Rattle.std.proofs.Common.{rules as std_rules, ◌≡◌, refl, sym, ap, subst, ◌∙◌, ℕ, zero, suc, ◌+◌, ◌≤◌, Bool, true, false, ◌&&◌, ◌||◌, not, cond, ◌==◌, List, [], ◌∷◌, filter_map, count_by, option_and_then, Some, None, Option, slice_get, arith}
 use Rattle.std.proofs.lemmas.{Bool.Decides.nat_tests, List.Sums.sum_by-cons, Option.same_Some as some_same}
 use Rattle.std.specs.{List.list_all, List.cons_option, List.find, List.IsDistinct, List.AllByRecursion, Map.lookup, Map.keys_of, Map.values_of}
 use Rattle.wit_model.specs.Rules.{is_id}
@@ -37,9 +37,7 @@ module _ {K V : Type 0} (test : K → Bool) (num : V → Option ℕ) (n : ℕ) w
 
   times_here : (es : List (K × V)) (q : ℕ) (e : K × V) → slice_get es q ≡ Some e → is_id n (num e.1) ≡ true → 1 ≤ times es
   times_here [] q e at here = no_some e at
-  times_here (x ∷ xs) zero e at here =
-      let same = ap (λ z. is_id n (num z.1)) (some_same x e at) ∙ here in
-      omega (arith, times_more x xs, given_yes n (num x.1) same)
+  times_here (x ∷ xs) zero e at here = search (std_rules, some_same, times_more, given_yes)
   times_here (x ∷ xs) (suc q) e at here = omega (arith, times_more x xs, times_here xs q e at here)
 
   times_found : (es : List (K × V)) → is_found es ≡ true → 1 ≤ times es
@@ -53,36 +51,8 @@ module _ {K V : Type 0} (test : K → Bool) (num : V → Option ℕ) (n : ℕ) w
   -- a number that stands under a key that fails isn't found, or stands twice
   pub misfit : (es : List (K × V)) (q : ℕ) (e : K × V) → slice_get es q ≡ Some e → is_id n (num e.1) ≡ true → test e.0 ≡ false → (is_found es && (times es == 1)) ≡ false
   misfit [] q e at here fails = no_some e at
-  misfit (x ∷ xs) zero e at here fails = go (is_found xs) refl
-    where
-      first : test x.0 ≡ false
-      first = ap (λ z. test z.0) (some_same x e at) ∙ fails
-
-      holds : is_id n (num x.1) ≡ true
-      holds = ap (λ z. is_id n (num z.1)) (some_same x e at) ∙ here
-
-      go : (b : Bool) → is_found xs ≡ b → (is_id n (option_and_then num (cond (test x.0) (Some x.1) (lookup test xs))) && (times (x ∷ xs) == 1)) ≡ false
-      go false f = ap (λ c. is_id n (option_and_then num (cond c (Some x.1) (lookup test xs))) && (times (x ∷ xs) == 1)) first ∙ ap (λ c. c && (times (x ∷ xs) == 1)) f
-      go true f =
-          let two : 2 ≤ times (x ∷ xs) = omega (arith, times_more x xs, given_yes n (num x.1) holds, times_found xs f) in
-          ap (λ c. is_id n (option_and_then num (cond c (Some x.1) (lookup test xs))) && (times (x ∷ xs) == 1)) first ∙ (ap (λ c. c && (times (x ∷ xs) == 1)) f ∙ not_one (times (x ∷ xs)) two)
-  misfit (x ∷ xs) (suc q) e at here fails = go (misfit xs q e at here fails) (test x.0) (is_id n (num x.1)) refl
-    where
-      go : (is_found xs && (times xs == 1)) ≡ false → (b c : Bool) → is_id n (num x.1) ≡ c → (is_id n (option_and_then num (cond b (Some x.1) (lookup test xs))) && (times (x ∷ xs) == 1)) ≡ false
-      go rest true true h =
-          let two : 2 ≤ times (x ∷ xs) = omega (arith, times_more x xs, given_yes n (num x.1) h, times_here xs q e at here) in
-          ap (λ c. c && (times (x ∷ xs) == 1)) h ∙ not_one (times (x ∷ xs)) two
-      go rest true false h = ap (λ c. c && (times (x ∷ xs) == 1)) h
-      go rest false false h =
-          let less : times (x ∷ xs) ≡ times xs = omega (arith, times_more x xs, given_no n (num x.1) h) in
-          ap (λ m. is_found xs && (m == 1)) less ∙ rest
-      go rest false true h =
-          let two : 2 ≤ times (x ∷ xs) = omega (arith, times_more x xs, given_yes n (num x.1) h, times_here xs q e at here) in
-          ap (λ c. is_found xs && c) (not_one (times (x ∷ xs)) two) ∙ none (is_found xs)
-        where
-          none : (b : Bool) → (b && false) ≡ false
-          none true = refl
-          none false = refl
+  misfit (x ∷ xs) zero e at here fails = search (std_rules, some_same, times_more, given_yes, times_found, not_one)
+  misfit (x ∷ xs) (suc q) e at here fails = search (std_rules, times_more, given_yes, times_here, not_one, given_no, misfit xs q e at here fails)
 
   module _ (same : K → K → Bool) (joins : (a b : K) → test a ≡ true → test b ≡ true → same a b ≡ true) where
     none_left : (x : K) → test x ≡ true → (es : List (K × V)) → AllByRecursion (λ y. same x y ≡ false) (keys_of es) → list_all (λ e. not (is_id n (num e.1)) || test e.0) es ≡ true → times es ≡ 0

@@ -1,7 +1,7 @@
 -- Owners' lists and types that name each other.
-use Rattle.std.proofs.Common.{rules as std_rules, ◌≡◌, refl, sym, ap, subst, ◌∙◌, ℕ, Bool, true, false, ◌&&◌, ◌||◌, not, ◌==◌, T, eqb→eq, List, [], ◌∷◌, map, filter_map, count_by, option_map, option_and_then, Some, None, Option, slice_get, is_some, lit≤, eq-eqb, String, string_eq, string_bytes}
+use Rattle.std.proofs.Common.{rules as std_rules, ◌≡◌, refl, sym, ap, ◌∙◌, ℕ, Bool, true, false, ◌&&◌, ◌||◌, not, ◌==◌, List, [], ◌∷◌, map, filter_map, count_by, option_map, option_and_then, Some, None, Option, slice_get, is_some, lit≤, eq-eqb, String, string_eq, string_bytes}
 use Rattle.std.proofs.lemmas.{Cmp.nat_list_eq_equiv, List.Folds.list_all-map}
-use Rattle.std.proofs.lemmas.{Bool.and_left as first_false, Bool.and_right as second_false, Bool.not-true as not_true, Option.same_Some as some_same}
+use Rattle.std.proofs.lemmas.{Bool.and_right as second_false, Bool.not-true as not_true, Option.same_Some as some_same}
 use Rattle.std.specs.declared.alloc.Global.{Global}
 use Rattle.std.specs.{List.list_all, List.find, Option.option_map_or, Str.bytes_eq, Map.values_of, HashMap.get_by, HashMap.get_by_text}
 use Rattle.indexmap.specs.IndexMap.{IsUnique}
@@ -32,11 +32,7 @@ module _ (r : Resolve) (n : ℕ) (def : TypeDef) (name : String Global) (is : ty
   own_name test = ap (passes (λ d. option_map_or (λ x. test (text_of x)) d.name false)) is ∙ ap (λ o. option_map_or (λ x. test (text_of x)) o false) named
 
   pub entry_fits : (test : Text → Bool) (m : ℕ) → has_name r test m ≡ true → (not (m == n) || test (text_of name)) ≡ true
-  entry_fits test m h = go (m == n) refl
-    where
-      go : (b : Bool) → (m == n) ≡ b → (not b || test (text_of name)) ≡ true
-      go false e = refl
-      go true e = sym (own_name test) ∙ subst (λ k. has_name r test k ≡ true) (eqb→eq m n (subst T (sym e) tt)) h
+  entry_fits test m h = search std_rules
 
   pub item_entry_fits : (test : Text → Bool) (o : Option ℕ) → passes (has_name r test) o ≡ true → (not (is_id n o) || test (text_of name)) ≡ true
   item_entry_fits test x h = search std_rules
@@ -71,74 +67,31 @@ module _ (r : Resolve) (n : ℕ) (def : TypeDef) (name : String Global) (is : ty
   -- one that its owner's list finds stands there once
   pub listed_found : HasDistinctKeys r → Keeps names_fit r → (o : TypeOwner) → is_found r n (text_of name) o ≡ is_listed r n (text_of name) o
   unfolding names_fit
-  listed_found distinct fit owner.None = refl
-  listed_found distinct fit (owner.Interface id) = go (interface_at r id.0) refl
-    where
-      go : (o : Option Interface) → interface_at r id.0 ≡ o
-          → passes (λ i. is_id n (option_map (λ id. id.0) (get_by_text i.types (text_of name)))) o ≡ passes (is_listed_in_interface n (text_of name)) o
-      go None e = refl
-      go (Some i) e = listed_in_interface i (distinct.interfaces id.0 i e).0 (each_from_at (names_fit.interface_ r) 0 r.interfaces.items id.0 i (lists_pass names_fit r fit).1 e)
-  listed_found distinct fit (owner.World id) = go (world_at r id.0) refl
-    where
-      go : (o : Option World) → world_at r id.0 ≡ o
-          → passes (λ w. is_id n (option_and_then item_type (get_by (is_name_key (text_of name)) w.imports))) o ≡ passes (is_listed_in_world n (text_of name)) o
-      go None e = refl
-      go (Some w) e = listed_in_world w (distinct.worlds id.0 w e).0 (each_from_at (names_fit.world_ r) 0 r.worlds.items id.0 w (lists_pass names_fit r fit).2 e)
+  listed_found distinct fit x = search (std_rules, listed_in_interface, each_from_at, lists_pass, listed_in_world)
 
 -- ---- what breaks
 
 pub interface_breaks : (r : Resolve) (n : ℕ) → entry_keeps listings r lists.Interfaces n ≡ Some false → Breaks r 5 lists.Interfaces n
 unfolding listings order_of_types
-interface_breaks r n e = (lit≤ tt, go (interface_at r n) e)
-  where
-    go : (o : Option Interface) → option_map (listings.interface_ r n) o ≡ Some false → option_map (order_of_types.interface_ r n) o ≡ Some false
-    go None h = cc
-    go (Some i) h = ap Some (first_false _ _ (some_same _ _ h))
+interface_breaks r n e = search std_rules
 
 pub world_breaks : (r : Resolve) (n : ℕ) → entry_keeps listings r lists.Worlds n ≡ Some false → Breaks r 5 lists.Worlds n
 unfolding listings order_of_types
-world_breaks r n e = (lit≤ tt, go (world_at r n) e)
-  where
-    go : (o : Option World) → option_map (listings.world_ r n) o ≡ Some false → option_map (order_of_types.world_ r n) o ≡ Some false
-    go None h = cc
-    go (Some w) h = ap Some (first_false _ _ (some_same _ _ h))
+world_breaks r n e = search std_rules
 
 pub type_breaks : (r : Resolve) (n : ℕ) → entry_keeps listings r lists.Types n ≡ Some false → Breaks r 5 lists.Types n
 unfolding listings order_of_types
-type_breaks r n e = (lit≤ tt, go (type_at r n) e)
-  where
-    go : (o : Option TypeDef) → option_map (listings.type_ r n) o ≡ Some false → option_map (order_of_types.type_ r n) o ≡ Some false
-    go None h = cc
-    go (Some def) h = ap Some (second_false _ _ (some_same _ _ h))
+type_breaks r n e = search std_rules
 
 -- ---- the walks over names
 
 pub interface_fits : (r : Resolve) (i : Interface) → option_map (λ e. e.1.0) (find (λ e. not (has_name r (λ name. text_eq name (text_of e.0)) e.1.0)) i.types.entries) ≡ None
     → list_all (λ e. has_name r (λ name. text_eq name (text_of e.0)) e.1.0) i.types.entries ≡ true
-interface_fits r i h = go (find fails i.types.entries) refl h
-  where
-    fails : String Global × TypeId → Bool
-    fails e = not (has_name r (λ name. text_eq name (text_of e.0)) e.1.0)
-
-    go : (o : Option (String Global × TypeId)) → find fails i.types.entries ≡ o → option_map (λ e. e.1.0) o ≡ None
-        → list_all (λ e. has_name r (λ name. text_eq name (text_of e.0)) e.1.0) i.types.entries ≡ true
-    go None e h = none_found fails (λ e. has_name r (λ name. text_eq name (text_of e.0)) e.1.0) (λ x. refl) i.types.entries e
-    go (Some x) e h = let wrong : ⊥ = cc in absurd wrong
+interface_fits r i h = search (std_rules, none_found)
 
 pub world_fits : (r : Resolve) (w : World) → option_and_then (λ e. item_type e.1) (find (λ e. not (passes (has_name r (key_fits e.0)) (item_type e.1))) w.imports.entries) ≡ None
     → list_all (λ e. passes (has_name r (key_fits e.0)) (item_type e.1)) w.imports.entries ≡ true
-world_fits r w h = go (find fails w.imports.entries) refl h
-  where
-    fails : WorldKey × WorldItem → Bool
-    fails e = not (passes (has_name r (key_fits e.0)) (item_type e.1))
-
-    typed : (x : WorldKey × WorldItem) → fails x ≡ true → item_type x.1 ≡ None → ⊥
-    typed x t e = let untyped : false ≡ true = sym (ap (λ o. not (passes (has_name r (key_fits x.0)) o)) e) ∙ t in cc
-
-    go : (o : Option (WorldKey × WorldItem)) → find fails w.imports.entries ≡ o → option_and_then (λ e. item_type e.1) o ≡ None
-        → list_all (λ e. passes (has_name r (key_fits e.0)) (item_type e.1)) w.imports.entries ≡ true
-    go None e h = none_found fails (λ e. passes (has_name r (key_fits e.0)) (item_type e.1)) (λ x. refl) w.imports.entries e
-    go (Some x) e h = absurd (typed x (place_of_found fails w.imports.entries x e).2 h)
+world_fits r w h = search (std_rules, none_found, place_of_found)
 
 module _ (r : Resolve) (n : ℕ) (i : Interface) (at : interface_at r n ≡ Some i) where
   not_in_interface : (m : ℕ) (t : Text) (o : TypeOwner) → same_owner o (as_interface n) ≡ true → is_listed_in_interface m t i ≡ false → is_listed r m t o ≡ false
@@ -196,26 +149,8 @@ module _ (r : Resolve) (n : ℕ) (w : World) (at : world_at r n ≡ Some w) wher
 
 pub misnamed_in_interface_breaks : (r : Resolve) (n : ℕ) (i : Interface) → interface_at r n ≡ Some i → KeepsIn listings r lists.Interfaces → (m : ℕ)
     → Some m ≡ option_map (λ e. e.1.0) (find (λ e. not (has_name r (λ name. text_eq name (text_of e.0)) e.1.0)) i.types.entries) → Breaks r 5 lists.Types m
-misnamed_in_interface_breaks r n i at own m h = go (find fails i.types.entries) refl h
-  where
-    fails : String Global × TypeId → Bool
-    fails e = not (has_name r (λ name. text_eq name (text_of e.0)) e.1.0)
-
-    go : (o : Option (String Global × TypeId)) → find fails i.types.entries ≡ o → Some m ≡ option_map (λ e. e.1.0) o → Breaks r 5 lists.Types m
-    go None e h = let wrong : ⊥ = cc in absurd wrong
-    go (Some x) e h =
-        let place = place_of_found fails i.types.entries x e in
-        subst (λ k. Breaks r 5 lists.Types k) (sym (some_same m x.1.0 h)) (misnamed_entry r n i at own place.0 x place.1 (not_true _ place.2))
+misnamed_in_interface_breaks r n i at own m h = search (std_rules, place_of_found, some_same, misnamed_entry, not_true)
 
 pub misnamed_in_world_breaks : (r : Resolve) (n : ℕ) (w : World) → world_at r n ≡ Some w → KeepsIn listings r lists.Worlds → (m : ℕ)
     → Some m ≡ option_and_then (λ e. item_type e.1) (find (λ e. not (passes (has_name r (key_fits e.0)) (item_type e.1))) w.imports.entries) → Breaks r 5 lists.Types m
-misnamed_in_world_breaks r n w at own m h = go (find fails w.imports.entries) refl h
-  where
-    fails : WorldKey × WorldItem → Bool
-    fails e = not (passes (has_name r (key_fits e.0)) (item_type e.1))
-
-    go : (o : Option (WorldKey × WorldItem)) → find fails w.imports.entries ≡ o → Some m ≡ option_and_then (λ e. item_type e.1) o → Breaks r 5 lists.Types m
-    go None e h = let wrong : ⊥ = cc in absurd wrong
-    go (Some x) e h =
-        let place = place_of_found fails w.imports.entries x e in
-        misnamed_item r n w at own m place.0 x place.1 (sym h) (sym (ap (passes (has_name r (key_fits x.0))) (sym h)) ∙ not_true _ place.2)
+misnamed_in_world_breaks r n w at own m h = search (std_rules, place_of_found, misnamed_item, not_true)

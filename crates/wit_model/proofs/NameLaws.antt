@@ -1,5 +1,5 @@
 -- What is spelled as a path reads back, and what reads as one is spelled so.
-use Rattle.std.proofs.Common.{rules as std_rules, ◌≡◌, refl, sym, ap, subst, ◌∙◌, ℕ, Bool, true, false, ◌&&◌, ◌||◌, ◌==◌, not, cond, List, [], ◌∷◌, ◌++◌, Option, Some, None, option_map, option_and_then, is_some, T, eqb→eq, eq-eqb, append_assoc, append-nil, nat_lt, length}
+use Rattle.std.proofs.Common.{rules as std_rules, ◌≡◌, refl, sym, ap, subst, ◌∙◌, ℕ, Bool, true, false, ◌&&◌, ◌||◌, ◌==◌, not, cond, List, [], ◌∷◌, ◌++◌, Option, Some, None, option_map, option_and_then, is_some, T, eqb→eq, eq-eqb, append_assoc, append-nil}
 use Rattle.std.proofs.lemmas.{Bool.and_from, Bool.or_left, Bool.or_right, Bool.not-true, Option.some_pair_parts, List.Folds.list_all-append}
 use Rattle.std.specs.{Option.option_map_or, List.list_all, List.join_with_byte}
 use Rattle.wit_model.specs.Text.{Text}
@@ -22,18 +22,13 @@ all_weaker p q w [] h = refl
 all_weaker p q w (x ∷ xs) h = and_from _ _ (w x (first_true _ _ h)) (all_weaker p q w xs (second_true (p x) _ h))
 
 fragment_bytes : (text : Text) → is_fragment text ≡ true → list_all is_label_byte text ≡ true
-fragment_bytes text h = go (list_all is_lower_byte text) refl (second_true (nat_lt 0 (length text)) _ h)
-  where
-    go : (v : Bool) → list_all is_lower_byte text ≡ v → (v || list_all is_upper_byte text) ≡ true → list_all is_label_byte text ≡ true
-    go true e k = all_weaker is_lower_byte is_label_byte (λ b q. or_left _ _ q) text e
-    go false e k = all_weaker is_upper_byte is_label_byte (λ b q. or_right _ _ (or_left _ _ q)) text k
+fragment_bytes text h = search (std_rules, second_true, all_weaker, or_left, or_right)
 
 joined_bytes : (fs : List Text) → list_all is_fragment fs ≡ true → list_all is_label_byte (join_with_byte 45 fs) ≡ true
 joined_bytes [] h = refl
 joined_bytes (f ∷ []) h = fragment_bytes f (first_true _ _ h)
 joined_bytes (f ∷ g ∷ fs) h =
-    list_all-append is_label_byte f (45 ∷ join_with_byte 45 (g ∷ fs))
-    ∙ and_from _ _ (fragment_bytes f (first_true _ _ h)) (joined_bytes (g ∷ fs) (second_true (is_fragment f) _ h))
+    search (std_rules, list_all-append, and_from, fragment_bytes, first_true, second_true, joined_bytes (g ∷ fs) (second_true (is_fragment f) _ h))
 
 label_bytes : (text : Text) → is_label text ≡ true → list_all is_label_byte text ≡ true
 label_bytes text h =
@@ -41,13 +36,7 @@ label_bytes text h =
     ap (list_all is_label_byte) label.joined ∙ joined_bytes label.fragments label.each
 
 other_byte : (c : ℕ) → is_label_byte c ≡ false → (b : ℕ) → is_label_byte b ≡ true → is_other c b ≡ true
-other_byte c no_label b h = go (b == c) refl
-  where
-    go : (v : Bool) → (b == c) ≡ v → not v ≡ true
-    go false e = refl
-    go true e =
-        let same : b ≡ c = eqb→eq b c (subst T (sym e) tt) in
-        let wrong : true ≡ false = sym h ∙ (ap is_label_byte same ∙ no_label) in cc
+other_byte c no_label b h = search std_rules
 
 -- a label holds no byte that is none of its own
 pub label_lacks : (c : ℕ) → is_label_byte c ≡ false → (text : Text) → is_label text ≡ true → list_all (is_other c) text ≡ true
@@ -58,14 +47,12 @@ label_lacks c no_label text h = all_weaker is_label_byte (is_other c) (other_byt
 cut_at : (c : ℕ) (xs ys : Text) → list_all (is_other c) xs ≡ true → cut c (xs ++ (c ∷ ys)) ≡ Some (xs, ys)
 unfolding cut
 cut_at c [] ys h = rw (eq-eqb c c refl)
-cut_at c (x ∷ xs) ys h =
-    rw (not-true (x == c) (first_true (is_other c x) _ h), cut_at c xs ys (second_true (is_other c x) _ h)) refl
+cut_at c (x ∷ xs) ys h = search (std_rules, not-true, first_true, second_true, cut_at c xs ys (second_true (is_other c x) _ h))
 
 cut_none : (c : ℕ) (xs : Text) → list_all (is_other c) xs ≡ true → cut c xs ≡ None
 unfolding cut
 cut_none c [] h = refl
-cut_none c (x ∷ xs) h =
-    rw (not-true (x == c) (first_true (is_other c x) _ h), cut_none c xs (second_true (is_other c x) _ h)) refl
+cut_none c (x ∷ xs) h = search (std_rules, not-true, first_true, second_true, cut_none c xs (second_true (is_other c x) _ h))
 
 -- what is cut is joined again
 cut_joins : (c : ℕ) (text a b : Text) → cut c text ≡ Some (a, b) → text ≡ a ++ (c ∷ b)
@@ -98,11 +85,7 @@ abbrev name_and_version : Text → Option (Text × Text) → Text × Option Text
 name_and_version text o = option_map_or (λ p. (p.0, Some p.1)) o (text, None)
 
 versioned_joins : (text : Text) → text ≡ (versioned text).0 ++ at_version (versioned text).1
-versioned_joins text = go (cut 64 text) refl
-  where
-    go : (o : Option (Text × Text)) → cut 64 text ≡ o → text ≡ (name_and_version text o).0 ++ at_version (name_and_version text o).1
-    go None is = sym (append-nil text)
-    go (Some p) is = cut_joins 64 text p.0 p.1 is
+versioned_joins text = search (std_rules, append-nil, cut_joins)
 
 -- ---- paths
 

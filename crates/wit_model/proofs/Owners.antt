@@ -1,34 +1,23 @@
 -- What is met at a number may be summed up along the list of types, where each refers to smaller numbers alone.
-use Rattle.std.proofs.Common.{rules as std_rules, ◌≡◌, refl, sym, ap, subst, ◌∙◌, ℕ, zero, suc, ◌+◌, ◌<◌, ◌≤◌, Bool, true, false, ◌&&◌, ◌||◌, not, cond, ◌==◌, nat_lt, nat_le, T, ltb→lt, eqb→eq, List, [], ◌∷◌, ◌++◌, length, take, filter, flat_map, option_to_list, option_and_then, if◌then◌else◌, Some, None, Option, unwrap_or, slice_get, is_some, arith, String}
+use Rattle.std.proofs.Common.{rules as std_rules, ◌≡◌, refl, sym, ap, subst, ◌∙◌, ℕ, zero, suc, ◌+◌, ◌<◌, ◌≤◌, Bool, true, false, ◌&&◌, ◌||◌, not, ◌==◌, nat_lt, nat_le, T, ltb→lt, List, [], ◌∷◌, length, take, filter, flat_map, option_to_list, Some, None, Option, unwrap_or, slice_get, is_some, arith, String}
 use Rattle.std.proofs.lemmas.{Option.slice_get_past, List.Folds.list_all-append, Bool.Decides.nat_tests, List.Concat.flat_map-append as flat_append}
 use Rattle.std.specs.declared.alloc.Global.{Global}
 use Rattle.std.specs.{List.list_all, Option.option_map_or}
 use Rattle.indexmap.specs.IndexMap.{values}
 use Rattle.wit_model.specs.declared.model.{Resolve.Resolve, Interface.Interface, TypeDef.TypeDef, TypeOwner.TypeOwner, Function.Function}
-use Rattle.wit_model.specs.{Lookup.type_at, Lookup.interface_at, Lookup.resource_of, Text.optional_text}
+use Rattle.wit_model.specs.{Lookup.type_at, Lookup.interface_at, Lookup.resource_of}
 use Rattle.wit_model.specs.Parts.{kind_numbers, met_by, met_at, met_of, numbered_from, used_by_type, used_by_function, same_owner, has_owner}
 use Rattle.wit_model.specs.{Uses.once, Uses.interface_used_by, Uses.direct_deps, Valid.Keeps, Checks.references}
-use Rattle.wit_model.specs.Rules.{passes, function_stays, type_stays, is_use, is_member, is_member_of, is_resource_itself, resource_name}
+use Rattle.wit_model.specs.Rules.{function_stays, type_stays, is_use, is_member}
 use Rattle.wit_model.proofs.{Lists.list_all_filter_map, Tables.grow_at, Tables.grow_keeps, Checks.below_at, Functions.all_flat}
 use Rattle.base_lemmas.proofs.{Bools.and-true, Bools.left_of as first_true, Bools.right_of as second_true, Elements.flat-same as flat_same}
 use Rattle.base_lemmas.proofs.Lists.{slice_take as get_take}
 use Rattle.wit_model.specs.declared.model.TypeOwner.TheVariants as owner
 
 pub numbered_at : {A : Type 0} (k : ℕ) (xs : List A) (n : ℕ) (x : A) → slice_get xs n ≡ Some x → slice_get (numbered_from k xs) n ≡ Some (k + n, x)
-numbered_at k [] n x e = absurd (none_some e)
-  where
-    none_some : None ≡ Some x → ⊥
-    none_some q = cc
-numbered_at k (y ∷ ys) zero x e = λ i. Some (here i, same i)
-  where
-    here : k ≡ k + 0
-    here = omega arith
-
-    same : y ≡ x
-    same = ap (λ o. unwrap_or o y) e
-numbered_at k (y ∷ ys) (suc n) x e =
-    let next : (k + 1) + n ≡ k + suc n = omega arith in
-    subst (λ m. slice_get (numbered_from (k + 1) ys) n ≡ Some (m, x)) next (numbered_at (k + 1) ys n x e)
+numbered_at k [] n x e = search std_rules
+numbered_at k (y ∷ ys) zero x e = search std_rules
+numbered_at k (y ∷ ys) (suc n) x e = search (std_rules, numbered_at (k + 1) ys n x e)
 
 numbered_long : {A : Type 0} (k : ℕ) (xs : List A) → length (numbered_from k xs) ≡ length xs
 numbered_long k [] = refl
@@ -78,32 +67,7 @@ all_same_below p q n (m ∷ ns) same h = λ i. same m (ltb→lt m n (subst T (sy
 -- a resource that a function belongs to has the function's owner, and a name
 member_met : (r : Resolve) → Keeps references r → (o : TypeOwner) (f : Function) → is_member r o f ≡ true
     → list_all (has_owner r o) (flat_map (met_by (met_of r)) (option_to_list (resource_of f.kind))) ≡ true
-member_met r below o f h = go (resource_of f.kind) h
-  where
-    named : (n : ℕ) (def : TypeDef) → type_at r n ≡ Some def → (x : Option (String Global)) → def.name ≡ x → (b c : Bool) → same_owner def.owner o ≡ c
-        → is_some (cond (b && c) (optional_text x) None) ≡ true → list_all (has_owner r o) (met_by (met_of r) n ++ []) ≡ true
-    named n def is None e true true s h = let wrong : ⊥ = cc in absurd wrong
-    named n def is x e false c s h = let wrong : ⊥ = cc in absurd wrong
-    named n def is x e true false s h = let wrong : ⊥ = cc in absurd wrong
-    named n def is (Some name) e true true s h =
-        let known : is_some def.name ≡ true = ap is_some e in
-        list_all-append (has_owner r o) (met_by (met_of r) n) []
-        ∙ ap (λ b. b && true) (sym (named_met r below n def is o known) ∙ s)
-
-    at : (n : ℕ) (d : Option TypeDef) → type_at r n ≡ d
-        → is_some (option_and_then (λ def. if is_resource_itself def.kind && same_owner def.owner o then optional_text def.name else None) d) ≡ true
-        → list_all (has_owner r o) (met_by (met_of r) n ++ []) ≡ true
-    at n None is h = let wrong : ⊥ = cc in absurd wrong
-    at n (Some def) is h = named n def is def.name refl (is_resource_itself def.kind) (same_owner def.owner o) refl h
-
-    given : {X : Type 0} (test : X → Bool) (x : Option X) → option_map_or test x false ≡ true → is_some x ≡ true
-    given test None h = let wrong : ⊥ = cc in absurd wrong
-    given test (Some x) h = refl
-
-    go : (x : Option ℕ) → passes (λ n. option_map_or (λ name. is_member_of r n name f f.kind) (resource_name r o n) false) x ≡ true
-        → list_all (has_owner r o) (flat_map (met_by (met_of r)) (option_to_list x)) ≡ true
-    go None h = refl
-    go (Some n) h = at n (type_at r n) refl (given (λ name. is_member_of r n name f f.kind) (resource_name r o n) h)
+member_met r below o f h = search (std_rules, list_all-append, named_met)
 
 -- all that a function uses belongs to its owner
 pub function_home : (r : Resolve) → Keeps references r → (o : TypeOwner) (f : Function) → function_stays r o f ≡ true → is_member r o f ≡ true → list_all (has_owner r o) (used_by_function r f) ≡ true
@@ -111,40 +75,21 @@ function_home r below o f stays belongs = search (std_rules, flat_append, list_a
 
 -- what the rule says of a type that has an owner
 pub owned_stays : (r : Resolve) (def : TypeDef) → type_stays r def ≡ true → same_owner def.owner owner.None ≡ false → (list_all (has_owner r def.owner) (used_by_type r def) || is_use r def) ≡ true
-owned_stays r def h owned = go (list_all (has_owner r def.owner) (used_by_type r def)) (is_some def.name) (is_use r def)
-    (sym (ap (λ b. b || (list_all (has_owner r def.owner) (used_by_type r def) || (is_some def.name && is_use r def))) owned) ∙ h)
-  where
-    go : (a b c : Bool) → (a || (b && c)) ≡ true → (a || c) ≡ true
-    go true b c e = refl
-    go false true c e = e
-    go false false true e = refl
-    go false false false e = e
+owned_stays r def h owned = search std_rules
 
 -- ---- an interface uses smaller ones alone
 
 pub all_filter : (p q : ℕ → Bool) (ns : List ℕ) → list_all p (filter q ns) ≡ list_all (λ n. not (q n) || p n) ns
 all_filter p q [] = refl
-all_filter p q (n ∷ ns) = go (all_filter p q ns) (q n)
-  where
-    go : list_all p (filter q ns) ≡ list_all (λ n. not (q n) || p n) ns → (b : Bool) → list_all p (cond b (n ∷ filter q ns) (filter q ns)) ≡ ((not b || p n) && list_all (λ n. not (q n) || p n) ns)
-    go rest true = ap (λ b. p n && b) rest
-    go rest false = rest
+all_filter p q (n ∷ ns) = search (std_rules, all_filter p q ns)
 
 -- a test that a number passes asks nothing of its repetitions
 repeated : (p : ℕ → Bool) (n : ℕ) → p n ≡ true → (m : ℕ) → (not (not (m == n)) || p m) ≡ p m
-repeated p n e m = go (m == n) refl
-  where
-    go : (b : Bool) → (m == n) ≡ b → (not (not b) || p m) ≡ p m
-    go true q = sym (ap p (eqb→eq m n (subst T (sym q) tt)) ∙ e)
-    go false q = refl
+repeated p n e m = search std_rules
 
 pub all_once : (p : ℕ → Bool) (ns : List ℕ) → list_all p (once ns) ≡ list_all p ns
 all_once p [] = refl
-all_once p (n ∷ ns) = go (all_once p ns) (p n) refl
-  where
-    go : list_all p (once ns) ≡ list_all p ns → (b : Bool) → p n ≡ b → (b && list_all p (filter (λ m. not (m == n)) (once ns))) ≡ (b && list_all p ns)
-    go rest false e = refl
-    go rest true e = all_filter p (λ m. not (m == n)) (once ns) ∙ (ap (λ test. list_all test (once ns)) (λ i m. repeated p n e m i) ∙ rest)
+all_once p (n ∷ ns) = search (std_rules, all_filter, repeated, all_once p ns)
 
 within : (n m : ℕ) → (not (not (m == n)) || nat_lt m n) ≡ nat_le m n
 within n m = grind (arith, nat_tests)

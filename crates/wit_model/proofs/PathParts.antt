@@ -4,10 +4,10 @@ use Rattle.std.proofs.Math.Seq.{drop-append_seam}
 use Rattle.std.specs.declared.alloc.Global.{Global}
 use Rattle.semver.specs.declared.Version.{Version}
 use Rattle.semver.specs.{Identifiers.parts_of, Identifiers.parts_text, Parse.Parts}
-use Rattle.wit_model.specs.declared.model.{Resolve.Resolve, Package.Package, PackageId.PackageId, PackageName.PackageName, Interface.Interface}
+use Rattle.wit_model.specs.declared.model.{Resolve.Resolve, PackageName.PackageName}
 use Rattle.wit_model.specs.{Text.Text, Text.text_of, Rules.after_prefix, Calls.CanonicalPathsJoin}
 use Rattle.wit_model.specs.{Names.path_in, Names.canonical_version, Names.version_suffix, Names.some_text, Paths.full_name, Paths.suffix_after}
-use Rattle.wit_model.specs.Lookup.{package_at, interface_at, path_of_interface, path_in_package, interface_path, identity_of, canonical_identity_of, canonical_path, canonical_suffix, package_of_interface}
+use Rattle.wit_model.specs.Lookup.{interface_path, identity_of, canonical_identity_of, canonical_path, canonical_suffix}
 use Rattle.wit_model.proofs.Versions.{canonical_front, canonical_joined}
 
 abbrev path_of : PackageName × String Global → Text
@@ -21,62 +21,13 @@ suffix_of e = option_and_then (λ version. version_suffix (parts_of version)) e.
 
 module _ (r : Resolve) where
   pub path_made : (n : ℕ) → interface_path r n ≡ option_map path_of (full_name r n)
-  path_made n = by_interface (interface_at r n)
-    where
-      by_package : (s : String Global) (q : Option Package) → option_map (λ p. path_in (identity_of p.name) (text_of s)) q ≡ option_map path_of (option_map (λ p. (p.name, s)) q)
-      by_package s None = refl
-      by_package s (Some q) = refl
-
-      by_number : (s : String Global) (x : Option PackageId)
-          → option_and_then (λ p. path_in_package r p.0 (text_of s)) x ≡ option_map path_of (option_map (λ p. (p.name, s)) (option_and_then (λ p. package_at r p.0) x))
-      by_number s None = refl
-      by_number s (Some id) = by_package s (package_at r id.0)
-
-      by_name : (i : Interface) (x : Option (String Global)) → option_and_then (λ name. option_and_then (λ p. path_in_package r p.0 (text_of name)) i.package) x
-          ≡ option_map path_of (option_and_then (λ name. option_map (λ p. (p.name, name)) (option_and_then (λ p. package_at r p.0) i.package)) x)
-      by_name i None = refl
-      by_name i (Some s) = by_number s i.package
-
-      by_interface : (o : Option Interface) → option_and_then (path_of_interface r) o
-          ≡ option_map path_of (option_and_then (λ i. option_and_then (λ name. option_map (λ p. (p.name, name)) (option_and_then (λ i. option_and_then (λ p. package_at r p.0) i.package) o)) i.name) o)
-      by_interface None = refl
-      by_interface (Some i) = by_name i i.name
+  path_made n = search std_rules
 
   pub canonical_made : (n : ℕ) → canonical_path r n ≡ option_map canonical_of (full_name r n)
-  canonical_made n = by_interface (interface_at r n) (package_of_interface r n)
-    where
-      by_package : (s : String Global) (q : Option Package) → option_map (λ p. path_in (canonical_identity_of p.name) (text_of s)) q ≡ option_map canonical_of (option_map (λ p. (p.name, s)) q)
-      by_package s None = refl
-      by_package s (Some q) = refl
-
-      by_name : (q : Option Package) (x : Option (String Global)) → option_and_then (λ name. option_map (λ p. path_in (canonical_identity_of p.name) (text_of name)) q) x
-          ≡ option_map canonical_of (option_and_then (λ name. option_map (λ p. (p.name, name)) q) x)
-      by_name q None = refl
-      by_name q (Some s) = by_package s q
-
-      by_interface : (o : Option Interface) (q : Option Package) → option_and_then (λ i. option_and_then (λ name. option_map (λ p. path_in (canonical_identity_of p.name) (text_of name)) q) i.name) o
-          ≡ option_map canonical_of (option_and_then (λ i. option_and_then (λ name. option_map (λ p. (p.name, name)) q) i.name) o)
-      by_interface None q = refl
-      by_interface (Some i) q = by_name q i.name
+  canonical_made n = search std_rules
 
   pub suffix_made : (n : ℕ) → canonical_suffix r n ≡ option_and_then suffix_of (full_name r n)
-  suffix_made n = by_interface (interface_at r n) (package_of_interface r n)
-    where
-      by_package : (s : String Global) (q : Option Package)
-          → option_and_then (λ p. option_and_then (λ version. version_suffix (parts_of version)) p.name.version) q ≡ option_and_then suffix_of (option_map (λ p. (p.name, s)) q)
-      by_package s None = refl
-      by_package s (Some q) = refl
-
-      by_name : (q : Option Package) (x : Option (String Global)) → option_and_then (λ name. option_and_then (λ p. option_and_then (λ version. version_suffix (parts_of version)) p.name.version) q) x
-          ≡ option_and_then suffix_of (option_and_then (λ name. option_map (λ p. (p.name, name)) q) x)
-      by_name q None = refl
-      by_name q (Some s) = by_package s q
-
-      by_interface : (o : Option Interface) (q : Option Package)
-          → option_and_then (λ i. option_and_then (λ name. option_and_then (λ p. option_and_then (λ version. version_suffix (parts_of version)) p.name.version) q) i.name) o
-          ≡ option_and_then suffix_of (option_and_then (λ i. option_and_then (λ name. option_map (λ p. (p.name, name)) q) i.name) o)
-      by_interface None q = refl
-      by_interface (Some i) q = by_name q i.name
+  suffix_made n = search std_rules
 
   module _ (n : ℕ) (p : PackageName) (s : String Global) (is : full_name r n ≡ Some (p, s)) where
     pub canonical_found : canonical_path r n ≡ Some (path_in (canonical_identity_of p) (text_of s))
@@ -119,8 +70,4 @@ joined p s = go p.version
         ∙ ap (λ t. before (64 ∷ t)) (canonical_joined (parts_of v)))
 
 pub canonical_paths_join : CanonicalPathsJoin
-canonical_paths_join r n = path_made r n ∙ (go (full_name r n) ∙ sym (λ i. option_map (λ path. path ++ unwrap_or (suffix_made r n i) []) (canonical_made r n i)))
-  where
-    go : (o : Option (PackageName × String Global)) → option_map path_of o ≡ option_map (λ path. path ++ unwrap_or (option_and_then suffix_of o) []) (option_map canonical_of o)
-    go None = refl
-    go (Some e) = ap Some (joined e.0 e.1)
+canonical_paths_join r n = search (std_rules, path_made, unwrap_or, suffix_made, canonical_made, joined)

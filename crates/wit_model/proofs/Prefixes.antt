@@ -1,5 +1,5 @@
 -- What stands after a prefix.
-use Rattle.std.proofs.Common.{◌≡◌, refl, sym, ap, ◌∙◌, Bool, true, false, ◌==◌, [], ◌∷◌, ◌++◌, drop, cond, Option, Some, None, MatchOption}
+use Rattle.std.proofs.Common.{rules as std_rules, ◌≡◌, refl, Bool, true, false, ◌==◌, [], ◌∷◌, ◌++◌, cond, Option, Some, None, MatchOption}
 use Rattle.std.proofs.lemmas.Option.{same_Some}
 use Rattle.std.specs.{Option.option_copied, Str.Pattern.FindsTextPrefix, Str.Pattern.StripsPrefix, Borrow.Bor}
 use Rattle.wit_model.specs.{Text.Text, Rules.after_prefix}
@@ -23,8 +23,4 @@ stripped ps bs None h = none_after (after_prefix ps bs) refl
     none_after : (o : Option Text) → after_prefix ps bs ≡ o → None ≡ o
     none_after None e = refl
     none_after (Some rest) e = absurd (h rest (after_sound ps bs rest e))
-stripped ps bs (Some x) h =
-    let rest : x.now ≡ drop h.0 bs = h.2 in
-    let whole : bs ≡ ps ++ drop h.0 bs = h.1.1 in
-    let again : bs ≡ ps ++ x.now = whole ∙ ap (λ t. ps ++ t) (sym rest) in
-    sym (ap (after_prefix ps) again ∙ after_complete ps x.now)
+stripped ps bs (Some x) h = search (std_rules, after_complete)

@@ -1,12 +1,11 @@
 -- What is a resource may be computed along the list of types, where each refers to smaller numbers alone.
-use Rattle.std.proofs.Common.{rules as std_rules, ◌≡◌, refl, ap, ◌∙◌, ℕ, zero, suc, ◌<◌, ◌≤◌, Bool, true, false, ◌&&◌, nat_lt, List, length, Some, None, Option, option_to_list, filter_map, not, arith}
+use Rattle.std.proofs.Common.{rules as std_rules, ◌≡◌, refl, ℕ, zero, suc, ◌<◌, ◌≤◌, Bool, true, false, ◌&&◌, nat_lt, List, length, Some, None, Option, option_to_list, filter_map, not, arith}
 use Rattle.std.proofs.lemmas.Option.{slice_get_within, slice_get_past}
 use Rattle.std.specs.{List.list_all, Option.option_map_or}
 use Rattle.wit_model.specs.declared.model.{Resolve.Resolve, TypeDef.TypeDef, TypeDefKind.TypeDefKind, «Type».«Type» as ValueType, Function.Function}
 use Rattle.wit_model.specs.{Lookup.type_at, Types.number_of, Rules.passes, Valid.Keeps, Checks.references, Checks.all_values}
 use Rattle.wit_model.specs.Parts.{kind_numbers, member_types, handled, function_types, is_resource, is_resource_type, is_resource_kind, ends_in_resource}
 use Rattle.wit_model.proofs.{Checks.below_at, Functions.types_test, Functions.functions_test}
-use Rattle.base_lemmas.proofs.Bools.{and-true}
 
 -- whether a kind is a resource hangs on smaller numbers alone
 pub kind_same : (f g : ℕ → Bool) (n : ℕ) (k : TypeDefKind) → ((m : ℕ) → m < n → f m ≡ g m) → list_all (λ m. nat_lt m n) (kind_numbers k) ≡ true → is_resource_kind f k ≡ is_resource_kind g k
@@ -35,21 +34,13 @@ module _ (r : Resolve) (below : Keeps references r) where
 -- a number past the list is none
 pub no_resource : (r : Resolve) (n : ℕ) → length r.types.items ≤ n → is_resource r n ≡ false
 unfolding ends_in_resource
-no_resource r n h = go (length r.types.items)
-  where
-    go : (s : ℕ) → ends_in_resource r s n ≡ false
-    go zero = refl
-    go (suc s) = ap (λ o. option_map_or (λ def. is_resource_kind (ends_in_resource r s) def.kind) o false) (slice_get_past r.types.items n h)
+no_resource r n h = search (std_rules, slice_get_past)
 
 -- ---- the tests, by any marks that agree
 
 module _ (r : Resolve) (f : ℕ → Bool) (same : (n : ℕ) → f n ≡ is_resource r n) where
   unmarked : (t : ValueType) → list_all (λ n. not (f n)) (option_to_list (number_of t)) ≡ not (is_resource_type r t)
-  unmarked t = go (number_of t)
-    where
-      go : (o : Option ℕ) → list_all (λ n. not (f n)) (option_to_list o) ≡ not (option_map_or (is_resource r) o false)
-      go None = refl
-      go (Some n) = and-true (not (f n)) ∙ ap not (same n)
+  unmarked t = search std_rules
 
   pub marked_type : (k : TypeDefKind) →
       (list_all (λ n. not (f n)) (filter_map number_of (member_types k)) && passes f (handled k))

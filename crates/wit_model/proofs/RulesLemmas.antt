@@ -1,6 +1,6 @@
 -- Lemmas on the words that the rules of validity are said with.
 use Rattle.semver.specs.declared.Version.{Version}
-use Rattle.std.proofs.Common.{rules as std_rules, Bool, List, None, Option, Some, [], ap, arith, cond, false, map, option_and_then, refl, slice_get, subst, sym, true, ℕ, ◌&&◌, ◌++◌, ◌+◌, ◌==◌, ◌∙◌, ◌∷◌, ◌≡◌}
+use Rattle.std.proofs.Common.{rules as std_rules, Bool, List, Option, Some, [], arith, map, option_and_then, refl, slice_get, subst, true, ℕ, ◌&&◌, ◌++◌, ◌+◌, ◌∷◌, ◌≡◌}
 use Rattle.std.proofs.lemmas.{List.map-append}
 use Rattle.std.specs.Option.{option_eq}
 use Rattle.wit_model.proofs.{Distinct.text_eq_flip, Entries.each_from_all, Entries.each_from_at}
@@ -11,12 +11,7 @@ use Rattle.wit_model.specs.declared.model.PackageName.{PackageName}
 pub after_both : (ps qs bs : Text) → after_prefix (ps ++ qs) bs ≡ option_and_then (after_prefix qs) (after_prefix ps bs)
 after_both [] qs bs = refl
 after_both (p ∷ ps) qs [] = refl
-after_both (p ∷ ps) qs (b ∷ bs) = go (after_both ps qs bs) (p == b)
-  where
-    go : after_prefix (ps ++ qs) bs ≡ option_and_then (after_prefix qs) (after_prefix ps bs) → (v : Bool)
-        → cond v (after_prefix (ps ++ qs) bs) None ≡ option_and_then (after_prefix qs) (cond v (after_prefix ps bs) None)
-    go again true = again
-    go again false = refl
+after_both (p ∷ ps) qs (b ∷ bs) = search (std_rules, after_both ps qs bs)
 
 pub items_of_map : {X Y : Type 0} (g : X → Y) (xs : List X) → has_items (map g xs) ≡ has_items xs
 items_of_map g x = search std_rules
@@ -29,9 +24,7 @@ each_by_number test xs all = each_from_all test 0 xs (λ n x e. let here : n ≡
 
 pub after_of_map : {A B : Type 0} (test : List B → B → Bool) (g : A → B) (before xs : List A) → each_after test (map g before) (map g xs) ≡ each_after (λ ys x. test (map g ys) (g x)) before xs
 after_of_map test g before [] = refl
-after_of_map test g before (x ∷ xs) =
-    ap (λ ys. test (map g before) (g x) && each_after test ys (map g xs)) (sym (map-append g before (x ∷ [])))
-    ∙ ap (λ b. test (map g before) (g x) && b) (after_of_map test g (before ++ x ∷ []) xs)
+after_of_map test g before (x ∷ xs) = search (std_rules, map-append, after_of_map test g (before ++ x ∷ []) xs)
 
 pub each_at : {A : Type 0} (test : ℕ → A → Bool) (xs : List A) (n : ℕ) (x : A) → each_from test 0 xs ≡ true → slice_get xs n ≡ Some x → test n x ≡ true
 each_at test xs n x h e = let here : 0 + n ≡ n = omega arith in subst (λ (k : ℕ). test k x ≡ true) here (each_from_at test 0 xs n x h e)

@@ -1,5 +1,5 @@
 -- Which interfaces stand before an item, item by item.
-use Rattle.std.proofs.Common.{rules as std_rules, ◌≡◌, refl, sym, ap, ◌∙◌, ℕ, Bool, true, false, ◌&&◌, ◌||◌, not, ◌==◌, List, [], ◌∷◌, ◌++◌, filter_map, option_to_list, Some, Option, append_assoc, append-nil}
+use Rattle.std.proofs.Common.{rules as std_rules, ◌≡◌, refl, sym, ap, ℕ, Bool, true, false, ◌&&◌, ◌||◌, not, ◌==◌, List, [], ◌∷◌, ◌++◌, filter_map, option_to_list, Some, Option, append_assoc, append-nil}
 use Rattle.std.proofs.lemmas.List.{Elements.filter_map-append, Folds.list_any-append}
 use Rattle.std.specs.{List.list_all, List.cons_option}
 use Rattle.indexmap.specs.IndexMap.{values}
@@ -14,16 +14,11 @@ use Rattle.base_lemmas.proofs.Bools.{and_assoc, exchange as and_swap}
 
 pub after_both : {A : Type 0} (p q : List A → A → Bool) (before xs : List A) → each_after (λ b x. p b x && q b x) before xs ≡ (each_after p before xs && each_after q before xs)
 after_both p q before [] = refl
-after_both p q before (x ∷ xs) =
-    ap (λ b. (p before x && q before x) && b) (after_both p q (before ++ x ∷ []) xs)
-    ∙ and_swap (p before x) (q before x) (each_after p (before ++ x ∷ []) xs) (each_after q (before ++ x ∷ []) xs)
+after_both p q before (x ∷ xs) = search (std_rules, and_swap, after_both p q (before ++ x ∷ []) xs)
 
 pub after_append : {A : Type 0} (p : List A → A → Bool) (before xs ys : List A) → each_after p before (xs ++ ys) ≡ (each_after p before xs && each_after p (before ++ xs) ys)
 after_append p before [] ys = ap (λ b. each_after p b ys) (sym (append-nil before))
-after_append p before (x ∷ xs) ys =
-    ap (λ b. p before x && b) (after_append p (before ++ x ∷ []) xs ys)
-    ∙ (ap (λ b. p before x && (each_after p (before ++ x ∷ []) xs && each_after p b ys)) (append_assoc before (x ∷ []) xs)
-    ∙ and_assoc (p before x) (each_after p (before ++ x ∷ []) xs) (each_after p (before ++ x ∷ xs) ys))
+after_append p before (x ∷ xs) ys = search (std_rules, append_assoc, and_assoc, after_append p (before ++ x ∷ []) xs ys)
 
 -- ---- what is shown
 
@@ -40,9 +35,7 @@ one_more before i n = search (std_rules, filter_map-append, list_any-append, has
 pub interfaces_before : (r : Resolve) (before items : List WorldItem) →
     each_after (λ b i. list_all (has (filter_map item_interface b)) (used_interfaces r i)) before items ≡ uses_are_shown r (has (filter_map item_interface before)) items
 interfaces_before r before [] = refl
-interfaces_before r before (i ∷ items) =
-    ap (λ b. list_all (has (filter_map item_interface before)) (used_interfaces r i) && b)
-    (interfaces_before r (before ++ i ∷ []) items ∙ ap (λ shown. uses_are_shown r shown items) (λ j n. one_more before i n j))
+interfaces_before r before (i ∷ items) = search (std_rules, one_more, interfaces_before r (before ++ i ∷ []) items)
 
 -- one more item is shown
 pub after_more : (i : WorldItem) (items : List WorldItem) (old new : ℕ → Bool) → ((n : ℕ) → new n ≡ shown_with i old n) → (n : ℕ) → shown_after items new n ≡ shown_after (i ∷ items) old n
@@ -50,11 +43,7 @@ after_more i items old new same n = search std_rules
 
 pub shown_append : (r : Resolve) (shown : ℕ → Bool) (xs ys : List WorldItem) → uses_are_shown r shown (xs ++ ys) ≡ (uses_are_shown r shown xs && uses_are_shown r (shown_after xs shown) ys)
 shown_append r shown [] ys = refl
-shown_append r shown (x ∷ xs) ys =
-    ap (λ b. list_all shown (used_interfaces r x) && b)
-    (shown_append r (shown_with x shown) xs ys
-    ∙ ap (λ s. uses_are_shown r (shown_with x shown) xs && uses_are_shown r s ys) (λ j n. after_more x xs shown (shown_with x shown) (λ m. refl) n j))
-    ∙ and_assoc (list_all shown (used_interfaces r x)) (uses_are_shown r (shown_with x shown) xs) (uses_are_shown r (shown_after (x ∷ xs) shown) ys)
+shown_append r shown (x ∷ xs) ys = search (std_rules, after_more, and_assoc, shown_append r (shown_with x shown) xs ys)
 
 -- a world whose imports aren't ready isn't either
 pub imports_first : (r : Resolve) (shown : ℕ → Bool) (w : World) → uses_are_shown r shown (values w.imports) ≡ false → uses_are_shown r shown (items_of w) ≡ false

@@ -1,6 +1,6 @@
 -- Lemmas on texts: when two are equal, and what an optional one is.
 use Rattle.base_lemmas.proofs.{Elements.contains-later, Numbers.turned}
-use Rattle.std.proofs.Common.{rules as std_rules, Bool, List, None, Option, Some, String, [], ap, arith, cond, false, refl, sym, true, ◌&&◌, ◌++◌, ◌==◌, ◌||◌, ◌∙◌, ◌∷◌, ◌≡◌}
+use Rattle.std.proofs.Common.{rules as std_rules, Bool, List, None, Option, Some, String, [], arith, false, refl, sym, true, ◌++◌, ◌||◌, ◌∷◌, ◌≡◌}
 use Rattle.std.proofs.lemmas.Cmp.{nat_list_eq_equiv}
 use Rattle.std.specs.{Cmp.Lexicographic.same_text, List.AllByRecursion, List.Contains, List.list_any, Option.option_map_or, Prelude.String, Prelude.is_some}
 use Rattle.std.specs.declared.alloc.Global.{Global}
@@ -22,12 +22,7 @@ some_alike x y h = search std_rules
 pub is_joined : (ps qs bs : Text) → text_eq bs (ps ++ qs) ≡ option_map_or (λ rest. text_eq rest qs) (after_prefix ps bs) false
 is_joined [] qs bs = refl
 is_joined (p ∷ ps) qs [] = refl
-is_joined (p ∷ ps) qs (b ∷ bs) = ap (λ v. v && text_eq bs (ps ++ qs)) (turned b p) ∙ go (is_joined ps qs bs) (p == b)
-  where
-    go : text_eq bs (ps ++ qs) ≡ option_map_or (λ rest. text_eq rest qs) (after_prefix ps bs) false → (v : Bool)
-        → (v && text_eq bs (ps ++ qs)) ≡ option_map_or (λ rest. text_eq rest qs) (cond v (after_prefix ps bs) None) false
-    go again true = again
-    go again false = refl
+is_joined (p ∷ ps) qs (b ∷ bs) = search (std_rules, turned, is_joined ps qs bs)
 
 pub none_of_texts : (t : Text) (ts : List Text) → list_any (text_eq t) ts ≡ false → AllByRecursion (λ y. text_eq t y ≡ false) ts
 none_of_texts t [] h = tt

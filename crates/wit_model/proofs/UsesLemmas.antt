@@ -1,7 +1,7 @@
 -- Lemmas on lists of numbers, and on what a type or an item leads to.
 use Rattle.base_lemmas.proofs.{Elements.contains-later, Numbers.same-number}
-use Rattle.std.proofs.Common.{rules as std_rules, Bool, List, Some, [], ap, arith, cond, false, filter, nat_eq, refl, sym, true, ℕ, ◌==◌, ◌||◌, ◌∙◌, ◌∷◌, ◌≡◌}
-use Rattle.std.proofs.lemmas.{Bool.and_from as both, Bool.eqb-true, Bool.or_right, Bool.Decides.nat_tests, Option.same_Some as some-same}
+use Rattle.std.proofs.Common.{rules as std_rules, Bool, List, Some, [], ap, cond, false, filter, nat_eq, refl, sym, true, ℕ, ◌==◌, ◌||◌, ◌∙◌, ◌∷◌, ◌≡◌}
+use Rattle.std.proofs.lemmas.{Bool.and_from as both, Bool.eqb-true, Bool.or_right, Option.same_Some as some-same}
 use Rattle.std.specs.List.{list_all, list_any}
 use Rattle.wit_model.proofs.{Elements.contains-has, Elements.has-contains, OnePath.found-in}
 use Rattle.wit_model.specs.{Lookup.interface_at, Parts.kind_numbers, Rules.item_in_range, Uses.alias_target, Uses.has, Uses.item_interface}
@@ -19,10 +19,7 @@ interface_in_range r x n e h = search (std_rules, some-same, found-in)
 
 pub any_is_has : (ns : List ℕ) (q : ℕ) → list_any (nat_eq q) ns ≡ has ns q
 any_is_has [] q = refl
-any_is_has (n ∷ ns) q = λ i. turned i || any_is_has ns q i
-  where
-    turned : nat_eq q n ≡ (n == q)
-    turned = grind (arith, nat_tests)
+any_is_has (n ∷ ns) q = search std_rules
 
 no_true : {A : Type 0} → false ≡ true → A
 no_true e = let wrong : ⊥ = cc in absurd wrong

@@ -6,8 +6,8 @@ use Rattle.semver.specs.declared.{error.Error.Error, Version.Version}
 use Rattle.semver.specs.Identifiers.{parts_of, parts_text}
 use Rattle.semver.specs.{Grammar.IsValid, Parse.Parts, Parse.version_parts}
 use Rattle.semver.proofs.Grammar.{version_parts-complete}
-use Rattle.wit_model.specs.{Text.Text, Text.text_of, Text.text_eq, NameLaws.OneVersion, NameLaws.SameName}
-use Rattle.wit_model.specs.{Names.is_version, Lookup.identity_of, Lookup.optional_version_text, Rules.passes, Rules.same_version, Rules.same_package_name}
+use Rattle.wit_model.specs.{Text.Text, Text.text_eq, NameLaws.OneVersion, NameLaws.SameName}
+use Rattle.wit_model.specs.{Names.is_version, Lookup.optional_version_text, Rules.passes, Rules.same_version}
 use Rattle.wit_model.proofs.TextLemmas.{text_same}
 
 five_parts : (a b c d e : Bool) → (a && (b && (c && (d && e)))) ≡ true → (a ≡ true) × (b ≡ true) × (c ≡ true) × (d ≡ true) × (e ≡ true)
@@ -43,18 +43,4 @@ same_optional : (a b : Option Version) → option_eq same_version a b ≡ true �
 same_optional x y e = search (std_rules, same_versions)
 
 pub same_name : SameName
-same_name a b h k = (forth, back)
-  where
-    forth : same_package_name a b ≡ true → identity_of a ≡ identity_of b
-    forth e =
-        let namespace : text_of a.namespace ≡ text_of b.namespace = text_same _ _ (and_parts _ _ e).0 in
-        let rest = (and_parts (text_eq (text_of a.namespace) (text_of b.namespace)) _ e).1 in
-        let name : text_of a.name ≡ text_of b.name = text_same _ _ (and_parts _ _ rest).0 in
-        let version : optional_version_text a.version ≡ optional_version_text b.version = same_optional a.version b.version (and_parts (text_eq (text_of a.name) (text_of b.name)) _ rest).1 in
-        cc
-
-    back : identity_of a ≡ identity_of b → same_package_name a b ≡ true
-    back e =
-        and_from _ _ (same_text (text_of a.namespace) (text_of b.namespace) (ap (λ p. p.namespace) e))
-        (and_from _ _ (same_text (text_of a.name) (text_of b.name) (ap (λ p. p.name) e))
-        (optional_same a.version b.version h k (ap (λ p. p.version) e)))
+same_name a b h k = search (std_rules, text_same, and_parts, same_optional, and_from, same_text, optional_same)
