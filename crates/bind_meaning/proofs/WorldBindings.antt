@@ -1,5 +1,5 @@
 -- A world of a valid `Resolve`, bound, is a binding.
-use Rattle.std.proofs.Common.{rules as std_rules, slice_get, filter_map, ◌≡◌, refl, sym, ap, subst, ◌∙◌, ℕ, true, false, not, ◌&&◌, ◌||◌, ◌==◌, List, [], ◌∷◌, map, length, Option, Some, option_map, option_and_then, unwrap_or, String, Contains}
+use Rattle.std.proofs.Common.{arith, rules as std_rules, slice_get, filter_map, ◌≡◌, refl, sym, ap, subst, ◌∙◌, ℕ, true, false, not, ◌&&◌, ◌||◌, List, [], ◌∷◌, map, length, Option, Some, option_map, option_and_then, unwrap_or, String, Contains}
 use Rattle.std.proofs.lemmas.{Bool.false_from_ne_true, Bool.lt-ltb, List.Elements.Contains-append_left, List.Elements.Contains-append_right}
 use Rattle.std.specs.{Prelude.is_some, Prelude.option_to_list, Map.keys_of, Option.option_map_or, Cmp.Lexicographic.nat_list_cmp_total}
 use Rattle.std.specs.{List.AllByRecursion, List.IsDistinct, List.list_all, List.list_any, FinMap.find, FinMap.from_entries, FinMap.get, FinMap.get-from_entries}
@@ -8,7 +8,7 @@ use Rattle.wit_model.specs.declared.model.{Interface.Interface, Package.Package,
 use Rattle.wit_model.specs.declared.model.World.{World}
 use Rattle.wit_model.specs.{Text.Text, Text.text_cmp, Text.text_eq, Text.text_of, Names.path_in, Meaning.Entry, Meaning.InterfaceMeaning, Meaning.WorldMeaning}
 use Rattle.wit_model.specs.Lookup.{identity_of, interface_at, interface_path, key_text, path_in_package, path_of_interface, path_of_world, world_at}
-use Rattle.wit_model.specs.Meant.{entries_meaning, entry_meaning, interface_meaning, interface_meaning_at, no_interface, no_world, world_meaning, world_meaning_at}
+use Rattle.wit_model.specs.Meant.{entries_meaning, entry_meaning, interface_meaning, interface_meaning_at, no_world, world_meaning, world_meaning_at}
 use Rattle.wit_model.specs.Rules.{are_distinct, entries_in_range, export_stands, import_stands, in_list, is_id, is_interface_key, item_in_range, key_in_range, package_number, passes}
 use Rattle.wit_model.specs.Uses.{item_interface}
 use Rattle.wit_model.specs.Valid.{IsValid, is_place, key_eq, numbers_in_range, places, world_items}
@@ -52,20 +52,10 @@ module _ (r : Resolve) where
     pub means : world_meaning_at r number ≡ x
 
   interface-listed : (path : Text) (x : InterfaceMeaning) → Contains (interfaces_by_path r) (path, x) → IsInterfaceUnder path x
-  interface-listed path x c =
-      let i = under-path (path_of_interface r) (interface_meaning r) r.interfaces.items path x c in record {
-        number = i.0;
-        under = ap (option_and_then (path_of_interface r)) i.2 ∙ i.3;
-        means = ap (λ (o : Option Interface). option_map_or (interface_meaning r) o no_interface) i.2 ∙ i.4;
-      }
+  interface-listed path x c = search (std_rules, under-path (path_of_interface r) (interface_meaning r) r.interfaces.items path x c)
 
   world-listed : (path : Text) (x : WorldMeaning) → Contains (worlds_by_path r) (path, x) → IsWorldUnder path x
-  world-listed path x c =
-      let w = under-path (path_of_world r) (world_meaning r) r.worlds.items path x c in record {
-        number = w.0;
-        under = ap (option_and_then (path_of_world r)) w.2 ∙ w.3;
-        means = ap (λ (o : Option World). option_map_or (world_meaning r) o no_world) w.2 ∙ w.4;
-      }
+  world-listed path x c = search (std_rules, under-path (path_of_world r) (world_meaning r) r.worlds.items path x c)
 
   -- what a binding has under a path stands there
   pub interface-under : (path : Text) (x : InterfaceMeaning) → get (from_entries {R = text_cmp} (interfaces_by_path r)) path ≡ Some x → IsInterfaceUnder path x
@@ -126,21 +116,7 @@ module _ (r : Resolve) (v : IsValid r) where
   name-apart name m path lacks is same = search (std_rules, has-path, goes-on, Lacks)
 
   pub keys-apart : (a b : WorldKey) → IsKey a → IsKey b → key_eq a b ≡ false → text_eq (key_text r a) (key_text r b) ≡ false
-  keys-apart (key.Name a) (key.Name b) h g e = e
-  keys-apart (key.Name a) (key.Interface b) h g e =
-      let path = some-of (interface_path r b.0) g in
-      ap (λ (o : Option Text). text_eq (text_of a) (unwrap_or o [])) path.1 ∙ unlike (text_of a) path.0 (name-apart a b.0 path.0 h path.1)
-  keys-apart (key.Interface a) (key.Name b) h g e =
-      let path = some-of (interface_path r a.0) h in
-      ap (λ (o : Option Text). text_eq (unwrap_or o []) (text_of b)) path.1 ∙ unlike path.0 (text_of b) (λ same. name-apart b a.0 path.0 g path.1 (sym same))
-  keys-apart (key.Interface a) (key.Interface b) h g e =
-      let p = some-of (interface_path r a.0) h in
-      let q = some-of (interface_path r b.0) g in
-      (λ j. text_eq (unwrap_or (p.1 j) []) (unwrap_or (q.1 j) []))
-      ∙ unlike p.0 q.0 (λ same.
-      let one : a.0 ≡ b.0 = path-once r v a.0 b.0 p.0 p.1 (q.1 ∙ ap Some (sym same)) in
-      let wrong : true ≡ false = sym (same-number a.0) ∙ (ap (λ k. a.0 == k) one ∙ e) in
-      let no : ⊥ = cc in no)
+  keys-apart x y h g e = grind (arith, some-of, unwrap_or, unlike, name-apart, path-once, same-number)
 
   abbrev keyed : WorldKey × WorldItem → Text × Entry InterfaceMeaning
   keyed e = (key_text r e.0, entry_meaning r e.1)

@@ -1,14 +1,14 @@
 -- A world is known by its path: in valid packages no two have the same, and none has that of an interface.
-use Rattle.std.proofs.Common.{◌≡◌, refl, sym, ap, ◌∙◌, ℕ, Bool, true, false, not, ◌&&◌, ◌||◌, cond, List, [], ◌∷◌, Option, Some, option_map, option_and_then, String}
+use Rattle.std.proofs.Common.{rules as std_rules, ◌≡◌, refl, sym, ap, ◌∙◌, ℕ, Bool, true, false, not, ◌||◌, cond, List, [], ◌∷◌, Option, Some, option_map, option_and_then, String}
 use Rattle.std.proofs.lemmas.Option.{same_Some as some-same}
-use Rattle.std.specs.{Prelude.is_some, List.list_any, Option.option_map_or, HashMap.get_by_text, Map.keys_of, Map.lookup}
+use Rattle.std.specs.{Prelude.is_some, List.list_any, HashMap.get_by_text, Map.keys_of, Map.lookup}
 use Rattle.std.specs.declared.alloc.Global.{Global}
 use Rattle.wit_model.specs.declared.model.{Resolve.Resolve, Package.Package, PackageId.PackageId, World.World, WorldId.WorldId}
 use Rattle.wit_model.specs.{Text.Text, Text.text_eq, Text.text_of, Names.is_label, Names.path_in, Valid.IsValid, Valid.labels, Valid.places}
 use Rattle.wit_model.specs.Lookup.{identity_of, interface_path, package_at, path_in_package, path_of_world, world_at}
-use Rattle.wit_model.specs.Rules.{interface_is_listed, is_id, is_world_name, package_number, world_is_listed}
+use Rattle.wit_model.specs.Rules.{is_id, is_world_name, world_is_listed}
 use Rattle.wit_model.proofs.{NameLaws.one_path, VersionLaws.same_name, ValidLemmas.world_passes as world-passes}
-use Rattle.wit_model.proofs.OnePath.{HasPath, given-test, has-path, interface-passes, one-number, package-name, package-once, path-label}
+use Rattle.wit_model.proofs.OnePath.{HasPath, has-path, interface-passes, one-number, package-name, package-once, path-label}
 use Rattle.bind_meaning.proofs.Listed.{given, mapped}
 use Rattle.base_lemmas.proofs.Bools.{left_of as first_true, not-false as not-both, right_of as second_true}
 
@@ -54,9 +54,7 @@ module _ (r : Resolve) (v : IsValid r) where
   pub world-listed : (n : ℕ) (path : Text) (h : HasWorldPath r n path) → world_is_listed n (text_of h.def.name) h.package_ ≡ true
   unfolding places
   world-listed n path h =
-      let rule = second_true (is_some h.def.package) _ (world-passes places r v.rules.places n h.def h.there) in
-      let home : option_and_then (package_at r) (package_number h.def.package) ≡ Some h.package_ = ap (λ p. option_and_then (package_at r) (package_number p)) h.in_package ∙ h.stands in
-      given-test (world_is_listed n (text_of h.def.name)) (option_and_then (package_at r) (package_number h.def.package)) true h.package_ home rule
+      search (std_rules, second_true (is_some h.def.package) _ (world-passes places r v.rules.places n h.def h.there), world-passes places r v.rules.places n h.def h.there)
 
   -- what has one path has one package and one name
   one_home : (k l : ℕ) (p q : Package) → package_at r k ≡ Some p → package_at r l ≡ Some q → (s t : Text) → is_label s ≡ true → is_label t ≡ true
@@ -82,12 +80,7 @@ module _ (r : Resolve) (v : IsValid r) where
   unworldly : (n : ℕ) (path : Text) (h : HasPath r n path) → not (is_world_name h.package_ (text_of h.name)) ≡ true
   unfolding places
   unworldly n path h =
-      let rule = second_true (is_some h.def.package) _ (interface-passes places r v.rules.places n h.def h.there) in
-      let home : option_and_then (package_at r) (package_number h.def.package) ≡ Some h.package_ = ap (λ p. option_and_then (package_at r) (package_number p)) h.in_package ∙ h.stands in
-      second_true (interface_is_listed n (text_of h.name) h.package_) _
-      (given-test (λ p. interface_is_listed n (text_of h.name) p && not (is_world_name p (text_of h.name))) (option_and_then (package_at r) (package_number h.def.package)) true h.package_ home
-      (given-test (λ name. option_map_or (λ p. interface_is_listed n (text_of name) p && not (is_world_name p (text_of name))) (option_and_then (package_at r) (package_number h.def.package)) true)
-      h.def.name _ h.name h.named_ rule))
+      search (std_rules, second_true (is_some h.def.package) _ (interface-passes places r v.rules.places n h.def h.there), interface-passes places r v.rules.places n h.def h.there)
 
   -- no interface has the path of a world
   pub path-apart : (m n : ℕ) (path : Text) → interface_path r m ≡ Some path → path_at r n ≡ Some path → ⊥

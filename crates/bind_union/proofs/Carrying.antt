@@ -4,7 +4,7 @@ use Rattle.std.proofs.lemmas.{Bool.or_right, Bool.and_from as both, List.Folds.l
 use Rattle.std.specs.{Prelude.String, List.list_all, List.flat_map, Option.option_map_or}
 use Rattle.std.specs.declared.alloc.Global.{Global}
 use Rattle.wit_model.specs.declared.model.{Resolve.Resolve, Package.Package, TypeDef.TypeDef}
-use Rattle.wit_model.specs.declared.model.{PackageId.PackageId, PackageName.PackageName, Interface.Interface, TypeOwner.TypeOwner, «Type».«Type» as ValueType}
+use Rattle.wit_model.specs.declared.model.{PackageName.PackageName, Interface.Interface, TypeOwner.TypeOwner, «Type».«Type» as ValueType}
 use Rattle.wit_model.specs.{Text.Text, Text.text_of, Text.optional_text, Names.path_in, Checks.references}
 use Rattle.wit_model.specs.Lookup.{package_at, interface_at, identity_of, path_in_package, path_of_interface, interface_path, place_of}
 use Rattle.wit_model.specs.{Types.number_of, Types.number_tree, Types.type_tree, Valid.is_place, Valid.Keeps, Valid.KeepsRules, Valid.numbers_in_range}
@@ -40,13 +40,7 @@ abbrev pub path_by : Resolve → Option Text → Option ℕ → Option Text
 path_by r name p = option_and_then (λ t. option_and_then (λ n. path_in_package r n t) p) name
 
 pub path_parts : (r : Resolve) (i : Interface) → path_of_interface r i ≡ path_by r (optional_text i.name) (package_number i.«package»)
-path_parts r i = go i.name i.«package»
-  where
-    go : (name : Option (String Global)) (p : Option PackageId)
-        → option_and_then (λ x. option_and_then (λ id. path_in_package r id.0 (text_of x)) p) name ≡ path_by r (optional_text name) (package_number p)
-    go None p = refl
-    go (Some name) None = refl
-    go (Some name) (Some p) = refl
+path_parts r i = search std_rules
 
 module _ (r s : Resolve) (f : Renumbering) (valid : KeepsRules r) (is : IsCarried r s f) (below_s : Keeps references s) where
   abbrev below_r : Keeps references r

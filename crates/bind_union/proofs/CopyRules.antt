@@ -1,23 +1,23 @@
 -- What the rules ask of a type, of a function and of an entry of a world holds of its copy.
-use Rattle.std.proofs.Common.{rules as std_rules, ◌≡◌, refl, sym, ap, ◌∙◌, ℕ, Bool, true, false, ◌&&◌, ◌||◌, not, nat_lt, nat_le, List, map, Option, Some, None, option_map, option_to_list, is_some, filter_map, subst, cond, ◌==◌, [], ◌∷◌, ◌++◌, option_and_then, is_none, slice_get}
+use Rattle.std.proofs.Common.{arith, rules as std_rules, ◌≡◌, refl, sym, ap, ◌∙◌, ℕ, Bool, true, false, ◌&&◌, ◌||◌, not, nat_lt, nat_le, List, map, Option, Some, None, option_map, option_to_list, is_some, filter_map, [], ◌∷◌, ◌++◌, is_none, slice_get}
 use Rattle.std.proofs.lemmas.{Bool.or_left, Bool.or_right, Bool.lt-ltb, Bool.and_from as both, List.Folds.list_all-map, List.Folds.list_all-append}
 use Rattle.std.proofs.lemmas.{Option.slice_get_within, Option.slice_get-map, Simd.map-map, List.map-append}
-use Rattle.std.specs.{Prelude.String, Prelude.◌^◌, Prelude.codes, Prelude.if◌then◌else◌, List.list_all, List.flat_map, Option.option_map_or}
+use Rattle.std.specs.{Prelude.String, Prelude.◌^◌, Prelude.codes, List.list_all, List.flat_map, Option.option_map_or}
 use Rattle.std.specs.declared.alloc.Global.{Global}
 use Rattle.semver.specs.declared.Version.{Version}
 use Rattle.semver.specs.{Identifiers.parts_of, Grammar.is_pre_release, Grammar.is_build}
 use Rattle.wit_model.specs.declared.model.{Resolve.Resolve, TypeOwner.TypeOwner, «Type».«Type» as ValueType, TypeDefKind.TypeDefKind, FunctionKind.FunctionKind}
 use Rattle.wit_model.specs.declared.model.{Stability.Stability, TypeDef.TypeDef, Function.Function, Param.Param, WorldKey.WorldKey, WorldItem.WorldItem}
-use Rattle.wit_model.specs.{Text.text_of, Text.optional_text, Text.Text, Text.text_eq, Uses.alias_target, Uses.owner_interface, Uses.item_interface}
+use Rattle.wit_model.specs.{Text.text_of, Text.optional_text, Text.Text, Text.text_eq, Uses.alias_target, Uses.owner_interface}
 use Rattle.wit_model.specs.{Names.is_label, Names.is_version, Names.constructor_name, Names.method_name, Names.static_name, Types.number_of, Checks.references}
 use Rattle.wit_model.specs.{Lookup.type_at, Lookup.interface_at, Lookup.resource_of, Tree.levels}
 use Rattle.wit_model.specs.Parts.{kind_numbers, member_types, handled, met_by, met_of, is_resource, is_resource_type, same_owner, has_owner, used_by_type, function_types, function_numbers, used_by_values, used_by_function}
-use Rattle.wit_model.specs.Rules.{passes, is_stability, are_member_labels, is_named_kind, is_named_number, is_shallow, is_use, in_list, is_id, is_freestanding, function_labels, function_stays, function_in_range, is_resource_itself, resource_name, is_own_of, is_borrow_of, type_is, is_result_of_own, constructs, takes_self, after_prefix, is_member_name, is_member_of, is_member, text_is, key_in_range, item_in_range, key_label, item_labels, is_name_key, is_interface_key, is_own_type, import_stands, export_stands}
+use Rattle.wit_model.specs.Rules.{passes, is_stability, are_member_labels, is_named_kind, is_named_number, is_shallow, is_use, in_list, is_freestanding, function_labels, function_stays, function_in_range, resource_name, is_own_of, is_borrow_of, type_is, is_result_of_own, constructs, takes_self, after_prefix, is_member_name, is_member_of, is_member, text_is, key_in_range, item_in_range, key_label, item_labels, is_name_key, is_interface_key, is_own_type, import_stands, export_stands}
 use Rattle.wit_model.specs.Valid.{Keeps, KeepsRules, labels, owners, shapes, named_kinds, handles, depths, as_world, item_function}
 use Rattle.wit_model.proofs.{Lists.list_all_filter_map, TextLemmas.some_alike as named_alike, PartsLemmas.owner_itself, PartsLemmas.owner_same as owner_equal}
 use Rattle.wit_model.proofs.{ValidLemmas.type_passes}
 use Rattle.bind_union.specs.{Views.renamed_type, Views.kind_view, Images.HasImageKind, Joined.Joined, Joined.none, Joined.met, Joined.added}
-use Rattle.bind_union.specs.Carried.{Renumbering, StabilityView, unknown, stable, unstable, stability_view, owner_under, carries_owner, copies_owner, IsType, IsTypeCopy, IsCarried, call_under, IsFunctionCopy, KeyBecomes, ItemBecomes, EntryBecomes, IsInterface}
+use Rattle.bind_union.specs.Carried.{Renumbering, StabilityView, unknown, stable, unstable, stability_view, owner_under, carries_owner, copies_owner, IsType, IsTypeCopy, IsCarried, call_under, IsFunctionCopy, KeyBecomes, ItemBecomes, EntryBecomes}
 use Rattle.bind_union.proofs.{Lists.no_true, Carrying.kind_carried, Carrying.type_tree_same, Carrying.used_same}
 use Rattle.bind_union.proofs.ViewTests.{types_same, handled_same, alias_same, labels_same, shape_same, named_same, numbers_same, view_ok, ok_by_view, ok_under, own_kept, borrow_kept, numbers_under, number_under, one_given}
 use Rattle.bind_union.proofs.Homes.{alias_of_all, handled_of_all, members_of_all, resource_same_at, resource_type_same, owner_stays, owner_apart, alias_there, all_given}
@@ -31,11 +31,7 @@ use Rattle.wit_model.specs.declared.model.WorldItem.TheVariants as item
 -- ---- texts
 
 pub label_alike : (a b : Option (String Global)) → optional_text a ≡ optional_text b → passes (λ name. is_label (text_of name)) a ≡ passes (λ name. is_label (text_of name)) b
-label_alike a b e = by_text a ∙ (ap (passes is_label) e ∙ sym (by_text b))
-  where
-    by_text : (o : Option (String Global)) → passes (λ name. is_label (text_of name)) o ≡ passes is_label (optional_text o)
-    by_text None = refl
-    by_text (Some x) = refl
+label_alike a b e = search std_rules
 
 abbrev pub are_parts : ℕ × ℕ × ℕ × List ℕ × List ℕ → Bool
 are_parts p = nat_lt p.0 (2 ^ 64) && (nat_lt p.1 (2 ^ 64) && (nat_lt p.2 (2 ^ 64) && (is_pre_release p.3 && is_build p.4)))
@@ -80,11 +76,7 @@ added_pass f own p q one _ _ (met old there olds news c k i rest) h = added_pass
 added_pass f own p q one _ _ (added old new olds news n z rest) h = both _ _ (one old new z (first_true _ _ h)) (added_pass f own p q one olds news rest (second_true (p old) _ h))
 
 pub text_alike : (a b : Option (String Global)) (t : Text) → optional_text a ≡ optional_text b → text_is a t ≡ text_is b t
-text_alike a b t e = by_text a ∙ (ap (λ o. option_map_or (λ x. text_eq x t) o false) e ∙ sym (by_text b))
-  where
-    by_text : (o : Option (String Global)) → text_is o t ≡ option_map_or (λ x. text_eq x t) (optional_text o) false
-    by_text None = refl
-    by_text (Some x) = refl
+text_alike a b t e = search std_rules
 
 module _ (r s : Resolve) (f : Renumbering) (valid : KeepsRules r) (is : IsCarried r s f) (below_s : Keeps references s) where
   -- what is asked of each type of a value
@@ -286,20 +278,7 @@ module _ (r s : Resolve) (f : Renumbering) (valid : KeepsRules r) (is : IsCarrie
 
   -- the name of a resource
   pub resource_named : (o : TypeOwner) (n : ℕ) → f.carries_type n ≡ true → (name : Text) → resource_name r o n ≡ Some name → resource_name s (owner_under f o) (f.types n) ≡ Some name
-  resource_named o n c name h =
-      ap (option_and_then (λ def. if is_resource_itself def.kind && same_owner def.owner (owner_under f o) then optional_text def.name else None)) t.at_image
-      ∙ go (is_resource_itself t.def.kind) (same_owner t.def.owner o) refl refl
-      (sym (ap (option_and_then (λ def. if is_resource_itself def.kind && same_owner def.owner o then optional_text def.name else None)) t.found) ∙ h)
-    where
-      t : IsType r s f n
-      t = is.types n c
-
-      go : (a b : Bool) → is_resource_itself t.def.kind ≡ a → same_owner t.def.owner o ≡ b → cond (a && b) (optional_text t.def.name) None ≡ Some name
-          → cond (is_resource_itself t.image.kind && same_owner t.image.owner (owner_under f o)) (optional_text t.image.name) None ≡ Some name
-      go true true p q h =
-          (λ i. cond (((alias_there r s f valid is below_s n t).2 ∙ p) i && same_owner ((t.home ∙ ap (owner_under f) (owner_equal t.def.owner o q)) i) (owner_under f o)) (t.name i) None)
-          ∙ (ap (λ b. cond b (optional_text t.def.name) None) (owner_itself (owner_under f o)) ∙ h)
-      go _ _ p q h = absurd cc
+  resource_named o n c name h = search (std_rules, alias_there, owner_equal, owner_itself)
 
   module _ (g h : Function) (c : IsFunctionCopy f g h) where
     types_there : function_types h ≡ map (renamed_type f.types) (function_types g)
@@ -465,8 +444,7 @@ module _ (r s : Resolve) (f : Renumbering) (valid : KeepsRules r) (is : IsCarrie
   item_range : (i j : WorldItem) → ItemBecomes f i j → item_in_range s j ≡ true
   item_range (item.Interface a st docs ext) (item.Interface b st2 docs2 ext2) z = ap (in_list s.interfaces.items) z.0 ∙ interface_there a.0 z.1
   item_range (item.Function g) (item.Function h) z = function_range_passes g h z
-  item_range (item.Type_ a) (item.Type_ b) z = let t = is.types a.0 (is.copied_types a.0 z.1) in
-      ap (in_list s.types.items) z.0 ∙ lt-ltb _ _ (slice_get_within s.types.items (f.types a.0) t.image t.at_image)
+  item_range (item.Type_ a) (item.Type_ b) z = grind (arith, lt-ltb, slice_get_within)
   item_range _ _ z = absurd z
 
   pub entry_range : (a b : WorldKey × WorldItem) → EntryBecomes f a b → true ≡ true → (key_in_range s b.0 && item_in_range s b.1) ≡ true
@@ -505,19 +483,7 @@ module _ (r s : Resolve) (f : Renumbering) (valid : KeepsRules r) (is : IsCarrie
 
   -- world items
   interface_key_passes : (m k : ℕ) → k ≡ f.interfaces m → f.carries_interface m ≡ true → (i j : WorldItem) → ItemBecomes f i j → is_interface_key r m i ≡ true → is_interface_key s k j ≡ true
-  interface_key_passes m k e c i j z h = both _ _ (one i j z (first_true _ _ h))
-      (ap (λ x. passes (λ other. is_some other.name) (interface_at s x)) e
-      ∙ (ap (passes (λ other. is_some other.name)) v.at_image ∙ (named_alike v.image.name v.old.name v.name
-      ∙ (sym (ap (passes (λ other. is_some other.name)) v.found) ∙ second_true (is_id m (item_interface i)) _ h))))
-    where
-      v : IsInterface r s f m
-      v = is.interfaces m c
-
-      one : (i j : WorldItem) → ItemBecomes f i j → is_id m (item_interface i) ≡ true → is_id k (item_interface j) ≡ true
-      one (item.Interface a st docs ext) (item.Interface b st2 docs2 ext2) z h =
-          (λ x. z.0 x == e x) ∙ subst (λ (x : ℕ). (f.interfaces a.0 == f.interfaces x) ≡ true) (equal a.0 m h) (same-number (f.interfaces a.0))
-      one (item.Interface a st docs ext) _ z h = absurd z
-      one _ _ z h = no_true h
+  interface_key_passes m k e c i j z h = search (std_rules, both, first_true, named_alike, second_true, equal, same-number, no_true)
 
   own_type_passes : (n : ℕ) (a b : String Global) → text_of b ≡ text_of a → (m k : ℕ) → k ≡ f.types m → f.copies_type m ≡ true → is_own_type r n (key.Name a) m ≡ true
       → is_own_type s (f.worlds n) (key.Name b) k ≡ true

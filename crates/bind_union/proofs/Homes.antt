@@ -1,14 +1,14 @@
 -- What is carried keeps its owner, and a resource stays one.
-use Rattle.std.proofs.Common.{rules as std_rules, ◌&&◌, ◌≡◌, ◌⊎◌, inl, inr, refl, sym, ap, ◌∙◌, ℕ, zero, suc, ◌<◌, arith, Bool, true, false, ◌||◌, nat_lt, ltb-true, Option, Some, None, option_map, option_to_list, filter_map}
+use Rattle.std.proofs.Common.{rules as std_rules, ◌&&◌, ◌≡◌, refl, sym, ap, ◌∙◌, ℕ, zero, suc, ◌<◌, arith, Bool, true, false, ◌||◌, nat_lt, ltb-true, Option, Some, None, option_map, option_to_list, filter_map}
 use Rattle.std.specs.{List.list_all, Option.option_map_or}
 use Rattle.wit_model.specs.declared.model.{Resolve.Resolve, TypeDef.TypeDef, TypeDefKind.TypeDefKind, TypeOwner.TypeOwner, «Type».«Type» as ValueType}
 use Rattle.wit_model.specs.{Types.number_of, Uses.alias_target, Rules.passes, Rules.is_resource_itself, Valid.Keeps, Valid.KeepsRules, Checks.references}
 use Rattle.wit_model.specs.Parts.{kind_numbers, member_types, handled, is_resource, is_resource_type, is_resource_kind, same_owner, has_owner}
 use Rattle.wit_model.proofs.{Checks.below_at, Resources.resource_step, PartsLemmas.owner_itself, PartsLemmas.owner_same as owner_equal}
-use Rattle.bind_union.specs.{Views.renamed_type, Images.HasImageKind}
-use Rattle.bind_union.specs.Carried.{Renumbering, Rises, owner_under, carries_owner, IsNamesake, IsType, IsCarried}
+use Rattle.bind_union.specs.{Views.renamed_type}
+use Rattle.bind_union.specs.Carried.{Renumbering, Rises, owner_under, carries_owner, IsType, IsCarried}
 use Rattle.bind_union.proofs.Lists.{no_true}
-use Rattle.bind_union.proofs.{ViewTests.alias_same, ViewTests.resource_same, ViewTests.number_under, Carrying.references_of, Carrying.kind_carried}
+use Rattle.bind_union.proofs.{ViewTests.number_under, Carrying.references_of}
 use Rattle.base_lemmas.proofs.{Bools.left_of as first_true, Bools.right_of as second_true, Numbers.equal, Numbers.same-number}
 use Rattle.wit_model.specs.declared.model.TypeOwner.TheVariants as owner
 
@@ -39,13 +39,7 @@ alias_of_all p k h = second_true (passes p (handled k)) _ (second_true (list_all
 
 -- a copy has no other's number
 pub apart : (f : ℕ → ℕ) (carries copies : ℕ → Bool) → Rises f carries copies → ((n : ℕ) → copies n ≡ true → carries n ≡ true) → (m n : ℕ) → carries m ≡ true → copies n ≡ true → f m ≡ f n → m ≡ n
-apart f carries copies rise both_ m n c d e = go (copies m) refl (nat_lt m n) (nat_lt n m) refl refl
-  where
-    go : (k : Bool) → copies m ≡ k → (x y : Bool) → nat_lt m n ≡ x → nat_lt n m ≡ y → m ≡ n
-    go false k x y p q = let less = rise m n c d (inr k) in absurd (omega (arith, less, e))
-    go true k true y p q = let less = rise m n c d (inl (ltb-true m n p)) in absurd (omega (arith, less, e))
-    go true k false true p q = let less = rise n m (both_ n d) k (inl (ltb-true n m q)) in absurd (omega (arith, less, e))
-    go true k false false p q = grind (arith, p, q)
+apart f carries copies rise both_ m n c d e = search std_rules
 
 module _ (r s : Resolve) (f : Renumbering) (valid : KeepsRules r) (is : IsCarried r s f) (below_s : Keeps references s) where
   abbrev below_r : Keeps references r
@@ -55,16 +49,7 @@ module _ (r s : Resolve) (f : Renumbering) (valid : KeepsRules r) (is : IsCarrie
 
   pub alias_there : (n : ℕ) (t : IsType r s f n) → (alias_target t.image.kind ≡ option_map f.types (alias_target t.def.kind)) × (passes f.carries_type (alias_target t.def.kind) ≡ true)
       × (is_resource_itself t.image.kind ≡ is_resource_itself t.def.kind)
-  alias_there n t = go t.kind
-    where
-      go : HasImageKind f.types f.carries_type t.def t.image ⊎ IsNamesake f t.def t.image → (alias_target t.image.kind ≡ option_map f.types (alias_target t.def.kind))
-          × (passes f.carries_type (alias_target t.def.kind) ≡ true) × (is_resource_itself t.image.kind ≡ is_resource_itself t.def.kind)
-      go (inl k) = (
-        alias_same f.types t.def.kind t.image.kind k.kinds,
-        alias_of_all f.carries_type t.def.kind (kind_carried r s f valid is below_s t.def t.image k),
-        resource_same f.types t.def.kind t.image.kind k.kinds,
-      )
-      go (inr k) = (k.alias, k.target, k.resource)
+  alias_there n t = search std_rules
 
   -- ---- resources
 
@@ -97,11 +82,7 @@ module _ (r s : Resolve) (f : Renumbering) (valid : KeepsRules r) (is : IsCarrie
   resource_same_at n c = resource_below (suc n) n (omega arith) c
 
   pub resource_type_same : (t : ValueType) → list_all f.carries_type (option_to_list (number_of t)) ≡ true → is_resource_type s (renamed_type f.types t) ≡ is_resource_type r t
-  resource_type_same t h = ap (λ o. option_map_or (is_resource s) o false) (number_under f.types t) ∙ go (number_of t) h
-    where
-      go : (o : Option ℕ) → list_all f.carries_type (option_to_list o) ≡ true → option_map_or (is_resource s) (option_map f.types o) false ≡ option_map_or (is_resource r) o false
-      go None h = refl
-      go (Some n) h = resource_same_at n (first_true _ _ h)
+  resource_type_same t h = search (std_rules, number_under, resource_same_at, first_true)
 
   -- ---- owners
 

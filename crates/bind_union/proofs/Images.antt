@@ -1,11 +1,10 @@
 -- Types under other numbers stand for the same trees.
 use Rattle.std.proofs.Common.{rules as std_rules, ◌≡◌, refl, sym, ap, ◌∙◌, ℕ, zero, suc, ◌<◌, Bool, true, nat_lt, List, [], ◌∷◌, ◌++◌, map, arith, ltb-true, append-nil, Option, Some, None, option_map, unwrap_or}
-use Rattle.std.proofs.lemmas.List.Elements.{filter_map-append}
-use Rattle.std.specs.{Prelude.String, Prelude.option_to_list, List.list_all, List.flat_map, List.filter_map, List.cons_option, Option.option_map_or}
+use Rattle.std.specs.{Prelude.String, Prelude.option_to_list, List.list_all, List.flat_map, List.filter_map, List.cons_option}
 use Rattle.std.specs.declared.alloc.Global.{Global}
 use Rattle.wit_model.specs.declared.model.{Resolve.Resolve, TypeDef.TypeDef, TypeDefKind.TypeDefKind, «Type».«Type» as ValueType, Field.Field, Case.Case}
 use Rattle.wit_model.specs.{Text.Text, Text.text_of, Text.optional_text, Lookup.type_at, Lookup.place_of, Parts.kind_numbers}
-use Rattle.wit_model.specs.Tree.{Tree, Place, named, type_, record_tree, variant_tree, tuple_tree, option_tree, result_tree, list_tree, map_tree, fixed_list_tree, future_tree, stream_tree, own_tree, borrow_tree}
+use Rattle.wit_model.specs.Tree.{Tree, Place, named, type_, option_tree, result_tree, list_tree, map_tree, fixed_list_tree, future_tree, stream_tree, own_tree, borrow_tree}
 use Rattle.wit_model.specs.Types.{no_tree, number_of, tree_at, tree_of, declared_by, tree_of_definition, tree_of_declaration, trees_of, number_tree, declaration_of}
 use Rattle.wit_model.proofs.TreeTable.{trees_at}
 use Rattle.bind_union.specs.Views.{KindView, record_view, variant_view, tuple_view, own_view, borrow_view, option_view, result_view, list_view, map_view, fixed_list_view, future_view, stream_view, alias_view, kind_view, renamed_type, renamed, declared_view, type_numbers, optional_numbers, view_numbers}
@@ -66,12 +65,9 @@ module _ (f : ℕ → ℕ) (us trees : List Tree) where
       let parts = each_split Same (numbers x) (flat_map numbers xs) h in λ i. one x parts.0 i ∷ each_made numbers old new one xs parts.1 i
 
   pub view_same : (v : KindView) → Each Same (view_numbers v) → declared_view us (renamed f v) ≡ declared_view trees v
-  view_same (record_view fields) h = ap (λ xs. type_ (record_tree xs)) (mapped_twice (field_tree us) (renamed_field f) fields
-      ∙ each_made (λ x. type_numbers x.1) (field_tree trees) (λ x. field_tree us (renamed_field f x)) (λ x k. ap {B = Text × Tree} (λ t. (x.0, t)) (type_same x.1 k)) fields h)
-  view_same (variant_view cases) h = ap (λ xs. type_ (variant_tree xs)) (mapped_twice (case_tree us) (renamed_case f) cases
-      ∙ each_made (λ x. optional_numbers x.1) (case_tree trees) (λ x. case_tree us (renamed_case f x)) (λ x k. ap {B = Text × Option Tree} (λ t. (x.0, t)) (option_same x.1 k)) cases h)
-  view_same (tuple_view ts) h = ap (λ xs. type_ (tuple_tree xs)) (mapped_twice (tree_of us) (renamed_type f) ts
-      ∙ each_made type_numbers (tree_of trees) (λ t. tree_of us (renamed_type f t)) type_same ts h)
+  view_same (record_view fields) h = search (std_rules, mapped_twice, each_made, type_same)
+  view_same (variant_view cases) h = search (std_rules, mapped_twice, each_made, option_same)
+  view_same (tuple_view ts) h = search (std_rules, mapped_twice, each_made, type_same)
   view_same (own_view n) h = ap (λ t. type_ (own_tree t)) h.0
   view_same (borrow_view n) h = ap (λ t. type_ (borrow_tree t)) h.0
   view_same (option_view t) h = ap (λ x. type_ (option_tree x)) (type_same t h)
@@ -99,15 +95,7 @@ field_numbers (f ∷ fs) = ap (λ ns. type_numbers f.ty ++ ns) (field_numbers fs
 
 case_numbers : (cs : List Case) → flat_map (λ x. optional_numbers x.1) (map {B = Text × Option ValueType} (λ c. (text_of c.name, c.ty)) cs) ≡ filter_map number_of (filter_map (λ c. c.ty) cs)
 case_numbers [] = refl
-case_numbers (c ∷ cs) = go c.ty (case_numbers cs)
-  where
-    later : List ℕ
-    later = flat_map (λ x. optional_numbers x.1) (map {B = Text × Option ValueType} (λ x. (text_of x.name, x.ty)) cs)
-
-    go : (o : Option ValueType) → later ≡ filter_map number_of (filter_map (λ x. x.ty) cs)
-        → optional_numbers o ++ later ≡ filter_map number_of (cons_option o (filter_map (λ x. x.ty) cs))
-    go None rest = rest
-    go (Some t) rest = ap (λ ns. type_numbers t ++ ns) rest ∙ sym (numbers_cons t (filter_map (λ x. x.ty) cs))
+case_numbers (c ∷ cs) = search (std_rules, numbers_cons, case_numbers cs)
 
 behind : (xs : List ℕ) (ts : List ValueType) → xs ≡ filter_map number_of ts → xs ≡ filter_map number_of ts ++ ([] ++ [])
 behind xs ts e = e ∙ sym (append-nil (filter_map number_of ts))
@@ -128,8 +116,7 @@ numbers_of_view (kind.Handle (handle.Own id)) = refl
 numbers_of_view (kind.Tuple tuple) = behind _ tuple.types.items (flat_numbers tuple.types.items)
 numbers_of_view (kind.Variant variant) = behind _ (filter_map (λ c. c.ty) variant.cases.items) (case_numbers variant.cases.items)
 numbers_of_view (kind.Option t) = behind _ (t ∷ []) (one_number t)
-numbers_of_view (kind.Result result) = behind _ (option_to_list result.ok ++ option_to_list result.err)
-    ((λ i. given_numbers result.ok i ++ given_numbers result.err i) ∙ sym (filter_map-append number_of (option_to_list result.ok) (option_to_list result.err)))
+numbers_of_view (kind.Result result) = search std_rules
 numbers_of_view (kind.List t) = behind _ (t ∷ []) (one_number t)
 numbers_of_view (kind.Map k v) = behind _ (k ∷ v ∷ []) (ap (λ ns. type_numbers k ++ ns) (one_number v) ∙ sym (numbers_cons k (v ∷ [])))
 numbers_of_view (kind.FixedLengthList t n) = behind _ (t ∷ []) (one_number t)
@@ -147,12 +134,7 @@ by_name place (Some name) tree = named place name
 
 tree_by_name : (r : Resolve) (trees : List Tree) (def : TypeDef)
     → tree_of_definition r trees def ≡ by_name (place_of r def.owner) (optional_text def.name) (tree_of_declaration (declared_by trees def.kind))
-tree_by_name r trees def = go def.name
-  where
-    go : (o : Option (String Global)) → option_map_or (λ name. named (place_of r def.owner) (text_of name)) o (tree_of_declaration (declared_by trees def.kind))
-        ≡ by_name (place_of r def.owner) (optional_text o) (tree_of_declaration (declared_by trees def.kind))
-    go None = refl
-    go (Some name) = refl
+tree_by_name r trees def = search std_rules
 
 module _ (r s : Resolve) (f : ℕ → ℕ) (carried : ℕ → Bool) (below_r : RefersBelow r) (below_s : RefersBelow s) (are : AreCarried r s f carried) where
   same_at : (n : ℕ) → Type 0

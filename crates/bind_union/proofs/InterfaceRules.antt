@@ -1,12 +1,12 @@
 -- What an interface uses, and what the rules ask of it, holds of its copy, with its numbers in order.
-use Rattle.std.proofs.Common.{rules as std_rules, ◌≡◌, refl, sym, ap, subst, ◌∙◌, ℕ, Bool, true, false, not, ◌==◌, List, [], map, Option, Some, None, option_map, option_and_then, option_to_list, slice_get, ◌+◌, ◌||◌, cond, ◌∷◌, ◌++◌, inl, ◌&&◌, nat_lt, ltb-true}
+use Rattle.std.proofs.Common.{rules as std_rules, ◌≡◌, refl, sym, ap, subst, ◌∙◌, ℕ, Bool, true, false, not, ◌==◌, List, [], map, Option, Some, None, option_map, option_to_list, slice_get, ◌+◌, ◌||◌, cond, ◌∷◌, ◌++◌, inl, ◌&&◌, nat_lt, ltb-true}
 use Rattle.std.proofs.lemmas.{Option.same_Some as same-some, Bool.or_right, Bool.and_from as both, Bool.lt-ltb, List.Sums.sum_by-cons, List.Folds.list_all-map}
 use Rattle.std.proofs.lemmas.Simd.{map-map}
 use Rattle.std.specs.{List.list_all, List.Contains, List.AllZip, List.list_any, Option.option_map_or, Prelude.count_by, Prelude.String}
 use Rattle.indexmap.specs.IndexMap.{values, keys}
 use Rattle.wit_model.specs.declared.model.{Resolve.Resolve, Interface.Interface, TypeId.TypeId, TypeOwner.TypeOwner, Function.Function}
-use Rattle.wit_model.specs.{Lookup.interface_at, Lookup.type_at, Checks.references, Names.is_label}
-use Rattle.wit_model.specs.Uses.{has, once, alias_target, owner_interface, used_interface, interface_used_by, interfaces_used_by, direct_deps}
+use Rattle.wit_model.specs.{Lookup.interface_at, Checks.references, Names.is_label}
+use Rattle.wit_model.specs.Uses.{has, once, owner_interface, interface_used_by, interfaces_used_by, direct_deps}
 use Rattle.wit_model.specs.Rules.{passes, interface_type_numbers, each_after, is_stability, function_labels, is_named_of, used_by_number, are_in_order, function_stays, is_shallow, is_member}
 use Rattle.wit_model.specs.Valid.{Keeps, KeepsRules, as_interface, functions_of_interface, labels, order_of_types, owners, handles, depths, function_names}
 use Rattle.wit_model.specs.{Text.Text, Text.text_of, Text.text_eq, Parts.function_types, Parts.is_resource_type, Parts.used_by_type}
@@ -14,8 +14,8 @@ use Rattle.wit_model.proofs.{Elements.has-contains, Elements.contains-has, Eleme
 use Rattle.wit_model.proofs.{UsesLemmas.has_filter, UsesLemmas.filter_has, UsesLemmas.all_from_has, TextLemmas.some_alike as named_alike}
 use Rattle.wit_model.proofs.{RulesLemmas.after_of_map, OnePath.interface-passes, PartsLemmas.owner_itself, PartsLemmas.owner_same as owner_equal}
 use Rattle.bind_meaning.proofs.Listed.{from-map}
-use Rattle.bind_union.specs.Carried.{Renumbering, owner_under, carries_owner, IsType, IsInterface, IsCarried, Rises, IsFunctionEntry, IsInterfaceCopy}
-use Rattle.bind_union.proofs.{Lists.no_true, Homes.alias_there, Homes.apart}
+use Rattle.bind_union.specs.Carried.{Renumbering, owner_under, carries_owner, IsInterface, IsCarried, Rises, IsFunctionEntry, IsInterfaceCopy}
+use Rattle.bind_union.proofs.{Lists.no_true, Homes.apart}
 use Rattle.bind_union.proofs.CopyRules.{label_alike, stability_alike, used, used_there, function_labels_pass, function_stays_passes, function_handles_pass, function_depths_pass, member_passes}
 use Rattle.base_lemmas.proofs.Elements.{contains-map, contains-one, filter_map_from, get-contains, all_two, any_of_map as list_any_mapped, zip_map}
 use Rattle.base_lemmas.proofs.{Numbers.equal, Numbers.same-number, Bools.left_of as first_true, Bools.right_of as second_true}
@@ -99,31 +99,7 @@ module _ (r s : Resolve) (f : Renumbering) (valid : KeepsRules r) (is : IsCarrie
   -- the interface that a type is an alias out of
   pub interface_used_there : (n : ℕ) → f.carries_type n ≡ true → (interface_used_by s (f.types n) ≡ option_map f.interfaces (interface_used_by r n))
       × (passes f.carries_interface (interface_used_by r n) ≡ true)
-  interface_used_there n c =
-      let a = alias_there r s f valid is below_s n t in
-      let u = target (alias_target t.def.kind) a.1 in
-      let old : interface_used_by r n ≡ option_and_then (λ m. option_and_then (λ d. owner_interface d.owner) (type_at r m)) (alias_target t.def.kind) =
-      ap (option_and_then (used_interface r)) t.found in (
-        ap (option_and_then (used_interface s)) t.at_image ∙ (ap (option_and_then (λ m. option_and_then (λ d. owner_interface d.owner) (type_at s m))) a.0
-            ∙ (u.0 ∙ sym (ap (option_map f.interfaces) old))),
-        ap (passes f.carries_interface) old ∙ u.1,
-      )
-    where
-      t : IsType r s f n
-      t = is.types n c
-
-      target : (o : Option ℕ) → passes f.carries_type o ≡ true
-          → (option_and_then (λ m. option_and_then (λ d. owner_interface d.owner) (type_at s m)) (option_map f.types o) ≡ option_map f.interfaces
-          (option_and_then (λ m. option_and_then (λ d. owner_interface d.owner) (type_at r m)) o))
-          × (passes f.carries_interface (option_and_then (λ m. option_and_then (λ d. owner_interface d.owner) (type_at r m)) o) ≡ true)
-      target None d = (refl, refl)
-      target (Some m) d =
-          let u = is.types m d in
-          let w = interface_of_owner u.def.owner u.carries_home in
-          let old : option_and_then (λ d. owner_interface d.owner) (type_at r m) ≡ owner_interface u.def.owner = ap (option_and_then (λ d. owner_interface d.owner)) u.found in (
-            ap (option_and_then (λ d. owner_interface d.owner)) u.at_image ∙ (ap owner_interface u.home ∙ (w.0 ∙ sym (ap (option_map f.interfaces) old))),
-            ap (passes f.carries_interface) old ∙ w.1,
-          )
+  interface_used_there n c = search std_rules
 
   -- ---- all that an interface uses
 

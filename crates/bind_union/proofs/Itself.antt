@@ -4,9 +4,9 @@ use Rattle.std.proofs.lemmas.List.Folds.{list_all-map}
 use Rattle.std.specs.{Prelude.String, List.AllZip, List.list_all}
 use Rattle.std.specs.declared.alloc.Global.{Global}
 use Rattle.indexmap.specs.IndexMap.{values}
-use Rattle.wit_model.specs.declared.model.{Resolve.Resolve, Package.Package, World.World, TypeId.TypeId, Param.Param, WorldKey.WorldKey}
+use Rattle.wit_model.specs.declared.model.{Resolve.Resolve, Package.Package, World.World, TypeId.TypeId, WorldKey.WorldKey}
 use Rattle.wit_model.specs.declared.model.{TypeOwner.TypeOwner, Function.Function, FunctionKind.FunctionKind, WorldItem.WorldItem, «Type».«Type» as ValueType}
-use Rattle.wit_model.specs.{Text.Text, Text.text_of, Lookup.package_at, Lookup.world_at, Valid.KeepsRules, Valid.numbers_in_range, Valid.is_place}
+use Rattle.wit_model.specs.{Lookup.package_at, Lookup.world_at, Valid.KeepsRules, Valid.numbers_in_range, Valid.is_place}
 use Rattle.wit_model.specs.Parts.{kind_numbers}
 use Rattle.wit_model.specs.Rules.{passes, in_list, package_number, interface_type_numbers, function_in_range, owner_in_range, key_in_range, item_in_range, entries_in_range}
 use Rattle.wit_model.proofs.{OnePath.found-in, OnePath.interface-passes, ValidLemmas.type_passes, ValidLemmas.world_passes as world-passes}
@@ -71,19 +71,7 @@ module _ (r : Resolve) (valid : KeepsRules r) where
   same_call x = search std_rules
 
   pub function_itself : (g : Function) → function_in_range r g ≡ true → IsFunctionCopy f g g
-  function_itself g range = record {
-    name = refl;
-    kind = same_call g.kind;
-    params = params g.params.items;
-    result = sym (same_option g.result);
-    parts = range;
-    stability = refl;
-    external_id = refl;
-  }
-    where
-      params : (ps : List Param) → map {B = Text × ValueType} (λ p. (text_of p.name, p.ty)) ps ≡ map (λ p. (text_of p.name, renamed_type same p.ty)) ps
-      params [] = refl
-      params (p ∷ ps) = λ i. (text_of p.name, sym (same_type p.ty) i) ∷ params ps i
+  function_itself g range = search (std_rules, same_call, same_option, same_type)
 
   zip_itself : (es : List (String Global × Function)) → list_all (λ (e : String Global × Function). function_in_range r e.1) es ≡ true → AllZip (IsFunctionEntry f) es es
   zip_itself [] h = tt
@@ -114,8 +102,7 @@ module _ (r : Resolve) (valid : KeepsRules r) where
 
   pub world_range : (n : ℕ) (w : World) → world_at r n ≡ Some w → (entries_in_range r w.imports.entries ≡ true) × (entries_in_range r w.exports.entries ≡ true)
   world_range n w e =
-      let two = second_true (passes (in_list r.packages.items) (package_number w.«package»)) _ (world_numbers n w e) in
-      (first_true _ _ two, second_true (entries_in_range r w.imports.entries) _ two)
+      search (std_rules, second_true (passes (in_list r.packages.items) (package_number w.«package»)) _ (world_numbers n w e), world_numbers n w e)
 
   module _ (s : Resolve) (types : BeginsWith r.types.items s.types.items) (interfaces : BeginsWith r.interfaces.items s.interfaces.items) (packages : (n : ℕ) (p : Package) → package_at r n ≡ Some p → (q : Package) × (package_at s n ≡ Some q) × IsSameName p.name q.name) where
     carried_owner : (o : TypeOwner) → owner_in_range r o ≡ true → (carries_owner f o ≡ true) × (copies_owner f o ≡ true)

@@ -8,7 +8,7 @@ use Rattle.indexmap.specs.IndexMap.{values}
 use Rattle.wit_model.specs.declared.model.{Resolve.Resolve, Package.Package, InterfaceId.InterfaceId, WorldId.WorldId, World.World, PackageName.PackageName}
 use Rattle.wit_model.specs.{Text.Text, Text.text_of, Text.text_eq, Lookup.package_at, Lookup.interface_at, Lookup.world_at, Names.is_label, Names.is_version}
 use Rattle.wit_model.specs.Rules.{each_from, passes, in_list, is_id, text_is, package_number, interface_belongs, world_belongs, names_itself, is_world_name, same_package_name}
-use Rattle.wit_model.specs.Valid.{Rule, Keeps, KeepsRules, is_place, numbers_in_range, places, names_in_packages, package_names}
+use Rattle.wit_model.specs.Valid.{Rule, Keeps, KeepsRules, numbers_in_range, places, names_in_packages, package_names}
 use Rattle.wit_model.proofs.{Entries.free_passes, TextLemmas.named_too}
 use Rattle.wit_model.proofs.{OnePath.found-in, OnePath.package-passes, RulesLemmas.each_by_number, RulesLemmas.each_at, RulesLemmas.name_flip}
 use Rattle.bind_union.specs.Carried.{Renumbering, IsSameName}
@@ -33,10 +33,7 @@ is_world_of r n e = option_map_or (λ w. text_eq (text_of w.name) e.0 && is_id n
 module _ (r : Resolve) (valid : KeepsRules r) (n : ℕ) (p : Package) (found : package_at r n ≡ Some p) where
   ranges : (list_all (λ id. in_list r.interfaces.items id.0) (values p.interfaces) && list_all (λ id. in_list r.worlds.items id.0) (values p.worlds)) ≡ true
   unfolding numbers_in_range
-  ranges =
-      let old : (is_place n && (list_all (λ id. in_list r.interfaces.items id.0) (values p.interfaces) && list_all (λ id. in_list r.worlds.items id.0) (values p.worlds))) ≡ true =
-      package-passes numbers_in_range r valid.numbers_in_range n p found in
-      second_true (is_place n) _ old
+  ranges = search (std_rules, package-passes numbers_in_range r valid.numbers_in_range n p found)
 
   abbrev third_place : Bool
   third_place = list_all (λ e. not (is_world_name p (text_of e.0)) || names_itself r e) p.interfaces.entries

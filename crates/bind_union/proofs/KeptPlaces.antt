@@ -42,13 +42,7 @@ some_number x = search std_rules
 
 interface_place : (r : Resolve) (n : ℕ) (i : Interface) → places.interface_ r n i ≡ place_by r n (optional_text i.name) (package_number i.«package»)
 unfolding places
-interface_place r n i = λ j. some_number i.«package» j && by_name i.name j
-  where
-    by_name : (name : Option (String Global))
-        → option_map_or (λ x. listed_by r n (text_of x) (package_number i.«package»)) name (inline_by r n (package_number i.«package»)) ≡ option_map_or
-        (λ t. listed_by r n t (package_number i.«package»)) (optional_text name) (inline_by r n (package_number i.«package»))
-    by_name None = refl
-    by_name (Some x) = refl
+interface_place r n i = search std_rules
 
 -- a named one is kept where it is listed, and an inline one where it is shown once
 place_kept : (r s : Resolve) (m n : ℕ) (name : Option Text) (p q : Option ℕ) → (is_some p ≡ true → is_some q ≡ true)
@@ -323,8 +317,7 @@ module _ (own other merged : Resolve) (bound other_bound : ℕ) (first second : 
   joined_times : (f : Renumbering) (n : ℕ) (oi oe : List (WorldKey × WorldItem)) (j : IsJoined other merged f n oi oe) (t : ℕ)
       → times_shown t j.image ≡ (shown t oi + shown t j.new_imports) + (shown t oe + shown t j.new_exports)
   joined_times f n oi oe j t =
-      times_are t j.image
-      ∙ (λ i. (ap (shown t) j.imports ∙ counted_append item_interface t oi j.new_imports) i + (ap (shown t) j.exports ∙ counted_append item_interface t oe j.new_exports) i)
+      search (std_rules, times_are t j.image, shown t, counted_append item_interface t oi j.new_imports, counted_append item_interface t oe j.new_exports)
 
   abbrev oi : List (WorldKey × WorldItem)
   oi = is.own_bound.imports.entries

@@ -1,6 +1,6 @@
 -- Types under other numbers stand for the same trees. Serves laws::renumbered; crates above.
 pub mod Images
--- Lists and options that are made entry by entry of others. Serves CopyRules, Homes, InterfaceRules, Itself and 11 more; crates above.
+-- Lists and options that are made entry by entry of others. Serves CopyRules, Homes, InterfaceRules, Itself and 10 more; crates above.
 pub mod Lists
 -- What was there is carried into what grows, under its own numbers. Serves BoundMeanings, Kept, KeptPackages, KeptPlaces and 4 more; crates above.
 pub mod Itself

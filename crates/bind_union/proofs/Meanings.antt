@@ -13,7 +13,7 @@ use Rattle.wit_model.proofs.{Lists.list_all_filter_map, Elements.none-in, OnePat
 use Rattle.bind_union.specs.{Views.renamed_type, Meanings.OwnMeansTheSame, Meanings.CopiesMeanTheSame, Meanings.MergedMeans}
 use Rattle.bind_union.specs.Carried.{Renumbering, call_under, IsFunctionCopy, IsFunctionEntry, IsInterfaceCopy, KeyBecomes, ItemBecomes, IsCarried}
 use Rattle.bind_union.specs.Joined.{Joined, none, met, added, IsJoined}
-use Rattle.bind_union.proofs.{Lists.no_true, Carrying.references_of, Carrying.refers_below, Carrying.carried_types, Carrying.type_tree_same, Carrying.path_same}
+use Rattle.bind_union.proofs.{Carrying.references_of, Carrying.refers_below, Carrying.carried_types, Carrying.type_tree_same, Carrying.path_same}
 use Rattle.bind_union.proofs.{Images.same_declarations, Itself.itself, Itself.carried_itself, Kept.Source, Kept.own_source, Kept.own_joined, Kept.below}
 use Rattle.base_lemmas.proofs.{Bools.left_of as first_true, Bools.right_of as second_true, Elements.zip_map, Numbers.unequal}
 use Rattle.wit_model.specs.declared.model.WorldKey.TheVariants as key
@@ -152,9 +152,7 @@ module _ (r s : Resolve) (f : Renumbering) (valid : KeepsRules r) (is : IsCarrie
 -- ---- the whole
 
 pub has_path : (r : Resolve) → IsValid r → (m : ℕ) (i : Interface) → interface_at r m ≡ Some i → is_some i.name ≡ true → interface_path r m ≡ None → ⊥
-has_path r v m i at named_ without =
-    let path = named-path r v m (ap (λ o. option_map_or (λ other. is_some other.name) o false) at ∙ named_) in
-    no_true (sym (ap is_some without) ∙ path)
+has_path r v m i at named_ without = search (std_rules, named-path r v m (ap (λ o. option_map_or (λ other. is_some other.name) o false) at ∙ named_))
 
 pub merged_means : MergedMeans
 merged_means own other merged bound other_bound first second left_out valid_own valid_other is = (ours, copies, copied_worlds)

@@ -260,10 +260,7 @@ module _ (r : Resolve) (v : IsValid r) where
   -- what a type of an interface with a path is another name of belongs to an interface with a path
   pub target_home : (t : ℕ) (def : TypeDef) → type_at r t ≡ Some def → (n : ℕ) → def.owner ≡ as_interface n → is_some (interface_path r n) ≡ true → (u : ℕ) → alias_target def.kind ≡ Some u
       → (x : IsTarget u) → (a : ℕ) × (x.def.owner ≡ as_interface a) × (is_some (interface_path r a) ≡ true)
-  target_home t def e n home path u alias x = elim (target_owner t def e (ap (λ o. same_owner o owner.None) home) u alias x) [
-    | inl same ↦ (n, same ∙ home, path)
-    | inr other ↦ other
-  ]
+  target_home t def e n home path u alias x = search (std_rules, target_owner t def e (ap (λ o. same_owner o owner.None) home) u alias x)
 
 -- ---- maps of equal senses
 

@@ -1,5 +1,5 @@
 -- Names in packages that were joined.
-use Rattle.std.proofs.Common.{rules as std_rules, ◌≡◌, ◌⊎◌, inl, inr, refl, sym, ap, subst, ◌∙◌, ℕ, zero, suc, Bool, true, false, ◌||◌, cond, List, [], ◌∷◌, ◌++◌, arith, Option, Some, None, option_map}
+use Rattle.std.proofs.Common.{rules as std_rules, ◌≡◌, ◌⊎◌, inl, inr, refl, sym, ap, subst, ◌∙◌, ℕ, zero, suc, Bool, true, false, ◌||◌, cond, List, [], ◌∷◌, ◌++◌, arith, Option, Some, option_map}
 use Rattle.std.proofs.lemmas.{Bool.or_left, Bool.or_right, Bool.and_from as both, List.Folds.list_any-append}
 use Rattle.std.specs.{Prelude.bytes_eq, List.list_all, List.list_any, List.Contains, Map.keys_of, HashMap.get_by_text}
 use Rattle.wit_model.proofs.{Elements.none-in, TextLemmas.text_same as text-same}
@@ -71,11 +71,7 @@ found_name name n (e ∷ es) h = go (bytes_eq name e.0) refl h (found_name name 
 
 -- a number that was found stays so
 pub still_found : (name : Text) (n : ℕ) (own more : List (Text × ℕ)) → is_id n (under_text name own) ≡ true → is_id n (under_text name (own ++ more)) ≡ true
-still_found name n own more h = go (under_text name own) refl h
-  where
-    go : (o : Option ℕ) → under_text name own ≡ o → is_id n o ≡ true → is_id n (under_text name (own ++ more)) ≡ true
-    go None e k = no_true k
-    go (Some v) e k = ap (is_id n) (lookup_first (λ t. bytes_eq name t) own more v e) ∙ k
+still_found name n own more h = search (std_rules, under_text, no_true, lookup_first)
 
 no_key : (t : Text) (own : List (Text × ℕ)) → is_name t own ≡ false → list_any (λ k. bytes_eq t k) (keys_of own) ≡ false
 no_key t own h = any_of_map (λ k. bytes_eq t k) (λ (e : Text × ℕ). e.0) own ∙ h

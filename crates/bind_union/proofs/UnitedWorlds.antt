@@ -2,10 +2,10 @@
 use Rattle.std.proofs.Common.{rules as std_rules, ◌≡◌, ◌⊎◌, inl, inr, refl, sym, ap, subst, ◌∙◌, ℕ, arith, Bool, true, false, ◌==◌, [], Option, Some, None, option_map, option_and_then}
 use Rattle.std.proofs.lemmas.Option.{same_Some as same-some}
 use Rattle.std.specs.{Option.option_map_or, List.Contains}
-use Rattle.wit_model.specs.declared.model.{Resolve.Resolve, Package.Package, PackageId.PackageId, World.World}
+use Rattle.wit_model.specs.declared.model.{Resolve.Resolve, Package.Package, World.World}
 use Rattle.wit_model.specs.{Text.Text, Text.text_of, Text.text_eq, Rules.passes, Rules.in_list, Rules.is_id, Rules.package_number, Rules.same_package_name}
 use Rattle.wit_model.specs.{Names.path_in, Meaning.WorldMeaning, Meant.world_meaning, Meant.no_world, Checks.references}
-use Rattle.wit_model.specs.{Lookup.package_at, Lookup.world_at, Lookup.path_of_world, Lookup.path_in_package, Lookup.identity_of, Valid.Keeps, Valid.IsValid}
+use Rattle.wit_model.specs.{Lookup.package_at, Lookup.world_at, Lookup.path_of_world, Lookup.identity_of, Valid.Keeps, Valid.IsValid}
 use Rattle.wit_model.proofs.{NameLaws.one_path, VersionLaws.same_name, Elements.none-in}
 use Rattle.wit_model.proofs.{OnePath.package-name, OnePath.package-once, OnePath.found-in, RulesLemmas.is_id_some as some_id, TextLemmas.text_same as text-same}
 use Rattle.bind_meaning.proofs.WorldPaths.{HasWorldPath, has-world-path, world-label, world-listed}
@@ -19,11 +19,7 @@ use Rattle.base_lemmas.proofs.{Bools.left_of as first_true, Bools.right_of as se
 
 -- the path of a world by its name and its package
 pub world_path : (r : Resolve) (w : World) → path_of_world r w ≡ path_by r (Some (text_of w.name)) (package_number w.«package»)
-world_path r w = go w.«package»
-  where
-    go : (p : Option PackageId) → option_and_then (λ p. path_in_package r p.0 (text_of w.name)) p ≡ option_and_then (λ n. path_in_package r n (text_of w.name)) (package_number p)
-    go None = refl
-    go (Some p) = refl
+world_path r w = search std_rules
 
 -- the numbers under the name of a world with a path
 listed_by_path : (r : Resolve) (v : IsValid r) (n : ℕ) (path : Text) (h : HasWorldPath r n path) → is_id n (under_text (text_of h.def.name) (world_names h.package_)) ≡ true

@@ -1,7 +1,7 @@
 -- What the rules ask of a kind, by its view, and the same under other numbers.
 use Rattle.std.proofs.Common.{rules as std_rules, ◌≡◌, refl, sym, ap, ◌∙◌, ℕ, Bool, true, false, ◌&&◌, List, [], ◌∷◌, ◌++◌, map, filter_map, nat_lt, option_map, Option, Some, None}
 use Rattle.std.proofs.lemmas.{Simd.map-map, List.map-append}
-use Rattle.std.specs.{Prelude.option_to_list, Prelude.nat_le, List.cons_option, Option.option_map_or}
+use Rattle.std.specs.{Prelude.option_to_list, Prelude.nat_le, Option.option_map_or}
 use Rattle.wit_model.specs.declared.model.{Resolve.Resolve, TypeDefKind.TypeDefKind, «Type».«Type» as ValueType}
 use Rattle.wit_model.specs.{Text.Text, Text.text_of, Types.number_of, Uses.alias_target, Parts.kind_numbers, Parts.member_types, Parts.handled}
 use Rattle.wit_model.specs.Rules.{is_id, has_items, is_map_key, has_shape, is_named_kind, is_resource_itself, is_own_kind, is_borrow_kind, is_own_of, type_is, has_own_ok, kind_labels}
@@ -17,11 +17,7 @@ use Rattle.wit_model.specs.declared.model.Handle.TheVariants as handle
 pub filter_both : {A B X Y : Type 0} (h : B → Option Y) (g : A → B) (k : A → Option X) (f : X → Y) → ((a : A) → h (g a) ≡ option_map f (k a)) → (xs : List A)
     → filter_map h (map g xs) ≡ map f (filter_map k xs)
 filter_both h g k f same [] = refl
-filter_both h g k f same (x ∷ xs) = (λ i. cons_option (same x i) (filter_both h g k f same xs i)) ∙ given (k x)
-  where
-    given : (o : Option _) → cons_option (option_map f o) (map f (filter_map k xs)) ≡ map f (cons_option o (filter_map k xs))
-    given None = refl
-    given (Some y) = refl
+filter_both h g k f same (x ∷ xs) = search (std_rules, filter_both h g k f same xs)
 
 pub one_given : {X Y : Type 0} (g : X → Y) (o : Option X) → option_to_list (option_map g o) ≡ map g (option_to_list o)
 one_given g x = search std_rules

@@ -101,10 +101,7 @@ module _ (r : Resolve) (v : IsValid r) (n : ℕ) (w : World) (at : world_at r n 
   -- what a type of the world is another name of is the world's, or that of an interface with a path
   pub target_home : (t : ℕ) (def : TypeDef) → type_at r t ≡ Some def → def.owner ≡ as_world n → (u : ℕ) → alias_target def.kind ≡ Some u → (x : IsTarget r v u) → (x.def.owner ≡ as_world n)
       ⊎ ((a : ℕ) × (x.def.owner ≡ as_interface a) × (is_some (interface_path r a) ≡ true))
-  target_home t def e home u alias x = elim (target_owner r v t def e (ap (λ o. same_owner o owner.None) home) u alias x) [
-    | inl same ↦ inl (same ∙ home)
-    | inr other ↦ inr other
-  ]
+  target_home t def e home u alias x = search (std_rules, target_owner r v t def e (ap (λ o. same_owner o owner.None) home) u alias x)
 
 -- ---- items of one sense
 
@@ -133,11 +130,7 @@ path_so _ = None
 -- what holds of a path and of an inline interface
 by_path : {X : Type 0} (test : Item InterfaceSense → X) (found : Option Text → X) (r : Resolve) (n : ℕ) → ((path : Text) → test (interface path) ≡ found (Some path))
     → test (item_sense (inline (interface_meaning_at r n))) ≡ found None → test (item_sense (interface_item r n)) ≡ found (interface_path r n)
-by_path test found r n some none = go (interface_path r n)
-  where
-    go : (o : Option Text) → test (item_sense (option_map_or interface o (inline (interface_meaning_at r n)))) ≡ found o
-    go None = none
-    go (Some p) = some p
+by_path test found r n some none = search std_rules
 
 pub not_declared : (r : Resolve) (n : ℕ) → is_declared (item_sense (interface_item r n)) ≡ false
 not_declared r n = by_path is_declared (λ o. false) r n (λ p. refl) refl

@@ -1,5 +1,5 @@
 -- What an item of a world uses stands before it where its copy stands, too, and an interface or a type is an item there as often.
-use Rattle.std.proofs.Common.{rules as std_rules, ◌≡◌, refl, sym, ap, subst, ◌∙◌, ℕ, Bool, true, false, ◌||◌, not, ◌==◌, List, [], ◌∷◌, ◌++◌, append-nil, append_assoc, map, filter, Option, Some, None, option_map, option_to_list, filter_map, zero, suc, ◌≤◌, ◌+◌, arith, cond, ltb-true, length, slice_get}
+use Rattle.std.proofs.Common.{rules as std_rules, ◌≡◌, refl, sym, ap, subst, ◌∙◌, ℕ, Bool, true, false, ◌||◌, not, ◌==◌, List, [], ◌∷◌, ◌++◌, append_assoc, map, filter, Option, Some, None, option_map, option_to_list, filter_map, zero, suc, ◌≤◌, ◌+◌, arith, cond, ltb-true, length, slice_get}
 use Rattle.std.proofs.lemmas.{Bool.or_left, Bool.or_right, Bool.and_from as both, Bool.false_from_ne_true, List.Folds.list_all-map, List.Folds.list_any-append}
 use Rattle.std.proofs.lemmas.{List.Elements.filter_map-append, List.Sums.sum_by-cons, List.Sums.sum_by-append, List.map-append, Option.same_Some as same-some}
 use Rattle.std.specs.{List.list_all, List.Contains, List.cons_option, Prelude.count_by, Prelude.sum_by}
@@ -27,11 +27,7 @@ pub numbers_append : (h : WorldItem → Option ℕ) (xs ys : List WorldItem) (m 
 numbers_append h xs ys m = ap (λ ns. has ns m) (filter_map-append h xs ys) ∙ list_any-append (λ n. n == m) (filter_map h xs) (filter_map h ys)
 
 pub numbers_cons : (h : WorldItem → Option ℕ) (x : WorldItem) (xs : List WorldItem) (m : ℕ) → has (filter_map h (x ∷ xs)) m ≡ (is_id m (h x) || has (filter_map h xs) m)
-numbers_cons h x xs m = go (h x)
-  where
-    go : (o : Option ℕ) → has (cons_option o (filter_map h xs)) m ≡ (is_id m o || has (filter_map h xs) m)
-    go None = refl
-    go (Some n) = refl
+numbers_cons h x xs m = search std_rules
 
 numbers_end : (h : WorldItem → Option ℕ) (xs : List WorldItem) (x : WorldItem) (m : ℕ) → has (filter_map h (xs ++ x ∷ [])) m ≡ (has (filter_map h xs) m || is_id m (h x))
 numbers_end h xs x m = numbers_append h xs (x ∷ []) m ∙ ap (λ b. has (filter_map h xs) m || b) (numbers_cons h x [] m ∙ or_false (is_id m (h x)))
@@ -126,14 +122,9 @@ module _ (f : Renumbering) where
       → ((olds news : List WorldItem) (old new : WorldKey × WorldItem) → EntryBecomes f old new → Covers f olds news → t olds old.1 ≡ true → u news new.1 ≡ true)
       → (olds news : List WorldItem) (xs ys : List (WorldKey × WorldItem)) → Joined f own xs ys → Holds own news → Covers f olds news → each_after t olds (items xs) ≡ true
       → (each_after u news (items ys) ≡ true) × Covers f (olds ++ items xs) (news ++ items ys)
-  walk own t u one olds news _ _ none holds covers h = (
-    refl,
-    subst (λ (xs : List WorldItem). Covers f xs (news ++ [])) (sym (append-nil olds))
-        (subst (λ (ys : List WorldItem). Covers f olds ys) (sym (append-nil news)) covers),
-  )
+  walk own t u one olds news _ _ none holds covers h = search std_rules
   walk own t u one olds news _ _ (met old there xs ys c k i rest) holds covers h =
-      let more = walk own t u one (olds ++ old.1 ∷ []) news xs ys rest holds (covers_met olds news own old there c i holds covers) (second_true (t olds old.1) _ h) in
-      (more.0, subst (λ (zs : List WorldItem). Covers f zs (news ++ items ys)) (append_assoc olds (old.1 ∷ []) (items xs)) more.1)
+      search (std_rules, covers_met, second_true, append_assoc, walk own t u one (olds ++ old.1 ∷ []) news xs ys rest holds (covers_met olds news own old there c i holds covers) (second_true (t olds old.1) _ h))
   walk own t u one olds news _ _ (added old new xs ys n z rest) holds covers h =
       let more = walk own t u one (olds ++ old.1 ∷ []) (news ++ new.1 ∷ []) xs ys rest
       (λ h x c m e. numbers_left h news (new.1 ∷ []) m (holds h x c m e)) (covers_added olds news old.1 new.1 z.1 covers)
@@ -293,18 +284,10 @@ range_items : (r : Resolve) (h : WorldItem → Option ℕ) (p : ℕ → Bool) �
 range_items r h p one es e = search (std_rules, by_items, all_weaker, second_true)
 
 pub range_interfaces : (r : Resolve) (es : List (WorldKey × WorldItem)) → entries_in_range r es ≡ true → list_all (in_list r.interfaces.items) (filter_map item_interface (items es)) ≡ true
-range_interfaces r es e = range_items r item_interface (in_list r.interfaces.items) one es e
-  where
-    one : (i : WorldItem) → item_in_range r i ≡ true → list_all (in_list r.interfaces.items) (option_to_list (item_interface i)) ≡ true
-    one (item.Interface b st docs ext) z = both _ _ z refl
-    one _ z = refl
+range_interfaces r es e = search (std_rules, range_items, both)
 
 pub range_types : (r : Resolve) (es : List (WorldKey × WorldItem)) → entries_in_range r es ≡ true → list_all (in_list r.types.items) (filter_map item_type (items es)) ≡ true
-range_types r es e = range_items r item_type (in_list r.types.items) one es e
-  where
-    one : (i : WorldItem) → item_in_range r i ≡ true → list_all (in_list r.types.items) (option_to_list (item_type i)) ≡ true
-    one (item.Type_ b) z = both _ _ z refl
-    one _ z = refl
+range_types r es e = search (std_rules, range_items, both)
 
 -- what is past a list isn't among numbers in range
 pub past_range : {X : Type 0} (xs : List X) (ns : List ℕ) (n : ℕ) → list_all (in_list xs) ns ≡ true → length xs ≤ n → has ns n ≡ false

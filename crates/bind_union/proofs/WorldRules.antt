@@ -2,7 +2,7 @@
 use Rattle.std.proofs.Common.{rules as std_rules, ◌≡◌, refl, sym, ap, ◌∙◌, ℕ, Bool, true, false, ◌&&◌, ◌||◌, not, List, [], ◌∷◌, ◌++◌, append-nil, map, Option, Some, None, option_to_list, filter_map}
 use Rattle.std.proofs.lemmas.{Bool.or_right, Bool.and_from as both, List.Folds.list_all-append, List.Folds.list_all-map, List.Elements.filter_map-append}
 use Rattle.std.proofs.lemmas.List.{map-append}
-use Rattle.std.specs.{Prelude.String, List.list_all, List.cons_option, Option.option_map_or}
+use Rattle.std.specs.{Prelude.String, List.list_all, Option.option_map_or}
 use Rattle.std.specs.declared.alloc.Global.{Global}
 use Rattle.wit_model.specs.declared.model.{Resolve.Resolve, World.World, TypeDef.TypeDef, Function.Function, WorldKey.WorldKey, WorldItem.WorldItem}
 use Rattle.wit_model.specs.{Text.text_of, Names.is_label, Uses.has}
@@ -37,14 +37,7 @@ by_entries p w = search (std_rules, list_all_filter_map, list_all-append, list_a
 pub after_given : (t : List ℕ → ℕ → Bool) (h : WorldItem → Option ℕ) (before xs : List WorldItem)
     → each_after (λ ys x. passes (t (filter_map h ys)) (h x)) before xs ≡ each_after t (filter_map h before) (filter_map h xs)
 after_given t h before [] = refl
-after_given t h before (x ∷ xs) = go (after_given t h (before ++ x ∷ []) xs) (h x) refl
-  where
-    go : each_after (λ ys y. passes (t (filter_map h ys)) (h y)) (before ++ x ∷ []) xs ≡ each_after t (filter_map h (before ++ x ∷ [])) (filter_map h xs) → (o : Option ℕ) → h x ≡ o
-        → (passes (t (filter_map h before)) o && each_after (λ ys y. passes (t (filter_map h ys)) (h y)) (before ++ x ∷ []) xs) ≡ each_after t (filter_map h before) (cons_option o (filter_map h xs))
-    go rest None e = rest ∙ ap (λ ns. each_after t ns (filter_map h xs)) (filter_map-append h before (x ∷ [])
-        ∙ (ap (λ o. filter_map h before ++ cons_option o []) e ∙ append-nil (filter_map h before)))
-    go rest (Some n) e = ap (λ b. t (filter_map h before) n && b) (rest ∙ ap (λ ns. each_after t ns (filter_map h xs))
-        (filter_map-append h before (x ∷ []) ∙ ap (λ o. filter_map h before ++ cons_option o []) e))
+after_given t h before (x ∷ xs) = search (std_rules, filter_map-append, append-nil, after_given t h (before ++ x ∷ []) xs)
 
 -- a type that a world owns stands in its imports
 pub owned_listed : (r : Resolve) → KeepsRules r → (n : ℕ) (w : World) → world_at r n ≡ Some w → (m : ℕ) → has_owner r (as_world n) m ≡ true → has (world_type_numbers w) m ≡ true

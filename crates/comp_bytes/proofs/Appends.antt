@@ -23,11 +23,7 @@ begins_after old text mid new e b = (text ++ b.0, b.1 ∙ ap (λ (l : List ℕ).
 
 pub stopped_after : (part whole : Bool) (form : Spellings) (text old mid new : List ℕ) (e : Error) → Appended form text old mid → Stopped part mid new e → (part ≡ false → whole ≡ false)
     → Stopped whole old new e
-stopped_after part whole form text old mid new e a s falls = record {
-  kept = begins_after old text mid new a.items s.kept;
-  size = λ is. falls (s.size is);
-  refuses = s.refuses;
-}
+stopped_after part whole form text old mid new e a s falls = search (std_rules, begins_after old text mid new a.items s.kept)
 
 -- as an answer
 pub refused : {X : Type 0} (form : Spellings) (text : List ℕ) (fits : Bool) (old new : List ℕ) (e : Error) → Stopped fits old new e → Appends {X = X} form text fits old new (Err e)

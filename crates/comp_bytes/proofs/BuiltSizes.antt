@@ -14,10 +14,7 @@ use Rattle.wit_model.specs.declared.error.Error.TheVariants as errors
 -- a size that is passed on
 pub size_passed : {X Y : Type 0} (r : Result X Error) (e : Error) → IsErrAnd r (λ given. given ≡ e) → r ≡ Err errors.Size → ◌≡◌ {A = Result Y Error} (Err e) (Err errors.Size)
 size_passed (Ok x) e h is = absurd h
-size_passed {X} {Y} (Err given) e h is =
-    let same : e ≡ errors.Size = cc in
-    let wrap : Error → Result Y Error = λ x. Err x in
-    ap wrap same
+size_passed {X} {Y} (Err given) e h is = search std_rules
 
 -- a component that is too long doesn't fit
 too_long : (ps : List Part) → 2 ^ 32 ≤ length (component_bytes (sections_of_parts ps)) → fits_component ps ≡ false

@@ -54,11 +54,7 @@ spells (suc (suc room)) n h =
 
 pub length_within : (room n : ℕ) → length (positive_bytes room n) ≤ room
 length_within zero n = omega arith
-length_within (suc room) n =
-    elim (cases_lt n 64) [
-      | inl lt ↦ rw (lt-ltb n 64 lt) (omega arith)
-      | inr le ↦ rw (le-ltb n 64 le) (omega (arith, length_within room (n / 128)))
-    ]
+length_within (suc room) n = search (std_rules, cases_lt, lt-ltb, le-ltb, length_within room (n / 128))
 
 pub spells_index : (n : ℕ) → n < 2 ^ 32 → IsTypeIndex n (type_index_bytes n)
 unfolding type_index_bytes
@@ -73,9 +69,7 @@ spells_index n lt =
 no_shorter : (room n : ℕ) (bytes : List ℕ) → AllByRecursion (λ b. b < 256) bytes → IsUnsigned n bytes → EndsPositive bytes → length (positive_bytes room n) ≤ length bytes
 no_shorter zero n bytes f s p = omega arith
 no_shorter (suc room) n [] f s p = absurd s
-no_shorter (suc room) n (b ∷ []) f s p =
-    let lt : n < 64 = omega arith in
-    rw (lt-ltb n 64 lt) (omega arith)
+no_shorter (suc room) n (b ∷ []) f s p = search std_rules
 no_shorter (suc room) n (b ∷ c ∷ bs) f s p =
     let low : b < 256 = f.0 in
     let high : s.1.0 ≡ n / 128 = omega arith in

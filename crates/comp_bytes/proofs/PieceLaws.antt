@@ -114,11 +114,7 @@ pieces_out (suc fuel) [] [] e = refl
 pieces_out zero [] (p ∷ ps) e = absurd cc
 pieces_out (suc fuel) [] (p ∷ ps) e = absurd cc
 pieces_out zero (b ∷ bytes) ps e = absurd cc
-pieces_out (suc fuel) (b ∷ bytes) [] e = absurd (
-    let f = bind_some (frame_at (b ∷ bytes)) (λ frame. section_of frame.0.0 frame.0.1 >>= λ first. sections_of fuel frame.1 >>= λ others. Some (first ∷ others)) [] e in
-    let first = bind_some (section_of f.0.0.0 f.0.0.1) (λ s. sections_of fuel f.0.1 >>= λ others. Some (s ∷ others)) [] f.2 in
-    let others = bind_some (sections_of fuel f.0.1) (λ ss. Some (first.0 ∷ ss)) [] first.2 in
-    let wrong = others.2 in cc)
+pieces_out (suc fuel) (b ∷ bytes) [] e = search std_rules
 pieces_out (suc fuel) (b ∷ bytes) (p ∷ ps) e =
     let f = bind_some (frame_at (b ∷ bytes)) (λ frame. section_of frame.0.0 frame.0.1 >>= λ first. sections_of fuel frame.1 >>= λ others. Some (first ∷ others)) (map raw_piece (p ∷ ps)) e in
     let first = bind_some (section_of f.0.0.0 f.0.0.1) (λ s. sections_of fuel f.0.1 >>= λ others. Some (s ∷ others)) (map raw_piece (p ∷ ps)) f.2 in

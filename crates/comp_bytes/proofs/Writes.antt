@@ -48,11 +48,7 @@ spells (suc (suc room)) n h =
 
 pub length_within : (room n : ℕ) → length (unsigned_bytes room n) ≤ room
 length_within zero n = omega arith
-length_within (suc room) n =
-    elim (cases_lt n 128) [
-      | inl lt ↦ rw (lt-ltb n 128 lt) (omega arith)
-      | inr le ↦ rw (le-ltb n 128 le) (omega (arith, length_within room (n / 128)))
-    ]
+length_within (suc room) n = search (std_rules, cases_lt, lt-ltb, le-ltb, length_within room (n / 128))
 
 pub spells_u32 : (n : ℕ) → n < 2 ^ 32 → IsU32 n (u32_bytes n)
 unfolding u32_bytes
@@ -66,9 +62,7 @@ spells_u32 n lt = record {
 pub no_shorter : (room n : ℕ) (bytes : List ℕ) → AllByRecursion (λ b. b < 256) bytes → IsUnsigned n bytes → length (unsigned_bytes room n) ≤ length bytes
 no_shorter zero n bytes f s = omega arith
 no_shorter (suc room) n [] f s = absurd s
-no_shorter (suc room) n (b ∷ []) f s =
-    let lt : n < 128 = omega arith in
-    rw (lt-ltb n 128 lt) (omega arith)
+no_shorter (suc room) n (b ∷ []) f s = search std_rules
 no_shorter (suc room) n (b ∷ c ∷ bs) f s =
     let low : b < 256 = f.0 in
     let high : s.1.0 ≡ n / 128 = omega arith in

@@ -1,5 +1,5 @@
 -- A word is a keyword where it is the text of one.
-use Rattle.std.proofs.Common.{rules as std_rules, ◌≡◌, refl, ap, ℕ, drop, List, [], ◌∷◌, Bool, ◌||◌, Option, Some, None, if◌then◌else◌}
+use Rattle.std.proofs.Common.{rules as std_rules, ◌≡◌, refl, ℕ, drop, List, [], ◌∷◌, Bool, ◌||◌, Option, Some, if◌then◌else◌}
 use Rattle.std.specs.{Prelude.is_some, List.list_any, List.slice_get}
 use Rattle.wit_model.specs.Text.{Text, text_eq}
 use Rattle.print_grammar.specs.Keyword.{Keyword, entry_of}
@@ -13,9 +13,4 @@ is_entry (entry ∷ entries) word = is_some_if _ _ _ _ (is_entry entries word)
 
 -- a text whose first byte is known
 pub first_and_rest : (word : Text) (first : ℕ) → slice_get word 0 ≡ Some first → word ≡ first ∷ drop 1 word
-first_and_rest [] first e = absurd cc
-first_and_rest (b ∷ bs) first e = ap (λ o. or_zero o ∷ bs) e
-  where
-    or_zero : Option ℕ → ℕ
-    or_zero (Some x) = x
-    or_zero None = 0
+first_and_rest y first e = search std_rules

@@ -78,10 +78,7 @@ gates-unique {after = after} {rest = rest} e f g h = gates_before (no_gates_on a
 -- no gate goes on in front of an external id
 no_gates_at_id : {before after : List Token} {x : Option (List ℕ)} → begins_with_at after ≡ false → ReadsExternalId before x after → NoGates before
 no_gates_at_id {after = after} e no_external_id = no_gates_on after e
-no_gates_at_id e (external_id {label = word} l) = (other (codes "deprecated") refl, other (codes "since") refl, other (codes "unstable") refl)
-  where
-    other : (text : List ℕ) → text_eq (codes "external-id") text ≡ false → text_eq word text ≡ false
-    other text f = ap (λ w. text_eq w text) l ∙ f
+no_gates_at_id e (external_id {label = word} l) = search std_rules
 
 external_id-unique : {before after rest : List Token} {a b : Option (List ℕ)} → begins_with_at after ≡ false → begins_with_at rest ≡ false → ReadsExternalId before a after
     → ReadsExternalId before b rest → Same a b after rest

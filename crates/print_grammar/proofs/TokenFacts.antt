@@ -19,8 +19,7 @@ spelled-none front h = ap spelled (sym (append-nil front)) ∙ h []
 longest-none : (front rest : List ℕ) → NoToken front → longest front rest ≡ None
 longest-none front [] h = rw (spelled-none front h) refl
 longest-none front (c ∷ cs) h =
-    let e = longest-none (front ++ c ∷ []) cs (λ more. ap spelled (append_assoc front (c ∷ []) more) ∙ h (c ∷ more)) in
-    rw (e, spelled-none front h) refl
+    search (std_rules, append_assoc, spelled-none, longest-none (front ++ c ∷ []) cs (λ more. ap spelled (append_assoc front (c ∷ []) more) ∙ h (c ∷ more)))
 
 -- No longer token begins with the first text and goes on into the second.
 abbrev pub EndsToken : List ℕ → List ℕ → Type 0
@@ -35,12 +34,8 @@ ends_by front c cs h = longest-none (front ++ c ∷ []) cs h
 pub ends_by_two : (front : List ℕ) (c d : ℕ) (cs : List ℕ) → spelled (front ++ c ∷ []) ≡ None → NoToken ((front ++ c ∷ []) ++ d ∷ []) → EndsToken front (c ∷ d ∷ cs)
 ends_by_two front c d cs s h = rw (longest-none ((front ++ c ∷ []) ++ d ∷ []) cs h, s) refl
 
-longest-stops : (front rest : List ℕ) (t : Token) → spelled front ≡ Some t → EndsToken front rest → longest front rest ≡ Some (record { token = t; rest = rest })
-longest-stops front x t s h = search std_rules
-
 longest-goes : (front text rest : List ℕ) (t : Token) → spelled (front ++ text) ≡ Some t → EndsToken (front ++ text) rest → longest front (text ++ rest) ≡ Some (record { token = t; rest = rest })
-longest-goes front [] rest t s h =
-    longest-stops front rest t (ap spelled (sym (append-nil front)) ∙ s) (subst (λ x. EndsToken x rest) (append-nil front) h)
+longest-goes front [] rest t s h = search std_rules
 longest-goes front (c ∷ cs) rest t s h =
     let e = sym (append_assoc front (c ∷ []) cs) in
     let r = longest-goes (front ++ c ∷ []) cs rest t (subst (λ x. spelled x ≡ Some t) e s) (subst (λ x. EndsToken x rest) e h) in

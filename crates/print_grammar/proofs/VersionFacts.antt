@@ -21,16 +21,12 @@ use Rattle.base_lemmas.proofs.{Bools.left_of, Bools.right_of, Elements.all_weake
 cut-none : (c : ℕ) (xs : List ℕ) → list_all (λ b. not (b == c)) xs ≡ true → cut c xs ≡ None
 unfolding cut
 cut-none c [] h = refl
-cut-none c (x ∷ xs) h =
-    let e : (x == c) ≡ false = not_true _ (left_of _ _ h) in
-    rw (e, cut-none c xs (right_of (not (x == c)) _ h)) refl
+cut-none c (x ∷ xs) h = search (std_rules, not_true, left_of, right_of, cut-none c xs (right_of (not (x == c)) _ h))
 
 cut-at : (c : ℕ) (xs ys : List ℕ) → (c == c) ≡ true → list_all (λ b. not (b == c)) xs ≡ true → cut c (xs ++ c ∷ ys) ≡ Some (xs, ys)
 unfolding cut
 cut-at c [] ys same h = rw same refl
-cut-at c (x ∷ xs) ys same h =
-    let e : (x == c) ≡ false = not_true _ (left_of _ _ h) in
-    rw (e, cut-at c xs ys same (right_of (not (x == c)) _ h)) refl
+cut-at c (x ∷ xs) ys same h = search (std_rules, not_true, left_of, right_of, cut-at c xs ys same (right_of (not (x == c)) _ h))
 
 given_pair : (p q : List ℕ × List ℕ) → ◌≡◌ {A = Option (List ℕ × List ℕ)} (Some p) (Some q) → p ≡ q
 given_pair p q e = ap (λ (o : Option (List ℕ × List ℕ)). unwrap_or o p) e
@@ -281,29 +277,15 @@ moved_in x y = search std_rules
 cut_dot : (c : ℕ) (text : List ℕ) → (46 == c) ≡ false → cut c (text ++ 46 ∷ []) ≡ option_map with_dot (cut c text)
 unfolding cut with_dot
 cut_dot c [] e = rw e refl
-cut_dot c (x ∷ xs) e = elim (cases_Bool (x == c)) [
-  | inl here ↦ rw here refl
-  | inr other ↦ rw other (ap (option_map (λ (p : List ℕ × List ℕ). (x ∷ p.0, p.1))) (cut_dot c xs e) ∙ moved_in x (cut c xs))
-]
+cut_dot c (x ∷ xs) e = search (std_rules, cases_Bool, moved_in, cut_dot c xs e)
 
 number_no_dot : (text : List ℕ) → is_version_number (text ++ 46 ∷ []) ≡ false
 unfolding with_dot
-number_no_dot text = ap (λ o. option_map_or (λ (p : List ℕ × List ℕ). is_version_core p.0 && is_given is_pre_release p.1) o (is_version_core (text ++ 46 ∷ []))) (cut_dot 45 text refl) ∙ go
-    (cut 45 text)
-  where
-    go : (o : Option (List ℕ × List ℕ))
-        → option_map_or (λ (p : List ℕ × List ℕ). is_version_core p.0 && is_given is_pre_release p.1) (option_map with_dot o) (is_version_core (text ++ 46 ∷ [])) ≡ false
-    go None = core_no_dot text
-    go (Some p) = and_false (is_version_core p.0) _ (and_false (nat_lt 0 (length (p.1 ++ 46 ∷ []))) _ (pre_release_no_dot p.1))
+number_no_dot text = search (std_rules, cut_dot, with_dot, core_no_dot, and_false, pre_release_no_dot)
 
 version_no_dot : (text : List ℕ) → is_semantic_version (text ++ 46 ∷ []) ≡ false
 unfolding with_dot
-version_no_dot text = ap (λ o. option_map_or (λ (p : List ℕ × List ℕ). is_version_number p.0 && is_given is_build p.1) o (is_version_number (text ++ 46 ∷ []))) (cut_dot 43 text refl) ∙ go
-    (cut 43 text)
-  where
-    go : (o : Option (List ℕ × List ℕ)) → option_map_or (λ (p : List ℕ × List ℕ). is_version_number p.0 && is_given is_build p.1) (option_map with_dot o) (is_version_number (text ++ 46 ∷ [])) ≡ false
-    go None = number_no_dot text
-    go (Some p) = and_false (is_version_number p.0) _ (and_false (nat_lt 0 (length (p.1 ++ 46 ∷ []))) _ (build_no_dot p.1))
+version_no_dot text = search (std_rules, cut_dot, with_dot, number_no_dot, and_false, build_no_dot)
 
 digit_no_letter : (c : ℕ) → is_ascii_digit c ≡ true → is_ascii_alphabetic c ≡ false
 digit_no_letter c h = grind (arith, nat_tests)
@@ -324,10 +306,7 @@ version_token : (text : List ℕ) → is_numeric text ≡ false → is_semantic_
 version_token text e f = rw (e, f, number_token) refl
 
 dot_no_digit : (front more : List ℕ) → is_numeric (front ++ 46 ∷ more) ≡ false
-dot_no_digit front more = refuted _ (λ e. no (right_of (is_numeric front) _ (sym (list_all-append is_ascii_digit front (46 ∷ more)) ∙ e)))
-  where
-    no : is_numeric (46 ∷ more) ≡ true → ⊥
-    no h = cc
+dot_no_digit front more = search (std_rules, refuted, right_of, list_all-append)
 
 other_ends : (c : ℕ) (cs : List ℕ) (d : ℕ) → is_ascii_digit c ≡ true → is_version_byte d ≡ false → NoToken ((c ∷ cs) ++ d ∷ [])
 other_ends c cs d digit e more =

@@ -1,5 +1,5 @@
 -- Declared types, part by part.
-use Rattle.std.proofs.Common.{◌≡◌, refl, sym, ap, subst, ◌∙◌, Bool, true, false, ◌&&◌, ◌||◌, not, List, [], map, Option, Some, None}
+use Rattle.std.proofs.Common.{rules as std_rules, ◌≡◌, refl, sym, ap, subst, ◌∙◌, Bool, true, false, ◌&&◌, ◌||◌, not, List, [], map, Option, Some, None}
 use Rattle.std.proofs.lemmas.{List.Folds.list_all-map, Bool.lt-ltb, Bool.ltb-true, Option.slice_get_within}
 use Rattle.std.specs.{Prelude.String, Prelude.is_some, Option.option_map_or, List.list_all}
 use Rattle.std.specs.declared.alloc.Global.{Global}
@@ -8,7 +8,7 @@ use Rattle.wit_model.specs.{Lookup.type_at, Parts.handle_target, Uses.alias_targ
 use Rattle.wit_model.specs.{Rules.in_list, Rules.is_named_kind, Rules.is_named_number, Rules.passes, Text.Text, Text.text_of, Valid.IsValid, Valid.named_kinds}
 use Rattle.print_output.specs.OutputCall.{lines_begun_after}
 use Rattle.print_grammar.specs.{Tree.TypeTree, Calls.declared_calls, Calls.type_calls}
-use Rattle.print_grammar.specs.{Tree.TypeTree.PrimitiveType, Tree.TypeTree.Name, Tree.Declared.AliasOf, WellNamed.are_well_some, WellNamed.is_well_type}
+use Rattle.print_grammar.specs.{Tree.TypeTree.Name, Tree.Declared.AliasOf, WellNamed.are_well_some, WellNamed.is_well_type}
 use Rattle.print_items.specs.Shown.{kind_tree, shown_type, type_trees}
 use Rattle.print_items.specs.DeclaredCalls.{alias_calls, is_word}
 use Rattle.print_items.specs.TypeParts.{handles_label, is_labelled, kind_calls}
@@ -26,17 +26,11 @@ block_members well show label xs h = sym (list_all-map well show xs) ∙ right_o
 
 -- a word alone
 pub word_alias : (name : Text) (t : TypeTree) → is_word t ≡ true → alias_calls name kind.TypeName (type_calls t) ≡ declared_calls true (AliasOf name t)
-word_alias name (PrimitiveType p) h = refl
-word_alias name (Name text) h = refl
-word_alias name t h = absurd cc
+word_alias name t h = search std_rules
 
 -- a kind behind other text leaves its line as it is
 pub kind_stays : (r : Resolve) (id : TypeId) → lines_begun_after false (kind_calls r id) ≡ false
-kind_stays r id = go (type_at r id.0)
-  where
-    go : (o : Option TypeDef) → lines_begun_after false (option_map_or (λ d. type_calls (kind_tree r (type_trees r) d.kind)) o []) ≡ false
-    go None = refl
-    go (Some d) = type_stays (kind_tree r (type_trees r) d.kind)
+kind_stays r id = search (std_rules, type_stays)
 
 module _ (r : Resolve) (id : TypeId) (def : TypeDef) (at : type_at r id.0 ≡ Some def) where
   pub in_range_at : in_list r.types.items id.0 ≡ true

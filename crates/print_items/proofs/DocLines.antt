@@ -1,5 +1,5 @@
 -- The lines of a text have no line end in them.
-use Rattle.std.proofs.Common.{◌≡◌, refl, sym, ◌<◌, ◌-◌, ℕ, zero, suc, Bool, true, false, IsTrue, ◌==◌, cond, List, [], ◌∷◌, length, take, get_or, subst, if◌then◌else◌, slice_index, map, ap, ◌∙◌, Bor}
+use Rattle.std.proofs.Common.{rules as std_rules, ◌≡◌, refl, sym, ◌<◌, ◌-◌, ℕ, zero, suc, Bool, true, IsTrue, ◌==◌, cond, List, [], ◌∷◌, length, take, get_or, if◌then◌else◌, slice_index, map, ap, ◌∙◌, Bor}
 use Rattle.std.proofs.lemmas.{List.Sums.AllPass-from_list_all, Simd.map-map, Bool.and_from as both_true}
 use Rattle.std.specs.{List.list_all, List.slice_split, List.onto_first, Str.Lines.lines, Str.Lines.lines_of_parts}
 use Rattle.wit_model.specs.Text.{Text}
@@ -9,13 +9,8 @@ use Rattle.print_items.specs.Drives.{Drives}
 use Rattle.print_items.proofs.Driven.{driven_as}
 use Rattle.base_lemmas.proofs.Bools.{left_of as first_true, right_of as second_true}
 
-onto_first_one_line : (b : ℕ) (parts : List Text) → (b == 10) ≡ false → list_all is_one_line parts ≡ true → list_all is_one_line (onto_first b parts) ≡ true
-onto_first_one_line b [] e h = rw e refl
-onto_first_one_line b (part ∷ parts) e h = rw e h
-
 cut_one_line : (v : Bool) (b : ℕ) (parts : List Text) → (b == 10) ≡ v → list_all is_one_line parts ≡ true → list_all is_one_line (cond v ([] ∷ parts) (onto_first b parts)) ≡ true
-cut_one_line true b parts e h = h
-cut_one_line false b parts e h = onto_first_one_line b parts e h
+cut_one_line x b parts e h = search std_rules
 
 parts_one_line : (text : Text) → list_all is_one_line (slice_split (λ b. b == 10) text) ≡ true
 parts_one_line [] = refl
@@ -27,12 +22,10 @@ take_one_line (suc n) [] h = refl
 take_one_line (suc n) (b ∷ bs) h = both_true _ _ (first_true _ _ h) (take_one_line n bs (second_true _ _ h))
 
 stripped_by : (v : Bool) (n : ℕ) (text : Text) → is_one_line text ≡ true → is_one_line (if v then take n text else text) ≡ true
-stripped_by true n text h = take_one_line n text h
-stripped_by false n text h = h
+stripped_by x n text h = search (std_rules, take_one_line)
 
 last_part : (v : Bool) (part : Text) → is_one_line part ≡ true → list_all is_one_line (if v then [] else part ∷ []) ≡ true
-last_part true part h = refl
-last_part false part h = both_true _ _ h refl
+last_part x part h = search std_rules
 
 lines_one_line : (parts : List Text) → list_all is_one_line parts ≡ true → list_all is_one_line (lines_of_parts parts) ≡ true
 lines_one_line [] h = refl
@@ -42,8 +35,7 @@ lines_one_line (part ∷ next ∷ more) h =
 
 -- a line of a text
 pub line_one_line : (text : Text) (i : ℕ) (line : Text) → i < length (lines text) → line ≡ get_or (lines text) i line → IsTrue (is_one_line line)
-line_one_line text i line within e =
-    subst (λ l. is_one_line l ≡ true) (sym e) (AllPass-from_list_all is_one_line (lines text) (lines_one_line (slice_split (λ b. b == 10) text) (parts_one_line text)) i line within)
+line_one_line text i line within e = search (std_rules, AllPass-from_list_all, lines_one_line, parts_one_line)
 
 -- the lines that were printed are all
 pub lines_driven : {O Kept : Type 0} {view : O → View Kept} {keeps : View Kept → OutputCall → Kept} {a b : Driver O} (printed : List (Bor Text)) (all : List Text)

@@ -1,6 +1,6 @@
 -- Calls of a driver: one call, calls after calls, and what they come to at the end.
-use Rattle.std.proofs.Common.{Result, Ok, Err, OnOk, OnErr, ◌≡◌, ◌<◌, ◌+◌, ℕ, Bool, true, false, List, [], ◌∷◌, ◌++◌, refl, sym, subst, ◌∙◌, ap, inl, take, get_or, length, append-nil, append_assoc}
-use Rattle.std.proofs.lemmas.{Bool.false≢true, Bool.true≢false, Result.on_err_weaker as on_err, Result.on_ok_weaker as on_ok}
+use Rattle.std.proofs.Common.{rules as std_rules, Result, Ok, Err, OnOk, OnErr, ◌≡◌, ◌<◌, ◌+◌, ℕ, Bool, true, false, List, [], ◌∷◌, ◌++◌, refl, sym, subst, ◌∙◌, ap, inl, take, get_or, length, append-nil, append_assoc}
+use Rattle.std.proofs.lemmas.{Bool.true≢false, Result.on_err_weaker as on_err, Result.on_ok_weaker as on_ok}
 use Rattle.std.specs.{Prelude.is_err, List.flat_map}
 use Rattle.print_output.specs.OutputCall.{OutputCall, View, after, lines_begun_after, Counts, Reaches, Moves, Begins, body_calls}
 use Rattle.print_output.specs.OutputCall.{Moves.nothing_moved, Moves.then_moved, Begins.nothing_begun, Begins.begun_in}
@@ -43,14 +43,10 @@ module _ {Kept : Type 0} {keeps : View Kept → OutputCall → Kept} where
 
 module _ {Kept : Type 0} {keeps : View Kept → OutputCall → Kept} where
   runs_moved : {a b : Bool} {u v : View Kept} {calls : List OutputCall} → Runs keeps a u calls b v → a ≡ false → b ≡ false → Moves keeps u calls v
-  runs_moved (all_made m) f n = m
-  runs_moved (one_refused m) f n = absurd (true≢false n)
-  runs_moved (none_made m) f n = absurd (true≢false n)
+  runs_moved x f n = search std_rules
 
   runs_begun : {a b : Bool} {u v : View Kept} {calls : List OutputCall} → Runs keeps a u calls b v → a ≡ false → b ≡ true → Begins keeps u calls v
-  runs_begun (all_made m) f n = absurd (false≢true n)
-  runs_begun (one_refused m) f n = m
-  runs_begun (none_made m) f n = absurd (true≢false f)
+  runs_begun x f n = search std_rules
 
 module _ {O Kept : Type 0} {view : O → View Kept} {keeps : View Kept → OutputCall → Kept} where
   -- some calls and then more
@@ -145,14 +141,10 @@ module _ {Kept : Type 0} {keeps : View Kept → OutputCall → Kept} where
   moves_line {u = u} (then_moved {between = w} {call = call} {calls = calls} h r) = moves_line r ∙ ap (λ b. lines_begun_after b calls) (Counts-line keeps u call w h)
 
   runs_line : {a b : Bool} {u v : View Kept} {calls : List OutputCall} → Runs keeps a u calls b v → b ≡ false → v.line_begun ≡ lines_begun_after u.line_begun calls
-  runs_line (all_made m) n = moves_line m
-  runs_line (one_refused m) n = absurd (true≢false n)
-  runs_line (none_made m) n = absurd (true≢false n)
+  runs_line x n = search (std_rules, moves_line, true≢false)
 
   runs_free : {a b : Bool} {u v : View Kept} {calls : List OutputCall} → Runs keeps a u calls b v → b ≡ false → a ≡ false
-  runs_free (all_made m) n = refl
-  runs_free (one_refused m) n = refl
-  runs_free (none_made m) n = n
+  runs_free x n = search std_rules
 
 module _ {O Kept : Type 0} {view : O → View Kept} {keeps : View Kept → OutputCall → Kept} where
   -- whether a line has just begun after calls of which none was refused

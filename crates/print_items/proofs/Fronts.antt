@@ -1,5 +1,5 @@
 -- What text may stand in front of a line.
-use Rattle.std.proofs.Common.{◌≡◌, ◌&&◌, Bool, true, false, IsTrue, List, ℕ, refl, sym, subst}
+use Rattle.std.proofs.Common.{rules as std_rules, ◌≡◌, ◌&&◌, Bool, IsTrue, List, ℕ, sym, subst}
 use Rattle.print_output.specs.OutputCall.{is_one_line, has_no_space_first, may_begin}
 use Rattle.base_lemmas.proofs.Bools.{right_of as second_true}
 
@@ -9,7 +9,6 @@ front_of begun text other h e = subst (λ t. IsTrue (may_begin begun t)) (sym e)
 
 -- text without a space at its front may stand anywhere
 pub front_anywhere : (b : Bool) (text : List ℕ) → IsTrue (has_no_space_first text) → IsTrue (may_begin b text)
-front_anywhere true text h = h
-front_anywhere false text h = refl
+front_anywhere x text h = search std_rules
 
 pub ruleset fronts = (front_anywhere)

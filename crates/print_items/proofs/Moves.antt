@@ -1,9 +1,8 @@
 -- How calls in turn move a view: one call and then the others, some calls and then some more.
-use Rattle.std.proofs.Common.{◌≡◌, List, [], ◌∷◌, ◌++◌, refl, sym, inl, inr, ◌∙◌, ap, subst, append-nil, append_assoc}
+use Rattle.std.proofs.Common.{rules as std_rules, ◌≡◌, List, [], ◌∷◌, ◌++◌, refl, sym, inl, inr, ◌∙◌, ap, subst, append-nil, append_assoc}
 use Rattle.std.specs.List.{flat_map}
 use Rattle.print_output.specs.OutputCall.{OutputCall, View, after_all, body_calls, line_begun_after, Counts, Moves, Begins}
 use Rattle.print_output.specs.OutputCall.{Moves.nothing_moved, Moves.then_moved, Begins.nothing_begun, Begins.begun_in, Begins.then_begun}
-use Rattle.print_output.specs.OutputCall.OutputCall.{Doc}
 use Rattle.base_lemmas.proofs.Options.{at_err}
 
 module _ {Kept : Type 0} (keeps : View Kept → OutputCall → Kept) where
@@ -25,8 +24,7 @@ module _ {Kept : Type 0} (keeps : View Kept → OutputCall → Kept) where
 
   -- whether a line has just begun is the same, however the call counts
   line_after_body : (call : OutputCall) (u : View Kept) → (after_all keeps u (body_calls call)).line_begun ≡ line_begun_after call u.line_begun
-  line_after_body (Doc (c ∷ cs)) u = refl
-  line_after_body _ u = refl
+  line_after_body x u = search std_rules
 
   pub Counts-line : (u : View Kept) (call : OutputCall) (v : View Kept) → Counts keeps u call v → v.line_begun ≡ line_begun_after call u.line_begun
   Counts-line u call v h = elim h [ inl e ↦ ap (λ x. x.line_begun) e | inr e ↦ ap (λ x. x.line_begun) e ∙ line_after_body call u ]
@@ -67,11 +65,7 @@ module _ {Kept X : Type 0} {keeps : View Kept → OutputCall → Kept} {run : X 
   -- one more run
   pub run_made : {all left : List X} {old now new : View Kept} (x : X) (others : List X) → Underway keeps run all left old now → left ≡ x ∷ others → Moves keeps now (run x) new
       → Underway keeps run all others old new
-  run_made x others u e m = record {
-    made = u.made ++ run x;
-    moved = Moves-append keeps u.moved m;
-    whole = append_assoc u.made (run x) (flat_map run others) ∙ ap (λ xs. u.made ++ flat_map run xs) (sym e) ∙ u.whole;
-  }
+  run_made x others u e m = search (std_rules, Moves-append, append_assoc)
 
   -- a refusal in a run
   pub run_begun : {all left : List X} {old now new : View Kept} (x : X) (others : List X) → Underway keeps run all left old now → left ≡ x ∷ others → Begins keeps now (run x) new

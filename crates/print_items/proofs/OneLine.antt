@@ -1,25 +1,21 @@
 -- Labels and versions have no line end in them, and begin with no space.
-use Rattle.std.proofs.Common.{◌≡◌, refl, sym, ap, subst, ◌∙◌, inl, inr, ℕ, Bool, true, false, IsTrue, ◌&&◌, not, ◌==◌, List, [], ◌∷◌, ◌++◌, T, eqb→eq, if◌then◌else◌, arith, zero, suc, ◌/◌, ◌%◌, Result, Ok, Err}
+use Rattle.std.proofs.Common.{rules as std_rules, ◌≡◌, refl, subst, ℕ, Bool, true, false, IsTrue, ◌&&◌, not, ◌==◌, List, [], ◌∷◌, ◌++◌, if◌then◌else◌, arith, zero, suc, ◌/◌, ◌%◌, Result, Ok, Err}
 use Rattle.std.proofs.lemmas.{Bool.Decides.nat_tests, List.Splits.join_with_byte-slice_split, Bool.and_from as both_true, Bool.or_cases as either_true}
 use Rattle.std.specs.Prelude.{is_ok}
-use Rattle.std.specs.{List.list_all, List.slice_split, List.join_with_byte, Char.is_ascii_alphabetic, Fmt.decimal, Fmt.digits, Fmt.digits_onto, Fmt.digit_glyph}
+use Rattle.std.specs.{List.list_all, List.slice_split, List.join_with_byte, Fmt.decimal, Fmt.digits, Fmt.digits_onto, Fmt.digit_glyph}
 use Rattle.semver.specs.{Identifiers.marked, Identifiers.parts_text, Parse.Parts, Parse.version_parts, Order.parts}
 use Rattle.semver.specs.Grammar.{is_identifier_byte, is_build_identifier, is_pre_identifier, is_pre_release, is_build, IsValid as IsValidVersion}
 use Rattle.semver.specs.declared.error.Error.{Error}
 use Rattle.semver.proofs.Grammar.{version_parts-sound}
 use Rattle.wit_model.specs.Text.{Text}
-use Rattle.wit_model.specs.Names.{is_lower_byte, is_upper_byte, is_fragment, begins_with_letter, is_label, is_version_text}
+use Rattle.wit_model.specs.Names.{is_fragment, begins_with_letter, is_label, is_version_text}
 use Rattle.print_grammar.specs.Keyword.{escaped, is_keyword}
 use Rattle.print_output.specs.OutputCall.{is_one_line, has_no_space_first, may_begin}
 use Rattle.base_lemmas.proofs.Bools.{left_of as first_true, right_of as second_true}
 
 -- what passes a test that n fails is not n
 other_than : (n : ℕ) (p : ℕ → Bool) → p n ≡ false → (b : ℕ) → p b ≡ true → not (b == n) ≡ true
-other_than n p e b h = go (b == n) refl
-  where
-    go : (v : Bool) → (b == n) ≡ v → not v ≡ true
-    go false q = refl
-    go true q = let wrong : true ≡ false = sym h ∙ (ap p (eqb→eq b n (subst T (sym q) tt)) ∙ e) in cc
+other_than n p e b h = search std_rules
 
 one_line_of : (p : ℕ → Bool) → p 10 ≡ false → (xs : Text) → list_all p xs ≡ true → is_one_line xs ≡ true
 one_line_of p e [] h = refl
@@ -32,11 +28,7 @@ one_line_append (b ∷ bs) ys h k = both_true _ _ (first_true _ _ h) (one_line_a
 -- ---- labels
 
 fragment_one_line : (xs : Text) → is_fragment xs ≡ true → is_one_line xs ≡ true
-fragment_one_line xs h =
-    elim (either_true _ _ (second_true _ _ h)) [
-      | inl lower ↦ one_line_of is_lower_byte refl xs lower
-      | inr upper ↦ one_line_of is_upper_byte refl xs upper
-    ]
+fragment_one_line xs h = search (std_rules, either_true, second_true, one_line_of)
 
 joined_one_line : (fs : List Text) → list_all is_fragment fs ≡ true → is_one_line (join_with_byte 45 fs) ≡ true
 joined_one_line [] h = refl
@@ -48,23 +40,19 @@ label_one_line text h =
     subst (λ t. is_one_line t ≡ true) (join_with_byte-slice_split 45 text) (joined_one_line (slice_split (λ b. b == 45) text) (second_true _ _ h))
 
 letter_front : (text : Text) → begins_with_letter text ≡ true → has_no_space_first text ≡ true
-letter_front [] h = refl
-letter_front (b ∷ bs) h = other_than 32 is_ascii_alphabetic refl b h
+letter_front x h = search std_rules
 
 escaped_by : (b : Bool) (text : Text) → is_one_line text ≡ true → is_one_line (if b then 37 ∷ text else text) ≡ true
-escaped_by true text h = h
-escaped_by false text h = h
+escaped_by x text h = search std_rules
 
 front_by : (b : Bool) (text : Text) → has_no_space_first text ≡ true → has_no_space_first (if b then 37 ∷ text else text) ≡ true
-front_by true text h = refl
-front_by false text h = h
+front_by x text h = search std_rules
 
 pub escaped_one_line : (text : Text) → is_label text ≡ true → IsTrue (is_one_line (escaped text))
 escaped_one_line text h = escaped_by (is_keyword text) text (label_one_line text h)
 
 pub escaped_may_begin : (begun : Bool) (text : Text) → is_label text ≡ true → IsTrue (may_begin begun (escaped text))
-escaped_may_begin true text h = front_by (is_keyword text) text (letter_front text (first_true _ _ h))
-escaped_may_begin false text h = refl
+escaped_may_begin x text h = search (std_rules, front_by, letter_front, first_true)
 
 pub ruleset labels = (escaped_one_line, escaped_may_begin)
 
@@ -119,11 +107,7 @@ marked_build (b ∷ bs) h = points_one_line is_build_identifier build_bytes (b �
 
 -- the text of a version, of which `version_parts` reads these parts
 parts_text_one_line : (p : Parts) → IsValidVersion p → is_one_line (parts_text p) ≡ true
-parts_text_one_line p h =
-    one_line_append (decimal p.0) _ (decimal_one_line p.0)
-    (one_line_append (decimal p.1) _ (decimal_one_line p.1)
-    (one_line_append (decimal p.2) _ (decimal_one_line p.2)
-    (one_line_append (marked 45 p.3) (marked 43 p.4) (marked_pre p.3 h.3) (marked_build p.4 h.4))))
+parts_text_one_line p h = search (std_rules, one_line_append, decimal_one_line, marked_pre, marked_build)
 
 version_one_line : (text : Text) → is_version_text text ≡ true → is_one_line text ≡ true
 version_one_line text h = go (version_parts text) refl h
@@ -133,15 +117,12 @@ version_one_line text h = go (version_parts text) refl h
     go (Err e) q k = absurd cc
 
 marked_may_begin : (begun : Bool) (text : Text) → may_begin begun (64 ∷ text) ≡ true
-marked_may_begin true text = refl
-marked_may_begin false text = refl
+marked_may_begin x text = search std_rules
 
 -- a version after `@` may stand anywhere
 pub version_may_stand : (begun : Bool) (version text : Text) → text ≡ 64 ∷ version → is_version_text version ≡ true → IsTrue (is_one_line text && may_begin begun text)
-version_may_stand begun version text e h =
-    subst (λ t. (is_one_line t && may_begin begun t) ≡ true) (sym e) (both_true _ _ (version_one_line version h) (marked_may_begin begun version))
+version_may_stand begun version text e h = search (std_rules, both_true, version_one_line, marked_may_begin)
 
 -- and behind other text without it
 pub plain_version_may_stand : (begun : Bool) (version text : Text) → text ≡ version → begun ≡ false → is_version_text version ≡ true → IsTrue (is_one_line text && may_begin begun text)
-plain_version_may_stand begun version text e b h =
-    subst (λ x. (is_one_line text && may_begin x text) ≡ true) (sym b) (subst (λ t. (is_one_line t && true) ≡ true) (sym e) (both_true _ _ (version_one_line version h) refl))
+plain_version_may_stand begun version text e b h = search (std_rules, both_true, version_one_line)

@@ -1,15 +1,14 @@
 -- What is shown in front of an item of a valid package is well named.
-use Rattle.std.proofs.Common.{◌≡◌, refl, ap, ℕ, suc, ◌<◌, Bool, true, ◌&&◌, List, [], ◌∷◌, length, get_or, Option, Some, None, nat_lt, ◌^◌, arith}
+use Rattle.std.proofs.Common.{rules as std_rules, ◌≡◌, refl, ℕ, suc, ◌<◌, Bool, true, List, [], ◌∷◌, length, get_or, Option, arith}
 use Rattle.std.proofs.lemmas.Str.{scalars-chars, IsUtf8-string_bytes}
-use Rattle.std.specs.{Prelude.String, Prelude.is_ok, Prelude.is_some, List.list_all, Str.chars, Str.Lines.lines}
+use Rattle.std.specs.{Prelude.String, Prelude.is_some, List.list_all, Str.Lines.lines}
 use Rattle.std.specs.declared.alloc.Global.{Global}
 use lib.Utf8.{scalar, scalars}
 use Rattle.wit_model.specs.declared.model.{Docs.Docs, Stability.Stability}
 use Rattle.wit_model.specs.Text.{Text, text_of}
 use Rattle.wit_model.specs.{Names.is_label, Names.is_version, Names.is_version_text, Rules.is_stability, Rules.passes, Lookup.optional_version_text}
 use Rattle.semver.specs.declared.Version.{Version}
-use Rattle.semver.specs.Identifiers.{parts_of, version_text, pre_text, build_text}
-use Rattle.semver.specs.Grammar.{IsValid as IsValidVersion, is_pre_release, is_build}
+use Rattle.semver.specs.Identifiers.{version_text}
 use Rattle.semver.proofs.Grammar.{version_parts-complete}
 use Rattle.std.proofs.lemmas.Bool.{ltb-true, and_from as both}
 use Rattle.print_output.specs.OutputCall.{is_one_line}
@@ -17,39 +16,18 @@ use Rattle.print_items.specs.Shown.{present_name, shown_docs, shown_gates, shown
 use Rattle.print_grammar.specs.WellNamed.{is_well_gates, is_well_prefix}
 use Rattle.print_items.proofs.DocLines.{line_one_line}
 use Rattle.base_lemmas.proofs.Bools.{left_of, right_of}
-use Rattle.wit_model.specs.declared.model.Stability.TheVariants as stability
 
 -- ---- versions
 
 pub version_is_text : (v : Version) → is_version v ≡ true → is_version_text (version_text v) ≡ true
-version_is_text v h = ap is_ok (version_parts-complete (parts_of v) valid)
-  where
-    after_major : (nat_lt v.minor (2 ^ 64) && (nat_lt v.patch (2 ^ 64) && (is_pre_release (pre_text v.pre) && is_build (build_text v.build)))) ≡ true
-    after_major = right_of (nat_lt v.major (2 ^ 64)) _ h
-
-    after_minor : (nat_lt v.patch (2 ^ 64) && (is_pre_release (pre_text v.pre) && is_build (build_text v.build))) ≡ true
-    after_minor = right_of (nat_lt v.minor (2 ^ 64)) _ after_major
-
-    after_patch : (is_pre_release (pre_text v.pre) && is_build (build_text v.build)) ≡ true
-    after_patch = right_of (nat_lt v.patch (2 ^ 64)) _ after_minor
-
-    valid : IsValidVersion (parts_of v)
-    valid = (
-      ltb-true _ _ (left_of _ _ h),
-      ltb-true _ _ (left_of _ _ after_major),
-      ltb-true _ _ (left_of _ _ after_minor),
-      left_of _ _ after_patch,
-      right_of (is_pre_release (pre_text v.pre)) _ after_patch,
-    )
+version_is_text v h = search (std_rules, version_parts-complete, right_of, ltb-true, left_of)
 
 pub optional_version : (v : Option Version) → passes is_version v ≡ true → passes is_version_text (optional_version_text v) ≡ true
-optional_version None h = refl
-optional_version (Some v) h = version_is_text v h
+optional_version x h = search (std_rules, version_is_text)
 
 -- a given name is a label
 pub given_label : (name : Option (String Global)) → is_some name ≡ true → passes (λ s. is_label (text_of s)) name ≡ true → is_label (present_name name) ≡ true
-given_label None given label = absurd cc
-given_label (Some s) given label = label
+given_label x given label = search std_rules
 
 -- ---- what stands in front of an item
 
@@ -62,17 +40,11 @@ lines_well text = all_by_place is_one_line (lines text) (λ i line below e. line
 
 -- Lines of documentation hold no line end.
 pub docs_well : (docs : Docs) → list_all is_one_line (shown_docs docs) ≡ true
-docs_well docs = go docs.contents
-  where
-    go : (contents : Option (String Global)) → list_all is_one_line (shown_docs (record { contents = contents })) ≡ true
-    go None = refl
-    go (Some text) = lines_well (text_of text)
+docs_well docs = search (std_rules, lines_well)
 
 -- Gates that keep the rule on labels are well named.
 pub gates_well : (s : Stability) → is_stability s ≡ true → is_well_gates (shown_gates s) ≡ true
-gates_well stability.Unknown h = refl
-gates_well (stability.Stable since deprecated) h = both _ _ (version_is_text since (left_of _ _ h)) (optional_version deprecated (right_of (is_version since) _ h))
-gates_well (stability.Unstable feature deprecated) h = both (is_label (text_of feature)) _ (left_of _ _ h) (optional_version deprecated (right_of (is_label (text_of feature)) _ h))
+gates_well x h = search (std_rules, both, version_is_text, left_of, optional_version, right_of)
 
 all_scalar : (cs : List ℕ) → scalars cs ≡ true → list_all scalar cs ≡ true
 all_scalar [] h = refl
@@ -80,10 +52,8 @@ all_scalar (c ∷ cs) h = both (scalar c) _ (left_of _ _ h) (all_scalar cs (righ
 
 -- The characters of an external id are characters.
 pub external_id_well : (id : Option (String Global)) → passes (list_all scalar) (shown_external_id id) ≡ true
-external_id_well None = refl
-external_id_well (Some s) = all_scalar (chars (text_of s)) (scalars-chars (text_of s) (IsUtf8-string_bytes s))
+external_id_well x = search (std_rules, all_scalar, scalars-chars, IsUtf8-string_bytes)
 
 -- What stands in front of an item whose stability keeps the rule on labels is well named.
 pub shown_prefix_well : (docs : Docs) (s : Stability) (external_id : Option (String Global)) → is_stability s ≡ true → is_well_prefix (shown_prefix docs s external_id) ≡ true
-shown_prefix_well docs s external_id h =
-    both (list_all is_one_line (shown_docs docs)) _ (docs_well docs) (both (is_well_gates (shown_gates s)) _ (gates_well s h) (external_id_well external_id))
+shown_prefix_well docs s external_id h = search (std_rules, both, docs_well, gates_well, external_id_well)

@@ -1,6 +1,6 @@
 -- What is shown of a type number is well named, if its parts stand before it.
-use Rattle.std.proofs.Common.{◌≡◌, refl, sym, ◌∙◌, subst, ℕ, zero, suc, ◌+◌, ◌<◌, ◌^◌, Bool, true, false, ◌&&◌, ◌||◌, not, nat_lt, nat_le, lit≤, ◌≤◌, List, [], ◌∷◌, ◌++◌, length, length-append, Option, Some, None, slice_get, filter_map, unwrap_or, arith}
-use Rattle.std.proofs.lemmas.{Bool.ltb-true, Bool.lt-ltb, Bool.and_from as both, List.Folds.list_all-append}
+use Rattle.std.proofs.Common.{rules as std_rules, ◌≡◌, refl, sym, ◌∙◌, subst, ℕ, zero, suc, ◌+◌, ◌^◌, Bool, true, false, ◌&&◌, ◌||◌, not, nat_lt, nat_le, List, [], ◌∷◌, ◌++◌, length, length-append, Option, Some, None, slice_get, filter_map, unwrap_or, arith}
+use Rattle.std.proofs.lemmas.{Bool.ltb-true, Bool.and_from as both, List.Folds.list_all-append}
 use Rattle.std.specs.{Prelude.option_map, Prelude.option_to_list, Prelude.is_some, Prelude.String, Option.option_map_or, List.list_all}
 use Rattle.std.specs.declared.alloc.Global.{Global}
 use Rattle.wit_model.specs.declared.model.{Resolve.Resolve, TypeDef.TypeDef, TypeDefKind.TypeDefKind, «Type».«Type» as ValueType}
@@ -14,15 +14,10 @@ use Rattle.print_items.proofs.ShownWell.{given_label}
 use Rattle.base_lemmas.proofs.{Bools.left_of, Bools.right_of, Elements.all_get, Lists.within_there as one_there}
 use Rattle.wit_model.specs.declared.model.TypeDefKind.TheVariants as defined
 use Rattle.wit_model.specs.declared.model.Handle.TheVariants as handle
-use Rattle.wit_model.specs.declared.model.«Type».TheVariants as value
 
 -- a length that fits 32 bits fits 64
 short_length : (n : ℕ) → (nat_le 1 n && nat_lt n 4294967296) ≡ true → nat_lt n (2 ^ 64) ≡ true
-short_length n h =
-    let below : n < 4294967296 = ltb-true n 4294967296 (right_of (nat_le 1 n) (nat_lt n 4294967296) h) in
-    let far : 4294967296 ≤ 2 ^ 64 = lit≤ tt in
-    let less : n < 2 ^ 64 = omega (arith, below, far) in
-    lt-ltb n (2 ^ 64) less
+short_length n h = search std_rules
 
 -- the numbers of types are below this one
 abbrev pub is_below : ℕ → ValueType → Bool
@@ -44,31 +39,24 @@ module _ (trees : List TypeTree) (well : list_all is_well_type trees ≡ true) w
       subst (λ o. is_well_type (unwrap_or o (Name [])) ≡ true) (sym there.1) (all_get is_well_type trees m there.0 well there.1)
 
   pub used_well : (t : ValueType) → is_below (length trees) t ≡ true → is_well_type (used_type trees t) ≡ true
-  used_well (value.Id id) h = number_well id.0 h
-  used_well _ h = refl
+  used_well x h = search (std_rules, number_well)
 
   more_well : (ts : List ValueType) → list_all (is_below (length trees)) ts ≡ true → are_well_more (used_types trees ts) ≡ true
   more_well [] h = refl
   more_well (t ∷ ts) h = both (is_well_type (used_type trees t)) _ (used_well t (left_of _ _ h)) (more_well ts (right_of (is_below (length trees) t) _ h))
 
   some_well : (ts : List ValueType) → has_items ts ≡ true → list_all (is_below (length trees)) ts ≡ true → are_well_types (used_types trees ts) ≡ true
-  some_well [] some h = absurd cc
-  some_well (t ∷ ts) some h = both (is_well_type (used_type trees t)) _ (used_well t (left_of _ _ h)) (more_well ts (right_of (is_below (length trees) t) _ h))
+  some_well x some h = search (std_rules, both, used_well, left_of, more_well, right_of)
 
   future_well : (o : Option ValueType) → list_all (is_below (length trees)) (option_to_list o) ≡ true → is_well_type (future_tree (option_map (used_type trees) o)) ≡ true
-  future_well None h = refl
-  future_well (Some t) h = used_well t (left_of _ _ h)
+  future_well x h = search (std_rules, used_well, left_of)
 
   stream_well : (o : Option ValueType) → list_all (is_below (length trees)) (option_to_list o) ≡ true → is_well_type (stream_tree (option_map (used_type trees) o)) ≡ true
-  stream_well None h = refl
-  stream_well (Some t) h = used_well t (left_of _ _ h)
+  stream_well x h = search (std_rules, used_well, left_of)
 
   result_well : (ok err : Option ValueType) → list_all (is_below (length trees)) (option_to_list ok ++ option_to_list err) ≡ true
       → is_well_type (result_tree (option_map (used_type trees) ok) (option_map (used_type trees) err)) ≡ true
-  result_well None None h = refl
-  result_well (Some t) None h = used_well t (left_of _ _ h)
-  result_well None (Some u) h = used_well u (left_of _ _ h)
-  result_well (Some t) (Some u) h = both (is_well_type (used_type trees t)) _ (used_well t (left_of _ _ h)) (used_well u (left_of _ _ (right_of (is_below (length trees) t) _ h)))
+  result_well x y h = search (std_rules, used_well, left_of, both, right_of)
 
   -- A kind without a name of its own, whose parts stand before it, is shown well.
   pub kind_well : (r : Resolve) (k : TypeDefKind) → list_all (λ m. nat_lt m (length trees)) (kind_numbers k) ≡ true → has_shape k ≡ true → is_named_kind k ≡ false
@@ -79,9 +67,7 @@ module _ (trees : List TypeTree) (well : list_all is_well_type trees ≡ true) w
   kind_well r (defined.Option t) b s n h = used_well t (left_of _ _ (below_of_numbers (length trees) (t ∷ []) [] b))
   kind_well r (defined.Result result) b s n h = result_well result.ok result.err (below_of_numbers (length trees) (option_to_list result.ok ++ option_to_list result.err) [] b)
   kind_well r (defined.List t) b s n h = used_well t (left_of _ _ (below_of_numbers (length trees) (t ∷ []) [] b))
-  kind_well r (defined.Map k v) b s n h =
-      let e = below_of_numbers (length trees) (k ∷ v ∷ []) [] b in
-      both (is_well_type (used_type trees k)) _ (used_well k (left_of _ _ e)) (used_well v (left_of _ _ (right_of (is_below (length trees) k) _ e)))
+  kind_well r (defined.Map k v) b s n h = search (std_rules, below_of_numbers, both, used_well, left_of, right_of)
   kind_well r (defined.FixedLengthList t m) b s n h = both (is_well_type (used_type trees t)) _ (used_well t (left_of _ _ (below_of_numbers (length trees) (t ∷ []) [] b))) (short_length m s)
   kind_well r (defined.Future o) b s n h = future_well o (below_of_numbers (length trees) (option_to_list o) [] b)
   kind_well r (defined.Stream o) b s n h = stream_well o (below_of_numbers (length trees) (option_to_list o) [] b)
@@ -128,9 +114,7 @@ trees_count r trees (def ∷ defs) = omega (arith, trees_count r (trees ++ def_t
 
 module _ (r : Resolve) (valid : IsValid r) where
   pub type_rule : (rule : Rule) → Keeps rule r → (n : ℕ) (def : TypeDef) → type_at r n ≡ Some def → rule.type_ r n def ≡ true
-  type_rule rule h n def e =
-      let number : 0 + n ≡ n = omega arith in
-      subst (λ m. rule.type_ r m def ≡ true) number (each_from_at (rule.type_ r) 0 r.types.items n def (lists_pass rule r h).3 e)
+  type_rule rule h n def e = search (std_rules, each_from_at, lists_pass)
 
   pub label_of : (n : ℕ) (def : TypeDef) → type_at r n ≡ Some def → passes (λ name. is_label (text_of name)) def.name ≡ true
   unfolding labels
@@ -149,13 +133,7 @@ module _ (r : Resolve) (valid : IsValid r) where
   name_well n def e named = given_label def.name named (label_of n def e)
 
   resource_kind : (test : ℕ → Bool) (k : TypeDefKind) → is_resource_kind test k ≡ true → is_named_kind k ≡ true
-  resource_kind test defined.Resource h = refl
-  resource_kind test (defined.Type_ t) h = refl
-  resource_kind test (defined.Record x) h = refl
-  resource_kind test (defined.Flags x) h = refl
-  resource_kind test (defined.Variant x) h = refl
-  resource_kind test (defined.Enum x) h = refl
-  resource_kind test _ h = absurd cc
+  resource_kind test x h = search std_rules
 
   -- A resource's name is a label.
   pub resource_label : (steps n : ℕ) → ends_in_resource r steps n ≡ true → is_label (type_name r (record { 0 = n })) ≡ true

@@ -1,28 +1,12 @@
 -- An output that keeps a text keeps what the calls render to, and one that records its calls keeps them, each as itself or as its body's calls.
-use Rattle.std.proofs.Common.{◌≡◌, ◌∙◌, true, List, [], ◌∷◌, ◌++◌, refl, ap, sym, inl, inr, append_assoc, append-nil}
+use Rattle.std.proofs.Common.{rules as std_rules, ◌≡◌, ◌∙◌, true, List, [], ◌∷◌, ◌++◌, refl, ap, sym, inl, inr, append_assoc, append-nil}
 use Rattle.print_output.specs.OutputCall.{OutputCall, View, after, after_all, body_calls, Counts, Moves}
-use Rattle.print_output.specs.OutputCall.OutputCall.{PushStr, IndentIfNeeded, IndentStart, IndentEnd, Newline, IndentAndPrint, Keyword, Ty, Param, Case, GenericArgsStart, GenericArgsEnd, Doc, Semicolon, Str}
 use Rattle.print_output.specs.{OutputCall.Moves.nothing_moved, OutputCall.Moves.then_moved, Expansion.appends, Expansion.Expands, Expansion.is_whole}
 use Rattle.print_output.specs.Render.{Written, writes}
 
 -- the calls of a body write what the call does
 pub writes-body : (v : View Written) (call : OutputCall) → after_all writes v (body_calls call) ≡ after writes v call
-writes-body v (PushStr text) = refl
-writes-body v IndentIfNeeded = refl
-writes-body v IndentStart = refl
-writes-body v IndentEnd = refl
-writes-body v Newline = refl
-writes-body v (IndentAndPrint text) = simp (append-nil, append_assoc)
-writes-body v (Keyword text) = simp (append-nil, append_assoc)
-writes-body v (Ty text kind) = simp (append-nil, append_assoc)
-writes-body v (Param text) = simp (append-nil, append_assoc)
-writes-body v (Case text) = simp (append-nil, append_assoc)
-writes-body v GenericArgsStart = simp (append-nil, append_assoc)
-writes-body v GenericArgsEnd = simp (append-nil, append_assoc)
-writes-body v (Doc []) = simp (append-nil, append_assoc)
-writes-body v (Doc (c ∷ cs)) = simp (append-nil, append_assoc)
-writes-body v Semicolon = simp (append-nil, append_assoc)
-writes-body v (Str text) = simp (append-nil, append_assoc)
+writes-body v x = search (std_rules, append-nil, append_assoc)
 
 Counts-writes : (u : View Written) (call : OutputCall) (w : View Written) → Counts writes u call w → w ≡ after writes u call
 Counts-writes u call w h = elim h [ inl e ↦ e | inr e ↦ e ∙ writes-body u call ]
@@ -30,8 +14,7 @@ Counts-writes u call w h = elim h [ inl e ↦ e | inr e ↦ e ∙ writes-body u 
 -- the text of an output is what its calls render to
 pub Moves-writes : {u w : View Written} {calls : List OutputCall} → Moves writes u calls w → w ≡ after_all writes u calls
 Moves-writes (nothing_moved e) = e
-Moves-writes (then_moved {old = u} {between = v} {call = call} {calls = calls} h m) =
-    Moves-writes m ∙ ap (λ x. after_all writes x calls) (Counts-writes u call v h)
+Moves-writes (then_moved {old = u} {between = v} {call = call} {calls = calls} h m) = search (std_rules, Counts-writes u call v h, Moves-writes m)
 
 after_all-append : (v : View Written) (xs ys : List OutputCall) → after_all writes v (xs ++ ys) ≡ after_all writes (after_all writes v xs) ys
 after_all-append v [] ys = refl
@@ -54,26 +37,14 @@ Moves-appends (then_moved {old = u} {between = v} {call = call} h m) =
 -- what was recorded renders to what the calls render to
 pub Expands-writes : (v : View Written) (calls ys : List OutputCall) → Expands calls ys → after_all writes v ys ≡ after_all writes v calls
 Expands-writes v [] ys h = ap (λ x. after_all writes v x) h
-Expands-writes v (call ∷ calls) ys h =
-    elim h.1 [
-      | inl e ↦ ap (λ x. after_all writes v x) e ∙ Expands-writes (after writes v call) calls h.0 h.2
-      | inr e ↦ ap (λ x. after_all writes v x) e ∙ after_all-append v (body_calls call) h.0 ∙ ap (λ x. after_all writes x h.0) (writes-body v call) ∙ Expands-writes (after writes v call) calls h.0 h.2
-    ]
+Expands-writes v (call ∷ calls) ys h = search (std_rules, after_all-append, writes-body, Expands-writes (after writes v call) calls h.0 h.2)
 
 whole-rest : (call : OutputCall) (rest : List OutputCall) → is_whole (call ∷ rest) ≡ true → is_whole rest ≡ true
-whole-rest IndentIfNeeded rest h = absurd cc
-whole-rest _ rest h = h
+whole-rest x rest h = search std_rules
 
 -- a body's calls that hold no `indent_if_needed` are the call itself
 body-whole : (call : OutputCall) (rest : List OutputCall) → is_whole (body_calls call ++ rest) ≡ true → body_calls call ++ rest ≡ call ∷ rest
-body-whole (PushStr text) rest h = refl
-body-whole IndentIfNeeded rest h = refl
-body-whole IndentStart rest h = refl
-body-whole IndentEnd rest h = refl
-body-whole Newline rest h = refl
-body-whole (Doc []) rest h = absurd cc
-body-whole (Doc (c ∷ cs)) rest h = absurd cc
-body-whole _ rest h = absurd cc
+body-whole x rest h = search std_rules
 
 -- where no `indent_if_needed` was recorded, each call counted as itself
 pub Expands-whole : (calls ys : List OutputCall) → Expands calls ys → is_whole ys ≡ true → ys ≡ calls

@@ -1,10 +1,10 @@
 -- What the kinds of two `Resolve`s' types declare.
-use Rattle.std.proofs.Common.{rules as std_rules, arith, ◌≡◌, ◌↔◌, refl, sym, ap, subst, ◌∙◌, ◌⊎◌, inl, inr, ℕ, Bool, true, false, List, [], ◌∷◌, map, length, Some, None, is_some, unwrap_or, IsTrue, Vec, Result, Ok, Err, IfOk}
+use Rattle.std.proofs.Common.{rules as std_rules, ◌≡◌, ◌↔◌, refl, sym, ap, subst, ◌∙◌, ◌⊎◌, inl, inr, ℕ, Bool, true, false, List, [], ◌∷◌, map, length, Some, None, is_some, unwrap_or, IsTrue, Vec, Result, Ok, Err, IfOk}
 use Rattle.std.proofs.{Math.ListN.length-map, lemmas.Option.slice_get_within as below_length}
 use Rattle.std.specs.declared.alloc.{Global.Global, AllocError.AllocError}
 use Rattle.std.specs.List.{Contains}
 use Rattle.wit_model.specs.declared.model.{Resolve.Resolve, TypeDef.TypeDef, TypeId.TypeId, TypeDefKind.TypeDefKind, «Type».«Type» as ValueType}
-use Rattle.wit_model.specs.{Lookup.type_at, Parts.kind_numbers, Text.optional_text, Valid.IsValid, Valid.named_kinds}
+use Rattle.wit_model.specs.{Lookup.type_at, Text.optional_text, Valid.IsValid, Valid.named_kinds}
 use Rattle.wit_model.specs.{Meant.type_meaning_at, Rules.is_named_number, Rules.passes, Rules.is_resource_itself}
 use Rattle.wit_model.specs.Tree.{Tree, Form, Declaration, type_, resource, primitive, named, node, children, child_list}
 use Rattle.wit_model.specs.Types.{number_of, type_tree, tree_of, trees_of, no_tree, declared_by, tree_of_declaration}
@@ -12,7 +12,7 @@ use Rattle.wit_model.proofs.{Entries.each_from_at, Entries.lists_pass, TreeTable
 use Rattle.wit_compat.specs.declared.look.Look.{Look}
 use Rattle.wit_compat.specs.{Opened.form_of, Opened.places_of, TwoSides.aliased, TwoSides.IsKindOf, TwoSides.SameDeclared, TwoSides.TellsDeclared}
 use Rattle.wit_compat.specs.Table.{AllInRange, InRange}
-use Rattle.wit_compat.proofs.{Alike.below_number, Alike.is_below, Alike.node_children, Alike.node_form, OpenedTable.opened_built}
+use Rattle.wit_compat.proofs.{Alike.is_below, Alike.node_children, Alike.node_form, OpenedTable.opened_built}
 use Rattle.wit_compat.proofs.Sided.{named_is, never, number_case, places_in_range}
 use Rattle.base_lemmas.proofs.{Bools.right_of as second_true, Elements.last_of as one-contained, Lists.within_there as found_at}
 use Rattle.wit_model.specs.declared.model.TypeDefKind.TheVariants as kind
@@ -63,11 +63,7 @@ formed _ e h = (_, refl, λ trees. refl)
 module _ (r : Resolve) (v : IsValid r) where
   target_range : (k : TypeDefKind) → IsKindOf r k → (t : ValueType) → aliased k ≡ Some t → InRange r t
   target_range k (n, def, at, is) t e id same =
-      let low : is_below n t ≡ true = ap (λ x. Rattle.std.specs.List.list_all (λ m. Rattle.std.proofs.Common.nat_lt m n) (kind_numbers x)) (sym (is ∙ alias_kind k t e)) ∙ kept_numbers r
-      v.rules n def at in
-      let less = below_number n t low id same in
-      let there = below_length r.types.items n def at in
-      omega (arith, less, there)
+      search (std_rules, is_below n t, alias_kind k t e, kept_numbers r v.rules n def at, below_length r.types.items n def at)
 
   number_named : (n : ℕ) (def : TypeDef) → type_at r n ≡ Some def → (t : ValueType) → def.kind ≡ kind.Type_ t → passes (is_named_number r) (number_of t) ≡ true
   unfolding named_kinds

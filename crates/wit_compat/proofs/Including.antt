@@ -6,7 +6,7 @@ use Rattle.std.specs.List.{Contains}
 use Rattle.wit_model.specs.declared.{model.Resolve.Resolve, error.Error.Error}
 use Rattle.wit_compat.specs.declared.part.Entry.{Entry}
 use Rattle.wit_compat.specs.Compatible.{IsFault, is_missing, is_other, missing, differs, spelled_name, IsMemoryOr, IsEntryFault, IsFaultOf, IsIncluded}
-use Rattle.wit_compat.specs.Flat.{Name, Thing, Shown, all_shown, find_named, same_name, shown}
+use Rattle.wit_compat.specs.Flat.{Name, Thing, Shown, all_shown, find_named, shown}
 use Rattle.wit_compat.specs.{Parts.named_thing, Parts.thing_of, Walk.Pair, Walk.pairs_of_entry, Walk.pairs_shared, Walk.Reached, Walk.root}
 use Rattle.wit_compat.specs.Table.{AreAmong, AreReached}
 use Rattle.wit_compat.proofs.Settling.{reached_through}
@@ -19,8 +19,7 @@ chosen f x y o = search std_rules
 
 pub found_shown : (r : Resolve) (name : Name) (xs : List (Name × Thing)) → find_named name (all_shown r xs) ≡ option_map (shown r) (find_named name xs)
 found_shown r name [] = refl
-found_shown r name (x ∷ xs) =
-    ap (cond (same_name name x.0) (Some (shown r x.1))) (found_shown r name xs) ∙ sym (chosen (shown r) (same_name name x.0) x.1 (find_named name xs))
+found_shown r name (x ∷ xs) = search (std_rules, chosen, found_shown r name xs)
 
 -- ---- what is wrong with an entry
 
@@ -51,9 +50,7 @@ AllStand r back large keys es = (e : Entry) → Contains es e → Stands r back 
 
 module _ (r : Resolve) (back : Bool) (large : List (Name × Thing)) where
   pub all_included : (keys : List Pair) (es : List Entry) → AllStand r back large keys es → IsIncluded (all_shown r (map named_thing es)) (all_shown r large)
-  all_included keys es h x c =
-      let w = contains_map (shown_entry r) es x (subst (λ xs. Contains xs x) (shown_all r es) c) in
-      subst (λ (y : Name × Shown). find_named y.0 (all_shown r large) ≡ Some y.1) w.2 (h w.0 w.1).0
+  all_included keys es h x c = search (std_rules, contains_map (shown_entry r) es x (subst (λ xs. Contains xs x) (shown_all r es) c), shown_all r es)
 
   pub all_hold : (keys : List Pair) (es : List Entry) → AllStand r back large keys es → AreAmong (pairs_shared r back (map named_thing es) large) keys
   all_hold keys [] h p c = absurd (let z = c.1 in omega (arith, z))
@@ -66,11 +63,7 @@ module _ (r : Resolve) (back : Bool) (large : List (Name × Thing)) where
       by (inr d) later = later d
 
   pub stand_more : (old new : List Pair) (es : List Entry) (e : Entry) → AllStand r back large old es → AreAmong old new → Stands r back large new e → AllStand r back large new (es ++ e ∷ [])
-  stand_more old new es e h kept s x c = by (Contains-push_cases es e x c)
-    where
-      by : Contains es x ⊎ (e ≡ x) → Stands r back large new x
-      by (inl d) = let w = h x d in (w.0, λ p q. kept p (w.1 p q))
-      by (inr q) = subst (Stands r back large new) q s
+  stand_more old new es e h kept s x c = search (std_rules, Contains-push_cases es e x c)
 
   pub entry_among : (es : List Entry) (e : Entry) → Contains es e → AreAmong (pairs_of_entry r back large (named_thing e)) (pairs_shared r back (map named_thing es) large)
   entry_among [] e c = absurd (let z = c.1 in omega (arith, z))
@@ -96,19 +89,8 @@ module _ (r : Resolve) (back : Bool) (large : List (Name × Thing)) where
   -- an entry that doesn't stand, after those that do
   pub first_fault : (keys : List Pair) (front rest : List Entry) (e : Entry) (x : Error) → AllStand r back large keys front → IsEntryFault (all_shown r large) (shown_entry r e) x
       → IsFaultOf (all_shown r (map named_thing (front ++ e ∷ rest))) (all_shown r large) x
-  first_fault keys front rest e x h (inl m) = inl m
-  first_fault keys front rest e x h (inr (f, q, w)) = inr (
-    f,
-    q,
-    record {
-      front = all_shown r (map named_thing front);
-      entry = shown_entry r e;
-      rest = all_shown r (map named_thing rest);
-      split = shown_all r (front ++ e ∷ rest) ∙ map-append (shown_entry r) front (e ∷ rest) ∙ (λ i. sym (shown_all r front) i ++ shown_entry r e ∷ sym (shown_all r rest) i);
-      before = all_included keys front h;
-      wrong = w;
-    },
-  )
+  first_fault keys front rest e x h y =
+      search (std_rules, shown_all r (front ++ e ∷ rest), map-append (shown_entry r) front (e ∷ rest), shown_all r front, shown_all r rest, all_included keys front h)
 
 pub split_at : {X : Type 0} (xs : List X) (i : ℕ) (x : X) → i < length xs → x ≡ get_or xs i x → xs ≡ take i xs ++ x ∷ drop (i + 1) xs
 split_at xs i x lt is = sym (take-append-drop i xs) ∙ ap (λ ys. take i xs ++ ys) (drop_more xs i x lt ∙ ap (λ y. y ∷ drop (i + 1) xs) (sym is))

@@ -50,12 +50,7 @@ same_name_is a b h = search std_rules
 
 -- a name that is there already stays as it is
 stays : {X : Type 0} (q : Name) (es : List (Name × X)) (n : Name) (y x : X) → find_named n es ≡ Some y → or_last (find_named q es) (same_name q n) x ≡ find_named q es
-stays q es n y x h = by (find_named q es) refl (same_name q n) refl
-  where
-    by : (o : Option _) → find_named q es ≡ o → (b : Bool) → same_name q n ≡ b → or_last o b x ≡ o
-    by (Some z) e b s = refl
-    by None e false s = refl
-    by None e true s = let k : q ≡ n = same_name_is q n s in let z : None ≡ Some y = sym e ∙ ap (λ m. find_named m es) k ∙ h in absurd (let w : ⊥ = cc in w)
+stays q es n y x h = search std_rules
 
 module _ (es : List Entry) (i : ℕ) (e : Entry) (old : List (NumberedName × Entry)) (lt : i < length es) (is : e ≡ get_or es i e) (h : Indexes old (map named_thing (take i es))) where
   more : map named_thing (take (i + 1) es) ≡ map named_thing (take i es) ++ named_thing e ∷ []

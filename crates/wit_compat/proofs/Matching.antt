@@ -3,7 +3,7 @@ use Rattle.std.proofs.Common.{rules as std_rules, ◌≡◌, refl, sym, ap, subs
 use Rattle.std.specs.{List.Contains, Option.option_map_or}
 use Rattle.wit_model.specs.declared.{model.Resolve.Resolve, error.Error.Error}
 use Rattle.wit_compat.specs.declared.part.Entry.{Entry}
-use Rattle.wit_compat.specs.Compatible.{IsFault, IsFaultOf, IsIncluded}
+use Rattle.wit_compat.specs.Compatible.{IsFaultOf, IsIncluded}
 use Rattle.wit_compat.specs.Flat.{Name, Thing, Shown, all_shown, find_named, shown}
 use Rattle.wit_compat.specs.{Parts.named_thing, Parts.EntriesInRange, Parts.FoundInRange, Parts.ThingInRange, Walk.pairs_between, Walk.pairs_shared}
 use Rattle.wit_compat.proofs.{Including.found_shown, Transitive.found_stands}
@@ -22,18 +22,7 @@ module _ (r : Resolve) (xs ys : List (Name × Thing)) (h : AreAlike xs ys) where
 
   pub fault_alike : (small : List (Name × Shown)) (e : Error) → IsFaultOf small (all_shown r xs) e → IsFaultOf small (all_shown r ys) e
   fault_alike small e (inl m) = inl m
-  fault_alike small e (inr (f, q, w)) = inr (
-    f,
-    q,
-    record {
-      front = w.front;
-      entry = w.entry;
-      rest = w.rest;
-      split = w.split;
-      before = included_alike w.front w.before;
-      wrong = subst (λ o. IsFault w.entry.0 w.entry.1 o f) (shown_alike w.entry.0) w.wrong;
-    },
-  )
+  fault_alike small e (inr (f, q, w)) = search (std_rules, included_alike w.front w.before, shown_alike w.entry.0)
 
   pub pairs_alike : (back : Bool) (small : List (Name × Thing)) → pairs_shared r back small xs ≡ pairs_shared r back small ys
   pairs_alike back [] = refl

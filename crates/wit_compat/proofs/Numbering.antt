@@ -42,18 +42,10 @@ inserted ks k = cond (list_any (is_text k.now) ks) ks (ks ++ k ∷ [])
 
 -- the number of a text that is inserted
 pub number_inserted : (ks : BorrowedTexts) (k : Bor (List ℕ)) → number_in (inserted ks k) k.now ≡ Some (position_or_len (is_text k.now) ks)
-number_inserted ks k = by (list_any (is_text k.now) ks) refl
-  where
-    by : (b : Bool) → list_any (is_text k.now) ks ≡ b → number_in (inserted ks k) k.now ≡ Some (position_or_len (is_text k.now) ks)
-    by true e = ap (λ b. number_in (cond b ks (ks ++ k ∷ [])) k.now) e ∙ placed k.now ks e
-    by false e = ap (λ b. number_in (cond b ks (ks ++ k ∷ [])) k.now) e ∙ placed_last k.now k ks e (same_text k.now k.now refl)
+number_inserted ks k = search (std_rules, placed, placed_last, same_text)
 
 pub numbers_kept : (ks : BorrowedTexts) (k : Bor (List ℕ)) → KeepsNumbers ks (inserted ks k)
-numbers_kept ks k t n h = by (list_any (is_text k.now) ks) refl
-  where
-    by : (b : Bool) → list_any (is_text k.now) ks ≡ b → number_in (inserted ks k) t ≡ Some n
-    by true e = ap (λ b. number_in (cond b ks (ks ++ k ∷ [])) t) e ∙ h
-    by false e = ap (λ b. number_in (cond b ks (ks ++ k ∷ [])) t) e ∙ number-append ks (k ∷ []) t n h
+numbers_kept ks k t n h = search (std_rules, number-append)
 
 -- the numbers of texts stay
 numbers_stay : (ks js : BorrowedTexts) (ts : List Text) (ns : List ℕ) → KeepsNumbers ks js → map (number_in ks) ts ≡ map Some ns → map (number_in js) ts ≡ map Some ns
@@ -89,12 +81,7 @@ one_text (k ∷ ks) t u n h g = by (text_eq t k.now) refl (text_eq u k.now) refl
         later w.0 w.1 (v.1 ∙ ap Some same)
 
 pub numbers_tell : (ks : BorrowedTexts) (t u : Text) (n m : ℕ) → number_in ks t ≡ Some n → number_in ks u ≡ Some m → (n == m) ≡ text_eq t u
-numbers_tell ks t u n m h g = by (text_eq t u) refl (n == m) refl
-  where
-    by : (a : Bool) → text_eq t u ≡ a → (b : Bool) → (n == m) ≡ b → (n == m) ≡ text_eq t u
-    by true e b f = eq-eqb n m (some_same n m (sym h ∙ ap (number_in ks) (text_same t u e) ∙ g)) ∙ sym e
-    by false e false f = f ∙ sym e
-    by false e true f = absurd (true≢false (sym (same_text t u (one_text ks t u n h (g ∙ ap Some (sym (eqb-true n m f))))) ∙ e))
+numbers_tell ks t u n m h g = search (std_rules, eq-eqb, some_same, text_same, same_text, one_text, eqb-true)
 
 -- so numbers that are equal are those of equal texts
 pub same_numbers : (ks : BorrowedTexts) (t u : Text) (n m : ℕ) → number_in ks t ≡ Some n → number_in ks u ≡ Some m → IsTrue (n == m) ↔ (t ≡ u)

@@ -73,9 +73,7 @@ texts_same [] [] e = refl
 texts_same [] (y ∷ ys) e = absurd (let z : ⊥ = cc in z)
 texts_same (x ∷ xs) [] e = absurd (let z : ⊥ = cc in z)
 texts_same (x ∷ xs) (y ∷ ys) e =
-    let h = (bytes_eq-Decides x y).0 (first_true (text_eq x y) (pointwise text_eq xs ys) e) in
-    let t = texts_same xs ys (second_true (text_eq x y) (pointwise text_eq xs ys) e) in
-    λ i. h i ∷ t i
+    search (std_rules, bytes_eq-Decides, first_true, second_true, texts_same xs ys (second_true (text_eq x y) (pointwise text_eq xs ys) e))
 
 texts_refl : (xs : List Text) → pointwise text_eq xs xs ≡ true
 texts_refl [] = refl
@@ -100,8 +98,7 @@ names_length r names e = sym (length-map names text_of) ∙ ap length e ∙ leng
 
 pub name_at : (r : Resolve) (names : List (String Global)) (n : ℕ) (d : String Global) → map text_of names ≡ interface_names r → n < length r.interfaces.items
     → text_of (get_or names n d) ≡ interface_name r n
-name_at r names n d e h =
-    sym (get_or-map text_of names n d) ∙ ap (λ xs. get_or xs n (text_of d)) e ∙ names_at r 0 r.interfaces.items n (text_of d) h ∙ ap (interface_name r) (omega arith)
+name_at r names n d e h = search (std_rules, get_or-map text_of names n d, names_at r 0 r.interfaces.items n (text_of d) h)
 
 -- ---- and their numbers
 
@@ -115,9 +112,7 @@ module _ (r : Resolve) (keys : BorrowedTexts) (numbers : List ℕ) (e : map (num
   numbers_length = search (std_rules, length-map, length-names)
 
   pub number_at : (n d : ℕ) → n < length r.interfaces.items → number_in keys (interface_name r n) ≡ Some (get_or numbers n d)
-  number_at n d h =
-      ap (λ m. number_in keys (interface_name r m)) (let same : n ≡ 0 + n = omega arith in same)
-      ∙ sym (mapped_at (number_in keys) r 0 r.interfaces.items n (Some d) h) ∙ ap (λ xs. get_or xs n (Some d)) e ∙ get_or-map Some numbers n d
+  number_at n d h = search (std_rules, mapped_at (number_in keys) r 0 r.interfaces.items n (Some d) h, get_or-map Some numbers n d)
 
 pub marks_same : (xs ys : List Bool) → pointwise beq xs ys ≡ true → xs ≡ ys
 marks_same [] [] e = refl

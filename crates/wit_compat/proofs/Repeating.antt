@@ -6,7 +6,7 @@ use Rattle.std.specs.List.{list_any, AllByRecursion, Contains, IsDistinct}
 use Rattle.wit_model.specs.declared.model.{Resolve.Resolve, World.World}
 use Rattle.wit_model.specs.Text.{Text, text_eq}
 use Rattle.wit_model.proofs.{Distinct.text_eq_flip, TextLemmas.text_there as any_there}
-use Rattle.wit_compat.specs.Compatible.{bare_keys, keys_of_world, HasKeysOnce, IsFirstRepeat, IsRepeatedIn}
+use Rattle.wit_compat.specs.Compatible.{keys_of_world, HasKeysOnce, IsFirstRepeat, IsRepeatedIn}
 use Rattle.base_lemmas.proofs.Elements.{any_of_map as list_any_mapped, last_of as contains_one}
 
 abbrev pub now : List (Bor (List ℕ)) → List Text
@@ -103,18 +103,10 @@ pub one_once : (ts : List Text) → IsDistinct text_eq ts → (us : List Text) �
 one_once ts d us c = subst (IsDistinct text_eq) (contains_one ts us c) d
 
 pub keys_once : (r : Resolve) (w : World) → HasKeysOnce r w → (ts : List Text) → Contains (keys_of_world r w) ts → IsDistinct text_eq ts
-keys_once r w h ts c = by (Contains-append_cases (bare_keys r w.imports.entries ∷ []) (bare_keys r w.exports.entries ∷ []) ts c)
-  where
-    by : Contains (bare_keys r w.imports.entries ∷ []) ts ⊎ Contains (bare_keys r w.exports.entries ∷ []) ts → IsDistinct text_eq ts
-    by (inl d) = one_once (bare_keys r w.imports.entries) h.imports ts d
-    by (inr d) = one_once (bare_keys r w.exports.entries) h.exports ts d
+keys_once r w h ts c = search std_rules
 
 pub both_once : (r : Resolve) (a b : World) → HasKeysOnce r a → HasKeysOnce r b → (ts : List Text) → Contains (keys_of_world r a ++ keys_of_world r b) ts → IsDistinct text_eq ts
-both_once r a b h k ts c = by (Contains-append_cases (keys_of_world r a) (keys_of_world r b) ts c)
-  where
-    by : Contains (keys_of_world r a) ts ⊎ Contains (keys_of_world r b) ts → IsDistinct text_eq ts
-    by (inl d) = keys_once r a h ts d
-    by (inr d) = keys_once r b k ts d
+both_once r a b h k ts c = search std_rules
 
 -- ---- answers
 

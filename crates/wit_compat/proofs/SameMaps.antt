@@ -38,10 +38,7 @@ module _ (a b : Resolve) where
   same_parameters [] (q ∷ qs) o p n s e = absurd (let z : ⊥ = cc in z)
   same_parameters (q ∷ qs) [] o p n s e = absurd (let z : ⊥ = cc in z)
   same_parameters (x ∷ ps) (y ∷ qs) o p n s e =
-      let name = heads_equal _ _ _ _ n in
-      let tree = heads_equal _ _ _ _ e in
-      let rest = same_parameters ps qs o p (tails_equal _ _ _ _ n) s (tails_equal _ _ _ _ e) in
-      (λ i. (name i, tree i) ∷ rest.0 i, rest.1)
+      search (std_rules, heads_equal, tails_equal, same_parameters ps qs o p (tails_equal _ _ _ _ n) s (tails_equal _ _ _ _ e))
 
   lists_back : (ps qs : List Param) (o p : Option ValueType) → map left_param ps ≡ map right_param qs → option_map left o ≡ option_map right p
       → map left (map (λ x. x.ty) ps ++ option_to_list o) ≡ map right (map (λ x. x.ty) qs ++ option_to_list p)
@@ -51,19 +48,13 @@ module _ (a b : Resolve) where
   lists_back [] [] (Some t) (Some u) m e = let e' : left t ≡ right u = cc in λ i. e' i ∷ []
   lists_back [] (q ∷ qs) o p m e = absurd (let z : ⊥ = cc in z)
   lists_back (q ∷ qs) [] o p m e = absurd (let z : ⊥ = cc in z)
-  lists_back (x ∷ ps) (y ∷ qs) o p m e =
-      let tree = ap (λ (z : Text × Tree). z.1) (heads_equal _ _ _ _ m) in
-      let rest = lists_back ps qs o p (tails_equal _ _ _ _ m) e in
-      λ i. tree i ∷ rest i
+  lists_back (x ∷ ps) (y ∷ qs) o p m e = search (std_rules, heads_equal, tails_equal, lists_back ps qs o p (tails_equal _ _ _ _ m) e)
 
   names_back : (ps qs : List Param) → map left_param ps ≡ map right_param qs → map (λ x. text_of x.name) ps ≡ map (λ x. text_of x.name) qs
   names_back [] [] m = refl
   names_back [] (q ∷ qs) m = absurd (let z : ⊥ = cc in z)
   names_back (q ∷ qs) [] m = absurd (let z : ⊥ = cc in z)
-  names_back (x ∷ ps) (y ∷ qs) m =
-      let name = ap (λ (z : Text × Tree). z.0) (heads_equal _ _ _ _ m) in
-      let rest = names_back ps qs (tails_equal _ _ _ _ m) in
-      λ i. name i ∷ rest i
+  names_back (x ∷ ps) (y ∷ qs) m = search (std_rules, heads_equal, tails_equal, names_back ps qs (tails_equal _ _ _ _ m))
 
   given_back : (o p : Option ValueType) → option_map left o ≡ option_map right p → is_some o ≡ is_some p
   given_back x y e = search std_rules
@@ -225,12 +216,7 @@ module _ {K A X : Type 0} (text : K → Text) (meaning : A → X) where
   -- what is found under a name of the list of entries
   found_with : (test : Text → Bool) (es : List (K × A)) → lookup test (map entry es) ≡ option_map meaning (lookup (λ k. test (text k)) es)
   found_with test [] = refl
-  found_with test (e ∷ es) = by (test (text e.0)) (found_with test es)
-    where
-      by : (b : Bool) → lookup test (map entry es) ≡ option_map meaning (lookup (λ k. test (text k)) es)
-          → cond b (Some (meaning e.1)) (lookup test (map entry es)) ≡ option_map meaning (cond b (Some e.1) (lookup (λ k. test (text k)) es))
-      by true h = refl
-      by false h = h
+  found_with test (e ∷ es) = search (std_rules, found_with test es)
 
   pub under_is : (q : Text) (es : List (K × A)) → under q (map entry es) ≡ option_map meaning (lookup (λ k. text_eq q (text k)) es)
   under_is q es = found_with (text_eq q) es

@@ -1,5 +1,5 @@
 -- Types of two `Resolve`s, and the paths of their interfaces.
-use Rattle.std.proofs.Common.{rules as std_rules, arith, ◌≡◌, ◌↔◌, refl, sym, ap, subst, ◌∙◌, ◌⊎◌, inl, inr, ℕ, ◌+◌, ◌<◌, ◌≤◌, Bool, true, false, cond, List, [], ◌∷◌, ◌++◌, take, map, length, get_or, slice_get, Option, Some, None, option_map, unwrap_or, is_some, IsTrue, String, Vec, Result, Ok, Err, IfOk}
+use Rattle.std.proofs.Common.{rules as std_rules, arith, ◌≡◌, ◌↔◌, refl, sym, ap, subst, ◌∙◌, ◌⊎◌, inl, inr, ℕ, ◌+◌, ◌<◌, ◌≤◌, Bool, true, false, cond, List, [], ◌∷◌, ◌++◌, take, map, length, get_or, slice_get, Some, None, option_map, unwrap_or, is_some, IsTrue, String, Vec, Result, Ok, Err, IfOk}
 use Rattle.std.proofs.{Math.ListN.length-map, lemmas.List.map-append, lemmas.List.take_all, lemmas.List.Elements.Contains-push_cases}
 use Rattle.std.proofs.lemmas.Option.{slice_get-get_or, slice_get-map, same_Some as some-same, slice_get_within as below_length}
 use Rattle.std.specs.declared.alloc.{Global.Global, AllocError.AllocError}
@@ -84,13 +84,7 @@ module _ (r : Resolve) (v : IsValid r) (n : ℕ) (def : TypeDef) (at : type_at r
   tree_is = ap (λ o. unwrap_or o no_tree) (kept_trees_at r v.rules n def at)
 
   pub named_is : is_some def.name ≡ true → number_tree r n ≡ name_leaf r def
-  named_is h = by def.name refl h
-    where
-      by : (o : Option (String Global)) → def.name ≡ o → is_some o ≡ true → number_tree r n ≡ name_leaf r def
-      by None e s = absurd (let z : ⊥ = cc in z)
-      by (Some name) e s =
-          tree_is ∙ ap (λ o. option_map_or (λ x. named (place_of r def.owner) (text_of x)) o (tree_of_declaration (declared_by (trees_of r) def.kind))) e
-          ∙ ap (λ o. named (place_of r def.owner) (option_map_or text_of o [])) (sym e)
+  named_is h = search (std_rules, tree_is)
 
   unnamed_kind : is_some def.name ≡ false → is_named_kind def.kind ≡ false
   unfolding named_kinds
@@ -98,27 +92,10 @@ module _ (r : Resolve) (v : IsValid r) (n : ℕ) (def : TypeDef) (at : type_at r
 
   -- an unnamed type is a form over what stands at its places
   pub unnamed_is : is_some def.name ≡ false → (f : Form) × (form_of def.kind ≡ Some f) × (number_tree r n ≡ node f (children (map (type_tree r) (places_of def.kind))))
-  unnamed_is e = by def.name refl e (form_there def.kind (unnamed_kind e))
-    where
-      by : (o : Option (String Global)) → def.name ≡ o → is_some o ≡ false
-          → (f : Form) × (form_of def.kind ≡ Some f) × ((leaf : Tree) (trees : List Tree) → tree_of_declaration (declared_by trees def.kind) ≡ opened_kind leaf trees def.kind)
-          × (is_alias def.kind ≡ false)
-          → (f : Form) × (form_of def.kind ≡ Some f) × (number_tree r n ≡ node f (children (map (type_tree r) (places_of def.kind))))
-      by (Some name) q s w = absurd (let z : ⊥ = cc in z)
-      by None q s w = (
-        w.0,
-        w.1,
-        tree_is ∙ ap (λ o. option_map_or (λ x. named (place_of r def.owner) (text_of x)) o (tree_of_declaration (declared_by (trees_of r) def.kind))) q
-            ∙ w.2 no_tree (trees_of r) ∙ opened_built (trees_of r) no_tree def.kind w.3
-            ∙ ap (λ g. built no_tree g (children (map (type_tree r) (places_of def.kind)))) w.1,
-      )
+  unnamed_is e = search (std_rules, form_there, unnamed_kind, tree_is, opened_built, built)
 
   pub no_primitive_at : primitive_in (number_tree r n) ≡ None
-  no_primitive_at = by (is_some def.name) refl
-    where
-      by : (b : Bool) → is_some def.name ≡ b → primitive_in (number_tree r n) ≡ None
-      by true e = ap primitive_in (named_is e)
-      by false e = ap primitive_in (unnamed_is e).2
+  no_primitive_at = search (std_rules, primitive_in, named_is, unnamed_is)
 
   -- what stands at its places is in range, and of smaller numbers
   pub parts_below : (x : ValueType) → Contains (places_of def.kind) x → rank x < n + 1
@@ -129,11 +106,7 @@ module _ (r : Resolve) (v : IsValid r) (n : ℕ) (def : TypeDef) (at : type_at r
       by (inr (id, e)) h = let low = below_number n x h id e in let is : rank x ≡ id.0 + 1 = ap rank e in omega (arith, low, is)
 
   pub places_in_range : AllInRange r (places_of def.kind)
-  places_in_range t c id e =
-      let low = parts_below t c in
-      let lt = below_length r.types.items n def at in
-      let rank_is : rank t ≡ id.0 + 1 = ap rank e in
-      omega (arith, low, lt, rank_is)
+  places_in_range t c id e = search (std_rules, parts_below t c, below_length r.types.items n def at)
 
 -- ---- two types
 

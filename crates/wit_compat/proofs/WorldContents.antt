@@ -1,17 +1,16 @@
 -- Items of worlds of two `Resolve`s.
-use Rattle.std.proofs.Common.{rules as std_rules, ◌≡◌, ◌↔◌, refl, sym, ap, subst, ◌∙◌, ◌⊎◌, inl, inr, ℕ, Bool, true, false, ◌&&◌, cond, List, [], ◌∷◌, ◌++◌, map, Option, Some, None, is_some, IsSome, option_map, IsTrue, String}
+use Rattle.std.proofs.Common.{rules as std_rules, ◌≡◌, ◌↔◌, refl, sym, ap, subst, ◌∙◌, inl, inr, ℕ, Bool, true, false, ◌&&◌, cond, List, [], ◌∷◌, ◌++◌, map, Option, Some, None, is_some, IsSome, option_map, IsTrue, String}
 use Rattle.std.proofs.lemmas.{Map.Made.Contains-from_values_of, List.map-append, List.Elements.Contains-push_cases}
 use Rattle.std.specs.{Borrow.Bor, Option.option_copied, Option.option_map_or, List.Contains, Map.lookup, Map.values_of}
 use Rattle.std.specs.declared.alloc.Global.{Global}
 use Rattle.wit_model.specs.declared.model.{Resolve.Resolve, World.World, WorldKey.WorldKey, WorldItem.WorldItem, TypeId.TypeId}
 use Rattle.wit_model.specs.{Lookup.key_text, Lookup.world_at, Lookup.interface_path, Text.Text, Text.text_eq, Text.text_of, Text.optional_text}
-use Rattle.wit_model.specs.Meaning.{Entry, InterfaceSense, WorldSense, entries_sense, entry_sense, world_sense, Item, TypeMeaning, interface, inline, declares, interface_sense, item_sense}
+use Rattle.wit_model.specs.Meaning.{Entry, InterfaceSense, WorldSense, entries_sense, entry_sense, world_sense, Item, interface, inline, interface_sense, item_sense}
 use Rattle.wit_model.specs.Meant.{entries_meaning, entry_meaning, no_world, world_meaning, world_meaning_at, interface_item, interface_meaning_at, type_meaning_at}
 use Rattle.wit_model.specs.Rules.{entries_in_range, item_in_range, key_in_range}
 use Rattle.wit_compat.specs.TwoSides.{indexed_sense, sense_entry, AllItemsInRange, BorrowedEntry, PutsFirst, SameInterfaceEntries}
 use Rattle.wit_compat.proofs.{SameMaps.maps_same, SameMaps.under, SameMaps.under_is, Sided.never}
 use Rattle.base_lemmas.proofs.{Bools.left_of as first_true, Bools.right_of as second_true, Options.there as some-of}
-use Rattle.wit_model.proofs.TextLemmas.{text_same as text-same}
 use Rattle.wit_model.specs.declared.model.WorldItem.TheVariants as item
 
 -- ---- The contents of a world by the texts of their keys.
@@ -24,26 +23,12 @@ or_first None o = o
 
 module _ {X : Type 0} where
   last_put : (q : Text) (es : List (Text × X)) (e : Text × X) (o : Option X) → or_first (under q (es ++ e ∷ [])) o ≡ or_first (under q es) (cond (text_eq q e.0) (Some e.1) o)
-  last_put q [] e o = by (text_eq q e.0)
-    where
-      by : (b : Bool) → or_first (cond b (Some e.1) None) o ≡ cond b (Some e.1) o
-      by true = refl
-      by false = refl
-  last_put q (d ∷ ds) e o = by (text_eq q d.0) (last_put q ds e o)
-    where
-      by : (b : Bool) → or_first (under q (ds ++ e ∷ [])) o ≡ or_first (under q ds) (cond (text_eq q e.0) (Some e.1) o)
-          → or_first (cond b (Some d.1) (under q (ds ++ e ∷ []))) o ≡ or_first (cond b (Some d.1) (under q ds)) (cond (text_eq q e.0) (Some e.1) o)
-      by true h = refl
-      by false h = h
+  last_put q [] e o = search std_rules
+  last_put q (d ∷ ds) e o = search (std_rules, under, last_put q ds e o)
 
   -- a name that is there already stays as it is
   stays_put : (q : Text) (es : List (Text × X)) (e : Text × X) (o : Option X) (y : X) → under e.0 es ≡ Some y → or_first (under q es) o ≡ or_first (under q es) (cond (text_eq q e.0) (Some e.1) o)
-  stays_put q es e o y h = by (under q es) refl (text_eq q e.0) refl
-    where
-      by : (u : Option X) → under q es ≡ u → (b : Bool) → text_eq q e.0 ≡ b → or_first u o ≡ or_first u (cond b (Some e.1) o)
-      by (Some z) p b s = refl
-      by None p false s = refl
-      by None p true s = let wrong : None ≡ Some y = sym p ∙ ap (λ k. under k es) (text-same q e.0 s) ∙ h in let z : ⊥ = cc in absurd z
+  stays_put q es e o y h = search std_rules
 
 none_over : {X : Type 0} (o : Option X) → or_first o None ≡ o
 none_over x = search std_rules
@@ -113,11 +98,7 @@ module _ (r : Resolve) where
 
   pushed_in_range : (made new : List BorrowedEntry) (key : String Global) (item : Bor WorldItem) → new ≡ made ++ (key, item) ∷ [] → AllItemsInRange r made → item_in_range r item.now ≡ true
       → AllItemsInRange r new
-  pushed_in_range made new key item n h is e c = by (Contains-push_cases made (key, item) e (subst (λ es. Contains es e) n c))
-    where
-      by : Contains made e ⊎ ((key, item) ≡ e) → item_in_range r e.1.now ≡ true
-      by (inl d) = h e d
-      by (inr d) = ap (λ (x : BorrowedEntry). item_in_range r x.1.now) (sym d) ∙ is
+  pushed_in_range made new key item n h is e c = search (std_rules, Contains-push_cases made (key, item) e (subst (λ es. Contains es e) n c))
 
   -- what stands among the values is in range
   pub value_in_range : (made : List BorrowedEntry) → AllItemsInRange r made → (item : Bor WorldItem) → Contains (values_of made) item → item_in_range r item.now ≡ true
@@ -157,17 +138,7 @@ module _ (a b : Resolve) where
   SameEntries i j = entry_sense (entry_meaning a i) ≡ entry_sense (entry_meaning b j)
 
   pub type_items : (n m : TypeId) (y : Bool) → (IsTrue y ↔ (type_meaning_at a n.0 ≡ type_meaning_at b m.0)) → IsTrue y ↔ SameEntries (item.Type_ n) (item.Type_ m)
-  type_items n m y h = (
-    λ t. ap (λ (x : TypeMeaning). record { item = declares x.declaration; external_id = x.external_id }) (h.0 t),
-    λ same. h.1 (ap type_of same),
-  )
-    where
-      declaration_in : Item InterfaceSense → Rattle.wit_model.specs.Tree.Declaration
-      declaration_in (declares declaration) = declaration
-      declaration_in _ = (type_meaning_at a n.0).declaration
-
-      type_of : Entry InterfaceSense → TypeMeaning
-      type_of e = record { declaration = declaration_in e.item; external_id = e.external_id }
+  type_items n m y h = search std_rules
 
   -- ---- interfaces
 
