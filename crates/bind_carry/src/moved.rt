@@ -56,6 +56,7 @@ pub(crate) fn type_places(
     ensures refuses { IfErr result IsMemoryOrSize }
     ensures size { IfErr result (λ e. e ≡ Size → 4294967295 < (own + length places.old.items) + copies_of fates.now) }
 {
+    places.reserve(fates.len())?;
     let mut numbers = Vec::new(alloc);
     for fate in fates {
         let number = placed(own, *fate, places)?;
