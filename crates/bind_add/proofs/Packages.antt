@@ -11,9 +11,6 @@ there xs ys same n q at =
     let within : n < length xs = subst (λ m. n < m) same (slice_get_within ys n q at) in
     (get_or xs n q, slice_get-get_or xs n q within)
 
-    same : (n : ℕ) (p q : Package) → Some p ≡ Some q → IsSameWithRoom p q
-    same n p q e = subst (λ z. IsSameWithRoom p z) (some p q e) (record { name = refl; docs = refl; interfaces = refl; worlds = refl }, record { interfaces = omega arith; worlds = omega arith })
-
 pub same_then : (xs ys zs : List Package) → ArePackages IsSameWithRoom xs ys → ArePackages IsSameWithRoom ys zs → ArePackages IsSameWithRoom xs zs
 same_then xs ys zs a b = record {
   count = b.count ∙ a.count;

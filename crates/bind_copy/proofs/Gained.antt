@@ -1,23 +1,19 @@
 -- Items that are copied into a map one behind the other, where their keys are new.
-use Rattle.std.proofs.Common.{◌≡◌, refl, sym, ap, ap₂, subst, ◌∙◌, ℕ, Bool, true, false, not, ◌==◌, ◌||◌, List, [], ◌∷◌, is_some}
+use Rattle.std.proofs.Common.{rules as std_rules, ◌≡◌, refl, sym, ap, ap₂, subst, ◌∙◌, ℕ, Bool, true, false, not, ◌||◌, List, [], ◌∷◌, is_some}
 use Rattle.std.proofs.lemmas.Map.Made.{is_some-lookup}
 use Rattle.std.specs.{List.list_any, List.IsDistinct, Map.keys_of, Map.lookup, Prelude.String}
 use Rattle.indexmap.specs.IndexMap.{get_by, insert_entry, IndexMap}
-use Rattle.wit_model.proofs.Distinct.{text_eq_flip}
-use Rattle.wit_model.specs.{Text.text_eq, Text.text_of, Valid.key_eq}
+use Rattle.wit_model.specs.{Valid.key_eq}
 use Rattle.std.specs.declared.alloc.Global.{Global}
 use Rattle.wit_model.specs.declared.model.{InterfaceId.InterfaceId, WorldItem.WorldItem, WorldKey.WorldKey}
 use Rattle.bind_copy.specs.Copies.{become_one, is_key_under, is_new_under, number_under, AreNewCopied, CopiedSoFar, IsEntryUnder, IsKeyUnder}
-use Rattle.bind_copy.proofs.Copied.{all_copied, one_copied, one_left}
+use Rattle.bind_copy.proofs.Copied.{one_copied, one_left}
 use Rattle.wit_model.specs.contracts.model.WorldKeyPartialEq.TheImpl as world_key
 use Rattle.wit_model.specs.declared.model.WorldKey.TheVariants as key
 
 -- the test of keys that the code makes
 code_eq : (a b : WorldKey) → world_key.ghosts.eq a b ≡ key_eq a b
-code_eq (key.Name a) (key.Name b) = refl
-code_eq (key.Name a) (key.Interface b) = refl
-code_eq (key.Interface a) (key.Name b) = refl
-code_eq (key.Interface a) (key.Interface b) = refl
+code_eq x y = search std_rules
 
 pub test_is : world_key.ghosts.eq ≡ key_eq
 test_is = λ i a b. code_eq a b i
@@ -25,25 +21,11 @@ test_is = λ i a b. code_eq a b i
 module _ (interfaces : List ℕ) where
   -- keys are one under their new numbers where their images are one
   pub same_images : (x y u v : WorldKey) → IsKeyUnder interfaces x u → IsKeyUnder interfaces y v → key_eq v u ≡ become_one interfaces x y
-  same_images (key.Name x) (key.Name y) (key.Name u) (key.Name v) r s = ap (λ t. text_eq t (text_of u)) s ∙ (ap (text_eq (text_of y)) r ∙ text_eq_flip (text_of y) (text_of x))
-  same_images (key.Name x) (key.Interface y) (key.Name u) (key.Interface v) r s = refl
-  same_images (key.Interface x) (key.Name y) (key.Interface u) (key.Name v) r s = refl
-  same_images (key.Interface x) (key.Interface y) (key.Interface u) (key.Interface v) r s = ap₂ (λ a b. a == b) s r
-  same_images (key.Name x) y (key.Interface u) v r s = absurd r
-  same_images (key.Interface x) y (key.Name u) v r s = absurd r
-  same_images (key.Name x) (key.Name y) (key.Name u) (key.Interface v) r s = absurd s
-  same_images (key.Name x) (key.Interface y) (key.Name u) (key.Name v) r s = absurd s
-  same_images (key.Interface x) (key.Name y) (key.Interface u) (key.Interface v) r s = absurd s
-  same_images (key.Interface x) (key.Interface y) (key.Interface u) (key.Name v) r s = absurd s
+  same_images z y v w r s = search std_rules
 
   -- a key stands here exactly where its image does
   key_here : (k image : WorldKey) → IsKeyUnder interfaces k image → (y : WorldKey) → key_eq image y ≡ is_key_under interfaces k y
-  key_here (key.Name k) (key.Name i) r (key.Name y) = ap (λ t. text_eq t (text_of y)) r
-  key_here (key.Name k) (key.Name i) r (key.Interface y) = refl
-  key_here (key.Interface k) (key.Interface i) r (key.Name y) = refl
-  key_here (key.Interface k) (key.Interface i) r (key.Interface y) = ap (λ a. a == y.0) r
-  key_here (key.Name k) (key.Interface i) r y = absurd r
-  key_here (key.Interface k) (key.Name i) r y = absurd r
+  key_here x z r y = search std_rules
 
   any_here : (k image : WorldKey) → IsKeyUnder interfaces k image → (es : List (WorldKey × WorldItem))
       → list_any (key_eq image) (keys_of es) ≡ list_any (λ (e : WorldKey × WorldItem). is_key_under interfaces k e.0) es
@@ -90,5 +72,4 @@ module _ (interfaces types : List ℕ) (here : List (WorldKey × WorldItem)) whe
 
   -- all are copied
   pub items_all : (whole left done : List (WorldKey × WorldItem)) → left ≡ [] → SoFar whole left done → AreNewCopied interfaces types here whole done
-  items_all whole left done ended before apart =
-      all_copied key_eq (become_one interfaces) (IsEntryUnder interfaces types) test same whole done (subst (λ l. CopiedSoFar (IsEntryUnder interfaces types) test whole l done) ended (before apart))
+  items_all whole left done ended before apart = search std_rules

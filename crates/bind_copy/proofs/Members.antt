@@ -1,5 +1,5 @@
 -- Functions that are copied into a map one behind the other, and what holds of the members of those that are moved.
-use Rattle.std.proofs.Common.{◌≡◌, refl, ap, subst, ◌∙◌, ℕ, true, nat_lt, List, [], ◌∷◌, map}
+use Rattle.std.proofs.Common.{rules as std_rules, ◌≡◌, refl, ap, subst, ◌∙◌, ℕ, true, nat_lt, List, [], ◌∷◌, map}
 use Rattle.std.specs.{List.AllZip, List.IsDistinct, Prelude.String, String.string_eq, Map.keys_of}
 use Rattle.std.specs.declared.alloc.Global.{Global}
 use Rattle.indexmap.specs.IndexMap.{insert_entry}
@@ -28,9 +28,7 @@ module _ (types : List ℕ) where
   pub functions_all : (whole left done : List (String Global × Function)) → left ≡ []
       → (IsDistinct string_eq (keys_of whole) → CopiedSoFar (IsFunctionEntry types) (λ e. true) whole left done)
       → IsDistinct string_eq (keys_of whole) → AllZip (IsFunctionEntry types) whole done
-  functions_all whole left done ended before apart =
-      subst (λ l. AllZip (IsFunctionEntry types) l done) (all_pass whole)
-      (all_copied string_eq string_eq (IsFunctionEntry types) (λ e. true) same_keys whole done (subst (λ l. CopiedSoFar (IsFunctionEntry types) (λ e. true) whole l done) ended (before apart)))
+  functions_all whole left done ended before apart = search (std_rules, all_pass, all_copied, same_keys)
 
 -- ---- members that are moved
 

@@ -1,5 +1,5 @@
 -- Items that are given new values one after the other, where they stand.
-use Rattle.std.proofs.Common.{◌≡◌, refl, sym, ap, subst, ◌∙◌, ℕ, ◌+◌, ◌≤◌, arith, List, [], ◌∷◌, ◌++◌, length, set, append_assoc, append-nil, Some, slice_get}
+use Rattle.std.proofs.Common.{rules as std_rules, ◌≡◌, refl, sym, ap, subst, ◌∙◌, ℕ, ◌+◌, ◌≤◌, arith, List, [], ◌∷◌, ◌++◌, length, set, append_assoc, append-nil, Some, slice_get}
 use Rattle.std.proofs.{lemmas.List.length-append, lemmas.List.Elements.length_all_zip, lemmas.List.Elements.AllZip-push, Math.Seq.set-append_seam}
 use Rattle.std.specs.{List.AllZip, Map.values_of}
 use Rattle.indexmap.specs.IndexMap.{set_value_at}
@@ -24,24 +24,11 @@ module _ {X : Type 0} (R : X → X → Type 0) (Left : List X → Type 0) where
   -- one is written
   written : (old now new : List X) (place : ℕ) (s : AreWrittenSoFar R Left old now place) (x y : X) (rest : List X) → s.rest ≡ x ∷ rest → R x y → Left rest
       → new ≡ s.done ++ y ∷ rest → AreWrittenSoFar R Left old new (place + 1)
-  written old now new place s x y rest at r l is = record {
-    front = s.front ++ x ∷ [];
-    rest = rest;
-    done = s.done ++ y ∷ [];
-    were = s.were ∙ (ap (λ l. s.front ++ l) at ∙ sym (append_assoc s.front (x ∷ []) rest));
-    are = is ∙ sym (append_assoc s.done (y ∷ []) rest);
-    each = AllZip-push R s.front s.done x y s.each r;
-    count = let long = length-append s.done (y ∷ []) in let count = s.count in omega (arith, long, count);
-    left = l;
-  }
+  written old now new place s x y rest at r l is = search (std_rules, append_assoc, AllZip-push, length-append)
 
   -- the list is as long as it was
   pub written_long : (old now : List X) (place : ℕ) → AreWrittenSoFar R Left old now place → length now ≡ length old
-  written_long old now place s =
-      let were : length old ≡ length s.front + length s.rest = ap length s.were ∙ length-append s.front s.rest in
-      let are : length now ≡ length s.done + length s.rest = ap length s.are ∙ length-append s.done s.rest in
-      let same = length_all_zip R s.front s.done s.each in
-      omega (arith, were, are, same)
+  written_long old now place s = search (std_rules, length-append, length_all_zip)
 
   -- all are written
   pub all_written : (old now : List X) (place : ℕ) → length now ≤ place → AreWrittenSoFar R Left old now place → AllZip R old now

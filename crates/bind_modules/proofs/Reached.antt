@@ -20,13 +20,14 @@ size = Err errors.Size
 
 -- no encoding is refused so
 said-otherwise : (x : Option (List ℕ)) → size ≡ said_by x → ⊥
+said-otherwise None is = cc
+said-otherwise (Some []) is = cc
 said-otherwise (Some (b ∷ [])) is = cc
 said-otherwise (Some (b ∷ code ∷ [])) is = at-four (b == 4) is
   where
     by-code : (o : Option StringEncoding) → size ≡ said_by_code code o → ⊥
     by-code None same = cc
     by-code (Some x) same = cc
-said-otherwise _ is = cc
 
     at-four : (t : Bool) → size ≡ cond t (said_by_code code (encoding_at code)) (Err (errors.EncodingVersion b)) → ⊥
     at-four true same = by-code (encoding_at code) same
@@ -35,9 +36,12 @@ said-otherwise (Some (b ∷ code ∷ c ∷ rest)) is = cc
 
 -- nor is a section
 pub section-otherwise : (d : List ℕ) (e : Error) → RefusesSection d e → e ≡ errors.Size → ⊥
+section-otherwise d e (RefusesSection.empty none is) so = cc
+section-otherwise d e (RefusesSection.historical rest begins is) so = cc
+section-otherwise d e (RefusesSection.unread some other cause offset is within none) so = cc
 section-otherwise d e (RefusesSection.unsaid m reads says) so = said-otherwise (last_of (contents_under section_name reads.sections))
     (ap (λ x. let y : Answer = Err x in y) (sym so) ∙ says reads.sections reads.spelled)
-section-otherwise d e _ so = cc
+section-otherwise d e (RefusesSection.memory is) so = cc
 
 -- nor a module that is stripped
 pub strip-otherwise : (input : List ℕ) (e : Error) → RefusesModule input e → e ≡ errors.Size → ⊥

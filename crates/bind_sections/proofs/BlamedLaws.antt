@@ -31,13 +31,14 @@ SaysSo (Err e) = IsSaidError e
 SaysSo _ = Unit {0}
 
 said-so : (x : Option (List ℕ)) → SaysSo (said_by x)
+said-so None = tt
+said-so (Some []) = tt
 said-so (Some (b ∷ [])) = tt
 said-so (Some (b ∷ code ∷ [])) = at-four (b == 4)
   where
     by-code : (o : Option StringEncoding) → SaysSo (said_by_code code o)
     by-code None = tt
     by-code (Some x) = tt
-said-so _ = tt
 
     at-four : (t : Bool) → SaysSo (cond t (said_by_code code (encoding_at code)) (Err (errors.EncodingVersion b)))
     at-four true = by-code (encoding_at code)

@@ -36,13 +36,14 @@ Answer = Result StringEncoding Error
 
 -- an encoding is said by its contents alone
 said-by-contents : (x : Option (List ℕ)) (e : StringEncoding) → (let y : Answer = Ok e in y) ≡ said_by x → x ≡ Some (contents_of e)
+said-by-contents None e is = let no : ⊥ = cc in absurd no
+said-by-contents (Some []) e is = let no : ⊥ = cc in absurd no
 said-by-contents (Some (b ∷ [])) e is = let no : ⊥ = cc in absurd no
 said-by-contents (Some (b ∷ code ∷ [])) e is = at-four (b == 4) refl is
   where
     by-code : (o : Option StringEncoding) → encoding_at code ≡ o → (let y : Answer = Ok e in y) ≡ said_by_code code o → encoding_at code ≡ Some e
     by-code None at same = let no : ⊥ = cc in absurd no
     by-code (Some x) at same = at ∙ ap Some (sym (ok-same e x same))
-said-by-contents _ e is = let no : ⊥ = cc in absurd no
 
     at-four : (t : Bool) → (b == 4) ≡ t → (let y : Answer = Ok e in y) ≡ cond t (said_by_code code (encoding_at code)) (Err (errors.EncodingVersion b)) → Some (b ∷ code ∷ []) ≡ Some (contents_of e)
     at-four true four same =

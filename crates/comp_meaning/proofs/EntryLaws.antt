@@ -5,7 +5,7 @@ use Rattle.std.specs.{Prelude.slice_get, List.list_any}
 use Rattle.wit_model.specs.Tree.{Place}
 use Rattle.comp_bytes.specs.{Raw.Declaration, Raw.Declarations, Raw.from_list, Reading.◌>>=◌, Levels.Entry, Levels.plain, Levels.holds, Levels.declarations_of}
 use Rattle.comp_bytes.proofs.Readers.{bind_some}
-use Rattle.comp_meaning.specs.Follow.{Slot, Scope, View, Seen, Shown, Direction, import_, export_, provided, new_scope, in_scope, see, place_of, interface_of, used_view, component_step, component_steps, component_scope, flat, instance_types}
+use Rattle.comp_meaning.specs.Follow.{Slot, Scope, View, Seen, Shown, Direction, import_, export_, provided, new_scope, in_scope, see, used_view, component_step, component_steps, component_scope, flat, instance_types}
 use Rattle.comp_meaning.specs.{Reads.steps, ByLevels.entry_step, ByLevels.entry_scope, ByLevels.all_used}
 use Rattle.comp_meaning.proofs.Marks.{marks, all_taken, Counted, one_mark_more, one_number_more, exact}
 use Rattle.comp_meaning.proofs.StepLaws.{StepOf, defines, signs, aliases, sees_function, sees_type, sees_instance, seen_under, seen_instance, with_instance, step_of}
@@ -58,11 +58,7 @@ kept_seen import_ seen scope k = k
 kept_seen export_ seen scope k = k
 
 used_is : (slots : List Slot) (place : Place) (n : ℕ) (view : View) → used_view slots place (slice_get slots n) ≡ Some view → option_map is_instance (slice_get slots n) ≡ Some true
-used_is slots place n view e = by (slice_get slots n) e
-  where
-    by : (o : Option Slot) → used_view slots place o ≡ Some view → option_map is_instance o ≡ Some true
-    by (Some (Slot.instance ds around)) h = refl
-    by _ h = absurd cc
+used_is slots place n view e = search std_rules
 
 kept_along : (scope next : Scope) → StepOf scope next → IsKept scope → IsKept next
 kept_along scope _ (defines d t e) k = kept_slot scope (Slot.value t) k
@@ -71,8 +67,7 @@ kept_along scope _ (aliases m name slot e) k = kept_slot scope slot k
 kept_along scope _ (sees_function direction name n f e) k = kept_seen direction (seen_under name (Shown.function f)) scope k
 kept_along scope _ (sees_type name described found e) k = kept_slot scope found.1 k
 kept_along scope _ (sees_instance direction name n key view new e) k =
-    let mark : slice_get (map is_instance scope.slots) n ≡ Some true = slice_get-map is_instance scope.slots n ∙ used_is scope.slots (place_of (interface_of key)) n view e in
-    kept_seen direction (seen_instance name key view) (with_instance scope n key view) (one_number_more self scope.used n (map is_instance scope.slots) k new mark)
+    search (std_rules, slice_get-map, used_is, kept_seen, seen_instance, with_instance, one_number_more)
 
 kept_entry : (scope next : Scope) (x : Entry) → entry_step scope x ≡ Some next → IsKept scope → IsKept next
 kept_entry scope next (plain d) e k = kept_along scope next (step_of scope next d e) k
@@ -94,9 +89,7 @@ flat_list (d ∷ ds) = ap (λ o. o >>= λ xs. Some (d ∷ xs)) (flat_list ds)
 steps_are : (es : List Entry) (scope : Scope) → component_steps scope (declarations_of es) ≡ steps entry_step scope es
 steps_are [] scope = refl
 steps_are (plain d ∷ es) scope = bind_same (component_step scope d) (λ next. component_steps next (declarations_of es)) (λ next. steps entry_step next es) (steps_are es)
-steps_are (holds ds ∷ es) scope =
-    ap (λ o. o >>= λ xs. component_steps (in_scope (Slot.instance xs (length scope.slots)) scope) (declarations_of es)) (flat_list ds) ∙ steps_are es
-    (in_scope (Slot.instance ds (length scope.slots)) scope)
+steps_are (holds ds ∷ es) scope = search (std_rules, flat_list, steps_are es (in_scope (Slot.instance ds (length scope.slots)) scope))
 
 pub scope_is : (es : List Entry) → component_scope (declarations_of es) ≡ entry_scope es
 scope_is es = ap (λ o. o >>= λ scope. provided (eqb (length scope.used) (instance_types scope.slots)) scope) (steps_are es new_scope) ∙ by (steps entry_step new_scope es) refl

@@ -1,5 +1,5 @@
 -- What has a meaning nests no deeper than the levels do, and means the same by levels.
-use Rattle.std.proofs.Common.{rules as std_rules, ◌≡◌, ◌⊎◌, refl, sym, ap, subst, ◌∙◌, ℕ, zero, suc, ◌<◌, ◌+◌, arith, Bool, true, false, not, ◌&&◌, ◌||◌, eqb, List, [], ◌∷◌, ◌++◌, length, map, Option, Some, None, option_map, inl, inr, length-append}
+use Rattle.std.proofs.Common.{rules as std_rules, ◌≡◌, ◌⊎◌, refl, sym, ap, subst, ◌∙◌, ℕ, zero, suc, ◌<◌, ◌+◌, arith, Bool, true, false, not, ◌&&◌, ◌||◌, eqb, List, [], ◌∷◌, ◌++◌, length, map, Option, Some, None, inl, inr, length-append}
 use Rattle.std.proofs.lemmas.{Bool.eqb-true, Bool.and_parts, Bool.not-true, List.map-append, Option.slice_get_within}
 use Rattle.std.specs.{Prelude.slice_get, List.list_any}
 use Rattle.wit_model.specs.{Text.Text, Names.PackageIdentity, Names.is_label}
@@ -35,11 +35,7 @@ world_scope : (label : Text) (inner : Declarations) (name : ExternName) (p : Pac
 world_scope label inner name p e = search std_rules
 
 interface_scope : (label : Text) (ds : Declarations) (p : PackageIdentity × Part) → interface_part label ds ≡ Some p → (scope : Scope) × (component_scope ds ≡ Some scope)
-interface_scope label ds p e = by (component_scope ds) refl
-  where
-    by : (o : Option Scope) → component_scope ds ≡ o → (scope : Scope) × (component_scope ds ≡ Some scope)
-    by (Some scope) found = (scope, found)
-    by None none = absurd (let wrong : interface_part label ds ≡ None = rw none refl in cc)
+interface_scope label ds p e = search std_rules
 
 member_levels : (x : Text × Declarations) (m : Member) → member x ≡ Some m → IsLevelled x.1
 member_levels x m e =
@@ -212,12 +208,7 @@ each_same g f other same (x ∷ xs) = ap (λ o. o >>= λ y. each other (map g xs
 module _ {M : Type 0} (last : List Member → Option M) where
   same_meaning : (ps : List Piece)
       → (exported_types (map raw_piece ps) >>= λ types. each member types >>= λ members. last members) ≡ (exported_parts ps >>= λ parts. each member_by_levels parts >>= λ members. last members)
-  same_meaning ps = ap (λ o. o >>= λ types. each member types >>= λ members. last members) (parts_along ps) ∙ by (exported_parts ps)
-    where
-      by : (o : Option (List (Text × PartType)))
-          → (option_map (map labelled) o >>= λ types. each member types >>= λ members. last members) ≡ (o >>= λ parts. each member_by_levels parts >>= λ members. last members)
-      by None = refl
-      by (Some parts) = ap (λ o. o >>= last) (each_same labelled member_by_levels member member_is parts)
+  same_meaning ps = search (std_rules, parts_along, labelled, each_same, member_is)
 
   pub levelled : (bytes : List ℕ) → (levels_of bytes >>= λ ps. exported_parts ps >>= λ parts. each member_by_levels parts >>= λ members. last members)
       ≡ (component_of bytes >>= λ ss. exported_types ss >>= λ types. each member types >>= λ members. last members)

@@ -1,8 +1,8 @@
 -- Numbers that stand for marks of a list, each once: they are as many as the marks exactly where each mark's number is among them.
-use Rattle.std.proofs.Common.{rules as std_rules, ◌≡◌, refl, sym, ap, subst, ◌∙◌, ℕ, zero, suc, ◌+◌, ◌<◌, ◌≤◌, arith, Bool, true, false, ◌&&◌, ◌||◌, cond, eqb, List, [], ◌∷◌, ◌++◌, length, map, Some, length-append}
+use Rattle.std.proofs.Common.{rules as std_rules, ◌≡◌, refl, sym, ap, ◌∙◌, ℕ, zero, suc, ◌+◌, ◌<◌, ◌≤◌, arith, Bool, true, false, ◌&&◌, ◌||◌, cond, eqb, List, [], ◌∷◌, ◌++◌, length, map, Some, length-append}
 use Rattle.std.proofs.lemmas.{Bool.eqb-true, Bool.eq-eqb, Bool.ne_eqb, Bool.false_from_ne_true as absent, List.Folds.list_any-append, Option.slice_get_within}
 use Rattle.std.specs.{Prelude.slice_get, List.list_any}
-use Rattle.base_lemmas.proofs.Bools.{both_ways, left_of as first_true, or_false as or_none, right_of as second_true}
+use Rattle.base_lemmas.proofs.Bools.{both_ways, or_false as or_none, right_of as second_true}
 
 -- how many marks there are
 abbrev pub marks : List Bool → ℕ
@@ -66,10 +66,7 @@ module _ {A : Type 0} (key : A → ℕ) where
 
   taken_past : (xs : List A) (x : A) (zs : List A) → HasOneMore xs x zs → (n : ℕ) (fs : List Bool) → key x < n → taken zs n fs ≡ taken xs n fs
   taken_past xs x zs more n [] h = refl
-  taken_past xs x zs more n (true ∷ fs) h =
-      let other : key x ≡ n → ⊥ = λ e. omega (arith, e, h) in
-      ap (λ k. cond (list_any (λ y. eqb (key y) n) zs) (suc k) k) (taken_past xs x zs more (suc n) fs (omega (arith, h)))
-      ∙ ap (λ b. cond b (suc (taken xs (suc n) fs)) (taken xs (suc n) fs)) (among_other xs x zs more n other)
+  taken_past xs x zs more n (true ∷ fs) h = search (std_rules, among_other, taken_past xs x zs more (suc n) fs (omega (arith, h)))
   taken_past xs x zs more n (false ∷ fs) h = taken_past xs x zs more (suc n) fs (omega (arith, h))
 
   one_more : (b : Bool) (k : ℕ) → cond b (suc (suc k)) (suc k) ≡ suc (cond b (suc k) k)
@@ -77,17 +74,9 @@ module _ {A : Type 0} (key : A → ℕ) where
 
   taken_more : (xs : List A) (x : A) (zs : List A) → HasOneMore xs x zs → (n k : ℕ) (fs : List Bool) → key x ≡ n + k → list_any (λ y. eqb (key y) (key x)) xs ≡ false → slice_get fs k ≡ Some true
       → taken zs n fs ≡ suc (taken xs n fs)
-  taken_more xs x zs more n zero (true ∷ fs) e new h =
-      let here : key x ≡ n = omega (arith, e) in
-      let absent_before : list_any (λ y. eqb (key y) n) xs ≡ false = sym (ap (λ m. list_any (λ y. eqb (key y) m) xs) here) ∙ new in
-      let found : list_any (λ y. eqb (key y) n) zs ≡ true = more n ∙ ap (λ b. b || eqb (key x) n) absent_before ∙ eq-eqb (key x) n here in
-      ap (λ b. cond b (suc (taken zs (suc n) fs)) (taken zs (suc n) fs)) found
-      ∙ ap suc (taken_past xs x zs more (suc n) fs (omega (arith, here)) ∙ sym (ap (λ b. cond b (suc (taken xs (suc n) fs)) (taken xs (suc n) fs)) absent_before))
+  taken_more xs x zs more n zero (true ∷ fs) e new h = search (std_rules, eq-eqb, taken_past)
   taken_more xs x zs more n (suc k) (true ∷ fs) e new h =
-      let other : key x ≡ n → ⊥ = λ same. omega (arith, same, e) in
-      ap (λ b. cond b (suc (taken zs (suc n) fs)) (taken zs (suc n) fs)) (among_other xs x zs more n other)
-      ∙ ap (λ j. cond (list_any (λ y. eqb (key y) n) xs) (suc j) j) (taken_more xs x zs more (suc n) k fs (omega (arith, e)) new h)
-      ∙ one_more (list_any (λ y. eqb (key y) n) xs) (taken xs (suc n) fs)
+      search (std_rules, among_other, one_more, taken_more xs x zs more (suc n) k fs (omega (arith, e)) new h)
   taken_more xs x zs more n (suc k) (false ∷ fs) e new h = taken_more xs x zs more (suc n) k fs (omega (arith, e)) new h
   taken_more xs x zs more n _ _ e new h = absurd cc
 
@@ -98,16 +87,7 @@ module _ {A : Type 0} (key : A → ℕ) where
 
   grown : (xs : List A) (x : A) (zs : List A) → HasOneMore xs x zs → length zs ≡ suc (length xs) → (fs : List Bool) → Counted xs fs → list_any (λ y. eqb (key y) (key x)) xs ≡ false
       → slice_get fs (key x) ≡ Some true → Counted zs fs
-  grown xs x zs more long fs c new h = record {
-    below = λ n. below_by n (list_any (λ y. eqb (key y) n) xs) refl;
-    count = let one = taken_more xs x zs more 0 (key x) fs (omega arith) new h in let many = c.count in omega (arith, one, many, long);
-  }
-    where
-      below_by : (n : ℕ) (b : Bool) → list_any (λ y. eqb (key y) n) xs ≡ b → list_any (λ y. eqb (key y) n) zs ≡ true → n < length fs
-      below_by n true e found = c.below n e
-      below_by n false e found =
-          let here : key x ≡ n = eqb-true (key x) n (sym (ap (λ b. b || eqb (key x) n) e) ∙ (sym (more n) ∙ found)) in
-          subst (λ m. m < length fs) here (slice_get_within fs (key x) true h)
+  grown xs x zs more long fs c new h = search (std_rules, taken_more, eqb-true, slice_get_within)
 
   -- one more number, behind the others or in front of them
   pub one_number_more : (xs : List A) (x : A) (fs : List Bool) → Counted xs fs → list_any (λ y. eqb (key y) (key x)) xs ≡ false → slice_get fs (key x) ≡ Some true → Counted (xs ++ x ∷ []) fs
@@ -129,21 +109,12 @@ module _ {A : Type 0} (key : A → ℕ) where
 
   at_most : (xs : List A) (n : ℕ) (fs : List Bool) → taken xs n fs ≤ marks fs
   at_most xs n [] = omega arith
-  at_most xs n (true ∷ fs) = by (list_any (λ x. eqb (key x) n) xs) (at_most xs (suc n) fs)
-    where
-      by : (b : Bool) → taken xs (suc n) fs ≤ marks fs → cond b (suc (taken xs (suc n) fs)) (taken xs (suc n) fs) ≤ suc (marks fs)
-      by true h = omega (arith, h)
-      by false h = omega (arith, h)
+  at_most xs n (true ∷ fs) = search (std_rules, at_most xs (suc n) fs)
   at_most xs n (false ∷ fs) = at_most xs (suc n) fs
 
   as_many : (xs : List A) (n : ℕ) (fs : List Bool) → eqb (taken xs n fs) (marks fs) ≡ all_taken xs n fs
   as_many xs n [] = refl
-  as_many xs n (true ∷ fs) = by (list_any (λ x. eqb (key x) n) xs) (as_many xs (suc n) fs)
-    where
-      by : (b : Bool) → eqb (taken xs (suc n) fs) (marks fs) ≡ all_taken xs (suc n) fs
-          → eqb (cond b (suc (taken xs (suc n) fs)) (taken xs (suc n) fs)) (suc (marks fs)) ≡ (b && all_taken xs (suc n) fs)
-      by true h = same_number (taken xs (suc n) fs) (marks fs) ∙ h
-      by false h = let fewer = at_most xs (suc n) fs in ne_eqb (taken xs (suc n) fs) (suc (marks fs)) (λ e. omega (arith, e, fewer))
+  as_many xs n (true ∷ fs) = search (std_rules, same_number, at_most, ne_eqb, as_many xs (suc n) fs)
   as_many xs n (false ∷ fs) = as_many xs (suc n) fs
 
   -- no more than there are marks, and as many where each mark is taken
@@ -154,13 +125,8 @@ module _ {A : Type 0} (key : A → ℕ) where
   exact xs fs c = ap (λ k. eqb k (marks fs)) c.count ∙ as_many xs 0 fs
 
   pub taken_at : (xs : List A) (n k : ℕ) (fs : List Bool) → all_taken xs n fs ≡ true → slice_get fs k ≡ Some true → list_any (λ x. eqb (key x) (n + k)) xs ≡ true
-  taken_at xs n zero (true ∷ fs) all h =
-      let here : n + 0 ≡ n = omega arith in
-      ap (λ m. list_any (λ x. eqb (key x) m) xs) here ∙ first_true (list_any (λ x. eqb (key x) n) xs) (all_taken xs (suc n) fs) all
+  taken_at xs n zero (true ∷ fs) all h = search std_rules
   taken_at xs n (suc k) (true ∷ fs) all h =
-      let here : n + suc k ≡ suc n + k = omega arith in
-      ap (λ m. list_any (λ x. eqb (key x) m) xs) here ∙ taken_at xs (suc n) k fs (second_true (list_any (λ x. eqb (key x) n) xs) (all_taken xs (suc n) fs) all) h
-  taken_at xs n (suc k) (false ∷ fs) all h =
-      let here : n + suc k ≡ suc n + k = omega arith in
-      ap (λ m. list_any (λ x. eqb (key x) m) xs) here ∙ taken_at xs (suc n) k fs all h
+      search (std_rules, second_true, taken_at xs (suc n) k fs (second_true (list_any (λ x. eqb (key x) n) xs) (all_taken xs (suc n) fs) all) h)
+  taken_at xs n (suc k) (false ∷ fs) all h = search (std_rules, taken_at xs (suc n) k fs all h)
   taken_at xs n _ _ all h = absurd cc

@@ -38,10 +38,7 @@ instance_step direction name n scope next e = grind (arith, bind_some, when_some
 
 described_step : (direction : Direction) (name : ExternName) (described : ComponentTypeRef) (scope next : Scope) → see_described direction name described scope ≡ Some next → StepOf scope next
 described_step direction name (refs.Instance n) scope next e = instance_step direction name n scope next e
-described_step direction name (refs.Func n) scope next e =
-    let b = bind_some (function_in (slice_get scope.slots n)) _ next e in
-    let w = when_some (is_simple name) (Some (see direction (seen_under name (Shown.function b.0)) scope)) next b.2 in
-    subst (StepOf scope) (some_is (see direction (seen_under name (Shown.function b.0)) scope) next w.1) (sees_function direction name n b.0 b.1)
+described_step direction name (refs.Func n) scope next e = search (std_rules, bind_some, when_some, some_is, sees_function)
 described_step import_ name described scope next e =
     let after : tree.Declaration × Slot → Scope = λ found. see import_ (seen_under name (Shown.declares found.0)) (in_scope found.1 scope) in
     let b = bind_some (named_type scope.slots Place.here name.text described) (λ found. provided (is_simple name) (after found)) next e in

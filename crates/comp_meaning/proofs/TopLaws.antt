@@ -1,10 +1,10 @@
 -- The top of a component, followed by levels, is the top as its raw form is followed.
-use Rattle.std.proofs.Common.{rules as std_rules, ◌≡◌, refl, sym, ap, ◌∙◌, ℕ, Bool, true, false, not, ◌&&◌, eqb, List, [], ◌∷◌, ◌++◌, length, map, Option, Some, None, option_map}
+use Rattle.std.proofs.Common.{rules as std_rules, ◌≡◌, refl, sym, ap, ◌∙◌, ℕ, Bool, ◌&&◌, eqb, List, [], ◌∷◌, ◌++◌, length, map, Option, Some, None, option_map}
 use Rattle.std.proofs.lemmas.{List.map-append, List.length-map, List.map-id, Option.slice_get-map}
-use Rattle.std.specs.{Prelude.slice_get, List.list_any}
-use Rattle.wit_model.specs.{Text.Text, Names.is_label}
+use Rattle.std.specs.{Prelude.slice_get}
+use Rattle.wit_model.specs.{Text.Text}
 use Rattle.comp_bytes.specs.{Raw.Declarations, Raw.TopType, Raw.TopExport, Reading.◌>>=◌, Levels.PartType, Levels.Piece, Levels.raw_part, Levels.raw_piece}
-use Rattle.comp_meaning.specs.{Follow.each, Follow.when, Follow.provided, Reads.steps, Reads.is_bare, Reads.exported_types}
+use Rattle.comp_meaning.specs.{Follow.each, Follow.when, Reads.steps, Reads.exported_types}
 use Rattle.comp_meaning.specs.{Rules.distinct, ByLevels.Top, ByLevels.top_part, ByLevels.top_export, ByLevels.top_piece, ByLevels.exported_parts}
 use Rattle.comp_bytes.specs.Levels as levels
 use Rattle.comp_meaning.specs.Reads as reads
@@ -24,13 +24,7 @@ steps_along f g step other h (x ∷ xs) s = ap (λ o. o >>= λ next. steps other
 pub each_along : {A B C D : Type 0} (g : A → B) (h : C → D) (f : A → Option C) (other : B → Option D) → ((x : A) → other (g x) ≡ option_map h (f x)) → (xs : List A)
     → each other (map g xs) ≡ option_map (map h) (each f xs)
 each_along g h f other same [] = refl
-each_along g h f other same (x ∷ xs) = ap (λ o. o >>= λ y. each other (map g xs) >>= λ ys. Some (y ∷ ys)) (same x)
-    ∙ (ap (λ o. option_map h (f x) >>= λ y. o >>= λ ys. Some (y ∷ ys)) (each_along g h f other same xs) ∙ by (f x) (each f xs))
-  where
-    by : (o : Option _) (os : Option (List _)) → (option_map h o >>= λ y. option_map (map h) os >>= λ ys. Some (y ∷ ys)) ≡ option_map (map h) (o >>= λ y. os >>= λ ys. Some (y ∷ ys))
-    by None os = refl
-    by (Some y) None = refl
-    by (Some y) (Some ys) = refl
+each_along g h f other same (x ∷ xs) = search (std_rules, each_along g h f other same xs)
 
 -- ---- the top
 
@@ -45,19 +39,7 @@ part_along : (top : Top) (p : PartType) → reads.top_type (raw_top top) (TopTyp
 part_along top p = search (std_rules, top_at, map-append, length-map)
 
 export_along : (top : Top) (e : TopExport) → reads.top_export (raw_top top) e ≡ option_map raw_top (top_export top e)
-export_along top e = by (slice_get top.slots e.type_index)
-  where
-    test : (n : ℕ) (b : Bool) → provided b (record { types = map raw_part top.types; slots = top.slots ++ n ∷ []; exported = top.exported ++ (e.exported_as.text, n) ∷ [] })
-        ≡ option_map raw_top (provided b (record { types = top.types; slots = top.slots ++ n ∷ []; exported = top.exported ++ (e.exported_as.text, n) ∷ [] }))
-    test n true = refl
-    test n false = refl
-
-    by : (o : Option ℕ) → (o >>= λ n. provided (is_bare e.exported_as && (is_label e.exported_as.text && not (list_any (λ x. eqb x.1 n) top.exported)))
-        (record { types = map raw_part top.types; slots = top.slots ++ n ∷ []; exported = top.exported ++ (e.exported_as.text, n) ∷ [] }))
-        ≡ option_map raw_top (o >>= λ n. provided (is_bare e.exported_as && (is_label e.exported_as.text && not (list_any (λ x. eqb x.1 n) top.exported)))
-        (record { types = top.types; slots = top.slots ++ n ∷ []; exported = top.exported ++ (e.exported_as.text, n) ∷ [] }))
-    by None = refl
-    by (Some n) = test n (is_bare e.exported_as && (is_label e.exported_as.text && not (list_any (λ x. eqb x.1 n) top.exported)))
+export_along top e = search std_rules
 
 piece_along : (top : Top) (p : Piece) → reads.top_section (raw_top top) (raw_piece p) ≡ option_map raw_top (top_piece top p)
 piece_along top (levels.custom name contents) = refl

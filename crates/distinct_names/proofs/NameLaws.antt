@@ -1,5 +1,5 @@
 -- Names, none of which stands twice: as they are put into a table one after the other, and as labels.
-use Rattle.std.proofs.Common.{◌≡◌, sym, ◌∙◌, ℕ, ◌+◌, ◌<◌, ◌≤◌, ap, Bool, true, false, not, ◌&&◌, cond, List, [], ◌∷◌, ◌++◌, map, drop, length, get_or, Result, Ok, Err, IfOk}
+use Rattle.std.proofs.Common.{rules as std_rules, ◌≡◌, sym, ◌∙◌, ℕ, ◌+◌, ◌<◌, ◌≤◌, Bool, true, false, not, cond, List, [], ◌∷◌, ◌++◌, map, drop, length, get_or, Result, IfOk}
 use Rattle.std.specs.{Borrow.Bor, List.list_all, List.list_any}
 use Rattle.wit_model.specs.{Text.Text, Text.text_eq, Names.is_label}
 use Rattle.wit_model.proofs.Distinct.{adds_new, adds_distinct, new_turn, old_turn, last_turn}
@@ -29,5 +29,4 @@ names_all name items i ks past kept = sym (last_turn text_eq name items i (map s
 
 -- texts that are labels, each once
 pub labels_good : {E : Type 0} (r : Result Bool E) (ls : List Text) → list_all is_label ls ≡ true → IfOk r (λ b. b ≡ distinct ls) → IfOk r (λ b. b ≡ are_labels ls)
-labels_good (Ok b) ls all h = h ∙ sym (ap (λ c. c && distinct ls) all)
-labels_good (Err e) ls all h = tt
+labels_good x ls all h = search std_rules

@@ -1,7 +1,7 @@
 -- A plan that was read can be built.
-use Rattle.std.proofs.Common.{◌≡◌, true, ◌&&◌, List, ◌++◌}
+use Rattle.std.proofs.Common.{rules as std_rules, ◌≡◌, true, ◌&&◌, List, ◌++◌}
 use Rattle.std.proofs.lemmas.Bool.{and_from as both}
-use Rattle.wit_model.specs.{Text.Text, Names.is_label, Names.is_identity, Names.is_optional_version, Rules.passes, Rules.are_distinct}
+use Rattle.wit_model.specs.{Text.Text, Names.is_label, Names.is_identity, Rules.passes, Rules.are_distinct}
 use Rattle.plan_meaning.specs.{Plan.PlannedPackage, Plan.PlannedInterface, PlanRules.names_of, PlanRules.members_differ, PlanRules.interface_labels}
 use Rattle.plan_build.specs.Buildable.{PlansAreBuildable, has_version, package_differs, interface_differs}
 use Rattle.base_lemmas.proofs.{Bools.right_of as second_true, Elements.all_weaker}
@@ -11,9 +11,7 @@ parts_distinct : (xs ys : List Text) → are_distinct (xs ++ ys) ≡ true → (a
 parts_distinct xs ys h = both (are_distinct xs) (are_distinct ys) (front_distinct xs ys h) (back_distinct xs ys h)
 
 version_is : (k : PlannedPackage) → is_identity k.identity ≡ true → has_version k ≡ true
-version_is k h =
-    let rest = second_true (is_label k.identity.namespace) (is_label k.identity.name && is_optional_version k.identity.version) h in
-    second_true (is_label k.identity.name) (is_optional_version k.identity.version) rest
+version_is k h = search (std_rules, second_true)
 
 package_apart : (k : PlannedPackage) → members_differ k ≡ true → package_differs k ≡ true
 package_apart k h = parts_distinct (names_of k.interfaces) (names_of k.worlds) h
@@ -22,9 +20,4 @@ interface_apart : (i : PlannedInterface) → interface_labels i ≡ true → int
 interface_apart i h = parts_distinct (names_of i.types) (names_of i.functions) (second_true (passes is_label i.name) (are_distinct (names_of i.types ++ names_of i.functions)) h)
 
 pub plans_are_buildable : PlansAreBuildable
-plans_are_buildable p is = record {
-  versions = all_weaker (λ k. is_identity k.identity) has_version version_is p.packages is.identities;
-  packages = all_weaker members_differ package_differs package_apart p.packages is.members_differ;
-  interfaces = all_weaker interface_labels interface_differs interface_apart p.interfaces is.interface_labels;
-  worlds = is.keys_differ;
-}
+plans_are_buildable p is = search (std_rules, all_weaker, version_is, package_apart, interface_apart)

@@ -1,5 +1,5 @@
 -- Maps that are built of lists whose keys differ.
-use Rattle.std.proofs.Common.{◌≡◌, refl, sym, ap, ◌∙◌, ℕ, zero, suc, ◌+◌, ◌<◌, Bool, true, false, ◌&&◌, not, List, [], ◌∷◌, ◌++◌, map, take, length, get_or, option_map, Some, slice_get}
+use Rattle.std.proofs.Common.{rules as std_rules, ◌≡◌, refl, sym, ap, ◌∙◌, ℕ, zero, suc, ◌+◌, ◌<◌, Bool, true, false, ◌&&◌, not, List, [], ◌∷◌, ◌++◌, map, take, length, get_or, option_map, Some, slice_get}
 use Rattle.std.proofs.lemmas.{List.map-append, List.take-map, Bool.not-true as not_true, Bool.or_from as none_or, Bool.or_parts as none_of}
 use Rattle.std.proofs.lemmas.Option.{slice_get-get_or, slice_get-map as get_of_map}
 use Rattle.std.specs.{List.list_any, List.AllByRecursion, Map.keys_of, Map.values_of}
@@ -28,9 +28,7 @@ module _ {C : Type 0} (same : C → C → Bool) (flips : (a b : C) → same a b 
   fresh [] i c h e = absurd cc
   fresh (d ∷ ds) zero c h e = refl
   fresh (d ∷ ds) (suc i) c h e =
-      none_or (same c d) (list_any (same c) (take i ds))
-      (flips c d ∙ unlike d c ds i (not_true (list_any (same d) ds) (first_true (not (list_any (same d) ds)) (differ same ds) h)) e)
-      (fresh ds i c (second_true (not (list_any (same d) ds)) (differ same ds) h) e)
+      search (std_rules, none_or, unlike, not_true, first_true, second_true, fresh ds i c (second_true (not (list_any (same d) ds)) (differ same ds) h) e)
 
   module _ {K V W A : Type 0} (eq : K → K → Bool) (view : K → C) (agrees : (a b : K) → eq a b ≡ same (view a) (view b)) (f : V → W) (g : A → C × W) where
     -- an entry of the map as one of the list

@@ -1,18 +1,16 @@
 -- Maps whose keys are names, and those whose keys are of imports and exports.
-use Rattle.std.proofs.Common.{◌≡◌, refl, sym, subst, ap, ◌∙◌, ℕ, Bool, true, ◌&&◌, not, List, [], ◌∷◌, map, String}
+use Rattle.std.proofs.Common.{rules as std_rules, ◌≡◌, refl, sym, subst, ap, ◌∙◌, ℕ, Bool, true, ◌&&◌, not, List, [], ◌∷◌, map, String}
 use Rattle.std.specs.{Borrow.Bor, List.list_any}
 use Rattle.std.specs.declared.alloc.Global.{Global}
 use Rattle.wit_model.specs.declared.model.WorldKey.{WorldKey}
 use Rattle.wit_model.specs.{Text.Text, Text.text_of, Text.text_eq, Rules.are_distinct}
-use Rattle.wit_model.proofs.Distinct.{text_eq_flip}
-use Rattle.plan_meaning.specs.{Plan.PlannedKey, Plan.PlannedItem, Plan.label, Plan.path_of, PlanRules.names_of, PlanRules.same_key, PlanRules.keys_differ}
+use Rattle.plan_meaning.specs.{Plan.PlannedKey, Plan.PlannedItem, PlanRules.names_of, PlanRules.same_key, PlanRules.keys_differ}
 use Rattle.plan_meaning.specs.Built.{planned_key}
 use Rattle.plan_build.specs.PlanOf.{stated_entry, stated_number, built_number}
 use Rattle.plan_build.specs.declared.plan.{PlannedKey.PlannedKey as GivenKey, PlannedItem.PlannedItem as GivenItem}
 use Rattle.plan_build.proofs.Mapping.{differ}
-use Rattle.base_lemmas.proofs.{Elements.any_of_map, Lists.map_of_map, Numbers.turned as number_flip}
+use Rattle.base_lemmas.proofs.{Elements.any_of_map, Lists.map_of_map}
 use Rattle.wit_model.specs.contracts.model.WorldKeyPartialEq.TheImpl as world_key
-use Rattle.wit_model.specs.declared.model.WorldKey.TheVariants as key
 
 -- ---- lists whose names, or keys, differ
 
@@ -31,19 +29,13 @@ pub entries_apart : (es : List (GivenKey × GivenItem)) → keys_differ (map sta
 entries_apart es h = ap (differ same_key) (sym (map_of_map (λ (e : PlannedKey × PlannedItem). e.0) stated_entry es)) ∙ (keys_apart (map stated_entry es) ∙ h)
 
 pub same_key_flip : (a b : PlannedKey) → same_key a b ≡ same_key b a
-same_key_flip (label a) (label b) = text_eq_flip a b
-same_key_flip (label a) (path_of n) = refl
-same_key_flip (path_of m) (label b) = refl
-same_key_flip (path_of m) (path_of n) = number_flip m n
+same_key_flip x y = search std_rules
 
 abbrev pub key_test : WorldKey → WorldKey → Bool
 key_test = world_key.ghosts.eq
 
 pub same_keys : (a b : WorldKey) → key_test a b ≡ same_key (planned_key a) (planned_key b)
-same_keys (key.Name a) (key.Name b) = refl
-same_keys (key.Name a) (key.Interface n) = refl
-same_keys (key.Interface m) (key.Name b) = refl
-same_keys (key.Interface m) (key.Interface n) = refl
+same_keys x y = search std_rules
 
 -- ---- numbers under their names
 

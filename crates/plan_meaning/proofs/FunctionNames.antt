@@ -5,7 +5,7 @@ use Rattle.std.specs.{List.list_all, Option.option_map_or}
 use Rattle.std.specs.declared.alloc.Global.{Global}
 use Rattle.wit_model.specs.declared.model.{Resolve.Resolve, WorldItem.WorldItem, TypeDefKind.TypeDefKind, «Type».«Type» as ValueType, FunctionKind.FunctionKind}
 use Rattle.wit_model.specs.declared.model.{World.World, WorldKey.WorldKey, TypeDef.TypeDef, TypeOwner.TypeOwner, Param.Param, Function.Function}
-use Rattle.wit_model.specs.{Text.Text, Text.text_of, Text.text_eq, Text.optional_text, Tree.Form, Lookup.type_at, Lookup.resource_of, Lookup.world_at}
+use Rattle.wit_model.specs.{Text.Text, Text.text_of, Text.text_eq, Text.optional_text, Tree.Form, Lookup.type_at, Lookup.world_at}
 use Rattle.wit_model.specs.{Rules.passes, Rules.is_name_key}
 use Rattle.wit_model.specs.{Types.number_of, Valid.Keeps, Valid.function_names, Valid.as_interface, Valid.as_world, Valid.item_function}
 use Rattle.wit_model.proofs.{Checks.keeps_two, RulesLemmas.each_by_number}
@@ -76,14 +76,7 @@ module _ (r : Resolve) (m : ℕ) where
   resource_name_is o = search (std_rules, then_there, resource_itself)
 
   pub member_is : (o : TypeOwner) (f : Function) → planned.is_member (plan_of r m) o (planned_function f) ≡ rules.is_member r o f
-  member_is o f = ap (λ test. passes test (resource_of f.kind)) (λ i n. at n i)
-    where
-      at : (n : ℕ) → option_map_or (λ name. planned.is_member_of (plan_of r m) n name (planned_function f) f.kind) (planned.resource_name (plan_of r m) o n) false ≡ option_map_or
-          (λ name. rules.is_member_of r n name f f.kind) (rules.resource_name r o n) false
-      at n =
-          ap (λ x. option_map_or (λ name. planned.is_member_of (plan_of r m) n name (planned_function f) f.kind) x false) (resource_name_is o n)
-          ∙ same_or (λ name. planned.is_member_of (plan_of r m) n name (planned_function f) f.kind) (λ name. rules.is_member_of r n name f f.kind) false (λ name. member_of_is n name f f.kind)
-          (rules.resource_name r o n)
+  member_is o f = search (std_rules, plan_of, resource_name_is, same_or, member_of_is)
 
   pub belongs : (o : TypeOwner) (f : Function) → planned.is_member (plan_of r m) o (planned_function f) ≡ true → rules.is_member r o f ≡ true
   belongs o f h = sym (member_is o f) ∙ h

@@ -2,15 +2,15 @@
 use Rattle.std.proofs.Common.{rules as std_rules, ◌≡◌, refl, sym, ap, subst, ◌∙◌, ℕ, ◌+◌, arith, Bool, true, false, not, ◌&&◌, ◌==◌, cond, List, [], ◌∷◌, ◌++◌, map, filter_map, Option, Some, None, option_map, unwrap_or, slice_get, rules}
 use Rattle.std.proofs.lemmas.List.Elements.{Contains-append_right}
 use Rattle.std.specs.{Prelude.option_and_then, Option.option_map_or, FinMap.from_entries}
-use Rattle.std.specs.List.{AllByRecursion, AllZip, Contains, cons_option, filter, flat_map, list_any}
+use Rattle.std.specs.List.{AllByRecursion, AllZip, Contains, filter, flat_map, list_any}
 use Rattle.wit_model.specs.Text.{Text, TextMap, text_eq}
-use Rattle.wit_model.specs.{Tree.Form, Tree.Tree, Tree.Declaration, Tree.children, Rules.is_id, Meant.no_type, Meant.no_interface, Meant.no_world}
+use Rattle.wit_model.specs.{Tree.Form, Tree.Tree, Tree.Declaration, Tree.children, Meant.no_type, Meant.no_interface, Meant.no_world}
 use Rattle.wit_model.specs.{Types.no_tree, Meaning.FunctionMeaning, Meaning.TypeMeaning, Meaning.InterfaceMeaning, Meaning.WorldMeaning, Meaning.Item}
 use Rattle.wit_model.proofs.Elements.{contains-flat}
 use Rattle.comp_meaning.specs.{Follow.Scope, Follow.View, Follow.provided, SameLaws.named_meaning}
 use Rattle.comp_meaning.specs.Reads.{Part, Member, Sight, seen_meaning, is_of, package_with}
 use Rattle.plan_meaning.specs.{Shapes.node_shape, Shapes.part_tree, Shapes.shape_trees, Gathering.AreEnough, NumberedRules.Fact}
-use Rattle.plan_meaning.specs.Plan.{Plan, PlannedKind, PlannedFunction, PlannedInterface, PlannedKey, PlannedItem, PlannedWorld, path_of_planned, declared_as, trees_in}
+use Rattle.plan_meaning.specs.Plan.{Plan, PlannedKind, PlannedFunction, PlannedInterface, PlannedKey, PlannedItem, PlannedWorld, declared_as, trees_in}
 use Rattle.plan_meaning.specs.PlanMeaning.{type_meaning_in, function_meaning, interface_meaning_in, world_meaning_in, foreign_entry, shown_entry, plan_meaning, plan_world_meaning}
 use Rattle.plan_meaning.specs.NumberedViews.{FunctionShape, Tables, path_text, place_at, tree_at, signature_over, function_at, AreTables, NumberedType, NumberedFunction, NumberedView, view_of, declaration_of, shown_type, shown_function, NumberedSight, sight_of, IsSight, agree_in_numbers}
 use Rattle.plan_meaning.specs.NumberedWorlds.{path, label, implementing, NumberedShown, instance, function, declares, NumberedSeen, shown_of, seen_of, NumberedScope, Shows, sights_of_scope, HasPath}
@@ -29,11 +29,7 @@ use Rattle.plan_meaning.specs.PlanMeaning as planned
 
 filter_mapped : {X Y Z : Type 0} (g : X → Option Z) (h : X → Option Y) (f : Y → Z) → ((x : X) → g x ≡ option_map f (h x)) → (xs : List X) → filter_map g xs ≡ map f (filter_map h xs)
 filter_mapped g h f same [] = refl
-filter_mapped g h f same (x ∷ xs) = ap (λ o. cons_option o (filter_map g xs)) (same x) ∙ by (h x) (filter_mapped g h f same xs)
-  where
-    by : (o : Option _) → filter_map g xs ≡ map f (filter_map h xs) → cons_option (option_map f o) (filter_map g xs) ≡ map f (cons_option o (filter_map h xs))
-    by None more = more
-    by (Some y) more = ap (λ zs. f y ∷ zs) more
+filter_mapped g h f same (x ∷ xs) = search (std_rules, filter_mapped g h f same xs)
 
 module _ (t : Tables) (tables : AreTables t) (kept : List ℕ) (p : Plan) (keeps : Keeps t kept p) where
   -- ---- types
@@ -53,9 +49,7 @@ module _ (t : Tables) (tables : AreTables t) (kept : List ℕ) (p : Plan) (keeps
   declared_kept : (d : Option ℕ) (kind : PlannedKind) → DeclaresKind t kept p d kind → declared_as (trees_in p) kind ≡ declaration_of t d
   declared_kept d kind (a_resource e k) = ap (declared_as (trees_in p)) k ∙ sym (ap (declaration_of t) e)
   declared_kept d kind (a_name old new e no_form b k) = ap (declared_as (trees_in p)) k ∙ (ap Declaration.type_ (part_kept old new b) ∙ sym (ap (declaration_of t) e))
-  declared_kept d kind (a_form old n form olds news e is there z k) =
-      ap (declared_as (trees_in p)) k
-      ∙ (ap (λ ts. Declaration.type_ (Tree.node form (children ts))) (parts_kept olds news z) ∙ (ap Declaration.type_ (sym (form_tree old n form olds is there)) ∙ sym (ap (declaration_of t) e)))
+  declared_kept d kind (a_form old n form olds news e is there z k) = search (std_rules, parts_kept, form_tree)
 
   type_kept : (d : Option ℕ) (id : Option Text) (n : ℕ) → TypeBecomes t kept p d id n → type_meaning_in p n ≡ record { declaration = declaration_of t d; external_id = id }
   type_kept d id n b = ap (λ o. option_map_or (planned.type_meaning p) o no_type) b.stands ∙ λ i. record { declaration = declared_kept d b.type_.kind b.kind i; external_id = b.same_id i }
@@ -106,8 +100,7 @@ module _ (t : Tables) (tables : AreTables t) (kept : List ℕ) (p : Plan) (keeps
   item_kept : (s : NumberedShown) (id : Option Text) (x : PlannedItem) → ItemBecomes t kept p s id x → planned.item_meaning p x ≡ reads.item_of (shown_of t s)
   item_kept (instance (path q) v) id (plan.interface n other) h = ap (λ o. option_map_or Item.interface o (Item.inline (interface_meaning_in p n))) h.1
   item_kept (instance (implementing l q) v) id (plan.interface n other) h = ap (λ o. option_map_or Item.interface o (Item.inline (interface_meaning_in p n))) h.1
-  item_kept (instance (label l q) v) id (plan.interface n other) h =
-      ap (λ o. option_map_or Item.interface o (Item.inline (interface_meaning_in p n))) h.1.0 ∙ ap Item.inline (interface_there v v.functions n h.1.1)
+  item_kept (instance (label l q) v) id (plan.interface n other) h = search (std_rules, interface_there v v.functions n h.1.1)
   item_kept (function m) id (plan.function g) h = ap Item.function (signature_kept (function_at t m) id g h)
   item_kept (declares d) id (plan.declares n) h = ap (λ (x : TypeMeaning). Item.declares x.declaration) (type_kept d id n h)
   item_kept _ id _ h = absurd h
@@ -117,8 +110,7 @@ module _ (t : Tables) (tables : AreTables t) (kept : List ℕ) (p : Plan) (keeps
 
   entries_kept : (ss : List NumberedSeen) (es : List (PlannedKey × PlannedItem)) → AllZip (SeenBecomes t kept p) ss es → planned.entries_meaning p es ≡ map reads.entry (map (seen_of t) ss)
   entries_kept [] [] z = refl
-  entries_kept (s ∷ ss) (e ∷ es) z =
-      λ i. (z.0.0 i, record { item = item_kept s.shown s.external_id e.1 z.0.1 i; external_id = id_kept s.shown s.external_id e.1 z.0.1 i }) ∷ entries_kept ss es z.1 i
+  entries_kept (s ∷ ss) (e ∷ es) z = search (std_rules, item_kept, id_kept, entries_kept ss es z.1)
   entries_kept _ _ z = absurd z
 
   world_kept : (w : NumberedScope) (x : PlannedWorld) → WorldBecomes t kept p w x → (scope : Scope) → Shows t w scope → planned.world_meaning p x ≡ reads.world_meaning scope
@@ -260,18 +252,10 @@ abbrev planned_under : PlannedInterface → Text → Text × PlannedInterface
 planned_under x q = (q, x)
 
 shown_is : (p : Plan) (x : PlannedInterface) → shown_entry p x ≡ option_map (meant_entry p) (under_path p x)
-shown_is p x = by (path_of_planned p x)
-  where
-    by : (o : Option Text) → option_map (meant_under p x) o ≡ option_map (meant_entry p) (option_map (planned_under x) o)
-    by None = refl
-    by (Some q) = refl
+shown_is p x = search std_rules
 
 foreign_is : (p : Plan) (x : PlannedInterface) → foreign_entry p x ≡ option_map (meant_entry p) (foreign_interface p x)
-foreign_is p x = by (is_id p.main x.package_)
-  where
-    by : (b : Bool) → cond b None (shown_entry p x) ≡ option_map (meant_entry p) (cond b None (under_path p x))
-    by true = refl
-    by false = shown_is p x
+foreign_is p x = search std_rules
 
 -- ---- a package
 
@@ -332,10 +316,7 @@ module _ (t : Tables) (tables : AreTables t) (h : Homes) (stand : HomesStand t h
 
   package_is_meant : plan_meaning p ≡ package_with g.main.identity members
   unfolding plan_meaning
-  package_is_meant =
-      ap (option_map (planned.package_meaning p)) g.stands
-      ∙ (ap Some package_means
-      ∙ sym (packages_in_numbers t tables h stand known n g.main.identity g.identity ms members z all ∙ ap (λ b. provided b (package_shown g.main.identity members)) are))
+  package_is_meant = search (std_rules, package_means, packages_in_numbers t tables h stand known n g.main.identity g.identity ms members z all)
 
 pub gathered_package_is_meant : GatheredPackageIsMeant
 gathered_package_is_meant t tables h stand known n ms members z all are p g = package_is_meant t tables h stand known n ms members z all are p g

@@ -2,10 +2,9 @@
 use Rattle.std.proofs.Common.{rules as std_rules, ◌≡◌, refl, ap, ◌∙◌, ℕ, ◌&&◌, List, [], map, filter, filter_map, Option}
 use Rattle.std.specs.List.{list_all}
 use Rattle.wit_model.specs.declared.model.{Resolve.Resolve, World.World, WorldItem.WorldItem}
-use Rattle.wit_model.specs.Parts.{used_by_type}
 use Rattle.wit_model.specs.{Uses.has, Uses.items_of, Rules.each_after, Valid.Keeps, Valid.order_of_items, Valid.as_world}
 use Rattle.wit_model.proofs.{Entries.worlds_keep, RulesLemmas.after_of_map}
-use Rattle.plan_meaning.specs.{Plan.kind_numbers, Plan.used_by_numbers, Built.planned_type, Built.planned_world, Built.planned_item}
+use Rattle.plan_meaning.specs.{Plan.used_by_numbers, Built.planned_world, Built.planned_item}
 use Rattle.plan_meaning.specs.PlanRules.{IsPlan}
 use Rattle.plan_meaning.proofs.{Lists.each_built, Lists.or_there, FunctionRules.items_are, WorldItems.item_interface_is, TypeOrder.item_types_are}
 use Rattle.plan_meaning.proofs.Words.{plan_of, function_numbers_are, has_owner_is, used_are, used_by_kind_is, interface_used_is, direct_uses_are}
@@ -29,8 +28,7 @@ module _ (r : Resolve) (m : ℕ) where
   types_are w (item.Function f) =
       ap (λ ns. filter (plan.has_owner (plan_of r m) (as_world w)) (used_by_numbers (plan_of r m) ns)) (function_numbers_are f)
       ∙ (λ i. filter (λ n. has_owner_is r m (as_world w) n i) (used_are r m (parts.function_numbers f) i))
-  types_are w (item.Type_ id) = λ i. filter (λ n. has_owner_is r m (as_world w) n i)
-      ((or_there (λ t. used_by_numbers (plan_of r m) (kind_numbers t.kind)) planned_type (used_by_type r) [] (λ def. used_by_kind_is r m def.kind) r.types.items) id.0 i)
+  types_are w (item.Type_ id) = search (std_rules, has_owner_is, or_there, plan_of, used_by_kind_is)
 
   before_is : (w : ℕ) (before : List WorldItem) (x : WorldItem) → planned.uses_stand_before (plan_of r m) w (map planned_item before) (planned_item x) ≡ rules.uses_stand_before r w before x
   before_is w before x = λ i. list_all (has (item_interfaces_are before i)) (interfaces_are x i) && list_all (has (item_types_are before i)) (types_are w x i)

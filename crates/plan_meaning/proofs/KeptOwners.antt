@@ -202,8 +202,7 @@ module _ (t : Tables) (tables : AreTables t) (kept : List ℕ) (p : Plan) (are :
                 no_true (sym no_form ∙ (ap (λ o. option_map_or (λ (y : Shape). not (y.sort == 0)) o false) (shape_there t old m (node_shape form olds) from at) ∙ ap not (no_name form)))
 
   type_fine : (j n : ℕ) (x : PlannedType) → slice_get p.types j ≡ Some x → slice_get kept j ≡ Some n → IsKeptType t kept p n x → type_stays p x ≡ true
-  type_fine j n x e stands (unnamed place form olds news there z name unowned kind part low) =
-      ap (λ b. b || (list_all (has_owner p x.owner) (flat_map (met_by all_met) (kind_numbers x.kind)) || (is_some x.name && is_use p x))) (ap (λ o. same_owner o owner.None) unowned)
+  type_fine j n x e stands (unnamed place form olds news there z name unowned kind part low) = search std_rules
   type_fine j n x e stands (declared r name d there named home kind before good obeys) =
       or_right (same_owner x.owner owner.None) (list_all (has_owner p x.owner) (flat_map (met_by all_met) (kind_numbers x.kind)) || (is_some x.name && is_use p x))
       (kind_fine j n x e stands r name there named (owned.owned j n x r name e stands there) d obeys kind)

@@ -1,14 +1,12 @@
 -- What holds of the parts of a list, of the numbers that they become; the parts of a function in one list.
-use Rattle.std.proofs.Common.{◌≡◌, refl, sym, ap, ◌∙◌, ◌<◌, ℕ, ◌+◌, ◌-◌, arith, Bool, true, ◌&&◌, cond, List, [], ◌∷◌, ◌++◌, length, map, filter_map, Option, Some, None, option_map, option_to_list, is_some, slice_get, subst}
-use Rattle.std.proofs.lemmas.{Bool.lt-ltb, Bool.and_from as both, List.Folds.list_all-map, Option.same_Some as same-some}
+use Rattle.std.proofs.Common.{rules as std_rules, ◌≡◌, sym, ◌∙◌, ◌<◌, ℕ, ◌+◌, ◌-◌, Bool, true, List, [], ◌∷◌, ◌++◌, length, map, filter_map, Option, Some, None, option_to_list, slice_get, subst}
+use Rattle.std.proofs.lemmas.{Bool.and_from as both, List.Folds.list_all-map, Option.same_Some as same-some}
 use Rattle.std.specs.List.{AllByRecursion, AllZip, Contains, list_all}
-use Rattle.wit_model.specs.{Text.Text, Tree.Place, Tree.Tree}
-use Rattle.comp_meaning.specs.Rules.{are_labels}
+use Rattle.wit_model.specs.{Text.Text, Tree.Place}
 use Rattle.plan_meaning.specs.Plan.{Plan, PlannedFunction, function_parts, part_number, PlannedType}
-use Rattle.plan_meaning.specs.{Renumbering.IsPart, Renumbering.a_primitive, Renumbering.a_shape, KeptTypes.IsKeptType, KeptTypes.TypesAreKept}
+use Rattle.plan_meaning.specs.{KeptTypes.IsKeptType, KeptTypes.TypesAreKept}
 use Rattle.plan_meaning.specs.NumberedViews.{FunctionShape, Tables, AllOf, PartsOf, tree_at, signature_over}
 use Rattle.plan_meaning.specs.GatheredPlan.{Becomes, BecomesIfGiven, FunctionBecomes, ParamBecomes}
-use Rattle.plan_meaning.proofs.{Lists.no_true, Words.behind}
 use Rattle.base_lemmas.proofs.{Bools.left_of as first_true, Bools.right_of as second_true, Lists.within_there as slice_there}
 use Rattle.base_lemmas.proofs.Elements.{all_both, all_pass, filter_map_from, get-contains, joined_well, seconds, zip-append, zip_at_right}
 use Rattle.comp_meaning.specs.Rules as rules
@@ -27,20 +25,7 @@ all_parts P f h = all_both P (map (λ (x : Text × ℕ). x.1) f.params) (option_
 -- the parts of a signature that obeys the rules may be parameters
 pub signature_parts : (t : Tables) (place : Place) (f : FunctionShape) → rules.is_signature place (signature_over (tree_at t) f) ≡ true
     → list_all (λ k. rules.is_parameter_type place (tree_at t k)) (shape_parts f) ≡ true
-signature_parts t place f h =
-    let trees = map (λ (x : Text × ℕ). (x.0, tree_at t x.1)) f.params in
-    let labels = are_labels (map (λ (x : Text × Tree). x.0) trees) in
-    let params = list_all (λ (x : Text × Tree). rules.is_parameter_type place x.1) trees in
-    let result = rules.is_result_type place (option_map (tree_at t) f.result) in
-    joined_well (λ k. rules.is_parameter_type place (tree_at t k)) (map (λ (x : Text × ℕ). x.1) f.params) (option_to_list f.result)
-    (list_all-map (λ k. rules.is_parameter_type place (tree_at t k)) (λ (x : Text × ℕ). x.1) f.params
-    ∙ (sym (list_all-map (λ (x : Text × Tree). rules.is_parameter_type place x.1) (λ (x : Text × ℕ). (x.0, tree_at t x.1)) f.params)
-    ∙ second_true labels params (first_true (labels && params) result h)))
-    (given f.result (second_true (labels && params) result h))
-  where
-    given : (o : Option ℕ) → rules.is_result_type place (option_map (tree_at t) o) ≡ true → list_all (λ k. rules.is_parameter_type place (tree_at t k)) (option_to_list o) ≡ true
-    given None h = refl
-    given (Some k) h = both _ true h refl
+signature_parts t place f h = search (std_rules, joined_well, list_all-map, second_true, first_true, both)
 
 -- the type of a shape that is kept
 pub kept_at : (t : Tables) (kept : List ℕ) (p : Plan) → TypesAreKept t kept p → (j m : ℕ) → j < length p.types → slice_get kept j ≡ Some m
@@ -68,16 +53,7 @@ module _ (t : Tables) (kept : List ℕ) (p : Plan) where
 
   -- a number of the plan, and the shape that it is of
   pub number_from : (old new : ℕ) → Becomes t kept p old new → (j : ℕ) → part_number new ≡ Some j → (m : ℕ) × (old ≡ 14 + m) × (slice_get kept j ≡ Some m) × (j < length p.types)
-  number_from old new is j e = by is.part
-    where
-      by : IsPart kept old new → (m : ℕ) × (old ≡ 14 + m) × (slice_get kept j ≡ Some m) × (j < length p.types)
-      by (a_primitive low same) =
-          let less : new < 14 = omega (arith, low, same) in
-          no_true (ap is_some (sym (ap (λ v. cond v None (Some (new - 14))) (lt-ltb new 14 less)) ∙ e))
-      by (a_shape m i from stands to) =
-          let range = is.range in
-          let one : i ≡ j = same-some i j (sym (ap part_number to ∙ behind i) ∙ e) in
-          (m, from, ap (slice_get kept) (sym one) ∙ stands, omega (arith, range, to, one))
+  number_from old new is j e = search std_rules
 
   module _ (olds news : List ℕ) (z : AllZip (Becomes t kept p) olds news) where
     pub part_from : (j : ℕ) → Contains (filter_map part_number news) j → (old : ℕ) × Contains olds old × (m : ℕ) × (old ≡ 14 + m) × (slice_get kept j ≡ Some m) × (j < length p.types)

@@ -1,12 +1,12 @@
 -- Types of a plan that are those of kept shapes pass the tests on types.
-use Rattle.std.proofs.Common.{rules as std_rules, ◌≡◌, refl, sym, ap, subst, ◌∙◌, ℕ, ◌+◌, ◌-◌, ◌<◌, ◌≤◌, arith, true, false, not, ◌&&◌, ◌||◌, cond, List, [], ◌∷◌, length, map, filter_map, Option, Some, None, is_some, slice_get}
-use Rattle.std.proofs.lemmas.{Bool.eq-eqb, Bool.lt-ltb, Bool.le-leb, Bool.leb-true, Bool.and_from as both, Option.slice_get_past as slice_past}
+use Rattle.std.proofs.Common.{rules as std_rules, ◌≡◌, refl, sym, ap, subst, ◌∙◌, ℕ, ◌+◌, ◌-◌, ◌<◌, ◌≤◌, arith, true, false, not, ◌&&◌, ◌||◌, List, [], ◌∷◌, length, map, filter_map, Option, Some, is_some, slice_get}
+use Rattle.std.proofs.lemmas.{Bool.lt-ltb, Bool.le-leb, Bool.leb-true, Bool.and_from as both, Option.slice_get_past as slice_past}
 use Rattle.std.proofs.lemmas.List.Folds.{list_all-map}
 use Rattle.std.specs.{Prelude.nat_le, Prelude.nat_lt, List.AllByRecursion, List.AllZip, List.list_all, Option.option_map_or}
 use Rattle.wit_model.specs.{Text.Text, Names.is_label, Rules.each_from, Rules.are_member_labels, Rules.has_items, Rules.passes}
 use Rattle.wit_model.specs.Tree.{Place, Form, Tree, Declaration, children, deepest, levels}
 use Rattle.comp_meaning.specs.{Rules.are_labels, Rules.are_parts, Rules.form_labels, Rules.is_named_form, Rules.most_levels, Follow.is_key_primitive}
-use Rattle.plan_meaning.specs.Shapes.{Shape, form_code, node_shape, named_shape, part_tree, primitives, IsShape, a_name, a_node}
+use Rattle.plan_meaning.specs.Shapes.{Shape, node_shape, named_shape, part_tree, primitives}
 use Rattle.plan_meaning.specs.Plan.{Plan, PlannedKind, PlannedType, part_number, kind_numbers, alias_number, trees_in}
 use Rattle.plan_meaning.specs.PlanRules.{is_form, is_key_part, begins_with_key, type_labels, kind_labels, has_shape, is_named_kind, is_named_number, kind_is_named, is_shallow, parts_are_shallow}
 use Rattle.plan_meaning.specs.Renumbering.{IsPart, a_primitive, a_shape, IsTypeOf, of_form, of_name}
@@ -14,7 +14,7 @@ use Rattle.plan_meaning.specs.NumberedViews.{Tables, place_at, tree_at, declarat
 use Rattle.plan_meaning.specs.GatheredPlan.{Becomes, DeclaresKind, a_resource, a_form, Keeps}
 use Rattle.plan_meaning.specs.KeptTypes.{IsKeptForm, alone, of_name, IsKeptType, unnamed, declared, TypesAreKept, TypesPass, KeptTypesPass}
 use Rattle.plan_meaning.proofs.{KeptParts.numbers_pass, KeptParts.kept_at, Words.behind}
-use Rattle.plan_meaning.proofs.{Lists.no_true, Lists.each_so, GatheredPlan.parts_kept, GatheredPlan.form_tree, NumberedRules.no_name}
+use Rattle.plan_meaning.proofs.{Lists.no_true, Lists.each_so, GatheredPlan.parts_kept, GatheredPlan.form_tree}
 use Rattle.base_lemmas.proofs.Bools.{left_of as first_true, right_of as second_true, or_true}
 use Rattle.base_lemmas.proofs.Elements.{all_by_number, zip-kept as zip-weaker, all_at}
 use Rattle.comp_meaning.proofs.RulesLemmas.{distinct_same}
@@ -60,13 +60,7 @@ module _ (t : Tables) (tables : AreTables t) (kept : List ℕ) (p : Plan) (are :
   -- ---- parts stand before
 
   pub parts_before : (n : ℕ) (form : Form) (olds : List ℕ) → slice_get t.shapes n ≡ Some (node_shape form olds) → AllByRecursion (λ k. k < 14 + n) olds
-  parts_before n form olds e = by (tables.shapes.each n (node_shape form olds) e)
-    where
-      by : IsShape n (node_shape form olds) → AllByRecursion (λ k. k < 14 + n) olds
-      by (a_name q name is) =
-          let sort : (form_code form).sort ≡ 0 = ap (λ (s : Shape). s.sort) is in
-          no_true (sym (no_name form) ∙ eq-eqb (form_code form).sort 0 sort)
-      by (a_node other ks is low) = subst (AllByRecursion (λ k. k < 14 + n)) (sym (ap (λ (s : Shape). s.parts) is)) low
+  parts_before n form olds e = search std_rules
 
   module _ (j n : ℕ) (stands : slice_get kept j ≡ Some n) where
     parts_fall : (olds news : List ℕ) → AllZip (Becomes t kept p) olds news → AllByRecursion (λ k. k < 14 + n) olds → list_all (λ m. nat_lt m j) (filter_map part_number news) ≡ true
@@ -197,14 +191,7 @@ module _ (t : Tables) (tables : AreTables t) (kept : List ℕ) (p : Plan) (are :
   named_type old n is no_form x y = search std_rules
 
   alias_named : (old new : ℕ) → numbered.is_form t old ≡ false → Becomes t kept p old new → passes (is_named_number p) (part_number new) ≡ true
-  alias_named old new no_form b = by b.part
-    where
-      by : IsPart kept old new → passes (is_named_number p) (part_number new) ≡ true
-      by (a_primitive low same) = ap (λ c. passes (is_named_number p) (cond c None (Some (new - 14)))) (lt-ltb new 14 (omega (arith, low, same)))
-      by (a_shape m i is stands to) =
-          let range = b.range in
-          let found = kept_at t kept p are i m (omega (arith, range, to)) stands in
-          ap (passes (is_named_number p)) (ap part_number to ∙ behind i) ∙ (ap (λ o. option_map_or (λ (x : PlannedType). is_some x.name) o false) found.1 ∙ named_type old m is no_form found.0 found.2)
+  alias_named old new no_form b = search (std_rules, lt-ltb, kept_at, behind, named_type)
 
   alias_is_named : (d : Option ℕ) (kind : PlannedKind) → DeclaresKind t kept p d kind → passes (is_named_number p) (alias_number kind) ≡ true
   alias_is_named d kind (a_resource e k) = ap (λ x. passes (is_named_number p) (alias_number x)) k

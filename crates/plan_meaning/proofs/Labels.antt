@@ -51,8 +51,7 @@ missed x b h = search std_rules
 pub apart : (xs ys : List Text) → are_distinct (xs ++ ys) ≡ true → list_all (λ x. not (list_any (text_eq x) ys)) xs ≡ true
 apart [] ys h = refl
 apart (x ∷ xs) ys h =
-    both _ _ (missed (list_any (text_eq x) xs) (list_any (text_eq x) ys) (ap not (sym (list_any-append (text_eq x) xs ys)) ∙ first_true _ _ h))
-    (apart xs ys (second_true (not (list_any (text_eq x) (xs ++ ys))) _ h))
+    search (std_rules, both, missed, list_any-append, first_true, second_true, apart xs ys (second_true (not (list_any (text_eq x) (xs ++ ys))) _ h))
 
 pub names_are : {A B : Type 0} (g : A → B) (es : List (String Global × A)) → names_of (map (λ e. (text_of e.0, g e.1)) es) ≡ map text_of (keys_of es)
 names_are g [] = refl

@@ -1,8 +1,8 @@
--- Lists and options that are made entry by entry of others. Serves Depths, DistinctKeys, FunctionNames, FunctionRules and 33 more; crates above.
+-- Lists and options that are made entry by entry of others. Serves Depths, DistinctKeys, FunctionNames, FunctionRules and 32 more; crates above.
 pub mod Lists
 -- In a table of shapes each number has a tree, and no tree has two numbers. Serves laws::shapes_are_trees; crates above.
 pub mod ShapeLaws
--- The words of a plan, on the plan that a `Resolve` is built from, are those of the `Resolve`. Serves Depths, DistinctKeys, FunctionNames, FunctionRules and 26 more; crates above.
+-- The words of a plan, on the plan that a `Resolve` is built from, are those of the `Resolve`. Serves Depths, DistinctKeys, FunctionNames, FunctionRules and 25 more; crates above.
 pub mod Words
 -- The functions of a plan's interfaces and worlds are those of the `Resolve`, and so are its items. Serves Depths, FunctionNames, ItemOrder, Labels and 8 more.
 pub mod FunctionRules

@@ -4,7 +4,7 @@ use Rattle.std.proofs.lemmas.{Bool.or_right, Bool.and_from as both, Bool.not-tru
 use Rattle.std.specs.{List.AllZip, List.Contains, List.list_any, Option.option_map_or, Map.lookup}
 use Rattle.wit_model.specs.{Text.Text, Text.text_eq, Rules.are_distinct, Rules.each_from, Rules.is_id, Rules.passes, Valid.as_interface, Valid.as_world}
 use Rattle.wit_model.specs.{Parts.same_owner, Names.is_label}
-use Rattle.wit_model.proofs.{VersionLaws.same_text, RulesLemmas.each_by_number}
+use Rattle.wit_model.proofs.{RulesLemmas.each_by_number}
 use Rattle.plan_meaning.specs.{Shapes.Shape, Shapes.first_label, Shapes.named_shape, ReadInterfaces.IsNumberOf, ReadInterfaces.IsKeptAs, ReadInterfaces.HasName}
 use Rattle.plan_meaning.specs.Plan.{Plan, PlannedKey, PlannedItem, PlannedType, PlannedInterface, PlannedWorld, interface_in, world_in, number_under, item_type}
 use Rattle.plan_meaning.specs.PlanRules.{is_listed, is_listed_in, is_under_label, keys_differ, names_of, same_key}
@@ -23,17 +23,13 @@ use Rattle.plan_meaning.specs.Plan as plan
 pub distinct_front : (xs ys : List Text) → are_distinct (xs ++ ys) ≡ true → are_distinct xs ≡ true
 distinct_front [] ys h = refl
 distinct_front (x ∷ xs) ys h =
-    both (not (list_any (text_eq x) xs)) (are_distinct xs)
-    (ap not (none_first (list_any (text_eq x) xs) (list_any (text_eq x) ys)
-    (sym (list_any-append (text_eq x) xs ys) ∙ (not_true (list_any (text_eq x) (xs ++ ys)) (first_true (not (list_any (text_eq x) (xs ++ ys))) (are_distinct (xs ++ ys)) h)))))
-    (distinct_front xs ys (second_true (not (list_any (text_eq x) (xs ++ ys))) (are_distinct (xs ++ ys)) h))
+    search (std_rules, both, none_first, list_any-append, not_true, first_true, second_true, distinct_front xs ys (second_true (not (list_any (text_eq x) (xs ++ ys))) (are_distinct (xs ++ ys)) h))
 
 no_key : (key : PlannedKey) (name : Text) (item : PlannedItem) → same_key key (plan.label name) ≡ true → (es : List (PlannedKey × PlannedItem)) → Contains es (plan.label name, item)
     → list_any (λ (other : PlannedKey × PlannedItem). same_key key other.0) es ≡ true
 no_key key name item h [] (i, low, e) = absurd (omega (arith, low))
 no_key key name item h (x ∷ es) (zero, low, e) = ap (λ b. b || list_any (λ (other : PlannedKey × PlannedItem). same_key key other.0) es) (ap (λ (y : PlannedKey × PlannedItem). same_key key y.0) e ∙ h)
-no_key key name item h (x ∷ es) (suc i, low, e) = or_right (same_key key x.0) (list_any (λ (other : PlannedKey × PlannedItem). same_key key other.0) es)
-    (no_key key name item h es (i, omega (arith, low), e))
+no_key key name item h (x ∷ es) (suc i, low, e) = search (std_rules, or_right, no_key key name item h es (i, omega (arith, low), e))
 
 under_same : (name : Text) (key : PlannedKey) → is_under_label name key ≡ true → same_key key (plan.label name) ≡ true
 under_same name x h = search std_rules
@@ -41,9 +37,7 @@ under_same name x h = search std_rules
 -- what stands under a label where keys differ
 pub key_there : (name : Text) (item : PlannedItem) (es : List (PlannedKey × PlannedItem)) → keys_differ es ≡ true → Contains es (plan.label name, item) → lookup (is_under_label name) es ≡ Some item
 key_there name item [] d (i, low, e) = absurd (omega (arith, low))
-key_there name item (x ∷ es) d (zero, low, e) =
-    ap (λ b. cond b (Some x.1) (lookup (is_under_label name) es)) (ap (λ (y : PlannedKey × PlannedItem). is_under_label name y.0) e ∙ same_text name name refl) ∙ ap
-    (λ (y : PlannedKey × PlannedItem). Some y.1) e
+key_there name item (x ∷ es) d (zero, low, e) = search std_rules
 key_there name item (x ∷ es) d (suc i, low, e) =
     let later : Contains es (plan.label name, item) = (i, omega (arith, low), e) in
     let others = list_any (λ (other : PlannedKey × PlannedItem). same_key x.0 other.0) es in
@@ -73,15 +67,9 @@ module _ (t : Tables) (tables : AreTables t) (kept : List ℕ) (p : Plan) (are :
   entry_of q k xs [] es y z names (i, low, e) = absurd (omega (arith, low))
   entry_of q k [] (n ∷ ns) es y z names c = absurd y
   entry_of q k (x ∷ xs) (n ∷ ns) [] y z names c = absurd z
-  entry_of q k (x ∷ xs) (n ∷ ns) (a ∷ es) y z names (zero, low, e) = record {
-    entry = a;
-    listed = (0, omega arith, refl);
-    stands = z.0.0 ∙ ap Some e;
-    shape = ap (slice_get t.shapes) (sym e) ∙ (y.0 ∙ ap (λ name. Some (named_shape q name)) (sym names.0));
-  }
+  entry_of q k (x ∷ xs) (n ∷ ns) (a ∷ es) y z names (zero, low, e) = search std_rules
   entry_of q k (x ∷ xs) (n ∷ ns) (a ∷ es) y z names (suc i, low, e) =
-      let more = entry_of q k xs ns es y.1 z.1 names.1 (i, omega (arith, low), e) in
-      record { entry = more.entry; listed = contains-later a es more.entry more.listed; stands = more.stands; shape = more.shape }
+      search (std_rules, contains-later, entry_of q k xs ns es y.1 z.1 names.1 (i, omega (arith, low), e))
 
   interface_lists : (j k q : ℕ) (name : Text) (m : ℕ) (i : PlannedInterface) (e : interface_in p m ≡ Some i) → slice_get kept j ≡ Some k → slice_get t.shapes k ≡ Some (named_shape q name)
       → Contains (read.interfaces m i e).read.numbers k → is_listed_in p j name (as_interface m) ≡ true

@@ -1,8 +1,8 @@
 -- The named types that numbers of a plan use are under no larger numbers.
-use Rattle.std.proofs.Common.{rules as std_rules, ◌≡◌, ◌⊎◌, inl, inr, refl, ap, ◌∙◌, ◌<◌, ℕ, zero, suc, arith, true, List, [], ◌∷◌, length, take, flat_map, Option, Some, None, unwrap_or, ◌+◌, slice_get}
+use Rattle.std.proofs.Common.{rules as std_rules, ◌≡◌, ◌⊎◌, inl, inr, refl, ap, ◌∙◌, ◌<◌, ℕ, zero, suc, arith, true, List, [], ◌∷◌, length, take, flat_map, Some, unwrap_or, ◌+◌, slice_get}
 use Rattle.std.proofs.lemmas.{Bool.Decides.nat_tests, List.Elements.Contains-append_cases, Bool.and_from as both, Bool.ltb-true as less_than}
-use Rattle.std.specs.{Prelude.nat_le, Prelude.nat_lt, List.Contains, List.list_all, Option.option_map_or}
-use Rattle.wit_model.specs.{Text.Text, Parts.met_by, Parts.numbered_from, Rules.each_from}
+use Rattle.std.specs.{Prelude.nat_le, Prelude.nat_lt, List.Contains, List.list_all}
+use Rattle.wit_model.specs.{Parts.met_by, Parts.numbered_from, Rules.each_from}
 use Rattle.wit_model.proofs.{Elements.none-in, Functions.all_flat, RulesLemmas.each_at, Tables.grow_at, Owners.numbered_at as numbered_there}
 use Rattle.plan_meaning.specs.Plan.{Plan, PlannedType, kind_numbers, met_at, met_in, used_by_numbers}
 use Rattle.base_lemmas.proofs.{Elements.all-contained, Elements.all_weaker, Elements.contains-later, Lists.slice_take, Lists.within_there as slice_there}
@@ -31,14 +31,7 @@ module _ (p : Plan) (fall : each_from (λ n x. list_all (λ m. nat_lt m n) (kind
 
   at_type : (n : ℕ) (x : PlannedType) → list_all (λ j. nat_lt j n) (kind_numbers x.kind) ≡ true → ((j : ℕ) → j < n → IsLow j (met_by (take n (met_in p)) j))
       → IsLow n (met_at (take n (met_in p)) (n, x))
-  at_type n x below small = by x.name
-    where
-      self : nat_le n n ≡ true
-      self = grind (arith, nat_tests)
-
-      by : (name : Option Text) → IsLow n (option_map_or (λ s. n ∷ []) name (flat_map (met_by (take n (met_in p))) (kind_numbers x.kind)))
-      by (Some s) = both (nat_le n n) true self refl
-      by None = within n (kind_numbers x.kind) small below
+  at_type n x below small = search (std_rules, nat_tests, both, within)
 
   low_by : (fuel n : ℕ) → n < fuel → n < length p.types → IsLow n (met_by (met_in p) n)
   low_by zero n h range = absurd (omega (arith, h))

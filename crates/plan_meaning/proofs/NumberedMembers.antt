@@ -1,16 +1,15 @@
 -- Members are a package, and a world stands alone, exactly where their numbers are.
-use Rattle.std.proofs.Common.{rules as std_rules, ◌≡◌, refl, sym, ap, ◌∙◌, ℕ, Bool, true, false, not, ◌&&◌, ◌||◌, ◌==◌, List, [], ◌∷◌, ◌++◌, map, Option, Some, None, option_map, is_none, slice_get}
+use Rattle.std.proofs.Common.{rules as std_rules, ◌≡◌, refl, sym, ap, ◌∙◌, ℕ, Bool, true, false, not, ◌&&◌, ◌||◌, ◌==◌, List, [], ◌∷◌, ◌++◌, map, Option, Some, None, option_map, slice_get}
 use Rattle.std.proofs.lemmas.{Bool.eqb-true, Bool.eq-eqb, Bool.and_from as both, Option.same_Some as same-some}
 use Rattle.std.specs.{List.AllByRecursion, List.AllZip, List.flat_map, List.list_all, List.list_any, Option.option_map_or}
 use Rattle.wit_model.specs.{Text.Text, Text.text_eq, Names.PackageIdentity, Names.path_in, Names.read_path, Tree.Place}
-use Rattle.wit_model.proofs.{NameLaws.read_path_is_spelled, VersionLaws.same_text, TextLemmas.text_same, RulesLemmas.items_of_map as filled_same}
-use Rattle.comp_meaning.specs.{Follow.View, Follow.each, Follow.is_filled, Follow.provided, Follow.place_of, Same.same_identity}
+use Rattle.wit_model.proofs.{NameLaws.read_path_is_spelled, VersionLaws.same_text, TextLemmas.text_same}
+use Rattle.comp_meaning.specs.{Follow.View, Follow.each, Follow.provided, Follow.place_of, Same.same_identity}
 use Rattle.comp_meaning.specs.Reads.{Part, Member, Sight, is_of, all_agree, is_interface_part}
-use Rattle.comp_bytes.specs.Reading.{◌>>=◌}
 use Rattle.comp_meaning.proofs.SameLaws.{identities_decide}
-use Rattle.plan_meaning.specs.NumberedViews.{Tables, path_text, AreTables, NumberedView, view_of, shown_function, NumberedSight, sight_of, IsSight, agree_in_numbers}
+use Rattle.plan_meaning.specs.NumberedViews.{Tables, path_text, AreTables, NumberedView, view_of, NumberedSight, sight_of, IsSight, agree_in_numbers}
 use Rattle.plan_meaning.specs.NumberedRules.{Fact, is_interface}
-use Rattle.plan_meaning.specs.NumberedWorlds.{path, NumberedShown, instance, NumberedSeen, shown_of, seen_of, sights_of_scope, HasPath}
+use Rattle.plan_meaning.specs.NumberedWorlds.{path, NumberedSeen, seen_of, sights_of_scope, HasPath}
 use Rattle.plan_meaning.specs.NumberedMembers.{Homes, IsHomeOf, HomesStand, is_of_package, is_named_in, NumberedPart, world, interface, NumberedMember, sights_of_part, sights_of_members, ShowsInterface, ShowsPart, IsMember, shown_view, imported_view, exported_view, are_interfaces, is_interface_of, stands_at_top, package_shown, world_shown, IsKnownSight, ImportsInNumbers, ExportInNumbers, PackagesInNumbers, OneWorldInNumbers}
 use Rattle.plan_meaning.proofs.{NumberedRules.interface_same, Lists.each_so, Lists.all_same}
 use Rattle.plan_meaning.proofs.{NumberedViews.all_agree_in_numbers, NumberedWorlds.path_is, NumberedWorlds.path_number, NumberedWorlds.sights_in_numbers}
@@ -161,43 +160,18 @@ module _ (t : Tables) (tables : AreTables t) (h : Homes) (stand : HomesStand t h
 
 -- ---- the component type of an interface
 
-provided_map : {A B : Type 0} (f : A → B) (b : Bool) (x : A) → provided b (f x) ≡ option_map f (provided b x)
-provided_map f x y = search std_rules
-
 import_same : (t : Tables) (s : NumberedSeen) → reads.imported_view (seen_of t s) ≡ option_map (shown_view t) (imported_view s)
-import_same t s = by s.shown
-  where
-    by : (x : NumberedShown)
-        → reads.imported_view (record { key = s.key; shown = shown_of t x; external_id = s.external_id }) ≡ option_map (shown_view t)
-        (imported_view (record { key = s.key; shown = x; external_id = s.external_id }))
-    by (instance (path p) v) =
-        ap (λ b. provided (is_none s.external_id && not b) (shown_view t (p, v))) (filled_same (shown_function t) v.functions) ∙ provided_map (shown_view t)
-        (is_none s.external_id && not (is_filled v.functions)) (p, v)
-    by _ = refl
+import_same t s = search std_rules
 
 imports_same : (t : Tables) (ss : List NumberedSeen) → each reads.imported_view (map (seen_of t) ss) ≡ option_map (map (shown_view t)) (each imported_view ss)
 imports_same t [] = refl
-imports_same t (s ∷ ss) =
-    (λ i. import_same t s i >>= λ y. imports_same t ss i >>= λ ys. Some (y ∷ ys)) ∙ by (imported_view s) (each imported_view ss)
-  where
-    by : (o : Option (ℕ × NumberedView)) (os : Option (List (ℕ × NumberedView)))
-        → (option_map (shown_view t) o >>= λ y. option_map (map (shown_view t)) os >>= λ ys. Some (y ∷ ys)) ≡ option_map (map (shown_view t)) (o >>= λ y. os >>= λ ys. Some (y ∷ ys))
-    by None os = refl
-    by (Some y) None = refl
-    by (Some y) (Some ys) = refl
+imports_same t (s ∷ ss) = search (std_rules, import_same, imports_same t ss)
 
 pub imports_in_numbers : ImportsInNumbers
 imports_in_numbers t w scope shows = ap (each reads.imported_view) shows.imports ∙ imports_same t w.imports
 
 export_same : (t : Tables) (ss : List NumberedSeen) → reads.exported_view (map (seen_of t) ss) ≡ option_map (shown_view t) (exported_view ss)
-export_same t (s ∷ []) = by s.shown
-  where
-    by : (x : NumberedShown)
-        → reads.exported_view (record { key = s.key; shown = shown_of t x; external_id = s.external_id } ∷ []) ≡ option_map (shown_view t)
-        (exported_view (record { key = s.key; shown = x; external_id = s.external_id } ∷ []))
-    by (instance (path p) v) = provided_map (shown_view t) (is_none s.external_id) (p, v)
-    by _ = refl
-export_same t _ = refl
+export_same t y = search std_rules
 
 pub export_in_numbers : ExportInNumbers
 export_in_numbers t w scope shows = ap reads.exported_view shows.exports ∙ export_same t w.exports

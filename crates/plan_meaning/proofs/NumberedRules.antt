@@ -9,7 +9,7 @@ use Rattle.comp_meaning.specs.Rules.{are_labels, form_labels, is_label_behind, m
 use Rattle.comp_meaning.proofs.SameLaws.{places_decide}
 use Rattle.plan_meaning.specs.Shapes.{Shape, form_code, first_label, named_shape, node_shape, IsTable}
 use Rattle.plan_meaning.specs.NumberedViews.{FunctionShape, Tables, place_at, tree_at, signature_over, IsPart, AllOf, PartsOf, itself, inside, NumberedType, NumberedView, view_of, declaration_of, shown_type, ViewPasses}
-use Rattle.plan_meaning.specs.NumberedRules.{Fact, most_counted, shape_at, name_in, only_of, held_in, own_sort, borrow_sort, ok_in, is_parameter_type, is_declared_form, is_declared, is_result_type, is_signature, is_name, is_handle, begins_with_self, constructs, is_function_of, is_function, is_no_part, resources_of, is_interface, IsSeenFrom, IsKnown, EachRuleInNumbers}
+use Rattle.plan_meaning.specs.NumberedRules.{Fact, most_counted, shape_at, name_in, only_of, held_in, own_sort, borrow_sort, ok_in, is_parameter_type, is_declared_form, is_declared, is_result_type, is_signature, is_name, is_handle, begins_with_self, constructs, is_function_of, is_function, resources_of, is_interface, IsSeenFrom, IsKnown, EachRuleInNumbers}
 use Rattle.plan_meaning.proofs.{ShapeLaws.PartView, ShapeLaws.is_primitive, ShapeLaws.is_name as is_named, ShapeLaws.is_node, ShapeLaws.viewed, Lists.all_same}
 use Rattle.plan_meaning.proofs.Words.{behind}
 use Rattle.base_lemmas.proofs.{Bools.and-true as and_true, Bools.both_ways as either_way, Bools.no-and as and_false, Elements.get-contains, Elements.all_at}
@@ -56,13 +56,7 @@ module _ (t : Tables) (table : IsTable t.shapes) {X : Type 0} (said : Tree → X
 
 resources_same : (t : Tables) (xs : List NumberedType) → rules.resources_of (map (shown_type t) xs) ≡ resources_of xs
 resources_same t [] = refl
-resources_same t (x ∷ xs) = by x.declared (resources_same t xs)
-  where
-    by : (d : Option ℕ) → rules.resources_of (map (shown_type t) xs) ≡ resources_of xs
-        → cond (rules.is_resource (declaration_of t d)) (x.name ∷ rules.resources_of (map (shown_type t) xs)) (rules.resources_of (map (shown_type t) xs)) ≡ cond (is_no_part d)
-        (x.name ∷ resources_of xs) (resources_of xs)
-    by None more = ap (λ names. x.name ∷ names) more
-    by (Some k) more = more
+resources_same t (x ∷ xs) = search (std_rules, resources_same t xs)
 
 module _ (t : Tables) (table : IsTable t.shapes) (known : ℕ → Fact) (p : ℕ) where
   abbrev here : Place

@@ -1,10 +1,10 @@
 -- Equal numbers are equal trees and equal types of functions, so views agree where their numbers do.
-use Rattle.std.proofs.Common.{rules as std_rules, arith, ◌≡◌, refl, sym, ap, ◌∙◌, ℕ, ◌<◌, Bool, true, false, not, ◌&&◌, ◌||◌, ◌==◌, cond, List, [], ◌∷◌, ◌++◌, length, map, Option, Some, None, option_map, unwrap_or, slice_get, rules}
+use Rattle.std.proofs.Common.{rules as std_rules, arith, ◌≡◌, refl, sym, ap, ◌∙◌, ℕ, ◌<◌, Bool, true, not, ◌&&◌, ◌||◌, ◌==◌, List, [], ◌∷◌, ◌++◌, length, map, Option, Some, None, option_map, unwrap_or, slice_get, rules}
 use Rattle.std.proofs.lemmas.Bool.{eqb-true, eq-eqb}
 use Rattle.std.specs.{List.AllByRecursion, List.list_any, List.find, Option.option_map_or, Cmp.Lexicographic.pointwise}
 use Rattle.wit_model.specs.{Text.Text, Text.text_eq, Tree.Tree, Meaning.Signature}
 use Rattle.comp_meaning.specs.{Follow.place_of, Agreement.agree_with_first}
-use Rattle.comp_meaning.specs.{Same.same_option, Same.same_tree, Same.same_declaration, Same.same_signature, Same.stand_in, Reads.Sight, Reads.all_agree}
+use Rattle.comp_meaning.specs.{Same.same_tree, Same.same_declaration, Same.same_signature, Same.stand_in, Reads.Sight, Reads.all_agree}
 use Rattle.comp_meaning.proofs.SameLaws.{trees_decide, signatures_decide}
 use Rattle.plan_meaning.specs.NumberedViews.{FunctionShape, Tables, path_text, place_at, tree_at, signature_over, function_at, no_function, signature_at, IsPart, AllOf, PartsOf, AreTables, AreApart, IsOutside, NumberedType, NumberedFunction, declaration_of, shown_type, shown_function, NumberedSight, sight_of, same_number, same_shown, same_function, same_functions, same_types, same_whole, agree, agree_in_numbers, agrees_with_first, agree_with_first_in_numbers, TypePasses, FunctionPasses, IsOutsidePart, IsSight, NumbersTell, EachNumberTells, ViewsAgreeInNumbers, FirstViewsAgreeInNumbers}
 use Rattle.plan_meaning.proofs.{ShapeLaws.one_number_apart, Lists.all_same, NumberedWorlds.path_number}
@@ -92,8 +92,7 @@ module _ (t : Tables) (tables : AreTables t) where
 
   types_numbers : (xs ys : List NumberedType) → AllByRecursion (TypePasses (IsOutsidePart t)) xs → AllByRecursion (TypePasses (IsOutsidePart t)) ys
       → pointwise reads.same_shown (map (shown_type t) xs) (map (shown_type t) ys) ≡ pointwise same_shown xs ys
-  types_numbers (x ∷ xs) (y ∷ ys) hx hy = λ i.
-      (ap (λ b. text_eq x.name y.name && (b && same_option text_eq x.external_id y.external_id)) (declared_number x.declared y.declared hx.0 hy.0)) i && types_numbers xs ys hx.1 hy.1 i
+  types_numbers (x ∷ xs) (y ∷ ys) hx hy = search (std_rules, declared_number, types_numbers xs ys hx.1 hy.1)
   types_numbers [] [] hx hy = refl
   types_numbers _ _ hx hy = refl
 
@@ -105,8 +104,7 @@ module _ (t : Tables) (tables : AreTables t) where
   function_found : (f : Text × NumberedFunction) → Passes f → (gs : List (Text × NumberedFunction)) → AllByRecursion Passes gs
       → list_any (λ y. text_eq f.0 y.0 && same.same_function (shown_function t f).1 y.1) (map (shown_function t) gs) ≡ list_any (λ y. text_eq f.0 y.0 && same_function f.1 y.1) gs
   function_found f hf [] hg = refl
-  function_found f hf (g ∷ gs) hg = λ i.
-      (ap (λ b. text_eq f.0 g.0 && (b && same_option text_eq f.1.external_id g.1.external_id)) (function_number f.1.signature g.1.signature hf.0 hg.0.0 hf.1 hg.0.1)) i || function_found f hf gs hg.1 i
+  function_found f hf (g ∷ gs) hg = search (std_rules, function_number, function_found f hf gs hg.1)
 
   functions_stand : (fs gs : List (Text × NumberedFunction)) → AllByRecursion Passes fs → AllByRecursion Passes gs
       → stand_in same.same_function (map (shown_function t) fs) (map (shown_function t) gs) ≡ stand_in same_function fs gs
@@ -133,9 +131,7 @@ module _ (t : Tables) (tables : AreTables t) where
 
   pub all_agree_in_numbers : (seen : List NumberedSight) → AllByRecursion (IsSight t) seen → all_agree (map (sight_of t) seen) ≡ agree_in_numbers seen
   all_agree_in_numbers [] h = refl
-  all_agree_in_numbers (s ∷ rest) h =
-      let first = all_same (IsSight t) (reads.agree (sight_of t s)) (sight_of t) (agree s) (λ x k. agree_number s x h.0 k) rest h.1 in
-      λ i. first i && all_agree_in_numbers rest h.1 i
+  all_agree_in_numbers (s ∷ rest) h = search (std_rules, all_same, agree_number, all_agree_in_numbers rest h.1)
 
   -- ---- with the first alone
 
@@ -143,13 +139,7 @@ module _ (t : Tables) (tables : AreTables t) where
       → ((f : NumberedSight) → IsSight t f → test (sight_of t f) ≡ test_in f) → ((f : NumberedSight) → IsSight t f → holds (sight_of t f) ≡ holds_in f)
       → (earlier : List NumberedSight) → AllByRecursion (IsSight t) earlier → option_map_or holds (find test (map (sight_of t) earlier)) true ≡ option_map_or holds_in (find test_in earlier) true
   found_alike test test_in holds holds_in alike gives [] h = refl
-  found_alike test test_in holds holds_in alike gives (f ∷ earlier) h = by (test (sight_of t f)) (test_in f) (alike f h.0) (found_alike test test_in holds holds_in alike gives earlier h.1)
-    where
-      by : (a b : Bool) → a ≡ b → option_map_or holds (find test (map (sight_of t) earlier)) true ≡ option_map_or holds_in (find test_in earlier) true
-          → option_map_or holds (cond a (Some (sight_of t f)) (find test (map (sight_of t) earlier))) true ≡ option_map_or holds_in (cond b (Some f) (find test_in earlier)) true
-      by true true e more = gives f h.0
-      by false false e more = more
-      by _ _ e more = absurd cc
+  found_alike test test_in holds holds_in alike gives (f ∷ earlier) h = search (std_rules, found_alike test test_in holds holds_in alike gives earlier h.1)
 
   first_alike : (earlier : List NumberedSight) (s : NumberedSight) → AllByRecursion (IsSight t) earlier → IsSight t s
       → agreement.agrees_with_first (map (sight_of t) earlier) (sight_of t s) ≡ agrees_with_first earlier s
@@ -159,8 +149,7 @@ module _ (t : Tables) (tables : AreTables t) where
       → agree_with_first (map (sight_of t) earlier) (map (sight_of t) seen) ≡ agree_with_first_in_numbers earlier seen
   first_agree_in_numbers earlier [] he h = refl
   first_agree_in_numbers earlier (s ∷ seen) he h =
-      ap (λ xs. agreement.agrees_with_first (map (sight_of t) earlier) (sight_of t s) && agree_with_first xs (map (sight_of t) seen)) (sym (append_of_map (sight_of t) earlier (s ∷ [])))
-      ∙ λ i. first_alike earlier s he h.0 i && first_agree_in_numbers (earlier ++ s ∷ []) seen (all_end (IsSight t) earlier s he h.0) h.1 i
+      search (std_rules, append_of_map, first_alike, all_end, first_agree_in_numbers (earlier ++ s ∷ []) seen (all_end (IsSight t) earlier s he h.0) h.1)
 
 pub each_number_tells : EachNumberTells
 each_number_tells t tables = numbers_tell t tables

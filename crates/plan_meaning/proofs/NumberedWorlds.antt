@@ -1,12 +1,12 @@
 -- What uses what, and what a world may have, has the same answer in numbers.
-use Rattle.std.proofs.Common.{◌≡◌, refl, sym, ap, ◌∙◌, ℕ, Bool, true, false, not, ◌&&◌, ◌||◌, ◌==◌, cond, List, [], ◌∷◌, ◌++◌, map, Option, Some, None, unwrap_or, rules as std_rules}
+use Rattle.std.proofs.Common.{◌≡◌, refl, sym, ap, ◌∙◌, ℕ, true, not, ◌&&◌, ◌||◌, ◌==◌, cond, List, [], ◌∷◌, ◌++◌, map, Option, Some, None, unwrap_or, rules as std_rules}
 use Rattle.std.proofs.lemmas.Bool.{eqb-true}
 use Rattle.std.specs.{Prelude.option_and_then, List.AllByRecursion, List.flat_map, List.list_all, List.list_any, Option.option_map_or}
 use Rattle.wit_model.specs.{Text.Text, Text.text_eq, Tree.Place, Tree.Tree, Tree.Declaration, Uses.has}
 use Rattle.comp_meaning.specs.{Follow.View, Follow.Seen, Follow.interface_of, Follow.place_of, Rules.distinct}
-use Rattle.plan_meaning.specs.{Shapes.form_code, Shapes.first_label, NumberedRules.Fact, NumberedRules.name_in, NumberedRules.name_at, NumberedRules.IsKnown}
+use Rattle.plan_meaning.specs.{Shapes.form_code, Shapes.first_label, NumberedRules.Fact, NumberedRules.name_in, NumberedRules.IsKnown}
 use Rattle.plan_meaning.specs.NumberedViews.{Tables, path_at, path_text, place_at, IsPart, AllOf, AreTables, NumberedType, NumberedView, view_of, declaration_of, shown_type, sight_of}
-use Rattle.plan_meaning.specs.NumberedWorlds.{NumberedKey, path, place_of_key, key_of, NumberedShown, instance, function, declares, NumberedSeen, shown_of, seen_of, NumberedInstance, instance_of, sights_of_instance, if_outside, used_by, used_by_view, others_than, uses_of, path_seen, stand_earlier, are_reached, are_once, resources_seen, is_resource_seen, is_item, are_imports, HasPath, KeyStands, ItemStands, DeclaresParts, UsesInNumbers, ReachedInNumbers, PathsInNumbers, WorldsInNumbers, SightsInNumbers}
+use Rattle.plan_meaning.specs.NumberedWorlds.{NumberedKey, path, place_of_key, key_of, NumberedShown, instance, function, declares, NumberedSeen, shown_of, seen_of, NumberedInstance, instance_of, sights_of_instance, if_outside, used_by, used_by_view, others_than, uses_of, path_seen, stand_earlier, are_reached, are_once, resources_seen, is_item, are_imports, HasPath, KeyStands, ItemStands, DeclaresParts, UsesInNumbers, ReachedInNumbers, PathsInNumbers, WorldsInNumbers, SightsInNumbers}
 use Rattle.plan_meaning.proofs.NumberedRules.{no_name, declared_same, function_same, interface_same, by_shape}
 use Rattle.plan_meaning.proofs.Lists.{each_so, all_same}
 use Rattle.base_lemmas.proofs.{Elements.all_both as all_in_both, Lists.append_of_map, Lists.map_of_map}
@@ -32,27 +32,11 @@ module _ (t : Tables) (tables : AreTables t) where
 
   -- ---- what a declaration uses
 
-  if_outside_paths : (p : ℕ) → AllByRecursion (HasPath t) (if_outside t p)
-  if_outside_paths p = by (path_at t p) refl
-    where
-      by : (o : Option Text) → path_at t p ≡ o → AllByRecursion (HasPath t) (option_map_or (λ x. p ∷ []) o [])
-      by None e = tt
-      by (Some x) e = ((x, e), tt)
-
   used_paths : (d : Option ℕ) → AllByRecursion (HasPath t) (used_by t d)
-  used_paths None = tt
-  used_paths (Some k) = by (name_at t k)
-    where
-      by : (o : Option (ℕ × Text)) → AllByRecursion (HasPath t) (option_map_or (λ (x : ℕ × Text). if_outside t x.0) o [])
-      by None = tt
-      by (Some x) = if_outside_paths x.0
+  used_paths y = search std_rules
 
   name_used : (q : ℕ) (name : Text) → rules.used_by (Declaration.type_ (Tree.named (place_at t q) name)) ≡ map (path_text t) (if_outside t q)
-  name_used q name = by (path_at t q) refl
-    where
-      by : (o : Option Text) → path_at t q ≡ o → rules.used_by (Declaration.type_ (Tree.named (place_of o) name)) ≡ map (path_text t) (option_map_or (λ x. q ∷ []) o [])
-      by None e = refl
-      by (Some x) e = ap (λ y. y ∷ []) (sym (ap (λ o. unwrap_or o []) e))
+  name_used q name = search std_rules
 
   abbrev places_named : Option (ℕ × Text) → List ℕ
   places_named o = option_map_or (λ (x : ℕ × Text). if_outside t x.0) o []
@@ -85,32 +69,17 @@ module _ (t : Tables) (tables : AreTables t) where
 
   others_paths : (own : ℕ) (ps : List ℕ) → AllByRecursion (HasPath t) ps → AllByRecursion (HasPath t) (others_than own ps)
   others_paths own [] hs = tt
-  others_paths own (p ∷ ps) hs = by (p == own) (others_paths own ps hs.1)
-    where
-      by : (b : Bool) → AllByRecursion (HasPath t) (others_than own ps) → AllByRecursion (HasPath t) (cond b (others_than own ps) (p ∷ others_than own ps))
-      by true more = more
-      by false more = (hs.0, more)
+  others_paths own (p ∷ ps) hs = search (std_rules, others_paths own ps hs.1)
 
   others_of_path : (own : ℕ) (h : HasPath t own) (ps : List ℕ) → AllByRecursion (HasPath t) ps
       → rules.others_than (Some (path_text t own)) (map (path_text t) ps) ≡ map (path_text t) (others_than own ps)
   others_of_path own h [] hs = refl
-  others_of_path own h (p ∷ ps) hs = by (text_eq (path_text t own) (path_text t p)) (p == own) (path_number own p h hs.0) (others_of_path own h ps hs.1)
-    where
-      by : (a b : Bool) → a ≡ b → rules.others_than (Some (path_text t own)) (map (path_text t) ps) ≡ map (path_text t) (others_than own ps)
-          → cond a (rules.others_than (Some (path_text t own)) (map (path_text t) ps)) (path_text t p ∷ rules.others_than (Some (path_text t own)) (map (path_text t) ps)) ≡ map (path_text t)
-          (cond b (others_than own ps) (p ∷ others_than own ps))
-      by true true e more = more
-      by false false e more = ap (λ xs. path_text t p ∷ xs) more
-      by _ _ e more = absurd cc
+  others_of_path own h (p ∷ ps) hs = search (std_rules, path_number, others_of_path own h ps hs.1)
 
   -- a place without a path is none of these
   others_of_none : (own : ℕ) → path_at t own ≡ None → (ps : List ℕ) → AllByRecursion (HasPath t) ps → ps ≡ others_than own ps
   others_of_none own none [] hs = refl
-  others_of_none own none (p ∷ ps) hs = by (p == own) refl (others_of_none own none ps hs.1)
-    where
-      by : (b : Bool) → (p == own) ≡ b → ps ≡ others_than own ps → p ∷ ps ≡ cond b (others_than own ps) (p ∷ others_than own ps)
-      by true e more = let wrong : Some hs.0.0 ≡ None = sym hs.0.1 ∙ (ap (path_at t) (eqb-true p own e) ∙ none) in absurd cc
-      by false e more = ap (λ xs. p ∷ xs) more
+  others_of_none own none (p ∷ ps) hs = search (std_rules, eqb-true, others_of_none own none ps hs.1)
 
   others_same : (key : NumberedKey) → KeyStands t key → (ps : List ℕ) → AllByRecursion (HasPath t) ps
       → rules.others_than (interface_of (key_of t key)) (map (path_text t) ps) ≡ map (path_text t) (others_than (place_of_key key) ps)
@@ -128,12 +97,7 @@ module _ (t : Tables) (tables : AreTables t) where
   AreOver ss = AllByRecursion (λ (s : NumberedSeen). ItemIsOver s.shown) ss
 
   uses_same : (s : NumberedSeen) → ItemIsOver s.shown → rules.uses (seen_of t s) ≡ map (path_text t) (uses_of t s.shown)
-  uses_same s h = by s.shown h
-    where
-      by : (x : NumberedShown) → ItemIsOver x → rules.uses (record { key = s.key; shown = shown_of t x; external_id = s.external_id }) ≡ map (path_text t) (uses_of t x)
-      by (instance key v) h = ap (rules.others_than (interface_of (key_of t key))) (view_uses v h.1) ∙ others_same key h.0 (used_by_view t v) (view_paths v)
-      by (function n) h = refl
-      by (declares d) h = used_same d h
+  uses_same s h = search (std_rules, view_uses, others_same, view_paths, used_same)
 
   uses_paths : (x : NumberedShown) → AllByRecursion (HasPath t) (uses_of t x)
   uses_paths x = search (std_rules, others_paths, view_paths, used_paths)
@@ -189,13 +153,7 @@ module _ (t : Tables) (tables : AreTables t) where
 
 resources_same : (t : Tables) (ss : List NumberedSeen) → rules.resources_seen (map (seen_of t) ss) ≡ resources_seen ss
 resources_same t [] = refl
-resources_same t (s ∷ ss) = by s.shown (resources_same t ss)
-  where
-    by : (x : NumberedShown) → rules.resources_seen (map (seen_of t) ss) ≡ resources_seen ss
-        → rules.resources_seen (record { key = s.key; shown = shown_of t x; external_id = s.external_id } ∷ map (seen_of t) ss) ≡ cond (is_resource_seen x) (s.key ∷ resources_seen ss)
-        (resources_seen ss)
-    by (declares None) more = ap (λ names. s.key ∷ names) more
-    by _ more = more
+resources_same t (s ∷ ss) = search (std_rules, resources_same t ss)
 
 module _ (t : Tables) (tables : AreTables t) (known : ℕ → Fact) (home : ℕ) (alone : path_at t home ≡ None) where
   key_place : (key : NumberedKey) → KeyStands t key → place_of (interface_of (key_of t key)) ≡ place_at t (place_of_key key)
@@ -212,10 +170,7 @@ module _ (t : Tables) (tables : AreTables t) (known : ℕ → Fact) (home : ℕ)
 
   imports_same : (earlier ss : List NumberedSeen) → AllStand ss → rules.are_imports (map (seen_of t) earlier) (map (seen_of t) ss) ≡ are_imports t known home earlier ss
   imports_same earlier [] h = refl
-  imports_same earlier (s ∷ ss) h =
-      let one = ap (λ resources. rules.is_item resources s.key (shown_of t s.shown)) (resources_same t earlier) ∙ item_same (resources_seen earlier) s.key s.shown h.0 in
-      let rest = ap (λ xs. rules.are_imports xs (map (seen_of t) ss)) (sym (append_of_map (seen_of t) earlier (s ∷ []))) ∙ imports_same (earlier ++ s ∷ []) ss h.1 in
-      λ i. one i && rest i
+  imports_same earlier (s ∷ ss) h = search (std_rules, resources_same, item_same, append_of_map, imports_same (earlier ++ s ∷ []) ss h.1)
 
   declared_over : (p : ℕ) (d : Option ℕ) → AllOf (IsKnown t known p) d → AllOf (IsPart t) d
   declared_over p x h = search std_rules

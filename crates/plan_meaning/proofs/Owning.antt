@@ -1,5 +1,5 @@
 -- What is met from types and functions of an owner belongs to it.
-use Rattle.std.proofs.Common.{◌≡◌, refl, sym, ap, ◌∙◌, ℕ, true, false, ◌&&◌, ◌||◌, not, nat_lt, nat_le, filter_map, Some, is_some}
+use Rattle.std.proofs.Common.{rules as std_rules, ◌≡◌, refl, sym, ap, ◌∙◌, ℕ, true, false, ◌&&◌, ◌||◌, not, nat_lt, nat_le, filter_map, Some, is_some}
 use Rattle.std.proofs.lemmas.Bool.{and_from as both}
 use Rattle.std.specs.{List.list_all, Option.option_map_or}
 use Rattle.indexmap.specs.IndexMap.{values}
@@ -21,17 +21,13 @@ use Rattle.plan_meaning.specs.PlanRules as planned
 module _ (r : Resolve) (m : ℕ) where
   other_owner : (o : TypeOwner) (def : TypeDef) → (not (same_owner def.owner o) && option_map_or (planned.has_name (plan_of r m)) (owner_interface def.owner) false)
       ≡ (not (same_owner def.owner o) && option_map_or (λ i. option_map_or (λ other. is_some other.name) (interface_at r i) false) (owner_interface def.owner) false)
-  other_owner o def = ap (λ b. not (same_owner def.owner o) && b) (same_or (planned.has_name (plan_of r m)) (λ i. option_map_or (λ other. is_some other.name) (interface_at r i) false) false
-      (or_there (λ i. is_some i.name) planned_interface (λ i. is_some i.name) false (λ i. has_text i.name) r.interfaces.items) (owner_interface def.owner))
+  other_owner o def = search (std_rules, same_or, plan_of, or_there, has_text)
 
   target_is : (o : TypeOwner) (n : ℕ)
       → option_map_or (λ u. not (same_owner u.owner o) && option_map_or (planned.has_name (plan_of r m)) (owner_interface u.owner) false) (type_in (plan_of r m) n) false
       ≡ option_map_or (λ target. not (same_owner target.owner o) && option_map_or (λ i. option_map_or (λ other. is_some other.name) (interface_at r i) false) (owner_interface target.owner) false)
       (type_at r n) false
-  target_is o =
-      or_there (λ u. not (same_owner u.owner o) && option_map_or (planned.has_name (plan_of r m)) (owner_interface u.owner) false) planned_type
-      (λ target. not (same_owner target.owner o) && option_map_or (λ i. option_map_or (λ other. is_some other.name) (interface_at r i) false) (owner_interface target.owner) false) false
-      (other_owner o) r.types.items
+  target_is o = search (std_rules, or_there, plan_of, other_owner)
 
   use_is : (def : TypeDef) → planned.is_use (plan_of r m) (planned_type def) ≡ rules.is_use r def
   use_is def =

@@ -1,11 +1,10 @@
 -- A package that is built from a plan of it means what the plan means.
-use Rattle.std.proofs.Common.{rules as std_rules, ◌≡◌, refl, sym, ap, ◌∙◌, ℕ, Bool, true, false, ◌&&◌, not, ◌==◌, List, [], map, filter_map, option_map, option_and_then, option_to_list, Option, Some, None, unwrap_or, is_some, subst, String}
+use Rattle.std.proofs.Common.{rules as std_rules, ◌≡◌, refl, sym, ap, ◌∙◌, ℕ, Bool, true, false, ◌&&◌, not, ◌==◌, List, [], map, filter_map, option_map, option_and_then, option_to_list, Option, Some, None, unwrap_or, is_some, subst}
 use Rattle.std.proofs.lemmas.{Bool.and_from as both, Option.same_Some as same-some, Option.slice_get-map as get_of_map}
 use Rattle.std.specs.{Prelude.if◌then◌else◌, Prelude.◌↔◌, List.Contains, List.list_any, Option.option_map_or, FinMap.from_entries}
-use Rattle.std.specs.declared.alloc.Global.{Global}
 use Rattle.wit_model.specs.declared.model.{Resolve.Resolve, Package.Package, PackageId.PackageId, Interface.Interface, InterfaceId.InterfaceId, WorldId.WorldId}
-use Rattle.wit_model.specs.{Text.Text, Text.TextMap, Text.text_of, Text.optional_text, Meaning.InterfaceMeaning, Meaning.PackageMeaning, Valid.IsValid}
-use Rattle.wit_model.specs.Lookup.{package_at, interface_at, interface_path, path_of_interface, path_in_package, identity_of}
+use Rattle.wit_model.specs.{Text.Text, Text.TextMap, Text.text_of, Meaning.InterfaceMeaning, Meaning.PackageMeaning, Valid.IsValid}
+use Rattle.wit_model.specs.Lookup.{package_at, interface_at, interface_path, path_of_interface, identity_of}
 use Rattle.wit_model.specs.{Uses.reached_by_package, Uses.is_shown_in, Rules.is_id, Rules.package_number}
 use Rattle.wit_model.specs.Meant.{Meant, interface_meaning_at, types_alone, is_foreign, foreign_of, foreign_meaning}
 use Rattle.wit_model.proofs.{Elements.contains-filter_map, Elements.has-contains, Elements.contains-has, UsesLemmas.has_filter, UsesLemmas.filter_has}
@@ -33,11 +32,7 @@ some_path x f y e = search std_rules
 
 -- an interface with a path has a name
 pub named : (r : Resolve) (i : Interface) (k : Text) → path_of_interface r i ≡ Some k → is_some (planned_interface i).name ≡ true
-named r i k path = go i.name path
-  where
-    go : (o : Option (String Global)) → option_and_then (λ name. option_and_then (λ q. path_in_package r q.0 (text_of name)) i.package) o ≡ Some k → is_some (optional_text o) ≡ true
-    go None h = absurd (let wrong : ⊥ = cc in wrong)
-    go (Some s) h = refl
+named r i k path = search std_rules
 
 module _ (r : Resolve) (m : ℕ) where
   -- what an interface means, under its path
@@ -48,8 +43,7 @@ module _ (r : Resolve) (m : ℕ) where
   pub shown_is : (i : Interface) (k : Text) (x : InterfaceMeaning) → option_map (under i) (path_of_planned (plan_of r m) (planned_interface i)) ≡ Some (k, x)
       → (path_of_interface r i ≡ Some k) × (x ≡ meant.interface_meaning r i)
   shown_is i k x e =
-      let found = some_path (path_of_planned (plan_of r m) (planned_interface i)) (under i) (k, x) e in
-      (sym (path_of_planned_is r m i) ∙ (found.1 ∙ ap (λ (q : Text × InterfaceMeaning). Some q.0) found.2), ap (λ (q : Text × InterfaceMeaning). q.1) (sym found.2) ∙ interface_is r m i)
+      search (std_rules, some_path (path_of_planned (plan_of r m) (planned_interface i)) (under i) (k, x) e, plan_of r m, path_of_planned_is r m i, interface_is r m i)
 
   pub shown_of : (i : Interface) (k : Text) → path_of_interface r i ≡ Some k → option_map (under i) (path_of_planned (plan_of r m) (planned_interface i)) ≡ Some (k, meant.interface_meaning r i)
   shown_of i k path = ap (option_map (under i)) (path_of_planned_is r m i ∙ path) ∙ ap (λ (y : InterfaceMeaning). Some (k, y)) (interface_is r m i)
@@ -161,17 +155,11 @@ module _ (r : Resolve) (m : ℕ) (is : IsPackagePlan (plan_of r m)) (v : IsValid
   bare_means : (n : ℕ) (i : Interface) → interface_at r n ≡ Some i → is_some (interface_path r n) ≡ true → rules.is_foreign (plan_of r m) (planned_interface i) ≡ true → is_shown_in r p n ≡ false
       → types_alone (meant.interface_meaning r i) ≡ meant.interface_meaning r i
   bare_means n i e path foreign hidden =
-      let empty_list = plans_none n i e path foreign hidden in
-      let listed : map (meant_function_entry r m) i.functions.entries ≡ [] = sym (functions_are r m i) ∙ ap (map (planned_function_entry r m)) empty_list in
-      λ j. record { types = (meant.interface_meaning r i).types; functions = from_entries (sym listed j) }
+      search (std_rules, plans_none n i e path foreign hidden, meant_function_entry r m, functions_are r m i, planned_function_entry r m)
 
   foreign_means : (n : ℕ) (i : Interface) → interface_at r n ≡ Some i → is_some (interface_path r n) ≡ true → rules.is_foreign (plan_of r m) (planned_interface i) ≡ true
       → foreign_meaning r p n ≡ meant.interface_meaning r i
-  foreign_means n i e path foreign = go (is_shown_in r p n) refl
-    where
-      go : (b : Bool) → is_shown_in r p n ≡ b → foreign_meaning r p n ≡ meant.interface_meaning r i
-      go true h = ap (λ b. if b then interface_meaning_at r n else types_alone (interface_meaning_at r n)) h ∙ meaning_there r n i e
-      go false h = ap (λ b. if b then interface_meaning_at r n else types_alone (interface_meaning_at r n)) h ∙ (ap types_alone (meaning_there r n i e) ∙ bare_means n i e path foreign h)
+  foreign_means n i e path foreign = search (std_rules, meaning_there, bare_means)
 
   is_other : (n : ℕ) (i : Interface) → interface_at r n ≡ Some i → (k : Text) → path_of_interface r i ≡ Some k → is_id m (package_number i.package) ≡ false
       → rules.is_foreign (plan_of r m) (planned_interface i) ≡ true
@@ -218,15 +206,9 @@ module _ (r : Resolve) (m : ℕ) (is : IsPackagePlan (plan_of r m)) (v : IsValid
 -- The plan means what its main package means.
 pub plan_means : (r : Resolve) (m : ℕ) → IsPackagePlan (plan_of r m) → IsValid r → plan_meaning (plan_of r m) ≡ option_map (meant.package_meaning r m) (package_at r m)
 unfolding plan_meaning
-plan_means r m is v = ap (option_map (planned.package_meaning (plan_of r m))) (get_of_map planned_package r.packages.items m) ∙ go (package_at r m) refl
-  where
-    go : (o : Option Package) → package_at r m ≡ o → option_map (planned.package_meaning (plan_of r m)) (option_map planned_package o) ≡ option_map (meant.package_meaning r m) o
-    go None e = refl
-    go (Some p) e = ap Some (package_is r m is v p e)
+plan_means r m is v = search (std_rules, plan_of, get_of_map, package_is)
 
 pub package_means : (p : Plan) (r : Resolve) → IsPackagePlan p → IsBuilt p r → (x : PackageMeaning) → Meant r p.main x ↔ (plan_meaning p ≡ Some x)
 unfolding Meant
 package_means p r is built x =
-    let same = plan_means r p.main (subst IsPackagePlan (sym (plan_is p r built)) is) (built_is_valid p r is.plan built) in
-    let whole : plan_meaning p ≡ option_map (meant.package_meaning r p.main) (package_at r p.main) = ap plan_meaning (sym (plan_is p r built)) ∙ same in
-    (λ h. whole ∙ h, λ h. sym whole ∙ h)
+    search (std_rules, plan_means r p.main (subst IsPackagePlan (sym (plan_is p r built)) is) (built_is_valid p r is.plan built), plan_is p r built, built_is_valid p r is.plan built)

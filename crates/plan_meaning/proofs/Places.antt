@@ -7,8 +7,8 @@ use Rattle.std.specs.declared.alloc.Global.{Global}
 use Rattle.indexmap.specs.IndexMap.{keys}
 use Rattle.wit_model.specs.declared.model.{Resolve.Resolve, Package.Package, PackageId.PackageId, InterfaceId.InterfaceId, WorldId.WorldId}
 use Rattle.wit_model.specs.declared.model.World.{World}
-use Rattle.wit_model.specs.{Text.Text, Text.text_of, Text.text_eq, Text.optional_text, Lookup.package_at, Lookup.interface_at, Lookup.world_at}
-use Rattle.wit_model.specs.Rules.{each_from, passes, is_id, package_number, text_is, are_distinct, interface_belongs, world_belongs, interface_is_listed, world_is_listed, names_itself, is_world_name}
+use Rattle.wit_model.specs.{Text.Text, Text.text_of, Text.text_eq, Text.optional_text, Lookup.package_at, Lookup.world_at}
+use Rattle.wit_model.specs.Rules.{each_from, is_id, package_number, are_distinct, interface_belongs, world_belongs, interface_is_listed, world_is_listed, names_itself, is_world_name}
 use Rattle.wit_model.specs.Valid.{Keeps, places}
 use Rattle.wit_model.proofs.{Entries.free_passes, Checks.keeps_lists, RulesLemmas.each_at, RulesLemmas.each_by_number}
 use Rattle.plan_meaning.specs.{Plan.number_under, Plan.package_in, Built.planned_world, Built.planned_package}
@@ -55,15 +55,8 @@ times_are n w = search (std_rules, items_are, fold_of_map, item_interface_is)
 module _ (r : Resolve) (m : ℕ) (is : IsPlan (plan_of r m)) where
   -- ---- packages
 
-  name_belongs : (name : Option (String Global)) (t : Text) (b : Bool) → text_is name t ≡ true → b ≡ true → passes (λ s. b && text_eq (text_of s) t) name ≡ true
-  name_belongs x t b h k = search std_rules
-
   interface_there : (n : ℕ) (e : String Global × InterfaceId) → planned.lists_interface (plan_of r m) n (text_of e.0, e.1.0) ≡ true → interface_belongs r n e ≡ true
-  interface_there n e h =
-      let found = interface_listed r m is n e h in
-      passes_both (λ i. text_is i.name (text_of e.0)) (λ i. is_id n (package_number i.package))
-      (λ i. passes (λ name. is_id n (package_number i.package) && text_eq (text_of name) (text_of e.0)) i.name)
-      (λ i a b. name_belongs i.name (text_of e.0) (is_id n (package_number i.package)) a b) (interface_at r e.1.0) found.1 found.2
+  interface_there n e h = search (std_rules, interface_listed r m is n e h)
 
   world_there : (n : ℕ) (e : String Global × WorldId) → planned.lists_world (plan_of r m) n (text_of e.0, e.1.0) ≡ true → world_belongs r n e ≡ true
   world_there n e h =
@@ -93,15 +86,7 @@ module _ (r : Resolve) (m : ℕ) (is : IsPlan (plan_of r m)) where
   named_at : (n : ℕ) (name : Text) (o : Option PackageId)
       → option_map_or (λ k. is_id n (number_under name k.interfaces)) (option_and_then (package_in (plan_of r m)) (option_map (λ id. id.0) o)) false ≡ true
       → (is_some o && option_map_or (λ p. interface_is_listed n name p && not (is_world_name p name)) (option_and_then (package_at r) (package_number o)) true) ≡ true
-  named_at n name None h = no_true h
-  named_at n name (Some id) h = go (package_at r id.0) refl (sym (ap (λ o. option_map_or (λ k. is_id n (number_under name k.interfaces)) o false)
-      (get_of_map planned_package r.packages.items id.0)) ∙ h)
-    where
-      go : (o : Option Package) → package_at r id.0 ≡ o → option_map_or (λ k. is_id n (number_under name k.interfaces)) (option_map planned_package o) false ≡ true
-          → option_map_or (λ p. interface_is_listed n name p && not (is_world_name p name)) (package_at r id.0) true ≡ true
-      go None e h = no_true h
-      go (Some p) e h = ap (λ o. option_map_or (λ p. interface_is_listed n name p && not (is_world_name p name)) o true) e
-          ∙ (both _ _ (ap (is_id n) (sym (interface_number p name)) ∙ h) (no_world p name n ((all_there planned_package members_differ r.packages.items is.members_differ) id.0 p e) h))
+  named_at n name x h = search (std_rules, no_true, get_of_map, both, interface_number, no_world, all_there)
 
   some_package : (o : Option PackageId) (test : ℕ → Bool) → option_map_or test (option_map (λ id. id.0) o) false ≡ true → is_some o ≡ true
   some_package x test h = search std_rules
@@ -126,20 +111,14 @@ module _ (r : Resolve) (m : ℕ) (is : IsPlan (plan_of r m)) where
       → (is_some o && option_map_or (λ s. option_map_or (λ p. interface_is_listed n (text_of s) p && not (is_world_name p (text_of s))) (option_and_then (package_at r) (package_number o)) true) name
       (shown_once n o)) ≡ true
   interface_by n (Some s) o h = named_at n (text_of s) o h
-  interface_by n None o h = both _ _ (some_package o (rules.in_list (map planned_package r.packages.items)) (first_true _ _ h))
-      (sym (inline_at n o) ∙ second_true (option_map_or (rules.in_list (map planned_package r.packages.items)) (option_map (λ id. id.0) o) false) _ h)
+  interface_by n None o h = search (std_rules, both, some_package, first_true, inline_at, second_true)
 
   -- ---- worlds
 
   world_by : (n : ℕ) (name : Text) (o : Option PackageId)
       → option_map_or (λ k. is_id n (number_under name k.worlds)) (option_and_then (package_in (plan_of r m)) (option_map (λ id. id.0) o)) false ≡ true
       → (is_some o && option_map_or (world_is_listed n name) (option_and_then (package_at r) (package_number o)) true) ≡ true
-  world_by n name None h = no_true h
-  world_by n name (Some id) h = go (package_at r id.0) (sym (ap (λ o. option_map_or (λ k. is_id n (number_under name k.worlds)) o false) (get_of_map planned_package r.packages.items id.0)) ∙ h)
-    where
-      go : (o : Option Package) → option_map_or (λ k. is_id n (number_under name k.worlds)) (option_map planned_package o) false ≡ true → option_map_or (world_is_listed n name) o true ≡ true
-      go None h = no_true h
-      go (Some p) h = ap (is_id n) (sym (world_number p name)) ∙ h
+  world_by n name x h = search (std_rules, no_true, get_of_map, world_number)
 
   pub places_kept : Keeps places r
   unfolding places

@@ -50,11 +50,7 @@ sum_none n (w ∷ ws) h =
     sum_by-cons (planned.times_shown n) w ws ∙ omega (arith, here, rest)
 
 pub shown_somewhere : (n : ℕ) (ws : List PlannedWorld) → (sum_by (planned.times_shown n) ws == 1) ≡ true → list_any (λ w. planned.is_shown_in w n) ws ≡ true
-shown_somewhere n ws h = go (list_any (λ w. planned.is_shown_in w n) ws) refl
-  where
-    go : (b : Bool) → list_any (λ w. planned.is_shown_in w n) ws ≡ b → b ≡ true
-    go true e = refl
-    go false e = no_true (sym (ap (λ k. k == 1) (sum_none n ws e)) ∙ h)
+shown_somewhere n ws h = search (std_rules, no_true, sum_none)
 
 -- ---- the items of a world
 
@@ -67,9 +63,7 @@ item_among r n (item.Interface id stability docs external_id ∷ xs) h = go (id.
     go true e h rest = or_left (id.0 == n) (has (flat_map (interfaces_of_item r) xs) n) e
     go false e h rest = or_right (id.0 == n) (has (flat_map (interfaces_of_item r) xs) n) (rest h)
 item_among r n (item.Function f ∷ xs) h = item_among r n xs h
-item_among r n (item.Type_ id ∷ xs) h =
-    list_any-append (λ k. k == n) (option_to_list (uses.interface_used_by r id.0)) (flat_map (interfaces_of_item r) xs)
-    ∙ or_right (has (option_to_list (uses.interface_used_by r id.0)) n) (has (flat_map (interfaces_of_item r) xs) n) (item_among r n xs h)
+item_among r n (item.Type_ id ∷ xs) h = search (std_rules, list_any-append, or_right, item_among r n xs h)
 
 pub shows_is : (n : ℕ) (w : World) → planned.is_shown_in (planned_world w) n ≡ has (filter_map uses.item_interface (items_of w)) n
 shows_is n w = ap (λ xs. has (filter_map plan.item_interface xs) n) (items_are w) ∙ ap (λ ns. has ns n) (item_interfaces_are (items_of w))

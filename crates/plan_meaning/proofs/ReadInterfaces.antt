@@ -28,8 +28,7 @@ module _ (t : Tables) (kept : List ℕ) (p : Plan) (are : TypesAreKept t kept p)
   all_rise : (ns : List ℕ) (es : List (Text × ℕ)) → AllZip (IsKeptAs kept p) ns es → are_rising ns ≡ true → are_rising (numbers_of es) ≡ true
   all_rise [] [] z h = refl
   all_rise (n ∷ ns) (e ∷ es) z h =
-      both (list_all (nat_lt e.1) (numbers_of es)) (are_rising (numbers_of es)) (later_rise n e z.0.0 ns es z.1 (first_true (list_all (nat_lt n) ns) (are_rising ns) h))
-      (all_rise ns es z.1 (second_true (list_all (nat_lt n) ns) (are_rising ns) h))
+      search (std_rules, both, later_rise, first_true, second_true, all_rise ns es z.1 (second_true (list_all (nat_lt n) ns) (are_rising ns) h))
   all_rise _ _ z h = absurd z
 
   -- ---- types

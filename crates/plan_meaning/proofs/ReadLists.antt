@@ -8,7 +8,7 @@ use Rattle.wit_model.specs.{Text.Text, Text.text_eq, Uses.has, Rules.are_distinc
 use Rattle.wit_model.proofs.{Elements.contains-get, VersionLaws.same_text}
 use Rattle.plan_meaning.specs.{Plan.number_under, PlanRules.names_of, NumberedWorlds.are_once}
 use Rattle.plan_meaning.proofs.Lists.{no_true}
-use Rattle.base_lemmas.proofs.{Bools.left_of as first_true, Bools.right_of as second_true, Numbers.nothing_more, Numbers.same-number}
+use Rattle.base_lemmas.proofs.{Bools.left_of as first_true, Bools.right_of as second_true, Numbers.nothing_more}
 
 pub never : {A : Type 0} (b : Bool) → b ≡ true → b ≡ false → A
 never b h k = no_true (sym k ∙ h)
@@ -73,9 +73,7 @@ name_there name n es c = let at = contains-get es (name, n) c in
 
 pub number_there : (name : Text) (n : ℕ) (es : List (Text × ℕ)) → are_distinct (names_of es) ≡ true → Contains es (name, n) → is_id n (number_under name es) ≡ true
 number_there name n [] d (i, low, e) = absurd (omega (arith, low))
-number_there name n (x ∷ es) d (zero, low, e) =
-    let found : text_eq name x.0 ≡ true = same_text name x.0 (sym (ap (λ (y : Text × ℕ). y.0) e)) in
-    ap (λ b. is_id n (cond b (Some x.1) (number_under name es))) found ∙ (ap (λ (y : Text × ℕ). y.1 == n) e ∙ same-number n)
+number_there name n (x ∷ es) d (zero, low, e) = search std_rules
 number_there name n (x ∷ es) d (suc i, low, e) =
     let later : Contains es (name, n) = (i, omega (arith, low), e) in
     let absent = not_true (list_any (text_eq x.0) (names_of es)) (first_true (not (list_any (text_eq x.0) (names_of es))) (are_distinct (names_of es)) d) in
@@ -90,11 +88,7 @@ number_there name n (x ∷ es) d (suc i, low, e) =
 pub distinct_both : (xs ys : List Text) → are_distinct xs ≡ true → are_distinct ys ≡ true → list_all (λ x. not (list_any (text_eq x) ys)) xs ≡ true → are_distinct (xs ++ ys) ≡ true
 distinct_both [] ys d e apart = e
 distinct_both (x ∷ xs) ys d e apart =
-    both (not (list_any (text_eq x) (xs ++ ys))) (are_distinct (xs ++ ys))
-    (ap not (list_any-append (text_eq x) xs ys
-    ∙ neither (list_any (text_eq x) xs) (list_any (text_eq x) ys) (not_true (list_any (text_eq x) xs) (first_true (not (list_any (text_eq x) xs)) (are_distinct xs) d))
-    (not_true (list_any (text_eq x) ys) (first_true (not (list_any (text_eq x) ys)) (list_all (λ y. not (list_any (text_eq y) ys)) xs) apart))))
-    (distinct_both xs ys (second_true (not (list_any (text_eq x) xs)) (are_distinct xs) d) e (second_true (not (list_any (text_eq x) ys)) (list_all (λ y. not (list_any (text_eq y) ys)) xs) apart))
+    search (std_rules, both, list_any-append, neither, not_true, first_true, second_true, distinct_both xs ys (second_true (not (list_any (text_eq x) xs)) (are_distinct xs) d) e (second_true (not (list_any (text_eq x) ys)) (list_all (λ y. not (list_any (text_eq y) ys)) xs) apart))
 
 pub or_nothing : (a : Bool) → (a || false) ≡ true → a ≡ true
 or_nothing x h = search std_rules

@@ -1,7 +1,7 @@
 -- What is read stands in the order that a plan asks for.
-use Rattle.std.proofs.Common.{rules as std_rules, ◌≡◌, ◌⊎◌, inl, inr, refl, sym, ap, subst, ◌∙◌, ◌<◌, ◌≤◌, ℕ, zero, suc, ◌+◌, arith, Bool, true, false, not, ◌&&◌, ◌||◌, ◌==◌, cond, List, [], ◌∷◌, ◌++◌, length, map, filter, filter_map, flat_map, Option, Some, None, option_and_then, option_to_list, slice_get, T, ltb→lt}
-use Rattle.std.proofs.lemmas.Bool.{eqb-true, eq-eqb, leb-true, ltb-false, or_right, and_from as both, not-true as not_true}
-use Rattle.std.proofs.lemmas.{Bool.Decides.nat_tests, List.Elements.Contains-append_cases, List.Elements.Contains-append_left, List.Elements.filter_map-append}
+use Rattle.std.proofs.Common.{rules as std_rules, ◌≡◌, ◌⊎◌, inl, inr, refl, sym, ap, subst, ◌∙◌, ◌<◌, ◌≤◌, ℕ, zero, suc, ◌+◌, arith, Bool, true, false, not, ◌||◌, ◌==◌, cond, List, [], ◌∷◌, ◌++◌, length, map, filter, filter_map, flat_map, Option, Some, None, option_and_then, option_to_list, slice_get, T, ltb→lt}
+use Rattle.std.proofs.lemmas.Bool.{eqb-true, eq-eqb, leb-true, or_right, and_from as both, not-true as not_true}
+use Rattle.std.proofs.lemmas.{List.Elements.Contains-append_cases, List.Elements.Contains-append_left, List.Elements.filter_map-append}
 use Rattle.std.proofs.lemmas.Option.{slice_get_within, same_Some as same-some}
 use Rattle.std.proofs.lemmas.List.Folds.{list_all-append, list_all-map, list_any-append}
 use Rattle.std.specs.{Prelude.nat_le, Prelude.nat_lt, List.AllByRecursion, List.Contains, List.list_all, Cmp.Lexicographic.pointwise, Option.option_map_or}
@@ -13,7 +13,7 @@ use Rattle.wit_model.proofs.{UsesLemmas.filter_has, PartsLemmas.owner_itself}
 use Rattle.plan_meaning.specs.{Shapes.named_shape, ReadOrder.IsViewedInterface, ReadOrder.OrderIsRead, ReadOrder.ReadOrderPasses}
 use Rattle.plan_meaning.specs.Plan.{Plan, PlannedKey, PlannedItem, PlannedType, PlannedFunction, PlannedWorld, interface_in, world_in, has_owner, kind_numbers, function_numbers, function_parts, part_number, used_by_numbers, interface_used_by, interfaces_used_by, item_interface, item_type, items_of}
 use Rattle.plan_meaning.specs.PlanRules.{direct_uses, is_listed, is_listed_in, is_under_label, uses_stand_before, used_types}
-use Rattle.plan_meaning.specs.NumberedViews.{Tables, AreTables, NumberedType, NumberedView, same_number, same_shown, same_id}
+use Rattle.plan_meaning.specs.NumberedViews.{Tables, AreTables, NumberedType, NumberedView, same_number, same_shown}
 use Rattle.plan_meaning.specs.NumberedWorlds.{NumberedSeen, others_than, path_seen, stand_earlier, used_by, used_by_view, uses_of}
 use Rattle.plan_meaning.specs.{KeptTypes.IsKeptType, KeptTypes.unnamed, KeptTypes.declared, KeptTypes.TypesAreKept, KeptOwners.AreOwned, ReadFunctions.Beside}
 use Rattle.plan_meaning.specs.ReadWorlds.{ReadItem, is_type_seen, types_follow, IsInterfaceOf, IsReadUnder, IsTypeUnder, IsReadItem, by_path, by_label, implementing_path, a_function, a_type}
@@ -45,10 +45,7 @@ pub same_uses : (t : Tables) (xs ys : List NumberedType) → pointwise same_show
     → flat_map (λ (x : NumberedType). used_by t x.declared) xs ≡ flat_map (λ (x : NumberedType). used_by t x.declared) ys
 same_uses t [] [] h = refl
 same_uses t (x ∷ xs) (y ∷ ys) h =
-    let front = first_true (same_shown x y) (pointwise same_shown xs ys) h in
-    let one : x.declared ≡ y.declared = same_declared x.declared y.declared
-    (first_true (same_number x.declared y.declared) (same_id x.external_id y.external_id) (second_true _ (same_number x.declared y.declared && same_id x.external_id y.external_id) front)) in
-    λ i. used_by t (one i) ++ same_uses t xs ys (second_true (same_shown x y) (pointwise same_shown xs ys) h) i
+    search (std_rules, first_true, same_declared, second_true, same_uses t xs ys (second_true (same_shown x y) (pointwise same_shown xs ys) h))
 same_uses t _ _ h = no_true h
 
 pub has_front : (xs ys : List ℕ) (n : ℕ) → has xs n ≡ true → has (xs ++ ys) n ≡ true
@@ -61,27 +58,10 @@ module _ (t : Tables) (tables : AreTables t) (kept : List ℕ) (p : Plan) (are :
   -- ---- numbers that are kept
 
   kept_order : (i j a c : ℕ) → slice_get kept i ≡ Some a → slice_get kept j ≡ Some c → i < j → a < c
-  kept_order i j a c at_i at_j less = go (nat_lt a c) refl
-    where
-      equal : (v : Bool) → (a == c) ≡ v → c ≤ a → a < c
-      equal true e le = let same : i ≡ j = are.once i j c (at_i ∙ ap Some (eqb-true a c e)) at_j in absurd (omega (arith, same, less))
-      equal false e le = let above : c < a = grind (arith, nat_tests, e, le) in let turned : j < i = are.rise j i c a at_j at_i above in absurd (omega (arith, turned, less))
-
-      go : (v : Bool) → nat_lt a c ≡ v → a < c
-      go true e = ltb→lt a c (subst T (sym e) tt)
-      go false e = equal (a == c) refl (ltb-false a c e)
+  kept_order i j a c at_i at_j less = search std_rules
 
   kept_below : (i j a c : ℕ) → slice_get kept i ≡ Some a → slice_get kept j ≡ Some c → nat_le i j ≡ true → a ≤ c
-  kept_below i j a c at_i at_j le = go (nat_lt i j) refl
-    where
-      go : (v : Bool) → nat_lt i j ≡ v → a ≤ c
-      go true e = let less : a < c = kept_order i j a c at_i at_j (ltb→lt i j (subst T (sym e) tt)) in omega (arith, less)
-      go false e =
-          let above = ltb-false i j e in
-          let below = leb-true i j le in
-          let same : i ≡ j = omega (arith, above, below) in
-          let one : a ≡ c = same-some a c (sym at_i ∙ (ap (slice_get kept) same ∙ at_j)) in
-          omega (arith, one)
+  kept_below i j a c at_i at_j le = search std_rules
 
   fall : each_from (λ n x. list_all (λ m. nat_lt m n) (kind_numbers x.kind)) 0 p.types ≡ true
   fall = (kept_types_pass t tables kept p are).1.types_fall

@@ -234,11 +234,7 @@ module _ (t : Tables) (tables : AreTables t) (h : Homes) (homes : HomesStand t h
     of_package : i.package_ ≡ Some package_
 
   place_of : (n : ℕ) (i : PlannedInterface) → interface_in p n ≡ Some i → is_some i.name ≡ true → HasPlace n i
-  place_of n i e named = by (read.places.interfaces n i e)
-    where
-      by : IsPlacedInterface t h p b.owners n i → HasPlace n i
-      by (under_path q a name l path owned home called of_package there listed) = record { place = q; path = path; owned = owned; package_ = a; name = name; home = home; of_package = of_package }
-      by (inline q a w none owned unnamed there shown_there) = no_true (sym (ap is_some unnamed) ∙ named)
+  place_of n i e named = search std_rules
 
   not_main : (n : ℕ) (i : PlannedInterface) (at : HasPlace n i) → is_foreign p i ≡ true → is_of_package h p.main at.place ≡ false
   not_main n i at foreign = search rules

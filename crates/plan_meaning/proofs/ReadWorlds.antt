@@ -1,8 +1,8 @@
 -- Worlds that are read pass the tests of a plan on each world by itself.
-use Rattle.std.proofs.Common.{◌≡◌, refl, sym, ap, subst, ◌∙◌, ◌<◌, ℕ, arith, Bool, true, false, not, ◌&&◌, ◌||◌, ◌==◌, List, [], ◌∷◌, ◌++◌, length, map, filter_map, Option, Some, drop, is_none, is_some, slice_get, T, ltb→lt, rules}
+use Rattle.std.proofs.Common.{◌≡◌, refl, sym, ap, subst, ◌∙◌, ◌<◌, ℕ, arith, Bool, true, false, not, ◌&&◌, ◌||◌, ◌==◌, List, [], ◌∷◌, ◌++◌, map, filter_map, Option, Some, is_none, is_some, slice_get, T, ltb→lt, rules}
 use Rattle.std.proofs.lemmas.Bool.{eqb-true, eq-eqb, lt-ltb, and_from as both, not-true as not_true, or_from as neither}
 use Rattle.std.proofs.lemmas.Option.{same_Some as same-some}
-use Rattle.std.specs.{Prelude.codes, Prelude.nat_eq, Prelude.nat_lt, List.AllByRecursion, List.cons_option, List.list_all, List.list_any, List.starts_with}
+use Rattle.std.specs.{Prelude.codes, Prelude.nat_lt, List.AllByRecursion, List.cons_option, List.list_all, List.list_any}
 use Rattle.std.specs.Option.{option_map_or}
 use Rattle.wit_model.specs.declared.model.{TypeOwner.TypeOwner, FunctionKind.FunctionKind}
 use Rattle.wit_model.specs.{Text.Text, Text.text_eq, Rules.in_list, Rules.is_freestanding, Uses.owner_interface, Valid.as_interface, Valid.as_world}
@@ -26,12 +26,7 @@ use Rattle.plan_meaning.specs.Plan as plan
 -- ---- a function whose name is a label
 
 behind_bracket : (ps name : Text) → is_label_behind (91 ∷ ps) name ≡ true → is_label name ≡ false
-behind_bracket ps [] h = no_true h
-behind_bracket ps (c ∷ cs) h = go (91 == c) refl
-  where
-    go : (b : Bool) → (91 == c) ≡ b → is_label (c ∷ cs) ≡ false
-    go true e = ap (λ x. is_label (x ∷ cs)) (sym (eqb-true 91 c e))
-    go false e = no_true (sym (ap (λ v. (v && starts_with nat_eq cs ps) && is_label (drop (length ps) cs)) e) ∙ h)
+behind_bracket ps y h = search rules
 
 module _ (t : Tables) (known : ℕ → Fact) (kept : List ℕ) (p : Plan) (o : TypeOwner) (q : ℕ) where
   stands_free : (name : Text) (f : FunctionShape) (kind : FunctionKind) → IsKindOf t known kept p o q name f kind → is_label name ≡ true → is_freestanding kind ≡ true

@@ -38,9 +38,7 @@ module _ (place : ℕ → Place) (shapes : List Shape) (kept : List ℕ) (p : Pl
       → map (part_tree (take j (trees_in p))) new ≡ map (part_tree old_trees) old
   parts_kept j small [] [] zip h = refl
   parts_kept j small (o ∷ old) (w ∷ new) zip h =
-      let rest = parts_kept j small old new zip.1 (rest_passes (λ k. nat_lt k j) (part_number w) (filter_map part_number new) h) in
-      let here = part_kept j small o w zip.0 (filter_map part_number new) h in
-      λ i. here i ∷ rest i
+      search (std_rules, rest_passes, part_kept, parts_kept j small old new zip.1 (rest_passes (λ k. nat_lt k j) (part_number w) (filter_map part_number new) h))
   parts_kept j small _ _ zip h = absurd zip
 
   made_tree : (j : ℕ) → Smaller j → (t : PlannedType) (s : Shape) → list_all (λ k. nat_lt k j) (kind_numbers t.kind) ≡ true → IsTypeOf place kept p s t

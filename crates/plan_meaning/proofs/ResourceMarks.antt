@@ -90,11 +90,7 @@ module _ (r : Resolve) (m : ℕ) (is : IsPlan (plan_of r m)) where
   value_part k = list_all no_resource_at (option_to_list (part_number k))
 
   value_passes : (t : ValueType) → value_part (part_of t) ≡ true → not (is_resource_type r t) ≡ true
-  value_passes t h = go (number_of t) (ap (λ o. list_all no_resource_at (option_to_list o)) (sym (number_part t)) ∙ h)
-    where
-      go : (o : Option ℕ) → list_all no_resource_at (option_to_list o) ≡ true → not (option_map_or (parts.is_resource r) o false) ≡ true
-      go None h = refl
-      go (Some n) h = ap not (sym (resource_is r m references_hold n)) ∙ first_true (no_resource_at n) true h
+  value_passes t h = search (std_rules, number_part, resource_is, references_hold, first_true)
 
   abbrev takes_values : TypeOwner → Function → Bool
   takes_values o f = list_all (λ t. not (is_resource_type r t)) (function_types f)

@@ -15,15 +15,11 @@ use Rattle.plan_meaning.specs.Plan as plan
 
 absent : (m n : ℕ) (ns : List ℕ) → m ≤ n → list_all (nat_lt n) ns ≡ true → has ns m ≡ false
 absent m n [] le h = refl
-absent m n (k ∷ ns) le h =
-    let above : n < k = less_than n k (first_true (nat_lt n k) (list_all (nat_lt n) ns) h) in
-    let other : (k == m) ≡ false = grind (arith, nat_tests, le, above) in
-    ap (λ b. b || has ns m) other ∙ absent m n ns le (second_true (nat_lt n k) _ h)
+absent m n (k ∷ ns) le h = search (std_rules, less_than, first_true, nat_tests, second_true, absent m n ns le (second_true (nat_lt n k) _ h))
 
 are_apart : (ns : List ℕ) → are_rising ns ≡ true → are_once ns ≡ true
 are_apart [] rise = refl
-are_apart (n ∷ ns) rise =
-    both _ _ (ap not (absent n n ns (omega arith) (first_true (list_all (nat_lt n) ns) (are_rising ns) rise))) (are_apart ns (second_true (list_all (nat_lt n) ns) (are_rising ns) rise))
+are_apart (n ∷ ns) rise = search (std_rules, both, absent, first_true, second_true, are_apart ns (second_true (list_all (nat_lt n) ns) (are_rising ns) rise))
 
 pub stands_once : (n : ℕ) (ns : List ℕ) → are_rising ns ≡ true → has ns n ≡ true → (times n ns == 1) ≡ true
 stands_once n ns rise h = ap (λ k. k == 1) (times_once n ns (are_apart ns rise) h)

@@ -137,24 +137,18 @@ module _ (place : ℕ → Place) (ss : List Shape) (table : IsTable ss) where
 
   both_views : (a b : ℕ) (t u : Tree) → AreApart place ss a b → t ≡ u → PartView a t → PartView b u → SameParts a b t u → a ≡ b
   both_views a b t u apart e (is_primitive p ha ta na) (is_primitive q hb tb nb) rec = sym na ∙ (ap number_in (sym ta ∙ (e ∙ tb)) ∙ nb)
-  both_views a b t u apart e (is_primitive p ha ta na) (is_name m q y eb sb tb) rec =
-      let wrong : Tree.primitive p ≡ Tree.named (place q) y = sym ta ∙ (e ∙ tb) in absurd cc
-  both_views a b t u apart e (is_primitive p ha ta na) (is_node m g ls eb sb tb below) rec =
-      let wrong : Tree.primitive p ≡ Tree.node g (children (map (part_tree trees) ls)) = sym ta ∙ (e ∙ tb) in absurd cc
-  both_views a b t u apart e (is_name n p x ea sa ta) (is_primitive q hb tb nb) rec =
-      let wrong : Tree.named (place p) x ≡ Tree.primitive q = sym ta ∙ (e ∙ tb) in absurd cc
-  both_views a b t u apart e (is_node n f ks ea sa ta below) (is_primitive q hb tb nb) rec =
-      let wrong : Tree.node f (children (map (part_tree trees) ks)) ≡ Tree.primitive q = sym ta ∙ (e ∙ tb) in absurd cc
+  both_views a b t u apart e (is_primitive p ha ta na) (is_name m q y eb sb tb) rec = search std_rules
+  both_views a b t u apart e (is_primitive p ha ta na) (is_node m g ls eb sb tb below) rec = search std_rules
+  both_views a b t u apart e (is_name n p x ea sa ta) (is_primitive q hb tb nb) rec = search std_rules
+  both_views a b t u apart e (is_node n f ks ea sa ta below) (is_primitive q hb tb nb) rec = search std_rules
   both_views a b t u apart e (is_name n p x ea sa ta) (is_name m q y eb sb tb) rec =
       let named : Tree.named (place p) x ≡ Tree.named (place q) y = sym ta ∙ (e ∙ tb) in
       let places : place p ≡ place q = cc in
       let names : x ≡ y = cc in
       let numbers : p ≡ q = apart p q (itself a n p x ea sa) (itself b m q y eb sb) places in
       same_place_number a b n m (named_shape q y) ea eb (sa ∙ (λ i. Some (named_shape (numbers i) (names i)))) sb
-  both_views a b t u apart e (is_name n p x ea sa ta) (is_node m g ls eb sb tb below) rec =
-      let wrong : Tree.named (place p) x ≡ Tree.node g (children (map (part_tree trees) ls)) = sym ta ∙ (e ∙ tb) in absurd cc
-  both_views a b t u apart e (is_node n f ks ea sa ta below) (is_name m q y eb sb tb) rec =
-      let wrong : Tree.node f (children (map (part_tree trees) ks)) ≡ Tree.named (place q) y = sym ta ∙ (e ∙ tb) in absurd cc
+  both_views a b t u apart e (is_name n p x ea sa ta) (is_node m g ls eb sb tb below) rec = search std_rules
+  both_views a b t u apart e (is_node n f ks ea sa ta below) (is_name m q y eb sb tb) rec = search std_rules
   both_views a b t u apart e (is_node n f ks ea sa ta ra) (is_node m g ls eb sb tb rb) rec =
       let nodes : Tree.node f (children (map (part_tree trees) ks)) ≡ Tree.node g (children (map (part_tree trees) ls)) = sym ta ∙ (e ∙ tb) in
       let forms : f ≡ g = cc in

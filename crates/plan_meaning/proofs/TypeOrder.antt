@@ -7,7 +7,7 @@ use Rattle.indexmap.specs.IndexMap.{values}
 use Rattle.wit_model.specs.declared.model.{Resolve.Resolve, Interface.Interface, WorldKey.WorldKey, WorldItem.WorldItem, TypeId.TypeId, TypeOwner.TypeOwner}
 use Rattle.wit_model.specs.declared.model.World.{World}
 use Rattle.wit_model.specs.{Text.Text, Text.text_of, Text.text_eq, Text.optional_text, Valid.Keeps, Valid.order_of_types, Valid.as_interface, Valid.as_world}
-use Rattle.wit_model.specs.{Lookup.interface_at, Lookup.world_at, Lookup.type_at, Parts.same_owner, Uses.has}
+use Rattle.wit_model.specs.{Lookup.world_at, Lookup.type_at, Parts.same_owner, Uses.has}
 use Rattle.wit_model.specs.Rules.{passes, is_id, text_is, is_name_key, is_named_of, are_in_order, interface_type_numbers, world_type_numbers, is_listed_in_interface, is_listed_in_world, used_by_number}
 use Rattle.wit_model.proofs.{Lists.list_all_filter_map, Checks.keeps_three, InOrder.found_stands, TextLemmas.named_too, RulesLemmas.each_by_number}
 use Rattle.plan_meaning.specs.{Plan.number_under, Plan.numbers_of, PlanRules.IsPlan, PlanRules.are_rising, PlanRules.is_under_label}
@@ -105,14 +105,7 @@ module _ (r : Resolve) (m : ℕ) (is : IsPlan (plan_of r m)) where
           (lookup (is_name_key name) w.imports.entries)))) ∙ h
 
   listed_in : (n : ℕ) (name : Text) (o : TypeOwner) → planned.is_listed_in (plan_of r m) n name o ≡ true → rules.is_listed r n name o ≡ true
-  listed_in n name (owner.Interface id) h = go (interface_at r id.0) refl
-      (sym (ap (λ o. option_map_or (λ i. is_id n (number_under name i.types)) o false) (get_of_map planned_interface r.interfaces.items id.0)) ∙ h)
-    where
-      go : (o : Option Interface) → interface_at r id.0 ≡ o → option_map_or (λ i. is_id n (number_under name i.types)) (option_map planned_interface o) false ≡ true
-          → passes (is_listed_in_interface n name) (interface_at r id.0) ≡ true
-      go None e h = no_true h
-      go (Some i) e h = ap (passes (is_listed_in_interface n name)) e
-          ∙ in_interface n name i (ap are_rising (sym (type_numbers_are i)) ∙ all_there planned_interface (λ x. are_rising (numbers_of x.types)) r.interfaces.items is.types_rise id.0 i e) h
+  listed_in n name (owner.Interface id) h = search (std_rules, get_of_map, no_true, in_interface, type_numbers_are, all_there)
   listed_in n name (owner.World id) h =
       go (world_at r id.0) refl (sym (ap (λ o. option_map_or (λ w. is_id n (option_and_then plan.item_type (lookup (is_under_label name) w.imports))) o false)
       (get_of_map planned_world r.worlds.items id.0)) ∙ h)

@@ -8,7 +8,7 @@ use Rattle.wit_model.proofs.{Elements.contains-filter_map, Elements.contains-fla
 use Rattle.plan_meaning.specs.{Shapes.Shape, Shapes.first_label, Shapes.named_shape, Shapes.node_shape, ReadInterfaces.IsNumberOf, ReadInterfaces.IsKeptAs}
 use Rattle.plan_meaning.specs.Plan.{Plan, PlannedKind, PlannedType, PlannedInterface, type_in, alias_number, part_number, interface_used_by, interfaces_used_by, numbers_of}
 use Rattle.plan_meaning.specs.{Renumbering.IsPart, Renumbering.a_primitive, Renumbering.a_shape, NumberedRules.name_at, NumberedRules.name_in}
-use Rattle.plan_meaning.specs.NumberedViews.{Tables, path_at, AreTables, NumberedType, NumberedView}
+use Rattle.plan_meaning.specs.NumberedViews.{Tables, AreTables, NumberedType, NumberedView}
 use Rattle.plan_meaning.specs.{NumberedWorlds.HasPath, NumberedWorlds.if_outside, NumberedWorlds.used_by, NumberedWorlds.used_by_view, ReadFunctions.Beside}
 use Rattle.plan_meaning.specs.GatheredPlan.{Becomes, DeclaresKind, a_resource, a_form, TypeBecomes, TypeListed}
 use Rattle.plan_meaning.specs.{KeptTypes.IsKeptType, KeptTypes.unnamed, KeptTypes.declared, KeptTypes.TypesAreKept, KeptOwners.AreOwned}
@@ -38,11 +38,7 @@ module _ (t : Tables) (tables : AreTables t) (kept : List ℕ) (p : Plan) (are :
   uses_outside d old k r name e is there = search rules
 
   only_there : (d : Option ℕ) (old k r : ℕ) (name : Text) → d ≡ Some old → old ≡ 14 + k → slice_get t.shapes k ≡ Some (named_shape r name) → (a : ℕ) → Contains (used_by t d) a → a ≡ r
-  only_there d old k r name e is there a c = by (path_at t r) (subst (λ ns. Contains ns a) (uses_outside d old k r name e is there) c)
-    where
-      by : (o : Option Text) → Contains (option_map_or (λ (s : Text). r ∷ []) o []) a → a ≡ r
-      by None c = none-in a c
-      by (Some s) c = sym (one-contained r a c)
+  only_there d old k r name e is there a c = search std_rules
 
   -- what is no name uses nothing
   no_uses : (d : Option ℕ) (old : ℕ) → d ≡ Some old → name_at t old ≡ None → used_by t d ≡ []

@@ -41,11 +41,7 @@ number_part x = search std_rules
 
 pub given_all : {A : Type 0} (h : A → Option ValueType) (xs : List A) → given_parts (map h xs) ≡ map part_of (filter_map h xs)
 given_all h [] = refl
-given_all h (x ∷ xs) = go (h x) (given_all h xs)
-  where
-    go : (o : Option ValueType) → given_parts (map h xs) ≡ map part_of (filter_map h xs) → given_parts (o ∷ map h xs) ≡ map part_of (cons_option o (filter_map h xs))
-    go None rest = rest
-    go (Some t) rest = ap (λ ks. part_of t ∷ ks) rest
+given_all h (x ∷ xs) = search (std_rules, given_all h xs)
 
 pub numbers_parts : (ts : List ValueType) → filter_map part_number (map part_of ts) ≡ filter_map number_of ts
 numbers_parts ts = filter_of_map part_number part_of ts ∙ ap (λ h. filter_map h ts) (λ i t. number_part t i)

@@ -1,5 +1,5 @@
 -- A world that is built from a plan of it means what the plan means as a world.
-use Rattle.std.proofs.Common.{◌≡◌, refl, sym, ap, ◌∙◌, ℕ, true, [], map, filter_map, option_map, option_and_then, Option, Some, None, slice_get, unwrap_or, is_some, subst}
+use Rattle.std.proofs.Common.{rules as std_rules, ◌≡◌, refl, sym, ap, ◌∙◌, ℕ, true, [], map, filter_map, option_map, option_and_then, Option, Some, None, slice_get, unwrap_or, is_some, subst}
 use Rattle.std.proofs.lemmas.{Bool.eqb-true, Option.slice_get-map as get_of_map}
 use Rattle.std.specs.{Prelude.◌↔◌, List.Contains, FinMap.from_entries}
 use Rattle.wit_model.specs.declared.model.{Resolve.Resolve, Package.Package, PackageId.PackageId, Interface.Interface, World.World}
@@ -67,7 +67,4 @@ world_plan_means r m is v =
 pub world_means : (p : Plan) (r : Resolve) → IsWorldPlan p → IsBuilt p r → (x : WorldPackage) → MeantWorld r 0 x ↔ (plan_world_meaning p ≡ Some x)
 unfolding MeantWorld
 world_means p r is built x =
-    let same = world_plan_means r p.main (subst IsWorldPlan (sym (plan_is p r built)) is) (built_is_valid p r is.plan built) in
-    let whole : plan_world_meaning p ≡ option_and_then (λ w. option_map (λ q. meant.world_package r q w) (package_of_world r w)) (world_at r 0) =
-    ap plan_world_meaning (sym (plan_is p r built)) ∙ same in
-    (λ h. whole ∙ h, λ h. sym whole ∙ h)
+    search (std_rules, world_plan_means r p.main (subst IsWorldPlan (sym (plan_is p r built)) is) (built_is_valid p r is.plan built), plan_is p r built, built_is_valid p r is.plan built)

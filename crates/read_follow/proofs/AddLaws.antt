@@ -1,5 +1,5 @@
 -- A key that is put into a table is put there once.
-use Rattle.std.proofs.Common.{◌≡◌, refl, sym, ap, ◌∙◌, subst, ℕ, zero, suc, Bool, true, false, ◌||◌, List, [], ◌∷◌, ◌++◌, map, cond, Some, slice_get}
+use Rattle.std.proofs.Common.{rules as std_rules, ◌≡◌, refl, sym, ap, ◌∙◌, subst, ℕ, zero, suc, Bool, true, false, ◌||◌, List, [], ◌∷◌, ◌++◌, map, cond, Some, slice_get}
 use Rattle.std.specs.List.{list_any}
 use Rattle.std.proofs.lemmas.List.{map-append}
 use Rattle.read_follow.specs.declared.keys.Key.{Key}
@@ -8,8 +8,7 @@ use Rattle.read_follow.specs.KeyShapes.{shape_of}
 
 module _ (eq : Key → Key → Bool) (again : (a b : Key) → shape_of a ≡ shape_of b → eq a b ≡ true) where
   either_true : (a b : Bool) → b ≡ true → (a || b) ≡ true
-  either_true true b e = refl
-  either_true false b e = e
+  either_true x b e = search std_rules
 
   seen : (ks : List Key) (k : Key) (n : ℕ) → slice_get (map shape_of ks) n ≡ Some (shape_of k) → list_any (eq k) ks ≡ true
   seen [] k n e = absurd cc

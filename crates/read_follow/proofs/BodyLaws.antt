@@ -1,5 +1,5 @@
 -- A body has all the bytes of its items.
-use Rattle.std.proofs.Common.{◌≡◌, refl, sym, ap, ◌∙◌, ℕ, ◌+◌, ◌-◌, ◌≤◌, arith, List, [], ◌++◌, length, take, Option, Some, None, append-nil}
+use Rattle.std.proofs.Common.{rules as std_rules, ◌≡◌, refl, sym, ap, ◌∙◌, ℕ, ◌+◌, ◌-◌, ◌≤◌, arith, List, [], ◌++◌, length, take, Option, Some, None, append-nil}
 use Rattle.std.proofs.lemmas.{List.take_at, List.length-append, Option.same_Some as some_is}
 use Rattle.comp_bytes.specs.{Form.Spellings, Form.Sequence, Laws.IsReadBy, Reading.Reader, Reading.sequence_at}
 use Rattle.comp_bytes.proofs.PartLaws.{sequence_takes, sequence_again}
@@ -33,10 +33,7 @@ module _ {A : Type 0} {form : A → Spellings} {reader : Reader A} (law : IsRead
           ∙ (ap (sequence_at reader (length read.0)) (is ∙ sym (append-nil front)) ∙ sequence_again law read.0 front [] spelled)
 
   pub shorter : length rest ≤ length items
-  shorter =
-      let t = sequence_takes law n items read.0 rest read.1 in
-      let whole : length items ≡ length t.0.front + length rest = ap length t.0.parts ∙ length-append t.0.front rest in
-      omega (arith, whole)
+  shorter = search (std_rules, sequence_takes, read, length-append)
 
   module _ (b : Body) (count : b.count ≡ n) (cut : b.bytes.now ≡ take (length items - length rest) items) where
     body_read : sequence_at reader b.count b.bytes.now ≡ Some (read.0, [])
@@ -53,5 +50,4 @@ module _ {A : Type 0} {form : A → Spellings} {reader : Reader A} (law : IsRead
 
 -- nothing is behind nothing
 pub none_found : {A : Type 0} (found : Option (A × List ℕ)) → behind found ≡ None → found ≡ None
-none_found None e = refl
-none_found (Some x) e = absurd cc
+none_found x e = search std_rules

@@ -1,5 +1,5 @@
 -- Types of values and of functions in tables that grow.
-use Rattle.std.proofs.Common.{◌≡◌, ◌⊎◌, refl, sym, ap, ◌∙◌, subst, ℕ, zero, suc, ◌+◌, ◌<◌, ◌≤◌, arith, inl, inr, true, false, List, [], ◌∷◌, ◌++◌, map, length, Option, Some, None, option_map, IfSome, slice_get, unwrap_or, append_assoc, append-nil, length-append}
+use Rattle.std.proofs.Common.{rules as std_rules, ◌≡◌, ◌⊎◌, refl, sym, ap, ◌∙◌, subst, ℕ, zero, suc, ◌+◌, ◌<◌, ◌≤◌, arith, inl, inr, true, false, List, [], ◌∷◌, ◌++◌, map, length, Option, Some, None, option_map, IfSome, slice_get, unwrap_or, append_assoc, append-nil, length-append}
 use Rattle.std.proofs.lemmas.{Bool.cases_lt, Option.slice_get_past, Option.slice_get_within as found_below}
 use Rattle.std.specs.List.{AllByRecursion}
 use Rattle.wit_model.specs.{Meaning.Signature, Text.Text, Tree.Form, Tree.Place, Tree.Tree, Tree.children, Types.no_tree}
@@ -41,10 +41,7 @@ adds_placed m old new s (comes fresh) placed one = all_end (IsPlacedBelow m) old
 -- where no name comes into a table, each stood there
 adds_no_name : (old new : List Shape) (s : Shape) → Adds old s new → (s.sort ≡ 0 → ⊥) → (k q : ℕ) (name : Text) → slice_get new k ≡ Some (named_shape q name) → k < length old
 adds_no_name old new s stays formed k q name e = found_below old k (named_shape q name) e
-adds_no_name old new s (comes fresh) formed k q name e = elim (last_or old s k (named_shape q name) e) [
-  | inl h ↦ h.0
-  | inr h ↦ absurd (formed (ap (λ (x : Shape). x.sort) h.1))
-]
+adds_no_name old new s (comes fresh) formed k q name e = search (std_rules, last_or)
 
 -- either nothing came, or the shape is the last
 pub adds_cases : (old new : List Shape) (s : Shape) → Adds old s new → (new ≡ old) ⊎ (new ≡ old ++ s ∷ [])
@@ -63,23 +60,12 @@ form_same f g ks js e = sym (form_back f) ∙ (ap (λ (s : Shape). form_of (code
 adds_formed : (old new : List Shape) (s : Shape) → Adds old s new → (f : Form) (ks : List ℕ) → s ≡ node_shape f ks → is_form f ks ≡ true
     → (n : ℕ) (form : Form) (parts : List ℕ) → slice_get new n ≡ Some (node_shape form parts) → (n < length old) ⊎ (is_form form parts ≡ true)
 adds_formed old new s stays f ks is formed n form parts e = inl (found_below old n (node_shape form parts) e)
-adds_formed old new s (comes fresh) f ks is formed n form parts e = elim (last_or old s n (node_shape form parts) e) [
-  | inl h ↦ inl h.0
-  | inr h ↦
-      let same : node_shape f ks ≡ node_shape form parts = sym is ∙ h.1 in
-      inr (sym (λ i. is_form (form_same f form ks parts same i) (ap (λ (x : Shape). x.parts) same i)) ∙ formed)
-]
+adds_formed old new s (comes fresh) f ks is formed n form parts e = search (std_rules, last_or old s n (node_shape form parts) e)
 
 -- where a name comes into it
 pub adds_name : (old new : List Shape) (p : ℕ) (name : Text) → Adds old (named_shape p name) new
     → (n : ℕ) (form : Form) (parts : List ℕ) → slice_get new n ≡ Some (node_shape form parts) → (n < length old) ⊎ (is_form form parts ≡ true)
-adds_name old new p name adds n form parts e = elim (adds_cases old new (named_shape p name) adds) [
-  | inl same ↦ inl (found_below old n (node_shape form parts) (ap (λ (zs : List Shape). slice_get zs n) (sym same) ∙ e))
-  | inr came ↦ elim (last_or old (named_shape p name) n (node_shape form parts) (ap (λ (zs : List Shape). slice_get zs n) (sym came) ∙ e)) [
-    | inl h ↦ inl h.0
-    | inr h ↦ absurd (no_name form (ap (λ (x : Shape). x.sort) (sym h.1)))
-  ]
-]
+adds_name old new p name adds n form parts e = search (std_rules, adds_cases, found_below, last_or, no_name)
 
 pub longer : {X : Type 0} (old new : List X) → Grows old new → length old ≤ length new
 longer old new g = let long : length new ≡ length old + length g.more = ap length g.is ∙ length-append old g.more in omega (arith, long)
@@ -88,12 +74,7 @@ longer old new g = let long : length new ≡ length old + length g.more = ap len
 
 trees_behind : (place : ℕ → Place) (ss us : List Shape) → (U : List Tree) × (shape_trees place (ss ++ us) ≡ shape_trees place ss ++ U)
 trees_behind place ss [] = ([], ap (shape_trees place) (append-nil ss) ∙ sym (append-nil (shape_trees place ss)))
-trees_behind place ss (u ∷ us) =
-    let t = shape_tree place (shape_trees place ss) u in
-    let rest = trees_behind place (ss ++ u ∷ []) us in (
-      t ∷ rest.0,
-      ap (shape_trees place) (sym (append_assoc ss (u ∷ []) us)) ∙ (rest.1 ∙ (ap (λ ts. ts ++ rest.0) (trees_more place ss u) ∙ append_assoc (shape_trees place ss) (t ∷ []) rest.0)),
-    )
+trees_behind place ss (u ∷ us) = search (std_rules, append_assoc, trees_more, trees_behind place (ss ++ u ∷ []) us)
 
 module _ (place : ℕ → Place) (ss new : List Shape) (grown : Grows ss new) where
   -- a part stands for what it did
@@ -119,8 +100,7 @@ module _ (place : ℕ → Place) (ss new : List Shape) (grown : Grows ss new) wh
   params_grown (p ∷ ps) h = λ i. (p.0, part_grown p.1 h.0 i) ∷ params_grown ps h.1 i
 
   outcome_grown : (o : Option ℕ) → IfSome o (λ k. k < 14 + length ss) → option_map (part_tree (shape_trees place new)) o ≡ option_map (part_tree (shape_trees place ss)) o
-  outcome_grown None h = refl
-  outcome_grown (Some k) h = ap Some (part_grown k h)
+  outcome_grown x h = search (std_rules, part_grown)
 
   signature_grown : (s : FunctionShape) → IsFunctionIn (length ss) s → signature_in (shape_trees place new) s ≡ signature_in (shape_trees place ss) s
   unfolding signature_in
@@ -134,8 +114,7 @@ module _ (place : ℕ → Place) (ss new : List Shape) (grown : Grows ss new) wh
 -- ---- keys of maps
 
 shape_keyless : (place : ℕ → Place) (T : List Tree) (n : ℕ) (s : Shape) → IsShape n s → is_key (shape_tree place T s) ≡ false
-shape_keyless place T n s (a_name p name is) = ap (λ t. is_key (shape_tree place T t)) is ∙ ap is_key (name_tree place T p name)
-shape_keyless place T n s (a_node f ks is ranges) = ap (λ t. is_key (shape_tree place T t)) is ∙ ap is_key (node_tree place T f ks)
+shape_keyless place x n s y = search (std_rules, name_tree, node_tree)
 
 -- no type of a table may be the key of a map
 pub no_keys : (place : ℕ → Place) (ss : List Shape) → IsTable ss → HasNoKeys (shape_trees place ss)
@@ -230,10 +209,7 @@ module _ (place : ℕ → Place) (distinct : (p q : ℕ) → place p ≡ place q
       λ i. (name i, part i) ∷ rest i
 
   one_outcome : (o u : Option ℕ) → IfSome o (λ k. k < 14 + length ss) → IfSome u (λ k. k < 14 + length ss) → option_map (part_tree trees) o ≡ option_map (part_tree trees) u → o ≡ u
-  one_outcome None None ho hu e = refl
-  one_outcome None (Some l) ho hu e = absurd cc
-  one_outcome (Some k) None ho hu e = absurd cc
-  one_outcome (Some k) (Some l) ho hu e = let same : part_tree trees k ≡ part_tree trees l = cc in ap Some (one_number place distinct ss table k l ho hu same)
+  one_outcome x y ho hu e = search (std_rules, one_number)
 
   one_signature : (s t : FunctionShape) → IsFunctionIn (length ss) s → IsFunctionIn (length ss) t → signature_in trees s ≡ signature_in trees t → s ≡ t
   unfolding signature_in
@@ -245,8 +221,4 @@ module _ (place : ℕ → Place) (distinct : (p q : ℕ) → place p ≡ place q
 
   pub one_function : (fs : List FunctionShape) → AreFunctionsIn (length ss) fs → AreApart fs → (a b : ℕ) (f : Signature) → slice_get (functions_in trees fs) a ≡ Some f
       → slice_get (functions_in trees fs) b ≡ Some f → a ≡ b
-  one_function fs ranges apart a b f ea eb =
-      let s = mapped_back (signature_in trees) fs a f ea in
-      let t = mapped_back (signature_in trees) fs b f eb in
-      let same : s.0 ≡ t.0 = one_signature s.0 t.0 (all_at (IsFunctionIn (length ss)) fs a s.0 ranges s.1) (all_at (IsFunctionIn (length ss)) fs b t.0 ranges t.1) (s.2 ∙ sym t.2) in
-      apart a b t.0 (s.1 ∙ ap Some same) t.1
+  one_function fs ranges apart a b f ea eb = search (std_rules, mapped_back, one_signature, all_at)

@@ -1,5 +1,5 @@
 -- The key of each form, from the parts that its indexes stand for.
-use Rattle.std.proofs.Common.{◌≡◌, refl, sym, ap, ◌∙◌, subst, ℕ, zero, suc, ◌&&◌, ◌+◌, ◌<◌, ◌≤◌, arith, inl, inr, Bool, true, false, List, [], ◌∷◌, ◌++◌, map, length, Option, Some, None, Result, Ok, Err, IfOk, IfSome, IsOkUnless, is_some, option_map, option_to_list, unwrap_or, slice_get}
+use Rattle.std.proofs.Common.{rules as std_rules, ◌≡◌, refl, sym, ap, ◌∙◌, subst, ℕ, zero, suc, ◌&&◌, ◌+◌, ◌<◌, ◌≤◌, arith, inl, inr, Bool, true, false, List, [], ◌∷◌, ◌++◌, map, length, Option, Some, None, Result, Ok, Err, IfOk, IfSome, IsOkUnless, is_some, option_map, option_to_list, unwrap_or, slice_get}
 use Rattle.std.proofs.lemmas.{Bool.le-leb, Bool.lt-leb, Bool.lt-ltb, Option.slice_get_past}
 use Rattle.std.specs.{Prelude.nat_le, Option.option_map_or, List.AllByRecursion}
 use Rattle.wit_model.specs.{Meaning.Signature, Types.no_tree}
@@ -19,33 +19,24 @@ use Rattle.comp_bytes.specs.declared.forms.ComponentDefinedType.TheVariants as f
 use Rattle.read_follow.specs.declared.refusal.Refusal.TheVariants as refusals
 
 or_none : {A B : Type 0} (o : Option A) (f : A → Option B) → ((x : A) → f x ≡ None) → (o >>= f) ≡ None
-or_none None f e = refl
-or_none (Some x) f e = e x
+or_none y f e = search std_rules
 
 -- the part, if there is one, is in range
 abbrev IsIn : List Slot → Option ℕ → Type 0
 IsIn ss p = IfSome p (λ k. (n : ℕ) → AreInRange n ss → k < 14 + n)
 
 two_in : (ss : List Slot) (p q : Option ℕ) → IsIn ss p → IsIn ss q → (n : ℕ) → AreInRange n ss → AllByRecursion (λ k. k < 14 + n) (option_to_list p ++ option_to_list q)
-two_in ss None None hp hq n ranges = tt
-two_in ss (Some k) None hp hq n ranges = (hp n ranges, tt)
-two_in ss None (Some l) hp hq n ranges = (hq n ranges, tt)
-two_in ss (Some k) (Some l) hp hq n ranges = (hp n ranges, (hq n ranges, tt))
+two_in ss x y hp hq n ranges = search std_rules
 
 two_tree : (T : List Tree) (p q : Option ℕ)
     → result_tree (option_map (part_tree T) p) (option_map (part_tree T) q) ≡ Tree.node (Form.result_of (is_some p) (is_some q)) (children (map (part_tree T) (option_to_list p ++ option_to_list q)))
-two_tree T None None = refl
-two_tree T (Some k) None = refl
-two_tree T None (Some l) = refl
-two_tree T (Some k) (Some l) = refl
+two_tree x y z = search std_rules
 
 future_part : (T : List Tree) (p : Option ℕ) → future_tree (option_map (part_tree T) p) ≡ Tree.node (Form.future_of (is_some p)) (children (map (part_tree T) (option_to_list p ++ [])))
-future_part T None = refl
-future_part T (Some k) = refl
+future_part x y = search std_rules
 
 stream_part : (T : List Tree) (p : Option ℕ) → stream_tree (option_map (part_tree T) p) ≡ Tree.node (Form.stream_of (is_some p)) (children (map (part_tree T) (option_to_list p ++ [])))
-stream_part T None = refl
-stream_part T (Some k) = refl
+stream_part x y = search std_rules
 
 key_part : (T : List Tree) → HasNoKeys T → (k : ℕ) → is_key (part_tree T k) ≡ unwrap_or (slice_get key_marks k) false
 key_part T apart k = elim (split_part k) [
@@ -60,12 +51,7 @@ key_part T apart k = elim (split_part k) [
 
 -- whether it may be the key of a map, by its number
 key_begins : (k : ℕ) → is_key_part k ≡ unwrap_or (slice_get key_marks k) false
-key_begins k = by primitives k
-  where
-    by : (ps : List Primitive) (n : ℕ) → option_map_or is_key_primitive (slice_get ps n) false ≡ unwrap_or (slice_get (map is_key_primitive ps) n) false
-    by [] n = refl
-    by (p ∷ ps) zero = refl
-    by (p ∷ ps) (suc n) = by ps n
+key_begins k = search std_rules
 
 module _ (ss : List Slot) where
   -- what a key over such parts was made of
@@ -95,8 +81,7 @@ module _ (ss : List Slot) where
   fixed_list_is v n some T F = ap (λ b. value_type (slots_in T F ss) v >>= λ t. provided b (fixed_list_tree t n)) (le-leb 1 n (omega (arith, some)))
 
   pub no_fixed_list : (v : ComponentValType) (n : ℕ) → n ≡ 0 → (T : List Tree) (F : List Signature) → definition (slots_in T F ss) (DefinedType.fixed_length_list_of v n) ≡ None
-  no_fixed_list v n none T F = or_none (value_type (slots_in T F ss) v) (λ t. provided (nat_le 1 n) (fixed_list_tree t n))
-      (λ t. ap (λ b. provided b (fixed_list_tree t n)) (lt-leb 1 n (omega (arith, none))))
+  no_fixed_list v n none T F = search std_rules
 
   pub fixed_formed : (n part : ℕ) → (n ≡ 0 → ⊥) → n < 4294967296 → formed_by (Form.fixed_list_of n) (part ∷ []) ≡ true
   fixed_formed n part some small = λ i. le-leb 1 n (omega (arith, some)) i && lt-ltb n 4294967296 small i
@@ -183,5 +168,4 @@ module _ (ss : List Slot) where
         (λ key. ap (λ o. o >>= λ t. provided (is_key key) (map_tree key t)) none)) (r T F)
 
 pub is_form : (d : ComponentDefinedType) → ((p : PrimitiveValType) → d ≡ forms.Primitive p → ⊥) → IsForm d
-is_form (forms.Primitive p) other = other p refl
-is_form _ other = tt
+is_form x other = search std_rules

@@ -1,5 +1,5 @@
 -- Facts about types, by those about their parts.
-use Rattle.std.proofs.Common.{◌≡◌, inl, inr, refl, sym, ap, ◌∙◌, subst, ℕ, zero, suc, ◌+◌, ◌-◌, ◌<◌, ◌≤◌, min, max, arith, Bool, true, false, not, ◌&&◌, ◌==◌, cond, List, [], ◌∷◌, ◌++◌, map, take, length, get_or, Some, slice_get, unwrap_or, append-nil, append_assoc}
+use Rattle.std.proofs.Common.{rules as std_rules, ◌≡◌, inl, inr, refl, sym, ap, ◌∙◌, subst, ℕ, zero, suc, ◌+◌, ◌-◌, ◌<◌, ◌≤◌, min, max, arith, Bool, true, false, not, ◌&&◌, ◌==◌, cond, List, [], ◌∷◌, ◌++◌, map, take, length, get_or, Some, slice_get, unwrap_or, append-nil, append_assoc}
 use Rattle.std.proofs.lemmas.{Bool.eq-eqb, Bool.eqb-true, Bool.lt-ltb, Bool.le-ltb, Bool.false≢true, List.take_more, List.map-append}
 use Rattle.std.proofs.lemmas.List.Elements.{Contains-append_left, Contains-append_right, Contains-append_cases}
 use Rattle.std.specs.{Borrow.Bor, List.AllByRecursion, List.Contains}
@@ -20,8 +20,7 @@ use Rattle.read_follow.specs.declared.facts.Names.TheVariants as names
 -- ---- places
 
 contains_at : {X : Type 0} (x y : X) (k : ℕ) → k < 1 → get_or (x ∷ []) k y ≡ y → y ≡ x
-contains_at x y zero small e = sym e
-contains_at x y (suc k) small e = absurd (omega (arith, small))
+contains_at x y z small e = search std_rules
 
 contains_one : {X : Type 0} (x y : X) → Contains (x ∷ []) y → y ≡ x
 contains_one x y c = contains_at x y c.0 c.1 c.2
@@ -80,11 +79,7 @@ pub no_parts : Sums (record { levels = 0; names = names.Nowhere; is_plain = true
 no_parts = record { levels = λ place. refl; names = λ place. refl; plain = λ place. refl }
 
 sums_along : (s : Summary) (parts other : (ℕ → Place) → List Tree) → ((place : ℕ → Place) → parts place ≡ other place) → Sums s parts → Sums s other
-sums_along s parts other e h = record {
-  levels = λ place. h.levels place ∙ ap (λ ts. min cap (deepest (children ts))) (e place);
-  names = along s.names (λ place. places_in (children (parts place))) (λ place. places_in (children (other place))) (λ place. ap (λ ts. places_in (children ts)) (e place)) h.names;
-  plain = λ place. h.plain place ∙ ap (λ ts. are_plain (children ts)) (e place);
-}
+sums_along s parts other e h = search std_rules
 
 sums_more : (s : Summary) (f : Fact) (parts : (ℕ → Place) → List Tree) (t : (ℕ → Place) → Tree) → Sums s parts → Tells f t → Sums (with_fact s f) (λ place. parts place ++ t place ∷ [])
 sums_more s f parts t h one = record {
@@ -99,13 +94,7 @@ sums_more s f parts t h one = record {
 -- ---- the fact of a part
 
 pub tells_along : (f : Fact) (t u : (ℕ → Place) → Tree) → ((place : ℕ → Place) → t place ≡ u place) → Tells f t → Tells f u
-tells_along f t u e h = record {
-  levels = λ place. h.levels place ∙ ap (λ x. min cap (tree.levels x)) (e place);
-  names = along f.names (λ place. places (t place)) (λ place. places (u place)) (λ place. ap places (e place)) h.names;
-  plain = λ place. h.plain place ∙ ap is_plain (e place);
-  parts = λ place. h.parts place ∙ ap (λ x. are_plain (below x)) (e place);
-  labels = λ place. h.labels place ∙ ap (λ x. are_labels (labels_of x)) (e place);
-}
+tells_along f t u e h = search std_rules
 
 primitive_tells : (p : Primitive) → Tells primitive_fact (λ place. Tree.primitive p)
 primitive_tells p = record { levels = λ place. refl; names = λ place. refl; plain = λ place. refl; parts = λ place. refl; labels = λ place. refl }
@@ -120,11 +109,7 @@ module _ (facts : List Fact) where
   front_fact k small = ap (λ b. cond b primitive_fact (unwrap_or (slice_get facts (k - 14)) primitive_fact)) (lt-ltb k 14 small)
 
   kept_fact : (k n : ℕ) (f : Fact) → k ≡ 14 + n → slice_get facts n ≡ Some f → fact_at facts k ≡ f
-  kept_fact k n f is e =
-      let less : k - 14 ≡ n = omega (arith, is) in
-      let large : 14 ≤ k = omega (arith, is) in
-      ap (λ b. cond b primitive_fact (unwrap_or (slice_get facts (k - 14)) primitive_fact)) (le-ltb k 14 large)
-      ∙ (ap (λ m. unwrap_or (slice_get facts m) primitive_fact) less ∙ ap (λ o. unwrap_or o primitive_fact) e)
+  kept_fact k n f is e = search std_rules
 
   module _ (trees : (ℕ → Place) → List Tree) (holds : FactsHold facts trees) where
     pub tells_part : (k : ℕ) → k < 14 + length facts → Tells (fact_at facts k) (λ place. part_tree (trees place) k)
@@ -157,8 +142,7 @@ module _ (facts : List Fact) where
         (sums_more s (fact_at facts k) (λ place. map (part_tree (trees place)) (take i parts)) (λ place. part_tree (trees place) k) h (tells_part k (in_range parts i more all)))
 
 pub none_taken : (trees : (ℕ → Place) → List Tree) (parts : List ℕ) → Sums (record { levels = 0; names = names.Nowhere; is_plain = true }) (λ place. map (part_tree (trees place)) (take 0 parts))
-none_taken trees [] = no_parts
-none_taken trees (k ∷ parts) = no_parts
+none_taken trees x = search std_rules
 
 take_past : (xs : List ℕ) (i : ℕ) → length xs ≤ i → take i xs ≡ xs
 take_past [] zero past = refl
@@ -168,8 +152,7 @@ take_past (x ∷ xs) (suc i) past = ap (λ ys. x ∷ ys) (take_past xs i (omega 
 
 pub all_taken : (trees : (ℕ → Place) → List Tree) (parts : List ℕ) (i : ℕ) (s : Summary) → length parts ≤ i → Sums s (λ place. map (part_tree (trees place)) (take i parts))
     → Sums s (λ place. map (part_tree (trees place)) parts)
-all_taken trees parts i s past = sums_along s (λ place. map (part_tree (trees place)) (take i parts)) (λ place. map (part_tree (trees place)) parts)
-    (λ place. ap (map (part_tree (trees place))) (take_past parts i past))
+all_taken trees parts i s past = search (std_rules, sums_along, take_past)
 
 pub first_labels : (ls : List (Bor (List ℕ) × Bool)) → map (λ l. l.0) (map label_of ls) ≡ map (λ l. l.0.now) ls
 first_labels [] = refl
@@ -178,32 +161,17 @@ first_labels (l ∷ ls) = ap (λ rest. l.0.now ∷ rest) (first_labels ls)
 -- ---- the fact of a key
 
 named_by_sort : (f : Form) → is_named_sort (form_code f).sort ≡ is_named_form f
-named_by_sort (Form.record_of ls) = refl
-named_by_sort _ = refl
+named_by_sort x = search std_rules
 
 labels_by_code : (f : Form) → map (λ l. l.0) (form_code f).labels ≡ form_labels f
-labels_by_code (Form.record_of ls) = first_marked true ls
-labels_by_code (Form.flags_of ls) = first_marked false ls
-labels_by_code (Form.enum_of ls) = first_marked false ls
-labels_by_code _ = refl
+labels_by_code x = search (std_rules, first_marked)
 
 name_tells : (p : ℕ) (name : Text) → Tells (name_fact p) (λ place. Tree.named (place p) name)
-name_tells p name = record {
-  levels = λ place. refl;
-  names = λ place. (of_one (place p), λ q c. contains_one (place p) q c);
-  plain = λ place. refl;
-  parts = λ place. refl;
-  labels = λ place. refl;
-}
+name_tells p name = search std_rules
 
 module _ (trees : (ℕ → Place) → List Tree) (n : ℕ) where
   pub shape_named : (s : Shape) → IsShape n s → s.sort ≡ 0 → Tells (name_fact s.number) (λ place. shape_tree place (trees place) s)
-  shape_named s (a_name p name is) e =
-      let number : s.number ≡ p = ap (λ (t : Shape). t.number) is in
-      subst (λ m. Tells (name_fact m) (λ place. shape_tree place (trees place) s)) (sym number)
-      (tells_along (name_fact p) (λ place. Tree.named (place p) name) (λ place. shape_tree place (trees place) s)
-      (λ place. sym (ap (shape_tree place (trees place)) is ∙ name_tree place (trees place) p name)) (name_tells p name))
-  shape_named s (a_node f ks is ranges) e = absurd (sort_of_form f (sym (ap (λ (t : Shape). t.sort) is) ∙ e))
+  shape_named s x e = search (std_rules, tells_along, name_tree, name_tells, sort_of_form)
 
   module _ (sum : Summary) (good : Bool) where
     form_tells : (f : Form) (ks : List ℕ) → good ≡ are_labels (form_labels f) → Sums sum (λ place. map (part_tree (trees place)) ks)

@@ -1,5 +1,5 @@
 -- A scope of an instance type in tables that grow, and what each declaration does to it.
-use Rattle.std.proofs.Common.{◌≡◌, refl, sym, ap, ◌∙◌, subst, ℕ, ◌+◌, ◌<◌, ◌≤◌, arith, inl, Bool, List, [], ◌∷◌, ◌++◌, map, length, Option, Some, None, option_map, IfSome, Result, Ok, Err, IfErr, OnOk, slice_get, unwrap_or}
+use Rattle.std.proofs.Common.{rules as std_rules, ◌≡◌, refl, sym, ap, ◌∙◌, subst, ℕ, ◌+◌, ◌<◌, ◌≤◌, arith, inl, Bool, List, [], ◌∷◌, ◌++◌, map, length, Option, Some, None, option_map, IfSome, Result, Ok, Err, IfErr, OnOk, slice_get, unwrap_or}
 use Rattle.std.proofs.{Math.ListN.length-map, lemmas.List.map-append, lemmas.Option.slice_get_within as found_below}
 use Rattle.std.specs.List.{AllByRecursion}
 use Rattle.wit_model.specs.{Meaning.Signature, Text.Text, Tree.Place, Tree.Tree, Types.no_tree}
@@ -50,10 +50,7 @@ names_of place shapes fs (slots.Instance b n ∷ ss) table h = names_of place sh
 
 -- a slot over a table counts nothing more
 pub slot_counted : (shapes : List Shape) (fs : List FunctionShape) (s : Slot) → IsSlotIn shapes fs s → CountUp (length shapes) (slot_parts s) (length shapes)
-slot_counted shapes fs (slots.Value part) h = (length shapes, inl (h, refl), refl)
-slot_counted shapes fs (slots.Resource part) h = (length shapes, inl (name_below shapes part h, refl), refl)
-slot_counted shapes fs (slots.Function n) h = refl
-slot_counted shapes fs (slots.Instance b n) h = refl
+slot_counted shapes fs x h = search (std_rules, name_below)
 
 -- ---- empty tables
 
@@ -64,13 +61,7 @@ module _ (m : ℕ) (shapes more : List Shape) (fs more_fs : List FunctionShape) 
   wider_part k h = let long = longer shapes more gs in omega (arith, h, long)
 
   wider_name : (part : ℕ) → IsNamePart shapes part → IsNamePart more part
-  wider_name part h = record {
-    number = h.number;
-    place = h.place;
-    name = h.name;
-    is = h.is;
-    at = ap (λ (ss : List Shape). slice_get ss h.number) gs.is ∙ (slice_front shapes gs.more h.number (found_below shapes h.number (named_shape h.place h.name) h.at) ∙ h.at);
-  }
+  wider_name part h = search (std_rules, slice_front, found_below)
 
   pub wider_number : (n : ℕ) → n < length fs → n < length more_fs
   wider_number n h = let long = longer fs more_fs gf in omega (arith, h, long)
@@ -325,24 +316,14 @@ module _ (marks : List Bool) (old : State) (st : IsState (length marks) old) (he
 
 pub steps_as : (marks : List Bool) (here few : ℕ) (f g : (ℕ → Place) → MeantScope → Option MeantScope) (old new : State) → ((place : ℕ → Place) (scope : MeantScope) → g place scope ≡ f place scope)
     → Steps marks here few f old new → Steps marks here few g old new
-steps_as marks here few f g old new same s = record {
-  state = s.state;
-  shapes_grow = s.shapes_grow;
-  signatures_grow = s.signatures_grow;
-  count = s.count;
-  counted = s.counted;
-  placed = s.placed;
-  follows = λ place marked. same place (scope_at place old) ∙ s.follows place marked;
-}
+steps_as marks here few f g old new same s = search std_rules
 
 pub halts_as : (marks : List Bool) (f g : (ℕ → Place) → MeantScope → Option MeantScope) (old : State) (e : Refusal) → ((place : ℕ → Place) (scope : MeantScope) → g place scope ≡ f place scope)
     → Halts marks f old e → Halts marks g old e
 halts_as marks f g old e same h place marked = refused e (f place (scope_at place old)) (g place (scope_at place old)) (λ none. same place (scope_at place old) ∙ none) (h place marked)
 
 pub on_ok : {A : Type 0} (P Q : Type 0) (r : Result A Refusal) → (P → Q) → OnOk r P → OnOk r Q
-on_ok P Q (Ok x) f h = f h
-on_ok P Q (Err e) f h = h
+on_ok x y z f h = search std_rules
 
 pub if_err : {A : Type 0} (P Q : Refusal → Type 0) (r : Result A Refusal) → ((e : Refusal) → P e → Q e) → IfErr r P → IfErr r Q
-if_err P Q (Ok x) f h = h
-if_err P Q (Err e) f h = f e h
+if_err x y z f h = search std_rules

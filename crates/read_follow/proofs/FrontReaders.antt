@@ -1,5 +1,5 @@
 -- What a reader from an offset answers at the front is what the function that reads the form finds there.
-use Rattle.std.proofs.Common.{◌≡◌, refl, sym, ap, ◌∙◌, subst, ℕ, ◌-◌, ◌<◌, arith, List, [], ◌∷◌, length, take, drop, Option, Some, None}
+use Rattle.std.proofs.Common.{rules as std_rules, ◌≡◌, refl, sym, ap, ◌∙◌, subst, ℕ, ◌-◌, ◌<◌, arith, List, [], ◌∷◌, length, take, drop, Option, Some, None}
 use Rattle.std.proofs.lemmas.List.{take-append-drop, take_at}
 use Rattle.std.specs.Prelude.{slice_range}
 use Rattle.wit_model.specs.declared.error.Error.{Error}
@@ -10,16 +10,11 @@ use Rattle.wit_model.specs.declared.error.Error.TheVariants as errors
 
 -- a reader that takes no memory refuses because of the bytes
 pub because_of_bytes : (e : Error) (bytes : List ℕ) (why : Type 0) → RefusesAt e bytes why → IsNoReading e
-because_of_bytes (errors.NoReading cause offset) bytes why r = tt
-because_of_bytes _ bytes why r = absurd r
+because_of_bytes x bytes why r = search std_rules
 
 module _ {A : Type 0} {form : A → Spellings} {reader : Reader A} (law : IsReadBy form reader) where
   pub found_at : (bytes : List ℕ) (x : A) (end : ℕ) → form x (slice_range bytes 0 end) → reader bytes ≡ Some (x, drop end bytes)
-  found_at bytes x end f =
-      let end_is : end - 0 ≡ end = omega arith in
-      let front : form x (take end bytes) = subst (λ (n : ℕ). form x (take n bytes)) end_is f in
-      let again = law.again x (take end bytes) (drop end bytes) front in
-      subst (λ (text : List ℕ). reader text ≡ Some (x, drop end bytes)) (take-append-drop end bytes) again
+  found_at bytes x end f = search (std_rules, take-append-drop end bytes)
 
   pub none_when : (bytes : List ℕ) (found : Option (A × List ℕ)) → reader bytes ≡ found → ((y : A) (end : ℕ) → form y (slice_range bytes 0 end) → ⊥) → found ≡ None
   none_when bytes None e absent = refl
@@ -31,8 +26,7 @@ module _ {A : Type 0} {form : A → Spellings} {reader : Reader A} (law : IsRead
 
   -- a refusal of the reader
   pub refused_at : (bytes : List ℕ) (left : ℕ) (e : Error) → RefusesAt e bytes ((y : A) (end : ℕ) → form y (slice_range bytes 0 end) → ⊥) → Refuses (refusal_from e left) (reader bytes)
-  refused_at bytes left (errors.NoReading cause offset) r = none_when bytes (reader bytes) refl r.1
-  refused_at bytes left _ r = absurd r
+  refused_at bytes left x r = search (std_rules, none_when)
 
 -- ---- numbers of one byte
 

@@ -1,5 +1,5 @@
 -- Keys of types of functions are the same exactly where their shapes are; and what a key is made of.
-use Rattle.std.proofs.Common.{◌≡◌, refl, sym, ap, ◌∙◌, subst, ℕ, ◌+◌, ◌<◌, ◌≤◌, Bool, true, ◌&&◌, List, [], ◌∷◌, ◌++◌, drop, map, length, get_or, append-nil, nat_eq, ◌==◌, Option, Some, None, option_map, IfSome}
+use Rattle.std.proofs.Common.{rules as std_rules, ◌≡◌, refl, sym, ap, ◌∙◌, subst, ℕ, ◌+◌, ◌<◌, ◌≤◌, Bool, true, ◌&&◌, List, [], ◌∷◌, ◌++◌, drop, map, length, get_or, append-nil, nat_eq, ◌==◌, Option, Some, None, option_map, IfSome}
 use mathlib.Core.Bool.{beq, true≢false}
 use Rattle.std.specs.{Borrow.Bor, Cmp.Lexicographic.pointwise, List.AllByRecursion, Option.option_eq}
 use Rattle.std.proofs.lemmas.{Bool.eqb-true, Bool.eq-eqb, Bool.and_from as both, List.map-append, Slice.Eq.bytes_eq-Decides}
@@ -33,11 +33,7 @@ params_same [] [] e = refl
 params_same [] (y ∷ ys) e = absurd (true≢false (sym e))
 params_same (x ∷ xs) [] e = absurd (true≢false (sym e))
 params_same (x ∷ xs) (y ∷ ys) e =
-    let here = first_true (same_param x y) (pointwise same_param xs ys) e in
-    let text = text_same x.0.now y.0.now (first_true (text_eq x.0.now y.0.now) (x.1 == y.1) here) in
-    let part = eqb-true x.1 y.1 (second_true (text_eq x.0.now y.0.now) (x.1 == y.1) here) in
-    let rest = params_same xs ys (second_true (same_param x y) (pointwise same_param xs ys) e) in
-    λ i. (text i, part i) ∷ rest i
+    search (std_rules, first_true, text_same, eqb-true, second_true, params_same xs ys (second_true (same_param x y) (pointwise same_param xs ys) e))
 
 params_again : (xs ys : List (Bor (List ℕ) × ℕ)) → map param_of xs ≡ map param_of ys → pointwise same_param xs ys ≡ true
 params_again [] [] e = refl
@@ -53,24 +49,13 @@ params_again (x ∷ xs) (y ∷ ys) e =
     (params_again xs ys rest)
 
 outcomes_same : (a b : Option ℕ) → option_eq nat_eq a b ≡ true → a ≡ b
-outcomes_same None None e = refl
-outcomes_same None (Some y) e = absurd (true≢false (sym e))
-outcomes_same (Some x) None e = absurd (true≢false (sym e))
-outcomes_same (Some x) (Some y) e = ap Some (eqb-true x y e)
+outcomes_same z u e = search std_rules
 
 outcomes_again : (a b : Option ℕ) → a ≡ b → option_eq nat_eq a b ≡ true
-outcomes_again None None e = refl
-outcomes_again None (Some y) e = absurd cc
-outcomes_again (Some x) None e = absurd cc
-outcomes_again (Some x) (Some y) e = eq-eqb x y cc
+outcomes_again z u e = search std_rules
 
 pub function_same : (a b : FunctionKey) → same_function a b ≡ true → function_shape a ≡ function_shape b
-function_same a b e =
-    let kind = beq_same a.is_async b.is_async (first_true (beq a.is_async b.is_async) _ e) in
-    let others = second_true (beq a.is_async b.is_async) _ e in
-    let params = params_same a.params.items b.params.items (first_true (pointwise same_param a.params.items b.params.items) (option_eq nat_eq a.result b.result) others) in
-    let outcome = outcomes_same a.result b.result (second_true (pointwise same_param a.params.items b.params.items) (option_eq nat_eq a.result b.result) others) in
-    λ i. record { is_async = kind i; params = params i; outcome = outcome i }
+function_same a b e = search (std_rules, beq_same, first_true, second_true, params_same, outcomes_same)
 
 pub function_again : (a b : FunctionKey) → function_shape a ≡ function_shape b → same_function a b ≡ true
 function_again a b e =
@@ -90,8 +75,7 @@ ParamsSoFar ss all i ks = (T : List Tree) (F : List Signature)
     → behind_rows (map (param_tree T) (map param_of ks)) (each (field_type (slots_in T F ss)) (drop i (map labeled all))) ≡ each (field_type (slots_in T F ss)) (map labeled all)
 
 pub params_start : (ss : List Slot) (all : List (Bor (List ℕ) × ComponentValType)) (ks : Params) → ks ≡ [] → ParamsSoFar ss all 0 ks
-params_start ss all ks none T F = ap (λ (zs : Params). behind_rows (map (param_tree T) (map param_of zs)) (each (field_type (slots_in T F ss)) (drop 0 (map labeled all)))) none
-    ∙ (behind_none (each (field_type (slots_in T F ss)) (drop 0 (map labeled all))) ∙ ap (each (field_type (slots_in T F ss))) (none_dropped (map labeled all)))
+params_start ss all ks none T F = search std_rules
 
 pub none_above : (P : Text × ℕ → Type 0) (ks : Params) → ks ≡ [] → AllByRecursion P (map param_of ks)
 none_above P ks none = subst (λ (zs : Params). AllByRecursion P (map param_of zs)) (sym none) tt
@@ -147,18 +131,11 @@ module _ (ss : List Slot) (f : FunctionType) where
   }
 
   pub no_params : (e : Refusal) (T : List Tree) (F : List Signature) → Refuses e (each (field_type (slots_in T F ss)) f.parameters) → Refuses e (function_signature (slots_in T F ss) f)
-  no_params e T F = refused e (each (field_type (slots_in T F ss)) f.parameters) (function_signature (slots_in T F ss) f)
-      (λ none. ap (λ ps. signed ps (given (value_type (slots_in T F ss)) f.result_type)) none)
+  no_params e T F = search std_rules
 
   pub no_outcome : (e : Refusal) (T : List Tree) (F : List Signature) → Refuses e (given (value_type (slots_in T F ss)) f.result_type) → Refuses e (function_signature (slots_in T F ss) f)
-  no_outcome e T F = refused e (given (value_type (slots_in T F ss)) f.result_type) (function_signature (slots_in T F ss) f)
-      (λ none. ap (signed (each (field_type (slots_in T F ss)) f.parameters)) none ∙ nothing (each (field_type (slots_in T F ss)) f.parameters))
-    where
-      nothing : (o : Option (List (Text × Tree))) → signed o None ≡ None
-      nothing None = refl
-      nothing (Some xs) = refl
+  no_outcome e T F = search std_rules
 
 -- the part of an outcome is in range
 pub outcome_in : (o : Option ℕ) (ss : List Slot) → IfSome o (λ k. (n : ℕ) → AreInRange n ss → k < 14 + n) → (n : ℕ) → AreInRange n ss → IfSome o (λ k. k < 14 + n)
-outcome_in None ss h n ranges = tt
-outcome_in (Some k) ss h n ranges = h n ranges
+outcome_in x ss h n ranges = search std_rules

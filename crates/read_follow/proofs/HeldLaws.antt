@@ -1,5 +1,5 @@
 -- Declarations of an instance type: those of which none is an import.
-use Rattle.std.proofs.Common.{◌≡◌, refl, sym, ap, ◌∙◌, ℕ, zero, suc, Bool, true, false, cond, List, ◌∷◌, Option, Some, None}
+use Rattle.std.proofs.Common.{rules as std_rules, ◌≡◌, refl, sym, ap, ◌∙◌, ℕ, zero, suc, Bool, true, false, cond, List, ◌∷◌, Option, Some, None}
 use Rattle.comp_bytes.specs.{Raw.Declaration, Form.Spellings, Laws.IsReadBy, Spelling.IsDeclaration}
 use Rattle.comp_bytes.specs.{Levels.import_free, Levels.held_at, Reading.◌>>=◌, Reading.u32_at, Reading.sequence_at, Reading.vector_at, Reading.declaration_at}
 use Rattle.comp_bytes.proofs.{Readers.bind_some, DeclarationLaws.declaration_law}
@@ -16,33 +16,20 @@ free found = found >>= λ ds. cond (import_free ds.0) (Some ds) None
 abbrev headed : Declaration → Found → Found
 headed d found = found >>= λ ds. Some (d ∷ ds.0, ds.1)
 
-headed_when : (d : Declaration) (ds : List Declaration × List ℕ) (b : Bool) → headed d (cond b (Some ds) None) ≡ cond b (Some (d ∷ ds.0, ds.1)) None
-headed_when d ds true = refl
-headed_when d ds false = refl
-
 -- in front of one that is no import
 in_front : (d : Declaration) → ((ds : List Declaration) → import_free ds ≡ import_free (d ∷ ds)) → (found : Found) → headed d (free found) ≡ free (headed d found)
-in_front d same None = refl
-in_front d same (Some ds) = ap (λ b. headed d (cond b (Some ds) None)) (same ds.0) ∙ headed_when d ds (import_free (d ∷ ds.0))
+in_front d same x = search std_rules
 
 one_more : (d : Declaration) (found : Found) → cond (is_import d) None (headed d (free found)) ≡ free (headed d found)
-one_more (Declaration.imported name description) None = refl
-one_more (Declaration.imported name description) (Some ds) = refl
-one_more (Declaration.defined d) found = in_front (Declaration.defined d) (λ ds. refl) found
-one_more (Declaration.function f) found = in_front (Declaration.function f) (λ ds. refl) found
-one_more (Declaration.alias_of a) found = in_front (Declaration.alias_of a) (λ ds. refl) found
-one_more (Declaration.exported name description) found = in_front (Declaration.exported name description) (λ ds. refl) found
+one_more x found = search std_rules
 
 -- a declaration, if it is no import, and what is read behind it
 guarded : (b : Bool) (d : Declaration × List ℕ) (next : Declaration × List ℕ → Found) → (cond b None (Some d) >>= next) ≡ cond b None (next d)
-guarded true d next = refl
-guarded false d next = refl
+guarded x d next = search std_rules
 
 by_first : (n : ℕ) → ((bytes : List ℕ) → sequence_at held_declaration_at n bytes ≡ free (sequence_at declaration_at n bytes)) → (o : Option (Declaration × List ℕ))
     → ((o >>= λ d. cond (is_import d.0) None (Some d)) >>= λ d. headed d.0 (sequence_at held_declaration_at n d.1)) ≡ free (o >>= λ d. headed d.0 (sequence_at declaration_at n d.1))
-by_first n others None = refl
-by_first n others (Some d) = guarded (is_import d.0) d (λ e. headed e.0 (sequence_at held_declaration_at n e.1))
-    ∙ (ap (λ o. cond (is_import d.0) None (headed d.0 o)) (others d.1) ∙ one_more d.0 (sequence_at declaration_at n d.1))
+by_first n others x = search std_rules
 
 held_sequence : (n : ℕ) (bytes : List ℕ) → sequence_at held_declaration_at n bytes ≡ free (sequence_at declaration_at n bytes)
 unfolding sequence_at held_declaration_at
@@ -50,8 +37,7 @@ held_sequence zero bytes = refl
 held_sequence (suc n) bytes = by_first n (held_sequence n) (declaration_at bytes)
 
 by_count : (o : Option (ℕ × List ℕ)) → free (o >>= λ n. sequence_at declaration_at n.0 n.1) ≡ (o >>= λ n. sequence_at held_declaration_at n.0 n.1)
-by_count None = refl
-by_count (Some n) = sym (held_sequence n.0 n.1)
+by_count x = search (std_rules, held_sequence)
 
 -- the declarations of an instance type behind their number
 pub held_behind : (bytes : List ℕ) (o : Option (ℕ × List ℕ)) → u32_at bytes ≡ o → held_at bytes ≡ (o >>= λ n. sequence_at held_declaration_at n.0 n.1)

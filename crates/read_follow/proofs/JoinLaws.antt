@@ -1,5 +1,5 @@
 -- What is put into a list of things that each stand once.
-use Rattle.std.proofs.Common.{◌≡◌, inl, inr, refl, sym, ap, ◌∙◌, subst, ℕ, zero, suc, Bool, true, false, ◌||◌, List, [], ◌∷◌, ◌++◌, map, cond, Some, slice_get}
+use Rattle.std.proofs.Common.{rules as std_rules, ◌≡◌, inl, inr, refl, sym, ap, ◌∙◌, subst, ℕ, zero, suc, Bool, true, false, ◌||◌, List, [], ◌∷◌, ◌++◌, map, cond, Some, slice_get}
 use Rattle.std.specs.List.{list_any}
 use Rattle.std.proofs.lemmas.List.{map-append}
 use Rattle.read_follow.specs.Functions.{AreApart, Joins, stays, comes}
@@ -7,16 +7,7 @@ use Rattle.base_lemmas.proofs.Lists.{last_or}
 
 module _ {X : Type 0} (old : List X) (x : X) (apart : AreApart old) where
   apart_more : ((n : ℕ) → slice_get old n ≡ Some x → ⊥) → AreApart (old ++ x ∷ [])
-  apart_more fresh n m y en em = elim (last_or old x n y en) [
-    | inl h ↦ elim (last_or old x m y em) [
-      | inl k ↦ apart n m y h.1 k.1
-      | inr k ↦ absurd (fresh n (h.1 ∙ ap Some (sym k.1)))
-    ]
-    | inr h ↦ elim (last_or old x m y em) [
-      | inl k ↦ absurd (fresh m (k.1 ∙ ap Some (sym h.1)))
-      | inr k ↦ h.0 ∙ sym k.0
-    ]
-  ]
+  apart_more fresh n m y en em = search (std_rules, last_or)
 
   -- none stands twice where one that did not stand there comes behind
   pub joined_apart : (new : List X) → Joins old x new → AreApart new
@@ -25,8 +16,7 @@ module _ {X : Type 0} (old : List X) (x : X) (apart : AreApart old) where
 
 module _ {K S : Type 0} (shape : K → S) (eq : K → K → Bool) (again : (a b : K) → shape a ≡ shape b → eq a b ≡ true) where
   either_true : (a b : Bool) → b ≡ true → (a || b) ≡ true
-  either_true true b e = refl
-  either_true false b e = e
+  either_true x b e = search std_rules
 
   seen : (ks : List K) (k : K) (n : ℕ) → slice_get (map shape ks) n ≡ Some (shape k) → list_any (eq k) ks ≡ true
   seen [] k n e = absurd cc

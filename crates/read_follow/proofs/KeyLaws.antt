@@ -1,5 +1,5 @@
 -- Keys are the same exactly where their shapes are.
-use Rattle.std.proofs.Common.{◌≡◌, refl, sym, ap, ◌∙◌, ℕ, Bool, true, false, ◌&&◌, List, [], ◌∷◌, map, nat_eq, ◌==◌}
+use Rattle.std.proofs.Common.{rules as std_rules, ◌≡◌, refl, sym, ap, ◌∙◌, ℕ, Bool, true, false, ◌&&◌, List, [], ◌∷◌, map, nat_eq, ◌==◌}
 use mathlib.Core.Bool.{beq, true≢false}
 use Rattle.std.specs.{Borrow.Bor, Cmp.Lexicographic.pointwise}
 use Rattle.std.proofs.lemmas.{Bool.eqb-true, Bool.eq-eqb, Bool.and_from as both, Slice.Eq.bytes_eq-Decides}
@@ -21,19 +21,14 @@ same_by : (a b : Key) → same_key a b ≡ ((a.sort == b.sort) && ((a.number == 
 same_by a b = refl
 
 pub beq_again : (a : Bool) → beq a a ≡ true
-beq_again true = refl
-beq_again false = refl
+beq_again x = search std_rules
 
 labels_same : (xs ys : List (Bor (List ℕ) × Bool)) → pointwise same_label xs ys ≡ true → map label_of xs ≡ map label_of ys
 labels_same [] [] e = refl
 labels_same [] (y ∷ ys) e = absurd (true≢false (sym e))
 labels_same (x ∷ xs) [] e = absurd (true≢false (sym e))
 labels_same (x ∷ xs) (y ∷ ys) e =
-    let here = first_true (same_label x y) (pointwise same_label xs ys) e in
-    let text = text_same x.0.now y.0.now (first_true (text_eq x.0.now y.0.now) (beq x.1 y.1) here) in
-    let mark = beq_same x.1 y.1 (second_true (text_eq x.0.now y.0.now) (beq x.1 y.1) here) in
-    let rest = labels_same xs ys (second_true (same_label x y) (pointwise same_label xs ys) e) in
-    λ i. (text i, mark i) ∷ rest i
+    search (std_rules, first_true, text_same, beq_same, second_true, labels_same xs ys (second_true (same_label x y) (pointwise same_label xs ys) e))
 
 labels_again : (xs ys : List (Bor (List ℕ) × Bool)) → map label_of xs ≡ map label_of ys → pointwise same_label xs ys ≡ true
 labels_again [] [] e = refl
@@ -49,14 +44,7 @@ labels_again (x ∷ xs) (y ∷ ys) e =
     (labels_again xs ys rest)
 
 pub key_same : (a b : Key) → same_key a b ≡ true → shape_of a ≡ shape_of b
-key_same a b e =
-    let sort = eqb-true a.sort b.sort (first_true (a.sort == b.sort) _ e) in
-    let others = second_true (a.sort == b.sort) _ e in
-    let number = eqb-true a.number b.number (first_true (a.number == b.number) _ others) in
-    let lists = second_true (a.number == b.number) _ others in
-    let labels = labels_same a.labels.items b.labels.items (first_true (pointwise same_label a.labels.items b.labels.items) (pointwise nat_eq a.parts.items b.parts.items) lists) in
-    let parts = text_same a.parts.items b.parts.items (second_true (pointwise same_label a.labels.items b.labels.items) (pointwise nat_eq a.parts.items b.parts.items) lists) in
-    λ i. record { sort = sort i; number = number i; labels = labels i; parts = parts i }
+key_same a b e = search (std_rules, eqb-true, first_true, second_true, labels_same, text_same)
 
 pub key_again : (a b : Key) → shape_of a ≡ shape_of b → same_key a b ≡ true
 key_again a b e =

@@ -1,5 +1,5 @@
 -- Tables of the names of types: how one is made, and that they stay those of their instances.
-use Rattle.std.proofs.Common.{◌≡◌, refl, sym, ap, ◌∙◌, subst, inl, inr, ◌⊎◌, ℕ, suc, zero, if◌then◌else◌, cond, List, [], ◌∷◌, ◌++◌, Option, Some, None, slice_get}
+use Rattle.std.proofs.Common.{rules as std_rules, ◌≡◌, refl, sym, ap, ◌∙◌, subst, inl, inr, ◌⊎◌, ℕ, suc, zero, if◌then◌else◌, cond, List, [], ◌∷◌, ◌++◌, Option, Some, None, slice_get}
 use Rattle.std.proofs.lemmas.Map.Text.{btree_map_updates_str}
 use Rattle.std.specs.{Borrow.Bor, Map.lookup, Ordering.is_eq, Ordering.nat_cmp}
 use Rattle.std.specs.{BTreeMap.BTreeMap, BTreeMap.get, BTreeMap.get_by, BTreeMap.Updates, Cmp.Lexicographic.nat_list_eq_equiv, Cmp.Lexicographic.slice_cmp}
@@ -29,10 +29,7 @@ found_last q (s ∷ ts) t other = ap (λ o. cond (text_eq q s.name.now) (Some s.
 pub behind_on : (rest ts : List ShownType) (t : ShownType) (old new : BTreeMap (Bor Text) Slot) → IsTableBehind (rest ++ t ∷ []) ts old
     → Updates (λ x y. slice_cmp nat_cmp x.now y.now) old new t.name (Some t.slot) → IsTableBehind rest ts new
 behind_on rest ts t old new h u q =
-    ap (λ o. find_or q rest o)
-    (btree_map_updates_str t.name.now old new (Some t.slot) u q
-    ∙ ap (λ b. cond b (Some t.slot) (get_by (λ k. slice_cmp nat_cmp q k.now) old)) (nat_list_eq_equiv.symm t.name.now q))
-    ∙ (sym (found_last q rest t (get_by (λ k. slice_cmp nat_cmp q k.now) old)) ∙ h q)
+    search (std_rules, btree_map_updates_str t.name.now old new (Some t.slot) u q, found_last q rest t (get_by (λ k. slice_cmp nat_cmp q k.now) old))
 
 -- ---- instances
 

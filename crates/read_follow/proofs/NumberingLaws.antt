@@ -1,5 +1,5 @@
 -- Parts that are declared one after the other, each there already or the next one.
-use Rattle.std.proofs.Common.{◌≡◌, refl, sym, ap, ◌∙◌, subst, ℕ, ◌+◌, ◌<◌, ◌≤◌, arith, inl, inr, List, [], ◌∷◌, ◌++◌, map, length, length-append, drop, Some, None, slice_get}
+use Rattle.std.proofs.Common.{rules as std_rules, ◌≡◌, refl, sym, ap, ◌∙◌, subst, ℕ, ◌+◌, ◌<◌, ◌≤◌, arith, inl, inr, List, [], ◌∷◌, ◌++◌, map, length, length-append, drop, Some, None, slice_get}
 use Rattle.std.proofs.lemmas.{Grind.flat_map-append, List.append-nil, Option.slice_get_within as found_below}
 use Rattle.std.specs.List.{AllByRecursion, flat_map}
 use Rattle.wit_model.specs.{Meaning.Signature, Tree.Tree}
@@ -18,22 +18,15 @@ count_both from [] mid qs to first rest = subst (λ (n : ℕ). CountUp n qs to) 
 count_both from (p ∷ ps) mid qs to first rest = (first.0, first.1, count_both first.0 ps mid qs to first.2 rest)
 
 pub next_rises : (p n m : ℕ) → IsNext p n m → (n ≤ m) × (p < 14 + m)
-next_rises p n m (inl h) = let low = h.0 in let same = h.1 in (omega (arith, same), omega (arith, low, same))
-next_rises p n m (inr h) = let part = h.0 in let more = h.1 in (omega (arith, more), omega (arith, part, more))
+next_rises p n m x = search std_rules
 
 pub count_rises : (from : ℕ) (ps : List ℕ) (to : ℕ) → CountUp from ps to → from ≤ to
 count_rises from [] to same = omega (arith, same)
-count_rises from (p ∷ ps) to c =
-    let one = (next_rises p from c.0 c.1).0 in
-    let rest = count_rises c.0 ps to c.2 in
-    omega (arith, one, rest)
+count_rises from (p ∷ ps) to c = search (std_rules, next_rises, count_rises c.0 ps to c.2)
 
 pub count_below : (from : ℕ) (ps : List ℕ) (to : ℕ) → CountUp from ps to → AllByRecursion (λ p. p < 14 + to) ps
 count_below from [] to same = tt
-count_below from (p ∷ ps) to c =
-    let one = (next_rises p from c.0 c.1).1 in
-    let rest = count_rises c.0 ps to c.2 in
-    (omega (arith, one, rest), count_below c.0 ps to c.2)
+count_below from (p ∷ ps) to c = search (std_rules, next_rises, count_rises, count_below c.0 ps to c.2)
 
 -- ---- parts with their scopes
 
@@ -47,17 +40,13 @@ scoped_all T scope (p ∷ ps) = ap (λ ts. (scope, part_tree T p) ∷ ts) (scope
 
 pub count_scoped : {S : Type 0} (from : ℕ) (ps : List (S × ℕ)) (mid : ℕ) (qs : List (S × ℕ)) (to : ℕ) → CountUp from (bare_parts ps) mid → CountUp mid (bare_parts qs) to
     → CountUp from (bare_parts (ps ++ qs)) to
-count_scoped from ps mid qs to first rest =
-    subst (λ (ks : List ℕ). CountUp from ks to) (sym (append_of_map (λ p. p.1) ps qs)) (count_both from (bare_parts ps) mid (bare_parts qs) to first rest)
+count_scoped from ps mid qs to first rest = search (std_rules, append_of_map, count_both)
 
 -- ---- a part that comes into a table
 
 pub adds_next : (old new : List Shape) (s : Shape) (n : ℕ) → Adds old s new → slice_get new n ≡ Some s → IsNext (14 + n) (length old) (length new)
 adds_next old new s n stays at = let low = found_below old n s at in inl (omega (arith, low), refl)
-adds_next old new s n (comes fresh) at = elim (last_or old s n s at) [
-  | inl h ↦ absurd (fresh n h.1)
-  | inr h ↦ (let same = h.0 in inr (omega (arith, same), length-append old (s ∷ [])))
-]
+adds_next old new s n (comes fresh) at = search (std_rules, last_or, length-append)
 
 -- ---- slots
 
@@ -65,22 +54,17 @@ pub parts_pushed : (old ss : List Slot) (s : Slot) → ss ≡ old ++ s ∷ [] �
 parts_pushed old ss s next = ap parts_in next ∙ (flat_map-append slot_parts old (s ∷ []) ∙ ap (λ ps. parts_in old ++ ps) (append-nil (slot_parts s)))
 
 pub count_pushed : (old ss : List Slot) (s : Slot) (n m : ℕ) → ss ≡ old ++ s ∷ [] → CountUp n (slot_parts s) m → (from : ℕ) → CountUp from (parts_in old) n → CountUp from (parts_in ss) m
-count_pushed old ss s n m next one from before =
-    subst (λ (ps : List ℕ). CountUp from ps m) (sym (parts_pushed old ss s next)) (count_both from (parts_in old) n (slot_parts s) m before one)
+count_pushed old ss s n m next one from before = search (std_rules, parts_pushed, count_both)
 
 -- a resource stands for its name
 name_trees : (t : Tree) → IsName t → slot_trees (resource_slot t) ≡ t ∷ []
-name_trees (Tree.primitive p) h = absurd h
-name_trees (Tree.named place name) h = refl
-name_trees (Tree.node form ts) h = absurd h
+name_trees x h = search std_rules
 
 -- what slots declare are the trees of their parts
 pub slots_declare : (T : List Tree) (F : List Signature) (ss : List Slot) → AreNames T ss → flat_map slot_trees (slots_in T F ss) ≡ map (part_tree T) (parts_in ss)
 slots_declare T F [] h = refl
 slots_declare T F (slots.Value part ∷ ss) h = ap (λ ts. part_tree T part ∷ ts) (slots_declare T F ss h)
-slots_declare T F (slots.Resource part ∷ ss) h =
-    ap (λ ts. ts ++ flat_map slot_trees (slots_in T F ss)) (name_trees (part_tree T part) h.0)
-    ∙ ap (λ ts. part_tree T part ∷ ts) (slots_declare T F ss h.1)
+slots_declare T F (slots.Resource part ∷ ss) h = search (std_rules, name_trees, slots_declare T F ss h.1)
 slots_declare T F (slots.Function n ∷ ss) h = slots_declare T F ss h
 slots_declare T F (slots.Instance b n ∷ ss) h = slots_declare T F ss h
 
@@ -94,5 +78,4 @@ dropped (x ∷ xs) ys = dropped xs ys
 pub since_plus : (m : MeantScope) (ss : List Meant) (is : List MeantInstance) (im ex : List MeantSeen) (us : List ℕ)
     → trees_since m (record { slots = m.slots ++ ss; instances = m.instances ++ is; imports = m.imports ++ im; exports = m.exports ++ ex; used = m.used ++ us })
     ≡ all_in None (flat_map slot_trees ss) ++ used_trees (m.slots ++ ss) (length m.instances) is us
-since_plus m ss is im ex us =
-    λ i. all_in None (flat_map slot_trees (dropped m.slots ss i)) ++ used_trees (m.slots ++ ss) (length m.instances) (dropped m.instances is i) (dropped m.used us i)
+since_plus m ss is im ex us = search (std_rules, dropped)

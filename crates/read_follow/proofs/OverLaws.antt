@@ -1,5 +1,5 @@
 -- What a definition stands for is over the places that the slots are over.
-use Rattle.std.proofs.Common.{◌≡◌, inl, inr, refl, subst, ◌<◌, ℕ, zero, suc, arith, List, [], ◌∷◌, map, Option, Some, None, slice_get, IfSome, nat_le, get_or}
+use Rattle.std.proofs.Common.{rules as std_rules, ◌≡◌, inl, inr, refl, subst, ◌<◌, ℕ, zero, suc, arith, List, [], ◌∷◌, map, Option, Some, None, slice_get, IfSome, nat_le, get_or}
 use Rattle.std.proofs.lemmas.List.Elements.{Contains-append_cases}
 use Rattle.std.specs.List.{AllByRecursion, Contains}
 use Rattle.wit_model.specs.{Meaning.Signature, Text.Text, Tree.Place, Tree.Tree, Tree.children}
@@ -24,20 +24,13 @@ each_over f Q found (x ∷ xs) ys e =
     subst (λ zs. AllByRecursion Q zs) (some_is (first.0 ∷ more.0) ys more.2) (found x first.0 first.1, each_over f Q found xs more.0 more.1)
 
 given_over : {A B : Type 0} (f : A → Option B) (Q : B → Type 0) → ((x : A) (y : B) → f x ≡ Some y → Q y) → (o : Option A) (p : Option B) → given f o ≡ Some p → IfSome p Q
-given_over f Q found None p e = subst (λ q. IfSome q Q) (some_is None p e) tt
-given_over f Q found (Some x) p e =
-    let one = bind_some (f x) (λ y. Some (Some y)) p e in
-    subst (λ q. IfSome q Q) (some_is (Some one.0) p one.2) (found x one.0 one.1)
+given_over f z found u p e = search std_rules
 
 module _ (P : Place → Type 0) where
   -- ---- names
 
   pub name_over : (place : Place) (name : Text) → P place → TreeOver P (Tree.named place name)
-  name_over place name p x c = subst P (same c.0 c.1 c.2) p
-    where
-      same : (k : ℕ) → k < 1 → get_or (place ∷ []) k x ≡ x → place ≡ x
-      same zero small h = h
-      same (suc k) small h = absurd (omega (arith, small))
+  name_over place name p x c = search std_rules
 
   -- ---- parts
 

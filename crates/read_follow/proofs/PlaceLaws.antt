@@ -1,5 +1,5 @@
 -- Places that are put into a table, each once.
-use Rattle.std.proofs.Common.{◌≡◌, inl, inr, refl, sym, ap, ◌∙◌, subst, ℕ, zero, suc, ◌+◌, ◌<◌, ◌≤◌, arith, Bool, true, false, ◌&&◌, ◌==◌, cond, List, [], ◌∷◌, ◌++◌, map, length, Option, Some, None, is_some, slice_get, unwrap_or, IfOk, Result, Ok, Err}
+use Rattle.std.proofs.Common.{rules as std_rules, ◌≡◌, inl, inr, refl, sym, ap, ◌∙◌, subst, ℕ, zero, suc, ◌+◌, ◌<◌, ◌≤◌, arith, Bool, true, false, ◌&&◌, ◌==◌, cond, List, [], ◌∷◌, ◌++◌, map, length, Option, Some, None, is_some, slice_get, unwrap_or, IfOk, Result, Ok, Err}
 use Rattle.std.proofs.{Math.ListN.length-map, lemmas.Slice.Eq.bytes_eq-Decides}
 use Rattle.std.proofs.lemmas.{Bool.eqb-true, Bool.eq-eqb, Bool.and_from as both, List.map-append, Option.slice_get_within as found_below}
 use Rattle.wit_model.specs.{Names.read_path, Text.Text, Text.text_eq, Text.text_of}
@@ -22,75 +22,40 @@ same_by : (a b : PlaceKey) → same_place a b ≡ (text_eq (text_of a.path) (tex
 same_by a b = refl
 
 pub place_same : (a b : PlaceKey) → same_place a b ≡ true → place_shape a ≡ place_shape b
-place_same a b e =
-    let path = text_same (text_of a.path) (text_of b.path) (first_true (text_eq (text_of a.path) (text_of b.path)) (a.number == b.number) e) in
-    let number = eqb-true a.number b.number (second_true (text_eq (text_of a.path) (text_of b.path)) (a.number == b.number) e) in
-    λ i. (path i, number i)
+place_same a b e = search std_rules
 
 pub place_again : (a b : PlaceKey) → place_shape a ≡ place_shape b → same_place a b ≡ true
-place_again a b e =
-    let path : text_of a.path ≡ text_of b.path = ap (λ (x : Text × ℕ). x.0) e in
-    let number : a.number ≡ b.number = ap (λ (x : Text × ℕ). x.1) e in
-    both (text_eq (text_of a.path) (text_of b.path)) (a.number == b.number) ((bytes_eq-Decides (text_of a.path) (text_of b.path)).1 path) (eq-eqb a.number b.number number)
+place_again a b e = search std_rules
 
 -- ---- one place more
 
 pub mark_is : (x : Text × ℕ) (b : Bool) → (x.1 == 0) ≡ b → b ≡ has_path (path_in x)
-mark_is x true e = ap (λ v. is_some (cond v (Some x.0) None)) (sym e)
-mark_is x false e = ap (λ v. is_some (cond v (Some x.0) None)) (sym e)
+mark_is x y e = search std_rules
 
 pub kept_more : (shapes : List (Text × ℕ)) (marks : List Bool) (x : Text × ℕ) → ArePlaces shapes marks → x.1 ≤ length shapes + 1 → IsReadIfGiven (path_in x)
     → ((n : ℕ) → slice_get shapes n ≡ Some x → ⊥)
     → ArePlaces (shapes ++ x ∷ []) (marks ++ has_path (path_in x) ∷ [])
-kept_more shapes marks x kept few given fresh = record {
-  apart = joined_apart shapes x kept.apart (shapes ++ x ∷ []) (comes fresh);
-  numbered = λ n y e. elim (last_or shapes x n y e) [
-    | inl h ↦ kept.numbered n y h.1
-    | inr h ↦ let same = ap (λ (z : Text × ℕ). z.1) h.1 in let place = h.0 in omega (arith, few, same, place)
-  ];
-  read = λ n path e. elim (last_or (map path_in shapes) (path_in x) n (Some path) (ap (λ ps. slice_get ps n) (sym (map-append path_in shapes (x ∷ []))) ∙ e)) [
-    | inl h ↦ kept.read n path h.1
-    | inr h ↦ given path h.1
-  ];
-  marked = ap (λ ms. ms ++ has_path (path_in x) ∷ []) kept.marked ∙ sym (ap (map has_path) (map-append path_in shapes (x ∷ [])) ∙ map-append has_path (map path_in shapes) (path_in x ∷ []));
-}
+kept_more shapes marks x kept few given fresh = search (std_rules, joined_apart, last_or, map-append)
 
 -- ---- their paths
 
 -- where a place joins the others, no other is new
 pub only_joined : (shapes new : List (Text × ℕ)) (x : Text × ℕ) (n : ℕ) → Joins shapes x new → slice_get new n ≡ Some x → IsOnlyNew (map path_in shapes) n (map path_in new)
 only_joined shapes new x n stays at q path e = inl (found_below (map path_in shapes) q (Some path) e)
-only_joined shapes new x n (comes fresh) at q path e = elim (last_or (map path_in shapes) (path_in x) q (Some path)
-    (ap (λ (os : List (Option Text)). slice_get os q) (sym (map-append path_in shapes (x ∷ []))) ∙ e)) [
-      | inl h ↦ inl h.0
-      | inr h ↦ inr (h.0 ∙ (length-map shapes path_in ∙ sym last))
-    ]
-  where
-    last : n ≡ length shapes
-    last = elim (last_or shapes x n x at) [ inl h ↦ absurd (fresh n h.1) | inr h ↦ h.0 ]
+only_joined shapes new x n (comes fresh) at q path e = search (std_rules, last_or, map-append, length-map)
 
 -- before a new place without a path stand all that have one
 pub below_pathless : (paths more : List (Option Text)) → more ≡ paths ++ None ∷ [] → (q : ℕ) (path : Text) → slice_get more q ≡ Some (Some path) → q < length paths
-below_pathless paths more is q path e = elim (last_or paths None q (Some path) (ap (λ (os : List (Option Text)). slice_get os q) (sym is) ∙ e)) [ inl h ↦ h.0 | inr h ↦ absurd (none h.1) ]
-  where
-    none : None ≡ Some path → ⊥
-    none f = cc
+below_pathless paths more is q path e = search (std_rules, last_or)
 
 -- a place whose number is beyond those that were is new
 pub behind_all : (shapes new : List (Text × ℕ)) (marks : List Bool) (x : Text × ℕ) (n : ℕ) → ArePlaces shapes marks → x.1 ≡ length shapes + 1 → Joins shapes x new → slice_get new n ≡ Some x
     → new ≡ shapes ++ x ∷ []
-behind_all shapes new marks x n kept is stays at =
-    let below = found_below shapes n x at in
-    let few = kept.numbered n x at in
-    absurd (omega (arith, below, few, is))
+behind_all shapes new marks x n kept is stays at = search (std_rules, found_below)
 behind_all shapes new marks x n kept is (comes fresh) at = refl
 
 pub not_zero : (n : ℕ) → (n ≡ 0 → ⊥) → (n == 0) ≡ false
-not_zero n h = by (n == 0) refl
-  where
-    by : (b : Bool) → (n == 0) ≡ b → b ≡ false
-    by true e = absurd (h (eqb-true n 0 e))
-    by false e = refl
+not_zero n h = search std_rules
 
 pub no_path : (x : Text × ℕ) (n : ℕ) → x.1 ≡ n + 1 → path_in x ≡ None
 no_path x n e = ap (λ b. cond b (Some x.0) None) (not_zero x.1 (λ z. absurd (omega (arith, e, z))))
@@ -102,15 +67,7 @@ with_none shapes new x e none = ap (map path_in) e ∙ (map-append path_in shape
 
 -- a path that was completed is read
 pub completed_read : (text : Text) (suffix : Option Text) (path : Text) → complete_path text suffix ≡ Some path → is_some (read_path path) ≡ true
-completed_read text suffix path e = by (completed text suffix) e
-  where
-    passed : (whole : Text) (b : Bool) → is_some (read_path whole) ≡ b → provided b whole ≡ Some path → is_some (read_path path) ≡ true
-    passed whole true f e = let same : whole ≡ path = cc in subst (λ (t : Text). is_some (read_path t) ≡ true) same f
-    passed whole false f e = absurd cc
-
-    by : (o : Option Text) → (o >>= λ whole. provided (is_some (read_path whole)) whole) ≡ Some path → is_some (read_path path) ≡ true
-    by None e = absurd cc
-    by (Some whole) e = passed whole (is_some (read_path whole)) refl e
+completed_read text suffix path e = grind arith
 
 -- the path of a key with the number 0, and none with a greater one
 pub one_read : (path : Text) → is_some (read_path path) ≡ true → IsReadIfGiven (path_in (path, 0))
@@ -139,17 +96,12 @@ paths_apart shapes marks kept m n path em en =
 
 -- what is known of a number is known of it as it is counted
 pub counted_as : (r : Result ℕ Refusal) (number : ℕ) (P : ℕ → Type 0) → IfOk r (λ n. n ≡ number) → P number → IfOk r P
-counted_as (Ok n) number P e h = subst P (sym e) h
-counted_as (Err e) number P k h = k
+counted_as x number y e h = search std_rules
 
 module _ (ks : List PlaceKey) (paths : List (Option Text)) (view : map path_in (map place_shape ks) ≡ paths) (n : ℕ) where
   pub path_at : (k : PlaceKey) (b : Bool) → Some k ≡ slice_get ks n → (k.number == 0) ≡ b → cond b (Some (text_of k.path)) None ≡ unwrap_or (slice_get paths n) None
   path_at k b at is =
-      ap (λ v. cond v (Some (text_of k.path)) None) (sym is)
-      ∙ (ap (λ (o : Option (Option Text)). unwrap_or o None) (sym (mapped_get path_in (map place_shape ks) n (place_shape k) (mapped_get place_shape ks n k (sym at))))
-      ∙ ap (λ (ps : List (Option Text)). unwrap_or (slice_get ps n) None) view)
+      search (std_rules, mapped_get path_in (map place_shape ks) n (place_shape k) (mapped_get place_shape ks n k (sym at)), mapped_get place_shape ks n k (sym at))
 
   pub path_nowhere : None ≡ slice_get ks n → None ≡ unwrap_or (slice_get paths n) None
-  path_nowhere none =
-      ap (λ (o : Option (Option Text)). unwrap_or o None) (sym (mapped_none path_in (map place_shape ks) n (mapped_none place_shape ks n (sym none))))
-      ∙ ap (λ (ps : List (Option Text)). unwrap_or (slice_get ps n) None) view
+  path_nowhere none = search (std_rules, unwrap_or, mapped_none)

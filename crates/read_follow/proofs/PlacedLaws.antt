@@ -1,5 +1,5 @@
 -- Names stay in their places as a scope goes on.
-use Rattle.std.proofs.Common.{◌≡◌, ◌⊎◌, inl, inr, refl, sym, ap, ◌∙◌, subst, ℕ, zero, suc, ◌+◌, ◌<◌, ◌≤◌, arith, Bool, true, List, [], ◌∷◌, ◌++◌, map, length, Option, Some, None, IfSome, slice_get, append_assoc}
+use Rattle.std.proofs.Common.{rules as std_rules, ◌≡◌, ◌⊎◌, inl, inr, refl, sym, ap, ◌∙◌, subst, ℕ, zero, suc, ◌+◌, ◌<◌, ◌≤◌, arith, Bool, true, List, [], ◌∷◌, ◌++◌, map, length, Option, Some, None, IfSome, slice_get, append_assoc}
 use Rattle.std.proofs.lemmas.{Bool.cases_lt, List.map-append, Option.slice_get_within as found_below}
 use Rattle.wit_model.specs.{Tree.Form, Tree.Place, Text.Text, Meaning.FunctionMeaning}
 use Rattle.std.specs.List.{AllByRecursion}
@@ -44,8 +44,7 @@ name_part_below shapes place name part h = let inside = found_below shapes h.num
 named_at : (shapes : List Shape) (place : ℕ) (ts : List ShownType) → AllByRecursion (IsTypeNamed shapes place) ts → (n : ℕ) (t : ShownType) → slice_get ts n ≡ Some t
     → slot_part t.slot < 14 + length shapes
 named_at shapes place [] h n t e = absurd cc
-named_at shapes place (u ∷ ts) h zero t e = let same : u ≡ t = cc in subst (λ (x : ShownType). slot_part x.slot < 14 + length shapes) same
-    (name_part_below shapes place u.name.now (slot_part u.slot) h.0)
+named_at shapes place (u ∷ ts) h zero t e = search (std_rules, name_part_below shapes place u.name.now (slot_part u.slot) h.0)
 named_at shapes place (u ∷ ts) h (suc n) t e = named_at shapes place ts h.1 n t e
 
 among_more : (old new : List ShownType) → Grows old new → (name : Text) (part : ℕ) → IsShownAmong old name part → IsShownAmong new name part

@@ -1,5 +1,5 @@
 -- Names stay in their places as a scope of a component type goes on.
-use Rattle.std.proofs.Common.{◌≡◌, ◌⊎◌, inl, inr, refl, sym, ap, ◌∙◌, subst, ℕ, zero, suc, ◌+◌, ◌<◌, ◌≤◌, arith, Bool, true, false, cond, List, [], ◌∷◌, ◌++◌, map, length, length-append, Option, Some, None, IfSome, slice_get, unwrap_or, append_assoc}
+use Rattle.std.proofs.Common.{rules as std_rules, ◌≡◌, ◌⊎◌, inl, inr, refl, sym, ap, ◌∙◌, subst, ℕ, zero, suc, ◌+◌, ◌<◌, ◌≤◌, arith, Bool, true, false, cond, List, [], ◌∷◌, ◌++◌, map, length, length-append, Option, Some, None, IfSome, slice_get, unwrap_or, append_assoc}
 use Rattle.std.proofs.lemmas.{Bool.cases_lt, Bool.false≢true, List.append-nil, Option.slice_get_within as found_below}
 use Rattle.std.specs.List.{AllByRecursion}
 use Rattle.wit_model.specs.{Meaning.FunctionMeaning, Meaning.Signature, Text.Text, Text.text_eq, Tree.Form, Tree.Place, Tree.Tree}
@@ -28,21 +28,16 @@ module _ (P Q : Place → Type 0) (weaker : (x : Place) → P x → Q x) where
   params_weaker (p ∷ ps) h = ((λ x c. weaker x (h.0 x c)), params_weaker ps h.1)
 
   result_weaker : (o : Option Tree) → IfSome o (TreeOver P) → IfSome o (TreeOver Q)
-  result_weaker None h = tt
-  result_weaker (Some t) h = λ x c. weaker x (h x c)
+  result_weaker y h = search std_rules
 
   signature_weaker : (f : Signature) → SignatureOver P f → SignatureOver Q f
   signature_weaker f h = (params_weaker f.params h.0, result_weaker f.result h.1)
 
   declaration_weaker : (d : tree.Declaration) → DeclarationOver P d → DeclarationOver Q d
-  declaration_weaker tree.Declaration.resource h = tt
-  declaration_weaker (tree.Declaration.type_ t) h = λ x c. weaker x (h x c)
+  declaration_weaker y h = search std_rules
 
   slot_weaker : (s : Meant) → SlotOver P s → SlotOver Q s
-  slot_weaker (follow.value t) h = λ x c. weaker x (h x c)
-  slot_weaker (follow.resource place name) h = weaker place h
-  slot_weaker (follow.function f) h = signature_weaker f h
-  slot_weaker (follow.instance ds n) h = tt
+  slot_weaker y h = search (std_rules, signature_weaker)
 
   slots_weaker : (ss : List Meant) → AllByRecursion (SlotOver P) ss → AllByRecursion (SlotOver Q) ss
   slots_weaker [] h = tt
@@ -60,9 +55,7 @@ module _ (P Q : Place → Type 0) (weaker : (x : Place) → P x → Q x) where
   view_weaker v h = record { types = types_weaker v.types h.types; functions = functions_weaker v.functions h.functions }
 
   shown_weaker : (s : MeantShown) → ShownOver P s → ShownOver Q s
-  shown_weaker (MeantShown.instance key view) h = tt
-  shown_weaker (MeantShown.function f) h = signature_weaker f h
-  shown_weaker (MeantShown.declares d) h = declaration_weaker d h
+  shown_weaker x h = search (std_rules, signature_weaker, declaration_weaker)
 
   all_shown_weaker : (ss : List MeantSeen) → AllByRecursion (λ (s : MeantSeen). ShownOver P s.shown) ss → AllByRecursion (λ (s : MeantSeen). ShownOver Q s.shown) ss
   all_shown_weaker [] h = tt
@@ -260,8 +253,7 @@ pub only_last : {X : Type 0} (xs : List X) (y : X) (j : ℕ) (x : X) → slice_g
 only_last xs y j x at past = elim (last_or xs y j x at) [ inl h ↦ (let below = h.0 in absurd (omega (arith, below, past))) | inr h ↦ h ]
 
 pub imported_many : {X Y : Type 0} (b : Bool) (x : X) (y : Y) → length (imported b x) ≡ length (imported b y)
-imported_many true x y = refl
-imported_many false x y = refl
+imported_many x y z = search std_rules
 
 -- what is added as an instance is one that is seen
 pub added_seen : (w : World) (before after : List Seen) (b : Bool) (s : Seen) (key : InstanceKey) (j : ℕ) → w.imports ≡ before ++ imported b s → w.exports ≡ after ++ exported b s
@@ -271,16 +263,13 @@ added_seen w before after false s key j im ex is = as_export (length after) s ke
 
 -- an import or an export that passes
 pub seen_passes : (P : MeantSeen → Type 0) (f : Seen → MeantSeen) (b : Bool) (s : Seen) → P (f s) → AllByRecursion P (map f (imported b s)) × AllByRecursion P (map f (exported b s))
-seen_passes P f true s h = ((h, tt), tt)
-seen_passes P f false s h = (tt, (h, tt))
+seen_passes x f y s h = search std_rules
 
 pub both_pass : (P : Seen → Type 0) (b : Bool) (s : Seen) → P s → AllByRecursion P (imported b s) × AllByRecursion P (exported b s)
-both_pass P true s h = ((h, tt), tt)
-both_pass P false s h = (tt, (h, tt))
+both_pass x y s h = search std_rules
 
 pub import_passes : (P : Seen → Type 0) (b : Bool) (s : Seen) → P s → AllByRecursion P (imported b s)
-import_passes P true s h = (h, tt)
-import_passes P false s h = tt
+import_passes x y s h = search std_rules
 
 module _ (base : List Shape) (count till : ℕ) (old : World) (p : IsPlacedAmong base count till old) where
   -- no count is above the length of the table

@@ -1,5 +1,5 @@
 -- Rows, one after the other.
-use Rattle.std.proofs.Common.{◌≡◌, refl, sym, ap, ◌∙◌, subst, ℕ, ◌+◌, ◌<◌, ◌≤◌, Bool, true, false, ◌==◌, List, [], ◌∷◌, ◌++◌, drop, map, length, get_or, option_map, is_some, IfSome, Option, Some, None, option_to_list, append_assoc, append-nil}
+use Rattle.std.proofs.Common.{rules as std_rules, ◌≡◌, refl, sym, ap, ◌∙◌, subst, ℕ, ◌+◌, ◌<◌, ◌≤◌, Bool, true, false, ◌==◌, List, [], ◌∷◌, ◌++◌, drop, map, length, get_or, option_map, is_some, IfSome, Option, Some, None, option_to_list, append_assoc, append-nil}
 use Rattle.std.proofs.{Math.ListN.drop_of_length-le, lemmas.List.drop-map, lemmas.List.drop_more, lemmas.List.map-append, lemmas.List.Concat.flat_map_single}
 use Rattle.std.proofs.lemmas.{Bool.false≢true, Grind.flat_map-append}
 use Rattle.std.specs.{Borrow.Bor, List.flat_map, List.AllByRecursion}
@@ -18,16 +18,13 @@ use Rattle.base_lemmas.proofs.{Elements.all_end, Options.some_is}
 use Rattle.wit_model.proofs.RulesLemmas.{items_of_map as mapped_items}
 
 pub behind_none : {Y : Type 0} (found : Option (List Y)) → behind_rows [] found ≡ found
-behind_none None = refl
-behind_none (Some ys) = refl
+behind_none x = search std_rules
 
 pub behind_more : {Y : Type 0} (front : List Y) (y : Y) (found : Option (List Y)) → behind_rows front (found >>= λ ys. Some (y ∷ ys)) ≡ behind_rows (front ++ y ∷ []) found
-behind_more front y None = refl
-behind_more front y (Some ys) = ap Some (sym (append_assoc front (y ∷ []) ys))
+behind_more front y x = search (std_rules, append_assoc)
 
 pub none_dropped : {X : Type 0} (xs : List X) → drop 0 xs ≡ xs
-none_dropped [] = refl
-none_dropped (x ∷ xs) = refl
+none_dropped x = search std_rules
 
 module _ {A Y : Type 0} (f : A → Option Y) (labs : Y → List (Text × Bool)) (trees : Y → List Tree) (rows : List A) where
   module _ (i : ℕ) (labels : List (Text × Bool)) (ts : List Tree) (so_far : RowsSoFar f labs trees rows i labels ts) where
@@ -65,8 +62,7 @@ field_names [] = refl
 field_names (y ∷ ys) = ap (λ rest. y.0 ∷ rest) (field_names ys)
 
 payload_first : (o : Option Tree) (rest : List (Option Tree)) (ts : List Tree) → given rest ≡ children ts → given (o ∷ rest) ≡ children (option_to_list o ++ ts)
-payload_first None rest ts e = e
-payload_first (Some t) rest ts e = ap (child t) e
+payload_first x rest ts e = search std_rules
 
 payloads : (ys : List (Text × Option Tree)) → given (map (λ c. c.1) ys) ≡ children (flat_map case_trees ys)
 payloads [] = refl
@@ -77,20 +73,14 @@ value_list [] = refl
 value_list (t ∷ ts) = ap (λ rest. t ∷ rest) (value_list ts)
 
 pub items_there : {A : Type 0} (xs : List A) → is_filled xs ≡ true → has_items xs ≡ true
-items_there [] e = e
-items_there (x ∷ xs) e = refl
+items_there x e = search std_rules
 
 -- what is found for some rows is some
 rows_filled : {A Y : Type 0} (f : A → Option Y) (rows : List A) (ys : List Y) → each f rows ≡ Some ys → is_filled rows ≡ true → is_filled ys ≡ true
-rows_filled f [] ys e h = absurd (false≢true h)
-rows_filled f (x ∷ xs) ys e h =
-    let first = bind_some (f x) (λ y. each f xs >>= λ zs. Some (y ∷ zs)) ys e in
-    let more = bind_some (each f xs) (λ zs. Some (first.0 ∷ zs)) ys first.2 in
-    ap is_filled (sym (some_is (first.0 ∷ more.0) ys more.2))
+rows_filled f z ys e h = search std_rules
 
 flat_items : {X Y : Type 0} (f : X → Y) (xs : List X) → is_filled xs ≡ true → has_items (flat_map (λ x. f x ∷ []) xs) ≡ true
-flat_items f [] h = h
-flat_items f (x ∷ xs) h = refl
+flat_items f x h = search std_rules
 
 module _ (ss : List Slot) (ks : List ℕ) (ranges : (n : ℕ) → AreInRange n ss → AllByRecursion (λ k. k < 14 + n) ks) where
   pub record_is : (fields : List (Labeled ComponentValType)) (labels : List (Text × Bool)) → is_filled fields ≡ true
@@ -154,24 +144,20 @@ all_filled f [] e = absurd (false≢true e)
 all_filled f (x ∷ xs) e = refl
 
 pub list_filled : {A : Type 0} (xs : List A) → false ≡ (length xs == 0) → is_filled xs ≡ true
-list_filled [] e = absurd (false≢true e)
-list_filled (x ∷ xs) e = refl
+list_filled x e = search std_rules
 
 -- ---- loops over rows
 
 -- a part more, if there is one
 pub part_more : (ss : List Slot) (ks : List ℕ) (p : Option ℕ) → ((n : ℕ) → AreInRange n ss → AllByRecursion (λ k. k < 14 + n) ks) → IfSome p (λ k. (n : ℕ) → AreInRange n ss → k < 14 + n)
     → (n : ℕ) → AreInRange n ss → AllByRecursion (λ k. k < 14 + n) (ks ++ option_to_list p)
-part_more ss ks None all one n ranges = subst (AllByRecursion (λ k. k < 14 + n)) (sym (append-nil ks)) (all n ranges)
-part_more ss ks (Some k) all one n ranges = all_end (λ j. j < 14 + n) ks k (all n ranges) (one n ranges)
+part_more ss ks x all one n ranges = search (std_rules, append-nil, all_end)
 
 given_mark : (f : ℕ → Tree) (p : Option ℕ) → is_given (option_map f p) ≡ is_some p
-given_mark f None = refl
-given_mark f (Some k) = refl
+given_mark f x = search std_rules
 
 given_list : (f : ℕ → Tree) (p : Option ℕ) → map f (option_to_list p) ≡ option_to_list (option_map f p)
-given_list f None = refl
-given_list f (Some k) = refl
+given_list f x = search std_rules
 
 module _ {X A : Type 0} (raw : X → A) (all : List X) (i : ℕ) where
   pub raw_at : (d : X) → i < length all → drop i (map raw all) ≡ raw (get_or all i d) ∷ drop (i + 1) (map raw all)
@@ -250,12 +236,10 @@ module _ (ss : List Slot) (all : List (Bor (List ℕ) × Option ComponentValType
 
 module _ (ss : List Slot) (e : Refusal) (T : List Tree) (F : List Signature) where
   pub no_record : (fields : List (Labeled ComponentValType)) → Refuses e (each (field_type (slots_in T F ss)) fields) → Refuses e (definition (slots_in T F ss) (DefinedType.record_of fields))
-  no_record fields = refused e (each (field_type (slots_in T F ss)) fields) (definition (slots_in T F ss) (DefinedType.record_of fields))
-      (λ none. ap (λ o. o >>= λ fs. provided (is_filled fields) (record_tree fs)) none)
+  no_record fields = search std_rules
 
   pub no_variant : (cases : List (Labeled (Option ComponentValType))) → Refuses e (each (case_type (slots_in T F ss)) cases) → Refuses e (definition (slots_in T F ss) (DefinedType.variant_of cases))
-  no_variant cases = refused e (each (case_type (slots_in T F ss)) cases) (definition (slots_in T F ss) (DefinedType.variant_of cases))
-      (λ none. ap (λ o. o >>= λ cs. provided (is_filled cases) (variant_tree cs)) none)
+  no_variant cases = search std_rules
 
   pub no_tuple : (vs : List ComponentValType) → Refuses e (each (value_type (slots_in T F ss)) vs) → Refuses e (definition (slots_in T F ss) (DefinedType.tuple_of vs))
   no_tuple vs = refused e (each (value_type (slots_in T F ss)) vs) (definition (slots_in T F ss) (DefinedType.tuple_of vs)) (λ none. ap (λ o. o >>= λ xs. provided (is_filled vs) (tuple_tree xs)) none)

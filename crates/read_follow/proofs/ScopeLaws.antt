@@ -1,5 +1,5 @@
 -- A scope of a component type in tables that grow, with something more in it.
-use Rattle.std.proofs.Common.{◌≡◌, ◌⊎◌, inl, inr, refl, sym, ap, ◌∙◌, subst, ℕ, zero, suc, ◌+◌, ◌<◌, ◌≤◌, ◌==◌, ◌||◌, arith, Bool, true, false, cond, List, [], ◌∷◌, ◌++◌, map, length, length-append, Option, Some, None, slice_get, unwrap_or, option_map}
+use Rattle.std.proofs.Common.{rules as std_rules, ◌≡◌, ◌⊎◌, inl, inr, refl, sym, ap, ◌∙◌, subst, ℕ, zero, suc, ◌+◌, ◌<◌, ◌≤◌, ◌==◌, ◌||◌, arith, Bool, true, false, cond, List, [], ◌∷◌, ◌++◌, map, length, length-append, Option, Some, None, slice_get, unwrap_or, option_map}
 use Rattle.std.proofs.lemmas.{Bool.eq-eqb, List.append-nil, List.map-append, Option.slice_get_within as found_below}
 use Rattle.std.specs.List.{AllByRecursion, flat_map, list_any}
 use Rattle.wit_model.specs.{Meaning.Signature, Tree.Place, Tree.Tree}
@@ -23,29 +23,14 @@ use Rattle.read_follow.specs.declared.slots.Slot.TheVariants as slots
 -- ---- what is well-formed stays so
 
 key_wider : (paths more : List (Option (List ℕ))) → Grows paths more → (k : InstanceKey) → IsKeyIn paths k → IsKeyIn more k
-key_wider paths more g k h = by k h
-  where
-    stays : (n : ℕ) (o : Option (List ℕ)) → slice_get paths n ≡ Some o → slice_get more n ≡ Some o
-    stays n o at = ap (λ (ps : List (Option (List ℕ))). slice_get ps n) g.is ∙ (slice_front paths g.more n (found_below paths n o at) ∙ at)
-
-    by : (k : InstanceKey) → IsKeyIn paths k → IsKeyIn more k
-    by (keys.Path p) h = (h.0, stays p (Some h.0) h.1)
-    by (keys.Label l p) h = stays p None h
-    by (keys.Implementing l p) h = (h.0, stays p (Some h.0) h.1)
+key_wider paths more g k h = search (std_rules, slice_front, found_below)
 
 -- what a scope stands for, with these more
 abbrev pub plus : MeantScope → List Meant → List MeantInstance → List MeantSeen → List MeantSeen → List ℕ → MeantScope
 plus m ss is im ex us = record { slots = m.slots ++ ss; instances = m.instances ++ is; imports = m.imports ++ im; exports = m.exports ++ ex; used = m.used ++ us }
 
 pub plus_slot : (m : MeantScope) (s : Meant) → in_scope s m ≡ plus m (s ∷ []) [] [] [] []
-plus_slot m s = λ i. record {
-  slots = m.slots ++ s ∷ [];
-  instances = sym (append-nil m.instances) i;
-  imports = sym (append-nil m.imports) i;
-  exports = sym (append-nil m.exports) i;
-  used =
-      sym (append-nil m.used) i;
-}
+plus_slot m s = search std_rules
 
 -- what an import adds to the imports, and an export to the exports
 abbrev pub imported : {X : Type 0} → Bool → X → List X
@@ -57,51 +42,14 @@ exported true x = []
 exported false x = x ∷ []
 
 pub plus_seen : (b : Bool) (m : MeantScope) (s : MeantSeen) → see (direction b) s m ≡ plus m [] [] (imported b s) (exported b s) []
-plus_seen true m s = λ i. record {
-  slots = sym (append-nil m.slots) i;
-  instances = sym (append-nil m.instances) i;
-  imports = m.imports ++ s ∷ [];
-  exports = sym (append-nil m.exports) i;
-  used =
-      sym (append-nil m.used) i;
-}
-plus_seen false m s = λ i. record {
-  slots = sym (append-nil m.slots) i;
-  instances = sym (append-nil m.instances) i;
-  imports = sym (append-nil m.imports) i;
-  exports = m.exports ++ s ∷ [];
-  used =
-      sym (append-nil m.used) i;
-}
+plus_seen x m s = search std_rules
 
 pub plus_type : (m : MeantScope) (slot : Meant) (s : MeantSeen) → see (direction true) s (in_scope slot m) ≡ plus m (slot ∷ []) [] (s ∷ []) [] []
-plus_type m slot s = λ i. record {
-  slots = m.slots ++ slot ∷ [];
-  instances = sym (append-nil m.instances) i;
-  imports = m.imports ++ s ∷ [];
-  exports = sym (append-nil m.exports) i;
-  used =
-      sym (append-nil m.used) i;
-}
+plus_type m slot s = search std_rules
 
 pub plus_instance : (b : Bool) (m : MeantScope) (x : MeantInstance) (s : MeantSeen) (n : ℕ)
     → see (direction b) s (record m { instances = m.instances ++ x ∷ []; used = m.used ++ n ∷ [] }) ≡ plus m [] (x ∷ []) (imported b s) (exported b s) (n ∷ [])
-plus_instance true m x s n = λ i. record {
-  slots = sym (append-nil m.slots) i;
-  instances = m.instances ++ x ∷ [];
-  imports = m.imports ++ s ∷ [];
-  exports = sym (append-nil m.exports) i;
-  used =
-      m.used ++ n ∷ [];
-}
-plus_instance false m x s n = λ i. record {
-  slots = sym (append-nil m.slots) i;
-  instances = m.instances ++ x ∷ [];
-  imports = sym (append-nil m.imports) i;
-  exports = m.exports ++ s ∷ [];
-  used =
-      m.used ++ n ∷ [];
-}
+plus_instance y m x s n = search std_rules
 
 -- a place that was met stays met
 pub met_still : (is more : List Instance) → Grows is more → (q : ℕ) → IsPlaceMet is q → IsPlaceMet more q
@@ -129,8 +77,7 @@ none_behind many paths k x at q path there less = absurd cc
 
 pub one_behind : (many : ℕ) (paths : List (Option (List ℕ))) (x : Instance) → ((q : ℕ) (path : List ℕ) → slice_get paths q ≡ Some (Some path) → q < x.place → q < many)
     → StandBehind many paths (x ∷ [])
-one_behind many paths x behind zero y at q path there less = let same : x ≡ y = cc in behind q path there (subst (λ (z : Instance). q < z.place) (sym same) less)
-one_behind many paths x behind (suc k) y at q path there less = absurd cc
+one_behind many paths x behind u y at q path there less = search std_rules
 
 -- places in their order, and more of them
 module _ (old more : List (Option (List ℕ))) (gp : Grows old more) (is xs : List Instance) (inside : (j : ℕ) (x : Instance) → slice_get is j ≡ Some x → x.place < length old)
@@ -154,14 +101,7 @@ module _ (old more : List (Option (List ℕ))) (gp : Grows old more) (is xs : Li
   before_still j q h = record { number = h.number; earlier = h.earlier; one = h.one; at = stands_on is all gi h.number h.one h.at; place = h.place }
 
   pub paths_in_order : ArePathsInOrder before old is → ArePathsInOrder before more all
-  paths_in_order order j x at q path there less = elim (split_at is xs j x at) [
-    | inl was ↦
-        let low = inside j x was in
-        elim (order j x was q path (stood old more gp q (Some path) (omega (arith, less, low)) there) less) [ inl first ↦ inl first | inr h ↦ inr (before_still j q h) ]
-    | inr came ↦
-        let number = came.1 in
-        elim (met q path (stood old more gp q (Some path) (new came.0 x came.2 q path there less) there)) [ inl first ↦ inl first | inr h ↦ inr (met_before j q (omega (arith, number)) h) ]
-  ]
+  paths_in_order order j x at q path there less = search (std_rules, split_at, stood, before_still, met_before)
 
 -- ---- a scope with something more
 
@@ -186,14 +126,7 @@ module _ (old : World) (st : IsWorld old) (more : List Shape) (more_fs : List Fu
 
   wider_instances : (is : List Instance) → AllByRecursion (IsInstanceIn old.shapes old.signatures old.paths) is → AllByRecursion (IsInstanceIn more more_fs more_paths) is
   wider_instances [] h = tt
-  wider_instances (i ∷ is) h = (
-    record {
-      place = (let below = h.0.place in let long = longer old.paths more_paths gp in omega (arith, below, long));
-      types = wider_types m old.shapes more old.signatures more_fs st.tables gs gf i.view.types.items h.0.types;
-      functions = wider_functions m old.shapes more old.signatures more_fs st.tables gs gf i.view.functions.items h.0.functions;
-    },
-    wider_instances is h.1,
-  )
+  wider_instances (i ∷ is) h = search (std_rules, longer, wider_types, wider_functions, wider_instances is h.1)
 
   more_instances : length old.instances ≤ length (old.instances ++ xs)
   more_instances = let long = length-append old.instances xs in omega (arith, long)
@@ -342,43 +275,25 @@ pub waiting_push : (used : List ℕ) (n : ℕ) (ss : List Slot) (s : Slot) → w
 waiting_push used n [] (slots.Value part) = omega arith
 waiting_push used n [] (slots.Resource part) = omega arith
 waiting_push used n [] (slots.Function f) = omega arith
-waiting_push used n [] (slots.Instance b around) = by (list_any (λ m. m == n) used)
-  where
-    by : (u : Bool) → cond u 0 b.count + 0 ≤ 0 + b.count
-    by true = omega arith
-    by false = omega arith
+waiting_push used n [] (slots.Instance b around) = search std_rules
 waiting_push used n (slots.Value part ∷ ss) s = waiting_push used (suc n) ss s
 waiting_push used n (slots.Resource part ∷ ss) s = waiting_push used (suc n) ss s
 waiting_push used n (slots.Function f ∷ ss) s = waiting_push used (suc n) ss s
 waiting_push used n (slots.Instance b around ∷ ss) s = let rest = waiting_push used (suc n) ss s in omega (arith, rest)
 
 pub any_more : (used : List ℕ) (m n : ℕ) → list_any (λ k. k == n) (used ++ m ∷ []) ≡ (list_any (λ k. k == n) used || (m == n))
-any_more [] m n = by (m == n)
-  where
-    by : (b : Bool) → (b || false) ≡ (false || b)
-    by true = refl
-    by false = refl
-any_more (u ∷ used) m n = ap (λ b. (u == n) || b) (any_more used m n) ∙ by (u == n)
-  where
-    by : (b : Bool) → (b || (list_any (λ k. k == n) used || (m == n))) ≡ ((b || list_any (λ k. k == n) used) || (m == n))
-    by true = refl
-    by false = refl
+any_more [] m n = search std_rules
+any_more (u ∷ used) m n = search (std_rules, any_more used m n)
 
 pub fewer : (a b : Bool) (k : ℕ) → cond (a || b) 0 k ≤ cond a 0 k
-fewer true b k = omega arith
-fewer false true k = omega arith
-fewer false false k = omega arith
+fewer x b k = search std_rules
 
 waiting_fewer : (used : List ℕ) (m n : ℕ) (ss : List Slot) → waiting (used ++ m ∷ []) n ss ≤ waiting used n ss
 waiting_fewer used m n [] = omega arith
 waiting_fewer used m n (slots.Value part ∷ ss) = waiting_fewer used m (suc n) ss
 waiting_fewer used m n (slots.Resource part ∷ ss) = waiting_fewer used m (suc n) ss
 waiting_fewer used m n (slots.Function f ∷ ss) = waiting_fewer used m (suc n) ss
-waiting_fewer used m n (slots.Instance b around ∷ ss) =
-    let rest = waiting_fewer used m (suc n) ss in
-    let same = ap (λ u. cond u 0 b.count) (any_more used m n) in
-    let less = fewer (list_any (λ k. k == n) used) (m == n) b.count in
-    omega (arith, rest, same, less)
+waiting_fewer used m n (slots.Instance b around ∷ ss) = search (std_rules, any_more, fewer, waiting_fewer used m (suc n) ss)
 
 -- what is used waits no more
 pub waiting_used : (used : List ℕ) (k n : ℕ) (ss : List Slot) (s : Slot) → slice_get ss k ≡ Some s → list_any (λ m. m == n + k) used ≡ false

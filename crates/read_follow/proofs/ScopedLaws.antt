@@ -1,5 +1,5 @@
 -- The scopes of types: a type is over names of its scope's place and of places with a path.
-use Rattle.std.proofs.Common.{◌≡◌, sym, ap, ◌∙◌, subst, ℕ, ◌+◌, ◌<◌, List, [], ◌∷◌, ◌++◌, map, length, Option, Some, None, slice_get}
+use Rattle.std.proofs.Common.{rules as std_rules, ◌≡◌, sym, ap, ◌∙◌, subst, ℕ, ◌+◌, ◌<◌, List, [], ◌∷◌, ◌++◌, map, length, Option, Some, None, slice_get}
 use Rattle.std.proofs.lemmas.List.{append-nil}
 use Rattle.std.specs.List.{AllByRecursion, Contains, flat_map}
 use Rattle.wit_model.specs.{Meaning.Signature, Text.Text, Tree.Place, Tree.Tree}
@@ -18,9 +18,7 @@ use Rattle.read_follow.specs.declared.slots.Slot.TheVariants as slots
 -- ---- slots
 
 name_part_over : (P : Place → Type 0) (t : Tree) → IsName t → SlotOver P (resource_slot t) → TreeOver P t
-name_part_over P (Tree.primitive p) h over = absurd h
-name_part_over P (Tree.named place name) h over = name_over P place name over
-name_part_over P (Tree.node form ts) h over = absurd h
+name_part_over x y h over = search std_rules
 
 -- the parts of slots are over what the slots are over
 pub parts_over : (P : Place → Type 0) (T : List Tree) (F : List Signature) (ss : List Slot) → AreNames T ss → AllByRecursion (SlotOver P) (slots_in T F ss)

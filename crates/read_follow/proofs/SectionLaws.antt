@@ -1,5 +1,5 @@
 -- Sections in front of bytes, and those behind them.
-use Rattle.std.proofs.Common.{◌≡◌, refl, sym, ap, ◌∙◌, ℕ, ◌<◌, ◌≤◌, ◌^◌, arith, Bool, true, false, ◌&&◌, cond, ltb, nat_eq, List, [], ◌∷◌, ◌++◌, length, map, take, drop, Option, Some, None, append_assoc, append-nil}
+use Rattle.std.proofs.Common.{rules as std_rules, ◌≡◌, refl, sym, ap, ◌∙◌, ℕ, ◌<◌, ◌≤◌, ◌^◌, arith, Bool, true, false, ◌&&◌, cond, ltb, nat_eq, List, [], ◌∷◌, ◌++◌, length, map, take, drop, Option, Some, None, append_assoc, append-nil}
 use Rattle.std.proofs.lemmas.{Bool.ne_eqb, Bool.eq-eqb, Bool.lt-ltb, Bool.ltb-true, Bool.false_from_ne_true, List.map-append, Cmp.nat_list_eq_equiv}
 use Rattle.std.specs.List.{starts_with}
 use Rattle.wit_model.specs.declared.error.Error.{Error}
@@ -14,13 +14,11 @@ use Rattle.read_follow.specs.declared.refusal.Refusal.TheVariants as refusals
 -- ---- the frame in front
 
 pub frame_refused : (bytes : List ℕ) (e : Error) (left : ℕ) → frame_at bytes ≡ None → Refuses (refusal_from e left) (frame_at bytes)
-frame_refused bytes (errors.NoReading cause offset) left none = none
-frame_refused bytes _ left none = tt
+frame_refused bytes x left none = search std_rules
 
 -- it is refused because of the bytes
 pub front_refused : (e : Error) → RefusesFront e → IsNoReading e
-front_refused (errors.NoReading cause offset) r = tt
-front_refused _ r = absurd r
+front_refused x r = search std_rules
 
 -- ---- the name of a custom section
 
@@ -38,10 +36,7 @@ custom_refused contents left _ r = absurd r
 -- ---- refusals
 
 pub alike : {A : Type 0} (e other : Refusal) (found : Option A) → AreAlike e other → Refuses e found → Refuses other found
-alike refusals.Memory refusals.Memory found a r = tt
-alike (refusals.Absent cause left) (refusals.Absent why more) found a r = r
-alike refusals.Memory (refusals.Absent why more) found a r = absurd a
-alike (refusals.Absent cause left) refusals.Memory found a r = absurd a
+alike x y found a r = search std_rules
 
 -- ---- one section, and those behind it
 
@@ -52,34 +47,22 @@ with_pieces front found = found >>= λ ps. Some (front ++ ps)
 module _ (bytes : List ℕ) (filled : length bytes ≡ 0 → ⊥) where
   framed : (o : Option ((ℕ × List ℕ) × List ℕ)) → (o >>= λ frame. piece_of frame.0.0 frame.0.1 >>= λ first. pieces_in frame.1 >>= λ others. Some (first ∷ others))
       ≡ ((o >>= λ frame. piece_of frame.0.0 frame.0.1 >>= λ p. let q : Piece × List ℕ = (p, frame.1) in Some q) >>= λ p. with_pieces (p.0 ∷ []) (pieces_in p.1))
-  framed None = refl
-  framed (Some frame) = inner (piece_of frame.0.0 frame.0.1)
-    where
-      inner : (o : Option Piece)
-          → (o >>= λ first. pieces_in frame.1 >>= λ others. Some (first ∷ others)) ≡ ((o >>= λ p. let q : Piece × List ℕ = (p, frame.1) in Some q) >>= λ p. with_pieces (p.0 ∷ []) (pieces_in p.1))
-      inner None = refl
-      inner (Some p) = refl
+  framed x = search std_rules
 
   pub pieces_front : (o : Option (Piece × List ℕ)) → piece_at bytes ≡ o → pieces_in bytes ≡ (o >>= λ p. with_pieces (p.0 ∷ []) (pieces_in p.1))
   unfolding piece_at
-  pieces_front o e = pieces_by_frames bytes
-      ∙ (ap (λ b. cond b (Some []) (frame_at bytes >>= λ frame. piece_of frame.0.0 frame.0.1 >>= λ first. pieces_in frame.1 >>= λ others. Some (first ∷ others))) (ne_eqb (length bytes) 0 filled)
-      ∙ (framed (frame_at bytes) ∙ ap (λ q. q >>= λ p. with_pieces (p.0 ∷ []) (pieces_in p.1)) e))
+  pieces_front o e = search (std_rules, pieces_by_frames, ne_eqb, framed)
 
 pub no_pieces : (bytes : List ℕ) → length bytes ≡ 0 → pieces_in bytes ≡ Some []
-no_pieces bytes e = pieces_by_frames bytes ∙ ap (λ b. cond b (Some []) (frame_at bytes >>= λ frame. piece_of frame.0.0 frame.0.1 >>= λ first. pieces_in frame.1 >>= λ others. Some (first ∷ others)))
-    (eq-eqb (length bytes) 0 e)
+no_pieces bytes e = search (std_rules, pieces_by_frames, eq-eqb)
 
 further : (front : List Piece) (p : Piece) (found : Option (List Piece)) → with_pieces front (with_pieces (p ∷ []) found) ≡ with_pieces (front ++ p ∷ []) found
-further front p None = refl
-further front p (Some ps) = ap Some (sym (append_assoc front (p ∷ []) ps))
+further front p x = search (std_rules, append_assoc)
 
 -- one more section has been read
 pub piece_read : {X : Type 0} (raw : X → Piece) (items new : List X) (x : X) (bytes rest after : List ℕ) → (length rest ≡ 0 → ⊥) → with_pieces (map raw items) (pieces_in rest) ≡ pieces_in bytes
     → piece_at rest ≡ Some (raw x, after) → new ≡ items ++ x ∷ [] → with_pieces (map raw new) (pieces_in after) ≡ pieces_in bytes
-piece_read raw items new x bytes rest after filled kept e grown =
-    ap (λ ps. with_pieces ps (pieces_in after)) (ap (map raw) grown ∙ map-append raw items (x ∷ []))
-    ∙ (sym (further (map raw items) (raw x) (pieces_in after)) ∙ (ap (with_pieces (map raw items)) (sym (pieces_front rest filled (Some (raw x, after)) e)) ∙ kept))
+piece_read raw items new x bytes rest after filled kept e grown = search (std_rules, map-append, further, pieces_front)
 
 pub piece_absent : (front : List Piece) (bytes rest : List ℕ) → (length rest ≡ 0 → ⊥) → with_pieces front (pieces_in rest) ≡ pieces_in bytes → piece_at rest ≡ None → pieces_in bytes ≡ None
 piece_absent front bytes rest filled kept e = sym kept ∙ ap (with_pieces front) (pieces_front rest filled None e)
@@ -93,9 +76,7 @@ module _ (bytes : List ℕ) where
   -- the sections behind the preamble, where the tests have these outcomes
   tested : (a b : Bool) → starts_with nat_eq bytes preamble ≡ a → ltb (length bytes) (2 ^ 32) ≡ b → levels_of bytes ≡ cond (a && b) (pieces_in (drop 8 bytes)) None
   unfolding levels_of
-  tested a b begins short =
-      ap (λ t. cond (t && ltb (length bytes) (2 ^ 32)) (pieces_in (drop 8 bytes)) None) (nat_list_eq_equiv.symm (take 8 bytes) preamble ∙ begins)
-      ∙ ap (λ t. cond (a && t) (pieces_in (drop 8 bytes)) None) short
+  tested a b begins short = search std_rules
 
   pub other_preamble : starts_with nat_eq bytes preamble ≡ false → levels_of bytes ≡ None
   other_preamble begins = tested false _ begins refl

@@ -1,5 +1,5 @@
 -- What imports, exports and aliases of a component type show.
-use Rattle.std.proofs.Common.{◌≡◌, ◌⊎◌, inl, inr, refl, sym, ap, ◌∙◌, subst, ℕ, ◌+◌, ◌<◌, ◌≤◌, arith, Bool, true, false, cond, List, [], ◌∷◌, ◌++◌, map, length, Option, Some, None, IfSome, slice_get, unwrap_or, Result, Ok, Err, OnOk}
+use Rattle.std.proofs.Common.{rules as std_rules, ◌≡◌, ◌⊎◌, inl, inr, refl, sym, ap, ◌∙◌, subst, ℕ, ◌+◌, ◌<◌, ◌≤◌, arith, Bool, true, false, cond, List, [], ◌∷◌, ◌++◌, map, length, Option, Some, None, IfSome, slice_get, unwrap_or, Result, Ok, Err, OnOk}
 use Rattle.std.proofs.{Math.ListN.length-map, lemmas.Bool.cases_lt, lemmas.List.append-nil, lemmas.Option.slice_get_within as found_below}
 use Rattle.std.specs.List.{AllByRecursion}
 use Rattle.wit_model.specs.{Meaning.Signature, Text.Text, Tree.Place, Tree.Tree}
@@ -30,8 +30,7 @@ use Rattle.read_follow.specs.declared.slots.Slot.TheVariants as slots
 -- ---- results
 
 pub on_both : {A : Type 0} (P Q R : Type 0) (r : Result A Refusal) → OnOk r P → OnOk r Q → (P → Q → R) → OnOk r R
-on_both P Q R (Ok x) p q f = f p q
-on_both P Q R (Err e) p q f = p
+on_both x y z u p q f = search std_rules
 
 -- ---- imports or exports
 
@@ -42,34 +41,21 @@ abbrev pub added_exports : Bool → List Seen → Seen → List Seen
 added_exports b xs s = cond b xs (xs ++ s ∷ [])
 
 pub imports_are : (b : Bool) (xs : List Seen) (s : Seen) → added_imports b xs s ≡ xs ++ imported b s
-imports_are true xs s = refl
-imports_are false xs s = sym (append-nil xs)
+imports_are x xs s = search std_rules
 
 pub exports_are : (b : Bool) (xs : List Seen) (s : Seen) → added_exports b xs s ≡ xs ++ exported b s
-exports_are true xs s = sym (append-nil xs)
-exports_are false xs s = refl
-
-imported_map : {X Y : Type 0} (f : X → Y) (b : Bool) (x : X) → map f (imported b x) ≡ imported b (f x)
-imported_map f true x = refl
-imported_map f false x = refl
-
-exported_map : {X Y : Type 0} (f : X → Y) (b : Bool) (x : X) → map f (exported b x) ≡ exported b (f x)
-exported_map f true x = refl
-exported_map f false x = refl
+exports_are x xs s = search std_rules
 
 pub all_imported : {X : Type 0} (P : X → Type 0) (b : Bool) (x : X) → P x → AllByRecursion P (imported b x)
-all_imported P true x h = (h, tt)
-all_imported P false x h = tt
+all_imported x y z h = search std_rules
 
 pub all_exported : {X : Type 0} (P : X → Type 0) (b : Bool) (x : X) → P x → AllByRecursion P (exported b x)
-all_exported P true x h = tt
-all_exported P false x h = (h, tt)
+all_exported x y z h = search std_rules
 
 -- what is seen stands where it is imported or exported
 pub seen_plus : (b : Bool) (f : Seen → MeantSeen) (m : MeantScope) (ss : List Meant) (is : List MeantInstance) (us : List ℕ) (s : Seen) (meant : MeantSeen) → f s ≡ meant
     → plus m ss is (imported b meant) (exported b meant) us ≡ plus m ss is (map f (imported b s)) (map f (exported b s)) us
-seen_plus b f m ss is us s meant e =
-    (λ i. plus m ss is (imported b (sym e i)) (exported b (sym e i)) us) ∙ (λ i. plus m ss is (sym (imported_map f b s) i) (sym (exported_map f b s) i) us)
+seen_plus b f m ss is us s meant e = search std_rules
 
 -- ---- functions
 

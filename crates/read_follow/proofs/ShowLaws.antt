@@ -1,5 +1,5 @@
 -- What the exports of an instance type show.
-use Rattle.std.proofs.Common.{◌≡◌, refl, sym, ap, ◌∙◌, subst, ℕ, ◌+◌, ◌<◌, ◌≤◌, arith, Bool, true, false, List, [], ◌∷◌, ◌++◌, map, length, Option, Some, None, IfSome, slice_get, unwrap_or}
+use Rattle.std.proofs.Common.{rules as std_rules, ◌≡◌, refl, sym, ap, ◌∙◌, subst, ℕ, ◌+◌, ◌<◌, ◌≤◌, arith, Bool, true, false, List, [], ◌∷◌, ◌++◌, map, length, Option, Some, None, IfSome, slice_get, unwrap_or}
 use Rattle.std.proofs.lemmas.{List.map-append, Option.slice_get_within as found_below}
 use Rattle.std.specs.List.{AllByRecursion}
 use Rattle.wit_model.specs.{Meaning.FunctionMeaning, Meaning.Signature, Text.Text, Tree.Place, Tree.Tree}
@@ -31,9 +31,7 @@ abbrev pub by_slot : Place → Text → Option Meant → Option (tree.Declaratio
 by_slot place name o = o >>= λ slot. follow.declared_by slot >>= λ d. Some (d, follow.named_like slot place name)
 
 named_by_resource : (place : Place) (name : Text) (t : Tree) → IsName t → by_slot place name (Some (resource_slot t)) ≡ Some (tree.Declaration.type_ t, follow.resource place name)
-named_by_resource place name (Tree.primitive p) h = absurd h
-named_by_resource place name (Tree.named q x) h = refl
-named_by_resource place name (Tree.node f ts) h = absurd h
+named_by_resource place name x h = search std_rules
 
 module _ (ss : List Slot) (n : ℕ) (T : List Tree) (F : List Signature) (place : Place) (name : Text) where
   pub equal_to_value : (part : ℕ) → slice_get ss n ≡ Some (slots.Value part)
@@ -227,10 +225,8 @@ module _ (marks : List Bool) (old : State) (st : IsState (length marks) old) (na
 -- an export that is no function shows a type
 shows_type : (kind : ComponentTypeRef) → ((n : ℕ) → kind ≡ refs.Func n → ⊥) → (place : Place) (name : RawName) (scope : MeantScope)
     → follow.show place name kind scope ≡ show_type place name kind scope
-shows_type (refs.Func n) other place name scope = absurd (other n refl)
-shows_type _ other place name scope = refl
+shows_type x other place name scope = search std_rules
 
 pub as_type : (kind other : ComponentTypeRef) → ((n : ℕ) → kind ≡ refs.Func n → ⊥) → kind ≡ other → (place : Place) (name : RawName) (scope : MeantScope) → follow.is_simple name ≡ true
     → follow.when (follow.is_simple name) (follow.show place name kind scope) ≡ show_type place name other scope
-as_type kind other no_function is place name scope simple =
-    ap (λ b. follow.when b (follow.show place name kind scope)) simple ∙ (shows_type kind no_function place name scope ∙ ap (λ k. show_type place name k scope) is)
+as_type kind other no_function is place name scope simple = search std_rules

@@ -1,5 +1,5 @@
 -- What is behind a form that is read to find its end.
-use Rattle.std.proofs.Common.{◌≡◌, refl, sym, ap, ◌∙◌, ℕ, suc, ◌+◌, ◌-◌, ◌<◌, ◌≤◌, arith, Bool, true, false, cond, eqb-true, List, [], ◌∷◌, Option, Some, None, ◌==◌}
+use Rattle.std.proofs.Common.{rules as std_rules, ◌≡◌, refl, sym, ap, ◌∙◌, ℕ, suc, ◌+◌, ◌-◌, ◌<◌, ◌≤◌, arith, Bool, true, false, cond, eqb-true, List, [], ◌∷◌, Option, Some, None, ◌==◌}
 use Rattle.comp_bytes.specs.FirstByte.{declared_type_at, defined_type_at, function_type_at}
 use Rattle.comp_bytes.specs.Raw.{Declaration, DefinedType, ExternName}
 use Rattle.comp_bytes.specs.Reading.{Reader, ◌>>=◌, as_at, case_at, choose, declaration_at, description_at, extern_name_at, field_at, function_of, name_at, pair_at, plain_name, result_list_at, sequence_at, tagged_at, u32_at, value_type_at, vector_at}
@@ -9,15 +9,13 @@ use Rattle.read_follow.proofs.{BodyLaws.found_before, BodyLaws.none_found, Decla
 
 -- a form under another name has the same bytes behind it
 pub behind_as : {A B : Type 0} (f : A → B) (o : Option (A × List ℕ)) → behind (o >>= λ x. Some (f x.0, x.1)) ≡ behind o
-behind_as f None = refl
-behind_as f (Some x) = refl
+behind_as f x = search std_rules
 
 -- ---- items, one behind the other
 
 module _ {A : Type 0} (reader : Reader A) (n i : ℕ) (bytes rest : List ℕ) (kept : behind (sequence_at reader (n - i) rest) ≡ behind (sequence_at reader n bytes)) where
   front_dropped : (x : A) (found : Option (List A × List ℕ)) → behind (found >>= λ xs. Some (x ∷ xs.0, xs.1)) ≡ behind found
-  front_dropped x None = refl
-  front_dropped x (Some xs) = refl
+  front_dropped x y = search std_rules
 
   one_left : (k : ℕ) (found : Option (A × List ℕ)) → reader rest ≡ found → sequence_at reader (suc k) rest ≡ (found >>= λ y. sequence_at reader k y.1 >>= λ ys. Some (y.0 ∷ ys.0, ys.1))
   unfolding sequence_at
@@ -54,12 +52,10 @@ abbrev next_of : {A B : Type 0} → Reader B → A × List ℕ → Option ((A ×
 next_of second x = second x.1 >>= λ y. Some (paired x.0 y)
 
 one_behind : {A B C : Type 0} (f : A × B → C) (x : A) (o : Option (B × List ℕ)) → behind ((o >>= λ y. Some (paired x y)) >>= λ p. Some (f p.0, p.1)) ≡ behind o
-one_behind f x None = refl
-one_behind f x (Some y) = refl
+one_behind f x y = search std_rules
 
 both_behind : {A B C : Type 0} (f : A × B → C) (second : Reader B) (o : Option (A × List ℕ)) → behind ((o >>= next_of second) >>= λ p. Some (f p.0, p.1)) ≡ (behind o >>= λ rest. behind (second rest))
-both_behind f second None = refl
-both_behind f second (Some x) = one_behind f x.0 (second x.1)
+both_behind f second y = search std_rules
 
 -- ---- fields, and imports and exports
 
@@ -127,21 +123,12 @@ abbrev held : Option (Declaration × List ℕ) → Option (Declaration × List �
 held o = o >>= λ d. cond (is_import d.0) None (Some d)
 
 held_as : {A : Type 0} (f : A → Declaration) → ((x : A) → is_import (f x) ≡ false) → (o : Option (A × List ℕ)) → held (o >>= λ x. Some (f x.0, x.1)) ≡ (o >>= λ x. Some (f x.0, x.1))
-held_as f none None = refl
-held_as f none (Some x) = ap (λ b. cond b None (Some (f x.0, x.1))) (none x.0)
-
-held_either : (b : Bool) (o p : Option (Declaration × List ℕ)) → held o ≡ o → held p ≡ p → held (cond b o p) ≡ cond b o p
-held_either true o p e f = e
-held_either false o p e f = f
+held_as f none y = search std_rules
 
 -- a declared type is no import
 held_type : (bytes : List ℕ) → held (type_by_first bytes) ≡ type_by_first bytes
 unfolding type_by_first declared_type_at as_at
-held_type [] = refl
-held_type (tag ∷ bytes) =
-    held_either (tag == 0x40) (as_at Declaration.function (function_type_at false) bytes) _ (held_as Declaration.function (λ f. refl) (function_type_at false bytes))
-    (held_either (tag == 0x43) (as_at Declaration.function (function_type_at true) bytes) _ (held_as Declaration.function (λ f. refl) (function_type_at true bytes))
-    (held_as Declaration.defined (λ d. refl) (defined_type_at tag bytes)))
+held_type x = search std_rules
 
 type_declared : (rest : List ℕ) → declaration_at (1 ∷ rest) ≡ type_by_first rest
 unfolding declaration_by_first
@@ -191,8 +178,7 @@ module _ (bytes rest : List ℕ) (tag : ℕ) (front : bytes ≡ tag ∷ rest) wh
 
   pub held_export_skipped : tag ≡ 4 → behind (held_declaration_at bytes) ≡ behind (pair_at extern_name_at description_at rest)
   unfolding held_declaration_at as_at
-  held_export_skipped is =
-      ap behind (ap held (ap declaration_at (front_is 4 is) ∙ export_declared rest) ∙ held_as exported (λ p. refl) (seen_at rest)) ∙ behind_as exported (seen_at rest)
+  held_export_skipped is = search (std_rules, front_is, export_declared, held_as, behind_as)
 
   -- ---- declared types, by their first byte
 
@@ -205,17 +191,8 @@ module _ (bytes rest : List ℕ) (tag : ℕ) (front : bytes ≡ tag ∷ rest) wh
   async_declared is = ap (λ text. behind (type_by_first text)) (front_is 0x43 is) ∙ behind_as Declaration.function (function_type_at true rest)
 
   unlike : (k : ℕ) → (tag ≡ k → ⊥) → (tag == k) ≡ false
-  unlike k h = by (tag == k) refl
-    where
-      by : (b : Bool) → (tag == k) ≡ b → b ≡ false
-      by true e = absurd (h (eqb-true tag k e))
-      by false e = refl
+  unlike k h = search std_rules
 
   pub value_declared : (tag ≡ 0x40 → ⊥) → (tag ≡ 0x43 → ⊥) → behind (type_by_first bytes) ≡ behind (defined_type_at tag rest)
   unfolding type_by_first declared_type_at as_at
-  value_declared e f =
-      ap (λ text. behind (type_by_first text)) front
-      ∙ (ap (λ b. behind (cond b (as_at Declaration.function (function_type_at false) rest)
-      (cond (tag == 0x43) (as_at Declaration.function (function_type_at true) rest) (as_at Declaration.defined (defined_type_at tag) rest)))) (unlike 0x40 e)
-      ∙ (ap (λ b. behind (cond b (as_at Declaration.function (function_type_at true) rest) (as_at Declaration.defined (defined_type_at tag) rest))) (unlike 0x43 f)
-      ∙ behind_as Declaration.defined (defined_type_at tag rest)))
+  value_declared e f = search std_rules

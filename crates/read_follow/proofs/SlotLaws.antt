@@ -1,5 +1,5 @@
 -- What the slots of a scope stand for, by number.
-use Rattle.std.proofs.Common.{◌≡◌, refl, ap, ◌∙◌, ℕ, zero, suc, ◌<◌, ◌+◌, arith, List, [], ◌∷◌, map, Some, None, slice_get}
+use Rattle.std.proofs.Common.{rules as std_rules, ◌≡◌, refl, ap, ◌∙◌, ℕ, zero, suc, ◌<◌, ◌+◌, arith, List, [], ◌∷◌, map, Some, None, slice_get}
 use Rattle.wit_model.specs.{Meaning.Signature, Tree.Tree}
 use Rattle.comp_bytes.specs.declared.forms.PrimitiveValType.{PrimitiveValType}
 use Rattle.comp_meaning.specs.Follow.{function_in, value_type, value_in, resource_in, primitive_of_type}
@@ -13,12 +13,10 @@ use Rattle.read_follow.specs.declared.slots.Slot.TheVariants as slots
 
 pub primitive_part : (T : List Tree) (p : PrimitiveValType) → Tree.primitive (primitive_of_type p) ≡ part_tree T (primitive_index p)
 unfolding part_tree
-primitive_part T primitives.Bool = refl
-primitive_part T _ = refl
+primitive_part x y = search std_rules
 
 pub primitive_small : (p : PrimitiveValType) (n : ℕ) → primitive_index p < 14 + n
-primitive_small primitives.Bool n = omega arith
-primitive_small _ n = omega arith
+primitive_small x n = search std_rules
 
 pub mapped_none : {A B : Type 0} (f : A → B) (xs : List A) (n : ℕ) → slice_get xs n ≡ None → slice_get (map f xs) n ≡ None
 mapped_none f [] n e = refl
@@ -26,22 +24,16 @@ mapped_none f (y ∷ ys) zero e = absurd cc
 mapped_none f (y ∷ ys) (suc n) e = mapped_none f ys n e
 
 no_value : (t : Tree) → value_in (Some (resource_slot t)) ≡ None
-no_value (Tree.primitive p) = refl
-no_value _ = refl
+no_value x = search std_rules
 
 named_resource : (t : Tree) → IsName t → resource_in (Some (resource_slot t)) ≡ Some t
-named_resource (Tree.primitive p) h = absurd h
-named_resource (Tree.named place name) h = refl
-named_resource (Tree.node f ts) h = absurd h
+named_resource x h = search std_rules
 
 -- a resource of the slots is a name
 pub name_at : (T : List Tree) (ss : List Slot) (n part : ℕ) → slice_get ss n ≡ Some (slots.Resource part) → AreNames T ss → IsName (part_tree T part)
 name_at T [] n part e h = absurd cc
 name_at T (slots.Value p ∷ ss) zero part e h = absurd cc
-name_at T (slots.Resource p ∷ ss) zero part e h =
-    let same : slots.Resource p ≡ slots.Resource part = cc in
-    let is : p ≡ part = cc in
-    rw (← is) h.0
+name_at T (slots.Resource p ∷ ss) zero part e h = search std_rules
 name_at T (slots.Function m ∷ ss) zero part e h = absurd cc
 name_at T (slots.Instance b m ∷ ss) zero part e h = absurd cc
 name_at T (slots.Value p ∷ ss) (suc n) part e h = name_at T ss n part e h
@@ -50,8 +42,7 @@ name_at T (slots.Function m ∷ ss) (suc n) part e h = name_at T ss n part e h
 name_at T (slots.Instance b m ∷ ss) (suc n) part e h = name_at T ss n part e h
 
 pub no_function : (t : Tree) → function_in (Some (resource_slot t)) ≡ None
-no_function (Tree.primitive p) = refl
-no_function _ = refl
+no_function x = search std_rules
 
 module _ (ss : List Slot) (n : ℕ) (T : List Tree) (F : List Signature) where
   -- what the slot of an index stands for

@@ -1,5 +1,5 @@
 -- One declaration of an instance type after the other.
-use Rattle.std.proofs.Common.{◌≡◌, refl, sym, ap, ◌∙◌, subst, ℕ, ◌+◌, ◌-◌, ◌<◌, arith, inl, inr, Bool, true, false, cond, List, length, Option, Some, None, slice_get, unwrap_or, suc, ◌≤◌, ◌&&◌, ◌==◌, [], ◌∷◌, ◌++◌, append_assoc}
+use Rattle.std.proofs.Common.{rules as std_rules, ◌≡◌, refl, sym, ap, ◌∙◌, subst, ℕ, ◌+◌, ◌-◌, ◌<◌, arith, inl, inr, Bool, true, false, cond, List, length, Option, Some, None, slice_get, unwrap_or, suc, ◌≤◌, ◌&&◌, ◌==◌, [], ◌∷◌, ◌++◌, append_assoc}
 use Rattle.std.proofs.lemmas.Bool.{lt-ltb, le-ltb, false≢true}
 use Rattle.std.proofs.lemmas.Option.{none-some as not_some, same_Some as some_same, slice_get_within as found_below}
 use Rattle.wit_model.specs.{Meaning.Signature, Text.Text, Tree.Place, Tree.Tree, Types.no_tree}
@@ -33,12 +33,10 @@ place_behind : (shapes : List Shape) (n : ℕ) → place_in shapes (14 + n) ≡ 
 place_behind shapes n = ap (λ b. cond b None (name_place (slice_get shapes (14 + n - 14)))) (le-ltb (14 + n) 14 (omega arith)) ∙ ap (λ m. name_place (slice_get shapes m)) (omega arith)
 
 value_path : (place : Place) (x : Text) → is_foreign_name (follow.value (Tree.named place x)) ≡ is_path place
-value_path (Place.of_interface path) x = refl
-value_path Place.here x = refl
+value_path x y = search std_rules
 
 resource_path : (place : Place) (x : Text) → is_foreign_name (follow.resource place x) ≡ is_path place
-resource_path (Place.of_interface path) x = refl
-resource_path Place.here x = refl
+resource_path x y = search std_rules
 
 module _ (marks : List Bool) (place : ℕ → Place) (marked : AreMarked marks place) where
   mark_of : (p : ℕ) → p < length marks → is_marked marks (Some p) ≡ is_path (place p)
@@ -93,8 +91,7 @@ module _ (marks : List Bool) (place : ℕ → Place) (marked : AreMarked marks p
 -- ---- a slot that is marked is over a place that is
 
 marked_true : (o : Option Bool) → unwrap_or o false ≡ true → o ≡ Some true
-marked_true None e = absurd (false≢true e)
-marked_true (Some b) e = ap Some e
+marked_true x e = search std_rules
 
 module _ (marks : List Bool) (here : ℕ) (shapes : List Shape) (table : IsTable shapes) where
   abbrev U : List Tree
@@ -104,11 +101,7 @@ module _ (marks : List Bool) (here : ℕ) (shapes : List Shape) (table : IsTable
   place_met p e q same = let one : p ≡ q = cc in inr (subst (λ n. slice_get marks n ≡ Some true) one (marked_true (slice_get marks p) e))
 
   shape_over : (n : ℕ) (s : Shape) → IsShape n s → is_marked marks (name_place (Some s)) ≡ true → TreeOver (MayMeet marks here) (shape_tree apart U s)
-  shape_over n s (a_name p x is) e =
-      subst (λ t. TreeOver (MayMeet marks here) t) (sym (ap (shape_tree apart U) is ∙ name_tree apart U p x))
-      (name_over (MayMeet marks here) (apart p) x (place_met p (ap (λ (t : Shape). is_marked marks (name_place (Some t))) (sym is) ∙ e)))
-  shape_over n s (a_node f ks is below) e =
-      absurd (false≢true (sym (ap (λ (t : Shape). is_marked marks (name_place (Some t))) is ∙ ap (λ b. is_marked marks (cond b (Some (form_code f).number) None)) (no_sort f)) ∙ e))
+  shape_over n s y e = search (std_rules, name_tree, name_over, place_met, false≢true, no_sort)
 
   value_met : (k : ℕ) → k < 14 + length shapes → foreign_part marks shapes k ≡ true → TreeOver (MayMeet marks here) (part_tree U k)
   value_met k h e = elim (split_part k) [
@@ -128,18 +121,14 @@ module _ (marks : List Bool) (here : ℕ) (shapes : List Shape) (table : IsTable
       (sym (ap (foreign_part marks shapes) named.is ∙ (ap (is_marked marks) (place_behind shapes named.number) ∙ ap (λ o. is_marked marks (name_place o)) named.at)) ∙ e))
 
   pub foreign_over : (fs : List FunctionShape) (F : List Signature) (s : Slot) → IsSlotIn shapes fs s → foreign_slot marks shapes s ≡ true → SlotOver (MayMeet marks here) (slot_in U F s)
-  foreign_over fs F (slots.Value k) h e = value_met k h e
-  foreign_over fs F (slots.Resource k) h e = resource_met k h e
-  foreign_over fs F (slots.Function n) h e = absurd (false≢true e)
-  foreign_over fs F (slots.Instance b n) h e = absurd (false≢true e)
+  foreign_over fs x y h e = search (std_rules, value_met, resource_met, false≢true)
 
 -- ---- what the page is for
 
 -- ---- aliases
 
 pub guarded : {A B : Type 0} (b : Bool) (x : A) (g : A → B) → provided b (g x) ≡ (provided b x >>= λ y. Some (g y))
-guarded true x g = refl
-guarded false x g = refl
+guarded x y g = search std_rules
 
 module _ (marks : List Bool) (old : State) (st : IsState (length marks) old) (here : ℕ) (outer : List Slot) (inside : AreSlotsIn old.shapes old.signatures outer) where
   alias_meant : (place : ℕ → Place) → AreMarked marks place → (a : Alias) (scope : MeantScope)
@@ -163,18 +152,7 @@ module _ (marks : List Bool) (old : State) (st : IsState (length marks) old) (he
           ∙ guarded (scopes == 1 && foreign_slot marks old.shapes s) s (λ x. in_instance (slot_in T (functions_in T old.signatures) x) scope))
 
   taken_in : (a : Alias) (s : Slot) → taken_by marks old.shapes outer a ≡ Some s → AreSlotsIn old.shapes old.signatures (s ∷ [])
-  taken_in (Alias.of_export m name) s e = absurd cc
-  taken_in (Alias.of_outer scopes n) s e = by (slice_get outer n) refl e
-    where
-      kept : (b : Bool) (x : Slot) → provided b x ≡ Some s → x ≡ s
-      kept true x h = cc
-      kept false x h = absurd cc
-
-      by : (o : Option Slot) → slice_get outer n ≡ o → (o >>= λ x. provided (scopes == 1 && foreign_slot marks old.shapes x) x) ≡ Some s → AreSlotsIn old.shapes old.signatures (s ∷ [])
-      by None at h = absurd cc
-      by (Some x) at h =
-          let same = kept (scopes == 1 && foreign_slot marks old.shapes x) x h in
-          subst (λ (y : Slot). AreSlotsIn old.shapes old.signatures (y ∷ [])) same (all_at (IsSlotIn old.shapes old.signatures) outer n x inside at, tt)
+  taken_in z s e = search (std_rules, all_at)
 
   -- and it is over a place that is marked
   taken_over : (a : Alias) (s : Slot) → taken_by marks old.shapes outer a ≡ Some s → SlotOver (MayMeet marks here) (slot_in (trees_at apart old) (signatures_at apart old) s)
@@ -236,11 +214,7 @@ after_first reader k o = o >>= λ x. headed x.0 (sequence_at reader k x.1)
 
 pub headed_is : {A : Type 0} (xs : List A) (x : A) (o : Option (List A × List ℕ)) → headed x o ≡ Some (xs, []) → (ys : List A) × (o ≡ Some (ys, [])) × (xs ≡ x ∷ ys)
 headed_is {A = A} xs x None h = absurd cc
-headed_is {A = A} xs x (Some ys) h =
-    let whole : (x ∷ ys.0, ys.1) ≡ (xs, []) = cc in
-    let none : ys.1 ≡ [] = ap (λ (p : List A × List ℕ). p.1) whole in
-    let same : xs ≡ x ∷ ys.0 = ap (λ (p : List A × List ℕ). p.0) (sym whole) in
-    (ys.0, (λ i. Some (ys.0, none i)), same)
+headed_is {A = A} xs x (Some ys) h = search std_rules
 
 -- the first of those that are left, and those behind it
 pub peeled : {A : Type 0} (reader : Reader A) (k : ℕ) (bytes : List ℕ) (xs : List A) → sequence_at reader (suc k) bytes ≡ Some (xs, [])
@@ -269,10 +243,7 @@ same_view : (marks : List Bool) (before : List Shape) (here : ℕ) (shapes : Lis
     → (gs hs : List ShownFunction) → hs ≡ gs
     → IsPlacedState marks before here (record { shapes = shapes; signatures = fs; slots = ss; types = ts; functions = gs })
     → IsPlacedState marks before here (record { shapes = shapes; signatures = fs; slots = []; types = us; functions = hs })
-same_view marks before here shapes fs ss ts us et gs hs ef p =
-    subst (λ (xs : List ShownType). IsPlacedState marks before here (record { shapes = shapes; signatures = fs; slots = []; types = xs; functions = hs })) (sym et)
-    (subst (λ (xs : List ShownFunction). IsPlacedState marks before here (record { shapes = shapes; signatures = fs; slots = []; types = ts; functions = xs })) (sym ef)
-    (record { grows = p.grows; slots = tt; shown = p.shown; named = p.named; names = p.names; rise = p.rise; formed = p.formed }))
+same_view marks before here shapes fs ss ts us et gs hs ef p = search std_rules
 
 module _ (marks : List Bool) (here : ℕ) (start : State) (tables : AreTables (length marks) start.shapes start.signatures) (outer : List Slot) (inside : AreSlotsIn start.shapes start.signatures outer) (b : Body) where
   pub followed_none : (ss : List Slot) (ts : List ShownType) (fs : List ShownFunction) → ss ≡ [] → ts ≡ [] → fs ≡ [] → IsBody held_declaration_at b
@@ -357,10 +328,7 @@ module _ (marks : List Bool) (here : ℕ) (start : State) (tables : AreTables (l
             (λ none. ap (λ o. o >>= λ scope. Some scope.shown) (steps_on place marked None none p.0 p.2)) (h place marked)
 
   pub followed_all : (i : ℕ) (rest : List ℕ) (now : State) → IsFollowed marks here start outer b i rest now → i ≤ b.count → b.count ≤ i → IsFollowed marks here start outer b b.count [] now
-  followed_all i rest now f le ge =
-      let same : i ≡ b.count = omega (arith, le, ge) in
-      let none = none_left held_declaration_at (b.count - i) rest f.ds (omega (arith, ge)) f.left in
-      subst (λ (n : ℕ). IsFollowed marks here start outer b n [] now) same (subst (λ (bytes : List ℕ). IsFollowed marks here start outer b i bytes now) none.1 f)
+  followed_all i rest now f le ge = search (std_rules, none_left)
 
   pub viewed : (shapes : List Shape) (fs : List FunctionShape) (scope : InstanceScope) (v : View) → v.types.items ≡ scope.types.items → v.functions.items ≡ scope.functions.items
       → IsFollowed marks here start outer b b.count [] (state_of shapes fs scope) → IsViewOf marks here start outer b v (tables_of shapes fs)

@@ -1,5 +1,5 @@
 -- A table with one type more.
-use Rattle.std.proofs.Common.{◌≡◌, inl, inr, refl, sym, ap, ◌∙◌, subst, ℕ, zero, suc, ◌+◌, ◌<◌, arith, List, [], ◌∷◌, ◌++◌, length, Some, slice_get, unwrap_or, length-append}
+use Rattle.std.proofs.Common.{rules as std_rules, ◌≡◌, inl, inr, refl, sym, ap, ◌∙◌, subst, ℕ, zero, suc, ◌+◌, ◌<◌, arith, List, [], ◌∷◌, ◌++◌, length, Some, slice_get, unwrap_or, length-append}
 use Rattle.wit_model.specs.{Tree.Place, Tree.Tree, Types.grow, Types.no_tree}
 use Rattle.wit_model.proofs.Tables.{grow_keeps}
 use Rattle.plan_meaning.specs.Shapes.{Shape, part_tree, shape_tree, shape_trees, IsShape, IsTable}
@@ -58,18 +58,11 @@ at_last (x ∷ T) t = at_last T t
 
 -- the tree of the last number
 pub part_last : (place : ℕ → Place) (ss : List Shape) (s : Shape) → part_tree (shape_trees place (ss ++ s ∷ [])) (14 + length ss) ≡ shape_tree place (shape_trees place ss) s
-part_last place ss s =
-    let T = shape_trees place ss in
-    ap (λ U. part_tree U (14 + length ss)) (trees_more place ss s)
-    ∙ (part_behind (T ++ shape_tree place T s ∷ []) (length ss)
-    ∙ (ap (λ m. unwrap_or (slice_get (T ++ shape_tree place T s ∷ []) m) no_tree) (sym (trees_length place ss)) ∙ at_last T (shape_tree place T s)))
+part_last place ss s = search (std_rules, trees_more, part_behind, unwrap_or, trees_length, at_last)
 
 -- the trees of the other numbers
 pub parts_stay : (place : ℕ → Place) (ss : List Shape) (s : Shape) (k : ℕ) → k < 14 + length ss → part_tree (shape_trees place (ss ++ s ∷ [])) k ≡ part_tree (shape_trees place ss) k
-parts_stay place ss s k h =
-    let T = shape_trees place ss in
-    let long : length T ≡ length ss = trees_length place ss in
-    ap (λ U. part_tree U k) (trees_more place ss s) ∙ part_kept T (shape_tree place T s ∷ []) k (omega (arith, h, long))
+parts_stay place ss s k h = search (std_rules, trees_length, trees_more, part_kept)
 
 -- ---- its facts
 
@@ -92,12 +85,4 @@ kept_more ss fs s f kept shape fresh one = record {
 }
 
 pub no_types : IsKept [] []
-no_types = record {
-  table = record { each = λ n s e. absurd (nothing_at n s e); apart = λ n m s e f. absurd (nothing_at n s e) };
-  many = refl;
-  hold = λ n f e. absurd (nothing_at n f e);
-}
-  where
-    nothing_at : {X : Type 0} (n : ℕ) (x : X) → slice_get [] n ≡ Some x → ⊥
-    nothing_at zero x e = cc
-    nothing_at (suc n) x e = cc
+no_types = search std_rules

@@ -1,5 +1,5 @@
 -- What instances of a component type show, and what they use.
-use Rattle.std.proofs.Common.{◌≡◌, ◌⊎◌, inl, inr, refl, sym, ap, ◌∙◌, subst, ℕ, zero, suc, ◌+◌, ◌<◌, ◌≤◌, ◌==◌, arith, Bool, true, false, not, ◌||◌, eqb, List, [], ◌∷◌, ◌++◌, map, length, length-append, take, Option, Some, None, slice_get, Result, Ok, Err, IfOk, IfErr}
+use Rattle.std.proofs.Common.{rules as std_rules, ◌≡◌, ◌⊎◌, inl, inr, refl, sym, ap, ◌∙◌, subst, ℕ, zero, suc, ◌+◌, ◌<◌, ◌≤◌, ◌==◌, arith, Bool, true, false, not, ◌||◌, eqb, List, [], ◌∷◌, ◌++◌, map, length, length-append, take, Option, Some, None, slice_get, Result, Ok, Err, IfOk, IfErr}
 use Rattle.std.proofs.Math.ListN.{length-map}
 use Rattle.std.proofs.lemmas.{Bool.cases_lt, Bool.eqb-true, Bool.eq-eqb, List.append-nil, List.take-map, Option.slice_get_within as found_below}
 use Rattle.std.specs.List.{list_any}
@@ -31,21 +31,13 @@ use Rattle.read_follow.specs.declared.slots.Slot.TheVariants as slots
 -- ---- the view of an instance type
 
 if_ok : {A : Type 0} (P Q : A → Type 0) (r : Result A Refusal) → ((x : A) → P x → Q x) → IfOk r P → IfOk r Q
-if_ok P Q (Ok x) f h = f x h
-if_ok P Q (Err e) f h = h
+if_ok y z u f h = search std_rules
 
 when_none : {A : Type 0} (b : Bool) → when {A = A} b None ≡ None
-when_none true = refl
-when_none false = refl
+when_none x = search std_rules
 
 turned : (a b : ℕ) → eqb a b ≡ (b == a)
-turned a b = by (eqb a b) (b == a) refl refl
-  where
-    by : (x y : Bool) → eqb a b ≡ x → (b == a) ≡ y → x ≡ y
-    by true true e f = refl
-    by true false e f = sym (eq-eqb b a (sym (eqb-true a b e))) ∙ f
-    by false true e f = sym e ∙ eq-eqb a b (sym (eqb-true b a f))
-    by false false e f = refl
+turned a b = search std_rules
 
 pub any_turned : (n : ℕ) (xs : List ℕ) → list_any (eqb n) xs ≡ list_any (λ m. m == n) xs
 any_turned n [] = refl
@@ -55,8 +47,7 @@ module _ (marks : List Bool) (here : ℕ) (start : State) (ss : List Slot) (used
   pub used_shown : (b : Body) (around : ℕ) (now : State) (r : Result View Refusal) (outer : List Slot) → outer ≡ take around ss → list_any (λ m. m == n) used ≡ false
       → slice_get ss n ≡ Some (slots.Instance b around)
       → IfOk r (λ v. IsViewOf marks here start outer b v now) → IfOk r (λ v. IsUsedView marks here start ss used n v now)
-  used_shown b around now r outer is unused at h = if_ok (λ v. IsViewOf marks here start outer b v now) (λ v. IsUsedView marks here start ss used n v now) r
-      (λ v view. record { unused = unused; body = b; around = around; slot = at; view = subst (λ (xs : List Slot). IsViewOf marks here start xs b v now) is view }) h
+  used_shown b around now r outer is unused at h = search std_rules
 
   module _ (place : ℕ → Place) where
     abbrev T : List Tree
@@ -121,21 +112,16 @@ module _ (paths : List (Option Text)) (place : ℕ → Place) (of : ArePlacesOf 
   text_at p path at = ap (λ q. Some (path_text q)) (of p (Some path) at) ∙ sym (ap path_of (of p (Some path) at))
 
   interface_is : (key : InstanceKey) → IsKeyIn paths key → interface_of (key_at place key) ≡ path_of (place (place_number key))
-  interface_is (keys.Path p) h = text_at p h.0 h.1
-  interface_is (keys.Label l p) h = sym (ap path_of (of p None h))
-  interface_is (keys.Implementing l p) h = text_at p h.0 h.1
+  interface_is x h = search std_rules
 
   place_back : (q : Place) → follow.place_of (path_of q) ≡ q
-  place_back (Place.of_interface path) = refl
-  place_back Place.here = refl
+  place_back x = search std_rules
 
   place_is : (key : InstanceKey) → IsKeyIn paths key → follow.place_of (interface_of (key_at place key)) ≡ place (place_number key)
   place_is key h = ap follow.place_of (interface_is key h) ∙ place_back (place (place_number key))
 
 key_below : (paths : List (Option Text)) (key : InstanceKey) → IsKeyIn paths key → place_number key < length paths
-key_below paths (keys.Path p) h = found_below paths p (Some h.0) h.1
-key_below paths (keys.Label l p) h = found_below paths p None h
-key_below paths (keys.Implementing l p) h = found_below paths p (Some h.0) h.1
+key_below paths x h = search (std_rules, found_below)
 
 module _ (old : World) (st : IsWorld old) (b : Bool) (name : ExternName) (n : ℕ) (paths : List (Option Text)) (key : InstanceKey) (is_key : IsKeyOf (follow.key_of (raw_name name)) paths key) where
   abbrev under_key : MeantScope → Key → Option MeantView → Option MeantScope
@@ -148,10 +134,7 @@ module _ (old : World) (st : IsWorld old) (b : Bool) (name : ExternName) (n : �
   keyed : (place : ℕ → Place) → ArePlacesOf paths place → see_instance (direction b) (raw_name name) n (meant_at place old) ≡ under_key (meant_at place old) (key_at place key)
       (when (not (list_any (λ i. i == n) old.used)) (used_view (slots_at place (tables_of old.shapes old.signatures) old.slots) (place (place_number key))
       (slice_get (slots_at place (tables_of old.shapes old.signatures) old.slots) n)))
-  keyed place of =
-      ap (λ (o : Option Key). o >>= λ k. under_key (meant_at place old) k (view_asked (meant_at place old) k)) (is_key.is place of)
-      ∙ ap (λ q. under_key (meant_at place old) (key_at place key) (when (not (list_any (λ i. i == n) old.used)) (used_view (meant_at place old).slots q (slice_get (meant_at place old).slots n))))
-      (place_is paths place of key is_key.stands)
+  keyed place of = search (std_rules, place_is paths place of key is_key.stands)
 
   pub instance_stops : (e : Refusal) → HasNoUsedView (map has_path paths) (place_number key) (tables_of old.shapes old.signatures) old.slots old.used n e
       → Stops (see_instance (direction b) (raw_name name) n) old paths e
@@ -163,13 +146,7 @@ module _ (old : World) (st : IsWorld old) (b : Bool) (name : ExternName) (n : �
 
   key_own : IsFreshKey old.paths key → ((path : Text) × (slice_get paths (place_number key) ≡ Some (Some path)))
       ⊎ ((slice_get paths (place_number key) ≡ Some None) × (length old.paths ≤ place_number key))
-  key_own fresh = by key is_key.stands fresh
-    where
-      by : (k : InstanceKey) → IsKeyIn paths k → IsFreshKey old.paths k → ((path : Text) × (slice_get paths (place_number k) ≡ Some (Some path)))
-          ⊎ ((slice_get paths (place_number k) ≡ Some None) × (length old.paths ≤ place_number k))
-      by (keys.Path q) h f = inl h
-      by (keys.Label l q) h f = inr (h, f)
-      by (keys.Implementing l q) h f = inl h
+  key_own fresh = search std_rules
 
   -- what the instance type declares comes into the table
   held_numbered : (gp : Grows old.paths paths) (v : View) (more : List Shape) (more_fs : List FunctionShape)
@@ -198,8 +175,7 @@ module _ (old : World) (st : IsWorld old) (b : Bool) (name : ExternName) (n : �
 
   -- a name that neither an instance nor an import shows
   not_shown : (q : ℕ) (label : Text) (part : ℕ) → ((i : ℕ) (y : Instance) → slice_get old.instances i ≡ Some y → y.place ≡ q → ⊥) → (q ≡ old.home → ⊥) → IsShownBy old q label part → ⊥
-  not_shown q label part none not_home (by_instance i y at is among) = none i y at is
-  not_shown q label part none not_home (by_import i y l d at is named own) = not_home own
+  not_shown q label part none not_home x = search std_rules
 
   -- the instance that is added
   module _ (gp : Grows old.paths paths) (fresh : IsFreshKey old.paths key) (v : View) (more : List Shape) (more_fs : List FunctionShape)

@@ -1,5 +1,5 @@
 -- Value types by their first byte.
-use Rattle.std.proofs.Common.{◌≡◌, refl, sym, ap, ◌∙◌, ℕ, List, [], ◌∷◌, Option, Some, None, option_map, length, arith}
+use Rattle.std.proofs.Common.{rules as std_rules, ◌≡◌, refl, sym, ap, ◌∙◌, ℕ, List, [], ◌∷◌, Option, Some, None, option_map, length, arith}
 use Rattle.comp_bytes.specs.declared.forms.{PrimitiveValType.PrimitiveValType, ComponentValType.ComponentValType}
 use Rattle.comp_bytes.specs.Reading.{or_else, as_at, tagged_at, value_type_at, type_index_at, last_byte_of, u32_at, unsigned_at, ◌>>=◌}
 use Rattle.comp_bytes.specs.FirstByte.{primitive_beside}
@@ -16,8 +16,7 @@ value_primitive b rest p e = by_primitive b rest (Some p) e
 
 pub no_value : (bytes : List ℕ) → length bytes ≡ 0 → value_type_at bytes ≡ None
 unfolding value_type_at tagged_at as_at type_index_at last_byte_of u32_at unsigned_at
-no_value [] e = refl
-no_value (b ∷ bytes) e = absurd (omega (arith, e))
+no_value x e = search std_rules
 
 -- an index, seen as a value type
 abbrev as_value : Option (ℕ × List ℕ) → Option (ComponentValType × List ℕ)

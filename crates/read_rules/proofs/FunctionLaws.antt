@@ -1,5 +1,5 @@
 -- Functions that belong to one of several resources: the name says which.
-use Rattle.std.proofs.Common.{◌≡◌, refl, sym, ap, ◌∙◌, ℕ, Bool, true, false, not, ◌&&◌, ◌||◌, List, [], Some, None, codes}
+use Rattle.std.proofs.Common.{rules as std_rules, ◌≡◌, sym, ap, ◌∙◌, ℕ, Bool, true, false, not, ◌&&◌, ◌||◌, List, [], Some, None, codes}
 use Rattle.std.specs.{List.list_any, Option.option_map_or}
 use Rattle.wit_model.specs.{Text.Text, Text.text_eq, Names.constructor_name, Names.method_name, Names.static_name, Rules.after_prefix}
 use Rattle.comp_meaning.specs.Rules.{is_label_behind}
@@ -14,13 +14,10 @@ use Rattle.wit_model.proofs.TextLemmas.{is_joined}
 -- ---- tests
 
 pub all_three : (a n m : Bool) → a ≡ true → n ≡ true → (a && (n && m)) ≡ m
-all_three true true m p q = refl
-all_three true false m p q = absurd (cc)
-all_three false n m p q = absurd (cc)
+all_three x n m p q = search std_rules
 
 pub second_no : (a n m : Bool) → n ≡ false → (a && (n && m)) ≡ false
-second_no true n m p = ap (λ v. v && m) p
-second_no false n m p = refl
+second_no x n m p = search std_rules
 
 pub first_yes : (a b : Bool) → a ≡ true → (a && b) ≡ b
 first_yes a b p = ap (λ v. v && b) p

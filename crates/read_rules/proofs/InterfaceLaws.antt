@@ -1,10 +1,10 @@
 -- What the rules on interfaces come to, function by function and name by name.
-use Rattle.std.proofs.Common.{◌≡◌, refl, sym, ap, ◌∙◌, ℕ, Bool, true, false, ◌&&◌, ◌||◌, List, [], ◌∷◌, ◌++◌, map, Result, Ok, Err, IfOk}
+use Rattle.std.proofs.Common.{rules as std_rules, ◌≡◌, refl, sym, ap, ◌∙◌, ℕ, Bool, true, false, ◌&&◌, List, [], ◌∷◌, ◌++◌, map, Result, Ok, Err, IfOk}
 use Rattle.std.proofs.lemmas.List.{map-append}
 use Rattle.std.specs.{Borrow.Bor, List.list_all}
-use Rattle.wit_model.specs.{Text.Text, Names.is_label}
+use Rattle.wit_model.specs.{Text.Text}
 use Rattle.comp_meaning.specs.Rules.{distinct}
-use Rattle.plan_meaning.specs.NumberedRules.{is_function, is_function_of, is_interface, is_signature, is_type, resources_of}
+use Rattle.plan_meaning.specs.NumberedRules.{is_function, is_interface, is_type, resources_of}
 use Rattle.plan_meaning.specs.NumberedViews.{FunctionShape, NumberedFunction, NumberedView, function_at}
 use Rattle.read_rules.specs.declared.{tables.FunctionType.FunctionType, tables.Tables.Tables, views.ViewFunction.ViewFunction, views.ViewType.ViewType}
 use Rattle.read_rules.specs.{Interfaces.are_functions, Interfaces.have_one_name_each, Views.numbered_function, Views.numbered_type}
@@ -14,14 +14,12 @@ module _ (t : Tables) (p : ℕ) where
   pub stands_as : (rs : List Text) (name : Text) (signature : ℕ) (shape : FunctionType) → numbered_function_type shape ≡ function_at (numbered_tables t) signature
       → {E : Type 0} (r : Result Bool E) → IfOk r (λ b. b ≡ is_function (numbered_tables t) (known_in t) p rs name (numbered_function_type shape))
       → IfOk r (λ b. b ≡ is_function (numbered_tables t) (known_in t) p rs name (function_at (numbered_tables t) signature))
-  stands_as rs name signature shape at (Ok b) h = h ∙ ap (is_function (numbered_tables t) (known_in t) p rs name) at
-  stands_as rs name signature shape at (Err e) h = tt
+  stands_as rs name signature shape at x h = search std_rules
 
   -- resources matter by which they are alone
   pub same_function : (rs ss : List Text) → AreSame rs ss → (name : Text) (f : FunctionShape)
       → is_function (numbered_tables t) (known_in t) p rs name f ≡ is_function (numbered_tables t) (known_in t) p ss name f
-  same_function rs ss same name f =
-      ap (λ b. is_signature (numbered_tables t) (known_in t) p f && (is_label name || b)) (same (is_function_of (numbered_tables t) (known_in t) p name f))
+  same_function rs ss same name f = search std_rules
 
   pub same_functions : (rs ss : List Text) → AreSame rs ss → (fs : List (Text × NumberedFunction)) → are_functions t p rs fs ≡ are_functions t p ss fs
   same_functions rs ss same [] = refl
@@ -59,6 +57,4 @@ function_names (f ∷ fs) = ap (λ ts. f.name.now ∷ ts) (function_names fs)
 
 pub names_apart : {E : Type 0} (r : Result Bool E) (xs : List ViewType) (fs : List ViewFunction) (names : List (Bor (List ℕ))) → names ≡ map (λ x. x.name) xs ++ map (λ f. f.name) fs
     → IfOk r (λ b. b ≡ distinct (map now_of names)) → IfOk r (λ b. b ≡ distinct (map (λ x. x.name) (map numbered_type xs) ++ map (λ f. f.0) (map numbered_function fs)))
-names_apart (Ok b) xs fs names e h =
-    h ∙ ap distinct (ap (map now_of) e ∙ (map-append now_of (map (λ x. x.name) xs) (map (λ f. f.name) fs) ∙ λ i. type_names xs i ++ function_names fs i))
-names_apart (Err x) xs fs names e h = tt
+names_apart y xs fs names e h = search (std_rules, map-append, type_names, function_names)

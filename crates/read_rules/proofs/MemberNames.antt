@@ -1,5 +1,5 @@
 -- The names of functions of resources, cut at their last dot: a label has none.
-use Rattle.std.proofs.Common.{◌≡◌, refl, sym, ap, subst, ◌∙◌, Bool, true, false, not, ◌&&◌, ◌==◌, cond, [], ◌∷◌, ◌++◌, length, take, drop, Option, Some, None, option_and_then, append_assoc}
+use Rattle.std.proofs.Common.{rules as std_rules, ◌≡◌, refl, sym, ap, subst, ◌∙◌, Bool, true, false, not, ◌&&◌, ◌==◌, cond, [], ◌∷◌, ◌++◌, length, take, drop, Option, Some, None, option_and_then, append_assoc}
 use Rattle.std.proofs.lemmas.{Slice.Eq.bytes_eq-Decides, Bool.and_from as both_true}
 use Rattle.std.specs.{List.list_all, Option.option_map_or, Cmp.Lexicographic.pointwise, Prelude.nat_eq}
 use Rattle.wit_model.specs.{Text.Text, Text.text_eq, Names.is_label, Rules.after_prefix}
@@ -12,8 +12,7 @@ use Rattle.base_lemmas.proofs.Bools.{both_ways as either_way, left_of as first_t
 -- a text is a prefix and a rest where what follows the prefix is the rest
 
 one_byte : (fits labelled : Bool) (o : Option Text) → (fits && labelled) ≡ option_map_or is_label o false → (v : Bool) → ((v && fits) && labelled) ≡ option_map_or is_label (cond v o None) false
-one_byte fits labelled o again true = again
-one_byte fits labelled o again false = refl
+one_byte fits labelled o again x = search std_rules
 
 -- a label behind a front is what follows it
 pub behind : (front name : Text) → is_label_behind front name ≡ option_map_or is_label (after_prefix front name) false
@@ -35,12 +34,8 @@ has_dot (x ∷ b) g lacks = has_dot b g (second_true (not (x == 46)) _ lacks)
 
 pub unique_last : (a b f g : Text) → a ++ (46 ∷ f) ≡ b ++ (46 ∷ g) → Lacks f → Lacks g → (a ≡ b) × (f ≡ g)
 unique_last [] [] f g e lf lg = (refl, cc)
-unique_last [] (y ∷ b) f g e lf lg =
-    let tail : f ≡ b ++ (46 ∷ g) = cc in
-    absurd (has_dot b g (subst Lacks tail lf))
-unique_last (x ∷ a) [] f g e lf lg =
-    let tail : g ≡ a ++ (46 ∷ f) = cc in
-    absurd (has_dot a f (subst Lacks tail lg))
+unique_last [] (y ∷ b) f g e lf lg = search (std_rules, has_dot)
+unique_last (x ∷ a) [] f g e lf lg = search (std_rules, has_dot)
 unique_last (x ∷ a) (y ∷ b) f g e lf lg =
     let head : x ≡ y = cc in
     let tail : a ++ (46 ∷ f) ≡ b ++ (46 ∷ g) = cc in
@@ -90,5 +85,4 @@ module _ (mark name : Text) (r : Text) where
         at_rest ∙ either_way _ _ (forward r rest (after_prefix (r ++ (46 ∷ [])) rest) refl s cut lacks) (backward r rest s cut)
 
 pub and_true : (a b : Bool) → b ≡ true → (a && b) ≡ a
-and_true true b e = e
-and_true false b e = refl
+and_true x b e = search std_rules

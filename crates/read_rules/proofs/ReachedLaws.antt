@@ -1,5 +1,5 @@
 -- Imports that are reached, from the last one back.
-use Rattle.std.proofs.Common.{◌≡◌, refl, sym, ap, ◌∙◌, ℕ, zero, suc, ◌+◌, ◌<◌, ◌≤◌, arith, Bool, true, false, ◌&&◌, ◌||◌, ◌==◌, List, [], ◌∷◌, ◌++◌, map, drop, length, get_or, Option, option_to_list, Result, Ok, Err, IfOk}
+use Rattle.std.proofs.Common.{rules as std_rules, ◌≡◌, sym, ap, ◌∙◌, ℕ, zero, suc, ◌+◌, ◌<◌, ◌≤◌, Bool, true, false, ◌&&◌, ◌||◌, ◌==◌, List, [], ◌∷◌, ◌++◌, map, drop, length, get_or, Option, option_to_list, Result, IfOk}
 use Rattle.std.proofs.{Math.ListN.drop_of_length-le, lemmas.List.drop_more, lemmas.List.Folds.list_any-append, lemmas.Bool.and_right as second_fails}
 use Rattle.std.specs.List.{flat_map}
 use Rattle.wit_model.specs.Uses.{has}
@@ -13,27 +13,16 @@ has_append : (xs ys : List ℕ) (n : ℕ) → has (xs ++ ys) n ≡ (has xs n || 
 has_append xs ys n = list_any-append (λ m. m == n) xs ys
 
 or_turn : (a b c : Bool) → ((a || b) || c) ≡ ((c || a) || b)
-or_turn true b true = refl
-or_turn true b false = refl
-or_turn false true true = refl
-or_turn false true false = refl
-or_turn false false true = refl
-or_turn false false false = refl
+or_turn x b y = search std_rules
 
 pub type_added : {X E : Type 0} (old new : List ℕ) (ps : List ℕ) (p : Option ℕ) → option_to_list p ≡ ps → (r : Result X E) → IfOk r (λ _. (n : ℕ) → has new n ≡ has (old ++ option_to_list p) n)
     → IfOk r (λ _. (n : ℕ) → has new n ≡ has (old ++ ps) n)
-type_added old new ps p is (Ok x) h = λ n. h n ∙ ap (λ qs. has (old ++ qs) n) is
-type_added old new ps p is (Err e) h = tt
+type_added old new ps p is x h = search std_rules
 
 module _ (t : Tables) (xs : List ViewType) (i : ℕ) (ks : List ℕ) (n : ℕ) {v : Bool} (kept : (has ks n || has (used_by_types t (map numbered_type (drop i xs))) n) ≡ v) where
   pub type_turn : (d : ViewType) → i < length xs → (new : List ℕ) → ((m : ℕ) → has new m ≡ has (ks ++ used_by t (numbered_type (get_or xs i d)).declared) m)
       → (has new n || has (used_by_types t (map numbered_type (drop (i + 1) xs))) n) ≡ v
-  type_turn d more new added =
-      let one = used_by t (numbered_type (get_or xs i d)).declared in
-      let others = used_by_types t (map numbered_type (drop (i + 1) xs)) in
-      ap (λ b. b || has others n) (added n ∙ has_append ks one n)
-      ∙ (or_line (has ks n) (has one n) (has others n)
-      ∙ (ap (λ b. has ks n || b) (sym (has_append one others n) ∙ ap (λ ys. has (used_by_types t (map numbered_type ys)) n) (sym (drop_more xs i d more))) ∙ kept))
+  type_turn d more new added = search (std_rules, has_append, or_line, drop_more)
 
   pub types_end : length xs ≤ i → has ks n ≡ v
   types_end past = sym (or_false (has ks n)) ∙ (ap (λ ys. has ks n || has (used_by_types t (map numbered_type ys)) n) (sym (drop_of_length-le xs past)) ∙ kept)
@@ -76,14 +65,9 @@ module _ (t : Tables) (e : NumberedView) where
     )
 
 pub all_reached : (t : Tables) (e : NumberedView) (xs : List ImportedView) (k : ℕ) → k ≤ 0 → are_reached t (map numbered_import (drop k xs)) e ≡ true → true ≡ are_reached t (map numbered_import xs) e
-all_reached t e xs zero past reached = sym reached
-all_reached t e xs (suc k) past reached = absurd (omega (arith, past))
+all_reached t e xs x past reached = search std_rules
 
 -- nothing stands behind the last
 pub none_behind : (t : Tables) (e : NumberedView) (xs : List ImportedView) (ks : List ℕ) (old : List ℕ) → old ≡ [] → ((n : ℕ) → has ks n ≡ (has old n || has (used_by_types t e.types) n))
     → ((n : ℕ) → has ks n ≡ has (used_behind t e (drop (length xs) xs)) n) × (are_reached t (map numbered_import (drop (length xs) xs)) e ≡ true)
-none_behind t e xs ks old none added =
-    let past : drop (length xs) xs ≡ [] = drop_of_length-le xs (omega arith) in (
-      λ n. added n ∙ (ap (λ os. has os n || has (used_by_types t e.types) n) none ∙ ap (λ ys. has (used_behind t e ys) n) (sym past)),
-      ap (λ ys. are_reached t (map numbered_import ys) e) past,
-    )
+none_behind t e xs ks old none added = search (std_rules, drop_of_length-le)

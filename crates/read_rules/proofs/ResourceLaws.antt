@@ -1,5 +1,5 @@
 -- Names of resources, added to a set one by one.
-use Rattle.std.proofs.Common.{◌≡◌, refl, sym, ap, ◌∙◌, ℕ, ◌+◌, ◌<◌, ◌≤◌, Bool, true, false, ◌&&◌, ◌||◌, cond, List, [], ◌∷◌, ◌++◌, map, drop, length, get_or}
+use Rattle.std.proofs.Common.{rules as std_rules, ◌≡◌, refl, sym, ap, ◌∙◌, ℕ, ◌+◌, ◌<◌, ◌≤◌, Bool, true, false, ◌&&◌, ◌||◌, cond, List, [], ◌∷◌, ◌++◌, map, drop, length, get_or}
 use Rattle.std.proofs.Math.ListN.{drop_of_length-le}
 use Rattle.std.proofs.lemmas.{List.drop_more, List.map-append, List.Folds.list_any-append, Bool.or_right as second_of}
 use Rattle.std.specs.{Borrow.Bor, List.list_any}
@@ -11,8 +11,7 @@ use Rattle.base_lemmas.proofs.Bools.{absorbed, or_false, or_line}
 use Rattle.wit_model.proofs.TextLemmas.{text_same as same_text}
 
 or_no : (a b : Bool) → b ≡ false → a ≡ (a || b)
-or_no true b e = refl
-or_no false b e = sym e
+or_no x b e = search std_rules
 
 -- what passes is found where it stands
 stands : (test : Text → Bool) (a : Text) (ks : List (Bor (List ℕ))) → list_any (λ o. text_eq a o.now) ks ≡ true → test a ≡ true → list_any test (map now_of ks) ≡ true
@@ -42,8 +41,7 @@ name_added test ks new name r e added = go (list_any (λ o. text_eq name.now o.n
         ∙ (list_any-append test (map now_of ks) (name.now ∷ []) ∙ ap (λ b. list_any test (map now_of ks) || b) (or_false (test name.now))))
 
 pub one_or_none : (test : Text → Bool) (name : Text) (others : List Text) (v : Bool) → list_any test (cond v (name ∷ others) others) ≡ ((v && test name) || list_any test others)
-one_or_none test name others true = refl
-one_or_none test name others false = refl
+one_or_none test name others x = search std_rules
 
 first_resource : (test : Text → Bool) (x : ViewType) (xs : List ViewType)
     → list_any test (resources_of (numbered_type x ∷ map numbered_type xs)) ≡ ((is_no_part x.declared && test x.name.now) || list_any test (resources_of (map numbered_type xs)))
@@ -56,13 +54,7 @@ module _ (test : Text → Bool) (xs : List ViewType) (i : ℕ) where
   pub resource_turn : (d : ViewType) → i < length xs → (old new : List Text) (r : Bool) → r ≡ is_no_part (get_or xs i d).declared
       → list_any test new ≡ (list_any test old || (r && test (get_or xs i d).name.now))
       → {v : Bool} → (list_any test old || left i) ≡ v → (list_any test new || left (i + 1)) ≡ v
-  resource_turn d more old new r is added kept =
-      let x = get_or xs i d in
-      let first : left i ≡ ((r && test x.name.now) || left (i + 1)) =
-      ap (λ ys. list_any test (resources_of (map numbered_type ys))) (drop_more xs i d more)
-      ∙ (first_resource test x (drop (i + 1) xs) ∙ ap (λ b. (b && test x.name.now) || left (i + 1)) (sym is)) in
-      ap (λ b. b || left (i + 1)) added ∙ (or_line (list_any test old) (r && test x.name.now) (left (i + 1)) ∙ (ap (λ b. list_any test old || b) (sym first) ∙ kept))
+  resource_turn d more old new r is added kept = search (std_rules, drop_more, first_resource, or_line)
 
   pub resources_end : (ks : List Text) → length xs ≤ i → {v : Bool} → (list_any test ks || left i) ≡ v → list_any test ks ≡ v
-  resources_end ks past kept =
-      sym (or_false (list_any test ks)) ∙ (ap (λ ys. list_any test ks || list_any test (resources_of (map numbered_type ys))) (sym (drop_of_length-le xs past)) ∙ kept)
+  resources_end ks past kept = search (std_rules, or_false, drop_of_length-le)

@@ -1,18 +1,18 @@
 -- Imports and exports of a world, one by one, and what stands earlier.
-use Rattle.std.proofs.Common.{◌≡◌, refl, sym, ap, ◌∙◌, subst, ℕ, ◌+◌, ◌<◌, ◌≤◌, Bool, true, false, ◌&&◌, ◌||◌, ◌==◌, cond, List, [], ◌∷◌, ◌++◌, map, drop, take, length, get_or, Option, Some, None, is_some, option_to_list, Result, Ok, Err, IfOk}
+use Rattle.std.proofs.Common.{rules as std_rules, ◌≡◌, refl, sym, ap, ◌∙◌, subst, ℕ, ◌+◌, ◌<◌, ◌≤◌, Bool, true, false, ◌&&◌, ◌||◌, List, [], ◌∷◌, ◌++◌, map, drop, take, length, get_or, Option, is_some, option_to_list, Result, Ok, Err, IfOk}
 use Rattle.std.proofs.Math.ListN.{drop_of_length-le}
 use Rattle.std.proofs.lemmas.{List.append-nil, List.drop_more, List.map-append, List.take_more, List.Folds.list_all-append}
 use Rattle.std.specs.{Borrow.Bor, List.flat_map, List.list_all, List.list_any, Option.option_map_or}
 use Rattle.wit_model.specs.{Text.Text, Uses.has, Names.is_label}
 use Rattle.comp_meaning.specs.Rules.{distinct}
 use Rattle.plan_meaning.specs.{NumberedRules.is_declared, NumberedRules.is_function, NumberedRules.is_interface, NumberedViews.function_at}
-use Rattle.plan_meaning.specs.NumberedWorlds.{NumberedSeen, NumberedShown, instance, function, declares, are_imports, is_item, is_resource_seen, others_than, path_seen, place_of_key, resources_seen, stand_earlier, used_by, uses_of}
+use Rattle.plan_meaning.specs.NumberedWorlds.{NumberedSeen, NumberedShown, are_imports, is_item, is_resource_seen, others_than, path_seen, place_of_key, resources_seen, stand_earlier, used_by, uses_of}
 use Rattle.read_rules.specs.declared.{scopes.Seen.Seen, scopes.Shown.Shown, views.View.View}
 use Rattle.read_rules.specs.declared.{tables.Tables.Tables, views.ViewType.ViewType, scopes.InstanceKey.InstanceKey, tables.FunctionType.FunctionType}
 use Rattle.read_rules.specs.{Places.places_of, Resources.AreSame, Uses.IsPlaceAdded, Uses.item_stands}
 use Rattle.read_rules.specs.{Scopes.numbered_key, Scopes.numbered_seen, Scopes.numbered_shown, Worlds.IsAdded, Worlds.may_be_exported, Worlds.may_be_imported}
 use Rattle.read_rules.specs.{Tables.known_in, Tables.now_of, Tables.numbered_function_type, Tables.numbered_tables, Views.numbered_type, Views.numbered_view}
-use Rattle.read_rules.proofs.{InterfaceLaws.same_function, PlaceLaws.same_before, PlaceLaws.stands_earlier, ResourceLaws.one_or_none}
+use Rattle.read_rules.proofs.{PlaceLaws.same_before, PlaceLaws.stands_earlier, ResourceLaws.one_or_none}
 use Rattle.base_lemmas.proofs.{Bools.and-true as and_true, Bools.or_false, Bools.or_line, Lists.map_of_map}
 use Rattle.plan_meaning.specs.NumberedViews as views
 use Rattle.read_rules.specs.declared.scopes.Shown.TheVariants as variants
@@ -22,21 +22,14 @@ use Rattle.read_rules.specs.declared.scopes.Shown.TheVariants as variants
 seen_behind : (test : Text → Bool) (before : List NumberedSeen) (s : NumberedSeen)
     → list_any test (resources_seen (before ++ s ∷ [])) ≡ (list_any test (resources_seen before) || (is_resource_seen s.shown && test s.key))
 seen_behind test [] s = one_or_none test s.key [] (is_resource_seen s.shown) ∙ or_false (is_resource_seen s.shown && test s.key)
-seen_behind test (x ∷ xs) s =
-    let first = is_resource_seen x.shown && test x.key in
-    one_or_none test x.key (resources_seen (xs ++ s ∷ [])) (is_resource_seen x.shown)
-    ∙ (ap (λ b. first || b) (seen_behind test xs s)
-    ∙ (sym (or_line first (list_any test (resources_seen xs)) (is_resource_seen s.shown && test s.key))
-    ∙ ap (λ b. b || (is_resource_seen s.shown && test s.key)) (sym (one_or_none test x.key (resources_seen xs) (is_resource_seen x.shown)))))
+seen_behind test (x ∷ xs) s = search (std_rules, one_or_none, or_line, seen_behind test xs s)
 
 -- ---- imports
 
 module _ (t : Tables) (home : ℕ) where
   pub same_item : (rs ss : List Text) → AreSame rs ss → (key : Text) (s : NumberedShown)
       → is_item (numbered_tables t) (known_in t) home rs key s ≡ is_item (numbered_tables t) (known_in t) home ss key s
-  same_item rs ss same key (instance k v) = refl
-  same_item rs ss same key (function n) = same_function t home rs ss same key (function_at (numbered_tables t) n)
-  same_item rs ss same key (declares d) = refl
+  same_item rs ss same key x = search std_rules
 
   module _ (xs : List Seen) (i : ℕ) where
     abbrev before : ℕ → List NumberedSeen
@@ -84,29 +77,19 @@ keys_apart r xs = subst (λ ts. IfOk r (λ b. b ≡ distinct ts)) (sym (map_of_m
 -- ---- what is used
 
 pub outside_some : (o : Option Text) (p : ℕ) → true ≡ is_some o → p ∷ [] ≡ option_map_or (λ path. p ∷ []) o []
-outside_some None p e = absurd (cc)
-outside_some (Some path) p e = refl
+outside_some x p e = search std_rules
 
 pub outside_none : (o : Option Text) (p : ℕ) → false ≡ is_some o → [] ≡ option_map_or (λ path. p ∷ []) o []
-outside_none None p e = refl
-outside_none (Some path) p e = absurd (cc)
+outside_none x p e = search std_rules
 
 others_append : (own : ℕ) (ps qs : List ℕ) → others_than own (ps ++ qs) ≡ others_than own ps ++ others_than own qs
 others_append own [] qs = refl
-others_append own (p ∷ ps) qs = go (others_append own ps qs) (p == own)
-  where
-    go : others_than own (ps ++ qs) ≡ others_than own ps ++ others_than own qs → (v : Bool)
-        → cond v (others_than own (ps ++ qs)) (p ∷ others_than own (ps ++ qs)) ≡ cond v (others_than own ps) (p ∷ others_than own ps) ++ others_than own qs
-    go again true = again
-    go again false = ap (λ rs. p ∷ rs) again
+others_append own (p ∷ ps) qs = search (std_rules, others_append own ps qs)
 
 pub uses_along : (t : views.Tables) (h : ℕ → Bool) (own : ℕ) (xs : List ViewType)
     → list_all h (others_than own (flat_map (λ x. used_by t x.declared) (map numbered_type xs))) ≡ list_all (λ x. list_all h (others_than own (used_by t x.declared))) xs
 uses_along t h own [] = refl
-uses_along t h own (x ∷ xs) =
-    ap (list_all h) (others_append own (used_by t x.declared) (flat_map (λ y. used_by t y.declared) (map numbered_type xs)))
-    ∙ (list_all-append h (others_than own (used_by t x.declared)) (others_than own (flat_map (λ y. used_by t y.declared) (map numbered_type xs)))
-    ∙ ap (λ b. list_all h (others_than own (used_by t x.declared)) && b) (uses_along t h own xs))
+uses_along t h own (x ∷ xs) = search (std_rules, others_append, list_all-append, uses_along t h own xs)
 
 -- ---- what stands earlier
 
@@ -135,8 +118,7 @@ module _ (t : views.Tables) (xs : List Seen) (i : ℕ) (ks : List ℕ) (rest : L
 
 pub place_added : {X E : Type 0} (old new : List ℕ) (s : NumberedSeen) (p : Option ℕ) → option_to_list p ≡ path_seen s.shown → (r : Result X E)
     → IfOk r (λ _. (n : ℕ) → has new n ≡ has (old ++ option_to_list p) n) → IfOk r (λ _. IsPlaceAdded old s new)
-place_added old new s p is (Ok x) h = λ n. h n ∙ ap (λ ps. has (old ++ ps) n) is
-place_added old new s p is (Err e) h = tt
+place_added old new s p is x h = search std_rules
 
 -- imports, and then exports
 module _ (t : views.Tables) (before between after : List ℕ) (none : before ≡ []) (imports exports : List NumberedSeen) where
@@ -147,19 +129,14 @@ module _ (t : views.Tables) (before between after : List ℕ) (none : before ≡
   pub exports_decide : (b : Bool) → ((rest : List NumberedSeen) → stand_earlier t before (imports ++ rest) ≡ (b && stand_earlier t between rest)) → b ≡ true
       → {E : Type 0} (r : Result Bool E) → IfOk r (λ c. (rest : List NumberedSeen) → stand_earlier t between (exports ++ rest) ≡ (c && stand_earlier t after rest))
       → IfOk r (λ c. c ≡ stand_earlier t [] (imports ++ exports))
-  exports_decide b first stands (Ok c) second =
-      sym (ap (λ ks. stand_earlier t ks (imports ++ exports)) (sym none)
-      ∙ (first exports
-      ∙ (ap (λ a. a && stand_earlier t between exports) stands
-      ∙ (ap (stand_earlier t between) (sym (append-nil exports)) ∙ (second [] ∙ and_true c)))))
+  exports_decide b first stands (Ok c) second = search (std_rules, append-nil exports, and_true c)
   exports_decide b first stands (Err e) second = tt
 
 -- ---- exports
 
 pub no_resources : (t : Tables) (home : ℕ) (ks : List (Bor (List ℕ))) → ks ≡ [] → (s : NumberedSeen) → {E : Type 0} (r : Result Bool E) → IfOk r (λ b. b ≡ may_be_imported t home (map now_of ks) s)
     → IfOk r (λ b. b ≡ may_be_exported t home s)
-no_resources t home ks none s (Ok b) h = h ∙ ap (λ (rs : List (Bor (List ℕ))). may_be_imported t home (map now_of rs) s) none
-no_resources t home ks none s (Err e) h = tt
+no_resources t home ks none s x h = search std_rules
 
 -- ---- one item
 
@@ -169,15 +146,11 @@ module _ (t : Tables) (home : ℕ) (rs : List Text) (key : Text) (s : Shown) {E 
 
   pub instance_item : (k : InstanceKey) (v : View) → s ≡ variants.Instance k v → (p : ℕ) → p ≡ place_of_key (numbered_key k) → (r : Result Bool E)
       → IfOk r (λ b. b ≡ is_interface (numbered_tables t) (known_in t) p (numbered_view v)) → Answers r
-  instance_item k v is p at (Ok b) h =
-      h ∙ (ap (λ q. is_interface (numbered_tables t) (known_in t) q (numbered_view v)) at ∙ ap (λ x. is_item (numbered_tables t) (known_in t) home rs key (numbered_shown x)) (sym is))
-  instance_item k v is p at (Err e) h = tt
+  instance_item k v is p at y h = search std_rules
 
   pub function_item : (n : ℕ) → s ≡ variants.Function n → (shape : FunctionType) → numbered_function_type shape ≡ function_at (numbered_tables t) n → (r : Result Bool E)
       → IfOk r (λ b. b ≡ is_function (numbered_tables t) (known_in t) home rs key (numbered_function_type shape)) → Answers r
-  function_item n is shape at (Ok b) h =
-      h ∙ (ap (is_function (numbered_tables t) (known_in t) home rs key) at ∙ ap (λ x. is_item (numbered_tables t) (known_in t) home rs key (numbered_shown x)) (sym is))
-  function_item n is shape at (Err e) h = tt
+  function_item n is shape at y h = search std_rules
 
 pub declared_item : (t : Tables) (home : ℕ) (rs : List Text) (key : Text) (s : Shown) (part : ℕ) (d : Option ℕ) → s ≡ variants.Declares part d → (b : Bool)
     → b ≡ (is_label key && is_declared (numbered_tables t) (known_in t) home d)
