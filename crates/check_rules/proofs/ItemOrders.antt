@@ -1,5 +1,5 @@
 -- The order of a world's items, by what is shown and by how far its functions reach.
-use Rattle.std.proofs.Common.{◌≡◌, refl, sym, ap, subst, ◌∙◌, ℕ, ◌+◌, Bool, true, false, ◌&&◌, ◌||◌, not, ◌==◌, nat_le, List, [], ◌∷◌, ◌++◌, take, length, map, filter, filter_map, option_to_list, position, slice_get, Some, None, Option, append_assoc, append-nil, length-append, is_some, arith, String}
+use Rattle.std.proofs.Common.{rules as std_rules, ◌≡◌, refl, sym, ap, subst, ◌∙◌, ℕ, ◌+◌, Bool, true, false, ◌&&◌, ◌||◌, not, nat_le, List, [], ◌∷◌, ◌++◌, take, length, map, filter, filter_map, option_to_list, position, slice_get, Some, None, Option, append_assoc, append-nil, length-append, is_some, arith, String}
 use Rattle.std.proofs.lemmas.List.{Elements.filter_map-append, Folds.list_any-append}
 use Rattle.std.specs.declared.alloc.Global.{Global}
 use Rattle.std.specs.{List.list_all, List.cons_option, Option.option_map_or, Map.keys_of, Map.values_of}
@@ -8,7 +8,7 @@ use Rattle.wit_model.specs.declared.model.{Resolve.Resolve, World.World, WorldKe
 use Rattle.wit_model.specs.Text.{text_of}
 use Rattle.wit_model.specs.{Lookup.type_at, Lookup.world_at, Uses.has, Uses.item_interface, Uses.items_of, ItemOrders.uses_are_shown, ItemOrders.reaches_within}
 use Rattle.wit_model.specs.Parts.{function_numbers, met_by, met_of, used_by_function, same_owner, has_owner}
-use Rattle.wit_model.specs.Rules.{is_id, passes, each_from, each_after, is_name_key, item_type, world_type_numbers, is_listed, is_listed_in_world, are_in_order, used_by_number, used_interfaces, used_types, uses_stand_before, function_stays, is_member}
+use Rattle.wit_model.specs.Rules.{is_id, passes, each_from, each_after, is_name_key, item_type, world_type_numbers, is_listed, is_listed_in_world, are_in_order, used_by_number, used_interfaces, used_types, uses_stand_before, is_member}
 use Rattle.wit_model.specs.Valid.{Keeps, as_world, item_function, functions_of_world, function_names, order_of_items, order_of_types, owners}
 use Rattle.wit_model.specs.Checks.{KeepsIn, references, listings, list_orders, rank_of, rank_in, reach_of}
 use Rattle.wit_model.proofs.{Lists.list_all_filter_map, Listed.misfit, Shown.after_both, Shown.after_append, Shown.interfaces_before, PartsLemmas.owner_same}
@@ -54,24 +54,17 @@ places_before : {V : Type 0} (vs : List V) (q : List V → V → Bool) (t : ℕ 
     (done rest : List V) → vs ≡ done ++ rest → each_after q done rest ≡ each_from t (length done) rest
 places_before vs q t same done [] e = refl
 places_before vs q t same done (v ∷ rest) e =
-    let longer : length (done ++ v ∷ []) ≡ length done + 1 = omega (arith, length-append done (v ∷ [])) in
-    (λ i. same done v rest e i && places_before vs q t same (done ++ v ∷ []) rest (e ∙ sym (append_assoc done (v ∷ []) rest)) i)
-    ∙ ap (λ k. t (length done) v && each_from t k rest) longer
+    search (std_rules, length-append, append_assoc, places_before vs q t same (done ++ v ∷ []) rest (e ∙ sym (append_assoc done (v ∷ []) rest)))
 
 -- a walk whose test always passes behind a list
 passes_behind : {V : Type 0} (q : List V → V → Bool) (base : List V) → ((done : List V) (v : V) → q (base ++ done) v ≡ true) →
     (done rest : List V) → each_after q (base ++ done) rest ≡ true
 passes_behind q base all done [] = refl
-passes_behind q base all done (v ∷ rest) =
-    ap (λ b. b && each_after q ((base ++ done) ++ v ∷ []) rest) (all done v)
-    ∙ (ap (λ b. each_after q b rest) (append_assoc base done (v ∷ []))
-    ∙ passes_behind q base all (done ++ v ∷ []) rest)
+passes_behind q base all done (v ∷ rest) = search (std_rules, append_assoc, passes_behind q base all (done ++ v ∷ []) rest)
 
 after_at : {V : Type 0} (q : List V → V → Bool) (before xs : List V) (v : V) (ys : List V) → each_after q before (xs ++ v ∷ ys) ≡ true → q (before ++ xs) v ≡ true
 after_at q before [] v ys h = ap (λ b. q b v) (append-nil before) ∙ first_true _ _ h
-after_at q before (x ∷ xs) v ys h =
-    ap (λ b. q b v) (sym (append_assoc before (x ∷ []) xs))
-    ∙ after_at q (before ++ x ∷ []) xs v ys (second_true (q before x) _ h)
+after_at q before (x ∷ xs) v ys h = search (std_rules, append_assoc, second_true, after_at q (before ++ x ∷ []) xs v ys (second_true (q before x) _ h))
 
 all_there : {V : Type 0} (p : V → Bool) (xs : List V) (v : V) (ys : List V) → list_all p (xs ++ v ∷ ys) ≡ true → p v ≡ true
 all_there p [] v ys h = first_true _ _ h
@@ -83,11 +76,7 @@ all_yes p all (m ∷ ns) = λ i. all m i && all_yes p all ns i
 
 -- a test of what is kept, where what is kept passes
 kept_pass : (c p : ℕ → Bool) → ((m : ℕ) → c m ≡ true → p m ≡ true) → (ns : List ℕ) → list_all p (filter c ns) ≡ true
-kept_pass c p step ns = all_filter p c ns ∙ all_yes (λ m. not (c m) || p m) (λ m. go m (c m) refl) ns
-  where
-    go : (m : ℕ) (b : Bool) → c m ≡ b → (not b || p m) ≡ true
-    go m false e = refl
-    go m true e = step m e
+kept_pass c p step ns = search (std_rules, all_filter, all_yes)
 
 all_kept : (c p : ℕ → Bool) (ns : List ℕ) → list_all c ns ≡ true → list_all p (filter c ns) ≡ list_all p ns
 all_kept c p ns h = all_filter p c ns ∙ all_same c (λ m. not (c m) || p m) p (λ m e. ap (λ b. not b || p m) e) ns h
@@ -117,10 +106,7 @@ module _ (r : Resolve) (order : Keeps order_of_types r) (own : Keeps owners r) (
       go q e get true false f g = sym (misfit (is_name_key (text_of name)) item_type m w.imports.entries q e get f g) ∙ listed
 
   ranked : (m : ℕ) (def : TypeDef) (name : String Global) → type_at r m ≡ Some def → def.name ≡ Some name → def.owner ≡ as_world n → rank_of r m ≡ rank_in r (text_of name) (as_world n)
-  ranked m def name is named mine =
-      ap (λ d. option_map_or (λ x. option_map_or (λ y. rank_in r (text_of y) x.owner) x.name 0) d 0) is
-      ∙ (ap (λ x. option_map_or (λ y. rank_in r (text_of y) def.owner) x 0) named
-      ∙ ap (rank_in r (text_of name)) mine)
+  ranked m def name is named mine = search std_rules
 
   stands : (m : ℕ) (def : TypeDef) (name : String Global) → type_at r m ≡ Some def → def.name ≡ Some name → def.owner ≡ as_world n →
       (found (is_name_key (text_of name)) item_type m w.imports.entries ≡ true) × (fitting (is_name_key (text_of name)) item_type m w.imports.entries ≡ true)
@@ -184,24 +170,14 @@ module _ (r : Resolve) (order : Keeps order_of_types r) (own : Keeps owners r) (
   -- what holds of each function of the world holds of an import
   of_import : (test : Function → Bool) → list_all test (functions_of_world w) ≡ true → (done : List WorldItem) (f : Function) (rest : List WorldItem)
       → values w.imports ≡ done ++ item.Function f ∷ rest → test f ≡ true
-  of_import test all done f rest e =
-      let each = sym (list_all_filter_map test item_function (items_of w)) ∙ all in
-      let there : items_of w ≡ done ++ item.Function f ∷ (rest ++ values w.exports) = ap (λ vs. vs ++ values w.exports) e ∙ append_assoc done (item.Function f ∷ rest) (values w.exports) in
-      first_true _ _ (all_there (λ x. list_all test (option_to_list (item_function x))) done (item.Function f) (rest ++ values w.exports)
-      (ap (list_all (λ x. list_all test (option_to_list (item_function x)))) (sym there) ∙ each))
+  of_import test all done f rest e = search (std_rules, list_all_filter_map, append_assoc, first_true, all_there)
 
   -- an entry that is a function is a member of the world
   entry_belongs : (es : List (WorldKey × WorldItem)) → list_all (λ e. passes (λ f. is_name_key (text_of f.name) e.0 && is_member r (as_world n) f) (item_function e.1)) es ≡ true
       → list_all (λ x. list_all (is_member r (as_world n)) (option_to_list (item_function x))) (values_of es) ≡ true
   entry_belongs [] h = refl
   entry_belongs (e ∷ es) h =
-      let here = first_true (passes (λ f. is_name_key (text_of f.name) e.0 && is_member r (as_world n) f) (item_function e.1)) _ h in
-      let later = entry_belongs es (second_true (passes (λ f. is_name_key (text_of f.name) e.0 && is_member r (as_world n) f) (item_function e.1)) _ h) in
-      λ i. go (item_function e.1) here i && later i
-    where
-      go : (x : Option Function) → passes (λ f. is_name_key (text_of f.name) e.0 && is_member r (as_world n) f) x ≡ true → list_all (is_member r (as_world n)) (option_to_list x) ≡ true
-      go None h = refl
-      go (Some f) h = ap (λ b. b && true) (second_true (is_name_key (text_of f.name) e.0) _ h)
+      search (std_rules, first_true, second_true, entry_belongs es (second_true (passes (λ f. is_name_key (text_of f.name) e.0 && is_member r (as_world n) f) (item_function e.1)) _ h))
 
   members : list_all (is_member r (as_world n)) (functions_of_world w) ≡ true
   unfolding function_names
@@ -219,11 +195,7 @@ module _ (r : Resolve) (order : Keeps order_of_types r) (own : Keeps owners r) (
   -- a function uses types of the world alone
   home_of : (done : List WorldItem) (f : Function) (rest : List WorldItem) → values w.imports ≡ done ++ item.Function f ∷ rest → list_all (has_owner r (as_world n)) (used_by_function r f) ≡ true
   unfolding owners
-  home_of done f rest e =
-      let here : 0 + n ≡ n = omega arith in
-      let all : list_all (function_stays r (as_world n)) (functions_of_world w) ≡ true =
-      subst (λ k. owners.world_ r k w ≡ true) here (each_from_at (owners.world_ r) 0 r.worlds.items n w (lists_pass owners r own).2 at) in
-      function_home r (order_refers r order) (as_world n) f (of_import (function_stays r (as_world n)) all done f rest e) (of_import (is_member r (as_world n)) members done f rest e)
+  home_of done f rest e = search (std_rules, each_from_at, lists_pass, function_home, order_refers, of_import, members)
 
   function_ready : (done : List WorldItem) (f : Function) (rest : List WorldItem) → values w.imports ≡ done ++ item.Function f ∷ rest →
       list_all (has (filter_map item_type done)) (filter (has_owner r (as_world n)) (used_by_function r f)) ≡ reaches_within (reach_of r) (length done) f
@@ -236,25 +208,17 @@ module _ (r : Resolve) (order : Keeps order_of_types r) (own : Keeps owners r) (
 
   import_ready : (done : List WorldItem) (v : WorldItem) (rest : List WorldItem) → values w.imports ≡ done ++ v ∷ rest
       → ready done v ≡ passes (reaches_within (reach_of r) (length done)) (item_function v)
-  import_ready done (item.Interface id stability docs external_id) rest e = refl
-  import_ready done (item.Type_ id) rest e = type_ready done id.0 rest (item.Type_ id) e refl
-  import_ready done (item.Function f) rest e = function_ready done f rest e
+  import_ready done x rest e = search (std_rules, type_ready, function_ready)
 
   -- all that is exported stands after the types
   behind : (done : List WorldItem) (m : ℕ) → has_owner r (as_world n) m ≡ true → has (filter_map item_type (values w.imports ++ done)) m ≡ true
-  behind done m h =
-      ap (λ ns. has ns m) (filter_map-append item_type (values w.imports) done)
-      ∙ (list_any-append (λ k. k == m) (world_type_numbers w) (filter_map item_type done)
-      ∙ ap (λ b. b || has (filter_map item_type done) m) (stands_in m h))
+  behind done m h = search (std_rules, filter_map-append, list_any-append, stands_in)
 
   export_ready : (done : List WorldItem) (v : WorldItem) → ready (values w.imports ++ done) v ≡ true
-  export_ready done (item.Interface id stability docs external_id) = refl
-  export_ready done (item.Type_ id) = kept_pass (has_owner r (as_world n)) (has (filter_map item_type (values w.imports ++ done))) (behind done) (used_by_number r id.0)
-  export_ready done (item.Function f) = kept_pass (has_owner r (as_world n)) (has (filter_map item_type (values w.imports ++ done))) (behind done) (used_by_function r f)
+  export_ready done x = search (std_rules, kept_pass, behind)
 
   and_true : (b : Bool) → (b && true) ≡ b
-  and_true true = refl
-  and_true false = refl
+  and_true x = search std_rules
 
   -- the world's types stand before what uses them exactly where each imported function reaches no further than its place
   types_before : each_after ready [] (items_of w) ≡ each_from (λ p v. passes (reaches_within (reach_of r) p) (item_function v)) 0 (values w.imports)

@@ -1,5 +1,5 @@
 -- The unnamed levels of a type may be computed along the list of types, where each refers to smaller numbers alone.
-use Rattle.std.proofs.Common.{◌≡◌, refl, sym, ap, subst, ◌∙◌, ℕ, ◌+◌, ◌<◌, ◌≤◌, min, max, true, nat_lt, nat_le, T, ltb→lt, List, [], ◌∷◌, ◌++◌, length, map, filter_map, option_map, option_to_list, Some, None, Option, unwrap_or, append-nil, arith}
+use Rattle.std.proofs.Common.{rules as std_rules, ◌≡◌, refl, sym, ap, subst, ◌∙◌, ℕ, ◌+◌, ◌<◌, ◌≤◌, min, max, true, nat_lt, nat_le, T, ltb→lt, List, [], ◌∷◌, ◌++◌, length, map, filter_map, option_map, option_to_list, Some, None, Option, unwrap_or, append-nil, arith}
 use Rattle.std.proofs.lemmas.Option.{slice_get_past}
 use Rattle.std.specs.{List.list_all, List.cons_option, Option.option_map_or}
 use Rattle.wit_model.specs.declared.model.{Resolve.Resolve, TypeDef.TypeDef, TypeDefKind.TypeDefKind, Case.Case, Function.Function, «Type».«Type» as ValueType}
@@ -9,15 +9,10 @@ use Rattle.wit_model.specs.{Lookup.type_at, Lookup.place_of, Checks.references, 
 use Rattle.wit_model.specs.Tree.{Tree, levels, deepest, children, given, named}
 use Rattle.wit_model.specs.Types.{number_of, no_tree, tree_at, tree_of, declared_by, tree_of_declaration, tree_of_definition, trees_of, number_tree}
 use Rattle.wit_model.proofs.{Tables.grow_keeps, TreeTable.trees_at, Checks.below_at, Functions.types_test, Functions.functions_test}
-use Rattle.base_lemmas.proofs.{Bools.and-true, Bools.left_of as first_true, Bools.right_of as second_true, Numbers.max-none}
+use Rattle.base_lemmas.proofs.{Bools.left_of as first_true, Bools.right_of as second_true}
 use Rattle.wit_model.specs.declared.model.TypeDefKind.TheVariants as kind
-use Rattle.wit_model.specs.declared.model.Handle.TheVariants as handle
-use Rattle.wit_model.specs.declared.model.«Type».TheVariants as ty
 
 -- ---- the levels of what a kind declares
-
-max-zero : (n : ℕ) → max 0 n ≡ n
-max-zero n = omega arith
 
 module _ (trees : List Tree) where
   abbrev of_number : ℕ → ℕ
@@ -25,8 +20,7 @@ module _ (trees : List Tree) where
 
   -- a type at the front of a list
   type_head : (t : ValueType) (x : ℕ) (ns : List ℕ) → x ≡ highest of_number ns → max (levels (tree_of trees t)) x ≡ highest of_number (cons_option (number_of t) ns)
-  type_head (ty.Id id) x ns e = ap (max (of_number id.0)) e
-  type_head _ x ns e = max-zero x ∙ e
+  type_head y x ns e = search std_rules
 
   of_types : (ts : List ValueType) → deepest (children (map (tree_of trees) ts)) ≡ highest of_number (filter_map number_of ts)
   of_types [] = refl
@@ -40,8 +34,7 @@ module _ (trees : List Tree) where
   -- a type that may be left out, at the front of a list
   option_head : (o : Option ValueType) (os : List (Option Tree)) (ts : List ValueType) → deepest (given os) ≡ highest of_number (filter_map number_of ts)
       → deepest (given (option_map (tree_of trees) o ∷ os)) ≡ highest of_number (filter_map number_of (cons_option o ts))
-  option_head None os ts e = e
-  option_head (Some t) os ts e = type_head t _ (filter_map number_of ts) e
+  option_head x os ts e = search std_rules
 
   of_cases : (cs : List Case)
       → deepest (given (map (λ (c : Text × Option Tree). c.1) (map (λ c. (text_of c.name, option_map (tree_of trees) c.ty)) cs))) ≡ highest of_number (filter_map number_of (filter_map (λ c. c.ty) cs))
@@ -49,44 +42,25 @@ module _ (trees : List Tree) where
   of_cases (c ∷ cs) = option_head c.ty _ (filter_map (λ c. c.ty) cs) (of_cases cs)
 
   one_option : (o : Option ValueType) → deepest (given (option_map (tree_of trees) o ∷ [])) ≡ highest of_number (filter_map number_of (option_to_list o))
-  one_option None = refl
-  one_option (Some t) = option_head (Some t) [] [] refl
+  one_option x = search std_rules
 
   two_options : (a b : Option ValueType)
       → deepest (given (option_map (tree_of trees) a ∷ option_map (tree_of trees) b ∷ [])) ≡ highest of_number (filter_map number_of (option_to_list a ++ option_to_list b))
-  two_options None b = one_option b
-  two_options (Some t) b = type_head t _ (filter_map number_of (option_to_list b)) (one_option b)
+  two_options x b = search std_rules
 
   -- without a handle and an alias
   plainly : (x : ℕ) (ns : List ℕ) → x ≡ highest of_number ns → x + 1 ≡ highest of_number (ns ++ []) + 1
   plainly x ns e = ap (λ n. n + 1) (e ∙ ap (highest of_number) (sym (append-nil ns)))
 
   aliased : (t : ValueType) → levels (tree_of trees t) ≡ highest of_number (option_to_list (number_of t))
-  aliased t = sym (max-none (levels (tree_of trees t))) ∙ (type_head t 0 [] refl ∙ go (number_of t))
-    where
-      go : (o : Option ℕ) → highest of_number (cons_option o []) ≡ highest of_number (option_to_list o)
-      go None = refl
-      go (Some n) = refl
+  aliased t = search std_rules
 
   handled_levels : (h : Handle) → levels (tree_of_declaration (declared_by trees (kind.Handle h))) ≡ highest of_number (kind_numbers (kind.Handle h)) + 1
-  handled_levels (handle.Own id) = refl
-  handled_levels (handle.Borrow id) = refl
+  handled_levels x = search std_rules
 
   -- what a kind declares has the levels that its numbers give
   pub declared_levels : (k : TypeDefKind) → levels (tree_of_declaration (declared_by trees k)) ≡ levels_above (highest of_number (kind_numbers k)) k
-  declared_levels (kind.Record x) = plainly _ (filter_map number_of (map (λ f. f.ty) x.fields.items)) (of_fields x.fields.items)
-  declared_levels (kind.Variant x) = plainly _ (filter_map number_of (filter_map (λ c. c.ty) x.cases.items)) (of_cases x.cases.items)
-  declared_levels (kind.Tuple x) = plainly _ (filter_map number_of x.types.items) (of_types x.types.items)
-  declared_levels (kind.Option t) = plainly _ (filter_map number_of (t ∷ [])) (of_types (t ∷ []))
-  declared_levels (kind.List t) = plainly _ (filter_map number_of (t ∷ [])) (of_types (t ∷ []))
-  declared_levels (kind.FixedLengthList t n) = plainly _ (filter_map number_of (t ∷ [])) (of_types (t ∷ []))
-  declared_levels (kind.Map a b) = plainly _ (filter_map number_of (a ∷ b ∷ [])) (of_types (a ∷ b ∷ []))
-  declared_levels (kind.Result x) = plainly _ (filter_map number_of (option_to_list x.ok ++ option_to_list x.err)) (two_options x.ok x.err)
-  declared_levels (kind.Future t) = plainly _ (filter_map number_of (option_to_list t)) (one_option t)
-  declared_levels (kind.Stream t) = plainly _ (filter_map number_of (option_to_list t)) (one_option t)
-  declared_levels (kind.Handle h) = handled_levels h
-  declared_levels (kind.Type_ t) = aliased t
-  declared_levels _ = refl
+  declared_levels y = search (std_rules, plainly, of_fields, of_cases, of_types, two_options, one_option, handled_levels, aliased)
 
 -- ---- the cap
 
@@ -100,13 +74,8 @@ cap_highest f (n ∷ ns) = ap (max (min 101 (f n))) (cap_highest f ns) ∙ cap_m
 cap_above : (h : ℕ) → min 101 (min 101 h + 1) ≡ min 101 (h + 1)
 cap_above h = omega arith
 
-cap_same : (h : ℕ) → min 101 (min 101 h) ≡ min 101 h
-cap_same h = omega arith
-
 cap_kind : (h : ℕ) (k : TypeDefKind) → min 101 (levels_above (min 101 h) k) ≡ min 101 (levels_above h k)
-cap_kind h kind.Resource = refl
-cap_kind h (kind.Type_ t) = cap_same h
-cap_kind h _ = cap_above h
+cap_kind h x = search std_rules
 
 pub highest_same : (f g : ℕ → ℕ) (n : ℕ) (ns : List ℕ) → ((m : ℕ) → m < n → f m ≡ g m) → list_all (λ m. nat_lt m n) ns ≡ true → highest f ns ≡ highest g ns
 highest_same f g n [] same h = refl
@@ -144,13 +113,9 @@ module _ (r : Resolve) where
 
 -- ---- the tests, by any levels that agree
 
-cap_shallow : (n : ℕ) → nat_le (min 101 n) 100 ≡ nat_le n 100
-cap_shallow n = grind arith
-
 module _ (r : Resolve) (f : ℕ → ℕ) (same : (n : ℕ) → f n ≡ min 101 (levels (number_tree r n))) where
   shallow : (t : ValueType) → list_all (λ n. nat_le (f n) 100) (option_to_list (number_of t)) ≡ is_shallow r t
-  shallow (ty.Id id) = and-true (nat_le (f id.0) 100) ∙ (ap (λ x. nat_le x 100) (same id.0) ∙ cap_shallow (levels (number_tree r id.0)))
-  shallow _ = refl
+  shallow y = search std_rules
 
   pub shallow_types : (ts : List ValueType) → list_all (λ n. nat_le (f n) 100) (filter_map number_of ts) ≡ list_all (is_shallow r) ts
   shallow_types ts = types_test (λ n. nat_le (f n) 100) (is_shallow r) shallow ts

@@ -1,12 +1,12 @@
 -- The third part of the rule on the order of types, by places, for interfaces and worlds.
-use Rattle.std.proofs.Common.{◌≡◌, refl, sym, ap, subst, ◌∙◌, ℕ, zero, suc, ◌+◌, true, false, ◌||◌, not, ◌==◌, eq-eqb, lit≤, List, [], ◌∷◌, ◌++◌, take, length, map, filter_map, option_map, position, string_bytes, Some, None, Option, unwrap_or, arith, String}
+use Rattle.std.proofs.Common.{rules as std_rules, ◌≡◌, refl, sym, ap, subst, ◌∙◌, ℕ, zero, suc, ◌+◌, true, false, ◌||◌, not, eq-eqb, List, [], ◌∷◌, ◌++◌, take, length, map, filter_map, position, string_bytes, Some, Option, arith, String}
 use Rattle.std.proofs.Math.Seq.{take-append_seam}
-use Rattle.std.proofs.lemmas.{List.Elements.filter_map-append, List.Folds.list_any-append, Bool.and_right as second_false}
+use Rattle.std.proofs.lemmas.{List.Elements.filter_map-append, List.Folds.list_any-append}
 use Rattle.std.specs.declared.alloc.Global.{Global}
-use Rattle.std.specs.{List.list_all, List.cons_option, Option.option_map_or, Str.bytes_eq, Map.keys_of, Map.values_of, HashMap.get_by_text}
+use Rattle.std.specs.{List.list_all, Option.option_map_or, Str.bytes_eq, Map.keys_of, Map.values_of, HashMap.get_by_text}
 use Rattle.indexmap.specs.IndexMap.{values}
 use Rattle.wit_model.specs.declared.model.{Resolve.Resolve, Interface.Interface, World.World, TypeDef.TypeDef, TypeOwner.TypeOwner}
-use Rattle.wit_model.specs.{Text.text_of, Text.text_eq, Lookup.type_at, Lookup.interface_at, Lookup.world_at, Uses.has, Parts.same_owner}
+use Rattle.wit_model.specs.{Text.text_of, Text.text_eq, Lookup.type_at, Lookup.interface_at, Lookup.world_at, Uses.has}
 use Rattle.wit_model.specs.Rules.{passes, is_id, is_name_key, item_type, each_from, is_named_of, is_listed, is_listed_in_interface, is_listed_in_world, interface_type_numbers, world_type_numbers, used_by_number, are_in_order}
 use Rattle.wit_model.specs.Valid.{Keeps, Breaks, entry_keeps, owners, order_of_types, as_interface, as_world}
 use Rattle.wit_model.specs.Checks.{references, list_orders, listings, names_fit, has_name, key_fits, rank_in, rank_of, reach_of, stands_in_order}
@@ -14,7 +14,6 @@ use Rattle.wit_model.proofs.{Entries.each_from_at, Entries.lists_pass, Listings.
 use Rattle.wit_model.proofs.{Checks.keeps_three, InOrder.found, InOrder.fitting, Chains.all_has}
 use Rattle.check_rules.proofs.{OwnerOrder.walk, OwnerOrder.entry_stands, PackageNames.each_both}
 use Rattle.base_lemmas.proofs.{Bools.left_of as first_true, Bools.or_true, Elements.all_weaker as all_imply}
-use Rattle.wit_model.specs.declared.model.TypeOwner.TheVariants as owner
 use Rattle.wit_model.specs.declared.error.EntryList.TheVariants as lists
 
 take_map : {X Y : Type 0} (f : X → Y) (n : ℕ) (xs : List X) → map f (take n xs) ≡ take n (map f xs)
@@ -25,11 +24,7 @@ take_map f (suc n) (x ∷ xs) = ap (λ ys. f x ∷ ys) (take_map f n xs)
 
 -- an element of a list stands in it
 stands_there : {V : Type 0} (num : V → Option ℕ) (done : List V) (v : V) (rest : List V) (n : ℕ) → num v ≡ Some n → has (filter_map num (done ++ v ∷ rest)) n ≡ true
-stands_there num done v rest n e =
-    ap (λ ns. has ns n) (filter_map-append num done (v ∷ rest))
-    ∙ (list_any-append (λ m. m == n) (filter_map num done) (filter_map num (v ∷ rest))
-    ∙ (ap (λ b. has (filter_map num done) n || b) (ap (λ o. has (cons_option o (filter_map num rest)) n) e ∙ ap (λ b. b || has (filter_map num rest) n) (eq-eqb n n refl)) ∙ or_true
-    (has (filter_map num done) n)))
+stands_there num done v rest n e = search (std_rules, filter_map-append, list_any-append, eq-eqb, or_true)
 
 -- what stands before an element
 pub before_seam : {K V : Type 0} (es : List (K × V)) (done : List V) (v : V) (rest : List V) → values_of es ≡ done ++ v ∷ rest → values_of (take (length done) es) ≡ done
@@ -38,16 +33,10 @@ before_seam es done v rest e = take_map (λ x. x.1) (length done) es ∙ (ap (ta
 module _ (r : Resolve) (refs : Keeps references r) (kept : Keeps listings r) (fit : Keeps names_fit r) (own : Keeps owners r) where
   listed_at : (m : ℕ) (def : TypeDef) (name : String Global) → type_at r m ≡ Some def → def.name ≡ Some name → is_listed r m (text_of name) def.owner ≡ true
   unfolding listings
-  listed_at m def name is named =
-      let here : 0 + m ≡ m = omega arith in
-      let all : listings.type_ r m def ≡ true = subst (λ k. listings.type_ r k def ≡ true) here (each_from_at (listings.type_ r) 0 r.types.items m def (lists_pass listings r kept).3 is) in
-      sym (ap (λ o. option_map_or (λ x. is_listed r m (text_of x) def.owner) o (same_owner def.owner owner.None)) named) ∙ all
+  listed_at m def name is named = search (std_rules, each_from_at, lists_pass)
 
   ranked : (m : ℕ) (def : TypeDef) (name : String Global) (o : TypeOwner) → type_at r m ≡ Some def → def.name ≡ Some name → def.owner ≡ o → rank_of r m ≡ rank_in r (text_of name) o
-  ranked m def name o is named mine =
-      ap (λ d. option_map_or (λ x. option_map_or (λ y. rank_in r (text_of y) x.owner) x.name 0) d 0) is
-      ∙ (ap (λ x. option_map_or (λ y. rank_in r (text_of y) def.owner) x 0) named
-      ∙ ap (rank_in r (text_of name)) mine)
+  ranked m def name o is named mine = search std_rules
 
   module _ (n : ℕ) (w : World) (at : world_at r n ≡ Some w) where
     world_all : list_all (is_named_of r (as_world n)) (world_type_numbers w) ≡ true
@@ -122,19 +111,11 @@ module _ (r : Resolve) (refs : Keeps references r) (kept : Keeps listings r) (fi
 
 pub interface_order_breaks : (r : Resolve) (n : ℕ) → entry_keeps list_orders r lists.Interfaces n ≡ Some false → Breaks r 5 lists.Interfaces n
 unfolding list_orders order_of_types
-interface_order_breaks r n e = (lit≤ tt, go (interface_at r n) e)
-  where
-    go : (o : Option Interface) → option_map (list_orders.interface_ r n) o ≡ Some false → option_map (order_of_types.interface_ r n) o ≡ Some false
-    go None h = cc
-    go (Some i) h = ap Some (second_false _ _ (ap (λ o. unwrap_or o true) h))
+interface_order_breaks r n e = search std_rules
 
 pub world_order_breaks : (r : Resolve) (n : ℕ) → entry_keeps list_orders r lists.Worlds n ≡ Some false → Breaks r 5 lists.Worlds n
 unfolding list_orders order_of_types
-world_order_breaks r n e = (lit≤ tt, go (world_at r n) e)
-  where
-    go : (o : Option World) → option_map (list_orders.world_ r n) o ≡ Some false → option_map (order_of_types.world_ r n) o ≡ Some false
-    go None h = cc
-    go (Some w) h = ap Some (second_false _ _ (ap (λ o. unwrap_or o true) h))
+world_order_breaks r n e = search std_rules
 
 -- ---- the three parts of the rule on the order of types
 

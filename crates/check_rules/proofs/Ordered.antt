@@ -1,10 +1,9 @@
 -- The order of an owner's list, by the greatest place of what is met at each number.
-use Rattle.std.proofs.Common.{◌≡◌, refl, ap, ◌∙◌, ℕ, max, List, [], ◌∷◌, ◌++◌, flat_map, Some, None, arith, String}
+use Rattle.std.proofs.Common.{rules as std_rules, ◌≡◌, refl, ap, ◌∙◌, ℕ, max, List, [], ◌∷◌, ◌++◌, flat_map, Some, None, arith, String}
 use Rattle.std.specs.declared.alloc.Global.{Global}
-use Rattle.std.specs.Option.{option_map_or}
 use Rattle.wit_model.specs.declared.model.{Resolve.Resolve, TypeDef.TypeDef}
 use Rattle.wit_model.specs.{Text.text_of, Lookup.type_at, Valid.Keeps, Checks.references, Checks.highest, Checks.rank_in, Checks.rank_of, Checks.reach_of}
-use Rattle.wit_model.specs.Parts.{kind_numbers, met_by, met_of, used_by_type}
+use Rattle.wit_model.specs.Parts.{kind_numbers, met_by, met_of}
 use Rattle.wit_model.proofs.Owners.{met_step}
 use Rattle.base_lemmas.proofs.Numbers.{max-none}
 
@@ -18,13 +17,7 @@ highest_flat f g (n ∷ ns) = highest_both f (g n) (flat_map g ns) ∙ ap (max (
 
 module _ (r : Resolve) (below : Keeps references r) (n : ℕ) (def : TypeDef) (is : type_at r n ≡ Some def) where
   pub reach_named : (name : String Global) → def.name ≡ Some name → reach_of r n ≡ rank_in r (text_of name) def.owner
-  reach_named name named =
-      ap (highest (rank_of r)) (met_step r below n def is ∙ ap (λ o. option_map_or (λ name. n ∷ []) o (used_by_type r def)) named)
-      ∙ (max-none (rank_of r n)
-      ∙ (ap (λ o. option_map_or (λ def. option_map_or (λ name. rank_in r (text_of name) def.owner) def.name 0) o 0) is
-      ∙ ap (λ o. option_map_or (λ name. rank_in r (text_of name) def.owner) o 0) named))
+  reach_named name named = search (std_rules, met_step r below n def is, max-none (rank_of r n))
 
   pub reach_unnamed : def.name ≡ None → reach_of r n ≡ highest (reach_of r) (kind_numbers def.kind)
-  reach_unnamed unnamed =
-      ap (highest (rank_of r)) (met_step r below n def is ∙ ap (λ o. option_map_or (λ name. n ∷ []) o (used_by_type r def)) unnamed)
-      ∙ highest_flat (rank_of r) (met_by (met_of r)) (kind_numbers def.kind)
+  reach_unnamed unnamed = search (std_rules, met_step r below n def is, highest_flat (rank_of r) (met_by (met_of r)) (kind_numbers def.kind))

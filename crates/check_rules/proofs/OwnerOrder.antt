@@ -1,13 +1,13 @@
 -- The order of an owner's list, entry by entry: what each owner's list has to know of its types.
-use Rattle.std.proofs.Common.{◌≡◌, refl, sym, ap, subst, ◌∙◌, ℕ, ◌+◌, Bool, true, false, ◌&&◌, ◌||◌, not, nat_le, List, [], ◌∷◌, ◌++◌, take, length, filter_map, flat_map, position, is_some, Some, None, Option, append_assoc, append-nil, length-append, arith, String}
+use Rattle.std.proofs.Common.{rules as std_rules, ◌≡◌, refl, sym, ap, subst, ◌∙◌, ℕ, ◌+◌, Bool, true, false, ◌&&◌, ◌||◌, not, nat_le, List, [], ◌∷◌, ◌++◌, take, length, filter_map, flat_map, position, is_some, Some, None, Option, append_assoc, append-nil, length-append, arith, String}
 use Rattle.std.proofs.lemmas.{List.Elements.filter_map-append, Bool.not-true as not_true}
 use Rattle.std.specs.declared.alloc.Global.{Global}
-use Rattle.std.specs.{List.list_all, List.cons_option, Option.option_map_or, Map.keys_of, Map.values_of}
+use Rattle.std.specs.{List.list_all, Option.option_map_or, Map.keys_of, Map.values_of}
 use Rattle.wit_model.specs.declared.model.{Resolve.Resolve, TypeDef.TypeDef, TypeOwner.TypeOwner}
 use Rattle.wit_model.specs.Text.{Text, text_of}
 use Rattle.wit_model.specs.{Lookup.type_at, Lookup.interface_at, Uses.has, Uses.alias_target, Uses.owner_interface, Valid.Keeps, Valid.owners}
 use Rattle.wit_model.specs.Parts.{kind_numbers, used_by_type, same_owner, has_owner, met_by, met_of}
-use Rattle.wit_model.specs.Rules.{passes, each_from, each_after, is_use, type_stays, is_listed, is_named_of, used_by_number}
+use Rattle.wit_model.specs.Rules.{passes, each_from, each_after, is_use, type_stays, is_named_of, used_by_number}
 use Rattle.wit_model.specs.Checks.{highest, references, listings, rank_of, reach_of, stands_in_order}
 use Rattle.wit_model.proofs.{Entries.each_from_at, Entries.lists_pass, InOrder.found, InOrder.fitting, InOrder.used_place, InOrder.highest_within}
 use Rattle.wit_model.proofs.{Owners.met_step, Owners.owned_stays, PartsLemmas.owner_same, UsesLemmas.alias_numbers}
@@ -22,29 +22,8 @@ module _ {V : Type 0} (num : V → Option ℕ) (stands : ℕ → ℕ → Bool) (
       ((done : List V) (v : V) (rest : List V) (n : ℕ) → vs ≡ done ++ v ∷ rest → num v ≡ Some n → stands (length done) n ≡ after (filter_map num done) n) →
       each_from (λ p v. passes (stands p) (num v)) (length done) rest ≡ each_after after (filter_map num done) (filter_map num rest)
   walk vs done [] e h = refl
-  walk vs done (v ∷ rest) e h = go (walk vs (done ++ v ∷ []) rest (e ∙ sym (append_assoc done (v ∷ []) rest)) h) (num v) refl
-    where
-      longer : length (done ++ v ∷ []) ≡ length done + 1
-      longer = omega (arith, length-append done (v ∷ []))
-
-      given : (o : Option ℕ) → num v ≡ o → filter_map num (done ++ v ∷ []) ≡ filter_map num done ++ cons_option o []
-      given o f = filter_map-append num done (v ∷ []) ∙ ap (λ x. filter_map num done ++ cons_option x []) f
-
-      go : each_from (λ p v. passes (stands p) (num v)) (length (done ++ v ∷ [])) rest ≡ each_after after (filter_map num (done ++ v ∷ [])) (filter_map num rest) →
-          (o : Option ℕ) → num v ≡ o →
-          (passes (stands (length done)) (num v) && each_from (λ p v. passes (stands p) (num v)) (length done + 1) rest) ≡ each_after after (filter_map num done)
-          (cons_option (num v) (filter_map num rest))
-      go next None f =
-          ap (λ x. passes (stands (length done)) x && each_from (λ p v. passes (stands p) (num v)) (length done + 1) rest) f
-          ∙ (ap (λ p. each_from (λ p v. passes (stands p) (num v)) p rest) (sym longer)
-          ∙ (next
-          ∙ (ap (λ before. each_after after before (filter_map num rest)) (given None f ∙ append-nil (filter_map num done))
-          ∙ ap (λ x. each_after after (filter_map num done) (cons_option x (filter_map num rest))) (sym f))))
-      go next (Some n) f =
-          ap (λ x. passes (stands (length done)) x && each_from (λ p v. passes (stands p) (num v)) (length done + 1) rest) f
-          ∙ ((λ i. h done v rest n e f i && each_from (λ p v. passes (stands p) (num v)) (sym longer i) rest)
-          ∙ (ap (λ b. after (filter_map num done) n && b) (next ∙ ap (λ before. each_after after before (filter_map num rest)) (given (Some n) f))
-          ∙ ap (λ x. each_after after (filter_map num done) (cons_option x (filter_map num rest))) (sym f)))
+  walk vs done (v ∷ rest) e h =
+      search (std_rules, append_assoc, length-append, filter_map-append, append-nil, walk vs (done ++ v ∷ []) rest (e ∙ sym (append_assoc done (v ∷ []) rest)) h)
 
 -- ---- what is used has its place
 
@@ -55,21 +34,12 @@ all_same p f g same (m ∷ ns) h = λ i. same m (first_true _ _ h) i && all_same
 -- a type with a real owner has a name
 pub owned_named : (r : Resolve) → Keeps listings r → (m : ℕ) (def : TypeDef) → type_at r m ≡ Some def → same_owner def.owner owner.None ≡ false → is_some def.name ≡ true
 unfolding listings
-owned_named r kept m def is real = go def.name (subst (λ k. listings.type_ r k def ≡ true) here (each_from_at (listings.type_ r) 0 r.types.items m def (lists_pass listings r kept).3 is))
-  where
-    here : 0 + m ≡ m
-    here = omega arith
-
-    go : (o : Option (String Global)) → option_map_or (λ name. is_listed r m (text_of name) def.owner) o (same_owner def.owner owner.None) ≡ true → is_some o ≡ true
-    go None h = let wrong : true ≡ false = sym h ∙ real in cc
-    go (Some name) h = refl
+owned_named r kept m def is real = search (std_rules, each_from_at, lists_pass)
 
 -- an owner that is an interface is real
 foreign_real : (r : Resolve) (a : TypeOwner) → option_map_or (λ i. option_map_or (λ other. is_some other.name) (interface_at r i) false) (owner_interface a) false ≡ true
     → same_owner a owner.None ≡ false
-foreign_real r (owner.Interface id) h = refl
-foreign_real r (owner.World id) h = refl
-foreign_real r owner.None h = let wrong : ⊥ = cc in absurd wrong
+foreign_real r x h = search std_rules
 
 -- What a list of an owner has to know: where a type of that owner stands in it.
 module _ (r : Resolve) (kept : Keeps listings r) {K V : Type 0} (num : V → Option ℕ) (o : TypeOwner) (es : List (K × V)) (tests : Text → K → Bool)

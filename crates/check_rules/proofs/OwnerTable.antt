@@ -1,5 +1,5 @@
 -- The tests of the rule on owners, by a table of what is met.
-use Rattle.std.proofs.Common.{◌≡◌, refl, sym, ap, ◌∙◌, ℕ, Bool, ◌&&◌, List, [], ◌∷◌, flat_map}
+use Rattle.std.proofs.Common.{rules as std_rules, ◌≡◌, refl, sym, ap, ◌∙◌, ℕ, List, [], ◌∷◌, flat_map}
 use Rattle.std.proofs.lemmas.List.Folds.{list_all-append}
 use Rattle.std.specs.List.{list_all}
 use Rattle.check_rules.specs.declared.owners.Met.{Met}
@@ -18,6 +18,4 @@ module _ (r : Resolve) (table : List Met) (right : IsMetTable r table) where
 
   pub functions_stay : (o : TypeOwner) (fs : List Function) → list_all (λ n. stays (met_entry table n) o) (all_values fs) ≡ list_all (function_stays r o) fs
   functions_stay o [] = refl
-  functions_stay o (f ∷ fs) =
-      let p : ℕ → Bool = λ n. stays (met_entry table n) o in
-      list_all-append p (values_of f) (all_values fs) ∙ (λ i. function_stay o f i && functions_stay o fs i)
+  functions_stay o (f ∷ fs) = search (std_rules, list_all-append, function_stay, functions_stay o fs)

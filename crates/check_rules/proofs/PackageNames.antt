@@ -1,18 +1,17 @@
 -- The rule on packages' names from its two parts.
-use Rattle.std.proofs.Common.{◌≡◌, refl, sym, ap, subst, ◌∙◌, ℕ, zero, suc, ◌+◌, ◌<◌, Bool, true, false, ◌&&◌, ◌||◌, not, ◌==◌, List, [], ◌∷◌, map, take, Option, Some, None, option_map, slice_get, inl, inr, arith, lit≤, eq-eqb}
-use Rattle.std.proofs.lemmas.Bool.{cases_order, or_right, and_from as both_true, and_left as fails_first, and_right as fails_second, or_parts as either_fails}
+use Rattle.std.proofs.Common.{rules as std_rules, ◌≡◌, refl, sym, ap, subst, ◌∙◌, ℕ, zero, suc, ◌+◌, ◌<◌, Bool, true, false, ◌&&◌, ◌||◌, not, ◌==◌, List, [], ◌∷◌, map, take, Some, None, slice_get, inl, inr, arith, eq-eqb}
+use Rattle.std.proofs.lemmas.Bool.{cases_order, or_right, and_from as both_true, and_right as fails_second, or_parts as either_fails}
 use Rattle.std.proofs.lemmas.Option.{same_Some as some_same}
 use Rattle.std.specs.List.{list_any}
 use Rattle.semver.specs.declared.Version.{Version}
-use Rattle.semver.specs.Identifiers.{pre_text, build_text}
 use Rattle.wit_model.specs.declared.model.{Resolve.Resolve, Package.Package}
 use Rattle.wit_model.specs.{Lookup.package_at, Checks.KeepsIn}
 use Rattle.wit_model.specs.{Rules.each_from, Rules.same_package_name, Rules.same_version, Valid.Breaks, Valid.Keeps, Valid.entry_keeps, Valid.package_names}
-use Rattle.check_rules.specs.PackageNames.{distinct_names, is_package_name, well_named}
+use Rattle.check_rules.specs.PackageNames.{distinct_names, well_named}
 use Rattle.wit_model.proofs.{Entries.each_from_all, Entries.packages_keep, RulesLemmas.name_flip}
-use Rattle.wit_model.proofs.Distinct.{adds_new, adds_apart, are_apart, not_is, text_eq_flip}
-use Rattle.base_lemmas.proofs.Bools.{both_same, left_of as first_true, right_of as second_true}
-use Rattle.base_lemmas.proofs.Numbers.{unequal as differ, turned as number_flip}
+use Rattle.wit_model.proofs.Distinct.{adds_new, adds_apart, are_apart, not_is}
+use Rattle.base_lemmas.proofs.Bools.{left_of as first_true, right_of as second_true}
+use Rattle.base_lemmas.proofs.Numbers.{unequal as differ}
 use Rattle.wit_model.specs.declared.error.EntryList.TheVariants as lists
 
 no_some : {A B : Type 0} (x : A) → None ≡ Some x → B
@@ -27,9 +26,7 @@ each_both p q n (x ∷ xs) h k = both_true _ _ (both_true (p n x) (q n x) (first
 -- what fails at one entry fails
 each_fails : {A : Type 0} (test : ℕ → A → Bool) (k : ℕ) (xs : List A) (n : ℕ) (x : A) → slice_get xs n ≡ Some x → test (k + n) x ≡ false → each_from test k xs ≡ false
 each_fails test k [] n x at fails = no_some x at
-each_fails test k (y ∷ ys) zero x at fails =
-    let here : k + 0 ≡ k = omega arith in
-    fails_first _ _ (subst (λ z. test k z ≡ false) (sym (some_same y x at)) (subst (λ m. test m x ≡ false) here fails))
+each_fails test k (y ∷ ys) zero x at fails = search std_rules
 each_fails test k (y ∷ ys) (suc n) x at fails =
     let next : k + suc n ≡ (k + 1) + n = omega arith in
     fails_second _ _ (each_fails test (k + 1) ys n x at (subst (λ m. test m x ≡ false) next fails))
@@ -55,19 +52,14 @@ module _ {A K : Type 0} (f : A → K) where
   pair_apart : (same : K → K → Bool) (xs : List A) (n m : ℕ) (a b : A) → are_apart same (map f xs) ≡ true → n < m → slice_get xs n ≡ Some a → slice_get xs m ≡ Some b → same (f a) (f b) ≡ false
   pair_apart same [] n m a b h below at also = no_some a at
   pair_apart same (x ∷ xs) zero zero a b h below at also = absurd (omega (arith, below))
-  pair_apart same (x ∷ xs) zero (suc m) a b h below at also =
-      ap (λ z. same (f z) (f b)) (sym (some_same x a at)) ∙ none_at (same (f x)) xs m b (not_is _ true (first_true _ _ h)) also
+  pair_apart same (x ∷ xs) zero (suc m) a b h below at also = search (std_rules, some_same, none_at, not_is, first_true)
   pair_apart same (x ∷ xs) (suc n) zero a b h below at also = absurd (omega (arith, below))
   pair_apart same (x ∷ xs) (suc n) (suc m) a b h below at also = pair_apart same xs n m a b (second_true _ _ h) (omega (arith, below)) at also
 
 -- ---- packages
 
 version_flip : (a b : Version) → same_version a b ≡ same_version b a
-version_flip a b =
-    both_same _ _ _ _ (number_flip a.major b.major)
-    (both_same _ _ _ _ (number_flip a.minor b.minor)
-    (both_same _ _ _ _ (number_flip a.patch b.patch)
-    (both_same _ _ _ _ (text_eq_flip (pre_text a.pre) (pre_text b.pre)) (text_eq_flip (build_text a.build) (build_text b.build)))))
+version_flip a b = search std_rules
 
 -- no other package has the name
 only_at : (r : Resolve) → are_apart same_package_name (map (λ p. p.name) r.packages.items) ≡ true → (n : ℕ) (p : Package) → slice_get r.packages.items n ≡ Some p → distinct_names.package_ r n p ≡ true
@@ -83,36 +75,18 @@ only_at r apart n p at =
     ]))
 
 pub distinct_kept : (r : Resolve) → adds_new same_package_name [] (map (λ p. p.name) r.packages.items) ≡ true → KeepsIn distinct_names r lists.Packages
-distinct_kept r new =
-    let apart = sym (adds_apart same_package_name name_flip (map (λ p. p.name) r.packages.items)) ∙ new in
-    each_from_all (distinct_names.package_ r) 0 r.packages.items (λ n p at.
-    let here : n ≡ 0 + n = omega arith in
-    subst (λ k. distinct_names.package_ r k p ≡ true) here (only_at r apart n p at))
+distinct_kept r new = search (std_rules, adds_apart, name_flip, each_from_all, only_at)
 
 -- a package that an earlier one has the name of
 pub repeated_breaks : (r : Resolve) (n : ℕ) (p : Package) → package_at r n ≡ Some p → list_any (same_package_name p.name) (take n (map (λ p. p.name) r.packages.items)) ≡ true
     → Breaks r 2 lists.Packages n
 unfolding package_names
-repeated_breaks r n p at seen =
-    let earlier = any_before (λ p. p.name) (same_package_name p.name) r.packages.items n seen in
-    let m = earlier.0 in
-    let other = earlier.1 in
-    let here : m ≡ 0 + m = omega arith in
-    let apart : (m == n) ≡ false = differ m n (λ e. absurd (omega (arith, earlier.2, e))) in
-    let fails : ((m == n) || not (same_package_name p.name other.name)) ≡ false = rw (apart, earlier.4) refl in
-    let none = each_fails (λ m other. (m == n) || not (same_package_name p.name other.name)) 0 r.packages.items m other earlier.3
-    (subst (λ k. ((k == n) || not (same_package_name p.name other.name)) ≡ false) here fails) in
-    (lit≤ tt, ap (option_map (package_names.package_ r n)) at ∙ ap Some (fails_second (is_package_name p.name) _ none))
+repeated_breaks r n p at seen = search (std_rules, any_before, differ, each_fails, fails_second)
 
 pub misnamed_breaks : (r : Resolve) (n : ℕ) → entry_keeps well_named r lists.Packages n ≡ Some false → Breaks r 2 lists.Packages n
 unfolding well_named package_names
-misnamed_breaks r n e = (lit≤ tt, go (package_at r n) e)
-  where
-    go : (o : Option Package) → option_map (well_named.package_ r n) o ≡ Some false → option_map (package_names.package_ r n) o ≡ Some false
-    go None h = cc
-    go (Some p) h = ap Some (fails_first _ _ (some_same _ _ h))
+misnamed_breaks r n e = search std_rules
 
 pub names_kept : (r : Resolve) → KeepsIn well_named r lists.Packages → KeepsIn distinct_names r lists.Packages → Keeps package_names r
 unfolding well_named distinct_names package_names
-names_kept r named apart =
-    packages_keep package_names.package_ r (each_both (well_named.package_ r) (distinct_names.package_ r) 0 r.packages.items named apart)
+names_kept r named apart = search (std_rules, packages_keep, each_both)

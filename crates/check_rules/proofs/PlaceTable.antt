@@ -1,5 +1,5 @@
 -- A table of what worlds show says where inline interfaces stand.
-use Rattle.std.proofs.Common.{◌≡◌, refl, sym, ap, ◌∙◌, ℕ, zero, suc, ◌+◌, ◌<◌, Bool, true, false, ◌&&◌, ◌||◌, ◌==◌, List, [], ◌∷◌, length, sum_by, set, replicate, Option, arith}
+use Rattle.std.proofs.Common.{rules as std_rules, ◌≡◌, refl, sym, ap, ◌∙◌, ℕ, zero, suc, ◌+◌, ◌<◌, Bool, true, false, ◌&&◌, ◌||◌, ◌==◌, List, [], ◌∷◌, length, sum_by, set, replicate, Option, arith}
 use Rattle.std.proofs.lemmas.List.Sums.{sum_by-cons}
 use Rattle.std.specs.{List.list_all, Option.option_eq}
 use Rattle.check_rules.specs.declared.shown.Shown.{Shown}
@@ -11,17 +11,7 @@ use Rattle.check_rules.specs.declared.shown.Shown.TheVariants as shown
 -- ---- what is shown, together
 
 pub joined_never : (a : Shown) → joined a shown.Never ≡ a
-joined_never shown.Never = refl
-joined_never _ = refl
-
-pub joined_assoc : (a b c : Shown) → joined (joined a b) c ≡ joined a (joined b c)
-joined_assoc shown.Never b c = refl
-joined_assoc shown.Often b c = refl
-joined_assoc (shown.Once p) shown.Never c = refl
-joined_assoc (shown.Once p) (shown.Once q) shown.Never = refl
-joined_assoc (shown.Once p) (shown.Once q) (shown.Once s) = refl
-joined_assoc (shown.Once p) (shown.Once q) shown.Often = refl
-joined_assoc (shown.Once p) shown.Often c = refl
+joined_never x = search std_rules
 
 -- ---- tables
 
@@ -45,9 +35,7 @@ marked (x ∷ xs) (suc i) (suc n) home h =
 
 -- no mark past the end
 pub unmarked : (xs : List Shown) (i n : ℕ) (home : Option PackageId) → n < i → shown_entry xs n ≡ joined (shown_entry xs n) (time (i == n) home)
-unmarked xs i n home h =
-    let other : (i == n) ≡ false = grind (arith, h) in
-    not_marked (shown_entry xs n) (i == n) home other
+unmarked xs i n home h = search std_rules
 
 pub never_entry : (k n : ℕ) → shown_entry (replicate k shown.Never) n ≡ shown.Never
 never_entry zero n = refl
@@ -63,21 +51,11 @@ module _ (n : ℕ) (p : Option PackageId) where
   abbrev fits : World → Bool
   fits w = (times_shown n w == 0) || option_eq ◌==◌ (package_number w.package) (package_number p)
 
-  zero_first : (k : ℕ) → k ≡ 0 + k
-  zero_first k = omega arith
-
-  more_than_none : (t k : ℕ) → false ≡ ((suc t + k) == 0)
-  more_than_none t k = grind arith
-
-  more_than_one : (t k : ℕ) → false ≡ ((suc (suc t) + k) == 1)
-  more_than_one t k = grind arith
-
   one_more : (k : ℕ) → (k == 0) ≡ ((1 + k) == 1)
   one_more k = grind arith
 
   none_left : (t k : ℕ) → ((t + k) == 0) ≡ true → (t == 0) ≡ true × ((k == 0) ≡ true)
-  none_left zero k h = (refl, ap (λ m. m == 0) (zero_first k) ∙ h)
-  none_left (suc t) k h = let wrong : ⊥ = cc (more_than_none t k) in absurd wrong
+  none_left x k h = search std_rules
 
   -- a world that doesn't show it fits
   none_fits : (ws : List World) → (sum_by (times_shown n) ws == 0) ≡ true → list_all fits ws ≡ true
@@ -89,28 +67,16 @@ module _ (n : ℕ) (p : Option PackageId) where
 
   once_step : (t k : ℕ) (home other : Option PackageId) (s : Shown) → is_once_in p (joined (shown.Once home) s) ≡ ((k == 0) && in_package home)
       → is_once_in p (joined (shown.Once home) (joined (times t other) s)) ≡ (((t + k) == 0) && in_package home)
-  once_step zero k home other s again = again ∙ ap (λ m. (m == 0) && in_package home) (zero_first k)
-  once_step (suc zero) k home other s again = ap (is_once_in p) (sym (joined_assoc (shown.Once home) (shown.Once other) s)) ∙ ap (λ b. b && in_package home) (more_than_none zero k)
-  once_step (suc (suc t)) k home other s again = ap (is_once_in p) (sym (joined_assoc (shown.Once home) shown.Often s)) ∙ ap (λ b. b && in_package home) (more_than_none (suc t) k)
+  once_step x k home other s again = search std_rules
 
   -- shown in one world, and then in no other
   once_more : (home : Option PackageId) (ws : List World) → is_once_in p (joined (shown.Once home) (shown_by_all n ws)) ≡ ((sum_by (times_shown n) ws == 0) && in_package home)
   once_more home [] = refl
-  once_more home (w ∷ ws) =
-      once_step (times_shown n w) (sum_by (times_shown n) ws) home w.package (shown_by_all n ws) (once_more home ws)
-      ∙ ap (λ k. (k == 0) && in_package home) (sym (sum_by-cons (times_shown n) w ws))
-
-  and_given : (b e a : Bool) → (b ≡ true → a ≡ true) → (b && e) ≡ (b && (e && a))
-  and_given true true a h = sym (h refl)
-  and_given true false a h = refl
-  and_given false e a h = refl
+  once_more home (w ∷ ws) = search (std_rules, once_step, sum_by, sum_by-cons, once_more home ws)
 
   never_step : (t k : ℕ) (home : Option PackageId) (s : Shown) (a : Bool) → is_once_in p (joined (shown.Once home) s) ≡ ((k == 0) && in_package home) → is_once_in p s ≡ ((k == 1) && a)
       → ((k == 0) ≡ true → a ≡ true) → is_once_in p (joined (times t home) s) ≡ (((t + k) == 1) && (((t == 0) || in_package home) && a))
-  never_step zero k home s a once again none = again ∙ ap (λ m. (m == 1) && a) (zero_first k)
-  never_step (suc zero) k home s a once again none =
-      once ∙ (and_given (k == 0) (in_package home) a none ∙ ap (λ b. b && (in_package home && a)) (one_more k))
-  never_step (suc (suc t)) k home s a once again none = ap (λ b. b && (((suc (suc t) == 0) || in_package home) && a)) (more_than_one t k)
+  never_step x k home s a once again none = search std_rules
 
   -- shown once, in this package
   pub found_inline : (ws : List World) → is_once_in p (shown_by_all n ws) ≡ is_inline_in ws n p

@@ -1,10 +1,10 @@
 -- The sets of the interfaces that each interface uses.
-use Rattle.std.proofs.Common.{◌≡◌, refl, sym, ap, subst, ◌∙◌, ℕ, ◌+◌, ◌<◌, ◌≤◌, Bool, true, false, ◌&&◌, ◌||◌, not, ◌==◌, List, [], ◌∷◌, ◌++◌, length, option_to_list, slice_get, Some, None, Option, arith}
+use Rattle.std.proofs.Common.{rules as std_rules, ◌≡◌, refl, sym, ◌∙◌, ℕ, ◌+◌, ◌<◌, ◌≤◌, Bool, true, false, ◌&&◌, ◌||◌, not, ◌==◌, List, [], ◌∷◌, ◌++◌, length, option_to_list, slice_get, Some, None, Option}
 use Rattle.std.proofs.lemmas.Option.{slice_get_past}
 use Rattle.std.specs.{List.list_all, List.list_any, Option.option_map_or, HashSet.HashSet}
 use Rattle.indexmap.specs.IndexMap.{values}
 use Rattle.wit_model.specs.declared.model.{Resolve.Resolve, Interface.Interface}
-use Rattle.wit_model.specs.{Lookup.interface_at, Uses.has, Uses.interface_used_by, Uses.direct_deps}
+use Rattle.wit_model.specs.{Lookup.interface_at, Uses.has, Uses.direct_deps}
 use Rattle.wit_model.specs.ItemOrders.{holds, is_other_use, entry_holds, entry_passes, IsUsesTable}
 use Rattle.wit_model.proofs.{Checks.below_or_past, Checks.get_before, Shown.deps_pass, UsesLemmas.all_from_has as all_of_has, UsesLemmas.any_is_has as held}
 use Rattle.wit_model.proofs.Chains.{all_has}
@@ -13,15 +13,7 @@ use Rattle.base_lemmas.proofs.{Elements.not_all, Lists.at_last as get_last}
 -- ---- lists with the same numbers
 
 pub same_has : (test : ℕ → Bool) (xs ys : List ℕ) → ((q : ℕ) → has xs q ≡ has ys q) → list_all test xs ≡ list_all test ys
-same_has test xs ys same = go (list_all test xs) (list_all test ys) refl refl
-  where
-    over : (these those : List ℕ) → ((q : ℕ) → has these q ≡ has those q) → list_all test these ≡ true → list_all test those ≡ true
-    over these those alike h = all_of_has test those (λ q there. all_has test these q h (alike q ∙ there))
-
-    go : (a b : Bool) → list_all test xs ≡ a → list_all test ys ≡ b → a ≡ b
-    go true b e f = sym (over xs ys same e) ∙ f
-    go false true e f = sym e ∙ over ys xs (λ q. sym (same q)) f
-    go false false e f = refl
+same_has test xs ys same = search (std_rules, all_of_has, all_has)
 
 -- ---- the table
 
@@ -36,14 +28,7 @@ entry_ready {S} r table right n test = go (slice_get table n) (right n)
 -- one more entry
 pub uses_more : {S : Type 0} (r : Resolve) (table : List (HashSet ℕ S)) (s : HashSet ℕ S) (k : ℕ) → length table ≡ k → ((n : ℕ) → n < k → (q : ℕ) → entry_holds table n q ≡ has (direct_deps r n) q) →
     ((q : ℕ) → holds s q ≡ has (direct_deps r k) q) → (n : ℕ) → n < k + 1 → (q : ℕ) → entry_holds (table ++ s ∷ []) n q ≡ has (direct_deps r n) q
-uses_more r table s k made right last n h q =
-    below_or_past (λ m. m < k + 1 → entry_holds (table ++ s ∷ []) m q ≡ has (direct_deps r m) q) k
-    (λ m low within. ap (λ o. option_map_or (λ s. holds s q) o false) (get_before table s m (omega (arith, made, low))) ∙ right m low q)
-    (λ m high within.
-    let here : k ≡ m = omega (arith, high, within) in
-    subst (λ j. entry_holds (table ++ s ∷ []) j q ≡ has (direct_deps r j) q) here
-    (subst (λ j. entry_holds (table ++ s ∷ []) j q ≡ has (direct_deps r k) q) made (ap (λ o. option_map_or (λ s. holds s q) o false) (get_last table s) ∙ last q)))
-    n h
+uses_more r table s k made right last n h q = search (std_rules, below_or_past, get_before, get_last)
 
 nothing_used : (r : Resolve) (n : ℕ) → length r.interfaces.items ≤ n → direct_deps r n ≡ []
 nothing_used r n past = let none : interface_at r n ≡ None = slice_get_past r.interfaces.items n past in rw none refl
@@ -51,28 +36,12 @@ nothing_used r n past = let none : interface_at r n ≡ None = slice_get_past r.
 -- all entries
 pub uses_all : {S : Type 0} (r : Resolve) (table : List (HashSet ℕ S)) (k : ℕ) → length table ≡ k → length r.interfaces.items ≤ k
     → ((n : ℕ) → n < k → (q : ℕ) → entry_holds table n q ≡ has (direct_deps r n) q) → IsUsesTable r table
-uses_all r table k made past right n q =
-    below_or_past (λ m. entry_holds table m q ≡ has (direct_deps r m) q) k (λ m low. right m low q)
-    (λ m high.
-    ap (λ o. option_map_or (λ s. holds s q) o false) (slice_get_past table m (omega (arith, made, high)))
-    ∙ sym (ap (λ ns. has ns q) (nothing_used r m (omega (arith, past, high)))))
-    n
+uses_all r table k made past right n q = search (std_rules, below_or_past, slice_get_past, nothing_used)
 
 -- ---- what an interface uses
 
 other_use : (o : Option ℕ) (own q : ℕ) → not (option_map_or (λ m. (m == q) && not (m == own)) o false) ≡ list_all (λ m. (m == own) || not (m == q)) (option_to_list o)
-other_use None own q = refl
-other_use (Some m) own q = go (m == q) (m == own)
-  where
-    go : (a b : Bool) → not (a && not b) ≡ ((b || not a) && true)
-    go true true = refl
-    go true false = refl
-    go false true = refl
-    go false false = refl
+other_use x own q = search std_rules
 
 pub uses_found : (r : Resolve) (n : ℕ) (i : Interface) → interface_at r n ≡ Some i → (q : ℕ) → list_any (λ id. is_other_use r n id.0 q) (values i.types) ≡ has (direct_deps r n) q
-uses_found r n i is q =
-    not_all (λ id. is_other_use r n id.0 q) (values i.types)
-    ∙ (ap (λ test. not (list_all test (values i.types))) (λ j id. other_use (interface_used_by r id.0) n q j)
-    ∙ (ap not (deps_pass (λ m. not (m == q)) r n i is)
-    ∙ sym (not_all (λ m. m == q) (direct_deps r n))))
+uses_found r n i is q = search (std_rules, not_all, other_use, deps_pass)

@@ -1,5 +1,5 @@
 -- What the sections of a component export that was given component types, each with its export.
-use Rattle.std.proofs.Common.{◌≡◌, ℕ, suc, ◌+◌, ◌<◌, ◌≤◌, ◌==◌, Bool, true, false, ◌&&◌, ◌||◌, List, [], ◌∷◌, ◌++◌, map, length, Some, Option, slice_get, refl, sym, ap, ◌∙◌, subst, append_assoc, append-nil, arith}
+use Rattle.std.proofs.Common.{rules as std_rules, ◌≡◌, ℕ, suc, ◌+◌, ◌≤◌, ◌==◌, Bool, true, false, ◌&&◌, ◌||◌, List, [], ◌∷◌, ◌++◌, map, length, Some, Option, slice_get, refl, sym, ap, ◌∙◌, subst, append_assoc, append-nil, arith}
 use borrow.Author.Tests.{eq-eqb}
 use Rattle.std.specs.List.{list_all, list_any}
 use Rattle.wit_model.specs.{Text.Text, Names.is_label}
@@ -46,10 +46,7 @@ any_end m (e ∷ es) name n none h = both_false (e.1 == m) (list_any (λ x. x.1 
     both_false false b none f = f none
 
 fresh_next : (n : ℕ) (es : List (Text × ℕ)) (name : Text) → IsFresh n es → IsFresh (suc n) (es ++ (name, n) ∷ [])
-fresh_next n es name h m above =
-    let low : n ≤ m = omega arith in
-    let less : n < m = omega arith in
-    any_end m es name n (h m low) (apart n m less)
+fresh_next n es name h m above = search (std_rules, any_end, apart)
 
 one_longer : {A : Type 0} (xs : List A) (x : A) → length (xs ++ x ∷ []) ≡ suc (length xs)
 one_longer [] x = refl
@@ -63,18 +60,14 @@ one_type : (ds : List Declarations) (slots : List ℕ) (es : List (Text × ℕ))
     → (top_section (record { types = ds; slots = slots; exported = es }) (Section.types (TopType.component d ∷ [])) >>= λ next. top_section next
     (Section.exports (plain_export name (length slots) ∷ [])))
     ≡ Some (record { types = ds ++ d ∷ []; slots = (slots ++ length ds ∷ []) ++ length ds ∷ []; exported = es ++ (name, length ds) ∷ [] })
-one_type ds slots es name d fresh label =
-    let here : length ds ≤ length ds = omega arith in
-    rw (last_found slots (length ds) []) (rw (fresh (length ds) here) (rw label refl))
+one_type ds slots es name d fresh label = search (std_rules, last_found)
 
 -- the same, by the number of indexes that are taken
 next_type : (ds : List Declarations) (slots : List ℕ) (es : List (Text × ℕ)) (k : ℕ) (name : Text) (d : Declarations) (rest : List Section) → length slots ≡ k → IsFresh (length ds) es
     → is_label name ≡ true
     → steps top_section (record { types = ds; slots = slots; exported = es }) (Section.types (TopType.component d ∷ []) ∷ Section.exports (plain_export name k ∷ []) ∷ rest)
     ≡ steps top_section (record { types = ds ++ d ∷ []; slots = (slots ++ length ds ∷ []) ++ length ds ∷ []; exported = es ++ (name, length ds) ∷ [] }) rest
-next_type ds slots es k name d rest taken fresh label =
-    ap (λ (n : ℕ). steps top_section (record { types = ds; slots = slots; exported = es }) (Section.types (TopType.component d ∷ []) ∷ Section.exports (plain_export name n ∷ []) ∷ rest)) (sym taken)
-    ∙ ap (λ (o : Option Top). o >>= λ next. steps top_section next rest) (one_type ds slots es name d fresh label)
+next_type ds slots es k name d rest taken fresh label = search (std_rules, one_type)
 
 -- the component types and their exports behind what stood at the top
 top_after : (xs : List (Text × Declarations)) (ds : List Declarations) (slots : List ℕ) (es : List (Text × ℕ)) (k : ℕ) → length slots ≡ k → IsFresh (length ds) es → AreLabelled xs
@@ -109,13 +102,7 @@ find_in types x = slice_get types x.1 >>= λ ds. Some (x.0, ds)
 
 each_found : (front : List Declarations) (xs : List (Text × Declarations)) → each (find_in (front ++ map (λ x. x.1) xs)) (numbers_from (length front) xs) ≡ Some xs
 each_found front [] = refl
-each_found front (x ∷ xs) =
-    let whole : (front ++ x.1 ∷ []) ++ map (λ y. y.1) xs ≡ front ++ map (λ y. y.1) (x ∷ xs) = append_assoc front (x.1 ∷ []) (map (λ y. y.1) xs) in
-    let later : each (find_in (front ++ map (λ y. y.1) (x ∷ xs))) (numbers_from (suc (length front)) xs) ≡ Some xs =
-    (λ i. each (find_in (sym whole i)) (numbers_from (sym (one_longer front x.1) i) xs)) ∙ each_found (front ++ x.1 ∷ []) xs in
-    ap (λ (o : Option Declarations). (o >>= λ ds. Some (x.0, ds)) >>= λ y. each (find_in (front ++ map (λ y. y.1) (x ∷ xs))) (numbers_from (suc (length front)) xs) >>= λ ys. Some (y ∷ ys))
-    (last_found front x.1 (map (λ y. y.1) xs))
-    ∙ ap (λ (o : Option (List (Text × Declarations))). o >>= λ ys. Some (x ∷ ys)) later
+each_found front (x ∷ xs) = search (std_rules, append_assoc, one_longer, last_found, each_found (front ++ x.1 ∷ []) xs)
 
 no_exports : IsFresh 0 []
 no_exports m h = refl
@@ -136,12 +123,7 @@ all_exported xs labels apart = ap exported_types (sections_are 0 xs) ∙ types_e
 -- a type and its export take two indexes
 slots_taken : (n : ℕ) (xs : List (Text × Declarations)) (x : Text × Declarations) → exporting_from n (xs ++ x ∷ []) ≡ exporting_from n xs ++ one_exported (n + top_slots (exporting_from n xs)) x
 slots_taken n [] x = ap (λ k. one_exported k x) (omega arith)
-slots_taken n (y ∷ ys) x =
-    let taken : suc (suc n) + top_slots (exporting_from (suc (suc n)) ys) ≡ n + top_slots (exporting_from n (y ∷ ys)) = omega arith in
-    ap (λ ps. Part.top_type (TopType.component y.1) ∷ Part.top_export (plain_export y.0 n) ∷ ps)
-    (slots_taken (suc (suc n)) ys x ∙ ap (λ k. exporting_from (suc (suc n)) ys ++ one_exported k x) taken)
+slots_taken n (y ∷ ys) x = search (std_rules, slots_taken (suc (suc n)) ys x)
 
 pub one_more : (ps new : List Part) (xs : List (Text × Declarations)) (x : Text × Declarations) → new ≡ ps ++ one_exported (top_slots ps) x → ps ≡ exporting xs → new ≡ exporting (xs ++ x ∷ [])
-one_more ps new xs x is old =
-    let taken : 0 + top_slots (exporting xs) ≡ top_slots (exporting xs) = omega arith in
-    is ∙ (ap (λ qs. qs ++ one_exported (top_slots qs) x) old ∙ (ap (λ k. exporting xs ++ one_exported k x) (sym taken) ∙ sym (slots_taken 0 xs x)))
+one_more ps new xs x is old = search (std_rules, slots_taken)

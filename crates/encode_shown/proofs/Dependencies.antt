@@ -14,8 +14,8 @@ use Rattle.wit_model.specs.Uses.{once, alias_target, owner_interface, used_inter
 use Rattle.wit_model.specs.declared.model.{Resolve.Resolve, Interface.Interface, InterfaceId.InterfaceId, TypeDefKind.TypeDefKind, TypeOwner.TypeOwner}
 use Rattle.wit_model.specs.declared.model.{Package.Package, World.World, WorldId.WorldId, TypeDef.TypeDef, TypeId.TypeId}
 use Rattle.wit_model.proofs.{NameLaws.spelled_path_reads, Elements.contains-flat, Elements.none-in, TextLemmas.text_alike as text-alike}
-use Rattle.comp_bytes.specs.{Raw.Declarations, Reading.◌>>=◌}
-use Rattle.comp_meaning.specs.Follow.{View, ShownType, Seen, Shown, Key, Scope, each, provided, is_filled, component_scope}
+use Rattle.comp_bytes.specs.{Raw.Declarations}
+use Rattle.comp_meaning.specs.Follow.{View, ShownType, Seen, Shown, Key, Scope, each, component_scope}
 use Rattle.comp_meaning.specs.Rules.{distinct, used_by, used_by_view}
 use Rattle.comp_meaning.specs.Reads.{Part, imported_view, are_reached, labelled_path, interface_part, world_part}
 use Rattle.encode_shown.specs.PackageTypes.{plain_name}
@@ -122,9 +122,7 @@ module _ (r : Resolve) (v : IsValid r) where
 
   imports-read : (ns : List ℕ) (imports : List (Text × View)) → AllZip (ShowsImport r) ns imports → each imported_view (map seen_import imports) ≡ Some imports
   imports-read [] [] z = refl
-  imports-read (k ∷ ns) (i ∷ imports) z =
-      ap (λ fs. provided (not (is_filled fs)) i >>= λ y. each imported_view (map seen_import imports) >>= λ ys. Some (y ∷ ys)) z.0.shows.functions
-      ∙ ap (λ (o : Option (List (Text × View))). o >>= λ ys. Some (i ∷ ys)) (imports-read ns imports z.1)
+  imports-read (k ∷ ns) (i ∷ imports) z = search (std_rules, imports-read ns imports z.1)
   imports-read _ _ z = absurd z
 
   labelled : (p : PackageIdentity) (name label : Text) → Rattle.wit_model.specs.Names.is_identity p ≡ true → is_label name ≡ true → name ≡ label → labelled_path label (path_in p name) ≡ Some p

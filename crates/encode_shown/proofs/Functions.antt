@@ -1,5 +1,5 @@
 -- A function of an owner obeys the rules in the owner's place.
-use Rattle.std.proofs.Common.{◌≡◌, refl, sym, ap, ◌∙◌, ℕ, Bool, true, false, not, ◌&&◌, ◌||◌, ◌==◌, cond, nat_eq, List, [], ◌∷◌, map, length, drop, slice_get, Option, Some, None, String, option_map, option_to_list}
+use Rattle.std.proofs.Common.{rules as std_rules, ◌≡◌, refl, sym, ap, ◌∙◌, ℕ, Bool, true, false, not, ◌&&◌, ◌||◌, ◌==◌, cond, nat_eq, List, [], ◌∷◌, map, length, drop, slice_get, Option, Some, None, String, option_map, option_to_list}
 use Rattle.std.proofs.lemmas.{List.Folds.list_all-append, List.Folds.list_all-map, Bool.and_from as both, Bool.or_left as or-first, Bool.or_right as or-second}
 use Rattle.std.proofs.lemmas.{Simd.map-map, Option.same_Some as same-some}
 use Rattle.std.specs.declared.alloc.Global.{Global}
@@ -14,16 +14,13 @@ use Rattle.wit_model.specs.Rules.{passes, in_list, after_prefix, function_in_ran
 use Rattle.wit_model.specs.declared.model.{Resolve.Resolve, FunctionKind.FunctionKind, TypeDefKind.TypeDefKind, TypeOwner.TypeOwner, «Type».«Type» as ValueType}
 use Rattle.wit_model.specs.declared.model.{Function.Function, Param.Param, TypeDef.TypeDef}
 use Rattle.comp_meaning.specs.Same.{same_tree}
-use Rattle.comp_meaning.specs.Rules.{is_part, are_labels, is_parameter_type, is_result_type, is_signature, own_name, borrow_name, is_label_behind, begins_with_self, is_function_of, is_function}
+use Rattle.comp_meaning.specs.Rules.{is_part, is_parameter_type, is_result_type, is_signature, own_name, borrow_name, is_label_behind, begins_with_self, is_function_of, is_function}
 use Rattle.comp_meaning.proofs.SameLaws.{tree_itself}
 use Rattle.encode_shown.proofs.{Basics.or-cases, Basics.given-by, Basics.passed, Parts.labels-from, Parts.named-tree, Parts.unnamed-tree, Parts.values-part}
 use Rattle.base_lemmas.proofs.{Elements.all_two, Elements.any-at, Options.none_is, Bools.given-not, Bools.left_of as first_true, Bools.right_of as second_true}
-use Rattle.base_lemmas.proofs.Numbers.{equal}
 use Rattle.wit_model.proofs.PartsLemmas.{owner_same as same-owner}
 use Rattle.wit_model.specs.declared.model.FunctionKind.TheVariants as call
 use Rattle.wit_model.specs.declared.model.TypeDefKind.TheVariants as kind
-use Rattle.wit_model.specs.declared.model.Handle.TheVariants as handle
-use Rattle.wit_model.specs.declared.model.«Type».TheVariants as ty
 use Rattle.comp_meaning.specs.Rules as shown
 
 -- ---- prefixes
@@ -49,16 +46,10 @@ module _ (place : Place) (r : Resolve) where
   shown_param p = (text_of p.name, type_tree r p.ty)
 
   result-passes : (o : Option ValueType) → list_all is_value (option_to_list o) ≡ true → is_result_type place (option_map (type_tree r) o) ≡ true
-  result-passes None h = refl
-  result-passes (Some t) h = first_true _ _ h
+  result-passes x h = search std_rules
 
   signature-from : (f : Function) → are_member_labels (map (λ p. text_of p.name) f.params.items) ≡ true → list_all is_value (function_types f) ≡ true → is_signature place (signature_of r f) ≡ true
-  signature-from f names values =
-      let split = sym (list_all-append is_value (map (λ p. p.ty) f.params.items) (option_to_list f.result)) ∙ values in
-      both _ _ (both _ _ (ap are_labels (map-map (λ p. p.0) shown_param f.params.items) ∙ labels-from (map (λ p. text_of p.name) f.params.items) names)
-      (list_all-map (λ p. is_parameter_type place p.1) shown_param f.params.items
-      ∙ sym (list_all-map is_value (λ p. p.ty) f.params.items) ∙ first_true (list_all is_value (map (λ p. p.ty) f.params.items)) _ split))
-      (result-passes f.result (second_true (list_all is_value (map (λ p. p.ty) f.params.items)) _ split))
+  signature-from f names values = search (std_rules, list_all-append, both, map-map, labels-from, list_all-map, first_true, result-passes, second_true)
 
 module _ (r : Resolve) (v : IsValid r) where
   -- ---- handles of a resource
@@ -66,18 +57,13 @@ module _ (r : Resolve) (v : IsValid r) where
   -- an unnamed type whose kind passes a test is as its kind says
   unnamed-type : (test : TypeDefKind → Bool) (t : ValueType) → type_is r (λ def. is_none def.name && test def.kind) t ≡ true
       → (k : TypeDefKind) × (type_tree r t ≡ tree_of_declaration (declared_by (trees_of r) k)) × (test k ≡ true)
-  unnamed-type test (ty.Id id) h =
-      let found = passed (λ (def : TypeDef). is_none def.name && test def.kind) (type_at r id.0) h in
-      (found.0.kind, unnamed-tree r v id.0 found.0 found.1 (none_is found.0.name (first_true _ _ found.2)), second_true (is_none found.0.name) _ found.2)
-  unnamed-type test _ h = absurd cc
+  unnamed-type test x h = search (std_rules, passed, unnamed-tree, none_is, first_true, second_true)
 
   own-kind : (n : ℕ) (k : TypeDefKind) → is_own_kind n k ≡ true → tree_of_declaration (declared_by (trees_of r) k) ≡ own_tree (number_tree r n)
-  own-kind n (kind.Handle (handle.Own id)) h = ap (λ m. own_tree (number_tree r m)) (equal id.0 n h)
-  own-kind n _ h = absurd cc
+  own-kind n x h = search std_rules
 
   borrow-kind : (n : ℕ) (k : TypeDefKind) → is_borrow_kind n k ≡ true → tree_of_declaration (declared_by (trees_of r) k) ≡ borrow_tree (number_tree r n)
-  borrow-kind n (kind.Handle (handle.Borrow id)) h = ap (λ m. borrow_tree (number_tree r m)) (equal id.0 n h)
-  borrow-kind n _ h = absurd cc
+  borrow-kind n x h = search std_rules
 
   -- ---- functions of resources
 

@@ -31,11 +31,8 @@ one-more-resource false name names t c = c
 -- a resource of the list is one of its resources
 pub resource-listed : (ts : List ShownType) (t : ShownType) → Contains ts t → is_resource t.meaning.declaration ≡ true → Contains (resources_of ts) t.name
 resource-listed [] t c h = absurd (let l = c.1 in omega (arith, l))
-resource-listed (x ∷ ts) t (Prim.Native.Nat.zero, l, e) h =
-    let here : is_resource x.meaning.declaration ≡ true = ap (λ (z : ShownType). is_resource z.meaning.declaration) e ∙ h in
-    subst (λ (ns : List Text). Contains ns t.name) (sym (ap (λ b. cond b (x.name ∷ resources_of ts) (resources_of ts)) here)) (0, omega arith, ap (λ (z : ShownType). z.name) e)
-resource-listed (x ∷ ts) t (Prim.Native.Nat.suc k, l, e) h =
-    one-more-resource (is_resource x.meaning.declaration) x.name (resources_of ts) t.name (resource-listed ts t (k, omega (arith, l), e) h)
+resource-listed (x ∷ ts) t (Prim.Native.Nat.zero, l, e) h = search std_rules
+resource-listed (x ∷ ts) t (Prim.Native.Nat.suc k, l, e) h = search (std_rules, one-more-resource, resource-listed ts t (k, omega (arith, l), e) h)
 
 itself-declared : (r : Resolve) (k : TypeDefKind) → is_resource_itself k ≡ true → is_resource (declared_by (trees_of r) k) ≡ true
 itself-declared r x h = search std_rules
@@ -158,12 +155,7 @@ interface-obeys r v n view shows = go (interface_at r n) refl shows.types shows.
     go None e t p = λ j. is_interface (home_of r n) (record { types = t j; functions = nothing-else view.functions p j })
 
 pub types-obey : (r : Resolve) (n : ℕ) (view : View) → ShowsTypes r n view → IsValid r → is_interface (home_of r n) view ≡ true
-types-obey r n view shows v = (λ j. is_interface (home_of r n) (record { types = shows.types j; functions = shows.functions j })) ∙ go (interface_at r n) refl
-  where
-    go : (o : Option Interface) → interface_at r n ≡ o → is_interface (home_of r n) (record { types = option_map_or (types_of r n) o []; functions = [] }) ≡ true
-    go None e = refl
-    go (Some i) e = both _ _ (both (list_all (λ t. is_label t.name && is_declared (home_of r n) t.meaning.declaration) (types_of r n i)) true (types-pass r v n i e) refl)
-        (ap distinct (append-nil (map (λ (t : ShownType). t.name) (types_of r n i))) ∙ types-distinct r v n i e)
+types-obey r n view shows v = search (std_rules, both, types-pass, append-nil, types-distinct)
 
 types-meant : (r : Resolve) (n : ℕ) (o : Option Interface)
     → map (λ t. (t.name, t.meaning)) (option_map_or (types_of r n) o []) ≡ (option_map_or (meant.interface_meaning r) o no_interface).types

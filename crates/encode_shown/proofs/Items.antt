@@ -1,5 +1,5 @@
 -- What shows an import or an export of a valid world obeys the rules of items.
-use Rattle.std.proofs.Common.{rules as std_rules, ◌≡◌, refl, sym, subst, ap, ◌∙◌, ℕ, zero, suc, Bool, true, false, ◌&&◌, cond, List, [], ◌∷◌, map, Option, Some, arith}
+use Rattle.std.proofs.Common.{rules as std_rules, ◌≡◌, refl, sym, subst, ap, ◌∙◌, ℕ, zero, suc, Bool, true, false, ◌&&◌, List, [], ◌∷◌, map, Option, Some, arith}
 use Rattle.std.proofs.lemmas.{List.Elements.Contains-append_right, Option.same_Some as same-some}
 use Rattle.std.specs.{Prelude.is_some, Prelude.option_to_list, Prelude.filter_map, List.AllZip, List.Contains, List.list_all, Option.option_map_or}
 use Rattle.wit_model.specs.{Text.Text, Text.text_of, Uses.has, Uses.item_interface, Meant.type_meaning_at, Meant.signature_of, Valid.IsValid, Valid.as_world}
@@ -42,15 +42,8 @@ typed-item x m e = search std_rules
 -- a resource that is seen
 pub resource-among : (ss : List Seen) (s : Seen) (d : tree.Declaration) → Contains ss s → s.shown ≡ Shown.declares d → is_resource d ≡ true → Contains (resources_seen ss) s.key
 resource-among [] s d c e h = none-in s c
-resource-among (x ∷ ss) s d (zero, l, q) e h =
-    let shown : x.shown ≡ Shown.declares d = ap (λ (z : Seen). z.shown) q ∙ e in
-    subst (λ (sh : Shown). Contains (resources_seen (record { key = x.key; shown = sh; external_id = x.external_id } ∷ ss)) s.key) (sym shown)
-    (subst (λ b. Contains (cond b (x.key ∷ resources_seen ss) (resources_seen ss)) s.key) (sym h) (0, omega arith, ap (λ (z : Seen). z.key) q))
-resource-among (x ∷ ss) s d (suc k, l, q) e h = later x.shown (resource-among ss s d (k, omega (arith, l), q) e h)
-  where
-    later : (sh : Shown) → Contains (resources_seen ss) s.key → Contains (resources_seen (record { key = x.key; shown = sh; external_id = x.external_id } ∷ ss)) s.key
-    later (Shown.declares g) c = one-more-resource (is_resource g) x.key (resources_seen ss) s.key c
-    later _ c = c
+resource-among (x ∷ ss) s d (zero, l, q) e h = search std_rules
+resource-among (x ∷ ss) s d (suc k, l, q) e h = search (std_rules, one-more-resource, resource-among ss s d (k, omega (arith, l), q) e h)
 
 module _ (r : Resolve) (v : IsValid r) (n : ℕ) where
   -- an interface under a key that is an interface has a path

@@ -1,21 +1,19 @@
 -- The keys of the imports, and of the exports, of a world are texts of which none stands twice.
-use Rattle.std.proofs.Common.{rules as std_rules, ◌≡◌, ◌⊎◌, inl, inr, refl, sym, ap, ◌∙◌, ℕ, Bool, true, false, not, ◌&&◌, ◌||◌, ◌==◌, List, [], ◌∷◌, ◌++◌, map, Option, Some, None, String, unwrap_or, arith}
+use Rattle.std.proofs.Common.{rules as std_rules, ◌≡◌, ◌⊎◌, inl, inr, refl, sym, ap, ◌∙◌, ℕ, Bool, true, false, not, ◌&&◌, ◌==◌, List, [], ◌∷◌, ◌++◌, map, Some, String, unwrap_or, arith}
 use Rattle.std.proofs.lemmas.{Cmp.nat_list_eq_equiv, Bool.both_ways, Bool.false_from_ne_true}
 use Rattle.std.specs.declared.alloc.Global.{Global}
-use Rattle.std.specs.{Prelude.is_some, Prelude.is_none, List.Contains, List.AllByRecursion, List.IsDistinct, List.list_all}
-use Rattle.std.specs.Option.{option_map_or}
+use Rattle.std.specs.{Prelude.is_some, List.Contains, List.AllByRecursion, List.IsDistinct, List.list_all}
 use Rattle.wit_model.specs.Text.{Text, text_of, text_eq}
 use Rattle.wit_model.specs.Names.{is_label, begins_with_letter}
-use Rattle.wit_model.specs.{Lookup.interface_path, Lookup.key_text, Lookup.resource_of, Valid.IsValid, Valid.key_eq, Valid.as_world}
-use Rattle.wit_model.specs.Rules.{passes, is_name_key, is_freestanding, is_member, is_member_of, resource_name}
-use Rattle.wit_model.specs.declared.model.{Resolve.Resolve, WorldKey.WorldKey, WorldItem.WorldItem, Function.Function, FunctionKind.FunctionKind}
+use Rattle.wit_model.specs.{Lookup.interface_path, Lookup.key_text, Valid.IsValid, Valid.key_eq, Valid.as_world}
+use Rattle.wit_model.specs.Rules.{is_name_key, is_freestanding, is_member}
+use Rattle.wit_model.specs.declared.model.{Resolve.Resolve, WorldKey.WorldKey, WorldItem.WorldItem, Function.Function}
 use Rattle.wit_model.proofs.{NameLaws.label_lacks, NameLaws.identity_namespace, OnePath.has-path, OnePath.package-name, OnePath.path-once}
 use Rattle.wit_model.proofs.TextLemmas.{text_same as text-same}
-use Rattle.encode_shown.proofs.{Entries.IsEntry, Entries.interface-key-path, Basics.passed}
+use Rattle.encode_shown.proofs.{Entries.IsEntry, Entries.interface-key-path}
 use Rattle.base_lemmas.proofs.{Bools.left_of as first_true, Bools.right_of as second_true, Bools.no-and, Elements.contains-later, Numbers.differ}
 use Rattle.base_lemmas.proofs.Options.{there as some-of}
 use Rattle.wit_model.specs.declared.model.WorldKey.TheVariants as key
-use Rattle.wit_model.specs.declared.model.WorldItem.TheVariants as item
 
 -- a key is a path, or a label, or the name of a function of a resource
 abbrev pub IsKey : Resolve → WorldKey → Type 0
@@ -31,10 +29,6 @@ colon-there : (xs ys : Text) → list_all (λ b. not (b == 58)) (xs ++ (58 ∷ y
 colon-there [] ys = refl
 colon-there (x ∷ xs) ys = ap (λ c. not (x == 58) && c) (colon-there xs ys) ∙ no-and (not (x == 58))
 
--- the name of a function of a resource is no label
-member-first : (r : Resolve) (m : ℕ) (name : Text) (f : Function) (k : FunctionKind) → is_some (resource_of k) ≡ true → is_member_of r m name f k ≡ true → begins_with_letter (text_of f.name) ≡ false
-member-first r m name f x s h = search std_rules
-
 -- a key that is a name is this one
 pub named-key : (k : WorldKey) (t : Text) → is_name_key t k ≡ true → (name : String Global) × (k ≡ key.Name name) × (text_of name ≡ t)
 named-key (key.Name name) t h = (name, refl, text-same (text_of name) t h)
@@ -42,25 +36,11 @@ named-key (key.Interface id) t h = absurd cc
 
 module _ (r : Resolve) (v : IsValid r) (n : ℕ) where
   member-key : (name : String Global) (f : Function) → is_freestanding f.kind ≡ false → text_of name ≡ text_of f.name → is_member r (as_world n) f ≡ true → begins_with_letter (text_of name) ≡ false
-  member-key name f free same h = go (resource_of f.kind) refl h
-    where
-      go : (o : Option ℕ) → resource_of f.kind ≡ o → passes (λ m. option_map_or (λ t. is_member_of r m t f f.kind) (resource_name r (as_world n) m) false) o ≡ true
-          → begins_with_letter (text_of name) ≡ false
-      go None e h = absurd (both_ways _ free (ap is_none e))
-      go (Some m) e h =
-          let t = passed (λ t. is_member_of r m t f f.kind) (resource_name r (as_world n) m) h in
-          ap begins_with_letter same ∙ member-first r m t.0 f f.kind (ap is_some e) t.2
+  member-key name f free same h = search std_rules
 
   -- the key of an import or an export is one
   pub entry-key : (k : WorldKey) (i : WorldItem) → IsEntry r n (k, i) → IsKey r k
-  entry-key (key.Interface id) i is = interface-key-path r v n (key.Interface id, i) is id.0 is.keyed is.key_range
-  entry-key (key.Name name) (item.Function f) is = go (is_freestanding f.kind) refl is.key_labelled
-    where
-      go : (b : Bool) → is_freestanding f.kind ≡ b → (not b || is_label (text_of name)) ≡ true → IsKey r (key.Name name)
-      go true e h = inl h
-      go false e h = inr (member-key name f e (text-same (text_of name) (text_of f.name) (first_true (text_eq (text_of name) (text_of f.name)) _ is.named_))
-          (second_true (text_eq (text_of name) (text_of f.name)) _ is.named_))
-  entry-key (key.Name name) _ is = inl is.key_labelled
+  entry-key x i is = search (std_rules, interface-key-path, member-key, text-same, first_true, second_true)
 
   -- ---- texts
 

@@ -1,6 +1,6 @@
 -- Lists of texts in which none stands twice. Serves Interfaces, PackageTypes, Worlds.
 pub mod Apart
--- What a rule that is kept says of an entry, and owners. Serves Dependencies, Functions, Items, Keys and 8 more; crates above.
+-- What a rule that is kept says of an entry, and owners. Serves Dependencies, Functions, Items, Members and 7 more; crates above.
 pub mod Basics
 -- What stands in a declared form: its labels, and the trees of the parts of the kind. Serves Parts, Used.
 pub mod Children

@@ -1,12 +1,12 @@
 -- Which interfaces are a package's own, by their paths.
-use Rattle.std.proofs.Common.{◌≡◌, refl, sym, subst, ap, ◌∙◌, ℕ, Bool, true, false, not, ◌&&◌, ◌==◌, option_map, Option, Some, None, String}
+use Rattle.std.proofs.Common.{rules as std_rules, ◌≡◌, refl, sym, subst, ap, ◌∙◌, ℕ, Bool, true, false, not, ◌&&◌, ◌==◌, Option, Some, None, String}
 use Rattle.std.proofs.lemmas.{Bool.not-true as no-longer, Option.same_Some as some-same}
 use Rattle.std.specs.declared.alloc.Global.{Global}
 use Rattle.std.specs.{Prelude.is_some, Prelude.option_and_then, Option.option_map_or, List.Contains, List.list_all}
 use Rattle.indexmap.specs.IndexMap.{values}
 use Rattle.wit_model.specs.{Text.Text, Text.text_of, Text.text_eq, Valid.IsValid, Valid.is_place, Valid.numbers_in_range, Valid.places, Valid.names_in_packages}
 use Rattle.wit_model.specs.{Names.PackageIdentity, Names.is_identity, Names.path_in, Names.read_path, Meant.is_foreign}
-use Rattle.wit_model.specs.Lookup.{package_at, interface_at, world_at, interface_path, path_of_interface, path_in_package, identity_of}
+use Rattle.wit_model.specs.Lookup.{package_at, interface_at, world_at, interface_path, identity_of}
 use Rattle.wit_model.specs.Rules.{passes, in_list, is_id, text_is, package_number, is_world_name, interface_is_listed, interface_belongs, world_belongs}
 use Rattle.wit_model.specs.declared.model.{Resolve.Resolve, Package.Package, PackageId.PackageId, Interface.Interface, InterfaceId.InterfaceId, WorldId.WorldId}
 use Rattle.wit_model.specs.declared.model.World.{World}
@@ -69,14 +69,7 @@ module _ (r : Resolve) (v : IsValid r) (n : ℕ) (p : Package) (at : package_at 
 
   -- its path
   pub own-path : (e : String Global × InterfaceId) → Contains p.interfaces.entries e → interface_path r e.1.0 ≡ Some (path_in (identity_of p.name) (text_of e.0))
-  own-path e c =
-      let is = own-interface e c in
-      ap (option_and_then (path_of_interface r)) is.there
-      ∙ ap (option_and_then (λ name. option_and_then (λ q. path_in_package r q.0 (text_of name)) is.def.package)) is.named_
-      ∙ ap (option_and_then (λ q. path_in_package r q.0 (text_of is.string))) is.in_package
-      ∙ ap (λ k. path_in_package r k (text_of is.string)) is.number
-      ∙ ap (option_map (λ q. path_in (identity_of q.name) (text_of is.string))) at
-      ∙ ap (λ t. Some (path_in (identity_of p.name) t)) is.text
+  own-path e c = search (std_rules, own-interface e c)
 
   -- no world of the package has its name
   pub no-world-name : (e : String Global × InterfaceId) → Contains p.interfaces.entries e → is_world_name p (text_of e.0) ≡ false

@@ -6,7 +6,7 @@ use Rattle.std.specs.{Prelude.option_and_then, Prelude.option_to_list, Prelude.f
 use Rattle.indexmap.specs.IndexMap.{values}
 use Rattle.wit_model.specs.{Text.Text, Text.text_of, Text.text_eq, Tree.Tree, Tree.type_, Tree.named}
 use Rattle.wit_model.specs.{Types.declared_by, Types.trees_of, Types.type_tree, Types.declaration_of, Meant.type_meaning_at, Meant.no_type, Meant.type_meaning}
-use Rattle.wit_model.specs.{Lookup.type_at, Lookup.interface_at, Lookup.interface_path, Lookup.place_of, Lookup.place_of_path, Valid.IsValid}
+use Rattle.wit_model.specs.{Lookup.type_at, Lookup.interface_at, Lookup.interface_path, Lookup.place_of, Valid.IsValid}
 use Rattle.wit_model.specs.Uses.{has, alias_target, owner_interface, used_interface, interface_used_by, direct_deps}
 use Rattle.wit_model.specs.declared.model.{Resolve.Resolve, Interface.Interface, TypeDefKind.TypeDefKind, TypeOwner.TypeOwner, «Type».«Type» as ValueType}
 use Rattle.wit_model.specs.declared.model.{TypeDef.TypeDef, TypeId.TypeId}
@@ -15,7 +15,7 @@ use Rattle.comp_meaning.specs.{Follow.View, Follow.ShownType, Rules.used_by, Rul
 use Rattle.encode_shown.specs.Views.{shown_type, home_of, types_of}
 use Rattle.encode_shown.proofs.{Children.is_alias, Basics.bool-cases, Basics.option-cases, Parts.alias-target, Members.meaning-there}
 use Rattle.base_lemmas.proofs.{Bools.left_of as first_true, Numbers.equal}
-use Rattle.base_lemmas.proofs.Elements.{all-contained, all_pass as all-from, contains-later, contains-map, last_of as one-contained, map_from as contains-mapped}
+use Rattle.base_lemmas.proofs.Elements.{all-contained, all_pass as all-from, contains-later, contains-map, map_from as contains-mapped}
 use Rattle.wit_model.specs.declared.model.TypeDefKind.TheVariants as kind
 use Rattle.wit_model.specs.declared.model.TypeOwner.TheVariants as owner
 use Rattle.wit_model.specs.declared.model.«Type».TheVariants as ty
@@ -38,11 +38,7 @@ contains-flat-from f (x ∷ xs) y c =
 module _ (r : Resolve) (v : IsValid r) where
   -- a name in the place of a path is of the interface of that path
   named-used : (a : TypeOwner) (name path : Text) → Contains (used_by (type_ (named (place_of r a) name))) path → UsesPath r (owner_interface a) path
-  named-used (owner.Interface i) name path c = go (interface_path r i.0) refl c
-    where
-      go : (o : Option Text) → interface_path r i.0 ≡ o → Contains (used_by (type_ (named (place_of_path o) name))) path → UsesPath r (Some i.0) path
-      go None e c = none-in path c
-      go (Some p) e c = record { number = i.0; is = refl; has_path = e ∙ ap Some (one-contained p path c) }
+  named-used (owner.Interface i) name path c = search std_rules
   named-used _ name path c = none-in path c
 
   path-used : (n : ℕ) (def : TypeDef) (path : Text) → type_at r n ≡ Some def → Contains (used_by (declaration_of r def)) path → UsesPath r (used_interface r def) path

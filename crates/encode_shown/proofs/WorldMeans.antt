@@ -1,5 +1,5 @@
 -- What shows a world of a valid `Resolve` means the world, with the interfaces that it shows.
-use Rattle.std.proofs.Common.{◌≡◌, refl, sym, subst, ap, ◌∙◌, ℕ, Bool, true, false, not, ◌&&◌, ◌||◌, cond, List, [], ◌∷◌, ◌++◌, map, filter, option_map, Option, Some, None, String, arith, unwrap_or}
+use Rattle.std.proofs.Common.{rules as std_rules, ◌≡◌, refl, sym, subst, ap, ◌∙◌, ℕ, Bool, true, false, not, ◌&&◌, ◌||◌, List, [], ◌∷◌, ◌++◌, map, filter, option_map, Option, Some, None, String, arith, unwrap_or}
 use Rattle.std.proofs.lemmas.{List.map-append, Grind.flat_map-append}
 use Rattle.std.proofs.lemmas.{List.Folds.list_any_at, Bool.and_from as both, Bool.both_ways, Bool.false_from_ne_true, Option.same_Some as some-same}
 use Rattle.std.specs.declared.alloc.Global.{Global}
@@ -14,7 +14,7 @@ use Rattle.wit_model.specs.declared.model.World.{World}
 use Rattle.wit_model.proofs.{Lists.lookup_any, TextLemmas.text_alike as text-alike, TextLemmas.text_same as text-same, ValidLemmas.world_passes as world-passes}
 use Rattle.wit_model.proofs.{NameLaws.one_path, VersionLaws.same_name}
 use Rattle.wit_model.proofs.OnePath.{HasPath, has-path, path-label, package-name, package-once, given-test}
-use Rattle.comp_meaning.specs.Follow.{View, Seen, Shown, Instance, Scope, interface_of, provided}
+use Rattle.comp_meaning.specs.Follow.{View, Seen, Shown, Instance, Scope, provided}
 use Rattle.comp_meaning.specs.Reads.{Sight, of_instance, item_of, entry, world_meaning, seen_meaning, world_with, interface_meaning}
 use Rattle.encode_shown.specs.Views.{instance_key, shown_item, instances_of, IsViewOf, ShowsItem, ShowsInterface, ShowsWorld}
 use Rattle.encode_shown.proofs.{Interfaces.interface-means, Worlds.imports-are, Worlds.exports-are, Worlds.all-shown, Worlds.all-entries, Basics.given-by}
@@ -22,7 +22,6 @@ use Rattle.encode_shown.proofs.{Entries.IsEntry, Sights.IsSight, Sights.all-sigh
 use Rattle.encode_shown.proofs.{Items.has_home, Items.instance-home, Items.entry-home, Owning.interface-unnamed}
 use Rattle.base_lemmas.proofs.{Bools.left_of as first_true, Bools.right_of as second_true, Elements.contains-later, Elements.zip-kept}
 use Rattle.wit_model.specs.Meant as meant
-use Rattle.wit_model.specs.declared.model.WorldKey.TheVariants as key
 use Rattle.wit_model.specs.declared.model.WorldItem.TheVariants as item
 
 module _ (r : Resolve) (v : IsValid r) (n : ℕ) where
@@ -30,14 +29,10 @@ module _ (r : Resolve) (v : IsValid r) (n : ℕ) where
 
   instance-means : (k : WorldKey) (o : Option Text) (view : View) (i : InterfaceMeaning) → has_home k o ≡ true → interface_meaning view view.functions ≡ i
       → item_of (Shown.instance (instance_key k o) view) ≡ option_map_or Item.interface o (Item.inline i)
-  instance-means (key.Interface id) None view i h e = absurd cc
-  instance-means (key.Interface id) (Some path) view i h e = refl
-  instance-means (key.Name name) None view i h e = ap Item.inline e
-  instance-means (key.Name name) (Some path) view i h e = refl
+  instance-means x y view i h e = search std_rules
 
   item-means : (k : WorldKey) (i : WorldItem) (view : View) → IsEntry r n (k, i) → IsViewOf r i view → item_of (shown_item r k i view) ≡ item_meaning r i
-  item-means k (item.Interface id stability docs external_id) view is shows =
-      instance-means k (interface_path r id.0) view (interface_meaning_at r id.0) (entry-home r v n k (item.Interface id stability docs external_id) is id.0 refl) (interface-means r v id.0 view shows)
+  item-means k (item.Interface id stability docs external_id) view is shows = search (std_rules, instance-means, entry-home, interface-means)
   item-means k _ view is shows = refl
 
   entry-means : (e : WorldKey × WorldItem) (s : Seen) → IsEntry r n e → ShowsItem r e s → entry s ≡ (key_text r e.0, entry_meaning r e.1)
@@ -63,18 +58,11 @@ module _ (r : Resolve) (v : IsValid r) (n : ℕ) where
 
   one-sight : (m : ℕ) (view : View) (o : Option Text) → interface_path r m ≡ o → ShowsInterface r m view → (ms : List ℕ) (ss : List Sight) → AllZip IsWhole (filter is_named ms) ss
       → AllZip IsWhole (filter is_named (m ∷ ms)) (of_instance (record { interface = o; view = view }) ++ ss)
-  one-sight m view None e shows ms ss z = subst (λ b. AllZip IsWhole (cond b (m ∷ filter is_named ms) (filter is_named ms)) ss) (sym (ap is_some e)) z
-  one-sight m view (Some path) e shows ms ss z =
-      subst (λ b. AllZip IsWhole (cond b (m ∷ filter is_named ms) (filter is_named ms)) (record { path = path; view = view; whole = true } ∷ ss)) (sym (ap is_some e))
-      (record { is = record { has_path = e; shows = shows }; whole = refl }, z)
+  one-sight m view x e shows ms ss z = search std_rules
 
   item-sight : (k : WorldKey) (i : WorldItem) (view : View) → IsEntry r n (k, i) → IsViewOf r i view → (is : List WorldItem) (ss : List Sight) → AllZip IsWhole (named_in is) ss
       → AllZip IsWhole (named_in (i ∷ is)) (flat_map of_instance (instances_of (shown_item r k i view)) ++ ss)
-  item-sight k (item.Interface id stability docs external_id) view entry shows is ss z =
-      let home = instance-home k (interface_path r id.0) (entry-home r v n k (item.Interface id stability docs external_id) entry id.0 refl) in
-      subst (λ (xs : List Sight). AllZip IsWhole (named_in (item.Interface id stability docs external_id ∷ is)) (xs ++ ss)) (sym (Rattle.std.proofs.Common.append-nil _))
-      (one-sight id.0 view (interface_of (instance_key k (interface_path r id.0))) (sym home) shows (filter_map item_interface is) ss z)
-  item-sight k _ view entry shows is ss z = z
+  item-sight k x view entry shows is ss z = search (std_rules, instance-home, entry-home, one-sight)
 
   entries-sights : (es : List (WorldKey × WorldItem)) (ts : List Seen) → AllZip (ShowsItem r) es ts → ((e : WorldKey × WorldItem) → Contains es e → IsEntry r n e)
       → AllZip IsWhole (named_in (map (λ e. e.1) es)) (flat_map of_instance (flat_map (λ (s : Seen). instances_of s.shown) ts))

@@ -1,8 +1,8 @@
 -- What shows a world of a valid `Resolve` obeys the rules of worlds.
-use Rattle.std.proofs.Common.{◌≡◌, refl, sym, subst, ap, ◌∙◌, ℕ, true, List, [], ◌∷◌, ◌++◌, map, Option, Some, arith}
+use Rattle.std.proofs.Common.{rules as std_rules, ◌≡◌, refl, sym, subst, ap, ◌∙◌, ℕ, true, List, [], ◌∷◌, ◌++◌, map, Option, Some, arith}
 use Rattle.std.proofs.{lemmas.List.map-append, lemmas.Simd.map-map, Math.Logic.⊎_elim}
 use Rattle.std.proofs.lemmas.List.Elements.{Contains-append_left, Contains-append_right, Contains-append_cases, filter_map-append}
-use Rattle.std.proofs.lemmas.{Cmp.nat_list_eq_equiv, Map.Views.list_any-from_Contains, Bool.and_from as both, Bool.both_ways, Option.same_Some as same-some}
+use Rattle.std.proofs.lemmas.{Cmp.nat_list_eq_equiv, Map.Views.list_any-from_Contains, Bool.and_from as both, Bool.both_ways}
 use Rattle.std.specs.{Prelude.is_none, Prelude.option_to_list, Prelude.filter_map, List.AllZip, List.Contains, List.IsDistinct, List.list_all, List.list_any}
 use Rattle.indexmap.specs.IndexMap.{values}
 use Rattle.wit_model.specs.{Text.Text, Text.text_eq, Rules.passes, Rules.each_after, Rules.is_freestanding, Rules.used_interfaces, Rules.uses_stand_before}
@@ -75,14 +75,7 @@ module _ (r : Resolve) (v : IsValid r) (n : ℕ) where
   -- an interface that is shown has its path among those that have been seen
   seen-path : (k : WorldKey) (i : WorldItem) (view : View) → IsEntry r n (k, i) → (m : ℕ) (path : Text) → item_interface i ≡ Some m → interface_path r m ≡ Some path
       → Contains (path_seen (shown_item r k i view)) path
-  seen-path k (item.Interface id stability docs external_id) view is m path e p =
-      let here : interface_path r id.0 ≡ Some path = ap (interface_path r) (same-some id.0 m e) ∙ p in
-      subst (λ (o : Option Text). Contains (path_seen (Shown.instance (instance_key k o) view)) path) (sym here) (of-key k)
-    where
-      of-key : (k : WorldKey) → Contains (path_seen (Shown.instance (instance_key k (Some path)) view)) path
-      of-key (Rattle.wit_model.specs.declared.model.WorldKey.TheVariants.Interface j) = contains-one path
-      of-key _ = contains-one path
-  seen-path k _ view is m path e p = absurd cc
+  seen-path k x view is m path e p = search std_rules
 
   more-paths : (before : List WorldItem) (earlier : List Text) → ArePaths before earlier → (e : WorldKey × WorldItem) (t : Seen) → IsEntry r n e → ShowsItem r e t
       → ArePaths (before ++ e.1 ∷ []) (earlier ++ path_seen t.shown)

@@ -1,5 +1,5 @@
 -- Maps that agree with slots, over what a call adds.
-use Rattle.std.proofs.Common.{◌≡◌, refl, sym, subst, ap, ◌∙◌, ℕ, Bool, true, false, List, ◌⊎◌, inl, inr, Result, Ok, Err, OnOk, OnErr, Option, Some, None, nat_eq, arith, [], ◌∷◌, ◌++◌, map, length, get_or}
+use Rattle.std.proofs.Common.{rules as std_rules, ◌≡◌, refl, sym, subst, ap, ◌∙◌, ℕ, Bool, true, false, List, ◌⊎◌, inl, inr, Result, OnOk, OnErr, Option, Some, None, nat_eq, [], ◌∷◌, ◌++◌, map, get_or}
 use Rattle.std.proofs.lemmas.{Cmp.nat_eq_equiv, List.Elements.Contains-get_or, List.Quantifiers.all_pairs_push, Bool.eqb-true}
 use Rattle.std.specs.{Prelude.is_some, Prelude.IsSome, Prelude.IsPermutation, List.Contains, List.AllPairs, Borrow.Bor}
 use Rattle.wit_model.specs.{Text.Text, Tree.Declaration, Rules.is_named_kind, Types.trees_of, Types.tree_of_declaration, Meaning.Signature}
@@ -7,17 +7,15 @@ use Rattle.wit_model.specs.declared.model.{Resolve.Resolve, TypeDefKind.TypeDefK
 use Rattle.encode_types.specs.declared.{maps.TypeEncodingMaps.TypeEncodingMaps, key.FunctionKey.FunctionKey}
 use Rattle.encode_types.specs.{Codes.kind_code, Codes.names_of, Codes.lists_of, Codes.IsKeyList, Codes.ListKey, Leaves.Leaves, Leaves.LeavesSlots}
 use Rattle.encode_types.specs.{Slots.Pairs, Slots.Standing, Slots.tree, Slots.function, Slots.Keeps, View.View, View.SameRest, Counts.SameUnits}
-use Rattle.encode_types.specs.Maps.{Known, by_number, by_kind, by_key, by_unit_future, by_unit_stream, Holds, standing_of, IsOnce, IsSomeKeyList, AreNumbered, MapsAgree, MapsGrow, IsKnown, LacksList, StandsAsKind, StandsAsKey, SameMaps, NamesGrow, AddsNames, LearnsNumber, LearnsList, LearnsKeyList, LearnsOne}
-use Rattle.encode_types.proofs.{Around.around-same, Tables.kept-in, Tables.new-in, Tables.one-more-in, Tables.pairs-permuted, Tables.key-grow}
+use Rattle.encode_types.specs.Maps.{Known, by_number, by_kind, by_key, by_unit_future, by_unit_stream, Holds, standing_of, IsOnce, IsSomeKeyList, AreNumbered, MapsAgree, MapsGrow, IsKnown, LacksList, StandsAsKind, StandsAsKey, SameMaps, AddsNames, LearnsNumber, LearnsList, LearnsKeyList, LearnsOne}
+use Rattle.encode_types.proofs.{Tables.kept-in, Tables.new-in, Tables.one-more-in, Tables.pairs-permuted, Tables.key-grow}
 use Rattle.encode_types.proofs.{EqualLists.kinds-of-lists, EqualLists.keys-of-lists, EqualLists.key-shrink, KindLaws.same_tree, KindLaws.same-signature}
 
 pub either : {A E : Type 0} (x : Result A E) (P Q : Type 0) → OnOk x P → OnErr x Q → P ⊎ Q
-either (Ok x) P Q p q = inl p
-either (Err e) P Q p q = inr q
+either x y z p q = search std_rules
 
 pub on_ok : {A E : Type 0} (x : Result A E) (P Q : Type 0) → (P → Q) → OnOk x P → OnOk x Q
-on_ok (Ok x) P Q f p = f p
-on_ok (Err e) P Q f p = p
+on_ok x y z f p = search std_rules
 
 -- ---- maps with the same entries
 
@@ -25,11 +23,7 @@ on_ok (Err e) P Q f p = p
 pub adds-holds : (m m' : TypeEncodingMaps) → AddsNames m m' → (k : Known) (i : ℕ) → Holds m k i → Holds m' k i
 adds-holds m m' s (by_number n) i h = subst (λ (xs : List (ℕ × ℕ)). Contains xs (n, i)) (sym s.rest.numbers) h
 adds-holds m m' s (by_kind k) i h = (h.0, subst (λ (xs : List (ListKey × ℕ)). Contains (map {B = List ℕ × ℕ} (λ e. (e.0.0.items, e.1)) xs) (kind_code k, i)) (sym s.rest.kinds) h.1)
-adds-holds m m' s (by_key k) i h = (
-  h.0,
-  key-grow (names_of m.names) (names_of m'.names) k h.0 s.grow h.1,
-  subst (λ (xs : List (ListKey × ℕ)). Contains (map {B = List ℕ × ℕ} (λ e. (e.0.0.items, e.1)) xs) (h.0, i)) (sym s.rest.keys) h.2,
-)
+adds-holds m m' s (by_key k) i h = search (std_rules, key-grow)
 adds-holds m m' s by_unit_future i h = s.rest.unit_future_ ∙ h
 adds-holds m m' s by_unit_stream i h = s.rest.unit_stream_ ∙ h
 
@@ -57,10 +51,7 @@ adds-once m m' s o = record {
 }
 
 pub same-adds : (m m' : TypeEncodingMaps) → SameMaps m m' → AddsNames m m'
-same-adds m m' s = record {
-  rest = record { numbers = s.numbers; kinds = s.kinds; keys = s.keys; names_ = refl; unit_future_ = s.unit_future_; unit_stream_ = s.unit_stream_ };
-  grow = subst (λ (xs : List (Bor Text × ℕ)). NamesGrow (names_of m.names) (map {B = Text × ℕ} (λ e. (e.0.now, e.1)) xs)) (sym s.names_) (record { kept = λ t n c. c; numbered = λ a. a });
-}
+same-adds m m' s = search std_rules
 
 -- what a change of the maps leaves
 pub record Changes (r : Resolve) (m m' : TypeEncodingMaps) (S : Pairs) : Type 0 where
@@ -82,16 +73,7 @@ pub record Learns (r : Resolve) (m m' : TypeEncodingMaps) (i : ℕ) (s : Standin
   pub once : IsOnce m → IsOnce m'
 
 pub changes-learns : (r : Resolve) (m m' : TypeEncodingMaps) (S : Pairs) (i : ℕ) (s : Standing) → Learns r m m' i s → MapsAgree r m S → S i s → Changes r m m' S
-changes-learns r m m' S i s l a h = record {
-  agree = record {
-    says = λ k j c. elim (l.only a.once k j c) [
-      | inl q ↦ a.says k j q
-      | inr e ↦ subst (λ (x : Standing). S j x) (sym e.0) (subst (λ (n : ℕ). S n s) (sym e.1) h)
-    ];
-    once = l.once a.once;
-  };
-  grow = record { keeps = l.grow };
-}
+changes-learns r m m' S i s l a h = search std_rules
 
 numbers-apart : (x y : ℕ × ℕ) → nat_eq x.0 y.0 ≡ false → nat_eq y.0 x.0 ≡ false
 numbers-apart x y e = nat_eq_equiv.symm y.0 x.0 ∙ e
@@ -286,8 +268,7 @@ changes-call x r m₀ m m₁ m' S S' i s e e' keeps ok err a h =
     ])
 
 on_err : {A E : Type 0} (x : Result A E) (P Q : Type 0) → (P → Q) → OnErr x P → OnErr x Q
-on_err (Ok x) P Q f p = p
-on_err (Err e) P Q f p = f p
+on_err x y z f p = search std_rules
 
 module _ {E : Type 0} (x : Result (Unit {0}) E) (r : Resolve) (m₀ m m₁ m' : TypeEncodingMaps) (S S' : Pairs) (i : ℕ) (e : m₀ ≡ m) (e' : m' ≡ m₁) (keeps : Keeps S S') (a : MapsAgree r m S) where
   pub changes-number : (id : TypeId) → (IsKnown m id.0 → ⊥) → OnOk x (LearnsNumber m₀ m₁ id i) → OnErr x (SameMaps m₀ m₁) → S i (standing_of r (by_number id.0)) → Changes r m m' S'
@@ -319,9 +300,7 @@ changes-unit r m m' S S' k i keeps l a s = changes-learns r m m' S' i _ l (recor
 
 -- the two caches are the same after a call that writes to another part of the maps
 units-call : {A E : Type 0} (x : Result A E) (m₀ m m₁ m' : TypeEncodingMaps) → m₀ ≡ m → m' ≡ m₁ → OnOk x (SameUnits m₀ m₁) → OnErr x (SameMaps m₀ m₁) → SameUnits m m'
-units-call x m₀ m m₁ m' e e' ok err =
-    let u : SameUnits m₀ m₁ = elim (either x _ _ ok err) [ inl u ↦ u | inr s ↦ record { future_ = s.unit_future_; stream_ = s.unit_stream_ } ] in
-    subst (λ (z : TypeEncodingMaps). SameUnits m z) (sym e') (subst (λ (z : TypeEncodingMaps). SameUnits z m₁) e u)
+units-call x m₀ m m₁ m' e e' ok err = search std_rules
 
 module _ {E : Type 0} (x : Result (Unit {0}) E) (m₀ m m₁ m' : TypeEncodingMaps) (e : m₀ ≡ m) (e' : m' ≡ m₁) where
   pub units-number : (id : TypeId) (i : ℕ) → OnOk x (LearnsNumber m₀ m₁ id i) → OnErr x (SameMaps m₀ m₁) → SameUnits m m'
@@ -334,28 +313,14 @@ module _ {E : Type 0} (x : Result (Unit {0}) E) (m₀ m m₁ m' : TypeEncodingMa
   units-key xs i ok err = units-call x m₀ m m₁ m' e e' (on_ok x _ _ (λ l. record { future_ = l.rest.unit_future_; stream_ = l.rest.unit_stream_ }) ok) err
 
 pub units-listed : (m₀ m m₁ m' : TypeEncodingMaps) → m₀ ≡ m → m' ≡ m₁ → AddsNames m₀ m₁ → SameUnits m m'
-units-listed m₀ m m₁ m' e e' l = subst (λ (z : TypeEncodingMaps). SameUnits m z) (sym e')
-    (subst (λ (z : TypeEncodingMaps). SameUnits z m₁) e (record { future_ = l.rest.unit_future_; stream_ = l.rest.unit_stream_ }))
+units-listed m₀ m m₁ m' e e' l = search std_rules
 
 -- a call that fills one of the two caches
 pub leaves-filled : (r : Resolve) (v v' : View) → SameRest v v' → Changes r v.maps v'.maps v'.stands → LeavesSlots r v v'
-leaves-filled r v v' s c = record {
-  agree = c.agree;
-  maps_grow = c.grow;
-  grows =
-      record { kept = s.kept; more = (let e = s.slot_count_ in omega arith); around_ = around-same s.around_; own_ = s.own_ };
-  scope_stays = s.scope_;
-}
+leaves-filled r v v' s c = search std_rules
 
 pub leaves-changed : (r : Resolve) (v v' : View) → SameRest v v' → Changes r v.maps v'.maps v'.stands → SameUnits v.maps v'.maps → Leaves r v v'
-leaves-changed r v v' s c u = record {
-  agree = c.agree;
-  maps_grow = c.grow;
-  units = u;
-  grows =
-      record { kept = s.kept; more = (let e = s.slot_count_ in omega arith); around_ = around-same s.around_; own_ = s.own_ };
-  scope_stays = s.scope_;
-}
+leaves-changed r v v' s c u = search std_rules
 
 pub known-learnt : (m m' : TypeEncodingMaps) (id : TypeId) (i : ℕ) → LearnsNumber m m' id i → IsKnown m' id.0
 known-learnt m m' id i l = (i, new-in m.id_to_index.entries m'.id_to_index.entries (id.0, i) l.more)
@@ -378,36 +343,4 @@ learnt-one m m₁ m' id i e l = record { known = known-learnt m₁ m' id i l; on
 -- maps that hold nothing agree with any slots
 pub empty-agrees : (r : Resolve) (m : TypeEncodingMaps) (S : Pairs) → m.id_to_index.entries ≡ [] → m.def_to_index.entries ≡ [] → m.func_type_map.entries ≡ [] → m.names.entries ≡ []
     → m.unit_future ≡ None → m.unit_stream ≡ None → MapsAgree r m S
-empty-agrees r m S ids kinds keys names future stream = record {
-  says = says;
-  once = record {
-    numbers = none-twice (λ x y. nat_eq x.0 y.0 ≡ false) ids;
-    kinds = none-twice (λ x y. x.0 ≡ y.0 → ⊥) kinds';
-    keys = none-twice (λ x y. x.0 ≡ y.0 → ⊥) keys';
-    kind_lists = λ xs i c. none-in kinds' c;
-    key_lists = λ xs i c. none-in keys' c;
-    names_ = record { table = record { one_number = λ t i j c d. none-in names' c; one_text = λ t u i c d. none-in names' c }; below = λ t i c. none-in names' c };
-  };
-}
-  where
-    kinds' : lists_of m.def_to_index ≡ []
-    kinds' = ap (map (λ (e : ListKey × ℕ). (e.0.0.items, e.1))) kinds
-
-    keys' : lists_of m.func_type_map ≡ []
-    keys' = ap (map (λ (e : ListKey × ℕ). (e.0.0.items, e.1))) keys
-
-    names' : names_of m.names ≡ []
-    names' = ap (map (λ (e : Bor Text × ℕ). (e.0.now, e.1))) names
-
-    none-in : {X : Type 0} {xs : List X} {x : X} {P : Type 0} → xs ≡ [] → Contains xs x → P
-    none-in {X} {xs} e (i, l, h) = let z : length xs ≡ 0 = ap length e in absurd (omega (arith, l))
-
-    none-twice : {X : Type 0} {xs : List X} (R : X → X → Type 0) → xs ≡ [] → AllPairs R xs
-    none-twice {X} {xs} R e i j d l n = let z : length xs ≡ 0 = ap length e in absurd (omega (arith, n))
-
-    says : (k : Known) (i : ℕ) → Holds m k i → S i (standing_of r k)
-    says (by_number n) i h = none-in ids h
-    says (by_kind k) i h = none-in kinds' h.1
-    says (by_key k) i h = none-in keys' h.2
-    says by_unit_future i h = absurd (let e = sym future ∙ h in let z : ⊥ = cc in z)
-    says by_unit_stream i h = absurd (let e = sym stream ∙ h in let z : ⊥ = cc in z)
+empty-agrees r m S ids kinds keys names future stream = search std_rules

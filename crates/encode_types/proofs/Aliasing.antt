@@ -1,5 +1,5 @@
 -- Aliases of what is met.
-use Rattle.std.proofs.Common.{◌≡◌, refl, sym, subst, ap, ◌∙◌, ℕ, Bool, true, List, [], ◌∷◌, ◌++◌, Option, Some, inl, inr}
+use Rattle.std.proofs.Common.{rules as std_rules, ◌≡◌, refl, sym, subst, ap, ◌∙◌, ℕ, Bool, true, List, [], ◌∷◌, ◌++◌, Option, Some, inl, inr}
 use Rattle.std.proofs.lemmas.List.Elements.{Contains-append_cases}
 use Rattle.std.specs.List.{Contains}
 use Rattle.wit_model.specs.Lookup.{type_at}
@@ -86,9 +86,7 @@ imports-then {r} {own} {own'} {ts} {xs} {ys} {zs} s p q = record {
 
 pub imports-more : {r : Resolve} {own : Option InterfaceId} {ts us : List ValueType} {xs ys : ℕ → Bool} → ((n : ℕ) → ReachedFrom r own ts n → ReachedFrom r own us n) → NumbersMet r own ts xs ys
     → NumbersMet r own us xs ys
-imports-more f p = record {
-  each = λ n c. elim (p.each n c) [ inl old ↦ inl old | inr m ↦ inr (record { met = f n m.met; def = m.def; there = m.there; interface = m.interface; foreign = m.foreign }) ];
-}
+imports-more f p = search std_rules
 
 -- one of this type, which is of another interface
 pub imports-one : {r : Resolve} {own : Option InterfaceId} {id : TypeId} {xs ys : ℕ → Bool} (def : TypeDef) (interface : InterfaceId) → type_at r id.0 ≡ Some def

@@ -1,6 +1,6 @@
 -- What a search finds in an ascending list.
-use Rattle.std.proofs.Common.{◌≡◌, sym, subst, ap, ◌∙◌, ℕ, ◌<◌, ◌≤◌, ◌-◌, ◌++◌, length, List, [], ◌∷◌, get_or, Ok, Err, Some, Option, arith, inl, inr, append_assoc}
-use Rattle.std.proofs.lemmas.{Option.get_or_from_slice_get, Bool.Decides.nat_tests}
+use Rattle.std.proofs.Common.{rules as std_rules, ◌≡◌, sym, subst, ap, ◌∙◌, ℕ, ◌<◌, ◌≤◌, ◌-◌, ◌++◌, length, List, [], ◌∷◌, get_or, Ok, Err, Some, Option, arith, inl, inr, append_assoc}
+use Rattle.std.proofs.lemmas.{Option.get_or_from_slice_get}
 use Rattle.std.proofs.lemmas.{Cmp.ranked, Cmp.nat_cmp_total, List.get_or_default, List.Sorted.IsPermutation-append_comm, List.Sorted.IsPermutation-append_right}
 use Rattle.std.proofs.lemmas.List.{Elements.Contains-append_cases, Elements.Contains-append_right, Elements.Contains-get_or, Quantifiers.all_pairs_push}
 use Rattle.std.specs.{Prelude.IsPermutation, Prelude.IfSome, Prelude.IfNone, List.Contains, List.slice_get, BTreeMap.is_at}
@@ -10,9 +10,7 @@ use Rattle.encode_types.specs.NumberMaps.{AreAscending, AreBelow}
 
 module _ (run : List (ℕ × ℕ)) (ascend : AreAscending run) (n : ℕ) where
   rise : IsNonDecreasingBy (λ e. ordering_index (nat_cmp e.0 n)) run
-  rise i j d le within =
-      let rises : (get_or run i d).0 ≤ (get_or run j d).0 = grind (arith, ascend i j d, λ (same : i ≡ j). ap (λ k. (get_or run k d).0) same) in
-      grind (arith, nat_tests)
+  rise i j d le within = search std_rules
 
   -- what the search ends at has the number
   pub search-found : (at : ℕ) (d : ℕ × ℕ) → IsBinarySearchResult (λ e. nat_cmp e.0 n) run (Ok at) → (get_or run at d).0 ≡ n
@@ -28,13 +26,7 @@ module _ (run : List (ℕ × ℕ)) (ascend : AreAscending run) (n : ℕ) where
 
   -- what is above the last is above all
   pub above-last : (last : ℕ × ℕ) → slice_get run (length run - 1) ≡ Some last → last.0 < n → AreBelow run n
-  above-last last is lt e c =
-      let top : (get_or run (length run - 1) e).0 ≡ last.0 = ap (λ (z : ℕ × ℕ). z.0) (get_or_from_slice_get run (length run - 1) last e is) in
-      let own : (get_or run c.0 e).0 ≡ e.0 = ap (λ (z : ℕ × ℕ). z.0) c.2 in
-      let within : c.0 < length run = c.1 in
-      let rises : (get_or run c.0 e).0 ≤ (get_or run (length run - 1) e).0 =
-      grind (arith, within, ascend c.0 (length run - 1) e, λ (same : c.0 ≡ length run - 1). ap (λ j. (get_or run j e).0) same) in
-      omega (arith, top, own, rises, lt)
+  above-last last is lt e c = search (std_rules, get_or_from_slice_get)
 
 -- one more entry behind those of an ascending list
 pub ascending-push : (run : List (ℕ × ℕ)) (e : ℕ × ℕ) → AreAscending run → AreBelow run e.0 → AreAscending (run ++ e ∷ [])
@@ -49,8 +41,7 @@ in-either xs ys n f g i c = elim (Contains-append_cases xs ys (n, i) c) [
 
 -- what is pushed to the first of two lists, or to the second, is one more in both
 pub pushed-first : (xs ys : List (ℕ × ℕ)) (e : ℕ × ℕ) → IsPermutation ((xs ++ ys) ++ e ∷ []) ((xs ++ e ∷ []) ++ ys)
-pushed-first xs ys e = subst (λ l. IsPermutation l ((xs ++ e ∷ []) ++ ys)) (sym (append_assoc xs ys (e ∷ [])))
-    (subst (IsPermutation (xs ++ (ys ++ e ∷ []))) (sym (append_assoc xs (e ∷ []) ys)) (IsPermutation-append_right xs (ys ++ e ∷ []) (e ∷ ys) (IsPermutation-append_comm ys (e ∷ []))))
+pushed-first xs ys e = search (std_rules, append_assoc, IsPermutation-append_right, IsPermutation-append_comm)
 
 pub pushed-second : (xs ys zs : List (ℕ × ℕ)) (e : ℕ × ℕ) → IsPermutation (ys ++ e ∷ []) zs → IsPermutation ((xs ++ ys) ++ e ∷ []) (xs ++ zs)
 pushed-second xs ys zs e p = subst (λ l. IsPermutation l (xs ++ zs)) (sym (append_assoc xs ys (e ∷ []))) (IsPermutation-append_right xs (ys ++ e ∷ []) zs p)

@@ -1,14 +1,14 @@
 -- What is defined, call by call.
-use Rattle.std.proofs.Common.{◌≡◌, refl, sym, subst, ap, ◌∙◌, ℕ, ◌+◌, inl, inr, append_assoc, append-nil, Bool, true, false, List, [], ◌∷◌, ◌++◌, Result, Ok, Err, IfOk, Option, Some, None, length, length-append, arith, map}
+use Rattle.std.proofs.Common.{rules as std_rules, ◌≡◌, refl, sym, subst, ap, ◌∙◌, ℕ, ◌+◌, inl, inr, append_assoc, append-nil, Bool, false, List, [], ◌∷◌, ◌++◌, Result, IfOk, Option, Some, None, length, length-append, arith, map}
 use Rattle.std.proofs.lemmas.List.{map-append, length-map}
 use Rattle.std.proofs.lemmas.List.{Sorted.IsPermutation-refl, Sorted.length_permutation, Elements.Contains-append_cases, Elements.filter_map-append}
 use Rattle.wit_model.specs.{Tree.Tree, Types.trees_of, Types.tree_of, Meaning.TypeMeaning, Text.Text, Text.text_of}
 use Rattle.wit_model.specs.declared.model.{Resolve.Resolve, TypeId.TypeId, TypeDefKind.TypeDefKind, «Type».«Type» as ValueType, Param.Param}
-use Rattle.std.specs.{Borrow.Bor, List.AllZip, List.Contains, List.cons_option, Prelude.IsPermutation}
+use Rattle.std.specs.{Borrow.Bor, List.AllZip, List.cons_option, Prelude.IsPermutation}
 use Rattle.comp_bytes.specs.Raw.{ExternName}
 use Rattle.comp_bytes.specs.declared.forms.{ComponentValType.ComponentValType, ComponentDefinedType.ComponentDefinedType}
 use Rattle.encode_types.specs.declared.maps.TypeEncodingMaps.{TypeEncodingMaps}
-use Rattle.encode_types.specs.Slots.{Pairs, Standing, tree, Keeps, SlotAdded, StandsFor, StandsForOptional, NamedStands, CaseStands, Follows}
+use Rattle.encode_types.specs.Slots.{Pairs, Standing, tree, Keeps, SlotAdded, StandsFor, StandsForOptional, NamedStands, Follows}
 use Rattle.encode_types.specs.{Kinds.kind_tree, Scope.Scope, Known.GrowsAround}
 use Rattle.encode_types.specs.Maps.{Says, Holds, MapsAgree, IsWritten, HasKind, by_kind, LearnsNumber, LearnsList}
 use Rattle.encode_types.specs.{Definition.FollowsKind, Definition.IsWrittenParam, View.View, View.Agrees, View.Grows, Leaves.Leaves, Leaves.LeavesSlots}
@@ -16,38 +16,19 @@ use Rattle.encode_types.specs.Counts.{Definitions, one_type_more, type_more_if, 
 use Rattle.encode_types.proofs.{Lists.none-in, Around.around-trans, Written.written-stands}
 use Rattle.encode_types.proofs.Marking.{more-then, slots-none, slots-then, slots-kind, slots-number, slots-named}
 use Rattle.wit_model.proofs.Elements.{zip-along}
-use Rattle.base_lemmas.proofs.Elements.{last_of as one-contained, zip-kept}
+use Rattle.base_lemmas.proofs.Elements.{zip-kept}
 use Rattle.comp_bytes.specs.declared.forms.ComponentValType.TheVariants as v
-use Rattle.comp_bytes.specs.declared.forms.ComponentDefinedType.TheVariants as form
 
 -- ---- more pairs
 
 pub stands-more : (S S' : Pairs) → Keeps S S' → (x : ComponentValType) (t : Tree) → StandsFor S x t → StandsFor S' x t
-stands-more S S' k (v.Primitive p) t h = h
-stands-more S S' k (v.Type_ i) t h = k i (tree t) h
+stands-more x y k z t h = search std_rules
 
 pub optional-more : (S S' : Pairs) → Keeps S S' → (x : Option ComponentValType) (t : Option Tree) → StandsForOptional S x t → StandsForOptional S' x t
-optional-more S S' k None None h = tt
-optional-more S S' k None (Some t) h = h
-optional-more S S' k (Some x) None h = h
-optional-more S S' k (Some x) (Some t) h = stands-more S S' k x t h
+optional-more y z k u v h = search std_rules
 
 pub follows-more : (S S' : Pairs) → Keeps S S' → (d : ComponentDefinedType) (t : Tree) → Follows S d t → Follows S' d t
-follows-more S S' k (form.Primitive p) t h = h
-follows-more S S' k (form.Record fields) t h = (h.0, zip-kept (NamedStands S) (NamedStands S') (λ x f w. (w.0, stands-more S S' k x.1 f.1 w.1)) _ _ h.1, h.2)
-follows-more S S' k (form.Variant cases) t h = (h.0, zip-kept (CaseStands S) (CaseStands S') (λ x c w. (w.0, optional-more S S' k x.1 c.1 w.1)) _ _ h.1, h.2)
-follows-more S S' k (form.List x) t h = (h.0, stands-more S S' k x h.0 h.1, h.2)
-follows-more S S' k (form.FixedLengthList x n) t h = (h.0, stands-more S S' k x h.0 h.1, h.2)
-follows-more S S' k (form.Map x y) t h = (h.0, h.1, stands-more S S' k x h.0 h.2, stands-more S S' k y h.1 h.3, h.4)
-follows-more S S' k (form.Tuple xs) t h = (h.0, zip-kept (StandsFor S) (StandsFor S') (λ x u w. stands-more S S' k x u w) _ _ h.1, h.2)
-follows-more S S' k (form.Flags names) t h = h
-follows-more S S' k (form.Enum names) t h = h
-follows-more S S' k (form.Option x) t h = (h.0, stands-more S S' k x h.0 h.1, h.2)
-follows-more S S' k (form.Result x y) t h = (h.0, h.1, optional-more S S' k x h.0 h.2, optional-more S S' k y h.1 h.3, h.4)
-follows-more S S' k (form.Own i) t h = (h.0, k i (tree h.0) h.1, h.2)
-follows-more S S' k (form.Borrow i) t h = (h.0, k i (tree h.0) h.1, h.2)
-follows-more S S' k (form.Stream x) t h = (h.0, optional-more S S' k x h.0 h.1, h.2)
-follows-more S S' k (form.Future x) t h = (h.0, optional-more S S' k x h.0 h.1, h.2)
+follows-more z v k p t h = search (std_rules, zip-kept, stands-more, optional-more)
 
 -- ---- with maps that agree
 
@@ -65,8 +46,7 @@ pub params-stand : (r : Resolve) (m : TypeEncodingMaps) (S : Pairs) (xs : List (
 params-stand r m S xs ps a z = zip-along (IsWrittenParam m) (NamedStands S) (λ p. (text_of p.name, tree_of (trees_of r) p.ty)) (λ x p w. (w.0, value-stands r m S x.1 p.ty a w.1)) xs ps z
 
 pub adds-ok : {E : Type 0} (x : Result ℕ E) (S S' : Pairs) (n n' : ℕ) (P : Standing → Type 0) (m : Standing) → IfOk x (λ i. SlotAdded S S' n n' i P) → P m → IfOk x (λ i. S' i m)
-adds-ok (Ok i) S S' n n' P m h p = h.adds.new m p
-adds-ok (Err e) S S' n n' P m h p = h
+adds-ok x y z n n' u m h p = search std_rules
 
 -- a kind that is known has the tree
 pub kind-stands : (r : Resolve) (m : TypeEncodingMaps) (S : Pairs) (k : TypeDefKind) (i : ℕ) → MapsAgree r m S → HasKind m k i → S i (tree (kind_tree r k))
@@ -76,8 +56,7 @@ kind-stands r m S k i a h = a.says (by_kind k) i h
 
 pub lists-longer : {K : Type 0} (f : K → List ℕ) (es fs : List (K × ℕ)) (x : List ℕ × ℕ)
     → IsPermutation (map {B = List ℕ × ℕ} (λ e. (f e.0, e.1)) es ++ x ∷ []) (map {B = List ℕ × ℕ} (λ e. (f e.0, e.1)) fs) → length fs ≡ length es + 1
-lists-longer f es fs x p =
-    sym (length-map fs (λ e. (f e.0, e.1))) ∙ length_permutation _ _ p ∙ length-append (map (λ e. (f e.0, e.1)) es) (x ∷ []) ∙ ap (λ n. n + 1) (length-map es (λ e. (f e.0, e.1)))
+lists-longer f es fs x p = search (std_rules, length-map, length_permutation, length-append)
 
 pub shows-none : (r : Resolve) (scope : Scope) (m m' : TypeEncodingMaps) (d d' : Definitions) → m'.id_to_index.entries ≡ m.id_to_index.entries → d'.exports ≡ d.exports → Shows r scope m m' d d'
 shows-none r scope m m' d d' e f = record {
@@ -106,35 +85,15 @@ one-name o t e = ap (λ x. cons_option x []) e
 -- a number that shows nothing
 shows-unshown : (r : Resolve) (scope : Scope) (m m' : TypeEncodingMaps) (d d' : Definitions) (id : TypeId) (i : ℕ) → LearnsNumber m m' id i → own_name r scope id.0 ≡ None → d'.exports ≡ d.exports
     → Shows r scope m m' d d'
-shows-unshown r scope m m' d d' id i l n e = record {
-  learnt = (id.0, i) ∷ [];
-  shown = [];
-  numbers = l.more;
-  exports = e ∙ sym (append-nil d.exports);
-  declared = λ x c. none-in x c;
-  names = sym (ap (λ x. cons_option x []) n);
-}
+shows-unshown r scope m m' d d' id i l n e = search std_rules
 
 -- a number that is shown by its name
 shows-shown : (r : Resolve) (scope : Scope) (m m' : TypeEncodingMaps) (d d₁ d' : Definitions) (id : TypeId) (i : ℕ) {slot : Option ℕ} (name : ExternName) → LearnsNumber m m' id i
     → own_name r scope id.0 ≡ Some name.text → d₁.exports ≡ d.exports → ExportsOne scope d₁ d' slot name → Shows r scope m m' d d'
-shows-shown r scope m m' d d₁ d' id i name l n e x = record {
-  learnt = (id.0, i) ∷ [];
-  shown = x.declaration ∷ [];
-  numbers = l.more;
-  exports = ap (λ (z : Definitions). z.exports) x.one_more ∙ ap (λ xs. xs ++ x.declaration ∷ []) e;
-  declared = λ y c. subst (λ z. Contains scope.declarations z) (one-contained x.declaration y c) x.there;
-  names = ap (λ (z : ExternName). z.text ∷ []) (sym x.named_) ∙ sym (one-name (own_name r scope id.0) name.text n);
-}
+shows-shown r scope m m' d d₁ d' id i name l n e x = search std_rules
 
 pub counts-none : (r : Resolve) (scope : Scope) (m : TypeEncodingMaps) (d : Definitions) → AddsTypes r scope m m d d
-counts-none r scope m d = record {
-  slots = slots-none r scope m m d d refl refl refl refl;
-  functions = refl;
-  keys =
-      record { lists = refl; names_ = refl; units = record { future_ = refl; stream_ = refl } };
-  shows = shows-none r scope m m d d refl refl;
-}
+counts-none r scope m d = search (std_rules, slots-none, shows-none)
 
 pub counts-trans : {r : Resolve} {scope scope' : Scope} {a b c : TypeEncodingMaps} {d e f : Definitions} → scope' ≡ scope → AddsTypes r scope a b d e → AddsTypes r scope' b c e f
     → AddsTypes r scope a c d f
@@ -184,16 +143,13 @@ counts-resource r scope m m' d d' id i name l n b x = record {
 }
 
 types-if : (b : Bool) (i : ℕ) (d : Definitions) → (type_more_if b i d).exported ≡ d.exported
-types-if true i d = refl
-types-if false i d = refl
+types-if x i d = search std_rules
 
 functions-if : (b : Bool) (i : ℕ) (d : Definitions) → (type_more_if b i d).functions ≡ d.functions
-functions-if true i d = refl
-functions-if false i d = refl
+functions-if x i d = search std_rules
 
 exports-if : (b : Bool) (i : ℕ) (d : Definitions) → (type_more_if b i d).exports ≡ d.exports
-exports-if true i d = refl
-exports-if false i d = refl
+exports-if x i d = search std_rules
 
 -- a number whose name is exported from slot j: that of its definition, or of what it is another name of
 pub counts-named : (r : Resolve) (scope : Scope) (m m' : TypeEncodingMaps) (d d₁ d' : Definitions) (id : TypeId) (i j : ℕ) (b : Bool) (name : ExternName) → LearnsNumber m m' id i

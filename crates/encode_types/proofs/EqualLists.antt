@@ -1,12 +1,12 @@
 -- Equal lists are those of equal kinds, and of equal keys of functions.
-use Rattle.std.proofs.Common.{◌≡◌, refl, sym, subst, ap, ◌∙◌, ℕ, suc, ◌+◌, ◌-◌, ◌≤◌, Bool, true, false, ◌&&◌, List, [], ◌∷◌, ◌++◌, map, cond, length, get_or, Option, Some, None, arith, rules, nat_eq}
-use Rattle.std.proofs.lemmas.{Bool.eqb-true, Bool.eq-eqb, Bool.and_from as both, List.get_or_past}
+use Rattle.std.proofs.Common.{◌≡◌, refl, sym, subst, ap, ◌∙◌, ℕ, suc, ◌+◌, ◌-◌, Bool, true, false, List, [], ◌∷◌, ◌++◌, map, cond, length, get_or, Option, arith, rules, nat_eq}
+use Rattle.std.proofs.lemmas.{Bool.eq-eqb, Bool.and_from as both}
 use Rattle.std.specs.{List.Contains, Option.option_eq, Cmp.Lexicographic.pointwise}
 use mathlib.Core.Bool.{beq, true≢false}
 use Rattle.wit_model.specs.{Text.Text, Text.text_of, Text.text_eq, Rules.is_named_kind}
 use Rattle.wit_model.specs.declared.model.{Param.Param, TypeDefKind.TypeDefKind, «Type».«Type» as ValueType}
 use Rattle.encode_types.specs.declared.key.FunctionKey.{FunctionKey}
-use Rattle.encode_types.specs.{Key.same_type, Key.same_param, Key.same_params, Key.same_key, Maps.same_kind, CodeLaws.EqualKinds, CodeLaws.EqualKeys}
+use Rattle.encode_types.specs.{Key.same_type, Key.same_param, Key.same_key, Maps.same_kind, CodeLaws.EqualKinds, CodeLaws.EqualKeys}
 use Rattle.encode_types.specs.KeyLaws.{type_equiv, text_same}
 use Rattle.encode_types.specs.Codes.{type_code, optional_code, kind_code, Names, IsTable, AreListed, async_code, IsKeyList}
 use Rattle.encode_types.proofs.KindLaws.{same_types, optional_same, types_same}
@@ -25,24 +25,7 @@ abbrev type_at_code : ℕ → ValueType
 type_at_code n = get_or primitives n (ty.Id (record { 0 = n - 14 }))
 
 code-back : (t : ValueType) → type_at_code (type_code t) ≡ t
-code-back ty.Bool = refl
-code-back ty.U8 = refl
-code-back ty.U16 = refl
-code-back ty.U32 = refl
-code-back ty.U64 = refl
-code-back ty.S8 = refl
-code-back ty.S16 = refl
-code-back ty.S32 = refl
-code-back ty.S64 = refl
-code-back ty.F32 = refl
-code-back ty.F64 = refl
-code-back ty.Char = refl
-code-back ty.String = refl
-code-back ty.ErrorContext = refl
-code-back (ty.Id id) =
-    let e : (14 + id.0) - 14 ≡ id.0 = omega arith in
-    let l : 14 ≤ 14 + id.0 = omega arith in
-    get_or_past primitives (14 + id.0) (ty.Id (record { 0 = (14 + id.0) - 14 })) l ∙ ap (λ n. ty.Id (record { 0 = n })) e
+code-back x = search rules
 
 pub type-of-code : (a b : ValueType) → type_code a ≡ type_code b → a ≡ b
 type-of-code a b e = sym (code-back a) ∙ ap type_at_code e ∙ code-back b
@@ -68,18 +51,10 @@ types-of-codes (x ∷ xs) (y ∷ ys) e = both _ _ (same-refl x y (type-of-code x
 
 -- what follows an optional part is known from the whole
 optional-of-code : (a b : Option ValueType) (xs ys : List ℕ) → optional_code a ++ xs ≡ optional_code b ++ ys → (option_eq same_type a b ≡ true) × (xs ≡ ys)
-optional-of-code None None xs ys e = (refl, tail-same _ _ _ _ e)
-optional-of-code None (Some b) xs ys e = absurd (let h : 0 ≡ 1 = head-same _ _ _ _ e in omega (arith, h))
-optional-of-code (Some a) None xs ys e = absurd (let h : 1 ≡ 0 = head-same _ _ _ _ e in omega (arith, h))
-optional-of-code (Some a) (Some b) xs ys e =
-    let t = tail-same _ _ _ _ e in
-    (same-refl a b (type-of-code a b (head-same _ _ _ _ t)), tail-same _ _ _ _ t)
+optional-of-code x y xs ys e = search rules
 
 optional-alone : (a b : Option ValueType) → optional_code a ≡ optional_code b → option_eq same_type a b ≡ true
-optional-alone None None e = refl
-optional-alone None (Some b) e = absurd (let h : 0 ≡ 1 = head-same _ _ _ _ e in omega (arith, h))
-optional-alone (Some a) None e = absurd (let h : 1 ≡ 0 = head-same _ _ _ _ e in omega (arith, h))
-optional-alone (Some a) (Some b) e = same-refl a b (type-of-code a b (head-same _ _ _ _ (tail-same _ _ _ _ e)))
+optional-alone x y e = search rules
 
 -- ---- kinds
 
@@ -106,9 +81,7 @@ abbrev case_in : List ℕ → ℕ
 case_in l = cond (nat_eq (get_or l 0 99) 1) 0 (get_or l 0 99)
 
 in-list : (k : TypeDefKind) → case_in (kind_code k) ≡ case_number k
-in-list (kind.Handle (handle.Own id)) = refl
-in-list (kind.Handle (handle.Borrow id)) = refl
-in-list _ = refl
+in-list x = search rules
 
 other-case : (a b : TypeDefKind) → nat_eq (case_number a) (case_number b) ≡ false → kind_code a ≡ kind_code b → ⊥
 other-case a b h e = true≢false (sym (eq-eqb (case_number a) (case_number b) (sym (in-list a) ∙ ap case_in e ∙ in-list b)) ∙ h)
@@ -129,9 +102,7 @@ kinds-of-lists (kind.List a) (kind.List b) n m e = same-refl a b (type-of-code a
 kinds-of-lists (kind.List a) other n m e = absurd (other-case (kind.List a) other refl e)
 kinds-of-lists (kind.Tuple a) (kind.Tuple b) n m e = types-of-codes a.types.items b.types.items (tail-same _ _ _ _ e)
 kinds-of-lists (kind.Tuple a) other n m e = absurd (other-case (kind.Tuple a) other refl e)
-kinds-of-lists (kind.Result a) (kind.Result b) n m e =
-    let h = optional-of-code a.ok b.ok (optional_code a.err) (optional_code b.err) (tail-same _ _ _ _ e) in
-    both _ _ h.0 (optional-alone a.err b.err h.1)
+kinds-of-lists (kind.Result a) (kind.Result b) n m e = search (rules, optional-of-code, tail-same, both, optional-alone)
 kinds-of-lists (kind.Result a) other n m e = absurd (other-case (kind.Result a) other refl e)
 kinds-of-lists (kind.Map a x) (kind.Map b y) n m e = both _ _ (same-refl a b (type-of-code a b (one-number _ _ _ _ _ _ e))) (same-refl x y (type-of-code x y (two-numbers _ _ _ _ _ _ _ _ e)))
 kinds-of-lists (kind.Map a x) other n m e = absurd (other-case (kind.Map a x) other refl e)
@@ -162,10 +133,7 @@ lists-of-kinds (kind.Map a x) (kind.Map b y) n e =
     let k = same_types x y (second_true (same_type a b) (same_type x y) e) in
     λ i. kind_code (kind.Map (h i) (k i))
 lists-of-kinds (kind.Map a x) other n e = absurd (true≢false (sym e))
-lists-of-kinds (kind.FixedLengthList a x) (kind.FixedLengthList b y) n e =
-    let h = same_types a b (first_true (same_type a b) (nat_eq x y) e) in
-    let k = eqb-true x y (second_true (same_type a b) (nat_eq x y) e) in
-    λ i. kind_code (kind.FixedLengthList (h i) (k i))
+lists-of-kinds (kind.FixedLengthList a x) (kind.FixedLengthList b y) n e = search rules
 lists-of-kinds (kind.FixedLengthList a x) other n e = absurd (true≢false (sym e))
 lists-of-kinds (kind.Future a) (kind.Future b) n e = let h : option_eq same_type a b ≡ true = search rules in ap (λ t. kind_code (kind.Future t)) (optional_same a b h)
 lists-of-kinds (kind.Future a) other n e = absurd (true≢false (sym e))
@@ -238,38 +206,19 @@ listed-shrink names names' t g (p ∷ ps) (q ∷ qs) (x ∷ a ∷ xs) (y ∷ b �
 
 pub key-shrink : (names names' : Names) → IsTable names' → ((t : Text) (n : ℕ) → Contains names (t, n) → Contains names' (t, n)) → (a b : FunctionKey) (xs : List ℕ) → IsKeyList names' a xs
     → IsKeyList names b xs → IsKeyList names a xs
-key-shrink names names' t g a b xs l k =
-    let w = sym l.is ∙ k.is in
-    let r = tail-same _ _ _ _ w in
-    record { middle = l.middle; listed = listed-shrink names names' t g a.params.0.now b.params.0.now l.middle k.middle _ _ l.listed k.listed (head-same _ _ _ _ r) (tail-same _ _ _ _ r); is = l.is }
+key-shrink names names' t g a b xs l k = search (rules, tail-same, listed-shrink, head-same)
 
 async-back : (a b : Bool) → async_code a ≡ async_code b → beq a b ≡ true
-async-back true true e = refl
-async-back false false e = refl
-async-back true false e = absurd (let z : ⊥ = cc in z)
-async-back false true e = absurd (let z : ⊥ = cc in z)
+async-back x y e = search rules
 
 pub async-same : (a b : Bool) → beq a b ≡ true → async_code a ≡ async_code b
-async-same true true e = refl
-async-same false false e = refl
-async-same true false e = absurd (let z : ⊥ = cc in z)
-async-same false true e = absurd (let z : ⊥ = cc in z)
+async-same x y e = search rules
 
 pub keys-of-lists : (names : Names) (a b : FunctionKey) (xs ys : List ℕ) → IsTable names → IsKeyList names a xs → IsKeyList names b ys → xs ≡ ys → same_key a b ≡ true
-keys-of-lists names a b xs ys t l k e =
-    let w = sym l.is ∙ e ∙ k.is in
-    let r = tail-same _ _ _ _ w in
-    let m = params-of-lists names t a.params.0.now b.params.0.now l.middle k.middle _ _ l.listed k.listed (head-same _ _ _ _ r) (tail-same _ _ _ _ r) in
-    both _ _ (async-back a.async_ b.async_ (head-same _ _ _ _ w)) (both _ _ m.0 (optional-alone a.result.now b.result.now m.1))
+keys-of-lists names a b xs ys t l k e = search (rules, tail-same, params-of-lists, head-same, both, async-back, optional-alone)
 
 pub lists-of-keys : (names : Names) (a b : FunctionKey) (xs ys : List ℕ) → IsTable names → IsKeyList names a xs → IsKeyList names b ys → same_key a b ≡ true → xs ≡ ys
-lists-of-keys names a b xs ys t l k e =
-    let rest = second_true (beq a.async_ b.async_) (same_params a.params b.params && option_eq same_type a.result.now b.result.now) e in
-    let m = lists-of-params names t a.params.0.now b.params.0.now l.middle k.middle l.listed k.listed
-    (first_true (same_params a.params b.params) (option_eq same_type a.result.now b.result.now) rest) in
-    let s = async-same a.async_ b.async_ (first_true (beq a.async_ b.async_) (same_params a.params b.params && option_eq same_type a.result.now b.result.now) e) in
-    let o = optional_same a.result.now b.result.now (second_true (same_params a.params b.params) (option_eq same_type a.result.now b.result.now) rest) in
-    l.is ∙ (λ i. s i ∷ m.1 i ∷ (m.0 i ++ optional_code (o i))) ∙ sym k.is
+lists-of-keys names a b xs ys t l k e = search (rules, second_true, lists-of-params, first_true, async-same, optional_same)
 
 pub equal_keys : EqualKeys
 equal_keys = λ names a b xs ys t l k. record { same = keys-of-lists names a b xs ys t l k; equal = lists-of-keys names a b xs ys t l k }

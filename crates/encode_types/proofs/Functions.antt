@@ -1,23 +1,19 @@
 -- Types of functions by their keys.
-use Rattle.std.proofs.Common.{◌≡◌, sym, subst, ap, ◌∙◌, ℕ, List, [], ◌∷◌, ◌++◌, inl, inr, map, option_map, Bool, Option}
+use Rattle.std.proofs.Common.{rules as std_rules, ◌≡◌, sym, subst, ap, ◌∙◌, ℕ, List, [], ◌∷◌, ◌++◌, inl, inr, map, Bool, Option}
 use Rattle.std.proofs.lemmas.List.Elements.{Contains-append_left, Contains-append_right}
 use Rattle.std.specs.{Prelude.IsPermutation, Borrow.Bor, List.Contains}
-use Rattle.wit_model.specs.{Text.Text, Text.text_of, Types.trees_of, Types.tree_of, Meant.signature_of, Meaning.Signature, Lookup.is_async}
+use Rattle.wit_model.specs.{Text.Text, Meant.signature_of, Meaning.Signature, Lookup.is_async}
 use Rattle.wit_model.specs.declared.model.{Resolve.Resolve, Function.Function, «Type».«Type» as ValueType, Param.Param}
 use Rattle.encode_types.specs.declared.{key.FunctionKey.FunctionKey, maps.TypeEncodingMaps.TypeEncodingMaps}
 use Rattle.encode_types.specs.{Key.IsKeyOf, Key.key_signature, Slots.Pairs, Slots.function}
-use Rattle.encode_types.specs.Maps.{MapsAgree, NamesGrow, IsOnce, AddsNames, KeepsKnownNames, HasKey, LacksKey, LearnsKeyList, by_key}
+use Rattle.encode_types.specs.Maps.{MapsAgree, IsOnce, AddsNames, KeepsKnownNames, HasKey, LacksKey, LearnsKeyList, by_key}
 use Rattle.encode_types.specs.{Scope.Scope, Codes.names_of, Codes.lists_of, Codes.ListKey, Codes.IsListed, Codes.IsKeyList, Distinct.KnowsKey, Distinct.key_of}
 use Rattle.encode_types.specs.{Fits.CanEncode, Counts.SameKeys, Counts.Definitions, Counts.one_function_more, Counts.AddsTypes, Counts.AddsFunction}
 use Rattle.encode_types.proofs.{Agree.adds-holds, Agree.adds-back, Marking.slots-none, Marking.slots-then}
 use Rattle.encode_types.proofs.{Tables.listed-names, Tables.listed-grow, Tables.names-same, Tables.names-then, Defining.shows-none, Defining.shows-trans}
 
 pub key-signature : (r : Resolve) (key : FunctionKey) (f : Function) → IsKeyOf key f → key_signature r key ≡ signature_of r f
-key-signature r key f k = λ i. record {
-  is_async = k.async i;
-  params = map (λ p. (text_of p.name, tree_of (trees_of r) p.ty)) (k.params i);
-  result = option_map (tree_of (trees_of r)) (k.result_ i);
-}
+key-signature r key f k = search std_rules
 
 -- what a key that is known has as its slot
 pub key-stands : (r : Resolve) (m : TypeEncodingMaps) (S : Pairs) (key : FunctionKey) (f : Function) (i : ℕ) → MapsAgree r m S → IsKeyOf key f → HasKey m key i → S i (function (signature_of r f))
@@ -59,28 +55,7 @@ encode-right r scope scope' xs ys e c =
 pub counts-key : (r : Resolve) (scope : Scope) (m m₁ m' : TypeEncodingMaps) (d d₁ d' : Definitions) (key : FunctionKey) (xs : List ℕ) (i : ℕ) → LacksKey m key → AddsTypes r scope m m₁ d d₁
     → IsKeyList (names_of m₁.names) key xs → LearnsKeyList m₁ m' xs i → d' ≡ one_function_more i d₁
     → AddsFunction r scope m m' d d' key i
-counts-key r scope m m₁ m' d d₁ d' key xs i lacks a is l e =
-    let f : d'.functions ≡ d.functions ++ i ∷ [] = ap (λ (z : Definitions). z.functions) e ∙ ap (λ (xs : List ℕ). xs ++ i ∷ []) a.functions in
-    let rest = slots-none r scope m₁ m' d₁ d' l.rest.numbers l.rest.kinds (ap (λ (z : Definitions). z.types) e) (ap (λ (z : Definitions). z.exported) e) in
-    let more : IsPermutation (lists_of m.func_type_map ++ (xs, i) ∷ []) (lists_of m'.func_type_map) =
-    subst (λ (es : List (ListKey × ℕ)). IsPermutation (map {B = List ℕ × ℕ} (λ e. (e.0.0.items, e.1)) es ++ (xs, i) ∷ []) (lists_of m'.func_type_map)) a.keys.lists l.more in
-    let grow : NamesGrow (names_of m.names) (names_of m'.names) = names-same (names_of m.names) (names_of m'.names) (ap (map (λ (e : Bor Text × ℕ). (e.0.now, e.1))) (l.rest.names_ ∙ a.keys.names_)) in
-    let listed : IsKeyList (names_of m'.names) key xs = subst (λ (ns : List (Bor Text × ℕ)). IsKeyList (map {B = Text × ℕ} (λ e. (e.0.now, e.1)) ns) key xs) (sym l.rest.names_) is in
-    record {
-      slots = slots-then a.slots rest;
-      keys = inr (
-        lacks,
-        record {
-          units = record { future_ = l.rest.unit_future_ ∙ a.keys.units.future_; stream_ = l.rest.unit_stream_ ∙ a.keys.units.stream_ };
-          grow = grow;
-          list = xs;
-          is = listed;
-          more = more;
-        },
-        f,
-      );
-      shows = shows-trans a.shows (shows-none r scope m₁ m' d₁ d' l.rest.numbers (ap (λ (z : Definitions). z.exports) e));
-    }
+counts-key r scope m m₁ m' d d₁ d' key xs i lacks a is l e = search (std_rules, slots-none, names-same, slots-then, shows-trans, shows-none)
 
 -- a key whose list is there: its names had numbers, so none was added
 pub counts-found : (r : Resolve) (scope : Scope) (m m' : TypeEncodingMaps) (d d' : Definitions) (key : FunctionKey) (xs : List ℕ) (i : ℕ) → IsOnce m → AddsNames m m' → KeepsKnownNames key m m'
@@ -121,12 +96,7 @@ counts-behind r scope scope' m m₁ m' d d₁ d' key i q s e lacks a' =
 
 -- a key that is known is known under more names
 pub knows-more : (m m' : TypeEncodingMaps) (f : Function) → AddsNames m m' → KnowsKey m (key_of f) → KnowsKey m' (key_of f)
-knows-more m m' f s (xs, i, l, c) = (
-  xs,
-  i,
-  record { middle = l.middle; listed = listed-grow (names_of m.names) (names_of m'.names) f.params.items l.middle s.grow l.listed; is = l.is },
-  subst (λ (es : List (ListKey × ℕ)). Contains (map {B = List ℕ × ℕ} (λ e. (e.0.0.items, e.1)) es) (xs, i)) (sym s.rest.keys) c,
-)
+knows-more m m' f s (xs, i, l, c) = search (std_rules, listed-grow)
 
 pub lacks-same : (m m' : TypeEncodingMaps) (key : FunctionKey) → SameKeys m m' → LacksKey m key → LacksKey m' key
 lacks-same m m' key e l i h = l i (

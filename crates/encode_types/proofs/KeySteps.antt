@@ -1,5 +1,5 @@
 -- A loop that feeds a hasher parameter by parameter.
-use Rattle.std.proofs.Common.{◌≡◌, refl, sym, ap, ◌∙◌, ℕ, zero, suc, ◌+◌, ◌<◌, List, [], ◌∷◌, ◌++◌, length, get_or, take, arith}
+use Rattle.std.proofs.Common.{rules as std_rules, ◌≡◌, refl, sym, ap, ◌∙◌, ℕ, zero, suc, ◌+◌, ◌<◌, List, [], ◌∷◌, ◌++◌, length, get_or, take, arith}
 use Rattle.std.specs.{Hash.HashWrites, List.flat_map, List.fold, List.list_all, List.zip, Cmp.Lexicographic.pointwise, Prelude.Bool, Prelude.◌&&◌}
 
 fold-more : {S : Type 0} (write : S → List ℕ → S) (s : S) (xs ys : HashWrites) → fold write s (xs ++ ys) ≡ fold write (fold write s xs) ys
@@ -10,14 +10,10 @@ module _ {S T : Type 0} (write : S → List ℕ → S) (F : T → HashWrites) wh
   next : (s : S) (xs : List T) (i : ℕ) (x : T) → i < length xs → x ≡ get_or xs i x → fold write s (flat_map F (take (suc i) xs)) ≡ fold write (fold write s (flat_map F (take i xs))) (F x)
   next s [] i x h e = absurd (omega (arith, h))
   next s (y ∷ ys) zero x h e = fold-more write s (F y) [] ∙ ap (λ z. fold write s (F z)) (sym e)
-  next s (y ∷ ys) (suc i) x h e =
-      fold-more write s (F y) (flat_map F (take (suc i) ys)) ∙ next (fold write s (F y)) ys i x (omega (arith, h)) e
-      ∙ ap (λ t. fold write t (F x)) (sym (fold-more write s (F y) (flat_map F (take i ys))))
+  next s (y ∷ ys) (suc i) x h e = search (std_rules, fold-more, next (fold write s (F y)) ys i x (omega (arith, h)) e)
 
   pub each_more : (s : S) (xs : List T) (i : ℕ) (x : T) → i < length xs → x ≡ get_or xs i x → fold write s (flat_map F (take (i + 1) xs)) ≡ fold write (fold write s (flat_map F (take i xs))) (F x)
-  each_more s xs i x h e =
-      let n : i + 1 ≡ suc i = omega arith in
-      ap (λ k. fold write s (flat_map F (take k xs))) n ∙ next s xs i x h e
+  each_more s xs i x h e = search (std_rules, next)
 
 -- two lists of one length, compared place by place
 pub zipped : {X : Type 0} (same : X → X → Bool) (xs ys : List X) → length xs ≡ length ys → list_all (λ p. same p.0 p.1) (zip xs ys) ≡ pointwise same xs ys

@@ -1,15 +1,14 @@
 -- Kinds that are the same declare the same tree.
-use Rattle.std.proofs.Common.{◌≡◌, refl, sym, ap, true, false, ◌&&◌, rules, List, [], ◌∷◌, map, Option, Some, None, option_map, nat_eq}
-use Rattle.std.proofs.lemmas.Bool.{eqb-true}
+use Rattle.std.proofs.Common.{◌≡◌, refl, sym, ap, true, false, ◌&&◌, rules, List, [], ◌∷◌, map, Option, option_map}
 use Rattle.wit_model.specs.declared.model.{TypeDefKind.TypeDefKind, «Type».«Type» as ValueType}
 use Rattle.wit_model.specs.{Rules.is_named_kind, Types.declared_by, Types.tree_of}
-use Rattle.wit_model.specs.Tree.{Tree, type_, tuple_tree, result_tree, map_tree, fixed_list_tree}
+use Rattle.wit_model.specs.Tree.{Tree, type_, tuple_tree, result_tree, map_tree}
 use Rattle.std.specs.{Option.option_eq, Cmp.Lexicographic.pointwise}
-use Rattle.encode_types.specs.{Maps.same_kind, Key.same_type, Key.same_param, Key.same_params, Key.same_key, Key.key_signature, KeyLaws.text_same}
+use Rattle.encode_types.specs.{Maps.same_kind, Key.same_type, Key.same_param, Key.same_params, Key.same_key, Key.key_signature}
 use Rattle.encode_types.specs.declared.key.FunctionKey.{FunctionKey}
 use Rattle.wit_model.specs.declared.model.TypeDefKind.TheVariants as kind
 use mathlib.Core.Bool.{beq, true≢false}
-use Rattle.wit_model.specs.{Text.Text, Text.text_of, Text.text_eq, Types.trees_of}
+use Rattle.wit_model.specs.{Text.Text, Text.text_of, Types.trees_of}
 use Rattle.wit_model.specs.declared.model.{Param.Param, Resolve.Resolve}
 use Rattle.base_lemmas.proofs.Bools.{beq_same as beq-same, left_of as first_true, right_of as second_true}
 
@@ -17,10 +16,7 @@ pub same_types : (a b : ValueType) → same_type a b ≡ true → a ≡ b
 same_types a b e = search rules
 
 pub optional_same : (a b : Option ValueType) → option_eq same_type a b ≡ true → a ≡ b
-optional_same None None e = refl
-optional_same None (Some y) e = absurd (let z : ⊥ = cc in z)
-optional_same (Some x) None e = absurd (let z : ⊥ = cc in z)
-optional_same (Some x) (Some y) e = ap Some (same_types x y e)
+optional_same u v e = search rules
 
 pub types_same : (xs ys : List ValueType) → pointwise same_type xs ys ≡ true → xs ≡ ys
 types_same [] [] e = refl
@@ -49,10 +45,7 @@ same_tree ts (kind.Map a x) (kind.Map b y) n e =
     let k = same_types x y (second_true (same_type a b) (same_type x y) e) in
     λ i. type_ (map_tree (tree_of ts (h i)) (tree_of ts (k i)))
 same_tree ts (kind.Map a x) other n e = absurd (true≢false (sym e))
-same_tree ts (kind.FixedLengthList a x) (kind.FixedLengthList b y) n e =
-    let h = same_types a b (first_true (same_type a b) (nat_eq x y) e) in
-    let k = eqb-true x y (second_true (same_type a b) (nat_eq x y) e) in
-    λ i. type_ (fixed_list_tree (tree_of ts (h i)) (k i))
+same_tree ts (kind.FixedLengthList a x) (kind.FixedLengthList b y) n e = search rules
 same_tree ts (kind.FixedLengthList a x) other n e = absurd (true≢false (sym e))
 same_tree ts (kind.Future a) (kind.Future b) n e = let h : option_eq same_type a b ≡ true = search rules in ap (λ t. declared_by ts (kind.Future t)) (optional_same a b h)
 same_tree ts (kind.Future a) other n e = absurd (true≢false (sym e))
@@ -68,11 +61,7 @@ params-same trees [] [] h = refl
 params-same trees [] (y ∷ ys) h = absurd (true≢false (sym h))
 params-same trees (x ∷ xs) [] h = absurd (true≢false (sym h))
 params-same trees (x ∷ xs) (y ∷ ys) h =
-    let here = first_true (same_param x y) (pointwise same_param xs ys) h in
-    let name = text_same (text_of x.name) (text_of y.name) (first_true (text_eq (text_of x.name) (text_of y.name)) (same_type x.ty y.ty) here) in
-    let type_ = same_types x.ty y.ty (second_true (text_eq (text_of x.name) (text_of y.name)) (same_type x.ty y.ty) here) in
-    let rest = params-same trees xs ys (second_true (same_param x y) (pointwise same_param xs ys) h) in
-    λ i. (name i, tree_of trees (type_ i)) ∷ rest i
+    search (rules, first_true, same_types, second_true, params-same trees xs ys (second_true (same_param x y) (pointwise same_param xs ys) h))
 
 -- equal keys have one signature
 pub same-signature : (r : Resolve) (a b : FunctionKey) → same_key a b ≡ true → key_signature r a ≡ key_signature r b

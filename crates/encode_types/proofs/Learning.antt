@@ -1,5 +1,5 @@
 -- What maps learn, call by call.
-use Rattle.std.proofs.Common.{◌≡◌, refl, sym, subst, ap, ◌∙◌, ℕ, ◌⊎◌, false, inl, inr, List, [], ◌∷◌, ◌++◌, map, Option, Some, None, option_to_list, Result, Ok, Err, OnOk, String}
+use Rattle.std.proofs.Common.{rules as std_rules, ◌≡◌, refl, sym, subst, ap, ◌∙◌, ℕ, ◌⊎◌, false, inl, inr, List, [], ◌∷◌, ◌++◌, map, Option, Some, None, option_to_list, Result, Ok, Err, OnOk, String}
 use Rattle.std.proofs.lemmas.{List.Elements.Contains-append_cases, Option.same_Some as some-same}
 use Rattle.std.specs.declared.alloc.Global.{Global}
 use Rattle.std.specs.{List.Contains, Borrow.Bor}
@@ -133,11 +133,7 @@ kind-same m m₁ m' kind e l = record {
 module _ {A E : Type 0} (x : Result A E) (r : Resolve) (scope : Scope) (m m' : TypeEncodingMaps) (d d' : Definitions) (n : ℕ) (def : TypeDef) (at : type_at r n ≡ Some def) where
   pub learns-call-unnamed : OnOk x (LearnsOne m m' n) → MapsGrow m m' → OnOk x (AddsTypes r scope m m' d d') → OnOk x (LearnsKindOf m m' def.kind) → AllReady m (parts_of def.kind) → def.name ≡ None
       → OnOk x (Learns r scope.own_interface m m')
-  learns-call-unnamed one grow counts kinds ready none = go x one counts kinds
-    where
-      go : (x : Result A E) → OnOk x (LearnsOne m m' n) → OnOk x (AddsTypes r scope m m' d d') → OnOk x (LearnsKindOf m m' def.kind) → OnOk x (Learns r scope.own_interface m m')
-      go (Ok a) one counts kinds = learns-unnamed r scope.own_interface m m' n def at one grow counts.keys ready none kinds
-      go (Err e) one counts kinds = one
+  learns-call-unnamed one grow counts kinds ready none = search (std_rules, learns-unnamed r scope.own_interface m m' n def)
 
   pub learns-call-named : OnOk x (LearnsOne m m' n) → MapsGrow m m' → OnOk x (AddsTypes r scope m m' d d') → OnOk x (m'.def_to_index.entries ≡ m.def_to_index.entries) → AllReady m (parts_of def.kind)
       → (name : String Global) → def.name ≡ Some name → OnOk x (Learns r scope.own_interface m m')
@@ -211,13 +207,4 @@ met-key r own m m₁ m₂ m' key xs i f is met ready e listed l' grow = record {
 
 -- names that may have been added, and nothing else
 pub met-names : (r : Resolve) (own : Option InterfaceId) (ts : List ValueType) (m m' : TypeEncodingMaps) → AddsNames m m' → LearnsMet r own ts m m'
-met-names r own ts m m' s = record {
-  only = learns-same m m m' (learns-nothing _ m) s.rest.numbers;
-  learns = record {
-    grow = record { keeps = adds-holds m m' s };
-    names_ = record { kept_list = λ k ys h. key-grow (names_of m.names) (names_of m'.names) k ys s.grow h };
-    numbers = λ n def k at f. inl (k.0, subst (λ (xs : List (ℕ × ℕ)). Contains xs (n, k.0)) s.rest.numbers k.1);
-    kinds = λ ys j c. inl (subst (λ (es : List (ListKey × ℕ)). Contains (map {B = List ℕ × ℕ} (λ e. (e.0.0.items, e.1)) es) (ys, j)) s.rest.kinds c);
-    keys = λ ys j c. inl (subst (λ (es : List (ListKey × ℕ)). Contains (map {B = List ℕ × ℕ} (λ e. (e.0.0.items, e.1)) es) (ys, j)) s.rest.keys c);
-  };
-}
+met-names r own ts m m' s = search (std_rules, learns-same, learns-nothing, adds-holds, key-grow)

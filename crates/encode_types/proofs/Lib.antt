@@ -1,5 +1,3 @@
--- Aliases that are made in the scope around. Serves define::define_parts, encode::encode_shape; crates above.
-pub mod Around
 -- Kinds that are the same declare the same tree. Serves Agree, EqualLists; crates above.
 pub mod KindLaws
 -- Equal lists are those of equal kinds, and of equal keys of functions. Serves laws::equal_lists; crates above.
@@ -10,6 +8,8 @@ pub mod Lists
 pub mod Tables
 -- Maps that agree with slots, over what a call adds. Serves define::define_alias, define::define_named, define::define_number, define::define_own and 12 more; crates above.
 pub mod Agree
+-- Aliases that are made in the scope around. Serves define::define_parts, encode::encode_shape; crates above.
+pub mod Around
 -- The order in which types are defined, made step by step. Serves plan, plan::has, plan::order_of, plan::push; crates above.
 pub mod Planning
 -- The loop that defines what types need, in order. Serves define::define_number, define::define_own, define::define_parts, func_type::encode_func_type; crates above.

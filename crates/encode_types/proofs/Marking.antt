@@ -1,8 +1,8 @@
 -- Which definition is which, call by call.
-use Rattle.std.proofs.Common.{◌≡◌, refl, sym, subst, ap, ◌∙◌, ℕ, ◌+◌, inl, inr, append_assoc, append-nil, Bool, true, false, cond, List, [], ◌∷◌, ◌++◌, length, length-append, arith, count_by, zero-add, map}
+use Rattle.std.proofs.Common.{rules as std_rules, ◌≡◌, refl, sym, subst, ap, ◌∙◌, ℕ, ◌+◌, inl, inr, append_assoc, append-nil, Bool, true, false, cond, List, [], ◌∷◌, ◌++◌, length, length-append, arith, count_by, zero-add, map}
 use Rattle.std.proofs.lemmas.List.{map-append}
 use Rattle.std.proofs.lemmas.List.{Sums.sum_by-append, Elements.Contains-append_cases, Elements.Contains-append_left, Elements.filter-append}
-use Rattle.std.proofs.lemmas.List.Sorted.{IsPermutation-refl, IsPermutation-trans, IsPermutation-append_left, IsPermutation-map, Contains-permutation, sum_by-IsPermutation}
+use Rattle.std.proofs.lemmas.List.Sorted.{IsPermutation-trans, IsPermutation-append_left, IsPermutation-map, Contains-permutation, sum_by-IsPermutation}
 use Rattle.std.specs.{Prelude.IsPermutation, Prelude.not, Prelude.filter, List.Contains}
 use Rattle.wit_model.specs.declared.model.{Resolve.Resolve, TypeId.TypeId}
 use Rattle.encode_types.specs.declared.maps.TypeEncodingMaps.{TypeEncodingMaps}
@@ -28,8 +28,7 @@ slot-lists [] = refl
 slot-lists (e ∷ es) = ap (λ xs. e.1 ∷ xs) (slot-lists es)
 
 same-kinds : (m m' : TypeEncodingMaps) → m'.def_to_index.entries ≡ m.def_to_index.entries → IsPermutation (kind_slots m ++ []) (kind_slots m')
-same-kinds m m' e = subst (λ (es : List (ListKey × ℕ)). IsPermutation (kind_slots m ++ []) (map (λ e. e.1) es)) (sym e)
-    (subst (λ xs. IsPermutation xs (kind_slots m)) (sym (append-nil (kind_slots m))) (IsPermutation-refl (kind_slots m)))
+same-kinds m m' e = search std_rules
 
 one-kind-more : (m m' : TypeEncodingMaps) (xs : List ℕ) (i : ℕ) → LearnsList m m' xs i → IsPermutation (kind_slots m ++ i ∷ []) (kind_slots m')
 one-kind-more m m' xs i l =
@@ -39,8 +38,7 @@ one-kind-more m m' xs i l =
 
 -- the keys of functions, likewise
 pub same-keys : (m m' : TypeEncodingMaps) → m'.func_type_map.entries ≡ m.func_type_map.entries → IsPermutation (key_slots m ++ []) (key_slots m')
-same-keys m m' e = subst (λ (es : List (ListKey × ℕ)). IsPermutation (key_slots m ++ []) (map (λ e. e.1) es)) (sym e)
-    (subst (λ xs. IsPermutation xs (key_slots m)) (sym (append-nil (key_slots m))) (IsPermutation-refl (key_slots m)))
+same-keys m m' e = search std_rules
 
 pub one-key-more : (m m' : TypeEncodingMaps) (xs : List ℕ) (i : ℕ) → IsPermutation (lists_of m.func_type_map ++ (xs, i) ∷ []) (lists_of m'.func_type_map)
     → IsPermutation (key_slots m ++ i ∷ []) (key_slots m')

@@ -1,8 +1,8 @@
 -- A type of the place, from what fits the scope.
-use Rattle.std.proofs.Common.{◌≡◌, refl, sym, subst, ap, ◌∙◌, ℕ, true, false, Some, None}
-use Rattle.std.specs.{Prelude.String, Option.option_map_or}
+use Rattle.std.proofs.Common.{rules as std_rules, ◌≡◌, sym, subst, ℕ, true, false, Some, None}
+use Rattle.std.specs.{Prelude.String}
 use Rattle.std.specs.declared.alloc.Global.{Global}
-use Rattle.wit_model.specs.{Text.Text, Text.text_of, Types.number_tree, Types.trees_of, Types.tree_of_definition, Types.declared_by, Types.tree_of_declaration}
+use Rattle.wit_model.specs.{Text.Text, Text.text_of, Types.number_tree, Types.trees_of, Types.tree_of_definition}
 use Rattle.wit_model.specs.{Tree.Place, Tree.named, Lookup.place_of, Meaning.TypeMeaning, Meant.type_meaning}
 use Rattle.wit_model.specs.declared.model.{Resolve.Resolve, TypeDef.TypeDef, TypeDefKind.TypeDefKind, TypeId.TypeId, «Type».«Type» as ValueType}
 use Rattle.comp_bytes.specs.Raw.{ExternName}
@@ -12,16 +12,11 @@ use Rattle.wit_model.specs.declared.model.TypeDefKind.TheVariants as kind
 use Rattle.wit_model.specs.declared.model.«Type».TheVariants as ty
 
 pub own-definition : (k : TypeDefKind) → (k ≡ kind.Resource → ⊥) → ((t : ValueType) → k ≡ kind.Type_ t → ⊥) → has_definition k ≡ true
-own-definition kind.Resource n m = absurd (n refl)
-own-definition (kind.Type_ t) n m = absurd (m t refl)
-own-definition _ n m = refl
+own-definition x n m = search std_rules
 
 -- a kind without a definition that is no resource is another name of a number
 pub another-name : (k : TypeDefKind) → (k ≡ kind.Resource → ⊥) → has_definition k ≡ false → (id : TypeId) × (k ≡ kind.Type_ (ty.Id id))
-another-name kind.Resource n h = absurd (n refl)
-another-name (kind.Type_ (ty.Id id)) n h = (id, refl)
-another-name (kind.Type_ _) n h = absurd (let z : ⊥ = cc in z)
-another-name _ n h = absurd (let z : ⊥ = cc in z)
+another-name x n h = search std_rules
 
 -- a name with an external id and no other attribute
 pub exported-as : (n : ExternName) (t : Text) (m : TypeMeaning) → n.text ≡ t → n.implements ≡ None → n.version_suffix ≡ None → n.external_id ≡ m.external_id → n ≡ exported_name (t, m)
@@ -29,9 +24,7 @@ exported-as n t m a b c d = λ i. record { text = a i; implements = b i; version
 
 pub named-tree : (r : Resolve) (place : Place) (n : ℕ) (def : TypeDef) (label : String Global) (t : Text) → number_tree r n ≡ tree_of_definition r (trees_of r) def → def.name ≡ Some label
     → place_of r def.owner ≡ place → t ≡ text_of label → number_tree r n ≡ named place t
-named-tree r place n def label t same is p e =
-    same ∙ ap (λ o. option_map_or (λ name. named (place_of r def.owner) (text_of name)) o (tree_of_declaration (declared_by (trees_of r) def.kind))) is
-    ∙ (λ i. named (p i) (sym e i))
+named-tree r place n def label t same is p e = search std_rules
 
 pub declared-here : (r : Resolve) (scope : Scope) (n : ℕ) (def : TypeDef) (label : String Global) (t : Text) → FitsScope r scope n def → foreign_owner scope.own_interface def.owner ≡ None
     → def.name ≡ Some label → t ≡ text_of label → IsDeclared scope (t, type_meaning r def)
@@ -39,9 +32,4 @@ declared-here r scope n def label t f own is e = subst (λ (x : Text). IsDeclare
 
 pub resource-here : (r : Resolve) (scope : Scope) (def : TypeDef) (name : ExternName) → def.kind ≡ kind.Resource → IsDeclared scope (name.text, type_meaning r def)
     → name ≡ exported_name (name.text, type_meaning r def) → DeclaresResource scope name
-resource-here r scope def name k d e = record {
-  declaration = (name.text, type_meaning r def);
-  declared = d;
-  is_resource = ap (declared_by (trees_of r)) k;
-  named_ = e;
-}
+resource-here r scope def name k d e = search std_rules

@@ -1,13 +1,13 @@
 -- The order in which types are defined, made step by step.
-use Rattle.std.proofs.Common.{◌≡◌, refl, sym, subst, ap, ◌∙◌, ℕ, ◌+◌, ◌<◌, ◌≤◌, List, [], ◌∷◌, ◌++◌, ◌⊎◌, inl, inr, Option, Some, None, length, take, get_or, arith, length-append, below_more, true, false, nat_lt, T, ltb→lt, filter_map, Bool, nat_eq, zero, suc, ◌||◌, cond, drop, Decides}
+use Rattle.std.proofs.Common.{rules as std_rules, ◌≡◌, refl, sym, subst, ap, ◌∙◌, ℕ, ◌+◌, ◌<◌, ◌≤◌, List, [], ◌∷◌, ◌++◌, ◌⊎◌, inl, inr, Option, Some, None, length, take, get_or, arith, length-append, below_more, true, false, nat_lt, T, ltb→lt, Bool, nat_eq, zero, suc, ◌||◌, cond, drop, Decides}
 use Rattle.std.proofs.{lemmas.Bool.eq-eqb, lemmas.Bool.Decides.Decides-eqb, Math.Seq.get_or-append_seam}
 use Rattle.std.proofs.lemmas.{Cmp.nat_cmp_total, Cmp.nat_eq_equiv, Map.Lookups.exact_unsigned, Map.Keys.IsDistinct-push, Map.Made.is_member-Decides}
 use Rattle.std.proofs.lemmas.List.Elements.{Contains-append_right, Contains-append_cases, Contains-append_left, Contains-push_cases, Contains-push}
 use Rattle.std.proofs.lemmas.List.{take_more, take_all, take-append-le, take_at, get_or_append_left, take-append-drop, drop-append-le}
-use Rattle.std.specs.{Prelude.slice_index, Prelude.option_to_list, List.Contains, List.IsDistinct, List.list_any, Ordering.nat_cmp, Ordering.is_eq}
+use Rattle.std.specs.{Prelude.slice_index, List.Contains, List.IsDistinct, List.list_any, Ordering.nat_cmp, Ordering.is_eq}
 use Rattle.std.specs.{Option.is_some, Set.is_member, BTreeSet.contains, BTreeMap.is_at}
 use Rattle.encode_types.proofs.{Tables.equal-is, Tables.equal-self, Lists.none-in}
-use Rattle.wit_model.specs.{Lookup.type_at, Types.number_of, Parts.kind_numbers, Parts.member_types, Parts.handled, Uses.alias_target}
+use Rattle.wit_model.specs.{Lookup.type_at, Parts.kind_numbers, Parts.member_types}
 use Rattle.wit_model.specs.declared.model.{Resolve.Resolve, TypeDef.TypeDef, TypeDefKind.TypeDefKind, InterfaceId.InterfaceId, «Type».«Type» as ValueType}
 use Rattle.wit_model.specs.declared.model.TypeId.{TypeId}
 use Rattle.encode_types.specs.declared.{maps.TypeEncodingMaps.TypeEncodingMaps, plan.Order.Order}
@@ -15,45 +15,25 @@ use Rattle.encode_types.specs.{Kinds.parts_of, Maps.IsKnown}
 use Rattle.encode_types.specs.Plan.{foreign_owner, Meets, at_once, further, IsLayered, PartsStand, IsOrdered, AreMet, Stands, IsPlanned, IsOrderOf, rank}
 use Rattle.wit_model.proofs.Elements.{contains-filter_map}
 use Rattle.base_lemmas.proofs.{Elements.all-contained, Elements.contains-one, Elements.last_of as one-contained, Numbers.none-twice}
-use Rattle.wit_model.specs.declared.model.TypeDefKind.TheVariants as kind
-use Rattle.wit_model.specs.declared.model.Handle.TheVariants as handle
 use Rattle.wit_model.specs.declared.model.«Type».TheVariants as ty
 
 none-of : {A : Type 0} (o : Option A) → is_some o ≡ false → o ≡ None
-none-of None e = refl
-none-of (Some x) e = absurd (let z : ⊥ = cc in z)
+none-of x e = search std_rules
 
 -- ---- parts have smaller numbers
 
 member-number : (k : TypeDefKind) (id : TypeId) → Contains (member_types k) (ty.Id id) → Contains (kind_numbers k) id.0
-member-number k id c = Contains-append_left (filter_map number_of (member_types k)) (option_to_list (handled k) ++ option_to_list (alias_target k)) id.0
-    (contains-filter_map number_of (member_types k) (ty.Id id) id.0 c (contains-one id.0))
+member-number k id c = search (std_rules, Contains-append_left, contains-filter_map, contains-one)
 
 pub part-number : (k : TypeDefKind) (id : TypeId) → Contains (parts_of k) (ty.Id id) → Contains (kind_numbers k) id.0
-part-number (kind.Handle (handle.Own x)) id c = let e = one-contained (ty.Id x) (ty.Id id) c in let e' : x ≡ id = cc in subst (λ (y : TypeId). Contains (x.0 ∷ []) y.0) e' (contains-one x.0)
-part-number (kind.Handle (handle.Borrow x)) id c = let e = one-contained (ty.Id x) (ty.Id id) c in let e' : x ≡ id = cc in subst (λ (y : TypeId). Contains (x.0 ∷ []) y.0) e' (contains-one x.0)
-part-number (kind.Type_ t) id c = subst (λ (u : ValueType). Contains (kind_numbers (kind.Type_ u)) id.0) (sym (one-contained t (ty.Id id) c)) (contains-one id.0)
-part-number (kind.Record x) id c = member-number (kind.Record x) id c
-part-number (kind.Flags x) id c = member-number (kind.Flags x) id c
-part-number (kind.Tuple x) id c = member-number (kind.Tuple x) id c
-part-number (kind.Variant x) id c = member-number (kind.Variant x) id c
-part-number (kind.Enum x) id c = member-number (kind.Enum x) id c
-part-number (kind.Option x) id c = member-number (kind.Option x) id c
-part-number (kind.Result x) id c = member-number (kind.Result x) id c
-part-number (kind.List x) id c = member-number (kind.List x) id c
-part-number (kind.Map x y) id c = member-number (kind.Map x y) id c
-part-number (kind.FixedLengthList x n) id c = member-number (kind.FixedLengthList x n) id c
-part-number (kind.Future x) id c = member-number (kind.Future x) id c
-part-number (kind.Stream x) id c = member-number (kind.Stream x) id c
-part-number kind.Resource id c = member-number kind.Resource id c
+part-number z id c = search (std_rules, one-contained, contains-one, member-number)
 
 pub part-smaller : (r : Resolve) → IsLayered r → (n : ℕ) (def : TypeDef) (id : TypeId) → type_at r n ≡ Some def → Contains (parts_of def.kind) (ty.Id id) → id.0 < n
 part-smaller r l n def id at c =
     ltb→lt id.0 n (subst T (sym (all-contained (λ m. nat_lt m n) (kind_numbers def.kind) id.0 (l.smaller n def at) (part-number def.kind id c))) tt)
 
 pub rank_below : (n : ℕ) (p : ValueType) → ((id : TypeId) → p ≡ ty.Id id → id.0 < n) → rank p < n + 1
-rank_below n (ty.Id id) h = (let l : id.0 < n = h id refl in omega arith)
-rank_below n _ h = omega arith
+rank_below n x h = search std_rules
 
 -- ---- numbers of a list
 
@@ -67,11 +47,7 @@ lacks-member xs n h = by (is_member nat_eq xs n) refl
 found-first : (xs : List ℕ) (n : ℕ) → Contains xs n → list_any (λ y. nat_eq y n) xs ≡ true
 found-first [] n (i, l, e) = absurd (omega (arith, l))
 found-first (x ∷ xs) n (zero, l, e) = ap (λ b. b || list_any (λ y. nat_eq y n) xs) (eq-eqb x n e)
-found-first (x ∷ xs) n (suc i, l, e) = or-second (nat_eq x n) (list_any (λ y. nat_eq y n) xs) (found-first xs n (i, omega (arith, l), e))
-  where
-    or-second : (a b : Bool) → b ≡ true → (a || b) ≡ true
-    or-second true b h = refl
-    or-second false b h = h
+found-first (x ∷ xs) n (suc i, l, e) = search (std_rules, found-first xs n (i, omega (arith, l), e))
 
 -- what doesn't stand among the first stands where it is met
 pub met-decides : (order : Order) (front : List ℕ) (n : ℕ) → AreMet order → front ≡ take 8 order.numbers.items → list_any (λ y. nat_eq y n) front ≡ false
@@ -116,17 +92,7 @@ lacks-now b xs n d e c = let t : b ≡ true = d.1 c in let z : ⊥ = cc in z
 
 module _ (r : Resolve) (own : Option InterfaceId) (m : TypeEncodingMaps) where
   pub planned-none : (order : Order) (ts : List ValueType) → order.numbers.items ≡ [] → order.met.keys ≡ [] → IsPlanned r own m [] ts 0 order
-  planned-none order ts e none = record {
-    kept = λ n h. none-in n h;
-    added = λ n h. none-in n (subst (λ (xs : List ℕ). Contains xs n) e h);
-    ordered = λ k l. absurd (let z : length order.numbers.items ≡ 0 = ap length e in omega (arith, l, z));
-    met = λ n. (
-      λ h. absurd (let f : contains nat_cmp order.met n ≡ false = ap (list_any (is_at (nat_cmp n))) none in let z : ⊥ = cc in z),
-      λ c. none-in n (subst (λ (xs : List ℕ). Contains (drop 8 xs) n) e c),
-    );
-    once = subst (λ (xs : List ℕ). IsDistinct nat_eq xs) (sym e) none-twice;
-    stands = λ t h. absurd (omega (arith, h.1));
-  }
+  planned-none order ts e none = search (std_rules, none-in, none-twice)
 
   pub planned-step : (before : List ℕ) (ts : List ValueType) (i : ℕ) (mid after : Order) (d : ValueType) → i < length ts → IsPlanned r own m before ts i mid
       → IsPlanned r own m mid.numbers.items (get_or ts i d ∷ []) 1 after → IsPlanned r own m before ts (i + 1) after

@@ -1,5 +1,5 @@
 -- How much an encoder holds, and what it has no room for, call after call.
-use Rattle.std.proofs.Common.{◌≡◌, refl, sym, subst, ap, ◌∙◌, ℕ, zero, suc, ◌+◌, ◌*◌, ◌<◌, ◌≤◌, ◌&&◌, ◌⊎◌, inl, inr, Bool, true, false, cond, List, [], ◌∷◌, ◌++◌, map, length, length-append, append-nil, take, Option, Some, None, arith, nat_eq, Result, Ok, Err, OnOk}
+use Rattle.std.proofs.Common.{rules as std_rules, ◌≡◌, refl, sym, subst, ap, ◌∙◌, ℕ, zero, suc, ◌+◌, ◌*◌, ◌<◌, ◌≤◌, ◌&&◌, ◌⊎◌, inl, inr, Bool, true, false, cond, List, [], ◌∷◌, ◌++◌, map, length, length-append, append-nil, take, Option, Some, None, arith, nat_eq, Result, OnOk}
 use Rattle.std.proofs.lemmas.{List.Kept.AllPairs-cons, Bool.eqb-true, Bool.or_from as neither, Option.same_Some as some-same}
 use Rattle.std.proofs.lemmas.List.{Sorted.IsPermutation-sym, Sorted.Contains-permutation, Sorted.length_permutation, Sums.sum_by-cons, Sums.sum_by-append}
 use Rattle.std.proofs.lemmas.List.Elements.{Contains-append_left, Contains-append_right, Contains-append_cases, Contains-get_or}
@@ -100,26 +100,14 @@ one-counts r own n = let e = sum_by-cons (number_count r own) n [] in omega (ari
 
 pub counts-few : (r : Resolve) (own : Option InterfaceId) (xs : List ℕ) → numbers_count r own xs ≤ 2 * length xs
 counts-few r own [] = omega arith
-counts-few r own (x ∷ xs) = let e = sum_by-cons (number_count r own) x xs in let h = counts-few r own xs in let t = two (has_own_definition r own x) in omega (arith, e, h, t)
-  where
-    two : (b : Bool) → cond {A = ℕ} b 2 1 ≤ 2
-    two false = omega arith
-    two true = omega arith
+counts-few r own (x ∷ xs) = search (std_rules, sum_by-cons (number_count r own) x xs, counts-few r own xs)
 
 pub counts-one : (r : Resolve) (own : Option InterfaceId) (n : ℕ) → 1 ≤ number_count r own n
-counts-one r own n = one (has_own_definition r own n)
-  where
-    one : (b : Bool) → 1 ≤ cond {A = ℕ} b 2 1
-    one false = omega arith
-    one true = omega arith
+counts-one r own n = search std_rules
 
 -- a type under a name of this place: its export, and its definition where it has one of its own
 pub counts-named : (r : Resolve) (own : Option InterfaceId) (n : ℕ) (b : Bool) → has_own_definition r own n ≡ b → number_count r own n ≡ cond {A = ℕ} b 1 0 + 1
-counts-named r own n b e = ap (λ (x : Bool). cond {A = ℕ} x 2 1) e ∙ by b
-  where
-    by : (b : Bool) → cond {A = ℕ} b 2 1 ≡ cond {A = ℕ} b 1 0 + 1
-    by false = refl
-    by true = refl
+counts-named r own n b e = search std_rules
 
 unnamed-at : (r : Resolve) (own : Option InterfaceId) (n : ℕ) (d : TypeDef) → type_at r n ≡ Some d
     → unnamed_kind r own n ≡ cond (is_none d.name && is_none (foreign_owner own d.owner)) (Some d.kind) None
@@ -132,11 +120,7 @@ named-unkind r own m n d name at is = unnamed-at r own n d at ∙ ap (λ o. cond
 
 pub foreign-unkind : (r : Resolve) (own : Option InterfaceId) (m : TypeEncodingMaps) (n : ℕ) (d : TypeDef) (i : InterfaceId) → type_at r n ≡ Some d → foreign_owner own d.owner ≡ Some i
     → unnamed_kind r own n ≡ None
-foreign-unkind r own m n d i at f = unnamed-at r own n d at ∙ ap (λ o. cond {A = Option TypeDefKind} (is_none d.name && is_none o) (Some d.kind) None) f ∙ by (is_none d.name)
-  where
-    by : (b : Bool) → cond {A = Option TypeDefKind} (b && false) (Some d.kind) None ≡ None
-    by false = refl
-    by true = refl
+foreign-unkind r own m n d i at f = search std_rules
 
 pub none-new : (m : TypeEncodingMaps) (o : Option TypeDefKind) → o ≡ None → (kind : TypeDefKind) → o ≡ Some kind → IsNewKind m kind
 none-new m o e kind q = let same : ◌≡◌ {A = Option TypeDefKind} None (Some kind) = sym e ∙ q in absurd (let z : ⊥ = cc in z)
@@ -243,8 +227,7 @@ pub holds-few : {r : Resolve} {own : Option InterfaceId} {a b : TypeEncodingMaps
 holds-few {r} {own} j l p = let x = p.held in let y = p.few in let z = counts-few r own p.numbers in omega (arith, l, x, y, z)
 
 pub on-pair : {A E : Type 0} (x : Result A E) (P Q : Type 0) → OnOk x P → OnOk x Q → OnOk x (P × Q)
-on-pair (Ok x) P Q p q = (p, q)
-on-pair (Err e) P Q p q = p
+on-pair x y z p q = search std_rules
 
 -- ---- what is reached
 

@@ -1,7 +1,7 @@
 -- Ordered maps as lists of entries: what is found, what isn't, and what is added.
-use Rattle.std.proofs.Common.{◌≡◌, refl, sym, subst, ap, ◌∙◌, ℕ, zero, suc, ◌+◌, ◌<◌, Bool, true, false, List, [], ◌∷◌, ◌++◌, map, length, get_or, take, Option, Some, None, arith, inl, inr, nat_cmp, length-append, append_assoc, Ordering}
+use Rattle.std.proofs.Common.{rules as std_rules, ◌≡◌, refl, sym, subst, ap, ◌∙◌, ℕ, zero, suc, ◌+◌, ◌<◌, Bool, true, false, List, [], ◌∷◌, ◌++◌, map, length, get_or, take, Option, Some, None, arith, inl, inr, nat_cmp, length-append, append_assoc, Ordering}
 use Rattle.std.proofs.lemmas.{Cmp.nat_cmp_total, Cmp.nat_list_cmp_total, Map.Lookups.exact_bytes, Map.Lookups.exact_unsigned}
-use Rattle.std.proofs.lemmas.{Bool.cases_Bool, Bool.cond-true, Bool.cond-false, Bool.cases_lt, Bool.cases_eq, List.length-map, List.map-append, List.take_more}
+use Rattle.std.proofs.lemmas.{Bool.cases_Bool, Bool.cond-true, Bool.cond-false, Bool.cases_eq, List.length-map, List.map-append, List.take_more}
 use Rattle.std.proofs.lemmas.List.{Edits.swapped_from_swap, Elements.Contains-append_left, Elements.Contains-push, Elements.Contains-push_cases}
 use Rattle.std.proofs.lemmas.List.Sorted.{IsPermutation-refl, IsPermutation-sym, IsPermutation-cons, IsPermutation-to_front, IsPermutation-trans, IsPermutation-swap, IsPermutation-keeps, length_permutation, Contains-permutation, IsPermutation-map}
 use Rattle.std.specs.Prelude.{IsPermutation, AllPairs, ◌⊎◌, IfSome, IfNone, IsSome}
@@ -19,9 +19,7 @@ use Rattle.encode_types.proofs.{EqualLists.lists-of-keys, Lists.none-in}
 use Rattle.base_lemmas.proofs.Elements.{contains-map, map_from as contains-unmap}
 
 pub equal-is : (o : Ordering) → is_eq o ≡ true → o ≡ Equal
-equal-is Less h = absurd (let z : ⊥ = cc in z)
-equal-is Equal h = refl
-equal-is Greater h = absurd (let z : ⊥ = cc in z)
+equal-is x h = search std_rules
 
 module _ {K X : Type 0} (test : K → Bool) where
   -- what a look-up finds is an entry
@@ -35,10 +33,7 @@ module _ {K X : Type 0} (test : K → Bool) where
   -- where nothing is found, no entry passes
   pub absent : (es : List (K × X)) → lookup test es ≡ None → (k : K) (v : X) → Contains es (k, v) → test k ≡ true → ⊥
   absent [] h k v c t = none-in _ c
-  absent (e ∷ es) h k v (zero, l, x) t =
-      let y : test e.0 ≡ true = ap (λ (z : K × X). test z.0) x ∙ t in
-      let s : Some e.1 ≡ None = sym (cond-true _ _ _ y) ∙ h in
-      let z : ⊥ = cc in z
+  absent (e ∷ es) h k v (zero, l, x) t = search std_rules
   absent (e ∷ es) h k v (suc i, l, x) t = elim (cases_Bool (test e.0)) [
     | inl y ↦ (let s : Some e.1 ≡ None = sym (cond-true _ _ _ y) ∙ h in let z : ⊥ = cc in z)
     | inr n ↦ absent es (sym (cond-false _ _ _ n) ∙ h) k v (i, omega (arith, l), x) t
@@ -87,10 +82,7 @@ module _ {X : Type 0} (R : X → X → Type 0) (back : (x y : X) → R x y → R
   Apart xs = (i j : ℕ) (d : X) → (i ≡ j → ⊥) → i < length xs → j < length xs → R (get_or xs i d) (get_or xs j d)
 
   apart-from : (xs : List X) → AllPairs R xs → Apart xs
-  apart-from xs h i j d n li lj = elim (cases_lt i j) [
-    | inl l ↦ h i j d l lj
-    | inr l ↦ back _ _ (h j i d (omega (arith, n)) li)
-  ]
+  apart-from xs h i j d n li lj = search std_rules
 
   pairs-from : (xs : List X) → Apart xs → AllPairs R xs
   pairs-from xs h i j d l lj = h i j d (λ e. omega (arith, e, l)) (omega (arith, l, lj)) lj
@@ -142,28 +134,22 @@ module _ {X : Type 0} (xs ys : List X) (x : X) (p : IsPermutation (xs ++ x ∷ [
 -- ---- options
 
 pub some-when : {X : Type 0} (o : Option X) (P : X → Type 0) → ((v : X) → o ≡ Some v → P v) → IfSome o P
-some-when None P f = tt
-some-when (Some v) P f = f v refl
+some-when x y f = search std_rules
 
 pub none-when : {X : Type 0} (o : Option X) (Q : Type 0) → (o ≡ None → Q) → IfNone o Q
-none-when None Q f = f refl
-none-when (Some v) Q f = tt
+none-when x y f = search std_rules
 
 -- what some holds of is found, where none says that it holds of none
 pub some-where : {X : Type 0} (o : Option X) (P : X → Type 0) → IfNone o ((x : X) → P x → ⊥) → (x : X) × P x → IsSome o
-some-where None P h k = absurd (h k.0 k.1)
-some-where (Some x) P h k = refl
+some-where x y h k = search std_rules
 
 none-or : {X : Type 0} (o : Option X) → ((v : X) → o ≡ Some v → ⊥) → o ≡ None
-none-or None f = refl
-none-or (Some v) f = absurd (f v refl)
+none-or x f = search std_rules
 
 -- ---- orders
 
 self-equal : (o : Ordering) → o ≡ ordering_reverse o → o ≡ Equal
-self-equal Less h = absurd (let z : ⊥ = cc in z)
-self-equal Equal h = refl
-self-equal Greater h = absurd (let z : ⊥ = cc in z)
+self-equal x h = search std_rules
 
 pub equal-self : {K : Type 0} {R : K → K → Ordering} → IsTotalOrder R → (x : K) → R x x ≡ Equal
 equal-self o x = self-equal _ (o.antisymm x x)
@@ -237,16 +223,13 @@ abbrev texts_of : List (Bor Text × ℕ) → Names
 texts_of es = map (λ e. (e.0.now, e.1)) es
 
 second-equal : (a b : Ordering) → is_eq (ordering_then a b) ≡ true → is_eq b ≡ true
-second-equal Less b h = absurd (let z : ⊥ = cc in z)
-second-equal Equal b h = h
-second-equal Greater b h = absurd (let z : ⊥ = cc in z)
+second-equal x b h = search std_rules
 
 tells-name : (k j : Bor Text) → at_name k j ≡ true → j.now ≡ k.now
 tells-name k j h = sym (exact_bytes k.now j.now (equal-is _ (second-equal (nat_cmp (head_of k.now) (head_of j.now)) (slice_cmp nat_cmp k.now j.now) h)))
 
 same-name : (k j : Bor Text) → j.now ≡ k.now → at_name k j ≡ true
-same-name k j s = ap (λ t. is_eq (ordering_then (nat_cmp (head_of k.now) (head_of t)) (slice_cmp nat_cmp k.now t))) s
-    ∙ (λ i. is_eq (ordering_then (equal-self nat_cmp_total (head_of k.now) i) (equal-self nat_list_cmp_total k.now i)))
+same-name k j s = search (std_rules, equal-self, nat_cmp_total, nat_list_cmp_total)
 
 name-lacks : (es : List (Bor Text × ℕ)) (k : Bor Text) → lookup (at_name k) es ≡ None → (i : ℕ) → Contains (texts_of es) (k.now, i) → ⊥
 name-lacks es k h = lacks (λ (j : Bor Text). j.now) k.now (at_name k) es (λ j v c s. same-name k j s) h
@@ -364,13 +347,8 @@ key-grow names names' key xs g h = record { middle = h.middle; listed = listed-g
 -- one more parameter of a loop
 pub adds-next : (names : Names) (ps : List Param) (i : ℕ) (p : Param) (start before after : List ℕ) → i < length ps → p ≡ get_or ps i p → AddsParams names i start before ps
     → AddsParam names before after p → AddsParams names (i + 1) start after ps
-adds-next names ps i p start before after l e a b = record {
-  middle = a.middle ++ b.number ∷ type_code p.ty ∷ [];
-  is = b.is ∙ ap (λ xs. xs ++ b.number ∷ type_code p.ty ∷ []) a.is ∙ append_assoc start a.middle (b.number ∷ type_code p.ty ∷ []);
-  are = subst (λ (xs : List Param). AreListed names xs (a.middle ++ b.number ∷ type_code p.ty ∷ [])) (ap (λ z. take i ps ++ z ∷ []) e ∙ sym (take_more ps i p l))
-      (listed-more names (take i ps) a.middle p b.number a.are b.there);
-  most = omega (arith, l);
-}
+adds-next names ps i p start before after l e a b =
+    search (std_rules, append_assoc start a.middle (b.number ∷ type_code p.ty ∷ []), take_more ps i p l, listed-more names (take i ps) a.middle p b.number a.are b.there)
 
 pub adds-grow : (names names' : Names) (n : ℕ) (xs ys : List ℕ) (ps : List Param) → NamesGrow names names' → AddsParams names n xs ys ps → AddsParams names' n xs ys ps
 adds-grow names names' n xs ys ps g a = record { middle = a.middle; is = a.is; are = listed-grow names names' (take n ps) a.middle g a.are; most = a.most }
@@ -380,24 +358,10 @@ pub one-list : (names : Names) (key : FunctionKey) (xs ys : List ℕ) → IsTabl
 one-list names key xs ys t p q = lists-of-keys names key key xs ys t p q (key_equiv.refl key)
 
 pub adds-same-names : (m : TypeEncodingMaps) → AddsNames m m
-adds-same-names m = record {
-  rest = record { numbers = refl; kinds = refl; keys = refl; names_ = refl; unit_future_ = refl; unit_stream_ = refl };
-  grow =
-      names-same (names_of m.names) (names_of m.names) refl;
-}
+adds-same-names m = search std_rules
 
 pub adds-names-then : {a b c : TypeEncodingMaps} → AddsNames a b → AddsNames b c → AddsNames a c
-adds-names-then p q = record {
-  rest = record {
-    numbers = q.rest.numbers ∙ p.rest.numbers;
-    kinds = q.rest.kinds ∙ p.rest.kinds;
-    keys = q.rest.keys ∙ p.rest.keys;
-    names_ = refl;
-    unit_future_ = q.rest.unit_future_ ∙ p.rest.unit_future_;
-    unit_stream_ = q.rest.unit_stream_ ∙ p.rest.unit_stream_;
-  };
-  grow = names-then p.grow q.grow;
-}
+adds-names-then p q = search std_rules
 
 -- a key whose list the maps lack
 pub key-lacking : (m : TypeEncodingMaps) (key : FunctionKey) (xs : List ℕ) → IsOnce m → IsKeyList (names_of m.names) key xs → LacksList (lists_of m.func_type_map) xs → LacksKey m key

@@ -1,5 +1,5 @@
 -- How much an encoder has written, call after call.
-use Rattle.std.proofs.Common.{◌≡◌, sym, subst, ap, ◌∙◌, ℕ, zero, suc, ◌+◌, ◌≤◌, if◌then◌else◌, List, [], ◌∷◌, ◌++◌, Option, Some, None, String, Result, Ok, Err, OnOk, arith, inl, inr}
+use Rattle.std.proofs.Common.{rules as std_rules, ◌≡◌, sym, subst, ap, ◌∙◌, ℕ, zero, suc, ◌+◌, ◌≤◌, if◌then◌else◌, List, [], ◌∷◌, ◌++◌, Option, Some, None, String, Result, OnOk, arith, inl, inr}
 use Rattle.std.proofs.lemmas.List.{Sums.sum_by-append, Sums.sum_by-cons, Sorted.IsPermutation-sym, Sorted.Contains-permutation, Sorted.sum_by-IsPermutation}
 use Rattle.std.proofs.lemmas.List.Elements.{Contains-append_cases}
 use Rattle.std.specs.{Prelude.IsPermutation, Prelude.is_some, Prelude.sum_by, List.Contains, Option.option_map_or}
@@ -91,5 +91,4 @@ name-extent r d label name is e = ap (λ (o : Option (String Global)). option_ma
 -- ---- answers
 
 pub on-three : {A E : Type 0} (x : Result A E) (P Q S R : Type 0) → (P → Q → S → R) → OnOk x P → OnOk x Q → OnOk x S → OnOk x R
-on-three (Ok x) P Q S R f p q s = f p q s
-on-three (Err e) P Q S R f p q s = p
+on-three x y z u v f p q s = search std_rules

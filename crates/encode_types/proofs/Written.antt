@@ -1,5 +1,5 @@
 -- What is written with the indexes of the maps stands for its tree.
-use Rattle.std.proofs.Common.{◌≡◌, refl, sym, subst, ℕ, ◌<◌, List, [], ◌∷◌, ◌++◌, map, filter_map, option_to_list, option_map, length, get_or, Option, Some, None, Vec}
+use Rattle.std.proofs.Common.{rules as std_rules, ◌≡◌, refl, sym, subst, ℕ, ◌<◌, List, [], ◌∷◌, ◌++◌, map, filter_map, option_to_list, option_map, length, get_or, Option, Vec}
 use Rattle.std.proofs.lemmas.List.Elements.{Contains-append_left, Contains-append_right}
 use Rattle.std.specs.{List.Contains, List.AllZip, Borrow.Bor}
 use Rattle.std.specs.declared.alloc.Global.{Global}
@@ -37,10 +37,7 @@ written-stands r m x ty.ErrorContext w = subst (λ (y : ComponentValType). Stand
 
 pub optional-stands : (r : Resolve) (m : TypeEncodingMaps) (x : Option ComponentValType) (t : Option ValueType) → IsWrittenOptional m x t
     → StandsForOptional (Says r m) x (option_map (tree_of (trees_of r)) t)
-optional-stands r m None None w = w
-optional-stands r m None (Some t) w = w
-optional-stands r m (Some x) None w = w
-optional-stands r m (Some x) (Some t) w = written-stands r m x t w
+optional-stands r m y z w = search (std_rules, written-stands)
 
 -- ---- what is asked of the parts
 

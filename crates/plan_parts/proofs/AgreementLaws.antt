@@ -1,6 +1,6 @@
 -- Lists that go pair by pair, and functions that are told, added to a set one by one.
-use Rattle.std.proofs.Common.{◌≡◌, refl, sym, ap, ◌∙◌, ℕ, ◌+◌, ◌<◌, ◌≤◌, Bool, true, false, ◌&&◌, ◌||◌, ◌==◌, cond, List, [], ◌∷◌, ◌++◌, map, drop, length, get_or, Option, Some, None, eq-eqb, eqb-true}
-use Rattle.std.proofs.{Math.ListN.drop_of_length-le, lemmas.Slice.Eq.bytes_eq-Decides}
+use Rattle.std.proofs.Common.{rules as std_rules, ◌≡◌, refl, sym, ap, ◌∙◌, ℕ, ◌+◌, ◌<◌, ◌≤◌, Bool, true, false, ◌&&◌, ◌||◌, ◌==◌, cond, List, [], ◌∷◌, ◌++◌, map, drop, length, get_or, Option, eq-eqb}
+use Rattle.std.proofs.{Math.ListN.drop_of_length-le}
 use Rattle.std.proofs.lemmas.{List.drop_more, List.map-append, List.Folds.list_any-append, Bool.or_left as either_true, Bool.or_right as second_of}
 use Rattle.std.specs.{Borrow.Bor, Cmp.Lexicographic.pointwise, List.list_all, List.list_any, Option.option_eq}
 use Rattle.wit_model.specs.Text.{Text, text_eq}
@@ -33,28 +33,16 @@ same_by : (a b : ToldFunction) → same_told a b ≡ (text_eq a.name.now b.name.
 same_by a b = refl
 
 ids_same : (a b : Option (Bor (List ℕ))) → option_eq (λ x y. text_eq x.now y.now) a b ≡ same_id (given_text a) (given_text b)
-ids_same None None = refl
-ids_same None (Some y) = refl
-ids_same (Some x) None = refl
-ids_same (Some x) (Some y) = refl
+ids_same x y = search std_rules
 
 pub told_alike : (a b : ToldFunction) → same_told a b ≡ (text_eq (told_function a).0 (told_function b).0 && same_function (told_function a).1 (told_function b).1)
 told_alike a b = ap (λ v. text_eq a.name.now b.name.now && ((a.signature == b.signature) && v)) (ids_same a.external_id b.external_id)
 
 given_same : (a b : Option (Bor (List ℕ))) → option_eq (λ x y. text_eq x.now y.now) a b ≡ true → given_text a ≡ given_text b
-given_same None None h = refl
-given_same None (Some y) h = absurd cc
-given_same (Some x) None h = absurd cc
-given_same (Some x) (Some y) h = ap Some ((bytes_eq-Decides x.now y.now).0 h)
+given_same z u h = search std_rules
 
 told_same : (a b : ToldFunction) → same_told a b ≡ true → told_function a ≡ told_function b
-told_same a b h =
-    let rest = second_true (text_eq a.name.now b.name.now) ((a.signature == b.signature) && option_eq (λ x y. text_eq x.now y.now) a.external_id b.external_id) h in
-    let name = (bytes_eq-Decides a.name.now b.name.now).0 (first_true (text_eq a.name.now b.name.now)
-    ((a.signature == b.signature) && option_eq (λ x y. text_eq x.now y.now) a.external_id b.external_id) h) in
-    let signature = eqb-true a.signature b.signature (first_true (a.signature == b.signature) (option_eq (λ x y. text_eq x.now y.now) a.external_id b.external_id) rest) in
-    let id = given_same a.external_id b.external_id (second_true (a.signature == b.signature) (option_eq (λ x y. text_eq x.now y.now) a.external_id b.external_id) rest) in
-    λ i. (name i, record { signature = signature i; external_id = id i })
+told_same a b h = search std_rules
 
 -- what passes is found where it stands
 stands : (test : Text × NumberedFunction → Bool) (a : ToldFunction) (ks : List ToldFunction) → list_any (same_told a) ks ≡ true → test (told_function a) ≡ true
@@ -69,41 +57,26 @@ stands test a (k ∷ ks) among passes = go (λ later. stands test a ks later pas
 
 pub function_added : (test : Text × NumberedFunction → Bool) (ks new : List ToldFunction) (a : ToldFunction) (f : Text × NumberedFunction) → told_function a ≡ f
     → new ≡ cond (list_any (same_told a) ks) ks (ks ++ a ∷ []) → list_any test (map told_function new) ≡ (list_any test (map told_function ks) || test f)
-function_added test ks new a f is added = go (list_any (same_told a) ks) refl ∙ ap (λ g. list_any test (map told_function ks) || test g) is
-  where
-    go : (v : Bool) → list_any (same_told a) ks ≡ v → list_any test (map told_function new) ≡ (list_any test (map told_function ks) || test (told_function a))
-    go true h =
-        ap (λ xs. list_any test (map told_function xs)) (added ∙ ap (λ b. cond b ks (ks ++ a ∷ [])) h)
-        ∙ absorbed (list_any test (map told_function ks)) (test (told_function a)) (stands test a ks h)
-    go false h =
-        ap (λ xs. list_any test (map told_function xs)) (added ∙ ap (λ b. cond b ks (ks ++ a ∷ [])) h)
-        ∙ (ap (list_any test) (map-append told_function ks (a ∷ []))
-        ∙ (list_any-append test (map told_function ks) (told_function a ∷ []) ∙ ap (λ b. list_any test (map told_function ks) || b) (or_false (test (told_function a)))))
+function_added test ks new a f is added = search (std_rules, absorbed, stands, map-append, list_any-append, or_false)
 
 -- those that were added and those that are left
 module _ {A B : Type 0} (test : B → Bool) (g : A → B) (xs : List A) (i : ℕ) {v : Bool} (old : Bool) (kept : (old || list_any test (map g (drop i xs))) ≡ v) where
   pub one_more : (d : A) → i < length xs → (new : Bool) → new ≡ (old || test (g (get_or xs i d))) → (new || list_any test (map g (drop (i + 1) xs))) ≡ v
-  one_more d more new added =
-      ap (λ b. b || list_any test (map g (drop (i + 1) xs))) added
-      ∙ (or_line old (test (g (get_or xs i d))) (list_any test (map g (drop (i + 1) xs)))
-      ∙ (sym (ap (λ us. old || list_any test (map g us)) (drop_more xs i d more)) ∙ kept))
+  one_more d more new added = search (std_rules, or_line, drop_more)
 
   pub none_left : length xs ≤ i → old ≡ v
   none_left past = sym (or_false old) ∙ (sym (ap (λ us. old || list_any test (map g us)) (drop_of_length-le xs past)) ∙ kept)
 
 pub told_among : (a : ToldFunction) (f : Text × NumberedFunction) → told_function a ≡ f → (ks : List ToldFunction) → list_any (same_told a) ks ≡ is_told (map told_function ks) f
 told_among a f is [] = refl
-told_among a f is (k ∷ ks) =
-    ap (λ b. b || list_any (same_told a) ks) (told_alike a k ∙ ap (λ (g : Text × NumberedFunction). text_eq g.0 (told_function k).0 && same_function g.1 (told_function k).1) is)
-    ∙ ap (λ b. (text_eq f.0 (told_function k).0 && same_function f.1 (told_function k).1) || b) (told_among a f is ks)
+told_among a f is (k ∷ ks) = search (std_rules, told_alike, told_among a f is ks)
 
 -- ---- the same functions
 
 pub by_told : (told gs : List (Text × NumberedFunction)) → AreTold told gs → (fs : List (Text × NumberedFunction))
     → are_told told fs ≡ list_all (λ f. list_any (λ g. text_eq f.0 g.0 && same_function f.1 g.1) gs) fs
 by_told told gs alike [] = refl
-by_told told gs alike (f ∷ fs) =
-    ap (λ b. b && are_told told fs) (alike (λ g. text_eq f.0 g.0 && same_function f.1 g.1)) ∙ ap (λ b. list_any (λ g. text_eq f.0 g.0 && same_function f.1 g.1) gs && b) (by_told told gs alike fs)
+by_told told gs alike (f ∷ fs) = search std_rules
 
 pub as_many : {A B : Type 0} (g : A → B) (xs ys : List A) → length xs ≡ length ys → (length (map g xs) == length (map g ys)) ≡ true
 as_many g xs ys same = eq-eqb (length (map g xs)) (length (map g ys)) (length_of_map g xs ∙ (same ∙ sym (length_of_map g ys)))

@@ -1,6 +1,5 @@
 -- Kinds of types as the plan's types declare them.
-use Rattle.std.proofs.Common.{◌≡◌, refl, sym, ap, subst, ◌∙◌, ℕ, ◌+◌, ◌-◌, arith, Bool, true, false, not, ◌==◌, nat_lt, if◌then◌else◌, List, [], ◌∷◌, length, Option, Some, None, option_and_then, slice_get}
-use Rattle.std.proofs.lemmas.Bool.{ltb-false}
+use Rattle.std.proofs.Common.{rules as std_rules, ◌≡◌, sym, ap, subst, ◌∙◌, ℕ, ◌+◌, true, false, not, ◌==◌, List, [], ◌∷◌, length, Option, Some, slice_get}
 use Rattle.std.specs.{List.AllZip, Option.option_map_or}
 use Rattle.plan_meaning.proofs.ShapeLaws.{form_back}
 use Rattle.plan_meaning.specs.GatheredPlan.{Becomes, DeclaresKind, a_resource as declares_resource, a_name as declares_name, a_form as declares_form}
@@ -17,11 +16,7 @@ module _ (t : Tables) (tables : AreTables t) (kept : List ℕ) (p : Plan) (many 
   parts_become (o ∷ olds) (n ∷ news) all = (part_becomes t kept p many o n all.0, parts_become olds news all.1)
 
   shape_number : (k : ℕ) (s : Shape) → shape_at t k ≡ Some s → (n : ℕ) × (k ≡ 14 + n) × (slice_get t.shapes n ≡ Some s)
-  shape_number k s at = by (nat_lt k 14) refl at
-    where
-      by : (b : Bool) → nat_lt k 14 ≡ b → option_and_then (slice_get t.shapes) (if b then None else Some (k - 14)) ≡ Some s → (n : ℕ) × (k ≡ 14 + n) × (slice_get t.shapes n ≡ Some s)
-      by true low at = let wrong : None ≡ Some s = at in absurd cc
-      by false high at = (k - 14, omega (arith, ltb-false k 14 high), at)
+  shape_number k s at = search std_rules
 
   form_declared : (d : Option ℕ) (kind : PlannedKind) (old n : ℕ) (s : Shape) → d ≡ Some old → old ≡ 14 + n → slice_get t.shapes n ≡ Some s → not (s.sort == 0) ≡ true → IsFormed kept s kind
       → IsShape n s → DeclaresKind t kept p d kind

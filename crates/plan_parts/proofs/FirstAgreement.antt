@@ -1,6 +1,6 @@
 -- Views that agree with the first of their place agree with each other, in numbers: a number stands for a tree of its own here, so that what is
 -- known of trees holds of numbers.
-use Rattle.std.proofs.Common.{◌≡◌, refl, sym, ap, subst, ◌∙◌, ℕ, zero, suc, arith, Bool, true, false, not, ◌&&◌, ◌||◌, ◌==◌, cond, List, [], ◌∷◌, ◌++◌, map, Option, Some, None, inl, inr}
+use Rattle.std.proofs.Common.{rules as std_rules, ◌≡◌, refl, sym, ap, subst, ◌∙◌, ℕ, zero, suc, arith, Bool, true, false, not, ◌&&◌, ◌||◌, ◌==◌, cond, List, [], ◌∷◌, ◌++◌, map, Option, Some, None, inl, inr}
 use Rattle.std.proofs.lemmas.List.{Folds.find-append, Elements.Contains-append_left, Elements.Contains-append_right, Elements.Contains-append_cases}
 use Rattle.std.proofs.lemmas.Bool.{and_from, eqb-true, eq-eqb}
 use Rattle.std.specs.{List.Contains, List.find, List.list_all, List.list_any, Option.option_map_or, Option.option_or, Cmp.Lexicographic.pointwise}
@@ -30,10 +30,7 @@ abbrev as_function : Text × NumberedFunction → Text × FunctionMeaning
 as_function f = (f.0, record { signature = record { is_async = false; params = []; result = Some (tree_of f.1.signature) }; external_id = f.1.external_id })
 
 declared_alike : (a b : Option ℕ) → same.same_declaration (as_declared a) (as_declared b) ≡ same_number a b
-declared_alike None None = refl
-declared_alike None (Some b) = refl
-declared_alike (Some a) None = refl
-declared_alike (Some a) (Some b) = and_true (a == b)
+declared_alike x y = search std_rules
 
 type_alike : (x y : NumberedType) → reads.same_shown (as_type x) (as_type y) ≡ same_shown x y
 type_alike x y = ap (λ b. text_eq x.name y.name && (b && same_option text_eq x.external_id y.external_id)) (declared_alike x.declared y.declared)
@@ -100,27 +97,13 @@ function_itself a one =
 
 -- what agreement says, and what says it
 agree_types : (a b : NumberedSight) → agree a b ≡ true → a.place ≡ b.place → same_types a b ≡ true
-agree_types a b h e =
-    first_true (same_types a b) (not (a.whole && b.whole) || same_whole a b)
-    (sym (ap (λ c. not c || (same_types a b && (not (a.whole && b.whole) || same_whole a b))) (eq-eqb a.place b.place e)) ∙ h)
+agree_types a b h e = search std_rules
 
 agree_functions : (a b : NumberedSight) → agree a b ≡ true → a.place ≡ b.place → a.whole ≡ true → b.whole ≡ true → same_whole a b ≡ true
-agree_functions a b h e p q =
-    let rest = second_true (same_types a b) (not (a.whole && b.whole) || same_whole a b)
-    (sym (ap (λ c. not c || (same_types a b && (not (a.whole && b.whole) || same_whole a b))) (eq-eqb a.place b.place e)) ∙ h) in
-    sym (ap (λ c. not c || same_whole a b) (and_from a.whole b.whole p q)) ∙ rest
+agree_functions a b h e p q = search std_rules
 
 agree_from : (a b : NumberedSight) → (a.place ≡ b.place → same_types a b ≡ true) → (a.place ≡ b.place → a.whole ≡ true → b.whole ≡ true → same_whole a b ≡ true) → agree a b ≡ true
-agree_from a b types functions = by ((a.place == b.place)) refl
-  where
-    whole : a.place ≡ b.place → (c d : Bool) → a.whole ≡ c → b.whole ≡ d → (not (c && d) || same_whole a b) ≡ true
-    whole e false d p q = refl
-    whole e true false p q = refl
-    whole e true true p q = functions e p q
-
-    by : (c : Bool) → (a.place == b.place) ≡ c → (not c || (same_types a b && (not (a.whole && b.whole) || same_whole a b))) ≡ true
-    by false e = refl
-    by true e = let path = eqb-true a.place b.place e in and_from (same_types a b) (not (a.whole && b.whole) || same_whole a b) (types path) (whole path a.whole b.whole refl refl)
+agree_from a b types functions = search std_rules
 
 -- ---- agreement with each is agreement with the first
 
@@ -162,14 +145,10 @@ record Known (earlier : List NumberedSight) : Type 0 where
 
 module _ (earlier : List NumberedSight) (s : NumberedSight) (known : Known earlier) (one : IsOnce s) (agrees : agrees_with_first earlier s ≡ true) where
   with_types : (f : NumberedSight) → first_at s.place earlier ≡ Some f → same_types f s ≡ true
-  with_types f e =
-      sym (ap (λ o. option_map_or (λ f. same_types f s) o true) e)
-      ∙ first_true (option_map_or (λ f. same_types f s) (first_at s.place earlier) true) (not s.whole || option_map_or (λ f. same_whole f s) (first_whole_at s.place earlier) true) agrees
+  with_types f e = search std_rules
 
   with_functions : s.whole ≡ true → (f : NumberedSight) → first_whole_at s.place earlier ≡ Some f → same_whole f s ≡ true
-  with_functions w f e =
-      sym (ap (λ b. not b || option_map_or (λ f. same_whole f s) (first_whole_at s.place earlier) true) w ∙ ap (λ o. option_map_or (λ f. same_whole f s) o true) e)
-      ∙ second_true (option_map_or (λ f. same_types f s) (first_at s.place earlier) true) (not s.whole || option_map_or (λ f. same_whole f s) (first_whole_at s.place earlier) true) agrees
+  with_functions w f e = search std_rules
 
   -- it agrees with each of them
   with_each : (x : NumberedSight) → Contains earlier x → agree x s ≡ true
@@ -270,14 +249,4 @@ module _ (t : Tables) (known : ℕ → Fact) where
 
   -- with the first alone or each with each, where all are views of interfaces
   pub agree_by_first : (seen : List NumberedSight) → (agree_in_numbers seen && are_interfaces t known seen) ≡ (agree_with_first_in_numbers [] seen && are_interfaces t known seen)
-  agree_by_first seen = by (are_interfaces t known seen) refl
-    where
-      by : (b : Bool) → are_interfaces t known seen ≡ b → (agree_in_numbers seen && b) ≡ (agree_with_first_in_numbers [] seen && b)
-      by true e = ap (λ a. a && true) (first_agrees seen e)
-      by false e = none (agree_in_numbers seen) (agree_with_first_in_numbers [] seen)
-        where
-          none : (a c : Bool) → (a && false) ≡ (c && false)
-          none true true = refl
-          none true false = refl
-          none false true = refl
-          none false false = refl
+  agree_by_first seen = search (std_rules, first_agrees)

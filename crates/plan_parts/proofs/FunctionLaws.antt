@@ -1,12 +1,12 @@
 -- The kinds of functions by their names: of one resource alone, as what may stand behind some resources is.
-use Rattle.std.proofs.Common.{◌≡◌, refl, sym, ap, subst, ◌∙◌, ℕ, zero, suc, ◌+◌, ◌<◌, arith, Bool, true, false, not, ◌&&◌, ◌||◌, ◌⊎◌, inl, inr, List, [], ◌∷◌, ◌++◌, length, map, take, get_or, Option, Some, None, codes, append_assoc}
+use Rattle.std.proofs.Common.{rules as std_rules, ◌≡◌, refl, sym, ap, subst, ◌∙◌, ℕ, zero, suc, ◌+◌, ◌<◌, arith, Bool, true, false, not, ◌&&◌, ◌||◌, ◌⊎◌, inl, inr, List, [], ◌∷◌, ◌++◌, length, map, take, get_or, Option, Some, None, codes, append_assoc}
 use Rattle.std.proofs.lemmas.{List.take_more, List.map-append, Option.slice_get_within, Bool.or_cases as either_true, Map.Keys.any_passes_from_place as get_any}
 use Rattle.std.proofs.lemmas.Slice.Eq.{bytes_eq-Decides}
 use Rattle.std.specs.{Borrow.Bor, List.AllByRecursion, List.AllZip, List.list_any, Option.option_map_or}
 use Rattle.wit_model.specs.declared.model.{FunctionKind.FunctionKind, TypeId.TypeId, TypeOwner.TypeOwner, «Type».«Type» as ValueType}
 use Rattle.wit_model.specs.{Lookup.is_async, Lookup.resource_of, Names.constructor_name, Names.is_label, Names.method_name, Names.static_name}
 use Rattle.wit_model.specs.{Rules.after_prefix, Text.Text, Text.text_eq}
-use Rattle.wit_model.proofs.{Elements.zip-push, NameLaws.label_lacks, Prefixes.after_sound as prefix_back}
+use Rattle.wit_model.proofs.{Elements.zip-push, Prefixes.after_sound as prefix_back}
 use Rattle.comp_meaning.specs.Rules.{is_label_behind}
 use Rattle.plan_meaning.specs.Built.{part_of}
 use Rattle.plan_meaning.specs.{GatheredPlan.Becomes, GatheredPlan.BecomesIfGiven, GatheredPlan.ParamBecomes, NumberedViews.FunctionShape, NumberedViews.Tables}
@@ -55,9 +55,7 @@ one_resource mark name r s h k =
 
 -- a label begins with no bracket
 no_bracket : (name rest : Text) → is_label name ≡ true → name ≡ 91 ∷ rest → ⊥
-no_bracket name rest label e =
-    let lacks = label_lacks 91 refl (91 ∷ rest) (ap is_label (sym e) ∙ label) in
-    absurd cc
+no_bracket name rest label e = search std_rules
 
 label_no_constructor : (name r : Text) → is_label name ≡ true → is_constructor_named name r → ⊥
 label_no_constructor name r label e = no_bracket name _ label e
@@ -72,19 +70,13 @@ second_same : (a b c d : ℕ) (xs ys : Text) → a ∷ (b ∷ xs) ≡ c ∷ (d �
 second_same a b c d xs ys e = cc
 
 constructor_no_method : (name r s : Text) → is_constructor_named name r → is_behind method_mark name s → ⊥
-constructor_no_method name r s e h =
-    let other = sym e ∙ (cut method_mark name s h).is in
-    absurd cc
+constructor_no_method name r s e h = search std_rules
 
 constructor_no_static : (name r s : Text) → is_constructor_named name r → is_behind static_mark name s → ⊥
-constructor_no_static name r s e h =
-    let other = sym e ∙ (cut static_mark name s h).is in
-    absurd cc
+constructor_no_static name r s e h = search std_rules
 
 method_no_static : (name r s : Text) → is_behind method_mark name r → is_behind static_mark name s → ⊥
-method_no_static name r s h k =
-    let other : 109 ≡ 115 = second_same 91 109 91 115 _ _ (sym (cut method_mark name r h).is ∙ (cut static_mark name s k).is) in
-    absurd (omega (arith, other))
+method_no_static name r s h k = search std_rules
 
 one_constructed : (name r s : Text) → is_constructor_named name r → is_constructor_named name s → r ≡ s
 one_constructed name r s e f = cancel (codes "[constructor]") r s (sym e ∙ f)
@@ -153,20 +145,16 @@ resource_among t known q name f resources h r after = by (either_true (is_label 
         get_any (text_eq r) resources at.0 at.1 at.2 ((bytes_eq-Decides r at.1).1 (same at.1 (is_of t known q name f at.1 at.3) after))
 
 free_of_none : (b : Bool) → resource_of (free_kind b) ≡ None
-free_of_none true = refl
-free_of_none false = refl
+free_of_none x = search std_rules
 
 free_waits : (b : Bool) → is_async (free_kind b) ≡ b
-free_waits true = refl
-free_waits false = refl
+free_waits x = search std_rules
 
 method_waits : (id : TypeId) (b : Bool) → is_async (method_kind id b) ≡ b
-method_waits id true = refl
-method_waits id false = refl
+method_waits id x = search std_rules
 
 static_waits : (id : TypeId) (b : Bool) → is_async (static_kind id b) ≡ b
-static_waits id true = refl
-static_waits id false = refl
+static_waits id x = search std_rules
 
 nothing_found : {A : Type 0} (o : Option A) (x : A) → o ≡ None → o ≡ Some x → ⊥
 nothing_found o x e f = let wrong : None ≡ Some x = sym e ∙ f in absurd cc
@@ -185,10 +173,7 @@ module _ (t : Tables) (known : ℕ → Fact) (kept : List ℕ) (p : Plan) (o : T
   a_static_is r id h found false waits e = kinds.a_static id r e (is_res r id found) h
 
   labelled : is_label name ≡ true → NamesKind find name f.is_async kind → Answer
-  labelled label (a_constructor r id named found e) = absurd (label_no_constructor name r label named)
-  labelled label (a_method r id h found e) = absurd (label_no_method name r label h)
-  labelled label (a_static r id h found e) = absurd (label_no_static name r label h)
-  labelled label (of_none c m s e) = (kinds.of_none label (ap resource_of e ∙ free_of_none f.is_async), ap is_async e ∙ free_waits f.is_async)
+  labelled label x = search (std_rules, label_no_constructor, label_no_method, label_no_static, free_of_none, free_waits)
 
   of_resource : (s : Text) (there : (id : TypeId) × (find s ≡ Some id)) → IsOf t known q name f s → NamesKind find name f.is_async kind → Answer
   of_resource s there (constructor_of named sync made) (a_constructor r id other found e) =
@@ -264,5 +249,4 @@ module _ (t : Tables) (kept : List ℕ) (p : Plan) (many : length p.types ≡ le
   result_becomes (Some x) (Some y) h = part_becomes x y h
 
 pub functions_become : FunctionsBecome
-functions_become t kept p many f external_id g gives waits id =
-    record { waits = waits; params = params_become t kept p many f.params g.params gives.params; result = result_becomes t kept p many f.result g.result gives.result; same_id = id }
+functions_become t kept p many f external_id g gives waits id = search (std_rules, params_become, result_becomes)

@@ -1,5 +1,5 @@
 -- The types and the functions of an interface, one after the other.
-use Rattle.std.proofs.Common.{◌≡◌, refl, sym, ap, subst, ◌∙◌, ℕ, zero, suc, ◌+◌, ◌<◌, arith, Bool, true, false, ◌&&◌, inl, inr, cond, List, [], ◌∷◌, ◌++◌, length, map, take, get_or, Option, Some, None, is_some, slice_get}
+use Rattle.std.proofs.Common.{rules as std_rules, ◌≡◌, refl, sym, ap, subst, ◌∙◌, ℕ, zero, suc, ◌+◌, ◌<◌, arith, Bool, true, false, ◌&&◌, inl, inr, cond, List, [], ◌∷◌, ◌++◌, length, map, take, get_or, Option, Some, None, is_some, slice_get}
 use Rattle.std.proofs.lemmas.{List.take_more, List.map-append, Slice.Eq.bytes_eq-Decides}
 use Rattle.std.specs.List.{AllByRecursion, AllZip}
 use Rattle.wit_model.specs.declared.model.TypeId.{TypeId}
@@ -10,7 +10,7 @@ use Rattle.plan_meaning.specs.NumberedViews.{FunctionShape, NumberedFunction, Nu
 use Rattle.plan_parts.specs.Functions.{NamesKind, TakesAndGives}
 use Rattle.plan_parts.specs.Interfaces.{noted, slot_part, AreResources, IsPlannedFunction}
 use Rattle.base_lemmas.proofs.Bools.{left_of as first_true, right_of as second_true}
-use Rattle.base_lemmas.proofs.Lists.{at_last as last_is, front_more as front_still, front_or_last, none_there}
+use Rattle.base_lemmas.proofs.Lists.{at_last as last_is, front_more as front_still, front_or_last}
 
 -- what holds of each, of one of them
 pub mapped_at : {A B : Type 0} (P : B → Type 0) (g : A → B) (xs : List A) (i : ℕ) (d : A) → i < length xs → AllByRecursion P (map g xs) → P (g (get_or xs i d))
@@ -32,26 +32,19 @@ zip_next {B = B} {Y = Y} R g h xs i d old new y within added is before =
 
 pub noted_now : (d : Option ℕ) (name r : Text) (id : TypeId) (new old : Option TypeId) → is_some d ≡ false → new ≡ cond (text_eq name r) (Some id) old
     → new ≡ cond (is_no_part d && text_eq name r) (Some id) old
-noted_now None name r id new old none e = e
-noted_now (Some k) name r id new old none e = absurd cc
+noted_now x name r id new old none e = search std_rules
 
 pub no_resources : (kept : List ℕ) (find : Text → Option TypeId) → ((r : Text) → find r ≡ None) → AreResources kept [] find
-no_resources kept find none = record {
-  found = λ n x e h. absurd (none_there n x e);
-  among = λ r id e. let wrong : None ≡ Some id = sym (none r) ∙ e in absurd (let w : ⊥ = cc in w);
-}
+no_resources kept find none = search std_rules
 
 module _ (kept : List ℕ) (xs : List NumberedType) (find after : Text → Option TypeId) (have : AreResources kept xs find) (x : NumberedType) (id : TypeId)
     (is : IsPart kept (slot_part x.slot) (14 + id.0))
     (adds : (r : Text) → after r ≡ noted x id r (find r)) where
   still_found : (name : Text) (before : (k : TypeId) × (find name ≡ Some k)) (b : Bool) → (is_no_part x.declared && text_eq x.name name) ≡ b → (k : TypeId) × (after name ≡ Some k)
-  still_found name before true e = (id, adds name ∙ ap (λ v. cond v (Some id) (find name)) e)
-  still_found name before false e = (before.0, adds name ∙ (ap (λ v. cond v (Some id) (find name)) e ∙ before.1))
+  still_found name before x e = search std_rules
 
   own_found : is_no_part x.declared ≡ true → (k : TypeId) × (after x.name ≡ Some k)
-  own_found none =
-      let own : text_eq x.name x.name ≡ true = (bytes_eq-Decides x.name x.name).1 refl in
-      (id, adds x.name ∙ (ap (λ v. cond (v && text_eq x.name x.name) (Some id) (find x.name)) none ∙ ap (λ v. cond v (Some id) (find x.name)) own))
+  own_found none = search (std_rules, bytes_eq-Decides x.name x.name)
 
   abbrev From : Text → TypeId → Type 0
   From r k = (n : ℕ) × (y : NumberedType) × (slice_get (xs ++ x ∷ []) n ≡ Some y) × (is_no_part y.declared ≡ true) × (y.name ≡ r) × IsPart kept (slot_part y.slot) (14 + k.0)
@@ -85,8 +78,7 @@ pub resources_next : {A : Type 0} (kept : List ℕ) (g : A → NumberedType) (xs
     → IsPart kept (slot_part (g (get_or xs i d)).slot) (14 + id.0)
     → ((r : Text) → after r ≡ noted (g (get_or xs i d)) id r (find r)) → AreResources kept (map g (take i xs)) find → AreResources kept (map g (take (i + 1) xs)) after
 resources_next kept g xs i d find after id within is adds have =
-    subst (λ (ys : List NumberedType). AreResources kept ys after) (sym (ap (map g) (take_more xs i d within) ∙ map-append g (take i xs) (get_or xs i d ∷ [])))
-    (one_resource_more kept (map g (take i xs)) find after have (g (get_or xs i d)) id is adds)
+    search (std_rules, take_more xs i d within, map-append g (take i xs) (get_or xs i d ∷ []), one_resource_more kept (map g (take i xs)) find after have (g (get_or xs i d)) id is adds)
 
 -- ---- functions
 
@@ -94,10 +86,4 @@ resources_next kept g xs i d find after id within is adds have =
 pub is_planned : (t : Tables) (kept : List ℕ) (find : Text → Option TypeId) (f : Text × NumberedFunction) (g : PlannedFunction) (shape : FunctionShape) → shape ≡ function_at t f.1.signature
     → g.name ≡ f.0 → NamesKind find f.0 shape.is_async g.kind → TakesAndGives kept shape g → g.external_id ≡ f.1.external_id
     → IsPlannedFunction t kept find f (g.name, g)
-is_planned t kept find f g shape same named kind parts id = record {
-  under = named;
-  named = named;
-  kind = subst (λ (s : FunctionShape). NamesKind find f.0 s.is_async g.kind) same kind;
-  parts = subst (λ (s : FunctionShape). TakesAndGives kept s g) same parts;
-  same_id = id;
-}
+is_planned t kept find f g shape same named kind parts id = search std_rules

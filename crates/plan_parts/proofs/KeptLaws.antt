@@ -1,7 +1,7 @@
 -- Marked numbers, each with its place among them.
-use Rattle.std.proofs.Common.{◌≡◌, refl, sym, ap, ◌∙◌, subst, ℕ, zero, suc, ◌+◌, ◌-◌, ◌<◌, ◌≤◌, arith, Bool, true, false, cond, List, [], ◌∷◌, ◌++◌, length, take, get_or, Some, slice_get}
+use Rattle.std.proofs.Common.{rules as std_rules, ◌≡◌, refl, sym, ap, ◌∙◌, subst, ℕ, zero, suc, ◌+◌, ◌-◌, ◌<◌, ◌≤◌, arith, Bool, true, false, cond, List, [], ◌∷◌, ◌++◌, length, take, get_or, Some, slice_get}
 use Rattle.std.proofs.lemmas.{List.take_more, List.append-nil, List.length-take-le, Option.slice_get_within, Option.slice_get_read}
-use Rattle.plan_meaning.specs.Renumbering.{IsPart, a_primitive, a_shape}
+use Rattle.plan_meaning.specs.Renumbering.{IsPart}
 use Rattle.plan_parts.specs.Kept.{marked_from, counted_from, AreMarked, AreNumbered, IsKeptPart}
 
 -- ---- one mark more
@@ -28,19 +28,12 @@ so_many marks i within = length-take-le i marks (omega arith)
 pub next_shapes : (marks : List Bool) (i : ℕ) (d b : Bool) (old new : List ℕ) → i < length marks → get_or marks i d ≡ b → old ≡ marked_from 0 (take i marks) → new ≡ cond b (old ++ i ∷ []) old
     → new ≡ marked_from 0 (take (i + 1) marks)
 next_shapes marks i d b old new within is before added =
-    let long : 0 + length (take i marks) ≡ i = omega (arith, so_many marks i within) in
-    let rest : (m : Bool) → cond m (old ++ i ∷ []) old ≡ old ++ cond m (i ∷ []) [] =
-    λ m. elim m as (λ v. cond v (old ++ i ∷ []) old ≡ old ++ cond v (i ∷ []) []) [ true ↦ refl | false ↦ sym (append-nil old) ] in
-    added ∙ (rest b ∙ (ap (λ ns. ns ++ cond b (i ∷ []) []) before
-    ∙ (ap (λ k. marked_from 0 (take i marks) ++ cond b (k ∷ []) []) (sym long)
-    ∙ (sym (marked_more 0 (take i marks) b) ∙ (ap (λ v. marked_from 0 (take i marks ++ v ∷ [])) (sym is) ∙ ap (marked_from 0) (sym (taken marks i d within)))))))
+    search (std_rules, so_many marks i within, append-nil old, marked_more 0 (take i marks) b, taken marks i d within)
 
 pub next_numbers : (marks : List Bool) (i : ℕ) (d : Bool) (shapes old new : List ℕ) (k : ℕ) → i < length marks → shapes ≡ marked_from 0 (take i marks) → k ≡ length shapes
     → old ≡ counted_from 0 (take i marks) → new ≡ old ++ k ∷ [] → new ≡ counted_from 0 (take (i + 1) marks)
 next_numbers marks i d shapes old new k within found many before added =
-    let e : k ≡ 0 + length (marked_from 0 (take i marks)) = omega (arith, many, ap length found) in
-    added ∙ (ap (λ ns. ns ++ k ∷ []) before ∙ (ap (λ m. counted_from 0 (take i marks) ++ m ∷ []) e
-    ∙ (sym (counted_more 0 0 (take i marks) (get_or marks i d)) ∙ ap (counted_from 0) (sym (taken marks i d within)))))
+    search (std_rules, counted_more 0 0 (take i marks) (get_or marks i d), taken marks i d within)
 
 -- ---- what stands among the marked
 
@@ -104,23 +97,15 @@ are_marked marks kept same = subst (λ (ns : List ℕ). AreMarked marks ns) (sym
 })
 
 pub are_numbered : (marks : List Bool) (kept numbers : List ℕ) → kept ≡ marked_from 0 marks → numbers ≡ counted_from 0 marks → AreNumbered kept numbers
-are_numbered marks kept numbers same counts j n e =
-    let s = stands 0 0 marks j n (ap (λ ns. slice_get ns j) (sym same) ∙ e) in
-    let m : s.m ≡ n = omega (arith, s.is) in
-    ap (λ ns. slice_get ns n) counts ∙ (subst (λ (k : ℕ). slice_get (counted_from 0 marks) k ≡ Some (0 + j)) m s.count ∙ ap Some (omega arith))
+are_numbered marks kept numbers same counts j n e = search (std_rules, stands 0 0 marks j n (ap (λ ns. slice_get ns j) (sym same) ∙ e))
 
 -- the new number of a type is behind those of the primitives
 new_behind : (kept : List ℕ) (old new : ℕ) → IsPart kept old new → 14 ≤ old → 14 ≤ new
-new_behind kept old new (a_primitive low same) high = absurd (omega (arith, low))
-new_behind kept old new (a_shape n j from there to) high = omega (arith, to)
+new_behind kept old new x high = search std_rules
 
 -- the number of a type that is kept
 pub numbered_part : (kept numbers : List ℕ) → AreNumbered kept numbers → (old new : ℕ) → IsPart kept old new → 14 ≤ old → slice_get numbers (old - 14) ≡ Some (new - 14)
-numbered_part kept numbers are old new (a_primitive low same) high = absurd (omega (arith, low))
-numbered_part kept numbers are old new (a_shape n j from there to) high =
-    let o : n ≡ old - 14 = omega (arith, from) in
-    let w : j ≡ new - 14 = omega (arith, to) in
-    subst (λ (k : ℕ). slice_get numbers k ≡ Some (new - 14)) o (are j n there ∙ ap Some w)
+numbered_part kept numbers are old new x high = search std_rules
 
 module _ (kept numbers : List ℕ) (are : AreNumbered kept numbers) (old : ℕ) (stays : IsKeptPart kept old) (high : 14 ≤ old) where
   abbrev there : slice_get numbers (old - 14) ≡ Some (stays.0 - 14)

@@ -1,5 +1,5 @@
 -- Forms over the new numbers of their parts.
-use Rattle.std.proofs.Common.{◌≡◌, ◌≢◌, refl, sym, ap, subst, ◌∙◌, ℕ, ◌+◌, ◌<◌, ◌≤◌, arith, Bool, true, false, ◌||◌, ◌==◌, List, [], ◌∷◌, ◌++◌, map, take, drop, length, get_or, Option, Some, None, is_some, Bor, Result, Ok, Err, IfOk}
+use Rattle.std.proofs.Common.{rules as std_rules, ◌≡◌, ◌≢◌, refl, sym, ap, subst, ◌∙◌, ℕ, ◌+◌, ◌<◌, ◌≤◌, arith, Bool, true, false, ◌||◌, ◌==◌, List, [], ◌∷◌, ◌++◌, map, take, drop, length, get_or, Option, Some, None, is_some, Bor, Result, Ok, Err, IfOk}
 use Rattle.std.proofs.lemmas.{Bool.eqb-true, Bool.eq-eqb, List.map-append, List.take_more, List.drop_more, Option.same_Some as same-some}
 use Rattle.std.specs.List.{AllByRecursion, AllZip}
 use Rattle.wit_model.proofs.Elements.{zip-push}
@@ -11,7 +11,7 @@ use Rattle.plan_build.specs.declared.plan.PlannedKind.{PlannedKind as CodeKind}
 use Rattle.plan_build.specs.PlanOf.{stated_case, stated_kind}
 use Rattle.read_rules.specs.Tables.{label_of}
 use Rattle.plan_parts.specs.Kept.{IsKeptPart}
-use Rattle.plan_parts.specs.Kinds.{given_count, has_count, shape_form, IsFormed, IsFormOver, IsLabelledSort, a_record, a_variant, an_enum, flags, IsKindFor, MayBeDeclared, a_form, a_part, nothing, over_parts}
+use Rattle.plan_parts.specs.Kinds.{given_count, has_count, shape_form, IsFormed, IsFormOver, IsLabelledSort, IsKindFor, MayBeDeclared, a_form, a_part, nothing, over_parts}
 use Rattle.base_lemmas.proofs.Lists.{map_of_map as map_twice}
 
 -- ---- forms by their numbers
@@ -98,9 +98,7 @@ no_parts kept (k ∷ ks) e = absurd (omega (arith, e))
 pub part_next : {X : Type 0} (kept ks : List ℕ) (i d : ℕ) (h : X → ℕ) (old new : List X) (y : X) → i < length ks → new ≡ old ++ y ∷ [] → IsPart kept (get_or ks i d) (h y)
     → AllZip (IsPart kept) (take i ks) (map h old) → AllZip (IsPart kept) (take (i + 1) ks) (map h new)
 part_next kept ks i d h old new y within added is before =
-    let news : map h new ≡ map h old ++ h y ∷ [] = ap (map h) added ∙ map-append h old (y ∷ []) in
-    subst (λ (bs : List ℕ). AllZip (IsPart kept) bs (map h new)) (sym (take_more ks i d within)) (subst (λ (ys : List ℕ). AllZip (IsPart kept) (take i ks ++ get_or ks i d ∷ []) ys) (sym news)
-    (zip-push (IsPart kept) (take i ks) (map h old) (get_or ks i d) (h y) before is))
+    search (std_rules, map-append h old (y ∷ []), take_more ks i d within, zip-push (IsPart kept) (take i ks) (map h old) (get_or ks i d) (h y) before is)
 
 -- one name more
 pub name_next : {A X : Type 0} (g : A → Text) (h : X → Text) (xs : List A) (i : ℕ) (d : A) (old new : List X) (y : X) → i < length xs → new ≡ old ++ y ∷ [] → h y ≡ g (get_or xs i d)
@@ -111,8 +109,7 @@ name_next g h xs i d old new y within added is before =
 -- one label more, where each label is looked at by its text alone
 pub label_next : {X : Type 0} (h : X → Text) (xs : List (Bor Text × Bool)) (i : ℕ) (d : Bor Text × Bool) (old new : List X) (y : X) → i < length xs → new ≡ old ++ y ∷ [] → h y ≡ (get_or xs i d).0.now
     → map h old ≡ map (λ l. l.0) (map label_of (take i xs)) → map h new ≡ map (λ l. l.0) (map label_of (take (i + 1) xs))
-label_next h xs i d old new y within added is before =
-    name_next (λ l. l.0.now) h xs i d old new y within added is (before ∙ map_twice (λ l. l.0) label_of (take i xs)) ∙ sym (map_twice (λ l. l.0) label_of (take (i + 1) xs))
+label_next h xs i d old new y within added is before = search (std_rules, name_next, map_twice)
 
 -- ---- cases
 
@@ -139,8 +136,7 @@ pub record CasesSoFar (kept ks : List ℕ) (xs : List (Bor Text × Bool)) (i nex
 module _ (kept ks : List ℕ) (xs : List (Bor Text × Bool)) (i next : ℕ) (d : Bor Text × Bool) (within : i < length xs) (old new : List (Bor Text × Option ValueType)) (before : CasesSoFar kept ks xs i next old) where
   case_named : (o : Option ValueType) → is_some o ≡ (get_or xs i d).1 → new ≡ old ++ ((get_or xs i d).0, o) ∷ [] → map stated_case new ≡ map label_of (take (i + 1) xs)
   case_named o same added =
-      ap (map stated_case) added ∙ (map-append stated_case old (((get_or xs i d).0, o) ∷ [])
-      ∙ ((λ j. before.names j ++ ((get_or xs i d).0.now, same j) ∷ []) ∙ (sym (map-append label_of (take i xs) (get_or xs i d ∷ [])) ∙ ap (map label_of) (sym (take_more xs i d within)))))
+      search (std_rules, map-append stated_case old (((get_or xs i d).0, o) ∷ []), map-append label_of (take i xs) (get_or xs i d ∷ []), take_more xs i d within)
 
   pub no_payload : (get_or xs i d).1 ≡ false → new ≡ old ++ ((get_or xs i d).0, None) ∷ [] → CasesSoFar kept ks xs (i + 1) next new
   no_payload e added = record {
@@ -197,10 +193,7 @@ module _ (kept : List ℕ) (s : Shape) (over : IsFormOver kept s) where
   empty_part f e none = eqb-true (length s.parts) 0 (sym (none (length s.parts)) ∙ counted kept s over f e)
 
 pub last_labelled : (n : ℕ) → IsLabelledSort n → n ≢ 1 → n ≢ 2 → n ≢ 10 → n ≡ 11
-last_labelled n (a_record e) a b c = absurd (a e)
-last_labelled n (a_variant e) a b c = absurd (b e)
-last_labelled n (flags e) a b c = absurd (c e)
-last_labelled n (an_enum e) a b c = e
+last_labelled n x a b c = search std_rules
 
 -- what a future or a stream gives
 pub given_there : (kept : List ℕ) (number : ℕ) (ks : List ℕ) → length ks ≡ one_mark (number == 1) → number ≡ 1 → (new : ℕ) → IsPart kept (get_or ks 0 0) new → (true ≡ (number == 1))
@@ -218,11 +211,7 @@ pub both_given : (n : ℕ) → n ≡ 3 → Form.result_of (n == 1 || n == 3) (n 
 both_given n e = ap (λ n. Form.result_of (n == 1 || n == 3) (n == 2 || n == 3)) e
 
 not_equal : (n m : ℕ) → n ≢ m → (n == m) ≡ false
-not_equal n m differ = by (n == m) refl
-  where
-    by : (b : Bool) → (n == m) ≡ b → b ≡ false
-    by true e = absurd (differ (eqb-true n m e))
-    by false e = refl
+not_equal n m differ = search std_rules
 
 pub neither : (n : ℕ) → n ≢ 1 → n ≢ 2 → n ≢ 3 → Form.result_of (n == 1 || n == 3) (n == 2 || n == 3) ≡ Form.result_of false false
 neither n a b c = λ i. Form.result_of (not_equal n 1 a i || not_equal n 3 c i) (not_equal n 2 b i || not_equal n 3 c i)
@@ -233,17 +222,10 @@ module _ (t : Tables) (kept : List ℕ) where
   pub a_kept_part : (d : Option ℕ) (k : ℕ) → d ≡ Some k → MayBeDeclared t kept d → is_form t k ≡ false → IsKeptPart kept k
   a_kept_part d k e (nothing none) no_form = let wrong : None ≡ Some k = sym none ∙ e in absurd cc
   a_kept_part d k e (a_part j at fails is) no_form = subst (IsKeptPart kept) (same-some j k (sym at ∙ e)) is
-  a_kept_part d k e (over_parts j s at form shape over) no_form =
-      let same : j ≡ k = same-some j k (sym at ∙ e) in
-      let wrong : true ≡ false = sym form ∙ (ap (is_form t) same ∙ no_form) in absurd cc
+  a_kept_part d k e (over_parts j s at form shape over) no_form = search std_rules
 
   pub an_over_form : (d : Option ℕ) (k : ℕ) → d ≡ Some k → MayBeDeclared t kept d → is_form t k ≡ true → (s : Shape) → shape_at t k ≡ Some s → IsFormOver kept s
-  an_over_form d k e (nothing none) form s at = let wrong : None ≡ Some k = sym none ∙ e in absurd cc
-  an_over_form d k e (a_part j there fails is) form s at =
-      let same : j ≡ k = same-some j k (sym there ∙ e) in
-      let wrong : false ≡ true = sym fails ∙ (ap (is_form t) same ∙ form) in absurd cc
-  an_over_form d k e (over_parts j r there yes_form shape over) form s at =
-      subst (IsFormOver kept) (same-some r s (sym shape ∙ (ap (shape_at t) (same-some j k (sym there ∙ e)) ∙ at))) over
+  an_over_form d k e x form s at = search std_rules
 
   pub form_kind : {E : Type 0} (r : Result CodeKind E) (d : Option ℕ) (k : ℕ) (s : Shape) → d ≡ Some k → is_form t k ≡ true → shape_at t k ≡ Some s
       → IfOk r (λ kind. IsFormed kept s (stated_kind kind)) → IfOk r (λ kind. IsKindFor t kept d (stated_kind kind))

@@ -1,5 +1,5 @@
 -- The functions of an interface that obeys the rules, as those of a plan.
-use Rattle.std.proofs.Common.{◌≡◌, refl, ap, subst, ◌∙◌, ℕ, zero, suc, ◌+◌, Bool, true, false, ◌&&◌, ◌||◌, cond, List, [], ◌∷◌, ◌++◌, length, map, Option, Some, slice_get}
+use Rattle.std.proofs.Common.{rules as std_rules, ◌≡◌, refl, subst, ℕ, zero, suc, ◌+◌, Bool, true, false, ◌&&◌, ◌||◌, cond, List, [], ◌∷◌, ◌++◌, length, map, Option, Some, slice_get}
 use Rattle.std.proofs.lemmas.Slice.Eq.{bytes_eq-Decides}
 use Rattle.std.specs.List.{AllZip, list_all, list_any}
 use Rattle.wit_model.specs.declared.model.{TypeId.TypeId, TypeOwner.TypeOwner}
@@ -30,8 +30,7 @@ or_later y ys r rest false e none h = later y ys r (rest h)
 
 first_or_later : (y : NumberedType) (ys : List NumberedType) (r : Text) (rest : list_any (text_eq r) (resources_of ys) ≡ true → IsListed ys r) (b : Bool) → is_no_part y.declared ≡ b
     → list_any (text_eq r) (cond b (y.name ∷ resources_of ys) (resources_of ys)) ≡ true → IsListed (y ∷ ys) r
-first_or_later y ys r rest true e h = or_later y ys r rest (text_eq r y.name) refl e h
-first_or_later y ys r rest false e h = later y ys r (rest h)
+first_or_later y ys r rest x e h = search (std_rules, or_later, later)
 
 listed : (xs : List NumberedType) (r : Text) → list_any (text_eq r) (resources_of xs) ≡ true → IsListed xs r
 listed [] r h = absurd cc
@@ -45,10 +44,7 @@ module _ (t : Tables) (known : ℕ → Fact) (kept : List ℕ) (p : Plan) (many 
   Kind f e = IsKindOf t known kept p o q f.0 (function_at t f.1.signature) e.1.kind
 
   finds : (r : Text) → list_any (text_eq r) (resources_of types) ≡ true → (id : TypeId) × (find r ≡ Some id)
-  finds r h =
-      let at = listed types r h in
-      let there = have.found at.number at.x at.there at.is_resource in
-      (there.0, ap find at.named ∙ there.1)
+  finds r h = search (std_rules, listed types r h)
 
   are : (r : Text) (id : TypeId) → find r ≡ Some id → IsResource t known kept p o q r id.0
   are r id e =
@@ -75,9 +71,7 @@ module _ (t : Tables) (known : ℕ → Fact) (kept : List ℕ) (p : Plan) (many 
       ((first.0, rest.0), (first.1, rest.1))
 
 middle_true : (a b c : Bool) → (a && b && c) ≡ true → b ≡ true
-middle_true true true c h = refl
-middle_true true false c h = absurd cc
-middle_true false b c h = absurd cc
+middle_true x b c h = search std_rules
 
 pub functions_are_listed : FunctionsAreListed
 functions_are_listed t known kept p many o q v obeys find have stand es planned =

@@ -1,5 +1,5 @@
 -- Types that are used: each is marked once the types behind it have been looked at.
-use Rattle.std.proofs.Common.{◌≡◌, refl, sym, ap, ◌∙◌, subst, inl, inr, ℕ, zero, suc, ◌+◌, ◌-◌, ◌<◌, ◌≤◌, arith, Bool, true, false, ◌||◌, ◌==◌, List, [], ◌∷◌, length, get_or, Some, slice_get}
+use Rattle.std.proofs.Common.{rules as std_rules, ◌≡◌, refl, sym, ap, ◌∙◌, subst, inl, inr, ℕ, zero, suc, ◌+◌, ◌-◌, ◌<◌, ◌≤◌, arith, Bool, true, false, ◌||◌, ◌==◌, List, [], ◌∷◌, length, get_or, Some, slice_get}
 use Rattle.std.proofs.{Math.ListN.length-map, lemmas.Bool.Decides.nat_tests}
 use Rattle.std.proofs.lemmas.{Bool.eqb-true, Bool.or_cases as either, Bool.or_left as left_true, Bool.or_right as right_true, Option.slice_get_within}
 use Rattle.std.specs.{Borrow.Bor, List.AllByRecursion, List.Contains}
@@ -25,19 +25,6 @@ none_closed parts roots from past = record {
 }
 
 module _ (parts : List (List ℕ)) (roots now : List Bool) (from number : ℕ) (next : from ≡ number + 1) (before : AreClosed parts roots now from) where
-  -- a type that isn't marked marks none
-  pub stays_closed : is_marked now number ≡ false → AreClosed parts roots now number
-  stays_closed unmarked = record {
-    sound = before.sound;
-    roots_stay = before.roots_stay;
-    closed = λ m n ks behind e there in_parts. go (number == m) m n refl ks behind e there in_parts;
-  }
-    where
-      go : (b : Bool) (m n : ℕ) → (number == m) ≡ b → (ks : List ℕ) → number ≤ m → is_marked now m ≡ true → slice_get parts m ≡ Some ks → Contains ks (14 + n) → is_marked now n ≡ true
-      go true m n same ks behind e there in_parts = let equal : number ≡ m = eqb-true number m same in let is_not : is_marked now m ≡ false =
-          subst (λ (k : ℕ). is_marked now k ≡ false) equal unmarked in absurd cc
-      go false m n other ks behind e there in_parts = before.closed m n ks (grind (arith, nat_tests, other, behind, next)) e there in_parts
-
   module _ (here : List ℕ) (stands : slice_get parts number ≡ Some here) (falls : AllByRecursion (λ k. k < 14 + number) here)
       (new : List Bool) (same : (n : ℕ) → is_marked new n ≡ (is_marked now n || has here (14 + n))) where
     more : (n : ℕ) → is_marked now n ≡ true → is_marked new n ≡ true
@@ -105,8 +92,7 @@ module _ (ps : List (Bor (List ℕ))) (roots now : List Bool) (passed : ℕ) (le
   same_number = omega arith
 
   pub unmarked_turn : is_marked now (length ps - 1 - passed) ≡ false → AreClosed (parts_of ps) roots now (length ps - (passed + 1))
-  unmarked_turn unmarked = subst (λ (n : ℕ). AreClosed (parts_of ps) roots now n) same_number
-      (stays_closed (parts_of ps) roots now (length ps - passed) (length ps - 1 - passed) next_number before unmarked)
+  unmarked_turn unmarked = search std_rules
 
   pub marked_turn : PartsFall (parts_of ps) → (d : Bor (List ℕ)) → is_marked now (length ps - 1 - passed) ≡ true
       → (new : List Bool) → ((n : ℕ) → is_marked new n ≡ (is_marked now n || has (get_or ps (length ps - 1 - passed) d).now (14 + n))) → AreClosed (parts_of ps) roots new (length ps - (passed + 1))

@@ -1,10 +1,10 @@
 -- Views that are each compared with the first of their place.
-use Rattle.std.proofs.Common.{◌≡◌, refl, sym, ap, subst, ◌∙◌, ℕ, zero, suc, ◌+◌, ◌<◌, arith, Bool, true, false, not, ◌&&◌, ◌||◌, ◌==◌, cond, List, [], ◌∷◌, ◌++◌, map, take, length, get_or, Option, Some, None, Result, Ok, Err, IfOk, eq-eqb, append_assoc, ◌≤◌}
+use Rattle.std.proofs.Common.{rules as std_rules, ◌≡◌, refl, sym, ap, subst, ℕ, zero, suc, ◌+◌, ◌<◌, arith, Bool, true, false, not, ◌&&◌, ◌||◌, ◌==◌, cond, List, [], ◌∷◌, ◌++◌, map, take, length, get_or, Option, Some, None, Result, IfOk, eq-eqb, append_assoc, ◌≤◌}
 use Rattle.std.proofs.lemmas.{List.take_more, Bool.and_from as both}
 use Rattle.std.specs.{Cmp.Lexicographic.pointwise, List.AllByRecursion, List.find, List.list_all, List.list_any, Option.option_map_or}
 use Rattle.wit_model.specs.Text.{Text, text_eq}
 use Rattle.comp_meaning.specs.Same.{stand_in}
-use Rattle.plan_meaning.specs.NumberedViews.{NumberedFunction, NumberedSight, NumberedType, agree_with_first_in_numbers, agrees_with_first, first_at, first_whole_at, same_function, same_functions, same_id, same_number, same_shown, same_types, same_whole}
+use Rattle.plan_meaning.specs.NumberedViews.{NumberedFunction, NumberedSight, NumberedType, agree_with_first_in_numbers, agrees_with_first, first_whole_at, same_function, same_functions, same_id, same_shown, same_whole}
 use Rattle.read_rules.specs.declared.sights.Sight.{Sight}
 use Rattle.read_rules.specs.Sights.{numbered_sight}
 use Rattle.plan_parts.specs.declared.views.Sighted.{Sighted}
@@ -21,16 +21,10 @@ each_at P (x ∷ xs) (suc i) d h all = each_at P xs i d (omega (arith, h)) all.1
 -- ---- what is the same as itself
 
 id_self : (o : Option Text) → same_id o o ≡ true
-id_self None = refl
-id_self (Some t) = text_self t
-
-number_self : (o : Option ℕ) → same_number o o ≡ true
-number_self None = refl
-number_self (Some n) = eq-eqb n n refl
+id_self x = search std_rules
 
 type_self : (x : NumberedType) → same_shown x x ≡ true
-type_self x = both (text_eq x.name x.name) (same_number x.declared x.declared && same_id x.external_id x.external_id) (text_self x.name)
-    (both (same_number x.declared x.declared) (same_id x.external_id x.external_id) (number_self x.declared) (id_self x.external_id))
+type_self x = search std_rules
 
 types_self : (xs : List NumberedType) → pointwise same_shown xs xs ≡ true
 types_self [] = refl
@@ -41,21 +35,14 @@ function_self f = both (f.signature == f.signature) (same_id f.external_id f.ext
 
 any_behind : {A : Type 0} (test : A → Bool) (xs : List A) (x : A) (ys : List A) → test x ≡ true → list_any test (xs ++ x ∷ ys) ≡ true
 any_behind test [] x ys h = ap (λ b. b || list_any test ys) h
-any_behind test (y ∷ xs) x ys h = go (test y) (any_behind test xs x ys h)
-  where
-    go : (b : Bool) → list_any test (xs ++ x ∷ ys) ≡ true → (b || list_any test (xs ++ x ∷ ys)) ≡ true
-    go true rest = refl
-    go false rest = rest
+any_behind test (y ∷ xs) x ys h = search (std_rules, any_behind test xs x ys h)
 
 named_self : (f : Text × NumberedFunction) → (text_eq f.0 f.0 && same_function f.1 f.1) ≡ true
 named_self f = both (text_eq f.0 f.0) (same_function f.1 f.1) (text_self f.0) (function_self f.1)
 
 all_stand : (before fs : List (Text × NumberedFunction)) → list_all (λ x. list_any (λ y. text_eq x.0 y.0 && same_function x.1 y.1) (before ++ fs)) fs ≡ true
 all_stand before [] = refl
-all_stand before (f ∷ fs) =
-    both (list_any (λ y. text_eq f.0 y.0 && same_function f.1 y.1) (before ++ f ∷ fs)) (list_all (λ x. list_any (λ y. text_eq x.0 y.0 && same_function x.1 y.1) (before ++ f ∷ fs)) fs)
-    (any_behind (λ y. text_eq f.0 y.0 && same_function f.1 y.1) before f fs (named_self f))
-    (ap (λ l. list_all (λ x. list_any (λ y. text_eq x.0 y.0 && same_function x.1 y.1) l) fs) (sym (append_assoc before (f ∷ []) fs)) ∙ all_stand (before ++ f ∷ []) fs)
+all_stand before (f ∷ fs) = search (std_rules, both, any_behind, named_self, append_assoc, all_stand (before ++ f ∷ []) fs)
 
 functions_self : (fs : List (Text × NumberedFunction)) → same_functions fs fs ≡ true
 functions_self fs = both (length fs == length fs) (stand_in same_function fs fs) (eq-eqb (length fs) (length fs) refl) (all_stand [] fs)
@@ -81,29 +68,18 @@ find_past test (y ∷ xs) ys e = go (test y) (find_past test xs ys) e
 -- what is said of the first is said alike, where it holds of the view itself
 alike : {A : Type 0} (test says : A → Bool) (before : List A) (s : A) (rest : List A) → test s ≡ true → says s ≡ true → (o : Option A) → find test before ≡ o
     → option_map_or says (find test before) true ≡ option_map_or says (find test (before ++ s ∷ rest)) true
-alike test says before s rest own self (Some x) e = ap (λ v. option_map_or says v true) (e ∙ sym (find_on test before (s ∷ rest) x e))
-alike test says before s rest own self None e =
-    let first : find test (before ++ s ∷ rest) ≡ Some s = find_past test before (s ∷ rest) e ∙ ap (λ b. cond b (Some s) (find test rest)) own in
-    ap (λ v. option_map_or says v true) e ∙ (sym self ∙ ap (λ v. option_map_or says v true) (sym first))
+alike test says before s rest own self y e = search (std_rules, find_on, find_past)
 
 wholes_alike : (before : List NumberedSight) (s : NumberedSight) (rest : List NumberedSight) (w : Bool) → s.whole ≡ w
     → (not w || option_map_or (λ f. same_whole f s) (first_whole_at s.place before) true) ≡ (not w || option_map_or (λ f. same_whole f s) (first_whole_at s.place (before ++ s ∷ rest)) true)
-wholes_alike before s rest false e = refl
-wholes_alike before s rest true e =
-    alike (λ f. s.place == f.place && f.whole) (λ f. same_whole f s) before s rest (both (s.place == s.place) s.whole (eq-eqb s.place s.place refl) e) (functions_self s.view.functions)
-    (first_whole_at s.place before) refl
+wholes_alike before s rest x e = search (std_rules, alike, both, eq-eqb, functions_self)
 
 one_alike : (before : List NumberedSight) (s : NumberedSight) (rest : List NumberedSight) → agrees_with_first before s ≡ agrees_with_first (before ++ s ∷ rest) s
-one_alike before s rest =
-    let types = alike (λ f. s.place == f.place) (λ f. same_types f s) before s rest (eq-eqb s.place s.place refl) (types_self s.view.types) (first_at s.place before) refl in
-    let wholes = wholes_alike before s rest s.whole refl in
-    λ i. types i && wholes i
+one_alike before s rest = search (std_rules, alike, eq-eqb, types_self, wholes_alike)
 
 pub all_alike : (before seen : List NumberedSight) → agree_with_first_in_numbers before seen ≡ list_all (agrees_with_first (before ++ seen)) seen
 all_alike before [] = refl
-all_alike before (s ∷ rest) =
-    let later = all_alike (before ++ s ∷ []) rest ∙ ap (λ l. list_all (agrees_with_first l) rest) (append_assoc before (s ∷ []) rest) in
-    λ i. one_alike before s rest i && later i
+all_alike before (s ∷ rest) = search (std_rules, append_assoc, one_alike, all_alike (before ++ s ∷ []) rest)
 
 -- ---- so many places
 
@@ -133,5 +109,4 @@ places_kept n (y ∷ all) (x ∷ xs) e h =
     (omega (arith, place, h.0), places_kept n all xs rest h.1)
 
 pub by_first : {E : Type 0} (r : Result Bool E) (seen : List NumberedSight) → IfOk r (λ b. b ≡ list_all (agrees_with_first seen) seen) → IfOk r (λ b. b ≡ agree_with_first_in_numbers [] seen)
-by_first (Ok b) seen h = h ∙ sym (all_alike [] seen)
-by_first (Err e) seen h = tt
+by_first x seen h = search (std_rules, all_alike)

@@ -1,5 +1,5 @@
 -- The component type of an interface, in numbers.
-use Rattle.std.proofs.Common.{◌≡◌, refl, sym, ap, subst, ◌∙◌, ℕ, Bool, true, false, not, ◌&&◌, List, [], ◌∷◌, map, Option, Some, None, option_map, is_none}
+use Rattle.std.proofs.Common.{rules as std_rules, arith, ◌≡◌, refl, sym, ap, subst, ◌∙◌, ℕ, Bool, true, false, not, ◌&&◌, List, [], ◌∷◌, map, Option, Some, None, option_map, is_none}
 use Rattle.std.proofs.lemmas.Option.{same_Some as same-some}
 use Rattle.std.specs.List.{AllByRecursion}
 use Rattle.wit_model.specs.{Names.PackageIdentity, Text.Text, Text.text_eq}
@@ -27,8 +27,7 @@ PlacedStands t i = HasPath t i.0 × DeclaresParts t i.1
 
 module _ (t : Tables) (known : ℕ → Fact) (home : ℕ) where
   part_over : (p : ℕ) (d : Option ℕ) → AllOf (IsKnown t known p) d → AllOf (IsPart t) d
-  part_over p None h = tt
-  part_over p (Some k) h = h.part
+  part_over p x h = search std_rules
 
   types_over : (p : ℕ) (xs : List NumberedType) → AllByRecursion (λ (x : NumberedType). AllOf (IsKnown t known p) x.declared) xs → DeclaresParts t (record { types = xs; functions = [] })
   types_over p [] h = tt
@@ -123,15 +122,7 @@ module _ (t : Tables) (tables : AreTables t) (h : Homes) (stand : HomesStand t h
       (found_of (shown_view t e) (map (shown_view t) is))
       (labelled e home (λ package_. provided (distinct (path_text t e.0 ∷ map (λ i. i.0) (map (shown_view t) is)) && reads.are_reached (map (shown_view t) is) (view_of t e.1))
       (package_, reads.interface (view_of t e.1) (map (shown_view t) is))))
-  followed e s is all false fails =
-      (λ i. labelled_path wanted (path_text t e.0) >>= λ package_. provided ((test_same e s is all ∙ fails) i) (one_part package_)) ∙ nothing (labelled_path wanted (path_text t e.0))
-    where
-      one_part : PackageIdentity → PackageIdentity × Part
-      one_part package_ = (package_, reads.interface (view_of t e.1) (map (shown_view t) is))
-
-      nothing : (o : Option PackageIdentity) → (o >>= λ package_. provided false (one_part package_)) ≡ None
-      nothing None = refl
-      nothing (Some p) = refl
+  followed e s is all false fails = grind (arith, test_same)
 
   module _ (known : ℕ → Fact) (w : NumberedScope) (stands : ScopeStands t known w) where
     by_views : (exported : Option Placed) → exported_view w.exports ≡ exported → (imports : Option (List Placed)) → each imported_view w.imports ≡ imports

@@ -1,5 +1,5 @@
 -- A declaration is read by its first bytes.
-use Rattle.std.proofs.Common.{rules as std_rules, ◌≡◌, refl, ap, ℕ, List, [], ◌∷◌, ◌++◌, Option, cond, eqb, Bool}
+use Rattle.std.proofs.Common.{rules as std_rules, ◌≡◌, ap, ℕ, List, ◌++◌, Option, cond, Bool}
 use Rattle.comp_bytes.specs.Raw.{Declaration}
 use Rattle.comp_bytes.specs.Reading.{choose, tagged_at, declaration_at, function_type_forms, defined_type_forms}
 use Rattle.comp_bytes.proofs.FirstByteLaws.{declared_types_chosen}

@@ -1,5 +1,5 @@
 -- Types of values and of functions in tables that grow.
-use Rattle.std.proofs.Common.{rules as std_rules, ◌≡◌, ◌⊎◌, refl, sym, ap, ◌∙◌, subst, ℕ, zero, suc, ◌+◌, ◌<◌, ◌≤◌, arith, inl, inr, true, false, List, [], ◌∷◌, ◌++◌, map, length, Option, Some, None, option_map, IfSome, slice_get, unwrap_or, append_assoc, append-nil, length-append}
+use Rattle.std.proofs.Common.{rules as std_rules, ◌≡◌, ◌⊎◌, refl, sym, ap, ◌∙◌, subst, ℕ, zero, suc, ◌+◌, ◌<◌, ◌≤◌, arith, inl, inr, true, false, List, [], ◌∷◌, ◌++◌, map, length, Option, Some, option_map, IfSome, slice_get, unwrap_or, append_assoc, append-nil, length-append}
 use Rattle.std.proofs.lemmas.{Bool.cases_lt, Option.slice_get_past, Option.slice_get_within as found_below}
 use Rattle.std.specs.List.{AllByRecursion}
 use Rattle.wit_model.specs.{Meaning.Signature, Text.Text, Tree.Form, Tree.Place, Tree.Tree, Tree.children, Types.no_tree}
@@ -11,7 +11,7 @@ use Rattle.read_follow.specs.{DefinitionKeys.HasNoKeys, DefinitionKeys.IsNodeOf,
 use Rattle.read_follow.specs.Functions.{functions_in, param_tree, signature_in, AreApart, AreFunctionsIn, FunctionShape, IsFunctionIn}
 use Rattle.read_follow.specs.Numbering.{bare_parts, scoped_trees}
 use Rattle.plan_meaning.specs.PlanRules.{is_form}
-use Rattle.plan_meaning.specs.Shapes.{Shape, code, form_of, named_shape, node_shape, part_tree, shape_tree, shape_trees, Adds, stays, comes, IsShape, a_name, a_node, IsTable}
+use Rattle.plan_meaning.specs.Shapes.{Shape, code, form_of, named_shape, node_shape, part_tree, shape_tree, shape_trees, Adds, stays, comes, IsShape, a_node, IsTable}
 use Rattle.plan_meaning.proofs.ShapeLaws.{form_back, name_tree, node_tree, one_number, part_behind, tree_at_number}
 use Rattle.plan_meaning.proofs.ShapesLemmas.{no_sort as no_name}
 use Rattle.read_follow.proofs.{NumberingLaws.adds_next, TableGrowth.part_kept, TableGrowth.trees_length, TableGrowth.trees_more}

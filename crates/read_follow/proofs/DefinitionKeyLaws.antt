@@ -1,9 +1,9 @@
 -- The key of each form, from the parts that its indexes stand for.
-use Rattle.std.proofs.Common.{rules as std_rules, ◌≡◌, refl, sym, ap, ◌∙◌, subst, ℕ, zero, suc, ◌&&◌, ◌+◌, ◌<◌, ◌≤◌, arith, inl, inr, Bool, true, false, List, [], ◌∷◌, ◌++◌, map, length, Option, Some, None, Result, Ok, Err, IfOk, IfSome, IsOkUnless, is_some, option_map, option_to_list, unwrap_or, slice_get}
-use Rattle.std.proofs.lemmas.{Bool.le-leb, Bool.lt-leb, Bool.lt-ltb, Option.slice_get_past}
-use Rattle.std.specs.{Prelude.nat_le, Option.option_map_or, List.AllByRecursion}
+use Rattle.std.proofs.Common.{rules as std_rules, ◌≡◌, refl, sym, ap, ◌∙◌, subst, ℕ, ◌&&◌, ◌+◌, ◌<◌, ◌≤◌, arith, inl, inr, Bool, true, false, List, [], ◌∷◌, ◌++◌, map, length, Option, Some, None, Result, Ok, Err, IfOk, IfSome, IsOkUnless, is_some, option_map, option_to_list, unwrap_or, slice_get}
+use Rattle.std.proofs.lemmas.{Bool.le-leb, Bool.lt-ltb, Option.slice_get_past}
+use Rattle.std.specs.{List.AllByRecursion}
 use Rattle.wit_model.specs.{Meaning.Signature, Types.no_tree}
-use Rattle.wit_model.specs.Tree.{Form, Primitive, Tree, children, fixed_list_tree, future_tree, map_tree, result_tree, stream_tree}
+use Rattle.wit_model.specs.Tree.{Form, Tree, children, fixed_list_tree, future_tree, map_tree, result_tree, stream_tree}
 use Rattle.comp_bytes.specs.declared.forms.{ComponentDefinedType.ComponentDefinedType, ComponentValType.ComponentValType, PrimitiveValType.PrimitiveValType}
 use Rattle.comp_bytes.specs.{Raw.DefinedType, Reading.◌>>=◌}
 use Rattle.comp_meaning.specs.Follow.{definition, given, is_key, is_key_primitive, provided, value_type}

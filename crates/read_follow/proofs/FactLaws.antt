@@ -1,6 +1,6 @@
 -- Facts about types, by those about their parts.
 use Rattle.std.proofs.Common.{rules as std_rules, ◌≡◌, inl, inr, refl, sym, ap, ◌∙◌, subst, ℕ, zero, suc, ◌+◌, ◌-◌, ◌<◌, ◌≤◌, min, max, arith, Bool, true, false, not, ◌&&◌, ◌==◌, cond, List, [], ◌∷◌, ◌++◌, map, take, length, get_or, Some, slice_get, unwrap_or, append-nil, append_assoc}
-use Rattle.std.proofs.lemmas.{Bool.eq-eqb, Bool.eqb-true, Bool.lt-ltb, Bool.le-ltb, Bool.false≢true, List.take_more, List.map-append}
+use Rattle.std.proofs.lemmas.{Bool.eq-eqb, Bool.eqb-true, Bool.lt-ltb, Bool.false≢true, List.take_more, List.map-append}
 use Rattle.std.proofs.lemmas.List.Elements.{Contains-append_left, Contains-append_right, Contains-append_cases}
 use Rattle.std.specs.{Borrow.Bor, List.AllByRecursion, List.Contains}
 use Rattle.wit_model.specs.{Text.Text, Types.no_tree}
@@ -9,11 +9,10 @@ use Rattle.comp_meaning.specs.Rules.{is_named_form, form_labels, are_labels}
 use Rattle.read_follow.specs.declared.facts.{Fact.Fact, Names.Names, Summary.Summary}
 use Rattle.plan_meaning.specs.Shapes.{Shape, form_code, primitives, part_tree, shape_tree, IsShape, a_name, a_node}
 use Rattle.read_follow.specs.KeyShapes.{label_of}
-use Rattle.read_follow.specs.Facts.{places, places_in, is_plain, are_plain, below, labels_of, cap, joined, with_fact, primitive_fact, name_fact, node_fact, fact_at, is_named_sort, AreOf, Tells, FactsHold, Sums}
+use Rattle.read_follow.specs.Facts.{places, places_in, is_plain, are_plain, cap, joined, with_fact, primitive_fact, name_fact, node_fact, fact_at, is_named_sort, AreOf, Tells, FactsHold, Sums}
 use Rattle.plan_meaning.proofs.ShapeLaws.{name_tree, node_tree, part_front, split_part, first_marked}
 use Rattle.plan_meaning.proofs.ShapesLemmas.{no_sort as sort_of_form}
 use Rattle.base_lemmas.proofs.{Bools.and-true as and_true, Bools.and_assoc, Bools.and_flip, Lists.mapped_get, Lists.within_there as slice_there}
-use Rattle.base_lemmas.proofs.Elements.{contains-one as of_one}
 use Rattle.wit_model.specs.Tree as tree
 use Rattle.read_follow.specs.declared.facts.Names.TheVariants as names
 

@@ -1,5 +1,5 @@
 -- A scope of an instance type in tables that grow, and what each declaration does to it.
-use Rattle.std.proofs.Common.{rules as std_rules, ◌≡◌, refl, sym, ap, ◌∙◌, subst, ℕ, ◌+◌, ◌<◌, ◌≤◌, arith, inl, Bool, List, [], ◌∷◌, ◌++◌, map, length, Option, Some, None, option_map, IfSome, Result, Ok, Err, IfErr, OnOk, slice_get, unwrap_or}
+use Rattle.std.proofs.Common.{rules as std_rules, ◌≡◌, refl, sym, ap, ◌∙◌, subst, ℕ, ◌+◌, ◌<◌, ◌≤◌, arith, Bool, List, [], ◌∷◌, ◌++◌, map, length, Option, Some, None, option_map, IfSome, Result, IfErr, OnOk, slice_get, unwrap_or}
 use Rattle.std.proofs.{Math.ListN.length-map, lemmas.List.map-append, lemmas.Option.slice_get_within as found_below}
 use Rattle.std.specs.List.{AllByRecursion}
 use Rattle.wit_model.specs.{Meaning.Signature, Text.Text, Tree.Place, Tree.Tree, Types.no_tree}

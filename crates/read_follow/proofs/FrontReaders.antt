@@ -6,7 +6,6 @@ use Rattle.wit_model.specs.declared.error.Error.{Error}
 use Rattle.comp_bytes.specs.{Answer.Refuses as RefusesAt, Form.Spellings, Number.IsU32, Reading.Reader, Reading.type_index_at, Reading.u32_at, Laws.IsReadBy}
 use Rattle.comp_bytes.proofs.{FormLaws.type_index_law, NumberLaws.u32_law}
 use Rattle.read_follow.specs.Found.{Refuses, refusal_from, IsNoReading}
-use Rattle.wit_model.specs.declared.error.Error.TheVariants as errors
 
 -- a reader that takes no memory refuses because of the bytes
 pub because_of_bytes : (e : Error) (bytes : List ℕ) (why : Type 0) → RefusesAt e bytes why → IsNoReading e

@@ -1,5 +1,5 @@
 -- Keys are the same exactly where their shapes are.
-use Rattle.std.proofs.Common.{rules as std_rules, ◌≡◌, refl, sym, ap, ◌∙◌, ℕ, Bool, true, false, ◌&&◌, List, [], ◌∷◌, map, nat_eq, ◌==◌}
+use Rattle.std.proofs.Common.{rules as std_rules, ◌≡◌, refl, sym, ap, ◌∙◌, ℕ, Bool, true, ◌&&◌, List, [], ◌∷◌, map, nat_eq, ◌==◌}
 use mathlib.Core.Bool.{beq, true≢false}
 use Rattle.std.specs.{Borrow.Bor, Cmp.Lexicographic.pointwise}
 use Rattle.std.proofs.lemmas.{Bool.eqb-true, Bool.eq-eqb, Bool.and_from as both, Slice.Eq.bytes_eq-Decides}

@@ -10,7 +10,7 @@ pub mod FactLaws
 pub mod TableGrowth
 -- Types of values and of functions in tables that grow. Serves components::follow_component, defining::define, laws::one_function_number; crates above.
 pub mod DefiningLaws
--- What a definition stands for is over the places that the slots are over. Serves ComponentLaws, FollowingLaws, PlacedScopes, ScopedLaws and 3 more.
+-- What a definition stands for is over the places that the slots are over. Serves ComponentLaws, FollowingLaws, PlacedScopes, SeeLaws and 2 more.
 pub mod OverLaws
 -- Names stay in their places as a scope goes on. Serves ComponentLaws, FollowingLaws, PlacedScopes, ScopeLaws and 4 more; crates above.
 pub mod PlacedLaws

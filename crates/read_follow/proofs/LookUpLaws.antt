@@ -1,5 +1,5 @@
 -- Keys that are looked up by number.
-use Rattle.std.proofs.Common.{rules as std_rules, ◌≡◌, sym, ℕ, List, map, Option, Some, None, option_map, slice_get}
+use Rattle.std.proofs.Common.{rules as std_rules, ◌≡◌, ℕ, List, map, Option, option_map, slice_get}
 use Rattle.std.specs.Borrow.{Bor}
 use Rattle.read_follow.proofs.SlotLaws.{mapped_none}
 use Rattle.base_lemmas.proofs.Lists.{mapped_get}

@@ -2,7 +2,7 @@
 use Rattle.std.proofs.Common.{rules as std_rules, ◌≡◌, refl, sym, ap, ◌∙◌, subst, inl, inr, ◌⊎◌, ℕ, suc, zero, if◌then◌else◌, cond, List, [], ◌∷◌, ◌++◌, Option, Some, None, slice_get}
 use Rattle.std.proofs.lemmas.Map.Text.{btree_map_updates_str}
 use Rattle.std.specs.{Borrow.Bor, Map.lookup, Ordering.is_eq, Ordering.nat_cmp}
-use Rattle.std.specs.{BTreeMap.BTreeMap, BTreeMap.get, BTreeMap.get_by, BTreeMap.Updates, Cmp.Lexicographic.nat_list_eq_equiv, Cmp.Lexicographic.slice_cmp}
+use Rattle.std.specs.{BTreeMap.BTreeMap, BTreeMap.get, BTreeMap.get_by, BTreeMap.Updates, Cmp.Lexicographic.slice_cmp}
 use Rattle.wit_model.specs.Text.{Text, text_eq}
 use Rattle.read_follow.specs.declared.{slots.Slot.Slot, views.ShownType.ShownType, scopes.Instance.Instance}
 use Rattle.read_follow.specs.Defining.{Grows}

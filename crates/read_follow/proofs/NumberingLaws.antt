@@ -1,5 +1,5 @@
 -- Parts that are declared one after the other, each there already or the next one.
-use Rattle.std.proofs.Common.{rules as std_rules, ◌≡◌, refl, sym, ap, ◌∙◌, subst, ℕ, ◌+◌, ◌<◌, ◌≤◌, arith, inl, inr, List, [], ◌∷◌, ◌++◌, map, length, length-append, drop, Some, None, slice_get}
+use Rattle.std.proofs.Common.{rules as std_rules, ◌≡◌, refl, sym, ap, ◌∙◌, subst, ℕ, ◌+◌, ◌<◌, ◌≤◌, arith, inl, List, [], ◌∷◌, ◌++◌, map, length, length-append, drop, Some, None, slice_get}
 use Rattle.std.proofs.lemmas.{Grind.flat_map-append, List.append-nil, Option.slice_get_within as found_below}
 use Rattle.std.specs.List.{AllByRecursion, flat_map}
 use Rattle.wit_model.specs.{Meaning.Signature, Tree.Tree}

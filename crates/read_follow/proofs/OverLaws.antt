@@ -1,5 +1,5 @@
 -- What a definition stands for is over the places that the slots are over.
-use Rattle.std.proofs.Common.{rules as std_rules, ◌≡◌, inl, inr, refl, subst, ◌<◌, ℕ, zero, suc, arith, List, [], ◌∷◌, map, Option, Some, None, slice_get, IfSome, nat_le, get_or}
+use Rattle.std.proofs.Common.{rules as std_rules, ◌≡◌, inl, inr, refl, subst, ℕ, List, [], ◌∷◌, map, Option, Some, None, slice_get, IfSome, nat_le}
 use Rattle.std.proofs.lemmas.List.Elements.{Contains-append_cases}
 use Rattle.std.specs.List.{AllByRecursion, Contains}
 use Rattle.wit_model.specs.{Meaning.Signature, Text.Text, Tree.Place, Tree.Tree, Tree.children}

@@ -1,16 +1,14 @@
 -- Places that are put into a table, each once.
-use Rattle.std.proofs.Common.{rules as std_rules, ◌≡◌, inl, inr, refl, sym, ap, ◌∙◌, subst, ℕ, zero, suc, ◌+◌, ◌<◌, ◌≤◌, arith, Bool, true, false, ◌&&◌, ◌==◌, cond, List, [], ◌∷◌, ◌++◌, map, length, Option, Some, None, is_some, slice_get, unwrap_or, IfOk, Result, Ok, Err}
-use Rattle.std.proofs.{Math.ListN.length-map, lemmas.Slice.Eq.bytes_eq-Decides}
-use Rattle.std.proofs.lemmas.{Bool.eqb-true, Bool.eq-eqb, Bool.and_from as both, List.map-append, Option.slice_get_within as found_below}
+use Rattle.std.proofs.Common.{rules as std_rules, ◌≡◌, inl, refl, sym, ap, ◌∙◌, subst, ℕ, zero, suc, ◌+◌, ◌<◌, ◌≤◌, arith, Bool, true, false, ◌&&◌, ◌==◌, cond, List, [], ◌∷◌, ◌++◌, map, length, Option, Some, None, is_some, slice_get, unwrap_or, IfOk, Result}
+use Rattle.std.proofs.{Math.ListN.length-map}
+use Rattle.std.proofs.lemmas.{Bool.eqb-true, List.map-append, Option.slice_get_within as found_below}
 use Rattle.wit_model.specs.{Names.read_path, Text.Text, Text.text_eq, Text.text_of}
-use Rattle.comp_bytes.specs.Reading.{◌>>=◌}
-use Rattle.comp_meaning.specs.Follow.{complete_path, completed, provided}
+use Rattle.comp_meaning.specs.Follow.{complete_path}
 use Rattle.read_follow.specs.declared.{refusal.Refusal.Refusal, places.PlaceKey.PlaceKey}
 use Rattle.read_follow.specs.{Functions.Joins, Functions.stays, Functions.comes}
 use Rattle.read_follow.specs.Places.{path_in, place_shape, has_path, ArePathsApart, ArePlaces, IsOnlyNew, IsReadIfGiven}
 use Rattle.read_follow.proofs.{JoinLaws.joined_apart, SlotLaws.mapped_none}
-use Rattle.base_lemmas.proofs.{Bools.left_of as first_true, Bools.right_of as second_true, Lists.last_or, Lists.mapped_get}
-use Rattle.wit_model.proofs.TextLemmas.{text_same}
+use Rattle.base_lemmas.proofs.{Lists.last_or, Lists.mapped_get}
 use Rattle.read_follow.specs.contracts.places.PlaceKeyPartialEq.TheImpl as place_eq
 
 -- ---- equal keys

@@ -16,7 +16,6 @@ use Rattle.read_follow.proofs.PlacedLaws.{met_wider, name_wider, stands_on, stoo
 use Rattle.read_follow.proofs.ScopeLaws.{exported, extended, extended_meant, imported, view_stays, F, G, T, U}
 use Rattle.base_lemmas.proofs.{Elements.all_both, Lists.at_last, Lists.last_or, Lists.within_there as slice_there}
 use Rattle.wit_model.specs.Tree as tree
-use Rattle.comp_meaning.specs.Follow as follow
 use Rattle.read_follow.specs.declared.scopes.Shown.TheVariants as shown
 use Rattle.read_follow.specs.declared.slots.Slot.TheVariants as slots
 

@@ -1,7 +1,6 @@
 -- A refusal is passed on.
 use Rattle.std.proofs.Common.{rules as std_rules, ◌≡◌, Option, None}
 use Rattle.read_follow.specs.declared.refusal.Refusal.{Refusal}
-use Rattle.read_follow.specs.declared.refusal.Refusal.TheVariants as refusals
 use Rattle.read_follow.specs.Found.{Refuses}
 
 -- where nothing is found because nothing was found before

@@ -4,17 +4,16 @@ use Rattle.std.proofs.{Math.ListN.drop_of_length-le, lemmas.List.drop-map, lemma
 use Rattle.std.proofs.lemmas.{Bool.false≢true, Grind.flat_map-append}
 use Rattle.std.specs.{Borrow.Bor, List.flat_map, List.AllByRecursion}
 use Rattle.wit_model.specs.{Rules.has_items, Text.Text, Meaning.Signature}
-use Rattle.wit_model.specs.Tree.{Form, Tree, child, children, given, is_given, record_tree, tuple_tree, variant_tree}
+use Rattle.wit_model.specs.Tree.{Form, Tree, children, given, is_given, record_tree, tuple_tree, variant_tree}
 use Rattle.comp_bytes.specs.declared.forms.ComponentValType.{ComponentValType}
 use Rattle.comp_bytes.specs.{Raw.DefinedType, Raw.Labeled, RawOf.labeled, Reading.◌>>=◌}
-use Rattle.comp_bytes.proofs.Readers.{bind_some}
 use Rattle.comp_meaning.specs.Follow.{given as payload, case_type, definition, each, field_type, is_filled, provided, value_type}
 use Rattle.read_follow.specs.declared.{refusal.Refusal.Refusal, slots.Slot.Slot}
 use Rattle.read_follow.specs.{Found.Refuses, Slots.slots_in, Slots.AreInRange, DefinitionKeys.IsNodeOf}
 use Rattle.read_follow.specs.Rows.{behind_rows, case_labels, case_trees, field_labels, field_trees, value_labels, value_trees, RowsOf, RowsSoFar}
 use Rattle.plan_meaning.specs.Shapes.{marked, part_tree}
 use Rattle.read_follow.proofs.Refusing.{refused}
-use Rattle.base_lemmas.proofs.{Elements.all_end, Options.some_is}
+use Rattle.base_lemmas.proofs.{Elements.all_end}
 use Rattle.wit_model.proofs.RulesLemmas.{items_of_map as mapped_items}
 
 pub behind_none : {Y : Type 0} (found : Option (List Y)) → behind_rows [] found ≡ found

@@ -1,6 +1,6 @@
 -- A scope of a component type in tables that grow, with something more in it.
 use Rattle.std.proofs.Common.{rules as std_rules, ◌≡◌, ◌⊎◌, inl, inr, refl, sym, ap, ◌∙◌, subst, ℕ, zero, suc, ◌+◌, ◌<◌, ◌≤◌, ◌==◌, ◌||◌, arith, Bool, true, false, cond, List, [], ◌∷◌, ◌++◌, map, length, length-append, Option, Some, None, slice_get, unwrap_or, option_map}
-use Rattle.std.proofs.lemmas.{Bool.eq-eqb, List.append-nil, List.map-append, Option.slice_get_within as found_below}
+use Rattle.std.proofs.lemmas.{Bool.eq-eqb, List.map-append, Option.slice_get_within as found_below}
 use Rattle.std.specs.List.{AllByRecursion, flat_map, list_any}
 use Rattle.wit_model.specs.{Meaning.Signature, Tree.Place, Tree.Tree}
 use Rattle.comp_bytes.specs.RawOf.{text_of}
@@ -16,7 +16,6 @@ use Rattle.plan_meaning.specs.Shapes.{Shape, shape_trees}
 use Rattle.read_follow.proofs.{DefiningLaws.all_at, DefiningLaws.longer, NumberingLaws.since_plus, PlacedLaws.stands_on, PlacedLaws.stood}
 use Rattle.read_follow.proofs.FollowingLaws.{declared_stays, functions_stay, signature_stays, slots_stay, types_stay, wider_declared, wider_functions, wider_number, wider_part, wider_slots, wider_types}
 use Rattle.base_lemmas.proofs.{Elements.all_both, Lists.length_of_map, Lists.slice_front, Lists.split_at}
-use Rattle.read_follow.specs.declared.instance_keys.InstanceKey.TheVariants as keys
 use Rattle.read_follow.specs.declared.scopes.Shown.TheVariants as shown
 use Rattle.read_follow.specs.declared.slots.Slot.TheVariants as slots
 

@@ -10,7 +10,7 @@ use Rattle.read_follow.specs.{Functions.functions_in, Functions.FunctionShape, S
 use Rattle.read_follow.specs.Numbering.{all_in, bare_parts, parts_in, slot_parts, slot_trees, CountUp}
 use Rattle.read_follow.specs.Scopes.{meant_at, AreScopedIn, IsPartOver, IsScopedIn, IsWorld, World}
 use Rattle.plan_meaning.specs.Shapes.{Shape, part_tree, shape_trees}
-use Rattle.read_follow.proofs.{DefiningLaws.part_grown, FollowingLaws.names_of, OverLaws.name_over, ScopeLaws.extended, ScopeLaws.IsNumbered}
+use Rattle.read_follow.proofs.{DefiningLaws.part_grown, FollowingLaws.names_of, ScopeLaws.extended, ScopeLaws.IsNumbered}
 use Rattle.read_follow.proofs.{NumberingLaws.bare_all, NumberingLaws.scoped_all, NumberingLaws.slots_declare, PlacedLaws.met_wider, PlacedLaws.stands_on}
 use Rattle.base_lemmas.proofs.{Elements.all_at_too, Lists.at_last, Lists.mapped_get}
 use Rattle.read_follow.specs.declared.slots.Slot.TheVariants as slots

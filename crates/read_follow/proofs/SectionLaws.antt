@@ -1,6 +1,6 @@
 -- Sections in front of bytes, and those behind them.
-use Rattle.std.proofs.Common.{rules as std_rules, ◌≡◌, refl, sym, ap, ◌∙◌, ℕ, ◌<◌, ◌≤◌, ◌^◌, arith, Bool, true, false, ◌&&◌, cond, ltb, nat_eq, List, [], ◌∷◌, ◌++◌, length, map, take, drop, Option, Some, None, append_assoc, append-nil}
-use Rattle.std.proofs.lemmas.{Bool.ne_eqb, Bool.eq-eqb, Bool.lt-ltb, Bool.ltb-true, Bool.false_from_ne_true, List.map-append, Cmp.nat_list_eq_equiv}
+use Rattle.std.proofs.Common.{rules as std_rules, ◌≡◌, refl, sym, ap, ◌∙◌, ℕ, ◌<◌, ◌≤◌, ◌^◌, arith, Bool, true, false, ◌&&◌, cond, ltb, nat_eq, List, [], ◌∷◌, ◌++◌, length, map, drop, Option, Some, None, append_assoc, append-nil}
+use Rattle.std.proofs.lemmas.{Bool.ne_eqb, Bool.eq-eqb, Bool.lt-ltb, Bool.ltb-true, Bool.false_from_ne_true, List.map-append}
 use Rattle.std.specs.List.{starts_with}
 use Rattle.wit_model.specs.declared.error.Error.{Error}
 use Rattle.comp_bytes.specs.{Levels.Piece, Levels.piece_of, Levels.pieces_in, Levels.levels_of, Reading.◌>>=◌, Reading.frame_at, Reading.name_at}
@@ -9,7 +9,6 @@ use Rattle.comp_bytes.proofs.{PartLaws.name_law, PieceLaws.pieces_by_frames}
 use Rattle.read_follow.specs.declared.refusal.Refusal.{Refusal}
 use Rattle.read_follow.specs.{Found.Refuses, Found.refusal_from, Found.IsNoReading, Pieces.piece_at, Pieces.AreAlike}
 use Rattle.wit_model.specs.declared.error.Error.TheVariants as errors
-use Rattle.read_follow.specs.declared.refusal.Refusal.TheVariants as refusals
 
 -- ---- the frame in front
 

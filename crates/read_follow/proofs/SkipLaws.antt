@@ -1,5 +1,5 @@
 -- What is behind a form that is read to find its end.
-use Rattle.std.proofs.Common.{rules as std_rules, ◌≡◌, refl, sym, ap, ◌∙◌, ℕ, suc, ◌+◌, ◌-◌, ◌<◌, ◌≤◌, arith, Bool, true, false, cond, eqb-true, List, [], ◌∷◌, Option, Some, None, ◌==◌}
+use Rattle.std.proofs.Common.{rules as std_rules, ◌≡◌, sym, ap, ◌∙◌, ℕ, suc, ◌+◌, ◌-◌, ◌<◌, ◌≤◌, arith, Bool, true, false, cond, List, ◌∷◌, Option, Some, None, ◌==◌}
 use Rattle.comp_bytes.specs.FirstByte.{declared_type_at, defined_type_at, function_type_at}
 use Rattle.comp_bytes.specs.Raw.{Declaration, DefinedType, ExternName}
 use Rattle.comp_bytes.specs.Reading.{Reader, ◌>>=◌, as_at, case_at, choose, declaration_at, description_at, extern_name_at, field_at, function_of, name_at, pair_at, plain_name, result_list_at, sequence_at, tagged_at, u32_at, value_type_at, vector_at}

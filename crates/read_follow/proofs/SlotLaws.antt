@@ -7,7 +7,6 @@ use Rattle.read_follow.specs.declared.slots.Slot.{Slot}
 use Rattle.plan_meaning.specs.Shapes.{part_tree}
 use Rattle.read_follow.specs.Slots.{slot_in, slots_in, resource_slot, primitive_index, AreInRange, IsName, AreNames}
 use Rattle.base_lemmas.proofs.Lists.{mapped_get}
-use Rattle.comp_bytes.specs.declared.forms.PrimitiveValType.TheVariants as primitives
 use Rattle.comp_bytes.specs.declared.forms.ComponentValType.TheVariants as values
 use Rattle.read_follow.specs.declared.slots.Slot.TheVariants as slots
 

@@ -1,5 +1,5 @@
 -- A table with one type more.
-use Rattle.std.proofs.Common.{rules as std_rules, ◌≡◌, inl, inr, refl, sym, ap, ◌∙◌, subst, ℕ, zero, suc, ◌+◌, ◌<◌, arith, List, [], ◌∷◌, ◌++◌, length, Some, slice_get, unwrap_or, length-append}
+use Rattle.std.proofs.Common.{rules as std_rules, ◌≡◌, inl, inr, refl, sym, ap, ◌∙◌, subst, ℕ, ◌+◌, ◌<◌, arith, List, [], ◌∷◌, ◌++◌, length, Some, slice_get, unwrap_or, length-append}
 use Rattle.wit_model.specs.{Tree.Place, Tree.Tree, Types.grow, Types.no_tree}
 use Rattle.wit_model.proofs.Tables.{grow_keeps}
 use Rattle.plan_meaning.specs.Shapes.{Shape, part_tree, shape_tree, shape_trees, IsShape, IsTable}

@@ -1,7 +1,7 @@
 -- What instances of a component type show, and what they use.
-use Rattle.std.proofs.Common.{rules as std_rules, ◌≡◌, ◌⊎◌, inl, inr, refl, sym, ap, ◌∙◌, subst, ℕ, zero, suc, ◌+◌, ◌<◌, ◌≤◌, ◌==◌, arith, Bool, true, false, not, ◌||◌, eqb, List, [], ◌∷◌, ◌++◌, map, length, length-append, take, Option, Some, None, slice_get, Result, Ok, Err, IfOk, IfErr}
+use Rattle.std.proofs.Common.{rules as std_rules, ◌≡◌, ◌⊎◌, inl, inr, refl, sym, ap, ◌∙◌, subst, ℕ, zero, suc, ◌+◌, ◌<◌, ◌≤◌, ◌==◌, arith, Bool, false, not, ◌||◌, eqb, List, [], ◌∷◌, ◌++◌, map, length, length-append, take, Option, Some, None, slice_get, Result, IfOk, IfErr}
 use Rattle.std.proofs.Math.ListN.{length-map}
-use Rattle.std.proofs.lemmas.{Bool.cases_lt, Bool.eqb-true, Bool.eq-eqb, List.append-nil, List.take-map, Option.slice_get_within as found_below}
+use Rattle.std.proofs.lemmas.{Bool.cases_lt, List.append-nil, List.take-map, Option.slice_get_within as found_below}
 use Rattle.std.specs.List.{list_any}
 use Rattle.wit_model.specs.{Meaning.Signature, Text.Text, Tree.Place, Tree.Tree}
 use Rattle.comp_bytes.specs.Reading.{◌>>=◌}
@@ -14,7 +14,7 @@ use Rattle.read_follow.specs.Following.{is_path, slots_at, AreMarked, AreSlotsIn
 use Rattle.read_follow.specs.{Functions.functions_in, Functions.FunctionShape, InstanceScopes.tables_of, InstanceScopes.IsViewOf, InstanceScopes.ShowsNothing}
 use Rattle.read_follow.specs.Numbering.{all_in, held_trees, instance_trees, scoped_trees, used_trees, CountUp}
 use Rattle.read_follow.specs.Places.{has_path, key_at, path_text, place_number, ArePlacesOf, IsFreshKey, IsKeyIn, IsKeyOf, IsOnlyNew}
-use Rattle.read_follow.specs.Scopes.{direction, instance_in, meant_at, path_of, seen_in, view_in, viewed, waiting, Goes, HasNoUsedView, IsFirstOf, IsImportNamed, IsInstanceIn, IsInstanceSeen, IsKeyPlaced, IsPlacedInstance, IsPlacedWorld, IsShownAs, IsShownBy, by_instance, by_import, IsUsedView, IsWorld, ShownOver, Stops, World}
+use Rattle.read_follow.specs.Scopes.{direction, instance_in, meant_at, path_of, seen_in, view_in, viewed, waiting, Goes, HasNoUsedView, IsFirstOf, IsImportNamed, IsInstanceIn, IsInstanceSeen, IsKeyPlaced, IsPlacedInstance, IsPlacedWorld, IsShownAs, IsShownBy, by_instance, IsUsedView, IsWorld, ShownOver, Stops, World}
 use Rattle.plan_meaning.specs.Shapes.{Shape, named_shape, shape_trees, IsTable}
 use Rattle.read_follow.proofs.{DefiningLaws.all_at, DefiningLaws.longer, FollowingLaws.name_part, FollowingLaws.slots_stay, FollowingLaws.if_err as if_refused}
 use Rattle.read_follow.proofs.{NumberingLaws.bare_all, NumberingLaws.scoped_all, PlacedLaws.stands_on, PlacedLaws.stood, SlotLaws.at_slot, SlotLaws.no_slot}
@@ -24,7 +24,6 @@ use Rattle.read_follow.proofs.ScopeLaws.{exported, extended, extended_world, goe
 use Rattle.read_follow.proofs.SeeLaws.{added_exports, added_imports, all_exported, all_imported, exports_are, imports_are, seen_plus}
 use Rattle.base_lemmas.proofs.{Lists.at_last, Numbers.nothing_more as none_before}
 use Rattle.comp_meaning.specs.Follow as follow
-use Rattle.read_follow.specs.declared.instance_keys.InstanceKey.TheVariants as keys
 use Rattle.read_follow.specs.declared.scopes.Shown.TheVariants as shown
 use Rattle.read_follow.specs.declared.slots.Slot.TheVariants as slots
 

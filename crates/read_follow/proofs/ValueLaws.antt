@@ -1,5 +1,5 @@
 -- Value types by their first byte.
-use Rattle.std.proofs.Common.{rules as std_rules, ◌≡◌, refl, sym, ap, ◌∙◌, ℕ, List, [], ◌∷◌, Option, Some, None, option_map, length, arith}
+use Rattle.std.proofs.Common.{rules as std_rules, ◌≡◌, sym, ap, ◌∙◌, ℕ, List, ◌∷◌, Option, Some, None, option_map, length}
 use Rattle.comp_bytes.specs.declared.forms.{PrimitiveValType.PrimitiveValType, ComponentValType.ComponentValType}
 use Rattle.comp_bytes.specs.Reading.{or_else, as_at, tagged_at, value_type_at, type_index_at, last_byte_of, u32_at, unsigned_at, ◌>>=◌}
 use Rattle.comp_bytes.specs.FirstByte.{primitive_beside}

@@ -1,5 +1,5 @@
 -- The packages of places, one place after the other.
-use Rattle.std.proofs.Common.{◌≡◌, inl, inr, refl, sym, ap, ◌∙◌, subst, ℕ, zero, suc, ◌+◌, ◌<◌, ◌≤◌, arith, List, [], ◌∷◌, ◌++◌, map, length, take, get_or, Option, Some, None, option_map, slice_get, unwrap_or, Result, Ok, Err, IfOk, OnOk}
+use Rattle.std.proofs.Common.{rules as std_rules, ◌≡◌, inl, inr, refl, sym, ap, ◌∙◌, subst, ℕ, zero, suc, ◌+◌, ◌<◌, ◌≤◌, arith, List, [], ◌∷◌, ◌++◌, map, length, take, get_or, Option, Some, None, option_map, slice_get, unwrap_or, Result, Ok, Err, IfOk, OnOk}
 use Rattle.std.proofs.lemmas.{List.map-append, List.take_all, List.take_more, Option.slice_get_within as found_below}
 use Rattle.std.specs.{Borrow.Bor, List.AllZip}
 use Rattle.std.specs.declared.alloc.AllocError.{AllocError}
@@ -23,9 +23,7 @@ joined_reason old new x (comes fresh) packages home e = λ n below.
     ]
 
 reason_of : (old new : List PackageIdentity) → ArePackages new → (path : Text) (home : Option (ℕ × Text)) → IsReadAs new path home → Takes old (package_read path) new → IsReason old new home
-reason_of old new packages path None reads takes =
-    let same : new ≡ old = subst (λ (o : Option (PackageIdentity × Text)). Takes old (option_map (λ x. x.0) o) new) reads takes in
-    λ n below. inl (omega (arith, below, ap length same))
+reason_of old new packages path None reads takes = search std_rules
 reason_of old new packages path (Some home) reads takes =
     joined_reason old new reads.0 (subst (λ (o : Option (PackageIdentity × Text)). Takes old (option_map (λ x. x.0) o) new) reads.2 takes) packages home reads.1
 
@@ -50,13 +48,11 @@ pub more_reasons : (first old new : List PackageIdentity) (homes : List (Option 
     → after ≡ homes ++ home ∷ []
     → HaveReasons first old (map given_home homes) → IsReason old new (given_home home) → HaveReasons first new (map given_home after)
 more_reasons first old new homes home after added have reason =
-    subst (λ (hs : List (Option (ℕ × Text))). HaveReasons first new hs) (sym (ap (map given_home) added ∙ map-append given_home homes (home ∷ [])))
-    (reasons_more first old new (map given_home homes) (given_home home) have reason)
+    search (std_rules, map-append given_home homes (home ∷ []), reasons_more first old new (map given_home homes) (given_home home) have reason)
 
 -- the package of a place is one of the packages
 home_below : (packages : List PackageIdentity) (path : Option Text) (n : ℕ) (name : Text) → IsHomeOf packages path (Some (n, name)) → n < length packages
-home_below packages None n name is = absurd cc
-home_below packages (Some path) n name is = found_below packages n is.0 is.1
+home_below packages x n name is = search (std_rules, found_below)
 
 in_order_more : (first old new : List PackageIdentity) (path : Option Text) (homes : List (Option (ℕ × Text))) (home : Option (ℕ × Text)) → IsHomeOf new path home → HaveReasons first old homes
     → IsReason old new home → ComeInOrder first homes
@@ -89,8 +85,7 @@ pub more_in_order : (first old new : List PackageIdentity) (path : Option Text) 
     → IsHomeOf new path (given_home home) → HaveReasons first old (map given_home homes) → IsReason old new (given_home home) → ComeInOrder first (map given_home homes)
     → ComeInOrder first (map given_home after)
 more_in_order first old new path homes home after added is have reason order =
-    subst (λ (hs : List (Option (ℕ × Text))). ComeInOrder first hs) (sym (ap (map given_home) added ∙ map-append given_home homes (home ∷ [])))
-    (in_order_more first old new path (map given_home homes) (given_home home) is have reason order)
+    search (std_rules, map-append given_home homes (home ∷ []), in_order_more first old new path (map given_home homes) (given_home home) is have reason order)
 
 pub more_homes : (old new : List PackageIdentity) → Grows old new → (paths : List (Option (Bor (List ℕ)))) (i : ℕ) (d : Option (Bor (List ℕ))) → i < length paths
     → (homes : List (Option (ℕ × Bor (List ℕ)))) (home : Option (ℕ × Bor (List ℕ))) (after : List (Option (ℕ × Bor (List ℕ)))) → after ≡ homes ++ home ∷ []
@@ -118,8 +113,7 @@ at_place packages (x ∷ paths) (home ∷ homes) all zero path e = let same : x 
 at_place packages (x ∷ paths) (home ∷ homes) all (suc p) path e = at_place packages paths homes all.1 p path e
 
 given_path : (o : Option (Option Text)) (path : Text) → unwrap_or o None ≡ Some path → o ≡ Some (Some path)
-given_path None path e = absurd cc
-given_path (Some x) path e = ap Some e
+given_path x path e = search std_rules
 
 module _ (t : Tables) (packages : List PackageIdentity) (are : ArePackages packages) (homes : List (Option (ℕ × Text))) (all : AllZip (IsHomeOf packages) t.paths homes) (paths : ArePaths t.paths) where
   pub homes_stand : HomesStand t (record { packages = packages; homes = homes })
@@ -140,6 +134,4 @@ module _ (t : Tables) (packages : List PackageIdentity) (are : ArePackages packa
 pub all_homes : (t : Tables) (packages : List PackageIdentity) → ArePackages packages → (paths : List (Option (Bor (List ℕ)))) (i : ℕ) → length paths ≤ i → (homes : List (Option (ℕ × Bor (List ℕ))))
     → AllZip (IsHomeOf packages) (map given_text (take i paths)) (map given_home homes)
     → t.paths ≡ map given_text paths → ArePaths t.paths → HomesStand t (record { packages = packages; homes = map given_home homes })
-all_homes t packages are paths i past homes all same are_paths =
-    homes_stand t packages are (map given_home homes)
-    (subst (λ (ps : List (Option Text)). AllZip (IsHomeOf packages) ps (map given_home homes)) (ap (map given_text) (take_all i paths past) ∙ sym same) all) are_paths
+all_homes t packages are paths i past homes all same are_paths = search (std_rules, homes_stand, take_all)

@@ -1,15 +1,13 @@
 -- Packages that each stand once, and what stands of places where there are more of them.
-use Rattle.std.proofs.Common.{◌≡◌, inl, inr, refl, sym, ap, ◌∙◌, subst, ℕ, zero, suc, Bool, true, false, ◌&&◌, ◌||◌, cond, List, [], ◌∷◌, ◌++◌, map, append_assoc, Option, Some, None, option_map, slice_get, OnOk, OnErr, Result, Ok, Err}
-use Rattle.std.proofs.lemmas.{List.append-nil, List.map-append, Bool.and_from as both, Bool.or_right as either_true, Option.slice_get_within as found_below}
-use Rattle.std.proofs.lemmas.Slice.Eq.{bytes_eq-Decides}
+use Rattle.std.proofs.Common.{rules as std_rules, ◌≡◌, refl, sym, ap, ◌∙◌, subst, ℕ, zero, suc, Bool, true, false, ◌&&◌, ◌||◌, cond, List, [], ◌∷◌, ◌++◌, map, append_assoc, Option, Some, option_map, slice_get, OnOk, OnErr, Result}
+use Rattle.std.proofs.lemmas.{List.map-append, Bool.or_right as either_true, Option.slice_get_within as found_below}
 use Rattle.std.specs.{Borrow.Bor, List.AllZip, List.list_any, Option.option_eq}
 use Rattle.std.specs.declared.alloc.AllocError.{AllocError}
 use Rattle.wit_model.specs.{Text.Text, Text.text_eq, Names.PackageIdentity}
 use Rattle.comp_bytes.specs.RawOf.{text_of}
 use Rattle.read_homes.specs.declared.packages.PackageTexts.{PackageTexts}
 use Rattle.read_homes.specs.Homes.{identity_of, AreApart, ArePackages, Grows, IsHomeOf, IsRead, Joins, stays, comes, KeepsHomes}
-use Rattle.base_lemmas.proofs.{Bools.left_of as first_true, Bools.right_of as second_true, Lists.last_or, Lists.none_there as nothing_at, Lists.slice_front}
-use Rattle.wit_model.proofs.TextLemmas.{text_same as same_text}
+use Rattle.base_lemmas.proofs.{Lists.last_or, Lists.none_there as nothing_at, Lists.slice_front}
 use Rattle.read_homes.specs.contracts.packages.PackageTextsPartialEq.TheImpl as texts_eq
 
 -- ---- equal texts
@@ -21,32 +19,13 @@ same_by : (a b : PackageTexts) → same_texts a b ≡ (text_eq a.namespace.now b
 same_by a b = refl
 
 versions_same : (a b : Option (Bor (List ℕ))) → option_eq (λ x y. text_eq x.now y.now) a b ≡ true → option_map text_of a ≡ option_map text_of b
-versions_same None None e = refl
-versions_same None (Some y) e = absurd cc
-versions_same (Some x) None e = absurd cc
-versions_same (Some x) (Some y) e = ap Some (same_text x.now y.now e)
-
-versions_again : (a b : Option (Bor (List ℕ))) → option_map text_of a ≡ option_map text_of b → option_eq (λ x y. text_eq x.now y.now) a b ≡ true
-versions_again None None e = refl
-versions_again None (Some y) e = absurd cc
-versions_again (Some x) None e = absurd cc
-versions_again (Some x) (Some y) e = let same : x.now ≡ y.now = cc in (bytes_eq-Decides x.now y.now).1 same
+versions_same z u e = search std_rules
 
 pub texts_same : (a b : PackageTexts) → same_texts a b ≡ true → identity_of a ≡ identity_of b
-texts_same a b e =
-    let others = second_true (text_eq a.namespace.now b.namespace.now) (text_eq a.name.now b.name.now && option_eq (λ x y. text_eq x.now y.now) a.version b.version) e in
-    let namespace = same_text a.namespace.now b.namespace.now (first_true (text_eq a.namespace.now b.namespace.now)
-    (text_eq a.name.now b.name.now && option_eq (λ x y. text_eq x.now y.now) a.version b.version) e) in
-    let name = same_text a.name.now b.name.now (first_true (text_eq a.name.now b.name.now) (option_eq (λ x y. text_eq x.now y.now) a.version b.version) others) in
-    let version = versions_same a.version b.version (second_true (text_eq a.name.now b.name.now) (option_eq (λ x y. text_eq x.now y.now) a.version b.version) others) in
-    λ i. record { namespace = namespace i; name = name i; version = version i }
+texts_same a b e = search std_rules
 
 pub texts_again : (a b : PackageTexts) → identity_of a ≡ identity_of b → same_texts a b ≡ true
-texts_again a b e =
-    both (text_eq a.namespace.now b.namespace.now) (text_eq a.name.now b.name.now && option_eq (λ x y. text_eq x.now y.now) a.version b.version)
-    ((bytes_eq-Decides a.namespace.now b.namespace.now).1 (ap (λ (x : PackageIdentity). x.namespace) e))
-    (both (text_eq a.name.now b.name.now) (option_eq (λ x y. text_eq x.now y.now) a.version b.version) ((bytes_eq-Decides a.name.now b.name.now).1 (ap (λ (x : PackageIdentity). x.name) e))
-    (versions_again a.version b.version (ap (λ (x : PackageIdentity). x.version) e)))
+texts_again a b e = search std_rules
 
 -- ---- one package more
 
@@ -67,35 +46,16 @@ joins ks new k false is e = subst (λ xs. Joins (map identity_of ks) (identity_o
 
 module _ (old : List PackageIdentity) (x : PackageIdentity) (packages : ArePackages old) where
   apart_more : ((n : ℕ) → slice_get old n ≡ Some x → ⊥) → AreApart (old ++ x ∷ [])
-  apart_more fresh n m y en em = elim (last_or old x n y en) [
-    | inl h ↦ elim (last_or old x m y em) [
-      | inl k ↦ packages.apart n m y h.1 k.1
-      | inr k ↦ absurd (fresh n (h.1 ∙ ap Some (sym k.1)))
-    ]
-    | inr h ↦ elim (last_or old x m y em) [
-      | inl k ↦ absurd (fresh m (k.1 ∙ ap Some (sym h.1)))
-      | inr k ↦ h.0 ∙ sym k.0
-    ]
-  ]
+  apart_more fresh n m y en em = search (std_rules, last_or)
 
   pub joined_packages : IsRead x → (new : List PackageIdentity) → Joins old x new → ArePackages new
   joined_packages read new stays = packages
-  joined_packages read new (comes fresh) = record {
-    apart = apart_more fresh;
-    read = λ n y e. elim (last_or old x n y e) [ inl h ↦ packages.read n y h.1 | inr h ↦ subst IsRead h.1 read ];
-  }
-
-pub joined_grows : (old new : List PackageIdentity) (x : PackageIdentity) → Joins old x new → Grows old new
-joined_grows old new x stays = record { more = []; is = sym (append-nil old) }
-joined_grows old new x (comes fresh) = record { more = x ∷ []; is = refl }
+  joined_packages read new (comes fresh) = search (std_rules, apart_more, last_or)
 
 pub no_packages : ArePackages []
 no_packages = record { apart = λ m n x em en. absurd (nothing_at m x em); read = λ n x e. absurd (nothing_at n x e) }
 
 -- ---- what stands where there are more
-
-pub same_grows : (ps : List PackageIdentity) → Grows ps ps
-same_grows ps = record { more = []; is = sym (append-nil ps) }
 
 pub grows_on : (a b c : List PackageIdentity) → Grows a b → Grows b c → Grows a c
 grows_on a b c x y = record { more = x.more ++ y.more; is = y.is ∙ (ap (λ l. l ++ y.more) x.is ∙ append_assoc a x.more y.more) }
@@ -105,9 +65,7 @@ module _ (old new : List PackageIdentity) (grows : Grows old new) where
   stands_on n x e = ap (λ ps. slice_get ps n) grows.is ∙ (slice_front old grows.more n (found_below old n x e) ∙ e)
 
   pub home_on : (path : Option Text) (home : Option (ℕ × Text)) → IsHomeOf old path home → IsHomeOf new path home
-  home_on None home h = h
-  home_on (Some path) None h = h
-  home_on (Some path) (Some home) h = (h.0, stands_on home.0 h.0 h.1, h.2)
+  home_on x home h = search (std_rules, stands_on)
 
   pub homes_on : (paths : List (Option Text)) (homes : List (Option (ℕ × Text))) → AllZip (IsHomeOf old) paths homes → AllZip (IsHomeOf new) paths homes
   homes_on [] [] h = h
@@ -131,5 +89,4 @@ module _ (old new : List PackageIdentity) (grows : Grows old new) where
 -- what was put among the packages, or left them as they were
 pub put_grows : (r : Result ℕ AllocError) (old new : List PackageTexts) (x : PackageIdentity) → OnOk r (Joins (map identity_of old) x (map identity_of new)) → OnErr r (new ≡ old)
     → Grows (map identity_of old) (map identity_of new)
-put_grows (Ok n) old new x joined kept = joined_grows (map identity_of old) (map identity_of new) x joined
-put_grows (Err e) old new x joined kept = subst (λ ks. Grows (map identity_of old) (map identity_of ks)) (sym kept) (same_grows (map identity_of old))
+put_grows y old new x joined kept = search std_rules
