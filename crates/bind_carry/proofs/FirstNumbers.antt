@@ -1,11 +1,11 @@
 -- Worlds that are carried by path have numbers of their own, and packages stand in packages of their names.
-use Rattle.std.proofs.Common.{rules as std_rules, ◌≡◌, ◌⊎◌, inl, inr, refl, sym, ap, subst, ◌∙◌, ℕ, zero, suc, ◌+◌, ◌<◌, arith, Bool, true, false, not, ◌&&◌, ◌||◌, List, [], ◌∷◌, ◌++◌, length, map, Option, Some, None, is_some, option_and_then, option_map, slice_get, unwrap_or}
+use Rattle.std.proofs.Common.{rules as std_rules, ◌≡◌, ◌⊎◌, inl, inr, refl, sym, ap, subst, ◌∙◌, ℕ, zero, suc, ◌+◌, ◌<◌, arith, Bool, true, false, not, ◌&&◌, ◌||◌, List, [], ◌∷◌, ◌++◌, length, map, Option, Some, None, is_some, option_map, slice_get, unwrap_or}
 use Rattle.std.proofs.lemmas.{List.length-map, Option.slice_get_within, List.Folds.list_all-map}
 use Rattle.std.specs.{Prelude.String, HashMap.get_by_text, List.list_all, List.Contains}
 use Rattle.std.specs.declared.alloc.Global.{Global}
 use Rattle.indexmap.specs.IndexMap.{values}
 use Rattle.wit_model.specs.declared.model.{Interface.Interface, InterfaceId.InterfaceId, Resolve.Resolve, TypeDef.TypeDef, TypeId.TypeId, WorldId.WorldId}
-use Rattle.wit_model.specs.{Lookup.interface_at, Lookup.interface_path, Lookup.path_in_package, Lookup.path_of_interface, Lookup.type_at, Parts.same_owner}
+use Rattle.wit_model.specs.{Lookup.interface_at, Lookup.interface_path, Lookup.type_at, Parts.same_owner}
 use Rattle.wit_model.specs.{Meaning.InterfaceSense, Uses.has, Valid.IsValid, Valid.as_interface, Valid.is_place, Valid.numbers_in_range, Valid.order_of_types}
 use Rattle.wit_model.specs.{Meant.interface_meaning, Meant.type_meaning_at, Text.Text, Text.optional_text, Text.text_of}
 use Rattle.wit_model.specs.Rules.{are_in_order, function_in_range, in_list, interface_type_numbers, is_named_of, package_number, passes}
@@ -79,18 +79,10 @@ module _ (own other : Resolve) (valid_other : IsValid other) (matched : List (Op
 -- ---- interfaces with a path
 
 pub named_of_path : (r : Resolve) (n : ℕ) (i : Interface) → interface_at r n ≡ Some i → is_some (interface_path r n) ≡ true → is_some i.name ≡ true
-named_of_path r n i at h = go i.name refl (sym (ap (λ o. is_some (option_and_then (path_of_interface r) o)) at) ∙ h)
-  where
-    go : (o : Option (String Global)) → i.name ≡ o → is_some (option_and_then (λ name. option_and_then (λ p. path_in_package r p.0 (text_of name)) i.«package») o) ≡ true → is_some i.name ≡ true
-    go None e k = no_true k
-    go (Some s) e k = ap is_some e
+named_of_path r n i at h = search std_rules
 
 pub there_of_path : (r : Resolve) (n : ℕ) → is_some (interface_path r n) ≡ true → (i : Interface) × (interface_at r n ≡ Some i)
-there_of_path r n h = go (interface_at r n) refl h
-  where
-    go : (o : Option Interface) → interface_at r n ≡ o → is_some (option_and_then (path_of_interface r) o) ≡ true → (i : Interface) × (interface_at r n ≡ Some i)
-    go None e k = no_true k
-    go (Some i) e k = (i, e)
+there_of_path r n h = search std_rules
 
 -- ---- what stands for what
 

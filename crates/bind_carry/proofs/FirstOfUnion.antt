@@ -1,11 +1,9 @@
 -- What a union adds, once it is added, has all that is carried by path.
-use Rattle.std.proofs.Common.{rules as std_rules, ◌≡◌, ◌⊎◌, inl, inr, refl, sym, ap, subst, ◌∙◌, ℕ, zero, suc, ◌+◌, ◌<◌, arith, Bool, true, false, ◌&&◌, ◌==◌, cond, List, [], ◌∷◌, ◌++◌, length, map, Option, Some, None, is_none, option_map, slice_get, unwrap_or, append-nil}
+use Rattle.std.proofs.Common.{rules as std_rules, ◌≡◌, ◌⊎◌, inl, inr, refl, sym, ap, subst, ◌∙◌, ℕ, zero, suc, ◌+◌, ◌<◌, arith, Bool, true, false, ◌==◌, cond, List, [], ◌∷◌, ◌++◌, length, map, Option, Some, None, is_none, option_map, slice_get, unwrap_or, append-nil}
 use Rattle.std.proofs.lemmas.{List.length-map, Option.slice_get_within as within_list}
-use Rattle.std.specs.{List.AllZip, Option.option_eq, Prelude.slice_set}
-use Rattle.semver.specs.declared.Version.{Version}
-use Rattle.semver.specs.Identifiers.{parts_of}
+use Rattle.std.specs.{List.AllZip, Prelude.slice_set}
 use Rattle.wit_model.specs.declared.model.{Package.Package, PackageId.PackageId, PackageName.PackageName, Resolve.Resolve, TypeDef.TypeDef, World.World}
-use Rattle.wit_model.specs.{Lookup.package_at, Rules.same_package_name, Rules.same_version, Text.text_eq, Text.text_of}
+use Rattle.wit_model.specs.{Lookup.package_at, Rules.same_package_name}
 use Rattle.bind_add.specs.Growth.{GainsNone, HaveGained}
 use Rattle.bind_add.specs.declared.added.Names.{Names}
 use Rattle.bind_copy.specs.Copies.{number_under}
@@ -17,28 +15,16 @@ use Rattle.bind_carry.specs.{Numbers.numbers_of, Numbers.package_number, Package
 use Rattle.bind_carry.specs.Whole.{kept}
 use Rattle.bind_carry.specs.declared.plan.Carried.{Carried}
 use Rattle.bind_carry.proofs.{FirstNumbers.uncopied_under, KeptPlaced.kept_placed, KeptPlaced.IsKeptAt}
-use Rattle.base_lemmas.proofs.{Bools.left_of as first_true, Bools.right_of as second_true, Lists.front_at, Lists.mapped_get as mapped_at}
+use Rattle.base_lemmas.proofs.{Lists.front_at, Lists.mapped_get as mapped_at}
 use Rattle.base_lemmas.proofs.Numbers.{equal, differ}
-use Rattle.wit_model.proofs.{TextLemmas.text_same}
 
 -- ---- Each package of the other stands in one of its name: in a new one, or in the own one that was found.
 
 -- ---- names
 
-optional_parts : (a b : Option Version) → option_eq same_version a b ≡ true → option_map parts_of b ≡ option_map parts_of a
-optional_parts x y h = search std_rules
-
 -- names that are the same have the same parts
 pub same_parts : (a b : PackageName) → same_package_name a b ≡ true → IsSameName a b
-same_parts a b h = record {
-  namespace = sym (text_same (text_of a.namespace) (text_of b.namespace)
-      (first_true (text_eq (text_of a.namespace) (text_of b.namespace)) (text_eq (text_of a.name) (text_of b.name) && option_eq same_version a.version b.version) h));
-  name = sym (text_same (text_of a.name) (text_of b.name) (first_true (text_eq (text_of a.name) (text_of b.name)) (option_eq same_version a.version b.version) rest));
-  version = optional_parts a.version b.version (second_true (text_eq (text_of a.name) (text_of b.name)) (option_eq same_version a.version b.version) rest);
-}
-  where
-    rest : (text_eq (text_of a.name) (text_of b.name) && option_eq same_version a.version b.version) ≡ true
-    rest = second_true (text_eq (text_of a.namespace) (text_of b.namespace)) (text_eq (text_of a.name) (text_of b.name) && option_eq same_version a.version b.version) h
+same_parts a b h = search std_rules
 
 -- ---- the own package that was found
 

@@ -8,7 +8,7 @@ use Rattle.std.specs.declared.alloc.Global.{Global}
 use Rattle.wit_model.specs.declared.model.{Interface.Interface, InterfaceId.InterfaceId, World.World, WorldItem.WorldItem, WorldKey.WorldKey, Function.Function}
 use Rattle.wit_model.specs.declared.model.{Resolve.Resolve, TypeDef.TypeDef, TypeId.TypeId}
 use Rattle.wit_model.specs.{Lookup.interface_at, Lookup.package_at, Lookup.world_at, Lookup.type_at, Text.text_of, Uses.has, Uses.item_interface, Uses.items_of}
-use Rattle.wit_model.specs.Rules.{interface_is_listed, is_id, is_world_name, package_number, times_shown, entries_in_range, export_stands, import_stands, in_list, is_interface_key, item_in_range, key_in_range, passes, text_is}
+use Rattle.wit_model.specs.Rules.{interface_is_listed, is_id, is_world_name, package_number, times_shown, entries_in_range, export_stands, import_stands, in_list, is_interface_key, item_in_range, key_in_range, passes}
 use Rattle.wit_model.specs.Valid.{IsValid, places, as_world, is_place, item_function, numbers_in_range, world_items, as_interface}
 use Rattle.wit_model.specs.Parts.{same_owner}
 use Rattle.wit_model.proofs.{OnePath.interface-passes, OnePath.found-in, PartsLemmas.owner_same as owner_equal, ValidLemmas.world_passes}
@@ -85,10 +85,8 @@ sum_one f (x ∷ xs) (suc n) b at q = let r = sum_one f xs n b at q in let total
 pub sum_two : {X : Type 0} (f : X → ℕ) (xs : List X) (m n : ℕ) (a b : X) → slice_get xs m ≡ Some a → slice_get xs n ≡ Some b → 1 ≤ f a → 1 ≤ f b → (m ≡ n → ⊥) → 2 ≤ sum_by f xs
 sum_two f [] m n a b at_a at_b p q apart = let wrong : ⊥ = cc in absurd wrong
 sum_two f (x ∷ xs) zero zero a b at_a at_b p q apart = absurd (apart refl)
-sum_two f (x ∷ xs) zero (suc n) a b at_a at_b p q apart = let one : 1 ≤ f x = subst (λ y. 1 ≤ f y) (sym (some_same x a at_a)) p in let more = sum_one f xs n b at_b q in let total =
-    sum_by-cons f x xs in omega (arith, one, more, total)
-sum_two f (x ∷ xs) (suc m) zero a b at_a at_b p q apart = let one : 1 ≤ f x = subst (λ y. 1 ≤ f y) (sym (some_same x b at_b)) q in let more = sum_one f xs m a at_a p in let total =
-    sum_by-cons f x xs in omega (arith, one, more, total)
+sum_two f (x ∷ xs) zero (suc n) a b at_a at_b p q apart = search (std_rules, some_same, sum_one, sum_by-cons)
+sum_two f (x ∷ xs) (suc m) zero a b at_a at_b p q apart = search (std_rules, some_same, sum_one, sum_by-cons)
 sum_two f (x ∷ xs) (suc m) (suc n) a b at_a at_b p q apart = let r = sum_two f xs m n a b at_a at_b p q (λ e. apart (ap suc e)) in let total = sum_by-cons f x xs in omega (arith, r, total)
 
 -- ---- worlds that are copied
@@ -159,17 +157,7 @@ module _ (r : Resolve) (valid : IsValid r) where
   -- so by one world
   pub one_shows : (m : ℕ) (i : Interface) → interface_at r m ≡ Some i → i.name ≡ None → (a b : ℕ) (w v : World) → world_at r a ≡ Some w → world_at r b ≡ Some v → 1 ≤ times_shown m w
       → 1 ≤ times_shown m v → a ≡ b
-  one_shows m i at none a b w v at_w at_v p q = go (a == b) refl
-    where
-      once : sum_by (times_shown m) r.worlds.items ≡ 1
-      once = inline_once m i at none
-
-      differ : (a == b) ≡ false → a ≡ b → ⊥
-      differ f e = let wrong : true ≡ false = sym (same-number a) ∙ (ap (λ (x : ℕ). a == x) e ∙ f) in let no : ⊥ = cc in no
-
-      go : (t : Bool) → (a == b) ≡ t → a ≡ b
-      go true e = equal a b e
-      go false e = let two = sum_two (times_shown m) r.worlds.items a b w v at_w at_v p q (differ e) in absurd (omega (arith, two, once))
+  one_shows m i at none a b w v at_w at_v p q = grind (arith, inline_once, same-number, equal, sum_two)
 
 -- ---- the whole
 
@@ -278,14 +266,9 @@ module _ (own other : Resolve) (valid : IsValid other) (matched : List (Option I
   item_ready : (i : WorldItem) → item_in_range other i ≡ true → ((id : TypeId) → i ≡ item.Type_ id → passes (λ def. same_owner def.owner (as_world n)) (type_at other id.0) ≡ true)
       → ((m : ℕ) → is_id m (item_interface i) ≡ true → is_shown m ≡ true)
       → list_all function_ready (option_to_list (item_function i)) ≡ true → IsItemReady f i
-  item_ready (item.Interface id stability docs external_id) range owned shown functions =
-      let i = found-in other.interfaces.items id.0 range in
-      interface_ready id.0 i.0 i.1 (shown id.0 (same-number id.0))
+  item_ready (item.Interface id stability docs external_id) range owned shown functions = grind (arith, found-in, interface_ready, same-number)
   item_ready (item.Function g) range owned shown functions = first_true (function_ready g) true functions
-  item_ready (item.Type_ id) range owned shown functions =
-      let d = found-in other.types.items id.0 range in
-      let home = owner_equal d.0.owner (as_world n) (sym (ap (passes (λ def. same_owner def.owner (as_world n))) d.1) ∙ owned id refl) in
-      world_owned_copied own other valid matched c numbers chosen id.0 d.0 d.1 (record { 0 = n }) home set
+  item_ready (item.Type_ id) range owned shown functions = search (std_rules, found-in, owner_equal, world_owned_copied, set)
 
   entry_ready : (e : WorldKey × WorldItem) → EntryFacts e → IsKeyReady f e.0 × IsItemReady f e.1
   entry_ready e facts = search (std_rules, key_ready, first_true, item_ready, second_true)
@@ -316,26 +299,13 @@ module _ (own other : Resolve) (valid : IsValid other) (matched : List (Option I
   import_named k i h id e = interface_key_named id.0 i (sym (ap (λ x. import_stands other n x i) e) ∙ h)
 
   import_owned : (k : WorldKey) (i : WorldItem) → import_stands other n k i ≡ true → (id : TypeId) → i ≡ item.Type_ id → passes (λ def. same_owner def.owner (as_world n)) (type_at other id.0) ≡ true
-  import_owned k i h id e = go k (sym (ap (import_stands other n k) e) ∙ h)
-    where
-      owned : (name : String Global) (d : Option TypeDef) → passes (λ def. text_is def.name (text_of name) && same_owner def.owner (as_world n)) d ≡ true
-          → passes (λ def. same_owner def.owner (as_world n)) d ≡ true
-      owned name None h = refl
-      owned name (Some def) h = second_true (text_is def.name (text_of name)) (same_owner def.owner (as_world n)) h
-
-      go : (k : WorldKey) → import_stands other n k (item.Type_ id) ≡ true → passes (λ def. same_owner def.owner (as_world n)) (type_at other id.0) ≡ true
-      go (key.Name name) h = owned name (type_at other id.0) h
-      go (key.Interface j) h = no_true h
+  import_owned k i h id e = search (std_rules, second_true, no_true)
 
   export_named : (k : WorldKey) (i : WorldItem) → export_stands other k i ≡ true → (id : InterfaceId) → k ≡ key.Interface id → passes (λ j. is_some j.name) (interface_at other id.0) ≡ true
   export_named k i h id e = interface_key_named id.0 i (sym (ap (λ x. export_stands other x i) e) ∙ h)
 
   export_owned : (k : WorldKey) (i : WorldItem) → export_stands other k i ≡ true → (id : TypeId) → i ≡ item.Type_ id → passes (λ def. same_owner def.owner (as_world n)) (type_at other id.0) ≡ true
-  export_owned k i h id e = go k (sym (ap (export_stands other k) e) ∙ h)
-    where
-      go : (k : WorldKey) → export_stands other k (item.Type_ id) ≡ true → passes (λ def. same_owner def.owner (as_world n)) (type_at other id.0) ≡ true
-      go (key.Name name) h = no_true h
-      go (key.Interface j) h = no_true h
+  export_owned k i h id e = search std_rules
 
   pub import_ready : (k : ℕ) (e : WorldKey × WorldItem) → slice_get w.imports.entries k ≡ Some e → IsKeyReady f e.0 × IsItemReady f e.1
   import_ready k e there = entry_ready e (record {

@@ -19,16 +19,10 @@ module _ (c : Carried) (packages : List Package) where
       → GainedSoFar c packages flags numbers left done → GainedSoFar c packages fs ns ps new
   one_gained flags fs numbers ns left ps n p g done new at_flag at_number at_package is added so later z = search (std_rules, append_assoc)
 
-  -- a new one is passed over
-  pub one_brought : (flags fs : List Bool) (numbers ns : List ℕ) (left ps : List Package) (n : ℕ) (p : Package) (done : List Names) → flags ≡ true ∷ fs → numbers ≡ n ∷ ns → left ≡ p ∷ ps
-      → GainedSoFar c packages flags numbers left done → GainedSoFar c packages fs ns ps done
-  one_brought flags fs numbers ns left ps n p done at_flag at_number at_package so later z = search std_rules
-
   -- a package of either kind
   pub one_passed : (flags fs : List Bool) (numbers ns : List ℕ) (left ps : List Package) (b : Bool) (n : ℕ) (p : Package) (done new : List Names) → flags ≡ b ∷ fs → numbers ≡ n ∷ ns → left ≡ p ∷ ps
       → (b ≡ true → new ≡ done) → (b ≡ false → (g : Names) × IsGained c (n, p) g × (new ≡ done ++ g ∷ [])) → GainedSoFar c packages flags numbers left done → GainedSoFar c packages fs ns ps new
-  one_passed flags fs numbers ns left ps true n p done new at_flag at_number at_package brought grown so =
-      subst (GainedSoFar c packages fs ns ps) (sym (brought refl)) (one_brought flags fs numbers ns left ps n p done at_flag at_number at_package so)
+  one_passed flags fs numbers ns left ps true n p done new at_flag at_number at_package brought grown so = search std_rules
   one_passed flags fs numbers ns left ps false n p done new at_flag at_number at_package brought grown so =
       let g = grown refl in
       one_gained flags fs numbers ns left ps n p g.0 done new at_flag at_number at_package g.1 g.2 so

@@ -1,5 +1,5 @@
 -- Entries whose keys are new stand behind those that were there.
-use Rattle.std.proofs.Common.{rules as std_rules, ◌≡◌, refl, sym, ap, ◌∙◌, ℕ, Bool, true, false, not, ◌||◌, cond, List, [], ◌∷◌, ◌++◌, append-nil, append_assoc, if◌then◌else◌}
+use Rattle.std.proofs.Common.{rules as std_rules, ◌≡◌, refl, sym, ap, ◌∙◌, ℕ, Bool, true, false, not, ◌||◌, List, [], ◌∷◌, ◌++◌, append-nil, append_assoc, if◌then◌else◌}
 use Rattle.std.proofs.lemmas.{Bool.and_from as both}
 use Rattle.std.specs.List.{filter, list_all, list_any, AllByRecursion, AllZip, IsDistinct}
 use Rattle.std.specs.Map.{keys_of}
@@ -13,11 +13,7 @@ use Rattle.base_lemmas.proofs.Bools.{left_of as first_true, right_of as second_t
 -- what a filter leaves passes
 pub filter_passes : {X : Type 0} (p : X → Bool) (xs : List X) → list_all p (filter p xs) ≡ true
 filter_passes p [] = refl
-filter_passes p (x ∷ xs) = go (p x) refl (filter_passes p xs)
-  where
-    go : (b : Bool) → p x ≡ b → list_all p (filter p xs) ≡ true → list_all p (cond b (x ∷ filter p xs) (filter p xs)) ≡ true
-    go true e rest = both (p x) (list_all p (filter p xs)) e rest
-    go false e rest = rest
+filter_passes p (x ∷ xs) = search (std_rules, both, filter_passes p xs)
 
 pub none_more : {X : Type 0} (p : X → Bool) (xs : List X) (y : X) → not (list_any p xs) ≡ true → p y ≡ false → not (list_any p (xs ++ y ∷ [])) ≡ true
 none_more p [] y h k = ap (λ b. not (b || false)) k
@@ -51,9 +47,8 @@ module _ (interfaces types : List ℕ) where
   still_new : (es : List (WorldKey × WorldItem)) (k : WorldKey) (y : WorldKey × WorldItem) → IsKeyUnder interfaces k y.0 → (ds : List (WorldKey × WorldItem)) → list_all (test es) ds ≡ true
       → AllByRecursion (λ l. become_one interfaces k l ≡ false) (keys_of ds) → list_all (test (es ++ y ∷ [])) ds ≡ true
   still_new es k y is [] new apart = refl
-  still_new es k y is (d ∷ ds) new apart = both (test (es ++ y ∷ []) d) (list_all (test (es ++ y ∷ [])) ds)
-      (none_more (λ (x : WorldKey × WorldItem). is_key_under interfaces d.0 x.0) es y (first_true (test es d) (list_all (test es) ds) new) (copy_apart k d.0 y.0 is apart.0))
-      (still_new es k y is ds (second_true (test es d) (list_all (test es) ds) new) apart.1)
+  still_new es k y is (d ∷ ds) new apart =
+      search (std_rules, both, none_more, first_true, copy_apart, second_true, still_new es k y is ds (second_true (test es d) (list_all (test es) ds) new) apart.1)
 
   pub all_behind : (es olds news : List (WorldKey × WorldItem)) → AllZip (IsEntryUnder interfaces types) olds news → list_all (λ (d : WorldKey × WorldItem). is_new_under interfaces es d.0) olds ≡ true
       → IsDistinct (become_one interfaces) (keys_of olds) → insert_all key_eq es news ≡ es ++ news
@@ -62,6 +57,4 @@ module _ (interfaces types : List ℕ) where
   all_behind es [] (y ∷ ys) zip new distinct = absurd zip
   all_behind es (d ∷ ds) [] zip new distinct = absurd zip
   all_behind es (d ∷ ds) (y ∷ ys) zip new distinct =
-      ap (λ l. insert_all key_eq l ys) (insert_new es d.0 y.0 y.1 zip.0.0 (first_true (test es d) (list_all (test es) ds) new))
-      ∙ (all_behind (es ++ y ∷ []) ds ys zip.1 (still_new es d.0 y zip.0.0 ds (second_true (test es d) (list_all (test es) ds) new) distinct.0) distinct.1
-      ∙ append_assoc es (y ∷ []) ys)
+      search (std_rules, insert_new, first_true, still_new, second_true, append_assoc, all_behind (es ++ y ∷ []) ds ys zip.1 (still_new es d.0 y zip.0.0 ds (second_true (test es d) (list_all (test es) ds) new) distinct.0) distinct.1)

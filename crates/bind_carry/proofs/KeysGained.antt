@@ -1,5 +1,5 @@
 -- Keys of the other's bound world stay apart under both numberings, and what is gained of them comes behind what was there.
-use Rattle.std.proofs.Common.{rules as std_rules, ◌≡◌, refl, sym, ap, subst, ◌∙◌, ℕ, false, ◌||◌, List, [], ◌∷◌, ◌++◌, append_assoc, if◌then◌else◌, Bool, true, ◌==◌, ◌+◌, length, arith, Option, Some, None, is_none, is_some}
+use Rattle.std.proofs.Common.{rules as std_rules, ◌≡◌, refl, sym, ap, subst, ◌∙◌, ℕ, false, ◌||◌, List, [], ◌∷◌, ◌++◌, append_assoc, if◌then◌else◌, Bool, true, ◌+◌, length, arith, Some, is_none, is_some}
 use Rattle.std.proofs.lemmas.{List.Elements.AllZip-push, Map.Made.IsDistinct-keys_filter, Bool.and_from as both}
 use Rattle.std.specs.List.{list_any, AllZip, IsDistinct, list_all, AllByRecursion, filter, Contains}
 use Rattle.std.specs.{Map.keys_of, Option.option_map_or}
@@ -11,7 +11,7 @@ use Rattle.bind_copy.specs.Copies.{become_one, IsKeyUnder, number_under, is_new_
 use Rattle.bind_copy.proofs.{Copied.at_middle, Gained.same_images}
 use Rattle.bind_carry.specs.{BoundGains.AreKeysUnder, InRange.IsInRange, Renumbered.is_matched, Shown.AreShownBelow, Union.IsUnionOf, Which.AreMatchedAll}
 use Rattle.bind_carry.specs.{First.flag_under, First.is_named_at, Marked.is_inline_at, Marked.AreChosen, MatchedSame.AreMatchedAt, MatchedSame.NoneOfPath}
-use Rattle.base_lemmas.proofs.{Bools.left_of as first_true, Bools.right_of as second_true, Numbers.equal, Numbers.same-number, Options.nameless as none_of}
+use Rattle.base_lemmas.proofs.{Bools.left_of as first_true, Bools.right_of as second_true, Options.nameless as none_of}
 use Rattle.base_lemmas.proofs.Elements.{contains-later}
 use Rattle.bind_add.specs.declared.added.Added.{Added}
 use Rattle.bind_match.specs.declared.matches.Matches.{Matches}
@@ -39,9 +39,7 @@ module _ (interfaces : List ℕ) where
   absent [] (u ∷ us) rest k n r zip d = absurd zip
   absent (x ∷ xs) [] rest k n r zip d = absurd zip
   absent (x ∷ xs) (u ∷ us) rest k n r zip d =
-      let one : key_eq n u ≡ false = same_images interfaces x k u n zip.0 r ∙ at_middle (become_one interfaces) x k xs rest d.0 in
-      let more : list_any (key_eq n) us ≡ false = absent xs us rest k n r zip.1 d.1 in
-      λ i. one i || more i
+      search (std_rules, same_images interfaces x k u n zip.0 r, at_middle (become_one interfaces) x k xs rest d.0, absent xs us rest k n r zip.1 d.1)
 
   pub key_more : (whole left rest : List (WorldKey × WorldItem)) (done new : List WorldKey) (e : WorldKey × WorldItem) (n : WorldKey) → left ≡ e ∷ rest → IsKeyUnder interfaces e.0 n
       → new ≡ insert_key key_eq done n → KeysSoFar whole left done → KeysSoFar whole rest new
@@ -69,33 +67,20 @@ no_false e = let wrong : ⊥ = cc in absurd wrong
 
 module _ (numbers : List ℕ) (carried : ℕ → Bool) (once : (m n : ℕ) → carried m ≡ true → carried n ≡ true → number_under numbers m ≡ number_under numbers n → m ≡ n) where
   one_apart : (k y : WorldKey) → is_key_carried carried k ≡ true → is_key_carried carried y ≡ true → key_eq k y ≡ false → become_one numbers k y ≡ false
-  one_apart (key.Name a) (key.Name b) c d h = h
-  one_apart (key.Name a) (key.Interface b) c d h = refl
-  one_apart (key.Interface a) (key.Name b) c d h = refl
-  one_apart (key.Interface a) (key.Interface b) c d h = go (number_under numbers b.0 == number_under numbers a.0) refl
-    where
-      go : (t : Bool) → (number_under numbers b.0 == number_under numbers a.0) ≡ t → (number_under numbers b.0 == number_under numbers a.0) ≡ false
-      go false e = e
-      go true e =
-          let same : b.0 ≡ a.0 = once b.0 a.0 d c (equal (number_under numbers b.0) (number_under numbers a.0) e) in
-          no_false (sym (same-number a.0) ∙ (ap (λ (m : ℕ). a.0 == m) (sym same) ∙ h))
+  one_apart x y c d h = search std_rules
 
   all_apart : (k : WorldKey) (ks : List WorldKey) → is_key_carried carried k ≡ true → list_all (is_key_carried carried) ks ≡ true → AllByRecursion (λ y. key_eq k y ≡ false) ks
       → AllByRecursion (λ y. become_one numbers k y ≡ false) ks
   all_apart k [] c d h = tt
-  all_apart k (y ∷ ys) c d h = (
-    one_apart k y c (first_true (is_key_carried carried y) (list_all (is_key_carried carried) ys) d) h.0,
-    all_apart k ys c (second_true (is_key_carried carried y) (list_all (is_key_carried carried) ys) d) h.1,
-  )
+  all_apart k (y ∷ ys) c d h =
+      search (std_rules, one_apart, first_true, second_true, all_apart k ys c (second_true (is_key_carried carried y) (list_all (is_key_carried carried) ys) d) h.1)
 
   -- keys that differ don't become one
   pub keys_apart : (ks : List WorldKey) → list_all (is_key_carried carried) ks ≡ true → IsDistinct key_eq ks → IsDistinct (become_one numbers) ks
   unfolding IsDistinct
   keys_apart [] d h = tt
-  keys_apart (k ∷ ks) d h = (
-    all_apart k ks (first_true (is_key_carried carried k) (list_all (is_key_carried carried) ks) d) (second_true (is_key_carried carried k) (list_all (is_key_carried carried) ks) d) h.0,
-    keys_apart ks (second_true (is_key_carried carried k) (list_all (is_key_carried carried) ks) d) h.1,
-  )
+  keys_apart (k ∷ ks) d h =
+      search (std_rules, all_apart, first_true, second_true, keys_apart ks (second_true (is_key_carried carried k) (list_all (is_key_carried carried) ks) d) h.1)
 
 -- ---- what the page is for
 
@@ -169,11 +154,7 @@ module _ (own other : Resolve) (valid_own : IsValid own) (valid_other : IsValid 
   IsNamed n = (i : Interface) × (interface_at other n ≡ Some i) × (is_some i.name ≡ true)
 
   is_named : (n : ℕ) → is_named_at other n ≡ true → IsNamed n
-  is_named n h = go (interface_at other n) refl h
-    where
-      go : (o : Option Interface) → interface_at other n ≡ o → option_map_or (λ (j : Interface). is_some j.name) o false ≡ true → IsNamed n
-      go None e k = no_true k
-      go (Some i) e k = (i, e, k)
+  is_named n h = search std_rules
 
   once : (j n : ℕ) → is_named_at other j ≡ true → is_named_at other n ≡ true → number_under by_path j ≡ number_under by_path n → j ≡ n
   once j n h k e =

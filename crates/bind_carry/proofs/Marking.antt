@@ -1,13 +1,12 @@
 -- What flags say that are set one after the other for the inline interfaces that are shown.
-use Rattle.std.proofs.Common.{rules as std_rules, ◌≡◌, refl, sym, ap, subst, ◌∙◌, ℕ, zero, suc, ◌<◌, arith, Bool, true, false, ◌&&◌, ◌||◌, not, ◌==◌, List, [], ◌∷◌, length, Option, Some, None, is_none, is_some, slice_get, slice_set, unwrap_or, if◌then◌else◌}
-use Rattle.std.specs.{Option.option_map_or, Prelude.String}
+use Rattle.std.proofs.Common.{rules as std_rules, ◌≡◌, refl, sym, ap, subst, ◌∙◌, ℕ, zero, suc, ◌<◌, arith, Bool, true, false, ◌&&◌, ◌||◌, not, List, [], ◌∷◌, length, Option, Some, None, is_none, is_some, slice_get, slice_set, unwrap_or}
+use Rattle.std.specs.{Prelude.String}
 use Rattle.std.specs.declared.alloc.Global.{Global}
 use Rattle.wit_model.specs.declared.model.{Interface.Interface, InterfaceId.InterfaceId, Resolve.Resolve, World.World, WorldItem.WorldItem, WorldKey.WorldKey}
 use Rattle.wit_model.specs.{Lookup.interface_at, Rules.is_id, Uses.item_interface}
 use Rattle.bind_carry.specs.{First.flag_under, Listed.given_interface, Shown.AreShownBelow, Shown.IsShownBelow, Which.new_interfaces}
 use Rattle.bind_carry.specs.Marked.{is_inline_at, is_shown_in, is_shown_of, mark_item, mark_items, mark_worlds, AreChosen}
 use Rattle.base_lemmas.proofs.{Bools.or_false, Bools.or_true, Numbers.differ, Numbers.equal, Options.none_not_some as none_is}
-use Rattle.wit_model.specs.declared.model.WorldItem.TheVariants as item
 
 -- ---- tests
 
@@ -46,35 +45,10 @@ AreWorldsBelow count ws = (k : ℕ) (w : World) → slice_get ws k ≡ Some w �
 module _ (r : Resolve) where
   pub mark_one : (marks : List Bool) (i : WorldItem) (n : ℕ) → IsShownBelow (length marks) i
       → flag_under (mark_item r marks i) n ≡ (flag_under marks n || (is_inline_at r n && is_id n (item_interface i)))
-  mark_one marks (item.Function f) n below = no_more (flag_under marks n) (is_inline_at r n)
-  mark_one marks (item.Type_ id) n below = no_more (flag_under marks n) (is_inline_at r n)
-  mark_one marks (item.Interface id stability docs external_id) n below = go (is_inline_at r id.0) refl (id.0 == n) refl
-    where
-      flag : Bool
-      flag = flag_under marks n
-
-      elsewhere : (id.0 == n) ≡ false → (flag || (is_inline_at r n && (id.0 == n))) ≡ flag
-      elsewhere f = ap (λ b. flag || (is_inline_at r n && b)) f ∙ sym (no_more flag (is_inline_at r n))
-
-      same_inline : (b : Bool) → is_inline_at r id.0 ≡ b → (id.0 == n) ≡ true → is_inline_at r n ≡ b
-      same_inline b e f = ap (is_inline_at r) (sym (equal id.0 n f)) ∙ e
-
-      go : (b : Bool) → is_inline_at r id.0 ≡ b → (c : Bool) → (id.0 == n) ≡ c → flag_under (if b then slice_set marks id.0 true else marks) n ≡ (flag || (is_inline_at r n && (id.0 == n)))
-      go true e true f =
-          let inline = same_inline true e f in
-          ap (λ (m : ℕ). flag_under (slice_set marks id.0 true) m) (sym (equal id.0 n f)) ∙ (flag_here marks id.0 below ∙ sym ((λ i. flag || (inline i && f i)) ∙ or_true flag))
-      go true e false f = flag_there marks id.0 n (differ id.0 n f) ∙ sym (elsewhere f)
-      go false e true f = let inline = same_inline false e f in sym ((λ i. flag || (inline i && f i)) ∙ or_false flag)
-      go false e false f = sym (elsewhere f)
+  mark_one marks x n below = search (std_rules, no_more, equal, flag_here, or_true, flag_there, differ, or_false)
 
   pub mark_item_long : (marks : List Bool) (i : WorldItem) → length (mark_item r marks i) ≡ length marks
-  mark_item_long marks (item.Function f) = refl
-  mark_item_long marks (item.Type_ id) = refl
-  mark_item_long marks (item.Interface id stability docs external_id) = go (is_inline_at r id.0)
-    where
-      go : (b : Bool) → length (if b then slice_set marks id.0 true else marks) ≡ length marks
-      go true = set_long marks id.0
-      go false = refl
+  mark_item_long marks x = search std_rules
 
   -- ---- items
 
@@ -86,9 +60,7 @@ module _ (r : Resolve) where
       → flag_under (mark_items r marks es) n ≡ (flag_under marks n || (is_inline_at r n && is_shown_in es n))
   marks_in [] marks n below = no_more (flag_under marks n) (is_inline_at r n)
   marks_in (e ∷ es) marks n below =
-      marks_in es (mark_item r marks e.1) n (subst (λ k. AreShownBelow k es) (sym (mark_item_long marks e.1)) below.1)
-      ∙ (ap (λ b. b || (is_inline_at r n && is_shown_in es n)) (mark_one marks e.1 n below.0)
-      ∙ joins (flag_under marks n) (is_inline_at r n) (is_id n (item_interface e.1)) (is_shown_in es n))
+      search (std_rules, mark_item_long, mark_one, joins, marks_in es (mark_item r marks e.1) n (subst (λ k. AreShownBelow k es) (sym (mark_item_long marks e.1)) below.1))
 
   -- ---- worlds
 
@@ -134,12 +106,7 @@ module _ (other : Resolve) (matched : List (Option InterfaceId)) (worlds : List 
 
   flag_is : (n : ℕ) (i : Interface) → interface_at other n ≡ Some i → flag_under (mark_worlds other new worlds other.worlds.items) n
       ≡ ((not (is_some (given_interface (slice_get matched n))) && not (is_none i.name)) || (is_none i.name && is_shown_of worlds other.worlds.items n))
-  flag_is n i at =
-      marks_of_worlds other worlds other.worlds.items new n (subst (λ k. AreWorldsBelow k other.worlds.items) (sym (new_long matched other.interfaces.items long)) below)
-      ∙ ((λ k. new_at matched other.interfaces.items long n i at k || (inline k && is_shown_of worlds other.worlds.items n)))
-    where
-      inline : is_inline_at other n ≡ is_none i.name
-      inline = ap (λ o. option_map_or (λ j. is_none j.name) o false) at
+  flag_is n i at = search (std_rules, marks_of_worlds, new_long, new_at)
 
   -- those with a name that has no own one of its path, and the inline ones that are shown
   pub are_chosen : AreChosen other matched worlds (mark_worlds other new worlds other.worlds.items)

@@ -1,5 +1,5 @@
 -- What a union adds, once it is added, is merged.
-use Rattle.std.proofs.Common.{◌≡◌, refl, sym, ap, subst, ◌∙◌, ℕ, zero, suc, ◌+◌, ◌<◌, arith, Bool, true, false, not, ◌||◌, List, [], ◌∷◌, ◌++◌, length, map, Option, Some, None, is_none, is_some, option_map, slice_get, ◌≤◌}
+use Rattle.std.proofs.Common.{rules as std_rules, ◌≡◌, refl, sym, ap, subst, ◌∙◌, ℕ, zero, suc, ◌+◌, ◌<◌, arith, Bool, true, false, ◌||◌, List, [], ◌∷◌, ◌++◌, length, map, Option, Some, None, is_some, option_map, slice_get, ◌≤◌}
 use Rattle.std.proofs.lemmas.{Bool.or_left, List.length-map, List.length-append}
 use Rattle.std.specs.{Prelude.String, Prelude.slice_set, Option.option_map_or}
 use Rattle.std.specs.declared.alloc.Global.{Global}
@@ -17,7 +17,7 @@ use Rattle.bind_carry.proofs.{FirstWorlds.copied_behind, FirstWorlds.first_is_co
 use Rattle.bind_carry.proofs.{FirstOfUnion.grown_name, FirstOfUnion.set_count, FirstOfUnion.unions_have_the_second, FirstWorldsCopied.first_worlds_are_copied}
 use Rattle.bind_carry.proofs.{SecondBound.bound_stands, SecondCarried.second_is_copied, SecondKnown.copied_long, SecondKnown.long, PackagesStand.package_stands}
 use Rattle.bind_carry.proofs.SecondInterfaces.{carried_number, copied_carries, copied_there, inline_at, inline_place, path_low}
-use Rattle.base_lemmas.proofs.{Bools.right_of as second_true, Lists.front_at, Numbers.equal}
+use Rattle.base_lemmas.proofs.{Lists.front_at, Numbers.equal}
 
 -- ---- Both passes together are a merge, where packages stand and no list is too long.
 
@@ -25,11 +25,7 @@ use Rattle.base_lemmas.proofs.{Bools.right_of as second_true, Lists.front_at, Nu
 not_root : (r : Resolve) (ms : List (Option WorldId)) (ws : List World) (n : ℕ) → flag_under (new_worlds r ms ws) n ≡ true → option_map_or (is_root_world r) (slice_get ws n) false ≡ false
 not_root r [] ws n h = no_true h
 not_root r (m ∷ ms) [] n h = no_true h
-not_root r (m ∷ ms) (w ∷ ws) zero h = go (is_root_world r w) (second_true (is_none m) (not (is_root_world r w)) h)
-  where
-    go : (b : Bool) → not b ≡ true → b ≡ false
-    go true k = no_true k
-    go false k = refl
+not_root r (m ∷ ms) (w ∷ ws) zero h = search std_rules
 not_root r (m ∷ ms) (w ∷ ws) (suc n) h = not_root r ms ws n h
 
 same_parts_of : (a b : PackageName) → b ≡ a → IsSameName a b

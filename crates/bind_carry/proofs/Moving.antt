@@ -33,11 +33,7 @@ module _ {X Y : Type 0} (P : X → Y → Type 0) (xs : List X) where
 
   -- all are moved
   pub all_moved : (left : List X) (old now : List Y) (place : ℕ) → left ≡ [] → AreMovedSoFar P xs left old now place → AreMoved P xs old now
-  all_moved left old now place none s = record {
-    moved = s.moved;
-    each = subst (AllZip P xs) (append-nil s.moved) (s.so_far [] (subst (λ l. AllZip P l []) (sym none) tt));
-    placed = s.placed ∙ ap (λ n. s.moved ++ drop n old) (sym s.count);
-  }
+  all_moved left old now place none s = search (std_rules, append-nil s.moved)
 
   -- one is moved where its flag is set, and left where it isn't
   pub flag_moved : (b : Bool) (fs : List Bool) (x : X) (ns left : List X) (old now new : List Y) (place next : ℕ) → left ≡ kept (b ∷ fs) (x ∷ ns)

@@ -60,18 +60,14 @@ module _ {X : Type 0} where
   still_fresh : (es : List (String Global × X)) (y : String Global × X) (ds : List (String Global × X)) → list_all (is_fresh es) ds ≡ true → AllByRecursion (λ k. string_eq y.0 k ≡ false) (keys_of ds)
       → list_all (is_fresh (es ++ y ∷ [])) ds ≡ true
   still_fresh es y [] new apart = refl
-  still_fresh es y (d ∷ ds) new apart = both (is_fresh (es ++ y ∷ []) d) (list_all (is_fresh (es ++ y ∷ [])) ds)
-      (none_more (λ (e : String Global × X). text_eq (text_of d.0) (text_of e.0)) es y (first_true (is_fresh es d) (list_all (is_fresh es) ds) new)
-      (text_eq_flip (text_of d.0) (text_of y.0) ∙ apart.0))
-      (still_fresh es y ds (second_true (is_fresh es d) (list_all (is_fresh es) ds) new) apart.1)
+  still_fresh es y (d ∷ ds) new apart =
+      search (std_rules, both, none_more, first_true, text_eq_flip, second_true, still_fresh es y ds (second_true (is_fresh es d) (list_all (is_fresh es) ds) new) apart.1)
 
   pub fresh_behind : (es news : List (String Global × X)) → list_all (is_fresh es) news ≡ true → IsDistinct string_eq (keys_of news) → insert_all string_eq es news ≡ es ++ news
   unfolding IsDistinct
   fresh_behind es [] new distinct = sym (append-nil es)
   fresh_behind es (y ∷ ys) new distinct =
-      ap (λ l. insert_all string_eq l ys) (insert_fresh es y (first_true (is_fresh es y) (list_all (is_fresh es) ys) new))
-      ∙ (fresh_behind (es ++ y ∷ []) ys (still_fresh es y ys (second_true (is_fresh es y) (list_all (is_fresh es) ys) new) distinct.0) distinct.1
-      ∙ append_assoc es (y ∷ []) ys)
+      search (std_rules, insert_fresh, first_true, still_fresh, second_true, append_assoc, fresh_behind (es ++ y ∷ []) ys (still_fresh es y ys (second_true (is_fresh es y) (list_all (is_fresh es) ys) new) distinct.0) distinct.1)
 
 -- entries of the same names, one by one
 abbrev pub KeepsNames : {X Y : Type 0} → (String Global × X → String Global × Y → Type 0) → Type 0
@@ -97,9 +93,8 @@ module _ {X Y : Type 0} (R : String Global × X → String Global × Y → Type 
   fresh_along es [] [] zip h = refl
   fresh_along es [] (y ∷ ys) zip h = absurd zip
   fresh_along es (x ∷ xs) [] zip h = absurd zip
-  fresh_along es (x ∷ xs) (y ∷ ys) zip h = both (is_fresh es y) (list_all (is_fresh es) ys)
-      (ap (λ t. not (is_name_in es t)) (keeps x y zip.0) ∙ first_true (is_fresh es x) (list_all (is_fresh es) xs) h)
-      (fresh_along es xs ys zip.1 (second_true (is_fresh es x) (list_all (is_fresh es) xs) h))
+  fresh_along es (x ∷ xs) (y ∷ ys) zip h =
+      search (std_rules, both, first_true, second_true, fresh_along es xs ys zip.1 (second_true (is_fresh es x) (list_all (is_fresh es) xs) h))
 
 -- ---- what stands in a package's maps
 
@@ -201,8 +196,7 @@ grown_of [] ns ps i e at = let wrong : ⊥ = cc in absurd wrong
 grown_of (b ∷ bs) [] ps i e at = let wrong : ⊥ = cc in absurd wrong
 grown_of (b ∷ bs) (n ∷ ns) [] i e at = let wrong : ⊥ = cc in absurd wrong
 grown_of (true ∷ bs) (n ∷ ns) (p ∷ ps) i e at = let r = grown_of bs ns ps i e at in record { place = suc r.place; at_place = r.at_place; bare = r.bare; number = r.number }
-grown_of (false ∷ bs) (n ∷ ns) (p ∷ ps) zero e at = let same : (n, p) ≡ e = some_same (n, p) e at in
-    record { place = zero; at_place = ap (λ (x : ℕ × Package). Some x.1) same; bare = refl; number = ap (λ (x : ℕ × Package). x.0) same }
+grown_of (false ∷ bs) (n ∷ ns) (p ∷ ps) zero e at = search std_rules
 grown_of (false ∷ bs) (n ∷ ns) (p ∷ ps) (suc i) e at = let r = grown_of bs ns ps i e at in record { place = suc r.place; at_place = r.at_place; bare = r.bare; number = r.number }
 
 pub new_world_flag : (r : Resolve) (ms : List (Option WorldId)) (ws : List World) (n : ℕ) (o : Option WorldId) (w : World) → slice_get ms n ≡ Some o → slice_get ws n ≡ Some w

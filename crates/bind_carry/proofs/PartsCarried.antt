@@ -18,7 +18,6 @@ use Rattle.bind_union.proofs.{Carrying.references_of, Lists.no_true, WorldRules.
 use Rattle.bind_carry.specs.CarriedParts.{AreCarriedByOwner, PartsAreCarried, is_function_carried}
 use Rattle.base_lemmas.proofs.{Bools.left_of as first_true, Bools.right_of as second_true, Elements.all_three, Elements.all_two, Elements.all_weaker}
 use Rattle.wit_model.specs.declared.model.TypeOwner.TheVariants as owner
-use Rattle.wit_model.specs.declared.model.WorldItem.TheVariants as item
 
 -- ---- lists
 
@@ -26,9 +25,7 @@ use Rattle.wit_model.specs.declared.model.WorldItem.TheVariants as item
 all_below_pass : (p q : ℕ → Bool) (n : ℕ) (ns : List ℕ) → ((m : ℕ) → m < n → p m ≡ true → q m ≡ true) → list_all (λ m. nat_lt m n) ns ≡ true → list_all p ns ≡ true → list_all q ns ≡ true
 all_below_pass p q n [] make low h = refl
 all_below_pass p q n (m ∷ ns) make low h =
-    both (q m) (list_all q ns)
-    (make m (ltb-true m n (first_true (nat_lt m n) (list_all (λ k. nat_lt k n) ns) low)) (first_true (p m) (list_all p ns) h))
-    (all_below_pass p q n ns make (second_true (nat_lt m n) (list_all (λ k. nat_lt k n) ns) low) (second_true (p m) (list_all p ns) h))
+    search (std_rules, both, ltb-true, first_true, second_true, all_below_pass p q n ns make (second_true (nat_lt m n) (list_all (λ k. nat_lt k n) ns) low) (second_true (p m) (list_all p ns) h))
 
 -- ---- aliases
 
@@ -58,11 +55,7 @@ has_home r valid n def is named = go def.name def.owner named (is_in_list r vali
 
 -- and one without a name has none
 pub no_home : (r : Resolve) → IsValid r → (n : ℕ) (def : TypeDef) → type_at r n ≡ Some def → is_some def.name ≡ false → def.owner ≡ owner.None
-no_home r valid n def is unnamed = go def.name unnamed (is_in_list r valid n def is)
-  where
-    go : (name : Option (String Global)) → is_some name ≡ false → option_map_or (λ s. is_listed r n (text_of s) def.owner) name (same_owner def.owner owner.None) ≡ true → def.owner ≡ owner.None
-    go None e h = owner_equal def.owner owner.None h
-    go (Some s) e h = let wrong : ⊥ = cc in absurd wrong
+no_home r valid n def is unnamed = search (std_rules, is_in_list r valid n def is)
 
 module _ (r : Resolve) (carried : ℕ → Bool) (owned : TypeOwner → Bool) (valid : IsValid r) (by : AreCarriedByOwner r carried owned) where
   abbrev below : Keeps references r
@@ -178,19 +171,10 @@ module _ (r : Resolve) (carried : ℕ → Bool) (owned : TypeOwner → Bool) (va
   item_passes p e = list_all p (option_to_list (item_function e.1))
 
   entry_in_range : (e : WorldKey × WorldItem) → (key_in_range r e.0 && item_in_range r e.1) ≡ true → item_passes (function_in_range r) e ≡ true
-  entry_in_range e h = go e.1 (second_true (key_in_range r e.0) (item_in_range r e.1) h)
-    where
-      go : (i : WorldItem) → item_in_range r i ≡ true → list_all (function_in_range r) (option_to_list (item_function i)) ≡ true
-      go (item.Interface id stability docs external_id) h = refl
-      go (item.Function f) h = both (function_in_range r f) true h refl
-      go (item.Type_ id) h = refl
+  entry_in_range e h = search std_rules
 
   entry_member : (o : TypeOwner) (e : WorldKey × WorldItem) → passes (λ f. is_name_key (text_of f.name) e.0 && is_member r o f) (item_function e.1) ≡ true → item_passes (is_member r o) e ≡ true
-  entry_member o e h = go (item_function e.1) h
-    where
-      go : (g : Option Function) → passes (λ f. is_name_key (text_of f.name) e.0 && is_member r o f) g ≡ true → list_all (is_member r o) (option_to_list g) ≡ true
-      go None h = refl
-      go (Some f) h = both (is_member r o f) true (second_true (is_name_key (text_of f.name) e.0) (is_member r o f) h) refl
+  entry_member o e h = search (std_rules, both, second_true)
 
   world_functions : (n : ℕ) (w : World) → world_at r n ≡ Some w → owned (as_world n) ≡ true → list_all (is_function_carried carried) (functions_of_world w) ≡ true
   unfolding owners numbers_in_range function_names

@@ -8,11 +8,10 @@ use Rattle.wit_model.specs.declared.model.{Function.Function, Package.Package, R
 use Rattle.wit_model.specs.declared.model.{FunctionKind.FunctionKind, Interface.Interface, PackageId.PackageId, TypeOwner.TypeOwner, «Type».«Type» as ValueType}
 use Rattle.wit_model.specs.declared.model.{Param.Param, World.World}
 use Rattle.wit_model.specs.{Lookup.interface_at, Lookup.package_at, Lookup.resource_of, Lookup.type_at, Lookup.world_at, Types.number_of}
-use Rattle.wit_model.specs.{Parts.function_types, Parts.kind_numbers, Valid.is_place, Valid.numbers_in_range, Valid.IsValid, Valid.Keeps}
+use Rattle.wit_model.specs.{Parts.kind_numbers, Valid.is_place, Valid.numbers_in_range, Valid.IsValid, Valid.Keeps}
 use Rattle.wit_model.specs.Rules.{entries_in_range, function_in_range, in_list, item_in_range, key_in_range, owner_in_range, package_number, passes}
 use Rattle.wit_model.proofs.{Entries.lists_pass, OnePath.interface-passes, OnePath.package-passes, RulesLemmas.each_at}
 use Rattle.bind_copy.specs.Copies.{all_below, are_names_below, are_params_below, call_numbers, key_numbers, AreEntriesBelow, AreFunctionsBelow, IsFunctionBelow, IsItemBelow}
-use Rattle.bind_union.specs.Views.{type_numbers}
 use Rattle.bind_union.proofs.{Carrying.references_of, Carrying.refers_below, Images.given_numbers, Images.numbers_cons, Images.numbers_of_view}
 use Rattle.bind_carry.specs.{Fates.FallBelow, InRange.IsInRange, Listed.are_interfaces_below, Listed.are_worlds_below, Listed.IsHomeBelow, Listed.IsOwnerBelow}
 use Rattle.bind_carry.specs.{BoundGains.are_types_below, Shown.are_keys_below, Shown.type_in, Shown.AreNewShownBelow, Shown.AreShownBelow, Shown.IsShownBelow}
@@ -22,21 +21,11 @@ use Rattle.base_lemmas.proofs.{Bools.left_of as first_true, Bools.right_of as se
 
 params_below : (count : ℕ) (ps : List Param) → list_all (λ n. nat_lt n count) (filter_map number_of (map (λ p. p.ty) ps)) ≡ are_params_below count ps
 params_below count [] = refl
-params_below count (p ∷ ps) =
-    ap (list_all (λ n. nat_lt n count)) (numbers_cons p.ty (map (λ x. x.ty) ps))
-    ∙ (list_all-append (λ n. nat_lt n count) (type_numbers p.ty) (filter_map number_of (map (λ x. x.ty) ps))
-    ∙ ap (λ b. all_below count (type_numbers p.ty) && b) (params_below count ps))
+params_below count (p ∷ ps) = search (std_rules, numbers_cons, list_all-append, params_below count ps)
 
 numbers_append : (xs ys : List ValueType) → filter_map number_of (xs ++ ys) ≡ filter_map number_of xs ++ filter_map number_of ys
 numbers_append [] ys = refl
-numbers_append (x ∷ xs) ys =
-    numbers_cons x (xs ++ ys)
-    ∙ (ap (λ l. type_numbers x ++ l) (numbers_append xs ys)
-    ∙ (sym (append_three (type_numbers x) (filter_map number_of xs) (filter_map number_of ys)) ∙ ap (λ l. l ++ filter_map number_of ys) (sym (numbers_cons x xs))))
-  where
-    append_three : (a b c : List ℕ) → (a ++ b) ++ c ≡ a ++ (b ++ c)
-    append_three [] b c = refl
-    append_three (n ∷ a) b c = ap (λ l. n ∷ l) (append_three a b c)
+numbers_append (x ∷ xs) ys = search (std_rules, numbers_cons, numbers_append xs ys)
 
 call_is : (k : FunctionKind) → option_to_list (resource_of k) ≡ call_numbers k
 call_is x = search std_rules
@@ -49,26 +38,7 @@ module _ (r : Resolve) where
   below n = nat_lt n types
 
   function_below : (f : Function) → function_in_range r f ≡ true → IsFunctionBelow types f
-  function_below f h = record {
-    kind = ap (all_below types) (sym (call_is f.kind)) ∙ second_true (list_all below (filter_map number_of (function_types f))) (list_all below (option_to_list (resource_of f.kind))) split;
-    params = sym (params_below types f.params.items) ∙ first_true (list_all below params) (list_all below result) parts;
-    result = ap (all_below types) (given_numbers f.result) ∙ second_true (list_all below params) (list_all below result) parts;
-  }
-    where
-      params : List ℕ
-      params = filter_map number_of (map (λ p. p.ty) f.params.items)
-
-      result : List ℕ
-      result = filter_map number_of (option_to_list f.result)
-
-      split : (list_all below (filter_map number_of (function_types f)) && list_all below (option_to_list (resource_of f.kind))) ≡ true
-      split = sym (list_all-append below (filter_map number_of (function_types f)) (option_to_list (resource_of f.kind))) ∙ h
-
-      parts : (list_all below params && list_all below result) ≡ true
-      parts =
-          sym (list_all-append below params result)
-          ∙ (ap (list_all below) (sym (numbers_append (map (λ p. p.ty) f.params.items) (option_to_list f.result)))
-          ∙ first_true (list_all below (filter_map number_of (function_types f))) (list_all below (option_to_list (resource_of f.kind))) split)
+  function_below f h = search (std_rules, call_is, second_true, params_below, first_true, given_numbers, list_all-append, numbers_append)
 
   functions_below : (es : List (String Global × Function)) → list_all (function_in_range r) (map (λ (e : String Global × Function). e.1) es) ≡ true → AreFunctionsBelow types es
   functions_below [] h = tt
@@ -88,9 +58,7 @@ module _ (r : Resolve) where
   entries_below : (es : List (WorldKey × WorldItem)) → entries_in_range r es ≡ true → AreEntriesBelow (length r.interfaces.items) types es
   entries_below [] h = tt
   entries_below (e ∷ es) h =
-      let one = first_true (key_in_range r e.0 && item_in_range r e.1) (entries_in_range r es) h in
-      let rest = entries_below es (second_true (key_in_range r e.0 && item_in_range r e.1) (entries_in_range r es) h) in
-      (key_below e.0 (first_true (key_in_range r e.0) (item_in_range r e.1) one), (item_below e.1 (second_true (key_in_range r e.0) (item_in_range r e.1) one), rest))
+      search (std_rules, first_true, second_true, key_below, item_below, entries_below es (second_true (key_in_range r e.0 && item_in_range r e.1) (entries_in_range r es) h))
 
   -- ---- homes
 
@@ -187,30 +155,7 @@ module _ (r : Resolve) (valid : IsValid r) where
 
   world_facts : (n : ℕ) (w : World) → world_at r n ≡ Some w → WorldFacts n w
   unfolding numbers_in_range
-  world_facts n w at = record {
-    place = first_true (is_place n) (home && (imports && exports)) h;
-    home = home_below r w.«package» (first_true home (imports && exports) rest);
-    imports = entries_below r w.imports.entries (first_true imports exports both_);
-    exports = entries_below r w.exports.entries (second_true imports exports both_);
-  }
-    where
-      home : Bool
-      home = passes (in_list r.packages.items) (package_number w.«package»)
-
-      imports : Bool
-      imports = entries_in_range r w.imports.entries
-
-      exports : Bool
-      exports = entries_in_range r w.exports.entries
-
-      h : (is_place n && (home && (imports && exports))) ≡ true
-      h = each_at (numbers_in_range.world_ r) r.worlds.items n w (lists_pass numbers_in_range r rule).2 at
-
-      rest : (home && (imports && exports)) ≡ true
-      rest = second_true (is_place n) (home && (imports && exports)) h
-
-      both_ : (imports && exports) ≡ true
-      both_ = second_true home (imports && exports) rest
+  world_facts n w at = search (std_rules, first_true, home_below, entries_below, second_true, each_at, lists_pass, rule)
 
   record TypeFacts (n : ℕ) (def : TypeDef) : Type 0 where
     place : is_place n ≡ true

@@ -3,11 +3,11 @@ use Rattle.std.proofs.Common.{rules as std_rules, ◌≡◌, sym, ap, subst, ◌
 use Rattle.std.proofs.lemmas.List.{length-map}
 use Rattle.std.specs.Prelude.{OnOk, Result}
 use Rattle.wit_model.specs.Lookup.{interface_at, type_at, world_at}
-use Rattle.wit_model.specs.declared.model.{Interface.Interface, Resolve.Resolve, TypeDef.TypeDef, TypeOwner.TypeOwner, WorldItem.WorldItem, WorldKey.WorldKey}
+use Rattle.wit_model.specs.declared.model.{Interface.Interface, Resolve.Resolve, TypeDef.TypeDef, TypeOwner.TypeOwner}
 use Rattle.wit_model.specs.declared.model.World.{World}
 use Rattle.bind_copy.specs.Copies.{are_names_below, AreEntriesBelow, AreFunctionsBelow}
 use Rattle.bind_match.specs.declared.matches.Matches.{Matches}
-use Rattle.bind_carry.specs.{Bound.IsBoundReady, Fates.AreCopied, InRange.IsInRange, Numbers.numbers_of, Which.AreMatchedAll, Which.IsNumbered, First.adds_any, First.fate_of, First.first_fates, First.IsHomeIn, Shown.AreNewShownBelow, Listed.are_interfaces_below, Listed.are_worlds_below, Listed.IsHomeBelow, Listed.IsOwnerBelow, Over.IsCarriedReady}
+use Rattle.bind_carry.specs.{Bound.IsBoundReady, Fates.AreCopied, InRange.IsInRange, Numbers.numbers_of, Which.AreMatchedAll, Which.IsNumbered, First.adds_any, First.fate_of, First.first_fates, First.IsHomeIn, Shown.AreNewShownBelow, Listed.IsOwnerBelow, Over.IsCarriedReady}
 use Rattle.bind_carry.specs.BoundGains.{are_types_below, bound_fates, AreWorldKeysBelow}
 use Rattle.bind_carry.specs.declared.{fate.Fate.Fate, plan.Carried.Carried}
 use Rattle.bind_carry.proofs.{CopiesPlaced.numbers_by_long, Numbering.numbers_long, SettledParts.settled_long, Ranges.keys_below, Ranges.new_shown_below, Ranges.types_below, SecondInitial.second_long, SecondInitial.unified_long}
@@ -30,24 +30,7 @@ module _ (own other : Resolve) (m : Matches) (c : Carried) (range : IsInRange ot
   owners_below n def at = search std_rules
 
   pub carried_ready : (types : ℕ) → types ≡ length other.types.items → IsCarriedReady other c types
-  carried_ready types count = record {
-    package_count = sym package_count;
-    interface_count = interface_count;
-    world_count = world_count;
-    listed_interfaces = λ n p at. subst (λ (k : ℕ). are_interfaces_below k p.interfaces.entries ≡ true) (sym is.interface_count) (range.listed_interfaces n p at);
-    listed_worlds = λ n p at. subst (λ (k : ℕ). are_worlds_below k p.worlds.entries ≡ true) (sym is.world_count) (range.listed_worlds n p at);
-    interface_homes = λ n i at. subst (λ (k : ℕ). IsHomeBelow k i.«package») package_count (range.interface_homes n i at);
-    type_names = λ n i at. subst (λ (k : ℕ). are_names_below k i.types.entries ≡ true) (sym count) (range.type_names n i at);
-    functions = λ n i at. subst (λ (k : ℕ). AreFunctionsBelow k i.functions.entries) (sym count) (range.functions n i at);
-    world_homes = λ n w at. subst (λ (k : ℕ). IsHomeBelow k w.«package») package_count (range.world_homes n w at);
-    imports = λ n w at. entries w.imports.entries (range.imports n w at);
-    exports = λ n w at. entries w.exports.entries (range.exports n w at);
-  }
-    where
-      entries : (es : List (WorldKey × WorldItem)) → AreEntriesBelow (length other.interfaces.items) (length other.types.items) es → AreEntriesBelow (length c.interfaces.items) types es
-      entries es h =
-          subst (λ (k : ℕ). AreEntriesBelow k types es) (sym interface_count)
-          (subst (λ (k : ℕ). AreEntriesBelow (length other.interfaces.items) k es) (sym count) h)
+  carried_ready types count = search (std_rules, package_count, interface_count, world_count)
 
 -- ---- the first pass
 

@@ -33,12 +33,7 @@ module _ (r : Resolve) (interfaces : List ℕ) (here : List (WorldKey × WorldIt
 
   new_marks_long : (es : List (WorldKey × WorldItem)) (marks : List Bool) → length (mark_new_items r interfaces here marks es) ≡ length marks
   new_marks_long [] marks = refl
-  new_marks_long (e ∷ es) marks = go (is_new_under interfaces here e.0) (new_marks_long es (mark_item r marks e.1)) (new_marks_long es marks)
-    where
-      go : (b : Bool) → length (mark_new_items r interfaces here (mark_item r marks e.1) es) ≡ length (mark_item r marks e.1) → length (mark_new_items r interfaces here marks es) ≡ length marks
-          → length (mark_new_items r interfaces here (if b then mark_item r marks e.1 else marks) es) ≡ length marks
-      go true set unset = set ∙ mark_item_long r marks e.1
-      go false set unset = unset
+  new_marks_long (e ∷ es) marks = search (std_rules, mark_item_long, new_marks_long es (mark_item r marks e.1), new_marks_long es marks)
 
   abbrev FlagIs : List (WorldKey × WorldItem) → List Bool → ℕ → Type 0
   FlagIs es marks n = flag_under (mark_new_items r interfaces here marks es) n ≡ (flag_under marks n || (is_inline_at r n && is_shown_new es n))
@@ -73,27 +68,7 @@ module _ (other : Resolve) (interfaces : List ℕ) (w v : World) (imports_below 
 
   -- the flag is set of the inline ones that new items show
   pub gained_flag : (n : ℕ) → flag_under (gained_inline other interfaces w v) n ≡ (is_inline_at other n && is_gained n)
-  gained_flag n =
-      new_marks_in other interfaces w.exports.entries v.exports.entries first n (subst (λ (k : ℕ). AreShownBelow k v.exports.entries) (sym long_first) exports_below)
-      ∙ (ap (λ b. b || (is_inline_at other n && is_shown_new other interfaces w.exports.entries v.exports.entries n)) one
-      ∙ joins false (is_inline_at other n) (is_shown_new other interfaces w.imports.entries v.imports.entries n) (is_shown_new other interfaces w.exports.entries v.exports.entries n))
-    where
-      none : List Bool
-      none = replicate (length other.interfaces.items) false
-
-      first : List Bool
-      first = mark_new_items other interfaces w.imports.entries none v.imports.entries
-
-      long_none : length none ≡ length other.interfaces.items
-      long_none = length-replicate (length other.interfaces.items) false
-
-      long_first : length first ≡ length other.interfaces.items
-      long_first = new_marks_long other interfaces w.imports.entries v.imports.entries none ∙ long_none
-
-      one : flag_under first n ≡ (false || (is_inline_at other n && is_shown_new other interfaces w.imports.entries v.imports.entries n))
-      one =
-          new_marks_in other interfaces w.imports.entries v.imports.entries none n (subst (λ (k : ℕ). AreShownBelow k v.imports.entries) (sym long_none) imports_below)
-          ∙ ap (λ b. b || (is_inline_at other n && is_shown_new other interfaces w.imports.entries v.imports.entries n)) (unset_flag (length other.interfaces.items) n)
+  gained_flag n = search (std_rules, new_marks_in, joins, length-replicate, new_marks_long, unset_flag)
 
   pub gained_long : length (gained_inline other interfaces w v) ≡ length other.interfaces.items
   gained_long = search (std_rules, new_marks_long, length-replicate)
@@ -103,22 +78,7 @@ module _ (other : Resolve) (interfaces : List ℕ) (w v : World) (imports_below 
   gained_inline_alone n h = first_true (is_inline_at other n) (is_gained n) (sym (gained_flag n) ∙ h)
 
   pub gained_adds : (n : ℕ) → flag_under (gained_inline other interfaces w v) n ≡ true → gains_any interfaces w v ≡ true
-  gained_adds n h = go (is_shown_new other interfaces w.imports.entries v.imports.entries n) refl (second_true (is_inline_at other n) (is_gained n) (sym (gained_flag n) ∙ h))
-    where
-      or_more : (a b : Bool) → b ≡ true → (a || b) ≡ true
-      or_more true b e = refl
-      or_more false b e = e
-
-      or_first : (a b : Bool) → a ≡ true → (a || b) ≡ true
-      or_first true b e = refl
-      or_first false b e = no_true e
-
-      go : (b : Bool) → is_shown_new other interfaces w.imports.entries v.imports.entries n ≡ b → (b || is_shown_new other interfaces w.exports.entries v.exports.entries n) ≡ true
-          → gains_any interfaces w v ≡ true
-      go true e k = or_first (any_new interfaces w.imports.entries v.imports.entries) (any_new interfaces w.exports.entries v.exports.entries)
-          (shown_any other interfaces w.imports.entries v.imports.entries n e)
-      go false e k = or_more (any_new interfaces w.imports.entries v.imports.entries) (any_new interfaces w.exports.entries v.exports.entries)
-          (shown_any other interfaces w.exports.entries v.exports.entries n k)
+  gained_adds n h = search (std_rules, second_true, gained_flag, no_true, shown_any)
 
 -- ---- What becomes of types in what the bound world gains, before those without a name have their fates.
 
@@ -130,11 +90,7 @@ module _ (other : Resolve) (world other_world : ℕ) (copied : List Bool) (inter
   second_at [] fs ns n t g m at_t at_g at_m = let wrong : ⊥ = cc in absurd wrong
   second_at (u ∷ us) [] ns n t g m at_t at_g at_m = let wrong : ⊥ = cc in absurd wrong
   second_at (u ∷ us) (h ∷ hs) [] n t g m at_t at_g at_m = let wrong : ⊥ = cc in absurd wrong
-  second_at (u ∷ us) (h ∷ hs) (k ∷ ks) zero t g m at_t at_g at_m =
-      let type_same : u ≡ t = ap (λ o. unwrap_or o u) at_t in
-      let fate_same : h ≡ g = ap (λ o. unwrap_or o h) at_g in
-      let number_same : k ≡ m = ap (λ o. unwrap_or o k) at_m in
-      λ i. Some (second_in other world other_world copied interfaces (type_same i).owner (beside_first (fate_same i) (number_same i)))
+  second_at (u ∷ us) (h ∷ hs) (k ∷ ks) zero t g m at_t at_g at_m = search std_rules
   second_at (u ∷ us) (h ∷ hs) (k ∷ ks) (suc n) t g m at_t at_g at_m = second_at us hs ks n t g m at_t at_g at_m
 
   pub second_long : (ts : List TypeDef) (fs : List Fate) (ns : List ℕ) → length fs ≡ length ts → length ns ≡ length ts
@@ -184,12 +140,7 @@ module _ (here : List (WorldKey × WorldItem)) where
 
   pub unified_long : (es : List (WorldKey × WorldItem)) (fs : List Fate) → length (unified here es fs) ≡ length fs
   unified_long [] fs = refl
-  unified_long (e ∷ es) fs = unified_long es (unify_one fs (type_in e.1) (type_under_key here e.0)) ∙ one_long (type_in e.1) (type_under_key here e.0)
-    where
-      one_long : (a b : Option TypeId) → length (unify_one fs a b) ≡ length fs
-      one_long (Some id) (Some own) = set_long fs id.0 (fate.Stands own.0)
-      one_long (Some id) None = refl
-      one_long None b = refl
+  unified_long (e ∷ es) fs = search (std_rules, set_long, unified_long es (unify_one fs (type_in e.1) (type_under_key here e.0)))
 
   -- what a fate is when some entries are left
   abbrev Left : List (WorldKey × WorldItem) → ℕ → Fate → List Fate → Type 0
@@ -281,11 +232,7 @@ beside_carries g m h = ap (λ b. carries (if b then fate.Stands m else fate.Left
 
 -- and isn't copied once more
 beside_no_copy : (g : Fate) (m : ℕ) (home : TypeOwner) → beside_first g m ≡ fate.Copied home → ⊥
-beside_no_copy g m home e = go (carries g) e
-  where
-    go : (b : Bool) → (if b then fate.Stands m else fate.Left) ≡ fate.Copied home → ⊥
-    go true e = cc
-    go false e = cc
+beside_no_copy g m home e = search std_rules
 
 module _ (other : Resolve) (valid : IsValid other) (matched : List (Option InterfaceId)) (c : Carried) (world other_world : ℕ) (here es : List (WorldKey × WorldItem)) (copied : List Bool)
     (interfaces : List ℕ)

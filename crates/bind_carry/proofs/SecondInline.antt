@@ -1,5 +1,5 @@
 -- Inline interfaces of the other's bound world that stand for own ones: each has the number of the own interface under its label.
-use Rattle.std.proofs.Common.{rules as std_rules, ◌≡◌, refl, sym, ap, ◌∙◌, ℕ, zero, suc, ◌+◌, ◌≤◌, arith, Bool, true, false, not, ◌&&◌, ◌||◌, ◌==◌, cond, List, [], ◌∷◌, map, Option, Some, None, is_some, option_and_then, option_map, slice_get, unwrap_or, if◌then◌else◌}
+use Rattle.std.proofs.Common.{rules as std_rules, ◌≡◌, refl, sym, ap, ◌∙◌, ℕ, zero, suc, ◌+◌, ◌≤◌, arith, Bool, true, false, not, ◌&&◌, ◌||◌, cond, List, [], ◌∷◌, map, Option, Some, None, is_some, option_and_then, option_map, slice_get, unwrap_or, if◌then◌else◌}
 use Rattle.std.proofs.lemmas.{List.Sums.sum_by-cons, Option.slice_get-map, Map.Keys.any_passes_from_place as any_at}
 use Rattle.std.specs.{Prelude.String, Prelude.sum_by, List.Contains, Map.lookup, Option.option_map_or}
 use Rattle.std.specs.declared.alloc.Global.{Global}
@@ -78,18 +78,7 @@ module _ (r : Resolve) (valid : IsValid r) (n : ℕ) (v : World) (at : world_at 
   -- by one import
   pub one_import : (k l : ℕ) (d e : WorldKey × WorldItem) → slice_get v.imports.entries k ≡ Some d → slice_get v.imports.entries l ≡ Some e → is_id j (item_interface d.1) ≡ true
       → is_id j (item_interface e.1) ≡ true → k ≡ l
-  one_import k l d e at_d at_e shows_d shows_e = go (k == l) refl
-    where
-      differ : (k == l) ≡ false → k ≡ l → ⊥
-      differ f q = let wrong : true ≡ false = sym (same-number k) ∙ (ap (λ (x : ℕ). k == x) q ∙ f) in let no : ⊥ = cc in no
-
-      go : (b : Bool) → (k == l) ≡ b → k ≡ l
-      go true q = equal k l q
-      go false q =
-          let two = sum_two (λ y. cond (is_id j (item_interface y)) 1 0) (items v.imports.entries) k l d.1 e.1 (item_at v.imports.entries k d at_d) (item_at v.imports.entries l e at_e)
-          (one_of d shows_d) (one_of e shows_e) (differ q) in
-          let most = at_most in
-          absurd (omega (arith, two, most))
+  one_import k l d e at_d at_e shows_d shows_e = grind (arith, same-number, equal, sum_two, item_at, one_of, at_most)
 
   -- or by an export
   pub not_both : {A : Type 0} → is_shown_in v.imports.entries j ≡ true → is_shown_in v.exports.entries j ≡ true → A

@@ -17,7 +17,7 @@ use Rattle.bind_union.proofs.{Itself.get_begin, Lists.no_true, Namesakes.listed_
 use Rattle.bind_union.proofs.WorldNamesakes.{met_imports_stand, target_home, world_type, IsWorldType}
 use Rattle.bind_carry.specs.{BoundGains.gains_any, BoundGains.unified, FirstPass.IsFirstPass, SecondPass.IsSecondPass, Shown.type_in, Whole.IsInterfaceCarried}
 use Rattle.bind_carry.specs.{Fates.copies, Fates.is_carried, Fates.settled_from, CarriedParts.is_function_carried, Numbers.interface_number, Numbers.numbers_of}
-use Rattle.bind_carry.specs.{Renumbered.first_of, Renumbered.is_copied, Renumbered.second_of, Renumbered.is_matched, Renumbered.met_under, Marked.is_inline_at}
+use Rattle.bind_carry.specs.{Renumbered.first_of, Renumbered.is_copied, Renumbered.second_of, Renumbered.is_matched, Marked.is_inline_at}
 use Rattle.bind_carry.specs.First.{beside_first, first_fates, flag_under, is_named_at, second_from, second_in}
 use Rattle.bind_carry.specs.declared.{fate.Fate.Fate, plan.Carried.Carried}
 use Rattle.bind_carry.proofs.CopiesPlaced.{some_same}
@@ -303,27 +303,11 @@ module _ (own other merged : Resolve) (valid_own : IsValid own) (valid_other : I
     pub has_name : is_some shown.name ≡ true
 
   pub uncopied_named : (n : ℕ) → f.carries_interface n ≡ true → flag_under copied n ≡ false → IsNamedThere n
-  uncopied_named n h e = go (interface_at other n) refl (first_true (is_named_at other n) (flag_under c.copied_interfaces.items n || is_matched m.interfaces.items n)
-      (sym (ap (λ b. b || (is_named_at other n && (flag_under c.copied_interfaces.items n || is_matched m.interfaces.items n))) e) ∙ h))
-    where
-      go : (o : Option Interface) → interface_at other n ≡ o → is_named_at other n ≡ true → IsNamedThere n
-      go None q k = no_true (sym (ap (λ o. option_map_or (λ (j : Interface). is_some j.name) o false) q) ∙ k)
-      go (Some i) q k = record { shown = i; there = q; has_name = sym (ap (λ o. option_map_or (λ (j : Interface). is_some j.name) o false) q) ∙ k }
+  uncopied_named n h e = search std_rules
 
   -- what is carried has the number that is handed on
   pub carried_number : (n : ℕ) → f.carries_interface n ≡ true → f.interfaces n ≡ number_under interfaces n
-  carried_number n h = go (flag_under copied n) refl
-    where
-      test : (b : Bool) → (flag_under copied n || is_named_at other n) ≡ b → b ≡ true → f.interfaces n ≡ number_under interfaces n
-      test true e q = ap (λ b. if b then number_under interfaces n else unwrap_or (met_under w.imports.entries v.imports.entries n) (number_under interfaces n)) e
-      test false e q = no_true q
-
-      go : (b : Bool) → flag_under copied n ≡ b → f.interfaces n ≡ number_under interfaces n
-      go true e = test true (ap (λ b. b || is_named_at other n) e) refl
-      go false e =
-          let x = uncopied_named n h e in
-          test true (ap (λ b. b || is_named_at other n) e ∙ is_named_there own other merged valid_own valid_other world other_world w v m c first_numbers p copied interfaces types s n x.shown x.there
-          x.has_name) refl
+  carried_number n h = grind (arith, unwrap_or, no_true, uncopied_named, is_named_there)
 
   -- ---- types of interfaces
 
@@ -348,9 +332,7 @@ module _ (own other merged : Resolve) (valid_own : IsValid own) (valid_other : I
   copied_carries n set = or_left (flag_under copied n) (is_named_at other n && (flag_under c.copied_interfaces.items n || is_matched m.interfaces.items n)) set
 
   pub inline_at : (n : ℕ) (i : Interface) (there : interface_at other n ≡ Some i) (set : flag_under copied n ≡ true) → interface_at merged (f.interfaces n) ≡ Some (inline_place n i there set).image
-  inline_at n i there set =
-      ap (interface_at merged) (carried_number n (copied_carries n set) ∙ ap (λ (l : List ℕ). number_under l n) s.interfaces_are)
-      ∙ (ap (λ l. slice_get l (number_under (numbers_of behind copied c.interfaces.items) n)) inline_here ∙ (inline_place n i there set).at_image)
+  inline_at n i there set = search (std_rules, carried_number n (copied_carries n set), copied_carries n set, inline_here, inline_place n i there set)
 
   copy_interface : (n : ℕ) (i : Interface) → interface_at other n ≡ Some i → i.name ≡ None → flag_under copied n ≡ true → IsInterface other merged f n
   copy_interface n i there inline set = record {

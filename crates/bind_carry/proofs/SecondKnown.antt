@@ -1,5 +1,5 @@
 -- What the second pass begins with is known: from validity, from the first pass, and since the two worlds don't clash.
-use Rattle.std.proofs.Common.{rules as std_rules, ◌≡◌, refl, sym, ap, ◌∙◌, ℕ, ◌+◌, ◌<◌, arith, Bool, true, false, not, ◌||◌, List, [], length, Option, Some, None, is_some, is_none, option_and_then, slice_get}
+use Rattle.std.proofs.Common.{rules as std_rules, ◌≡◌, refl, sym, ap, ◌∙◌, ℕ, ◌+◌, ◌<◌, arith, Bool, true, false, not, ◌||◌, List, [], length, Option, Some, None, is_some, option_and_then, slice_get}
 use Rattle.std.proofs.lemmas.{Bool.or_left, Option.slice_get_within, Map.Keys.any_passes_from_place as any_at}
 use Rattle.std.specs.{Prelude.String, List.Contains, Map.lookup, Option.option_map_or}
 use Rattle.std.specs.declared.alloc.Global.{Global}
@@ -122,20 +122,11 @@ module _ (own other merged : Resolve) (valid_own : IsValid own) (valid_other : I
   -- ---- numbers of interfaces with a name
 
   inline_named : (n : ℕ) (i : Interface) → interface_at other n ≡ Some i → is_some i.name ≡ true → is_inline_at other n ≡ false
-  inline_named n i at named = ap (λ o. option_map_or (λ (j : Interface). is_none j.name) o false) at ∙ none_of i.name named
-    where
-      none_of : {X : Type 0} (o : Option X) → is_some o ≡ true → is_none o ≡ false
-      none_of None h = no_true h
-      none_of (Some x) h = refl
+  inline_named n i at named = search std_rules
 
   -- an interface with a name isn't copied
   pub named_stays : (n : ℕ) (i : Interface) → interface_at other n ≡ Some i → is_some i.name ≡ true → flag_under copied n ≡ false
-  named_stays n i at named = go (flag_under copied n) refl
-    where
-      go : (b : Bool) → flag_under copied n ≡ b → flag_under copied n ≡ false
-      go false e = e
-      go true e = no_true (sym (inline_named n i at named) ∙ gained_inline_alone other c.interfaces.items w v imports_shown exports_shown n
-          (ap (λ (l : List Bool). flag_under l n) (sym s.copied_are) ∙ e))
+  named_stays n i at named = search (std_rules, no_true, inline_named, gained_inline_alone, imports_shown, exports_shown)
 
   -- and has the number that it has by path
   pub named_number : (n : ℕ) (i : Interface) → interface_at other n ≡ Some i → is_some i.name ≡ true → number_under interfaces n ≡ number_under c.interfaces.items n

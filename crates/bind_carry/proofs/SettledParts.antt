@@ -1,5 +1,5 @@
 -- What becomes of types in the end, place by place: a type without a name is copied exactly where all its parts are carried, if anything is added.
-use Rattle.std.proofs.Common.{◌≡◌, refl, sym, ap, ap₂, subst, ◌∙◌, ℕ, zero, suc, ◌+◌, ◌<◌, arith, Bool, true, false, ◌&&◌, nat_lt, List, [], ◌∷◌, ◌++◌, length, Some, is_none, slice_get, unwrap_or, append_assoc, append-nil}
+use Rattle.std.proofs.Common.{rules as std_rules, ◌≡◌, refl, sym, ap, subst, ◌∙◌, ℕ, zero, suc, ◌+◌, ◌<◌, arith, Bool, true, false, ◌&&◌, nat_lt, List, [], ◌∷◌, ◌++◌, length, Some, is_none, slice_get, unwrap_or, append_assoc, append-nil}
 use Rattle.std.proofs.lemmas.Bool.{ltb-true}
 use Rattle.std.specs.Option.{option_map_or}
 use Rattle.wit_model.specs.declared.model.{TypeDef.TypeDef, TypeOwner.TypeOwner}
@@ -25,9 +25,7 @@ front_same (f ∷ fs) rest (suc m) l = front_same fs rest m (omega (arith, l))
 front_all : (done rest : List Fate) (ms : List ℕ) → all_below (length done) ms ≡ true → are_carried (done ++ rest) ms ≡ are_carried done ms
 front_all done rest [] h = refl
 front_all done rest (m ∷ ms) h =
-    ap₂ (λ a b. a && b)
-    (front_same done rest m (ltb-true m (length done) (first_true (nat_lt m (length done)) (all_below (length done) ms) h)))
-    (front_all done rest ms (second_true (nat_lt m (length done)) (all_below (length done) ms) h))
+    search (std_rules, front_same, ltb-true, first_true, second_true, front_all done rest ms (second_true (nat_lt m (length done)) (all_below (length done) ms) h))
 
 -- the last of those in front
 last_of : (done : List Fate) (f : Fate) (rest : List Fate) (n : ℕ) → n ≡ length done → slice_get ((done ++ f ∷ []) ++ rest) n ≡ Some f
@@ -56,10 +54,7 @@ module _ (adds : Bool) where
   settled_more done [] [] long = omega arith
   settled_more done [] (f ∷ fs) long = absurd (omega (arith, long))
   settled_more done (t ∷ ts) [] long = absurd (omega (arith, long))
-  settled_more done (t ∷ ts) (f ∷ fs) long =
-      let rest = settled_more (done ++ one done t f ∷ []) ts fs (omega (arith, long)) in
-      let next = long_by_one done (one done t f) in
-      omega (arith, rest, next)
+  settled_more done (t ∷ ts) (f ∷ fs) long = search (std_rules, long_by_one, settled_more (done ++ one done t f ∷ []) ts fs (omega (arith, long)))
 
   pub settled_long : (types : List TypeDef) (fates : List Fate) → length fates ≡ length types → length (settled_from adds [] types fates) ≡ length types
   settled_long types fates long = let r = settled_more [] types fates long in omega (arith, r)
@@ -108,13 +103,7 @@ module _ (adds : Bool) where
   -- the same from the beginning
   pub settled_all : (types : List TypeDef) (fates : List Fate) → FallBelow types → (n : ℕ) (t : TypeDef) (f : Fate) → slice_get types n ≡ Some t → slice_get fates n ≡ Some f
       → slice_get (settled_from adds [] types fates) n ≡ Some (settled f (is_none t.name) (adds && are_carried (settled_from adds [] types fates) (parts t)))
-  settled_all types fates falls n t f at_t at_f = settled_at [] types fates falls_first n n here t f at_t at_f
-    where
-      here : n ≡ 0 + n
-      here = omega arith
-
-      falls_first : FallFrom 0 types
-      falls_first k d at = let same : k ≡ 0 + k = omega arith in subst (λ (m : ℕ). all_below m (parts d) ≡ true) same (falls k d at)
+  settled_all types fates falls n t f at_t at_f = search (std_rules, settled_at)
 
   -- ---- what follows
 

@@ -1,13 +1,13 @@
 -- Types that meet their fates one by one.
-use Rattle.std.proofs.Common.{rules as std_rules, ◌≡◌, refl, sym, ap, subst, ◌∙◌, ℕ, ◌+◌, ◌<◌, true, arith, List, [], ◌∷◌, ◌++◌, length, map, nat_lt, Option, option_map, zero, suc, append_assoc, append-nil}
+use Rattle.std.proofs.Common.{rules as std_rules, ◌≡◌, refl, sym, ap, ℕ, ◌+◌, ◌<◌, true, arith, List, [], ◌∷◌, ◌++◌, length, map, nat_lt, Option, option_map, zero, suc, append_assoc, append-nil}
 use Rattle.std.proofs.lemmas.{Bool.ltb-true, List.Folds.list_all-append}
-use Rattle.std.specs.List.{flat_map, AllZip}
+use Rattle.std.specs.List.{flat_map}
 use Rattle.wit_model.specs.Text.{Text}
 use Rattle.wit_model.specs.declared.model.{TypeDef.TypeDef, TypeOwner.TypeOwner, «Type».«Type» as ValueType}
 use Rattle.bind_copy.specs.Copies.{all_below, number_under, IsTypeUnder}
 use Rattle.bind_union.specs.Views.{kind_view, optional_numbers, renamed, renamed_type, type_numbers, view_numbers, KindView, record_view, variant_view, tuple_view, own_view, borrow_view, option_view, result_view, list_view, map_view, fixed_list_view, future_view, stream_view, alias_view}
 use Rattle.bind_carry.specs.declared.fate.Fate.{Fate}
-use Rattle.bind_carry.specs.Fates.{copied_types, numbers_by, AreCopied, AreCopiedSoFar, IsCopiedType, MeetsFate}
+use Rattle.bind_carry.specs.Fates.{numbers_by, AreCopied, AreCopiedSoFar, MeetsFate}
 use Rattle.base_lemmas.proofs.Bools.{left_of as first_true, right_of as second_true}
 
 -- ---- numbers that agree below a bound
@@ -95,12 +95,4 @@ module _ (own : ℕ) (types : List TypeDef) (fates : List Fate) (old : List Type
 
   pub all_met : (numbers : List ℕ) (left_types : List TypeDef) (left_fates : List Fate) (new : List TypeDef) → left_types ≡ [] → left_fates ≡ [] → SoFar numbers left_types left_fates new
       → AreCopied own numbers types fates old new
-  all_met numbers left_types left_fates new no_types no_fates so =
-      let numbers_are : numbers ≡ N = sym (append-nil numbers) ∙ (ap (λ l. numbers ++ numbers_by (own + length new) l) (sym no_fates) ∙ so.numbers_are) in
-      record {
-        numbers_are = numbers_are;
-        more = so.more;
-        behind = so.behind;
-        copied = subst (λ l. AllZip (IsCopiedType l) (copied_types types fates) so.more) (sym numbers_are)
-            (subst (AllZip (IsCopiedType N) (copied_types types fates)) (append-nil so.more) (so.copied [] (subst (λ l. AllZip (IsCopiedType N) (copied_types l left_fates) []) (sym no_types) tt)));
-      }
+  all_met numbers left_types left_fates new no_types no_fates so = search (std_rules, append-nil numbers, append-nil so.more)

@@ -1,5 +1,5 @@
 -- No map of what was merged has a key twice: what is inserted keeps keys apart, and copies have the names of what they are of.
-use Rattle.std.proofs.Common.{rules as std_rules, ◌≡◌, sym, ap, subst, ◌∙◌, ℕ, Bool, not, List, ◌++◌, Some, slice_get, string_eq, ◌⊎◌, inl, inr, refl, zero, suc, arith, true, false, [], ◌∷◌, map, Option, slice_set, if◌then◌else◌}
+use Rattle.std.proofs.Common.{rules as std_rules, ◌≡◌, sym, ap, subst, ◌∙◌, ℕ, Bool, not, List, ◌++◌, Some, slice_get, string_eq, ◌⊎◌, inl, inr, refl, zero, suc, arith, true, false, [], ◌∷◌, map, Option, slice_set}
 use Rattle.std.proofs.lemmas.{List.length-map, Map.Made.IsDistinct-keys_filter, Option.slice_get_within}
 use Rattle.std.specs.{Prelude.String, List.filter, List.AllZip, List.AllByRecursion, List.IsDistinct, Map.keys_of}
 use Rattle.std.specs.declared.alloc.Global.{Global}
@@ -21,7 +21,7 @@ use Rattle.bind_carry.proofs.NamesGained.{copied_interface, copied_world, distin
 use Rattle.base_lemmas.proofs.{Bools.left_of as first_true, Elements.zip_at_right as zip_at, Lists.within_there}
 use Rattle.wit_model.proofs.Distinct.{text_eq_flip}
 use Rattle.bind_add.specs.Growth.{GainsNone, HasGained, HasGainedItems, IsAdded}
-use Rattle.bind_copy.specs.Copies.{become_one, is_new_under, names_in, type_names, AreNewCopied, IsEntryUnder, IsFunctionEntry, IsInterfaceUnder, IsKeyUnder}
+use Rattle.bind_copy.specs.Copies.{become_one, names_in, type_names, AreNewCopied, IsEntryUnder, IsFunctionEntry, IsInterfaceUnder, IsKeyUnder}
 use Rattle.bind_copy.proofs.{Gained.same_images, CopiesLemmas.names_alone_under}
 
 -- ---- What a union adds stands under keys that weren't there.
@@ -123,21 +123,12 @@ module _ {K X : Type 0} (eq : K → K → Bool) (flip : (a b : K) → eq a b ≡
   still_apart : (k : K) (es : List (K × X)) (l : K) (x : X) → eq k l ≡ false → AllByRecursion (λ y. eq k y ≡ false) (keys_of es)
       → AllByRecursion (λ y. eq k y ≡ false) (keys_of (insert_entry eq es l x))
   still_apart k [] l x one h = (one, tt)
-  still_apart k (e ∷ es) l x one h = go (eq l e.0) refl (still_apart k es l x one h.1)
-    where
-      go : (b : Bool) → eq l e.0 ≡ b → AllByRecursion (λ y. eq k y ≡ false) (keys_of (insert_entry eq es l x))
-          → AllByRecursion (λ y. eq k y ≡ false) (keys_of (if b then (e.0, x) ∷ es else e ∷ insert_entry eq es l x))
-      go true q rest = h
-      go false q rest = (h.0, rest)
+  still_apart k (e ∷ es) l x one h = search (std_rules, still_apart k es l x one h.1)
 
   insert_apart : (es : List (K × X)) (l : K) (x : X) → IsDistinct eq (keys_of es) → IsDistinct eq (keys_of (insert_entry eq es l x))
   unfolding IsDistinct
   insert_apart [] l x h = (tt, tt)
-  insert_apart (e ∷ es) l x h = go (eq l e.0) refl (insert_apart es l x h.1)
-    where
-      go : (b : Bool) → eq l e.0 ≡ b → IsDistinct eq (keys_of (insert_entry eq es l x)) → IsDistinct eq (keys_of (if b then (e.0, x) ∷ es else e ∷ insert_entry eq es l x))
-      go true q rest = h
-      go false q rest = (still_apart e.0 es l x (flip e.0 l ∙ q) h.0, rest)
+  insert_apart (e ∷ es) l x h = search (std_rules, still_apart, insert_apart es l x h.1)
 
   pub all_apart : (es xs : List (K × X)) → IsDistinct eq (keys_of es) → IsDistinct eq (keys_of (insert_all eq es xs))
   all_apart es [] h = h
@@ -201,11 +192,7 @@ module _ (interfaces types : List ℕ) where
 
   pub copied_distinct : (here olds news : List (WorldKey × WorldItem)) → AreNewCopied interfaces types here olds news → IsDistinct (become_one interfaces) (keys_of olds)
       → IsDistinct key_eq (keys_of news)
-  copied_distinct here olds news are h =
-      images_distinct (filter test olds) news (are h) (IsDistinct-keys_filter (become_one interfaces) test olds h)
-    where
-      test : WorldKey × WorldItem → Bool
-      test e = is_new_under interfaces here e.0
+  copied_distinct here olds news are h = search (std_rules, images_distinct, IsDistinct-keys_filter)
 
 -- ---- places in lists
 

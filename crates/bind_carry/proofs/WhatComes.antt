@@ -1,19 +1,19 @@
 -- What is copied of types: those whose owners are, types that new imports are, and types without a name that are made of what is carried.
 use Rattle.std.proofs.Common.{rules as std_rules, ◌≡◌, ◌⊎◌, inl, inr, refl, sym, ap, subst, ◌∙◌, ℕ, zero, suc, ◌<◌, arith, Bool, true, false, ◌&&◌, ◌==◌, ◌+◌, cond, nat_lt, List, [], ◌∷◌, length, map, Option, Some, None, is_none, is_some, option_map, slice_get, if◌then◌else◌}
 use Rattle.std.proofs.lemmas.{Bool.ltb-true, List.length-map, List.Sums.sum_by-cons, Option.slice_get-map, Option.slice_get_within}
-use Rattle.std.specs.{Prelude.String, Prelude.count_by, Prelude.option_and_then, HashMap.get_by_text, List.Contains, Option.option_map_or}
+use Rattle.std.specs.{Prelude.String, Prelude.count_by, List.Contains, Option.option_map_or}
 use Rattle.std.specs.declared.alloc.Global.{Global}
-use Rattle.wit_model.specs.{Lookup.interface_at, Lookup.world_at, Rules.item_type, Text.Text, Text.optional_text, Text.text_of, Valid.IsValid, Valid.as_world}
+use Rattle.wit_model.specs.{Lookup.world_at, Rules.item_type, Text.Text, Text.optional_text, Text.text_of, Valid.IsValid, Valid.as_world}
 use Rattle.wit_model.specs.declared.model.{InterfaceId.InterfaceId, Resolve.Resolve, TypeId.TypeId, TypeOwner.TypeOwner, WorldItem.WorldItem, WorldKey.WorldKey, TypeDef.TypeDef, World.World, WorldId.WorldId}
 use Rattle.wit_model.proofs.Elements.{contains-get}
 use Rattle.bind_copy.specs.Copies.{is_new_under}
 use Rattle.bind_union.proofs.{Lists.no_true, WorldNamesakes.type_imported, WorldNamesakes.world_type, WorldNamesakes.IsImported}
-use Rattle.bind_carry.specs.{BoundGains.bound_fates, BoundGains.gains_any, BoundGains.type_under_key, BoundGains.unified, Renumbered.is_matched, Shown.type_in, Listed.given_interface, Listed.type_named, Numbers.copied_count, SecondPass.DoNotClash, TooLong.CarriedThings, TooLong.TypeFates}
+use Rattle.bind_carry.specs.{BoundGains.bound_fates, BoundGains.gains_any, BoundGains.type_under_key, BoundGains.unified, Renumbered.is_matched, Shown.type_in, Numbers.copied_count, SecondPass.DoNotClash, TooLong.CarriedThings, TooLong.TypeFates}
 use Rattle.bind_carry.specs.Fates.{are_carried, carries, copies, is_carried, settled, settled_from, FallBelow}
 use Rattle.bind_carry.specs.First.{adds_any, beside_first, fate_in, fate_named, fate_of, first_fates, flag_under, is_named_at, second_from, second_in}
 use Rattle.bind_carry.specs.MadeOf.{owned, type_parts, unnamed, IsMadeOf, IsMadeUp, IsOwnedBy}
 use Rattle.bind_carry.specs.declared.fate.Fate.{Fate}
-use Rattle.bind_carry.proofs.{CopiesPlaced.some_same, PartsCarried.no_home, Ranges.is_in_range, FirstInterfaces.beside_stands, FirstInterfaces.named_no_copy, SecondKnown.number_type, SecondKnown.type_number, SecondKnown.unmet_new, SettledParts.settled_all, SettledParts.settled_long}
+use Rattle.bind_carry.proofs.{CopiesPlaced.some_same, PartsCarried.no_home, Ranges.is_in_range, FirstInterfaces.named_no_copy, SecondKnown.number_type, SecondKnown.type_number, SecondKnown.unmet_new, SettledParts.settled_all, SettledParts.settled_long}
 use Rattle.bind_carry.proofs.SecondInitial.{second_long, unified_at, unified_long, unified_set, IsUnified}
 use Rattle.base_lemmas.proofs.{Bools.left_of, Bools.right_of, Elements.all-contained, Elements.get-contains, Lists.within_there, Numbers.equal}
 use Rattle.wit_model.specs.declared.model.TypeOwner.TheVariants as owner
@@ -119,38 +119,13 @@ module _ (own other : Resolve) (valid_other : IsValid other) (matched : List (Op
     (copied_world : (id : WorldId) → flag_under c.copied_worlds.items id.0 ≡ true → Copied (owner.World id))
     (copied_owner : (o : TypeOwner) → Copied o → Owner o) (matched_owner : (id : InterfaceId) → is_matched matched id.0 ≡ true → Owner (owner.Interface id)) where
   named_matched : (n : ℕ) (name : Option Text) → carries (fate_named own matched n name) ≡ true → is_matched matched n ≡ true
-  named_matched n None h = no_true h
-  named_matched n (Some name) h = by (given_interface (slice_get matched n)) refl (beside_stands (type_named own matched n name) h)
-    where
-      by : (o : Option InterfaceId) → given_interface (slice_get matched n) ≡ o → is_some (type_named own matched n name) ≡ true → is_matched matched n ≡ true
-      by None e k = no_true (sym (ap (λ (o : Option InterfaceId). is_some (option_and_then (λ id. option_and_then (λ i. get_by_text i.types name) (interface_at own id.0)) o)) e) ∙ k)
-      by (Some id) e k = ap is_some e
+  named_matched n x h = search std_rules
 
   begins_copied : (o : TypeOwner) (name : Option Text) → copies (fate_in own matched c o name) ≡ true → Copied o
-  begins_copied owner.None name h = no_true h
-  begins_copied (owner.World id) name h = by (flag_under c.copied_worlds.items id.0) refl (fate.Copied _) h
-    where
-      by : (b : Bool) → flag_under c.copied_worlds.items id.0 ≡ b → (f : Fate) → copies (if b then f else fate.Left) ≡ true → Copied (owner.World id)
-      by true e f k = copied_world id e
-      by false e f k = no_true k
-  begins_copied (owner.Interface id) name h = by (flag_under c.copied_interfaces.items id.0) refl (fate.Copied _) h
-    where
-      by : (b : Bool) → flag_under c.copied_interfaces.items id.0 ≡ b → (f : Fate) → copies (if b then f else fate_named own matched id.0 name) ≡ true → Copied (owner.Interface id)
-      by true e f k = copied_interface id e
-      by false e f k = no_true (sym (named_no_copy own matched id.0 name) ∙ k)
+  begins_copied x name h = grind (arith, no_true, named_no_copy)
 
   begins_carried : (o : TypeOwner) (name : Option Text) → carries (fate_in own matched c o name) ≡ true → Owner o
-  begins_carried owner.None name h = no_true h
-  begins_carried (owner.World id) name h = by (flag_under c.copied_worlds.items id.0) refl (fate.Copied _) h
-    where
-      by : (b : Bool) → flag_under c.copied_worlds.items id.0 ≡ b → (f : Fate) → carries (if b then f else fate.Left) ≡ true → Owner (owner.World id)
-      by true e f k = copied_owner (owner.World id) (copied_world id e)
-      by false e f k = no_true k
-  begins_carried (owner.Interface id) name h = by (flag_under c.copied_interfaces.items id.0) refl (fate.Copied _) h
-    where
-      by : (b : Bool) → flag_under c.copied_interfaces.items id.0 ≡ b → (f : Fate) → carries (if b then f else fate_named own matched id.0 name) ≡ true → Owner (owner.Interface id)
-      by true e f k = copied_owner (owner.Interface id) (copied_interface id e)
-      by false e f k = matched_owner id (named_matched id.0 name k)
+  begins_carried x name h = grind (arith, no_true, named_matched)
 
   abbrev initial : List Fate
   initial = map (fate_of own matched c) other.types.items
@@ -197,12 +172,7 @@ module _ (own other : Resolve) (valid_own : IsValid own) (valid_other : IsValid 
   behind_is [] fs ns n t g at e = let wrong : ⊥ = cc in absurd wrong
   behind_is (u ∷ ts) [] ns n t g at e = let wrong : ⊥ = cc in absurd wrong
   behind_is (u ∷ ts) (f ∷ fs) [] n t g at e = let wrong : ⊥ = cc in absurd wrong
-  behind_is (u ∷ ts) (f ∷ fs) (k ∷ ns) zero t g at e = (
-    f,
-    k,
-    ap (λ (x : TypeDef). second_in other world other_world copied interfaces x.owner (beside_first f k)) (sym (some_same u t at)) ∙ some_same
-        (second_in other world other_world copied interfaces u.owner (beside_first f k)) g e,
-  )
+  behind_is (u ∷ ts) (f ∷ fs) (k ∷ ns) zero t g at e = search std_rules
   behind_is (u ∷ ts) (f ∷ fs) (k ∷ ns) (suc n) t g at e = behind_is ts fs ns n t g at e
 
   long_behind : length behind ≡ length types
@@ -223,9 +193,6 @@ module _ (own other : Resolve) (valid_own : IsValid own) (valid_other : IsValid 
           → ((g : Fate) × (k : ℕ) × (second_in other world other_world copied interfaces t.owner (beside_first g k) ≡ f)) ⊎ IsUnified w.imports.entries v.imports.entries at_first n
       by (inl same) = let b = behind_is types before numbers n t g.0 at g.1 in inl (b.0, b.1, b.2 ∙ some_same g.0 f (sym same ∙ e))
       by (inr u) = inr u
-
-  left_beside : (f : Fate) (n : ℕ) → copies (beside_first f n) ≡ false
-  left_beside x n = search std_rules
 
   stands_left : (k : ℕ) (f : Fate) → fate.Stands k ≡ f → copies f ≡ true → ⊥
   stands_left k f e h = no_true (ap copies e ∙ h)
@@ -274,12 +241,7 @@ module _ (own other : Resolve) (valid_own : IsValid own) (valid_other : IsValid 
       by : (b : Bool) → (id.0 == other_world) ≡ b → (h : Fate) → copies (if b then h else fate.Left) ≡ true → Gained n
       by false q h r = no_true r
       by true q h r = inr (new_import n t f at (home ∙ ap (λ (m : ℕ). as_world m) (equal id.0 other_world q)) e copy)
-  gained_home n t f (owner.Interface id) g k at e copy home is = by (flag_under copied id.0) refl (is_named_at other id.0) (fate.Copied _) (ap copies is ∙ copy)
-    where
-      by : (b : Bool) → flag_under copied id.0 ≡ b → (d : Bool) (h : Fate) → copies (if b then h else (if d then beside_first g k else fate.Left)) ≡ true → Gained n
-      by true q d h r = inl (record { def = t; found = at; owned_so = subst Copied (sym home) (copied_interface id q) })
-      by false q true h r = no_true (sym (left_beside g k) ∙ r)
-      by false q false h r = no_true r
+  gained_home n t f (owner.Interface id) g k at e copy home is = search std_rules
 
   gained_copied : (n : ℕ) (t : TypeDef) (f : Fate) → slice_get types n ≡ Some t → slice_get at_first n ≡ Some f → copies f ≡ true → Gained n
   gained_copied n t f at e copy = by (begins n t f at e)
@@ -289,19 +251,7 @@ module _ (own other : Resolve) (valid_own : IsValid own) (valid_other : IsValid 
       by (inr u) = absurd (stands_left u.own.0 f (some_same (fate.Stands u.own.0) f (sym u.stands ∙ e)) copy)
 
   carried_home : (o : TypeOwner) (f g : Fate) (k : ℕ) → carries f ≡ true → second_in other world other_world copied interfaces o (beside_first g k) ≡ f → Owner o
-  carried_home owner.None f g k carry is = no_true (ap carries is ∙ carry)
-  carried_home (owner.World id) f g k carry is = by (id.0 == other_world) refl (fate.Copied _) (ap carries is ∙ carry)
-    where
-      by : (b : Bool) → (id.0 == other_world) ≡ b → (h : Fate) → carries (if b then h else fate.Left) ≡ true → Owner (owner.World id)
-      by false q h r = no_true r
-      by true q h r = bound_owner id (equal id.0 other_world q)
-  carried_home (owner.Interface id) f g k carry is = by (flag_under copied id.0) refl (is_named_at other id.0) refl (fate.Copied _) (ap carries is ∙ carry)
-    where
-      by : (b : Bool) → flag_under copied id.0 ≡ b → (d : Bool) → is_named_at other id.0 ≡ d → (h : Fate) → carries (if b then h else (if d then beside_first g k else fate.Left)) ≡ true
-          → Owner (owner.Interface id)
-      by true q d s h r = copied_owner (owner.Interface id) (copied_interface id q)
-      by false q true s h r = named_owner id s
-      by false q false s h r = no_true r
+  carried_home x f g k carry is = grind (arith, no_true, equal)
 
   gained_carried : (n : ℕ) (t : TypeDef) (f : Fate) → slice_get types n ≡ Some t → slice_get at_first n ≡ Some f → carries f ≡ true → Owner t.owner
   gained_carried n t f at e carry = by (begins n t f at e)

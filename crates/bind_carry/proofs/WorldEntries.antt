@@ -82,15 +82,8 @@ module _ (r : Resolve) (valid : IsValid r) (n : ℕ) (w : World) (at : world_at 
 abbrev pub IsNumberedSame : List ℕ → List ℕ → WorldKey → Type 0
 IsNumberedSame a b k = (id : InterfaceId) → k ≡ key.Interface id → number_under a id.0 ≡ number_under b id.0
 
-key_test_same : (a b : List ℕ) (k x : WorldKey) → IsNumberedSame a b k → is_key_under a k x ≡ is_key_under b k x
-key_test_same a b x y same = search std_rules
-
 pub new_under_same : (a b : List ℕ) (here : List (WorldKey × WorldItem)) (k : WorldKey) → IsNumberedSame a b k → is_new_under a here k ≡ is_new_under b here k
-new_under_same a b here k same = ap not (go here)
-  where
-    go : (es : List (WorldKey × WorldItem)) → list_any (λ (x : WorldKey × WorldItem). is_key_under a k x.0) es ≡ list_any (λ (x : WorldKey × WorldItem). is_key_under b k x.0) es
-    go [] = refl
-    go (x ∷ xs) = ap₂ (λ p q. p || q) (key_test_same a b k x.0 same) (go xs)
+new_under_same a b here k same = search std_rules
 
 pub any_new_same : (a b : List ℕ) (here es : List (WorldKey × WorldItem)) → ((e : WorldKey × WorldItem) → Contains es e → IsNumberedSame a b e.0) → any_new a here es ≡ any_new b here es
 any_new_same a b here [] same = refl

@@ -1,5 +1,5 @@
 -- A component type that has imported types, while nothing else has changed, shows these types too.
-use Rattle.std.proofs.Common.{◌≡◌, refl, sym, subst, ap, ◌∙◌, Bool, true, false, ◌&&◌, cond, List, [], ◌∷◌, ◌++◌, length, append-nil}
+use Rattle.std.proofs.Common.{rules as std_rules, ◌≡◌, refl, sym, subst, ap, ◌∙◌, true, List, [], ◌∷◌, ◌++◌, length, append-nil}
 use Rattle.std.proofs.lemmas.List.Folds.{list_all-append}
 use Rattle.std.specs.List.{AllZip, list_all}
 use Rattle.comp_meaning.specs.Follow.{Seen, Shown}
@@ -13,16 +13,10 @@ AreTypes ss = list_all (λ s. is_type_shown s.shown) ss ≡ true
 
 types-are-types : (ss : List Seen) → AreTypes (types_seen ss)
 types-are-types [] = refl
-types-are-types (s ∷ ss) = go (is_type_shown s.shown) refl (types-are-types ss)
-  where
-    go : (b : Bool) → is_type_shown s.shown ≡ b → AreTypes (types_seen ss) → AreTypes (cond b (s ∷ types_seen ss) (types_seen ss))
-    go true e more = ap (λ c. c && list_all (λ t. is_type_shown t.shown) (types_seen ss)) e ∙ more
-    go false e more = more
+types-are-types (s ∷ ss) = search (std_rules, types-are-types ss)
 
 no-instances : (shown : Shown) → is_type_shown shown ≡ true → instances_of shown ≡ []
-no-instances (Shown.instance key view) h = let wrong : ⊥ = cc in absurd wrong
-no-instances (Shown.function f) h = refl
-no-instances (Shown.declares d) h = refl
+no-instances x h = search std_rules
 
 -- types bring no instances
 none-of-types : (ts : List Seen) → AreTypes ts → shown_instances ts ≡ []

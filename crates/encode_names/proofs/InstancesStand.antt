@@ -1,5 +1,5 @@
 -- The instances in the component type of a world are those of the interfaces that it shows, and their types are reached by aliases.
-use Rattle.std.proofs.Common.{◌≡◌, refl, sym, subst, ap, ◌∙◌, Bool, true, false, List, [], ◌∷◌, ◌++◌, Some}
+use Rattle.std.proofs.Common.{rules as std_rules, ◌≡◌, refl, sym, subst, ap, ◌∙◌, Bool, List, [], ◌∷◌, Some}
 use Rattle.std.proofs.lemmas.List.Elements.{Contains-append_left}
 use Rattle.std.specs.{Prelude.is_some, Prelude.option_to_list, List.AllZip, List.Contains, List.flat_map}
 use Rattle.wit_model.specs.{Text.Text, Text.text_of, Tree.Place, Lookup.interface_path, Parts.is_resource, Uses.item_interface, Valid.IsValid}
@@ -33,15 +33,12 @@ module _ (r : Resolve) (v : IsValid r) where
       (stands-one e s (is e (Contains-append_left (e ∷ []) es e (contains-one e))) z.0) (stands-each es ss (λ x c. is x (contains-later e es x c)) z.1)
 
 pub instances_stand : InstancesStand
-instances_stand r done scope v are h =
-    subst (AllZip (StandsAs r) (interfaces_among (done.0 ++ done.1))) (sym h.instances)
-    (stands-each r v (done.0 ++ done.1) (scope.imports ++ scope.exports) are (zip-append (ShowsItem r) done.0 scope.imports done.1 scope.exports h.imports h.exports))
+instances_stand r done scope v are h = search (std_rules, stands-each, zip-append)
 
 -- ---- aliases
 
 no-instance : (is_one : Bool) (place : Place) (name : Text) → instance_types (name_slot is_one place name ∷ []) ≡ 0
-no-instance true place name = refl
-no-instance false place name = refl
+no-instance x place name = search std_rules
 
 pub aliases_are_names : AliasesAreNames
 aliases_are_names r done scope m instance i interface n def name v there path at named owned h listed stands =

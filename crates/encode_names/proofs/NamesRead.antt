@@ -1,5 +1,5 @@
 -- The name of each import and each export of a valid world says which it is.
-use Rattle.std.proofs.Common.{◌≡◌, ◌⊎◌, inl, inr, refl, sym, ap, ◌∙◌, ℕ, Bool, true, false, not, ◌&&◌, cond, Option, Some, None, String, option_map, option_and_then}
+use Rattle.std.proofs.Common.{rules as std_rules, ◌≡◌, ◌⊎◌, inl, inr, refl, sym, ap, ◌∙◌, ℕ, Bool, true, false, not, ◌&&◌, Option, Some, None, String, option_map, option_and_then}
 use Rattle.std.proofs.lemmas.List.Elements.{Contains-append_cases}
 use Rattle.std.specs.declared.alloc.Global.{Global}
 use Rattle.std.specs.{Prelude.is_some, Option.option_map_or, List.Contains}
@@ -7,8 +7,8 @@ use Rattle.wit_model.specs.{Text.Text, Text.text_of, Names.is_label, Meant.item_
 use Rattle.wit_model.specs.{Lookup.interface_at, Lookup.interface_path, Lookup.path_of_interface, Rules.is_id, Rules.is_member, Rules.is_name_key}
 use Rattle.wit_model.specs.declared.model.{Resolve.Resolve, WorldKey.WorldKey, WorldItem.WorldItem, Interface.Interface, InterfaceId.InterfaceId}
 use Rattle.wit_model.proofs.OnePath.{found-in, named-path}
-use Rattle.comp_bytes.specs.{Raw.ExternName, Reading.◌>>=◌}
-use Rattle.comp_meaning.specs.Follow.{Key, complete_path, key_of, provided}
+use Rattle.comp_bytes.specs.{Raw.ExternName}
+use Rattle.comp_meaning.specs.Follow.{Key, key_of}
 use Rattle.encode_shown.specs.Views.{instance_key}
 use Rattle.encode_shown.proofs.Entries.{IsEntry, import-entry, export-entry, interface-key-path}
 use Rattle.encode_names.specs.WorldNames.{name_of_item, written_path, written_suffix}
@@ -20,8 +20,7 @@ use Rattle.wit_model.specs.declared.model.WorldItem.TheVariants as item
 
 -- nothing completes a name without a path
 pub no-suffix : (r : Resolve) (canonical : Bool) → written_suffix r canonical None ≡ None
-no-suffix r true = refl
-no-suffix r false = refl
+no-suffix r x = search std_rules
 
 -- the name of a label, with the interface that it implements
 abbrev labelled : Resolve → Bool → Text → Option Text → Option ℕ → ExternName
@@ -34,14 +33,11 @@ labelled r canonical text external_id target = record {
 
 module _ (r : Resolve) (v : IsValid r) (canonical : Bool) where
   inline-key : (text : Text) (external_id : Option Text) → is_label text ≡ true → key_of (labelled r canonical text external_id None) ≡ Some (Key.label text)
-  inline-key text external_id label =
-      ap (λ s. cond (is_label text && not (is_some s)) (Some (Key.label text)) (complete_path text s >>= λ whole. Some (Key.path whole))) (no-suffix r canonical)
-      ∙ ap (λ b. cond (b && true) (Some (Key.label text)) (complete_path text None >>= λ whole. Some (Key.path whole))) label
+  inline-key text external_id label = search std_rules
 
   named-key : (text : Text) (external_id : Option Text) → is_label text ≡ true → (n : ℕ) (path : Text) → interface_path r n ≡ Some path
       → key_of (labelled r canonical text external_id (Some n)) ≡ Some (Key.implementing text path)
-  named-key text external_id label n path is =
-      ap (λ o. o >>= λ whole. provided (is_label text) (Key.implementing text whole)) (written-path r v n path is canonical) ∙ ap (λ b. provided b (Key.implementing text path)) label
+  named-key text external_id label n path is = search (std_rules, written-path r v n path is canonical)
 
   -- an interface under a label: inline, or one that has a path
   label-key : (name : String Global) (id : InterfaceId) (external_id : Option Text) (def : Interface) → is_label (text_of name) ≡ true → interface_at r id.0 ≡ Some def

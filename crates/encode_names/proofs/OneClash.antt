@@ -1,5 +1,5 @@
 -- A list has one first repeat at most, and none where its texts are different.
-use Rattle.std.proofs.Common.{◌≡◌, sym, ap, subst, ◌∙◌, ◌⊎◌, inl, inr, true, false, List, [], ◌∷◌, ◌++◌}
+use Rattle.std.proofs.Common.{rules as std_rules, ◌≡◌, sym, ap, subst, ◌∙◌, ◌⊎◌, inl, inr, true, false, List, [], ◌∷◌, ◌++◌}
 use Rattle.std.proofs.lemmas.List.Elements.{Contains-append_cases, Contains-append_left, Contains-append_right}
 use Rattle.std.specs.List.{AllByRecursion, Contains, IsDistinct}
 use Rattle.wit_model.specs.Text.{Text, text_eq}
@@ -53,12 +53,7 @@ split-twice (z ∷ before) after (u ∷ other) rest x y e = go (ap (λ l. head-o
 -- ---- first repeats
 
 pub one-repeat : (texts : List Text) (x y : Text) → IsFirstRepeat texts x → IsFirstRepeat texts y → x ≡ y
-one-repeat texts x y a b = go (split-twice a.before a.after b.before b.after x y (sym a.is ∙ b.is))
-  where
-    go : AreSplit x y a.before b.before → x ≡ y
-    go (AreSplit.same s) = s
-    go (AreSplit.sooner more s) = absurd (stands-once a.before more x (subst AreDifferent s b.different) a.repeats)
-    go (AreSplit.later more s) = absurd (stands-once b.before more y (subst AreDifferent s a.different) b.repeats)
+one-repeat texts x y a b = search (std_rules, split-twice, same, sooner, stands-once, later)
 
 pub no-repeat : (texts : List Text) (x : Text) → AreDifferent texts → IsFirstRepeat texts x → ⊥
 no-repeat texts x d a = stands-once a.before a.after x (subst AreDifferent a.is d) a.repeats

@@ -1,5 +1,5 @@
 -- Names that are seen one after the other: the next canonical path, and what comes of a name that was seen.
-use Rattle.std.proofs.Common.{◌≡◌, refl, sym, ap, subst, ◌∙◌, ℕ, ◌<◌, ◌≤◌, ◌+◌, List, [], ◌∷◌, ◌++◌, append_assoc, add-one, drop, get_or, length, map, true, Result, Ok, Err, IfErr}
+use Rattle.std.proofs.Common.{rules as std_rules, ◌≡◌, refl, sym, ap, subst, ◌∙◌, ℕ, ◌<◌, ◌≤◌, ◌+◌, List, [], ◌∷◌, ◌++◌, append_assoc, add-one, drop, get_or, length, map, true, Result, IfErr}
 use Rattle.std.proofs.{Math.Seq.drop-cons, lemmas.List.append-nil, lemmas.List.drop_all}
 use Rattle.std.specs.{Prelude.IsErrAnd, Prelude.String, List.Contains}
 use Rattle.std.specs.declared.alloc.Global.{Global}
@@ -13,8 +13,7 @@ use Rattle.encode_names.specs.Clashes.{canonical_names_of, canonical_paths_of, A
 
 -- the names of these items, where this one is put behind those before
 pub split-on : (names before before' rest : List Text) (x y : Text) → names ≡ before ++ (y ∷ rest) → x ≡ y → before' ≡ before ++ x ∷ [] → names ≡ before' ++ rest
-split-on names before before' rest x y split is more =
-    split ∙ ap (λ z. before ++ (z ∷ rest)) (sym is) ∙ sym (append_assoc before (x ∷ []) rest) ∙ ap (λ ts. ts ++ rest) (sym more)
+split-on names before before' rest x y split is more = search (std_rules, append_assoc)
 
 module _ (r : Resolve) (xs : List InterfaceId) (i : ℕ) where
   abbrev pub left : ℕ → List Text
@@ -24,13 +23,10 @@ module _ (r : Resolve) (xs : List InterfaceId) (i : ℕ) where
   next = written_path r true (get_or xs i (record { 0 = 0 })).0
 
   pub path-next : i < length xs → left i ≡ next ∷ left (i + 1)
-  path-next l =
-      let here : drop i xs ≡ get_or xs i (record { 0 = 0 }) ∷ drop (i + 1) xs = rw (add-one, drop-cons xs i (record { 0 = 0 })) refl in
-      ap (λ (ys : List InterfaceId). canonical_paths_of r (map (λ (id : InterfaceId). id.0) ys)) here
+  path-next l = search (std_rules, add-one, drop-cons)
 
   pub paths-end : (names before : List Text) → length xs ≤ i → names ≡ before ++ left i → names ≡ before
-  paths-end names before l split =
-      split ∙ ap (λ (ys : List InterfaceId). before ++ canonical_paths_of r (map (λ (id : InterfaceId). id.0) ys)) (drop_all i xs l) ∙ append-nil before
+  paths-end names before l split = search (std_rules, drop_all, append-nil)
 
 -- ---- a name that was seen
 
@@ -51,8 +47,7 @@ paths-refused r numbers before rest x e split different (RefusesText.clash name 
     RefusesPaths.clash refl name (first-repeat (canonical_paths_of r numbers) before rest x split different name is seen) h
 
 pub passed : {X : Type 0} (P : Error → Type 0) (e : Error) (given : Result X Error) → P e → IsErrAnd given (λ f. f ≡ e) → IfErr given P
-passed P e (Ok x) p h = tt
-passed P e (Err f) p h = subst P (sym h) p
+passed x e y p h = search std_rules
 
 module _ {X : Type 0} (r : Resolve) (before rest : List Text) (x y : Text) (e : Error) (given : Result X Error) where
   pub items_refused : (items : List (WorldKey × WorldItem)) → canonical_names_of r items ≡ before ++ (y ∷ rest) → x ≡ y → AreDifferent before → RefusesText before x e

@@ -1,9 +1,9 @@
 -- The path of an interface, as it is written and completed, reads as its path.
-use Rattle.std.proofs.Common.{◌≡◌, refl, sym, ap, ◌∙◌, ℕ, ◌<◌, Bool, true, false, not, ◌&&◌, ◌==◌, nat_lt, cond, [], ◌∷◌, ◌++◌, length, decimal, append-nil, Option, Some, None, option_map, option_and_then, unwrap_or, arith}
+use Rattle.std.proofs.Common.{rules as std_rules, ◌≡◌, refl, sym, ap, ◌∙◌, ℕ, ◌<◌, Bool, true, false, not, ◌==◌, [], ◌∷◌, ◌++◌, length, append-nil, Option, Some, None, option_map, option_and_then, unwrap_or}
 use Rattle.std.proofs.lemmas.{List.Folds.list_all-append, Fmt.decimal_nonempty, Option.same_Some as same-some}
 use Rattle.std.specs.{Prelude.is_some, List.list_all}
 use Rattle.semver.specs.declared.Version.{Version}
-use Rattle.semver.specs.{Identifiers.parts_of, Identifiers.parts_text, Parse.Parts}
+use Rattle.semver.specs.{Identifiers.parts_of, Parse.Parts}
 use Rattle.wit_model.specs.{Text.Text, Text.text_of, Rules.passes, Valid.IsValid}
 use Rattle.wit_model.specs.Names.{PackageIdentity, path_in, cut, is_label, is_version, read_path, canonical_version, version_suffix}
 use Rattle.wit_model.specs.Lookup.{interface_path, canonical_path, canonical_suffix, canonical_identity_of, identity_of}
@@ -11,8 +11,7 @@ use Rattle.wit_model.specs.declared.model.{Resolve.Resolve, PackageName.PackageN
 use Rattle.wit_model.proofs.{NameLaws.label_lacks, NameLaws.spelled_path_reads, OnePath.HasPath, OnePath.has-path, OnePath.package-name, OnePath.path-label}
 use Rattle.wit_model.proofs.{PathParts.canonical_found, PathParts.canonical_paths_join, PathParts.suffix_found, PathsLemmas.named_in_full as full-name}
 use Rattle.wit_model.proofs.VersionLaws.{valid_parts}
-use Rattle.comp_bytes.specs.Reading.{◌>>=◌}
-use Rattle.comp_meaning.specs.Follow.{Key, complete_path, is_begun_version, is_filled, plain_key, provided}
+use Rattle.comp_meaning.specs.Follow.{Key, complete_path, is_begun_version, is_filled, plain_key}
 use Rattle.encode_names.specs.WorldNames.{written_path, written_suffix}
 use Rattle.base_lemmas.proofs.Bools.{no-and}
 use Rattle.semver.specs.Grammar as grammar
@@ -24,8 +23,7 @@ filled-behind [] t h = h
 filled-behind (x ∷ xs) t h = refl
 
 long-filled : (t : Text) → 0 < length t → is_filled t ≡ true
-long-filled [] h = absurd (omega (arith, h))
-long-filled (x ∷ xs) h = refl
+long-filled x h = search std_rules
 
 -- a text behind whose first `@` something stands
 abbrev IsBegun : Text → Type 0
@@ -33,21 +31,15 @@ IsBegun t = is_begun_version (cut 64 t) ≡ true
 
 begun-filled : (t : Text) → IsBegun t → is_filled t ≡ true
 unfolding cut
-begun-filled [] h = let wrong : ⊥ = cc in absurd wrong
-begun-filled (x ∷ xs) h = refl
+begun-filled x h = search std_rules
 
 onto-begun : (x : ℕ) (o : Option (Text × Text)) → is_begun_version o ≡ true → is_begun_version (option_map (λ p. (x ∷ p.0, p.1)) o) ≡ true
-onto-begun x None h = h
-onto-begun x (Some p) h = h
+onto-begun x y h = search std_rules
 
 begun-behind : (xs t : Text) → IsBegun t → IsBegun (xs ++ t)
 unfolding cut
 begun-behind [] t h = h
-begun-behind (x ∷ xs) t h = go (begun-behind xs t h) (x == 64)
-  where
-    go : IsBegun (xs ++ t) → (b : Bool) → is_begun_version (cond b (Some ([], xs ++ t)) (option_map (λ p. (x ∷ p.0, p.1)) (cut 64 (xs ++ t)))) ≡ true
-    go more true = filled-behind xs t (begun-filled t h)
-    go more false = onto-begun x (cut 64 (xs ++ t)) more
+begun-behind (x ∷ xs) t h = search (std_rules, filled-behind, begun-filled, onto-begun, begun-behind xs t h)
 
 begun-at : (version : Text) → is_filled version ≡ true → IsBegun (64 ∷ version)
 unfolding cut
@@ -63,13 +55,7 @@ path-begun namespace name interface version h =
 
 -- the canonical part of a version isn't empty
 canonical-filled : (p : Parts) → grammar.IsValid p → is_filled (canonical_version p) ≡ true
-canonical-filled p h = go (nat_lt 0 (length p.3)) (nat_lt 0 p.0) (nat_lt 0 p.1)
-  where
-    go : (a b c : Bool) → is_filled (cond a (parts_text p) (cond b (decimal p.0) (cond c (decimal 0 ++ (46 ∷ decimal p.1)) (decimal 0 ++ (46 ∷ (decimal 0 ++ (46 ∷ decimal p.2))))))) ≡ true
-    go true b c = filled-behind (decimal p.0) _ refl
-    go false true c = long-filled (decimal p.0) (decimal_nonempty p.0 h.0)
-    go false false true = filled-behind (decimal 0) _ refl
-    go false false false = filled-behind (decimal 0) _ refl
+canonical-filled p h = search (std_rules, filled-behind, long-filled, decimal_nonempty)
 
 -- a path is no label
 path-no-label : (p : PackageIdentity) (name : Text) → is_label (path_in p name) ≡ false
@@ -87,12 +73,7 @@ path-no-label p name = go (is_label (path_in p name)) refl
 -- a begun path and its suffix are completed to the path that they spell
 complete : (begun : Text) (suffix : Option Text) (path : Text) → path ≡ begun ++ unwrap_or suffix [] → ((t : Text) → suffix ≡ Some t → IsBegun begun) → is_some (read_path path) ≡ true
     → complete_path begun suffix ≡ Some path
-complete begun None path e is reads =
-    let same : path ≡ begun = e ∙ append-nil begun in
-    ap (λ b. provided b begun) (ap (λ t. is_some (read_path t)) (sym same) ∙ reads) ∙ ap Some (sym same)
-complete begun (Some t) path e is reads =
-    ap (λ b. provided b (begun ++ t) >>= λ whole. provided (is_some (read_path whole)) whole) (is t refl)
-    ∙ ap (λ whole. provided (is_some (read_path whole)) whole) (sym e) ∙ ap (λ b. provided b path) reads
+complete begun x path e is reads = search std_rules
 
 module _ (r : Resolve) (v : IsValid r) (n : ℕ) (path : Text) (is : interface_path r n ≡ Some path) where
   home : HasPath r n path
@@ -126,11 +107,7 @@ module _ (r : Resolve) (v : IsValid r) (n : ℕ) (path : Text) (is : interface_p
           (canonical-filled (parts_of version) (valid_parts version (ap (passes is_version) (sym q) ∙ (package-name r v home.home.0 home.package_ home.stands).version)))
 
   pub written-path : (canonical : Bool) → complete_path (written_path r canonical n) (written_suffix r canonical (Some n)) ≡ Some path
-  written-path false = ap (λ o. complete_path (unwrap_or o []) None) is ∙ complete path None path (sym (append-nil path)) (λ t e. let wrong : ⊥ = cc in absurd wrong) reads
-  written-path true =
-      ap (λ o. complete_path (unwrap_or o []) (canonical_suffix r n)) canonical-there
-      ∙ complete begun_path (canonical_suffix r n) path
-      (same-some path _ (sym is ∙ canonical_paths_join r n ∙ ap (option_map (λ t. t ++ unwrap_or (canonical_suffix r n) [])) canonical-there)) suffix-begins reads
+  written-path x = search (std_rules, unwrap_or, complete, append-nil, reads, canonical-there, same-some, canonical_paths_join, suffix-begins)
 
   no-label : (canonical : Bool) → is_label (written_path r canonical n) ≡ false
   no-label false = ap (λ o. is_label (unwrap_or o [])) is ∙ ap is_label home.spelled ∙ path-no-label (identity_of own) (text_of home.name)
@@ -138,8 +115,4 @@ module _ (r : Resolve) (v : IsValid r) (n : ℕ) (path : Text) (is : interface_p
 
   -- a path, as it is written, is read as the key that it is
   pub path-key : (canonical : Bool) → plain_key (written_path r canonical n) (written_suffix r canonical (Some n)) ≡ Some (Key.path path)
-  path-key canonical =
-      let text = written_path r canonical n in
-      let suffix = written_suffix r canonical (Some n) in
-      ap (λ b. cond (b && not (is_some suffix)) (Some (Key.label text)) (complete_path text suffix >>= λ whole. Some (Key.path whole))) (no-label canonical)
-      ∙ ap (λ o. o >>= λ whole. Some (Key.path whole)) (written-path canonical)
+  path-key canonical = search (std_rules, no-label, written-path)

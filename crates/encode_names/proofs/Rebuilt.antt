@@ -1,5 +1,5 @@
 -- The imports of a world are known from its types and from the others, each with how many types stand before it.
-use Rattle.std.proofs.Common.{◌≡◌, refl, sym, ap, ◌∙◌, ℕ, ◌+◌, ◌≤◌, Bool, true, false, cond, List, [], ◌∷◌, ◌++◌, arith}
+use Rattle.std.proofs.Common.{rules as std_rules, ◌≡◌, refl, sym, ap, ◌∙◌, ℕ, ◌+◌, ◌≤◌, Bool, true, false, cond, List, [], ◌∷◌, ◌++◌, arith}
 use Rattle.std.specs.List.{list_all}
 use Rattle.comp_meaning.specs.Follow.{Seen}
 use Rattle.encode_names.specs.Rebuilt.{ImportsAreKnown, TypesComeLast, is_type_shown, others_seen, types_seen}
@@ -17,16 +17,8 @@ first-at-least m (x ∷ xs) n y rest e = go (first-at-least (m + 1) xs n y rest)
 
 same-imports : (n : ℕ) (xs ys : List Seen) → others_seen n xs ≡ others_seen n ys → types_seen xs ≡ types_seen ys → xs ≡ ys
 same-imports n [] [] o t = refl
-same-imports n [] (y ∷ ys) o t = go (is_type_shown y.shown) o t
-  where
-    go : (b : Bool) → [] ≡ cond b (others_seen (n + 1) ys) ((n, y) ∷ others_seen n ys) → [] ≡ cond b (y ∷ types_seen ys) (types_seen ys) → [] ≡ y ∷ ys
-    go true o t = let wrong : ⊥ = cc in absurd wrong
-    go false o t = let wrong : ⊥ = cc in absurd wrong
-same-imports n (x ∷ xs) [] o t = go (is_type_shown x.shown) o t
-  where
-    go : (b : Bool) → cond b (others_seen (n + 1) xs) ((n, x) ∷ others_seen n xs) ≡ [] → cond b (x ∷ types_seen xs) (types_seen xs) ≡ [] → x ∷ xs ≡ []
-    go true o t = let wrong : ⊥ = cc in absurd wrong
-    go false o t = let wrong : ⊥ = cc in absurd wrong
+same-imports n [] (y ∷ ys) o t = search std_rules
+same-imports n (x ∷ xs) [] o t = search std_rules
 same-imports n (x ∷ xs) (y ∷ ys) o t = go (same-imports n xs ys) (same-imports (n + 1) xs ys) (is_type_shown x.shown) (is_type_shown y.shown) o t
   where
     go : (others_seen n xs ≡ others_seen n ys → types_seen xs ≡ types_seen ys → xs ≡ ys) → (others_seen (n + 1) xs ≡ others_seen (n + 1) ys → types_seen xs ≡ types_seen ys → xs ≡ ys)
@@ -46,19 +38,13 @@ same-imports n (x ∷ xs) (y ∷ ys) o t = go (same-imports n xs ys) (same-impor
 -- types behind all are among the types, and change none of the others
 pub others-before : (n : ℕ) (xs ts : List Seen) → list_all (λ t. is_type_shown t.shown) ts ≡ true → others_seen n (xs ++ ts) ≡ others_seen n xs
 others-before n [] [] h = refl
-others-before n [] (t ∷ ts) h =
-    ap (λ b. cond b (others_seen (n + 1) ts) ((n, t) ∷ others_seen n ts)) (first_true (is_type_shown t.shown) _ h) ∙ others-before (n + 1) [] ts (second_true (is_type_shown t.shown) _ h)
+others-before n [] (t ∷ ts) h = search (std_rules, first_true, second_true, others-before (n + 1) [] ts (second_true (is_type_shown t.shown) _ h))
 others-before n (x ∷ xs) ts h = λ i. cond (is_type_shown x.shown) (others-before (n + 1) xs ts h i) ((n, x) ∷ others-before n xs ts h i)
 
 pub types-behind : (xs ts : List Seen) → list_all (λ t. is_type_shown t.shown) ts ≡ true → types_seen (xs ++ ts) ≡ types_seen xs ++ ts
 types-behind [] [] h = refl
-types-behind [] (t ∷ ts) h =
-    ap (λ b. cond b (t ∷ types_seen ts) (types_seen ts)) (first_true (is_type_shown t.shown) _ h) ∙ ap (λ l. t ∷ l) (types-behind [] ts (second_true (is_type_shown t.shown) _ h))
-types-behind (x ∷ xs) ts h = go (is_type_shown x.shown) (types-behind xs ts h)
-  where
-    go : (b : Bool) → types_seen (xs ++ ts) ≡ types_seen xs ++ ts → cond b (x ∷ types_seen (xs ++ ts)) (types_seen (xs ++ ts)) ≡ cond b (x ∷ types_seen xs) (types_seen xs) ++ ts
-    go true e = ap (λ l. x ∷ l) e
-    go false e = e
+types-behind [] (t ∷ ts) h = search (std_rules, first_true, second_true, types-behind [] ts (second_true (is_type_shown t.shown) _ h))
+types-behind (x ∷ xs) ts h = search (std_rules, types-behind xs ts h)
 
 pub imports_are_known : ImportsAreKnown
 imports_are_known xs ys o t = same-imports 0 xs ys o t

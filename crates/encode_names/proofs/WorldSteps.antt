@@ -1,22 +1,22 @@
 -- One declaration more in the component type of a world, followed, shows one import or export more.
-use Rattle.std.proofs.Common.{◌≡◌, ◌⊎◌, inl, inr, refl, sym, subst, ap, ◌∙◌, ℕ, ◌+◌, ◌<◌, ◌≤◌, Bool, true, false, not, ◌||◌, ◌==◌, nat_lt, List, [], ◌∷◌, ◌++◌, length, length-append, take, append-nil, append_assoc, Option, Some, None, slice_get, unwrap_or, arith}
+use Rattle.std.proofs.Common.{rules as std_rules, ◌≡◌, ◌⊎◌, inl, inr, refl, sym, ap, ◌∙◌, ℕ, ◌+◌, ◌<◌, ◌≤◌, Bool, true, false, not, ◌==◌, nat_lt, List, [], ◌∷◌, ◌++◌, length, length-append, take, append-nil, append_assoc, Option, Some, None, slice_get, unwrap_or, arith}
 use Rattle.std.proofs.{Math.Seq.take-append_seam, lemmas.List.Elements.Contains-append_cases, lemmas.List.Folds.list_all-append}
-use Rattle.std.proofs.lemmas.{Bool.ltb-true, Bool.lt-ltb, Bool.and_from as both, Option.some_pair_parts, Option.same_Some as same-some}
+use Rattle.std.proofs.lemmas.{Bool.ltb-true, Bool.lt-ltb, Bool.and_from as both}
 use Rattle.std.specs.{Prelude.is_some, List.AllZip, List.Contains, List.flat_map, List.list_all, List.list_any}
-use Rattle.wit_model.specs.{Text.Text, Text.text_of, Tree.Place, Tree.here, Lookup.interface_path, Lookup.key_text, Meant.signature_of, Meant.type_meaning_at}
-use Rattle.wit_model.specs.{Meaning.Signature, Rules.is_id, Uses.item_interface, Valid.IsValid}
+use Rattle.wit_model.specs.{Text.Text, Tree.Place, Tree.here, Lookup.interface_path, Lookup.key_text, Meant.signature_of, Meant.type_meaning_at}
+use Rattle.wit_model.specs.{Meaning.Signature, Uses.item_interface, Valid.IsValid}
 use Rattle.wit_model.specs.declared.model.{Resolve.Resolve, WorldKey.WorldKey, WorldItem.WorldItem}
 use Rattle.wit_model.proofs.Elements.{zip-push}
 use Rattle.comp_bytes.specs.{Raw.Declaration, Raw.ExternName, Reading.◌>>=◌}
 use Rattle.comp_bytes.specs.declared.forms.ComponentTypeRef.{ComponentTypeRef}
-use Rattle.comp_meaning.specs.Follow.{Direction, import_, export_, Instance, Key, Scope, Seen, Shown, Slot, View, component_step, declared_by, function_in, in_scope, instance_types, instance_view, interface_of, is_simple, key_of, named_like, named_type, provided, see, used_view, when}
+use Rattle.comp_meaning.specs.Follow.{Direction, import_, export_, Instance, Key, Scope, Seen, Shown, Slot, View, component_step, function_in, in_scope, instance_types, instance_view, interface_of, is_simple, key_of, named_like, named_type, provided, see, used_view, when}
 use Rattle.encode_shown.specs.Views.{IsViewOf, ShowsInterface, ShowsItem, home_of, instance_key, instances_of, shown_item}
 use Rattle.encode_shown.proofs.Entries.{IsEntry, import-entry, export-entry}
 use Rattle.encode_shown.proofs.Items.{entry-home, has_home, instance-home, path-home}
 use Rattle.encode_names.specs.{WorldNames.name_of_item, NameLaws.IsKeyAlone, NameLaws.ReadsAs, NameLaws.Says}
 use Rattle.encode_names.specs.WorldSteps.{Entries, Entry, FunctionsAreShown, InterfacesAreShown, IsEntryOf, IsTurnOf, NothingIsShown, ShowsEntries, SlotsLeaveEntries, TypesAreShown, WorldsAreShown, declared_towards, seen_function, seen_instance, seen_type, with_entry, with_instance}
 use Rattle.encode_names.proofs.NamesRead.{names_are_read}
-use Rattle.base_lemmas.proofs.{Bools.left_of as first_true, Bools.right_of as second_true, Numbers.apart, Numbers.equal, Numbers.same-number}
+use Rattle.base_lemmas.proofs.{Bools.left_of as first_true, Bools.right_of as second_true, Numbers.apart}
 use Rattle.wit_model.specs.Tree as tree
 use Rattle.wit_model.specs.declared.model.WorldKey.TheVariants as key
 use Rattle.wit_model.specs.declared.model.WorldItem.TheVariants as item
@@ -37,15 +37,12 @@ AreBelow n used = list_all (λ m. nat_lt m n) used ≡ true
 
 pub below-more : (n m : ℕ) (used : List ℕ) → n ≤ m → AreBelow n used → AreBelow m used
 below-more n m [] l h = refl
-below-more n m (k ∷ ks) l h =
-    let less : k < n = ltb-true k n (first_true (nat_lt k n) _ h) in
-    both (nat_lt k m) _ (lt-ltb k m (omega (arith, less, l))) (below-more n m ks l (second_true (nat_lt k n) _ h))
+below-more n m (k ∷ ks) l h = search (std_rules, ltb-true, first_true, both, lt-ltb, second_true, below-more n m ks l (second_true (nat_lt k n) _ h))
 
 -- an index beyond all that have been used
 pub unused : (n : ℕ) (used : List ℕ) → AreBelow n used → list_any (λ m. m == n) used ≡ false
 unused n [] h = refl
-unused n (m ∷ ms) h =
-    ap (λ b. b || list_any (λ k. k == n) ms) (apart m n (ltb-true m n (first_true (nat_lt m n) _ h))) ∙ unused n ms (second_true (nat_lt m n) _ h)
+unused n (m ∷ ms) h = search (std_rules, apart, ltb-true, first_true, second_true, unused n ms (second_true (nat_lt m n) _ h))
 
 pub slot-behind : (xs : List Slot) (x : Slot) → slice_get (xs ++ x ∷ []) (length xs) ≡ Some x
 slot-behind [] x = refl
@@ -55,30 +52,24 @@ slot-behind (y ∷ ys) x = slot-behind ys x
 
 pub flat-appended : (xs ys : List Seen) → flat_map (λ s. instances_of s.shown) (xs ++ ys) ≡ flat_map (λ s. instances_of s.shown) xs ++ flat_map (λ s. instances_of s.shown) ys
 flat-appended [] ys = refl
-flat-appended (x ∷ xs) ys = ap (λ t. instances_of x.shown ++ t) (flat-appended xs ys) ∙ sym
-    (append_assoc (instances_of x.shown) (flat_map (λ s. instances_of s.shown) xs) (flat_map (λ s. instances_of s.shown) ys))
+flat-appended (x ∷ xs) ys = search (std_rules, append_assoc, flat-appended xs ys)
 
 abbrev pub shown_instances : List Seen → List Instance
 shown_instances xs = flat_map (λ s. instances_of s.shown) xs
 
 -- what brings no instance may stand anywhere
 none-brought : (xs ys : List Seen) (s : Seen) → instances_of s.shown ≡ [] → shown_instances ((xs ++ s ∷ []) ++ ys) ≡ shown_instances (xs ++ ys)
-none-brought xs ys s e =
-    flat-appended (xs ++ s ∷ []) ys ∙ ap (λ t. t ++ shown_instances ys) (flat-appended xs (s ∷ []) ∙ ap (λ t. shown_instances xs ++ (t ++ [])) e ∙ append-nil (shown_instances xs)) ∙ sym
-    (flat-appended xs ys)
+none-brought xs ys s e = search (std_rules, flat-appended, append-nil)
 
 none-behind : (xs ys : List Seen) (s : Seen) → instances_of s.shown ≡ [] → shown_instances (xs ++ (ys ++ s ∷ [])) ≡ shown_instances (xs ++ ys)
-none-behind xs ys s e = ap shown_instances (sym (append_assoc xs ys (s ∷ []))) ∙ flat-appended (xs ++ ys) (s ∷ []) ∙ ap (λ t. shown_instances (xs ++ ys) ++ (t ++ [])) e ∙ append-nil
-    (shown_instances (xs ++ ys))
+none-behind xs ys s e = search (std_rules, append_assoc, flat-appended, append-nil)
 
 -- what is seen behind all brings its instances behind all
 brought-behind : (xs : List Seen) (s : Seen) → shown_instances (xs ++ s ∷ []) ≡ shown_instances xs ++ instances_of s.shown
 brought-behind xs s = flat-appended xs (s ∷ []) ∙ ap (λ t. shown_instances xs ++ t) (append-nil (instances_of s.shown))
 
 no-exports : (r : Resolve) (es : List Entry) (ss : List Seen) → es ≡ [] → AllZip (ShowsItem r) es ss → ss ≡ []
-no-exports r [] [] e z = refl
-no-exports r [] (s ∷ ss) e z = absurd z
-no-exports r (x ∷ es) ss e z = let wrong : ⊥ = cc in absurd wrong
+no-exports r x ss e z = search std_rules
 
 -- ---- what is shown so far
 
@@ -101,20 +92,8 @@ slots_leave_entries r done scope x none h =
 -- one more that brings no instance
 module _ (r : Resolve) (done : Entries) (scope : Scope) (e : Entry) (s : Seen) (none : instances_of s.shown ≡ []) (h : ShowsEntries r done scope) (shows : ShowsItem r e s) where
   seen-too : (direction : Direction) → ShowsEntries r (with_entry direction done e) (see direction s scope)
-  seen-too import_ = record {
-    imports = zip-push (ShowsItem r) done.0 scope.imports e s h.imports shows;
-    exports = h.exports;
-    instances = h.instances ∙ sym (none-brought scope.imports scope.exports s none);
-    used = h.used;
-    in_range = h.in_range;
-  }
-  seen-too export_ = record {
-    imports = h.imports;
-    exports = zip-push (ShowsItem r) done.1 scope.exports e s h.exports shows;
-    instances = h.instances ∙ sym (none-behind scope.imports scope.exports s none);
-    used = h.used;
-    in_range = h.in_range;
-  }
+  seen-too import_ = search (std_rules, zip-push, none-brought)
+  seen-too export_ = search (std_rules, zip-push, none-behind)
 
 -- ---- names
 
@@ -132,10 +111,8 @@ entry-of r v e is = go (Contains-append_cases is.world.imports.entries is.world.
 
 function-step : (direction : Direction) (name : ExternName) (n : ℕ) (f : Signature) (scope : Scope) → function_in (slice_get scope.slots n) ≡ Some f → is_simple name ≡ true
     → component_step scope (declared_towards direction name (refs.Func n)) ≡ Some (see direction (seen_function name f) scope)
-function-step import_ name n f scope e simple =
-    ap (λ o. o >>= λ g. provided (is_simple name) (see import_ (seen_function name g) scope)) e ∙ ap (λ b. provided b (see import_ (seen_function name f) scope)) simple
-function-step export_ name n f scope e simple =
-    ap (λ o. o >>= λ g. provided (is_simple name) (see export_ (seen_function name g) scope)) e ∙ ap (λ b. provided b (see export_ (seen_function name f) scope)) simple
+function-step import_ name n f scope e simple = search std_rules
+function-step export_ name n f scope e simple = search std_rules
 
 no-view : View
 no-view = record { types = []; functions = [] }
@@ -153,27 +130,13 @@ functions_are_shown r canonical direction done scope k f n v is h e =
 
 -- ---- types
 
-no-instance-like : (slot : Slot) (place : Place) (name : Text) → instance_types (named_like slot place name ∷ []) ≡ 0
-no-instance-like (Slot.value t) place name = refl
-no-instance-like _ place name = refl
-
 abbrev named-as : Place → Text → Slot → tree.Declaration → Option (tree.Declaration × Slot)
 named-as place name slot d = Some (d, named_like slot place name)
 
 -- the slot of a named type is no instance type
 pub named-slot : (slots : List Slot) (place : Place) (name : Text) (described : ComponentTypeRef) (d : tree.Declaration) (x : Slot) → named_type slots place name described ≡ Some (d, x)
     → instance_types (x ∷ []) ≡ 0
-named-slot slots place name (refs.TypeEq n) d x e = at (slice_get slots n) e
-  where
-    of : (slot : Slot) (o : Option tree.Declaration) → (o >>= named-as place name slot) ≡ Some (d, x) → instance_types (x ∷ []) ≡ 0
-    of slot None q = let wrong : ⊥ = cc in absurd wrong
-    of slot (Some c) q = ap (λ y. instance_types (y ∷ [])) (sym (some_pair_parts c d (named_like slot place name) x q).1) ∙ no-instance-like slot place name
-
-    at : (o : Option Slot) → (o >>= λ slot. declared_by slot >>= named-as place name slot) ≡ Some (d, x) → instance_types (x ∷ []) ≡ 0
-    at None q = let wrong : ⊥ = cc in absurd wrong
-    at (Some slot) q = of slot (declared_by slot) q
-named-slot slots place name refs.SubResource d x e = ap (λ y. instance_types (y ∷ [])) (sym (some_pair_parts tree.Declaration.resource d (Slot.resource place name) x e).1)
-named-slot slots place name _ d x e = let wrong : ⊥ = cc in absurd wrong
+named-slot slots place name z d x e = search std_rules
 
 abbrev seen_next : ExternName → Scope → tree.Declaration × Slot → Option Scope
 seen_next name scope found = provided (is_simple name) (see import_ (seen_type name found.0) (in_scope found.1 scope))
@@ -185,9 +148,7 @@ type-seen name described scope d x e simple = ap (λ o. o >>= seen_next name sco
 pub type-step : (name : ExternName) (described : ComponentTypeRef) (scope : Scope) (d : tree.Declaration) (x : Slot) → named_type scope.slots here name.text described ≡ Some (d, x)
     → is_simple name ≡ true
     → component_step scope (Declaration.imported name described) ≡ Some (see import_ (seen_type name d) (in_scope x scope))
-type-step name (refs.TypeEq n) scope d x e simple = type-seen name (refs.TypeEq n) scope d x e simple
-type-step name refs.SubResource scope d x e simple = type-seen name refs.SubResource scope d x e simple
-type-step name _ scope d x e simple = let wrong : ⊥ = cc in absurd wrong
+type-step name y scope d x e simple = search std_rules
 
 pub types_are_shown : TypesAreShown
 types_are_shown r canonical done scope k id described x v is h e =
@@ -226,11 +187,7 @@ module _ (name : ExternName) (n : ℕ) (scope : Scope) where
 -- the key of an instance has the text of the item's key
 key-shown : (r : Resolve) (k : WorldKey) (i : ℕ) → has_home k (interface_path r i) ≡ true → ((j : ℕ) → k ≡ key.Interface (record { 0 = j }) → j ≡ i)
     → follow.key_text (instance_key k (interface_path r i)) ≡ key_text r k
-key-shown r (key.Name name) i h same = go (interface_path r i)
-  where
-    go : (o : Option Text) → follow.key_text (instance_key (key.Name name) o) ≡ text_of name
-    go None = refl
-    go (Some path) = refl
+key-shown r (key.Name name) i h same = search std_rules
 key-shown r (key.Interface id) i h same = go (interface_path r i) h ∙ ap (λ j. unwrap_or (interface_path r j) []) (sym (same id.0 refl))
   where
     go : (o : Option Text) → is_some o ≡ true → follow.key_text (instance_key (key.Interface id) o) ≡ unwrap_or o []
@@ -239,16 +196,10 @@ key-shown r (key.Interface id) i h same = go (interface_path r i) h ∙ ap (λ j
 
 interface-shown : (r : Resolve) (k : WorldKey) (i : WorldItem) (n : ℕ) (view : View) → item_interface i ≡ Some n → ShowsInterface r n view
     → IsViewOf r i view × (shown_item r k i view ≡ Shown.instance (instance_key k (interface_path r n)) view)
-interface-shown r k (item.Interface id stability docs external_id) n view e shows =
-    let same : id.0 ≡ n = same-some id.0 n e in
-    (subst (λ m. ShowsInterface r m view) (sym same) shows, ap (λ m. Shown.instance (instance_key k (interface_path r m)) view) same)
-interface-shown r k (item.Function f) n view e shows = let wrong : ⊥ = cc in absurd wrong
-interface-shown r k (item.Type_ id) n view e shows = let wrong : ⊥ = cc in absurd wrong
+interface-shown r k x n view e shows = search std_rules
 
 interface-named : (r : Resolve) (k : WorldKey) (i : WorldItem) (n : ℕ) (name : ExternName) → item_interface i ≡ Some n → Says r k i name → key_of name ≡ Some (instance_key k (interface_path r n))
-interface-named r k (item.Interface id stability docs external_id) n name e says = says ∙ ap (λ m. Some (instance_key k (interface_path r m))) (same-some id.0 n e)
-interface-named r k (item.Function f) n name e says = let wrong : ⊥ = cc in absurd wrong
-interface-named r k (item.Type_ id) n name e says = let wrong : ⊥ = cc in absurd wrong
+interface-named r k x n name e says = search std_rules
 
 abbrev number-of : ℕ → WorldKey → ℕ
 number-of d (key.Interface other) = other.0
@@ -256,10 +207,7 @@ number-of d (key.Name name) = d
 
 -- the interface that a key names is the item's
 keyed-alike : (r : Resolve) (m : ℕ) (k : WorldKey) (i : WorldItem) (n : ℕ) → IsEntry r m (k, i) → item_interface i ≡ Some n → (j : ℕ) → k ≡ key.Interface (record { 0 = j }) → j ≡ n
-keyed-alike r m (key.Name name) i n is e j q = let wrong : ⊥ = cc in absurd wrong
-keyed-alike r m (key.Interface id) i n is e j q =
-    let own : id.0 ≡ j = ap (number-of id.0) q in
-    sym own ∙ sym (equal n id.0 (ap (is_id id.0) (sym e) ∙ first_true (is_id id.0 (item_interface i)) _ is.keyed))
+keyed-alike r m x i n is e j q = search std_rules
 
 -- a scope with an instance type behind, which is used
 module _ (r : Resolve) (done : Entries) (scope : Scope) (ds : List Declaration) (h : ShowsEntries r done scope) where
@@ -267,11 +215,7 @@ module _ (r : Resolve) (done : Entries) (scope : Scope) (ds : List Declaration) 
   opened = in_scope (Slot.instance ds (length scope.slots)) scope
 
   used-once : (n : ℕ) → length (scope.used ++ n ∷ []) ≡ instance_types opened.slots
-  used-once n =
-      let one : length (scope.used ++ n ∷ []) ≡ length scope.used + 1 = length-append scope.used (n ∷ []) in
-      let types : instance_types opened.slots ≡ instance_types scope.slots + 1 = types-appended scope.slots (Slot.instance ds (length scope.slots) ∷ []) in
-      let used : length scope.used ≡ instance_types scope.slots = h.used in
-      omega (arith, one, types, used)
+  used-once n = search (std_rules, length-append, types-appended)
 
   all-below : list_all (λ n. nat_lt n (length opened.slots)) (scope.used ++ length scope.slots ∷ []) ≡ true
   all-below =
@@ -330,8 +274,4 @@ interfaces_are_shown r canonical direction done scope e i ds view v is at h turn
 -- ---- the whole world
 
 pub worlds_are_shown : WorldsAreShown
-worlds_are_shown r w ds scope h e = (
-  ap (λ o. o >>= λ s. provided (length s.used == instance_types s.slots) s) e
-      ∙ ap (λ b. provided b scope) (ap (λ n. length scope.used == n) (sym h.used) ∙ same-number (length scope.used)),
-  record { imports = h.imports; exports = h.exports; instances = h.instances },
-)
+worlds_are_shown r w ds scope h e = search std_rules

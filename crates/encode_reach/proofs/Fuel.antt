@@ -1,5 +1,5 @@
 -- Numbers fall along uses: so what is listed with an interface, and the steps that it takes, are the same for every bound above its number.
-use Rattle.std.proofs.Common.{◌≡◌, ◌⊎◌, inl, inr, refl, sym, ap, ◌∙◌, ℕ, zero, suc, ◌+◌, ◌<◌, ◌≤◌, arith, Bool, true, false, ◌||◌, ◌==◌, List, [], ◌∷◌, ◌++◌}
+use Rattle.std.proofs.Common.{rules as std_rules, ◌≡◌, ◌⊎◌, inl, inr, refl, sym, ap, ◌∙◌, ℕ, zero, suc, ◌+◌, ◌<◌, ◌≤◌, arith, Bool, true, false, ◌==◌, List, [], ◌∷◌}
 use Rattle.std.proofs.lemmas.{Bool.eqb-true, Bool.eq-eqb, Bool.or_left, Bool.or_right, List.Folds.list_any-append}
 use Rattle.std.specs.Prelude.{if◌then◌else◌, fold}
 use Rattle.wit_model.specs.declared.model.Resolve.{Resolve}
@@ -51,24 +51,12 @@ module _ (r : Resolve) (v : IsValid r) where
 
   pub each-bound-steps : (n : ℕ) (l : List ℕ)
       → sum_along (λ w m. listed_with r (suc m) w m) (λ w m. steps_for r (suc m) w m) l (direct_deps r n) ≡ sum_along (listed_with r n) (steps_for r n) l (direct_deps r n)
-  each-bound-steps n l =
-      sum-same (λ w m. listed_with r (suc m) w m) (listed_with r n) (λ w m. steps_for r (suc m) w m) (steps_for r n) (direct_deps r n)
-      (λ m h w. let f = uses_fall r v n m h in enough (suc m) n m (omega arith) f w)
-      (λ m h w. let f = uses_fall r v n m h in enough-steps (suc m) n m (omega arith) f w) l
+  each-bound-steps n l = search (std_rules, sum-same, uses_fall, enough, enough-steps)
 
   -- ---- what comes to be listed has no greater number
 
   has-added : (ns : List ℕ) (n q : ℕ) → has (add ns n) q ≡ true → (has ns q ≡ true) ⊎ (q ≡ n)
-  has-added ns n q h = by (has ns n) refl
-    where
-      last : (b c : Bool) → has ns q ≡ b → (n == q) ≡ c → (b || (c || false)) ≡ true → (has ns q ≡ true) ⊎ (q ≡ n)
-      last true c e f g = inl e
-      last false true e f g = inr (sym (eqb-true n q f))
-      last false false e f g = absurd cc
-
-      by : (b : Bool) → has ns n ≡ b → (has ns q ≡ true) ⊎ (q ≡ n)
-      by true e = inl (sym (ap (λ b. has (if b then ns else (ns ++ n ∷ [])) q) e) ∙ h)
-      by false e = last (has ns q) (n == q) refl refl (sym (list_any-append (λ m. m == q) ns (n ∷ [])) ∙ (sym (ap (λ b. has (if b then ns else (ns ++ n ∷ [])) q) e) ∙ h))
+  has-added ns n q h = search (std_rules, eqb-true, list_any-append)
 
   abbrev Lower : ℕ → Type 0
   Lower k = (n : ℕ) (l : List ℕ) (q : ℕ) → has (listed_with r k l n) q ≡ true → (has l q ≡ true) ⊎ (q ≤ n)

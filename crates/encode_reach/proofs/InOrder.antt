@@ -1,5 +1,5 @@
 -- What is listed in order is what is reached: each once, behind what it uses, and used by a later one.
-use Rattle.std.proofs.Common.{◌≡◌, ◌⊎◌, inl, inr, refl, sym, ap, subst, ◌∙◌, ℕ, zero, suc, ◌<◌, arith, Bool, true, false, ◌||◌, ◌==◌, List, [], ◌∷◌, ◌++◌}
+use Rattle.std.proofs.Common.{rules as std_rules, ◌≡◌, ◌⊎◌, inl, inr, refl, sym, ap, subst, ◌∙◌, ℕ, zero, suc, ◌<◌, arith, Bool, true, false, ◌||◌, ◌==◌, List, [], ◌∷◌, ◌++◌}
 use Rattle.std.proofs.lemmas.{Bool.eqb-true, Bool.eq-eqb, Bool.or_left, Bool.or_right, List.append-nil, List.append_assoc}
 use Rattle.std.proofs.lemmas.List.Elements.{Contains-append_left, Contains-append_right, Contains-append_cases}
 use Rattle.std.specs.{Prelude.if◌then◌else◌, Prelude.fold, List.AllByRecursion, List.Contains, List.IsDistinct}
@@ -58,22 +58,7 @@ module _ (r : Resolve) where
     once : IsDistinct (λ a b. a == b) old → IsDistinct (λ a b. a == b) new
 
   nothing-more : (n user : ℕ) (old : List ℕ) → has old n ≡ true → Lists (n ∷ []) user old old
-  nothing-more n user old there =
-      record {
-        more = [];
-        is = sym (append-nil old);
-        stand = λ m h. has-contains old m (only m h);
-        earlier = tt;
-        used = tt;
-        once = λ d. d;
-      }
-    where
-      only : (m : ℕ) → has (n ∷ []) m ≡ true → has old m ≡ true
-      only m h = subst (λ k. has old k ≡ true) (same-of (n == m) refl h) there
-        where
-          same-of : (b : Bool) → (n == m) ≡ b → (b || false) ≡ true → n ≡ m
-          same-of true e g = eqb-true n m e
-          same-of false e g = absurd cc
+  nothing-more n user old there = search (std_rules, append-nil, has-contains, eqb-true)
 
   both : (n : ℕ) (ns : List ℕ) (user : ℕ) (old mid new : List ℕ) → Lists (n ∷ []) user old mid → Lists ns user mid new → Lists (n ∷ ns) user old new
   both n ns user old mid new a b =
@@ -93,15 +78,7 @@ module _ (r : Resolve) where
 
   -- all of these in turn, each where it is one that the user uses
   all-listed : (f : List ℕ → ℕ → List ℕ) (user : ℕ) (ns : List ℕ) → ((n : ℕ) → has ns n ≡ true → (l : List ℕ) → Lists (n ∷ []) user l (f l n)) → (l : List ℕ) → Lists ns user l (fold f l ns)
-  all-listed f user [] one l =
-      record {
-        more = [];
-        is = sym (append-nil l);
-        stand = λ m h. absurd cc;
-        earlier = tt;
-        used = tt;
-        once = λ d. d;
-      }
+  all-listed f user [] one l = search std_rules
   all-listed f user (n ∷ ns) one l =
       both n ns user l (f l n) (fold f (f l n) ns) (one n (or_left (n == n) (has ns n) (eq-eqb n n refl)) l) (all-listed f user ns (λ m h. one m (or_right (n == m) (has ns m) h)) (f l n))
 

@@ -1,5 +1,5 @@
 -- A step of the walk keeps what is listed at the end, and leaves fewer steps.
-use Rattle.std.proofs.Common.{◌≡◌, refl, sym, ap, ◌∙◌, ℕ, suc, ◌+◌, arith, true, false, nat_eq, List, [], ◌∷◌, ◌++◌, map, reverse}
+use Rattle.std.proofs.Common.{rules as std_rules, ◌≡◌, refl, ap, ◌∙◌, ℕ, suc, ◌+◌, arith, true, false, nat_eq, List, [], ◌∷◌, ◌++◌, map, reverse}
 use Rattle.std.proofs.lemmas.List.{map-append, reverse-append}
 use Rattle.std.specs.Prelude.{if◌then◌else◌, fold}
 use Rattle.indexmap.specs.IndexSet.{insert_key}
@@ -26,10 +26,7 @@ module _ (r : Resolve) where
 
   left-behind : (xs ys : List Step) (l : List ℕ) → steps_left r (xs ++ ys) l ≡ steps_left r ys l + steps_left r xs (listed_at_end r ys l)
   left-behind [] ys l = omega arith
-  left-behind (x ∷ xs) ys l =
-      let rest = left-behind xs ys l in
-      let same : steps_of r (listed_at_end r (xs ++ ys) l) x ≡ steps_of r (listed_at_end r xs (listed_at_end r ys l)) x = ap (λ w. steps_of r w x) (end-behind xs ys l) in
-      (λ i. rest i + same i) ∙ omega arith
+  left-behind (x ∷ xs) ys l = search (std_rules, end-behind, left-behind xs ys l)
 
   one-left : (s : Step) (l : List ℕ) → steps_left r (s ∷ []) l ≡ steps_of r l s
   one-left s l = omega arith
@@ -41,17 +38,12 @@ module _ (r : Resolve) where
 
   visits-end : (ids : List InterfaceId) (l : List ℕ) → listed_at_end r (visits ids) l ≡ fold (λ w n. listed_with r (suc n) w n) l (map (λ (i : InterfaceId). i.0) ids)
   visits-end [] l = refl
-  visits-end (id ∷ ids) l =
-      ap (λ steps. listed_at_end r steps l) (visits-more id ids)
-      ∙ (end-behind (visits ids) (step.Visit id.0 ∷ []) l ∙ visits-end ids (listed_with r (suc id.0) l id.0))
+  visits-end (id ∷ ids) l = search (std_rules, visits-more, end-behind, visits-end ids (listed_with r (suc id.0) l id.0))
 
   visits-left : (ids : List InterfaceId) (l : List ℕ)
       → steps_left r (visits ids) l ≡ sum_along (λ w n. listed_with r (suc n) w n) (λ w n. steps_for r (suc n) w n) l (map (λ (i : InterfaceId). i.0) ids)
   visits-left [] l = refl
-  visits-left (id ∷ ids) l =
-      ap (λ steps. steps_left r steps l) (visits-more id ids)
-      ∙ (left-behind (visits ids) (step.Visit id.0 ∷ []) l
-      ∙ (λ i. one-left (step.Visit id.0) l i + visits-left ids (listed_with r (suc id.0) l id.0) i))
+  visits-left (id ∷ ids) l = search (std_rules, visits-more, left-behind, one-left, visits-left ids (listed_with r (suc id.0) l id.0))
 
   -- ---- the steps
 
@@ -61,45 +53,15 @@ module _ (r : Resolve) where
   -- an interface that is listed
   pub skipped : (n : ℕ) (old : List Step) (l : List ℕ) → has l n ≡ true → IsDone r (step.Visit n) old old l l
   unfolding listed_with steps_for
-  skipped n old l there =
-      let stays : listed_with r (suc n) l n ≡ l = ap (λ b. if b then l else add (fold (listed_with r n) l (direct_deps r n)) n) there in
-      let one : steps_for r (suc n) l n ≡ 1 = ap (λ b. if b then 1 else suc (suc (sum_along (listed_with r n) (steps_for r n) l (direct_deps r n)))) there in
-      let before : steps_left r (old ++ step.Visit n ∷ []) l ≡ 1 + steps_left r old l = fewer-left (step.Visit n) old l ∙ (λ i. one i + steps_left r old (stays i)) in
-      record {
-        same = sym (end-behind old (step.Visit n ∷ []) l ∙ ap (listed_at_end r old) stays);
-        fewer = omega (arith, before);
-      }
+  skipped n old l there = search (std_rules, fewer-left, end-behind)
 
   pub appended : (n : ℕ) (old : List Step) (l w : List ℕ) → w ≡ add l n → IsDone r (step.Append n) old old l w
-  appended n old l w is =
-      let before : steps_left r (old ++ step.Append n ∷ []) l ≡ 1 + steps_left r old w = fewer-left (step.Append n) old l ∙ ap (λ k. 1 + steps_left r old k) (sym is) in
-      record {
-        same = ap (listed_at_end r old) is ∙ sym (end-behind old (step.Append n ∷ []) l);
-        fewer = omega (arith, before);
-      }
+  appended n old l w is = search (std_rules, fewer-left, end-behind)
 
   pub visited : IsValid r → (n : ℕ) (old new : List Step) (l : List ℕ) (ids : List InterfaceId) → has l n ≡ false → map (λ (i : InterfaceId). i.0) ids ≡ direct_deps r n
       → new ≡ (old ++ step.Append n ∷ []) ++ visits ids → IsDone r (step.Visit n) old new l l
   unfolding listed_with steps_for
-  visited v n old new l ids fresh uses is =
-      let among = fold (listed_with r n) l (direct_deps r n) in
-      let cost = sum_along (listed_with r n) (steps_for r n) l (direct_deps r n) in
-      let grows : listed_with r (suc n) l n ≡ add among n = ap (λ b. if b then l else add among n) fresh in
-      let takes : steps_for r (suc n) l n ≡ suc (suc cost) = ap (λ b. if b then 1 else suc (suc cost)) fresh in
-      let seen : listed_at_end r (visits ids) l ≡ among = visits-end ids l ∙ (ap (fold (λ w m. listed_with r (suc m) w m) l) uses ∙ each-bound r v n l) in
-      let steps : steps_left r (visits ids) l ≡ cost = visits-left ids l ∙ (ap (sum_along (λ w m. listed_with r (suc m) w m) (λ w m. steps_for r (suc m) w m) l) uses ∙ each-bound-steps r v n l) in
-      let after : steps_left r new l ≡ cost + (1 + steps_left r old (add among n)) =
-      ap (λ k. steps_left r k l) is ∙ (left-behind (old ++ step.Append n ∷ []) (visits ids) l
-      ∙ ((λ i. steps i + steps_left r (old ++ step.Append n ∷ []) (seen i)) ∙ ap (λ k. cost + k) (fewer-left (step.Append n) old among))) in
-      let before : steps_left r (old ++ step.Visit n ∷ []) l ≡ suc (suc cost) + steps_left r old (add among n) = fewer-left (step.Visit n) old l ∙ (λ i. takes i + steps_left r old (grows i)) in
-      record {
-        same = ap (λ k. listed_at_end r k l) is
-            ∙ (end-behind (old ++ step.Append n ∷ []) (visits ids) l
-            ∙ (ap (listed_at_end r (old ++ step.Append n ∷ [])) seen
-            ∙ (end-behind old (step.Append n ∷ []) among
-            ∙ (ap (listed_at_end r old) (sym grows) ∙ sym (end-behind old (step.Visit n ∷ []) l)))));
-        fewer = omega (arith, after, before);
-      }
+  visited v n old new l ids fresh uses is = search (std_rules, visits-end, each-bound, visits-left, each-bound-steps, left-behind, fewer-left, end-behind)
 
   -- what is found by visits of what an interface uses
   pub visits-found : IsValid r → (n : ℕ) (ids : List InterfaceId) → map (λ (i : InterfaceId). i.0) ids ≡ direct_deps r n → listed_at_end r (visits ids) [] ≡ reached_in_order r n

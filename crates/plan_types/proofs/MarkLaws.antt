@@ -1,33 +1,22 @@
 -- Marks that are set one after the other.
-use Rattle.std.proofs.Common.{◌≡◌, refl, sym, ap, subst, ◌∙◌, ℕ, ◌+◌, ◌<◌, ◌≤◌, arith, Bool, true, false, ◌||◌, ◌==◌, List, [], ◌∷◌, ◌++◌, length, map, take, get_or}
+use Rattle.std.proofs.Common.{rules as std_rules, ◌≡◌, refl, sym, ap, subst, ◌∙◌, ℕ, ◌+◌, ◌<◌, ◌≤◌, Bool, false, ◌||◌, List, [], ◌∷◌, ◌++◌, length, map, take, get_or}
 use Rattle.std.proofs.lemmas.{List.map-append, List.take_all, List.take_more, List.Folds.list_any-append}
 use Rattle.std.specs.List.{flat_map}
-use Rattle.wit_model.specs.Uses.{has}
 use Rattle.plan_parts.specs.Marks.{is_marked}
 use Rattle.plan_types.specs.Used.{Marks}
 use Rattle.base_lemmas.proofs.Bools.{or_line}
 
 or_none : (a : Bool) → a ≡ (a || false)
-or_none true = refl
-or_none false = refl
+or_none x = search std_rules
 
 pub marks_none : (old : List Bool) → Marks [] old old
 marks_none old = record { many = refl; each = λ n within. or_none (is_marked old n) }
 
 pub marks_both : (ps qs : List ℕ) (a b c : List Bool) → Marks ps a b → Marks qs b c → Marks (ps ++ qs) a c
-marks_both ps qs a b c first second = record {
-  many = second.many ∙ first.many;
-  each = λ n within.
-      second.each n (omega (arith, within, first.many)) ∙ (ap (λ m. m || has qs (14 + n)) (first.each n within)
-      ∙ (or_line (is_marked a n) (has ps (14 + n)) (has qs (14 + n)) ∙ ap (λ m. is_marked a n || m) (sym (list_any-append (λ m. m == 14 + n) ps qs))));
-}
+marks_both ps qs a b c first second = search (std_rules, or_line, list_any-append)
 
 flat_append : {A B : Type 0} (f : A → List B) (xs : List A) (x : A) → flat_map f (xs ++ x ∷ []) ≡ flat_map f xs ++ f x
-flat_append f [] x = append_none (f x)
-  where
-    append_none : {B : Type 0} (ys : List B) → ys ++ [] ≡ ys
-    append_none [] = refl
-    append_none (y ∷ ys) = ap (λ l. y ∷ l) (append_none ys)
+flat_append f [] x = search std_rules
 flat_append f (y ∷ xs) x = ap (λ l. f y ++ l) (flat_append f xs x) ∙ sym (append_line (f y) (flat_map f xs) (f x))
   where
     append_line : {B : Type 0} (ws bs cs : List B) → (ws ++ bs) ++ cs ≡ ws ++ (bs ++ cs)

@@ -1,5 +1,5 @@
 -- The first showing of each type.
-use Rattle.std.proofs.Common.{◌≡◌, refl, sym, ap, ◌∙◌, ℕ, ◌+◌, ◌<◌, arith, Bool, true, false, ◌==◌, cond, List, [], ◌∷◌, ◌++◌, length, map, take, get_or, Option, Some, None}
+use Rattle.std.proofs.Common.{rules as std_rules, ◌≡◌, refl, sym, ap, ◌∙◌, ℕ, ◌+◌, ◌<◌, arith, Bool, ◌==◌, cond, List, [], ◌∷◌, ◌++◌, length, map, take, get_or, Option, Some, None}
 use Rattle.std.proofs.lemmas.List.{map-append, take_more}
 use Rattle.std.specs.List.{find}
 use Rattle.plan_types.specs.declared.showings.Showing.{Showing}
@@ -7,8 +7,7 @@ use Rattle.plan_types.specs.FirstShown.{earlier, first_showing, IsNoted, TellsFi
 use Rattle.plan_types.specs.Showings.{NumberedShowing, numbered_showing}
 
 through : (b : Bool) (y : NumberedShowing) (o l : Option NumberedShowing) → cond b (Some y) (earlier o l) ≡ earlier (cond b (Some y) o) l
-through true y o l = refl
-through false y o l = refl
+through x y o l = search std_rules
 
 find_one : (p : NumberedShowing → Bool) (xs : List NumberedShowing) (x : NumberedShowing) → find p (xs ++ x ∷ []) ≡ earlier (find p xs) (cond (p x) (Some x) None)
 find_one p [] x = refl

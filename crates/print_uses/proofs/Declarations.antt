@@ -1,5 +1,5 @@
 -- The declarations of an owner's types, one after the other.
-use Rattle.std.proofs.Common.{◌≡◌, refl, sym, ap, subst, ◌∙◌, Bool, true, false, ◌&&◌, List, [], ◌∷◌, ◌++◌, append-nil, append_assoc, map, Some, None}
+use Rattle.std.proofs.Common.{rules as std_rules, arith, ◌≡◌, refl, ap, subst, ◌∙◌, Bool, true, false, ◌&&◌, List, [], ◌∷◌, ◌++◌, append_assoc, map, Some, None}
 use Rattle.std.proofs.lemmas.List.Folds.{list_all-map}
 use Rattle.std.specs.{Prelude.String, Prelude.is_some, Borrow.Bor, Option.option_map_or, List.list_all}
 use Rattle.std.specs.declared.alloc.Global.{Global}
@@ -7,15 +7,13 @@ use Rattle.wit_model.specs.declared.model.{Resolve.Resolve, Function.Function, I
 use Rattle.wit_model.specs.declared.model.TypeDef.{TypeDef}
 use Rattle.wit_model.specs.{Lookup.interface_at, Lookup.type_at, Rules.in_list, Text.text_of, Valid.IsValid}
 use Rattle.print_grammar.specs.{Tree.Declared, Tree.MemberTree, Tree.Prefix, WellNamed.is_well_declared, WellNamed.is_well_prefix}
-use Rattle.print_grammar.specs.Tree.MemberTree.{FunctionMember, TypeMember, UseMember}
-use Rattle.print_grammar.specs.Calls.{declared_calls, function_calls, item_calls, members_calls, prefix_calls, printed_after, use_calls, line_after_calls}
-use Rattle.print_items.specs.Shown.{Listed, listed_functions, listed_types, path_from_owner, shown_declared, shown_interface, shown_prefix, shown_resource_member, shown_uses}
+use Rattle.print_grammar.specs.Tree.MemberTree.{TypeMember}
+use Rattle.print_grammar.specs.Calls.{declared_calls, members_calls, prefix_calls, printed_after, line_after_calls}
+use Rattle.print_items.specs.Shown.{Listed, listed_functions, listed_types, shown_declared, shown_interface, shown_prefix, shown_resource_member}
 use Rattle.print_uses.specs.Printable.{declaration_of, is_printable_type, shown_functions}
-use Rattle.print_uses.specs.UseGroups.{declared_members, is_listed_type, type_members}
-use Rattle.print_output.specs.declared.type_kind.TypeKind.TheVariants.{FunctionFreestanding}
+use Rattle.print_uses.specs.UseGroups.{is_listed_type, type_members}
 use Rattle.print_uses.proofs.{Valid.in_package, Valid.interface_range, Valid.interface_types, Valid.is_known_listed}
 use Rattle.print_uses.proofs.WellLists.{all_both}
-use Rattle.base_lemmas.proofs.Bools.{right_of}
 use Rattle.wit_model.specs.declared.model.TypeOwner.TheVariants as owner
 
 -- ---- calls
@@ -23,34 +21,23 @@ use Rattle.wit_model.specs.declared.model.TypeOwner.TheVariants as owner
 -- one declaration in its block
 pub declaration_alone : (emits printed : Bool) (prefix : Prefix) (declared : Declared)
     → line_after_calls printed ++ (prefix_calls emits prefix ++ declared_calls emits declared) ≡ members_calls emits printed (TypeMember prefix declared ∷ [])
-declaration_alone emits true prefix declared = sym (append-nil _)
-declaration_alone emits false prefix declared = sym (append-nil _)
+declaration_alone emits x prefix declared = search std_rules
 
 -- one member and then others
 pub member_and_more : (emits printed : Bool) (m : MemberTree) (ms : List MemberTree) → members_calls emits printed (m ∷ ms) ≡ members_calls emits printed (m ∷ []) ++ members_calls emits true ms
-member_and_more emits printed (UseMember prefix path names) ms = ap (λ x. x ++ members_calls emits true ms) (sym (append-nil (use_calls emits prefix path names)))
-member_and_more emits printed (TypeMember prefix declared) ms = ap (λ x. x ++ members_calls emits true ms)
-    (sym (append-nil (item_calls printed (prefix_calls emits prefix ++ declared_calls emits declared))))
-member_and_more emits printed (FunctionMember prefix name signature) ms =
-    ap (λ x. x ++ members_calls emits true ms) (sym (append-nil (item_calls printed (function_calls emits prefix name FunctionFreestanding signature))))
+member_and_more emits printed y ms = search std_rules
 
 pub after_printed : (ms : List MemberTree) → printed_after true ms ≡ true
-after_printed [] = refl
-after_printed (m ∷ ms) = refl
+after_printed x = search std_rules
 
 -- some members and then others
 pub members_append : (emits printed : Bool) (ms more : List MemberTree)
     → members_calls emits printed (ms ++ more) ≡ members_calls emits printed ms ++ members_calls emits (printed_after printed ms) more
 members_append emits printed [] more = refl
-members_append emits printed (m ∷ ms) more =
-    member_and_more emits printed m (ms ++ more)
-    ∙ ap (λ x. members_calls emits printed (m ∷ []) ++ x) (members_append emits true ms more ∙ ap (λ b. members_calls emits true ms ++ members_calls emits b more) (after_printed ms))
-    ∙ sym (append_assoc (members_calls emits printed (m ∷ [])) (members_calls emits true ms) (members_calls emits true more))
-    ∙ ap (λ x. x ++ members_calls emits true more) (sym (member_and_more emits printed m ms))
+members_append emits printed (m ∷ ms) more = search (std_rules, member_and_more, after_printed, append_assoc, members_append emits true ms more)
 
 pub printed_append : (printed : Bool) (ms more : List MemberTree) → printed_after printed (ms ++ more) ≡ printed_after (printed_after printed ms) more
-printed_append printed [] more = refl
-printed_append printed (m ∷ ms) more = sym (after_printed more)
+printed_append printed x more = search std_rules
 
 -- functions behind references are shown as they are
 pub members_shown : (r : Resolve) (xs : List (Bor Function)) (fs : List Function) → map (λ f. f.now) xs ≡ fs → map (λ f. shown_resource_member r f.now) xs ≡ map (shown_resource_member r) fs
@@ -70,9 +57,7 @@ module _ (r : Resolve) (fs : List Function) where
   -- a type that can be printed is there, and is well named
   pub printable_at : (id : TypeId) (def : TypeDef) → type_at r id.0 ≡ Some def → is_printable_type r fs id ≡ true
       → (is_well_prefix (shown_prefix def.docs def.stability def.external_id) && is_well_declared (shown_declared r fs id def)) ≡ true
-  printable_at id def e h =
-      subst (λ o. option_map_or (λ d. is_well_prefix (shown_prefix d.docs d.stability d.external_id) && is_well_declared (shown_declared r fs id d)) o false ≡ true) e
-      (right_of (in_list r.types.items id.0) _ h)
+  printable_at id def e h = search std_rules
 
 -- ---- interfaces of a valid `Resolve`
 
@@ -93,11 +78,4 @@ module _ (r : Resolve) (valid : IsValid r) (id : InterfaceId) (i : Interface) (a
       → members_calls emits false (type_members r here (owner.Interface id) (listed_functions i) (listed_types i)) ++ members_calls emits
       (printed_after false (type_members r here (owner.Interface id) (listed_functions i) (listed_types i))) (shown_functions r i.functions.entries)
       ≡ members_calls emits false (shown_interface r id i)
-  interface_calls emits here placed =
-      let types = type_members r here (owner.Interface id) (listed_functions i) (listed_types i) in
-      let uses = shown_uses r (owner.Interface id) (listed_types i) in
-      let declared = declared_members r (owner.Interface id) (listed_functions i) (listed_types i) in
-      let functions = shown_functions r i.functions.entries in
-      let whole : shown_interface r id i ≡ types ++ functions =
-      ap (λ p. (map (λ used. UseMember used.prefix (path_from_owner r p used.interface) used.names) uses ++ declared) ++ functions) placed in
-      sym (ap (members_calls emits false) whole ∙ members_append emits false types functions)
+  interface_calls emits here placed = grind (arith, members_append)

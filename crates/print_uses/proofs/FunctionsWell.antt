@@ -1,10 +1,10 @@
 -- What is shown of a function of a valid `Resolve` is well named.
-use Rattle.std.proofs.Common.{◌≡◌, refl, sym, ◌∙◌, Bool, true, ◌&&◌, ◌||◌, not, List, [], ◌∷◌, length, drop, Option, Some, None, map}
+use Rattle.std.proofs.Common.{rules as std_rules, ◌≡◌, refl, sym, ◌∙◌, Bool, true, ◌&&◌, ◌||◌, not, List, [], ◌∷◌, length, drop, Option, map}
 use Rattle.std.proofs.lemmas.{List.Folds.list_all-append, Bool.and_from as both}
 use Rattle.std.specs.{Prelude.option_map, Prelude.option_to_list, Prelude.if◌then◌else◌, List.list_all}
 use Rattle.wit_model.specs.declared.model.{Resolve.Resolve, Function.Function, Param.Param, «Type».«Type» as ValueType}
 use Rattle.wit_model.specs.{Text.text_of, Names.is_label, Lookup.resource_of, Valid.IsValid}
-use Rattle.wit_model.specs.{Parts.function_types, Rules.function_in_range, Rules.function_labels, Rules.is_freestanding, Rules.are_member_labels, Rules.passes}
+use Rattle.wit_model.specs.{Parts.function_types, Rules.function_in_range, Rules.function_labels, Rules.is_freestanding, Rules.passes}
 use Rattle.print_items.specs.Shown.{shown_type, shown_param, shown_params, shown_signature, function_prefix, is_method}
 use Rattle.print_grammar.specs.WellNamed.{is_well_type, is_well_param, is_well_signature, is_well_prefix}
 use Rattle.print_uses.proofs.WellLists.{written_well}
@@ -19,24 +19,15 @@ module _ (r : Resolve) (valid : IsValid r) where
   params_known : (ps : List Param) → list_all is_label (map (λ p. text_of p.name) ps) ≡ true → list_all (is_below (length r.types.items)) (map (λ p. p.ty) ps) ≡ true → list_all known_param ps ≡ true
   params_known [] h g = refl
   params_known (p ∷ ps) h g =
-      let label : is_label (text_of p.name) ≡ true = left_of _ _ h in
-      let below : is_below (length r.types.items) p.ty ≡ true = left_of _ _ g in
-      both (known_param p) (list_all known_param ps) (both (is_label (text_of p.name)) (is_below (length r.types.items) p.ty) label below)
-      (params_known ps (right_of (is_label (text_of p.name)) _ h) (right_of (is_below (length r.types.items) p.ty) _ g))
+      search (std_rules, left_of, is_below, both, right_of, params_known ps (right_of (is_label (text_of p.name)) _ h) (right_of (is_below (length r.types.items) p.ty) _ g))
 
   params_well : (ps : List Param) → list_all known_param ps ≡ true → list_all is_well_param (map (shown_param r) ps) ≡ true
   params_well [] h = refl
-  params_well (p ∷ ps) h =
-      let known : known_param p ≡ true = left_of _ _ h in
-      let label : is_label (text_of p.name) ≡ true = left_of _ _ known in
-      both (is_well_param (shown_param r p)) (list_all is_well_param (map (shown_param r) ps))
-      (both (is_label (text_of p.name)) (is_well_type (shown_type r p.ty)) label (shown_type_well r valid p.ty (right_of (is_label (text_of p.name)) _ known)))
-      (params_well ps (right_of (known_param p) _ h))
+  params_well (p ∷ ps) h = search (std_rules, left_of, both, shown_type_well, right_of, params_well ps (right_of (known_param p) _ h))
 
   -- So is a type that may be left out.
   pub optional_type_well : (o : Option ValueType) → list_all (is_below (length r.types.items)) (option_to_list o) ≡ true → passes is_well_type (option_map (shown_type r) o) ≡ true
-  optional_type_well None h = refl
-  optional_type_well (Some t) h = shown_type_well r valid t (left_of _ _ h)
+  optional_type_well x h = search (std_rules, shown_type_well, left_of)
 
   -- The signature of a function whose numbers are in range and that keeps the rule on labels is shown well.
   pub signature_well : (f : Function) → function_in_range r f ≡ true → function_labels f ≡ true → is_well_signature (shown_signature r f) ≡ true
@@ -51,6 +42,4 @@ module _ (r : Resolve) (valid : IsValid r) where
 
 -- So is what stands in front of it.
 pub function_prefix_well : (f : Function) → function_labels f ≡ true → is_well_prefix (function_prefix f) ≡ true
-function_prefix_well f named =
-    shown_prefix_well f.docs f.stability f.external_id (right_of (are_member_labels (map (λ p. text_of p.name) f.params.items)) _
-    (right_of (not (is_freestanding f.kind) || is_label (text_of f.name)) _ named))
+function_prefix_well f named = search (std_rules, shown_prefix_well, right_of)

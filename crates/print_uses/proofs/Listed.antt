@@ -1,11 +1,11 @@
 -- One type of an owner's list after the other is printed.
-use Rattle.std.proofs.Common.{◌≡◌, refl, sym, ap, subst, ◌∙◌, ℕ, Bool, true, false, ◌&&◌, ◌||◌, List, [], ◌∷◌, ◌++◌, map, filter_map, Option, Some, None, option_and_then, if◌then◌else◌, ◌+◌, ◌<◌, length, drop, get_or}
+use Rattle.std.proofs.Common.{rules as std_rules, ◌≡◌, refl, sym, ap, subst, ◌∙◌, ℕ, Bool, true, false, ◌&&◌, ◌||◌, List, [], ◌∷◌, ◌++◌, map, filter_map, Option, Some, None, option_and_then, if◌then◌else◌, ◌+◌, ◌<◌, length, drop, get_or}
 use Rattle.std.proofs.lemmas.{Bool.lt-ltb, Bool.and_from as both, Option.slice_get_within, List.drop_more}
 use Rattle.std.specs.{Prelude.is_some, Prelude.option_map, Option.option_map_or, List.list_all, List.cons_option, Borrow.Bor}
 use Rattle.wit_model.specs.declared.model.{Resolve.Resolve, TypeDef.TypeDef, TypeId.TypeId}
-use Rattle.wit_model.specs.declared.model.{Interface.Interface, InterfaceId.InterfaceId, PackageId.PackageId, Function.Function, TypeOwner.TypeOwner}
+use Rattle.wit_model.specs.declared.model.{InterfaceId.InterfaceId, PackageId.PackageId, Function.Function, TypeOwner.TypeOwner}
 use Rattle.wit_model.specs.{Names.is_label, Parts.same_owner, Text.Text, Text.text_of}
-use Rattle.wit_model.specs.{Lookup.interface_at, Lookup.type_at, Rules.has_items, Rules.in_list, Rules.is_stability, Rules.passes, Valid.IsValid, Valid.labels}
+use Rattle.wit_model.specs.{Lookup.type_at, Rules.has_items, Rules.in_list, Rules.is_stability, Rules.passes, Valid.IsValid, Valid.labels}
 use Rattle.print_output.specs.OutputCall.{OutputCall, View, Moves, Begins}
 use Rattle.print_grammar.specs.{Tree.MemberTree, Tree.PathTree, Tree.MemberTree.TypeMember, Calls.members_calls, Calls.printed_after}
 use Rattle.print_grammar.specs.WellNamed.{are_well_some, is_well_declared, is_well_gates, is_well_prefix, is_well_used}
@@ -26,11 +26,7 @@ module _ (r : Resolve) where
   -- ---- a use that can be printed
 
   named_there : (n : ℕ) → is_named_interface r n ≡ true → in_list r.interfaces.items n ≡ true
-  named_there n h = go (interface_at r n) refl h
-    where
-      go : (o : Option Interface) → interface_at r n ≡ o → option_map_or (λ i. is_some i.name) o false ≡ true → in_list r.interfaces.items n ≡ true
-      go None e k = absurd cc
-      go (Some i) e k = lt-ltb _ _ (slice_get_within r.interfaces.items n i e)
+  named_there n h = search (std_rules, lt-ltb, slice_get_within)
 
   -- what is known of a type of an owner's list
   module _ (o : TypeOwner) (name : Text) (id : TypeId) (def : TypeDef) (at : type_at r id.0 ≡ Some def) (known : is_listed_type r o (record { name = name; id = id }) ≡ true) where
@@ -132,8 +128,7 @@ module _ (r : Resolve) where
         go (Some d) = refl
 
 pub some_mapped : (u : Option Use) → is_some (option_map shown_use u) ≡ is_some u
-some_mapped None = refl
-some_mapped (Some u) = refl
+some_mapped x = search std_rules
 
 -- ---- what the page is for
 

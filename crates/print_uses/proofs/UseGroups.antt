@@ -1,24 +1,21 @@
 -- Uses one after the other are the groups that are shown.
-use Rattle.std.proofs.Common.{◌≡◌, refl, sym, ap, subst, ◌∙◌, Bool, true, false, ℕ, ◌&&◌, ◌||◌, ◌==◌, nat_lt, length, List, [], ◌∷◌, ◌++◌, append-nil, append_assoc, map, filter_map, Option, Some, None, option_and_then, if◌then◌else◌}
+use Rattle.std.proofs.Common.{rules as std_rules, ◌≡◌, refl, sym, ap, ◌∙◌, Bool, true, false, ◌&&◌, ◌||◌, ◌==◌, nat_lt, length, List, [], ◌∷◌, ◌++◌, append-nil, append_assoc, map, filter_map, Option, Some, None, if◌then◌else◌}
 use Rattle.std.proofs.Math.Utf8.{encodes}
 use Rattle.std.proofs.lemmas.{Str.encodes-chars, Str.IsUtf8-string_bytes, Grind.flat_map-append, Bool.eqb-true, Bool.and_from as both, List.Folds.flat_map-map}
-use Rattle.std.specs.{Prelude.codes, Prelude.is_some, Prelude.String, Str.chars, List.list_all, List.cons_option, List.flat_map}
+use Rattle.std.specs.{Prelude.codes, Prelude.is_some, Prelude.String, Str.chars, List.list_all, List.cons_option}
 use Rattle.std.specs.declared.alloc.Global.{Global}
-use Rattle.wit_model.specs.declared.model.{Resolve.Resolve, InterfaceId.InterfaceId, PackageId.PackageId, TypeDefKind.TypeDefKind, TypeOwner.TypeOwner}
+use Rattle.wit_model.specs.declared.model.{Resolve.Resolve, InterfaceId.InterfaceId, PackageId.PackageId, TypeOwner.TypeOwner}
 use Rattle.wit_model.specs.declared.model.TypeDef.{TypeDef}
-use Rattle.wit_model.specs.{Lookup.type_at, Names.is_label, Parts.same_owner}
-use Rattle.wit_model.specs.{Rules.has_items, Rules.in_list, Rules.is_stability, Rules.passes, Text.Text, Text.text_eq, Text.text_of, Uses.alias_target}
+use Rattle.wit_model.specs.{Names.is_label}
+use Rattle.wit_model.specs.{Rules.has_items, Rules.passes, Text.Text, Text.text_eq, Text.text_of}
 use Rattle.wit_model.proofs.{VersionLaws.same_text, TextLemmas.text_same}
-use Rattle.print_output.specs.{OutputCall.OutputCall, OutputCall.OutputCall.Keyword, OutputCall.OutputCall.Str}
-use Rattle.print_grammar.specs.{Tree.MemberTree, Tree.PathTree, Tree.UsedName, Tree.MemberTree.UseMember, WellNamed.is_well_gates, WellNamed.is_well_path}
-use Rattle.print_grammar.specs.Calls.{doc_calls, external_id_calls, gates_calls, members_calls, path_calls, printed_after, space, use_calls, used_name_calls}
-use Rattle.print_items.specs.Shown.{Listed, Used, grouped, grouped_with, same_group, shown_gates, shown_path, used_of}
-use Rattle.print_uses.specs.UseGroups.{group_end_calls, is_printable_use, joins, listed_use, listed_use_calls, more_names_calls, names_calls, new_group_calls, open_end_calls, use_after, use_from, use_run_calls, uses_calls}
+use Rattle.print_output.specs.{OutputCall.OutputCall.Str}
+use Rattle.print_grammar.specs.{Tree.MemberTree, Tree.PathTree, Tree.UsedName, Tree.MemberTree.UseMember}
+use Rattle.print_grammar.specs.Calls.{doc_calls, members_calls, printed_after, use_calls, used_name_calls}
+use Rattle.print_items.specs.Shown.{Listed, Used, grouped, grouped_with, same_group, used_of}
+use Rattle.print_uses.specs.UseGroups.{group_end_calls, is_printable_use, joins, listed_use, listed_use_calls, more_names_calls, names_calls, new_group_calls, open_end_calls, use_after, use_run_calls, uses_calls}
 use Rattle.print_uses.specs.declared.use_group.Use.{Use}
-use Rattle.base_lemmas.proofs.Bools.{both_ways, left_of, or_false, or_true, right_of}
-use Rattle.wit_model.specs.declared.model.TypeDefKind.TheVariants as defined
-use Rattle.wit_model.specs.declared.model.TypeOwner.TheVariants as owner
-use Rattle.wit_model.specs.declared.model.«Type».TheVariants as value
+use Rattle.base_lemmas.proofs.Bools.{both_ways, left_of, right_of}
 
 -- ---- a use alone
 
@@ -27,37 +24,8 @@ abbrev pub is_plain_use : Used → Bool
 is_plain_use used = (length used.prefix.docs == 0) && nat_lt 0 (length used.names)
 
 module _ (here : TypeOwner) (own : Text) (def : TypeDef) where
-  from_plain : (target : TypeDef) → passes is_plain_use (use_from here own def target) ≡ true
-  from_plain target = by_owner target.owner
-    where
-      by_same : (id : InterfaceId) (b : Bool) → same_owner here (owner.Interface id) ≡ b → passes is_plain_use (use_from here own def (record target { owner = owner.Interface id })) ≡ true
-      by_same id true e = rw e refl
-      by_same id false e = rw e refl
-
-      by_owner : (o : TypeOwner) → passes is_plain_use (use_from here own def (record target { owner = o })) ≡ true
-      by_owner (owner.World id) = refl
-      by_owner owner.None = refl
-      by_owner (owner.Interface id) = by_same id (same_owner here (owner.Interface id)) refl
-
-  -- a use by the target of an alias
-  pub used_by_target : (r : Resolve) → used_of r here own def ≡ option_and_then (λ t. option_and_then (use_from here own def) (type_at r t)) (alias_target def.kind)
-  used_by_target r = by_kind def.kind
-    where
-      by_kind : (k : TypeDefKind) → used_of r here own (record def { kind = k }) ≡ option_and_then (λ t. option_and_then (use_from here own def) (type_at r t)) (alias_target k)
-      by_kind (defined.Type_ (value.Id id)) = refl
-      by_kind (defined.Type_ t) = refl
-      by_kind k = refl
-
   pub use_plain : (r : Resolve) → passes is_plain_use (used_of r here own def) ≡ true
-  use_plain r = subst (λ u. passes is_plain_use u ≡ true) (sym (used_by_target r)) (by_number (alias_target def.kind))
-    where
-      at : (d : Option TypeDef) → passes is_plain_use (option_and_then (use_from here own def) d) ≡ true
-      at None = refl
-      at (Some target) = from_plain target
-
-      by_number : (t : Option ℕ) → passes is_plain_use (option_and_then (λ n. option_and_then (use_from here own def) (type_at r n)) t) ≡ true
-      by_number None = refl
-      by_number (Some n) = at (type_at r n)
+  use_plain r = search std_rules
 
 -- ---- groups
 
@@ -69,14 +37,7 @@ no_docs emits (d ∷ ds) h = let wrong : length (d ∷ ds) ≡ 0 = eqb-true (len
 -- the first name and others are names and more
 names_append : (names more : List UsedName) → nat_lt 0 (length names) ≡ true → names_calls (names ++ more) ≡ names_calls names ++ more_names_calls more
 names_append [] more h = absurd cc
-names_append (name ∷ names) more h =
-    ap (λ x. used_name_calls name ++ x) (each (names ++ more))
-    ∙ ap (λ x. used_name_calls name ++ x) (flat_map-append (λ n. Str (codes ", ") ∷ used_name_calls n) names more)
-    ∙ sym (append_assoc (used_name_calls name) (more_names_calls names) (more_names_calls more))
-    ∙ ap (λ x. (used_name_calls name ++ x) ++ more_names_calls more) (sym (each names))
-  where
-    each : (ns : List UsedName) → flat_map (λ next. Str (codes ", ") ∷ next) (map used_name_calls ns) ≡ more_names_calls ns
-    each ns = flat_map-map (λ next. Str (codes ", ") ∷ next) used_name_calls ns
+names_append (name ∷ names) more h = search (std_rules, flat_map-append, append_assoc, flat_map-map)
 
 module _ (emits : Bool) (path : InterfaceId → PathTree) where
   abbrev shown : Used → MemberTree
@@ -85,23 +46,7 @@ module _ (emits : Bool) (path : InterfaceId → PathTree) where
   -- a group is what begins it, more names and its end
   group_calls : (used : Used) (more : List UsedName) → is_plain_use used ≡ true
       → use_calls emits used.prefix (path used.interface) (used.names ++ more) ≡ new_group_calls path used ++ (more_names_calls more ++ group_end_calls)
-  group_calls used more h =
-      let front = gates_calls used.prefix.gates in
-      let id = external_id_calls used.prefix.external_id in
-      let word : List OutputCall = Keyword (codes "use") ∷ space ∷ [] in
-      let way = path_calls (path used.interface) in
-      let brace : List OutputCall = Str (codes ".{") ∷ [] in
-      let names = names_calls used.names in
-      let rest = more_names_calls more ++ group_end_calls in
-      ap (λ docs. (docs ++ front ++ id) ++ (word ++ (way ++ (brace ++ (names_calls (used.names ++ more) ++ group_end_calls))))) (no_docs emits used.prefix.docs (left_of _ _ h))
-      ∙ ap (λ x. (front ++ id) ++ (word ++ (way ++ (brace ++ x))))
-      (ap (λ x. x ++ group_end_calls) (names_append used.names more (right_of (length used.prefix.docs == 0) _ h)) ∙ append_assoc names (more_names_calls more) group_end_calls)
-      ∙ append_assoc front id (word ++ (way ++ (brace ++ (names ++ rest))))
-      ∙ ap (λ x. front ++ (id ++ (word ++ x))) (sym (append_assoc way brace (names ++ rest)))
-      ∙ ap (λ x. front ++ (id ++ x)) (sym (append_assoc word (way ++ brace) (names ++ rest)))
-      ∙ ap (λ x. front ++ x) (sym (append_assoc id (word ++ (way ++ brace)) (names ++ rest)))
-      ∙ sym (append_assoc front (id ++ (word ++ (way ++ brace))) (names ++ rest))
-      ∙ sym (append_assoc (front ++ (id ++ (word ++ (way ++ brace)))) names rest)
+  group_calls used more h = search (std_rules, no_docs, left_of, names_append, right_of, append_assoc)
 
   -- What stands behind the names of a use: more of its group, and other groups.
   record Grouped (used : Used) (uses : List Used) : Type 0 where
@@ -158,18 +103,11 @@ module _ (emits : Bool) (path : InterfaceId → PathTree) where
   -- ---- whether there are any
 
   pub uses_printed : (printed : Bool) (uses : List Used) → list_all is_plain_use uses ≡ true → printed_after printed (map shown (grouped uses)) ≡ (printed || has_items uses)
-  uses_printed printed [] h = sym (or_false printed)
-  uses_printed printed (used ∷ uses) h =
-      let g = grouped_calls used uses (right_of (is_plain_use used) _ h) in
-      ap (λ gs. printed_after printed (map shown gs)) g.groups ∙ sym (or_true printed)
+  uses_printed printed x h = search std_rules
 
 -- the names of a use that can be printed are labels
 pub use_labels : (r : Resolve) (here : PackageId) (u : Use) → is_printable_use r here u ≡ true → (is_label u.own.now ≡ true) × (is_label u.other.now ≡ true)
-use_labels r here u h =
-    let names : (is_label u.own.now && is_label u.other.now) ≡ true =
-    right_of (in_list r.interfaces.items u.interface.0 && is_well_path (shown_path r here u.interface)) _
-    (right_of (is_stability u.def.now.stability && is_well_gates (shown_gates u.def.now.stability)) _ h) in
-    (left_of _ _ names, right_of (is_label u.own.now) _ names)
+use_labels r here u h = search (std_rules, right_of, left_of)
 
 -- ---- texts by their characters
 
@@ -199,25 +137,12 @@ module _ (path : InterfaceId → PathTree) (before : Option Used) (used : Used) 
 
 pub next_use : (path : InterfaceId → PathTree) (before o : Option Used) (rest : List Used)
     → uses_calls path before (cons_option o rest) ≡ listed_use_calls path before o ++ uses_calls path (use_after before o) rest
-next_use path before None rest = refl
-next_use path before (Some used) rest = refl
+next_use path before x rest = search std_rules
 
 pub next_some : (before o : Option Used) (rest : List Used) → (is_some before || has_items (cons_option o rest)) ≡ (is_some (use_after before o) || has_items rest)
-next_some None None rest = refl
-next_some None (Some used) rest = refl
-next_some (Some other) None rest = refl
-next_some (Some other) (Some used) rest = refl
+next_some x y rest = search std_rules
 
 -- none is plain but those with a name and no documentation
 pub listed_plain : (r : Resolve) (o : TypeOwner) (types : List Listed) → list_all is_plain_use (filter_map (listed_use r o) types) ≡ true
 listed_plain r o [] = refl
-listed_plain r o (t ∷ ts) = cons (listed_use r o t) (one (type_at r t.id.0)) (listed_plain r o ts)
-  where
-    one : (d : Option TypeDef) → passes is_plain_use (option_and_then (used_of r o t.name) d) ≡ true
-    one None = refl
-    one (Some def) = use_plain o t.name def r
-
-    cons : (u : Option Used) → passes is_plain_use u ≡ true → list_all is_plain_use (filter_map (listed_use r o) ts) ≡ true
-        → list_all is_plain_use (cons_option u (filter_map (listed_use r o) ts)) ≡ true
-    cons None h rest = rest
-    cons (Some used) h rest = both (is_plain_use used) _ h rest
+listed_plain r o (t ∷ ts) = search (std_rules, use_plain, both, listed_plain r o ts)

@@ -1,6 +1,6 @@
 -- What is shown of a valid `Resolve`'s interfaces is well named.
-use Rattle.std.proofs.Common.{◌≡◌, refl, sym, ap, ◌∙◌, subst, ℕ, ◌+◌, Bool, true, false, ◌&&◌, ◌||◌, not, eq-eqb, List, [], ◌∷◌, flat_map, map, Option, Some, None, option_map, length, arith, ◌==◌, cond, ◌++◌, append_assoc, drop, option_and_then, filter, filter_map, inl, inr}
-use Rattle.std.proofs.lemmas.{Bool.ltb-true, Bool.and_from as both, Bool.false_from_ne_true as refuted, Bool.cases_Bool, List.drop_at, List.length_push}
+use Rattle.std.proofs.Common.{rules as std_rules, ◌≡◌, refl, sym, ap, ◌∙◌, subst, ℕ, ◌+◌, Bool, true, false, ◌&&◌, ◌||◌, not, List, [], ◌∷◌, flat_map, map, Option, Some, None, option_map, length, arith, ◌==◌, ◌++◌, append_assoc, option_and_then, filter, filter_map, inl, inr}
+use Rattle.std.proofs.lemmas.{Bool.ltb-true, Bool.and_from as both, Bool.cases_Bool, List.drop_at, List.length_push}
 use Rattle.std.proofs.lemmas.List.Folds.{list_all-append, list_all-map}
 use Rattle.std.specs.{Prelude.is_some, Prelude.String, Prelude.codes, Prelude.if◌then◌else◌, Prelude.option_to_list, Option.option_map_or, Map.values_of}
 use Rattle.std.specs.List.{list_all, find, position_or_len}
@@ -14,17 +14,16 @@ use Rattle.wit_model.specs.Uses.{alias_target, owner_interface}
 use Rattle.wit_model.specs.{Lookup.interface_at, Lookup.world_at, Lookup.type_at, Lookup.resource_of, Lookup.package_at, Types.number_of}
 use Rattle.wit_model.specs.Valid.{IsValid, Rule, Keeps, order_of_types, owners, is_place, numbers_in_range, labels, package_names, named_kinds, places, function_names}
 use Rattle.wit_model.specs.Parts.{kind_numbers, met_by, met_of, used_by_type, same_owner, has_owner, handled}
-use Rattle.wit_model.specs.Rules.{in_list, passes, is_use, is_named_of, after_prefix, is_freestanding, function_labels, is_resource_itself, resource_name, takes_self, is_member_name, is_member_of, is_member, has_shape, kind_labels, is_stability, is_named_kind, is_own_of, function_in_range, is_named_number, package_number}
+use Rattle.wit_model.specs.Rules.{in_list, passes, is_use, is_named_of, after_prefix, is_freestanding, function_labels, is_resource_itself, resource_name, takes_self, is_member_name, is_member_of, is_member, has_shape, kind_labels, is_stability, is_named_kind, function_in_range, is_named_number, package_number}
 use Rattle.wit_model.proofs.{Entries.each_from_at, Entries.each_from_all, Entries.lists_pass, Entries.none_breaks, PartsLemmas.owner_same as same_owner_is}
 use Rattle.wit_model.proofs.{OnePath.interface-passes, OnePath.given-test, OnePath.package-passes, Checks.references_kept, Owners.named_met, Owners.owned_stays}
 use Rattle.wit_model.proofs.{Listings.interface_fits, Listings.misnamed_in_interface_breaks, TreeTable.kept_numbers, Lists.list_all_filter_map}
 use Rattle.wit_model.proofs.{TextLemmas.text_same, NameLaws.label_lacks, Prefixes.after_sound}
-use Rattle.print_items.specs.Shown.{Listed, present_name, shown_docs, shown_type, type_name, type_trees, kind_tree, shown_field, shown_case, shown_flag, shown_enum_case, shown_params, function_prefix, shown_signature, constructor_result, shown_resource_member, belongs_to, shown_declared, shown_prefix, full_path, path_from, shown_path, Used, own_name, used_of, same_group, grouped_with, grouped, shown_uses, DeclaredWith, declared_with, shown_declarations, path_from_owner, listed_types, listed_functions, shown_function, shown_interface}
+use Rattle.print_items.specs.Shown.{Listed, present_name, shown_type, type_name, type_trees, kind_tree, shown_field, shown_case, shown_flag, shown_enum_case, constructor_result, shown_resource_member, belongs_to, shown_declared, shown_prefix, full_path, path_from, shown_path, Used, own_name, used_of, same_group, grouped_with, grouped, shown_uses, DeclaredWith, declared_with, shown_declarations, path_from_owner, listed_types, listed_functions, shown_function, shown_interface}
 use Rattle.print_items.proofs.TypesWell.{type_rule, label_of, is_below, below_of_numbers, shape_of, handled_label, shown_type_well, shown_kind_well, name_well}
 use Rattle.print_items.proofs.ShownWell.{docs_well, given_label, optional_version, shown_prefix_well}
 use Rattle.base_lemmas.proofs.{Bools.left_of, Bools.right_of, Bools.given-not as implied, Lists.within_there as one_there, Elements.joined_well}
-use Rattle.print_output.specs.OutputCall.{is_one_line}
-use Rattle.print_grammar.specs.WellNamed.{is_well_type, is_well_field, is_well_case, is_well_label, is_well_param, is_well_signature, is_well_prefix, is_well_resource_member, is_well_declared, is_well_path, is_well_used, are_well_some, is_well_member}
+use Rattle.print_grammar.specs.WellNamed.{is_well_type, is_well_field, is_well_case, is_well_label, is_well_prefix, is_well_resource_member, is_well_declared, is_well_path, is_well_used, are_well_some, is_well_member}
 use Rattle.print_grammar.specs.Tree.{PathTree.Local, MemberTree.UseMember, MemberTree.TypeMember}
 use Rattle.print_uses.proofs.WellLists.{kept_well, some_well, given_well, joined_some, each_well}
 use Rattle.print_uses.proofs.FunctionsWell.{signature_well, function_prefix_well, optional_type_well}
@@ -42,10 +41,7 @@ use Rattle.wit_model.specs.declared.model.Handle.TheVariants as handle
 
 -- another owner is another one the other way round
 other_way : (o : TypeOwner) (id : InterfaceId) → same_owner o (owner.Interface id) ≡ false → same_owner (owner.Interface id) o ≡ false
-other_way o id differs = refuted (same_owner (owner.Interface id) o) (λ same.
-    let one : owner.Interface id ≡ o = same_owner_is (owner.Interface id) o same in
-    let yes_ : same_owner o (owner.Interface id) ≡ true = subst (λ x. same_owner x (owner.Interface id) ≡ true) one (eq-eqb id.0 id.0 refl) in
-    let wrong : true ≡ false = sym yes_ ∙ differs in cc)
+other_way o id differs = search std_rules
 
 -- whether the interface of this number has a name
 abbrev pub is_named_interface : Resolve → ℕ → Bool
@@ -61,9 +57,7 @@ is_known_listed r o listed = is_label listed.name && is_named_of r o listed.id.0
 
 module _ (r : Resolve) (valid : IsValid r) where
   pub world_rule : (rule : Rule) → Keeps rule r → (n : ℕ) (w : World) → world_at r n ≡ Some w → rule.world_ r n w ≡ true
-  world_rule rule h n w e =
-      let number : 0 + n ≡ n = omega arith in
-      subst (λ m. rule.world_ r m w ≡ true) number (each_from_at (rule.world_ r) 0 r.worlds.items n w (lists_pass rule r h).2 e)
+  world_rule rule h n w e = search (std_rules, each_from_at, lists_pass)
 
   -- ---- the owner of an alias's target
 
@@ -140,11 +134,7 @@ module _ (r : Resolve) (valid : IsValid r) where
       → list_all (is_known_listed r o) (map (λ e. record { name = text_of e.0; id = e.1 }) es) ≡ true
   listed_known o [] range names own = refl
   listed_known o (e ∷ es) range names own =
-      let inside : in_list r.types.items e.1.0 ≡ true = left_of _ _ range in
-      let named : has_name r (λ name. text_eq name (text_of e.0)) e.1.0 ≡ true = left_of _ _ names in
-      let of_owner : is_named_of r o e.1.0 ≡ true = left_of _ _ own in
-      both (is_label (text_of e.0) && is_named_of r o e.1.0) _ (both (is_label (text_of e.0)) _ (own_name_label e.1.0 (text_of e.0) inside named) of_owner)
-      (listed_known o es (right_of (in_list r.types.items e.1.0) _ range) (right_of (has_name r (λ name. text_eq name (text_of e.0)) e.1.0) _ names) (right_of (is_named_of r o e.1.0) _ own))
+      search (std_rules, left_of, both, own_name_label, right_of, listed_known o es (right_of (in_list r.types.items e.1.0) _ range) (right_of (has_name r (λ name. text_eq name (text_of e.0)) e.1.0) _ names) (right_of (is_named_of r o e.1.0) _ own))
 
 -- ---- The own names of a valid `Resolve`'s functions are labels.
 
@@ -156,14 +146,11 @@ is_no_dot b = not (b == 46)
 
 first_dot : (xs ys : Text) → list_all is_no_dot xs ≡ true → position_or_len (λ b. b == 46) (xs ++ (46 ∷ ys)) ≡ length xs
 first_dot [] ys h = refl
-first_dot (x ∷ xs) ys h =
-    ap (λ b. cond b (1 + position_or_len (λ c. c == 46) (xs ++ (46 ∷ ys))) 0) (left_of (is_no_dot x) _ h)
-    ∙ omega (arith, first_dot xs ys (right_of (is_no_dot x) _ h))
+first_dot (x ∷ xs) ys h = search (std_rules, left_of, right_of, first_dot xs ys (right_of (is_no_dot x) _ h))
 
 after_first_dot : (xs ys : Text) → list_all is_no_dot xs ≡ true → after_dot (xs ++ (46 ∷ ys)) ≡ ys
 after_first_dot xs ys h =
-    ap (λ n. drop (n + 1) (xs ++ (46 ∷ ys))) (first_dot xs ys h)
-    ∙ (ap (drop (length xs + 1)) (sym (append_assoc xs (46 ∷ []) ys)) ∙ drop_at (xs ++ (46 ∷ [])) ys (length xs + 1) (length_push xs 46))
+    search (std_rules, first_dot xs ys h, append_assoc xs (46 ∷ []) ys, drop_at (xs ++ (46 ∷ [])) ys (length xs + 1) (length_push xs 46), length_push xs 46)
 
 -- what follows a front, a label and a dot
 member_label : (front name : Text) (f : Function) → list_all is_no_dot front ≡ true → is_label name ≡ true → is_member_name (front ++ (name ++ (46 ∷ []))) f ≡ true
@@ -223,15 +210,11 @@ module _ (r : Resolve) (valid : IsValid r) where
 
 flags_well : (fs : List Flag) → list_all is_label (map (λ f. text_of f.name) fs) ≡ true → list_all is_well_label (map shown_flag fs) ≡ true
 flags_well [] h = refl
-flags_well (f ∷ fs) h =
-    both (is_well_label (shown_flag f)) _ (both (list_all is_one_line (shown_docs f.docs)) _ (docs_well f.docs) (left_of (is_label (text_of f.name)) _ h))
-    (flags_well fs (right_of (is_label (text_of f.name)) _ h))
+flags_well (f ∷ fs) h = search (std_rules, both, docs_well, left_of, right_of, flags_well fs (right_of (is_label (text_of f.name)) _ h))
 
 enum_cases_well : (cs : List EnumCase) → list_all is_label (map (λ c. text_of c.name) cs) ≡ true → list_all is_well_label (map shown_enum_case cs) ≡ true
 enum_cases_well [] h = refl
-enum_cases_well (c ∷ cs) h =
-    both (is_well_label (shown_enum_case c)) _ (both (list_all is_one_line (shown_docs c.docs)) _ (docs_well c.docs) (left_of (is_label (text_of c.name)) _ h))
-    (enum_cases_well cs (right_of (is_label (text_of c.name)) _ h))
+enum_cases_well (c ∷ cs) h = search (std_rules, both, docs_well, left_of, right_of, enum_cases_well cs (right_of (is_label (text_of c.name)) _ h))
 
 -- a function whose numbers are in range, that keeps the rule on labels, and that belongs to what it is a member of
 abbrev pub is_known_function : Resolve → TypeOwner → Function → Bool
@@ -244,52 +227,22 @@ module _ (r : Resolve) (valid : IsValid r) where
       → list_all is_well_field (map (shown_field r) fs) ≡ true
   fields_well [] h g = refl
   fields_well (f ∷ fs) h g =
-      let label : is_label (text_of f.name) ≡ true = left_of _ _ h in
-      let below : is_below (length r.types.items) f.ty ≡ true = left_of _ _ g in
-      both (is_well_field (shown_field r f)) _
-      (both (list_all is_one_line (shown_docs f.docs)) _ (docs_well f.docs) (both (is_label (text_of f.name)) _ label (shown_type_well r valid f.ty below)))
-      (fields_well fs (right_of (is_label (text_of f.name)) _ h) (right_of (is_below (length r.types.items) f.ty) _ g))
+      search (std_rules, left_of, is_below, both, docs_well, shown_type_well, right_of, fields_well fs (right_of (is_label (text_of f.name)) _ h) (right_of (is_below (length r.types.items) f.ty) _ g))
 
   cases_well : (cs : List Case) → list_all is_label (map (λ c. text_of c.name) cs) ≡ true → list_all (λ c. list_all (is_below (length r.types.items)) (option_to_list c.ty)) cs ≡ true
       → list_all is_well_case (map (shown_case r) cs) ≡ true
   cases_well [] h g = refl
   cases_well (c ∷ cs) h g =
-      let label : is_label (text_of c.name) ≡ true = left_of _ _ h in
-      let below : list_all (is_below (length r.types.items)) (option_to_list c.ty) ≡ true = left_of _ _ g in
-      both (is_well_case (shown_case r c)) _
-      (both (list_all is_one_line (shown_docs c.docs)) _ (docs_well c.docs) (both (is_label (text_of c.name)) _ label (optional_type_well r valid c.ty below)))
-      (cases_well cs (right_of (is_label (text_of c.name)) _ h) (right_of (list_all (is_below (length r.types.items)) (option_to_list c.ty)) _ g))
+      search (std_rules, left_of, is_below, both, docs_well, optional_type_well, right_of, cases_well cs (right_of (is_label (text_of c.name)) _ h) (right_of (list_all (is_below (length r.types.items)) (option_to_list c.ty)) _ g))
 
   -- ---- functions of resources
 
   constructor_well : (id : TypeId) (result : Option ValueType) → passes is_well_type (option_map (shown_type r) result) ≡ true
       → passes is_well_type (constructor_result r id result) ≡ true
-  constructor_well id None h = refl
-  constructor_well id (Some (value.Id n)) h = go (option_map_or (is_own_of id.0) (type_at r n.0) false)
-    where
-      go : (b : Bool) → passes is_well_type (if b then None else Some (shown_type r (value.Id n))) ≡ true
-      go true = refl
-      go false = h
-  constructor_well id (Some t) h = h
+  constructor_well id x h = search std_rules
 
   resource_member_well : (o : TypeOwner) (f : Function) → is_known_function r o f ≡ true → is_well_resource_member (shown_resource_member r f) ≡ true
-  resource_member_well o f known = go f.kind (function_prefix_well f named) (item_name_well r valid o f named (right_of (function_labels f) _ rest))
-      (signature_well r valid f (left_of _ _ known) named)
-    where
-      rest : (function_labels f && is_member r o f) ≡ true
-      rest = right_of (function_in_range r f) _ known
-
-      named : function_labels f ≡ true
-      named = left_of _ _ rest
-
-      go : (k : FunctionKind) → is_well_prefix (function_prefix f) ≡ true → is_label (own_name_of k (text_of f.name)) ≡ true → is_well_signature (shown_signature r (record f { kind = k })) ≡ true
-          → is_well_resource_member (shown_resource_member r (record f { kind = k })) ≡ true
-      go (call.Constructor id) prefix name signature =
-          both (is_well_prefix (function_prefix f)) _ prefix
-          (both (list_all is_well_param (shown_params r (record f { kind = call.Constructor id }))) _ (left_of _ _ signature)
-          (constructor_well id f.result (right_of (list_all is_well_param (shown_params r (record f { kind = call.Constructor id }))) _ signature)))
-      go (call.Static id) prefix name signature = both _ _ prefix (both _ _ name signature)
-      go _ prefix name signature = both _ _ prefix (both _ _ name signature)
+  resource_member_well o f known = grind (arith, function_prefix_well, item_name_well, right_of, signature_well, left_of, both, constructor_well)
 
   members_well : (o : TypeOwner) (id : TypeId) (fs : List Function) → list_all (is_known_function r o) fs ≡ true
       → list_all is_well_resource_member (map (shown_resource_member r) (filter (belongs_to id) fs)) ≡ true
@@ -298,8 +251,7 @@ module _ (r : Resolve) (valid : IsValid r) where
   -- ---- declared types
 
   alias_well : (t : ValueType) → list_all (in_list r.types.items) (option_to_list (number_of t)) ≡ true → is_well_type (shown_type r t) ≡ true
-  alias_well (value.Id n) h = shown_type_well r valid (value.Id n) (left_of _ _ h)
-  alias_well t h = refl
+  alias_well t h = search (std_rules, shown_type_well, left_of)
 
   -- A declared type with a name, among known functions, is shown well.
   pub declared_well : (o : TypeOwner) (functions : List Function) (id : TypeId) (def : TypeDef) → type_at r id.0 ≡ Some def → is_label (present_name def.name) ≡ true
@@ -337,11 +289,7 @@ abbrev pub is_well_declared_with : DeclaredWith → Bool
 is_well_declared_with d = is_well_prefix d.prefix && is_well_declared d.declared
 
 own_name_well : (own other : Text) → is_label own ≡ true → passes is_label (own_name own other) ≡ true
-own_name_well own other label = go (text_eq own other)
-  where
-    go : (b : Bool) → passes is_label (if b then None else Some own) ≡ true
-    go true = refl
-    go false = label
+own_name_well own other label = search std_rules
 
 module _ (r : Resolve) (valid : IsValid r) where
   -- ---- paths
@@ -374,16 +322,11 @@ module _ (r : Resolve) (valid : IsValid r) where
 
   -- A path to a named interface is well named.
   pub path_well : (here : PackageId) (id : InterfaceId) → is_named_interface r id.0 ≡ true → is_well_path (shown_path r here id) ≡ true
-  path_well here id named = go (interface_at r id.0) refl named
-    where
-      go : (o : Option Interface) → interface_at r id.0 ≡ o → option_map_or (λ i. is_some i.name) o false ≡ true → is_well_path (option_map_or (path_from r here) o (Local [])) ≡ true
-      go None e h = absurd cc
-      go (Some i) e h = path_from_well here i (interface_label id.0 i e h)
+  path_well here id named = search (std_rules, path_from_well, interface_label)
 
   -- So is one from an owner with a package.
   pub owner_path_well : (here : Option PackageId) (id : InterfaceId) → is_some here ≡ true → is_named_interface r id.0 ≡ true → is_well_path (path_from_owner r here id) ≡ true
-  owner_path_well None id given named = absurd cc
-  owner_path_well (Some here) id given named = path_well here id named
+  owner_path_well x id given named = search (std_rules, path_well)
 
   -- ---- uses
 
@@ -503,21 +446,13 @@ module _ (r : Resolve) (valid : IsValid r) where
   freestanding_label f named free = implied (is_freestanding f.kind) (is_label (text_of f.name)) free (left_of _ _ named)
 
   pub function_well : (o : TypeOwner) (f : Function) → is_known_function r o f ≡ true → is_freestanding f.kind ≡ true → is_well_member (shown_function r f) ≡ true
-  function_well o f known free =
-      let named : function_labels f ≡ true = left_of _ _ (right_of (function_in_range r f) _ known) in
-      both (is_well_prefix (function_prefix f)) _ (function_prefix_well f named)
-      (both (is_label (text_of f.name)) _ (freestanding_label f named free) (signature_well r valid f (left_of _ _ known) named))
+  function_well o f known free = search (std_rules, left_of, right_of, both, function_prefix_well, freestanding_label, signature_well)
 
   functions_known : (o : TypeOwner) (es : List (String Global × Function)) → list_all (function_in_range r) (values_of es) ≡ true → list_all function_labels (values_of es) ≡ true
       → list_all (λ e. text_eq (text_of e.0) (text_of e.1.name) && is_member r o e.1) es ≡ true → list_all (is_known_function r o) (map (λ e. e.1) es) ≡ true
   functions_known o [] range named own = refl
   functions_known o (e ∷ es) range named own =
-      let inside : function_in_range r e.1 ≡ true = left_of _ _ range in
-      let label : function_labels e.1 ≡ true = left_of _ _ named in
-      let keyed : (text_eq (text_of e.0) (text_of e.1.name) && is_member r o e.1) ≡ true = left_of _ _ own in
-      both (is_known_function r o e.1) _
-      (both (function_in_range r e.1) _ inside (both (function_labels e.1) _ label (right_of (text_eq (text_of e.0) (text_of e.1.name)) _ keyed)))
-      (functions_known o es (right_of (function_in_range r e.1) _ range) (right_of (function_labels e.1) _ named) (right_of (text_eq (text_of e.0) (text_of e.1.name) && is_member r o e.1) _ own))
+      search (std_rules, left_of, both, right_of, functions_known o es (right_of (function_in_range r e.1) _ range) (right_of (function_labels e.1) _ named) (right_of (text_eq (text_of e.0) (text_of e.1.name) && is_member r o e.1) _ own))
 
   -- ---- what validity says
 
@@ -552,11 +487,7 @@ module _ (r : Resolve) (valid : IsValid r) where
 
   use_well : (i : Interface) → is_some i.«package» ≡ true → (used : Used) → is_known_use r used ≡ true
       → is_well_member (UseMember used.prefix (path_from_owner r i.«package» used.interface) used.names) ≡ true
-  use_well i given used known =
-      let more = right_of (is_named_interface r used.interface.0) _ known in
-      both (is_well_prefix used.prefix) _ (left_of _ _ more)
-      (both (is_well_path (path_from_owner r i.«package» used.interface)) _ (owner_path_well r valid i.«package» used.interface given (left_of _ _ known))
-      (right_of (is_well_prefix used.prefix) _ more))
+  use_well i given used known = search (std_rules, right_of, both, left_of, owner_path_well)
 
   -- What is shown of an interface is well named.
   pub interface_well : (id : InterfaceId) (i : Interface) → interface_at r id.0 ≡ Some i → list_all is_well_member (shown_interface r id i) ≡ true
