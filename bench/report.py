@@ -151,6 +151,12 @@ def hostile():
     return "\n".join([head, "", *HEAD, *(x for x in lines if x.startswith("|"))])
 
 
+def before_and_after():
+    """An earlier commit beside later sources, as it was kept."""
+    import before
+    return before.section()
+
+
 def drawn(stored, folder):
     """Both pictures, each twice."""
     field, unit = ("count", "millions of instructions") if is_busy(stored) else ("ms", "milliseconds")
@@ -177,7 +183,8 @@ def drawn(stored, folder):
 
 def write(stored, page):
     """The page: each line `<!-- WORD .. -->` of the text gives way to what it names."""
-    parts = {"measured on": lambda: measured_on(stored), "summary": lambda: summary(stored), "whole": lambda: whole(stored), "hostile": hostile}
+    parts = {"measured on": lambda: measured_on(stored), "summary": lambda: summary(stored), "whole": lambda: whole(stored), "hostile": hostile,
+             "before": before_and_after}
 
     def part(found):
         word = found[1]

@@ -1,0 +1,127 @@
+"""An earlier commit of the library beside today's sources, both built without a proof, and beside plain Rust."""
+import hashlib
+import os
+import textwrap
+
+import calls
+import programs
+from measure import Bar, Bench
+from stored import THREE, Stored, read
+
+KEPT = os.path.join(programs.TOP, "bench", "before.txt")
+SIZES = (10_000, 100_000)
+PEAKS = ("encode", "decode", "semver_check", "metadata::decode")    # the calls whose memory is measured, at the last size
+PACKAGES = ("records", "tuples", "lists", "functions", "resources", "islands", "world-records", "world-functions", "worlds", "small-worlds")
+ROWS = {
+    "encode": PACKAGES,
+    "decode": PACKAGES,
+    "print": ("records", "tuples", "functions"),
+    "semver_check": ("records", "functions", "resources", "two-worlds"),
+    "metadata::decode": ("tens", "ones", "record-tens"),
+    "Bindgen::merge": ("tens", "ones", "record-tens"),
+}
+
+
+class Beside(Bench):
+    """Both programs of the library, and the plain one."""
+
+    def __init__(self, commit, count_to):
+        self.earlier = programs.earlier_program("cases", commit)
+        super().__init__(True, 1, count_to or SIZES[-1])
+        with open(self.earlier, "rb") as f:
+            digest = hashlib.sha256(f.read()).hexdigest()[:16]
+        said = programs.said(["git", "log", "-1", "--format=%h of %cs", commit])
+        self.stored = Stored({"before": said, "program-before": digest, **self.stored.about}, THREE)
+
+    def paths(self):
+        return {"before": self.earlier, "now": self.cases, "plain": self.plain}
+
+    def keep_earlier_figures(self):
+        """A run that was ended goes on where it stopped, if it was of the same programs."""
+        old = read(KEPT, THREE) if os.path.exists(KEPT) else Stored(programs=THREE)
+        if all(old.about.get(key) == self.stored.about[key] for key in ("program-before", "program", "counter")):
+            self.stored.figures = old.figures
+
+    def measure(self, row, size):
+        """What isn't there yet of a row at a size."""
+        has = {field: self.stored.get(row.call, row.shape, size, "now", field) is not None for field in ("count", "peak")}
+        wants_peak = row.call in PEAKS and size == SIZES[-1] and not has["peak"]
+        wants_count = size <= self.count_to and not has["count"]
+        if wants_peak or wants_count:
+            before, call = row.make(size)
+            if wants_peak:
+                self.time_row(row, size, before, call)
+            if wants_count:
+                self.count_row(row, size, before, call)
+            self.stored.write(KEPT)
+
+
+def chosen(plain, a):
+    return [row for row in calls.rows(plain) if row.shape in ROWS.get(row.call, ()) and (a.call or "") in row.call and (a.shape or "") in row.shape]
+
+
+def run(a):
+    """All rows at one size, and then at the next."""
+    bench = Beside(a.before, a.count_to)
+    if not bench.tool:
+        raise programs.Missing("neither perf nor valgrind is there to count instructions; on Debian, apt install valgrind")
+    rows = chosen(bench.plain, a)
+    bench.check_answers(rows)
+    bench.keep_earlier_figures()
+    sizes = [int(n) for n in a.sizes.split(",")] if a.sizes else SIZES
+    bar = Bar(sum(sizes) * len(rows))
+    for size in sizes:
+        for row in rows:
+            bench.measure(row, size)
+            print(line_of(bench.stored, row.call, row.shape, row.title), flush=True)
+            bar.step(size, f"{row.call} on {row.shape}, {size}")
+
+
+# ---- the table
+
+def cell(stored, call, shape, size, field, scale=1.0):
+    """Before, now and plain, and how many times as much as plain the library takes now."""
+    from report import plain_number
+    values = [stored.get(call, shape, size, name, field) for name in THREE]
+    if all(value is None for value in values):
+        return "-"
+    _, now, plain = values
+    shown = ", ".join(plain_number(None if x is None else x / scale) for x in values)
+    return shown + (f": **{now / plain:.2f}**" if now and plain else "")
+
+
+def change(stored, call, shape, size, field):
+    """How much more or less it is now than it was before."""
+    old, now = (stored.get(call, shape, size, name, field) for name in ("before", "now"))
+    if not old or not now:
+        return "-"
+    more = round(100 * now / old - 100)
+    return f"{more:+d} %".replace("-", "−") if more else "0 %"
+
+
+def line_of(stored, call, shape, title):
+    cells = []
+    for field, sizes, scale in (("count", SIZES, 1e6), ("peak", SIZES[-1:], 1.0)):
+        for size in sizes:
+            cells += [cell(stored, call, shape, size, field, scale), change(stored, call, shape, size, field)]
+    return f"| `{call}`: {title} | " + " | ".join(cells) + " |"
+
+
+HEAD = "| Call and shape | " + " | ".join([f"M instructions, {n:,} | change" for n in SIZES] + [f"MB, {SIZES[-1]:,} | change"]) + " |"
+
+
+def section():
+    """The table as it was kept, and what was compared."""
+    from report import titles
+    if not os.path.exists(KEPT):
+        return "Not measured."
+    stored = read(KEPT, THREE)
+    named = titles()
+    about = stored.about
+    text = (f"\"Before\" is the library as of commit {about['before']}, and \"now\" as of commit {about['commit']}. Both programs were built without a proof, with "
+            f"the inline hints of their sources, as `--unproved` builds them. So \"now\" differs a little from the proved programs of the other tables. "
+            f"Plain Rust is the same program as there. Instructions were counted by `{about['counter']}`, on {about['date']}.")
+    lines = [HEAD, "|---" * HEAD.count(" | ") + "|---|"]
+    for call, shapes in ROWS.items():
+        lines += [line_of(stored, call, shape, named[shape]) for shape in shapes]
+    return "\n".join([textwrap.fill(text, 160, break_on_hyphens=False), "", *lines])
