@@ -22,37 +22,57 @@ ROWS = {
 }
 
 
+# The words of a run that say whether the figures of a program are of it still, besides what counted them.
+SAME = {"before": ("before", "kit"), "now": ("program",), "plain": ("plain", "rustc")}
+
+
+def plain_sources():
+    """A digest of the sources of the plain program."""
+    digest = hashlib.sha256()
+    folder = os.path.join(programs.TOP, "bench", "plain")
+    for file in sorted(os.listdir(folder)):
+        with open(os.path.join(folder, file), "rb") as f:
+            digest.update(f.read())
+    return digest.hexdigest()[:16]
+
+
 class Beside(Bench):
     """Both programs of the library, and the plain one."""
 
     def __init__(self, commit, count_to):
         self.earlier = programs.earlier_program("cases", commit)
         super().__init__(True, 1, count_to or SIZES[-1])
-        with open(self.earlier, "rb") as f:
-            digest = hashlib.sha256(f.read()).hexdigest()[:16]
         said = programs.said(["git", "log", "-1", "--format=%h of %cs", commit])
-        self.stored = Stored({"before": said, "program-before": digest, **self.stored.about}, THREE)
+        self.stored = Stored({"before": said, "plain": plain_sources(), **self.stored.about}, THREE)
 
     def paths(self):
         return {"before": self.earlier, "now": self.cases, "plain": self.plain}
 
+    def beside_count(self, row, name, before):
+        """The plain program frees the value by its end in any case. With 100,000 entries it takes more to free it in the middle, after a call that is
+        refused, than after one that isn't."""
+        return self.lines_count(self.plain, before) if name == "plain" else super().beside_count(row, name, before)
+
     def keep_earlier_figures(self):
-        """A run that was ended goes on where it stopped, if it was of the same programs."""
+        """What was measured of the same programs isn't measured again, so that a run that was ended goes on where it stopped."""
         old = read(KEPT, THREE) if os.path.exists(KEPT) else Stored(programs=THREE)
-        if all(old.about.get(key) == self.stored.about[key] for key in ("program-before", "program", "counter")):
-            self.stored.figures = old.figures
+        for name, words in SAME.items():
+            if any(old.about.get(word) != self.stored.about[word] for word in (*words, "counter")):
+                for figures in old.figures.values():
+                    figures[name] = {}
+        self.stored.figures = old.figures
 
     def measure(self, row, size):
         """What isn't there yet of a row at a size."""
-        has = {field: self.stored.get(row.call, row.shape, size, "now", field) is not None for field in ("count", "peak")}
-        wants_peak = row.call in PEAKS and size == SIZES[-1] and not has["peak"]
-        wants_count = size <= self.count_to and not has["count"]
-        if wants_peak or wants_count:
+        lacking = {field: [name for name in THREE if self.stored.get(row.call, row.shape, size, name, field) is None] for field in ("peak", "count")}
+        peaks = lacking["peak"] if row.call in PEAKS and size == SIZES[-1] else []
+        counts = lacking["count"] if size <= self.count_to else []
+        if peaks or counts:
             before, call = row.make(size)
-            if wants_peak:
-                self.time_row(row, size, before, call)
-            if wants_count:
-                self.count_row(row, size, before, call)
+            if peaks:
+                self.time_row(row, size, before, call, peaks)
+            if counts:
+                self.count_row(row, size, before, call, counts)
             self.stored.write(KEPT)
 
 
@@ -110,6 +130,18 @@ def line_of(stored, call, shape, title):
 HEAD = "| Call and shape | " + " | ".join([f"M instructions, {n:,} | change" for n in SIZES] + [f"MB, {SIZES[-1]:,} | change"]) + " |"
 
 
+def in_short(stored):
+    """The least and the greatest change of each call's instructions, at the first size."""
+    parts = []
+    for call, shapes in ROWS.items():
+        both = [[stored.get(call, shape, SIZES[0], name, "count") for name in ("before", "now")] for shape in shapes]
+        listed = sorted((now / old, shape) for shape, (old, now) in zip(shapes, both) if old and now)
+        if listed:
+            changes = [change(stored, call, shape, SIZES[0], "count") for _, shape in (listed[0], listed[-1])]
+            parts.append(f"- `{call}`: {changes[0]} to {changes[1]}")
+    return "\n".join([f"Instructions at {SIZES[0]:,} entries, the greatest change and the least of each call:", "", *parts])
+
+
 def section():
     """The table as it was kept, and what was compared."""
     from report import titles
@@ -119,9 +151,12 @@ def section():
     named = titles()
     about = stored.about
     text = (f"\"Before\" is the library as of commit {about['before']}, and \"now\" as of commit {about['commit']}. Both programs were built without a proof, with "
-            f"the inline hints of their sources, as `--unproved` builds them. So \"now\" differs a little from the proved programs of the other tables. "
-            f"Plain Rust is the same program as there. Instructions were counted by `{about['counter']}`, on {about['date']}.")
+            f"the inline hints of their sources, as `--unproved` builds them. So \"now\" takes up to an eighth more than the proved programs of the other tables. "
+            f"Plain Rust is the same program as there, and for `semver_check` too what only reads the value is subtracted from it. Instructions were counted by `{about['counter']}`, on {about['date']}.")
+    cells = ("Each cell has the figure before, the one now and that of plain Rust, and after the colon how many times as much the library takes now as plain Rust. "
+             "\"Change\" is from before to now. A dash means that it wasn't measured.")
     lines = [HEAD, "|---" * HEAD.count(" | ") + "|---|"]
     for call, shapes in ROWS.items():
         lines += [line_of(stored, call, shape, named[shape]) for shape in shapes]
-    return "\n".join([textwrap.fill(text, 160, break_on_hyphens=False), "", *lines])
+    filled = [textwrap.fill(part, 160, break_on_hyphens=False) for part in (text, cells)]
+    return "\n".join([filled[0], "", in_short(stored), "", filled[1], "", *lines])

@@ -87,12 +87,12 @@ class Bench:
 
     # ---- one row
 
-    def time_row(self, row, size, before, call):
-        """The two programs by turns, each run a process; the least of all."""
+    def time_row(self, row, size, before, call, names=None):
+        """The programs by turns, each run a process; the least of all."""
         found = {}
         for _ in range(self.times):
             for name, path in self.paths().items():
-                if name == "plain" and not row.has_plain:
+                if name not in (names or self.paths()) or name == "plain" and not row.has_plain:
                     continue
                 ms, peak, ready, answer = programs.timed(path, before, call, 1 if row.refused else 3)
                 found.setdefault(name, []).append((ms, peak, ready, answer))
