@@ -131,7 +131,7 @@ HEAD = "| Call and shape | " + " | ".join([f"M instructions, {n:,} | change" for
 
 
 def in_short(stored):
-    """The least and the greatest change of each call's instructions, at the first size."""
+    """How the instructions of each call have changed, at the first size: on the shape that gained most, and on the one that gained least."""
     parts = []
     for call, shapes in ROWS.items():
         both = [[stored.get(call, shape, SIZES[0], name, "count") for name in ("before", "now")] for shape in shapes]
@@ -139,7 +139,7 @@ def in_short(stored):
         if listed:
             changes = [change(stored, call, shape, SIZES[0], "count") for _, shape in (listed[0], listed[-1])]
             parts.append(f"- `{call}`: {changes[0]} to {changes[1]}")
-    return "\n".join([f"Instructions at {SIZES[0]:,} entries, the greatest change and the least of each call:", "", *parts])
+    return "\n".join([f"How instructions at {SIZES[0]:,} entries have changed, from the shape that gained most to the one that gained least:", "", *parts])
 
 
 def section():
@@ -150,11 +150,12 @@ def section():
     stored = read(KEPT, THREE)
     named = titles()
     about = stored.about
-    text = (f"\"Before\" is the library as of commit {about['before']}, and \"now\" as of commit {about['commit']}. Both programs were built without a proof, with "
-            f"the inline hints of their sources, as `--unproved` builds them. So \"now\" takes up to an eighth more than the proved programs of the other tables. "
-            f"Plain Rust is the same program as there, and for `semver_check` too what only reads the value is subtracted from it. Instructions were counted by `{about['counter']}`, on {about['date']}.")
-    cells = ("Each cell has the figure before, the one now and that of plain Rust, and after the colon how many times as much the library takes now as plain Rust. "
-             "\"Change\" is from before to now. A dash means that it wasn't measured.")
+    text = (f"\"Before\" is the library as of commit {about['before']}, and \"now\" as of commit {about['commit']}. Both programs were built without a "
+            f"proof, with the inline hints of their sources, as `--unproved` builds them. So \"now\" takes up to an eighth more than the proved programs of "
+            f"the other tables. Plain Rust is the same program as there. For its `semver_check`, too, the instructions of a process that only reads the value "
+            f"are subtracted. Instructions were counted by `{about['counter']}`, on {about['date']}.")
+    cells = ("Each cell has the figure before, the one now and that of plain Rust, and after the colon how many times as much the library takes now as plain "
+             "Rust. \"Change\" is from before to now. A dash means that it wasn't measured.")
     lines = [HEAD, "|---" * HEAD.count(" | ") + "|---|"]
     for call, shapes in ROWS.items():
         lines += [line_of(stored, call, shape, named[shape]) for shape in shapes]

@@ -147,7 +147,8 @@ def hostile():
     about = dict(line.split(": ", 1) for line in lines if not line.startswith("|") and ": " in line)
     build = "a build without a proof" if about["build"] == "unproved" else "the proved build"
     mega = about["sizes"].replace(",", ", ")
-    head = f"CPU seconds of {build}, at about {mega} million bytes. A process may take {SECONDS} s and {MEGABYTES:,} MB of addresses."
+    head = (f"CPU seconds of {build}, at about {mega} million bytes. A process may take {SECONDS} s and {MEGABYTES:,} MB of addresses. "
+            "A dash stands for what is too little to tell.")
     return "\n".join([head, "", *HEAD, *(x for x in lines if x.startswith("|"))])
 
 

@@ -4,9 +4,9 @@ import math
 FIELDS = ("count", "ms", "peak", "ready")
 PROGRAMS = ("cases", "plain")   # the library's program and the plain one
 THREE = ("before", "now", "plain")      # that of an earlier commit, today's, and the plain one
-WHICH = {PROGRAMS: "the library's program and for the plain one", THREE: "the library's program at the earlier commit, for today's and for the plain one"}
-HEAD = """# What bench/run measured: call, shape, size, and then for {which} the instructions of a call, its
-# milliseconds, the most megabytes of the process, and those before the call; - where there is none.
+WHICH = {PROGRAMS: "the library's program and for the plain one", THREE: "the library's program at an earlier commit, for today's and for the plain one"}
+HEAD = """# What bench/run measured: call, shape, size, and then for {which}
+# the instructions of a call, its milliseconds, the most megabytes of the process, and those before the call; - where there is none.
 """
 
 
