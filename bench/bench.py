@@ -3,6 +3,7 @@ import argparse
 import os
 import sys
 
+import before
 import calls
 import hostile
 import programs
@@ -25,10 +26,11 @@ def parsed():
     p.add_argument("--report", action="store_true", help="writes docs/SPEED.md, its pictures and bench/recorded.txt")
     p.add_argument("--written", action="store_true", help="with --report: writes the page from bench/recorded.txt, and measures nothing")
     p.add_argument("--hostile", action="store_true", help="bytes that are made to hurt, at 0.25, 1 and 4 MB; with --report the page has them")
+    p.add_argument("--before", metavar="COMMIT", help="an earlier commit beside today's sources, kept in bench/before.txt; with --report the page has it")
     p.add_argument("--compare", metavar="FILE", help="instructions now against a stored run; status 1 where a call takes over a tenth more")
     p.add_argument("--unproved", action="store_true", help="builds without a proof, and marks each figure so")
     a = p.parse_args()
-    if a.report and (a.call or a.shape):
+    if a.report and not a.before and (a.call or a.shape):
         p.error("--report is of all calls and shapes: leave --call and --shape out")
     if a.compare and not os.path.isfile(a.compare):
         p.error(f"there is no file {a.compare}")
@@ -128,9 +130,11 @@ def main():
             return compared(a)
         if a.hostile:
             hostile.run(a)
-        if a.report and (a.written or a.hostile):
+        if a.before:
+            before.run(a)
+        if a.report and (a.written or a.hostile or a.before):
             report.write(read(RECORDED), PAGE)
-        if a.hostile or a.report and a.written:
+        if a.hostile or a.before or a.report and a.written:
             return 0
         stored = measured(a)
         say_growth(stored)

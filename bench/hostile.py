@@ -15,6 +15,7 @@ from measure import Bar
 KEPT = os.path.join(programs.TOP, "bench", "hostile.txt")
 SECONDS = 60            # time of the processor that a run may take
 MEGABYTES = 4000        # memory that it may take
+LEAST = {1: 0.02, 2: 1}     # seconds and megabytes that tell something: of a process that ends at once no memory is seen
 
 
 def limits():
@@ -68,7 +69,7 @@ def answer_of(status, front):
 def exponent(low, high, at):
     """How a figure grows between two runs, where it is large enough to tell."""
     (n, a), (k, b) = (low[0], low[at]), (high[0], high[at])
-    return math.log(b / a) / math.log(k / n) if min(a, b) > 0.02 and k > 1.5 * n else None
+    return math.log(b / a) / math.log(k / n) if min(a, b) > LEAST[at] and k > 1.5 * n else None
 
 
 def rows(witc, chosen, sizes, bar):
@@ -94,7 +95,8 @@ def line_of(make, words, runs):
     grows = [exponent(*ended[-2:], at) if len(ended) > 1 else None for at in (1, 2)]
     shown = ["-" if x is None else f"{x:.2f}" for x in grows]
     seconds = ", ".join(f"{r[1]:.2f}" for r in runs)
-    return (f"| {make.__doc__} | `{words[0]}` | {last[0] / 1e6:.1f} | {seconds} | {shown[0]} | {last[2]:.0f} | {shown[1]} | "
+    memory = f"{last[2]:.0f}" if last[2] > LEAST[2] else "-"
+    return (f"| {make.__doc__} | `{words[0]}` | {last[0] / 1e6:.1f} | {seconds} | {shown[0]} | {memory} | {shown[1]} | "
             f"{last[4] / 1e6:.1f} | {answer} | {hurt.FORCED.get((make, words), '')} |")
 
 

@@ -87,12 +87,12 @@ class Bench:
 
     # ---- one row
 
-    def time_row(self, row, size, before, call):
-        """The two programs by turns, each run a process; the least of all."""
+    def time_row(self, row, size, before, call, names=None):
+        """The programs by turns, each run a process; the least of all."""
         found = {}
         for _ in range(self.times):
             for name, path in self.paths().items():
-                if name == "plain" and not row.has_plain:
+                if name not in (names or self.paths()) or name == "plain" and not row.has_plain:
                     continue
                 ms, peak, ready, answer = programs.timed(path, before, call, 1 if row.refused else 3)
                 found.setdefault(name, []).append((ms, peak, ready, answer))
@@ -117,20 +117,20 @@ class Bench:
         path = self.paths()[name]
         if row.refused:
             return self.lines_count(path, [*before, row.refused])
-        ready = self.lines_count(path, before)
         if name == "plain" or not row.checks:
-            return ready
-        return ready + row.checks * (self.lines_count(path, [*before, "check"]) - ready)
+            return self.lines_count(path, before)
+        tested = self.lines_count(path, [*before, "check"])
+        return tested if row.checks == 1 else row.checks * tested - (row.checks - 1) * self.lines_count(path, before)
 
-    def count_row(self, row, size, before, call, names=("cases", "plain")):
+    def count_row(self, row, size, before, call, names=None):
         """The instructions of a call: of a process that makes it, less what it does besides."""
-        for name in names:
+        for name in names or self.paths():
             if name == "plain" and not row.has_plain:
                 continue
             path = self.paths()[name]
             if row.inside:
                 given = "\n".join(["brief", *before, call, ""]).encode()
-                count = programs.counted_inside([path], given, row.inside[name])
+                count = programs.counted_inside([path], given, row.inside["plain" if name == "plain" else "cases"])
             elif self.tool:
                 count = self.lines_count(path, [*before, call]) - self.beside_count(row, name, before)
             else:

@@ -56,6 +56,22 @@ def library_program(name, unproved):
     return program
 
 
+def earlier_program(name, commit):
+    """The program of a crate as an earlier commit had it, built without a proof as today's is, and kept."""
+    program = os.path.join(OUT, f"{name}-{commit}")
+    if os.access(program, os.X_OK):
+        return program
+    with tempfile.TemporaryDirectory() as tree:
+        packed = subprocess.run(["git", "archive", commit, "crates", "crates.txt"], cwd=TOP, capture_output=True, check=False)
+        if packed.returncode != 0:
+            raise Missing(f"git has no commit {commit}")
+        subprocess.run(["tar", "-x", "-C", tree], input=packed.stdout, check=True)
+        print(f"bench: building {name} of {commit} without a proof, for about five minutes and this once", file=sys.stderr)
+        if subprocess.run([os.path.join(TOP, "bench", "unproved"), name, program, tree], check=False).returncode != 0:
+            raise Missing(f"`{name}` of {commit} could not be built without a proof")
+    return program
+
+
 def plain_program():
     """The plain Rust program, built where it is older than its sources."""
     if not shutil.which("rustc"):

@@ -147,8 +147,15 @@ def hostile():
     about = dict(line.split(": ", 1) for line in lines if not line.startswith("|") and ": " in line)
     build = "a build without a proof" if about["build"] == "unproved" else "the proved build"
     mega = about["sizes"].replace(",", ", ")
-    head = f"CPU seconds of {build}, at about {mega} million bytes. A process may take {SECONDS} s and {MEGABYTES:,} MB of addresses."
+    head = (f"CPU seconds of {build}, at about {mega} million bytes. A process may take {SECONDS} s and {MEGABYTES:,} MB of addresses. "
+            "A dash stands for what is too little to tell.")
     return "\n".join([head, "", *HEAD, *(x for x in lines if x.startswith("|"))])
+
+
+def before_and_after():
+    """An earlier commit beside later sources, as it was kept."""
+    import before
+    return before.section()
 
 
 def drawn(stored, folder):
@@ -177,7 +184,8 @@ def drawn(stored, folder):
 
 def write(stored, page):
     """The page: each line `<!-- WORD .. -->` of the text gives way to what it names."""
-    parts = {"measured on": lambda: measured_on(stored), "summary": lambda: summary(stored), "whole": lambda: whole(stored), "hostile": hostile}
+    parts = {"measured on": lambda: measured_on(stored), "summary": lambda: summary(stored), "whole": lambda: whole(stored), "hostile": hostile,
+             "before": before_and_after}
 
     def part(found):
         word = found[1]

@@ -2,8 +2,11 @@
 import math
 
 FIELDS = ("count", "ms", "peak", "ready")
-HEAD = """# What bench/run measured: call, shape, size, and then for the library's program and for the plain one the instructions of a call, its
-# milliseconds, the most megabytes of the process, and those before the call; - where there is none.
+PROGRAMS = ("cases", "plain")   # the library's program and the plain one
+THREE = ("before", "now", "plain")      # that of an earlier commit, today's, and the plain one
+WHICH = {PROGRAMS: "the library's program and for the plain one", THREE: "the library's program at an earlier commit, for today's and for the plain one"}
+HEAD = """# What bench/run measured: call, shape, size, and then for {which}
+# the instructions of a call, its milliseconds, the most megabytes of the process, and those before the call; - where there is none.
 """
 
 
@@ -20,14 +23,15 @@ def number(text):
 
 
 class Stored:
-    """What a run says of itself, and by call, shape and size the figures of `cases` and of `plain`."""
+    """What a run says of itself, and by call, shape and size the figures of each program."""
 
-    def __init__(self, about=None):
+    def __init__(self, about=None, programs=PROGRAMS):
         self.about = about or {}
+        self.programs = programs
         self.figures = {}
 
     def put(self, call, shape, size, program, **figures):
-        kept = self.figures.setdefault((call, shape, size), {"cases": {}, "plain": {}})
+        kept = self.figures.setdefault((call, shape, size), {name: {} for name in self.programs})
         kept[program].update(figures)
 
     def get(self, call, shape, size, program, field):
@@ -55,16 +59,16 @@ class Stored:
 
     def write(self, file):
         with open(file, "w", encoding="utf-8") as f:
-            f.write(HEAD)
+            f.write(HEAD.format(which=WHICH[self.programs]))
             for key, value in self.about.items():
                 f.write(f"{key}: {value}\n")
             for (call, shape, size), programs in self.figures.items():
-                words = [word(programs[p].get(field)) for p in ("cases", "plain") for field in FIELDS]
+                words = [word(programs[p].get(field)) for p in self.programs for field in FIELDS]
                 f.write(" ".join([call.replace(" ", "_"), shape, str(size), *words]) + "\n")
 
 
-def read(file):
-    stored = Stored()
+def read(file, programs=PROGRAMS):
+    stored = Stored(programs=programs)
     with open(file, encoding="utf-8") as f:
         for line in f:
             if line.startswith("#") or not line.strip():
@@ -74,7 +78,7 @@ def read(file):
                 stored.about[key] = value
                 continue
             call, shape, size, *words = line.split()
-            for k, program in enumerate(("cases", "plain")):
+            for k, program in enumerate(programs):
                 values = dict(zip(FIELDS, map(number, words[k * len(FIELDS):])))
                 stored.put(call.replace("_", " ", 1) if call.startswith("witc") else call, shape, int(size), program,
                            **{field: value for field, value in values.items() if value is not None})
