@@ -43,7 +43,7 @@ pub(crate) fn interface_places(
 ) -> Result<Vec<Interface>, AllocError>
     ensures { IfOk result (λ v. length v.items ≡ copied_count carried.now) }
 {
-    let mut places = Vec::new(alloc);
+    let mut places = Vec::with_capacity(alloc, carried.len())?;
     for is_carried in carried {
         if *is_carried {
             places.push(no_interface(alloc))?;
