@@ -1,13 +1,11 @@
-use Rattle.comp_bytes.specs.Reading.{sequence_at}
-use Rattle.comp_bytes.specs.Levels.{entry_at}
+use Rattle.comp_bytes.specs.{Reading.sequence_at, Levels.entry_at}
 use Rattle.comp_bytes.proofs.LevelLaws.{entry_law}
 use Rattle.read_follow.specs.Bodies.{behind}
-use Rattle.read_follow.proofs.BodyLaws.{shorter, is_body, body_found, none_found}
-use Rattle.read_follow.proofs.Refusing.{refused}
+use Rattle.read_follow.proofs.{BodyLaws.shorter, BodyLaws.is_body, BodyLaws.body_found, BodyLaws.none_found, Refusing.refused}
 use Rattle.read_follow.proofs.bodies.entries_alone.Goals as goal
 
-pub cut-requires : goal.cut-requires
-cut-requires c = shorter entry_law c.args.count c.args.bytes.now c.in-Ok.rest.now c.in-Ok.ensures
+pub cut-body-requires : goal.cut-body-requires
+cut-body-requires c = shorter entry_law c.args.count c.args.bytes.now c.in-Ok.rest.now c.in-Ok.ensures
 
 pub returns-in-Ok-clause-whole : goal.returns-in-Ok-clause-whole
 returns-in-Ok-clause-whole c = record {

@@ -1,11 +1,9 @@
 use Rattle.std.proofs.Common.{◌∙◌, ap, sym, List, Some, ℕ, ◌-◌}
-use Rattle.comp_bytes.specs.Levels.{entry_at, holds}
-use Rattle.comp_bytes.specs.Reading.{sequence_at}
+use Rattle.comp_bytes.specs.{Levels.entry_at, Levels.holds, Reading.sequence_at}
 use Rattle.comp_bytes.proofs.LevelLaws.{entry_law}
 use Rattle.read_follow.specs.Bodies.{behind, held_declaration_at, items_in}
-use Rattle.read_follow.proofs.BodyLaws.{shorter, is_body, body_found, none_found}
+use Rattle.read_follow.proofs.{BodyLaws.shorter, BodyLaws.is_body, BodyLaws.body_found, BodyLaws.none_found, Refusing.refused}
 use Rattle.read_follow.proofs.FirstLaws.{all_passed, one_less, still_first}
-use Rattle.read_follow.proofs.Refusing.{refused}
 use Rattle.read_follow.proofs.bodies.entries_from.Goals as goal
 
 pub cut-body-requires : goal.cut-body-requires

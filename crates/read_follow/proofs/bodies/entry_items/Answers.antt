@@ -1,10 +1,7 @@
 use Rattle.std.proofs.Common.{sym, ◌∙◌, None, Some, ◌-◌}
-use Rattle.comp_bytes.specs.Levels.{held_at, entry_at}
-use Rattle.comp_bytes.specs.Reading.{sequence_at}
+use Rattle.comp_bytes.specs.{Levels.held_at, Levels.entry_at, Reading.sequence_at}
 use Rattle.read_follow.specs.Bodies.{held_declaration_at, items_in}
-use Rattle.read_follow.proofs.EntryLaws.{held_front}
-use Rattle.read_follow.proofs.FirstLaws.{no_first, one_less}
-use Rattle.read_follow.proofs.Refusing.{refused}
+use Rattle.read_follow.proofs.{EntryLaws.held_front, FirstLaws.no_first, FirstLaws.one_less, Refusing.refused}
 use Rattle.read_follow.proofs.bodies.entry_items.Goals as goal
 
 pub entries_from-requires-clause-first : goal.entries_from-requires-clause-first

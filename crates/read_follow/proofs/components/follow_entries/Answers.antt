@@ -21,8 +21,7 @@ loop-init c =
             exports = s.exports i;
             used = s.used i;
           }),
-      no_names c.new-names.result c.new_scope-scope.result.instances.items c.new-names.ensures.empty,
-      c.requires.entries.first,
+      (no_names c.new-names.result c.new_scope-scope.result.instances.items c.new-names.ensures.empty, c.requires.entries.first),
     )
 
 pub returns-in-Err-enter-clause-absent : goal.returns-in-Err-enter-clause-absent
@@ -43,8 +42,7 @@ loop-preserved c = (
   followed_on (start_of c.args.home c.args.table.now c.args.functions.now c.args.places.now) c.args.entries.body c.loop.counter c.loop.rest.now
       (world_of c.loop.table c.loop.functions c.loop.places c.loop.scope) c.loop.invariant.0 c.loop-test.true
       (raw_entry c.in-Ok.entry) c.in-Ok.behind.now c.in-Ok.ensures.found (world_of c.enter.new.table c.enter.new.functions c.enter.new.places c.enter.new.scope) c.in-Ok-enter.ensures.followed,
-  c.in-Ok-enter.ensures.names,
-  tt,
+  (c.in-Ok-enter.ensures.names, tt),
 )
 
 pub returns-clause-followed : goal.returns-clause-followed
