@@ -1,14 +1,14 @@
 -- Faults by numbers are faults of the bindings.
-use Rattle.std.proofs.Common.{◌≡◌, ◌≢◌, ◌↔◌, inl, inr, refl, sym, ap, subst, ◌∙◌, arith, ℕ, zero, suc, ◌<◌, Bool, true, false, cond, List, [], ◌∷◌, slice_get, Option, Some, None, option_map, option_and_then, is_some, String}
+use Rattle.std.proofs.Common.{rules as std_rules, ◌≡◌, ◌≢◌, ◌↔◌, inl, inr, refl, sym, ap, subst, ◌∙◌, arith, ℕ, zero, suc, ◌<◌, Bool, true, false, List, [], ◌∷◌, slice_get, Option, Some, None, option_map, option_and_then, is_some, String}
 use Rattle.std.proofs.lemmas.Option.{slice_get_within, same_Some as same-some}
-use Rattle.std.specs.{Option.option_map_or, FinMap.find, FinMap.get, Ordering.eq_by_cmp}
+use Rattle.std.specs.{Option.option_map_or, FinMap.find, FinMap.get}
 use Rattle.std.specs.declared.alloc.Global.{Global}
 use Rattle.wit_model.specs.declared.model.{Interface.Interface, InterfaceId.InterfaceId, Resolve.Resolve, World.World, WorldItem.WorldItem, WorldKey.WorldKey}
 use Rattle.wit_model.specs.declared.model.WorldId.{WorldId}
 use Rattle.wit_model.specs.Text.{Text, text_cmp, text_of}
 use Rattle.wit_model.specs.Lookup.{interface_at, interface_path, key_text, path_of_interface, path_of_world, world_at}
 use Rattle.wit_model.specs.Meaning.{Entry, InterfaceMeaning, InterfaceSense, WorldMeaning, WorldSense, entry_sense, interface_sense, world_sense}
-use Rattle.wit_model.specs.Meant.{entries_meaning, entry_meaning, interface_meaning, interface_meaning_at, no_interface, no_world, world_meaning, world_meaning_at}
+use Rattle.wit_model.specs.Meant.{entries_meaning, entry_meaning, interface_meaning_at, no_world, world_meaning, world_meaning_at}
 use Rattle.wit_model.proofs.{Elements.contains-get, AnyOrder.found-there as find-contains}
 use Rattle.wit_compat.specs.Senses.{Sense, of_import, of_interface, of_world, sense_of}
 use Rattle.bind_meaning.specs.{Binding.Binding, Binding.Stand, ByNumbers.binding_at, Encodings.Encodings, Roots.root_path}
@@ -31,14 +31,10 @@ pub both-stand : {X Y : Type 0} (o : Option X) (p : Option Y) (x : X) (y : Y) �
 both-stand {X} {Y} o p x y e f = subst (λ (z : Option Y). Stand {X = X} {Y = Y} o z) (sym f) (subst (λ (z : Option X). Stand {X = X} {Y = Y} z (Some y)) (sym e) tt)
 
 first-stands : {X Y : Type 0} (o : Option X) (p : Option Y) → Stand o p → (x : X) × (o ≡ Some x)
-first-stands (Some x) (Some y) h = (x, refl)
-first-stands (Some x) None h = absurd h
-first-stands None p h = absurd h
+first-stands y p h = search std_rules
 
 first-differs : {X S : Type 0} (sense : X → S) (o p : Option X) → Differ sense o p → (x : X) × (o ≡ Some x)
-first-differs sense (Some x) (Some y) h = (x, refl)
-first-differs sense (Some x) None h = absurd h
-first-differs sense None p h = absurd h
+first-differs sense y p h = search std_rules
 
 -- two that are known differ where their senses do
 known : {X S : Type 0} (sense : X → S) (o p : Option X) (x y : X) → o ≡ Some x → p ≡ Some y → Differ sense o p ↔ (sense x ≢ sense y)
@@ -62,38 +58,22 @@ differ-as {S} c one o p x y e f = ((λ d same. d (e ∙ (ap (λ (s : S). Some (c
 
 interface-sensed-at : (r : Resolve) (id : InterfaceId) (t : Text) → interface_path r id.0 ≡ Some t
     → sense_of r (place.Interface id) ≡ Some (of_interface (interface_sense (interface_meaning_at r id.0)))
-interface-sensed-at r id t e =
-    let i = unpacked (path_of_interface r) (interface_at r id.0) t e in
-    ap (option_map (λ (x : Interface). of_interface (interface_sense (interface_meaning r x)))) i.1
-    ∙ sym (ap (λ (o : Option Interface). Some (of_interface (interface_sense (option_map_or (interface_meaning r) o no_interface)))) i.1)
+interface-sensed-at r id t e = search std_rules
 
 world-sensed-at : (r : Resolve) (id : WorldId) (t : Text) → path_at r id.0 ≡ Some t → sense_of r (place.World id) ≡ Some (of_world (world_sense (world_meaning_at r id.0)))
-world-sensed-at r id t e =
-    let w = unpacked (path_of_world r) (world_at r id.0) t e in
-    ap (option_map (λ (x : World). of_world (world_sense (world_meaning r x)))) w.1
-    ∙ sym (ap (λ (o : Option World). Some (of_world (world_sense (option_map_or (world_meaning r) o no_world)))) w.1)
+world-sensed-at r id t e = search std_rules
 
 import-sensed-at : (r : Resolve) (id : WorldId) (w : World) → world_at r id.0 ≡ Some w → (p : ℕ) (e : WorldKey × WorldItem) → slice_get w.imports.entries p ≡ Some e
     → sense_of r (place.Import id p) ≡ Some (of_import (entry_sense (entry_meaning r e.1)))
-import-sensed-at r id w at p e here =
-    ap (option_map (λ (i : WorldItem). of_import (entry_sense (entry_meaning r i))))
-    (ap (option_and_then (λ (x : World). option_map (λ (y : WorldKey × WorldItem). y.1) (slice_get x.imports.entries p))) at ∙ ap (option_map (λ (y : WorldKey × WorldItem). y.1)) here)
+import-sensed-at r id w at p e here = search std_rules
 
 -- ---- the worlds that are carried
 
 carried-at : (b : Binding) (t : Text) → (t ≡ root_path → ⊥) → get (carried_worlds b) t ≡ get b.worlds t
-carried-at b t other = get-without b.worlds root_path t ∙ ap (λ is. cond is None (get b.worlds t)) (elsewhere (eq_by_cmp text_cmp t root_path) refl)
-  where
-    elsewhere : (q : Bool) → eq_by_cmp text_cmp t root_path ≡ q → eq_by_cmp text_cmp t root_path ≡ false
-    elsewhere true e = absurd (other (by_tie t root_path e))
-    elsewhere false e = e
+carried-at b t other = search (std_rules, get-without, by_tie)
 
 carried-given : (b : Binding) (t : Text) (x : WorldMeaning) → get (carried_worlds b) t ≡ Some x → (get b.worlds t ≡ Some x) × (t ≡ root_path → ⊥)
-carried-given b t x e = by (eq_by_cmp text_cmp t root_path) refl (sym (get-without b.worlds root_path t) ∙ e)
-  where
-    by : (q : Bool) → eq_by_cmp text_cmp t root_path ≡ q → cond q None (get b.worlds t) ≡ Some x → (get b.worlds t ≡ Some x) × (t ≡ root_path → ⊥)
-    by true q f = let none : None ≡ Some x = f in let no : ⊥ = cc in absurd no
-    by false q f = (f, λ same. untrue (sym q ∙ (ap (λ (s : Text). eq_by_cmp text_cmp s root_path) same ∙ itself_ties root_path)))
+carried-given b t x e = search (std_rules, get-without, untrue, itself_ties)
 
 -- ---- the first entry with a fault
 
@@ -401,9 +381,5 @@ module _ (own other : Resolve) (m : Matches) (n k : ℕ) (w z : World) (s : AreW
       (λ t g. second-stands (find text_cmp t (entries_meaning own w.exports.entries)) (find text_cmp t (entries_meaning other z.exports.entries)) g) o h))
 
 pub faults_are_of_bindings : FaultsAreOfBindings
-faults_are_of_bindings own other m n k w v s a b c d = record {
-  interfaces = λ t. (interface-forth own other m n k w v s a b c d t, interface-back own other m n k w v s a b c d t);
-  worlds = λ t. (world-forth own other m n k w v s a b c d t, world-back own other m n k w v s a b c d t);
-  imports = imports-first own other m n k w v s a b c d;
-  exports = exports-first own other m n k w v s a b c d;
-}
+faults_are_of_bindings own other m n k w v s a b c d =
+    search (std_rules, interface-forth, interface-back, world-forth, world-back, imports-first, exports-first)

@@ -1,9 +1,9 @@
 -- Which own entry stands under a key of the other's.
-use Rattle.std.proofs.Common.{◌≡◌, refl, sym, ap, ◌∙◌, arith, ℕ, zero, suc, ◌+◌, Bool, true, false, cond, not, List, [], ◌∷◌, map, slice_get, Option, Some, None, option_map, option_and_then, unwrap_or, Contains, is_some}
+use Rattle.std.proofs.Common.{rules as std_rules, ◌≡◌, refl, sym, ap, ◌∙◌, arith, ℕ, zero, suc, ◌+◌, Bool, true, false, cond, not, List, [], ◌∷◌, map, slice_get, Option, Some, None, option_and_then, unwrap_or, Contains, is_some}
 use Rattle.std.proofs.lemmas.{Iterator.Adapters.position_from-zero, Option.slice_get-map, Option.same_Some as same-some, Slice.Eq.bytes_eq-Decides}
 use Rattle.std.specs.{List.position_from, Prelude.position, FinMap.find, Ordering.eq_by_cmp}
 use Rattle.wit_model.specs.declared.model.{Interface.Interface, InterfaceId.InterfaceId, Resolve.Resolve, WorldItem.WorldItem, WorldKey.WorldKey}
-use Rattle.wit_model.specs.{Text.Text, Text.text_cmp, Text.text_eq, Text.text_of, Rules.are_distinct, Valid.IsValid, Valid.key_eq}
+use Rattle.wit_model.specs.{Text.Text, Text.text_cmp, Text.text_eq, Rules.are_distinct, Valid.IsValid, Valid.key_eq}
 use Rattle.wit_model.specs.{Lookup.interface_at, Lookup.interface_path, Lookup.key_text, Lookup.path_of_interface, Meant.entries_meaning, Meant.entry_meaning}
 use Rattle.wit_model.proofs.{Elements.none-in, TextLemmas.text_same as text-same}
 use Rattle.bind_meaning.proofs.Listed.{given as unpacked}
@@ -12,17 +12,14 @@ use Rattle.bind_match.specs.declared.matches.Matches.{Matches}
 use Rattle.bind_match.specs.Matching.{own_interface_of}
 use Rattle.bind_clash.specs.Faults.{IsMatched, own_id, own_place_in}
 use Rattle.bind_clash.proofs.PathsMatched.{own-interface-has, own-interface-there, untrue}
-use Rattle.base_lemmas.proofs.{Bools.left_of as first_true, Bools.right_of as second_true, Elements.contains-later, Elements.first-contained, Numbers.equal}
+use Rattle.base_lemmas.proofs.{Bools.left_of as first_true, Bools.right_of as second_true, Elements.contains-later, Elements.first-contained}
 use Rattle.base_lemmas.proofs.Options.{there as some-of}
 use Rattle.wit_model.specs.declared.model.WorldKey.TheVariants as key
 
 -- ---- keys by their texts
 
 one-text : (r : Resolve) (a b : WorldKey) → key_eq a b ≡ true → key_text r a ≡ key_text r b
-one-text r (key.Name a) (key.Name b) e = text-same (text_of a) (text_of b) e
-one-text r (key.Name a) (key.Interface b) e = untrue e
-one-text r (key.Interface a) (key.Name b) e = untrue e
-one-text r (key.Interface a) (key.Interface b) e = ap (λ (n : ℕ). unwrap_or (interface_path r n) []) (equal a.0 b.0 e)
+one-text r x y e = search std_rules
 
 -- under a text that is no key's nothing is found
 pub no-entry : (r : Resolve) (t : Text) (es : List (WorldKey × WorldItem)) → ((e : WorldKey × WorldItem) → Contains es e → text_eq t (key_text r e.0) ≡ false)
@@ -35,8 +32,7 @@ no-entry r t (e ∷ es) none =
 -- where no key stands twice, each finds its own
 pub found-distinct : {X : Type 0} (es : List (Text × X)) (q : Text) (x : X) → are_distinct (map (λ e. e.0) es) ≡ true → Contains es (q, x) → find text_cmp q es ≡ Some x
 found-distinct [] q x d c = none-in (q, x) c
-found-distinct {X} (e ∷ es) q x d (zero, l, same) =
-    ap (λ b. cond b (Some e.1) (find text_cmp q es)) (ap (eq_by_cmp text_cmp q) (ap (λ (p : Text × X). p.0) same) ∙ itself_ties q) ∙ ap Some (ap (λ (p : Text × X). p.1) same)
+found-distinct {X} (e ∷ es) q x d (zero, l, same) = search (std_rules, itself_ties)
 found-distinct {X} (e ∷ es) q x d (suc i, l, same) = by (eq_by_cmp text_cmp q e.0) refl (found-distinct es q x (second_true (not (has_key e.0 es)) _ d) (i, omega (arith, l), same))
   where
     twice : (b : Bool) → not b ≡ true → b ≡ true → ⊥
@@ -104,11 +100,7 @@ module _ (own : Resolve) (v : IsValid own) (k : WorldKey) (is : IsKey own v k) w
 
 module _ (own other : Resolve) (v : IsValid own) (u : IsValid other) (m : Matches) (h : IsMatched own other m) (es : List (WorldKey × WorldItem)) (all : (e : WorldKey × WorldItem) → Contains es e → IsKey own v e.0) where
   own-id : (n : ℕ) (i : Interface) → interface_at other n ≡ Some i → own_id m n ≡ own_interface_of own m.packages.items i
-  own-id n i at =
-      let f = own_interface_of own m.packages.items in
-      ap (λ (xs : List (Option InterfaceId)). option_and_then (λ (id : Option InterfaceId). id) (slice_get xs n)) h.interfaces
-      ∙ (ap (option_and_then (λ (id : Option InterfaceId). id)) (slice_get-map f other.interfaces.items n)
-      ∙ ap (λ (o : Option Interface). option_and_then (λ (id : Option InterfaceId). id) (option_map f o)) at)
+  own-id n i at = search (std_rules, slice_get-map)
 
   -- the own interface of an interface's number has its path
   id-has : (n : ℕ) (t : Text) → interface_path other n ≡ Some t → (id : InterfaceId) → own_id m n ≡ Some id → interface_path own id.0 ≡ Some t
@@ -130,13 +122,7 @@ module _ (own other : Resolve) (v : IsValid own) (u : IsValid other) (m : Matche
     pub found : find text_cmp (key_text other k) (entries_meaning own es) ≡ Some (entry_meaning own entry.1)
 
   has-own : (k : WorldKey) (own_key : WorldKey) (is : IsKey own v own_key) → key_text other k ≡ key_text own own_key → (p : ℕ) → IsUnder own v own_key is es 0 p → HasOwn k p
-  has-own k own_key is same p z =
-      let j = z.place in
-      let none_before : 0 + j ≡ j = omega arith in record {
-        entry = z.entry;
-        stands = ap (slice_get es) (z.number ∙ none_before) ∙ z.stands;
-        found = ap (λ (t : Text). find text_cmp t (entries_meaning own es)) same ∙ z.found;
-      }
+  has-own k own_key is same p z = grind arith
 
   pub own-entry : (k : WorldKey) → IsKey other u k → (p : ℕ) → own_place_in m es k ≡ Some p → HasOwn k p
   own-entry (key.Name name) g p e = has-own (key.Name name) (key.Name name) g refl p

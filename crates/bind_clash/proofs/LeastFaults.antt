@@ -1,5 +1,5 @@
 -- The least of the texts that have a fault, found one after the other.
-use Rattle.std.proofs.Common.{◌≡◌, refl, ap, subst, ◌∙◌, ◌⊎◌, inl, inr, ℕ, ◌+◌, ◌<◌, cond, Option, Some, None, arith}
+use Rattle.std.proofs.Common.{rules as std_rules, ◌≡◌, refl, ap, subst, ◌∙◌, ◌⊎◌, inl, inr, ℕ, ◌+◌, ◌<◌, cond, Option, Some, None, arith}
 use Rattle.std.proofs.lemmas.Bool.{cases_order}
 use Rattle.std.specs.declared.cmp.{Ordering.Ordering, Ordering.TheVariants.Less, Ordering.TheVariants.Equal, Ordering.TheVariants.Greater}
 use Rattle.std.specs.{Ordering.is_le, Ordering.ordering_reverse, Cmp.Lexicographic.nat_list_cmp_total}
@@ -9,8 +9,7 @@ use Rattle.bind_clash.specs.Faults.{Below, IsLeastFault, least_of}
 
 -- the same faults have the same least
 pub same_faults : (P Q : Text → Type 0) → ((t : Text) → P t → Q t) → ((t : Text) → Q t → P t) → (o : Option Text) → IsLeastFault P o → IsLeastFault Q o
-same_faults P Q f g None none = λ t q. none t (g t q)
-same_faults P Q f g (Some t) least = (f t least.0, λ s less q. least.1 s less (g s q))
+same_faults x y f g z none = search std_rules
 
 -- a fault of one text alone
 pub one_fault : (P : Text → Type 0) (t : Text) → P t → ((s : Text) → P s → s ≡ t) → IsLeastFault P (Some t)

@@ -1,11 +1,11 @@
 -- What is matched is in range, and what a comparison says of it.
-use Rattle.std.proofs.Common.{arith, ◌≡◌, ◌↔◌, ◌⊎◌, refl, sym, ap, subst, ◌∙◌, inl, inr, ℕ, ◌<◌, Bool, true, false, not, ◌&&◌, cond, List, [], ◌∷◌, map, length, get_or, slice_get, Option, Some, None, option_map, option_and_then, is_some, IsTrue, lt-ltb, ltb-true, Result, IfOk, String, ◌+◌}
+use Rattle.std.proofs.Common.{rules as std_rules, arith, ◌≡◌, ◌↔◌, ◌⊎◌, refl, sym, ap, subst, ◌∙◌, inl, inr, ℕ, ◌<◌, Bool, true, false, not, ◌&&◌, cond, List, [], ◌∷◌, map, length, get_or, Option, Some, None, option_map, option_and_then, is_some, IsTrue, lt-ltb, ltb-true, Result, IfOk, String}
 use Rattle.std.proofs.Math.ListN.{length-map}
 use Rattle.std.proofs.lemmas.{Option.slice_get_read, Option.slice_get-map, Option.same_Some as same-some, Bool.cases_order}
 use Rattle.std.specs.{List.list_all, Map.lookup}
 use Rattle.wit_model.specs.declared.model.{Interface.Interface, InterfaceId.InterfaceId, PackageId.PackageId, Resolve.Resolve, World.World, WorldId.WorldId}
 use Rattle.wit_model.specs.declared.error.Error.{Error}
-use Rattle.wit_model.specs.Lookup.{interface_at, interface_path, package_at, path_in_package, path_of_interface, path_of_world, world_at}
+use Rattle.wit_model.specs.Lookup.{interface_at, interface_path, package_at, path_in_package, path_of_world, world_at}
 use Rattle.wit_model.specs.{Rules.entries_in_range, Rules.in_list, Rules.package_number, Rules.passes, Valid.IsValid, Valid.is_place, Valid.numbers_in_range}
 use Rattle.wit_model.specs.Text.{Text, optional_text, text_eq, text_of}
 use Rattle.std.specs.declared.alloc.Global.{Global}
@@ -64,16 +64,10 @@ world_sensed r id h = let x = found-in r.worlds.items id.0 h in kept_some _ (wor
 module _ (own other : Resolve) (v : IsValid own) (m : Matches) (h : IsMatched own other m) where
   pub interface_matched : (n : ℕ) (o : Option InterfaceId) → n < length other.interfaces.items → o ≡ get_or m.interfaces.items n o → (i : Interface) → interface_at other n ≡ Some i
       → own_interface_of own m.packages.items i ≡ o
-  interface_matched n o lt is i at =
-      let f = own_interface_of own m.packages.items in
-      sym (same-some _ _ (sym (slice_get_read m.interfaces.items (length other.interfaces.items) n o (sym (ap length h.interfaces ∙ length-map other.interfaces.items f)) lt is)
-      ∙ ap (λ xs. slice_get xs n) h.interfaces ∙ slice_get-map f other.interfaces.items n ∙ ap (option_map f) at))
+  interface_matched n o lt is i at = search (std_rules, same-some, slice_get_read, length-map, slice_get-map)
 
   pub world_matched : (n : ℕ) (o : Option WorldId) → n < length other.worlds.items → o ≡ get_or m.worlds.items n o → (w : World) → world_at other n ≡ Some w → own_world_of own m.packages.items w ≡ o
-  world_matched n o lt is w at =
-      let f = own_world_of own m.packages.items in
-      sym (same-some _ _ (sym (slice_get_read m.worlds.items (length other.worlds.items) n o (sym (ap length h.worlds ∙ length-map other.worlds.items f)) lt is)
-      ∙ ap (λ xs. slice_get xs n) h.worlds ∙ slice_get-map f other.worlds.items n ∙ ap (option_map f) at))
+  world_matched n o lt is w at = search (std_rules, same-some, slice_get_read, length-map, slice_get-map)
 
   pub interface_there : (n : ℕ) (o : Option InterfaceId) → n < length other.interfaces.items → o ≡ get_or m.interfaces.items n o → (id : InterfaceId) → o ≡ Some id
       → is_some (sense_of own (place.Interface id)) ≡ true
@@ -92,14 +86,11 @@ module _ (own other : Resolve) (v : IsValid own) (m : Matches) (h : IsMatched ow
 -- ---- what a comparison says
 
 not_same : (P : Type 0) (y : Bool) → (IsTrue y ↔ P) → IsTrue (not y) ↔ (P → ⊥)
-not_same P true h = ((λ t p. false_true t), λ none. absurd (none (h.0 refl)))
-not_same P false h = ((λ t p. false_true (h.1 p)), λ none. refl)
+not_same x y h = search std_rules
 
 pub other_sense : (r s own other : Resolve) → r ≡ own → s ≡ other → (p q : Place) (y : Bool) → (IsTrue y ↔ (sense_of r p ≡ sense_of s q)) → (o : Option Place) → o ≡ Some p → IsTrue (not y)
     ↔ OtherSense own other o q
-other_sense r s own other e f p q y h o g =
-    subst (λ (o : Option Place). IsTrue (not y) ↔ OtherSense own other o q) (sym g)
-    (not_same (sense_of own p ≡ sense_of other q) y (subst (λ (x : Resolve). IsTrue y ↔ (sense_of own p ≡ sense_of x q)) f (subst (λ (x : Resolve). IsTrue y ↔ (sense_of x p ≡ sense_of s q)) e h)))
+other_sense r s own other e f p q y h o g = search std_rules
 
 pub none_other : (own other : Resolve) (q : Place) (o : Option Place) → o ≡ None → IsTrue false ↔ OtherSense own other o q
 none_other own other q o g = subst (λ (o : Option Place). IsTrue false ↔ OtherSense own other o q) (sym g) ((λ h. false_true h), (λ h. absurd h))
@@ -119,18 +110,10 @@ with_root b e y P h = ((λ t. (e, h.0 t)), λ p. h.1 p.1)
 module _ (own other : Resolve) (m : Matches) (n : ℕ) (i : Interface) (at : interface_at other n ≡ Some i) where
   pub interface_fault : IsTrue (is_own_world_of own m i) ⊎ InterfaceDiffers own other m n i → (r : Result (Option (String Global)) Error) → IfOk r (λ p. optional_text p ≡ interface_path other n)
       → IfOk r (λ p. IsLeastFault (InterfaceFaultAt own other m n) (optional_text p))
-  interface_fault fault r h = in_ok _ _ (λ p ok.
-      path_fault (InterfaceFaultAt own other m n) (optional_text p)
-      (λ t e. (i, at, sym (ap (option_and_then (path_of_interface other)) at) ∙ sym ok ∙ e, fault))
-      (λ t f. ok ∙ ap (option_and_then (path_of_interface other)) f.1 ∙ f.2)) r h
+  interface_fault fault r h = search (std_rules, in_ok, path_fault)
 
   pub interface_faultless : is_own_world_of own m i ≡ false → (InterfaceDiffers own other m n i → ⊥) → (t : Text) → InterfaceFaultAt own other m n t → ⊥
-  interface_faultless absent none t h =
-      let same : h.0 ≡ i = same-some h.0 i (sym h.1 ∙ at) in
-      elim h.3 [
-        | inl x ↦ false_true (sym absent ∙ ap (is_own_world_of own m) (sym same) ∙ x)
-        | inr y ↦ none (subst (InterfaceDiffers own other m n) same y)
-      ]
+  interface_faultless absent none t h = search std_rules
 
 -- ---- numbers fit
 
@@ -150,9 +133,7 @@ world_fits r v n lt = elim (cases_order n 4294967295) [
 -- the package of a world is there
 pub home_there : (r : Resolve) → IsValid r → (n : ℕ) (w : World) → world_at r n ≡ Some w → passes (in_list r.packages.items) (package_number w.«package») ≡ true
 unfolding numbers_in_range
-home_there r v n w at =
-    let passed = each_from_at (numbers_in_range.world_ r) 0 r.worlds.items n w (lists_pass numbers_in_range r v.rules.numbers_in_range).2 at in
-    first_true (passes (in_list r.packages.items) (package_number w.«package»)) _ (second_true (is_place (0 + n)) _ passed)
+home_there r v n w at = search (std_rules, each_from_at, lists_pass, first_true, second_true)
 
 -- ---- worlds
 

@@ -1,7 +1,7 @@
 -- What is matched by names stands under the path of the other's, and what stands under that path is matched.
-use Rattle.std.proofs.Common.{◌≡◌, refl, sym, ap, ◌∙◌, arith, ℕ, zero, suc, ◌+◌, Bool, true, false, ◌&&◌, cond, List, [], ◌∷◌, map, slice_get, Option, Some, None, option_map, option_and_then, String, is_none}
+use Rattle.std.proofs.Common.{rules as std_rules, ◌≡◌, refl, sym, ap, ◌∙◌, arith, ℕ, zero, suc, ◌+◌, Bool, true, false, ◌&&◌, cond, List, [], ◌∷◌, map, slice_get, Option, Some, None, option_map, option_and_then, String, is_none}
 use Rattle.std.proofs.lemmas.{Option.slice_get-map, Option.same_Some as same-some, Slice.Eq.bytes_eq-Decides, Bool.and_from as both}
-use Rattle.std.specs.{Option.option_map_or, HashMap.get_by_text}
+use Rattle.std.specs.{HashMap.get_by_text}
 use Rattle.std.specs.declared.alloc.Global.{Global}
 use Rattle.wit_model.specs.declared.model.{Interface.Interface, InterfaceId.InterfaceId, Package.Package, PackageId.PackageId, PackageName.PackageName}
 use Rattle.wit_model.specs.declared.model.{Resolve.Resolve, World.World, WorldId.WorldId}
@@ -17,7 +17,7 @@ use Rattle.bind_union.proofs.{Carrying.path_by, Carrying.path_parts, Namesakes.u
 use Rattle.bind_union.proofs.KeptPackages.{found_option, interfaces_stand, is_interface_of, is_world_of, worlds_stand}
 use Rattle.bind_union.proofs.{United.some_name, UnitedWorlds.world_path}
 use Rattle.bind_match.specs.Matching.{given, home_in, interface_in, is_root_name, is_root_world, own_interface_of, own_package_of, package_from, world_in}
-use Rattle.base_lemmas.proofs.{Bools.left_of as first_true, Bools.right_of as second_true, Elements.all-contained, Numbers.equal, Options.none_is as no-version}
+use Rattle.base_lemmas.proofs.{Bools.left_of as first_true, Bools.right_of as second_true, Elements.all-contained, Options.none_is as no-version}
 
 pub untrue : {A : Type 0} → false ≡ true → A
 untrue e = let no : ⊥ = cc in absurd no
@@ -106,12 +106,10 @@ module _ (r : Resolve) (v : IsValid r) where
 
 -- what is listed under a number
 listed-interface : (j : ℕ) (o : Option InterfaceId) → is_id j (option_map (λ id. id.0) o) ≡ true → (id : InterfaceId) × ((o ≡ Some id) × (id.0 ≡ j))
-listed-interface j None h = untrue h
-listed-interface j (Some id) h = (id, (refl, equal id.0 j h))
+listed-interface j x h = search std_rules
 
 listed-world : (j : ℕ) (o : Option WorldId) → is_id j (option_map (λ id. id.0) o) ≡ true → (id : WorldId) × ((o ≡ Some id) × (id.0 ≡ j))
-listed-world j None h = untrue h
-listed-world j (Some id) h = (id, (refl, equal id.0 j h))
+listed-world j x h = search std_rules
 
 -- ---- the own package of that name, and what stands in it
 
@@ -259,9 +257,7 @@ root-label = refl
 
 module _ (r : Resolve) (v : IsValid r) (w : World) (t : Text) (is : IsPathOf r w.«package» (text_of w.name) t) where
   root-test : is_root_world r w ≡ (text_eq (text_of w.name) root && is_root_name is.package_.name)
-  root-test =
-      ap (λ (o : Option PackageId). option_map_or (λ id. option_map_or (λ (p : Package). text_eq (text_of w.name) root && is_root_name p.name) (package_at r id.0) false) o false) is.home_is
-      ∙ ap (λ (o : Option Package). option_map_or (λ p. text_eq (text_of w.name) root && is_root_name p.name) o false) is.stands
+  root-test = search std_rules
 
   -- the root world has its path
   pub root-has : is_root_world r w ≡ true → t ≡ root_path

@@ -1,5 +1,5 @@
 -- Each place without a path is that of one view, or of one world.
-use Rattle.std.proofs.Common.{◌≡◌, refl, sym, ap, subst, ◌∙◌, ℕ, zero, suc, ◌+◌, ◌≤◌, ◌⊎◌, inl, inr, arith, Bool, true, false, ◌==◌, cond, filter, List, [], ◌∷◌, ◌++◌, length, length-append, map, Some, None, is_none, slice_get}
+use Rattle.std.proofs.Common.{rules as std_rules, ◌≡◌, refl, sym, ap, subst, ◌∙◌, ℕ, zero, suc, ◌+◌, ◌≤◌, ◌⊎◌, inl, inr, arith, Bool, true, false, ◌==◌, cond, filter, List, [], ◌∷◌, ◌++◌, length, length-append, map, Some, None, is_none, slice_get}
 use Rattle.std.proofs.lemmas.{Bool.eq-eqb, Bool.eqb-true, Option.slice_get_within, Option.same_Some as same-some}
 use Rattle.std.proofs.lemmas.List.Elements.{Contains-append_cases, Contains-append_left, Contains-append_right, filter-append}
 use Rattle.std.specs.List.{Contains, flat_map}
@@ -78,13 +78,7 @@ later_get [] ys n q e = (n, e, omega arith)
 later_get (x ∷ xs) ys n q e = let more = later_get xs ys n q e in (suc more.0, more.1, (let a = more.2 in omega (arith, a)))
 
 second_once : (xs ys : List ℕ) → IsOnce (xs ++ ys) → IsOnce ys
-second_once xs ys once i j q at_i at_j =
-    let a = later_get xs ys i q at_i in
-    let b = later_get xs ys j q at_j in
-    let same = once a.0 b.0 q a.1 b.1 in
-    let c = a.2 in
-    let d = b.2 in
-    omega (arith, same, c, d)
+second_once xs ys once i j q at_i at_j = search (std_rules, later_get xs ys i q at_i, later_get xs ys j q at_j)
 
 -- nothing stands in both
 both_apart : (xs ys : List ℕ) → IsOnce (xs ++ ys) → (q : ℕ) → Contains xs q → Contains ys q → ⊥

@@ -2,15 +2,14 @@
 use Rattle.plan_type_laws.proofs.FirstFound.{first_found}
 use Rattle.plan_laws.specs.{ShownRules.ViewObeys, FirstViews.told}
 use Rattle.comp_meaning.specs.{Follow.ShownType, Rules.distinct, Same.same_option}
-use Rattle.base_lemmas.proofs.{Lists.map_of_map, Elements.all-contained, Elements.contains-one, Elements.map_from as from_map, Numbers.same-number}
+use Rattle.base_lemmas.proofs.{Lists.map_of_map, Elements.all-contained, Elements.contains-one, Elements.map_from as from_map}
 use Rattle.base_lemmas.proofs.Bools.{left_of as first_true, right_of as second_true}
-use Rattle.std.proofs.Common.{◌≡◌, refl, sym, ap, subst, ◌∙◌, ℕ, zero, suc, arith, Bool, true, false, not, ◌&&◌, ◌||◌, ◌==◌, List, [], ◌∷◌, map, Option, Some, None}
-use Rattle.std.proofs.lemmas.{Bool.eq-eqb, Bool.eqb-true, Bool.and_from as both, Slice.Eq.bytes_eq-Decides}
+use Rattle.std.proofs.Common.{rules as std_rules, ◌≡◌, refl, sym, ap, subst, ◌∙◌, ℕ, zero, suc, arith, Bool, true, false, ◌==◌, List, [], ◌∷◌, map, Option, Some}
+use Rattle.std.proofs.lemmas.{Bool.eq-eqb, Bool.eqb-true, Bool.and_from as both}
 use Rattle.std.specs.{List.Contains, List.flat_map, List.list_all, Option.option_map_or, Cmp.Lexicographic.pointwise}
-use Rattle.wit_model.specs.Text.{Text, text_eq}
-use Rattle.wit_model.proofs.{Elements.contains-flat, Elements.none-in, TextLemmas.text_same}
+use Rattle.wit_model.proofs.{Elements.contains-flat, Elements.none-in}
 use Rattle.plan_meaning.specs.NumberedMembers.{NumberedMember, NumberedPart, interface, sights_of_members, sights_of_part, world}
-use Rattle.plan_meaning.specs.NumberedViews.{NumberedSight, NumberedType, Tables, agree, agree_in_numbers, first_at, same_functions, same_id, same_number, same_shown, place_at, shown_type, view_of}
+use Rattle.plan_meaning.specs.NumberedViews.{NumberedSight, NumberedType, Tables, agree, agree_in_numbers, first_at, same_shown, place_at, shown_type, view_of}
 use Rattle.plan_meaning.specs.NumberedWorlds.{HasPath, NumberedInstance, sights_of_instance}
 use Rattle.plan_package.specs.Views.{views_of_part, whole_view}
 use Rattle.plan_laws.proofs.Inside.{flat_cases}
@@ -19,37 +18,21 @@ use Rattle.read_shown.proofs.Agreement as agreement
 -- ---- what is told of a type
 
 pub option_same : {A : Type 0} (eq : A → A → Bool) → ((a b : A) → eq a b ≡ true → a ≡ b) → (a b : Option A) → same_option eq a b ≡ true → a ≡ b
-option_same eq decides None None h = refl
-option_same eq decides (Some a) (Some b) h = ap Some (decides a b h)
-option_same eq decides _ _ h = let wrong : false ≡ true = h in absurd cc
+option_same eq decides x y h = search std_rules
 
 pub same_of_option : {A : Type 0} (eq : A → A → Bool) → ((a : A) → eq a a ≡ true) → (a : Option A) → same_option eq a a ≡ true
-same_of_option eq itself None = refl
-same_of_option eq itself (Some a) = itself a
+same_of_option eq itself x = search std_rules
 
 shown_told : (x y : NumberedType) → same_shown x y ≡ true → told x ≡ told y
-shown_told x y h =
-    let rest = second_true (text_eq x.name y.name) (same_number x.declared y.declared && same_id x.external_id y.external_id) h in
-    let name = text_same x.name y.name (first_true (text_eq x.name y.name) (same_number x.declared y.declared && same_id x.external_id y.external_id) h) in
-    let declared = option_same ◌==◌ eqb-true x.declared y.declared (first_true (same_number x.declared y.declared) (same_id x.external_id y.external_id) rest) in
-    let id = option_same text_eq text_same x.external_id y.external_id (second_true (same_number x.declared y.declared) (same_id x.external_id y.external_id) rest) in
-    λ i. (name i, (declared i, id i))
+shown_told x y h = search std_rules
 
 told_shown : (x y : NumberedType) → told x ≡ told y → same_shown x y ≡ true
-told_shown x y e =
-    let name : x.name ≡ y.name = ap (λ (z : Text × (Option ℕ × Option Text)). z.0) e in
-    let declared : x.declared ≡ y.declared = ap (λ (z : Text × (Option ℕ × Option Text)). z.1.0) e in
-    let id : x.external_id ≡ y.external_id = ap (λ (z : Text × (Option ℕ × Option Text)). z.1.1) e in
-    both (text_eq x.name y.name) (same_number x.declared y.declared && same_id x.external_id y.external_id) ((bytes_eq-Decides x.name y.name).1 name)
-    (both (same_number x.declared y.declared) (same_id x.external_id y.external_id) (ap (same_number x.declared) (sym declared) ∙ same_of_option ◌==◌ same-number x.declared)
-    (ap (same_id x.external_id) (sym id) ∙ same_of_option text_eq (λ a. (bytes_eq-Decides a a).1 refl) x.external_id))
+told_shown x y e = search std_rules
 
 pub types_told : (xs ys : List NumberedType) → pointwise same_shown xs ys ≡ true → map told xs ≡ map told ys
 types_told [] [] h = refl
 types_told (x ∷ xs) (y ∷ ys) h =
-    let one = shown_told x y (first_true (same_shown x y) (pointwise same_shown xs ys) h) in
-    let rest = types_told xs ys (second_true (same_shown x y) (pointwise same_shown xs ys) h) in
-    λ i. one i ∷ rest i
+    search (std_rules, shown_told, first_true, second_true, types_told xs ys (second_true (same_shown x y) (pointwise same_shown xs ys) h))
 types_told _ _ h = let wrong : false ≡ true = h in absurd cc
 
 pub told_types : (xs ys : List NumberedType) → map told xs ≡ map told ys → pointwise same_shown xs ys ≡ true
@@ -63,10 +46,7 @@ told_types _ _ e = let wrong : ⊥ = cc in absurd wrong
 -- ---- views that agree
 
 alike : (s u : NumberedSight) → agree s u ≡ true → s.place ≡ u.place → map told s.view.types ≡ map told u.view.types
-alike s u h e =
-    let same : (s.place == u.place) ≡ true = eq-eqb s.place u.place e in
-    let whole = sym (ap (λ b. not b || (pointwise same_shown s.view.types u.view.types && (not (s.whole && u.whole) || same_functions s.view.functions u.view.functions))) same) ∙ h in
-    types_told s.view.types u.view.types (first_true (pointwise same_shown s.view.types u.view.types) (not (s.whole && u.whole) || same_functions s.view.functions u.view.functions) whole)
+alike s u h e = search (std_rules, eq-eqb, types_told, first_true)
 
 pub one_told : (all : List NumberedSight) → agree_in_numbers all ≡ true → (s u : NumberedSight) → Contains all s → Contains all u → s.place ≡ u.place → map told s.view.types ≡ map told u.view.types
 one_told [] h s u c d p = none-in s c

@@ -1,5 +1,5 @@
 -- What a world imports, behind the resources that it imports before, and items as they are read.
-use Rattle.std.proofs.Common.{◌≡◌, refl, sym, ap, subst, ◌∙◌, ℕ, zero, suc, ◌+◌, ◌<◌, arith, Bool, true, false, not, ◌||◌, nat_lt, if◌then◌else◌, List, [], ◌∷◌, ◌++◌, length, length-append, map, Option, Some, None, append_assoc, slice_get}
+use Rattle.std.proofs.Common.{rules as std_rules, ◌≡◌, refl, sym, ap, subst, ◌∙◌, ℕ, zero, suc, ◌+◌, ◌<◌, arith, Bool, true, false, not, ◌||◌, nat_lt, if◌then◌else◌, List, [], ◌∷◌, ◌++◌, length, length-append, map, Option, Some, None, append_assoc, slice_get}
 use Rattle.std.proofs.lemmas.{Bool.lt-ltb, Bool.and_from as both, Option.slice_get_within, Option.same_Some as same-some, Slice.Eq.bytes_eq-Decides}
 use Rattle.std.specs.List.{AllByRecursion, AllZip, list_all, list_any}
 use Rattle.wit_model.specs.Text.{Text, text_eq}
@@ -26,8 +26,7 @@ pub record IsSeenResource (ss : List NumberedSeen) (r : Text) : Type 0 where
   pub shown : seen.shown ≡ worlds.declares declared
 
 declares_it : (x : NumberedShown) → is_resource_seen x ≡ true → (d : Option ℕ) × (x ≡ worlds.declares d)
-declares_it (worlds.declares d) h = (d, refl)
-declares_it _ h = no_true h
+declares_it x h = search std_rules
 
 pub seen_resource : (ss : List NumberedSeen) (r : Text) → list_any (text_eq r) (resources_seen ss) ≡ true → IsSeenResource ss r
 seen_resource [] r any = no_true any
@@ -92,9 +91,7 @@ items_listed _ _ cs a b = absurd (omega (arith, a))
 pub items_at : (ss : List NumberedSeen) (es : List (PlannedKey × PlannedItem)) (cs : List ℕ) (j : ℕ) (x : ReadItem) → slice_get (items ss es cs) j ≡ Some x → (slice_get ss j ≡ Some x.seen)
     × (slice_get es j ≡ Some x.entry) × (slice_get cs j ≡ Some x.count)
 unfolding items
-items_at (s ∷ ss) (e ∷ es) (c ∷ cs) zero x at =
-    let same = same-some (record { seen = s; entry = e; count = c }) x at in
-    (ap (λ (y : ReadItem). Some y.seen) same, ap (λ (y : ReadItem). Some y.entry) same, ap (λ (y : ReadItem). Some y.count) same)
+items_at (s ∷ ss) (e ∷ es) (c ∷ cs) zero x at = search std_rules
 items_at (s ∷ ss) (e ∷ es) (c ∷ cs) (suc j) x at = items_at ss es cs j x at
 items_at _ _ _ j x at = let wrong : None ≡ Some x = at in absurd cc
 
@@ -124,13 +121,7 @@ module _ (t : Tables) (kept : List ℕ) (p : Plan) (P : ℕ → Type 0) where
   params_back _ _ gs a b all = tt
 
   result_back : (f s g : Option ℕ) → KeptIfGiven kept f g → BecomesIfGiven t kept p s g → AllOf P f → AllOf P s
-  result_back f None g a b all = tt
-  result_back f (Some s) None a b all = absurd b
-  result_back None (Some s) (Some g) a b all = absurd a
-  result_back (Some f) (Some s) (Some g) a b all = subst P (one_old kept f s g a b.part) all
+  result_back f x g a b all = search std_rules
 
   pub parts_back : (f shape : FunctionShape) (id : Option Text) (g : PlannedFunction) → TakesAndGives kept f g → FunctionBecomes t kept p shape id g → PartsOf P f → PartsOf P shape
-  parts_back f shape id g takes becomes all = (
-    params_back f.params shape.params g.params takes.params becomes.params all.0,
-    result_back f.result shape.result g.result takes.result becomes.result all.1,
-  )
+  parts_back f shape id g takes becomes all = search (std_rules, params_back, result_back)

@@ -1,10 +1,9 @@
 -- A form of what was followed has as many parts as it asks for, and a handle is of a type that is no primitive.
-use Rattle.std.proofs.Common.{◌≡◌, refl, sym, ap, subst, ◌∙◌, ℕ, ◌+◌, ◌≤◌, arith, Bool, true, false, ◌==◌, nat_lt, List, [], ◌∷◌, length, map, Some, None, slice_get}
+use Rattle.std.proofs.Common.{rules as std_rules, ◌≡◌, refl, sym, ap, subst, ◌∙◌, ℕ, ◌+◌, ◌≤◌, arith, Bool, true, false, ◌==◌, List, [], ◌∷◌, length, map, Some, None, slice_get}
 use Rattle.std.proofs.lemmas.Bool.{ltb-false, ltb-true}
-use Rattle.std.specs.{Prelude.nat_le, List.AllByRecursion, List.list_all}
+use Rattle.std.specs.{List.AllByRecursion, List.list_all}
 use Rattle.wit_model.specs.{Text.Text, Tree.Form}
-use Rattle.comp_meaning.specs.Follow.{is_filled}
-use Rattle.read_shown.specs.Trees.{begins_with_key, count_true, is_formed}
+use Rattle.read_shown.specs.Trees.{count_true, is_formed}
 use Rattle.plan_meaning.specs.{KeptResources.FormIsMarked, NumberedViews.Tables, NumberedViews.tree_at, Shapes.Shape, Shapes.form_code, Shapes.node_shape}
 use Rattle.plan_meaning.specs.{NumberedMembers.Homes, NumberedRules.name_in, PlanRules.is_handle_form}
 use Rattle.plan_meaning.proofs.{Lists.no_true, ShapeLaws.form_back}
@@ -33,20 +32,7 @@ module _ (t : Tables) where
   same parts k h = ap (λ (l : ℕ). l == k) (sym (length_of_map (tree_at t) parts)) ∙ h
 
   form_counts : (form : Form) (parts : List ℕ) (n : ℕ) → slice_get t.shapes n ≡ Some (node_shape form parts) → is_formed form (map (tree_at t) parts) ≡ true → HasCount form parts
-  form_counts (Form.record_of names) parts n at h = same parts (length names) (second_true (is_filled names) (many parts == length names) h)
-  form_counts (Form.variant_of cases) parts n at h =
-      ap (λ k. length parts == k) (sym (given_many cases)) ∙ same parts (count_true (map (λ (c : Text × Bool). c.1) cases))
-      (second_true (is_filled cases) (many parts == count_true (map (λ (c : Text × Bool). c.1) cases)) h)
-  form_counts (Form.fixed_list_of l) parts n at h = same parts 1 (second_true (nat_le 1 l) (many parts == 1) h)
-  form_counts Form.map_of parts n at h = same parts 2 (second_true (begins_with_key (map (tree_at t) parts)) (many parts == 2) h)
-  form_counts Form.tuple_of parts n at h = refl
-  form_counts (Form.flags_of names) parts n at h = same parts 0 (second_true (is_filled names) (many parts == 0) h)
-  form_counts (Form.enum_of names) parts n at h = same parts 0 (second_true (is_filled names) (many parts == 0) h)
-  form_counts (Form.result_of true true) parts n at h = same parts 2 h
-  form_counts (Form.result_of false false) parts n at h = same parts 0 h
-  form_counts (Form.future_of false) parts n at h = same parts 0 h
-  form_counts (Form.stream_of false) parts n at h = same parts 0 h
-  form_counts _ parts n at h = same parts 1 h
+  form_counts x parts n at h = search (std_rules, same, second_true, given_many)
 
 pub forms_count : (t : Tables) (h : Homes) (ms : List Member) (members : List reads.Member) → IsInput t h ms members → FormsHold t HasCount (showings_of_members ms) (signatures_of_members ms)
 forms_count t h ms members input = forms_hold t input.tables HasCount (form_counts t) h ms members input.shown input.stand
@@ -54,8 +40,7 @@ forms_count t h ms members input = forms_hold t input.tables HasCount (form_coun
 -- ---- forms by their numbers
 
 sorts : (form : Form) → (1 ≤ (form_code form).sort) × ((form_code form).sort ≤ 14)
-sorts (Form.record_of names) = omega arith
-sorts _ = omega arith
+sorts x = search std_rules
 
 -- ---- a form over what is kept
 
@@ -63,11 +48,8 @@ module _ (t : Tables) (h : Homes) (ms : List Member) (members : List reads.Membe
   -- a resource is no primitive
   high_parts : (parts : List ℕ) → list_all marks.marks parts ≡ true → AllByRecursion (λ k. 14 ≤ k) parts
   high_parts [] h = tt
-  high_parts (k ∷ parts) h = (by (nat_lt k 14) refl, high_parts parts (second_true (marks.marks k) (list_all marks.marks parts) h))
-    where
-      by : (b : Bool) → nat_lt k 14 ≡ b → 14 ≤ k
-      by false high = ltb-false k 14 high
-      by true low = no_true (sym (marks.primitives k (ltb-true k 14 low)) ∙ first_true (marks.marks k) (list_all marks.marks parts) h)
+  high_parts (k ∷ parts) h =
+      search (std_rules, second_true, ltb-false, no_true, ltb-true, first_true, high_parts parts (second_true (marks.marks k) (list_all marks.marks parts) h))
 
   pub form_over : (kept : List ℕ) (n : ℕ) (s : Shape) → slice_get t.shapes n ≡ Some s → name_in s ≡ None → EachForm t HasCount (14 + n) → EachForm t (FormIsMarked marks.marks) (14 + n)
       → AllByRecursion (IsKeptPart kept) s.parts → IsFormOver kept s

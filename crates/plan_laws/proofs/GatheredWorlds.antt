@@ -1,5 +1,5 @@
 -- The worlds of a plan become what worlds at the top show.
-use Rattle.std.proofs.Common.{◌≡◌, refl, sym, ap, subst, ◌∙◌, ℕ, suc, ◌+◌, inl, inr, arith, true, false, List, [], ◌∷◌, ◌++◌, map, Option, Some, None, slice_get, unwrap_or}
+use Rattle.std.proofs.Common.{rules as std_rules, ◌≡◌, refl, sym, ap, subst, ◌∙◌, ℕ, suc, ◌+◌, inl, inr, arith, true, false, List, [], ◌∷◌, map, Option, Some, None, slice_get, unwrap_or}
 use Rattle.std.specs.List.{AllZip, Contains, flat_map}
 use Rattle.wit_model.specs.Text.{Text}
 use Rattle.wit_model.specs.declared.model.TypeId.{TypeId}
@@ -8,13 +8,13 @@ use Rattle.plan_meaning.specs.{NumberedMembers.Homes, NumberedMembers.home_at, P
 use Rattle.plan_meaning.specs.NumberedWorlds.{HasPath, KeyStands, NumberedScope, NumberedSeen, place_of_key}
 use Rattle.plan_meaning.proofs.{Lists.no_true, NumberedWorlds.path_is}
 use Rattle.plan_parts.specs.Interfaces.{AreResources}
-use Rattle.read_exports.specs.Members.{numbered_members, numbered_part}
-use Rattle.read_exports.specs.declared.members.{Member.Member, Part.Part}
+use Rattle.read_exports.specs.Members.{numbered_members}
+use Rattle.read_exports.specs.declared.members.{Member.Member}
 use Rattle.read_rules.specs.declared.{scopes.InstanceKey.InstanceKey, scopes.Scope.Scope, scopes.Seen.Seen, scopes.Shown.Shown, views.View.View}
 use Rattle.read_rules.specs.{Scopes.numbered_key, Scopes.numbered_scope, Scopes.numbered_seen, Scopes.numbered_shown, Tables.given_text, Views.numbered_view}
 use Rattle.plan_types.specs.PlannedTypes.{number_in}
 use Rattle.plan_package.specs.{PlanWhole.PlansWhole, PlanWhole.places_in, Views.views_of_members, WholePackages.numbered_labels}
-use Rattle.plan_package.specs.WholeWorlds.{PlansItem, PlansWorld, a_function, a_type, an_instance, planned_key, types_seen, world_in_part, worlds_in}
+use Rattle.plan_package.specs.WholeWorlds.{PlansItem, PlansWorld, a_function, a_type, an_instance, planned_key, types_seen, worlds_in}
 use Rattle.plan_laws.specs.{FirstViews.ViewsAreOrdered, WholeTypes.IsRuledInput, WholeTypes.TypesAreWhole, WorldItems.TypesAreRead, WorldItems.WorldsAreApart, WholeFunctions.beside_tables, WholeWorlds.IsUnderKey, WholeWorlds.WorldIsFollowed, WholeWorlds.WorldsAreFollowed}
 use Rattle.plan_laws.specs.Whole.{IsPackageInput}
 use Rattle.plan_laws.proofs.{GatheredInterfaces.interface_at, GatheredInterfaces.path_same, WorldKeys.planned_worlds_stand, WorldKeys.world_member, OwnPlaces.a_view, OwnPlaces.frames, OwnPlaces.one_owned, WholePlacesLabels.world_among, WholeTypes.first_whole, ShownAlike.view_owned, ShownFrom.view_frame, WholeFunctions.seen_becomes, WholeTypes.packages_are_ruled, WorldKeys.keys_differ}
@@ -147,14 +147,7 @@ module _ (t : Tables) (h : Homes) (known : ℕ → Fact) (n : ℕ) (ms : List Me
 
   listed_are : (xs : List Member) → worlds_listed (numbered_members xs) ≡ map entry (worlds_in xs)
   listed_are [] = refl
-  listed_are (m ∷ xs) = by m.part (listed_are xs)
-    where
-      by : (a : Part) → worlds_listed (numbered_members xs) ≡ map entry (worlds_in xs)
-          → worlds_listed (record { label = m.label.now; package_ = m.package_number; part = numbered_part a } ∷ numbered_members xs) ≡ map entry (world_in_part m.label.now a ++ worlds_in xs)
-      by (parts.World w) rest = ap (λ ws. (m.label.now, numbered_scope w) ∷ ws) rest
-      by (parts.Interface q v imports) rest = rest
+  listed_are (m ∷ xs) = search (std_rules, listed_are xs)
 
   pub worlds_are_listed : AllZip (WorldsListed t planned.kept p) (worlds_listed (numbered_members ms)) (numbered_labels 0 (worlds_in ms))
-  worlds_are_listed =
-      subst (λ ws. AllZip (WorldsListed t planned.kept p) ws (numbered_labels 0 (worlds_in ms))) (sym (listed_are ms))
-      (labels_listed 0 (worlds_in ms) (λ i w at. (let same : i ≡ 0 + i = omega arith in subst (WorldAt t planned.kept p (numbered_scope w.1)) same (world_at i w at))))
+  worlds_are_listed = search (std_rules, listed_are, labels_listed, world_at)

@@ -1,11 +1,11 @@
 -- Which types stand inside a part: what is used is inside a part that is used to begin with.
-use Rattle.std.proofs.Common.{◌≡◌, refl, sym, ap, subst, ◌∙◌, ℕ, zero, suc, ◌+◌, ◌<◌, ◌⊎◌, inl, inr, arith, Bool, true, false, List, [], ◌∷◌, length, map, Some, slice_get}
-use Rattle.std.proofs.lemmas.{List.Elements.Contains-append_cases, Option.same_Some as same-some}
+use Rattle.std.proofs.Common.{rules as std_rules, ◌≡◌, refl, ap, subst, ◌∙◌, ℕ, zero, suc, ◌+◌, ◌<◌, ◌⊎◌, inl, inr, arith, Bool, true, false, List, [], ◌∷◌, length, map, Some, slice_get}
+use Rattle.std.proofs.lemmas.{List.Elements.Contains-append_cases}
 use Rattle.std.specs.List.{Contains, flat_map}
 use Rattle.wit_model.specs.Text.{Text}
 use Rattle.wit_model.proofs.Elements.{has-contains, none-in}
 use Rattle.plan_meaning.specs.NumberedViews.{HasNameIn, Tables}
-use Rattle.plan_meaning.specs.Shapes.{IsShape, IsTable, Shape, a_name, a_node, named_shape, first_label}
+use Rattle.plan_meaning.specs.Shapes.{IsShape, IsTable, Shape, a_name, a_node, named_shape}
 use Rattle.plan_parts.specs.Marks.{is_marked, IsUsed, marked, part}
 use Rattle.plan_types.specs.Used.{AreUsed}
 use Rattle.base_lemmas.proofs.Lists.{get_back as unmapped_get}
@@ -36,16 +36,11 @@ module _ (shapes : List Shape) (table : IsTable shapes) where
 
   -- nothing but itself stands inside a name
   pub name_alone : (k n m q : ℕ) (name : Text) → k ≡ 14 + m → slice_get shapes m ≡ Some (named_shape q name) → IsIn shapes k n → n ≡ m
-  name_alone k n m q name is at (itself a b same) = omega (arith, is, same)
-  name_alone k n m q name is at (inside a i j b s same here there more) =
-      let one : i ≡ m = omega (arith, is, same) in
-      absurd (no_parts i s j q name (same-some s (named_shape q name) (sym here ∙ (ap (slice_get shapes) one ∙ at))) there)
+  name_alone k n m q name is at x = search std_rules
 
 -- a shape is of one name
 pub name_same : (shapes : List Shape) (a q : ℕ) (x z : Text) (i k : ℕ) → slice_get shapes i ≡ Some (named_shape a x) → slice_get shapes k ≡ Some (named_shape q z) → i ≡ k → (a ≡ q) × (x ≡ z)
-name_same shapes a q x z i k there at same =
-    let one : named_shape a x ≡ named_shape q z = same-some (named_shape a x) (named_shape q z) (sym there ∙ (ap (slice_get shapes) same ∙ at)) in
-    (ap (λ (s : Shape). s.number) one, ap (λ (s : Shape). first_label s.labels) one)
+name_same shapes a q x z i k there at same = search std_rules
 
 -- ---- what is used
 
@@ -65,10 +60,5 @@ within (b ∷ marks) (suc n) is = let low = within marks n is in omega (arith, l
 
 pub used_inside : (t : Tables) (parts : List ℕ) (marks : List Bool) (used : AreUsed t parts marks) (n : ℕ) → IsUsed (map (λ s. s.parts) t.shapes) used.roots n → (k : ℕ) × Contains parts k
     × IsIn t.shapes k n
-used_inside t parts marks used n (marked m is) =
-    let low : n < length t.shapes = (let root = within used.roots n is in let many = used.many in omega (arith, root, many)) in
-    (14 + n, has-contains parts (14 + n) (sym (used.shown n low) ∙ is), itself (14 + n) n refl)
-used_inside t parts marks used n (part m i ks before at there) =
-    let from = used_inside t parts marks used m before in
-    let s = unmapped_get (λ (s : Shape). s.parts) t.shapes m ks at in
-    (from.0, from.1, deeper t.shapes from.0 m n s.0 from.2 s.1 (subst (λ ps. Contains ps (14 + n)) (sym s.2) there))
+used_inside t parts marks used n (marked m is) = search (std_rules, within, has-contains, itself)
+used_inside t parts marks used n (part m i ks before at there) = search (std_rules, unmapped_get, deeper, used_inside t parts marks used m before)

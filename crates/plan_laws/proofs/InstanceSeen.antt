@@ -2,7 +2,7 @@
 use Rattle.plan_laws.proofs.{ShownFrom.own_once, OwnPlaces.inline_of, OwnPlaces.inline_seen, OwnPlaces.inlines, ShownRules.one_way as either_way}
 use Rattle.plan_laws.proofs.Sources.{Side, interface_views, mapped_cases, own_sight, seen_sight, side_shows, sight_of, IsWorldIn, world_in}
 use Rattle.plan_laws.proofs.Inside.{flat_cases}
-use Rattle.std.proofs.Common.{◌≡◌, refl, sym, ap, subst, ◌∙◌, ℕ, ◌⊎◌, inl, inr, true, false, List, map, Option, Some, None, filter}
+use Rattle.std.proofs.Common.{rules as std_rules, ◌≡◌, refl, sym, ap, subst, ◌∙◌, ℕ, ◌⊎◌, inl, inr, true, false, List, map, Option, Some, None, filter}
 use Rattle.std.proofs.lemmas.List.Elements.{Contains-append_cases, Contains-append_left, Contains-append_right}
 use Rattle.std.proofs.lemmas.Option.{same_Some as same-some}
 use Rattle.std.specs.List.{AllByRecursion, Contains, flat_map}
@@ -13,7 +13,6 @@ use Rattle.read_shown.specs.Instances.{going, instances_in}
 use Rattle.plan_meaning.specs.{FollowedNumbers.IsSeenIn, NumberedMembers.Homes, NumberedMembers.NumberedMember, NumberedMembers.world, ReadWholes.place_shown}
 use Rattle.plan_meaning.specs.NumberedViews.{AreTables, NumberedFunction, NumberedSight, NumberedType, Tables, path_at}
 use Rattle.plan_meaning.specs.NumberedWorlds.{HasPath, KeyStands, NumberedInstance, NumberedKey, NumberedSeen, NumberedShown, are_once, instance_of, key_of, place_of_key, seen_of, shown_of}
-use Rattle.plan_meaning.proofs.NumberedWorlds.{path_is}
 use Rattle.read_exports.specs.Members.{numbered_member, numbered_members, numbered_part}
 use Rattle.read_exports.specs.declared.members.{Member.Member, Part.Part}
 use Rattle.read_rules.specs.declared.{reached.ImportedView.ImportedView, scopes.Scope.Scope, scopes.Seen.Seen, scopes.Shown.Shown}
@@ -35,9 +34,7 @@ use Rattle.read_rules.specs.declared.scopes.Shown.TheVariants as shown
 
 module _ (t : Tables) (tables : AreTables t) where
   key_place : (key : NumberedKey) → KeyStands t key → (q : ℕ) (path : Text) → path_at t q ≡ Some path → interface_of (key_of t key) ≡ Some path → place_of_key key ≡ q
-  key_place (worlds.path r) stands q path at e = tables.paths r q path (stands.1 ∙ ap Some (sym (path_is t r stands)) ∙ e) at
-  key_place (worlds.label l r) stands q path at e = let wrong : None ≡ Some path = e in absurd cc
-  key_place (worlds.implementing l r) stands q path at e = tables.paths r q path (stands.1 ∙ ap Some (sym (path_is t r stands)) ∙ e) at
+  key_place x stands q path at e = search std_rules
 
   -- an import or an export that is an instance of the place
   shown_place : (home : ℕ) (ss : List NumberedSeen) → AllByRecursion (IsSeenIn t home) ss → (i : NumberedInstance) → HasPath t i.place → Contains (instances_in (map (seen_of t) ss)) (instance_of t i)

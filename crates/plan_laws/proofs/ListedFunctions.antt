@@ -1,13 +1,13 @@
 -- The functions of an interface of the plan are those of the first view of its place that shows some.
 use Rattle.plan_laws.proofs.{Sources.member_view_in, Viewed.zip_within, WholeTypes.packages_are_ruled, FirstViews.first_is, FirstViews.view_names, InterfaceFunctions.view_becomes, Planned.first_there, Planned.interface_there}
-use Rattle.std.proofs.Common.{◌≡◌, refl, sym, ap, subst, ◌∙◌, ℕ, arith, Bool, true, false, ◌==◌, ◌&&◌, cond, List, [], ◌∷◌, ◌++◌, map, Option, Some, None, slice_get}
+use Rattle.std.proofs.Common.{rules as std_rules, ◌≡◌, refl, sym, ap, subst, ◌∙◌, ℕ, arith, Bool, true, false, ◌==◌, ◌&&◌, cond, List, [], ◌∷◌, ◌++◌, map, Option, Some, None, slice_get}
 use Rattle.std.proofs.lemmas.{Bool.eqb-true, Option.same_Some as same-some}
 use Rattle.std.specs.{List.AllZip, List.Contains, List.flat_map, Option.option_map_or}
 use Rattle.wit_model.specs.Text.{Text}
 use Rattle.wit_model.specs.declared.model.TypeOwner.{TypeOwner}
 use Rattle.wit_model.proofs.Elements.{none-in}
 use Rattle.plan_meaning.specs.{GatheredPlan.FunctionBecomes, GatheredPlan.FunctionListed, GatheredPlan.functions_seen, NumberedRules.Fact, NumberedWorlds.HasPath, NumberedWorlds.NumberedInstance, NumberedWorlds.sights_of_instance, ReadFunctions.Beside}
-use Rattle.plan_meaning.specs.NumberedMembers.{Homes, NumberedMember, NumberedPart, home_at, interface, sights_of_members, sights_of_part, world}
+use Rattle.plan_meaning.specs.NumberedMembers.{Homes, NumberedMember, NumberedPart, home_at, sights_of_members, sights_of_part}
 use Rattle.plan_meaning.specs.NumberedViews.{NumberedFunction, NumberedSight, Tables, first_at, function_at, path_at}
 use Rattle.plan_meaning.specs.Plan.{Plan, PlannedFunction, PlannedInterface, interface_in}
 use Rattle.plan_parts.specs.Interfaces.{IsPlannedFunction}
@@ -73,8 +73,7 @@ module _ (t : Tables) (q : ℕ) (path : HasPath t q) where
       by None f rest = ap (λ b. cond (b && true) i.view.functions (functions_seen q (map whole_view is ++ xs))) (elsewhere f (i.place == q) refl) ∙ rest
 
   part_same : (a : NumberedPart) (xs ys : List NumberedSight) → Same xs ys → Same (views_of_part a ++ xs) (sights_of_part t a ++ ys)
-  part_same (world w) xs ys e = instances_same w.instances xs ys e
-  part_same (interface p v imports) xs ys e = same_behind (views_of_part (interface p v imports)) xs ys e
+  part_same x xs ys e = search (std_rules, instances_same, same_behind)
 
   -- all views of the place show the functions that those with a path do
   pub seen_same : (ms : List NumberedMember) → Same (views_of_members ms) (sights_of_members t ms)

@@ -1,15 +1,15 @@
 -- A name that stands inside a part is one of those that are met in its tree.
-use Rattle.std.proofs.Common.{◌≡◌, sym, ap, subst, ◌∙◌, ℕ, zero, suc, ◌+◌, ◌<◌, ◌⊎◌, inl, inr, arith, Bool, true, false, List, [], ◌∷◌, map, Option, Some, None, IfSome, option_map, option_to_list, slice_get}
-use Rattle.std.proofs.lemmas.{List.Elements.Contains-append_cases, Option.same_Some as same-some}
+use Rattle.std.proofs.Common.{rules as std_rules, ◌≡◌, sym, subst, ℕ, zero, suc, ◌+◌, ◌<◌, ◌⊎◌, inl, inr, arith, Bool, false, List, [], ◌∷◌, map, Option, Some, IfSome, option_map, option_to_list, slice_get}
+use Rattle.std.proofs.lemmas.{List.Elements.Contains-append_cases}
 use Rattle.std.specs.List.{AllByRecursion, Contains}
 use Rattle.wit_model.specs.{Text.Text, Tree.Form, Tree.Place, Tree.Tree, Tree.Trees, Tree.children}
 use Rattle.wit_model.proofs.Elements.{none-in}
 use Rattle.read_shown.specs.Trees.{DeclarationStands, HandleStands, PartsStand, SignatureStands, TreeStands, is_handle}
 use Rattle.plan_meaning.specs.NumberedViews.{AllOf, AreTables, FunctionShape, IsPart, PartsOf, Tables, declaration_of, place_at, signature_over, tree_at}
 use Rattle.plan_meaning.specs.Shapes.{Shape, named_shape, node_shape}
-use Rattle.plan_meaning.proofs.{ShapeLaws.PartView, ShapeLaws.is_name, ShapeLaws.is_node, ShapeLaws.is_primitive, ShapeLaws.viewed, ShapesLemmas.no_sort}
+use Rattle.plan_meaning.proofs.{ShapeLaws.PartView, ShapeLaws.is_name, ShapeLaws.is_node, ShapeLaws.is_primitive, ShapeLaws.viewed}
 use Rattle.plan_types.specs.Used.{signature_parts}
-use Rattle.plan_laws.proofs.Inside.{IsIn, inside, itself, name_alone, name_same}
+use Rattle.plan_laws.proofs.Inside.{IsIn, inside, itself}
 use Rattle.base_lemmas.proofs.Elements.{last_of as one-contained}
 use Rattle.wit_model.specs.Tree as tree
 
@@ -26,20 +26,14 @@ module _ (t : Tables) (tables : AreTables t) (Met : Place → Text → Bool → 
 
   -- what the name is met as where its tree stands there
   met_here : (k m r : ℕ) (x : Text) (b : Bool) → k ≡ 14 + m → slice_get t.shapes m ≡ Some (named_shape r x) → IsIn t.shapes k n → Met (place_at t r) x b → IsMet
-  met_here k m r x b is there found met =
-      let one : n ≡ m = name_alone t.shapes tables.shapes k n m r x is there found in
-      let same = name_same t.shapes r q x name m n there at (sym one) in
-      (b, subst (λ (y : Text). Met (place_at t q) y b) same.1 (subst (λ (p : ℕ). Met (place_at t p) x b) same.0 met))
+  met_here k m r x b is there found met = search std_rules
 
   -- the one part of a handle
   handle_view : (k : ℕ) → View k → HandleStands Met (Trees.child (tree_at t k) Trees.no_children) → IsIn t.shapes k n → IsMet
-  handle_view k (is_primitive p low e number) stands found = absurd (subst (λ (u : Tree). HandleStands Met (Trees.child u Trees.no_children)) e stands)
-  handle_view k (is_name m r x is there e) stands found = met_here k m r x true is there found (subst (λ (u : Tree). HandleStands Met (Trees.child u Trees.no_children)) e stands)
-  handle_view k (is_node m f ps is there e all) stands found = absurd (subst (λ (u : Tree). HandleStands Met (Trees.child u Trees.no_children)) e stands)
+  handle_view k y stands found = search std_rules
 
   two_stand : (a b : Tree) (ts : Trees) → HandleStands Met (Trees.child a (Trees.child b ts)) → ⊥
-  two_stand (Tree.primitive p) b ts stands = stands
-  two_stand _ b ts stands = stands
+  two_stand x b ts stands = search std_rules
 
   in_handle : (ks : List ℕ) → AllByRecursion (λ k. IsPart t k) ks → HandleStands Met (children (map (tree_at t) ks)) → (j : ℕ) → Contains ks j → IsIn t.shapes j n → IsMet
   in_handle [] ranges stands j c found = none-in j c
@@ -55,24 +49,15 @@ module _ (t : Tables) (tables : AreTables t) (Met : Place → Text → Bool → 
 
   in_form : (b : Bool) (ks : List ℕ) → AllByRecursion (λ k. IsPart t k) ks → PartsStand Met b (children (map (tree_at t) ks)) → (j : ℕ) → Contains ks j → IsIn t.shapes j n
       → (IsPart t j → TreeStands Met (tree_at t j) → IsMet) → IsMet
-  in_form true ks ranges stands j c found later = in_handle ks ranges stands j c found
-  in_form false ks ranges stands j c found later = in_parts ks ranges stands j c later
+  in_form x ks ranges stands j c found later = search (std_rules, in_handle, in_parts)
 
   -- ---- a part
 
   no_low : (k : ℕ) → k < 14 → IsIn t.shapes k n → ⊥
-  no_low k low (itself a b is) = omega (arith, low, is)
-  no_low k low (inside a m j b s is here c more) = omega (arith, low, is)
+  no_low k low x = search std_rules
 
   form_there : (k m i : ℕ) (f : Form) (ks : List ℕ) (s : Shape) → k ≡ 14 + m → slice_get t.shapes m ≡ Some (node_shape f ks) → k ≡ 14 + i → slice_get t.shapes i ≡ Some s → s ≡ node_shape f ks
-  form_there k m i f ks s is there at_k here =
-      let one : i ≡ m = omega (arith, is, at_k) in
-      same-some s (node_shape f ks) (sym here ∙ (ap (slice_get t.shapes) one ∙ there))
-
-  no_name_here : (k m : ℕ) (f : Form) (ks : List ℕ) → k ≡ 14 + m → slice_get t.shapes m ≡ Some (node_shape f ks) → k ≡ 14 + n → ⊥
-  no_name_here k m f ks is there at_k =
-      let one : m ≡ n = omega (arith, is, at_k) in
-      no_sort f (ap (λ (s : Shape). s.sort) (same-some (node_shape f ks) (named_shape q name) (sym there ∙ (ap (slice_get t.shapes) one ∙ at))))
+  form_there k m i f ks s is there at_k here = search std_rules
 
   -- a part that is a form stands deeper
   in_node : (k m j : ℕ) (s : Shape) → k ≡ 14 + m → slice_get t.shapes m ≡ Some s → Contains s.parts j → IsIn t.shapes j n → (IsPart t j → TreeStands Met (tree_at t j) → IsMet) → View k
@@ -84,9 +69,7 @@ module _ (t : Tables) (tables : AreTables t) (Met : Place → Text → Bool → 
       in_form (is_handle f) ks ranges whole.1 j (subst (λ (y : Shape). Contains y.parts j) (form_there k i m f ks s at_k there is here) c) found later
 
   name_tree_met : (k : ℕ) → View k → k ≡ 14 + n → TreeStands Met (tree_at t k) → IsMet
-  name_tree_met k (is_primitive p low e number) is stands = absurd (omega (arith, low, is))
-  name_tree_met k (is_name i r x at_k there e) is stands = met_here k i r x false at_k there (itself k n is) (subst (TreeStands Met) e stands)
-  name_tree_met k (is_node i f ks at_k there e ranges) is stands = absurd (no_name_here k i f ks at_k there is)
+  name_tree_met k y is stands = search std_rules
 
   pub in_part : (k : ℕ) → IsIn t.shapes k n → IsPart t k → TreeStands Met (tree_at t k) → IsMet
   in_part k (itself a b is) range stands = name_tree_met k (view k range) is stands
@@ -95,11 +78,7 @@ module _ (t : Tables) (tables : AreTables t) (Met : Place → Text → Bool → 
   -- ---- what is declared, and functions
 
   declared_view : (k : ℕ) → View k → IsPart t k → IsIn t.shapes k n → (b : Bool) → DeclarationStands Met (tree.Declaration.type_ (tree_at t k)) b → IsMet
-  declared_view k (is_primitive p low e number) range found b stands = absurd (no_low k low found)
-  declared_view k (is_name m r x is there e) range found b stands = met_here k m r x b is there found (subst (λ (u : Tree). DeclarationStands Met (tree.Declaration.type_ u) b) e stands)
-  declared_view k (is_node m f ks is there e ranges) range found b stands =
-      let whole = subst (λ (u : Tree). DeclarationStands Met (tree.Declaration.type_ u) b) e stands in
-      in_part k found range (subst (TreeStands Met) (sym e) whole.1)
+  declared_view k y range found b stands = search (std_rules, no_low, met_here, in_part)
 
   pub in_declared : (k : ℕ) → IsPart t k → IsIn t.shapes k n → (b : Bool) → DeclarationStands Met (declaration_of t (Some k)) b → IsMet
   in_declared k range found b stands = declared_view k (view k range) range found b stands
@@ -111,8 +90,7 @@ module _ (t : Tables) (tables : AreTables t) (Met : Place → Text → Bool → 
   in_params (p ∷ ps) ranges stands k (suc i, low, e) found = in_params ps ranges.1 stands.1 k (i, omega (arith, low), e) found
 
   in_result : (r : Option ℕ) → AllOf (IsPart t) r → IfSome (option_map (tree_at t) r) (TreeStands Met) → (k : ℕ) → Contains (option_to_list r) k → IsIn t.shapes k n → IsMet
-  in_result None range stands k c found = none-in k c
-  in_result (Some j) range stands k c found = in_part j (subst (λ y. IsIn t.shapes y n) (sym (one-contained j k c)) found) range stands
+  in_result x range stands k c found = search (std_rules, none-in, in_part, IsIn, one-contained)
 
   pub in_signature : (f : FunctionShape) → PartsOf (IsPart t) f → SignatureStands Met (signature_over (tree_at t) f) → (k : ℕ) → Contains (signature_parts f) k → IsIn t.shapes k n → IsMet
   in_signature f ranges stands k c found = by (Contains-append_cases (map (λ (x : Text × ℕ). x.1) f.params) (option_to_list f.result) k c)

@@ -1,14 +1,14 @@
 -- One world beside the interfaces of its package that it shows: the views that it gives come first, and are of all places under a path.
-use Rattle.std.proofs.Common.{◌≡◌, refl, sym, ap, subst, ◌∙◌, ℕ, zero, suc, ◌⊎◌, inl, inr, arith, Bool, true, false, ◌==◌, ◌&&◌, cond, List, [], ◌∷◌, ◌++◌}
+use Rattle.std.proofs.Common.{rules as std_rules, ◌≡◌, refl, sym, ap, subst, ◌∙◌, ℕ, zero, suc, ◌⊎◌, inl, inr, arith, Bool, true, false, ◌==◌, ◌&&◌, cond, List, [], ◌∷◌, ◌++◌}
 use Rattle.std.proofs.lemmas.{List.Elements.Contains-append_cases, List.Elements.Contains-append_left, Bool.and_from as both}
-use Rattle.std.specs.List.{AllByRecursion, AllZip, Contains}
+use Rattle.std.specs.List.{AllByRecursion, Contains}
 use Rattle.wit_model.proofs.Elements.{none-in}
 use Rattle.plan_meaning.specs.{GatheredPlan.functions_seen, NumberedViews.NumberedSight, NumberedViews.Tables, Plan.Plan, Plan.PlannedWorld}
-use Rattle.plan_meaning.specs.NumberedMembers.{Homes, NumberedMember, home_at, interface, sights_of_members, sights_of_part}
+use Rattle.plan_meaning.specs.NumberedMembers.{Homes, NumberedMember, home_at, sights_of_members, sights_of_part}
 use Rattle.plan_meaning.specs.NumberedWorlds.{HasPath, NumberedInstance, NumberedScope, sights_of_instance, sights_of_scope}
 use Rattle.plan_meaning.proofs.Lists.{no_true}
 use Rattle.read_exports.specs.Members.{numbered_members, numbered_part}
-use Rattle.read_exports.specs.declared.members.{Member.Member, Part.Part}
+use Rattle.read_exports.specs.declared.members.{Member.Member}
 use Rattle.read_rules.specs.declared.scopes.Scope.{Scope}
 use Rattle.read_rules.specs.Scopes.{numbered_scope}
 use Rattle.plan_package.specs.{PlanWhole.PlansWhole, PlanWhole.places_in, WholeWorlds.PlansWorld, WholeWorlds.world_in_part, WholeWorlds.worlds_in}
@@ -80,11 +80,7 @@ module _ (t : Tables) (h : Homes) (n : ℕ) (m : Member) (own : List Member) (w 
 
   no_worlds : (xs : List Member) → AllByRecursion (IsOwnInterface t h n (numbered_scope w)) (numbered_members xs) → worlds_in xs ≡ []
   no_worlds [] all = refl
-  no_worlds (x ∷ xs) all = by x.part all.0.part (no_worlds xs all.1)
-    where
-      by : (a : Part) → numbered_part a ≡ interface all.0.place all.0.view [] → worlds_in xs ≡ [] → world_in_part x.label.now a ++ worlds_in xs ≡ []
-      by (parts.World v) e rest = absurd cc
-      by (parts.Interface q v imports) e rest = rest
+  no_worlds (x ∷ xs) all = search (std_rules, no_worlds xs all.1)
 
   pub one_world : worlds_in ms ≡ (m.label.now, w) ∷ []
   one_world = ap (λ a. world_in_part m.label.now a ++ worlds_in own) is ∙ ap (λ ws. (m.label.now, w) ∷ ws) (no_worlds own own_are.each)
@@ -96,9 +92,4 @@ module _ (t : Tables) (h : Homes) (n : ℕ) (m : Member) (own : List Member) (w 
     pub plans : PlansWorld t kept (places_in ms) n (m.label.now, w) world
 
   pub planned_alone : (p : Plan) (planned : PlansWhole t h.packages (home_at h) n ms p) → IsPlannedAlone planned.kept p
-  planned_alone p planned = by p.worlds refl (subst (λ ws. AllZip (PlansWorld t planned.kept (places_in ms) n) ws p.worlds) one_world planned.worlds)
-    where
-      by : (xs : List PlannedWorld) → p.worlds ≡ xs → AllZip (PlansWorld t planned.kept (places_in ms) n) ((m.label.now, w) ∷ []) xs → IsPlannedAlone planned.kept p
-      by [] e zip = absurd zip
-      by (x ∷ []) e zip = record { world = x; alone = e; plans = zip.0 }
-      by (x ∷ y ∷ xs) e zip = absurd zip.1
+  planned_alone p planned = search (std_rules, one_world)

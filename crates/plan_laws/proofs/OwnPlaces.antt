@@ -1,7 +1,7 @@
 -- Each place without a path is of one world, or of one inline interface with one view.
 use Rattle.plan_meaning.proofs.Lists.{no_true}
 use Rattle.std.proofs.lemmas.{Option.same_Some as same-some, Bool.not-true, Bool.and_from as both, Bool.false_from_ne_true}
-use Rattle.std.proofs.Common.{◌≡◌, refl, sym, ap, subst, ◌∙◌, ℕ, zero, suc, ◌+◌, ◌⊎◌, inl, inr, arith, Bool, true, false, not, filter, if◌then◌else◌, List, [], ◌∷◌, ◌++◌, length, length-append, map, Option, None, is_none, ◌≤◌, Some, slice_get, cond}
+use Rattle.std.proofs.Common.{rules as std_rules, ◌≡◌, refl, sym, ap, subst, ◌∙◌, ℕ, zero, suc, ◌+◌, ◌⊎◌, inl, inr, arith, Bool, true, false, not, filter, if◌then◌else◌, List, [], ◌∷◌, ◌++◌, length, length-append, map, Option, None, is_none, ◌≤◌, Some, slice_get, cond}
 use Rattle.std.proofs.lemmas.List.Elements.{Contains-append_cases, Contains-append_left, filter-append}
 use Rattle.wit_model.proofs.{UsesLemmas.has_filter, Elements.contains-has, Elements.has-contains, Elements.none-in, Elements.contains-get}
 use Rattle.plan_laws.proofs.{PlaceNumbers.IsOnce, Inside.flat_cases}
@@ -84,11 +84,7 @@ record Without {A : Type 0} (xs : List A) (x : A) : Type 0 where
 
 without : {A : Type 0} (xs : List A) (x : A) → Contains xs x → Without xs x
 without [] x c = none-in x c
-without {A = A} (z ∷ xs) x (zero, low, e) = record { rest = xs; many = refl; cases = by }
-  where
-    by : (y : A) → Contains (z ∷ xs) y → (y ≡ x) ⊎ Contains xs y
-    by y (zero, y_low, same) = inl (sym same ∙ e)
-    by y (suc i, y_low, same) = inr (i, omega (arith, y_low), same)
+without {A = A} (z ∷ xs) x (zero, low, e) = search std_rules
 without {A = A} (z ∷ xs) x (suc i, low, e) =
     let less = without xs x (i, omega (arith, low), e) in
     record { rest = z ∷ less.rest; many = ap suc less.many; cases = by less }
@@ -153,16 +149,14 @@ abbrev place_of_frame : Frame → ℕ
 place_of_frame f = f.0
 
 shown_places : (x : NumberedShown) → map place_of_frame (frames_of_shown x) ≡ places_of_shown x
-shown_places (instance key v) = refl
-shown_places _ = refl
+shown_places x = search std_rules
 
 seen_places : (ss : List NumberedSeen) → map place_of_frame (frames_of_seen ss) ≡ places_of_seen ss
 seen_places [] = refl
 seen_places (s ∷ ss) = append_of_map place_of_frame (frames_of_shown s.shown) (frames_of_seen ss) ∙ λ i. shown_places s.shown i ++ seen_places ss i
 
 part_places : (a : NumberedPart) → map place_of_frame (frames_of_part a) ≡ places_of_part a
-part_places (world w) = ap (λ ps. w.home ∷ ps) (append_of_map place_of_frame (frames_of_seen w.imports) (frames_of_seen w.exports) ∙ λ i. seen_places w.imports i ++ seen_places w.exports i)
-part_places (interface p v imports) = refl
+part_places x = search (std_rules, append_of_map, seen_places)
 
 all_places : (ms : List NumberedMember) → map place_of_frame (frames ms) ≡ flat_map (λ (m : NumberedMember). places_of_part m.part) ms
 all_places [] = refl
@@ -193,24 +187,12 @@ module _ (t : Tables) where
   inlines ss = flat_map (λ (s : NumberedSeen). inline_of s.shown) ss
 
   nones_cons : (x : Instance) (xs : List Instance) → nones (x ∷ xs) ≡ nones (x ∷ []) + nones xs
-  nones_cons x xs = by (is_none x.interface)
-    where
-      by : (b : Bool) → length (if b then x ∷ filter (λ (y : Instance). is_none y.interface) xs else filter (λ (y : Instance). is_none y.interface) xs) ≡ length (if b then x ∷ [] else []) + nones xs
-      by true = omega arith
-      by false = omega arith
+  nones_cons x xs = search std_rules
 
   pub both_ways : (seen : List (Direction × Instance)) → nones (map (λ (y : Direction × Instance). y.1) seen) ≡ nones (going import_ seen) + nones (going export_ seen)
   both_ways [] = refl
-  both_ways ((import_, x) ∷ seen) =
-      let all = nones_cons x (map (λ (y : Direction × Instance). y.1) seen) in
-      let more = nones_cons x (going import_ seen) in
-      let rest = both_ways seen in
-      omega (arith, all, more, rest)
-  both_ways ((export_, x) ∷ seen) =
-      let all = nones_cons x (map (λ (y : Direction × Instance). y.1) seen) in
-      let more = nones_cons x (going export_ seen) in
-      let rest = both_ways seen in
-      omega (arith, all, more, rest)
+  both_ways ((import_, x) ∷ seen) = search (std_rules, nones_cons, both_ways seen)
+  both_ways ((export_, x) ∷ seen) = search (std_rules, nones_cons, both_ways seen)
 
   pub seen_nones : (ss : List NumberedSeen) → nones (instances_in (map (seen_of t) ss)) ≡ length (inlines ss)
   seen_nones [] = refl
@@ -240,13 +222,11 @@ once_last (x ∷ xs) ys once = once_last xs ys (once_behind x (xs ++ ys) once)
 pub once_first : (xs ys : List ℕ) → are_once (xs ++ ys) ≡ true → are_once xs ≡ true
 once_first [] ys once = refl
 once_first (x ∷ xs) ys once =
-    both (not (has xs x)) (are_once xs) (ap not (false_from_ne_true (has xs x) (λ h. let c = has-contains xs x h in not_among x (xs ++ ys) once (Contains-append_left xs ys x c))))
-    (once_first xs ys (once_behind x (xs ++ ys) once))
+    search (std_rules, both, false_from_ne_true, has-contains, not_among, Contains-append_left, once_behind, once_first xs ys (once_behind x (xs ++ ys) once))
 
 pub once_inside : {A : Type 0} (test : ℕ → Bool) (f : A → List ℕ) (xs : List A) → are_once (filter test (flat_map f xs)) ≡ true → (x : A) → Contains xs x → are_once (filter test (f x)) ≡ true
 once_inside test f [] once x c = none-in x c
-once_inside test f (y ∷ xs) once x (zero, low, e) = subst (λ z. are_once (filter test (f z)) ≡ true) e
-    (once_first (filter test (f y)) (filter test (flat_map f xs)) (ap are_once (sym (filter-append test (f y) (flat_map f xs))) ∙ once))
+once_inside test f (y ∷ xs) once x (zero, low, e) = search (std_rules, once_first, filter-append)
 once_inside test f (y ∷ xs) once x (suc i, low, e) = once_inside test f xs
     (once_last (filter test (f y)) (filter test (flat_map f xs)) (ap are_once (sym (filter-append test (f y) (flat_map f xs))) ∙ once)) x (i, omega (arith, low), e)
 
@@ -297,9 +277,7 @@ module _ (t : Tables) (w : NumberedScope) (good : IsScopeIn t w) where
   place_of_instance i = i.place
 
   pub places_are : map place_of_instance all_inline ≡ filter (has_no_path t) (places_of_seen w.imports ++ places_of_seen w.exports)
-  places_are =
-      append_of_map place_of_instance (inlines t w.imports) (inlines t w.exports)
-      ∙ ((λ j. inline_places w.imports good.imports j ++ inline_places w.exports good.exports j) ∙ sym (filter-append (has_no_path t) (places_of_seen w.imports) (places_of_seen w.exports)))
+  places_are = search (std_rules, append_of_map, inline_places, filter-append)
 
   module _ (scope : follow.Scope) (shows : Shows t w scope) (seen : InstancesAreSeen scope) where
     pub inline_many : length (filter (no_path t) w.instances) ≡ length all_inline

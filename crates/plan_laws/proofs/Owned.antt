@@ -1,17 +1,16 @@
 -- Types that are planned are their owners', and are seen from there.
-use Rattle.std.proofs.Common.{◌≡◌, refl, sym, ap, subst, ◌∙◌, ℕ, ◌+◌, ◌<◌, ◌⊎◌, inl, inr, arith, true, List, length, Option, Some, None, slice_get}
+use Rattle.std.proofs.Common.{rules as std_rules, ◌≡◌, refl, sym, ap, subst, ◌∙◌, ℕ, ◌+◌, ◌<◌, ◌⊎◌, inl, inr, arith, true, List, length, Option, Some, None, slice_get}
 use Rattle.std.proofs.lemmas.{Option.slice_get_within, Option.same_Some as same-some, Slice.Zip.AllZip-long as zip_length}
 use Rattle.std.specs.{List.Contains, Option.option_map_or}
 use Rattle.wit_model.specs.{Text.Text, Valid.as_interface, Valid.as_world, Parts.same_owner, Uses.owner_interface}
 use Rattle.plan_meaning.specs.{FollowedNumbers.IsMetFrom, FollowedNumbers.IsNameOf, Plan.Plan, Plan.PlannedInterface, Plan.PlannedType, Plan.interface_in, GatheredPlan.DeclaresKind, NumberedMembers.Homes, NumberedMembers.home_at, Shapes.Shape, Shapes.named_shape, NumberedRules.IsSeenFrom, NumberedRules.name_in, NumberedViews.AllOf, NumberedViews.Tables, NumberedViews.itself}
 use Rattle.plan_meaning.specs.KeptOwners.{AreOwned, IsNamedInterface, IsPlaceOf, of_interface, of_name}
 use Rattle.plan_meaning.specs.NumberedWorlds.{HasPath}
-use Rattle.read_exports.specs.Members.{numbered_members}
 use Rattle.read_exports.specs.declared.members.Member.{Member}
 use Rattle.plan_types.specs.PlannedTypes.{PlansType, named, number_in, owner_in, unnamed}
 use Rattle.plan_types.specs.Showings.{NumberedShowing, showings_of_members}
 use Rattle.plan_parts.proofs.DeclaredKinds.{kinds_declared}
-use Rattle.plan_package.specs.{Views.views_of_members, WholeInterfaces.PlansPlace, PlanWhole.PlansWhole, PlanWhole.places_in, PlanWhole.shown_first}
+use Rattle.plan_package.specs.{PlanWhole.PlansWhole, PlanWhole.places_in, PlanWhole.shown_first}
 use Rattle.plan_type_laws.proofs.{FirstFound.firsts_found, KeptKinds.kinds_tell}
 use Rattle.plan_laws.specs.{Owners.PlannedTypesAreOwned, Owners.homes_in, Owners.owners_of, ShownNames.IsInput}
 use Rattle.plan_laws.proofs.{Inside.name_same, Sources.if_given, Planned.home_alone, Planned.name_met, Planned.named_there, PlaceNumbers.number_given, PlaceNumbers.owner_met, PlaceNumbers.owners_apart, Showings.showings_named, ViewRules.same_place}
@@ -32,8 +31,7 @@ module _ (t : Tables) (h : Homes) (ms : List Member) (members : List reads.Membe
   apart = owners_apart places homes
 
   met_with_path : (a : ℕ) → HasPath t a → Contains places a ⊎ Contains homes a → Contains places a
-  met_with_path a path (inl among) = among
-  met_with_path a path (inr home) = let wrong : None ≡ Some path.0 = sym (home_alone t h ms members input a home) ∙ path.1 in absurd cc
+  met_with_path a path x = search (std_rules, home_alone)
 
   interface_number : (m n : ℕ) → as_interface m ≡ as_interface n → m ≡ n
   interface_number m n e = same-some m n (ap owner_interface e)
@@ -42,11 +40,7 @@ module _ (t : Tables) (h : Homes) (ms : List Member) (members : List reads.Membe
       → option_map_or as_interface pa (option_map_or as_world ha (as_interface (length places + a))) ≡ as_interface m → Contains places a
   owned_place a m i there (Some k) ha e is = get-contains places k a (number_there places a k e)
   owned_place a m i there None (Some k) e is = let wrong : as_world k ≡ as_interface m = is in absurd cc
-  owned_place a m i there None None e is =
-      let one : length places + a ≡ m = interface_number (length places + a) m is in
-      let low = slice_get_within p.interfaces m i there in
-      let many = zip_length (PlansPlace t planned.kept main (home_at h) (views_of_members (numbered_members ms))) places p.interfaces planned.interfaces in
-      absurd (omega (arith, one, low, many))
+  owned_place a m i there None None e is = search (std_rules, interface_number, slice_get_within, zip_length)
 
   named_owner : (a : ℕ) → HasPath t a → Contains places a → IsNamedInterface p (owners_of ms a)
   named_owner a path among =

@@ -2,7 +2,7 @@
 use Rattle.read_rules.specs.{Reached.numbered_import, Scopes.numbered_instance, Scopes.numbered_scope, Scopes.numbered_seen, Scopes.numbered_shown}
 use Rattle.read_rules.specs.Tables.{given_text}
 use Rattle.read_exports.specs.declared.members.{Part.Part, Member.Member}
-use Rattle.std.proofs.Common.{◌≡◌, refl, sym, ap, subst, ◌∙◌, ℕ, zero, suc, ◌+◌, ◌⊎◌, inl, inr, arith, Bool, List, [], ◌∷◌, ◌++◌, length, map, Option, Some, slice_get}
+use Rattle.std.proofs.Common.{rules as std_rules, ◌≡◌, refl, sym, ap, subst, ◌∙◌, ℕ, zero, suc, ◌+◌, ◌⊎◌, inl, inr, arith, Bool, List, [], ◌∷◌, ◌++◌, length, map, Option, Some, slice_get}
 use Rattle.std.specs.List.{AllByRecursion, AllZip, Contains}
 use Rattle.wit_model.specs.{Text.Text, Names.path_in, Tree.Declaration, Tree.Place}
 use Rattle.wit_model.proofs.Elements.{contains-get}
@@ -40,10 +40,7 @@ module _ (t : Tables) (tables : AreTables t) (h : Homes) (stand : HomesStand t h
   imports_same : (imports : List (ℕ × NumberedView)) → AllByRecursion (λ (i : ℕ × NumberedView). HasPath t i.0 × IsViewIn t i.0 i.1) imports
       → map named_instance (map (λ (i : ℕ × NumberedView). (path_text t i.0, view_of t i.1)) imports) ≡ map (instance_tree t tables) (map types_alone imports)
   imports_same [] all = refl
-  imports_same (i ∷ imports) all =
-      let front = path_given i.0 all.0.0 in
-      let rest = imports_same imports all.1 in
-      λ j. record { interface = front j; view = view_of t i.1 } ∷ rest j
+  imports_same (i ∷ imports) all = search (std_rules, path_given, imports_same imports all.1)
 
   pub trees_of_part : (m : Member) (x : reads.Member) → IsMember t h (numbered_member m) x → (a : Part) (b : MeantPart) → ShowsPart t h (numbered_member m) (numbered_part a) b
       → IsPartIn t (numbered_part a) → instances_of (record { label = x.label; package_ = x.package_; part = b }) ≡ map (instance_tree t tables) (views_of_part (numbered_part a))

@@ -1,6 +1,6 @@
 -- Places by their numbers, and the owner of each.
-use Rattle.std.proofs.Common.{◌≡◌, refl, sym, ap, subst, ◌∙◌, ℕ, zero, suc, ◌+◌, ◌<◌, ◌≤◌, ◌⊎◌, inl, inr, arith, Bool, true, false, ◌==◌, nat_lt, cond, List, [], ◌∷◌, ◌++◌, length, Option, Some, None, slice_get, get_or}
-use Rattle.std.proofs.lemmas.{Bool.eqb-true, Bool.ltb-false, Option.slice_get_within, Option.same_Some as same-some}
+use Rattle.std.proofs.Common.{rules as std_rules, ◌≡◌, refl, sym, ap, subst, ◌∙◌, ℕ, zero, suc, ◌+◌, ◌<◌, ◌⊎◌, inl, inr, arith, Bool, true, false, ◌==◌, nat_lt, cond, List, [], ◌∷◌, ◌++◌, length, Option, Some, None, slice_get}
+use Rattle.std.proofs.lemmas.{Bool.eqb-true, Bool.ltb-false, Option.slice_get_within}
 use Rattle.std.proofs.lemmas.List.{Elements.Contains-append_cases, Elements.Contains-append_left, Elements.Contains-append_right, Sums.fails_before_first}
 use Rattle.std.specs.{List.Contains, List.flat_map, List.position_or_len, Option.option_map_or}
 use Rattle.wit_model.specs.declared.model.TypeOwner.{TypeOwner}
@@ -28,10 +28,7 @@ module _ (ps : List ℕ) (q : ℕ) where
 
   given_by : (b : Bool) → nat_lt first (length ps) ≡ b → Contains ps q → (m : ℕ) × (cond b (Some first) None ≡ Some m)
   given_by true low c = (first, refl)
-  given_by false high (k, low, e) =
-      let beyond : length ps ≤ first = ltb-false first (length ps) high in
-      let fails : (q == get_or ps k q) ≡ false = fails_before_first (λ x. q == x) ps k q (omega (arith, low, beyond)) in
-      no_true (sym fails ∙ (ap (λ x. q == x) e ∙ same-number q))
+  given_by false high (k, low, e) = search (std_rules, ltb-false, fails_before_first, no_true, same-number)
 
   -- each place has one
   pub number_given : Contains ps q → (m : ℕ) × (number_in ps q ≡ Some m)
@@ -61,17 +58,7 @@ module _ (met : List ℕ) (p : ℕ) where
   joined_from x c = from_by (has met p) x c
 
   once_by : (b : Bool) → has met p ≡ b → IsOnce met → IsOnce (cond b met (met ++ p ∷ []))
-  once_by true there once i j q at_i at_j = once i j q at_i at_j
-  once_by false none once i j q at_i at_j = by (at_end met p q i at_i) (at_end met p q j at_j)
-    where
-      not_there : (k : ℕ) → slice_get met k ≡ Some q → p ≡ q → ⊥
-      not_there k there same = no_true (sym none ∙ contains-has met p (subst (Contains met) (sym same) (get-contains met k q there)))
-
-      by : (slice_get met i ≡ Some q) ⊎ ((i ≡ length met) × (p ≡ q)) → (slice_get met j ≡ Some q) ⊎ ((j ≡ length met) × (p ≡ q)) → i ≡ j
-      by (inl a) (inl b) = once i j q a b
-      by (inl a) (inr b) = absurd (not_there i a b.1)
-      by (inr a) (inl b) = absurd (not_there j b a.1)
-      by (inr a) (inr b) = a.0 ∙ sym b.0
+  once_by x there once i j q at_i at_j = search (std_rules, at_end, no_true, contains-has, get-contains)
 
   joined_once : IsOnce met → IsOnce (joined met p)
   joined_once once = once_by (has met p) refl once
@@ -125,13 +112,9 @@ module _ (places homes : List ℕ) where
 
   apart_by : (a c : ℕ) (pa : Option ℕ) → number_in places a ≡ pa → (ha : Option ℕ) → number_in homes a ≡ ha → (pc : Option ℕ) → number_in places c ≡ pc → (hc : Option ℕ) → number_in homes c ≡ hc
       → same_owner (owner_by pa ha a) (owner_by pc hc c) ≡ true → a ≡ c
-  apart_by a c (Some m) ea ha fa (Some k) ec hc fc h =
-      let one : m ≡ k = eqb-true m k h in
-      same-some a c (sym (number_there places a m ea) ∙ (ap (slice_get places) one ∙ number_there places c k ec))
+  apart_by a c (Some m) ea ha fa (Some k) ec hc fc h = search (std_rules, eqb-true m k h, number_there places a m ea, number_there places c k ec)
   apart_by a c (Some m) ea ha fa None ec None fc h = let one = eqb-true m (length places + c) h in let low = within a m ea in absurd (omega (arith, one, low))
-  apart_by a c None ea (Some m) fa None ec (Some k) fc h =
-      let one : m ≡ k = eqb-true m k h in
-      same-some a c (sym (number_there homes a m fa) ∙ (ap (slice_get homes) one ∙ number_there homes c k fc))
+  apart_by a c None ea (Some m) fa None ec (Some k) fc h = search (std_rules, eqb-true m k h, number_there homes a m fa, number_there homes c k fc)
   apart_by a c None ea None fa (Some k) ec hc fc h = let one = eqb-true (length places + a) k h in let low = within c k ec in absurd (omega (arith, one, low))
   apart_by a c None ea None fa None ec None fc h = let one = eqb-true (length places + a) (length places + c) h in omega (arith, one)
   apart_by a c _ ea _ fa _ ec _ fc h = no_true h
@@ -142,11 +125,8 @@ module _ (places homes : List ℕ) where
 
   -- the owner of a place that is met
   pub owner_met : (q : ℕ) → Contains places q ⊎ Contains homes q → owner_in places homes q ≡ owner_of places homes q
-  owner_met q (inl among) = let given = number_given places q among in ap (λ o. option_map_or as_interface o (option_map_or as_world (number_in homes q) owner.None)) given.1 ∙ sym
-      (ap (λ o. owner_by o (number_in homes q) q) given.1)
-  owner_met q (inr among) =
-      let given = number_given homes q among in
-      ap (λ o. option_map_or as_interface (number_in places q) (option_map_or as_world o owner.None)) given.1 ∙ sym (ap (λ o. owner_by (number_in places q) o q) given.1)
+  owner_met q (inl among) = search (std_rules, number_given places q among)
+  owner_met q (inr among) = search (std_rules, number_given homes q among)
 
 -- ---- owners of places that are met
 

@@ -1,7 +1,7 @@
 -- What is known of a plan that was made of what was followed: where names are shown, and the interface of each place.
-use Rattle.plan_meaning.specs.{Renumbering.IsPart, Renumbering.a_primitive, Renumbering.a_shape, Plan.Plan, Plan.PlannedInterface, Plan.interface_in, FollowedNumbers.IsPartIn, NumberedViews.NumberedSight, NumberedViews.Tables, NumberedViews.first_at, NumberedViews.path_at, NumberedWorlds.HasPath, PlanRules.has_name, Shapes.named_shape}
+use Rattle.plan_meaning.specs.{Renumbering.IsPart, Plan.Plan, Plan.PlannedInterface, Plan.interface_in, FollowedNumbers.IsPartIn, NumberedViews.NumberedSight, NumberedViews.Tables, NumberedViews.first_at, NumberedViews.path_at, NumberedWorlds.HasPath, PlanRules.has_name, Shapes.named_shape}
 use Rattle.plan_meaning.specs.NumberedMembers.{Homes, NumberedMember, NumberedPart, home_at, interface, world}
-use Rattle.std.proofs.Common.{◌≡◌, refl, sym, ap, subst, ◌∙◌, ℕ, zero, suc, ◌⊎◌, inl, inr, arith, Bool, true, false, ◌==◌, cond, List, [], ◌∷◌, Some, None, option_map, is_some, slice_get, ◌+◌, Option}
+use Rattle.std.proofs.Common.{rules as std_rules, ◌≡◌, refl, sym, ap, subst, ◌∙◌, ℕ, zero, suc, ◌⊎◌, inl, inr, arith, Bool, true, false, ◌==◌, cond, List, [], ◌∷◌, Some, None, option_map, is_some, slice_get, ◌+◌}
 use Rattle.std.specs.{List.Contains, List.find, List.flat_map, Option.option_map_or}
 use Rattle.wit_model.specs.Text.{Text}
 use Rattle.wit_model.proofs.Elements.{contains-flat, none-in}
@@ -32,19 +32,11 @@ found_there {A = A} test (z ∷ xs) x c h = by (test z) refl (λ later. found_th
 
 -- a part that is kept has its number
 pub kept_number : (kept : List ℕ) (k n j : ℕ) → k ≡ 14 + n → IsPart kept k (14 + j) → slice_get kept j ≡ Some n
-kept_number kept k n j is (a_primitive low e) = absurd (omega (arith, is, low))
-kept_number kept k n j is (a_shape m i at stands e) =
-    let number : m ≡ n = omega (arith, is, at) in
-    let place : i ≡ j = omega (arith, e) in
-    ap (slice_get kept) (sym place) ∙ (stands ∙ ap Some number)
+kept_number kept k n j is x = search std_rules
 
 -- what has a home has a path
 pub path_given : (t : Tables) (h : Homes) → ((q : ℕ) → path_at t q ≡ None → home_at h q ≡ None) → (q : ℕ) (x : ℕ × Text) → home_at h q ≡ Some x → HasPath t q
-path_given t h alone q x home = by (path_at t q) refl
-  where
-    by : (o : Option Text) → path_at t q ≡ o → HasPath t q
-    by (Some path) e = (path, e)
-    by None e = let wrong : None ≡ Some x = sym (alone q e) ∙ home in absurd cc
+path_given t h alone q x home = search std_rules
 
 -- ---- places of views
 

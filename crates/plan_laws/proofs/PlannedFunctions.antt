@@ -1,6 +1,6 @@
 -- All functions of a whole plan are those that were read, each in its own place.
 use Rattle.plan_laws.proofs.{ListedFunctions.function_of_view, FirstViews.first_is, FirstViews.view_names, WholeFunctions.world_functions_are_read, InstanceSeen.shown_so, Sources.partner_back, Sources.member_view_in, PlaceNumbers.owner_numbered, PlaceNumbers.place_number, InterfaceFunctions.view_function, Planned.first_there, ShownRules.all_of, WorldKeys.planned_worlds_stand}
-use Rattle.std.proofs.Common.{◌≡◌, refl, sym, ap, subst, ◌∙◌, ℕ, true, false, List, Some}
+use Rattle.std.proofs.Common.{rules as std_rules, ◌≡◌, refl, sym, ap, subst, ◌∙◌, ℕ, true, false, List, Some}
 use Rattle.std.specs.List.{AllByRecursion, Contains}
 use Rattle.wit_model.specs.{Text.Text, Valid.as_interface, Valid.as_world}
 use Rattle.plan_meaning.specs.{GatheredPlan.functions_seen, NumberedMembers.Homes, NumberedMembers.NumberedMember, NumberedMembers.home_at, NumberedRules.Fact, PlanRules.functions_of, PlanRules.world_functions, ReadFunctions.Beside, ReadFunctions.IsReadFunction}
@@ -78,9 +78,4 @@ module _ (t : Tables) (h : Homes) (ms : List Member) (members : List reads.Membe
       (world_functions_are_read t h ms members ruled main p planned whole known from.0 (get-contains (worlds_in ms) n from.0 from.1) x from.2)
 
 pub planned_functions_are_read : PlannedFunctionsAreRead
-planned_functions_are_read t h ms members ruled alike ordered apart main p planned whole known =
-    record {
-      of_interfaces = interfaces_read t h ms members ruled alike ordered apart main p planned whole known;
-      of_worlds =
-          worlds_read t h ms members ruled alike ordered apart main p planned whole known;
-    }
+planned_functions_are_read t h ms members ruled alike ordered apart main p planned whole known = search (std_rules, interfaces_read, worlds_read)

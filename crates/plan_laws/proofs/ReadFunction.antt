@@ -1,5 +1,5 @@
 -- A function of a plan is one that was read, where its resources are types of the plan.
-use Rattle.std.proofs.Common.{◌≡◌, refl, sym, ap, ◌∙◌, ℕ, ◌<◌, arith, min, Bool, true, false, List, [], ◌∷◌, length, Option, Some, None, slice_get}
+use Rattle.std.proofs.Common.{rules as std_rules, ◌≡◌, refl, sym, ◌∙◌, ℕ, ◌<◌, arith, min, Bool, true, false, List, length, Option, Some, None, slice_get}
 use Rattle.std.proofs.lemmas.{Option.slice_get_within, Slice.Zip.AllZip-long as zip_length}
 use Rattle.std.specs.List.{list_any}
 use Rattle.wit_model.specs.declared.model.{FunctionKind.FunctionKind, TypeId.TypeId, TypeOwner.TypeOwner}
@@ -19,7 +19,7 @@ use Rattle.plan_types.specs.{Showings.NumberedShowing, PlannedTypes.PlansType}
 use Rattle.plan_package.specs.PlanWhole.{PlansWhole, owners_in, places_in, shown_first}
 use Rattle.plan_laws.specs.{Owners.homes_in, Owners.owners_of, ShownNames.IsInput}
 use Rattle.plan_laws.proofs.{Owned.planned_name, Owned.seen_from, PlaceNumbers.owner_met, Planned.name_met, ShownRules.signature_of}
-use Rattle.base_lemmas.proofs.{Bools.and-true as and_true, Lists.within_there as slice_there}
+use Rattle.base_lemmas.proofs.{Lists.within_there as slice_there}
 use Rattle.plan_type_laws.proofs.PartPlaces.{parts_weaker}
 use Rattle.comp_meaning.specs.Reads as reads
 use Rattle.comp_meaning.specs.Rules as rules
@@ -46,16 +46,7 @@ module _ (t : Tables) (q : ℕ) where
   }
 
   pub is_told : (k : ℕ) → IsPart t k → IsSeenFrom t q k → IsKnown t told q k
-  is_told k part seen = record {
-    part = part;
-    tells = record {
-      levels = refl;
-      part = and_true (rules.is_part (place_at t q) (tree_at t k));
-      labels = λ form ts e. ap labels_good e;
-      parts = λ form ts e. and_true (parts_good (tree_at t k)) ∙ ap parts_good e;
-    };
-    seen = seen;
-  }
+  is_told k part seen = search std_rules
 
 -- ---- kinds, whatever is known of the parts
 
@@ -64,12 +55,10 @@ module _ (t : Tables) (a b : ℕ → Fact) (kept : List ℕ) (p : Plan) (o : Typ
   same_resource name n is = record { shape = is.shape; stands = is.stands; shape_is = is.shape_is; type_ = is.type_; there = is.there; named = is.named; kind = is.kind; owned = is.owned }
 
   same_begins : (r : Text) (ps : List (Text × ℕ)) → begins_with_self t a q r ps ≡ true → begins_with_self t b q r ps ≡ true
-  same_begins r [] h = h
-  same_begins r (x ∷ xs) h = h
+  same_begins r x h = search std_rules
 
   same_constructs : (r : Text) (o : Option ℕ) → constructs t a q r o ≡ true → constructs t b q r o ≡ true
-  same_constructs r None h = h
-  same_constructs r (Some k) h = h
+  same_constructs r x h = search std_rules
 
   pub same_kind : (name : Text) (f : FunctionShape) (kind : FunctionKind) → IsKindOf t a kept p o q name f kind → IsKindOf t b kept p o q name f kind
   same_kind name f kind (of_none label none) = of_none label none

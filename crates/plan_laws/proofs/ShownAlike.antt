@@ -1,12 +1,12 @@
 -- A type is declared as one and the same wherever it is shown, and views of a place that show functions show the same ones.
-use Rattle.std.proofs.Common.{◌≡◌, refl, sym, ap, subst, ◌∙◌, zero, suc, arith, true, not, ◌&&◌, ◌||◌, ◌==◌, List, [], ◌∷◌, length, map, ℕ, ◌++◌, Option, Some, None}
-use Rattle.std.proofs.lemmas.{Bool.and_from, Bool.eq-eqb, Bool.eqb-true, Bool.and_from as both, Slice.Eq.bytes_eq-Decides}
+use Rattle.std.proofs.Common.{rules as std_rules, ◌≡◌, refl, sym, ap, subst, ◌∙◌, zero, suc, arith, true, ◌&&◌, ◌==◌, List, [], ◌∷◌, length, map, ℕ, ◌++◌, Option, Some, None}
+use Rattle.std.proofs.lemmas.{Bool.eq-eqb, Bool.eqb-true, Bool.and_from as both, Slice.Eq.bytes_eq-Decides}
 use Rattle.std.specs.{Bool.Decides, List.Contains, List.list_all, List.list_any}
 use Rattle.wit_model.specs.Text.{Text, text_eq}
 use Rattle.wit_model.proofs.{Elements.none-in, TextLemmas.text_same}
 use Rattle.comp_meaning.specs.{Rules.distinct, Same.stand_in}
 use Rattle.comp_meaning.proofs.{FunctionLists.both_ways, AgreementLaws.distinct_behind}
-use Rattle.plan_meaning.specs.NumberedViews.{NumberedFunction, NumberedSight, agree, agree_in_numbers, same_function, same_functions, same_id, same_types, same_whole, NumberedType, NumberedView, Tables, function_at, path_at}
+use Rattle.plan_meaning.specs.NumberedViews.{NumberedFunction, NumberedSight, agree, agree_in_numbers, same_function, same_functions, same_id, NumberedType, NumberedView, Tables, function_at, path_at}
 use Rattle.plan_meaning.specs.FollowedNumbers.{IsShownIn, IsViewIn}
 use Rattle.plan_meaning.specs.NumberedMembers.{Homes, NumberedMember, sights_of_members}
 use Rattle.plan_meaning.specs.NumberedRules.{Fact, is_function, is_interface, is_type, resources_of}
@@ -55,10 +55,7 @@ stands_there fs gs h f c =
 
 -- what agreement says of functions
 whole_same : (a b : NumberedSight) → agree a b ≡ true → a.place ≡ b.place → a.whole ≡ true → b.whole ≡ true → same_functions a.view.functions b.view.functions ≡ true
-whole_same a b h e p q =
-    let rest = second_true (same_types a b) (not (a.whole && b.whole) || same_whole a b)
-    (sym (ap (λ c. not c || (same_types a b && (not (a.whole && b.whole) || same_whole a b))) (eq-eqb a.place b.place e)) ∙ h) in
-    sym (ap (λ c. not c || same_whole a b) (and_from a.whole b.whole p q)) ∙ rest
+whole_same a b h e p q = search std_rules
 
 module _ (a b : NumberedSight) (agrees : agree a b ≡ true) (place : a.place ≡ b.place) (a_whole : a.whole ≡ true) (b_whole : b.whole ≡ true) (f : Text × NumberedFunction) where
   forth : Contains a.view.functions f → Contains b.view.functions f

@@ -1,5 +1,5 @@
 -- Each name that the types of a plan use is shown in its own place.
-use Rattle.std.proofs.Common.{◌≡◌, sym, subst, ℕ, ◌⊎◌, inl, inr, List, map, Some, slice_get}
+use Rattle.std.proofs.Common.{rules as std_rules, ◌≡◌, sym, subst, ℕ, ◌⊎◌, inl, inr, List, map, Some, slice_get}
 use Rattle.std.proofs.lemmas.List.Elements.{Contains-append_cases}
 use Rattle.std.specs.List.{Contains, flat_map}
 use Rattle.wit_model.specs.Text.{Text}
@@ -113,5 +113,4 @@ module _ (t : Tables) (h : Homes) (ms : List Member) (members : List reads.Membe
 
 pub names_are_shown : UsedNamesAreShown
 names_are_shown t h ms members input marks used n q name is at =
-    let root = used_inside t (used_parts t (showings_of_members ms) (signatures_of_members ms)) marks used n ((used.marked n).0 is) in
-    used_shows t h ms members input n q name at root.0 root.1 root.2
+    search (std_rules, used_inside t (used_parts t (showings_of_members ms) (signatures_of_members ms)) marks used n ((used.marked n).0 is), used_shows t h ms members input n q name)

@@ -1,6 +1,6 @@
 -- What is shown obeys the rules of reading.
 use Rattle.std.proofs.lemmas.{Slice.Eq.bytes_eq-Decides, List.Elements.Contains-append_cases}
-use Rattle.std.proofs.Common.{◌≡◌, refl, sym, ap, subst, ◌∙◌, ℕ, zero, suc, ◌+◌, ◌⊎◌, inl, inr, arith, Bool, true, false, ◌&&◌, ◌||◌, List, [], ◌∷◌, ◌++◌, map, Option}
+use Rattle.std.proofs.Common.{rules as std_rules, ◌≡◌, refl, sym, ap, subst, ◌∙◌, ℕ, zero, suc, ◌+◌, ◌⊎◌, inl, inr, arith, Bool, true, false, ◌&&◌, ◌||◌, List, [], ◌∷◌, ◌++◌, map, Option}
 use Rattle.std.specs.List.{AllByRecursion, Contains, list_all, list_any}
 use Rattle.wit_model.specs.{Names.is_label, Meaning.FunctionMeaning, Meaning.Signature, Text.Text, Text.text_eq, Tree.Place, Tree.Declaration}
 use Rattle.wit_model.proofs.Elements.{none-in}
@@ -126,21 +126,12 @@ one_way ((export_, y) ∷ seen) x (zero, low, e) = inr (0, omega arith, e)
 one_way ((import_, y) ∷ seen) x (suc i, low, e) = elim (one_way seen x (i, omega (arith, low), e)) [ inl h ↦ inl (contains-later y (going import_ seen) x h) | inr h ↦ inr h ]
 one_way ((export_, y) ∷ seen) x (suc i, low, e) = elim (one_way seen x (i, omega (arith, low), e)) [ inl h ↦ inl h | inr h ↦ inr (contains-later y (going export_ seen) x h) ]
 
-two_of : (a b c d e : Bool) → (a && b && c && d && e) ≡ true → (a ≡ true) × (b ≡ true)
-two_of true true c d e h = (refl, refl)
-two_of _ _ c d e h = absurd cc
-
 pub record WorldObeys (scope : follow.Scope) : Type 0 where
   pub imports : rules.are_imports [] scope.imports ≡ true
   pub exports : list_all (λ (s : follow.Seen). rules.is_item [] s.key s.shown) scope.exports ≡ true
 
 pub world_obeys : (scope : follow.Scope) → rules.is_world scope ≡ true → WorldObeys scope
-world_obeys scope h =
-    let both =
-    two_of (rules.are_imports [] scope.imports) (list_all (λ (s : follow.Seen). rules.is_item [] s.key s.shown) scope.exports) (distinct (map (λ (s : follow.Seen). s.key) scope.imports))
-    (distinct (map (λ (s : follow.Seen). s.key) scope.exports))
-    (rules.stand_earlier [] (scope.imports ++ scope.exports)) h in
-    record { imports = both.0; exports = both.1 }
+world_obeys scope h = search std_rules
 
 pub instances_obey : (scope : follow.Scope) → WorldStands scope → (x : Instance) → Contains scope.instances x → InstanceObeys x
 instances_obey scope stands x c = by (one_way stands.seen.seen x (subst (λ xs. Contains xs x) (sym stands.seen.all) c))

@@ -1,38 +1,32 @@
 -- The worlds of a plan show what worlds at the top do, and each view shows the types by which its place is read.
-use Rattle.plan_laws.proofs.{ShownFrom.own_once, Inside.flat_cases, InstanceSeen.instance_seen, Planned.found_there, Sources.Side, Sources.partner, Sources.world_in as world_of, PlaceNumbers.one_owner, PlaceNumbers.owner_numbered, FirstTypes.views_told, FirstViews.first_is, FirstViews.told_types, WholePlacesLabels.world_among, WholeTypes.packages_are_ruled}
-use Rattle.std.proofs.Common.{◌≡◌, refl, sym, ap, subst, ◌∙◌, ℕ, inl, inr, ◌==◌, true, List, [], ◌∷◌, ◌++◌, map, Option, Some, None}
+use Rattle.plan_laws.proofs.{ShownFrom.own_once, Inside.flat_cases, InstanceSeen.instance_seen, Planned.found_there, Sources.Side, Sources.partner, Sources.world_in as world_of, PlaceNumbers.one_owner, FirstTypes.views_told, FirstViews.first_is, FirstViews.told_types, WholePlacesLabels.world_among, WholeTypes.packages_are_ruled}
+use Rattle.std.proofs.Common.{rules as std_rules, ◌≡◌, refl, sym, ap, subst, ◌∙◌, ℕ, inl, inr, ◌==◌, true, List, [], ◌++◌, map, Option, Some, None}
 use Rattle.std.proofs.lemmas.{List.Elements.Contains-append_left, List.Elements.Contains-append_right, Option.same_Some as same-some}
 use Rattle.std.specs.{List.AllByRecursion, List.AllZip, List.Contains, Option.option_map_or, Cmp.Lexicographic.pointwise}
 use Rattle.wit_model.specs.{Text.Text, Valid.as_interface, Valid.as_world}
 use Rattle.wit_model.specs.declared.model.{TypeId.TypeId, TypeOwner.TypeOwner}
-use Rattle.wit_model.proofs.Elements.{contains-flat, contains-get, none-in}
+use Rattle.wit_model.proofs.Elements.{contains-flat, contains-get}
 use Rattle.plan_meaning.specs.NumberedMembers.{Homes, NumberedMember, NumberedPart, home_at, interface, sights_of_members, sights_of_part, world}
-use Rattle.plan_meaning.specs.{NumberedRules.Fact, ReadWholes.IsShownByWorld, ReadWholes.place_shown, NumberedViews.NumberedSight, NumberedViews.Tables, NumberedViews.path_at, NumberedViews.same_shown, ReadFunctions.Beside, NumberedWorlds.NumberedInstance, NumberedWorlds.place_of_key, NumberedWorlds.sights_of_instance, ReadPlans.IsReadPlan}
+use Rattle.plan_meaning.specs.{NumberedRules.Fact, ReadWholes.IsShownByWorld, ReadWholes.place_shown, NumberedViews.NumberedSight, NumberedViews.Tables, NumberedViews.same_shown, ReadFunctions.Beside, NumberedWorlds.NumberedInstance, NumberedWorlds.sights_of_instance, ReadPlans.IsReadPlan}
 use Rattle.plan_meaning.specs.Plan.{Plan, PlannedItem, PlannedKey, PlannedWorld, item_interface, world_in}
 use Rattle.plan_meaning.specs.ReadWorlds.{IsReadItem, IsReadWorld, ReadItem, a_function, a_type, by_label, by_path, implementing_path}
 use Rattle.read_exports.specs.Members.{numbered_members}
 use Rattle.read_exports.specs.declared.members.Member.{Member}
 use Rattle.read_rules.specs.declared.scopes.{Scope.Scope, Seen.Seen}
-use Rattle.read_rules.specs.Scopes.{numbered_key, numbered_scope, numbered_shown}
-use Rattle.plan_types.specs.PlannedTypes.{number_in}
+use Rattle.read_rules.specs.Scopes.{numbered_scope, numbered_shown}
 use Rattle.plan_package.specs.{PlanWhole.PlansWhole, PlanWhole.places_in, WholeWorlds.PlansItem, WholeWorlds.PlansWorld, WholeWorlds.worlds_in}
 use Rattle.plan_package.specs.Views.{views_of_members, views_of_part, whole_view}
 use Rattle.plan_laws.specs.{FirstViews.ViewsAreOrdered, ShownWhole.WholeIsShown, ViewedInterfaces.views_read, Whole.IsPackageInput, WholeTypes.IsRuledInput}
 use Rattle.plan_laws.specs.Owners.{owners_of}
-use Rattle.base_lemmas.proofs.Elements.{all_at, contains-map, last_of as one-contained, zip_at, map_from as from_map}
+use Rattle.base_lemmas.proofs.Elements.{all_at, contains-map, zip_at, map_from as from_map}
 use Rattle.base_lemmas.proofs.Numbers.{same-number}
 use Rattle.comp_meaning.specs.Reads as reads
 use Rattle.plan_meaning.specs.Plan as plan
 use Rattle.read_exports.specs.declared.members.Part.TheVariants as parts
-use Rattle.plan_package.specs.WholeWorlds as items
 
 -- the view that an instance gives, if its place has a path
 pub view_given : (t : Tables) (i : NumberedInstance) (s : NumberedSight) → Contains (sights_of_instance t i) s → whole_view i ≡ s
-view_given t i s c = by (path_at t i.place) c
-  where
-    by : (o : Option Text) → Contains (option_map_or (λ (path : Text). whole_view i ∷ []) o []) s → whole_view i ≡ s
-    by None there = none-in s there
-    by (Some path) there = one-contained (whole_view i) s there
+view_given t i s c = search std_rules
 
 -- a view with a path that is seen is one of all
 pub sight_viewed : (t : Tables) (ms : List NumberedMember) (s : NumberedSight) → Contains (sights_of_members t ms) s → Contains (views_of_members ms) s
@@ -96,16 +90,9 @@ module _ (t : Tables) (h : Homes) (known : ℕ → Fact) (n : ℕ) (ms : List Me
     own : b.owners q ≡ as_interface number
     is : item_interface e.1 ≡ Some number
 
-  owned_as : (q k : ℕ) → number_in (places_in ms) q ≡ Some k → b.owners q ≡ as_interface k
-  owned_as q k e = ap (λ (f : ℕ → TypeOwner). f q) owned ∙ owner_numbered ms q k e
-
   planned_as : (find : Text → Option TypeId) (s : Seen) (e : PlannedKey × PlannedItem) (q : ℕ) → PlansItem t planned.kept (places_in ms) find s e → place_shown (numbered_shown s.shown) ≡ Some q
       → IsPlannedAs q e
-  planned_as find s e q (items.an_instance key v shows is) at =
-      let place : place_of_key (numbered_key key) ≡ q = same-some (place_of_key (numbered_key key)) q (sym (ap (λ k. place_shown (numbered_shown k)) shows) ∙ at) in
-      record { number = is.number; own = owned_as q is.number (ap (number_in (places_in ms)) (sym place) ∙ is.found); is = ap (λ (x : PlannedKey × PlannedItem). item_interface x.1) is.is }
-  planned_as find s e q (items.a_function f shows key is) at = let wrong : ◌≡◌ {A = Option ℕ} None (Some q) = sym (ap (λ k. place_shown (numbered_shown k)) shows) ∙ at in absurd cc
-  planned_as find s e q (items.a_type part d k shows entry is) at = let wrong : ◌≡◌ {A = Option ℕ} None (Some q) = sym (ap (λ k. place_shown (numbered_shown k)) shows) ∙ at in absurd cc
+  planned_as find s e q y at = search std_rules
 
   -- what a list of imports or exports is read as shows the place
   listed_shows : (find : Text → Option TypeId) (o : TypeOwner) (home : ℕ) (ss : List Seen) (es : List (PlannedKey × PlannedItem)) → AllZip (PlansItem t planned.kept (places_in ms) find) ss es
@@ -145,8 +132,4 @@ module _ (t : Tables) (h : Homes) (known : ℕ → Fact) (n : ℕ) (ms : List Me
               shown_by y.0 (Contains-append_right r.imports r.exports y.0 y.1) y.2
 
 pub whole_is_shown : WholeIsShown
-whole_is_shown t h known n ms members given ordered reached p planned b owned read = record {
-  worlds = λ m c w is i among path. worlds_show t h known n ms members given ordered p planned b owned read m c w is i among;
-  agree = views_agree t h known n ms members given ordered p planned b owned read;
-  reached = reached;
-}
+whole_is_shown t h known n ms members given ordered reached p planned b owned read = search (std_rules, worlds_show, views_agree)

@@ -1,5 +1,5 @@
 -- Where what is shown stands: a type in a view or as an import of a world, and a function in a whole view or in a world.
-use Rattle.std.proofs.Common.{◌≡◌, refl, sym, ap, subst, ◌∙◌, ℕ, suc, ◌⊎◌, inl, inr, true, false, List, [], ◌∷◌, ◌++◌, map, Option, Some, None, slice_get}
+use Rattle.std.proofs.Common.{rules as std_rules, ◌≡◌, refl, sym, ap, subst, ◌∙◌, ℕ, suc, ◌⊎◌, inl, inr, true, false, List, [], ◌∷◌, ◌++◌, map, Option, Some, slice_get}
 use Rattle.std.proofs.lemmas.List.Elements.{Contains-append_cases, Contains-append_left, Contains-append_right}
 use Rattle.std.proofs.lemmas.Option.{same_Some as same-some}
 use Rattle.std.specs.{Borrow.Bor, List.AllByRecursion, List.AllZip, List.Contains, List.flat_map}
@@ -61,8 +61,7 @@ one_under key xs apart a b c d e =
     same-some a b (sym i.1 ∙ (ap (slice_get xs) same ∙ j.1))
 
 pub if_given : (P Q : ℕ → Type 0) → ((k : ℕ) → P k → Q k) → (d : Option ℕ) → AllOf P d → AllOf Q d
-if_given P Q one None given = tt
-if_given P Q one (Some k) given = one k given
+if_given x y one z given = search std_rules
 
 -- what stands beside an element
 pub partner : {A B : Type 0} (P : A → B → Type 0) (xs : List A) (ys : List B) → AllZip P xs ys → (x : A) → Contains xs x → (y : B) × Contains ys y × P x y

@@ -1,7 +1,7 @@
 -- What a place is read by obeys the rules on interfaces.
-use Rattle.std.proofs.Common.{◌≡◌, refl, sym, ap, subst, ◌∙◌, ℕ, suc, zero, ◌+◌, ◌⊎◌, inl, inr, arith, Bool, true, false, if◌then◌else◌, List, [], ◌∷◌, length, map, Option, Some, None, slice_get, ◌&&◌, ◌==◌, ◌++◌}
+use Rattle.std.proofs.Common.{rules as std_rules, ◌≡◌, refl, sym, ap, subst, ◌∙◌, ℕ, suc, zero, ◌+◌, ◌⊎◌, inl, inr, arith, Bool, true, false, if◌then◌else◌, List, [], ◌∷◌, length, map, Option, Some, None, slice_get, ◌&&◌, ◌==◌, ◌++◌}
 use Rattle.std.proofs.lemmas.{Bool.eqb-true, List.append-nil}
-use Rattle.std.specs.{List.Contains, List.list_all, Option.option_map_or}
+use Rattle.std.specs.{List.Contains, List.list_all}
 use Rattle.wit_model.specs.{Text.Text, Tree.Place, Meaning.FunctionMeaning, Names.is_label}
 use Rattle.wit_model.proofs.Elements.{contains-get, none-in, contains-has}
 use Rattle.comp_meaning.specs.Follow.{Instance, ShownType, place_of}
@@ -9,11 +9,11 @@ use Rattle.comp_meaning.specs.Rules.{distinct, is_declared, is_function, is_reso
 use Rattle.read_shown.specs.{Scopes.IsShownBefore, Trees.DeclarationStands}
 use Rattle.read_shown.specs.Views.{IsMetInView, ShowsName, ViewStands, inside as met_inside, outside as met_outside}
 use Rattle.plan_meaning.specs.FollowedNumbers.{IsCalledIn, IsMetFrom, IsNameOf, IsShownIn, IsSlotOf, IsViewIn}
-use Rattle.plan_meaning.specs.{NumberedRules.is_form, NumberedRules.shape_at, Shapes.Shape, Shapes.named_shape, GatheredPlan.functions_seen}
+use Rattle.plan_meaning.specs.{Shapes.named_shape, GatheredPlan.functions_seen}
 use Rattle.plan_meaning.specs.NumberedWorlds.{HasPath}
 use Rattle.plan_meaning.specs.NumberedViews.{AllOf, AreTables, FunctionShape, IsPart, NumberedFunction, NumberedSight, NumberedType, PartsOf, Tables, declaration_of, function_at, path_at, place_at, shown_function, shown_type, view_of}
 use Rattle.plan_parts.specs.Interfaces.{slot_part}
-use Rattle.plan_types.specs.Used.{declared_parts, form_parts, signature_parts}
+use Rattle.plan_types.specs.Used.{declared_parts, signature_parts}
 use Rattle.plan_type_laws.proofs.{ShownRules.numbered_shape, ShownRules.function_part, PartPlaces.parts_weaker, PartPlaces.slot_number}
 use Rattle.plan_laws.specs.{ShownNames.ShowsNumber, FirstViews.told}
 use Rattle.plan_laws.proofs.{Inside.IsIn, Inside.inside, Inside.name_alone, Inside.name_in, Inside.name_same, MetNames.in_declared, MetNames.in_signature}
@@ -32,16 +32,7 @@ part_of_function P f all k c = function_part P f all k (contains-has (signature_
 
 -- what is declared where one of its parts is used
 pub declared_inside : (t : Tables) (n : ℕ) (d : Option ℕ) (k : ℕ) → Contains (declared_parts t d) k → IsIn t.shapes k n → (j : ℕ) × (d ≡ Some j) × IsIn t.shapes j n
-declared_inside t n None k c found = none-in k c
-declared_inside t n (Some j) k c found = by (is_form t j) c
-  where
-    formed : (o : Option Shape) → shape_at t j ≡ o → Contains (option_map_or (λ (s : Shape). s.parts) o []) k → (i : ℕ) × (Some j ≡ Some i) × IsIn t.shapes i n
-    formed None e among = none-in k among
-    formed (Some s) e among = let at = numbered_shape t j s e in (j, refl, inside j at.0 k n s at.1 at.2 among found)
-
-    by : (b : Bool) → Contains (if b then form_parts t j else j ∷ []) k → (i : ℕ) × (Some j ≡ Some i) × IsIn t.shapes i n
-    by true among = formed (shape_at t j) refl among
-    by false among = (j, refl, subst (λ i. IsIn t.shapes i n) (sym (one-contained j k among)) found)
+declared_inside t n x k c found = search (std_rules, none-in, IsIn, numbered_shape, inside, one-contained)
 
 -- ---- places
 
@@ -50,8 +41,7 @@ text_of_place Place.here = None
 text_of_place (Place.of_interface path) = Some path
 
 pub path_back : (o : Option Text) → text_of_place (place_of o) ≡ o
-path_back None = refl
-path_back (Some path) = refl
+path_back x = search std_rules
 
 module _ (t : Tables) (tables : AreTables t) where
   abbrev pub instance_tree : NumberedSight → Instance
@@ -179,28 +169,17 @@ module _ (t : Tables) (place : Place) where
   names_differ ts fs = distinct (map (λ (x : ShownType). x.name) ts ++ map (λ (f : Text × FunctionMeaning). f.0) fs)
 
   third : (a b c : Bool) → (a && b && c) ≡ true → (a ≡ true) × (b ≡ true) × (c ≡ true)
-  third true true c h = (refl, refl, h)
-  third _ _ c h = let wrong : false ≡ true = h in absurd cc
+  third x y c h = search std_rules
 
   three : (a b c : Bool) → a ≡ true → b ≡ true → c ≡ true → (a && b && c) ≡ true
-  three true true c h k l = l
-  three true false c h k l = let wrong : false ≡ true = k in absurd cc
-  three false b c h k l = let wrong : false ≡ true = h in absurd cc
+  three x b c h k l = search std_rules
 
   abbrev obeys : List NumberedType → List (Text × NumberedFunction) → Bool
   obeys xs fs = rules.is_interface place (view_of t (record { types = xs; functions = fs }))
 
   -- the types of one view with the functions of another, which tells the same of types
   joined_obeys : (xs ys : List NumberedType) (gs fs : List (Text × NumberedFunction)) → map told xs ≡ map told ys → obeys xs gs ≡ true → obeys ys fs ≡ true → obeys xs fs ≡ true
-  joined_obeys xs ys gs fs same first whole =
-      let ts = map (shown_type t) xs in
-      let us = map (shown_type t) ys in
-      let ms = map (shown_function t) fs in
-      let one = third (types_pass ts) (functions_pass ts (map (shown_function t) gs)) (names_differ ts (map (shown_function t) gs)) first in
-      let two = third (types_pass us) (functions_pass us ms) (names_differ us ms) whole in
-      three (types_pass ts) (functions_pass ts ms) (names_differ ts ms) one.0
-      (ap (λ rs. list_all (λ (f : Text × FunctionMeaning). is_function place rs f.0 f.1.signature) ms) (same_resources xs ys same) ∙ two.1)
-      (ap (λ ns. distinct (ns ++ map (λ (f : Text × FunctionMeaning). f.0) ms)) (same_names xs ys same) ∙ two.2)
+  joined_obeys xs ys gs fs same first whole = search (std_rules, third, three, same_resources, same_names)
 
   -- the types of a view alone
   types_obey : (xs : List NumberedType) (gs : List (Text × NumberedFunction)) → obeys xs gs ≡ true → obeys xs [] ≡ true

@@ -1,6 +1,6 @@
 -- Each interface of the plan is read by the first view of its place.
 use Rattle.plan_type_laws.proofs.PartPlaces.{slot_number}
-use Rattle.std.proofs.Common.{◌≡◌, refl, sym, ap, subst, ◌∙◌, ℕ, suc, ◌<◌, ◌⊎◌, inl, inr, arith, true, List, [], ◌∷◌, ◌++◌, length, map, Option, Some, None, option_map, slice_get}
+use Rattle.std.proofs.Common.{rules as std_rules, ◌≡◌, refl, sym, ap, subst, ◌∙◌, ℕ, suc, ◌<◌, ◌⊎◌, inl, inr, arith, true, List, [], ◌∷◌, ◌++◌, length, map, Option, Some, None, option_map, slice_get}
 use Rattle.std.proofs.{lemmas.List.Elements.Contains-append_left, ByRecursion.All-weaker as recursion_weaker, lemmas.Slice.Zip.AllZip-long as zip_length}
 use Rattle.std.proofs.lemmas.Option.{slice_get_within}
 use Rattle.std.specs.{List.AllZip, List.Contains, List.flat_map, Option.option_map_or}
@@ -66,8 +66,7 @@ module _ (t : Tables) (h : Homes) (ms : List Member) (members : List reads.Membe
   places_of_all : (xs : List NumberedMember)
       → map (λ (s : NumberedSight). s.place) (flat_map (λ (m : NumberedMember). views_of_part m.part) xs) ≡ flat_map (λ (m : NumberedMember). places_of_part m.part) xs
   places_of_all [] = refl
-  places_of_all (m ∷ xs) = append_of_map (λ (s : NumberedSight). s.place) (views_of_part m.part) (flat_map (λ (x : NumberedMember). views_of_part x.part) xs)
-      ∙ (λ i. places_of_views m.part i ++ places_of_all xs i)
+  places_of_all (m ∷ xs) = search (std_rules, append_of_map, places_of_views, places_of_all xs)
 
   -- ---- one interface
 

@@ -1,7 +1,7 @@
 -- A plan that was made of what was followed means what that means.
 use Rattle.plan_type_laws.proofs.{PartPlaces.slot_number, InnerForms.name_there, UsedWalk.unnamed_node, FirstFound.firsts_found}
 use Rattle.plan_type_laws.proofs.{ShownMarks.names_marked, ShownRules.form_unnamed, ShownRules.mark_there, ShownRules.numbered_shape, ShownRules.used_form}
-use Rattle.std.proofs.Common.{◌≡◌, refl, sym, ap, subst, ◌∙◌, ℕ, ◌+◌, ◌-◌, ◌<◌, ◌≤◌, ◌⊎◌, inl, inr, arith, Bool, true, false, ◌==◌, nat_lt, cond, List, [], ◌∷◌, length, map, option_to_list, Option, Some, None, slice_get}
+use Rattle.std.proofs.Common.{rules as std_rules, ◌≡◌, refl, sym, ap, subst, ◌∙◌, ℕ, ◌+◌, ◌-◌, ◌<◌, ◌≤◌, ◌⊎◌, inl, inr, arith, Bool, true, false, ◌==◌, nat_lt, cond, List, [], ◌∷◌, length, map, option_to_list, Option, Some, None, slice_get}
 use Rattle.std.proofs.{lemmas.Bool.eq-eqb, lemmas.Bool.ltb-false, lemmas.Bool.ltb-true, ByRecursion.All-weaker as recursion_weaker}
 use Rattle.std.proofs.lemmas.{List.Elements.Contains-append_left, List.Elements.Contains-append_right, Option.slice_get_within, Option.same_Some as same-some}
 use Rattle.std.specs.{Prelude.not, List.AllByRecursion, List.Contains, List.flat_map, List.AllZip, Option.option_map_or}
@@ -122,11 +122,7 @@ module _ (t : Tables) (h : Homes) (known : ℕ → Fact) (n : ℕ) (ms : List Me
 
   -- the parts of a type stand before it
   shape_parts : (m : ℕ) (s : Shape) → slice_get t.shapes m ≡ Some s → AllByRecursion (λ k. k < 14 + m) s.parts
-  shape_parts m s at = by (given.input.tables.shapes.each m s at)
-    where
-      by : IsShape m s → AllByRecursion (λ k. k < 14 + m) s.parts
-      by (shapes.a_name q name e) = subst (λ (x : Shape). AllByRecursion (λ k. k < 14 + m) x.parts) (sym e) tt
-      by (shapes.a_node form ks e low) = subst (λ (x : Shape). AllByRecursion (λ k. k < 14 + m) x.parts) (sym e) low
+  shape_parts m s at = search std_rules
 
   -- ---- what is kept
 
@@ -396,9 +392,7 @@ module _ (t : Tables) (h : Homes) (known : ℕ → Fact) (n : ℕ) (ms : List Me
   }
 
   pub plan_meant : plan_meaning p ≡ reads.package_with input.identity members
-  plan_meant =
-      gathered_package_is_meant t given.input.tables h given.input.homes known n (numbered_members ms) members given.input.shown given.sights given.obeys p gathered
-      ∙ ap (λ (i : PackageIdentity). reads.package_with i members) (same-some gathered.main.identity input.identity (sym gathered.identity ∙ input.stands))
+  plan_meant = search (std_rules, gathered_package_is_meant, gathered, same-some, main)
 
 pub plan_is_whole : PlanIsWhole
 plan_is_whole t h known n ms members given input p planned fits =

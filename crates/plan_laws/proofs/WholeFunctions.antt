@@ -2,7 +2,7 @@
 use Rattle.plan_type_laws.proofs.{PartPlaces.slot_number, FirstFound.firsts_found}
 use Rattle.plan_laws.proofs.Sources.{Side, partner_back, side_good, side_shows, world_in, IsWorldIn}
 use Rattle.plan_laws.proofs.{ShownRules.IsItemAmong, ShownRules.IsResourceIn, ShownRules.item_obeys, WorldKeys.world_member as world_there, Inside.flat_cases, Inside.name_same, Planned.kept_number, ReadFunction.function_becomes, ReadFunction.read_function, ReadFunction.resource_at, ReadFunction.told, Showings.import_named, ShownFrom.IsFrom, ShownFrom.of_import, ShownFrom.of_view, ShownFrom.shown_from, WorldKeys.by_imports, WorldKeys.view_apart}
-use Rattle.std.proofs.Common.{◌≡◌, refl, sym, ap, subst, ◌∙◌, ℕ, zero, ◌+◌, ◌⊎◌, inl, inr, arith, Bool, true, false, filter_map, List, [], ◌∷◌, map, Option, Some, None, slice_get}
+use Rattle.std.proofs.Common.{rules as std_rules, ◌≡◌, refl, sym, ap, subst, ◌∙◌, ℕ, zero, ◌+◌, ◌⊎◌, inl, inr, arith, Bool, true, false, filter_map, List, [], ◌∷◌, map, Option, Some, None, slice_get}
 use Rattle.std.proofs.lemmas.{List.Elements.Contains-append_cases, Option.same_Some as same-some}
 use Rattle.std.specs.List.{AllByRecursion, AllZip, Contains, cons_option, flat_map}
 use Rattle.wit_model.specs.declared.model.{TypeId.TypeId, TypeOwner.TypeOwner}
@@ -41,8 +41,7 @@ all_filtered {X = X} {Y = Y} P f (x ∷ xs) each = by (f x) refl (all_filtered P
     by (Some y) e rest = subst (AllByRecursion P) (ap (λ o. cons_option o (filter_map f xs)) (sym e)) (each x (zero, omega arith, refl) y e, rest)
 
 pub nothing_declared : (d : Option ℕ) → is_no_part d ≡ true → d ≡ None
-nothing_declared None h = refl
-nothing_declared (Some k) h = absurd cc
+nothing_declared x h = search std_rules
 
 module _ (t : Tables) (h : Homes) (ms : List Member) (members : List reads.Member) (ruled : IsRuledInput t h ms members) (main : ℕ) (p : Plan) (planned : PlansWhole t h.packages (home_at h) main ms p) (whole : TypesAreWhole t planned.kept ms p) (known : ℕ → Fact) where
   abbrev input : IsInput t h ms members

@@ -2,7 +2,7 @@
 use Rattle.base_lemmas.proofs.{Bools.first_false, Bools.left_of as first_true, Bools.right_of as second_true, Bools.second_false as later_false, Lists.get_back}
 use Rattle.base_lemmas.proofs.Elements.{contains-one, get-contains, last_of as one-contained}
 use Rattle.std.proofs.lemmas.{Bool.false_from_ne_true, Bool.and_from as both, Bool.not-true as not_true, Slice.Eq.bytes_eq-Decides}
-use Rattle.std.proofs.Common.{◌≡◌, refl, sym, ap, subst, ◌∙◌, ℕ, true, false, List, [], ◌∷◌, ◌++◌, map, not, ◌||◌}
+use Rattle.std.proofs.Common.{rules as std_rules, ◌≡◌, refl, sym, ap, subst, ◌∙◌, ℕ, true, false, List, [], ◌∷◌, map, not}
 use Rattle.std.specs.{Borrow.Bor, List.Contains, List.list_any}
 use Rattle.wit_model.specs.Text.{Text, text_eq}
 use Rattle.wit_model.proofs.Elements.{contains-flat, none-in}
@@ -26,16 +26,13 @@ pub data AreSome : List Text → List Text → Type 0 where
 pub not_some : (x : Text) (xs ys : List Text) → AreSome xs ys → list_any (text_eq x) ys ≡ false → list_any (text_eq x) xs ≡ false
 not_some x xs ys none e = e
 not_some x xs ys (left_out y a b more) e = not_some x a b more (later_false (text_eq x y) (list_any (text_eq x) b) e)
-not_some x xs ys (taken y a b more) e =
-    (λ i. first_false (text_eq x y) (list_any (text_eq x) b) e i || not_some x a b more (later_false (text_eq x y) (list_any (text_eq x) b) e) i)
+not_some x xs ys (taken y a b more) e = search (std_rules, first_false, later_false, not_some x a b more (later_false (text_eq x y) (list_any (text_eq x) b) e))
 
 pub some_differ : (xs ys : List Text) → AreSome xs ys → distinct ys ≡ true → distinct xs ≡ true
 some_differ xs ys none e = e
 some_differ xs ys (left_out y a b more) e = some_differ a b more (second_true (not (list_any (text_eq y) b)) (distinct b) e)
 some_differ xs ys (taken y a b more) e =
-    both (not (list_any (text_eq y) a)) (distinct a)
-    (ap not (not_some y a b more (not_true (list_any (text_eq y) b) (first_true (not (list_any (text_eq y) b)) (distinct b) e))))
-    (some_differ a b more (second_true (not (list_any (text_eq y) b)) (distinct b) e))
+    search (std_rules, both, not_some, not_true, first_true, second_true, some_differ a b more (second_true (not (list_any (text_eq y) b)) (distinct b) e))
 
 -- ---- labels
 
@@ -46,19 +43,11 @@ labels_of ms = map (λ (m : Member). m.label.now) ms
 
 pub interface_labels : (ms : List Member) → AreSome (names_of (interfaces_in ms)) (labels_of ms)
 interface_labels [] = none
-interface_labels (m ∷ ms) = by m.part (interface_labels ms)
-  where
-    by : (a : Part) → AreSome (names_of (interfaces_in ms)) (labels_of ms) → AreSome (names_of (interface_in_part m.label.now a ++ interfaces_in ms)) (m.label.now ∷ labels_of ms)
-    by (parts.World w) rest = left_out m.label.now (names_of (interfaces_in ms)) (labels_of ms) rest
-    by (parts.Interface q v imports) rest = taken m.label.now (names_of (interfaces_in ms)) (labels_of ms) rest
+interface_labels (m ∷ ms) = search (std_rules, left_out, taken, interface_labels ms)
 
 pub world_labels : (ms : List Member) → AreSome (names_of (worlds_in ms)) (labels_of ms)
 world_labels [] = none
-world_labels (m ∷ ms) = by m.part (world_labels ms)
-  where
-    by : (a : Part) → AreSome (names_of (worlds_in ms)) (labels_of ms) → AreSome (names_of (world_in_part m.label.now a ++ worlds_in ms)) (m.label.now ∷ labels_of ms)
-    by (parts.World w) rest = taken m.label.now (names_of (worlds_in ms)) (labels_of ms) rest
-    by (parts.Interface q v imports) rest = left_out m.label.now (names_of (worlds_in ms)) (labels_of ms) rest
+world_labels (m ∷ ms) = search (std_rules, taken, left_out, world_labels ms)
 
 -- ---- what is exported under a label
 

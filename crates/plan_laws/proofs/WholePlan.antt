@@ -1,5 +1,5 @@
 -- A plan that was made of what was followed is one that was read, whole.
-use Rattle.std.proofs.Common.{◌≡◌, sym, ap, subst, ◌∙◌, ℕ, ◌+◌, List, [], map, Option, Some, slice_get, refl, arith, Bool, true, false, not, ◌||◌, ◌==◌, ◌∷◌, ◌++◌, filter, filter_map, None, option_map, ◌<◌, ◌⊎◌, inl, inr, length}
+use Rattle.std.proofs.Common.{rules as std_rules, ◌≡◌, sym, ap, subst, ◌∙◌, ℕ, ◌+◌, List, [], map, Option, Some, slice_get, refl, arith, Bool, true, false, not, ◌||◌, ◌==◌, ◌∷◌, ◌++◌, filter, filter_map, None, option_map, ◌<◌, ◌⊎◌, inl, inr, length}
 use Rattle.std.proofs.lemmas.{Option.same_Some as same-some, Option.slice_get_within, Bool.eqb-true, Bool.and_from as both, Bool.not-true as not_true}
 use Rattle.std.proofs.lemmas.Slice.Eq.{bytes_eq-Decides}
 use Rattle.std.specs.{List.Contains, List.AllByRecursion, List.list_any, List.AllZip, Option.option_map_or, Prelude.is_none, Prelude.is_some}
@@ -13,7 +13,7 @@ use Rattle.plan_meaning.specs.NumberedViews.{NumberedSight, NumberedType, Number
 use Rattle.plan_meaning.specs.{ReadFunctions.Beside, ReadFunctions.FunctionsAreRead, ReadInterfaces.IsNumberOf, ReadPlans.FitsInput, ReadPlans.IsReadPlan}
 use Rattle.plan_meaning.specs.Plan.{Plan, PlannedInterface, PlannedType, PlannedWorld, interface_in, world_in, PlannedPackage, item_interface, items_of, package_in}
 use Rattle.plan_meaning.specs.{ReadOrder.InterfacesAreViewed, ReadOrder.IsShownThere, ReadOrder.in_interface, ReadOrder.in_world, ReadWholes.IsReadPackagePlan}
-use Rattle.plan_meaning.specs.ReadWorlds.{IsReadItem, ReadItem, a_function, a_type, by_label, by_path, implementing_path, is_type_seen}
+use Rattle.plan_meaning.specs.ReadWorlds.{IsReadItem, ReadItem, is_type_seen}
 use Rattle.plan_meaning.specs.{PlanRules.has_name, PlanRules.names_of, PlanRules.is_foreign, GatheredPlan.FunctionListed, GatheredPlan.functions_seen}
 use Rattle.plan_meaning.specs.ReadPlaces.{IsPlacedInterface, IsPlacedWorld, IsReadPackage, PlacesAreRead, inline, under_path}
 use Rattle.read_exports.specs.Members.{numbered_member, numbered_members, numbered_part}
@@ -106,14 +106,7 @@ module _ (t : Tables) (h : Homes) (known : ℕ → Fact) (n : ℕ) (ms : List Me
   -- a type that the world imports is the last once it is followed
   counted : (m : ℕ) (home : ℕ) (y : ReadItem) (d : Option ℕ) (k : ℕ) → y.seen.shown ≡ worlds.declares d → slice_get t.shapes k ≡ Some (named_shape home y.seen.key)
       → IsReadItem t kept p b (views_read ms) (as_world m) home y → y.count ≡ k + 1
-  counted m home y d k shows shape (by_path q u v id path other key entry of) = let wrong : worlds.instance (worlds.path q) v ≡ worlds.declares d = sym other ∙ shows in absurd cc
-  counted m home y d k shows shape (by_label q u v id other label entry of) = let wrong : worlds.instance (worlds.label y.seen.key q) v ≡ worlds.declares d = sym other ∙ shows in absurd cc
-  counted m home y d k shows shape (implementing_path q u v id path other label entry of) = let wrong : worlds.instance (worlds.implementing y.seen.key q) v ≡ worlds.declares d =
-      sym other ∙ shows in absurd cc
-  counted m home y d k shows shape (a_function f g other entry under) = let wrong : worlds.function f ≡ worlds.declares d = sym other ∙ shows in absurd cc
-  counted m home y d k shows shape (a_type e i other entry under) =
-      let one : under.number ≡ k = given.input.tables.shapes.apart under.number k (named_shape home y.seen.key) under.shape shape in
-      under.last ∙ ap (λ z. z + 1) one
+  counted m home y d k shows shape x = search std_rules
 
   of_world : (m : ℕ) (x : PlannedWorld) (e : world_in p m ≡ Some x) (w : Scope) → (read.worlds m x e).scope ≡ numbered_scope w → (q k : ℕ) → q ≡ w.home → ImportsNumber t w k → IsThere q k
   of_world m x e w same q k home imports =

@@ -1,6 +1,6 @@
 -- Each instance of a world whose place has no path is one that is imported or exported.
 use Rattle.plan_type_laws.proofs.{UsedParts.has_form, FirstFound.firsts_found, ShownRules.mark_there}
-use Rattle.std.proofs.Common.{◌≡◌, refl, sym, ap, subst, ◌∙◌, ℕ, zero, suc, ◌+◌, ◌⊎◌, inl, inr, arith, Bool, true, false, cond, List, [], ◌∷◌, ◌++◌, length, map, Option, Some, None, slice_get, filter}
+use Rattle.std.proofs.Common.{rules as std_rules, ◌≡◌, refl, sym, ap, subst, ◌∙◌, ℕ, zero, suc, ◌+◌, ◌⊎◌, inl, inr, arith, Bool, true, false, cond, List, [], ◌∷◌, ◌++◌, length, map, Option, Some, None, slice_get, filter}
 use Rattle.std.proofs.lemmas.{List.Elements.Contains-append_cases, List.Elements.Contains-append_left, Option.slice_get_within, Option.same_Some as same-some}
 use Rattle.std.proofs.lemmas.Slice.Zip.{AllZip-long as zip_length}
 use Rattle.std.specs.{Prelude.is_some, Prelude.unwrap_or, List.Contains, List.flat_map, List.AllByRecursion, Option.option_map_or}
@@ -177,11 +177,7 @@ module _ (t : Tables) (h : Homes) (known : ℕ → Fact) (n : ℕ) (ms : List Me
       by used (named s q name y at is first a d e kind) = no_true (ap is_some (sym none ∙ a))
 
   no_id : (j : ℕ) (x : PlannedType) → slice_get p.types j ≡ Some x → x.name ≡ None → x.external_id ≡ None
-  no_id j x there none = let from = zip_get Type_ kept p.types planned.types j x there in by from.2
-    where
-      by : {k : ℕ} → Type_ k x → x.external_id ≡ None
-      by (unnamed s at no_name a d e formed) = e
-      by (named s q name y at is first a d e kind) = no_true (ap is_some (sym none ∙ a))
+  no_id j x there none = search (std_rules, zip_get, no_name, no_true)
 
   -- ---- packages
 
@@ -219,13 +215,7 @@ module _ (t : Tables) (h : Homes) (known : ℕ → Fact) (n : ℕ) (ms : List Me
 module _ (t : Tables) where
   instances_many : (is : List NumberedInstance) → length (filter (has_no_path t) (map (λ (i : NumberedInstance). i.place) is)) ≡ length (filter (no_path t) is)
   instances_many [] = refl
-  instances_many (i ∷ is) = by (no_path t i) (instances_many is)
-    where
-      by : (b : Bool) → length (filter (has_no_path t) (map (λ (x : NumberedInstance). x.place) is)) ≡ length (filter (no_path t) is)
-          → length (cond b (i.place ∷ filter (has_no_path t) (map (λ (x : NumberedInstance). x.place) is)) (filter (has_no_path t) (map (λ (x : NumberedInstance). x.place) is)))
-          ≡ length (cond b (i ∷ filter (no_path t) is) (filter (no_path t) is))
-      by true e = ap suc e
-      by false e = e
+  instances_many (i ∷ is) = search (std_rules, no_path, instances_many is)
 
   -- the places of what is seen are those of instances
   seen_there : (instances : List NumberedInstance) (ss : List NumberedSeen) → AllByRecursion (λ (s : NumberedSeen). IsOneOf t instances s.shown) ss → (q : ℕ) → Contains (places_of_seen ss) q

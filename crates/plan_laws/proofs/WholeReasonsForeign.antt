@@ -1,5 +1,5 @@
 -- Each interface of another package is shown by a world, or imported by the component type of an interface.
-use Rattle.std.proofs.Common.{◌≡◌, refl, sym, ap, subst, ◌∙◌, ℕ, ◌⊎◌, inl, inr, true, false, ◌==◌, List, [], ◌∷◌, map, Option, Some, None}
+use Rattle.std.proofs.Common.{rules as std_rules, ◌≡◌, refl, sym, ap, subst, ◌∙◌, ℕ, ◌⊎◌, inl, inr, true, false, ◌==◌, List, [], ◌∷◌, map, Option, Some, None}
 use Rattle.std.proofs.lemmas.Bool.{eq-eqb}
 use Rattle.std.specs.{Borrow.Bor, List.Contains, Option.option_map_or}
 use Rattle.wit_model.specs.{Text.Text, Valid.as_interface}
@@ -73,12 +73,7 @@ module _ (t : Tables) (h : Homes) (known : ℕ → Fact) (n : ℕ) (ms : List Me
           side (inr own) = the_own (ap (λ (x : NumberedSight). is_of_package h n x.place) (sym own) ∙ own_package m among q v imports is)
 
   whole : (s : NumberedSight) → Contains sights s → s.whole ≡ true → Shown s.place ⊎ (is_of_package h p.main s.place ≡ true)
-  whole s c functions = by (from_sight s c)
-    where
-      by : IsFrom s → Shown s.place ⊎ (is_of_package h p.main s.place ≡ true)
-      by (a_world shown) = inl shown
-      by (the_own e) = inr (ap (λ (k : ℕ). is_of_package h k s.place) planned.main ∙ e)
-      by (an_import m among q v imports is types there) = never s.whole functions types
+  whole s c functions = search (std_rules, from_sight, never)
 
   -- ---- reasons
 

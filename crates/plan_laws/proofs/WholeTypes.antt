@@ -2,14 +2,14 @@
 use Rattle.plan_laws.specs.{Whole.IsPackageInput, Owners.homes_in, Owners.owners_of, ShownRules.TypeObeys, WholeReasons.AreShownAlike}
 use Rattle.plan_laws.specs.{ShownNames.IsInput, WholeTypes.IsRuledInput, WholeTypes.PackagesAreRuled, WholeTypes.PlannedTypesAreWhole, WholeTypes.TypesAreWhole}
 use Rattle.plan_meaning.specs.{NumberedRules.Fact, ReadFunctions.Beside, ReadFunctions.FunctionsAreRead, ReadFunctions.IsReadFunction}
-use Rattle.plan_meaning.specs.{FollowedNumbers.IsMetFrom, FollowedNumbers.IsPartIn, FollowedNumbers.IsViewIn, PlanRules.functions_of, PlanRules.world_functions}
-use Rattle.plan_meaning.specs.NumberedMembers.{Homes, NumberedMember, are_interfaces, home_at, sights_of_members, stands_at_top, ShowsPart, is_interface_of, is_of_package}
-use Rattle.plan_meaning.specs.NumberedViews.{AllOf, IsPart, Tables, agree_in_numbers, declaration_of, path_at, place_at, FunctionShape, NumberedFunction, NumberedSight, function_at, NumberedView}
+use Rattle.plan_meaning.specs.{FollowedNumbers.IsPartIn, FollowedNumbers.IsViewIn, PlanRules.functions_of, PlanRules.world_functions}
+use Rattle.plan_meaning.specs.NumberedMembers.{Homes, NumberedMember, are_interfaces, home_at, sights_of_members, stands_at_top, is_interface_of, is_of_package}
+use Rattle.plan_meaning.specs.NumberedViews.{AllOf, Tables, agree_in_numbers, declaration_of, path_at, place_at, FunctionShape, NumberedFunction, NumberedSight, function_at, NumberedView}
 use Rattle.plan_meaning.specs.Plan.{Plan, PlannedInterface, PlannedPackage, package_in, path_of_planned, place_in, PlannedFunction, PlannedItem, PlannedKey, PlannedWorld, interface_in, item_function, items_of, world_in}
 use Rattle.plan_meaning.specs.GatheredPlan.{BecomesIfGiven, FunctionBecomes, ParamBecomes, functions_seen}
 use Rattle.plan_meaning.specs.ReadWholes.{IsPartOfFunction, IsPartOfKept, a_parameter, a_result, of_interface, of_world}
 use Rattle.plan_meaning.specs.NumberedWorlds.{HasPath, NumberedInstance}
-use Rattle.std.proofs.Common.{◌≡◌, refl, sym, ap, subst, ◌∙◌, ℕ, ◌+◌, ◌<◌, ◌⊎◌, inl, inr, arith, true, ◌&&◌, ◌==◌, List, length, Option, Some, None, option_map, slice_get, Bool, zero, suc, false, cond, [], ◌∷◌, map, option_to_list, not, ◌||◌}
+use Rattle.std.proofs.Common.{rules as std_rules, ◌≡◌, refl, sym, ap, subst, ◌∙◌, ℕ, ◌+◌, ◌<◌, ◌⊎◌, inl, inr, arith, true, ◌&&◌, ◌==◌, List, length, Option, Some, None, option_map, slice_get, Bool, zero, suc, false, cond, [], ◌∷◌, map, option_to_list, not, ◌||◌}
 use Rattle.std.proofs.lemmas.{Option.slice_get_within, Option.same_Some as same-some, Bool.eqb-true, Bool.eq-eqb}
 use Rattle.std.proofs.lemmas.List.Elements.{Contains-append_cases, Contains-append_left, Contains-append_right}
 use Rattle.std.specs.{Prelude.option_and_then, List.Contains, List.list_all, List.AllZip, List.flat_map, List.list_any, Option.option_map_or, Borrow.Bor}
@@ -29,7 +29,7 @@ use Rattle.plan_type_laws.proofs.{FirstFound.firsts_found, FormsObeyed.forms_obe
 use Rattle.plan_type_laws.proofs.{KeptMarks.marks_kept, KeptKinds.one_old}
 use Rattle.plan_laws.proofs.{PlaceNumbers.number_given, PlaceNumbers.owner_met, PlaceNumbers.from_joined, ShownRules.all_of, ShownRules.rules_obeyed}
 use Rattle.plan_laws.proofs.{ShownNames.names_are_shown, Inside.name_same, Inside.flat_cases, WholePlacesLabels.world_among, FirstViews.sight_there}
-use Rattle.plan_laws.proofs.Sources.{if_given, partner, signed, view_among, mapped_cases, member_there, part_at}
+use Rattle.plan_laws.proofs.Sources.{partner, signed, view_among, mapped_cases, member_there, part_at}
 use Rattle.plan_laws.proofs.Planned.{first_there, home_alone, interface_there, shown_met, view_met, place_seen}
 use Rattle.base_lemmas.proofs.Elements.{all_at, contains-later, contains-map, contains-one, get-contains, last_of as one-contained, map_from as from_map, zip_at, zip_at_right as zip_get, all-contained}
 use Rattle.base_lemmas.proofs.{Lists.within_there as slice_there, Lists.get_back, Numbers.same-number}
@@ -52,13 +52,7 @@ use Rattle.plan_types.specs.Orders as orders
 
 module _ (t : Tables) where
   showing_obeys : (y : NumberedShowing) → TypeObeys t y → ShowingObeys t y
-  showing_obeys y obeys = record {
-    place = place_at t obeys.place;
-    name = (obeys.place, obeys.name);
-    is = name_there t y.part obeys.number obeys.place obeys.name obeys.part obeys.is.named;
-    range = if_given (IsMetFrom t obeys.place) (IsPart t) (λ k met. met.range) y.declared obeys.is.met;
-    obeys = obeys.obeys;
-  }
+  showing_obeys y obeys = search (std_rules, name_there t y.part obeys.number obeys.place obeys.name obeys.part obeys.is.named)
 
 module _ (t : Tables) (h : Homes) (ms : List Member) (members : List reads.Member) (ruled : IsRuledInput t h ms members) (main : ℕ) (p : Plan) (planned : PlansWhole t h.packages (home_at h) main ms p) where
   abbrev places : List ℕ
@@ -93,13 +87,10 @@ module _ (t : Tables) (h : Homes) (ms : List Member) (members : List reads.Membe
       ∙ (ap (option_and_then (λ n. option_map (λ (k : PlannedPackage). path_in k.identity is.name) (package_in p n))) packed
       ∙ (ap (option_map (λ (k : PlannedPackage). path_in k.identity is.name)) found.1
       ∙ ap Some (ap (λ x. path_in x is.name) found.2 ∙ sym (read_path_is_spelled path is.identity is.name is.reads).spelled)))
-  path_planned i q home name package_ at None e =
-      let none : i.name ≡ None = name ∙ ap (option_map (λ (x : Home). x.1)) (sym at ∙ ruled.alone q e) in
-      ap (option_and_then (λ name. option_and_then (λ n. option_map (λ (k : PlannedPackage). path_in k.identity name) (package_in p n)) i.package_)) none
+  path_planned i q home name package_ at None e = search std_rules
 
   place_of_text : (o : Option Text) → place_of_path o ≡ place_of o
-  place_of_text None = refl
-  place_of_text (Some path) = refl
+  place_of_text x = search std_rules
 
   -- the place of an interface that is met
   interface_place : (m q : ℕ) → number_in places q ≡ Some m → place_in p (as_interface m) ≡ place_at t q
@@ -176,13 +167,7 @@ planned_types_are_whole t h ms members ruled main p planned = types_whole t h ms
 pub tests_hold : (t : Tables) (h : Homes) (known : ℕ → Fact) (n : ℕ) (ms : List Member) (members : List reads.Member) → IsPackageInput t h known n ms members
     → (list_all (λ (m : NumberedMember). n == m.package_) (numbered_members ms) ≡ true) × (list_all (stands_at_top h n (numbered_members ms)) (sights_of_members t (numbered_members ms)) ≡ true)
     × (agree_in_numbers (sights_of_members t (numbered_members ms)) ≡ true) × (are_interfaces t known (sights_of_members t (numbered_members ms)) ≡ true)
-tests_hold t h known n ms members is =
-    four (list_all (λ (m : NumberedMember). n == m.package_) (numbered_members ms)) (list_all (stands_at_top h n (numbered_members ms)) (sights_of_members t (numbered_members ms)))
-    (agree_in_numbers (sights_of_members t (numbered_members ms))) (are_interfaces t known (sights_of_members t (numbered_members ms))) is.obeys
-  where
-    four : (a b c d : Bool) → (a && (b && (c && d))) ≡ true → (a ≡ true) × (b ≡ true) × (c ≡ true) × (d ≡ true)
-    four true true true true h = (refl, refl, refl, refl)
-    four _ _ _ _ h = absurd cc
+tests_hold t h known n ms members is = search std_rules
 
 pub packages_are_ruled : PackagesAreRuled
 packages_are_ruled t h known n ms members is = let tests = tests_hold t h known n ms members is in record {
@@ -388,13 +373,7 @@ module _ (t : Tables) (h : Homes) (known : ℕ → Fact) (n : ℕ) (ms : List Me
   -- an interface is under its path, whose home is the package under the label
   pub interface_home : (m : Member) → Contains ms m → (q : ℕ) (v : View) (imports : Bor (List ImportedView)) → m.part ≡ parts.Interface q v imports → HasPath t q
       × (home_at h q ≡ Some (n, m.label.now))
-  interface_home m c q v imports is =
-      let there = member_there t h ms members given.input m c in
-      by there.0.part (subst (λ a. ShowsPart t h (numbered_member m) (numbered_part a) there.0.part) is there.2.part)
-    where
-      by : (b : reads.Part) → ShowsPart t h (numbered_member m) (numbered_part (parts.Interface q v imports)) b → HasPath t q × (home_at h q ≡ Some (n, m.label.now))
-      by (reads.Part.world scope) shows = absurd shows
-      by (reads.Part.interface view views) shows = (shows.path, shows.home ∙ ap (λ k. Some (k, m.label.now)) (one_package m c))
+  interface_home m c q v imports is = search (std_rules, member_there t h ms members given.input m c, one_package m c)
 
   -- ---- the package's own
 

@@ -3,7 +3,7 @@ use Rattle.plan_laws.proofs.{WorldKeys.keys_differ, WorldKeys.planned_worlds_sta
 use Rattle.plan_laws.proofs.{PlaceNumbers.one_owner, Sources.Side, Sources.side_good, Sources.side_is, Sources.IsWorldIn, Sources.world_in as world_of}
 use Rattle.plan_laws.proofs.Showings.{all_given}
 use Rattle.plan_laws.proofs.FollowedItems.{items, items_at, items_behind, items_listed, items_seen, parts_back, seen_resource, types_behind}
-use Rattle.std.proofs.Common.{◌≡◌, refl, sym, ap, subst, ◌∙◌, ℕ, ◌+◌, ◌<◌, inl, inr, arith, Bool, true, false, not, ◌&&◌, List, [], ◌++◌, length, map, option_to_list, Option, Some, None, slice_get, ◌||◌, ◌==◌, cond, ◌∷◌, filter, filter_map}
+use Rattle.std.proofs.Common.{rules as std_rules, ◌≡◌, refl, sym, ap, subst, ◌∙◌, ℕ, ◌+◌, ◌<◌, inl, inr, arith, Bool, true, false, not, ◌&&◌, List, [], ◌++◌, length, map, option_to_list, Option, Some, None, slice_get, ◌||◌, ◌==◌, cond, ◌∷◌, filter, filter_map}
 use Rattle.std.proofs.{Math.ListN.length-map, lemmas.Option.slice_get_within, lemmas.Option.same_Some as same-some}
 use Rattle.std.proofs.lemmas.{Slice.Zip.AllZip-long as zip_length, Bool.eq-eqb, Bool.eqb-true, Bool.and_from as both, Bool.not-true as not_true}
 use Rattle.std.proofs.lemmas.List.Elements.{Contains-append_left, Contains-append_right, filter-append, filter_map-append}
@@ -53,8 +53,7 @@ abbrev value : PlannedKey × PlannedItem → PlannedItem
 value e = e.1
 
 first_of : (a b c d e : Bool) → (a && b && c && d && e) ≡ true → a ≡ true
-first_of true b c d e h = refl
-first_of false b c d e h = absurd cc
+first_of x b c d e h = search std_rules
 
 module _ (t : Tables) (h : Homes) (known : ℕ → Fact) (n : ℕ) (ms : List Member) (members : List reads.Member) (given : IsPackageInput t h known n ms members) (ordered : ViewsAreOrdered t ms)
     (worlds_apart : WorldsAreApart ms) (followed : WorldsAreFollowed t ms)
@@ -328,8 +327,7 @@ module _ (t : Tables) (h : Homes) (known : ℕ → Fact) (n : ℕ) (ms : List Me
   worlds_are_read = record { worlds = λ m x e. (each_read m x e).0; followed = λ m x e. (each_read m x e).1 }
 
 pub planned_worlds_are_read : PlannedWorldsAreRead
-planned_worlds_are_read t h known n ms members given ordered apart followed p planned b known_is owned functions =
-    worlds_are_read t h known n ms members given ordered apart followed p planned b known_is owned functions
+planned_worlds_are_read t h known n ms members given ordered apart followed p planned b known_is owned functions = search (std_rules, worlds_are_read)
 
 -- ---- what the page is for
 

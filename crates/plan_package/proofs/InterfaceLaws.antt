@@ -1,5 +1,5 @@
 -- The interfaces of a plan.
-use Rattle.std.proofs.Common.{◌≡◌, refl, sym, ap, subst, ◌∙◌, ℕ, ◌+◌, ◌<◌, Bool, true, false, ◌&&◌, ◌==◌, cond, if◌then◌else◌, List, [], ◌∷◌, ◌++◌, map, take, length, get_or, Bor, Option, Some, None, Result, Ok, Err, IfOk, is_some}
+use Rattle.std.proofs.Common.{rules as std_rules, ◌≡◌, refl, sym, ap, subst, ◌∙◌, ℕ, ◌+◌, ◌<◌, Bool, true, false, ◌==◌, cond, List, [], ◌∷◌, ◌++◌, map, take, length, get_or, Bor, Option, Some, None, Result, IfOk, is_some}
 use Rattle.std.proofs.lemmas.{Bool.eqb-true, List.map-append, List.take_more, Option.same_Some as same-some}
 use Rattle.std.specs.{List.AllByRecursion, List.AllZip, Option.option_map_or}
 use Rattle.wit_model.proofs.Elements.{zip-push}
@@ -26,26 +26,14 @@ numbers_listed kept (x ∷ xs) (e ∷ es) all = ((all.0.0, all.0.1), numbers_lis
 
 functions_of_first : (p : ℕ) (seen : List NumberedSight) → option_map_or (λ (s : NumberedSight). s.view.functions) (first_whole_at p seen) [] ≡ functions_seen p seen
 functions_of_first p [] = refl
-functions_of_first p (s ∷ rest) =
-    ap (λ b. option_map_or (λ (s : NumberedSight). s.view.functions) (cond (b && s.whole) (Some s) (first_whole_at p rest)) []) (flip p s.place) ∙ by (s.place == p && s.whole)
-    (functions_of_first p rest)
-  where
-    by : (b : Bool) → option_map_or (λ (s : NumberedSight). s.view.functions) (first_whole_at p rest) [] ≡ functions_seen p rest
-        → option_map_or (λ (s : NumberedSight). s.view.functions) (cond b (Some s) (first_whole_at p rest)) [] ≡ (if b then s.view.functions else functions_seen p rest)
-    by true later = refl
-    by false later = later
+functions_of_first p (s ∷ rest) = search (std_rules, flip, functions_of_first p rest)
 
 module _ (t : Tables) (kept : List ℕ) (main : ℕ) (homes : ℕ → Option Home) (seen : List NumberedSight) (p : ℕ) where
   pub place_planned : {E : Type 0} (r : Result CodeInterface E) (home : Option Home) (v : NumberedView) (fs : List (Text × NumberedFunction)) (s : NumberedSight) → home ≡ homes p
       → first_at p seen ≡ Some s → s.view ≡ v
       → fs ≡ option_map_or (λ (s : NumberedSight). s.view.functions) (first_whole_at p seen) [] → IfOk r (λ i. PlansInterface t kept main home v fs (stated_interface i))
       → IfOk r (λ i. PlansPlace t kept main homes seen p (stated_interface i))
-  place_planned (Ok i) home v fs s at first same functions is = λ other there.
-      let view : v ≡ other.view = sym same ∙ ap (λ (x : NumberedSight). x.view) (same-some s other (sym first ∙ there)) in
-      subst (λ h. PlansInterface t kept main h other.view (functions_seen p seen) (stated_interface i)) at
-      (subst (λ v. PlansInterface t kept main home v (functions_seen p seen) (stated_interface i)) view
-      (subst (λ fs. PlansInterface t kept main home v fs (stated_interface i)) (functions ∙ functions_of_first p seen) is))
-  place_planned (Err e) home v fs s at first same functions is = tt
+  place_planned y home v fs s at first same functions is = search (std_rules, same-some, functions_of_first)
 
 -- one more of two lists that go together
 pub zip_more : {A B C : Type 0} (P : A → C → Type 0) (h : B → C) (xs : List A) (i : ℕ) (d : A) → i < length xs → (old new : List B) (y : B) → new ≡ old ++ y ∷ [] → P (get_or xs i d) (h y)
@@ -58,8 +46,7 @@ zip_more {A = A} P h xs i d within old new y added is before =
 -- ---- places that were seen
 
 pub is_there : {A : Type 0} (o : Option A) → is_some o ≡ true → o ≡ None → ⊥
-is_there None seen e = let wrong : false ≡ true = seen in absurd cc
-is_there (Some x) seen e = let wrong : Some x ≡ None = e in absurd cc
+is_there y seen e = search std_rules
 
 seen_below : (n p : ℕ) (sights : List Sight) → AllByRecursion (λ (s : Sight). s.place < n) sights → is_some (first_at p (map numbered_sight sights)) ≡ true → p < n
 seen_below n p [] all seen = let wrong : false ≡ true = seen in absurd cc

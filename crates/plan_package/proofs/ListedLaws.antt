@@ -1,6 +1,6 @@
 -- What is listed in a package.
-use Rattle.std.proofs.Common.{◌≡◌, refl, ap, subst, ◌∙◌, ℕ, zero, suc, ◌+◌, ◌<◌, arith, Bool, true, false, not, ◌&&◌, ◌||◌, ◌==◌, cond, List, [], ◌∷◌, ◌++◌, map, Option, Some, None, slice_get}
-use Rattle.std.proofs.{lemmas.Bool.eqb-true, lemmas.Bool.eq-eqb, ByRecursion.All-weaker as all_through, lemmas.Option.same_Some as same-some}
+use Rattle.std.proofs.Common.{rules as std_rules, ◌≡◌, refl, ap, subst, ◌∙◌, ℕ, zero, suc, ◌+◌, ◌<◌, arith, true, false, List, [], ◌∷◌, ◌++◌, map, Option, Some, slice_get}
+use Rattle.std.proofs.{lemmas.Bool.eqb-true, ByRecursion.All-weaker as all_through, lemmas.Option.same_Some as same-some}
 use Rattle.std.specs.List.{AllByRecursion}
 use Rattle.wit_model.specs.{Text.Text, Uses.has}
 use Rattle.read_rules.specs.declared.scopes.Scope.{Scope}
@@ -24,18 +24,11 @@ rises (x ∷ es) r (suc i) (suc j) e f a b less = rises es r.1 i j e f a b (omeg
 
 not_in : (k : ℕ) (es : List (Text × ℕ)) → AllByRecursion (λ (f : Text × ℕ). k < f.1) es → has (map (λ (e : Text × ℕ). e.1) es) k ≡ false
 not_in k [] all = refl
-not_in k (f ∷ es) all = by (f.1 == k) refl (not_in k es all.1)
-  where
-    by : (b : Bool) → (f.1 == k) ≡ b → has (map (λ (e : Text × ℕ). e.1) es) k ≡ false → (b || has (map (λ (e : Text × ℕ). e.1) es) k) ≡ false
-    by true e later = let same : f.1 ≡ k = eqb-true f.1 k e in absurd (omega (arith, same, all.0))
-    by false e later = later
+not_in k (f ∷ es) all = search (std_rules, eqb-true, not_in k es all.1)
 
 once_rising : (es : List (Text × ℕ)) → Rising es → are_once (map (λ (e : Text × ℕ). e.1) es) ≡ true
 once_rising [] r = refl
-once_rising (e ∷ es) r =
-    let absent = not_in e.1 es r.0 in
-    let later = once_rising es r.1 in
-    λ i. not (absent i) && later i
+once_rising (e ∷ es) r = search (std_rules, not_in, once_rising es r.1)
 
 -- ---- places
 
@@ -57,15 +50,7 @@ module _ (homes : ℕ → Option Home) (q : ℕ) where
 
   -- what holds of the entries of the other places, and of that of the first, if its home is in the package
   entry_too : (P : List (Text × ℕ) → Type 0) (n p : ℕ) (rest : List (Text × ℕ)) → P rest → ((name : Text) → homes p ≡ Some (q, name) → P ((name, n) ∷ rest)) → P (entry_of q n (homes p) ++ rest)
-  entry_too P n p rest other own = by (homes p) refl
-    where
-      chosen : (h : Home) → homes p ≡ Some h → (b : Bool) → (h.0 == q) ≡ b → P (cond b ((h.1, n) ∷ []) [] ++ rest)
-      chosen h e true same = own h.1 (e ∙ ap (λ k. Some (k, h.1)) (eqb-true h.0 q same))
-      chosen h e false same = other
-
-      by : (o : Option Home) → homes p ≡ o → P (entry_of q n o ++ rest)
-      by None e = other
-      by (Some h) e = chosen h e (h.0 == q) refl
+  entry_too P n p rest other own = search std_rules
 
   among : (n : ℕ) (ps : List ℕ) → AllByRecursion (IsFrom homes q n ps) (entries_from homes q n ps)
   among n [] = tt
@@ -84,12 +69,7 @@ module _ (homes : ℕ → Option Home) (q : ℕ) where
 
   stand : (n : ℕ) (ps : List ℕ) (i place : ℕ) (name : Text) → slice_get ps i ≡ Some place → homes place ≡ Some (q, name) → (j : ℕ) × (slice_get (entries_from homes q n ps) j ≡ Some (name, n + i))
   stand n [] i place name at home = absurd (none_there i place at)
-  stand n (p ∷ ps) zero place name at home =
-      let rest = entries_from homes q (n + 1) ps in
-      let own : homes p ≡ Some (q, name) = ap homes (same-some p place at) ∙ home in
-      let first : entries_from homes q n (p ∷ ps) ≡ (name, n) ∷ rest = ap (λ o. entry_of q n o ++ rest) own ∙ ap (λ b. cond b ((name, n) ∷ []) [] ++ rest) (eq-eqb q q refl) in
-      let number : n ≡ n + 0 = omega arith in
-      (0, ap (λ l. slice_get l 0) first ∙ ap (λ (m : ℕ). Some (name, m)) number)
+  stand n (p ∷ ps) zero place name at home = search std_rules
   stand n (p ∷ ps) (suc i) place name at home =
       let found = stand (n + 1) ps i place name at home in
       let number : n + 1 + i ≡ n + suc i = omega arith in

@@ -1,5 +1,5 @@
 -- Places that are met, and numbers of places among some.
-use Rattle.std.proofs.Common.{◌≡◌, refl, ap, subst, ◌∙◌, ℕ, suc, ◌+◌, ◌<◌, arith, Bool, true, false, not, ◌||◌, ◌==◌, cond, List, [], ◌∷◌, ◌++◌, length, map, Some, None, is_some}
+use Rattle.std.proofs.Common.{rules as std_rules, ◌≡◌, refl, ap, subst, ◌∙◌, ℕ, suc, ◌+◌, ◌<◌, arith, Bool, true, false, not, ◌||◌, ◌==◌, cond, List, [], ◌∷◌, ◌++◌, length, map, Some, is_some}
 use Rattle.std.proofs.lemmas.{Bool.eqb-true, Bool.eq-eqb, Bool.lt-ltb, List.map-append}
 use Rattle.std.specs.List.{AllByRecursion, flat_map, prefix_len}
 use Rattle.wit_model.specs.{Text.Text, Uses.has}
@@ -7,9 +7,9 @@ use Rattle.read_exports.specs.declared.members.{Member.Member, Part.Part}
 use Rattle.read_exports.specs.Members.{numbered_members, numbered_part}
 use Rattle.read_rules.specs.Reached.{numbered_import}
 use Rattle.plan_types.specs.{Orders.joined, Orders.joined_all, Orders.places_of_part, PlannedTypes.number_in}
-use Rattle.plan_meaning.specs.NumberedMembers.{NumberedMember, NumberedPart, interface, world}
+use Rattle.plan_meaning.specs.NumberedMembers.{NumberedMember, NumberedPart}
 use Rattle.plan_meaning.specs.NumberedViews.{NumberedSight, NumberedView, first_at}
-use Rattle.plan_package.specs.{PlanWhole.places_in, Views.types_alone, Views.views_of_members, Views.views_of_part, Views.whole_view}
+use Rattle.plan_package.specs.{PlanWhole.places_in, Views.views_of_members, Views.views_of_part}
 use Rattle.plan_package.specs.{WholeInterfaces.AreSeen, WholePackages.interface_in_part, WholePackages.interfaces_in, WholePackages.IsPlaced}
 use Rattle.base_lemmas.proofs.{Lists.map_of_map as map_twice, Numbers.turned as flip}
 use Rattle.plan_meaning.proofs.ReadOrder.{has_end as has_right, has_front as has_left}
@@ -26,9 +26,7 @@ low p (q ∷ ps) h = by (p == q) (ap (λ b. b || has ps p) (flip p q) ∙ h) (lo
     by false h later = let less = later h in omega (arith, less)
 
 pub has_number : (places : List ℕ) (p : ℕ) → has places p ≡ true → is_some (number_in places p) ≡ true
-has_number places p h =
-    let n = prefix_len (λ q. not (p == q)) places in
-    ap (λ b. is_some (cond b (Some n) None)) (lt-ltb n (length places) (low p places h))
+has_number places p h = search (std_rules, lt-ltb, low)
 
 -- ---- places that are met
 
@@ -36,18 +34,10 @@ has_own : (ps : List ℕ) (p : ℕ) → has (p ∷ ps) p ≡ true
 has_own ps p = ap (λ b. b || has ps p) (eq-eqb p p refl)
 
 joined_keeps : (met : List ℕ) (p q : ℕ) → has met q ≡ true → has (joined met p) q ≡ true
-joined_keeps met p q h = by (has met p)
-  where
-    by : (b : Bool) → has (cond b met (met ++ p ∷ [])) q ≡ true
-    by true = h
-    by false = has_left met (p ∷ []) q h
+joined_keeps met p q h = search (std_rules, has_left)
 
 joined_has : (met : List ℕ) (p : ℕ) → has (joined met p) p ≡ true
-joined_has met p = by (has met p) refl
-  where
-    by : (b : Bool) → has met p ≡ b → has (cond b met (met ++ p ∷ [])) p ≡ true
-    by true e = e
-    by false e = has_right met (p ∷ []) p (has_own [] p)
+joined_has met p = search (std_rules, has_right, has_own)
 
 all_keep : (ps met : List ℕ) (q : ℕ) → has met q ≡ true → has (joined_all met ps) q ≡ true
 all_keep [] met q h = h
@@ -96,25 +86,15 @@ module _ (P : ℕ → Type 0) where
       by false = all_behind met p old new.0
 
 pub part_placed : (x : NumberedPart) → map (λ (s : NumberedSight). s.place) (views_of_part x) ≡ places_of_part x
-part_placed (world w) = map_twice (λ (s : NumberedSight). s.place) whole_view w.instances
-part_placed (interface p v imports) =
-    map-append (λ (s : NumberedSight). s.place) (map types_alone imports) (record { place = p; view = v; whole = true } ∷ [])
-    ∙ ap (λ l. l ++ p ∷ []) (map_twice (λ (s : NumberedSight). s.place) types_alone imports)
+part_placed x = search (std_rules, map_twice, map-append)
 
 views_placed : (ms : List NumberedMember) → map (λ (s : NumberedSight). s.place) (views_of_members ms) ≡ flat_map (λ m. places_of_part m.part) ms
 views_placed [] = refl
-views_placed (m ∷ ms) =
-    let own = part_placed m.part in
-    let rest = views_placed ms in
-    map-append (λ (s : NumberedSight). s.place) (views_of_part m.part) (views_of_members ms) ∙ (λ i. own i ++ rest i)
+views_placed (m ∷ ms) = search (std_rules, part_placed, map-append, views_placed ms)
 
 still_seen : (s : NumberedSight) (seen : List NumberedSight) (ps : List ℕ) → AreSeen seen ps → AreSeen (s ∷ seen) ps
 still_seen s seen [] all = tt
-still_seen s seen (p ∷ ps) all = (by (p == s.place), still_seen s seen ps all.1)
-  where
-    by : (b : Bool) → is_some (cond b (Some s) (first_at p seen)) ≡ true
-    by true = refl
-    by false = all.0
+still_seen s seen (p ∷ ps) all = search (std_rules, still_seen s seen ps all.1)
 
 all_seen : (seen : List NumberedSight) → AreSeen seen (map (λ (s : NumberedSight). s.place) seen)
 all_seen [] = tt

@@ -1,5 +1,5 @@
 -- The packages of a plan of what is exported, as they are read.
-use Rattle.std.proofs.Common.{◌≡◌, refl, sym, ap, subst, ◌∙◌, ℕ, suc, ◌+◌, ◌<◌, arith, Bool, true, false, not, ◌&&◌, ◌||◌, ◌==◌, nat_lt, cond, List, [], ◌∷◌, length, map, Some, None, slice_get}
+use Rattle.std.proofs.Common.{rules as std_rules, ◌≡◌, refl, sym, ap, subst, ◌∙◌, ℕ, suc, ◌+◌, ◌<◌, arith, Bool, true, false, not, ◌&&◌, ◌||◌, ◌==◌, nat_lt, cond, List, [], ◌∷◌, length, map, Some, None, slice_get}
 use Rattle.std.proofs.{lemmas.Bool.eqb-true, lemmas.Bool.eq-eqb, lemmas.Bool.ltb-true, lemmas.Bool.not-true as is_absent, ByRecursion.All-weaker as all_through}
 use Rattle.std.proofs.lemmas.Option.{same_Some as same-some}
 use Rattle.std.specs.List.{AllByRecursion, AllZip, list_all, list_any, prefix_len}
@@ -83,16 +83,14 @@ module _ (t : Tables) (h : Homes) (paths : (q : ℕ) (x : ℕ × Text) → home_
     (own : (m q : ℕ) → slice_get places m ≡ Some q → owners q ≡ as_interface m)
     (p : Plan) (R : ℕ → PlannedInterface → Type 0) (interfaces : AllZip R places p.interfaces) where
   listed_by : (m : ℕ) (e : Text × ℕ) (q : ℕ) → slice_get places e.1 ≡ Some q → home_at h q ≡ Some (m, e.0) → IsListedInterface t h p owners m e
-  listed_by m e q there home =
-      let found = zip_on R places p.interfaces interfaces e.1 q there in record { place = q; path = paths q (m, e.0) home; home = home; owned = own e.1 q there; interface = found.0; there = found.1 }
+  listed_by m e q there home = search (std_rules, zip_on)
 
   exported_listed : (n : ℕ) (xs es : List (Text × ℕ)) → AllByRecursion (λ (x : Text × ℕ). home_at h x.1 ≡ Some (n, x.0)) xs → AllZip (ListsPlace places) xs es
       → AllByRecursion (IsListedInterface t h p owners n) es
   exported_listed n [] [] homes all = tt
   exported_listed n [] (e ∷ es) homes all = absurd all
   exported_listed n (x ∷ xs) [] homes all = absurd all
-  exported_listed n (x ∷ xs) (e ∷ es) homes all =
-      (listed_by n e x.1 (number_at places x.1 e.1 all.0.1) (homes.0 ∙ ap (λ (name : Text). Some (n, name)) (sym all.0.0)), exported_listed n xs es homes.1 all.1)
+  exported_listed n (x ∷ xs) (e ∷ es) homes all = search (std_rules, listed_by, number_at, exported_listed n xs es homes.1 all.1)
 
   module _ (packages : ArePackages h.packages) (n : ℕ) (ms : List Member) (exported : AreExported h n ms) (S : Text × Scope → PlannedWorld → Type 0)
       (named : (w : Text × Scope) (x : PlannedWorld) → S w x → (x.name ≡ w.0) × (x.package_ ≡ Some n)) (worlds : AllZip S (worlds_in ms) p.worlds) where

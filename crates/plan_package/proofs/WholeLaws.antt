@@ -1,5 +1,5 @@
 -- A plan, whole.
-use Rattle.std.proofs.Common.{◌≡◌, sym, subst, ◌∙◌, ℕ, arith, List, [], ◌∷◌, length, Option, Some, slice_get}
+use Rattle.std.proofs.Common.{rules as std_rules, ◌≡◌, sym, ◌∙◌, ℕ, arith, List, [], ◌∷◌, length, Option, Some, slice_get}
 use Rattle.std.proofs.lemmas.Option.{slice_get_within as below}
 use Rattle.std.specs.List.{AllByRecursion, AllZip}
 use Rattle.wit_model.specs.declared.model.TypeOwner.{TypeOwner}
@@ -43,12 +43,4 @@ module _ (t : Tables) (packages : List PackageIdentity) (homes : ℕ → Option 
       → AllZip (PlansPlace t kept main homes (views_of_members (numbered_members ms))) places p.interfaces → AllZip (PlansWorld t kept places main) (worlds_in ms) p.worlds
       → PlansPackages packages homes main places ms p.packages → p.main ≡ main
       → PlansWhole t packages homes main ms p
-  plans_whole places same kept kept_for p types interfaces worlds listed main_is = record {
-    kept = kept;
-    kept_for = kept_for;
-    types = subst (λ (ps : List ℕ). AllZip (PlansType t kept (shown_first ms) (owner_in ps (homes_met (numbered_members ms)))) kept p.types) same types;
-    interfaces = subst (λ (ps : List ℕ). AllZip (PlansPlace t kept main homes (views_of_members (numbered_members ms))) ps p.interfaces) same interfaces;
-    worlds = subst (λ (ps : List ℕ). AllZip (PlansWorld t kept ps main) (worlds_in ms) p.worlds) same worlds;
-    packages = subst (λ (ps : List ℕ). PlansPackages packages homes main ps ms p.packages) same listed;
-    main = main_is;
-  }
+  plans_whole places same kept kept_for p types interfaces worlds listed main_is = search std_rules

@@ -1,15 +1,15 @@
 -- The worlds of a plan.
-use Rattle.std.proofs.Common.{◌≡◌, ℕ, List, [], ◌∷◌, ◌++◌, Option, Result, Ok, Err, IfOk}
+use Rattle.std.proofs.Common.{rules as std_rules, ◌≡◌, ℕ, List, [], ◌∷◌, Option, Result, Ok, Err, IfOk}
 use Rattle.std.specs.List.{AllByRecursion, flat_map}
 use Rattle.wit_model.specs.declared.model.TypeId.{TypeId}
 use Rattle.wit_model.specs.Text.{Text}
 use Rattle.plan_build.specs.declared.plan.{PlannedItem.PlannedItem, PlannedKey.PlannedKey}
 use Rattle.plan_build.specs.PlanOf.{stated_entry}
 use Rattle.plan_parts.specs.Interfaces.{IsKeptSlot}
-use Rattle.read_rules.specs.declared.{scopes.InstanceKey.InstanceKey, scopes.Seen.Seen, scopes.Shown.Shown, views.View.View}
+use Rattle.read_rules.specs.declared.{scopes.InstanceKey.InstanceKey, scopes.Seen.Seen, views.View.View}
 use Rattle.read_rules.specs.{Scopes.numbered_key, Tables.given_text}
 use Rattle.plan_meaning.specs.NumberedViews.{Tables}
-use Rattle.plan_package.specs.WholeWorlds.{types_seen, types_shown, PlansInstance, PlansItem, SeenIsKept, ShownIsKept, an_instance}
+use Rattle.plan_package.specs.WholeWorlds.{types_seen, PlansInstance, PlansItem, SeenIsKept, an_instance}
 use Rattle.read_rules.specs.declared.scopes.Shown.TheVariants as shown
 
 module _ (t : Tables) (kept : List ℕ) where
@@ -22,10 +22,4 @@ module _ (t : Tables) (kept : List ℕ) where
   -- the types that are imported are kept
   pub types_kept : (xs : List Seen) → AllByRecursion (SeenIsKept t kept) xs → AllByRecursion (IsKeptSlot kept) (flat_map types_seen xs)
   types_kept [] all = tt
-  types_kept (s ∷ rest) all = by s.shown all.0 (types_kept rest all.1)
-    where
-      by : (x : Shown) → ShownIsKept t kept x → AllByRecursion (IsKeptSlot kept) (flat_map types_seen rest)
-          → AllByRecursion (IsKeptSlot kept) (types_shown s.key.now (given_text s.external_id) x ++ flat_map types_seen rest)
-      by (shown.Instance key v) is later = later
-      by (shown.Function n) is later = later
-      by (shown.Declares part d) is later = (is, later)
+  types_kept (s ∷ rest) all = search (std_rules, types_kept rest all.1)

@@ -1,9 +1,9 @@
 -- What is shown of a type first is a showing of it.
-use Rattle.std.proofs.Common.{◌≡◌, refl, sym, ap, ◌∙◌, ◌+◌, Bool, true, false, ◌==◌, cond, List, [], ◌∷◌, length, Option, Some, None, option_map}
+use Rattle.std.proofs.Common.{rules as std_rules, ◌≡◌, refl, sym, ap, ◌∙◌, ◌+◌, Bool, true, false, ◌==◌, cond, List, [], ◌∷◌, Option, Some, None}
 use Rattle.std.proofs.lemmas.{Bool.eqb-true, Bool.ltb-false, Bool.ltb-true, List.get_or_past, Option.same_Some as same-some}
-use Rattle.std.specs.{Prelude.nat_lt, List.Contains, List.find}
+use Rattle.std.specs.{List.Contains, List.find}
 use Rattle.plan_types.specs.declared.showings.Showing.{Showing}
-use Rattle.plan_types.specs.{FirstShown.TellsFirst, FirstShown.first_showing, FirstShown.showing_at, Showings.NumberedShowing, Showings.numbered_showing}
+use Rattle.plan_types.specs.{FirstShown.TellsFirst, FirstShown.first_showing, FirstShown.showing_at, Showings.NumberedShowing}
 use Rattle.plan_type_laws.specs.ShownForms.{FindsShown, FirstsAreFound}
 use Rattle.base_lemmas.proofs.Elements.{contains-later, get-contains}
 
@@ -19,13 +19,7 @@ first_is_found : (showings : List NumberedShowing) → FindsShown showings (λ n
 first_is_found showings n s e = let found = first_found (λ (s : NumberedShowing). 14 + n == s.part) showings s e in (found.0, sym (eqb-true (14 + n) s.part found.1))
 
 told_is_found : (showings : List NumberedShowing) (table : List (Option Showing)) → TellsFirst showings table → FindsShown showings (showing_at table)
-told_is_found showings table tells n s e = by (nat_lt n (length table)) refl
-  where
-    by : (b : Bool) → nat_lt n (length table) ≡ b → Contains showings s × (s.part ≡ 14 + n)
-    by true low = first_is_found showings n s (sym (tells n (ltb-true n (length table) low)) ∙ e)
-    by false high =
-        let wrong : ◌≡◌ {A = Option NumberedShowing} None (Some s) = sym (ap (option_map numbered_showing) (get_or_past table n None (ltb-false n (length table) high))) ∙ e in
-        absurd cc
+told_is_found showings table tells n s e = search (std_rules, first_is_found, ltb-true, get_or_past, ltb-false)
 
 pub firsts_found : FirstsAreFound
 firsts_found showings = (first_is_found showings, told_is_found showings)

@@ -1,14 +1,14 @@
 -- Forms of what was followed are as definitions have them.
-use Rattle.std.proofs.Common.{◌≡◌, refl, sym, ap, subst, ◌∙◌, ℕ, Bool, true, false, ◌&&◌, ◌==◌, List, [], ◌∷◌, map, length, Option, Some, None, option_map, slice_get, unwrap_or}
+use Rattle.std.proofs.Common.{rules as std_rules, ◌≡◌, refl, sym, ap, subst, ◌∙◌, ℕ, Bool, true, false, ◌&&◌, List, [], ◌∷◌, map, length, Option, Some, None, option_map, slice_get, unwrap_or}
 use Rattle.std.proofs.lemmas.{Bool.lt-ltb, Bool.and_from as both, List.Elements.Contains-append_left, List.Elements.Contains-append_right}
 use Rattle.std.proofs.{ByRecursion.All-map as all_mapped, lemmas.Option.slice_get-map as get_of_map}
-use Rattle.std.specs.{Prelude.nat_le, Prelude.nat_lt, List.AllByRecursion, List.AllZip, List.Contains, List.flat_map, Option.option_map_or}
+use Rattle.std.specs.{List.AllByRecursion, List.AllZip, List.Contains, List.flat_map, Option.option_map_or}
 use Rattle.wit_model.specs.{Text.Text, Types.no_tree}
 use Rattle.wit_model.specs.{Tree.Declaration, Tree.Form, Tree.Place, Tree.Tree, Meaning.FunctionMeaning, Names.PackageIdentity, Names.path_in, Rules.has_items}
 use Rattle.wit_model.proofs.{Elements.contains-get, TreeLemmas.child_list_of_children as child_list_back}
 use Rattle.comp_meaning.specs.Follow.{Instance, Scope, Seen, interface_of, is_filled, is_key, is_key_primitive, place_of}
 use Rattle.read_shown.specs.{Parts.PartStands, Parts.instances_of, Parts.named_instance, Scopes.IsMetInScope, Scopes.IsShownBefore, Scopes.ShownStands}
-use Rattle.read_shown.specs.Trees.{AllAt, DeclarationStands, SignatureStands, TreeStands, count_true, is_formed}
+use Rattle.read_shown.specs.Trees.{AllAt, DeclarationStands, SignatureStands, TreeStands, is_formed}
 use Rattle.read_shown.specs.Views.{IsMetInView, TypeStands, ViewStands}
 use Rattle.plan_meaning.proofs.{Lists.no_true, ShapeLaws.PartView, ShapeLaws.is_name, ShapeLaws.is_node, ShapeLaws.is_primitive, ShapeLaws.part_front}
 use Rattle.plan_meaning.specs.{NumberedMembers.Homes, NumberedMembers.IsMember, NumberedMembers.ShowsPart, PlanRules.is_form, PlanRules.is_key_part}
@@ -47,26 +47,16 @@ module _ (t : Tables) (tables : AreTables t) (fit : LengthsFit t) where
       by (is_node n f ks is at stands parts) = no_true (sym (ap is_key stands) ∙ key)
 
   filled : {A : Type 0} (xs : List A) (b : Bool) → (is_filled xs && b) ≡ true → has_items xs ≡ true
-  filled [] b h = no_true h
-  filled (x ∷ xs) b h = refl
+  filled x b h = search std_rules
 
   tuple_filled : (parts : List ℕ) → is_filled (map (tree_at t) parts) ≡ true → has_items parts ≡ true
-  tuple_filled [] h = no_true h
-  tuple_filled (k ∷ parts) h = refl
+  tuple_filled x h = search std_rules
 
   key_first : (parts : List ℕ) → AllByRecursion (IsPart t) parts → is_formed Form.map_of (map (tree_at t) parts) ≡ true → is_form Form.map_of parts ≡ true
-  key_first [] range h = no_true h
-  key_first (k ∷ parts) range h = key_part k range.0 (first_true (is_key (tree_at t k)) (length (map (tree_at t) (k ∷ parts)) == 2) h)
+  key_first x range h = search (std_rules, no_true, key_part, first_true)
 
   form_obeys : (form : Form) (parts : List ℕ) (n : ℕ) → slice_get t.shapes n ≡ Some (node_shape form parts) → is_formed form (map (tree_at t) parts) ≡ true → is_form form parts ≡ true
-  form_obeys (Form.record_of names) parts n at h = filled names (length (map (tree_at t) parts) == length names) h
-  form_obeys (Form.variant_of cases) parts n at h = filled cases (length (map (tree_at t) parts) == count_true (map (λ (c : Text × Bool). c.1) cases)) h
-  form_obeys (Form.fixed_list_of l) parts n at h = both (nat_le 1 l) (nat_lt l 4294967296) (first_true (nat_le 1 l) (length (map (tree_at t) parts) == 1) h) (lt-ltb l 4294967296 (fit n l parts at))
-  form_obeys Form.map_of parts n at h = key_first parts (form_range t tables n Form.map_of parts at) h
-  form_obeys Form.tuple_of parts n at h = tuple_filled parts h
-  form_obeys (Form.flags_of names) parts n at h = filled names (length (map (tree_at t) parts) == 0) h
-  form_obeys (Form.enum_of names) parts n at h = filled names (length (map (tree_at t) parts) == 0) h
-  form_obeys _ parts n at h = refl
+  form_obeys x parts n at h = search (std_rules, filled, both, first_true, lt-ltb, key_first, form_range, tuple_filled)
 
 -- What holds of each form with its parts holds of each form that is shown.
 module _ (t : Tables) (tables : AreTables t) (Obeys : Form → List ℕ → Type 0) (form_obeys : (form : Form) (parts : List ℕ) (n : ℕ) → slice_get t.shapes n ≡ Some (node_shape form parts) → is_formed form (map (tree_at t) parts) ≡ true → Obeys form parts) where
@@ -88,11 +78,7 @@ module _ (t : Tables) (tables : AreTables t) (Obeys : Form → List ℕ → Type
       by (Tree.node form ts) e stands = part_obeys Met k (subst (TreeStands Met) (sym e) stands.1)
 
   any_parts : (n : ℕ) → PartsOf (λ k. Unit {0}) (function_at t n)
-  any_parts n = (all_any (function_at t n).params, by (function_at t n).result)
-    where
-      by : (r : Option ℕ) → AllOf (λ k. Unit {0}) r
-      by None = tt
-      by (Some k) = tt
+  any_parts n = search (std_rules, all_any)
 
   signature_obeys : (Met : Place → Text → Bool → Type 0) (n : ℕ) → SignatureStands Met (signature_at t n) → PartsOf (EachForm t Obeys) (function_at t n)
   signature_obeys Met n stands = signature_parts_hold t tables Met (λ k. Unit {0}) (EachForm t Obeys) (λ k any stand. part_obeys Met k stand) (function_at t n) (any_parts n) stands

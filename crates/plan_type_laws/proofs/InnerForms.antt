@@ -1,5 +1,5 @@
 -- The forms in a part of the tables, and the trees that they stand for.
-use Rattle.std.proofs.Common.{◌≡◌, refl, sym, ap, subst, ◌∙◌, ℕ, zero, suc, ◌+◌, arith, Bool, true, false, List, [], ◌∷◌, map, Option, Some, None, option_and_then, option_map, slice_get, unwrap_or, IfSome}
+use Rattle.std.proofs.Common.{rules as std_rules, ◌≡◌, refl, sym, ap, subst, ◌∙◌, ℕ, ◌+◌, arith, Bool, true, false, List, [], ◌∷◌, map, Option, Some, None, option_and_then, option_map, slice_get, unwrap_or, IfSome}
 use Rattle.std.proofs.lemmas.Option.{slice_get_within, same_Some as same-some}
 use Rattle.std.specs.List.{AllByRecursion, Contains}
 use Rattle.wit_model.specs.{Text.Text, Tree.Form, Tree.Place, Tree.Tree, Tree.Trees, Tree.children, Types.no_tree}
@@ -14,8 +14,7 @@ use Rattle.plan_meaning.specs.NumberedViews as numbered
 
 -- an item of a list is the first, or stands behind it
 among : {A : Type 0} {R : Type 0} (x y : A) (xs : List A) → Contains (x ∷ xs) y → (x ≡ y → R) → (Contains xs y → R) → R
-among x y xs (zero, low, e) here later = here e
-among x y xs (suc n, low, e) here later = later (n, omega (arith, low), e)
+among x y xs z here later = search std_rules
 
 -- the name of a part
 pub name_there : (t : Tables) (k n q : ℕ) (name : Text) → k ≡ 14 + n → slice_get t.shapes n ≡ Some (named_shape q name) → name_at t k ≡ Some (q, name)
@@ -47,10 +46,7 @@ module _ (t : Tables) (tables : AreTables t) where
   -- a name holds no form
   pub name_alone : {A : Type 0} (k n : ℕ) (place : Place) (name : Text) (form : Form) (parts : List ℕ) → tree_at t k ≡ Tree.named place name → HasNumberIn t k n
       → slice_get t.shapes n ≡ Some (node_shape form parts) → A
-  name_alone k n place name form parts is (itself i m e) there = let wrong : Tree.named place name ≡ Tree.node form (children (map (tree_at t) parts)) =
-      sym is ∙ (ap (tree_at t) e ∙ tree_of_form m form parts there) in absurd cc
-  name_alone k n place name form parts is (inside i m j l f ks e at c within) there = let wrong : Tree.named place name ≡ Tree.node f (children (map (tree_at t) ks)) =
-      sym is ∙ (ap (tree_at t) e ∙ tree_of_form m f ks at) in absurd cc
+  name_alone k n place name form parts is x there = search (std_rules, tree_of_form)
 
   -- the names in an inner form are names in the part
   pub inner_names : (k n q : ℕ) → HasNumberIn t k n → HasNameIn t.shapes (14 + n) q → HasNameIn t.shapes k q

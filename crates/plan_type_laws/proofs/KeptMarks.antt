@@ -1,22 +1,16 @@
 -- The marks of what is shown are those of the types of a plan.
-use Rattle.std.proofs.Common.{◌≡◌, sym, ap, subst, ◌∙◌, ℕ, ◌+◌, List, Option, Some}
+use Rattle.std.proofs.Common.{rules as std_rules, ◌≡◌, subst, ℕ, ◌+◌, List, Option, Some}
 use Rattle.std.proofs.ByRecursion.{All-weaker as recursion_weaker}
 use Rattle.wit_model.specs.Text.{Text}
-use Rattle.plan_meaning.specs.{GatheredPlan.DeclaresKind, GatheredPlan.a_form, GatheredPlan.a_name, GatheredPlan.a_resource, Plan.Plan, Plan.PlannedKind, KeptResources.FormIsMarked, KeptResources.MarkedBy, NumberedRules.name_at, NumberedViews.Tables}
+use Rattle.plan_meaning.specs.{GatheredPlan.DeclaresKind, Plan.Plan, Plan.PlannedKind, KeptResources.FormIsMarked, KeptResources.MarkedBy, NumberedRules.name_at, NumberedViews.Tables}
 use Rattle.plan_types.specs.Showings.{NumberedShowing}
-use Rattle.plan_type_laws.proofs.{KeptKinds.one_old, ShownRules.kept_forms, ShownRules.shown_kind}
+use Rattle.plan_type_laws.proofs.{ShownRules.kept_forms, ShownRules.shown_kind}
 use Rattle.plan_type_laws.specs.{KeptMarks.MarksAreKept, ShownMarks.IsMarkedAs, ShownMarks.MarksStand, ShownMarks.ShowingIsMarked}
 use Rattle.base_lemmas.proofs.Elements.{all_at}
 
 module _ (t : Tables) (showings : List NumberedShowing) (signatures : List ℕ) (m : MarksStand t showings signatures) (kept : List ℕ) (p : Plan) where
   kind_marked : (k : ℕ) (d : Option ℕ) (kind : PlannedKind) → IsMarkedAs m.marks k d → DeclaresKind t kept p d kind → MarkedBy t kept p m.marks kind (m.marks k)
-  kind_marked k d kind is (a_resource e f) = subst (λ x. MarkedBy t kept p m.marks x (m.marks k)) (sym f) (subst (IsMarkedAs m.marks k) e is)
-  kind_marked k d kind is (a_name old new e no_form b f) =
-      subst (λ x. MarkedBy t kept p m.marks x (m.marks k)) (sym f)
-      (λ other becomes. (let one : m.marks k ≡ m.marks old = subst (IsMarkedAs m.marks k) e is in one) ∙ ap m.marks (one_old kept old other new b.part becomes.part))
-  kind_marked k d kind is (a_form old n form olds news e at there z f) =
-      subst (λ x. MarkedBy t kept p m.marks x (m.marks k)) (sym f)
-      ((let one : m.marks k ≡ m.marks old = subst (IsMarkedAs m.marks k) e is in one) ∙ (ap m.marks at ∙ m.forms n form olds there))
+  kind_marked k d kind is y = search std_rules
 
 pub marks_kept : MarksAreKept
 marks_kept t tables showings signatures m marks used kept are p owners find finds types =

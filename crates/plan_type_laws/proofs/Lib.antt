@@ -6,7 +6,7 @@ pub mod InnerForms
 pub mod Walks
 -- Forms of what was followed are as definitions have them. Serves laws::forms_are_obeyed; crates above.
 pub mod FormsObeyed
--- What a type of a plan declares: its kind tells that. Serves KeptMarks, ShownRules; crates above.
+-- What a type of a plan declares: its kind tells that. Serves ShownRules; crates above.
 pub mod KeptKinds
 -- The places of what is shown, in trees and in numbers. Serves PartKinds, ShownMarks, ShownRules; crates above.
 pub mod PartPlaces

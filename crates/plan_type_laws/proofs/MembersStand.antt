@@ -1,5 +1,5 @@
 -- Parts that are well-formed each alone are so together.
-use Rattle.std.proofs.Common.{◌≡◌, sym, subst, ℕ, suc, ◌+◌, ◌⊎◌, inl, inr, arith, Bool, List, [], ◌∷◌, ◌++◌, length, Some, slice_get}
+use Rattle.std.proofs.Common.{rules as std_rules, ◌≡◌, sym, subst, ℕ, suc, ◌+◌, ◌⊎◌, inl, inr, arith, Bool, List, [], ◌∷◌, ◌++◌, length, Some, slice_get}
 use Rattle.std.proofs.ByRecursion.{All-weaker as recursion_weaker}
 use Rattle.std.specs.List.{AllByRecursion}
 use Rattle.wit_model.specs.{Text.Text, Tree.Place}
@@ -22,16 +22,7 @@ StandBehind {A} count xs all = (n : ℕ) (x : A) → slice_get xs n ≡ Some x �
 
 pub shown_behind : (count : ℕ) (some all : List Instance) → StandBehind count some all → (n : ℕ) (place : Place) (name : Text) (b : Bool) → IsShownBefore some n place name b
     → IsShownBefore all (count + n) place name b
-shown_behind count some all stand n place name b s = record {
-  number = count + s.number;
-  below = (let below = s.below in omega (arith, below));
-  shown = s.shown;
-  at = stand s.number s.shown s.at;
-  path = s.path;
-  of_path = s.of_path;
-  stands = s.stands;
-  shows = s.shows;
-}
+shown_behind count some all stand n place name b s = search std_rules
 
 module _ (all : List Instance) where
   views_behind : (count : ℕ) (members : List reads.Member) → StandBehind count (all_instances members) all → AllByRecursion MemberStands members

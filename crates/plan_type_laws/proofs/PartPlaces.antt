@@ -1,9 +1,9 @@
 -- The places of what is shown, in trees and in numbers.
 use Rattle.plan_parts.specs.Interfaces.{slot_part}
 use Rattle.plan_meaning.specs.{FollowedNumbers.IsSlotOf, NumberedMembers.Homes, NumberedMembers.HomesStand, NumberedMembers.home_at}
-use Rattle.plan_meaning.specs.NumberedViews.{AllOf, FunctionShape, PartsOf, Tables, path_text, place_at, NumberedSlot, resource, value}
-use Rattle.plan_meaning.specs.NumberedWorlds.{HasPath, KeyStands, NumberedKey, implementing, key_of, label, path, place_of_key, seen_of, shown_of}
-use Rattle.std.proofs.Common.{◌≡◌, sym, ap, subst, ◌∙◌, ℕ, true, false, List, [], map, Option, Some, None, slice_get, unwrap_or, ◌+◌}
+use Rattle.plan_meaning.specs.NumberedViews.{FunctionShape, PartsOf, Tables, path_text, place_at, NumberedSlot}
+use Rattle.plan_meaning.specs.NumberedWorlds.{HasPath, KeyStands, NumberedKey, key_of, place_of_key, seen_of, shown_of}
+use Rattle.std.proofs.Common.{rules as std_rules, ◌≡◌, sym, ap, subst, ◌∙◌, ℕ, false, List, [], map, Some, slice_get, unwrap_or, ◌+◌}
 use Rattle.std.proofs.{ByRecursion.All-weaker as recursion_weaker, lemmas.Option.same_Some as same-some}
 use Rattle.std.specs.List.{AllByRecursion}
 use Rattle.wit_model.specs.{Names.PackageIdentity, Names.path_in, Text.Text}
@@ -17,20 +17,14 @@ use Rattle.plan_type_laws.proofs.Walks.{all_any, at_each}
 use Rattle.plan_type_laws.specs.ShownMarks.{NamesSeen, NamesShown}
 use Rattle.base_lemmas.proofs.Lists.{map_of_map}
 use Rattle.read_shown.specs.Scopes as scopes
-use Rattle.read_rules.specs.declared.scopes.Shown.TheVariants as shown
 
 -- what holds of each part that a function has
 pub parts_weaker : (P Q : ℕ → Type 0) → ((k : ℕ) → P k → Q k) → (f : FunctionShape) → PartsOf P f → PartsOf Q f
-parts_weaker P Q one f all = (recursion_weaker (λ (x : Text × ℕ). P x.1) (λ (x : Text × ℕ). Q x.1) (λ x h. one x.1 h) f.params all.0, by f.result all.1)
-  where
-    by : (r : Option ℕ) → AllOf P r → AllOf Q r
-    by None given = tt
-    by (Some k) given = one k given
+parts_weaker P Q one f all = search (std_rules, recursion_weaker)
 
 -- the part of a slot
 pub slot_number : (t : Tables) (s : NumberedSlot) (n : ℕ) → IsSlotOf t s n → slot_part s ≡ 14 + n
-slot_number t (value k) n e = e
-slot_number t (resource k) n e = e
+slot_number t x n e = search std_rules
 
 module _ (t : Tables) where
   pub path_place : (p : ℕ) → HasPath t p → place_of (Some (path_text t p)) ≡ place_at t p
@@ -38,14 +32,11 @@ module _ (t : Tables) where
 
   -- the place of an instance
   pub key_place : (k : NumberedKey) → KeyStands t k → place_of (interface_of (key_of t k)) ≡ place_at t (place_of_key k)
-  key_place (path p) x = path_place p x
-  key_place (label l p) e = sym (ap place_of e)
-  key_place (implementing l p) x = path_place p x
+  key_place y x = search std_rules
 
   -- no type is exported
   no_name : (home : ℕ) (key : Text) (s : NumberShown) → scopes.is_type (shown_of t (numbered_shown s)) ≡ false → NamesShown t home key s
-  no_name home key (shown.Declares part d) none = let wrong : true ≡ false = none in absurd cc
-  no_name home key _ _ = tt
+  no_name home key x none = search std_rules
 
   pub no_names : (home : ℕ) (ss : List NumberSeen) → AllAt (λ n (s : Seen). scopes.is_type s.shown ≡ false) (map (seen_of t) (map numbered_seen ss)) → AllByRecursion (NamesSeen t home) ss
   no_names home ss none =

@@ -2,7 +2,7 @@
 use Rattle.plan_type_laws.proofs.{PartPlaces.slot_number, PartPlaces.parts_weaker, UsedWalk.unnamed_node, Walks.all_split, Walks.all_two, Walks.two_held}
 use Rattle.plan_type_laws.proofs.PartKinds.{NameKinds, ViewKinds, PartKinds, SeenKinds, ShownKinds, member_kinds}
 use Rattle.plan_type_laws.proofs.InnerForms.{form_range, handle_held, inner_names, inner_stands, name_alone, name_there, signature_parts_hold, view_part}
-use Rattle.std.proofs.Common.{◌≡◌, ◌⊎◌, inl, inr, refl, sym, ap, subst, ◌∙◌, ℕ, ◌+◌, ◌<◌, arith, Bool, true, false, not, List, [], ◌∷◌, map, Option, Some, None, option_and_then, slice_get, ◌==◌, filter, if◌then◌else◌, ◌++◌, is_none}
+use Rattle.std.proofs.Common.{rules as std_rules, ◌≡◌, ◌⊎◌, inl, inr, refl, sym, ap, subst, ◌∙◌, ℕ, ◌+◌, ◌<◌, arith, Bool, true, false, not, List, [], ◌∷◌, map, Option, Some, None, option_and_then, slice_get, ◌==◌, filter, if◌then◌else◌, ◌++◌}
 use Rattle.std.proofs.ByRecursion.{All-map as all_mapped, All-weaker as recursion_weaker}
 use Rattle.std.proofs.lemmas.Bool.{and_from as both, eqb-true, not-true}
 use Rattle.std.specs.{List.AllByRecursion, List.Contains, List.list_all, List.flat_map, Option.option_map_or}
@@ -14,7 +14,7 @@ use Rattle.plan_meaning.proofs.NumberedRules.{no_shape, shape_there}
 use Rattle.plan_meaning.specs.FollowedNumbers.{IsCalledIn, IsMetFrom, IsShownIn}
 use Rattle.plan_meaning.specs.{KeptResources.FormIsMarked, Shapes.named_shape, Shapes.node_shape, PlanRules.is_handle_form, NumberedMembers.NumberedMember}
 use Rattle.plan_meaning.specs.{NumberedRules.name_at, NumberedRules.name_in, NumberedWorlds.HasPath, NumberedWorlds.are_once, NumberedWorlds.place_of_key}
-use Rattle.plan_meaning.specs.NumberedViews.{AllOf, AreTables, HasNameIn, IsPart, NumberedFunction, NumberedType, NumberedView, PartsOf, Tables, declaration_of, function_at, inside, itself, place_at, signature_at, tree_at, path_at}
+use Rattle.plan_meaning.specs.NumberedViews.{AllOf, AreTables, HasNameIn, IsPart, NumberedFunction, NumberedType, NumberedView, PartsOf, Tables, declaration_of, function_at, inside, itself, place_at, signature_at, tree_at}
 use Rattle.plan_parts.specs.Interfaces.{slot_part}
 use Rattle.plan_types.specs.Showings.{NumberedShowing, showing_of, showings_of_view, signatures_of_view, showings_of_import, showings_of_members, showings_of_part, showings_of_seen, showings_of_shown, signatures_of_members, signatures_of_part, signatures_of_seen, signatures_of_shown}
 use Rattle.plan_type_laws.specs.ShownForms.{EachForm, HasNumberIn}
@@ -32,8 +32,7 @@ use Rattle.read_exports.specs.declared.members.Part.TheVariants as parts
 -- ---- The marks of names by their kinds: what is shown in one place is marked as it is shown.
 
 same_handle : (form : Form) → is_handle_form form ≡ is_handle form
-same_handle (Form.record_of names) = refl
-same_handle _ = refl
+same_handle x = search std_rules
 
 module _ (t : Tables) (tables : AreTables t) (kinds : Text → Text → Bool) (own_at : ℕ → Text → Bool) where
   -- whether the name of a place is a resource
@@ -75,9 +74,6 @@ module _ (t : Tables) (tables : AreTables t) (kinds : Text → Text → Bool) (o
 
   pub own_by_path : (p : ℕ) (own : Text → Bool) → HasPath t p → HasOwn p own
   own_by_path p own x name = ap (λ o. kind_at kinds own (place_of o) name) x.1 ∙ sym (ap (λ o. kind_at kinds (own_at p) (place_of o) name) x.1)
-
-  pub own_by_place : (p : ℕ) (own : Text → Bool) → own_at p ≡ own → HasOwn p own
-  own_by_place p own e name = ap (λ o. kind_at kinds o (place_at t p) name) (sym e)
 
   module _ (p : ℕ) (own : Text → Bool) (has : HasOwn p own) where
     abbrev Kind : Place → Text → Bool → Type 0
@@ -262,16 +258,10 @@ module _ (test : ℕ → Bool) where
   -- a place that isn't asked about differs from those that are
   past : (p : ℕ) → test p ≡ false → (fs : List Frame) → AllByRecursion (Differ p) fs
   past p e [] = tt
-  past p e (f ∷ fs) = ((λ h. by (p == f.0) refl h), past p e fs)
-    where
-      by : (b : Bool) → (p == f.0) ≡ b → test f.0 ≡ true → (p == f.0) ≡ false
-      by true is h = let wrong : true ≡ false = sym h ∙ (ap test (sym (eqb-true p f.0 is)) ∙ e) in absurd cc
-      by false is h = is
+  past p e (f ∷ fs) = search (std_rules, eqb-true, past p e fs)
 
   found_behind : (f : Frame) (fs : List Frame) → AllByRecursion (Differ f.0) fs → AllByRecursion (Found (own_in fs)) fs → AllByRecursion (Found (own_in (f ∷ fs))) fs
-  found_behind f fs apart found =
-      recursion_weaker (λ (g : Frame). Differ f.0 g × Found (own_in fs) g) (Found (own_in (f ∷ fs))) (λ g both h. ap (λ b. if b then f.1 else own_in fs g.0) (both.0 h) ∙ both.1 h) fs
-      (all_two (Differ f.0) (Found (own_in fs)) fs apart found)
+  found_behind f fs apart found = search (std_rules, recursion_weaker, both, all_two)
 
   -- each place without another of its number is found
   each_found : (fs : List Frame) → are_once (places fs) ≡ true → AllByRecursion (Found (own_in fs)) fs
@@ -306,21 +296,15 @@ module _ (t : Tables) (kinds : Text → Text → Bool) where
 
   places_shown : (home : ℕ) (own : Text → Bool) (key : Text) (s : NumberShown) (is : ShownKinds t kinds home own key s)
       → map (λ (f : Frame). f.0) (frames_of_shown home own key s is) ≡ places_of_shown (numbered_shown s)
-  places_shown home own key (shown.Instance k v) is = refl
-  places_shown home own key _ is = refl
+  places_shown home own key x is = search std_rules
 
   places_seen : (home : ℕ) (own : Text → Bool) (ss : List Seen) (all : AllByRecursion (SeenKinds t kinds home own) ss)
       → map (λ (f : Frame). f.0) (frames_of_seen home own ss all) ≡ places_of_seen (map numbered_seen ss)
   places_seen home own [] all = refl
-  places_seen home own (s ∷ ss) all =
-      append_of_map (λ (f : Frame). f.0) (frames_of_shown home own s.key.now s.shown all.0) (frames_of_seen home own ss all.1)
-      ∙ λ i. places_shown home own s.key.now s.shown all.0 i ++ places_seen home own ss all.1 i
+  places_seen home own (s ∷ ss) all = search (std_rules, append_of_map, places_shown, places_seen home own ss all.1)
 
   places_part : (part : Part) (is : PartKinds t kinds part) → map (λ (f : Frame). f.0) (frames_of_part part is) ≡ places_of_part (numbered_part part)
-  places_part (parts.World w) is =
-      ap (λ l. w.home ∷ l) (append_of_map (λ (f : Frame). f.0) (frames_of_seen w.home is.own w.imports.now is.imports) (frames_of_seen w.home is.own w.exports.now is.exports)
-      ∙ λ i. places_seen w.home is.own w.imports.now is.imports i ++ places_seen w.home is.own w.exports.now is.exports i)
-  places_part (parts.Interface p v imports) is = refl
+  places_part x is = search (std_rules, append_of_map, places_seen)
 
   places_are : (ms : List Member) (all : AllByRecursion (λ (m : Member). PartKinds t kinds m.part) ms)
       → map (λ (f : Frame). f.0) (frames ms all) ≡ flat_map (λ (m : NumberedMember). places_of_part m.part) (numbered_members ms)
@@ -334,11 +318,7 @@ module _ (t : Tables) (tables : AreTables t) (kinds : Text → Text → Bool) (o
   Owned f = has_no_path t f.0 ≡ true → own_at f.0 ≡ f.1
 
   owned : (p : ℕ) (own : Text → Bool) → Owned (p, own) → HasOwn t tables kinds own_at p own
-  owned p own found = by (path_at t p) refl
-    where
-      by : (o : Option Text) → path_at t p ≡ o → HasOwn t tables kinds own_at p own
-      by None e = own_by_place t tables kinds own_at p own (found (ap is_none e))
-      by (Some path) e = own_by_path t tables kinds own_at p own (path, e)
+  owned p own found = search std_rules
 
   abbrev Holds : List NumberedShowing → List ℕ → Type 0
   Holds showings signatures = AreShown t tables kinds own_at showings signatures

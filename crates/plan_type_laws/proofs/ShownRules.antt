@@ -1,11 +1,11 @@
 -- What is shown of what was read obeys the rules.
 use Rattle.plan_type_laws.proofs.{Walks.all_two, Walks.Held, Walks.two_held, KeptKinds.kinds_tell, InnerForms.name_there}
 use Rattle.plan_type_laws.proofs.UsedWalk.{form_there, in_both, in_flat, one_there, unnamed_node, used_fine}
-use Rattle.plan_type_laws.proofs.PartPlaces.{exported_place, key_place, no_names, parts_weaker, path_place, slot_number}
-use Rattle.std.proofs.Common.{◌≡◌, refl, sym, ap, subst, ◌∙◌, ℕ, zero, suc, ◌+◌, ◌-◌, arith, Bool, true, false, not, ◌==◌, if◌then◌else◌, List, [], ◌∷◌, map, length, Option, Some, None, option_and_then, option_to_list, slice_get, ◌<◌, ◌&&◌, ◌||◌, ◌++◌}
-use Rattle.std.proofs.{lemmas.Bool.ltb-false, ByRecursion.All-weaker as recursion_weaker}
+use Rattle.plan_type_laws.proofs.PartPlaces.{exported_place, key_place, no_names, parts_weaker, path_place}
+use Rattle.std.proofs.Common.{rules as std_rules, ◌≡◌, refl, sym, ap, subst, ◌∙◌, ℕ, zero, suc, ◌+◌, ◌-◌, arith, Bool, true, false, not, ◌==◌, if◌then◌else◌, List, [], ◌∷◌, map, length, Option, Some, None, option_and_then, option_to_list, slice_get, ◌<◌, ◌&&◌, ◌||◌, ◌++◌}
+use Rattle.std.proofs.{ByRecursion.All-weaker as recursion_weaker}
 use Rattle.std.proofs.lemmas.{Option.same_Some as same-some, Option.slice_get_within, Slice.Zip.AllZip-long as zip_length, List.Folds.list_all-append}
-use Rattle.std.specs.{Prelude.nat_lt, Option.option_map_or}
+use Rattle.std.specs.{Option.option_map_or}
 use Rattle.std.specs.List.{AllByRecursion, AllZip, Contains, flat_map, list_all, list_any}
 use Rattle.wit_model.specs.declared.model.TypeOwner.{TypeOwner}
 use Rattle.wit_model.specs.{Text.Text, Tree.Form, Tree.Place, Meaning.FunctionMeaning, Meaning.Signature, Names.PackageIdentity, Names.is_label, Names.path_in}
@@ -66,19 +66,11 @@ function_part P f all k there = in_both (map (λ (x : Text × ℕ). x.1) f.param
 
 -- the shape of a part
 pub numbered_shape : (t : Tables) (k : ℕ) (s : Shape) → shape_at t k ≡ Some s → (n : ℕ) × (k ≡ 14 + n) × (slice_get t.shapes n ≡ Some s)
-numbered_shape t k s at = by (nat_lt k 14) refl at
-  where
-    by : (b : Bool) → nat_lt k 14 ≡ b → option_and_then (slice_get t.shapes) (if b then None else Some (k - 14)) ≡ Some s → (n : ℕ) × (k ≡ 14 + n) × (slice_get t.shapes n ≡ Some s)
-    by true low at = let wrong : None ≡ Some s = at in absurd cc
-    by false high at = (k - 14, omega (arith, ltb-false k 14 high), at)
+numbered_shape t k s at = search std_rules
 
 -- a form has no name
 pub form_unnamed : (s : Shape) → not (s.sort == 0) ≡ true → name_in s ≡ None
-form_unnamed s form = by (s.sort == 0) refl form
-  where
-    by : (b : Bool) → (s.sort == 0) ≡ b → not b ≡ true → name_in s ≡ None
-    by true e h = let wrong : false ≡ true = h in absurd cc
-    by false e h = ap (λ b. if b then Some (s.number, first_label s.labels) else None) e
+form_unnamed s form = search std_rules
 
 module _ (t : Tables) (tables : AreTables t) (P : Form → List ℕ → Type 0) where
   -- a part of a form of which it holds
@@ -185,16 +177,7 @@ module _ (t : Tables) (tables : AreTables t) where
   -- ---- types
 
   type_obeys : (p : ℕ) (x : NumberedType) → IsShownIn t p x → (is_label x.name && rules.is_declared (place_at t p) (declaration_of t x.declared)) ≡ true → ShowingIsName t (showing_of x)
-  type_obeys p x is h = record {
-    number = is.number;
-    home = p;
-    name = x.name;
-    part = slot_number t x.slot is.number is.slot;
-    there = is.name.named;
-    behind = is.name.behind;
-    label = first_true (is_label x.name) (rules.is_declared (place_at t p) (declaration_of t x.declared)) h;
-    obeys = second_true (is_label x.name) (rules.is_declared (place_at t p) (declaration_of t x.declared)) h;
-  }
+  type_obeys p x is h = search std_rules
 
   types_obey : (p : ℕ) (xs : List NumberedType) → AllByRecursion (IsShownIn t p) xs
       → list_all (λ (x : ShownType). is_label x.name && rules.is_declared (place_at t p) x.meaning.declaration) (map (shown_type t) xs) ≡ true
@@ -340,22 +323,11 @@ module _ (t : Tables) (tables : AreTables t) where
   -- ---- what follows for each name
 
   name_is_shown : (s : NumberedShowing) → ShowingIsName t s → ShowingObeys t s
-  name_is_shown s is = record {
-    place = place_at t is.home;
-    name = (is.home, is.name);
-    is = name_there t s.part is.number is.home is.name is.part is.there;
-    range = by s.declared is.behind;
-    obeys = is.obeys;
-  }
-    where
-      by : (d : Option ℕ) → AllOf (λ k. k < 14 + is.number) d → AllOf (IsPart t) d
-      by None low = tt
-      by (Some k) low = let small = slice_get_within t.shapes is.number (named_shape is.home is.name) is.there in omega (arith, low, small)
+  name_is_shown s is =
+      search (std_rules, name_there t s.part is.number is.home is.name is.part is.there, slice_get_within t.shapes is.number (named_shape is.home is.name) is.there)
 
 pub shown_obeys : ShownObeysRules
-shown_obeys t tables h stand ms members zip stands may within names =
-    let held = members_obey t tables h stand ms members zip stands.parts may within names in
-    record { names = held.0; declared = recursion_weaker (ShowingIsName t) (ShowingObeys t) (name_is_shown t tables) (showings_of_members ms) held.0; called = held.1 }
+shown_obeys t tables h stand ms members zip stands may within names = search (std_rules, members_obey, recursion_weaker, name_is_shown)
 
 pub names_obey : NamesObeyRules
 names_obey t tables showings are find finds p owners marks homes n q name s mark there found =

@@ -1,12 +1,12 @@
 -- Types that are used, where what is shown obeys the rules.
 use Rattle.plan_meaning.proofs.{NumberedRules.shape_there, NumberedRules.no_shape}
 use Rattle.plan_meaning.proofs.ShapeLaws.{PartView, is_name, is_node, is_primitive, viewed}
-use Rattle.std.proofs.Common.{◌≡◌, refl, sym, ap, subst, ◌∙◌, ℕ, ◌+◌, ◌-◌, ◌<◌, ◌≤◌, arith, Bool, true, false, not, ◌&&◌, ◌==◌, nat_le, if◌then◌else◌, List, [], ◌∷◌, map, Option, Some, None, option_and_then, option_map, option_to_list, slice_get}
+use Rattle.std.proofs.Common.{rules as std_rules, ◌≡◌, refl, sym, ap, subst, ◌∙◌, ℕ, ◌+◌, ◌-◌, ◌<◌, ◌≤◌, arith, Bool, true, false, not, ◌&&◌, ◌==◌, nat_le, if◌then◌else◌, List, [], ◌∷◌, map, Option, Some, None, option_and_then, option_map, option_to_list, slice_get}
 use Rattle.std.proofs.lemmas.{Bool.le-leb, Bool.leb-true, Option.slice_get_within, Option.same_Some as same-some}
 use Rattle.std.specs.{List.AllByRecursion, List.flat_map, List.list_all, Option.option_map_or}
 use Rattle.wit_model.specs.{Text.Text, Uses.has}
 use Rattle.wit_model.specs.Tree.{Declaration, Form, Place, Tree, children, deepest, levels}
-use Rattle.comp_meaning.specs.Rules.{are_labels, are_parts, form_labels, is_named_form, most_levels}
+use Rattle.comp_meaning.specs.Rules.{are_labels, are_parts, form_labels, most_levels}
 use Rattle.plan_meaning.specs.NumberedRules.{is_form, name_at, name_in}
 use Rattle.plan_meaning.specs.NumberedViews.{AllOf, AreTables, IsPart, Tables, declaration_of, function_at, place_at, signature_at, tree_at}
 use Rattle.plan_meaning.specs.Shapes.{Shape, first_label, named_shape, node_shape, part_tree, shape_trees}
@@ -53,11 +53,7 @@ module _ (t : Tables) (tables : AreTables t) where
 
   -- the parts of a fine part
   parts_of_fine : (n : ℕ) (s : Shape) → slice_get t.shapes n ≡ Some s → name_in s ≡ None → IsFinePart t (14 + n) → (k : ℕ) → has s.parts k ≡ true → IsFinePart t k
-  parts_of_fine n s at no_name fine k there =
-      let node = node_of n s at no_name in
-      among_parts fine.place s.parts
-      (second_true (not (is_named_form node.0)) (are_parts fine.place (children (map (tree_at t) s.parts))) (sym (ap (rules.is_part fine.place) node.1) ∙ fine.part))
-      (omega (arith, leb-true (levels (tree_at t (14 + n))) most_levels fine.shallow, ap levels node.1)) k there
+  parts_of_fine n s at no_name fine k there = search (std_rules, node_of, among_parts, second_true, leb-true)
 
   -- ---- what is shown
 

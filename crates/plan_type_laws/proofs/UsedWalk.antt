@@ -1,23 +1,19 @@
 -- What holds of each unnamed type that is used: what holds of those that are shown, and of the parts of each of which it holds.
-use Rattle.std.proofs.Common.{◌≡◌, refl, sym, ap, ◌∙◌, ℕ, ◌+◌, inl, inr, Bool, true, false, ◌||◌, ◌==◌, List, [], ◌∷◌, ◌++◌, map, Option, Some, None, option_map, slice_get}
-use Rattle.std.proofs.lemmas.{Bool.eqb-true, Bool.or_cases, Option.slice_get_within, Option.same_Some as same-some, Option.slice_get-map as get_of_map}
+use Rattle.std.proofs.Common.{rules as std_rules, ◌≡◌, refl, sym, ap, ◌∙◌, ℕ, ◌+◌, inl, inr, Bool, true, false, ◌==◌, List, [], ◌∷◌, ◌++◌, map, Option, Some, None, option_map, slice_get}
+use Rattle.std.proofs.lemmas.{Bool.or_cases, Option.slice_get_within, Option.same_Some as same-some, Option.slice_get-map as get_of_map}
 use Rattle.std.proofs.lemmas.List.Folds.{list_any-append}
 use Rattle.std.specs.List.{AllByRecursion, Contains, flat_map}
 use Rattle.wit_model.specs.{Text.Text, Tree.Form, Uses.has}
 use Rattle.wit_model.proofs.Elements.{contains-has}
 use Rattle.plan_meaning.specs.NumberedRules.{name_in}
-use Rattle.plan_meaning.specs.{NumberedViews.AreTables, NumberedViews.Tables, Shapes.Shape, Shapes.IsShape, Shapes.a_name, Shapes.a_node, Shapes.node_shape}
+use Rattle.plan_meaning.specs.{NumberedViews.AreTables, NumberedViews.Tables, Shapes.Shape, Shapes.IsShape, Shapes.node_shape}
 use Rattle.plan_parts.specs.Marks.{IsUsed, is_marked, marked, part}
 use Rattle.plan_types.specs.{Showings.NumberedShowing, Used.function_parts, Used.showing_parts, Used.used_parts, Used.AreUsed}
 
 -- ---- lists
 
 pub one_there : (k j : ℕ) → has (k ∷ []) j ≡ true → k ≡ j
-one_there k j there = by (k == j) refl there
-  where
-    by : (b : Bool) → (k == j) ≡ b → (b || false) ≡ true → k ≡ j
-    by true e h = eqb-true k j e
-    by false e h = let wrong : false ≡ true = h in absurd cc
+one_there k j there = search std_rules
 
 pub in_both : {R : Type 0} (xs ys : List ℕ) (k : ℕ) → (has xs k ≡ true → R) → (has ys k ≡ true → R) → has (xs ++ ys) k ≡ true → R
 in_both xs ys k first second there = elim (or_cases (has xs k) (has ys k) (sym (list_any-append (λ m. m == k) xs ys) ∙ there)) [ inl h ↦ first h | inr h ↦ second h ]
@@ -30,17 +26,14 @@ in_flat f P k one (x ∷ xs) all there = in_both (f x) (flat_map f xs) k (one x 
 -- ---- shapes
 
 pub unnamed_node : (f : Form) (ks : List ℕ) → name_in (node_shape f ks) ≡ None
-unnamed_node (Form.record_of names) ks = refl
-unnamed_node _ ks = refl
+unnamed_node x ks = search std_rules
 
 -- a shape without a name is that of a form
 pub form_there : (n : ℕ) (s : Shape) → name_in s ≡ None → IsShape n s → (form : Form) × (parts : List ℕ) × (s ≡ node_shape form parts)
-form_there n s no_name (a_name q name e) = let wrong : ◌≡◌ {A = Option (ℕ × Text)} None (Some (q, name)) = sym no_name ∙ ap name_in e in absurd cc
-form_there n s no_name (a_node form parts e below) = (form, parts, e)
+form_there n s no_name x = search std_rules
 
 no_parts : (n : ℕ) (s : Shape) (x : ℕ × Text) → name_in s ≡ Some x → IsShape n s → s.parts ≡ []
-no_parts n s x is (a_name q name e) = ap (λ (s : Shape). s.parts) e
-no_parts n s x is (a_node f ks e below) = let wrong : None ≡ Some x = sym (unnamed_node f ks) ∙ (sym (ap name_in e) ∙ is) in absurd cc
+no_parts n s x is y = search std_rules
 
 -- ---- what is used
 

@@ -1,6 +1,5 @@
 -- Functions by the resources that they belong to.
-use Rattle.std.proofs.Common.{◌≡◌, refl, sym, ap, ◌∙◌, Bool, true, false, cond, List, [], ◌∷◌, ◌++◌, Option, Some, None, filter, map, option_and_then, if◌then◌else◌}
-use Rattle.std.proofs.lemmas.Bool.{and_from as both}
+use Rattle.std.proofs.Common.{rules as std_rules, ◌≡◌, refl, sym, ap, ◌∙◌, Bool, true, cond, List, [], ◌∷◌, ◌++◌, Option, Some, None, filter, map, option_and_then, if◌then◌else◌}
 use Rattle.std.specs.{Prelude.is_some, List.list_all, Option.option_map_or}
 use Rattle.wit_model.specs.declared.model.{Resolve.Resolve, Function.Function, TypeDef.TypeDef, TypeId.TypeId, TypeOwner.TypeOwner}
 use Rattle.wit_model.specs.Lookup.{type_at}
@@ -13,16 +12,14 @@ use Rattle.base_lemmas.proofs.Bools.{left_of, right_of}
 
 module _ {X : Type 0} (test : X → Bool) where
   twice_by : (b : Bool) (x : X) (xs : List X) → test x ≡ b → filter test xs ≡ xs → filter test (cond b (x ∷ xs) xs) ≡ cond b (x ∷ xs) xs
-  twice_by true x xs e h = rw e (ap (λ ys. x ∷ ys) h)
-  twice_by false x xs e h = h
+  twice_by y x xs e h = search std_rules
 
   filter_twice : (xs : List X) → filter test (filter test xs) ≡ filter test xs
   filter_twice [] = refl
   filter_twice (x ∷ xs) = twice_by (test x) x (filter test xs) refl (filter_twice xs)
 
   some_by : (holds : X → Bool) (b : Bool) (x : X) (xs : List X) → holds x ≡ true → list_all holds xs ≡ true → list_all holds (cond b (x ∷ xs) xs) ≡ true
-  some_by holds true x xs one others = both (holds x) _ one others
-  some_by holds false x xs one others = others
+  some_by holds y x xs one others = search std_rules
 
   -- what holds of all holds of some
   pub all_of_some : (holds : X → Bool) (xs : List X) → list_all holds xs ≡ true → list_all holds (filter test xs) ≡ true

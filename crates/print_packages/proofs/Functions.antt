@@ -1,11 +1,11 @@
 -- The functions of an interface, one after the other.
-use Rattle.std.proofs.Common.{◌≡◌, refl, sym, ap, ◌∙◌, Bool, true, false, ◌||◌, not, List, [], ◌∷◌, ◌++◌, append-nil, Some}
+use Rattle.std.proofs.Common.{rules as std_rules, ◌≡◌, sym, ◌∙◌, Bool, true, ◌||◌, not, List, [], ◌∷◌, ◌++◌, Some}
 use Rattle.std.proofs.lemmas.List.Folds.{list_all-map}
 use Rattle.std.specs.{Prelude.String, List.list_all}
 use Rattle.std.specs.declared.alloc.Global.{Global}
 use Rattle.wit_model.specs.declared.model.{Resolve.Resolve, Function.Function, Interface.Interface, InterfaceId.InterfaceId}
 use Rattle.wit_model.specs.{Lookup.interface_at, Rules.is_freestanding, Text.text_of, Valid.IsValid}
-use Rattle.print_grammar.specs.{Tree.MemberTree, Calls.function_calls, Calls.item_calls, Calls.members_calls, Calls.prefix_calls, Calls.line_after_calls}
+use Rattle.print_grammar.specs.{Tree.MemberTree, Calls.members_calls, Calls.prefix_calls, Calls.line_after_calls}
 use Rattle.print_grammar.specs.WellNamed.{is_well_member}
 use Rattle.print_items.specs.{Shown.function_prefix, Shown.listed_functions, Shown.shown_function, Shown.shown_signature, ItemCalls.named_calls}
 use Rattle.print_uses.specs.Printable.{is_printable_function, shown_functions}
@@ -18,16 +18,12 @@ use Rattle.wit_model.specs.declared.model.TypeOwner.TheVariants as owner
 pub function_alone : (emits printed : Bool) (r : Resolve) (f : Function)
     → line_after_calls printed ++ (prefix_calls emits (function_prefix f) ++ named_calls (text_of f.name) FunctionFreestanding (shown_signature r f)) ≡ members_calls emits printed
     (shown_function r f ∷ [])
-function_alone emits true r f = sym (append-nil _)
-function_alone emits false r f = sym (append-nil _)
+function_alone emits x r f = search std_rules
 
 -- one function and then others
 one_and_more : (emits printed : Bool) (r : Resolve) (f : Function) (ms : List MemberTree)
     → members_calls emits printed (shown_function r f ∷ ms) ≡ members_calls emits printed (shown_function r f ∷ []) ++ members_calls emits true ms
-one_and_more emits true r f ms = ap (λ x. x ++ members_calls emits true ms)
-    (sym (append-nil (item_calls true (function_calls emits (function_prefix f) (text_of f.name) FunctionFreestanding (shown_signature r f)))))
-one_and_more emits false r f ms = ap (λ x. x ++ members_calls emits true ms)
-    (sym (append-nil (item_calls false (function_calls emits (function_prefix f) (text_of f.name) FunctionFreestanding (shown_signature r f)))))
+one_and_more emits y r f ms = search std_rules
 
 module _ (emits printed : Bool) (r : Resolve) (e : String Global × Function) (es : List (String Global × Function)) where
   -- a freestanding function is next
@@ -36,17 +32,12 @@ module _ (emits printed : Bool) (r : Resolve) (e : String Global × Function) (e
   next_shown h = rw h (one_and_more emits printed r e.1 (shown_functions r es))
 
 pub printable_member : (r : Resolve) (f : Function) → is_printable_function r f ≡ true → is_freestanding f.kind ≡ true → is_well_member (shown_function r f) ≡ true
-printable_member r f h free = go (is_freestanding f.kind) (is_well_member (shown_function r f)) free h
-  where
-    go : (a b : Bool) → a ≡ true → (not a || b) ≡ true → b ≡ true
-    go true b e k = k
-    go false b e k = absurd cc
+printable_member r f h free = search std_rules
 
 -- ---- interfaces of a valid `Resolve`
 
 implied_by : (a b : Bool) → (a ≡ true → b ≡ true) → (not a || b) ≡ true
-implied_by true b f = f refl
-implied_by false b f = refl
+implied_by x b f = search std_rules
 
 pub functions_printable : (r : Resolve) (id : InterfaceId) (i : Interface) → IsValid r → interface_at r id.0 ≡ Some i → list_all (λ e. is_printable_function r e.1) i.functions.entries ≡ true
 functions_printable r id i valid at =

@@ -1,5 +1,5 @@
 -- One type that is handed in after the other is printed.
-use Rattle.std.proofs.Common.{◌≡◌, refl, sym, ap, subst, ◌∙◌, ℕ, ◌+◌, ◌<◌, ◌==◌, Bool, true, false, List, [], ◌∷◌, ◌++◌, Option, Some, Vec, length, drop, get_or, cond}
+use Rattle.std.proofs.Common.{rules as std_rules, ◌≡◌, refl, sym, ap, subst, ◌∙◌, ℕ, ◌+◌, ◌<◌, ◌==◌, Bool, true, List, [], ◌∷◌, ◌++◌, Option, Some, Vec, length, drop, get_or, cond}
 use Rattle.std.proofs.lemmas.List.{drop_more}
 use Rattle.std.specs.{Borrow.Bor, List.list_all, Map.lookup, Option.option_map_or}
 use Rattle.std.specs.declared.alloc.Global.{Global}
@@ -17,8 +17,7 @@ use Rattle.base_lemmas.proofs.Bools.{left_of, right_of}
 under_test : (r : Resolve) (o : TypeOwner) (fs : Vec (Bor Function) Global) (found : Option (Vec (Bor Function) Global)) (b : Bool)
     → list_all (is_listed_function r o) (behind fs) ≡ true → list_all (is_listed_function r o) (option_map_or behind found []) ≡ true
     → list_all (is_listed_function r o) (option_map_or behind (cond b (Some fs) found) []) ≡ true
-under_test r o fs found true here then = here
-under_test r o fs found false here then = then
+under_test r o fs found x here then = search std_rules
 
 -- the functions under a type number are of the owner's resources, as all are
 pub under_known : (r : Resolve) (o : TypeOwner) (id : TypeId) (entries : Functions) → are_functions_of r o entries ≡ true → list_all (is_listed_function r o) (functions_under entries id) ≡ true
@@ -66,8 +65,4 @@ module _ (ts : List (Bor Text × TypeId)) (i : ℕ) (d : Bor Text × TypeId) (wi
       → fs ≡ functions_under entries (get_or ts i d).1
       → printed_after has (given_declarations r o entries (listed_of (drop i ts))) ≡ all
       → printed ≡ printed_after has (listed_declaration r o fs here) → printed_after printed rest ≡ all
-  given_some fs printed all same h e =
-      ap (λ b. printed_after b rest) (e ∙ ap (λ gs. printed_after has (listed_declaration r o gs here)) same)
-      ∙ sym (printed_append has one rest)
-      ∙ ap (printed_after has) (sym given_next)
-      ∙ h
+  given_some fs printed all same h e = search (std_rules, printed_append, given_next)

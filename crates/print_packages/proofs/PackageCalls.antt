@@ -1,23 +1,22 @@
 -- What is shown of worlds and packages, and its calls.
-use Rattle.std.proofs.Common.{◌≡◌, cond, refl, sym, ap, subst, ◌∙◌, ℕ, Bool, true, false, ◌&&◌, ◌||◌, List, [], ◌∷◌, ◌++◌, append_assoc, Option, Some, None, map, filter, T, eqb→eq, slice_get, get_or, zero, suc, length}
+use Rattle.std.proofs.Common.{rules as std_rules, ◌≡◌, refl, sym, ap, ◌∙◌, ℕ, Bool, true, false, ◌&&◌, ◌||◌, List, [], ◌∷◌, ◌++◌, append_assoc, Option, Some, None, map, filter, slice_get, get_or, zero, suc, length}
 use Rattle.std.proofs.lemmas.Grind.{flat_map-append}
-use Rattle.std.specs.{Prelude.codes, Prelude.String, Prelude.option_map, Prelude.if◌then◌else◌, List.list_all, List.flat_map, List.filter_map, List.cons_option}
+use Rattle.std.specs.{Prelude.codes, Prelude.String, Prelude.option_map, Prelude.if◌then◌else◌, List.flat_map, List.filter_map, List.cons_option}
 use Rattle.std.specs.Option.{option_map_or}
 use Rattle.std.specs.declared.alloc.Global.{Global}
 use Rattle.wit_model.specs.declared.model.{Resolve.Resolve, Package.Package, Interface.Interface, InterfaceId.InterfaceId, WorldId.WorldId, PackageId.PackageId}
 use Rattle.wit_model.specs.declared.model.World.{World}
-use Rattle.wit_model.specs.{Text.Text, Text.text_of, Names.is_label, Rules.has_items, Rules.in_list, Rules.is_id, Rules.package_number, Rules.passes}
+use Rattle.wit_model.specs.{Text.Text, Text.text_of, Names.is_label, Rules.has_items, Rules.is_id, Rules.package_number}
 use Rattle.wit_model.specs.Lookup.{package_at, world_at, interface_at}
-use Rattle.print_output.specs.OutputCall.{OutputCall, is_one_line}
-use Rattle.print_grammar.specs.{Tree.ItemTree, Tree.WorldMember, WellNamed.is_well_gates, WellNamed.is_well_item}
-use Rattle.print_grammar.specs.{Tree.WorldMember.WorldType, Tree.WorldMember.WorldUse, Tree.MemberTree.TypeMember, Tree.MemberTree.UseMember, Keyword.escaped}
-use Rattle.print_grammar.specs.Calls.{declared_calls, item_calls, members_calls, prefix_calls, printed_after, space, use_calls, world_members_calls, package_item_calls, block_calls, doc_calls, gates_calls, more_nested_calls, nested_calls, package_outer_calls, package_start_calls, package_end_calls, package_calls, line_after_calls}
-use Rattle.print_uses.specs.UseGroups.{declared_members, is_listed_type, use_members}
-use Rattle.print_uses.specs.Printable.{imports_interfaces, is_printable_entry, is_printable_import, printed_imports, is_printable_interface, is_printable_world, IsPrintableWorld, entry_calls, interface_entry_calls, world_body_calls, world_calls, is_printable_listed, listed_calls, listed_interface_calls, listed_package_calls, next_package_calls}
+use Rattle.print_output.specs.OutputCall.{OutputCall}
+use Rattle.print_grammar.specs.{Tree.ItemTree, Tree.WorldMember, WellNamed.is_well_gates}
+use Rattle.print_grammar.specs.{Tree.WorldMember.WorldType, Tree.WorldMember.WorldUse, Tree.MemberTree.TypeMember, Tree.MemberTree.UseMember}
+use Rattle.print_grammar.specs.Calls.{members_calls, printed_after, world_members_calls, package_item_calls, more_nested_calls, nested_calls, package_calls, line_after_calls}
+use Rattle.print_uses.specs.UseGroups.{declared_members, use_members}
+use Rattle.print_uses.specs.Printable.{imports_interfaces, printed_imports, is_printable_interface, is_printable_world, IsPrintableWorld, entry_calls, interface_entry_calls, world_body_calls, world_calls, is_printable_listed, listed_calls, listed_interface_calls, listed_package_calls, next_package_calls}
 use Rattle.print_uses.proofs.Declarations.{after_printed, members_append, printed_append}
-use Rattle.print_items.specs.Shown.{DeclaredWith, Entry, Used, listed_imports, shown_declarations, shown_path, shown_uses, is_interface_item, is_freestanding_item, imported_functions, shown_import, shown_export, shown_interface, shown_world, shown_world_in, shown_world_item, shown_interface_item, shown_docs, shown_gates, shown_head, shown_package, shown_package_of}
-use Rattle.print_output.specs.declared.type_kind.TypeKind.TheVariants.{WorldDeclaration}
-use Rattle.base_lemmas.proofs.Bools.{left_of as first_true, or_false, or_true, right_of as second_true}
+use Rattle.print_items.specs.Shown.{DeclaredWith, Entry, Used, listed_imports, shown_declarations, shown_path, shown_uses, is_interface_item, is_freestanding_item, imported_functions, shown_import, shown_export, shown_interface, shown_world, shown_world_in, shown_world_item, shown_interface_item, shown_docs, shown_gates, shown_package, shown_package_of}
+use Rattle.base_lemmas.proofs.Bools.{left_of as first_true, right_of as second_true}
 use Rattle.wit_model.specs.declared.model.TypeOwner.TheVariants as owner
 
 -- ---- the calls for what a world without types has
@@ -28,18 +27,14 @@ shown_after printed [] = printed
 shown_after printed (x ∷ xs) = true
 
 after_true : (xs : List Entry) → shown_after true xs ≡ true
-after_true [] = refl
-after_true (x ∷ xs) = refl
+after_true x = search std_rules
 
 module _ (emits : Bool) (r : Resolve) (here : PackageId) where
   entries_calls : (printed : Bool) (xs : List Entry) (rest : List WorldMember)
       → world_members_calls emits printed false (map (shown_import r here) xs ++ rest) ≡ flat_map (entry_calls emits r here (codes "import")) xs ++ world_members_calls emits
       (shown_after printed xs) false rest
   entries_calls printed [] rest = refl
-  entries_calls printed (x ∷ xs) rest =
-      ap (λ calls. entry_calls emits r here (codes "import") x ++ calls)
-      (entries_calls true xs rest ∙ ap (λ b. flat_map (entry_calls emits r here (codes "import")) xs ++ world_members_calls emits b false rest) (after_true xs))
-      ∙ sym (append_assoc (entry_calls emits r here (codes "import") x) (flat_map (entry_calls emits r here (codes "import")) xs) (world_members_calls emits true false rest))
+  entries_calls printed (x ∷ xs) rest = search (std_rules, after_true, append_assoc, entries_calls true xs rest)
 
   more_exports : (ys : List Entry) → world_members_calls emits true true (map (shown_export r here) ys) ≡ flat_map (entry_calls emits r here (codes "export")) ys
   more_exports [] = refl
@@ -47,24 +42,15 @@ module _ (emits : Bool) (r : Resolve) (here : PackageId) where
 
   exports_after : (printed : Bool) (ys : List Entry)
       → world_members_calls emits printed false (map (shown_export r here) ys) ≡ line_after_calls (printed && has_items ys) ++ flat_map (entry_calls emits r here (codes "export")) ys
-  exports_after true [] = refl
-  exports_after false [] = refl
-  exports_after true (y ∷ ys) = ap (λ calls. (OutputCall.Newline ∷ entry_calls emits r here (codes "export") y) ++ calls) (more_exports ys)
-  exports_after false (y ∷ ys) = ap (λ calls. entry_calls emits r here (codes "export") y ++ calls) (more_exports ys)
+  exports_after x z = search (std_rules, more_exports)
 
   -- those that pass a test make the runs of all, where the others make none
   kept_runs : (run : Entry → List OutputCall) (test : Entry → Bool) (xs : List Entry) → flat_map run (filter test xs) ≡ flat_map (λ e. if test e then run e else []) xs
   kept_runs run test [] = refl
-  kept_runs run test (x ∷ xs) = go (test x) (kept_runs run test xs)
-    where
-      go : (b : Bool) → flat_map run (filter test xs) ≡ flat_map (λ e. if test e then run e else []) xs
-          → flat_map run (cond b (x ∷ filter test xs) (filter test xs)) ≡ (if b then run x else []) ++ flat_map (λ e. if test e then run e else []) xs
-      go true rest = ap (λ calls. run x ++ calls) rest
-      go false rest = rest
+  kept_runs run test (x ∷ xs) = search (std_rules, kept_runs run test xs)
 
   shown_after_is : (printed : Bool) (xs : List Entry) → shown_after printed xs ≡ (printed || has_items xs)
-  shown_after_is printed [] = sym (or_false printed)
-  shown_after_is printed (x ∷ xs) = sym (or_true printed)
+  shown_after_is printed x = search std_rules
 
   -- uses and declared types of a world are those of an interface
   world_uses : (printed : Bool) (us : List Used) (rest : List WorldMember)
@@ -72,21 +58,13 @@ module _ (emits : Bool) (r : Resolve) (here : PackageId) where
       ≡ members_calls emits printed (map (λ used. UseMember used.prefix (shown_path r here used.interface) used.names) us) ++ world_members_calls emits
       (printed_after printed (map (λ used. UseMember used.prefix (shown_path r here used.interface) used.names) us)) false rest
   world_uses printed [] rest = refl
-  world_uses printed (u ∷ us) rest =
-      let ms = map (λ used. UseMember used.prefix (shown_path r here used.interface) used.names) us in
-      let first = use_calls emits u.prefix (shown_path r here u.interface) u.names in
-      ap (λ calls. first ++ calls) (world_uses true us rest ∙ ap (λ b. members_calls emits true ms ++ world_members_calls emits b false rest) (after_printed ms))
-      ∙ sym (append_assoc first (members_calls emits true ms) (world_members_calls emits true false rest))
+  world_uses printed (u ∷ us) rest = search (std_rules, after_printed, append_assoc, world_uses true us rest)
 
   world_declared : (printed : Bool) (ds : List DeclaredWith) (rest : List WorldMember)
       → world_members_calls emits printed false (map (λ d. WorldType d.prefix d.declared) ds ++ rest)
       ≡ members_calls emits printed (map (λ d. TypeMember d.prefix d.declared) ds) ++ world_members_calls emits (printed_after printed (map (λ d. TypeMember d.prefix d.declared) ds)) false rest
   world_declared printed [] rest = refl
-  world_declared printed (d ∷ ds) rest =
-      let ms = map (λ (x : DeclaredWith). TypeMember x.prefix x.declared) ds in
-      let first = item_calls printed (prefix_calls emits d.prefix ++ declared_calls emits d.declared) in
-      ap (λ calls. first ++ calls) (world_declared true ds rest ∙ ap (λ b. members_calls emits true ms ++ world_members_calls emits b false rest) (after_printed ms))
-      ∙ sym (append_assoc first (members_calls emits true ms) (world_members_calls emits true false rest))
+  world_declared printed (d ∷ ds) rest = search (std_rules, after_printed, append_assoc, world_declared true ds rest)
 
 five : (a b c d e : List WorldMember) → (((a ++ b) ++ c) ++ d) ++ e ≡ a ++ (b ++ (c ++ (d ++ e)))
 five a b c d e = append_assoc ((a ++ b) ++ c) d e ∙ append_assoc (a ++ b) c (d ++ e) ∙ append_assoc a b (c ++ (d ++ e))
@@ -131,34 +109,15 @@ members_shown emits r id w here =
     ∙ ap (λ x. (flat_map (interface_entry_calls emits r here) xs ++ (types ++ x)) ++ tail) (kept_runs emits r here run (λ e. is_freestanding_item e.1) xs)
 
 in_package : (n : PackageId) (o : Option PackageId) → is_id n.0 (package_number o) ≡ true → o ≡ Some n
-in_package n None h = absurd cc
-in_package n (Some m) h = let same : m.0 ≡ n.0 = eqb→eq m.0 n.0 (subst T (sym h) tt) in ap (λ (k : ℕ). let id : PackageId = record { 0 = k } in Some id) same
+in_package n x h = search std_rules
 
 pub printable_world : (r : Resolve) (here : PackageId) (id : WorldId) (w : World) → is_printable_world r here id w ≡ true → IsPrintableWorld r here id w
-printable_world r here id w h =
-    let placed = second_true (is_well_gates (shown_gates w.stability)) _ h in
-    let items = second_true (is_id here.0 (package_number w.«package»)) _ placed in
-    let entries = first_true (list_all (is_printable_import r here) w.imports.entries && list_all (is_printable_entry r here) w.exports.entries) _ items in
-    let types = second_true (list_all (is_printable_import r here) w.imports.entries && list_all (is_printable_entry r here) w.exports.entries) _ items in
-    record {
-      gates = first_true _ _ h;
-      package_ = in_package here w.«package» (first_true _ _ placed);
-      imports = first_true _ _ entries;
-      exports = second_true (list_all (is_printable_import r here) w.imports.entries) _ entries;
-      types = first_true _ _ types;
-      functions = second_true (list_all (is_listed_type r (owner.World id)) (listed_imports w)) _ types;
-    }
+printable_world r here id w h = search std_rules
 
 -- the calls for a world
 pub shown_calls : (emits : Bool) (r : Resolve) (here : PackageId) (name : Text) (id : WorldId) (w : World) → IsPrintableWorld r here id w
     → package_item_calls emits false (ItemTree.WorldItem (shown_docs w.docs) (shown_gates w.stability) name (shown_world r id w)) ≡ world_calls emits r here name id w
-shown_calls emits r here name id w h =
-    let inner : world_members_calls emits false false (shown_world r id w) ≡ world_body_calls emits r here id w =
-    ap (λ o. world_members_calls emits false false (option_map_or (shown_world_in r id w) o [])) h.package_ ∙ members_shown emits r id w here in
-    let front : List OutputCall = doc_calls emits (shown_docs w.docs) ++ gates_calls (shown_gates w.stability) in
-    ap (λ calls. front ++ block_calls (codes "world") name WorldDeclaration calls) inner
-    ∙ sym (append_assoc front (OutputCall.Keyword (codes "world") ∷ space ∷ OutputCall.Ty (escaped name) WorldDeclaration ∷ OutputCall.IndentStart ∷ [])
-    (world_body_calls emits r here id w ++ (OutputCall.IndentEnd ∷ [])))
+shown_calls emits r here name id w h = search (std_rules, members_shown, append_assoc)
 
 -- the calls for a world of a package, where it stands in its list
 pub calls_listed : (emits : Bool) (r : Resolve) (here : PackageId) (entry : String Global × WorldId) (w : World) → world_at r entry.1.0 ≡ Some w → IsPrintableWorld r here entry.1 w
@@ -171,9 +130,7 @@ given_calls : (emits main : Bool) (o : Option World) (show : World → ItemTree)
     (items : List ItemTree) (rest : List OutputCall)
     → flat_map (package_item_calls emits main) items ≡ rest
     → flat_map (package_item_calls emits main) (cons_option (option_map show o) items) ≡ option_map_or (package_item_calls emits false) (option_map show o) [] ++ rest
-given_calls emits main None show same items rest e = e
-given_calls emits main (Some w) show same items rest e = ap (λ calls. calls ++ flat_map (package_item_calls emits main) items) (same w) ∙ ap
-    (λ calls. package_item_calls emits false (show w) ++ calls) e
+given_calls emits main x show same items rest e = search std_rules
 
 worlds_shown : (emits main : Bool) (r : Resolve) (entries : List (String Global × WorldId))
     → flat_map (package_item_calls emits main) (filter_map (shown_world_item r) entries) ≡ flat_map (listed_calls emits r) entries
@@ -182,8 +139,7 @@ worlds_shown emits main r (x ∷ xs) = given_calls emits main (world_at r x.1.0)
 
 given_items : (emits main : Bool) (o : Option ItemTree) (items : List ItemTree) (rest : List OutputCall)
     → flat_map (package_item_calls emits main) items ≡ rest → flat_map (package_item_calls emits main) (cons_option o items) ≡ option_map_or (package_item_calls emits main) o [] ++ rest
-given_items emits main None items rest e = e
-given_items emits main (Some i) items rest e = ap (λ calls. package_item_calls emits main i ++ calls) e
+given_items emits main x items rest e = search std_rules
 
 interfaces_shown : (emits main : Bool) (r : Resolve) (entries : List (String Global × InterfaceId))
     → flat_map (package_item_calls emits main) (filter_map (shown_interface_item r) entries) ≡ flat_map (listed_interface_calls emits main r) entries
@@ -194,10 +150,7 @@ interfaces_shown emits main r (x ∷ xs) = given_items emits main (shown_interfa
 items_shown : (emits main : Bool) (r : Resolve) (interfaces : List (String Global × InterfaceId)) (worlds : List (String Global × WorldId))
     → flat_map (package_item_calls emits main) (filter_map (shown_interface_item r) interfaces ++ filter_map (shown_world_item r) worlds) ≡ flat_map (listed_interface_calls emits main r) interfaces
     ++ flat_map (listed_calls emits r) worlds
-items_shown emits main r interfaces worlds =
-    flat_map-append (package_item_calls emits main) (filter_map (shown_interface_item r) interfaces) (filter_map (shown_world_item r) worlds)
-    ∙ ap (λ calls. calls ++ flat_map (package_item_calls emits main) (filter_map (shown_world_item r) worlds)) (interfaces_shown emits main r interfaces)
-    ∙ ap (λ calls. flat_map (listed_interface_calls emits main r) interfaces ++ calls) (worlds_shown emits main r worlds)
+items_shown emits main r interfaces worlds = search (std_rules, flat_map-append, interfaces_shown, worlds_shown)
 
 -- a world of a list that can be printed is there
 pub listed_world : (r : Resolve) (here : PackageId) (entry : String Global × WorldId) → is_printable_listed r here entry ≡ true → (w : World) × (world_at r entry.1.0 ≡ Some w)
@@ -218,27 +171,17 @@ read_is (y ∷ ys) (suc n) d x e = read_is ys n d x e
 -- the world that was read is that of the entry, and can be printed
 pub listed_at : (r : Resolve) (here : PackageId) (entry : String Global × WorldId) (w : World) → w ≡ get_or r.worlds.items entry.1.0 w → is_printable_listed r here entry ≡ true
     → (world_at r entry.1.0 ≡ Some w) × IsPrintableWorld r here entry.1 w
-listed_at r here entry w e h =
-    let found = listed_world r here entry h in
-    let same : found.0 ≡ w = sym (e ∙ read_is r.worlds.items entry.1.0 w found.0 found.1) in
-    (found.1 ∙ ap Some same, subst (IsPrintableWorld r here entry.1) same found.2)
+listed_at r here entry w e h = search (std_rules, listed_world, read_is)
 
 pub calls_at : (emits : Bool) (r : Resolve) (here : PackageId) (entry : String Global × WorldId) (w : World) (name : Text) → name ≡ text_of entry.0 → w ≡ get_or r.worlds.items entry.1.0 w
     → is_printable_listed r here entry ≡ true
     → world_calls emits r here name entry.1 w ≡ listed_calls emits r entry
-calls_at emits r here entry w name n e h =
-    let at = listed_at r here entry w e h in
-    ap (λ text. world_calls emits r here text entry.1 w) n ∙ calls_listed emits r here entry w at.0 at.1
+calls_at emits r here entry w name n e h = search (std_rules, listed_at, calls_listed)
 
 -- the gates and the name of an interface that can be printed
 pub listed_interface_well : (r : Resolve) (entry : String Global × InterfaceId) (i : Interface) → interface_at r entry.1.0 ≡ Some i → is_printable_interface r entry ≡ true
     → (is_well_gates (shown_gates i.stability) && is_label (text_of entry.0)) ≡ true
-listed_interface_well r entry i e h =
-    let item : is_well_item (ItemTree.InterfaceItem (shown_docs i.docs) (shown_gates i.stability) (text_of entry.0) (shown_interface r entry.1 i)) ≡ true =
-    subst (λ o. passes is_well_item (option_map (λ x. ItemTree.InterfaceItem (shown_docs x.docs) (shown_gates x.stability) (text_of entry.0) (shown_interface r entry.1 x)) o) ≡ true) e
-    (second_true (in_list r.interfaces.items entry.1.0) _ h) in
-    let rest = second_true (list_all is_one_line (shown_docs i.docs)) _ item in
-    rw (first_true (is_well_gates (shown_gates i.stability)) _ rest, first_true (is_label (text_of entry.0)) _ (second_true (is_well_gates (shown_gates i.stability)) _ rest)) refl
+listed_interface_well r entry i e h = search (std_rules, second_true, first_true)
 
 -- the calls for an interface of a package
 pub interface_calls_at : (emits main : Bool) (r : Resolve) (entry : String Global × InterfaceId) (i : Interface) (name : Text) → name ≡ text_of entry.0 → interface_at r entry.1.0 ≡ Some i
@@ -247,13 +190,7 @@ interface_calls_at emits main r entry i name n e = rw (n, e) refl
 
 -- the calls for a package
 package_shown : (emits main : Bool) (r : Resolve) (p : Package) → listed_package_calls emits main r p ≡ package_calls emits main (shown_package_of r p)
-package_shown emits main r p =
-    let start : List OutputCall = package_outer_calls emits (shown_head p) ++ package_start_calls main in
-    let interfaces = flat_map (listed_interface_calls emits main r) p.interfaces.entries in
-    let worlds = flat_map (listed_calls emits r) p.worlds.entries in
-    ap (λ calls. start ++ calls) (sym (append_assoc interfaces worlds (package_end_calls main)))
-    ∙ sym (append_assoc start (interfaces ++ worlds) (package_end_calls main))
-    ∙ ap (λ items. (start ++ items) ++ package_end_calls main) (sym (items_shown emits main r p.interfaces.entries p.worlds.entries))
+package_shown emits main r p = search (std_rules, append_assoc, items_shown)
 
 pub package_shown_at : (emits main : Bool) (r : Resolve) (id : PackageId) (p : Package) → package_at r id.0 ≡ Some p
     → listed_package_calls emits main r p ≡ package_calls emits main (shown_package r id)

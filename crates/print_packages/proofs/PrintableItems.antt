@@ -1,5 +1,5 @@
 -- What is known of an import or an export that can be printed.
-use Rattle.std.proofs.Common.{◌≡◌, refl, sym, ap, subst, ◌∙◌, Bool, true, false, ◌&&◌, ◌||◌, not, Option, Some}
+use Rattle.std.proofs.Common.{rules as std_rules, ◌≡◌, refl, sym, ap, subst, ◌∙◌, Bool, true, false, ◌&&◌, ◌||◌, not, Option, Some}
 use Rattle.std.specs.Prelude.{String, is_some}
 use Rattle.std.specs.declared.alloc.Global.{Global}
 use Rattle.wit_model.specs.declared.model.{Resolve.Resolve, Docs.Docs, Function.Function, WorldKey.WorldKey}
@@ -9,7 +9,7 @@ use Rattle.print_grammar.specs.{Tree.ExternTree.NamedFunction, Tree.ExternTree.N
 use Rattle.print_grammar.specs.Calls.{world_extern_calls}
 use Rattle.print_grammar.specs.WellNamed.{is_well_extern, is_well_path, is_well_prefix, is_well_world_member}
 use Rattle.print_items.specs.ItemCalls.{labelled_tree}
-use Rattle.print_items.specs.Shown.{extern_docs, extern_prefix, function_prefix, shown_docs, shown_import, shown_interface, shown_path, shown_signature}
+use Rattle.print_items.specs.Shown.{extern_prefix, function_prefix, shown_import, shown_interface, shown_path, shown_signature}
 use Rattle.print_uses.specs.Printable.{entry_calls, is_printable_entry, is_printable_import, is_shown_item}
 use Rattle.base_lemmas.proofs.Bools.{left_of, right_of}
 use Rattle.wit_model.specs.declared.model.WorldKey.TheVariants as key
@@ -50,17 +50,11 @@ module _ (r : Resolve) (here : PackageId) where
 
   function_parts : (k : WorldKey) (f : Function) → is_printable_entry r here (k, item.Function f) ≡ true → (is_well_prefix (function_prefix f) ≡ true)
       × (is_well_extern (NamedFunction (text_of f.name) (shown_signature r f)) ≡ true)
-  function_parts (key.Name s) f h = let well = well_of (key.Name s) (item.Function f) h in (left_of _ _ well, right_of (is_well_prefix (function_prefix f)) _ well)
-  function_parts (key.Interface m) f h =
-      let wrong : false ≡ true = left_of false (is_well_world_member (shown_import r here (key.Interface m, item.Function f)))
-      (right_of (key_in_range r (key.Interface m) && item_in_range r (item.Function f)) _ h) in absurd cc
+  function_parts x f h = search (std_rules, well_of, left_of, right_of)
 
   function_calls_by : (k : WorldKey) (f : Function) (emits : Bool) (word : Text) → is_printable_entry r here (k, item.Function f) ≡ true
       → world_extern_calls emits (function_prefix f) word (NamedFunction (text_of f.name) (shown_signature r f)) ≡ entry_calls emits r here word (k, item.Function f)
-  function_calls_by (key.Name s) f emits word h = refl
-  function_calls_by (key.Interface m) f emits word h =
-      let wrong : false ≡ true = left_of false (is_well_world_member (shown_import r here (key.Interface m, item.Function f)))
-      (right_of (key_in_range r (key.Interface m) && item_in_range r (item.Function f)) _ h) in absurd cc
+  function_calls_by x f emits word h = search (std_rules, left_of, right_of)
 
   module _ (k : WorldKey) (i : WorldItem) (f : Function) (is : i ≡ item.Function f) (h : is_printable_entry r here (k, i) ≡ true) where
     pub function_known : (is_well_prefix (function_prefix f) ≡ true) × (is_well_extern (NamedFunction (text_of f.name) (shown_signature r f)) ≡ true)

@@ -1,5 +1,5 @@
 -- What is shown of valid packages is well named, and so is read as it stands.
-use Rattle.std.proofs.Common.{◌≡◌, refl, sym, ap, subst, ◌<◌, ℕ, Bool, true, List, filter_map, length, Option, Some, None}
+use Rattle.std.proofs.Common.{rules as std_rules, ◌≡◌, refl, sym, ap, subst, ◌<◌, ℕ, Bool, true, List, filter_map, length, Option, Some, None}
 use Rattle.std.proofs.lemmas.Bool.{ltb-true, and_from as both}
 use Rattle.std.specs.{Prelude.String, Prelude.option_map, Option.option_map_or, List.list_all}
 use Rattle.std.specs.declared.alloc.Global.{Global}
@@ -20,8 +20,7 @@ use Rattle.base_lemmas.proofs.{Bools.left_of, Bools.right_of, Elements.joined_we
 module _ (r : Resolve) (valid : IsValid r) where
   -- a name under which something with this label stands
   listed_label : (name : Option (String Global)) (under : Text) → passes (λ s. is_label (text_of s)) name ≡ true → text_is name under ≡ true → is_label under ≡ true
-  listed_label None under label same = absurd cc
-  listed_label (Some s) under label same = subst (λ t. is_label t ≡ true) (text_same (text_of s) under same) label
+  listed_label x under label same = search std_rules
 
   -- ---- items
 
@@ -79,9 +78,7 @@ module _ (r : Resolve) (valid : IsValid r) where
   -- What is shown of valid packages is well named.
   pub file_well : (main : PackageId) (nested : List PackageId) → main.0 < length r.packages.items → list_all (λ id. in_list r.packages.items id.0) nested ≡ true
       → is_well_file (shown_file r main nested) ≡ true
-  file_well main nested below others =
-      both (is_well_package (shown_package r main)) _ (package_well main below)
-      (each_well (λ id. in_list r.packages.items id.0) (shown_package r) is_well_package (λ id h. package_well id (ltb-true id.0 (length r.packages.items) h)) nested others)
+  file_well main nested below others = search (std_rules, both, package_well, each_well, ltb-true)
 
 -- The text of valid packages, with documentation or without, is read as what is shown of them, and as nothing else.
 pub packages_read : (emits_docs : Bool) (r : Resolve) (main : PackageId) (nested : List PackageId) → IsValid r → main.0 < length r.packages.items

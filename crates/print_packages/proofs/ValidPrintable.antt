@@ -1,5 +1,5 @@
 -- What validity says of a `Resolve`: its worlds and interfaces can be printed.
-use Rattle.std.proofs.Common.{◌≡◌, refl, sym, subst, ◌∙◌, ℕ, ◌+◌, Bool, true, false, ◌&&◌, ◌||◌, not, List, [], ◌∷◌, length, Option, Some, arith}
+use Rattle.std.proofs.Common.{rules as std_rules, ◌≡◌, refl, sym, subst, ◌∙◌, ℕ, ◌+◌, Bool, true, false, ◌&&◌, ◌||◌, not, List, [], ◌∷◌, length, Option, Some, arith}
 use Rattle.std.proofs.lemmas.{Bool.ltb-true, Bool.and_from as both_true, List.Folds.list_all-map}
 use Rattle.std.specs.{Prelude.String, List.list_all, Option.option_map_or, Cmp.Lexicographic.same_text}
 use Rattle.std.specs.declared.alloc.Global.{Global}
@@ -7,11 +7,11 @@ use Rattle.indexmap.specs.IndexMap.{values}
 use Rattle.wit_model.specs.declared.model.{Resolve.Resolve, Package.Package, PackageId.PackageId, WorldId.WorldId, WorldKey.WorldKey, WorldItem.WorldItem}
 use Rattle.wit_model.specs.declared.model.World.{World}
 use Rattle.wit_model.specs.{Text.text_of, Text.text_eq, Lookup.interface_at, Lookup.package_at, Lookup.world_at, Lookup.optional_version_text}
-use Rattle.wit_model.specs.Names.{is_label, is_version, is_version_text}
-use Rattle.wit_model.specs.Rules.{in_list, passes, key_in_range, item_in_range, key_label, item_labels, entries_labels, is_stability, interface_belongs, world_belongs, is_id, package_number, is_export_item, text_is}
+use Rattle.wit_model.specs.Names.{is_label, is_version_text}
+use Rattle.wit_model.specs.Rules.{in_list, passes, entries_labels, is_stability, world_belongs, is_id, package_number, is_export_item, text_is}
 use Rattle.wit_model.specs.Valid.{IsValid, names_in_packages, numbers_in_range, package_names, places, labels, is_place, item_function}
 use Rattle.wit_model.proofs.{Entries.each_from_at, Entries.lists_pass, OnePath.package-passes}
-use Rattle.print_uses.specs.Printable.{is_printable_import, is_shown_item, is_printable_interface, is_printable_entry, is_printable_world, is_printable_listed}
+use Rattle.print_uses.specs.Printable.{is_printable_import, is_printable_interface, is_printable_entry, is_printable_world, is_printable_listed}
 use Rattle.print_uses.specs.UseGroups.{is_listed_function, is_listed_type}
 use Rattle.print_grammar.specs.WellNamed.{is_well_item}
 use Rattle.print_items.specs.Shown.{Listed, imported_functions, listed_imports, shown_interface_item, type_of_entry}
@@ -20,8 +20,6 @@ use Rattle.print_packages.proofs.ValidWorlds.{is_known_entry, entry_function_kno
 use Rattle.print_packages.proofs.ValidFiles.{interface_item_well}
 use Rattle.print_items.proofs.ShownWell.{gates_well, optional_version}
 use Rattle.base_lemmas.proofs.{Bools.left_of as first_true, Bools.right_of as second_true, Elements.all_weaker as weaker_all, Lists.within_there as found}
-use Rattle.wit_model.specs.declared.model.WorldKey.TheVariants as key
-use Rattle.wit_model.specs.declared.model.WorldItem.TheVariants as item
 use Rattle.wit_model.specs.declared.model.TypeOwner.TheVariants as owner
 
 -- ---- items
@@ -29,19 +27,7 @@ use Rattle.wit_model.specs.declared.model.TypeOwner.TheVariants as owner
 -- a printable entry is in range, stands where it may, and is shown well
 is_printable : (r : Resolve) (valid : IsValid r) (here : PackageId) (n : ℕ) (k : WorldKey) (i : WorldItem) → is_known_entry r n (k, i) ≡ true → is_export_item i ≡ true
     → is_printable_entry r here (k, i) ≡ true
-is_printable r valid here n k i known exported =
-    both_true (key_in_range r k && item_in_range r i) _ (first_true _ _ known)
-    (both_true (is_shown_item k i) _ (shown k i known exported) (extern_well r valid here n k i known exported))
-  where
-    shown : (l : WorldKey) (j : WorldItem) → is_known_entry r n (l, j) ≡ true → is_export_item j ≡ true → is_shown_item l j ≡ true
-    shown l (item.Interface id gates docs external_id) h x = refl
-    shown (key.Name s) (item.Function f) h x = x
-    shown (key.Interface m) (item.Function f) h x =
-        let wrong : false ≡ true = second_true (key_label (key.Interface m) (item.Function f) && item_labels (item.Function f)) false
-        (second_true (key_in_range r (key.Interface m) && item_in_range r (item.Function f)) _ h) in
-        absurd cc
-    shown (key.Name s) (item.Type_ id) h x = absurd cc
-    shown (key.Interface m) (item.Type_ id) h x = absurd cc
+is_printable r valid here n k i known exported = search (std_rules, both_true, first_true, extern_well, is_known_entry, second_true)
 
 module _ (r : Resolve) (valid : IsValid r) (here : PackageId) (n : ℕ) where
   import_printable : (e : WorldKey × WorldItem) → is_known_entry r n e ≡ true → is_printable_import r here e ≡ true
@@ -60,13 +46,7 @@ module _ (r : Resolve) (valid : IsValid r) (here : PackageId) (n : ℕ) where
 
   -- types of a world are in range
   entry_in_range : (e : WorldKey × WorldItem) → is_known_entry r n e ≡ true → passes (λ (t : Listed). in_list r.types.items t.id.0) (type_of_entry e.0 e.1) ≡ true
-  entry_in_range e known = go e.0 e.1 known
-    where
-      go : (k : WorldKey) (i : WorldItem) → is_known_entry r n (k, i) ≡ true → passes (λ (t : Listed). in_list r.types.items t.id.0) (type_of_entry k i) ≡ true
-      go (key.Name s) (item.Type_ id) h = second_true (key_in_range r (key.Name s)) _ (first_true _ _ h)
-      go (key.Name s) (item.Function f) h = refl
-      go (key.Name s) (item.Interface id gates docs external_id) h = refl
-      go (key.Interface m) i h = refl
+  entry_in_range e known = search std_rules
 
   types_listed : (w : World) → list_all (is_known_entry r n) w.imports.entries ≡ true → list_all (is_known_listed r (owner.World (record { 0 = n }))) (listed_imports w) ≡ true
       → list_all (is_listed_type r (owner.World (record { 0 = n }))) (listed_imports w) ≡ true
@@ -81,19 +61,12 @@ module _ (r : Resolve) (valid : IsValid r) (here : PackageId) (n : ℕ) where
 -- ---- worlds
 
 last_three : (a b c d : Bool) → (a && (b && (c && d))) ≡ true → (b ≡ true) × (c ≡ true) × (d ≡ true)
-last_three true true true true h = (refl, refl, refl)
-last_three false b c d h = absurd cc
-last_three true false c d h = absurd cc
-last_three true true false d h = absurd cc
-last_three true true true false h = absurd cc
+last_three x b c d h = search std_rules
 
 world_labels : (r : Resolve) (n : ℕ) (w : World) → IsValid r → world_at r n ≡ Some w → (is_label (text_of w.name) ≡ true) × (is_stability w.stability ≡ true)
     × (entries_labels w.imports.entries ≡ true) × (entries_labels w.exports.entries ≡ true)
 unfolding labels
-world_labels r n w v e =
-    let here = each_from_at (labels.world_ r) 0 r.worlds.items n w (lists_pass labels r v.rules.labels).2 e in
-    let rest = last_three (is_label (text_of w.name)) (is_stability w.stability) (entries_labels w.imports.entries) (entries_labels w.exports.entries) here in
-    (first_true _ _ here, rest.0, rest.1, rest.2)
+world_labels r n w v e = grind (arith, each_from_at, lists_pass, last_three, first_true)
 
 valid_world : (r : Resolve) (here : PackageId) (n : ℕ) (w : World) → IsValid r → world_at r n ≡ Some w → is_id here.0 (package_number w.«package») ≡ true
     → is_printable_world r here (record { 0 = n }) w ≡ true
@@ -125,23 +98,15 @@ all_listed : (r : Resolve) (here : PackageId) → IsValid r → (xs : List (Stri
     → list_all (is_printable_listed r here) xs ≡ true
 all_listed r here v [] range belongs = refl
 all_listed r here v (x ∷ xs) range belongs =
-    both_true _ _ (valid_listed r here x v (first_true _ _ range) (first_true _ _ belongs))
-    (all_listed r here v xs (second_true (in_list r.worlds.items x.1.0) _ range) (second_true (world_belongs r here.0 x) _ belongs))
+    search (std_rules, both_true, valid_listed, first_true, second_true, all_listed r here v xs (second_true (in_list r.worlds.items x.1.0) _ range) (second_true (world_belongs r here.0 x) _ belongs))
 
 package_range : (r : Resolve) (n : ℕ) (p : Package) → IsValid r → package_at r n ≡ Some p → list_all (λ x. in_list r.worlds.items x.1.0) p.worlds.entries ≡ true
 unfolding numbers_in_range
-package_range r n p v e =
-    let here = each_from_at (numbers_in_range.package_ r) 0 r.packages.items n p (lists_pass numbers_in_range r v.rules.numbers_in_range).0 e in
-    let ids = second_true (list_all (λ id. in_list r.interfaces.items id.0) (values p.interfaces)) _ (second_true (is_place (0 + n)) _ here) in
-    sym (list_all-map (λ id. in_list r.worlds.items id.0) (λ x. x.1) p.worlds.entries) ∙ ids
+package_range r n p v e = search (std_rules, each_from_at, lists_pass, second_true, list_all-map)
 
 package_worlds : (r : Resolve) (n : ℕ) (p : Package) → IsValid r → package_at r n ≡ Some p → list_all (world_belongs r n) p.worlds.entries ≡ true
 unfolding places
-package_worlds r n p v e =
-    let at : 0 + n ≡ n = omega arith in
-    let here = each_from_at (places.package_ r) 0 r.packages.items n p (lists_pass places r v.rules.places).0 e in
-    let kept : places.package_ r n p ≡ true = subst (λ m. places.package_ r m p ≡ true) at here in
-    first_true _ _ (second_true (list_all (interface_belongs r n) p.interfaces.entries) _ kept)
+package_worlds r n p v e = search (std_rules, each_from_at, lists_pass, first_true, second_true)
 
 -- the worlds of a package can be printed
 pub valid_worlds : (r : Resolve) (here : PackageId) (p : Package) → IsValid r → package_at r here.0 ≡ Some p → list_all (is_printable_listed r here) p.worlds.entries ≡ true
@@ -151,11 +116,7 @@ valid_worlds r here p v e = all_listed r here v p.worlds.entries (package_range 
 pub valid_name : (r : Resolve) (n : ℕ) (p : Package) → IsValid r → package_at r n ≡ Some p → (is_label (text_of p.name.namespace) ≡ true) × (is_label (text_of p.name.name) ≡ true)
     × (passes is_version_text (optional_version_text p.name.version) ≡ true)
 unfolding package_names
-valid_name r n p v e =
-    let here = each_from_at (package_names.package_ r) 0 r.packages.items n p (lists_pass package_names r v.rules.package_names).0 e in
-    let own = first_true (is_label (text_of p.name.namespace) && (is_label (text_of p.name.name) && passes is_version p.name.version)) _ here in
-    let rest = second_true (is_label (text_of p.name.namespace)) (is_label (text_of p.name.name) && passes is_version p.name.version) own in
-    (first_true _ _ own, first_true _ _ rest, optional_version p.name.version (second_true (is_label (text_of p.name.name)) (passes is_version p.name.version) rest))
+valid_name r n p v e = search (std_rules, each_from_at, lists_pass, first_true, second_true, optional_version)
 
 -- the interfaces of a package can be printed
 pub valid_interfaces : (r : Resolve) (n : ℕ) (p : Package) → IsValid r → package_at r n ≡ Some p → list_all (is_printable_interface r) p.interfaces.entries ≡ true

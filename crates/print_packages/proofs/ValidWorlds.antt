@@ -1,16 +1,16 @@
 -- What is shown of a valid `Resolve`'s worlds is well named.
-use Rattle.std.proofs.Common.{◌≡◌, refl, sym, ◌∙◌, subst, Bool, true, false, ◌&&◌, List, [], ◌∷◌, ◌++◌, map, filter, filter_map, Option, Some, None, ℕ, length}
+use Rattle.std.proofs.Common.{rules as std_rules, ◌≡◌, refl, sym, ◌∙◌, Bool, true, ◌&&◌, List, [], ◌∷◌, ◌++◌, map, filter, filter_map, Option, Some, ℕ, length}
 use Rattle.std.proofs.lemmas.{Bool.ltb-true, Bool.and_from as both, List.Folds.list_all-append}
 use Rattle.std.specs.{Prelude.String, Prelude.is_some, Prelude.if◌then◌else◌, Option.option_map_or, List.list_all, List.cons_option, Map.values_of}
 use Rattle.std.specs.declared.alloc.Global.{Global}
-use Rattle.wit_model.specs.declared.model.{Function.Function, Resolve.Resolve, WorldId.WorldId, WorldKey.WorldKey, Stability.Stability, Interface.Interface, InterfaceId.InterfaceId, PackageId.PackageId, WorldItem.WorldItem as Item, TypeOwner.TypeOwner, World.World, Docs.Docs}
+use Rattle.wit_model.specs.declared.model.{Function.Function, Resolve.Resolve, WorldId.WorldId, WorldKey.WorldKey, Stability.Stability, InterfaceId.InterfaceId, PackageId.PackageId, WorldItem.WorldItem as Item, TypeOwner.TypeOwner, World.World, Docs.Docs}
 use Rattle.wit_model.specs.{Text.Text, Text.text_of, Names.is_label, Lookup.interface_at, Lookup.world_at}
-use Rattle.wit_model.specs.Rules.{in_list, passes, is_id, package_number, is_stability, function_labels, key_in_range, item_in_range, entries_in_range, key_label, item_labels, entries_labels, item_type, is_name_key, is_named_of, is_member, is_interface_key, import_stands, export_stands, is_export_item}
+use Rattle.wit_model.specs.Rules.{in_list, passes, is_id, package_number, is_stability, key_in_range, item_in_range, entries_in_range, key_label, item_labels, entries_labels, item_type, is_name_key, is_named_of, is_member, is_interface_key, import_stands, export_stands, is_export_item}
 use Rattle.wit_model.specs.Valid.{IsValid, is_place, item_function, numbers_in_range, labels, order_of_types, function_names, world_items}
 use Rattle.print_output.specs.OutputCall.{is_one_line}
 use Rattle.print_grammar.specs.Tree.{ExternTree.NamedPath, ExternTree.NamedInterface, WorldMember.WorldUse, WorldMember.WorldType, WorldMember}
-use Rattle.print_grammar.specs.WellNamed.{is_well_gates, is_well_prefix, is_well_path, is_well_member, is_well_extern, is_well_world_member}
-use Rattle.print_items.specs.Shown.{Entry, Used, shown_docs, shown_gates, shown_path, shown_uses, shown_declarations, shown_interface, function_prefix, extern_docs, extern_prefix, shown_extern, shown_import, shown_export, is_interface_item, is_freestanding_item, type_of_entry, listed_imports, imported_functions, shown_world_in, shown_world}
+use Rattle.print_grammar.specs.WellNamed.{is_well_prefix, is_well_extern, is_well_world_member}
+use Rattle.print_items.specs.Shown.{Entry, Used, shown_path, shown_uses, shown_declarations, shown_interface, extern_docs, extern_prefix, shown_extern, shown_import, shown_export, is_interface_item, is_freestanding_item, type_of_entry, listed_imports, imported_functions, shown_world_in, shown_world}
 use Rattle.print_uses.proofs.WellLists.{all_both, each_well, kept_well, given_well}
 use Rattle.print_uses.proofs.FunctionsWell.{signature_well, function_prefix_well}
 use Rattle.print_uses.proofs.Valid.{is_known_function, is_named_interface, is_known_listed, world_rule}
@@ -36,66 +36,41 @@ is_known_entry r n e = (key_in_range r e.0 && item_in_range r e.1) && ((key_labe
 
 -- a function of such an entry belongs to a resource of the world, or to none
 pub entry_member : (r : Resolve) (n : ℕ) (k : WorldKey) (f : Function) → is_known_entry r n (k, item.Function f) ≡ true → is_member r (owner.World (record { 0 = n })) f ≡ true
-entry_member r n k f h =
-    right_of (is_name_key (text_of f.name) k) _
-    (left_of (is_own_entry r n (k, item.Function f)) _
-    (right_of (key_label k (item.Function f) && item_labels (item.Function f)) _ (right_of (key_in_range r k && item_in_range r (item.Function f)) _ h)))
+entry_member r n k f h = search (std_rules, right_of, left_of)
 
 import_under : (r : Resolve) (n : ℕ) (k : WorldKey) (i : Item) → import_stands r n k i ≡ true → stands_under r k i ≡ true
-import_under r n (key.Interface id) i h = h
-import_under r n (key.Name s) i h = refl
+import_under r n x i h = search std_rules
 
 export_under : (r : Resolve) (k : WorldKey) (i : Item) → export_stands r k i ≡ true → stands_under r k i ≡ true
-export_under r (key.Interface id) i h = h
-export_under r (key.Name s) i h = refl
+export_under r x i h = search std_rules
 
 export_item : (r : Resolve) (k : WorldKey) (i : Item) → export_stands r k i ≡ true → is_export_item i ≡ true
-export_item r (key.Name s) i h = h
-export_item r (key.Interface n) (item.Interface id gates docs external_id) h = refl
-export_item r (key.Interface n) (item.Function f) h = absurd cc
-export_item r (key.Interface n) (item.Type_ id) h = absurd cc
+export_item r x i h = search std_rules
 
 pub interface_import : (i : Item) → is_interface_item i ≡ true → is_export_item i ≡ true
-interface_import (item.Interface id gates docs external_id) h = refl
-interface_import (item.Function f) h = absurd cc
-interface_import (item.Type_ id) h = absurd cc
+interface_import x h = search std_rules
 
 pub function_import : (i : Item) → is_freestanding_item i ≡ true → is_export_item i ≡ true
-function_import (item.Interface id gates docs external_id) h = absurd cc
-function_import (item.Function f) h = h
-function_import (item.Type_ id) h = absurd cc
+function_import x h = search std_rules
 
 module _ (r : Resolve) (valid : IsValid r) where
   -- ---- imports and exports
 
   key_named : (n : ℕ) → in_list r.interfaces.items n ≡ true → passes (λ other. is_some other.name) (interface_at r n) ≡ true → is_named_interface r n ≡ true
   key_named n inside h =
-      let there = one_there r.interfaces.items n (ltb-true n (length r.interfaces.items) inside) in
-      subst (λ o. option_map_or (λ i. is_some i.name) o false ≡ true) (sym there.1) (subst (λ o. passes (λ i. is_some i.name) o ≡ true) there.1 h)
+      search (std_rules, one_there r.interfaces.items n (ltb-true n (length r.interfaces.items) inside), ltb-true n (length r.interfaces.items) inside)
 
   extern_docs_well : (k : WorldKey) (id : InterfaceId) (docs : Docs) → list_all is_one_line (extern_docs r k id docs) ≡ true
-  extern_docs_well (key.Interface other) id docs = docs_well docs
-  extern_docs_well (key.Name s) id docs = go (is_some docs.contents) (interface_at r id.0)
-    where
-      go : (b : Bool) (o : Option Interface) → list_all is_one_line (if b then shown_docs docs else option_map_or (λ i. shown_docs i.docs) o []) ≡ true
-      go true o = docs_well docs
-      go false None = refl
-      go false (Some i) = docs_well i.docs
+  extern_docs_well x id docs = search (std_rules, docs_well)
 
   interface_prefix_well : (k : WorldKey) (id : InterfaceId) (gates : Stability) (docs : Docs) (external_id : Option (String Global)) → is_stability gates ≡ true
       → is_well_prefix (extern_prefix r k (item.Interface id gates docs external_id)) ≡ true
-  interface_prefix_well k id gates docs external_id h =
-      both (list_all is_one_line (extern_docs r k id docs)) _ (extern_docs_well k id docs) (both (is_well_gates (shown_gates gates)) _ (gates_well gates h) (external_id_well external_id))
+  interface_prefix_well k id gates docs external_id h = search (std_rules, both, extern_docs_well, gates_well, external_id_well)
 
   -- what an interface under a label is: a path, or what it has
   labelled_interface_well : (here : PackageId) (s : Text) (id : InterfaceId) → is_label s ≡ true → (b : Bool) → is_named_interface r id.0 ≡ b
       → is_well_extern (if b then NamedPath s (shown_path r here id) else NamedInterface s (option_map_or (shown_interface r id) (interface_at r id.0) [])) ≡ true
-  labelled_interface_well here s id label true named = both (is_label s) _ label (path_well r valid here id named)
-  labelled_interface_well here s id label false named = both (is_label s) _ label (go (interface_at r id.0) refl)
-    where
-      go : (o : Option Interface) → interface_at r id.0 ≡ o → list_all is_well_member (option_map_or (shown_interface r id) o []) ≡ true
-      go None e = refl
-      go (Some i) e = interface_well r valid id i e
+  labelled_interface_well here s id label x named = search (std_rules, both, path_well, interface_well)
 
   pub extern_well : (here : PackageId) (n : ℕ) (k : WorldKey) (i : Item) → is_known_entry r n (k, i) ≡ true → is_export_item i ≡ true
       → (is_well_prefix (extern_prefix r k i) && is_well_extern (shown_extern r here k i)) ≡ true
@@ -104,10 +79,7 @@ module _ (r : Resolve) (valid : IsValid r) where
       let stands = right_of (is_stability gates) _ (right_of (in_list r.interfaces.items m.0 && in_list r.interfaces.items id.0) _ known) in
       both (is_well_prefix (extern_prefix r (key.Interface m) (item.Interface id gates docs external_id))) _ (interface_prefix_well (key.Interface m) id gates docs external_id stable)
       (path_well r valid here m (key_named m.0 (left_of _ _ (left_of (in_list r.interfaces.items m.0 && in_list r.interfaces.items id.0) _ known)) (right_of (is_id m.0 (Some id.0)) _ stands)))
-  extern_well here n (key.Interface m) (item.Function f) known shown =
-      let wrong : false ≡ true = right_of (key_label (key.Interface m) (item.Function f) && item_labels (item.Function f)) false
-      (right_of (key_in_range r (key.Interface m) && item_in_range r (item.Function f)) _ known) in
-      absurd cc
+  extern_well here n (key.Interface m) (item.Function f) known shown = search (std_rules, right_of)
   extern_well here n (key.Interface m) (item.Type_ id) known shown = absurd cc
   extern_well here n (key.Name s) (item.Interface id gates docs external_id) known shown =
       let named : (is_label (text_of s) && is_stability gates) ≡ true = left_of _ _ (right_of (in_list r.interfaces.items id.0) _ known) in
@@ -115,23 +87,13 @@ module _ (r : Resolve) (valid : IsValid r) where
       (interface_prefix_well (key.Name s) id gates docs external_id (right_of (is_label (text_of s)) _ named))
       (labelled_interface_well here (text_of s) id (left_of _ _ named) (is_named_interface r id.0) refl)
   extern_well here n (key.Name s) (item.Function f) known shown =
-      let range : item_in_range r (item.Function f) ≡ true = left_of _ _ known in
-      let named : function_labels f ≡ true = right_of (key_label (key.Name s) (item.Function f)) _ (left_of _ _ (right_of (item_in_range r (item.Function f)) _ known)) in
-      both (is_well_prefix (function_prefix f)) _ (function_prefix_well f named)
-      (both (is_label (text_of f.name)) _ (freestanding_label r valid f named shown) (signature_well r valid f range named))
+      search (std_rules, left_of, right_of, both, function_prefix_well, freestanding_label, signature_well)
   extern_well here n (key.Name s) (item.Type_ id) known shown = absurd cc
 
   -- ---- types and functions of a world
 
   pub entry_function_known : (n : ℕ) (k : WorldKey) (i : Item) → is_known_entry r n (k, i) ≡ true → passes (is_known_function r (owner.World (record { 0 = n }))) (item_function i) ≡ true
-  entry_function_known n k (item.Interface id gates docs external_id) known = refl
-  entry_function_known n k (item.Type_ id) known = refl
-  entry_function_known n k (item.Function f) known =
-      let rest = right_of (key_in_range r k && item_in_range r (item.Function f)) _ known in
-      let named : function_labels f ≡ true = right_of (key_label k (item.Function f)) _ (left_of _ _ rest) in
-      let own : (is_name_key (text_of f.name) k && is_member r (owner.World (record { 0 = n })) f) ≡ true =
-      left_of _ _ (right_of (key_label k (item.Function f) && item_labels (item.Function f)) _ rest) in
-      both (item_in_range r (item.Function f)) _ (right_of (key_in_range r k) _ (left_of _ _ known)) (both (function_labels f) _ named (right_of (is_name_key (text_of f.name) k) _ own))
+  entry_function_known n k x known = search std_rules
 
   listed_imports_known : (o : TypeOwner) (es : List Entry) → entries_labels es ≡ true → list_all (is_named_of r o) (filter_map item_type (values_of es)) ≡ true
       → list_all (is_known_listed r o) (filter_map (λ e. type_of_entry e.0 e.1) es) ≡ true
@@ -159,10 +121,7 @@ module _ (r : Resolve) (valid : IsValid r) where
 
   entries_known : (n : ℕ) (es : List Entry) → entries_in_range r es ≡ true → entries_labels es ≡ true → list_all (is_own_entry r n) es ≡ true → list_all (λ e. stands_under r e.0 e.1) es ≡ true
       → list_all (is_known_entry r n) es ≡ true
-  entries_known n es range named own under =
-      all_both (λ e. key_in_range r e.0 && item_in_range r e.1) (λ e. (key_label e.0 e.1 && item_labels e.1) && (is_own_entry r n e && stands_under r e.0 e.1)) es range
-      (all_both (λ e. key_label e.0 e.1 && item_labels e.1) (λ e. is_own_entry r n e && stands_under r e.0 e.1) es named
-      (all_both (is_own_entry r n) (λ e. stands_under r e.0 e.1) es own under))
+  entries_known n es range named own under = search (std_rules, all_both)
 
   pub world_is_shown : (n : ℕ) (w : World) → world_at r n ≡ Some w → IsShownWorld n w
   unfolding numbers_in_range labels order_of_types function_names world_items
@@ -186,10 +145,7 @@ module _ (r : Resolve) (valid : IsValid r) where
   -- ---- worlds
 
   use_well : (here : PackageId) (used : Used) → is_known_use r used ≡ true → is_well_world_member (WorldUse used.prefix (shown_path r here used.interface) used.names) ≡ true
-  use_well here used known =
-      let more = right_of (is_named_interface r used.interface.0) _ known in
-      both (is_well_prefix used.prefix) _ (left_of _ _ more)
-      (both (is_well_path (shown_path r here used.interface)) _ (path_well r valid here used.interface (left_of _ _ known)) (right_of (is_well_prefix used.prefix) _ more))
+  use_well here used known = search (std_rules, right_of, is_named_interface, both, left_of, path_well)
 
   world_in_well : (id : WorldId) (w : World) (here : PackageId) → IsShownWorld id.0 w → list_all is_well_world_member (shown_world_in r id w here) ≡ true
   world_in_well id w here h =
@@ -226,8 +182,4 @@ module _ (r : Resolve) (valid : IsValid r) where
 
   -- What is shown of a world is well named.
   pub world_well : (id : WorldId) (w : World) → world_at r id.0 ≡ Some w → list_all is_well_world_member (shown_world r id w) ≡ true
-  world_well id w e = go w.«package»
-    where
-      go : (p : Option PackageId) → list_all is_well_world_member (option_map_or (shown_world_in r id w) p []) ≡ true
-      go None = refl
-      go (Some here) = world_in_well id w here (world_is_shown id.0 w e)
+  world_well id w e = search (std_rules, world_in_well, world_is_shown)

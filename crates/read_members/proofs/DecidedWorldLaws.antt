@@ -1,11 +1,11 @@
 -- What the pieces mean as one world, by what was read of the member.
-use Rattle.std.proofs.Common.{◌≡◌, refl, sym, ap, subst, ◌∙◌, ℕ, Bool, true, false, List, [], ◌∷◌, map, slice_get, Option, Some, None}
+use Rattle.std.proofs.Common.{rules as std_rules, ◌≡◌, refl, sym, ap, subst, ◌∙◌, ℕ, List, [], ◌∷◌, map, slice_get, Option, Some, None}
 use Rattle.std.proofs.lemmas.{List.append-nil, Option.same_Some as same-some}
 use Rattle.std.specs.List.{AllByRecursion, AllZip}
-use Rattle.wit_model.specs.{Names.PackageIdentity, Names.path_in, Names.read_path, Text.Text, Text.text_eq, Text.text_of}
-use Rattle.wit_model.proofs.{NameLaws.read_path_is_spelled, TextLemmas.text_same}
+use Rattle.wit_model.specs.{Names.PackageIdentity, Names.path_in, Names.read_path, Text.Text, Text.text_of}
+use Rattle.wit_model.proofs.{NameLaws.read_path_is_spelled}
 use Rattle.comp_bytes.specs.{Levels.Piece, Reading.◌>>=◌}
-use Rattle.comp_meaning.specs.{ByLevels.world_of_pieces, Follow.each, Follow.provided, Reads.labelled_path, Reads.world_of_members}
+use Rattle.comp_meaning.specs.{ByLevels.world_of_pieces, Follow.each, Reads.labelled_path, Reads.world_of_members}
 use Rattle.plan_meaning.specs.NumberedMembers.{Homes, HomesStand, IsKnownSight, IsMember, NumberedMember, NumberedPart, ShowsPart, interface, sights_of_members, sights_of_part, world}
 use Rattle.plan_meaning.specs.{NumberedRules.Fact, NumberedViews.AreTables, NumberedViews.Tables, NumberedWorlds.NumberedScope}
 use Rattle.plan_meaning.proofs.NumberedMembers.{one_world_in_numbers}
@@ -32,15 +32,7 @@ by_members pieces = world_by_scopes pieces ∙ by (scopes_of pieces)
 
 -- it is read as its label's name in its package
 labelled_reads : (label path : Text) (identity : PackageIdentity) → labelled_path label path ≡ Some identity → read_path path ≡ Some (identity, label)
-labelled_reads label path identity e = by (read_path path) e
-  where
-    passed : (p : PackageIdentity × Text) (b : Bool) → text_eq p.1 label ≡ b → provided b p.0 ≡ Some identity → Some p ≡ Some (identity, label)
-    passed p true same f = let text = text_same p.1 label same in let whose = same-some p.0 identity f in λ i. Some (whose i, text i)
-    passed p false same f = absurd cc
-
-    by : (o : Option (PackageIdentity × Text)) → (o >>= λ p. provided (text_eq p.1 label) p.0) ≡ Some identity → o ≡ Some (identity, label)
-    by None f = absurd cc
-    by (Some p) f = passed p (text_eq p.1 label) refl f
+labelled_reads label path identity e = search std_rules
 
 spelled_again : (path : Text) (identity : PackageIdentity) (label : Text) → read_path path ≡ Some (identity, label) → read_path (path_in identity label) ≡ Some (identity, label)
 spelled_again path identity label e = ap read_path (sym (read_path_is_spelled path identity label e).spelled) ∙ e

@@ -1,5 +1,5 @@
 -- Members that are lent of those that are read.
-use Rattle.std.proofs.Common.{◌≡◌, ℕ, List, [], ◌∷◌, map}
+use Rattle.std.proofs.Common.{rules as std_rules, ◌≡◌, ℕ, List, [], ◌∷◌, map}
 use Rattle.std.specs.List.{AllZip}
 use Rattle.wit_model.specs.Text.{Text}
 use Rattle.read_parts.specs.declared.members.{FollowedPart.FollowedPart, Member.Member as FollowedMember}
@@ -9,15 +9,10 @@ use Rattle.read_exports.specs.declared.members.{Member.Member, Part.Part}
 use Rattle.read_numbers.specs.NumberedInput.{tables_of}
 use Rattle.read_members.specs.PartMembers.{IsMemberOf, IsPartOf}
 use Rattle.read_members.specs.ReadMembers.{lent_member, parts_followed, parts_lent, IsMemberRead, IsPartRead, LentMembersAreMembers}
-use Rattle.read_parts.specs.declared.members.FollowedPart.TheVariants as followed
-use Rattle.read_exports.specs.declared.members.Part.TheVariants as parts
 
 module _ (t : Tables) (known : ℕ → Fact) (h : Homes) where
   part_lent : (label : Text) (x : FollowedPart) (n : ℕ) (p : Part) → IsPartRead t known h label x n (numbered_part p) → parts_lent p ≡ parts_followed x → IsPartOf t x p
-  part_lent label (followed.World path s) n (parts.World w) read same = record { shows = read.0; imports = same }
-  part_lent label (followed.World path s) n (parts.Interface p v is) read same = absurd read
-  part_lent label (followed.Interface s) n (parts.World w) read same = absurd read
-  part_lent label (followed.Interface s) n (parts.Interface p v is) read same = read.0
+  part_lent label x n y read same = search std_rules
 
   all_lent : (xs : List FollowedMember) (ms : List Member) → AllZip (IsMemberRead t known h) xs (map lent_member ms) → AllZip (IsMemberOf t) xs ms
   all_lent [] [] read = tt

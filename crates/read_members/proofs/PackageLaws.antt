@@ -1,17 +1,16 @@
 -- Where one of the members that were followed is none.
-use Rattle.std.proofs.Common.{◌≡◌, subst, ℕ, List, Option, Some, None}
+use Rattle.std.proofs.Common.{rules as std_rules, ◌≡◌, subst, ℕ, List, Option, None}
 use Rattle.std.specs.Borrow.{Bor}
 use Rattle.wit_model.specs.{Names.PackageIdentity, Text.Text}
 use Rattle.comp_bytes.specs.Levels.{Piece}
 use Rattle.plan_meaning.specs.{NumberedMembers.HomesStand, NumberedRules.Fact, NumberedViews.Tables}
 use Rattle.read_parts.specs.declared.{following.Followed.Followed, members.FollowedPart.FollowedPart, members.Member.Member as FollowedMember}
 use Rattle.read_parts.specs.Input.{IsFollowed}
-use Rattle.read_exports.specs.{Interfaces.Placed, Interfaces.shown_interface, Members.homes_alone, Members.homes_in}
+use Rattle.read_exports.specs.{Interfaces.Placed, Members.homes_alone, Members.homes_in}
 use Rattle.read_rules.specs.declared.tables.Fact.{Fact as KeptFact}
-use Rattle.read_numbers.specs.{FactLaws.known_by, KnownScopes.AreKnown, NumberedInput.tables_of, NumberedParts.numbered_scope as followed_scope}
+use Rattle.read_numbers.specs.{FactLaws.known_by, KnownScopes.AreKnown, NumberedInput.tables_of}
 use Rattle.read_members.specs.ReadMembers.{members_meant, IsElsewhere, IsNoPart, IsOneNone}
 use Rattle.read_members.proofs.MeantLaws.{no_members_are_meant}
-use Rattle.read_parts.specs.declared.members.FollowedPart.TheVariants as followed
 
 abbrev Given : Type 0
 Given = List (Option (ℕ × Bor (List ℕ)))
@@ -23,12 +22,10 @@ module _ (pieces : List Piece) (x : Followed) (f : IsFollowed pieces x) (facts :
   known = known_by facts
 
   away : (label : Text) (o : Option (Placed × List Placed)) → IsElsewhere (homes_alone lent) label o → IsElsewhere (homes_in packages homes) label o
-  away label None e = tt
-  away label (Some p) e = subst (λ (hs : Given). IsElsewhere (homes_alone hs) label (Some p)) lent_is e
+  away label x e = search std_rules
 
   none_there : (label : Text) (p : FollowedPart) → IsNoPart (tables_of x) known (homes_alone lent) label p → IsNoPart (tables_of x) known (homes_in packages homes) label p
-  none_there label (followed.World path s) none = none
-  none_there label (followed.Interface s) none = away label (shown_interface (tables_of x) (followed_scope x.places s)) none
+  none_there label y none = search std_rules
 
   pub none_meant : IsOneNone t known (homes_alone lent) members → members_meant pieces ≡ None
   none_meant one =

@@ -1,5 +1,5 @@
 -- Members that are read one after the other, as packages grow.
-use Rattle.std.proofs.Common.{◌≡◌, ◌⊎◌, inl, inr, sym, ap, subst, ◌∙◌, ℕ, ◌+◌, ◌<◌, arith, List, [], ◌∷◌, ◌++◌, map, length, take, get_or, slice_get, Option, Some}
+use Rattle.std.proofs.Common.{rules as std_rules, ◌≡◌, ◌⊎◌, inl, inr, sym, ap, subst, ◌∙◌, ℕ, ◌+◌, ◌<◌, arith, List, [], ◌∷◌, ◌++◌, map, length, take, get_or, slice_get, Option, Some}
 use Rattle.std.proofs.lemmas.{List.length-map, List.map-append, List.take_more, Option.slice_get-get_or, Option.same_Some as same-some}
 use Rattle.wit_model.specs.{Names.PackageIdentity, Text.Text}
 use Rattle.wit_model.proofs.Elements.{zip-push}
@@ -13,7 +13,6 @@ use Rattle.plan_meaning.specs.{NumberedRules.Fact, NumberedViews.Tables}
 use Rattle.read_members.specs.declared.reading.ReadMember.{ReadMember}
 use Rattle.read_members.specs.ReadMembers.{read_member, AreForMembers, AreRead, Because, IsForMember, IsMemberRead, IsPartRead}
 use Rattle.base_lemmas.proofs.Lists.{at_last as last_there, front_more, last_or, mapped_get, within_there as slice_there}
-use Rattle.read_follow.specs.declared.refusal.Refusal.TheVariants as refusals
 use Rattle.read_parts.specs.declared.members.FollowedPart.TheVariants as followed
 
 -- ---- items by number
@@ -33,8 +32,7 @@ alike_at f g xs ys same n d x e y within at other =
 
 -- a reason for another
 pub because : (e : Refusal) (P Q : Type 0) → (P → Q) → Because e P → Because e Q
-because refusals.Memory P Q f r = tt
-because (refusals.Absent cause left) P Q f r = f r
+because x y z f r = search std_rules
 
 module _ (t : Tables) (known : ℕ → Fact) (hs : List (Option (ℕ × Text))) where
   -- these packages, with the homes of places

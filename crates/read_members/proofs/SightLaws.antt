@@ -1,13 +1,13 @@
 -- The views that members give are over places whose names are known.
-use Rattle.std.proofs.Common.{◌≡◌, refl, sym, ap, subst, ℕ, zero, suc, Bool, true, false, not, ◌&&◌, List, [], ◌∷◌, map, slice_get, Option, Some, None, is_none}
+use Rattle.std.proofs.Common.{rules as std_rules, ◌≡◌, refl, sym, subst, ℕ, zero, suc, true, false, List, [], ◌∷◌, map, slice_get, Option, Some, None}
 use Rattle.std.proofs.lemmas.Option.{same_Some as same-some}
 use Rattle.std.specs.List.{AllByRecursion}
 use Rattle.wit_model.specs.Text.{Text}
 use Rattle.comp_bytes.specs.{Levels.Piece, Reading.◌>>=◌}
-use Rattle.comp_meaning.specs.Follow.{each, is_filled, provided}
+use Rattle.comp_meaning.specs.Follow.{each}
 use Rattle.plan_meaning.specs.NumberedMembers.{Homes, IsKnownSight, NumberedMember, NumberedPart, exported_view, imported_view, interface, sights_of_members, sights_of_part, world}
 use Rattle.plan_meaning.specs.{NumberedRules.Fact, NumberedViews.NumberedSight, NumberedViews.Tables}
-use Rattle.plan_meaning.specs.NumberedWorlds.{HasPath, NumberedScope, NumberedSeen, NumberedShown, are_once, are_reached, declares, function, implementing, instance, label, path, sights_of_scope}
+use Rattle.plan_meaning.specs.NumberedWorlds.{HasPath, NumberedScope, NumberedSeen, sights_of_scope}
 use Rattle.read_parts.specs.declared.{following.Followed.Followed, members.FollowedPart.FollowedPart, members.Member.Member as FollowedMember}
 use Rattle.read_parts.specs.{Input.IsFollowed, Members.scope_of}
 use Rattle.read_exports.specs.Interfaces.{Placed, shown_interface}
@@ -17,26 +17,13 @@ use Rattle.read_numbers.specs.{KnownScopes.AreKnown, NumberedParts.numbered_scop
 use Rattle.read_numbers.proofs.{KnownScopes.scopes_are_known, KnownScopes.views_are_known, PlacedMembers.places_are_kept}
 use Rattle.read_members.specs.{Decided.MembersAreKnown, ReadMembers.AreRead, ReadMembers.IsPartRead}
 use Rattle.base_lemmas.proofs.Elements.{all_both}
-use Rattle.comp_meaning.proofs.FollowLemmas.{provided_is}
 use Rattle.read_parts.specs.declared.members.FollowedPart.TheVariants as followed
 
 -- ---- what is shown as an interface
 
 -- its export, and its imports
 pub placed_views : (t : Tables) (w : NumberedScope) (e : Placed) (is : List Placed) → shown_interface t w ≡ Some (e, is) → (exported_view w.exports ≡ Some e) × (each imported_view w.imports ≡ Some is)
-placed_views t w e is shown = by (exported_view w.exports) (each imported_view w.imports) shown
-  where
-    together : Option Placed → Option (List Placed) → Option (Placed × List Placed)
-    together o os = o >>= λ x. os >>= λ xs. provided (are_once (x.0 ∷ map (λ i. i.0) xs) && are_reached t xs x.1) (x, xs)
-
-    by : (o : Option Placed) (os : Option (List Placed)) → together o os ≡ Some (e, is) → (o ≡ Some e) × (os ≡ Some is)
-    by None os f = absurd cc
-    by (Some x) None f = absurd cc
-    by (Some x) (Some xs) f = passed (are_once (x.0 ∷ map (λ i. i.0) xs) && are_reached t xs x.1) f
-      where
-        passed : (b : Bool) → provided {A = Placed × List Placed} b (x, xs) ≡ Some (e, is) → (Some x ≡ Some e) × (Some xs ≡ Some is)
-        passed false f = absurd cc
-        passed true f = let same = same-some (x, xs) (e, is) f in (ap (λ (y : Placed × List Placed). Some y.0) same, ap (λ (y : Placed × List Placed). Some y.1) same)
+placed_views t w e is shown = search std_rules
 
 -- ---- views in their places
 
@@ -45,14 +32,7 @@ module _ (t : Tables) (home : ℕ) where
   Stands i = HasPath t i.0 × IsPlacedView t i.0 i.1
 
   import_placed : (s : NumberedSeen) → IsPlacedItem t home s.shown → (i : Placed) → imported_view s ≡ Some i → Stands i
-  import_placed s = by s.shown
-    where
-      by : (x : NumberedShown) → IsPlacedItem t home x → (i : Placed) → imported_view (record { key = s.key; shown = x; external_id = s.external_id }) ≡ Some i → Stands i
-      by (instance (path p) v) h i e = subst Stands (provided_is {A = Placed} (is_none s.external_id && not (is_filled v.functions)) (p, v) i e) h
-      by (instance (label l p) v) h i e = absurd cc
-      by (instance (implementing l p) v) h i e = absurd cc
-      by (function n) h i e = absurd cc
-      by (declares d) h i e = absurd cc
+  import_placed s = search std_rules
 
   imports_placed : (ss : List NumberedSeen) → AllByRecursion (λ (s : NumberedSeen). IsPlacedItem t home s.shown) ss → (is : List Placed) → each imported_view ss ≡ Some is → AllByRecursion Stands is
   imports_placed [] h is e = subst (AllByRecursion Stands) (same-some [] is e) tt
@@ -65,16 +45,7 @@ module _ (t : Tables) (home : ℕ) where
       by (Some y) f (Some ys) rest e = subst (AllByRecursion Stands) (same-some (y ∷ ys) is e) (import_placed s h.0 y f, rest ys refl)
 
   export_placed : (ss : List NumberedSeen) → AllByRecursion (λ (s : NumberedSeen). IsPlacedItem t home s.shown) ss → (i : Placed) → exported_view ss ≡ Some i → Stands i
-  export_placed [] h i e = absurd cc
-  export_placed (s ∷ r ∷ ss) h i e = absurd cc
-  export_placed (s ∷ []) h i e = by s.shown h.0 i e
-    where
-      by : (x : NumberedShown) → IsPlacedItem t home x → (i : Placed) → exported_view (record { key = s.key; shown = x; external_id = s.external_id } ∷ []) ≡ Some i → Stands i
-      by (instance (path p) v) h i e = subst Stands (provided_is {A = Placed} (is_none s.external_id) (p, v) i e) h
-      by (instance (label l p) v) h i e = absurd cc
-      by (instance (implementing l p) v) h i e = absurd cc
-      by (function n) h i e = absurd cc
-      by (declares d) h i e = absurd cc
+  export_placed y h i e = search std_rules
 
 -- ---- members
 

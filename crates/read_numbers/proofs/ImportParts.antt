@@ -1,5 +1,5 @@
 -- The parts of types that are imported.
-use Rattle.std.proofs.Common.{◌≡◌, sym, ap, ◌∙◌, subst, ℕ, List, [], ◌∷◌, map, Option, Some}
+use Rattle.std.proofs.Common.{rules as std_rules, ◌≡◌, sym, ap, ◌∙◌, subst, ℕ, List, [], ◌∷◌, map, Option, Some}
 use Rattle.std.specs.List.{AllByRecursion}
 use Rattle.wit_model.specs.Text.{Text}
 use Rattle.plan_meaning.specs.{NumberedViews.NumberedView, NumberedViews.Tables, NumberedWorlds.NumberedSeen, Shapes.Shape}
@@ -10,16 +10,13 @@ use Rattle.read_follow.specs.{Functions.FunctionShape, Scopes.IsImportNamed}
 use Rattle.read_parts.specs.Members.{scope_of}
 use Rattle.read_numbers.specs.ImportParts.{followed_part, part_followed, part_seen, ImportsAreNamed, IsNameOf, IsSeenNamed}
 use Rattle.read_numbers.specs.NumberedParts.{name_in, numbered_seen as followed_seen, tables_in}
-use Rattle.read_follow.specs.declared.scopes.Shown.TheVariants as followed
 
 module _ (shapes : List Shape) (fs : List FunctionShape) (paths : List (Option Text)) (views : List NumberedView) (home : ℕ) where
   abbrev t : Tables
   t = tables_in shapes fs paths
 
   named : (s : FollowedShown) → IsImportNamed shapes home s → (part : ℕ) → followed_part s ≡ Some part → IsNameOf t home (name_in paths s) part
-  named (followed.Type name k d) h part e = let same : k ≡ part = cc in record { number = h.number; is = sym same ∙ h.is; shape = h.at }
-  named (followed.Instance key n) h part e = absurd cc
-  named (followed.Function name f) h part e = absurd cc
+  named x h part e = search std_rules
 
   all_named : (all : List Seen) (ss : List FollowedSeen) → map numbered_seen all ≡ map (followed_seen paths views) ss → map part_seen all ≡ map part_followed ss
       → AllByRecursion (λ (s : FollowedSeen). IsImportNamed shapes home s.shown) ss → AllByRecursion (IsSeenNamed t home) all

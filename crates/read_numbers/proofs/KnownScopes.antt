@@ -1,9 +1,9 @@
 -- What is known of the parts of scopes.
-use Rattle.std.proofs.Common.{◌≡◌, refl, ℕ, zero, suc, Bool, true, List, [], ◌∷◌, map, length, Option, Some, None, slice_get}
+use Rattle.std.proofs.Common.{rules as std_rules, ◌≡◌, refl, ℕ, zero, suc, Bool, true, List, [], ◌∷◌, map, length, Option, Some, slice_get}
 use Rattle.std.specs.{List.AllByRecursion, List.flat_map, Option.option_map_or}
 use Rattle.wit_model.specs.Text.{Text}
 use Rattle.plan_meaning.specs.{NumberedMembers.IsKnownSight, NumberedRules.IsKnown, Shapes.Shape, Shapes.shape_trees, Shapes.IsTable}
-use Rattle.plan_meaning.specs.NumberedViews.{function_at, path_at, AllOf, AreTables, FunctionPasses, FunctionShape as NumberedFunctionShape, IsOutsidePart, NumberedFunction, NumberedSight, NumberedType, NumberedView, PartsOf, Tables, TypePasses, ViewPasses}
+use Rattle.plan_meaning.specs.NumberedViews.{function_at, AllOf, AreTables, FunctionPasses, FunctionShape as NumberedFunctionShape, IsOutsidePart, NumberedFunction, NumberedSight, NumberedType, NumberedView, PartsOf, Tables, TypePasses, ViewPasses}
 use Rattle.plan_meaning.specs.NumberedWorlds.{instance, function, declares, place_of_key, sights_of_instance, sights_of_scope, HasPath, ItemStands, NumberedInstance, NumberedScope, NumberedSeen, NumberedShown, ScopeStands}
 use Rattle.read_rules.specs.declared.tables.Fact.{Fact}
 use Rattle.read_follow.specs.{Facts.FactsHold, Functions.FunctionShape}
@@ -16,8 +16,7 @@ use Rattle.base_lemmas.proofs.Elements.{all_both}
 
 module _ (P Q : ℕ → Type 0) (more : (k : ℕ) → P k → Q k) where
   given_more : (o : Option ℕ) → AllOf P o → AllOf Q o
-  given_more None h = tt
-  given_more (Some k) h = more k h
+  given_more x h = search std_rules
 
   params_more : (ps : List (Text × ℕ)) → AllByRecursion (λ (p : Text × ℕ). P p.1) ps → AllByRecursion (λ (p : Text × ℕ). Q p.1) ps
   params_more [] h = tt
@@ -71,11 +70,7 @@ module _ (shapes : List Shape) (fs : List FunctionShape) (paths : List (Option T
   sights i o = option_map_or (λ (path : Text). record { place = i.place; view = i.view; whole = true } ∷ []) o []
 
   instance_known : (i : NumberedInstance) → IsPlacedView t i.place i.view → AllByRecursion (IsKnownSight t (known_by facts)) (sights_of_instance t i)
-  instance_known i h = by (path_at t i.place) refl
-    where
-      by : (o : Option Text) → path_at t i.place ≡ o → AllByRecursion (IsKnownSight t (known_by facts)) (sights i o)
-      by None e = tt
-      by (Some path) e = (sight_known i.place (path, e) i.view h true, tt)
+  instance_known i h = search (std_rules, sight_known)
 
   instances_known : (is : List NumberedInstance) → ((j : ℕ) (i : NumberedInstance) → slice_get is j ≡ Some i → IsPlacedView t i.place i.view)
       → AllByRecursion (IsKnownSight t (known_by facts)) (flat_map (sights_of_instance t) is)
@@ -84,10 +79,7 @@ module _ (shapes : List Shape) (fs : List FunctionShape) (paths : List (Option T
       (instances_known is (λ j k e. h (suc j) k e))
 
   pub scope_known : (w : NumberedScope) → IsPlacedScope t w → ScopeStands t (known_by facts) w × AllByRecursion (IsKnownSight t (known_by facts)) (sights_of_scope t w)
-  scope_known w h = (
-    record { home = h.home; imports = items_known w.home w.imports h.imports; exports = items_known w.home w.exports h.exports },
-    instances_known w.instances h.instances,
-  )
+  scope_known w h = search (std_rules, items_known, instances_known)
 
 pub scopes_are_known : ScopesAreKnown
 scopes_are_known pieces x f facts known m w at =
@@ -95,6 +87,4 @@ scopes_are_known pieces x f facts known m w at =
     scope_known x.table x.functions x.places f.followed.tables.table tables facts known.many known.hold w ((places_are_kept pieces x f).each m w at)
 
 pub views_are_known : ViewsAreKnown
-views_are_known pieces x f facts known place path v h whole =
-    let tables = tables_in_numbers x.table x.functions x.places f.followed.tables f.followed.functions_apart f.followed.paths_apart in
-    sight_known x.table x.functions x.places f.followed.tables.table tables facts known.many known.hold place path v h whole
+views_are_known pieces x f facts known place path v h whole = search (std_rules, tables_in_numbers, sight_known)

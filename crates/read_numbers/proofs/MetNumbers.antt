@@ -1,11 +1,9 @@
 -- The places that a part is over, by the names that stand in its tree.
-use Rattle.std.proofs.Common.{◌≡◌, inl, inr, refl, sym, ap, ◌∙◌, subst, ℕ, zero, suc, ◌+◌, ◌<◌, arith, lit<, true, false, List, [], ◌∷◌, map, length, get_or, Option, Some, None, slice_get, unwrap_or}
+use Rattle.std.proofs.Common.{rules as std_rules, ◌≡◌, inl, inr, refl, sym, ap, ◌∙◌, subst, ℕ, zero, suc, ◌+◌, ◌<◌, arith, lit<, true, false, List, [], ◌∷◌, map, length, get_or, Option, Some, None, slice_get, unwrap_or}
 use Rattle.std.proofs.lemmas.{Bool.false≢true, List.Elements.Contains-append_left, List.Elements.Contains-append_right}
 use Rattle.std.specs.List.{Contains}
 use Rattle.wit_model.specs.{Text.Text, Tree.Place, Tree.Tree, Tree.children, Types.no_tree}
-use Rattle.comp_meaning.specs.Follow.{place_of}
-use Rattle.plan_meaning.specs.{NumberedRules.IsSeenFrom, NumberedWorlds.HasPath}
-use Rattle.plan_meaning.specs.NumberedViews.{path_at, HasNameIn, itself, inside, IsOutside}
+use Rattle.plan_meaning.specs.NumberedViews.{HasNameIn, itself, inside}
 use Rattle.plan_meaning.specs.Shapes.{Shape, named_shape, node_shape, part_tree, shape_tree, shape_trees, IsTable}
 use Rattle.plan_meaning.proofs.ShapeLaws.{name_tree, node_tree, part_behind, tree_at_number}
 use Rattle.read_follow.specs.{Facts.places, Facts.places_in, Functions.FunctionShape, Placed.apart, Placed.MayMeet, Placed.TreeOver, Places.has_path}
@@ -32,11 +30,9 @@ module _ (place : ℕ → Place) (ss : List Shape) (table : IsTable ss) where
       by (k ∷ ks) (suc i) small e = Contains-append_right (places (part_tree T k)) (places_in (children (map (part_tree T) ks))) x (by ks i (omega (arith, small)) e)
 
   pub name_stands : (k q : ℕ) → HasNameIn ss k q → Contains (places (part_tree T k)) (place q)
-  name_stands k q (itself _ n _ name is at) =
-      subst (λ (t : Tree). Contains (places t) (place q)) (sym (ap (part_tree T) is ∙ (tree_there n (named_shape q name) at ∙ name_tree place T q name))) (first_place (place q))
+  name_stands k q (itself _ n _ name is at) = search (std_rules, tree_there n (named_shape q name), name_tree place T q name, first_place (place q))
   name_stands k q (inside _ n m _ form parts is at among has) =
-      subst (λ (t : Tree). Contains (places t) (place q)) (sym (ap (part_tree T) is ∙ (tree_there n (node_shape form parts) at ∙ node_tree place T form parts)))
-      (among_parts (place q) parts m among (name_stands m q has))
+      search (std_rules, tree_there n (node_shape form parts), node_tree place T form parts, among_parts (place q) parts m among (name_stands m q has), name_stands m q has)
 
 -- ---- marks and paths
 
@@ -53,22 +49,4 @@ module _ (shapes : List Shape) (fs : List FunctionShape) (paths : List (Option T
 -- ---- what follows
 
 pub met_parts_are_seen : MetPartsAreSeen
-met_parts_are_seen t tables p k met = (seen, outside)
-  where
-    same_path : (o u : Option Text) → place_of o ≡ place_of u → o ≡ u
-    same_path None None e = refl
-    same_path None (Some b) e = absurd cc
-    same_path (Some a) None e = absurd cc
-    same_path (Some a) (Some b) e = cc
-
-    seen : IsSeenFrom t p k
-    seen q has same = elim (met.1 q has) [
-      | inl own ↦ own
-      | inr path ↦ tables.paths q p path.0 path.1 (sym (same_path (path_at t q) (path_at t p) same) ∙ path.1)
-    ]
-
-    outside : HasPath t p → IsOutside t k
-    outside home q has = elim (met.1 q has) [
-      | inl own ↦ (home.0, ap (path_at t) own ∙ home.1)
-      | inr path ↦ path
-    ]
+met_parts_are_seen t tables p k met = search std_rules

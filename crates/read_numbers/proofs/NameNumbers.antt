@@ -1,10 +1,10 @@
 -- The names in a part, by the numbers of their places.
-use Rattle.std.proofs.Common.{◌≡◌, inl, inr, refl, ap, ◌∙◌, subst, ℕ, zero, suc, ◌+◌, ◌<◌, ◌≤◌, arith, lit<, List, [], ◌∷◌, map, length, Some, slice_get, unwrap_or}
+use Rattle.std.proofs.Common.{rules as std_rules, ◌≡◌, inl, inr, refl, ap, ◌∙◌, subst, ℕ, zero, suc, ◌+◌, ◌<◌, ◌≤◌, arith, lit<, List, [], ◌∷◌, map, length, Some, slice_get, unwrap_or}
 use Rattle.std.proofs.lemmas.List.Elements.{Contains-append_left, Contains-append_right, Contains-append_cases}
 use Rattle.std.specs.List.{AllByRecursion, Contains}
 use Rattle.wit_model.specs.{Tree.Place, Tree.Tree, Tree.children, Types.no_tree}
 use Rattle.plan_meaning.specs.NumberedViews.{HasNameIn, itself, inside}
-use Rattle.plan_meaning.specs.Shapes.{Shape, part_tree, primitives, shape_tree, shape_trees, IsShape, a_name, a_node, IsTable}
+use Rattle.plan_meaning.specs.Shapes.{Shape, part_tree, shape_tree, shape_trees, IsShape, a_name, a_node, IsTable}
 use Rattle.plan_meaning.proofs.ShapeLaws.{name_tree, node_tree, part_behind, part_front, split_part, tree_at_number}
 use Rattle.read_follow.specs.Facts.{places, places_in}
 use Rattle.base_lemmas.proofs.{Elements.last_of as only_one, Elements.none_in as nothing_in, Lists.mapped_get, Lists.within_there as slice_there}
@@ -45,9 +45,7 @@ module _ (place : ℕ → Place) (ss : List Shape) (table : IsTable ss) where
         record { number = r.named.number; has = inside k n r.part r.named.number form ks is (at ∙ ap Some same) r.among r.named.has; is = r.named.is }
 
   not_in_front : (k : ℕ) → k < 14 → (x : Place) → Contains (places (part_tree T k)) x → ⊥
-  not_in_front k low x c =
-      let found = slice_there primitives k low in
-      nothing_in x (subst (λ (t : Tree). Contains (places t) x) (part_front T k low ∙ ap (λ o. unwrap_or o no_tree) (mapped_get Tree.primitive primitives k found.0 found.1)) c)
+  not_in_front k low x c = search (std_rules, slice_there, nothing_in, part_front, unwrap_or, mapped_get)
 
   pub named_inside : (m : ℕ) → m ≤ length ss → (k : ℕ) → k < 14 + m → (x : Place) → Contains (places (part_tree T k)) x → IsNamed ss place k x
   named_inside zero le k small x c = absurd (not_in_front k (omega (arith, small)) x c)
@@ -70,10 +68,4 @@ abbrev pub apart : ℕ → Place
 apart n = Place.of_interface (n ∷ [])
 
 pub number_inside : (ss : List Shape) → IsTable ss → (k q : ℕ) → k < 14 + length ss → Contains (places (part_tree (shape_trees apart ss) k)) (apart q) → HasNameIn ss k q
-number_inside ss table k q range c =
-    let r = named_inside apart ss table (length ss) (omega arith) k range (apart q) c in
-    let same : r.number ≡ q = same_number r.number q r.is in
-    subst (λ (n : ℕ). HasNameIn ss k n) same r.has
-  where
-    same_number : (a b : ℕ) → apart a ≡ apart b → a ≡ b
-    same_number a b e = cc
+number_inside ss table k q range c = search (std_rules, named_inside apart ss table (length ss) (omega arith) k range (apart q) c)

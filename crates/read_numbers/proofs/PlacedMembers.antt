@@ -1,5 +1,5 @@
 -- The scopes of an input in numbers: what they are over, and in which order their names came into the table.
-use Rattle.std.proofs.Common.{◌≡◌, ◌⊎◌, inl, inr, refl, sym, ap, ◌∙◌, subst, ℕ, ◌+◌, ◌<◌, arith, true, List, [], ◌∷◌, map, length, Option, Some, None, IfSome, slice_get, unwrap_or}
+use Rattle.std.proofs.Common.{rules as std_rules, ◌≡◌, ◌⊎◌, inl, inr, refl, sym, ap, ◌∙◌, subst, ℕ, ◌+◌, ◌<◌, arith, true, List, [], ◌∷◌, map, length, Option, Some, None, IfSome, slice_get, unwrap_or}
 use Rattle.std.proofs.{Math.ListN.length-map, lemmas.Bool.cases_lt}
 use Rattle.std.specs.List.{AllByRecursion}
 use Rattle.wit_model.specs.{Text.Text, Tree.Place, Tree.Tree}
@@ -23,14 +23,12 @@ use Rattle.read_numbers.proofs.{ScopeNumbers.keys_in_numbers, TableNumbers.path_
 use Rattle.base_lemmas.proofs.{Elements.get-contains, Lists.get_back as at_mapped, Lists.mapped_get, Lists.one_item, Lists.within_there as slice_there}
 use Rattle.plan_meaning.specs.NumberedViews as views
 use Rattle.plan_meaning.specs.NumberedWorlds as worlds
-use Rattle.read_follow.specs.declared.instance_keys.InstanceKey.TheVariants as keys
 use Rattle.read_follow.specs.declared.scopes.Shown.TheVariants as shown
 use Rattle.read_follow.specs.Scopes as scopes
 use Rattle.read_parts.specs.Members as followed
 
 key_place : (key : InstanceKey) → place_of_key (numbered_key key) ≡ place_number key
-key_place (keys.Path p) = refl
-key_place _ = refl
+key_place x = search std_rules
 
 module _ (shapes : List Shape) (fs : List FunctionShape) (paths : List (Option Text)) (tables : AreTables (length paths) shapes fs) where
   abbrev t : Tables

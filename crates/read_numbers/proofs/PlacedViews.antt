@@ -1,5 +1,5 @@
 -- Views in numbers: the places that they are over, the numbers of their names, and the order of these.
-use Rattle.std.proofs.Common.{◌≡◌, inl, inr, refl, sym, ap, ◌∙◌, subst, ℕ, zero, suc, ◌+◌, ◌<◌, ◌&&◌, arith, Bool, true, false, ◌||◌, List, [], ◌∷◌, map, length, Option, Some, None, IfSome, option_map, slice_get, unwrap_or}
+use Rattle.std.proofs.Common.{rules as std_rules, ◌≡◌, inl, inr, refl, sym, ap, ◌∙◌, subst, ℕ, zero, suc, ◌+◌, ◌<◌, ◌&&◌, arith, true, ◌||◌, List, [], ◌∷◌, map, length, Option, Some, IfSome, option_map, slice_get, unwrap_or}
 use Rattle.std.proofs.{Math.ListN.length-map, lemmas.Bool.lt-ltb}
 use Rattle.std.specs.{Prelude.nat_lt, List.AllByRecursion, List.AllZip, List.list_all, List.list_any}
 use Rattle.wit_model.specs.{Meaning.Signature, Text.Text, Text.text_eq, Tree.Place, Tree.Tree}
@@ -19,13 +19,11 @@ use Rattle.read_numbers.proofs.MetNumbers.{met_from}
 use Rattle.base_lemmas.proofs.Lists.{mapped_get, within_there as slice_there}
 use Rattle.comp_meaning.proofs.RulesLemmas.{not_twice}
 use Rattle.plan_meaning.specs.NumberedViews as views
-use Rattle.read_follow.specs.declared.slots.Slot.TheVariants as slots
 
 -- ---- the numbers of names
 
 pub slot_number : (s : Slot) → part_of (numbered_slot s) ≡ slot_part s
-slot_number (slots.Value part) = refl
-slot_number _ = refl
+slot_number x = search std_rules
 
 module _ (shapes : List Shape) (fs : List FunctionShape) (paths : List (Option Text)) (place : ℕ) where
   abbrev t : Tables
@@ -58,11 +56,7 @@ rising_numbers (n ∷ ns) f = λ i. all_above n ns (λ j m e. f 0 (suc j) n m re
 any_there : (x : Text) (xs : List Text) (j : ℕ) → slice_get xs j ≡ Some x → list_any (text_eq x) xs ≡ true
 any_there x [] j e = absurd cc
 any_there x (y ∷ xs) zero e = let same : y ≡ x = cc in ap (λ b. b || list_any (text_eq x) xs) (same_text x y (sym same))
-any_there x (y ∷ xs) (suc j) e = ap (λ b. text_eq x y || b) (any_there x xs j e) ∙ or_true (text_eq x y)
-  where
-    or_true : (b : Bool) → (b || true) ≡ true
-    or_true true = refl
-    or_true false = refl
+any_there x (y ∷ xs) (suc j) e = search (std_rules, any_there x xs j e)
 
 name_at : (ts : List ShownType) (j : ℕ) (x : ShownType) → slice_get ts j ≡ Some x → slice_get (map (λ (y : NumberedType). y.name) (map numbered_type ts)) j ≡ Some x.name.now
 name_at [] j x e = absurd cc
@@ -70,8 +64,7 @@ name_at (y ∷ ts) zero x e = let same : y ≡ x = cc in ap (λ (z : ShownType).
 name_at (y ∷ ts) (suc j) x e = name_at ts j x e
 
 pub all_of : (P : ℕ → Type 0) (o : Option ℕ) → IfSome o P → AllOf P o
-all_of P None h = tt
-all_of P (Some k) h = h
+all_of x y h = search std_rules
 
 module _ (shapes : List Shape) (fs : List FunctionShape) (paths : List (Option Text)) (place : ℕ) where
   module _ (ts : List ShownType) (h : AllByRecursion (IsTypeNamed shapes place) ts) (rise : Rise ts) (apart_names : distinct (map (λ (y : NumberedType). y.name) (map numbered_type ts)) ≡ true) where
@@ -121,8 +114,7 @@ module _ (shapes : List Shape) (fs : List FunctionShape) (paths : List (Option T
   part_met k range over = (range, met_from shapes fs paths table place k over)
 
   pub declared_met : (d : Option ℕ) → IfSome d (λ k. k < 14 + length shapes) → DeclarationOver P (declared_in T d) → AllOf (IsMetPart tabled place) d
-  declared_met None range over = tt
-  declared_met (Some k) range over = part_met k range over
+  declared_met x range over = search (std_rules, part_met)
 
   params_met : (ps : List (Text × ℕ)) → AllByRecursion (λ (p : Text × ℕ). p.1 < 14 + length shapes) ps → AllByRecursion (λ (p : Text × Tree). TreeOver P p.1) (map (param_tree T) ps)
       → AllByRecursion (λ (p : Text × ℕ). IsMetPart tabled place p.1) ps
@@ -130,8 +122,7 @@ module _ (shapes : List Shape) (fs : List FunctionShape) (paths : List (Option T
   params_met (p ∷ ps) range over = (part_met p.1 range.0 over.0, params_met ps range.1 over.1)
 
   result_met : (o : Option ℕ) → IfSome o (λ k. k < 14 + length shapes) → IfSome (option_map (part_tree T) o) (TreeOver P) → AllOf (IsMetPart tabled place) o
-  result_met None range over = tt
-  result_met (Some k) range over = part_met k range over
+  result_met x range over = search (std_rules, part_met)
 
   shape_met : (g : FunctionShape) → IsFunctionIn (length shapes) g → SignatureOver P (signature_in T g) → PartsOf (IsMetPart tabled place) (numbered_function g)
   unfolding signature_in
@@ -161,8 +152,5 @@ module _ (shapes : List Shape) (fs : List FunctionShape) (paths : List (Option T
 
   pub placed_view : (v : View) → AllByRecursion (IsShownIn shapes fs) v.types.items → AllByRecursion (IsShownFunctionIn fs) v.functions.items → ViewOver P (view_in T (functions_in T fs) v)
       → AllByRecursion (IsTypeNamed shapes place) v.types.items → IsPlacedView tabled place (numbered_view v)
-  placed_view v ht hf over named = record {
-    parts = record { types = types_met v.types.items ht over.types; functions = functions_met v.functions.items hf over.functions };
-    numbers = numbers_of shapes fs paths place v.types.items named;
-    named = are_numbered shapes fs paths place v.types.items named;
-  }
+  placed_view v ht hf over named =
+      search (std_rules, types_met v.types.items ht over.types, functions_met v.functions.items hf over.functions, are_numbered shapes fs paths place v.types.items named)

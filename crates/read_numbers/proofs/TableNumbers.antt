@@ -1,5 +1,5 @@
 -- Tables and places in numbers.
-use Rattle.std.proofs.Common.{◌≡◌, sym, ap, ◌∙◌, subst, ℕ, zero, suc, ◌+◌, ◌<◌, List, [], ◌∷◌, map, length, Option, Some, None, IfSome, slice_get, unwrap_or}
+use Rattle.std.proofs.Common.{rules as std_rules, ◌≡◌, sym, ap, ◌∙◌, subst, ℕ, zero, suc, ◌+◌, ◌<◌, List, [], ◌∷◌, map, length, Option, Some, None, IfSome, slice_get, unwrap_or}
 use Rattle.wit_model.specs.Text.{Text}
 use Rattle.comp_meaning.specs.Follow.{place_of}
 use Rattle.plan_meaning.specs.{NumberedViews.AllOf, NumberedViews.IsPart, NumberedViews.PartsOf, NumberedViews.Tables, Shapes.Shape}
@@ -19,8 +19,7 @@ path_there (o ∷ paths) zero path e = ap Some e
 path_there (o ∷ paths) (suc n) path e = path_there paths n path e
 
 given : (n : ℕ) (o : Option ℕ) → IfSome o (λ k. k < 14 + n) → AllOf (λ k. k < 14 + n) o
-given n None h = tt
-given n (Some k) h = h
+given n x h = search std_rules
 
 module _ (shapes : List Shape) (fs : List FunctionShape) (paths : List (Option Text)) where
   abbrev t : Tables

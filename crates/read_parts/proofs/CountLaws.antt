@@ -1,5 +1,5 @@
 -- The parts that are exported make no more types than the input has bytes.
-use Rattle.std.proofs.Common.{◌≡◌, refl, sym, ap, ◌∙◌, subst, ℕ, zero, suc, ◌+◌, ◌≤◌, ◌==◌, ◌||◌, ◌&&◌, arith, Bool, true, false, not, cond, List, [], ◌∷◌, ◌++◌, map, length, length-append, append_assoc, append-nil, Option, Some, None, slice_get}
+use Rattle.std.proofs.Common.{rules as std_rules, ◌≡◌, refl, sym, ap, ◌∙◌, subst, ℕ, zero, suc, ◌+◌, ◌≤◌, ◌==◌, ◌||◌, ◌&&◌, arith, Bool, true, false, not, cond, List, [], ◌∷◌, ◌++◌, map, length, length-append, append_assoc, append-nil, Option, Some, None, slice_get}
 use Rattle.std.proofs.lemmas.{Bool.eq-eqb, Option.same_Some as some_same}
 use Rattle.std.specs.List.{list_any}
 use Rattle.wit_model.specs.{Text.Text, Names.is_label}
@@ -20,42 +20,22 @@ long_joined : (text front rest : List ℕ) → text ≡ front ++ rest → length
 long_joined text front rest e = ap length e ∙ length-append front rest
 
 declaration_long : (d : Declaration) (text : List ℕ) → IsDeclaration d text → 1 ≤ length text
-declaration_long (Declaration.defined d) text s = let long : length text ≡ suc (length s.0) = ap length s.1 in omega (arith, long)
-declaration_long _ text s = let long : length text ≡ suc (length s.0) = ap length s.1 in omega (arith, long)
+declaration_long x text s = search std_rules
 
 declarations_long : (ds : List Declaration) (text : List ℕ) → Sequence IsDeclaration ds text → length ds ≤ length text
 declarations_long [] text s = omega arith
-declarations_long (d ∷ ds) text s =
-    let whole = long_joined text s.0 s.1 s.2 in
-    let first = declaration_long d s.0 s.3 in
-    let others = declarations_long ds s.1 s.4 in
-    omega (arith, whole, first, others)
+declarations_long (d ∷ ds) text s = search (std_rules, long_joined, declaration_long, declarations_long ds s.1 s.4)
 
 entry_long : (e : Entry) (text : List ℕ) → IsEntry e text → weight e ≤ length text
 entry_long (plain d) text s = declaration_long d text s
-entry_long (holds ds) text s =
-    let first : length text ≡ suc (length s.0) = ap length s.1 in
-    let second : length s.0 ≡ suc (length s.2.0) = ap length s.2.1 in
-    let v = s.2.2.0 in
-    let whole = long_joined s.2.0 v.0 v.1 v.2 in
-    let held = declarations_long ds v.1 v.4 in
-    omega (arith, first, second, whole, held)
+entry_long (holds ds) text s = search (std_rules, long_joined, declarations_long)
 
 entries_long : (es : List Entry) (text : List ℕ) → Sequence IsEntry es text → weights es ≤ length text
 entries_long [] text s = omega arith
-entries_long (e ∷ es) text s =
-    let whole = long_joined text s.0 s.1 s.2 in
-    let first = entry_long e s.0 s.3 in
-    let others = entries_long es s.1 s.4 in
-    omega (arith, whole, first, others)
+entries_long (e ∷ es) text s = search (std_rules, long_joined, entry_long, entries_long es s.1 s.4)
 
 part_long : (p : PartType) (text : List ℕ) → IsPartType p text → part_weight p ≤ length text
-part_long (shows es) text s =
-    let first : length text ≡ suc (length s.0) = ap length s.1 in
-    let v = s.2 in
-    let whole = long_joined s.0 v.0 v.1 v.2 in
-    let held = entries_long es v.1 v.4 in
-    omega (arith, first, whole, held)
+part_long (shows es) text s = search (std_rules, long_joined, entries_long)
 part_long (wraps es name) text s =
     let first : length text ≡ suc (length s.0) = ap length s.1 in
     let v = s.2 in
@@ -72,37 +52,19 @@ part_long (wraps es name) text s =
 
 types_long : (ps : List PartType) (text : List ℕ) → Sequence IsTopType (map (λ p. TopType.component (raw_part p)) ps) text → types_weight ps ≤ length text
 types_long [] text s = omega arith
-types_long (p ∷ ps) text s =
-    let whole = long_joined text s.0 s.1 s.2 in
-    let first = part_long p s.0 (part_out p s.0 s.3) in
-    let others = types_long ps s.1 s.4 in
-    omega (arith, whole, first, others)
+types_long (p ∷ ps) text s = search (std_rules, long_joined text s.0 s.1 s.2, part_long p s.0 (part_out p s.0 s.3), part_out p s.0 s.3, types_long ps s.1 s.4)
 
 piece_long : (p : Piece) (text : List ℕ) → IsSection (raw_piece p) text → pieces_weight (p ∷ []) ≤ length text
 piece_long (custom name contents) text s = omega arith
 piece_long (exports es) text s = omega arith
-piece_long (types ps) text s =
-    let first : length text ≡ suc (length s.1.0) = ap length s.1.1 in
-    let c = s.1.2 in
-    let counted = long_joined s.1.0 c.0 c.1 c.2 in
-    let same : length c.1 ≡ length s.0 = ap length c.4 in
-    let v = s.2 in
-    let whole = long_joined s.0 v.0 v.1 v.2 in
-    let held = types_long ps v.1 v.4 in
-    omega (arith, first, counted, same, whole, held)
+piece_long (types ps) text s = search (std_rules, long_joined, types_long)
 
 piece_first : (p : Piece) (ps : List Piece) → pieces_weight (p ∷ ps) ≡ pieces_weight (p ∷ []) + pieces_weight ps
-piece_first (custom name contents) ps = omega arith
-piece_first _ ps = omega arith
+piece_first x ps = search std_rules
 
 pieces_long : (ps : List Piece) (text : List ℕ) → Sequence IsSection (map raw_piece ps) text → pieces_weight ps ≤ length text
 pieces_long [] text s = omega arith
-pieces_long (p ∷ ps) text s =
-    let whole = long_joined text s.0 s.1 s.2 in
-    let first = piece_long p s.0 s.3 in
-    let others = pieces_long ps s.1 s.4 in
-    let split = piece_first p ps in
-    omega (arith, whole, first, others, split)
+pieces_long (p ∷ ps) text s = search (std_rules, long_joined, piece_long, piece_first, pieces_long ps s.1 s.4)
 
 bytes_long : (bytes : List ℕ) (ps : List Piece) → levels_of bytes ≡ Some ps → pieces_weight ps ≤ length bytes
 bytes_long bytes ps e =
@@ -145,9 +107,7 @@ along_part top next many p a e =
     (record { all = (let both = types_both top.types (p ∷ []) in let before = a.all in omega (arith, both, before)); once = a.once })
 
 along_parts : (ps : List PartType) (top next : Top) (many : ℕ) → IsAlong top many → steps top_part top ps ≡ Some next → IsAlong next (many + types_weight ps)
-along_parts [] top next many a e =
-    let same : top ≡ next = some_same top next e in
-    subst (λ (n : ℕ). IsAlong next n) (let none : many ≡ many + 0 = omega arith in none) (subst (λ (t : Top). IsAlong t many) same a)
+along_parts [] top next many a e = search std_rules
 along_parts (p ∷ ps) top next many a e =
     let with_one : Top = record { types = top.types ++ p ∷ []; slots = top.slots ++ length top.types ∷ []; exported = top.exported } in
     let rest = along_parts ps with_one next (many + part_weight p) (along_part top with_one many p a refl) e in
@@ -180,11 +140,9 @@ along_exports (x ∷ xs) top next many a e = by (λ t b h. along_exports xs t ne
     by rec (Some t) is h = rec t (along_export top t many x a is) h
 
 along_piece : (p : Piece) (top next : Top) (many : ℕ) → IsAlong top many → top_piece top p ≡ Some next → IsAlong next (many + pieces_weight (p ∷ []))
-along_piece (custom name contents) top next many a e = subst (λ (n : ℕ). IsAlong next n) (let none : many ≡ many + 0 = omega arith in none)
-    (subst (λ (t : Top). IsAlong t many) (some_same top next e) a)
+along_piece (custom name contents) top next many a e = search std_rules
 along_piece (exports xs) top next many a e = subst (λ (n : ℕ). IsAlong next n) (let none : many ≡ many + 0 = omega arith in none) (along_exports xs top next many a e)
-along_piece (types ps) top next many a e =
-    subst (λ (n : ℕ). IsAlong next n) (let none : many + types_weight ps ≡ many + (types_weight ps + 0) = omega arith in none) (along_parts ps top next many a e)
+along_piece (types ps) top next many a e = search (std_rules, along_parts ps top next many a e)
 
 along_pieces : (ps : List Piece) (top next : Top) (many : ℕ) → IsAlong top many → steps top_piece top ps ≡ Some next → IsAlong next (many + pieces_weight ps)
 along_pieces [] top next many a e = subst (λ (n : ℕ). IsAlong next n) (let none : many ≡ many + 0 = omega arith in none) (subst (λ (t : Top). IsAlong t many) (some_same top next e) a)
@@ -211,27 +169,12 @@ all_left n (p ∷ ps) = ap (λ k. part_weight p + k) (all_left (suc n) ps)
 
 less_left : (used : List ℕ) (m n : ℕ) (ps : List PartType) → left_over (used ++ m ∷ []) n ps ≤ left_over used n ps
 less_left used m n [] = omega arith
-less_left used m n (p ∷ ps) =
-    let rest = less_left used m (suc n) ps in
-    let same = ap (λ u. cond u 0 (part_weight p)) (any_more used m n) in
-    let less = fewer (list_any (λ k. k == n) used) (m == n) (part_weight p) in
-    omega (arith, rest, same, less)
+less_left used m n (p ∷ ps) = search (std_rules, any_more, fewer, less_left used m (suc n) ps)
 
 one_used : (used : List ℕ) (k n : ℕ) (ps : List PartType) (p : PartType) → slice_get ps k ≡ Some p → list_any (λ m. m == n + k) used ≡ false
     → left_over (used ++ (n + k) ∷ []) n ps + part_weight p ≤ left_over used n ps
 one_used used k n [] p at unused = absurd cc
-one_used used zero n (x ∷ ps) p at unused =
-    let zeroth : n + 0 ≡ n = omega arith in
-    let same : x ≡ p = cc in
-    let size = ap part_weight same in
-    let rest = less_left used (n + 0) (suc n) ps in
-    let now = ap (λ u. cond u 0 (part_weight x)) (any_more used (n + 0) n ∙ (ap (λ u. list_any (λ m. m == n) used || u) (eq-eqb (n + 0) n zeroth) ∙ last (list_any (λ m. m == n) used))) in
-    let before = ap (λ u. cond u 0 (part_weight x)) (ap (λ j. list_any (λ m. m == j) used) (sym zeroth) ∙ unused) in
-    omega (arith, size, rest, now, before)
-  where
-    last : (u : Bool) → (u || true) ≡ true
-    last true = refl
-    last false = refl
+one_used used zero n (x ∷ ps) p at unused = search (std_rules, less_left, any_more, eq-eqb)
 one_used used (suc k) n (x ∷ ps) p at unused =
     let moved : suc n + k ≡ n + suc k = omega arith in
     let rest = one_used used k (suc n) ps p at (ap (λ j. list_any (λ m. m == j) used) moved ∙ unused) in
@@ -267,8 +210,7 @@ spent ps used (x ∷ xs) parts f e = by (λ qs is. spent ps (used ++ x.1 ∷ [])
 
 chosen : (top : Top) (parts : List (Text × PartType)) (b : Bool) → AreFresh [] top.exported → when b (each (part_under top.types) top.exported) ≡ Some parts
     → parts_weight parts ≤ types_weight top.types
-chosen top parts true f e = let less = spent top.types [] top.exported parts f e in let all = all_left 0 top.types in omega (arith, less, all)
-chosen top parts false f e = absurd cc
+chosen top parts x f e = search (std_rules, spent top.types, all_left 0 top.types)
 
 pub parts_fit : PartsFit
 parts_fit bytes pieces parts read found = by (steps top_piece empty_top pieces) refl found

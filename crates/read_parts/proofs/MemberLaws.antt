@@ -1,13 +1,13 @@
 -- Parts at the top that are followed into tables that grow.
-use Rattle.std.proofs.Common.{◌≡◌, inl, inr, refl, sym, ap, ◌∙◌, subst, ℕ, zero, suc, ◌+◌, ◌<◌, ◌≤◌, arith, List, [], ◌∷◌, ◌++◌, map, drop, length, length-append, get_or, Option, Some, None, slice_get}
+use Rattle.std.proofs.Common.{rules as std_rules, ◌≡◌, inl, inr, refl, sym, ap, ◌∙◌, subst, ℕ, zero, suc, ◌+◌, ◌<◌, ◌≤◌, arith, List, [], ◌∷◌, ◌++◌, map, drop, length, length-append, get_or, Option, Some, slice_get}
 use Rattle.std.proofs.lemmas.{List.append-nil, List.drop_more, List.map-append, Option.same_Some as same-some, Option.slice_get_within as found_below}
 use Rattle.wit_model.specs.{Text.Text, Text.text_of, Tree.Place}
 use Rattle.comp_bytes.specs.{Levels.Entry, Levels.PartType, Reading.◌>>=◌}
 use Rattle.comp_meaning.specs.Follow.{Scope as MeantScope, each}
-use Rattle.read_follow.specs.declared.{refusal.Refusal.Refusal, scopes.Scope.Scope, scopes.Seen.Seen, scopes.Shown.Shown}
+use Rattle.read_follow.specs.declared.{refusal.Refusal.Refusal, scopes.Scope.Scope}
 use Rattle.read_follow.specs.{Defining.Grows, Following.AreTables, Functions.FunctionShape, PartTypes.raw_part_type, Placed.IsTypeNamed, Places.ArePlacesOf}
 use Rattle.read_follow.specs.Found.{Refuses}
-use Rattle.read_follow.specs.Scopes.{meant_at, world_of, ArePathsInOrder, IsInstanceIn, IsPlacedAmong, IsShownAs, IsShownBy, by_instance, by_import, IsStage, IsWorld, World}
+use Rattle.read_follow.specs.Scopes.{meant_at, world_of, ArePathsInOrder, IsPlacedAmong, IsShownBy, by_instance, by_import, IsStage, IsWorld, World}
 use Rattle.plan_meaning.specs.Shapes.{Shape, named_shape, node_shape}
 use Rattle.read_follow.proofs.{ComponentLaws.place_in, ComponentLaws.places_are, PlacedScopes.extended_placed, PlacedScopes.none_past, Refusing.refused}
 use Rattle.read_follow.proofs.{DefiningLaws.all_at, DefiningLaws.longer, ScopeLaws.extended, ScopeLaws.extended_meant, ScopeLaws.extended_world, ScopeLaws.plus}
@@ -97,20 +97,7 @@ module _ (shapes : List Shape) (fs : List FunctionShape) (paths : Paths) (more :
 
   stage_still : (base : List Shape) (count : ℕ) (es : List Entry) (scope : Scope) (n : ℕ) (w : World) → IsStage base count es (world_of shapes fs paths scope) n w
       → IsStage base count es (world_of more more_fs more_paths scope) n w
-  stage_still base count es scope n w s = record {
-    world = s.world;
-    home = s.home;
-    shapes_grow = grow_on w.shapes shapes more s.shapes_grow gs;
-    paths_grow = grow_on w.paths paths more_paths s.paths_grow gp;
-    instances_grow = s.instances_grow;
-    imports_grow = s.imports_grow;
-    placed = s.placed;
-    front = s.front;
-    back = s.back;
-    split = s.split;
-    long = s.long;
-    follows = s.follows;
-  }
+  stage_still base count es scope n w s = search (std_rules, grow_on)
 
   pub members_staged : (raws : List (Text × PartType)) (ms : List Member) → AreMembersStaged shapes fs paths raws ms → AreMembersStaged more more_fs more_paths raws ms
   members_staged raws ms staged i m raw at raw_at =
@@ -135,10 +122,7 @@ module _ (shapes : List Shape) (fs : List FunctionShape) (paths : Paths) (more :
 -- ---- one part more
 
 places_below : (shapes : List Shape) (fs : List FunctionShape) (paths : Paths) (p : FollowedPart) → StandsIn shapes fs paths p → ArePlacesBelow (length paths) p
-places_below shapes fs paths p st = record {
-  home = found_below paths (scope_of p).home None st.own;
-  instances = λ j x at. (all_at (IsInstanceIn shapes fs paths) (scope_of p).instances.items j x st.instances at).place;
-}
+places_below shapes fs paths p st = search (std_rules, found_below, all_at)
 
 types_below : (shapes : List Shape) (fs : List FunctionShape) (paths : Paths) (p : FollowedPart) (base : List Shape) (count till : ℕ)
     → IsPlacedAmong base count till (world_of shapes fs paths (scope_of p))
@@ -150,9 +134,7 @@ types_below shapes fs paths p base count till placed j x at n t t_at =
     omega (arith, low, number)
 
 imports_below : (shapes : List Shape) (fs : List FunctionShape) (paths : Paths) (p : FollowedPart) → StandsIn shapes fs paths p → AreImportsBelow (length shapes) p
-imports_below shapes fs paths p st j s at label part d is =
-    let there = all_at (λ (x : Seen). IsShownAs shapes fs paths (length (scope_of p).instances.items) x.shown) (scope_of p).imports.items j s st.imports at in
-    (subst (λ (x : Shown). IsShownAs shapes fs paths (length (scope_of p).instances.items) x) is there).0
+imports_below shapes fs paths p st j s at label part d is = search (std_rules, all_at)
 
 module _ (shapes : List Shape) (fs : List FunctionShape) (paths : Paths) (ms : List Member) (m : Member) where
   abbrev more_members : List Member
@@ -354,27 +336,7 @@ pub whole_meant : (before : ℕ) (rs : List (Text × PartType)) (shapes : List S
     → (place : ℕ → Place) → ArePlacesOf paths place → each labelled_scope rs ≡ Some (map (member_meant shapes fs paths place) ms)
 whole_meant before rs shapes fs paths ms f place of = sym (f.shows place of) ∙ ap Some (append-nil (map (member_meant shapes fs paths place) ms))
 
--- nothing is in front
-nothing_in_front : (o : Option (List (Text × PartScope))) → with_front [] o ≡ o
-nothing_in_front None = refl
-nothing_in_front (Some ys) = refl
-
 -- nothing is followed yet
 pub none_followed : (rs : List (Text × PartType)) (shapes : List Shape) (fs : List FunctionShape) (paths : Paths) (ms : List Member) → shapes ≡ [] → paths ≡ [] → ms ≡ []
     → AreTables (length paths) shapes fs → AreFollowedTo (length shapes) rs rs shapes fs paths ms
-none_followed rs [] fs [] [] no_shapes no_paths no_members tables = record {
-  tables = tables;
-  stand = tt;
-  count = omega arith;
-  placed = λ i m at. absurd cc;
-  names = λ n q name at. absurd cc;
-  met = λ q path at. absurd cc;
-  order = λ i m at j x there q path met less. absurd cc;
-  formed = λ n form parts at. absurd cc;
-  many = omega arith;
-  staged = λ i m raw at there. absurd cc;
-  shows = λ place of. nothing_in_front (each labelled_scope rs);
-}
-none_followed rs (s ∷ shapes) fs paths ms no_shapes no_paths no_members tables = absurd cc
-none_followed rs [] fs (p ∷ paths) ms no_shapes no_paths no_members tables = absurd cc
-none_followed rs [] fs [] (m ∷ ms) no_shapes no_paths no_members tables = absurd cc
+none_followed rs y fs paths ms no_shapes no_paths no_members tables = search std_rules

@@ -1,5 +1,5 @@
 -- The types of the table are those that the parts declare, part by part.
-use Rattle.std.proofs.Common.{◌≡◌, refl, sym, ap, ◌∙◌, subst, ℕ, suc, ◌+◌, ◌<◌, ◌≤◌, arith, List, [], ◌∷◌, ◌++◌, map, drop, length, length-append, append_assoc, get_or, Option}
+use Rattle.std.proofs.Common.{rules as std_rules, ◌≡◌, refl, sym, ap, ◌∙◌, subst, ℕ, suc, ◌+◌, ◌<◌, ◌≤◌, arith, List, [], ◌∷◌, ◌++◌, map, drop, length, length-append, append_assoc, get_or, Option}
 use Rattle.std.proofs.{Math.ListN.drop_of_length-le, lemmas.List.drop_more}
 use Rattle.std.specs.List.{AllByRecursion}
 use Rattle.wit_model.specs.{Text.Text, Tree.Tree}
@@ -17,12 +17,7 @@ use Rattle.base_lemmas.proofs.{Elements.all_both, Lists.append_of_map, Lists.at_
 -- nothing is followed
 pub none_numbered : (raws : List (Text × PartType)) (shapes : List Shape) (fs : List FunctionShape) (paths : List (Option Text)) (ms : List Member) → shapes ≡ [] → ms ≡ []
     → AreNumberedTo raws raws shapes fs paths ms
-none_numbered raws shapes fs paths ms none no_members = record {
-  parts = [];
-  counted = ap (λ (ss : List Shape). length ss) (sym none);
-  trees = λ place of. ap (λ (ns : List Member). trees_from (length ns) raws) no_members;
-  scoped = tt;
-}
+none_numbered raws shapes fs paths ms none no_members = search std_rules
 
 -- ---- the parts of one part at the top
 

@@ -1,11 +1,11 @@
 -- What the sections mean is what the rules of reading make of what is followed.
-use Rattle.std.proofs.Common.{◌≡◌, refl, ap, ◌∙◌, List, [], ◌∷◌, Option, Some, None}
-use Rattle.wit_model.specs.{Names.PackageIdentity, Text.Text}
+use Rattle.std.proofs.Common.{rules as std_rules, ◌≡◌, refl, ap, ◌∙◌, List, [], ◌∷◌, Option, Some, None}
+use Rattle.wit_model.specs.{Text.Text}
 use Rattle.comp_bytes.specs.{Levels.PartType, Levels.wraps, Levels.shows, Reading.◌>>=◌}
-use Rattle.comp_meaning.specs.ByLevels.{entry_scope, exported_parts, member_by_levels, package_of_pieces, part_by_levels, world_of_pieces}
-use Rattle.comp_meaning.specs.Follow.{Scope, each, provided}
-use Rattle.comp_meaning.specs.{Reads.Member, Reads.Part, Reads.labelled_path, Reads.package_of_members, Reads.world_of_members, Rules.is_world}
-use Rattle.read_parts.specs.Followed.{PartScope, world, interface, labelled_scope, member_of_scope, part_of_scope, part_scope, scopes_in, scopes_of, world_path, PackageByScopes, WorldByScopes}
+use Rattle.comp_meaning.specs.ByLevels.{exported_parts, member_by_levels, package_of_pieces, part_by_levels, world_of_pieces}
+use Rattle.comp_meaning.specs.Follow.{each}
+use Rattle.comp_meaning.specs.{Reads.Member, Reads.package_of_members, Reads.world_of_members}
+use Rattle.read_parts.specs.Followed.{PartScope, labelled_scope, member_of_scope, part_of_scope, part_scope, scopes_in, scopes_of, PackageByScopes, WorldByScopes}
 
 -- ---- one test behind another
 
@@ -25,38 +25,17 @@ each_both {A = A} {B = B} {C = C} f g h same (x ∷ xs) = ap (λ o. o >>= λ z. 
 -- ---- one part
 
 pub part_law : (label : Text) (p : PartType) → part_by_levels label p ≡ (part_scope p >>= part_of_scope label)
-part_law label (wraps es name) = by (world_path name) (entry_scope es)
-  where
-    nothing : (o : Option PackageIdentity) → (o >>= λ package_. let none : Option (PackageIdentity × Part) = None in none) ≡ None
-    nothing None = refl
-    nothing (Some package_) = refl
-
-    by : (o : Option Text) (s : Option Scope)
-        → (o >>= λ path. labelled_path label path >>= λ package_. s >>= λ scope. provided (is_world scope) (package_, Part.world scope))
-        ≡ ((o >>= λ path. s >>= λ scope. Some (world path scope)) >>= part_of_scope label)
-    by None s = refl
-    by (Some path) None = nothing (labelled_path label path)
-    by (Some path) (Some scope) = refl
-part_law label (shows es) = by (entry_scope es)
-  where
-    by : (s : Option Scope) → (s >>= λ scope. part_of_scope label (interface scope)) ≡ ((s >>= λ scope. Some (interface scope)) >>= part_of_scope label)
-    by None = refl
-    by (Some scope) = refl
+part_law label (wraps es name) = search std_rules
+part_law label (shows es) = search std_rules
 
 pub member_law : (x : Text × PartType) → member_by_levels x ≡ (labelled_scope x >>= member_of_scope)
-member_law x = ap (λ o. o >>= λ p. Some (record { label = x.0; package_ = p.0; part = p.1 })) (part_law x.0 x.1) ∙ by (part_scope x.1)
-  where
-    by : (o : Option PartScope)
-        → ((o >>= part_of_scope x.0) >>= λ p. Some (record { label = x.0; package_ = p.0; part = p.1 })) ≡ ((o >>= λ p. let y : Text × PartScope = (x.0, p) in Some y) >>= member_of_scope)
-    by None = refl
-    by (Some p) = refl
+member_law x = search (std_rules, part_law)
 
 -- ---- all parts
 
 module _ {M : Type 0} (whole : List Member → Option M) (empty : whole [] ≡ None) where
   joined : (o : Option (List (Text × PartScope))) → ((o >>= each member_of_scope) >>= whole) ≡ (o >>= λ scopes. each member_of_scope scopes >>= whole)
-  joined None = refl
-  joined (Some scopes) = refl
+  joined x = search std_rules
 
   by_scopes : (o : Option (List (Text × PartType)))
       → (o >>= λ parts. each member_by_levels parts >>= whole) ≡ ((o >>= scopes_in) >>= λ scopes. each member_of_scope scopes >>= whole)

@@ -1,6 +1,6 @@
 -- Types and exports at the top, as they take their indexes.
-use Rattle.std.proofs.Common.{◌≡◌, refl, sym, ap, ◌∙◌, subst, ℕ, Bool, true, false, not, ◌&&◌, ◌||◌, ◌==◌, List, [], ◌∷◌, ◌++◌, map, Option, Some, None, slice_get}
-use Rattle.std.proofs.{Math.Dec.eqb, lemmas.Bool.eq-eqb, lemmas.Bool.eqb-true, lemmas.Bool.false≢true, lemmas.List.map-append}
+use Rattle.std.proofs.Common.{rules as std_rules, ◌≡◌, refl, sym, ap, ◌∙◌, subst, ℕ, Bool, false, not, ◌&&◌, ◌||◌, ◌==◌, List, [], ◌∷◌, ◌++◌, map, Option, Some, None, slice_get}
+use Rattle.std.proofs.{Math.Dec.eqb, lemmas.List.map-append}
 use Rattle.std.specs.List.{AllByRecursion, list_any}
 use Rattle.wit_model.specs.{Text.Text, Names.is_label}
 use Rattle.comp_bytes.specs.{Levels.PartType, Reading.◌>>=◌}
@@ -25,13 +25,7 @@ IsWholeType x = IsWholePart x.part
 -- ---- an export
 
 flip : (n m : ℕ) → eqb n m ≡ (m == n)
-flip n m = by (eqb n m) (m == n) refl refl
-  where
-    by : (a b : Bool) → eqb n m ≡ a → (m == n) ≡ b → a ≡ b
-    by true true e f = refl
-    by false false e f = refl
-    by true false e f = absurd (false≢true (sym f ∙ eq-eqb m n (sym (eqb-true n m e))))
-    by false true e f = absurd (false≢true (sym e ∙ eq-eqb n m (sym (eqb-true m n f))))
+flip n m = search std_rules
 
 pub any_flip : (n : ℕ) (ks : List ℕ) → list_any (eqb n) ks ≡ list_any (λ m. m == n) ks
 any_flip n [] = refl
@@ -44,8 +38,7 @@ any_number n (x ∷ xs) = ap (λ b. (x.number == n) || b) (any_number n xs)
 -- the number of an index, if it may be exported
 pub number_given : (old : Tops) (e : TopExport) (slots : List ℕ) (n : ℕ) (b : Bool) → slots ≡ old.slots.items → Some n ≡ slice_get slots e.index → may_export old e n ≡ b
     → number_found old e ≡ provided b n
-number_given old e slots n b same at is =
-    ap (λ o. o >>= λ k. provided (may_export old e k) k) (sym (at ∙ ap (λ ss. slice_get ss e.index) same)) ∙ ap (λ c. provided c n) is
+number_given old e slots n b same at is = search std_rules
 
 pub number_absent : (old : Tops) (e : TopExport) (slots : List ℕ) → slots ≡ old.slots.items → None ≡ slice_get slots e.index → number_found old e ≡ None
 number_absent old e slots same at = ap (λ o. o >>= λ k. provided (may_export old e k) k) (sym (at ∙ ap (λ ss. slice_get ss e.index) same))
@@ -59,18 +52,10 @@ module _ (old : Tops) (st : AreTops old) (e : TopExport) where
   same_test n = ap (λ b. is_bare (raw_name e.name) && (is_label e.name.text.now && not b)) (any_number n old.exported.items ∙ ap (list_any (λ m. m == n)) (sym st.numbers))
 
   guarded : {A B : Type 0} (b : Bool) (x : A) (g : A → B) → provided b (g x) ≡ (provided b x >>= λ y. Some (g y))
-  guarded true x g = refl
-  guarded false x g = refl
+  guarded x y g = search std_rules
 
   export_law : (o : Option ℕ) → slice_get old.slots.items e.index ≡ o → top_export (top_of old) (raw_export e) ≡ ((o >>= λ n. provided (may_export old e n) n) >>= λ n. Some (with_export n))
-  export_law o at = ap (λ p. p >>= λ n. provided (is_bare (raw_name e.name) && (is_label e.name.text.now && not (list_any (λ (x : Text × ℕ). x.1 == n) (map label_and_number old.exported.items))))
-      (with_export n)) at ∙ by o
-    where
-      by : (o : Option ℕ) → (o >>= λ n. provided (is_bare (raw_name e.name) && (is_label e.name.text.now && not (list_any (λ (x : Text × ℕ). x.1 == n) (map label_and_number old.exported.items))))
-          (with_export n))
-          ≡ ((o >>= λ n. provided (may_export old e n) n) >>= λ n. Some (with_export n))
-      by None = refl
-      by (Some n) = ap (λ b. provided b (with_export n)) (same_test n) ∙ guarded (may_export old e n) n with_export
+  export_law o at = search (std_rules, same_test, guarded)
 
   pub export_absent : (r : Refusal) → Refuses r (number_found old e) → Refuses r (top_export (top_of old) (raw_export e))
   export_absent r h = refused r (number_found old e) (top_export (top_of old) (raw_export e))
@@ -78,19 +63,7 @@ module _ (old : Tops) (st : AreTops old) (e : TopExport) where
 
   -- a type whose number is found is not exported yet
   pub not_exported : (n : ℕ) → number_found old e ≡ Some n → list_any (λ m. m == n) old.numbers.keys ≡ false
-  not_exported n found = by (slice_get old.slots.items e.index) found
-    where
-      last : (a b c : Bool) (k : ℕ) → provided (a && (b && not c)) k ≡ Some n → (k ≡ n) × (c ≡ false)
-      last true true false k h = ((let same : k ≡ n = cc in same), refl)
-      last true true true k h = absurd cc
-      last true false c k h = absurd cc
-      last false b c k h = absurd cc
-
-      by : (o : Option ℕ) → (o >>= λ k. provided (may_export old e k) k) ≡ Some n → list_any (λ m. m == n) old.numbers.keys ≡ false
-      by None h = absurd cc
-      by (Some k) h =
-          let l = last (is_bare (raw_name e.name)) (is_label e.name.text.now) (list_any (λ m. m == k) old.numbers.keys) k h in
-          ap (λ j. list_any (λ m. m == j) old.numbers.keys) (sym l.0) ∙ l.1
+  not_exported n found = search std_rules
 
   module _ (new : Tops) (n : ℕ) (added : IsExportAdded old new e.name.text n) where
     pub export_added : number_found old e ≡ Some n → top_export (top_of old) (raw_export e) ≡ Some (top_of new)
@@ -128,6 +101,4 @@ labels_same (x ∷ xs) = ap (λ ts. x.label.now ∷ ts) (labels_same xs)
 
 pub distinct_is : (t : Tops) (given : List Exported) (r b : Bool) → given ≡ t.exported.items → r ≡ distinct (map (λ (x : Exported). x.label.now) given) → r ≡ b
     → distinct_parts (top_of t) ≡ when b (each (part_under (top_of t).types) (top_of t).exported)
-distinct_is t given r b same tells is =
-    ap (λ c. when c (each (part_under (top_of t).types) (top_of t).exported))
-    (ap distinct (labels_same t.exported.items) ∙ (sym (tells ∙ ap (λ xs. distinct (map (λ (x : Exported). x.label.now) xs)) same) ∙ is))
+distinct_is t given r b same tells is = search (std_rules, labels_same)

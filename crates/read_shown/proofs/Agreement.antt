@@ -1,12 +1,12 @@
 -- Views of one path declare the same under the same names, none of which stands twice.
-use Rattle.std.proofs.Common.{◌≡◌, ◌⊎◌, inl, inr, refl, sym, ap, subst, ◌∙◌, ℕ, zero, suc, Bool, true, false, not, ◌&&◌, ◌||◌, List, [], ◌∷◌, ◌++◌, map, length, flat_map, Option, Some, None, slice_get}
+use Rattle.std.proofs.Common.{rules as std_rules, ◌≡◌, ◌⊎◌, inl, inr, refl, sym, ap, subst, ◌∙◌, ℕ, zero, suc, Bool, true, false, not, ◌&&◌, ◌||◌, List, [], ◌∷◌, ◌++◌, map, length, flat_map, Option, Some, None, slice_get}
 use Rattle.std.proofs.lemmas.List.Elements.{Contains-append_left, Contains-append_right}
 use Rattle.std.specs.{List.Contains, List.list_all, List.list_any, Cmp.Lexicographic.pointwise}
-use Rattle.wit_model.specs.{Text.Text, Text.text_eq, Names.PackageIdentity, Names.path_in, Names.is_label, Meaning.FunctionMeaning, Meaning.TypeMeaning}
+use Rattle.wit_model.specs.{Text.Text, Text.text_eq, Names.PackageIdentity, Names.path_in, Meaning.TypeMeaning}
 use Rattle.wit_model.specs.Tree.{Place}
 use Rattle.wit_model.proofs.{Elements.contains-flat, Elements.contains-get, VersionLaws.same_text}
 use Rattle.comp_meaning.specs.Follow.{View, ShownType, Instance}
-use Rattle.comp_meaning.specs.{Rules.distinct, Rules.is_declared, Rules.is_function, Rules.is_interface, Rules.resources_of, SameLaws.named_meaning}
+use Rattle.comp_meaning.specs.{Rules.distinct, Rules.is_interface, SameLaws.named_meaning}
 use Rattle.comp_meaning.specs.Reads.{Part, Member, Sight, agree, all_agree, are_interfaces, of_instance, same_functions, same_shown, sights}
 use Rattle.comp_meaning.proofs.SameLaws.{shown_types_decide}
 use Rattle.read_shown.specs.Parts.{named_instance, instances_of}
@@ -54,16 +54,7 @@ distinct_front (x ∷ xs) ys e = by (list_any (text_eq x) (xs ++ ys)) refl e (di
 
 -- the names of an interface differ
 pub names_differ : (place : Place) (v : View) → is_interface place v ≡ true → NamesDiffer v
-names_differ place v e =
-    let types = list_all (λ (t : ShownType). is_label t.name && is_declared place t.meaning.declaration) v.types in
-    let functions = list_all (λ (f : Text × FunctionMeaning). is_function place (resources_of v.types) f.0 f.1.signature) v.functions in
-    let names = distinct (map (λ (t : ShownType). t.name) v.types ++ map (λ (f : Text × FunctionMeaning). f.0) v.functions) in
-    distinct_front (map (λ (t : ShownType). t.name) v.types) (map (λ f. f.0) v.functions) (third types functions names e)
-  where
-    third : (a b c : Bool) → (a && b && c) ≡ true → c ≡ true
-    third true true c h = h
-    third true false c h = cc
-    third false b c h = cc
+names_differ place v e = search (std_rules, distinct_front)
 
 -- ---- all views of one path
 
@@ -78,12 +69,8 @@ all_at s rest n t e at same =
 pub sights_alike : (seen : List Sight) → all_agree seen ≡ true → (m n : ℕ) (s t : Sight) → slice_get seen m ≡ Some s → slice_get seen n ≡ Some t → s.path ≡ t.path → Alike s.view t.view
 sights_alike [] e m n s t at there same = absurd cc
 sights_alike (x ∷ seen) e zero zero s t at there same = ap (λ (y : Sight). map named_meaning y.view.types) (sym (some_is x s at) ∙ some_is x t there)
-sights_alike (x ∷ seen) e zero (suc n) s t at there same =
-    let is = some_is x s at in
-    ap (λ (y : Sight). map named_meaning y.view.types) (sym is) ∙ all_at x seen n t (first_true (list_all (agree x) seen) (all_agree seen) e) there (ap (λ (y : Sight). y.path) is ∙ same)
-sights_alike (x ∷ seen) e (suc m) zero s t at there same =
-    let is = some_is x t there in
-    sym (ap (λ (y : Sight). map named_meaning y.view.types) (sym is) ∙ all_at x seen m s (first_true (list_all (agree x) seen) (all_agree seen) e) at (ap (λ (y : Sight). y.path) is ∙ sym same))
+sights_alike (x ∷ seen) e zero (suc n) s t at there same = search (std_rules, some_is, all_at, first_true)
+sights_alike (x ∷ seen) e (suc m) zero s t at there same = search (std_rules, some_is, all_at, first_true)
 sights_alike (x ∷ seen) e (suc m) (suc n) s t at there same = sights_alike seen (second_true (list_all (agree x) seen) (all_agree seen) e) m n s t at there same
 
 -- ---- the sights of a part are its instances

@@ -1,5 +1,5 @@
 -- Definitions over indexes that are well-formed are well-formed trees.
-use Rattle.std.proofs.Common.{◌≡◌, refl, sym, ap, subst, ◌∙◌, ℕ, suc, Bool, true, false, ◌==◌, nat_le, List, [], ◌∷◌, map, length, Option, Some, None, slice_get, IfSome}
+use Rattle.std.proofs.Common.{rules as std_rules, ◌≡◌, refl, sym, ap, subst, ◌∙◌, ℕ, suc, Bool, true, false, ◌==◌, nat_le, List, [], ◌∷◌, map, length, Option, Some, None, slice_get, IfSome}
 use Rattle.std.proofs.{Math.ListN.length-map, lemmas.Bool.and_from as both}
 use Rattle.std.specs.List.{AllByRecursion}
 use Rattle.wit_model.specs.{Text.Text, Meaning.Signature}
@@ -18,8 +18,7 @@ use Rattle.comp_bytes.specs.declared.forms.ComponentValType.TheVariants as value
 -- ---- counts
 
 filled_map : {A B : Type 0} (f : A → B) (xs : List A) → is_filled xs ≡ true → is_filled (map f xs) ≡ true
-filled_map f [] h = h
-filled_map f (x ∷ xs) h = refl
+filled_map f x h = search std_rules
 
 -- as many parts of a record as it has labels
 fields_counted : (fs : List (Text × Tree)) → length (child_list (children (map (λ f. f.1) fs))) ≡ length (map (λ f. f.0) fs)

@@ -1,5 +1,5 @@
 -- The kind of each name of an interface, found in the first view that shows it, and of each name of a view's own place.
-use Rattle.std.proofs.Common.{◌≡◌, refl, sym, ap, subst, ◌∙◌, ℕ, zero, suc, Bool, true, false, cond, List, [], ◌∷◌, length, Option, Some, None, option_map, slice_get, unwrap_or}
+use Rattle.std.proofs.Common.{rules as std_rules, ◌≡◌, refl, sym, ap, subst, ◌∙◌, ℕ, zero, suc, Bool, true, false, cond, List, [], ◌∷◌, length, Option, Some, None, option_map, slice_get, unwrap_or}
 use Rattle.wit_model.specs.{Text.Text, Text.text_eq, Tree.Place, Meaning.FunctionMeaning}
 use Rattle.wit_model.proofs.{VersionLaws.same_text, TextLemmas.text_same}
 use Rattle.comp_meaning.specs.Follow.{Slot, View, ShownType, Instance, find_type, place_of}
@@ -30,13 +30,7 @@ kind_there : (name : Text) (ts : List ShownType) (n : ℕ) (t : ShownType) → s
 kind_there name ts n t at is = let s = type_there name ts n t at is in (slot_kind s.0, ap (option_map slot_kind) s.1)
 
 kind_is : (name : Text) (ts : List ShownType) (c : Bool) → found_kind ts name ≡ Some c → (n : ℕ) × (t : ShownType) × (slice_get ts n ≡ Some t) × (t.name ≡ name) × (slot_kind t.slot ≡ c)
-kind_is name ts c e = by (find_type name ts) refl e
-  where
-    by : (o : Option Slot) → find_type name ts ≡ o → option_map slot_kind o ≡ Some c → (n : ℕ) × (t : ShownType) × (slice_get ts n ≡ Some t) × (t.name ≡ name) × (slot_kind t.slot ≡ c)
-    by None is h = absurd cc
-    by (Some s) is h =
-        let f = type_found name ts s is in
-        (f.0, f.1, f.2, sym (text_same name f.1.name f.4), ap slot_kind f.3 ∙ some_is (slot_kind s) c h)
+kind_is name ts c e = search (std_rules, slot_kind, type_found, text_same, some_is)
 
 -- ---- a view's own names
 
@@ -61,16 +55,10 @@ kind_shown path name x = by x.interface
     by (Some p) = cond (text_eq path p) (found_kind x.view.types name) None
 
 of_named : (path name : Text) (p : Option Text) (v : View) → p ≡ Some path → kind_shown path name (record { interface = p; view = v }) ≡ found_kind v.types name
-of_named path name None v e = absurd cc
-of_named path name (Some p) v e = ap (λ b. cond b (found_kind v.types name) None) (same_text path p (sym (some_is p path e)))
+of_named path name x v e = search std_rules
 
 named_of : (path name : Text) (p : Option Text) (v : View) (c : Bool) → kind_shown path name (record { interface = p; view = v }) ≡ Some c → (p ≡ Some path) × (found_kind v.types name ≡ Some c)
-named_of path name None v c e = absurd cc
-named_of path name (Some p) v c e = by (text_eq path p) refl e
-  where
-    by : (b : Bool) → text_eq path p ≡ b → cond b (found_kind v.types name) None ≡ Some c → (Some p ≡ Some path) × (found_kind v.types name ≡ Some c)
-    by true is h = (ap Some (sym (text_same path p is)), h)
-    by false is h = absurd cc
+named_of path name x v c e = search std_rules
 
 module _ (parts : List (List Instance)) (stand : AllStand parts)
     (alike : (path : Text) (x y : Instance) → IsOfPath parts path x → IsOfPath parts path y → Alike x.view y.view)

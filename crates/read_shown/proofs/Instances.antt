@@ -1,8 +1,8 @@
 -- The instances of a scope are its imports and its exports that are instances.
-use Rattle.std.proofs.Common.{◌≡◌, refl, sym, ap, ◌∙◌, ℕ, List, [], ◌∷◌, ◌++◌, Some}
+use Rattle.std.proofs.Common.{rules as std_rules, ◌≡◌, refl, sym, ap, ◌∙◌, ℕ, List, [], ◌∷◌, ◌++◌, Some}
 use Rattle.std.proofs.lemmas.{Grind.flat_map-append, List.append-nil, List.map-append}
 use Rattle.comp_bytes.specs.Raw.{Declarations}
-use Rattle.comp_meaning.specs.Follow.{Slot, Instance, Seen, Shown, Scope, Direction, import_, export_, component_scope, in_scope, interface_of, new_scope, see}
+use Rattle.comp_meaning.specs.Follow.{Slot, Instance, Seen, Shown, Scope, Direction, import_, export_, component_scope, in_scope, new_scope, see}
 use Rattle.comp_meaning.proofs.StepLaws.{StepOf, defines, signs, aliases, sees_function, sees_type, sees_instance, seen_under, seen_instance, step_of}
 use Rattle.read_shown.specs.Instances.{instance_of, instances_in, going, InstancesAreSeen}
 use Rattle.read_shown.proofs.Scopes.{scope_keeps}
@@ -23,18 +23,8 @@ in_slot scope slot h = record { seen = h.seen; all = h.all; imported = h.importe
 
 -- what is no instance adds none
 plain_seen : (direction : Direction) (s : Seen) (scope : Scope) → instance_of s.shown ≡ [] → InstancesAreSeen scope → InstancesAreSeen (see direction s scope)
-plain_seen import_ s scope none h = record {
-  seen = h.seen;
-  all = h.all;
-  imported = h.imported ∙ sym (one_more scope.imports s ∙ (ap (λ xs. instances_in scope.imports ++ xs) none ∙ append-nil (instances_in scope.imports)));
-  exported = h.exported;
-}
-plain_seen export_ s scope none h = record {
-  seen = h.seen;
-  all = h.all;
-  imported = h.imported;
-  exported = h.exported ∙ sym (one_more scope.exports s ∙ (ap (λ xs. instances_in scope.exports ++ xs) none ∙ append-nil (instances_in scope.exports)));
-}
+plain_seen import_ s scope none h = search (std_rules, one_more, append-nil)
+plain_seen export_ s scope none h = search (std_rules, one_more, append-nil)
 
 -- an instance is one more
 one_seen : (direction : Direction) (s : Seen) (x : Instance) (used : List ℕ) (scope : Scope) → instance_of s.shown ≡ x ∷ [] → InstancesAreSeen scope
@@ -58,8 +48,7 @@ step_seen scope _ (signs f s e) h = in_slot scope (Slot.function s) h
 step_seen scope _ (aliases m name slot e) h = in_slot scope slot h
 step_seen scope _ (sees_function direction name n f e) h = plain_seen direction (seen_under name (Shown.function f)) scope refl h
 step_seen scope _ (sees_type name described found e) h = plain_seen import_ (seen_under name (Shown.declares found.0)) (in_scope found.1 scope) refl (in_slot scope found.1 h)
-step_seen scope _ (sees_instance direction name n key view new e) h =
-    one_seen direction (seen_instance name key view) (record { interface = interface_of key; view = view }) (scope.used ++ n ∷ []) scope refl h
+step_seen scope _ (sees_instance direction name n key view new e) h = search (std_rules, one_seen, seen_instance)
 
 new_seen : InstancesAreSeen new_scope
 new_seen = record { seen = []; all = refl; imported = refl; exported = refl }

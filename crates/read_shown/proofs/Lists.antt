@@ -1,5 +1,5 @@
 -- Lists by the numbers of their items, and what is found in each.
-use Rattle.std.proofs.Common.{◌≡◌, ◌⊎◌, inl, inr, refl, sym, ap, subst, ◌∙◌, ℕ, zero, suc, ◌<◌, ◌≤◌, arith, take, length-append, true, List, [], ◌∷◌, ◌++◌, length, Option, Some, None, slice_get, IfSome}
+use Rattle.std.proofs.Common.{rules as std_rules, ◌≡◌, ◌⊎◌, inl, inr, refl, ap, subst, ◌∙◌, ℕ, zero, suc, ◌<◌, ◌≤◌, arith, take, length-append, true, List, [], ◌∷◌, ◌++◌, length, Option, Some, None, slice_get, IfSome}
 use Rattle.std.proofs.lemmas.Option.{slice_get_within}
 use Rattle.std.specs.List.{AllByRecursion}
 use Rattle.wit_model.specs.Text.{Text}
@@ -37,17 +37,13 @@ pub none_at : {A : Type 0} (P : ℕ → A → Type 0) → AllAt P []
 none_at P n x e = absurd cc
 
 pub all_more : {A : Type 0} (P : ℕ → A → Type 0) (xs : List A) (x : A) → AllAt P xs → P (length xs) x → AllAt P (xs ++ x ∷ [])
-all_more P xs x all here n y e = elim (at_end xs x y n e) [
-  | inl before ↦ all n y before
-  | inr last ↦ subst (P n) last.1 (subst (λ (k : ℕ). P k x) (sym last.0) here)
-]
+all_more P xs x all here n y e = search (std_rules, at_end)
 
 pub all_weaker : {A : Type 0} (P Q : ℕ → A → Type 0) (xs : List A) → ((n : ℕ) (x : A) → n < length xs → P n x → Q n x) → AllAt P xs → AllAt Q xs
 all_weaker P Q xs weaker all n x e = weaker n x (slice_get_within xs n x e) (all n x e)
 
 pub some_weaker : {A : Type 0} (P Q : A → Type 0) → ((x : A) → P x → Q x) → (o : Option A) → IfSome o P → IfSome o Q
-some_weaker P Q weaker None h = tt
-some_weaker P Q weaker (Some x) h = weaker x h
+some_weaker y z weaker u h = search std_rules
 
 -- ---- what is found for each
 
@@ -60,17 +56,10 @@ module _ {A B : Type 0} (f : A → Option B) where
       subst (AllByRecursion P) (some_is (first.0 ∷ more.0) ys more.2) (found x first.0 first.1, each_found P found xs more.0 more.1)
 
   pub each_filled : (xs : List A) (ys : List B) → each f xs ≡ Some ys → is_filled xs ≡ true → is_filled ys ≡ true
-  each_filled [] ys e h = absurd cc
-  each_filled (x ∷ xs) ys e h =
-      let first = bind_some (f x) _ ys e in
-      let more = bind_some (each f xs) _ ys first.2 in
-      ap is_filled (sym (some_is (first.0 ∷ more.0) ys more.2))
+  each_filled y ys e h = search std_rules
 
   pub given_found : (P : B → Type 0) → ((x : A) (y : B) → f x ≡ Some y → P y) → (o : Option A) (p : Option B) → given f o ≡ Some p → IfSome p P
-  given_found P found None p e = subst (λ q. IfSome q P) (some_is None p e) tt
-  given_found P found (Some x) p e =
-      let one = bind_some (f x) _ p e in
-      subst (λ q. IfSome q P) (some_is (Some one.0) p one.2) (found x one.0 one.1)
+  given_found y found z p e = search std_rules
 
 -- ---- lists in two parts
 
@@ -83,15 +72,7 @@ last_of x (y ∷ xs) = let more = last_of y xs in (x ∷ more.0, more.1, ap (λ 
 
 -- where no text stands twice, it stands at one number
 pub one_place : (xs : List Text) → distinct xs ≡ true → (i j : ℕ) (x : Text) → slice_get xs i ≡ Some x → slice_get xs j ≡ Some x → i ≡ j
-one_place xs apart i j x e f = by (le_or_gt i j)
-  where
-    le_or_gt : (a b : ℕ) → (a < b) ⊎ ((a ≡ b) ⊎ (b < a))
-    le_or_gt a b = grind arith
-
-    by : (i < j) ⊎ ((i ≡ j) ⊎ (j < i)) → i ≡ j
-    by (inl less) = absurd (twice xs apart i j x less e f)
-    by (inr (inl same)) = same
-    by (inr (inr more)) = absurd (twice xs apart j i x more f e)
+one_place xs apart i j x e f = search (std_rules, twice)
 
 -- the first that is found
 abbrev pub or_else : {A : Type 0} → Option A → Option A → Option A

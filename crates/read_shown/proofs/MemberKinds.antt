@@ -1,11 +1,11 @@
 -- Each name has one kind in all parts of a package.
-use Rattle.std.proofs.Common.{◌≡◌, ◌⊎◌, inl, inr, refl, sym, ap, subst, ◌∙◌, ℕ, zero, suc, arith, Bool, true, ◌&&◌, List, [], ◌∷◌, ◌++◌, map, flat_map, length, Option, Some, None, slice_get}
+use Rattle.std.proofs.Common.{rules as std_rules, ◌≡◌, ◌⊎◌, inl, inr, refl, sym, ap, subst, ◌∙◌, ℕ, zero, suc, arith, Bool, true, List, [], ◌∷◌, ◌++◌, map, flat_map, length, Option, Some, None, slice_get}
 use Rattle.std.proofs.lemmas.List.Elements.{Contains-append_cases as in_either}
 use Rattle.std.specs.List.{AllByRecursion, Contains, list_all}
 use Rattle.wit_model.specs.{Text.Text, Names.PackageIdentity, Names.path_in, Tree.Place}
 use Rattle.wit_model.proofs.Elements.{none-in}
-use Rattle.comp_meaning.specs.Follow.{each, Instance, Seen, Shown, Scope, Direction, import_, export_, interface_of, place_of}
-use Rattle.comp_meaning.specs.Rules.{are_imports, distinct, is_interface, is_item, is_world, resources_seen, stand_earlier}
+use Rattle.comp_meaning.specs.Follow.{each, Instance, Seen, Shown, Scope, Direction, import_, export_, place_of}
+use Rattle.comp_meaning.specs.Rules.{are_imports, distinct, is_interface, is_item, is_world, resources_seen}
 use Rattle.comp_meaning.specs.Reads.{Part, Member, all_agree, are_interfaces, sights}
 use Rattle.read_shown.specs.{Trees.AllAt, Views.ViewStands}
 use Rattle.read_shown.specs.{Scopes.IsShownBefore, Parts.named_instance, Parts.instances_of, Parts.WorldStands, Parts.PartStands, Parts.MemberStands}
@@ -13,7 +13,7 @@ use Rattle.read_shown.specs.{Instances.instance_of, Instances.instances_in, Inst
 use Rattle.read_shown.proofs.Agreement.{names_differ, paths_alike, paths_differ, seen_in_all, seen_in_member, Alike, IsSeenIn, NamesDiffer}
 use Rattle.read_shown.proofs.{FoundKinds.kinds, FoundKinds.kinds_are, FoundKinds.view_kinds, OneKind.before_somewhere, OneKind.AllStand, OneKind.IsOfPath}
 use Rattle.read_shown.proofs.{Lists.at_end, Uses.path_once, WorldKinds.export_is, WorldKinds.import_is, WorldKinds.met_is, WorldKinds.own_kind}
-use Rattle.base_lemmas.proofs.{Bools.left_of as first_true, Bools.right_of as second_true, Elements.contains-later, Elements.last_of as one-contained}
+use Rattle.base_lemmas.proofs.{Bools.left_of as first_true, Bools.right_of as second_true, Elements.contains-later}
 use Rattle.base_lemmas.proofs.{Lists.get_back as unmapped_get, Lists.mapped_get, Options.some_is}
 
 -- ---- the views of a world obey the rules on interfaces
@@ -23,9 +23,7 @@ Obeys x = is_interface (place_of x.interface) x.view ≡ true
 
 -- what an import or an export is, in whichever order
 shown_obeys : (resources : List Text) (key : Text) (s : Shown) → is_item resources key s ≡ true → (x : Instance) → Contains (instance_of s) x → Obeys x
-shown_obeys resources key (Shown.instance k view) e x c = subst Obeys (one-contained (record { interface = interface_of k; view = view }) x c) e
-shown_obeys resources key (Shown.function f) e x c = none-in x c
-shown_obeys resources key (Shown.declares d) e x c = none-in x c
+shown_obeys resources key y e x c = search std_rules
 
 imports_obey : (earlier xs : List Seen) → are_imports earlier xs ≡ true → (x : Instance) → Contains (instances_in xs) x → Obeys x
 imports_obey earlier [] e x c = none-in x c
@@ -41,15 +39,9 @@ exports_obey (s ∷ xs) e x c = elim (in_either (instance_of s.shown) (instances
   | inr later ↦ exports_obey xs (second_true (is_item [] s.key s.shown) (list_all (λ t. is_item [] t.key t.shown) xs) e) x later
 ]
 
-three_of : (a b c d e : Bool) → (a && b && c && d && e) ≡ true → (a ≡ true) × (b ≡ true) × (c ≡ true)
-three_of true true true d e h = (refl, refl, refl)
-three_of _ _ _ d e h = absurd cc
-
 world_parts : (scope : Scope) → is_world scope ≡ true → (are_imports [] scope.imports ≡ true) × (list_all (λ s. is_item [] s.key s.shown) scope.exports ≡ true)
     × (distinct (map (λ s. s.key) scope.imports) ≡ true)
-world_parts scope e =
-    three_of (are_imports [] scope.imports) (list_all (λ s. is_item [] s.key s.shown) scope.exports) (distinct (map (λ s. s.key) scope.imports)) (distinct (map (λ s. s.key) scope.exports))
-    (stand_earlier [] (scope.imports ++ scope.exports)) e
+world_parts scope e = search std_rules
 
 -- an instance goes one of two ways
 one_way : (seen : List (Direction × Instance)) (n : ℕ) (x : Instance) → slice_get (map (λ y. y.1) seen) n ≡ Some x → Contains (going import_ seen) x ⊎ Contains (going export_ seen) x
@@ -60,12 +52,7 @@ one_way ((import_, y) ∷ seen) (suc n) x e = elim (one_way seen n x e) [ inl h 
 one_way ((export_, y) ∷ seen) (suc n) x e = elim (one_way seen n x e) [ inl h ↦ inl h | inr h ↦ inr (contains-later y (going export_ seen) x h) ]
 
 world_obeys : (scope : Scope) → WorldStands scope → (n : ℕ) (x : Instance) → slice_get scope.instances n ≡ Some x → Obeys x
-world_obeys scope w n x at =
-    let parts = world_parts scope w.obeys in
-    elim (one_way w.seen.seen n x (ap (λ (xs : List Instance). slice_get xs n) w.seen.all ∙ at)) [
-      | inl h ↦ imports_obey [] scope.imports parts.0 x (subst (λ (xs : List Instance). Contains xs x) w.seen.imported h)
-      | inr h ↦ exports_obey scope.exports parts.1 x (subst (λ (xs : List Instance). Contains xs x) w.seen.exported h)
-    ]
+world_obeys scope w n x at = search (std_rules, world_parts, one_way, imports_obey, exports_obey)
 
 -- ---- the names of each view differ
 

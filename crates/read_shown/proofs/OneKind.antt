@@ -1,12 +1,11 @@
 -- A name of an interface is a resource in every view that shows it, or in none.
-use Rattle.std.proofs.Common.{◌≡◌, refl, sym, ap, subst, ◌∙◌, ℕ, zero, suc, ◌<◌, ◌≤◌, arith, Bool, true, false, List, length, Some, slice_get}
+use Rattle.std.proofs.Common.{rules as std_rules, ◌≡◌, sym, ap, subst, ◌∙◌, ℕ, zero, suc, ◌<◌, ◌≤◌, arith, Bool, true, false, List, length, Some, slice_get}
 use Rattle.std.proofs.lemmas.Option.{slice_get_within}
-use Rattle.wit_model.specs.{Text.Text, Tree.Place, Tree.Tree, Tree.Declaration}
+use Rattle.wit_model.specs.{Text.Text, Tree.Place, Tree.Declaration}
 use Rattle.comp_meaning.specs.Follow.{Slot, ShownType, Instance, place_of}
 use Rattle.read_shown.specs.{Trees.AllAt, Trees.DeclarationStands, Scopes.IsShownBefore}
 use Rattle.read_shown.specs.Views.{named_slot, ShowsName, IsMetInView, inside, outside, ViewStands}
 use Rattle.read_shown.proofs.{Agreement.alike_at, Agreement.one_number, Agreement.Alike, Agreement.NamesDiffer, Views.shows_wider, Lists.front_same}
-use Rattle.read_shown.proofs.Uses.{path_once}
 use Rattle.base_lemmas.proofs.Options.{some_is}
 
 abbrev pub slot_kind : Slot → Bool
@@ -14,8 +13,7 @@ slot_kind (Slot.resource place name) = true
 slot_kind _ = false
 
 pub kind_of_named : (place : Place) (name : Text) (b : Bool) → slot_kind (named_slot place name b) ≡ b
-kind_of_named place name true = refl
-kind_of_named place name false = refl
+kind_of_named place name x = search std_rules
 
 pub one_slot : (place other : Place) (name more : Text) (b c : Bool) → named_slot place name b ≡ named_slot other more c → b ≡ c
 one_slot place other name more b c e = sym (kind_of_named place name b) ∙ (ap slot_kind e ∙ kind_of_named other more c)
@@ -23,10 +21,7 @@ one_slot place other name more b c e = sym (kind_of_named place name b) ∙ (ap 
 -- two kinds of one declaration
 declared_once : (Met More : Place → Text → Bool → Type 0) (d : Declaration) (b c : Bool) → DeclarationStands Met d b → DeclarationStands More d c
     → ((place : Place) (name : Text) → Met place name b → More place name c → b ≡ c) → b ≡ c
-declared_once Met More Declaration.resource b c h k met = h ∙ sym k
-declared_once Met More (Declaration.type_ (Tree.primitive p)) b c h k met = h ∙ sym k
-declared_once Met More (Declaration.type_ (Tree.named place name)) b c h k met = met place name h k
-declared_once Met More (Declaration.type_ (Tree.node form ts)) b c h k met = h.0 ∙ sym k.0
+declared_once x y z b c h k met = search std_rules
 
 -- The instances of some parts, each view of which is well-formed behind those before it.
 abbrev pub AllStand : List (List Instance) → Type 0
@@ -49,11 +44,7 @@ pub record IsShownSomewhere (parts : List (List Instance)) (path name : Text) (b
 
 pub before_somewhere : (parts : List (List Instance)) (m : ℕ) (xs : List Instance) → slice_get parts m ≡ Some xs
     → (n : ℕ) (place : Place) (name : Text) (b : Bool) (s : IsShownBefore xs n place name b) → IsShownSomewhere parts s.path name b
-before_somewhere parts m xs there n place name b s = record {
-  instance_ = s.shown;
-  there = record { part = m; instances = xs; part_at = there; number = s.number; at = s.at; of_path = s.of_path };
-  shows = subst (λ p. ShowsName p s.shown.view (length s.shown.view.types) name b) s.stands s.shows;
-}
+before_somewhere parts m xs there n place name b s = search std_rules
 
 module _ (parts : List (List Instance)) (stand : AllStand parts)
     (alike : (path : Text) (x y : Instance) → IsOfPath parts path x → IsOfPath parts path y → Alike x.view y.view)
@@ -61,16 +52,8 @@ module _ (parts : List (List Instance)) (stand : AllStand parts)
   -- a name that is met in a view of the path, where its place is that of an interface
   met_somewhere : (path : Text) (x : Instance) (o : IsOfPath parts path x) (count : ℕ) → count ≤ length x.view.types → (q name : Text) (b : Bool)
       → IsMetInView (IsShownBefore o.instances o.number) (place_of x.interface) x.view count (Place.of_interface q) name b → IsShownSomewhere parts q name b
-  met_somewhere path x o count le q name b (inside here s) =
-      let own : place_of x.interface ≡ Place.of_interface path = ap place_of o.of_path in
-      let same : path ≡ q = path_once path q (sym own ∙ sym here) in
-      subst (λ (r : Text). IsShownSomewhere parts r name b) same (record {
-        instance_ = x;
-        there = o;
-        shows = subst (λ p. ShowsName p x.view (length x.view.types) name b) own (shows_wider (place_of x.interface) x.view x.view (front_same x.view.types) count (length x.view.types) le name b s);
-      })
-  met_somewhere path x o count le q name b (outside s) =
-      subst (λ (r : Text). IsShownSomewhere parts r name b) (sym (path_once q s.path s.stands)) (before_somewhere parts o.part o.instances o.part_at o.number (Place.of_interface q) name b s)
+  met_somewhere path x o count le q name b (inside here s) = search std_rules
+  met_somewhere path x o count le q name b (outside s) = search std_rules
 
   module _ (m : ℕ) (xs : List Instance) (there : slice_get parts m ≡ Some xs) where
     -- the first types of the view of this number have the kinds that they have everywhere

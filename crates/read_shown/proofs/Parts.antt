@@ -1,12 +1,12 @@
 -- Parts at the top are well-formed, and the component type of an interface has its export behind its imports.
-use Rattle.std.proofs.Common.{◌≡◌, ◌⊎◌, inl, inr, refl, sym, ap, subst, ◌∙◌, ℕ, zero, suc, ◌+◌, ◌≤◌, arith, true, not, ◌&&◌, List, [], ◌∷◌, ◌++◌, map, length, length-append, Option, Some, None, slice_get, is_none}
+use Rattle.std.proofs.Common.{rules as std_rules, ◌≡◌, ◌⊎◌, inl, inr, refl, sym, ap, subst, ◌∙◌, ℕ, zero, suc, ◌+◌, ◌≤◌, arith, true, not, ◌&&◌, List, [], ◌∷◌, ◌++◌, map, length, length-append, Option, Some, None, slice_get, is_none}
 use Rattle.std.proofs.{Math.ListN.length-map, lemmas.List.append-nil}
 use Rattle.std.specs.List.{AllByRecursion, flat_map, list_any}
 use Rattle.wit_model.specs.{Text.Text, Text.text_eq, Names.PackageIdentity, Names.path_in, Names.read_path}
 use Rattle.wit_model.proofs.{NameLaws.read_path_is_spelled, TextLemmas.text_same, TextLemmas.text_there}
 use Rattle.comp_bytes.specs.Raw.{ExternName, Declarations}
 use Rattle.comp_bytes.proofs.Readers.{bind_some, when_some}
-use Rattle.comp_meaning.specs.Follow.{each, View, Instance, Seen, Shown, Key, Scope, Direction, import_, export_, complete_path, component_scope, is_filled, place_of, provided, when}
+use Rattle.comp_meaning.specs.Follow.{each, View, Instance, Seen, Shown, Scope, Direction, import_, export_, complete_path, component_scope, place_of, provided, when}
 use Rattle.comp_meaning.specs.Rules.{distinct, is_world, used_by_view}
 use Rattle.comp_meaning.specs.Reads.{Part, Member, are_reached, exported_view, imported_view, interface_part, labelled_path, member, part_of, world_part, wrapped}
 use Rattle.read_shown.specs.{Trees.AllAt, Views.ViewStands, Instances.instance_of, Instances.instances_in, Instances.going, Instances.InstancesAreSeen}
@@ -27,21 +27,14 @@ path_is label path package_ e =
 
 export_found : (key : Text) (shown : Shown) (id : Option Text) (exported : Text × View) → exported_view (record { key = key; shown = shown; external_id = id } ∷ []) ≡ Some exported
     → instance_of shown ≡ named_instance exported ∷ []
-export_found key (Shown.instance (Key.path path) view) id exported e =
-    let w = when_some (is_none id) (Some (path, view)) exported e in
-    ap (λ (x : Text × View). named_instance x ∷ []) (some_is (path, view) exported w.1)
-export_found key _ id exported e = absurd cc
+export_found key y id exported e = search std_rules
 
 exports_found : (exports : List Seen) (exported : Text × View) → exported_view exports ≡ Some exported → instances_in exports ≡ named_instance exported ∷ []
-exports_found (s ∷ []) exported e = ap (λ xs. xs ++ []) (export_found s.key s.shown s.external_id exported e)
-exports_found _ exported e = absurd cc
+exports_found x exported e = search std_rules
 
 import_found : (key : Text) (shown : Shown) (id : Option Text) (x : Text × View) → imported_view (record { key = key; shown = shown; external_id = id }) ≡ Some x
     → instance_of shown ≡ named_instance x ∷ []
-import_found key (Shown.instance (Key.path path) view) id x e =
-    let w = when_some (is_none id && not (is_filled view.functions)) (Some (path, view)) x e in
-    ap (λ (y : Text × View). named_instance y ∷ []) (some_is (path, view) x w.1)
-import_found key _ id x e = absurd cc
+import_found key z id x e = search std_rules
 
 imports_found : (seen : List Seen) (imports : List (Text × View)) → each imported_view seen ≡ Some imports → instances_in seen ≡ map named_instance imports
 imports_found [] imports e = ap (map named_instance) (some_is [] imports e)
@@ -64,10 +57,7 @@ around_export [] x e = absurd cc
 around_export ((import_, y) ∷ seen) x e =
     let more = around_export seen x e in
     (y ∷ more.0, more.1, ap (λ ys. y ∷ ys) more.2, ap (λ ys. y ∷ ys) more.3)
-around_export ((export_, y) ∷ seen) x e =
-    let first : y ≡ x = cc in
-    let rest : going export_ seen ≡ [] = cc in
-    ([], map (λ z. z.1) seen, ap (λ z. z ∷ map (λ w. w.1) seen) first, none_exported seen rest)
+around_export ((export_, y) ∷ seen) x e = search (std_rules, none_exported)
 
 -- ---- what reaches the last import
 

@@ -1,34 +1,18 @@
 -- What is well-formed in a scope stays so where more instances and more imports are seen.
-use Rattle.std.proofs.Common.{ℕ, ◌≤◌, arith, Bool, List, length}
+use Rattle.std.proofs.Common.{rules as std_rules, ℕ, ◌≤◌, Bool, List, length}
 use Rattle.wit_model.specs.{Text.Text, Tree.Place, Tree.Tree, Tree.Declaration}
 use Rattle.comp_meaning.specs.Follow.{Slot, Instance, Seen, Shown, place_of}
 use Rattle.read_shown.specs.{Trees.AllAt, Trees.SlotStands, Views.ViewStands}
-use Rattle.read_shown.specs.Scopes.{IsShownBefore, IsImported, IsDeclared, a_resource, a_value, own_name, name_of_instance, IsMetInScope, by_import, by_instance, ShownStands}
+use Rattle.read_shown.specs.Scopes.{IsShownBefore, IsImported, IsDeclared, a_resource, a_value, own_name, name_of_instance, IsMetInScope, ShownStands}
 use Rattle.read_shown.proofs.{Lists.all_weaker, Lists.Front, Views.view_wider, Wider.declaration_wider, Wider.signature_wider, Wider.slot_wider}
 use Rattle.base_lemmas.proofs.Numbers.{same_number}
 
 pub shown_wider : (instances more : List Instance) → Front instances more → (k m : ℕ) → k ≤ m → (place : Place) (name : Text) (b : Bool) → IsShownBefore instances k place name b
     → IsShownBefore more m place name b
-shown_wider instances more front k m le place name b s = record {
-  number = s.number;
-  below = (let below = s.below in omega (arith, below, le));
-  shown = s.shown;
-  at = front.kept s.number s.shown s.at;
-  path = s.path;
-  of_path = s.of_path;
-  stands = s.stands;
-  shows = s.shows;
-}
+shown_wider instances more front k m le place name b s = search std_rules
 
 imported_wider : (imports more : List Seen) → Front imports more → (k m : ℕ) → k ≤ m → (name : Text) (d : Declaration) → IsImported imports k name d → IsImported more m name d
-imported_wider imports more front k m le name d i = record {
-  number = i.number;
-  below = (let below = i.below in omega (arith, below, le));
-  seen = i.seen;
-  at = front.kept i.number i.seen i.at;
-  key = i.key;
-  shown = i.shown;
-}
+imported_wider imports more front k m le name d i = search std_rules
 
 module _ (instances more_instances : List Instance) (imports more_imports : List Seen) (fi : Front instances more_instances) (fm : Front imports more_imports) where
   pub declared_wider : {count : ℕ} {name : Text} {b : Bool} (more : ℕ) → count ≤ more → IsDeclared instances imports count name b → IsDeclared more_instances more_imports more name b
@@ -42,8 +26,7 @@ module _ (instances more_instances : List Instance) (imports more_imports : List
       (shown_wider instances more_instances fi (length instances) (length more_instances) fi.long (Place.of_interface path) other b s)
 
   pub met_wider : (k m : ℕ) → k ≤ m → (place : Place) (name : Text) (b : Bool) → IsMetInScope instances imports k place name b → IsMetInScope more_instances more_imports m place name b
-  met_wider k m le place name b (by_import here d) = by_import here (declared_wider m le d)
-  met_wider k m le place name b (by_instance s) = by_instance (shown_wider instances more_instances fi (length instances) (length more_instances) fi.long place name b s)
+  met_wider k m le place name b x = search (std_rules, declared_wider, shown_wider)
 
   pub shown_stands_wider : (k m : ℕ) → k ≤ m → (s : Shown) → ShownStands instances imports k s → ShownStands more_instances more_imports m s
   shown_stands_wider k m le (Shown.instance key view) h = (h.0, fi.kept h.0 _ h.1)
@@ -52,24 +35,15 @@ module _ (instances more_instances : List Instance) (imports more_imports : List
 
   pub slots_wider : (ss : List Slot) → AllAt (λ n (s : Slot). SlotStands (IsMetInScope instances imports (length imports)) s) ss
       → AllAt (λ n (s : Slot). SlotStands (IsMetInScope more_instances more_imports (length more_imports)) s) ss
-  slots_wider ss all =
-      all_weaker (λ n (s : Slot). SlotStands (IsMetInScope instances imports (length imports)) s) (λ n s. SlotStands (IsMetInScope more_instances more_imports (length more_imports)) s) ss
-      (λ n s within h. slot_wider (IsMetInScope instances imports (length imports)) (IsMetInScope more_instances more_imports (length more_imports))
-      (met_wider (length imports) (length more_imports) fm.long) s h) all
+  slots_wider ss all = search (std_rules, all_weaker, slot_wider, met_wider)
 
   pub instances_wider : (xs : List Instance) → AllAt (λ n (x : Instance). ViewStands (IsShownBefore instances n) (place_of x.interface) x.view) xs
       → AllAt (λ n (x : Instance). ViewStands (IsShownBefore more_instances n) (place_of x.interface) x.view) xs
-  instances_wider xs all =
-      all_weaker (λ n (x : Instance). ViewStands (IsShownBefore instances n) (place_of x.interface) x.view) (λ n x. ViewStands (IsShownBefore more_instances n) (place_of x.interface) x.view) xs
-      (λ n x within h. view_wider (IsShownBefore instances n) (IsShownBefore more_instances n) (shown_wider instances more_instances fi n n (same_number n)) (place_of x.interface) x.view h) all
+  instances_wider xs all = search (std_rules, all_weaker, view_wider, shown_wider, same_number)
 
   pub imports_wider : (xs : List Seen) → AllAt (λ n (s : Seen). ShownStands instances imports n s.shown) xs → AllAt (λ n (s : Seen). ShownStands more_instances more_imports n s.shown) xs
-  imports_wider xs all =
-      all_weaker (λ n (s : Seen). ShownStands instances imports n s.shown) (λ n s. ShownStands more_instances more_imports n s.shown) xs
-      (λ n s within h. shown_stands_wider n n (same_number n) s.shown h) all
+  imports_wider xs all = search (std_rules, all_weaker, shown_stands_wider, same_number)
 
   pub exports_wider : (xs : List Seen) → AllAt (λ n (s : Seen). ShownStands instances imports (length imports) s.shown) xs
       → AllAt (λ n (s : Seen). ShownStands more_instances more_imports (length more_imports) s.shown) xs
-  exports_wider xs all =
-      all_weaker (λ n (s : Seen). ShownStands instances imports (length imports) s.shown) (λ n s. ShownStands more_instances more_imports (length more_imports) s.shown) xs
-      (λ n s within h. shown_stands_wider (length imports) (length more_imports) fm.long s.shown h) all
+  exports_wider xs all = search (std_rules, all_weaker, shown_stands_wider)

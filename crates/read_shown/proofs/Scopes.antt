@@ -1,5 +1,5 @@
 -- What component types show is well-formed.
-use Rattle.std.proofs.Common.{◌≡◌, refl, sym, ap, subst, ◌∙◌, ℕ, zero, suc, ◌==◌, arith, Bool, true, false, cond, List, [], ◌∷◌, ◌++◌, length, take, Option, Some, None, slice_get, is_some}
+use Rattle.std.proofs.Common.{rules as std_rules, ◌≡◌, refl, sym, ap, subst, ◌∙◌, ℕ, zero, suc, ◌==◌, arith, Bool, true, false, cond, List, [], ◌∷◌, ◌++◌, length, take, Option, Some, None, slice_get, is_some}
 use Rattle.std.proofs.lemmas.Option.{slice_get_within}
 use Rattle.wit_model.specs.{Text.Text, Text.text_eq, Tree.Place, Tree.Tree, Tree.Declaration}
 use Rattle.comp_bytes.specs.declared.forms.ComponentTypeRef.{ComponentTypeRef}
@@ -10,7 +10,7 @@ use Rattle.comp_meaning.proofs.StepLaws.{StepOf, defines, signs, aliases, sees_f
 use Rattle.read_shown.specs.{Trees.DeclarationStands, Trees.SlotStands, Views.named_slot, Views.ViewStands}
 use Rattle.read_shown.specs.Scopes.{is_type, IsShownBefore, IsImported, IsDeclared, a_resource, a_value, own_name, name_of_instance, IsMetInScope, by_import, by_instance, ShownStands, ScopeStands}
 use Rattle.read_shown.proofs.Definitions.{definition_stands, function_stands, signature_stands}
-use Rattle.read_shown.proofs.Lists.{all_more, in_front, none_at, front_more, front_same}
+use Rattle.read_shown.proofs.Lists.{all_more, in_front, front_more, front_same}
 use Rattle.read_shown.proofs.ScopeWider.{exports_wider, imports_wider, instances_wider, met_wider, shown_stands_wider, shown_wider, slots_wider}
 use Rattle.read_shown.proofs.{Views.shows_at, Views.named_stands, Views.named_type_stands, Views.view_stands, Views.view_wider, Wider.declaration_wider}
 use Rattle.base_lemmas.proofs.{Lists.at_last as get_last, Options.some_is}
@@ -36,13 +36,7 @@ abbrev NoType : ℕ → Seen → Type 0
 NoType n s = is_type s.shown ≡ false
 
 pub pushed : (scope : Scope) (slot : Slot) → ScopeStands scope → SlotStands (Met scope) slot → ScopeStands (in_scope slot scope)
-pushed scope slot st h = record {
-  slots = all_more (SlotIn scope.instances scope.imports) scope.slots slot st.slots h;
-  instances = st.instances;
-  imports = st.imports;
-  exports = st.exports;
-  no_types = st.no_types;
-}
+pushed scope slot st h = search (std_rules, all_more)
 
 -- ---- something more that is seen
 
@@ -63,13 +57,7 @@ import_stands seen scope st h =
 pub seen_stands : (direction : Direction) (seen : Seen) (scope : Scope) → ScopeStands scope → ShownStands scope.instances scope.imports (length scope.imports) seen.shown → is_type seen.shown ≡ false
     → ScopeStands (see direction seen scope)
 seen_stands import_ seen scope st h plain = import_stands seen scope st h
-seen_stands export_ seen scope st h plain = record {
-  slots = st.slots;
-  instances = st.instances;
-  imports = st.imports;
-  exports = all_more (ExportIn scope.instances scope.imports) scope.exports seen st.exports h;
-  no_types = all_more NoType scope.exports seen st.no_types plain;
-}
+seen_stands export_ seen scope st h plain = search (std_rules, all_more)
 
 -- ---- a type that is imported
 
@@ -194,8 +182,7 @@ step_stands : (scope next : Scope) → StepOf scope next → ScopeStands scope �
 step_stands scope _ (defines d t e) st = pushed scope (Slot.value t) st (definition_stands (Met scope) scope.slots st.slots d t e)
 step_stands scope _ (signs f s e) st = pushed scope (Slot.function s) st (signature_stands (Met scope) scope.slots st.slots f s e)
 step_stands scope _ (aliases m name slot e) st = pushed scope slot st (exported_stands scope st m name slot e)
-step_stands scope _ (sees_function direction name n f e) st =
-    seen_stands direction (seen_under name (Shown.function f)) scope st (function_stands (Met scope) scope.slots st.slots n f e) refl
+step_stands scope _ (sees_function direction name n f e) st = search (std_rules, seen_stands, seen_under, function_stands)
 step_stands scope _ (sees_type name described found e) st = type_stands name described scope found e st
 step_stands scope _ (sees_instance direction name n key view new e) st =
     let x : Instance = record { interface = interface_of key; view = view } in
@@ -226,13 +213,7 @@ scope_keeps P step type_ new ds scope e =
     subst P (some_is b.0 scope w.1) (steps_keep P step type_ ds new_scope b.0 b.1 new)
 
 new_stands : ScopeStands new_scope
-new_stands = record {
-  slots = none_at (SlotIn [] []);
-  instances = none_at (InstanceIn []);
-  imports = none_at (ImportIn [] []);
-  exports = none_at (ExportIn [] []);
-  no_types = none_at NoType;
-}
+new_stands = search std_rules
 
 pub scope_stands : (ds : Declarations) (scope : Scope) → component_scope ds ≡ Some scope → ScopeStands scope
 scope_stands ds scope e = scope_keeps ScopeStands (λ s next d e st. step_stands s next (step_of s next d e) st) (λ s inner n st. pushed s (Slot.instance inner n) st tt) new_stands ds scope e

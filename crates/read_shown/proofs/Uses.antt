@@ -1,5 +1,5 @@
 -- Each interface that a well-formed view uses was seen before it.
-use Rattle.std.proofs.Common.{◌≡◌, ◌⊎◌, inl, inr, refl, sym, ap, subst, ◌∙◌, ℕ, zero, suc, Bool, List, [], ◌∷◌, flat_map, Option, Some, None, slice_get}
+use Rattle.std.proofs.Common.{rules as std_rules, ◌≡◌, ◌⊎◌, inl, inr, refl, sym, ap, subst, ◌∙◌, ℕ, zero, suc, Bool, List, [], ◌∷◌, flat_map, Option, Some, slice_get}
 use Rattle.std.proofs.lemmas.List.Elements.{Contains-append_cases as in_either}
 use Rattle.std.specs.List.{Contains}
 use Rattle.wit_model.specs.{Text.Text, Tree.Place, Tree.Tree, Tree.Declaration}
@@ -7,7 +7,6 @@ use Rattle.wit_model.proofs.Elements.{none-in}
 use Rattle.comp_meaning.specs.{Follow.ShownType, Follow.Instance, Follow.place_of, Rules.used_by, Rules.used_by_view}
 use Rattle.read_shown.specs.Trees.{DeclarationStands}
 use Rattle.read_shown.specs.{Views.IsMetInView, Views.inside, Views.outside, Views.ViewStands, Scopes.IsInstanceBefore, Scopes.IsShownBefore}
-use Rattle.base_lemmas.proofs.Elements.{last_of as one-contained}
 
 -- ---- what stands in lists
 
@@ -19,18 +18,13 @@ in_flat f (x ∷ xs) y c = elim (in_either (f x) (flat_map f xs) y c) [ inl here
 -- ---- what a view uses
 
 name_used : (path : Text) (d : Declaration) → Contains (used_by d) path → (name : Text) × (d ≡ Declaration.type_ (Tree.named (Place.of_interface path) name))
-name_used path Declaration.resource c = none-in path c
-name_used path (Declaration.type_ (Tree.primitive p)) c = none-in path c
-name_used path (Declaration.type_ (Tree.named Place.here name)) c = none-in path c
-name_used path (Declaration.type_ (Tree.node form ts)) c = none-in path c
-name_used path (Declaration.type_ (Tree.named (Place.of_interface q) name)) c = (name, ap (λ r. Declaration.type_ (Tree.named (Place.of_interface r) name)) (one-contained q path c))
+name_used path x c = search std_rules
 
 pub path_once : (p q : Text) → Place.of_interface p ≡ Place.of_interface q → p ≡ q
 path_once p q e = cc
 
 path_there : (o : Option Text) (path : Text) → place_of o ≡ Place.of_interface path → o ≡ Some path
-path_there None path e = absurd cc
-path_there (Some p) path e = let same : p ≡ path = cc in ap Some same
+path_there x path e = search std_rules
 
 pub use_stands_before : (instances : List Instance) (count : ℕ) (x : Instance) → ViewStands (IsShownBefore instances count) (place_of x.interface) x.view
     → (path : Text) → Contains (used_by_view x.view) path → (x.interface ≡ Some path) ⊎ IsInstanceBefore instances count path

@@ -1,7 +1,7 @@
 -- Views of instance types are well-formed.
-use Rattle.std.proofs.Common.{◌≡◌, refl, sym, ap, subst, ◌∙◌, ℕ, ◌≤◌, ◌==◌, ◌&&◌, arith, Bool, true, false, List, [], ◌∷◌, ◌++◌, length, length-append, Some, slice_get}
+use Rattle.std.proofs.Common.{rules as std_rules, ◌≡◌, refl, sym, ap, subst, ◌∙◌, ℕ, ◌≤◌, ◌==◌, ◌&&◌, arith, Bool, true, List, [], ◌∷◌, ◌++◌, length, length-append, Some, slice_get}
 use Rattle.std.proofs.lemmas.Option.{slice_get_within}
-use Rattle.wit_model.specs.{Text.Text, Tree.Place, Tree.Tree, Meaning.Signature, Meaning.FunctionMeaning}
+use Rattle.wit_model.specs.{Text.Text, Tree.Place, Meaning.Signature, Meaning.FunctionMeaning}
 use Rattle.comp_bytes.specs.declared.forms.ComponentTypeRef.{ComponentTypeRef}
 use Rattle.comp_bytes.specs.Raw.{Alias, ExternName, Declaration}
 use Rattle.comp_bytes.proofs.Readers.{bind_some, when_some}
@@ -19,16 +19,11 @@ use Rattle.comp_bytes.specs.declared.forms.ComponentTypeRef.TheVariants as refs
 
 module _ (Met : Place → Text → Bool → Type 0) where
   pub named_stands : (place : Place) (name : Text) (b : Bool) → Met place name b → SlotStands Met (named_slot place name b)
-  named_stands place name true h = h
-  named_stands place name false h = h
+  named_stands place name x h = search std_rules
 
   declared_stands : (place : Place) (name : Text) (slot : Slot) → SlotStands Met slot → (d : tree.Declaration) → declared_by slot ≡ Some d
       → (b : Bool) × (named_like slot place name ≡ named_slot place name b) × DeclarationStands Met d b
-  declared_stands place name (Slot.value (Tree.primitive p)) h d e = (false, refl, subst (λ x. DeclarationStands Met x false) (some_is (tree.Declaration.type_ (Tree.primitive p)) d e) refl)
-  declared_stands place name (Slot.value (Tree.named q other)) h d e = (false, refl, subst (λ x. DeclarationStands Met x false) (some_is (tree.Declaration.type_ (Tree.named q other)) d e) h)
-  declared_stands place name (Slot.value (Tree.node form ts)) h d e = (false, refl, subst (λ x. DeclarationStands Met x false) (some_is (tree.Declaration.type_ (Tree.node form ts)) d e) (refl, h))
-  declared_stands place name (Slot.resource q other) h d e = (true, refl, subst (λ x. DeclarationStands Met x true) (some_is (tree.Declaration.type_ (Tree.named q other)) d e) h)
-  declared_stands place name _ h d e = absurd cc
+  declared_stands place name y h d e = search std_rules
 
   -- what an import or an export of a type declares, and what its index stands for
   pub named_type_stands : (slots : List Slot) → AllAt (λ n (s : Slot). SlotStands Met s) slots → (place : Place) (name : Text) (described : ComponentTypeRef) (found : tree.Declaration × Slot)
@@ -39,9 +34,7 @@ module _ (Met : Place → Text → Bool → Type 0) where
       let is : (d.0, named_like s.0 place name) ≡ found = some_is (d.0, named_like s.0 place name) found d.2 in
       let h = declared_stands place name s.0 (all n s.0 s.1) d.0 d.1 in
       (h.0, ap (λ (x : tree.Declaration × Slot). x.1) (sym is) ∙ h.1, subst (λ (x : tree.Declaration × Slot). DeclarationStands Met x.0 h.0) is h.2)
-  named_type_stands slots all place name refs.SubResource found e =
-      let is : (tree.Declaration.resource, Slot.resource place name) ≡ found = some_is (tree.Declaration.resource, Slot.resource place name) found e in
-      (true, ap (λ (x : tree.Declaration × Slot). x.1) (sym is), subst (λ (x : tree.Declaration × Slot). DeclarationStands Met x.0 true) is refl)
+  named_type_stands slots all place name refs.SubResource found e = search std_rules
   named_type_stands slots all place name _ found e = absurd cc
 
 -- ---- views that grow
@@ -51,27 +44,15 @@ pub shows_at : (place : Place) (view : View) (k : ℕ) (t : ShownType) → slice
 shows_at place view k t e name b named slot = record { number = k; below = slice_get_within view.types k t e; shown = t; at = e; named = named; slot = slot }
 
 pub shows_wider : (place : Place) (view more : View) → Front view.types more.types → (k m : ℕ) → k ≤ m → (name : Text) (b : Bool) → ShowsName place view k name b → ShowsName place more m name b
-shows_wider place view more front k m le name b s = record {
-  number = s.number;
-  below = (let below = s.below in omega (arith, below, le));
-  shown = s.shown;
-  at = front.kept s.number s.shown s.at;
-  named = s.named;
-  slot = s.slot;
-}
+shows_wider place view more front k m le name b s = search std_rules
 
 module _ (Outside : Place → Text → Bool → Type 0) (own : Place) where
   pub met_wider : (view more : View) → Front view.types more.types → (k m : ℕ) → k ≤ m → (place : Place) (name : Text) (b : Bool) → IsMetInView Outside own view k place name b
       → IsMetInView Outside own more m place name b
-  met_wider view more front k m le place name b (inside here s) = inside here (shows_wider own view more front k m le name b s)
-  met_wider view more front k m le place name b (outside out) = outside out
+  met_wider view more front k m le place name b x = search std_rules
 
   type_wider : (view more : View) → Front view.types more.types → (k : ℕ) (t : ShownType) → TypeStands Outside own view k t → TypeStands Outside own more k t
-  type_wider view more front k t h = record {
-    is_resource = h.is_resource;
-    slot = h.slot;
-    declared = declaration_wider (IsMetInView Outside own view k) (IsMetInView Outside own more k) (met_wider view more front k k (omega arith)) t.meaning.declaration h.is_resource h.declared;
-  }
+  type_wider view more front k t h = search (std_rules, declaration_wider, met_wider)
 
   -- all types of the view and more are met
   whole_wider : (view more : View) → Front view.types more.types → (place : Place) (name : Text) (b : Bool)
@@ -84,16 +65,11 @@ module _ (Outside : Place → Text → Bool → Type 0) (own : Place) where
   functions_wider : (view more : View) → Front view.types more.types → (fs : List (Text × FunctionMeaning))
       → AllAt (λ n (f : Text × FunctionMeaning). SignatureStands (IsMetInView Outside own view (length view.types)) f.1.signature) fs
       → AllAt (λ n (f : Text × FunctionMeaning). SignatureStands (IsMetInView Outside own more (length more.types)) f.1.signature) fs
-  functions_wider view more front fs all =
-      all_weaker (λ n (f : Text × FunctionMeaning). SignatureStands (IsMetInView Outside own view (length view.types)) f.1.signature)
-      (λ n f. SignatureStands (IsMetInView Outside own more (length more.types)) f.1.signature) fs
-      (λ k f within h. signature_wider (IsMetInView Outside own view (length view.types)) (IsMetInView Outside own more (length more.types)) (whole_wider view more front) f.1.signature h) all
+  functions_wider view more front fs all = search (std_rules, all_weaker, signature_wider, whole_wider)
 
   slots_wider : (view more : View) → Front view.types more.types → (ss : List Slot) → AllAt (λ n (s : Slot). SlotStands (IsMetInView Outside own view (length view.types)) s) ss
       → AllAt (λ n (s : Slot). SlotStands (IsMetInView Outside own more (length more.types)) s) ss
-  slots_wider view more front ss all =
-      all_weaker (λ n (s : Slot). SlotStands (IsMetInView Outside own view (length view.types)) s) (λ n s. SlotStands (IsMetInView Outside own more (length more.types)) s) ss
-      (λ k s within h. slot_wider (IsMetInView Outside own view (length view.types)) (IsMetInView Outside own more (length more.types)) (whole_wider view more front) s h) all
+  slots_wider view more front ss all = search (std_rules, all_weaker, slot_wider, whole_wider)
 
   -- ---- each declaration
 

@@ -1,4 +1,5 @@
 -- What is well-formed stays so where more names are met.
+use Rattle.std.proofs.Common.{rules as std_rules}
 use Rattle.std.proofs.{Common.Bool, Common.true, Common.false, ByRecursion.All-weaker as recursion_weaker}
 use Rattle.wit_model.specs.{Text.Text, Tree.Place, Tree.Tree, Tree.Trees, Meaning.Signature}
 use Rattle.comp_meaning.specs.Follow.{Slot}
@@ -8,10 +9,7 @@ use Rattle.wit_model.specs.Tree as tree
 
 module _ (Met More : Place → Text → Bool → Type 0) (wider : (place : Place) (name : Text) (b : Bool) → Met place name b → More place name b) where
   handle_wider : (ts : Trees) → HandleStands Met ts → HandleStands More ts
-  handle_wider Trees.no_children h = h
-  handle_wider (Trees.child (Tree.named place name) Trees.no_children) h = wider place name true h
-  handle_wider (Trees.child (Tree.named place name) (Trees.child t ts)) h = h
-  handle_wider (Trees.child _ ts) h = absurd h
+  handle_wider x h = search std_rules
 
   mutual
     pub tree_wider : (t : Tree) → TreeStands Met t → TreeStands More t

@@ -1,5 +1,5 @@
 -- An instance more in the component type of a world: it is the latest one of its interface, and the aliases stay.
-use Rattle.std.proofs.Common.{◌≡◌, refl, sym, subst, ap, ◌∙◌, ℕ, ◌+◌, ◌⊎◌, inl, inr, nat_cmp, nat_eq, Bool, true, false, List, [], ◌∷◌, ◌++◌, append_assoc, append-nil, length, length-append, map, flat_map, Option, Some, None, is_some, arith, ◌≤◌}
+use Rattle.std.proofs.Common.{rules as std_rules, ◌≡◌, refl, sym, subst, ap, ◌∙◌, ℕ, ◌+◌, ◌⊎◌, inl, inr, nat_cmp, nat_eq, Bool, true, false, List, [], ◌∷◌, ◌++◌, append_assoc, append-nil, length, length-append, map, flat_map, Option, Some, None, is_some, arith, ◌≤◌}
 use Rattle.std.proofs.{lemmas.Cmp.nat_eq_equiv, lemmas.Cmp.nat_cmp_total, lemmas.Map.Keys.IsDistinct-push, Math.Seq.drop-append_seam, Math.Seq.take-append_seam}
 use Rattle.std.proofs.lemmas.{List.Elements.Contains-append_cases, List.Elements.Contains-append_left, List.Elements.Contains-append_right, List.map-append}
 use Rattle.std.proofs.lemmas.Option.{slice_get_within}
@@ -50,12 +50,10 @@ placed-plain ds d none = placed-behind 0 ds d ∙ ap (λ (xs : List Alias). plac
 -- ---- which type numbers have one
 
 pub slot-there : (o : Option ℕ) → (o ≡ None → ⊥) → is_some o ≡ true
-slot-there None s = absurd (s refl)
-slot-there (Some k) s = refl
+slot-there x s = search std_rules
 
 pub there-slot : (o : Option ℕ) → is_some o ≡ true → o ≡ None → ⊥
-there-slot None s e = let z : ⊥ = cc in z
-there-slot (Some k) s e = let z : ⊥ = cc in z
+there-slot x s e = search std_rules
 
 known-one : (a : Around) (x : Aliased) → known_slot a.known x.number.0 ≡ None → (n : ℕ) → is_some (known_slot (with_alias a x).known n) ≡ true → (is_some (known_slot a.known n) ≡ true)
     ⊎ (x.number.0 ≡ n)

@@ -1,5 +1,5 @@
 -- How many bytes have been declared, call after call.
-use Rattle.std.proofs.Common.{◌≡◌, refl, sym, subst, ap, ◌∙◌, ℕ, zero, suc, ◌+◌, ◌≤◌, ◌<◌, inl, inr, Bool, true, false, nat_eq, is_some, List, [], ◌∷◌, ◌++◌, map, length, length-append, take, get_or, Option, Some, None, String, Result, Ok, Err, OnOk, IfOk, arith}
+use Rattle.std.proofs.Common.{rules as std_rules, ◌≡◌, refl, sym, subst, ap, ◌∙◌, ℕ, zero, suc, ◌+◌, ◌≤◌, ◌<◌, inl, inr, Bool, true, false, nat_eq, is_some, List, [], ◌∷◌, ◌++◌, map, length, length-append, take, get_or, Option, Some, None, String, Result, OnOk, IfOk, arith}
 use Rattle.std.proofs.lemmas.{List.map-append, List.take_all, List.take_more, List.length-map, List.Sums.sum_by-append, List.Sums.sum_by-cons}
 use Rattle.std.proofs.lemmas.Option.{same_Some as some-same}
 use Rattle.std.specs.{Prelude.sum_by, List.Contains}
@@ -18,10 +18,10 @@ use Rattle.encode_types.specs.Maps.{IsOnce, LearnsOnly}
 use Rattle.encode_types.proofs.{Lists.none-in, Pairs.pairs-map}
 use Rattle.wit_encode.specs.declared.interface.OpenInterface.{OpenInterface}
 use Rattle.wit_encode.specs.{Encoders.declared_after, Order.functions_in_order, WorldRoom.IsMetAmong, WorldRoom.entries_in}
-use Rattle.wit_encode.specs.{Instance.declared_extent, Instance.extent_in, Instance.placed_function, Extents.instance_extent, Extents.item_extent}
+use Rattle.wit_encode.specs.{Instance.declared_extent, Instance.extent_in, Instance.placed_function, Extents.instance_extent}
 use Rattle.wit_encode.specs.WrittenBytes.{AddsBytes, AddsLearnt, TakesFew, imports_extent, items_extent, types_extent, whole_extent}
 use Rattle.encode_shown.specs.Views.{AreReached}
-use Rattle.encode_names.specs.{WorldNames.name_of_interface, WorldNames.name_of_item, WorldSteps.Entry}
+use Rattle.encode_names.specs.{WorldNames.name_of_interface, WorldNames.name_of_item}
 use Rattle.wit_encode.proofs.{ComponentExtents.components-light, ComponentExtents.import-extent, ComponentExtents.worlds-light, ImportLoop.numbers-next}
 use Rattle.wit_encode.proofs.{Extents.bytes-few, ExtentWeighing.dependencies-light, ExtentWeighing.instances-light, Lengths.u32-short, Opening.Placed}
 use Rattle.base_lemmas.proofs.Lists.{map_of_map as map-twice}
@@ -30,8 +30,7 @@ use Rattle.wit_model.specs.declared.model.WorldItem.TheVariants as item
 -- ---- answers
 
 pub when-ok : {A E : Type 0} (x : Result A E) (P : A → Type 0) (Q : Type 0) → ((a : A) → P a → Q) → IfOk x P → OnOk x Q
-when-ok (Ok a) P Q f p = f a p
-when-ok (Err e) P Q f p = tt
+when-ok x y z f p = search std_rules
 
 -- ---- declarations
 
@@ -275,22 +274,13 @@ pub learnt-more : {r : Resolve} {k : ℕ} {a b : TypeEncodingMaps} {x : Declarat
     → length (declaration_bytes d) ≤ n → AddsLearnt r (k + n) a b x z
 learnt-more n y z d p e l = record { few = (let before = p.few in let one = one-more y z d n e l in omega (arith, before, one)) }
 
-items-one : (r : Resolve) (canonical : Bool) (x : Entry) → items_extent r canonical (x ∷ []) ≡ item_extent r canonical x
-items-one r canonical x = let a = sum_by-cons (item_extent r canonical) x [] in omega (arith, a)
-
 pub function-item : (r : Resolve) (canonical : Bool) (k : WorldKey) (i : WorldItem) (f : Function) → i ≡ item.Function f
     → items_extent r canonical ((k, i) ∷ []) ≡ signature_extent (signature_of r f) + name_extent (name_of_item r canonical (k, i))
-function-item r canonical k i f e =
-    items-one r canonical (k, i) ∙ ap (λ (j : WorldItem). item_extent r canonical (k, j)) e ∙ ap
-    (λ (j : WorldItem). signature_extent (signature_of r f) + name_extent (name_of_item r canonical (k, j))) (sym e)
+function-item r canonical k i f e = search std_rules
 
 pub interface-item : (r : Resolve) (canonical : Bool) (k : WorldKey) (i : WorldItem) (n : ℕ) → item_interface i ≡ Some n
     → items_extent r canonical ((k, i) ∷ []) ≡ instance_extent (name_of_item r canonical (k, i)) (whole_instance_weight r n)
-interface-item r canonical k (item.Interface id stability docs external) n e =
-    items-one r canonical (k, item.Interface id stability docs external) ∙ ap
-    (λ (m : ℕ). instance_extent (name_of_item r canonical (k, item.Interface id stability docs external)) (whole_instance_weight r m)) (some-same id.0 n e)
-interface-item r canonical k (item.Function f) n e = absurd (let z : ⊥ = cc in z)
-interface-item r canonical k (item.Type_ id) n e = absurd (let z : ⊥ = cc in z)
+interface-item r canonical k x n e = search std_rules
 
 -- all items of a world
 pub world-few : (r : Resolve) → IsValid r → (w : WorldId) (def : World) → world_at r w.0 ≡ Some def → (canonical : Bool) (began m m' : TypeEncodingMaps) (outer outer' : Declarations) → IsOnce m'

@@ -1,5 +1,5 @@
 -- What the calls of an encoder of interfaces do to what it holds.
-use Rattle.std.proofs.Common.{◌≡◌, refl, sym, subst, ap, ◌∙◌, ℕ, true, not, cond, List, [], ◌∷◌, ◌++◌, append-nil, map, option_to_list, Result, Ok, Err, IfOk, OnOk, OnErr, Option, Some, None, slice_get, length, arith}
+use Rattle.std.proofs.Common.{rules as std_rules, ◌≡◌, refl, sym, subst, ap, ◌∙◌, ℕ, true, not, cond, List, [], ◌∷◌, ◌++◌, append-nil, map, option_to_list, Result, Ok, Err, IfOk, OnOk, OnErr, Option, Some, None, slice_get, length, arith}
 use Rattle.std.proofs.lemmas.List.{map-append}
 use Rattle.std.specs.{List.list_all, Option.option_map_or, Option.is_some}
 use Rattle.wit_model.specs.{Text.Text, Tree.Place, Tree.Tree, Tree.named, Meaning.Signature, Meaning.TypeMeaning}
@@ -8,13 +8,13 @@ use Rattle.comp_bytes.specs.declared.forms.{ComponentDefinedType.ComponentDefine
 use Rattle.comp_bytes.specs.{Raw.Alias, Raw.Declaration, Raw.Declarations, Raw.ExternName, RawOf.raw_defined, RawOf.raw_function, Held.type_slots}
 use Rattle.comp_bytes.specs.Reading.{◌>>=◌}
 use Rattle.comp_meaning.specs.Follow.{Slot, InstanceScope, ShownType, new_instance, definition, function_signature, named_type, is_foreign_name, is_simple, show_type, instance_step, in_instance}
-use Rattle.encode_types.specs.Slots.{Standing, tree, function, SlotAdded, SlotsGrow, Follows, FollowsFunction, Defines, DefinesFunction}
+use Rattle.encode_types.specs.Slots.{Standing, tree, SlotAdded, SlotsGrow, Follows, FollowsFunction, Defines, DefinesFunction}
 use Rattle.encode_types.specs.{Resources.Names, Resources.is_resource_tree, Distinct.described_slot, Distinct.target_of}
 use Rattle.encode_types.specs.{Scope.Scope, Scope.IsDeclared, Scope.DeclaresSlot, Scope.DeclaresResource, Scope.exported_name, Known.Around}
 use Rattle.encode_types.specs.{Formed.IsFormed, Formed.IsFormedSignature, Formed.is_formed, Counts.one_type_more, Counts.one_function_more, Counts.ExportsOne}
 use Rattle.wit_encode.proofs.{ValueSlots.slots-more, ValueSlots.targets-more, Declaring.DeclaredAs, Declaring.declared-slot, Declaring.declared-resource}
 use Rattle.wit_encode.proofs.Strict.{bind, definition-strict, function-strict, follows-once, signature-once}
-use Rattle.wit_encode.proofs.Contents.{IsOf, Grew, grew-adds, grew-grows, same-grows, grew-scope}
+use Rattle.wit_encode.proofs.Contents.{IsOf, Grew, grew-adds, grew-grows, grew-scope}
 use Rattle.wit_encode.specs.Instance.{standing_at, SlotsStand, is_slot_of, Contents, no_view, outer_slots, inner_scope, inner_contents, is_value_type, is_function_type, place_in, resources_in, scope_with, definitions_with}
 use Rattle.base_lemmas.proofs.{Bools.left_of as first_true, Bools.right_of as second_true, Options.there as some-of}
 use Rattle.wit_model.specs.Tree as tree_of_types
@@ -38,12 +38,7 @@ calls-from (Ok k) r interface around c c' P counts x sound o is h e = record {
   scope_stays = grew-scope r interface around c c' x h.1 o sound;
   counted = h.2;
 }
-calls-from (Err q) r interface around c c' P counts x sound o is h e = record {
-  ok = h;
-  grows = same-grows c c' e;
-  scope_stays = ap (scope_with r interface around) e;
-  counted = h;
-}
+calls-from (Err q) r interface around c c' P counts x sound o is h e = search std_rules
 
 -- ---- what is there
 
@@ -103,30 +98,14 @@ inner-definitions place outer ds d x shown m types exported functions t u f =
 -- ---- what stands in the new slot
 
 pub defines-of : (slots : List Slot) (d : ComponentDefinedType) (t : Tree) → Follows (SlotsStand slots) d t → IsOf (Slot.value t) (Defines (SlotsStand slots) d)
-defines-of slots d t h = record { gives = gives; only = λ m e. subst (Defines (SlotsStand slots) d) (same m e) h }
-  where
-    gives : (m : Standing) → Defines (SlotsStand slots) d m → standing_at (Some (Slot.value t)) ≡ Some m
-    gives (tree u) k = ap (λ z. Some (tree z)) (follows-once slots d t u h k)
-    gives (function s) k = absurd k
-
-    same : (m : Standing) → Some (tree t) ≡ Some m → tree t ≡ m
-    same m e = cc
+defines-of slots d t h = search (std_rules, follows-once)
 
 pub function-of : (slots : List Slot) (f : ComponentFuncType) (s : Signature) → FollowsFunction (SlotsStand slots) f s → IsOf (Slot.function s) (DefinesFunction (SlotsStand slots) f)
-function-of slots f s h = record { gives = gives; only = λ m e. subst (DefinesFunction (SlotsStand slots) f) (same m e) h }
-  where
-    gives : (m : Standing) → DefinesFunction (SlotsStand slots) f m → standing_at (Some (Slot.function s)) ≡ Some m
-    gives (tree u) k = absurd k
-    gives (function q) k = ap (λ z. Some (function z)) (signature-once slots f s q h k)
-
-    same : (m : Standing) → Some (function s) ≡ Some m → function s ≡ m
-    same m e = cc
+function-of slots f s h = search (std_rules, signature-once)
 
 -- what is well formed is no name of a resource
 pub formed-value : (resources : Names) (t : Tree) → is_formed resources t ≡ true → not (is_resource_tree resources t) ≡ true
-formed-value resources (Tree.primitive p) h = refl
-formed-value resources (Tree.named place name) h = absurd (let z : ⊥ = cc in z)
-formed-value resources (Tree.node form ts) h = refl
+formed-value resources x h = search std_rules
 
 -- a scope in which a named type has been found and shown
 abbrev shown-next : ExternName → InstanceScope → tree_of_types.Declaration × Slot → Option InstanceScope

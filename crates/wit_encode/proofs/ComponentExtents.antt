@@ -1,12 +1,12 @@
 -- What is written of the component type of an interface, and of that of a world, is no more in sum than they weigh.
-use Rattle.std.proofs.Common.{◌≡◌, refl, ap, ◌∙◌, ℕ, ◌+◌, ◌≤◌, ◌⊎◌, inl, inr, Bool, List, [], ◌∷◌, ◌++◌, length, Option, Some, None, option_map, option_to_list, String, arith}
+use Rattle.std.proofs.Common.{rules as std_rules, ◌≡◌, refl, ap, ◌∙◌, ℕ, ◌+◌, ◌≤◌, ◌⊎◌, inl, inr, Bool, List, [], ◌∷◌, ◌++◌, length, Option, Some, None, option_map, option_to_list, String, arith}
 use Rattle.std.proofs.lemmas.List.Sums.{sum_by-cons, sum_by-append}
-use Rattle.std.specs.{Prelude.sum_by, Prelude.option_and_then, Prelude.unwrap_or, List.Contains}
+use Rattle.std.specs.{Prelude.sum_by, Prelude.unwrap_or, List.Contains}
 use Rattle.std.specs.declared.alloc.Global.{Global}
 use Rattle.wit_model.specs.{Text.Text, Text.text_of, Text.text_eq, Text.optional_text, Valid.IsValid, Uses.item_interface}
-use Rattle.wit_model.specs.{Lookup.interface_at, Lookup.interface_path, Lookup.key_text, Lookup.world_at, Calls.implemented, Calls.named_interface}
+use Rattle.wit_model.specs.{Lookup.interface_path, Lookup.key_text, Lookup.world_at, Calls.implemented}
 use Rattle.wit_model.specs.Weight.{unit_of, path_texts, implemented_texts, item_weight, function_weight, types_instance_weight, number_weight}
-use Rattle.wit_model.specs.declared.model.{Resolve.Resolve, WorldId.WorldId, WorldKey.WorldKey, WorldItem.WorldItem, Interface.Interface, Function.Function}
+use Rattle.wit_model.specs.declared.model.{Resolve.Resolve, WorldId.WorldId, WorldKey.WorldKey, WorldItem.WorldItem, Function.Function}
 use Rattle.wit_model.specs.declared.model.World.{World}
 use Rattle.encode_types.specs.KeyLaws.{text_same}
 use Rattle.encode_names.specs.WorldNames.{written_path, written_suffix, name_of_interface}
@@ -62,15 +62,7 @@ components-light r i reached canonical v named reaches =
 
 -- an interface under a label is implemented, or inline
 implemented-as : (r : Resolve) (name : String Global) (i : WorldItem) (n : ℕ) → item_interface i ≡ Some n → (implemented r (key.Name name) i ≡ None) ⊎ (implemented r (key.Name name) i ≡ Some n)
-implemented-as r name i n at = here (interface_at r n) refl (ap (option_and_then (named_interface r)) at)
-  where
-    here : (o : Option Interface) → interface_at r n ≡ o → implemented r (key.Name name) i ≡ named_interface r n → (implemented r (key.Name name) i ≡ None) ⊎ (implemented r (key.Name name) i ≡ Some n)
-    here None is e = inl (e ∙ ap (option_and_then (λ (i : Interface). option_map (λ name. n) i.name)) is)
-    here (Some x) is e = by-name x.name (e ∙ ap (option_and_then (λ (i : Interface). option_map (λ name. n) i.name)) is)
-      where
-        by-name : (o : Option (String Global)) → implemented r (key.Name name) i ≡ option_map (λ name. n) o → (implemented r (key.Name name) i ≡ None) ⊎ (implemented r (key.Name name) i ≡ Some n)
-        by-name None e = inl e
-        by-name (Some y) e = inr e
+implemented-as r name i n at = search std_rules
 
 -- the implemented path, with what completes it
 implemented-short : (r : Resolve) (canonical : Bool) (n : ℕ) (o : Option ℕ) → (o ≡ None) ⊎ (o ≡ Some n)

@@ -1,17 +1,14 @@
 -- The declarations of a component type, followed one by one.
-use Rattle.std.proofs.Common.{◌≡◌, refl, sym, ap, ◌∙◌, ℕ, ◌+◌, Bool, cond, List, [], ◌∷◌, ◌++◌, count_by, Option, Some, None, slice_get, length, length-append, arith}
+use Rattle.std.proofs.Common.{rules as std_rules, ◌≡◌, refl, sym, ap, ◌∙◌, ℕ, ◌+◌, Bool, cond, List, [], ◌∷◌, ◌++◌, count_by, Option, Some, length, length-append, arith}
 use Rattle.std.proofs.lemmas.Option.{same_Some as some-same}
 use Rattle.comp_bytes.specs.declared.forms.ComponentTypeRef.{ComponentTypeRef}
-use Rattle.comp_bytes.specs.Raw.{Declaration, Declarations, Alias, ExternName, append, from_list}
+use Rattle.comp_bytes.specs.Raw.{Declaration, Declarations, ExternName, append, from_list}
 use Rattle.comp_bytes.specs.{Held.declaration_slots, Held.type_slots_of, Reading.◌>>=◌}
-use Rattle.wit_model.specs.Tree.{Place}
-use Rattle.std.specs.{Prelude.not, Prelude.◌==◌, List.list_any}
 use Rattle.encode_types.proofs.Marking.{count-push}
-use Rattle.comp_meaning.specs.Follow.{View, Shown, Key, key_text, interface_of, place_of, used_view, Slot, Scope, Seen, Direction, import_, export_, see, when, definition, function_signature, function_in, named_type, exported_slot, key_of, see_instance, see_function, see_type, in_scope, component_step, component_steps, flat}
+use Rattle.comp_meaning.specs.Follow.{View, Shown, Key, key_text, interface_of, Slot, Scope, Seen, Direction, import_, export_, see, see_instance, see_function, see_type, in_scope, component_step, component_steps, flat}
 use Rattle.wit_encode.specs.Instance.{count_declared}
 use Rattle.wit_encode.proofs.Steps.{unbind}
 use Rattle.comp_meaning.proofs.{EntryLaws.flat_list as flat-list, FollowLemmas.provided_is as unprovided}
-use Rattle.comp_bytes.specs.declared.forms.ComponentTypeRef.TheVariants as refs
 
 pub see-slots : (direction : Direction) (seen : Seen) (s : Scope) → (see direction seen s).slots ≡ s.slots
 see-slots import_ seen s = refl
@@ -27,45 +24,19 @@ seen-as : (direction : Direction) (name : ExternName) (n : ℕ) (s s' : Scope) (
     → (o >>= λ view. Some (see direction (record { key = key_text key; shown = Shown.instance key view; external_id = name.external_id })
     (record s { instances = s.instances ++ record { interface = interface_of key; view = view } ∷ []; used = s.used ++ n ∷ [] }))) ≡ Some s'
     → length s'.slots ≡ length s.slots + 0
-seen-as direction name n s s' key None e = absurd (let z : ⊥ = cc in z)
-seen-as direction name n s s' key (Some view) e =
-    let t : Scope = record s { instances = s.instances ++ record { interface = interface_of key; view = view } ∷ []; used = s.used ++ n ∷ [] } in
-    let seen : Seen = record { key = key_text key; shown = Shown.instance key view; external_id = name.external_id } in
-    none-more s s' (sym (see-slots direction seen t) ∙ ap (λ (z : Scope). z.slots) (some-same (see direction seen t) s' e))
+seen-as direction name n s s' key x e = search std_rules
 
 instance-seen : (direction : Direction) (name : ExternName) (n : ℕ) (s s' : Scope) → see_instance direction name n s ≡ Some s' → length s'.slots ≡ length s.slots + 0
-instance-seen direction name n s s' e =
-    let a = unbind (key_of name) _ s' e in
-    seen-as direction name n s s' a.item (when (not (list_any (λ m. m == n) s.used)) (used_view s.slots (place_of (interface_of a.item)) (slice_get s.slots n))) a.then
+instance-seen direction name n s s' e = search (std_rules, unbind, seen-as)
 
 function-seen : (direction : Direction) (name : ExternName) (n : ℕ) (s s' : Scope) → see_function direction name n s ≡ Some s' → length s'.slots ≡ length s.slots + 0
-function-seen direction name n s s' e =
-    let a = unbind (function_in (slice_get s.slots n)) _ s' e in
-    none-more s s' (sym (see-slots direction _ s) ∙ ap (λ (z : Scope). z.slots) (unprovided _ _ s' a.then))
+function-seen direction name n s s' e = search std_rules
 
 type-seen : (name : ExternName) (described : ComponentTypeRef) (s s' : Scope) → see_type name described s ≡ Some s' → length s'.slots ≡ length s.slots + 1
-type-seen name described s s' e =
-    let a = unbind (named_type s.slots Place.here name.text described) _ s' e in
-    one-more s s' a.item.1 (ap (λ (z : Scope). z.slots) (unprovided _ _ s' a.then))
+type-seen name described s s' e = search (std_rules, unbind, one-more, unprovided)
 
 pub step-count : (s s' : Scope) (d : Declaration) → component_step s d ≡ Some s' → length s'.slots ≡ length s.slots + declaration_slots d
-step-count s s' (Declaration.defined q) e =
-    let b = unbind (definition s.slots q) _ s' e in
-    one-more s s' (Slot.value b.item) (ap (λ (z : Scope). z.slots) (some-same _ s' b.then))
-step-count s s' (Declaration.function q) e =
-    let b = unbind (function_signature s.slots q) _ s' e in
-    one-more s s' (Slot.function b.item) (ap (λ (z : Scope). z.slots) (some-same _ s' b.then))
-step-count s s' (Declaration.alias_of (Alias.of_export m name)) e =
-    let b = unbind (exported_slot name (slice_get s.instances m)) _ s' e in
-    one-more s s' b.item (ap (λ (z : Scope). z.slots) (some-same _ s' b.then))
-step-count s s' (Declaration.alias_of (Alias.of_outer scopes n)) e = absurd (let z : ⊥ = cc in z)
-step-count s s' (Declaration.imported name (refs.Instance n)) e = instance-seen import_ name n s s' e
-step-count s s' (Declaration.imported name (refs.Func n)) e = function-seen import_ name n s s' e
-step-count s s' (Declaration.imported name (refs.TypeEq n)) e = type-seen name (refs.TypeEq n) s s' e
-step-count s s' (Declaration.imported name refs.SubResource) e = type-seen name refs.SubResource s s' e
-step-count s s' (Declaration.exported name (refs.Instance n)) e = instance-seen export_ name n s s' e
-step-count s s' (Declaration.exported name (refs.Func n)) e = function-seen export_ name n s s' e
-step-count s s' _ e = absurd (let z : ⊥ = cc in z)
+step-count s s' x e = search (std_rules, unbind, one-more, some-same, instance-seen, function-seen, type-seen)
 
 pub steps-count : (s s' : Scope) (ds : Declarations) → component_steps s ds ≡ Some s' → length s'.slots ≡ length s.slots + type_slots_of ds
 steps-count s s' Declarations.no_more e = none-more s s' (ap (λ (z : Scope). z.slots) (some-same s s' e))
@@ -86,8 +57,7 @@ steps-count s s' (Declarations.instance inner rest) e =
 
 pub steps-more : (s m n : Scope) (ds : Declarations) (d : Declaration) → component_steps s ds ≡ Some m → component_step m d ≡ Some n
     → component_steps s (append ds (Declarations.declares d Declarations.no_more)) ≡ Some n
-steps-more s m n Declarations.no_more d e f =
-    ap (λ (x : Scope). component_step x d >>= λ next. Some next) (some-same s m e) ∙ ap (λ o. o >>= λ next. Some next) f
+steps-more s m n Declarations.no_more d e f = search std_rules
 steps-more s m n (Declarations.declares x rest) d e f =
     let b = unbind (component_step s x) _ m e in
     ap (λ o. o >>= λ next. component_steps next (append rest (Declarations.declares d Declarations.no_more))) b.is ∙ steps-more b.item m n rest d b.then f
@@ -100,9 +70,7 @@ steps-more s m n (Declarations.instance inner rest) d e f =
 -- an instance type more
 pub steps-instance : (s m : Scope) (ds : Declarations) (es : List Declaration) → component_steps s ds ≡ Some m
     → component_steps s (append ds (Declarations.instance (from_list es) Declarations.no_more)) ≡ Some (in_scope (Slot.instance es (length m.slots)) m)
-steps-instance s m Declarations.no_more es e =
-    ap (λ o. o >>= λ ds. component_steps (in_scope (Slot.instance ds (length s.slots)) s) Declarations.no_more) (flat-list es)
-    ∙ ap (λ (x : Scope). Some (in_scope (Slot.instance es (length x.slots)) x)) (some-same s m e)
+steps-instance s m Declarations.no_more es e = search (std_rules, flat-list, some-same)
 steps-instance s m (Declarations.declares x rest) es e =
     let b = unbind (component_step s x) _ m e in
     ap (λ o. o >>= λ next. component_steps next (append rest (Declarations.instance (from_list es) Declarations.no_more))) b.is ∙ steps-instance b.item m rest es b.then

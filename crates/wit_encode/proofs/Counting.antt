@@ -1,22 +1,22 @@
 -- How much is defined for functions, and by an instance type as a whole.
-use Rattle.std.proofs.Common.{◌≡◌, refl, sym, subst, ap, ◌∙◌, ℕ, ◌+◌, ◌<◌, ◌≤◌, Bool, true, false, ◌&&◌, ◌||◌, ◌⊎◌, inl, inr, List, [], ◌∷◌, ◌++◌, length, get_or, take, map, filter, cond, length-append, append_assoc, append-nil, count_by, Result, Ok, Err, OnOk, Option, Some, None, slice_get, arith}
-use Rattle.std.proofs.lemmas.{Bool.cond-true, Bool.or_cases as either-one, Bool.or_left as or-first, Bool.or_right as or-second, Map.Keys.IsDistinct-from_apart}
+use Rattle.std.proofs.Common.{rules as std_rules, ◌≡◌, refl, sym, subst, ap, ◌∙◌, ℕ, ◌+◌, ◌<◌, ◌≤◌, Bool, true, false, ◌||◌, ◌⊎◌, inl, inr, List, [], ◌∷◌, ◌++◌, length, get_or, take, map, filter, cond, length-append, append_assoc, append-nil, count_by, Result, Ok, Err, OnOk, Option, Some, None, slice_get, arith}
+use Rattle.std.proofs.lemmas.{Bool.or_cases as either-one, Bool.or_left as or-first, Bool.or_right as or-second, Map.Keys.IsDistinct-from_apart}
 use Rattle.std.proofs.lemmas.{Cmp.nat_eq_equiv, List.Folds.list_any-append, List.Kept.AllPairs-filter, List.Sums.length-filter, List.Sums.sum_by-append}
 use Rattle.std.proofs.lemmas.{List.take_more, List.take_all, List.map-append, List.length-map, List.Elements.filter_passes, List.Elements.All-contains}
 use Rattle.std.proofs.lemmas.List.Sorted.{list_any-IsPermutation, IsPermutation-map, length_permutation, sum_by-IsPermutation}
 use Rattle.std.proofs.lemmas.Map.Made.{length-from_keys}
 use Rattle.std.specs.{Prelude.nat_eq, Prelude.IsPermutation, Prelude.String, List.Contains, List.IsDistinct, List.filter_map, List.cons_option, Borrow.Bor}
-use Rattle.std.specs.{Option.option_map, Option.option_map_or, Option.option_and_then, Option.is_some, Option.is_none, Set.is_member, Set.distinct_count}
+use Rattle.std.specs.{Set.is_member, Set.distinct_count}
 use Rattle.std.specs.declared.alloc.Global.{Global}
-use Rattle.wit_model.specs.{Text.Text, Text.text_of, Meaning.TypeMeaning, Meaning.FunctionMeaning, Lookup.type_at, Lookup.place_of, Tree.Tree, Tree.Place}
+use Rattle.wit_model.specs.{Text.Text, Meaning.TypeMeaning, Meaning.FunctionMeaning, Lookup.place_of, Tree.Tree, Tree.Place}
 use Rattle.wit_model.specs.Valid.{IsValid}
-use Rattle.wit_model.specs.declared.model.{Resolve.Resolve, InterfaceId.InterfaceId, TypeId.TypeId, TypeDef.TypeDef, Function.Function}
+use Rattle.wit_model.specs.declared.model.{Resolve.Resolve, InterfaceId.InterfaceId, TypeId.TypeId, Function.Function}
 use Rattle.comp_bytes.specs.Raw.{Declaration, Declarations, from_list}
 use Rattle.comp_meaning.specs.Follow.{Slot, new_instance}
-use Rattle.encode_types.specs.{Slots.Pairs, Slots.Standing, Slots.tree, Kinds.has_definition, Plan.foreign_owner, MetKinds.referred, MetKinds.ReachedFrom}
+use Rattle.encode_types.specs.{Slots.Pairs, Slots.Standing, Slots.tree, MetKinds.referred, MetKinds.ReachedFrom}
 use Rattle.encode_types.specs.{Key.IsKeyOf, Room.HoldsFor, Scope.Scope}
 use Rattle.encode_types.specs.{Codes.IsTable, Codes.ListKey, Codes.names_of, Codes.lists_of, Maps.IsOnce, Maps.IsKnown, Maps.LearnsOnly, Maps.MapsAgree}
-use Rattle.encode_types.specs.Counts.{Definitions, names_defined, is_defined_by_name, is_defined_under_name, own_name, name_of_own, Shows, slots_of, named_slots, key_slots, AddsSlots, AddsKey, AddsTypes, AddsFunction}
+use Rattle.encode_types.specs.Counts.{Definitions, names_defined, is_defined_by_name, own_name, Shows, slots_of, named_slots, key_slots, AddsSlots, AddsKey, AddsTypes, AddsFunction}
 use Rattle.encode_types.specs.Distinct.{Key, key_of, key_view, are_same, KnowsKey, defined_under_names, AddsFunctions, DefinesKeys, DefinesTypes, value_slots, function_slots, is_function_type}
 use Rattle.encode_types.proofs.{Marking.slots-none, Marking.slots-then, Marking.more-then, Marking.same-keys, Marking.one-key-more, Pairs.pairs-map}
 use Rattle.encode_types.proofs.{Lists.none-in, Tables.kept-in, Tables.new-in, Tables.one-more-in}
@@ -25,8 +25,8 @@ use Rattle.wit_encode.proofs.{ValueSlots.IsPlain, ValueSlots.inner-values, Value
 use Rattle.wit_encode.proofs.HeldKeys.{same_equiv, HasList, alike, grown, shrunk, knows-same, knows-along, knows-none, keyed, stand-for-keys, slots-many}
 use Rattle.encode_types.specs.declared.{key.FunctionKey.FunctionKey, maps.TypeEncodingMaps.TypeEncodingMaps}
 use Rattle.wit_encode.specs.declared.interface.{OpenInterface.OpenInterface, Foreign.Foreign}
-use Rattle.wit_encode.specs.Instance.{own_of, contents_of, inner_contents, outer_slots, standing_at, SlotsStand, stands_inside, encoder_scope, definitions_with, held_in, opened, DeclaresFew, ShowsFunction}
-use Rattle.base_lemmas.proofs.Bools.{both_ways as both-ways, left_of as first_true, or_false as or-none, right_of as second_true}
+use Rattle.wit_encode.specs.Instance.{contents_of, inner_contents, outer_slots, standing_at, SlotsStand, stands_inside, encoder_scope, definitions_with, held_in, opened, DeclaresFew, ShowsFunction}
+use Rattle.base_lemmas.proofs.Bools.{both_ways as both-ways, or_false as or-none}
 use Rattle.base_lemmas.proofs.Elements.{contains-map, map_from as from-map, member-there, there-member}
 use Rattle.wit_model.specs.declared.model.TypeOwner.TheVariants as owner
 
@@ -52,8 +52,7 @@ none-member q h = let z : ⊥ = cc in z
 -- ---- what is added
 
 pub names-alike : (r : Resolve) (s s' : Scope) (m : TypeEncodingMaps) → s'.own_interface ≡ s.own_interface → names_defined r s' m ≡ names_defined r s m
-names-alike r s s' m e = ap (λ (own : Option InterfaceId). count_by (λ (e : ℕ × ℕ). option_map_or
-    (λ (def : TypeDef). is_none (foreign_owner own def.owner) && (is_some def.name && has_definition def.kind)) (type_at r e.0) false) m.id_to_index.entries) e
+names-alike r s s' m e = search std_rules
 
 pub adds-types : {r : Resolve} {scope : Scope} {m m' : TypeEncodingMaps} {d d' : Definitions} → AddsTypes r scope m m' d d' → AddsFunctions r scope m m' d d' []
 adds-types {r} {scope} {m} {m'} {d} {d'} a = record {
@@ -356,19 +355,7 @@ functions-all {r} {s} {a} {b} {d} {e} view xs i l p = subst (λ ys. AddsFunction
 
 -- what is defined under a name is shown under it
 shown-where-defined : (r : Resolve) (scope : Scope) (n : ℕ) → is_defined_by_name r scope n ≡ true → own_name r scope n ≡ None → ⊥
-shown-where-defined r scope n = go (type_at r n)
-  where
-    go : (o : Option TypeDef) → option_map_or (is_defined_under_name scope) o false ≡ true → option_and_then (name_of_own scope) o ≡ None → ⊥
-    go None h e = let z : ⊥ = cc in z
-    go (Some def) h e =
-        let own = first_true (is_none (foreign_owner scope.own_interface def.owner)) (is_some def.name && has_definition def.kind) h in
-        let named = first_true (is_some def.name) (has_definition def.kind)
-        (second_true (is_none (foreign_owner scope.own_interface def.owner)) (is_some def.name && has_definition def.kind) h) in
-        nameless def.name named (sym (cond-true (is_none (foreign_owner scope.own_interface def.owner)) (option_map text_of def.name) None own) ∙ e)
-      where
-        nameless : (o : Option (String Global)) → is_some o ≡ true → option_map text_of o ≡ None → ⊥
-        nameless None a b = let z : ⊥ = cc in z
-        nameless (Some x) a b = let z : ⊥ = cc in z
+shown-where-defined r scope n = search std_rules
 
 -- where these types are known, and no other named type of the place is, those of them that have a definition of their own are counted once each
 pub exact-names : (r : Resolve) (scope : Scope) (m : TypeEncodingMaps) (types : List TypeId) → IsOnce m → ((t : TypeId) → Contains types t → IsKnown m t.0)
@@ -463,10 +450,7 @@ function-names (Ok x) r r₀ r₁ r₂ o₀ o₁ o₂ i₀ i₁ i₂ m₀ m₁ m
 pub parts-named : {A E : Type 0} (res : Result A E) (r r₀ r₁ : Resolve) (o₀ o₁ : Declarations) (i₀ i₁ : Option OpenInterface) (m₁ m₂ : TypeEncodingMaps) (n : ℕ)
     → encoder_scope r₁ o₁ i₁ ≡ encoder_scope r₀ o₀ i₀ → names_defined r (encoder_scope r₀ o₀ i₀) m₁ ≡ n
     → OnOk res (names_defined r (encoder_scope r o₁ i₁) m₂ ≡ names_defined r (encoder_scope r o₁ i₁) m₁) → OnOk res (names_defined r (encoder_scope r o₀ i₀) m₂ ≡ n)
-parts-named (Err e) r r₀ r₁ o₀ o₁ i₀ i₁ m₁ m₂ n s h stays = stays
-parts-named (Ok x) r r₀ r₁ o₀ o₁ i₀ i₁ m₁ m₂ n s h stays =
-    let own : own_of i₁ ≡ own_of i₀ = ap (λ (z : Scope). z.own_interface) s in
-    sym (names-alike r (encoder_scope r o₀ i₀) (encoder_scope r o₁ i₁) m₂ own) ∙ (stays ∙ (names-alike r (encoder_scope r o₀ i₀) (encoder_scope r o₁ i₁) m₁ own ∙ h))
+parts-named x r y u v w p q t a n s h stays = search std_rules
 
 pub names-after : (r : Resolve) (s s' : Scope) (a b c : TypeEncodingMaps) → s'.own_interface ≡ s.own_interface → names_defined r s b ≡ names_defined r s a
     → names_defined r s' c ≡ names_defined r s' b → names_defined r s c ≡ names_defined r s a

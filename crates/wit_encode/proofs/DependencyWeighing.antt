@@ -1,5 +1,5 @@
 -- An interface that has no room in a component type of its own weighs more than the largest number of 32 bits.
-use Rattle.std.proofs.Common.{◌≡◌, refl, sym, subst, ap, ℕ, zero, suc, ◌+◌, ◌<◌, ◌≤◌, ◌==◌, inl, inr, Bool, true, false, not, nat_lt, List, [], ◌∷◌, Option, Some, None, is_some, arith}
+use Rattle.std.proofs.Common.{rules as std_rules, ◌≡◌, refl, sym, subst, ap, ℕ, zero, suc, ◌+◌, ◌<◌, ◌≤◌, ◌==◌, inl, inr, Bool, true, false, not, nat_lt, List, [], ◌∷◌, Option, Some, is_some, arith}
 use Rattle.std.proofs.lemmas.{Bool.ltb-true, Bool.ltb-false, List.Filters.sum_by-filter_both, List.Kept.AllPairs-cons, List.Kept.AllPairs-filter}
 use Rattle.std.proofs.lemmas.List.Elements.{Contains-append_left, Contains-get_or, All-contains, filter_passes}
 use Rattle.std.proofs.lemmas.List.Sums.{sum_by-cons}
@@ -118,11 +118,7 @@ abbrev StandsIn : Resolve → List ℕ → ℕ → Type 0
 StandsIn r js n = (d : TypeDef) × (type_at r n ≡ Some d) × (j : ℕ) × Contains js j × Contains (type-numbers r j) n
 
 types-least : (r : Resolve) (j : ℕ) → sum_by (number_weight r (as_interface j)) (type-numbers r j) ≤ types_instance_weight r j
-types-least r j = go (interface_at r j)
-  where
-    go : (o : Option Interface) → sum_by (number_weight r (as_interface j)) (option_map_or (λ d. instance_numbers r d []) o []) ≤ option_map_or (λ i. instance_weight r j i []) o 0
-    go None = omega arith
-    go (Some d) = omega arith
+types-least r j = search std_rules
 
 numbers-weigh : (r : Resolve) (js ns : List ℕ) → AllPairs Differ ns → ((n : ℕ) → Contains ns n → StandsIn r js n) → each ns ≤ sum_by (types_instance_weight r) js
 numbers-weigh r [] [] apart h = omega arith

@@ -1,5 +1,5 @@
 -- Imports and exports of a component type, in order: what declarations add to them, and that no import stands behind an export.
-use Rattle.std.proofs.Common.{◌≡◌, refl, sym, subst, ap, ◌∙◌, append-nil, append_assoc, ℕ, zero, suc, ◌+◌, ◌⊎◌, inl, inr, List, [], ◌∷◌, ◌++◌, map, Option, Some, None, slice_get, length, length-append, arith}
+use Rattle.std.proofs.Common.{rules as std_rules, ◌≡◌, refl, sym, subst, ap, ◌∙◌, append-nil, append_assoc, ℕ, zero, suc, ◌+◌, ◌⊎◌, inl, inr, List, [], ◌∷◌, ◌++◌, map, Option, Some, None, slice_get, length, length-append, arith}
 use Rattle.std.proofs.lemmas.{List.map-append, Option.same_Some as some-same}
 use Rattle.std.specs.{Prelude.not, Prelude.◌==◌, List.list_any}
 use Rattle.wit_model.specs.Tree.{Place}
@@ -20,8 +20,7 @@ use Rattle.comp_bytes.specs.declared.forms.ComponentTypeRef.TheVariants as refs
 
 pub directions-more : (ds : Declarations) (d : Declaration) → directions_of (declared_after ds d) ≡ directions_of ds ++ direction_of d
 directions-more Declarations.no_more d = append-nil (direction_of d)
-directions-more (Declarations.declares e rest) d = ap (λ (xs : List Direction). direction_of e ++ xs) (directions-more rest d)
-    ∙ sym (append_assoc (direction_of e) (directions_of rest) (direction_of d))
+directions-more (Declarations.declares e rest) d = search (std_rules, append_assoc, directions-more rest d)
 directions-more (Declarations.component inner rest) d = directions-more rest d
 directions-more (Declarations.instance inner rest) d = directions-more rest d
 
@@ -40,16 +39,7 @@ pub order-next : (r : Resolve) (w : World) (direction : Direction) (done : Entri
     (described : ComponentTypeRef) → directions_of outer' ≡ directions_of (declared_after outer (declared_towards direction name described)) → directions_of outer ≡ imports_first done.0 done.1
     → directions_of outer' ≡ imports_first (with_entry direction done x).0 (with_entry direction done x).1
 order-next r w direction done x n outer outer' name described is before =
-    is ∙ directions-more outer (declared_towards direction name described) ∙ (λ j. before j ++ towards-direction direction name described j) ∙ by direction n
-  where
-    by : (direction : Direction) → IsNext r w direction done x → imports_first done.0 done.1 ++ direction ∷ [] ≡ imports_first (with_entry direction done x).0 (with_entry direction done x).1
-    by import_ n =
-        ap (λ (es : List Entry). imports_first done.0 es ++ import_ ∷ []) n.begun ∙ ap (λ (xs : List Direction). xs ++ import_ ∷ []) (append-nil (map (λ (e : Entry). import_) done.0))
-        ∙ sym (map-append (λ (e : Entry). import_) done.0 (x ∷ [])) ∙ sym (append-nil (map (λ (e : Entry). import_) (done.0 ++ x ∷ [])))
-        ∙ ap (λ (es : List Entry). imports_first (done.0 ++ x ∷ []) es) (sym n.begun)
-    by export_ n =
-        append_assoc (map (λ (e : Entry). import_) done.0) (map (λ (e : Entry). export_) done.1) (export_ ∷ [])
-        ∙ ap (λ (xs : List Direction). map (λ (e : Entry). import_) done.0 ++ xs) (sym (map-append (λ (e : Entry). export_) done.1 (x ∷ [])))
+    search (std_rules, directions-more, towards-direction, append-nil, map-append, append_assoc)
 
 -- ---- what an encoder of a world keeps
 
@@ -69,8 +59,7 @@ abbrev pub numbers_of : List Entry → List Entry → List ℕ
 numbers_of imports exports = map (λ e. zero) imports ++ map (λ e. suc zero) exports
 
 numbers-told : (imports exports : List Entry) → map direction_at (numbers_of imports exports) ≡ imports_first imports exports
-numbers-told imports exports = map-append direction_at (map (λ (e : Entry). zero) imports) (map (λ (e : Entry). suc zero) exports)
-    ∙ (λ j. map_of_map direction_at (λ (e : Entry). zero) imports j ++ map_of_map direction_at (λ (e : Entry). suc zero) exports j)
+numbers-told imports exports = search (std_rules, map-append, map_of_map)
 
 -- what stands there now is what begins it
 pub begins-here : (imports exports : List Entry) (outer : Declarations) → directions_of outer ≡ imports_first imports exports → BeginsWith (numbers_of imports exports) outer
@@ -111,10 +100,7 @@ sees export_ seen s = ((let y : length s.imports ≡ length s.imports + 0 = omeg
 
 sees-none : (s s' : Scope) → s.imports ≡ s'.imports → s.exports ≡ s'.exports → Sees s s' []
 unfolding imports_in exports_in
-sees-none s s' i e =
-    let a : length s.imports ≡ length s'.imports = ap length i in
-    let b : length s.exports ≡ length s'.exports = ap length e in
-    ((let y : length s'.imports ≡ length s.imports + 0 = omega (arith, a) in y), (let y : length s'.exports ≡ length s.exports + 0 = omega (arith, b) in y))
+sees-none s s' i e = search std_rules
 
 sees-left : (s s' : Scope) → s ≡ s' → Sees s s' []
 sees-left s s' e = sees-none s s' (ap (λ (z : Scope). z.imports) e) (ap (λ (z : Scope). z.exports) e)

@@ -1,5 +1,5 @@
 -- An interface meets types of its own, and types of interfaces that it uses: where these stand around, all of it can be encoded.
-use Rattle.std.proofs.Common.{◌≡◌, refl, sym, subst, ap, ◌∙◌, ℕ, suc, Bool, true, false, not, cond, ◌&&◌, ◌||◌, ◌==◌, List, [], ◌∷◌, map, length, option_to_list, Option, Some, None, String, is_some, arith}
+use Rattle.std.proofs.Common.{rules as std_rules, ◌≡◌, refl, sym, subst, ap, ◌∙◌, ℕ, suc, Bool, true, false, not, cond, ◌&&◌, ◌||◌, ◌==◌, List, [], ◌∷◌, map, length, option_to_list, Option, Some, String, is_some, arith}
 use Rattle.std.proofs.lemmas.{Bool.lt-ltb, Bool.and_from as both, Simd.map-map, Option.same_Some as some-same}
 use Rattle.std.specs.declared.alloc.Global.{Global}
 use Rattle.std.specs.{List.Contains, List.list_all, Option.option_map_or, Prelude.option_map, Prelude.option_and_then, Str.bytes_eq, HashMap.get_by_text}
@@ -8,7 +8,7 @@ use Rattle.indexmap.specs.IndexMap.{values}
 use Rattle.wit_model.specs.{Text.Text, Text.text_of, Valid.IsValid, Valid.numbers_in_range, Valid.order_of_types, Valid.is_place, Valid.functions_of_interface}
 use Rattle.wit_model.specs.{Lookup.type_at, Lookup.interface_at, Parts.same_owner}
 use Rattle.wit_model.specs.Meant.{type_meaning, type_meaning_at, interface_meaning, interface_meaning_at, no_interface, no_type}
-use Rattle.wit_model.specs.Uses.{alias_target, owner_interface, used_interface, interface_used_by, direct_deps, has}
+use Rattle.wit_model.specs.Uses.{owner_interface, used_interface, interface_used_by, direct_deps, has}
 use Rattle.wit_model.specs.Rules.{in_list, is_id, is_listed, is_listed_in_interface, is_named_of, is_use, passes, package_number, interface_type_numbers, function_in_range}
 use Rattle.wit_model.specs.declared.model.{Resolve.Resolve, TypeDef.TypeDef, TypeId.TypeId}
 use Rattle.wit_model.specs.declared.model.{Interface.Interface, InterfaceId.InterfaceId, Function.Function, TypeOwner.TypeOwner, «Type».«Type» as ValueType}
@@ -65,31 +65,7 @@ UsesOther r def i = (m : ℕ) × (used_interface r def ≡ Some m) × ((m == i.0
 
 -- a use is one
 used-other : (r : Resolve) (def : TypeDef) (i : InterfaceId) → def.owner ≡ owner.Interface i → is_use r def ≡ true → UsesOther r def i
-used-other r def i own h = at-target (alias_target def.kind) refl h
-  where
-    not-same : (b : Bool) → not b ≡ true → b ≡ false
-    not-same true h = sym h
-    not-same false h = refl
-
-    at-owner : (a : TypeOwner) → is-other r def.owner a ≡ true → (m : ℕ) × (owner_interface a ≡ Some m) × ((m == i.0) ≡ false)
-    at-owner (owner.Interface j) h =
-        let apart : same_owner (owner.Interface j) def.owner ≡ false = not-same _ (first_true (not (same_owner (owner.Interface j) def.owner)) _ h) in
-        (j.0, refl, ap (same_owner (owner.Interface j)) (sym own) ∙ apart)
-    at-owner (owner.World w) h = let wrong : false ≡ true = second_true (not (same_owner (owner.World w) def.owner)) _ h in let z : ⊥ = cc in absurd z
-    at-owner owner.None h = let wrong : false ≡ true = second_true (not (same_owner owner.None def.owner)) _ h in let z : ⊥ = cc in absurd z
-
-    at-type : (t : ℕ) → alias_target def.kind ≡ Some t → (o : Option TypeDef) → type_at r t ≡ o → option_map_or (λ target. is-other r def.owner target.owner) o false ≡ true → UsesOther r def i
-    at-type t e None q h = let wrong : ⊥ = cc in absurd wrong
-    at-type t e (Some target) q h =
-        let found = at-owner target.owner h in
-        let named : used_interface r def ≡ Some found.0 =
-        ap (λ o. option_and_then (λ t. option_and_then (λ target. owner_interface target.owner) (type_at r t)) o) e
-        ∙ ap (λ o. option_and_then (λ target. owner_interface target.owner) o) q ∙ found.1 in
-        (found.0, named, found.2)
-
-    at-target : (o : Option ℕ) → alias_target def.kind ≡ o → option_map_or (λ t. option_map_or (λ target. is-other r def.owner target.owner) (type_at r t) false) o false ≡ true → UsesOther r def i
-    at-target None e h = let wrong : ⊥ = cc in absurd wrong
-    at-target (Some t) e h = at-type t e (type_at r t) refl h
+used-other r def i own h = search std_rules
 
 -- ---- numbers in a list
 

@@ -1,5 +1,5 @@
 -- The types that are exported as those of an interface are encoded, one for each, in order.
-use Rattle.std.proofs.Common.{◌≡◌, refl, sym, subst, ap, ◌∙◌, ℕ, zero, suc, ◌+◌, ◌<◌, ◌≤◌, ◌⊎◌, inl, inr, Bool, true, false, ◌&&◌, cond, ◌==◌, nat_eq, List, [], ◌∷◌, ◌++◌, append-nil, take, length, get_or, map, filter_map, slice_get, Some, None, String, string_eq, string_bytes, nat_lt, option_map, option_and_then, option_to_list, arith}
+use Rattle.std.proofs.Common.{rules as std_rules, ◌≡◌, refl, sym, subst, ap, ◌∙◌, ℕ, zero, suc, ◌+◌, ◌<◌, ◌≤◌, ◌⊎◌, inl, inr, Bool, true, false, ◌&&◌, cond, ◌==◌, nat_eq, List, [], ◌∷◌, ◌++◌, append-nil, take, length, get_or, map, filter_map, slice_get, Some, None, String, string_eq, string_bytes, nat_lt, option_map, option_and_then, option_to_list, arith}
 use Rattle.std.proofs.lemmas.{Cmp.nat_list_eq_equiv, Cmp.nat_eq_equiv, Option.slice_get_within, Option.get_or_from_slice_get, Option.same_Some as same-some}
 use Rattle.std.proofs.lemmas.{List.Sorted.IsPermutation-sym, List.Sorted.Contains-permutation, List.take_more, List.take_all, List.take-map, List.length-map}
 use Rattle.std.proofs.Math.ListN.{get_or-map}
@@ -22,7 +22,7 @@ use Rattle.encode_types.specs.{Kinds.parts_of, Plan.foreign_owner, Plan.Meets, P
 use Rattle.encode_types.specs.Maps.{IsKnown, IsReady, IsOnce, MapsGrow, LearnsOnly, by_number}
 use Rattle.encode_types.specs.Counts.{Definitions, Shows, own_name, name_of_own}
 use Rattle.wit_encode.specs.{Instance.declarations_in, Exports.AreTypesOf, Exports.ShowsFirst, Exports.AllKnown, Exports.KnowsUsed, Exports.UsesListed}
-use Rattle.encode_types.proofs.{Lists.none-in, Pairs.pairs-across, Pairs.pairs-right, Tables.pairs-permuted}
+use Rattle.encode_types.proofs.{Pairs.pairs-across, Pairs.pairs-right, Tables.pairs-permuted}
 use Rattle.wit_encode.proofs.Numbers.{once-before, gives-none, gives-one, one-mapped}
 use Rattle.wit_encode.proofs.ListedTypes.{IsListedType, numbers, owned-listed, listed-type, type-there, number-there, listed-once, listed-key, uses-before}
 use Rattle.wit_encode.proofs.Meeting.{AllMeetKnown, part-uses, meets-unnamed}
@@ -144,11 +144,7 @@ module _ (r : Resolve) (v : IsValid r) (scope : Scope) (id : InterfaceId) (inter
   declarations-are = declares ∙ ap (λ o. (option_map_or (interface_meaning r) o no_interface).types) there
 
   pub starts : (m : TypeEncodingMaps) (d : Definitions) → m.id_to_index.entries ≡ [] → d.exports ≡ [] → ShowsFirst r scope (values interface.types) 0 m d
-  starts m d e f = record {
-    known = λ t c. none-in t c;
-    alone = λ t i c. none-in (t.0, i) (subst (λ (xs : List (ℕ × ℕ)). Contains xs (t.0, i)) e c);
-    exported = f;
-  }
+  starts m d e f = search std_rules
 
   pub ends : (k : ℕ) (m : TypeEncodingMaps) (d : Definitions) → length (values interface.types) ≤ k → ShowsFirst r scope (values interface.types) k m d
       → AllKnown m (values interface.types) × (d.exports ≡ scope.declarations)

@@ -1,15 +1,15 @@
 -- What the parts of an instance type take in sum is no more than its interface weighs.
-use Rattle.std.proofs.Common.{◌≡◌, refl, ap, ◌∙◌, ℕ, suc, ◌+◌, ◌≤◌, Bool, true, false, if◌then◌else◌, List, [], ◌∷◌, map, length, Option, Some, None, option_to_list, is_some, arith}
-use Rattle.std.proofs.lemmas.List.Sums.{sum_by-cons, sum_by-append}
+use Rattle.std.proofs.Common.{rules as std_rules, ◌≡◌, refl, ap, ◌∙◌, ℕ, suc, ◌+◌, ◌≤◌, Bool, true, false, if◌then◌else◌, List, [], ◌∷◌, map, length, Option, Some, None, is_some, arith}
+use Rattle.std.proofs.lemmas.List.Sums.{sum_by-cons}
 use Rattle.std.specs.{Prelude.sum_by, List.Contains, Option.option_map_or}
-use Rattle.wit_model.specs.{Text.Text, Text.text_of, Text.optional_text, Lookup.type_at, Valid.IsValid, Valid.functions_of_interface}
+use Rattle.wit_model.specs.{Text.Text, Text.text_of, Lookup.type_at, Valid.IsValid, Valid.functions_of_interface}
 use Rattle.wit_model.specs.Weight.{unit_of, name_texts, definition_weight, is_brought, number_weight, instance_numbers}
 use Rattle.wit_model.specs.declared.model.{Resolve.Resolve, InterfaceId.InterfaceId, Function.Function, TypeDef.TypeDef, TypeId.TypeId, TypeOwner.TypeOwner}
 use Rattle.indexmap.specs.IndexMap.{values}
 use Rattle.encode_types.specs.{Kinds.kind_tree, MetKinds.ReachedFrom, MetKinds.referred, Plan.foreign_owner, Table.interface_of_owner}
 use Rattle.wit_encode.specs.Order.{functions_in_order}
 use Rattle.wit_encode.specs.Extents.{own_name_extent, import_extent, number_extent, function_extent, tree_extent, InstancesAreLight, DependenciesAreLight}
-use Rattle.wit_encode.proofs.Extents.{functions-light, types-light, given-texts}
+use Rattle.wit_encode.proofs.Extents.{functions-light, types-light}
 use Rattle.wit_encode.proofs.{Reached.IsOwner, Weighing.counted, Weighing.own-weight, Weighing.sum-among, Weighing.keyed-weight}
 use Rattle.wit_model.specs.declared.model.TypeOwner.TheVariants as owner
 use Rattle.wit_encode.proofs.Weighing as weighing
@@ -37,12 +37,10 @@ module _ (r : Resolve) (v : IsValid r) (o : TypeOwner) (n : ℕ) (d : TypeDef) (
   extent-is = ap (λ t. option_map_or (λ def. if is_some (foreign_owner (interface_of_owner o) def.owner) then import_extent def else tree_extent (kind_tree r def.kind) + own_name_extent r def) t 0) at
 
   import-light : (b : Bool) → import_extent d ≤ (if b then unit_of (name_texts d) else definition_weight d)
-  import-light true = let name = given-texts (optional_text d.name) in omega arith
-  import-light false = let name = given-texts (optional_text d.name) in let parts = sum_by-append length (name_texts d) (option_to_list (optional_text d.external_id)) in omega arith
+  import-light x = search std_rules
 
   no-owner : (f : Option InterfaceId) → is_some f ≡ false → f ≡ None
-  no-owner None e = refl
-  no-owner (Some j) e = absurd (let z : ⊥ = cc in z)
+  no-owner x e = search std_rules
 
   by-owner : (b : Bool) → is_some (foreign_owner (interface_of_owner o) d.owner) ≡ b → number_extent r (interface_of_owner o) n ≤ number_weight r o n
   by-owner true e =

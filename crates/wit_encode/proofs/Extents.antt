@@ -1,5 +1,5 @@
 -- How many bytes are written at most of a definition, of the type of a function and of a name, and that types and functions weigh no less.
-use Rattle.std.proofs.Common.{◌≡◌, refl, sym, subst, ap, ◌∙◌, ◌||◌, ℕ, ◌+◌, ◌*◌, ◌≤◌, Bool, true, not, arith, List, [], ◌∷◌, ◌++◌, map, length, length-append, flat_map, Option, Some, None, option_map, option_to_list, is_some, String}
+use Rattle.std.proofs.Common.{rules as std_rules, ◌≡◌, refl, sym, subst, ap, ◌∙◌, ◌||◌, ℕ, ◌+◌, ◌*◌, ◌≤◌, Bool, true, not, arith, List, [], ◌∷◌, ◌++◌, map, length, length-append, flat_map, Option, Some, None, option_map, option_to_list, is_some, String}
 use Rattle.std.proofs.{lemmas.List.Sums.sum_by-cons, lemmas.List.Sums.sum_by-append, Math.ListN.length-map}
 use Rattle.std.specs.{Prelude.sum_by, List.AllZip, List.Contains, Option.option_map_or, Borrow.Bor}
 use Rattle.std.specs.declared.alloc.Global.{Global}
@@ -170,8 +170,7 @@ attributed-short (a ∷ xs) text =
     omega arith
 
 one-attribute : (tag : ℕ) (text : Option (List ℕ)) → sum_by attribute-extent (attribute tag text) ≤ 6 + given_length text
-one-attribute tag None = omega arith
-one-attribute tag (Some text) = let one = sum_by-cons attribute-extent (tag, text) [] in omega arith
+one-attribute tag x = search std_rules
 
 extern-short : (name : ExternName) → length (extern_name_bytes name) ≤ 29 + (length name.text + (given_length name.implements + (given_length name.version_suffix + given_length name.external_id)))
 extern-short name =
@@ -263,8 +262,7 @@ module _ (r : Resolve) (v : IsValid r) where
   kind-light n def at = light (trees_of r) def.kind (alias-short n def at)
 
 pub given-texts : (t : Option Text) → sum_by length (option_to_list t) ≡ given_length t
-given-texts None = refl
-given-texts (Some t) = let one = sum_by-cons length t [] in omega arith
+given-texts x = search std_rules
 
 pub types-light : TypesAreLight
 types-light r n def v at = by-name def.name refl

@@ -1,7 +1,7 @@
 -- The trees of valid kinds are well formed, where the names stand for resources as their types do.
-use Rattle.std.proofs.Common.{◌≡◌, refl, ap, ◌∙◌, suc, true, not, nat_le, List, [], ◌∷◌, ◌++◌, map, filter_map, Option, Some, None, option_map, option_to_list, arith}
+use Rattle.std.proofs.Common.{rules as std_rules, ◌≡◌, refl, ap, ◌∙◌, suc, true, not, nat_le, List, [], ◌∷◌, ◌++◌, map, filter_map, Option, Some, None, option_map, option_to_list, arith}
 use Rattle.std.proofs.lemmas.Bool.{and_from as both}
-use Rattle.std.specs.List.{Contains, list_all, cons_option}
+use Rattle.std.specs.List.{Contains, list_all}
 use Rattle.wit_model.specs.{Text.Text, Text.text_of, Parts.member_types, Parts.handled, Parts.is_resource, Parts.is_resource_type, Parts.is_resource_kind}
 use Rattle.wit_model.specs.{Tree.Tree, Tree.child_list, Tree.children, Tree.given, Tree.is_given, Types.type_tree, Types.declared_by, Types.trees_of}
 use Rattle.wit_model.specs.Rules.{has_shape, has_items, is_map_key, passes}
@@ -18,8 +18,7 @@ use Rattle.wit_model.specs.declared.model.«Type».TheVariants as ty
 -- ---- children
 
 filled-twice : {A B C : Type 0} (g : B → C) (f : A → B) (xs : List A) → has_items xs ≡ true → is_filled (map g (map f xs)) ≡ true
-filled-twice g f [] e = e
-filled-twice g f (x ∷ xs) e = refl
+filled-twice g f x e = search std_rules
 
 field-children : (r : Resolve) (xs : List Field) → child_list (children (map (λ f. f.1) (map {B = Text × Tree} (λ f. (text_of f.name, type_tree r f.ty)) xs))) ≡ map (type_tree r) (map (λ f. f.ty) xs)
 field-children r [] = refl
@@ -28,14 +27,7 @@ field-children r (x ∷ xs) = ap (λ us. type_tree r x.ty ∷ us) (field-childre
 case-children : (r : Resolve) (xs : List Case)
     → child_list (given (map (λ c. c.1) (map {B = Text × Option Tree} (λ c. (text_of c.name, option_map (type_tree r) c.ty)) xs))) ≡ map (type_tree r) (filter_map (λ c. c.ty) xs)
 case-children r [] = refl
-case-children r (x ∷ xs) = go x.ty (case-children r xs)
-  where
-    go : (o : Option ValueType)
-        → child_list (given (map (λ c. c.1) (map {B = Text × Option Tree} (λ c. (text_of c.name, option_map (type_tree r) c.ty)) xs))) ≡ map (type_tree r) (filter_map (λ c. c.ty) xs)
-        → child_list (given (option_map (type_tree r) o ∷ map (λ c. c.1) (map {B = Text × Option Tree} (λ c. (text_of c.name, option_map (type_tree r) c.ty)) xs))) ≡ map (type_tree r)
-        (cons_option o (filter_map (λ c. c.ty) xs))
-    go None e = e
-    go (Some t) e = ap (λ us. type_tree r t ∷ us) e
+case-children r (x ∷ xs) = search (std_rules, case-children r xs)
 
 -- names stand for resources exactly where these types are resources
 abbrev pub Agree : Resolve → Names → List ValueType → Type 0
@@ -50,24 +42,18 @@ module _ (r : Resolve) (resources : Names) where
 
   pub values-of : (ts : List ValueType) → list_all (λ t. not (is_resource_type r t)) ts ≡ true → Agree r resources ts → are_values resources (map (type_tree r) ts) ≡ true
   values-of [] h a = refl
-  values-of (t ∷ ts) h a = both _ _
-      (ap not (agree-first t ts a) ∙ first_true (not (is_resource_type r t)) (list_all (λ t. not (is_resource_type r t)) ts) h)
-      (values-of ts (second_true (not (is_resource_type r t)) (list_all (λ t. not (is_resource_type r t)) ts) h) (agree-rest t ts a))
+  values-of (t ∷ ts) h a =
+      search (std_rules, both, agree-first, first_true, second_true, agree-rest, values-of ts (second_true (not (is_resource_type r t)) (list_all (λ t. not (is_resource_type r t)) ts) h) (agree-rest t ts a))
 
   pub optional-values : (o : Option ValueType) → list_all (λ t. not (is_resource_type r t)) (option_to_list o) ≡ true → Agree r resources (option_to_list o)
       → are_values resources (option_to_list (option_map (type_tree r) o)) ≡ true
-  optional-values None h a = refl
-  optional-values (Some t) h a = values-of (t ∷ []) h a
+  optional-values x h a = search std_rules
 
   by-children : (ts us : List Tree) → us ≡ ts → are_values resources ts ≡ true → are_values resources us ≡ true
   by-children ts us e h = ap (are_values resources) e ∙ h
 
   key-tree : (t : ValueType) → is_map_key t ≡ true → is_key (type_tree r t) ≡ true
-  key-tree (ty.Id id) h = absurd (let z : ⊥ = cc in z)
-  key-tree ty.F32 h = h
-  key-tree ty.F64 h = h
-  key-tree ty.ErrorContext h = h
-  key-tree _ h = refl
+  key-tree x h = search std_rules
 
   -- ---- kinds
   abbrev Values : List ValueType → Type 0
@@ -83,9 +69,7 @@ module _ (r : Resolve) (resources : Names) where
       (by-children (map (type_tree r) (filter_map (λ c. c.ty) q.cases.items)) _ (case-children r q.cases.items) (values-of _ v a))
   kind-formed (kind.Flags q) d s v h a = filled-map _ q.flags.items ∙ s
   kind-formed (kind.Enum q) d s v h a = filled-map _ q.cases.items ∙ s
-  kind-formed (kind.Tuple q) d s v h a = both _ _
-      (ap is_filled (children-list (map (type_tree r) q.types.items)) ∙ filled-map (type_tree r) q.types.items ∙ s)
-      (by-children (map (type_tree r) q.types.items) _ (children-list _) (values-of _ v a))
+  kind-formed (kind.Tuple q) d s v h a = search (std_rules, both, children-list, filled-map, by-children, values-of)
   kind-formed (kind.Option t) d s v h a = values-of (t ∷ []) v a
   kind-formed (kind.List t) d s v h a = values-of (t ∷ []) v a
   kind-formed (kind.FixedLengthList t n) d s v h a = both _ _ (first_true (nat_le 1 n) _ s) (values-of (t ∷ []) v a)
@@ -98,16 +82,8 @@ module _ (r : Resolve) (resources : Names) where
       result-values None (Some y) v a = values-of (y ∷ []) v a
       result-values (Some x) None v a = values-of (x ∷ []) v a
       result-values (Some x) (Some y) v a = values-of (x ∷ y ∷ []) v a
-  kind-formed (kind.Future o) d s v h a = one-given o v a
-    where
-      one-given : (o : Option ValueType) → Values (option_to_list o) → Agree r resources (option_to_list o) → are_values resources (child_list (given (option_map (type_tree r) o ∷ []))) ≡ true
-      one-given None v a = refl
-      one-given (Some t) v a = values-of (t ∷ []) v a
-  kind-formed (kind.Stream o) d s v h a = one-given o v a
-    where
-      one-given : (o : Option ValueType) → Values (option_to_list o) → Agree r resources (option_to_list o) → are_values resources (child_list (given (option_map (type_tree r) o ∷ []))) ≡ true
-      one-given None v a = refl
-      one-given (Some t) v a = values-of (t ∷ []) v a
+  kind-formed (kind.Future o) d s v h a = search std_rules
+  kind-formed (kind.Stream o) d s v h a = search std_rules
   kind-formed (kind.Handle (handle.Own id)) d s v h a = both _ _ (agree-first (ty.Id id) [] a ∙ h) refl
   kind-formed (kind.Handle (handle.Borrow id)) d s v h a = both _ _ (agree-first (ty.Id id) [] a ∙ h) refl
   kind-formed kind.Resource d s v h a = absurd (let z : ⊥ = cc in z)
@@ -116,6 +92,4 @@ module _ (r : Resolve) (resources : Names) where
 
   -- a name stands for a resource exactly where its type is one
   pub kind-alike : (k : TypeDefKind) → Agree r resources (parts_of k) → is_resource_declaration resources (declared_by (trees_of r) k) ≡ is_resource_kind (is_resource r) k
-  kind-alike (kind.Type_ t) a = agree-first t [] a
-  kind-alike (kind.Handle (handle.Own id)) a = refl
-  kind-alike _ a = refl
+  kind-alike x a = search std_rules

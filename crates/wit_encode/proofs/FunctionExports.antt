@@ -1,5 +1,5 @@
 -- Functions export no type, where each named type that they use is known.
-use Rattle.std.proofs.Common.{◌≡◌, sym, subst, ap, ◌∙◌, ℕ, map, List, String, Option, Result, Ok, Err, OnOk}
+use Rattle.std.proofs.Common.{rules as std_rules, ◌≡◌, sym, subst, ap, ◌∙◌, ℕ, map, List, String, Option, Result, Ok, Err, OnOk}
 use Rattle.std.specs.List.{Contains}
 use Rattle.std.specs.declared.alloc.Global.{Global}
 use Rattle.wit_model.specs.{Text.Text, Meaning.TypeMeaning, Meaning.FunctionMeaning, Parts.function_types, Valid.IsValid}
@@ -42,8 +42,7 @@ listed-used r m types f known uses n c =
 pub exported-after : {A E : Type 0} (res : Result A E) (r r₀ r₁ : Resolve) (o₀ o₁ o₂ : Declarations) (i₀ i₁ i₂ : Option OpenInterface) (all : List (Text × TypeMeaning))
     → r₀ ≡ r → encoder_scope r₁ o₁ i₁ ≡ encoder_scope r₀ o₀ i₀ → exports_in r₁ o₁ i₁ ≡ all
     → OnOk res (exports_in r o₂ i₂ ≡ exports_in r o₁ i₁) → OnOk res (exports_in r o₂ i₂ ≡ all)
-exported-after (Err x) r r₀ r₁ o₀ o₁ o₂ i₀ i₁ i₂ all e s h ok = ok
-exported-after (Ok a) r r₀ r₁ o₀ o₁ o₂ i₀ i₁ i₂ all e s h ok = ok ∙ (ap (λ (z : Resolve). exports_in z o₁ i₁) (sym (ap (λ (z : Scope). z.packages) s ∙ e)) ∙ h)
+exported-after x r y u v w p q t a all e s h ok = search std_rules
 
 -- a function by its key is one of the map
 pub keyed-value : (es : List (String Global × Function)) (f : Text × Function) → Contains (map keyed es) f → Contains (map (λ x. x.1) es) f.1

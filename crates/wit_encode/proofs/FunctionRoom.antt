@@ -1,5 +1,5 @@
 -- Which functions of an interface have no room, call after call.
-use Rattle.std.proofs.Common.{◌≡◌, refl, sym, subst, ap, ◌∙◌, ℕ, ◌+◌, ◌≤◌, ◌⊎◌, inl, inr, Bool, true, false, cond, ◌||◌, List, [], ◌∷◌, ◌++◌, map, length, length-append, Option, arith}
+use Rattle.std.proofs.Common.{rules as std_rules, ◌≡◌, refl, sym, subst, ap, ◌∙◌, ℕ, ◌+◌, ◌≤◌, ◌⊎◌, inl, inr, Bool, true, false, cond, ◌||◌, List, [], ◌∷◌, ◌++◌, map, length, length-append, Option, arith}
 use Rattle.std.proofs.lemmas.{List.length-map, List.Elements.Contains-append_cases, List.Elements.Contains-append_left, List.Elements.Contains-append_right}
 use Rattle.std.proofs.lemmas.Map.{Keys.IsDistinct-push, Made.length-le_from_is_member}
 use Rattle.std.specs.{Cmp.IsEquivalence, List.Contains, List.IsDistinct, List.list_any, Set.is_member, Set.unique_keys, Set.distinct_count}
@@ -54,11 +54,7 @@ module _ (r : Resolve) (own : Option InterfaceId) (N : Refusals) (t : Text) (f :
   its-type = function_type (signature_of r f)
 
   absent : (m : TypeEncodingMaps) (once : IsOnce m) → (KnowsKey m (key_of f) → ⊥) → list_any (are_same (key_of f)) (keyed m once).keys ≡ false
-  absent m once new = by (list_any (are_same (key_of f)) (keyed m once).keys) refl
-    where
-      by : (b : Bool) → list_any (are_same (key_of f)) (keyed m once).keys ≡ b → list_any (are_same (key_of f)) (keyed m once).keys ≡ false
-      by false e = e
-      by true e = absurd (new ((keyed m once).known (key_of f) e))
+  absent m once new = search std_rules
 
   -- its type has none, or a part of it, where its key is new
   pub lacks-type : (m : TypeEncodingMaps) (h h' : ℕ) → IsOnce m → (KnowsKey m (key_of f) → ⊥) → FindsNoRoom r own (function_types f) (its-type ∷ []) 1 m h h' N

@@ -1,15 +1,14 @@
 -- The keys of functions whose lists maps hold.
-use Rattle.std.proofs.Common.{◌≡◌, refl, sym, subst, ap, ◌∙◌, ℕ, zero, suc, ◌<◌, Bool, true, false, ◌&&◌, List, [], ◌∷◌, ◌++◌, map, length, get_or, arith}
+use Rattle.std.proofs.Common.{rules as std_rules, ◌≡◌, refl, sym, subst, ap, ◌∙◌, ℕ, zero, suc, ◌<◌, Bool, true, false, List, [], ◌∷◌, ◌++◌, map, length, get_or, arith}
 use Rattle.std.proofs.lemmas.{List.Sorted.length_permutation, Cmp.on_equiv, Cmp.and_equiv, Cmp.lists_equiv, Map.Keys.IsDistinct-from_apart}
 use Rattle.std.specs.{Prelude.AllPairs, Prelude.IsPermutation, Set.is_member, Cmp.IsEquivalence, Cmp.bool_eq_equiv}
-use Rattle.std.specs.{Borrow.Bor, List.Contains, List.IsDistinct, List.AllZip, Option.option_eq, Cmp.Lexicographic.pointwise, Cmp.Lexicographic.options_equiv}
-use mathlib.Core.Bool.{beq}
+use Rattle.std.specs.{List.Contains, List.IsDistinct, List.AllZip, Cmp.Lexicographic.pointwise, Cmp.Lexicographic.options_equiv}
 use Rattle.wit_model.specs.Text.{Text, text_of, text_eq}
 use Rattle.wit_model.specs.declared.model.{Param.Param, Resolve.Resolve}
 use Rattle.encode_types.specs.declared.{key.FunctionKey.FunctionKey, maps.TypeEncodingMaps.TypeEncodingMaps}
 use Rattle.encode_types.specs.{Key.same_type, Key.same_param, Maps.IsSomeKeyList, Maps.IsOnce, Maps.NamesGrow, Maps.MapsAgree, Maps.by_key, Counts.key_slots}
 use Rattle.encode_types.specs.{KeyLaws.type_equiv, KeyLaws.param_equiv, KeyLaws.text_same, Slots.Pairs, Slots.function}
-use Rattle.encode_types.specs.Codes.{type_code, optional_code, Names, IsTable, AreListed, IsListed, names_of, lists_of, ListKey}
+use Rattle.encode_types.specs.Codes.{type_code, Names, IsTable, AreListed, IsListed, names_of, lists_of, ListKey}
 use Rattle.encode_types.specs.Distinct.{Key, key_view, are_same, KnowsKey, signature_of_key, function_slots, StandForKeys}
 use Rattle.comp_bytes.specs.Raw.{Declarations}
 use Rattle.encode_types.proofs.{Lists.none-in, EqualLists.keys-of-lists, EqualLists.lists-of-keys, EqualLists.key-shrink, EqualLists.async-same as async-alike}
@@ -57,12 +56,7 @@ params-alike names (p ∷ ps) (q ∷ qs) (x ∷ y ∷ xs) e h =
     ((subst (λ w. Contains names (w, x)) name h.0, h.1 ∙ ap type_code value, more.0), ap suc more.1)
 
 pub same-list : (names : Names) (a b : Key) (xs : List ℕ) → are_same a b ≡ true → HasList names a xs → HasList names b xs
-same-list names a b xs e l =
-    let rest = second_true (beq a.is_async b.is_async) (pointwise same_param a.params b.params && option_eq same_type a.result_type b.result_type) e in
-    let async = async-alike a.is_async b.is_async (first_true (beq a.is_async b.is_async) (pointwise same_param a.params b.params && option_eq same_type a.result_type b.result_type) e) in
-    let params = params-alike names a.params b.params l.middle (first_true (pointwise same_param a.params b.params) (option_eq same_type a.result_type b.result_type) rest) l.listed in
-    let result = optional_same a.result_type b.result_type (second_true (pointwise same_param a.params b.params) (option_eq same_type a.result_type b.result_type) rest) in
-    record { middle = l.middle; listed = params.0; is = l.is ∙ (λ i. async i ∷ params.1 i ∷ (l.middle ++ optional_code (result i))) }
+same-list names a b xs e l = search (std_rules, second_true, async-alike, first_true, params-alike, optional_same)
 
 -- ---- what maps hold
 
@@ -72,12 +66,7 @@ knows-same m a b e (xs, i, l, c) = (xs, i, same-list (names_of m.names) a b xs e
 
 -- maps with the same entries
 pub knows-along : (m m' : TypeEncodingMaps) → m'.func_type_map.entries ≡ m.func_type_map.entries → m'.names.entries ≡ m.names.entries → (k : Key) → KnowsKey m k → KnowsKey m' k
-knows-along m m' e n k (xs, i, l, c) = (
-  xs,
-  i,
-  subst (λ (ns : List (Bor Text × ℕ)). HasList (map {B = Text × ℕ} (λ e. (e.0.now, e.1)) ns) k xs) (sym n) l,
-  subst (λ (es : List (ListKey × ℕ)). Contains (map {B = List ℕ × ℕ} (λ e. (e.0.0.items, e.1)) es) (xs, i)) (sym e) c,
-)
+knows-along m m' e n k (xs, i, l, c) = search std_rules
 
 -- where there is no entry, no key is known
 pub knows-none : (m : TypeEncodingMaps) (k : Key) → m.func_type_map.entries ≡ [] → KnowsKey m k → ⊥

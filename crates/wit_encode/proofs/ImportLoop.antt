@@ -1,5 +1,5 @@
 -- Interfaces imported one after the other, in the order in which they are reached.
-use Rattle.std.proofs.Common.{◌≡◌, refl, sym, subst, ap, ◌∙◌, ℕ, zero, suc, ◌+◌, ◌<◌, ◌≤◌, ◌==◌, nat_lt, Bool, true, false, not, map, get_or, option_map, List, [], ◌∷◌, ◌++◌, length, take, append_assoc, Option, Some, None, slice_get, is_some, option_and_then, arith}
+use Rattle.std.proofs.Common.{rules as std_rules, ◌≡◌, refl, sym, subst, ap, ◌∙◌, ℕ, zero, suc, ◌+◌, ◌<◌, ◌≤◌, ◌==◌, nat_lt, Bool, true, false, not, map, get_or, option_map, List, [], ◌∷◌, ◌++◌, length, take, append_assoc, Option, Some, None, slice_get, is_some, option_and_then, arith}
 use Rattle.std.proofs.{lemmas.List.Elements.Contains-append_left, Math.ListN.length-map, lemmas.List.take_all, lemmas.Map.Steps.length-le_from_distinct_below}
 use Rattle.std.proofs.lemmas.{Option.slice_get_within, Option.slice_get-map, Option.slice_get-get_or, Option.same_Some as same-some, Bool.ltb-false}
 use Rattle.std.specs.List.{AllByRecursion, Contains, IsDistinct, list_any}
@@ -146,13 +146,11 @@ few-importable r v ns h =
 -- ---- the same interfaces, as a slice and in their packages
 
 pub moved : (r r' : Resolve) (xs ys : List InterfaceId) (a : Around) → r' ≡ r → ys ≡ xs → HasImported r' a (map (λ (id : InterfaceId). id.0) ys) → HasImported r a (map (λ (id : InterfaceId). id.0) xs)
-moved r r' xs ys a e l h = subst (λ (q : Resolve). HasImported q a (map (λ (id : InterfaceId). id.0) xs)) e
-    (subst (λ (zs : List InterfaceId). HasImported r' a (map (λ (id : InterfaceId). id.0) zs)) l h)
+moved r r' xs ys a e l h = search std_rules
 
 pub moved-held : (r r' : Resolve) (xs ys : List InterfaceId) (a : Around) → r' ≡ r → ys ≡ xs → HoldsImports r' a (map (λ (id : InterfaceId). id.0) ys)
     → HoldsImports r a (map (λ (id : InterfaceId). id.0) xs)
-moved-held r r' xs ys a e l h = subst (λ (q : Resolve). HoldsImports q a (map (λ (id : InterfaceId). id.0) xs)) e
-    (subst (λ (zs : List InterfaceId). HoldsImports r' a (map (λ (id : InterfaceId). id.0) zs)) l h)
+moved-held r r' xs ys a e l h = search std_rules
 
 abbrev pub item : List InterfaceId → ℕ → InterfaceId
 item xs k = get_or xs k (record { 0 = 0 })

@@ -1,5 +1,5 @@
 -- What a component type has imported, after aliases, and after one instance type more and the import or export that uses it.
-use Rattle.std.proofs.Common.{◌≡◌, ◌⊎◌, inl, inr, refl, sym, subst, ap, ◌∙◌, ℕ, zero, suc, ◌+◌, ◌<◌, ◌==◌, nat_lt, nat_cmp, Ordering, Bool, true, false, cond, List, [], ◌∷◌, ◌++◌, length, length-append, Some, None, slice_get, arith}
+use Rattle.std.proofs.Common.{rules as std_rules, ◌≡◌, ◌⊎◌, inl, inr, refl, sym, subst, ap, ◌∙◌, ℕ, zero, suc, ◌+◌, ◌<◌, ◌==◌, nat_lt, nat_cmp, Ordering, Bool, true, false, cond, List, [], ◌∷◌, ◌++◌, length, length-append, Some, None, slice_get, arith}
 use Rattle.std.proofs.{Math.Seq.take-append_seam, lemmas.List.map-append, lemmas.List.Elements.Contains-append_left, lemmas.List.Elements.Contains-append_right}
 use Rattle.std.proofs.lemmas.{Bool.cond-true, Bool.cond-false, Bool.lt-ltb, Bool.and_from as both, List.Folds.list_all-append, Option.same_Some as same-some}
 use Rattle.std.specs.List.{Contains, list_all}
@@ -43,8 +43,7 @@ nothing_is_imported r = record {
 -- ---- aliases
 
 no-instance : (x : Slot) → is_foreign_name x ≡ true → instance_types (x ∷ []) ≡ 0
-no-instance (Slot.instance ds n) h = let wrong : ⊥ = cc in absurd wrong
-no-instance _ h = refl
+no-instance x h = search std_rules
 
 alias-leaves : (r : Resolve) (a : Around) (al : Aliased) (ns : List ℕ) → HasImported r a ns → IsAlias r a al → HasImported r (with_alias a al) ns
 alias-leaves r a al ns h is =

@@ -1,16 +1,16 @@
 -- A type of another interface whose instance stands around is reached by an alias there.
-use Rattle.std.proofs.Common.{◌≡◌, refl, sym, subst, ap, ◌∙◌, ℕ, zero, suc, ◌+◌, nat_cmp, Ordering, Bool, true, false, not, ◌&&◌, ◌||◌, if◌then◌else◌, List, [], ◌∷◌, length, Option, Some, None, String, slice_get, is_some, ◌++◌, Result, Ok, Err, IfOk, OnErr, OnOk, arith}
+use Rattle.std.proofs.Common.{rules as std_rules, ◌≡◌, refl, sym, subst, ap, ◌∙◌, ℕ, zero, suc, ◌+◌, nat_cmp, Ordering, Bool, true, false, not, ◌&&◌, ◌||◌, if◌then◌else◌, List, [], ◌∷◌, length, Option, Some, None, String, slice_get, is_some, ◌++◌, Result, Ok, Err, IfOk, OnErr, OnOk, arith}
 use Rattle.std.proofs.lemmas.{Bool.cond-true, Bool.cond-false, Bool.and_from as both, List.Elements.All-contains, List.Elements.filter_passes}
 use Rattle.std.specs.{List.Contains, List.list_all, List.list_any, List.filter, Option.option_map_or, BTreeMap.BTreeMap, BTreeMap.insert_entry, BTreeMap.is_at}
 use Rattle.std.specs.{Ordering.is_eq, Ordering.match_ordering, Map.remove_entry}
 use Rattle.std.specs.declared.{alloc.Global.Global, cmp.Ordering.TheVariants.Less, cmp.Ordering.TheVariants.Equal, cmp.Ordering.TheVariants.Greater}
-use Rattle.wit_model.specs.{Text.Text, Text.text_eq, Text.text_of, Lookup.interface_path, Lookup.place_of, Lookup.place_of_path, Lookup.type_at, Rules.text_is}
-use Rattle.wit_model.specs.Tree.{Tree, Place, here, of_interface, named, primitive, node}
-use Rattle.wit_model.specs.{Types.number_tree, Parts.is_resource, Parts.same_owner, Parts.numbered_from}
+use Rattle.wit_model.specs.{Text.Text, Text.text_eq, Text.text_of, Lookup.interface_path, Lookup.place_of, Lookup.type_at, Rules.text_is}
+use Rattle.wit_model.specs.Tree.{Tree, Place, here, of_interface, named}
+use Rattle.wit_model.specs.{Types.number_tree, Parts.is_resource, Parts.numbered_from}
 use Rattle.wit_model.specs.declared.model.{Resolve.Resolve, InterfaceId.InterfaceId, TypeId.TypeId, TypeDef.TypeDef, TypeOwner.TypeOwner}
 use Rattle.comp_bytes.specs.{Held.type_slots, Held.type_slots_of, Raw.Alias, Raw.Declaration, Raw.Declarations, Raw.append}
 use Rattle.comp_meaning.specs.{Same.same_place, Follow.Slot, Follow.Instance, Follow.find_type, Follow.is_foreign_name}
-use Rattle.encode_types.specs.{KeyLaws.text_same, Slots.tree, Slots.Keeps, Slots.SlotAdded, Resources.is_named_interface, Resources.named_resources}
+use Rattle.encode_types.specs.{KeyLaws.text_same, Slots.tree, Slots.Keeps, Resources.is_named_interface, Resources.named_resources}
 use Rattle.encode_types.specs.Known.{Around, Aliased, alias_declared, with_alias, with_aliases, IsAlias, AreAliases, IsSource, ReachesAround, as_before, aliased, known_slot, known_instance, is_name_slot, is_slot_for, is_named_of, is_instance_of, shows_type, is_standing, stands_around, are_right, below}
 use Rattle.encode_types.specs.Scope.{Scope, IsImportable}
 use Rattle.wit_encode.specs.declared.interface.{OpenInterface.OpenInterface, Foreign.Foreign}
@@ -19,8 +19,6 @@ use Rattle.encode_types.proofs.Tables.{at-some, number-found}
 use Rattle.wit_encode.proofs.{Contents.slots-kept, Calls.Calls, Calls.alias-inside, Wider.Widened, Wider.widened, Wider.contents-wider, LatestInstances.own-key}
 use Rattle.wit_encode.proofs.Within.{CallsTo}
 use Rattle.base_lemmas.proofs.{Bools.left_of as first_true, Bools.right_of as second_true, Elements.all-contained, Lists.front_more as get-left}
-use Rattle.base_lemmas.proofs.Numbers.{same-number}
-use Rattle.wit_model.specs.declared.model.TypeOwner.TheVariants as owner
 
 -- ---- lists
 
@@ -50,41 +48,19 @@ same-names p q x y h = λ i. named (sym (same-places p q (first_true (same_place
 
 -- what stands in the slot of a name
 pub named-slot : (t : Tree) (slot : Slot) → is_name_slot t slot ≡ true → standing_at (Some slot) ≡ Some (tree t)
-named-slot (named p x) (Slot.value (named q y)) h = ap (λ z. Some (tree z)) (same-names p q x y h)
-named-slot (named p x) (Slot.resource q y) h = ap (λ z. Some (tree z)) (same-names p q x y h)
-named-slot (named p x) (Slot.value (primitive z)) h = let wrong : ⊥ = cc in absurd wrong
-named-slot (named p x) (Slot.value (node f ts)) h = let wrong : ⊥ = cc in absurd wrong
-named-slot (named p x) (Slot.function s) h = let wrong : ⊥ = cc in absurd wrong
-named-slot (named p x) (Slot.instance ds n) h = let wrong : ⊥ = cc in absurd wrong
-named-slot (primitive z) slot h = let wrong : ⊥ = cc in absurd wrong
-named-slot (node f ts) slot h = let wrong : ⊥ = cc in absurd wrong
+named-slot u slot h = search std_rules
 
 -- ---- the names of resources of named interfaces are the same in each scope
 
 pub cut-short : (a b : Bool) → (a && (false && b)) ≡ false
-cut-short true b = refl
-cut-short false b = refl
-
-path-alike : (p : Text) (own : Bool) (path : Option Text) (a b : Bool)
-    → (((own || is_some path) && a) && (same_place (of_interface p) (place_of_path path) && b)) ≡ ((is_some path && a) && (same_place (of_interface p) (place_of_path path) && b))
-path-alike p true (Some q) a b = refl
-path-alike p false path a b = refl
-path-alike p true None a b = cut-short a b
+cut-short x b = search std_rules
 
 owner-alike : (r : Resolve) (i : InterfaceId) (p : Text) (o : TypeOwner) (a b : Bool)
     → ((is_owner_in r (Some i) o && a) && (same_place (of_interface p) (place_of r o) && b)) ≡ ((is_named_interface r o && a) && (same_place (of_interface p) (place_of r o) && b))
-owner-alike r i p (owner.Interface j) a b = path-alike p (same_owner (owner.Interface i) (owner.Interface j)) (interface_path r j.0) a b
-owner-alike r i p (owner.World w) a b = refl
-owner-alike r i p owner.None a b = refl
+owner-alike r i p x a b = search std_rules
 
 resources-alike : (r : Resolve) (i : InterfaceId) (p x : Text) → resources_in r (Some i) (of_interface p) x ≡ named_resources r (of_interface p) x
 resources-alike r i p x = ap (λ test. list_any test (numbered_from 0 r.types.items)) (λ j e. owner-alike r i p e.1.owner (is_resource r e.0) (text_is e.1.name x) j)
-
-kept-alike : (r : Resolve) (i : InterfaceId) (slot : Slot) → is_foreign_name slot ≡ true → is_slot_of (named_resources r) slot ≡ true → is_slot_of (resources_in r (Some i)) slot ≡ true
-kept-alike r i (Slot.value (named (of_interface p) x)) f h = ap not (resources-alike r i p x) ∙ h
-kept-alike r i (Slot.resource (of_interface p) x) f h = resources-alike r i p x ∙ h
-kept-alike r i (Slot.value (named here x)) f h = absurd (let z : ⊥ = cc in z)
-kept-alike r i _ f h = absurd (let z : ⊥ = cc in z)
 
 -- ---- the slot around
 
@@ -97,17 +73,7 @@ record KnownSlot (r : Resolve) (i : InterfaceId) (a : Around) (n k : ℕ) : Type
   pub stands : standing_at (Some slot) ≡ Some (tree (number_tree r n))
 
 known-slot : (r : Resolve) (i : InterfaceId) (a : Around) (n k : ℕ) (o : Option Slot) → slice_get (outer_slots a.declared) k ≡ o → is_slot_for r n o ≡ true → KnownSlot r i a n k
-known-slot r i a n k None at h = absurd (let z : ⊥ = cc in z)
-known-slot r i a n k (Some x) at h =
-    let foreign = first_true (is_foreign_name x) _ h in
-    let rest = second_true (is_foreign_name x) _ h in
-    record {
-      slot = x;
-      at = at;
-      foreign = foreign;
-      kept = kept-alike r i x foreign (first_true (is_slot_of (named_resources r) x) _ rest);
-      stands = named-slot (number_tree r n) x (second_true (is_slot_of (named_resources r) x) _ rest);
-    }
+known-slot r i a n k y at h = search std_rules
 
 -- what is listed is right
 pub known-right : (r : Resolve) (known : List (ℕ × ℕ)) (slots : List Slot) (n k : ℕ) → are_right r known slots ≡ true → known_slot known n ≡ Some k → is_slot_for r n (slice_get slots k) ≡ true
@@ -140,21 +106,14 @@ pub record Stands (r : Resolve) (a : Around) (j n : ℕ) (name : String Global) 
   pub right : are_right r a.known (outer_slots a.declared) ≡ true
 
 some-path : (path : Option Text) (instance : Instance) → is_instance_of path instance ≡ true → is_some instance.interface ≡ true
-some-path None instance h = absurd (let z : ⊥ = cc in z)
-some-path (Some p) instance h = go instance.interface h
-  where
-    go : (o : Option Text) → option_map_or (text_eq p) o false ≡ true → is_some o ≡ true
-    go None h = h
-    go (Some q) h = refl
+some-path x instance h = search std_rules
 
 some-slot : (r : Resolve) (n : ℕ) (o : Option Slot) → is_slot_for r n o ≡ true → (x : Slot) × (o ≡ Some x) × (is_slot_for r n (Some x) ≡ true)
-some-slot r n None h = absurd (let z : ⊥ = cc in z)
-some-slot r n (Some x) h = (x, refl, h)
+some-slot r n y h = search std_rules
 
 module _ (r : Resolve) (a : Around) (j n : ℕ) (m : IsSource r a j n) where
   is-named : is_named_of j m.def ≡ true
-  is-named = ap (λ (o : TypeOwner). same_owner (owner.Interface (record { 0 = j })) o && is_some m.def.name) m.owned
-      ∙ ap (λ b. b && is_some m.def.name) (same-number j) ∙ ap (λ (o : Option (String Global)). is_some o) m.named_
+  is-named = search std_rules
 
   shows : (instance : Instance) → is_standing r j instance ≡ true → is_slot_for r n (find_type (text_of m.name) instance.view.types) ≡ true
   shows instance h =
@@ -202,12 +161,10 @@ source-listed r a j n m none = let q : Some _ ≡ None = sym (standing r a j n m
 
 -- where something can be imported, what has been declared can be followed
 pub importable-sound : (b : Bool) (xs : List ℕ) (j : ℕ) → Contains (if b then xs else []) j → b ≡ true
-importable-sound true xs j h = refl
-importable-sound false xs j (k, l, e) = absurd (omega (arith, l))
+importable-sound x xs j h = search std_rules
 
 pub importable-stands : (b : Bool) (xs : List ℕ) (j : ℕ) → Contains (if b then xs else []) j → Contains xs j
-importable-stands true xs j h = h
-importable-stands false xs j (k, l, e) = absurd (omega (arith, l))
+importable-stands x xs j h = search std_rules
 
 pub has-source : (r : Resolve) (i : InterfaceId) (a : Around) (contents : Contents) (j n : ℕ) → IsImportable (scope_with r (Some i) a contents) j n → IsSource r a j n
 has-source r i a contents j n m = record {
@@ -280,10 +237,7 @@ module _ (r : Resolve) (a : Around) (al : Aliased) (is : IsAlias r a al) where
   stands = standing r a is.interface.0 al.number.0 source
 
   same-instance : al.instance ≡ stands.number
-  same-instance = one-some al.instance stands.number (sym is.instance ∙ stands.listed)
-    where
-      one-some : (x y : ℕ) → Some x ≡ Some y → x ≡ y
-      one-some x y e = cc
+  same-instance = search std_rules
 
   pub wide : Widened a al stands.slot
   wide = widened a al stands.slot stands.instance (ap (slice_get (outer_instances a.declared)) same-instance ∙ stands.at) stands.path
@@ -430,14 +384,7 @@ module _ {E : Type 0} (res : Result ℕ E) (r : Resolve) (outer outer' : Declara
       (λ m. alias-reached r current.interface (around_at outer current.foreign) current.declared j id m res (around_at outer' foreign) k ds' reaches known ok err) m
 
   pub imported-stands : (n : ℕ) → ImportsTo inner n → IfOk res (λ k. SlotsStand (contents_of r outer' afterwards).slots k (tree (number_tree r n)))
-  imported-stands n q = go res q.ok
-    where
-      go : {E : Type 0} (res : Result ℕ E)
-          → IfOk res (λ k. SlotAdded (SlotsStand (contents_of r outer inner).slots) (SlotsStand (contents_of r outer' afterwards).slots) (length (contents_of r outer inner).slots)
-          (length (contents_of r outer' afterwards).slots) k (λ m. m ≡ tree (number_tree r n)))
-          → IfOk res (λ k. SlotsStand (contents_of r outer' afterwards).slots k (tree (number_tree r n)))
-      go (Ok k) h = h.adds.new (tree (number_tree r n)) refl
-      go (Err e) h = h
+  imported-stands n q = search std_rules
 
 pub import-source : (r : Resolve) (outer : Declarations) (inner : Option OpenInterface) (current : OpenInterface) → inner ≡ Some current → (j n : ℕ) → IsImportable (encoder_scope r outer inner) j n
     → IsSource r (around_at outer current.foreign) j n

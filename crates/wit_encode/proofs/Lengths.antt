@@ -1,9 +1,9 @@
 -- How long the bytes of parts of a component are at most.
-use Rattle.std.proofs.Common.{◌≡◌, ℕ, ◌+◌, ◌<◌, ◌≤◌, ◌^◌, nat_lt, Bool, true, false, ◌&&◌, List, [], ◌∷◌, ◌++◌, length, refl, ap, arith, length-append, append-nil, subst}
+use Rattle.std.proofs.Common.{rules as std_rules, ◌≡◌, ℕ, ◌+◌, ◌<◌, ◌≤◌, true, false, ◌&&◌, List, [], ◌∷◌, ◌++◌, length, arith, length-append, append-nil}
 use Rattle.std.proofs.lemmas.{List.Sums.sum_by-cons, List.Sums.sum_by-append, Bool.lt-ltb, Bool.ltb-true, Bool.ltb-false, Bool.true≢false}
 use Rattle.std.specs.List.{flat_map}
 use Rattle.comp_bytes.specs.{Raw.Section, Parts.Part, Parts.with_part, Parts.sections_of_parts, Parts.fits_component}
-use Rattle.comp_bytes.specs.Writing.{u32_bytes, name_bytes, vector_bytes, top_type_bytes, top_export_bytes, framed, section_bytes, component_bytes}
+use Rattle.comp_bytes.specs.Writing.{u32_bytes, name_bytes, vector_bytes, top_type_bytes, top_export_bytes, framed, section_bytes}
 use Rattle.encode_types.specs.Room.{limit}
 use Rattle.wit_encode.specs.PackageRoom.{part_extent, parts_extent}
 use Rattle.base_lemmas.proofs.Numbers.{same_number as same}
@@ -39,11 +39,7 @@ one-more_item id bytes x xs =
 
 -- a section of one item
 first-item : {A : Type 0} (id : ℕ) (bytes : A → List ℕ) (x : A) → length (framed id (vector_bytes bytes (x ∷ []))) ≤ 11 + length (bytes x)
-first-item id bytes x =
-    let new = framed-short id (vector_bytes bytes (x ∷ [])) in
-    let inner = vector-short bytes (x ∷ []) in
-    let both = ap length (append-nil (bytes x)) in
-    omega arith
+first-item id bytes x = search (std_rules, framed-short id (vector_bytes bytes (x ∷ [])), vector-short bytes (x ∷ []), append-nil (bytes x))
 
 custom-short : (name contents : List ℕ) → length (framed 0 (name_bytes name ++ contents)) ≤ 11 + (length name + length contents)
 custom-short name contents = let h = framed-short 0 (name_bytes name ++ contents) in let n = name-short name in let e = length-append (name_bytes name) contents in omega arith
@@ -73,36 +69,18 @@ part-short (Part.custom name contents) ss = behind (section_bytes (Section.custo
 
 parts-short : (parts : List Part) → length (flat_map section_bytes (sections_of_parts parts)) ≤ parts_extent parts
 parts-short [] = same 0
-parts-short (p ∷ parts) = chained _ _ _ _ _ (part-short p (sections_of_parts parts)) (parts-short parts) (sum_by-cons part_extent p parts)
-  where
-    chained : (m n a b c : ℕ) → m ≤ n + a → a ≤ b → c ≡ n + b → m ≤ c
-    chained m n a b c h k e = omega arith
+parts-short (p ∷ parts) = search (std_rules, part-short, sum_by-cons, parts-short parts)
 
 -- ---- components
 
 -- parts that take no more than the limit fit
 parts-fit : (parts : List Part) → 8 + parts_extent parts ≤ limit → fits_component parts ≡ true
 unfolding fits_component
-parts-fit parts h =
-    let short = parts-short parts in
-    let less : length (component_bytes (sections_of_parts parts)) < 2 ^ 32 = omega arith in
-    lt-ltb (length (component_bytes (sections_of_parts parts))) (2 ^ 32) less
+parts-fit parts h = search (std_rules, parts-short, lt-ltb)
 
 -- parts that don't fit are long, and so are they with others behind them
 pub long-parts : (parts more : List Part) → (fits_component parts && fits_component (parts ++ more)) ≡ false → limit < 8 + parts_extent (parts ++ more)
-long-parts parts more e = by-order (nat_lt limit (8 + parts_extent (parts ++ more))) refl
-  where
-    wrong : 8 + parts_extent (parts ++ more) ≤ limit → ⊥
-    wrong low =
-        let both = sum_by-append part_extent parts more in
-        let first = parts-fit parts (omega (arith, low, both)) in
-        let second = parts-fit (parts ++ more) low in
-        true≢false (let z : true ≡ false = cc in z)
-
-    by-order : (b : Bool) → nat_lt limit (8 + parts_extent (parts ++ more)) ≡ b → limit < 8 + parts_extent (parts ++ more)
-    by-order true f = ltb-true limit _ f
-    by-order false f = absurd (wrong (ltb-false limit _ f))
+long-parts parts more e = search (std_rules, sum_by-append, parts-fit, true≢false, ltb-true, ltb-false)
 
 pub long-component : (parts : List Part) → fits_component parts ≡ false → limit < 8 + parts_extent parts
-long-component parts e = subst (λ (ps : List Part). limit < 8 + parts_extent ps) (append-nil parts)
-    (long-parts parts [] (rw (append-nil parts) (let z : (fits_component parts && fits_component parts) ≡ false = rw e refl in z)))
+long-component parts e = search (std_rules, append-nil parts, long-parts parts)

@@ -1,5 +1,5 @@
 -- What stands in a list that was mapped or filtered.
-use Rattle.std.proofs.Common.{◌≡◌, sym, subst, ap, ◌∙◌, zero, suc, inl, inr, Bool, true, List, [], ◌∷◌, filter, arith}
+use Rattle.std.proofs.Common.{rules as std_rules, ◌≡◌, sym, subst, ap, ◌∙◌, zero, suc, inl, inr, Bool, true, List, [], ◌∷◌, filter, arith}
 use Rattle.std.proofs.lemmas.Bool.{cases_Bool, cond-true, cond-false}
 use Rattle.std.specs.List.{Contains}
 use Rattle.base_lemmas.proofs.Elements.{contains-later as later}
@@ -15,8 +15,7 @@ contains-filter p (y ∷ xs) x h (suc i, l, e) =
     ]
 
 first-or-later : {X : Type 0} (y : X) (xs zs : List X) (x : X) → (Contains zs x → Contains xs x) → Contains (y ∷ zs) x → Contains (y ∷ xs) x
-first-or-later y xs zs x f (zero, l, e) = (0, omega arith, e)
-first-or-later y xs zs x f (suc i, l, e) = later y xs x (f (i, omega (arith, l), e))
+first-or-later y xs zs x f z = search (std_rules, later)
 
 pub from-filter : {X : Type 0} (p : X → Bool) (xs : List X) (x : X) → Contains (filter p xs) x → Contains xs x
 from-filter p [] x c = c

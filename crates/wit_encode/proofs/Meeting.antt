@@ -1,5 +1,5 @@
 -- Named types that are met through unnamed ones: where all of them are known, no named type of the place is met by way of unknown numbers.
-use Rattle.std.proofs.Common.{◌≡◌, refl, sym, subst, ap, ◌∙◌, ℕ, cond, List, [], ◌∷◌, Option, Some, None, String, option_map, option_and_then}
+use Rattle.std.proofs.Common.{rules as std_rules, ◌≡◌, refl, sym, subst, ap, ◌∙◌, ℕ, cond, List, [], ◌∷◌, Option, Some, None, String, option_map, option_and_then}
 use Rattle.std.specs.declared.alloc.Global.{Global}
 use Rattle.std.specs.{Prelude.is_none, List.Contains, Option.option_map_or}
 use Rattle.wit_model.specs.{Text.text_of, Lookup.type_at, Parts.kind_numbers, Parts.met_by, Parts.met_of, Parts.used_by_type, Checks.references, Valid.Keeps}
@@ -15,8 +15,7 @@ use Rattle.wit_model.specs.declared.model.«Type».TheVariants as ty
 module _ (r : Resolve) (below : Keeps references r) where
   -- a named type meets itself
   pub named-meets : (n : ℕ) (def : TypeDef) (name : String Global) → type_at r n ≡ Some def → def.name ≡ Some name → Contains (met_by (met_of r) n) n
-  named-meets n def name at named = subst (λ (ns : List ℕ). Contains ns n)
-      (sym (met_step r below n def at ∙ ap (λ o. option_map_or (λ x. n ∷ []) o (used_by_type r def)) named)) (contains-one n)
+  named-meets n def name at named = search (std_rules, met_step r below n def, contains-one n)
 
   -- what a part meets, its type uses
   pub part-uses : (def : TypeDef) (id : TypeId) (x : ℕ) → Contains (parts_of def.kind) (ty.Id id) → Contains (met_by (met_of r) id.0) x → Contains (used_by_type r def) x

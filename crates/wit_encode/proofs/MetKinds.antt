@@ -1,10 +1,10 @@
 -- Maps that began empty hold the kinds of the unnamed types that are met, each once.
-use Rattle.std.proofs.Common.{◌≡◌, refl, sym, subst, ap, ◌∙◌, ℕ, zero, suc, ◌<◌, ◌⊎◌, inl, inr, Bool, true, false, List, [], ◌∷◌, map, length, get_or, arith, Option}
+use Rattle.std.proofs.Common.{rules as std_rules, ◌≡◌, refl, sym, subst, ap, ◌∙◌, ℕ, zero, suc, ◌<◌, ◌⊎◌, inl, inr, Bool, true, false, List, [], ◌∷◌, map, length, get_or, arith, Option}
 use Rattle.std.specs.{Prelude.AllPairs, List.Contains, Cmp.Lexicographic.pointwise}
-use Rattle.wit_model.specs.{Text.text_of, Text.text_eq, Rules.is_named_kind, Valid.IsValid}
+use Rattle.wit_model.specs.{Rules.is_named_kind, Valid.IsValid}
 use Rattle.wit_model.specs.declared.model.{Resolve.Resolve, Param.Param, TypeDefKind.TypeDefKind, InterfaceId.InterfaceId, «Type».«Type» as ValueType}
 use Rattle.encode_types.specs.declared.maps.TypeEncodingMaps.{TypeEncodingMaps}
-use Rattle.encode_types.specs.{Key.same_type, Key.same_param, Codes.kind_code, Codes.lists_of, Codes.ListKey, Plan.Reaches, Plan.itself, Plan.through}
+use Rattle.encode_types.specs.{Key.same_param, Codes.kind_code, Codes.lists_of, Codes.ListKey, Plan.Reaches, Plan.itself, Plan.through}
 use Rattle.encode_types.specs.Maps.{same_kind, IsKnown, IsReady, AllReady, IsOnce, LearnsOnly}
 use Rattle.encode_types.specs.MetKinds.{ReachedFrom, IsMetKind, HasSame, AreMetKinds, IsKnownKind, IsHeld, Learns, MetKindsAreHeld}
 use Rattle.encode_types.proofs.{Lists.none-in, EqualLists.kinds-of-lists, EqualLists.lists-of-kinds, KindLaws.same_types}
@@ -94,9 +94,7 @@ params-same [] [] e = refl
 params-same [] (q ∷ qs) e = absurd (let z : ⊥ = cc in z)
 params-same (p ∷ ps) [] e = absurd (let z : ⊥ = cc in z)
 params-same (p ∷ ps) (q ∷ qs) e =
-    let first = first_true (same_param p q) (pointwise same_param ps qs) e in
-    λ i. same_types p.ty q.ty (second_true (text_eq (text_of p.name) (text_of q.name)) (same_type p.ty q.ty) first) i
-    ∷ params-same ps qs (second_true (same_param p q) (pointwise same_param ps qs) e) i
+    search (std_rules, first_true, same_types, second_true, params-same ps qs (second_true (same_param p q) (pointwise same_param ps qs) e))
 
 module _ (r : Resolve) (v : IsValid r) (own : Option InterfaceId) (ts : List ValueType) (m m' : TypeEncodingMaps) (learns : Learns r own m m') where
   module _ (none : m.id_to_index.entries ≡ []) where

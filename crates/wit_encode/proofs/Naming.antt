@@ -1,12 +1,12 @@
 -- A name in a place is that of one type among those that are met, so the names of resources are those of the types that are resources.
-use Rattle.std.proofs.Common.{◌≡◌, refl, sym, subst, ap, ◌∙◌, ℕ, zero, suc, ◌+◌, Bool, true, false, ◌&&◌, ◌||◌, nat_lt, List, [], ◌∷◌, slice_get, Option, Some, None, String, option_map, option_and_then, arith}
-use Rattle.std.proofs.lemmas.{Cmp.nat_list_eq_equiv, Bool.and_from as both, Bool.or_left as or-first, Bool.or_right as or-second}
+use Rattle.std.proofs.Common.{rules as std_rules, ◌≡◌, refl, sym, subst, ap, ◌∙◌, ℕ, zero, suc, ◌+◌, Bool, true, false, ◌&&◌, ◌||◌, List, [], ◌∷◌, slice_get, Option, Some, None, String, arith}
+use Rattle.std.proofs.lemmas.{Cmp.nat_list_eq_equiv, Bool.and_from as both, Bool.or_right as or-second}
 use Rattle.std.specs.declared.alloc.Global.{Global}
-use Rattle.std.specs.{Prelude.is_some, List.list_all, List.list_any, Option.option_map_or, HashMap.get_by, HashMap.get_by_text}
-use Rattle.wit_model.specs.{Text.Text, Text.text_of, Text.text_eq, Uses.owner_interface, Valid.IsValid, Valid.numbers_in_range, Valid.order_of_types}
-use Rattle.wit_model.specs.{Tree.Place, Tree.here, Tree.of_interface, Parts.kind_numbers, Parts.numbered_from, Parts.same_owner, Parts.is_resource}
-use Rattle.wit_model.specs.Lookup.{type_at, interface_at, world_at, place_of, place_of_path, interface_path}
-use Rattle.wit_model.specs.Rules.{passes, is_id, is_listed, is_listed_in_interface, is_listed_in_world, is_name_key, item_type, owner_in_range, text_is}
+use Rattle.std.specs.{List.list_any}
+use Rattle.wit_model.specs.{Text.Text, Text.text_of, Text.text_eq, Valid.IsValid, Valid.numbers_in_range, Valid.order_of_types}
+use Rattle.wit_model.specs.{Tree.Place, Tree.here, Tree.of_interface, Parts.numbered_from, Parts.same_owner, Parts.is_resource}
+use Rattle.wit_model.specs.Lookup.{type_at, place_of, place_of_path, interface_path}
+use Rattle.wit_model.specs.Rules.{is_listed, owner_in_range, text_is}
 use Rattle.wit_model.specs.declared.model.{Resolve.Resolve, InterfaceId.InterfaceId, TypeDef.TypeDef, TypeOwner.TypeOwner}
 use Rattle.wit_model.proofs.{Entries.each_from_at, Entries.lists_pass, PartsLemmas.owner_same as same-owner}
 use Rattle.wit_model.proofs.OnePath.{found-in, given-test, one-number, named-path, path-once}
@@ -34,10 +34,7 @@ any-numbered p j (x ∷ xs) h = go (λ e. any-numbered p (j + 1) xs e) (p (j, x)
 
 pub numbered-any : {A : Type 0} (p : ℕ × A → Bool) (j : ℕ) (xs : List A) (k : ℕ) (x : A) → slice_get xs k ≡ Some x → p (j + k, x) ≡ true → list_any p (numbered_from j xs) ≡ true
 numbered-any p j [] k x e h = let wrong : ⊥ = cc in absurd wrong
-numbered-any p j (y ∷ ys) zero x e h =
-    let at : j + 0 ≡ j = omega arith in
-    let same : x ≡ y = cc in
-    or-first _ _ (subst (λ (m : ℕ). p (m, y) ≡ true) at (subst (λ z. p (j + 0, z) ≡ true) same h))
+numbered-any p j (y ∷ ys) zero x e h = search std_rules
 numbered-any p j (y ∷ ys) (suc k) x e h = let at : j + suc k ≡ (j + 1) + k = omega arith in or-second _ _ (numbered-any p (j + 1) ys k x e (subst (λ (m : ℕ). p (m, x) ≡ true) at h))
 
 -- ---- places
@@ -49,29 +46,16 @@ record HasPlace (r : Resolve) (a : TypeOwner) : Type 0 where
   pub has : interface_path r number.0 ≡ Some path
 
 named-place : (r : Resolve) (a : TypeOwner) → is_named_interface r a ≡ true → HasPlace r a
-named-place r (owner.World w) e = let wrong : ⊥ = cc in absurd wrong
-named-place r owner.None e = let wrong : ⊥ = cc in absurd wrong
-named-place r (owner.Interface i) e = go (interface_path r i.0) refl e
-  where
-    go : (o : Option Text) → interface_path r i.0 ≡ o → is_some o ≡ true → HasPlace r (owner.Interface i)
-    go None q e = let wrong : ⊥ = cc in absurd wrong
-    go (Some path) q e = record { number = i; is = refl; path = path; has = q }
+named-place r x e = search std_rules
 
 unnamed-place : (r : Resolve) (a : TypeOwner) → is_named_interface r a ≡ false → place_of r a ≡ here
-unnamed-place r (owner.World w) e = refl
-unnamed-place r owner.None e = refl
-unnamed-place r (owner.Interface i) e = go (interface_path r i.0) refl e
-  where
-    go : (o : Option Text) → interface_path r i.0 ≡ o → is_some o ≡ false → place_of_path o ≡ here
-    go None q e = refl
-    go (Some path) q e = let wrong : ⊥ = cc in absurd wrong
+unnamed-place r x e = search std_rules
 
 its-place : (r : Resolve) (a : TypeOwner) (h : HasPlace r a) → place_of r a ≡ of_interface h.path
 its-place r a h = ap (place_of r) h.is ∙ ap place_of_path h.has
 
 other-met : (a b : Bool) → b ≡ false → (a || b) ≡ true → a ≡ true
-other-met true b e h = refl
-other-met false b e h = let wrong : ⊥ = cc in absurd wrong
+other-met x b e h = search std_rules
 
 -- owners with places of their own
 abbrev pub HaveHomes : Resolve → (TypeOwner → Bool) → Type 0
@@ -79,12 +63,7 @@ HaveHomes r met = (a b : TypeOwner) → met a ≡ true → met b ≡ true → sa
 
 module _ (r : Resolve) (v : IsValid r) where
   pub named-owner : (def : TypeDef) → has_named_owner r def ≡ true → is_named_interface r def.owner ≡ true
-  named-owner def h = go def.owner h
-    where
-      go : (a : TypeOwner) → option_map_or (λ i. option_map_or (λ other. is_some other.name) (interface_at r i) false) (owner_interface a) false ≡ true → is_named_interface r a ≡ true
-      go (owner.World w) h = let wrong : ⊥ = cc in absurd wrong
-      go owner.None h = let wrong : ⊥ = cc in absurd wrong
-      go (owner.Interface i) h = named-path r v i.0 h
+  named-owner def h = search (std_rules, named-path)
 
   -- an owner is in range
   pub valid-owner_in_range : (n : ℕ) (def : TypeDef) → type_at r n ≡ Some def → owner_in_range r def.owner ≡ true
@@ -94,25 +73,10 @@ module _ (r : Resolve) (v : IsValid r) where
   -- a named type stands in its owner's list
   pub valid-listed : (n : ℕ) (def : TypeDef) (name : String Global) → type_at r n ≡ Some def → def.name ≡ Some name → is_listed r n (text_of name) def.owner ≡ true
   unfolding order_of_types
-  valid-listed n def name is named =
-      let passed = second_true (list_all (λ m. nat_lt m (0 + n)) (kind_numbers def.kind)) _
-      (each_from_at (order_of_types.type_ r) 0 r.types.items n def (lists_pass order_of_types r v.rules.order_of_types).3 is) in
-      let here : 0 + n ≡ n = omega arith in
-      given-test (λ name. is_listed r n (text_of name) def.owner) def.name (same_owner def.owner owner.None) name named
-      (subst (λ (m : ℕ). option_map_or (λ name. is_listed r m (text_of name) def.owner) def.name (same_owner def.owner owner.None) ≡ true) here passed)
+  valid-listed n def name is named = search (std_rules, second_true, each_from_at, lists_pass, given-test)
 
   listed-once : (a : TypeOwner) (m n : ℕ) (t : Text) → owner_in_range r a ≡ true → is_listed r m t a ≡ true → is_listed r n t a ≡ true → m ≡ n
-  listed-once owner.None m n t inside e f = let wrong : ⊥ = cc in absurd wrong
-  listed-once (owner.Interface id) m n t inside e f =
-      let i = found-in r.interfaces.items id.0 inside in
-      let of_entry = λ (k : ℕ) (h : passes (is_listed_in_interface k t) (interface_at r id.0) ≡ true). first_true (is_id k (option_map (λ id. id.0) (get_by_text i.0.types t))) _
-      (ap (passes (is_listed_in_interface k t)) (sym i.1) ∙ h) in
-      one-number m n (option_map (λ id. id.0) (get_by_text i.0.types t)) (of_entry m e) (of_entry n f)
-  listed-once (owner.World id) m n t inside e f =
-      let w = found-in r.worlds.items id.0 inside in
-      let of_entry = λ (k : ℕ) (h : passes (is_listed_in_world k t) (world_at r id.0) ≡ true). first_true (is_id k (option_and_then item_type (get_by (is_name_key t) w.0.imports))) _
-      (ap (passes (is_listed_in_world k t)) (sym w.1) ∙ h) in
-      one-number m n (option_and_then item_type (get_by (is_name_key t) w.0.imports)) (of_entry m e) (of_entry n f)
+  listed-once x m n t inside e f = search (std_rules, found-in, first_true, one-number)
 
   module _ (o : TypeOwner) where
     -- owners that are met have places of their own

@@ -1,16 +1,16 @@
 -- An interface that is opened, encoded and closed again.
-use Rattle.std.proofs.Common.{◌≡◌, refl, sym, ap, ◌∙◌, true, List, [], ◌++◌, Option, Some, None, Result, Ok, Err, ℕ, ◌∷◌, Contains, subst, Bool, false, OnErr, if◌then◌else◌, filter, length, slice_get, arith}
+use Rattle.std.proofs.Common.{rules as std_rules, ◌≡◌, refl, sym, ap, ◌∙◌, true, List, [], ◌++◌, Option, Some, None, Result, Ok, Err, ℕ, ◌∷◌, Contains, subst, Bool, false, OnErr, if◌then◌else◌, filter, length, arith}
 use Rattle.std.proofs.lemmas.{Map.Views.All-map-IsPermutation, List.Elements.All-contains_itself, List.Elements.All-contains, List.Elements.filter_passes}
 use Rattle.std.proofs.lemmas.{List.Sorted.IsPermutation-map, Option.same_Some as some-same}
 use Rattle.std.specs.{Prelude.IsPermutation, Prelude.IfOk, Prelude.map, Prelude.String, Borrow.Bor, List.list_all, Option.option_map_or}
 use Rattle.std.specs.declared.alloc.Global.{Global}
 use Rattle.wit_model.specs.declared.model.{Interface.Interface, Function.Function, Resolve.Resolve, InterfaceId.InterfaceId, TypeId.TypeId}
-use Rattle.comp_bytes.specs.{Held.type_slots_of, Raw.Declaration, Raw.Declarations, Raw.append, Raw.from_list, Reading.◌>>=◌}
+use Rattle.comp_bytes.specs.{Held.type_slots_of, Raw.Declaration, Raw.Declarations, Raw.append, Raw.from_list}
 use Rattle.wit_model.specs.{Text.Text, Tree.Place, Meaning.FunctionMeaning, Meant.interface_meaning_at, Lookup.place_of, Lookup.interface_at, Valid.IsValid}
 use Rattle.comp_meaning.specs.Follow.{View, instance_view, Slot, new_scope, in_scope}
 use Rattle.encode_types.specs.declared.maps.TypeEncodingMaps.{TypeEncodingMaps}
 use Rattle.wit_encode.specs.declared.interface.{OpenInterface.OpenInterface, Foreign.Foreign}
-use Rattle.encode_types.specs.Known.{Around, GrowsAround, known_instance, is_standing, stands_around, are_right, below, outer_scope, outer_instances}
+use Rattle.encode_types.specs.Known.{Around, GrowsAround, stands_around, are_right, below, outer_scope, outer_instances}
 use Rattle.encode_types.specs.{Scope.Scope, Slots.Keeps}
 use Rattle.wit_encode.proofs.{Components.steps-instance, Outside.instance-keeps}
 use Rattle.wit_encode.proofs.{ShownSlots.interface-shown, Calls.InnerAt, Calls.inner-at, Importing.grown-keeps, Importing.grown-stands, Importing.right-more}
@@ -42,9 +42,7 @@ opened-exports r outer i known = refl
 view-at : (place : Place) (outer : Declarations) (ds : List Declaration) → (inner_contents place outer ds).is_followed ≡ true
     → instance_view place (outer_slots outer) ds ≡ Some (inner_contents place outer ds).shown
 unfolding inner_contents
-view-at place outer ds e =
-    let a = inner-at place outer ds e in
-    ap (λ o. o >>= λ scope. Some scope.shown) a.is ∙ ap Some (sym (ap (λ o. option_map_or (λ s. s.shown) o no_view) a.is))
+view-at place outer ds e = search std_rules
 
 shown-at : (place : Place) (outer : Declarations) (ds : List Declaration) (a : InnerAt place outer ds) → (inner_contents place outer ds).shown ≡ a.scope.shown
 unfolding inner_contents
@@ -116,8 +114,7 @@ permuted-contains xs ys y p c =
 -- what follows of what is answered
 
 pub close-each : {E D : Type 0} (res : Result ℕ E) (is : D → Type 0) (P : D → ℕ → Type 0) (d : D) → is d → ((d : D) → is d → IfOk res (P d)) → IfOk res (λ k. (d : D) → is d → P d k)
-close-each (Ok k) is P d h all = λ d h. all d h
-close-each (Err e) is P d h all = all d h
+close-each x is y d h all = search std_rules
 
 outer-slots : (outer : Declarations) → (outer_contents outer).slots ≡ outer_slots outer
 unfolding outer_contents
@@ -135,9 +132,7 @@ grown-slots r a outer foreign grown =
 outside-keeps : (r r' : Resolve) (outer outer' : Declarations) (inner inner' : Option OpenInterface) → inner ≡ None → inner' ≡ None
     → Keeps (SlotsStand (outer_contents outer).slots) (SlotsStand (outer_contents outer').slots)
     → Keeps (stands_in r outer inner) (stands_in r' outer' inner')
-outside-keeps r r' outer outer' inner inner' x y keeps =
-    subst (λ (o : Option OpenInterface). Keeps (stands_in r outer o) (stands_in r' outer' inner')) (sym x)
-    (subst (λ (o : Option OpenInterface). Keeps (stands_in r outer None) (stands_in r' outer' o)) (sym y) keeps)
+outside-keeps r r' outer outer' inner inner' x y keeps = search std_rules
 
 pub reached-keeps : (r r' : Resolve) (a : Around) (outer : Declarations) (foreign : Foreign) (inner inner' : Option OpenInterface) → inner ≡ None → inner' ≡ None
     → GrowsAround r a (around_at outer foreign)
@@ -159,11 +154,7 @@ closed-keeps (Ok k) r r' a outer outer' foreign inner inner' es x y grown h err 
 -- ---- instances that stand around
 
 none-stands : (r : Resolve) (listed : List (ℕ × ℕ)) (j : ℕ) → stands_around r listed [] j ≡ true → ⊥
-none-stands r listed j h = go (known_instance listed j) h
-  where
-    go : (o : Option ℕ) → option_map_or (λ k. option_map_or (is_standing r j) (slice_get [] k) false) o false ≡ true → ⊥
-    go None h = let z : ⊥ = cc in z
-    go (Some k) h = let z : ⊥ = cc in z
+none-stands r listed j h = search std_rules
 
 module _ (r : Resolve) (foreign : Foreign) (outer : Declarations) (es : List Declaration) where
   abbrev one-more : Declarations

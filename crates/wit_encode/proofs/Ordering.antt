@@ -1,9 +1,9 @@
 -- Functions that are sorted by the places of their resources.
-use Rattle.std.proofs.Common.{◌≡◌, refl, sym, subst, ap, ◌∙◌, ℕ, zero, suc, ◌+◌, ◌<◌, ◌≤◌, Bool, true, false, cond, ◌⊎◌, inl, inr, List, [], ◌∷◌, ◌++◌, length, get_or, filter, map, nat_cmp, is_lt, Option, Some, None, arith, suc-le-suc, zero-le}
+use Rattle.std.proofs.Common.{rules as std_rules, ◌≡◌, refl, sym, subst, ap, ◌∙◌, ℕ, zero, suc, ◌+◌, ◌<◌, ◌≤◌, Bool, true, false, cond, List, [], ◌∷◌, ◌++◌, length, get_or, filter, map, nat_cmp, is_lt, Option, Some, None, arith, suc-le-suc, zero-le}
 use Rattle.std.proofs.lemmas.{Iterator.Adapters.position_from-zero, List.Sums.prefix_len-le-length, Bool.Decides.nat_tests, List.nil_from_length as no-more}
 use Rattle.std.proofs.lemmas.Bool.{eqb-true, true≢false, not_from_false as opposite, not_from_true as negated, cond-true, cond-false, cases_Bool}
 use Rattle.std.proofs.lemmas.List.{Elements.filter_agree, Elements.All-head, Elements.All-tail, Sorted.length_permutation, Sorted.All-permutation}
-use Rattle.std.specs.Prelude.{not, nat_eq, nat_lt, All, IsPermutation, String}
+use Rattle.std.specs.Prelude.{not, nat_eq, All, IsPermutation, String}
 use Rattle.std.specs.{Borrow.Bor, Option.option_map_or, Option.is_some, BTreeMap.BTreeMap, BTreeMap.get, BTreeMap.Updates}
 use Rattle.std.specs.{List.position, List.position_from, List.position_or_len, List.Sorted.ties, List.Sorted.IsNonDecreasingBy, List.Sorted.IsStableByKey}
 use Rattle.std.specs.declared.alloc.Global.{Global}
@@ -47,72 +47,30 @@ module _ {X : Type 0} (key key' : X → ℕ) (p : X → Bool) (first : (x : X) �
 
   none-first : (n : ℕ) (ys : List X) → 0 < n → AreAtLeast key n ys → filter p ys ≡ []
   none-first n [] l h = refl
-  none-first n (y ∷ ys) l h =
-      elim (cases_Bool (p y)) [
-        | inl e ↦ absurd (let z = first y e in let w = h.0 in omega arith)
-        | inr e ↦ dropped p y ys e ∙ none-first n ys l h.1
-      ]
+  none-first n (y ∷ ys) l h = search (std_rules, cases_Bool, dropped, none-first n ys l h.1)
 
   all-later : (n : ℕ) (ys : List X) → 0 < n → AreAtLeast key n ys → filter (λ x. not (p x)) ys ≡ ys
   all-later n [] l h = refl
-  all-later n (y ∷ ys) l h =
-      elim (cases_Bool (p y)) [
-        | inl e ↦ absurd (let z = first y e in let w = h.0 in omega arith)
-        | inr e ↦ kept (λ x. not (p x)) y ys (opposite (p y) e) ∙ ap (λ zs. y ∷ zs) (all-later n ys l h.1)
-      ]
+  all-later n (y ∷ ys) l h = search (std_rules, cases_Bool, kept, opposite, all-later n ys l h.1)
 
   split : (ys : List X) → Rises key ys → ys ≡ filter p ys ++ filter (λ x. not (p x)) ys
   split [] h = refl
-  split (y ∷ ys) h =
-      elim (cases_Bool (p y)) [
-        | inl e ↦
-            ap (λ zs. y ∷ zs) (split ys h.1)
-            ∙ sym ((λ i. kept p y ys e i ++ dropped (λ x. not (p x)) y ys (negated (p y) e) i))
-        | inr e ↦
-            let n : 0 < key y = let z = later y e in omega arith in
-            sym ((λ i. (dropped p y ys e ∙ none-first (key y) ys n h.0) i ++
-            (kept (λ x. not (p x)) y ys (opposite (p y) e) ∙ ap (λ zs. y ∷ zs) (all-later (key y) ys n h.0)) i))
-      ]
+  split (y ∷ ys) h = search (std_rules, cases_Bool, kept, dropped, negated, none-first, opposite, all-later, split ys h.1)
 
   at-least-later : (n : ℕ) (ys : List X) → AreAtLeast key (1 + n) ys → AreAtLeast key' n (filter (λ x. not (p x)) ys)
   at-least-later n [] h = tt
-  at-least-later n (y ∷ ys) h =
-      elim (cases_Bool (p y)) [
-        | inl e ↦ absurd (let z = first y e in let w = h.0 in omega arith)
-        | inr e ↦
-            subst (AreAtLeast key' n) (sym (kept (λ x. not (p x)) y ys (opposite (p y) e)))
-            ((let z = later y e in let w = h.0 in omega arith), at-least-later n ys h.1)
-      ]
+  at-least-later n (y ∷ ys) h = search (std_rules, cases_Bool, kept, opposite, at-least-later n ys h.1)
 
   rises-later : (ys : List X) → Rises key ys → Rises key' (filter (λ x. not (p x)) ys)
   rises-later [] h = tt
-  rises-later (y ∷ ys) h =
-      elim (cases_Bool (p y)) [
-        | inl e ↦ subst (Rises key') (sym (dropped (λ x. not (p x)) y ys (negated (p y) e))) (rises-later ys h.1)
-        | inr e ↦
-            subst (Rises key') (sym (kept (λ x. not (p x)) y ys (opposite (p y) e)))
-            (at-least-later (key' y) ys (subst (λ n. AreAtLeast key n ys) (later y e) h.0), rises-later ys h.1)
-      ]
+  rises-later (y ∷ ys) h = search (std_rules, cases_Bool, dropped, negated, kept, opposite, at-least-later, rises-later ys h.1)
 
   class-first : (x : X) → p x ≡ nat_eq 0 (key x)
-  class-first x =
-      elim (cases_Bool (p x)) [
-        | inl e ↦ e ∙ sym (ap (nat_eq 0) (first x e))
-        | inr e ↦ e ∙ sym (let z = later x e in grind (arith, nat_tests))
-      ]
+  class-first x = search std_rules
 
   class-later : (k : ℕ) (ys : List X) → filter (λ x. nat_eq k (key' x)) (filter (λ x. not (p x)) ys) ≡ filter (λ x. nat_eq (1 + k) (key x)) ys
   class-later k [] = refl
-  class-later k (y ∷ ys) =
-      elim (cases_Bool (p y)) [
-        | inl e ↦
-            ap (filter (λ x. nat_eq k (key' x))) (dropped (λ x. not (p x)) y ys (negated (p y) e)) ∙ class-later k ys
-            ∙ sym (dropped (λ x. nat_eq (1 + k) (key x)) y ys (let z = first y e in grind (arith, nat_tests)))
-        | inr e ↦
-            let same : nat_eq k (key' y) ≡ nat_eq (1 + k) (key y) = let z = later y e in grind (arith, nat_tests) in
-            ap (filter (λ x. nat_eq k (key' x))) (kept (λ x. not (p x)) y ys (opposite (p y) e))
-            ∙ (λ i. cond (same i) (y ∷ class-later k ys i) (class-later k ys i))
-      ]
+  class-later k (y ∷ ys) = search (std_rules, cases_Bool, dropped, negated, nat_tests, kept, opposite, class-later k ys)
 
 -- ---- by resource
 
@@ -177,22 +135,12 @@ at-least-placed ts n (x ∷ xs) h up = (subst (λ m. n ≤ m) h.0 up.0, at-least
 
 rises-placed : (ts : List TypeId) (xs : List Placed) → ArePlaced ts xs → Rises (λ x. x.0) xs → Rises (λ f. place_among ts f.1) (map placed_function xs)
 rises-placed ts [] h up = tt
-rises-placed ts (x ∷ xs) h up = (
-  subst (λ m. AreAtLeast (λ f. place_among ts f.1) m (map placed_function xs)) h.0
-      (at-least-placed ts x.0 xs h.1 up.0),
-  rises-placed ts xs h.1 up.1,
-)
+rises-placed ts (x ∷ xs) h up = search (std_rules, at-least-placed, rises-placed ts xs h.1 up.1)
 
 class-placed : (ts : List TypeId) (k : ℕ) (xs : List Placed) → ArePlaced ts xs
     → filter (λ f. nat_eq k (place_among ts f.1)) (map placed_function xs) ≡ map placed_function (filter (λ x. nat_eq k x.0) xs)
 class-placed ts k [] h = refl
-class-placed ts k (x ∷ xs) h =
-    let rest = class-placed ts k xs h.1 in
-    let same : nat_eq k (place_among ts x.2.now) ≡ nat_eq k x.0 = ap (nat_eq k) (sym h.0) in
-    elim (cases_Bool (nat_eq k x.0)) [
-      | inl e ↦ cond-true _ _ _ (same ∙ e) ∙ ap (λ zs. placed_function x ∷ zs) rest ∙ sym (ap (map placed_function) (kept (λ (y : Placed). nat_eq k y.0) x xs e))
-      | inr e ↦ cond-false _ _ _ (same ∙ e) ∙ rest ∙ sym (ap (map placed_function) (dropped (λ (y : Placed). nat_eq k y.0) x xs e))
-    ]
+class-placed ts k (x ∷ xs) h = search (std_rules, cases_Bool, cond-true, kept, cond-false, dropped, class-placed ts k xs h.1)
 
 tied : (m n : ℕ) → ties (λ x y. is_lt (nat_cmp x y)) m n ≡ nat_eq m n
 tied m n = grind (arith, nat_tests)
@@ -229,30 +177,14 @@ sorted-in-order ts xs ys h moved up stable =
 from-push : {X : Type 0} (p : X → Bool) (i : ℕ) (xs : List X) (y : X) → position_from p i (xs ++ y ∷ []) ≡ cond (is_some (position_from p i xs))
     (position_from p i xs) (cond (p y) (Some (i + length xs)) None)
 from-push p i [] y = let e : i ≡ i + 0 = omega arith in ap (λ n. cond (p y) (Some n) None) e
-from-push p i (x ∷ xs) y =
-    elim (cases_Bool (p x)) [
-      | inl e ↦ cond-true _ _ _ e ∙ sym (ap (λ o. cond (is_some o) o (cond (p y) (Some (i + length (x ∷ xs))) None))
-          (cond-true (p x) (Some i) (position_from p (i + 1) xs) e))
-      | inr e ↦
-          let n : i + 1 + length xs ≡ i + length (x ∷ xs) = omega arith in
-          cond-false _ _ _ e ∙ from-push p (i + 1) xs y ∙ ap (λ n. cond (is_some (position_from p (i + 1) xs)) (position_from p (i + 1) xs)
-          (cond (p y) (Some n) None)) n
-          ∙ sym (ap (λ o. cond (is_some o) o (cond (p y) (Some (i + length (x ∷ xs))) None)) (cond-false (p x) (Some i) (position_from p (i + 1) xs) e))
-    ]
+from-push p i (x ∷ xs) y = search (std_rules, cases_Bool, cond-true, cond-false, from-push p (i + 1) xs y)
 
 pub position-push : {X : Type 0} (p : X → Bool) (xs : List X) (y : X) → position p (xs ++ y ∷ []) ≡ cond (is_some (position p xs)) (position p xs)
     (cond (p y) (Some (length xs)) None)
-position-push p xs y =
-    position_from-zero p (xs ++ y ∷ []) ∙ from-push p 0 xs y
-    ∙ (let n : 0 + length xs ≡ length xs = omega arith in (λ i. cond (is_some (sym (position_from-zero p xs) i)) (sym (position_from-zero p xs) i)
-    (cond (p y) (Some (n i)) None)))
+position-push p xs y = search (std_rules, position_from-zero, from-push)
 
 pub position-none : {X : Type 0} (p : X → Bool) (xs : List X) → position p xs ≡ None → length xs ≡ position_or_len p xs
-position-none p xs h =
-    elim (cases_Bool (nat_lt (position_or_len p xs) (length xs))) [
-      | inl e ↦ absurd (let z : Some (position_or_len p xs) ≡ None = sym (cond-true _ _ _ e) ∙ h in let w : ⊥ = cc in w)
-      | inr e ↦ let a = prefix_len-le-length (λ x. not (p x)) xs in grind (arith, nat_tests)
-    ]
+position-none p xs h = search (std_rules, cases_Bool, cond-true, prefix_len-le-length, nat_tests)
 
 none-among : (ts : List TypeId) → length ts ≡ position_or_len (λ t. false) ts
 none-among [] = refl
@@ -266,43 +198,18 @@ module _ (ts : List TypeId) (places : BTreeMap ℕ ℕ) (t : TypeId) (h : ArePla
 
   -- it has one
   pub places-same : is_some (get nat_cmp places t.0) ≡ true → ArePlaces (ts ++ t ∷ []) places
-  places-same there = record { at = λ n. sym (number-push n ∙ go n (get nat_cmp places n) refl) }
-    where
-      go : (n : ℕ) (o : Option ℕ) → get nat_cmp places n ≡ o → cond (is_some o) o (cond (nat_eq n t.0) (Some (length ts)) None) ≡ o
-      go n (Some i) e = refl
-      go n None e =
-          elim (cases_Bool (nat_eq n t.0)) [
-            | inl q ↦ absurd (true≢false (sym there ∙ ap (λ k. is_some (get nat_cmp places k)) (sym (eqb-true n t.0 q)) ∙ ap is_some e))
-            | inr q ↦ cond-false _ _ _ q
-          ]
+  places-same there = search (std_rules, number-push, cases_Bool, true≢false, eqb-true, cond-false)
 
   -- it gets this one
   pub places-more : (places' : BTreeMap ℕ ℕ) → is_some (get nat_cmp places t.0) ≡ false → Updates nat_cmp places places' t.0 (Some (length ts))
       → ArePlaces (ts ++ t ∷ []) places'
-  places-more places' lacks u = record { at = λ n. go n (cases_Bool (nat_eq n t.0)) }
-    where
-      none : (o : Option ℕ) → is_some o ≡ false → o ≡ None
-      none None e = refl
-      none (Some i) e = absurd (true≢false e)
-
-      go : (n : ℕ) → (nat_eq n t.0 ≡ true) ⊎ (nat_eq n t.0 ≡ false) → get nat_cmp places' n ≡ position (λ s. nat_eq n s.0) (ts ++ t ∷ [])
-      go n (inl q) =
-          let e : n ≡ t.0 = eqb-true n t.0 q in
-          ap (get nat_cmp places') e ∙ u.1
-          ∙ sym (number-push n ∙ ap (λ o. cond (is_some o) o (cond (nat_eq n t.0) (Some (length ts)) None))
-          (ap (get nat_cmp places) e ∙ none (get nat_cmp places t.0) lacks) ∙ cond-true _ _ _ q)
-      go n (inr q) = u.2 n (let z = q in grind (arith, nat_tests)) ∙ sym (number-push n ∙ other (get nat_cmp places n))
-        where
-          other : (o : Option ℕ) → cond (is_some o) o (cond (nat_eq n t.0) (Some (length ts)) None) ≡ o
-          other (Some i) = refl
-          other None = cond-false _ _ _ q
+  places-more places' lacks u = search (std_rules, cases_Bool, true≢false, eqb-true, number-push, cond-true, nat_tests, cond-false)
 
 -- ---- the place of a function
 
 module _ (ts : List TypeId) (places : BTreeMap ℕ ℕ) (f : Function) (h : ArePlaces ts places) where
   pub place-missing : (n : ℕ) → resource_of f.kind ≡ Some n → get nat_cmp places n ≡ None → length ts ≡ place_among ts f
-  place-missing n e g = position-none (λ t. nat_eq n t.0) ts (sym (h.at n) ∙ g)
-      ∙ ap (λ o. position_or_len (λ (t : TypeId). option_map_or (λ k. nat_eq k t.0) o false) ts) (sym e)
+  place-missing n e g = search (std_rules, position-none)
 
   pub place-without : resource_of f.kind ≡ None → length ts ≡ place_among ts f
   place-without e = none-among ts ∙ ap (λ o. position_or_len (λ (t : TypeId). option_map_or (λ k. nat_eq k t.0) o false) ts) (sym e)

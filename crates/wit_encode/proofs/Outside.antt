@@ -1,11 +1,11 @@
 -- What the calls of an encoder of interfaces do between interfaces: then what is defined stands in the component type.
-use Rattle.encode_types.specs.Distinct.{target_of, targets_of}
+use Rattle.encode_types.specs.Distinct.{target_of}
 use Rattle.encode_types.specs.Slots.{Standing, Keeps, Follows, FollowsFunction, Defines, DefinesFunction}
 use Rattle.encode_types.specs.{Formed.IsFormed, Formed.IsFormedSignature, Known.no_around, Counts.one_type_more, Counts.one_function_more}
 use Rattle.wit_encode.proofs.{ValueSlots.slots-next, ValueSlots.targets-push, Components.steps-count, Components.steps-more, Components.steps-instance}
 use Rattle.wit_encode.proofs.Strict.{bind, definition-strict, function-strict}
 use Rattle.wit_encode.proofs.{Contents.Grew, Contents.slots-kept, Calls.Calls, Calls.calls-from, Calls.defines-of, Calls.function-of, Calls.formed-value}
-use Rattle.std.proofs.Common.{◌≡◌, refl, sym, subst, ap, ◌∙◌, ℕ, true, cond, [], ◌∷◌, ◌++◌, append-nil, option_to_list, List, Result, Ok, Err, IfOk, OnErr, Option, Some, None, length, arith}
+use Rattle.std.proofs.Common.{rules as std_rules, ◌≡◌, refl, sym, subst, ap, ◌∙◌, ℕ, true, cond, [], ◌∷◌, ◌++◌, append-nil, List, Result, Ok, Err, IfOk, OnErr, Option, Some, None, length}
 use Rattle.std.specs.{List.list_all, Option.option_map_or, Option.is_some}
 use Rattle.wit_model.specs.{Tree.Tree, Meaning.Signature}
 use Rattle.wit_model.specs.declared.model.Resolve.{Resolve}
@@ -34,10 +34,7 @@ outer-at outer e = let m = some-of (outer_scope outer) e in record { scope = m.0
 
 -- the slot of a new declaration has the next number
 pub outer-index : (outer : Declarations) → OuterAt outer → type_slots_of outer ≡ length (outer_contents outer).slots
-outer-index outer a =
-    let e = steps-count new_scope a.scope outer a.is in
-    let f : length (outer_contents outer).slots ≡ length a.scope.slots = ap length a.slots in
-    omega arith
+outer-index outer a = search (std_rules, steps-count new_scope a.scope outer a.is)
 
 outer-grew : (outer : Declarations) (d : Declaration) (x : Slot) (a : OuterAt outer) → component_step a.scope d ≡ Some (in_scope x a.scope)
     → Grew (outer_contents outer) (outer_contents (append outer (Declarations.declares d Declarations.no_more))) x
@@ -55,13 +52,7 @@ outer-definitions : (outer : Declarations) (d : Declaration) (types functions : 
     → definitions_with (outer_contents (append outer (Declarations.declares d Declarations.no_more))) ≡ record
     { types = types; exported = (outer_contents outer).exported; functions = functions; exports = (definitions_with (outer_contents outer)).exports }
 unfolding outer_contents
-outer-definitions outer d types functions t u f = λ i. record {
-  types = (slots-next is_value_type outer d ∙ t) i;
-  exported =
-      (targets-push outer d ∙ ap (λ o. targets_of outer ++ option_to_list o) u ∙ append-nil (targets_of outer)) i;
-  functions = (slots-next is_function_type outer d ∙ f) i;
-  exports = [];
-}
+outer-definitions outer d types functions t u f = search (std_rules, slots-next, targets-push, append-nil)
 
 module _ {E : Type 0} (res : Result ℕ E) (r : Resolve) (outer outer' : Declarations) where
   abbrev before : Contents

@@ -1,20 +1,18 @@
 -- What is met from a type of an owner is of that owner, but for what its aliases of types of other interfaces name.
-use Rattle.std.proofs.Common.{◌≡◌, refl, sym, subst, ◌∙◌, ℕ, ◌+◌, Bool, true, false, ◌||◌, ◌==◌, cond, T, eqb→eq, Option, Some, None, is_some, nat_eq, nat_lt, String, arith}
-use Rattle.std.proofs.Math.Dec.{eqb_refl}
+use Rattle.std.proofs.Common.{rules as std_rules, ◌≡◌, refl, sym, subst, ◌∙◌, ℕ, Bool, true, false, ◌||◌, Option, Some, None, is_some, String}
 use Rattle.std.specs.declared.alloc.Global.{Global}
 use Rattle.std.specs.{Prelude.is_none, List.Contains, List.list_all, Option.option_map_or}
 use Rattle.wit_model.specs.{Lookup.type_at, Uses.alias_target, Uses.owner_interface}
 use Rattle.wit_model.specs.Parts.{kind_numbers, met_by, met_of, used_by_type, same_owner, has_owner}
 use Rattle.wit_model.specs.{Text.Text, Text.text_of, Rules.is_use, Rules.is_listed, Rules.type_stays, Valid.IsValid, Valid.order_of_types, Valid.owners}
-use Rattle.wit_model.specs.declared.model.{Resolve.Resolve, TypeDef.TypeDef, TypeDefKind.TypeDefKind, TypeOwner.TypeOwner, «Type».«Type» as ValueType}
+use Rattle.wit_model.specs.declared.model.{Resolve.Resolve, TypeDef.TypeDef, TypeDefKind.TypeDefKind, TypeOwner.TypeOwner}
 use Rattle.wit_model.specs.declared.model.TypeId.{TypeId}
 use Rattle.wit_model.proofs.{Entries.each_from_at, Entries.lists_pass, Functions.all_flat, Owners.named_met, Owners.unnamed_met, Owners.owned_stays}
 use Rattle.wit_model.proofs.PartsLemmas.{owner_same as same-owner}
 use Rattle.encode_types.specs.{Kinds.parts_of, Plan.foreign_owner, Table.interface_of_owner}
 use Rattle.encode_types.proofs.Planning.{part-number}
 use Rattle.encode_shown.proofs.Basics.{valid-references, or-cases}
-use Rattle.base_lemmas.proofs.{Bools.right_of as second_true, Elements.all-contained, Elements.last_of as one-contained}
-use Rattle.wit_model.specs.declared.model.TypeDefKind.TheVariants as kind
+use Rattle.base_lemmas.proofs.{Bools.right_of as second_true, Elements.all-contained}
 use Rattle.wit_model.specs.declared.model.TypeOwner.TheVariants as owner
 use Rattle.wit_model.specs.declared.model.«Type».TheVariants as ty
 
@@ -22,49 +20,27 @@ use Rattle.wit_model.specs.declared.model.«Type».TheVariants as ty
 
 -- a type that isn't foreign and belongs to an interface belongs to this one
 pub own-interface : (o a : TypeOwner) (i : ℕ) → owner_interface a ≡ Some i → foreign_owner (interface_of_owner o) a ≡ None → same_owner a o ≡ true
-own-interface o (owner.World w) i e f = let wrong : ⊥ = cc in absurd wrong
-own-interface o owner.None i e f = let wrong : ⊥ = cc in absurd wrong
-own-interface (owner.World w) (owner.Interface j) i e f = let wrong : ⊥ = cc in absurd wrong
-own-interface owner.None (owner.Interface j) i e f = let wrong : ⊥ = cc in absurd wrong
-own-interface (owner.Interface k) (owner.Interface j) i e f = go (nat_eq k.0 j.0) refl f
-  where
-    holds : (b : Bool) → T b → b ≡ true
-    holds true h = refl
-    holds false h = absurd h
-
-    go : (b : Bool) → nat_eq k.0 j.0 ≡ b → cond b None (Some j) ≡ None → (j.0 == k.0) ≡ true
-    go true q g = let same : k.0 ≡ j.0 = eqb→eq k.0 j.0 (subst T (sym q) tt) in subst (λ (n : ℕ). (j.0 == n) ≡ true) (sym same) (holds (j.0 == j.0) (eqb_refl j.0))
-    go false q g = let wrong : ⊥ = cc in absurd wrong
+own-interface o x i e f = search std_rules
 
 -- ---- uses
 
 -- what holds of the target of an alias holds of its part
 pub alias-part : (test : ℕ → Bool) (k : TypeDefKind) (id : TypeId) → option_map_or test (alias_target k) false ≡ true → Contains (parts_of k) (ty.Id id) → test id.0 ≡ true
-alias-part test (kind.Type_ t) id h c = go t h (one-contained t (ty.Id id) c)
-  where
-    go : (t : ValueType) → option_map_or test (alias_target (kind.Type_ t)) false ≡ true → t ≡ ty.Id id → test id.0 ≡ true
-    go t h e = subst (λ (x : ValueType). option_map_or test (alias_target (kind.Type_ x)) false ≡ true) e h
-alias-part test _ id h c = let wrong : ⊥ = cc in absurd wrong
+alias-part test y id h c = search std_rules
 
 some-of : {A B : Type 0} (f : A → B → Bool) (o : Option A) (b : B) → option_map_or (λ a. f a b) o false ≡ true → is_some o ≡ true
-some-of f None b h = let wrong : ⊥ = cc in absurd wrong
-some-of f (Some a) b h = refl
+some-of f x b h = search std_rules
 
 -- ---- what is met
 
 -- a type that stands in its owner's list has an owner
 real-owner : (r : Resolve) (n : ℕ) (name : Text) (o : TypeOwner) → is_listed r n name o ≡ true → same_owner o owner.None ≡ false
-real-owner r n name (owner.Interface id) h = refl
-real-owner r n name (owner.World id) h = refl
-real-owner r n name owner.None h = let wrong : ⊥ = cc in absurd wrong
+real-owner r n name x h = search std_rules
 
 pub named-listed : (r : Resolve) → IsValid r → (n : ℕ) (def : TypeDef) → type_at r n ≡ Some def
     → option_map_or (λ name. is_listed r n (text_of name) def.owner) def.name (same_owner def.owner owner.None) ≡ true
 unfolding order_of_types
-named-listed r v n def is =
-    let here : 0 + n ≡ n = omega arith in
-    second_true (list_all (λ k. nat_lt k n) (kind_numbers def.kind)) _
-    (subst (λ m. order_of_types.type_ r m def ≡ true) here (each_from_at (order_of_types.type_ r) 0 r.types.items n def (lists_pass order_of_types r v.rules.order_of_types).3 is))
+named-listed r v n def is = search (std_rules, second_true, each_from_at, lists_pass)
 
 type-stays : (r : Resolve) → IsValid r → (n : ℕ) (def : TypeDef) → type_at r n ≡ Some def → type_stays r def ≡ true
 unfolding owners

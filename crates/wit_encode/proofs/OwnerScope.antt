@@ -1,13 +1,13 @@
 -- All that is met from the types and functions of an owner can be encoded in its scope, where an instance of each interface that it
 -- uses stands. It is of the owner, or of such an interface.
-use Rattle.std.proofs.Common.{◌≡◌, refl, sym, subst, ap, ◌∙◌, ℕ, ◌<◌, ◌⊎◌, inl, inr, Bool, true, false, not, cond, ◌&&◌, ◌==◌, eq-eqb, List, [], ◌∷◌, length, option_to_list, Option, Some, None, String, unwrap_or, is_some, arith}
+use Rattle.std.proofs.Common.{rules as std_rules, ◌≡◌, refl, sym, subst, ap, ◌∙◌, ℕ, ◌<◌, ◌⊎◌, inl, inr, Bool, true, false, not, ◌&&◌, List, [], ◌∷◌, length, option_to_list, Option, Some, None, String, unwrap_or, is_some, arith}
 use Rattle.std.proofs.lemmas.Bool.{ltb-true, and_from as both, not-true, or_left as or-first, or_right as or-second}
 use Rattle.std.proofs.lemmas.{List.Folds.list_all-append, Option.slice_get_within, Option.same_Some as some-same, List.Elements.Contains-append_left}
 use Rattle.std.specs.declared.alloc.Global.{Global}
 use Rattle.std.specs.{List.Contains, List.list_all, Option.option_map_or, Prelude.map, Prelude.option_and_then, Prelude.filter_map}
 use Rattle.indexmap.specs.IndexMap.{values}
-use Rattle.wit_model.specs.{Text.text_of, Types.number_of, Meant.type_meaning, Uses.alias_target, Uses.owner_interface, Uses.used_interface, Uses.items_of}
-use Rattle.wit_model.specs.Lookup.{type_at, interface_at, world_at, place_of, resource_of, is_async}
+use Rattle.wit_model.specs.{Text.text_of, Types.number_of, Meant.type_meaning, Uses.alias_target, Uses.owner_interface, Uses.used_interface}
+use Rattle.wit_model.specs.Lookup.{type_at, interface_at, world_at, place_of, is_async}
 use Rattle.wit_model.specs.Parts.{met_by, met_of, same_owner, has_owner, function_types, function_numbers, kind_numbers, is_resource_type}
 use Rattle.wit_model.specs.Rules.{in_list, is_use, owner_in_range, passes, package_number, function_in_range, function_stays, item_in_range, key_in_range, entries_in_range}
 use Rattle.wit_model.specs.Valid.{IsValid, numbers_in_range, owners, handles, is_place, functions_of_interface, functions_of_world, item_function}
@@ -22,12 +22,11 @@ use Rattle.encode_types.specs.{Plan.foreign_owner, Plan.AllInRange, Plan.Reaches
 use Rattle.encode_types.specs.Fits.{FitsScope, CanEncode}
 use Rattle.wit_encode.specs.OwnerScope.{IsScopeOf, IsMet, IsOfInstance, NamesStand, InstancesStand, IsUsedBy, UsesStand, IsTypeOf, functions_of, NamesEncode, TypesEncode, FunctionsEncode, TypesUse, FunctionsUse, TableScope, TableUsesStand}
 use Rattle.wit_encode.proofs.{Forming.Agree, ImportsStand.below-there}
-use Rattle.wit_encode.proofs.{Owned.stays, Owned.part-met, Owned.own-interface, Owned.alias-part, Naming.one-home, Naming.named-owner, Naming.names-agree}
+use Rattle.wit_encode.proofs.{Owned.stays, Owned.part-met, Owned.alias-part, Naming.one-home, Naming.named-owner, Naming.names-agree}
 use Rattle.wit_encode.proofs.Validity.{OwnersMet, valid-layered, valid-unnamed, valid-ownerless, valid-formed, signature-formed, has-name, named-agree, named-parts, named-alike, foreign-interface, declared-there}
 use Rattle.encode_shown.proofs.Basics.{valid-references}
 use Rattle.base_lemmas.proofs.{Bools.left_of as first_true, Bools.right_of as second_true, Lists.given-some, Options.there as some-of}
-use Rattle.base_lemmas.proofs.{Elements.all-contained, Elements.contains-one, Elements.last_of as one-contained, Numbers.equal as equal-numbers}
-use Rattle.wit_model.specs.declared.model.WorldItem.TheVariants as item
+use Rattle.base_lemmas.proofs.{Elements.all-contained, Elements.contains-one, Elements.last_of as one-contained}
 use Rattle.wit_model.specs.declared.model.TypeOwner.TheVariants as owner
 use Rattle.wit_model.specs.declared.model.«Type».TheVariants as ty
 
@@ -41,12 +40,7 @@ own-met r o a e = or-first (same_owner o a) (is_named_interface r a) (is-owned o
 
 -- a type of the owner isn't foreign
 at-home : (o a : TypeOwner) → a ≡ o → foreign_owner (interface_of_owner o) a ≡ None
-at-home o a e = subst (λ (x : TypeOwner). foreign_owner (interface_of_owner o) x ≡ None) (sym e) (go o)
-  where
-    go : (o : TypeOwner) → foreign_owner (interface_of_owner o) o ≡ None
-    go (owner.World w) = refl
-    go (owner.Interface i) = ap (λ b. cond b None (Some i)) (eq-eqb i.0 i.0 refl)
-    go owner.None = refl
+at-home o a e = search std_rules
 
 -- nor is an unnamed one
 pub unnamed-home : (r : Resolve) → IsValid r → (own : Option InterfaceId) (n : ℕ) (def : TypeDef) → type_at r n ≡ Some def → def.name ≡ None → foreign_owner own def.owner ≡ None
@@ -75,13 +69,10 @@ part-reached r own _ _ (through x d t n at g p re) def is f id c = through x d t
 module _ (r : Resolve) (v : IsValid r) (o : TypeOwner) (scope : Scope) (s : IsScopeOf r o scope) where
   -- the same owner, where a type of an interface isn't foreign
   own-home : (def : TypeDef) → (def.owner ≡ o) ⊎ IsOfInstance r scope def → foreign_owner scope.own_interface def.owner ≡ None → def.owner ≡ o
-  own-home def (inl e) f = e
-  own-home def (inr h) f = same-owner def.owner o
-      (own-interface o def.owner h.interface.0 (ap owner_interface h.owned) (ap (λ x. foreign_owner x def.owner) (sym s.own) ∙ f))
+  own-home def y f = search std_rules
 
   met-owner : (def : TypeDef) → (def.owner ≡ o) ⊎ IsOfInstance r scope def → is_met_owner r o def.owner ≡ true
-  met-owner def (inl e) = own-met r o def.owner e
-  met-owner def (inr h) = or-second (same_owner o def.owner) (is_named_interface r def.owner) h.named_
+  met-owner def x = search (std_rules, own-met, or-second)
 
   module _ (ts : List ValueType) (stand : NamesStand r o scope ts) where
     -- the parts of what is met belong to owners that are met
@@ -150,9 +141,7 @@ module _ (r : Resolve) (v : IsValid r) (o : TypeOwner) (scope : Scope) (s : IsSc
 
 -- the target of an alias
 pub target-is : (k : TypeDefKind) (m : ℕ) (id : TypeId) → alias_target k ≡ Some m → Contains (parts_of k) (ty.Id id) → alias_target k ≡ Some id.0
-target-is k m id e c =
-    let same : (id.0 == m) ≡ true = alias-part (λ (x : ℕ). x == m) k id (ap (λ (t : Option ℕ). option_map_or (λ (x : ℕ). x == m) t false) e ∙ eq-eqb m m refl) c in
-    e ∙ ap Some (sym (equal-numbers id.0 m same))
+target-is k m id e c = search std_rules
 
 module _ (r : Resolve) (v : IsValid r) (o : TypeOwner) where
   -- each named type that is met through unnamed ones has the owner
@@ -216,10 +205,7 @@ module _ (r : Resolve) (v : IsValid r) (o : TypeOwner) where
   Meets n = Stay n ⊎ ((def : TypeDef) → type_at r n ≡ Some def → IsUse def)
 
   pub use-foreign : (def : TypeDef) → IsUse def → foreign_owner (interface_of_owner o) def.owner ≡ None → ⊥
-  use-foreign def u f =
-      let same : same_owner def.owner o ≡ true = own-interface o def.owner u.interface.0 (ap owner_interface u.owns) f in
-      let wrong : true ≡ false = sym same ∙ u.other in
-      let z : ⊥ = cc in z
+  use-foreign def u f = search std_rules
 
   reached-meets : (t : ValueType) (n : ℕ) → ((id : TypeId) → t ≡ ty.Id id → Meets id.0) → Reaches r (interface_of_owner o) t n → Meets n
   reached-meets _ _ p (itself id) = p id refl
@@ -279,8 +265,7 @@ module _ (r : Resolve) (v : IsValid r) (o : TypeOwner) where
       one-id e h = subst (λ (n : ℕ). Stay n) (ap (λ x. unwrap_or (number_of x) id.0) e) h
 
   type-inside : (id : TypeId) → IsTypeOf r o id → AllInRange r (ty.Id id ∷ [])
-  type-inside id t u c id' e = subst (λ (n : ℕ). n < length r.types.items) (ap (λ x. unwrap_or (number_of x) id.0) (one-contained (ty.Id id) u c ∙ e))
-      (slice_get_within r.types.items id.0 t.def t.there)
+  type-inside id t u c id' e = grind (arith, unwrap_or, one-contained, slice_get_within)
 
 -- ---- functions
 
@@ -308,22 +293,15 @@ abbrev fits-item : Resolve → WorldItem → Bool
 fits-item r i = list_all (function_in_range r) (option_to_list (item_function i))
 
 item-fits : (r : Resolve) (i : WorldItem) → item_in_range r i ≡ true → fits-item r i ≡ true
-item-fits r (item.Interface id stability docs external_id) h = refl
-item-fits r (item.Function f) h = both (function_in_range r f) true h refl
-item-fits r (item.Type_ id) h = refl
+item-fits r x h = search std_rules
 
 entries-fit : (r : Resolve) (es : List (WorldKey × WorldItem)) → entries_in_range r es ≡ true → list_all (fits-item r) (map (λ e. e.1) es) ≡ true
 entries-fit r [] h = refl
 entries-fit r (e ∷ es) h =
-    let first : (key_in_range r e.0 && item_in_range r e.1) ≡ true = first_true (key_in_range r e.0 && item_in_range r e.1) (entries_in_range r es) h in
-    both (fits-item r e.1) (list_all (fits-item r) (map (λ e. e.1) es)) (item-fits r e.1 (second_true (key_in_range r e.0) (item_in_range r e.1) first))
-    (entries-fit r es (second_true (key_in_range r e.0 && item_in_range r e.1) (entries_in_range r es) h))
+    search (std_rules, first_true, both, item-fits, second_true, entries-fit r es (second_true (key_in_range r e.0 && item_in_range r e.1) (entries_in_range r es) h))
 
 world-fits : (r : Resolve) (w : World) → entries_in_range r w.imports.entries ≡ true → entries_in_range r w.exports.entries ≡ true → list_all (function_in_range r) (functions_of_world w) ≡ true
-world-fits r w a b =
-    list_all_filter_map (function_in_range r) item_function (items_of w)
-    ∙ (list_all-append (fits-item r) (values w.imports) (values w.exports)
-    ∙ both (list_all (fits-item r) (values w.imports)) (list_all (fits-item r) (values w.exports)) (entries-fit r w.imports.entries a) (entries-fit r w.exports.entries b))
+world-fits r w a b = search (std_rules, list_all_filter_map, list_all-append, both, entries-fit)
 
 module _ (r : Resolve) (v : IsValid r) where
   function-stays : (o : TypeOwner) (f : Function) → Contains (functions_of r o) f → function_stays r o f ≡ true
@@ -349,8 +327,7 @@ module _ (r : Resolve) (v : IsValid r) where
       world-fits r home (first_true (entries_in_range r home.imports.entries) _ entries) (second_true (entries_in_range r home.imports.entries) _ entries))
 
   pub function-refers : (f : Function) (id : TypeId) → Contains (function_types f) (ty.Id id) → Contains (function_numbers f) id.0
-  function-refers f id c = Contains-append_left (filter_map number_of (function_types f)) (option_to_list (resource_of f.kind)) id.0
-      (contains-filter_map number_of (function_types f) (ty.Id id) id.0 c (contains-one id.0))
+  function-refers f id c = search (std_rules, Contains-append_left, contains-filter_map, contains-one)
 
   function-inside : (o : TypeOwner) (f : Function) → Contains (functions_of r o) f → AllInRange r (function_types f)
   function-inside o f c t d id e =
@@ -386,14 +363,7 @@ pub functions_use : FunctionsUse
 functions_use r o scope f v s c stand = uses-stand r v o scope s (function_types f) (types-stay r v o f c) stand
 
 pub table_is_scope : TableScope
-table_is_scope r o v = record {
-  packages_ = refl;
-  place_ = refl;
-  own = refl;
-  declares = λ n def name is e here. declared-there r v o n def is name e (is-owned def.owner o here);
-  names = names-agree r v (is_met_owner r o) (one-home r v o);
-  sound = refl;
-}
+table_is_scope r o v = search (std_rules, declared-there, is-owned, names-agree, one-home)
 
 owner-inside : (r : Resolve) → IsValid r → (t : ℕ) (def : TypeDef) → type_at r t ≡ Some def → owner_in_range r def.owner ≡ true
 unfolding numbers_in_range

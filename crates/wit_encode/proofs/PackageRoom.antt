@@ -1,5 +1,5 @@
 -- A component in which the component types of a package have no room: the package is too heavy.
-use Rattle.std.proofs.Common.{◌≡◌, ◌<◌, ◌≤◌, ◌+◌, inl, inr, refl, sym, ap, subst, ◌∙◌, Bool, false, ◌&&◌, List, [], ◌∷◌, ◌++◌, append_assoc, Some, ℕ, zero, suc, append-nil, length, length-append, option_map, option_to_list, Option, arith}
+use Rattle.std.proofs.Common.{rules as std_rules, ◌≡◌, ◌<◌, ◌≤◌, ◌+◌, inl, inr, refl, sym, ap, subst, ◌∙◌, Bool, false, ◌&&◌, List, [], ◌∷◌, ◌++◌, append_assoc, Some, ℕ, zero, suc, append-nil, length, length-append, option_map, option_to_list, Option, arith}
 use Rattle.std.proofs.lemmas.Bool.{lt-ltb}
 use Rattle.std.proofs.lemmas.List.{Elements.Contains-append_left, Elements.Contains-append_right, Sums.sum_by-cons, Sums.sum_by-append}
 use Rattle.wit_model.specs.{Text.Text, Text.text_of, Names.PackageIdentity, Names.path_in, Valid.IsValid}
@@ -17,7 +17,7 @@ use Rattle.wit_encode.specs.PackageRoom.{InterfacesLackRoom, LacksInterface, Lac
 use Rattle.wit_encode.proofs.{Lengths.long-parts, Lengths.long-component, Lengths.name-short, Lengths.u32-short, Weighing.one-of}
 use Rattle.wit_encode.proofs.Packages.{IsBegun, WorldsBegun, next-listed, next-world, type-added, world-added}
 use Rattle.wit_encode.proofs.WholePackages.{are-worlds, no-worlds_yet}
-use Rattle.std.specs.{Prelude.option_and_then, Prelude.sum_by, List.AllZip, List.Contains, Option.option_map_or}
+use Rattle.std.specs.{Prelude.option_and_then, Prelude.sum_by, List.AllZip, List.Contains}
 use Rattle.wit_model.proofs.OnePath.{found-in}
 use Rattle.encode_shown.proofs.Owning.{own-world}
 use Rattle.encode_shown.specs.PackageTypes.{wrapper}
@@ -134,10 +134,7 @@ module _ (r : Resolve) (v : IsValid r) (n : ℕ) (p : Package) (at : package_at 
 
   weight-is : package_weight r n ≡ 64 + (sum_by interface-weight p.interfaces.entries + sum_by world-weight p.worlds.entries)
   unfolding package_weight
-  weight-is =
-      ap (λ (o : Option Package). option_map_or (λ p.
-      64 + (sum_by (λ e. exported_weight (text_of e.0) (interface_weight r e.1.0)) p.interfaces.entries
-      + sum_by (λ e. exported_weight (text_of e.0) (wrapped_weight r e.1.0)) p.worlds.entries)) o 0) at
+  weight-is = search std_rules
 
   interface-within : (e : Listed) → Contains p.interfaces.entries e → interface_weight r e.1.0 ≤ package_weight r n
   interface-within e c = let one = one-of interface-weight p.interfaces.entries e c in let is = weight-is in omega (arith, one, is)

@@ -1,5 +1,5 @@
 -- Component types that are added one after the other.
-use Rattle.std.proofs.Common.{◌≡◌, refl, sym, ap, subst, ◌∙◌, ℕ, Bool, true, List, [], ◌∷◌, ◌++◌, append_assoc, append-nil, Some, Result, Ok, Err, IfErr, OnOk, ◌⊎◌, inl, inr, ◌≤◌}
+use Rattle.std.proofs.Common.{rules as std_rules, ◌≡◌, refl, sym, ap, subst, ◌∙◌, ℕ, Bool, true, List, [], ◌∷◌, ◌++◌, append_assoc, append-nil, Some, Result, Ok, Err, IfErr, OnOk, ◌⊎◌, inl, inr, ◌≤◌}
 use Rattle.std.proofs.lemmas.List.Elements.{Contains-append_cases, Contains-append_left, Contains-append_right}
 use Rattle.std.specs.{Prelude.IsErrAnd, List.Contains}
 use Rattle.wit_model.specs.{Text.Text, Text.text_of, Names.PackageIdentity, Lookup.interface_path, Lookup.world_at, Weight.interface_weight}
@@ -9,22 +9,17 @@ use Rattle.comp_bytes.specs.{Raw.Declarations, Parts.Part, Refusal.IsMemoryOrSiz
 use Rattle.encode_exports.specs.ExportedParts.{exporting}
 use Rattle.wit_encode.specs.{Dependencies.ShowsComponent, DependencyCounts.DefinesComponent, Scopes.HasNoEqualPaths, Scopes.RefusesInterface}
 use Rattle.wit_encode.specs.{Instance.declared_extent, WrittenNames.WritesPaths}
-use Rattle.wit_encode.specs.Packages.{AddsInterface, AddsWorld, AddsWorlds, HasNoClashAt, HaveNoClash, HaveNoEqualPaths, HoldsInterfaces, IsTypeOf, IsWrapperOf, Listed, ListedWorld, RefusesInterfaces, RefusesWorldAt, RefusesWorlds, WrapsWorld}
+use Rattle.wit_encode.specs.Packages.{AddsInterface, AddsWorld, AddsWorlds, HasNoClashAt, HaveNoClash, HaveNoEqualPaths, HoldsInterfaces, IsWrapperOf, Listed, ListedWorld, RefusesInterfaces, RefusesWorldAt, RefusesWorlds, WrapsWorld}
 use Rattle.base_lemmas.proofs.Elements.{contains-one, last_of as one-contained}
 
 pub on-ok : {X E A B : Type 0} (given : Result X E) → OnOk given A → (A → B) → OnOk given B
-on-ok (Ok x) a f = f a
-on-ok (Err e) a f = tt
+on-ok x a f = search std_rules
 
 pub type-added : (r : Resolve) (canonical : Bool) (e : Listed) (declared : Declarations) (old new : List Part)
     → ((path : Text) → interface_path r e.1.0 ≡ Some path → ShowsComponent r e.1.0 path declared) → WritesPaths r canonical e.1.0 declared → DefinesComponent r e.1.0 declared
     → declared_extent declared ≤ interface_weight r e.1.0 → ((types : List (Text × Declarations)) → old ≡ exporting types → new ≡ exporting (types ++ (text_of e.0, declared) ∷ []))
     → AddsInterface r canonical e old new
-type-added r canonical e declared old new shows names once light more = λ entries h. record {
-  types = h.types ++ (text_of e.0, declared) ∷ [];
-  are = zip-push (IsTypeOf r canonical) entries h.types e (text_of e.0, declared) h.are (record { label = refl; shows = shows; names = names; once = once; light = light });
-  is = more h.types h.is;
-}
+type-added r canonical e declared old new shows names once light more = search (std_rules, zip-push)
 
 pub paths-added : (r : Resolve) (entries : List Listed) (e : Listed) → HaveNoEqualPaths r entries → HasNoEqualPaths r e.1.0 → HaveNoEqualPaths r (entries ++ e ∷ [])
 paths-added r entries e h one = λ f c. go f (Contains-append_cases entries (e ∷ []) f c)
@@ -35,8 +30,7 @@ paths-added r entries e h one = λ f c. go f (Contains-append_cases entries (e �
 
 pub room-refused : {X : Type 0} (r : Resolve) (n : ℕ) (canonical : Bool) (given : Result X Error) → (canonical ≡ true → HasNoEqualPaths r n) → IfErr given IsMemoryOrSize
     → IfErr given (RefusesInterface r n canonical)
-room-refused r n canonical (Ok x) differ h = tt
-room-refused r n canonical (Err e) differ h = RefusesInterface.of_room differ h
+room-refused r n canonical x differ h = search std_rules
 
 pub first-refused : {X : Type 0} (r : Resolve) (entries before after : List Listed) (f : Listed) (canonical : Bool) (e : Error) (given : Result X Error) → entries ≡ before ++ (f ∷ after)
     → (canonical ≡ true → HaveNoEqualPaths r before) → RefusesInterface r f.1.0 canonical e → IsErrAnd given (λ d. d ≡ e) → IfErr given (RefusesInterfaces r entries canonical)
@@ -73,8 +67,7 @@ next-refused r canonical entries left rest parts e error given h is refuses same
     first-refused r entries h.done rest e canonical error given (h.split ∙ ap (λ (es : List Listed). h.done ++ es) is) h.differ refuses same
 
 pub all-held : (r : Resolve) (canonical : Bool) (entries left : List Listed) (parts : List Part) → IsBegun r canonical entries left parts → left ≡ [] → HoldsInterfaces r canonical entries parts
-all-held r canonical entries left parts h is = subst (λ (es : List Listed). HoldsInterfaces r canonical es parts)
-    (sym (h.split ∙ ap (λ (es : List Listed). h.done ++ es) is ∙ append-nil h.done)) h.holds
+all-held r canonical entries left parts h is = search std_rules
 
 -- ---- worlds
 

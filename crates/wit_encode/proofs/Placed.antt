@@ -1,6 +1,6 @@
 -- An instance type that is declared in a component type behind aliases, and imported or exported there: how much is declared by then, and what of it
 -- defines types.
-use Rattle.std.proofs.Common.{◌≡◌, refl, sym, ap, subst, ◌∙◌, ℕ, ◌+◌, ◌⊎◌, inl, inr, Bool, true, false, not, cond, List, [], ◌∷◌, ◌++◌, append-nil, append_assoc, Option, Some, None, slice_get, length, length-append, Result, Ok, Err, IfOk, OnErr, IsSome, arith, zero, suc, ◌≤◌, nat_cmp, ◌&&◌, is_some}
+use Rattle.std.proofs.Common.{rules as std_rules, ◌≡◌, refl, sym, ap, subst, ◌∙◌, ℕ, ◌+◌, ◌⊎◌, inl, inr, Bool, true, false, not, cond, List, [], ◌∷◌, ◌++◌, append-nil, append_assoc, Option, Some, None, slice_get, length, length-append, Result, Ok, Err, IfOk, OnErr, IsSome, arith, zero, suc, ◌≤◌, nat_cmp, ◌&&◌, is_some}
 use Rattle.std.proofs.lemmas.{Bool.eq-eqb, Bool.cases_Bool, Bool.cond-true, Bool.cond-false, Bool.and_from as both, List.Folds.list_all-append}
 use Rattle.std.proofs.lemmas.Option.{slice_get_within}
 use Rattle.std.specs.{List.list_all, List.Contains, List.filter, Option.option_map_or, Cmp.Derive.both_true, BTreeMap.insert_entry, BTreeMap.is_at}
@@ -128,22 +128,16 @@ slots-inside r outer (Some current) some sound =
 
 functions-inside : (r : Resolve) (outer : Declarations) (inner : Option OpenInterface) → IsSome inner → (defined_in r outer inner).functions ≡ function_slots (from_list (declared_inside inner))
 unfolding inner_contents
-functions-inside r outer None some = absurd (let z : ⊥ = cc in z)
-functions-inside r outer (Some current) some = refl
+functions-inside r outer x some = search std_rules
 
 -- one that is open is open still
 pub open-still : (inner inner' : Option OpenInterface) → own_of inner' ≡ own_of inner → IsSome inner → IsSome inner'
-open-still None inner' e some = absurd (let z : ⊥ = cc in z)
-open-still (Some a) None e some = absurd (let z : ⊥ = cc in z)
-open-still (Some a) (Some b) e some = refl
+open-still x inner' e some = search std_rules
 
 -- ---- after the types
 
 taken-no-function : (d : Declaration) → takes_index d ≡ true → not (describes is_function d) ≡ true
-taken-no-function (Declaration.imported name (refs.Func n)) e = absurd (let z : ⊥ = cc in z)
-taken-no-function (Declaration.imported name (refs.TypeEq n)) e = refl
-taken-no-function (Declaration.exported name (refs.Func n)) e = absurd (let z : ⊥ = cc in z)
-taken-no-function _ e = refl
+taken-no-function x e = search std_rules
 
 pub types-in-order : (r r' : Resolve) (outer outer' : Declarations) (inner inner' : Option OpenInterface) → IsSome inner → IsSome inner' → declared_inside inner ≡ []
     → ((told : Told) → KeepsInside inner told → KeepsInside inner' told) → (defined_in r' outer' inner').functions ≡ (defined_in r outer inner).functions

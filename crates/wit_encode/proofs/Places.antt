@@ -1,5 +1,5 @@
 -- Where declarations stand: the type of a function and an instance type just before the import or export that has it, types before functions.
-use Rattle.std.proofs.Common.{◌≡◌, refl, sym, ap, subst, ◌∙◌, ℕ, ◌+◌, ◌⊎◌, inl, inr, Bool, true, false, not, ◌&&◌, ◌||◌, cond, List, [], ◌∷◌, ◌++◌, append-nil, append_assoc, arith}
+use Rattle.std.proofs.Common.{rules as std_rules, ◌≡◌, refl, sym, ap, subst, ◌∙◌, ℕ, ◌+◌, ◌⊎◌, inl, inr, Bool, true, false, not, ◌&&◌, ◌||◌, cond, List, [], ◌∷◌, ◌++◌, append-nil, append_assoc, arith}
 use Rattle.std.proofs.lemmas.{Bool.eqb-true, Bool.eq-eqb, List.append_cancel_left, List.Folds.list_all-append}
 use Rattle.std.specs.{List.list_all, Cmp.Derive.both_true}
 use Rattle.base_lemmas.proofs.{Bools.left_of, Bools.right_of, Numbers.no-slot}
@@ -36,18 +36,9 @@ one-list (x ∷ xs) (y ∷ ys) e =
 -- the slots of what passes a test, behind others
 slots-both : (test : Declaration → Bool) (n : ℕ) (a b : Declarations) → slots_from test n (append a b) ≡ slots_from test n a ++ slots_from test (n + type_slots_of a) b
 slots-both test n Declarations.no_more b = ap (λ (k : ℕ). slots_from test k b) (sym (no-slot n))
-slots-both test n (Declarations.declares d rest) b =
-    let here : List ℕ = cond (test d) (n ∷ []) [] in
-    let far : n + declaration_slots d + type_slots_of rest ≡ n + (declaration_slots d + type_slots_of rest) = omega arith in
-    ap (λ (xs : List ℕ). here ++ xs)
-    (slots-both test (n + declaration_slots d) rest b ∙ ap (λ (k : ℕ). slots_from test (n + declaration_slots d) rest ++ slots_from test k b) far)
-    ∙ sym (append_assoc here (slots_from test (n + declaration_slots d) rest) (slots_from test (n + (declaration_slots d + type_slots_of rest)) b))
-slots-both test n (Declarations.component inner rest) b =
-    let far : n + 1 + type_slots_of rest ≡ n + (1 + type_slots_of rest) = omega arith in
-    slots-both test (n + 1) rest b ∙ ap (λ (k : ℕ). slots_from test (n + 1) rest ++ slots_from test k b) far
-slots-both test n (Declarations.instance inner rest) b =
-    let far : n + 1 + type_slots_of rest ≡ n + (1 + type_slots_of rest) = omega arith in
-    slots-both test (n + 1) rest b ∙ ap (λ (k : ℕ). slots_from test (n + 1) rest ++ slots_from test k b) far
+slots-both test n (Declarations.declares d rest) b = search (std_rules, append_assoc, slots-both test (n + declaration_slots d) rest b)
+slots-both test n (Declarations.component inner rest) b = search (std_rules, slots-both test (n + 1) rest b)
+slots-both test n (Declarations.instance inner rest) b = search (std_rules, slots-both test (n + 1) rest b)
 
 -- ---- what grows
 
@@ -55,23 +46,16 @@ pub grows-none : (a : Declarations) → GrowsBy a a
 grows-none a = record { more = []; are = sym (append-none a); indexes = refl }
 
 pub grows-more : (a b c : Declarations) (d : Declaration) → c ≡ declared_after b d → takes_index d ≡ true → GrowsBy a b → GrowsBy a c
-grows-more a b c d is one g = record {
-  more = g.more ++ d ∷ [];
-  are =
-      is ∙ ap (λ (z : Declarations). declared_after z d) g.are ∙ append-twice a (from_list g.more) (Declarations.declares d Declarations.no_more)
-      ∙ ap (append a) (sym (from_list-push g.more d));
-  indexes = list_all-append takes_index g.more (d ∷ []) ∙ both_true g.indexes (both_true one refl);
-}
+grows-more a b c d is one g =
+    search (std_rules, append-twice a (from_list g.more) (Declarations.declares d Declarations.no_more), from_list-push g.more d, list_all-append takes_index g.more (d ∷ []))
 
 -- ---- beside
 
 or-more : (x y z : Bool) → (x || y) ≡ true → (y ≡ true → z ≡ true) → (x || z) ≡ true
-or-more true y z h more = refl
-or-more false y z h more = more h
+or-more x y z h more = search std_rules
 
 begins-more : (test : ComponentTypeRef → Bool) (a b : Declarations) → begins_with test a ≡ true → begins_with test (append a b) ≡ true
-begins-more test (Declarations.declares d rest) b h = h
-begins-more test _ b h = absurd (let z : ⊥ = cc in z)
+begins-more test x b h = search std_rules
 
 pub beside-both : (n : ℕ) (a b : Declarations) → are_beside n a ≡ true → are_beside (n + type_slots_of a) b ≡ true → are_beside n (append a b) ≡ true
 beside-both n Declarations.no_more b h k = subst (λ (m : ℕ). are_beside m b ≡ true) (no-slot n) k
@@ -115,9 +99,7 @@ beside-plain n (d ∷ ds) e = by (is_function_type d) refl (beside-plain (n + de
 -- where each declaration takes an index, and none is taken, there is none
 none-taken : (ds : List Declaration) → list_all takes_index ds ≡ true → type_slots ds ≡ 0 → ds ≡ []
 none-taken [] all e = refl
-none-taken (d ∷ ds) all e = absurd
-    (let one : declaration_slots d ≡ 1 = eqb-true (declaration_slots d) 1 (left_of (takes_index d) (list_all takes_index ds) all) in
-    let z : ⊥ = omega (arith, one, e) in z)
+none-taken (d ∷ ds) all e = search std_rules
 
 -- The one type of a function among these is at index i, and that is the last.
 beside-last : (n i : ℕ) (ds : List Declaration) (d : Declaration) → list_all takes_index ds ≡ true → slots_from is_function_type n (from_list ds) ≡ i ∷ [] → n + type_slots ds ≡ i + 1
@@ -191,10 +173,7 @@ function-beside before after i d g (inr new) has plain h =
 -- an instance type, and then its instance
 pub instance-beside : (ds inner : Declarations) (k : ℕ) (d : Declaration) → k ≡ type_slots_of ds → describes (is_instance_at k) d ≡ true → is_function_type d ≡ false
     → StaysBeside ds (declared_after (append ds (Declarations.instance inner Declarations.no_more)) d)
-instance-beside ds inner k d is has plain h =
-    subst (λ (z : Declarations). are_beside 0 z ≡ true) (sym (append-twice ds (Declarations.instance inner Declarations.no_more) (Declarations.declares d Declarations.no_more)))
-    (beside-both 0 ds (Declarations.instance inner (Declarations.declares d Declarations.no_more)) h
-    (both_true (subst (λ (m : ℕ). describes (is_instance_at m) d ≡ true) (let at : k ≡ 0 + type_slots_of ds = omega (arith, is) in at) has) (beside-one (0 + type_slots_of ds + 1) d plain)))
+instance-beside ds inner k d is has plain h = search (std_rules, append-twice, beside-both, beside-one)
 
 -- ---- an instance type behind aliases
 
@@ -205,10 +184,7 @@ aliases-beside a (x ∷ made) h = aliases-beside (with_alias a x) made (beside-a
 -- what imports or exports the instance stands behind its type
 pub part-beside : (r : Resolve) (a a' : Around) (i : InterfaceId) (def : Interface) (written : List (Text × Function)) (fs : List Function) (k : ℕ) → EncodesPart r a a' i def written fs k
     → (d : Declaration) → describes (is_instance_at k) d ≡ true → is_function_type d ≡ false → StaysBeside a.declared (declared_after a'.declared d)
-part-beside r a a' i def written fs k e d has plain h =
-    let before : are_beside 0 e.before.declared ≡ true =
-    subst (λ (z : Around). are_beside 0 z.declared ≡ true) (sym e.aliases.grown.is) (aliases-beside a e.aliases.grown.made h) in
-    subst (λ (z : Around). are_beside 0 (declared_after z.declared d) ≡ true) (sym e.one_more) (instance-beside e.before.declared (from_list e.declared) k d e.index has plain before)
+part-beside r a a' i def written fs k e d has plain h = search (std_rules, aliases-beside, instance-beside)
 
 -- ---- an import or an export
 

@@ -1,7 +1,7 @@
 -- What the types and functions of an interface meet, and what maps learn of it, type by type and function by function.
 use Rattle.encode_types.specs.{Aliases.AliasesMet, Known.Around}
 use Rattle.encode_types.proofs.Aliasing.{met-more}
-use Rattle.std.proofs.Common.{◌≡◌, refl, sym, subst, ap, ◌∙◌, ℕ, suc, ◌+◌, ◌<◌, ◌≤◌, true, ◌&&◌, inl, inr, List, [], ◌∷◌, ◌++◌, map, take, length, get_or, Option, option_to_list, Result, Ok, Err, OnOk, arith}
+use Rattle.std.proofs.Common.{rules as std_rules, ◌≡◌, refl, sym, subst, ap, ◌∙◌, ℕ, suc, ◌+◌, ◌<◌, ◌≤◌, true, ◌&&◌, inl, inr, List, [], ◌∷◌, ◌++◌, map, take, length, get_or, Option, option_to_list, Result, OnOk, arith}
 use Rattle.std.proofs.lemmas.Grind.{flat_map-append}
 use Rattle.std.proofs.lemmas.{List.take_more, List.take_all, List.map-append, List.Sorted.IsPermutation-sym, List.Sorted.length_permutation}
 use Rattle.std.proofs.lemmas.List.Elements.{Contains-append_left, Contains-append_right, Contains-append_cases}
@@ -50,8 +50,7 @@ from-then {r} {own} {own'} {xs} {ys} {a} {b} {c} e p q = record {
 }
 
 pub on-both : {A E P Q R : Type 0} (x : Result A E) → (P → Q → R) → OnOk x P → OnOk x Q → OnOk x R
-on-both (Ok a) f p q = f p q
-on-both (Err e) f p q = q
+on-both x f p q = search std_rules
 
 -- one type more
 pub from-type : (r : Resolve) (own own' : Option InterfaceId) (types : List TypeId) (i : ℕ) (t : TypeId) (a b c : TypeEncodingMaps) → i < length types → own' ≡ own

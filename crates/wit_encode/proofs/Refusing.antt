@@ -1,6 +1,5 @@
 -- What has no room in an encoder of interfaces, where a call has refused it.
-use Rattle.std.proofs.Common.{◌≡◌, refl, sym, subst, ap, ◌∙◌, ◌&&◌, ℕ, ◌+◌, ◌<◌, ◌≤◌, ◌^◌, ◌⊎◌, inl, inr, suc, Bool, true, false, nat_lt, arith, List, [], ◌∷◌, ◌++◌, map, length, length-append, Result, Ok, Err, OnOk, OnErr, IfErr, Option, Some, None, String}
-use Rattle.std.proofs.lemmas.Bool.{lt-ltb, ltb-true, ltb-false}
+use Rattle.std.proofs.Common.{rules as std_rules, ◌≡◌, refl, sym, subst, ap, ◌∙◌, ◌&&◌, ℕ, ◌+◌, ◌≤◌, ◌^◌, ◌⊎◌, inl, inr, suc, Bool, false, nat_lt, arith, List, [], ◌∷◌, ◌++◌, map, length, length-append, Result, Err, OnOk, OnErr, IfErr, Option, Some, None, String}
 use Rattle.std.specs.{List.list_all, List.AllZip, List.flat_map, Set.distinct_count, Borrow.Bor}
 use Rattle.std.specs.declared.alloc.Global.{Global}
 use Rattle.wit_model.specs.{Text.Text, Text.optional_text, Text.text_of as text_at, Tree.Tree, Meaning.Signature, Meant.type_meaning}
@@ -9,11 +8,11 @@ use Rattle.wit_model.specs.declared.model.{Resolve.Resolve, Function.Function, I
 use Rattle.comp_bytes.specs.declared.forms.{ComponentDefinedType.ComponentDefinedType, ComponentFuncType.ComponentFuncType, ComponentTypeRef.ComponentTypeRef}
 use Rattle.comp_bytes.specs.Raw.{Alias, Declaration, Declarations, ExternName, Labeled, append, declaration_count}
 use Rattle.comp_bytes.specs.RawOf.{raw_defined, raw_function, labeled}
-use Rattle.comp_bytes.specs.Held.{described_slots, declaration_slots, type_slots, type_slots_of, fits_counts, fits_next, fits_added}
+use Rattle.comp_bytes.specs.Held.{declaration_slots, type_slots, type_slots_of, fits_counts, fits_next, fits_added}
 use Rattle.comp_bytes.specs.Fits.{fits_length, fits_label, fits_labels, fits_names, fits_defined, fits_declaration}
 use Rattle.wit_encode.specs.declared.interface.OpenInterface.{OpenInterface}
 use Rattle.encode_types.specs.declared.maps.TypeEncodingMaps.{TypeEncodingMaps}
-use Rattle.encode_types.specs.Slots.{Pairs, StandsFor, NamedStands, CaseStands, Follows, FollowsFunction}
+use Rattle.encode_types.specs.Slots.{Pairs, NamedStands, Follows, FollowsFunction}
 use Rattle.encode_types.specs.Room.{Request, IsUnfit, LacksRoomBehind, its_definition, its_name, its_import, LacksOne, a_type, a_request, HasNoRoom, fits_tree, fits_type_name, limit, value_type, function_type, export_name, import_of, function_name, function_requests}
 use Rattle.encode_types.specs.{Scope.exported_name, Kinds.kind_tree, MetKinds.referred, Distinct.are_same, Distinct.key_of}
 use Rattle.wit_encode.specs.{FunctionRoom.LacksFunctions, Instance.held_in, Instance.lacks_room_in, Instance.placed_function}
@@ -21,27 +20,17 @@ use Rattle.wit_encode.proofs.{FunctionRoom.keys-few, HeldKeys.knows-none}
 use Rattle.base_lemmas.proofs.{Elements.zip_long as zip-length, Lists.map_of_map as map-twice}
 use Rattle.wit_model.proofs.TreeLemmas.{child_list_of_children as listed}
 use Rattle.wit_model.specs.declared.error.Error.TheVariants as errors
-use Rattle.comp_bytes.specs.declared.forms.ComponentDefinedType.TheVariants as form
-use Rattle.comp_bytes.specs.declared.forms.ComponentTypeRef.TheVariants as refs
 
 pub on-size : {A : Type 0} (res : Result A Error) (P : Type 0) → OnErr res P → res ≡ Err errors.Size → P
-on-size (Ok x) P p h = absurd (let z : ⊥ = cc in z)
-on-size (Err e) P p h = p
+on-size x y p h = search std_rules
 
 pub never-size : {A Q : Type 0} (res : Result A Error) → IfErr res (λ e. e ≡ errors.Memory) → res ≡ Err errors.Size → Q
-never-size (Ok x) h refused = absurd (let z : ⊥ = cc in z)
-never-size (Err e) h refused = absurd (let z : ⊥ = cc in z)
+never-size x h refused = search std_rules
 
 -- ---- what doesn't fit, or isn't the last
 
-described-one : (d : ComponentTypeRef) → described_slots d ≤ 1
-described-one (refs.TypeEq n) = omega arith
-described-one _ = omega arith
-
 slots-one : (d : Declaration) → declaration_slots d ≤ 1
-slots-one (Declaration.imported name described) = described-one described
-slots-one (Declaration.exported name described) = described-one described
-slots-one _ = omega arith
+slots-one x = search std_rules
 
 slots-few : (ds : List Declaration) → type_slots ds ≤ length ds
 slots-few [] = omega arith
@@ -54,20 +43,11 @@ outer-slots-few (Declarations.component inner rest) = let b = outer-slots-few re
 outer-slots-few (Declarations.instance inner rest) = let b = outer-slots-few rest in omega arith
 
 pub counts-refused : (held slots : ℕ) → slots ≤ held + 1 → fits_counts (held + 1) slots ≡ false → limit ≤ held
-counts-refused held slots few e = by_order (nat_lt held 4294967295) refl
-  where
-    by_order : (b : Bool) → nat_lt held 4294967295 ≡ b → limit ≤ held
-    by_order false f = ltb-false held 4294967295 f
-    by_order true f =
-        let low : held < 4294967295 = ltb-true held 4294967295 f in
-        let first : nat_lt (held + 1) (2 ^ 32) ≡ true = lt-ltb (held + 1) (2 ^ 32) (omega arith) in
-        let second : nat_lt slots (2 ^ 32) ≡ true = lt-ltb slots (2 ^ 32) (omega arith) in
-        absurd (let z : ⊥ = cc in z)
+counts-refused held slots few e = search std_rules
 
 refused-by : (r : Resolve) (fits : Bool) (held slots : ℕ) (request : Request) → slots ≤ held + 1 → (fits ≡ false → IsUnfit r request) → (fits && fits_counts (held + 1) slots) ≡ false
     → LacksRoomBehind r held request
-refused-by r false held slots request few unfit e = inl (unfit refl)
-refused-by r true held slots request few unfit e = inr (counts-refused held slots few e)
+refused-by r x held slots request few unfit e = search std_rules
 
 -- behind the declarations of an instance type
 pub behind : (r : Resolve) (ds : List Declaration) (d : Declaration) (request : Request) → (fits_declaration d ≡ false → IsUnfit r request) → fits_next ds d ≡ false
@@ -107,16 +87,7 @@ labels-fit {T} {B} R label same xs ys z =
 
 -- a definition fits exactly where the tree does
 pub tree-fits : (S : Pairs) (d : ComponentDefinedType) (t : Tree) → Follows S d t → fits_defined (raw_defined d) ≡ fits_tree t
-tree-fits S (form.Primitive x) t h = ap fits_tree (sym h)
-tree-fits S (form.Record fields) t h = labels-fit (NamedStands S) (λ f. f.0) (λ x f w. w.0) fields.items h.0 h.1 ∙ ap fits_tree (sym h.2)
-tree-fits S (form.Variant cases) t h = labels-fit (CaseStands S) (λ c. c.0) (λ x c w. w.0) cases.items h.0 h.1 ∙ ap fits_names (sym (map-twice (λ (c : Text × Bool). c.0) _ h.0)) ∙ ap
-    fits_tree (sym h.2)
-tree-fits S (form.Map x y) t h = ap fits_tree (sym h.4)
-tree-fits S (form.Tuple xs) t h = ap (λ n. nat_lt n (2 ^ 32)) (zip-length (StandsFor S) xs.items h.0 h.1) ∙ ap fits_length (sym (listed h.0)) ∙ ap fits_tree (sym h.2)
-tree-fits S (form.Flags names) t h = ap fits_tree (sym h)
-tree-fits S (form.Enum names) t h = ap fits_tree (sym h)
-tree-fits S (form.Result x y) t h = ap fits_tree (sym h.4)
-tree-fits S _ t h = ap fits_tree (sym h.2)
+tree-fits y z t h = search (std_rules, labels-fit, map-twice, zip-length, listed)
 
 pub signature-fits : (S : Pairs) (f : ComponentFuncType) (s : Signature) → FollowsFunction S f s → fits_labels (raw_function f).parameters ≡ fits_names (map (λ p. p.0) s.params)
 signature-fits S f s h = labels-fit (NamedStands S) (λ p. p.0) (λ x p w. w.0) f.params.items s.params h.params
@@ -151,11 +122,7 @@ pub alias-behind : (r : Resolve) (outer : Declarations) (n : ℕ) → (fits_type
 alias-behind r outer n e = refused-by r (fits_type_name r n) (declaration_count outer) (type_slots_of outer + 1) (import_of n) (let a = outer-slots-few outer in omega arith) (λ h. h) e
 
 pub alias-outside : (r : Resolve) (outer : Declarations) (inner : Option OpenInterface) (n : ℕ) → (fits_type_name r n && fits_added outer 1) ≡ false → lacks_room_in r outer inner (import_of n)
-alias-outside r outer inner n e = by (fits_type_name r n) refl
-  where
-    by : (b : Bool) → fits_type_name r n ≡ b → lacks_room_in r outer inner (import_of n)
-    by false f = inl (inl f)
-    by true f = inr (ap (λ b. b && fits_added outer 1) (sym f) ∙ e)
+alias-outside r outer inner n e = search std_rules
 
 pub name-inside : (r : Resolve) (ds : List Declaration) (name : ExternName) (described : ComponentTypeRef) → fits_next ds (Declaration.exported name described) ≡ false
     → LacksRoomBehind r (length ds) (export_name name)
@@ -176,8 +143,7 @@ held-outside outer outer' inner is l = subst (λ (o : Option OpenInterface). hel
 -- what is held after a call that has declared nothing
 pub kept-inside : (outer : Declarations) (inner : Option OpenInterface) (current : OpenInterface) (ds : List Declaration) → inner ≡ Some current → ds ≡ current.declared
     → length ds ≤ held_in outer inner
-kept-inside outer inner current ds is e = subst (λ (o : Option OpenInterface). length ds ≤ held_in outer o) (sym is)
-    (let same : length ds ≡ length current.declared = ap length e in omega (arith, same))
+kept-inside outer inner current ds is e = search std_rules
 
 pub kept-outside : (outer outer' : Declarations) (inner : Option OpenInterface) → inner ≡ None → outer' ≡ outer → held_in outer' inner ≤ held_in outer inner
 kept-outside outer outer' inner is e = let same : held_in outer' inner ≡ held_in outer inner = ap (λ (o : Declarations). held_in o inner) e in omega (arith, same)
@@ -229,8 +195,7 @@ no-room {r} {r'} {own} {own'} {ts} {fs} {m} {before} {Q} outer inner e none fres
 
 -- one declaration more, or none
 pub one-pushed : {A E : Type 0} (res : Result A E) (ds ds' : List Declaration) (d : Declaration) → OnOk res (ds' ≡ ds ++ d ∷ []) → OnErr res (ds' ≡ ds) → length ds' ≤ length ds + 1
-one-pushed (Ok x) ds ds' d ok err = let e : length ds' ≡ length (ds ++ d ∷ []) = ap length ok in let l = length-append ds (d ∷ []) in omega arith
-one-pushed (Err x) ds ds' d ok err = let e : length ds' ≡ length ds = ap length err in omega arith
+one-pushed x ds ds' d ok err = search (std_rules, length-append)
 
 pub one-appended : (ds : Declarations) (d : Declaration) → declaration_count (append ds (Declarations.declares d Declarations.no_more)) ≡ declaration_count ds + 1
 one-appended Declarations.no_more d = omega arith
@@ -239,8 +204,7 @@ one-appended (Declarations.component inner rest) d = let h = one-appended rest d
 one-appended (Declarations.instance inner rest) d = let h = one-appended rest d in omega arith
 
 pub outer-pushed : (outer outer' : Declarations) (d : Declaration) → outer' ≡ append outer (Declarations.declares d Declarations.no_more) → declaration_count outer' ≤ declaration_count outer + 1
-outer-pushed outer outer' d e = let same : declaration_count outer' ≡ declaration_count (append outer (Declarations.declares d Declarations.no_more)) = ap declaration_count e in let one =
-    one-appended outer d in omega arith
+outer-pushed outer outer' d e = search (std_rules, one-appended)
 
 abbrev Placed : Type 0
 Placed = ℕ × Bor (String Global) × Bor Function
@@ -248,8 +212,4 @@ Placed = ℕ × Bor (String Global) × Bor Function
 -- the same of the interface's own lists
 pub room-listed : (r : Resolve) (i : InterfaceId) (ts ts' : List TypeId) (fs : List Placed) (gs : List (Text × Function)) → ts ≡ ts' → map placed_function fs ≡ gs
     → HasNoRoom r (Some i) (referred ts (map (λ f. f.2.now) fs)) (map placed_function fs) → HasNoRoom r (Some i) (referred ts' (map (λ g. g.1) gs)) gs
-room-listed r i ts ts' fs gs e same h =
-    let own : map (λ (g : Text × Function). g.1) (map placed_function fs) ≡ map (λ f. f.2.now) fs = map-twice (λ (g : Text × Function). g.1) placed_function fs in
-    subst (λ (us : List TypeId). HasNoRoom r (Some i) (referred us (map (λ g. g.1) gs)) gs) e
-    (subst (λ (xs : List (Text × Function)). HasNoRoom r (Some i) (referred ts (map (λ g. g.1) xs)) xs) same
-    (subst (λ (xs : List Function). HasNoRoom r (Some i) (referred ts xs) (map placed_function fs)) (sym own) h))
+room-listed r i ts ts' fs gs e same h = search (std_rules, map-twice)

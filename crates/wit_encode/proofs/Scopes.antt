@@ -1,5 +1,5 @@
 -- What the paths of imports are refused for, the component type of the interface is refused for.
-use Rattle.std.proofs.Common.{◌≡◌, sym, ap, subst, ◌∙◌, ℕ, Bool, List, map, Result, Ok, Err, IfErr}
+use Rattle.std.proofs.Common.{rules as std_rules, ◌≡◌, sym, ap, subst, ◌∙◌, ℕ, Bool, List, map, Result, Ok, Err, IfErr}
 use Rattle.std.specs.Prelude.{IsErrAnd}
 use Rattle.wit_model.specs.declared.{error.Error.Error, model.Resolve.Resolve, model.InterfaceId.InterfaceId}
 use Rattle.encode_reach.specs.Reach.{reached_in_order}
@@ -19,6 +19,4 @@ refused-by_paths r n canonical found xs e (Err f) same order refuses h =
 -- paths that clash aren't too large
 pub paths-fit : {X Q : Type 0} (r : Resolve) (ns : List ℕ) (canonical : Bool) (e : Error) (given : Result X Error) → RefusesPaths r ns canonical e → IsErrAnd given (λ f. f ≡ e)
     → given ≡ Err errors.Size → Q
-paths-fit r ns canonical e (Ok x) refuses h refused = absurd (let z : ⊥ = cc in z)
-paths-fit r ns canonical e (Err f) (RefusesPaths.memory is) h refused = absurd (let z : ⊥ = cc in z)
-paths-fit r ns canonical e (Err f) (RefusesPaths.clash asked name at is) h refused = absurd (let z : ⊥ = cc in z)
+paths-fit r ns canonical e x refuses h refused = search std_rules

@@ -1,13 +1,13 @@
 -- A function that is exported from an instance type.
-use Rattle.std.proofs.Common.{◌≡◌, sym, subst, ap, ◌∙◌, ℕ, true, List, [], ◌∷◌, ◌++◌, append-nil, Result, Ok, Err, OnOk, Option, Some, None, slice_get}
-use Rattle.std.specs.{List.list_all, Option.option_map_or, Option.is_some}
+use Rattle.std.proofs.Common.{rules as std_rules, ◌≡◌, sym, ap, ◌∙◌, ℕ, true, List, [], ◌∷◌, ◌++◌, append-nil, Result, OnOk, Option, Some, slice_get}
+use Rattle.std.specs.{Option.option_map_or, Option.is_some}
 use Rattle.wit_model.specs.{Text.Text, Tree.Place, Meaning.Signature, Meaning.FunctionMeaning}
 use Rattle.wit_model.specs.declared.model.Resolve.{Resolve}
 use Rattle.comp_bytes.specs.Raw.{Declaration, Declarations, ExternName, from_list}
 use Rattle.comp_meaning.specs.Follow.{Slot, InstanceScope, new_instance, is_simple, function_in, show_function, instance_step}
 use Rattle.wit_encode.specs.declared.interface.OpenInterface.{OpenInterface}
 use Rattle.encode_types.specs.{Slots.function, Distinct.is_value_type, Distinct.value_slots, Distinct.function_slots, Distinct.targets_of}
-use Rattle.wit_encode.specs.Instance.{standing_at, SlotsStand, is_slot_of, no_view, outer_slots, inner_contents, is_function_type, resources_in, contents_of, encoder_scope, ShowsFunction}
+use Rattle.wit_encode.specs.Instance.{SlotsStand, no_view, outer_slots, inner_contents, is_function_type, contents_of, encoder_scope, ShowsFunction}
 use Rattle.wit_encode.proofs.{ValueSlots.slots-more, ValueSlots.targets-more, Strict.bind, Calls.inner-at}
 use Rattle.base_lemmas.proofs.Bools.{left_of as first_true}
 use Rattle.comp_bytes.specs.declared.forms.ComponentTypeRef.TheVariants as refs
@@ -15,14 +15,7 @@ use Rattle.comp_meaning.specs.Follow as follow
 use Rattle.wit_encode.proofs.Steps as steps
 
 function-there : (slots : List Slot) (i : ℕ) (s : Signature) → SlotsStand slots i (function s) → function_in (slice_get slots i) ≡ Some s
-function-there slots i s h = go (slice_get slots i) h
-  where
-    go : (o : Option Slot) → standing_at o ≡ Some (function s) → function_in o ≡ Some s
-    go (Some (Slot.function x)) q = let e : x ≡ s = cc in ap Some e
-    go (Some (Slot.value u)) q = absurd (let z : ⊥ = cc in z)
-    go (Some (Slot.resource p n)) q = absurd (let z : ⊥ = cc in z)
-    go (Some (Slot.instance xs n)) q = absurd (let z : ⊥ = cc in z)
-    go None q = absurd (let z : ⊥ = cc in z)
+function-there slots i s h = search std_rules
 
 shows-inside : (place : Place) (outer : Declarations) (ds : List Declaration) (name : ExternName) (i : ℕ) (s : Signature) → (inner_contents place outer ds).is_followed ≡ true → is_simple name ≡ true
     → SlotsStand (inner_contents place outer ds).slots i (function s)
@@ -60,14 +53,4 @@ pub shows-within : {A E : Type 0} (res : Result A E) (r : Resolve) (outer : Decl
     → inner ≡ Some current → (encoder_scope r outer inner).is_sound ≡ true → is_simple name ≡ true → OnOk res (ds' ≡ current.declared ++ Declaration.exported name (refs.Func i) ∷ [])
     → SlotsStand (contents_of r outer inner).slots i (function s)
     → OnOk res (ShowsFunction (contents_of r outer inner) (contents_of r outer (Some (record current { declared = ds' }))) (name.text, record { signature = s; external_id = name.external_id }))
-shows-within (Err e) r outer inner current ds' name i s is sound simple ok h = ok
-shows-within (Ok a) r outer inner current ds' name i s is sound simple ok h =
-    subst (λ (o : Option OpenInterface). (encoder_scope r outer o).is_sound ≡ true → SlotsStand (contents_of r outer o).slots i (function s)
-    → ShowsFunction (contents_of r outer o) (contents_of r outer (Some (record current { declared = ds' }))) (name.text, record { signature = s; external_id = name.external_id }))
-    (sym is)
-    (λ sound h. subst (λ (zs : List Declaration). ShowsFunction (contents_of r outer (Some current)) (contents_of r outer (Some (record current { declared = zs })))
-    (name.text, record { signature = s; external_id = name.external_id }))
-    (sym ok)
-    (shows-inside _ outer current.declared name i s (first_true (contents_of r outer (Some current)).is_followed
-    (list_all (is_slot_of (resources_in r (Some current.interface))) (contents_of r outer (Some current)).slots) sound) simple h))
-    sound h
+shows-within x r outer inner current ds' name i s is sound simple ok h = search (std_rules, shows-inside, first_true)

@@ -1,6 +1,6 @@
 -- What the slots of the types stand for that an instance type shows: each for the name of its type, and for that of a resource exactly where the
 -- name is one.
-use Rattle.std.proofs.Common.{◌≡◌, ◌⊎◌, inl, inr, refl, sym, subst, ap, ◌∙◌, Bool, true, false, not, List, [], ◌∷◌, ◌++◌, map, Option, Some, String, slice_get}
+use Rattle.std.proofs.Common.{rules as std_rules, ◌≡◌, ◌⊎◌, inl, inr, refl, sym, subst, ap, ◌∙◌, Bool, true, false, not, List, [], ◌∷◌, ◌++◌, map, Option, Some, String, slice_get}
 use Rattle.std.proofs.lemmas.List.Elements.{Contains-append_left, Contains-append_right, Contains-append_cases}
 use Rattle.std.proofs.lemmas.{Bool.or_left as or-first, Option.same_Some as some-same}
 use Rattle.std.specs.{List.Contains, List.list_all, Option.option_map_or}
@@ -11,7 +11,7 @@ use Rattle.wit_model.specs.declared.model.{Resolve.Resolve, TypeId.TypeId, Inter
 use Rattle.wit_model.proofs.{Elements.none-in, Elements.contains-get, PartsLemmas.owner_same as same-owner}
 use Rattle.comp_bytes.specs.declared.forms.ComponentTypeRef.{ComponentTypeRef}
 use Rattle.comp_bytes.specs.Raw.{Declaration, Alias, ExternName}
-use Rattle.comp_meaning.specs.Follow.{Slot, ShownType, InstanceScope, is_simple, in_instance, definition, function_signature, function_in, declared_by, named_like, named_type, show_type, show_function, instance_step, instance_steps, new_instance}
+use Rattle.comp_meaning.specs.Follow.{Slot, ShownType, InstanceScope, is_simple, in_instance, definition, function_signature, function_in, named_type, show_type, show_function, instance_step, instance_steps, new_instance}
 use Rattle.encode_shown.specs.Views.{name_slot, shown_type, types_of}
 use Rattle.encode_types.specs.{Resources.Names, Resources.is_met_owner, Resources.resource_names, Standing.is_slot_of}
 use Rattle.wit_encode.proofs.{Steps.unbind, Steps.unwhen, Naming.one-home, Naming.names-agree, ListedTypes.listed-type, ListedTypes.listed-key}
@@ -27,17 +27,8 @@ module _ (place : Place) where
   abbrev IsNameSlot : Text → Slot → Type 0
   IsNameSlot name slot = (slot ≡ Slot.value (named place name)) ⊎ (slot ≡ Slot.resource place name)
 
-  like-name : (slot : Slot) (name : Text) → IsNameSlot name (named_like slot place name)
-  like-name (Slot.resource p x) name = inr refl
-  like-name _ name = inl refl
-
   named-slot : (slots : List Slot) (name : Text) (described : ComponentTypeRef) (found : tree.Declaration × Slot) → named_type slots place name described ≡ Some found → IsNameSlot name found.1
-  named-slot slots name (refs.TypeEq n) found e =
-      let slot = unbind (slice_get slots n) _ found e in
-      let d = unbind (declared_by slot.item) _ found slot.then in
-      subst (IsNameSlot name) (ap (λ f. f.1) (some-same _ found d.then)) (like-name slot.item name)
-  named-slot slots name refs.SubResource found e = inr (ap (λ f. f.1) (sym (some-same _ found e)))
-  named-slot slots name _ found e = absurd (let z : ⊥ = cc in z)
+  named-slot slots name x found e = search std_rules
 
   -- ---- each type that is shown has a slot of its name
 

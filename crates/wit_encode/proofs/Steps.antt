@@ -1,9 +1,9 @@
 -- The declarations of an instance type, followed one by one.
-use Rattle.std.proofs.Common.{◌≡◌, refl, sym, ap, ◌∙◌, ◌+◌, Bool, true, false, List, [], ◌∷◌, ◌++◌, Option, Some, None, slice_get, length, length-append, arith}
+use Rattle.std.proofs.Common.{rules as std_rules, ◌≡◌, sym, ap, ◌∙◌, ◌+◌, Bool, List, [], ◌∷◌, ◌++◌, Option, Some, slice_get, length, length-append, arith}
 use Rattle.comp_bytes.specs.declared.forms.ComponentTypeRef.{ComponentTypeRef}
 use Rattle.comp_bytes.specs.{Raw.Declaration, Raw.Alias, Raw.ExternName, Held.declaration_slots, Held.type_slots, Reading.◌>>=◌}
 use Rattle.wit_model.specs.Tree.{Place}
-use Rattle.comp_meaning.specs.Follow.{Slot, InstanceScope, when, is_simple, definition, function_signature, function_in, named_type, show_type, show_function, instance_step, instance_steps}
+use Rattle.comp_meaning.specs.Follow.{Slot, InstanceScope, when, is_simple, definition, function_signature, named_type, show_type, instance_step, instance_steps}
 use Rattle.comp_meaning.proofs.FollowLemmas.{provided_is as unprovided}
 use Rattle.comp_bytes.specs.declared.forms.ComponentTypeRef.TheVariants as refs
 
@@ -15,12 +15,10 @@ pub record Bound {A B : Type 0} (o : Option A) (f : A → Option B) (y : B) : Ty
   pub then : f item ≡ Some y
 
 pub unbind : {A B : Type 0} (o : Option A) (f : A → Option B) (y : B) → (o >>= f) ≡ Some y → Bound o f y
-unbind None f y e = absurd (let z : ⊥ = cc in z)
-unbind (Some x) f y e = record { item = x; is = refl; then = e }
+unbind y f u e = search std_rules
 
 pub unwhen : {A : Type 0} (b : Bool) (o : Option A) (y : A) → when b o ≡ Some y → o ≡ Some y
-unwhen true o y e = e
-unwhen false o y e = absurd (let z : ⊥ = cc in z)
+unwhen x o y e = search std_rules
 
 -- ---- how many slots there are
 
@@ -54,13 +52,7 @@ step-count place outer s s' (Declaration.alias_of (Alias.of_outer scopes n)) e =
     more-slots s s' b.item (ap (λ (s : InstanceScope). s.slots) (unprovided _ _ s' b.then))
 step-count place outer s s' (Declaration.alias_of (Alias.of_export m n)) e = absurd (let z : ⊥ = cc in z)
 step-count place outer s s' (Declaration.imported name described) e = absurd (let z : ⊥ = cc in z)
-step-count place outer s s' (Declaration.exported name (refs.Func n)) e =
-    let b = unbind (function_in (slice_get s.slots n)) _ s' (unwhen (is_simple name) (show_function name n s) s' e) in
-    let z : s.slots ≡ s'.slots = some-slots _ s' b.then in
-    ap length (sym z) ∙ (let y : length s.slots ≡ length s.slots + 0 = omega arith in y)
-  where
-    some-slots : (a b : InstanceScope) → Some a ≡ Some b → a.slots ≡ b.slots
-    some-slots a b e = let z : a ≡ b = cc in ap (λ (s : InstanceScope). s.slots) z
+step-count place outer s s' (Declaration.exported name (refs.Func n)) e = search std_rules
 step-count place outer s s' (Declaration.exported name (refs.TypeEq n)) e = shown-count place name (refs.TypeEq n) s s' (unwhen (is_simple name) (show_type place name (refs.TypeEq n) s) s' e)
 step-count place outer s s' (Declaration.exported name refs.SubResource) e = shown-count place name refs.SubResource s s' (unwhen (is_simple name) (show_type place name refs.SubResource s) s' e)
 step-count place outer s s' (Declaration.exported name (refs.Component n)) e = absurd (let q = unwhen (is_simple name) (show_type place name (refs.Component n) s) s' e in let z : ⊥ = cc in z)

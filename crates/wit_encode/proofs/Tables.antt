@@ -1,5 +1,5 @@
 -- An encoder of an interface of valid packages over one table: what can be encoded in it, and that it stays one.
-use Rattle.std.proofs.Common.{◌⊎◌, ◌≡◌, refl, sym, subst, ap, ◌∙◌, ℕ, suc, ◌+◌, ◌<◌, Bool, true, false, not, ◌&&◌, ◌||◌, is_some, List, [], ◌∷◌, ◌++◌, inl, inr, map, take, length, get_or, Some, arith}
+use Rattle.std.proofs.Common.{rules as std_rules, ◌⊎◌, ◌≡◌, refl, sym, subst, ap, ◌∙◌, ℕ, suc, ◌+◌, ◌<◌, Bool, true, false, not, ◌&&◌, ◌||◌, is_some, List, [], ◌∷◌, ◌++◌, inl, inr, map, take, length, get_or, Some, arith}
 use Rattle.std.proofs.lemmas.{List.take_more, List.map-append, List.Elements.Contains-append_cases, Bool.lt-ltb, Bool.and_from as both}
 use Rattle.std.specs.List.{Contains, list_all}
 use Rattle.wit_model.specs.{Lookup.type_at, Lookup.is_async, Valid.IsValid}
@@ -16,7 +16,6 @@ use Rattle.wit_encode.proofs.{OwnerScope.names_encode, OwnerScope.table_is_scope
 use Rattle.wit_encode.specs.OwnerScope.{NamesStand, IsOfInstance}
 use Rattle.base_lemmas.proofs.{Bools.left_of as first_true, Bools.right_of as second_true, Elements.all_get as all-at, Elements.last_of as one-contained}
 use Rattle.base_lemmas.proofs.Options.{there as some-of}
-use Rattle.wit_model.specs.declared.model.TypeDefKind.TheVariants as kind
 use Rattle.wit_model.specs.declared.model.«Type».TheVariants as ty
 use Rattle.wit_model.specs.declared.model.TypeOwner.TheVariants as owner
 
@@ -84,10 +83,7 @@ table-formed r own v t n def inside is met d = subst (λ (s : Scope). IsFormed s
 })
 
 defined-kind : (f : ℕ → Bool) (k : TypeDefKind) → has_definition k ≡ true → is_resource_kind f k ≡ false
-defined-kind f kind.Resource e = let wrong : ⊥ = cc in absurd wrong
-defined-kind f (kind.Type_ (ty.Id id)) e = let wrong : ⊥ = cc in absurd wrong
-defined-kind f (kind.Type_ _) e = refl
-defined-kind f _ e = refl
+defined-kind f x e = search std_rules
 
 -- a type with a definition of its own is no resource
 defined-value : (r : Resolve) → IsValid r → (t : ValueType) → InRange r t → IsDefined r t → is_resource_type r t ≡ false

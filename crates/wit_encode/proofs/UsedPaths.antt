@@ -1,5 +1,5 @@
 -- An interface that another uses has a path.
-use Rattle.std.proofs.Common.{◌≡◌, refl, sym, subst, ap, ◌∙◌, ℕ, ◌==◌, Bool, true, false, not, ◌&&◌, ◌||◌, [], ◌∷◌, Option, Some, None, String, is_some, option_and_then}
+use Rattle.std.proofs.Common.{rules as std_rules, ◌≡◌, refl, sym, ap, ◌∙◌, ℕ, ◌==◌, Bool, true, false, not, ◌||◌, [], Option, Some, None, String, is_some, option_and_then}
 use Rattle.std.proofs.lemmas.Option.{same_Some as some-same}
 use Rattle.std.specs.declared.alloc.Global.{Global}
 use Rattle.std.specs.{Prelude.is_none, List.Contains, List.list_all, Option.option_map_or}
@@ -14,9 +14,7 @@ use Rattle.wit_model.proofs.PartsLemmas.{owner_same as same-owner}
 use Rattle.encode_shown.proofs.{Basics.valid-references, Basics.or-cases, Reach.once_from, Zips.given-contains}
 use Rattle.wit_encode.proofs.{ListedTypes.listed-type, Meeting.named-meets, Owned.owner-kept}
 use Rattle.base_lemmas.proofs.{Bools.right_of as second_true, Numbers.same-number, Options.there as some-of}
-use Rattle.base_lemmas.proofs.Elements.{all-contained, contains-one, filter_kept as filter-contains, map_from as contains-mapped}
-use Rattle.wit_model.specs.declared.model.TypeDefKind.TheVariants as kind
-use Rattle.wit_model.specs.declared.model.«Type».TheVariants as ty
+use Rattle.base_lemmas.proofs.Elements.{all-contained, filter_kept as filter-contains, map_from as contains-mapped}
 use Rattle.wit_model.specs.declared.model.TypeOwner.TheVariants as owner
 
 abbrev is_named_at : Resolve → ℕ → Bool
@@ -25,42 +23,16 @@ is_named_at r k = option_map_or (λ (other : Interface). is_some other.name) (in
 module _ (r : Resolve) (v : IsValid r) (n k : ℕ) where
   -- the target of an alias is of a named interface, where it is of another owner
   of-used : (def : TypeDef) → used_interface r def ≡ Some k → is_use r def ≡ true → is_named_at r k ≡ true
-  of-used def used is = at-target (alias_target def.kind) used is
-    where
-      at-owner : (o : Option ℕ) → o ≡ Some k → option_map_or (is_named_at r) o false ≡ true → is_named_at r k ≡ true
-      at-owner None e h = let wrong : ⊥ = cc in absurd wrong
-      at-owner (Some j) e h = subst (λ (m : ℕ). is_named_at r m ≡ true) (some-same j k e) h
-
-      at-type : (o : Option TypeDef) → option_and_then (λ (target : TypeDef). owner_interface target.owner) o ≡ Some k
-          → option_map_or (λ (target : TypeDef). not (same_owner target.owner def.owner) && option_map_or (is_named_at r) (owner_interface target.owner) false) o false ≡ true → is_named_at r k ≡ true
-      at-type None e h = let wrong : ⊥ = cc in absurd wrong
-      at-type (Some target) e h = at-owner (owner_interface target.owner) e (second_true (not (same_owner target.owner def.owner)) _ h)
-
-      at-target : (o : Option ℕ) → option_and_then (λ t. option_and_then (λ (target : TypeDef). owner_interface target.owner) (type_at r t)) o ≡ Some k
-          → option_map_or (λ t. option_map_or (λ (target : TypeDef). not (same_owner target.owner def.owner) && option_map_or (is_named_at r) (owner_interface target.owner) false) (type_at r t) false)
-          o false ≡ true
-          → is_named_at r k ≡ true
-      at-target None e h = let wrong : ⊥ = cc in absurd wrong
-      at-target (Some t) e h = at-type (type_at r t) e h
+  of-used def used is = search std_rules
 
   abbrev IsTarget : TypeDef → Type 0
   IsTarget def = (t : ℕ) × (target : TypeDef) × (alias_target def.kind ≡ Some t) × (type_at r t ≡ Some target) × (owner_interface target.owner ≡ Some k)
 
   target-of : (def : TypeDef) → used_interface r def ≡ Some k → IsTarget def
-  target-of def used = at-target (alias_target def.kind) refl used
-    where
-      at-type : (t : ℕ) → alias_target def.kind ≡ Some t → (o : Option TypeDef) → type_at r t ≡ o → option_and_then (λ (target : TypeDef). owner_interface target.owner) o ≡ Some k → IsTarget def
-      at-type t q None e h = let wrong : ⊥ = cc in absurd wrong
-      at-type t q (Some target) e h = (t, target, q, e, h)
-
-      at-target : (o : Option ℕ) → alias_target def.kind ≡ o → option_and_then (λ t. option_and_then (λ (target : TypeDef). owner_interface target.owner) (type_at r t)) o ≡ Some k → IsTarget def
-      at-target None q h = let wrong : ⊥ = cc in absurd wrong
-      at-target (Some t) q h = at-type t q (type_at r t) refl h
+  target-of def used = search std_rules
 
   alias-number : (c : TypeDefKind) (t : ℕ) → alias_target c ≡ Some t → Contains (kind_numbers c) t
-  alias-number (kind.Type_ (ty.Id id)) t e = subst (λ m. Contains (id.0 ∷ []) m) (some-same id.0 t e) (contains-one id.0)
-  alias-number (kind.Type_ _) t e = let wrong : ⊥ = cc in absurd wrong
-  alias-number _ t e = let wrong : ⊥ = cc in absurd wrong
+  alias-number x t e = search std_rules
 
   -- the target of an alias is among what it uses
   target-used : (number : ℕ) (def : TypeDef) → type_at r number ≡ Some def → (h : IsTarget def) → Contains (used_by_type r def) h.0
@@ -91,8 +63,7 @@ module _ (r : Resolve) (v : IsValid r) (n k : ℕ) where
       (λ is. of-used def used is))
 
   not-true : (b : Bool) → not b ≡ true → b ≡ false
-  not-true true h = sym h
-  not-true false h = refl
+  not-true x h = search std_rules
 
   pub used-path : Contains (direct_deps r n) k → is_some (interface_path r k) ≡ true
   used-path c =

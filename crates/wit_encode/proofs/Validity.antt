@@ -1,12 +1,12 @@
 -- What a valid `Resolve` gives for encoding.
-use Rattle.std.proofs.Common.{◌≡◌, refl, sym, subst, ap, ◌∙◌, ℕ, zero, suc, ◌+◌, ◌<◌, ◌⊎◌, inl, inr, Bool, true, false, cond, not, ◌&&◌, ◌||◌, T, nat_lt, ltb→lt, List, [], ◌∷◌, length, flat_map, slice_get, unwrap_or, Option, Some, None, String, arith, ◌++◌, map, option_map, option_to_list}
+use Rattle.std.proofs.Common.{rules as std_rules, ◌≡◌, refl, sym, subst, ap, ◌∙◌, ℕ, zero, suc, ◌+◌, ◌<◌, ◌⊎◌, inl, inr, Bool, true, false, cond, not, ◌&&◌, ◌||◌, T, ltb→lt, List, [], ◌∷◌, length, flat_map, slice_get, unwrap_or, Option, Some, None, String, arith, ◌++◌, map, option_map, option_to_list}
 use Rattle.std.proofs.lemmas.{Bool.or_left as or-first, Bool.or_right as or-second, Bool.lt-ltb, List.Folds.list_all-append, Option.slice_get_within}
 use Rattle.std.proofs.lemmas.List.Elements.{Contains-append_left, Contains-append_right}
 use Rattle.std.specs.declared.alloc.Global.{Global}
 use Rattle.std.specs.{Prelude.is_some, Prelude.is_none, List.Contains, List.list_all, Option.option_map_or}
-use Rattle.wit_model.specs.{Text.text_of, Text.Text, Rules.is_named_kind, Rules.is_named_number, Rules.is_listed, Rules.owner_in_range, Rules.passes, Tree.Tree}
-use Rattle.wit_model.specs.{Lookup.type_at, Lookup.place_of, Lookup.is_async, Meant.type_meaning, Uses.alias_target}
-use Rattle.wit_model.specs.Parts.{kind_numbers, same_owner, member_types, handled, is_resource, is_resource_kind, is_resource_type}
+use Rattle.wit_model.specs.{Text.text_of, Text.Text, Rules.is_named_kind, Rules.owner_in_range, Rules.passes, Tree.Tree}
+use Rattle.wit_model.specs.{Lookup.type_at, Lookup.place_of, Lookup.is_async, Meant.type_meaning}
+use Rattle.wit_model.specs.Parts.{same_owner, member_types, handled, is_resource, is_resource_kind, is_resource_type}
 use Rattle.wit_model.specs.Valid.{IsValid, named_kinds, order_of_types, shapes, handles}
 use Rattle.wit_model.specs.Types.{type_tree, number_tree, no_tree, trees_of, tree_of_definition, declaration_of}
 use Rattle.wit_model.specs.Meaning.{Signature}
@@ -14,7 +14,7 @@ use Rattle.wit_model.specs.declared.model.{Resolve.Resolve, Param.Param, TypeDef
 use Rattle.wit_model.specs.declared.model.{InterfaceId.InterfaceId, «Type».«Type» as ValueType, TypeDefKind.TypeDefKind}
 use Rattle.wit_model.proofs.{Entries.each_from_at, Entries.lists_pass, Resources.resource_step, PartsLemmas.owner_same as same-owner, ValidLemmas.type_passes}
 use Rattle.wit_model.proofs.{TreeTable.kept_numbers, TreeTable.kept_trees_at, OnePath.found-in}
-use Rattle.encode_types.specs.Plan.{IsLayered, InRange, AllInRange, Reaches, itself, foreign_owner, is_interface}
+use Rattle.encode_types.specs.Plan.{IsLayered, InRange, AllInRange, Reaches, itself, foreign_owner}
 use Rattle.encode_types.specs.Scope.{IsImportable, Scope}
 use Rattle.encode_types.specs.Table.{table_scope, interface_of_owner, declaration_in, named_declaration, is_met_by, is_met_owner, has_named_owner, AllMetBy}
 use Rattle.encode_types.specs.{Kinds.parts_of, Kinds.has_definition, Kinds.kind_tree, Formed.is_formed, Formed.are_values, Formed.IsFormedSignature}
@@ -27,8 +27,6 @@ use Rattle.wit_encode.proofs.ImportsStand.{below-there as below-contains}
 use Rattle.encode_shown.proofs.Basics.{valid-references}
 use Rattle.base_lemmas.proofs.{Bools.left_of as first_true, Bools.not_or as unnamed-of, Bools.right_of as second_true, Options.nameless}
 use Rattle.base_lemmas.proofs.Elements.{contains-one}
-use Rattle.wit_model.specs.declared.model.TypeDefKind.TheVariants as kind
-use Rattle.wit_model.specs.declared.model.Handle.TheVariants as handle
 use Rattle.wit_model.specs.declared.model.TypeOwner.TheVariants as owner
 use Rattle.wit_model.specs.declared.model.«Type».TheVariants as ty
 
@@ -59,10 +57,7 @@ valid-layered r v = record { smaller = kept_numbers r v.rules }
 -- an unnamed type is of no kind that has to be named
 pub valid-unnamed : (r : Resolve) → IsValid r → (n : ℕ) (def : TypeDef) → type_at r n ≡ Some def → def.name ≡ None → is_named_kind def.kind ≡ false
 unfolding named_kinds
-valid-unnamed r v n def is none =
-    let at : 0 + n ≡ n = omega arith in
-    let passed : named_kinds.type_ r (0 + n) def ≡ true = each_from_at (named_kinds.type_ r) 0 r.types.items n def (lists_pass named_kinds r v.rules.named_kinds).3 is in
-    unnamed-of (is_named_kind def.kind) (is_some def.name) (first_true (not (is_named_kind def.kind) || is_some def.name) (passes (is_named_number r) (alias_target def.kind)) passed) (ap is_some none)
+valid-unnamed r v n def is none = search (std_rules, each_from_at, lists_pass, unnamed-of, first_true)
 
 -- ---- what is well formed
 
@@ -91,19 +86,10 @@ valid-alike r resources v n def at agree = kind-alike r resources def.kind agree
 -- an unnamed type has no owner
 pub valid-ownerless : (r : Resolve) → IsValid r → (n : ℕ) (def : TypeDef) → type_at r n ≡ Some def → def.name ≡ None → same_owner def.owner owner.None ≡ true
 unfolding order_of_types
-valid-ownerless r v n def is none =
-    let passed = second_true (list_all (λ m. nat_lt m (0 + n)) (kind_numbers def.kind)) _
-    (each_from_at (order_of_types.type_ r) 0 r.types.items n def (lists_pass order_of_types r v.rules.order_of_types).3 is) in
-    ap (λ o. option_map_or (λ name. is_listed r (0 + n) (text_of name) def.owner) o (same_owner def.owner owner.None)) (sym none) ∙ passed
+valid-ownerless r v n def is none = search (std_rules, second_true, each_from_at, lists_pass)
 
 pub foreign-interface : (own : Option InterfaceId) (a : TypeOwner) (i : InterfaceId) → foreign_owner own a ≡ Some i → a ≡ owner.Interface i
-foreign-interface own (owner.World w) i e = let wrong : ⊥ = cc in absurd wrong
-foreign-interface own owner.None i e = let wrong : ⊥ = cc in absurd wrong
-foreign-interface own (owner.Interface j) i e = go (is_interface own j) e
-  where
-    go : (b : Bool) → cond b None (Some j) ≡ Some i → owner.Interface j ≡ owner.Interface i
-    go true e = let wrong : ⊥ = cc in absurd wrong
-    go false e = ap (λ o. owner.Interface (unwrap_or o j)) e
+foreign-interface own x i e = search std_rules
 
 contains-flat_map : {X Y : Type 0} (f : X → List Y) (xs : List X) (n : ℕ) (x : X) (y : Y) → slice_get xs n ≡ Some x → Contains (f x) y → Contains (flat_map f xs) y
 contains-flat_map f [] n x y e c = let wrong : ⊥ = cc in absurd wrong
@@ -118,14 +104,10 @@ has-name o x e = ap is_some e
 
 -- an unnamed type is no resource
 unnamed-kind : (r : Resolve) (resources : Names) (f : ℕ → Bool) (k : TypeDefKind) → is_named_kind k ≡ false → is_resource_tree resources (kind_tree r k) ≡ is_resource_kind f k
-unnamed-kind r resources f kind.Resource e = let wrong : ⊥ = cc in absurd wrong
-unnamed-kind r resources f (kind.Type_ t) e = let wrong : ⊥ = cc in absurd wrong
-unnamed-kind r resources f (kind.Handle (handle.Own id)) e = refl
-unnamed-kind r resources f _ e = refl
+unnamed-kind r resources f x e = search std_rules
 
 or-right : (a b : Bool) → a ≡ false → (a || b) ≡ true → b ≡ true
-or-right true b e h = let wrong : ⊥ = cc in absurd wrong
-or-right false b e h = h
+or-right x b e h = search std_rules
 
 -- ---- the names of resources
 
@@ -209,8 +191,7 @@ module _ (r : Resolve) (v : IsValid r) (o : TypeOwner) where
   own-met def s = or-first (same_owner o def.owner) (is_named_interface r def.owner) (same-back def.owner o s)
 
   pub owner-met : (def : TypeDef) → (same_owner def.owner o ≡ true) ⊎ (has_named_owner r def ≡ true) → is_met_owner r o def.owner ≡ true
-  owner-met def (inl s) = own-met def s
-  owner-met def (inr h) = or-second (same_owner o def.owner) (is_named_interface r def.owner) (named-owner r v def h)
+  owner-met def x = search (std_rules, own-met, or-second, named-owner)
 
   -- the names in the table stand for resources exactly where types that are met are resources
   pub table-agree : (ts : List ValueType) → AllInRange r ts → AreMet ts → Agree r (resource_names r (is_met_owner r o)) ts

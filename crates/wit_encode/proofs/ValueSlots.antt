@@ -1,24 +1,22 @@
 -- The slots in which value types are defined: which they are, and that each stands for a type without a name. The instance types of a
 -- component type, as it grows.
-use Rattle.std.proofs.Common.{◌≡◌, refl, sym, ap, subst, ◌∙◌, ℕ, zero, suc, ◌+◌, Bool, true, false, cond, List, [], ◌∷◌, ◌++◌, inl, inr, append_assoc, append-nil, Option, Some, None, option_to_list, slice_get, length, length-append, count_by, arith}
+use Rattle.std.proofs.Common.{rules as std_rules, ◌≡◌, refl, sym, ap, subst, ◌∙◌, ℕ, zero, suc, ◌+◌, Bool, true, false, cond, List, [], ◌∷◌, ◌++◌, inl, inr, append_assoc, append-nil, Option, Some, None, option_to_list, slice_get, length, length-append, count_by, arith}
 use Rattle.std.proofs.lemmas.{List.Elements.Contains-append_cases, List.Sums.sum_by-append, Option.same_Some as some-same}
-use Rattle.std.specs.{List.Contains, List.list_any, Option.option_map_or, Prelude.not, Prelude.nat_le, Prelude.◌==◌}
+use Rattle.std.specs.{List.Contains, List.list_any, Option.option_map_or, Prelude.not, Prelude.◌==◌}
 use Rattle.comp_bytes.specs.declared.forms.ComponentTypeRef.{ComponentTypeRef}
 use Rattle.comp_bytes.specs.Raw.{Declaration, Declarations, DefinedType, Alias, ExternName, append, from_list}
 use Rattle.comp_bytes.specs.{Held.declaration_slots, Held.type_slots, Held.type_slots_of, Reading.◌>>=◌}
 use Rattle.wit_model.specs.{Tree.Place, Tree.Tree, Tree.primitive, Tree.named, Tree.node, Text.Text}
-use Rattle.comp_meaning.specs.Follow.{Slot, InstanceScope, provided, when, each, given, is_filled, is_key, field_type, case_type, value_type, resource_in, is_simple, definition, function_signature, function_in, named_type, show_type, instance_step, instance_steps, Scope, Direction, Seen, import_, export_, see, in_scope, key_of, interface_of, place_of, used_view, exported_slot, see_instance, see_function, see_type, component_step, component_steps, flat}
+use Rattle.comp_meaning.specs.Follow.{Slot, InstanceScope, when, definition, function_in, instance_step, instance_steps, Scope, Direction, Seen, import_, export_, see, in_scope, key_of, interface_of, place_of, used_view, see_instance, see_function, see_type, component_step, component_steps, flat}
 use Rattle.encode_types.specs.Distinct.{is_value_type, target_of, targets_of, slots_from}
 use Rattle.encode_types.proofs.{Marking.count-push, Lists.none-in}
 use Rattle.wit_encode.specs.{Instance.count_declared, Worlds.instances_from, Worlds.instances_declared}
-use Rattle.wit_encode.proofs.Steps.{unbind, unwhen}
+use Rattle.wit_encode.proofs.Steps.{unbind}
 use Rattle.base_lemmas.proofs.{Elements.last_of as one-contained, Numbers.no-slot as add-nothing}
 use Rattle.comp_bytes.proofs.HeldLaws.{from_list-push as list-push}
 use Rattle.encode_names.proofs.WorldSteps.{slot-behind as get-end}
 use Rattle.comp_meaning.proofs.FollowLemmas.{provided_is as unprovided}
 use Rattle.comp_bytes.specs.declared.forms.ComponentTypeRef.TheVariants as refs
-use Rattle.wit_model.specs.Tree as trees
-use Rattle.comp_meaning.specs.Follow as follow
 use Rattle.wit_encode.proofs.Steps as steps
 use Rattle.wit_encode.proofs.Components as components
 
@@ -27,17 +25,9 @@ use Rattle.wit_encode.proofs.Components as components
 pub slots-push : (test : Declaration → Bool) (n : ℕ) (ds : Declarations) (d : Declaration)
     → slots_from test n (append ds (Declarations.declares d Declarations.no_more)) ≡ slots_from test n ds ++ cond (test d) ((n + type_slots_of ds) ∷ []) []
 slots-push test n Declarations.no_more d = append-nil (cond (test d) (n ∷ []) []) ∙ ap (λ (k : ℕ). cond (test d) (k ∷ []) []) (sym (add-nothing n))
-slots-push test n (Declarations.declares e rest) d =
-    let here = cond (test e) (n ∷ []) [] in
-    let far : n + declaration_slots e + type_slots_of rest ≡ n + (declaration_slots e + type_slots_of rest) = omega arith in
-    ap (λ xs. here ++ xs) (slots-push test (n + declaration_slots e) rest d ∙ ap (λ (k : ℕ). slots_from test (n + declaration_slots e) rest ++ cond (test d) (k ∷ []) []) far)
-    ∙ sym (append_assoc here (slots_from test (n + declaration_slots e) rest) (cond (test d) ((n + (declaration_slots e + type_slots_of rest)) ∷ []) []))
-slots-push test n (Declarations.component inner rest) d =
-    let far : n + 1 + type_slots_of rest ≡ n + (1 + type_slots_of rest) = omega arith in
-    slots-push test (n + 1) rest d ∙ ap (λ (k : ℕ). slots_from test (n + 1) rest ++ cond (test d) (k ∷ []) []) far
-slots-push test n (Declarations.instance inner rest) d =
-    let far : n + 1 + type_slots_of rest ≡ n + (1 + type_slots_of rest) = omega arith in
-    slots-push test (n + 1) rest d ∙ ap (λ (k : ℕ). slots_from test (n + 1) rest ++ cond (test d) (k ∷ []) []) far
+slots-push test n (Declarations.declares e rest) d = search (std_rules, append_assoc, slots-push test (n + declaration_slots e) rest d)
+slots-push test n (Declarations.component inner rest) d = search (std_rules, slots-push test (n + 1) rest d)
+slots-push test n (Declarations.instance inner rest) d = search (std_rules, slots-push test (n + 1) rest d)
 
 pub slots-instance : (test : Declaration → Bool) (n : ℕ) (ds inner : Declarations) → slots_from test n (append ds (Declarations.instance inner Declarations.no_more)) ≡ slots_from test n ds
 slots-instance test n Declarations.no_more inner = refl
@@ -47,8 +37,7 @@ slots-instance test n (Declarations.instance x rest) inner = slots-instance test
 
 -- how many there are
 one-long : (b : Bool) (n : ℕ) → length (cond b (n ∷ []) []) ≡ cond b 1 0
-one-long true n = refl
-one-long false n = refl
+one-long x n = search std_rules
 
 pub slots-counted : (test : Declaration → Bool) (n : ℕ) (ds : List Declaration) → length (slots_from test n (from_list ds)) ≡ count_by test ds
 slots-counted test n [] = refl
@@ -64,19 +53,13 @@ slots-counted test n (d ∷ ds) =
 pub slots-declared : (test : Declaration → Bool) (n : ℕ) (ds : Declarations) → length (slots_from test n ds) ≡ count_declared test ds
 slots-declared test n Declarations.no_more = refl
 slots-declared test n (Declarations.declares d rest) =
-    let more = slots-declared test (n + declaration_slots d) rest in
-    let both = length-append (cond (test d) (n ∷ []) []) (slots_from test (n + declaration_slots d) rest) in
-    let here = one-long (test d) n in
-    let one : count_by test (d ∷ []) ≡ count_by test [] + cond (test d) 1 0 = count-push test [] d in
-    let none : count_by test [] ≡ 0 = refl in
-    omega (arith, more, both, here, one, none)
+    search (std_rules, length-append, one-long, count_by, count-push, slots-declared test (n + declaration_slots d) rest)
 slots-declared test n (Declarations.component inner rest) = slots-declared test (n + 1) rest
 slots-declared test n (Declarations.instance inner rest) = slots-declared test (n + 1) rest
 
 pub targets-push : (ds : Declarations) (d : Declaration) → targets_of (append ds (Declarations.declares d Declarations.no_more)) ≡ targets_of ds ++ option_to_list (target_of d)
 targets-push Declarations.no_more d = append-nil (option_to_list (target_of d))
-targets-push (Declarations.declares e rest) d = ap (λ xs. option_to_list (target_of e) ++ xs) (targets-push rest d) ∙ sym
-    (append_assoc (option_to_list (target_of e)) (targets_of rest) (option_to_list (target_of d)))
+targets-push (Declarations.declares e rest) d = search (std_rules, append_assoc, targets-push rest d)
 targets-push (Declarations.component inner rest) d = targets-push rest d
 targets-push (Declarations.instance inner rest) d = targets-push rest d
 
@@ -163,35 +146,10 @@ abbrev are_plain : Option Tree → Type 0
 are_plain o = option_map_or is_name o false ≡ false
 
 bound : {A : Type 0} (o : Option A) (f : A → Option Tree) → ((x : A) → are_plain (f x)) → are_plain (o >>= f)
-bound None f h = refl
-bound (Some x) f h = h x
-
-provided-plain : (b : Bool) (t : Tree) → is_name t ≡ false → are_plain (provided b t)
-provided-plain true t e = e
-provided-plain false t e = refl
+bound y f h = search std_rules
 
 definition-plain : (slots : List Slot) (d : DefinedType) → are_plain (definition slots d)
-definition-plain slots (DefinedType.primitive p) = refl
-definition-plain slots (DefinedType.record_of fields) = bound (each (field_type slots) fields) (λ fs. provided (is_filled fields) (trees.record_tree fs))
-    (λ fs. provided-plain (is_filled fields) (trees.record_tree fs) refl)
-definition-plain slots (DefinedType.variant_of cases) = bound (each (case_type slots) cases) (λ cs. provided (is_filled cases) (trees.variant_tree cs))
-    (λ cs. provided-plain (is_filled cases) (trees.variant_tree cs) refl)
-definition-plain slots (DefinedType.list_of v) = bound (value_type slots v) (λ t. Some (trees.list_tree t)) (λ t. refl)
-definition-plain slots (DefinedType.fixed_length_list_of v n) = bound (value_type slots v) (λ t. provided (nat_le 1 n) (trees.fixed_list_tree t n))
-    (λ t. provided-plain (nat_le 1 n) (trees.fixed_list_tree t n) refl)
-definition-plain slots (DefinedType.tuple_of vs) = bound (each (value_type slots) vs) (λ ts. provided (is_filled vs) (trees.tuple_tree ts))
-    (λ ts. provided-plain (is_filled vs) (trees.tuple_tree ts) refl)
-definition-plain slots (DefinedType.flags_of names) = provided-plain (is_filled names) (trees.flags_tree names) refl
-definition-plain slots (DefinedType.enum_of names) = provided-plain (is_filled names) (trees.enum_tree names) refl
-definition-plain slots (DefinedType.option_of v) = bound (value_type slots v) (λ t. Some (trees.option_tree t)) (λ t. refl)
-definition-plain slots (DefinedType.result_of ok err) = bound (given (value_type slots) ok) (λ o. given (value_type slots) err >>= λ e. Some (trees.result_tree o e))
-    (λ o. bound (given (value_type slots) err) (λ e. Some (trees.result_tree o e)) (λ e. refl))
-definition-plain slots (DefinedType.own_of n) = bound (resource_in (slice_get slots n)) (λ r. Some (trees.own_tree r)) (λ r. refl)
-definition-plain slots (DefinedType.borrow_of n) = bound (resource_in (slice_get slots n)) (λ r. Some (trees.borrow_tree r)) (λ r. refl)
-definition-plain slots (DefinedType.stream_of v) = bound (given (value_type slots) v) (λ t. Some (trees.stream_tree t)) (λ t. refl)
-definition-plain slots (DefinedType.future_of v) = bound (given (value_type slots) v) (λ t. Some (trees.future_tree t)) (λ t. refl)
-definition-plain slots (DefinedType.map_of k v) = bound (value_type slots k) (λ key. value_type slots v >>= λ t. provided (is_key key) (trees.map_tree key t))
-    (λ key. bound (value_type slots v) (λ t. provided (is_key key) (trees.map_tree key t)) (λ t. provided-plain (is_key key) (trees.map_tree key t) refl))
+definition-plain slots x = search std_rules
 
 defined-plain : (slots : List Slot) (d : DefinedType) (t : Tree) → definition slots d ≡ Some t → IsPlain t
 defined-plain slots d t e = plain-from t (ap (λ o. option_map_or is_name o false) (sym e) ∙ definition-plain slots d)
@@ -227,25 +185,7 @@ then-front xs ys zs f g = (f.0 ++ g.0, g.1 ∙ ap (λ s. s ++ g.0) f.1 ∙ appen
 -- ---- in an instance type
 
 inner-front : (place : Place) (outer : List Slot) (s s' : InstanceScope) (d : Declaration) → instance_step place outer s d ≡ Some s' → Front s.slots s'.slots
-inner-front place outer s s' (Declaration.defined q) e = let b = unbind (definition s.slots q) _ s' e in
-    one-front s.slots s'.slots (Slot.value b.item) (ap (λ (z : InstanceScope). z.slots) (some-same _ s' b.then))
-inner-front place outer s s' (Declaration.function q) e = let b = unbind (function_signature s.slots q) _ s' e in
-    one-front s.slots s'.slots (Slot.function b.item) (ap (λ (z : InstanceScope). z.slots) (some-same _ s' b.then))
-inner-front place outer s s' (Declaration.alias_of (Alias.of_outer scopes n)) e = let b = unbind (slice_get outer n) _ s' e in
-    one-front s.slots s'.slots b.item (ap (λ (z : InstanceScope). z.slots) (unprovided _ _ s' b.then))
-inner-front place outer s s' (Declaration.alias_of (Alias.of_export m n)) e = absurd (let z : ⊥ = cc in z)
-inner-front place outer s s' (Declaration.imported name described) e = absurd (let z : ⊥ = cc in z)
-inner-front place outer s s' (Declaration.exported name described) e = go described (unwhen (is_simple name) _ s' e)
-  where
-    by_type : (described : ComponentTypeRef) → show_type place name described s ≡ Some s' → Front s.slots s'.slots
-    by_type described h = let b = unbind (named_type s.slots place name.text described) _ s' h in one-front s.slots s'.slots b.item.1 (ap (λ (z : InstanceScope). z.slots) (some-same _ s' b.then))
-
-    go : (described : ComponentTypeRef) → follow.show place name described s ≡ Some s' → Front s.slots s'.slots
-    go (refs.Func n) h = let b = unbind (function_in (slice_get s.slots n)) _ s' h in same-front s.slots s'.slots (ap (λ (z : InstanceScope). z.slots) (some-same _ s' b.then))
-    go (refs.TypeEq n) h = by_type (refs.TypeEq n) h
-    go refs.SubResource h = by_type refs.SubResource h
-    go (refs.Component n) h = by_type (refs.Component n) h
-    go (refs.Instance n) h = by_type (refs.Instance n) h
+inner-front place outer s s' x e = search std_rules
 
 inner-fronts : (place : Place) (outer : List Slot) (s s' : InstanceScope) (ds : List Declaration) → instance_steps place outer s ds ≡ Some s' → Front s.slots s'.slots
 inner-fronts place outer s s' [] e = same-front s.slots s'.slots (ap (λ (z : InstanceScope). z.slots) (some-same s s' e))
@@ -298,15 +238,12 @@ function-front : (direction : Direction) (name : ExternName) (n : ℕ) (s s' : S
 function-front direction name n s s' e = let a = unbind (function_in (slice_get s.slots n)) _ s' e in front-to s.slots _ s' (unprovided _ _ s' a.then) (seen-front direction _ s s.slots refl)
 
 type-front : (name : ExternName) (described : ComponentTypeRef) (s s' : Scope) → see_type name described s ≡ Some s' → Front s.slots s'.slots
-type-front name described s s' e = let a = unbind (named_type s.slots Place.here name.text described) _ s' e in
-    one-front s.slots s'.slots a.item.1 (ap (λ (z : Scope). z.slots) (unprovided _ _ s' a.then))
+type-front name described s s' e = search std_rules
 
 outer-front : (s s' : Scope) (d : Declaration) → component_step s d ≡ Some s' → Front s.slots s'.slots
 outer-front s s' (Declaration.defined q) e = let b = unbind (definition s.slots q) _ s' e in one-front s.slots s'.slots (Slot.value b.item) (ap (λ (z : Scope). z.slots) (some-same _ s' b.then))
-outer-front s s' (Declaration.function q) e = let b = unbind (function_signature s.slots q) _ s' e in
-    one-front s.slots s'.slots (Slot.function b.item) (ap (λ (z : Scope). z.slots) (some-same _ s' b.then))
-outer-front s s' (Declaration.alias_of (Alias.of_export m name)) e = let b = unbind (exported_slot name (slice_get s.instances m)) _ s' e in
-    one-front s.slots s'.slots b.item (ap (λ (z : Scope). z.slots) (some-same _ s' b.then))
+outer-front s s' (Declaration.function q) e = search std_rules
+outer-front s s' (Declaration.alias_of (Alias.of_export m name)) e = search std_rules
 outer-front s s' (Declaration.alias_of (Alias.of_outer scopes n)) e = absurd (let z : ⊥ = cc in z)
 outer-front s s' (Declaration.imported name (refs.Instance n)) e = instance-front import_ name n s s' e
 outer-front s s' (Declaration.imported name (refs.Func n)) e = function-front import_ name n s s' e

@@ -1,5 +1,5 @@
 -- An interface that has no room in an instance type weighs more than the largest number of 32 bits.
-use Rattle.std.proofs.Common.{◌≡◌, refl, sym, subst, ap, ◌∙◌, ℕ, zero, suc, ◌+◌, ◌*◌, ◌<◌, ◌≤◌, ◌^◌, ◌||◌, inl, inr, Bool, true, false, not, ◌&&◌, ◌==◌, nat_eq, nat_lt, List, [], ◌∷◌, ◌++◌, map, filter, flat_map, length, Option, Some, None, option_to_list, option_map, is_some, String, arith}
+use Rattle.std.proofs.Common.{rules as std_rules, ◌≡◌, refl, sym, subst, ap, ◌∙◌, ℕ, zero, suc, ◌+◌, ◌*◌, ◌<◌, ◌≤◌, ◌^◌, ◌||◌, inl, inr, Bool, true, false, not, ◌&&◌, ◌==◌, nat_eq, nat_lt, List, [], ◌∷◌, ◌++◌, map, filter, flat_map, length, Option, Some, None, option_to_list, option_map, is_some, String, arith}
 use Rattle.std.proofs.lemmas.{Bool.lt-ltb, Bool.ltb-true, Bool.ltb-false, Bool.and_from as both-true, Map.Made.distinct_count-le}
 use Rattle.std.proofs.{lemmas.List.Sums.sum_by-cons, lemmas.List.Sums.sum_by-append, lemmas.List.Sums.get_or-le-sum_by, Math.ListN.length-map}
 use Rattle.std.proofs.lemmas.List.{Elements.Contains-append_left, Elements.Contains-append_right, Elements.Contains-append_cases, Filters.sum_by-filter_both}
@@ -43,11 +43,7 @@ next-text t ts = sum_by-cons named-unit t ts ∙ ap (λ n. n + sum_by named-unit
 
 -- what doesn't fit is larger than the limit
 pub over : (total : ℕ) (fits : Bool) → (total ≤ limit → fits ≡ true) → fits ≡ false → limit < total
-over total fits h e = by-order (nat_lt limit total) refl
-  where
-    by-order : (b : Bool) → nat_lt limit total ≡ b → limit < total
-    by-order true f = ltb-true limit total f
-    by-order false f = let low : total ≤ limit = ltb-false limit total f in let is = h low in let wrong : ⊥ = cc in absurd wrong
+over total fits h e = search std_rules
 
 pub fits-text : {A : Type 0} (t : List A) → length t ≤ limit → fits_length t ≡ true
 fits-text t h = let less : length t < 2 ^ 32 = omega arith in lt-ltb (length t) (2 ^ 32) less
@@ -71,8 +67,7 @@ names-heavy : (ts : List Text) → fits_names ts ≡ false → limit < sum_by na
 names-heavy ts e = over (sum_by named-unit ts) (fits_names ts) (names-fit ts) e
 
 pub given-fits : (t : Option Text) → sum_by length (option_to_list t) ≤ limit → fits_given t ≡ true
-given-fits None h = refl
-given-fits (Some t) h = let e = sum_by-cons length t [] in let low : length t ≤ limit = omega arith in fits-text t low
+given-fits x h = search std_rules
 
 -- a name with its external id
 export-fits : (text : Text) (id : Option Text) → length text + sum_by length (option_to_list id) ≤ limit
@@ -222,10 +217,7 @@ type-heavy r f e =
     omega (arith, names, same)
 
 name-heavy : (f : Function) → fits_name (function_name (text_of f.name, f)) ≡ false → limit < function_weight f
-name-heavy f e =
-    let long = over (length (text_of f.name) + sum_by length (option_to_list (optional_text f.external_id))) _ (export-fits (text_of f.name) (optional_text f.external_id)) e in
-    let parts = sum_by-cons length (text_of f.name) (option_to_list (optional_text f.external_id)) in
-    omega (arith, long, parts)
+name-heavy f e = search std_rules
 
 -- ---- what is met from some types and functions of an interface or a world
 

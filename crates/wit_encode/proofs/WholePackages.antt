@@ -1,5 +1,5 @@
 -- A component with the component types of a package means the package.
-use Rattle.std.proofs.Common.{◌≡◌, refl, sym, ap, ◌∙◌, Bool, true, false, ◌&&◌, ◌==◌, List, [], ◌∷◌, ◌++◌, length, map, slice_get, Option, Some, None, ◌||◌, subst, ℕ, append-nil, Result, Ok, Err, IfErr, is_some}
+use Rattle.std.proofs.Common.{rules as std_rules, arith, ◌≡◌, refl, sym, ap, ◌∙◌, Bool, true, false, ◌&&◌, ◌==◌, List, [], ◌∷◌, ◌++◌, length, map, slice_get, Option, Some, ◌||◌, subst, ℕ, append-nil, Result, Ok, Err, IfErr, is_some}
 use Rattle.std.proofs.lemmas.{Bool.true≢false, Bool.ltb-true, List.Elements.Contains-append_left, List.Elements.Contains-append_right}
 use Rattle.std.specs.{List.list_all, List.AllZip, List.Contains, Prelude.IsErrAnd}
 use Rattle.wit_model.specs.{Text.Text, Lookup.package_at, Lookup.identity_of, Rules.in_list, Valid.is_place, Valid.numbers_in_range, Valid.IsValid}
@@ -33,21 +33,7 @@ customs-are (Part.top_export e ∷ ps) h = absurd (true≢false (sym h))
 customs-are (Part.custom name contents ∷ ps) h = customs-are ps h
 
 part-behind : (p : Part) (ss cs : List Section) → list_all is_custom_section cs ≡ true → with_part p (ss ++ cs) ≡ with_part p ss ++ cs
-part-behind (Part.top_type t) [] [] h = refl
-part-behind (Part.top_type t) [] (Section.types ts ∷ cs) h = absurd (true≢false (sym h))
-part-behind (Part.top_type t) [] (Section.exports es ∷ cs) h = absurd (true≢false (sym h))
-part-behind (Part.top_type t) [] (Section.custom name contents ∷ cs) h = refl
-part-behind (Part.top_type t) (Section.types ts ∷ ss) cs h = refl
-part-behind (Part.top_type t) (Section.exports es ∷ ss) cs h = refl
-part-behind (Part.top_type t) (Section.custom name contents ∷ ss) cs h = refl
-part-behind (Part.top_export e) [] [] h = refl
-part-behind (Part.top_export e) [] (Section.types ts ∷ cs) h = absurd (true≢false (sym h))
-part-behind (Part.top_export e) [] (Section.exports es ∷ cs) h = absurd (true≢false (sym h))
-part-behind (Part.top_export e) [] (Section.custom name contents ∷ cs) h = refl
-part-behind (Part.top_export e) (Section.types ts ∷ ss) cs h = refl
-part-behind (Part.top_export e) (Section.exports es ∷ ss) cs h = refl
-part-behind (Part.top_export e) (Section.custom name contents ∷ ss) cs h = refl
-part-behind (Part.custom name contents) ss cs h = refl
+part-behind x ss cs h = search std_rules
 
 parts-behind : (ps more : List Part) → list_all is_custom more ≡ true → sections_of_parts (ps ++ more) ≡ sections_of_parts ps ++ sections_of_parts more
 parts-behind [] more h = refl
@@ -62,8 +48,7 @@ customs-pass top (Section.exports es ∷ cs) h = absurd (true≢false (sym h))
 customs-pass top (Section.custom name contents ∷ cs) h = customs-pass top cs h
 
 same-then : (o : Option Top) (f g : Top → Option Top) → ((next : Top) → f next ≡ g next) → (o >>= f) ≡ (o >>= g)
-same-then None f g same = refl
-same-then (Some top) f g same = same top
+same-then x f g same = search std_rules
 
 steps-behind : (top : Top) (ss cs : List Section) → list_all is_custom_section cs ≡ true → steps top_section top (ss ++ cs) ≡ steps top_section top ss
 steps-behind top [] cs h = customs-pass top cs h
@@ -75,9 +60,7 @@ exported-at top =
     (each (λ x. slice_get top.types x.1 >>= λ ds. Some (x.0, ds)) top.exported)
 
 pub exported-behind : (ps more : List Part) → list_all is_custom more ≡ true → exported_types (sections_of_parts (ps ++ more)) ≡ exported_types (sections_of_parts ps)
-exported-behind ps more h =
-    ap exported_types (parts-behind ps more h)
-    ∙ ap (λ (o : Option Top). o >>= exported-at) (steps-behind (record { types = []; slots = []; exported = [] }) (sections_of_parts ps) (sections_of_parts more) (customs-are more h))
+exported-behind ps more h = search (std_rules, parts-behind, steps-behind, customs-are)
 
 -- ---- what the page is for
 
@@ -129,13 +112,7 @@ module _ (r : Resolve) (v : IsValid r) (n : ℕ) (p : Package) (at : package_at 
   wrappers-of canonical (e ∷ es) (x ∷ xs) h = (wrapper-of canonical e x h.0, wrappers-of canonical es xs h.1)
 
   pub no-worlds_yet : (canonical : Bool) (entries : List Listed) (parts : List Part) → HoldsInterfaces r canonical entries parts → HoldsMembers r canonical (identity_of p.name) entries [] parts
-  no-worlds_yet canonical entries parts h = record {
-    interface_types = h.types;
-    world_types = [];
-    interfaces_are = h.are;
-    worlds_are = tt;
-    is = h.is ∙ ap exporting (sym (append-nil h.types));
-  }
+  no-worlds_yet canonical entries parts h = grind (arith, append-nil)
 
   pub package-held : (canonical : Bool) (before parts : List Part) → HoldsInterfaces r canonical p.interfaces.entries before → AddsWorlds r canonical (identity_of p.name) p.worlds.entries before parts
       → HoldsPackage r canonical p parts
@@ -156,21 +133,8 @@ module _ (r : Resolve) (v : IsValid r) (n : ℕ) (p : Package) (at : package_at 
 
   -- ---- its bytes
 
-  as-filled : {A B : Type 0} (R : A → B → Type 0) (xs : List A) (ys : List B) → AllZip R xs ys → is_filled ys ≡ is_filled xs
-  as-filled R [] [] h = refl
-  as-filled R [] (y ∷ ys) h = absurd h
-  as-filled R (x ∷ xs) [] h = absurd h
-  as-filled R (x ∷ xs) (y ∷ ys) h = refl
-
-  filled-both : {A : Type 0} (xs ys : List A) → is_filled (xs ++ ys) ≡ (is_filled xs || is_filled ys)
-  filled-both [] ys = refl
-  filled-both (x ∷ xs) ys = refl
-
   members-filled : (types : List (Text × Declarations)) → ArePackageTypes r p types → is_filled types ≡ (is_filled p.interfaces.entries || is_filled p.worlds.entries)
-  members-filled types are =
-      ap is_filled are.are ∙ filled-both are.interface_types are.world_types
-      ∙ ap (λ b. b || is_filled are.world_types) (as-filled (IsInterfaceType r p) p.interfaces.entries are.interface_types are.interfaces)
-      ∙ ap (λ b. is_filled p.interfaces.entries || b) (as-filled (IsListedWorldType r p) p.worlds.entries are.world_types are.worlds)
+  members-filled types are = search std_rules
 
   pub parts-mean : (canonical : Bool) (parts : List Part) → HoldsPackage r canonical p parts → HasMembers p → PartsMean r n parts
   parts-mean canonical parts h some more custom bytes spelled =
@@ -182,26 +146,17 @@ module _ (r : Resolve) (v : IsValid r) (n : ℕ) (p : Package) (at : package_at 
   bytes-mean canonical parts bytes h spelled some =
       parts-mean canonical parts h some [] refl bytes (subst (λ (ps : List Part). IsComponent (sections_of_parts ps) bytes) (sym (append-nil parts)) spelled)
 
-  no-sections : (bytes : List ℕ) → IsComponent [] bytes → bytes ≡ preamble
-  no-sections bytes ((front, rest, split, first, second), short) = split ∙ ap (λ (x : List ℕ). x ++ rest) first ∙ ap (λ (x : List ℕ). preamble ++ x) second ∙ append-nil preamble
-
   no-types : (types : List (Text × Declarations)) (bytes : List ℕ) → is_filled types ≡ false → IsComponent (sections_of_parts (exporting types)) bytes → bytes ≡ preamble
-  no-types [] bytes none spelled = no-sections bytes spelled
-  no-types (x ∷ xs) bytes none spelled = absurd (true≢false none)
+  no-types x bytes none spelled = search std_rules
 
   pub bytes-empty : (canonical : Bool) (parts : List Part) (bytes : List ℕ) → HoldsPackage r canonical p parts → IsComponent (sections_of_parts parts) bytes → HasNoMembers p → bytes ≡ preamble
-  bytes-empty canonical parts bytes h spelled none =
-      no-types h.types bytes (members-filled h.types h.are ∙ none) (subst (λ (ps : List Part). IsComponent (sections_of_parts ps) bytes) h.is spelled)
+  bytes-empty canonical parts bytes h spelled none = search std_rules
 
 -- ---- refusals
 
 module _ {X : Type 0} (r : Resolve) (p : Package) (canonical : Bool) (e : Error) (given : Result X Error) where
   passed : RefusesPackage r p canonical e → IsErrAnd given (λ d. d ≡ e) → IfErr given (RefusesPackage r p canonical)
-  passed h same = go given same
-    where
-      go : (g : Result X Error) → IsErrAnd g (λ d. d ≡ e) → IfErr g (RefusesPackage r p canonical)
-      go (Ok x) s = tt
-      go (Err d) s = subst (RefusesPackage r p canonical) (sym s) h
+  passed h same = search std_rules
 
   pub interfaces-refused : RefusesInterfaces r p.interfaces.entries canonical e → IsErrAnd given (λ d. d ≡ e) → IfErr given (RefusesPackage r p canonical)
   interfaces-refused h same = passed (RefusesPackage.of_interfaces h) same
@@ -218,10 +173,8 @@ package-at r n canonical (Err e) h = h
 
 pub package-passed : {X : Type 0} (r : Resolve) (n : ℕ) (canonical : Bool) (e : Error) (given : Result X Error) → RefusesPackageAt r n canonical e → IsErrAnd given (λ d. d ≡ e)
     → IfErr given (RefusesPackageAt r n canonical)
-package-passed r n canonical e (Ok x) h same = tt
-package-passed r n canonical e (Err d) h same = subst (RefusesPackageAt r n canonical) (sym same) h
+package-passed r n canonical e x h same = search std_rules
 
 pub room-refused : {X : Type 0} (r : Resolve) (p : Package) (canonical : Bool) (given : Result X Error) → (canonical ≡ true → HasNoClashes r p) → IfErr given IsMemoryOrSize
     → IfErr given (RefusesPackage r p canonical)
-room-refused r p canonical (Ok x) differ h = tt
-room-refused r p canonical (Err e) differ h = RefusesPackage.of_room differ h
+room-refused r p canonical x differ h = search std_rules

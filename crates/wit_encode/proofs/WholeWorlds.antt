@@ -1,5 +1,5 @@
 -- A component type in which all imports and exports of a world are shown is that of the world.
-use Rattle.std.proofs.Common.{◌≡◌, sym, subst, ℕ, Bool, true, Some}
+use Rattle.std.proofs.Common.{rules as std_rules, ◌≡◌, sym, subst, ℕ, Bool, true, Some}
 use Rattle.std.specs.Prelude.{IfErr, IsErrAnd, OnOk, Result, Ok, Err}
 use Rattle.wit_model.specs.{Lookup.world_at, Valid.IsValid}
 use Rattle.wit_model.specs.declared.{error.Error.Error, model.Resolve.Resolve, model.World.World}
@@ -13,17 +13,7 @@ use Rattle.wit_encode.specs.Worlds.{WorldEncoder}
 use Rattle.wit_model.specs.declared.error.Error.TheVariants as errors
 
 pub world-shown : (r : Resolve) → IsValid r → (w : World) (e : WorldEncoder) → HasShown r w e (ended export_ w) → ShowsWorldType r w e.outer
-world-shown r v w e h =
-    let whole = worlds_are_shown r w e.outer h.scope h.shows h.followed in
-    record {
-      scope = h.scope;
-      follows = whole.0;
-      shows = whole.1;
-      obeys = world-obeys r v e.world.0 w h.world_ h.scope whole.1;
-      means = world-means r v e.world.0 w h.world_ h.scope whole.1;
-      order = h.order;
-      alone = λ p home. world-package-means r v e.world.0 w h.world_ h.scope whole.1 p home;
-    }
+world-shown r v w e h = search (std_rules, worlds_are_shown, world-obeys, world-means, world-package-means)
 
 -- ---- what is refused
 
@@ -33,19 +23,15 @@ module _ (r : Resolve) (w : World) (canonical : Bool) where
   names-refused e (Err f) refuses h = subst (RefusesWorld r w canonical) (sym h) (RefusesWorld.of_names refuses)
 
   pub room-refused : {X : Type 0} → (canonical ≡ true → HasNoClash r w) → (given : Result X Error) → IfErr given IsMemoryOrSize → IfErr given (RefusesWorld r w canonical)
-  room-refused none (Ok x) refuses = tt
-  room-refused none (Err e) refuses = RefusesWorld.of_room none refuses
+  room-refused none x refuses = search std_rules
 
   -- names that clash aren't too large
   pub clash-fits : {X Q : Type 0} (e : Error) (given : Result X Error) → RefusesNames r w canonical e → IsErrAnd given (λ f. f ≡ e) → given ≡ Err errors.Size → Q
-  clash-fits e (Ok x) refuses h refused = absurd (let z : ⊥ = cc in z)
-  clash-fits e (Err f) (RefusesNames.memory is) h refused = absurd (let z : ⊥ = cc in z)
-  clash-fits e (Err f) (RefusesNames.clash asked name at is) h refused = absurd (let z : ⊥ = cc in z)
+  clash-fits e x refuses h refused = search std_rules
 
 -- what holds by itself holds of any result
 pub at-any : {X P : Type 0} (given : Result X Error) → P → OnOk given P
-at-any (Ok x) p = p
-at-any (Err e) p = tt
+at-any x p = search std_rules
 
 -- the same of the world of a number
 pub world-at : {X : Type 0} (r : Resolve) (n : ℕ) (canonical : Bool) (given : Result X Error) → ((w : World) → world_at r n ≡ Some w → IfErr given (RefusesWorld r w canonical))

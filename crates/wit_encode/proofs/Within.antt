@@ -1,5 +1,5 @@
 -- The calls of an encoder of interfaces, by whether it is encoding one.
-use Rattle.std.proofs.Common.{◌≡◌, sym, ap, subst, ◌∙◌, ℕ, List, [], ◌∷◌, ◌++◌, length, Result, Ok, Err, IfOk, OnOk, OnErr, Option, Some, None}
+use Rattle.std.proofs.Common.{rules as std_rules, ◌≡◌, sym, subst, ℕ, List, [], ◌∷◌, ◌++◌, length, Result, IfOk, OnOk, OnErr, Option, Some, None}
 use Rattle.wit_model.specs.{Tree.Tree, Tree.named, Meaning.Signature}
 use Rattle.wit_model.specs.declared.model.Resolve.{Resolve}
 use Rattle.comp_bytes.specs.declared.forms.{ComponentDefinedType.ComponentDefinedType, ComponentFuncType.ComponentFuncType}
@@ -39,14 +39,12 @@ ShowsTo res r outer inner inner' slot name = CallsTo res r outer inner outer inn
 -- a definition, by the slot that is answered for it
 pub slot-defined : {E : Type 0} (res : Result ℕ E) (S S' : Pairs) (n n' : ℕ) (P : Standing → Type 0) (d d' : Definitions) → IfOk res (λ k. SlotAdded S S' n n' k P) → OnOk res (d' ≡ one_type_more n d)
     → IfOk res (λ k. d' ≡ one_type_more k d)
-slot-defined (Ok k) S S' n n' P d d' a e = e ∙ ap (λ (i : ℕ). one_type_more i d) (sym a.index)
-slot-defined (Err q) S S' n n' P d d' a e = e
+slot-defined x y z n n' u d d' a e = search std_rules
 
 -- the type of a function, likewise
 pub slot-function : {E : Type 0} (res : Result ℕ E) (S S' : Pairs) (n n' : ℕ) (P : Standing → Type 0) (d d' : Definitions) → IfOk res (λ k. SlotAdded S S' n n' k P)
     → OnOk res (d' ≡ one_function_more n d) → IfOk res (λ k. d' ≡ one_function_more k d)
-slot-function (Ok k) S S' n n' P d d' a e = e ∙ ap (λ (i : ℕ). one_function_more i d) (sym a.index)
-slot-function (Err q) S S' n n' P d d' a e = e
+slot-function x y z n n' u d d' a e = search std_rules
 
 module _ {E : Type 0} (res : Result ℕ E) (r : Resolve) (outer : Declarations) (inner : Option OpenInterface) where
   module _ (current : OpenInterface) (ds' : List Declaration) (is : inner ≡ Some current) where

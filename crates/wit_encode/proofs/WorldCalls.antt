@@ -1,14 +1,14 @@
 -- What the calls of an encoder of a world do to its component type.
-use Rattle.std.proofs.Common.{◌≡◌, refl, sym, subst, ap, ◌∙◌, ℕ, ◌+◌, Bool, true, false, not, ◌&&◌, ◌||◌, cond, List, [], ◌∷◌, ◌++◌, append-nil, option_to_list, filter_map, Result, Ok, Err, IfOk, OnErr, Option, Some, None, slice_get, length, arith}
+use Rattle.std.proofs.Common.{rules as std_rules, ◌≡◌, refl, sym, subst, ap, ◌∙◌, ℕ, ◌+◌, Bool, true, ◌&&◌, cond, List, [], ◌∷◌, ◌++◌, append-nil, option_to_list, filter_map, Result, Ok, Err, IfOk, OnErr, Option, Some, None, slice_get, length, arith}
 use Rattle.std.specs.{List.list_all, List.list_any, Option.option_map_or, Prelude.◌≤◌}
-use Rattle.wit_model.specs.{Text.Text, Lookup.place_of, Types.number_tree, Meaning.Signature, Meaning.TypeMeaning, Parts.is_resource, Parts.numbered_from, Parts.same_owner, Rules.text_is}
+use Rattle.wit_model.specs.{Text.Text, Lookup.place_of, Types.number_tree, Meaning.Signature, Meaning.TypeMeaning, Parts.is_resource, Parts.numbered_from, Rules.text_is}
 use Rattle.wit_model.specs.Tree.{Tree, here, of_interface, named}
 use Rattle.wit_model.specs.declared.model.{Resolve.Resolve, TypeId.TypeId, TypeOwner.TypeOwner, WorldId.WorldId}
 use Rattle.comp_bytes.specs.declared.forms.{ComponentDefinedType.ComponentDefinedType, ComponentFuncType.ComponentFuncType, ComponentTypeRef.ComponentTypeRef}
 use Rattle.comp_bytes.specs.{Raw.Declaration, Raw.Declarations, Raw.ExternName, Raw.declaration_count, RawOf.raw_defined, RawOf.raw_function}
 use Rattle.comp_bytes.specs.Held.{type_slots_of}
 use Rattle.comp_meaning.specs.Same.{same_place}
-use Rattle.comp_meaning.specs.Follow.{import_, Seen, Slot, component_step, definition, function_signature, in_scope, instance_types, is_foreign_name, is_simple, named_type, new_scope, see}
+use Rattle.comp_meaning.specs.Follow.{import_, Seen, Slot, component_step, definition, function_signature, in_scope, instance_types, is_simple, named_type, new_scope, see}
 use Rattle.encode_types.specs.declared.maps.TypeEncodingMaps.{TypeEncodingMaps}
 use Rattle.encode_types.specs.Slots.{Standing, tree, Follows, FollowsFunction, Defines, DefinesFunction}
 use Rattle.encode_types.specs.{Resources.is_met_owner, Resources.is_named_interface, Resources.named_resources, Formed.IsFormed, Formed.IsFormedSignature, Distinct.is_value_type, Distinct.is_function_type, Distinct.described_slot, Distinct.target_of, View.View, View.Grows}
@@ -20,12 +20,11 @@ use Rattle.wit_encode.specs.{DependencyAliases.alias_in, WrittenNames.described_
 use Rattle.wit_encode.specs.Places.{takes_index}
 use Rattle.wit_encode.specs.Worlds.{declared_type, is_sound_outside, world_definitions, world_resources, world_scope, world_view, instances_declared}
 use Rattle.wit_encode.proofs.{Aliases.keeps-alias, Aliases.keeps-plain, ValueSlots.slots-next, ValueSlots.targets-push, ValueSlots.instances-kept, Places.grows-more, Components.steps-count, Components.steps-more, Contents.IsOf, Contents.slots-kept, WrittenNames.instances-left, Directions.directions-more, Directions.keeps-both, Declaring.DeclaredAs, Declaring.declared-slot, Declaring.declared-resource, Calls.defines-of, Calls.formed-value, Calls.function-of, Strict.bind, Strict.definition-strict, Strict.function-strict, Refusing.outer-pushed, Wider.alias-step}
-use Rattle.wit_encode.proofs.Importing.{Stands, cut-short, importable-sound, importable-stands, known-right, named-slot, right-more, stands, still-right}
+use Rattle.wit_encode.proofs.Importing.{Stands, importable-sound, importable-stands, known-right, right-more, stands, still-right}
 use Rattle.wit_encode.proofs.WorldShown.{Extends, SoundOutside, Widens, WorldCalls, exports-more, scope-stays, slot-extends, slots-more, sound-outside, world-calls}
 use Rattle.encode_types.proofs.Around.{around-same}
 use Rattle.encode_names.specs.WorldSteps.{seen_type}
 use Rattle.encode_names.proofs.WorldSteps.{named-slot as named-plain, type-step}
-use Rattle.base_lemmas.proofs.Bools.{left_of as first_true, right_of as second_true}
 use Rattle.wit_model.specs.declared.model.TypeOwner.TheVariants as owner
 use Rattle.comp_bytes.specs.declared.forms.ComponentTypeRef.TheVariants as refs
 use Rattle.comp_meaning.specs.Follow as follow
@@ -94,11 +93,7 @@ module _ {E : Type 0} (res : Result ℕ E) (r : Resolve) (w : WorldId) (count : 
   Declared d = IfOk res (λ k. (k ≡ type_slots_of a.declared) × (outer ≡ declared_after a.declared d))
 
   same-around : OnErr res (outer ≡ a.declared) → OnErr res (next ≡ a)
-  same-around h = each-err res h
-    where
-      each-err : {E : Type 0} (res : Result ℕ E) → OnErr res (outer ≡ a.declared) → OnErr res (next ≡ a)
-      each-err (Ok k) h = h
-      each-err (Err e) h = λ i. record a { declared = h i }
+  same-around h = search std_rules
 
   module _ (is_sound : is_sound_outside r w a ≡ true) where
     abbrev sound : SoundOutside r w a
@@ -235,9 +230,7 @@ module _ {E : Type 0} (res : Result ℕ E) (r : Resolve) (w : WorldId) (count : 
 
 owner-alike : (r : Resolve) (w : WorldId) (p : Text) (o : TypeOwner) (a b : Bool)
     → ((is_met_owner r (owner.World w) o && a) && (same_place (of_interface p) (place_of r o) && b)) ≡ ((is_named_interface r o && a) && (same_place (of_interface p) (place_of r o) && b))
-owner-alike r w p (owner.Interface j) a b = refl
-owner-alike r w p (owner.World v) a b = cut-short ((same_owner (owner.World w) (owner.World v) || false) && a) b
-owner-alike r w p owner.None a b = refl
+owner-alike r w p x a b = search std_rules
 
 resources-alike : (r : Resolve) (w : WorldId) (p x : Text) → world_resources r w (of_interface p) x ≡ named_resources r (of_interface p) x
 resources-alike r w p x = ap (λ test. list_any test (numbered_from 0 r.types.items)) (λ j e. owner-alike r w p e.1.owner (is_resource r e.0) (text_is e.1.name x) j)
@@ -249,25 +242,10 @@ record IsForeign (r : Resolve) (w : WorldId) (n : ℕ) (x : Slot) : Type 0 where
   pub stands : standing_at (Some x) ≡ Some (tree (number_tree r n))
 
 foreign-slot : (r : Resolve) (w : WorldId) (n : ℕ) (x : Slot) → is_slot_for r n (Some x) ≡ true → IsForeign r w n x
-foreign-slot r w n x h = record {
-  plain = plain-name x (first_true (is_foreign_name x) _ h);
-  kept = kept-alike x (first_true (is_foreign_name x) _ h) (first_true (is_slot_of (named_resources r) x) _ (second_true (is_foreign_name x) _ h));
-  stands = named-slot (number_tree r n) x (second_true (is_slot_of (named_resources r) x) _ (second_true (is_foreign_name x) _ h));
-}
-  where
-    plain-name : (x : Slot) → is_foreign_name x ≡ true → instance_types (x ∷ []) ≡ 0
-    plain-name (Slot.instance ds k) f = absurd (let z : ⊥ = cc in z)
-    plain-name _ f = refl
-
-    kept-alike : (slot : Slot) → is_foreign_name slot ≡ true → is_slot_of (named_resources r) slot ≡ true → is_slot_of (world_resources r w) slot ≡ true
-    kept-alike (Slot.value (named (of_interface p) x)) f h = ap not (resources-alike r w p x) ∙ h
-    kept-alike (Slot.resource (of_interface p) x) f h = resources-alike r w p x ∙ h
-    kept-alike (Slot.value (named here x)) f h = absurd (let z : ⊥ = cc in z)
-    kept-alike _ f h = absurd (let z : ⊥ = cc in z)
+foreign-slot r w n x h = search std_rules
 
 slot-stands : (r : Resolve) (w : WorldId) (n : ℕ) (o : Option Slot) → is_slot_for r n o ≡ true → standing_at o ≡ Some (tree (number_tree r n))
-slot-stands r w n None h = absurd (let z : ⊥ = cc in z)
-slot-stands r w n (Some x) h = (foreign-slot r w n x h).stands
+slot-stands r w n y h = search std_rules
 
 -- an import of a type, by an alias at most
 pub record WorldImports (r : Resolve) (v v' : View) (n : ℕ) (known : List (ℕ × ℕ)) : Type 0 where

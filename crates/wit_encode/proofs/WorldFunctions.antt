@@ -1,19 +1,19 @@
 -- A world that has no room in a component type weighs more than the largest number of 32 bits.
-use Rattle.std.proofs.Common.{◌≡◌, refl, sym, subst, ap, ◌∙◌, append-nil, append_assoc, ℕ, zero, ◌≤◌, inl, inr, Bool, true, List, [], ◌∷◌, ◌++◌, map, filter_map, slice_get, take, Option, Some, None, option_to_list, length, arith, suc, ◌+◌, ◌*◌, ◌<◌, ◌⊎◌, false, not, ◌&&◌, nat_lt, flat_map, length-append, option_map, String}
-use Rattle.std.proofs.lemmas.{List.map-append, Bool.ltb-true, Bool.ltb-false, Bool.and_from as both-true, List.Sums.sum_by-cons, List.Sums.sum_by-append}
+use Rattle.std.proofs.Common.{rules as std_rules, ◌≡◌, refl, sym, subst, ap, ◌∙◌, append-nil, append_assoc, ℕ, zero, ◌≤◌, inl, inr, Bool, true, List, [], ◌∷◌, ◌++◌, map, filter_map, slice_get, take, Option, Some, None, option_to_list, length, arith, suc, ◌+◌, ◌*◌, ◌<◌, ◌⊎◌, false, not, ◌&&◌, nat_lt, flat_map, length-append, option_map, String}
+use Rattle.std.proofs.lemmas.{List.map-append, Bool.ltb-true, Bool.ltb-false, List.Sums.sum_by-cons, List.Sums.sum_by-append}
 use Rattle.std.proofs.lemmas.List.{Concat.flat_map-append, Filters.sum_by-filter_both, Kept.AllPairs-filter}
 use Rattle.std.proofs.lemmas.List.Elements.{Contains-append_left, Contains-append_right, filter_map-append, Contains-append_cases, All-contains, filter_passes}
-use Rattle.std.specs.List.{Contains, cons_option, filter, list_all}
+use Rattle.std.specs.List.{Contains, cons_option, filter}
 use Rattle.std.specs.{Option.option_map_or, Prelude.if◌then◌else◌, Prelude.sum_by, Prelude.AllPairs, Prelude.option_and_then, Prelude.unwrap_or}
 use Rattle.indexmap.specs.IndexMap.{values}
-use Rattle.wit_model.specs.Lookup.{world_at, canonical_identity_of, interface_at, interface_path, canonical_path, canonical_suffix, package_of_interface, key_text, type_at}
+use Rattle.wit_model.specs.Lookup.{world_at, interface_at, interface_path, canonical_path, canonical_suffix, key_text, type_at}
 use Rattle.wit_model.specs.Meaning.{Signature}
 use Rattle.wit_model.specs.{Meant.signature_of, Meant.item_external_id, Parts.function_types, Parts.same_owner, Calls.implemented, Calls.named_interface}
 use Rattle.wit_model.specs.Rules.{item_type, passes, is_member, is_name_key, interface_type_numbers, world_type_numbers, owner_in_range}
-use Rattle.wit_model.specs.{Uses.item_interface, Uses.items_of, Uses.has, Uses.once, Text.Text, Text.text_of, Text.text_eq, Text.optional_text, Names.path_in}
+use Rattle.wit_model.specs.{Uses.item_interface, Uses.items_of, Uses.has, Uses.once, Text.Text, Text.text_of, Text.text_eq, Text.optional_text}
 use Rattle.wit_model.specs.Valid.{IsValid, as_interface, as_world, function_names, functions_of_interface, functions_of_world, item_function, numbers_in_range}
-use Rattle.wit_model.specs.Weight.{unit_of, name_texts, definition_weight, is_brought, number_weight, function_weight, instance_numbers, instance_weight, whole_instance_weight, implemented_texts, item_weight, brought_into, world_numbers, world_weight}
-use Rattle.wit_model.specs.declared.model.{Resolve.Resolve, World.World, WorldId.WorldId, Function.Function, Package.Package, TypeDef.TypeDef, TypeId.TypeId}
+use Rattle.wit_model.specs.Weight.{number_weight, function_weight, instance_numbers, whole_instance_weight, implemented_texts, item_weight, brought_into, world_numbers, world_weight}
+use Rattle.wit_model.specs.declared.model.{Resolve.Resolve, World.World, WorldId.WorldId, Function.Function, TypeDef.TypeDef, TypeId.TypeId}
 use Rattle.wit_model.specs.declared.model.{WorldKey.WorldKey, WorldItem.WorldItem, Interface.Interface, InterfaceId.InterfaceId, TypeOwner.TypeOwner}
 use Rattle.comp_bytes.specs.{Raw.Declarations, Raw.ExternName, Writing.declaration_bytes, Fits.fits_name}
 use Rattle.comp_meaning.specs.Follow.{Direction, import_, export_, Seen, Slot, function_in, new_scope, see}
@@ -22,17 +22,17 @@ use Rattle.encode_types.specs.Known.{Around, are_right, below, outer_instances, 
 use Rattle.encode_types.specs.{Maps.IsKnown, Maps.LearnsOnly, Maps.MapsAgree, Maps.by_number, Standing.SlotsStand, Standing.standing_at, Extents.name_extent}
 use Rattle.encode_names.specs.WorldNames.{name_of_item, written_path, written_suffix}
 use Rattle.encode_names.specs.WorldSteps.{Entry, Entries, IsEntryOf, declared_towards, interfaces_among, seen_function, with_entry}
-use Rattle.encode_names.proofs.{WorldSteps.functions_are_shown, WorldSteps.nothing_is_shown, NamesRead.no-suffix as no-suffix-written}
+use Rattle.encode_names.proofs.{WorldSteps.functions_are_shown, NamesRead.no-suffix as no-suffix-written}
 use Rattle.encode_types.proofs.Lists.{none-in}
 use Rattle.wit_encode.specs.{Encoders.declared_after, OwnerScope.IsScopeOf, WholeWorlds.directions_of, WorldUses.StandBefore}
 use Rattle.wit_encode.specs.{Instance.CanEncodeFunction, WorldItems.HasShown, WorldItems.IsNext, WorldItems.all_done, WorldItems.types_among}
 use Rattle.wit_encode.specs.Worlds.{WorldEncoder, is_sound_outside, world_around, world_definitions, world_encoder_view, world_view_of}
 use Rattle.wit_encode.specs.WorldRoom.{functions_among, type_ids_among, IsMetAmong, IsTypeAmong, count_among, entries_in, WorldLacksRoom, an_interface, a_name, a_type, a_function, too_many, LackingWorldsAreHeavy}
 use Rattle.wit_encode.proofs.{Components.steps-more, Components.see-slots, Reached.from-flat, Reached.IsOwner, Reached.interface-owner, Reached.world-owner}
-use Rattle.wit_encode.proofs.WorldShown.{function-listed, function-there, items_meet_standing, types-shown, sound-again, sound-outside, no-type-exported}
+use Rattle.wit_encode.proofs.WorldShown.{function-listed, function-there, items_meet_standing, types-shown, no-type-exported}
 use Rattle.wit_encode.proofs.{Directions.order-next, Meeting.meets-unnamed, Exporting.shows-nothing, OwnerScope.functions_encode, OwnerScope.table_is_scope}
 use Rattle.wit_encode.proofs.{Extents.bytes-few, Mapped.from-filter}
-use Rattle.wit_encode.proofs.Weighing.{fits-text, given-fits, Differ, sum-among, contains-once, at-least, one-of, type-heavy, counted-once, counted-least, part-heavy-of, lacking-heavy}
+use Rattle.wit_encode.proofs.Weighing.{Differ, sum-among, contains-once, at-least, one-of, type-heavy, counted-once, counted-least, part-heavy-of, lacking-heavy}
 use Rattle.encode_shown.proofs.{Basics.valid-references, Items.typed-item, Zips.given-contains}
 use Rattle.comp_bytes.specs.declared.forms.ComponentTypeRef.{ComponentTypeRef}
 use Rattle.std.specs.declared.alloc.Global.{Global}
@@ -53,21 +53,7 @@ use Rattle.wit_model.specs.declared.model.WorldKey.TheVariants as key
 pub starts : (r : Resolve) (w : World) (e : WorldEncoder) → world_at r e.world.0 ≡ Some w → e.resolve.now ≡ r → e.outer ≡ Declarations.no_more → e.foreign.instances.entries ≡ []
     → e.foreign.known.entries ≡ [] → e.instances ≡ 0
     → e.maps.id_to_index.entries ≡ [] → Agrees r (world_view_of r e) → HasShown r w e ([], [])
-starts r w e there packages outer instances known count ids agree = record {
-  packages_ = packages;
-  world_ = there;
-  scope = new_scope;
-  followed = ap outer_scope outer;
-  shows = nothing_is_shown r;
-  order = ap directions_of outer;
-  agree = agree;
-  sound = λ i. is_sound_outside r e.world (record { declared = outer i; instances = instances i; known = known i });
-  stand = λ i c p. none-in i c;
-  count = count;
-  typed = (let none : e.instances ≡ 0 = count in omega (arith, none));
-  known = λ n c. none-in n c;
-  alone = λ n q. none-in (n, q.0) (subst (λ (xs : List (ℕ × ℕ)). Contains xs (n, q.0)) ids q.1);
-}
+starts r w e there packages outer instances known count ids agree = search std_rules
 
 -- ---- the place of the next item
 
@@ -170,15 +156,7 @@ module _ (r : Resolve) (w : WorldId) (a a' : Around) (slots : outer_slots a'.dec
   standing-left = λ i. if are_right r (known i) (slots i) then filter (stands_around r (listed i) (instances i)) (below (length r.interfaces.items)) else []
 
   pub sound-left : (scope' : follow.Scope) → outer_scope a'.declared ≡ Some scope' → is_sound_outside r w a ≡ true → is_sound_outside r w a' ≡ true
-  sound-left scope' next sound =
-      let s = sound-outside r w a sound in
-      let same : scope'.slots ≡ s.scope.slots = ap (λ o. option_map_or (λ z. z.slots) o []) (sym next) ∙ slots ∙ ap (λ o. option_map_or (λ z. z.slots) o []) s.followed in
-      sound-again r w a' (record {
-        scope = scope';
-        followed = next;
-        slots = ap (list_all _) same ∙ s.slots;
-        right = (λ i. are_right r (known i) (same i)) ∙ s.right;
-      })
+  sound-left scope' next sound = search std_rules
 
 pub see-instances : (direction : Direction) (seen : Seen) (s : follow.Scope) → (see direction seen s).instances ≡ s.instances
 see-instances import_ seen s = refl
@@ -194,9 +172,7 @@ nothing-brought given split export_ done x none =
     split done.0 (done.1 ++ x ∷ []) ∙ ap (λ xs. given done.0 ++ xs) (split done.1 (x ∷ []) ∙ ap (λ xs. given done.1 ++ xs) none ∙ append-nil (given done.1)) ∙ sym (split done.0 done.1)
 
 signature-at : (o : Option Slot) (s : Signature) → standing_at o ≡ Some (function s) → function_in o ≡ Some s
-signature-at (Some (Slot.function q)) s h = let same : q ≡ s = cc in ap Some same
-signature-at (Some (Slot.value t)) s h = absurd (let z : ⊥ = cc in z)
-signature-at _ s h = absurd (let z : ⊥ = cc in z)
+signature-at x s h = search std_rules
 
 pub function-behind : (r : Resolve) → IsValid r → (w : World) (e : WorldEncoder) (done : Entries) → HasShown r w e done
     → (direction : Direction) (canonical : Bool) (k : WorldKey) (f : Function) (n : ℕ) (outer : Declarations)
@@ -276,26 +252,12 @@ some-long t = sum_by-cons length t [] ∙ (let z : length t + 0 ≡ length t = o
 
 pub name-fits : (name : ExternName) (total : ℕ) → length name.text ≤ total → long name.implements ≤ total → long name.version_suffix ≤ total → long name.external_id ≤ total → total ≤ limit
     → fits_name name ≡ true
-name-fits name total a b c d l =
-    both-true _ _ (fits-text name.text (omega (arith, a, l))) (both-true _ _ (given-fits name.implements (omega (arith, b, l)))
-    (both-true _ _ (given-fits name.version_suffix (omega (arith, c, l))) (given-fits name.external_id (omega (arith, d, l)))))
+name-fits name total a b c d l = search std_rules
 
 -- a canonical path and its suffix are no longer than the path
 module _ (r : Resolve) (n : ℕ) where
   no-suffix : canonical_path r n ≡ None → canonical_suffix r n ≡ None
-  no-suffix = go (λ p name. path_in (canonical_identity_of p.name) (text_of name)) _ (interface_at r n) (package_of_interface r n)
-    where
-      named : (f : Package → String Global → Text) (g : Package → Option Text) (x : Option (String Global)) (p : Option Package) → option_and_then (λ name. option_map (λ q. f q name) p) x ≡ None
-          → option_and_then (λ name. option_and_then g p) x ≡ None
-      named f g None p e = refl
-      named f g (Some name) None e = refl
-      named f g (Some name) (Some q) e = absurd (let z : ⊥ = cc in z)
-
-      go : (f : Package → String Global → Text) (g : Package → Option Text) (i : Option Interface) (p : Option Package)
-          → option_and_then (λ (i : Interface). option_and_then (λ name. option_map (λ q. f q name) p) i.name) i ≡ None
-          → option_and_then (λ (i : Interface). option_and_then (λ name. option_and_then g p) i.name) i ≡ None
-      go f g None p e = refl
-      go f g (Some i) p e = named f g i.name p e
+  no-suffix = search std_rules
 
   path-long : (length (unwrap_or (canonical_path r n) []) ≤ long (interface_path r n)) × (long (canonical_suffix r n) ≤ long (interface_path r n))
   path-long = go (canonical_path r n) (canonical_suffix r n) refl (canonical_paths_join r n) no-suffix
@@ -397,23 +359,10 @@ abbrev StandsAmong : Resolve → List Entry → ℕ → Type 0
 StandsAmong r es n = (d : TypeDef) × (type_at r n ≡ Some d) × (j : ℕ) × Contains (interfaces_among es) j × Contains (numbers-of-interface r j) n
 
 pub number-least : (r : Resolve) (o : TypeOwner) (n : ℕ) (d : TypeDef) → type_at r n ≡ Some d → 64 ≤ number_weight r o n
-number-least r o n d at =
-    let is = ap (λ t. option_map_or (λ d. if is_brought r o n then unit_of (name_texts d) else definition_weight d) t 0) at in
-    let low = either (is_brought r o n) in
-    omega (arith, is, low)
-  where
-    either : (b : Bool) → 64 ≤ (if b then unit_of (name_texts d) else definition_weight d)
-    either true = omega arith
-    either false = omega arith
+number-least r o n d at = search std_rules
 
 whole-least : (r : Resolve) (j : ℕ) → sum_by (number_weight r (as_interface j)) (numbers-of-interface r j) ≤ whole_instance_weight r j
-whole-least r j = go (interface_at r j)
-  where
-    go : (o : Option Interface)
-        → sum_by (number_weight r (as_interface j)) (option_map_or (λ d. instance_numbers r d (functions_of_interface d)) o []) ≤ option_map_or
-        (λ i. instance_weight r j i (functions_of_interface i)) o 0
-    go None = omega arith
-    go (Some d) = omega arith
+whole-least r j = search std_rules
 
 abbrev pub each : List ℕ → ℕ
 each ns = sum_by (λ n. 64) ns
@@ -482,8 +431,7 @@ module _ (r : Resolve) (v : IsValid r) (w : WorldId) (def : World) (home : world
 
   pub weight-is : world_weight r w.0 ≡ total
   unfolding world_weight
-  weight-is = ap (λ t. option_map_or (λ x. 64 + (sum_by weigh (once (world_numbers r x ++ flat_map (brought_into r) (filter_map item_interface (items_of x)))) + sum_by (entry-weight r)
-      (entries_in x))) t 0) home
+  weight-is = search std_rules
 
   item-of : (e : Entry) → Contains es e → Contains (items_of def) e.1
   item-of e c = elim (Contains-append_cases def.imports.entries def.exports.entries e c) [

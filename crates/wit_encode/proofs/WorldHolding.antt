@@ -1,14 +1,14 @@
 -- Which types of listed interfaces have an alias in a component type, and how much it holds beside them.
-use Rattle.std.proofs.Common.{◌≡◌, refl, sym, subst, ap, ◌∙◌, ℕ, ◌+◌, inl, inr, Bool, true, false, ◌⊎◌, List, [], ◌∷◌, ◌++◌, map, flat_map, append-nil, append_assoc, length, None, is_some, slice_get, arith, zero, suc, ◌*◌, ◌≤◌, ◌&&◌, length-append, Option, Some}
-use Rattle.std.proofs.lemmas.{List.map-append, List.length-map, Bool.eqb-true, Bool.cases_Bool, Bool.cond-true, Bool.cond-false, Bool.and_from as both}
+use Rattle.std.proofs.Common.{rules as std_rules, ◌≡◌, refl, sym, subst, ap, ◌∙◌, ℕ, ◌+◌, inl, inr, Bool, true, false, ◌⊎◌, List, [], ◌∷◌, ◌++◌, map, flat_map, append-nil, append_assoc, length, None, is_some, slice_get, arith, zero, suc, ◌*◌, ◌≤◌, ◌&&◌, length-append, Some}
+use Rattle.std.proofs.lemmas.{List.map-append, List.length-map, Bool.cases_Bool, Bool.cond-true, Bool.cond-false, Bool.and_from as both}
 use Rattle.std.proofs.lemmas.List.{Concat.flat_map-append, Kept.AllPairs-filter}
 use Rattle.std.proofs.lemmas.List.Elements.{Contains-append_left, Contains-append_right, Contains-append_cases, filter_map-append, All-contains, filter_passes}
 use Rattle.std.specs.{Prelude.nat_eq, Prelude.cond, Prelude.AllPairs, List.AllZip, List.Contains, List.filter, BTreeMap.is_at, BTreeMap.insert_entry}
 use Rattle.std.specs.{Set.is_member, Set.distinct_count, Option.option_map_or, Ordering.nat_cmp}
-use Rattle.wit_model.specs.{Parts.function_types, Valid.IsValid, Lookup.type_at, Text.text_of, Meant.signature_of, Meant.type_meaning, Uses.owner_interface}
+use Rattle.wit_model.specs.{Parts.function_types, Valid.IsValid, Lookup.type_at, Text.text_of, Meant.signature_of, Meant.type_meaning}
 use Rattle.wit_model.specs.Tree.{Tree}
 use Rattle.wit_model.specs.declared.model.{Resolve.Resolve, World.World, TypeId.TypeId, TypeDef.TypeDef}
-use Rattle.wit_model.specs.declared.model.{WorldKey.WorldKey, WorldItem.WorldItem, Function.Function, «Type».«Type» as ValueType, TypeOwner.TypeOwner}
+use Rattle.wit_model.specs.declared.model.{WorldKey.WorldKey, WorldItem.WorldItem, Function.Function, «Type».«Type» as ValueType}
 use Rattle.comp_bytes.specs.Raw.{Declaration, Declarations, ExternName, declaration_count}
 use Rattle.comp_bytes.specs.{Held.declaration_slots, Held.fits_added, Held.fits_counts, Held.type_slots_of, Fits.fits_declaration, Fits.fits_name}
 use Rattle.comp_bytes.specs.declared.forms.ComponentTypeRef.{ComponentTypeRef}
@@ -42,7 +42,6 @@ use Rattle.base_lemmas.proofs.Elements.{contains-map, map_from as from-map, last
 use Rattle.wit_model.specs.declared.model.WorldItem.TheVariants as item
 use Rattle.wit_model.specs.declared.model.«Type».TheVariants as ty
 use Rattle.comp_bytes.specs.declared.forms.ComponentTypeRef.TheVariants as refs
-use Rattle.wit_model.specs.declared.model.TypeOwner.TheVariants as owner
 
 -- ---- How much the component type of a world defines after each item.
 
@@ -144,17 +143,7 @@ module _ (r : Resolve) (e e' : WorldEncoder) (es : List Entry) (h : HasDefined r
   -- the aliases of an item without an interface
   asks-more : NumbersMet r None ts (λ n. is_some (known_slot e.foreign.known.entries n)) (λ n. is_some (known_slot e'.foreign.known.entries n)) → (t : ℕ)
       → is_some (known_slot e'.foreign.known.entries t) ≡ true → (is_some (known_slot e.foreign.known.entries t) ≡ true) ⊎ IsAskedBy r x t
-  asks-more m t known = elim (m.each t known) [
-    | inl old ↦ inl old
-    | inr new ↦ inr (inl (record {
-      met = (new.met.0, refers new.met.0 new.met.1, new.met.2);
-      def = new.def;
-      there = new.there;
-      interface = new.interface;
-      foreign =
-          new.foreign;
-    }))
-  ]
+  asks-more m t known = search std_rules
 
   -- an item without an interface
   pub defines-more : AddsFunctions r (no_interface r) e.maps e'.maps (world_definitions e.outer) (world_definitions e'.outer) fs → LearnsFrom r None ts e.maps e'.maps
@@ -339,14 +328,7 @@ next-among r w export_ done x n =
 
 below-apart : (n m : ℕ) → n ≤ m → (k : ℕ) → Contains (below n) k → nat_eq m k ≡ false
 below-apart zero m l k c = none-in k c
-below-apart (suc n) m l k (zero, b, e) = subst (λ (x : ℕ). nat_eq m x ≡ false) e (apart m n l)
-  where
-    apart : (m n : ℕ) → suc n ≤ m → nat_eq m n ≡ false
-    apart m n l = by (nat_eq m n) refl
-      where
-        by : (b : Bool) → nat_eq m n ≡ b → nat_eq m n ≡ false
-        by false q = q
-        by true q = let same = eqb-true m n q in absurd (omega (arith, same, l))
+below-apart (suc n) m l k (zero, b, e) = search std_rules
 below-apart (suc n) m l k (suc i, b, e) = below-apart n m (omega (arith, l)) k (i, omega (arith, b), e)
 
 below-once : (n : ℕ) → AllPairs (λ x y. nat_eq x y ≡ false) (below n)
@@ -367,27 +349,13 @@ module _ (m : TypeEncodingMaps) where
   known-once once = pairs-map (λ (e : ℕ × ℕ). e.0) (λ x y. nat_eq x y ≡ false) m.id_to_index.entries once.numbers
 
   unknown-apart : (x y : ℕ) → IsKnown m x → (IsKnown m y → ⊥) → nat_eq x y ≡ false
-  unknown-apart x y known unknown = by (nat_eq x y) refl
-    where
-      by : (b : Bool) → nat_eq x y ≡ b → nat_eq x y ≡ false
-      by false e = e
-      by true e = absurd (unknown (subst (IsKnown m) (eqb-true x y e) known))
+  unknown-apart x y known unknown = search std_rules
 
 -- ---- types of interfaces that are listed
 
 module _ (r : Resolve) (a : Around) (interfaces : List ℕ) (listed : (i : ℕ) → is_some (known_instance a.instances i) ≡ true → Contains interfaces i) where
   brought-type : (n : ℕ) → is_brought r a n ≡ true → IsNamedTypeOf r interfaces n
-  brought-type n h = go (type_at r n) refl (second_true _ _ h)
-    where
-      of-owner : (d : TypeDef) → type_at r n ≡ Some d → is_some d.name ≡ true → (o : TypeOwner) → d.owner ≡ o
-          → option_map_or (λ i. is_some (known_instance a.instances i)) (owner_interface o) false ≡ true → IsNamedTypeOf r interfaces n
-      of-owner d at named (owner.Interface i) q f = record { interface = i; among = listed i.0 f; def = d; there = at; named_ = named; owned = q }
-      of-owner d at named (owner.World w) q f = absurd (let z : ⊥ = cc in z)
-      of-owner d at named owner.None q f = absurd (let z : ⊥ = cc in z)
-
-      go : (o : Option TypeDef) → type_at r n ≡ o → option_map_or (is_of_listed a.instances) o false ≡ true → IsNamedTypeOf r interfaces n
-      go None at f = absurd (let z : ⊥ = cc in z)
-      go (Some d) at f = of-owner d at (first_true (is_some d.name) _ f) d.owner refl (second_true (is_some d.name) _ f)
+  brought-type n h = search std_rules
 
   pub brought-some : AreSome (IsNamedTypeOf r interfaces) (brought_numbers r a)
   brought-some = record {
@@ -481,10 +449,7 @@ type-few r p p' e e' es k i id is q q' same h keys held =
 
 -- nothing is held by a new encoder
 pub none-held : (r : Resolve) (e : WorldEncoder) → e.outer ≡ Declarations.no_more → e.foreign.instances.entries ≡ [] → HoldsFew r e []
-none-held r e o none = record {
-  listed = λ i h. absurd (let z : is_some (known_instance [] i) ≡ true = ap (λ xs. is_some (known_instance xs i)) (sym none) ∙ h in let y : ⊥ = cc in y);
-  held = (let z : declaration_count e.outer ≡ 0 = ap declaration_count o in omega (arith, z));
-}
+none-held r e o none = search std_rules
 
 -- ---- a call that has no room
 

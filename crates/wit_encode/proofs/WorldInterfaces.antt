@@ -1,5 +1,5 @@
 -- An interface of a world, imported or exported behind what has been: its instance type shows it, and from then on its instance stands.
-use Rattle.std.proofs.Common.{◌≡◌, refl, sym, subst, ap, ◌∙◌, append-nil, ℕ, ◌≤◌, inl, inr, Bool, true, if◌then◌else◌, List, [], ◌∷◌, ◌++◌, length, arith, zero, suc, ◌+◌, ◌<◌, ◌⊎◌, nat_cmp, false, ◌&&◌, length-append, Option, Some, option_to_list}
+use Rattle.std.proofs.Common.{rules as std_rules, ◌≡◌, refl, sym, subst, ap, ◌∙◌, append-nil, ℕ, ◌≤◌, inl, inr, Bool, true, if◌then◌else◌, List, [], ◌∷◌, ◌++◌, length, arith, ◌+◌, ◌<◌, ◌⊎◌, nat_cmp, false, ◌&&◌, length-append, Option, Some, option_to_list}
 use Rattle.std.proofs.lemmas.{Cmp.nat_cmp_total, List.Concat.flat_map-append, Slice.Zip.AllZip-long, Bool.and_from as both}
 use Rattle.std.proofs.lemmas.List.Elements.{Contains-append_cases, Contains-append_left, Contains-append_right, filter_map-append}
 use Rattle.std.specs.{List.Contains, List.list_all, BTreeMap.insert_entry, BTreeMap.is_at, Ordering.is_eq, Option.option_map_or}
@@ -30,8 +30,6 @@ use Rattle.encode_names.proofs.{InstancesStand.instances_stand, WorldSteps.inter
 use Rattle.base_lemmas.proofs.{Bools.left_of as first_true, Bools.right_of as second_true, Elements.all-contained, Options.there as some-of}
 use Rattle.encode_shown.proofs.PackageSights.{interface-uses as uses-of}
 use Rattle.wit_model.proofs.UsesLemmas.{interface_in_range as interface-range}
-use Rattle.wit_model.specs.declared.model.WorldKey.TheVariants as key
-use Rattle.wit_model.specs.declared.model.WorldItem.TheVariants as item
 use Rattle.comp_bytes.specs.declared.forms.ComponentTypeRef.TheVariants as refs
 use Rattle.comp_meaning.specs.Follow as follow
 
@@ -122,13 +120,10 @@ aliases-shown r w e done h outer foreign g =
 -- ---- the interface of an item
 
 no-type : (x : Entry) (n : ℕ) → item_interface x.1 ≡ Some n → types_among (x ∷ []) ≡ []
-no-type (k, item.Interface id stability docs external_id) n e = refl
-no-type (k, item.Function f) n e = absurd (let z : ⊥ = cc in z)
-no-type (k, item.Type_ id) n e = absurd (let z : ⊥ = cc in z)
+no-type x n e = search std_rules
 
 key-path : (k : WorldKey) (path : Text) → interface_of (instance_key k (Some path)) ≡ Some path
-key-path (key.Name name) path = refl
-key-path (key.Interface id) path = refl
+key-path x path = search std_rules
 
 -- ---- entries
 
@@ -179,8 +174,7 @@ pub among-one : (x : Entry) (n : ℕ) → item_interface x.1 ≡ Some n → inte
 among-one x n e = ap (λ o. option_to_list o ++ []) e
 
 only-one : (n j : ℕ) → Contains (n ∷ []) j → j ≡ n
-only-one n j (zero, l, e) = sym e
-only-one n j (suc k, l, e) = absurd (omega (arith, l))
+only-one n j x = search std_rules
 
 turn : (r : Resolve) (w : World) (direction : Direction) (done : Entries) (x : Entry) → IsNext r w direction done x → IsTurnOf direction done
 turn r w import_ done x n = n.begun

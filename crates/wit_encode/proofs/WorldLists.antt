@@ -1,5 +1,5 @@
 -- A type of a world, imported behind what has been: nothing else that is named in the world is learnt with it.
-use Rattle.std.proofs.Common.{◌≡◌, refl, sym, subst, ap, ◌∙◌, ℕ, ◌+◌, ◌≤◌, ◌⊎◌, inl, inr, nat_cmp, Bool, true, false, ◌&&◌, List, [], ◌∷◌, ◌++◌, length, map, Some, None, is_some, arith, append-nil, append_assoc, Option, ◌==◌, cond, filter_map, slice_get, take, option_map, option_and_then, String, count_by, nat_eq}
+use Rattle.std.proofs.Common.{rules as std_rules, ◌≡◌, refl, sym, subst, ap, ◌∙◌, ℕ, ◌+◌, ◌≤◌, ◌⊎◌, inl, inr, nat_cmp, Bool, true, false, ◌&&◌, List, [], ◌∷◌, ◌++◌, length, map, Some, None, is_some, arith, append-nil, append_assoc, Option, ◌==◌, cond, filter_map, slice_get, take, option_map, option_and_then, String, count_by, nat_eq}
 use Rattle.std.proofs.lemmas.{List.length-map, List.Sums.sum_by-append, Option.same_Some as same-some}
 use Rattle.std.proofs.lemmas.List.Elements.{Contains-append_left, Contains-append_right, Contains-append_cases, filter_map-append}
 use Rattle.std.specs.{BTreeMap.insert_entry, List.AllZip, List.Contains, Prelude.is_none, Option.option_map_or}
@@ -22,7 +22,7 @@ use Rattle.encode_names.specs.WorldSteps.{Entry, Entries, declared_towards, inte
 use Rattle.wit_encode.specs.{Encoders.InterfaceLacksRoom, Encoders.declared_after, WorldAliases.KeepsBehind, WorldAliases.place_and_number}
 use Rattle.wit_encode.specs.{Instance.EncodesInterface, Instance.LacksInstanceRoom, Instance.whole_interface, Extents.item_extent, OwnerScope.IsTypeOf}
 use Rattle.wit_encode.specs.{WorldHolds.HoldsFew, WorldHolds.LacksDeclaration, WorldHolds.HoldsAll, WorldHolds.LacksRoomTowards, WrittenNames.NamesMore}
-use Rattle.wit_encode.specs.WorldItems.{IsNext, ListsInstance, all_done, AwaitsAll, EncodesAll, HasShown, begun, ended, entries_of, types_among}
+use Rattle.wit_encode.specs.WorldItems.{IsNext, ListsInstance, all_done, AwaitsAll, EncodesAll, HasShown, begun, entries_of, types_among}
 use Rattle.wit_encode.specs.WorldCounts.{DefinesInterface, HasDefined, IsAskedBy, no_interface, DefinesAll}
 use Rattle.wit_encode.specs.WorldRoom.{functions_among, count_among, entries_in, WorldLacksRoom, an_interface, a_name}
 use Rattle.wit_encode.specs.Worlds.{WorldEncoder, brought_numbers, instances_declared, world_around, world_definitions, world_encoder_view, world_view_of}
@@ -51,20 +51,13 @@ use Rattle.wit_model.specs.declared.model.«Type».TheVariants as ty
 -- ---- one interface among the entries
 
 no-function : (x : Entry) (n : ℕ) → item_interface x.1 ≡ Some n → functions_among (x ∷ []) ≡ []
-no-function (k, item.Interface id stability docs external_id) n e = refl
-no-function (k, item.Function f) n e = absurd (let z : ⊥ = cc in z)
-no-function (k, item.Type_ id) n e = absurd (let z : ⊥ = cc in z)
+no-function x n e = search std_rules
 
 no-type : (x : Entry) (n : ℕ) → item_interface x.1 ≡ Some n → item_type x.1 ≡ None
-no-type (k, item.Interface id stability docs external_id) n e = refl
-no-type (k, item.Function f) n e = absurd (let z : ⊥ = cc in z)
-no-type (k, item.Type_ id) n e = absurd (let z : ⊥ = cc in z)
+no-type x n e = search std_rules
 
 count-one : (x : Entry) (n : ℕ) → item_interface x.1 ≡ Some n → count_among (x ∷ []) ≡ 1
-count-one x n e =
-    let a : length (functions_among (x ∷ [])) ≡ 0 = ap length (no-function x n e) in
-    let b : length (interfaces_among (x ∷ [])) ≡ 1 = ap length (among-one x n e) in
-    omega (arith, a, b)
+count-one x n e = search std_rules
 
 -- ---- the instance type and its import or export, listed
 
@@ -284,10 +277,7 @@ goes-next r canonical e e' direction entries rest more x a g is = by direction a
     by export_ w h q = record { world = w; done = (w.imports.entries, g.front); shown = h; next = record { rest = more; next = q; begun = refl } }
 
 world-of : (r : Resolve) (e : WorldEncoder) (w v : World) (d d' : Entries) → HasShown r w e d → HasShown r v e d' → v ≡ w
-world-of r e w v d d' h k = some-same (sym k.world_ ∙ h.world_)
-  where
-    some-same : {x y : World} → ◌≡◌ {A = Option World} (Some x) (Some y) → x ≡ y
-    some-same e = cc
+world-of r e w v d d' h k = search std_rules
 
 pub goes-on : (r : Resolve) (canonical : Bool) (e e' e'' : WorldEncoder) (direction : Direction) (entries rest more : List Entry) (x : Entry) → AwaitsAll r e direction entries
     → Goes r canonical e e' direction entries rest → rest ≡ x ∷ more
@@ -311,14 +301,7 @@ goes-on r canonical e e' e'' direction entries rest more x a g is encodes named 
 
 pub goes-whole : (r : Resolve) (canonical : Bool) (e e' : WorldEncoder) (direction : Direction) (entries rest : List Entry) → AwaitsAll r e direction entries
     → Goes r canonical e e' direction entries rest → rest ≡ [] → EncodesAll r e e' direction
-goes-whole r canonical e e' direction entries rest a g none w h =
-    let all : entries_of direction w ≡ g.front = ap (entries_of direction) (world-of r e a.world w _ _ a.shown h) ∙ sym a.are ∙ g.split ∙ ap (λ (xs : List Entry). g.front ++ xs) none
-    ∙ append-nil g.front in
-    by direction (g.shown w h) all
-  where
-    by : (direction : Direction) → HasShown r w e' (so_far direction w g.front) → entries_of direction w ≡ g.front → HasShown r w e' (ended direction w)
-    by import_ h q = subst (λ (es : List Entry). HasShown r w e' (es, [])) (sym q) h
-    by export_ h q = subst (λ (es : List Entry). HasShown r w e' (w.imports.entries, es)) (sym q) h
+goes-whole r canonical e e' direction entries rest a g none w h = search std_rules
 
 -- the next one has no room
 pub goes-lacks : (r : Resolve) (canonical : Bool) (e e' : WorldEncoder) (direction : Direction) (entries rest more : List Entry) (x : Entry) → AwaitsAll r e direction entries
@@ -340,8 +323,7 @@ goes-lacks r canonical e e' direction entries rest more x a g is lacks = λ w h 
 
 pub names-whole : (r : Resolve) (canonical : Bool) (e e' : WorldEncoder) (direction : Direction) (entries rest : List Entry) → Goes r canonical e e' direction entries rest → rest ≡ []
     → NamesMore r canonical entries e.outer e'.outer
-names-whole r canonical e e' direction entries rest g none =
-    subst (λ (es : List Entry). NamesMore r canonical es e.outer e'.outer) (sym (g.split ∙ ap (λ (xs : List Entry). g.front ++ xs) none ∙ append-nil g.front)) g.names
+names-whole r canonical e e' direction entries rest g none = search std_rules
 
 pub defines-whole : (r : Resolve) (canonical : Bool) (e e' : WorldEncoder) (direction : Direction) (entries rest : List Entry) → Goes r canonical e e' direction entries rest → rest ≡ []
     → DefinesAll r e e' entries
@@ -353,9 +335,7 @@ holds-whole r canonical e e' direction entries rest g none = subst (HoldsAll r e
 
 pub written-whole : (r : Resolve) (canonical : Bool) (e e' : WorldEncoder) (direction : Direction) (entries rest : List Entry) → Goes r canonical e e' direction entries rest → rest ≡ []
     → AddsLearnt r (items_extent r canonical entries) e.maps e'.maps e.outer e'.outer
-written-whole r canonical e e' direction entries rest g none =
-    subst (λ (es : List Entry). AddsLearnt r (items_extent r canonical es) e.maps e'.maps e.outer e'.outer)
-    (sym (g.split ∙ ap (λ (xs : List Entry). g.front ++ xs) none ∙ append-nil g.front)) g.written
+written-whole r canonical e e' direction entries rest g none = search std_rules
 
 -- ---- what the page is for
 
@@ -399,8 +379,7 @@ module _ (r : Resolve) (v : IsValid r) (w : World) (e : WorldEncoder) (done : En
       subst (λ (o : Option World). passes (is_listed_in_world m (text_of x)) o ≡ true) h.world_ listed
 
   two-ids : (a b : ℕ) (o : Option ℕ) → is_id a o ≡ true → is_id b o ≡ true → a ≡ b
-  two-ids a b None p q = absurd (let z : ⊥ = cc in z)
-  two-ids a b (Some x) p q = sym (equal x a p) ∙ equal x b q
+  two-ids a b y p q = search std_rules
 
   -- a declaration of the world under this name is that of the type
   declared-alone : (y : Text × TypeMeaning) → Contains (world_view_of r e).scope.declarations y → y.0 ≡ text_of name → y ≡ (text_of name, type_meaning r own.def)

@@ -1,38 +1,37 @@
 -- What an encoder of a world shows after a call that defines, imports and reaches types.
-use Rattle.std.proofs.Common.{◌≡◌, refl, sym, subst, ap, ◌∙◌, ℕ, true, ◌&&◌, if◌then◌else◌, List, [], ◌∷◌, ◌++◌, append-nil, filter_map, Result, Ok, Err, IfOk, OnOk, OnErr, Some, length, arith, zero, suc, ◌<◌, ◌≤◌, ◌⊎◌, inl, inr, false, slice_get, take, option_to_list, Option, None, String, map}
+use Rattle.std.proofs.Common.{rules as std_rules, ◌≡◌, refl, sym, subst, ap, ◌∙◌, ℕ, true, ◌&&◌, if◌then◌else◌, List, [], ◌∷◌, ◌++◌, append-nil, filter_map, Result, Ok, Err, IfOk, OnOk, OnErr, Some, length, arith, zero, suc, ◌<◌, ◌≤◌, ◌⊎◌, inl, inr, false, slice_get, take, option_to_list, Option, None, String, map}
 use Rattle.std.proofs.lemmas.{List.Elements.filter_map-append, List.Elements.Contains-append_cases, Option.same_Some as some-same, List.Concat.flat_map-append}
 use Rattle.std.proofs.lemmas.{List.Folds.list_all-append, Bool.and_from as both, List.map-append}
-use Rattle.std.specs.{List.filter, List.list_all, List.Contains, List.AllZip, Option.option_map_or, Option.is_some, Prelude.option_and_then}
+use Rattle.std.specs.{List.list_all, List.Contains, List.AllZip, Option.option_map_or, Option.is_some, Prelude.option_and_then}
 use Rattle.wit_model.specs.declared.model.{Resolve.Resolve, WorldId.WorldId, World.World, TypeDef.TypeDef, TypeId.TypeId, WorldKey.WorldKey}
 use Rattle.wit_model.specs.declared.model.{Function.Function, WorldItem.WorldItem, InterfaceId.InterfaceId, TypeOwner.TypeOwner, «Type».«Type» as ValueType}
 use Rattle.comp_meaning.specs.Follow.{Seen, Slot, in_scope, instance_types, Shown, new_scope}
 use Rattle.encode_types.specs.declared.maps.TypeEncodingMaps.{TypeEncodingMaps}
 use Rattle.encode_types.specs.{Slots.Standing, Standing.is_slot_of, Resources.is_named_interface, KeyLaws.text_same, Scope.Scope, Scope.Others, Counts.own_name}
 use Rattle.encode_types.specs.{View.Told, View.View, View.AddsSlot, View.Grows, View.Agrees, Plan.foreign_owner, Plan.Reaches, Plan.itself, Plan.through}
-use Rattle.encode_types.specs.Known.{Around, are_right, below, outer_instances, outer_scope, outer_slots, standing_instances, stands_around}
+use Rattle.encode_types.specs.Known.{Around, are_right, outer_instances, outer_scope, outer_slots, standing_instances}
 use Rattle.encode_types.specs.{Kinds.parts_of, Maps.IsKnown}
 use Rattle.encode_types.proofs.{Around.around-same, Lists.none-in}
 use Rattle.encode_names.specs.Rebuilt.{is_type_shown, others_seen, types_seen}
 use Rattle.encode_names.specs.WorldSteps.{AddsTypes, Entry, Entries, ShowsEntries, interfaces_among}
 use Rattle.encode_names.proofs.{Rebuilt.others-before, WorldSteps.types-appended, EntriesRebuilt.entries_are_rebuilt}
 use Rattle.wit_encode.specs.{Instance.Contents, Instance.no_view, OwnerScope.IsScopeOf, OwnerScope.InstancesStand, OwnerScope.IsTypeOf, OwnerScope.functions_of}
-use Rattle.wit_encode.specs.WrittenNames.{instance_declarations, instances_around}
+use Rattle.wit_encode.specs.WrittenNames.{instance_declarations}
 use Rattle.wit_encode.specs.Worlds.{KeepsTold, declared_type, is_sound_outside, others_of, seen_imports, world_resources, world_scope, world_view, instances_declared, WorldEncoder, world_around, world_definitions, world_view_of}
 use Rattle.wit_encode.specs.WorldUses.{item_types, interfaces_before, StandBefore, ItemsMeetStanding}
 use Rattle.wit_encode.specs.WorldItems.{HasShown, all_done, types_among}
 use Rattle.wit_encode.proofs.{Contents.IsOf, Contents.Grew, Contents.grew-adds, Contents.grew-grows, Mapped.contains-filter, Validity.valid-ownerless}
 use Rattle.wit_encode.proofs.Meeting.{named-meets, unnamed-meets, part-uses}
 use Rattle.wit_encode.proofs.{Numbers.after-at, Naming.named-owner, Owned.part-met, Directions.begins-here, Directions.numbers_of, Directions.order-then}
-use Rattle.wit_encode.proofs.OwnerScope.{AllStay, IsUse, Stay, function-refers, named-stays, target-is, type-stays, types-stay, use-at, use-foreign}
-use Rattle.base_lemmas.proofs.{Bools.left_of as first_true, Bools.right_of as second_true, Options.there as some-of, Options.some_same as one-some}
-use Rattle.base_lemmas.proofs.Lists.{given-some}
+use Rattle.wit_encode.proofs.OwnerScope.{AllStay, IsUse, Stay, function-refers, named-stays, type-stays, types-stay, use-at, use-foreign}
+use Rattle.base_lemmas.proofs.{Bools.left_of as first_true, Bools.right_of as second_true, Options.some_same as one-some}
 use Rattle.base_lemmas.proofs.Elements.{all-contained, contains-one, get-contains, last_of as one-contained, map_from as contains-mapped, zip_long}
 use Rattle.std.specs.declared.alloc.Global.{Global}
 use Rattle.indexmap.specs.IndexMap.{values}
 use Rattle.wit_model.specs.{Lookup.key_text, Lookup.type_at, Lookup.world_at, Text.Text, Text.text_of, Meaning.TypeMeaning}
 use Rattle.wit_model.specs.Parts.{met_by, met_of, same_owner, function_types, function_numbers, has_owner, used_by_type, used_by_function}
 use Rattle.wit_model.specs.Rules.{is_use, in_list, passes, package_number, text_is, key_in_range, item_in_range, entries_in_range, item_type, uses_stand_before, used_interfaces, used_types, used_by_number, import_stands, export_stands}
-use Rattle.wit_model.specs.Uses.{alias_target, owner_interface, used_interface, interface_used_by, has, item_interface, items_of}
+use Rattle.wit_model.specs.Uses.{used_interface, interface_used_by, has, item_interface, items_of}
 use Rattle.wit_model.specs.Valid.{IsValid, numbers_in_range, order_of_items, world_items, is_place, functions_of_world, item_function}
 use Rattle.wit_model.proofs.{Owners.met_step, OnePath.found-in, PartsLemmas.owner_same as same-owner}
 use Rattle.wit_model.proofs.{Elements.contains-filter_map, Elements.contains-get, Elements.contains-flat, Elements.has-contains, ValidLemmas.world_passes}
@@ -85,23 +84,10 @@ pub record SoundOutside (r : Resolve) (w : WorldId) (a : Around) : Type 0 where
   pub right : are_right r a.known scope.slots ≡ true
 
 pub sound-outside : (r : Resolve) (w : WorldId) (a : Around) → is_sound_outside r w a ≡ true → SoundOutside r w a
-sound-outside r w a h =
-    let found = some-of (outer_scope a.declared) (first_true (is_some (outer_scope a.declared)) _ h) in
-    let rest = second_true (is_some (outer_scope a.declared)) _ h in
-    let same : outer_slots a.declared ≡ found.0.slots = ap (λ o. option_map_or (λ s. s.slots) o []) found.1 in
-    record {
-      scope = found.0;
-      followed = found.1;
-      slots = ap (list_all (is_slot_of (world_resources r w))) (sym same) ∙ first_true (list_all (is_slot_of (world_resources r w)) (outer_slots a.declared)) _ rest;
-      right = ap (are_right r a.known) (sym same) ∙ second_true (list_all (is_slot_of (world_resources r w)) (outer_slots a.declared)) _ rest;
-    }
+sound-outside r w a h = search std_rules
 
 pub sound-again : (r : Resolve) (w : WorldId) (a : Around) → SoundOutside r w a → is_sound_outside r w a ≡ true
-sound-again r w a s =
-    let same : outer_slots a.declared ≡ s.scope.slots = ap (λ o. option_map_or (λ z. z.slots) o []) s.followed in
-    both (is_some (outer_scope a.declared)) _ (ap is_some s.followed)
-    (both (list_all (is_slot_of (world_resources r w)) (outer_slots a.declared)) (are_right r a.known (outer_slots a.declared)) (ap (list_all (is_slot_of (world_resources r w))) same ∙ s.slots)
-    (ap (are_right r a.known) same ∙ s.right))
+sound-again r w a s = search std_rules
 
 -- ---- the scope stays
 
@@ -122,10 +108,7 @@ module _ (r : Resolve) (w : WorldId) (a a' : Around) (x : Slot) (types : List Se
   instances-stay = ap (λ o. option_map_or (λ s. s.instances) o []) m.next ∙ m.extends.instances ∙ sym (ap (λ o. option_map_or (λ s. s.instances) o []) m.followed)
 
   standing-stay : standing_instances r a' ≡ standing_instances r a
-  standing-stay =
-      ap (λ b. if b then filter (stands_around r a'.instances (outer_instances a'.declared)) (below (length r.interfaces.items)) else []) m.right
-      ∙ (λ i. filter (stands_around r (m.listed i) (instances-stay i)) (below (length r.interfaces.items)))
-      ∙ sym (ap (λ b. if b then filter (stands_around r a.instances (outer_instances a.declared)) (below (length r.interfaces.items)) else []) (ap (are_right r a.known) sound-slots ∙ sound.right))
+  standing-stay = search std_rules
 
   pub still-sound : SoundOutside r w a'
   still-sound =
@@ -142,10 +125,7 @@ module _ (r : Resolve) (w : WorldId) (a a' : Around) (x : Slot) (types : List Se
   imports-after = ap (λ o. option_map_or (λ s. s.imports) o []) m.next ∙ m.extends.imports ∙ ap (λ xs. xs ++ types) (sym (ap (λ o. option_map_or (λ s. s.imports) o []) m.followed))
 
   same-types : instance_types (outer_slots a'.declared) ≡ instance_types (outer_slots a.declared)
-  same-types =
-      let more = types-appended (outer_slots a.declared) (x ∷ []) in
-      let plain = m.extends.plain in
-      ap instance_types slots-more ∙ omega (arith, more, plain)
+  same-types = search (std_rules, types-appended (outer_slots a.declared) (x ∷ []), slots-more)
 
   others-stay : (count : ℕ) → others_of w count a' ≡ others_of w count a
   others-stay count = λ i. record {
@@ -202,13 +182,7 @@ world-calls (Ok k) r w count a a' m P counts x types sound is h e =
       around_stays = λ j. record { declared = h.1.instances j; instances = []; known = [] };
       counted = h.3;
     }
-world-calls (Err q) r w count a a' m P counts x types sound is h e = record {
-  ok = h;
-  grows = subst (λ (z : Around). Grows (world_view r w count a m) (world_view r w count z m)) (sym e) (record { kept = λ i s k. k; more = omega arith; around_ = around-same refl; own_ = λ ns k. k });
-  scope_stays = ap (world_scope r w count) e;
-  around_stays = ap (λ (z : Around). instances_around z.declared) e;
-  counted = h;
-}
+world-calls (Err q) r w count a a' m P counts x types sound is h e = search std_rules
 
 -- ---- What an item of a world meets is of the world, and stands before it, or is of an interface that stands before it.
 
@@ -241,11 +215,7 @@ given-later f xs p k y l c =
 -- the interface that an alias of a part uses
 used-of : (r : Resolve) (def : TypeDef) (id : TypeId) (def' : TypeDef) (i : InterfaceId) → is_use r def ≡ true → Contains (parts_of def.kind) (ty.Id id) → type_at r id.0 ≡ Some def'
     → def'.owner ≡ owner.Interface i → used_interface r def ≡ Some i.0
-used-of r def id def' i uses c is owns =
-    let given = some-of (alias_target def.kind) (given-some _ (alias_target def.kind) uses) in
-    let target : alias_target def.kind ≡ Some id.0 = target-is def.kind given.0 id given.1 c in
-    ap (option_and_then (λ t. option_and_then (λ target. owner_interface target.owner) (type_at r t))) target
-    ∙ (ap (option_and_then (λ target. owner_interface target.owner)) is ∙ ap owner_interface owns)
+used-of r def id def' i uses c is owns = search std_rules
 
 module _ (r : Resolve) (v : IsValid r) (id : WorldId) (w : World) (there : world_at r id.0 ≡ Some w) where
   abbrev pub items : List WorldItem
@@ -518,15 +488,7 @@ type_seen d = record { key = d.0; shown = Shown.declares d.1.declaration; extern
 
 pub types-back : (xs : List Seen) → types_seen xs ≡ map type_seen (filter_map declared_type xs)
 types-back [] = refl
-types-back (s ∷ ss) = by s.shown refl (types-back ss)
-  where
-    with_shown : Shown → Seen
-    with_shown x = record { key = s.key; shown = x; external_id = s.external_id }
-
-    by : (x : Shown) → s.shown ≡ x → types_seen ss ≡ map type_seen (filter_map declared_type ss) → types_seen (with_shown x ∷ ss) ≡ map type_seen (filter_map declared_type (with_shown x ∷ ss))
-    by (Shown.instance key view) e more = more
-    by (Shown.function f) e more = more
-    by (Shown.declares d) e more = ap (λ l. with_shown (Shown.declares d) ∷ l) more
+types-back (s ∷ ss) = search (std_rules, types-back ss)
 
 -- ---- a call
 
@@ -552,10 +514,7 @@ module _ (r : Resolve) (w : World) (e e' : WorldEncoder) (done : Entries) (h : H
   sound-there = sound-outside r e'.world (world_around e') sound-after
 
   standing-same : standing_instances r (world_around e') ≡ standing_instances r (world_around e)
-  standing-same =
-      ap (λ b. if b then standing_instances r (world_around e') else []) (sym sound-after)
-      ∙ ap (λ (s : Scope). s.instances) scope-same
-      ∙ ap (λ b. if b then standing_instances r (world_around e) else []) h.sound
+  standing-same = search std_rules
 
   module _ (grows : Grows (world_view_of e.resolve.now e) (world_view_of e'.resolve.now e')) (types : List (Text × TypeMeaning))
       (exported : (world_definitions e'.outer).exports ≡ (world_definitions e.outer).exports ++ types) where

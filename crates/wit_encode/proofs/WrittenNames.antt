@@ -1,5 +1,5 @@
 -- The names under which instances have been imported and exported stay, but for that of a new one.
-use Rattle.std.proofs.Common.{◌≡◌, refl, sym, ap, ◌∙◌, append-nil, append_assoc, ℕ, Bool, if◌then◌else◌, is_some, List, [], ◌∷◌, ◌++◌, map, Option, Some, None}
+use Rattle.std.proofs.Common.{rules as std_rules, ◌≡◌, refl, sym, ap, ◌∙◌, append-nil, append_assoc, ℕ, Bool, if◌then◌else◌, is_some, List, [], ◌∷◌, ◌++◌, map, Option, Some, None}
 use Rattle.std.proofs.lemmas.{List.map-append, List.Concat.flat_map-append}
 use Rattle.wit_model.specs.{Text.Text, Uses.item_interface}
 use Rattle.wit_model.specs.declared.model.{Resolve.Resolve, Interface.Interface, InterfaceId.InterfaceId, Function.Function, TypeId.TypeId}
@@ -41,12 +41,7 @@ names-aliased a (x ∷ made) = names-aliased (with_alias a x) made ∙ names-mor
 
 named-alone : (ds : Declarations) → instance_names (instance_declarations ds) ≡ instance_names ds
 named-alone Declarations.no_more = refl
-named-alone (Declarations.declares d rest) = by (instance_name d) refl (named-alone rest)
-  where
-    by : (ns : List ExternName) → instance_name d ≡ ns → instance_names (instance_declarations rest) ≡ instance_names rest
-        → instance_names (if_named ns d (instance_declarations rest)) ≡ instance_name d ++ instance_names rest
-    by [] e more = more ∙ ap (λ (ns : List ExternName). ns ++ instance_names rest) (sym e)
-    by (n ∷ ns) e more = ap (λ (ms : List ExternName). instance_name d ++ ms) more
+named-alone (Declarations.declares d rest) = search (std_rules, named-alone rest)
 named-alone (Declarations.component inner rest) = named-alone rest
 named-alone (Declarations.instance inner rest) = named-alone rest
 
@@ -89,9 +84,7 @@ function-names r q canonical x f ds es outer direction name k is g declared =
 -- an instance type has no name
 part-names : (q : Resolve) (a a' : Around) (i : InterfaceId) (def : Interface) (written : List (Text × Function)) (functions : List Function) (k : ℕ) → EncodesPart q a a' i def written functions k
     → instance_names a'.declared ≡ instance_names a.declared
-part-names q a a' i def written functions k part =
-    ap (λ (z : Around). instance_names z.declared) part.one_more ∙ names-behind part.before.declared _ ∙ ap (λ (z : Around). instance_names z.declared) part.aliases.grown.is ∙ names-aliased a
-    part.aliases.grown.made
+part-names q a a' i def written functions k part = search (std_rules, names-behind, names-aliased)
 
 pub interface-names : (r q : Resolve) (canonical : Bool) (x : Entry) (i : InterfaceId) (a a' : Around) (def : Interface) (outer : Declarations) (direction : Direction) (name : ExternName) (k : ℕ)
     → item_interface x.1 ≡ Some i.0
@@ -109,9 +102,7 @@ names-nothing r canonical ds = sym (append-nil (instance_names ds))
 
 pub names-then : (r : Resolve) (canonical : Bool) (xs ys : List Entry) (ds es fs : Declarations) → NamesMore r canonical xs ds es → NamesMore r canonical ys es fs
     → NamesMore r canonical (xs ++ ys) ds fs
-names-then r canonical xs ys ds es fs one more =
-    more ∙ ap (λ (ns : List ExternName). ns ++ names_among r canonical ys) one ∙ append_assoc (instance_names ds) (names_among r canonical xs) (names_among r canonical ys)
-    ∙ ap (λ (ns : List ExternName). instance_names ds ++ ns) (sym (flat_map-append _ xs ys))
+names-then r canonical xs ys ds es fs one more = search (std_rules, append_assoc, flat_map-append)
 
 -- ---- the component type of an interface
 
@@ -122,14 +113,12 @@ module _ (r : Resolve) (canonical : Bool) where
   -- one import more
   pub import-named : (a a' : Around) (i : InterfaceId) (number : ℕ) → ImportsTypes r canonical a a' i number → instance_names a'.declared ≡ instance_names a.declared ++ name i.0 ∷ []
   import-named a a' i number t =
-      ap (λ (z : Around). instance_names z.declared) t.imports ∙ names-more t.encoded.declared (Declaration.imported (name i.0) (refs.Instance t.slot))
-      ∙ ap (λ (ns : List ExternName). ns ++ name i.0 ∷ []) (part-names r a t.encoded i t.def _ _ t.slot t.encodes.part)
+      search (std_rules, names-more t.encoded.declared (Declaration.imported (name i.0) (refs.Instance t.slot)), part-names r a t.encoded i t.def _ _ t.slot t.encodes.part)
 
   pub imports-named : (a a' : Around) (i : InterfaceId) (number : ℕ) (ns : List ℕ) (start : Declarations) → ImportsTypes r canonical a a' i number → NamesInterfaces r canonical ns start a.declared
       → NamesInterfaces r canonical (ns ++ i.0 ∷ []) start a'.declared
   imports-named a a' i number ns start t named =
-      import-named a a' i number t ∙ ap (λ (xs : List ExternName). xs ++ name i.0 ∷ []) named ∙ append_assoc (instance_names start) (map name ns) (name i.0 ∷ [])
-      ∙ ap (λ (xs : List ExternName). instance_names start ++ xs) (sym (map-append name ns (i.0 ∷ [])))
+      search (std_rules, import-named a a' i number t, append_assoc (instance_names start) (map name ns) (name i.0 ∷ []), map-append name ns (i.0 ∷ []))
 
   -- behind all that it reaches, the interface itself
   pub all-named : (a a' : Around) (ns : List ℕ) (i : InterfaceId) (def : Interface) (k : ℕ) (start outer : Declarations) → start ≡ Declarations.no_more
@@ -137,6 +126,4 @@ module _ (r : Resolve) (canonical : Bool) where
       → EncodesInterface r a a' i def k → outer ≡ append a'.declared (Declarations.declares (Declaration.exported (name i.0) (refs.Instance k)) Declarations.no_more)
       → WritesPaths r canonical i.0 outer
   all-named a a' ns i def k start outer nothing named order encodes is =
-      ap instance_names is ∙ names-more a'.declared (Declaration.exported (name i.0) (refs.Instance k))
-      ∙ ap (λ (xs : List ExternName). xs ++ name i.0 ∷ []) (part-names r a a' i def _ _ k encodes.part ∙ named ∙ ap (λ (ds : Declarations). instance_names ds ++ map name ns) nothing)
-      ∙ sym (map-append name ns (i.0 ∷ [])) ∙ ap (λ (xs : List ℕ). map name (xs ++ i.0 ∷ [])) order
+      search (std_rules, names-more a'.declared (Declaration.exported (name i.0) (refs.Instance k)), part-names r a a' i def _ _ k encodes.part, map-append name ns (i.0 ∷ []))

@@ -1,5 +1,5 @@
 -- Tokens added one after another.
-use Rattle.std.proofs.Common.{◌≡◌, ◌∙◌, sym, ap, subst, refl, ℕ, ◌+◌, ◌<◌, ◌≤◌, List, [], ◌∷◌, ◌++◌, drop, get_or, length, append-nil, append_assoc, Result, Ok, Err, OnOk}
+use Rattle.std.proofs.Common.{rules as std_rules, ◌≡◌, ◌∙◌, sym, ap, subst, refl, ℕ, ◌+◌, ◌<◌, ◌≤◌, List, [], ◌∷◌, ◌++◌, drop, get_or, length, append-nil, append_assoc, Result, Ok, Err, OnOk}
 use Rattle.std.proofs.lemmas.List.{drop_more, drop_all}
 use Rattle.std.specs.List.{flat_map}
 use Rattle.json.specs.{Token.Token, Written.Written, Written.Writes}
@@ -11,8 +11,7 @@ added h = record { tokens = h.ok; before = h.room.0 }
 
 -- the same, by whether it was refused
 pub added_by : {E : Type 0} (r : Result (Unit {0}) E) {a b : Written} {t : Token} → Writes r a b t → OnOk r (Adds a b (t ∷ []))
-added_by (Ok x) h = record { tokens = h.ok; before = h.room.0 }
-added_by (Err e) h = tt
+added_by x h = search std_rules
 
 adds_none : (a : Written) → Adds a a []
 adds_none a = record { tokens = sym (append-nil a.tokens); before = refl }

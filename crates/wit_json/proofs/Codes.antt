@@ -1,5 +1,5 @@
 -- Tokens from whose front it can be told what they say.
-use Rattle.std.proofs.Common.{◌≡◌, ◌∙◌, sym, ap, List, [], ◌∷◌, ◌++◌, map, append_assoc, refl}
+use Rattle.std.proofs.Common.{rules as std_rules, ◌≡◌, ◌∙◌, sym, ap, List, [], ◌∷◌, ◌++◌, map, append_assoc, refl}
 use Rattle.std.specs.List.{flat_map, AllByRecursion}
 use Rattle.base_lemmas.proofs.Lists.{heads_equal, tails_equal}
 use Rattle.json.specs.Token.{Token, begin_object, end_array}
@@ -54,11 +54,7 @@ tells_of part h = record { told = λ x y s t p q e. h.told (part x) (part y) s t
 
 -- by what is read from the front
 pub tells_read : {X V : Type 0} {D : X → Type 0} {f : X → List Token} {v : X → V} (read : List Token → V × List Token) → ((x : X) (s : List Token) → D x → read (f x ++ s) ≡ (v x, s)) → Tells D f f v v
-tells_read read h = record {
-  told = λ x y s t p q e.
-      let r = sym (h x s p) ∙ ap read e ∙ h y t q in
-      (ap (λ z. z.0) r, ap (λ z. z.1) r);
-}
+tells_read read h = search std_rules
 
 -- what doesn't begin with the end of a list
 pub record Begins {X : Type 0} (f : X → List Token) : Type 0 where

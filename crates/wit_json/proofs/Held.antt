@@ -1,6 +1,6 @@
 -- The numbers of a valid `Resolve` are of 32 bits.
-use Rattle.std.proofs.Common.{◌≡◌, ◌∙◌, sym, refl, ℕ, suc, ◌≤◌, Bool, true, ◌&&◌, List, [], ◌∷◌, ◌++◌, map, filter_map, length, slice_get, option_to_list, Option, Some, None, arith, nat_lt, inl, inr}
-use Rattle.std.proofs.lemmas.{Bool.ltb-true, Bool.false≢true, Bool.and_from, List.Folds.list_all-append, List.Folds.list_all-map, Option.slice_get_cases}
+use Rattle.std.proofs.Common.{rules as std_rules, ◌≡◌, ◌∙◌, sym, refl, ℕ, suc, ◌≤◌, Bool, true, ◌&&◌, List, [], ◌∷◌, ◌++◌, map, filter_map, length, slice_get, option_to_list, Option, Some, arith, nat_lt, inl, inr}
+use Rattle.std.proofs.lemmas.{Bool.ltb-true, Bool.false≢true, List.Folds.list_all-append, List.Folds.list_all-map, Option.slice_get_cases}
 use Rattle.std.specs.List.{AllByRecursion, list_all}
 use Rattle.indexmap.specs.IndexMap.{values}
 use Rattle.base_lemmas.proofs.Bools.{left_of as first_true, right_of as second_true}
@@ -15,10 +15,7 @@ use Rattle.wit_model.proofs.OnePath.{interface-passes, package-passes}
 use Rattle.wit_json.specs.Small.{HasSmallFunction, HasSmallInterface, HasSmallItem, HasSmallPackage, HasSmallType, HasSmallWorld, IsSmall, IsSmallFunctionKind, IsSmallHome, IsSmallKind, IsSmallOwner, IsSmallType, ValidAreSmall}
 use Rattle.wit_model.specs.declared.model.WorldItem.TheVariants as item
 use Rattle.wit_model.specs.declared.model.TypeDefKind.TheVariants as kind
-use Rattle.wit_model.specs.declared.model.TypeOwner.TheVariants as owner
-use Rattle.wit_model.specs.declared.model.«Type».TheVariants as ty
 use Rattle.wit_model.specs.declared.model.Handle.TheVariants as handle
-use Rattle.wit_model.specs.declared.model.FunctionKind.TheVariants as call
 
 -- ---- lists
 
@@ -47,31 +44,26 @@ module _ {A : Type 0} (T : List A) (short : length T ≤ 4294967295) where
   below n e = let h = ltb-true n (length T) e in omega arith
 
   home_small : (p : Option PackageId) → passes (in_list T) (package_number p) ≡ true → IsSmallHome p
-  home_small None e = tt
-  home_small (Some id) e = below id.0 e
+  home_small x e = search std_rules
 
   one_small : (n : ℕ) → list_all (in_list T) (n ∷ []) ≡ true → IsSmall n
   one_small n e = below n (first_true (in_list T n) true e)
 
   type_small : (t : ValueType) → list_all (in_list T) (option_to_list (number_of t)) ≡ true → IsSmallType (Some t)
-  type_small (ty.Id id) e = one_small id.0 e
-  type_small _ e = tt
+  type_small x e = search std_rules
 
   optional_small : (t : Option ValueType) → list_all (λ y. list_all (in_list T) (option_to_list (number_of y))) (option_to_list t) ≡ true → IsSmallType t
-  optional_small None e = tt
-  optional_small (Some t) e = type_small t (first_true (list_all (in_list T) (option_to_list (number_of t))) true e)
+  optional_small x e = search std_rules
 
   -- what a kind or a function is made of, by its types
   by_types : (ts : List ValueType) → list_all (in_list T) (filter_map number_of ts) ≡ true → list_all (λ y. list_all (in_list T) (option_to_list (number_of y))) ts ≡ true
   by_types ts e = sym (list_all_filter_map (in_list T) number_of ts) ∙ e
 
   members_of : (k : TypeDefKind) → list_all (in_list T) (kind_numbers k) ≡ true → list_all (in_list T) (filter_map number_of (member_types k)) ≡ true
-  members_of k e = first_true (list_all (in_list T) (filter_map number_of (member_types k))) _
-      (sym (list_all-append (in_list T) (filter_map number_of (member_types k)) (option_to_list (handled k) ++ option_to_list (alias_target k))) ∙ e)
+  members_of k e = search std_rules
 
   others_of : (k : TypeDefKind) → list_all (in_list T) (kind_numbers k) ≡ true → list_all (in_list T) (option_to_list (handled k) ++ option_to_list (alias_target k)) ≡ true
-  others_of k e = second_true (list_all (in_list T) (filter_map number_of (member_types k))) _
-      (sym (list_all-append (in_list T) (filter_map number_of (member_types k)) (option_to_list (handled k) ++ option_to_list (alias_target k))) ∙ e)
+  others_of k e = search std_rules
 
   first_of : (t : ValueType) (ts : List ValueType) → list_all (in_list T) (filter_map number_of (t ∷ ts)) ≡ true → IsSmallType (Some t)
   first_of t ts e = type_small t (first_true (list_all (in_list T) (option_to_list (number_of t))) _ (by_types (t ∷ ts) e))
@@ -83,23 +75,17 @@ module _ {A : Type 0} (T : List A) (short : length T ≤ 4294967295) where
   side_of t e = optional_small t (by_types (option_to_list t) e)
 
   sides : (t u : Option ValueType) → list_all (in_list T) (filter_map number_of (option_to_list t ++ option_to_list u)) ≡ true → IsSmallType t × IsSmallType u
-  sides t u e =
-      let all = sym (list_all-append (λ y. list_all (in_list T) (option_to_list (number_of y))) (option_to_list t) (option_to_list u)) ∙ by_types (option_to_list t ++ option_to_list u) e in (
-        optional_small t (first_true _ (list_all (λ y. list_all (in_list T) (option_to_list (number_of y))) (option_to_list u)) all),
-        optional_small u (second_true (list_all (λ y. list_all (in_list T) (option_to_list (number_of y))) (option_to_list t)) _ all),
-      )
+  sides t u e = search std_rules
 
   fixed_small : (n : ℕ) (t : ValueType) → has_shape (kind.FixedLengthList t n) ≡ true → IsSmall n
   fixed_small n t e = ltb-true n 4294967296 (second_true _ (nat_lt n 4294967296) e)
 
   kind_small : (k : TypeDefKind) → list_all (in_list T) (kind_numbers k) ≡ true → has_shape k ≡ true → IsSmallKind k
-  kind_small (kind.Record record_) e s = all_of _ (λ f h. type_small f.ty h) record_.fields.items
-      (sym (list_all_mapped (in_list T) number_of (λ f. f.ty) record_.fields.items) ∙ members_of (kind.Record record_) e)
+  kind_small (kind.Record record_) e s = search (std_rules, all_of, type_small, list_all_mapped, members_of)
   kind_small (kind.Handle (handle.Own id)) e s = one_small id.0 (others_of (kind.Handle (handle.Own id)) e)
   kind_small (kind.Handle (handle.Borrow id)) e s = one_small id.0 (others_of (kind.Handle (handle.Borrow id)) e)
   kind_small (kind.Tuple tuple) e s = all_of _ type_small tuple.types.items (by_types tuple.types.items (members_of (kind.Tuple tuple) e))
-  kind_small (kind.Variant variant) e s = all_of _ (λ c h. optional_small c.ty h) variant.cases.items
-      (sym (list_all_given (in_list T) number_of (λ c. c.ty) variant.cases.items) ∙ members_of (kind.Variant variant) e)
+  kind_small (kind.Variant variant) e s = search (std_rules, all_of, optional_small, list_all_given, members_of)
   kind_small (kind.Option t) e s = first_of t [] (members_of (kind.Option t) e)
   kind_small (kind.Result result) e s = sides result.ok result.err (members_of (kind.Result result) e)
   kind_small (kind.List t) e s = first_of t [] (members_of (kind.List t) e)
@@ -111,13 +97,7 @@ module _ {A : Type 0} (T : List A) (short : length T ≤ 4294967295) where
   kind_small _ e s = tt
 
   call_small : (k : FunctionKind) → list_all (in_list T) (option_to_list (resource_of k)) ≡ true → IsSmallFunctionKind k
-  call_small call.Freestanding e = tt
-  call_small call.AsyncFreestanding e = tt
-  call_small (call.Method id) e = one_small id.0 e
-  call_small (call.AsyncMethod id) e = one_small id.0 e
-  call_small (call.Static id) e = one_small id.0 e
-  call_small (call.AsyncStatic id) e = one_small id.0 e
-  call_small (call.Constructor id) e = one_small id.0 e
+  call_small x e = search std_rules
 
   function_small : (f : Function) → list_all (in_list T) (function_numbers f) ≡ true → HasSmallFunction f
   function_small f e =
@@ -170,9 +150,7 @@ module _ (r : Resolve) (v : IsValid r) where
   types_keep : Keeps (λ def. range_test r def && has_shape def.kind) r.types.items
   unfolding numbers_in_range shapes range_test
   types_keep n def at =
-      let range = type_passes numbers_in_range r v.rules.numbers_in_range n def at in
-      and_from (is_place n) _ (first_true (is_place n) (range_test r def) range)
-      (and_from (range_test r def) _ (second_true (is_place n) (range_test r def) range) (type_passes shapes r v.rules.shapes n def at))
+      search (std_rules, type_passes numbers_in_range r v.rules.numbers_in_range n def, range_test r def, type_passes shapes r v.rules.shapes n def)
 
   few_entries : FewEntries r
   few_entries = record {
@@ -216,9 +194,7 @@ module _ (r : Resolve) (f : FewEntries r) where
       }
 
   owner_small : (o : TypeOwner) → owner_in_range r o ≡ true → IsSmallOwner o
-  owner_small (owner.World id) e = below r.worlds.items f.worlds id.0 e
-  owner_small (owner.Interface id) e = below r.interfaces.items f.interfaces id.0 e
-  owner_small owner.None e = tt
+  owner_small x e = search std_rules
 
   def_small : (def : TypeDef) → (range_test r def && has_shape def.kind) ≡ true → HasSmallType def
   unfolding range_test

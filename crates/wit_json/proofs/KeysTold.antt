@@ -1,8 +1,8 @@
 -- In a valid `Resolve` the keys of maps are told by what they lead to.
-use Rattle.std.proofs.Common.{◌≡◌, ◌∙◌, sym, ap, refl, ℕ, suc, Bool, true, false, ◌&&◌, ◌||◌, not, ◌==◌, cond, nat_lt, List, [], ◌∷◌, map, count_by, slice_get, Some, option_map, option_and_then, unwrap_or, is_some, eq-eqb, String, string_bytes}
+use Rattle.std.proofs.Common.{rules as std_rules, arith, ◌≡◌, ◌∙◌, sym, ap, refl, ℕ, suc, Bool, true, false, ◌&&◌, not, ◌==◌, cond, nat_lt, List, [], ◌∷◌, map, count_by, slice_get, Some, option_map, option_and_then, unwrap_or, is_some, eq-eqb, String, string_bytes}
 use Rattle.std.proofs.lemmas.{Bool.true≢false, List.Folds.list_any-append}
 use Rattle.std.specs.declared.alloc.Global.{Global}
-use Rattle.std.specs.{List.list_all, List.list_any, Map.keys_of, Map.values_of, Option.option_map_or, Str.bytes_eq, HashMap.get_by_text}
+use Rattle.std.specs.{List.list_all, Map.keys_of, Map.values_of, Option.option_map_or, Str.bytes_eq, HashMap.get_by_text}
 use Rattle.indexmap.specs.IndexMap.{values}
 use Rattle.base_lemmas.proofs.{Bools.left_of as first_true, Bools.right_of as second_true, Elements.all_get, Elements.not_all, Numbers.equal as equal-numbers}
 use Rattle.base_lemmas.proofs.{Lists.map_of_map, Lists.mapped_get, Options.there as some-of}
@@ -15,7 +15,7 @@ use Rattle.wit_model.specs.Valid.{IsValid, as_interface, function_names, is_plac
 use Rattle.wit_model.proofs.{Listed.misfit, TextLemmas.text_named, TextLemmas.text_same, ValidLemmas.type_passes, ValidLemmas.world_passes}
 use Rattle.wit_model.proofs.Listings.{given_all, given_found}
 use Rattle.wit_model.proofs.{NameLaws.label_lacks, OnePath.found-in, OnePath.has-path, OnePath.interface-passes, OnePath.named-path, OnePath.package-passes}
-use Rattle.wit_json.specs.Bare.{bare, bare_entry, bare_function, bare_interface, bare_item, bare_package, bare_type, bare_world}
+use Rattle.wit_json.specs.Bare.{bare, bare_entry, bare_function, bare_item, bare_type, bare_world}
 use Rattle.wit_json.specs.Keys.{BareKey, KeysAreTold, MapKeys, ValidTextsTell, bare_key, interface_key, interface_name, is_path, name_key, told_key, told_keys, type_name, world_name}
 use Rattle.wit_json.proofs.{Codes.cons_same, Codes.pair_same, Held.valid_are_small, Told.texts_tell}
 use Rattle.wit_model.specs.declared.model.WorldKey.TheVariants as key
@@ -38,11 +38,7 @@ keys_by_values f g es h = map_of_map f (λ e. e.0) es ∙ mapped_alike (λ e. f 
 module _ (r : Resolve) (v : IsValid r) where
   -- an interface that is there, by its name
   interface_says : (n : ℕ) (t : Text) → in_list r.interfaces.items n ≡ true → passes (λ i. text_is i.name t) (interface_at r n) ≡ true → t ≡ interface_name (bare r) n
-  interface_says n t inside h =
-      let found = found-in r.interfaces.items n inside in
-      let name = text_named found.0.name t (ap (passes (λ i. text_is i.name t)) (sym found.1) ∙ h) in
-      sym name.2 ∙ sym (ap (λ o. unwrap_or (option_and_then (λ i. i.name) o) []) (mapped_get bare_interface r.interfaces.items n found.0 found.1)
-      ∙ ap (λ o. unwrap_or (option_map text_of o) []) name.1)
+  interface_says n t inside h = grind (arith, found-in, text_named, unwrap_or, mapped_get)
 
   world_says : (n : ℕ) (t : Text) → in_list r.worlds.items n ≡ true → passes (λ w. text_eq (text_of w.name) t) (world_at r n) ≡ true → t ≡ world_name (bare r) n
   world_says n t inside h =
@@ -76,10 +72,7 @@ module _ (r : Resolve) (v : IsValid r) where
   -- a named type that an interface owns stands in its list under its name
   listed_there : (n : ℕ) (i : Interface) → interface_at r n ≡ Some i → (m : ℕ) (t : Text) (o : TypeOwner) → same_owner o (as_interface n) ≡ true → is_listed r m t o ≡ true
       → is_listed_in_interface m t i ≡ true
-  listed_there n i at m t (owner.Interface id) own h =
-      ap (passes (is_listed_in_interface m t)) (sym at) ∙ (ap (λ k. passes (is_listed_in_interface m t) (interface_at r k)) (sym (equal-numbers id.0 n own)) ∙ h)
-  listed_there n i at m t (owner.World id) own h = let wrong : ⊥ = cc in absurd wrong
-  listed_there n i at m t owner.None own h = let wrong : ⊥ = cc in absurd wrong
+  listed_there n i at m t x own h = search std_rules
 
   type_says : (n : ℕ) (i : Interface) → interface_at r n ≡ Some i → (q : ℕ) (e : String Global × TypeId) → slice_get i.types.entries q ≡ Some e → text_of e.0 ≡ type_name (bare r) e.1.0
   unfolding numbers_in_range order_of_types
@@ -131,13 +124,7 @@ module _ (r : Resolve) (v : IsValid r) where
 
   -- a path has a colon
   path_told : (n : ℕ) (path : Text) → interface_path r n ≡ Some path → is_path path ≡ true
-  path_told n path h =
-      let has = has-path r n path h in
-      ap is_path has.spelled ∙ list_any-append (λ c. c == 58) (text_of has.package_.name.namespace) _ ∙ second (list_any (λ c. c == 58) (text_of has.package_.name.namespace))
-    where
-      second : (b : Bool) → (b || true) ≡ true
-      second true = refl
-      second false = refl
+  path_told n path h = grind (arith, has-path, list_any-append)
 
   -- a key that is an interface has that interface as its item, which is named
   abbrev KeyStands : WorldKey → WorldItem → Type 0
@@ -145,9 +132,7 @@ module _ (r : Resolve) (v : IsValid r) where
   KeyStands (key.Interface id) i = is_interface_key r id.0 i ≡ true
 
   named_told : (name : String Global) (i : WorldItem) → key_label (key.Name name) i ≡ true → name_key (text_of name) ≡ told_key (text_of name, bare_item i)
-  named_told name (item.Interface id stability docs external_id) h = sym (ap (λ b. cond b (interface_key id.0) (name_key (text_of name))) (label_told name h))
-  named_told name (item.Function f) h = refl
-  named_told name (item.Type_ id) h = refl
+  named_told name x h = search (std_rules, label_told)
 
   interface_told : (n : ℕ) (i : WorldItem) → in_list r.interfaces.items n ≡ true → is_interface_key r n i ≡ true → interface_key n ≡ told_key (unwrap_or (interface_path r n) [], bare_item i)
   interface_told n (item.Interface id stability docs external_id) inside h =
@@ -160,16 +145,13 @@ module _ (r : Resolve) (v : IsValid r) where
   interface_told n (item.Type_ id) inside h = let wrong : ⊥ = cc in absurd wrong
 
   entry_told : (k : WorldKey) (i : WorldItem) → key_in_range r k ≡ true → key_label k i ≡ true → KeyStands k i → bare_key k ≡ told_key (bare_entry r (k, i))
-  entry_told (key.Name name) i range label stands = named_told name i label
-  entry_told (key.Interface id) i range label stands = interface_told id.0 i range stands
+  entry_told x i range label stands = search (std_rules, named_told, interface_told)
 
   import_key : (n : ℕ) (k : WorldKey) (i : WorldItem) → import_stands r n k i ≡ true → KeyStands k i
-  import_key n (key.Name name) i h = tt
-  import_key n (key.Interface id) i h = h
+  import_key n x i h = search std_rules
 
   export_key : (k : WorldKey) (i : WorldItem) → export_stands r k i ≡ true → KeyStands k i
-  export_key (key.Name name) i h = tt
-  export_key (key.Interface id) i h = h
+  export_key x i h = search std_rules
 
   side_told : (es : List (WorldKey × WorldItem)) → entries_in_range r es ≡ true → entries_labels es ≡ true
       → ((q : ℕ) (e : WorldKey × WorldItem) → slice_get es q ≡ Some e → KeyStands e.0 e.1) → map bare_key (keys_of es) ≡ map told_key (map (bare_entry r) es)
@@ -202,11 +184,7 @@ keys_same : {a b : List (List Text × List Text)} {c d : List (List BareKey × L
 keys_same p q s = λ i. record { packages = p i; worlds = q i; interfaces = s i }
 
 pub keys_are_told : KeysAreTold
-keys_are_told r v =
-    keys_same
-    (mapped_alike _ _ r.packages.items (package_keys r v) ∙ sym (map_of_map _ bare_package r.packages.items))
-    (mapped_alike _ _ r.worlds.items (world_keys r v) ∙ sym (map_of_map _ (bare_world r) r.worlds.items))
-    (mapped_alike _ _ r.interfaces.items (interface_keys r v) ∙ sym (map_of_map _ bare_interface r.interfaces.items))
+keys_are_told r v = grind (arith, keys_same, mapped_alike, package_keys, map_of_map, world_keys, interface_keys)
 
 pub valid_texts_tell : ValidTextsTell
 valid_texts_tell text subject r s n m v w small small' a b =

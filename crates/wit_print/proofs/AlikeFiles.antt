@@ -1,5 +1,5 @@
 -- Where two `Resolve`s differ in documentation alone, so does what is shown of their packages, and the calls without documentation are the same.
-use Rattle.std.proofs.Common.{◌≡◌, refl, sym, ap, ◌∙◌, subst, ℕ, Bool, true, false, ◌==◌, List, [], ◌∷◌, ◌++◌, map, filter, filter_map, Option, Some, None, option_map, option_and_then, unwrap_or}
+use Rattle.std.proofs.Common.{rules as std_rules, ◌≡◌, refl, sym, ap, ◌∙◌, ℕ, Bool, true, false, List, [], ◌∷◌, ◌++◌, map, filter, filter_map, Option, Some, None, option_map, option_and_then, unwrap_or}
 use Rattle.std.specs.{Prelude.String, Prelude.is_some, Prelude.if◌then◌else◌, Option.option_map_or, List.AllZip, List.cons_option}
 use Rattle.std.specs.declared.alloc.Global.{Global}
 use Rattle.wit_model.specs.declared.model.{Resolve.Resolve, PackageId.PackageId, Interface.Interface, WorldKey.WorldKey, TypeOwner.TypeOwner, Function.Function}
@@ -10,12 +10,12 @@ use Rattle.wit_model.specs.{Parts.same_owner, Valid.item_function}
 use Rattle.wit_print.specs.Documentation.{AlikeKinds, AlikeTypes, AlikeFunctions, AlikeEntries, AlikeInterfaces, AlikeKeys, AlikeItems, AlikeWorldEntries, AlikeWorlds, AlikePackages, DifferInDocumentation}
 use Rattle.wit_print.specs.Documentation.AlikeKinds.{records, resources, handles, flags, tuples, variants, enums, options, results, lists, maps, fixed_lists, futures, streams, aliases}
 use Rattle.wit_print.specs.Documentation.{AlikeKeys.labels, AlikeKeys.interfaces, AlikeItems.interface_items, AlikeItems.function_items, AlikeItems.type_items}
-use Rattle.print_grammar.specs.Tree.{PathTree.Local, PathTree.Full, ExternTree.Path, ExternTree.NamedFunction, ExternTree.NamedPath, ExternTree.NamedInterface}
+use Rattle.print_grammar.specs.Tree.{PathTree.Local, ExternTree.Path, ExternTree.NamedPath, ExternTree.NamedInterface}
 use Rattle.print_grammar.specs.Tree.{MemberTree.UseMember, MemberTree.TypeMember, MemberTree.FunctionMember, ItemTree.InterfaceItem, ItemTree.WorldItem}
 use Rattle.print_grammar.specs.Tree.WorldMember.{WorldUse, WorldType, WorldImport, WorldExport}
 use Rattle.print_grammar.specs.AsRead.{bare_prefix, bare_signature, bare_declared, bare_member, bare_extern, bare_world_member, bare_item, bare_package, bare_file}
 use Rattle.print_grammar.specs.Calls.{file_calls}
-use Rattle.print_items.specs.Shown.{present_name, shown_docs, shown_prefix, shown_gates, full_path, path_from, shown_path, own_name, used_of, grouped, Listed, shown_uses, DeclaredWith, shown_declared, declared_with, shown_declarations, path_from_owner, listed_types, listed_functions, shown_function, shown_interface, shown_extern, extern_prefix, Entry, shown_import, shown_export, is_interface_item, is_freestanding_item, type_of_entry, listed_imports, imported_functions, shown_world_in, shown_world, shown_interface_item, shown_world_item, shown_package_of, no_package, shown_package, shown_file}
+use Rattle.print_items.specs.Shown.{shown_docs, shown_prefix, shown_gates, full_path, path_from, shown_path, own_name, used_of, grouped, Listed, shown_uses, DeclaredWith, shown_declared, declared_with, shown_declarations, path_from_owner, listed_types, listed_functions, shown_function, shown_interface, shown_extern, extern_prefix, Entry, shown_import, shown_export, is_interface_item, is_freestanding_item, type_of_entry, listed_imports, imported_functions, shown_world_in, shown_world, shown_interface_item, shown_world_item, shown_package_of, no_package, shown_package, shown_file}
 use Rattle.wit_print.proofs.AlikeTypes.{same, Both, at_both, or_alike, then_alike, map_alike, bare_map_alike, filter_alike, name_alike, external_id_alike, gates_alike, types_at, signature_alike, function_prefix_alike, declared_alike}
 use Rattle.wit_print.proofs.UndocumentedCalls.{undocumented_calls}
 use Rattle.base_lemmas.proofs.Lists.{append_of_map as map_joined}
@@ -37,14 +37,7 @@ given_map_alike : {X Y Z : Type 0} (R : X → X → Type 0) (bare : Y → Z) (f 
 given_map_alike R bare f g each [] [] h = refl
 given_map_alike R bare f g each [] (y ∷ ys) h = absurd h
 given_map_alike R bare f g each (x ∷ xs) [] h = absurd h
-given_map_alike R bare f g each (x ∷ xs) (y ∷ ys) h = go (f x) (g y) (each x y h.0) (given_map_alike R bare f g each xs ys h.1)
-  where
-    go : (o p : Option _) → option_map bare o ≡ option_map bare p → map bare (filter_map f xs) ≡ map bare (filter_map g ys)
-        → map bare (cons_option o (filter_map f xs)) ≡ map bare (cons_option p (filter_map g ys))
-    go None None e rest = rest
-    go None (Some v) e rest = let wrong : ⊥ = cc in absurd wrong
-    go (Some u) None e rest = let wrong : ⊥ = cc in absurd wrong
-    go (Some u) (Some v) e rest = λ i. unwrap_or (e i) (bare u) ∷ rest i
+given_map_alike R bare f g each (x ∷ xs) (y ∷ ys) h = search (std_rules, unwrap_or, given_map_alike R bare f g each xs ys h.1)
 
 same_lists : {X : Type 0} (xs : List X) → AllZip (λ x y. x ≡ y) xs xs
 same_lists [] = tt
@@ -68,8 +61,7 @@ types_bare_in (d ∷ ds) = ap (λ ms. WorldType (bare_prefix same d.prefix) (bar
 -- ---- entries of worlds
 
 interface_item_alike : (x y : Item) → AlikeItems x y → is_interface_item x ≡ is_interface_item y
-interface_item_alike x y (interface_items g e) = refl
-interface_item_alike x y _ = refl
+interface_item_alike x y z = search std_rules
 
 freestanding_item_alike : (x y : Item) → AlikeItems x y → is_freestanding_item x ≡ is_freestanding_item y
 freestanding_item_alike x y (interface_items g e) = refl
@@ -101,27 +93,16 @@ module _ (a b : Resolve) (alike : DifferInDocumentation a b) where
   interfaces_at n = at_both AlikeInterfaces a.interfaces.items b.interfaces.items n alike.interfaces
 
   full_alike : (s t : Text) → s ≡ t → (n : ℕ) → option_map_or (full_path s) (package_at a n) (Local s) ≡ option_map_or (full_path t) (package_at b n) (Local t)
-  full_alike s t e n =
-      or_alike AlikePackages (full_path s) (full_path s) (Local s) (λ p q h. λ i. Full (h.namespace i) (h.name i) s (h.version i)) (package_at a n) (package_at b n)
-      (at_both AlikePackages a.packages.items b.packages.items n alike.packages)
-      ∙ ap (λ name. option_map_or (full_path name) (package_at b n) (Local name)) e
+  full_alike s t e n = search (std_rules, at_both AlikePackages a.packages.items b.packages.items n alike.packages)
 
   path_from_alike : (here : PackageId) (x y : Interface) → AlikeInterfaces x y → path_from a here x ≡ path_from b here y
-  path_from_alike here x y h = subst (λ p. path_from a here x ≡ path_from b here (record y { «package» = p })) h.in_package (go x.«package»)
-    where
-      names : present_name x.name ≡ present_name y.name
-      names = name_alike x.name y.name h.name
-
-      go : (p : Option PackageId) → path_from a here (record x { «package» = p }) ≡ path_from b here (record y { «package» = p })
-      go None = ap Local names
-      go (Some p) = λ i. (if p.0 == here.0 then Local (names i) else full_alike (present_name x.name) (present_name y.name) names p.0 i)
+  path_from_alike here x y h = search (std_rules, name_alike, full_alike)
 
   path_alike : (here : PackageId) (id : InterfaceId) → shown_path a here id ≡ shown_path b here id
   path_alike here id = or_alike AlikeInterfaces (path_from a here) (path_from b here) (Local []) (path_from_alike here) (interface_at a id.0) (interface_at b id.0) (interfaces_at id.0)
 
   owner_path_alike : (here : Option PackageId) (id : InterfaceId) → path_from_owner a here id ≡ path_from_owner b here id
-  owner_path_alike None id = refl
-  owner_path_alike (Some here) id = path_alike here id
+  owner_path_alike x id = search (std_rules, path_alike)
 
   -- ---- uses
 
@@ -286,8 +267,7 @@ module _ (a b : Resolve) (alike : DifferInDocumentation a b) where
       go None (Some v) h = absurd h
       go (Some u) None h = absurd h
       go (Some u) (Some v) h = named u v h (is_some u.name) (is_some v.name) (some_alike u.name v.name h.name)
-  extern_alike here (key.Name s) (key.Name t) (item.Function f) (item.Function g) (labels q) (function_items h) =
-      λ i. NamedFunction (h.name i) (bare_signature same (signature_alike a b alike f g h i))
+  extern_alike here (key.Name s) (key.Name t) (item.Function f) (item.Function g) (labels q) (function_items h) = search (std_rules, same, signature_alike)
   extern_alike here (key.Name s) (key.Name t) x y (labels q) type_items = refl
 
   prefix_alike : (k l : WorldKey) (x y : Item) → AlikeItems x y → bare_prefix same (extern_prefix a k x) ≡ bare_prefix same (extern_prefix b l y)
@@ -342,11 +322,7 @@ module _ (a b : Resolve) (alike : DifferInDocumentation a b) where
           (λ l. map bare_with (shown_declarations b (owner.World id) (imported_functions y) l)) types
 
   world_alike : (id : WorldId) (x y : World) → AlikeWorlds x y → map (bare_world_member same) (shown_world a id x) ≡ map (bare_world_member same) (shown_world b id y)
-  world_alike id x y h = go x.«package» ∙ ap (λ p. map (bare_world_member same) (option_map_or (shown_world_in b id y) p [])) h.in_package
-    where
-      go : (p : Option PackageId) → map (bare_world_member same) (option_map_or (shown_world_in a id x) p []) ≡ map (bare_world_member same) (option_map_or (shown_world_in b id y) p [])
-      go None = refl
-      go (Some here) = members_in_alike id x y here h
+  world_alike id x y h = search (std_rules, same, members_in_alike)
 
   -- ---- packages
 
@@ -374,15 +350,7 @@ module _ (a b : Resolve) (alike : DifferInDocumentation a b) where
       go (Some x) (Some y) k = λ i. Some (WorldItem [] (gates_alike x.stability y.stability k.gates i) (h.0 i) (world_alike d.1 x y k i))
 
   package_of_alike : (p q : Package) → AlikePackages p q → bare_package same (shown_package_of a p) ≡ bare_package same (shown_package_of b q)
-  package_of_alike p q h = λ i. record { head = record { docs = []; namespace = h.namespace i; name = h.name i; version = h.version i }; items = items i }
-    where
-      items : map (bare_item same) (filter_map (shown_interface_item a) p.interfaces.entries ++ filter_map (shown_world_item a) p.worlds.entries) ≡ map (bare_item same)
-          (filter_map (shown_interface_item b) q.interfaces.entries ++ filter_map (shown_world_item b) q.worlds.entries)
-      items = joined_alike (bare_item same)
-          (filter_map (shown_interface_item a) p.interfaces.entries) (filter_map (shown_interface_item b) q.interfaces.entries)
-          (filter_map (shown_world_item a) p.worlds.entries) (filter_map (shown_world_item b) q.worlds.entries)
-          (given_map_alike AlikeEntries (bare_item same) (shown_interface_item a) (shown_interface_item b) interface_entry_alike p.interfaces.entries q.interfaces.entries h.interfaces)
-          (given_map_alike AlikeEntries (bare_item same) (shown_world_item a) (shown_world_item b) world_entry_alike p.worlds.entries q.worlds.entries h.worlds)
+  package_of_alike p q h = search (std_rules, same, joined_alike, given_map_alike, interface_entry_alike, world_entry_alike)
 
   package_alike : (id : PackageId) → bare_package same (shown_package a id) ≡ bare_package same (shown_package b id)
   package_alike id = go (package_at a id.0) (package_at b id.0) (at_both AlikePackages a.packages.items b.packages.items id.0 alike.packages)

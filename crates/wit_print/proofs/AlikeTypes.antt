@@ -1,23 +1,21 @@
 -- Where two `Resolve`s differ in documentation alone, what is shown of their types differs in documentation alone.
-use Rattle.std.proofs.Common.{◌≡◌, refl, ap, ◌∙◌, subst, ℕ, zero, suc, Bool, true, false, ◌&&◌, ◌==◌, List, [], ◌∷◌, ◌++◌, map, filter, drop, cond, Option, Some, None, option_map, option_and_then, unwrap_or, slice_get}
-use Rattle.std.specs.{Prelude.String, Prelude.is_none, Prelude.if◌then◌else◌, Option.option_map_or, List.AllZip, Str.chars}
+use Rattle.std.proofs.Common.{rules as std_rules, ◌≡◌, refl, ap, ◌∙◌, ℕ, zero, suc, Bool, false, ◌&&◌, ◌==◌, List, [], ◌∷◌, ◌++◌, map, filter, drop, Option, Some, None, option_map, option_and_then, unwrap_or, slice_get}
+use Rattle.std.specs.{Prelude.String, Prelude.is_none, Prelude.if◌then◌else◌, Option.option_map_or, List.AllZip}
 use Rattle.std.specs.declared.alloc.Global.{Global}
-use Rattle.wit_model.specs.declared.model.{Resolve.Resolve, TypeDefKind.TypeDefKind, «Type».«Type» as ValueType, FunctionKind.FunctionKind, Stability.Stability}
+use Rattle.wit_model.specs.declared.model.{Resolve.Resolve, TypeDefKind.TypeDefKind, «Type».«Type» as ValueType, Stability.Stability}
 use Rattle.wit_model.specs.declared.model.{TypeDef.TypeDef, TypeId.TypeId, Function.Function, Param.Param, Field.Field, Case.Case, Flag.Flag, EnumCase.EnumCase}
-use Rattle.wit_model.specs.{Text.text_of, Text.optional_text, Lookup.type_at, Lookup.is_async, Lookup.resource_of, Rules.is_own_of, Rules.is_own_kind}
-use Rattle.wit_model.specs.Calls.{own_name_of}
+use Rattle.wit_model.specs.{Text.optional_text, Lookup.type_at, Lookup.is_async, Lookup.resource_of, Rules.is_own_of, Rules.is_own_kind}
 use Rattle.wit_print.specs.Documentation.{AlikeGates, AlikeParams, AlikeFields, AlikeCases, AlikeFlags, AlikeEnumCases, AlikeKinds, AlikeTypes, AlikeFunctions, DifferInDocumentation}
 use Rattle.wit_print.specs.Documentation.AlikeGates.{unknown, stable, unstable}
 use Rattle.wit_print.specs.Documentation.AlikeKinds.{records, resources, handles, flags, tuples, variants, enums, options, results, lists, maps, fixed_lists, futures, streams, aliases}
 use Rattle.print_grammar.specs.{Tree.TypeTree, Tree.Gates.Since, Tree.Gates.Unstable}
-use Rattle.print_grammar.specs.Tree.{TypeTree.Name, TypeTree.TupleOf, ResourceMember.Constructor, ResourceMember.Method, ResourceMember.Static}
+use Rattle.print_grammar.specs.Tree.{TypeTree.TupleOf}
 use Rattle.print_grammar.specs.Tree.Declared.{RecordOf, VariantOf, FlagsOf, EnumOf, AliasOf, ResourceOf}
-use Rattle.print_grammar.specs.AsRead.{bare_prefix, bare_param, bare_field, bare_case, bare_label, bare_signature, bare_resource_member, bare_declared}
-use Rattle.print_items.specs.Shown.{present_name, shown_gates, shown_external_id, type_name, used_type, used_types, result_tree, kind_tree, def_tree, trees_from, type_trees, shown_type, shown_field, shown_case, shown_flag, shown_enum_case, is_method, belongs_to, shown_param, shown_params, shown_signature, constructor_result, function_prefix, shown_resource_member, shown_declared}
+use Rattle.print_grammar.specs.AsRead.{bare_prefix, bare_field, bare_case, bare_label, bare_resource_member, bare_declared}
+use Rattle.print_items.specs.Shown.{present_name, shown_gates, shown_external_id, type_name, used_type, used_types, result_tree, kind_tree, def_tree, trees_from, type_trees, shown_type, shown_field, shown_case, shown_flag, shown_enum_case, belongs_to, shown_param, shown_params, shown_signature, constructor_result, function_prefix, shown_resource_member, shown_declared}
 use Rattle.wit_model.specs.declared.model.TypeDefKind.TheVariants as defined
 use Rattle.wit_model.specs.declared.model.Handle.TheVariants as handle
 use Rattle.wit_model.specs.declared.model.«Type».TheVariants as value
-use Rattle.wit_model.specs.declared.model.FunctionKind.TheVariants as call
 
 abbrev pub same : TypeTree → TypeTree
 same ty = ty
@@ -39,16 +37,10 @@ at_both R (x ∷ xs) (y ∷ ys) zero h = h.0
 at_both R (x ∷ xs) (y ∷ ys) (suc n) h = at_both R xs ys n h.1
 
 pub or_alike : {X Y : Type 0} (R : X → X → Type 0) (f g : X → Y) (d : Y) → ((x y : X) → R x y → f x ≡ g y) → (o p : Option X) → Both R o p → option_map_or f o d ≡ option_map_or g p d
-or_alike R f g d each None None h = refl
-or_alike R f g d each None (Some y) h = absurd h
-or_alike R f g d each (Some x) None h = absurd h
-or_alike R f g d each (Some x) (Some y) h = each x y h
+or_alike z f g d each u v h = search std_rules
 
 pub then_alike : {X Y : Type 0} (R : X → X → Type 0) (f g : X → Option Y) → ((x y : X) → R x y → f x ≡ g y) → (o p : Option X) → Both R o p → option_and_then f o ≡ option_and_then g p
-then_alike R f g each None None h = refl
-then_alike R f g each None (Some y) h = absurd h
-then_alike R f g each (Some x) None h = absurd h
-then_alike R f g each (Some x) (Some y) h = each x y h
+then_alike z f g each u v h = search std_rules
 
 pub map_alike : {X Y : Type 0} (R : X → X → Type 0) (f g : X → Y) → ((x y : X) → R x y → f x ≡ g y) → (xs ys : List X) → AllZip R xs ys → map f xs ≡ map g ys
 map_alike R f g each [] [] h = refl
@@ -68,33 +60,18 @@ pub filter_alike : {X : Type 0} (R : X → X → Type 0) (p : X → Bool) → ((
 filter_alike R p each [] [] h = tt
 filter_alike R p each [] (y ∷ ys) h = absurd h
 filter_alike R p each (x ∷ xs) [] h = absurd h
-filter_alike R p each (x ∷ xs) (y ∷ ys) h = go (p x) (p y) (each x y h.0) (filter_alike R p each xs ys h.1)
-  where
-    go : (b c : Bool) → b ≡ c → AllZip R (filter p xs) (filter p ys) → AllZip R (cond b (x ∷ filter p xs) (filter p xs)) (cond c (y ∷ filter p ys) (filter p ys))
-    go true true e rest = (h.0, rest)
-    go false false e rest = rest
-    go true false e rest = absurd cc
-    go false true e rest = absurd cc
+filter_alike R p each (x ∷ xs) (y ∷ ys) h = search (std_rules, filter_alike R p each xs ys h.1)
 
 rest_alike : {X : Type 0} (R : X → X → Type 0) (xs ys : List X) → AllZip R xs ys → AllZip R (drop 1 xs) (drop 1 ys)
-rest_alike R [] [] h = tt
-rest_alike R [] (y ∷ ys) h = absurd h
-rest_alike R (x ∷ xs) [] h = absurd h
-rest_alike R (x ∷ xs) (y ∷ ys) h = h.1
+rest_alike x y z h = search std_rules
 
 -- ---- texts
 
 pub name_alike : (x y : Option (String Global)) → optional_text x ≡ optional_text y → present_name x ≡ present_name y
-name_alike None None h = refl
-name_alike None (Some t) h = let wrong : ⊥ = cc in absurd wrong
-name_alike (Some s) None h = let wrong : ⊥ = cc in absurd wrong
-name_alike (Some s) (Some t) h = ap (λ o. unwrap_or o []) h
+name_alike x y h = search std_rules
 
 pub external_id_alike : (x y : Option (String Global)) → optional_text x ≡ optional_text y → shown_external_id x ≡ shown_external_id y
-external_id_alike None None h = refl
-external_id_alike None (Some t) h = let wrong : ⊥ = cc in absurd wrong
-external_id_alike (Some s) None h = let wrong : ⊥ = cc in absurd wrong
-external_id_alike (Some s) (Some t) h = ap (option_map chars) h
+external_id_alike x y h = search std_rules
 
 pub gates_alike : (s t : Stability) → AlikeGates s t → shown_gates s ≡ shown_gates t
 gates_alike s t unknown = refl
@@ -102,14 +79,10 @@ gates_alike s t (stable v d) = λ i. Since (v i) (d i)
 gates_alike s t (unstable f d) = λ i. Unstable (f i) (d i)
 
 none_alike : (x y : Option (String Global)) → optional_text x ≡ optional_text y → is_none x ≡ is_none y
-none_alike None None h = refl
-none_alike None (Some t) h = let wrong : ⊥ = cc in absurd wrong
-none_alike (Some s) None h = let wrong : ⊥ = cc in absurd wrong
-none_alike (Some s) (Some t) h = refl
+none_alike x y h = search std_rules
 
 own_kind_alike : (n : ℕ) (k l : TypeDefKind) → AlikeKinds k l → is_own_kind n k ≡ is_own_kind n l
-own_kind_alike n k l (records h) = refl
-own_kind_alike n k l _ = refl
+own_kind_alike n k l x = search std_rules
 
 module _ (a b : Resolve) (alike : DifferInDocumentation a b) where
   -- ---- types
@@ -128,14 +101,7 @@ module _ (a b : Resolve) (alike : DifferInDocumentation a b) where
   kind_alike trees k l _ = refl
 
   def_alike : (trees : List TypeTree) (d e : TypeDef) → AlikeTypes d e → def_tree a trees d ≡ def_tree b trees e
-  def_alike trees d e h = go d.name e.name h.name
-    where
-      go : (x y : Option (String Global)) → optional_text x ≡ optional_text y
-          → option_map_or (λ name. Name (text_of name)) x (kind_tree a trees d.kind) ≡ option_map_or (λ name. Name (text_of name)) y (kind_tree b trees e.kind)
-      go None None q = kind_alike trees d.kind e.kind h.kind
-      go None (Some t) q = let wrong : ⊥ = cc in absurd wrong
-      go (Some s) None q = let wrong : ⊥ = cc in absurd wrong
-      go (Some s) (Some t) q = ap (λ o. Name (unwrap_or o [])) q
+  def_alike trees d e h = search (std_rules, kind_alike, unwrap_or)
 
   trees_alike : (trees : List TypeTree) (ds es : List TypeDef) → AllZip AlikeTypes ds es → trees_from a trees ds ≡ trees_from b trees es
   trees_alike trees [] [] h = refl
@@ -158,13 +124,7 @@ module _ (a b : Resolve) (alike : DifferInDocumentation a b) where
   param_alike p q h = λ i. record { name = h.name i; ty = type_alike (h.ty i) i }
 
   params_alike : (f g : Function) → AlikeFunctions f g → shown_params a f ≡ shown_params b g
-  params_alike f g h = go (is_method f.kind) (is_method g.kind) (ap is_method h.kind)
-    where
-      go : (m n : Bool) → m ≡ n → map (shown_param a) (if m then drop 1 f.params.items else f.params.items) ≡ map (shown_param b) (if n then drop 1 g.params.items else g.params.items)
-      go true true e = map_alike AlikeParams (shown_param a) (shown_param b) param_alike (drop 1 f.params.items) (drop 1 g.params.items) (rest_alike AlikeParams f.params.items g.params.items h.params)
-      go false false e = map_alike AlikeParams (shown_param a) (shown_param b) param_alike f.params.items g.params.items h.params
-      go true false e = absurd cc
-      go false true e = absurd cc
+  params_alike f g h = search (std_rules, map_alike, param_alike, rest_alike)
 
   pub signature_alike : (f g : Function) → AlikeFunctions f g → shown_signature a f ≡ shown_signature b g
   signature_alike f g h = λ i. record { is_async = is_async (h.kind i); params = params_alike f g h i; result = optional_type_alike f.result g.result h.result i }
@@ -183,32 +143,7 @@ module _ (a b : Resolve) (alike : DifferInDocumentation a b) where
   constructor_alike id (Some t) = ap Some (type_alike t)
 
   resource_member_alike : (f g : Function) → AlikeFunctions f g → bare_resource_member same (shown_resource_member a f) ≡ bare_resource_member same (shown_resource_member b g)
-  resource_member_alike f g h = subst (λ k. bare_resource_member same (shown_resource_member a f) ≡ bare_resource_member same (shown_resource_member b (record g { kind = k }))) h.kind (go f.kind)
-    where
-      with_kind : (k : FunctionKind) → AlikeFunctions (record f { kind = k }) (record g { kind = k })
-      with_kind k = record { name = h.name; kind = refl; params = h.params; result = h.result; gates = h.gates; external_id = h.external_id }
-
-      prefixes : bare_prefix same (function_prefix f) ≡ bare_prefix same (function_prefix g)
-      prefixes = function_prefix_alike f g h
-
-      given : (id : TypeId) → constructor_result a id f.result ≡ constructor_result b id g.result
-      given id = constructor_alike id f.result ∙ ap (constructor_result b id) h.result
-
-      go : (k : FunctionKind) → bare_resource_member same (shown_resource_member a (record f { kind = k })) ≡ bare_resource_member same (shown_resource_member b (record g { kind = k }))
-      go (call.Constructor id) = λ i. Constructor (prefixes i) (map (bare_param same)
-          (params_alike (record f { kind = call.Constructor id }) (record g { kind = call.Constructor id }) (with_kind (call.Constructor id)) i)) (option_map same (given id i))
-      go (call.Static id) = λ i. Static (prefixes i) (own_name_of (call.Static id) (h.name i))
-          (bare_signature same (signature_alike (record f { kind = call.Static id }) (record g { kind = call.Static id }) (with_kind (call.Static id)) i))
-      go (call.AsyncStatic id) = λ i. Static (prefixes i) (own_name_of (call.AsyncStatic id) (h.name i))
-          (bare_signature same (signature_alike (record f { kind = call.AsyncStatic id }) (record g { kind = call.AsyncStatic id }) (with_kind (call.AsyncStatic id)) i))
-      go (call.Method id) = λ i. Method (prefixes i) (own_name_of (call.Method id) (h.name i))
-          (bare_signature same (signature_alike (record f { kind = call.Method id }) (record g { kind = call.Method id }) (with_kind (call.Method id)) i))
-      go (call.AsyncMethod id) = λ i. Method (prefixes i) (own_name_of (call.AsyncMethod id) (h.name i))
-          (bare_signature same (signature_alike (record f { kind = call.AsyncMethod id }) (record g { kind = call.AsyncMethod id }) (with_kind (call.AsyncMethod id)) i))
-      go call.Freestanding = λ i. Method (prefixes i) (h.name i) (bare_signature same
-          (signature_alike (record f { kind = call.Freestanding }) (record g { kind = call.Freestanding }) (with_kind call.Freestanding) i))
-      go call.AsyncFreestanding = λ i. Method (prefixes i) (h.name i) (bare_signature same
-          (signature_alike (record f { kind = call.AsyncFreestanding }) (record g { kind = call.AsyncFreestanding }) (with_kind call.AsyncFreestanding) i))
+  resource_member_alike f g h = search (std_rules, function_prefix_alike, constructor_alike, params_alike, signature_alike)
 
   -- ---- declared types
 

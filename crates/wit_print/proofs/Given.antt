@@ -1,8 +1,8 @@
 -- What an interface or a world of valid packages has can be handed in to be printed.
-use Rattle.std.proofs.Common.{◌≡◌, refl, true, ℕ}
+use Rattle.std.proofs.Common.{rules as std_rules, ◌≡◌, true, ℕ}
 use Rattle.std.specs.List.{list_all}
 use Rattle.wit_model.specs.declared.model.{Resolve.Resolve, WorldItem.WorldItem, WorldKey.WorldKey}
-use Rattle.wit_model.specs.{Rules.in_list, Rules.passes, Rules.key_in_range, Valid.item_function}
+use Rattle.wit_model.specs.{Rules.in_list, Rules.passes, Valid.item_function}
 use Rattle.print_items.specs.Shown.{Listed, imported_functions, listed_functions, listed_imports, listed_types, type_of_entry}
 use Rattle.print_packages.specs.GivenTypes.{behind}
 use Rattle.print_uses.specs.UseGroups.{is_listed_function, is_listed_type}
@@ -10,10 +10,8 @@ use Rattle.print_uses.proofs.Declarations.{types_listed}
 use Rattle.print_uses.proofs.{Valid.interface_functions, Valid.is_known_listed, WellLists.all_both, WellLists.given_well}
 use Rattle.print_packages.proofs.ValidWorlds.{is_known_entry, entry_function_known, world_is_shown}
 use Rattle.wit_print.specs.Given.{FunctionsCanBeGiven, TypesCanBeGiven, WorldFunctionsCanBeGiven, WorldTypesCanBeGiven}
-use Rattle.base_lemmas.proofs.{Bools.left_of as first_true, Bools.right_of as second_true, Elements.all-contained, Elements.all_pass as all-of}
+use Rattle.base_lemmas.proofs.{Elements.all-contained, Elements.all_pass as all-of}
 use Rattle.wit_model.specs.declared.model.TypeOwner.TheVariants as owner
-use Rattle.wit_model.specs.declared.model.WorldItem.TheVariants as item
-use Rattle.wit_model.specs.declared.model.WorldKey.TheVariants as key
 
 pub types_can_be_given : TypesCanBeGiven
 types_can_be_given r id i valid at given are = all-of (is_listed_type r (owner.Interface id)) given
@@ -28,10 +26,7 @@ functions_can_be_given r id i valid at entries are = all-of (λ entry. list_all 
 
 -- a type that a world imports is in the list of types
 entry_in_range : (r : Resolve) (n : ℕ) (k : WorldKey) (i : WorldItem) → is_known_entry r n (k, i) ≡ true → passes (λ (t : Listed). in_list r.types.items t.id.0) (type_of_entry k i) ≡ true
-entry_in_range r n (key.Name s) (item.Type_ id) h = second_true (key_in_range r (key.Name s)) _ (first_true _ _ h)
-entry_in_range r n (key.Name s) (item.Function f) h = refl
-entry_in_range r n (key.Name s) (item.Interface id gates docs external_id) h = refl
-entry_in_range r n (key.Interface m) i h = refl
+entry_in_range r n x i h = search std_rules
 
 pub world_types_can_be_given : WorldTypesCanBeGiven
 world_types_can_be_given r id w valid at given are =

@@ -1,8 +1,8 @@
 -- What stands before the block of an interface of a valid `Resolve`.
-use Rattle.std.proofs.Common.{◌≡◌, sym, ap, ℕ, Bool, true, Some, []}
+use Rattle.std.proofs.Common.{arith, ◌≡◌, sym, ap, ℕ, Bool, true, Some, []}
 use Rattle.std.specs.Option.{option_map_or}
 use Rattle.wit_model.specs.declared.model.{Resolve.Resolve, Interface.Interface, InterfaceId.InterfaceId}
-use Rattle.wit_model.specs.{Lookup.interface_at, Names.is_label, Rules.is_stability, Rules.passes, Text.Text, Text.text_of, Valid.IsValid, Valid.labels}
+use Rattle.wit_model.specs.{Lookup.interface_at, Rules.is_stability, Text.Text, Valid.IsValid, Valid.labels}
 use Rattle.wit_model.proofs.Entries.{each_from_at, lists_pass}
 use Rattle.print_packages.specs.Heads.{head_calls, interface_head_calls}
 use Rattle.base_lemmas.proofs.Bools.{left_of as first_true, right_of as second_true}
@@ -10,9 +10,7 @@ use Rattle.base_lemmas.proofs.Bools.{left_of as first_true, right_of as second_t
 -- its gates have labels and versions
 pub interface_gates : (r : Resolve) (n : ℕ) (i : Interface) → IsValid r → interface_at r n ≡ Some i → is_stability i.stability ≡ true
 unfolding labels
-interface_gates r n i v e =
-    let here = each_from_at (labels.interface_ r) 0 r.interfaces.items n i (lists_pass labels r v.rules.labels).1 e in
-    first_true _ _ (second_true (passes (λ name. is_label (text_of name)) i.name) _ here)
+interface_gates r n i v e = grind (arith, each_from_at, lists_pass, first_true, second_true)
 
 pub head_at : (emits_docs : Bool) (r : Resolve) (id : InterfaceId) (i : Interface) (name : Text) → interface_at r id.0 ≡ Some i
     → head_calls emits_docs i name ≡ interface_head_calls emits_docs r id name

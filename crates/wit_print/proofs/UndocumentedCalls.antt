@@ -1,16 +1,12 @@
 -- Without documentation, the calls of a tree are those of the tree that has none.
-use Rattle.std.proofs.Common.{◌≡◌, refl, sym, ap, ◌∙◌, Bool, true, false, ◌&&◌, not, List, [], ◌∷◌, ◌++◌, map, flat_map, codes, Option, Some, None}
+use Rattle.std.proofs.Common.{rules as std_rules, ◌≡◌, refl, sym, ap, ◌∙◌, Bool, true, false, List, [], ◌∷◌, ◌++◌, map, flat_map, Option}
 use Rattle.std.specs.Prelude.{option_map}
-use Rattle.print_grammar.specs.{Keyword.escaped, Tree.ExternTree.Path, Tree.ExternTree.NamedFunction, Tree.ExternTree.NamedPath, Tree.ExternTree.NamedInterface}
 use Rattle.print_grammar.specs.Tree.{TypeTree, ParamTree, CaseTree, SignatureTree, ResourceMember, Declared, MemberTree, ExternTree, WorldMember, ItemTree, PackageTree, FileTree}
-use Rattle.print_grammar.specs.Tree.{ResourceMember.Constructor, ResourceMember.Method, ResourceMember.Static, ItemTree.InterfaceItem, ItemTree.WorldItem}
-use Rattle.print_grammar.specs.Tree.Declared.{RecordOf, VariantOf, FlagsOf, EnumOf, AliasOf, ResourceOf}
 use Rattle.print_grammar.specs.Tree.MemberTree.{UseMember, TypeMember, FunctionMember}
 use Rattle.print_grammar.specs.Tree.WorldMember.{WorldUse, WorldType, WorldImport, WorldExport}
-use Rattle.print_grammar.specs.AsRead.{bare_param, bare_field, bare_case, bare_label, bare_signature, bare_resource_member, bare_declared, bare_member, bare_extern, bare_world_member, bare_item, bare_package, bare_file}
-use Rattle.print_grammar.specs.Calls.{space, item_calls, gates_calls, block_calls, line_after_calls, package_start_calls, package_end_calls, doc_calls, prefix_calls, field_calls, case_calls, label_calls, resource_member_calls, declared_calls, use_calls, function_calls, members_calls, extern_calls, world_members_calls, interface_outer_calls, package_item_calls, package_outer_calls, package_calls, more_nested_calls, nested_calls, file_calls}
-use Rattle.print_output.specs.OutputCall.OutputCall.{IndentStart, IndentEnd, Newline, Keyword, Ty, Str}
-use Rattle.print_output.specs.declared.type_kind.TypeKind.TheVariants as kind
+use Rattle.print_grammar.specs.AsRead.{bare_param, bare_case, bare_signature, bare_resource_member, bare_declared, bare_member, bare_extern, bare_world_member, bare_item, bare_package, bare_file}
+use Rattle.print_grammar.specs.Calls.{item_calls, prefix_calls, case_calls, resource_member_calls, declared_calls, use_calls, members_calls, extern_calls, world_members_calls, package_item_calls, package_calls, more_nested_calls, nested_calls, file_calls}
+use Rattle.print_output.specs.OutputCall.OutputCall.{Newline}
 
 abbrev same : TypeTree → TypeTree
 same ty = ty
@@ -24,8 +20,7 @@ params_alike [] = refl
 params_alike (p ∷ ps) = ap (λ qs. p ∷ qs) (params_alike ps)
 
 optional_alike : (o : Option TypeTree) → option_map same o ≡ o
-optional_alike None = refl
-optional_alike (Some ty) = refl
+optional_alike x = search std_rules
 
 signature_alike : (s : SignatureTree) → bare_signature same s ≡ s
 signature_alike s = λ i. record { is_async = s.is_async; params = params_alike s.params i; result = optional_alike s.result i }
@@ -36,20 +31,10 @@ case_alike : (c : CaseTree) → case_calls false (bare_case same c) ≡ case_cal
 case_alike c = λ i. case_calls false (record { docs = []; name = c.name; payload = optional_alike c.payload i })
 
 resource_member_alike : (m : ResourceMember) → resource_member_calls false (bare_resource_member same m) ≡ resource_member_calls false m
-resource_member_alike (Constructor prefix params result) = λ i. resource_member_calls false (Constructor prefix (params_alike params i) (optional_alike result i))
-resource_member_alike (Method prefix name signature) = λ i. resource_member_calls false (Method prefix name (signature_alike signature i))
-resource_member_alike (Static prefix name signature) = λ i. resource_member_calls false (Static prefix name (signature_alike signature i))
+resource_member_alike x = search (std_rules, params_alike, optional_alike, signature_alike)
 
 declared_alike : (d : Declared) → declared_calls false (bare_declared same d) ≡ declared_calls false d
-declared_alike (RecordOf name fields) = ap (block_calls (codes "record") name kind.Record) (flat_alike (field_calls false) (field_calls false) (bare_field same) (λ f. refl) fields)
-declared_alike (VariantOf name cases) = ap (block_calls (codes "variant") name kind.Variant) (flat_alike (case_calls false) (case_calls false) (bare_case same) case_alike cases)
-declared_alike (FlagsOf name flags) = ap (block_calls (codes "flags") name kind.Flags) (flat_alike (label_calls false) (label_calls false) (bare_label same) (λ l. refl) flags)
-declared_alike (EnumOf name cases) = ap (block_calls (codes "enum") name kind.Enum) (flat_alike (label_calls false) (label_calls false) (bare_label same) (λ l. refl) cases)
-declared_alike (AliasOf name ty) = refl
-declared_alike (ResourceOf name []) = refl
-declared_alike (ResourceOf name (m ∷ ms)) =
-    ap (λ calls. Ty (codes "resource") kind.BuiltIn ∷ space ∷ Ty (escaped name) kind.Resource ∷ IndentStart ∷ (calls ++ (IndentEnd ∷ [])))
-    (flat_alike (resource_member_calls false) (resource_member_calls false) (bare_resource_member same) resource_member_alike (m ∷ ms))
+declared_alike x = search (std_rules, flat_alike, case_alike, resource_member_alike)
 
 -- ---- interfaces, worlds and packages
 
@@ -57,32 +42,23 @@ members_alike : (printed : Bool) (ms : List MemberTree) → members_calls false 
 members_alike printed [] = refl
 members_alike printed (UseMember prefix path names ∷ ms) = λ i. use_calls false prefix path names ++ members_alike true ms i
 members_alike printed (TypeMember prefix declared ∷ ms) = λ i. item_calls printed (prefix_calls false prefix ++ declared_alike declared i) ++ members_alike true ms i
-members_alike printed (FunctionMember prefix name signature ∷ ms) = λ i. item_calls printed (function_calls false prefix name kind.FunctionFreestanding (signature_alike signature i))
-    ++ members_alike true ms i
+members_alike printed (FunctionMember prefix name signature ∷ ms) = search (std_rules, signature_alike, members_alike true ms)
 
 extern_alike : (e : ExternTree) → extern_calls false (bare_extern same e) ≡ extern_calls false e
-extern_alike (Path path) = refl
-extern_alike (NamedFunction name signature) = λ i. extern_calls false (NamedFunction name (signature_alike signature i))
-extern_alike (NamedPath name path) = refl
-extern_alike (NamedInterface name ms) = λ i. Ty (escaped name) kind.Other ∷ Str (codes ": ") ∷ Keyword (codes "interface") ∷ IndentStart ∷ (members_alike false ms i ++ (IndentEnd ∷ []))
+extern_alike x = search (std_rules, signature_alike, members_alike)
 
 world_members_alike : (printed exported : Bool) (ms : List WorldMember) → world_members_calls false printed exported (map (bare_world_member same) ms) ≡ world_members_calls false printed exported ms
 world_members_alike printed exported [] = refl
 world_members_alike printed exported (WorldUse prefix path names ∷ ms) = λ i. use_calls false prefix path names ++ world_members_alike true exported ms i
 world_members_alike printed exported (WorldType prefix declared ∷ ms) = λ i. item_calls printed (prefix_calls false prefix ++ declared_alike declared i) ++ world_members_alike true exported ms i
-world_members_alike printed exported (WorldImport prefix extern_ ∷ ms) =
-    λ i. (prefix_calls false prefix ++ (Keyword (codes "import") ∷ space ∷ extern_alike extern_ i)) ++ world_members_alike true exported ms i
-world_members_alike printed exported (WorldExport prefix extern_ ∷ ms) =
-    λ i. item_calls (printed && not exported) (prefix_calls false prefix ++ (Keyword (codes "export") ∷ space ∷ extern_alike extern_ i)) ++ world_members_alike true true ms i
+world_members_alike printed exported (WorldImport prefix extern_ ∷ ms) = search (std_rules, extern_alike, world_members_alike true exported ms)
+world_members_alike printed exported (WorldExport prefix extern_ ∷ ms) = search (std_rules, extern_alike, world_members_alike true true ms)
 
 item_alike : (is_main : Bool) (item : ItemTree) → package_item_calls false is_main (bare_item same item) ≡ package_item_calls false is_main item
-item_alike is_main (InterfaceItem docs gates name ms) = λ i. interface_outer_calls false docs gates name ++ (IndentStart ∷ (members_alike false ms i ++ (IndentEnd ∷ line_after_calls is_main)))
-item_alike is_main (WorldItem docs gates name ms) = λ i. doc_calls false docs ++ gates_calls gates ++ block_calls (codes "world") name kind.WorldDeclaration (world_members_alike false false ms i)
+item_alike is_main x = search (std_rules, members_alike, world_members_alike)
 
 package_alike : (is_main : Bool) (tree : PackageTree) → package_calls false is_main (bare_package same tree) ≡ package_calls false is_main tree
-package_alike is_main tree =
-    λ i. package_outer_calls false tree.head ++ package_start_calls is_main ++ flat_alike (package_item_calls false is_main) (package_item_calls false is_main) (bare_item same) (item_alike is_main)
-    tree.items i ++ package_end_calls is_main
+package_alike is_main tree = search (std_rules, flat_alike, item_alike)
 
 more_nested_alike : (trees : List PackageTree) → more_nested_calls false (map (bare_package same) trees) ≡ more_nested_calls false trees
 more_nested_alike [] = refl
