@@ -14,6 +14,13 @@ pub found_before : {A : Type 0} (found : Option (A × List ℕ)) (rest : List �
 found_before None rest e = absurd cc
 found_before (Some x) rest e = (x.0, ap (followed_by x.0) (some_is x.1 rest e))
 
+-- what is in front of the rest
+pub cut_is : (items front rest : List ℕ) → items ≡ front ++ rest → take (length items - length rest) items ≡ front
+cut_is items front rest parts =
+    let whole : length items ≡ length front + length rest = ap length parts ∙ length-append front rest in
+    let k : length items - length rest ≡ length front = omega (arith, whole) in
+    ap (λ j. take j items) k ∙ (ap (take (length front)) parts ∙ take_at front rest (length front) refl)
+
 module _ {A : Type 0} {form : A → Spellings} {reader : Reader A} (law : IsReadBy form reader) (n : ℕ) (items rest : List ℕ) (passed : behind (sequence_at reader n items) ≡ Some rest) where
   read : (xs : List A) × (sequence_at reader n items ≡ Some (xs, rest))
   read = found_before (sequence_at reader n items) rest passed
@@ -26,11 +33,8 @@ module _ {A : Type 0} {form : A → Spellings} {reader : Reader A} (law : IsRead
     where
       go : (front : List ℕ) → items ≡ front ++ rest → Sequence form read.0 front → length read.0 ≡ n → sequence_at reader n (take (length items - length rest) items) ≡ Some (read.0, [])
       go front parts spelled many =
-          let whole : length items ≡ length front + length rest = ap length parts ∙ length-append front rest in
-          let k : length items - length rest ≡ length front = omega (arith, whole) in
-          let is : take (length items - length rest) items ≡ front = ap (λ j. take j items) k ∙ (ap (take (length front)) parts ∙ take_at front rest (length front) refl) in
           ap (λ j. sequence_at reader j (take (length items - length rest) items)) (sym many)
-          ∙ (ap (sequence_at reader (length read.0)) (is ∙ sym (append-nil front)) ∙ sequence_again law read.0 front [] spelled)
+          ∙ (ap (sequence_at reader (length read.0)) (cut_is items front rest parts ∙ sym (append-nil front)) ∙ sequence_again law read.0 front [] spelled)
 
   pub shorter : length rest ≤ length items
   shorter = search (std_rules, sequence_takes, read, length-append)

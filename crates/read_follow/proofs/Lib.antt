@@ -1,6 +1,6 @@
 -- A key that is put into a table is put there once. Serves table::put.
 pub mod AddLaws
--- A body has all the bytes of its items. Serves bodies::entry_items, bodies::held_items.
+-- A body has all the bytes of its items. Serves bodies::entries_alone, bodies::entries_from, bodies::held_items.
 pub mod BodyLaws
 -- Parts that are declared one after the other, each there already or the next one. Serves ComponentLaws, DefiningLaws, FollowingLaws, ScopeLaws and 4 more; crates above.
 pub mod NumberingLaws
@@ -14,7 +14,7 @@ pub mod DefiningLaws
 pub mod OverLaws
 -- Names stay in their places as a scope goes on. Serves ComponentLaws, FollowingLaws, PlacedScopes, ScopeLaws and 4 more; crates above.
 pub mod PlacedLaws
--- A refusal is passed on. Serves bodies::entry_items, bodies::entry_of, bodies::held_items, bodies::held_of and 16 more; crates above.
+-- A refusal is passed on. Serves bodies::entries_alone, bodies::entries_from, bodies::entry_items, bodies::entry_of and 18 more; crates above.
 pub mod Refusing
 -- A scope of an instance type in tables that grow, and what each declaration does to it. Serves components::enter, components::see, components::step, instances::step and 2 more; crates above.
 pub mod FollowingLaws
@@ -39,8 +39,12 @@ pub mod DeclarationLaws
 -- The key of each form, from the parts that its indexes stand for. Serves definition_keys::borrow_key, definition_keys::definition_of, definition_keys::enum_key, definition_keys::fixed_list_key and 8
 -- more.
 pub mod DefinitionKeyLaws
--- An entry is read by the bytes in front of it. Serves bodies::entry_of, bodies::skip_entry.
+-- An entry is read by the bytes in front of it. Serves bodies::entry_items, bodies::entry_of, bodies::skip_entry.
 pub mod EntryLaws
+-- What is behind a form that is read to find its end. Serves bodies::skip_declaration, bodies::skip_entry, bodies::skip_held, skips::skip_definition and 7 more.
+pub mod SkipLaws
+-- Entries, the first of which is read already: the others are what is behind it, also where the entries are cut from the bytes. Serves bodies::entries_from, bodies::entry_items.
+mod FirstLaws
 -- What a reader from an offset answers at the front is what the function that reads the form finds there. Serves front::index_of, front::name_of, front::u32_of, sections::custom_of.
 pub mod FrontReaders
 -- Keys are the same exactly where their shapes are. Serves table::put.
@@ -63,8 +67,6 @@ pub mod SectionLaws
 pub mod ShowLaws
 -- What imports, exports and aliases of a component type show. Serves seeing::see_function, seeing::see_type.
 pub mod SeeLaws
--- What is behind a form that is read to find its end. Serves bodies::skip_declaration, bodies::skip_entry, bodies::skip_held, skips::skip_definition and 7 more.
-pub mod SkipLaws
 -- What instances of a component type show, and what they use. Serves seeing::see_instance, seeing::used_view.
 pub mod UsedLaws
 -- Value types by their first byte. Serves skips::skip_value, value::value_type_of.

@@ -16,14 +16,8 @@ use Rattle.read_follow.proofs.Refusing.{refused}
 use Rattle.base_lemmas.proofs.{Elements.all_end}
 use Rattle.wit_model.proofs.RulesLemmas.{items_of_map as mapped_items}
 
-pub behind_none : {Y : Type 0} (found : Option (List Y)) → behind_rows [] found ≡ found
-behind_none x = search std_rules
-
 pub behind_more : {Y : Type 0} (front : List Y) (y : Y) (found : Option (List Y)) → behind_rows front (found >>= λ ys. Some (y ∷ ys)) ≡ behind_rows (front ++ y ∷ []) found
 behind_more front y x = search (std_rules, append_assoc)
-
-pub none_dropped : {X : Type 0} (xs : List X) → drop 0 xs ≡ xs
-none_dropped x = search std_rules
 
 module _ {A Y : Type 0} (f : A → Option Y) (labs : Y → List (Text × Bool)) (trees : Y → List Tree) (rows : List A) where
   module _ (i : ℕ) (labels : List (Text × Bool)) (ts : List Tree) (so_far : RowsSoFar f labs trees rows i labels ts) where

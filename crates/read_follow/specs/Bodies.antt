@@ -1,8 +1,9 @@
 -- Bodies: declarations that are kept as a part of the input and read again where they are followed.
-use Rattle.std.specs.Prelude.{◌≡◌, Bool, true, false, ℕ, List, [], Option, Some, None, if◌then◌else◌}
+use Rattle.std.specs.Prelude.{◌≡◌, Bool, true, false, ℕ, List, [], Option, Some, None, if◌then◌else◌, IfSome}
+use Rattle.std.specs.Borrow.{Bor}
 use Rattle.comp_bytes.specs.Raw.{Declaration}
-use Rattle.comp_bytes.specs.{Levels.Entry as RawEntry, Levels.plain, Levels.holds, Reading.Reader, Reading.◌>>=◌, Reading.sequence_at, Reading.declaration_at}
-use Rattle.read_follow.specs.declared.bodies.{Body.Body, Entry.Entry}
+use Rattle.comp_bytes.specs.{Levels.Entry as RawEntry, Levels.plain, Levels.holds, Levels.entry_at, Reading.Reader, Reading.◌>>=◌, Reading.sequence_at, Reading.declaration_at}
+use Rattle.read_follow.specs.declared.bodies.{Body.Body, Entries.Entries, Entry.Entry}
 use Rattle.read_follow.specs.Declares.{raw_declared}
 use Rattle.read_follow.specs.declared.bodies.Entry.TheVariants as entries
 
@@ -42,3 +43,12 @@ raw_entry (entries.Holds b) = holds (items_in held_declaration_at b)
 abbrev pub IsWhole : Entry → Type 0
 IsWhole (entries.Plain d) = Unit {0}
 IsWhole (entries.Holds b) = IsBody held_declaration_at b
+
+-- the instance type stands in front of the bytes, and these others behind it
+abbrev pub IsInFront : Body × Bor (List ℕ) → List ℕ → Type 0
+IsInFront first bytes = IsBody held_declaration_at first.0 × (entry_at bytes ≡ Some (holds (items_in held_declaration_at first.0), first.1.now))
+
+-- the bytes of the body are its entries, and if a first one is kept, it stands in front of them
+pub record AreEntries (es : Entries) : Type 0 where
+  pub whole : IsBody entry_at es.body
+  pub first : IfSome es.first (λ first. IsInFront first es.body.bytes.now)

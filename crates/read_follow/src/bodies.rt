@@ -1,8 +1,8 @@
 //! Bodies: declarations that are kept as a part of the input and read again where they are followed.
 
-ghost use Rattle.std.specs.Prelude.{◌≡◌, ◌≤◌, ◌-◌, length, take, IfOk};
+ghost use Rattle.std.specs.Prelude.{◌≡◌, ◌<◌, ◌≤◌, ◌-◌, length, take, IfOk, IfSome};
 ghost use Rattle.comp_bytes.specs.{Raw.Declaration, Levels.Entry as RawEntry, Levels.entry_at, Levels.held_at, Reading.declaration_at, Reading.sequence_at};
-ghost use Rattle.read_follow.specs.Bodies.{behind, held_declaration_at, items_in, raw_entry, IsBody, IsWhole};
+ghost use Rattle.read_follow.specs.Bodies.{behind, held_declaration_at, items_in, raw_entry, AreEntries, IsBody, IsInFront, IsWhole};
 ghost use Rattle.read_follow.specs.{Declares.raw_declared, Found.Finds, Found.Gives};
 
 use crate::declarations::{Declared, declaration_of};
@@ -21,6 +21,14 @@ pub struct Body<'a> {
     pub bytes: &'a [u8],
     /// How many bytes of the slice that they were read from stand behind them.
     pub behind: usize,
+}
+
+/// Entries in the type of a world or an interface. The first of them is an instance type in all but a few inputs, and its end is kept with theirs.
+#[derive(Clone, Copy)]
+pub struct Entries<'a> {
+    pub body: Body<'a>,
+    /// If the first is an instance type: its own body, and the bytes of the entries behind it.
+    pub first: Option<(Body<'a>, &'a [u8])>,
 }
 
 /// The body of so many items at the front, behind which the rest stands.
@@ -140,6 +148,22 @@ pub fn entry_of<'a>(alloc: Global, bytes: &'a [u8]) -> Result<(Entry<'a>, &'a [u
     }
 }
 
+/// The entry in front, as `entry_of`. If its body is known already, it isn't read for its end again.
+pub(crate) fn front_entry<'a>(
+    alloc: Global,
+    known: Option<(Body<'a>, &'a [u8])>,
+    bytes: &'a [u8],
+) -> Result<(Entry<'a>, &'a [u8]), Refusal>
+    requires { IfSome known (λ first. IsInFront first bytes.now) }
+    ensures whole { IfOk result (λ x. IsWhole x.0) }
+    ensures found { Finds raw_entry result (entry_at bytes.now) }
+{
+    match known {
+        Some((body, rest)) => Ok((Entry::Holds(body), rest)),
+        None => entry_of(alloc, bytes),
+    }
+}
+
 /// The bytes behind the instance type in front, behind its first byte.
 fn skip_instance<'a>(alloc: Global, bytes: &'a [u8]) -> Result<&'a [u8], Refusal>
     ensures { Gives (λ rest. rest.now) result (behind (held_at bytes.now)) }
@@ -194,17 +218,63 @@ impl<'a> Skips<'a> for Entry<'a> {
     }
 }
 
-/// The body of so many entries, and the bytes behind it.
+/// So many entries, the first of which is this instance type with these bytes behind it, and the bytes behind them.
+fn entries_from<'a>(
+    alloc: Global,
+    count: u32,
+    bytes: &'a [u8],
+    held: Body<'a>,
+    others: &'a [u8],
+) -> Result<(Entries<'a>, &'a [u8]), Refusal>
+    requires some { 0 < count }
+    requires first { IsInFront (held, others) bytes.now }
+    ensures whole { IfOk result (λ x. AreEntries x.0) }
+    ensures found { Finds (λ es. items_in entry_at es.body) result (sequence_at entry_at count bytes.now) }
+{
+    match skip_each::<Entry<'a>>(alloc, count - 1, others) {
+        Ok(rest) => {
+            let body = cut(count, bytes, rest);
+            let first = Some((held, cut(count - 1, others, rest).bytes));
+            Ok((Entries { body, first }, rest))
+        }
+        Err(refusal) => Err(refusal),
+    }
+}
+
+/// So many entries, the first of which is no instance type, and the bytes behind them.
+fn entries_alone<'a>(
+    alloc: Global,
+    count: u32,
+    bytes: &'a [u8],
+) -> Result<(Entries<'a>, &'a [u8]), Refusal>
+    ensures whole { IfOk result (λ x. AreEntries x.0) }
+    ensures found { Finds (λ es. items_in entry_at es.body) result (sequence_at entry_at count bytes.now) }
+{
+    match skip_each::<Entry<'a>>(alloc, count, bytes) {
+        Ok(rest) => {
+            let body = cut(count, bytes, rest);
+            Ok((Entries { body, first: None }, rest))
+        }
+        Err(refusal) => Err(refusal),
+    }
+}
+
+/// So many entries, and the bytes behind them.
 pub(crate) fn entry_items<'a>(
     alloc: Global,
     count: u32,
     bytes: &'a [u8],
-) -> Result<(Body<'a>, &'a [u8]), Refusal>
-    ensures whole { IfOk result (λ x. IsBody entry_at x.0) }
-    ensures found { Finds (items_in entry_at) result (sequence_at entry_at count bytes.now) }
+) -> Result<(Entries<'a>, &'a [u8]), Refusal>
+    ensures whole { IfOk result (λ x. AreEntries x.0) }
+    ensures found { Finds (λ es. items_in entry_at es.body) result (sequence_at entry_at count bytes.now) }
 {
-    match skip_each::<Entry<'a>>(alloc, count, bytes) {
-        Ok(rest) => Ok((cut(count, bytes, rest), rest)),
-        Err(refusal) => Err(refusal),
+    if count > 0 && bytes.starts_with(&[0x01, 0x42]) {
+        let inner = bytes.split_at(2).1;
+        match held_of(alloc, inner) {
+            Ok((held, others)) => entries_from(alloc, count, bytes, held, others),
+            Err(refusal) => Err(refusal),
+        }
+    } else {
+        entries_alone(alloc, count, bytes)
     }
 }

@@ -3,11 +3,11 @@
 ghost use Rattle.std.specs.Prelude.{◌≡◌, [], None, Some, length, slice_get, IfErr, IfOk, OnOk};
 ghost use Rattle.comp_bytes.specs.{Levels.entry_at, RawOf.raw_alias};
 ghost use Rattle.comp_meaning.specs.{ByLevels.entry_scope, ByLevels.entry_step, Follow.component_step, Follow.see_described as see_described_lem};
-ghost use Rattle.read_follow.specs.{Bodies.raw_entry, Bodies.items_in, Bodies.IsBody, Bodies.IsWhole, Declares.raw_declared, Found.Gives, Found.Refuses};
+ghost use Rattle.read_follow.specs.{Bodies.raw_entry, Bodies.items_in, Bodies.AreEntries, Bodies.IsWhole, Declares.raw_declared, Found.Gives, Found.Refuses};
 ghost use Rattle.read_follow.specs.{Defining.Grows, ExternNames.raw_name, Following.AreTables, NameTables.AreNamesOf, Placed.HasNoNames};
 ghost use Rattle.read_follow.specs.Scopes.{are_settled as are_settled_lem, direction, is_settled as is_settled_lem, start_of, taken_from, weight, world_of, Goes, IsFollowedTo, IsScopeOf, IsWorld, Stops};
 
-use crate::bodies::{Body, Entry, entry_of};
+use crate::bodies::{Entries, Entry, front_entry};
 use crate::declarations::Declared;
 use crate::defining::{define, define_function};
 use crate::functions::Functions;
@@ -205,33 +205,37 @@ fn new_scope<'a>(alloc: Global, home: u32) -> Scope<'a>
     }
 }
 
-/// Follows the entries of a body one after the other.
+/// Follows entries one after the other.
 fn follow_entries<'a>(
     alloc: Global,
     table: &mut Table<'a>,
     functions: &mut Functions<'a>,
     places: &mut Places,
     home: u32,
-    body: Body<'a>,
+    entries: Entries<'a>,
 ) -> Result<Scope<'a>, Refusal>
     requires tables { AreTables (length places.old) table.old functions.old }
     requires home { slice_get places.old home ≡ Some None }
     requires fresh { HasNoNames home table.old }
-    requires body { IsBody entry_at body }
-    ensures followed { IfOk result (λ scope. IsFollowedTo (start_of home table.old functions.old places.old) body.entry body.entry.count []
+    requires entries { AreEntries entries }
+    ensures followed { IfOk result (λ scope. IsFollowedTo (start_of home table.old functions.old places.old) entries.entry.body entries.entry.body.count []
         (world_of table.new functions.new places.new scope)) }
-    ensures absent { IfErr result (λ e. Refuses e (entry_scope (items_in entry_at body.entry))) }
+    ensures absent { IfErr result (λ e. Refuses e (entry_scope (items_in entry_at entries.entry.body))) }
 {
     let mut scope = new_scope(alloc, home);
     let mut names = BTreeMap::new(alloc);
-    let mut rest = body.bytes;
-    for _ in 0..body.count {
-        match entry_of(alloc, rest) {
+    let mut first = entries.first;
+    let mut rest = entries.body.bytes;
+    for _ in 0..entries.body.count {
+        match front_entry(alloc, first, rest) {
             Ok((entry, behind)) => {
                 match enter(
                     alloc, table, functions, places, &mut names, &mut scope, &entry,
                 ) {
-                    Ok(()) => rest = behind,
+                    Ok(()) => {
+                        first = None;
+                        rest = behind;
+                    }
                     Err(refusal) => return Err(seen_at(refusal, index_left(&entry, rest.len()))),
                 }
             }
@@ -280,15 +284,15 @@ pub fn follow_component<'a>(
     table: &mut Table<'a>,
     functions: &mut Functions<'a>,
     places: &mut Places,
-    body: Body<'a>,
+    entries: Entries<'a>,
 ) -> Result<Scope<'a>, Refusal>
     requires tables { AreTables (length places.old) table.old functions.old }
-    requires body { IsBody entry_at body }
-    ensures shown { IfOk result (λ scope. IsScopeOf table.old functions.old places.old body.entry (world_of table.new functions.new places.new scope)) }
-    ensures absent { IfErr result (λ e. Refuses e (entry_scope (items_in entry_at body.entry))) }
+    requires entries { AreEntries entries }
+    ensures shown { IfOk result (λ scope. IsScopeOf table.old functions.old places.old entries.entry.body (world_of table.new functions.new places.new scope)) }
+    ensures absent { IfErr result (λ e. Refuses e (entry_scope (items_in entry_at entries.entry.body))) }
 {
     let home = places.new_place(alloc)?;
-    match follow_entries(alloc, table, functions, places, home, body) {
+    match follow_entries(alloc, table, functions, places, home, entries) {
         Ok(scope) => {
             if are_settled(&scope.used, &scope.slots) {
                 Ok(scope)

@@ -33,7 +33,7 @@ mod value;
 mod vector;
 mod views;
 
-pub use bodies::{Body, Entry, entry_of};
+pub use bodies::{Body, Entries, Entry, entry_of};
 pub use components::follow_component;
 pub use declarations::{Declared, Description, declaration_of};
 pub use defining::{define, define_function};

@@ -3,9 +3,9 @@
 ghost use Rattle.std.specs.Prelude.{◌≡◌, IfOk};
 ghost use Rattle.comp_bytes.specs.Levels.{PartType as RawPartType, entry_at, part_behind_at, part_type_at, shows, world_export_at, wraps};
 ghost use Rattle.comp_bytes.specs.Reading.{as_at, pair_at, sequence_at, vector_at};
-ghost use Rattle.read_follow.specs.{ExternNames.raw_name, Bodies.items_in, Bodies.IsBody, Found.Finds, PartTypes.raw_part_type, PartTypes.IsWholePart};
+ghost use Rattle.read_follow.specs.{ExternNames.raw_name, Bodies.items_in, Bodies.AreEntries, Found.Finds, PartTypes.raw_part_type, PartTypes.IsWholePart};
 
-use crate::bodies::{Body, entry_items};
+use crate::bodies::{Entries, entry_items};
 use crate::declarations::{Declared, declaration_of};
 use crate::front::u32_of;
 use crate::names::ExternName;
@@ -19,16 +19,16 @@ use wit_model::Cause;
 #[derive(Clone, Copy)]
 pub enum PartType<'a> {
     /// The wrapper of a world: the entries of the world, and the name of its export.
-    Wraps(Body<'a>, ExternName<'a>),
+    Wraps(Entries<'a>, ExternName<'a>),
     /// The type of an interface: its entries.
-    Shows(Body<'a>),
+    Shows(Entries<'a>),
 }
 
-/// The body of entries behind their number, and the bytes behind it.
+/// Entries behind their number, and the bytes behind them.
 #[tactic(auto, unfolding(comp_bytes::specs::Reading::vector_at))]
-fn entries_of<'a>(alloc: Global, bytes: &'a [u8]) -> Result<(Body<'a>, &'a [u8]), Refusal>
-    ensures whole { IfOk result (λ x. IsBody entry_at x.0) }
-    ensures found { Finds (items_in entry_at) result (vector_at entry_at bytes.now) }
+fn entries_of<'a>(alloc: Global, bytes: &'a [u8]) -> Result<(Entries<'a>, &'a [u8]), Refusal>
+    ensures whole { IfOk result (λ x. AreEntries x.0) }
+    ensures found { Finds (λ es. items_in entry_at es.body) result (vector_at entry_at bytes.now) }
 {
     match u32_of(bytes) {
         Ok((count, items)) => entry_items(alloc, count, items),
@@ -61,8 +61,8 @@ fn wrapper_of<'a>(alloc: Global, bytes: &'a [u8]) -> Result<(PartType<'a>, &'a [
     ensures found { Finds raw_part_type result (as_at (λ w. wraps w.0 w.1) (pair_at (vector_at entry_at) world_export_at) bytes.now) }
 {
     match entries_of(alloc, bytes) {
-        Ok((body, rest)) => match world_export_of(alloc, rest) {
-            Ok((name, rest)) => Ok((PartType::Wraps(body, name), rest)),
+        Ok((entries, rest)) => match world_export_of(alloc, rest) {
+            Ok((name, rest)) => Ok((PartType::Wraps(entries, name), rest)),
             Err(refusal) => Err(refusal),
         },
         Err(refusal) => Err(refusal),
@@ -80,7 +80,7 @@ fn shown_of<'a>(
     ensures found { Finds raw_part_type result (as_at shows (sequence_at entry_at count) bytes.now) }
 {
     match entry_items(alloc, count, bytes) {
-        Ok((body, rest)) => Ok((PartType::Shows(body), rest)),
+        Ok((entries, rest)) => Ok((PartType::Shows(entries), rest)),
         Err(refusal) => Err(refusal),
     }
 }

@@ -57,8 +57,8 @@ fn follow_each<'a>(
 /// The bytes that the entries of a part are read from.
 fn bytes_of<'a>(part: PartType<'a>) -> &'a [u8] {
     match part {
-        PartType::Wraps(body, _) => body.bytes,
-        PartType::Shows(body) => body.bytes,
+        PartType::Wraps(entries, _) => entries.body.bytes,
+        PartType::Shows(entries) => entries.body.bytes,
     }
 }
 

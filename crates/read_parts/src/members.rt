@@ -53,16 +53,18 @@ pub(crate) fn follow_part<'a>(
     ensures absent { IfErr result (λ e. Refuses e (part_scope (raw_part_type part.entry))) }
 {
     match part {
-        PartType::Wraps(body, name) => match world_path(alloc, name) {
-            Ok(path) => match follow_component(alloc, table, functions, places, body) {
+        PartType::Wraps(entries, name) => match world_path(alloc, name) {
+            Ok(path) => match follow_component(alloc, table, functions, places, entries) {
                 Ok(scope) => Ok(FollowedPart::World(path, scope)),
-                Err(refusal) => Err(in_front(refusal, body.behind)),
+                Err(refusal) => Err(in_front(refusal, entries.body.behind)),
             },
-            Err(refusal) => Err(in_front(refusal, body.behind)),
+            Err(refusal) => Err(in_front(refusal, entries.body.behind)),
         },
-        PartType::Shows(body) => match follow_component(alloc, table, functions, places, body) {
-            Ok(scope) => Ok(FollowedPart::Interface(scope)),
-            Err(refusal) => Err(in_front(refusal, body.behind)),
-        },
+        PartType::Shows(entries) => {
+            match follow_component(alloc, table, functions, places, entries) {
+                Ok(scope) => Ok(FollowedPart::Interface(scope)),
+                Err(refusal) => Err(in_front(refusal, entries.body.behind)),
+            }
+        }
     }
 }

@@ -1,18 +1,17 @@
-use Rattle.comp_bytes.specs.{Reading.sequence_at, Levels.entry_at}
-use Rattle.read_follow.specs.Bodies.{behind}
-use Rattle.read_follow.proofs.{BodyLaws.shorter, BodyLaws.is_body, BodyLaws.body_found, BodyLaws.none_found, Refusing.refused}
-use Rattle.comp_bytes.proofs.LevelLaws.{entry_law}
+use Rattle.std.proofs.Common.{sym, ◌∙◌, None, Some, ◌-◌}
+use Rattle.comp_bytes.specs.{Levels.held_at, Levels.entry_at, Reading.sequence_at}
+use Rattle.read_follow.specs.Bodies.{held_declaration_at, items_in}
+use Rattle.read_follow.proofs.{EntryLaws.held_front, FirstLaws.no_first, FirstLaws.one_less, Refusing.refused}
 use Rattle.read_follow.proofs.bodies.entry_items.Goals as goal
 
-pub cut-requires : goal.cut-requires
-cut-requires c = shorter entry_law c.args.count c.args.bytes.now c.in-Ok.rest.now c.in-Ok.ensures
-
-pub returns-in-Ok-clause-whole : goal.returns-in-Ok-clause-whole
-returns-in-Ok-clause-whole c = is_body entry_law c.args.count c.args.bytes.now c.in-Ok.rest.now c.in-Ok.ensures c.cut.result c.cut.ensures.count c.cut.ensures.bytes
-
-pub returns-in-Ok-clause-found : goal.returns-in-Ok-clause-found
-returns-in-Ok-clause-found c = body_found entry_law c.args.count c.args.bytes.now c.in-Ok.rest.now c.in-Ok.ensures c.cut.result c.cut.ensures.count c.cut.ensures.bytes
+pub entries_from-requires-clause-first : goal.entries_from-requires-clause-first
+entries_from-requires-clause-first c = (
+  c.in-Ok.ensures.whole,
+  held_front c.args.bytes.now c.split_at.result.1.now (Some (items_in held_declaration_at c.in-Ok.held, c.in-Ok.others.now)) (sym c.starts_with.ensures.value ∙ c.if-starts_with.true)
+      c.split_at.ensures.back c.in-Ok.ensures.found,
+)
 
 pub returns-in-Err-clause-found : goal.returns-in-Err-clause-found
-returns-in-Err-clause-found c = refused c.in-Err.refusal (behind (sequence_at entry_at c.args.count c.args.bytes.now)) (sequence_at entry_at c.args.count c.args.bytes.now)
-    (none_found (sequence_at entry_at c.args.count c.args.bytes.now)) c.in-Err.ensures
+returns-in-Err-clause-found c = refused c.in-Err.refusal (held_at c.split_at.result.1.now) (sequence_at entry_at c.args.count c.args.bytes.now)
+    (λ none. no_first c.args.bytes.now c.args.count (c.args.count - 1) (one_less c.args.count c.if-count-gt0.true)
+    (held_front c.args.bytes.now c.split_at.result.1.now None (sym c.starts_with.ensures.value ∙ c.if-starts_with.true) c.split_at.ensures.back none)) c.in-Err.ensures.found

@@ -12,7 +12,7 @@ pub returns-in-Ok-follow_component-clause-followed : goal.returns-in-Ok-follow_c
 returns-in-Ok-follow_component-clause-followed c =
     let s = c.in-Ok-follow_component.ensures.shown in
     let part = followed.World c.in-Ok.path c.in-Ok-follow_component.scope in
-    let es = items_in entry_at c.in-Wraps.body in
+    let es = items_in entry_at c.in-Wraps.entries.body in
     subst (λ (p : PartType). IsPartFollowed c.args.table.now c.args.functions.now c.args.places.now (raw_part_type p) c.follow_component.new.table c.follow_component.new.functions
     c.follow_component.new.places part) (sym c.in-Wraps.is) (record {
       stands = s.world;
