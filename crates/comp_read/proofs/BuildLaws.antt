@@ -1,5 +1,5 @@
 -- What is built of the plan of a package.
-use Rattle.std.proofs.Common.{◌≡◌, inl, inr, refl, sym, ap, subst, ◌∙◌, ℕ, zero, suc, ◌+◌, ◌<◌, ◌≤◌, arith, Bool, true, List, [], ◌∷◌, map, length, slice_get, Option, Some, None, option_map}
+use Rattle.std.proofs.Common.{rules as std_rules, ◌≡◌, inl, inr, refl, sym, ap, subst, ◌∙◌, ℕ, zero, suc, ◌+◌, ◌<◌, ◌≤◌, arith, Bool, true, List, [], ◌∷◌, map, length, slice_get, Option, Some, None, option_map}
 use Rattle.std.proofs.lemmas.{List.length-map, Bool.cases_lt as below_or, Slice.Zip.AllZip-long as zip_length}
 use Rattle.wit_model.specs.declared.model.{Package.Package, Resolve.Resolve}
 use Rattle.wit_model.specs.{Lookup.package_at, Meaning.PackageMeaning, Meant.Meant, Valid.IsValid, Names.PackageIdentity}
@@ -56,9 +56,7 @@ module _ (p : Plan) (r : Resolve) (found : Option PackageMeaning) (is : MeansFou
 used_within : (parts : List (List ℕ)) → PartsFall parts → (roots : List Bool) → length roots ≡ length parts → (n : ℕ) → IsUsed parts roots n → n < length parts
 used_within parts fall roots many n (marked m e) = let within = mark_within roots n e in omega (arith, within, many)
 used_within parts fall roots many n (part m k ks used at in_parts) =
-    let whole = used_within parts fall roots many m used in
-    let low : 14 + n < 14 + m = all_at (λ k. k < 14 + m) ks (fall m ks at) (14 + n) in_parts in
-    omega (arith, whole, low)
+    search (std_rules, all_at (λ k. k < 14 + m) ks (fall m ks at) (14 + n) in_parts, used_within parts fall roots many m used)
 
 earlier : {A : Type 0} (xs : List A) (j : ℕ) (x : A) → slice_get xs (suc j) ≡ Some x → (y : A) × (slice_get xs j ≡ Some y)
 earlier [] j x e = let wrong : None ≡ Some x = e in absurd cc
@@ -71,13 +69,7 @@ last_of x (z ∷ xs) = last_of z xs
 
 module _ (marks : List Bool) (kept : List ℕ) (are : AreMarked marks kept) where
   rises : (j m n : ℕ) → slice_get kept j ≡ Some m → slice_get kept (suc j) ≡ Some n → m < n
-  rises j m n a b = elim (below_or m n) [
-    | inl less ↦ less
-    | inr more ↦ absurd (elim (below_or n m) [
-      | inl behind ↦ (let before = are.rise (suc j) j n m b a behind in omega (arith, before))
-      | inr less ↦ (let same : m ≡ n = omega (arith, more, less) in let one = are.once j (suc j) n (a ∙ ap Some same) b in omega (arith, one))
-    ])
-  ]
+  rises j m n a b = search std_rules
 
   pub at_least : (j n : ℕ) → slice_get kept j ≡ Some n → j ≤ n
   at_least zero n e = omega arith
@@ -112,9 +104,7 @@ module _ (t : Tables) (fall : TypesFall t) (packages : List PackageIdentity) (ho
       omega (arith, many, few)
 
   pub few_built : (r : Resolve) → IsBuilt p r → length r.types.items ≤ length t.shapes
-  few_built r built =
-      let same : length r.types.items ≡ length p.types = sym (length-map r.types.items planned_type) ∙ ap length built.types in
-      omega (arith, same, few_planned)
+  few_built r built = search (std_rules, length-map, few_planned)
 
 -- ---- what is built of members that are a package
 

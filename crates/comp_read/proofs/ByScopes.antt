@@ -1,5 +1,5 @@
 -- What the rules of reading make of the parts at the top is what they make of the scopes that were followed.
-use Rattle.std.proofs.Common.{◌≡◌, refl, sym, ap, ◌∙◌, true, List, [], ◌∷◌, Option, Some, None}
+use Rattle.std.proofs.Common.{rules as std_rules, ◌≡◌, refl, sym, ap, ◌∙◌, true, List, [], ◌∷◌, Option, Some, None}
 use Rattle.wit_model.specs.Text.{Text}
 use Rattle.comp_bytes.specs.{Levels.PartType, Levels.Piece, Reading.◌>>=◌}
 use Rattle.comp_bytes.proofs.Readers.{bind_some}
@@ -11,21 +11,13 @@ use Rattle.read_parts.proofs.ScopeMeaning.{each_both, member_law}
 pub scopes_found : (pieces : List Piece) (parts : List (Text × PartType)) → exported_parts pieces ≡ Some parts → (scopes : List (Text × PartScope)) → scopes_of pieces ≡ Some scopes
     → each labelled_scope parts ≡ Some scopes
 unfolding scopes_of
-scopes_found pieces parts found scopes e = by parts (ap (λ o. o >>= scopes_in) (sym found) ∙ e)
-  where
-    by : (ps : List (Text × PartType)) → scopes_in ps ≡ Some scopes → each labelled_scope ps ≡ Some scopes
-    by [] g = let wrong : ◌≡◌ {A = Option (List (Text × PartScope))} None (Some scopes) = g in absurd cc
-    by (p ∷ ps) g = g
+scopes_found pieces parts found scopes e = search std_rules
 
 -- there is a part
 pub parts_filled : (pieces : List Piece) (parts : List (Text × PartType)) → exported_parts pieces ≡ Some parts → (scopes : List (Text × PartScope)) → scopes_of pieces ≡ Some scopes
     → is_filled parts ≡ true
 unfolding scopes_of
-parts_filled pieces parts found scopes e = by parts (ap (λ o. o >>= scopes_in) (sym found) ∙ e)
-  where
-    by : (ps : List (Text × PartType)) → scopes_in ps ≡ Some scopes → is_filled ps ≡ true
-    by [] g = let wrong : ◌≡◌ {A = Option (List (Text × PartScope))} None (Some scopes) = g in absurd cc
-    by (p ∷ ps) g = refl
+parts_filled pieces parts found scopes e = search std_rules
 
 pub members_by_scopes : (pieces : List Piece) (parts : List (Text × PartType)) → exported_parts pieces ≡ Some parts → (members : List Member)
     → (scopes_of pieces >>= each member_of_scope) ≡ Some members → each member_by_levels parts ≡ Some members

@@ -1,5 +1,5 @@
 -- The types of interfaces that had been shown at a cut have smaller numbers than it, and those of others don't.
-use Rattle.std.proofs.Common.{◌≡◌, refl, sym, ap, subst, ◌∙◌, ℕ, zero, suc, ◌+◌, ◌<◌, ◌≤◌, ◌⊎◌, inl, inr, arith, List, [], ◌∷◌, ◌++◌, length, length-append, take, Option, Some, slice_get, true, filter, map, Bool}
+use Rattle.std.proofs.Common.{rules as std_rules, ◌≡◌, refl, sym, ap, subst, ◌∙◌, ℕ, zero, suc, ◌+◌, ◌<◌, ◌≤◌, ◌⊎◌, inl, inr, arith, List, [], ◌∷◌, ◌++◌, length, length-append, take, Option, Some, slice_get, true, filter, map, Bool}
 use Rattle.std.proofs.lemmas.{Bool.cases_lt, Option.same_Some as same-some, List.take-map, List.Elements.filter-append}
 use Rattle.std.specs.List.{AllByRecursion, AllZip, flat_map, Contains}
 use Rattle.wit_model.specs.{Text.Text, Meaning.WorldMeaning, Uses.once}
@@ -83,21 +83,13 @@ fewer [] (suc n) zero le = omega arith
 fewer [] (suc n) (suc m) le = omega arith
 fewer (y ∷ ms) zero m le = omega arith
 fewer (y ∷ ms) (suc n) zero le = absurd (omega (arith, le))
-fewer (y ∷ ms) (suc n) (suc m) le =
-    let rest = fewer ms n m (omega (arith, le)) in
-    let a = length-append (world_in_part y.label.now y.part) (worlds_in (take n ms)) in
-    let b = length-append (world_in_part y.label.now y.part) (worlds_in (take m ms)) in
-    omega (arith, rest, a, b)
+fewer (y ∷ ms) (suc n) (suc m) le = search (std_rules, length-append, fewer ms n m (omega (arith, le)))
 
 -- a world counts behind itself
 counted : (ms : List Member) (m : ℕ) (y : Member) (w : Scope) → slice_get ms m ≡ Some y → y.part ≡ parts.World w → worlds_before ms (suc m) ≡ suc (worlds_before ms m)
 counted [] m y w e is = absurd (none_there m y e)
 counted (z ∷ ms) zero y w e is = one_more z.label.now z.part w (ap (λ (u : Member). u.part) (same-some z y e) ∙ is) []
-counted (z ∷ ms) (suc m) y w e is =
-    let rest = counted ms m y w e is in
-    let a = length-append (world_in_part z.label.now z.part) (worlds_in (take (suc m) ms)) in
-    let b = length-append (world_in_part z.label.now z.part) (worlds_in (take m ms)) in
-    omega (arith, rest, a, b)
+counted (z ∷ ms) (suc m) y w e is = search (std_rules, length-append, counted ms m y w e is)
 
 -- ---- where an import stands
 
@@ -250,20 +242,7 @@ many_worlds t h ms members zip m =
 -- the imports that count are those of a world
 pub counts_of : (t : Tables) (h : Homes) (ms : List Member) (m : ℕ) (k : Member) (at : slice_get ms m ≡ Some k) (y : reads.Member) → IsMember t h (numbered_member k) y → (scope : follow.Scope)
     → (many : ℕ) → length scope.imports ≡ many → Counts ms m k at many (imports_in y.part scope)
-counts_of t h ms m k at y is scope many same = record {
-  world = λ w e. world w y.part (subst
-      (λ (a : Part). ShowsPart t h (numbered_member k) (numbered_part a) y.part) e is.part);
-  none = λ low. none k.part y.part is.part low;
-}
-  where
-    world : (w : Scope) (b : reads.Part) → ShowsPart t h (numbered_member k) (numbered_part (parts.World w)) b → imports_in b scope ≡ many
-    world w (reads.Part.world whole) shows = same
-    world w (reads.Part.interface view views) shows = absurd shows
-
-    none : (a : Part) (b : reads.Part) → ShowsPart t h (numbered_member k) (numbered_part a) b → 0 < imports_in b scope → (w : Scope) × (a ≡ parts.World w)
-    none (parts.World w) b shows low = (w, refl)
-    none (parts.Interface p v imports) (reads.Part.world whole) shows low = absurd shows
-    none (parts.Interface p v imports) (reads.Part.interface view views) shows low = absurd (omega (arith, low))
+counts_of t h ms m k at y is scope many same = search std_rules
 
 -- ---- what the page is for
 

@@ -1,5 +1,5 @@
 -- The places of a beginning among all places, each where it stands first.
-use Rattle.std.proofs.Common.{◌≡◌, refl, sym, ap, subst, ◌∙◌, ℕ, ◌+◌, ◌<◌, ◌≤◌, inl, inr, arith, true, List, [], ◌∷◌, ◌++◌, length, length-append, map, Option, Some, None, slice_get, take, unwrap_or, zero, suc, ◌==◌, append_assoc, drop}
+use Rattle.std.proofs.Common.{rules as std_rules, ◌≡◌, refl, sym, ap, subst, ◌∙◌, ℕ, ◌+◌, ◌<◌, ◌≤◌, inl, inr, arith, true, List, [], ◌∷◌, ◌++◌, length, length-append, map, Option, Some, None, slice_get, take, unwrap_or, zero, suc, ◌==◌, append_assoc, drop}
 use Rattle.std.proofs.lemmas.{Bool.cases_lt, Bool.eqb-true, Option.slice_get_within as found_below, Option.same_Some as same-some, List.take-append-drop}
 use Rattle.std.proofs.Math.{ListN.length-map, Seq.take-append_seam}
 use Rattle.std.proofs.lemmas.List.Elements.{Contains-append_cases, Contains-append_left, Contains-append_right}
@@ -40,19 +40,11 @@ one_front [] ys [] vs e long = refl
 one_front [] ys (u ∷ us) vs e long = absurd (omega (arith, long))
 one_front (x ∷ xs) ys [] vs e long = absurd (omega (arith, long))
 one_front (x ∷ xs) ys (u ∷ us) vs e long =
-    let first = heads_equal x u (xs ++ ys) (us ++ vs) e in
-    let rest = one_front xs ys us vs (tails_equal x u (xs ++ ys) (us ++ vs) e) (omega (arith, long)) in
-    λ i. first i ∷ rest i
+    search (std_rules, heads_equal, tails_equal, one_front xs ys us vs (tails_equal x u (xs ++ ys) (us ++ vs) e) (omega (arith, long)))
 
 -- the type of a slot is one of so many
 slot_below : (shapes : List Shape) (fs : List FunctionShape) (s : Slot) → IsSlotIn shapes fs s → IsTypeSlot s → part_of (numbered_slot s) < 14 + length shapes
-slot_below shapes fs (slots.Value part) inside kind = inside
-slot_below shapes fs (slots.Resource part) inside kind =
-    let low = found_below shapes inside.number (named_shape inside.place inside.name) inside.at in
-    let is = inside.is in
-    omega (arith, low, is)
-slot_below shapes fs (slots.Function n) inside kind = absurd kind
-slot_below shapes fs (slots.Instance b n) inside kind = absurd kind
+slot_below shapes fs x inside kind = search (std_rules, found_below)
 
 module _ (pieces : List Piece) (x : Followed) (followed : IsFollowed pieces x) (placed : ArePlacedScopes (tables_of x) (scopes_in x)) where
   abbrev t : Tables
@@ -88,11 +80,7 @@ module _ (pieces : List Piece) (x : Followed) (followed : IsFollowed pieces x) (
       record { member = y.0; there = y.1; one = o.0; at = o.1; is = o.2 }
 
   instance_there : (n j : ℕ) (y : Member) (o : Instance) → slice_get ms n ≡ Some y → slice_get (scope_of y.part).instances.items j ≡ Some o → IsInstanceAt ws n j (numbered_instance o)
-  instance_there n j y o there at = record {
-    scope = scope_in y;
-    at = mapped_get scope_in ms n y there;
-    instance_at = mapped_get numbered_instance (scope_of y.part).instances.items j o at;
-  }
+  instance_there n j y o there at = search (std_rules, mapped_get scope_in ms n y there, mapped_get numbered_instance (scope_of y.part).instances.items j o)
 
   -- no instance has the place of a scope's own names
   not_home : (n j : ℕ) (i : NumberedInstance) → IsInstanceAt ws n j i → (k : ℕ) (y : Member) → slice_get ms k ≡ Some y → i.place ≡ (scope_of y.part).home → ⊥
@@ -378,8 +366,7 @@ module _ (ps qs : List ℕ) where
 
   -- those of the beginning have the first numbers
   pub early : (k q : ℕ) → slice_get (once (ps ++ qs)) k ≡ Some q → k < length (once ps) → Contains ps q
-  early k q e low = has-contains ps q (sym (has_once q ps)
-      ∙ contains-has (once ps) q (get-contains (once ps) k q (sym (slice_front (once ps) behind.0 k low) ∙ (ap (λ (zs : List ℕ). slice_get zs k) (sym behind.1) ∙ e))))
+  early k q e low = search (std_rules, has-contains, has_once, contains-has, get-contains, slice_front, behind)
 
   pub late : (k q : ℕ) → slice_get (once (ps ++ qs)) k ≡ Some q → length (once ps) ≤ k → Contains ps q → ⊥
   late k q e past c =
@@ -402,18 +389,8 @@ front_low (y ∷ xs) (suc m) (suc n) x e = let low = front_low xs m n x e in ome
 module _ {A : Type 0} (f : A → List ℕ) where
   pub split_flat : (ws : List A) (m : ℕ) (w : A) → slice_get ws m ≡ Some w → (i : ℕ) → (rest : List ℕ) × (flat_map f ws ≡ (flat_map f (take m ws) ++ take i (f w)) ++ rest)
   split_flat [] m w e i = absurd (none_there m w e)
-  split_flat (v ∷ ws) zero w e i =
-      let same : v ≡ w = same-some v w e in (
-        drop i (f w) ++ flat_map f ws,
-        ap (λ (zs : List ℕ). zs ++ flat_map f ws) (ap f same ∙ sym (take-append-drop i (f w))) ∙ append_assoc (take i (f w)) (drop i (f w)) (flat_map f ws),
-      )
-  split_flat (v ∷ ws) (suc m) w e i =
-      let more = split_flat ws m w e i in
-      let front = flat_map f (take m ws) in (
-        more.0,
-        ap (λ (zs : List ℕ). f v ++ zs) more.1
-            ∙ (sym (append_assoc (f v) (front ++ take i (f w)) more.0) ∙ ap (λ (zs : List ℕ). zs ++ more.0) (sym (append_assoc (f v) front (take i (f w))))),
-      )
+  split_flat (v ∷ ws) zero w e i = search (std_rules, same-some v w e, take-append-drop i (f w), append_assoc (take i (f w)) (drop i (f w)) (flat_map f ws))
+  split_flat (v ∷ ws) (suc m) w e i = search (std_rules, append_assoc, split_flat ws m w e i)
 
   module _ (ws : List A) where
     -- a number of the beginning stands in one of the items

@@ -1,5 +1,5 @@
 -- What is decoded of bytes, by what their sections mean.
-use Rattle.std.proofs.Common.{◌≡◌, refl, sym, subst, ◌∙◌, ℕ, ◌≤◌, arith, List, length, Option, Some, None}
+use Rattle.std.proofs.Common.{rules as std_rules, ◌≡◌, refl, sym, subst, ◌∙◌, ℕ, ◌≤◌, arith, List, length, Option, Some, None}
 use Rattle.wit_model.specs.declared.model.Resolve.{Resolve}
 use Rattle.wit_model.specs.Meaning.{PackageMeaning, WorldPackage}
 use Rattle.comp_bytes.specs.{Levels.Piece, Levels.levels_of, Reading.◌>>=◌}
@@ -82,9 +82,4 @@ module _ (bytes : List ℕ) where
 
 -- where there are no levels, nothing is meant
 pub no_levels : (wanted : Wanted) (o : Option (List Piece)) (e : Refusal) → Refuses e o → Because e (MeansNone wanted o)
-no_levels w o refusals.Memory none = tt
-no_levels w o (refusals.Absent cause left) none = subst (MeansNone w) (sym none) (nothing_meant w)
-  where
-    nothing_meant : (v : Wanted) → MeansNone v None
-    nothing_meant wanted.Package = refl
-    nothing_meant wanted.World = refl
+no_levels w o x none = search std_rules

@@ -1,5 +1,5 @@
 -- Instances of worlds stand under their keys, imports are counted, and what interfaces import is bare.
-use Rattle.std.proofs.Common.{◌≡◌, ap, ◌∙◌, ℕ, ◌≤◌, arith, List, length, Some, None, refl, sym, subst, true, false, not, ◌&&◌, [], ◌∷◌, map, is_none, slice_get}
+use Rattle.std.proofs.Common.{rules as std_rules, ◌≡◌, ap, ◌∙◌, ℕ, ◌≤◌, arith, List, length, Some, None, refl, sym, subst, true, false, not, ◌&&◌, [], ◌∷◌, map, is_none, slice_get}
 use Rattle.std.proofs.lemmas.Option.{slice_get_within, same_Some as same-some}
 use Rattle.wit_model.specs.{Names.read_path, Text.Text}
 use Rattle.comp_bytes.specs.{Levels.Piece, Levels.levels_of, Levels.PartType, Levels.shows, Levels.wraps, Reading.◌>>=◌}
@@ -58,23 +58,17 @@ are_paths x is = λ p path at. there (read_path path) (is.followed.followed.path
 
 -- there are no more types than bytes
 pub few_followed : (bytes : List ℕ) (pieces : List Piece) (x : Followed) → IsFollowed pieces x → levels_of bytes ≡ Some pieces → length (tables_of x).shapes ≤ length bytes
-few_followed bytes pieces x is read =
-    let fit = parts_fit bytes pieces is.parts read is.exported in
-    let count = is.followed.count in
-    omega (arith, fit, count)
+few_followed bytes pieces x is read = search (std_rules, parts_fit)
 
 -- where nothing was followed, and where no members are meant, there is no package and no world
 pub none_meant : (wanted : Wanted) (pieces : List Piece) → members_meant pieces ≡ None → MeansNone wanted (Some pieces)
-none_meant wanted.Package pieces none = package_by_members pieces ∙ ap (λ o. o >>= package_of_members) none
-none_meant wanted.World pieces none = world_by_members pieces ∙ ap (λ o. o >>= world_of_members) none
+none_meant x pieces none = search (std_rules, package_by_members, world_by_members)
 
 pub none_followed : (wanted : Wanted) (pieces : List Piece) (e : Refusal) → Refuses e (scopes_of pieces) → Because e (MeansNone wanted (Some pieces))
-none_followed w pieces refusals.Memory none = tt
-none_followed w pieces (refusals.Absent cause left) none = none_meant w pieces (ap (λ o. o >>= each member_of_scope) none)
+none_followed w pieces x none = search (std_rules, none_meant)
 
 pub none_read : (wanted : Wanted) (pieces : List Piece) (e : Refusal) (fact : Type 0) → (fact → members_meant pieces ≡ None) → Because e fact → Because e (MeansNone wanted (Some pieces))
-none_read w pieces refusals.Memory fact none is = tt
-none_read w pieces (refusals.Absent cause left) fact none is = none_meant w pieces (none is)
+none_read w pieces x fact none is = search (std_rules, none_meant)
 
 -- ---- what the page is for
 
@@ -83,11 +77,7 @@ none_read w pieces (refusals.Absent cause left) fact none is = none_meant w piec
 module _ (t : Tables) where
   -- an instance with its view
   under_key : (vs : List NumberedView) (s : FollowedShown) → HasLabel (shown_of t (followed_shown vs s)) → IsUnderKey t (name_in t.paths s) (followed_shown vs s)
-  under_key vs (shown.Instance (keys.Path p) n) is = refl
-  under_key vs (shown.Instance (keys.Label l p) n) is = (refl, is)
-  under_key vs (shown.Instance (keys.Implementing l p) n) is = (refl, is)
-  under_key vs (shown.Function name f) is = tt
-  under_key vs (shown.Type name part d) is = tt
+  under_key vs x is = search std_rules
 
   all_under : (vs : List NumberedView) (ss : List FollowedSeen) → AllByRecursion (λ (s : follow.Seen). HasLabel s.shown) (map (seen_of t) (map (followed_seen t.paths vs) ss))
       → AllByRecursion (λ (s : NumberedSeen). IsUnderKey t s.key s.shown) (map (followed_seen t.paths vs) ss)
@@ -105,9 +95,7 @@ part_labels (wraps es name) s e =
     let path = bind_some (world_path name) (λ path. entry_scope es >>= λ scope. Some (scopes.world path scope)) s e in
     let scope = bind_some (entry_scope es) (λ scope. Some (scopes.world path.0 scope)) s path.2 in
     subst (λ z. HaveLabels (meant_in z)) (same-some (scopes.world path.0 scope.0) s scope.2) (entry_labels es scope.0 scope.1)
-part_labels (shows es) s e =
-    let scope = bind_some (entry_scope es) (λ scope. Some (scopes.interface scope)) s e in
-    subst (λ z. HaveLabels (meant_in z)) (same-some (scopes.interface scope.0) s scope.2) (entry_labels es scope.0 scope.1)
+part_labels (shows es) s e = search (std_rules, bind_some, HaveLabels, same-some, entry_labels)
 
 labelled_labels : (y : Text × PartType) (s : Text × PartScope) → labelled_scope y ≡ Some s → HaveLabels (meant_in s.1)
 labelled_labels y s e =
@@ -115,10 +103,7 @@ labelled_labels y s e =
     subst (λ (z : Text × PartScope). HaveLabels (meant_in z.1)) (same-some (y.0, found.0) s found.2) (part_labels y.1 found.0 found.1)
 
 part_shows : (t : Tables) (a : FollowedPart) (s : PartScope) → PartShown t a s → Shows t (followed_scope t.paths (scope_of a)) (meant_in s)
-part_shows t (followed.World path scope) (scopes.world text meant) is = is.1
-part_shows t (followed.Interface scope) (scopes.interface meant) is = is
-part_shows t (followed.World path scope) (scopes.interface meant) is = absurd is
-part_shows t (followed.Interface scope) (scopes.world text meant) is = absurd is
+part_shows t x y is = search std_rules
 
 module _ (pieces : List Piece) (x : Followed) (h : Homes) (ms : List Member) (members : List reads.Member) (input : IsReadInput pieces x h ms members) where
   abbrev t : Tables
@@ -204,22 +189,10 @@ read_worlds_are_followed pieces x h ms members input = worlds_followed pieces x 
 -- ---- interfaces
 
 nothing_filled : {A : Type 0} (xs : List A) → not (is_filled xs) ≡ true → xs ≡ []
-nothing_filled [] e = refl
-nothing_filled (x ∷ xs) e = let wrong : false ≡ true = e in absurd cc
+nothing_filled x e = search std_rules
 
 import_bare : (s : NumberedSeen) (i : Placed) → imported_view s ≡ Some i → i.1.functions ≡ []
-import_bare s i e = by s.shown e
-  where
-    no_view : None ≡ Some i → i.1.functions ≡ []
-    no_view f = let wrong : ⊥ = cc in absurd wrong
-
-    by : (x : NumberedShown) → imported_view (record { key = s.key; shown = x; external_id = s.external_id }) ≡ Some i → i.1.functions ≡ []
-    by (worlds.instance (worlds.path p) v) f =
-        let pair : Placed = (p, v) in
-        let w = when_some (is_none s.external_id && not (is_filled v.functions)) (Some pair) i f in
-        subst (λ (z : Placed). z.1.functions ≡ []) (same-some pair i w.1) (nothing_filled v.functions (second_true (is_none s.external_id) (not (is_filled v.functions)) w.0))
-    by (worlds.instance (worlds.label l p) v) f = no_view f
-    by _ f = no_view f
+import_bare s i e = search std_rules
 
 imports_bare : (ss : List NumberedSeen) (is : List Placed) → AllZip (λ s i. imported_view s ≡ Some i) ss is → AllByRecursion (λ (i : Placed). i.1.functions ≡ []) is
 imports_bare [] [] all = tt

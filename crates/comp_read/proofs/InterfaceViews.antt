@@ -1,5 +1,5 @@
 -- The views that the component type of an interface gives are those of its instances.
-use Rattle.std.proofs.Common.{◌≡◌, refl, sym, ap, subst, ◌∙◌, ◌⊎◌, inl, inr, Bool, true, false, not, ◌&&◌, List, [], ◌∷◌, ◌++◌, map, Option, Some, None, is_none}
+use Rattle.std.proofs.Common.{rules as std_rules, ◌≡◌, refl, sym, ap, subst, ◌∙◌, ◌⊎◌, inl, inr, Bool, true, false, not, ◌&&◌, List, [], ◌∷◌, ◌++◌, map, Option, Some, None, is_none}
 use Rattle.std.proofs.lemmas.List.Elements.{Contains-append_cases, Contains-append_left, Contains-append_right}
 use Rattle.std.proofs.lemmas.Option.{same_Some as same-some}
 use Rattle.std.specs.List.{AllByRecursion, AllZip, Contains}
@@ -40,14 +40,7 @@ abbrev pub IsPlacedAs : NumberedSeen → Placed → Type 0
 IsPlacedAs s i = s.shown ≡ instance (path i.0) i.1
 
 import_is : (s : NumberedSeen) (i : Placed) → imported_view s ≡ Some i → IsPlacedAs s i
-import_is s i e = by s.shown e
-  where
-    by : (x : NumberedShown) → imported_view (record { key = s.key; shown = x; external_id = s.external_id }) ≡ Some i → x ≡ instance (path i.0) i.1
-    by (instance (path p) v) f = ap (λ (z : Placed). instance (path z.0) z.1) (of_provided {A = Placed} (is_none s.external_id && not (is_filled v.functions)) (p, v) i f)
-    by (instance (label l p) v) f = no_some i f
-    by (instance (implementing l p) v) f = no_some i f
-    by (function n) f = no_some i f
-    by (declares d) f = no_some i f
+import_is s i e = search std_rules
 
 imports_are : (ss : List NumberedSeen) (is : List Placed) → AllZip (λ s i. imported_view s ≡ Some i) ss is → AllZip IsPlacedAs ss is
 imports_are [] [] all = tt
@@ -56,16 +49,7 @@ imports_are (s ∷ ss) [] all = absurd all
 imports_are (s ∷ ss) (i ∷ is) all = (import_is s i all.0, imports_are ss is all.1)
 
 export_is : (ss : List NumberedSeen) (e : Placed) → exported_view ss ≡ Some e → (s : NumberedSeen) × (ss ≡ s ∷ []) × IsPlacedAs s e
-export_is [] e h = no_some e h
-export_is (s ∷ r ∷ ss) e h = no_some e h
-export_is (s ∷ []) e h = (s, refl, by s.shown h)
-  where
-    by : (x : NumberedShown) → exported_view (record { key = s.key; shown = x; external_id = s.external_id } ∷ []) ≡ Some e → x ≡ instance (path e.0) e.1
-    by (instance (path p) v) f = ap (λ (z : Placed). instance (path z.0) z.1) (of_provided {A = Placed} (is_none s.external_id) (p, v) e f)
-    by (instance (label l p) v) f = no_some e f
-    by (instance (implementing l p) v) f = no_some e f
-    by (function n) f = no_some e f
-    by (declares d) f = no_some e f
+export_is y e h = search std_rules
 
 -- ---- the component type
 
@@ -84,19 +68,7 @@ pub record IsShownAs (t : Tables) (w : NumberedScope) (e : Placed) (is : List Pl
   pub reached : are_reached t is e.1 ≡ true
 
 pub shown_as : (t : Tables) (w : NumberedScope) (e : Placed) (is : List Placed) → shown_interface t w ≡ Some (e, is) → IsShownAs t w e is
-shown_as t w e is h = by (exported_view w.exports) refl (each imported_view w.imports) refl h
-  where
-    by : (a : Option Placed) → exported_view w.exports ≡ a → (b : Option (List Placed)) → each imported_view w.imports ≡ b
-        → (a >>= λ x. b >>= λ ys. provided (are_once (x.0 ∷ map (λ i. i.0) ys) && are_reached t ys x.1) (let z : Placed × List Placed = (x, ys) in z)) ≡ Some (e, is) → IsShownAs t w e is
-    by None f b g k = no_some {A = Placed × List Placed} (e, is) k
-    by (Some x) f None g k = no_some {A = Placed × List Placed} (e, is) k
-    by (Some x) f (Some ys) g k =
-        let pair : Placed × List Placed = (x, ys) in
-        let found = when_some (are_once (x.0 ∷ map (λ i. i.0) ys) && are_reached t ys x.1) (Some pair) (e, is) k in
-        let once = first_true (are_once (x.0 ∷ map (λ i. i.0) ys)) (are_reached t ys x.1) found.0 in
-        let reached = second_true (are_once (x.0 ∷ map (λ i. i.0) ys)) (are_reached t ys x.1) found.0 in
-        subst (λ (z : Placed × List Placed). IsShownAs t w z.0 z.1) (same-some {A = Placed × List Placed} pair (e, is) found.1)
-        (record { export_found = f; imports_found = g; once = once; reached = reached })
+shown_as t w e is h = search std_rules
 
 pub of_views : (t : Tables) (w : NumberedScope) (e : Placed) (is : List Placed) → shown_interface t w ≡ Some (e, is) → IsOfViews w e is
 of_views t w e is h =
@@ -123,9 +95,7 @@ module _ (t : Tables) (w : NumberedScope) (e : Placed) (is : List Placed) (of : 
 
   -- what the instance is seen as is the view
   seen_place : (i : NumberedInstance) (s : NumberedSeen) → IsSeenAs i s → (y : Placed) → IsPlacedAs s y → (y.0 ≡ i.place) × (y.1 ≡ i.view)
-  seen_place i s seen y placed =
-      let same = same_instance seen.key (path y.0) i.view y.1 (sym seen.shown ∙ placed) in
-      (ap place_of_key (sym same.0) ∙ seen.place, sym same.1)
+  seen_place i s seen y placed = search std_rules
 
   -- each instance that is seen is viewed
   pub seen_viewed : (i : NumberedInstance) → IsSeen w i → IsViewed views i

@@ -1,5 +1,5 @@
 -- The keys of inline interfaces, and of those that implement others, are labels.
-use Rattle.std.proofs.Common.{◌≡◌, ℕ, ◌⊎◌, inl, inr, ◌&&◌, ◌==◌, true, false, not, List, [], ◌∷◌, ◌++◌, length, Option, Some, None, is_some, slice_get, subst}
+use Rattle.std.proofs.Common.{rules as std_rules, arith, ◌≡◌, ℕ, ◌⊎◌, inl, inr, ◌&&◌, ◌==◌, true, false, not, List, [], ◌∷◌, ◌++◌, length, Option, Some, None, is_some, slice_get, subst}
 use Rattle.std.proofs.lemmas.Option.{same_Some as same-some}
 use Rattle.std.specs.List.{AllByRecursion, list_any}
 use Rattle.wit_model.specs.{Names.is_label, Text.Text, Tree.Place, Tree.Declaration, Meaning.Signature}
@@ -58,11 +58,7 @@ one_seen import_ s scope is h = record { imports = all_end (λ (y : Seen). HasLa
 one_seen export_ s scope is h = record { imports = h.imports; exports = all_end (λ (y : Seen). HasLabel y.shown) scope.exports s h.exports is }
 
 function_seen : (direction : Direction) (name : ExternName) (n : ℕ) (scope next : Scope) → see_function direction name n scope ≡ Some next → HaveLabels scope → HaveLabels next
-function_seen direction name n scope next e h =
-    let seen : Signature → Seen = λ f. record { key = name.text; shown = Shown.function f; external_id = name.external_id } in
-    let b = bind_some (function_in (slice_get scope.slots n)) (λ f. provided (is_simple name) (see direction (seen f) scope)) next e in
-    let w = when_some (is_simple name) (Some (see direction (seen b.0) scope)) next b.2 in
-    subst HaveLabels (same-some (see direction (seen b.0) scope) next w.1) (one_seen direction (seen b.0) scope tt h)
+function_seen direction name n scope next e h = search (std_rules, bind_some, when_some, same-some, one_seen)
 
 type_seen : (name : ExternName) (described : ComponentTypeRef) (scope next : Scope) → see_type name described scope ≡ Some next → HaveLabels scope → HaveLabels next
 type_seen name described scope next e h =
@@ -94,22 +90,15 @@ described_seen import_ name (refs.Component n) scope next e h = type_seen name (
 described_seen export_ name _ scope next e h = absurd cc
 
 step_seen : (scope next : Scope) (d : raw.Declaration) → component_step scope d ≡ Some next → HaveLabels scope → HaveLabels next
-step_seen scope next (raw.Declaration.defined d) e h =
-    let b = bind_some (definition scope.slots d) (λ t. Some (in_scope (Slot.value t) scope)) next e in
-    subst HaveLabels (same-some (in_scope (Slot.value b.0) scope) next b.2) (in_slot scope (Slot.value b.0) h)
-step_seen scope next (raw.Declaration.function f) e h =
-    let b = bind_some (function_signature scope.slots f) (λ s. Some (in_scope (Slot.function s) scope)) next e in
-    subst HaveLabels (same-some (in_scope (Slot.function b.0) scope) next b.2) (in_slot scope (Slot.function b.0) h)
-step_seen scope next (raw.Declaration.alias_of (Alias.of_export m name)) e h =
-    let b = bind_some (exported_slot name (slice_get scope.instances m)) (λ slot. Some (in_scope slot scope)) next e in
-    subst HaveLabels (same-some (in_scope b.0 scope) next b.2) (in_slot scope b.0 h)
+step_seen scope next (raw.Declaration.defined d) e h = search std_rules
+step_seen scope next (raw.Declaration.function f) e h = search std_rules
+step_seen scope next (raw.Declaration.alias_of (Alias.of_export m name)) e h = search std_rules
 step_seen scope next (raw.Declaration.alias_of (Alias.of_outer scopes n)) e h = absurd cc
 step_seen scope next (raw.Declaration.imported name described) e h = described_seen import_ name described scope next e h
 step_seen scope next (raw.Declaration.exported name described) e h = described_seen export_ name described scope next e h
 
 entry_seen : (scope next : Scope) (d : Entry) → entry_step scope d ≡ Some next → HaveLabels scope → HaveLabels next
-entry_seen scope next (plain d) e h = step_seen scope next d e h
-entry_seen scope next (holds ds) e h = subst HaveLabels (same-some (in_scope (Slot.instance ds (length scope.slots)) scope) next e) (in_slot scope (Slot.instance ds (length scope.slots)) h)
+entry_seen scope next x e h = grind (arith, step_seen, same-some, in_slot)
 
 pub entry_labels : (es : List Entry) (scope : Scope) → entry_scope es ≡ Some scope → HaveLabels scope
 entry_labels es scope e =

@@ -1,5 +1,5 @@
 -- What is exported at the top has labels, none twice.
-use Rattle.std.proofs.Common.{◌≡◌, refl, sym, ap, subst, ◌∙◌, ℕ, Bool, true, not, ◌&&◌, ◌==◌, List, [], ◌∷◌, ◌++◌, length, map, Option, Some, slice_get}
+use Rattle.std.proofs.Common.{rules as std_rules, ◌≡◌, refl, sym, ap, subst, ◌∙◌, ℕ, Bool, true, not, ◌&&◌, ◌==◌, List, [], ◌∷◌, ◌++◌, length, map, Option, Some, slice_get}
 use Rattle.std.proofs.lemmas.Option.{same_Some as same-some}
 use Rattle.std.specs.List.{AllByRecursion, AllZip, list_any}
 use Rattle.wit_model.specs.{Names.is_label, Text.Text}
@@ -30,21 +30,7 @@ part_keeps : (top next : Top) (p : PartType) → top_part top p ≡ Some next �
 part_keeps top next p e is = subst AreLabelled (same-some (record { types = top.types ++ p ∷ []; slots = top.slots ++ length top.types ∷ []; exported = top.exported }) next e) is
 
 export_keeps : (top next : Top) (y : TopExport) → top_export top y ≡ Some next → AreLabelled top → AreLabelled next
-export_keeps top next y e is = by (bind_some (slice_get top.slots y.type_index) (λ n. provided (test n) (more n)) next e)
-  where
-    test : ℕ → Bool
-    test n = is_bare y.exported_as && (is_label y.exported_as.text && not (list_any (λ x. x.1 == n) top.exported))
-
-    more : ℕ → Top
-    more n = record { types = top.types; slots = top.slots ++ n ∷ []; exported = top.exported ++ (y.exported_as.text, n) ∷ [] }
-
-    by : (n : ℕ) × (slice_get top.slots y.type_index ≡ Some n) × (provided (test n) (more n) ≡ Some next) → AreLabelled next
-    by found =
-        let n = found.0 in
-        let w = when_some (test n) (Some (more n)) next found.2 in
-        let label = first_true (is_label y.exported_as.text) (not (list_any (λ x. x.1 == n) top.exported))
-        (second_true (is_bare y.exported_as) (is_label y.exported_as.text && not (list_any (λ x. x.1 == n) top.exported)) w.0) in
-        subst AreLabelled (same-some (more n) next w.1) (one_more (λ (z : Text × ℕ). is_label z.0 ≡ true) top.exported (y.exported_as.text, n) is label)
+export_keeps top next y e is = search (std_rules, bind_some, when_some, first_true, second_true, same-some, one_more)
 
 piece_keeps : (top next : Top) (p : Piece) → top_piece top p ≡ Some next → AreLabelled top → AreLabelled next
 piece_keeps top next (levels.custom name contents) e is = subst AreLabelled (same-some top next e) is
@@ -65,10 +51,7 @@ same_labels : (top : Top) (ys : List (Text × ℕ)) (parts : List (Text × PartT
 same_labels top [] [] all = refl
 same_labels top [] (p ∷ parts) all = absurd all
 same_labels top (y ∷ ys) [] all = absurd all
-same_labels top (y ∷ ys) (p ∷ parts) all = λ i. one i ∷ same_labels top ys parts all.1 i
-  where
-    one : y.0 ≡ p.0
-    one = let found = bind_some (slice_get top.types y.1) (λ q. let z : Text × PartType = (y.0, q) in Some z) p all.0 in ap (λ (z : Text × PartType). z.0) (same-some (y.0, found.0) p found.2)
+same_labels top (y ∷ ys) (p ∷ parts) all = search (std_rules, bind_some, same-some, same_labels top ys parts all.1)
 
 labels_of : (ys : List (Text × ℕ)) → AllByRecursion (λ (y : Text × ℕ). is_label y.0 ≡ true) ys → AllByRecursion (λ (label : Text). is_label label ≡ true) (map (λ (y : Text × ℕ). y.0) ys)
 labels_of [] all = tt
@@ -101,10 +84,7 @@ scope_labels : (parts : List (Text × PartType)) (scopes : List (Text × PartSco
 scope_labels [] [] all = refl
 scope_labels [] (s ∷ scopes) all = absurd all
 scope_labels (y ∷ parts) [] all = absurd all
-scope_labels (y ∷ parts) (s ∷ scopes) all = λ i. one i ∷ scope_labels parts scopes all.1 i
-  where
-    one : y.0 ≡ s.0
-    one = let found = bind_some (part_scope y.1) (λ p. let z : Text × PartScope = (y.0, p) in Some z) s all.0 in ap (λ (z : Text × PartScope). z.0) (same-some (y.0, found.0) s found.2)
+scope_labels (y ∷ parts) (s ∷ scopes) all = search (std_rules, bind_some, same-some, scope_labels parts scopes all.1)
 
 module _ (t : Tables) where
   shown_labels : (fs : List FollowedMember) (scopes : List (Text × PartScope)) → AllZip (MemberShown t) fs scopes

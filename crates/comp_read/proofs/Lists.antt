@@ -1,5 +1,5 @@
 -- Lists that are looked through, and numbers that stand once.
-use Rattle.std.proofs.Common.{◌≡◌, refl, sym, ap, subst, ◌∙◌, ℕ, zero, suc, ◌+◌, ◌<◌, ◌⊎◌, inl, inr, arith, Bool, true, false, not, filter, List, [], ◌∷◌, ◌++◌, length, length-append, map, Some, None, slice_get}
+use Rattle.std.proofs.Common.{rules as std_rules, ◌≡◌, refl, sym, ap, subst, ◌∙◌, ℕ, zero, suc, ◌+◌, ◌<◌, ◌⊎◌, inl, inr, arith, Bool, true, false, not, filter, List, [], ◌∷◌, ◌++◌, length, length-append, map, Some, None, slice_get}
 use Rattle.std.proofs.lemmas.List.Elements.{Contains-append_cases, Contains-append_left, Contains-append_right, filter-append}
 use Rattle.std.proofs.lemmas.{Bool.and_from as both, Option.same_Some as same-some}
 use Rattle.std.specs.List.{AllByRecursion, AllZip, Contains, flat_map}
@@ -65,11 +65,7 @@ abbrev pub IsOnceAt : List ℕ → Type 0
 IsOnceAt ns = (i j n : ℕ) → slice_get ns i ≡ Some n → slice_get ns j ≡ Some n → i ≡ j
 
 absent : (ns : List ℕ) (n : ℕ) → (Contains ns n → ⊥) → has ns n ≡ false
-absent ns n none = by (has ns n) refl
-  where
-    by : (b : Bool) → has ns n ≡ b → has ns n ≡ false
-    by true e = absurd (none (has-contains ns n e))
-    by false e = e
+absent ns n none = search (std_rules, has-contains)
 
 pub once_given : (ns : List ℕ) → IsOnceAt ns → are_once ns ≡ true
 once_given [] once = refl

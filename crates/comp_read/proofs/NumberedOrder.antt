@@ -1,5 +1,5 @@
 -- Types are numbered in the order in which they are declared.
-use Rattle.std.proofs.Common.{◌≡◌, refl, sym, ap, subst, ◌∙◌, ℕ, zero, suc, ◌+◌, ◌-◌, ◌<◌, arith, cond, List, ◌∷◌, [], take, Option, Some, None, slice_get, unwrap_or, ◌≤◌, ◌⊎◌, inl, inr, true, ◌++◌, length, map, option_and_then, option_to_list}
+use Rattle.std.proofs.Common.{rules as std_rules, ◌≡◌, refl, sym, ap, subst, ◌∙◌, ℕ, zero, suc, ◌+◌, ◌-◌, ◌<◌, arith, cond, List, ◌∷◌, [], take, Option, Some, None, slice_get, unwrap_or, ◌≤◌, ◌⊎◌, inl, inr, true, ◌++◌, length, map, option_and_then, option_to_list}
 use Rattle.std.proofs.lemmas.{Bool.lt-ltb, Bool.cases_lt, Bool.le-ltb, List.Elements.Contains-append_left, List.Elements.Contains-append_right}
 use Rattle.std.proofs.lemmas.Option.{same_Some as same-some, slice_get_within as found_below}
 use Rattle.std.specs.{List.Contains, List.flat_map, List.AllZip, Option.option_map_or}
@@ -165,8 +165,7 @@ same_below (suc n) = ap (λ (ns : List ℕ). ns ++ n ∷ []) (same_below n)
 -- ---- types over names of interfaces with a path
 
 path_there : (o : Option Text) (name : Text) → is_pathed (Tree.named (place_of o) name) ≡ true → (path : Text) × (o ≡ Some path)
-path_there None name e = absurd cc
-path_there (Some path) name e = (path, refl)
+path_there x name e = search std_rules
 
 pathed_child : (ts : List Tree) (t : Tree) → are_pathed (children ts) ≡ true → Contains ts t → is_pathed t ≡ true
 pathed_child [] t e c = none-in t c
@@ -176,9 +175,7 @@ pathed_child (u ∷ ts) t e (suc i, low, same) = pathed_child ts t (second_true 
 module _ (t : Tables) (tables : AreTables t) where
   -- the tree of a number of the table
   tree_there : (n : ℕ) (s : Shape) → slice_get t.shapes n ≡ Some s → tree_at t (14 + n) ≡ shape_tree (place_at t) (shape_trees (place_at t) t.shapes) s
-  tree_there n s e =
-      part_behind (shape_trees (place_at t) t.shapes) n
-      ∙ ap (λ o. unwrap_or o no_tree) (tree_at_number (place_at t) t.shapes tables.shapes n s e)
+  tree_there n s e = search (std_rules, part_behind, unwrap_or, tree_at_number)
 
   pathed_outside : (k : ℕ) → is_pathed (tree_at t k) ≡ true → IsOutside t k
   pathed_outside k pathed p (itself _ n _ name is at) =
@@ -191,29 +188,15 @@ module _ (t : Tables) (tables : AreTables t) where
       pathed_outside m (pathed_child (map (part_tree trees) parts) (tree_at t m) (sym (ap is_pathed whole) ∙ pathed) (contains-map (part_tree trees) parts m among)) p deeper
 
   same_place : (o u : Option Text) (x y : Text) → o ≡ Some x → u ≡ Some y → place_of o ≡ place_of u → o ≡ u
-  same_place o u x y eo eu h =
-      let places : Place.of_interface x ≡ Place.of_interface y = sym (ap place_of eo) ∙ (h ∙ ap place_of eu) in
-      let texts : x ≡ y = cc in
-      eo ∙ (ap Some texts ∙ sym eu)
+  same_place o u x y eo eu h = search std_rules
 
   -- such a type stands once
   pathed_once : (a b : ℕ) → a < 14 + length t.shapes → b < 14 + length t.shapes → tree_at t a ≡ tree_at t b → is_pathed (tree_at t b) ≡ true → a ≡ b
-  pathed_once a b low high same pathed =
-      one_number_apart (place_at t) t.shapes tables.shapes a b low high
-      (λ p q p_in q_in e.
-      let x = pathed_outside a (ap is_pathed same ∙ pathed) p p_in in
-      let y = pathed_outside b pathed q q_in in
-      tables.paths p q y.0 (same_place (path_at t p) (path_at t q) x.0 y.0 x.1 y.1 e ∙ y.1) y.1) same
+  pathed_once a b low high same pathed = search (std_rules, one_number_apart, pathed_outside, same_place)
 
   -- two types of one scope stand apart
   pub met_apart : (h a b : ℕ) → IsMetPart t h a → IsMetPart t h b → AreApart (place_at t) t.shapes a b
-  met_apart h a b over_a over_b p q p_in q_in e = elim (over_a.1 p p_in) [
-    | inl own_p ↦ own_p ∙ sym ((met_parts_are_seen t tables h b over_b).0 q q_in (sym e ∙ ap (place_at t) own_p))
-    | inr p_path ↦ elim (over_b.1 q q_in) [
-      | inl own_q ↦ (met_parts_are_seen t tables h a over_a).0 p p_in (e ∙ ap (place_at t) own_q) ∙ sym own_q
-      | inr q_path ↦ tables.paths p q q_path.0 (same_place (path_at t p) (path_at t q) p_path.0 q_path.0 p_path.1 q_path.1 e ∙ q_path.1) q_path.1
-    ]
-  ]
+  met_apart h a b over_a over_b p q p_in q_in e = search std_rules
 
   -- ---- the numbers of parts that are kept
 

@@ -1,5 +1,5 @@
 -- Numbers, each once, where it stands first.
-use Rattle.std.proofs.Common.{◌≡◌, refl, sym, ap, ◌∙◌, ℕ, Bool, true, false, not, ◌||◌, ◌==◌, cond, List, [], ◌∷◌, ◌++◌, map, append-nil}
+use Rattle.std.proofs.Common.{rules as std_rules, ◌≡◌, refl, sym, ap, ◌∙◌, ℕ, Bool, true, false, not, ◌||◌, ◌==◌, cond, List, [], ◌∷◌, ◌++◌, map, append-nil}
 use Rattle.std.proofs.lemmas.{Bool.eq-eqb, Bool.eqb-true, List.map-append, List.Elements.filter-append}
 use Rattle.std.specs.List.{filter}
 use Rattle.wit_model.specs.Uses.{has, once}
@@ -8,24 +8,7 @@ use Rattle.wit_model.proofs.Chains.{has_once}
 -- one more stands behind the others, unless it is there
 pub once_more : (xs : List ℕ) (x : ℕ) → once (xs ++ x ∷ []) ≡ cond (has xs x) (once xs) (once xs ++ x ∷ [])
 once_more [] x = refl
-once_more (y ∷ xs) x = ap (λ zs. y ∷ filter others zs) (once_more xs x) ∙ by (y == x) (has xs x) refl
-  where
-    others : ℕ → Bool
-    others m = not (m == y)
-
-    last : (b : Bool) → (y == x) ≡ b → filter others (x ∷ []) ≡ cond b [] (x ∷ [])
-    last true e = ap (λ c. cond (not c) (x ∷ []) []) (eq-eqb x y (sym (eqb-true y x e)))
-    last false e = ap (λ c. cond (not c) (x ∷ []) []) (differ (x == y) refl)
-      where
-        differ : (c : Bool) → (x == y) ≡ c → (x == y) ≡ false
-        differ false d = d
-        differ true d = let wrong : true ≡ false = sym (eq-eqb y x (sym (eqb-true x y d))) ∙ e in absurd cc
-
-    by : (b c : Bool) → (y == x) ≡ b → y ∷ filter others (cond c (once xs) (once xs ++ x ∷ [])) ≡ cond (b || c) (y ∷ filter others (once xs)) ((y ∷ filter others (once xs)) ++ x ∷ [])
-    by true true e = refl
-    by false true e = refl
-    by true false e = ap (λ zs. y ∷ zs) (filter-append others (once xs) (x ∷ []) ∙ (ap (λ zs. filter others (once xs) ++ zs) (last true e) ∙ append-nil (filter others (once xs))))
-    by false false e = ap (λ zs. y ∷ zs) (filter-append others (once xs) (x ∷ []) ∙ ap (λ zs. filter others (once xs) ++ zs) (last false e))
+once_more (y ∷ xs) x = search (std_rules, eq-eqb, eqb-true, filter-append, append-nil, once_more xs x)
 
 -- those that pass a test, behind which one more stands
 module _ {A : Type 0} (P : ℕ → Bool) (f : A → ℕ) (xs : List A) (x : A) where

@@ -1,5 +1,5 @@
 -- The interfaces of a world's package that it shows, as they are meant: each is shown as the world shows it.
-use Rattle.std.proofs.Common.{◌≡◌, refl, sym, ap, subst, ◌∙◌, ℕ, zero, suc, ◌+◌, ◌≤◌, ◌⊎◌, inl, inr, arith, Bool, List, [], ◌∷◌, ◌++◌, map, length, Some, slice_get}
+use Rattle.std.proofs.Common.{rules as std_rules, ◌≡◌, refl, sym, ap, subst, ◌∙◌, ℕ, zero, suc, ◌+◌, ◌≤◌, ◌⊎◌, inl, inr, arith, Bool, List, [], ◌∷◌, ◌++◌, map, length, Some, slice_get}
 use Rattle.std.proofs.lemmas.Option.{slice_get_within, same_Some as same-some}
 use Rattle.std.specs.List.{AllZip, Contains}
 use Rattle.wit_model.specs.{Names.PackageIdentity, Names.path_in, Text.Text, Tree.Place}
@@ -37,10 +37,7 @@ module _ (t : Tables) (tables : AreTables t) (h : Homes) (stand : HomesStand t h
   trees = map (own_tree t identity) ms
 
   own_shows : (k : NumberedMember) → Contains ms k → ShowsPart t h k k.part (tree_of_part t k.part)
-  own_shows k c =
-      let is = own_at t h n w ms are k c in
-      subst (λ (a : NumberedPart). ShowsPart t h k a (tree_of_part t a)) (sym is.part)
-      (record { path = is.path; home = is.home ∙ ap (λ (x : ℕ). Some (x, k.label)) (sym is.package_); shown = refl; imported = refl })
+  own_shows k c = search (std_rules, own_at t h n w ms are k c)
 
   pub own_members : AllZip (IsMember t h) ms trees
   own_members =

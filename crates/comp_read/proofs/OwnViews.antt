@@ -1,5 +1,5 @@
 -- The interfaces of a world's package that it shows: each is seen by a view of the world.
-use Rattle.std.proofs.Common.{◌≡◌, refl, sym, ap, subst, ◌∙◌, ℕ, zero, suc, ◌+◌, ◌<◌, ◌≤◌, ◌⊎◌, inl, inr, arith, Bool, true, false, not, ◌||◌, ◌==◌, cond, List, [], ◌∷◌, ◌++◌, map, take, drop, length, get_or, if◌then◌else◌, Option, Some, Result, Ok, Err, OnOk, None}
+use Rattle.std.proofs.Common.{rules as std_rules, ◌≡◌, refl, sym, ap, subst, ◌∙◌, ℕ, zero, suc, ◌+◌, ◌<◌, ◌≤◌, ◌⊎◌, inl, inr, arith, Bool, true, false, not, ◌||◌, ◌==◌, cond, List, [], ◌∷◌, ◌++◌, map, take, drop, length, get_or, if◌then◌else◌, Option, Some, Result, Ok, Err, OnOk, None}
 use Rattle.std.proofs.lemmas.{Bool.eq-eqb, Bool.eqb-true, Bool.and_from as both, Map.Keys.any_passes_from_place as get_any}
 use Rattle.std.proofs.lemmas.List.Elements.{Contains-append_cases, Contains-append_left, Contains-append_right}
 use Rattle.std.proofs.ByRecursion.{All-weaker as recursion_weaker}
@@ -52,16 +52,8 @@ flat_more f (z ∷ xs) x y e = ap (λ ys. f z ++ ys) (flat_more f xs x y e) ∙ 
 
 -- a number that isn't there stands once behind the others
 has_behind : (ps : List ℕ) (p q : ℕ) → has (ps ++ p ∷ []) q ≡ (has ps q || (p == q))
-has_behind [] p q = or_false (p == q)
-  where
-    or_false : (b : Bool) → (b || false) ≡ b
-    or_false true = refl
-    or_false false = refl
-has_behind (r ∷ ps) p q = by (r == q) (has_behind ps p q)
-  where
-    by : (b : Bool) → has (ps ++ p ∷ []) q ≡ (has ps q || (p == q)) → (b || has (ps ++ p ∷ []) q) ≡ ((b || has ps q) || (p == q))
-    by true e = refl
-    by false e = e
+has_behind [] p q = search std_rules
+has_behind (r ∷ ps) p q = search (std_rules, has_behind ps p q)
 
 once_behind : (ps : List ℕ) (p : ℕ) → are_once ps ≡ true → has ps p ≡ false → are_once (ps ++ p ∷ []) ≡ true
 once_behind [] p once none = refl
@@ -139,8 +131,7 @@ pub record IsGathered (h : Homes) (n : ℕ) (seen done : List NumberedSight) (pl
   pub order : places ≡ own_places h n done
 
 pub none_gathered : (h : Homes) (n : ℕ) (seen : List NumberedSight) (places : List ℕ) → places ≡ [] → (ms : List NumberedMember) → ms ≡ [] → IsGathered h n seen [] places ms
-none_gathered h n seen places e ms none =
-    subst (IsGathered h n seen [] places) (sym none) (record { each = tt; of = sym e; all = λ s c is. none-in s c; once = ap are_once e; order = e })
+none_gathered h n seen places e ms none = search std_rules
 
 home_is_of : (h : Homes) (n p : ℕ) (label : Text) → home_at h p ≡ Some (n, label) → is_of_package h n p ≡ true
 home_is_of h n p label e = ap (λ o. option_map_or (λ (x : ℕ × Text). x.0 == n) o false) e ∙ same-number n
@@ -225,8 +216,7 @@ module _ (h : Homes) (n : ℕ) (done rest : List NumberedSight) (s : NumberedSig
 
 module _ (h : Homes) (n : ℕ) (seen : List NumberedSight) (places : List ℕ) (ms : List NumberedMember) (g : IsGathered h n seen seen places ms) where
   part_is : (q : ℕ) (a : NumberedPart) → Contains (place_of_part a) q → is_interface_of q a ≡ true
-  part_is q (world w) c = none-in q c
-  part_is q (interface p v imports) c = eq-eqb q p (sym (one-contained p q c))
+  part_is q x c = search std_rules
 
   any_of_place : (q : ℕ) → has places q ≡ true → list_any (λ (m : NumberedMember). is_interface_of q m.part) ms ≡ true
   any_of_place q e =

@@ -1,5 +1,5 @@
 -- Packages are numbered in the order in which what was followed shows them.
-use Rattle.std.proofs.Common.{◌≡◌, refl, sym, ap, subst, ◌∙◌, ℕ, zero, suc, ◌<◌, ◌⊎◌, inl, inr, arith, Bool, true, false, not, ◌==◌, cond, List, [], ◌∷◌, ◌++◌, length, map, Option, Some, None, option_map, option_to_list, slice_get, unwrap_or}
+use Rattle.std.proofs.Common.{rules as std_rules, ◌≡◌, refl, sym, ap, subst, ◌∙◌, ℕ, zero, suc, ◌<◌, ◌⊎◌, inl, inr, arith, Bool, true, false, not, ◌==◌, cond, List, [], ◌∷◌, ◌++◌, length, map, Option, Some, None, option_map, option_to_list, slice_get, unwrap_or}
 use Rattle.std.proofs.lemmas.{Bool.eq-eqb, List.Elements.Contains-append_cases, List.Elements.Contains-append_left, List.Elements.Contains-append_right}
 use Rattle.std.proofs.lemmas.Option.{slice_get_within as found_below}
 use Rattle.std.specs.List.{Contains, filter, flat_map}
@@ -60,17 +60,7 @@ module _ (packages : List PackageIdentity) (apart : (m n : ℕ) (identity : Pack
 
   -- they are told apart by their numbers
   one_number : (m n : ℕ) → m < many → n < many → same_identity (named n) (named m) ≡ (m == n)
-  one_number m n low below = by (same_identity (named n) (named m)) refl
-    where
-      by : (b : Bool) → same_identity (named n) (named m) ≡ b → b ≡ (m == n)
-      by true e =
-          let same : named n ≡ named m = (identities_decide (named n) (named m)).0 e in
-          let one : m ≡ n = apart m n (named m) (there m low) (there n below ∙ ap Some same) in
-          sym (eq-eqb m n one)
-      by false e = sym (unequal m n (λ one. differ e ((identities_decide (named n) (named m)).1 (ap named (sym one)))))
-        where
-          differ : {b : Bool} → b ≡ false → b ≡ true → ⊥
-          differ f t = let wrong : false ≡ true = sym f ∙ t in cc
+  one_number m n low below = search (std_rules, identities_decide, there, eq-eqb, unequal)
 
   others : (n : ℕ) → n < many → (ms : List ℕ) → ((m : ℕ) → Contains ms m → m < many) → filter (λ q. not (same_identity (named n) q)) (map named ms) ≡ map named (filter (λ m. not (m == n)) ms)
   others n below [] all = refl
@@ -99,10 +89,7 @@ module _ (packages : List PackageIdentity) (apart : (m n : ℕ) (identity : Pack
       ∙ ap (λ qs. named n ∷ qs) (others n (all n (first-contained n ns)) (once ns) (once_inside ns inside))
 
   all_named : map named (below many) ≡ packages
-  all_named = same_items (map named (below many)) packages (length_of_map named (below many) ∙ below_long many) (λ n x at.
-      let from = get_back named (below many) n x at in
-      let is = below_at many n from.0 from.1 in
-      subst (λ (m : ℕ). slice_get packages m ≡ Some x) is.0 (there from.0 is.1 ∙ ap Some from.2))
+  all_named = search (std_rules, same_items, below, length_of_map, below_long, get_back, below_at, there)
 
 -- ---- what was followed
 
@@ -156,12 +143,10 @@ module _ (pieces : List Piece) (x : Followed) (h : Homes) (ms : List Member) (me
       by None f = let wrong : ◌≡◌ {A = Option Home} None (Some y) = sym (homeless homes.0 t.paths h.homes homes.1 q f) ∙ e in absurd cc
 
   home_there : (o : Option (Option Home)) (y : Home) → unwrap_or o None ≡ Some y → o ≡ Some (Some y)
-  home_there None y e = absurd cc
-  home_there (Some z) y e = ap Some e
+  home_there x y e = search std_rules
 
   number_of_home : (o : Option Home) (d : ℕ) → Contains (package_number o) d → (y : Home) × (o ≡ Some y) × (y.0 ≡ d)
-  number_of_home None d c = none-in d c
-  number_of_home (Some y) d c = (y, refl, last_of y.0 d c)
+  number_of_home x d c = search std_rules
 
   at_home : (q : ℕ) (y : Home) → home_at h q ≡ Some y → Contains (package_at q) y.0
   at_home q y e = subst (λ (o : Option Home). Contains (package_number o) y.0) (sym e) (first-contained y.0 [])
@@ -258,10 +243,7 @@ module _ (pieces : List Piece) (x : Followed) (h : Homes) (ms : List Member) (me
   paths_named (q ∷ qs) = (λ i. path_named q i ++ paths_named qs i) ∙ sym (append_of_map name (package_at q) (flat_map package_at qs))
 
   members_named : map (λ (y : reads.Member). y.package_) members ≡ map name of_members
-  members_named =
-      zip_map (IsMember t h) (λ (m : NumberedMember). name m.package_) (λ (y : reads.Member). y.package_) (λ m y is. sym (ap (λ (o : Option PackageIdentity). unwrap_or o nobody) is.package_)) nms
-      members input.shown
-      ∙ sym (map_of_map name (λ (m : NumberedMember). m.package_) nms)
+  members_named = search (std_rules, zip_map, unwrap_or, nobody, map_of_map)
 
   shown_named : flat_map package_of_path (flat_map shown_under members) ++ map (λ (y : reads.Member). y.package_) members ≡ map name (of_places ++ of_members)
   shown_named =
@@ -277,14 +259,7 @@ module _ (pieces : List Piece) (x : Followed) (h : Homes) (ms : List Member) (me
 
 planned_identities : (t : Tables) (packages : List PackageIdentity) (homes : ℕ → Option Home) (n : ℕ) (ms : List Member) (p : Plan) → PlansWhole t packages homes n ms p
     → map (λ (k : PlannedPackage). k.identity) p.packages ≡ packages
-planned_identities t packages homes n ms p planned =
-    same_items (map (λ (k : PlannedPackage). k.identity) p.packages) packages (length_of_map (λ (k : PlannedPackage). k.identity) p.packages ∙ planned.packages.many) (λ c y at.
-    let k = get_back (λ (z : PlannedPackage). z.identity) p.packages c y at in
-    by c k.0 y k.2 (planned.packages.each c k.0 k.1))
-  where
-    by : (c : ℕ) (k : PlannedPackage) (y : PackageIdentity) → k.identity ≡ y → PlansPackage packages n (places_in ms) ms (entries_from homes c 0 (places_in ms)) c k → slice_get packages c ≡ Some y
-    by c k y same (the_main identity number there is) = there ∙ ap Some (sym is.is ∙ same)
-    by c k y same (another identity differ there is) = there ∙ ap Some (sym is.is ∙ same)
+planned_identities t packages homes n ms p planned = search (std_rules, same_items, length_of_map, get_back, there)
 
 pub built_identities : (t : Tables) (packages : List PackageIdentity) (homes : ℕ → Option Home) (n : ℕ) (ms : List Member) (p : Plan) → PlansWhole t packages homes n ms p → (r : Resolve) → IsBuilt p r
     → map (λ k. identity_of k.name) r.packages.items ≡ packages

@@ -1,5 +1,5 @@
 -- Each world and each inline interface has a place of its own.
-use Rattle.std.proofs.Common.{◌≡◌, refl, sym, ap, subst, ◌∙◌, ℕ, zero, suc, ◌+◌, ◌⊎◌, inl, inr, arith, Bool, true, false, filter, if◌then◌else◌, List, [], ◌∷◌, ◌++◌, length, length-append, map, Option, Some, None, is_none, slice_get}
+use Rattle.std.proofs.Common.{rules as std_rules, ◌≡◌, refl, sym, ap, subst, ◌∙◌, ℕ, zero, suc, ◌+◌, ◌⊎◌, inl, inr, arith, Bool, true, false, filter, if◌then◌else◌, List, [], ◌∷◌, ◌++◌, length, length-append, map, Option, Some, None, is_none, slice_get}
 use Rattle.std.proofs.lemmas.List.Elements.{Contains-append_cases, Contains-append_left, Contains-append_right, filter-append}
 use Rattle.std.proofs.ByRecursion.{All-weaker as recursion_weaker}
 use Rattle.std.specs.List.{AllByRecursion, Contains, flat_map}
@@ -33,8 +33,7 @@ use Rattle.read_exports.specs.declared.members.Part.TheVariants as parts
 use Rattle.read_rules.specs.declared.scopes.Shown.TheVariants as shown
 
 pub no_place : (o : Option Text) → is_none o ≡ true → o ≡ None
-no_place None e = refl
-no_place (Some path) e = let wrong : false ≡ true = e in absurd cc
+no_place x e = search std_rules
 
 module _ (t : Tables) where
   -- instances without a path, whose places differ
@@ -57,16 +56,10 @@ module _ (t : Tables) where
 
   -- the same names
   same_names : (home : ℕ) (c : Seen) → DeclaresName t home c → NamesSeen t home c
-  same_names home c = by c.shown
-    where
-      by : (s : Shown) → DeclaresName t home (record { key = c.key; shown = s; external_id = c.external_id }) → NamesSeen t home (record { key = c.key; shown = s; external_id = c.external_id })
-      by (shown.Instance k v) is = tt
-      by (shown.Function n) is = tt
-      by (shown.Declares part d) is = is
+  same_names home c = search std_rules
 
   part_names : (a : Part) → PartDeclaresNames t a → PartNames t a
-  part_names (parts.World w) is = recursion_weaker (DeclaresName t w.home) (NamesSeen t w.home) (same_names w.home) w.imports.now is
-  part_names (parts.Interface p v imports) is = tt
+  part_names x is = search std_rules
 
 module _ (pieces : List Piece) (x : Followed) (h : Homes) (ms : List Member) (members : List reads.Member) (input : IsReadInput pieces x h ms members) where
   abbrev t : Tables

@@ -1,5 +1,5 @@
 -- What is built of a plan stands in the order of what was followed.
-use Rattle.std.proofs.Common.{◌≡◌, refl, sym, ap, ◌∙◌, ℕ, zero, suc, arith, Bool, true, false, not, ◌&&◌, ◌==◌, cond, List, [], ◌∷◌, ◌++◌, map, Option, Some, None, is_none, subst, nat_lt, slice_get, option_map, append-nil}
+use Rattle.std.proofs.Common.{rules as std_rules, ◌≡◌, refl, sym, ap, ◌∙◌, ℕ, zero, suc, arith, Bool, true, false, not, ◌&&◌, ◌==◌, cond, List, [], ◌∷◌, ◌++◌, map, Option, Some, None, is_none, subst, nat_lt, slice_get, option_map, append-nil}
 use Rattle.std.proofs.lemmas.{Bool.and_from as both, Bool.eqb-true, Bool.not-true, Grind.flat_map-append, Option.slice_get-map, Option.same_Some as same-some}
 use Rattle.std.specs.List.{AllByRecursion, AllZip, Contains, filter, flat_map, list_all}
 use Rattle.wit_model.specs.{Text.Text, Text.text_of, Uses.has, Uses.once}
@@ -52,14 +52,7 @@ flat_each f g same xs = λ i. flat_map (λ x. same x i) xs
 -- a number that gives nothing may be left out
 left_out : {C : Type 0} (g : ℕ → List C) (n : ℕ) → g n ≡ [] → (ns : List ℕ) → flat_map g (filter (λ m. not (m == n)) ns) ≡ flat_map g ns
 left_out g n none [] = refl
-left_out g n none (m ∷ ms) = by (m == n) refl (left_out g n none ms)
-  where
-    others : List ℕ
-    others = filter (λ k. not (k == n)) ms
-
-    by : (b : Bool) → (m == n) ≡ b → flat_map g others ≡ flat_map g ms → flat_map g (cond (not b) (m ∷ others) others) ≡ g m ++ flat_map g ms
-    by true e rest = rest ∙ sym (ap (λ xs. xs ++ flat_map g ms) (ap g (eqb-true m n e) ∙ none))
-    by false e rest = ap (λ xs. g m ++ xs) rest
+left_out g n none (m ∷ ms) = search (std_rules, eqb-true, left_out g n none ms)
 
 -- ---- views
 
@@ -315,21 +308,14 @@ module _ (t : Tables) (h : Homes) (known : ℕ → Fact) (n : ℕ) (ms : List Me
 part_worlds : (t : Tables) (h : Homes) (m : NumberedMember) (x : reads.Member) → x.label ≡ m.label → (label : Text) → label ≡ m.label → (a : Part) (b : reads.Part)
     → ShowsPart t h m (numbered_part a) b
     → map (λ w. w.0) (world_in_part label a) ≡ map (λ w. w.0) (reads.worlds_of (record { label = x.label; package_ = x.package_; part = b }))
-part_worlds t h m x under label same (parts.World w) (reads.Part.world scope) is = λ i. (same ∙ sym under) i ∷ []
-part_worlds t h m x under label same (parts.Interface p v imports) (reads.Part.interface view views) is = refl
-part_worlds t h m x under label same (parts.World w) (reads.Part.interface view views) is = absurd is
-part_worlds t h m x under label same (parts.Interface p v imports) (reads.Part.world scope) is = absurd is
+part_worlds t h m x under label same y z is = search std_rules
 
 pub worlds_meant : (t : Tables) (h : Homes) (ms : List Member) (members : List reads.Member) → AllZip (IsMember t h) (numbered_members ms) members
     → map (λ w. w.0) (worlds_in ms) ≡ worlds_shown members
 worlds_meant t h [] [] zip = refl
 worlds_meant t h [] (x ∷ xs) zip = absurd zip
 worlds_meant t h (m ∷ ms) [] zip = absurd zip
-worlds_meant t h (m ∷ ms) (x ∷ xs) zip =
-    map_append (λ w. w.0) (world_in_part m.label.now m.part) (worlds_in ms)
-    ∙ ((λ i. part_worlds t h (record { label = m.label.now; package_ = m.package_number; part = numbered_part m.part }) x zip.0.label m.label.now refl m.part x.part zip.0.part i ++ worlds_meant t h
-    ms xs zip.1 i)
-    ∙ sym (map_append (λ w. w.0) (reads.worlds_of x) (flat_map reads.worlds_of xs)))
+worlds_meant t h (m ∷ ms) (x ∷ xs) zip = search (std_rules, map_append, part_worlds, worlds_meant t h ms xs zip.1)
 
 -- ---- what is built
 
@@ -345,9 +331,7 @@ module _ (p : Plan) (r : Resolve) (built : IsBuilt p r) where
   path_built i = ap (λ (q : Plan). path_of_planned q (planned_interface i)) is_plan ∙ path_of_planned_is r p.main i
 
   pub paths_built : map (path_of_interface r) r.interfaces.items ≡ map (path_of_planned p) p.interfaces
-  paths_built =
-      map_each (path_of_interface r) (λ i. path_of_planned p (planned_interface i)) (λ i. sym (path_built i)) r.interfaces.items
-      ∙ (sym (map_of_map (path_of_planned p) planned_interface r.interfaces.items) ∙ ap (map (path_of_planned p)) built.interfaces)
+  paths_built = search (std_rules, map_each, path_built, map_of_map)
 
   pub built_at : (k : ℕ) (i : Interface) → interface_at r k ≡ Some i → slice_get p.interfaces k ≡ Some (planned_interface i)
   built_at k i at = ap (λ ks. slice_get ks k) (sym built.interfaces) ∙ (slice_get-map planned_interface r.interfaces.items k ∙ ap (option_map planned_interface) at)
@@ -452,9 +436,7 @@ module _ (t : Tables) (h : Homes) (known : ℕ → Fact) (n : ℕ) (m : Member) 
       ∙ members_inline t h (numbered_members (m ∷ [])) ones zip (numbers, tt)))
 
   one_label : map (λ (v : Text × Scope). v.0) (worlds_in (m ∷ own)) ≡ worlds_shown ones
-  one_label =
-      ap (map (λ (v : Text × Scope). v.0)) (one_world t h n m own w is own_are)
-      ∙ (sym (ap (λ a. map (λ (v : Text × Scope). v.0) (world_in_part m.label.now a ++ [])) is) ∙ worlds_meant t h (m ∷ []) ones zip)
+  one_label = search (std_rules, one_world t h n m own w is own_are, worlds_meant t h (m ∷ []) ones zip)
 
   pub world_follows : h.packages ≡ packages_shown ones → (p : Plan) → PlansWhole t h.packages (home_at h) n (m ∷ own) p → (r : Resolve) → IsBuilt p r → TypesRise r → FollowsParts ones r
   world_follows packages p planned r built types = record {

@@ -1,5 +1,5 @@
 -- The package of members that were read of what was followed.
-use Rattle.std.proofs.Common.{◌≡◌, sym, ap, subst, ◌∙◌, ℕ, true, false, List, [], ◌∷◌, map, Option, Some, None, slice_get}
+use Rattle.std.proofs.Common.{rules as std_rules, ◌≡◌, sym, ap, subst, ◌∙◌, ℕ, true, false, List, [], ◌∷◌, map, Option, Some, None, slice_get}
 use Rattle.std.specs.{Borrow.Bor, List.AllZip}
 use Rattle.wit_model.specs.Names.{PackageIdentity}
 use Rattle.comp_bytes.specs.Levels.{Piece}
@@ -67,8 +67,7 @@ module _ (x : Followed) (t : Tables) (facts : List KeptFact) (h : Homes) (ms : L
   over_followed P is = subst P read.tables is
 
   none_decided : (u : Tables) (ks : List NumberedMember) → ArePackageDecided pieces u h (known_by facts) ks → are_one_package u h (known_by facts) ks ≡ false → package_of_pieces pieces ≡ None
-  none_decided u [] d e = d
-  none_decided u (k ∷ ks) d e = d.decided ∙ ap (λ b. provided b (package_shown d.identity d.members)) e
+  none_decided u x d e = search std_rules
 
   pub no_package : are_one_package t h (known_by facts) (numbered_members ms) ≡ false → package_of_pieces pieces ≡ None
   no_package none =
@@ -102,9 +101,7 @@ module _ (x : Followed) (t : Tables) (tables : t ≡ tables_of x) (facts : List 
   }
 
   pub are_read_of : (again : Given) → again ≡ homes → (those : List ReadMember) → those ≡ rs → AreReadOf x t facts (homes_in packages again) (map read_member those)
-  are_read_of again again_is those those_are =
-      subst (λ (hs : Given). AreReadOf x t facts (homes_in packages hs) (map read_member those)) (sym again_is)
-      (subst (λ (ks : List ReadMember). AreReadOf x t facts (homes_in packages homes) (map read_member ks)) (sym those_are) read_here)
+  are_read_of again again_is those those_are = search (std_rules, read_here)
 
 -- ---- the package that is looked for
 

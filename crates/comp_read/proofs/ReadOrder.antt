@@ -1,5 +1,5 @@
 -- What is decoded stands in the order in which the bytes show it.
-use Rattle.std.proofs.Common.{◌≡◌, refl, sym, ap, subst, ◌∙◌, ℕ, arith, Bool, true, false, cond, List, [], ◌∷◌, ◌++◌, map, Option, Some, None, is_none, slice_get, ◌+◌, ◌<◌, append-nil, length, IfOk, Result, Ok, Err}
+use Rattle.std.proofs.Common.{rules as std_rules, ◌≡◌, refl, sym, ap, subst, ◌∙◌, ℕ, arith, Bool, true, false, cond, List, [], ◌∷◌, ◌++◌, map, Option, Some, None, is_none, slice_get, ◌+◌, ◌<◌, append-nil, length, IfOk, Result, Ok, Err}
 use Rattle.std.proofs.lemmas.List.Elements.{filter-append}
 use Rattle.std.specs.List.{AllByRecursion, Contains, filter, flat_map, AllZip}
 use Rattle.wit_model.specs.{Text.Text, Meaning.PackageMeaning, Meaning.WorldPackage}
@@ -68,8 +68,7 @@ module _ (t : Tables) where
 
   part_has : (a : NumberedPart) → IsPartIn t a → HavePaths t a
   part_has (world w) is = tt
-  part_has (interface p v imports) is =
-      filter-append (has_no_path t) (map (λ (i : ℕ × NumberedView). i.0) imports) (p ∷ []) ∙ (λ j. imports_have imports is.1 j ++ passed_over p [] is.0.0 j)
+  part_has (interface p v imports) is = search (std_rules, filter-append, imports_have, passed_over)
 
   -- so it is where each type that is shown is a name of its place
   pub all_have : (ms : List NumberedMember) → AllByRecursion (λ (m : NumberedMember). IsPartIn t m.part) ms → AllByRecursion (λ (m : NumberedMember). HavePaths t m.part) ms
@@ -78,13 +77,7 @@ module _ (t : Tables) where
 
   scope_left : (is : List NumberedInstance) → filter (has_no_path t) (map (λ (i : NumberedInstance). i.place) is) ≡ map (λ (i : NumberedInstance). i.place) (filter (no_path t) is)
   scope_left [] = refl
-  scope_left (i ∷ is) = by (has_no_path t i.place) (scope_left is)
-    where
-      by : (b : Bool) → filter (has_no_path t) (map (λ (j : NumberedInstance). j.place) is) ≡ map (λ (j : NumberedInstance). j.place) (filter (no_path t) is)
-          → cond b (i.place ∷ filter (has_no_path t) (map (λ (j : NumberedInstance). j.place) is)) (filter (has_no_path t) (map (λ (j : NumberedInstance). j.place) is))
-          ≡ map (λ (j : NumberedInstance). j.place) (cond b (i ∷ filter (no_path t) is) (filter (no_path t) is))
-      by true rest = ap (λ qs. i.place ∷ qs) rest
-      by false rest = rest
+  scope_left (i ∷ is) = search (std_rules, no_path, scope_left is)
 
 module _ (pieces : List Piece) (x : Followed) (h : Homes) (ms : List Member) (members : List reads.Member) (input : IsReadInput pieces x h ms members)
     (have : AllByRecursion (λ (m : NumberedMember). HavePaths (tables_of x) m.part) (numbered_members ms)) where
@@ -165,8 +158,7 @@ module _ (pieces : List Piece) (x : Followed) (h : Homes) (ms : List Member) (me
 -- what is exported was read of the sections
 exported : (pieces : List Piece) (x : Followed) (h : Homes) (ms : List Member) (members : List reads.Member) → IsReadInput pieces x h ms members
     → (exported_parts pieces >>= each member_by_levels) ≡ Some members
-exported pieces x h ms members input =
-    ap (λ o. o >>= each member_by_levels) input.followed.exported ∙ members_by_scopes pieces input.followed.parts input.followed.exported members input.reads
+exported pieces x h ms members input = search (std_rules, members_by_scopes)
 
 -- ---- the scopes of types
 
@@ -190,9 +182,7 @@ module _ (x : Followed) (table : IsTable x.table) where
       )
 
   both_over : (ms : List FollowedMember) (c : DeclaringScope) (a b : ℕ) → IsScopedBy x.table x.functions x.places ms (c, a) → IsScopedBy x.table x.functions x.places ms (c, b) → AreBothOver a b
-  both_over ms c a b over_a over_b =
-      let one = one_item ms c.0 over_b.0 over_a.0 over_b.1 over_a.1 in
-      both_in (scope_of over_a.0.part) c.1 a b over_a.2 (subst (λ (m : FollowedMember). IsScopedIn (world_over (scope_of m.part)) c.1 b) one over_b.2)
+  both_over ms c a b over_a over_b = search (std_rules, one_item, both_in)
 
 -- ---- the numbers of types
 
@@ -295,14 +285,10 @@ module _ (x : Followed) (t : Tables) (facts : List KeptFact) (h : Homes) (m : Me
   world_obeys : (a : Part) → a ≡ parts.World w → IsReadWorld pieces x (tables_of x) facts h (record { label = m.label; package_number = m.package_number; part = a }) w
       → AreBeside (tables_of x) h (record { label = m.label; package_number = m.package_number; part = a }) w own
       → ViewsObey (tables_of x) (known_by facts) (record { label = m.label; package_number = m.package_number; part = a } ∷ [])
-  world_obeys a e read beside =
-      subst (λ (b : Part). ViewsObey (tables_of x) (known_by facts) (record { label = m.label; package_number = m.package_number; part = b } ∷ [])) (sym e)
-      (views_obey pieces x facts h m.label m.package_number w (subst (λ (b : Part). IsReadWorld pieces x (tables_of x) facts h (record { label = m.label; package_number = m.package_number; part = b })
-      w) e read) own beside)
+  world_obeys a e read beside = search std_rules
 
   obey : ViewsObey (tables_of x) (known_by facts) (m ∷ [])
-  obey =
-      world_obeys m.part given.is (subst (λ (u : Tables). IsReadWorld pieces x u facts h m w) given.read.tables world_is_read) (subst (λ (u : Tables). AreBeside u h m w own) given.read.tables are)
+  obey = search std_rules
 
   world_types_rise : (p : Plan) → PlansWhole t h.packages (home_at h) m.package_number (m ∷ own) p → IsPlan p → are_rising (flat_map (λ (i : PlannedInterface). numbers_of i.types) p.interfaces) ≡ true
   world_types_rise p planned is =
@@ -369,8 +355,7 @@ module _ (x : Followed) (t : Tables) (facts : List KeptFact) (h : Homes) (m : Me
 -- ---- bytes
 
 bound : {A : Type 0} (o : Option A) → (o >>= λ x. Some x) ≡ o
-bound None = refl
-bound (Some x) = refl
+bound x = search std_rules
 
 -- what the levels export is what the bytes do
 pub follows_bytes : (bytes : List ℕ) (r : Resolve) → FollowsLevels (levels_of bytes) r → FollowsBytes bytes r
@@ -406,5 +391,4 @@ follows_bytes bytes r is =
 -- ---- what is answered
 
 pub both_ok : {A E : Type 0} (o : Result A E) (P Q R : A → Type 0) → ((x : A) → P x → Q x → R x) → IfOk o P → IfOk o Q → IfOk o R
-both_ok (Ok x) P Q R both holds follows = both x holds follows
-both_ok (Err e) P Q R both holds follows = tt
+both_ok y z u v both holds follows = search std_rules

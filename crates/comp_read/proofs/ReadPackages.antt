@@ -1,5 +1,5 @@
 -- A package that was followed and read: what was followed is whole, and so is the plan of it, which means what the input does.
-use Rattle.std.proofs.Common.{◌≡◌, refl, sym, ap, subst, ◌∙◌, ℕ, arith, inl, inr, true, false, List, [], ◌∷◌, map, Option, Some, None, slice_get}
+use Rattle.std.proofs.Common.{rules as std_rules, ◌≡◌, refl, sym, ap, subst, ◌∙◌, ℕ, arith, inl, inr, true, false, List, [], ◌∷◌, map, Option, Some, None, slice_get}
 use Rattle.std.proofs.lemmas.Option.{same_Some as same-some}
 use Rattle.std.specs.List.{AllZip, Contains}
 use Rattle.comp_bytes.specs.{Levels.Piece, Reading.◌>>=◌}
@@ -34,13 +34,7 @@ module _ (pieces : List Piece) (x : Followed) (followed : IsFollowed pieces x) (
   meant = read_members_are_meant pieces x followed facts are_known h stand (map lent_member ms) read
 
   input_read : IsReadInput pieces x h ms meant.members
-  input_read = record {
-    followed = followed;
-    are = lent_members_are_members x (known_by facts) h ms read;
-    reads = meant.found;
-    homes = stand;
-    shown = subst (λ (ns : List NumberedMember). AllZip (IsMember (tables_of x) h) ns meant.members) (map_of_map (λ (m : NumberedMember × List (Option ℕ)). m.0) lent_member ms) meant.shown;
-  }
+  input_read = search (std_rules, lent_members_are_members, meant, map_of_map)
 
 pub read_members_are_input : ReadMembersAreInput
 read_members_are_input pieces x followed facts are_known h stand ms read =
@@ -53,8 +47,7 @@ filled_first [] e = let wrong : false ≡ true = e in absurd cc
 filled_first (x ∷ xs) e = (x, refl)
 
 first_package : (members : List reads.Member) (first : reads.Member) → slice_get members 0 ≡ Some first → package_of_members members ≡ package_with first.package_ members
-first_package [] first e = let wrong : ◌≡◌ {A = Option reads.Member} None (Some first) = e in absurd cc
-first_package (m ∷ members) first e = ap (λ (y : reads.Member). package_with y.package_ (m ∷ members)) (same-some m first e)
+first_package x first e = search std_rules
 
 same_package : (t : Tables) (h : Homes) (m : Member) (n : NumberedMember) (meaning : reads.Member) → numbered_member m ≡ n → IsMember t h n meaning
     → slice_get h.packages m.package_number ≡ Some meaning.package_
@@ -94,13 +87,7 @@ of_member ms c one =
     record { member = m.0; among = get-contains ms one.number m.0 m.1; is = ap (λ (y : NumberedMember × List (Option ℕ)). y.0.package_) m.2 ∙ one.is }
 
 pub read_packages_have_sources : ReadPackagesHaveSources
-read_packages_have_sources first packages homes ms places members c low = elim (members c low) [
-  | inl earlier ↦ elim (places c earlier) [
-    | inl none ↦ absurd (omega (arith, none))
-    | inr place ↦ inr place
-  ]
-  | inr one ↦ inl (of_member ms c one)
-]
+read_packages_have_sources first packages homes ms places members c low = search (std_rules, of_member)
 
 -- ---- a package
 

@@ -1,5 +1,5 @@
 -- The order in which views are shown, in numbers and in paths.
-use Rattle.std.proofs.Common.{◌≡◌, refl, sym, ap, ◌∙◌, ℕ, Bool, true, false, not, ◌&&◌, ◌||◌, ◌==◌, cond, List, [], ◌∷◌, ◌++◌, map, Option, Some, None, is_none, slice_get}
+use Rattle.std.proofs.Common.{rules as std_rules, ◌≡◌, refl, sym, ap, ◌∙◌, ℕ, Bool, true, false, not, ◌&&◌, ◌||◌, ◌==◌, cond, List, [], ◌∷◌, ◌++◌, map, Option, Some, None, is_none, slice_get}
 use Rattle.std.proofs.lemmas.{Bool.eqb-true, Bool.not-true, Option.same_Some as same-some}
 use Rattle.std.specs.{List.AllByRecursion, List.AllZip, List.filter, List.flat_map, Option.option_map_or}
 use Rattle.wit_model.specs.{Text.Text, Text.text_eq, Names.path_in, Uses.has, Uses.once}
@@ -20,13 +20,7 @@ use Rattle.comp_meaning.specs.Reads as reads
 module _ (t : Tables) where
   pub scope_paths : (is : List NumberedInstance) → AllByRecursion (λ (s : NumberedSight). HasPath t s.place) (flat_map (sights_of_instance t) is)
   scope_paths [] = tt
-  scope_paths (i ∷ is) = by (path_at t i.place) refl (scope_paths is)
-    where
-      by : (o : Option Text) → path_at t i.place ≡ o → AllByRecursion (λ (s : NumberedSight). HasPath t s.place) (flat_map (sights_of_instance t) is)
-          → AllByRecursion (λ (s : NumberedSight). HasPath t s.place) (option_map_or (λ (path : Text). record { place = i.place; view = i.view; whole = true } ∷ []) o [] ++ flat_map
-          (sights_of_instance t) is)
-      by None e rest = rest
-      by (Some path) e rest = ((path, e), rest)
+  scope_paths (i ∷ is) = search (std_rules, scope_paths is)
 
   module _ (tables : AreTables t) where
     -- another place has the path of this one exactly where it is the same

@@ -1,5 +1,5 @@
 -- The instances of what was followed stand under the paths that the parts show, in their order.
-use Rattle.std.proofs.Common.{◌≡◌, refl, sym, ap, subst, ◌∙◌, ℕ, ◌&&◌, List, [], ◌∷◌, ◌++◌, map, Option, Some}
+use Rattle.std.proofs.Common.{rules as std_rules, ◌≡◌, refl, sym, ap, subst, ◌∙◌, ℕ, ◌&&◌, List, [], ◌∷◌, ◌++◌, map, Option, Some}
 use Rattle.std.specs.List.{AllZip, flat_map}
 use Rattle.wit_model.specs.{Text.Text, Names.PackageIdentity, Names.path_in}
 use Rattle.comp_bytes.specs.{Levels.PartType, Levels.Piece, Levels.shows, Levels.wraps, Reading.◌>>=◌}
@@ -56,10 +56,7 @@ member_of label p = record { label = label; package_ = p.0; part = p.1 }
 -- the paths of imports, and of one more
 named_paths : (is : List Instance) (imports : List (Text × View)) (last : Text × View) → is ≡ map named_instance imports ++ named_instance last ∷ []
     → map (λ (i : Instance). i.interface) is ≡ map (λ (i : Text × View). Some i.0) imports ++ Some last.0 ∷ []
-named_paths is imports last all =
-    ap (map (λ (i : Instance). i.interface)) all
-    ∙ (append_of_map (λ (i : Instance). i.interface) (map named_instance imports) (named_instance last ∷ [])
-    ∙ ap (λ (os : List (Option Text)). os ++ Some last.0 ∷ []) (map_of_map (λ (i : Instance). i.interface) named_instance imports))
+named_paths is imports last all = search (std_rules, append_of_map, map_of_map)
 
 interface_paths : (label : Text) (scope : Scope) → Stands scope → (p : PackageIdentity × Part) → part_of_scope label (interface scope) ≡ Some p → paths_in scope ≡ shown_under (member_of label p)
 interface_paths label scope st p e =
@@ -78,19 +75,10 @@ interface_paths label scope st p e =
     (named_paths scope.instances imports.0 (path_in package_.0 label, exported.0.1) all)
 
 world_paths : (label path : Text) (scope : Scope) (p : PackageIdentity × Part) → part_of_scope label (world path scope) ≡ Some p → paths_in scope ≡ shown_under (member_of label p)
-world_paths label path scope p e =
-    let package_ = bind_some (labelled_path label path) (λ package_. provided (is_world scope) (package_, Part.world scope)) p e in
-    let w = when_some (is_world scope) (Some (package_.0, Part.world scope)) p package_.2 in
-    subst (λ (q : PackageIdentity × Part). paths_in scope ≡ shown_under (member_of label q)) (some_is (package_.0, Part.world scope) p w.1) refl
+world_paths label path scope p e = search std_rules
 
 pub one_paths : (y : Text × PartScope) (m : Member) → Stands (meant_scope y.1) → member_of_scope y ≡ Some m → paths_in (meant_scope y.1) ≡ shown_under m
-one_paths y m st e =
-    let p = bind_some (part_of_scope y.0 y.1) (λ p. Some (member_of y.0 p)) m e in
-    subst (λ (z : Member). paths_in (meant_scope y.1) ≡ shown_under z) (some_is (member_of y.0 p.0) m p.2) (by y.1 st p.0 p.1)
-  where
-    by : (a : PartScope) → Stands (meant_scope a) → (p : PackageIdentity × Part) → part_of_scope y.0 a ≡ Some p → paths_in (meant_scope a) ≡ shown_under (member_of y.0 p)
-    by (world path scope) good p found = world_paths y.0 path scope p found
-    by (interface scope) good p found = interface_paths y.0 scope good p found
+one_paths y m st e = search (std_rules, bind_some, some_is, world_paths, interface_paths)
 
 -- ---- all parts
 
@@ -112,9 +100,7 @@ module _ (t : Tables) where
   scope_in m = numbered_scope t.paths (scope_of m.part)
 
   places_named : (w : NumberedScope) (scope : Scope) → Shows t w scope → map (path_at t) (scope_places w) ≡ paths_in scope
-  places_named w scope is =
-      map_of_map (path_at t) (λ (i : NumberedInstance). i.place) w.instances
-      ∙ (sym (map_of_map (λ (i : Instance). i.interface) (instance_of t) w.instances) ∙ sym (ap (map (λ (i : Instance). i.interface)) is.instances))
+  places_named w scope is = search (std_rules, map_of_map)
 
   pub part_named : (a : FollowedPart) (p : PartScope) → PartShown t a p → map (path_at t) (scope_places (numbered_scope t.paths (scope_of a))) ≡ paths_in (meant_scope p)
   part_named (followed.World path s) (world text meant) is = places_named (numbered_scope t.paths s) meant is.1
@@ -127,8 +113,7 @@ module _ (t : Tables) where
   members_named [] [] all = refl
   members_named [] (y ∷ ys) all = absurd all
   members_named (m ∷ ms) [] all = absurd all
-  members_named (m ∷ ms) (y ∷ ys) all =
-      append_of_map (path_at t) (scope_places (scope_in m)) (flat_map (λ (k : FollowedMember). scope_places (scope_in k)) ms) ∙ (λ i. part_named m.part y.1 all.0.1 i ++ members_named ms ys all.1 i)
+  members_named (m ∷ ms) (y ∷ ys) all = search (std_rules, append_of_map, part_named, members_named ms ys all.1)
 
 -- the places of all instances of an input, in order, are those of the paths that its parts show
 pub places_shown_under : (pieces : List Piece) (x : Followed) (h : Homes) (ms : List KeptMember) (members : List Member) → IsReadInput pieces x h ms members

@@ -1,5 +1,5 @@
 -- Types are numbered in the order of the interfaces that show them.
-use Rattle.std.proofs.Common.{◌≡◌, refl, sym, subst, ◌∙◌, ap, ℕ, zero, suc, ◌<◌, ◌⊎◌, inl, inr, arith, Bool, true, false, cond, List, [], ◌∷◌, ◌++◌, append_assoc, Some, slice_get, ◌+◌, nat_lt, map, Option}
+use Rattle.std.proofs.Common.{rules as std_rules, ◌≡◌, refl, sym, subst, ◌∙◌, ap, ℕ, zero, suc, ◌<◌, ◌⊎◌, inl, inr, arith, Bool, true, false, cond, List, [], ◌∷◌, ◌++◌, append_assoc, Some, slice_get, ◌+◌, nat_lt, map, Option}
 use Rattle.std.proofs.lemmas.{List.append-nil, List.Elements.Contains-append_cases, List.Elements.Contains-append_left, List.Elements.Contains-append_right}
 use Rattle.std.proofs.lemmas.{Option.same_Some as same-some, Bool.and_from as both, Bool.lt-ltb}
 use Rattle.std.specs.List.{Contains, flat_map, AllByRecursion, AllZip, list_all}
@@ -113,10 +113,7 @@ module _ (R : ℕ → ℕ → Type 0) where
   Pairs ns = (k l a b : ℕ) → slice_get ns k ≡ Some a → slice_get ns l ≡ Some b → k < l → R a b
 
   one_more : (met : List ℕ) (z : ℕ) → Pairs met → ((a : ℕ) → Contains met a → R a z) → Pairs (met ++ z ∷ [])
-  one_more met z pairs new k l a b at_k at_l less = elim (last_or met z l b at_l) [
-    | inl h ↦ elim (last_or met z k a at_k) [ inl g ↦ pairs k l a b g.1 h.1 less | inr g ↦ (let low = h.0 in let last = g.0 in absurd (omega (arith, less, low, last))) ]
-    | inr h ↦ elim (last_or met z k a at_k) [ inl g ↦ subst (R a) h.1 (new a (get-contains met k a g.1)) | inr g ↦ (let last = h.0 in let other = g.0 in absurd (omega (arith, less, last, other))) ]
-  ]
+  one_more met z pairs new k l a b at_k at_l less = search (std_rules, last_or, get-contains)
 
   -- what was met is what stands in front
   abbrev IsMet : List ℕ → List ℕ → Type 0
@@ -192,16 +189,11 @@ numbered_parts t p (x ∷ xs) [] z = absurd z
 numbered_parts t p (x ∷ xs) (n ∷ ns) z = λ i. z.0.0 i ∷ numbered_parts t p xs ns z.1 i
 
 pub same_part : (s : NumberedSlot) → slot_part s ≡ part_of s
-same_part (value k) = refl
-same_part (resource k) = refl
+same_part x = search std_rules
 
 -- a smaller part that is kept gets a smaller number
 pub kept_less : (marks : List Bool) (kept : List ℕ) → AreMarked marks kept → (o p c d : ℕ) → IsPart kept o (14 + c) → IsPart kept p (14 + d) → o < p → c < d
-kept_less marks kept marked o p c d (a_primitive low same) b less = absurd (omega (arith, low, same))
-kept_less marks kept marked o p c d (a_shape n j is at new) (a_primitive low same) less = absurd (omega (arith, low, same))
-kept_less marks kept marked o p c d (a_shape n j is at new) (a_shape m k other there newer) less =
-    let rises = marked.rise j k n m at there (omega (arith, is, other, less)) in
-    omega (arith, new, newer, rises)
+kept_less marks kept marked o p c d x b less = search std_rules
 
 -- the type of a number of the plan
 pub shown_number : (kept : List ℕ) (v : NumberedView) (es : List (Text × ℕ)) → AllZip (ListsNumber kept) v.types es → (c : ℕ) → Contains (numbers_of es) c → (y : NumberedType) × Contains v.types y
@@ -309,9 +301,7 @@ module _ (pieces : List Piece) (x : Followed) (h : Homes) (ms : List Member) (me
       → map (path_at t) (scope_places (followed_scope t.paths (scope_of a))) ≡ map (path_at t) (places_of_part (numbered_part b))
       → scope_places (followed_scope t.paths (scope_of a)) ≡ places_of_part (numbered_part b)
   part_alike (followed.World path s) (parts.World w) is own same = ap scope_places (sym is.shows)
-  part_alike (followed.Interface s) (parts.Interface p v imports) is own same =
-      pathed (scope_places (followed_scope t.paths s)) (map (λ (i : ℕ × NumberedView). i.0) (map numbered_import imports.now) ++ p ∷ [])
-      (all_both (HasPath t) (map (λ (i : ℕ × NumberedView). i.0) (map numbered_import imports.now)) (p ∷ []) (imports_have (map numbered_import imports.now) own.1) (own.0.0, tt)) same
+  part_alike (followed.Interface s) (parts.Interface p v imports) is own same = search (std_rules, pathed, scope_places, all_both, imports_have)
   part_alike (followed.World path s) (parts.Interface p v imports) is own same = absurd is
   part_alike (followed.Interface s) (parts.World w) is own same = absurd is
 

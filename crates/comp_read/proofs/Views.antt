@@ -1,5 +1,5 @@
 -- The names of each view stand in the table in the view's order, each behind what it is declared as, where views of one place agree.
-use Rattle.std.proofs.Common.{◌≡◌, refl, sym, ap, subst, ◌∙◌, ℕ, ◌+◌, ◌<◌, Bool, true, ◌&&◌, ◌==◌, List, [], ◌∷◌, ◌++◌, length, map, Option, Some, None, slice_get}
+use Rattle.std.proofs.Common.{rules as std_rules, ◌≡◌, refl, sym, ap, subst, ◌∙◌, ℕ, ◌+◌, ◌<◌, Bool, true, ◌&&◌, ◌==◌, List, [], ◌∷◌, ◌++◌, length, map, Option, Some, None, slice_get}
 use Rattle.std.proofs.{lemmas.Bool.eq-eqb, lemmas.Bool.eqb-true, ByRecursion.All-weaker as recursion_weaker, lemmas.Map.Keys.any_passes_from_place as get_any}
 use Rattle.std.specs.List.{AllByRecursion, AllZip, Contains, list_all, list_any}
 use Rattle.wit_model.specs.{Meaning.FunctionMeaning, Names.is_label, Text.Text, Tree.Place}
@@ -39,20 +39,11 @@ names_of xs = map (λ (x : NumberedType). x.name) xs
 
 -- what an interface may have has names that differ: as it is seen from a place
 tree_names : (t : Tables) (place : Place) (v : NumberedView) → rules.is_interface place (view_of t v) ≡ true → distinct (names_of v.types) ≡ true
-tree_names t place v h =
-    ap distinct (sym (map_of_map (λ (x : follow.ShownType). x.name) (shown_type t) v.types))
-    ∙ distinct_front (map (λ (x : follow.ShownType). x.name) (view_of t v).types) (map (λ (f : Text × FunctionMeaning). f.0) (view_of t v).functions)
-    (second_true
-    (list_all (λ (x : follow.ShownType). is_label x.name && rules.is_declared place x.meaning.declaration) (view_of t v).types && list_all
-    (λ (f : Text × FunctionMeaning). rules.is_function place (rules.resources_of (view_of t v).types) f.0 f.1.signature) (view_of t v).functions)
-    (distinct (map (λ (x : follow.ShownType). x.name) (view_of t v).types ++ map (λ (f : Text × FunctionMeaning). f.0) (view_of t v).functions)) h)
+tree_names t place v h = search (std_rules, map_of_map, distinct_front, second_true)
 
 -- and in numbers
 number_names : (t : Tables) (known : ℕ → Fact) (p : ℕ) (v : NumberedView) → is_interface t known p v ≡ true → distinct (names_of v.types) ≡ true
-number_names t known p v h =
-    distinct_front (names_of v.types) (map (λ (f : Text × NumberedFunction). f.0) v.functions)
-    (second_true (list_all (is_type t known p) v.types && list_all (λ (f : Text × NumberedFunction). is_function t known p (resources_of v.types) f.0 (function_at t f.1.signature)) v.functions)
-    (distinct (names_of v.types ++ map (λ (f : Text × NumberedFunction). f.0) v.functions)) h)
+number_names t known p v h = search (std_rules, distinct_front, second_true)
 
 -- ---- views that tell the same of types
 
@@ -87,14 +78,7 @@ module _ (t : Tables) (tables : AreTables t) (p : ℕ) where
 
   -- the names of a view rise where those of another do
   rises_too : (v u : NumberedView) → map told v.types ≡ map told u.types → IsPlacedView t p v → IsRisingView t p u → IsRisingView t p v
-  rises_too v u e placed rising =
-      let one = same_numbers v.types u.types e placed.numbers rising.numbers placed.named rising.named in
-      record {
-        numbers = placed.numbers;
-        named = placed.named;
-        rise = ap are_rising one ∙ rising.rise;
-        behind = same_behind v.types u.types e placed.numbers (subst (AllZip (λ (x : NumberedType) n. AllOf (λ k. k < 14 + n) x.declared) u.types) (sym one) rising.behind);
-      }
+  rises_too v u e placed rising = search (std_rules, same_numbers, same_behind)
 
   -- ---- what is shown in a place
 
@@ -102,31 +86,22 @@ module _ (t : Tables) (tables : AreTables t) (p : ℕ) where
   met_in k met = record { range = met.0; names = met.1 }
 
   pub all_met : (d : Option ℕ) → AllOf (IsMetPart t p) d → AllOf (IsMetFrom t p) d
-  all_met None met = tt
-  all_met (Some k) met = met_in k met
+  all_met x met = search std_rules
 
   slot_of : (s : NumberedSlot) (n : ℕ) → part_of s ≡ 14 + n → IsSlotOf t s n
-  slot_of (value k) n e = e
-  slot_of (resource k) n e = e
+  slot_of x n e = search std_rules
 
   types_in : (xs : List NumberedType) (ns : List ℕ) → AllZip (IsNumbered t p) xs ns → AllZip (λ (x : NumberedType) n. AllOf (λ k. k < 14 + n) x.declared) xs ns
       → AllByRecursion (TypePasses (IsMetPart t p)) xs → AllByRecursion (IsShownIn t p) xs
   types_in [] ns named behind met = tt
   types_in (x ∷ xs) [] named behind met = absurd named
-  types_in (x ∷ xs) (n ∷ ns) named behind met = (
-    record { number = n; name = record { named = named.0.1; behind = behind.0; met = all_met x.declared met.0 }; slot = slot_of x.slot n named.0.0 },
-    types_in xs ns named.1 behind.1 met.1,
-  )
+  types_in (x ∷ xs) (n ∷ ns) named behind met = search (std_rules, all_met, slot_of, types_in xs ns named.1 behind.1 met.1)
 
   pub function_in : (n : ℕ) → (n < length t.functions) × PartsOf (IsMetPart t p) (function_at t n) → IsCalledIn t p n
   function_in n h = record { range = h.0; parts = parts_weaker (IsMetPart t p) (IsMetFrom t p) met_in (function_at t n) h.1 }
 
   view_is_in : (v : NumberedView) → IsPlacedView t p v → IsRisingView t p v → IsViewIn t p v
-  view_is_in v placed rising = record {
-    types = types_in v.types rising.numbers rising.named rising.behind placed.parts.types;
-    functions = recursion_weaker (FunctionPasses t (IsMetPart t p)) (λ (f : Text × NumberedFunction). IsCalledIn t p f.1.signature) (λ f h. function_in f.1.signature h) v.functions
-        placed.parts.functions;
-  }
+  view_is_in v placed rising = search (std_rules, types_in, recursion_weaker, function_in)
 
 -- ---- the first instance of a place
 

@@ -1,5 +1,5 @@
 -- A package that was followed is the input of the laws of packages.
-use Rattle.std.proofs.Common.{◌≡◌, refl, ap, ◌∙◌, ℕ, zero, suc, true, false, ◌&&◌, ◌==◌, List, [], ◌∷◌, map, Option, Some, None, slice_get, unwrap_or}
+use Rattle.std.proofs.Common.{rules as std_rules, ◌≡◌, refl, ap, ◌∙◌, ℕ, zero, suc, true, false, ◌&&◌, ◌==◌, List, [], ◌∷◌, map, Option, Some, None, slice_get, unwrap_or}
 use Rattle.std.proofs.lemmas.Bool.{eqb-true, ltb-true}
 use Rattle.std.specs.{Prelude.nat_le, Prelude.nat_lt, List.AllByRecursion, List.AllZip, List.list_all}
 use Rattle.wit_model.specs.{Names.PackageIdentity, Text.Text, Tree.Form}
@@ -55,9 +55,7 @@ module _ (t : Tables) (h : Homes) (known : ℕ → Fact) (n : ℕ) (ms : List Me
   seen = sights_of_members t nms
 
   both_hold : (agree_in_numbers seen && are_interfaces t known seen) ≡ true
-  both_hold =
-      second_true (list_all (stands_at_top h n nms) seen) (agree_in_numbers seen && are_interfaces t known seen)
-      (second_true (list_all (λ (m : NumberedMember). n == m.package_) nms) (list_all (stands_at_top h n nms) seen && (agree_in_numbers seen && are_interfaces t known seen)) obeys)
+  both_hold = search std_rules
 
   pub views_obey : ViewsObey t known ms
   views_obey = record { agree = first_true (agree_in_numbers seen) (are_interfaces t known seen) both_hold; interfaces = second_true (agree_in_numbers seen) (are_interfaces t known seen) both_hold }
@@ -119,8 +117,7 @@ module _ (t : Tables) where
   part_reached (followed.World path s) (parts.World w) is = tt
   part_reached (followed.World path s) (parts.Interface p v imports) is = absurd is
   part_reached (followed.Interface s) (parts.World w) is = absurd is
-  part_reached (followed.Interface s) (parts.Interface p v imports) is = let shown = shown_as t (followed_scope t.paths s) (p, numbered_view v) (map numbered_import imports.now) is in
-      (shown.reached, shown.once)
+  part_reached (followed.Interface s) (parts.Interface p v imports) is = search std_rules
 
 pub read_parts_are_reached : ReadPartsAreReached
 read_parts_are_reached pieces x h ms members input =

@@ -1,5 +1,5 @@
 -- A world by itself that was followed and read is, with the interfaces of its package that it shows, the input of the laws of packages.
-use Rattle.std.proofs.Common.{◌≡◌, refl, sym, ap, subst, ◌∙◌, ℕ, suc, arith, List, [], ◌∷◌, ◌++◌, filter, map, Some, slice_get}
+use Rattle.std.proofs.Common.{rules as std_rules, ◌≡◌, refl, sym, ap, subst, ◌∙◌, ℕ, suc, arith, List, [], ◌∷◌, ◌++◌, filter, map, Some, slice_get}
 use Rattle.std.proofs.lemmas.{List.append-nil, List.Elements.Contains-append_left}
 use Rattle.std.specs.{Borrow.Bor, List.AllByRecursion, List.AllZip, List.Contains, List.flat_map}
 use Rattle.wit_model.specs.{Meaning.WorldPackage, Names.PackageIdentity, Text.Text}
@@ -33,12 +33,10 @@ use Rattle.read_exports.specs.declared.members.Part.TheVariants as parts
 
 -- what stands at the top as an interface, of which nothing is imported, declares no names, has none of its own, and is known
 pub declares_none : (t : Tables) (a : Part) (p : ℕ) (v : NumberedView) → numbered_part a ≡ interface p v [] → PartDeclaresNames t a
-declares_none t (parts.World w) p v e = let wrong : ⊥ = cc in absurd wrong
-declares_none t (parts.Interface q u imports) p v e = tt
+declares_none t x p v e = search std_rules
 
 pub names_none : (t : Tables) (a : Part) (p : ℕ) (v : NumberedView) → numbered_part a ≡ interface p v [] → PartNames t a
-names_none t (parts.World w) p v e = let wrong : ⊥ = cc in absurd wrong
-names_none t (parts.Interface q u imports) p v e = tt
+names_none t x p v e = search std_rules
 
 abbrev pub one_world : Bor (List ℕ) → ℕ → Scope → Member
 one_world label n w = record { label = label; package_number = n; part = parts.World w }
@@ -55,19 +53,7 @@ pub record IsOneTree (t : Tables) (h : Homes) (label : Text) (n : ℕ) (w : Numb
 
 one_tree : (t : Tables) (h : Homes) (label : Text) (n : ℕ) (w : NumberedScope) (members : List reads.Member)
     → AllZip (IsMember t h) (record { label = label; package_ = n; part = world w } ∷ []) members → IsOneTree t h label n w members
-one_tree t h label n w [] zip = absurd zip
-one_tree t h label n w (z ∷ y ∷ zs) zip = absurd zip.1
-one_tree t h label n w (z ∷ []) zip = by z.part refl zip.0.part
-  where
-    by : (q : reads.Part) → z.part ≡ q → ShowsPart t h (record { label = label; package_ = n; part = world w }) (world w) q → IsOneTree t h label n w (z ∷ [])
-    by (reads.Part.world scope) e shows = record {
-      identity = z.package_;
-      scope = scope;
-      is = λ i. record { label = zip.0.label i; package_ = z.package_; part = e i } ∷ [];
-      there = zip.0.package_;
-      shows = shows;
-    }
-    by (reads.Part.interface view views) e shows = absurd shows
+one_tree t h label n w x zip = search std_rules
 
 module _ (pieces : List Piece) (x : Followed) (facts : List KeptFact) (h : Homes) (label : Bor (List ℕ)) (n : ℕ) (w : Scope) (given : IsReadWorld pieces x (tables_of x) facts h (one_world label n w) w) where
   abbrev t : Tables

@@ -1,5 +1,5 @@
 -- The labels of a world by itself and of the interfaces of its package that it shows differ.
-use Rattle.std.proofs.Common.{◌≡◌, refl, ap, subst, ◌∙◌, ℕ, suc, ◌+◌, ◌<◌, arith, Bool, true, false, ltb, cond, ◌==◌, List, [], ◌∷◌, ◌++◌, map, Option, Some, None, slice_get, sym, zero, not, ◌&&◌, ◌||◌, unwrap_or, option_map}
+use Rattle.std.proofs.Common.{rules as std_rules, ◌≡◌, refl, ap, subst, ◌∙◌, ℕ, suc, ◌+◌, ◌<◌, arith, Bool, true, false, ltb, cond, ◌==◌, List, [], ◌∷◌, ◌++◌, map, Option, Some, None, slice_get, sym, zero, not, ◌&&◌, ◌||◌, unwrap_or, option_map}
 use Rattle.std.proofs.lemmas.{Bool.lt-ltb, Bool.and_from as both, Bool.eqb-true, Option.slice_get-map, Option.same_Some as same-some, List.Folds.find-append}
 use Rattle.std.proofs.lemmas.Map.Keys.{any_passes_from_place as get_any}
 use Rattle.std.specs.List.{AllZip, filter, list_all, AllByRecursion, flat_map, Contains, find, list_any}
@@ -44,35 +44,20 @@ numbers es = map (λ (e : Text × ℕ). e.1) es
 module _ (homes : ℕ → Option Home) (q : ℕ) where
   -- what holds of the numbers of the others, and with that of the first, holds of all
   one_more : (P : List ℕ → Type 0) (n p : ℕ) (rest : List (Text × ℕ)) → P (numbers rest) → P (n ∷ numbers rest) → P (numbers (entry_of q n (homes p) ++ rest))
-  one_more P n p rest others all = by (homes p)
-    where
-      chosen : (h : Home) (b : Bool) → P (numbers (cond b ((h.1, n) ∷ []) [] ++ rest))
-      chosen h true = all
-      chosen h false = others
-
-      by : (o : Option Home) → P (numbers (entry_of q n o ++ rest))
-      by None = others
-      by (Some h) = chosen h (h.0 == q)
+  one_more P n p rest others all = search std_rules
 
   above : (m n : ℕ) → m < n → (ps : List ℕ) → list_all (ltb m) (numbers (entries_from homes q n ps)) ≡ true
   above m n less [] = refl
-  above m n less (p ∷ ps) =
-      let rest = above m (n + 1) (omega (arith, less)) ps in
-      one_more (λ (ns : List ℕ). list_all (ltb m) ns ≡ true) n p (entries_from homes q (n + 1) ps) rest
-      (both (ltb m n) (list_all (ltb m) (numbers (entries_from homes q (n + 1) ps))) (lt-ltb m n less) rest)
+  above m n less (p ∷ ps) = search (std_rules, one_more, both, lt-ltb, above m (n + 1) (omega (arith, less)) ps)
 
   pub entries_rise : (n : ℕ) (ps : List ℕ) → rise (numbers (entries_from homes q n ps)) ≡ true
   entries_rise n [] = refl
-  entries_rise n (p ∷ ps) =
-      let rest = entries_rise (n + 1) ps in
-      let others = entries_from homes q (n + 1) ps in
-      one_more (λ (ns : List ℕ). rise ns ≡ true) n p others rest (both (list_all (ltb n) (numbers others)) (rise (numbers others)) (above n (n + 1) (omega arith) ps) rest)
+  entries_rise n (p ∷ ps) = search (std_rules, one_more, both, above, entries_rise (n + 1) ps)
 
 -- a package that isn't the main one
 pub other_rises : (packages : List PackageIdentity) (homes : ℕ → Option Home) (main : ℕ) (places : List ℕ) (ms : List Member) (n : ℕ) (k : PlannedPackage) → (n ≡ main → ⊥)
     → PlansPackage packages main places ms (entries_from homes n 0 places) n k → rise (numbers k.interfaces) ≡ true
-other_rises packages homes main places ms n k other (the_main identity same at is) = absurd (other same)
-other_rises packages homes main places ms n k other (another identity differ at is) = ap (λ (es : List (Text × ℕ)). rise (numbers es)) is.interfaces ∙ entries_rise homes n 0 places
+other_rises packages homes main places ms n k other x = search (std_rules, entries_rise)
 
 -- ---- those that pass a test, by where they stand
 
@@ -84,25 +69,17 @@ module _ (P : ℕ → Bool) where
 
   chosen_too : (Q : List ℕ → Type 0) (n p : ℕ) (ps : List ℕ) → Q (indices (n + 1) ps) → Q (n ∷ indices (n + 1) ps) → Q (indices n (p ∷ ps))
   unfolding indices
-  chosen_too Q n p ps others all = by (P p)
-    where
-      by : (b : Bool) → Q (cond b (n ∷ indices (n + 1) ps) (indices (n + 1) ps))
-      by true = all
-      by false = others
+  chosen_too Q n p ps others all = search std_rules
 
   all_above : (m n : ℕ) → m < n → (ps : List ℕ) → list_all (ltb m) (indices n ps) ≡ true
   unfolding indices
   all_above m n less [] = refl
-  all_above m n less (p ∷ ps) =
-      let rest = all_above m (n + 1) (omega (arith, less)) ps in
-      chosen_too (λ (ns : List ℕ). list_all (ltb m) ns ≡ true) n p ps rest (both (ltb m n) (list_all (ltb m) (indices (n + 1) ps)) (lt-ltb m n less) rest)
+  all_above m n less (p ∷ ps) = search (std_rules, chosen_too, both, indices, lt-ltb, all_above m (n + 1) (omega (arith, less)) ps)
 
   indices_rise : (n : ℕ) (ps : List ℕ) → rise (indices n ps) ≡ true
   unfolding indices
   indices_rise n [] = refl
-  indices_rise n (p ∷ ps) =
-      let rest = indices_rise (n + 1) ps in
-      chosen_too (λ (ns : List ℕ). rise ns ≡ true) n p ps rest (both (list_all (ltb n) (indices (n + 1) ps)) (rise (indices (n + 1) ps)) (all_above n (n + 1) (omega arith) ps) rest)
+  indices_rise n (p ∷ ps) = search (std_rules, chosen_too, both, indices, all_above, indices_rise (n + 1) ps)
 
   abbrev IsThere : ℕ → List ℕ → ℕ → ℕ → Type 0
   IsThere n ps q e = (k : ℕ) × (e ≡ n + k) × (slice_get ps k ≡ Some q)
@@ -116,26 +93,13 @@ module _ (P : ℕ → Bool) where
   filtered : (n : ℕ) (ps : List ℕ) → AllZip (IsThere n ps) (filter P ps) (indices n ps)
   unfolding indices
   filtered n [] = tt
-  filtered n (p ∷ ps) = by (P p) (farther n p ps (filter P ps) (indices (n + 1) ps) (filtered (n + 1) ps))
-    where
-      here : n ≡ n + 0
-      here = omega arith
-
-      by : (b : Bool) → AllZip (IsThere n (p ∷ ps)) (filter P ps) (indices (n + 1) ps)
-          → AllZip (IsThere n (p ∷ ps)) (cond b (p ∷ filter P ps) (filter P ps)) (cond b (n ∷ indices (n + 1) ps) (indices (n + 1) ps))
-      by true rest = ((0, here, refl), rest)
-      by false rest = rest
+  filtered n (p ∷ ps) = search (std_rules, farther, indices, filtered (n + 1) ps)
 
 -- where each is found once, its number is where it stands
 same_numbers : (places : List ℕ) → IsOnce places → (qs es fs : List ℕ) → AllZip (λ q e. slice_get places e ≡ Some q) qs es
     → AllZip (λ q f. (k : ℕ) × (f ≡ 0 + k) × (slice_get places k ≡ Some q)) qs fs → es ≡ fs
 same_numbers places once [] [] [] a b = refl
-same_numbers places once (q ∷ qs) (e ∷ es) (f ∷ fs) a b =
-    let one : e ≡ b.0.0 = once e b.0.0 q a.0 b.0.2 in
-    let number = b.0.1 in
-    let first : e ≡ f = omega (arith, one, number) in
-    let rest = same_numbers places once qs es fs a.1 b.1 in
-    λ i. first i ∷ rest i
+same_numbers places once (q ∷ qs) (e ∷ es) (f ∷ fs) a b = search (std_rules, same_numbers places once qs es fs a.1 b.1)
 same_numbers places once [] (e ∷ es) fs a b = absurd a
 same_numbers places once (q ∷ qs) [] fs a b = absurd a
 same_numbers places once [] [] (f ∷ fs) a b = absurd b
@@ -160,38 +124,15 @@ listed_rise P places once xs es are z =
 module _ (P : ℕ → Bool) where
   swap : (N : ℕ → Bool) (zs : List ℕ) → filter P (filter N zs) ≡ filter N (filter P zs)
   swap N [] = refl
-  swap N (z ∷ zs) = by (P z) refl (N z) refl (swap N zs)
-    where
-      by : (b : Bool) → P z ≡ b → (c : Bool) → N z ≡ c → filter P (filter N zs) ≡ filter N (filter P zs)
-          → filter P (cond c (z ∷ filter N zs) (filter N zs)) ≡ filter N (cond b (z ∷ filter P zs) (filter P zs))
-      by true p true q rest = ap (λ b. cond b (z ∷ filter P (filter N zs)) (filter P (filter N zs))) p
-          ∙ (ap (λ ys. z ∷ ys) rest ∙ sym (ap (λ b. cond b (z ∷ filter N (filter P zs)) (filter N (filter P zs))) q))
-      by false p true q rest = ap (λ b. cond b (z ∷ filter P (filter N zs)) (filter P (filter N zs))) p ∙ rest
-      by true p false q rest = rest ∙ sym (ap (λ b. cond b (z ∷ filter N (filter P zs)) (filter N (filter P zs))) q)
-      by false p false q rest = rest
+  swap N (z ∷ zs) = search (std_rules, swap N zs)
 
   passed_over : (x : ℕ) → P x ≡ false → (zs : List ℕ) → filter P (filter (λ m. not (m == x)) zs) ≡ filter P zs
   passed_over x fails [] = refl
-  passed_over x fails (z ∷ zs) = by (z == x) refl (passed_over x fails zs)
-    where
-      others : List ℕ
-      others = filter (λ m. not (m == x)) zs
-
-      by : (b : Bool) → (z == x) ≡ b → filter P others ≡ filter P zs → filter P (cond (not b) (z ∷ others) others) ≡ filter P (z ∷ zs)
-      by true e rest = rest ∙ sym (ap (λ b. cond b (z ∷ filter P zs) (filter P zs)) (ap P (eqb-true z x e) ∙ fails))
-      by false e rest = ap (λ ys. cond (P z) (z ∷ ys) ys) rest
+  passed_over x fails (z ∷ zs) = search (std_rules, eqb-true, passed_over x fails zs)
 
   pub filter_once : (xs : List ℕ) → filter P (once xs) ≡ once (filter P xs)
   filter_once [] = refl
-  filter_once (x ∷ xs) = by (P x) refl (filter_once xs)
-    where
-      others : ℕ → Bool
-      others m = not (m == x)
-
-      by : (b : Bool) → P x ≡ b → filter P (once xs) ≡ once (filter P xs)
-          → cond b (x ∷ filter P (filter others (once xs))) (filter P (filter others (once xs))) ≡ once (cond b (x ∷ filter P xs) (filter P xs))
-      by true e rest = ap (λ ys. x ∷ ys) (swap others (once xs) ∙ ap (filter others) rest)
-      by false e rest = passed_over x e (once xs) ∙ rest
+  filter_once (x ∷ xs) = search (std_rules, swap, passed_over, filter_once xs)
 
   -- they are among those
   passing_within : (met zs : List ℕ) → ((z : ℕ) → has zs z ≡ true → has met z ≡ true) → list_all (has met) (filter P zs) ≡ true
@@ -215,11 +156,7 @@ joined_more : (ys : List ℕ) (x : ℕ) → joined (once ys) x ≡ once (ys ++ x
 joined_more ys x = ap (λ b. cond b (once ys) (once ys ++ x ∷ [])) (has_once x ys) ∙ sym (once_more ys x)
 
 pub joined_behind : (ys xs : List ℕ) → joined_all (once ys) xs ≡ once (ys ++ xs)
-joined_behind ys [] = ap once (sym (nothing_behind ys))
-  where
-    nothing_behind : (zs : List ℕ) → zs ++ [] ≡ zs
-    nothing_behind [] = refl
-    nothing_behind (z ∷ zs) = ap (λ ws. z ∷ ws) (nothing_behind zs)
+joined_behind ys [] = search std_rules
 joined_behind ys (x ∷ xs) = ap (λ met. joined_all met xs) (joined_more ys x) ∙ (joined_behind (ys ++ x ∷ []) xs ∙ ap once (moved ys))
   where
     moved : (zs : List ℕ) → (zs ++ x ∷ []) ++ xs ≡ zs ++ x ∷ xs
@@ -238,20 +175,11 @@ nothing_new met (y ∷ ys) all = by (has met y) all (nothing_new met ys)
 
 numbers_of_places : (ms : List Member) → numbers (interfaces_in ms) ≡ places_of (numbered_members ms)
 numbers_of_places [] = refl
-numbers_of_places (m ∷ ms) = by m.part (numbers_of_places ms)
-  where
-    by : (a : Part) → numbers (interfaces_in ms) ≡ places_of (numbered_members ms)
-        → numbers (interface_in_part m.label.now a ++ interfaces_in ms) ≡ place_of_part (numbered_part a) ++ places_of (numbered_members ms)
-    by (parts.World w) rest = rest
-    by (parts.Interface p v imports) rest = ap (λ ps. p ∷ ps) rest
+numbers_of_places (m ∷ ms) = search (std_rules, numbers_of_places ms)
 
 pub homeless : (packages : List PackageIdentity) (paths : List (Option Text)) (homes : List (Option Home)) → AllZip (IsHomeOf packages) paths homes → (p : ℕ)
     → unwrap_or (slice_get paths p) None ≡ None → unwrap_or (slice_get homes p) None ≡ None
-homeless packages [] [] z p e = none p
-  where
-    none : (k : ℕ) → ◌≡◌ {A = Option Home} (unwrap_or (slice_get {X = Option Home} [] k) None) None
-    none zero = refl
-    none (suc k) = refl
+homeless packages [] [] z p e = search std_rules
 homeless packages (a ∷ paths) (b ∷ homes) z zero e = subst (λ (o : Option Text). IsHomeOf packages o b) e z.0
 homeless packages (a ∷ paths) (b ∷ homes) z (suc p) e = homeless packages paths homes z.1 p e
 homeless packages [] (b ∷ homes) z p e = absurd z
@@ -264,16 +192,7 @@ module _ (t : Tables) (h : Homes) (are_homes : AreHomesOf t h) (n : ℕ) where
   sights_filtered : (is : List NumberedInstance)
       → filter (is_of_package h n) (map (λ (s : NumberedSight). s.place) (flat_map (sights_of_instance t) is)) ≡ filter (is_of_package h n) (map (λ (i : NumberedInstance). i.place) is)
   sights_filtered [] = refl
-  sights_filtered (i ∷ is) = by (path_at t i.place) refl (sights_filtered is)
-    where
-      by : (o : Option Text) → path_at t i.place ≡ o
-          → filter (is_of_package h n) (map (λ (s : NumberedSight). s.place) (flat_map (sights_of_instance t) is)) ≡ filter (is_of_package h n) (map (λ (j : NumberedInstance). j.place) is)
-          → filter (is_of_package h n) (map (λ (s : NumberedSight). s.place) (option_map_or (λ (path : Text). record { place = i.place; view = i.view; whole = true } ∷ []) o [] ++ flat_map
-          (sights_of_instance t) is))
-          ≡ filter (is_of_package h n) (map (λ (j : NumberedInstance). j.place) (i ∷ is))
-      by (Some path) e rest = ap (λ ys. cond (is_of_package h n i.place) (i.place ∷ ys) ys) rest
-      by None e rest = rest ∙ sym (ap (λ b. cond b (i.place ∷ filter (is_of_package h n) (map (λ (j : NumberedInstance). j.place) is))
-          (filter (is_of_package h n) (map (λ (j : NumberedInstance). j.place) is))) (outside i.place e))
+  sights_filtered (i ∷ is) = search (std_rules, outside, sights_filtered is)
 
   module _ (m : Member) (w : Scope) (is : m.part ≡ parts.World w) (own : List Member) (are : AreOwnInterfaces t h n (numbered_scope w) (numbered_members own)) (order : StandAsShown t h n (numbered_scope w) (numbered_members own)) where
     abbrev met : List ℕ
@@ -374,9 +293,7 @@ module _ (t : Tables) (h : Homes) (known : ℕ → Fact) (n : ℕ) (label : Text
       (λ s c. all-contained (λ (x : NumberedSight). is_interface t known x.place x.view) seen s interfaces (sight_among t h n w ms are label s c))
 
   each_first : list_all (agrees_with_first seen) seen ≡ true
-  each_first =
-      sym (all_alike [] seen)
-      ∙ first_true (agree_with_first_in_numbers [] seen) (are_interfaces t known seen) (sym (agree_by_first t known seen) ∙ both (agree_in_numbers seen) (are_interfaces t known seen) agree interfaces)
+  each_first = search (std_rules, all_alike, first_true, agree_by_first, both, agree, interfaces)
 
   agrees : (s : NumberedSight) → Contains seen s → agrees_with_first all_seen s ≡ true
   agrees s c =
@@ -412,20 +329,13 @@ module _ (t : Tables) (h : Homes) (known : ℕ → Fact) (n : ℕ) (label : Text
       (all_pass (λ (k : NumberedMember). n == k.package_) ms (λ k c. ap (λ (x : ℕ). n == x) (own_at t h n w ms are k c).package_ ∙ same-number n))
 
   pub obeys_package : are_package t h known n (m ∷ ms) ≡ true
-  obeys_package =
-      both (list_all (λ (k : NumberedMember). n == k.package_) (m ∷ ms)) (list_all stands all_seen && (agree_in_numbers all_seen && are_interfaces t known all_seen)) packages
-      (both (list_all stands all_seen) (agree_in_numbers all_seen && are_interfaces t known all_seen) stand
-      (both (agree_in_numbers all_seen) (are_interfaces t known all_seen) all_agree all_interfaces))
+  obeys_package = search (std_rules, both, packages, stand, all_agree, all_interfaces)
 
 -- ---- what the page is for
 
 -- the text isn't one of these
 not_among : (l : Text) (ls : List Text) → ((x : Text) → Contains ls x → l ≡ x → ⊥) → not (list_any (text_eq l) ls) ≡ true
-not_among l ls none = by (list_any (text_eq l) ls) refl
-  where
-    by : (b : Bool) → list_any (text_eq l) ls ≡ b → not b ≡ true
-    by false e = refl
-    by true e = let found = any_get (text_eq l) ls e in absurd (none found.1 (get-contains ls found.0 found.1 found.2) (text_same l found.1 found.3))
+not_among l ls none = search (std_rules, any_get, get-contains, text_same)
 
 module _ (t : Tables) (tables : AreTables t) (h : Homes) (stand : HomesStand t h) (n : ℕ) where
   -- what the path of a place is read as, by the place's home
@@ -450,11 +360,7 @@ module _ (t : Tables) (tables : AreTables t) (h : Homes) (stand : HomesStand t h
 
   -- a name is that of one place
   one_place : (p q : ℕ) (a b : Text) → HasPath t p → HasPath t q → home_at h p ≡ Some (n, a) → home_at h q ≡ Some (n, b) → a ≡ b → p ≡ q
-  one_place p q a b at_p at_q home_p home_q same =
-      let first = spelled_as p a at_p home_p in
-      let second = spelled_as q b at_q home_q in
-      let identity : first.identity ≡ second.identity = same-some first.identity second.identity (sym first.there ∙ second.there) in
-      tables.paths p q (path_in second.identity b) (first.path ∙ (λ i. Some (path_in (identity i) (same i)))) second.path
+  one_place p q a b at_p at_q home_p home_q same = search (std_rules, spelled_as p a at_p home_p, spelled_as q b at_q home_q)
 
   module _ (w : NumberedScope) (all : List NumberedMember) (are : AreOwnInterfaces t h n w all) where
     abbrev labels : List NumberedMember → List Text

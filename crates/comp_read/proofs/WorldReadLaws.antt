@@ -1,5 +1,5 @@
 -- One world of members that were read of what was followed.
-use Rattle.std.proofs.Common.{◌≡◌, refl, sym, ap, subst, ◌∙◌, ℕ, ◌⊎◌, inl, inr, arith, true, List, [], ◌∷◌, ◌++◌, map, Bool, false, length, Option, Some, None, slice_get}
+use Rattle.std.proofs.Common.{rules as std_rules, ◌≡◌, refl, sym, ap, subst, ◌∙◌, ℕ, ◌⊎◌, inl, inr, arith, true, List, [], ◌∷◌, ◌++◌, map, Bool, false, length, Option, Some, None, slice_get}
 use Rattle.std.proofs.lemmas.List.Elements.{Contains-append_cases, Contains-append_left}
 use Rattle.std.specs.{Borrow.Bor, List.AllByRecursion, List.Contains, List.flat_map}
 use Rattle.wit_model.specs.{Names.is_label, Text.Text}
@@ -42,8 +42,7 @@ use Rattle.plan_meaning.specs.NumberedMembers as members
 
 -- an interface without imports is no world
 no_worlds : (label : Text) (a : Part) (p : ℕ) (v : NumberedView) → numbered_part a ≡ interface p v [] → world_in_part label a ≡ []
-no_worlds label (parts.World w) p v e = let wrong : ⊥ = cc in absurd wrong
-no_worlds label (parts.Interface q u imports) p v e = refl
+no_worlds label x p v e = search std_rules
 
 module _ (pieces : List Piece) (x : Followed) (facts : List KeptFact) (h : Homes) (label : Bor (List ℕ)) (n : ℕ) (w : Scope)
     (given : IsReadWorld pieces x (tables_of x) facts h (one_world label n w) w)
@@ -69,13 +68,7 @@ module _ (pieces : List Piece) (x : Followed) (facts : List KeptFact) (h : Homes
   -- ---- where packages are from
 
   sources : (c : ℕ) → IsOfMember (m ∷ []) c ⊎ HasPlace h.homes c → IsOfMember (m ∷ own) c ⊎ HasPlace h.homes c
-  sources c (inl of) = inl (record {
-    member = m;
-    among = Contains-append_left (m ∷ []) own m (contains-one m);
-    is =
-        ap (λ (k : Member). k.package_number) (one-contained m of.member of.among) ∙ of.is;
-  })
-  sources c (inr place) = inr place
+  sources c x = search std_rules
 
   -- ---- labels
 
@@ -143,17 +136,7 @@ module _ (pieces : List Piece) (x : Followed) (facts : List KeptFact) (h : Homes
   -- ---- all of it
 
   whole : IsWholeInput t h n (m ∷ own)
-  whole = record {
-    packages = given.packages;
-    identity = (tree pieces x facts h label n w given).identity;
-    stands = (tree pieces x facts h label n w given).there;
-    sources = λ c low. sources c (given.sources c low);
-    labels = labels;
-    rise = rise;
-    followed = followed;
-    met = met;
-    reached = reached;
-  }
+  whole = search (std_rules, tree pieces x facts h label n w given, sources, labels, rise, followed, met, reached)
 
   world_input : IsWorldInput t h known n m own (tree pieces x facts h label n w given).scope
   world_input = record { world = w; is = refl; own_ = are; obeys = given.obeys; shows = (tree pieces x facts h label n w given).shows }
@@ -179,15 +162,10 @@ by_part : (pieces : List Piece) (x : Followed) (facts : List KeptFact) (h : Home
     → IsReadWorld pieces x (tables_of x) facts h (record { label = label; package_number = n; part = a }) w
     → (own : List Member) → AreBeside (tables_of x) h (record { label = label; package_number = n; part = a }) w own
     → IsWholeWorld pieces (tables_of x) facts h (record { label = label; package_number = n; part = a }) own
-by_part pieces x facts h label n a w e given own are =
-    subst (λ (b : Part). IsWholeWorld pieces (tables_of x) facts h (record { label = label; package_number = n; part = b }) own) (sym e)
-    (is_whole pieces x facts h label n w (subst (λ (b : Part). IsReadWorld pieces x (tables_of x) facts h (record { label = label; package_number = n; part = b }) w) e given) own are)
+by_part pieces x facts h label n a w e given own are = search (std_rules, is_whole)
 
 pub read_world_is_whole : ReadWorldIsWhole
-read_world_is_whole pieces x t facts h m w given own are =
-    subst (λ (u : Tables). IsWholeWorld pieces u facts h m own) (sym given.tables)
-    (by_part pieces x facts h m.label m.package_number m.part w given.is (subst (λ (u : Tables). IsReadWorld pieces x u facts h m w) given.tables given) own
-    (subst (λ (u : Tables). AreBeside u h m w own) given.tables are))
+read_world_is_whole pieces x t facts h m w given own are = search (std_rules, tables, by_part)
 
 pub read_world_plans_are_meant : ReadWorldPlansAreMeant
 read_world_plans_are_meant pieces x t facts h m w given own are p planned fits =
@@ -212,32 +190,18 @@ one_of (x ∷ y ∷ ms) m many e = absurd cc
 module _ (t : Tables) (h : Homes) (known : ℕ → Fact) (ms : List Member) (m : Member) (one : ms ≡ m ∷ []) where
   -- an interface is no world
   pub no_interface : (p : ℕ) (v : View) (imports : Bor (List ImportedView)) → m.part ≡ parts.Interface p v imports → are_one_world t h known (numbered_members ms) ≡ false
-  no_interface p v imports e = ap (λ (ks : List Member). are_one_world t h known (numbered_members ks)) one ∙ ap
-      (λ (a : Part). are_one_world t h known (numbered_members (record { label = m.label; package_number = m.package_number; part = a } ∷ []))) e
+  no_interface p v imports e = search std_rules
 
   -- and a world is one where it stands by itself
   pub alone_by : (w : Scope) → m.part ≡ parts.World w → (b : Bool) → members.is_one_world t h known m.package_number m.label.now (numbered_scope w) ≡ b
       → are_one_world t h known (numbered_members ms) ≡ b
-  alone_by w e b is =
-      ap (λ (ks : List Member). are_one_world t h known (numbered_members ks)) one
-      ∙ (ap (λ (a : Part). are_one_world t h known (numbered_members (record { label = m.label; package_number = m.package_number; part = a } ∷ []))) e ∙ is)
+  alone_by w e b is = search std_rules
 
 -- ---- a world that stands by itself
 
 module _ (x : Followed) (t : Tables) (facts : List KeptFact) (h : Homes) (m : Member) (w : Scope) (given : IsWorldReadOf x t facts h m w) (pieces : List Piece) (followed : IsFollowed pieces x) (own : List Member) (are : AreBeside t h m w own) where
   pub is_world : IsReadWorld pieces x t facts h m w
-  is_world = record {
-    tables = given.read.tables;
-    followed = followed;
-    known = given.read.known;
-    stand = given.read.stand;
-    homes = given.read.homes;
-    packages = given.read.packages;
-    sources = read_packages_have_sources given.read.first h.packages h.homes (m ∷ []) given.read.reasons given.read.members;
-    read = given.read.read;
-    is = given.is;
-    obeys = given.obeys;
-  }
+  is_world = search (std_rules, tables, followed, sources, read_packages_have_sources)
 
   pub world_may_be_whole : MayBeWhole t (m ∷ own)
   world_may_be_whole = (read_world_is_whole pieces x t facts h m w is_world own are).planned
@@ -254,13 +218,10 @@ module _ (x : Followed) (t : Tables) (facts : List KeptFact) (h : Homes) (m : Me
 
 module _ (x : Followed) (t : Tables) (facts : List KeptFact) (h : Homes) (ms : List Member) (read : AreReadOf x t facts h (map lent_member ms)) (pieces : List Piece) (followed : IsFollowed pieces x) where
   part_decided : (u : Tables) (k : NumberedMember) (a : NumberedPart) → IsPartDecided pieces u h (known_by facts) k a → is_alone u h (known_by facts) k a ≡ false → world_of_pieces pieces ≡ None
-  part_decided u k (members.world w) d e = d.decided ∙ ap (λ b. provided b (world_shown d.identity k.label d.scope)) e
-  part_decided u k (members.interface p v imports) d e = d
+  part_decided u k x d e = search std_rules
 
   none_decided : (u : Tables) (ks : List NumberedMember) → AreWorldDecided pieces u h (known_by facts) ks → are_one_world u h (known_by facts) ks ≡ false → world_of_pieces pieces ≡ None
-  none_decided u [] d e = d
-  none_decided u (k ∷ []) d e = part_decided u k k.part d e
-  none_decided u (k ∷ l ∷ ks) d e = d
+  none_decided u x d e = search std_rules
 
   pub no_world : are_one_world t h (known_by facts) (numbered_members ms) ≡ false → world_of_pieces pieces ≡ None
   no_world none =
