@@ -57,4 +57,12 @@ module _ (interfaces types : List ℕ) where
   all_behind es [] (y ∷ ys) zip new distinct = absurd zip
   all_behind es (d ∷ ds) [] zip new distinct = absurd zip
   all_behind es (d ∷ ds) (y ∷ ys) zip new distinct =
-      search (std_rules, insert_new, first_true, still_new, second_true, append_assoc, all_behind (es ++ y ∷ []) ds ys zip.1 (still_new es d.0 y zip.0.0 ds (second_true (test es d) (list_all (test es) ds) new) distinct.0) distinct.1)
+      search (
+        std_rules,
+        insert_new,
+        first_true,
+        still_new,
+        second_true,
+        append_assoc,
+        all_behind (es ++ y ∷ []) ds ys zip.1 (still_new es d.0 y zip.0.0 ds (second_true (test es d) (list_all (test es) ds) new) distinct.0) distinct.1,
+      )

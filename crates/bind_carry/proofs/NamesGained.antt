@@ -67,7 +67,15 @@ module _ {X : Type 0} where
   unfolding IsDistinct
   fresh_behind es [] new distinct = sym (append-nil es)
   fresh_behind es (y ∷ ys) new distinct =
-      search (std_rules, insert_fresh, first_true, still_fresh, second_true, append_assoc, fresh_behind (es ++ y ∷ []) ys (still_fresh es y ys (second_true (is_fresh es y) (list_all (is_fresh es) ys) new) distinct.0) distinct.1)
+      search (
+        std_rules,
+        insert_fresh,
+        first_true,
+        still_fresh,
+        second_true,
+        append_assoc,
+        fresh_behind (es ++ y ∷ []) ys (still_fresh es y ys (second_true (is_fresh es y) (list_all (is_fresh es) ys) new) distinct.0) distinct.1,
+      )
 
 -- entries of the same names, one by one
 abbrev pub KeepsNames : {X Y : Type 0} → (String Global × X → String Global × Y → Type 0) → Type 0

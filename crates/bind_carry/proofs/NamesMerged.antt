@@ -52,7 +52,14 @@ cut_same c [] [] rs ss h k e = (refl, tails c c rs ss e)
 cut_same c [] (y ∷ ys) rs ss h k e = differs c y (sym (heads c y rs (ys ++ (c ∷ ss)) e)) (first_true (not (y == c)) (list_all (λ b. not (b == c)) ys) k)
 cut_same c (x ∷ xs) [] rs ss h k e = differs c x (heads x c (xs ++ (c ∷ rs)) ss e) (first_true (not (x == c)) (list_all (λ b. not (b == c)) xs) h)
 cut_same c (x ∷ xs) (y ∷ ys) rs ss h k e =
-    search (std_rules, second_true, tails, heads, cut_same c xs ys rs ss (second_true (not (x == c)) (list_all (λ b. not (b == c)) xs) h) (second_true (not (y == c)) (list_all (λ b. not (b == c)) ys) k) (tails x y (xs ++ (c ∷ rs)) (ys ++ (c ∷ ss)) e))
+    search (
+      std_rules,
+      second_true,
+      tails,
+      heads,
+      cut_same c xs ys rs ss (second_true (not (x == c)) (list_all (λ b. not (b == c)) xs) h)
+          (second_true (not (y == c)) (list_all (λ b. not (b == c)) ys) k) (tails x y (xs ++ (c ∷ rs)) (ys ++ (c ∷ ss)) e),
+    )
 
 versions : (v u : Option Text) → at_version v ≡ at_version u → v ≡ u
 versions x y e = search std_rules
@@ -66,7 +73,14 @@ end_same [] [] v u h k e = (refl, versions v u e)
 end_same [] (y ∷ ys) v u h k e = begins v y (ys ++ at_version u) e (first_true (not (y == 64)) (list_all (λ b. not (b == 64)) ys) k)
 end_same (x ∷ xs) [] v u h k e = begins u x (xs ++ at_version v) (sym e) (first_true (not (x == 64)) (list_all (λ b. not (b == 64)) xs) h)
 end_same (x ∷ xs) (y ∷ ys) v u h k e =
-    search (std_rules, second_true, tails, heads, end_same xs ys v u (second_true (not (x == 64)) (list_all (λ b. not (b == 64)) xs) h) (second_true (not (y == 64)) (list_all (λ b. not (b == 64)) ys) k) (tails x y (xs ++ at_version v) (ys ++ at_version u) e))
+    search (
+      std_rules,
+      second_true,
+      tails,
+      heads,
+      end_same xs ys v u (second_true (not (x == 64)) (list_all (λ b. not (b == 64)) xs) h)
+          (second_true (not (y == 64)) (list_all (λ b. not (b == 64)) ys) k) (tails x y (xs ++ at_version v) (ys ++ at_version u) e),
+    )
 
 -- ---- packages
 

@@ -124,7 +124,14 @@ module _ (f : Renumbering) where
       → (each_after u news (items ys) ≡ true) × Covers f (olds ++ items xs) (news ++ items ys)
   walk own t u one olds news _ _ none holds covers h = search std_rules
   walk own t u one olds news _ _ (met old there xs ys c k i rest) holds covers h =
-      search (std_rules, covers_met, second_true, append_assoc, walk own t u one (olds ++ old.1 ∷ []) news xs ys rest holds (covers_met olds news own old there c i holds covers) (second_true (t olds old.1) _ h))
+      search (
+        std_rules,
+        covers_met,
+        second_true,
+        append_assoc,
+        walk own t u one (olds ++ old.1 ∷ []) news xs ys rest holds (covers_met olds news own old there c i holds covers)
+            (second_true (t olds old.1) _ h),
+      )
   walk own t u one olds news _ _ (added old new xs ys n z rest) holds covers h =
       let more = walk own t u one (olds ++ old.1 ∷ []) (news ++ new.1 ∷ []) xs ys rest
       (λ h x c m e. numbers_left h news (new.1 ∷ []) m (holds h x c m e)) (covers_added olds news old.1 new.1 z.1 covers)

@@ -1,9 +1,9 @@
 -- What is built of the plan of a package.
-use Rattle.std.proofs.Common.{rules as std_rules, ◌≡◌, inl, inr, refl, sym, ap, subst, ◌∙◌, ℕ, zero, suc, ◌+◌, ◌<◌, ◌≤◌, arith, Bool, true, List, [], ◌∷◌, map, length, slice_get, Option, Some, None, option_map}
-use Rattle.std.proofs.lemmas.{List.length-map, Bool.cases_lt as below_or, Slice.Zip.AllZip-long as zip_length}
+use Rattle.std.proofs.Common.{rules as std_rules, ◌≡◌, refl, sym, ap, subst, ◌∙◌, ℕ, zero, suc, ◌+◌, ◌<◌, ◌≤◌, arith, Bool, true, List, [], ◌∷◌, map, length, slice_get, Option, Some, None, option_map}
+use Rattle.std.proofs.lemmas.{List.length-map, Slice.Zip.AllZip-long as zip_length}
 use Rattle.wit_model.specs.declared.model.{Package.Package, Resolve.Resolve}
 use Rattle.wit_model.specs.{Lookup.package_at, Meaning.PackageMeaning, Meant.Meant, Valid.IsValid, Names.PackageIdentity}
-use Rattle.plan_meaning.specs.{Built.IsBuilt, Built.planned_package, Built.planned_type, PlanMeaning.package_meaning, PlanMeaning.plan_meaning, Shapes.Shape, NumberedViews.Tables, Plan.Plan, Plan.PlannedPackage, Plan.package_in, PlanRules.IsPlan}
+use Rattle.plan_meaning.specs.{Built.IsBuilt, Built.planned_package, PlanMeaning.package_meaning, PlanMeaning.plan_meaning, Shapes.Shape, NumberedViews.Tables, Plan.Plan, Plan.PlannedPackage, Plan.package_in, PlanRules.IsPlan}
 use Rattle.plan_meaning.proofs.NothingElse.{package_holds_alone}
 use Rattle.plan_build.specs.{Buildable.IsBuildable, MeansPlan.MeansPlan}
 use Rattle.plan_build.proofs.BuildableLaws.{plans_are_buildable}

@@ -1,10 +1,10 @@
 -- What the rules of reading make of the parts at the top is what they make of the scopes that were followed.
-use Rattle.std.proofs.Common.{rules as std_rules, ◌≡◌, refl, sym, ap, ◌∙◌, true, List, [], ◌∷◌, Option, Some, None}
+use Rattle.std.proofs.Common.{rules as std_rules, ◌≡◌, ap, ◌∙◌, true, List, Some}
 use Rattle.wit_model.specs.Text.{Text}
 use Rattle.comp_bytes.specs.{Levels.PartType, Levels.Piece, Reading.◌>>=◌}
 use Rattle.comp_bytes.proofs.Readers.{bind_some}
 use Rattle.comp_meaning.specs.{ByLevels.exported_parts, ByLevels.member_by_levels, Follow.each, Follow.is_filled, Reads.Member}
-use Rattle.read_parts.specs.Followed.{PartScope, labelled_scope, member_of_scope, scopes_in, scopes_of}
+use Rattle.read_parts.specs.Followed.{PartScope, labelled_scope, member_of_scope, scopes_of}
 use Rattle.read_parts.proofs.ScopeMeaning.{each_both, member_law}
 
 -- the scopes of these parts are the items of the sections' parts

@@ -6,7 +6,7 @@ use Rattle.wit_model.specs.{Text.Text, Meaning.WorldMeaning, Uses.once}
 use Rattle.plan_meaning.specs.NumberedViews.{Tables, AreTables, path_at, NumberedSight, NumberedType, first_at}
 use Rattle.plan_meaning.specs.NumberedWorlds.{declares, NumberedSeen, are_once, NumberedInstance, NumberedScope}
 use Rattle.plan_meaning.specs.{Plan.PlannedItem, Plan.PlannedKey, Plan.PlannedWorld, Plan.PlannedInterface, Plan.numbers_of, Renumbering.IsPart}
-use Rattle.plan_meaning.specs.{Shapes.named_shape, NumberedMembers.Homes, NumberedMembers.IsMember, NumberedMembers.ShowsPart, NumberedRules.Fact}
+use Rattle.plan_meaning.specs.{Shapes.named_shape, NumberedMembers.Homes, NumberedMembers.IsMember, NumberedRules.Fact}
 use Rattle.read_exports.specs.declared.members.{Member.Member, Part.Part}
 use Rattle.read_rules.specs.Scopes.{numbered_scope, numbered_seen, numbered_shown}
 use Rattle.read_rules.specs.declared.scopes.{Scope.Scope, Seen.Seen, Shown.Shown}
@@ -19,7 +19,7 @@ use Rattle.base_lemmas.proofs.Lists.{mapped_get, none_there, append_of_map, leng
 use Rattle.comp_meaning.specs.Reads.{worlds_of}
 use Rattle.plan_type_laws.specs.ShownMarks.{has_no_path}
 use Rattle.plan_laws.proofs.OwnPlaces.{once_first}
-use Rattle.read_exports.specs.Members.{numbered_member, numbered_members, numbered_part}
+use Rattle.read_exports.specs.Members.{numbered_member, numbered_members}
 use Rattle.comp_read.proofs.{PlanOrder.worlds_meant, ShownOrder.paths_once, Members.instance_shown, ShownScopes.scope_places}
 use Rattle.comp_read.proofs.Cuts.{behind_front, early, first_of, late, of_front, split_flat}
 use Rattle.comp_read.proofs.{WorldOrder.joined_behind, TypeNumbers.same_part, TypeNumbers.shown_at, TypeNumbers.shown_number, TypeNumbers.told_parts}

@@ -29,7 +29,6 @@ use Rattle.plan_laws.proofs.{FirstPlaces.joined_more, Inside.flat_cases, PlaceNu
 use Rattle.comp_read.proofs.{Lists.first_passing, WorldOrder.joined_behind}
 use Rattle.plan_meaning.specs.NumberedWorlds as worlds
 use Rattle.read_follow.specs.declared.scopes.Shown.TheVariants as shown
-use Rattle.read_follow.specs.declared.slots.Slot.TheVariants as slots
 use Rattle.comp_meaning.specs.Follow as follow
 
 -- ---- What was in the table behind some first entries of a part comes before what was not.

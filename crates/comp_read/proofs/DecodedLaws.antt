@@ -1,5 +1,5 @@
 -- What is decoded of bytes, by what their sections mean.
-use Rattle.std.proofs.Common.{rules as std_rules, ◌≡◌, refl, sym, subst, ◌∙◌, ℕ, ◌≤◌, arith, List, length, Option, Some, None}
+use Rattle.std.proofs.Common.{rules as std_rules, ◌≡◌, refl, sym, ◌∙◌, ℕ, ◌≤◌, arith, List, length, Option, Some, None}
 use Rattle.wit_model.specs.declared.model.Resolve.{Resolve}
 use Rattle.wit_model.specs.Meaning.{PackageMeaning, WorldPackage}
 use Rattle.comp_bytes.specs.{Levels.Piece, Levels.levels_of, Reading.◌>>=◌}

@@ -1,13 +1,13 @@
 -- Instances of worlds stand under their keys, imports are counted, and what interfaces import is bare.
-use Rattle.std.proofs.Common.{rules as std_rules, ◌≡◌, ap, ◌∙◌, ℕ, ◌≤◌, arith, List, length, Some, None, refl, sym, subst, true, false, not, ◌&&◌, [], ◌∷◌, map, is_none, slice_get}
+use Rattle.std.proofs.Common.{rules as std_rules, ◌≡◌, ap, ◌∙◌, ℕ, ◌≤◌, arith, List, length, Some, None, refl, sym, subst, [], ◌∷◌, map, slice_get}
 use Rattle.std.proofs.lemmas.Option.{slice_get_within, same_Some as same-some}
 use Rattle.wit_model.specs.{Names.read_path, Text.Text}
 use Rattle.comp_bytes.specs.{Levels.Piece, Levels.levels_of, Levels.PartType, Levels.shows, Levels.wraps, Reading.◌>>=◌}
 use Rattle.read_follow.specs.declared.{refusal.Refusal.Refusal, scopes.Seen.Seen as FollowedSeen, scopes.Shown.Shown as FollowedShown}
 use Rattle.read_follow.specs.Found.{Refuses}
 use Rattle.read_parts.specs.declared.{following.Followed.Followed, members.FollowedPart.FollowedPart, members.Member.Member as FollowedMember}
-use Rattle.comp_meaning.specs.{Follow.each, Follow.is_filled, Reads.package_of_members, Reads.world_of_members, ByLevels.entry_scope}
-use Rattle.read_parts.specs.Followed.{member_of_scope, scopes_of, PartScope, labelled_scope, part_scope, world_path}
+use Rattle.comp_meaning.specs.{ByLevels.entry_scope}
+use Rattle.read_parts.specs.Followed.{scopes_of, PartScope, labelled_scope, part_scope, world_path}
 use Rattle.read_parts.specs.{Input.IsFollowed, Members.scope_of}
 use Rattle.read_parts.proofs.CountLaws.{parts_fit}
 use Rattle.read_numbers.specs.NumberedInput.{tables_of, MemberShown, PartShown}
@@ -20,9 +20,9 @@ use Rattle.comp_read.specs.declared.wanted.Wanted.{Wanted}
 use Rattle.comp_read.specs.{SomeFollowed.IsSomeFollowed, ReadInput.IsReadInput}
 use Rattle.comp_read.specs.{WantedFound.MeansNone, FollowedWorlds.ReadImportsAreBare, FollowedWorlds.ReadPlacesAreMet, FollowedWorlds.ReadWorldsAreFollowed}
 use Rattle.base_lemmas.proofs.{Options.there, Elements.contains-map, Elements.get-contains, Elements.zip_at as zip_there, Elements.zip_at_right as zip_at}
-use Rattle.base_lemmas.proofs.{Bools.right_of as second_true, Lists.within_there as slice_there}
+use Rattle.base_lemmas.proofs.{Lists.within_there as slice_there}
 use Rattle.std.specs.List.{AllByRecursion, AllZip, Contains, flat_map}
-use Rattle.comp_bytes.proofs.Readers.{bind_some, when_some}
+use Rattle.comp_bytes.proofs.Readers.{bind_some}
 use Rattle.plan_meaning.specs.NumberedMembers.{Homes, NumberedMember, imported_view}
 use Rattle.plan_meaning.specs.NumberedViews.{NumberedView, Tables}
 use Rattle.plan_meaning.specs.NumberedWorlds.{NumberedScope, NumberedSeen, NumberedShown, Shows, seen_of, shown_of}
@@ -39,13 +39,10 @@ use Rattle.plan_laws.specs.WholeWorlds.{ImportsAreCounted, IsCounted, IsUnderKey
 use Rattle.comp_read.proofs.{ByScopes.scopes_found, Inputs.keys_differ, Lists.all_beside, Places.world_at}
 use Rattle.comp_read.proofs.{InterfaceViews.each_beside, InterfaceViews.shown_as, KeyLabels.HasLabel, KeyLabels.HaveLabels, KeyLabels.entry_labels}
 use Rattle.comp_read.proofs.Members.{IsBoth, IsWorldRead, both_at, both_there, part_viewed, placed, scope_in, world_read, world_scope}
-use Rattle.read_follow.specs.declared.refusal.Refusal.TheVariants as refusals
 use Rattle.comp_read.specs.declared.wanted.Wanted.TheVariants as wanted
 use Rattle.comp_meaning.specs.Follow as follow
 use Rattle.comp_meaning.specs.Reads as reads
 use Rattle.plan_meaning.specs.NumberedWorlds as worlds
-use Rattle.read_follow.specs.declared.instance_keys.InstanceKey.TheVariants as keys
-use Rattle.read_follow.specs.declared.scopes.Shown.TheVariants as shown
 use Rattle.read_parts.specs.declared.members.FollowedPart.TheVariants as followed
 use Rattle.read_parts.specs.Followed as scopes
 use Rattle.read_exports.specs.declared.members.Part.TheVariants as parts
@@ -187,9 +184,6 @@ pub read_worlds_are_followed : ReadWorldsAreFollowed
 read_worlds_are_followed pieces x h ms members input = worlds_followed pieces x h ms members input
 
 -- ---- interfaces
-
-nothing_filled : {A : Type 0} (xs : List A) → not (is_filled xs) ≡ true → xs ≡ []
-nothing_filled x e = search std_rules
 
 import_bare : (s : NumberedSeen) (i : Placed) → imported_view s ≡ Some i → i.1.functions ≡ []
 import_bare s i e = search std_rules

@@ -1,22 +1,19 @@
 -- The views that the component type of an interface gives are those of its instances.
-use Rattle.std.proofs.Common.{rules as std_rules, ◌≡◌, refl, sym, ap, subst, ◌∙◌, ◌⊎◌, inl, inr, Bool, true, false, not, ◌&&◌, List, [], ◌∷◌, ◌++◌, map, Option, Some, None, is_none}
+use Rattle.std.proofs.Common.{rules as std_rules, ◌≡◌, refl, sym, subst, ◌⊎◌, inl, inr, Bool, true, false, List, [], ◌∷◌, ◌++◌, map, Option, Some, None}
 use Rattle.std.proofs.lemmas.List.Elements.{Contains-append_cases, Contains-append_left, Contains-append_right}
 use Rattle.std.proofs.lemmas.Option.{same_Some as same-some}
 use Rattle.std.specs.List.{AllByRecursion, AllZip, Contains}
 use Rattle.wit_model.proofs.Elements.{contains-get}
 use Rattle.comp_bytes.specs.Reading.{◌>>=◌}
-use Rattle.comp_bytes.proofs.Readers.{when_some}
-use Rattle.comp_meaning.specs.Follow.{each, is_filled, provided}
-use Rattle.plan_meaning.specs.{FollowedNumbers.IsOneOf, NumberedViews.NumberedSight, NumberedViews.NumberedView, NumberedViews.Tables}
+use Rattle.comp_meaning.specs.Follow.{each}
+use Rattle.plan_meaning.specs.{FollowedNumbers.IsOneOf, NumberedViews.NumberedSight, NumberedViews.Tables}
 use Rattle.plan_meaning.specs.NumberedMembers.{exported_view, imported_view}
-use Rattle.plan_meaning.specs.NumberedWorlds.{HasPath, NumberedInstance, NumberedKey, NumberedScope, NumberedSeen, NumberedShown, are_once, are_reached, declares, function, implementing, instance, label, path, place_of_key}
+use Rattle.plan_meaning.specs.NumberedWorlds.{HasPath, NumberedInstance, NumberedScope, NumberedSeen, NumberedShown, are_once, are_reached, instance, path}
 use Rattle.read_exports.specs.Interfaces.{Placed, shown_interface}
 use Rattle.plan_package.specs.Views.{types_alone}
 use Rattle.read_numbers.specs.PlacedNumbers.{IsPlacedItem}
 use Rattle.comp_read.proofs.Scopes.{IsSeen, IsSeenAs}
-use Rattle.base_lemmas.proofs.Bools.{left_of as first_true, right_of as second_true}
 use Rattle.base_lemmas.proofs.Elements.{all_at, contains-map, contains-one, get-contains, last_of as one-contained, map_from as from_map, zip_at as zip_there, zip_at_right as zip_at}
-use Rattle.comp_meaning.proofs.FollowLemmas.{provided_is as of_provided}
 
 no_some : {A B : Type 0} (x : A) → None ≡ Some x → B
 no_some x e = let wrong : ⊥ = cc in absurd wrong
@@ -77,9 +74,6 @@ of_views t w e is h =
     record { imports = imports_are w.imports is (each_beside imported_view w.imports is all.imports_found); one = one.0; alone = one.1; exported = one.2 }
 
 -- ---- instances and views
-
-same_instance : (k l : NumberedKey) (v u : NumberedView) → instance k v ≡ instance l u → (k ≡ l) × (v ≡ u)
-same_instance k l v u e = (cc, cc)
 
 -- one of these is the instance's view
 pub record IsViewed (views : List NumberedSight) (i : NumberedInstance) : Type 0 where

@@ -1,13 +1,13 @@
 -- The keys of inline interfaces, and of those that implement others, are labels.
-use Rattle.std.proofs.Common.{rules as std_rules, arith, ◌≡◌, ℕ, ◌⊎◌, inl, inr, ◌&&◌, ◌==◌, true, false, not, List, [], ◌∷◌, ◌++◌, length, Option, Some, None, is_some, slice_get, subst}
+use Rattle.std.proofs.Common.{rules as std_rules, arith, ◌≡◌, ℕ, ◌⊎◌, inl, inr, ◌&&◌, ◌==◌, true, false, not, List, [], ◌∷◌, ◌++◌, Option, Some, None, is_some, slice_get, subst}
 use Rattle.std.proofs.lemmas.Option.{same_Some as same-some}
 use Rattle.std.specs.List.{AllByRecursion, list_any}
-use Rattle.wit_model.specs.{Names.is_label, Text.Text, Tree.Place, Tree.Declaration, Meaning.Signature}
+use Rattle.wit_model.specs.{Names.is_label, Text.Text, Tree.Place, Tree.Declaration}
 use Rattle.comp_bytes.specs.declared.forms.ComponentTypeRef.{ComponentTypeRef}
-use Rattle.comp_bytes.specs.{Levels.Entry, Levels.holds, Levels.plain, Raw.Alias, Raw.ExternName, Reading.◌>>=◌}
+use Rattle.comp_bytes.specs.{Levels.Entry, Raw.Alias, Raw.ExternName, Reading.◌>>=◌}
 use Rattle.comp_bytes.proofs.Readers.{bind_some, chosen, when_some}
 use Rattle.comp_meaning.specs.{ByLevels.all_used, ByLevels.entry_scope, ByLevels.entry_step, Reads.steps}
-use Rattle.comp_meaning.specs.Follow.{Slot, View, Instance, Seen, Shown, Key, Scope, Direction, import_, export_, complete_path, component_step, definition, exported_slot, function_in, function_signature, in_scope, interface_of, is_simple, key_of, key_text, named_type, new_scope, place_of, plain_key, provided, see, see_described, see_function, see_instance, see_type, used_view, when}
+use Rattle.comp_meaning.specs.Follow.{Slot, View, Instance, Seen, Shown, Key, Scope, Direction, import_, export_, complete_path, component_step, in_scope, interface_of, is_simple, key_of, key_text, named_type, new_scope, place_of, plain_key, provided, see, see_described, see_function, see_instance, see_type, used_view, when}
 use Rattle.comp_meaning.proofs.EntryLaws.{steps_keep}
 use Rattle.base_lemmas.proofs.{Bools.left_of as first_true, Elements.all_end}
 use Rattle.comp_bytes.specs.declared.forms.ComponentTypeRef.TheVariants as refs

@@ -1,16 +1,16 @@
 -- What is exported at the top has labels, none twice.
-use Rattle.std.proofs.Common.{rules as std_rules, ◌≡◌, refl, sym, ap, subst, ◌∙◌, ℕ, Bool, true, not, ◌&&◌, ◌==◌, List, [], ◌∷◌, ◌++◌, length, map, Option, Some, slice_get}
+use Rattle.std.proofs.Common.{rules as std_rules, ◌≡◌, refl, sym, ap, subst, ◌∙◌, ℕ, Bool, true, ◌&&◌, ◌==◌, List, [], ◌∷◌, ◌++◌, length, map, Option, Some, slice_get}
 use Rattle.std.proofs.lemmas.Option.{same_Some as same-some}
-use Rattle.std.specs.List.{AllByRecursion, AllZip, list_any}
+use Rattle.std.specs.List.{AllByRecursion, AllZip}
 use Rattle.wit_model.specs.{Names.is_label, Text.Text}
 use Rattle.comp_bytes.specs.{Levels.PartType, Levels.Piece, Raw.TopExport, Reading.◌>>=◌}
 use Rattle.comp_bytes.proofs.Readers.{bind_some, when_some}
-use Rattle.comp_meaning.specs.{ByLevels.Top, ByLevels.exported_parts, ByLevels.top_export, ByLevels.top_part, ByLevels.top_piece, Reads.is_bare, Reads.steps}
-use Rattle.comp_meaning.specs.{Follow.each, Follow.provided, Follow.when, Rules.distinct}
+use Rattle.comp_meaning.specs.{ByLevels.Top, ByLevels.exported_parts, ByLevels.top_export, ByLevels.top_part, ByLevels.top_piece, Reads.steps}
+use Rattle.comp_meaning.specs.{Follow.each, Follow.when, Rules.distinct}
 use Rattle.comp_meaning.proofs.EntryLaws.{steps_keep}
 use Rattle.plan_meaning.specs.NumberedViews.{Tables}
 use Rattle.read_parts.specs.declared.members.Member.{Member as FollowedMember}
-use Rattle.read_parts.specs.Followed.{PartScope, labelled_scope, part_scope}
+use Rattle.read_parts.specs.Followed.{PartScope, labelled_scope}
 use Rattle.read_members.specs.PartMembers.{IsMemberOf}
 use Rattle.read_numbers.specs.NumberedInput.{tables_of, MemberShown}
 use Rattle.read_numbers.proofs.InputNumbers.{input_in_numbers}

@@ -16,7 +16,7 @@ pub mod Lists
 pub mod Cuts
 -- The instances of a scope are its imports and its exports that are instances. Serves InterfaceViews, Members, Places.
 pub mod Scopes
--- The views that the component type of an interface gives are those of its instances. Serves Followed, Labels, Members, NamedOrder and 5 more.
+-- The views that the component type of an interface gives are those of its instances. Serves Followed, Labels, Members, NamedOrder and 4 more.
 pub mod InterfaceViews
 -- The members of an input, beside what was followed and what the rules of reading make of it. Serves CutOrder, Followed, Inputs, NamedOrder and 8 more.
 pub mod Members
@@ -62,7 +62,7 @@ pub mod Whole
 pub mod ReadPackages
 -- The package of members that were read of what was followed. Serves packages::main_of, packages::package_of_members, reading::wanted_of_scopes.
 pub mod ReadLaws
--- A world by itself that was followed and read is, with the interfaces of its package that it shows, the input of the laws of packages. Serves ReadOrder, WorldReadLaws.
+-- A world by itself that was followed and read is, with the interfaces of its package that it shows, the input of the laws of packages. Serves WorldReadLaws.
 pub mod WorldInput
 -- One world of members that were read of what was followed. Serves laws::read_world_is_whole, laws::read_world_plans_are_meant, worlds::built_world, worlds::one_world and 1 more.
 pub mod WorldReadLaws

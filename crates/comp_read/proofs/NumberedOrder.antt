@@ -4,7 +4,7 @@ use Rattle.std.proofs.lemmas.{Bool.lt-ltb, Bool.cases_lt, Bool.le-ltb, List.Elem
 use Rattle.std.proofs.lemmas.Option.{same_Some as same-some, slice_get_within as found_below}
 use Rattle.std.specs.{List.Contains, List.flat_map, List.AllZip, Option.option_map_or}
 use Rattle.wit_model.specs.Parts.{met_by, numbered_from, met_of}
-use Rattle.wit_model.specs.{Text.Text, Tree.Form, Tree.Place, Tree.Tree, Tree.children, Types.no_tree, Types.number_tree, Types.trees_of, Uses.once}
+use Rattle.wit_model.specs.{Text.Text, Tree.Form, Tree.Tree, Tree.children, Types.number_tree, Types.trees_of, Uses.once}
 use Rattle.plan_meaning.specs.{GatheredPlan.Becomes, Renumbering.IsPart, Renumbering.a_primitive, Renumbering.a_shape}
 use Rattle.plan_meaning.specs.{KeptTypes.IsKeptType, KeptTypes.unnamed, KeptTypes.declared, KeptTypes.TypesAreKept, Built.IsBuilt, Built.planned_type}
 use Rattle.plan_meaning.specs.Shapes.{named_shape, node_shape, Shape, part_tree, shape_tree, shape_trees}
@@ -24,7 +24,6 @@ use Rattle.plan_types.specs.PlannedTypes.{number_in}
 use Rattle.read_follow.specs.Numbering.{bare_parts, scoped_trees, CountUp, IsNext}
 use Rattle.read_follow.proofs.NumberingLaws.{count_below}
 use Rattle.read_numbers.specs.PlacedNumbers.{IsMetPart}
-use Rattle.read_numbers.proofs.MetNumbers.{met_parts_are_seen}
 use Rattle.read_parts.specs.Members.{DeclaringScope}
 use Rattle.comp_read.specs.TypeOrder.{are_pathed, is_pathed, numbers_below, HasNumber, NumbersFollow}
 use Rattle.comp_read.proofs.CountedUp.{IsOfSmaller, StandBehind, behind_mapped, below, counted_up}

@@ -1,5 +1,5 @@
 -- Numbers, each once, where it stands first.
-use Rattle.std.proofs.Common.{rules as std_rules, ◌≡◌, refl, sym, ap, ◌∙◌, ℕ, Bool, true, false, not, ◌||◌, ◌==◌, cond, List, [], ◌∷◌, ◌++◌, map, append-nil}
+use Rattle.std.proofs.Common.{rules as std_rules, ◌≡◌, refl, sym, ap, ◌∙◌, ℕ, Bool, true, false, cond, List, [], ◌∷◌, ◌++◌, map, append-nil}
 use Rattle.std.proofs.lemmas.{Bool.eq-eqb, Bool.eqb-true, List.map-append, List.Elements.filter-append}
 use Rattle.std.specs.List.{filter}
 use Rattle.wit_model.specs.Uses.{has, once}

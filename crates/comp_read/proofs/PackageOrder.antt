@@ -5,14 +5,14 @@ use Rattle.std.proofs.lemmas.Option.{slice_get_within as found_below}
 use Rattle.std.specs.List.{Contains, filter, flat_map}
 use Rattle.wit_model.specs.declared.model.Resolve.{Resolve}
 use Rattle.wit_model.specs.{Lookup.identity_of, Names.PackageIdentity, Text.Text, Uses.once}
-use Rattle.wit_model.proofs.{Chains.has_once, Elements.contains-flat, Elements.contains-get, Elements.contains-has, Elements.has-contains, Elements.none-in}
+use Rattle.wit_model.proofs.{Chains.has_once, Elements.contains-flat, Elements.contains-get, Elements.contains-has, Elements.has-contains}
 use Rattle.comp_bytes.specs.Levels.{Piece}
 use Rattle.comp_meaning.specs.Same.{same_identity}
 use Rattle.comp_meaning.proofs.SameLaws.{identities_decide}
 use Rattle.plan_meaning.specs.{Built.IsBuilt, Built.planned_package, NumberedWorlds.HasPath, NumberedWorlds.NumberedInstance, NumberedWorlds.NumberedScope, NumberedViews.Tables, NumberedViews.path_at, Plan.Plan, Plan.PlannedPackage}
 use Rattle.plan_meaning.specs.NumberedMembers.{Homes, IsMember, NumberedMember, home_at}
-use Rattle.plan_package.specs.PlanWhole.{PlansWhole, places_in}
-use Rattle.plan_package.specs.{WholeInterfaces.Home, WholePackages.PlansPackage, WholePackages.another, WholePackages.entries_from, WholePackages.the_main}
+use Rattle.plan_package.specs.PlanWhole.{PlansWhole}
+use Rattle.plan_package.specs.{WholeInterfaces.Home}
 use Rattle.plan_laws.specs.WholePlan.{IsOfMember}
 use Rattle.plan_laws.proofs.Inside.{flat_cases}
 use Rattle.read_homes.specs.Homes.{ComeInOrder, HasPlace, HasPlaceBefore}
@@ -24,7 +24,7 @@ use Rattle.comp_read.specs.{Order.once_by_identity, Order.package_of_path, Order
 use Rattle.comp_read.specs.ReadPackages.{HaveSources}
 use Rattle.comp_read.proofs.CountedUp.{Any, IsBeforeIn, IsOfSmaller, StandBehind, behind_both, behind_flat, behind_low, behind_mapped, below, below_at, below_long, counted_up}
 use Rattle.comp_read.proofs.{Members.placed, ShownScopes.places_shown_under, ShownScopes.scope_places, WorldOrder.homeless}
-use Rattle.base_lemmas.proofs.Elements.{contains-later, contains-map, first-contained, get-contains, last_of, map_from, zip_at, zip_map}
+use Rattle.base_lemmas.proofs.Elements.{contains-later, contains-map, first-contained, get-contains, map_from, zip_at, zip_map}
 use Rattle.base_lemmas.proofs.Lists.{append_of_map, get_back, length_of_map, map_of_map, mapped_get, within_there}
 use Rattle.base_lemmas.proofs.{Numbers.unequal, Options.some_is}
 use Rattle.comp_meaning.specs.Reads as reads

@@ -17,7 +17,7 @@ use Rattle.plan_type_laws.specs.ShownMarks.{ArePlaced, NamesSeen, PartNames, has
 use Rattle.read_exports.specs.Members.{numbered_members, numbered_part}
 use Rattle.read_exports.specs.declared.members.{Member.Member, Part.Part}
 use Rattle.read_rules.specs.Scopes.{numbered_scope}
-use Rattle.read_rules.specs.declared.scopes.{Scope.Scope, Seen.Seen, Shown.Shown}
+use Rattle.read_rules.specs.declared.scopes.{Scope.Scope, Seen.Seen}
 use Rattle.plan_laws.specs.ShownNames.{DeclaresName, PartDeclaresNames}
 use Rattle.plan_laws.proofs.Inside.{flat_cases}
 use Rattle.plan_laws.proofs.OwnPlaces.{AreDifferent, both_ways, inline_places, inlines, kept_nones, no_path, nones, seen_nones}
@@ -30,7 +30,6 @@ use Rattle.base_lemmas.proofs.Lists.{length_of_map, one_item}
 use Rattle.comp_meaning.specs.Reads as reads
 use Rattle.plan_meaning.specs.NumberedWorlds as worlds
 use Rattle.read_exports.specs.declared.members.Part.TheVariants as parts
-use Rattle.read_rules.specs.declared.scopes.Shown.TheVariants as shown
 
 pub no_place : (o : Option Text) → is_none o ≡ true → o ≡ None
 no_place x e = search std_rules

@@ -1,10 +1,10 @@
 -- The package of members that were read of what was followed.
-use Rattle.std.proofs.Common.{rules as std_rules, ◌≡◌, sym, ap, subst, ◌∙◌, ℕ, true, false, List, [], ◌∷◌, map, Option, Some, None, slice_get}
+use Rattle.std.proofs.Common.{rules as std_rules, ◌≡◌, sym, ap, subst, ℕ, true, false, List, [], ◌∷◌, map, Option, Some, None, slice_get}
 use Rattle.std.specs.{Borrow.Bor, List.AllZip}
 use Rattle.wit_model.specs.Names.{PackageIdentity}
 use Rattle.comp_bytes.specs.Levels.{Piece}
-use Rattle.comp_meaning.specs.{ByLevels.package_of_pieces, Follow.provided}
-use Rattle.plan_meaning.specs.NumberedMembers.{Homes, HomesStand, NumberedMember, are_package, home_at, package_shown}
+use Rattle.comp_meaning.specs.{ByLevels.package_of_pieces}
+use Rattle.plan_meaning.specs.NumberedMembers.{Homes, HomesStand, NumberedMember, are_package, home_at}
 use Rattle.plan_meaning.specs.{NumberedRules.Fact, NumberedViews.Tables}
 use Rattle.read_homes.specs.Homes.{given_home, ArePackages, ComeInOrder, HaveReasons, IsHomeOf}
 use Rattle.read_parts.specs.declared.{following.Followed.Followed, members.Member.Member as FollowedMember}

@@ -1,5 +1,5 @@
 -- What is decoded stands in the order in which the bytes show it.
-use Rattle.std.proofs.Common.{rules as std_rules, ◌≡◌, refl, sym, ap, subst, ◌∙◌, ℕ, arith, Bool, true, false, cond, List, [], ◌∷◌, ◌++◌, map, Option, Some, None, is_none, slice_get, ◌+◌, ◌<◌, append-nil, length, IfOk, Result, Ok, Err}
+use Rattle.std.proofs.Common.{rules as std_rules, ◌≡◌, refl, sym, ap, subst, ◌∙◌, ℕ, arith, true, cond, List, [], ◌∷◌, ◌++◌, map, Option, Some, None, is_none, slice_get, ◌+◌, ◌<◌, append-nil, length, IfOk, Result}
 use Rattle.std.proofs.lemmas.List.Elements.{filter-append}
 use Rattle.std.specs.List.{AllByRecursion, Contains, filter, flat_map, AllZip}
 use Rattle.wit_model.specs.{Text.Text, Meaning.PackageMeaning, Meaning.WorldPackage}
@@ -29,7 +29,7 @@ use Rattle.comp_read.proofs.{Places.no_place, Places.places_differ, Places.world
 use Rattle.comp_read.proofs.{PlanOrder.StandAlone, PlanOrder.package_follows, PlanOrder.types_built, PlanOrder.world_follows, PackageOrder.packages_are}
 use Rattle.comp_read.proofs.{ByScopes.members_by_scopes, TypeNumbers.all_rise, TypeNumbers.places_alike, TypeNumbers.world_places, TypeNumbers.world_views}
 use Rattle.comp_read.proofs.{WorldOrder.places_are, ShownScopes.scope_places, ReadPackages.read_members_are_input, ReadPackages.read_packages_have_sources}
-use Rattle.comp_read.proofs.{NamedOrder.named_less, Whole.package_views_obey, Whole.read_is_package_input, WorldInput.views_obey}
+use Rattle.comp_read.proofs.{NamedOrder.named_less, Whole.package_views_obey, Whole.read_is_package_input}
 use Rattle.base_lemmas.proofs.Elements.{all_at, filter_kept as filter_from, get-contains, map_from as from_map, contains-map, last_of, zip_long}
 use Rattle.base_lemmas.proofs.Lists.{one_item}
 use Rattle.wit_model.specs.declared.model.Resolve.{Resolve}
@@ -45,7 +45,7 @@ use Rattle.read_follow.specs.{Numbering.bare_parts, Numbering.scoped_trees, Scop
 use Rattle.read_follow.proofs.{ComponentLaws.places_are as places_stand, NumberingLaws.count_below}
 use Rattle.read_members.specs.ReadMembers.{AreRead, lent_member}
 use Rattle.read_numbers.proofs.MetNumbers.{met_from}
-use Rattle.read_parts.specs.{Input.IsFollowed, Members.declared_trees, Members.scope_of, Members.DeclaringScope, Members.IsScopedBy}
+use Rattle.read_parts.specs.{Input.IsFollowed, Members.declared_trees, Members.DeclaringScope, Members.IsScopedBy}
 use Rattle.read_rules.specs.declared.{scopes.Scope.Scope, tables.Fact.Fact as KeptFact}
 use Rattle.comp_meaning.specs.Reads as reads
 use Rattle.read_exports.specs.declared.members.Part.TheVariants as parts

@@ -1,7 +1,6 @@
 -- A package that was followed and read: what was followed is whole, and so is the plan of it, which means what the input does.
-use Rattle.std.proofs.Common.{rules as std_rules, ◌≡◌, refl, sym, ap, subst, ◌∙◌, ℕ, arith, inl, inr, true, false, List, [], ◌∷◌, map, Option, Some, None, slice_get}
-use Rattle.std.proofs.lemmas.Option.{same_Some as same-some}
-use Rattle.std.specs.List.{AllZip, Contains}
+use Rattle.std.proofs.Common.{rules as std_rules, ◌≡◌, refl, sym, ap, subst, ◌∙◌, ℕ, true, false, List, [], ◌∷◌, map, Option, Some, slice_get}
+use Rattle.std.specs.List.{Contains}
 use Rattle.comp_bytes.specs.{Levels.Piece, Reading.◌>>=◌}
 use Rattle.comp_bytes.proofs.Readers.{bind_some}
 use Rattle.comp_meaning.specs.{Follow.each, Follow.is_filled, Reads.package_of_members, Reads.package_with}

@@ -1,7 +1,7 @@
 -- The order in which views are shown, in numbers and in paths.
 use Rattle.std.proofs.Common.{rules as std_rules, ◌≡◌, refl, sym, ap, ◌∙◌, ℕ, Bool, true, false, not, ◌&&◌, ◌||◌, ◌==◌, cond, List, [], ◌∷◌, ◌++◌, map, Option, Some, None, is_none, slice_get}
 use Rattle.std.proofs.lemmas.{Bool.eqb-true, Bool.not-true, Option.same_Some as same-some}
-use Rattle.std.specs.{List.AllByRecursion, List.AllZip, List.filter, List.flat_map, Option.option_map_or}
+use Rattle.std.specs.{List.AllByRecursion, List.AllZip, List.filter, List.flat_map}
 use Rattle.wit_model.specs.{Text.Text, Text.text_eq, Names.path_in, Uses.has, Uses.once}
 use Rattle.wit_model.proofs.{Chains.has_once, NameLaws.read_path_is_spelled}
 use Rattle.plan_meaning.specs.{FollowedNumbers.AreMembersIn, FollowedNumbers.IsPartIn, FollowedNumbers.IsViewIn, GatheredPlan.functions_seen}

@@ -18,9 +18,9 @@ use Rattle.comp_bytes.proofs.Readers.{bind_some}
 use Rattle.comp_meaning.specs.Follow.{each}
 use Rattle.plan_meaning.specs.{FollowedNumbers.AreMembersIn, FollowedNumbers.IsPartIn, FollowedNumbers.IsViewIn, NumberedRules.Fact, PlanRules.are_rising}
 use Rattle.plan_meaning.specs.NumberedMembers.{Homes, IsMember, NumberedMember}
-use Rattle.plan_meaning.specs.NumberedViews.{NumberedSight, NumberedSlot, NumberedType, NumberedView, Tables, first_at, path_at, resource, value}
+use Rattle.plan_meaning.specs.NumberedViews.{NumberedSight, NumberedSlot, NumberedType, NumberedView, Tables, first_at, path_at}
 use Rattle.plan_meaning.specs.{NumberedWorlds.HasPath, NumberedWorlds.NumberedInstance, NumberedWorlds.NumberedScope, Plan.PlannedInterface, Plan.numbers_of}
-use Rattle.plan_meaning.specs.Renumbering.{IsPart, a_primitive, a_shape}
+use Rattle.plan_meaning.specs.Renumbering.{IsPart}
 use Rattle.plan_parts.specs.{Interfaces.slot_part, Kept.AreMarked}
 use Rattle.plan_package.specs.Views.{views_of_members, views_of_part, whole_view}
 use Rattle.plan_package.specs.WholeInterfaces.{Home, ListsNumber, PlansPlace}
@@ -28,7 +28,7 @@ use Rattle.plan_laws.specs.OneWorld.{AreOwnInterfaces}
 use Rattle.plan_laws.proofs.{FirstViews.first_is, Inside.flat_cases}
 use Rattle.read_exports.specs.Members.{numbered_member, numbered_members, numbered_part}
 use Rattle.read_exports.specs.declared.members.{Member.Member, Part.Part}
-use Rattle.read_rules.specs.{Reached.numbered_import, Scopes.numbered_scope}
+use Rattle.read_rules.specs.{Scopes.numbered_scope}
 use Rattle.read_rules.specs.declared.scopes.Scope.{Scope}
 use Rattle.read_members.specs.PartMembers.{IsMemberOf, IsPartOf}
 use Rattle.read_parts.specs.declared.{following.Followed.Followed, members.FollowedPart.FollowedPart, members.Member.Member as FollowedMember}

@@ -1,14 +1,14 @@
 -- The names of each view stand in the table in the view's order, each behind what it is declared as, where views of one place agree.
-use Rattle.std.proofs.Common.{rules as std_rules, ◌≡◌, refl, sym, ap, subst, ◌∙◌, ℕ, ◌+◌, ◌<◌, Bool, true, ◌&&◌, ◌==◌, List, [], ◌∷◌, ◌++◌, length, map, Option, Some, None, slice_get}
+use Rattle.std.proofs.Common.{rules as std_rules, ◌≡◌, refl, sym, ap, subst, ◌∙◌, ℕ, ◌+◌, ◌<◌, Bool, true, ◌==◌, List, [], ◌∷◌, length, map, Option, Some, None, slice_get}
 use Rattle.std.proofs.{lemmas.Bool.eq-eqb, lemmas.Bool.eqb-true, ByRecursion.All-weaker as recursion_weaker, lemmas.Map.Keys.any_passes_from_place as get_any}
-use Rattle.std.specs.List.{AllByRecursion, AllZip, Contains, list_all, list_any}
-use Rattle.wit_model.specs.{Meaning.FunctionMeaning, Names.is_label, Text.Text, Tree.Place}
+use Rattle.std.specs.List.{AllByRecursion, AllZip, Contains, list_any}
+use Rattle.wit_model.specs.{Text.Text, Tree.Place}
 use Rattle.comp_bytes.specs.Levels.{Piece}
 use Rattle.comp_meaning.specs.Rules.{distinct}
 use Rattle.plan_meaning.specs.FollowedNumbers.{IsCalledIn, IsMetFrom, IsShownIn, IsSlotOf, IsViewIn}
-use Rattle.plan_meaning.specs.{NumberedMembers.Homes, NumberedMembers.sights_of_members, PlanRules.are_rising, Shapes.named_shape}
-use Rattle.plan_meaning.specs.NumberedRules.{Fact, is_function, is_interface, is_type, resources_of}
-use Rattle.plan_meaning.specs.NumberedViews.{AllOf, AreTables, FunctionPasses, NumberedFunction, NumberedSight, NumberedSlot, NumberedType, NumberedView, PartsOf, Tables, TypePasses, function_at, path_at, resource, shown_type, value, view_of}
+use Rattle.plan_meaning.specs.{NumberedMembers.Homes, NumberedMembers.sights_of_members, Shapes.named_shape}
+use Rattle.plan_meaning.specs.NumberedRules.{Fact, is_interface}
+use Rattle.plan_meaning.specs.NumberedViews.{AllOf, AreTables, NumberedSight, NumberedSlot, NumberedType, NumberedView, PartsOf, Tables, TypePasses, function_at, path_at, view_of}
 use Rattle.plan_meaning.specs.NumberedWorlds.{HasPath, NumberedInstance, NumberedScope, instance_of}
 use Rattle.plan_meaning.proofs.Lists.{any_get}
 use Rattle.read_parts.specs.declared.following.Followed.{Followed}

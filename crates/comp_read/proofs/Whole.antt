@@ -1,5 +1,5 @@
 -- A package that was followed is the input of the laws of packages.
-use Rattle.std.proofs.Common.{rules as std_rules, ◌≡◌, refl, ap, ◌∙◌, ℕ, zero, suc, true, false, ◌&&◌, ◌==◌, List, [], ◌∷◌, map, Option, Some, None, slice_get, unwrap_or}
+use Rattle.std.proofs.Common.{rules as std_rules, ◌≡◌, refl, ap, ◌∙◌, ℕ, zero, suc, true, false, ◌&&◌, ◌==◌, List, [], ◌∷◌, Option, Some, None, slice_get, unwrap_or}
 use Rattle.std.proofs.lemmas.Bool.{eqb-true, ltb-true}
 use Rattle.std.specs.{Prelude.nat_le, Prelude.nat_lt, List.AllByRecursion, List.AllZip, List.list_all}
 use Rattle.wit_model.specs.{Names.PackageIdentity, Text.Text, Tree.Form}
@@ -12,17 +12,16 @@ use Rattle.plan_meaning.specs.{NumberedRules.Fact, NumberedViews.NumberedSight, 
 use Rattle.plan_meaning.proofs.NumberedMembers.{packages_in_numbers}
 use Rattle.read_parts.specs.declared.{following.Followed.Followed, members.FollowedPart.FollowedPart}
 use Rattle.read_members.specs.PartMembers.{IsMemberOf, IsPartOf}
-use Rattle.read_numbers.specs.{FactLaws.known_by, KnownScopes.AreKnown, NumberedInput.tables_of, NumberedParts.numbered_scope as followed_scope}
+use Rattle.read_numbers.specs.{FactLaws.known_by, KnownScopes.AreKnown, NumberedInput.tables_of}
 use Rattle.read_homes.specs.Homes.{IsHomeOf}
 use Rattle.read_exports.specs.Members.{numbered_member, numbered_members, numbered_part}
 use Rattle.read_exports.specs.declared.members.{Member.Member, Part.Part}
-use Rattle.read_rules.specs.{Reached.numbered_import, Views.numbered_view}
 use Rattle.read_rules.specs.declared.tables.Fact.{Fact as KeptFact}
 use Rattle.plan_laws.specs.{Whole.IsPackageInput, WholeReasonsForeign.PartIsReached}
 use Rattle.comp_read.specs.InputLaws.{PackageViewsObey, ReadIsPackageInput, ReadLengthsFit, ReadNamesHaveKinds, ReadPartsAreReached}
 use Rattle.comp_read.specs.ReadInput.{AreHomesOf, IsReadInput, ViewsObey}
 use Rattle.comp_read.proofs.{Inputs.is_input, Lists.all_beside}
-use Rattle.comp_read.proofs.{InterfaceViews.shown_as, Members.members_stand, Members.tables, Ordered.parts_known, Ordered.sights_known, Places.are_placed}
+use Rattle.comp_read.proofs.{Members.members_stand, Members.tables, Ordered.parts_known, Ordered.sights_known, Places.are_placed}
 use Rattle.base_lemmas.proofs.Bools.{left_of as first_true, right_of as second_true}
 use Rattle.comp_meaning.specs.Reads as reads
 use Rattle.read_parts.specs.declared.members.FollowedPart.TheVariants as followed

@@ -8,7 +8,7 @@ use Rattle.comp_meaning.specs.{ByLevels.world_of_pieces, Follow.each, Follow.pro
 use Rattle.read_shown.specs.{Kinds.NamesHaveKinds, Parts.MemberStands}
 use Rattle.read_shown.proofs.MeaningKinds.{worlds_have_kinds}
 use Rattle.plan_meaning.specs.{FollowedNumbers.IsPartIn, FollowedNumbers.IsViewIn, NumberedRules.Fact}
-use Rattle.plan_meaning.specs.NumberedMembers.{Homes, IsKnownSight, IsMember, NumberedMember, NumberedPart, ShowsPart, interface, sights_of_members, world, world_shown, are_interfaces}
+use Rattle.plan_meaning.specs.NumberedMembers.{Homes, IsKnownSight, IsMember, NumberedMember, NumberedPart, interface, sights_of_members, world, world_shown, are_interfaces}
 use Rattle.plan_meaning.specs.NumberedViews.{NumberedSight, NumberedView, Tables, agree_in_numbers}
 use Rattle.plan_meaning.specs.NumberedWorlds.{NumberedInstance, NumberedScope, Shows, are_once, sights_of_scope}
 use Rattle.read_parts.specs.declared.following.Followed.{Followed}

@@ -10,7 +10,7 @@ use Rattle.plan_meaning.specs.NumberedViews.{NumberedSight, Tables, path_at, agr
 use Rattle.plan_meaning.specs.NumberedMembers.{Homes, NumberedMember, NumberedPart, home_at, is_of_package, are_interfaces, are_package, is_interface_of, is_named_in, is_one_world, sights_of_members, stands_at_top, world, HomesStand}
 use Rattle.plan_meaning.specs.NumberedWorlds.{NumberedInstance, sights_of_instance, NumberedScope, sights_of_scope, HasPath, are_once}
 use Rattle.plan_package.specs.{WholeInterfaces.Home, PlanWhole.places_in, PlanWhole.PlansWhole}
-use Rattle.plan_package.specs.WholePackages.{ListsPlace, PlansPackage, another, entries_from, entry_of, the_main, interface_in_part, interfaces_in}
+use Rattle.plan_package.specs.WholePackages.{ListsPlace, PlansPackage, another, entries_from, entry_of, the_main, interfaces_in}
 use Rattle.plan_laws.proofs.{PlaceNumbers.IsOnce, PlaceNumbers.all_once, PlaceNumbers.none_twice, Planned.found_there}
 use Rattle.read_exports.specs.declared.members.{Member.Member, Part.Part}
 use Rattle.comp_read.specs.Order.{rise, ListByNumber, OthersListByNumber, OthersRise, PackagesRise, numbers_in}

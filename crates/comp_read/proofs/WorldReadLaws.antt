@@ -5,8 +5,8 @@ use Rattle.std.specs.{Borrow.Bor, List.AllByRecursion, List.Contains, List.flat_
 use Rattle.wit_model.specs.{Names.is_label, Text.Text}
 use Rattle.wit_model.proofs.Elements.{none-in}
 use Rattle.comp_bytes.specs.Levels.{Piece}
-use Rattle.comp_meaning.specs.{Rules.distinct, ByLevels.world_of_pieces, Follow.provided}
-use Rattle.plan_meaning.specs.NumberedMembers.{Homes, NumberedMember, NumberedPart, interface, world, HomesStand, home_at, world_shown}
+use Rattle.comp_meaning.specs.{Rules.distinct, ByLevels.world_of_pieces}
+use Rattle.plan_meaning.specs.NumberedMembers.{Homes, NumberedMember, NumberedPart, interface, world, HomesStand, home_at}
 use Rattle.plan_meaning.specs.{NumberedRules.Fact, NumberedViews.AreTables, NumberedViews.NumberedSight, NumberedViews.NumberedView, NumberedViews.Tables}
 use Rattle.plan_meaning.specs.NumberedWorlds.{HasPath, NumberedScope}
 use Rattle.read_parts.specs.declared.following.Followed.{Followed}
@@ -30,7 +30,7 @@ use Rattle.comp_read.proofs.WorldInput.{all_trees, input, one_world, packaged, r
 use Rattle.comp_read.specs.ReadWorlds.{AreBeside, IsReadWorld, IsWholeWorld, ReadWorldIsWhole, ReadWorldPlansAreMeant}
 use Rattle.comp_read.specs.Planned.{CanBeBuilt, WorldPlansMean}
 use Rattle.comp_read.specs.{MembersRead.AreReadOf, WorldsRead.IsAlone, WorldsRead.IsWorldReadOf, WorldsRead.are_one_world, WorldsRead.is_alone}
-use Rattle.base_lemmas.proofs.{Elements.contains-later, Elements.contains-map, Elements.contains-one, Elements.last_of as one-contained, Lists.map_of_map}
+use Rattle.base_lemmas.proofs.{Elements.contains-later, Elements.contains-map, Lists.map_of_map}
 use Rattle.read_parts.specs.Input.{IsFollowed}
 use Rattle.plan_build.proofs.BuildableLaws.{plans_are_buildable}
 use Rattle.read_members.specs.{DecidedWorlds.AreWorldDecided, DecidedWorlds.IsPartDecided, ReadMembers.AreRead, ReadMembers.lent_member}

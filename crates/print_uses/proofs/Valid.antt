@@ -134,7 +134,15 @@ module _ (r : Resolve) (valid : IsValid r) where
       → list_all (is_known_listed r o) (map (λ e. record { name = text_of e.0; id = e.1 }) es) ≡ true
   listed_known o [] range names own = refl
   listed_known o (e ∷ es) range names own =
-      search (std_rules, left_of, both, own_name_label, right_of, listed_known o es (right_of (in_list r.types.items e.1.0) _ range) (right_of (has_name r (λ name. text_eq name (text_of e.0)) e.1.0) _ names) (right_of (is_named_of r o e.1.0) _ own))
+      search (
+        std_rules,
+        left_of,
+        both,
+        own_name_label,
+        right_of,
+        listed_known o es (right_of (in_list r.types.items e.1.0) _ range)
+            (right_of (has_name r (λ name. text_eq name (text_of e.0)) e.1.0) _ names) (right_of (is_named_of r o e.1.0) _ own),
+      )
 
 -- ---- The own names of a valid `Resolve`'s functions are labels.
 
@@ -233,7 +241,16 @@ module _ (r : Resolve) (valid : IsValid r) where
       → list_all is_well_case (map (shown_case r) cs) ≡ true
   cases_well [] h g = refl
   cases_well (c ∷ cs) h g =
-      search (std_rules, left_of, is_below, both, docs_well, optional_type_well, right_of, cases_well cs (right_of (is_label (text_of c.name)) _ h) (right_of (list_all (is_below (length r.types.items)) (option_to_list c.ty)) _ g))
+      search (
+        std_rules,
+        left_of,
+        is_below,
+        both,
+        docs_well,
+        optional_type_well,
+        right_of,
+        cases_well cs (right_of (is_label (text_of c.name)) _ h) (right_of (list_all (is_below (length r.types.items)) (option_to_list c.ty)) _ g),
+      )
 
   -- ---- functions of resources
 
@@ -452,7 +469,14 @@ module _ (r : Resolve) (valid : IsValid r) where
       → list_all (λ e. text_eq (text_of e.0) (text_of e.1.name) && is_member r o e.1) es ≡ true → list_all (is_known_function r o) (map (λ e. e.1) es) ≡ true
   functions_known o [] range named own = refl
   functions_known o (e ∷ es) range named own =
-      search (std_rules, left_of, both, right_of, functions_known o es (right_of (function_in_range r e.1) _ range) (right_of (function_labels e.1) _ named) (right_of (text_eq (text_of e.0) (text_of e.1.name) && is_member r o e.1) _ own))
+      search (
+        std_rules,
+        left_of,
+        both,
+        right_of,
+        functions_known o es (right_of (function_in_range r e.1) _ range) (right_of (function_labels e.1) _ named)
+            (right_of (text_eq (text_of e.0) (text_of e.1.name) && is_member r o e.1) _ own),
+      )
 
   -- ---- what validity says
 

@@ -43,7 +43,15 @@ module _ (r : Resolve) (resources : Names) where
   pub values-of : (ts : List ValueType) → list_all (λ t. not (is_resource_type r t)) ts ≡ true → Agree r resources ts → are_values resources (map (type_tree r) ts) ≡ true
   values-of [] h a = refl
   values-of (t ∷ ts) h a =
-      search (std_rules, both, agree-first, first_true, second_true, agree-rest, values-of ts (second_true (not (is_resource_type r t)) (list_all (λ t. not (is_resource_type r t)) ts) h) (agree-rest t ts a))
+      search (
+        std_rules,
+        both,
+        agree-first,
+        first_true,
+        second_true,
+        agree-rest,
+        values-of ts (second_true (not (is_resource_type r t)) (list_all (λ t. not (is_resource_type r t)) ts) h) (agree-rest t ts a),
+      )
 
   pub optional-values : (o : Option ValueType) → list_all (λ t. not (is_resource_type r t)) (option_to_list o) ≡ true → Agree r resources (option_to_list o)
       → are_values resources (option_to_list (option_map (type_tree r) o)) ≡ true

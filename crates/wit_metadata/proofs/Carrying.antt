@@ -1,5 +1,5 @@
 -- A component with a world's wrapper behind a custom section means the world.
-use Rattle.std.proofs.Common.{◌≡◌, ◌∙◌, refl, ap, subst, ℕ, Bool, List, [], ◌∷◌, ◌++◌, Some}
+use Rattle.std.proofs.Common.{rules as std_rules, ◌≡◌, ◌∙◌, refl, ap, subst, ℕ, Bool, List, [], ◌∷◌, ◌++◌, Some}
 use Rattle.wit_model.specs.{Text.Text, Text.text_of, Lookup.identity_of, Lookup.world_at, Valid.IsValid}
 use Rattle.wit_model.specs.declared.model.{PackageName.PackageName, Resolve.Resolve, StringEncoding.StringEncoding, World.World}
 use Rattle.comp_bytes.specs.{Raw.Declarations, Parts.Part, Parts.sections_of_parts, Parts.top_slots, Spelling.IsComponent, Writing.component_bytes}
@@ -58,5 +58,4 @@ said before after e code none is coded = is ∙ (ap (λ (ps : List Part). ps ++ 
 -- and behind it the wrapper of the world, exported under its name
 pub built : (before after : List Part) (e : StringEncoding) (label name : Text) (ds : Declarations) → before ≡ encoding_part e ∷ [] → label ≡ name
     → after ≡ before ++ one_exported (top_slots before) (label, ds) → after ≡ encoding_part e ∷ one_exported 0 (name, ds)
-built before after e label name ds is same grown = grown ∙ (ap (λ (ps : List Part). ps ++ one_exported (top_slots ps) (label, ds)) is ∙ ap
-    (λ (t : Text). encoding_part e ∷ one_exported 0 (t, ds)) same)
+built before after e label name ds is same grown = search std_rules

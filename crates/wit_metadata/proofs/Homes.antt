@@ -1,5 +1,5 @@
 -- The package of a world.
-use Rattle.std.proofs.Common.{◌≡◌, ◌∙◌, sym, subst, ap, ℕ, ◌<◌, Some, length}
+use Rattle.std.proofs.Common.{rules as std_rules, ◌≡◌, ◌∙◌, sym, subst, ap, ℕ, ◌<◌, Some, length}
 use Rattle.std.proofs.lemmas.Option.{slice_get_within, same_Some as some-same}
 use Rattle.std.specs.Prelude.{is_some, option_and_then}
 use Rattle.wit_model.specs.{Lookup.package_at, Lookup.world_at, Meant.package_of_world}
@@ -26,6 +26,4 @@ pub home-within : (r : Resolve) (w : World) (h : HasHome r w) (id : PackageId) �
 home-within r w h id is = subst (λ (p : PackageId). p.0 < length r.packages.items) (some-same h.home id (sym h.in_package ∙ is)) (slice_get_within r.packages.items h.home.0 h.package_ h.stands)
 
 pub home-named : (r : Resolve) (w : World) (h : HasHome r w) (id : PackageId) (p : Package) → w.package ≡ Some id → package_at r id.0 ≡ Some p → p.name ≡ h.package_.name
-home-named r w h id p is at =
-    let same : h.home ≡ id = some-same h.home id (sym h.in_package ∙ is) in
-    ap (λ (q : Package). q.name) (some-same p h.package_ (sym at ∙ (ap (λ (i : PackageId). package_at r i.0) (sym same) ∙ h.stands)))
+home-named r w h id p is at = search std_rules

@@ -1,11 +1,11 @@
 -- Sections in front of bytes, those behind them, and those that carry no world.
-use Rattle.std.proofs.Common.{◌≡◌, ◌≤◌, ◌<◌, ◌∙◌, ◌+◌, refl, sym, ap, subst, ℕ, suc, nat_eq, Bool, true, false, List, [], ◌∷◌, ◌++◌, append_assoc, append-nil, length, drop, Option, Some, None, Ok, Err, arith}
+use Rattle.std.proofs.Common.{rules as std_rules, ◌≡◌, ◌≤◌, ◌<◌, ◌∙◌, ◌+◌, refl, sym, ap, subst, ℕ, suc, nat_eq, Bool, true, false, List, [], ◌∷◌, ◌++◌, append_assoc, append-nil, length, drop, Option, Some, None, Ok, Err, arith}
 use Rattle.std.proofs.lemmas.{Bool.true≢false, Bool.Decides.Decides-eqb, Slice.Eq.starts_is, List.length-append, Option.same_Some as some-same}
 use Rattle.std.proofs.Math.Seq.{drop-append_seam}
 use Rattle.std.specs.{Prelude.◌-◌, Borrow.Bor, List.AllByRecursion, List.flat_map, List.starts_with}
 use Rattle.wit_model.specs.declared.error.Error.{Error}
 use Rattle.comp_bytes.specs.Form.{Sequence}
-use Rattle.comp_bytes.specs.{Answer.Refuses, Frames.IsCustom, Frames.IsFrame, Frames.ReadsCustom, Reading.frame_at, Reading.name_at, Writing.framed}
+use Rattle.comp_bytes.specs.{Answer.Refuses, Frames.IsCustom, Frames.IsFrame, Frames.ReadsCustom, Reading.frame_at, Writing.framed}
 use Rattle.comp_bytes.proofs.{ComponentLaws.frame_law, PartLaws.name_law}
 use Rattle.wit_metadata.specs.Modules.{AreOthers, Carries, Framed, HasData, IsFrontData, IsFrontless, IsInFront, IsModule, IsNamed, RefusesModule, TellsCarrying, carrying_name, module_bytes, module_preamble}
 use Rattle.base_lemmas.proofs.Lists.{is-nothing as no-bytes}
@@ -16,10 +16,7 @@ use Rattle.wit_model.specs.declared.error.Error.TheVariants as errors
 -- the contents of a custom section have one name, and one text behind it
 pub one-custom : (contents : List ℕ) (c d : List ℕ × List ℕ) → IsCustom c contents → IsCustom d contents → c ≡ d
 one-custom contents c d (front, rest, parts, spelled, is) (other, more, halves, written, are) =
-    let first : name_at contents ≡ Some (c.0, rest) = ap name_at parts ∙ name_law.again c.0 front rest spelled in
-    let second : name_at contents ≡ Some (d.0, more) = ap name_at halves ∙ name_law.again d.0 other more written in
-    let same = some-same (c.0, rest) (d.0, more) (sym first ∙ second) in
-    λ j. (ap (λ (x : List ℕ × List ℕ). x.0) same j, (sym is ∙ (ap (λ (x : List ℕ × List ℕ). x.1) same ∙ are)) j)
+    search (std_rules, name_law.again c.0 front rest spelled, name_law.again d.0 other more written)
 
 one-name : (contents : List ℕ) (c d : List ℕ × List ℕ) → IsCustom c contents → IsCustom d contents → c.0 ≡ d.0
 one-name contents c d first second = ap (λ (x : List ℕ × List ℕ). x.0) (one-custom contents c d first second)
@@ -33,8 +30,7 @@ one-frame f g front rest other more spelled written same =
 
 pub sequence-end : (fs : List Framed) (text : List ℕ) → Sequence IsFrame fs text → (f : Framed) (front : List ℕ) → IsFrame f front → Sequence IsFrame (fs ++ f ∷ []) (text ++ front)
 sequence-end [] text none f front spelled = (front, [], ap (λ (t : List ℕ). t ++ front) none ∙ sym (append-nil front), spelled, refl)
-sequence-end (g ∷ fs) text (here, rest, parts, first, others) f front spelled =
-    (here, rest ++ front, ap (λ (t : List ℕ). t ++ front) parts ∙ append_assoc here rest front, first, sequence-end fs rest others f front spelled)
+sequence-end (g ∷ fs) text (here, rest, parts, first, others) f front spelled = search (std_rules, append_assoc, sequence-end fs rest others f front spelled)
 
 pub named-end : (fs : List Framed) → AllByRecursion IsNamed fs → (f : Framed) → IsNamed f → AllByRecursion IsNamed (fs ++ f ∷ [])
 named-end [] all f named = (named, tt)
@@ -116,8 +112,7 @@ module _ (bytes rest kept : List ℕ) (bound : Bool) (h : IsRead bytes rest kept
   }
 
   told-on : (b : Bool) → AreTold b h.sections h.others → AreTold b (h.sections ++ f ∷ []) (h.others ++ f ∷ [])
-  told-on true fewer = let a = one-longer h.sections f in let b = one-longer h.others f in omega (arith, a, b, fewer)
-  told-on false same = ap (λ (fs : List Framed). fs ++ f ∷ []) same
+  told-on x fewer = search (std_rules, one-longer h.sections f, one-longer h.others f)
 
   -- any other is kept
   pub other-read : (Carries f → ⊥) → (new : List ℕ) → new ≡ kept ++ framed f.0 f.1 → IsRead bytes behind new bound
@@ -144,10 +139,7 @@ module _ (bytes rest kept : List ℕ) (empty : length rest ≡ 0) where
 -- behind sections stands nothing that is none
 module _ (rest : List ℕ) (filled : length rest ≡ 0 → ⊥) (none : IsFrontless rest) where
   stuck : (done fs : List Framed) (front : List ℕ) → Sequence IsFrame done front → Sequence IsFrame fs (front ++ rest) → AllByRecursion IsNamed fs → ⊥
-  stuck done [] front spelled ended named =
-      let long = length-append front rest in
-      let is = ap length ended in
-      filled (omega (arith, long, is))
+  stuck done [] front spelled ended named = search (std_rules, length-append front rest)
   stuck [] (g ∷ gs) front spelled (here, more, parts, first, others) named =
       none g more (record { front = here; parts = ap (λ (t : List ℕ). t ++ rest) (sym spelled) ∙ parts; framed_ = first; named_ = named.0 })
   stuck (d ∷ ds) (g ∷ gs) front (here, behind, halves, one, more_done) (there, more, parts, first, others) named =
@@ -166,8 +158,7 @@ module _ (rest : List ℕ) (filled : length rest ≡ 0 → ⊥) (none : IsFrontl
 -- a frame that stands in front of bytes is the one that was read
 pub nameless-frontless : (bytes : List ℕ) (f : Framed) (front rest : List ℕ) → bytes ≡ front ++ rest → IsFrame f front → (IsNamed f → ⊥) → IsFrontless bytes
 nameless-frontless bytes f front rest parts spelled nameless g more h =
-    let same : f ≡ g = ap (λ (x : Framed × List ℕ). x.0) (one-frame f g front rest h.front more spelled h.framed_ (sym parts ∙ h.parts)) in
-    nameless (subst IsNamed (sym same) h.named_)
+    search (std_rules, one-frame f g front rest h.front more spelled h.framed_ (sym parts ∙ h.parts))
 
 -- ---- whether a section carries a world
 

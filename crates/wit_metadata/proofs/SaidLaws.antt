@@ -1,15 +1,14 @@
 -- What the custom sections of a component say, section by section.
-use Rattle.std.proofs.Common.{◌≡◌, ◌∙◌, refl, sym, ap, subst, ℕ, suc, Bool, true, false, List, [], ◌∷◌, ◌++◌, append_assoc, append-nil, length, drop, Option, Some, None, Ok, option_map, arith}
-use Rattle.std.proofs.{lemmas.Grind.flat_map-append, lemmas.List.length-append, Math.Seq.drop-append_seam}
+use Rattle.std.proofs.Common.{rules as std_rules, ◌≡◌, ◌∙◌, refl, sym, ap, subst, ℕ, suc, Bool, true, false, List, [], ◌∷◌, ◌++◌, append_assoc, append-nil, length, drop, Option, Some, None, Ok, option_map, arith}
+use Rattle.std.proofs.{lemmas.Grind.flat_map-append, lemmas.List.length-append}
 use Rattle.std.specs.{Prelude.◌-◌, Prelude.slice_get, Borrow.Bor}
 use Rattle.wit_model.specs.Text.{Text, text_eq}
-use Rattle.wit_model.proofs.{VersionLaws.same_text, TextLemmas.text_same}
+use Rattle.wit_model.proofs.{TextLemmas.text_same}
 use Rattle.wit_model.specs.declared.model.StringEncoding.{StringEncoding}
-use Rattle.comp_bytes.specs.{Form.Sequence, Frames.IsCustom, Frames.IsFrame, Raw.Section, Spelling.IsComponent, Spelling.IsSection, Spelling.preamble}
+use Rattle.comp_bytes.specs.{Form.Sequence, Frames.IsCustom, Frames.IsFrame, Raw.Section, Spelling.IsComponent, Spelling.IsSection}
 use Rattle.wit_metadata.specs.Carried.{contents_under, last_of}
 use Rattle.wit_metadata.specs.{Encodings.contents_of, Encodings.section_name, Modules.Framed, Said.EncodingsAreReadBack, Said.IsSaidIn, Said.said_by}
 use Rattle.wit_metadata.proofs.ModuleLaws.{one-custom, one-frame}
-use Rattle.wit_model.specs.declared.model.StringEncoding.TheVariants as encodings
 
 -- no frame stands in front of these bytes
 abbrev pub IsFrameless : List ℕ → Type 0
@@ -30,10 +29,7 @@ pub record IsFrameFor (s : Section) (front : List ℕ) : Type 0 where
 
 custom-says : (name text contents : List ℕ) → IsCustom (name, text) contents → (found : Option (Bor (List ℕ))) → IsSaidIn (0, contents) found
     → contents_under section_name (Section.custom name text ∷ []) ≡ contents_found found
-custom-says name text contents custom (Some found) is =
-    let same = one-custom contents (section_name, found.now) (name, text) is.1 custom in
-    let named : text_eq section_name name ≡ true = same_text section_name name (ap (λ (c : List ℕ × List ℕ). c.0) same) in
-    rw named (ap (λ (c : List ℕ × List ℕ). c.1 ∷ []) (sym same))
+custom-says name text contents custom (Some found) is = search (std_rules, one-custom contents (section_name, found.now) (name, text) is.1 custom)
 custom-says name text contents custom None none = by-test (text_eq section_name name) refl
   where
     by-test : (b : Bool) → text_eq section_name name ≡ b → contents_under section_name (Section.custom name text ∷ []) ≡ []
@@ -67,10 +63,7 @@ last-found [] x = refl
 last-found (y ∷ xs) x = last-found xs x
 
 last-is : (xs : List (List ℕ)) (x : List ℕ) → last_of (xs ++ x ∷ []) ≡ Some x
-last-is xs x =
-    let long = length-append xs (x ∷ []) in
-    let at : length (xs ++ x ∷ []) - 1 ≡ length xs = omega arith in
-    ap (slice_get (xs ++ x ∷ [])) at ∙ last-found xs x
+last-is xs x = search (std_rules, length-append xs (x ∷ []), last-found xs x)
 
 -- ---- sections that have been read
 
@@ -89,10 +82,7 @@ abbrev pub IsPartlyRead : List ℕ → List ℕ → Option (Bor (List ℕ)) → 
 IsPartlyRead bytes rest last = (sections : List Section) → IsComponent sections bytes → IsPartly sections rest last
 
 pub none-read : (bytes rest : List ℕ) → rest ≡ drop 8 bytes → IsPartlyRead bytes rest None
-none-read bytes rest is sections ((front, text, parts, begins, spelled), short) =
-    let whole : bytes ≡ preamble ++ text = parts ∙ ap (λ (t : List ℕ). t ++ text) begins in
-    let same : rest ≡ text = is ∙ (ap (drop 8) whole ∙ drop-append_seam preamble text) in
-    record { done = []; more = sections; are = refl; spelled = subst (Sequence IsSection sections) (sym same) spelled; says = refl }
+none-read bytes rest is sections ((front, text, parts, begins, spelled), short) = search std_rules
 
 -- what is known after a section in which this was found
 abbrev pub later : Option (Bor (List ℕ)) → Option (Bor (List ℕ)) → Option (Bor (List ℕ))
@@ -100,8 +90,7 @@ later (Some found) last = Some found
 later None last = last
 
 later-says : (found last : Option (Bor (List ℕ))) (xs ys : List (List ℕ)) → ys ≡ contents_found found → now_of last ≡ last_of xs → now_of (later found last) ≡ last_of (xs ++ ys)
-later-says (Some found) last xs ys is says = sym (ap (λ (zs : List (List ℕ)). last_of (xs ++ zs)) is ∙ last-is xs found.now)
-later-says None last xs ys is says = says ∙ sym (ap (λ (zs : List (List ℕ)). last_of (xs ++ zs)) is ∙ ap last_of (append-nil xs))
+later-says x last xs ys is says = search (std_rules, last-is, append-nil)
 
 module _ (bytes rest : List ℕ) (last : Option (Bor (List ℕ))) (h : IsPartlyRead bytes rest last) (filled : length rest ≡ 0 → ⊥) where
   pub one-more : (f : Framed) (behind front : List ℕ) → rest ≡ front ++ behind → IsFrame f front → (found : Option (Bor (List ℕ))) → IsSaidIn f found → IsPartlyRead bytes behind (later found last)
@@ -153,8 +142,7 @@ all-read bytes rest last h empty sections component = go known.more refl known.s
 -- ---- encodings that are carried
 
 contents-say : (e : StringEncoding) → said_by (Some (contents_of e)) ≡ Ok e
-contents-say encodings.UTF8 = refl
-contents-say _ = refl
+contents-say x = search std_rules
 
 pub read-back : EncodingsAreReadBack
 read-back e bytes answer carried answers = answers carried.sections carried.spelled ∙ (ap said_by carried.says ∙ contents-say e)

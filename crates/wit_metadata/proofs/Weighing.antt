@@ -1,9 +1,8 @@
 -- A component in which a world has no room: the world, carried so, is too heavy.
-use Rattle.std.proofs.Common.{◌≡◌, ◌≤◌, ◌<◌, ◌+◌, ◌&&◌, ◌⊎◌, inl, inr, ◌∙◌, ap, ℕ, Bool, false, List, [], ◌∷◌, length, option_map, option_to_list, Option, Some, arith, refl}
+use Rattle.std.proofs.Common.{rules as std_rules, ◌≡◌, ◌≤◌, ◌<◌, ◌+◌, ◌&&◌, ◌⊎◌, inl, inr, ap, ℕ, Bool, false, [], ◌∷◌, length, Some, arith, refl}
 use Rattle.std.proofs.lemmas.{List.Sums.sum_by-cons, List.Sums.sum_by-append, Bool.and_cases as either-false}
-use Rattle.std.specs.{Prelude.option_and_then, Option.option_map_or}
-use Rattle.wit_model.specs.{Text.Text, Text.text_of, Lookup.identity_of, Lookup.path_in_package, Lookup.path_of_world, Lookup.world_at, Names.path_in, Weight.exported_weight, Weight.unit_of, Weight.world_package_weight, Weight.world_weight, Weight.wrapped_weight}
-use Rattle.wit_model.specs.declared.model.{Package.Package, PackageId.PackageId, Resolve.Resolve, World.World, StringEncoding.StringEncoding}
+use Rattle.wit_model.specs.{Text.Text, Text.text_of, Lookup.identity_of, Lookup.path_of_world, Lookup.world_at, Names.path_in, Weight.exported_weight, Weight.unit_of, Weight.world_package_weight, Weight.world_weight}
+use Rattle.wit_model.specs.declared.model.{Resolve.Resolve, World.World, StringEncoding.StringEncoding}
 use Rattle.comp_bytes.specs.{Raw.Declarations, Raw.TopType, Parts.Part, Parts.fits_component}
 use Rattle.encode_exports.specs.ExportedParts.{one_exported}
 use Rattle.encode_types.specs.Room.{limit}
@@ -17,38 +16,25 @@ says-extent e = refl
 
 -- it fits by itself
 pub says-fits : (e : StringEncoding) (n : ℕ) → fits_component (encoding_part e ∷ []) ≡ false → limit < n
-says-fits e n h =
-    let long = long-component (encoding_part e ∷ []) h in
-    let one = sum_by-cons part_extent (encoding_part e) [] in
-    let here = says-extent e in
-    absurd (omega (arith, long, one, here))
+says-fits e n h = search (std_rules, long-component, sum_by-cons, says-extent)
 
 module _ (r : Resolve) (n : ℕ) (w : World) (there : world_at r n ≡ Some w) (home : HasHome r w) where
   abbrev path : Text
   path = path_in (identity_of home.package_.name) (text_of w.name)
 
   path-is : path_of_world r w ≡ Some path
-  path-is =
-      ap (λ (o : Option PackageId). option_and_then (λ q. path_in_package r q.0 (text_of w.name)) o) home.in_package
-      ∙ ap (λ (o : Option Package). option_map (λ q. path_in (identity_of q.name) (text_of w.name)) o) home.stands
+  path-is = search std_rules
 
   one-text : (t : Text) → unit_of (t ∷ []) ≡ 64 + length t
   one-text t = let one = sum_by-cons length t [] in omega arith
 
   weight-is : world_package_weight r n ≡ 64 + exported_weight (text_of w.name) (64 + (unit_of (path ∷ []) + world_weight r n))
   unfolding world_package_weight
-  weight-is =
-      ap (λ (o : Option World). option_map_or (λ u. 64 + exported_weight (text_of u.name) (wrapped_weight r n)) o 0) there
-      ∙ ap (λ (ts : List Text). 64 + exported_weight (text_of w.name) (64 + (unit_of ts + world_weight r n)))
-      (ap (λ (o : Option World). option_to_list (option_and_then (path_of_world r) o)) there ∙ ap option_to_list path-is)
+  weight-is = search std_rules
 
   -- a world that is too heavy with its path
   pub heavy-world : IsHeavyWorld r (identity_of home.package_.name) n → limit < world_package_weight r n
-  heavy-world h =
-      let over = h w there in
-      let is = weight-is in
-      let text = one-text path in
-      omega (arith, over, is, text)
+  heavy-world h = search (std_rules, weight-is, one-text)
 
   module _ (e : StringEncoding) (ds : Declarations) (canonical : Bool) (wraps : WrapsWorld r canonical (identity_of home.package_.name) n w ds) where
     short : parts_extent (encoding_part e ∷ one_exported 0 (text_of w.name, ds)) + 8 ≤ world_package_weight r n
