@@ -1,5 +1,5 @@
 -- Packages that stay what they are while they get room.
-use Rattle.std.proofs.Common.{◌≡◌, ◌≢◌, refl, sym, ap, subst, ◌∙◌, ◌⊎◌, inl, inr, ℕ, ◌+◌, ◌<◌, ◌≤◌, arith, List, length, get_or, slice_get, Some}
+use Rattle.std.proofs.Common.{◌≡◌, ◌≢◌, sym, ap, subst, ◌∙◌, ◌⊎◌, inl, inr, ℕ, ◌+◌, ◌<◌, ◌≤◌, arith, List, length, get_or, slice_get, Some}
 use Rattle.std.proofs.lemmas.{Option.slice_get_within, Option.slice_get-get_or, Bool.cases_lt as below_or}
 use Rattle.wit_model.specs.declared.model.Package.{Package}
 use Rattle.bind_add.specs.Growth.{ArePackages, HasRoom, HaveRoom, IsSameWithRoom, OthersStay}

@@ -56,9 +56,6 @@ grew-grows c c' x g = record {
   more = (let e : length c'.slots ≡ length c.slots + 1 = ap length g.slots ∙ length-append c.slots (x ∷ []) in omega arith);
 }
 
-pub same-grows : (c c' : Contents) → c' ≡ c → SlotsGrow (SlotsStand c.slots) (SlotsStand c'.slots) (length c.slots) (length c'.slots)
-same-grows c c' e = subst (λ (z : Contents). SlotsGrow (SlotsStand c.slots) (SlotsStand z.slots) (length c.slots) (length z.slots)) (sym e) (record { kept = λ i m h. h; more = omega arith })
-
 -- the surroundings stay
 pub grew-scope : (r : Resolve) (interface : Option InterfaceId) (around : Around) (c c' : Contents) (x : Slot) → Grew c c' x → is_slot_of (resources_in r interface) x ≡ true
     → (scope_with r interface around c).is_sound ≡ true → scope_with r interface around c' ≡ scope_with r interface around c

@@ -52,9 +52,6 @@ named-slot u slot h = search std_rules
 
 -- ---- the names of resources of named interfaces are the same in each scope
 
-pub cut-short : (a b : Bool) → (a && (false && b)) ≡ false
-cut-short x b = search std_rules
-
 owner-alike : (r : Resolve) (i : InterfaceId) (p : Text) (o : TypeOwner) (a b : Bool)
     → ((is_owner_in r (Some i) o && a) && (same_place (of_interface p) (place_of r o) && b)) ≡ ((is_named_interface r o && a) && (same_place (of_interface p) (place_of r o) && b))
 owner-alike r i p x a b = search std_rules
