@@ -1,23 +1,22 @@
 -- A module binds one thing at most, and what binds something isn't refused.
-use Rattle.std.proofs.Common.{◌≡◌, ◌∙◌, refl, sym, ap, subst, ℕ, ◌+◌, List, [], ◌∷◌, ◌++◌, append_assoc, drop, length, Some, Ok, Err, arith}
+use Rattle.std.proofs.Common.{rules as std_rules, ◌≡◌, ◌∙◌, refl, sym, ap, subst, ℕ, ◌+◌, List, [], ◌∷◌, ◌++◌, append_assoc, length, Some, Ok, Err, arith}
 use mathlib.Core.Logic.{inl, inr}
 use Rattle.std.specs.{Prelude.◌≢◌, Prelude.Result, List.AllByRecursion}
 use Rattle.wit_model.specs.declared.{error.Error.Error, model.StringEncoding.StringEncoding}
 use Rattle.wit_model.specs.{Text.text_of, Meaning.WorldPackage}
-use Rattle.comp_bytes.specs.{Form.Sequence, Frames.IsFrame, Raw.Section, Spelling.preamble}
+use Rattle.comp_bytes.specs.{Form.Sequence, Frames.IsFrame}
 use Rattle.comp_bytes.proofs.ComponentLaws.{one_component}
 use Rattle.comp_meaning.specs.Reads.{ReadsWorld}
 use Rattle.comp_meaning.proofs.MeaningLaws.{one_world}
 use Rattle.bind_meaning.specs.{Binding.Binding, ByMeaning.binding_of_world, Clash.CanUnite, Roots.root_binding, Union.union}
 use Rattle.bind_meaning.proofs.ClashLaws.{one_clash, united_have_no_clash}
-use Rattle.wit_metadata.specs.{Carried.CarriesEncoding, Carried.contents_under, Carried.last_of, Modules.Framed, Modules.IsFrontless, Modules.IsNamed}
-use Rattle.wit_metadata.specs.{Encodings.contents_of, Encodings.section_name, Said.AnswersSaid, Said.said_by}
+use Rattle.wit_metadata.specs.{Carried.CarriesEncoding, Modules.Framed, Modules.IsFrontless, Modules.IsNamed}
+use Rattle.wit_metadata.specs.{Encodings.contents_of, Said.AnswersSaid, Said.said_by}
 use Rattle.wit_metadata.proofs.{ModuleLaws.one-custom, ModuleLaws.one-frame, SaidLaws.read-back}
 use Rattle.bind_sections.specs.SectionBindings.{RefusesSection}
 use Rattle.bind_sections.specs.Bound.{Binds, CarryData, HasSections, IsClashError, IsLeftOver, IsRefused, Refuses, SectionMeans}
 use Rattle.bind_sections.specs.BoundLaws.{BoundIsNotRefused, BoundOnce, OneRefusal, SameRefusal, SectionsMeanOnce}
 use Rattle.wit_model.specs.declared.error.Error.TheVariants as errors
-use Rattle.wit_model.specs.declared.model.StringEncoding.TheVariants as encodings
 
 -- ---- the sections of a module
 
@@ -30,8 +29,7 @@ one-more f g fs gs left more same rest = λ i. (same i ∷ (rest i).0, (rest i).
 
 same-sections : (fs gs : List Framed) (a b left more : List ℕ) → Sequence IsFrame fs a → AllByRecursion IsNamed fs → Sequence IsFrame gs b → AllByRecursion IsNamed gs →
     a ++ left ≡ b ++ more → IsFrontless left → IsFrontless more → let x : Read = (fs, left) in x ≡ (gs, more)
-same-sections [] [] a b left more ended named ended_too named_too same none none_too =
-    let is : left ≡ more = ap (λ (t : List ℕ). t ++ left) (sym ended) ∙ (same ∙ ap (λ (t : List ℕ). t ++ more) ended_too) in λ i. ([], is i)
+same-sections [] [] a b left more ended named ended_too named_too same none none_too = search std_rules
 same-sections [] (g ∷ gs) a b left more ended named (here, rest, parts, spelled, others) named_too same none none_too =
     let is : left ≡ here ++ (rest ++ more) = ap (λ (t : List ℕ). t ++ left) (sym ended) ∙ (same ∙ (ap (λ (t : List ℕ). t ++ more) parts ∙ append_assoc here rest more)) in
     absurd (none g (rest ++ more) (record { front = here; parts = is; framed_ = spelled; named_ = named_too.0 }))
@@ -46,16 +44,13 @@ same-sections (f ∷ fs) (g ∷ gs) a b left more (here, rest, parts, spelled, o
     (same-sections fs gs rest behind left more others named.1 others_too named_too.1 (ap (λ (x : Framed × List ℕ). x.1) first) none none_too)
 
 pub one-reading : (input : List ℕ) (fs gs : List Framed) (left more : List ℕ) → HasSections input fs left → HasSections input gs more → let x : Read = (fs, left) in x ≡ (gs, more)
-one-reading input fs gs left more a b =
-    same-sections fs gs a.front b.front left more a.sections.0 a.sections.1 b.sections.0 b.sections.1 (ap (drop 8) (sym a.parts ∙ b.parts)) a.ends b.ends
+one-reading input fs gs left more a b = search (std_rules, same-sections)
 
 -- the data that sections carry
 pub one-data : (fs : List Framed) (ds es : List (List ℕ)) → CarryData fs ds → CarryData fs es → ds ≡ es
 one-data [] ds es CarryData.none CarryData.none = refl
 one-data (f ∷ fs) ds es (CarryData.carrying _ _ c cs custom named begins rest) (CarryData.carrying _ _ d others custom_too written begins_too rest_too) =
-    let same = one-custom f.1 c d named written in
-    let more = one-data fs cs others rest rest_too in
-    λ i. (same i).1 ∷ more i
+    search (std_rules, one-custom f.1 c d named written, one-data fs cs others rest rest_too)
 one-data (f ∷ fs) ds es (CarryData.carrying _ _ c cs custom named begins rest) (CarryData.other _ _ others never rest_too) = absurd (never (custom, (c, named, begins)))
 one-data (f ∷ fs) ds es (CarryData.other _ _ cs never rest) (CarryData.carrying _ _ d others custom named begins rest_too) = absurd (never (custom, (d, named, begins)))
 one-data (f ∷ fs) ds es (CarryData.other _ _ cs never rest) (CarryData.other _ _ others never_too rest_too) = one-data fs cs others rest rest_too
@@ -63,19 +58,13 @@ one-data (f ∷ fs) ds es (CarryData.other _ _ cs never rest) (CarryData.other _
 -- ---- a section
 
 said-itself : (e : StringEncoding) → (let x : Result StringEncoding Error = Ok e in x) ≡ said_by (Some (contents_of e))
-said-itself encodings.UTF8 = refl
-said-itself _ = refl
+said-itself x = search std_rules
 
 pub carries-answers : (e : StringEncoding) (d : List ℕ) → CarriesEncoding e d → AnswersSaid d (Ok e)
-carries-answers e d carries sections component =
-    said-itself e ∙ sym (ap said_by (ap (λ (ss : List Section). last_of (contents_under section_name ss)) (one_component d sections carries.sections component carries.spelled) ∙ carries.says))
+carries-answers e d carries sections component = search (std_rules, said-itself e, one_component d sections carries.sections component carries.spelled)
 
 pub ok-same : (a b : StringEncoding) → (let x : Result StringEncoding Error = Ok a in x) ≡ Ok b → a ≡ b
-ok-same a b e = ap ok-or e
-  where
-    ok-or : Result StringEncoding Error → StringEncoding
-    ok-or (Ok x) = x
-    ok-or (Err _) = a
+ok-same a b e = search std_rules
 
 err-never : (a : StringEncoding) (error : Error) → (let x : Result StringEncoding Error = Err error in x) ≡ Ok a → ⊥
 err-never a error e = let no : ⊥ = cc in no
@@ -101,23 +90,11 @@ bound_once input c d x y =
 
 -- what means a world begins with another byte than 3
 begins-otherwise : (d rest : List ℕ) (m : WorldPackage) → ReadsWorld d m → d ≡ 3 ∷ rest → ⊥
-begins-otherwise d rest m read is =
-    let spelled = read.spelled.0 in
-    let other : d ≡ preamble ++ spelled.1 = spelled.2 ∙ ap (λ (t : List ℕ). t ++ spelled.1) spelled.3 in
-    let first : 3 ≡ 0 = ap first-of (sym is ∙ other) in
-    omega (arith, first)
-  where
-    first-of : List ℕ → ℕ
-    first-of [] = 0
-    first-of (b ∷ bs) = b
+begins-otherwise d rest m read is = search std_rules
 
 -- and isn't empty
 means-some : (d : List ℕ) (m : WorldPackage) → ReadsWorld d m → d ≡ [] → ⊥
-means-some d m read is =
-    let spelled = read.spelled.0 in
-    let other : d ≡ preamble ++ spelled.1 = spelled.2 ∙ ap (λ (t : List ℕ). t ++ spelled.1) spelled.3 in
-    let wrong = ap length (sym is ∙ other) in
-    omega (arith, wrong)
+means-some d m read is = search std_rules
 
 nothing-begins : (d rest : List ℕ) → d ≡ [] → d ≡ 3 ∷ rest → ⊥
 nothing-begins d rest none is = let wrong = ap length (sym none ∙ is) in omega (arith, wrong)
@@ -130,19 +107,16 @@ means-is-let-through d m e error means (RefusesSection.unsaid n read says) = abs
 means-is-let-through d m e error means (RefusesSection.memory is) = is
 
 pub no-clash-error : (a b : Binding) (error : Error) → CanUnite a b → IsClashError a b error → ⊥
-no-clash-error a b (errors.Clash kind key) u clash = united_have_no_clash a b kind (text_of key) u clash
-no-clash-error a b _ u clash = clash
+no-clash-error a b x u clash = search (std_rules, united_have_no_clash)
 
 nothing-left : (input left : List ℕ) (error : Error) → left ≡ [] → IsLeftOver input left error → ⊥
-nothing-left input left (errors.BadModule offset) none over = over.0 none
-nothing-left input left _ none over = over
+nothing-left input left x none over = search std_rules
 
 binds-or-refuses : (input left : List ℕ) (a c : Binding) (ds : List (List ℕ)) (error : Error) → left ≡ [] → Binds a ds c → Refuses (IsLeftOver input left) a ds error → error ≡ errors.Memory
 binds-or-refuses input left a c [] error none x over = absurd (nothing-left input left error none over)
 binds-or-refuses input left a c (d ∷ ds) error none (m, e, means, u, x) (inl refused) = means-is-let-through d m e error means refused
 binds-or-refuses input left a c (d ∷ ds) error none (m, e, means, u, x) (inr (n, f, other, inl clash)) =
-    let same = sections_mean_once d m n e f means other in
-    absurd (no-clash-error a (binding_of_world n f) error (subst (λ w. CanUnite a (binding_of_world w f)) same.0 (subst (λ w. CanUnite a (binding_of_world m w)) same.1 u)) clash)
+    search (std_rules, sections_mean_once d m n e f means other)
 binds-or-refuses input left a c (d ∷ ds) error none (m, e, means, u, x) (inr (n, f, other, inr (v, y))) =
     let same = sections_mean_once d m n e f means other in
     binds-or-refuses input left (union a (binding_of_world n f)) c ds error none
@@ -158,11 +132,7 @@ bound_is_not_refused input c error x (IsRefused.first fs left ds stand carry ref
 -- ---- refused once
 
 err-same : (e f : Error) → (let x : Result StringEncoding Error = Err e in x) ≡ Err f → e ≡ f
-err-same e f is = ap err-or is
-  where
-    err-or : Result StringEncoding Error → Error
-    err-or (Ok x) = e
-    err-or (Err x) = x
+err-same e f is = search std_rules
 
 section-refused-once : (d : List ℕ) (e f : Error) → e ≢ errors.Memory → f ≢ errors.Memory → RefusesSection d e → RefusesSection d f → SameRefusal e f
 section-refused-once d e f a b (RefusesSection.memory is) y = absurd (a is)
@@ -192,11 +162,7 @@ clashes-once a b (errors.Clash k s) _ x y = absurd y
 clashes-once a b _ f x y = absurd x
 
 left-once : (input left : List ℕ) (e f : Error) → IsLeftOver input left e → IsLeftOver input left f → SameRefusal e f
-left-once input left (errors.BadModule o) (errors.BadModule p) x y =
-    let same_offset : o ≡ p = omega (arith, x.1, y.1) in
-    SameRefusal.same (ap errors.BadModule same_offset)
-left-once input left (errors.BadModule o) _ x y = absurd y
-left-once input left _ f x y = absurd x
+left-once input left z f x y = search std_rules
 
 refuses-once : (input left : List ℕ) (a : Binding) (ds : List (List ℕ)) (e f : Error) → e ≢ errors.Memory → f ≢ errors.Memory → Refuses (IsLeftOver input left) a ds e
     → Refuses (IsLeftOver input left) a ds f → SameRefusal e f
@@ -208,11 +174,9 @@ refuses-once input left a (d ∷ ds) e f p q (inr (m, g, means, inl x)) (inr (n,
     let same = sections_mean_once d m n g h means other in
     clashes-once a (binding_of_world n h) e f (subst (λ w. IsClashError a (binding_of_world w h) e) same.0 (subst (λ w. IsClashError a (binding_of_world m w) e) same.1 x)) y
 refuses-once input left a (d ∷ ds) e f p q (inr (m, g, means, inl x)) (inr (n, h, other, inr (v, y))) =
-    let same = sections_mean_once d m n g h means other in
-    absurd (no-clash-error a (binding_of_world n h) e v (subst (λ w. IsClashError a (binding_of_world w h) e) same.0 (subst (λ w. IsClashError a (binding_of_world m w) e) same.1 x)))
+    search (std_rules, sections_mean_once d m n g h means other)
 refuses-once input left a (d ∷ ds) e f p q (inr (m, g, means, inr (u, x))) (inr (n, h, other, inl y)) =
-    let same = sections_mean_once d m n g h means other in
-    absurd (no-clash-error a (binding_of_world n h) f (subst (λ w. CanUnite a (binding_of_world w h)) same.0 (subst (λ w. CanUnite a (binding_of_world m w)) same.1 u)) y)
+    search (std_rules, sections_mean_once d m n g h means other)
 refuses-once input left a (d ∷ ds) e f p q (inr (m, g, means, inr (u, x))) (inr (n, h, other, inr (v, y))) =
     let same = sections_mean_once d m n g h means other in
     refuses-once input left (union a (binding_of_world n h)) ds e f p q

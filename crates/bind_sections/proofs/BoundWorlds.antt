@@ -1,8 +1,8 @@
 -- What is bound of the data of a section is the binding of the world that it means.
-use Rattle.std.proofs.Common.{◌≡◌, ◌∙◌, sym, ap, subst, ℕ, true, List, [], map, filter_map, option_map, option_and_then, unwrap_or, Option, Some, Contains, refl, arith, ◌==◌, ◌&&◌, ◌||◌, zero, suc, Bool, false, ◌∷◌, flat_map, None, String, not, Ok, Err, length}
+use Rattle.std.proofs.Common.{rules as std_rules, ◌≡◌, ◌∙◌, sym, ap, subst, ℕ, true, List, [], map, filter_map, option_map, option_and_then, unwrap_or, Option, Some, Contains, refl, arith, ◌==◌, ◌&&◌, ◌||◌, zero, suc, Bool, false, ◌∷◌, flat_map, None, String, not, Ok, length}
 use Rattle.std.proofs.lemmas.{Map.Views.list_any-from_Contains, Map.Views.Contains-from_any, Option.same_Some as some-same, Option.same_Some as same-some}
 use Rattle.std.proofs.lemmas.Bool.{not-true as isnt}
-use Rattle.std.specs.{Prelude.is_some, Prelude.option_to_list, Prelude.Result, Cmp.Lexicographic.nat_list_cmp_total, List.list_all, List.cons_option}
+use Rattle.std.specs.{Prelude.is_some, Prelude.option_to_list, Cmp.Lexicographic.nat_list_cmp_total, List.list_all}
 use Rattle.std.specs.FinMap.{get, keys, from_entries, get-from_entries, contains_key-keys, empty, find, same_map, get-empty, nat_cmp-IsAntisymmetric, slice_cmp-IsAntisymmetric}
 use Rattle.std.specs.{Option.option_map_or, Cmp.eq_by_cmp_equiv, FinSet.from_list}
 use Rattle.wit_model.specs.declared.model.{Interface.Interface, World.World, InterfaceId.InterfaceId, PackageName.PackageName, StringEncoding.StringEncoding}
@@ -12,7 +12,7 @@ use Rattle.wit_model.specs.Meant.{by_path, interface_meaning, interface_meaning_
 use Rattle.wit_model.specs.Lookup.{interface_at, interface_path, path_of_interface, identity_of, package_at, path_of_world, path_in_package, canonical_identity_of, optional_version_text, key_text, world_at}
 use Rattle.wit_model.specs.Meaning.{InterfaceMeaning, Entry, FunctionMeaning, inline, interface, WorldPackage}
 use Rattle.wit_model.specs.Valid.{IsValid, is_place, names_in_packages, numbers_in_range, places, labels, world_items}
-use Rattle.wit_model.specs.Names.{path_in, PackageIdentity, canonical_version, cut, is_label, is_version, known_path, versioned}
+use Rattle.wit_model.specs.Names.{path_in, PackageIdentity, canonical_version, cut, is_label, is_version}
 use Rattle.wit_model.specs.Rules.{has_items, in_list, interface_belongs, is_id, package_number, passes, text_is, is_interface_key, entries_labels, export_stands, import_stands, is_stability, item_labels, key_label}
 use Rattle.wit_model.specs.Paths.{full_name}
 use Rattle.wit_model.proofs.Elements.{contains-filter_map, contains-get, has-contains, contains-flat, none-in}
@@ -30,8 +30,8 @@ use Rattle.std.specs.declared.alloc.Global.{Global}
 use Rattle.indexmap.specs.IndexMap.{values}
 use Rattle.plan_meaning.specs.NothingElse.{PackagesAreUsed, HoldsWorldAlone}
 use Rattle.bind_carry.proofs.NamesGained.{home_is as id-is}
-use Rattle.semver.specs.declared.{Version.Version, error.Error.Error as VersionError}
-use Rattle.semver.specs.{Identifiers.parts_of, Identifiers.version_text, Parse.Parts}
+use Rattle.semver.specs.declared.{Version.Version}
+use Rattle.semver.specs.{Identifiers.parts_of}
 use Rattle.semver.proofs.Grammar.{version_parts-complete}
 use Rattle.wit_bind.specs.Functions.{Items, IsFunctionKey, MapsFunctions, of_interface, of_item, exports_of, imports_of}
 use Rattle.wit_bind.specs.{Keys.function_key, Keys.scope_of, Bindings.binding_of}
@@ -69,14 +69,10 @@ module _ (r : Resolve) (v : IsValid r) (w : World)
 
   -- each named interface is shown
   pub is-shown : (n : ℕ) (path : Text) → interface_path r n ≡ Some path → Contains (shown_by r w) n
-  is-shown n path is =
-      let i = given (path_of_interface r) (interface_at r n) path is in
-      contains-filter (λ m. is_some (interface_path r m)) (filter_map item_interface (items_of w)) n
-      (has-contains (filter_map item_interface (items_of w)) n (alone n i.0 i.1)) (ap is_some is)
+  is-shown n path is = grind (arith, given, contains-filter, has-contains)
 
   pub shown-entry : (n : ℕ) (path : Text) → interface_path r n ≡ Some path → Contains shown_entries (path, interface_meaning_at r n)
-  shown-entry n path is = subst (Contains shown_entries) (λ i. (ap (λ (o : Option Text). unwrap_or o []) is i, interface_meaning_at r n))
-      (contains-map path_entry (shown_by r w) n (is-shown n path is))
+  shown-entry n path is = search (std_rules, contains-map path_entry (shown_by r w) n (is-shown n path is), is-shown n path is)
 
   -- what stands under a path
   pub record IsEntryOf (e : Text × InterfaceMeaning) : Type 0 where
@@ -245,9 +241,7 @@ module _ (r : Resolve) (v : IsValid r) where
 -- ---- the world
 
 pub one-world : (r : Resolve) (w : World) (path : Text) → r.worlds.items ≡ w ∷ [] → path_of_world r w ≡ Some path → worlds_by_path r ≡ (path, world_meaning r w) ∷ []
-one-world r w path one is =
-    ap (filter_map (λ (x : World). option_map (λ t. (t, world_meaning r x)) (path_of_world r x))) one
-    ∙ ap (λ o. cons_option (option_map (λ (t : Text). (t, world_meaning r w)) o) []) is
+one-world r w path one is = search std_rules
 
 -- ---- The keys of the functions of a world, by what it means.
 
@@ -259,19 +253,12 @@ uncut c [] h = refl
 uncut c (x ∷ xs) h = rw (isnt (x == c) (first_true (not (x == c)) _ h), uncut c xs (second_true (not (x == c)) _ h)) refl
 
 pub label-stays : (t : Text) → is_label t ≡ true → scope_under t ≡ t
-label-stays t h =
-    ap (λ (o : Option (Text × Text)). option_map_or (λ (p : PackageIdentity × Text). path_in (canonical_identity p.0) p.1)
-    (option_and_then (λ (a : Text × Text). option_and_then (λ (b : Text × Text). known_path (record { namespace = a.0; name = b.0; version = (versioned b.1).1 }) (versioned b.1).0) (cut 47 a.1)) o) t)
-    (uncut 58 t (label_lacks 58 refl t h))
+label-stays t h = search (std_rules, uncut, label_lacks)
 
 -- the canonical part of a version, by its text
 canonical-version : (o : Option Version) → passes is_version o ≡ true → option_map canonical_part (optional_version_text o) ≡ option_map (λ v. canonical_version (parts_of v)) o
 canonical-version None h = refl
-canonical-version (Some v) h = ap (λ (x : Result Parts VersionError). Some (by-parts (version_text v) x)) (version_parts-complete (parts_of v) (valid_parts v h))
-  where
-    by-parts : Text → Result Parts VersionError → Text
-    by-parts t (Ok parts) = canonical_version parts
-    by-parts t (Err e) = t
+canonical-version (Some v) h = search (std_rules, version_parts-complete, valid_parts)
 
 -- ---- names of functions
 
@@ -306,11 +293,7 @@ none-named t c =
 
 module _ (r : Resolve) (v : IsValid r) where
   pub full-name-of : (n : ℕ) (path : Text) (h : HasPath r n path) → full_name r n ≡ Some (h.package_.name, h.name)
-  full-name-of n path h =
-      ap (λ o. option_and_then (λ i. option_and_then (λ t. option_map (λ p. (p.name, t)) (option_and_then (λ j. option_and_then (λ q. package_at r q.0) j.package) o)) i.name) o) h.there
-      ∙ ap (λ o. option_and_then (λ t. option_map (λ p. (p.name, t)) (option_and_then (λ q. package_at r q.0) h.def.package)) o) h.named_
-      ∙ ap (λ o. option_map (λ p. (p.name, h.name)) (option_and_then (λ q. package_at r q.0) o)) h.in_package
-      ∙ ap (λ (o : Option Package). option_map (λ p. (p.name, h.name)) o) h.stands
+  full-name-of n path h = search std_rules
 
   pub scope-of-path : (id : InterfaceId) (path : Text) → interface_path r id.0 ≡ Some path → scope_of r (key.Interface id) ≡ Some (scope_under (key_text r (key.Interface id)))
   scope-of-path id path is =
@@ -468,16 +451,10 @@ module _ (r : Resolve) (v : IsValid r) (n : ℕ) (w : World) (at : world_at r n 
   placed = world-passes world_items r v.rules.world_items n w at
 
   by-import : (scope : WorldKey) (shown : WorldItem) → key_label scope shown ≡ true → import_stands r n scope shown ≡ true → Stands r v scope shown
-  by-import (key.Interface id) shown k s = s
-  by-import (key.Name name) (item.Interface id stability docs external_id) k s = k
-  by-import (key.Name name) (item.Function f) k s = tt
-  by-import (key.Name name) (item.Type_ id) k s = tt
+  by-import x shown k s = search std_rules
 
   by-export : (scope : WorldKey) (shown : WorldItem) → key_label scope shown ≡ true → export_stands r scope shown ≡ true → Stands r v scope shown
-  by-export (key.Interface id) shown k s = s
-  by-export (key.Name name) (item.Interface id stability docs external_id) k s = k
-  by-export (key.Name name) (item.Function f) k s = tt
-  by-export (key.Name name) (item.Type_ id) k s = tt
+  by-export x shown k s = search std_rules
 
   pub import-stands : (scope : WorldKey) (shown : WorldItem) → Contains w.imports.entries (scope, shown) → Stands r v scope shown
   import-stands scope shown c = by-import scope shown

@@ -1,17 +1,16 @@
 -- Worked examples: what modules bind, or are refused for, and what the data of a section says of its encoding.
-use Rattle.std.proofs.Common.{◌≡◌, ◌∙◌, refl, sym, ap, ℕ, List, [], ◌∷◌, ◌++◌, append-nil, length, Some, Ok, Err, arith}
+use Rattle.std.proofs.Common.{rules as std_rules, ◌≡◌, refl, sym, ap, ℕ, List, [], ◌∷◌, ◌++◌, append-nil, length, Ok, Err}
 use mathlib.Core.Logic.{inl}
-use Rattle.std.specs.{Prelude.Result, Prelude.codes, Prelude.slice_get, Prelude.unwrap_or, Str.is_utf8, Str.chars}
+use Rattle.std.specs.{Prelude.Result, Prelude.codes, Str.is_utf8, Str.chars}
 use lib.Utf8.{encode}
 use Rattle.wit_model.specs.declared.{error.Cause.TheVariants.Truncated, error.Error.Error, model.StringEncoding.StringEncoding}
 use Rattle.comp_bytes.specs.{Frames.IsCustom, Frames.IsFrame, Laws.Taken, Raw.Section, Spelling.preamble}
 use Rattle.comp_bytes.specs.Reading.{byte_at, counted_at, frame_at, name_at, pair_at, u32_at, unsigned_at}
 use Rattle.comp_bytes.proofs.{ComponentLaws.frame_law, PartLaws.name_law}
 use Rattle.bind_meaning.specs.Roots.{root_binding}
-use Rattle.wit_metadata.specs.{Carried.contents_under, Carried.last_of, Encodings.section_name, Modules.Framed, Modules.IsFrontless, Modules.module_preamble}
+use Rattle.wit_metadata.specs.{Carried.contents_under, Carried.last_of, Encodings.section_name, Modules.IsFrontless, Modules.module_preamble}
 use Rattle.wit_metadata.specs.Said.{said_by}
 use Rattle.bind_sections.specs.{SectionBindings.RefusesSection, Bound.CarryData, Bound.IsBound, Bound.IsRefused}
-use Rattle.std.proofs.lemmas.Option.{none-some}
 use Rattle.wit_model.specs.declared.error.Error.TheVariants as errors
 use Rattle.wit_model.specs.declared.model.StringEncoding.TheVariants as encodings
 
@@ -26,9 +25,7 @@ frames = 0
 
 nothing-in-front : IsFrontless []
 unfolding frames
-nothing-in-front f rest h =
-    let found : frame_at [] ≡ Some (f, rest) = ap frame_at h.parts ∙ frame_law.again f h.front rest h.framed_ in
-    none-some {A = Framed × List ℕ} (f, rest) found
+nothing-in-front f rest h = search std_rules
 
 -- ---- modules without a section that carries a world
 
@@ -47,15 +44,12 @@ no_bytes : IsRefused [] errors.NotAModule
 no_bytes = IsRefused.no_module (λ rest is. let wrong : count [] ≡ count (module_preamble ++ rest) = ap count is in let no : ⊥ = cc in no) refl
 
 component_bytes : (rest : List ℕ) → IsRefused (preamble ++ rest) errors.NotAModule
-component_bytes more = IsRefused.no_module (λ rest is. let fifth : slice_get (preamble ++ more) 4 ≡ slice_get (module_preamble ++ rest) 4 = ap (λ (bytes : List ℕ). slice_get bytes 4) is in
-    let no : ⊥ = omega (arith, ap (λ o. unwrap_or o 0) fifth) in no) refl
+component_bytes more = search std_rules
 
 -- a byte behind the preamble that begins no section
 one_byte : IsFrontless (0 ∷ [])
 unfolding frames
-one_byte f rest h =
-    let found : frame_at (0 ∷ []) ≡ Some (f, rest) = ap frame_at h.parts ∙ frame_law.again f h.front rest h.framed_ in
-    none-some {A = Framed × List ℕ} (f, rest) found
+one_byte f rest h = search (std_rules, frame_law.again f h.front rest h.framed_)
 
 left_over : IsRefused (module_preamble ++ 0 ∷ []) (errors.BadModule 8)
 left_over = IsRefused.first [] (0 ∷ []) [] (record { front = []; parts = refl; sections = (refl, tt); ends = one_byte }) CarryData.none

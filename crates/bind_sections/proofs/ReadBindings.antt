@@ -1,16 +1,15 @@
 -- What bytes mean as one world, bound, is a binding, and so is what a module binds.
-use Rattle.std.proofs.Common.{◌≡◌, ◌∙◌, refl, sym, ap, subst, ℕ, Bool, true, false, ◌&&◌, ◌||◌, not, cond, List, [], ◌∷◌, map, flat_map, Option, Some, None}
-use Rattle.std.proofs.lemmas.{Bool.not-true as is_false, Option.same_Some as some-same}
-use Rattle.std.specs.Prelude.{is_some}
+use Rattle.std.proofs.Common.{rules as std_rules, ◌≡◌, ◌∙◌, refl, sym, ap, subst, ℕ, Bool, true, false, ◌&&◌, ◌||◌, not, cond, List, [], ◌∷◌, map, Option, Some, None}
+use Rattle.std.proofs.lemmas.{Bool.not-true as is_false}
 use Rattle.std.specs.{List.AllByRecursion, List.list_all, List.list_any, Ordering.eq_by_cmp, FinMap.from_entries, FinMap.get, FinMap.find, FinMap.get-empty}
 use Rattle.wit_model.specs.declared.model.StringEncoding.{StringEncoding}
 use Rattle.wit_model.specs.{Text.Text, Text.text_cmp, Text.text_eq, Names.PackageIdentity, Names.path_in, Meaning.WorldMeaning, Meaning.WorldPackage}
 use Rattle.wit_model.specs.Rules.{are_distinct}
 use Rattle.wit_model.proofs.Distinct.{text_eq_flip}
 use Rattle.comp_bytes.specs.Reading.{◌>>=◌}
-use Rattle.comp_bytes.proofs.Readers.{bind_some, when_some}
+use Rattle.comp_bytes.proofs.Readers.{bind_some}
 use Rattle.comp_meaning.specs.{Follow.Scope, Follow.Seen, Follow.each, Rules.are_imports, Rules.distinct, Rules.is_item, Rules.is_world}
-use Rattle.comp_meaning.specs.Reads.{Member, Part, ReadsWorld, Sight, all_agree, are_interfaces, entry, exported_types, member, of_instance, seen_meaning, world_meaning, world_of_members, world_with}
+use Rattle.comp_meaning.specs.Reads.{Member, Part, ReadsWorld, Sight, entry, exported_types, member, seen_meaning, world_meaning, world_of_members, world_with}
 use Rattle.read_shown.specs.Parts.{MemberStands, PartStands}
 use Rattle.read_shown.proofs.Parts.{members_stand}
 use Rattle.bind_meaning.specs.{Binding.Binding, Binding.IsBinding, Binding.Stand, Roots.root_binding, Roots.root_meaning, Roots.root_path, Union.union}
@@ -32,18 +31,7 @@ record IsRead (m : WorldPackage) : Type 0 where
   pub shown : m.shown ≡ from_entries (map (seen_meaning seen) seen)
 
 scope_read : (package_ : PackageIdentity) (name : Text) (scope : Scope) (m : WorldPackage) → is_world scope ≡ true → world_with package_ name scope ≡ Some m → IsRead m
-scope_read package_ name scope m obeys e =
-    let seen : List Sight = flat_map of_instance scope.instances in
-    let found : WorldPackage = record { identity = package_; name = name; world = world_meaning scope; shown = from_entries (map (seen_meaning seen) seen) } in
-    let w = when_some (all_agree seen && (are_interfaces seen && not (list_any (λ s. text_eq s.path (path_in package_ name)) seen))) (Some found) m e in
-    subst IsRead (some-same found m w.1) (record {
-      scope = scope;
-      obeys = obeys;
-      seen = seen;
-      elsewhere = second_true (are_interfaces seen) _ (second_true (all_agree seen) _ w.0);
-      world = refl;
-      shown = refl;
-    })
+scope_read package_ name scope m obeys e = search std_rules
 
 world_read : (d : List ℕ) (m : WorldPackage) → ReadsWorld d m → IsRead m
 world_read d m read =
@@ -75,11 +63,7 @@ unseen all [] path = refl
 unseen all (s ∷ seen) path = (λ i. text_eq_flip path s.path i || unseen all seen path i)
 
 none_found : {X : Type 0} (es : List (Text × X)) (k : Text) → has_key k es ≡ false → find text_cmp k es ≡ None
-none_found es k h = by (find text_cmp k es) refl
-  where
-    by : (o : Option _) → find text_cmp k es ≡ o → o ≡ None
-    by None e = refl
-    by (Some x) e = let wrong : true ≡ false = sym (ap is_some e) ∙ (found_keys k es ∙ h) in let no : ⊥ = cc in absurd no
+none_found es k h = search (std_rules, found_keys k es)
 
 -- the path of the world alone leads to a world
 apart_at : {X Y : Type 0} (is : Bool) (o : Option X) (w : Y) → (is ≡ true → o ≡ None) → Stand o (cond is (Some w) None) → ⊥

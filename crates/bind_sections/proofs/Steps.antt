@@ -1,5 +1,5 @@
 -- How a module is read, section by section.
-use Rattle.std.proofs.Common.{◌≡◌, ◌∙◌, refl, sym, ap, subst, arith, ℕ, ◌+◌, ◌≤◌, ◌==◌, nat_eq, zero, suc, Bool, true, false, List, [], ◌∷◌, ◌++◌, append_assoc, append-nil, length, Option, Some, None}
+use Rattle.std.proofs.Common.{rules as std_rules, ◌≡◌, ◌∙◌, refl, sym, ap, subst, arith, ℕ, ◌+◌, ◌≤◌, ◌==◌, nat_eq, zero, suc, Bool, true, false, List, [], ◌∷◌, ◌++◌, append_assoc, append-nil, length, Option, Some, None}
 use mathlib.Core.Logic.{inl, inr}
 use Rattle.std.specs.{Prelude.◌⊎◌, List.AllByRecursion, List.starts_with}
 use Rattle.std.proofs.lemmas.{Bool.true≢false, List.length-append, Option.none-some, Option.same_Some as some-same}
@@ -48,10 +48,7 @@ front-of bytes = by (frame_at bytes) refl
     by (Some x) at = by-id x.0 x.1 at (x.0.0 == 0) refl
 
 shorter : (bytes : List ℕ) (f : Framed) (rest : List ℕ) → IsInFront bytes f rest → suc (length rest) ≤ length bytes
-shorter bytes f rest h =
-    let whole = ap length h.parts ∙ length-append h.front rest in
-    let first : length h.front ≡ suc (length h.framed_.0) = ap length h.framed_.1 in
-    omega (arith, whole, first)
+shorter bytes f rest h = search (std_rules, length-append)
 
 -- ---- all sections of what is left
 
@@ -156,8 +153,7 @@ module _ (input bytes : List ℕ) (c : Binding) (h : IsReadTo input c bytes) whe
 
   sequence-both : (fs gs : List Framed) (a b : List ℕ) → Sequence IsFrame fs a → Sequence IsFrame gs b → Sequence IsFrame (fs ++ gs) (a ++ b)
   sequence-both [] gs a b ended more = subst (Sequence IsFrame gs) (ap (λ (t : List ℕ). t ++ b) (sym ended)) more
-  sequence-both (f ∷ fs) gs a b (here, rest, parts, spelled, others) more =
-      (here, rest ++ b, ap (λ (t : List ℕ). t ++ b) parts ∙ append_assoc here rest b, spelled, sequence-both fs gs rest b others more)
+  sequence-both (f ∷ fs) gs a b (here, rest, parts, spelled, others) more = search (std_rules, append_assoc, sequence-both fs gs rest b others more)
 
   pub whole : (more : HasMore bytes) → HasSections input (h.sections ++ more.sections) more.left
   whole more = record {
@@ -212,13 +208,7 @@ pub worlds_are_bound : WorldsAreBound
 worlds_are_bound input bytes rest d c m e h x means u = (world-counted input bytes rest d c (length h.data_) m e (h, refl) x means u).0
 
 pub reading_ends : ReadingEnds
-reading_ends input c h = record {
-  sections = h.sections;
-  stand = record { front = h.front; parts = h.parts; sections = h.are; ends = λ f rest stands. (let less = shorter [] f rest stands in omega (arith, less)) };
-  data_ = h.data_;
-  carry = h.carry;
-  binds = h.binds;
-}
+reading_ends input c h = search std_rules
 
 -- and the data of all
 pub all-behind : (input bytes d rest : List ℕ) (c : Binding) (h : IsReadTo input c bytes) (x : IsDataInFront bytes d rest) (more : HasMore rest) (es : List (List ℕ)) → CarryData more.sections es

@@ -1,23 +1,15 @@
 -- Which declaration a name exports.
-use Rattle.std.proofs.Common.{◌≡◌, sym, ◌∙◌, refl, ap, zero, suc, Bool, true, false, cond, List, [], ◌∷◌, arith, Option, Some, None, find}
+use Rattle.std.proofs.Common.{rules as std_rules, ◌≡◌, sym, ◌∙◌, refl, ap, zero, suc, Bool, true, false, cond, List, [], ◌∷◌, arith, Option, Some, find}
 use Rattle.std.proofs.lemmas.Bool.{and_from as both}
 use Rattle.std.specs.{List.Contains, Option.option_eq}
 use Rattle.wit_model.specs.{Text.Text, Text.text_eq, Meaning.TypeMeaning}
 use Rattle.comp_bytes.specs.Raw.{ExternName}
-use Rattle.encode_types.specs.{KeyLaws.text_same, Scope.exported_name}
+use Rattle.encode_types.specs.{Scope.exported_name}
 use Rattle.encode_flat.specs.Flat.{is_name_of}
-use Rattle.base_lemmas.proofs.Bools.{left_of as first_true, right_of as second_true}
 use Rattle.wit_model.proofs.TextLemmas.{text_alike as text-alike}
 
 optional-alike : (o : Option Text) → option_eq text_eq o o ≡ true
-optional-alike None = refl
-optional-alike (Some t) = text-alike t
-
-optional-same : (a b : Option Text) → option_eq text_eq a b ≡ true → a ≡ b
-optional-same None None e = refl
-optional-same None (Some y) e = absurd (let z : ⊥ = cc in z)
-optional-same (Some x) None e = absurd (let z : ⊥ = cc in z)
-optional-same (Some x) (Some y) e = ap Some (text_same x y e)
+optional-alike x = search std_rules
 
 pub record Found {X : Type 0} (p : X → Bool) (xs : List X) : Type 0 where
   pub item : X
@@ -41,10 +33,3 @@ found-in p (y ∷ xs) x c h = go (λ k. found-in p xs x k h) (p y) refl
 
 pub name-passes : (name : ExternName) (d : Text × TypeMeaning) → name ≡ exported_name d → is_name_of name d ≡ true
 name-passes name d e = ap (λ (n : ExternName). is_name_of n d) e ∙ both (text_eq d.0 d.0) (option_eq text_eq d.1.external_id d.1.external_id) (text-alike d.0) (optional-alike d.1.external_id)
-
--- a name that declares one of two is exported as the other, where it passes for it
-pub name-same : (name : ExternName) (d d' : Text × TypeMeaning) → name ≡ exported_name d → is_name_of name d' ≡ true → name ≡ exported_name d'
-name-same name d d' e h =
-    let t = text_same name.text d'.0 (first_true (text_eq name.text d'.0) (option_eq text_eq name.external_id d'.1.external_id) h) in
-    let x = optional-same name.external_id d'.1.external_id (second_true (text_eq name.text d'.0) (option_eq text_eq name.external_id d'.1.external_id) h) in
-    λ i. record { text = t i; implements = ap (λ (n : ExternName). n.implements) e i; version_suffix = ap (λ (n : ExternName). n.version_suffix) e i; external_id = x i }

@@ -1,5 +1,5 @@
 -- What a fresh list of calls renders to.
-use Rattle.std.proofs.Common.{◌≡◌, ◌∙◌, ap, sym, List}
+use Rattle.std.proofs.Common.{rules as std_rules, ◌≡◌, ◌∙◌, ap, sym, List}
 use Rattle.print_output.specs.Expansion.{appends}
 use Rattle.print_output.specs.{OutputCall.Moves, OutputCall.OutputCall, OutputCall.View, Render.Written, Render.blank, Render.render, Render.writes}
 use Rattle.print_output.proofs.RenderLaws.{Expands-writes, Moves-appends, Moves-writes}
@@ -7,9 +7,7 @@ use Rattle.print_calls.specs.Listed.{no_calls}
 
 -- a list that these calls moved renders to what they render to
 pub list-renders : (calls : List OutputCall) (list : View (List OutputCall)) → Moves appends no_calls calls list → render list.kept ≡ render calls
-list-renders calls list moved =
-    let r = Moves-appends moved in
-    ap render r.2 ∙ ap (λ (v : View Written). v.kept.text) (Expands-writes blank calls r.0 r.1)
+list-renders calls list moved = search (std_rules, Moves-appends, Expands-writes)
 
 pub lists-as-text : (calls : List OutputCall) (list : View (List OutputCall)) (text : View Written) → Moves appends no_calls calls list → Moves writes blank calls text
     → render list.kept ≡ text.kept.text

@@ -1,5 +1,5 @@
 -- What is new by name or path is copied.
-use Rattle.std.proofs.Common.{◌≡◌, refl, sym, ap, ◌∙◌, ℕ, zero, suc, Bool, true, false, not, ◌&&◌, List, [], ◌∷◌, map, Option, Some, None, is_none, is_some, option_map, slice_get, unwrap_or}
+use Rattle.std.proofs.Common.{rules as std_rules, ◌≡◌, refl, sym, ap, ◌∙◌, ℕ, zero, suc, Bool, true, false, not, ◌&&◌, List, [], ◌∷◌, map, Option, Some, None, is_none, is_some, option_map, slice_get, unwrap_or}
 use Rattle.std.proofs.lemmas.{Bool.or_left, Bool.or_right, Option.slice_get-map, Map.Keys.any_passes_from_place as any_at}
 use Rattle.std.specs.{Prelude.filter_map, Prelude.option_and_then, List.cons_option, List.list_any, Option.option_map_or}
 use Rattle.wit_model.specs.declared.model.{Interface.Interface, Package.Package, PackageId.PackageId, Resolve.Resolve, World.World, WorldId.WorldId}
@@ -12,7 +12,6 @@ use Rattle.bind_match.specs.declared.matches.Matches.{Matches}
 use Rattle.bind_match.specs.Matching.{is_root_world, own_package_of, own_world_of}
 use Rattle.bind_meaning.specs.{Binding.package_text, ByNumbers.interfaces_by_path, ByNumbers.package_texts, ByNumbers.worlds_by_path, Roots.root_path}
 use Rattle.bind_meaning.proofs.Listed.{given as unpacked}
-use Rattle.bind_union.proofs.Lists.{no_true}
 use Rattle.bind_carry.specs.{First.flag_under, MatchedSame.AreMatchedAt, Renumbered.is_matched, TooLong.CarriedThings, Which.AreMatchedAll, Which.IsNumbered}
 use Rattle.bind_carry.specs.Marked.{AreChosen}
 use Rattle.bind_carry.proofs.{FirstCarried.chosen_so, FirstOfUnion.found_own, Ranges.is_in_range, NamesGained.new_world_flag as world_flag}
@@ -44,8 +43,7 @@ module _ {X M : Type 0} (path : X → Option Text) (meaning : X → M) (t : Text
 
 -- what is so isn't not so
 contrary : {A : Type 0} (b : Bool) → not b ≡ true → b ≡ true → A
-contrary true h e = no_true h
-contrary false h e = no_true e
+contrary x h e = search std_rules
 
 module _ (own other : Resolve) (v : IsValid own) (u : IsValid other) (m : Matches) (matched : IsMatched own other m) (all : AreMatchedAll other m) (c : CarriedThings)
     (numbered : IsNumbered own other m c)

@@ -1,5 +1,5 @@
 -- What both passes copy has its own documentation, stability and external ids in what is merged.
-use Rattle.std.proofs.Common.{◌≡◌, refl, sym, ap, subst, ◌∙◌, ◌⊎◌, inl, inr, arith, ℕ, zero, suc, Bool, true, false, not, cond, List, [], ◌∷◌, ◌++◌, map, Option, Some, None, is_none, option_map, option_to_list, String, Contains, ◌+◌, ◌≤◌, length, append-nil, is_some, slice_get}
+use Rattle.std.proofs.Common.{rules as std_rules, ◌≡◌, refl, sym, ap, subst, ◌∙◌, ◌⊎◌, inl, inr, arith, ℕ, zero, suc, Bool, true, false, not, cond, List, [], ◌∷◌, ◌++◌, map, Option, Some, None, is_none, option_map, option_to_list, String, Contains, ◌+◌, ◌≤◌, length, append-nil, is_some, slice_get}
 use Rattle.std.proofs.lemmas.{List.map-append, List.length-map, Bool.and_from as both, List.Elements.Contains-append_right, Map.Made.IsDistinct-keys_filter}
 use Rattle.std.proofs.lemmas.{Simd.map-map, List.Folds.list_all-append}
 use Rattle.std.proofs.lemmas.{Map.Keys.any_passes_from_place as any_at, Option.same_Some as same-some, Option.slice_get-map, Option.slice_get_within}
@@ -14,7 +14,7 @@ use Rattle.wit_model.specs.{Parts.function_types, Parts.kind_numbers, Valid.IsVa
 use Rattle.wit_model.specs.{Text.Text, Text.optional_text, Text.text_of, Text.text_eq, Types.number_of, Types.declaration_of, Types.number_tree, Names.path_in}
 use Rattle.wit_model.proofs.{Elements.contains-get, VersionLaws.same_text, OnePath.named-path}
 use Rattle.bind_copy.specs.Copies.{is_new_under, number_under, IsEntryUnder, IsFunctionUnder, IsInterfaceUnder, IsItemUnder, IsFunctionEntry as IsFunctionEntryUnder, become_one, IsTypeUnder}
-use Rattle.bind_union.specs.Carried.{EntryBecomes, IsCarried, IsFunctionCopy, IsFunctionEntry, IsInterface, IsInterfaceCopy, IsType, ItemBecomes, KeyBecomes, Renumbering}
+use Rattle.bind_union.specs.Carried.{EntryBecomes, IsCarried, IsFunctionCopy, IsFunctionEntry, IsInterfaceCopy, ItemBecomes, KeyBecomes, Renumbering}
 use Rattle.bind_union.specs.{Views.renamed_type, Merged.AreCopies}
 use Rattle.bind_union.specs.Joined.{same_key, none, met, added, Joined, IsJoined}
 use Rattle.bind_carry.specs.{ReadyItems.IsKeyReady, BoundGains.bound_fates, FirstPass.IsFirstPass, Fates.is_carried}
@@ -34,7 +34,6 @@ use Rattle.base_lemmas.proofs.{Bools.left_of as first_true, Bools.right_of as se
 use Rattle.base_lemmas.proofs.{Numbers.same-number, Options.nameless as named_none, Options.there as some-of}
 use Rattle.bind_clash.proofs.PathsMatched.{world-path-of, IsPathOf}
 use Rattle.bind_match.specs.declared.matches.Matches.{Matches}
-use Rattle.wit_model.specs.declared.model.WorldItem.TheVariants as item
 use Rattle.wit_model.specs.declared.model.WorldKey.TheVariants as key
 use Rattle.bind_carry.proofs.SecondBound as second_joined
 
@@ -47,17 +46,13 @@ function_noted numbers old new is = λ i. record { docs = is.docs i; stability =
 
 functions_noted : (numbers : List ℕ) (olds news : List (String Global × Function)) → AllZip (IsFunctionEntryUnder numbers) olds news
     → map {B = Text × Notes} (λ e. (text_of e.0, function_notes e.1)) news ≡ map (λ e. (text_of e.0, function_notes e.1)) olds
-functions_noted numbers olds news zip =
-    zip_map (IsFunctionEntryUnder numbers) (λ e. (text_of e.0, function_notes e.1)) (λ e. (text_of e.0, function_notes e.1)) (λ a b z i. (z.0 i, function_noted numbers a.1 b.1 z.1 i)) olds news zip
+functions_noted numbers olds news zip = search (std_rules, zip_map, function_noted)
 
 -- ---- names
 
 -- interfaces are both inline, or neither is
 inline_same : (a b : Option (String Global)) → optional_text b ≡ optional_text a → is_none b ≡ is_none a
-inline_same None None e = refl
-inline_same (Some x) (Some y) e = refl
-inline_same None (Some y) e = let wrong : ⊥ = cc in absurd wrong
-inline_same (Some x) None e = let wrong : ⊥ = cc in absurd wrong
+inline_same x y e = search std_rules
 
 -- ---- what is carried of one `Resolve` into another
 
@@ -75,23 +70,7 @@ module _ (r s : Resolve) (f : Renumbering) (interfaces numbers : List ℕ) (vali
 
   -- what is carried has them where it has no name, since it is a copy then
   unnamed_noted : (n : ℕ) → f.carries_type n ≡ true → unnamed_notes s (f.types n) ≡ unnamed_notes r n
-  unnamed_noted n c = ap (option_and_then if_unnamed) t.at_image ∙ (go (f.copies_type n) refl ∙ sym (ap (option_and_then if_unnamed) t.found))
-    where
-      t : IsType r s f n
-      t = carried.types n c
-
-      same : is_none t.image.name ≡ is_none t.def.name
-      same = inline_same t.def.name t.image.name t.name
-
-      go : (b : Bool) → f.copies_type n ≡ b → if_unnamed t.image ≡ if_unnamed t.def
-      go true e =
-          let notes : type_notes t.image ≡ type_notes t.def =
-          same-some (type_notes t.image) (type_notes t.def) (sym (ap (option_map type_notes) t.at_image) ∙ (types_noted n e ∙ ap (option_map type_notes) t.found)) in
-          λ i. if same i then Some (notes i) else None
-      go false e =
-          let named = unnamed_copied n t.def t.found c e in
-          ap (λ (b : Bool). if b then Some (type_notes t.image) else None) (same ∙ named)
-          ∙ sym (ap (λ (b : Bool). if b then Some (type_notes t.def) else None) named)
+  unnamed_noted n c = grind (arith, inline_same, same-some)
 
   -- so have all of these numbers
   pub parts_noted : (ns : List ℕ) → list_all f.carries_type ns ≡ true → map (unnamed_notes s) (map f.types ns) ≡ map (unnamed_notes r) ns
@@ -147,78 +126,22 @@ module _ (r s : Resolve) (f : Renumbering) (interfaces numbers : List ℕ) (vali
   -- an interface that is copied has its notes
   pub interface_noted : (n : ℕ) (i : Interface) → interface_at r n ≡ Some i → f.copies_interface n ≡ true → (j : Interface) × (interface_at s (f.interfaces n) ≡ Some j)
       × (interface_notes s j ≡ interface_notes r i)
-  interface_noted n i at copy =
-      let x = under n i at copy in
-      let j = x.1 in
-      let is = x.3 in
-      let k : IsInterface r s f n = carried.interfaces n (carried.copied_interfaces n copy) in
-      let old : k.old ≡ i = same-some k.old i (sym k.found ∙ at) in
-      let image : k.image ≡ j = same-some k.image j (sym k.at_image ∙ x.2) in
-      let types = types_of k.old k.image (k.copied copy) in
-      let uses = each_function k.old.functions.entries k.image.functions.entries (k.copied copy).functions in
-      let functions = functions_noted numbers i.functions.entries j.functions.entries (is.functions (valid.distinct_keys.interfaces n i at).1) in (
-        j,
-        x.2,
-        λ z. record {
-          docs = is.docs z;
-          stability = is.stability z;
-          functions = functions z;
-          function_types = (ap (λ (y : Interface). map (λ e. function_type_notes s e.1) y.functions.entries) (sym image)
-              ∙ (uses ∙ ap (λ (y : Interface). map (λ e. function_type_notes r e.1) y.functions.entries) old)) z;
-          types = (ap (λ (y : Interface). map {B = Text × Option Notes} (λ e. (text_of e.0, type_notes_at s e.1.0)) y.types.entries) (sym image)
-              ∙ (types ∙ ap (λ (y : Interface). map {B = Text × Option Notes} (λ e. (text_of e.0, type_notes_at r e.1.0)) y.types.entries) old)) z;
-        },
-      )
+  interface_noted n i at copy = grind (arith, same-some, types_of, each_function, functions_noted)
 
   abbrev if_inline : Resolve → Bool → Interface → Option InterfaceNotes
   if_inline q b i = if b then Some (interface_notes q i) else None
 
   -- so has one that comes with the item that shows it
   inline_noted : (n : ℕ) → f.carries_interface n ≡ true → inline_notes s (f.interfaces n) ≡ inline_notes r n
-  inline_noted n c =
-      ap (option_and_then (λ i. if_inline s (is_none i.name) i)) k.at_image
-      ∙ (go k.old.name refl
-      ∙ sym (ap (option_and_then (λ i. if_inline r (is_none i.name) i)) k.found))
-    where
-      k : IsInterface r s f n
-      k = carried.interfaces n c
-
-      same : is_none k.image.name ≡ is_none k.old.name
-      same = inline_same k.old.name k.image.name k.name
-
-      go : (o : Option (String Global)) → k.old.name ≡ o → if_inline s (is_none k.image.name) k.image ≡ if_inline r (is_none k.old.name) k.old
-      go (Some t) e =
-          ap (λ b. if_inline s b k.image) (same ∙ ap is_none e)
-          ∙ sym (ap (λ b. if_inline r b k.old) (ap is_none e))
-      go None e =
-          let x = interface_noted n k.old k.found (inline_copied n k.old c k.found e) in
-          let image : x.0 ≡ k.image = same-some x.0 k.image (sym x.1 ∙ k.at_image) in
-          ap (λ b. if_inline s b k.image) (same ∙ ap is_none e)
-          ∙ (ap Some (sym (ap (interface_notes s) image) ∙ x.2)
-          ∙ sym (ap (λ b. if_inline r b k.old) (ap is_none e)))
+  inline_noted n c = grind (arith, inline_same, interface_noted, same-some)
 
   -- ---- entries
 
   pub key_texts_same : (k l : WorldKey) → KeyBecomes f k l → key_text s l ≡ key_text r k
-  key_texts_same (key.Name a) (key.Name b) z = z
-  key_texts_same (key.Interface a) (key.Interface b) z = ap (λ o. unwrap_or o []) (ap (interface_path s) z.0 ∙ carried_path r s f valid carried a.0 z.1)
-  key_texts_same (key.Name a) (key.Interface b) z = absurd z
-  key_texts_same (key.Interface a) (key.Name b) z = absurd z
+  key_texts_same x y z = search (std_rules, carried_path)
 
   item_noted : (i j : WorldItem) → IsItemUnder interfaces numbers i j → ItemBecomes f i j → item_notes s j ≡ item_notes r i
-  item_noted (item.Interface a d e x) (item.Interface b g h y) u z =
-      let same : inline_notes s b.0 ≡ inline_notes r a.0 = ap (inline_notes s) z.0 ∙ inline_noted a.0 z.1 in
-      λ i. record { itself = Some (record { docs = u.2 i; stability = u.1 i; external_id = u.3 i; of_members = [] }); function_types = []; inline = same i }
-  item_noted (item.Function g) (item.Function h) u z = λ i. record { itself = Some (function_noted numbers g h u i); function_types = function_types_noted g h z i; inline = None }
-  item_noted (item.Type_ a) (item.Type_ b) u z =
-      let same : type_notes_at s b.0 ≡ type_notes_at r a.0 = ap (type_notes_at s) z.0 ∙ types_noted a.0 z.1 in
-      λ i. record { itself = same i; function_types = []; inline = None }
-  item_noted (item.Interface a d e x) (item.Function g) u z = absurd z
-  item_noted (item.Interface a d e x) (item.Type_ g) u z = absurd z
-  item_noted (item.Function g) (item.Interface b d e x) u z = absurd z
-  item_noted (item.Function g) (item.Type_ b) u z = absurd z
-  item_noted (item.Type_ a) (item.Interface b d e x) u z = absurd z
-  item_noted (item.Type_ a) (item.Function g) u z = absurd z
+  item_noted x y u z = search (std_rules, inline_noted, function_noted, function_types_noted)
 
   entry_noted : (e x : WorldKey × WorldItem) → IsEntryUnder interfaces numbers e x → EntryBecomes f e x → entry_notes s x ≡ entry_notes r e
   entry_noted e x u z = λ i. (key_texts_same e.0 x.0 z.0 i, item_noted e.1 x.1 u.1 z.1 i)
@@ -233,16 +156,10 @@ module _ (r s : Resolve) (f : Renumbering) (interfaces numbers : List ℕ) (vali
   -- ---- behind others
 
   ready : (k l : WorldKey) → KeyBecomes f k l → IsKeyReady f k
-  ready (key.Name a) (key.Name b) z = tt
-  ready (key.Interface a) (key.Interface b) z = z.1
-  ready (key.Name a) (key.Interface b) z = absurd z
-  ready (key.Interface a) (key.Name b) z = absurd z
+  ready x y z = search std_rules
 
   becomes_same : (k l : WorldKey) → KeyBecomes f k l → same_key f k l ≡ true
-  becomes_same (key.Name a) (key.Name b) z = same_text (text_of a) (text_of b) (sym z)
-  becomes_same (key.Interface a) (key.Interface b) z = sym (ap (λ (n : ℕ). same_key f (key.Interface a) (key.Interface (record { 0 = n }))) (sym z.0)) ∙ same-number (f.interfaces a.0)
-  becomes_same (key.Name a) (key.Interface b) z = absurd z
-  becomes_same (key.Interface a) (key.Name b) z = absurd z
+  becomes_same x y z = search (std_rules, same_text, same-number)
 
   module _ (own : List (WorldKey × WorldItem)) where
     abbrev test : WorldKey × WorldItem → Bool

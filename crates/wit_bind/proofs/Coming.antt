@@ -1,5 +1,5 @@
 -- What is copied of other bindings comes by its path, or is gained by the own bound world.
-use Rattle.std.proofs.Common.{◌≡◌, ◌⊎◌, inl, inr, refl, sym, ap, subst, ◌∙◌, arith, ℕ, zero, suc, ◌+◌, Bool, true, false, not, ◌&&◌, ◌||◌, ◌==◌, List, [], ◌∷◌, length, map, Option, Some, None, is_none, is_some, slice_get, unwrap_or, Contains}
+use Rattle.std.proofs.Common.{rules as std_rules, ◌≡◌, ◌⊎◌, inl, inr, refl, sym, ap, subst, ◌∙◌, arith, ℕ, zero, suc, ◌+◌, Bool, true, false, not, ◌&&◌, ◌||◌, ◌==◌, List, [], ◌∷◌, length, map, Option, Some, None, is_none, is_some, slice_get, unwrap_or, Contains}
 use Rattle.std.proofs.lemmas.{List.length-map, Option.slice_get_within}
 use Rattle.std.specs.{Prelude.String, List.list_any, Option.option_map_or}
 use Rattle.std.specs.declared.alloc.Global.{Global}
@@ -47,17 +47,12 @@ kept-from (true ∷ bs) (y ∷ ys) (suc p) x e = let r = kept-from bs ys p x e i
 kept-from (false ∷ bs) (y ∷ ys) p x e = let r = kept-from bs ys p x e in (suc r.0, r.1, r.2)
 
 either-true : {P : Type 0} (a b : Bool) → (a ≡ true → P) → (b ≡ true → P) → (a || b) ≡ true → P
-either-true true b f g h = f refl
-either-true false b f g h = g h
+either-true x b f g h = search std_rules
 
 -- what passes none of these isn't one
 none-passes : {A : Type 0} (p : A → Bool) (xs : List A) (x : A) → not (list_any p xs) ≡ true → Contains xs x → p x ≡ false
 none-passes p [] x h (i, l, e) = absurd (omega (arith, l))
-none-passes p (y ∷ ys) x h (zero, l, e) = ap p (sym e) ∙ first (p y) (list_any p ys) h
-  where
-    first : (a b : Bool) → not (a || b) ≡ true → a ≡ false
-    first true b k = no_true k
-    first false b k = refl
+none-passes p (y ∷ ys) x h (zero, l, e) = search std_rules
 none-passes p (y ∷ ys) x h (suc i, l, e) = none-passes p ys x (later (p y) (list_any p ys) h) (i, omega (arith, l), e)
   where
     later : (a b : Bool) → not (a || b) ≡ true → not b ≡ true
@@ -121,9 +116,7 @@ module _ (own other : Bindgen) (o : IsBindgen own) (t : IsBindgen other) (can : 
   interfaces-come = record { marks = carried_interfaces s m; marked = marked_count (carried_interfaces s m); each = λ n e. interface-comes n (mark-flag (carried_interfaces s m) n e) }
 
   stands : (w : TypeOwner) → OwnerComes r s w → OwnerStands r s w
-  stands (owner.Interface id) h = inr h
-  stands (owner.World id) h = h
-  stands owner.None h = h
+  stands x h = search std_rules
 
   module _ (c : CarriedThings) (numbered : IsNumbered r s m c) where
     worlds-are : c.copied_worlds.items ≡ carried_worlds s m

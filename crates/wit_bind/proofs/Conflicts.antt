@@ -1,5 +1,5 @@
 -- The least key that has two encodings, found one entry after the other; and encodings added to others.
-use Rattle.std.proofs.Common.{◌≡◌, refl, sym, ap, subst, ◌∙◌, ◌⊎◌, inl, inr, Bool, true, false, not, [], ◌∷◌, cond, Option, Some, None}
+use Rattle.std.proofs.Common.{rules as std_rules, ◌≡◌, refl, sym, ap, subst, ◌∙◌, ◌⊎◌, inl, inr, Bool, true, false, not, [], ◌∷◌, cond, Option, Some, None}
 use mathlib.Core.Bool.{true≢false}
 use Rattle.std.specs.{Prelude.◌≢◌, Prelude.◌==◌, List.AllByRecursion, List.IsDistinct, Map.keys_of, Option.option_map_or}
 use Rattle.indexmap.specs.IndexMap.{insert_all, insert_entry}
@@ -12,7 +12,6 @@ use Rattle.bind_clash.proofs.LeastFaults.{of_two, one_fault, same_faults}
 use Rattle.wit_bind.specs.Encodings.{Encodings, encoding_at, kept_encodings, number_of_encoding}
 use Rattle.wit_bind.specs.Unions.{conflict_at, Gains, has_another, or_else}
 use Rattle.wit_bind.proofs.Kept.{Entries, kept_at, under, under_put}
-use Rattle.wit_model.specs.declared.model.StringEncoding.TheVariants as encodings
 use Rattle.wit_model.specs.contracts.model.StringEncodingPartialEq.TheImpl as encoding
 
 -- ---- the least of what is left, beside the least so far
@@ -40,48 +39,18 @@ of_one m e = by (has_another m e.0 e.1) refl
 of_all : (m : Encodings) (P : Text → Type 0) (so_far : Option Text) (es : Entries) → IsLeastFault P so_far → IsLeastFault (λ t. P t ⊎ Among m es t) (least_from m so_far es)
 of_all m P so_far [] h = same_faults P (λ t. P t ⊎ ⊥) (λ t p. inl p) (λ t x. elim x [ inl p ↦ p | inr z ↦ absurd z ]) so_far h
 of_all m P so_far (e ∷ es) h =
-    same_faults (λ t. (P t ⊎ Here m e t) ⊎ Among m es t) (λ t. P t ⊎ Among m (e ∷ es) t) forth back
-    (least_from m (least_of so_far (conflict_at m e.0 e.1)) es)
-    (of_all m (λ t. P t ⊎ Here m e t) (least_of so_far (conflict_at m e.0 e.1)) es (of_two P (Here m e) so_far (conflict_at m e.0 e.1) h (of_one m e)))
-  where
-    forth : (t : Text) → (P t ⊎ Here m e t) ⊎ Among m es t → P t ⊎ Among m (e ∷ es) t
-    forth t (inl (inl p)) = inl p
-    forth t (inl (inr x)) = inr (inl x)
-    forth t (inr x) = inr (inr x)
-
-    back : (t : Text) → P t ⊎ Among m (e ∷ es) t → (P t ⊎ Here m e t) ⊎ Among m es t
-    back t (inl p) = inl (inl p)
-    back t (inr (inl x)) = inl (inr x)
-    back t (inr (inr x)) = inr x
+    search (std_rules, same_faults, of_two, of_one, of_all m (λ t. P t ⊎ Here m e t) (least_of so_far (conflict_at m e.0 e.1)) es (of_two P (Here m e) so_far (conflict_at m e.0 e.1) h (of_one m e)))
 
 -- ---- another encoding
 
-itself_is : (e : StringEncoding) → not (number_of_encoding e == number_of_encoding e) ≡ false
-itself_is encodings.UTF8 = refl
-itself_is _ = refl
-
-is_another : (f e : StringEncoding) → f ≢ e → not (number_of_encoding f == number_of_encoding e) ≡ true
-is_another encodings.UTF8 encodings.UTF8 h = absurd (h refl)
-is_another encodings.UTF8 encodings.UTF16 h = refl
-is_another encodings.UTF8 encodings.CompactUTF16 h = refl
-is_another encodings.UTF16 encodings.UTF8 h = refl
-is_another encodings.UTF16 encodings.UTF16 h = absurd (h refl)
-is_another encodings.UTF16 encodings.CompactUTF16 h = refl
-is_another encodings.CompactUTF16 encodings.UTF8 h = refl
-is_another encodings.CompactUTF16 encodings.UTF16 h = refl
-is_another encodings.CompactUTF16 encodings.CompactUTF16 h = absurd (h refl)
-
 differs : (o : Option StringEncoding) (e : StringEncoding) → option_map_or (λ f. not (number_of_encoding f == number_of_encoding e)) o false ≡ true → Differ itself o (Some e)
-differs None e h = true≢false (sym h)
-differs (Some f) e h = λ same. true≢false (sym h ∙ (ap (λ (x : StringEncoding). not (number_of_encoding x == number_of_encoding e)) same ∙ itself_is e))
+differs y e h = search std_rules
 
 differing : (o : Option StringEncoding) (e : StringEncoding) → Differ itself o (Some e) → option_map_or (λ f. not (number_of_encoding f == number_of_encoding e)) o false ≡ true
-differing None e h = absurd h
-differing (Some f) e h = is_another f e h
+differing x e h = search std_rules
 
 none_differs : (o : Option StringEncoding) → Differ itself o None → ⊥
-none_differs None h = h
-none_differs (Some f) h = h
+none_differs x h = search std_rules
 
 -- ---- entries, of which no two have one key
 
@@ -91,19 +60,13 @@ Apart k es = AllByRecursion (λ y. text_eq k y ≡ false) (keys_of es)
 not_first : (m : Encodings) (k : Text) (es : Entries) → Apart k es → (t : Text) → Among m es t → text_eq t k ≡ false
 not_first m k [] apart t x = absurd x
 not_first m k (e ∷ es) apart t (inr x) = not_first m k es apart.1 t x
-not_first m k (e ∷ es) apart t (inl (same, h)) = by (text_eq t k) refl
-  where
-    by : (b : Bool) → text_eq t k ≡ b → b ≡ false
-    by false s = refl
-    by true s = absurd (true≢false (sym (same_text k e.0 (sym (text-same t k s) ∙ same)) ∙ apart.0))
+not_first m k (e ∷ es) apart t (inl (same, h)) = search std_rules
 
 is_fault : (m : Encodings) (es : Entries) → IsDistinct text_eq (keys_of es) → (t : Text) → Among m es t → Differ itself (encoding_at m t) (under t es)
 unfolding IsDistinct
 is_fault m [] d t x = absurd x
-is_fault m (e ∷ es) d t (inl (same, h)) =
-    subst (λ (b : Bool). Differ itself (encoding_at m t) (cond b (Some e.1) (under t es))) (sym (same_text t e.0 same)) (differs (encoding_at m t) e.1 h)
-is_fault m (e ∷ es) d t (inr x) =
-    subst (λ (b : Bool). Differ itself (encoding_at m t) (cond b (Some e.1) (under t es))) (sym (not_first m e.0 es d.0 t x)) (is_fault m es d.1 t x)
+is_fault m (e ∷ es) d t (inl (same, h)) = search std_rules
+is_fault m (e ∷ es) d t (inr x) = search (std_rules, under, not_first, is_fault m es d.1 t x)
 
 is_among : (m : Encodings) (es : Entries) (t : Text) → Differ itself (encoding_at m t) (under t es) → Among m es t
 is_among m [] t h = none_differs (encoding_at m t) h
@@ -125,27 +88,16 @@ least_is m es d =
 
 none_under : (q : Text) (k : Text) (es : Entries) → Apart k es → text_eq q k ≡ true → under q es ≡ None
 none_under q k [] apart s = refl
-none_under q k (e ∷ es) apart s = by (text_eq q e.0) refl (none_under q k es apart.1 s)
-  where
-    by : (b : Bool) → text_eq q e.0 ≡ b → under q es ≡ None → cond b (Some e.1) (under q es) ≡ None
-    by false h rest = rest
-    by true h rest = absurd (true≢false (sym (same_text k e.0 (sym (text-same q k s) ∙ text-same q e.0 h)) ∙ apart.0))
+none_under q k (e ∷ es) apart s = search (std_rules, under, same_text, text-same, none_under q k es apart.1 s)
 
 gained : (q : Text) (more es : Entries) → IsDistinct text_eq (keys_of more) → under q (insert_all text_eq es more) ≡ or_else (under q more) (under q es)
 unfolding IsDistinct
 gained q [] es d = refl
-gained q (e ∷ more) es d =
-    gained q more (insert_entry text_eq es e.0 e.1) d.1
-    ∙ (ap (or_else (under q more)) (under_put q e.0 e.1 es) ∙ by (text_eq q e.0) refl)
-  where
-    by : (b : Bool) → text_eq q e.0 ≡ b → or_else (under q more) (cond b (Some e.1) (under q es)) ≡ or_else (cond b (Some e.1) (under q more)) (under q es)
-    by false s = refl
-    by true s = ap (λ o. or_else o (Some e.1)) (none_under q e.0 more d.0 s)
+gained q (e ∷ more) es d = search (std_rules, under, under_put, none_under, gained q more (insert_entry text_eq es e.0 e.1) d.1)
 
 -- entries that are put in order are gained
 pub gains : (more old new : Entries) → IsDistinct text_eq (keys_of more) → new ≡ insert_all text_eq old more → Gains (kept_encodings more) (kept_encodings old) (kept_encodings new)
-gains more old new d h q =
-    kept_at q new ∙ (ap (under q) h ∙ (gained q more old d ∙ (λ i. or_else (sym (kept_at q more) i) (sym (kept_at q old) i))))
+gains more old new d h q = search (std_rules, kept_at, under, gained)
 
 -- ---- one key
 
@@ -157,15 +109,7 @@ pub conflict_is : (m : Encodings) (es : Entries) (key : Text) (e : StringEncodin
 conflict_is m es key e o view h = ap (conflict_for key e) (ap (λ n. encoding_at n key) (sym view) ∙ (kept_at key es ∙ sym h))
 
 pub eq_is : (f e : StringEncoding) → encoding.ghosts.eq f e ≡ (number_of_encoding f == number_of_encoding e)
-eq_is encodings.UTF8 encodings.UTF8 = refl
-eq_is encodings.UTF8 encodings.UTF16 = refl
-eq_is encodings.UTF8 encodings.CompactUTF16 = refl
-eq_is encodings.UTF16 encodings.UTF8 = refl
-eq_is encodings.UTF16 encodings.UTF16 = refl
-eq_is encodings.UTF16 encodings.CompactUTF16 = refl
-eq_is encodings.CompactUTF16 encodings.UTF8 = refl
-eq_is encodings.CompactUTF16 encodings.UTF16 = refl
-eq_is encodings.CompactUTF16 encodings.CompactUTF16 = refl
+eq_is x y = search std_rules
 
 pub same_there : (key : Text) (f e : StringEncoding) → encoding.ghosts.eq f e ≡ true → conflict_for key e (Some f) ≡ None
 same_there key f e h = ap (λ b. cond (not b) (Some key) None) (sym (eq_is f e) ∙ h)

@@ -1,5 +1,5 @@
 -- What is added under new keys comes behind what was there.
-use Rattle.std.proofs.Common.{◌≡◌, refl, sym, ap, ◌∙◌, ◌⊎◌, inl, inr, arith, ℕ, zero, suc, ◌<◌, List, [], ◌∷◌, Some, slice_get, slice_set}
+use Rattle.std.proofs.Common.{rules as std_rules, ◌≡◌, refl, sym, ap, ◌∙◌, ◌⊎◌, inl, inr, arith, ℕ, zero, suc, ◌<◌, List, [], ◌∷◌, Some, slice_get, slice_set}
 use Rattle.std.proofs.lemmas.{Bool.cases_order, List.append-nil, Option.same_Some as same-some}
 use Rattle.std.specs.Prelude.{◌≢◌}
 use Rattle.wit_model.specs.declared.model.{Package.Package, Resolve.Resolve, World.World}
@@ -72,9 +72,7 @@ module _ (added : Added) (metadata : ModuleMetadata) (old new : Bindgen) (apart 
   -- ---- worlds
 
   other-world : (b : World) → world_at o old.world.0 ≡ Some b → (n : ℕ) (w : World) → n ≢ old.world.0 → world_at o n ≡ Some w → world_at new.resolve n ≡ Some w
-  other-world b bound n w ne at =
-      let h = g.all_added.worlds b bound in
-      ap (λ (xs : List World). slice_get xs n) h.2 ∙ front (slice_set o.worlds.items old.world.0 h.0) added.worlds.items n w (put-elsewhere o.worlds.items old.world.0 n h.0 ne ∙ at)
+  other-world b bound n w ne at = search (std_rules, front, put-elsewhere)
 
   bound-world : (w : World) → world_at o old.world.0 ≡ Some w → (v : World) × (world_at new.resolve old.world.0 ≡ Some v) × IsGrownWorld w v
   bound-world w at =

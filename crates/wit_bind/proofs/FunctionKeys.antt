@@ -1,5 +1,5 @@
 -- The entries of functions, listed, are exactly those of functions.
-use Rattle.std.proofs.Common.{◌≡◌, refl, sym, ap, subst, ◌∙◌, ◌⊎◌, inl, inr, ℕ, [], Option, Some, None, option_to_list, option_and_then, option_map, Result, Ok, Err, IfOk}
+use Rattle.std.proofs.Common.{rules as std_rules, ◌≡◌, refl, sym, ap, subst, ◌∙◌, ◌⊎◌, inl, inr, ℕ, [], Option, Some, None, option_to_list, option_and_then, option_map, Result, IfOk}
 use Rattle.std.proofs.lemmas.Option.{same_Some as same-some}
 use Rattle.std.specs.{List.Contains, Option.option_map_or, FinMap.empty, FinMap.get-empty}
 use Rattle.wit_model.specs.declared.model.{Resolve.Resolve, Interface.Interface, StringEncoding.StringEncoding, WorldItem.WorldItem, WorldKey.WorldKey}
@@ -11,7 +11,7 @@ use Rattle.wit_bind.specs.Functions.{Items, IsFunctionKey, of_item, of_interface
 use Rattle.wit_bind.specs.KeyLists.{Choice, Entry, entries_of_item, entries_of_items, entry_of, member_entries, Puts}
 use Rattle.bind_meaning.proofs.Listed.{from-flat, from-given}
 use Rattle.wit_bind.proofs.Putting.{comes, holds}
-use Rattle.base_lemmas.proofs.Elements.{contains-one, last_of as one-contained}
+use Rattle.base_lemmas.proofs.Elements.{contains-one}
 use Rattle.wit_model.specs.declared.model.WorldItem.TheVariants as item
 use Rattle.wit_model.specs.declared.model.WorldKey.TheVariants as key
 
@@ -20,9 +20,7 @@ use Rattle.wit_model.specs.declared.model.WorldKey.TheVariants as key
 -- the key and the encoding of an entry
 pub entry_tells : (o : Option Text) (w : Option StringEncoding) (k : Text) (e : StringEncoding) → option_and_then {U = Entry} (λ q. option_map (λ f. (q, f)) w) o ≡ Some (k, e) → (o ≡ Some k)
     × (w ≡ Some e)
-entry_tells None w k e h = absurd (let z : ⊥ = cc in z)
-entry_tells (Some q) None k e h = absurd (let z : ⊥ = cc in z)
-entry_tells (Some q) (Some f) k e h = let both = same-some (q, f) (k, e) h in (ap (λ (x : Entry). Some x.0) both, ap (λ (x : Entry). Some x.1) both)
+entry_tells y w k e h = search std_rules
 
 pub told_entry : (o : Option Text) (w : Option StringEncoding) (k : Text) (e : StringEncoding) → o ≡ Some k → w ≡ Some e → option_and_then {U = Entry} (λ q. option_map (λ f. (q, f)) w) o ≡ Some (k, e)
 told_entry o w k e key value = λ i. option_and_then {U = Entry} (λ q. option_map (λ f. (q, f)) (value i)) (key i)
@@ -31,11 +29,7 @@ module _ (r : Resolve) (w : Choice) (items : Items) where
   in_item : (x : Entry) (shown : WorldItem) (scope : WorldKey) (n : ℕ) (owner : Interface) → item_interface shown ≡ Some n → interface_at r n ≡ Some owner
       → Contains (member_entries r w scope owner.functions.entries) x
       → Contains (entries_of_item r w scope shown) x
-  in_item x (item.Interface id stability docs external_id) scope n owner of at c =
-      let number : id.0 ≡ n = same-some id.0 n of in
-      subst (λ o. Contains (option_map_or (λ i. member_entries r w scope i.functions.entries) o []) x) (sym (ap (interface_at r) number ∙ at)) c
-  in_item x (item.Function f) scope n owner of at c = absurd (let z : ⊥ = cc in z)
-  in_item x (item.Type_ id) scope n owner of at c = absurd (let z : ⊥ = cc in z)
+  in_item x y scope n owner of at c = search std_rules
 
   -- the entry of each function is listed
   pub listed : (scope : WorldKey) (name : Text) (x : Entry) → IsFunctionOf r items scope name → entry_of r w scope name ≡ Some x → Contains (entries_of_items r w items) x
@@ -59,8 +53,7 @@ module _ (r : Resolve) (w : Choice) (items : Items) where
       (scope, (text_of e.0.0, (member scope shown n owner e.0.0 e.0.1 stands of at e.1.0, e.1.1)))
 
   given-one : (x : Entry) (o : Option Entry) → Contains (option_to_list o) x → o ≡ Some x
-  given-one x None c = none-in x c
-  given-one x (Some y) c = ap Some (one-contained y x c)
+  given-one x z c = search std_rules
 
   of-one : (x : Entry) (scope : WorldKey) (shown : WorldItem) → Contains items (scope, shown) → Contains (entries_of_item r w scope shown) x → Unlisted x
   of-one x scope (item.Interface id stability docs external_id) stands c = of-members x scope (item.Interface id stability docs external_id) id.0 refl stands (interface_at r id.0) refl c
@@ -128,8 +121,7 @@ maps_functions r items encoding m puts = record { each = each; only = only }
 -- ---- those of keys without version
 
 given-under : (old : Text → Option StringEncoding) (o : Option Text) (e : StringEncoding) → option_and_then old o ≡ Some e → (was : Text) × ((o ≡ Some was) × (old was ≡ Some e))
-given-under old None e h = absurd (let z : ⊥ = cc in z)
-given-under old (Some was) e h = (was, (refl, h))
+given-under old x e h = search std_rules
 
 -- what stands under the key without version
 abbrev under_old : (Text → Option StringEncoding) → Resolve → Choice
@@ -149,11 +141,9 @@ carries_over old r items m puts = record {
 
 pub all_functions : {E : Type 0} (r : Resolve) (items : Items) (encoding : StringEncoding) (a : Result Encodings E)
     → IfOk a (λ m. Puts (entries_of_items r (λ scope name. Some encoding) items) empty m) → IfOk a (MapsFunctions r items encoding)
-all_functions r items encoding (Ok m) puts = maps_functions r items encoding m puts
-all_functions r items encoding (Err e) puts = tt
+all_functions r items encoding x puts = search (std_rules, maps_functions)
 
 pub all_carried : {E : Type 0} (old : Text → Option StringEncoding) (r : Resolve) (items : Items) (a : Result Encodings E)
     → IfOk a (λ m. Puts (entries_of_items r (λ scope name. option_and_then old (unversioned_key r scope name)) items) empty m)
     → IfOk a (CarriesOver old r items)
-all_carried old r items (Ok m) puts = carries_over old r items m puts
-all_carried old r items (Err e) puts = tt
+all_carried old r items x puts = search (std_rules, carries_over)

@@ -1,9 +1,9 @@
 -- What is planned can be added, and what is added is behind what there was.
-use Rattle.std.proofs.Common.{◌≡◌, sym, subst, ℕ, ◌<◌, ◌≤◌, Bool, true, List, length, Result, Ok, Err, OnErr, OnOk}
+use Rattle.std.proofs.Common.{rules as std_rules, subst, ℕ, ◌≤◌, Bool, List, length, Result, OnErr, OnOk}
 use Rattle.std.specs.Prelude.{IfOk}
 use Rattle.wit_model.specs.declared.model.{Resolve.Resolve, WorldKey.WorldKey}
 use Rattle.wit_model.specs.Valid.{key_eq}
-use Rattle.bind_add.specs.Growth.{are_in_range, IsAddable, IsAdded, IsSameResolve}
+use Rattle.bind_add.specs.Growth.{IsAddable, IsAdded, IsSameResolve}
 use Rattle.bind_add.specs.declared.added.Added.{Added}
 use Rattle.bind_carry.proofs.{Addable.unions_are_addable, Ranges.is_in_range}
 use Rattle.bind_copy.proofs.Gained.{test_is}
@@ -28,17 +28,11 @@ added_by_key world added old new h = subst (λ (same : WorldKey → WorldKey →
 
 -- room for more keeps what can be added
 pub addable_with_room : (world : ℕ) (added : Added) (old between : Resolve) → IsSameResolve world old between → IsAddable old world added → IsAddable between world added
-addable_with_room world added old between same h = record {
-  in_range = subst (λ (k : ℕ). are_in_range k added.names.items ≡ true) (sym same.packages.count) h.in_range;
-  different = h.different;
-  in_worlds = subst (λ (k : ℕ). world < k) (sym same.worlds) h.in_worlds;
-}
+addable_with_room world added old between same h = search std_rules
 
 pub on_err : {A E P : Type 0} → P → (r : Result A E) → OnErr r P
-on_err p (Ok x) = tt
-on_err p (Err e) = p
+on_err p x = search std_rules
 
 -- what follows of an answer at `Ok`, whatever it is
 pub so_ok : {X E : Type 0} (P : X → Type 0) (Q : Type 0) → ((x : X) → P x → Q) → (r : Result X E) → IfOk r P → OnOk r Q
-so_ok P Q f (Ok x) h = f x h
-so_ok P Q f (Err e) h = tt
+so_ok y z f u h = search std_rules

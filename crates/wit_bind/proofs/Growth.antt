@@ -1,5 +1,5 @@
 -- A merge adds what comes, and nothing where nothing is new.
-use Rattle.std.proofs.Common.{◌≡◌, inl, inr, refl, sym, ap, subst, ◌∙◌, arith, ℕ, zero, suc, ◌+◌, Bool, true, false, not, ◌&&◌, cond, List, [], ◌∷◌, ◌++◌, length, map, append-nil, Option, Some, None, is_some, option_and_then, slice_get, Contains, ◌≤◌, slice_set, unwrap_or}
+use Rattle.std.proofs.Common.{rules as std_rules, ◌≡◌, inl, inr, refl, sym, ap, subst, ◌∙◌, arith, ℕ, zero, suc, ◌+◌, Bool, true, false, not, ◌&&◌, cond, List, [], ◌∷◌, ◌++◌, length, map, append-nil, Option, Some, None, is_some, option_and_then, slice_get, Contains, ◌≤◌, slice_set, unwrap_or}
 use Rattle.std.specs.{Cmp.Lexicographic.nat_list_cmp_total, FinMap.get, FinMap.get-from_entries, Option.option_map_or}
 use Rattle.wit_model.specs.declared.model.{Interface.Interface, Resolve.Resolve, TypeOwner.TypeOwner, World.World, WorldItem.WorldItem, WorldKey.WorldKey}
 use Rattle.wit_model.specs.{Lookup.interface_path, Lookup.key_text, Lookup.path_of_interface, Lookup.path_of_world, Lookup.world_at, Text.Text, Text.text_eq}
@@ -8,7 +8,7 @@ use Rattle.bind_meaning.specs.{ByNumbers.interfaces_by_path, ByNumbers.worlds_by
 use Rattle.bind_meaning.proofs.Maps.{eq_by_text, found_keys, get-without}
 use Rattle.bind_meaning.proofs.WorldBindings.{interface-found, world-found, world-path}
 use Rattle.bind_carry.specs.{MadeOf.Come, Numbers.copied_count, Bound.bound_interfaces, First.first_fates, Union.IsUnionOf}
-use Rattle.bind_carry.specs.{BoundGains.bound_fates, BoundGains.gained_inline, Packaged.IsPackageCarried, Whole.IsInterfaceCarried, Whole.IsWorldCarried}
+use Rattle.bind_carry.specs.{BoundGains.bound_fates, BoundGains.gained_inline, Whole.IsInterfaceCarried, Whole.IsWorldCarried}
 use Rattle.bind_carry.specs.{TooLong.carried_interfaces, TooLong.copies_of, TooLong.gained_fates, TooLong.CarriedThings, TooLong.TypeFates, Shown.AreShownBelow}
 use Rattle.bind_carry.proofs.Counting.{length_both, carried_all, carried_few, copied_long, inline_all}
 use Rattle.bind_carry.proofs.{WhatComes.marked_count, Ready.bound_long, Ready.fates_long, Ready.numbers_count, SecondInitial.gained_long}
@@ -23,7 +23,6 @@ use Rattle.base_lemmas.proofs.{Bools.left_of as first_true, Bools.not-false, Boo
 use Rattle.base_lemmas.proofs.Options.{there as some-of}
 use Rattle.bind_add.specs.declared.added.Added.{Added}
 use Rattle.bind_add.proofs.Gains.{set_length}
-use Rattle.wit_model.specs.declared.model.TypeOwner.TheVariants as owner
 
 -- ---- Where nothing of the other is new, nothing comes.
 
@@ -105,9 +104,7 @@ module _ (own other : Bindgen) (o : IsBindgen own) (t : IsBindgen other) (can : 
   no-interface n (inr c) = no-world c.place c.comes
 
   no-owner : (h : TypeOwner) → OwnerComes r s h → ⊥
-  no-owner (owner.Interface id) c = no-interface id.0 c
-  no-owner (owner.World id) c = no-world id.0 c
-  no-owner owner.None c = c
+  no-owner x c = search (std_rules, no-interface, no-world)
 
   pub no-type : (n : ℕ) → TypeComes r s n → ⊥
   no-type n (inl c) = no-owner c.def.owner c.owned_so
@@ -117,8 +114,7 @@ module _ (own other : Bindgen) (o : IsBindgen own) (t : IsBindgen other) (can : 
   -- ---- what is gained
 
   none-some : {X : Type 0} (x : Option X) → x ≡ None → is_some x ≡ true → ⊥
-  none-some None e h = no_true h
-  none-some (Some x) e h = let wrong : ⊥ = cc in wrong
+  none-some x e h = search std_rules
 
   no-import : (e : WorldKey × WorldItem) → ImportIsGained own other e → ⊥
   no-import e c =
@@ -131,16 +127,13 @@ module _ (own other : Bindgen) (o : IsBindgen own) (t : IsBindgen other) (can : 
       none-some (entry_under (key_text s e.0) (binding_of own).bound.exports) c.is_new (nothing.exports (key_text s e.0) (ap is_some (other-export own other o t can w v at_w at_v e held)))
 
   no-gain : (e : WorldKey × WorldItem) → IsGained own other e → ⊥
-  no-gain e (inl c) = no-import e c
-  no-gain e (inr c) = no-export e c
+  no-gain e x = search (std_rules, no-import, no-export)
 
   pub no-inline : (n : ℕ) → InlineIsGained own other n → ⊥
   no-inline n c = no-gain c.entry c.gained
 
   no-gained-owner : (h : TypeOwner) → OwnerIsGained own other h → ⊥
-  no-gained-owner (owner.Interface id) c = no-inline id.0 c
-  no-gained-owner (owner.World id) c = c
-  no-gained-owner owner.None c = c
+  no-gained-owner x c = search (std_rules, no-inline)
 
   pub no-gained-type : (n : ℕ) → TypeIsGained own other n → ⊥
   no-gained-type n (inl c) = no-gained-owner c.def.owner c.owned_so
@@ -178,22 +171,10 @@ module _ (own other new : Bindgen) (o : IsBindgen own) (t : IsBindgen other) (ca
   -- ---- packages and worlds
 
   packages : length added.packages.items ≤ packages_to_come own.resolve other.resolve
-  packages =
-      let one : length planned.before.packages.items ≤ copied_count c.new_packages.items =
-      carried_few (IsPackageCarried c) c.new_packages.items other.resolve.packages.items planned.before.packages.items planned.first.packages in
-      let same = ap length planned.second.packages in
-      let flags = ap copied_count planned.numbered.new_packages in
-      let few = packages-few own.resolve other.resolve o.valid t.valid p.matches p.matched in
-      omega (arith, one, same, flags, few)
+  packages = search (std_rules, planned, carried_few, packages-few)
 
   worlds : length added.worlds.items ≤ worlds_to_come own.resolve other.resolve
-  worlds =
-      let one : length planned.before.worlds.items ≤ copied_count c.copied_worlds.items =
-      carried_few (IsWorldCarried c planned.types) c.copied_worlds.items other.resolve.worlds.items planned.before.worlds.items planned.first.worlds in
-      let same = ap length planned.second.worlds in
-      let flags = ap copied_count planned.numbered.copied_worlds in
-      let few = worlds-few own.resolve other.resolve o.valid t.valid p.matches p.matched in
-      omega (arith, one, same, flags, few)
+  worlds = search (std_rules, planned, carried_few, worlds-few)
 
   -- ---- interfaces
 

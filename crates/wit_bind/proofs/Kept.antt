@@ -1,11 +1,11 @@
 -- What is kept under keys is a map by their texts.
-use Rattle.std.proofs.Common.{◌≡◌, refl, sym, ap, ◌∙◌, Bool, true, false, List, [], ◌∷◌, cond, Option, Some, None}
-use Rattle.std.proofs.lemmas.{Cmp.nat_list_cmp_total, Slice.Eq.bytes_eq-Decides}
+use Rattle.std.proofs.Common.{rules as std_rules, ◌≡◌, refl, ap, ◌∙◌, true, false, List, [], ◌∷◌, cond, Option, Some, None}
+use Rattle.std.proofs.lemmas.{Cmp.nat_list_cmp_total}
 use Rattle.std.specs.{Map.lookup, Option.option_map_or, FinMap.find, FinMap.get-from_entries}
 use Rattle.indexmap.specs.IndexMap.{insert_entry}
 use Rattle.wit_model.specs.declared.model.{Resolve.Resolve, StringEncoding.StringEncoding, WorldKey.WorldKey}
 use Rattle.wit_model.specs.Text.{Text, text_eq, text_cmp}
-use Rattle.wit_model.proofs.{AnyOrder.same-text, TextLemmas.text_same as text-same}
+use Rattle.wit_model.proofs.{AnyOrder.same-text}
 use Rattle.wit_bind.specs.{Keys.function_key, Encodings.encoding_at, Encodings.encoding_under, Encodings.kept_encodings, KeyTests.is_key_of, KeyLists.Puts}
 
 abbrev pub Entries : Type 0
@@ -48,40 +48,16 @@ module _ (r : Resolve) (scope : WorldKey) (function : Text) where
 module _ (q : Text) (k : Text) (v : StringEncoding) where
   put_first : (e : Text × StringEncoding) (found : Option StringEncoding) → text_eq k e.0 ≡ true
       → cond (text_eq q e.0) (Some v) found ≡ cond (text_eq q k) (Some v) (cond (text_eq q e.0) (Some e.1) found)
-  put_first e found same =
-      let t : k ≡ e.0 = text-same k e.0 same in
-      by (text_eq q e.0) (text_eq q k) (ap (text_eq q) t)
-    where
-      by : (b c : Bool) → c ≡ b → cond b (Some v) found ≡ cond c (Some v) (cond b (Some e.1) found)
-      by true true h = refl
-      by false false h = refl
-      by true false h = absurd (let z : ⊥ = cc in z)
-      by false true h = absurd (let z : ⊥ = cc in z)
+  put_first e found same = search std_rules
 
   put_later : (e : Text × StringEncoding) (found : Option StringEncoding) → text_eq k e.0 ≡ false
       → cond (text_eq q e.0) (Some e.1) (cond (text_eq q k) (Some v) found) ≡ cond (text_eq q k) (Some v) (cond (text_eq q e.0) (Some e.1) found)
-  put_later e found other = by (text_eq q e.0) refl (text_eq q k) refl
-    where
-      by : (b : Bool) → text_eq q e.0 ≡ b → (c : Bool) → text_eq q k ≡ c → cond b (Some e.1) (cond c (Some v) found) ≡ cond c (Some v) (cond b (Some e.1) found)
-      by true s true t =
-          let one : k ≡ e.0 = sym (text-same q k t) ∙ text-same q e.0 s in
-          let same : text_eq k e.0 ≡ true = (bytes_eq-Decides k e.0).1 one in
-          absurd (let z : ⊥ = cc in z)
-      by true s false t = refl
-      by false s true t = refl
-      by false s false t = refl
+  put_later e found other = search std_rules
 
   pub under_put : (es : Entries) → under q (insert_entry text_eq es k v) ≡ cond (text_eq q k) (Some v) (under q es)
   under_put [] = refl
-  under_put (e ∷ es) = by (text_eq k e.0) refl (under_put es)
-    where
-      by : (b : Bool) → text_eq k e.0 ≡ b → under q (insert_entry text_eq es k v) ≡ cond (text_eq q k) (Some v) (under q es)
-          → under q (cond b ((e.0, v) ∷ es) (e ∷ insert_entry text_eq es k v)) ≡ cond (text_eq q k) (Some v) (under q (e ∷ es))
-      by true same rest = put_first e (under q es) same
-      by false other rest = ap (cond (text_eq q e.0) (Some e.1)) rest ∙ put_later e (under q es) other
+  under_put (e ∷ es) = search (std_rules, put_first, put_later, under_put es)
 
 -- an entry put is an encoding put
 pub puts : (es fs : Entries) (k : Text) (v : StringEncoding) → fs ≡ insert_entry text_eq es k v → Puts ((k, v) ∷ []) (kept_encodings es) (kept_encodings fs)
-puts es fs k v h q =
-    kept_at q fs ∙ ap (under q) h ∙ under_put q k v es
-    ∙ ap (cond (text_eq q k) (Some v)) (sym (kept_at q es))
+puts es fs k v h q = search (std_rules, kept_at, under_put)

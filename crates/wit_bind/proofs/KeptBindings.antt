@@ -1,19 +1,16 @@
 -- Bindings that are as they were stand for the same binding.
-use Rattle.std.proofs.Common.{◌≡◌, ◌∙◌, refl, sym, ap, ℕ, zero, suc, List, [], ◌∷◌, map, filter_map, option_map, option_and_then, slice_get, unwrap_or, Option, Some, None}
+use Rattle.std.proofs.Common.{rules as std_rules, ◌≡◌, ◌∙◌, refl, sym, ap, ℕ, zero, suc, List, [], ◌∷◌, map, filter_map, option_map, option_and_then, slice_get, unwrap_or, Option, Some, None}
 use Rattle.std.specs.{List.cons_option, Option.option_map_or, FinMap.from_entries, FinSet.from_list}
 use Rattle.wit_model.specs.declared.model.{Function.Function, Interface.Interface, PackageId.PackageId, «TypeOwner».TypeOwner, World.World, WorldItem.WorldItem}
 use Rattle.wit_model.specs.declared.model.{Resolve.Resolve, TypeDef.TypeDef, WorldKey.WorldKey}
-use Rattle.wit_model.specs.{Text.Text, Text.optional_text, Text.text_of, Names.path_in, Meaning.declares, Meaning.function, Meaning.inline, Meaning.interface}
+use Rattle.wit_model.specs.{Text.Text, Text.optional_text, Text.text_of, Names.path_in}
 use Rattle.wit_model.specs.Tree.{named}
-use Rattle.wit_model.specs.Types.{declared_by, grow, tree_of, tree_of_declaration, tree_of_definition, trees_of}
-use Rattle.wit_model.specs.Lookup.{identity_of, interface_path, is_async, key_text, path_in_package, path_of_interface, path_of_world, place_of, place_of_path, world_at}
+use Rattle.wit_model.specs.Types.{declared_by, grow, tree_of_declaration, tree_of_definition, trees_of}
+use Rattle.wit_model.specs.Lookup.{identity_of, interface_path, key_text, path_in_package, path_of_interface, path_of_world, place_of, world_at}
 use Rattle.wit_model.specs.Meant.{entries_meaning, entry_meaning, function_meaning, interface_meaning, interface_meaning_at, no_interface, no_type, no_world, signature_of, type_meaning_at, world_meaning, world_meaning_at}
 use Rattle.bind_meaning.specs.Binding.{package_text}
 use Rattle.bind_meaning.specs.ByNumbers.{binding_at, interfaces_by_path, package_texts, world_path_at, worlds_by_path}
 use Rattle.wit_bind.specs.{Bindings.binding_of, Extends.AllPairs, Extends.IsSamePackage, Extends.IsSameWorld, Extends.KeptBindingsAreTheSame}
-use Rattle.wit_model.specs.declared.model.«TypeOwner».TheVariants as owner
-use Rattle.wit_model.specs.declared.model.WorldItem.TheVariants as item
-use Rattle.wit_model.specs.declared.model.WorldKey.TheVariants as key
 
 -- ---- lists that are related element by element
 
@@ -51,9 +48,7 @@ module _ (r s : Resolve) (packages : AllPairs IsSamePackage r.packages.items s.p
   same-interface_path n = λ j. option_and_then (λ i. same-path i j) (slice_get (interfaces j) n)
 
   same-place : (o : TypeOwner) → place_of s o ≡ place_of r o
-  same-place (owner.Interface id) = ap place_of_path (same-interface_path id.0)
-  same-place (owner.World id) = refl
-  same-place owner.None = refl
+  same-place x = search (std_rules, same-interface_path)
 
   -- ---- types and functions
 
@@ -68,11 +63,7 @@ module _ (r s : Resolve) (packages : AllPairs IsSamePackage r.packages.items s.p
   same-type n = λ j. option_map_or (λ (def : TypeDef). record { declaration = declared_by (same-trees j) def.kind; external_id = optional_text def.external_id }) (slice_get (types j) n) no_type
 
   same-signature : (f : Function) → signature_of s f ≡ signature_of r f
-  same-signature f = λ j. record {
-    is_async = is_async f.kind;
-    params = map (λ p. (text_of p.name, tree_of (same-trees j) p.ty)) f.params.items;
-    result = option_map (tree_of (same-trees j)) f.result;
-  }
+  same-signature f = search (std_rules, same-trees)
 
   same-function : (f : Function) → function_meaning s f ≡ function_meaning r f
   same-function f = λ j. record { signature = same-signature f j; external_id = optional_text f.external_id }
@@ -80,10 +71,7 @@ module _ (r s : Resolve) (packages : AllPairs IsSamePackage r.packages.items s.p
   -- ---- interfaces
 
   same-interface : (i : Interface) → interface_meaning s i ≡ interface_meaning r i
-  same-interface i = λ j. record {
-    types = map (λ e. (text_of e.0, same-type e.1.0 j)) i.types.entries;
-    functions = from_entries (map (λ e. (text_of e.0, same-function e.1 j)) i.functions.entries);
-  }
+  same-interface i = search (std_rules, same-type, same-function)
 
   same-interface_at : (n : ℕ) → interface_meaning_at s n ≡ interface_meaning_at r n
   same-interface_at n = λ j. option_map_or (λ i. same-interface i j) (slice_get (interfaces j) n) no_interface
@@ -94,23 +82,16 @@ module _ (r s : Resolve) (packages : AllPairs IsSamePackage r.packages.items s.p
   -- ---- worlds
 
   same-key : (k : WorldKey) → key_text s k ≡ key_text r k
-  same-key (key.Name name) = refl
-  same-key (key.Interface id) = ap (λ o. unwrap_or o []) (same-interface_path id.0)
+  same-key x = search (std_rules, unwrap_or, same-interface_path)
 
   same-entry : (i : WorldItem) → entry_meaning s i ≡ entry_meaning r i
-  same-entry (item.Interface id stability docs external_id) = λ j. record
-      { item = option_map_or interface (same-interface_path id.0 j) (inline (same-interface_at id.0 j)); external_id = optional_text external_id }
-  same-entry (item.Function f) = λ j. record { item = function (same-signature f j); external_id = optional_text f.external_id }
-  same-entry (item.Type_ id) = ap (λ t. record { item = declares t.declaration; external_id = t.external_id }) (same-type id.0)
+  same-entry x = search (std_rules, same-interface_path, same-interface_at, same-signature, same-type)
 
   same-entries : (es : List (WorldKey × WorldItem)) → entries_meaning s es ≡ entries_meaning r es
   same-entries es = λ j. map (λ e. (same-key e.0 j, same-entry e.1 j)) es
 
   same-world : (v w : World) → IsSameWorld v w → world_meaning s w ≡ world_meaning r v
-  same-world v w same = λ j. record {
-    imports = (ap (entries_meaning s) same.imports ∙ same-entries v.imports.entries) j;
-    exports = (ap (entries_meaning s) same.exports ∙ same-entries v.exports.entries) j;
-  }
+  same-world v w same = search (std_rules, same-entries)
 
   same-world_path : (v w : World) → IsSameWorld v w → path_of_world s w ≡ path_of_world r v
   same-world_path v w same = λ j. option_and_then (λ (p : PackageId). same-path_in p.0 (text_of (same.name j)) j) (same.in_package j)

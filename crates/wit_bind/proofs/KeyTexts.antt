@@ -1,5 +1,5 @@
 -- Keys compared part by part.
-use Rattle.std.proofs.Common.{◌≡◌, refl, sym, ap, ◌∙◌, Bool, true, false, ◌==◌, ◌&&◌, [], ◌∷◌, ◌++◌, append_assoc, cond, Option, Some, None, option_map, option_and_then}
+use Rattle.std.proofs.Common.{rules as std_rules, ◌≡◌, refl, sym, ap, ◌∙◌, Bool, true, false, [], ◌∷◌, ◌++◌, append_assoc, Option, Some, None, option_map, option_and_then}
 use Rattle.std.proofs.lemmas.Cmp.{nat_list_eq_equiv}
 use Rattle.std.specs.Option.{option_map_or}
 use Rattle.wit_model.specs.{Text.Text, Text.text_eq, Rules.after_prefix}
@@ -12,11 +12,7 @@ use Rattle.wit_model.proofs.RulesLemmas.{after_both}
 pub same_after : (p q t : Text) → text_eq (p ++ q) t ≡ option_map_or (text_eq q) (after_prefix p t) false
 same_after [] q t = refl
 same_after (p ∷ ps) q [] = refl
-same_after (p ∷ ps) q (b ∷ bs) = by (p == b) (same_after ps q bs)
-  where
-    by : (v : Bool) → text_eq (ps ++ q) bs ≡ option_map_or (text_eq q) (after_prefix ps bs) false → (v && text_eq (ps ++ q) bs) ≡ option_map_or (text_eq q) (cond v (after_prefix ps bs) None) false
-    by true h = h
-    by false h = refl
+same_after (p ∷ ps) q (b ∷ bs) = search (std_rules, same_after ps q bs)
 
 nothing_behind : (xs : Text) → xs ++ [] ≡ xs
 nothing_behind [] = refl
@@ -32,10 +28,7 @@ then_some p q t first rest found h = h ∙ ap (option_and_then (after_prefix q))
 -- the parts of a path
 pub path_parts : (space name interface end : Text)
     → ((space ++ (58 ∷ [])) ++ (name ++ (47 ∷ []))) ++ (interface ++ end) ≡ space ++ (58 ∷ (name ++ (47 ∷ (interface ++ end))))
-path_parts space name interface end =
-    append_assoc (space ++ (58 ∷ [])) (name ++ (47 ∷ [])) (interface ++ end)
-    ∙ append_assoc space (58 ∷ []) ((name ++ (47 ∷ [])) ++ (interface ++ end))
-    ∙ ap (λ t. space ++ (58 ∷ t)) (append_assoc name (47 ∷ []) (interface ++ end))
+path_parts space name interface end = search (std_rules, append_assoc)
 
 -- a key is its scope and a slash, and the function's name
 pub key_after : (scope function t : Text) → text_eq (text_under scope function) t ≡ option_map_or (text_eq function) (after_slash scope t) false
@@ -60,22 +53,11 @@ no_slash_in front function name bare = by (text_eq (text_under front function) n
 behind_scope : (scope function front name : Text) → has_slash name ≡ false
     → text_eq (text_under scope function) (text_under front name) ≡ option_map_or (λ rest. text_eq (47 ∷ function) (text_under rest name)) (after_prefix scope front) false
 behind_scope [] function front name bare = refl
-behind_scope (b ∷ scope) function [] name bare = by (b == 47) (no_slash_in scope function name bare)
-  where
-    by : (v : Bool) → text_eq (text_under scope function) name ≡ false → (v && text_eq (text_under scope function) name) ≡ false
-    by true h = h
-    by false h = refl
-behind_scope (b ∷ scope) function (c ∷ front) name bare = by (b == c) (behind_scope scope function front name bare)
-  where
-    by : (v : Bool) → text_eq (text_under scope function) (text_under front name) ≡ option_map_or (λ rest. text_eq (47 ∷ function) (text_under rest name)) (after_prefix scope front) false
-        → (v && text_eq (text_under scope function) (text_under front name))
-        ≡ option_map_or (λ rest. text_eq (47 ∷ function) (text_under rest name)) (cond v (after_prefix scope front) None) false
-    by true h = h
-    by false h = refl
+behind_scope (b ∷ scope) function [] name bare = search (std_rules, no_slash_in)
+behind_scope (b ∷ scope) function (c ∷ front) name bare = search (std_rules, behind_scope scope function front name bare)
 
 -- the same where there may be no scope
 pub is_behind : (scope : Option Text) (function key front name : Text) → IsCut key front name
     → option_map_or (λ k. text_eq k key) (option_map (λ s. text_under s function) scope) false
     ≡ option_map_or (λ rest. text_eq (47 ∷ function) (text_under rest name)) (option_and_then (λ s. after_prefix s front) scope) false
-is_behind None function key front name cut = refl
-is_behind (Some s) function key front name cut = ap (text_eq (text_under s function)) cut.is ∙ behind_scope s function front name cut.bare
+is_behind x function key front name cut = search (std_rules, behind_scope)

@@ -1,5 +1,5 @@
 -- Where nothing clashes, what is matched has one path and one sense.
-use Rattle.std.proofs.Common.{◌≡◌, refl, sym, ap, ◌∙◌, ℕ, length, Bool, true, false, List, map, unwrap_or, Option, Some, None, is_none, option_and_then, option_map, slice_get, String}
+use Rattle.std.proofs.Common.{rules as std_rules, ◌≡◌, refl, sym, ap, ◌∙◌, ℕ, length, Bool, true, false, List, map, unwrap_or, Option, Some, None, is_none, option_and_then, option_map, slice_get, String}
 use mathlib.Core.Bool.{true≢false}
 use Rattle.std.specs.{Prelude.is_some, Option.option_map_or, FinMap.get, HashMap.get_by_text}
 use Rattle.std.specs.declared.alloc.Global.{Global}
@@ -11,7 +11,7 @@ use Rattle.wit_model.specs.Lookup.{identity_of, interface_at, interface_path, pa
 use Rattle.wit_model.proofs.NameLaws.{one_path}
 use Rattle.wit_model.proofs.{OnePath.has-path, OnePath.named-path, OnePath.package-name, OnePath.package-once, OnePath.path-label, VersionLaws.same_name}
 use Rattle.bind_match.specs.declared.matches.Matches.{Matches}
-use Rattle.bind_match.specs.Matching.{given, home_in, interface_in, own_interface_of, own_package_of, own_world_of}
+use Rattle.bind_match.specs.Matching.{given, home_in, interface_in, own_interface_of, own_package_of}
 use Rattle.bind_meaning.specs.Clash.{Agree, CanUnite}
 use Rattle.bind_meaning.proofs.{Listed.given as unpacked, WorldBindings.interface-found}
 use Rattle.bind_clash.specs.Faults.{IsMatched}
@@ -27,26 +27,19 @@ use Rattle.wit_model.specs.Rules as rules
 
 -- where both are known, they agree
 pub agreed : {X S : Type 0} (sense : X → S) (o p : Option X) (x y : X) → Agree sense o p → o ≡ Some x → p ≡ Some y → sense x ≡ sense y
-agreed sense None p x y h e f = let wrong : ⊥ = cc in absurd wrong
-agreed sense (Some a) None x y h e f = let wrong : ⊥ = cc in absurd wrong
-agreed sense (Some a) (Some b) x y h e f = ap sense (sym (same-some a x e)) ∙ (h ∙ ap sense (same-some b y f))
+agreed sense z p x y h e f = search std_rules
 
 -- what a map gives under a number comes of what stood there
 
 given-there : {X : Type 0} (o : Option (Option X)) (x : X) (g : Option (Option X) → Option X) → ((z : Option X) → g (Some z) ≡ z) → g None ≡ None → g o ≡ Some x → o ≡ Some (Some x)
-given-there None x g at none e = let no : None ≡ Some x = sym none ∙ e in let wrong : ⊥ = cc in absurd wrong
-given-there (Some z) x g at none e = ap Some (sym (at z) ∙ e)
+given-there y x g at none e = search std_rules
 
 numbered-flag : (flags : List Bool) (ms : List (Option PackageId)) (n : ℕ) (id : PackageId) → flags ≡ map is_none ms → slice_get ms n ≡ Some (Some id) → flag_under flags n ≡ false
 numbered-flag flags ms n id is at = ap (λ l. flag_under l n) is ∙ ap (λ (o : Option Bool). unwrap_or o false) (mapped_at is_none ms n (Some id) at)
 
 -- the table has a place for each
 pub all-matched : (own other : Resolve) (m : Matches) → IsMatched own other m → AreMatchedAll other m
-all-matched own other m h = record {
-  packages = ap length h.packages ∙ length-map other.packages.items (own_package_of own.packages.items);
-  interfaces = ap length h.interfaces ∙ length-map other.interfaces.items (own_interface_of own m.packages.items);
-  worlds = ap length h.worlds ∙ length-map other.worlds.items (own_world_of own m.packages.items);
-}
+all-matched own other m h = search (std_rules, length-map)
 
 module _ (own other : Bindgen) (o : IsBindgen own) (t : IsBindgen other) (can : CanUnite (binding_of own) (binding_of other)) (m : Matches) (matched : IsMatched own.resolve other.resolve m) where
   abbrev r : Resolve
@@ -146,5 +139,4 @@ module _ (own other : Bindgen) (o : IsBindgen own) (t : IsBindgen other) (can : 
       true≢false (sym (ap (λ (y : Option (Option InterfaceId)). is_some (given_interface y)) at) ∙ not)
 
 pub matches_have_paths : MatchesHavePaths
-matches_have_paths own other o t can m matched world k w v added keys u =
-    (all-matched own.resolve other.resolve m matched, matched-at own other o t can m matched world k w v added keys u, none-of-path own other o t can m matched)
+matches_have_paths own other o t can m matched world k w v added keys u = search (std_rules, all-matched, matched-at, none-of-path)

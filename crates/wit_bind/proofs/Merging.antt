@@ -1,22 +1,22 @@
 -- What comes of two bindings that don't clash, once all that the one brings is added to the other.
-use Rattle.std.proofs.Common.{◌≡◌, refl, sym, ap, ◌∙◌, inl, inr, arith, ℕ, zero, suc, ◌≤◌, Bool, true, false, ◌&&◌, List, [], ◌∷◌, ◌++◌, length, map, Option, Some, None, is_none, slice_get, slice_set, String, Contains, subst, option_and_then, option_map}
+use Rattle.std.proofs.Common.{rules as std_rules, ◌≡◌, refl, sym, ap, ◌∙◌, inl, inr, arith, ℕ, zero, suc, ◌≤◌, Bool, true, false, ◌&&◌, List, [], ◌∷◌, ◌++◌, length, map, Option, Some, is_none, slice_get, slice_set, String, Contains, subst}
 use Rattle.std.proofs.lemmas.{Bool.and_from as both, Bool.cases_lt as either, List.map-append, Option.slice_get_within, Option.same_Some as same-some}
 use Rattle.std.specs.{List.filter, List.list_all, List.AllZip, List.IsDistinct, Map.keys_of, String.string_eq, Option.option_map_or}
 use Rattle.std.specs.declared.alloc.Global.{Global}
 use Rattle.indexmap.specs.IndexMap.{values, IsUnique}
 use Rattle.wit_model.specs.declared.model.{Docs.Docs, World.World, WorldId.WorldId}
 use Rattle.wit_model.specs.declared.model.{Function.Function, Package.Package, Resolve.Resolve, TypeDef.TypeDef, WorldKey.WorldKey, WorldItem.WorldItem}
-use Rattle.wit_model.specs.declared.model.{Interface.Interface, PackageId.PackageId, Stability.Stability, TypeDefKind.TypeDefKind, PackageName.PackageName}
-use Rattle.wit_model.specs.Lookup.{type_at, world_at, identity_of, interface_path, key_text, path_in_package, path_of_interface}
-use Rattle.wit_model.specs.{Text.Text, Text.optional_text, Text.text_of, Valid.key_eq, Valid.IsValid, Names.path_in}
+use Rattle.wit_model.specs.declared.model.{Interface.Interface, PackageId.PackageId, Stability.Stability, TypeDefKind.TypeDefKind}
+use Rattle.wit_model.specs.Lookup.{type_at, world_at, interface_path, key_text}
+use Rattle.wit_model.specs.{Text.Text, Text.optional_text, Valid.key_eq, Valid.IsValid}
 use Rattle.wit_model.proofs.{Elements.contains-get, OnePath.has-path}
-use Rattle.plan_meaning.specs.Built.{is_bare, is_bare_function, is_bare_interface, is_bare_item, is_bare_kind, is_bare_type, is_bare_world, is_undocumented, is_unknown, IsBare}
+use Rattle.plan_meaning.specs.Built.{is_bare, is_bare_function, is_bare_interface, is_bare_item, is_bare_kind, is_bare_type, is_bare_world, is_undocumented, IsBare}
 use Rattle.bind_add.specs.Growth.{HasGainedItems, IsAdded}
 use Rattle.bind_add.specs.declared.added.Added.{Added}
 use Rattle.bind_copy.specs.Copies.{become_one, is_new_under, member_docs, IsEntryUnder, IsFunctionUnder, IsInterfaceUnder, IsItemUnder, IsFunctionEntry as IsFunctionEntryUnder}
 use Rattle.bind_match.specs.declared.matches.Matches.{Matches}
 use Rattle.bind_union.specs.Carried.{stability_view}
-use Rattle.bind_union.proofs.{Lists.no_true, BoundMeanings.bound_means, Valid.merged_is_valid}
+use Rattle.bind_union.proofs.{BoundMeanings.bound_means, Valid.merged_is_valid}
 use Rattle.bind_carry.specs.{MatchedSame.AreMatchedAt, MatchedSame.NoneOfPath, SecondPass.is_left_out, SecondPass.second_pass_of, SecondPass.IsSecondPass}
 use Rattle.bind_carry.specs.{Which.AreMatchedAll, TooLong.CarriedThings, AddedKeys.key_view, FirstPass.IsFirstPass, Renumbered.first_of, First.first_fates}
 use Rattle.bind_carry.specs.{Whole.kept, Whole.IsInterfaceCarried, Whole.IsWorldCarried, Packaged.IsPackageCarried, AddedApart.AreMatchedByName, Apart.IsApart}
@@ -24,7 +24,7 @@ use Rattle.bind_carry.specs.Union.{IsUnionOf}
 use Rattle.bind_carry.proofs.KeysGained.{by_path_apart, exports_apart, exports_behind, imports_apart, imports_behind}
 use Rattle.bind_carry.proofs.{FirstOfUnion.unions_have_the_second, NamesMerged.names_are_merged, MergedUnion.unions_are_merged}
 use Rattle.bind_carry.proofs.{UnionDistinct.unions_are_apart, UnionDistinct.unions_have_distinct_keys, UnionKeys.exports_come_behind, UnionKeys.keys_keep_texts}
-use Rattle.wit_bind.specs.Brings.{type_notes, Notes, key_texts, BringsEntries, BringsItsOwn, IsTypeOf}
+use Rattle.wit_bind.specs.Brings.{type_notes, key_texts, BringsEntries, BringsItsOwn, IsTypeOf}
 use Rattle.wit_bind.specs.{Extends.Extends, Extends.listed_names, Extends.merged_names, Merges.export_keys, Merges.IsGrownBy, Merges.IsPlanOf}
 use Rattle.wit_bind.specs.{Bindings.binding_of, Bindings.IsBindgen, MergedLaws.AgreeByNumbers, MergedLaws.IsUnited}
 use Rattle.base_lemmas.proofs.{Bools.left_of as first_true, Bools.right_of as second_true, Lists.front_at, Lists.within_there as element_at}
@@ -35,29 +35,17 @@ use Rattle.wit_bind.specs.declared.bindgen.Bindgen.{Bindgen}
 use Rattle.wit_bind.proofs.{Extending.grown_extend, MatchedPaths.matches_have_paths, UnionBound.united_are_the_union}
 use Rattle.wit_bind.proofs.{Bringing.new_interface_copied, Bringing.new_package_copied, Bringing.new_world_copied, NumbersAgree.united_agree_by_numbers}
 use Rattle.wit_bind.proofs.Brought.{bound_brought, interface_brought, package_brought, type_brought, world_brought}
-use Rattle.wit_model.specs.declared.model.Stability.TheVariants as stability
 use Rattle.wit_model.specs.declared.model.TypeDefKind.TheVariants as kind
-use Rattle.wit_model.specs.declared.model.WorldItem.TheVariants as item
 
 -- ---- Where there is no documentation and no known stability on either side, there is none in what is merged.
 
 -- ---- documentation and stability
 
 none_same : (old new : Option (String Global)) → optional_text new ≡ optional_text old → is_none old ≡ true → is_none new ≡ true
-none_same None None e h = refl
-none_same (Some x) o e h = no_true h
-none_same None (Some y) e h = let wrong : ⊥ = cc in absurd wrong
-
-unknown_same : (old new : Stability) → stability_view new ≡ stability_view old → is_unknown old ≡ true → is_unknown new ≡ true
-unknown_same stability.Unknown stability.Unknown e h = refl
-unknown_same stability.Unknown (stability.Stable since deprecated) e h = let wrong : ⊥ = cc in absurd wrong
-unknown_same stability.Unknown (stability.Unstable feature deprecated) e h = let wrong : ⊥ = cc in absurd wrong
-unknown_same (stability.Stable since deprecated) new e h = no_true h
-unknown_same (stability.Unstable feature deprecated) new e h = no_true h
+none_same x o e h = search std_rules
 
 bare_same : (d e : Docs) (s t : Stability) → optional_text e.contents ≡ optional_text d.contents → stability_view t ≡ stability_view s → is_bare d s ≡ true → is_bare e t ≡ true
-bare_same d e s t docs view h = both (is_undocumented e) (is_unknown t) (none_same d.contents e.contents docs (first_true (is_undocumented d) (is_unknown s) h))
-    (unknown_same s t view (second_true (is_undocumented d) (is_unknown s) h))
+bare_same d e s t docs view h = search std_rules
 
 -- ---- lists
 
@@ -85,8 +73,7 @@ abbrev has_none : Option Text → Bool
 has_none o = is_none o
 
 text_none : (o : Option (String Global)) → is_none o ≡ is_none (optional_text o)
-text_none None = refl
-text_none (Some x) = refl
+text_none x = search std_rules
 
 docs_none : {X : Type 0} (docs : X → Docs) (xs : List X) → list_all (λ x. is_undocumented (docs x)) xs ≡ list_all has_none (map (λ x. optional_text (docs x).contents) xs)
 docs_none docs [] = refl
@@ -101,11 +88,7 @@ members_bare _ = refl
 
 -- a type with the notes of a bare one is bare
 type_bare : (old new : TypeDef) → type_notes new ≡ type_notes old → is_bare_type old ≡ true → is_bare_type new ≡ true
-type_bare old new is h =
-    both (is_bare new.docs new.stability) (is_bare_kind new.kind)
-    (bare_same old.docs new.docs old.stability new.stability (ap (λ (n : Notes). n.docs) is) (ap (λ (n : Notes). n.stability) is)
-    (first_true (is_bare old.docs old.stability) (is_bare_kind old.kind) h))
-    (members_bare new.kind ∙ (ap (λ (n : Notes). list_all has_none n.of_members) is ∙ (sym (members_bare old.kind) ∙ second_true (is_bare old.docs old.stability) (is_bare_kind old.kind) h)))
+type_bare old new is h = search (std_rules, both, bare_same, first_true, members_bare, second_true)
 
 -- ---- interfaces
 
@@ -124,22 +107,12 @@ functions_bare numbers (x ∷ xs) (y ∷ ys) zip h =
 
 interface_bare : (numbers : List ℕ) (home : Option PackageId) (old new : Interface) → IsInterfaceUnder numbers home old new → IsUnique string_eq old.functions → is_bare_interface old ≡ true
     → is_bare_interface new ≡ true
-interface_bare numbers home old new is unique h =
-    both (is_bare new.docs new.stability) (list_all is_bare_function (values new.functions))
-    (bare_same old.docs new.docs old.stability new.stability is.docs is.stability (first_true (is_bare old.docs old.stability) (list_all is_bare_function (values old.functions)) h))
-    (functions_bare numbers old.functions.entries new.functions.entries (is.functions unique) (second_true (is_bare old.docs old.stability) (list_all is_bare_function (values old.functions)) h))
+interface_bare numbers home old new is unique h = search (std_rules, both, bare_same, first_true, functions_bare, second_true)
 
 -- ---- items
 
 item_bare : (interfaces types : List ℕ) (i j : WorldItem) → IsItemUnder interfaces types i j → is_bare_item i ≡ true → is_bare_item j ≡ true
-item_bare interfaces types (item.Interface a d e x) (item.Interface b g k y) is h = bare_same e k d g is.2 is.1 h
-item_bare interfaces types (item.Function g) (item.Function k) is h = function_bare types g k is h
-item_bare interfaces types (item.Type_ a) (item.Type_ b) is h = refl
-item_bare interfaces types (item.Interface a d e x) (item.Function g) is h = absurd is
-item_bare interfaces types (item.Function g) (item.Interface b d e x) is h = absurd is
-item_bare interfaces types (item.Type_ a) (item.Interface b d e x) is h = absurd is
-item_bare interfaces types (item.Type_ a) (item.Function g) is h = absurd is
-item_bare interfaces types _ (item.Type_ b) is h = refl
+item_bare interfaces types x y is h = search std_rules
 
 abbrev items : List (WorldKey × WorldItem) → List WorldItem
 items es = map (λ (e : WorldKey × WorldItem). e.1) es
@@ -181,11 +154,7 @@ module _ (w : World) (h : is_bare_world w ≡ true) where
 world_bare : (c : CarriedThings) (types : List ℕ) (old new : World) → IsWorldCarried c types old new
     → IsDistinct (become_one c.interfaces.items) (keys_of old.imports.entries) × IsDistinct (become_one c.interfaces.items) (keys_of old.exports.entries) → is_bare_world old ≡ true
     → is_bare_world new ≡ true
-world_bare c types old new is apart h =
-    both (own_bare new) (both_bare new) (bare_same old.docs new.docs old.stability new.stability is.docs is.stability (own_is old h))
-    (both (list_all is_bare_item (values new.imports)) (list_all is_bare_item (values new.exports))
-    (chosen_bare c.interfaces.items types (λ (e : WorldKey × WorldItem). is_new_under c.interfaces.items [] e.0) old.imports.entries new.imports.entries (is.imports apart.0) (imports_are old h))
-    (chosen_bare c.interfaces.items types (λ (e : WorldKey × WorldItem). is_new_under c.interfaces.items [] e.0) old.exports.entries new.exports.entries (is.exports apart.1) (exports_are old h)))
+world_bare c types old new is apart h = search (std_rules, both, bare_same, own_is, chosen_bare, imports_are, exports_are)
 
 module _ (own other merged : Resolve) (valid_own : IsValid own) (valid_other : IsValid other) (world k : ℕ) (m : Matches) (w v : World) (added : Added) (keys : List WorldKey)
     (u : IsUnionOf own other world k m w v added keys) (a : IsAdded key_eq world added own merged)
@@ -270,9 +239,7 @@ module _ (own other merged : Resolve) (valid_own : IsValid own) (valid_other : I
 
   behind : (whole here more : List (WorldKey × WorldItem)) → whole ≡ here ++ more → list_all is_bare_item (items here) ≡ true → list_all is_bare_item (items more) ≡ true
       → list_all is_bare_item (items whole) ≡ true
-  behind whole here more is h l =
-      ap (λ es. list_all is_bare_item (items es)) is
-      ∙ (ap (list_all is_bare_item) (map-append (λ (e : WorldKey × WorldItem). e.1) here more) ∙ joined_all is_bare_item (items here) (items more) h l)
+  behind whole here more is h l = search (std_rules, map-append, joined_all)
 
   bound_world : is_bare_world x ≡ true
   bound_world =
@@ -406,14 +373,7 @@ module _ (own other new : Bindgen) (o : IsBindgen own) (t : IsBindgen other) (ca
 
   -- own interfaces keep their paths
   own-paths : (n : ℕ) (t : Text) → interface_path r n ≡ Some t → interface_path new.resolve n ≡ Some t
-  own-paths n t e =
-      let h = has-path r n t e in
-      let q = merged_extend.packages h.home.0 h.package_ h.stands in
-      ap (option_and_then (path_of_interface new.resolve)) (ap (λ l. slice_get l n) merged_extend.interfaces.1 ∙ front_at r.interfaces.items merged_extend.interfaces.0 n h.def h.there)
-      ∙ (ap (option_and_then (λ (x : String Global). option_and_then (λ (p : PackageId). path_in_package new.resolve p.0 (text_of x)) h.def.«package»)) h.named_
-      ∙ (ap (option_and_then (λ (p : PackageId). path_in_package new.resolve p.0 (text_of h.name))) h.in_package
-      ∙ (ap (option_map (λ (p : Package). path_in (identity_of p.name) (text_of h.name))) q.1
-      ∙ ap Some (ap (λ (d : PackageName). path_in (identity_of d) (text_of h.name)) q.2.name ∙ sym h.spelled))))
+  own-paths n t e = grind (arith, has-path, merged_extend, front_at)
 
   abbrev Gained : World → World → World → Type 0
   Gained a b x = BringsEntries (key_texts r a.imports.entries) s b.imports.entries new.resolve x.imports.entries

@@ -1,5 +1,5 @@
 -- Bindings that unite, by the entries and the numbers of their `Resolve`s.
-use Rattle.std.proofs.Common.{◌≡◌, ◌≢◌, refl, sym, ap, ◌∙◌, ℕ, Bool, true, false, cond, List, map, Option, Some, None, option_and_then, Contains}
+use Rattle.std.proofs.Common.{rules as std_rules, ◌≡◌, ◌≢◌, refl, sym, ap, ◌∙◌, ℕ, Bool, true, false, cond, List, map, Option, Some, None, option_and_then, Contains}
 use mathlib.Core.Bool.{true≢false}
 use Rattle.std.specs.{FinMap.get, Ordering.eq_by_cmp, Option.option_map_or}
 use Rattle.wit_model.specs.declared.model.{Interface.Interface, Resolve.Resolve, World.World, WorldItem.WorldItem, WorldKey.WorldKey}
@@ -13,7 +13,6 @@ use Rattle.bind_meaning.proofs.WorldBindings.{exports-distinct, imports-distinct
 use Rattle.bind_clash.proofs.{KeysMatched.found-distinct, PathsMatched.has-root, PathsMatched.world-path-of, FaultsMeant.both-stand as known}
 use Rattle.wit_bind.specs.declared.bindgen.Bindgen.{Bindgen}
 use Rattle.wit_bind.specs.{Bindings.binding_of, Bindings.IsBindgen, MergedLaws.UnitedAgreeByNumbers}
-use Rattle.wit_bind.proofs.MatchedPaths.{agreed}
 use Rattle.base_lemmas.proofs.Elements.{contains-map}
 
 -- an entry is found under its key
@@ -49,16 +48,10 @@ module _ (own other : Bindgen) (o : IsBindgen own) (t : IsBindgen other) (can : 
 
   imports-agree : (x e : WorldKey × WorldItem) → Contains w.imports.entries x → Contains v.imports.entries e → key_text r x.0 ≡ key_text s e.0
       → entry_sense (entry_meaning r x.1) ≡ entry_sense (entry_meaning s e.1)
-  imports-agree x e c d same =
-      agreed entry_sense (entry_under (key_text s e.0) (binding_of own).bound.imports) (entry_under (key_text s e.0) (binding_of other).bound.imports) (entry_meaning r x.1) (entry_meaning s e.1)
-      (can.imports (key_text s e.0))
-      (ap (λ (k : Text). entry_under k (binding_of own).bound.imports) (sym same) ∙ own-import x c) (other-import e d)
+  imports-agree x e c d same = search (std_rules, own-import x c, other-import e d)
 
   exports-apart : (x e : WorldKey × WorldItem) → Contains w.exports.entries x → Contains v.exports.entries e → key_text r x.0 ≡ key_text s e.0 → ⊥
-  exports-apart x e c d same =
-      can.exports (key_text s e.0)
-      (known (entry_under (key_text s e.0) (binding_of own).bound.exports) (entry_under (key_text s e.0) (binding_of other).bound.exports) (entry_meaning r x.1) (entry_meaning s e.1)
-      (ap (λ (k : Text). entry_under k (binding_of own).bound.exports) (sym same) ∙ own-export x c) (other-export e d))
+  exports-apart x e c d same = search (std_rules, own-export x c, other-export e d)
 
   no-own-world : (n : ℕ) (i : Interface) (k : ℕ) (x : World) (path : Text) → interface_at s n ≡ Some i → path_of_interface s i ≡ Some path → world_at r k ≡ Some x → path_of_world r x ≡ Some path → ⊥
   no-own-world n i k x path at e there f =
@@ -82,8 +75,4 @@ module _ (own other : Bindgen) (o : IsBindgen own) (t : IsBindgen other) (can : 
       (interface-found r o.valid n path (ap (option_and_then (path_of_interface r)) at ∙ e)) (carried-found k x path there not f))
 
 pub united_agree_by_numbers : UnitedAgreeByNumbers
-united_agree_by_numbers own other o t can w v at_w at_v = record {
-  bound = record { imports = imports-agree own other o t can w v at_w at_v; exports = exports-apart own other o t can w v at_w at_v };
-  no_world = no-own-world own other o t can w v at_w at_v;
-  no_interface = no-own-interface own other o t can w v at_w at_v;
-}
+united_agree_by_numbers own other o t can w v at_w at_v = search (std_rules, imports-agree, exports-apart, no-own-world, no-own-interface)

@@ -1,10 +1,10 @@
 -- Encodings put under one key after the other.
-use Rattle.std.proofs.Common.{◌≡◌, refl, sym, ap, ◌∙◌, ◌⊎◌, inl, inr, arith, zero, suc, Bool, true, false, List, [], ◌∷◌, ◌++◌, cond, Option, Some, None, option_and_then, option_map, option_to_list, String, subst}
+use Rattle.std.proofs.Common.{rules as std_rules, ◌≡◌, refl, sym, ap, ◌∙◌, ◌⊎◌, inl, inr, arith, zero, suc, Bool, true, false, List, [], ◌∷◌, ◌++◌, cond, Option, Some, None, option_map, option_to_list, String, subst}
 use Rattle.std.proofs.lemmas.Option.{same_Some as same-some}
 use Rattle.std.specs.List.{Contains, cons_option}
 use Rattle.std.specs.declared.alloc.Global.{Global}
 use Rattle.wit_model.specs.declared.model.{Function.Function, Resolve.Resolve, StringEncoding.StringEncoding, WorldKey.WorldKey}
-use Rattle.wit_model.specs.Text.{Text, text_eq, text_of}
+use Rattle.wit_model.specs.Text.{Text, text_eq}
 use Rattle.wit_model.proofs.{Elements.none-in, VersionLaws.same_text, TextLemmas.text_same as text-same}
 use Rattle.wit_bind.specs.{Encodings.Encodings, Encodings.encoding_at, Keys.scope_of, Keys.text_under}
 use Rattle.wit_bind.specs.KeyLists.{Choice, Entry, entry_of, member_entries, Puts, put_all}
@@ -30,13 +30,11 @@ IsLeft all rest old now = (k : Text) → put_all rest (encoding_at now) k ≡ pu
 
 -- one step
 pub left_next : (all first rest : List Entry) (old now next : Encodings) → IsLeft all (first ++ rest) old now → Puts first now next → IsLeft all rest old next
-left_next all first rest old now next left puts k =
-    same_put rest (encoding_at next) (put_all first (encoding_at now)) puts k ∙ sym (put_more first rest (encoding_at now) k) ∙ left k
+left_next all first rest old now next left puts k = search (std_rules, same_put, put_more)
 
 -- what is given stands in front
 pub given-front : {A : Type 0} (o : Option A) (rest : List A) → cons_option o rest ≡ option_to_list o ++ rest
-given-front None rest = refl
-given-front (Some x) rest = refl
+given-front x rest = search std_rules
 
 -- at the end nothing is left
 pub left_none : (all : List Entry) (old now : Encodings) → IsLeft all [] old now → Puts all old now
@@ -83,16 +81,12 @@ comes (x ∷ xs) g k e h = either (comes xs (put_one x g) k e h)
 -- the entry of a function whose scope is known
 pub entry_is : (r : Resolve) (w : Choice) (scope : WorldKey) (name front : Text) (o : Option StringEncoding) → scope_of r scope ≡ Some front → o ≡ w scope name
     → option_map (λ e. (text_under front name, e)) o ≡ entry_of r w scope name
-entry_is r w scope name front o at is =
-    ap (option_map (λ e. (text_under front name, e))) is
-    ∙ ap (λ s. option_and_then (λ k. option_map (λ e. (k, e)) (w scope name)) (option_map (λ t. text_under t name) s)) (sym at)
+entry_is r w scope name front o at is = search std_rules
 
 -- functions without a scope have no entries
 no_members : (r : Resolve) (w : Choice) (scope : WorldKey) (fs : List (String Global × Function)) → None ≡ scope_of r scope → [] ≡ member_entries r w scope fs
 no_members r w scope [] none = refl
-no_members r w scope (f ∷ fs) none =
-    no_members r w scope fs none
-    ∙ ap (λ s. cons_option (option_and_then (λ k. option_map (λ e. (k, e)) (w scope (text_of f.0))) (option_map (λ t. text_under t (text_of f.0)) s)) (member_entries r w scope fs)) none
+no_members r w scope (f ∷ fs) none = search (std_rules, no_members r w scope fs none)
 
 pub puts_no_members : (r : Resolve) (w : Choice) (scope : WorldKey) (fs : List (String Global × Function)) (m : Encodings) → None ≡ scope_of r scope
     → Puts (member_entries r w scope fs) m m

@@ -1,17 +1,15 @@
 -- The `Resolve` of the empty root world is valid, and means it.
-use Rattle.std.proofs.Common.{◌≡◌, ◌∙◌, sym, ap, subst, arith, ℕ, zero, suc, ◌<◌, length, List, [], ◌∷◌, Some, None, string_eq}
+use Rattle.std.proofs.Common.{rules as std_rules, ◌≡◌, ◌∙◌, sym, ap, arith, ℕ, ◌<◌, length, List, [], ◌∷◌, Some}
 use Rattle.std.proofs.lemmas.Option.{same_Some as some-same}
 use Rattle.std.specs.Prelude.{◌↔◌, option_and_then, option_map, slice_get}
-use Rattle.indexmap.specs.IndexMap.{IsUnique}
-use Rattle.wit_model.specs.declared.model.{Interface.Interface, Package.Package, Resolve.Resolve, World.World}
+use Rattle.wit_model.specs.declared.model.{Package.Package, Resolve.Resolve, World.World}
 use Rattle.wit_model.specs.{Lookup.world_at, Meaning.WorldPackage, Meant.MeantWorld, Meant.package_of_world, Meant.world_package}
-use Rattle.wit_model.specs.Valid.{HasDistinctKeys, IsValid, Keeps, key_eq, numbers_in_range, package_names, places, labels, order_of_types, owners, shapes, named_kinds, handles, depths, function_names, world_items, order_of_items, names_in_packages}
+use Rattle.wit_model.specs.Valid.{HasDistinctKeys, IsValid, Keeps, numbers_in_range, package_names, places, labels, order_of_types, owners, shapes, named_kinds, handles, depths, function_names, world_items, order_of_items, names_in_packages}
 use Rattle.wit_bind.specs.Roots.{IsRootResolve, root_meaning}
 
 -- the one entry of a list
 only : {A : Type 0} (xs : List A) (x y : A) (n : ℕ) → xs ≡ x ∷ [] → slice_get xs n ≡ Some y → y ≡ x
-only xs x y zero is at = sym (some-same x y (sym (ap (λ (l : List _). slice_get l 0) is) ∙ at))
-only xs x y (suc n) is at = let wrong : None ≡ Some y = sym (ap (λ (l : List _). slice_get l (suc n)) is) ∙ at in let no : ⊥ = cc in absurd no
+only xs x y z is at = search std_rules
 
 module _ (r : Resolve) (h : IsRootResolve r) where
   abbrev p : Package
@@ -21,11 +19,7 @@ module _ (r : Resolve) (h : IsRootResolve r) where
   w = h.world
 
   distinct : HasDistinctKeys r
-  distinct = record {
-    packages = λ n q at. subst (λ (x : Package). IsUnique string_eq x.interfaces × IsUnique string_eq x.worlds) (sym (only r.packages.items p q n h.packages at)) h.is_package.distinct;
-    interfaces = λ n i at. let wrong : None ≡ Some i = sym (ap (λ (l : List Interface). slice_get l n) h.no_interfaces) ∙ at in let no : ⊥ = cc in absurd no;
-    worlds = λ n q at. subst (λ (x : World). IsUnique key_eq x.imports × IsUnique key_eq x.exports) (sym (only r.worlds.items w q n h.worlds at)) h.is_world.distinct;
-  }
+  distinct = search std_rules
 
   in-range : Keeps numbers_in_range r
   unfolding numbers_in_range

@@ -1,5 +1,5 @@
 -- What is carried by path is new.
-use Rattle.std.proofs.Common.{◌≡◌, refl, sym, ap, ◌∙◌, ℕ, zero, suc, ◌+◌, ◌≤◌, length, Bool, true, false, not, ◌&&◌, ◌==◌, cond, List, [], ◌∷◌, ◌++◌, map, unwrap_or, Option, Some, None, is_none, option_and_then, option_map, slice_get, append-nil, String}
+use Rattle.std.proofs.Common.{rules as std_rules, ◌≡◌, refl, sym, ap, ◌∙◌, ℕ, zero, suc, ◌+◌, ◌≤◌, length, Bool, true, false, not, ◌&&◌, ◌==◌, cond, List, [], ◌∷◌, ◌++◌, map, unwrap_or, Option, Some, None, is_none, option_and_then, option_map, slice_get, append-nil, String}
 use Rattle.std.proofs.lemmas.{List.length-map, Option.same_Some as same-some}
 use Rattle.std.specs.{Prelude.◌||◌, Prelude.count_by, Prelude.filter_map, Prelude.is_some, List.cons_option, List.list_all, List.list_any, Option.option_map_or}
 use Rattle.std.specs.declared.alloc.Global.{Global}
@@ -51,8 +51,7 @@ around c [] [] xs ys h k e = (refl, ap behind e)
 around c [] (y ∷ b) xs ys h k e = never c y b k (sym (ap (first_or c) e))
 around c (x ∷ a) [] xs ys h k e = never c x a h (ap (first_or c) e)
 around c (x ∷ a) (y ∷ b) xs ys h k e =
-    let rest = around c a b xs ys (second_true (not (x == c)) (list_all (λ b. not (b == c)) a) h) (second_true (not (y == c)) (list_all (λ b. not (b == c)) b) k) (ap behind e) in
-    let head : x ≡ y = ap (first_or x) e in ((λ i. head i ∷ rest.0 i), rest.1)
+    search (std_rules, second_true, around c a b xs ys (second_true (not (x == c)) (list_all (λ b. not (b == c)) a) h) (second_true (not (y == c)) (list_all (λ b. not (b == c)) b) k) (ap behind e))
 
 -- what lacks a byte isn't something with it
 no-middle : {A : Type 0} (c : ℕ) (a b xs : Text) → Lacks c a → a ≡ b ++ (c ∷ xs) → A

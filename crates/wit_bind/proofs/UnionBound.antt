@@ -1,5 +1,5 @@
 -- What is merged of two bindings stands for their union.
-use Rattle.std.proofs.Common.{◌≡◌, refl, sym, ap, subst, ◌∙◌, ◌⊎◌, inl, inr, ℕ, ◌<◌, length, Bool, true, false, not, ◌||◌, cond, List, [], ◌∷◌, ◌++◌, map, Option, Some, None, option_and_then, unwrap_or, Contains}
+use Rattle.std.proofs.Common.{rules as std_rules, ◌≡◌, refl, sym, ap, subst, ◌∙◌, ◌⊎◌, inl, inr, ℕ, ◌<◌, length, Bool, true, false, not, ◌||◌, cond, List, [], ◌∷◌, ◌++◌, map, Option, Some, None, option_and_then, unwrap_or, Contains}
 use mathlib.Core.Bool.{true≢false}
 use Rattle.std.specs.{List.AllByRecursion, List.IsDistinct, List.list_any, Ordering.eq_by_cmp, Option.option_map_or}
 use Rattle.std.specs.{Cmp.Lexicographic.nat_list_cmp_total, FinMap.get, FinMap.same_map, FinMap.nat_cmp-IsAntisymmetric, FinMap.slice_cmp-IsAntisymmetric}
@@ -13,7 +13,7 @@ use Rattle.wit_model.specs.{Meant.entries_meaning, Meant.interface_meaning_at, M
 use Rattle.wit_model.proofs.Elements.{contains-get}
 use Rattle.bind_match.specs.Matching.{is_root_world}
 use Rattle.bind_meaning.specs.{Binding.Binding, Binding.package_text, Encodings.Encodings, Roots.root_path, Union.joined_world, Union.union, Union.united}
-use Rattle.bind_meaning.specs.{ByNumbers.package_texts, ByNumbers.world_path_at, Clash.Agree, Clash.CanUnite, Clash.carried_worlds, Clash.itself}
+use Rattle.bind_meaning.specs.{ByNumbers.package_texts, ByNumbers.world_path_at, Clash.Agree, Clash.CanUnite, Clash.itself}
 use Rattle.bind_meaning.proofs.{Listed.from-map, Listed.same-texts, WorldPaths.path_at}
 use Rattle.bind_meaning.proofs.Maps.{by_tie, first_of_two, get-put, get-united, get-without, itself_ties}
 use Rattle.bind_meaning.proofs.WorldBindings.{exports-distinct, imports-distinct, interface-found, interface-under, world-found, world-path, world-under}
@@ -44,10 +44,7 @@ nothing o x e f = let no : None ≡ Some x = sym e ∙ f in let wrong : ⊥ = cc
 -- ---- encodings
 
 gained-is : (o p : Option StringEncoding) → Agree itself o p → or_else p o ≡ first_of_two o p
-gained-is None None h = refl
-gained-is None (Some y) h = refl
-gained-is (Some x) None h = refl
-gained-is (Some x) (Some y) h = ap Some (sym h)
+gained-is x y h = search std_rules
 
 gained : (more old new : Encodings) → ((k : Text) → Agree itself (get old k) (get more k)) → Gains more old new → new ≡ united old more
 gained more old new agree gains = one-map new (united old more) (λ k. gains k ∙ (gained-is (get old k) (get more k) (agree k) ∙ sym (get-united old more k)))
@@ -154,10 +151,7 @@ module _ (merged_is_valid : MergedIsValid) (bound_means : BoundMeans) (own other
   bound-at = ap (world_at m) (sym u.merged.bound_there) ∙ u.merged.joined.at_image
 
   bound-path : (q : Text) → path_at m own.world.0 ≡ path_at r own.world.0
-  bound-path q =
-      ap (option_and_then (path_of_world m)) bound-at
-      ∙ ((worlds_are_united r s m own.world.0 other.world.0 u.first u.second u.left_out o.valid t.valid u.distinct u.merged).0
-      ∙ sym (ap (option_and_then (path_of_world r)) u.merged.bound_at))
+  bound-path q = search (std_rules, bound-at, worlds_are_united r s m own.world.0 other.world.0 u.first u.second u.left_out o.valid t.valid u.distinct u.merged)
 
   -- the bound world has a path
   own-path : (q : Text) × (path_at r own.world.0 ≡ Some q)
@@ -263,11 +257,7 @@ module _ (merged_is_valid : MergedIsValid) (bound_means : BoundMeans) (own other
       by false e = other-worlds q e
 
   worlds : (binding_of new).worlds ≡ (union A B).worlds
-  worlds = one-map _ _ (λ q.
-      world-at-path q
-      ∙ sym (get-put (united A.worlds (carried_worlds B)) A.path (joined_world A.bound B.bound) q
-      ∙ ap (cond (eq_by_cmp text_cmp q A.path) (Some (joined_world A.bound B.bound)))
-      (get-united A.worlds (carried_worlds B) q ∙ ap (first_of_two (get A.worlds q)) (get-without B.worlds root_path q))))
+  worlds = search (std_rules, one-map, world-at-path, get-put, get-united, first_of_two, get-without)
 
   -- ---- packages
 

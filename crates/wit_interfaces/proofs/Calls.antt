@@ -1,5 +1,5 @@
 -- What the calls of an encoder of interfaces leave, and what they add.
-use Rattle.std.proofs.Common.{◌≡◌, refl, sym, subst, ap, ◌∙◌, ℕ, ◌+◌, ◌<◌, nat_cmp, false, List, length, Result, Ok, Err, IfOk, OnErr, Option, Some, None, is_some}
+use Rattle.std.proofs.Common.{rules as std_rules, ◌≡◌, refl, sym, subst, ap, ◌∙◌, ℕ, ◌+◌, ◌<◌, nat_cmp, false, length, Result, Ok, Err, IfOk, OnErr, Some, None, is_some}
 use Rattle.std.proofs.lemmas.Bool.{lt-ltb}
 use Rattle.std.specs.{BTreeMap.insert_entry, List.Contains}
 use Rattle.wit_model.specs.{Text.Text, Lookup.interface_at, Lookup.interface_path}
@@ -114,9 +114,4 @@ encode-leaves (Err x) e h d rest i l ok err = aliases-leave e h d rest err.made.
 -- what wasn't listed isn't behind aliases and an instance type
 pub first-listed : (r : Resolve) (a a' : Around) (i : InterfaceId) (def : Interface) (k : ℕ) → EncodesDependency r a a' i def k → is_some (known_instance a.instances i.0) ≡ false
     → known_instance a'.instances i.0 ≡ None
-first-listed r a a' i def k is none = ap (λ (es : List (ℕ × ℕ)). known_instance es i.0) (ap (λ (z : Around). z.instances) is.part.one_more ∙ grown-listed r a is.part.before is.part.aliases.grown)
-    ∙ nothing (known_instance a.instances i.0) none
-  where
-    nothing : (o : Option ℕ) → is_some o ≡ false → o ≡ None
-    nothing None e = refl
-    nothing (Some n) e = let z : ⊥ = cc in absurd z
+first-listed r a a' i def k is none = search (std_rules, grown-listed r a is.part.before is.part.aliases.grown)

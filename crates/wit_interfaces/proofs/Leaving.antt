@@ -1,5 +1,5 @@
 -- What an encoder of interfaces leaves: behind aliases, an instance type, and an import that uses it, it can be used on.
-use Rattle.std.proofs.Common.{◌≡◌, refl, sym, subst, ap, ◌∙◌, ℕ, zero, suc, ◌+◌, ◌≤◌, ◌<◌, nat_lt, nat_cmp, Bool, true, false, ◌&&◌, if◌then◌else◌, List, [], ◌∷◌, ◌++◌, length, length-append, Some, slice_get, is_some, arith}
+use Rattle.std.proofs.Common.{rules as std_rules, ◌≡◌, refl, sym, subst, ap, ◌∙◌, ℕ, zero, suc, ◌+◌, ◌≤◌, ◌<◌, nat_lt, nat_cmp, Bool, true, false, ◌&&◌, if◌then◌else◌, List, [], ◌∷◌, ◌++◌, length, length-append, Some, slice_get, is_some, arith}
 use Rattle.std.proofs.{lemmas.Cmp.nat_cmp_total, Math.Seq.take-append_seam, lemmas.Bool.lt-ltb, lemmas.Bool.and_from as both, lemmas.List.Folds.list_all-append}
 use Rattle.std.specs.{BTreeMap.insert_entry, BTreeMap.is_at, Ordering.is_eq, List.Contains, List.filter, List.list_all, Option.option_map_or}
 use Rattle.wit_model.specs.{Text.Text, Lookup.interface_path, Lookup.place_of, Lookup.place_of_path, Valid.IsValid}
@@ -305,15 +305,7 @@ module _ (r : Resolve) (w : WorldId) (maps : TypeEncodingMaps) where
 -- ---- where nothing has been declared
 
 pub fresh-can : (r : Resolve) (w : WorldId) (count : ℕ) (a : Around) (maps : TypeEncodingMaps) → IsValid r → count ≡ 0 → a ≡ no_around → CanEncodeInterfaces (world_view r w count a maps)
-fresh-can r w count a maps valid none empty = subst (λ (n : ℕ). CanEncodeInterfaces (world_view r w n a maps)) (sym none)
-    (subst (λ (z : Around). CanEncodeInterfaces (world_view r w 0 z maps)) (sym empty) (record {
-      valid = valid;
-      sound = refl;
-      listed = λ i k e. absurd (let z : ⊥ = cc in z);
-      counted = refl;
-      typed = omega arith;
-      used = refl;
-    }))
+fresh-can r w count a maps valid none empty = search std_rules
 
 pub fresh-sound : (r : Resolve) (w : WorldId) (a : Around) → a ≡ no_around → is_sound_outside r w a ≡ true
 fresh-sound r w a empty = ap (is_sound_outside r w) empty
