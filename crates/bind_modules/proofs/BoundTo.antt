@@ -1,7 +1,7 @@
 -- What is known of bindings behind each section of a module.
-use Rattle.std.proofs.Common.{◌≡◌, ◌∙◌, refl, sym, ap, subst, ℕ, ◌+◌, ◌-◌, ◌≤◌, ◌<◌, suc, List, [], ◌++◌, append-nil, length, Option, Some, None, arith}
+use Rattle.std.proofs.Common.{rules as std_rules, ◌≡◌, ◌∙◌, refl, sym, ap, subst, ℕ, ◌+◌, ◌-◌, ◌≤◌, ◌<◌, List, [], ◌++◌, append-nil, length, Option, Some, None, arith}
 use Rattle.std.proofs.lemmas.List.{length-append}
-use Rattle.std.specs.Prelude.{◌≢◌, slice_get, IfErr, Result, Ok, Err}
+use Rattle.std.specs.Prelude.{◌≢◌, slice_get, IfErr, Result}
 use Rattle.std.specs.Borrow.{Bor}
 use Rattle.wit_model.specs.declared.{error.Error.Error, model.Resolve.Resolve, model.WorldKey.WorldKey}
 use Rattle.wit_model.specs.Lookup.{identity_of, optional_version_text}
@@ -70,10 +70,7 @@ passed input bytes rest n b h (f, front, never) = record {
 
 -- each has bytes
 one-shorter : (bytes rest : List ℕ) (f : Framed) → IsInFront bytes f rest → length rest < length bytes
-one-shorter bytes rest f h =
-    let whole = ap length h.parts ∙ length-append h.front rest in
-    let first : length h.front ≡ suc (length h.framed_.0) = ap length h.framed_.1 in
-    omega (arith, whole, first)
+one-shorter bytes rest f h = search (std_rules, length-append)
 
 pub shorter : (bytes rest : List ℕ) (found : Option (Bor (List ℕ))) → IsFrontData bytes found rest → length rest < length bytes
 shorter bytes rest (Some found) (f, front, carries) = one-shorter bytes rest f front
@@ -81,19 +78,14 @@ shorter bytes rest None (f, front, never) = one-shorter bytes rest f front
 
 -- what is left is a part of the module
 pub part : (input rest : List ℕ) (n : ℕ) (b : Bindgen) → IsBoundTo input b n rest → length rest ≤ length input
-part input rest n b h =
-    let whole = ap length h.read.0.parts ∙ length-append module_preamble (h.read.0.front ++ rest) in
-    let behind = length-append h.read.0.front rest in
-    omega (arith, whole, behind)
+part input rest n b h = search (std_rules, length-append)
 
 behind : (n whole front rest : ℕ) → whole ≡ n + (front + rest) → whole - rest + rest ≡ whole
 behind n whole front rest e = omega (arith, e)
 
 -- where the bytes begin that are left
 pub begins-at : (input rest : List ℕ) (n : ℕ) (b : Bindgen) → IsBoundTo input b n rest → length input - length rest + length rest ≡ length input
-begins-at input rest n b h =
-    behind (length module_preamble) (length input) (length h.read.0.front) (length rest)
-    (ap length h.read.0.parts ∙ (length-append module_preamble (h.read.0.front ++ rest) ∙ ap (λ (n : ℕ). length module_preamble + n) (length-append h.read.0.front rest)))
+begins-at input rest n b h = search (std_rules, behind, length-append)
 
 -- how many sections have been counted: each has bytes
 
@@ -117,16 +109,11 @@ ends-reached input rest n b h none = subst (IsReached input b) (no-bytes rest no
 pub to-blame : (input : List ℕ) (n : ℕ) (e : Error) → (e ≡ errors.Memory → ⊥) → (e ≡ errors.Size → ⊥) → (e ≡ errors.NotAModule → ⊥) → ((offset : ℕ) → e ≡ errors.BadModule offset → ⊥)
     → Blames input n e
     → IsRefusedSection input n
-to-blame input n errors.Memory memory size module_ frame h = absurd (memory refl)
-to-blame input n errors.Size memory size module_ frame h = absurd (size refl)
-to-blame input n errors.NotAModule memory size module_ frame h = absurd (module_ refl)
-to-blame input n (errors.BadModule offset) memory size module_ frame h = absurd (frame offset refl)
-to-blame input n e memory size module_ frame h = record { error = e; other = memory; refused = h }
+to-blame input n e memory size module_ frame h = search std_rules
 
 -- the same refusal is of size where the other is
 pub same-size : {X : Type 0} (A : Type 0) (r : Result X Error) (e : Error) → IfErr r (λ d. d ≡ e) → (e ≡ errors.Size → A) → IfErr r (λ d. d ≡ errors.Size → A)
-same-size A (Ok x) e same h = tt
-same-size A (Err d) e same h = λ so. h (sym same ∙ so)
+same-size x y e same h = search std_rules
 
 pub no-module : (input : List ℕ) (e : Error) → e ≡ errors.NotAModule → IsNoModule input → RefusesBindings input e
 no-module input e is none = subst (RefusesBindings input) (sym is) (IsRefused.no_module none refl)

@@ -1,10 +1,10 @@
 -- When a list would get too long: where what a section binds is merged, and nowhere else.
-use Rattle.std.proofs.Common.{◌≡◌, ◌∙◌, sym, ap, subst, ℕ, ◌==◌, Bool, true, false, cond, List, [], ◌∷◌, Option, Some, None, Err}
+use Rattle.std.proofs.Common.{rules as std_rules, ◌≡◌, ◌∙◌, sym, ap, subst, ℕ, List, Option, Err}
 use Rattle.std.specs.Prelude.{Result}
 use Rattle.wit_model.specs.declared.{error.Error.Error, model.StringEncoding.StringEncoding}
 use Rattle.wit_bind.specs.declared.bindgen.Bindgen.{Bindgen}
 use Rattle.wit_bind.specs.Merges.{IsMergeRefusal}
-use Rattle.wit_metadata.specs.{Carried.contents_under, Carried.last_of, Encodings.encoding_at, Encodings.section_name, Said.said_by, Said.said_by_code}
+use Rattle.wit_metadata.specs.{Carried.contents_under, Carried.last_of, Encodings.section_name, Said.said_by}
 use Rattle.wit_metadata.specs.Modules.{RefusesModule}
 use Rattle.bind_sections.specs.{SectionBindings.IsBoundBy, SectionBindings.RefusesSection, Steps.IsDataInFront}
 use Rattle.bind_modules.specs.{BoundTo.IsBoundTo, Reached.OutgrowsLists}
@@ -20,19 +20,7 @@ size = Err errors.Size
 
 -- no encoding is refused so
 said-otherwise : (x : Option (List ℕ)) → size ≡ said_by x → ⊥
-said-otherwise None is = cc
-said-otherwise (Some []) is = cc
-said-otherwise (Some (b ∷ [])) is = cc
-said-otherwise (Some (b ∷ code ∷ [])) is = at-four (b == 4) is
-  where
-    by-code : (o : Option StringEncoding) → size ≡ said_by_code code o → ⊥
-    by-code None same = cc
-    by-code (Some x) same = cc
-
-    at-four : (t : Bool) → size ≡ cond t (said_by_code code (encoding_at code)) (Err (errors.EncodingVersion b)) → ⊥
-    at-four true same = by-code (encoding_at code) same
-    at-four false same = cc
-said-otherwise (Some (b ∷ code ∷ c ∷ rest)) is = cc
+said-otherwise y is = search std_rules
 
 -- nor is a section
 pub section-otherwise : (d : List ℕ) (e : Error) → RefusesSection d e → e ≡ errors.Size → ⊥

@@ -1,5 +1,5 @@
 -- Why the data of a section is refused.
-use Rattle.std.proofs.Common.{◌≡◌, ◌∙◌, refl, sym, ap, ℕ, List, [], ◌∷◌, length, arith}
+use Rattle.std.proofs.Common.{rules as std_rules, ◌≡◌, ◌∙◌, refl, sym, ap, ℕ, List, [], ◌∷◌, length, arith}
 use Rattle.wit_model.specs.declared.error.Error.{Error}
 use Rattle.wit_model.specs.declared.error.Error.TheVariants as errors
 use Rattle.comp_read.specs.DecodedWorlds.{RefusesWorldBytes}
@@ -12,11 +12,7 @@ is-something bytes first behind begins none = let wrong = ap length (sym begins 
 
 -- what begins with another byte than 3
 pub other-begins : (bytes : List ℕ) (first : ℕ) (behind : List ℕ) → bytes ≡ first ∷ behind → (first ≡ 3 → ⊥) → (rest : List ℕ) → bytes ≡ 3 ∷ rest → ⊥
-other-begins bytes first behind begins other rest is = other (ap first-of (sym begins ∙ is))
-  where
-    first-of : List ℕ → ℕ
-    first-of [] = 0
-    first-of (b ∷ bs) = b
+other-begins bytes first behind begins other rest is = search std_rules
 
 -- what refuses bytes as one world refuses them as a section
 pub unread-section : (bytes : List ℕ) (e : Error) → (bytes ≡ [] → ⊥) → ((rest : List ℕ) → bytes ≡ 3 ∷ rest → ⊥) → RefusesWorldBytes bytes e → RefusesSection bytes e

@@ -1,9 +1,8 @@
 -- What is decoded of the bytes of a package means what the package does.
-use Rattle.std.proofs.Common.{◌≡◌, ap, refl, ℕ, Some, option_map}
+use Rattle.std.proofs.Common.{rules as std_rules, ◌≡◌, ap, ℕ, Some, option_map}
 use Rattle.wit_model.specs.declared.model.{Package.Package, Resolve.Resolve}
 use Rattle.wit_model.specs.{Lookup.package_at, Meant.package_meaning, Meant.Meant}
 use Rattle.wit_component.specs.ReadBack.{DecodingGivesThatMeaning, EncodingKeepsMeaning, MemoryAloneIsRefused}
-use Rattle.wit_model.specs.declared.error.Error.TheVariants as errors
 
 -- a package has its meaning
 pub has_meaning : (r : Resolve) (n : ℕ) (p : Package) → package_at r n ≡ Some p → Meant r n (package_meaning r n p)
@@ -25,12 +24,7 @@ gives_that_meaning r n p bytes is means s k decoded = record {
 }
 
 pub memory_alone : MemoryAloneIsRefused
-memory_alone r n p bytes is means errors.Memory refused = refl
-memory_alone r n p bytes is means (errors.NoReading cause offset) refused = absurd (refused.1 (package_meaning r n p) ((means (package_meaning r n p)).0 (has_meaning r n p is)))
-memory_alone r n p bytes is means _ refused = absurd refused
+memory_alone r n p bytes is means x refused = search (std_rules, has_meaning r n p is)
 
 pub encoding_keeps : EncodingKeepsMeaning
-encoding_keeps bytes again s k decoded means m = (
-  (λ read. (means m).0 ((decoded.meant m).1 read)),
-  (λ read. (decoded.meant m).0 ((means m).1 read)),
-)
+encoding_keeps bytes again s k decoded means m = search std_rules
