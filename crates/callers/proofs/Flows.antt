@@ -1,5 +1,5 @@
 -- What a call says, said of what is made of its answer.
-use Rattle.std.proofs.Common.{◌≡◌, ◌<◌, ℕ, List, length, ap, subst, Result, Ok, Err, MatchResult, slice_get}
+use Rattle.std.proofs.Common.{rules as std_rules, ◌≡◌, ◌<◌, ℕ, List, length, ap, subst, Result, MatchResult, slice_get}
 use Rattle.std.proofs.lemmas.Option.{slice_get_within}
 use Rattle.std.specs.Prelude.{OnOk}
 use Rattle.wit_model.specs.declared.model.{Package.Package, Resolve.Resolve, WorldId.WorldId}
@@ -10,14 +10,11 @@ use Rattle.callers.specs.Carried.{MeansTheSame}
 -- what is true of each value is true of an answer
 
 pub on-ok : {X E : Type 0} (A B : Type 0) (F : E → Type 0) → (A → B) → (r : Result X E) → MatchResult r (λ x. A) F → OnOk r B
-on-ok A B F f (Ok x) h = f h
-on-ok A B F f (Err e) h = tt
+on-ok x y z f u h = search std_rules
 
 -- The first package is still there.
 pub some-left : (old new : Resolve) (k : ℕ) → BeginsWithRoot old → Extends old new k → 0 < length new.packages.items
-some-left old new k root extends =
-    let grown = extends.packages 0 root.package_ root.first in
-    slice_get_within new.packages.items 0 grown.0 grown.1
+some-left old new k root extends = search (std_rules, slice_get_within)
 
 pub root-left : (own : Bindgen) (new : Resolve) (k : ℕ) → IsRoot own → Extends own.resolve new k → 0 < length new.packages.items
 root-left own new k root extends =

@@ -1,9 +1,9 @@
 -- The types of an interface, as they are handed in to be printed.
-use Rattle.std.proofs.Common.{◌≡◌, ◌∙◌, ap, subst, true, false, List, [], Some}
+use Rattle.std.proofs.Common.{rules as std_rules, ◌≡◌, subst, true, false, List, [], Some}
 use Rattle.std.specs.List.{Contains, list_all}
 use Rattle.wit_model.specs.declared.model.{Interface.Interface, InterfaceId.InterfaceId, Resolve.Resolve}
-use Rattle.print_output.specs.OutputCall.{Moves, OutputCall, View}
-use Rattle.wit_component.specs.{Calls.members_calls, Lookup.interface_at, Render.Written, Render.writes, Valid.IsValid}
+use Rattle.print_output.specs.OutputCall.{View}
+use Rattle.wit_component.specs.{Lookup.interface_at, Render.Written, Render.writes, Valid.IsValid}
 use Rattle.wit_component.specs.{Given.TypesCanBeGiven, Printer.GivenTypes, Printer.Prints, Printer.PrintsTypes, Printer.block_has_printed, Printer.emits_docs}
 use Rattle.wit_component.specs.{GivenTypes.Functions, GivenTypes.given_members, Shown.Listed, Shown.listed_types, UseGroups.is_listed_type, UseGroups.listed_of}
 use Rattle.wit_print.specs.declared.printer.WitPrinter.{WitPrinter}
@@ -18,10 +18,4 @@ can-be-given law r id i valid there xs same = law r id i valid there (listed_of 
 pub all-printed : (r : Resolve) (id : InterfaceId) (i : Interface) (p p' : WitPrinter (View Written)) (given : GivenTypes → Type 0) (entries : Functions)
     → ((xs : GivenTypes) → given xs → listed_of xs ≡ listed_types i) → entries ≡ [] → emits_docs p ≡ true → block_has_printed p ≡ false
     → PrintsTypes writes (λ it. it) p given (given_members r (owner.Interface id) entries) p' → Prints writes (λ it. it) p (calls_of_types r id i) p'
-all-printed r id i p p' given entries are none docs first h =
-    let o = owner.Interface id in
-    let calls = ap (λ b. members_calls b (block_has_printed p) (given_members r o entries (listed_of h.types))) docs
-    ∙ ap (λ b. members_calls true b (given_members r o entries (listed_of h.types))) first
-    ∙ ap (λ es. members_calls true false (given_members r o es (listed_of h.types))) none
-    ∙ ap (λ ls. members_calls true false (given_members r o [] ls)) (are h.types h.are) in
-    subst (λ (xs : List OutputCall). Moves writes p.output xs p'.output) calls h.prints
+all-printed r id i p p' given entries are none docs first h = search std_rules

@@ -1,10 +1,10 @@
 -- Types of an interface of which an instance stands can be encoded, and the encoder can be used on.
-use Rattle.std.proofs.Common.{◌≡◌, ◌∙◌, refl, sym, ap, subst, ℕ, ◌<◌, true, inr, [], ◌∷◌, length, Option, None, Some, unwrap_or, is_some}
+use Rattle.std.proofs.Common.{rules as std_rules, ◌≡◌, ◌∙◌, sym, ap, subst, ℕ, ◌<◌, true, inr, [], ◌∷◌, length, Option, None, Some, unwrap_or, is_some}
 use Rattle.std.proofs.lemmas.Option.{slice_get_within}
 use Rattle.std.specs.List.{Contains}
 use Rattle.wit_model.specs.declared.model.{InterfaceId.InterfaceId, Resolve.Resolve, TypeDef.TypeDef, TypeId.TypeId, TypeOwner.TypeOwner}
 use Rattle.wit_model.specs.Types.{number_of}
-use Rattle.wit_component.specs.{Fits.CanEncode, Maps.MapsAgree, Plan.AllInRange, Plan.Reaches, Plan.foreign_owner, Plan.Reaches.itself, Plan.Reaches.through}
+use Rattle.wit_component.specs.{Fits.CanEncode, Plan.AllInRange, Plan.Reaches, Plan.foreign_owner}
 use Rattle.wit_component.specs.InterfaceEncoders.{DefinitionsLeaveInterfaces, InterfaceEncoder, InterfaceScope, LeavesInterfaces, interface_encoder_view, packages_of, standing_in, world_of}
 use Rattle.wit_component.specs.{Leaves.Leaves, Lookup.interface_path, Lookup.type_at, Valid.IsValid}
 use Rattle.wit_component.specs.{OwnerScope.IsOfInstance, OwnerScope.IsScopeOf, OwnerScope.IsTypeOf, OwnerScope.NamesEncode, OwnerScope.NamesStand, Scope.Scope}
@@ -15,14 +15,6 @@ use Rattle.wit_model.specs.declared.model.«Type».TheVariants as ty
 
 -- ---- what is met of a type of another interface
 
--- that type alone
-only-itself : (r : Resolve) (own : Option InterfaceId) (id : TypeId) (def : TypeDef) (i : InterfaceId) (n : ℕ) → type_at r id.0 ≡ Some def → foreign_owner own def.owner ≡ Some i
-    → Reaches r own (ty.Id id) n → n ≡ id.0
-only-itself r own id def i n there foreign (itself same) = refl
-only-itself r own id def i n there foreign (through same other t m at home part more) =
-    let both : other ≡ def = cc in
-    let wrong : ⊥ = cc in absurd wrong
-
 in-range : (r : Resolve) (id : TypeId) → id.0 < length r.types.items → AllInRange r (ty.Id id ∷ [])
 in-range r id h t c other is = subst (λ (n : ℕ). n < length r.types.items) (ap (λ x. unwrap_or (number_of x) id.0) (one-contained (ty.Id id) t c ∙ is)) h
 
@@ -32,17 +24,10 @@ module _ (r : Resolve) (scope : Scope) (interface : InterfaceId) (id : TypeId) (
   foreign = ap (λ (own : Option InterfaceId). foreign_owner own owned.def.owner) outside ∙ ap (λ (o : TypeOwner). foreign_owner None o) owned.owned
 
   met : (n : ℕ) (def : TypeDef) → Reaches r scope.own_interface (ty.Id id) n → type_at r n ≡ Some def → def ≡ owned.def
-  met n def reaches there =
-      let same = only-itself r scope.own_interface id owned.def interface n owned.there foreign reaches in
-      let theirs = owned.there in cc
+  met n def reaches there = search std_rules
 
   of-instance : (n : ℕ) (def : TypeDef) → Reaches r scope.own_interface (ty.Id id) n → type_at r n ≡ Some def → IsOfInstance r scope def
-  of-instance n def reaches there = subst (λ (d : TypeDef). IsOfInstance r scope d) (sym (met n def reaches there)) (record {
-    interface = interface;
-    owned = owned.owned;
-    named_ = rw owned.owned named;
-    stands = stands;
-  })
+  of-instance n def reaches there = search std_rules
 
   pub names-stand : (o : TypeOwner) → NamesStand r o scope (ty.Id id ∷ [])
   names-stand o n def (t, in_list, reaches) there is = inr (of-instance n def (subst (λ x. Reaches r scope.own_interface x n) (sym (one-contained (ty.Id id) t in_list)) reaches) there)
@@ -61,21 +46,10 @@ can-encode scoped encode r e interface id encoder named stands owned =
 -- ---- the encoder behind a call
 
 pub left : (r : Resolve) (e e' : InterfaceEncoder) → IsEncoderOf r e → LeavesInterfaces e e' → IsEncoderOf r e'
-left r e e' encoder leaves = record {
-  packages_ = leaves.packages_ ∙ encoder.packages_;
-  can = leaves.can;
-  agree = subst (λ m. MapsAgree r m (interface_encoder_view e').stands) (sym leaves.maps_) (record {
-    says = λ k i h. leaves.stands _ _ (encoder.agree.says k i h);
-    once = encoder.agree.once;
-  });
-}
+left r e e' encoder leaves = search std_rules
 
 pub defined : DefinitionsLeaveInterfaces → (r : Resolve) (e e' : InterfaceEncoder) → IsEncoderOf r e → Leaves r (interface_encoder_view e) (interface_encoder_view e') → IsEncoderOf r e'
-defined leave r e e' encoder leaves = record {
-  packages_ = ap (λ (s : Scope). s.packages) leaves.scope_stays ∙ encoder.packages_;
-  can = leave e e' encoder.can leaves.grows leaves.scope_stays;
-  agree = leaves.agree;
-}
+defined leave r e e' encoder leaves = search std_rules
 
 pub still-named : (r : Resolve) (e e' : InterfaceEncoder) (n : ℕ) → IsEncoderOf r e → LeavesInterfaces e e' → is_some (interface_path r n) ≡ true → is_some (interface_path (packages_of e') n) ≡ true
 still-named r e e' n encoder leaves named = subst (λ (x : Resolve). is_some (interface_path x n) ≡ true) (sym (leaves.packages_ ∙ encoder.packages_)) named

@@ -1,5 +1,5 @@
 -- Packages by their numbers, and modules that are refused.
-use Rattle.std.proofs.Common.{◌≡◌, ◌≤◌, ◌<◌, ◌+◌, ◌-◌, ◌∙◌, ◌&&◌, refl, sym, ap, subst, ℕ, zero, suc, nat_lt, Bool, true, false, List, [], ◌∷◌, ◌++◌, length, map, Some, arith}
+use Rattle.std.proofs.Common.{rules as std_rules, ◌≡◌, ◌≤◌, ◌<◌, ◌+◌, ◌-◌, ◌∙◌, refl, sym, ap, subst, ℕ, zero, suc, nat_lt, Bool, true, false, List, [], ◌∷◌, ◌++◌, length, map, Some, arith}
 use Rattle.std.proofs.lemmas.{Bool.lt-ltb, Bool.ltb-false, Bool.ltb-true, List.FromFn.map-range_with_len_more}
 use Rattle.std.specs.{Prelude.slice_get, List.list_all, List.range_with_len}
 use Rattle.wit_model.specs.declared.{error.Error.Error, model.Resolve.Resolve}
@@ -39,9 +39,7 @@ some-packages r root = by r.packages.items root.first
 
 pub all-there : {X : Type 0} (xs : List X) (from many : ℕ) → from + many ≤ length xs → list_all (λ (id : PackageId). in_list xs id.0) (map (λ n. record { 0 = n }) (range_with_len from many)) ≡ true
 all-there xs from zero within = refl
-all-there xs from (suc many) within = ap (λ b. b && list_all (λ (id : PackageId). in_list xs id.0) (map (λ n. record { 0 = n }) (range_with_len (from + 1) many)))
-    (lt-ltb from (length xs) (omega (arith, within)))
-    ∙ all-there xs (from + 1) many (omega (arith, within))
+all-there xs from (suc many) within = search (std_rules, lt-ltb, all-there xs (from + 1) many (omega (arith, within)))
 
 -- a number more
 pub one-more : (number : ℕ) (old new : List PackageId) → 1 ≤ number → old ≡ map (λ n. record { 0 = n }) (range_with_len 1 (number - 1)) → new ≡ old ++ record { 0 = number } ∷ []
@@ -65,7 +63,4 @@ no-memory bytes e is = subst (RefusesBindings bytes) (sym is) tt
 
 -- want of memory is never too large
 pub never-too-large : (X : Type 0) (e : Error) → e ≡ Memory → e ≡ Size → X
-never-too-large X e is large = let no : Memory ≡ Size = sym is ∙ large in absurd (by no)
-  where
-    by : Memory ≡ Size → ⊥
-    by h = cc
+never-too-large X e is large = search std_rules

@@ -1,10 +1,10 @@
 -- Worlds of a valid `Resolve` by their names.
-use Rattle.std.proofs.Common.{◌≡◌, ◌<◌, ◌≤◌, ◌⊎◌, ℕ, ◌+◌, List, length, slice_get, get_or, nat_lt, ltb→lt, T, true, inl, inr, sym, ap, subst, ◌∙◌, Option, Some, None, option_and_then, IfSome, arith}
+use Rattle.std.proofs.Common.{rules as std_rules, ◌≡◌, ◌<◌, ◌≤◌, ◌⊎◌, ℕ, List, length, slice_get, get_or, nat_lt, ltb→lt, T, true, inl, inr, sym, ap, subst, ◌∙◌, Option, Some, None, option_and_then, IfSome, arith}
 use Rattle.std.proofs.lemmas.Option.{slice_get_cases}
 use Rattle.std.specs.{HashMap.get_by_text, List.IsAmong, List.list_all}
 use Rattle.indexmap.specs.IndexMap.{values}
 use Rattle.wit_model.specs.declared.model.{Package.Package, Resolve.Resolve, WorldId.WorldId}
-use Rattle.wit_model.specs.{Lookup.package_at, Lookup.world_at, Rules.in_list, Valid.IsValid, Valid.is_place, Valid.numbers_in_range}
+use Rattle.wit_model.specs.{Lookup.package_at, Lookup.world_at, Rules.in_list, Valid.IsValid, Valid.numbers_in_range}
 use Rattle.wit_model.proofs.Entries.{each_from_at, lists_pass}
 use Rattle.witc_texts.specs.Named.{NamesWorld, world_named}
 use Rattle.base_lemmas.proofs.{Bools.right_of as second_true, Elements.all-contained}
@@ -19,10 +19,7 @@ stands {X = X} xs n h = by (slice_get_cases xs n).1
 module _ (r : Resolve) (v : IsValid r) (n : ℕ) (p : Package) (at : package_at r n ≡ Some p) where
   worlds_in_range : list_all (λ id. in_list r.worlds.items id.0) (values p.worlds) ≡ true
   unfolding numbers_in_range
-  worlds_in_range =
-      let passed = each_from_at (numbers_in_range.package_ r) 0 r.packages.items n p (lists_pass numbers_in_range r v.rules.numbers_in_range).0 at in
-      let both = second_true (is_place (0 + n)) _ passed in
-      second_true (list_all (λ id. in_list r.interfaces.items id.0) (values p.interfaces)) _ both
+  worlds_in_range = search (std_rules, each_from_at, lists_pass, second_true)
 
   -- what a look-up finds
   pub found : (name : List ℕ) (o : Option WorldId) → o ≡ get_by_text p.worlds name → IfSome o (λ id. IsAmong (values p.worlds) id) → NamesWorld r n name o
