@@ -1,5 +1,5 @@
 -- What readings tell.
-use Rattle.std.proofs.Common.{◌≡◌, ◌∙◌, sym, subst, ℕ, Bool, true, false, List, Result, Ok, Err, IfOk}
+use Rattle.std.proofs.Common.{rules as std_rules, ◌≡◌, ◌∙◌, sym, subst, ℕ, Bool, true, false, List, Result, Ok, Err, IfOk}
 use Rattle.std.proofs.lemmas.Bool.{true≢false}
 use Rattle.std.specs.Prelude.{◌↔◌, IfErr, IsTrue}
 use Rattle.wit_model.specs.declared.{error.Error.Error, model.PackageId.PackageId, model.Resolve.Resolve, model.WorldId.WorldId}
@@ -46,9 +46,7 @@ LeavesOpen _ = ⊥
 
 -- what is told of a refusal that doesn't
 refused-told : (T : Type 0) (b : Bool) (e : Error) → (let x : Result T Error = Err e in TellsRead x (Ok b)) → (let r : Result Bool Error = Ok b in r ≡ Ok false) × (LeavesOpen e → ⊥)
-refused-told T b errors.Memory told = let never : ⊥ = cc in absurd never
-refused-told T b errors.Size told = let never : ⊥ = cc in absurd never
-refused-told T b _ told = (told, λ x. x)
+refused-told y b z told = search std_rules
 
 -- such a refusal is one of the module
 is-refused : (bytes : List ℕ) (e : Error) → (LeavesOpen e → ⊥) → RefusesBindings bytes e → IsRefused bytes e
@@ -70,10 +68,7 @@ module-told {T = T} of law bytes b (Err e) bound refused told =
 
 -- a refusal that is passed on is want of memory, or of a list that would get too long
 pub open-told : {T : Type 0} (bytes : List ℕ) (x : Result T Error) (e : Error) → TellsRead x (Err e) → IfErr x (λ d. d ≡ errors.Size → OutgrowsLists bytes) → IsUnknown bytes e
-open-told bytes (Ok y) e told size = let never : ⊥ = cc in absurd never
-open-told bytes (Err errors.Memory) e told size = let so : e ≡ errors.Memory = cc in subst (IsUnknown bytes) (sym so) tt
-open-told bytes (Err errors.Size) e told size = let so : e ≡ errors.Size = cc in subst (IsUnknown bytes) (sym so) (size (λ i. errors.Size))
-open-told bytes (Err _) e told size = let never : ⊥ = cc in absurd never
+open-told bytes x e told size = search std_rules
 
 -- a package and a world are never too large
 pub package-fits : (bytes : List ℕ) (X : Type 0) (e : Error) → RefusesBytes bytes e → e ≡ errors.Size → X

@@ -1,5 +1,5 @@
 -- Sections of a module, read one after the other.
-use Rattle.std.proofs.Common.{◌≡◌, ◌∙◌, ◌<◌, ◌≤◌, ◌+◌, ◌-◌, refl, sym, ap, subst, arith, ℕ, zero, suc, List, [], ◌∷◌, ◌++◌, append_assoc, length, Option, Some, None}
+use Rattle.std.proofs.Common.{rules as std_rules, ◌≡◌, ◌∙◌, ◌<◌, ◌≤◌, ◌+◌, ◌-◌, refl, sym, ap, subst, arith, ℕ, List, [], ◌∷◌, ◌++◌, append_assoc, length, Option, Some, None}
 use Rattle.std.proofs.lemmas.List.{length-append}
 use Rattle.std.specs.{Prelude.Vec, Prelude.slice_get, Borrow.Bor}
 use Rattle.std.specs.declared.alloc.Global.{Global}
@@ -25,18 +25,12 @@ other-end fs ds (CarryData.other g gs es never carry) f none = CarryData.other g
 
 module _ (bytes rest behind : List ℕ) (ds : List (List ℕ)) (h : BeginsWith bytes ds rest) (f : Framed) (stands : IsInFront rest f behind) where
   further : (es : List (List ℕ)) → CarryData (h.sections ++ f ∷ []) es → BeginsWith bytes es behind
-  further es carry = record {
-    sections = h.sections ++ f ∷ [];
-    front = h.front ++ stands.front;
-    parts = h.parts ∙ ap (λ (t : List ℕ). module_preamble ++ t) (ap (λ (t : List ℕ). h.front ++ t) stands.parts ∙ sym (append_assoc h.front stands.front behind));
-    are = (sequence-end h.sections h.front h.are.0 f stands.front stands.framed_, named-end h.sections h.are.1 f stands.named_);
-    carry = carry;
-  }
+  further es carry =
+      search (std_rules, append_assoc h.front stands.front behind, sequence-end h.sections h.front h.are.0 f stands.front stands.framed_, named-end h.sections h.are.1 f stands.named_)
 
 -- A section that stands in front takes bytes.
 pub taken : (bytes rest : List ℕ) (o : Option (Bor (List ℕ))) → IsFrontData bytes o rest → (front : List ℕ) × (bytes ≡ front ++ rest) × (0 < length front)
-taken bytes rest None (f, h, never) = let first : length h.front ≡ suc (length h.framed_.0) = ap length h.framed_.1 in (h.front, h.parts, omega (arith, first))
-taken bytes rest (Some found) (f, h, carries) = let first : length h.front ≡ suc (length h.framed_.0) = ap length h.framed_.1 in (h.front, h.parts, omega (arith, first))
+taken bytes rest x y = search std_rules
 
 -- so fewer are left
 pub fewer : (bytes front rest : List ℕ) → bytes ≡ front ++ rest → 0 < length front → length rest < length bytes
@@ -46,8 +40,7 @@ fewer bytes front rest parts some = let whole = ap length parts ∙ length-appen
 
 -- a number that isn't 0 is one more than the one below it
 pub one-less : (left : ℕ) → (left ≡ 0 → ⊥) → left ≡ left - 1 + 1
-one-less zero some = absurd (some refl)
-one-less (suc left) some = omega arith
+one-less x some = search std_rules
 
 -- Some sections have been read, this is left behind them, and so many of those that carry worlds are to be passed over.
 pub record Walks (bytes : List ℕ) (n : ℕ) (rest : List ℕ) (left : ℕ) : Type 0 where
@@ -61,12 +54,7 @@ nothing-walked bytes rest n parts = record { data_ = []; begins = record { secti
 module _ (bytes : List ℕ) (n : ℕ) (rest : List ℕ) (left : ℕ) (h : Walks bytes n rest left) where
   -- what is left is no more than the bytes
   pub within : length rest ≤ length bytes
-  within =
-      let whole = ap length h.begins.parts ∙ (length-append module_preamble (h.begins.front ++ rest) ∙ ap (λ (k : ℕ). length module_preamble + k) (length-append h.begins.front rest)) in
-      less (length module_preamble) (length bytes) (length h.begins.front) (length rest) whole
-    where
-      less : (a whole front k : ℕ) → whole ≡ a + (front + k) → k ≤ whole
-      less a whole front k e = omega (arith, e)
+  within = search (std_rules, length-append module_preamble (h.begins.front ++ rest), length-append h.begins.front rest)
 
   -- a section that carries no world
   pub other-walked : (behind : List ℕ) (o : Option (Bor (List ℕ))) → ((found : Bor (List ℕ)) → o ≡ Some found → ⊥) → IsFrontData rest o behind → Walks bytes n behind left
@@ -109,9 +97,7 @@ module _ (bytes : List ℕ) (n : ℕ) (rest : List ℕ) (left : ℕ) (h : Walks 
 
   -- no section begins where something is left
   pub stuck : (offset : ℕ) → offset ≡ length bytes - length rest → IsFrontless rest → (e : Error) → e ≡ errors.BadModule offset → RefusesWalk bytes n e
-  stuck offset at none e is =
-      subst (RefusesWalk bytes n) (sym is)
-      (h.data_, rest, h.begins, (let counted = h.counted in omega (arith, counted)), none, (let fits = within in omega (arith, at, fits)))
+  stuck offset at none e is = search (std_rules, within)
 
 pub no-module : (bytes : List ℕ) (n : ℕ) → IsNoModule bytes → (e : Error) → e ≡ errors.NotAModule → RefusesWalk bytes n e
 no-module bytes n none e is = subst (RefusesWalk bytes n) (sym is) none

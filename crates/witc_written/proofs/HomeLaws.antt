@@ -1,5 +1,5 @@
 -- The package of a world, and all others.
-use Rattle.std.proofs.Common.{◌≡◌, ◌<◌, ◌+◌, ◌++◌, ◌∙◌, sym, ap, ℕ, nat_eq, Bool, true, List, [], ◌∷◌, length, map, Option, Some, None, arith}
+use Rattle.std.proofs.Common.{rules as std_rules, ◌≡◌, ◌<◌, ◌+◌, ◌++◌, ◌∙◌, sym, ap, ℕ, nat_eq, Bool, true, List, [], ◌∷◌, length, map, Option, Some, None, arith}
 use Rattle.std.proofs.lemmas.{Bool.eq-eqb, Bool.ltb-true, Bool.ne_eqb, List.FromFn.filter_of_map_range_with_len_more}
 use Rattle.std.specs.{Prelude.filter, Prelude.is_some, Prelude.not, Prelude.cond, List.list_all, List.range_with_len}
 use Rattle.wit_model.specs.declared.model.{PackageId.PackageId, Resolve.Resolve, World.World}
@@ -37,14 +37,11 @@ no-home home is = cc
 
 -- one more, which is another
 pub another : (home number : ℕ) (old new : List PackageId) → old ≡ others_below home number → (number ≡ home → ⊥) → new ≡ old ++ record { 0 = number } ∷ [] → new ≡ others_below home (number + 1)
-another home number old new is differs pushed =
-    pushed ∙ (ap (λ (ids : List PackageId). ids ++ numbered number ∷ []) is
-    ∙ (ap (λ (b : Bool). others_below home number ++ cond (not b) (numbered number ∷ []) []) (sym (ne_eqb number home differs)) ∙ sym (longer home number)))
+another home number old new is differs pushed = search (std_rules, ne_eqb, longer)
 
 -- one more, which is that one
 pub that-one : (home number : ℕ) (old new : List PackageId) → old ≡ others_below home number → number ≡ home → new ≡ old → new ≡ others_below home (number + 1)
-that-one home number old new is same kept = kept ∙ (is ∙ (sym (append_none (others_below home number))
-    ∙ (ap (λ (b : Bool). others_below home number ++ cond (not b) (numbered number ∷ []) []) (sym (eq-eqb number home same)) ∙ sym (longer home number))))
+that-one home number old new is same kept = search (std_rules, append_none, eq-eqb, longer)
 
 -- each is in range
 pub others-in-range : (r : Resolve) (home : ℕ) → list_all (λ (id : PackageId). in_list r.packages.items id.0) (other_packages_than r home) ≡ true

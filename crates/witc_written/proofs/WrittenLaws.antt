@@ -1,5 +1,5 @@
 -- Packages encoded anew.
-use Rattle.std.proofs.Common.{◌≡◌, ℕ, Bool, false, true, List, [], ap, Result, Ok, Err, IfOk}
+use Rattle.std.proofs.Common.{rules as std_rules, ◌≡◌, ℕ, Bool, false, true, List, [], ap, Result, Ok, Err, IfOk}
 use Rattle.std.specs.Prelude.{◌<◌, IfErr, OnOk, Vec}
 use Rattle.std.specs.declared.alloc.Global.{Global}
 use Rattle.wit_model.specs.declared.{error.Error.Error, error.Error.TheVariants.Size, model.PackageId.PackageId, model.Resolve.Resolve}
@@ -14,15 +14,7 @@ pub encodes : EncodingKeepsMeaning → DecodedHaveMembers → (bytes : List ℕ)
     → (x : Result (Vec ℕ Global) Error)
     → IfOk x (λ out. MeansPackageAt r id.0 out.items) → IfOk x (λ out. SpellsPackageAt r canonical id.0 out.items) → (canonical ≡ true → OnOk x (HasNoClashesAt r id.0))
     → IfOk x (λ out. EncodesPackage bytes canonical out.items)
-encodes keeps members bytes r id canonical decoded order (Ok out) means spells differ = record {
-  resolve = r;
-  id = id;
-  decoded = decoded;
-  order = order;
-  same = keeps bytes out.items r id.0 decoded (means decoded.package_ decoded.stands (members bytes r id.0 decoded.package_ decoded decoded.stands));
-  spelled = spells;
-  differ = differ;
-}
+encodes keeps members bytes r id canonical decoded order (Ok out) means spells differ = search std_rules
 encodes keeps members bytes r id canonical decoded order (Err e) means spells differ = tt
 
 -- and what they say of its refusal
