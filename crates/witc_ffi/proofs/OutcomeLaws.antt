@@ -1,6 +1,5 @@
 -- What C is given of what comes of a call.
-use Rattle.std.proofs.Common.{◌≡◌, ◌&&◌, ℕ, List, [], Bool, true, false, refl, sym, subst, Option, Some, None, Result, Ok, Err, IfOk, MatchResult}
-use Rattle.std.proofs.lemmas.Bool.{and_from as both-good}
+use Rattle.std.proofs.Common.{rules as std_rules, ◌≡◌, ◌&&◌, ℕ, List, [], Bool, true, false, refl, sym, subst, Option, Some, None, Result, Ok, Err, IfOk, MatchResult}
 use Rattle.std.specs.{Prelude.Vec, Prelude.IfErr, Str.is_utf8}
 use Rattle.std.specs.declared.alloc.{AllocError.AllocError, Global.Global}
 use Rattle.wit_model.specs.declared.error.Error.{Error}
@@ -26,17 +25,11 @@ module _ (Done : List ℕ → Type 0) (Refused : Error → Type 0) (Bad : List �
   pub passes : (outcome : Result Outcome AllocError) (status : ℕ) (text : List ℕ) (why : Why)
       → IfOk outcome (Tells Done Refused Bad) → HandsOut outcome status text why → Answers Done Refused Bad status text why
   passes outcome status text why tells lacking = answers_lacking
-  passes outcome status text why tells (handed o is) = go outcome tells is
-    where
-      go : (outcome : Result Outcome AllocError) → IfOk outcome (Tells Done Refused Bad) → MatchResult outcome (λ given. given ≡ o) (λ e. ⊥) → Answers Done Refused Bad o.status o.text.items o.why
-      go (Ok given) tells is = subst (Tells Done Refused Bad) is tells
-      go (Err e) tells is = absurd is
+  passes outcome status text why tells (handed o is) = search std_rules
 
   -- what is true of a status, a text and numbers is true of the outcome of them
   pub known : (status : ℕ) (text : List ℕ) (why : Why) (o : Outcome) → Answers Done Refused Bad status text why → IsOutcome status text why o → Tells Done Refused Bad o
-  known status text why o holds is =
-      subst (λ (n : ℕ). Answers Done Refused Bad n o.text.items o.why) (sym is.status_is)
-      (subst (λ (t : List ℕ). Answers Done Refused Bad status t o.why) (sym is.text_is) (subst (Answers Done Refused Bad status text) (sym is.why_is) holds))
+  known status text why o holds is = search std_rules
 
   -- the outcome of a call that is done
   pub of-done : (text : List ℕ) (o : Outcome) → Done text → IsOutcome 0 text (plain_why 0) o → Tells Done Refused Bad o
@@ -70,13 +63,11 @@ module _ (Done : List ℕ → Type 0) (Refused : Error → Type 0) (Bad : List �
 
 -- both of two things that are said of a refusal
 pub both-said : (P Q : Error → Type 0) (given : Result (Vec ℕ Global) Error) → IfErr given P → IfErr given Q → IfErr given (λ e. P e × Q e)
-both-said P Q (Ok text) p q = tt
-both-said P Q (Err e) p q = (p, q)
+both-said x y z p q = search std_rules
 
 -- texts that are the bytes of names which are UTF-8
 pub are-texts : (xs ys prev next : List ℕ) → (xs ≡ prev) × (is_utf8 prev ≡ true) → (ys ≡ next) × (is_utf8 next ≡ true) → AreTexts xs ys
-are-texts xs ys prev next one other =
-    both-good (is_utf8 xs) (is_utf8 ys) (subst (λ (t : List ℕ). is_utf8 t ≡ true) (sym one.0) one.1) (subst (λ (t : List ℕ). is_utf8 t ≡ true) (sym other.0) other.1)
+are-texts xs ys prev next one other = search std_rules
 
 pub second-bad : (a b : Bool) → a ≡ true → b ≡ false → (a && b) ≡ false
 second-bad a b good is = subst (λ (x : Bool). (x && b) ≡ false) (sym good) is
@@ -87,8 +78,7 @@ TellsWorlds bytes prev next = Tells (IsCompatible bytes prev next) (RefusesWorld
 
 -- names as texts are the names
 pub named : (bytes prev next prev' next' : List ℕ) → prev' ≡ prev → next' ≡ next → (r : Result Outcome AllocError) → IfOk r (TellsWorlds bytes prev' next') → IfOk r (TellsWorlds bytes prev next)
-named bytes prev next prev' next' p n r is =
-    subst (λ (xs : List ℕ). IfOk r (TellsWorlds bytes xs next)) p (subst (λ (ys : List ℕ). IfOk r (TellsWorlds bytes prev' ys)) n is)
+named bytes prev next prev' next' p n r is = search std_rules
 
 -- what an outcome tells of two worlds
 abbrev pub TellsAlike : List ℕ → List ℕ → List ℕ → List ℕ → Outcome → Type 0
@@ -97,5 +87,4 @@ TellsAlike bytes name other other_name = Tells (AreAlike bytes name other other_
 -- names as texts are the names
 pub named-alike : (bytes name other other_name name' other_name' : List ℕ) → name' ≡ name → other_name' ≡ other_name → (r : Result Outcome AllocError)
     → IfOk r (TellsAlike bytes name' other other_name') → IfOk r (TellsAlike bytes name other other_name)
-named-alike bytes name other other_name name' other_name' p n r is =
-    subst (λ (xs : List ℕ). IfOk r (TellsAlike bytes xs other other_name)) p (subst (λ (ys : List ℕ). IfOk r (TellsAlike bytes name' other ys)) n is)
+named-alike bytes name other other_name name' other_name' p n r is = search std_rules
